@@ -1,0 +1,3 @@
+pub mod Joint
+pub mod World
+pub mod Conversation

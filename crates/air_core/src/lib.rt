@@ -1,0 +1,5 @@
+//! The simulated air: listeners in a field, the fates of transmissions, and the trace of what happened.
+//!
+//! `listener` says what a device is to the air; `field` makes turns. The laws of turns in `specs/Conversation.antt`
+//! stand over any air, and the layers above compose their requests by them.
+#![tactic(auto)]
