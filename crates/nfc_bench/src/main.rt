@@ -1,0 +1,11 @@
+//! A bench of NFC devices: a script of commands on a simulated air, and a report of what happened.
+#![tactic(auto)]
+
+mod command;
+mod entry;
+
+use std::process::ExitCode;
+
+fn main(_rt: HostRuntime) -> ExitCode {
+    ExitCode::from(6)
+}
