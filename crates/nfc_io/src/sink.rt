@@ -25,7 +25,7 @@ pub trait Sink {
 }
 
 /// Writes all the bytes, by as many writes as it needs. A fault ends it, after some of them.
-#[tactic(auto, using(crate::proofs::Sums::sums))]
+#[tactic(auto, using(crate::proofs::Moves::moves))]
 pub fn write_all<K: Sink>(sink: &mut K, bytes: &[u8]) -> Result<(), Failed>
     ensures ok { OnOk result (K.taken sink.new ≡ with_end (K.taken sink.old) bytes.now) }
     ensures err { OnErr result (GainsFront (K.taken sink.old) (K.taken sink.new) bytes.now) }
