@@ -1,5 +1,5 @@
 -- Counts that rise, over several calls.
-use Rattle.std.proofs.Common.{◌≡◌, ℕ, ◌+◌, ◌<◌, ◌≤◌, ◌⊎◌, inl, inr, arith}
+use Rattle.std.proofs.Common.{ℕ, ◌≤◌, inl, inr, arith}
 use Rattle.nfc_io.specs.Counts.{HasRisen, count_up, last_count}
 
 -- what rose in the last of several calls rose in all of them
