@@ -1,6 +1,6 @@
 //! A Type 2 tag.
 
-ghost use Rattle.std.specs.Prelude.{◌≡◌, ◌<◌, ◌↔◌, IfOk, IsOk};
+ghost use Rattle.std.specs.Prelude.{◌≡◌, ◌<◌, ◌↔◌, length, IfOk, IsOk};
 ghost use Rattle.nfc_base.specs.Blocks.{block_of};
 ghost use Rattle.t2t_tag.specs.Store.{IsT2Store, block_count, unlocked, store_fault_number};
 ghost use Rattle.t2t_tag.specs.Step.{four_blocks, t2_reply, t2_obeyed, t2_answer, t2_after};
@@ -118,7 +118,8 @@ impl T2Tag {
 
     fn block(&self, block: usize) -> &[u8]
         requires { block < block_count self.now.store }
-        ensures { result.now ≡ block_of 4 self.now.store block }
+        ensures content { result.now ≡ block_of 4 self.now.store block }
+        ensures size { length result.now ≡ 4 }
     {
         &self.store.split_at(BLOCK * block).1[..BLOCK]
     }
