@@ -3,6 +3,8 @@
 
 mod command;
 mod entry;
+mod report;
+mod script;
 
 use std::process::ExitCode;
 
