@@ -123,3 +123,60 @@ fn push_number(alloc: Global, text: &mut Vec<u8>, n: u32) -> Result<(), AllocErr
     let digits = n.to_string(alloc)?;
     text.extend_from_slice(digits.as_bytes())
 }
+
+#[cfg(test)]
+mod tests {
+    use super::*;
+    use crate::script::parse_line;
+    use nfc_base::{Items, Tech};
+    use std::test::Fail;
+
+    fn entry(alloc: Global) -> Result<Entry, Fail> {
+        let command = parse_line(alloc, b"read 01020304")?;
+        let events = vec![in alloc;
+            Event::Reset,
+            Event::Request {
+                frame: Frame::part(Tech::A, &[0x26], 7)?,
+                fate: Fate::Pass,
+            },
+            Event::Answer {
+                frame: Frame::whole(Tech::A, &[0x04, 0xAB])?,
+                fate: Fate::Damage,
+            },
+            Event::Clash {
+                frame: Frame::whole(Tech::A, &[])?,
+                fate: Fate::Lose,
+            },
+            Event::Request {
+                frame: Frame::whole(Tech::V, &[0x26, 0x01, 0x00])?,
+                fate: Fate::Break,
+            },
+        ]?;
+        let message = Items::from_bytes(alloc, &[0xD0, 0x0F])?;
+        Ok(Entry {
+            line: 12,
+            command,
+            events: Items::new(events),
+            answer: Answer::Message {
+                message,
+                writable: false,
+            },
+        })
+    }
+
+    #[test]
+    fn every_event(rt: HostRuntime) -> Result<(), Fail> {
+        let entry = entry(rt.alloc())?;
+        let text = render(rt.alloc(), &entry, false)?;
+        assert_eq!(rt;
+            str::from_utf8(text.as_slice())?,
+            "12 ! reset\n12 > 26/7 pass\n12 < 04AB damage\n12 * - lose\n12 > 260100 break\n12 message D00F readonly\n"
+        );
+        let text = render(rt.alloc(), &entry, true)?;
+        assert_eq!(rt;
+            str::from_utf8(text.as_slice())?,
+            "12 message D00F readonly\n"
+        );
+        Ok(())
+    }
+}

@@ -38,9 +38,11 @@ impl From<AllocError> for LineFault {
     }
 }
 
-/// The command that a line spells. The grammar is this project's own.
+/// The command that a line spells, without its LF. The grammar is this project's own.
+#[tactic(auto, using(crate::proofs::Spelling::spelled_one))]
 pub fn parse_line(alloc: Global, line: &[u8]) -> Result<Command, LineFault>
     ensures ok { IfOk result (λ c. Spells line.now c) }
+    ensures alone { IfOk result (λ c. (d : Command) → Spells line.now d → d ≡ c) }
     ensures refused { IsErrOf result LineFault.Refused → (c : Command) → Spells line.now c → ⊥ }
 {
     let (name, rest) = cut_word(line);
@@ -114,5 +116,53 @@ fn place_t2(alloc: Global, rest: &[u8]) -> Result<Command, LineFault>
     match hex_word(alloc, head_text)? {
         Some(head) => Ok(Command::PlaceT2 { id, blocks, head }),
         None => Err(LineFault::Refused),
+    }
+}
+
+#[cfg(test)]
+mod tests {
+    use super::*;
+
+    #[test]
+    fn lines(rt: HostRuntime) {
+        let rows = [
+            ("read 01020304", 0),
+            ("read 0a0B0c0D0e0F10", 0),
+            ("read 00010203040506070809", 0),
+            ("place t2 01020304 4 -", 0),
+            ("place t2 01020304 256 00E1", 0),
+            ("", 1),
+            ("#", 1),
+            ("read", 1),
+            ("read ", 1),
+            ("read -", 1),
+            ("read  01020304", 1),
+            (" read 01020304", 1),
+            ("read 01020304 ", 1),
+            ("read 01020304\r", 1),
+            ("read 0102030", 1),
+            ("read 0102030G", 1),
+            ("read 0102030405", 1),
+            ("read 0102030405060708", 1),
+            ("read 88020304", 1),
+            ("read 01020388050607", 1),
+            ("place t2 01020304 3 -", 1),
+            ("place t2 01020304 257 -", 1),
+            ("place t2 01020304 65540 -", 1),
+            ("place t2 01020304 016 -", 1),
+            ("place t2 01020304 +16 -", 1),
+            ("place t2 01020304 16", 1),
+            ("place t2 01020304 16 ", 1),
+            ("place t2 01020304 16 000", 1),
+            ("place t2 01020304 16 - -", 1),
+            ("place t4 01020304 16 -", 1),
+        ];
+        for (line, wanted) in rows {
+            let fault = match parse_line(rt.alloc(), line.as_bytes()) {
+                Ok(_) => 0,
+                Err(fault) => fault.number(),
+            };
+            assert_eq!(rt; fault, wanted, "{line}");
+        }
     }
 }

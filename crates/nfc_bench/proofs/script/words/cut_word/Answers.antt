@@ -1,4 +1,4 @@
-use Rattle.std.proofs.Common.{◌≡◌, ◌<◌, ◌+◌, ℕ, length, arith}
+use Rattle.std.proofs.Common.{◌<◌, length, arith}
 use Rattle.std.proofs.lemmas.List.{take_rest}
 use Rattle.nfc_bench.proofs.Words.{words_cut}
 use Rattle.nfc_bench.proofs.script.words.cut_word.Goals as goal
