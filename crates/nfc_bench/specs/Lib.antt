@@ -3,3 +3,7 @@ pub mod Device
 pub mod Reading
 pub mod Legal
 pub mod Obeying
+pub mod Script
+pub mod Words
+pub mod Lines
+pub mod Report

@@ -5,6 +5,8 @@ mod command;
 mod device;
 mod entry;
 mod front;
+mod report;
+mod script;
 
 use std::process::ExitCode;
 
