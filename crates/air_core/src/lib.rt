@@ -4,6 +4,7 @@
 //! stand over any air, and the layers above compose their requests by them.
 #![tactic(auto)]
 
+mod bits;
 mod listener;
 
 pub use listener::Listener;
