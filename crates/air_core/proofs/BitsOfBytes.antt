@@ -1,8 +1,12 @@
 -- Bits of bytes, and bits in common.
-use Rattle.std.proofs.Common.{◌≡◌, ℕ, zero, suc, ◌+◌, ◌-◌, ◌*◌, ◌/◌, ◌%◌, ◌^◌, ◌<◌, ◌≤◌, nat_lt, List, [], ◌∷◌, ◌++◌, length, take, drop, get_or, Bool, true, false, ◌==◌, if◌then◌else◌, refl, sym, ◌∙◌, ap, subst, arith, append_assoc}
+use Rattle.std.proofs.Common.{◌≡◌, ℕ, zero, suc, ◌+◌, ◌-◌, ◌*◌, ◌/◌, ◌%◌, ◌^◌, ◌<◌, ◌≤◌, nat_lt, List, [], ◌∷◌, ◌++◌, length, take, drop, get_or, Bool, true, false, ◌==◌, if◌then◌else◌, refl, sym, ◌∙◌, ap, subst, arith, append_assoc, inl, inr, length-append}
 use Rattle.std.proofs.lemmas.List.{append-nil}
 use Rattle.air_core.specs.Joint.{common}
 use Rattle.nfc_base.specs.Bits.{low_bits, bits_of, packed}
+use Rattle.nfc_base.specs.Signal.{last_byte, IsBadTail}
+use Rattle.std.proofs.lemmas.Grind.{common_steps}
+use Rattle.std.proofs.lemmas.Nat.{pow_pos}
+use Rattle.std.proofs.Math.Nat.{mod-lt}
 
 pub length-low_bits : (k n : ℕ) → length (low_bits k n) ≡ k
 length-low_bits zero n = refl
@@ -192,3 +196,12 @@ take_below u zero m h = refl
 take_below u (suc n) zero h = absurd (omega (arith, h))
 take_below [] (suc n) (suc m) h = refl
 take_below (a ∷ u) (suc n) (suc m) h = ap (λ t. a ∷ t) (take_below u n m (omega (arith, h)))
+
+-- a last byte that is cut to its first t bits has no others
+last_of : (front : List ℕ) (b : ℕ) → last_byte (front ++ b ∷ []) ≡ b
+last_of front b = grind (arith, common_steps)
+
+pub held_tail : (front : List ℕ) (b t : ℕ) → t < 8 → IsBadTail (front ++ (b % 2 ^ t) ∷ []) t → ⊥
+held_tail front b t h (inl long) = omega (arith, h, long)
+held_tail front b t h (inr (some, inl none)) = omega (arith, length-append front ((b % 2 ^ t) ∷ []), none)
+held_tail front b t h (inr (some, inr more)) = omega (arith, last_of front (b % 2 ^ t), more, mod-lt b (pow_pos t))
