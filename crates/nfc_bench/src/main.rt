@@ -1,6 +1,7 @@
 //! A bench of NFC devices: a script of commands on a simulated air, and a report of what happened.
 #![tactic(auto)]
 
+mod bench;
 mod command;
 mod device;
 mod entry;
