@@ -1,3 +1,4 @@
 pub mod Joint
 pub mod World
 pub mod Conversation
+pub mod Listening

@@ -3,3 +3,7 @@
 //! `listener` says what a device is to the air; `field` makes turns. The laws of turns in `specs/Conversation.antt`
 //! stand over any air, and the layers above compose their requests by them.
 #![tactic(auto)]
+
+mod listener;
+
+pub use listener::Listener;

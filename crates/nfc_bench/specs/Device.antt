@@ -11,17 +11,9 @@ use Rattle.nfca_poll.specs.Front.{Front, Off, Idle, front_says, front_next, is_r
 use Rattle.t2t_tag.specs.Store.{T2Memory, unlocked}
 use Rattle.t2t_tag.specs.Spelling.{spelled_command}
 use Rattle.t2t_tag.specs.Step.{t2_answer, t2_after}
+use Rattle.nfc_bench.specs.Placed.{Placed, with_front}
 use Rattle.nfc_bench.specs.declared.device.Device.{Device}
 use Rattle.nfc_bench.specs.declared.device.Device.TheVariants.{T2}
-
--- a Type 2 tag, its identifier, and the state of its front
-pub record Placed : Type 0 where
-  pub id : List ℕ
-  pub front : Front
-  pub tag : T2Memory
-
-abbrev pub with_front : Placed → Front → Placed
-with_front d front = record { id = d.id; front = front; tag = d.tag }
 
 -- A frame of the tag: once the device is active, one that spells a command.
 abbrev pub is_upper : Placed → Signal → Bool

@@ -1,0 +1,5 @@
+pub mod Placed
+pub mod Device
+pub mod Reading
+pub mod Legal
+pub mod Obeying

@@ -2,7 +2,9 @@
 #![tactic(auto)]
 
 mod command;
+mod device;
 mod entry;
+mod front;
 
 use std::process::ExitCode;
 
