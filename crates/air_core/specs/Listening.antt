@@ -1,5 +1,5 @@
 -- One step of a listener: what it asks of the far end above it, and what follows from the reply.
-use Rattle.std.specs.Prelude.{◌≡◌, ℕ, ◌≤◌, List, [], ◌∷◌, ◌++◌, length, reverse, Option, Some, None}
+use Rattle.std.specs.Prelude.{◌≡◌, ℕ, List, ◌∷◌, ◌++◌, reverse, Bool, true, Option, Some, None}
 use Rattle.nfc_base.specs.Signal.{Signal, whole_v}
 use Rattle.nfc_base.specs.Far.{FarUse, Hands, FarDid}
 
@@ -11,10 +11,11 @@ pub record Step {L A : Type 0} (restarts : A → List ℕ → A → Type 0) (ste
   pub left : after ≡ leaves reply
 
 -- A payload was handed to the far end, which stopped for want of memory. The listener got no reply.
-pub record Stop {L A : Type 0} (stops : A → List ℕ → A → Type 0) (asked : FarUse) (leaves : Option (List ℕ) → L) (old : A) (after : L) (new : A) : Type 0 where
+pub record Stop {L A : Type 0} (stops : A → List ℕ → A → Type 0) (is_stuck : A → Bool) (asked : FarUse) (leaves : Option (List ℕ) → L) (old : A) (after : L) (new : A) : Type 0 where
   pub payload : List ℕ
   pub handed : asked ≡ Hands payload
   pub far : stops old payload new
+  pub stuck : is_stuck new ≡ true
   pub left : after ≡ leaves None
 
 -- a request of NFC-V to the device of this identifier, high byte first: flags for high data rate and address, a code,

@@ -4,6 +4,10 @@
 //! stand over any air, and the layers above compose their requests by them.
 #![tactic(auto)]
 
+mod answers;
+mod bits;
+mod fault;
 mod listener;
 
+pub use fault::AirFault;
 pub use listener::Listener;

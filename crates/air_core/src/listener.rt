@@ -48,7 +48,7 @@ pub trait Listener {
         far: &mut A,
     ) -> Result<Option<Frame>, AllocError>
         ensures ok { IfOk result (λ o. Step A.restarts A.steps (machine.handed self.old frame.now) (machine.answer self.old frame.now) (machine.after self.old frame.now) far.old o self.new far.new) }
-        ensures err { OnErr result (Stop A.stops (machine.handed self.old frame.now) (machine.after self.old frame.now) far.old self.new far.new) }
+        ensures err { OnErr result (Stop A.stops A.is_stuck (machine.handed self.old frame.now) (machine.after self.old frame.now) far.old self.new far.new) }
         ensures bound { (payload : List ℕ) → machine.handed self.old frame.now ≡ Hands payload → length payload ≤ 2178 };
 
     /// A step changes neither technology nor identifier.
