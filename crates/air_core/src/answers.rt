@@ -18,12 +18,15 @@ pub enum Answers {
 }
 
 impl Answers {
-    /// One answer more.
-    pub fn join(self, answer: Frame) -> Answers
+    /// One answer more, where there is one.
+    pub fn join(self, answer: Option<Frame>) -> Answers
         requires { IsJoined self }
         ensures fits { IsJoined result }
-        ensures joint { (more : List Signal) → joint_with result more ≡ joint_with self (answer ∷ more) }
+        ensures joint { (more : List Signal) → joint_with result more ≡ joint_with self (with_answer answer more) }
     {
+        let Some(answer) = answer else {
+            return self;
+        };
         match self {
             Answers::Nothing => Answers::Alike(answer),
             Answers::Alike(first) => {

@@ -7,6 +7,7 @@
 mod answers;
 mod bits;
 mod fault;
+mod hearing;
 mod listener;
 
 pub use fault::AirFault;
