@@ -2,3 +2,4 @@ pub mod Words
 pub mod Spelling
 pub mod Lines
 pub mod Answering
+pub mod Picking

@@ -2,6 +2,8 @@
 use Rattle.std.specs.Prelude.{◌≡◌, ℕ, List, [], ◌∷◌, length, true, false, Option, Some}
 use Rattle.nfc_base.specs.declared.event.Heard.{Heard}
 use Rattle.nfc_base.specs.declared.event.Heard.TheVariants.{Whole}
+use Rattle.nfc_base.specs.Signal.{Signal}
+use Rattle.air_core.specs.Joint.{Single}
 use Rattle.air_core.specs.World.{World}
 use Rattle.air_core.specs.Turn.{Air}
 use Rattle.air_core.specs.Conversation.{Moment, Note, Got, Next, Over, Going}
@@ -39,6 +41,13 @@ pub record IsTame (d : Placed) : Type 0 where
   pub four : length d.id ≡ 4
   pub store : IsT2Store d.tag.store
   pub plain : IsPlain d.tag.store
+
+-- In a lit field where no fate is left, a request is answered by one frame.
+pub record Answers (a : Moment (World Device)) (f : Signal) : Type 0 where
+  pub lit : a.world.lit ≡ true
+  pub quiet : a.queue ≡ []
+  pub answer : Signal
+  pub some : air.joint a.world f ≡ Single answer
 
 -- Polling asked what was due, and ended with the tag selected.
 pub record Picks (old new : Moment (World Device)) (d : Placed) : Type 0 where
