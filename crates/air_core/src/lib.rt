@@ -3,3 +3,12 @@
 //! `listener` says what a device is to the air; `field` makes turns. The laws of turns in `specs/Conversation.antt`
 //! stand over any air, and the layers above compose their requests by them.
 #![tactic(auto)]
+
+mod answers;
+mod bits;
+mod fault;
+mod hearing;
+mod listener;
+
+pub use fault::AirFault;
+pub use listener::Listener;

@@ -1,0 +1,24 @@
+-- One step of a listener: what it asks of the far end above it, and what follows from the reply.
+use Rattle.std.specs.Prelude.{◌≡◌, ℕ, List, ◌∷◌, ◌++◌, reverse, Bool, true, Option, Some, None}
+use Rattle.nfc_base.specs.Signal.{Signal, whole_v}
+use Rattle.nfc_base.specs.Far.{FarUse, Hands, FarDid}
+
+-- The far end did what was asked of it. The answer, and what the listener is after, are these functions of the reply.
+pub record Step {L A : Type 0} (restarts : A → List ℕ → A → Type 0) (steps : A → List ℕ → List ℕ → A → Type 0) (asked : FarUse) (answers : Option (List ℕ) → Option Signal) (leaves : Option (List ℕ) → L) (old : A) (answer : Option Signal) (after : L) (new : A) : Type 0 where
+  pub reply : Option (List ℕ)
+  pub far : FarDid restarts steps asked old reply new
+  pub says : answer ≡ answers reply
+  pub left : after ≡ leaves reply
+
+-- A payload was handed to the far end, which stopped for want of memory. The listener got no reply.
+pub record Stop {L A : Type 0} (stops : A → List ℕ → A → Type 0) (is_stuck : A → Bool) (asked : FarUse) (leaves : Option (List ℕ) → L) (old : A) (after : L) (new : A) : Type 0 where
+  pub payload : List ℕ
+  pub handed : asked ≡ Hands payload
+  pub far : stops old payload new
+  pub stuck : is_stuck new ≡ true
+  pub left : after ≡ leaves None
+
+-- a request of NFC-V to the device of this identifier, high byte first: flags for high data rate and address, a code,
+-- the identifier, and what the code needs (ISO/IEC 15693-3)
+abbrev pub addressed_to : List ℕ → ℕ → List ℕ → Signal
+addressed_to identifier code rest = whole_v (34 ∷ code ∷ (reverse identifier ++ rest))

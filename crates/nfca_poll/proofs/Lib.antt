@@ -1,0 +1,2 @@
+pub mod OneLevel
+pub mod Calling
