@@ -6,9 +6,12 @@
 
 mod answers;
 mod bits;
+mod fates;
 mod fault;
+mod field;
 mod hearing;
 mod listener;
 
 pub use fault::AirFault;
+pub use field::Field;
 pub use listener::Listener;
