@@ -3,3 +3,4 @@ pub mod Spelling
 pub mod Lines
 pub mod Answering
 pub mod Picking
+pub mod Memory

@@ -28,7 +28,7 @@ use Rattle.nfc_bench.specs.declared.device.Device.TheVariants.{T2}
 use Rattle.nfc_bench.specs.Placed.{Placed, with_front}
 use Rattle.nfc_bench.specs.Device.{placed_answer, placed_after, devices}
 use Rattle.nfc_bench.specs.Legal.{air}
-use Rattle.nfc_bench.specs.Phases.{alone, polled, Picks, IsTame, Answers}
+use Rattle.nfc_bench.specs.Phases.{alone, polled, Picks, IsTame, At, Answers}
 use Rattle.nfc_bench.specs.Phases as phases
 use Rattle.nfc_bench.proofs.Answering.{idle_answers_sens, ready_answers_sdd, ready_stays_at_sdd, ready_answers_sel, ready_goes_at_sel}
 
@@ -42,11 +42,6 @@ none_left (Clash f x ∷ es) = none_left es
 -- what one answer comes to
 abbrev one_joint : Option Signal → Joint
 one_joint o = joint (cons_option o [])
-
--- In a lit field with one tag, where no fate is left.
-pub record At (a : Moment (World Device)) (d : Placed) : Type 0 where
-  pub world : a.world ≡ alone d
-  pub queue : a.queue ≡ []
 
 -- a tag that answers is heard
 pub answers_at : (a : Moment (World Device)) (d : Placed) (bytes : List ℕ) (tail : ℕ) (g : Signal)
@@ -183,6 +178,5 @@ module _ (d : Placed) (tame : IsTame d) where
         notes = ns ++ Got (Whole g3) ∷ [];
         going = w4;
         ended = ap (λ g. pick d.id (ns ++ Got (Whole g) ∷ [])) res_is ∙ finds_tag g1;
-        world = m3.at.world;
-        queue = m3.at.queue;
+        at = m3.at;
       }
