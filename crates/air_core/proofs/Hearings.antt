@@ -7,7 +7,8 @@ use Rattle.nfc_base.specs.Signal.{Signal}
 use Rattle.air_core.specs.Joint.{Joint, joint}
 use Rattle.air_core.specs.World.{Machine, hands_over, stepped_by}
 use Rattle.air_core.specs.Listening.{Stop}
-use Rattle.air_core.specs.Joining.{joint_with, with_answer}
+use Rattle.std.specs.List.{cons_option}
+use Rattle.air_core.specs.Joining.{joint_with}
 use Rattle.air_core.specs.Turn.{Meets, HearAll, HearSome}
 use Rattle.air_core.specs.declared.answers.Answers.{Answers}
 
@@ -25,7 +26,7 @@ module _ {L A : Type 0} (m : Machine L) (restarts : A → List ℕ → A → Typ
 
   pub go_on : (old : List L) (begin : A) (items : List L) (i : ℕ) (so_far next : Answers) (far mid : A) (d y : L) (answer : Option Signal)
       → i < length items → GoesOn old begin items i so_far far → Meets m restarts steps f (get_or items i d) far answer y mid
-      → ((more : List Signal) → joint_with next more ≡ joint_with so_far (with_answer answer more))
+      → ((more : List Signal) → joint_with next more ≡ joint_with so_far (cons_option answer more))
       → GoesOn old begin (set items i y) (i + 1) next mid
   go_on old begin items i so_far next far mid d y answer lt so step joins more ys after h =
       let front : take (i + 1) (set items i y) ≡ take i items ++ y ∷ [] = take_more_set items i y lt in
@@ -33,9 +34,9 @@ module _ {L A : Type 0} (m : Machine L) (restarts : A → List ℕ → A → Typ
       let rest : drop (i + 1) (set items i y) ≡ drop (i + 1) items = grind (arith, common_steps) in
       let P : List L → Type 0 = λ zs. HearAll m restarts steps f zs mid more ys after in
       let h' : HearAll m restarts steps f (drop (i + 1) items) mid more ys after = subst P rest h in
-      let Q : List L → Type 0 = λ zs. HearAll m restarts steps f zs far (with_answer answer more) (y ∷ ys) after in
-      let whole : HearAll m restarts steps f (drop i items) far (with_answer answer more) (y ∷ ys) after = subst Q (sym split) (answer, more, mid, step, h', refl) in
-      let w : Whole old begin (take i items ++ (y ∷ ys)) after (joint_with so_far (with_answer answer more)) = so (with_answer answer more) (y ∷ ys) after whole in
+      let Q : List L → Type 0 = λ zs. HearAll m restarts steps f zs far (cons_option answer more) (y ∷ ys) after in
+      let whole : HearAll m restarts steps f (drop i items) far (cons_option answer more) (y ∷ ys) after = subst Q (sym split) (answer, more, mid, step, h', refl) in
+      let w : Whole old begin (take i items ++ (y ∷ ys)) after (joint_with so_far (cons_option answer more)) = so (cons_option answer more) (y ∷ ys) after whole in
       let R : List L → Type 0 = λ zs. HearAll m restarts steps f old begin w.answers zs after in
       let same : take i items ++ (y ∷ ys) ≡ take (i + 1) (set items i y) ++ ys = grind (arith, common_steps, front) in
       record { answers = w.answers; all = subst R same w.all; joint = joins more ∙ w.joint }
