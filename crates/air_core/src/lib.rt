@@ -5,7 +5,7 @@
 #![tactic(auto)]
 
 mod answers;
-mod bits;
+pub mod bits;
 mod fault;
 mod listener;
 

@@ -1,2 +1,4 @@
 pub mod OneLevel
 pub mod Calling
+pub mod Spans
+pub mod KnownBits
