@@ -2,8 +2,8 @@
 use Rattle.std.proofs.Common.{◌≡◌, ℕ, zero, suc, ◌+◌, ◌-◌, ◌*◌, ◌/◌, ◌%◌, ◌^◌, ◌<◌, ◌≤◌, nat_lt, List, [], ◌∷◌, ◌++◌, length, take, drop, get_or, Bool, true, false, ◌==◌, if◌then◌else◌, refl, sym, ◌∙◌, ap, subst, arith, append_assoc, inl, inr, length-append}
 use Rattle.std.proofs.lemmas.List.{append-nil}
 use Rattle.air_core.specs.Joint.{common}
-use Rattle.nfc_base.specs.Bits.{low_bits, bits_of, packed}
-use Rattle.nfc_base.specs.Signal.{last_byte, IsBadTail}
+use Rattle.nfc_base.specs.Bits.{low_bits, bits_of, packed, of_bits}
+use Rattle.nfc_base.specs.Signal.{Signal, signal, last_byte, IsBadTail}
 use Rattle.std.proofs.lemmas.Grind.{common_steps}
 use Rattle.std.proofs.lemmas.Nat.{pow_pos}
 use Rattle.std.proofs.Math.Nat.{mod-lt}
@@ -205,3 +205,9 @@ pub held_tail : (front : List ℕ) (b t : ℕ) → t < 8 → IsBadTail (front ++
 held_tail front b t h (inl long) = omega (arith, h, long)
 held_tail front b t h (inr (some, inl none)) = omega (arith, length-append front ((b % 2 ^ t) ∷ []), none)
 held_tail front b t h (inr (some, inr more)) = omega (arith, last_of front (b % 2 ^ t), more, mod-lt b (pow_pos t))
+
+-- the frame of the first n bits, by its parts
+pub first_of : (f g : Signal) (n : ℕ) → n ≤ 8 * length f.bytes → g.tech ≡ f.tech → g.bytes ≡ packed (take n (bits_of f.bytes)) → g.tail ≡ n % 8 → g ≡ of_bits f.tech (take n (bits_of f.bytes))
+first_of f g n h t b l =
+    let size : length (take n (bits_of f.bytes)) ≡ n = take_size (bits_of f.bytes) n (omega (arith, length_bits_of f.bytes, h)) in
+    ap (λ x. signal x g.bytes g.tail) t ∙ ap (λ x. signal f.tech x g.tail) b ∙ ap (λ x. signal f.tech (packed (take n (bits_of f.bytes))) x) (l ∙ ap (λ x. x % 8) (sym size))

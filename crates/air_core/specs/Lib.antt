@@ -5,3 +5,5 @@ pub mod Listening
 pub mod Joining
 pub mod Numbers
 pub mod Turn
+pub mod Settling
+pub mod Lends

@@ -1,5 +1,6 @@
 -- Turns of a field whose listeners may ask something of a far end (this project's own air).
 use Rattle.std.specs.Prelude.{◌≡◌, ◌⊎◌, ℕ, List, [], ◌∷◌, ◌++◌, Bool, true, false, Option, Some, None, Result, Ok, Err}
+use Rattle.std.specs.List.{cons_option}
 use Rattle.nfc_base.specs.Signal.{Signal}
 use Rattle.nfc_base.specs.Trace.{Back, heard_by}
 use Rattle.nfc_base.specs.Trace as backs
@@ -12,7 +13,6 @@ use Rattle.air_core.specs.Joint.{Joint, Nothing, Single, Clashing, joint}
 use Rattle.air_core.specs.World.{Machine, World, hands_over, answered_by, stepped_by, requested, came_back}
 use Rattle.air_core.specs.Conversation.{first_fate, later_fates, joint_back}
 use Rattle.air_core.specs.Listening.{Step, Stop}
-use Rattle.air_core.specs.Joining.{with_answer}
 use Rattle.air_core.specs.declared.fault.AirFault.{AirFault}
 use Rattle.air_core.specs.declared.fault.AirFault.TheVariants.{FieldLost, Memory}
 
@@ -46,7 +46,7 @@ module _ {L A : Type 0} (m : Machine L) (restarts : A → List ℕ → A → Typ
   abbrev pub HearAll : Signal → List L → A → List Signal → List L → A → Type 0
   HearAll f [] far answers [] far' = (answers ≡ []) × (far' ≡ far)
   HearAll f (l ∷ ls) far answers (l' ∷ ls') far' =
-      (answer : Option Signal) × (others : List Signal) × (mid : A) × Meets f l far answer l' mid × HearAll f ls mid others ls' far' × (answers ≡ with_answer answer others)
+      (answer : Option Signal) × (others : List Signal) × (mid : A) × Meets f l far answer l' mid × HearAll f ls mid others ls' far' × (answers ≡ cons_option answer others)
   HearAll f [] far answers (l' ∷ ls') far' = ⊥
   HearAll f (l ∷ ls) far answers [] far' = ⊥
 

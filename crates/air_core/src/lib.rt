@@ -6,8 +6,12 @@
 
 mod answers;
 pub mod bits;
+mod fates;
 mod fault;
+mod field;
+mod hearing;
 mod listener;
 
 pub use fault::AirFault;
+pub use field::Field;
 pub use listener::Listener;

@@ -2,3 +2,4 @@ pub mod OneLevel
 pub mod Calling
 pub mod Spans
 pub mod KnownBits
+pub mod Resting
