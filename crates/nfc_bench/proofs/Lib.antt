@@ -4,3 +4,4 @@ pub mod Lines
 pub mod Answering
 pub mod Picking
 pub mod Memory
+pub mod Standing
