@@ -1,4 +1,4 @@
--- The laws of the bench's devices as listeners.
+-- The bench's devices keep the laws of listeners.
 use Rattle.std.proofs.Common.{◌≡◌, ℕ, List, length, Bool, true, false, ◌&&◌, is_some, if◌then◌else◌, Option, None, refl, sym, ◌∙◌, ap}
 use Rattle.nfc_base.specs.declared.frame.Tech.TheVariants.{A, V}
 use Rattle.nfc_base.specs.Signal.{Signal, whole_a}
