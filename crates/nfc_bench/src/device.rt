@@ -13,7 +13,7 @@ pub enum Device {
 
 impl Listener for Device {
     ghost use Rattle.nfc_bench.specs.Device.{devices, device_id, device_store, device_ready, device_selected};
-    ghost use Rattle.nfc_bench.proofs.Standing.{step_keeps, light_keeps, dark_keeps, dark_rests, at_rest, ignores};
+    ghost use Rattle.nfc_bench.specs.Standing.{step_keeps, light_keeps, dark_keeps, dark_rests, at_rest, ignores};
 
     ghost machine = { devices };
 

@@ -1,5 +1,6 @@
--- The laws of the bench's devices as listeners.
-use Rattle.std.proofs.Common.{◌≡◌, ℕ, List, length, Bool, true, false, ◌&&◌, is_some, if◌then◌else◌, Option, None, refl, sym, ◌∙◌, ap}
+-- The bench's devices keep the laws of listeners.
+use Rattle.std.proofs.Common.{◌≡◌, ℕ, List, length, Bool, true, false, ◌&&◌, is_some, if◌then◌else◌, Option, None, refl, ◌∙◌, ap, subst}
+use Rattle.nfc_base.specs.declared.frame.Tech.{Tech}
 use Rattle.nfc_base.specs.declared.frame.Tech.TheVariants.{A, V}
 use Rattle.nfc_base.specs.Signal.{Signal, whole_a}
 use Rattle.nfc_base.specs.Far.{Untouched}
@@ -54,6 +55,10 @@ at_rest (T2 d) bytes t r s =
     ap (λ p. is_ready p.front) after ∙ front.unready, ap (λ p. is_active p.front) after ∙ front.inactive)
 
 -- no device here is of NFC-V
+abbrev IsA : Tech → Type 0
+IsA A = Unit {0}
+IsA V = ⊥
+
 pub ignores : (l : Device) (other : List ℕ) (code : ℕ) (rest : List ℕ) → devices.tech l ≡ V → length other ≡ 8 → (other ≡ device_id l → ⊥)
     → (devices.handed l (addressed_to other code rest) ≡ Untouched) × (devices.answer l (addressed_to other code rest) None ≡ None)
-ignores (T2 d) other code rest t h k = absurd cc
+ignores (T2 d) other code rest t h k = absurd (subst IsA t tt)
