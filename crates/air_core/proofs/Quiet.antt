@@ -4,19 +4,16 @@ use Rattle.std.proofs.lemmas.List.{append-nil}
 use Rattle.std.specs.Prelude.{map}
 use Rattle.std.specs.List.{filter_map, cons_option}
 use Rattle.nfc_base.specs.Signal.{Signal}
-use Rattle.nfc_base.specs.Far.{FarUse, Untouched, Restarts, Hands, FarDid}
+use Rattle.nfc_base.specs.Far.{FarUse, Untouched, Hands, FarDid}
 use Rattle.nfc_base.specs.Trace.{heard_by}
-use Rattle.nfc_base.specs.Trace as backs
-use Rattle.nfc_base.specs.declared.event.Event.{Event}
-use Rattle.nfc_base.specs.declared.event.Event.TheVariants.{Reset, Request, Answer, Clash}
+use Rattle.nfc_base.specs.declared.event.Event.TheVariants.{Reset, Request}
 use Rattle.nfc_base.specs.declared.event.Fate.{Fate}
 use Rattle.nfc_base.specs.declared.event.Fate.TheVariants.{Pass, Damage, Lose, Break}
 use Rattle.nfc_base.specs.declared.event.Heard.{Heard}
 use Rattle.air_core.specs.Joint.{Joint, Nothing, Single, Clashing, joint}
-use Rattle.air_core.specs.World.{Machine, World, hands_over, answered_by, stepped_by, stepped, answers, came_back, reset_by, requested, hears, quiet_air}
+use Rattle.air_core.specs.World.{Machine, World, hands_over, answered_by, stepped_by, stepped, answers, reset_by, hears, quiet_air}
 use Rattle.air_core.specs.Conversation.{first_fate, later_fates, queue_after, joint_events, joint_back, replay, turn_events, turn_heard}
-use Rattle.air_core.specs.Listening.{Step, Stop}
-use Rattle.air_core.specs.Turn.{Air, world, after_event, brought, Meets, HearAll, HearSome, Passes, Fails, TurnBy, TurnIs, Stops, Transmits}
+use Rattle.air_core.specs.Turn.{Air, world, after_event, brought, Meets, HearAll, HearSome, Passes, TurnBy, TurnIs, Transmits}
 use Rattle.air_core.specs.declared.fault.AirFault.{AirFault}
 use Rattle.air_core.specs.declared.fault.AirFault.TheVariants.{FieldLost, Memory}
 

@@ -1,5 +1,5 @@
 -- A turn from its parts.
-use Rattle.std.proofs.Common.{◌≡◌, ℕ, List, [], ◌∷◌, ◌++◌, Bool, true, Option, Some, None, Result, Ok, Err, refl, sym, ◌∙◌, ap, subst, inl, inr}
+use Rattle.std.proofs.Common.{◌≡◌, ℕ, List, [], ◌∷◌, ◌++◌, Bool, true, Option, Some, None, Result, Ok, Err, refl, sym, ◌∙◌, ap, subst, inr}
 use Rattle.nfc_base.specs.Signal.{Signal}
 use Rattle.nfc_base.specs.Trace.{heard_by, heard_answer, heard_clash}
 use Rattle.nfc_base.specs.declared.event.Event.{Event}
@@ -12,9 +12,9 @@ use Rattle.air_core.specs.Joint.{Joint, Nothing, Single, Clashing, joint}
 use Rattle.air_core.specs.World.{Machine, World, came_back}
 use Rattle.air_core.specs.Conversation.{first_fate, later_fates, joint_back}
 use Rattle.air_core.specs.Settling.{settled}
-use Rattle.air_core.specs.Turn.{Air, world, after_event, brought, HearAll, HearSome, Passes, TurnBy, TurnIs, Stops, Transmits}
+use Rattle.air_core.specs.Turn.{Air, world, after_event, brought, HearAll, HearSome, Passes, TurnBy, TurnIs, Transmits}
 use Rattle.air_core.specs.declared.fault.AirFault.{AirFault}
-use Rattle.air_core.specs.declared.fault.AirFault.TheVariants.{FieldLost, Memory}
+use Rattle.air_core.specs.declared.fault.AirFault.TheVariants.{Memory}
 
 air_of : {L : Type 0} (new : Air L) (w : World L) (fates : List Fate) (trace : List Event) → world new ≡ w → new.fates ≡ fates → new.trace ≡ trace
     → new ≡ record { lit = w.lit; listeners = w.listeners; fates = fates; trace = trace }

@@ -5,7 +5,7 @@ use Rattle.nfc_base.specs.Signal.{Signal}
 use Rattle.nfc_base.specs.Trace.{Back, heard_by}
 use Rattle.nfc_base.specs.Trace as backs
 use Rattle.nfc_base.specs.declared.event.Event.{Event}
-use Rattle.nfc_base.specs.declared.event.Event.TheVariants.{Reset, Request, Answer, Clash}
+use Rattle.nfc_base.specs.declared.event.Event.TheVariants.{Request, Answer, Clash}
 use Rattle.nfc_base.specs.declared.event.Fate.{Fate}
 use Rattle.nfc_base.specs.declared.event.Fate.TheVariants.{Pass, Damage, Lose, Break}
 use Rattle.nfc_base.specs.declared.event.Heard.{Heard}
