@@ -4,4 +4,5 @@ pub mod Lines
 pub mod Answering
 pub mod Picking
 pub mod Memory
-pub mod Standing
+pub mod Asking
+pub mod Legality

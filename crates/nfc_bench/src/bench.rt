@@ -4,7 +4,7 @@ ghost use Rattle.std.specs.Prelude.{◌≡◌, ◌↔◌, ◌+◌, ◌*◌, ◌�
 ghost use Rattle.t2t_tag.specs.Store.{IsT2Store};
 ghost use Rattle.nfc_bench.specs.Reading.{IsPlain};
 ghost use Rattle.nfc_bench.specs.Legal.{IsAccepted, memory_of, state_of};
-ghost use Rattle.nfc_bench.specs.Obeying.{Adds, Obeyed, IsReady, state_at, obey_fault_number};
+ghost use Rattle.nfc_bench.specs.Obeying.{Adds, AreTame, IsIdle, Obeyed, state_at, obey_fault_number};
 
 use crate::command::{Command, DeviceId};
 use crate::device::Device;

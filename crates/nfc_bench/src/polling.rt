@@ -41,13 +41,16 @@ fn sel_req(level: &[u8; 5]) -> Frame
 }
 
 /// One turn with a tag that answers, where no fate is left: it is heard whole.
+#[tactic(auto, using(crate::proofs::Asking::asked_turn, crate::proofs::Asking::asked_heard))]
 pub fn ask(field: &mut Field<Device>, request: &Frame) -> Result<Frame, AllocError>
     requires { Answers (moment_of field.old) request.now }
     ensures { IfOk result (λ frame. TurnsTo air (moment_of field.old) (moment_of field.new) request.now (Some (Whole frame))) }
 {
     match field.transmit(request, &mut Mute) {
         Ok(Heard::Whole(frame)) => Ok(frame),
-        Ok(_) => unreachable!(),
+        Ok(Heard::Collided(_)) => unreachable!(),
+        Ok(Heard::Damaged) => unreachable!(),
+        Ok(Heard::Silent) => unreachable!(),
         Err(AirFault::FieldLost) => unreachable!(),
         Err(AirFault::Memory) => Err(AllocError),
     }
@@ -66,9 +69,7 @@ pub fn pick(field: &mut Field<Device>) -> Result<(), AllocError>
     }
     let _ = ask(field, &sens_req())?;
     let answer = ask(field, &sdd_req())?;
-    let [a, b, c, d, bcc] = answer.view() else {
-        unreachable!();
-    };
-    let _ = ask(field, &sel_req(&[*a, *b, *c, *d, *bcc]))?;
+    let level: [u8; 5] = answer.view().try_into().unwrap();
+    let _ = ask(field, &sel_req(&level))?;
     Ok(())
 }
