@@ -1,6 +1,5 @@
 -- Turns in which no listener asks anything of a far end are those of the quiet air.
-use Rattle.std.proofs.Common.{◌≡◌, ◌⊎◌, ℕ, List, [], ◌∷◌, ◌++◌, Bool, true, false, if◌then◌else◌, Option, Some, None, Result, Ok, Err, refl, sym, ◌∙◌, ap, subst, inl, inr, append_assoc}
-use Rattle.std.proofs.lemmas.List.{append-nil}
+use Rattle.std.proofs.Common.{◌≡◌, ℕ, List, [], ◌∷◌, ◌++◌, Bool, true, false, if◌then◌else◌, Option, Some, None, Result, Ok, Err, refl, sym, ◌∙◌, ap, subst, inl, inr, append_assoc}
 use Rattle.std.specs.Prelude.{map}
 use Rattle.std.specs.List.{filter_map, cons_option}
 use Rattle.nfc_base.specs.Signal.{Signal}
@@ -16,32 +15,8 @@ use Rattle.air_core.specs.Conversation.{first_fate, later_fates, queue_after, jo
 use Rattle.air_core.specs.Turn.{Air, world, after_event, brought, Meets, HearAll, HearSome, Passes, TurnBy, TurnIs, Transmits}
 use Rattle.air_core.specs.declared.fault.AirFault.{AirFault}
 use Rattle.air_core.specs.declared.fault.AirFault.TheVariants.{FieldLost, Memory}
-
--- none of these listeners asks anything of a far end at this frame
-abbrev pub EachQuiet : {L : Type 0} → Machine L → Signal → List L → Type 0
-EachQuiet m f [] = Unit {0}
-EachQuiet m f (l ∷ ls) = (hands_over m l f ≡ Untouched) × EachQuiet m f ls
-
--- A turn of the quiet air: its events, by the next fates, are all that happened, and the far end is as before.
-pub record QuietTurn {L A : Type 0} (m : Machine L) (old : Air L) (f : Signal) (far : A) (heard : Option Heard) (new : Air L) (far' : A) : Type 0 where
-  pub lit : old.lit ≡ true
-  pub after : world new ≡ replay (quiet_air m) (world old) (turn_events (quiet_air m) (world old) f (first_fate old.fates) (first_fate (later_fates old.fates)))
-  pub fates : new.fates ≡ queue_after old.fates (turn_events (quiet_air m) (world old) f (first_fate old.fates) (first_fate (later_fates old.fates)))
-  pub trace : new.trace ≡ old.trace ++ turn_events (quiet_air m) (world old) f (first_fate old.fates) (first_fate (later_fates old.fates))
-  pub told : heard ≡ turn_heard (quiet_air m) (world old) f (first_fate old.fates) (first_fate (later_fates old.fates))
-  pub same : far' ≡ far
-
--- What `transmit` answers over quiet listeners: want of memory leaves all as it was.
-abbrev pub QuietTransmits : {L A : Type 0} → Machine L → Air L → Signal → A → Result Heard AirFault → Air L → A → Type 0
-QuietTransmits m old f far (Ok h) new far' = QuietTurn m old f far (Some h) new far'
-QuietTransmits m old f far (Err FieldLost) new far' = ((old.lit ≡ false) × (new ≡ old) × (far' ≡ far)) ⊎ QuietTurn m old f far None new far'
-QuietTransmits m old f far (Err Memory) new far' = (old.lit ≡ true) × (new ≡ old) × (far' ≡ far)
-
--- A reset of the quiet air.
-pub record QuietReset {L : Type 0} (m : Machine L) (old new : Air L) : Type 0 where
-  pub after : world new ≡ replay (quiet_air m) (world old) (Reset ∷ [])
-  pub fates : new.fates ≡ queue_after old.fates (Reset ∷ [])
-  pub trace : new.trace ≡ old.trace ++ Reset ∷ []
+use Rattle.air_core.proofs.Transmitting.{brought_appends}
+use Rattle.air_core.specs.Quiet.{EachQuiet, QuietTurn, QuietTransmits, QuietReset}
 
 module _ {L : Type 0} (m : Machine L) where
   -- listeners that never hand anything over are quiet at each frame
@@ -66,11 +41,6 @@ module _ {L : Type 0} (m : Machine L) where
   brought_fates a Nothing y = refl
   brought_fates a (Single g) y = refl
   brought_fates a (Clashing g) y = refl
-
-  brought_trace : (a : Air L) (j : Joint) (y : Fate) → (brought m a j y).trace ≡ a.trace ++ joint_events j y
-  brought_trace a Nothing y = sym (append-nil a.trace)
-  brought_trace a (Single g) y = refl
-  brought_trace a (Clashing g) y = refl
 
   module _ {A : Type 0} (restarts : A → List ℕ → A → Type 0) (steps : A → List ℕ → List ℕ → A → Type 0) where
     -- what quiet listeners come to
@@ -118,7 +88,7 @@ module _ {L : Type 0} (m : Machine L) where
         p.left ∙ ap (λ a. brought m a (joint p.answers) (first_fate (later_fates old.fates))) reached ∙ ap (λ x. brought m mid x (first_fate (later_fates old.fates))) joins ∙ ap (brought m mid j) (sym e) in (
           ap world left ∙ brought_world mid j y,
           ap (λ a. a.fates) left ∙ brought_fates mid j y,
-          ap (λ a. a.trace) left ∙ brought_trace mid j y ∙ append_assoc old.trace (Request f Pass ∷ []) (joint_events j y),
+          ap (λ a. a.trace) left ∙ brought_appends m mid j y ∙ append_assoc old.trace (Request f Pass ∷ []) (joint_events j y),
           p.back ∙ ap (λ x. heard_by Pass (joint_back x (first_fate (later_fates old.fates)))) joins ∙ ap (λ x. heard_by Pass (joint_back j x)) (sym e),
           h.same,
         )
