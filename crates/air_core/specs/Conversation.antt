@@ -1,7 +1,7 @@
 -- A conversation over any air: what the reader knows, what is due, and turns whose requests are due, by any fates.
 -- (A reader speaks first and a listener answers at once or not at all: NFC Forum Digital Protocol. Fates and resets
 -- are this project's own.)
-use Rattle.std.specs.Prelude.{◌≡◌, List, [], ◌∷◌, ◌++◌, Bool, if◌then◌else◌, Option, Some, None}
+use Rattle.std.specs.Prelude.{◌≡◌, List, [], ◌∷◌, ◌++◌, Bool, true, if◌then◌else◌, Option, Some, None}
 use Rattle.nfc_base.specs.Signal.{Signal}
 use Rattle.nfc_base.specs.Trace.{Back, back_of, heard_by}
 use Rattle.nfc_base.specs.Trace as backs
@@ -123,15 +123,35 @@ module _ {W : Type 0} (m : AirModel W) where
     pub moves : List Move
     pub made : es ≡ trace_of w moves
 
--- From one world, queue and trace to another, turns were made whose requests were due; this is what the reader
--- knows of them.
-pub record Going {W : Type 0} (m : AirModel W) (next : List Note → Next) (w w' : W) (q q' : List Fate) (t t' : List Event) (notes : List Note) : Type 0 where
+-- A moment of an air: the world, the fates that are left, and the trace so far.
+pub record Moment (W : Type 0) : Type 0 where
+  pub world : W
+  pub queue : List Fate
+  pub trace : List Event
+
+-- the moment after some events
+abbrev pub with_events : {W : Type 0} → AirModel W → Moment W → List Event → Moment W
+with_events m a es = record { world = replay m a.world es; queue = queue_after a.queue es; trace = a.trace ++ es }
+
+-- From one moment to another, turns were made whose requests were due; this is what the reader knows of them.
+pub record Going {W : Type 0} (m : AirModel W) (next : List Note → Next) (old new : Moment W) (notes : List Note) : Type 0 where
   pub events : List Event
-  pub world : w' ≡ replay m w events
-  pub queue : q' ≡ queue_after q events
-  pub trace : t' ≡ t ++ events
-  pub turns : AreTurns m w events
+  pub moment : new ≡ with_events m old events
+  pub turns : AreTurns m old.world events
   pub each : EachDue next [] events
-  pub fates : FatesFrom q events
+  pub fates : FatesFrom old.queue events
   pub fresh : back_of events ≡ backs.Nothing
   pub known : receptions events ≡ notes
+
+-- From one moment to the next, one turn was made with this request, by the fates that were first; this was heard of
+-- it, none where the field was lost.
+pub record TurnsTo {W : Type 0} (m : AirModel W) (old new : Moment W) (f : Signal) (h : Option Heard) : Type 0 where
+  pub lit : m.lit old.world ≡ true
+  pub moment : new ≡ with_events m old (turn_events m old.world f (first_fate old.queue) (first_fate (later_fates old.queue)))
+  pub heard : h ≡ turn_heard m old.world f (first_fate old.queue) (first_fate (later_fates old.queue))
+
+-- something is due
+abbrev pub IsDemand : Next → Type 0
+IsDemand Over = ⊥
+IsDemand LightUp = Unit {0}
+IsDemand (Asks f) = Unit {0}

@@ -23,7 +23,7 @@ pub fn bit_len(frame: &Frame) -> usize
 
 /// One bit of some bytes.
 #[tactic(auto, using(crate::proofs::BitsOfBytes::bit_of))]
-fn bit(bytes: &[u8], at: usize) -> bool
+pub fn bit(bytes: &[u8], at: usize) -> bool
     requires { at < 8 * length bytes.now }
     ensures { result ≡ get_or (bits_of bytes.now) at Bool.false }
 {

@@ -7,7 +7,7 @@
 #![tactic(auto)]
 
 mod answers;
-mod bits;
+pub mod bits;
 mod fates;
 mod fault;
 mod field;

@@ -1,0 +1,7 @@
+pub mod Words
+pub mod Spelling
+pub mod Lines
+pub mod Answering
+pub mod Picking
+pub mod Memory
+pub mod Standing

@@ -1,0 +1,12 @@
+pub mod Placed
+pub mod Device
+pub mod Standing
+pub mod Reading
+pub mod Legal
+pub mod Obeying
+pub mod Journal
+pub mod Script
+pub mod Words
+pub mod Lines
+pub mod Report
+pub mod Phases

@@ -1,0 +1,57 @@
+//! What a line of a script asks for.
+
+ghost use Rattle.std.specs.Prelude.{◌≡◌, IfOk};
+
+use nfc_base::Items;
+use nfca_poll::Ident;
+use std::alloc::{AllocError, Global};
+
+/// The identifier of a device: of NFC-A, or of Type 5, whose 8 bytes stand high byte first.
+#[derive(Debug, Drop, PartialEq)]
+pub enum DeviceId {
+    A(Ident),
+    V([u8; 8]),
+}
+
+impl DeviceId {
+    /// The same identifier again. It takes no memory.
+    pub fn copy(&self) -> DeviceId
+        ensures { result ≡ self.now }
+    {
+        match self {
+            DeviceId::A(id) => DeviceId::A(id.copy()),
+            DeviceId::V(id) => DeviceId::V(*id),
+        }
+    }
+}
+
+/// A command of a script (this project's own), with the values of its line's words in their order.
+#[derive(Debug, Drop, PartialEq)]
+pub enum Command {
+    /// Puts a Type 2 tag of so many blocks into the field; its memory begins with `head`, and the rest is 0.
+    PlaceT2 {
+        id: Ident,
+        blocks: u16,
+        head: Items<u8>,
+    },
+    /// Reads the NDEF message of a tag.
+    Read {
+        id: DeviceId,
+    },
+}
+
+impl Command {
+    /// The same command again.
+    pub fn copy(&self, alloc: Global) -> Result<Command, AllocError>
+        ensures { IfOk result (λ c. c ≡ self.now) }
+    {
+        match self {
+            Command::PlaceT2 { id, blocks, head } => Ok(Command::PlaceT2 {
+                id: id.copy(),
+                blocks: *blocks,
+                head: Items::from_bytes(alloc, head.as_slice())?,
+            }),
+            Command::Read { id } => Ok(Command::Read { id: id.copy() }),
+        }
+    }
+}

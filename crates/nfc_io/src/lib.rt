@@ -1,0 +1,21 @@
+//! Where bytes come from and where they go.
+//!
+//! A `Source` hands out bytes in order, and a `Sink` takes them in order. Each counts its faults, so that a caller
+//! can show why it stopped. There are ends in memory, whose calls fail as planned, and ends over any reader and
+//! writer of std, which tell nothing of their content.
+#![tactic(auto)]
+
+mod failed;
+mod memory;
+mod plain;
+mod plan;
+mod sink;
+mod source;
+mod standard;
+
+pub use failed::Failed;
+pub use memory::{MemSink, MemSource};
+pub use plain::PlainSource;
+pub use sink::{Sink, write_all};
+pub use source::Source;
+pub use standard::{StdSink, StdSource};

@@ -1,0 +1,31 @@
+-- What a Type 2 tag holds (NFC Forum Type 2 Tag).
+use Rattle.std.specs.Prelude.{◌≡◌, ℕ, ◌+◌, ◌*◌, ◌/◌, ◌%◌, ◌≤◌, List, length, get_or, slice_index, replicate, Bool, false}
+use Rattle.t2t_tag.specs.declared.tag.StoreFault.{StoreFault}
+use Rattle.t2t_tag.specs.declared.tag.StoreFault.TheVariants.{BadStore}
+
+-- how many blocks of four bytes a store has
+abbrev pub block_count : List ℕ → ℕ
+block_count store = length store / 4
+
+-- A store is 4 to 256 whole blocks. Where its capability container has the magic number E1h and names the area of a
+-- tag of one sector, eight times at most 7Eh bytes, the store has that area behind its first four blocks.
+pub record IsT2Store (store : List ℕ) : Type 0 where
+  pub whole : length store % 4 ≡ 0
+  pub least : 4 ≤ block_count store
+  pub most : block_count store ≤ 256
+  pub area : slice_index store 12 ≡ 0xE1 → slice_index store 14 ≤ 0x7E → 4 + 2 * slice_index store 14 ≤ block_count store
+
+-- the store of a tag, and of each block number whether that block is locked
+pub record T2Memory : Type 0 where
+  pub store : List ℕ
+  pub locked : List Bool
+
+abbrev pub is_locked : T2Memory → ℕ → Bool
+is_locked m block = get_or m.locked block false
+
+-- a tag that holds a store and has no locked block
+abbrev pub unlocked : List ℕ → T2Memory
+unlocked store = record { store = store; locked = replicate 256 false }
+
+abbrev pub store_fault_number : StoreFault → ℕ
+store_fault_number BadStore = 1
