@@ -6,17 +6,18 @@ use Rattle.nfc_base.specs.Signal.{Signal}
 use Rattle.nfc_base.specs.Far.{FarUse, Untouched, Hands, FarDid}
 use Rattle.nfc_base.specs.Trace.{heard_by}
 use Rattle.nfc_base.specs.declared.event.Event.TheVariants.{Reset, Request}
+use Rattle.nfc_base.specs.declared.event.Event.{Event}
 use Rattle.nfc_base.specs.declared.event.Fate.{Fate}
 use Rattle.nfc_base.specs.declared.event.Fate.TheVariants.{Pass, Damage, Lose, Break}
 use Rattle.nfc_base.specs.declared.event.Heard.{Heard}
 use Rattle.air_core.specs.Joint.{Joint, Nothing, Single, Clashing, joint}
 use Rattle.air_core.specs.World.{Machine, World, hands_over, answered_by, stepped_by, stepped, answers, reset_by, hears, quiet_air}
-use Rattle.air_core.specs.Conversation.{first_fate, later_fates, queue_after, joint_events, joint_back, replay, turn_events, turn_heard}
-use Rattle.air_core.specs.Turn.{Air, world, after_event, brought, Meets, HearAll, HearSome, Passes, TurnBy, TurnIs, Transmits}
+use Rattle.air_core.specs.Conversation.{first_fate, later_fates, queue_after, joint_events, joint_back, replay, turn_events, turn_heard, Moment, TurnsTo}
+use Rattle.air_core.specs.Turn.{Air, world, after_event, brought, Meets, HearAll, HearSome, Passes, TurnBy, TurnIs, Transmits, moment}
 use Rattle.air_core.specs.declared.fault.AirFault.{AirFault}
 use Rattle.air_core.specs.declared.fault.AirFault.TheVariants.{FieldLost, Memory}
 use Rattle.air_core.proofs.Transmitting.{brought_appends}
-use Rattle.air_core.specs.Quiet.{EachQuiet, QuietTurn, QuietTransmits, QuietReset}
+pub use Rattle.air_core.specs.Quiet.{EachQuiet, QuietTurn, QuietTransmits, QuietReset}
 
 module _ {L : Type 0} (m : Machine L) where
   -- listeners that never hand anything over are quiet at each frame
@@ -27,6 +28,17 @@ module _ {L : Type 0} (m : Machine L) where
       by_hearing : (v : Bool) → (if v then m.handed l f else Untouched) ≡ Untouched
       by_hearing true = q l f
       by_hearing false = refl
+
+  -- a quiet turn leads from one moment of the air to the next
+  pub quiet_turns_to : {A : Type 0} (old new : Air L) (f : Signal) (far far' : A) (heard : Option Heard) → QuietTurn m old f far heard new far' → TurnsTo (quiet_air m) (moment old) (moment new) f heard
+  quiet_turns_to old new f far far' heard t =
+      let es : List Event = turn_events (quiet_air m) (world old) f (first_fate old.fates) (first_fate (later_fates old.fates)) in
+      let M : World L → List Fate → List Event → Moment (World L) = λ w q xs. record { world = w; queue = q; trace = xs } in
+      record {
+        lit = t.lit;
+        moment = ap (λ w. M w new.fates new.trace) t.after ∙ ap (λ q. M (replay (quiet_air m) (world old) es) q new.trace) t.fates ∙ ap (M (replay (quiet_air m) (world old) es) (queue_after old.fates es)) t.trace;
+        heard = t.told;
+      }
 
   pub quiet_reset : (old new : Air L) → new ≡ after_event old Reset old.fates (reset_by m (world old)) → QuietReset m old new
   quiet_reset old new e = record { after = ap world e; fates = ap (λ a. a.fates) e; trace = ap (λ a. a.trace) e }
