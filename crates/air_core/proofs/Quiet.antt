@@ -99,8 +99,8 @@ module _ {L : Type 0} (m : Machine L) where
         record {
           says = h.5 ∙ ap (λ o. cons_option o h.1) one.1 ∙ ap (cons_option (answered_by m l f None)) rest.says;
           left = ap (λ x. x ∷ ls') one.2 ∙ ap (λ xs. stepped_by m l f None ∷ xs) rest.left;
-          same = rest.same ∙ one.0
-          }
+          same = rest.same ∙ one.0;
+        }
 
     quiet_passes : (old : Air L) (f : Signal) (far : A) (heard : Option Heard) (new : Air L) (far' : A) (y : Fate) → old.lit ≡ true → EachQuiet m f old.listeners
         → y ≡ first_fate (later_fates old.fates) → Passes m restarts steps old f far heard new far'
@@ -118,12 +118,13 @@ module _ {L : Type 0} (m : Machine L) where
         let mid : Air L = after_event old (Request f Pass) (later_fates old.fates) w in
         let reached : B true p.listeners ≡ mid = ap (λ v. B v p.listeners) (sym lit) ∙ ap (B old.lit) h.left in
         let left : new ≡ brought m mid j y =
-          p.left ∙ ap (λ a. brought m a (joint p.answers) (first_fate (later_fates old.fates))) reached ∙ ap (λ x. brought m mid x (first_fate (later_fates old.fates))) joins ∙ ap (brought m mid j) (sym e) in
-        (ap world left ∙ brought_world mid j y,
-         ap (λ a. a.fates) left ∙ brought_fates mid j y,
-         ap (λ a. a.trace) left ∙ brought_trace mid j y ∙ append_assoc old.trace (Request f Pass ∷ []) (joint_events j y),
-         p.back ∙ ap (λ x. heard_by Pass (joint_back x (first_fate (later_fates old.fates)))) joins ∙ ap (λ x. heard_by Pass (joint_back j x)) (sym e),
-         h.same)
+        p.left ∙ ap (λ a. brought m a (joint p.answers) (first_fate (later_fates old.fates))) reached ∙ ap (λ x. brought m mid x (first_fate (later_fates old.fates))) joins ∙ ap (brought m mid j) (sym e) in (
+          ap world left ∙ brought_world mid j y,
+          ap (λ a. a.fates) left ∙ brought_fates mid j y,
+          ap (λ a. a.trace) left ∙ brought_trace mid j y ∙ append_assoc old.trace (Request f Pass ∷ []) (joint_events j y),
+          p.back ∙ ap (λ x. heard_by Pass (joint_back x (first_fate (later_fates old.fates)))) joins ∙ ap (λ x. heard_by Pass (joint_back j x)) (sym e),
+          h.same,
+        )
 
     quiet_by : (old : Air L) (f : Signal) (far : A) (heard : Option Heard) (new : Air L) (far' : A) (x : Fate) → old.lit ≡ true → EachQuiet m f old.listeners
         → TurnBy m restarts steps x old f far heard new far'

@@ -37,8 +37,8 @@ module _ {L A : Type 0} (m : Machine L) (restarts : A → List ℕ → A → Typ
         listeners = ls;
         all = all;
         back = back ∙ ap (λ t. heard_by Pass (joint_back t y)) joins ∙ ap (λ t. heard_by Pass (joint_back (joint answers) t)) fate;
-        left = left ∙ ap (λ t. brought m (passed old f ls) t y) joins ∙ ap (brought m (passed old f ls) (joint answers)) fate
-        } in
+        left = left ∙ ap (λ t. brought m (passed old f ls) t y) joins ∙ ap (brought m (passed old f ls) (joint answers)) fate;
+      } in
       record { lit = lit; by = subst P (sym pass) by }
 
   hears : (begin : List L) (far' : A) (answers : List Signal) (ls : List L) → begin ≡ old.listeners → HearAll m restarts steps f begin far answers ls far' → HearAll m restarts steps f old.listeners far answers ls far'

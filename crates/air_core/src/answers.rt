@@ -34,10 +34,18 @@ impl Answers {
                 if first == answer {
                     return Answers::Alike(first);
                 }
-                let shared = shared(first.view(), bit_len(&first), answer.view(), bit_len(&answer));
+                let shared = shared(
+                    first.view(),
+                    bit_len(&first),
+                    answer.view(),
+                    bit_len(&answer),
+                );
                 Answers::Differing { first, shared }
             }
-            Answers::Differing { first, shared: before } => {
+            Answers::Differing {
+                first,
+                shared: before,
+            } => {
                 let shared = shared(first.view(), before, answer.view(), bit_len(&answer));
                 Answers::Differing { first, shared }
             }

@@ -139,6 +139,7 @@ impl<L: Listener> Field<L> {
     fn settle(&mut self, heard: Heard, fate: Fate) -> Result<Heard, AirFault>
         ensures result { result ≡ settled heard fate }
         ensures left { (self.new.trace ≡ self.old.trace) × (self.new.fates ≡ self.old.fates) × (world self.new ≡ came_back L.machine (world self.old) fate) }
+        ensures places { length self.new.listeners ≡ length self.old.listeners }
     {
         match fate {
             Fate::Pass => Ok(heard),
@@ -154,12 +155,9 @@ impl<L: Listener> Field<L> {
 
     /// One turn: a request, and what the listeners and the far end above them make of it. In the dark nothing
     /// happens. `Memory` comes before anything happens, or where the far end has stopped for want of memory.
-    pub fn transmit<A: Answerer>(
-        &mut self,
-        request: &Frame,
-        far: &mut A,
-    ) -> Result<Heard, AirFault>
+    pub fn transmit<A: Answerer>(&mut self, request: &Frame, far: &mut A) -> Result<Heard, AirFault>
         ensures turn { Transmits L.machine A.restarts A.steps A.stops A.is_stuck self.old request.now far.old result self.new far.new }
+        ensures places { length self.new.listeners ≡ length self.old.listeners }
     {
         if !self.lit {
             return Err(AirFault::FieldLost);

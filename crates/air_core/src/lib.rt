@@ -15,3 +15,6 @@ mod listener;
 pub use fault::AirFault;
 pub use field::Field;
 pub use listener::Listener;
+
+#[cfg(test)]
+mod tests;

@@ -1,1 +1,6 @@
+pub mod Words
+pub mod Spelling
+pub mod Lines
 pub mod Answering
+pub mod Picking
+pub mod Memory

@@ -4,3 +4,9 @@ pub mod Standing
 pub mod Reading
 pub mod Legal
 pub mod Obeying
+pub mod Journal
+pub mod Script
+pub mod Words
+pub mod Lines
+pub mod Report
+pub mod Phases

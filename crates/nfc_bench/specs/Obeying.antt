@@ -1,10 +1,48 @@
 -- What obeying a command does.
 use Rattle.std.specs.Prelude.{◌≡◌, ℕ, List, [], ◌∷◌, ◌++◌, Bool}
+use Rattle.air_core.specs.Turn.{Air}
+use Rattle.nfc_bench.specs.declared.bench.ObeyFault.{ObeyFault}
+use Rattle.nfc_bench.specs.declared.bench.ObeyFault.TheVariants as faults
 use Rattle.nfc_bench.specs.declared.command.Command.{Command}
+use Rattle.nfc_bench.specs.declared.device.Device.{Device}
+use Rattle.nfc_bench.specs.declared.device.Device.TheVariants.{T2}
+use Rattle.nfc_bench.specs.declared.entry.Answer.{Answer}
 use Rattle.nfc_bench.specs.declared.entry.Entry.{Entry}
-use Rattle.nfc_bench.specs.Legal.{LegalStep, state_of}
+use Rattle.nfc_bench.specs.Legal.{State, LegalStep, state_after, state_of}
+use Rattle.nfc_bench.specs.Phases.{IsTame}
 
--- what contracts see of a bench: its journal, and whether want of memory spoiled it
+abbrev pub obey_fault_number : ObeyFault → ℕ
+obey_fault_number faults.Refused = 1
+obey_fault_number faults.Memory = 2
+
+-- the state that a field is in
+abbrev pub state_at : Air Device → State
+state_at a = record { world = record { lit = a.lit; listeners = a.listeners }; queue = a.fates }
+
+-- at most one tag stands in the field
+abbrev pub AreTame : List Device → Type 0
+AreTame [] = Unit {0}
+AreTame (T2 d ∷ ds) = IsTame d × (ds ≡ [])
+
+-- Between two commands nothing is in the trace, and no fate is left.
+pub record IsIdle (a : Air Device) : Type 0 where
+  pub quiet : a.trace ≡ []
+  pub fates : a.fates ≡ []
+  pub tame : AreTame a.listeners
+
+-- ... and the field is in the state that the journal leaves
+pub record IsReady (a : Air Device) (journal : List Entry) : Type 0 where
+  pub idle : IsIdle a
+  pub state : state_at a ≡ state_of journal
+
+-- A command was obeyed with this answer; its events are the trace.
+pub record Obeyed (old new : Air Device) (c : Command) (answer : Answer) : Type 0 where
+  pub step : LegalStep (state_at old) c new.trace answer
+  pub state : state_at new ≡ state_after (state_at old) c new.trace
+  pub fates : new.fates ≡ []
+  pub tame : AreTame new.listeners
+
+-- What contracts see of a bench: its journal, and whether want of memory spoiled it.
 pub record Benched : Type 0 where
   pub journal : List Entry
   pub spoiled : Bool

@@ -1,10 +1,13 @@
 //! A bench of NFC devices: a script of commands on a simulated air, and a report of what happened.
 #![tactic(auto)]
 
+mod bench;
 mod command;
 mod device;
 mod entry;
 mod front;
+mod report;
+mod script;
 
 use std::process::ExitCode;
 

@@ -63,3 +63,9 @@ pub gained : (o a b : Option (List ℕ)) (bytes : List ℕ) (i n : ℕ) → i + 
 gained o a b bytes i n le first then = write_on o a b (take i bytes) (take n (drop i bytes)) first then ∙ ap (with_end o) (sym (take-add i n bytes))
 
 pub ruleset moves = (with_end-append, with_end-nil, gained)
+
+-- what callers of `write_all` chain their writes by
+pub ruleset writes = (write_on, GainsFront-more, GainsFront-after)
+
+-- what callers of `read` chain their reads by
+pub ruleset reads = (with_front-nil, read_on, told_after)

@@ -1,6 +1,8 @@
 //! Ends over the readers and writers of std.
-ghost use Rattle.std.specs.Prelude.{◌≡◌, ℕ, ◌<◌, ◌≤◌, length, take, None, OnOk, OnErr, IfOk};
+ghost use Rattle.std.specs.Prelude.{◌≡◌, ◌<◌, ◌≤◌, length, None, OnOk, OnErr, IfOk};
+ghost use Rattle.std.specs.Io.KnownBytes.{ReadConsumes, WriteAppends};
 ghost use Rattle.nfc_io.specs.Counts.{count_up};
+ghost use Rattle.nfc_io.specs.Standard.{OverStd};
 
 use crate::failed::Failed;
 use crate::sink::Sink;
@@ -8,7 +10,7 @@ use crate::source::Source;
 use std::io::{Read, Write};
 use std::marker::Model;
 
-/// Any reader. It tells nothing of its content, and contracts see its count of faults.
+/// Any reader. It tells nothing of its content. Contracts see the reader and the count of faults.
 #[derive(Debug, Drop)]
 pub struct StdSource<R> {
     inner: R,
@@ -16,15 +18,15 @@ pub struct StdSource<R> {
 }
 
 impl<R> Model for StdSource<R> {
-    ghost Value = { ℕ };
+    ghost Value = { OverStd R };
 
-    ghost view = { λ s. s.faults };
+    ghost view = { λ s. record { inner = s.inner; faults = s.faults } };
 }
 
 impl<R> StdSource<R> {
     /// A source of what the reader reads.
     pub fn new(inner: R) -> StdSource<R>
-        ensures { result ≡ 0 }
+        ensures { result ≡ record { inner = inner; faults = 0 } }
     {
         StdSource { inner, faults: 0 }
     }
@@ -33,13 +35,14 @@ impl<R> StdSource<R> {
 impl<R: Read> Source for StdSource<R> {
     ghost left = { λ _. None };
 
-    ghost faults = { λ count. count };
+    ghost faults = { λ s. s.faults };
 
     fn read(&mut self, buf: &mut [u8]) -> Result<usize, Failed>
         ensures bound { IfOk result (λ n. n ≤ length buf.old) }
-        ensures ok { OnOk result (self.new ≡ self.old) }
-        ensures err { OnErr result (self.new ≡ count_up self.old) }
-        ensures count { self.old ≤ self.new }
+        ensures passes { ReadConsumes (R.remaining self.old.inner) (R.remaining self.new.inner) result buf.new }
+        ensures ok { OnOk result (self.new.faults ≡ self.old.faults) }
+        ensures err { OnErr result (self.new.faults ≡ count_up self.old.faults) }
+        ensures count { self.old.faults ≤ self.new.faults }
     {
         match self.inner.read(buf) {
             Ok(n) => Ok(n),
@@ -51,7 +54,7 @@ impl<R: Read> Source for StdSource<R> {
     }
 }
 
-/// Any writer. It tells nothing of its content, and contracts see its count of faults.
+/// Any writer. It tells nothing of its content. Contracts see the writer and the count of faults.
 #[derive(Debug, Drop)]
 pub struct StdSink<W> {
     inner: W,
@@ -59,15 +62,15 @@ pub struct StdSink<W> {
 }
 
 impl<W> Model for StdSink<W> {
-    ghost Value = { ℕ };
+    ghost Value = { OverStd W };
 
-    ghost view = { λ s. s.faults };
+    ghost view = { λ s. record { inner = s.inner; faults = s.faults } };
 }
 
 impl<W> StdSink<W> {
     /// A sink into the writer.
     pub fn new(inner: W) -> StdSink<W>
-        ensures { result ≡ 0 }
+        ensures { result ≡ record { inner = inner; faults = 0 } }
     {
         StdSink { inner, faults: 0 }
     }
@@ -76,15 +79,16 @@ impl<W> StdSink<W> {
 impl<W: Write> Sink for StdSink<W> {
     ghost taken = { λ _. None };
 
-    ghost faults = { λ count. count };
+    ghost faults = { λ s. s.faults };
 
     /// A write that takes none of the bytes is a fault.
     fn write(&mut self, bytes: &[u8]) -> Result<usize, Failed>
         ensures bound { IfOk result (λ n. n ≤ length bytes.now) }
         ensures some { IfOk result (λ n. 0 < length bytes.now → 0 < n) }
-        ensures ok { OnOk result (self.new ≡ self.old) }
-        ensures err { OnErr result (self.new ≡ count_up self.old) }
-        ensures count { self.old ≤ self.new }
+        ensures passes { WriteAppends (W.contents self.old.inner) (W.contents self.new.inner) result bytes.now }
+        ensures ok { OnOk result (self.new.faults ≡ self.old.faults) }
+        ensures err { OnErr result (self.new.faults ≡ count_up self.old.faults) }
+        ensures count { self.old.faults ≤ self.new.faults }
     {
         match self.inner.write(bytes) {
             Ok(n) if n > 0 || bytes.is_empty() => Ok(n),

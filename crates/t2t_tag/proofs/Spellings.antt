@@ -1,11 +1,13 @@
 -- A frame spells at most one command, and that is the one read from it.
-use Rattle.std.proofs.Common.{◌≡◌, ℕ, zero, suc, ◌+◌, List, [], ◌∷◌, length, Bool, true, false, ◌==◌, if◌then◌else◌, Option, Some, None, IsNone, ◌↔◌, refl, sym, ◌∙◌, ap, subst, arith}
+use Rattle.std.proofs.Common.{◌≡◌, ℕ, List, [], ◌∷◌, length, Bool, true, false, ◌==◌, if◌then◌else◌, Option, Some, None, IsNone, ◌↔◌, refl, sym, ◌∙◌, ap, subst, arith}
 use Rattle.nfc_base.specs.declared.frame.Tech.{Tech}
 use Rattle.nfc_base.specs.declared.frame.Tech.TheVariants.{A, V}
-use Rattle.nfc_base.specs.Signal.{Signal, signal, whole_a}
+use Rattle.nfc_base.specs.Signal.{Signal, signal, whole_a, last_byte}
 use Rattle.t2t_tag.specs.declared.command.T2Command.{T2Command}
 use Rattle.t2t_tag.specs.declared.command.T2Command.TheVariants.{Read, Write}
-use Rattle.t2t_tag.specs.Spelling.{read_code, write_code, command_of, spelled_command, T2Spelling}
+use Rattle.t2t_tag.specs.declared.answer.T2Answer.{T2Answer}
+use Rattle.t2t_tag.specs.declared.answer.T2Answer.TheVariants.{Content, Done, Refused}
+use Rattle.t2t_tag.specs.Spelling.{read_code, write_code, ack, nak, command_of, spelled_command, T2Spelling, T2AnswerSpelling}
 
 -- Something is spelled, so it isn't so that nothing is.
 pub not_none : {X : Type 0} (Spells : X → Type 0) (x : X) → Spells x → IsNone (Some x) ↔ ((y : X) → ¬ Spells y)
@@ -69,3 +71,15 @@ one_command f c d p q =
     let a : spelled_command f ≡ Some c = reads_back f c p in
     let b : spelled_command f ≡ Some d = reads_back f d q in
     cc
+
+-- no frame spells two answers
+pub one_answer : (f : Signal) (a b : T2Answer) → T2AnswerSpelling a f → T2AnswerSpelling b f → a ≡ b
+one_answer f (Content x) (Content y) p q = ap (λ t. Content t) (ap (λ (g : Signal). g.bytes) (sym p.1 ∙ q.1))
+one_answer f (Content x) Done p q = absurd (let e : 0 ≡ 4 = ap (λ (g : Signal). g.tail) (sym p.1 ∙ q) in omega (arith, e))
+one_answer f (Content x) Refused p q = absurd (let e : 0 ≡ 4 = ap (λ (g : Signal). g.tail) (sym p.1 ∙ q) in omega (arith, e))
+one_answer f Done (Content y) p q = absurd (let e : 4 ≡ 0 = ap (λ (g : Signal). g.tail) (sym p ∙ q.1) in omega (arith, e))
+one_answer f Done Done p q = refl
+one_answer f Done Refused p q = absurd (let e : ack ≡ nak = ap (λ (g : Signal). last_byte g.bytes) (sym p ∙ q) in omega (arith, e))
+one_answer f Refused (Content y) p q = absurd (let e : 4 ≡ 0 = ap (λ (g : Signal). g.tail) (sym p ∙ q.1) in omega (arith, e))
+one_answer f Refused Done p q = absurd (let e : nak ≡ ack = ap (λ (g : Signal). last_byte g.bytes) (sym p ∙ q) in omega (arith, e))
+one_answer f Refused Refused p q = refl

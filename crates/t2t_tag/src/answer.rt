@@ -8,6 +8,7 @@ use nfc_base::{Frame, Tech};
 
 /// The four bits of an acknowledgement, and those of a refusal.
 const ACK: u8 = 0xA;
+
 const NAK: u8 = 0;
 
 /// An answer (NFC Forum Type 2 Tag): the four blocks that a READ asks for, or what became of a WRITE. `Refused` comes
@@ -46,5 +47,53 @@ impl T2Answer {
             T2Answer::Done => Frame::part(Tech::A, &[ACK], 4).unwrap(),
             T2Answer::Refused => Frame::part(Tech::A, &[NAK], 4).unwrap(),
         }
+    }
+}
+
+#[cfg(test)]
+mod tests {
+    use super::*;
+    use crate::command::T2Command;
+    use std::test::Fail;
+
+    #[test]
+    fn frames_come_back(rt: HostRuntime) -> Result<(), Fail> {
+        let answers = [
+            T2Answer::Content([7; 16]),
+            T2Answer::Done,
+            T2Answer::Refused,
+        ];
+        for answer in answers {
+            assert_eq!(rt; T2Answer::read_from(&answer.to_frame()), Some(answer));
+        }
+        let commands = [
+            T2Command::Read { block: 255 },
+            T2Command::Write {
+                block: 4,
+                content: [1, 2, 3, 4],
+            },
+        ];
+        for command in commands {
+            assert_eq!(rt; T2Command::read_from(&command.to_frame()), Some(command));
+        }
+        Ok(())
+    }
+
+    #[test]
+    fn other_frames_spell_nothing(rt: HostRuntime) -> Result<(), Fail> {
+        let frames: [(Tech, &[u8], u8); 6] = [
+            (Tech::A, &[0x5], 4),
+            (Tech::A, &[0xA], 5),
+            (Tech::A, &[0xA], 0),
+            (Tech::V, &[0xA], 4),
+            (Tech::A, &[0; 15], 0),
+            (Tech::A, &[0; 16], 7),
+        ];
+        for (tech, bytes, tail) in frames {
+            let frame = Frame::part(tech, bytes, tail)?;
+            assert_eq!(rt; T2Answer::read_from(&frame), None, "at {bytes:?} {tail}");
+            assert_eq!(rt; T2Command::read_from(&frame), None, "at {bytes:?} {tail}");
+        }
+        Ok(())
     }
 }

@@ -7,6 +7,7 @@ ghost use Rattle.t2t_tag.specs.declared.command.T2Command.{T2Command};
 use nfc_base::{Frame, Tech};
 
 const READ: u8 = 0x30;
+
 const WRITE: u8 = 0xA2;
 
 /// A command (NFC Forum Type 2 Tag). READ asks for four blocks, WRITE changes one.

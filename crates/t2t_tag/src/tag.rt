@@ -18,12 +18,13 @@ const BLOCK: usize = 4;
 
 /// The magic number of a capability container, and the largest area of a tag of one sector in eights of bytes.
 const MAGIC: u8 = 0xE1;
+
 const LARGEST: u8 = 0x7E;
 
 /// Why some bytes are no store of a tag.
 #[derive(Clone, Copy, Debug, PartialEq, Eq, Error)]
 pub enum StoreFault {
-    #[error("no whole number of blocks that a tag may have, or fewer than its container names")]
+    #[error("a tag has 4 to 256 whole blocks of four bytes, and those that its container names")]
     BadStore = 1,
 }
 
@@ -100,18 +101,18 @@ impl T2Tag {
         if block as usize >= self.store.len() / BLOCK {
             return T2Answer::Refused;
         }
-        T2Answer::Content(self.four_blocks(block as usize))
+        T2Answer::Content(self.four_blocks(block))
     }
 
     /// Four blocks from one on. Behind the last block comes the first.
-    fn four_blocks(&self, block: usize) -> [u8; 16]
-        requires { block < block_count self.now.store }
+    fn four_blocks(&self, block: u8) -> [u8; 16]
         ensures { result ≡ four_blocks self.now.store block }
     {
         let blocks = self.store.len() / BLOCK;
         let mut content = ArrayVec::<u8, 16>::new();
         for i in 0..4 {
-            content.try_extend_from_slice(self.block((block + i) % blocks)).unwrap();
+            let next = (block as usize + i) % blocks;
+            content.try_extend_from_slice(self.block(next)).unwrap();
         }
         content.into_inner().unwrap()
     }
@@ -135,9 +136,100 @@ impl T2Tag {
             return T2Answer::Refused;
         }
         let start = BLOCK * block as usize;
-        for i in 0..BLOCK {
-            self.store[start + i] = content[i];
-        }
+        self.store[start..start + BLOCK].copy_from_slice(content);
         T2Answer::Done
+    }
+}
+
+#[cfg(test)]
+mod tests {
+    use super::*;
+    use nfc_base::Tech;
+    use std::test::Fail;
+
+    /// A store of this many bytes, each of them its own address.
+    fn addresses(rt: &HostRuntime, length: usize) -> Result<Vec<u8>, Fail> {
+        let mut store = vec![in rt.alloc(); 0u8; length]?;
+        for (address, byte) in store.iter_mut().enumerate() {
+            *byte = (address & 0xff) as u8;
+        }
+        Ok(store)
+    }
+
+    #[test]
+    fn obeys_each_frame(rt: HostRuntime) -> Result<(), Fail> {
+        let mut tag = T2Tag::new(addresses(&rt, 64)?)?;
+        let steps: [(&[u8], &[u8], u8); 10] = [
+            (
+                &[0x30, 0],
+                &[0, 1, 2, 3, 4, 5, 6, 7, 8, 9, 10, 11, 12, 13, 14, 15],
+                0,
+            ),
+            (
+                &[0x30, 13],
+                &[52, 53, 54, 55, 56, 57, 58, 59, 60, 61, 62, 63, 0, 1, 2, 3],
+                0,
+            ),
+            (
+                &[0x30, 15],
+                &[60, 61, 62, 63, 0, 1, 2, 3, 4, 5, 6, 7, 8, 9, 10, 11],
+                0,
+            ),
+            (&[0x30, 16], &[0], 4),
+            (&[0xA2, 3, 9, 9, 9, 9], &[0], 4),
+            (&[0xA2, 16, 9, 9, 9, 9], &[0], 4),
+            (&[0xA2, 4, 9, 8, 7, 6], &[0xA], 4),
+            (
+                &[0x30, 3],
+                &[12, 13, 14, 15, 9, 8, 7, 6, 20, 21, 22, 23, 24, 25, 26, 27],
+                0,
+            ),
+            (&[0x30], &[], 0),
+            (&[0xA2, 4, 9, 8, 7, 6, 5], &[], 0),
+        ];
+        for (request, answer, tail) in steps {
+            let told = tag.obey(&Frame::whole(Tech::A, request)?);
+            if answer.is_empty() {
+                assert_eq!(rt; told, None, "at {request:?}");
+            } else {
+                assert_eq!(rt;
+                    told,
+                    Some(Frame::part(Tech::A, answer, tail)?),
+                    "at {request:?}"
+                );
+            }
+            assert_eq!(rt; tag.obey(&Frame::whole(Tech::V, request)?), None);
+        }
+        Ok(())
+    }
+
+    #[test]
+    fn takes_its_stores_alone(rt: HostRuntime) -> Result<(), Fail> {
+        let rows = [
+            (12, 0, 0, false),
+            (16, 0, 0, true),
+            (18, 0, 0, false),
+            (1024, 0xE1, 0x7E, true),
+            (1020, 0xE1, 0x7E, false),
+            (16, 0xE1, 0x7F, true),
+            (16, 0xE1, 1, false),
+            (24, 0xE1, 1, true),
+            (1028, 0, 0, false),
+        ];
+        for (length, magic, area, taken) in rows {
+            let mut store = addresses(&rt, length)?;
+            if let Some(byte) = store.get_mut(12) {
+                *byte = magic;
+            }
+            if let Some(byte) = store.get_mut(14) {
+                *byte = area;
+            }
+            assert_eq!(rt;
+                T2Tag::new(store).is_ok(),
+                taken,
+                "at {length} {magic} {area}"
+            );
+        }
+        Ok(())
     }
 }

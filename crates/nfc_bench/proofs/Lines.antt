@@ -1,0 +1,59 @@
+-- The lines of a text, from its front.
+use Rattle.std.proofs.Common.{◌≡◌, ◌≢◌, ℕ, suc, ◌<◌, ◌≤◌, List, [], ◌∷◌, ◌++◌, length, refl, ap, arith}
+use Rattle.nfc_bench.specs.Script.{onto_first}
+use Rattle.nfc_bench.specs.Lines.{lines_of, whole_lines, onto_whole, NoLf}
+use Rattle.nfc_bench.proofs.Words.{eq_false}
+
+-- a line that ends with LF
+pub lines_front : (l r : List ℕ) → NoLf l → lines_of (l ++ 10 ∷ r) ≡ l ∷ lines_of r
+lines_front [] r none = refl
+lines_front (b ∷ l) r none =
+    let other : b ≢ 10 = none 0 (omega arith) in
+    rw (eq_false b 10 other) (ap (onto_first b) (lines_front l r (λ k small. none (suc k) (omega arith))))
+
+pub whole_front : (l r : List ℕ) → NoLf l → whole_lines (l ++ 10 ∷ r) ≡ l ∷ whole_lines r
+whole_front [] r none = refl
+whole_front (b ∷ l) r none =
+    let other : b ≢ 10 = none 0 (omega arith) in
+    rw (eq_false b 10 other) (ap (onto_whole b) (whole_front l r (λ k small. none (suc k) (omega arith))))
+
+pub whole_last : (l : List ℕ) → NoLf l → whole_lines l ≡ []
+whole_last [] none = refl
+whole_last (b ∷ l) none =
+    let other : b ≢ 10 = none 0 (omega arith) in
+    rw (eq_false b 10 other) (ap (onto_whole b) (whole_last l (λ k small. none (suc k) (omega arith))))
+
+-- a last line may go on in what stands behind it
+pub record GoesOn (l : List ℕ) (lines : List (List ℕ)) : Type 0 where
+  pub line : List ℕ
+  pub rest : List (List ℕ)
+  pub parts : lines ≡ line ∷ rest
+  pub longer : length l ≤ length line
+
+pub onto_goes : (b : ℕ) (lines : List (List ℕ)) → GoesOn (b ∷ []) (onto_first b lines)
+onto_goes b [] = record { line = b ∷ []; rest = []; parts = refl; longer = omega arith }
+onto_goes b (w ∷ ws) = record { line = b ∷ w; rest = ws; parts = refl; longer = omega arith }
+
+pub lines_longer : (l more : List ℕ) → NoLf l → 0 < length l → GoesOn l (lines_of (l ++ more))
+lines_longer [] more none some = absurd (omega arith)
+lines_longer (b ∷ []) more none some =
+    let other : b ≢ 10 = none 0 (omega arith) in
+    rw (eq_false b 10 other) (onto_goes b (lines_of more))
+lines_longer (b ∷ c ∷ l) more none some =
+    let other : b ≢ 10 = none 0 (omega arith) in
+    let tail : GoesOn (c ∷ l) (lines_of ((c ∷ l) ++ more)) = lines_longer (c ∷ l) more (λ k small. none (suc k) (omega arith)) (omega arith) in
+    rw (eq_false b 10 other) (record {
+      line = b ∷ tail.line;
+      rest = tail.rest;
+      parts = ap (onto_first b) tail.parts;
+      longer = let h : length (c ∷ l) ≤ length tail.line = tail.longer in omega arith;
+    })
+
+pub lines_last : (l : List ℕ) → NoLf l → 0 < length l → lines_of l ≡ l ∷ []
+lines_last [] none some = absurd (omega arith)
+lines_last (b ∷ []) none some =
+    let other : b ≢ 10 = none 0 (omega arith) in
+    rw (eq_false b 10 other) refl
+lines_last (b ∷ c ∷ l) none some =
+    let other : b ≢ 10 = none 0 (omega arith) in
+    rw (eq_false b 10 other) (ap (onto_first b) (lines_last (c ∷ l) (λ k small. none (suc k) (omega arith)) (omega arith)))

@@ -1,0 +1,69 @@
+-- The report: the text of an entry, by the entry alone. Its form is this project's own.
+use Rattle.std.specs.Prelude.{ℕ, List, [], ◌++◌, codes, length, ◌==◌, if◌then◌else◌, Bool, true, false}
+use Rattle.std.specs.List.{flat_map}
+use Rattle.std.specs.Fmt.{decimal}
+use Rattle.hex.specs.Hex.{encode_upper}
+use Rattle.nfc_base.specs.Signal.{Signal}
+use Rattle.nfc_base.specs.declared.event.Event.{Event}
+use Rattle.nfc_base.specs.declared.event.Event.TheVariants.{Reset, Request, Answer, Clash}
+use Rattle.nfc_base.specs.declared.event.Fate.{Fate}
+use Rattle.nfc_base.specs.declared.event.Fate.TheVariants.{Pass, Damage, Lose, Break}
+use Rattle.nfc_bench.specs.declared.entry.Answer.{Answer as Said}
+use Rattle.nfc_bench.specs.declared.entry.Answer.TheVariants.{Done, Message}
+use Rattle.nfc_bench.specs.declared.entry.Entry.{Entry}
+
+-- HEX: upper-case digits, two a byte; `-` for no bytes
+abbrev pub hex_text : List ℕ → List ℕ
+hex_text bytes = if length bytes == 0 then codes "-" else encode_upper bytes
+
+-- how many bits of the last byte are sent, where not all are
+abbrev pub tail_text : ℕ → List ℕ
+tail_text tail = if tail == 0 then [] else codes "/" ++ decimal tail
+
+-- FRAME
+abbrev pub frame_text : Signal → List ℕ
+frame_text f = hex_text f.bytes ++ tail_text f.tail
+
+-- FATE
+abbrev pub fate_text : Fate → List ℕ
+fate_text Pass = codes "pass"
+fate_text Damage = codes "damage"
+fate_text Lose = codes "lose"
+fate_text Break = codes "break"
+
+-- a transmission: FRAME FATE
+abbrev pub sent_text : Signal → Fate → List ℕ
+sent_text f x = frame_text f ++ codes " " ++ fate_text x
+
+-- an event
+abbrev pub event_text : Event → List ℕ
+event_text Reset = codes "! reset"
+event_text (Request f x) = codes "> " ++ sent_text f x
+event_text (Answer f x) = codes "< " ++ sent_text f x
+event_text (Clash f x) = codes "* " ++ sent_text f x
+
+-- whether the message may be written
+abbrev pub access_text : Bool → List ℕ
+access_text true = codes "writable"
+access_text false = codes "readonly"
+
+-- ANSWER
+abbrev pub answer_text : Said → List ℕ
+answer_text Done = codes "ok"
+answer_text (Message message writable) = codes "message " ++ hex_text message ++ codes " " ++ access_text writable
+
+-- a line of the report, for line n of the script
+abbrev pub line_text : ℕ → List ℕ → List ℕ
+line_text n body = decimal n ++ codes " " ++ body ++ codes "\n"
+
+-- a line for each event
+abbrev pub events_text : ℕ → List Event → List ℕ
+events_text n es = flat_map (λ e. line_text n (event_text e)) es
+
+-- the text of an entry: its events, unless quiet, and its answer
+abbrev pub entry_text : Bool → Entry → List ℕ
+entry_text quiet e = (if quiet then [] else events_text e.line e.events) ++ line_text e.line (answer_text e.answer)
+
+-- the text of some entries
+abbrev pub report_text : Bool → List Entry → List ℕ
+report_text quiet es = flat_map (entry_text quiet) es

@@ -1,0 +1,62 @@
+-- How a script is written; the language is this project's own.
+use Rattle.std.specs.Prelude.{◌≡◌, ℕ, ◌<◌, ◌≤◌, ◌⊎◌, List, [], ◌∷◌, codes, length, ◌==◌, if◌then◌else◌, Ok}
+use Rattle.std.specs.Fmt.{decimal}
+use Rattle.hex.specs.Hex.{decode_of}
+use Rattle.nfca_poll.specs.Ident.{IsIdent}
+use Rattle.nfc_bench.specs.declared.command.Command.{Command}
+use Rattle.nfc_bench.specs.declared.command.Command.TheVariants.{PlaceT2, Read}
+use Rattle.nfc_bench.specs.declared.command.DeviceId.{DeviceId}
+use Rattle.nfc_bench.specs.declared.command.DeviceId.TheVariants.{A, V}
+use Rattle.nfc_bench.specs.declared.script.LineFault.{LineFault}
+use Rattle.nfc_bench.specs.declared.script.LineFault.TheVariants.{Refused, Memory}
+
+-- a byte before the first word
+abbrev pub onto_first : ℕ → List (List ℕ) → List (List ℕ)
+onto_first b [] = (b ∷ []) ∷ []
+onto_first b (w ∷ ws) = (b ∷ w) ∷ ws
+
+-- The words of a line, parted by one space each. Two spaces in a row, and one at an end, make an empty word, which
+-- no command has.
+abbrev pub words_of : List ℕ → List (List ℕ)
+words_of [] = [] ∷ []
+words_of (b ∷ bs) = if b == 32 then [] ∷ words_of bs else onto_first b (words_of bs)
+
+-- HEX: `-` for no bytes, else two digits of either case a byte
+abbrev pub SpellsHex : List ℕ → List ℕ → Type 0
+SpellsHex word bytes = ((word ≡ codes "-") × (bytes ≡ [])) ⊎ ((0 < length word) × (decode_of word ≡ Ok bytes))
+
+-- ID of an NFC-A device: two digits of either case a byte
+abbrev pub SpellsIdent : List ℕ → List ℕ → Type 0
+SpellsIdent word id = (decode_of word ≡ Ok id) × IsIdent id
+
+-- ID of a device; none of 8 bytes has a word yet
+abbrev pub SpellsId : List ℕ → DeviceId → Type 0
+SpellsId word (A id) = SpellsIdent word id
+SpellsId word (V id) = ⊥
+
+-- the fewest blocks of a Type 2 tag that may be placed, and the most
+abbrev pub least_blocks : ℕ
+least_blocks = 4
+
+abbrev pub most_blocks : ℕ
+most_blocks = 256
+
+-- BLOCKS: a decimal number without leading zeros, within these limits
+abbrev pub SpellsBlocks : List ℕ → ℕ → Type 0
+SpellsBlocks word n = (word ≡ decimal n) × (least_blocks ≤ n) × (n ≤ most_blocks)
+
+-- `place t2 ID BLOCKS HEX` and `read ID`
+abbrev pub SpelledBy : List (List ℕ) → Command → Type 0
+SpelledBy ws (PlaceT2 id blocks head) =
+    (i b h : List ℕ) × (ws ≡ codes "place" ∷ codes "t2" ∷ i ∷ b ∷ h ∷ [])
+    × SpellsIdent i id × SpellsBlocks b blocks × SpellsHex h head
+SpelledBy ws (Read id) = (i : List ℕ) × (ws ≡ codes "read" ∷ i ∷ []) × SpellsId i id
+
+-- the line spells the command
+abbrev pub Spells : List ℕ → Command → Type 0
+Spells line c = SpelledBy (words_of line) c
+
+-- the numbers of the errors
+abbrev pub line_fault_number : LineFault → ℕ
+line_fault_number Refused = 1
+line_fault_number Memory = 2

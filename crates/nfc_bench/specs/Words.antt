@@ -1,0 +1,12 @@
+-- Words cut off the front of a text.
+use Rattle.std.specs.Prelude.{◌≡◌, ℕ, List, [], ◌∷◌, Option, Some, None}
+use Rattle.nfc_bench.specs.Script.{words_of}
+
+-- the first word, and the text behind its space, where there is one
+abbrev pub CutsWord : List ℕ → List ℕ → Option (List ℕ) → Type 0
+CutsWord text word None = words_of text ≡ word ∷ []
+CutsWord text word (Some rest) = words_of text ≡ word ∷ words_of rest
+
+-- the words aren't three
+abbrev pub NotThree : List (List ℕ) → Type 0
+NotThree ws = (a b c : List ℕ) → ws ≡ a ∷ b ∷ c ∷ [] → ⊥

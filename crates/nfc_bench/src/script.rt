@@ -1,0 +1,165 @@
+//! Reading the lines of a script.
+
+ghost use Rattle.std.specs.Prelude.{◌≡◌, ◌∷◌, IfOk, IsErrOf, codes};
+ghost use Rattle.nfc_bench.specs.Script.{words_of, SpelledBy, Spells, line_fault_number};
+ghost use Rattle.nfc_bench.specs.declared.command.Command.{Command};
+ghost use Rattle.nfc_bench.specs.declared.script.LineFault.TheVariants.{Memory};
+
+mod words;
+
+use crate::command::{Command, DeviceId};
+use std::alloc::{AllocError, Global};
+use thiserror::Error;
+use words::{cut_word, hex_word, ident_word, number_word, three_words};
+
+/// The blocks of a Type 2 tag that may be placed (this project's limits): its header has four, and a read names a
+/// block in one byte.
+const LEAST_BLOCKS: u16 = 4;
+
+const MOST_BLOCKS: u16 = 256;
+
+/// Why a line gives no command.
+#[derive(Clone, Copy, Debug, PartialEq, Eq, Error)]
+pub enum LineFault {
+    #[error("the line is no command")]
+    Refused = 1,
+    #[error("out of memory")]
+    Memory = 2,
+}
+
+impl LineFault {
+    /// Its number in reports and tests.
+    pub fn number(&self) -> u8
+        ensures { result ≡ line_fault_number self.now }
+    {
+        *self as u8
+    }
+}
+
+impl From<AllocError> for LineFault {
+    ghost from_gives = { λ _ e. e ≡ Memory };
+
+    fn from(_e: AllocError) -> LineFault {
+        LineFault::Memory
+    }
+}
+
+/// The command that a line spells, without its LF. The grammar is this project's own.
+#[tactic(auto, using(crate::proofs::Spelling::spelled_one))]
+pub fn parse_line(alloc: Global, line: &[u8]) -> Result<Command, LineFault>
+    ensures ok { IfOk result (λ c. Spells line.now c) }
+    ensures alone { IfOk result (λ c. (d : Command) → Spells line.now d → d ≡ c) }
+    ensures refused { IsErrOf result LineFault.Refused → (c : Command) → Spells line.now c → ⊥ }
+{
+    let (name, rest) = cut_word(line);
+    let Some(rest) = rest else {
+        return Err(LineFault::Refused);
+    };
+    match name {
+        b"read" => read_line(alloc, rest),
+        b"place" => place_line(alloc, rest),
+        _ => Err(LineFault::Refused),
+    }
+}
+
+/// `read ID`, behind its first word.
+#[tactic(auto, using(crate::proofs::Words::words_not_nil))]
+fn read_line(alloc: Global, rest: &[u8]) -> Result<Command, LineFault>
+    ensures ok { IfOk result (λ c. SpelledBy (codes "read" ∷ words_of rest.now) c) }
+    ensures refused { IsErrOf result LineFault.Refused → (c : Command) → SpelledBy (codes "read" ∷ words_of rest.now) c → ⊥ }
+{
+    let (word, more) = cut_word(rest);
+    if more.is_some() {
+        return Err(LineFault::Refused);
+    }
+    match ident_word(alloc, word)? {
+        Some(id) => Ok(Command::Read {
+            id: DeviceId::A(id),
+        }),
+        None => Err(LineFault::Refused),
+    }
+}
+
+/// `place KIND ..`, behind its first word.
+fn place_line(alloc: Global, rest: &[u8]) -> Result<Command, LineFault>
+    ensures ok { IfOk result (λ c. SpelledBy (codes "place" ∷ words_of rest.now) c) }
+    ensures refused { IsErrOf result LineFault.Refused → (c : Command) → SpelledBy (codes "place" ∷ words_of rest.now) c → ⊥ }
+{
+    let (kind, more) = cut_word(rest);
+    let Some(more) = more else {
+        return Err(LineFault::Refused);
+    };
+    match kind {
+        b"t2" => place_t2(alloc, more),
+        _ => Err(LineFault::Refused),
+    }
+}
+
+/// `place t2 ID BLOCKS HEX`, behind its second word.
+#[tactic(auto, using(std::proofs::lemmas::Fmt::decimal_injective, crate::proofs::Spelling::head_refused))]
+fn place_t2(alloc: Global, rest: &[u8]) -> Result<Command, LineFault>
+    ensures ok { IfOk result (λ c. SpelledBy (codes "place" ∷ codes "t2" ∷ words_of rest.now) c) }
+    ensures refused { IsErrOf result LineFault.Refused → (c : Command) → SpelledBy (codes "place" ∷ codes "t2" ∷ words_of rest.now) c → ⊥ }
+{
+    let Some((id_text, blocks_text, head_text)) = three_words(rest) else {
+        return Err(LineFault::Refused);
+    };
+    let Some(id) = ident_word(alloc, id_text)? else {
+        return Err(LineFault::Refused);
+    };
+    let Some(blocks @ LEAST_BLOCKS..=MOST_BLOCKS) = number_word(alloc, blocks_text)? else {
+        return Err(LineFault::Refused);
+    };
+    match hex_word(alloc, head_text)? {
+        Some(head) => Ok(Command::PlaceT2 { id, blocks, head }),
+        None => Err(LineFault::Refused),
+    }
+}
+
+#[cfg(test)]
+mod tests {
+    use super::*;
+
+    #[test]
+    fn lines(rt: HostRuntime) {
+        let rows = [
+            ("read 01020304", 0),
+            ("read 0a0B0c0D0e0F10", 0),
+            ("read 00010203040506070809", 0),
+            ("place t2 01020304 4 -", 0),
+            ("place t2 01020304 256 00E1", 0),
+            ("", 1),
+            ("#", 1),
+            ("read", 1),
+            ("read ", 1),
+            ("read -", 1),
+            ("read  01020304", 1),
+            (" read 01020304", 1),
+            ("read 01020304 ", 1),
+            ("read 01020304\r", 1),
+            ("read 0102030", 1),
+            ("read 0102030G", 1),
+            ("read 0102030405", 1),
+            ("read 0102030405060708", 1),
+            ("read 88020304", 1),
+            ("read 01020388050607", 1),
+            ("place t2 01020304 3 -", 1),
+            ("place t2 01020304 257 -", 1),
+            ("place t2 01020304 65540 -", 1),
+            ("place t2 01020304 016 -", 1),
+            ("place t2 01020304 +16 -", 1),
+            ("place t2 01020304 16", 1),
+            ("place t2 01020304 16 ", 1),
+            ("place t2 01020304 16 000", 1),
+            ("place t2 01020304 16 - -", 1),
+            ("place t4 01020304 16 -", 1),
+        ];
+        for (line, wanted) in rows {
+            let fault = match parse_line(rt.alloc(), line.as_bytes()) {
+                Ok(_) => 0,
+                Err(fault) => fault.number(),
+            };
+            assert_eq!(rt; fault, wanted, "{line}");
+        }
+    }
+}

@@ -1,0 +1,88 @@
+//! The words of a line.
+
+ghost use Rattle.std.specs.Prelude.{◌≡◌, ◌≢◌, ◌<◌, ◌^◌, ℕ, [], ◌∷◌, List, MatchOption, IfOk};
+ghost use Rattle.std.specs.Option.{option_copied};
+ghost use Rattle.std.specs.Fmt.{decimal};
+ghost use Rattle.nfc_bench.specs.Script.{words_of, SpellsHex, SpellsIdent};
+ghost use Rattle.nfc_bench.specs.Words.{CutsWord, NotThree};
+
+use hex::FromHexError;
+use nfc_base::Items;
+use nfca_poll::Ident;
+use std::alloc::{AllocError, Global};
+
+/// The first word, and what stands behind its space.
+#[tactic(auto, using(crate::proofs::Words::words_cut, crate::proofs::Words::words_end))]
+pub fn cut_word(text: &[u8]) -> (&[u8], Option<&[u8]>)
+    ensures { CutsWord text.now result.0.now (option_copied result.1) }
+{
+    for (i, b) in text.iter().enumerate() {
+        if *b == b' ' {
+            return (&text[..i], Some(&text[i + 1..]));
+        }
+    }
+    (text, None)
+}
+
+/// The words of a text of three.
+#[tactic(auto, using(crate::proofs::Words::words_not_nil))]
+pub fn three_words(text: &[u8]) -> Option<(&[u8], &[u8], &[u8])>
+    ensures { MatchOption result (NotThree (words_of text.now)) (λ x. words_of text.now ≡ x.0.now ∷ x.1.now ∷ x.2.now ∷ []) }
+{
+    let (first, rest) = cut_word(text);
+    let (second, rest) = cut_word(rest?);
+    let (third, rest) = cut_word(rest?);
+    match rest {
+        None => Some((first, second, third)),
+        Some(_) => None,
+    }
+}
+
+/// The identifier that a word spells, if it does.
+pub fn ident_word(alloc: Global, word: &[u8]) -> Result<Option<Ident>, AllocError>
+    ensures { IfOk result (λ o. MatchOption o ((id : List ℕ) → SpellsIdent word.now id → ⊥) (λ id. SpellsIdent word.now id)) }
+{
+    match hex::decode(alloc, word) {
+        Ok(bytes) => match Ident::new(&bytes) {
+            Ok(id) => Ok(Some(id)),
+            Err(_) => Ok(None),
+        },
+        Err(FromHexError::OutOfMemory) => Err(AllocError),
+        Err(_) => Ok(None),
+    }
+}
+
+/// The bytes that a word spells, if it does.
+pub fn hex_word(alloc: Global, word: &[u8]) -> Result<Option<Items<u8>>, AllocError>
+    ensures { IfOk result (λ o. MatchOption o ((bytes : List ℕ) → SpellsHex word.now bytes → ⊥) (λ bytes. SpellsHex word.now bytes)) }
+{
+    if word == b"-".as_slice() {
+        return Ok(Some(Items::new(Vec::new(alloc))));
+    }
+    if word.is_empty() {
+        return Ok(None);
+    }
+    match hex::decode(alloc, word) {
+        Ok(bytes) => Ok(Some(Items::new(bytes))),
+        Err(FromHexError::OutOfMemory) => Err(AllocError),
+        Err(_) => Ok(None),
+    }
+}
+
+/// The number below 65,536 that a word spells, if it does.
+pub fn number_word(alloc: Global, word: &[u8]) -> Result<Option<u16>, AllocError>
+    ensures { IfOk result (λ o. MatchOption o ((n : ℕ) → n < 2 ^ 16 → word.now ≢ decimal n) (λ n. word.now ≡ decimal n)) }
+{
+    let Ok(digits) = str::from_utf8(word) else {
+        return Ok(None);
+    };
+    let Ok(n) = digits.parse::<u16>() else {
+        return Ok(None);
+    };
+    let written = n.to_string(alloc)?;
+    if written.as_bytes() == word {
+        Ok(Some(n))
+    } else {
+        Ok(None)
+    }
+}
