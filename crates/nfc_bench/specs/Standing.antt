@@ -50,9 +50,12 @@ at_rest (T2 d) bytes t r s =
     let front : Rests (levels d.id) kinds.T2 d.front (call_of f) = rests (levels d.id) kinds.T2 d.front (call_of f) r s (whole_wakes_none bytes) in
     let taken : Placed = record { id = d.id; front = d.front; tag = t2_after d.tag f } in
     let left : Placed = with_front d (front_next (levels d.id) d.front (call_of f)) in
-    let after : placed_after d f ≡ left = ap (λ v. if v then taken else left) upper in
-    (refl, ap (λ v. if v then t2_answer d.tag f else front_says (levels d.id) kinds.T2 d.front (call_of f)) upper ∙ front.silent,
-    ap (λ p. is_ready p.front) after ∙ front.unready, ap (λ p. is_active p.front) after ∙ front.inactive)
+    let after : placed_after d f ≡ left = ap (λ v. if v then taken else left) upper in (
+      refl,
+      ap (λ v. if v then t2_answer d.tag f else front_says (levels d.id) kinds.T2 d.front (call_of f)) upper ∙ front.silent,
+      ap (λ p. is_ready p.front) after ∙ front.unready,
+      ap (λ p. is_active p.front) after ∙ front.inactive,
+    )
 
 -- no device here is of NFC-V
 abbrev IsA : Tech → Type 0

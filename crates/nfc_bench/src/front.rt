@@ -15,6 +15,7 @@ use t2t_tag::T2Tag;
 /// SENS_RES of a device with one cascade level, and SEL_RES of a Type 2 tag (NFC Forum Digital Protocol). The low byte
 /// of SENS_RES is this project's own.
 const SENS_RES: [u8; 2] = [0x04, 0x00];
+
 const SEL_RES: u8 = 0x00;
 
 /// The state of a front. A starred device was put to sleep before, and sleeps again where another one is idle.
@@ -200,5 +201,79 @@ fn home(starred: bool) -> FrontState
         FrontState::Sleep
     } else {
         FrontState::Idle
+    }
+}
+
+#[cfg(test)]
+mod tests {
+    use super::*;
+    use std::process::Abort;
+    use std::test::Fail;
+
+    /// A frame and its tail, and the answer and its tail; no answer where it has no bytes.
+    type Row<'a> = (&'a [u8], u8, &'a [u8], u8);
+
+    fn walk(rt: &impl Abort, front: &mut Front, rows: &[Row]) -> Result<(), Fail> {
+        for (request, tail, answer, answer_tail) in rows {
+            let wanted = if answer.is_empty() {
+                None
+            } else {
+                Some(Frame::part(Tech::A, answer, *answer_tail)?)
+            };
+            let frame = Frame::part(Tech::A, request, *tail)?;
+            assert_eq!(rt; front.hear(&frame), wanted, "at {request:?}");
+        }
+        Ok(())
+    }
+
+    const CONTENT: [u8; 16] = [0, 1, 2, 3, 4, 5, 6, 7, 8, 9, 10, 11, 12, 13, 14, 15];
+
+    #[test]
+    fn states(rt: HostRuntime) -> Result<(), Fail> {
+        let id = Ident::new(&[1, 2, 3, 4])?;
+        let tag = T2Tag::new(CONTENT.to_vec(rt.alloc())?)?;
+        let mut front = Front::new(id, tag);
+        walk(
+            &rt,
+            &mut front,
+            &[(&[0x26], 7, &[], 0), (&[0x52], 7, &[], 0)],
+        )?;
+        front.light();
+        walk(
+            &rt,
+            &mut front,
+            &[
+                (&[0x93, 0x20], 0, &[], 0),
+                (&[0x26], 7, &[4, 0], 0),
+                (&[0x93, 0x20], 0, &[1, 2, 3, 4, 4], 0),
+                (&[0x93, 0x21, 1], 1, &[0x00, 0x81, 0x01, 0x02, 0x02], 7),
+                (&[0x93, 0x40, 1, 2], 0, &[3, 4, 4], 0),
+                (&[0x93, 0x21, 0], 1, &[], 0),
+                (&[0x93, 0x20], 0, &[], 0),
+                (&[0x52], 7, &[4, 0], 0),
+                (&[0x95, 0x20], 0, &[], 0),
+                (&[0x26], 7, &[4, 0], 0),
+                (&[0x93, 0x70, 1, 2, 3, 4, 5], 0, &[], 0),
+                (&[0x26], 7, &[4, 0], 0),
+                (&[0x93, 0x70, 1, 2, 3, 4, 4], 0, &[0], 0),
+                (&[0x30, 0], 0, &CONTENT, 0),
+                (&[0x30, 4], 0, &[0], 4),
+                (&[0x50, 0], 0, &[], 0),
+                (&[0x26], 7, &[], 0),
+                (&[0x52], 7, &[4, 0], 0),
+                (&[0x93, 0x70, 1, 2, 3, 4, 4], 0, &[0], 0),
+                (&[0x30, 0], 0, &CONTENT, 0),
+                (&[0x26], 7, &[], 0),
+                (&[0x26], 7, &[], 0),
+                (&[0x30, 0], 0, &[], 0),
+                (&[0x52], 7, &[4, 0], 0),
+                (&[0x26], 7, &[], 0),
+                (&[0x26], 7, &[], 0),
+            ],
+        )?;
+        front.dark();
+        walk(&rt, &mut front, &[(&[0x52], 7, &[], 0)])?;
+        front.light();
+        walk(&rt, &mut front, &[(&[0x26], 7, &[4, 0], 0)])
     }
 }

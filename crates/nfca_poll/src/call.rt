@@ -113,3 +113,35 @@ fn cmd_level(frame: &Frame) -> u8
         [] => 0,
     }
 }
+
+#[cfg(test)]
+mod tests {
+    use super::*;
+    use nfc_base::Tech;
+    use std::test::Fail;
+
+    #[test]
+    fn calls(rt: HostRuntime) -> Result<(), Fail> {
+        let rows: [(&[u8], u8, Option<CallKind>); 10] = [
+            (&[0x26], 7, Some(CallKind::Sens)),
+            (&[0x52], 7, Some(CallKind::All)),
+            (&[0x26], 0, None),
+            (&[0x50, 0], 0, Some(CallKind::Slp)),
+            (&[0x93, 0x20], 0, Some(CallKind::Sdd { level: 1 })),
+            (&[0x97, 0x23, 5], 3, Some(CallKind::Sdd { level: 3 })),
+            (&[0x97, 0x23, 5], 4, None),
+            (
+                &[0x95, 0x70, 1, 2, 3, 4, 4],
+                0,
+                Some(CallKind::Sel { level: 2 }),
+            ),
+            (&[0x95, 0x70, 1, 2, 3, 4], 0, None),
+            (&[0x99, 0x20], 0, None),
+        ];
+        for (bytes, tail, call) in rows {
+            let frame = Frame::part(Tech::A, bytes, tail)?;
+            assert_eq!(rt; CallKind::read_from(&frame), call, "at {bytes:?}");
+        }
+        Ok(())
+    }
+}
