@@ -1,50 +1,23 @@
 -- Turns in which no listener asks anything of a far end are those of the quiet air.
-use Rattle.std.proofs.Common.{◌≡◌, ◌⊎◌, ℕ, List, [], ◌∷◌, ◌++◌, Bool, true, false, if◌then◌else◌, Option, Some, None, Result, Ok, Err, refl, sym, ◌∙◌, ap, subst, inl, inr, append_assoc}
-use Rattle.std.proofs.lemmas.List.{append-nil}
+use Rattle.std.proofs.Common.{◌≡◌, ℕ, List, [], ◌∷◌, ◌++◌, Bool, true, false, if◌then◌else◌, Option, Some, None, Result, Ok, Err, refl, sym, ◌∙◌, ap, subst, inl, inr, append_assoc}
 use Rattle.std.specs.Prelude.{map}
 use Rattle.std.specs.List.{filter_map, cons_option}
 use Rattle.nfc_base.specs.Signal.{Signal}
-use Rattle.nfc_base.specs.Far.{FarUse, Untouched, Restarts, Hands, FarDid}
+use Rattle.nfc_base.specs.Far.{FarUse, Untouched, Hands, FarDid}
 use Rattle.nfc_base.specs.Trace.{heard_by}
-use Rattle.nfc_base.specs.Trace as backs
+use Rattle.nfc_base.specs.declared.event.Event.TheVariants.{Reset, Request}
 use Rattle.nfc_base.specs.declared.event.Event.{Event}
-use Rattle.nfc_base.specs.declared.event.Event.TheVariants.{Reset, Request, Answer, Clash}
 use Rattle.nfc_base.specs.declared.event.Fate.{Fate}
 use Rattle.nfc_base.specs.declared.event.Fate.TheVariants.{Pass, Damage, Lose, Break}
 use Rattle.nfc_base.specs.declared.event.Heard.{Heard}
 use Rattle.air_core.specs.Joint.{Joint, Nothing, Single, Clashing, joint}
-use Rattle.air_core.specs.World.{Machine, World, hands_over, answered_by, stepped_by, stepped, answers, came_back, reset_by, requested, hears, quiet_air}
-use Rattle.air_core.specs.Conversation.{first_fate, later_fates, queue_after, joint_events, joint_back, replay, turn_events, turn_heard}
-use Rattle.air_core.specs.Listening.{Step, Stop}
-use Rattle.air_core.specs.Turn.{Air, world, after_event, brought, Meets, HearAll, HearSome, Passes, Fails, TurnBy, TurnIs, Stops, Transmits}
+use Rattle.air_core.specs.World.{Machine, World, hands_over, answered_by, stepped_by, stepped, answers, reset_by, hears, quiet_air}
+use Rattle.air_core.specs.Conversation.{first_fate, later_fates, queue_after, joint_events, joint_back, replay, turn_events, turn_heard, Moment, TurnsTo}
+use Rattle.air_core.specs.Turn.{Air, world, after_event, brought, Meets, HearAll, HearSome, Passes, TurnBy, TurnIs, Transmits, moment}
 use Rattle.air_core.specs.declared.fault.AirFault.{AirFault}
 use Rattle.air_core.specs.declared.fault.AirFault.TheVariants.{FieldLost, Memory}
-
--- none of these listeners asks anything of a far end at this frame
-abbrev pub EachQuiet : {L : Type 0} → Machine L → Signal → List L → Type 0
-EachQuiet m f [] = Unit {0}
-EachQuiet m f (l ∷ ls) = (hands_over m l f ≡ Untouched) × EachQuiet m f ls
-
--- A turn of the quiet air: its events, by the next fates, are all that happened, and the far end is as before.
-pub record QuietTurn {L A : Type 0} (m : Machine L) (old : Air L) (f : Signal) (far : A) (heard : Option Heard) (new : Air L) (far' : A) : Type 0 where
-  pub lit : old.lit ≡ true
-  pub after : world new ≡ replay (quiet_air m) (world old) (turn_events (quiet_air m) (world old) f (first_fate old.fates) (first_fate (later_fates old.fates)))
-  pub fates : new.fates ≡ queue_after old.fates (turn_events (quiet_air m) (world old) f (first_fate old.fates) (first_fate (later_fates old.fates)))
-  pub trace : new.trace ≡ old.trace ++ turn_events (quiet_air m) (world old) f (first_fate old.fates) (first_fate (later_fates old.fates))
-  pub told : heard ≡ turn_heard (quiet_air m) (world old) f (first_fate old.fates) (first_fate (later_fates old.fates))
-  pub same : far' ≡ far
-
--- What `transmit` answers over quiet listeners: want of memory leaves all as it was.
-abbrev pub QuietTransmits : {L A : Type 0} → Machine L → Air L → Signal → A → Result Heard AirFault → Air L → A → Type 0
-QuietTransmits m old f far (Ok h) new far' = QuietTurn m old f far (Some h) new far'
-QuietTransmits m old f far (Err FieldLost) new far' = ((old.lit ≡ false) × (new ≡ old) × (far' ≡ far)) ⊎ QuietTurn m old f far None new far'
-QuietTransmits m old f far (Err Memory) new far' = (old.lit ≡ true) × (new ≡ old) × (far' ≡ far)
-
--- A reset of the quiet air.
-pub record QuietReset {L : Type 0} (m : Machine L) (old new : Air L) : Type 0 where
-  pub after : world new ≡ replay (quiet_air m) (world old) (Reset ∷ [])
-  pub fates : new.fates ≡ queue_after old.fates (Reset ∷ [])
-  pub trace : new.trace ≡ old.trace ++ Reset ∷ []
+use Rattle.air_core.proofs.Transmitting.{brought_appends}
+pub use Rattle.air_core.specs.Quiet.{EachQuiet, QuietTurn, QuietTransmits, QuietReset}
 
 module _ {L : Type 0} (m : Machine L) where
   -- listeners that never hand anything over are quiet at each frame
@@ -55,6 +28,17 @@ module _ {L : Type 0} (m : Machine L) where
       by_hearing : (v : Bool) → (if v then m.handed l f else Untouched) ≡ Untouched
       by_hearing true = q l f
       by_hearing false = refl
+
+  -- a quiet turn leads from one moment of the air to the next
+  pub quiet_turns_to : {A : Type 0} (old new : Air L) (f : Signal) (far far' : A) (heard : Option Heard) → QuietTurn m old f far heard new far' → TurnsTo (quiet_air m) (moment old) (moment new) f heard
+  quiet_turns_to old new f far far' heard t =
+      let es : List Event = turn_events (quiet_air m) (world old) f (first_fate old.fates) (first_fate (later_fates old.fates)) in
+      let M : World L → List Fate → List Event → Moment (World L) = λ w q xs. record { world = w; queue = q; trace = xs } in
+      record {
+        lit = t.lit;
+        moment = ap (λ w. M w new.fates new.trace) t.after ∙ ap (λ q. M (replay (quiet_air m) (world old) es) q new.trace) t.fates ∙ ap (M (replay (quiet_air m) (world old) es) (queue_after old.fates es)) t.trace;
+        heard = t.told;
+      }
 
   pub quiet_reset : (old new : Air L) → new ≡ after_event old Reset old.fates (reset_by m (world old)) → QuietReset m old new
   quiet_reset old new e = record { after = ap world e; fates = ap (λ a. a.fates) e; trace = ap (λ a. a.trace) e }
@@ -69,11 +53,6 @@ module _ {L : Type 0} (m : Machine L) where
   brought_fates a Nothing y = refl
   brought_fates a (Single g) y = refl
   brought_fates a (Clashing g) y = refl
-
-  brought_trace : (a : Air L) (j : Joint) (y : Fate) → (brought m a j y).trace ≡ a.trace ++ joint_events j y
-  brought_trace a Nothing y = sym (append-nil a.trace)
-  brought_trace a (Single g) y = refl
-  brought_trace a (Clashing g) y = refl
 
   module _ {A : Type 0} (restarts : A → List ℕ → A → Type 0) (steps : A → List ℕ → List ℕ → A → Type 0) where
     -- what quiet listeners come to
@@ -121,7 +100,7 @@ module _ {L : Type 0} (m : Machine L) where
         p.left ∙ ap (λ a. brought m a (joint p.answers) (first_fate (later_fates old.fates))) reached ∙ ap (λ x. brought m mid x (first_fate (later_fates old.fates))) joins ∙ ap (brought m mid j) (sym e) in (
           ap world left ∙ brought_world mid j y,
           ap (λ a. a.fates) left ∙ brought_fates mid j y,
-          ap (λ a. a.trace) left ∙ brought_trace mid j y ∙ append_assoc old.trace (Request f Pass ∷ []) (joint_events j y),
+          ap (λ a. a.trace) left ∙ brought_appends m mid j y ∙ append_assoc old.trace (Request f Pass ∷ []) (joint_events j y),
           p.back ∙ ap (λ x. heard_by Pass (joint_back x (first_fate (later_fates old.fates)))) joins ∙ ap (λ x. heard_by Pass (joint_back j x)) (sym e),
           h.same,
         )

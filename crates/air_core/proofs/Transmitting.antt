@@ -1,5 +1,5 @@
 -- A turn from its parts.
-use Rattle.std.proofs.Common.{◌≡◌, ℕ, List, [], ◌∷◌, ◌++◌, Bool, true, Option, Some, None, Result, Ok, Err, refl, sym, ◌∙◌, ap, subst, inl, inr}
+use Rattle.std.proofs.Common.{◌≡◌, ℕ, List, [], ◌∷◌, ◌++◌, Bool, true, false, Option, Some, None, Result, Ok, Err, refl, sym, ◌∙◌, ap, subst, inl, inr, append_assoc, append-nil}
 use Rattle.nfc_base.specs.Signal.{Signal}
 use Rattle.nfc_base.specs.Trace.{heard_by, heard_answer, heard_clash}
 use Rattle.nfc_base.specs.declared.event.Event.{Event}
@@ -10,9 +10,9 @@ use Rattle.nfc_base.specs.declared.event.Heard.{Heard}
 use Rattle.nfc_base.specs.declared.event.Heard.TheVariants.{Whole, Collided, Damaged, Silent}
 use Rattle.air_core.specs.Joint.{Joint, Nothing, Single, Clashing, joint}
 use Rattle.air_core.specs.World.{Machine, World, came_back}
-use Rattle.air_core.specs.Conversation.{first_fate, later_fates, joint_back}
+use Rattle.air_core.specs.Conversation.{first_fate, later_fates, joint_back, joint_events}
 use Rattle.air_core.specs.Settling.{settled}
-use Rattle.air_core.specs.Turn.{Air, world, after_event, brought, HearAll, HearSome, Passes, TurnBy, TurnIs, Stops, Transmits}
+use Rattle.air_core.specs.Turn.{Air, world, after_event, brought, HearAll, HearSome, Passes, TurnBy, TurnIs, Transmits}
 use Rattle.air_core.specs.declared.fault.AirFault.{AirFault}
 use Rattle.air_core.specs.declared.fault.AirFault.TheVariants.{FieldLost, Memory}
 
@@ -21,6 +21,12 @@ air_of : {L : Type 0} (new : Air L) (w : World L) (fates : List Fate) (trace : L
 air_of {L} new w fates trace is f t =
     let B : World L → List Fate → List Event → Air L = λ v x y. record { lit = v.lit; listeners = v.listeners; fates = x; trace = y } in
     ap (λ v. B v new.fates new.trace) is ∙ ap (λ x. B w x new.trace) f ∙ ap (λ y. B w fates y) t
+
+-- what is brought back is one event, or none
+pub brought_appends : {L : Type 0} (m : Machine L) (a : Air L) (j : Joint) (y : Fate) → (brought m a j y).trace ≡ a.trace ++ joint_events j y
+brought_appends m a Nothing y = sym (append-nil a.trace)
+brought_appends m a (Single g) y = refl
+brought_appends m a (Clashing g) y = refl
 
 -- the air once a request has passed and these are the listeners
 abbrev pub passed : {L : Type 0} → Air L → Signal → List L → Air L
@@ -88,3 +94,30 @@ module _ {L A : Type 0} (m : Machine L) (restarts : A → List ℕ → A → Typ
   transmits_stop begin new far' ls lit pass from some left =
       let P : List L → Type 0 = λ t. HearSome m restarts steps stops is_stuck f t far ls far' in
       (lit, inr (record { fate = pass; listeners = ls; some = subst P from some; left = left }))
+
+module _ {L A : Type 0} (m : Machine L) (restarts : A → List ℕ → A → Type 0) (steps : A → List ℕ → List ℕ → A → Type 0) (stops : A → List ℕ → A → Type 0) (is_stuck : A → Bool) (old : Air L) (f : Signal) (far : A) where
+  -- in the dark nothing happens
+  pub transmits_dark : (r : Result Heard AirFault) (new : Air L) (far' : A) → old.lit ≡ false → Transmits m restarts steps stops is_stuck old f far r new far'
+      → (r ≡ Err FieldLost) × (new ≡ old) × (far' ≡ far)
+  transmits_dark (Ok h) new far' dark t = let lit : old.lit ≡ true = t.lit in absurd cc
+  transmits_dark (Err FieldLost) new far' dark (inl same) = (refl, same.1, same.2)
+  transmits_dark (Err FieldLost) new far' dark (inr t) = let lit : old.lit ≡ true = t.lit in absurd cc
+  transmits_dark (Err Memory) new far' dark (lit, t) = absurd cc
+
+  turn_appends : (x : Fate) (heard : Option Heard) (new : Air L) (far' : A) → TurnBy m restarts steps x old f far heard new far' → (more : List Event) × (new.trace ≡ old.trace ++ more)
+  turn_appends Pass heard new far' p =
+      let y : Fate = first_fate (later_fates old.fates) in (
+        Request f Pass ∷ joint_events (joint p.answers) y,
+        ap (λ a. a.trace) p.left ∙ brought_appends m (passed old f p.listeners) (joint p.answers) y ∙ append_assoc old.trace (Request f Pass ∷ []) (joint_events (joint p.answers) y),
+      )
+  turn_appends Damage heard new far' p = (Request f Damage ∷ [], ap (λ a. a.trace) p.left)
+  turn_appends Lose heard new far' p = (Request f Lose ∷ [], ap (λ a. a.trace) p.left)
+  turn_appends Break heard new far' p = (Request f Break ∷ [], ap (λ a. a.trace) p.left)
+
+  -- the trace only grows
+  pub transmits_appends : (r : Result Heard AirFault) (new : Air L) (far' : A) → Transmits m restarts steps stops is_stuck old f far r new far' → (more : List Event) × (new.trace ≡ old.trace ++ more)
+  transmits_appends (Ok h) new far' t = turn_appends (first_fate old.fates) (Some h) new far' t.by
+  transmits_appends (Err FieldLost) new far' (inl same) = ([], ap (λ a. a.trace) same.1 ∙ sym (append-nil old.trace))
+  transmits_appends (Err FieldLost) new far' (inr t) = turn_appends (first_fate old.fates) None new far' t.by
+  transmits_appends (Err Memory) new far' (lit, inl same) = ([], ap (λ a. a.trace) same.0 ∙ sym (append-nil old.trace))
+  transmits_appends (Err Memory) new far' (lit, inr s) = (Request f Pass ∷ [], ap (λ a. a.trace) s.left)

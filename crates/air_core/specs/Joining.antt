@@ -1,5 +1,5 @@
 -- What answers come to that are heard one by one.
-use Rattle.std.specs.Prelude.{ℕ, ◌*◌, ◌≤◌, List, [], ◌∷◌, length, map, take}
+use Rattle.std.specs.Prelude.{◌*◌, ◌≤◌, List, ◌∷◌, length, map, take}
 use Rattle.nfc_base.specs.Signal.{Signal}
 use Rattle.nfc_base.specs.Bits.{bits, bits_of, of_bits}
 use Rattle.air_core.specs.Joint.{Joint, Clashing, joint, common_all}

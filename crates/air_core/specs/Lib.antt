@@ -7,3 +7,4 @@ pub mod Numbers
 pub mod Turn
 pub mod Settling
 pub mod Lends
+pub mod Quiet

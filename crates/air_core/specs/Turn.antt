@@ -5,13 +5,13 @@ use Rattle.nfc_base.specs.Signal.{Signal}
 use Rattle.nfc_base.specs.Trace.{Back, heard_by}
 use Rattle.nfc_base.specs.Trace as backs
 use Rattle.nfc_base.specs.declared.event.Event.{Event}
-use Rattle.nfc_base.specs.declared.event.Event.TheVariants.{Reset, Request, Answer, Clash}
+use Rattle.nfc_base.specs.declared.event.Event.TheVariants.{Request, Answer, Clash}
 use Rattle.nfc_base.specs.declared.event.Fate.{Fate}
 use Rattle.nfc_base.specs.declared.event.Fate.TheVariants.{Pass, Damage, Lose, Break}
 use Rattle.nfc_base.specs.declared.event.Heard.{Heard}
 use Rattle.air_core.specs.Joint.{Joint, Nothing, Single, Clashing, joint}
 use Rattle.air_core.specs.World.{Machine, World, hands_over, answered_by, stepped_by, requested, came_back}
-use Rattle.air_core.specs.Conversation.{first_fate, later_fates, joint_back}
+use Rattle.air_core.specs.Conversation.{first_fate, later_fates, joint_back, Moment}
 use Rattle.air_core.specs.Listening.{Step, Stop}
 use Rattle.air_core.specs.declared.fault.AirFault.{AirFault}
 use Rattle.air_core.specs.declared.fault.AirFault.TheVariants.{FieldLost, Memory}
@@ -26,6 +26,10 @@ pub record Air (L : Type 0) : Type 0 where
 
 abbrev pub world : {L : Type 0} → Air L → World L
 world a = record { lit = a.lit; listeners = a.listeners }
+
+-- the moment of the air that this field is at
+abbrev pub moment : {L : Type 0} → Air L → Moment (World L)
+moment a = record { world = world a; queue = a.fates; trace = a.trace }
 
 -- the air with another world, once an event has happened, and the fates that are left then
 abbrev pub after_event : {L : Type 0} → Air L → Event → List Fate → World L → Air L

@@ -79,6 +79,13 @@ impl<L: Listener> Field<L> {
         self.listeners.remove(place)
     }
 
+    /// The listeners, in the order of placing.
+    pub fn listeners(&self) -> &[L]
+        ensures { result.now ≡ self.now.listeners }
+    {
+        &self.listeners
+    }
+
     /// The listener at a place.
     pub fn listener(&mut self, place: usize) -> &mut L
         requires { place < length self.old.listeners }

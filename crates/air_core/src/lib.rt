@@ -1,8 +1,9 @@
 //! The simulated air: listeners in a field, the fates of transmissions, and the trace of what happened.
 //!
-//! `listener` says what a device is to the air; `field` makes turns; `bits` reads frames as bits, for what clashes and
-//! for the fronts of listeners. The laws of turns in `specs/Conversation.antt` stand over any air, and the layers above
-//! compose their requests by them.
+//! `listener` says what a device is to the air. `field` makes turns: `fates` gives each transmission its fate,
+//! `hearing` lets a request reach the listeners, `answers` joins what they say, by `bits` where they differ.
+//! `specs/Turn.antt` says what a turn is with a far end of any type, and `specs/Conversation.antt` speaks of turns over
+//! any air; `proofs/Quiet.antt` leads from the one to the other where nothing is asked of a far end.
 #![tactic(auto)]
 
 mod answers;

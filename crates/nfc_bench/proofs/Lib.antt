@@ -4,3 +4,5 @@ pub mod Lines
 pub mod Answering
 pub mod Picking
 pub mod Memory
+pub mod Asking
+pub mod Legality

@@ -125,6 +125,18 @@ module _ (d : Placed) (tame : IsTame d) where
       meets_at a b (with_front d (Ready 1 false)) (phases.selected d) (call_frame (Sel 1 (level d.id))).bytes 0 (sel_res kinds.T2) h at turn
       (ready_answers_sel d tame.four false) (ready_goes_at_sel d tame.four false)
 
+  -- behind a reset, SENS_REQ and SDD_REQ the whole level was heard
+  pub resolved : (a0 a1 a2 a3 : Moment (World Device)) (g1 g2 : Signal)
+      → a0.world.listeners ≡ T2 d ∷ [] → a0.queue ≡ []
+      → a1 ≡ with_events air a0 (Reset ∷ [])
+      → TurnsTo air a1 a2 (call_frame Sens) (Some (Whole g1))
+      → TurnsTo air a2 a3 (call_frame (Sdd 1 [])) (Some (Whole g2))
+      → At a3 (with_front d (Ready 1 false)) × (g2.bytes ≡ level d.id)
+  resolved a0 a1 a2 a3 g1 g2 one quiet reset t1 t2 =
+      let m1 = sens_at a1 a2 (Some (Whole g1)) (idle_at a0 a1 d one quiet reset) t1 in
+      let m2 = sdd_at a2 a3 (Some (Whole g2)) m1.at t2 in
+      (m2.at, ap (λ (g : Signal). g.bytes) (same_frame g2 (whole_a (level d.id)) m2.whole))
+
   -- the first byte of the one level isn't the cascade tag
   last_level : goes_on [] (level d.id) ≡ false
   last_level =

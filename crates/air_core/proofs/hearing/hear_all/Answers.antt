@@ -1,6 +1,4 @@
-use Rattle.std.proofs.Common.{◌≡◌, ◌<◌, ◌≤◌, List, [], length, get_or, Option, Some, None, sym, arith}
-use Rattle.std.proofs.lemmas.Grind.{common_steps}
-use Rattle.nfc_base.specs.Signal.{Signal}
+use Rattle.std.proofs.Common.{[], arith}
 use Rattle.air_core.specs.Joining.{joint_with}
 use Rattle.air_core.proofs.Hearings.{Whole, go_on, ends, stop_goes_on, stops_here}
 use Rattle.air_core.proofs.hearing.hear_all.Goals as goal

@@ -1,4 +1,4 @@
-use Rattle.std.proofs.Common.{◌≡◌, List, [], ◌∷◌, ◌++◌, take, length, ◌≤◌, ◌*◌, true, sym, subst, ◌∙◌, ap, arith}
+use Rattle.std.proofs.Common.{◌≡◌, [], ◌∷◌, ◌++◌, take, length, ◌≤◌, ◌*◌, true, sym, subst, ◌∙◌, ap, arith}
 use Rattle.std.proofs.lemmas.Grind.{common_steps}
 use Rattle.nfc_base.specs.declared.event.Event.TheVariants.{Request, Answer, Clash}
 use Rattle.nfc_base.specs.declared.event.Fate.TheVariants.{Pass}
@@ -8,12 +8,12 @@ use Rattle.air_core.specs.Conversation.{first_fate, later_fates}
 use Rattle.air_core.specs.Joint.{Joint, joint, Nothing, Single, Clashing}
 use Rattle.air_core.specs.Joining.{joint_with}
 use Rattle.air_core.specs.Settling.{settled}
-use Rattle.air_core.specs.World.{World, came_back}
-use Rattle.air_core.specs.Turn.{Air, world}
+use Rattle.air_core.specs.World.{came_back}
+use Rattle.air_core.specs.Turn.{world}
 use Rattle.air_core.specs.Joining.{IsJoined}
 use Rattle.nfc_base.specs.Signal.{Signal}
 use Rattle.air_core.proofs.BitsOfBytes.{first_of}
-use Rattle.air_core.proofs.Transmitting.{passed, transmits_silence, transmits_answer, transmits_clash, transmits_stop}
+use Rattle.air_core.proofs.Transmitting.{transmits_silence, transmits_answer, transmits_clash, transmits_stop}
 use Rattle.air_core.proofs.field.Field.transmit.Goals as goal
 
 pub returns-in_default-clause-turn : goal.returns-in_default-clause-turn
