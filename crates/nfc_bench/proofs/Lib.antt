@@ -1,3 +1,6 @@
 pub mod Words
 pub mod Spelling
 pub mod Lines
+pub mod Limits
+pub mod Chunks
+pub mod Reading

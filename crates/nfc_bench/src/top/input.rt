@@ -75,7 +75,7 @@ fn place_after(place: Place, chunk: &[u8]) -> Option<Place>
 {
     let mut lines = place.lines;
     let mut bytes = place.bytes;
-    'bytes: for byte in chunk {
+    'each_byte: for byte in chunk {
         if lines >= MOST_LINES {
             return None;
         }
