@@ -4,3 +4,5 @@ pub mod Lines
 pub mod Limits
 pub mod Chunks
 pub mod Reading
+pub mod Journals
+pub mod Progress
