@@ -6,3 +6,4 @@ pub mod Chunks
 pub mod Reading
 pub mod Journals
 pub mod Progress
+pub mod Outcomes
