@@ -7,3 +7,4 @@ pub mod Reading
 pub mod Journals
 pub mod Progress
 pub mod Outcomes
+pub mod Endings

@@ -50,22 +50,22 @@ pub fn run_bench<S: Source, K: Sink>(
     ensures writes { K.faults sink.old ≤ K.faults sink.new }
 {
     if !is_run(words) {
-        let _ = write_all(sink, b"fault 6 words\n");
+        write_fault(sink, b"fault 6 words\n");
         return 6;
     }
     match run_script(alloc, source, sink, bench) {
         Ok(()) => 0,
         Err(Stop::Refused(n)) => {
-            let _ = write_all(sink, &refusal(n));
+            write_fault(sink, &refusal(n));
             2
         }
         Err(Stop::ReadFault) => {
-            let _ = write_all(sink, b"fault 3 read\n");
+            write_fault(sink, b"fault 3 read\n");
             3
         }
         Err(Stop::WriteFault) => 4,
         Err(Stop::Memory) => {
-            let _ = write_all(sink, b"fault 5 memory\n");
+            write_fault(sink, b"fault 5 memory\n");
             5
         }
     }
@@ -89,6 +89,7 @@ fn run_script<S: Source, K: Sink>(
     ensures ok { OnOk result (EndsDone (S.left source.old) (S.left source.new) (K.taken sink.old) (K.taken sink.new) bench.new.journal) }
     ensures err { IfErr result (λ s. RunStops (S.left source.old) (S.left source.new) (K.taken sink.old) (K.taken sink.new) (S.faults source.old) (S.faults source.new) (K.faults sink.old) (K.faults sink.new) bench.new.journal s) }
     ensures stop { ReadsInTime (S.left source.old) (S.left source.new) }
+    ensures bound { ReadsAtMost most_read (S.left source.old) (S.left source.new) }
     ensures reads { S.faults source.old ≤ S.faults source.new }
     ensures writes { K.faults sink.old ≤ K.faults sink.new }
 {
@@ -96,6 +97,14 @@ fn run_script<S: Source, K: Sink>(
         return Err(Stop::Memory);
     };
     obey_lines(alloc, script.text.as_slice(), script.ending, sink, bench)
+}
+
+/// Writes a fault line, as far as the sink takes it.
+fn write_fault<K: Sink>(sink: &mut K, line: &[u8])
+    ensures told { AddsFault [] line.now (K.taken sink.old) (K.taken sink.new) (K.faults sink.old) (K.faults sink.new) }
+    ensures count { K.faults sink.old ≤ K.faults sink.new }
+{
+    let _ = write_all(sink, line);
 }
 
 /// The fault line of a line that was refused. It takes no memory.
@@ -109,13 +118,16 @@ fn refusal(line: u32) -> ArrayVec<u8, 24>
     text
 }
 
-/// Puts a number behind a text that has room for it.
+/// Puts the digits of a number behind a text that has room for it.
+#[tactic(auto, using(std::proofs::lemmas::Fmt::decimal_digit))]
 fn push_decimal(text: &mut ArrayVec<u8, 24>, number: u32)
     requires { length text.old.items + length (decimal number) ≤ 24 }
     ensures { text.new.items ≡ text.old.items ++ decimal number }
 {
-    if number >= 10 {
+    if number < 10 {
+        text.push(b'0' + number as u8);
+    } else {
         push_decimal(text, number / 10);
+        text.push(b'0' + (number % 10) as u8);
     }
-    text.push(b'0' + (number % 10) as u8);
 }
