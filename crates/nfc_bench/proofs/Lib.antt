@@ -8,7 +8,7 @@ pub mod Asking
 pub mod Legality
 pub mod Limits
 pub mod Chunks
-pub mod Reading
+pub mod ScriptText
 pub mod Journals
 pub mod Progress
 pub mod Outcomes

@@ -3,7 +3,7 @@ use Rattle.nfc_bench.specs.declared.top.lines.Stop.{Stop}
 use Rattle.nfc_bench.specs.Stops.{TextDone, TextStops, RunStops}
 use Rattle.nfc_bench.specs.Run.{EndsDone}
 use Rattle.nfc_bench.proofs.Outcomes.{on_ok, if_err}
-use Rattle.nfc_bench.proofs.Reading.{reads_at_most}
+use Rattle.nfc_bench.proofs.ScriptText.{reads_at_most}
 use Rattle.nfc_bench.proofs.Endings.{lost_at_once, passes_of, ends_done, run_stops}
 use Rattle.nfc_bench.proofs.top.run_script.Goals as goal
 

@@ -6,7 +6,7 @@ use Rattle.nfc_bench.specs.Limits.{chunk_size}
 use Rattle.nfc_bench.specs.Run.{ReadsInTime}
 use Rattle.nfc_bench.specs.Stops.{EndsAt}
 use Rattle.nfc_bench.proofs.Limits.{ends_at_start}
-use Rattle.nfc_bench.proofs.Reading.{stops_before, stops_behind, chunk_fits, less_left}
+use Rattle.nfc_bench.proofs.ScriptText.{stops_before, stops_behind, chunk_fits, less_left}
 use Rattle.nfc_bench.proofs.top.input.read_script.Goals.{in-Ok-eq0, in-Ok+in_ok-extend_from_slice-in-Ok+in-None, in-Err}
 use Rattle.nfc_bench.proofs.top.input.read_script.Goals as goal
 
