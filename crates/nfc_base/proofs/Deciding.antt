@@ -1,8 +1,8 @@
 -- A frame's technology and bits decide the frame.
-use Rattle.std.proofs.Common.{◌≡◌, ℕ, zero, suc, ◌+◌, ◌-◌, ◌*◌, ◌%◌, ◌^◌, ◌<◌, ◌≤◌, List, [], ◌∷◌, length, take, get_or, Bool, true, false, ◌==◌, if◌then◌else◌, refl, sym, ◌∙◌, ap, arith, IsTrue, ◌↔◌}
+use Rattle.std.proofs.Common.{◌≡◌, ℕ, zero, suc, ◌+◌, ◌-◌, ◌*◌, ◌%◌, ◌^◌, ◌<◌, List, [], ◌∷◌, length, take, get_or, Bool, true, false, ◌==◌, if◌then◌else◌, refl, sym, ◌∙◌, ap, arith, IsTrue, ◌↔◌}
 use Rattle.std.proofs.lemmas.List.{length-take-le}
 use Rattle.nfc_base.specs.Signal.{Signal, signal, IsSignal, last_byte}
-use Rattle.nfc_base.specs.Bits.{low_bits, bits_of, bits, bit_count, number_of, packed, of_bits}
+use Rattle.nfc_base.specs.Bits.{bits_of, bits, bit_count, packed, of_bits}
 use Rattle.nfc_base.proofs.Packing.{number_of_low_bits, length_of_bits, whole_of_bits, bits_of_whole}
 
 -- the low bits of one byte, packed again
