@@ -35,7 +35,7 @@ stops_at_once a b same = record {
 
 pub reads_at_most : (a b : Option (List ℕ)) → ReadsInTime a b → ReadsAtMost most_read a b
 reads_at_most a b r =
-    let short : length r.front ≤ 8194 = within_short r.front r.short in
+    let short : length r.front ≤ longest_script = within_short r.front r.short in
     let chunk : length r.chunk ≤ chunk_size = r.size in
     record { bytes = r.front ++ r.chunk; read = r.read; size = omega (arith, length-append r.front r.chunk) }
 
@@ -46,5 +46,5 @@ chunk_fits buf old n within kept size = omega (arith, length-take-le n buf (omeg
 -- less is left to be read
 pub less_left : (text new buf : List ℕ) (k n m : ℕ) → new ≡ text ++ take k buf → 0 < k → k ≤ length buf → EndsAt (text ++ take k buf) n m → longest_script - length new < longest_script - length text
 less_left text new buf k n m is some within e =
-    let short : length (text ++ take k buf) ≤ 8194 = within_short (text ++ take k buf) (ends_within (text ++ take k buf) n m e) in
+    let short : length (text ++ take k buf) ≤ longest_script = within_short (text ++ take k buf) (ends_within (text ++ take k buf) n m e) in
     omega (arith, ap length is, length-append text (take k buf), length-take-le k buf within)
