@@ -1,11 +1,9 @@
 -- A script is read in chunks.
-use Rattle.std.proofs.Common.{◌≡◌, ℕ, ◌+◌, ◌-◌, ◌<◌, ◌≤◌, List, [], ◌++◌, length, take, Option, Some, None, sym, ◌∙◌, ap, subst, append_assoc, arith}
-use Rattle.std.specs.Prelude.{IfSome}
-use Rattle.std.proofs.lemmas.List.{append-nil, length-append, length-take-le}
+use Rattle.std.proofs.Common.{◌≡◌, ℕ, ◌-◌, ◌<◌, ◌≤◌, List, [], ◌++◌, length, take, Option, sym, ◌∙◌, ap, arith}
+use Rattle.std.proofs.lemmas.List.{length-append, length-take-le}
 use Rattle.nfc_io.specs.Moves.{with_front}
 use Rattle.nfc_io.proofs.Moves.{with_front-nil, read_on}
-use Rattle.nfc_bench.specs.Lines.{lines_of}
-use Rattle.nfc_bench.specs.Limits.{chunk_size, longest_script, most_read, AreWithinLimits}
+use Rattle.nfc_bench.specs.Limits.{chunk_size, longest_script, most_read}
 use Rattle.nfc_bench.specs.Run.{ReadsInTime, ReadsAtMost}
 use Rattle.nfc_bench.specs.Stops.{EndsAt}
 use Rattle.nfc_bench.proofs.Limits.{ends_within, within_short, no_limits}

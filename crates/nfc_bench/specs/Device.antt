@@ -1,5 +1,5 @@
 -- The devices of the bench: a Type 2 tag under the listener front of its identifier.
-use Rattle.std.specs.Prelude.{ℕ, List, Bool, false, ◌&&◌, is_some, if◌then◌else◌, Option}
+use Rattle.std.specs.Prelude.{ℕ, List, Bool, ◌&&◌, is_some, if◌then◌else◌, Option}
 use Rattle.nfc_base.specs.declared.frame.Tech.TheVariants.{A}
 use Rattle.nfc_base.specs.Signal.{Signal}
 use Rattle.nfc_base.specs.Far.{Untouched}
@@ -7,8 +7,8 @@ use Rattle.air_core.specs.World.{Machine}
 use Rattle.nfca_poll.specs.declared.kind.Kind.TheVariants as kinds
 use Rattle.nfca_poll.specs.Levels.{levels}
 use Rattle.nfca_poll.specs.Calls.{call_of}
-use Rattle.nfca_poll.specs.Front.{Front, Off, Idle, front_says, front_next, is_ready, is_active}
-use Rattle.t2t_tag.specs.Store.{T2Memory, unlocked}
+use Rattle.nfca_poll.specs.Front.{Off, Idle, front_says, front_next, is_ready, is_active}
+use Rattle.t2t_tag.specs.Store.{unlocked}
 use Rattle.t2t_tag.specs.Spelling.{spelled_command}
 use Rattle.t2t_tag.specs.Step.{t2_answer, t2_after}
 use Rattle.nfc_bench.specs.Placed.{Placed, with_front}

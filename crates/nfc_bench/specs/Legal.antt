@@ -1,6 +1,6 @@
 -- Which entries a bench may have: what it accepts, what each command changes, which request is due, and what it
 -- answers. A later command adds a case to each definition.
-use Rattle.std.specs.Prelude.{◌≡◌, ℕ, ◌+◌, ◌*◌, ◌-◌, ◌≤◌, List, [], ◌∷◌, ◌++◌, map, length, replicate, Bool, false, nat_eq, if◌then◌else◌, Option, Some, None, IsSome}
+use Rattle.std.specs.Prelude.{◌≡◌, ℕ, ◌*◌, ◌-◌, ◌≤◌, List, [], ◌∷◌, ◌++◌, map, length, replicate, Bool, false, nat_eq, if◌then◌else◌, Option, Some, None, IsSome}
 use Rattle.std.specs.Cmp.Lexicographic.{pointwise}
 use Rattle.nfc_base.specs.declared.event.Event.{Event}
 use Rattle.nfc_base.specs.declared.event.Fate.{Fate}
@@ -11,7 +11,6 @@ use Rattle.nfca_poll.specs.Poll.{Polling, Polls, Done, Picked, NotFound, GivenUp
 use Rattle.t2t_tag.specs.Store.{IsT2Store}
 use Rattle.nfc_bench.specs.declared.command.Command.{Command}
 use Rattle.nfc_bench.specs.declared.command.Command.TheVariants.{PlaceT2, Read}
-use Rattle.nfc_bench.specs.declared.command.DeviceId.{DeviceId}
 use Rattle.nfc_bench.specs.declared.command.DeviceId.TheVariants.{A, V}
 use Rattle.nfc_bench.specs.declared.device.Device.{Device}
 use Rattle.nfc_bench.specs.declared.device.Device.TheVariants.{T2}

@@ -1,10 +1,8 @@
 -- What a call of polling and a call of reading do to the air, where one Type 2 tag stands in it and no fate is left.
-use Rattle.std.specs.Prelude.{◌≡◌, ℕ, List, [], ◌∷◌, length, true, false, Option, Some}
-use Rattle.nfc_base.specs.declared.event.Heard.{Heard}
-use Rattle.nfc_base.specs.declared.event.Heard.TheVariants.{Whole}
+use Rattle.std.specs.Prelude.{◌≡◌, ℕ, List, [], ◌∷◌, length, true, false}
 use Rattle.air_core.specs.World.{World}
 use Rattle.air_core.specs.Turn.{Air}
-use Rattle.air_core.specs.Conversation.{Moment, Note, Got, Next, Over, Going}
+use Rattle.air_core.specs.Conversation.{Moment, Note, Next, Over, Going}
 use Rattle.nfca_poll.specs.declared.kind.Kind.TheVariants as kinds
 use Rattle.nfca_poll.specs.Ident.{IsIdent}
 use Rattle.nfca_poll.specs.Front.{Active}

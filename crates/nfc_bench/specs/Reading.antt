@@ -1,10 +1,9 @@
 -- Reading a Type 2 tag whose NDEF message stands in the first TLV of its area (NFC Forum Type 2 Tag).
 use Rattle.std.specs.Prelude.{◌≡◌, ℕ, zero, suc, ◌+◌, ◌*◌, ◌/◌, ◌%◌, ◌<◌, ◌≤◌, List, [], ◌∷◌, take, drop, slice_index, Bool, ◌==◌, nat_lt, if◌then◌else◌}
-use Rattle.nfc_base.specs.declared.event.Heard.{Heard}
 use Rattle.nfc_base.specs.declared.event.Heard.TheVariants.{Whole, Collided, Damaged, Silent}
 use Rattle.air_core.specs.Conversation.{Note, Lit, Got, Lost, Next, Over, Asks}
 use Rattle.t2t_tag.specs.declared.command.T2Command.{T2Command}
-use Rattle.t2t_tag.specs.declared.command.T2Command.TheVariants.{Read, Write}
+use Rattle.t2t_tag.specs.declared.command.T2Command.TheVariants.{Read}
 use Rattle.t2t_tag.specs.Spelling.{command_frame}
 
 -- where the capability container stands, and where the area begins

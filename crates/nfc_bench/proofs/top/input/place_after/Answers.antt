@@ -1,4 +1,4 @@
-use Rattle.std.proofs.Common.{◌≡◌, ℕ, ◌+◌, ◌++◌, List, take, sym, ◌∙◌, subst, arith}
+use Rattle.std.proofs.Common.{ℕ, ◌+◌, ◌++◌, List, take, sym, subst, arith}
 use Rattle.nfc_bench.specs.Stops.{EndsAt}
 use Rattle.nfc_bench.proofs.Chunks.{chunk_by_number, chunk_by_length, chunk_line, chunk_later}
 use Rattle.nfc_bench.proofs.top.input.place_after.Goals.{then-byte-eq10, else-byte-eq10+else-bytes-ge-LONGEST_LINE}

@@ -1,9 +1,7 @@
-use Rattle.std.proofs.Common.{◌≡◌, ◌≤◌, ◌<◌, ◌++◌, ℕ, List, [], Option, length, take, refl, sym, ◌∙◌, ap, subst, arith}
+use Rattle.std.proofs.Common.{◌≤◌, ℕ, List, Option, length, take, sym, ◌∙◌, ap, subst, arith}
 use Rattle.std.proofs.lemmas.Grind.{common_steps}
 use Rattle.nfc_io.specs.Moves.{with_front}
 use Rattle.nfc_io.proofs.Moves.{with_front-nil}
-use Rattle.nfc_bench.specs.Limits.{chunk_size}
-use Rattle.nfc_bench.specs.Run.{ReadsInTime}
 use Rattle.nfc_bench.specs.Stops.{EndsAt}
 use Rattle.nfc_bench.proofs.Limits.{ends_at_start}
 use Rattle.nfc_bench.proofs.Reading.{stops_before, stops_behind, chunk_fits, less_left}
