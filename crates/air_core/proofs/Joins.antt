@@ -1,12 +1,9 @@
 -- One answer more.
 use Rattle.std.proofs.Common.{◌≡◌, ℕ, List, [], ◌∷◌, map, Bool, true, false, nat_eq, ◌==◌, ◌&&◌, if◌then◌else◌, refl, sym, ◌∙◌, ap, arith}
-use Rattle.std.proofs.lemmas.Grind.{common_steps}
 use Rattle.std.specs.Cmp.Lexicographic.{pointwise}
 use Rattle.nfc_base.specs.Signal.{Signal}
 use Rattle.nfc_base.specs.Bits.{bits, of_bits}
-use Rattle.nfc_base.specs.declared.frame.Tech.{Tech}
-use Rattle.nfc_base.specs.declared.frame.Tech.TheVariants.{A, V}
-use Rattle.air_core.specs.Joint.{Joint, Single, Clashing, joint, same_tech, same_signal, same_bit, common, common_all, all_same}
+use Rattle.air_core.specs.Joint.{Joint, Single, Clashing, joint, same_tech, same_signal, common, common_all, all_same}
 
 equal_of : (m n : ℕ) → (m == n) ≡ true → m ≡ n
 equal_of m n h = grind arith

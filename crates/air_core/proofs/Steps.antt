@@ -1,8 +1,8 @@
 -- A step from its parts, for those who implement `Listener`.
 use Rattle.std.proofs.Common.{◌≡◌, ℕ, List, Option, Some, None, refl, subst, sym}
 use Rattle.nfc_base.specs.Signal.{Signal}
-use Rattle.nfc_base.specs.Far.{FarUse, Untouched, Restarts, Hands, FarDid}
-use Rattle.air_core.specs.Listening.{Step, Stop}
+use Rattle.nfc_base.specs.Far.{FarUse, Untouched, Restarts, Hands}
+use Rattle.air_core.specs.Listening.{Step}
 
 module _ {L A : Type 0} {restarts : A → List ℕ → A → Type 0} {steps : A → List ℕ → List ℕ → A → Type 0} where
   -- one that asks nothing of the far end

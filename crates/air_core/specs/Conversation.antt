@@ -1,7 +1,7 @@
 -- A conversation over any air: what the reader knows, what is due, and turns whose requests are due, by any fates.
 -- (A reader speaks first and a listener answers at once or not at all: NFC Forum Digital Protocol. Fates and resets
 -- are this project's own.)
-use Rattle.std.specs.Prelude.{◌≡◌, ℕ, List, [], ◌∷◌, ◌++◌, Bool, true, if◌then◌else◌, Option, Some, None}
+use Rattle.std.specs.Prelude.{◌≡◌, List, [], ◌∷◌, ◌++◌, Bool, true, if◌then◌else◌, Option, Some, None}
 use Rattle.nfc_base.specs.Signal.{Signal}
 use Rattle.nfc_base.specs.Trace.{Back, back_of, heard_by}
 use Rattle.nfc_base.specs.Trace as backs

@@ -1,5 +1,5 @@
 -- What answers come to that are heard one by one.
-use Rattle.std.specs.Prelude.{ℕ, ◌*◌, ◌≤◌, List, [], ◌∷◌, length, map, take, Option, Some, None}
+use Rattle.std.specs.Prelude.{◌*◌, ◌≤◌, List, ◌∷◌, length, map, take}
 use Rattle.nfc_base.specs.Signal.{Signal}
 use Rattle.nfc_base.specs.Bits.{bits, bits_of, of_bits}
 use Rattle.air_core.specs.Joint.{Joint, Clashing, joint, common_all}
@@ -17,8 +17,3 @@ abbrev pub joint_with : Answers → List Signal → Joint
 joint_with Nothing more = joint more
 joint_with (Alike f) more = joint (f ∷ more)
 joint_with (Differing f n) more = Clashing (of_bits f.tech (common_all (take n (bits_of f.bytes)) (map bits more)))
-
--- an answer before others, where there is one
-abbrev pub with_answer : Option Signal → List Signal → List Signal
-with_answer None gs = gs
-with_answer (Some g) gs = g ∷ gs

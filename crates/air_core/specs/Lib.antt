@@ -5,3 +5,6 @@ pub mod Listening
 pub mod Joining
 pub mod Numbers
 pub mod Turn
+pub mod Settling
+pub mod Lends
+pub mod Quiet

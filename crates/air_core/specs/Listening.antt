@@ -1,5 +1,5 @@
 -- One step of a listener: what it asks of the far end above it, and what follows from the reply.
-use Rattle.std.specs.Prelude.{◌≡◌, ℕ, List, ◌∷◌, ◌++◌, reverse, Bool, true, Option, Some, None}
+use Rattle.std.specs.Prelude.{◌≡◌, ℕ, List, ◌∷◌, ◌++◌, reverse, Bool, true, Option, None}
 use Rattle.nfc_base.specs.Signal.{Signal, whole_v}
 use Rattle.nfc_base.specs.Far.{FarUse, Hands, FarDid}
 

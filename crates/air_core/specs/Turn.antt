@@ -1,18 +1,18 @@
 -- Turns of a field whose listeners may ask something of a far end (this project's own air).
 use Rattle.std.specs.Prelude.{◌≡◌, ◌⊎◌, ℕ, List, [], ◌∷◌, ◌++◌, Bool, true, false, Option, Some, None, Result, Ok, Err}
+use Rattle.std.specs.List.{cons_option}
 use Rattle.nfc_base.specs.Signal.{Signal}
 use Rattle.nfc_base.specs.Trace.{Back, heard_by}
 use Rattle.nfc_base.specs.Trace as backs
 use Rattle.nfc_base.specs.declared.event.Event.{Event}
-use Rattle.nfc_base.specs.declared.event.Event.TheVariants.{Reset, Request, Answer, Clash}
+use Rattle.nfc_base.specs.declared.event.Event.TheVariants.{Request, Answer, Clash}
 use Rattle.nfc_base.specs.declared.event.Fate.{Fate}
 use Rattle.nfc_base.specs.declared.event.Fate.TheVariants.{Pass, Damage, Lose, Break}
 use Rattle.nfc_base.specs.declared.event.Heard.{Heard}
 use Rattle.air_core.specs.Joint.{Joint, Nothing, Single, Clashing, joint}
 use Rattle.air_core.specs.World.{Machine, World, hands_over, answered_by, stepped_by, requested, came_back}
-use Rattle.air_core.specs.Conversation.{first_fate, later_fates, joint_back}
+use Rattle.air_core.specs.Conversation.{first_fate, later_fates, joint_back, Moment}
 use Rattle.air_core.specs.Listening.{Step, Stop}
-use Rattle.air_core.specs.Joining.{with_answer}
 use Rattle.air_core.specs.declared.fault.AirFault.{AirFault}
 use Rattle.air_core.specs.declared.fault.AirFault.TheVariants.{FieldLost, Memory}
 
@@ -26,6 +26,10 @@ pub record Air (L : Type 0) : Type 0 where
 
 abbrev pub world : {L : Type 0} → Air L → World L
 world a = record { lit = a.lit; listeners = a.listeners }
+
+-- the moment of the air that this field is at
+abbrev pub moment : {L : Type 0} → Air L → Moment (World L)
+moment a = record { world = world a; queue = a.fates; trace = a.trace }
 
 -- the air with another world, once an event has happened, and the fates that are left then
 abbrev pub after_event : {L : Type 0} → Air L → Event → List Fate → World L → Air L
@@ -46,7 +50,7 @@ module _ {L A : Type 0} (m : Machine L) (restarts : A → List ℕ → A → Typ
   abbrev pub HearAll : Signal → List L → A → List Signal → List L → A → Type 0
   HearAll f [] far answers [] far' = (answers ≡ []) × (far' ≡ far)
   HearAll f (l ∷ ls) far answers (l' ∷ ls') far' =
-      (answer : Option Signal) × (others : List Signal) × (mid : A) × Meets f l far answer l' mid × HearAll f ls mid others ls' far' × (answers ≡ with_answer answer others)
+      (answer : Option Signal) × (others : List Signal) × (mid : A) × Meets f l far answer l' mid × HearAll f ls mid others ls' far' × (answers ≡ cons_option answer others)
   HearAll f [] far answers (l' ∷ ls') far' = ⊥
   HearAll f (l ∷ ls) far answers [] far' = ⊥
 

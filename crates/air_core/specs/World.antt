@@ -1,5 +1,5 @@
 -- The world of the air: light, listeners, and what each event changes (this project's own air).
-use Rattle.std.specs.Prelude.{ℕ, List, [], ◌∷◌, map, Bool, true, false, if◌then◌else◌, Option, Some, None}
+use Rattle.std.specs.Prelude.{ℕ, List, map, Bool, true, false, if◌then◌else◌, Option, None}
 use Rattle.std.specs.List.{filter_map}
 use Rattle.nfc_base.specs.declared.frame.Tech.{Tech}
 use Rattle.nfc_base.specs.declared.event.Event.{Event}
@@ -8,7 +8,7 @@ use Rattle.nfc_base.specs.declared.event.Fate.{Fate}
 use Rattle.nfc_base.specs.declared.event.Fate.TheVariants.{Pass, Damage, Lose, Break}
 use Rattle.nfc_base.specs.Signal.{Signal}
 use Rattle.nfc_base.specs.Far.{FarUse, Untouched}
-use Rattle.air_core.specs.Joint.{Joint, joint, same_tech}
+use Rattle.air_core.specs.Joint.{joint, same_tech}
 use Rattle.air_core.specs.Conversation.{AirModel}
 
 -- What the listeners of one type do. At a frame of its own technology a listener may hand something to the far end;

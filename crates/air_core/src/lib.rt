@@ -1,13 +1,22 @@
 //! The simulated air: listeners in a field, the fates of transmissions, and the trace of what happened.
 //!
-//! `listener` says what a device is to the air; `field` makes turns. The laws of turns in `specs/Conversation.antt`
-//! stand over any air, and the layers above compose their requests by them.
+//! `listener` says what a device is to the air. `field` makes turns: `fates` gives each transmission its fate,
+//! `hearing` lets a request reach the listeners, `answers` joins what they say, by `bits` where they differ.
+//! `specs/Turn.antt` says what a turn is with a far end of any type, and `specs/Conversation.antt` speaks of turns over
+//! any air; `proofs/Quiet.antt` leads from the one to the other where nothing is asked of a far end.
 #![tactic(auto)]
 
 mod answers;
-mod bits;
+pub mod bits;
+mod fates;
 mod fault;
+mod field;
+mod hearing;
 mod listener;
 
 pub use fault::AirFault;
+pub use field::Field;
 pub use listener::Listener;
+
+#[cfg(test)]
+mod tests;

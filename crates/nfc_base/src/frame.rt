@@ -1,6 +1,6 @@
 //! Frames of the air.
 
-ghost use Rattle.std.specs.Prelude.{◌≡◌, ◌≤◌, ◌<◌, ◌↔◌, length, IfOk, IsErrOf, IsOk};
+ghost use Rattle.std.specs.Prelude.{◌≡◌, ◌≤◌, ◌<◌, ◌↔◌, length, IfOk, IsErrOf, IsOk, IsTrue};
 ghost use Rattle.nfc_base.specs.Signal.{Signal, signal, IsSignal, IsBadTail};
 ghost use Rattle.nfc_base.specs.Bits.{bits};
 ghost use Rattle.nfc_base.specs.Numbers.{frame_fault_number};
@@ -115,6 +115,14 @@ impl Frame {
         ensures bound { result < 8 }
     {
         self.tail
+    }
+
+    /// Whether another frame is sent the same way: of the same technology, with the same bits.
+    pub fn is_same(&self, other: &Frame) -> bool
+        ensures frame { IsTrue result ↔ (self.now ≡ other.now) }
+        ensures bits { IsTrue result ↔ ((self.now.tech ≡ other.now.tech) × (bits self.now ≡ bits other.now)) }
+    {
+        self.tech == other.tech && self.tail == other.tail && self.bytes == other.bytes
     }
 
     /// The same frame again. It takes no memory.

@@ -1,9 +1,14 @@
 pub mod Words
 pub mod Spelling
 pub mod Lines
+pub mod Answering
+pub mod Picking
+pub mod Memory
+pub mod Asking
+pub mod Legality
 pub mod Limits
 pub mod Chunks
-pub mod Reading
+pub mod ScriptText
 pub mod Journals
 pub mod Progress
 pub mod Outcomes

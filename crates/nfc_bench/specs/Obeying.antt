@@ -8,6 +8,8 @@ use Rattle.nfc_bench.specs.declared.device.Device.{Device}
 use Rattle.nfc_bench.specs.declared.device.Device.TheVariants.{T2}
 use Rattle.nfc_bench.specs.declared.entry.Answer.{Answer}
 use Rattle.nfc_bench.specs.declared.entry.Entry.{Entry}
+use Rattle.nfc_bench.specs.Placed.{Placed}
+use Rattle.nfc_bench.specs.Device.{new_tag}
 use Rattle.nfc_bench.specs.Legal.{State, LegalStep, state_after, state_of}
 use Rattle.nfc_bench.specs.Phases.{IsTame}
 
@@ -23,6 +25,11 @@ state_at a = record { world = record { lit = a.lit; listeners = a.listeners }; q
 abbrev pub AreTame : List Device → Type 0
 AreTame [] = Unit {0}
 AreTame (T2 d ∷ ds) = IsTame d × (ds ≡ [])
+
+-- the one tag, where there is one
+abbrev pub the_tag : List Device → Placed
+the_tag [] = new_tag [] []
+the_tag (T2 d ∷ ds) = d
 
 -- Between two commands nothing is in the trace, and no fate is left.
 pub record IsIdle (a : Air Device) : Type 0 where

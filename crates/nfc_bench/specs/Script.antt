@@ -34,9 +34,16 @@ abbrev pub SpellsId : List ℕ → DeviceId → Type 0
 SpellsId word (A id) = SpellsIdent word id
 SpellsId word (V id) = ⊥
 
--- the blocks of a Type 2 tag: a decimal number without leading zeros, 4 to 256
+-- the fewest blocks of a Type 2 tag that may be placed, and the most
+abbrev pub least_blocks : ℕ
+least_blocks = 4
+
+abbrev pub most_blocks : ℕ
+most_blocks = 256
+
+-- BLOCKS: a decimal number without leading zeros, within these limits
 abbrev pub SpellsBlocks : List ℕ → ℕ → Type 0
-SpellsBlocks word n = (word ≡ decimal n) × (4 ≤ n) × (n ≤ 256)
+SpellsBlocks word n = (word ≡ decimal n) × (least_blocks ≤ n) × (n ≤ most_blocks)
 
 -- `place t2 ID BLOCKS HEX` and `read ID`
 abbrev pub SpelledBy : List (List ℕ) → Command → Type 0

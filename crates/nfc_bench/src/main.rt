@@ -6,6 +6,8 @@ mod command;
 mod device;
 mod entry;
 mod front;
+mod polling;
+mod reading;
 mod report;
 mod script;
 mod top;

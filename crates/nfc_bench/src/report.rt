@@ -132,7 +132,7 @@ mod tests {
     use std::test::Fail;
 
     fn entry(alloc: Global) -> Result<Entry, Fail> {
-        let command = parse_line(alloc, b"read 01020304")?;
+        let command = parse_line(alloc, b"place t2 01020304 16 E110")?.copy(alloc)?;
         let events = vec![in alloc;
             Event::Reset,
             Event::Request {

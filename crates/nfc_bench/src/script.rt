@@ -12,6 +12,12 @@ use std::alloc::{AllocError, Global};
 use thiserror::Error;
 use words::{cut_word, hex_word, ident_word, number_word, three_words};
 
+/// The blocks of a Type 2 tag that may be placed (this project's limits): its header has four, and a read names a
+/// block in one byte.
+const LEAST_BLOCKS: u16 = 4;
+
+const MOST_BLOCKS: u16 = 256;
+
 /// Why a line gives no command.
 #[derive(Clone, Copy, Debug, PartialEq, Eq, Error)]
 pub enum LineFault {
@@ -49,12 +55,10 @@ pub fn parse_line(alloc: Global, line: &[u8]) -> Result<Command, LineFault>
     let Some(rest) = rest else {
         return Err(LineFault::Refused);
     };
-    if name == b"read".as_slice() {
-        read_line(alloc, rest)
-    } else if name == b"place".as_slice() {
-        place_line(alloc, rest)
-    } else {
-        Err(LineFault::Refused)
+    match name {
+        b"read" => read_line(alloc, rest),
+        b"place" => place_line(alloc, rest),
+        _ => Err(LineFault::Refused),
     }
 }
 
@@ -85,10 +89,9 @@ fn place_line(alloc: Global, rest: &[u8]) -> Result<Command, LineFault>
     let Some(more) = more else {
         return Err(LineFault::Refused);
     };
-    if kind == b"t2".as_slice() {
-        place_t2(alloc, more)
-    } else {
-        Err(LineFault::Refused)
+    match kind {
+        b"t2" => place_t2(alloc, more),
+        _ => Err(LineFault::Refused),
     }
 }
 
@@ -104,15 +107,9 @@ fn place_t2(alloc: Global, rest: &[u8]) -> Result<Command, LineFault>
     let Some(id) = ident_word(alloc, id_text)? else {
         return Err(LineFault::Refused);
     };
-    let Some(blocks) = number_word(alloc, blocks_text)? else {
+    let Some(blocks @ LEAST_BLOCKS..=MOST_BLOCKS) = number_word(alloc, blocks_text)? else {
         return Err(LineFault::Refused);
     };
-    if blocks < 4 {
-        return Err(LineFault::Refused);
-    }
-    if blocks > 256 {
-        return Err(LineFault::Refused);
-    }
     match hex_word(alloc, head_text)? {
         Some(head) => Ok(Command::PlaceT2 { id, blocks, head }),
         None => Err(LineFault::Refused),

@@ -66,3 +66,6 @@ pub ruleset moves = (with_end-append, with_end-nil, gained)
 
 -- what callers of `write_all` chain their writes by
 pub ruleset writes = (write_on, GainsFront-more, GainsFront-after)
+
+-- what callers of `read` chain their reads by
+pub ruleset reads = (with_front-nil, read_on, told_after)

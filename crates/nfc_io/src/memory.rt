@@ -1,5 +1,5 @@
 //! A source and a sink in memory, whose calls fail as planned.
-ghost use Rattle.std.specs.Prelude.{◌≡◌, ℕ, ◌+◌, ◌<◌, ◌≤◌, ◌↔◌, ◌⊎◌, List, [], ◌++◌, length, take, drop, Some, IfSome, IsErr, OnOk, OnErr, IfOk, min, vec_capacity};
+ghost use Rattle.std.specs.Prelude.{◌≡◌, ◌+◌, ◌<◌, ◌≤◌, ◌↔◌, ◌⊎◌, [], ◌++◌, length, take, Some, IsErr, OnOk, OnErr, IfOk, min};
 
 use crate::failed::Failed;
 use crate::plain::PlainSource;

@@ -1,0 +1,5 @@
+pub mod OneLevel
+pub mod Calling
+pub mod Spans
+pub mod KnownBits
+pub mod Resting

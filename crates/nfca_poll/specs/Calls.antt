@@ -39,10 +39,6 @@ call_frame Slp = whole_a (0x50 ∷ 0 ∷ [])
 call_frame (Sdd k known) = of_bits A (bits_of (sel_cmd k ∷ sel_par (length known) ∷ []) ++ known)
 call_frame (Sel k level) = whole_a (sel_cmd k ∷ all_known ∷ level)
 
-abbrev pub is_tech_a : Tech → Bool
-is_tech_a A = true
-is_tech_a V = false
-
 -- one byte of which seven bits are sent
 abbrev pub is_short : Signal → ℕ → Bool
 is_short f byte = (f.tail == 7) && (length f.bytes == 1) && (slice_index f.bytes 0 == byte)
@@ -74,12 +70,19 @@ is_sdd f =
 abbrev pub is_sel : Signal → Bool
 is_sel f = (f.tail == 0) && (length f.bytes == 7) && is_sel_cmd (slice_index f.bytes 0) && (slice_index f.bytes 1 == all_known)
 
+-- the known bits of SDD_REQ, and the level of SEL_REQ
+abbrev pub known_bits : Signal → List Bool
+known_bits f = drop 16 (bits f)
+
+abbrev pub named_level : Signal → List ℕ
+named_level f = drop 2 f.bytes
+
 -- what an NFC-A frame is to a listener
 abbrev pub call_of : Signal → Reading
 call_of f =
     if is_short f 0x26 then Calls Sens
     else if is_short f 0x52 then Calls All
     else if is_slp f then Calls Slp
-    else if is_sdd f then Calls (Sdd (cmd_level (slice_index f.bytes 0)) (drop 16 (bits f)))
-    else if is_sel f then Calls (Sel (cmd_level (slice_index f.bytes 0)) (drop 2 f.bytes))
+    else if is_sdd f then Calls (Sdd (cmd_level (slice_index f.bytes 0)) (known_bits f))
+    else if is_sel f then Calls (Sel (cmd_level (slice_index f.bytes 0)) (named_level f))
     else Other

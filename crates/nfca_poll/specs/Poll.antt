@@ -1,6 +1,6 @@
 -- Polling for NFC-A: what a reader asks next, by what it heard (NFC Forum Digital Protocol; ISO/IEC 14443-3). The
 -- choice of bit 1 at a collision, rounds and their number, and four presence requests are this project's own.
-use Rattle.std.specs.Prelude.{ℕ, ◌+◌, List, [], ◌∷◌, ◌++◌, length, take, slice_index, Bool, true, false, ◌==◌, ◌&&◌, ◌||◌, nat_eq, nat_lt, nat_le, bit_and, if◌then◌else◌}
+use Rattle.std.specs.Prelude.{ℕ, ◌+◌, List, [], ◌∷◌, ◌++◌, length, slice_index, Bool, true, false, ◌==◌, ◌&&◌, ◌||◌, nat_eq, nat_lt, nat_le, bit_and, if◌then◌else◌}
 use Rattle.std.specs.Cmp.Lexicographic.{pointwise}
 use Rattle.nfc_base.specs.Signal.{Signal}
 use Rattle.nfc_base.specs.Bits.{bits, packed}
@@ -10,7 +10,7 @@ use Rattle.air_core.specs.Conversation.{Note, Lit, Got, Lost, Next, Over, LightU
 use Rattle.nfca_poll.specs.declared.kind.Kind.{Kind}
 use Rattle.nfca_poll.specs.declared.kind.Kind.TheVariants.{T2, T4, Peer}
 use Rattle.nfca_poll.specs.Levels.{bcc, cascades, identifier}
-use Rattle.nfca_poll.specs.Calls.{Call, Sens, Slp, Sdd, Sel, call_frame}
+use Rattle.nfca_poll.specs.Calls.{Sens, Slp, Sdd, Sel, call_frame}
 
 -- how a resolution ends
 pub data Outcome : Type 0 where

@@ -1,12 +1,18 @@
 //! NFC-A from the reader's side and from the listener's: identifiers, and how a reader finds the devices in its field
 //! (ISO/IEC 14443-3; NFC Forum Digital Protocol).
 //!
-//! `ident` has the identifier of a device and `kind` what a device is. The definitions of the listener's front and of
-//! polling stand in `specs/`; their calls will stand here too.
+//! `ident` has the identifier of a device and `kind` what a device is; `call` reads the requests of a reader, and
+//! `level` is a cascade level that they ask for. The definitions of the listener's front and of polling stand in
+//! `specs/`; their calls will stand here too.
 #![tactic(auto)]
 
+mod call;
 mod ident;
 mod kind;
+mod level;
+mod span;
 
+pub use call::CallKind;
 pub use ident::{Ident, IdentFault};
 pub use kind::Kind;
+pub use level::Level;

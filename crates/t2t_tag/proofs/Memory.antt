@@ -1,7 +1,5 @@
 -- Blocks of a store.
-use Rattle.std.proofs.Common.{◌≡◌, ℕ, zero, suc, ◌+◌, ◌-◌, ◌*◌, ◌/◌, ◌%◌, ◌<◌, ◌≤◌, List, [], ◌∷◌, ◌++◌, length, get_or, set, take, drop, refl, sym, ◌∙◌, ap, append_assoc, arith, add-one}
-use Rattle.std.proofs.lemmas.List.{length-drop, length-take-le, length-append, set_at, drop_more, take_more}
-use Rattle.std.proofs.lemmas.Grind.{common_steps}
+use Rattle.std.proofs.Common.{◌≡◌, ℕ, zero, suc, ◌+◌, List, [], ◌++◌, refl, ap, arith, add-one}
 use Rattle.t2t_tag.specs.Step.{rolled, four_blocks}
 
 -- the content of some blocks from one on

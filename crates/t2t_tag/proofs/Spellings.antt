@@ -1,5 +1,5 @@
 -- A frame spells at most one command, and that is the one read from it.
-use Rattle.std.proofs.Common.{◌≡◌, ℕ, zero, suc, ◌+◌, List, [], ◌∷◌, length, Bool, true, false, ◌==◌, if◌then◌else◌, Option, Some, None, IsNone, ◌↔◌, refl, sym, ◌∙◌, ap, subst, arith}
+use Rattle.std.proofs.Common.{◌≡◌, ℕ, List, [], ◌∷◌, length, Bool, true, false, ◌==◌, if◌then◌else◌, Option, Some, None, IsNone, ◌↔◌, refl, sym, ◌∙◌, ap, subst, arith}
 use Rattle.nfc_base.specs.declared.frame.Tech.{Tech}
 use Rattle.nfc_base.specs.declared.frame.Tech.TheVariants.{A, V}
 use Rattle.nfc_base.specs.Signal.{Signal, signal, whole_a, last_byte}

@@ -1,4 +1,5 @@
--- The step of a Type 2 tag (NFC Forum Type 2 Tag). A tag here refuses by the four bits 0h alone.
+-- The step of a Type 2 tag (NFC Forum Type 2 Tag). Which frame a tag refuses, and that it refuses by the four bits 0h
+-- alone, is this project's own.
 use Rattle.std.specs.Prelude.{ℕ, ◌+◌, ◌%◌, List, ◌++◌, Bool, ◌&&◌, not, nat_le, nat_lt, if◌then◌else◌, Option, Some, None}
 use Rattle.nfc_base.specs.Signal.{Signal}
 use Rattle.nfc_base.specs.Blocks.{with_block, block_of}

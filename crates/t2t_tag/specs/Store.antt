@@ -1,5 +1,5 @@
 -- What a Type 2 tag holds (NFC Forum Type 2 Tag).
-use Rattle.std.specs.Prelude.{◌≡◌, ℕ, ◌+◌, ◌*◌, ◌/◌, ◌%◌, ◌≤◌, List, length, get_or, slice_index, replicate, Bool, true, false}
+use Rattle.std.specs.Prelude.{◌≡◌, ℕ, ◌+◌, ◌*◌, ◌/◌, ◌%◌, ◌≤◌, List, length, get_or, slice_index, replicate, Bool, false}
 use Rattle.t2t_tag.specs.declared.tag.StoreFault.{StoreFault}
 use Rattle.t2t_tag.specs.declared.tag.StoreFault.TheVariants.{BadStore}
 

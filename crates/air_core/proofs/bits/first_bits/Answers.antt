@@ -1,7 +1,7 @@
 use Rattle.std.proofs.Common.{◌≡◌, ℕ, ◌<◌, ◌/◌, ◌%◌, ◌^◌, ◌*◌, List, [], ◌∷◌, ◌++◌, take, get_or, ◌==◌, false, sym, subst, ◌∙◌, ap, arith, rules}
 use Rattle.std.proofs.lemmas.Grind.{common_steps}
 use Rattle.nfc_base.specs.Signal.{IsBadTail}
-use Rattle.air_core.proofs.BitsOfBytes.{packed_part, mask, held_tail}
+use Rattle.air_core.proofs.FirstBits.{packed_part, mask, held_tail}
 use Rattle.air_core.proofs.bits.first_bits.Goals as goal
 
 pub unwrap-requires-3 : goal.unwrap-requires-3
@@ -11,7 +11,7 @@ unwrap-requires-3 c =
     let small : t < 8 = omega arith in
     let own : c.deref.result.now ≡ take (c.args.n / 8) bytes ++ (get_or bytes (c.args.n / 8) 0 % (1 * 2 ^ t % 256)) ∷ [] = grind (arith, common_steps) in
     let cut : c.deref.result.now ≡ take (c.args.n / 8) bytes ++ (get_or bytes (c.args.n / 8) 0 % 2 ^ t) ∷ [] =
-        own ∙ ap (λ p. take (c.args.n / 8) bytes ++ (get_or bytes (c.args.n / 8) 0 % p) ∷ []) (mask t small) in
+    own ∙ ap (λ p. take (c.args.n / 8) bytes ++ (get_or bytes (c.args.n / 8) 0 % p) ∷ []) (mask t small) in
     let P : List ℕ → Type 0 = λ xs. IsBadTail xs t → ⊥ in
     c.part.ensures.fits.1 (omega arith, subst P (sym cut) (held_tail (take (c.args.n / 8) bytes) (get_or bytes (c.args.n / 8) 0) t small))
 

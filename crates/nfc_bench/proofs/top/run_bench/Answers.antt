@@ -2,7 +2,7 @@ use Rattle.std.proofs.Common.{ℕ, List, Option, refl, ◌∙◌, subst}
 use Rattle.nfc_bench.specs.declared.top.lines.Stop.{Stop}
 use Rattle.nfc_bench.specs.declared.top.lines.Stop.TheVariants.{Refused}
 use Rattle.nfc_bench.specs.Stops.{RunStops}
-use Rattle.nfc_bench.proofs.Reading.{stops_at_once}
+use Rattle.nfc_bench.proofs.ScriptText.{stops_at_once}
 use Rattle.nfc_bench.proofs.Endings.{ends_refused, taken_not_refused}
 use Rattle.nfc_bench.proofs.top.run_bench.Goals as goal
 

@@ -4,7 +4,7 @@ use Rattle.nfc_io.specs.Moves.{with_front}
 use Rattle.nfc_io.proofs.Moves.{with_front-nil}
 use Rattle.nfc_bench.specs.Stops.{EndsAt}
 use Rattle.nfc_bench.proofs.Limits.{ends_at_start}
-use Rattle.nfc_bench.proofs.Reading.{stops_before, stops_behind, chunk_fits, less_left}
+use Rattle.nfc_bench.proofs.ScriptText.{stops_before, stops_behind, chunk_fits, less_left}
 use Rattle.nfc_bench.proofs.top.input.read_script.Goals.{in-Ok-eq0, in-Ok+in_ok-extend_from_slice-in-Ok+in-None, in-Err}
 use Rattle.nfc_bench.proofs.top.input.read_script.Goals as goal
 

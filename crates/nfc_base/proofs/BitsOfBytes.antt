@@ -1,12 +1,12 @@
--- The bits of a table of bytes, one by one.
-use Rattle.std.proofs.Common.{◌≡◌, ℕ, zero, suc, ◌+◌, ◌-◌, ◌*◌, ◌/◌, ◌%◌, ◌^◌, ◌<◌, ◌≤◌, nat_lt, List, [], ◌∷◌, ◌++◌, length, get_or, Bool, true, false, ◌==◌, refl, sym, ◌∙◌, ap, arith}
+-- The single bits of bytes.
+use Rattle.std.proofs.Common.{◌≡◌, ℕ, zero, suc, ◌-◌, ◌*◌, ◌/◌, ◌%◌, ◌^◌, ◌<◌, ◌≤◌, nat_lt, List, [], ◌∷◌, ◌++◌, length, get_or, Bool, true, false, ◌==◌, refl, sym, ◌∙◌, ap, arith}
+use Rattle.std.proofs.Math.ListN.{get_or-append}
+use Rattle.std.proofs.lemmas.List.{get_or-append_right}
 use Rattle.nfc_base.specs.Bits.{low_bits, bits_of}
+use Rattle.nfc_base.proofs.Packing.{length_low_bits}
 
-length-low_bits : (k n : ℕ) → length (low_bits k n) ≡ k
-length-low_bits zero n = refl
-length-low_bits (suc k) n = omega (arith, length-low_bits k (n / 2))
-
-byte_bit : (b i : ℕ) → i < 8 → get_or (low_bits 8 b) i false ≡ (b / 2 ^ i % 2 == 1)
+-- a bit of a byte, and of bytes
+pub byte_bit : (b i : ℕ) → i < 8 → get_or (low_bits 8 b) i false ≡ (b / 2 ^ i % 2 == 1)
 byte_bit b zero h = ap (λ t. t % 2 == 1) (let e : b ≡ b / 2 ^ 0 = omega arith in e)
 byte_bit b (suc zero) h = ap (λ t. t % 2 == 1) (let e : b / 2 ≡ b / 2 ^ 1 = omega arith in e)
 byte_bit b (suc (suc zero)) h = ap (λ t. t % 2 == 1) (let e : b / 2 / 2 ≡ b / 2 ^ 2 = omega arith in e)
@@ -16,16 +16,6 @@ byte_bit b (suc (suc (suc (suc (suc zero))))) h = ap (λ t. t % 2 == 1) (let e :
 byte_bit b (suc (suc (suc (suc (suc (suc zero)))))) h = ap (λ t. t % 2 == 1) (let e : b / 2 / 2 / 2 / 2 / 2 / 2 ≡ b / 2 ^ 6 = omega arith in e)
 byte_bit b (suc (suc (suc (suc (suc (suc (suc zero))))))) h = ap (λ t. t % 2 == 1) (let e : b / 2 / 2 / 2 / 2 / 2 / 2 / 2 ≡ b / 2 ^ 7 = omega arith in e)
 byte_bit b (suc (suc (suc (suc (suc (suc (suc (suc i)))))))) h = absurd (omega (arith, h))
-
-get_front : (x y : List Bool) (i : ℕ) → i < length x → get_or (x ++ y) i false ≡ get_or x i false
-get_front [] y i h = absurd (omega (arith, h))
-get_front (a ∷ x) y zero h = refl
-get_front (a ∷ x) y (suc i) h = get_front x y i (omega (arith, h))
-
-get_behind : (x y : List Bool) (i : ℕ) → length x ≤ i → get_or (x ++ y) i false ≡ get_or y (i - length x) false
-get_behind [] y i h = ap (λ t. get_or y t false) (let e : i ≡ i - 0 = omega arith in e)
-get_behind (a ∷ x) y zero h = absurd (omega (arith, h))
-get_behind (a ∷ x) y (suc i) h = get_behind x y i (omega (arith, h)) ∙ ap (λ t. get_or y t false) (let e : i - length x ≡ suc i - length (a ∷ x) = omega arith in e)
 
 lt_of : (n k : ℕ) → nat_lt n k ≡ true → n < k
 lt_of n k h = grind arith
@@ -39,17 +29,16 @@ bit_in b bytes i f h true k =
     let less : i < 8 = lt_of i 8 k in
     let a : i / 8 ≡ 0 = omega (arith, less) in
     let c : i % 8 ≡ i = omega (arith, less) in
-    get_front (low_bits 8 b) (bits_of bytes) i (omega (arith, less, length-low_bits 8 b)) ∙ byte_bit b i less
+    get_or-append (low_bits 8 b) (bits_of bytes) false i (omega (arith, less, length_low_bits 8 b)) ∙ byte_bit b i less
     ∙ ap (λ t. get_or (b ∷ bytes) t 0 / 2 ^ i % 2 == 1) (sym a) ∙ ap (λ t. get_or (b ∷ bytes) (i / 8) 0 / 2 ^ t % 2 == 1) (sym c)
 bit_in b bytes i f h false k =
     let more : 8 ≤ i = not_lt i 8 k in
     let a : i / 8 ≡ suc ((i - 8) / 8) = omega (arith, more) in
     let c : i % 8 ≡ (i - 8) % 8 = omega (arith, more) in
-    get_behind (low_bits 8 b) (bits_of bytes) i (omega (arith, more, length-low_bits 8 b)) ∙ ap (λ t. get_or (bits_of bytes) t false) (let e : i - length (low_bits 8 b) ≡ i - 8 = omega (arith, length-low_bits 8 b) in e)
+    get_or-append_right (low_bits 8 b) (bits_of bytes) 8 i false (length_low_bits 8 b) more
     ∙ f (i - 8) (omega (arith, more, h))
     ∙ ap (λ t. get_or (b ∷ bytes) t 0 / 2 ^ ((i - 8) % 8) % 2 == 1) (sym a) ∙ ap (λ t. get_or (b ∷ bytes) (i / 8) 0 / 2 ^ t % 2 == 1) (sym c)
 
--- a bit of some bytes, by the byte that it is in
 pub bit_of : (bytes : List ℕ) (i : ℕ) → i < 8 * length bytes → get_or (bits_of bytes) i false ≡ (get_or bytes (i / 8) 0 / 2 ^ (i % 8) % 2 == 1)
 unfolding bits_of
 bit_of [] i h = absurd (omega (arith, h))

@@ -1,0 +1,123 @@
+-- A turn from its parts.
+use Rattle.std.proofs.Common.{◌≡◌, ℕ, List, [], ◌∷◌, ◌++◌, Bool, true, false, Option, Some, None, Result, Ok, Err, refl, sym, ◌∙◌, ap, subst, inl, inr, append_assoc, append-nil}
+use Rattle.nfc_base.specs.Signal.{Signal}
+use Rattle.nfc_base.specs.Trace.{heard_by, heard_answer, heard_clash}
+use Rattle.nfc_base.specs.declared.event.Event.{Event}
+use Rattle.nfc_base.specs.declared.event.Event.TheVariants.{Request, Answer, Clash}
+use Rattle.nfc_base.specs.declared.event.Fate.{Fate}
+use Rattle.nfc_base.specs.declared.event.Fate.TheVariants.{Pass, Damage, Lose, Break}
+use Rattle.nfc_base.specs.declared.event.Heard.{Heard}
+use Rattle.nfc_base.specs.declared.event.Heard.TheVariants.{Whole, Collided, Damaged, Silent}
+use Rattle.air_core.specs.Joint.{Joint, Nothing, Single, Clashing, joint}
+use Rattle.air_core.specs.World.{Machine, World, came_back}
+use Rattle.air_core.specs.Conversation.{first_fate, later_fates, joint_back, joint_events}
+use Rattle.air_core.specs.Settling.{settled}
+use Rattle.air_core.specs.Turn.{Air, world, after_event, brought, HearAll, HearSome, Passes, TurnBy, TurnIs, Transmits}
+use Rattle.air_core.specs.declared.fault.AirFault.{AirFault}
+use Rattle.air_core.specs.declared.fault.AirFault.TheVariants.{FieldLost, Memory}
+
+air_of : {L : Type 0} (new : Air L) (w : World L) (fates : List Fate) (trace : List Event) → world new ≡ w → new.fates ≡ fates → new.trace ≡ trace
+    → new ≡ record { lit = w.lit; listeners = w.listeners; fates = fates; trace = trace }
+air_of {L} new w fates trace is f t =
+    let B : World L → List Fate → List Event → Air L = λ v x y. record { lit = v.lit; listeners = v.listeners; fates = x; trace = y } in
+    ap (λ v. B v new.fates new.trace) is ∙ ap (λ x. B w x new.trace) f ∙ ap (λ y. B w fates y) t
+
+-- what is brought back is one event, or none
+pub brought_appends : {L : Type 0} (m : Machine L) (a : Air L) (j : Joint) (y : Fate) → (brought m a j y).trace ≡ a.trace ++ joint_events j y
+brought_appends m a Nothing y = sym (append-nil a.trace)
+brought_appends m a (Single g) y = refl
+brought_appends m a (Clashing g) y = refl
+
+-- the air once a request has passed and these are the listeners
+abbrev pub passed : {L : Type 0} → Air L → Signal → List L → Air L
+passed old f ls = after_event old (Request f Pass) (later_fates old.fates) (record { lit = true; listeners = ls })
+
+module _ {L A : Type 0} (m : Machine L) (restarts : A → List ℕ → A → Type 0) (steps : A → List ℕ → List ℕ → A → Type 0) (stops : A → List ℕ → A → Type 0) (is_stuck : A → Bool) (old : Air L) (f : Signal) (far : A) where
+  turn_passes : (new : Air L) (far' : A) (answers : List Signal) (ls : List L) (j : Joint) (y : Fate) (heard : Option Heard)
+      → old.lit ≡ true → first_fate old.fates ≡ Pass → HearAll m restarts steps f old.listeners far answers ls far' → j ≡ joint answers → y ≡ first_fate (later_fates old.fates)
+      → heard ≡ heard_by Pass (joint_back j y) → new ≡ brought m (passed old f ls) j y → TurnIs m restarts steps old f far heard new far'
+  turn_passes new far' answers ls j y heard lit pass all joins fate back left =
+      let P : Fate → Type 0 = λ x. TurnBy m restarts steps x old f far heard new far' in
+      let by : Passes m restarts steps old f far heard new far' = record {
+        answers = answers;
+        listeners = ls;
+        all = all;
+        back = back ∙ ap (λ t. heard_by Pass (joint_back t y)) joins ∙ ap (λ t. heard_by Pass (joint_back (joint answers) t)) fate;
+        left = left ∙ ap (λ t. brought m (passed old f ls) t y) joins ∙ ap (brought m (passed old f ls) (joint answers)) fate;
+      } in
+      record { lit = lit; by = subst P (sym pass) by }
+
+  hears : (begin : List L) (far' : A) (answers : List Signal) (ls : List L) → begin ≡ old.listeners → HearAll m restarts steps f begin far answers ls far' → HearAll m restarts steps f old.listeners far answers ls far'
+  hears begin far' answers ls from all = let P : List L → Type 0 = λ t. HearAll m restarts steps f t far answers ls far' in subst P from all
+
+  -- silence
+  pub transmits_silence : (begin : List L) (new : Air L) (far' : A) (answers : List Signal) (ls : List L)
+      → old.lit ≡ true → first_fate old.fates ≡ Pass → begin ≡ old.listeners → HearAll m restarts steps f begin far answers ls far' → Nothing ≡ joint answers
+      → new ≡ passed old f ls → Transmits m restarts steps stops is_stuck old f far (Ok Silent) new far'
+  transmits_silence begin new far' answers ls lit pass from all joins left = turn_passes new far' answers ls Nothing (first_fate (later_fates old.fates)) (Some Silent) lit pass (hears begin far' answers ls from all) joins refl refl left
+
+  settles : (new : Air L) (far' : A) (r : Result Heard AirFault) (h : Heard) (y : Fate) (told : Fate → Option Heard)
+      → told Pass ≡ Some h → told Damage ≡ Some Damaged → told Lose ≡ Some Silent → told Break ≡ None
+      → r ≡ settled h y → ((heard : Option Heard) → heard ≡ told y → TurnIs m restarts steps old f far heard new far') → Transmits m restarts steps stops is_stuck old f far r new far'
+  settles new far' r h y told a b c d is turn =
+      let P : Result Heard AirFault → Type 0 = λ t. Transmits m restarts steps stops is_stuck old f far t new far' in
+      subst P (sym is) (by_fate y turn)
+    where
+      by_fate : (x : Fate) → ((heard : Option Heard) → heard ≡ told x → TurnIs m restarts steps old f far heard new far') → Transmits m restarts steps stops is_stuck old f far (settled h x) new far'
+      by_fate Pass t = t (Some h) (sym a)
+      by_fate Damage t = t (Some Damaged) (sym b)
+      by_fate Lose t = t (Some Silent) (sym c)
+      by_fate Break t = inr (t None (sym d))
+
+  -- one answer, or equal ones
+  pub transmits_answer : (begin : List L) (new : Air L) (far' : A) (answers : List Signal) (ls : List L) (r : Result Heard AirFault) (g : Signal) (y : Fate)
+      → old.lit ≡ true → first_fate old.fates ≡ Pass → begin ≡ old.listeners → HearAll m restarts steps f begin far answers ls far' → Single g ≡ joint answers → y ≡ first_fate (later_fates old.fates)
+      → r ≡ settled (Whole g) y → world new ≡ came_back m (record { lit = true; listeners = ls }) y → new.fates ≡ later_fates (later_fates old.fates)
+      → new.trace ≡ (old.trace ++ Request f Pass ∷ []) ++ Answer g y ∷ [] → Transmits m restarts steps stops is_stuck old f far r new far'
+  transmits_answer begin new far' answers ls r g y lit pass from all joins fate is w q t =
+      let left : new ≡ brought m (passed old f ls) (Single g) y = air_of new (came_back m (record { lit = true; listeners = ls }) y) (later_fates (later_fates old.fates)) ((old.trace ++ Request f Pass ∷ []) ++ Answer g y ∷ []) w q t in
+      settles new far' r (Whole g) y (heard_answer g) refl refl refl refl is (λ heard e. turn_passes new far' answers ls (Single g) y heard lit pass (hears begin far' answers ls from all) joins fate e left)
+
+  -- different ones
+  pub transmits_clash : (begin : List L) (new : Air L) (far' : A) (answers : List Signal) (ls : List L) (r : Result Heard AirFault) (g : Signal) (y : Fate)
+      → old.lit ≡ true → first_fate old.fates ≡ Pass → begin ≡ old.listeners → HearAll m restarts steps f begin far answers ls far' → Clashing g ≡ joint answers → y ≡ first_fate (later_fates old.fates)
+      → r ≡ settled (Collided g) y → world new ≡ came_back m (record { lit = true; listeners = ls }) y → new.fates ≡ later_fates (later_fates old.fates)
+      → new.trace ≡ (old.trace ++ Request f Pass ∷ []) ++ Clash g y ∷ [] → Transmits m restarts steps stops is_stuck old f far r new far'
+  transmits_clash begin new far' answers ls r g y lit pass from all joins fate is w q t =
+      let left : new ≡ brought m (passed old f ls) (Clashing g) y = air_of new (came_back m (record { lit = true; listeners = ls }) y) (later_fates (later_fates old.fates)) ((old.trace ++ Request f Pass ∷ []) ++ Clash g y ∷ []) w q t in
+      settles new far' r (Collided g) y (heard_clash g) refl refl refl refl is (λ heard e. turn_passes new far' answers ls (Clashing g) y heard lit pass (hears begin far' answers ls from all) joins fate e left)
+
+  -- a far end that stopped
+  pub transmits_stop : (begin : List L) (new : Air L) (far' : A) (ls : List L)
+      → old.lit ≡ true → first_fate old.fates ≡ Pass → begin ≡ old.listeners → HearSome m restarts steps stops is_stuck f begin far ls far'
+      → new ≡ passed old f ls → Transmits m restarts steps stops is_stuck old f far (Err Memory) new far'
+  transmits_stop begin new far' ls lit pass from some left =
+      let P : List L → Type 0 = λ t. HearSome m restarts steps stops is_stuck f t far ls far' in
+      (lit, inr (record { fate = pass; listeners = ls; some = subst P from some; left = left }))
+
+module _ {L A : Type 0} (m : Machine L) (restarts : A → List ℕ → A → Type 0) (steps : A → List ℕ → List ℕ → A → Type 0) (stops : A → List ℕ → A → Type 0) (is_stuck : A → Bool) (old : Air L) (f : Signal) (far : A) where
+  -- in the dark nothing happens
+  pub transmits_dark : (r : Result Heard AirFault) (new : Air L) (far' : A) → old.lit ≡ false → Transmits m restarts steps stops is_stuck old f far r new far'
+      → (r ≡ Err FieldLost) × (new ≡ old) × (far' ≡ far)
+  transmits_dark (Ok h) new far' dark t = let lit : old.lit ≡ true = t.lit in absurd cc
+  transmits_dark (Err FieldLost) new far' dark (inl same) = (refl, same.1, same.2)
+  transmits_dark (Err FieldLost) new far' dark (inr t) = let lit : old.lit ≡ true = t.lit in absurd cc
+  transmits_dark (Err Memory) new far' dark (lit, t) = absurd cc
+
+  turn_appends : (x : Fate) (heard : Option Heard) (new : Air L) (far' : A) → TurnBy m restarts steps x old f far heard new far' → (more : List Event) × (new.trace ≡ old.trace ++ more)
+  turn_appends Pass heard new far' p =
+      let y : Fate = first_fate (later_fates old.fates) in (
+        Request f Pass ∷ joint_events (joint p.answers) y,
+        ap (λ a. a.trace) p.left ∙ brought_appends m (passed old f p.listeners) (joint p.answers) y ∙ append_assoc old.trace (Request f Pass ∷ []) (joint_events (joint p.answers) y),
+      )
+  turn_appends Damage heard new far' p = (Request f Damage ∷ [], ap (λ a. a.trace) p.left)
+  turn_appends Lose heard new far' p = (Request f Lose ∷ [], ap (λ a. a.trace) p.left)
+  turn_appends Break heard new far' p = (Request f Break ∷ [], ap (λ a. a.trace) p.left)
+
+  -- the trace only grows
+  pub transmits_appends : (r : Result Heard AirFault) (new : Air L) (far' : A) → Transmits m restarts steps stops is_stuck old f far r new far' → (more : List Event) × (new.trace ≡ old.trace ++ more)
+  transmits_appends (Ok h) new far' t = turn_appends (first_fate old.fates) (Some h) new far' t.by
+  transmits_appends (Err FieldLost) new far' (inl same) = ([], ap (λ a. a.trace) same.1 ∙ sym (append-nil old.trace))
+  transmits_appends (Err FieldLost) new far' (inr t) = turn_appends (first_fate old.fates) None new far' t.by
+  transmits_appends (Err Memory) new far' (lit, inl same) = ([], ap (λ a. a.trace) same.0 ∙ sym (append-nil old.trace))
+  transmits_appends (Err Memory) new far' (lit, inr s) = (Request f Pass ∷ [], ap (λ a. a.trace) s.left)

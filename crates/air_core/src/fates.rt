@@ -1,0 +1,36 @@
+//! The fates that are left, and the events that they make.
+
+ghost use Rattle.std.specs.Prelude.{◌≡◌, ◌++◌, ◌∷◌, [], ◌<◌, ◌≤◌, ◌+◌, length, vec_len, vec_capacity};
+ghost use Rattle.std.specs.VecDeque.{deque_len, deque_capacity};
+ghost use Rattle.air_core.specs.Conversation.{first_fate, later_fates};
+
+use nfc_base::{Event, Fate};
+use std::collections::VecDeque;
+
+/// The next fate, which is used by it; `Pass` where none is left.
+pub fn next_fate(fates: &mut VecDeque<Fate>) -> Fate
+    ensures fate { result ≡ first_fate fates.old.items }
+    ensures later { fates.new.items ≡ later_fates fates.old.items }
+{
+    fates.pop_front().unwrap_or(Fate::Pass)
+}
+
+/// Appends fates for which there is room.
+pub fn push_all(fates: &mut VecDeque<Fate>, more: &[Fate])
+    requires { deque_len fates.old + length more.now ≤ deque_capacity fates.old }
+    ensures { fates.new.items ≡ fates.old.items ++ more.now }
+{
+    for fate in more {
+        fates.push_back(*fate).unwrap();
+    }
+}
+
+/// Notes an event for which there is room.
+pub fn note(trace: &mut Vec<Event>, event: Event)
+    requires { vec_len trace.old < vec_capacity trace.old }
+    ensures items { trace.new.items ≡ trace.old.items ++ event ∷ [] }
+    ensures length { vec_len trace.new ≡ vec_len trace.old + 1 }
+    ensures room { vec_capacity trace.old ≤ vec_capacity trace.new }
+{
+    trace.push(event).unwrap();
+}

@@ -1,0 +1,147 @@
+//! The requests by which a reader finds and selects devices.
+
+ghost use Rattle.std.specs.Prelude.{◌≡◌, slice_index};
+ghost use Rattle.nfca_poll.specs.Calls.{is_short, is_slp, is_sel_cmd, is_sdd_par, is_sdd, is_sel, cmd_level, call_of};
+ghost use Rattle.nfca_poll.specs.Kinds.{reading_by, HasForm};
+
+use air_core::bits::bit_len;
+use nfc_base::Frame;
+
+/// SENS_REQ and ALL_REQ, of which seven bits are sent, and the first byte of SLP_REQ (NFC Forum Digital Protocol).
+const SENS_REQ: u8 = 0x26;
+
+const ALL_REQ: u8 = 0x52;
+
+const SLP_REQ: u8 = 0x50;
+
+/// SEL_PAR of SEL_REQ: all bits of the level are known.
+const ALL_KNOWN: u8 = 0x70;
+
+/// The calls of a reader, by their kinds. The level counts from 1. The bits that SDD_REQ knows and the five bytes
+/// that SEL_REQ names stay in the frame.
+#[derive(Clone, Copy, Debug, PartialEq, Eq)]
+pub enum CallKind {
+    Sens,
+    All,
+    Slp,
+    Sdd { level: u8 },
+    Sel { level: u8 },
+}
+
+impl CallKind {
+    /// Which call an NFC-A frame is, `None` where it is none.
+    pub fn read_from(frame: &Frame) -> Option<CallKind>
+        ensures meant { call_of frame.now ≡ reading_by result frame.now }
+        ensures form { HasForm result frame.now }
+    {
+        if is_short(frame, SENS_REQ) {
+            return Some(CallKind::Sens);
+        }
+        if is_short(frame, ALL_REQ) {
+            return Some(CallKind::All);
+        }
+        if is_slp(frame) {
+            return Some(CallKind::Slp);
+        }
+        if is_sdd(frame) {
+            return Some(CallKind::Sdd {
+                level: cmd_level(frame),
+            });
+        }
+        if is_sel(frame) {
+            return Some(CallKind::Sel {
+                level: cmd_level(frame),
+            });
+        }
+        None
+    }
+}
+
+/// One byte of which seven bits are sent.
+fn is_short(frame: &Frame, byte: u8) -> bool
+    ensures { result ≡ is_short frame.now byte }
+{
+    frame.tail() == 7 && frame.view().len() == 1 && frame.view()[0] == byte
+}
+
+fn is_slp(frame: &Frame) -> bool
+    ensures { result ≡ is_slp frame.now }
+{
+    let bytes = frame.view();
+    frame.tail() == 0 && bytes.len() == 2 && bytes[0] == SLP_REQ && bytes[1] == 0
+}
+
+/// SEL_CMD of level 1, 2 or 3.
+fn is_sel_cmd(byte: u8) -> bool
+    ensures { result ≡ is_sel_cmd byte }
+{
+    byte % 2 == 1 && 0x93 <= byte && byte <= 0x97
+}
+
+fn is_sdd_par(par: u8) -> bool
+    ensures { result ≡ is_sdd_par par }
+{
+    2 <= par / 16 && par / 16 <= 6 && par % 16 <= 7
+}
+
+fn is_sdd(frame: &Frame) -> bool
+    ensures { result ≡ is_sdd frame.now }
+{
+    let bytes = frame.view();
+    if bytes.len() < 2 {
+        return false;
+    }
+    let par = bytes[1];
+    is_sel_cmd(bytes[0])
+        && is_sdd_par(par)
+        && bit_len(frame) == 16 + 8 * (par as usize / 16 - 2) + par as usize % 16
+}
+
+fn is_sel(frame: &Frame) -> bool
+    ensures { result ≡ is_sel frame.now }
+{
+    let bytes = frame.view();
+    frame.tail() == 0 && bytes.len() == 7 && is_sel_cmd(bytes[0]) && bytes[1] == ALL_KNOWN
+}
+
+/// The level of SEL_CMD.
+fn cmd_level(frame: &Frame) -> u8
+    ensures { result ≡ cmd_level (slice_index frame.now.bytes 0) }
+{
+    match frame.view() {
+        [cmd, ..] => cmd.saturating_sub(0x91) / 2,
+        [] => 0,
+    }
+}
+
+#[cfg(test)]
+mod tests {
+    use super::*;
+    use nfc_base::Tech;
+    use std::test::Fail;
+
+    #[test]
+    fn calls(rt: HostRuntime) -> Result<(), Fail> {
+        let rows: [(&[u8], u8, Option<CallKind>); 10] = [
+            (&[0x26], 7, Some(CallKind::Sens)),
+            (&[0x52], 7, Some(CallKind::All)),
+            (&[0x26], 0, None),
+            (&[0x50, 0], 0, Some(CallKind::Slp)),
+            (&[0x93, 0x20], 0, Some(CallKind::Sdd { level: 1 })),
+            (&[0x97, 0x23, 5], 3, Some(CallKind::Sdd { level: 3 })),
+            (&[0x97, 0x23, 5], 4, None),
+            (
+                &[0x95, 0x70, 1, 2, 3, 4, 4],
+                0,
+                Some(CallKind::Sel { level: 2 }),
+            ),
+            (&[0x95, 0x70, 1, 2, 3, 4], 0, None),
+            (&[0x99, 0x20], 0, None),
+        ];
+        for (bytes, tail, call) in rows {
+            let frame = Frame::part(Tech::A, bytes, tail)?;
+            assert_eq!(rt; CallKind::read_from(&frame), call, "at {bytes:?}");
+        }
+        Ok(())
+    }
+}
