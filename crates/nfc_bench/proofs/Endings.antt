@@ -1,5 +1,5 @@
 -- How a run ends, by how its parts did.
-use Rattle.std.proofs.Common.{◌≡◌, ℕ, ◌+◌, ◌<◌, ◌≤◌, ◌⊎◌, List, [], ◌∷◌, ◌++◌, length, false, Option, Some, None, Result, Ok, Err, refl, sym, ◌∙◌, ap, subst, arith, inl, inr}
+use Rattle.std.proofs.Common.{◌≡◌, ℕ, ◌+◌, ◌≤◌, List, [], ◌∷◌, ◌++◌, length, false, Option, Some, None, Result, Ok, Err, refl, sym, ◌∙◌, ap, subst, arith, inl, inr}
 use Rattle.std.specs.Prelude.{IfSome, OnOk, OnErr}
 use Rattle.std.specs.List.{All}
 use Rattle.std.proofs.lemmas.List.{append-nil, length-append}
@@ -12,11 +12,11 @@ use Rattle.nfc_bench.specs.declared.top.input.Ending.{Ending}
 use Rattle.nfc_bench.specs.declared.top.input.Ending.TheVariants.{End, Fault, Enough}
 use Rattle.nfc_bench.specs.declared.top.lines.Stop.{Stop}
 use Rattle.nfc_bench.specs.declared.top.lines.Stop.TheVariants.{Refused, ReadFault, WriteFault, Memory}
-use Rattle.nfc_bench.specs.Lines.{lines_of, whole_lines}
+use Rattle.nfc_bench.specs.Lines.{lines_of}
 use Rattle.nfc_bench.specs.Limits.{most_lines, longest_line, PassesLimits}
 use Rattle.nfc_bench.specs.Report.{report_text}
-use Rattle.nfc_bench.specs.Run.{AreObeyed, FrontIsObeyed, FirstRefused, AllTaken, ObeysAll, RefusesLine, ObeysWhole, ObeysFront, AddsFault, line_fault, memory_fault, read_fault, EndsDone, EndsRefused, EndsUnread, EndsUnwritten, EndsMemory}
-use Rattle.nfc_bench.specs.Stops.{ReadingEnds, MayFollow, TextDone, TextRefused, TextUnread, TextUnwritten, WritesMost, TextLost, TextStops, RunRefused, RunUnread, RunLost, RunStops}
+use Rattle.nfc_bench.specs.Run.{FrontIsObeyed, FirstRefused, AllTaken, RefusesLine, ObeysFront, AddsFault, line_fault, memory_fault, read_fault, EndsDone, EndsRefused, EndsUnread, EndsUnwritten, EndsMemory}
+use Rattle.nfc_bench.specs.Stops.{ReadingEnds, MayFollow, TextDone, TextRefused, TextUnread, TextUnwritten, TextLost, TextStops, RunRefused, RunUnread, RunLost, RunStops}
 use Rattle.nfc_bench.proofs.Limits.{all_at, IsShort}
 use Rattle.nfc_bench.proofs.Progress.{obeyed_none}
 use Rattle.nfc_bench.proofs.Journals.{written_none}

@@ -1,8 +1,8 @@
 -- A journal gains an entry, and a report its text.
-use Rattle.std.proofs.Common.{◌≡◌, ℕ, ◌+◌, List, [], ◌∷◌, ◌++◌, length, false, Option, refl, sym, ◌∙◌, ap, subst, arith}
+use Rattle.std.proofs.Common.{◌≡◌, ℕ, ◌+◌, List, [], ◌∷◌, ◌++◌, length, false, Option, sym, ◌∙◌, ap, subst, arith}
 use Rattle.std.proofs.lemmas.List.{append-nil}
 use Rattle.std.proofs.lemmas.Grind.{flat_map-append}
-use Rattle.nfc_io.specs.Moves.{with_end, GainsFront}
+use Rattle.nfc_io.specs.Moves.{with_end}
 use Rattle.nfc_io.proofs.Moves.{write_on, with_end-nil}
 use Rattle.nfc_bench.specs.declared.command.Command.{Command}
 use Rattle.nfc_bench.specs.declared.entry.Entry.{Entry}

@@ -1,22 +1,21 @@
 -- The lines of a text are obeyed one by one.
 use Rattle.std.proofs.Common.{◌≡◌, ℕ, ◌+◌, ◌<◌, ◌≤◌, ◌⊎◌, List, [], ◌∷◌, ◌++◌, length, false, Option, Some, None, refl, sym, ◌∙◌, ap, subst, append_assoc, arith, inl, inr}
 use Rattle.std.proofs.lemmas.List.{append-nil, length-append}
-use Rattle.nfc_io.specs.Counts.{HasRisen}
-use Rattle.nfc_io.specs.Moves.{with_end, GainsFront}
+use Rattle.nfc_io.specs.Moves.{GainsFront}
 use Rattle.nfc_io.proofs.Counts.{rises_at_last}
 use Rattle.nfc_bench.specs.declared.command.Command.{Command}
 use Rattle.nfc_bench.specs.declared.entry.Entry.{Entry}
 use Rattle.nfc_bench.specs.declared.top.input.Ending.{Ending}
-use Rattle.nfc_bench.specs.declared.top.input.Ending.TheVariants.{End, Fault, Enough}
+use Rattle.nfc_bench.specs.declared.top.input.Ending.TheVariants.{End, Fault}
 use Rattle.nfc_bench.specs.declared.top.lines.Stop.{Stop}
 use Rattle.nfc_bench.specs.declared.top.lines.Stop.TheVariants.{Refused, ReadFault, WriteFault, Memory}
 use Rattle.nfc_bench.specs.Script.{Spells}
-use Rattle.nfc_bench.specs.Lines.{lines_of, whole_lines, NoLf, CutsLine}
+use Rattle.nfc_bench.specs.Lines.{lines_of, whole_lines, CutsLine}
 use Rattle.nfc_bench.specs.Limits.{most_lines, longest_line, AreWithinLimits, PassesLimits}
 use Rattle.nfc_bench.specs.Obeying.{Adds}
-use Rattle.nfc_bench.specs.Report.{entry_text, report_text}
-use Rattle.nfc_bench.specs.Run.{AreObeyed, FrontIsObeyed, FirstRefused}
-use Rattle.nfc_bench.specs.Stops.{MayFollow, LineDone, LineRefused, LineCut, LineLost, LineStops, Progress, TextDone, TextRefused, TextUnread, TextUnwritten, WritesMost, TextLost, TextStops}
+use Rattle.nfc_bench.specs.Report.{entry_text}
+use Rattle.nfc_bench.specs.Run.{AreObeyed, FrontIsObeyed}
+use Rattle.nfc_bench.specs.Stops.{MayFollow, LineDone, LineRefused, LineCut, LineLost, LineStops, Progress, TextDone, TextRefused, TextUnread, TextUnwritten, TextLost, TextStops}
 use Rattle.nfc_bench.proofs.Lines.{lines_front, whole_front, whole_last, lines_last, lines_longer, GoesOn}
 use Rattle.nfc_bench.proofs.Limits.{limits_more, no_limits}
 use Rattle.nfc_bench.proofs.Journals.{legal_more, legal_none, written_more, written_none}

@@ -1,11 +1,9 @@
 -- A script is read in chunks.
-use Rattle.std.proofs.Common.{◌≡◌, ℕ, ◌+◌, ◌-◌, ◌<◌, ◌≤◌, List, [], ◌++◌, length, take, Option, Some, None, sym, ◌∙◌, ap, subst, append_assoc, arith}
-use Rattle.std.specs.Prelude.{IfSome}
-use Rattle.std.proofs.lemmas.List.{append-nil, length-append, length-take-le}
+use Rattle.std.proofs.Common.{◌≡◌, ℕ, ◌-◌, ◌<◌, ◌≤◌, List, [], ◌++◌, length, take, Option, sym, ◌∙◌, ap, arith}
+use Rattle.std.proofs.lemmas.List.{length-append, length-take-le}
 use Rattle.nfc_io.specs.Moves.{with_front}
 use Rattle.nfc_io.proofs.Moves.{with_front-nil, read_on}
-use Rattle.nfc_bench.specs.Lines.{lines_of}
-use Rattle.nfc_bench.specs.Limits.{chunk_size, longest_script, most_read, AreWithinLimits}
+use Rattle.nfc_bench.specs.Limits.{chunk_size, longest_script, most_read}
 use Rattle.nfc_bench.specs.Run.{ReadsInTime, ReadsAtMost}
 use Rattle.nfc_bench.specs.Stops.{EndsAt}
 use Rattle.nfc_bench.proofs.Limits.{ends_within, within_short, no_limits}
@@ -35,7 +33,7 @@ stops_at_once a b same = record {
 
 pub reads_at_most : (a b : Option (List ℕ)) → ReadsInTime a b → ReadsAtMost most_read a b
 reads_at_most a b r =
-    let short : length r.front ≤ 8194 = within_short r.front r.short in
+    let short : length r.front ≤ longest_script = within_short r.front r.short in
     let chunk : length r.chunk ≤ chunk_size = r.size in
     record { bytes = r.front ++ r.chunk; read = r.read; size = omega (arith, length-append r.front r.chunk) }
 
@@ -46,5 +44,5 @@ chunk_fits buf old n within kept size = omega (arith, length-take-le n buf (omeg
 -- less is left to be read
 pub less_left : (text new buf : List ℕ) (k n m : ℕ) → new ≡ text ++ take k buf → 0 < k → k ≤ length buf → EndsAt (text ++ take k buf) n m → longest_script - length new < longest_script - length text
 less_left text new buf k n m is some within e =
-    let short : length (text ++ take k buf) ≤ 8194 = within_short (text ++ take k buf) (ends_within (text ++ take k buf) n m e) in
+    let short : length (text ++ take k buf) ≤ longest_script = within_short (text ++ take k buf) (ends_within (text ++ take k buf) n m e) in
     omega (arith, ap length is, length-append text (take k buf), length-take-le k buf within)

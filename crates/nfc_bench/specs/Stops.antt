@@ -1,7 +1,7 @@
 -- Why the parts of a run stop.
-use Rattle.std.specs.Prelude.{◌≡◌, ℕ, ◌+◌, ◌<◌, ◌≤◌, ◌⊎◌, List, [], ◌∷◌, ◌++◌, length, false, Option, IfSome}
+use Rattle.std.specs.Prelude.{◌≡◌, ℕ, ◌+◌, ◌≤◌, ◌⊎◌, List, [], ◌∷◌, ◌++◌, length, false, Option, IfSome}
 use Rattle.nfc_io.specs.Counts.{HasRisen}
-use Rattle.nfc_io.specs.Moves.{with_front, with_end, GainsFront}
+use Rattle.nfc_io.specs.Moves.{with_end, GainsFront}
 use Rattle.nfc_bench.specs.declared.command.Command.{Command}
 use Rattle.nfc_bench.specs.declared.entry.Entry.{Entry}
 use Rattle.nfc_bench.specs.declared.top.input.Ending.{Ending}

@@ -19,7 +19,8 @@ use std::io::ErrorKind;
 use std::process::ExitCode;
 use top::run_bench;
 
-/// The words behind the program's name are those of the run. A word that isn't UTF-8 is no word of one.
+/// A run over standard input and output, by the words after the program's name. A word that isn't UTF-8 is in no form of
+/// words; where memory is wanting for the words, nothing is written.
 fn main(rt: HostRuntime) -> ExitCode {
     let alloc = rt.alloc();
     let mut source = StdSource::new(rt.stdin());

@@ -1,4 +1,4 @@
-use Rattle.std.proofs.Common.{◌≡◌, ℕ, List, [], ◌∷◌, length, get_or, string_bytes, true, refl, sym, ◌∙◌, ap, nat_eq, arith}
+use Rattle.std.proofs.Common.{◌≡◌, ℕ, List, [], ◌∷◌, length, get_or, string_bytes, sym, ◌∙◌, ap, nat_eq, arith}
 use Rattle.std.specs.Prelude.{codes}
 use Rattle.std.specs.Cmp.Lexicographic.{same_text, pointwise}
 use Rattle.nfc_bench.proofs.top.is_run.Goals as goal

@@ -1,4 +1,4 @@
-use Rattle.std.proofs.Common.{◌≡◌, ℕ, List, Option, refl, ◌∙◌, subst}
+use Rattle.std.proofs.Common.{ℕ, List, Option, refl, ◌∙◌, subst}
 use Rattle.nfc_bench.specs.declared.top.lines.Stop.{Stop}
 use Rattle.nfc_bench.specs.declared.top.lines.Stop.TheVariants.{Refused}
 use Rattle.nfc_bench.specs.Stops.{RunStops}

@@ -1,10 +1,9 @@
-use Rattle.std.proofs.Common.{◌≡◌, ℕ, List, Option, subst, sym, ap}
+use Rattle.std.proofs.Common.{ℕ, List, Option, subst}
 use Rattle.nfc_bench.specs.declared.top.lines.Stop.{Stop}
-use Rattle.nfc_bench.specs.Stops.{TextDone, TextStops, RunStops}
-use Rattle.nfc_bench.specs.Run.{EndsDone}
-use Rattle.nfc_bench.proofs.Outcomes.{on_ok, if_err}
+use Rattle.nfc_bench.specs.Stops.{TextStops, RunStops}
+use Rattle.nfc_bench.proofs.Outcomes.{if_err}
 use Rattle.nfc_bench.proofs.ScriptText.{reads_at_most}
-use Rattle.nfc_bench.proofs.Endings.{lost_at_once, passes_of, ends_done, run_stops}
+use Rattle.nfc_bench.proofs.Endings.{lost_at_once, run_stops}
 use Rattle.nfc_bench.proofs.top.run_script.Goals as goal
 
 pub returns-in_default-clause-err : goal.returns-in_default-clause-err

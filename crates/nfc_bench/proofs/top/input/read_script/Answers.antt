@@ -1,9 +1,7 @@
-use Rattle.std.proofs.Common.{◌≡◌, ◌≤◌, ◌<◌, ◌++◌, ℕ, List, [], Option, length, take, refl, sym, ◌∙◌, ap, subst, arith}
+use Rattle.std.proofs.Common.{◌≤◌, ℕ, List, Option, length, take, sym, ◌∙◌, ap, subst, arith}
 use Rattle.std.proofs.lemmas.Grind.{common_steps}
 use Rattle.nfc_io.specs.Moves.{with_front}
 use Rattle.nfc_io.proofs.Moves.{with_front-nil}
-use Rattle.nfc_bench.specs.Limits.{chunk_size}
-use Rattle.nfc_bench.specs.Run.{ReadsInTime}
 use Rattle.nfc_bench.specs.Stops.{EndsAt}
 use Rattle.nfc_bench.proofs.Limits.{ends_at_start}
 use Rattle.nfc_bench.proofs.ScriptText.{stops_before, stops_behind, chunk_fits, less_left}
@@ -36,11 +34,11 @@ returns-in-reading-clause-stop g c =
     let b : Option (List ℕ) = g.S.Source.left c.reading.source in
     let d : Option (List ℕ) = g.S.Source.left c.read.new.self in
     elim c.match-read.branch [
-      | in-Ok-eq0 w ↦ 
-        stops_behind a b d c.reading.text.items (take w.in-Ok-eq0.field-0 c.read.new.buf) c.reading.place.lines c.reading.place.bytes
-        c.reading.invariant.read c.reading.invariant.place w.in-Ok-eq0.ensures.ok (chunk_fits c.read.new.buf c.reading.buf w.in-Ok-eq0.field-0 w.in-Ok-eq0.ensures.bound c.read.auto.buf c.reading.invariant.size)
+      | in-Ok-eq0 w ↦
+          stops_behind a b d c.reading.text.items (take w.in-Ok-eq0.field-0 c.read.new.buf) c.reading.place.lines c.reading.place.bytes
+          c.reading.invariant.read c.reading.invariant.place w.in-Ok-eq0.ensures.ok (chunk_fits c.read.new.buf c.reading.buf w.in-Ok-eq0.field-0 w.in-Ok-eq0.ensures.bound c.read.auto.buf c.reading.invariant.size)
       | in-Ok+in_ok-extend_from_slice-in-Ok+in-None w ↦
-        stops_behind a b d c.reading.text.items (take w.in-Ok.n c.read.new.buf) c.reading.place.lines c.reading.place.bytes
-        c.reading.invariant.read c.reading.invariant.place w.in-Ok.ensures.ok (chunk_fits c.read.new.buf c.reading.buf w.in-Ok.n w.in-Ok.ensures.bound c.read.auto.buf c.reading.invariant.size)
+          stops_behind a b d c.reading.text.items (take w.in-Ok.n c.read.new.buf) c.reading.place.lines c.reading.place.bytes
+          c.reading.invariant.read c.reading.invariant.place w.in-Ok.ensures.ok (chunk_fits c.read.new.buf c.reading.buf w.in-Ok.n w.in-Ok.ensures.bound c.read.auto.buf c.reading.invariant.size)
       | in-Err w ↦ stops_before a b d c.reading.text.items c.reading.place.lines c.reading.place.bytes c.reading.invariant.read c.reading.invariant.place w.in-Err.ensures.same
     ]

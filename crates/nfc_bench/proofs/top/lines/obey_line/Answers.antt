@@ -1,4 +1,4 @@
-use Rattle.std.proofs.Common.{◌≡◌, ℕ, List, Option, ap, sym, ◌∙◌, subst}
+use Rattle.std.proofs.Common.{ℕ, List, ap, ◌∙◌, subst}
 use Rattle.nfc_io.specs.Moves.{with_end, GainsFront}
 use Rattle.nfc_bench.proofs.top.lines.obey_line.Goals as goal
 

@@ -1,13 +1,11 @@
-use Rattle.std.proofs.Common.{◌≡◌, ℕ, ◌<◌, ◌≤◌, ◌+◌, List, [], length, Option, Some, None, arith, inl, inr, ap, subst, sym, ◌∙◌}
+use Rattle.std.proofs.Common.{◌≡◌, ℕ, ◌<◌, List, [], length, Option, Some, None, arith, inl, inr, ap, subst}
 use Rattle.std.proofs.lemmas.Grind.{common_steps}
 use Rattle.std.proofs.lemmas.List.{nil_from_length}
 use Rattle.std.specs.Option.{option_copied}
-use Rattle.nfc_io.proofs.Counts.{rises_at_last}
-use Rattle.nfc_bench.specs.declared.top.lines.Stop.{Stop}
 use Rattle.nfc_bench.specs.Lines.{CutsLine}
 use Rattle.nfc_bench.specs.Stops.{LineDone, LineStops, TextDone, TextStops}
 use Rattle.nfc_bench.proofs.Outcomes.{on_ok, if_err}
-use Rattle.nfc_bench.proofs.Progress.{progress_start, refused_by_size, line_stops, is_next_by_lf, is_next_by_end, done_at_end, done_at_last, reading_stops, whole_at_last, not_enough_end, not_enough_last, progress_more}
+use Rattle.nfc_bench.proofs.Progress.{refused_by_size, line_stops, is_next_by_lf, is_next_by_end, done_at_end, done_at_last, reading_stops, whole_at_last, not_enough_end, not_enough_last, progress_more}
 use Rattle.nfc_bench.proofs.top.lines.obey_lines.Goals as goal
 
 pub returns-then-line-gt-MOST_LINES-clause-err : goal.returns-then-line-gt-MOST_LINES-clause-err
