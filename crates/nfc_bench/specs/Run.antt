@@ -59,7 +59,7 @@ pub record FirstRefused (lines : List (List ℕ)) (journal : List Entry) (n : �
   pub number : n ≡ 1 + length before
   pub refused : IsRefused journal n line
 
--- The lines are within the limits, and the next line behind those of this journal is taken.
+-- The lines are within the limits, and where the lines before one of them have this journal, it is taken behind that.
 pub record AllTaken (lines : List (List ℕ)) (journal : List Entry) : Type 0 where
   pub limits : AreWithinLimits lines
   pub taken : (before : List (List ℕ)) (line : List ℕ) (after : List (List ℕ)) → lines ≡ before ++ line ∷ after → Legal before journal → IsTaken journal line
