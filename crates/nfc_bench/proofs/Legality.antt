@@ -20,7 +20,7 @@ use Rattle.nfc_bench.specs.declared.entry.Answer.TheVariants.{Message}
 use Rattle.nfc_bench.specs.declared.entry.Entry.{Entry}
 use Rattle.nfc_bench.specs.Placed.{Placed}
 use Rattle.nfc_bench.specs.Device.{device_store}
-use Rattle.nfc_bench.specs.Reading.{Held, is_writable, reading}
+use Rattle.nfc_bench.specs.Reading.{Held, is_writable, reading, reading_at, demand}
 use Rattle.nfc_bench.specs.Legal.{air, State, LegalStep, device_with, store_of, store_or_none, then_reads, due, stable, ReadLaw, state_after, state_from, state_of, first_state}
 use Rattle.nfc_bench.specs.Phases.{moment_of, alone, selected, polled, IsTame, At, Picks, Finds}
 use Rattle.nfc_bench.specs.Obeying.{state_at, AreTame, IsIdle, IsReady, Obeyed, the_tag}
@@ -90,13 +90,17 @@ obeyed_at old mid new d m writable idle one tame p f access =
     let trace : new.trace ≡ es = ap (λ (t : Moment (World Device)). t.trace) g.moment ∙ ap (λ t. t ++ es) idle.quiet in
     let world : (moment_of new).world ≡ replay air s.world es = ap (λ (t : Moment (World Device)). t.world) g.moment in
     let queue : new.fates ≡ queue_after old.fates es = ap (λ (t : Moment (World Device)). t.queue) g.moment in
+    let found : pick d.id (p.notes ++ f.notes) ≡ Done (Picked kinds.T2) f.notes = picking_more d.id (Begins 1) p.notes f.notes [] (Picked kinds.T2) p.ended in
     let behind : due s c (p.notes ++ f.notes) ≡ Over =
-    ap (then_reads (store_of s d.id)) (picking_more d.id (Begins 1) p.notes f.notes [] (Picked kinds.T2) p.ended) ∙ ap (λ x. reading x f.notes) same ∙ f.ended in
+    ap (then_reads (store_of s d.id)) found ∙ ap (λ x. reading x f.notes) same ∙ ap demand f.ended in
     let R : List ℕ → Type 0 = λ x. Held x m in
     let accepted : IsSome (device_with d.id old.listeners) =
     ap (λ ls. is_some (device_with d.id ls)) one ∙ ap (λ v. is_some (if v then Some (T2 d) else None)) (pointwise_self d.id) in
     let law : ReadLaw s d.id es m writable =
     record {
+      rest = f.notes;
+      found = ap (pick d.id) g.known ∙ found;
+      answered = ap (λ x. reading_at x f.notes) same ∙ f.ended;
       held = subst R (sym same) f.held;
       access = access ∙ ap is_writable (sym same);
       stays = ap stable (sym world ∙ f.at.world) ∙ ap (λ ls. map device_store ls) (sym one);

@@ -21,7 +21,7 @@ use Rattle.nfc_bench.specs.declared.device.Device.{Device}
 use Rattle.nfc_bench.specs.Placed.{Placed}
 use Rattle.nfc_bench.specs.Device.{placed_answer, placed_after}
 use Rattle.nfc_bench.specs.Legal.{air}
-use Rattle.nfc_bench.specs.Reading.{IsPlain, Held, message_length, reads_from, asked, asking, reading, is_writable}
+use Rattle.nfc_bench.specs.Reading.{IsPlain, Held, message_length, reads_from, asked, asking, reading, demand, Due, Ended, Answered}
 use Rattle.nfc_bench.specs.Phases.{IsTame, At, Answers, AllWhole, Knows, Finds, needed_of, selected}
 use Rattle.nfc_bench.proofs.Answering.{active_answers, active_goes}
 use Rattle.nfc_bench.proofs.Picking.{answers_at, meets_at, same_frame}
@@ -128,13 +128,13 @@ whole_more (Lit ∷ ns) g w = absurd w
 whole_more (Lost ∷ ns) g w = absurd w
 
 -- the n-th of some READs is due behind n answers
-read_due : (m n block : ℕ) → n < m → asking 0 (drop n (reads_from m block)) [] ≡ Asks (command_frame (Read (block + 4 * n)))
+read_due : (m n block : ℕ) → n < m → asking 0 (drop n (reads_from m block)) [] ≡ Due (Read (block + 4 * n))
 read_due zero n block h = absurd (omega (arith, h))
-read_due (suc m) zero block h = ap (λ b. Asks (command_frame (Read b))) (let e : block ≡ block + 4 * 0 = omega arith in e)
+read_due (suc m) zero block h = ap (λ b. Due (Read b)) (let e : block ≡ block + 4 * 0 = omega arith in e)
 read_due (suc m) (suc n) block h =
-    read_due m n (block + 4) (omega (arith, h)) ∙ ap (λ b. Asks (command_frame (Read b))) (let e : block + 4 + 4 * n ≡ block + 4 * suc n = omega arith in e)
+    read_due m n (block + 4) (omega (arith, h)) ∙ ap (λ b. Due (Read b)) (let e : block + 4 + 4 * n ≡ block + 4 * suc n = omega arith in e)
 
-reads_over : (m n block : ℕ) → m ≤ n → asking 0 (drop n (reads_from m block)) [] ≡ Over
+reads_over : (m n block : ℕ) → m ≤ n → asking 0 (drop n (reads_from m block)) [] ≡ Ended Answered
 reads_over zero n block h = ap (λ cs. asking 0 cs []) (drop_nil n)
   where
     drop_nil : (n : ℕ) → drop n (reads_from 0 block) ≡ []
@@ -215,7 +215,7 @@ module _ (d : Placed) (tame : IsTame d) where
       let sixteen : length g.bytes ≡ 16 = ap length bytes ∙ length-four_blocks store block some_blocks in
       let whole_blocks : length store % 4 ≡ 0 = tame.store.whole in
       let due : reading store k.notes ≡ Asks (command_frame (Read block)) =
-      append_nil_whole (asked store) k.notes k.whole ∙ read_due ((18 + message_length store + 15) / 16) n 0 (omega (arith, size, more.0))
+      ap demand (append_nil_whole (asked store) k.notes k.whole ∙ read_due ((18 + message_length store + 15) / 16) n 0 (omega (arith, size, more.0)))
       ∙ ap (λ m. Asks (command_frame (Read m))) (let e : 0 + 4 * n ≡ block = omega (arith, size) in e) in
       let total : length (known ++ g.bytes) ≡ length known + length g.bytes = length-append known g.bytes in (
         record {

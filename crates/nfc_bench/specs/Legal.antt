@@ -18,7 +18,7 @@ use Rattle.nfc_bench.specs.declared.entry.Answer.{Answer}
 use Rattle.nfc_bench.specs.declared.entry.Answer.TheVariants as answers
 use Rattle.nfc_bench.specs.declared.entry.Entry.{Entry}
 use Rattle.nfc_bench.specs.Device.{devices, device_id, device_store, new_tag}
-use Rattle.nfc_bench.specs.Reading.{IsPlain, Held, is_writable, reading}
+use Rattle.nfc_bench.specs.Reading.{IsPlain, Held, is_writable, reading, reading_at, Ended, Answered}
 
 -- the air of the bench's devices
 abbrev pub air : AirModel (World Device)
@@ -92,8 +92,12 @@ due s (Read (V id)) ns = Over
 abbrev pub stable : World Device → List (List ℕ)
 stable w = map device_store w.listeners
 
--- A read answers the message that the store holds and whether it may be written, and changes no store.
+-- A message is answered where the tag was found and selected and each command of the read was answered. It is the one
+-- that the store holds, and no store changes.
 pub record ReadLaw (s : State) (id : List ℕ) (events : List Event) (message : List ℕ) (writable : Bool) : Type 0 where
+  pub rest : List Note
+  pub found : pick id (receptions events) ≡ Done (Picked kinds.T2) rest
+  pub answered : reading_at (store_of s id) rest ≡ Ended Answered
   pub held : Held (store_of s id) message
   pub access : writable ≡ is_writable (store_of s id)
   pub stays : stable (replay air s.world events) ≡ stable s.world

@@ -14,7 +14,7 @@ use Rattle.t2t_tag.specs.Store.{IsT2Store}
 use Rattle.nfc_bench.specs.declared.device.Device.{Device}
 use Rattle.nfc_bench.specs.declared.device.Device.TheVariants.{T2}
 use Rattle.nfc_bench.specs.Placed.{Placed, with_front}
-use Rattle.nfc_bench.specs.Reading.{IsPlain, Held, reading, message_at, message_length}
+use Rattle.nfc_bench.specs.Reading.{IsPlain, Held, reading, reading_at, Ended, Answered, message_at, message_length}
 use Rattle.nfc_bench.specs.Legal.{air}
 
 -- the moment at which a field is
@@ -88,6 +88,6 @@ pub record Knows (d : Placed) (old now : Moment (World Device)) (known : List �
 pub record Finds (d : Placed) (old new : Moment (World Device)) (message : List ℕ) : Type 0 where
   pub notes : List Note
   pub going : Going air (reading d.tag.store) old new notes
-  pub ended : reading d.tag.store notes ≡ Over
+  pub ended : reading_at d.tag.store notes ≡ Ended Answered
   pub held : Held d.tag.store message
   pub at : At new (selected d)

@@ -1,17 +1,10 @@
 -- Reading a Type 2 tag whose NDEF message stands in the first TLV of its area (NFC Forum Type 2 Tag).
 use Rattle.std.specs.Prelude.{◌≡◌, ℕ, zero, suc, ◌+◌, ◌*◌, ◌/◌, ◌%◌, ◌<◌, ◌≤◌, List, [], ◌∷◌, take, drop, slice_index, Bool, ◌==◌, nat_lt, if◌then◌else◌}
-use Rattle.nfc_base.specs.declared.event.Heard.TheVariants.{Whole, Collided, Damaged, Silent}
+use Rattle.nfc_base.specs.Trace.{is_bad_in_wait}
 use Rattle.air_core.specs.Conversation.{Note, Lit, Got, Lost, Next, Over, Asks}
 use Rattle.t2t_tag.specs.declared.command.T2Command.{T2Command}
 use Rattle.t2t_tag.specs.declared.command.T2Command.TheVariants.{Read}
 use Rattle.t2t_tag.specs.Spelling.{command_frame}
-
--- where the capability container stands, and where the area begins
-abbrev pub container_at : ℕ
-container_at = 12
-
-abbrev pub area_at : ℕ
-area_at = 16
 
 -- the magic number of a container, the size of the largest area in eights of bytes, the type of an NDEF TLV, and the
 -- largest length of one byte
@@ -63,22 +56,37 @@ reads_from (suc n) block = Read block ∷ reads_from n (block + 4)
 abbrev pub asked : List ℕ → List T2Command
 asked store = reads_from ((message_at + message_length store + 15) / 16) 0
 
--- One wait has at most this many bad receptions before it ends.
-abbrev pub most_bad : ℕ
-most_bad = 5
+-- The bad reception with which a wait ends.
+abbrev pub last_bad : ℕ
+last_bad = 6
 
--- The first command that isn't answered is due: again after a bad reception, until the sixth of its wait. This many
--- were bad so far.
-abbrev pub asking : ℕ → List T2Command → List Note → Next
-asking bad [] ns = Over
-asking bad (c ∷ cs) [] = Asks (command_frame c)
-asking bad (c ∷ cs) (Got (Whole g) ∷ ns) = asking 0 cs ns
-asking bad (c ∷ cs) (Got (Collided g) ∷ ns) = if nat_lt bad most_bad then asking (bad + 1) (c ∷ cs) ns else Over
-asking bad (c ∷ cs) (Got Damaged ∷ ns) = if nat_lt bad most_bad then asking (bad + 1) (c ∷ cs) ns else Over
-asking bad (c ∷ cs) (Got Silent ∷ ns) = if nat_lt bad most_bad then asking (bad + 1) (c ∷ cs) ns else Over
-asking bad (c ∷ cs) (Lost ∷ ns) = Over
-asking bad (c ∷ cs) (Lit ∷ ns) = Over
+-- how the commands of a tag end: all are answered, a wait had its last bad reception, or the field was lost
+pub data AskEnd : Type 0 where
+  Answered : AskEnd
+  SixBad : AskEnd
+  Broken : AskEnd
 
--- what is due while a store is read
+-- how far they are: a command is due, or it is the end
+pub data Asked : Type 0 where
+  Due : T2Command → Asked
+  Ended : AskEnd → Asked
+
+-- The first command that isn't answered is due: again after a bad reception, until the last one of its wait. So many
+-- were bad so far. (A reset stands nowhere here.)
+abbrev pub asking : ℕ → List T2Command → List Note → Asked
+asking bad [] ns = Ended Answered
+asking bad (c ∷ cs) [] = Due c
+asking bad (c ∷ cs) (Got h ∷ ns) = if is_bad_in_wait h then (if nat_lt (bad + 1) last_bad then asking (bad + 1) (c ∷ cs) ns else Ended SixBad) else asking 0 cs ns
+asking bad (c ∷ cs) (Lost ∷ ns) = Ended Broken
+asking bad (c ∷ cs) (Lit ∷ ns) = asking bad (c ∷ cs) ns
+
+-- what is due while a store is read, and how reading ends
+abbrev pub reading_at : List ℕ → List Note → Asked
+reading_at store ns = asking 0 (asked store) ns
+
+abbrev pub demand : Asked → Next
+demand (Due c) = Asks (command_frame c)
+demand (Ended e) = Over
+
 abbrev pub reading : List ℕ → List Note → Next
-reading store ns = asking 0 (asked store) ns
+reading store ns = demand (reading_at store ns)

@@ -12,8 +12,8 @@ use nfca_poll::{CallKind, Ident, Level};
 use std::marker::Model;
 use t2t_tag::T2Tag;
 
-/// SENS_RES of a device with one cascade level, and SEL_RES of a Type 2 tag (NFC Forum Digital Protocol). The low byte
-/// of SENS_RES is this project's own.
+/// SENS_RES of a device with one cascade level, whose value is this project's own, and SEL_RES of a Type 2 tag (NFC
+/// Forum Digital Protocol).
 const SENS_RES: [u8; 2] = [0x04, 0x00];
 
 const SEL_RES: u8 = 0x00;
