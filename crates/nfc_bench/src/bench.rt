@@ -150,9 +150,7 @@ fn run_command(
         Command::Read {
             id: DeviceId::A(id),
         } => read_tag(alloc, field, id),
-        Command::Read {
-            id: DeviceId::V(_),
-        } => Err(ObeyFault::Refused),
+        Command::Read { id: DeviceId::V(_) } => Err(ObeyFault::Refused),
     }
 }
 

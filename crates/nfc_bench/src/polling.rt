@@ -17,7 +17,9 @@ use std::alloc::AllocError;
 /// SENS_REQ of seven bits, SDD_REQ of level 1 with no known bits, and the first two bytes of SEL_REQ of level 1
 /// (NFC Forum Digital Protocol; ISO/IEC 14443-3).
 const SENS_REQ: u8 = 0x26;
+
 const SDD_REQ: [u8; 2] = [0x93, 0x20];
+
 const SEL_REQ: [u8; 2] = [0x93, 0x70];
 
 fn sens_req() -> Frame

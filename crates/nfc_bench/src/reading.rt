@@ -14,7 +14,9 @@ use t2t_tag::T2Command;
 
 /// Where the access byte of the capability container stands, the length of the first TLV, and its value.
 const ACCESS: usize = 15;
+
 const LENGTH: usize = 17;
+
 const VALUE: usize = 18;
 
 /// What a tag holds: its message, and whether writing is free.
