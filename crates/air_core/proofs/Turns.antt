@@ -1,5 +1,5 @@
 -- Turns one after another, over any air and any fates.
-use Rattle.std.proofs.Common.{◌≡◌, ℕ, List, [], ◌∷◌, ◌++◌, Bool, true, Option, Some, None, if◌then◌else◌, refl, sym, ◌∙◌, ap, subst, append_assoc}
+use Rattle.std.proofs.Common.{◌≡◌, List, [], ◌∷◌, ◌++◌, true, Option, if◌then◌else◌, refl, sym, ◌∙◌, ap, subst, append_assoc}
 use Rattle.std.proofs.lemmas.List.{append-nil}
 use Rattle.nfc_base.specs.Signal.{Signal}
 use Rattle.nfc_base.specs.Trace.{Back, back_of, heard_by}
@@ -10,7 +10,7 @@ use Rattle.nfc_base.specs.declared.event.Fate.{Fate}
 use Rattle.nfc_base.specs.declared.event.Fate.TheVariants.{Pass, Damage, Lose, Break}
 use Rattle.nfc_base.specs.declared.event.Heard.{Heard}
 use Rattle.air_core.specs.Joint.{Joint, Nothing, Single, Clashing}
-use Rattle.air_core.specs.Conversation.{AirModel, Note, Lit, Got, Lost, note, Next, Over, LightUp, Asks, IsDemand, receptions, EachDue, first_fate, later_fates, queue_after, FatesFrom, joint_events, joint_back, replay, turn_events, turn_heard, Move, Light, Ask, move_events, trace_of, AreTurns, Moment, with_events, Going, TurnsTo}
+use Rattle.air_core.specs.Conversation.{AirModel, Note, Lit, note, Next, LightUp, Asks, IsDemand, receptions, EachDue, first_fate, later_fates, queue_after, FatesFrom, joint_events, joint_back, replay, turn_events, turn_heard, Move, Light, Ask, move_events, trace_of, AreTurns, Moment, with_events, Going, TurnsTo}
 
 pub queue_after-append : (q : List Fate) (a b : List Event) → queue_after q (a ++ b) ≡ queue_after (queue_after q a) b
 queue_after-append q [] b = refl

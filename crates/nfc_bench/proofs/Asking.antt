@@ -1,5 +1,5 @@
 -- What `transmit` does in a field of tags, where a request is answered.
-use Rattle.std.proofs.Common.{◌≡◌, ℕ, List, [], ◌∷◌, ◌++◌, Bool, Option, Some, refl, ◌∙◌, ap}
+use Rattle.std.proofs.Common.{◌≡◌, ℕ, List, [], ◌∷◌, ◌++◌, Option, Some, refl, ◌∙◌, ap}
 use Rattle.nfc_base.specs.declared.event.Event.{Event}
 use Rattle.nfc_base.specs.declared.event.Event.TheVariants.{Reset}
 use Rattle.nfc_base.specs.declared.event.Fate.{Fate}
@@ -8,7 +8,6 @@ use Rattle.nfc_base.specs.declared.event.Heard.{Heard}
 use Rattle.nfc_base.specs.declared.event.Heard.TheVariants.{Whole}
 use Rattle.nfc_base.specs.Signal.{Signal}
 use Rattle.nfc_base.specs.Trace.{heard_by}
-use Rattle.air_core.specs.Joint.{Single}
 use Rattle.air_core.specs.World.{World, reset_by}
 use Rattle.air_core.specs.Turn.{Air, TurnIs, world, after_event}
 use Rattle.air_core.specs.Conversation.{Moment, TurnsTo, with_events, turn_events, joint_back, first_fate, later_fates, replay, queue_after}

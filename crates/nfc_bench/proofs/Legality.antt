@@ -1,11 +1,11 @@
 -- Commands that were obeyed, and journals.
-use Rattle.std.proofs.Common.{◌≡◌, ℕ, ◌+◌, List, [], ◌∷◌, ◌++◌, map, Bool, true, false, nat_eq, if◌then◌else◌, Option, Some, None, IsSome, is_some, refl, sym, ◌∙◌, ap, subst, append_assoc}
+use Rattle.std.proofs.Common.{◌≡◌, ℕ, List, [], ◌∷◌, ◌++◌, map, Bool, true, false, nat_eq, if◌then◌else◌, Some, None, IsSome, is_some, refl, sym, ◌∙◌, ap, subst}
 use Rattle.std.specs.Cmp.Lexicographic.{pointwise, same_text}
 use Rattle.nfc_base.specs.declared.event.Event.{Event}
 use Rattle.nfc_base.specs.declared.event.Fate.{Fate}
 use Rattle.air_core.specs.World.{World}
 use Rattle.air_core.specs.Turn.{Air}
-use Rattle.air_core.specs.Conversation.{Moment, Note, Lit, Got, Lost, Next, Over, LightUp, Asks, IsDemand, Going, AreTurns, FatesFrom, EachDue, receptions, replay, queue_after, with_events}
+use Rattle.air_core.specs.Conversation.{Moment, Note, Next, Over, LightUp, Asks, IsDemand, Going, replay, queue_after}
 use Rattle.air_core.proofs.Turns.{going_then}
 use Rattle.nfca_poll.specs.declared.kind.Kind.TheVariants as kinds
 use Rattle.nfca_poll.specs.Poll.{Pick, Begins, Seeks, Sends, Ends, PickEnd, Picked, Polling, Polls, Done, pick, picking, pick_step}
@@ -22,7 +22,7 @@ use Rattle.nfc_bench.specs.Placed.{Placed}
 use Rattle.nfc_bench.specs.Device.{device_store}
 use Rattle.nfc_bench.specs.Reading.{Held, is_writable, reading, reading_at, demand}
 use Rattle.nfc_bench.specs.Legal.{air, State, LegalStep, device_with, store_of, store_or_none, then_reads, due, stable, ReadLaw, state_after, state_from, state_of, first_state}
-use Rattle.nfc_bench.specs.Phases.{moment_of, alone, selected, polled, IsTame, At, Picks, Finds}
+use Rattle.nfc_bench.specs.Phases.{moment_of, selected, polled, IsTame, At, Picks, Finds}
 use Rattle.nfc_bench.specs.Obeying.{state_at, AreTame, IsIdle, IsReady, Obeyed, the_tag}
 
 -- what is known behind the end of a call of polling

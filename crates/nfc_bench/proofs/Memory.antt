@@ -1,27 +1,25 @@
 -- What a reader knows of a tag's memory.
-use Rattle.std.proofs.Common.{◌≡◌, ℕ, zero, suc, ◌+◌, ◌-◌, ◌*◌, ◌/◌, ◌%◌, ◌<◌, ◌≤◌, nat_lt, List, [], ◌∷◌, ◌++◌, length, take, drop, get_or, Bool, true, false, if◌then◌else◌, ◌==◌, Option, Some, refl, sym, ◌∙◌, ap, subst, arith}
+use Rattle.std.proofs.Common.{◌≡◌, ℕ, zero, suc, ◌+◌, ◌-◌, ◌*◌, ◌/◌, ◌%◌, ◌<◌, ◌≤◌, nat_lt, List, [], ◌∷◌, ◌++◌, length, take, drop, get_or, Bool, true, false, if◌then◌else◌, Some, refl, sym, ◌∙◌, ap, arith}
 use Rattle.std.proofs.lemmas.List.{append-nil, get_or-drop, get_or-take, get_or-append_right, length-append, length-drop, length-take-le, ext_get_or}
 use Rattle.std.proofs.Math.ListN.{get_or-append}
 use Rattle.std.proofs.Math.Nat.{mod-eq_of_lt}
-use Rattle.nfc_base.specs.declared.event.Heard.{Heard}
 use Rattle.nfc_base.specs.declared.event.Heard.TheVariants.{Whole, Collided, Damaged, Silent}
 use Rattle.nfc_base.specs.Signal.{Signal, whole_a}
 use Rattle.air_core.specs.World.{World}
-use Rattle.air_core.specs.Conversation.{Moment, Note, Lit, Got, Lost, Next, Over, Asks, Going, TurnsTo}
+use Rattle.air_core.specs.Conversation.{Moment, Note, Lit, Got, Lost, Asks, TurnsTo}
 use Rattle.air_core.proofs.Turns.{going_start, going_turn}
 use Rattle.t2t_tag.specs.declared.command.T2Command.{T2Command}
 use Rattle.t2t_tag.specs.declared.command.T2Command.TheVariants.{Read}
-use Rattle.t2t_tag.specs.declared.answer.T2Answer.{T2Answer}
 use Rattle.t2t_tag.specs.declared.answer.T2Answer.TheVariants.{Content, Refused}
 use Rattle.t2t_tag.specs.Spelling.{command_frame, answer_frame}
-use Rattle.t2t_tag.specs.Store.{IsT2Store, T2Memory, block_count}
+use Rattle.t2t_tag.specs.Store.{block_count}
 use Rattle.t2t_tag.specs.Step.{rolled, four_blocks}
 use Rattle.t2t_tag.proofs.Steps.{length-rolled, length-four_blocks}
 use Rattle.nfc_bench.specs.declared.device.Device.{Device}
 use Rattle.nfc_bench.specs.Placed.{Placed}
-use Rattle.nfc_bench.specs.Device.{placed_answer, placed_after}
+use Rattle.nfc_bench.specs.Device.{placed_answer}
 use Rattle.nfc_bench.specs.Legal.{air}
-use Rattle.nfc_bench.specs.Reading.{IsPlain, Held, message_length, reads_from, asked, asking, reading, demand, Due, Ended, Answered}
+use Rattle.nfc_bench.specs.Reading.{message_length, reads_from, asked, asking, reading, demand, Due, Ended, Answered}
 use Rattle.nfc_bench.specs.Phases.{IsTame, At, Answers, AllWhole, Knows, Finds, needed_of, selected}
 use Rattle.nfc_bench.proofs.Answering.{active_answers, active_goes}
 use Rattle.nfc_bench.proofs.Picking.{answers_at, meets_at, same_frame}

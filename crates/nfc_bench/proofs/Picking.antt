@@ -1,7 +1,6 @@
 -- Polling a field in which one tag stands, where no fate is left.
-use Rattle.std.proofs.Common.{◌≡◌, ℕ, List, [], ◌∷◌, ◌++◌, length, take, get_or, Bool, true, false, nat_eq, nat_lt, ◌==◌, map, inl, if◌then◌else◌, Option, Some, None, refl, sym, ◌∙◌, ap, subst, arith}
+use Rattle.std.proofs.Common.{◌≡◌, ℕ, List, [], ◌∷◌, ◌++◌, take, get_or, true, false, nat_lt, ◌==◌, map, inl, if◌then◌else◌, Option, Some, refl, ◌∙◌, ap, subst, arith}
 use Rattle.std.specs.List.{cons_option}
-use Rattle.std.specs.Cmp.Lexicographic.{pointwise}
 use Rattle.nfc_base.specs.declared.frame.Tech.TheVariants.{A}
 use Rattle.nfc_base.specs.declared.event.Event.{Event}
 use Rattle.nfc_base.specs.declared.event.Event.TheVariants.{Reset, Request, Answer, Clash}
@@ -11,17 +10,16 @@ use Rattle.nfc_base.specs.declared.event.Heard.{Heard}
 use Rattle.nfc_base.specs.declared.event.Heard.TheVariants.{Whole}
 use Rattle.nfc_base.specs.Signal.{Signal, signal, whole_a}
 use Rattle.nfc_base.specs.Trace.{heard_by}
-use Rattle.air_core.specs.Joint.{Joint, Single, joint}
+use Rattle.air_core.specs.Joint.{Joint, joint}
 use Rattle.air_core.specs.World.{World}
-use Rattle.air_core.specs.Conversation.{Moment, Note, Lit, Got, Next, Over, LightUp, Asks, Going, TurnsTo, with_events, replay, turn_events, joint_events, joint_back, queue_after}
+use Rattle.air_core.specs.Conversation.{Moment, Note, Lit, Got, Next, Asks, Going, TurnsTo, with_events, replay, turn_events, joint_events, joint_back, queue_after}
 use Rattle.air_core.proofs.Turns.{going_start, going_reset, going_turn}
-use Rattle.nfca_poll.specs.declared.kind.Kind.{Kind}
 use Rattle.nfca_poll.specs.declared.kind.Kind.TheVariants as kinds
-use Rattle.nfca_poll.specs.Ident.{IsIdent, IsBadCascade, cascade_tag}
+use Rattle.nfca_poll.specs.Ident.{cascade_tag}
 use Rattle.nfca_poll.specs.Levels.{level, identifier}
 use Rattle.nfca_poll.specs.Calls.{Sens, Sdd, Sel, call_frame}
-use Rattle.nfca_poll.specs.Front.{Idle, Ready, Active, sens_res, sel_res}
-use Rattle.nfca_poll.specs.Poll.{Ended, Found, BadAnswer, Picked, Ends, Pick, Polling, Polls, Done, pick, picking, sought, meets, has, next_round, goes_on, Sends, Refused}
+use Rattle.nfca_poll.specs.Front.{Idle, Ready, sens_res, sel_res}
+use Rattle.nfca_poll.specs.Poll.{Ended, Found, BadAnswer, Picked, Ends, Polls, Done, pick, picking, sought, meets, has, next_round, goes_on, Sends, Refused}
 use Rattle.nfca_poll.proofs.OneLevel.{by_four, completed_level, pointwise_self}
 use Rattle.nfc_bench.specs.declared.device.Device.{Device}
 use Rattle.nfc_bench.specs.declared.device.Device.TheVariants.{T2}

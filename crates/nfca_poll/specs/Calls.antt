@@ -1,7 +1,6 @@
 -- The requests by which a reader finds and selects NFC-A devices (NFC Forum Digital Protocol; ISO/IEC 14443-3).
-use Rattle.std.specs.Prelude.{ℕ, ◌+◌, ◌-◌, ◌*◌, ◌/◌, ◌%◌, List, [], ◌∷◌, ◌++◌, length, drop, slice_index, Bool, true, false, ◌==◌, ◌&&◌, nat_le, if◌then◌else◌}
-use Rattle.nfc_base.specs.declared.frame.Tech.{Tech}
-use Rattle.nfc_base.specs.declared.frame.Tech.TheVariants.{A, V}
+use Rattle.std.specs.Prelude.{ℕ, ◌+◌, ◌-◌, ◌*◌, ◌/◌, ◌%◌, List, [], ◌∷◌, ◌++◌, length, drop, slice_index, Bool, ◌==◌, ◌&&◌, nat_le, if◌then◌else◌}
+use Rattle.nfc_base.specs.declared.frame.Tech.TheVariants.{A}
 use Rattle.nfc_base.specs.Signal.{Signal, whole_a, part_a}
 use Rattle.nfc_base.specs.Bits.{bits, bits_of, bit_count, of_bits}
 

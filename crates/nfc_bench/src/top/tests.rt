@@ -56,10 +56,27 @@ fn outcome(
 fn runs(rt: HostRuntime) -> Result<(), Fail> {
     let alloc = rt.alloc();
     let rows = [
-        ("run", ["", ""], 0, 0, 0, ["", ""]),
-        ("run", [PLACE, "read 01020304"], 0, 0, 0, [REPORT, ""]),
-        ("run", [PLACE, "read 01020304\n"], 0, 0, 0, [REPORT, ""]),
+        ("no line", "run", ["", ""], 0, 0, 0, ["", ""]),
         (
+            "one tag is read",
+            "run",
+            [PLACE, "read 01020304"],
+            0,
+            0,
+            0,
+            [REPORT, ""],
+        ),
+        (
+            "the last LF may stand",
+            "run",
+            [PLACE, "read 01020304\n"],
+            0,
+            0,
+            0,
+            [REPORT, ""],
+        ),
+        (
+            "a third line is refused",
             "run",
             [PLACE, "read 01020304\n#"],
             0,
@@ -68,6 +85,7 @@ fn runs(rt: HostRuntime) -> Result<(), Fail> {
             [REPORT, "fault 2 line 3\n"],
         ),
         (
+            "what was obeyed before a refused line stays reported",
             "run",
             [PLACE, "fly"],
             0,
@@ -75,18 +93,54 @@ fn runs(rt: HostRuntime) -> Result<(), Fail> {
             2,
             ["1 ok\n", "fault 2 line 2\n"],
         ),
-        ("run", [PLACE, "rea"], 2, 0, 3, ["1 ok\n", "fault 3 read\n"]),
-        ("run", [PLACE, "read 01020304"], 0, 1, 4, ["", ""]),
-        ("run", ["\n", ""], 0, 1, 2, ["", ""]),
-        ("run loud", [PLACE, ""], 0, 0, 6, ["fault 6 words\n", ""]),
-        ("", [PLACE, ""], 0, 1, 6, ["", ""]),
+        (
+            "whole lines before a read fault are obeyed",
+            "run",
+            [PLACE, "rea"],
+            2,
+            0,
+            3,
+            ["1 ok\n", "fault 3 read\n"],
+        ),
+        (
+            "a sink that fails ends the run",
+            "run",
+            [PLACE, "read 01020304"],
+            0,
+            1,
+            4,
+            ["", ""],
+        ),
+        (
+            "a fault line that can't be written changes no status",
+            "run",
+            ["\n", ""],
+            0,
+            1,
+            2,
+            ["", ""],
+        ),
+        (
+            "words that are no run read nothing",
+            "run loud",
+            [PLACE, ""],
+            0,
+            0,
+            6,
+            ["fault 6 words\n", ""],
+        ),
+        ("an empty word", "", [PLACE, ""], 0, 1, 6, ["", ""]),
     ];
-    for (words, script, failing_read, failing_write, wanted, report) in rows {
+    for (shows, words, script, failing_read, failing_write, wanted, report) in rows {
         let script = joined(alloc, script)?;
         let report = joined(alloc, report)?;
         let (status, written, left) = outcome(alloc, words, script, failing_read, failing_write)?;
-        assert_eq!(rt; status, wanted);
-        assert_eq!(rt; str::from_utf8(&written)?, str::from_utf8(&report)?);
+        assert_eq!(rt; status, wanted, "{shows}");
+        assert_eq!(rt;
+            str::from_utf8(&written)?,
+            str::from_utf8(&report)?,
+            "{shows}"
+        );
         assert_eq!(rt; left, if wanted == 6 { 8 } else { 0 });
     }
     Ok(())

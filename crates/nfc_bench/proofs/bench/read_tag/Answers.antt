@@ -1,11 +1,11 @@
-use Rattle.std.proofs.Common.{◌≡◌, ℕ, List, ap, subst, sym, ◌∙◌, IsSome, rules, arith}
+use Rattle.std.proofs.Common.{◌≡◌, ap, subst, sym, ◌∙◌, IsSome, rules, arith}
 use Rattle.std.proofs.lemmas.Grind.{common_steps}
 use Rattle.nfc_bench.specs.Placed.{Placed}
 use Rattle.nfc_bench.specs.Legal.{device_with}
 use Rattle.nfc_bench.specs.Reading.{is_writable}
 use Rattle.nfc_bench.specs.Phases.{moment_of, selected, At, IsTame, Picks, Finds}
 use Rattle.nfc_bench.specs.Obeying.{the_tag}
-use Rattle.nfc_bench.proofs.Legality.{IsOne, one_placed, read_obeyed, tag_selected}
+use Rattle.nfc_bench.proofs.Legality.{one_placed, read_obeyed, tag_selected}
 use Rattle.nfc_bench.proofs.bench.read_tag.Goals as goal
 
 pub read-requires : goal.read-requires

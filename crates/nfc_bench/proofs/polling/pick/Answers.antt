@@ -1,18 +1,15 @@
-use Rattle.std.proofs.Common.{◌≡◌, ℕ, List, [], ◌∷◌, length, Some, get_or, subst, ap, sym, ◌∙◌, arith}
+use Rattle.std.proofs.Common.{◌≡◌, ℕ, List, [], ◌∷◌, length, Some, subst, ap, sym, ◌∙◌, arith}
 use Rattle.std.proofs.lemmas.Grind.{common_steps}
-use Rattle.nfc_base.specs.Signal.{Signal, whole_a}
+use Rattle.nfc_base.specs.Signal.{Signal}
 use Rattle.nfc_base.specs.declared.event.Heard.TheVariants.{Whole}
 use Rattle.nfc_base.specs.declared.event.Event.TheVariants.{Reset}
 use Rattle.air_core.specs.Conversation.{TurnsTo, with_events}
-use Rattle.nfca_poll.specs.Levels.{level}
-use Rattle.nfca_poll.specs.Calls.{Sens, Sdd, Sel, call_frame}
-use Rattle.nfca_poll.specs.Front.{Idle, Ready}
+use Rattle.nfca_poll.specs.Calls.{Sens, Sel, call_frame}
 use Rattle.nfca_poll.proofs.OneLevel.{length_of_level}
-use Rattle.nfc_bench.specs.Placed.{with_front}
 use Rattle.nfc_bench.specs.Legal.{air}
-use Rattle.nfc_bench.specs.Phases.{moment_of, At, Answers}
+use Rattle.nfc_bench.specs.Phases.{moment_of, Answers}
 use Rattle.nfc_bench.proofs.Asking.{reset_moment}
-use Rattle.nfc_bench.proofs.Picking.{idle_at, sens_answered, sens_at, sdd_answered, sdd_at, sel_answered, resolved, picked}
+use Rattle.nfc_bench.proofs.Picking.{idle_at, sens_answered, sens_at, sdd_answered, sel_answered, resolved, picked}
 use Rattle.nfc_bench.proofs.polling.pick.Goals as goal
 
 pub ask-requires : goal.ask-requires

@@ -1,4 +1,4 @@
-use Rattle.std.proofs.Common.{◌≡◌, ◌++◌, ◌∷◌, [], List, Bool, false, ap, subst, sym, ◌∙◌}
+use Rattle.std.proofs.Common.{◌≡◌, ◌++◌, ◌∷◌, [], List, ap, subst, sym, ◌∙◌}
 use Rattle.nfc_bench.specs.declared.entry.Entry.{Entry}
 use Rattle.nfc_bench.specs.Obeying.{IsReady}
 use Rattle.nfc_bench.proofs.Legality.{ready_again}
