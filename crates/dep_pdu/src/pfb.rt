@@ -1,0 +1,49 @@
+//! The control byte of a DEP frame.
+
+ghost use Rattle.std.specs.Prelude.{◌≡◌, Some, None};
+ghost use Rattle.dep_pdu.specs.Reading.{pfb_of};
+
+/// The PFB bytes, without the PNI in bits 1 and 0.
+pub(crate) const INFORMATION: u8 = 0x00;
+
+pub(crate) const MORE_INFORMATION: u8 = 0x10;
+
+pub(crate) const ACK: u8 = 0x40;
+
+pub(crate) const NACK: u8 = 0x50;
+
+pub(crate) const ATTENTION: u8 = 0x80;
+
+pub(crate) const EXTENSION: u8 = 0x90;
+
+/// What a PFB says. No bit of it names a device or a node.
+#[derive(Clone, Copy, Debug, PartialEq, Eq)]
+pub enum Pfb {
+    Information { more: bool, pni: u8 },
+    Ack { pni: u8 },
+    Nack { pni: u8 },
+    Attention,
+    Extension,
+}
+
+impl Pfb {
+    /// What a PFB says, `None` where reserved bits stand in it.
+    pub fn read(byte: u8) -> Option<Pfb>
+        ensures { result ≡ pfb_of byte }
+    {
+        if byte == ATTENTION {
+            return Some(Pfb::Attention);
+        }
+        if byte == EXTENSION {
+            return Some(Pfb::Extension);
+        }
+        let pni = byte % 4;
+        match byte - pni {
+            INFORMATION => Some(Pfb::Information { more: false, pni }),
+            MORE_INFORMATION => Some(Pfb::Information { more: true, pni }),
+            ACK => Some(Pfb::Ack { pni }),
+            NACK => Some(Pfb::Nack { pni }),
+            _ => None,
+        }
+    }
+}
