@@ -6,7 +6,7 @@ use Rattle.dep_pdu.specs.declared.frame.DepFrame.TheVariants.{AtrReq, AtrRes, In
 use Rattle.dep_pdu.specs.declared.pfb.Pfb.{Pfb}
 use Rattle.dep_pdu.specs.declared.pfb.Pfb.TheVariants.{Information, Ack as AckPfb, Nack as NackPfb}
 use Rattle.dep_pdu.specs.Numbers.{start_byte, request, answer, atr_req, atr_res, dep_req, dep_res, information, more_information, ack, nack, attention, extension, no_did, general_follow, most_times, most_content}
-use Rattle.dep_pdu.specs.Spelling.{Open, pp_byte, pfb_byte, dep_head, body, framed, IsDepFrame, general_of, DepSpelling}
+use Rattle.dep_pdu.specs.Spelling.{Open, pp_byte, pfb_byte, dep_head, body, framed, IsDepFrame, general_of, DepSpelling, plain, written}
 use Rattle.dep_pdu.specs.Reading.{dep_refusal, frame_of, head, is_pp, pfb_of, byte, spelled_frame, unless}
 
 pub pfb_of_information : (pni : ℕ) → pni < 4 → pfb_of (pfb_byte information pni) ≡ Some (Information false pni)
@@ -120,3 +120,20 @@ one_frame b v w s t =
     let p : spelled_frame b ≡ Some v = spelled v b s in
     let q : spelled_frame b ≡ Some w = spelled w b t in
     cc
+
+-- what is written of a value in range spells it
+pub written_spells : (v : DepFrame) → IsDepFrame v → DepSpelling v (written v)
+written_spells v range =
+    record {
+      range = range;
+      open_bytes = plain v;
+      announced = λ more. is_below more;
+      bytes = refl;
+    }
+  where
+    is_below : 0 < length (general_of v) → nat_lt 0 (length (general_of v)) ≡ true
+    is_below more = grind arith
+
+-- and is read as it
+pub written_back : (v : DepFrame) → IsDepFrame v → spelled_frame (written v) ≡ Some v
+written_back v range = spelled v (written v) (written_spells v range)

@@ -1,10 +1,14 @@
 //! The frames of NFC-DEP.
 
-ghost use Rattle.std.specs.Prelude.{◌≡◌, ◌↔◌, Some, None};
+ghost use Rattle.std.specs.Prelude.{◌≡◌, ◌↔◌, Ok, Err, Some, None};
 ghost use Rattle.dep_pdu.specs.Reading.{dep_refusal, spelled_frame, told};
+ghost use Rattle.dep_pdu.specs.Spelling.{DepSpelling, IsDepFrame, written};
+ghost use Rattle.dep_pdu.specs.declared.frame.DepFrame.{DepFrame};
+ghost use Rattle.dep_pdu.specs.declared.refusal.DepRefusal.{DepRefusal};
 
 use crate::read::read_frame;
 use crate::refusal::DepRefusal;
+use crate::write::write_frame;
 use arrayvec::ArrayVec;
 
 /// A frame of NFC-DEP (NFCIP-1, ISO/IEC 18092; NFC Forum Digital Protocol). `up` is true from target to initiator.
@@ -49,11 +53,22 @@ pub enum DepFrame {
 }
 
 impl DepFrame {
-    /// The frame that some bytes spell, or their first fault.
+    /// The frame that some bytes spell, or their first fault. It takes no memory.
     pub fn read_from(bytes: &[u8]) -> Result<DepFrame, DepRefusal>
+        ensures ok { (v : DepFrame) → ((result ≡ Ok v) ↔ DepSpelling v bytes.now) }
         ensures err { (r : DepRefusal) → ((result ≡ Err r) ↔ (dep_refusal bytes.now ≡ Some r)) }
         ensures reads { told result ≡ spelled_frame bytes.now }
     {
         read_frame(bytes)
+    }
+
+    /// The bytes that spell it, with BS and BR 00h, and 02h in PP just where general bytes follow. Of an LR code or a
+    /// PNI above 3 the two low bits are written. It takes no memory.
+    pub fn to_bytes(&self) -> ArrayVec<u8, 256>
+        ensures bytes { result.items ≡ written self.now }
+        ensures exact { IsDepFrame self.now → DepSpelling self.now result.items }
+        ensures back { IsDepFrame self.now → spelled_frame result.items ≡ Some self.now }
+    {
+        write_frame(self)
     }
 }

@@ -1,6 +1,7 @@
 //! The control byte of a DEP frame.
 
-ghost use Rattle.std.specs.Prelude.{◌≡◌, Some, None};
+ghost use Rattle.std.specs.Prelude.{◌≡◌, ◌<◌, Some, None};
+ghost use Rattle.dep_pdu.specs.Spelling.{pfb_byte};
 ghost use Rattle.dep_pdu.specs.Reading.{pfb_of};
 
 /// The PFB bytes, without the PNI in bits 1 and 0.
@@ -46,4 +47,12 @@ impl Pfb {
             _ => None,
         }
     }
+}
+
+/// A PFB of this sort with a PNI.
+pub(crate) fn numbered(sort: u8, pni: u8) -> u8
+    requires { sort < 0xFC }
+    ensures { result ≡ pfb_byte sort pni }
+{
+    sort + pni % 4
 }
