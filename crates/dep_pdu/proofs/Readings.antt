@@ -10,7 +10,8 @@ use Rattle.dep_pdu.specs.declared.pfb.Pfb.TheVariants.{Information, Ack as AckPf
 use Rattle.dep_pdu.specs.Numbers.{start_byte, request, answer, atr_req, atr_res, dep_req, dep_res, dsl_req, dsl_res, rls_req, rls_res, information, more_information, ack, nack, attention, extension, no_did, general_follow, most_times, most_content}
 use Rattle.dep_pdu.specs.Spelling.{Open, pp_byte, pfb_byte, dep_head, body, framed, IsDepFrame, general_of, DepSpelling}
 use Rattle.dep_pdu.specs.declared.refusal.DepRefusal.{DepRefusal}
-use Rattle.dep_pdu.specs.Reading.{dep_refusal, frame_of, atr_frame, dep_frame, head, head_of, is_pp, pfb_of, byte, spelled_frame, unless, told}
+use Rattle.dep_pdu.specs.Refusal.{dep_refusal, head, head_of, is_pp, pfb_of, byte}
+use Rattle.dep_pdu.specs.Reading.{frame_of, atr_frame, dep_frame, spelled_frame, unless, told}
 use Rattle.dep_pdu.proofs.Spelled.{spelled}
 
 -- the direction and command bytes that a head stands for

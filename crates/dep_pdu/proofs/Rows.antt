@@ -4,7 +4,8 @@ use Rattle.dep_pdu.specs.declared.frame.DepFrame.{DepFrame}
 use Rattle.dep_pdu.specs.declared.refusal.DepRefusal.{DepRefusal}
 use Rattle.dep_pdu.specs.declared.refusal.DepKind.{DepKind}
 use Rattle.dep_pdu.specs.declared.refusal.DepKind.TheVariants.{Short, Command}
-use Rattle.dep_pdu.specs.Reading.{Fault, fault, first, Tells, told, unless}
+use Rattle.dep_pdu.specs.Refusal.{Fault, fault, first}
+use Rattle.dep_pdu.specs.Reading.{Tells, told, unless}
 
 pub not_below : (n k : ℕ) → k ≤ n → nat_lt n k ≡ false
 not_below n k h = grind arith

@@ -7,7 +7,8 @@ use Rattle.dep_pdu.specs.declared.pfb.Pfb.{Pfb}
 use Rattle.dep_pdu.specs.declared.pfb.Pfb.TheVariants.{Information, Ack as AckPfb, Nack as NackPfb}
 use Rattle.dep_pdu.specs.Numbers.{start_byte, request, answer, atr_req, atr_res, dep_req, dep_res, information, more_information, ack, nack, attention, extension, no_did, general_follow, most_times, most_content}
 use Rattle.dep_pdu.specs.Spelling.{Open, pp_byte, pfb_byte, dep_head, body, framed, IsDepFrame, general_of, DepSpelling, plain, written}
-use Rattle.dep_pdu.specs.Reading.{dep_refusal, frame_of, head, is_pp, pfb_of, byte, spelled_frame, unless}
+use Rattle.dep_pdu.specs.Refusal.{dep_refusal, head, is_pp, pfb_of, byte}
+use Rattle.dep_pdu.specs.Reading.{frame_of, spelled_frame, unless}
 
 pub pfb_of_information : (pni : ℕ) → pni < 4 → pfb_of (pfb_byte information pni) ≡ Some (Information false pni)
 pfb_of_information pni h = grind (arith, common_steps)

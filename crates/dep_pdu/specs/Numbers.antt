@@ -1,5 +1,5 @@
 -- The numbers of NFC-DEP frames (NFCIP-1, which is ISO/IEC 18092; NFC Forum Digital Protocol), and those of the refusals.
-use Rattle.std.specs.Prelude.{ℕ}
+use Rattle.std.specs.Prelude.{ℕ, Bool, if◌then◌else◌}
 use Rattle.dep_pdu.specs.declared.refusal.DepKind.{DepKind}
 use Rattle.dep_pdu.specs.declared.refusal.DepKind.TheVariants.{Start, Length, Short, Direction, Command, Field, Trailing}
 
@@ -58,9 +58,9 @@ attention = 0x80
 abbrev pub extension : ℕ
 extension = 0x90
 
--- the device identifier: none is given
+-- DID where no device identifier is given, which is always so here
 abbrev pub no_did : ℕ
-no_did = 0
+no_did = 0x00
 
 -- the bit of PP that announces general bytes
 abbrev pub general_follow : ℕ
@@ -84,6 +84,38 @@ most_content = 251
 -- the most times that an extension may ask for the waiting time
 abbrev pub most_times : ℕ
 most_times = 59
+
+-- Places in a frame, counted from F0h: of LEN, the direction and command bytes and the end of these two; of NFCID3 and
+-- DID; of TO in ATR_RES; of PP, up in ATR_RES; of the PFB, and of the byte of an extension.
+abbrev pub len_place : ℕ
+len_place = 1
+
+abbrev pub direction_place : ℕ
+direction_place = 2
+
+abbrev pub command_place : ℕ
+command_place = 3
+
+abbrev pub head_end : ℕ
+head_end = 4
+
+abbrev pub id_place : ℕ
+id_place = 4
+
+abbrev pub did_place : ℕ
+did_place = 14
+
+abbrev pub timeout_place : ℕ
+timeout_place = 17
+
+abbrev pub pp_place : Bool → ℕ
+pp_place up = if up then 18 else 17
+
+abbrev pub pfb_place : ℕ
+pfb_place = 4
+
+abbrev pub times_place : ℕ
+times_place = 5
 
 abbrev pub dep_kind_number : DepKind → ℕ
 dep_kind_number Start = 1

@@ -1,19 +1,22 @@
 //! DEP_REQ and DEP_RES, which carry the payloads.
 
-ghost use Rattle.std.specs.Prelude.{◌≡◌, ◌≤◌, ◌&&◌, [], ◌∷◌, Some, Bool, not, nat_lt, nat_le, length, drop, slice_index};
-ghost use Rattle.dep_pdu.specs.Reading.{IsHeaded, Tells, named_faults, frame_of, fault};
-ghost use Rattle.dep_pdu.specs.Numbers.{most_times};
-ghost use Rattle.dep_pdu.specs.declared.refusal.DepKind.TheVariants.{Short, Field, Trailing};
-ghost use Rattle.dep_pdu.specs.declared.frame.DepFrame.TheVariants.{Extend};
+ghost use Rattle.std.specs.Prelude.{◌≡◌, ◌≤◌, ◌+◌, ◌∷◌, ◌++◌, Some, Bool, length, drop, List};
+ghost use Rattle.dep_pdu.specs.Numbers.{pfb_place};
+ghost use Rattle.dep_pdu.specs.Spelling.{framed, dep_head};
+ghost use Rattle.dep_pdu.specs.Refusal.{pfb};
+ghost use Rattle.dep_pdu.specs.Reading.{IsHeaded, TellsNamed};
 ghost use Rattle.dep_pdu.specs.declared.head.Head.TheVariants.{Dep};
+ghost use Rattle.dep_pdu.specs.declared.pfb.Pfb.TheVariants.{Extension as ExtensionPfb};
 
 use crate::frame::DepFrame;
+use crate::head::{ANSWER, DEP_REQ, DEP_RES, REQUEST};
 use crate::pfb::Pfb;
 use crate::read::alone;
 use crate::refusal::{DepKind, DepRefusal};
+use crate::write::framed;
 use arrayvec::ArrayVec;
 
-/// Where the PFB stands, and the byte of an extension behind it.
+/// Where the PFB stands, and behind it the byte of an extension.
 const PFB_PLACE: usize = 4;
 
 const TIMES_PLACE: usize = 5;
@@ -21,10 +24,9 @@ const TIMES_PLACE: usize = 5;
 /// The most times that an extension may ask for the waiting time.
 const MOST_TIMES: u8 = 59;
 
-/// What follows the direction and command bytes of a DEP frame.
 pub(crate) fn read_dep(up: bool, bytes: &[u8]) -> Result<DepFrame, DepRefusal>
     requires { IsHeaded bytes.now }
-    ensures { Tells result (named_faults (Some (Dep up)) bytes.now) (frame_of (Some (Dep up)) bytes.now) }
+    ensures { TellsNamed result (Some (Dep up)) bytes.now }
 {
     if bytes.len() <= PFB_PLACE {
         return Err(DepRefusal::at(bytes.len(), DepKind::Short));
@@ -46,9 +48,9 @@ pub(crate) fn read_dep(up: bool, bytes: &[u8]) -> Result<DepFrame, DepRefusal>
 
 /// The content of an information frame.
 fn content_of(bytes: &[u8]) -> ArrayVec<u8, 251>
-    requires least { 5 ≤ length bytes.now }
+    requires least { pfb_place + 1 ≤ length bytes.now }
     requires most { length bytes.now ≤ 256 }
-    ensures { result.items ≡ drop 5 bytes.now }
+    ensures { result.items ≡ drop (pfb_place + 1) bytes.now }
 {
     let mut content = ArrayVec::new();
     content
@@ -58,8 +60,9 @@ fn content_of(bytes: &[u8]) -> ArrayVec<u8, 251>
 }
 
 fn read_extension(up: bool, bytes: &[u8]) -> Result<DepFrame, DepRefusal>
-    requires { length bytes.now ≤ 256 }
-    ensures { Tells result (fault (nat_lt (length bytes.now) 6) (length bytes.now) Short ∷ fault (not (nat_le 1 (slice_index bytes.now 5) && nat_le (slice_index bytes.now 5) most_times)) 5 Field ∷ fault (nat_lt 6 (length bytes.now)) 6 Trailing ∷ []) (Some (Extend up (slice_index bytes.now 5))) }
+    requires head { IsHeaded bytes.now }
+    requires extension { pfb bytes.now ≡ Some ExtensionPfb }
+    ensures { TellsNamed result (Some (Dep up)) bytes.now }
 {
     if bytes.len() <= TIMES_PLACE {
         return Err(DepRefusal::at(bytes.len(), DepKind::Short));
@@ -69,4 +72,21 @@ fn read_extension(up: bool, bytes: &[u8]) -> Result<DepFrame, DepRefusal>
         return Err(DepRefusal::at(TIMES_PLACE, DepKind::Field));
     }
     alone(bytes, TIMES_PLACE + 1, DepFrame::Extend { up, times })
+}
+
+/// The bytes of a DEP frame.
+pub(crate) fn dep_bytes(up: bool, pfb: u8, content: &[u8]) -> ArrayVec<u8, 256>
+    requires { length content.now ≤ 251 }
+    ensures { result.items ≡ framed (dep_head up ++ pfb ∷ content.now) }
+{
+    let head = if up {
+        [ANSWER, DEP_RES]
+    } else {
+        [REQUEST, DEP_REQ]
+    };
+    let mut body: ArrayVec<u8, 254> = ArrayVec::new();
+    body.try_extend_from_slice(&head).unwrap();
+    body.push(pfb);
+    body.try_extend_from_slice(content).unwrap();
+    framed(&body)
 }

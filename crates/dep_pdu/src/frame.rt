@@ -1,7 +1,8 @@
 //! The frames of NFC-DEP.
 
 ghost use Rattle.std.specs.Prelude.{◌≡◌, ◌↔◌, Ok, Err, Some, None};
-ghost use Rattle.dep_pdu.specs.Reading.{dep_refusal, spelled_frame, told};
+ghost use Rattle.dep_pdu.specs.Refusal.{dep_refusal};
+ghost use Rattle.dep_pdu.specs.Reading.{spelled_frame, told};
 ghost use Rattle.dep_pdu.specs.Spelling.{DepSpelling, IsDepFrame, written};
 ghost use Rattle.dep_pdu.specs.declared.frame.DepFrame.{DepFrame};
 ghost use Rattle.dep_pdu.specs.declared.refusal.DepRefusal.{DepRefusal};

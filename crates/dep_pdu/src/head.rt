@@ -1,14 +1,14 @@
 //! The direction and command bytes.
 
 ghost use Rattle.std.specs.Prelude.{◌≡◌, Some, None, IfSome, true};
-ghost use Rattle.dep_pdu.specs.Reading.{head_of, is_direction};
+ghost use Rattle.dep_pdu.specs.Refusal.{head_of, is_direction};
 
 /// The direction bytes: from initiator to target, and back.
 pub(crate) const REQUEST: u8 = 0xD4;
 
 pub(crate) const ANSWER: u8 = 0xD5;
 
-/// The command bytes.
+/// The command bytes; that of an answer is one more than that of its request.
 pub(crate) const ATR_REQ: u8 = 0x00;
 
 pub(crate) const ATR_RES: u8 = 0x01;
@@ -25,9 +25,16 @@ pub(crate) const RLS_REQ: u8 = 0x0A;
 
 pub(crate) const RLS_RES: u8 = 0x0B;
 
-/// What the direction and command bytes name; `up` is true from target to initiator.
+/// Where both stand, and where they end.
+pub(crate) const DIRECTION_PLACE: usize = 2;
+
+pub(crate) const COMMAND_PLACE: usize = 3;
+
+pub(crate) const HEAD_END: usize = 4;
+
+/// What both name; `up` is true from target to initiator.
 #[derive(Clone, Copy, Debug, PartialEq, Eq)]
-pub enum Head {
+pub(crate) enum Head {
     Atr { up: bool },
     Dep { up: bool },
     Dsl { up: bool },
@@ -35,8 +42,8 @@ pub enum Head {
 }
 
 impl Head {
-    /// What a direction byte and a command byte name, `None` where they name nothing.
-    pub fn read(direction: u8, command: u8) -> Option<Head>
+    /// What a direction byte and a command byte name, `None` where they name no frame.
+    pub(crate) fn read(direction: u8, command: u8) -> Option<Head>
         ensures reads { result ≡ head_of direction command }
         ensures direction { IfSome result (λ h. is_direction direction ≡ true) }
     {

@@ -2,7 +2,7 @@
 
 ghost use Rattle.std.specs.Prelude.{◌≡◌, ◌<◌, Some, None};
 ghost use Rattle.dep_pdu.specs.Spelling.{pfb_byte};
-ghost use Rattle.dep_pdu.specs.Reading.{pfb_of};
+ghost use Rattle.dep_pdu.specs.Refusal.{pfb_of};
 
 /// The PFB bytes, without the PNI in bits 1 and 0.
 pub(crate) const INFORMATION: u8 = 0x00;
@@ -17,9 +17,9 @@ pub(crate) const ATTENTION: u8 = 0x80;
 
 pub(crate) const EXTENSION: u8 = 0x90;
 
-/// What a PFB says. No bit of it names a device or a node.
+/// What a PFB says. The bits that would announce a device or node address are reserved here.
 #[derive(Clone, Copy, Debug, PartialEq, Eq)]
-pub enum Pfb {
+pub(crate) enum Pfb {
     Information { more: bool, pni: u8 },
     Ack { pni: u8 },
     Nack { pni: u8 },
@@ -29,7 +29,7 @@ pub enum Pfb {
 
 impl Pfb {
     /// What a PFB says, `None` where reserved bits stand in it.
-    pub fn read(byte: u8) -> Option<Pfb>
+    pub(crate) fn read(byte: u8) -> Option<Pfb>
         ensures { result ≡ pfb_of byte }
     {
         if byte == ATTENTION {

@@ -1,19 +1,15 @@
 //! The bytes of a frame.
 
-ghost use Rattle.std.specs.Prelude.{◌≡◌, ◌≤◌, ◌+◌, ◌∷◌, ◌++◌, [], nat_lt, length, List};
-ghost use Rattle.dep_pdu.specs.Spelling.{framed, pp_byte, dep_head, written};
+ghost use Rattle.std.specs.Prelude.{◌≡◌, ◌≤◌, length};
+ghost use Rattle.dep_pdu.specs.Spelling.{framed, written};
 
-use crate::atr::{GENERAL_FOLLOW, NO_DID};
+use crate::atr::{NO_DID, NO_RATE, atr_bytes, pp};
+use crate::dep::dep_bytes;
 use crate::frame::DepFrame;
-use crate::head::{
-    ANSWER, ATR_REQ, ATR_RES, DEP_REQ, DEP_RES, DSL_REQ, DSL_RES, REQUEST, RLS_REQ, RLS_RES,
-};
+use crate::head::{ANSWER, ATR_REQ, ATR_RES, DSL_REQ, DSL_RES, REQUEST, RLS_REQ, RLS_RES};
 use crate::pfb::{ACK, ATTENTION, EXTENSION, INFORMATION, MORE_INFORMATION, NACK, numbered};
 use crate::read::START;
 use arrayvec::ArrayVec;
-
-/// BS and BR: no bit rate but the one in use.
-const NO_RATE: u8 = 0;
 
 pub(crate) fn write_frame(frame: &DepFrame) -> ArrayVec<u8, 256>
     ensures { result.items ≡ written frame.now }
@@ -60,7 +56,7 @@ pub(crate) fn write_frame(frame: &DepFrame) -> ArrayVec<u8, 256>
 }
 
 /// A frame of these bytes behind LEN.
-fn framed(body: &[u8]) -> ArrayVec<u8, 256>
+pub(crate) fn framed(body: &[u8]) -> ArrayVec<u8, 256>
     requires { length body.now ≤ 254 }
     ensures { result.items ≡ framed body.now }
 {
@@ -69,41 +65,4 @@ fn framed(body: &[u8]) -> ArrayVec<u8, 256>
     bytes.push((body.len() + 1) as u8);
     bytes.try_extend_from_slice(body).unwrap();
     bytes
-}
-
-fn dep_bytes(up: bool, pfb: u8, content: &[u8]) -> ArrayVec<u8, 256>
-    requires { length content.now ≤ 251 }
-    ensures { result.items ≡ framed (dep_head up ++ pfb ∷ content.now) }
-{
-    let head = if up { [ANSWER, DEP_RES] } else { [REQUEST, DEP_REQ] };
-    let mut body: ArrayVec<u8, 254> = ArrayVec::new();
-    body.try_extend_from_slice(&head).unwrap();
-    body.push(pfb);
-    body.try_extend_from_slice(content).unwrap();
-    framed(&body)
-}
-
-/// `fixed` is from DID to PP.
-fn atr_bytes(head: [u8; 2], id: [u8; 10], fixed: &[u8], general: &[u8]) -> ArrayVec<u8, 256>
-    requires { length fixed.now + length general.now ≤ 52 }
-    ensures { result.items ≡ framed (head ++ id ++ fixed.now ++ general.now) }
-{
-    let mut body: ArrayVec<u8, 64> = ArrayVec::new();
-    body.try_extend_from_slice(&head).unwrap();
-    body.try_extend_from_slice(&id).unwrap();
-    body.try_extend_from_slice(fixed).unwrap();
-    body.try_extend_from_slice(general).unwrap();
-    framed(&body)
-}
-
-/// PP announces general bytes where there are any.
-fn pp(lr: u8, general: &[u8]) -> u8
-    ensures { result ≡ pp_byte lr (nat_lt 0 (length general.now)) }
-{
-    let mark = if general.is_empty() {
-        0
-    } else {
-        GENERAL_FOLLOW
-    };
-    lr % 4 * 16 + mark
 }

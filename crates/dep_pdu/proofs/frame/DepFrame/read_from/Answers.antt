@@ -1,5 +1,6 @@
 use Rattle.std.proofs.Common.{ℕ, List}
-use Rattle.dep_pdu.specs.Reading.{dep_faults, frame_of, head}
+use Rattle.dep_pdu.specs.Refusal.{dep_faults, head}
+use Rattle.dep_pdu.specs.Reading.{frame_of}
 use Rattle.dep_pdu.proofs.Readings.{exact}
 use Rattle.dep_pdu.proofs.Rows.{told_by}
 use Rattle.dep_pdu.proofs.frame.DepFrame.read_from.Goals as goal
