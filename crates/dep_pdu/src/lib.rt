@@ -17,3 +17,6 @@ mod write;
 
 pub use frame::DepFrame;
 pub use refusal::{DepKind, DepRefusal};
+
+#[cfg(test)]
+mod tests;
