@@ -7,7 +7,7 @@ use Rattle.dep_pdu.specs.declared.head.Head.{Head}
 use Rattle.dep_pdu.specs.declared.head.Head.TheVariants.{Atr, Dep, Dsl, Rls}
 use Rattle.dep_pdu.specs.declared.pfb.Pfb.{Pfb}
 use Rattle.dep_pdu.specs.declared.pfb.Pfb.TheVariants.{Information, Ack as AckPfb, Nack as NackPfb, Attention as AttentionPfb, Extension as ExtensionPfb}
-use Rattle.dep_pdu.specs.Numbers.{id_size, id_place, timeout_place, pp_place, pfb_place, times_place, direction_place}
+use Rattle.dep_pdu.specs.Numbers.{id_size, id_place, timeout_place, pp_place, pfb_place, times_place, direction_place, head_end}
 use Rattle.dep_pdu.specs.Refusal.{Fault, first, byte, head, pfb, is_direction, named_faults, dep_refusal}
 
 -- ATR_REQ or ATR_RES, where no fault stands
@@ -58,6 +58,6 @@ TellsNamed r h b = Tells r (named_faults h b) (frame_of h b)
 
 -- Bytes on which no row on any bytes stands, with a direction byte. LEN is at most 255.
 pub record IsHeaded (b : List ℕ) : Type 0 where
-  pub whole : 4 ≤ length b
+  pub whole : head_end ≤ length b
   pub bound : length b ≤ 256
   pub direction : is_direction (byte b direction_place) ≡ true

@@ -12,21 +12,25 @@ use crate::refusal::DepRefusal;
 use crate::write::write_frame;
 use arrayvec::ArrayVec;
 
-/// A frame of NFC-DEP (NFCIP-1, ISO/IEC 18092; NFC Forum Digital Protocol). `up` is true from target to initiator.
-/// LR codes and PNIs are 0 to 3, an extension asks for 1 to 59 times the waiting time.
+/// A frame of NFC-DEP (NFCIP-1, ISO/IEC 18092; NFC Forum Digital Protocol). `up` is true from target to initiator, and a
+/// PNI is 0 to 3.
 #[derive(Clone, Debug, Drop, PartialEq, Eq)]
 pub enum DepFrame {
+    /// A link begins: the initiator's NFCID3, the code of the longest frames that it takes, 0 to 3 for 64, 128, 192 and
+    /// 254 bytes, and its general bytes.
     AtrReq {
         id: [u8; 10],
         lr: u8,
         general: ArrayVec<u8, 48>,
     },
+    /// The target's answer, with the code of its waiting time.
     AtrRes {
         id: [u8; 10],
         timeout: u8,
         lr: u8,
         general: ArrayVec<u8, 47>,
     },
+    /// A piece of a payload; `more` pieces follow it.
     Info {
         up: bool,
         more: bool,
@@ -37,18 +41,22 @@ pub enum DepFrame {
         up: bool,
         pni: u8,
     },
+    /// The initiator heard a damaged answer. A target sends none.
     Nack {
         pni: u8,
     },
     Attention {
         up: bool,
     },
+    /// 1 to 59 times the waiting time.
     Extend {
         up: bool,
         times: u8,
     },
+    /// The target is put to sleep.
     DslReq,
     DslRes,
+    /// The target is let go.
     RlsReq,
     RlsRes,
 }

@@ -5,7 +5,7 @@ ghost use Rattle.dep_pdu.specs.Numbers.{dep_kind_number};
 
 use thiserror::Error;
 
-/// The kinds of faults. Which of them is told first is this project's own.
+/// The kinds of faults, in the order in which they are looked for. Kinds and order are this project's own.
 #[derive(Clone, Copy, Debug, PartialEq, Eq, Error)]
 pub enum DepKind {
     #[error("the first byte isn't F0h")]
@@ -33,7 +33,7 @@ impl DepKind {
     }
 }
 
-/// The first fault of some bytes, and its place, counted from 0. `Short` stands behind the last byte.
+/// The first fault of some bytes, and its place, counted from F0h as 0. That of `Short` is behind the last byte.
 #[derive(Clone, Copy, Debug, PartialEq, Eq, Error)]
 #[error("{kind}, at byte {place}")]
 pub struct DepRefusal {
