@@ -1,17 +1,11 @@
 -- Bytes that are read as ATR_REQ or ATR_RES spell it.
-use Rattle.std.proofs.Common.{◌≡◌, ℕ, zero, suc, ◌+◌, ◌-◌, ◌*◌, ◌/◌, ◌%◌, ◌<◌, ◌≤◌, nat_lt, nat_le, List, [], ◌∷◌, ◌++◌, length, Bool, true, false, not, ◌&&◌, ◌||◌, ◌==◌, Option, Some, None, Result, Ok, Err, ◌↔◌, if◌then◌else◌, refl, ap, sym, subst, ◌∙◌, arith, rules}
+use Rattle.std.proofs.Common.{◌≡◌, ℕ, ◌+◌, ◌/◌, ◌%◌, ◌<◌, ◌≤◌, List, [], ◌∷◌, length, Bool, true, false, ◌==◌, None, if◌then◌else◌, refl, arith}
 use Rattle.std.proofs.lemmas.Grind.{common_steps}
-use Rattle.dep_pdu.specs.declared.frame.DepFrame.{DepFrame}
-use Rattle.dep_pdu.specs.declared.frame.DepFrame.TheVariants.{AtrReq, AtrRes, Info, Ack, Nack, Attention, Extend, DslReq, DslRes, RlsReq, RlsRes}
-use Rattle.dep_pdu.specs.declared.refusal.DepRefusal.{DepRefusal}
-use Rattle.dep_pdu.specs.declared.head.Head.{Head}
-use Rattle.dep_pdu.specs.declared.head.Head.TheVariants.{Atr, Dep, Dsl, Rls}
-use Rattle.dep_pdu.specs.declared.pfb.Pfb.{Pfb}
-use Rattle.dep_pdu.specs.declared.pfb.Pfb.TheVariants.{Information, Ack as AckPfb, Nack as NackPfb, Attention as AttentionPfb, Extension as ExtensionPfb}
-use Rattle.dep_pdu.specs.Numbers.{start_byte, request, answer, atr_req, atr_res, dep_req, dep_res, dsl_req, dsl_res, rls_req, rls_res, information, more_information, ack, nack, attention, extension, no_did, general_follow, most_times, most_content}
-use Rattle.dep_pdu.specs.Spelling.{Open, pp_byte, pfb_byte, dep_head, body, framed, IsDepFrame, general_of, DepSpelling}
-use Rattle.dep_pdu.specs.Refusal.{dep_refusal, head, head_of, is_pp, pfb_of, byte}
-use Rattle.dep_pdu.specs.Reading.{frame_of, atr_frame, dep_frame, spelled_frame, unless, told}
+use Rattle.dep_pdu.specs.declared.frame.DepFrame.TheVariants.{AtrReq, AtrRes}
+use Rattle.dep_pdu.specs.Numbers.{start_byte, request, answer, atr_req, atr_res, no_did, general_follow}
+use Rattle.dep_pdu.specs.Spelling.{Open, pp_byte, DepSpelling}
+use Rattle.dep_pdu.specs.Refusal.{dep_refusal, is_pp}
+use Rattle.dep_pdu.specs.Reading.{atr_frame}
 use Rattle.dep_pdu.proofs.Named.{pp_of, start_of, len_of}
 
 -- the fixed bytes are there
@@ -32,12 +26,12 @@ open_by bs br pp = record { bs = bs; br = br; marked = pp % 16 == general_follow
 req_spelled : (s l a b c d e f g h i j did bs br pp : ℕ) (general : List ℕ)
     → dep_refusal (s ∷ l ∷ request ∷ atr_req ∷ a ∷ b ∷ c ∷ d ∷ e ∷ f ∷ g ∷ h ∷ i ∷ j ∷ did ∷ bs ∷ br ∷ pp ∷ general) ≡ None
     → DepSpelling (AtrReq (a ∷ b ∷ c ∷ d ∷ e ∷ f ∷ g ∷ h ∷ i ∷ j ∷ []) (pp / 16) (record { items = general }))
-        (s ∷ l ∷ request ∷ atr_req ∷ a ∷ b ∷ c ∷ d ∷ e ∷ f ∷ g ∷ h ∷ i ∷ j ∷ did ∷ bs ∷ br ∷ pp ∷ general)
+    (s ∷ l ∷ request ∷ atr_req ∷ a ∷ b ∷ c ∷ d ∷ e ∷ f ∷ g ∷ h ∷ i ∷ j ∷ did ∷ bs ∷ br ∷ pp ∷ general)
 unfolding open_by
 req_spelled s l a b c d e f g h i j did bs br pp general clean =
     let start : s ≡ start_byte = start_of s l request atr_req (a ∷ b ∷ c ∷ d ∷ e ∷ f ∷ g ∷ h ∷ i ∷ j ∷ did ∷ bs ∷ br ∷ pp ∷ general) clean in
     let len : l ≡ length (request ∷ atr_req ∷ a ∷ b ∷ c ∷ d ∷ e ∷ f ∷ g ∷ h ∷ i ∷ j ∷ no_did ∷ bs ∷ br ∷ pp_byte (pp / 16) (pp % 16 == general_follow) ∷ general) + 1 =
-      len_of s l request atr_req (a ∷ b ∷ c ∷ d ∷ e ∷ f ∷ g ∷ h ∷ i ∷ j ∷ did ∷ bs ∷ br ∷ pp ∷ general) clean in
+    len_of s l request atr_req (a ∷ b ∷ c ∷ d ∷ e ∷ f ∷ g ∷ h ∷ i ∷ j ∷ did ∷ bs ∷ br ∷ pp ∷ general) clean in
     let none : did ≡ no_did = grind (arith, common_steps) in
     let only : is_pp pp ≡ true = grind (arith, common_steps) in
     let whole : pp ≡ pp_byte (pp / 16) (pp % 16 == general_follow) = pp_of pp only in
@@ -55,12 +49,12 @@ fifteen P q _ l = absurd (omega (arith, l))
 res_spelled : (s l a b c d e f g h i j did bs br timeout pp : ℕ) (general : List ℕ)
     → dep_refusal (s ∷ l ∷ answer ∷ atr_res ∷ a ∷ b ∷ c ∷ d ∷ e ∷ f ∷ g ∷ h ∷ i ∷ j ∷ did ∷ bs ∷ br ∷ timeout ∷ pp ∷ general) ≡ None
     → DepSpelling (AtrRes (a ∷ b ∷ c ∷ d ∷ e ∷ f ∷ g ∷ h ∷ i ∷ j ∷ []) timeout (pp / 16) (record { items = general }))
-        (s ∷ l ∷ answer ∷ atr_res ∷ a ∷ b ∷ c ∷ d ∷ e ∷ f ∷ g ∷ h ∷ i ∷ j ∷ did ∷ bs ∷ br ∷ timeout ∷ pp ∷ general)
+    (s ∷ l ∷ answer ∷ atr_res ∷ a ∷ b ∷ c ∷ d ∷ e ∷ f ∷ g ∷ h ∷ i ∷ j ∷ did ∷ bs ∷ br ∷ timeout ∷ pp ∷ general)
 unfolding open_by
 res_spelled s l a b c d e f g h i j did bs br timeout pp general clean =
     let start : s ≡ start_byte = start_of s l answer atr_res (a ∷ b ∷ c ∷ d ∷ e ∷ f ∷ g ∷ h ∷ i ∷ j ∷ did ∷ bs ∷ br ∷ timeout ∷ pp ∷ general) clean in
     let len : l ≡ length (answer ∷ atr_res ∷ a ∷ b ∷ c ∷ d ∷ e ∷ f ∷ g ∷ h ∷ i ∷ j ∷ no_did ∷ bs ∷ br ∷ timeout ∷ pp_byte (pp / 16) (pp % 16 == general_follow) ∷ general) + 1 =
-      len_of s l answer atr_res (a ∷ b ∷ c ∷ d ∷ e ∷ f ∷ g ∷ h ∷ i ∷ j ∷ did ∷ bs ∷ br ∷ timeout ∷ pp ∷ general) clean in
+    len_of s l answer atr_res (a ∷ b ∷ c ∷ d ∷ e ∷ f ∷ g ∷ h ∷ i ∷ j ∷ did ∷ bs ∷ br ∷ timeout ∷ pp ∷ general) clean in
     let none : did ≡ no_did = grind (arith, common_steps) in
     let only : is_pp pp ≡ true = grind (arith, common_steps) in
     let whole : pp ≡ pp_byte (pp / 16) (pp % 16 == general_follow) = pp_of pp only in
@@ -76,7 +70,7 @@ pub atr_spelled : (up : Bool) (s l : ℕ) (rest : List ℕ) → dep_refusal (s �
     → DepSpelling (atr_frame up (s ∷ l ∷ (if up then answer else request) ∷ (if up then atr_res else atr_req) ∷ rest)) (s ∷ l ∷ (if up then answer else request) ∷ (if up then atr_res else atr_req) ∷ rest)
 atr_spelled false s l rest clean =
     fourteen (λ rest. dep_refusal (s ∷ l ∷ request ∷ atr_req ∷ rest) ≡ None → DepSpelling (atr_frame false (s ∷ l ∷ request ∷ atr_req ∷ rest)) (s ∷ l ∷ request ∷ atr_req ∷ rest))
-        (req_spelled s l) rest (req_long s l rest clean) clean
+    (req_spelled s l) rest (req_long s l rest clean) clean
 atr_spelled true s l rest clean =
     fifteen (λ rest. dep_refusal (s ∷ l ∷ answer ∷ atr_res ∷ rest) ≡ None → DepSpelling (atr_frame true (s ∷ l ∷ answer ∷ atr_res ∷ rest)) (s ∷ l ∷ answer ∷ atr_res ∷ rest))
-        (res_spelled s l) rest (res_long s l rest clean) clean
+    (res_spelled s l) rest (res_long s l rest clean) clean

@@ -1,17 +1,15 @@
 -- Bytes that are read as a DEP frame spell it.
-use Rattle.std.proofs.Common.{◌≡◌, ℕ, zero, suc, ◌+◌, ◌-◌, ◌*◌, ◌/◌, ◌%◌, ◌<◌, ◌≤◌, nat_lt, nat_le, List, [], ◌∷◌, ◌++◌, length, Bool, true, false, not, ◌&&◌, ◌||◌, ◌==◌, Option, Some, None, Result, Ok, Err, ◌↔◌, if◌then◌else◌, refl, ap, sym, subst, ◌∙◌, arith, rules}
+use Rattle.std.proofs.Common.{◌≡◌, ℕ, ◌≤◌, List, [], ◌∷◌, ◌++◌, length, Bool, true, false, Option, Some, None, refl, ap, ◌∙◌, arith}
 use Rattle.std.proofs.lemmas.Grind.{common_steps}
 use Rattle.dep_pdu.specs.declared.frame.DepFrame.{DepFrame}
-use Rattle.dep_pdu.specs.declared.frame.DepFrame.TheVariants.{AtrReq, AtrRes, Info, Ack, Nack, Attention, Extend, DslReq, DslRes, RlsReq, RlsRes}
-use Rattle.dep_pdu.specs.declared.refusal.DepRefusal.{DepRefusal}
-use Rattle.dep_pdu.specs.declared.head.Head.{Head}
-use Rattle.dep_pdu.specs.declared.head.Head.TheVariants.{Atr, Dep, Dsl, Rls}
+use Rattle.dep_pdu.specs.declared.frame.DepFrame.TheVariants.{Info, Ack, Nack, Attention, Extend}
+use Rattle.dep_pdu.specs.declared.head.Head.TheVariants.{Dep}
 use Rattle.dep_pdu.specs.declared.pfb.Pfb.{Pfb}
 use Rattle.dep_pdu.specs.declared.pfb.Pfb.TheVariants.{Information, Ack as AckPfb, Nack as NackPfb, Attention as AttentionPfb, Extension as ExtensionPfb}
-use Rattle.dep_pdu.specs.Numbers.{start_byte, request, answer, atr_req, atr_res, dep_req, dep_res, dsl_req, dsl_res, rls_req, rls_res, information, more_information, ack, nack, attention, extension, no_did, general_follow, most_times, most_content}
-use Rattle.dep_pdu.specs.Spelling.{Open, pp_byte, pfb_byte, dep_head, body, framed, IsDepFrame, general_of, DepSpelling}
-use Rattle.dep_pdu.specs.Refusal.{dep_refusal, head, head_of, is_pp, pfb_of, byte}
-use Rattle.dep_pdu.specs.Reading.{frame_of, atr_frame, dep_frame, spelled_frame, unless, told}
+use Rattle.dep_pdu.specs.Numbers.{nack, most_times, most_content}
+use Rattle.dep_pdu.specs.Spelling.{pfb_byte, dep_head, DepSpelling}
+use Rattle.dep_pdu.specs.Refusal.{dep_refusal, head_of, pfb_of, byte}
+use Rattle.dep_pdu.specs.Reading.{dep_frame}
 use Rattle.dep_pdu.proofs.Named.{named_dep, pfb_information, pfb_ack, pfb_nack, pfb_attention, pfb_extension}
 use Rattle.dep_pdu.proofs.Plain.{plainly}
 
@@ -58,18 +56,18 @@ pub dep_spelled : (up : Bool) (s l d c x : ℕ) (content : List ℕ) (p : Option
 dep_spelled up s l d c x content None h e clean v is = cc
 dep_spelled up s l d c x content (Some (Information more pni)) h e clean v is =
     plainly (Info up more pni (record { items = content })) s l d c (x ∷ content) clean ((pfb_information x pni more e).1, info_fits up s l d c x content more pni h e clean) refl
-        (λ o. dep_body up d c x _ content content h (pfb_information x pni more e).0 refl) v is
+    (λ o. dep_body up d c x _ content content h (pfb_information x pni more e).0 refl) v is
 dep_spelled up s l d c x content (Some (AckPfb pni)) h e clean v is =
     plainly (Ack up pni) s l d c (x ∷ content) clean (pfb_ack x pni e).1 refl
-        (λ o. dep_body up d c x _ content [] h (pfb_ack x pni e).0 (ack_ends up s l d c x content pni h e clean)) v is
+    (λ o. dep_body up d c x _ content [] h (pfb_ack x pni e).0 (ack_ends up s l d c x content pni h e clean)) v is
 dep_spelled up s l d c x content (Some (NackPfb pni)) h e clean v is =
     let m : (up ≡ false) × (content ≡ []) = nack_ends up s l d c x content pni h e clean in
     plainly (Nack pni) s l d c (x ∷ content) clean (pfb_nack x pni e).1 refl
-        (λ o. dep_body up d c x _ content [] h (pfb_nack x pni e).0 m.1 ∙ ap (λ u. dep_head u ++ pfb_byte nack pni ∷ []) m.0) v is
+    (λ o. dep_body up d c x _ content [] h (pfb_nack x pni e).0 m.1 ∙ ap (λ u. dep_head u ++ pfb_byte nack pni ∷ []) m.0) v is
 dep_spelled up s l d c x content (Some AttentionPfb) h e clean v is =
     plainly (Attention up) s l d c (x ∷ content) clean tt refl
-        (λ o. dep_body up d c x _ content [] h (pfb_attention x e) (attention_ends up s l d c x content h e clean)) v is
+    (λ o. dep_body up d c x _ content [] h (pfb_attention x e) (attention_ends up s l d c x content h e clean)) v is
 dep_spelled up s l d c x content (Some ExtensionPfb) h e clean v is =
     let m : (content ≡ byte content 0 ∷ []) × (1 ≤ byte content 0) × (byte content 0 ≤ most_times) = extension_ends up s l d c x content h e clean in
     plainly (Extend up (byte content 0)) s l d c (x ∷ content) clean (m.1, m.2) refl
-        (λ o. dep_body up d c x _ content (byte content 0 ∷ []) h (pfb_extension x e) m.0) v is
+    (λ o. dep_body up d c x _ content (byte content 0 ∷ []) h (pfb_extension x e) m.0) v is

@@ -1,17 +1,9 @@
 -- Frames without general bytes.
-use Rattle.std.proofs.Common.{◌≡◌, ℕ, zero, suc, ◌+◌, ◌-◌, ◌*◌, ◌/◌, ◌%◌, ◌<◌, ◌≤◌, nat_lt, nat_le, List, [], ◌∷◌, ◌++◌, length, Bool, true, false, not, ◌&&◌, ◌||◌, ◌==◌, Option, Some, None, Result, Ok, Err, ◌↔◌, if◌then◌else◌, refl, ap, sym, subst, ◌∙◌, arith, rules}
-use Rattle.std.proofs.lemmas.Grind.{common_steps}
+use Rattle.std.proofs.Common.{◌≡◌, ℕ, ◌+◌, ◌<◌, List, [], ◌∷◌, length, false, Some, None, ap, subst, arith}
 use Rattle.dep_pdu.specs.declared.frame.DepFrame.{DepFrame}
-use Rattle.dep_pdu.specs.declared.frame.DepFrame.TheVariants.{AtrReq, AtrRes, Info, Ack, Nack, Attention, Extend, DslReq, DslRes, RlsReq, RlsRes}
-use Rattle.dep_pdu.specs.declared.refusal.DepRefusal.{DepRefusal}
-use Rattle.dep_pdu.specs.declared.head.Head.{Head}
-use Rattle.dep_pdu.specs.declared.head.Head.TheVariants.{Atr, Dep, Dsl, Rls}
-use Rattle.dep_pdu.specs.declared.pfb.Pfb.{Pfb}
-use Rattle.dep_pdu.specs.declared.pfb.Pfb.TheVariants.{Information, Ack as AckPfb, Nack as NackPfb, Attention as AttentionPfb, Extension as ExtensionPfb}
-use Rattle.dep_pdu.specs.Numbers.{start_byte, request, answer, atr_req, atr_res, dep_req, dep_res, dsl_req, dsl_res, rls_req, rls_res, information, more_information, ack, nack, attention, extension, no_did, general_follow, most_times, most_content}
-use Rattle.dep_pdu.specs.Spelling.{Open, pp_byte, pfb_byte, dep_head, body, framed, IsDepFrame, general_of, DepSpelling}
-use Rattle.dep_pdu.specs.Refusal.{dep_refusal, head, head_of, is_pp, pfb_of, byte}
-use Rattle.dep_pdu.specs.Reading.{frame_of, atr_frame, dep_frame, spelled_frame, unless, told}
+use Rattle.dep_pdu.specs.Numbers.{start_byte}
+use Rattle.dep_pdu.specs.Spelling.{Open, body, framed, IsDepFrame, general_of, DepSpelling}
+use Rattle.dep_pdu.specs.Refusal.{dep_refusal}
 use Rattle.dep_pdu.proofs.Named.{start_of, len_of}
 
 nothing_open : Open

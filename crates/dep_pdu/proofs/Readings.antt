@@ -1,17 +1,15 @@
 -- What is read as a frame spells it.
-use Rattle.std.proofs.Common.{◌≡◌, ℕ, zero, suc, ◌+◌, ◌-◌, ◌*◌, ◌/◌, ◌%◌, ◌<◌, ◌≤◌, nat_lt, nat_le, List, [], ◌∷◌, ◌++◌, length, Bool, true, false, not, ◌&&◌, ◌||◌, ◌==◌, Option, Some, None, Result, Ok, Err, ◌↔◌, if◌then◌else◌, refl, ap, sym, subst, ◌∙◌, arith, rules}
+use Rattle.std.proofs.Common.{◌≡◌, ℕ, List, [], ◌∷◌, Bool, true, false, Option, Some, None, Result, Ok, Err, ◌↔◌, if◌then◌else◌, refl, ap, sym, subst, ◌∙◌, arith}
 use Rattle.std.proofs.lemmas.Grind.{common_steps}
 use Rattle.dep_pdu.specs.declared.frame.DepFrame.{DepFrame}
-use Rattle.dep_pdu.specs.declared.frame.DepFrame.TheVariants.{AtrReq, AtrRes, Info, Ack, Nack, Attention, Extend, DslReq, DslRes, RlsReq, RlsRes}
+use Rattle.dep_pdu.specs.declared.frame.DepFrame.TheVariants.{DslReq, DslRes, RlsReq, RlsRes}
 use Rattle.dep_pdu.specs.declared.refusal.DepRefusal.{DepRefusal}
 use Rattle.dep_pdu.specs.declared.head.Head.{Head}
 use Rattle.dep_pdu.specs.declared.head.Head.TheVariants.{Atr, Dep, Dsl, Rls}
-use Rattle.dep_pdu.specs.declared.pfb.Pfb.{Pfb}
-use Rattle.dep_pdu.specs.declared.pfb.Pfb.TheVariants.{Information, Ack as AckPfb, Nack as NackPfb, Attention as AttentionPfb, Extension as ExtensionPfb}
-use Rattle.dep_pdu.specs.Numbers.{start_byte, request, answer, atr_req, atr_res, dep_req, dep_res, dsl_req, dsl_res, rls_req, rls_res, information, more_information, ack, nack, attention, extension, no_did, general_follow, most_times, most_content}
-use Rattle.dep_pdu.specs.Spelling.{Open, pp_byte, pfb_byte, dep_head, body, framed, IsDepFrame, general_of, DepSpelling}
-use Rattle.dep_pdu.specs.Refusal.{dep_refusal, head, head_of, is_pp, pfb_of, byte}
-use Rattle.dep_pdu.specs.Reading.{frame_of, atr_frame, dep_frame, spelled_frame, unless, told}
+use Rattle.dep_pdu.specs.Numbers.{request, answer, atr_req, atr_res}
+use Rattle.dep_pdu.specs.Spelling.{DepSpelling}
+use Rattle.dep_pdu.specs.Refusal.{dep_refusal, head, head_of, pfb_of}
+use Rattle.dep_pdu.specs.Reading.{frame_of, atr_frame, spelled_frame, unless, told}
 use Rattle.dep_pdu.proofs.Spelled.{spelled}
 use Rattle.dep_pdu.proofs.Named.{named_atr, named_dsl, named_rls, no_short}
 use Rattle.dep_pdu.proofs.AtrFrames.{atr_spelled}
@@ -36,7 +34,7 @@ head_spelled s l d c rest (Some (Atr up)) h clean v is =
     let n : (d ≡ (if up then answer else request)) × (c ≡ (if up then atr_res else atr_req)) = named_atr up d c h in
     let P : ℕ → ℕ → Type 0 = λ d c. dep_refusal (s ∷ l ∷ d ∷ c ∷ rest) ≡ None → DepSpelling (atr_frame up (s ∷ l ∷ d ∷ c ∷ rest)) (s ∷ l ∷ d ∷ c ∷ rest) in
     subst (λ v. DepSpelling v (s ∷ l ∷ d ∷ c ∷ rest)) same
-        (subst (λ d. P d c) (sym n.0) (subst (P (if up then answer else request)) (sym n.1) (atr_spelled up s l rest)) clean)
+    (subst (λ d. P d c) (sym n.0) (subst (P (if up then answer else request)) (sym n.1) (atr_spelled up s l rest)) clean)
 head_spelled s l d c [] (Some (Dep up)) h clean v is = absurd (dep_long up s l d c h clean)
 head_spelled s l d c (x ∷ content) (Some (Dep up)) h clean v is = dep_spelled up s l d c x content (pfb_of x) h refl clean v is
 head_spelled s l d c rest (Some (Dsl true)) h clean v is =

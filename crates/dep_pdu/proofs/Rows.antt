@@ -1,5 +1,5 @@
 -- Rows of the table that don't stand.
-use Rattle.std.proofs.Common.{◌≡◌, ℕ, ◌<◌, ◌≤◌, nat_lt, List, [], ◌∷◌, Bool, true, false, Option, Some, None, Result, Ok, Err, if◌then◌else◌, ap, sym, ◌∙◌, arith}
+use Rattle.std.proofs.Common.{◌≡◌, ℕ, ◌≤◌, nat_lt, List, [], ◌∷◌, Bool, true, false, Option, Some, None, Result, Ok, Err, if◌then◌else◌, ap, sym, ◌∙◌, arith}
 use Rattle.dep_pdu.specs.declared.frame.DepFrame.{DepFrame}
 use Rattle.dep_pdu.specs.declared.refusal.DepRefusal.{DepRefusal}
 use Rattle.dep_pdu.specs.declared.refusal.DepKind.{DepKind}

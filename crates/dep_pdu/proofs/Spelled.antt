@@ -1,13 +1,12 @@
 -- What a frame spells has no fault, and is read as the frame.
-use Rattle.std.proofs.Common.{◌≡◌, ℕ, zero, suc, ◌+◌, ◌-◌, ◌*◌, ◌/◌, ◌%◌, ◌<◌, ◌≤◌, nat_lt, nat_le, List, [], ◌∷◌, ◌++◌, length, Bool, true, false, not, ◌&&◌, ◌||◌, ◌==◌, Option, Some, None, if◌then◌else◌, refl, ap, sym, subst, ◌∙◌, arith, rules}
+use Rattle.std.proofs.Common.{◌≡◌, ℕ, ◌+◌, ◌/◌, ◌%◌, ◌<◌, ◌≤◌, nat_lt, List, [], ◌∷◌, ◌++◌, length, Bool, true, false, ◌&&◌, ◌==◌, Some, None, refl, ap, sym, subst, ◌∙◌, arith}
 use Rattle.std.proofs.lemmas.Grind.{common_steps}
 use Rattle.dep_pdu.specs.declared.frame.DepFrame.{DepFrame}
 use Rattle.dep_pdu.specs.declared.frame.DepFrame.TheVariants.{AtrReq, AtrRes, Info, Ack, Nack, Attention, Extend, DslReq, DslRes, RlsReq, RlsRes}
-use Rattle.dep_pdu.specs.declared.pfb.Pfb.{Pfb}
 use Rattle.dep_pdu.specs.declared.pfb.Pfb.TheVariants.{Information, Ack as AckPfb, Nack as NackPfb}
-use Rattle.dep_pdu.specs.Numbers.{start_byte, request, answer, atr_req, atr_res, dep_req, dep_res, information, more_information, ack, nack, attention, extension, no_did, general_follow, most_times, most_content}
+use Rattle.dep_pdu.specs.Numbers.{request, answer, atr_req, atr_res, information, more_information, ack, nack, extension, no_did, most_times, most_content}
 use Rattle.dep_pdu.specs.Spelling.{Open, pp_byte, pfb_byte, dep_head, body, framed, IsDepFrame, general_of, DepSpelling, plain, written}
-use Rattle.dep_pdu.specs.Refusal.{dep_refusal, head, is_pp, pfb_of, byte}
+use Rattle.dep_pdu.specs.Refusal.{dep_refusal, head, is_pp, pfb_of}
 use Rattle.dep_pdu.specs.Reading.{frame_of, spelled_frame, unless}
 
 pub pfb_of_information : (pni : ℕ) → pni < 4 → pfb_of (pfb_byte information pni) ≡ Some (Information false pni)
@@ -78,18 +77,18 @@ pub record ReadAs (v : DepFrame) (b : List ℕ) : Type 0 where
 pub read_as : (v : DepFrame) (o : Open) → IsDepFrame v → (0 < length (general_of v) → o.marked ≡ true) → ReadAs v (framed (body o v))
 read_as (AtrReq id lr general) o range marked =
     ten (λ id. ReadAs (AtrReq id lr general) (framed (body o (AtrReq id lr general))))
-        (λ a b c d e f g h i j. record {
-          clean = clean_atr_req a b c d e f g h i j o.bs o.br (pp_byte lr o.marked) general.items range.2 (is_pp_byte lr o.marked range.1) (announced 18 lr (length general.items) o.marked marked);
-          value = ap (λ n. Some (AtrReq (a ∷ b ∷ c ∷ d ∷ e ∷ f ∷ g ∷ h ∷ i ∷ j ∷ []) n general)) (lr_of_pp lr o.marked range.1);
-        })
-        id range.0
+    (λ a b c d e f g h i j. record {
+      clean = clean_atr_req a b c d e f g h i j o.bs o.br (pp_byte lr o.marked) general.items range.2 (is_pp_byte lr o.marked range.1) (announced 18 lr (length general.items) o.marked marked);
+      value = ap (λ n. Some (AtrReq (a ∷ b ∷ c ∷ d ∷ e ∷ f ∷ g ∷ h ∷ i ∷ j ∷ []) n general)) (lr_of_pp lr o.marked range.1);
+    })
+    id range.0
 read_as (AtrRes id timeout lr general) o range marked =
     ten (λ id. ReadAs (AtrRes id timeout lr general) (framed (body o (AtrRes id timeout lr general))))
-        (λ a b c d e f g h i j. record {
-          clean = clean_atr_res a b c d e f g h i j o.bs o.br timeout (pp_byte lr o.marked) general.items range.2 (is_pp_byte lr o.marked range.1) (announced 19 lr (length general.items) o.marked marked);
-          value = ap (λ n. Some (AtrRes (a ∷ b ∷ c ∷ d ∷ e ∷ f ∷ g ∷ h ∷ i ∷ j ∷ []) timeout n general)) (lr_of_pp lr o.marked range.1);
-        })
-        id range.0
+    (λ a b c d e f g h i j. record {
+      clean = clean_atr_res a b c d e f g h i j o.bs o.br timeout (pp_byte lr o.marked) general.items range.2 (is_pp_byte lr o.marked range.1) (announced 19 lr (length general.items) o.marked marked);
+      value = ap (λ n. Some (AtrRes (a ∷ b ∷ c ∷ d ∷ e ∷ f ∷ g ∷ h ∷ i ∷ j ∷ []) timeout n general)) (lr_of_pp lr o.marked range.1);
+    })
+    id range.0
 read_as (Info true true pni content) o range marked = record { clean = clean_more true pni content.items range.0 range.1; value = rw (pfb_of_more pni range.0) refl }
 read_as (Info true false pni content) o range marked = record { clean = clean_information true pni content.items range.0 range.1; value = rw (pfb_of_information pni range.0) refl }
 read_as (Info false true pni content) o range marked = record { clean = clean_more false pni content.items range.0 range.1; value = rw (pfb_of_more pni range.0) refl }

@@ -71,10 +71,7 @@ fn frames(rt: HostRuntime) -> Result<(), Fail> {
             &[0xF0, 0x04, 0xD5, 0x07, 0x40],
             DepFrame::Ack { up: true, pni: 0 },
         ),
-        (
-            &[0xF0, 0x04, 0xD4, 0x06, 0x53],
-            DepFrame::Nack { pni: 3 },
-        ),
+        (&[0xF0, 0x04, 0xD4, 0x06, 0x53], DepFrame::Nack { pni: 3 }),
         (
             &[0xF0, 0x04, 0xD4, 0x06, 0x80],
             DepFrame::Attention { up: false },

@@ -12,5 +12,5 @@ returns-in-None c =
     let h : None ≡ head b = c.in-None.ensures.reads in
     let P : Option Head → Type 0 = λ o. TellsNamed c.unnamed.result o b in
     subst P h
-        (unnamed c.unnamed.result (length b) (fault (not (is_direction (slice_index b 2))) 2 Direction) (fault (nat_lt 4 (length b)) 4 Trailing)
-            c.requires.whole (c.unnamed.ensures None))
+    (unnamed c.unnamed.result (length b) (fault (not (is_direction (slice_index b 2))) 2 Direction) (fault (nat_lt 4 (length b)) 4 Trailing)
+    c.requires.whole (c.unnamed.ensures None))

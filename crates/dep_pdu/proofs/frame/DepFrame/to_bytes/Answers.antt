@@ -1,4 +1,4 @@
-use Rattle.std.proofs.Common.{rules, List, ℕ, sym, subst, Some, ◌≡◌}
+use Rattle.std.proofs.Common.{List, ℕ, sym, subst, Some, ◌≡◌}
 use Rattle.dep_pdu.specs.Spelling.{DepSpelling}
 use Rattle.dep_pdu.specs.Reading.{spelled_frame}
 use Rattle.dep_pdu.proofs.Spelled.{written_spells, written_back}
