@@ -29,10 +29,6 @@ pub lr_of_pp : (lr : ℕ) (marked : Bool) → lr < 4 → pp_byte lr marked / 16 
 lr_of_pp lr true h = omega arith
 lr_of_pp lr false h = omega arith
 
-unmarked : (lr n : ℕ) (marked : Bool) → (0 < n → marked ≡ true) → (nat_lt 0 n && pp_byte lr marked % 16 == 0) ≡ false
-unmarked lr n true h = grind (arith, common_steps)
-unmarked lr n false h = grind (arith, common_steps)
-
 clean_atr_req : (a b c d e f g h i j bs br pp : ℕ) (general : List ℕ) → length general ≤ 48 → is_pp pp ≡ true → (nat_lt 18 (18 + length general) && pp % 16 == 0) ≡ false
     → dep_refusal (framed (request ∷ atr_req ∷ a ∷ b ∷ c ∷ d ∷ e ∷ f ∷ g ∷ h ∷ i ∷ j ∷ no_did ∷ bs ∷ br ∷ pp ∷ general)) ≡ None
 clean_atr_req a b c d e f g h i j bs br pp general l p m = grind (arith, common_steps)

@@ -1,13 +1,14 @@
 //! The control byte of a DEP frame.
 
-ghost use Rattle.std.specs.Prelude.{◌≡◌, ◌<◌, Some, None};
+ghost use Rattle.std.specs.Prelude.{◌≡◌, ◌<◌, Some, None, if◌then◌else◌};
+ghost use Rattle.dep_pdu.specs.Numbers.{information, more_information};
 ghost use Rattle.dep_pdu.specs.Spelling.{pfb_byte};
 ghost use Rattle.dep_pdu.specs.Refusal.{pfb_of};
 
 /// The PFB bytes, without the PNI in bits 1 and 0.
-pub(crate) const INFORMATION: u8 = 0x00;
+const INFORMATION: u8 = 0x00;
 
-pub(crate) const MORE_INFORMATION: u8 = 0x10;
+const MORE_INFORMATION: u8 = 0x10;
 
 pub(crate) const ACK: u8 = 0x40;
 
@@ -46,6 +47,17 @@ impl Pfb {
             NACK => Some(Pfb::Nack { pni }),
             _ => None,
         }
+    }
+}
+
+/// The PFB of an information frame.
+pub(crate) fn information(more: bool, pni: u8) -> u8
+    ensures { result ≡ pfb_byte (if more then more_information else information) pni }
+{
+    if more {
+        numbered(MORE_INFORMATION, pni)
+    } else {
+        numbered(INFORMATION, pni)
     }
 }
 

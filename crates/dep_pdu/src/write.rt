@@ -7,7 +7,7 @@ use crate::atr::{NO_DID, NO_RATE, atr_bytes, pp};
 use crate::dep::dep_bytes;
 use crate::frame::DepFrame;
 use crate::head::{ANSWER, ATR_REQ, ATR_RES, DSL_REQ, DSL_RES, REQUEST, RLS_REQ, RLS_RES};
-use crate::pfb::{ACK, ATTENTION, EXTENSION, INFORMATION, MORE_INFORMATION, NACK, numbered};
+use crate::pfb::{ACK, ATTENTION, EXTENSION, NACK, information, numbered};
 use crate::read::START;
 use arrayvec::ArrayVec;
 
@@ -34,16 +34,10 @@ pub(crate) fn write_frame(frame: &DepFrame) -> ArrayVec<u8, 256>
         ),
         DepFrame::Info {
             up,
-            more: true,
+            more,
             pni,
             content,
-        } => dep_bytes(*up, numbered(MORE_INFORMATION, *pni), content),
-        DepFrame::Info {
-            up,
-            more: false,
-            pni,
-            content,
-        } => dep_bytes(*up, numbered(INFORMATION, *pni), content),
+        } => dep_bytes(*up, information(*more, *pni), content),
         DepFrame::Ack { up, pni } => dep_bytes(*up, numbered(ACK, *pni), &[]),
         DepFrame::Nack { pni } => dep_bytes(false, numbered(NACK, *pni), &[]),
         DepFrame::Attention { up } => dep_bytes(*up, ATTENTION, &[]),
