@@ -22,7 +22,7 @@ pub fn bit_len(frame: &Frame) -> usize
 }
 
 /// One bit of some bytes.
-#[tactic(auto, using(crate::proofs::BitsOfBytes::bit_of))]
+#[tactic(auto, using(nfc_base::proofs::BitsOfBytes::bit_of))]
 pub fn bit(bytes: &[u8], at: usize) -> bool
     requires { at < 8 * length bytes.now }
     ensures { result ≡ get_or (bits_of bytes.now) at Bool.false }
@@ -31,7 +31,7 @@ pub fn bit(bytes: &[u8], at: usize) -> bool
 }
 
 /// How many of the first `n` bits of `a` are the first of the first `m` bits of `b`.
-#[tactic(auto, using(crate::proofs::BitsOfBytes::length_bits_of))]
+#[tactic(auto, using(nfc_base::proofs::Packing::length_of_bits))]
 pub fn shared(a: &[u8], n: usize, b: &[u8], m: usize) -> usize
     requires a { n ≤ 8 * length a.now }
     requires b { m ≤ 8 * length b.now }
@@ -49,7 +49,7 @@ pub fn shared(a: &[u8], n: usize, b: &[u8], m: usize) -> usize
 }
 
 /// The first `n` bits of a frame, as a frame.
-#[tactic(auto, using(crate::proofs::BitsOfBytes::packed_first))]
+#[tactic(auto, using(crate::proofs::FirstBits::packed_first))]
 pub fn first_bits(frame: &Frame, n: usize) -> Frame
     requires { n ≤ 8 * length frame.now.bytes }
     ensures tech { result.tech ≡ frame.now.tech }

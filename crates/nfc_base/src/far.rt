@@ -63,3 +63,19 @@ impl Answerer for Mute {
         Ok(())
     }
 }
+
+#[cfg(test)]
+mod tests {
+    use super::*;
+    use std::test::Fail;
+
+    #[test]
+    fn mute_answers_nothing(rt: HostRuntime) -> Result<(), Fail> {
+        let mut far = Mute;
+        let mut reply = [7].to_vec(rt.alloc())?;
+        far.restart(&[0x46, 0x66, 0x6D]);
+        far.answer(rt.alloc(), &[0, 0], &mut reply)?;
+        assert!(rt; reply.is_empty());
+        Ok(())
+    }
+}

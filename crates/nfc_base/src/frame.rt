@@ -1,6 +1,6 @@
 //! Frames of the air.
 
-ghost use Rattle.std.specs.Prelude.{◌≡◌, ◌≤◌, ◌<◌, ◌↔◌, length, IfOk, IsErrOf, IsOk};
+ghost use Rattle.std.specs.Prelude.{◌≡◌, ◌≤◌, ◌<◌, ◌↔◌, length, IfOk, IsErrOf, IsOk, IsTrue};
 ghost use Rattle.nfc_base.specs.Signal.{Signal, signal, IsSignal, IsBadTail};
 ghost use Rattle.nfc_base.specs.Bits.{bits};
 ghost use Rattle.nfc_base.specs.Numbers.{frame_fault_number};
@@ -117,6 +117,14 @@ impl Frame {
         self.tail
     }
 
+    /// Whether another frame is sent the same way: of the same technology, with the same bits.
+    pub fn is_same(&self, other: &Frame) -> bool
+        ensures frame { IsTrue result ↔ (self.now ≡ other.now) }
+        ensures bits { IsTrue result ↔ ((self.now.tech ≡ other.now.tech) × (bits self.now ≡ bits other.now)) }
+    {
+        self.tech == other.tech && self.tail == other.tail && self.bytes == other.bytes
+    }
+
     /// The same frame again. It takes no memory.
     pub fn copy(&self) -> Frame
         ensures { result ≡ self.now }
@@ -128,5 +136,37 @@ impl Frame {
             bytes,
             tail: self.tail,
         }
+    }
+}
+
+#[cfg(test)]
+mod tests {
+    use super::*;
+    use std::test::Fail;
+
+    /// The fault that the bytes with this tail have, 0 for none.
+    fn fault(bytes: &[u8], tail: u8) -> u8 {
+        match Frame::part(Tech::A, bytes, tail) {
+            Ok(_) => 0,
+            Err(fault) => fault.number(),
+        }
+    }
+
+    #[test]
+    fn frames_and_what_is_none(rt: HostRuntime) -> Result<(), Fail> {
+        let long = [0; 289];
+        assert_eq!(rt; fault(&long[..288], 0), 0, "288 bytes");
+        assert_eq!(rt; fault(&long, 9), 1, "the length comes first");
+        assert_eq!(rt; fault(&[0x26], 7), 0, "SENS_REQ");
+        assert_eq!(rt; fault(&[0xA6], 7), 2, "a bit that isn't sent");
+        assert_eq!(rt; fault(&[0x26], 8), 2, "eight bits are a whole byte");
+        assert_eq!(rt; fault(&[], 1), 2, "no byte to send in part");
+        let sens = Frame::part(Tech::A, &[0x26], 7)?;
+        let whole = Frame::whole(Tech::A, &[0x26])?;
+        let other = Frame::part(Tech::V, &[0x26], 7)?;
+        assert!(rt; sens.is_same(&sens.copy()));
+        assert!(rt; !sens.is_same(&whole));
+        assert!(rt; !sens.is_same(&other));
+        Ok(())
     }
 }

@@ -63,3 +63,18 @@ impl<T: PartialEq> PartialEq for Items<T> {
 
     ghost laws = { lists_per T.laws };
 }
+
+#[cfg(test)]
+mod tests {
+    use super::*;
+    use std::test::Fail;
+
+    #[test]
+    fn bytes_go_in_and_come_out(rt: HostRuntime) -> Result<(), Fail> {
+        let items = Items::from_bytes(rt.alloc(), &[1, 2, 3])?;
+        assert_eq!(rt; items.as_slice(), [1, 2, 3].as_slice());
+        let again = Items::new(items.into_vec());
+        assert!(rt; again == Items::from_bytes(rt.alloc(), &[1, 2, 3])?);
+        Ok(())
+    }
+}

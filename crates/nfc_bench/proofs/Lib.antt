@@ -6,3 +6,10 @@ pub mod Picking
 pub mod Memory
 pub mod Asking
 pub mod Legality
+pub mod Limits
+pub mod Chunks
+pub mod ScriptText
+pub mod Journals
+pub mod Progress
+pub mod Outcomes
+pub mod Endings

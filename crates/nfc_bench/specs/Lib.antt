@@ -10,3 +10,6 @@ pub mod Words
 pub mod Lines
 pub mod Report
 pub mod Phases
+pub mod Limits
+pub mod Run
+pub mod Stops

@@ -4,7 +4,6 @@ use Rattle.nfc_base.specs.declared.frame.Tech.{Tech}
 use Rattle.nfc_base.specs.declared.frame.Tech.TheVariants.{A, V}
 use Rattle.nfc_base.specs.Signal.{Signal, whole_a}
 use Rattle.nfc_base.specs.Far.{Untouched}
-use Rattle.air_core.specs.World.{Machine}
 use Rattle.air_core.specs.Listening.{addressed_to}
 use Rattle.nfca_poll.specs.declared.kind.Kind.TheVariants as kinds
 use Rattle.nfca_poll.specs.Levels.{levels}
@@ -16,7 +15,7 @@ use Rattle.t2t_tag.specs.Step.{t2_answer, t2_after}
 use Rattle.nfc_bench.specs.Placed.{Placed, with_front}
 use Rattle.nfc_bench.specs.declared.device.Device.{Device}
 use Rattle.nfc_bench.specs.declared.device.Device.TheVariants.{T2}
-use Rattle.nfc_bench.specs.Device.{placed_answer, placed_after, is_upper, devices, device_id, device_store, device_ready, device_selected}
+use Rattle.nfc_bench.specs.Device.{placed_after, is_upper, devices, device_id, device_store, device_ready, device_selected}
 
 -- a step keeps the identifier
 placed_keeps : (d : Placed) (f : Signal) → (placed_after d f).id ≡ d.id

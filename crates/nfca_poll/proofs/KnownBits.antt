@@ -4,10 +4,10 @@ use Rattle.nfc_base.specs.Signal.{Signal}
 use Rattle.nfc_base.specs.declared.frame.Tech.TheVariants.{A}
 use Rattle.nfc_base.specs.Bits.{bits_of, bit_count, of_bits}
 use Rattle.air_core.specs.Joint.{common}
-use Rattle.air_core.proofs.BitsOfBytes.{length_bits_of, take_size}
+use Rattle.nfc_base.proofs.Packing.{length_of_bits, take_whole}
 use Rattle.nfca_poll.specs.Front.{begins}
 use Rattle.nfca_poll.specs.Calls.{is_sdd, is_sdd_par, is_sel_cmd, known_count, known_bits}
-use Rattle.std.proofs.lemmas.List.{length-drop}
+use Rattle.std.proofs.lemmas.List.{length-drop, length-take-le}
 
 wrong : {X : Type 0} → false ≡ true → X
 wrong h = absurd cc
@@ -42,12 +42,6 @@ begins_common (true ∷ p) (false ∷ x) h = wrong h
 begins_common (false ∷ p) (true ∷ x) h = wrong h
 begins_common (false ∷ p) (false ∷ x) h = ap (λ t. false ∷ t) (begins_common p x h)
 
-pub take_all : (x : List Bool) (n : ℕ) → length x ≤ n → take n x ≡ x
-take_all [] zero h = refl
-take_all [] (suc n) h = refl
-take_all (a ∷ x) zero h = absurd (omega (arith, h))
-take_all (a ∷ x) (suc n) h = ap (λ t. a ∷ t) (take_all x n (omega (arith, h)))
-
 -- as many bits in common as are known: they begin the level
 pub asks_is : (u x : List Bool) (n r : ℕ) → n ≤ length u → r ≤ n → take r u ≡ common (take n u) x → (r == n) ≡ begins (take n u) x
 asks_is u x n r l k e = by_cases (r == n) refl (begins (take n u) x) refl
@@ -66,11 +60,11 @@ asks_is u x n r l k e = by_cases (r == n) refl (begins (take n u) x) refl
         wrong (sym q ∙ subst B (sym e ∙ ap (λ t. take t u) (equal r n h)) (begins_right (take n u) x))
     by_cases false h true q =
         let s : take r u ≡ take n u = e ∙ begins_common (take n u) x q in
-        absurd (unequal r n h (sym (take_size u r (omega (arith, k, l))) ∙ ap length s ∙ take_size u n l))
+        absurd (unequal r n h (sym (length-take-le r u (omega (arith, k, l))) ∙ ap length s ∙ length-take-le n u l))
 
 -- the rest of a level
 pub rest_is : (x p : List Bool) (n : ℕ) → length x ≡ 40 → length p ≡ n → of_bits A (drop n (take 40 x)) ≡ of_bits A (drop (length p) x)
-rest_is x p n l e = ap (λ y. of_bits A (drop n y)) (take_all x 40 (omega (arith, l))) ∙ ap (λ m. of_bits A (drop m x)) (sym e)
+rest_is x p n l e = ap (λ y. of_bits A (drop n y)) (take_whole x 40 (omega (arith, l))) ∙ ap (λ m. of_bits A (drop m x)) (sym e)
 
 -- what is_sdd says
 pub record SddFacts (f : Signal) (n : ℕ) : Type 0 where
@@ -101,5 +95,5 @@ known_at f n s w =
     let c : bit_count f ≡ 16 + n = s.count in
     let e : known_bits f ≡ take n (bits_of (drop 2 f.bytes)) = known_is f.bytes (bit_count f) n s.two c in
     let d : length (drop 2 f.bytes) ≡ length f.bytes - 2 = length-drop 2 f.bytes in
-    let l : n ≤ length (bits_of (drop 2 f.bytes)) = omega (arith, length_bits_of (drop 2 f.bytes), d, c, w) in
-    (e, ap length e ∙ take_size (bits_of (drop 2 f.bytes)) n l, l)
+    let l : n ≤ length (bits_of (drop 2 f.bytes)) = omega (arith, length_of_bits (drop 2 f.bytes), d, c, w) in
+    (e, ap length e ∙ length-take-le n (bits_of (drop 2 f.bytes)) l, l)

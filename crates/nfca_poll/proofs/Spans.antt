@@ -1,10 +1,9 @@
 -- The bits from one place to another, put into bytes.
 use Rattle.std.proofs.Common.{◌≡◌, ℕ, zero, suc, ◌+◌, ◌-◌, ◌*◌, ◌%◌, ◌^◌, ◌<◌, ◌≤◌, List, [], ◌∷◌, ◌++◌, length, take, drop, get_or, Bool, true, false, if◌then◌else◌, refl, sym, ◌∙◌, ap, subst, arith, append_assoc, inl, inr}
-use Rattle.std.proofs.lemmas.List.{append-nil}
+use Rattle.std.proofs.lemmas.List.{append-nil, length-take-le}
 use Rattle.nfc_base.specs.declared.frame.Tech.TheVariants.{A}
 use Rattle.nfc_base.specs.Bits.{number_of, packed, of_bits}
 use Rattle.nfc_base.specs.Signal.{signal, last_byte, IsBadTail}
-use Rattle.air_core.proofs.BitsOfBytes.{take_size}
 
 -- the bits from one place to another
 abbrev pub span : List Bool → ℕ → ℕ → List Bool
@@ -44,7 +43,7 @@ span_split (a ∷ x) zero (suc mid) (suc to) h k l = ap (λ t. a ∷ t) (span_sp
 span_split (a ∷ x) (suc from) (suc mid) (suc to) h k l = span_split x from mid to (omega (arith, h)) (omega (arith, k)) (omega (arith, l))
 
 pub span_size : (x : List Bool) (from to : ℕ) → from ≤ to → to ≤ length x → length (span x from to) ≡ to - from
-span_size x zero to h k = take_size x to k ∙ (let q : to ≡ to - 0 = omega arith in q)
+span_size x zero to h k = length-take-le to x k ∙ (let q : to ≡ to - 0 = omega arith in q)
 span_size x (suc from) zero h k = absurd (omega (arith, h))
 span_size [] (suc from) (suc to) h k = absurd (omega (arith, k))
 span_size (a ∷ x) (suc from) (suc to) h k = span_size x from to (omega (arith, h)) (omega (arith, k)) ∙ (let q : to - from ≡ suc to - suc from = omega arith in q)

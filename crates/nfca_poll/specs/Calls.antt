@@ -39,10 +39,6 @@ call_frame Slp = whole_a (0x50 ∷ 0 ∷ [])
 call_frame (Sdd k known) = of_bits A (bits_of (sel_cmd k ∷ sel_par (length known) ∷ []) ++ known)
 call_frame (Sel k level) = whole_a (sel_cmd k ∷ all_known ∷ level)
 
-abbrev pub is_tech_a : Tech → Bool
-is_tech_a A = true
-is_tech_a V = false
-
 -- one byte of which seven bits are sent
 abbrev pub is_short : Signal → ℕ → Bool
 is_short f byte = (f.tail == 7) && (length f.bytes == 1) && (slice_index f.bytes 0 == byte)

@@ -1,4 +1,3 @@
-pub mod Bits
 pub mod Spellings
 pub mod Memory
 pub mod Steps

@@ -1,7 +1,7 @@
 use Rattle.std.proofs.Common.{◌≡◌, ℕ, ◌<◌, ◌/◌, ◌%◌, ◌^◌, ◌*◌, List, [], ◌∷◌, ◌++◌, take, get_or, ◌==◌, false, sym, subst, ◌∙◌, ap, arith, rules}
 use Rattle.std.proofs.lemmas.Grind.{common_steps}
 use Rattle.nfc_base.specs.Signal.{IsBadTail}
-use Rattle.air_core.proofs.BitsOfBytes.{packed_part, mask, held_tail}
+use Rattle.air_core.proofs.FirstBits.{packed_part, mask, held_tail}
 use Rattle.air_core.proofs.bits.first_bits.Goals as goal
 
 pub unwrap-requires-3 : goal.unwrap-requires-3

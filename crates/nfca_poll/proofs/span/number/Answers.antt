@@ -1,7 +1,7 @@
 use Rattle.std.proofs.Common.{◌≡◌, ◌<◌, ◌+◌, ◌-◌, ◌*◌, ◌^◌, List, take, drop, get_or, Bool, true, false, ◌∙◌, arith}
 use Rattle.std.proofs.lemmas.Grind.{common_steps}
 use Rattle.nfc_base.specs.Bits.{bits_of, number_of}
-use Rattle.air_core.proofs.BitsOfBytes.{length_bits_of}
+use Rattle.nfc_base.proofs.Packing.{length_of_bits}
 use Rattle.nfca_poll.proofs.Spans.{small_more, number_down}
 use Rattle.nfca_poll.proofs.span.number.Goals as goal
 
@@ -14,7 +14,7 @@ loop-at-preserved-then-one c =
       low = omega arith;
       high = omega arith;
       small = small_more c.loop-at.value c.args.to c.loop-at.at h c.loop-at.invariant.high c.loop-at.invariant.small;
-      value = number_down x c.loop-at.at c.args.to true c.loop-at.value h c.loop-at.invariant.high (omega (arith, length_bits_of c.args.bytes.now, c.requires.within)) e c.loop-at.invariant.value;
+      value = number_down x c.loop-at.at c.args.to true c.loop-at.value h c.loop-at.invariant.high (omega (arith, length_of_bits c.args.bytes.now, c.requires.within)) e c.loop-at.invariant.value;
     }
 
 pub loop-at-preserved : goal.loop-at-preserved
@@ -24,5 +24,5 @@ loop-at-preserved c =
     let e : false ≡ get_or x (c.loop-at.at - 1) false = grind (arith, common_steps) in
     let s : 1 + 2 * c.loop-at.value < 2 ^ (c.args.to - (c.loop-at.at - 1)) = small_more c.loop-at.value c.args.to c.loop-at.at h c.loop-at.invariant.high c.loop-at.invariant.small in
     let v : 0 + 2 * c.loop-at.value ≡ number_of (drop (c.loop-at.at - 1) (take c.args.to x)) =
-    number_down x c.loop-at.at c.args.to false c.loop-at.value h c.loop-at.invariant.high (omega (arith, length_bits_of c.args.bytes.now, c.requires.within)) e c.loop-at.invariant.value in
+    number_down x c.loop-at.at c.args.to false c.loop-at.value h c.loop-at.invariant.high (omega (arith, length_of_bits c.args.bytes.now, c.requires.within)) e c.loop-at.invariant.value in
     record { low = omega arith; high = omega arith; small = omega (arith, s); value = (let q : 2 * c.loop-at.value ≡ 0 + 2 * c.loop-at.value = omega arith in q) ∙ v }

@@ -1,6 +1,6 @@
 use Rattle.std.proofs.Common.{ℕ, ◌<◌, ◌≤◌, ◌+◌, List, take, drop, Bool, sym, ◌∙◌, arith}
 use Rattle.nfc_base.specs.Bits.{bits_of, packed}
-use Rattle.air_core.proofs.BitsOfBytes.{length_bits_of}
+use Rattle.nfc_base.proofs.Packing.{length_of_bits}
 use Rattle.nfca_poll.proofs.Spans.{pack_part, pack_end}
 use Rattle.nfca_poll.proofs.span.pack.Goals as goal
 
@@ -12,7 +12,7 @@ returns-then-at-to c =
     let few : c.args.to < at + 8 = omega arith in
     c.push-then-at-to.ensures.items
     ∙ sym (pack_part x at c.args.to c.loop-at.packed.items (packed (drop c.args.from (take c.args.to x))) c.number-then-at-to.result less few
-    (omega (arith, length_bits_of c.args.bytes.now, c.requires.within)) c.loop-at.invariant.bytes c.number-then-at-to.ensures)
+    (omega (arith, length_of_bits c.args.bytes.now, c.requires.within)) c.loop-at.invariant.bytes c.number-then-at-to.ensures)
 
 pub returns-else-at-to : goal.returns-else-at-to
 returns-else-at-to c =

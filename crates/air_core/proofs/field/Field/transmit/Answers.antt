@@ -12,7 +12,7 @@ use Rattle.air_core.specs.World.{came_back}
 use Rattle.air_core.specs.Turn.{world}
 use Rattle.air_core.specs.Joining.{IsJoined}
 use Rattle.nfc_base.specs.Signal.{Signal}
-use Rattle.air_core.proofs.BitsOfBytes.{first_of}
+use Rattle.air_core.proofs.FirstBits.{first_of}
 use Rattle.air_core.proofs.Transmitting.{transmits_silence, transmits_answer, transmits_clash, transmits_stop}
 use Rattle.air_core.proofs.field.Field.transmit.Goals as goal
 

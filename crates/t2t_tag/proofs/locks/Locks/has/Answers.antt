@@ -1,6 +1,6 @@
 use Rattle.std.proofs.Common.{ℕ, ◌<◌, ◌*◌, ◌/◌, ◌%◌, ◌^◌, List, length, get_or, nat_eq, false, sym, ◌∙◌, ap, arith}
 use Rattle.std.proofs.lemmas.Nat.{and_mask}
-use Rattle.t2t_tag.proofs.Bits.{bit_of}
+use Rattle.nfc_base.proofs.BitsOfBytes.{bit_of}
 use Rattle.t2t_tag.proofs.locks.Locks.has.Goals as goal
 
 pub returns : goal.returns

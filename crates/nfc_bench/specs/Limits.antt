@@ -1,0 +1,31 @@
+-- The limits of a script; this project's own.
+use Rattle.std.specs.Prelude.{ℕ, ◌+◌, ◌*◌, ◌≤◌, List, length}
+use Rattle.std.specs.List.{All}
+use Rattle.nfc_bench.specs.Lines.{lines_of}
+
+-- how many lines it may have, and how many bytes a line, without its LF
+abbrev pub most_lines : ℕ
+most_lines = 2
+
+abbrev pub longest_line : ℕ
+longest_line = 4096
+
+-- how many bytes one call of the source asks for
+abbrev pub chunk_size : ℕ
+chunk_size = 4096
+
+-- how many bytes a script within the limits may have, and how many a run may read
+abbrev pub longest_script : ℕ
+longest_script = most_lines * (longest_line + 1)
+
+abbrev pub most_read : ℕ
+most_read = longest_script + chunk_size
+
+-- Neither the number of the lines is above its limit nor the length of one of them.
+pub record AreWithinLimits (lines : List (List ℕ)) : Type 0 where
+  pub few : length lines ≤ most_lines
+  pub short : All (λ l. length l ≤ longest_line) lines
+
+-- A line of the text is refused for its number or its length.
+abbrev pub PassesLimits : List ℕ → Type 0
+PassesLimits text = AreWithinLimits (lines_of text) → ⊥

@@ -1,0 +1,144 @@
+-- What a run does, by the status that it ends with.
+use Rattle.std.specs.Prelude.{◌≡◌, ℕ, ◌+◌, ◌<◌, ◌≤◌, ◌⊎◌, List, [], ◌∷◌, ◌++◌, length, codes, false, Option, Some, IfSome}
+use Rattle.std.specs.Fmt.{decimal}
+use Rattle.nfc_io.specs.Counts.{HasRisen}
+use Rattle.nfc_io.specs.Moves.{with_front, with_end, GainsFront}
+use Rattle.nfc_bench.specs.declared.command.Command.{Command}
+use Rattle.nfc_bench.specs.declared.entry.Entry.{Entry}
+use Rattle.nfc_bench.specs.Script.{Spells}
+use Rattle.nfc_bench.specs.Lines.{lines_of, whole_lines}
+use Rattle.nfc_bench.specs.Limits.{most_lines, longest_line, chunk_size, AreWithinLimits}
+use Rattle.nfc_bench.specs.Legal.{IsAccepted, state_of}
+use Rattle.nfc_bench.specs.Journal.{Legal}
+use Rattle.nfc_bench.specs.Report.{entry_text, report_text}
+
+-- the words of a run
+abbrev pub IsRun : List (List ℕ) → Type 0
+IsRun words = words ≡ codes "run" ∷ []
+
+-- the fault lines
+abbrev pub words_fault : List ℕ
+words_fault = codes "fault 6 words\n"
+
+abbrev pub memory_fault : List ℕ
+memory_fault = codes "fault 5 memory\n"
+
+abbrev pub read_fault : List ℕ
+read_fault = codes "fault 3 read\n"
+
+abbrev pub line_fault : ℕ → List ℕ
+line_fault n = codes "fault 2 line " ++ decimal n ++ codes "\n"
+
+-- These lines were obeyed, and this is their journal.
+pub record AreObeyed (lines : List (List ℕ)) (journal : List Entry) : Type 0 where
+  pub legal : Legal lines journal
+  pub limits : AreWithinLimits lines
+
+-- The first of these lines were obeyed, and this is their journal.
+pub record FrontIsObeyed (lines : List (List ℕ)) (journal : List Entry) : Type 0 where
+  pub front : List (List ℕ)
+  pub rest : List (List ℕ)
+  pub parts : lines ≡ front ++ rest
+  pub obeyed : AreObeyed front journal
+
+-- behind this journal, a line spells a command that is accepted
+abbrev pub IsTaken : List Entry → List ℕ → Type 0
+IsTaken journal line = (c : Command) × Spells line c × IsAccepted (state_of journal) c
+
+-- Line n is refused behind this journal: for its number, for its length, or as it stands.
+abbrev pub IsRefused : List Entry → ℕ → List ℕ → Type 0
+IsRefused journal n line = (most_lines < n) ⊎ ((longest_line < length line) ⊎ (IsTaken journal line → ⊥))
+
+-- Line n is the first of these lines that is refused. The lines before it were obeyed, and this is their journal.
+pub record FirstRefused (lines : List (List ℕ)) (journal : List Entry) (n : ℕ) : Type 0 where
+  pub before : List (List ℕ)
+  pub line : List ℕ
+  pub after : List (List ℕ)
+  pub parts : lines ≡ before ++ line ∷ after
+  pub obeyed : AreObeyed before journal
+  pub number : n ≡ 1 + length before
+  pub refused : IsRefused journal n line
+
+-- The lines are within the limits, and the next line behind those of this journal is taken.
+pub record AllTaken (lines : List (List ℕ)) (journal : List Entry) : Type 0 where
+  pub limits : AreWithinLimits lines
+  pub taken : (before : List (List ℕ)) (line : List ℕ) (after : List (List ℕ)) → lines ≡ before ++ line ∷ after → Legal before journal → IsTaken journal line
+
+-- Which lines count. There is an input; it is the source's, where the source tells its bytes.
+
+-- the input was read to its end, and all its lines were obeyed
+pub record ObeysAll (left left' : Option (List ℕ)) (journal : List Entry) : Type 0 where
+  pub input : List ℕ
+  pub told : IfSome left (λ bytes. (input ≡ bytes) × (left' ≡ Some []))
+  pub obeyed : AreObeyed (lines_of input) journal
+
+-- line n of the input is the first that is refused
+pub record RefusesLine (left : Option (List ℕ)) (journal : List Entry) (n : ℕ) : Type 0 where
+  pub input : List ℕ
+  pub told : IfSome left (λ bytes. input ≡ bytes)
+  pub first : FirstRefused (lines_of input) journal n
+
+-- some bytes were read, and their whole lines were obeyed
+pub record ObeysWhole (left left' : Option (List ℕ)) (journal : List Entry) : Type 0 where
+  pub read : List ℕ
+  pub told : left ≡ with_front read left'
+  pub obeyed : AreObeyed (whole_lines read) journal
+
+-- the first lines of the input were obeyed
+pub record ObeysFront (left : Option (List ℕ)) (journal : List Entry) : Type 0 where
+  pub input : List ℕ
+  pub told : IfSome left (λ bytes. input ≡ bytes)
+  pub obeyed : FrontIsObeyed (lines_of input) journal
+
+-- The sink gained the report and the fault line, or, where its count rose, the report and a front of that line.
+abbrev pub AddsFault : List ℕ → List ℕ → Option (List ℕ) → Option (List ℕ) → ℕ → ℕ → Type 0
+AddsFault report fault taken taken' writes writes' =
+    (taken' ≡ with_end taken (report ++ fault)) ⊎ (HasRisen writes writes' × GainsFront (with_end taken report) taken' fault)
+
+-- Status 0: every line was obeyed, and its entry written.
+pub record EndsDone (left left' taken taken' : Option (List ℕ)) (journal : List Entry) : Type 0 where
+  pub lines : ObeysAll left left' journal
+  pub written : taken' ≡ with_end taken (report_text false journal)
+
+-- Status 2: a line was the first that is refused.
+pub record EndsRefused (left taken taken' : Option (List ℕ)) (writes writes' : ℕ) (journal : List Entry) : Type 0 where
+  pub number : ℕ
+  pub lines : RefusesLine left journal number
+  pub written : AddsFault (report_text false journal) (line_fault number) taken taken' writes writes'
+
+-- Status 3: the source failed, behind some bytes.
+pub record EndsUnread (left left' taken taken' : Option (List ℕ)) (reads reads' writes writes' : ℕ) (journal : List Entry) : Type 0 where
+  pub risen : HasRisen reads reads'
+  pub lines : ObeysWhole left left' journal
+  pub written : AddsFault (report_text false journal) read_fault taken taken' writes writes'
+
+-- Status 4: the sink failed, within the text of the last entry.
+pub record EndsUnwritten (left taken taken' : Option (List ℕ)) (writes writes' : ℕ) (journal : List Entry) : Type 0 where
+  pub risen : HasRisen writes writes'
+  pub lines : ObeysFront left journal
+  pub before : List Entry
+  pub last : Entry
+  pub entries : journal ≡ before ++ last ∷ []
+  pub written : GainsFront (with_end taken (report_text false before)) taken' (entry_text false last)
+
+-- Status 5: memory was wanting. All entries were written, or all but the last.
+pub record EndsMemory (left taken taken' : Option (List ℕ)) (writes writes' : ℕ) (journal : List Entry) : Type 0 where
+  pub lines : ObeysFront left journal
+  pub entries : List Entry
+  pub most : (journal ≡ entries) ⊎ ((last : Entry) × (journal ≡ entries ++ last ∷ []))
+  pub written : AddsFault (report_text false entries) memory_fault taken taken' writes writes'
+
+-- So much was read: some bytes in which no line is refused for its number or its length, and behind them at most those
+-- of one call.
+pub record ReadsInTime (left left' : Option (List ℕ)) : Type 0 where
+  pub front : List ℕ
+  pub chunk : List ℕ
+  pub read : left ≡ with_front (front ++ chunk) left'
+  pub short : AreWithinLimits (lines_of front)
+  pub size : length chunk ≤ chunk_size
+
+-- at most so many bytes were read
+pub record ReadsAtMost (most : ℕ) (left left' : Option (List ℕ)) : Type 0 where
+  pub bytes : List ℕ
+  pub read : left ≡ with_front bytes left'
+  pub size : length bytes ≤ most

@@ -1,0 +1,133 @@
+//! The top call: a run, from the bytes of a script to the bytes of its report.
+
+ghost use Rattle.std.specs.Prelude.{map, string_bytes, codes, IsTrue, ⊤, ◌⊎◌, ◌≡◌, ◌+◌, ◌<◌, ◌≤◌, ◌↔◌, ◌++◌, [], ℕ, List, length, Option, Some, false, OnOk, IfErr};
+ghost use Rattle.std.specs.Fmt.{decimal};
+ghost use Rattle.nfc_io.specs.Counts.{HasRisen};
+ghost use Rattle.nfc_bench.specs.Lines.{lines_of};
+ghost use Rattle.nfc_bench.specs.Limits.{most_read};
+ghost use Rattle.nfc_bench.specs.Run.{IsRun, words_fault, line_fault, AllTaken, AddsFault, EndsDone, EndsRefused, EndsUnread, EndsUnwritten, EndsMemory, ReadsInTime, ReadsAtMost};
+ghost use Rattle.nfc_bench.specs.Stops.{RunStops};
+
+mod input;
+mod lines;
+#[cfg(test)]
+mod tests;
+
+use crate::bench::Bench;
+use arrayvec::ArrayVec;
+use input::read_script;
+use lines::{Stop, obey_lines};
+use nfc_io::{Sink, Source, write_all};
+use std::alloc::Global;
+
+/// Reads a script, obeys its lines, and reports each to the sink; answers the status. The status is that of the first
+/// stop, and a fault line that can't be written doesn't change it.
+pub fn run_bench<S: Source, K: Sink>(
+    alloc: Global,
+    words: &[String],
+    source: &mut S,
+    sink: &mut K,
+    bench: &mut Bench,
+) -> u8
+    requires { bench.old ≡ record { journal = []; spoiled = false } }
+    ensures status { (result ≡ 0) ⊎ ((2 ≤ result) × (result ≤ 6)) }
+
+    ensures done { result ≡ 0 → EndsDone (S.left source.old) (S.left source.new) (K.taken sink.old) (K.taken sink.new) bench.new.journal }
+    ensures refused { result ≡ 2 → EndsRefused (S.left source.old) (K.taken sink.old) (K.taken sink.new) (K.faults sink.old) (K.faults sink.new) bench.new.journal }
+    ensures unread { result ≡ 3 → EndsUnread (S.left source.old) (S.left source.new) (K.taken sink.old) (K.taken sink.new) (S.faults source.old) (S.faults source.new) (K.faults sink.old) (K.faults sink.new) bench.new.journal }
+    ensures unwritten { result ≡ 4 → EndsUnwritten (S.left source.old) (K.taken sink.old) (K.taken sink.new) (K.faults sink.old) (K.faults sink.new) bench.new.journal }
+    ensures memory { result ≡ 5 → EndsMemory (S.left source.old) (K.taken sink.old) (K.taken sink.new) (K.faults sink.old) (K.faults sink.new) bench.new.journal }
+    ensures words { (result ≡ 6) ↔ (IsRun (map string_bytes words.now) → ⊥) }
+    ensures same { result ≡ 6 → (source.new ≡ source.old) × (bench.new ≡ bench.old) }
+    ensures told { result ≡ 6 → AddsFault [] words_fault (K.taken sink.old) (K.taken sink.new) (K.faults sink.old) (K.faults sink.new) }
+
+    // Where every line is taken and neither count rose, memory alone may be wanting.
+    ensures complete { IsRun (map string_bytes words.now) → (bytes : List ℕ) → S.left source.old ≡ Some bytes → AllTaken (lines_of bytes) bench.new.journal → (HasRisen (S.faults source.old) (S.faults source.new) → ⊥) → (HasRisen (K.faults sink.old) (K.faults sink.new) → ⊥) → (result ≡ 0) ⊎ (result ≡ 5) }
+
+    ensures stop { ReadsInTime (S.left source.old) (S.left source.new) }
+    ensures bound { ReadsAtMost most_read (S.left source.old) (S.left source.new) }
+    ensures reads { S.faults source.old ≤ S.faults source.new }
+    ensures writes { K.faults sink.old ≤ K.faults sink.new }
+{
+    if !is_run(words) {
+        write_fault(sink, b"fault 6 words\n");
+        return 6;
+    }
+    match run_script(alloc, source, sink, bench) {
+        Ok(()) => 0,
+        Err(Stop::Refused(n)) => {
+            write_fault(sink, &refusal(n));
+            2
+        }
+        Err(Stop::ReadFault) => {
+            write_fault(sink, b"fault 3 read\n");
+            3
+        }
+        Err(Stop::WriteFault) => 4,
+        Err(Stop::Memory) => {
+            write_fault(sink, b"fault 5 memory\n");
+            5
+        }
+    }
+}
+
+/// Whether the words are a form that is known.
+fn is_run(words: &[String]) -> bool
+    ensures { IsTrue result ↔ IsRun (map string_bytes words.now) }
+{
+    words.len() == 1 && words[0].as_str() == "run"
+}
+
+/// Reads a script, and obeys its lines.
+fn run_script<S: Source, K: Sink>(
+    alloc: Global,
+    source: &mut S,
+    sink: &mut K,
+    bench: &mut Bench,
+) -> Result<(), Stop>
+    requires { bench.old.journal ≡ [] }
+    ensures ok { OnOk result (EndsDone (S.left source.old) (S.left source.new) (K.taken sink.old) (K.taken sink.new) bench.new.journal) }
+    ensures err { IfErr result (λ s. RunStops (S.left source.old) (S.left source.new) (K.taken sink.old) (K.taken sink.new) (S.faults source.old) (S.faults source.new) (K.faults sink.old) (K.faults sink.new) bench.new.journal s) }
+    ensures stop { ReadsInTime (S.left source.old) (S.left source.new) }
+    ensures bound { ReadsAtMost most_read (S.left source.old) (S.left source.new) }
+    ensures reads { S.faults source.old ≤ S.faults source.new }
+    ensures writes { K.faults sink.old ≤ K.faults sink.new }
+{
+    let Ok(script) = read_script(alloc, source) else {
+        return Err(Stop::Memory);
+    };
+    obey_lines(alloc, script.text.as_slice(), script.ending, sink, bench)
+}
+
+/// Writes a fault line, as far as the sink takes it.
+fn write_fault<K: Sink>(sink: &mut K, line: &[u8])
+    ensures told { AddsFault [] line.now (K.taken sink.old) (K.taken sink.new) (K.faults sink.old) (K.faults sink.new) }
+    ensures count { K.faults sink.old ≤ K.faults sink.new }
+{
+    let _ = write_all(sink, line);
+}
+
+/// The fault line of a line that was refused. It takes no memory.
+fn refusal(line: u32) -> ArrayVec<u8, 24>
+    ensures { result.items ≡ line_fault line }
+{
+    let mut text = ArrayVec::new();
+    text.try_extend_from_slice(b"fault 2 line ").unwrap();
+    push_decimal(&mut text, line);
+    text.push(b'\n');
+    text
+}
+
+/// Puts the digits of a number behind a text that has room for it.
+#[tactic(auto, using(std::proofs::lemmas::Fmt::decimal_digit))]
+fn push_decimal(text: &mut ArrayVec<u8, 24>, number: u32)
+    requires { length text.old.items + length (decimal number) ≤ 24 }
+    ensures { text.new.items ≡ text.old.items ++ decimal number }
+{
+    if number < 10 {
+        text.push(b'0' + number as u8);
+    } else {
+        push_decimal(text, number / 10);
+        text.push(b'0' + (number % 10) as u8);
+    }
+}
