@@ -1,0 +1,5 @@
+pub mod Containers
+pub mod Layout
+pub mod Form
+pub mod Map
+pub mod Reading

@@ -1,0 +1,92 @@
+-- What the parts of the walk say. No public contract speaks of these.
+use Rattle.std.specs.Prelude.{◌≡◌, ◌≢◌, ℕ, ◌+◌, ◌-◌, ◌<◌, ◌≤◌, Bool, false, not, ◌&&◌, ◌||◌, ◌==◌, nat_lt, nat_le, if◌then◌else◌, List, length, ◌++◌, Option, MatchOption}
+use Rattle.std.specs.List.{list_all, flat_map, AllByRecursion}
+use Rattle.tlv_area.specs.declared.space.Space.{Space}
+use Rattle.tlv_area.specs.declared.ahead.Ahead.{Ahead}
+use Rattle.tlv_area.specs.declared.ahead.Ahead.TheVariants as ahead
+use Rattle.tlv_area.specs.declared.ahead.Found.{Found}
+use Rattle.tlv_area.specs.Layout.{free, reserved_by, reserves, LiesIn, Tlv, bytes_at, ndef_message}
+use Rattle.tlv_area.specs.Form.{End, Fault, Unknown, Item, next, value_next}
+
+-- p is just past the first n free addresses from `at` on
+pub record IsPast (is_reserved : ℕ → Bool) (at end n p : ℕ) : Type 0 where
+  pub above : at + n ≤ p
+  pub below : p ≤ end
+  pub count : length (free is_reserved at p) ≡ n
+  pub last : 0 < n → is_reserved (p - 1) ≡ false
+  pub none : n ≡ 0 → p ≡ at
+
+-- a TLV that was read, from `at` on
+pub record IsFound (is_reserved : ℕ → Bool) (memory : List ℕ) (at end : ℕ) (found : Found) (t : Tlv) : Type 0 where
+  pub kind : t.kind ≡ found.kind
+  pub long : t.long ≡ found.long
+  pub size : length t.value ≡ found.length
+  pub value : t.value ≡ bytes_at memory (free is_reserved found.from found.past)
+  pub addresses : t.at ≡ free is_reserved at found.past
+  pub from_above : at < found.from
+  pub past_above : found.from + found.length ≤ found.past
+  pub below : found.past ≤ end
+  pub known : found.past ≤ length memory
+  pub last : is_reserved (found.past - 1) ≡ false
+
+-- what stands next from `at` on
+abbrev pub IsAhead : (ℕ → Bool) → List ℕ → ℕ → ℕ → Ahead → Type 0
+IsAhead is_reserved memory at end ahead.End = next memory (free is_reserved at end) ≡ End
+IsAhead is_reserved memory at end ahead.Fault = next memory (free is_reserved at end) ≡ Fault
+IsAhead is_reserved memory at end ahead.Unknown = next memory (free is_reserved at end) ≡ Unknown
+IsAhead is_reserved memory at end (ahead.Item found) =
+    (t : Tlv) × (next memory (free is_reserved at end) ≡ Item t) × IsFound is_reserved memory at end found t
+
+-- what a value that is there says, whatever the addresses of the header are
+pub record IsValue (is_reserved : ℕ → Bool) (memory : List ℕ) (from end kind : ℕ) (long : Bool) (n : ℕ) (found : Found) : Type 0 where
+  pub kind' : found.kind ≡ kind
+  pub long' : found.long ≡ long
+  pub from' : found.from ≡ from
+  pub size : found.length ≡ n
+  pub value : IsPast is_reserved from end n found.past
+  pub known : found.past ≤ length memory
+  pub next' : (header : List ℕ) → value_next memory kind long header n (free is_reserved from end)
+      ≡ Item (record { kind = kind; long = long; value = bytes_at memory (free is_reserved from found.past); at = header ++ free is_reserved from found.past })
+
+-- what the value of a TLV is, from `from` on
+abbrev pub IsValueAhead : (ℕ → Bool) → List ℕ → ℕ → ℕ → ℕ → Bool → ℕ → Ahead → Type 0
+IsValueAhead is_reserved memory from end kind long n ahead.End = ⊥
+IsValueAhead is_reserved memory from end kind long n ahead.Fault =
+    (header : List ℕ) → value_next memory kind long header n (free is_reserved from end) ≡ Fault
+IsValueAhead is_reserved memory from end kind long n ahead.Unknown =
+    (header : List ℕ) → value_next memory kind long header n (free is_reserved from end) ≡ Unknown
+IsValueAhead is_reserved memory from end kind long n (ahead.Item found) =
+    IsValue is_reserved memory from end kind long n found
+
+-- A walk has come to `at`: the TLVs take each address before it that isn't reserved, and r tells which are.
+pub record Trail (space : Space) (memory : List ℕ) (ts : List Tlv) (at : ℕ) (r : ℕ → Bool) : Type 0 where
+  pub joined : flat_map (λ t. t.at) ts ≡ free r space.start at
+  pub same : (a : ℕ) → r a ≡ reserved_by space.control ts a
+  pub lie : AllByRecursion (LiesIn memory) ts
+  pub plain : AllByRecursion (λ t. t.kind ≢ ndef_message) ts
+
+-- the value of a TLV that was read lies at the free addresses of its span
+pub record HasValue (is_reserved : ℕ → Bool) (memory : List ℕ) (end : ℕ) (found : Found) : Type 0 where
+  pub order : found.from ≤ found.past
+  pub below : found.past ≤ end
+  pub known : found.past ≤ length memory
+  pub count : length (free is_reserved found.from found.past) ≡ found.length
+  pub last : 0 < found.length → is_reserved (found.past - 1) ≡ false
+
+-- a range is what the TLV that was read reserves
+abbrev pub IsRangeOf : (ℕ → Bool) → List ℕ → Found → Option (ℕ × ℕ) → Type 0
+IsRangeOf is_reserved memory found range =
+    (t : Tlv) → t.kind ≡ found.kind → t.value ≡ bytes_at memory (free is_reserved found.from found.past) →
+    ((a : ℕ) → list_all (λ b. nat_lt b a) t.at ≡ not (nat_lt a found.past)) →
+    MatchOption range ((a : ℕ) → reserves t a ≡ false) (λ r. (a : ℕ) → reserves t a ≡ (nat_le r.0 a && nat_lt a r.1))
+
+-- how many bytes a TLV has
+abbrev pub tlv_size : ℕ → Bool → ℕ → ℕ
+tlv_size kind long n = if kind == 0 then 1 else if long then n + 4 else n + 2
+
+-- after is before, with what the TLV that was read reserves where control TLVs count
+abbrev pub Reserves : Bool → List ℕ → Found → (ℕ → Bool) → (ℕ → Bool) → Type 0
+Reserves control memory found before after =
+    (t : Tlv) → t.kind ≡ found.kind → t.value ≡ bytes_at memory (free before found.from found.past) →
+    ((a : ℕ) → list_all (λ b. nat_lt b a) t.at ≡ not (nat_lt a found.past)) →
+    (a : ℕ) → after a ≡ (before a || (control && reserves t a))

@@ -1,0 +1,118 @@
+//! One TLV: its type, its length, and where its value lies.
+
+ghost use Rattle.std.specs.Prelude.{◌≤◌, length};
+ghost use Rattle.tlv_area.specs.Map.{in_ranges};
+ghost use Rattle.tlv_area.specs.Reading.{IsAhead, IsValueAhead};
+
+use crate::ranges::past;
+
+/// The types of TLVs that the walk knows.
+const NULL: u8 = 0x00;
+
+const TERMINATOR: u8 = 0xFE;
+
+/// The first byte of a length that has three.
+const LONG_MARK: u8 = 0xFF;
+
+/// A TLV that was read, its value between two addresses.
+#[derive(Clone, Copy)]
+pub struct Found {
+    pub kind: u8,
+    pub long: bool,
+    pub from: u32,
+    pub length: u32,
+    pub past: u32,
+}
+
+/// What stands next: nothing more, a fault, a byte that isn't known, or a TLV.
+#[derive(Clone, Copy)]
+pub enum Ahead {
+    End,
+    Fault,
+    Unknown,
+    Item(Found),
+}
+
+/// The value of a TLV, of `size` bytes from `from` on.
+fn value_ahead(
+    reserved: &[(u32, u32)],
+    end: u32,
+    known: &[u8],
+    kind: u8,
+    long: bool,
+    from: u32,
+    size: u32,
+) -> Ahead
+    requires below { from ≤ end }
+    requires front { from ≤ length known.now }
+    ensures { IsValueAhead (in_ranges reserved.now) known.now from end kind long size result }
+{
+    match past(reserved, from, end, size) {
+        None => Ahead::Fault,
+        Some(past) => {
+            if past as usize <= known.len() {
+                Ahead::Item(Found {
+                    kind,
+                    long,
+                    from,
+                    length: size,
+                    past,
+                })
+            } else {
+                Ahead::Unknown
+            }
+        }
+    }
+}
+
+/// What stands next from `at` on.
+pub fn look_ahead(reserved: &[(u32, u32)], at: u32, end: u32, known: &[u8]) -> Ahead
+    requires below { at ≤ end }
+    ensures { IsAhead (in_ranges reserved.now) known.now at end result }
+{
+    let Some(kind_past) = past(reserved, at, end, 1) else {
+        return Ahead::End;
+    };
+    if kind_past as usize > known.len() {
+        return Ahead::Unknown;
+    }
+    let kind = known[kind_past as usize - 1];
+    if kind == TERMINATOR {
+        return Ahead::End;
+    }
+    if kind == NULL {
+        return Ahead::Item(Found {
+            kind,
+            long: false,
+            from: kind_past,
+            length: 0,
+            past: kind_past,
+        });
+    }
+    let Some(first_past) = past(reserved, kind_past, end, 1) else {
+        return Ahead::Fault;
+    };
+    if first_past as usize > known.len() {
+        return Ahead::Unknown;
+    }
+    let first = known[first_past as usize - 1];
+    if first != LONG_MARK {
+        return value_ahead(reserved, end, known, kind, false, first_past, first as u32);
+    }
+    let Some(high_past) = past(reserved, first_past, end, 1) else {
+        return Ahead::Fault;
+    };
+    let Some(low_past) = past(reserved, high_past, end, 1) else {
+        return Ahead::Fault;
+    };
+    if low_past as usize > known.len() {
+        return Ahead::Unknown;
+    }
+    let high = known[high_past as usize - 1];
+    let low = known[low_past as usize - 1];
+    let length = high as u32 * 256 + low as u32;
+    if length == 0xFFFF {
+        return Ahead::Fault;
+    }
+    value_ahead(reserved, end, known, kind, true, low_past, length)
+}

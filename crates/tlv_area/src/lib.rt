@@ -1,0 +1,13 @@
+//! The message that a store holds: containers, TLVs and reserved ranges.
+#![tactic(auto)]
+
+mod ahead;
+mod container;
+mod control;
+mod ranges;
+mod space;
+mod walk;
+
+pub use container::{container_t2, container_t4, container_t5, ContainerFault, FileMap};
+pub use space::{AreaMap, Space};
+pub use walk::Walk;
