@@ -5,3 +5,4 @@ pub mod OneForm
 pub mod OneNext
 pub mod Fronts
 pub mod Places
+pub mod Cuts

@@ -55,3 +55,25 @@ fn walk_area(space: &Space, known: &[u8]) -> Walk
     }
     Walk::NoMessageTlv
 }
+
+/// The message of an area, as far as a front of the tag's memory tells: `known` is the memory from address 0 on. It
+/// takes no memory.
+pub fn find_message(space: &Space, known: &[u8]) -> Walk
+    requires order { space.now.start ≤ space.now.end }
+    requires small { space.now.control ≡ true → space.now.end ≤ space.now.start + 1008 }
+    // over a memory that has the whole area it is the form
+    ensures form { space.now.end ≤ length known.now → TellsForm space.now known.now result }
+    // what a front settles, each memory that begins with it has: the map, and the form
+    ensures walk { IsWalk space.now known.now result }
+    ensures front { (more : List ℕ) → IsSettled result → IsWalk space.now (known.now ++ more) result }
+    ensures settled { (more : List ℕ) → IsSettled result → TellsForm space.now (known.now ++ more) result }
+    // it is More exactly where the walk needs a byte of the area behind the front
+    ensures more { (result ≡ Walk.More) ↔ Comes space.now known.now Unknown }
+    // a message that is held lies in the area, below what is known
+    ensures places { HasPlaces known.now result }
+    // a tag that ends before its area: what is settled is the form of the area cut there
+    ensures cut { space.now.start ≤ length known.now → length known.now ≤ space.now.end → IsSettled result →
+        TellsForm (cut space.now (length known.now)) known.now result }
+{
+    walk_area(space, known)
+}
