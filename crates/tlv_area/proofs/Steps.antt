@@ -204,12 +204,12 @@ two_taken r at p end q is is_low =
     ∙ ap (λ cells. cells ++ free r p q) (one_taken r at end p is)
     ∙ ap (λ cells. (p - 1) ∷ cells) (one_taken r p end q is_low))
 
-pub four_taken : (r : ℕ → Bool) (at k f end h l : ℕ) → IsPast r at end 1 k → IsPast r k end 1 f → IsPast r f end 1 h → IsPast r h end 1 l →
-    (k - 1) ∷ (f - 1) ∷ (h - 1) ∷ (l - 1) ∷ [] ≡ free r at l
-four_taken r at k f end h l is_k is_f is_h is_l =
-    ap (λ cells. (k - 1) ∷ (f - 1) ∷ cells) (two_taken r f h end l is_h is_l)
-    ∙ ap (λ cells. cells ++ free r f l) (two_taken r at k end f is_k is_f)
-    ∙ sym (free_split r at f l (omega (arith, is_k.above, is_f.above)) (omega (arith, is_h.above, is_l.above)))
+pub three_taken : (r : ℕ → Bool) (at f end h l : ℕ) → IsPast r at end 1 f → IsPast r f end 1 h → IsPast r h end 1 l →
+    (f - 1) ∷ (h - 1) ∷ (l - 1) ∷ [] ≡ free r at l
+three_taken r at f end h l is_f is_h is_l =
+    ap (λ cells. (f - 1) ∷ cells) (two_taken r f h end l is_h is_l)
+    ∙ ap (λ cells. cells ++ free r f l) (sym (one_taken r at end f is_f))
+    ∙ sym (free_split r at f l (omega (arith, is_f.above)) (omega (arith, is_h.above, is_l.above)))
 
 pub all_ones : (memory : List ℕ) (kind : ℕ) (header : List ℕ) (n : ℕ) (cells : List ℕ) → n ≡ 65535 →
     long_value_next memory kind header n cells ≡ Fault

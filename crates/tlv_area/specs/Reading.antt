@@ -1,12 +1,14 @@
 -- What the parts of the walk say. No public contract speaks of these.
-use Rattle.std.specs.Prelude.{◌≡◌, ◌≢◌, ℕ, ◌+◌, ◌-◌, ◌<◌, ◌≤◌, Bool, false, not, ◌&&◌, ◌||◌, ◌==◌, nat_lt, nat_le, if◌then◌else◌, List, length, ◌++◌, Option, MatchOption}
+use Rattle.std.specs.Prelude.{◌≡◌, ◌≢◌, ℕ, ◌+◌, ◌-◌, ◌<◌, ◌≤◌, Bool, false, not, ◌&&◌, ◌||◌, ◌==◌, nat_lt, nat_le, if◌then◌else◌, List, ◌∷◌, length, ◌++◌, Option, MatchOption}
 use Rattle.std.specs.List.{list_all, flat_map, AllByRecursion}
 use Rattle.tlv_area.specs.declared.space.Space.{Space}
 use Rattle.tlv_area.specs.declared.ahead.Ahead.{Ahead}
 use Rattle.tlv_area.specs.declared.ahead.Ahead.TheVariants as ahead
+use Rattle.tlv_area.specs.declared.ahead.LengthAhead.{LengthAhead}
+use Rattle.tlv_area.specs.declared.ahead.LengthAhead.TheVariants as of_length
 use Rattle.tlv_area.specs.declared.ahead.Found.{Found}
 use Rattle.tlv_area.specs.Layout.{free, reserved_by, reserves, LiesIn, Tlv, bytes_at, ndef_message}
-use Rattle.tlv_area.specs.Form.{End, Fault, Unknown, Item, next, value_next}
+use Rattle.tlv_area.specs.Form.{End, Fault, Unknown, Item, next, length_next, value_next}
 
 -- p is just past the first n free addresses from `at` on
 pub record IsPast (is_reserved : ℕ → Bool) (at end n p : ℕ) : Type 0 where
@@ -47,6 +49,20 @@ pub record IsValue (is_reserved : ℕ → Bool) (memory : List ℕ) (from end ki
   pub known : found.past ≤ length memory
   pub next' : (header : List ℕ) → value_next memory kind long header n (free is_reserved from end)
       ≡ Item (record { kind = kind; long = long; value = bytes_at memory (free is_reserved from found.past); at = header ++ free is_reserved from found.past })
+
+-- the length that stands from `at` on leads to a value of so many bytes from `from` on
+pub record IsLength (is_reserved : ℕ → Bool) (memory : List ℕ) (at end : ℕ) (long : Bool) (size from : ℕ) : Type 0 where
+  pub above : at < from
+  pub below : from ≤ end
+  pub known : from ≤ length memory
+  pub last : is_reserved (from - 1) ≡ false
+  pub next' : (kind a : ℕ) → length_next memory kind a (free is_reserved at end)
+      ≡ value_next memory kind long (a ∷ free is_reserved at from) size (free is_reserved from end)
+
+abbrev pub IsLengthAhead : (ℕ → Bool) → List ℕ → ℕ → ℕ → LengthAhead → Type 0
+IsLengthAhead is_reserved memory at end of_length.Fault = (kind a : ℕ) → length_next memory kind a (free is_reserved at end) ≡ Fault
+IsLengthAhead is_reserved memory at end of_length.Unknown = (kind a : ℕ) → length_next memory kind a (free is_reserved at end) ≡ Unknown
+IsLengthAhead is_reserved memory at end (of_length.Value long size from) = IsLength is_reserved memory at end long size from
 
 -- what the value of a TLV is, from `from` on
 abbrev pub IsValueAhead : (ℕ → Bool) → List ℕ → ℕ → ℕ → ℕ → Bool → ℕ → Ahead → Type 0

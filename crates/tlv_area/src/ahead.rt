@@ -2,7 +2,7 @@
 
 ghost use Rattle.std.specs.Prelude.{◌≤◌, length};
 ghost use Rattle.tlv_area.specs.Map.{in_ranges};
-ghost use Rattle.tlv_area.specs.Reading.{IsAhead, IsValueAhead};
+ghost use Rattle.tlv_area.specs.Reading.{IsAhead, IsLengthAhead, IsValueAhead};
 
 use crate::ranges::past;
 
@@ -13,6 +13,9 @@ const TERMINATOR: u8 = 0xFE;
 
 /// The first byte of a length that has three.
 const LONG_MARK: u8 = 0xFF;
+
+/// Two bytes behind it that are no length.
+const NO_LENGTH: u32 = 0xFFFF;
 
 /// A TLV that was read, its value between two addresses.
 #[derive(Clone, Copy)]
@@ -31,6 +34,14 @@ pub enum Ahead {
     Fault,
     Unknown,
     Item(Found),
+}
+
+/// What a length leads to: a fault, a byte that isn't known, or a value of `size` bytes from `from` on.
+#[derive(Clone, Copy)]
+pub enum LengthAhead {
+    Fault,
+    Unknown,
+    Value { long: bool, size: u32, from: u32 },
 }
 
 /// The value of a TLV, of `size` bytes from `from` on.
@@ -65,6 +76,47 @@ fn value_ahead(
     }
 }
 
+/// Where the length that stands from `at` on leads.
+fn length_ahead(reserved: &[(u32, u32)], at: u32, end: u32, known: &[u8]) -> LengthAhead
+    requires below { at ≤ end }
+    ensures { IsLengthAhead (in_ranges reserved.now) known.now at end result }
+{
+    let Some(first_past) = past(reserved, at, end, 1) else {
+        return LengthAhead::Fault;
+    };
+    if first_past as usize > known.len() {
+        return LengthAhead::Unknown;
+    }
+    let first = known[first_past as usize - 1];
+    if first != LONG_MARK {
+        return LengthAhead::Value {
+            long: false,
+            size: first as u32,
+            from: first_past,
+        };
+    }
+    let Some(high_past) = past(reserved, first_past, end, 1) else {
+        return LengthAhead::Fault;
+    };
+    let Some(low_past) = past(reserved, high_past, end, 1) else {
+        return LengthAhead::Fault;
+    };
+    if low_past as usize > known.len() {
+        return LengthAhead::Unknown;
+    }
+    let high = known[high_past as usize - 1];
+    let low = known[low_past as usize - 1];
+    let size = high as u32 * 256 + low as u32;
+    if size == NO_LENGTH {
+        return LengthAhead::Fault;
+    }
+    LengthAhead::Value {
+        long: true,
+        size,
+        from: low_past,
+    }
+}
+
 /// What stands next from `at` on.
 pub fn look_ahead(reserved: &[(u32, u32)], at: u32, end: u32, known: &[u8]) -> Ahead
     requires below { at ≤ end }
@@ -89,30 +141,11 @@ pub fn look_ahead(reserved: &[(u32, u32)], at: u32, end: u32, known: &[u8]) -> A
             past: kind_past,
         });
     }
-    let Some(first_past) = past(reserved, kind_past, end, 1) else {
-        return Ahead::Fault;
-    };
-    if first_past as usize > known.len() {
-        return Ahead::Unknown;
+    match length_ahead(reserved, kind_past, end, known) {
+        LengthAhead::Fault => Ahead::Fault,
+        LengthAhead::Unknown => Ahead::Unknown,
+        LengthAhead::Value { long, size, from } => {
+            value_ahead(reserved, end, known, kind, long, from, size)
+        }
     }
-    let first = known[first_past as usize - 1];
-    if first != LONG_MARK {
-        return value_ahead(reserved, end, known, kind, false, first_past, first as u32);
-    }
-    let Some(high_past) = past(reserved, first_past, end, 1) else {
-        return Ahead::Fault;
-    };
-    let Some(low_past) = past(reserved, high_past, end, 1) else {
-        return Ahead::Fault;
-    };
-    if low_past as usize > known.len() {
-        return Ahead::Unknown;
-    }
-    let high = known[high_past as usize - 1];
-    let low = known[low_past as usize - 1];
-    let length = high as u32 * 256 + low as u32;
-    if length == 0xFFFF {
-        return Ahead::Fault;
-    }
-    value_ahead(reserved, end, known, kind, true, low_past, length)
 }

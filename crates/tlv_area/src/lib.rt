@@ -4,12 +4,14 @@
 mod ahead;
 mod container;
 mod control;
+mod form;
 mod message;
 mod ranges;
 mod space;
 mod walk;
 
 pub use container::{container_t2, container_t4, container_t5, ContainerFault, FileMap};
+pub use form::one_form;
 pub use message::message_byte;
 pub use space::{AreaMap, Space};
 pub use walk::{find_message, Walk};
