@@ -1,5 +1,5 @@
 -- An area cut at the memory's end.
-use Rattle.std.proofs.Common.{◌≡◌, ℕ, suc, zero, ◌+◌, ◌-◌, ◌*◌, ◌<◌, ◌≤◌, Bool, true, false, List, [], ◌∷◌, ◌++◌, length, refl, sym, ◌∙◌, ap, arith, subst, ltb, leb, eqb, take, inl, inr, ◌⊎◌, drop}
+use Rattle.std.proofs.Common.{◌≡◌, ℕ, suc, zero, ◌+◌, ◌-◌, ◌*◌, ◌<◌, ◌≤◌, Bool, true, false, List, [], ◌∷◌, ◌++◌, length, refl, sym, ◌∙◌, ap, arith, subst, ltb, leb, eqb, take, inl, inr, ◌⊎◌, drop, min}
 use Rattle.std.specs.Prelude.{◌&&◌, nat_lt, nat_le, slice_index}
 use Rattle.std.specs.List.{list_all, flat_map, AllByRecursion}
 use Rattle.std.proofs.lemmas.List.{length-append, take-append-le, append_assoc, take-append-drop}
@@ -7,7 +7,8 @@ use Rattle.std.proofs.lemmas.List.Folds.{list_all-append}
 use Rattle.std.proofs.lemmas.Bool.{lt-ltb, le-ltb, leb-true, ltb-true, ltb-false, and_parts, and_left, and_right, cases_Bool, cases_lt}
 use Rattle.tlv_area.specs.Layout.{free, is_known, Tlv, LiesIn, Layout, reserved_by, bytes_at}
 use Rattle.tlv_area.specs.Form.{next, length_next, long_next, value_next, Next, End, Fault, Unknown, Item, Comes, Message, NoMessageTlv, BadTlv, Form, IsForm}
-use Rattle.tlv_area.specs.Map.{IsWalk, IsSettled, TellsForm, HasPlaces, message_cells, cut}
+use Rattle.tlv_area.specs.Map.{IsWalk, IsSettled, TellsForm, HasPlaces, message_cells}
+use Rattle.tlv_area.specs.Stores.{cut}
 use Rattle.tlv_area.proofs.Free.{free_split}
 use Rattle.tlv_area.proofs.Steps.{free_last}
 use Rattle.tlv_area.proofs.Places.{message_there, message_placed}
@@ -16,6 +17,10 @@ use Rattle.tlv_area.specs.declared.walk.Walk.{Walk}
 use Rattle.tlv_area.specs.declared.space.Space.{Space}
 use Rattle.tlv_area.specs.declared.walk.Walk.TheVariants as walk
 use Rattle.tlv_area.proofs.OneForm.{split, range_above}
+
+-- the area with another end
+abbrev ended : Space → ℕ → Space
+ended space end = record space { end = end }
 
 -- each of these addresses is past the memory
 abbrev Beyond : List ℕ → List ℕ → Type 0
@@ -153,7 +158,7 @@ cells_cut memory r start end (x ∷ front) rest low high is known =
 
 layout_cut : (space : Space) (memory : List ℕ) (ts : List Tlv) (rest : List ℕ) → space.start ≤ length memory → length memory ≤ space.end →
     Layout space memory ts rest →
-    (near : List ℕ) × (back : List ℕ) × Beyond memory back × (rest ≡ near ++ back) × Layout (cut space (length memory)) memory ts near
+    (near : List ℕ) × (back : List ℕ) × Beyond memory back × (rest ≡ near ++ back) × Layout (ended space (length memory)) memory ts near
 layout_cut space memory ts rest low high layout =
     let r : ℕ → Bool = reserved_by space.control ts in
     let parts = cells_cut memory r space.start space.end (flat_map (λ t. t.at) ts) rest low high layout.addresses (all_known memory ts layout.lie) in (
@@ -165,7 +170,7 @@ layout_cut space memory ts rest low high layout =
     )
 
 comes_cut : (space : Space) (memory : List ℕ) (what : Next) → space.start ≤ length memory → length memory ≤ space.end → (what ≡ Unknown → ⊥) →
-    Comes space memory what → Comes (cut space (length memory)) memory what
+    Comes space memory what → Comes (ended space (length memory)) memory what
 comes_cut space memory what low high settled is =
     let parts = layout_cut space memory is.0 is.1 low high is.2 in
     let at : next memory (parts.0 ++ parts.1) ≡ what = ap (λ c. next memory c) (sym parts.3) ∙ is.3 in (
@@ -181,7 +186,7 @@ comes_cut space memory what low high settled is =
 -- the message's own addresses are known, so it lies before the cut
 held_cut : (space : Space) (memory : List ℕ) (ts : List Tlv) (t : Tlv) (after : List ℕ) → space.start ≤ length memory → length memory ≤ space.end →
     Layout space memory ts (t.at ++ after) → LiesIn memory t →
-    (near : List ℕ) × Layout (cut space (length memory)) memory ts (t.at ++ near)
+    (near : List ℕ) × Layout (ended space (length memory)) memory ts (t.at ++ near)
 held_cut space memory ts t after low high layout lies =
     let r : ℕ → Bool = reserved_by space.control ts in
     let joined : List ℕ = flat_map (λ u. u.at) ts in
@@ -190,16 +195,16 @@ held_cut space memory ts t after low high layout lies =
     let parts = cells_cut memory r space.start space.end (joined ++ t.at) after low high (append_assoc joined t.at after ∙ layout.addresses) known in
     (parts.0, record { addresses = sym (append_assoc joined t.at parts.0) ∙ parts.2; lie = layout.lie; plain = layout.plain })
 
--- what is settled of a memory that ends before the area is so of the area cut at the memory's end
-pub cuts_settle : (space : Space) (memory : List ℕ) (result : Walk) → space.start ≤ length memory → length memory ≤ space.end →
-    IsSettled result → IsWalk space memory result → TellsForm (cut space (length memory)) memory result
-cuts_settle space memory (walk.Held m) low high settled is =
+-- what is settled of a memory that ends before the area is so of the area that ends there
+cuts_before : (space : Space) (memory : List ℕ) (result : Walk) → space.start ≤ length memory → length memory ≤ space.end →
+    IsSettled result → IsWalk space memory result → TellsForm (ended space (length memory)) memory result
+cuts_before space memory (walk.Held m) low high settled is =
     let layout : Layout space memory is.1 ((is.2).at ++ is.3) = subst (λ s. Layout s memory is.1 ((is.2).at ++ is.3)) is.0 is.4.layout in
     let parts = held_cut space memory is.1 is.2 is.3 low high layout is.4.lies in
     (is.1, is.2, parts.0, parts.1, is.4.lies, is.4.message, sym (message_there m memory is.1 is.2 is.3 is.4))
-cuts_settle space memory walk.NoMessageTlv low high settled is = comes_cut space memory End low high (λ e. cc) is
-cuts_settle space memory walk.BadTlv low high settled is = comes_cut space memory Fault low high (λ e. cc) is
-cuts_settle space memory walk.More low high settled is = absurd settled
+cuts_before space memory walk.NoMessageTlv low high settled is = comes_cut space memory End low high (λ e. cc) is
+cuts_before space memory walk.BadTlv low high settled is = comes_cut space memory Fault low high (λ e. cc) is
+cuts_before space memory walk.More low high settled is = absurd settled
 
 known_take : (memory : List ℕ) (n : ℕ) (cells : List ℕ) → is_known memory cells ≡ true → is_known memory (take n cells) ≡ true
 known_take memory n cells known = (and_parts (is_known memory (take n cells)) (is_known memory (drop n cells))
@@ -288,3 +293,15 @@ told space memory (walk.Held m) is = (Message (bytes_at memory (message_cells m)
 told space memory walk.NoMessageTlv is = (NoMessageTlv, is)
 told space memory walk.BadTlv is = (BadTlv, is)
 told space memory walk.More is = absurd is
+
+-- what is settled of a memory is so of the area cut at the memory's end
+pub cuts_settle : (space : Space) (memory : List ℕ) (result : Walk) → space.start ≤ length memory →
+    IsSettled result → IsWalk space memory result → TellsForm (cut space (length memory)) memory result
+cuts_settle space memory result low settled is = elim (cases_lt (length memory) space.end) [
+  | inl h ↦
+      (let least : min space.end (length memory) ≡ length memory = omega arith in
+      subst (λ n. TellsForm (ended space n) memory result) (sym least) (cuts_before space memory result low (omega arith) settled is))
+  | inr h ↦
+      (let least : min space.end (length memory) ≡ space.end = omega arith in
+      subst (λ n. TellsForm (ended space n) memory result) (sym least) (settled_form space memory result settled is))
+]

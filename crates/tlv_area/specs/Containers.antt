@@ -41,6 +41,9 @@ t2_faults b =
 abbrev pub t2_space : List ℕ → Space
 t2_space b = record { start = 16; end = 16 + 8 * slice_index b 2; control = true; writable = low_nibble (slice_index b 3) == 0 }
 
+abbrev pub t2_container : List ℕ → Result Space ContainerFault
+t2_container b = unless (first_fault (t2_faults b)) (t2_space b)
+
 -- Type 5, bytes 0 to 3: the magic number E1h, version and access in two bits each of byte 1, the size MLEN in byte 2
 abbrev pub t5_faults : List ℕ → List (Bool × ContainerFault)
 t5_faults b =
@@ -54,6 +57,9 @@ t5_faults b =
 abbrev pub t5_space : List ℕ → Space
 t5_space b = record { start = 4; end = 4 + 8 * slice_index b 2; control = false; writable = slice_index b 1 % 4 == 0 }
 
+abbrev pub t5_container : List ℕ → Result Space ContainerFault
+t5_container b = unless (first_fault (t5_faults b)) (t5_space b)
+
 -- Type 4, bytes 0 to 14: CCLEN at 0, the version at 2, MLe at 3, MLc at 5, the file control TLV with its type and length
 -- at 7, the file's identifier at 9, its size at 11, and its access at 13 and 14
 abbrev pub t4_faults : List ℕ → List (Bool × ContainerFault)
@@ -66,6 +72,9 @@ t4_faults b =
 
 abbrev pub t4_file : List ℕ → FileMap
 t4_file b = record { id = word b 9; size = word b 11; mle = word b 3; mlc = word b 5; writable = slice_index b 14 == 0 }
+
+abbrev pub t4_container : List ℕ → Result FileMap ContainerFault
+t4_container b = unless (first_fault (t4_faults b)) (t4_file b)
 
 abbrev pub container_fault_number : ContainerFault → ℕ
 container_fault_number NotNdef = 1

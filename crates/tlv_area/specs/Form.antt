@@ -1,6 +1,7 @@
 -- The form of an area: what follows the TLVs of its layout.
 use Rattle.std.specs.Prelude.{◌≡◌, ℕ, ◌+◌, ◌*◌, ◌≤◌, nat_lt, ◌==◌, if◌then◌else◌, List, [], ◌∷◌, ◌++◌, length, slice_index, take, Bool, true, false}
 use Rattle.tlv_area.specs.declared.space.Space.{Space}
+use Rattle.tlv_area.specs.declared.container.ContainerFault.{ContainerFault}
 use Rattle.tlv_area.specs.Layout.{Tlv, Layout, LiesIn, is_known, bytes_at, null_tlv, ndef_message, terminator, long_mark}
 
 -- What stands at the addresses that are left: the end of the area or a terminator, a TLV whose length isn't whole before
@@ -58,13 +59,16 @@ abbrev pub Holds : Space → List ℕ → List ℕ → Type 0
 Holds space memory message =
     (ts : List Tlv) × (t : Tlv) × (after : List ℕ) × Layout space memory ts (t.at ++ after) × LiesIn memory t × (t.kind ≡ ndef_message) × (t.value ≡ message)
 
--- what an area holds
+-- what a store holds: its container is faulty, or its area has a message, no message's TLV, or a faulty TLV before one
 pub data Form : Type 0 where
+  Faulty : ContainerFault → Form
   Message : List ℕ → Form
   NoMessageTlv : Form
   BadTlv : Form
 
+-- the form of an area
 abbrev pub IsForm : Space → List ℕ → Form → Type 0
+IsForm space memory (Faulty fault) = ⊥
 IsForm space memory (Message message) = Holds space memory message
 IsForm space memory NoMessageTlv = Comes space memory End
 IsForm space memory BadTlv = Comes space memory Fault
@@ -81,7 +85,3 @@ abbrev pub OneLayout : Space → List ℕ → Type 0
 OneLayout space memory = (ts us : List Tlv) (rest rest' : List ℕ) →
     Layout space memory ts rest → Stops (next memory rest) → Layout space memory us rest' → Stops (next memory rest') →
     (ts ≡ us) × (rest ≡ rest')
-
--- a memory has no two forms
-abbrev pub OneForm : Space → List ℕ → Type 0
-OneForm space memory = (f g : Form) → IsForm space memory f → IsForm space memory g → f ≡ g

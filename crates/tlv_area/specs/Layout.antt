@@ -25,6 +25,12 @@ terminator = 0xFE
 abbrev pub long_mark : ℕ
 long_mark = 0xFF
 
+-- What is asked of an area: its end isn't before its start, and where lock and memory control count it is one of a tag of
+-- one sector, so that there are at most 201 of them.
+pub record IsArea (space : Space) : Type 0 where
+  pub order : space.start ≤ space.end
+  pub small : space.control ≡ true → space.end ≤ space.start + 1008
+
 -- a TLV, and the addresses at which its bytes lie
 pub record Tlv : Type 0 where
   pub kind : ℕ

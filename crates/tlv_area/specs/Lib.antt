@@ -1,5 +1,6 @@
 pub mod Containers
 pub mod Layout
 pub mod Form
+pub mod Stores
 pub mod Map
 pub mod Reading

@@ -76,10 +76,6 @@ HasPlaces memory walk.NoMessageTlv = Unit {0}
 HasPlaces memory walk.BadTlv = Unit {0}
 HasPlaces memory walk.More = Unit {0}
 
--- the area of a tag that ends before it
-abbrev pub cut : Space → ℕ → Space
-cut space end = record space { end = end }
-
 -- The tail of the message's TLV, whose addresses are `at` and those behind it `after`: all addresses from its second byte
 -- on. A new message is written there, and its TLV's type byte stays.
 abbrev pub message_tail : List ℕ → List ℕ → List ℕ

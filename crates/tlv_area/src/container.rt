@@ -1,8 +1,9 @@
 //! The capability container of a tag: the area or the file that it names.
 
-ghost use Rattle.std.specs.Prelude.{◌≡◌, ◌<◌, ◌↔◌, Err, Some};
+ghost use Rattle.std.specs.Prelude.{◌≡◌, ◌<◌, ◌↔◌, Err, Some, IfOk};
 ghost use Rattle.tlv_area.specs.declared.container.ContainerFault.{ContainerFault};
-ghost use Rattle.tlv_area.specs.Containers.{unless, first_fault, t2_faults, t2_space, t5_faults, t5_space, t4_faults, t4_file, word, container_fault_number};
+ghost use Rattle.tlv_area.specs.Layout.{IsArea};
+ghost use Rattle.tlv_area.specs.Containers.{first_fault, t2_faults, t2_container, t5_faults, t5_container, t4_faults, t4_container, word, container_fault_number};
 
 use crate::space::Space;
 use thiserror::Error;
@@ -59,8 +60,9 @@ pub struct FileMap {
 
 /// The container of a Type 2 tag, which is its block 3 (NFC Forum Type 2 Tag). It takes no memory.
 pub fn container_t2(bytes: &[u8; 4]) -> Result<Space, ContainerFault>
-    ensures exact { result ≡ unless (first_fault (t2_faults bytes.now)) (t2_space bytes.now) }
+    ensures exact { result ≡ t2_container bytes.now }
     ensures cause { (f : ContainerFault) → (result ≡ Err f) ↔ (first_fault (t2_faults bytes.now) ≡ Some f) }
+    ensures area { IfOk result IsArea }
 {
     let [magic, version, size, access] = *bytes;
     if magic != MAGIC {
@@ -89,8 +91,9 @@ pub fn container_t2(bytes: &[u8; 4]) -> Result<Space, ContainerFault>
 /// The container of a Type 5 tag, which is its bytes 0 to 3 (NFC Forum Type 5 Tag). The area ends where the
 /// container says, also where the tag ends before. It takes no memory.
 pub fn container_t5(bytes: &[u8; 4]) -> Result<Space, ContainerFault>
-    ensures exact { result ≡ unless (first_fault (t5_faults bytes.now)) (t5_space bytes.now) }
+    ensures exact { result ≡ t5_container bytes.now }
     ensures cause { (f : ContainerFault) → (result ≡ Err f) ↔ (first_fault (t5_faults bytes.now) ≡ Some f) }
+    ensures area { IfOk result IsArea }
 {
     let [magic, access, size, _] = *bytes;
     if magic != MAGIC {
@@ -123,7 +126,7 @@ fn word_at(bytes: &[u8; 15], at: usize) -> u16
 
 /// The first 15 bytes of the capability container file of a Type 4 tag (NFC Forum Type 4 Tag). It takes no memory.
 pub fn container_t4(bytes: &[u8; 15]) -> Result<FileMap, ContainerFault>
-    ensures exact { result ≡ unless (first_fault (t4_faults bytes.now)) (t4_file bytes.now) }
+    ensures exact { result ≡ t4_container bytes.now }
     ensures cause { (f : ContainerFault) → (result ≡ Err f) ↔ (first_fault (t4_faults bytes.now) ≡ Some f) }
 {
     if word_at(bytes, 7) != FILE_CONTROL {

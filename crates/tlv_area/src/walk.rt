@@ -1,8 +1,10 @@
 //! The walk over the TLVs of an area.
 
-ghost use Rattle.std.specs.Prelude.{◌≡◌, ℕ, ◌+◌, ◌≤◌, ◌++◌, ◌↔◌, List, length, true};
+ghost use Rattle.std.specs.Prelude.{◌≡◌, ℕ, ◌≤◌, ◌++◌, ◌↔◌, List, length};
+ghost use Rattle.tlv_area.specs.Layout.{IsArea};
 ghost use Rattle.tlv_area.specs.Form.{Comes, Unknown};
-ghost use Rattle.tlv_area.specs.Map.{IsWalk, IsSettled, TellsForm, HasPlaces, cut};
+ghost use Rattle.tlv_area.specs.Stores.{cut};
+ghost use Rattle.tlv_area.specs.Map.{IsWalk, IsSettled, TellsForm, HasPlaces};
 
 use crate::ahead::{look_ahead, Ahead};
 use crate::control::{reserve, size_of};
@@ -24,8 +26,7 @@ pub enum Walk {
 
 /// The walk over an area.
 fn walk_area(space: &Space, known: &[u8]) -> Walk
-    requires order { space.now.start ≤ space.now.end }
-    requires small { space.now.control ≡ true → space.now.end ≤ space.now.start + 1008 }
+    requires { IsArea space.now }
     ensures { IsWalk space.now known.now result }
 {
     let mut reserved: ArrayVec<(u32, u32), 202> = ArrayVec::new();
@@ -59,8 +60,7 @@ fn walk_area(space: &Space, known: &[u8]) -> Walk
 /// The message of an area, as far as a front of the tag's memory tells: `known` is the memory from address 0 on. It
 /// takes no memory.
 pub fn find_message(space: &Space, known: &[u8]) -> Walk
-    requires order { space.now.start ≤ space.now.end }
-    requires small { space.now.control ≡ true → space.now.end ≤ space.now.start + 1008 }
+    requires { IsArea space.now }
     // over a memory that has the whole area it is the form
     ensures form { space.now.end ≤ length known.now → TellsForm space.now known.now result }
     // what a front settles, each memory that begins with it has: the map, and the form
@@ -72,7 +72,7 @@ pub fn find_message(space: &Space, known: &[u8]) -> Walk
     // a message that is held lies in the area, below what is known
     ensures places { HasPlaces known.now result }
     // a tag that ends before its area: what is settled is the form of the area cut there
-    ensures cut { space.now.start ≤ length known.now → length known.now ≤ space.now.end → IsSettled result →
+    ensures cut { space.now.start ≤ length known.now → IsSettled result →
         TellsForm (cut space.now (length known.now)) known.now result }
 {
     walk_area(space, known)

@@ -26,4 +26,4 @@ pub returns-clause-places : goal.returns-clause-places
 returns-clause-places c = held_places c.args.space.now c.args.known.now c.walk_area.result c.requires.order c.walk_area.ensures
 
 pub returns-clause-cut : goal.returns-clause-cut
-returns-clause-cut c low high settled = cuts_settle c.args.space.now c.args.known.now c.walk_area.result low high settled c.walk_area.ensures
+returns-clause-cut c low settled = cuts_settle c.args.space.now c.args.known.now c.walk_area.result low settled c.walk_area.ensures
