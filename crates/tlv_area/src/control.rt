@@ -95,12 +95,7 @@ pub fn size_of(found: &Found) -> u32
 }
 
 /// Adds the range that a TLV reserves, if it does.
-pub fn reserve(
-    reserved: &mut ArrayVec<(u32, u32), 202>,
-    space: &Space,
-    known: &[u8],
-    found: &Found,
-)
+pub fn reserve(reserved: &mut ArrayVec<(u32, u32), 202>, space: &Space, known: &[u8], found: &Found)
     requires value { HasValue (in_ranges reserved.old.items) known.now space.now.end found.now }
     requires room { space.now.control ≡ true → length reserved.old.items < 202 }
     ensures ranges { Reserves space.now.control known.now found.now (in_ranges reserved.old.items) (in_ranges reserved.new.items) }

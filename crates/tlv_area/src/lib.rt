@@ -10,8 +10,11 @@ mod ranges;
 mod space;
 mod walk;
 
-pub use container::{container_t2, container_t4, container_t5, ContainerFault, FileMap};
+pub use container::{ContainerFault, FileMap, container_t2, container_t4, container_t5};
 pub use form::{one_form, one_form_t2, one_form_t5};
 pub use message::message_byte;
 pub use space::{AreaMap, Space};
-pub use walk::{find_message, Walk};
+pub use walk::{Walk, find_message};
+
+#[cfg(test)]
+mod tests;

@@ -6,7 +6,7 @@ ghost use Rattle.tlv_area.specs.Form.{Comes, Unknown};
 ghost use Rattle.tlv_area.specs.Stores.{cut};
 ghost use Rattle.tlv_area.specs.Map.{IsWalk, IsSettled, TellsForm, HasPlaces};
 
-use crate::ahead::{look_ahead, Ahead};
+use crate::ahead::{Ahead, look_ahead};
 use crate::control::{reserve, size_of};
 use crate::space::{AreaMap, Space};
 use arrayvec::ArrayVec;

@@ -54,5 +54,5 @@ returns c = record {
       ∙ long_known (in_ranges c.args.reserved.now) c.args.known.now c.in-Some.first_past c.args.end c.in-Some-past.high_past c.in-Some.ensures.some.below c.in-Some-past.ensures.some c.in-Some-past-2.low_past c.in-Some-past.ensures.some.below c.in-Some-past-2.ensures.some c.if-low_past-known.false kind a (c.in-Some.first_past - 1)
       ∙ no_ones c.args.known.now kind (a ∷ (c.in-Some.first_past - 1) ∷ (c.in-Some-past.high_past - 1) ∷ (c.in-Some-past-2.low_past - 1) ∷ []) (slice_index c.args.known.now (c.in-Some-past.high_past - 1) * 256 + slice_index c.args.known.now (c.in-Some-past-2.low_past - 1)) (free (in_ranges c.args.reserved.now) c.in-Some-past-2.low_past c.args.end) c.if-size-eq-NO_LENGTH.false
       ∙ ap (λ cells. value_next c.args.known.now kind true (a ∷ cells) (slice_index c.args.known.now (c.in-Some-past.high_past - 1) * 256 + slice_index c.args.known.now (c.in-Some-past-2.low_past - 1)) (free (in_ranges c.args.reserved.now) c.in-Some-past-2.low_past c.args.end))
-        (three_taken (in_ranges c.args.reserved.now) c.args.at c.in-Some.first_past c.args.end c.in-Some-past.high_past c.in-Some-past-2.low_past c.in-Some.ensures.some c.in-Some-past.ensures.some c.in-Some-past-2.ensures.some);
+      (three_taken (in_ranges c.args.reserved.now) c.args.at c.in-Some.first_past c.args.end c.in-Some-past.high_past c.in-Some-past-2.low_past c.in-Some.ensures.some c.in-Some-past.ensures.some c.in-Some-past-2.ensures.some);
 }

@@ -54,5 +54,5 @@ returns-then-is_empty-clause-some c =
       below = omega (arith, c.requires);
       count = length-free_all (in_ranges c.args.reserved.now) c.args.at (c.args.at + c.args.count) (nothing c.args.reserved.now none) ∙ omega arith;
       last = λ _. nothing c.args.reserved.now none (c.args.at + c.args.count - 1);
-      none = λ e. omega arith
+      none = λ e. omega arith;
     }
