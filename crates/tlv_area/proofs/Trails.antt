@@ -274,7 +274,7 @@ module _ (space : Space) (memory : List ℕ) (at : ℕ) (r : ℕ → Bool) (foun
   found_size = sized
 
   pub found_within : length t.at + at ≤ found.past
-  found_within = omega (arith, is.addresses, ap length is.addresses, length-free_le r at found.past, is.from_above, is.past_above)
+  found_within = omega (arith, ap length is.addresses, length-free_le r at found.past, is.from_above, is.past_above)
 
   pub found_fits : found.length ≤ 65535
   found_fits = fits t.long (length t.value) lies.proper.fits is.size

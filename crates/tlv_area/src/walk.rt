@@ -1,12 +1,12 @@
 //! The walk over the TLVs of an area.
 
-ghost use Rattle.std.specs.Prelude.{◌≡◌, ℕ, ◌≤◌, ◌++◌, ◌↔◌, List, length};
-ghost use Rattle.tlv_area.specs.Layout.{IsArea};
+ghost use Rattle.std.specs.Prelude.{◌≡◌, ℕ, ◌≤◌, ◌++◌, ◌↔◌, ◌==◌, List, length};
+ghost use Rattle.tlv_area.specs.Layout.{IsArea, ndef_message};
 ghost use Rattle.tlv_area.specs.Form.{Comes, Unknown};
 ghost use Rattle.tlv_area.specs.Stores.{cut};
 ghost use Rattle.tlv_area.specs.Map.{IsWalk, IsSettled, TellsForm, HasPlaces};
 
-use crate::ahead::{Ahead, look_ahead};
+use crate::ahead::{Ahead, Found, look_ahead};
 use crate::control::{reserve, size_of};
 use crate::space::{AreaMap, Space};
 use arrayvec::ArrayVec;
@@ -24,6 +24,13 @@ pub enum Walk {
     More,
 }
 
+/// Whether the value of a TLV is the message. The first such TLV counts, whatever stands behind it.
+fn is_message(found: &Found) -> bool
+    ensures { result ≡ (found.now.kind == ndef_message) }
+{
+    found.kind == NDEF_MESSAGE
+}
+
 /// The walk over an area.
 fn walk_area(space: &Space, known: &[u8]) -> Walk
     requires { IsArea space.now }
@@ -38,7 +45,7 @@ fn walk_area(space: &Space, known: &[u8]) -> Walk
             Ahead::Fault => return Walk::BadTlv,
             Ahead::Unknown => return Walk::More,
             Ahead::Item(found) => {
-                if found.kind == NDEF_MESSAGE {
+                if is_message(&found) {
                     let map = AreaMap {
                         space: *space,
                         reserved,

@@ -1,6 +1,7 @@
 use Rattle.std.proofs.Common.{◌≡◌, ℕ, ◌+◌, ◌≤◌, [], ◌∷◌, ◌++◌, refl, sym, ◌∙◌, ap, arith, length, Bool, subst, inl, inr}
 use Rattle.std.specs.List.{flat_map}
 use Rattle.std.proofs.lemmas.List.{length-append}
+use Rattle.std.proofs.lemmas.Bool.{eqb-true, eqb-false}
 use Rattle.tlv_area.specs.Layout.{free, Layout}
 use Rattle.tlv_area.specs.Map.{in_ranges}
 use Rattle.tlv_area.proofs.Free.{free_split}
@@ -34,8 +35,8 @@ returns-in-Unknown c =
       is,
     )
 
-pub returns-then-found-eq-NDEF_MESSAGE : goal.returns-then-found-eq-NDEF_MESSAGE
-returns-then-found-eq-NDEF_MESSAGE c =
+pub returns-then-is_message : goal.returns-then-is_message
+returns-then-is_message c =
     let is = rw c.as_slice.ensures.value at c.in-Item.ensures in
     let r : ℕ → Bool = in_ranges c.walk.reserved.items in
     let front : (is.0).at ++ free r c.in-Item.found.past c.args.space.now.end ≡ free r c.walk.at c.args.space.now.end =
@@ -49,7 +50,7 @@ returns-then-found-eq-NDEF_MESSAGE c =
       record {
         layout = subst (λ cells. Layout c.args.space.now c.args.known.now c.walk.invariant.0 cells) (sym front) layout;
         lies = next_lies c.args.known.now (free r c.walk.at c.args.space.now.end) is.0 (λ i. omega (arith, c.type_inv.known i)) is.1;
-        message = is.2.kind ∙ c.if-found-eq-NDEF_MESSAGE.true;
+        message = is.2.kind ∙ eqb-true c.in-Item.found.kind 3 (sym c.is_message.ensures ∙ c.if-is_message.true);
         ranges = c.walk.invariant.1.trail.same;
         place = c.walk.invariant.1.place;
         long' = sym is.2.long;
@@ -80,7 +81,7 @@ walk-preserved c =
       c.walk.invariant.0 ++ is.0 ∷ [],
       record {
         trail = walk_more c.args.space.now c.args.known.now c.walk.at (in_ranges c.walk.reserved.items) c.in-Item.found is.0 is.2 is.1 (λ i. omega (arith, c.type_inv.known i))
-            c.walk.invariant.0 (in_ranges c.reserve.new.reserved.items) c.walk.invariant.1.trail c.walk.invariant.1.low c.if-found-eq-NDEF_MESSAGE.false c.reserve.ensures.ranges;
+            c.walk.invariant.0 (in_ranges c.reserve.new.reserved.items) c.walk.invariant.1.trail c.walk.invariant.1.low (eqb-false c.in-Item.found.kind 3 (sym c.is_message.ensures ∙ c.if-is_message.false)) c.reserve.ensures.ranges;
         low = omega (arith, c.walk.invariant.1.low);
         high = is.2.below;
         place = ap (λ n. n + c.size_of-tlv.result) c.walk.invariant.1.place
