@@ -7,7 +7,8 @@ use Rattle.std.proofs.lemmas.List.Folds.{list_all-append}
 use Rattle.std.proofs.lemmas.Bool.{and_parts, ltb-true}
 use Rattle.tlv_area.specs.declared.space.AreaMap.{AreaMap}
 use Rattle.tlv_area.specs.Layout.{free, is_known, bytes_at, Tlv, LiesIn, spelling, length_bytes, after_kind, reserved_by}
-use Rattle.tlv_area.specs.Map.{in_ranges, IsMap, IsPlaced, IsPlacedIn, map_cells, map_tail, message_tail, message_place, message_cells}
+use Rattle.tlv_area.specs.Map.{in_ranges, IsMap, IsPlaced, IsPlacedIn, map_cells, message_place, message_cells}
+use Rattle.tlv_area.specs.Tail.{map_tail, message_tail}
 use Rattle.tlv_area.proofs.Trails.{free_agree}
 
 -- the area's free addresses, by the map

@@ -3,4 +3,5 @@ pub mod Layout
 pub mod Form
 pub mod Stores
 pub mod Map
+pub mod Tail
 pub mod Reading

@@ -75,26 +75,3 @@ HasPlaces memory (walk.Held m) = IsPlacedIn memory m
 HasPlaces memory walk.NoMessageTlv = Unit {0}
 HasPlaces memory walk.BadTlv = Unit {0}
 HasPlaces memory walk.More = Unit {0}
-
--- The tail of the message's TLV, whose addresses are `at` and those behind it `after`: all addresses from its second byte
--- on. A new message is written there, and its TLV's type byte stays.
-abbrev pub message_tail : List ℕ → List ℕ → List ℕ
-message_tail at after = drop 1 (at ++ after)
-
--- what a message has written there: the length in its shortest form, the message, and a terminator where a byte is left
-abbrev pub is_long : List ℕ → Bool
-is_long message = nat_lt 254 (length message)
-
-abbrev pub new_tail : List ℕ → List ℕ
-new_tail message = length_bytes (is_long message) (length message) ++ message
-
-abbrev pub written : ℕ → List ℕ → List ℕ
-written room message = new_tail message ++ (if nat_lt (length (new_tail message)) room then terminator ∷ [] else [])
-
--- the addresses that a message written into a tail takes
-abbrev pub span : List ℕ → List ℕ → List ℕ
-span tail message = take (length (written (length tail) message)) tail
-
--- the tail, by the map
-abbrev pub map_tail : AreaMap → List ℕ
-map_tail m = drop (m.tlv + 1) (map_cells m)

@@ -1,4 +1,9 @@
-//! The message that a store holds: containers, TLVs and reserved ranges.
+//! The message that a tag's store holds, where its memory is an area of TLVs (NFC Forum Type 2 Tag and Type 5 Tag).
+//!
+//! `container` reads the capability container, which names a `space`. `walk` goes over the TLVs of a space and makes
+//! the map of its message: `ahead` reads one TLV, `control` takes the range that a control TLV reserves, `ranges` counts
+//! addresses that are free. `message` gives the address of each byte of the message. `specs/Layout.antt` and
+//! `specs/Form.antt` say what a store holds, and `form` that each store has exactly one form.
 #![tactic(auto)]
 
 mod ahead;

@@ -47,7 +47,12 @@ fn t2_holds(rt: &HostRuntime, store: &[u8]) -> Result<Holds, Fail>
     requires { 16 ≤ length store.now }
 {
     match container_t2(&[store[12], store[13], store[14], store[15]]) {
-        Ok(space) => area_holds(rt, &space, store),
+        Ok(space) => {
+            if space.end as usize <= store.len() {
+                one_form_t2(store);
+            }
+            area_holds(rt, &space, store)
+        }
         Err(fault) => Ok(Holds::Fault(fault.number())),
     }
 }
@@ -64,9 +69,12 @@ fn type_2_messages(rt: HostRuntime) -> Result<(), Fail> {
         (
             45,
             &[
-                0xE1, 0x10, 0x12, 0, 1, 3, 0xA0, 0x0C, 0x34, 3, 4, 0xD1, 1, 8, 0x55, 0xFE,
+                0xE1, 0x10, 0x12, 0, 1, 3, 0xA0, 0x0C, 0x34, 3, 12, 0xD1, 1, 8, 0x55, 1, 0x65,
+                0x78, 0x61, 0x6D, 0x70, 0x6C, 0x65, 0xFE,
             ],
-            &[0xD1, 1, 8, 0x55],
+            &[
+                0xD1, 1, 8, 0x55, 1, 0x65, 0x78, 0x61, 0x6D, 0x70, 0x6C, 0x65,
+            ],
         ),
         (
             70,
@@ -284,6 +292,12 @@ fn maps_tell_where(rt: HostRuntime) -> Result<(), Fail> {
     let Walk::Held { map } = find_message(&space, &store) else {
         panic!(rt; "no message");
     };
+    assert_eq!(rt; container_t2(&[0xE1, 0x10, 6, 0]), Ok(space));
+    let locked = Space {
+        writable: false,
+        ..space
+    };
+    assert_eq!(rt; container_t2(&[0xE1, 0x10, 6, 0x0F]), Ok(locked));
     assert_eq!(rt; map.reserved.as_slice(), [(32, 36)].as_slice());
     assert_eq!(rt; (map.tlv, map.long, map.length), (5, true, 12));
     for (index, place) in [(0, 25), (6, 31), (7, 36), (11, 40)] {
