@@ -1,11 +1,11 @@
 -- What follows a layout is one thing, so a memory has one form.
-use Rattle.std.proofs.Common.{◌≡◌, ℕ, ◌≤◌, arith, List, ◌∷◌, ◌++◌, refl, sym, ◌∙◌, ap, subst}
+use Rattle.std.proofs.Common.{◌≡◌, ℕ, ◌≤◌, arith, List, ◌++◌, refl, sym, ◌∙◌, ap, subst}
 use Rattle.std.specs.Prelude.{Result, Ok, Err, IfOk, Option, Some, None}
 use Rattle.tlv_area.specs.declared.space.Space.{Space}
 use Rattle.tlv_area.specs.declared.walk.Walk.{Walk}
 use Rattle.tlv_area.specs.declared.walk.Walk.TheVariants as walk
 use Rattle.tlv_area.specs.Layout.{Tlv, Layout, IsArea}
-use Rattle.tlv_area.specs.Form.{Comes, Holds, Form, Faulty, Message, NoMessageTlv, BadTlv, IsForm, Next, End, Fault, Unknown, Item, Stops, next}
+use Rattle.tlv_area.specs.Form.{Comes, Holds, Faulty, Message, NoMessageTlv, BadTlv, IsForm, Next, End, Fault, Unknown, Item, Stops, next}
 use Rattle.tlv_area.specs.declared.container.ContainerFault.{ContainerFault}
 use Rattle.tlv_area.specs.Stores.{IsFormBy, IsOneForm, cut_by}
 use Rattle.tlv_area.specs.Containers.{first_fault, unless, t5_faults, t5_space, t5_container}

@@ -1,13 +1,13 @@
 -- Where a message lies, by its map and by its layout.
-use Rattle.std.proofs.Common.{◌≡◌, ℕ, suc, zero, ◌+◌, ◌-◌, ◌<◌, ◌≤◌, Bool, true, false, cond, List, [], ◌∷◌, ◌++◌, length, refl, sym, ◌∙◌, ap, arith, subst, take, drop, ltb}
-use Rattle.std.specs.Prelude.{slice_index, ◌&&◌}
-use Rattle.std.specs.List.{flat_map, list_all}
+use Rattle.std.proofs.Common.{◌≡◌, ℕ, suc, zero, ◌+◌, ◌<◌, ◌≤◌, Bool, true, false, cond, List, [], ◌∷◌, ◌++◌, length, refl, sym, ◌∙◌, ap, arith, take, drop, ltb}
+use Rattle.std.specs.Prelude.{slice_index}
+use Rattle.std.specs.List.{flat_map}
 use Rattle.std.proofs.lemmas.List.{length-append, length-map, take_at, drop_at, drop-append-le, drop-map, drop-drop, length-drop, append_assoc, take-append-drop}
 use Rattle.std.proofs.lemmas.List.Folds.{list_all-append}
 use Rattle.std.proofs.lemmas.Bool.{and_parts, ltb-true}
 use Rattle.tlv_area.specs.declared.space.AreaMap.{AreaMap}
-use Rattle.tlv_area.specs.Layout.{free, is_known, bytes_at, Tlv, LiesIn, spelling, length_bytes, after_kind, reserved_by}
-use Rattle.tlv_area.specs.Map.{in_ranges, IsMap, IsPlaced, IsPlacedIn, map_cells, message_place, message_cells}
+use Rattle.tlv_area.specs.Layout.{is_known, bytes_at, Tlv, LiesIn, spelling, length_bytes, after_kind, reserved_by}
+use Rattle.tlv_area.specs.Map.{in_ranges, IsMap, IsPlacedIn, map_cells, message_place, message_cells}
 use Rattle.tlv_area.specs.Tail.{map_tail, message_tail}
 use Rattle.tlv_area.proofs.Trails.{free_agree}
 

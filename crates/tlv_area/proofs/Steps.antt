@@ -195,6 +195,7 @@ whole r memory at end from kind long n header (ahead.Item found) same is head up
         below = there.below;
         known = is.known;
         last = last_open;
+        three = λ e. (is.three (sym is.size ∙ e));
       },
     )
 
@@ -220,44 +221,26 @@ pub no_ones : (memory : List ℕ) (kind : ℕ) (header : List ℕ) (n : ℕ) (ce
 no_ones memory kind header n cells is = rw (ne_eqb n 65535 is) refl
 
 -- three addresses
-module _ (r : ℕ → Bool) (from end past' : ℕ) (order : from ≤ past') (below : past' ≤ end) (count : length (free r from past') ≡ 3) where
-  at_least : length (free r from end) ≡ 3 + length (free r past' end)
-  at_least = ap length (free_split r from past' end order below) ∙ length-append (free r from past') (free r past' end) ∙ ap (λ n. n + length (free r past' end)) count
+module _ (r : ℕ → Bool) (from end p : ℕ) (low : from ≤ end) (is_p : IsPast r from end 1 p) where
+  pub no_second : length (free r p end) < 1 → length (free r from end) < 3
+  no_second none = omega (arith, ap length (one_cell r from end p low is_p))
 
-  pub no_first : length (free r from end) < 1 → ⊥
-  no_first none = omega (arith, at_least)
+  module _ (q : ℕ) (low_p : p ≤ end) (is_q : IsPast r p end 1 q) where
+    pub no_third : length (free r q end) < 1 → length (free r from end) < 3
+    no_third none = omega (arith, ap length (one_cell r from end p low is_p), ap length (one_cell r p end q low_p is_q))
 
-  module _ (p : ℕ) (low : from ≤ end) (is_p : IsPast r from end 1 p) where
-    pub no_second : length (free r p end) < 1 → ⊥
-    no_second none = omega (arith, at_least, ap length (one_cell r from end p low is_p))
+    module _ (s : ℕ) (low_q : q ≤ end) (is_s : IsPast r q end 1 s) where
+      pub three_cells : free r from s ≡ (p - 1) ∷ (q - 1) ∷ (s - 1) ∷ []
+      three_cells = sym (three_taken r from p end q s is_p is_q is_s)
 
-    module _ (q : ℕ) (low_p : p ≤ end) (is_q : IsPast r p end 1 q) where
-      pub no_third : length (free r q end) < 1 → ⊥
-      no_third none = omega (arith, at_least, ap length (one_cell r from end p low is_p), ap length (one_cell r p end q low_p is_q))
-
-      module _ (s : ℕ) (low_q : q ≤ end) (is_s : IsPast r q end 1 s) where
-        pub three_cells : free r from past' ≡ (p - 1) ∷ (q - 1) ∷ (s - 1) ∷ []
-        three_cells =
-            let all_of : free r from end ≡ (p - 1) ∷ (q - 1) ∷ (s - 1) ∷ free r s end =
-            one_cell r from end p low is_p ∙ ap (λ cells. (p - 1) ∷ cells) (one_cell r p end q low_p is_q)
-            ∙ ap (λ cells. (p - 1) ∷ (q - 1) ∷ cells) (one_cell r q end s low_q is_s) in
-            let front : take 3 (free r from end) ≡ free r from past' =
-            ap (λ cells. take 3 cells) (free_split r from past' end order below) ∙ take_at (free r from past') (free r past' end) 3 count in
-            sym front ∙ ap (λ cells. take 3 cells) all_of
-
-        pub third_within : s ≤ past'
-        third_within = elim (cases_lt past' s) [
-          | inr h ↦ h
-          | inl h ↦
-              (let all_below : list_all (λ b. nat_lt b past') (free r from past') ≡ true = free_below r from past' past' order (omega arith) in
-              let parts : (ltb (p - 1) past' && (ltb (q - 1) past' && (ltb (s - 1) past' && true))) ≡ true =
-              sym (ap (λ cells. list_all (λ b. nat_lt b past') cells) three_cells) ∙ all_below in
-              let last_below : ltb (s - 1) past' ≡ false = le-ltb (s - 1) past' (omega arith) in
-              let no : (ltb (p - 1) past' && (ltb (q - 1) past' && (ltb (s - 1) past' && true))) ≡ false =
-              rw last_below (and_right (ltb (p - 1) past') _ (and_right (ltb (q - 1) past') false refl)) in
-              let clash : true ≡ false = sym parts ∙ no in
-              cc)
-        ]
+      pub three_past : IsPast r from end 3 s
+      three_past = record {
+        above = omega (arith, is_p.above, is_q.above, is_s.above);
+        below = is_s.below;
+        count = ap length three_cells;
+        last = λ _. is_s.last (omega arith);
+        none = λ e. absurd (omega arith);
+      }
 
 -- the address just before is the one at this place
 pub cell_at : (r : ℕ → Bool) (at end k p : ℕ) → at ≤ end → IsPast r at end (k + 1) p → slice_index (free r at end) k ≡ p - 1

@@ -8,7 +8,7 @@ use Rattle.std.proofs.lemmas.Bool.{lt-ltb, le-ltb, ltb-false, eqb-false, eqb-tru
 use Rattle.tlv_area.specs.declared.space.Space.{Space}
 use Rattle.tlv_area.specs.Layout.{free, is_known, bytes_at, Tlv, LiesIn, Layout, length_bytes, after_kind, reserved_by, reserves, range_has}
 use Rattle.tlv_area.specs.Form.{next, length_next, long_next, value_next, End, Fault, Unknown, Item}
-use Rattle.tlv_area.specs.Reading.{Trail, IsFound, HasValue, Reserves, tlv_size}
+use Rattle.tlv_area.specs.Reading.{Trail, IsFound, HasThree, Reserves, tlv_size}
 use Rattle.tlv_area.specs.declared.ahead.Found.{Found}
 use Rattle.tlv_area.proofs.Free.{free_split, free_none}
 use Rattle.tlv_area.proofs.Steps.{free_below, free_past}
@@ -254,17 +254,8 @@ module _ (space : Space) (memory : List ℕ) (at : ℕ) (r : ℕ → Bool) (foun
   lies : LiesIn memory t
   lies = next_lies memory (free r at space.end) t bytes comes
 
-  span : length (free r found.from found.past) ≡ found.length
-  span = sym (length-map (free r found.from found.past) (λ a. slice_index memory a)) ∙ sym (ap length is.value) ∙ is.size
-
-  pub found_value : HasValue r memory space.end found
-  found_value = record {
-    order = omega (arith, is.past_above);
-    below = is.below;
-    known = is.known;
-    count = span;
-    last = λ _. is.last;
-  }
+  pub found_three : found.length ≡ 3 → HasThree memory found
+  found_three three = (is.three three).0
 
   sized : tlv_size found.kind found.long found.length ≡ length t.at
   sized = sym (length-at memory t lies ∙ ap (λ k. tlv_size k t.long (length t.value)) is.kind
@@ -301,4 +292,4 @@ module _ (space : Space) (memory : List ℕ) (at : ℕ) (r : ℕ → Bool) (foun
       let up : at < found.past = omega (arith, is.from_above, is.past_above) in
       trail_more space memory ts t at found.past r s trail low up is.addresses is.last lies
       (λ e. no_message (sym is.kind ∙ e))
-      (adds t is.kind is.value (λ a. reserves_past r at found.past a t.at is.addresses up is.last))
+      (adds t (record { kind = is.kind; size = is.size; three = λ e. (is.three e).1; own = λ a. reserves_past r at found.past a t.at is.addresses up is.last }))

@@ -1,11 +1,11 @@
 -- The map of an area: where its message lies, by what a walk over a front of the memory tells.
-use Rattle.std.specs.Prelude.{◌≡◌, ℕ, ◌+◌, ◌<◌, ◌≤◌, Bool, ◌&&◌, nat_lt, nat_le, if◌then◌else◌, List, [], ◌∷◌, ◌++◌, length, slice_index, take, drop}
+use Rattle.std.specs.Prelude.{◌≡◌, ℕ, ◌+◌, ◌<◌, ◌≤◌, Bool, ◌&&◌, nat_lt, nat_le, if◌then◌else◌, List, ◌++◌, length, slice_index, take, drop}
 use Rattle.std.specs.List.{list_any, flat_map}
 use Rattle.tlv_area.specs.declared.space.Space.{Space}
 use Rattle.tlv_area.specs.declared.space.AreaMap.{AreaMap}
 use Rattle.tlv_area.specs.declared.walk.Walk.{Walk}
 use Rattle.tlv_area.specs.declared.walk.Walk.TheVariants as walk
-use Rattle.tlv_area.specs.Layout.{free, reserved_by, Tlv, Layout, LiesIn, bytes_at, length_bytes, ndef_message, terminator}
+use Rattle.tlv_area.specs.Layout.{free, reserved_by, Tlv, Layout, LiesIn, bytes_at, ndef_message}
 use Rattle.tlv_area.specs.Form.{Comes, End, Fault, Unknown, IsForm, Message, NoMessageTlv, BadTlv}
 
 -- whether one of the ranges, each from its first to before its second number, has the address

@@ -1,5 +1,5 @@
 -- What the parts of the walk say. No public contract speaks of these.
-use Rattle.std.specs.Prelude.{◌≡◌, ◌≢◌, ℕ, ◌+◌, ◌-◌, ◌<◌, ◌≤◌, Bool, false, not, ◌&&◌, ◌||◌, ◌==◌, nat_lt, nat_le, if◌then◌else◌, List, ◌∷◌, length, ◌++◌, Option, MatchOption}
+use Rattle.std.specs.Prelude.{◌≡◌, ◌≢◌, ℕ, ◌+◌, ◌-◌, ◌<◌, ◌≤◌, Bool, false, not, ◌&&◌, ◌||◌, ◌==◌, nat_lt, nat_le, if◌then◌else◌, List, ◌∷◌, length, ◌++◌, Option, MatchOption, slice_index, []}
 use Rattle.std.specs.List.{list_all, flat_map, AllByRecursion}
 use Rattle.tlv_area.specs.declared.space.Space.{Space}
 use Rattle.tlv_area.specs.declared.ahead.Ahead.{Ahead}
@@ -18,6 +18,19 @@ pub record IsPast (is_reserved : ℕ → Bool) (at end n p : ℕ) : Type 0 where
   pub last : 0 < n → is_reserved (p - 1) ≡ false
   pub none : n ≡ 0 → p ≡ at
 
+-- the bytes of a value of three, and that the memory has them
+abbrev pub three_bytes : List ℕ → Found → List ℕ
+three_bytes memory found =
+    slice_index memory (found.first - 1) ∷ slice_index memory (found.second - 1) ∷ slice_index memory (found.past - 1) ∷ []
+
+pub record HasThree (memory : List ℕ) (found : Found) : Type 0 where
+  pub first_low : 0 < found.first
+  pub first_high : found.first ≤ length memory
+  pub second_low : 0 < found.second
+  pub second_high : found.second ≤ length memory
+  pub past_low : 0 < found.past
+  pub past_high : found.past ≤ length memory
+
 -- a TLV that was read, from `at` on
 pub record IsFound (is_reserved : ℕ → Bool) (memory : List ℕ) (at end : ℕ) (found : Found) (t : Tlv) : Type 0 where
   pub kind : t.kind ≡ found.kind
@@ -30,6 +43,7 @@ pub record IsFound (is_reserved : ℕ → Bool) (memory : List ℕ) (at end : �
   pub below : found.past ≤ end
   pub known : found.past ≤ length memory
   pub last : is_reserved (found.past - 1) ≡ false
+  pub three : found.length ≡ 3 → HasThree memory found × (t.value ≡ three_bytes memory found)
 
 -- what stands next from `at` on
 abbrev pub IsAhead : (ℕ → Bool) → List ℕ → ℕ → ℕ → Ahead → Type 0
@@ -47,6 +61,7 @@ pub record IsValue (is_reserved : ℕ → Bool) (memory : List ℕ) (from end ki
   pub size : found.length ≡ n
   pub value : IsPast is_reserved from end n found.past
   pub known : found.past ≤ length memory
+  pub three : n ≡ 3 → HasThree memory found × (bytes_at memory (free is_reserved from found.past) ≡ three_bytes memory found)
   pub next' : (header : List ℕ) → value_next memory kind long header n (free is_reserved from end)
       ≡ Item (record { kind = kind; long = long; value = bytes_at memory (free is_reserved from found.past); at = header ++ free is_reserved from found.past })
 
@@ -81,19 +96,16 @@ pub record Trail (space : Space) (memory : List ℕ) (ts : List Tlv) (at : ℕ) 
   pub lie : AllByRecursion (LiesIn memory) ts
   pub plain : AllByRecursion (λ t. t.kind ≢ ndef_message) ts
 
--- the value of a TLV that was read lies at the free addresses of its span
-pub record HasValue (is_reserved : ℕ → Bool) (memory : List ℕ) (end : ℕ) (found : Found) : Type 0 where
-  pub order : found.from ≤ found.past
-  pub below : found.past ≤ end
-  pub known : found.past ≤ length memory
-  pub count : length (free is_reserved found.from found.past) ≡ found.length
-  pub last : 0 < found.length → is_reserved (found.past - 1) ≡ false
+-- a TLV that was read: its kind, its length, its bytes where it has three, and the addresses past its own
+pub record IsRead (memory : List ℕ) (found : Found) (t : Tlv) : Type 0 where
+  pub kind : t.kind ≡ found.kind
+  pub size : length t.value ≡ found.length
+  pub three : found.length ≡ 3 → t.value ≡ three_bytes memory found
+  pub own : (a : ℕ) → list_all (λ b. nat_lt b a) t.at ≡ not (nat_lt a found.past)
 
 -- a range is what the TLV that was read reserves
-abbrev pub IsRangeOf : (ℕ → Bool) → List ℕ → Found → Option (ℕ × ℕ) → Type 0
-IsRangeOf is_reserved memory found range =
-    (t : Tlv) → t.kind ≡ found.kind → t.value ≡ bytes_at memory (free is_reserved found.from found.past) →
-    ((a : ℕ) → list_all (λ b. nat_lt b a) t.at ≡ not (nat_lt a found.past)) →
+abbrev pub IsRangeOf : List ℕ → Found → Option (ℕ × ℕ) → Type 0
+IsRangeOf memory found range = (t : Tlv) → IsRead memory found t →
     MatchOption range ((a : ℕ) → reserves t a ≡ false) (λ r. (a : ℕ) → reserves t a ≡ (nat_le r.0 a && nat_lt a r.1))
 
 -- how many bytes a TLV has
@@ -102,7 +114,5 @@ tlv_size kind long n = if kind == 0 then 1 else if long then n + 4 else n + 2
 
 -- after is before, with what the TLV that was read reserves where control TLVs count
 abbrev pub Reserves : Bool → List ℕ → Found → (ℕ → Bool) → (ℕ → Bool) → Type 0
-Reserves control memory found before after =
-    (t : Tlv) → t.kind ≡ found.kind → t.value ≡ bytes_at memory (free before found.from found.past) →
-    ((a : ℕ) → list_all (λ b. nat_lt b a) t.at ≡ not (nat_lt a found.past)) →
+Reserves control memory found before after = (t : Tlv) → IsRead memory found t →
     (a : ℕ) → after a ≡ (before a || (control && reserves t a))

@@ -17,7 +17,8 @@ const LONG_MARK: u8 = 0xFF;
 /// Two bytes behind it that are no length.
 const NO_LENGTH: u32 = 0xFFFF;
 
-/// A TLV that was read, its value between two addresses.
+/// A TLV that was read, its value between two addresses. Of a value of three bytes, as control TLVs have them, `first`
+/// and `second` are just past the first and the second byte.
 #[derive(Clone, Copy)]
 pub struct Found {
     pub kind: u8,
@@ -25,6 +26,8 @@ pub struct Found {
     pub from: u32,
     pub length: u32,
     pub past: u32,
+    pub first: u32,
+    pub second: u32,
 }
 
 /// What stands next: nothing more, a fault, a byte that isn't known, or a TLV.
@@ -44,6 +47,45 @@ pub enum LengthAhead {
     Value { long: bool, size: u32, from: u32 },
 }
 
+/// How many bytes the value of a control TLV has that reserves a range.
+pub const CONTROL_SIZE: u32 = 3;
+
+/// A value of three bytes from `from` on.
+fn three_ahead(
+    reserved: &[(u32, u32)],
+    end: u32,
+    known: &[u8],
+    kind: u8,
+    long: bool,
+    from: u32,
+) -> Ahead
+    requires below { from ≤ end }
+    requires front { from ≤ length known.now }
+    ensures { IsValueAhead (in_ranges reserved.now) known.now from end kind long 3 result }
+{
+    let Some(first) = past(reserved, from, end, 1) else {
+        return Ahead::Fault;
+    };
+    let Some(second) = past(reserved, first, end, 1) else {
+        return Ahead::Fault;
+    };
+    let Some(third) = past(reserved, second, end, 1) else {
+        return Ahead::Fault;
+    };
+    if third as usize > known.len() {
+        return Ahead::Unknown;
+    }
+    Ahead::Item(Found {
+        kind,
+        long,
+        from,
+        length: CONTROL_SIZE,
+        past: third,
+        first,
+        second,
+    })
+}
+
 /// The value of a TLV, of `size` bytes from `from` on.
 fn value_ahead(
     reserved: &[(u32, u32)],
@@ -58,6 +100,9 @@ fn value_ahead(
     requires front { from ≤ length known.now }
     ensures { IsValueAhead (in_ranges reserved.now) known.now from end kind long size result }
 {
+    if size == CONTROL_SIZE {
+        return three_ahead(reserved, end, known, kind, long, from);
+    }
     match past(reserved, from, end, size) {
         None => Ahead::Fault,
         Some(past) => {
@@ -68,6 +113,8 @@ fn value_ahead(
                     from,
                     length: size,
                     past,
+                    first: from,
+                    second: from,
                 })
             } else {
                 Ahead::Unknown
@@ -139,6 +186,8 @@ pub fn look_ahead(reserved: &[(u32, u32)], at: u32, end: u32, known: &[u8]) -> A
             from: kind_past,
             length: 0,
             past: kind_past,
+            first: kind_past,
+            second: kind_past,
         });
     }
     match length_ahead(reserved, kind_past, end, known) {

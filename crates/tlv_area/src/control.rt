@@ -3,10 +3,9 @@
 ghost use Rattle.std.specs.Prelude.{◌≡◌, ℕ, ◌+◌, ◌<◌, ◌≤◌, ◌^◌, ◌&&◌, ◌⊎◌, not, nat_lt, nat_le, length, true, [], ◌∷◌, IfSome};
 ghost use Rattle.tlv_area.specs.Layout.{range_start, range_count, range_has};
 ghost use Rattle.tlv_area.specs.Map.{in_ranges};
-ghost use Rattle.tlv_area.specs.Reading.{HasValue, IsRangeOf, Reserves, tlv_size};
+ghost use Rattle.tlv_area.specs.Reading.{HasThree, IsRangeOf, Reserves, tlv_size};
 
-use crate::ahead::Found;
-use crate::ranges::past;
+use crate::ahead::{CONTROL_SIZE, Found};
 use crate::space::Space;
 use arrayvec::ArrayVec;
 
@@ -53,29 +52,17 @@ fn range_named(kind: u8, place: u8, size: u8, control: u8, past: u32) -> (u32, u
 }
 
 /// What a TLV reserves where lock and memory control count.
-fn range_of(reserved: &[(u32, u32)], end: u32, known: &[u8], found: &Found) -> Option<(u32, u32)>
-    requires { HasValue (in_ranges reserved.now) known.now end found.now }
-    ensures range { IsRangeOf (in_ranges reserved.now) known.now found.now result }
+fn range_of(known: &[u8], found: &Found) -> Option<(u32, u32)>
+    requires { found.now.length ≡ 3 → HasThree known.now found.now }
+    ensures range { IsRangeOf known.now found.now result }
     ensures sized { IfSome result (λ _. (found.now.length ≡ 3) × (0 < found.now.kind)) }
 {
-    if found.length != 3 || found.kind < LOCK_CONTROL || found.kind > MEMORY_CONTROL {
+    if found.length != CONTROL_SIZE || found.kind < LOCK_CONTROL || found.kind > MEMORY_CONTROL {
         return None;
     }
-    let Some(place_past) = past(reserved, found.from, end, 1) else {
-        return None;
-    };
-    let Some(size_past) = past(reserved, place_past, end, 1) else {
-        return None;
-    };
-    let Some(control_past) = past(reserved, size_past, end, 1) else {
-        return None;
-    };
-    if control_past as usize > known.len() {
-        return None;
-    }
-    let place = known[place_past as usize - 1];
-    let size = known[size_past as usize - 1];
-    let control = known[control_past as usize - 1];
+    let place = known[found.first as usize - 1];
+    let size = known[found.second as usize - 1];
+    let control = known[found.past as usize - 1];
     Some(range_named(found.kind, place, size, control, found.past))
 }
 
@@ -96,7 +83,7 @@ pub fn size_of(found: &Found) -> u32
 
 /// Adds the range that a TLV reserves, if it does.
 pub fn reserve(reserved: &mut ArrayVec<(u32, u32), 202>, space: &Space, known: &[u8], found: &Found)
-    requires value { HasValue (in_ranges reserved.old.items) known.now space.now.end found.now }
+    requires three { found.now.length ≡ 3 → HasThree known.now found.now }
     requires room { space.now.control ≡ true → length reserved.old.items < 202 }
     ensures ranges { Reserves space.now.control known.now found.now (in_ranges reserved.old.items) (in_ranges reserved.new.items) }
     ensures count { (length reserved.new.items ≡ length reserved.old.items)
@@ -105,7 +92,7 @@ pub fn reserve(reserved: &mut ArrayVec<(u32, u32), 202>, space: &Space, known: &
     if !space.control {
         return;
     }
-    if let Some(range) = range_of(reserved.as_slice(), space.end, known, found) {
+    if let Some(range) = range_of(known, found) {
         reserved.push(range);
     }
 }

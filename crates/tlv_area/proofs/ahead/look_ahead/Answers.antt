@@ -1,4 +1,4 @@
-use Rattle.std.proofs.Common.{◌≡◌, ℕ, ◌+◌, ◌-◌, ◌*◌, [], ◌∷◌, ◌++◌, true, false, refl, sym, ◌∙◌, ap, arith}
+use Rattle.std.proofs.Common.{◌≡◌, ℕ, ◌-◌, [], ◌∷◌, ◌++◌, false, refl, sym, ◌∙◌, ap, arith}
 use Rattle.std.specs.Prelude.{slice_index}
 use Rattle.tlv_area.specs.Layout.{free, bytes_at}
 use Rattle.tlv_area.specs.Map.{in_ranges}
@@ -32,6 +32,7 @@ returns-then-kind-eq-NULL c = (
     below = c.in-Some.ensures.some.below;
     known = c.if-kind_past-known.false;
     last = c.in-Some.ensures.some.last (omega arith);
+    three = λ e. absurd (omega arith);
   },
 )
 

@@ -11,6 +11,7 @@ returns-then-past-known c = record {
   size = refl;
   value = c.in-Some.ensures.some;
   known = c.if-past-known.true;
+  three = λ e. absurd (c.if-size-eq-CONTROL_SIZE.false e);
   next' = value_item (in_ranges c.args.reserved.now) c.args.known.now c.args.from c.args.end c.args.size c.in-Some.past c.requires.below c.in-Some.ensures.some
       c.if-past-known.true c.args.kind c.args.long;
 }

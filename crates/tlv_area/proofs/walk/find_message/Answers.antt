@@ -1,4 +1,4 @@
-use Rattle.std.proofs.Common.{◌≡◌, ◌++◌, sym, subst}
+use Rattle.std.proofs.Common.{◌++◌, subst}
 use Rattle.tlv_area.specs.Map.{IsWalk}
 use Rattle.tlv_area.proofs.Fronts.{fronts_settle}
 use Rattle.tlv_area.proofs.OneNext.{needs_more}

@@ -5,7 +5,7 @@ use Rattle.std.proofs.lemmas.Bool.{eqb-true, eqb-false}
 use Rattle.tlv_area.specs.Layout.{free, Layout}
 use Rattle.tlv_area.specs.Map.{in_ranges}
 use Rattle.tlv_area.proofs.Free.{free_split}
-use Rattle.tlv_area.proofs.Trails.{trail_layout, walk_more, found_size, found_within, found_fits, found_control, found_value, flat_push, next_lies}
+use Rattle.tlv_area.proofs.Trails.{trail_layout, walk_more, found_size, found_within, found_fits, found_control, found_three, flat_push, next_lies}
 use Rattle.tlv_area.proofs.walk.walk_area.Goals as goal
 
 pub returns-in-End : goal.returns-in-End
@@ -58,10 +58,10 @@ returns-then-is_message c =
       },
     )
 
-pub reserve-requires-clause-value : goal.reserve-requires-clause-value
-reserve-requires-clause-value c =
+pub reserve-requires-clause-three : goal.reserve-requires-clause-three
+reserve-requires-clause-three c =
     let is = rw c.as_slice.ensures.value at c.in-Item.ensures in
-    found_value c.args.space.now c.args.known.now c.walk.at (in_ranges c.walk.reserved.items) c.in-Item.found is.0 is.2 is.1 (λ i. omega (arith, c.type_inv.known i))
+    found_three c.args.space.now c.args.known.now c.walk.at (in_ranges c.walk.reserved.items) c.in-Item.found is.0 is.2 is.1 (λ i. omega (arith, c.type_inv.known i))
 
 pub size_of-tlv-requires : goal.size_of-tlv-requires
 size_of-tlv-requires c =
