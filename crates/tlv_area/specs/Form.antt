@@ -54,6 +54,10 @@ next memory (a ∷ cells) =
 abbrev pub Comes : Space → List ℕ → Next → Type 0
 Comes space memory what = (ts : List Tlv) × (rest : List ℕ) × Layout space memory ts rest × (next memory rest ≡ what)
 
+-- the walk needs a byte of the area that the memory, a front of the tag's, doesn't have
+abbrev pub NeedsMore : Space → List ℕ → Type 0
+NeedsMore space memory = Comes space memory Unknown
+
 -- a layout is followed by an NDEF message TLV with this value
 abbrev pub Holds : Space → List ℕ → List ℕ → Type 0
 Holds space memory message =

@@ -26,7 +26,7 @@ abbrev pub long_mark : ℕ
 long_mark = 0xFF
 
 -- What is asked of an area: its end isn't before its start, and where lock and memory control count it is one of a tag of
--- one sector, so that there are at most 201 of them.
+-- one sector, so that at most 201 TLVs reserve a range.
 pub record IsArea (space : Space) : Type 0 where
   pub order : space.start ≤ space.end
   pub small : space.control ≡ true → space.end ≤ space.start + 1008

@@ -1,8 +1,8 @@
 //! The walk over the TLVs of an area.
 
-ghost use Rattle.std.specs.Prelude.{◌≡◌, ℕ, ◌≤◌, ◌++◌, ◌↔◌, ◌==◌, List, length};
+ghost use Rattle.std.specs.Prelude.{◌≡◌, ℕ, ◌<◌, ◌≤◌, ◌++◌, ◌↔◌, ◌==◌, List, length};
 ghost use Rattle.tlv_area.specs.Layout.{IsArea, ndef_message};
-ghost use Rattle.tlv_area.specs.Form.{Comes, Unknown};
+ghost use Rattle.tlv_area.specs.Form.{NeedsMore};
 ghost use Rattle.tlv_area.specs.Stores.{cut};
 ghost use Rattle.tlv_area.specs.Map.{IsWalk, IsSettled, TellsForm, HasPlaces};
 
@@ -75,7 +75,8 @@ pub fn find_message(space: &Space, known: &[u8]) -> Walk
     ensures front { (more : List ℕ) → IsSettled result → IsWalk space.now (known.now ++ more) result }
     ensures settled { (more : List ℕ) → IsSettled result → TellsForm space.now (known.now ++ more) result }
     // it is More exactly where the walk needs a byte of the area behind the front
-    ensures more { (result ≡ Walk.More) ↔ Comes space.now known.now Unknown }
+    ensures more { (result ≡ Walk.More) ↔ NeedsMore space.now known.now }
+    ensures short { (result ≡ Walk.More) → length known.now < space.now.end }
     // a message that is held lies in the area, below what is known
     ensures places { HasPlaces known.now result }
     // a tag that ends before its area: what is settled is the form of the area cut there

@@ -1,5 +1,6 @@
-use Rattle.std.proofs.Common.{◌++◌, subst}
-use Rattle.tlv_area.specs.Map.{IsWalk}
+use Rattle.std.proofs.Common.{◌++◌, subst, length, inl, inr}
+use Rattle.std.proofs.lemmas.Bool.{cases_lt}
+use Rattle.tlv_area.specs.Map.{IsWalk, IsSettled}
 use Rattle.tlv_area.proofs.Fronts.{fronts_settle}
 use Rattle.tlv_area.proofs.OneNext.{needs_more}
 use Rattle.tlv_area.proofs.Cuts.{cuts_settle, whole_settled, settled_form, held_places}
@@ -21,6 +22,12 @@ returns-clause-more c = (
   λ is. subst (λ r. IsWalk c.args.space.now c.args.known.now r) is c.walk_area.ensures,
   needs_more c.args.space.now c.args.known.now c.walk_area.result c.requires.order c.walk_area.ensures,
 )
+
+pub returns-clause-short : goal.returns-clause-short
+returns-clause-short c is = elim (cases_lt (length c.args.known.now) c.args.space.now.end) [
+  | inl h ↦ h
+  | inr h ↦ absurd (subst IsSettled is (whole_settled c.args.space.now c.args.known.now c.walk_area.result c.requires.order h c.walk_area.ensures))
+]
 
 pub returns-clause-places : goal.returns-clause-places
 returns-clause-places c = held_places c.args.space.now c.args.known.now c.walk_area.result c.requires.order c.walk_area.ensures
