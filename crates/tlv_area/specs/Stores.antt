@@ -1,0 +1,35 @@
+-- The form of a tag's store: its container and, where that isn't faulty, its area.
+use Rattle.std.specs.Prelude.{◌≡◌, ℕ, ◌+◌, min, List, [], ◌∷◌, length, slice_index, Result, Ok, Err}
+use Rattle.tlv_area.specs.declared.space.Space.{Space}
+use Rattle.tlv_area.specs.declared.container.ContainerFault.{ContainerFault}
+use Rattle.tlv_area.specs.Containers.{t2_container, t5_container}
+use Rattle.tlv_area.specs.Form.{Form, Faulty, IsForm}
+
+-- four bytes from one on
+abbrev pub four_bytes : List ℕ → ℕ → List ℕ
+four_bytes store i = slice_index store i ∷ slice_index store (i + 1) ∷ slice_index store (i + 2) ∷ slice_index store (i + 3) ∷ []
+
+-- the container's fault, or the form of the area that it names
+abbrev pub IsFormBy : Result Space ContainerFault → List ℕ → Form → Type 0
+IsFormBy (Err fault) store f = f ≡ Faulty fault
+IsFormBy (Ok space) store f = IsForm space store f
+
+-- the area of a tag that ends at an address
+abbrev pub cut : Space → ℕ → Space
+cut space end = record space { end = min space.end end }
+
+abbrev pub cut_by : Result Space ContainerFault → ℕ → Result Space ContainerFault
+cut_by (Err fault) end = Err fault
+cut_by (Ok space) end = Ok (cut space end)
+
+-- A Type 2 store has its container in block 3.
+abbrev pub IsT2Form : List ℕ → Form → Type 0
+IsT2Form store f = IsFormBy (t2_container (four_bytes store 12)) store f
+
+-- A Type 5 store begins with its container, and its area ends at the tag's end at the latest.
+abbrev pub IsT5Form : List ℕ → Form → Type 0
+IsT5Form store f = IsFormBy (cut_by (t5_container (four_bytes store 0)) (length store)) store f
+
+-- a store has no two forms
+abbrev pub IsOneForm : (Form → Type 0) → Type 0
+IsOneForm is = (f g : Form) → is f → is g → f ≡ g

@@ -1,0 +1,28 @@
+-- Where a message is written: the addresses of the old one's TLV from its second byte on, and what stands there then.
+use Rattle.std.specs.Prelude.{ℕ, ◌+◌, Bool, nat_lt, if◌then◌else◌, List, [], ◌∷◌, ◌++◌, length, take, drop}
+use Rattle.tlv_area.specs.declared.space.AreaMap.{AreaMap}
+use Rattle.tlv_area.specs.Layout.{length_bytes, terminator}
+use Rattle.tlv_area.specs.Map.{map_cells}
+
+-- The tail of a message's TLV that lies at `at`, with `after` the addresses behind it: all of them but the type byte's,
+-- which stays.
+abbrev pub message_tail : List ℕ → List ℕ → List ℕ
+message_tail at after = drop 1 (at ++ after)
+
+-- the same, by the map
+abbrev pub map_tail : AreaMap → List ℕ
+map_tail m = drop (m.tlv + 1) (map_cells m)
+
+-- What a message has written there: its length in the shortest form, the message, and a terminator where a byte is left.
+abbrev pub is_long : List ℕ → Bool
+is_long message = nat_lt 254 (length message)
+
+abbrev pub new_tail : List ℕ → List ℕ
+new_tail message = length_bytes (is_long message) (length message) ++ message
+
+abbrev pub written : ℕ → List ℕ → List ℕ
+written room message = new_tail message ++ (if nat_lt (length (new_tail message)) room then terminator ∷ [] else [])
+
+-- the addresses that it takes of a tail
+abbrev pub span : List ℕ → List ℕ → List ℕ
+span tail message = take (length (written (length tail) message)) tail

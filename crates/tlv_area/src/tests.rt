@@ -1,0 +1,312 @@
+//! Stores of real tags and of tags at the borders of the rules, and what they hold.
+
+ghost use Rattle.std.specs.Prelude.{◌≡◌, ◌≤◌, length};
+ghost use Rattle.tlv_area.specs.Layout.{IsArea};
+
+use crate::{
+    ContainerFault, Space, Walk, container_t2, container_t4, container_t5, find_message,
+    message_byte, one_form, one_form_t2, one_form_t5,
+};
+use std::test::Fail;
+
+/// What a store holds: a message, or the number of a container's fault, 6 for no message and 7 for a bad TLV.
+#[derive(Debug, Drop, PartialEq, Eq)]
+enum Holds {
+    Message(Vec<u8>),
+    Fault(u8),
+}
+
+/// A store of so many bytes, 0 but for these from an address on.
+fn store(rt: &HostRuntime, size: usize, at: usize, bytes: &[u8]) -> Result<Vec<u8>, Fail> {
+    let mut store = vec![in rt.alloc(); 0u8; size]?;
+    for (place, byte) in store.iter_mut().skip(at).zip(bytes) {
+        *place = *byte;
+    }
+    Ok(store)
+}
+
+/// What the area of a memory holds; 8 where the memory ends too early.
+fn area_holds(rt: &HostRuntime, space: &Space, memory: &[u8]) -> Result<Holds, Fail>
+    requires { IsArea space.now }
+{
+    match find_message(space, memory) {
+        Walk::Held { map } => {
+            let mut message = Vec::new(rt.alloc());
+            for index in 0..map.length {
+                message.push(memory[message_byte(&map, index) as usize])?;
+            }
+            Ok(Holds::Message(message))
+        }
+        Walk::NoMessageTlv => Ok(Holds::Fault(6)),
+        Walk::BadTlv => Ok(Holds::Fault(7)),
+        Walk::More => Ok(Holds::Fault(8)),
+    }
+}
+
+fn t2_holds(rt: &HostRuntime, store: &[u8]) -> Result<Holds, Fail>
+    requires { 16 ≤ length store.now }
+{
+    match container_t2(&[store[12], store[13], store[14], store[15]]) {
+        Ok(space) => {
+            if space.end as usize <= store.len() {
+                one_form_t2(store);
+            }
+            area_holds(rt, &space, store)
+        }
+        Err(fault) => Ok(Holds::Fault(fault.number())),
+    }
+}
+
+#[test]
+fn type_2_messages(rt: HostRuntime) -> Result<(), Fail> {
+    let rows: [(usize, &[u8], &[u8]); 11] = [
+        // as delivered, an NTAG203: lock bits behind the area
+        (
+            45,
+            &[0xE1, 0x10, 0x12, 0, 1, 3, 0xA0, 0x0C, 0x34, 3, 0, 0xFE],
+            &[],
+        ),
+        (
+            45,
+            &[
+                0xE1, 0x10, 0x12, 0, 1, 3, 0xA0, 0x0C, 0x34, 3, 12, 0xD1, 1, 8, 0x55, 1, 0x65,
+                0x78, 0x61, 0x6D, 0x70, 0x6C, 0x65, 0xFE,
+            ],
+            &[
+                0xD1, 1, 8, 0x55, 1, 0x65, 0x78, 0x61, 0x6D, 0x70, 0x6C, 0x65,
+            ],
+        ),
+        (
+            70,
+            &[
+                0xE1, 0x10, 0x21, 0, 1, 3, 0x90, 0x10, 0x35, 3, 3, 0xD0, 0, 0, 0xFE,
+            ],
+            &[0xD0, 0, 0],
+        ),
+        // four reserved bytes from address 32 on, before and after a message was written round them
+        (
+            16,
+            &[
+                0xE1, 0x10, 6, 0, 2, 3, 0x20, 4, 4, 3, 0, 0xFE, 0, 0, 0, 0, 0, 0, 0, 0, 0xAA, 0xBB,
+                0xCC, 0xDD,
+            ],
+            &[],
+        ),
+        (
+            16,
+            &[
+                0xE1, 0x10, 6, 0, 2, 3, 0x20, 4, 4, 3, 12, 1, 2, 3, 4, 5, 6, 7, 8, 9, 0xAA, 0xBB,
+                0xCC, 0xDD, 10, 11, 12, 0xFE,
+            ],
+            &[1, 2, 3, 4, 5, 6, 7, 8, 9, 10, 11, 12],
+        ),
+        // three bytes for a length below 255, of the message and of a control TLV
+        (
+            16,
+            &[0xE1, 0x10, 6, 0, 3, 0xFF, 0, 3, 0xD0, 0, 0, 0xFE],
+            &[0xD0, 0, 0],
+        ),
+        (
+            16,
+            &[
+                0xE1, 0x10, 6, 0, 1, 0xFF, 0, 3, 0x19, 9, 4, 3, 2, 0xAA, 0xBB, 0xCA, 0xCB,
+            ],
+            &[0xCA, 0xCB],
+        ),
+        // a range that begins at address 16 reserves only what lies past its own TLV
+        (
+            16,
+            &[0xE1, 0x10, 6, 0, 2, 3, 0x10, 6, 4, 0xAA, 3, 1, 0x55, 0xFE],
+            &[0x55],
+        ),
+        // the first message counts, and what stands behind it is not read
+        (
+            16,
+            &[
+                0xE1, 0x10, 6, 0, 3, 4, 0xDE, 0xAD, 0xBE, 0xEF, 3, 1, 0x42, 0xFE,
+            ],
+            &[0xDE, 0xAD, 0xBE, 0xEF],
+        ),
+        (
+            16,
+            &[
+                0xE1, 0x10, 6, 0, 3, 8, 0x65, 0x6C, 0x65, 0x70, 0x68, 0x61, 0x6E, 0x74, 0xFE,
+            ],
+            b"elephant",
+        ),
+        // read-only, with no terminator
+        (
+            16,
+            &[
+                0xE1, 0x10, 6, 0x0F, 3, 0x21, 0xD1, 2, 0x1C, 0x53, 0x70, 0x91, 1, 9, 0x54, 2, 0x65,
+                0x6E, 0x4C, 0x69, 0x62, 0x6E, 0x66, 0x63, 0x51, 1, 0x0B, 0x55, 3, 0x6C, 0x69, 0x62,
+                0x6E, 0x66, 0x63, 0x2E, 0x6F, 0x72, 0x67,
+            ],
+            &[
+                0xD1, 2, 0x1C, 0x53, 0x70, 0x91, 1, 9, 0x54, 2, 0x65, 0x6E, 0x4C, 0x69, 0x62, 0x6E,
+                0x66, 0x63, 0x51, 1, 0x0B, 0x55, 3, 0x6C, 0x69, 0x62, 0x6E, 0x66, 0x63, 0x2E, 0x6F,
+                0x72, 0x67,
+            ],
+        ),
+    ];
+    for (blocks, bytes, message) in rows {
+        let store = store(&rt, 4 * blocks, 12, bytes)?;
+        assert!(rt; store.len() >= 16);
+        let held = Holds::Message(Vec::from_slice(rt.alloc(), message)?);
+        assert_eq!(rt; t2_holds(&rt, &store)?, held, "at {bytes:?}");
+    }
+    Ok(())
+}
+
+#[test]
+fn type_2_faults(rt: HostRuntime) -> Result<(), Fail> {
+    let rows: [(&[u8], u8); 11] = [
+        (&[0, 0, 0, 0], 1),
+        (&[0xE1, 0x20, 6, 0xF0], 2),
+        (&[0xE1, 0x10, 6, 0xF0], 3),
+        (&[0xE1, 0x10, 0x7F, 0], 4),
+        (&[0xE1, 0x10, 0, 0], 5),
+        (&[0xE1, 0x10, 6, 0, 0xFE], 6),
+        (&[0xE1, 0x10, 6, 0], 6),
+        (&[0xE1, 0x10, 6, 0, 0xFE, 3, 1, 0x42], 6),
+        (&[0xE1, 0x10, 6, 0, 3, 0x30], 7),
+        (&[0xE1, 0x10, 6, 0, 3, 0xFF, 0xFF, 0xFF], 7),
+        (&[0xE1, 0x10, 6, 0, 5, 0xFF, 0, 0xFF, 3, 0], 7),
+    ];
+    for (bytes, fault) in rows {
+        let store = store(&rt, 64, 12, bytes)?;
+        assert!(rt; store.len() >= 16);
+        assert_eq!(rt; t2_holds(&rt, &store)?, Holds::Fault(fault), "at {bytes:?}");
+    }
+    Ok(())
+}
+
+#[test]
+fn type_5_areas(rt: HostRuntime) -> Result<(), Fail> {
+    let rows: [(usize, &[u8], Holds); 6] = [
+        // a tag that ends before its area
+        (
+            16,
+            &[0xE1, 0x40, 6, 0, 3, 3, 0xD0, 0, 0, 0xFE],
+            Holds::Message(Vec::from_slice(rt.alloc(), &[0xD0, 0, 0])?),
+        ),
+        (
+            128,
+            &[0xE1, 0x40, 0x0F, 0, 3, 3, 0xD0, 0, 0, 0xFE],
+            Holds::Message(Vec::from_slice(rt.alloc(), &[0xD0, 0, 0])?),
+        ),
+        // a control TLV reserves nothing, and one that is passed over needs its last byte
+        (
+            16,
+            &[0xE1, 0x40, 1, 0, 1, 3, 0x0B, 8, 4, 3, 1, 0x55],
+            Holds::Message(Vec::from_slice(rt.alloc(), &[0x55])?),
+        ),
+        (16, &[0xE1, 0x40, 6, 0, 7, 12], Holds::Fault(8)),
+        (16, &[0xE1, 0x80, 6, 0], Holds::Fault(2)),
+        (16, &[0xE2, 0x40, 0, 0], Holds::Fault(1)),
+    ];
+    for (size, bytes, held) in rows {
+        let store = store(&rt, size, 0, bytes)?;
+        assert!(rt; store.len() >= 4);
+        let told = match container_t5(&[store[0], store[1], store[2], store[3]]) {
+            Ok(space) => area_holds(&rt, &space, &store)?,
+            Err(fault) => Holds::Fault(fault.number()),
+        };
+        assert_eq!(rt; told, held, "at {bytes:?}");
+        one_form_t5(&store);
+    }
+    Ok(())
+}
+
+#[test]
+fn type_4_files(rt: HostRuntime) {
+    let whole = [0, 15, 0x20, 0, 0x3B, 0, 0x0D, 4, 6, 0xE1, 4, 2, 0, 0, 0];
+    let file = container_t4(&whole).unwrap();
+    assert_eq!(rt;
+        (file.id, file.size, file.mle, file.mlc),
+        (0xE104, 0x200, 59, 13)
+    );
+    assert!(rt; file.writable);
+    let changes = [
+        (7, 5, ContainerFault::NotNdef),
+        (2, 0x10, ContainerFault::Version),
+        (13, 0x80, ContainerFault::NoRead),
+        (1, 14, ContainerFault::BadSize),
+        (4, 14, ContainerFault::BadSize),
+        (11, 0x80, ContainerFault::BadSize),
+    ];
+    for (at, byte, fault) in changes {
+        let mut bytes = whole;
+        if at < 15 {
+            bytes[at] = byte;
+        }
+        assert_eq!(rt; container_t4(&bytes), Err(fault), "at {at}");
+    }
+}
+
+/// The byte that shows a message, a fault or a terminator: with it the walk settles, without it the answer is More.
+#[test]
+fn fronts_settle_by_one_byte(rt: HostRuntime) -> Result<(), Fail> {
+    let rows: [(usize, &[u8]); 7] = [
+        (21, &[3, 3, 0xD0, 0, 0, 0xFE]),
+        (18, &[3, 0, 0xFE]),
+        (17, &[0xFE]),
+        (18, &[3, 0x30]),
+        (20, &[3, 0xFF, 0xFF, 0xFF]),
+        (20, &[3, 0xFF, 1, 0]),
+        (24, &[7, 5, 1, 2, 3, 4, 5, 0xFE]),
+    ];
+    for (least, area) in rows {
+        let store = store(&rt, 64, 16, area)?;
+        let space = Space {
+            start: 16,
+            end: 64,
+            control: true,
+            writable: true,
+        };
+        for (known, _) in store.iter().enumerate() {
+            let more = matches!(find_message(&space, store.split_at(known).0), Walk::More);
+            assert_eq!(rt; more, known < least, "at {area:?} with {known}");
+        }
+    }
+    Ok(())
+}
+
+#[test]
+fn maps_tell_where(rt: HostRuntime) -> Result<(), Fail> {
+    let store = store(
+        &rt,
+        64,
+        12,
+        &[
+            0xE1, 0x10, 6, 0, 2, 3, 0x20, 4, 4, 3, 0xFF, 0, 12, 1, 2, 3, 4, 5, 6, 7, 0xAA, 0xBB,
+            0xCC, 0xDD, 8, 9, 10, 11, 12, 0xFE,
+        ],
+    )?;
+    let space = Space {
+        start: 16,
+        end: 64,
+        control: true,
+        writable: true,
+    };
+    let Walk::Held { map } = find_message(&space, &store) else {
+        panic!(rt; "no message");
+    };
+    assert_eq!(rt; container_t2(&[0xE1, 0x10, 6, 0]), Ok(space));
+    let locked = Space {
+        writable: false,
+        ..space
+    };
+    assert_eq!(rt; container_t2(&[0xE1, 0x10, 6, 0x0F]), Ok(locked));
+    assert_eq!(rt; map.reserved.as_slice(), [(32, 36)].as_slice());
+    assert_eq!(rt; (map.tlv, map.long, map.length), (5, true, 12));
+    for (index, place) in [(0, 25), (6, 31), (7, 36), (11, 40)] {
+        if index < map.length {
+            assert_eq!(rt; message_byte(&map, index), place);
+        }
+    }
+    if store.len() == 64 {
+        one_form(&space, &store);
+    }
+    Ok(())
+}
