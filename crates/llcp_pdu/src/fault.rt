@@ -1,0 +1,37 @@
+//! What is wrong with bytes that are no PDU.
+
+use thiserror::Error;
+
+/// What is wrong. What is refused, and at which place, is this project's own.
+#[derive(Clone, Copy, Debug, PartialEq, Eq)]
+pub enum PduKind {
+    /// A byte is missing, told at the end.
+    Short = 1,
+    /// No PDU has this PTYPE, told at the PDU's first byte.
+    Ptype = 2,
+    /// No PDU of this PTYPE has these SAPs, told at the PDU's first byte.
+    Sap = 3,
+    /// A parameter without its length, longer than what is left, or of another length than its type has; told at
+    /// its type.
+    Parameter = 4,
+    /// An AGF in an AGF, told at its length.
+    Nested = 5,
+    /// Something behind the last byte, told at its first byte.
+    Trailing = 6,
+}
+
+/// The first fault of some bytes.
+#[derive(Clone, Copy, Debug, PartialEq, Eq)]
+pub(crate) struct Refusal {
+    pub(crate) place: usize,
+    pub(crate) kind: PduKind,
+}
+
+/// Why some bytes weren't read. Places count from 0; those from 65,535 on are told as 65,535.
+#[derive(Clone, Copy, Debug, PartialEq, Eq, Error)]
+pub enum PduFault {
+    #[error("no LLCP PDU: {kind:?} at byte {place}")]
+    Refused { place: u16, kind: PduKind },
+    #[error("no memory")]
+    Memory,
+}
