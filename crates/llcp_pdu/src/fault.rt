@@ -1,6 +1,14 @@
 //! What is wrong with bytes that are no PDU.
 
+ghost use Rattle.std.specs.Prelude.{◌≡◌};
+ghost use Rattle.llcp_pdu.specs.Faults.{told};
+ghost use Rattle.llcp_pdu.specs.declared.fault.PduFault.TheVariants.{Memory};
+
+use std::alloc::{AllocError, AllocFailed};
 use thiserror::Error;
+
+/// The last place that is told as it is.
+const LAST_PLACE: usize = 65535;
 
 /// What is wrong. What is refused, and at which place, is this project's own.
 #[derive(Clone, Copy, Debug, PartialEq, Eq)]
@@ -34,4 +42,39 @@ pub enum PduFault {
     Refused { place: u16, kind: PduKind },
     #[error("no memory")]
     Memory,
+}
+
+impl Refusal {
+    pub(crate) fn at(place: usize, kind: PduKind) -> Refusal
+        ensures { result ≡ record { place = place; kind = kind } }
+    {
+        Refusal { place, kind }
+    }
+}
+
+impl From<Refusal> for PduFault {
+    ghost from_gives = { λ r f. f ≡ told r };
+
+    fn from(refusal: Refusal) -> PduFault {
+        PduFault::Refused {
+            place: refusal.place.min(LAST_PLACE) as u16,
+            kind: refusal.kind,
+        }
+    }
+}
+
+impl From<AllocError> for PduFault {
+    ghost from_gives = { λ _ f. f ≡ Memory };
+
+    fn from(_error: AllocError) -> PduFault {
+        PduFault::Memory
+    }
+}
+
+impl<T: Drop> From<AllocFailed<T>> for PduFault {
+    ghost from_gives = { λ _ f. f ≡ Memory };
+
+    fn from(_error: AllocFailed<T>) -> PduFault {
+        PduFault::Memory
+    }
 }

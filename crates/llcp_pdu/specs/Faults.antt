@@ -1,0 +1,19 @@
+-- What becomes of a reading in a call that takes memory.
+use Rattle.std.specs.Prelude.{◌≡◌, ℕ, min, Result, Ok, Err}
+use Rattle.llcp_pdu.specs.declared.fault.PduFault.{PduFault}
+use Rattle.llcp_pdu.specs.declared.fault.PduFault.TheVariants.{Refused, Memory}
+use Rattle.llcp_pdu.specs.declared.fault.Refusal.{Refusal}
+
+-- places from 65,535 on are told as 65,535
+abbrev pub told : Refusal → PduFault
+told r = Refused (min r.place 65535) r.kind
+
+abbrev pub outcome : {A : Type 0} → Result A Refusal → Result A PduFault
+outcome (Ok x) = Ok x
+outcome (Err r) = Err (told r)
+
+-- The answer is what was read, or that memory ran out.
+abbrev pub Answers : {A : Type 0} → Result A PduFault → Result A Refusal → Type 0
+Answers (Ok x) r = Ok x ≡ outcome r
+Answers (Err Memory) r = Unit {0}
+Answers (Err (Refused place kind)) r = Err (Refused place kind) ≡ outcome r
