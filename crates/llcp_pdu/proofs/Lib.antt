@@ -1,2 +1,3 @@
 pub mod ParamLaws
 pub mod Outcomes
+pub mod GeneralLaws

@@ -97,9 +97,21 @@ rw_end = 16
 abbrev pub least_miu : ℕ
 least_miu = 128
 
--- the first three bytes of general bytes
+-- the first three bytes of general bytes, the text Ffm
+abbrev pub magic_first : ℕ
+magic_first = 0x46
+
+abbrev pub magic_second : ℕ
+magic_second = 0x66
+
+abbrev pub magic_third : ℕ
+magic_third = 0x6D
+
+abbrev pub magic_length : ℕ
+magic_length = 3
+
 abbrev pub magic : List ℕ
-magic = 0x46 ∷ 0x66 ∷ 0x6D ∷ []
+magic = magic_first ∷ magic_second ∷ magic_third ∷ []
 
 -- the major number of the version that is spoken here
 abbrev pub major : ℕ

@@ -14,7 +14,7 @@ mod pdu;
 mod wire;
 
 pub use fault::{PduFault, PduKind};
-pub use general::{GeneralFault, LinkParams};
+pub use general::{GeneralFault, LinkParams, general_read, general_write};
 pub use param::Param;
 pub use part::{FrmrReport, Part};
 pub use pdu::Pdu;
