@@ -1,3 +1,5 @@
 pub mod ParamLaws
 pub mod Outcomes
 pub mod GeneralLaws
+pub mod PduLaws
+pub mod PartSpellings

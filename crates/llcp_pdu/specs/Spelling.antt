@@ -41,7 +41,7 @@ PartSpelling (Cc d s ps) b = Headed d cc_type s b (ParamsSpelling ps)
 PartSpelling (Dm d s reason) b = Headed d dm_type s b (λ rest. rest ≡ reason ∷ [])
 PartSpelling (Frmr d s r) b = Headed d frmr_type s b (λ rest. IsReport r × (rest ≡ report_bytes r))
 PartSpelling (Snl ps) b = Headed discovery_sap snl_type discovery_sap b (ParamsSpelling ps)
-PartSpelling (Info d s ns nr info) b = Headed d info_type s b (λ rest. (nr < 16) × (rest ≡ (16 * ns + nr) ∷ info))
+PartSpelling (Info d s ns nr info) b = Headed d info_type s b (λ rest. (ns < 16) × (nr < 16) × (rest ≡ (16 * ns + nr) ∷ info))
 PartSpelling (Rr d s nr) b = Headed d rr_type s b (Receives nr)
 PartSpelling (Rnr d s nr) b = Headed d rnr_type s b (Receives nr)
 

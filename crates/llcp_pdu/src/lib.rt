@@ -11,6 +11,7 @@ mod header;
 mod param;
 mod part;
 mod pdu;
+mod reading;
 mod wire;
 
 pub use fault::{PduFault, PduKind};

@@ -6,6 +6,34 @@ pub(crate) const HEADER: usize = 2;
 /// How many bytes the length of a PDU in an AGF has.
 pub(crate) const INNER_LENGTH: usize = 2;
 
+/// The types of PDU.
+pub(crate) const SYMM: u8 = 0;
+
+pub(crate) const AGF: u8 = 2;
+
+pub(crate) const UI: u8 = 3;
+
+pub(crate) const CONNECT: u8 = 4;
+
+pub(crate) const DISC: u8 = 5;
+
+pub(crate) const CC: u8 = 6;
+
+pub(crate) const DM: u8 = 7;
+
+pub(crate) const FRMR: u8 = 8;
+
+pub(crate) const SNL: u8 = 9;
+
+pub(crate) const INFO: u8 = 12;
+
+pub(crate) const RR: u8 = 13;
+
+pub(crate) const RNR: u8 = 14;
+
+/// The SAP of service discovery, from and to which an SNL goes.
+pub(crate) const DISCOVERY: u8 = 1;
+
 /// The types of the parameters.
 pub(crate) const VERSION: u8 = 1;
 
