@@ -3,3 +3,4 @@ pub mod Outcomes
 pub mod GeneralLaws
 pub mod PduLaws
 pub mod PartSpellings
+pub mod PduSpellings

@@ -76,7 +76,7 @@ part_reads (Cc d s ps) at b h =
     by_body (Cc d s ps) CcType d 6 s at b (ParamsSpelling ps) refl (omega arith) (λ r e. params_spelled (at + 2) ps (Cc d s) r e) h
 part_reads (Dm d s x) at b h = by_body (Dm d s x) DmType d 7 s at b (λ r. r ≡ x ∷ []) refl (omega arith) (λ r e. rw e refl) h
 part_reads (Frmr d s w) at b h =
-    by_body (Frmr d s w) FrmrType d 8 s at b (λ r. IsReport w × (r ≡ report_bytes w)) refl (omega arith) (λ r e. rw (e.1, report_read w (at + 2) e.0) refl) h
+    by_body (Frmr d s w) FrmrType d 8 s at b (λ r. IsReport w × (r ≡ report_bytes w)) refl (omega arith) (λ r e. rw e.1 (ap (λ z. gives {B = Part} z (Frmr d s)) (report_read w (at + 2) e.0))) h
 part_reads (Snl ps) at b h = by_body (Snl ps) SnlType 1 9 1 at b (ParamsSpelling ps) refl (omega arith) (λ r e. params_spelled (at + 2) ps Snl r e) h
 part_reads (Info d s ns nr info) at b h =
     by_body (Info d s ns nr info) InfoType d 12 s at b (λ r. (ns < 16) × (nr < 16) × (r ≡ (16 * ns + nr) ∷ info)) refl (omega arith)
@@ -168,13 +168,16 @@ numbered_there : (d s : ℕ) (rest : List ℕ) (at : ℕ) (v : Part) → numbere
 numbered_there d s [] at v e = cc
 numbered_there d s (q ∷ info) at v e = (q, info, refl, same_ok _ _ e)
 
+pub at_saps : (d s sap p : ℕ) (b : List ℕ) (Rest : List ℕ → Type 0) → d ≡ sap → s ≡ sap → Headed d p s b Rest → Headed sap p sap b Rest
+at_saps d s sap p b Rest e f h = subst (λ x. Headed x p sap b Rest) e (subst (λ y. Headed d p y b Rest) f h)
+
 -- what was read behind a header of its type is spelled with it
 pub body_found : (t : Ptype) (d s at : ℕ) (rest b : List ℕ) (v : Part) → AreBytes rest
     → ((Rest : List ℕ → Type 0) → Rest rest → Headed d (ptype_number t) s b Rest) → body t d s rest at ≡ Ok v → PartSpelling v b
 body_found SymmType d s at rest b v bytes hd e =
     let h = between_there 0 d s at (ended rest (at + 2) Symm) v e in
     let k = ended_there rest (at + 2) Symm v h.2 in
-    subst (λ w. PartSpelling w b) k.1 (rw (h.0, h.1) at (hd (λ x. x ≡ []) k.0))
+    subst (λ w. PartSpelling w b) k.1 (at_saps d s 0 0 b (λ x. x ≡ []) h.0 h.1 (hd (λ x. x ≡ []) k.0))
 body_found AgfType d s at rest b v bytes hd e = cc
 body_found UiType d s at rest b v bytes hd e = subst (λ w. PartSpelling w b) (same_ok _ _ e) (hd (λ x. x ≡ rest) refl)
 body_found ConnectType d s at rest b v bytes hd e =
@@ -194,7 +197,7 @@ body_found FrmrType d s at rest b v bytes hd e =
 body_found SnlType d s at rest b v bytes hd e =
     let k = between_there 1 d s at (gives (params rest 0 (at + 2)) Snl) v e in
     let h = gave (params rest 0 (at + 2)) Snl v k.2 in
-    subst (λ w. PartSpelling w b) h.2 (rw (k.0, k.1) at (hd (ParamsSpelling h.0) (params_found rest 0 (at + 2) h.0 (omega arith) h.1)))
+    subst (λ w. PartSpelling w b) h.2 (at_saps d s 1 9 b (ParamsSpelling h.0) k.0 k.1 (hd (ParamsSpelling h.0) (params_found rest 0 (at + 2) h.0 (omega arith) h.1)))
 body_found InfoType d s at rest b v bytes hd e =
     let h = numbered_there d s rest (at + 2) v e in
     let q : h.0 ≡ 16 * (h.0 / 16) + h.0 % 16 = omega arith in
