@@ -4,3 +4,5 @@ pub mod GeneralLaws
 pub mod PduLaws
 pub mod PartSpellings
 pub mod PduSpellings
+pub mod Written
+pub mod Exact

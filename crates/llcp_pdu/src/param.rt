@@ -1,6 +1,9 @@
 //! The parameters of CONNECT, CC and SNL.
 
-ghost use Rattle.std.specs.Prelude.{◌≡◌, ◌+◌, ◌*◌, ◌<◌, ◌^◌, ℕ, List, length, option_map, IfOk, IfSome, IfNone, OnOk, ◌++◌, option_to_list, true};
+ghost use Rattle.std.specs.Prelude.{◌≡◌, ◌+◌, ◌*◌, ◌<◌, ◌^◌, ℕ, List, length, option_map, IfOk, IfSome, IfNone, OnOk, ◌++◌, [], ◌∷◌, option_to_list, true};
+ghost use Rattle.llcp_pdu.specs.Params.{printed};
+ghost use Rattle.llcp_pdu.specs.Ranges.{IsParam, AreParams};
+ghost use Rattle.llcp_pdu.specs.Writing.{tlv_of, params_bytes};
 ghost use Rattle.llcp_pdu.specs.Params.{one as one_of, two as two_of, kept, param, params, is_sized as has_size, tlv};
 ghost use Rattle.llcp_pdu.specs.Reading.{refused};
 ghost use Rattle.llcp_pdu.specs.Faults.{Answers};
@@ -162,4 +165,52 @@ pub(crate) fn read_params(
         rest = tail;
     }
     Ok(Items::new(found))
+}
+
+/// Adds a parameter by its type and its value.
+pub(crate) fn append_tlv(
+    target: &mut Vec<u8>,
+    kind: u8,
+    value: &[u8],
+) -> Result<(), AllocError>
+    requires { length value.now < 256 }
+    ensures { OnOk result (target.new.items ≡ target.old.items ++ kind ∷ length value.now ∷ value.now) }
+{
+    target.extend_from_slice(&[kind, value.len() as u8])?;
+    target.extend_from_slice(value)
+}
+
+impl Param {
+    /// Adds its bytes.
+    fn append_to(&self, target: &mut Vec<u8>) -> Result<(), AllocError>
+        requires { IsParam self.now }
+        ensures { OnOk result (target.new.items ≡ target.old.items ++ printed (tlv_of self.now ∷ [])) }
+    {
+        match self {
+            Param::Version(version) => append_tlv(target, VERSION, &[*version]),
+            Param::Miux(miux) => append_tlv(target, MIUX, &miux.to_be_bytes()),
+            Param::Wks(wks) => append_tlv(target, WKS, &wks.to_be_bytes()),
+            Param::Lto(lto) => append_tlv(target, LTO, &[*lto]),
+            Param::Rw(rw) => append_tlv(target, RW, &[*rw]),
+            Param::Sn(name) => append_tlv(target, SN, name.as_slice()),
+            Param::Opt(opt) => append_tlv(target, OPT, &[*opt]),
+            Param::SdReq { tid, name } => {
+                let name = name.as_slice();
+                target.extend_from_slice(&[SDREQ, name.len() as u8 + 1, *tid])?;
+                target.extend_from_slice(name)
+            }
+            Param::SdRes { tid, sap } => append_tlv(target, SDRES, &[*tid, *sap]),
+        }
+    }
+}
+
+/// Adds the bytes of parameters.
+pub(crate) fn append_params(target: &mut Vec<u8>, params: &[Param]) -> Result<(), AllocError>
+    requires { AreParams params.now }
+    ensures { OnOk result (target.new.items ≡ target.old.items ++ params_bytes params.now) }
+{
+    'params: for param in params {
+        param.append_to(target)?;
+    }
+    Ok(())
 }

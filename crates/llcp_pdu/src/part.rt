@@ -1,6 +1,10 @@
 //! A PDU that holds no other.
 
-ghost use Rattle.std.specs.Prelude.{◌≡◌, ◌+◌, ◌<◌, ◌^◌, length, Ok};
+ghost use Rattle.std.specs.Prelude.{◌≡◌, ◌+◌, ◌<◌, ◌^◌, ◌++◌, length, Ok, OnOk};
+ghost use Rattle.llcp_pdu.specs.Ranges.{IsPart};
+ghost use Rattle.llcp_pdu.specs.Spelling.{head, IsReport, report_bytes};
+ghost use Rattle.llcp_pdu.specs.Wire.{ptype_number};
+ghost use Rattle.llcp_pdu.specs.Writing.{part_bytes};
 ghost use Rattle.llcp_pdu.specs.Faults.{Answers};
 ghost use Rattle.llcp_pdu.specs.Parts.{body, part};
 ghost use Rattle.llcp_pdu.specs.declared.part.Part.{Part};
@@ -8,11 +12,11 @@ ghost use Rattle.llcp_pdu.specs.declared.header.Ptype.TheVariants.{Symm as SymmT
 
 use crate::fault::{PduFault, PduKind, Refusal};
 use crate::header::{Header, Ptype};
-use crate::param::{Param, read_params};
+use crate::param::{Param, append_params, read_params};
 use crate::reading::{byte, ended, report};
 use crate::wire::{DISCOVERY, HEADER, INNER_LENGTH};
 use nfc_base::Items;
-use std::alloc::Global;
+use std::alloc::{AllocError, Global};
 
 /// What a FRMR reports of the PDU that it rejects: which of its four flags are set (80h, 40h, 20h, 10h), its PTYPE and
 /// sequence byte, and the numbers V(S), V(R), V(SA) and V(RA) of the end that rejects it.
@@ -115,6 +119,90 @@ impl Part {
             Ptype::Rnr => Ok(read_rnr(header, rest, at)?),
         }
     }
+
+    /// Adds its bytes.
+    pub(crate) fn append_to(&self, target: &mut Vec<u8>) -> Result<(), AllocError>
+        requires { IsPart self.now }
+        ensures { OnOk result (target.new.items ≡ target.old.items ++ part_bytes self.now) }
+    {
+        match self {
+            Part::Symm => append_head(target, 0, Ptype::Symm, 0),
+            Part::Ui { dsap, ssap, info } => {
+                append_head(target, *dsap, Ptype::Ui, *ssap)?;
+                target.extend_from_slice(info.as_slice())
+            }
+            Part::Connect { dsap, ssap, params } => {
+                append_head(target, *dsap, Ptype::Connect, *ssap)?;
+                append_params(target, params.as_slice())
+            }
+            Part::Disc { dsap, ssap } => append_head(target, *dsap, Ptype::Disc, *ssap),
+            Part::Cc { dsap, ssap, params } => {
+                append_head(target, *dsap, Ptype::Cc, *ssap)?;
+                append_params(target, params.as_slice())
+            }
+            Part::Dm { dsap, ssap, reason } => {
+                append_head(target, *dsap, Ptype::Dm, *ssap)?;
+                target.extend_from_slice(&[*reason])
+            }
+            Part::Frmr { dsap, ssap, report } => {
+                append_head(target, *dsap, Ptype::Frmr, *ssap)?;
+                target.extend_from_slice(&report.to_bytes())
+            }
+            Part::Snl(params) => {
+                append_head(target, DISCOVERY, Ptype::Snl, DISCOVERY)?;
+                append_params(target, params.as_slice())
+            }
+            Part::Info {
+                dsap,
+                ssap,
+                ns,
+                nr,
+                info,
+            } => {
+                append_head(target, *dsap, Ptype::Info, *ssap)?;
+                target.extend_from_slice(&[16 * *ns + *nr])?;
+                target.extend_from_slice(info.as_slice())
+            }
+            Part::Rr { dsap, ssap, nr } => {
+                append_head(target, *dsap, Ptype::Rr, *ssap)?;
+                target.extend_from_slice(&[*nr])
+            }
+            Part::Rnr { dsap, ssap, nr } => {
+                append_head(target, *dsap, Ptype::Rnr, *ssap)?;
+                target.extend_from_slice(&[*nr])
+            }
+        }
+    }
+}
+
+impl FrmrReport {
+    /// Its four bytes.
+    fn to_bytes(&self) -> [u8; 4]
+        requires { IsReport self.now }
+        ensures { result ≡ report_bytes self.now }
+    {
+        [
+            self.flags + self.ptype,
+            self.sequence,
+            16 * self.vs + self.vr,
+            16 * self.vsa + self.vra,
+        ]
+    }
+}
+
+/// Adds a header.
+pub(crate) fn append_head(
+    target: &mut Vec<u8>,
+    dsap: u8,
+    ptype: Ptype,
+    ssap: u8,
+) -> Result<(), AllocError>
+    requires dsap { dsap < 64 }
+    requires ssap { ssap < 64 }
+    ensures { OnOk result (target.new.items ≡ target.old.items ++ head dsap (ptype_number ptype) ssap) }
+{
+    let header = Header { dsap, ptype, ssap };
+    target.extend_from_slice(&header.to_bytes())
 }
 
 fn read_symm(header: Header, rest: &[u8], at: usize) -> Result<Part, Refusal>

@@ -1,6 +1,10 @@
 //! A whole payload.
 
-ghost use Rattle.std.specs.Prelude.{◌≡◌, ◌+◌, ◌<◌, ◌^◌, length, IfOk, IfErr, true, Err};
+ghost use Rattle.std.specs.Prelude.{◌≡◌, ◌+◌, ◌<◌, ◌^◌, ◌++◌, ◌↔◌, length, IfOk, IfErr, OnOk, OnErr, true, Ok, Err};
+ghost use Rattle.llcp_pdu.specs.Ranges.{IsPart, AreParts, IsPdu};
+ghost use Rattle.llcp_pdu.specs.Spelling.{LlcpSpelling};
+ghost use Rattle.llcp_pdu.specs.Writing.{two_bytes, part_bytes, parts_bytes, pdu_bytes};
+ghost use Rattle.llcp_pdu.specs.declared.fault.PduFault.TheVariants.{Memory};
 ghost use Rattle.llcp_pdu.specs.Faults.{Answers};
 ghost use Rattle.llcp_pdu.specs.Parts.{between, body, part};
 ghost use Rattle.llcp_pdu.specs.declared.pdu.Pdu.{Pdu};
@@ -8,11 +12,11 @@ ghost use Rattle.llcp_pdu.specs.Pdus.{pdu, joined, inner, whole};
 ghost use Rattle.llcp_pdu.specs.Reading.{gives};
 
 use crate::fault::{PduFault, PduKind, Refusal};
-use crate::header::Header;
-use crate::part::Part;
+use crate::header::{Header, Ptype};
+use crate::part::{Part, append_head};
 use crate::wire::{HEADER, INNER_LENGTH};
 use nfc_base::Items;
-use std::alloc::Global;
+use std::alloc::{AllocError, Global};
 
 /// A payload of a link (NFC Forum LLCP 1.3): one PDU, or an AGF, which holds some; none of these is an AGF.
 #[derive(Debug, Drop, PartialEq)]
@@ -25,9 +29,39 @@ impl Pdu {
     /// The PDU that some bytes spell.
     pub fn read_from(alloc: Global, bytes: &[u8]) -> Result<Pdu, PduFault>
         ensures reads { Answers result (pdu bytes.now) }
+        ensures exact { (v : Pdu) → (result ≡ Err Memory → ⊥) → (result ≡ Ok v) ↔ LlcpSpelling v bytes.now }
+        ensures one { (v w : Pdu) → LlcpSpelling v bytes.now → LlcpSpelling w bytes.now → v ≡ w }
     {
         let header = Header::read_from(bytes, 0)?;
         read_whole(alloc, header, bytes.split_at(HEADER).1)
+    }
+
+    /// Adds the bytes of a PDU with fields in range to `target`: no parameters of unknown types, 0 in all bits that are
+    /// ignored.
+    pub fn write_to(&self, target: &mut Vec<u8>) -> Result<(), AllocError>
+        requires { IsPdu self.now }
+        ensures ok { OnOk result (target.new.items ≡ target.old.items ++ pdu_bytes self.now) }
+        ensures err { OnErr result (target.new.items ≡ target.old.items) }
+        ensures exact { LlcpSpelling self.now (pdu_bytes self.now) }
+        ensures back { pdu (pdu_bytes self.now) ≡ Ok self.now }
+    {
+        let mut bytes = Vec::new(*target.allocator());
+        self.append_to(&mut bytes)?;
+        target.extend_from_slice(&bytes)
+    }
+
+    /// Adds its bytes.
+    fn append_to(&self, target: &mut Vec<u8>) -> Result<(), AllocError>
+        requires { IsPdu self.now }
+        ensures { OnOk result (target.new.items ≡ target.old.items ++ pdu_bytes self.now) }
+    {
+        match self {
+            Pdu::One(part) => part.append_to(target),
+            Pdu::Agf(parts) => {
+                append_head(target, 0, Ptype::Agf, 0)?;
+                append_parts(target, parts.as_slice())
+            }
+        }
     }
 }
 
@@ -98,4 +132,27 @@ fn read_inner(alloc: Global, bytes: &[u8], start: usize) -> Result<Items<Part>, 
         rest = tail;
     }
     Ok(Items::new(parts))
+}
+
+/// Adds one PDU behind its length.
+fn append_part(target: &mut Vec<u8>, part: &Part) -> Result<(), AllocError>
+    requires part { IsPart part.now }
+    requires short { length (part_bytes part.now) < 65536 }
+    ensures { OnOk result (target.new.items ≡ target.old.items ++ (two_bytes (length (part_bytes part.now)) ++ part_bytes part.now)) }
+{
+    let mut bytes = Vec::new(*target.allocator());
+    part.append_to(&mut bytes)?;
+    target.extend_from_slice(&(bytes.len() as u16).to_be_bytes())?;
+    target.extend_from_slice(&bytes)
+}
+
+/// Adds PDUs, each behind its length.
+fn append_parts(target: &mut Vec<u8>, parts: &[Part]) -> Result<(), AllocError>
+    requires { AreParts parts.now }
+    ensures { OnOk result (target.new.items ≡ target.old.items ++ parts_bytes parts.now) }
+{
+    'parts: for part in parts {
+        append_part(target, part)?;
+    }
+    Ok(())
 }
