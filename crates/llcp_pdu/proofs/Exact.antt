@@ -1,12 +1,14 @@
 -- The answers of reading, by what the bytes spell.
-use Rattle.std.proofs.Common.{◌≡◌, ◌<◌, ◌↔◌, ℕ, suc, List, [], ◌∷◌, slice_index, Result, Ok, Err, refl, sym, ◌∙◌, ap, subst}
+use Rattle.std.proofs.Common.{◌≡◌, ◌<◌, ◌↔◌, ℕ, suc, List, [], ◌∷◌, slice_index, Result, Ok, Err, IfOk, refl, sym, ◌∙◌, ap, subst}
 use Rattle.llcp_pdu.specs.declared.fault.PduFault.{PduFault}
 use Rattle.llcp_pdu.specs.declared.fault.PduFault.TheVariants.{Refused, Memory}
 use Rattle.llcp_pdu.specs.declared.fault.Refusal.{Refusal}
 use Rattle.llcp_pdu.specs.declared.pdu.Pdu.{Pdu}
 use Rattle.llcp_pdu.specs.Faults.{outcome, Answers}
 use Rattle.llcp_pdu.specs.Pdus.{pdu}
+use Rattle.llcp_pdu.specs.Ranges.{IsPdu}
 use Rattle.llcp_pdu.specs.Spelling.{LlcpSpelling}
+use Rattle.llcp_pdu.proofs.InRange.{in_range}
 use Rattle.llcp_pdu.proofs.ParamLaws.{same_ok}
 use Rattle.llcp_pdu.proofs.Outcomes.{read_ok}
 use Rattle.llcp_pdu.proofs.PartSpellings.{AreBytes}
@@ -25,3 +27,8 @@ exact_by result b bytes a v n =
 pub are_bytes : (xs : List ℕ) → ((i : ℕ) → slice_index xs i < 256) → AreBytes xs
 are_bytes [] h = tt
 are_bytes (x ∷ xs) h = (h 0, are_bytes xs (λ i. h (suc i)))
+
+-- what is the answer has its fields in range
+pub range_by : (result : Result Pdu PduFault) (b : List ℕ) → AreBytes b → Answers result (pdu b) → IfOk result IsPdu
+range_by (Ok v) b bytes a = in_range v b bytes (pdu_found v b bytes (read_ok v (pdu b) a))
+range_by (Err f) b bytes a = tt

@@ -6,3 +6,4 @@ pub mod PartSpellings
 pub mod PduSpellings
 pub mod Written
 pub mod Exact
+pub mod InRange

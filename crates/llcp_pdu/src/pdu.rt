@@ -30,6 +30,7 @@ impl Pdu {
     pub fn read_from(alloc: Global, bytes: &[u8]) -> Result<Pdu, PduFault>
         ensures reads { Answers result (pdu bytes.now) }
         ensures exact { (v : Pdu) → (result ≡ Err Memory → ⊥) → (result ≡ Ok v) ↔ LlcpSpelling v bytes.now }
+        ensures range { IfOk result (λ v. IsPdu v) }
         ensures one { (v w : Pdu) → LlcpSpelling v bytes.now → LlcpSpelling w bytes.now → v ≡ w }
     {
         let header = Header::read_from(bytes, 0)?;
