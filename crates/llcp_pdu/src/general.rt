@@ -145,7 +145,9 @@ pub fn general_write(params: &LinkParams) -> ArrayVec<u8, 47>
 {
     let mut bytes = ArrayVec::new();
     bytes.try_extend_from_slice(&MAGIC).unwrap();
-    bytes.try_extend_from_slice(&[VERSION, 1, params.version]).unwrap();
+    bytes
+        .try_extend_from_slice(&[VERSION, 1, params.version])
+        .unwrap();
     put_miux(&mut bytes, params.miu);
     let [high, low] = params.wks.to_be_bytes();
     bytes.try_extend_from_slice(&[WKS, 2, high, low]).unwrap();

@@ -19,3 +19,6 @@ pub use general::{GeneralFault, LinkParams, general_read, general_write};
 pub use param::Param;
 pub use part::{FrmrReport, Part};
 pub use pdu::Pdu;
+
+#[cfg(test)]
+mod tests;

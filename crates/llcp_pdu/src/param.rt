@@ -11,9 +11,7 @@ ghost use Rattle.llcp_pdu.specs.declared.fault.PduKind.TheVariants.{Parameter};
 ghost use Rattle.llcp_pdu.specs.declared.param.Param.{Param};
 
 use crate::fault::{PduFault, PduKind, Refusal};
-use crate::wire::{
-    LTO, MIUX, MIUX_END, OPT, RW, RW_END, SDREQ, SDRES, SN, VERSION, WKS,
-};
+use crate::wire::{LTO, MIUX, MIUX_END, OPT, RW, RW_END, SDREQ, SDRES, SN, VERSION, WKS};
 use nfc_base::Items;
 use std::alloc::{AllocError, AllocFailed, Global};
 
@@ -168,11 +166,7 @@ pub(crate) fn read_params(
 }
 
 /// Adds a parameter by its type and its value.
-pub(crate) fn append_tlv(
-    target: &mut Vec<u8>,
-    kind: u8,
-    value: &[u8],
-) -> Result<(), AllocError>
+pub(crate) fn append_tlv(target: &mut Vec<u8>, kind: u8, value: &[u8]) -> Result<(), AllocError>
     requires { length value.now < 256 }
     ensures { OnOk result (target.new.items ≡ target.old.items ++ kind ∷ length value.now ∷ value.now) }
 {

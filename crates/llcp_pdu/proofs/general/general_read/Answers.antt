@@ -14,5 +14,5 @@ params-preserved c =
     let next = c.params.invariant.0 + 2 + length c.in-Some-split_param.value.now in (
       next,
       general_more c.args.bytes.now c.params.rest.now tail c.params.spoken (param c.in-Some-split_param.kind c.in-Some-split_param.value.now) c.params.invariant.0 next c.params.invariant.1 (c.in-Some-split_param.ensures.some c.params.invariant.0)
-      ∙ ap (λ s. finished s (params tail 0 next)) (search rules),
+          ∙ ap (λ s. finished s (params tail 0 next)) (search rules),
     )

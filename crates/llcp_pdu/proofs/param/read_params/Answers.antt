@@ -14,8 +14,8 @@ pub params-preserved : goal.params-preserved
 params-preserved c = record {
   place = (let n = c.in-Some.ensures.length in omega arith);
   reads =
-    params_more c.params.found.items c.in_ok-param.param c.keep.new.found.items (params c.args.bytes.now 0 c.args.start) (params c.params.rest.now 0 c.params.at)
-    c.in-Some.tail.now (c.params.at + 2 + length c.in-Some.value.now) _ c.params.invariant.reads (search rules) (search rules) (omega arith);
+      params_more c.params.found.items c.in_ok-param.param c.keep.new.found.items (params c.args.bytes.now 0 c.args.start) (params c.params.rest.now 0 c.params.at)
+      c.in-Some.tail.now (c.params.at + 2 + length c.in-Some.value.now) _ c.params.invariant.reads (search rules) (search rules) (omega arith);
 }
 
 pub returns : goal.returns

@@ -24,8 +24,8 @@ inner-preserved c =
     let one = part c.in_ok-one.one.now (c.inner.at + 2) in record {
       place = (let n = c.in_ok-one.ensures.length in omega arith);
       reads =
-        inner_more c.inner.parts.items c.in_ok-part.part c.push.new.self.items (inner c.args.bytes.now 0 c.args.start) (inner c.inner.rest.now 0 c.inner.at) one c.in_ok-one.tail.now
-        (c.inner.at + 2 + length c.in_ok-one.one.now) _ c.inner.invariant.reads c.in_ok-one.ensures.ok (read_ok c.in_ok-part.part one (search rules)) (search rules) (omega arith);
+          inner_more c.inner.parts.items c.in_ok-part.part c.push.new.self.items (inner c.args.bytes.now 0 c.args.start) (inner c.inner.rest.now 0 c.inner.at) one c.in_ok-one.tail.now
+          (c.inner.at + 2 + length c.in_ok-one.one.now) _ c.inner.invariant.reads c.in_ok-one.ensures.ok (read_ok c.in_ok-part.part one (search rules)) (search rules) (omega arith);
     }
 
 pub returns : goal.returns
