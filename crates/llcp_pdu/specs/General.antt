@@ -39,11 +39,14 @@ said_behind (Some rest) = said (params rest 0 magic_length)
 abbrev pub general : List ℕ → Result LinkParams GeneralFault
 general b = said_behind (unmasked b)
 
+-- an MIU that can be said
+abbrev pub IsMiu : ℕ → Type 0
+IsMiu miu = (least_miu ≤ miu) × (miu < least_miu + miux_end)
+
 -- the ranges of what is spoken here
 pub record IsLinkParams (p : LinkParams) : Type 0 where
   pub version : p.version / 16 ≡ major
-  pub least : least_miu ≤ p.miu
-  pub most : p.miu < least_miu + miux_end
+  pub miu : IsMiu p.miu
 
 -- a MIUX where the MIU isn't the least
 abbrev pub miux_of : ℕ → List Param

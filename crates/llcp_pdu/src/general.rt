@@ -2,8 +2,9 @@
 
 ghost use Rattle.std.specs.Prelude.{◌≡◌, ◌≤◌, ◌+◌, ◌++◌, ◌↔◌, length, option_copied, option_map, Ok, Some, IfOk};
 ghost use Rattle.arrayvec.specs.ArrayVec.{array_vec_len};
-ghost use Rattle.llcp_pdu.specs.General.{general, general_bytes, unmasked as unmasked_of, heard, spoken, miux_of, IsLinkParams};
+ghost use Rattle.llcp_pdu.specs.General.{general, general_bytes, unmasked as unmasked_of, heard, spoken, miux_of, IsMiu, IsLinkParams};
 ghost use Rattle.llcp_pdu.specs.Params.{param};
+ghost use Rattle.llcp_pdu.specs.Wire.{least_miu};
 ghost use Rattle.llcp_pdu.specs.Writing.{params_bytes};
 
 use crate::param::{one, split_param, two, word};
@@ -54,7 +55,9 @@ struct Spoken {
 impl Spoken {
     /// One more parameter is heard.
     fn hear(&mut self, kind: u8, value: &[u8])
-        ensures { self.new ≡ heard self.old (param kind value.now) }
+        requires { IsMiu self.old.miu }
+        ensures heard { self.new ≡ heard self.old (param kind value.now) }
+        ensures bound { IsMiu self.new.miu }
     {
         match kind {
             VERSION => {
@@ -78,7 +81,9 @@ impl Spoken {
 
     /// What was said in all.
     fn link_params(&self) -> Result<LinkParams, GeneralFault>
-        ensures { result ≡ spoken self.now.version self.now.miu self.now.wks }
+        requires { IsMiu self.now.miu }
+        ensures spoken { result ≡ spoken self.now.version self.now.miu self.now.wks }
+        ensures range { IfOk result IsLinkParams }
     {
         let version = self.version.ok_or(GeneralFault::NoVersion)?;
         if version / 16 != MAJOR {
@@ -104,7 +109,8 @@ fn unmasked(bytes: &[u8]) -> Option<&[u8]>
 
 /// What general bytes say of the end that sent them. It takes no memory. The order of its refusals is this project's own.
 pub fn general_read(bytes: &[u8]) -> Result<LinkParams, GeneralFault>
-    ensures { result ≡ general bytes.now }
+    ensures exact { result ≡ general bytes.now }
+    ensures range { IfOk result IsLinkParams }
 {
     let Some(mut rest) = unmasked(bytes) else {
         return Err(GeneralFault::NoMagic);
@@ -127,7 +133,7 @@ pub fn general_read(bytes: &[u8]) -> Result<LinkParams, GeneralFault>
 /// Adds a MIUX, where the MIU isn't the least.
 fn put_miux(bytes: &mut ArrayVec<u8, 47>, miu: u16)
     requires room { array_vec_len bytes.old ≤ 43 }
-    requires least { 128 ≤ miu }
+    requires least { least_miu ≤ miu }
     ensures bytes { bytes.new.items ≡ bytes.old.items ++ params_bytes (miux_of miu) }
     ensures bound { array_vec_len bytes.new ≤ array_vec_len bytes.old + 4 }
 {

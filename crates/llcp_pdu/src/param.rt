@@ -3,6 +3,7 @@
 ghost use Rattle.std.specs.Prelude.{◌≡◌, ◌+◌, ◌*◌, ◌<◌, ◌^◌, ℕ, List, length, option_map, IfOk, IfSome, IfNone, OnOk, ◌++◌, [], ◌∷◌, option_to_list, true};
 ghost use Rattle.llcp_pdu.specs.Params.{printed};
 ghost use Rattle.llcp_pdu.specs.Ranges.{IsParam, AreParams};
+ghost use Rattle.llcp_pdu.specs.Wire.{sn_type, sdreq_type};
 ghost use Rattle.llcp_pdu.specs.Writing.{tlv_of, params_bytes};
 ghost use Rattle.llcp_pdu.specs.Params.{one as one_of, two as two_of, kept, param, params, is_sized as has_size, tlv};
 ghost use Rattle.llcp_pdu.specs.Reading.{refused};
@@ -72,7 +73,7 @@ fn is_sized(kind: u8, value: &[u8]) -> bool
 
 /// The parameter of a type that needs no memory.
 fn plain_param(kind: u8, value: &[u8]) -> Option<Param>
-    requires { (kind ≡ 6 → ⊥) × (kind ≡ 8 → ⊥) }
+    requires { (kind ≡ sn_type → ⊥) × (kind ≡ sdreq_type → ⊥) }
     ensures { result ≡ param kind value.now }
 {
     match kind {

@@ -38,7 +38,7 @@ impl Pdu {
     }
 
     /// Adds the bytes of a PDU with fields in range to `target`: no parameters of unknown types, 0 in all bits that are
-    /// ignored.
+    /// ignored. They are written into memory of their own first.
     pub fn write_to(&self, target: &mut Vec<u8>) -> Result<(), AllocError>
         requires { IsPdu self.now }
         ensures ok { OnOk result (target.new.items ≡ target.old.items ++ pdu_bytes self.now) }
