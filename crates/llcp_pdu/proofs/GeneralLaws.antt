@@ -1,8 +1,6 @@
 -- What general bytes say, parameter after parameter.
-use Rattle.std.proofs.Common.{◌≡◌, ◌<◌, ◌≤◌, ℕ, ◌+◌, ◌-◌, ◌*◌, ◌/◌, ◌%◌, ◌==◌, Bool, true, false, List, [], ◌∷◌, ◌++◌, length, Option, Some, None, unwrap_or, Result, Ok, Err, refl, sym, ◌∙◌, ap, subst, arith, if◌then◌else◌}
+use Rattle.std.proofs.Common.{◌≡◌, ℕ, List, length, Option, Some, None, unwrap_or, Result, Ok, Err, refl, sym, ◌∙◌, ap}
 use Rattle.llcp_pdu.specs.declared.fault.Refusal.{Refusal}
-use Rattle.llcp_pdu.specs.declared.general.GeneralFault.{GeneralFault}
-use Rattle.llcp_pdu.specs.declared.general.LinkParams.{LinkParams}
 use Rattle.llcp_pdu.specs.declared.general.Spoken.{Spoken}
 use Rattle.llcp_pdu.specs.declared.param.Param.{Param}
 use Rattle.llcp_pdu.specs.Wire.{least_miu, magic_length}

@@ -1,10 +1,10 @@
 -- What calls that take memory answer.
-use Rattle.std.proofs.Common.{◌≡◌, ℕ, List, [], Result, Ok, Err, refl, sym, ◌∙◌, ap, subst}
+use Rattle.std.proofs.Common.{◌≡◌, List, [], Result, Ok, Err, refl, sym, ◌∙◌, ap, subst}
 use Rattle.llcp_pdu.specs.declared.fault.PduFault.{PduFault}
 use Rattle.llcp_pdu.specs.declared.fault.PduFault.TheVariants.{Refused, Memory}
 use Rattle.llcp_pdu.specs.declared.fault.Refusal.{Refusal}
-use Rattle.llcp_pdu.specs.Reading.{before, gives, follows}
-use Rattle.llcp_pdu.specs.Faults.{told, outcome, Answers}
+use Rattle.llcp_pdu.specs.Reading.{before}
+use Rattle.llcp_pdu.specs.Faults.{told, Answers}
 use Rattle.llcp_pdu.proofs.ParamLaws.{before_err, before_end}
 
 -- a refusal is answered

@@ -1,5 +1,5 @@
 -- A PDU that is spelled is read, and what is read is spelled: those that hold no other.
-use Rattle.std.proofs.Common.{◌≡◌, ◌<◌, ◌≤◌, ℕ, zero, suc, ◌+◌, ◌*◌, ◌/◌, ◌%◌, ◌==◌, ◌&&◌, Bool, true, false, List, [], ◌∷◌, ◌++◌, length, take, drop, Option, Some, None, Result, Ok, Err, refl, sym, ◌∙◌, ap, subst, arith, if◌then◌else◌}
+use Rattle.std.proofs.Common.{◌≡◌, ◌<◌, ℕ, ◌+◌, ◌*◌, ◌/◌, ◌%◌, ◌==◌, Bool, true, false, List, [], ◌∷◌, Option, Some, None, Result, Ok, Err, refl, ◌∙◌, ap, subst, arith}
 use Rattle.std.proofs.lemmas.Bool.{eqb-true}
 use Rattle.llcp_pdu.specs.declared.fault.PduKind.TheVariants.{Sap}
 use Rattle.llcp_pdu.specs.declared.fault.Refusal.{Refusal}
@@ -9,11 +9,11 @@ use Rattle.llcp_pdu.specs.declared.param.Param.{Param}
 use Rattle.llcp_pdu.specs.declared.part.FrmrReport.{FrmrReport}
 use Rattle.llcp_pdu.specs.declared.part.Part.{Part}
 use Rattle.llcp_pdu.specs.declared.part.Part.TheVariants.{Symm, Ui, Connect, Disc, Cc, Dm, Frmr, Snl, Info, Rr, Rnr}
-use Rattle.llcp_pdu.specs.Wire.{ptype_number, discovery_sap}
-use Rattle.llcp_pdu.specs.Reading.{refused, gives, follows, ended, byte}
+use Rattle.llcp_pdu.specs.Wire.{ptype_number}
+use Rattle.llcp_pdu.specs.Reading.{refused, gives, ended, byte}
 use Rattle.llcp_pdu.specs.Params.{params, ParamsSpelling}
-use Rattle.llcp_pdu.specs.Parts.{pick, ptype_of, ptype_bits, headed, header, between, report, numbered, body, part}
-use Rattle.llcp_pdu.specs.Spelling.{head, Headed, IsReport, report_bytes, Receives, PartSpelling}
+use Rattle.llcp_pdu.specs.Parts.{pick, ptype_of, ptype_bits, between, report, numbered, body, part}
+use Rattle.llcp_pdu.specs.Spelling.{Headed, IsReport, report_bytes, Receives, PartSpelling}
 use Rattle.llcp_pdu.proofs.ParamLaws.{same_ok, params_read, params_found}
 
 abbrev pub AreBytes : List ℕ → Type 0

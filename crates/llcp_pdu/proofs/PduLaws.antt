@@ -1,9 +1,9 @@
 -- The PDUs in an AGF, one after the other.
-use Rattle.std.proofs.Common.{◌≡◌, ◌<◌, ◌≤◌, ℕ, zero, suc, ◌+◌, ◌*◌, nat_lt, Bool, true, false, List, [], ◌∷◌, ◌++◌, length, take, drop, Result, Ok, Err, refl, sym, ◌∙◌, ap, subst, arith, length-append, length-take, length-drop, slice_index_or, if◌then◌else◌}
+use Rattle.std.proofs.Common.{◌≡◌, ◌≤◌, ℕ, ◌+◌, ◌*◌, nat_lt, false, List, [], ◌∷◌, ◌++◌, length, take, drop, Result, Ok, Err, refl, sym, ◌∙◌, ap, subst, arith, length-take, slice_index_or}
 use Rattle.std.proofs.lemmas.List.{take-append-drop}
 use Rattle.llcp_pdu.specs.declared.fault.Refusal.{Refusal}
 use Rattle.llcp_pdu.specs.declared.part.Part.{Part}
-use Rattle.llcp_pdu.specs.Reading.{onto, follows, before}
+use Rattle.llcp_pdu.specs.Reading.{before}
 use Rattle.llcp_pdu.specs.Parts.{part}
 use Rattle.llcp_pdu.specs.Pdus.{joined, inner}
 use Rattle.llcp_pdu.proofs.ParamLaws.{not_lt, before_more, before_err}

@@ -1,7 +1,7 @@
 -- A PDU that is spelled is read, and what is read is spelled: whole payloads.
-use Rattle.std.proofs.Common.{◌≡◌, ◌<◌, ◌≤◌, ℕ, zero, suc, ◌+◌, ◌*◌, ◌/◌, ◌%◌, nat_lt, Bool, true, false, List, [], ◌∷◌, ◌++◌, length, take, drop, Option, Some, None, Result, Ok, Err, refl, sym, ◌∙◌, ap, subst, arith, length-append, length-take, if◌then◌else◌}
+use Rattle.std.proofs.Common.{◌≡◌, ◌<◌, ◌≤◌, ℕ, zero, suc, ◌+◌, ◌*◌, ◌/◌, ◌%◌, nat_lt, Bool, true, false, List, [], ◌∷◌, ◌++◌, length, take, drop, Option, Some, None, Result, Ok, Err, refl, sym, ◌∙◌, ap, subst, arith, length-append, length-take}
 use Rattle.std.proofs.lemmas.List.{take-append-drop}
-use Rattle.llcp_pdu.specs.declared.fault.PduKind.TheVariants.{Short, Ptype as WrongPtype}
+use Rattle.llcp_pdu.specs.declared.fault.PduKind.TheVariants.{Short}
 use Rattle.llcp_pdu.specs.declared.fault.Refusal.{Refusal}
 use Rattle.llcp_pdu.specs.declared.header.Header.{Header}
 use Rattle.llcp_pdu.specs.declared.header.Ptype.{Ptype}

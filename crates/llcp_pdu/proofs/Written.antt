@@ -1,12 +1,12 @@
 -- What is written spells its value.
-use Rattle.std.proofs.Common.{◌≡◌, ◌<◌, ◌≤◌, ℕ, ◌+◌, ◌*◌, ◌/◌, ◌%◌, ◌||◌, not, Bool, true, false, List, [], ◌∷◌, ◌++◌, length, Option, Some, None, is_some, Result, Ok, Err, refl, sym, ◌∙◌, ap, subst, arith}
+use Rattle.std.proofs.Common.{◌≡◌, ◌<◌, ℕ, ◌+◌, ◌*◌, ◌/◌, ◌%◌, ◌||◌, not, Bool, true, List, [], ◌∷◌, length, Option, Some, is_some, Ok, refl, ◌∙◌, ap, arith}
 use Rattle.llcp_pdu.specs.declared.param.Param.{Param}
 use Rattle.llcp_pdu.specs.declared.param.Param.TheVariants.{Version, Miux, Wks, Lto, Rw, Sn, Opt, SdReq, SdRes}
 use Rattle.llcp_pdu.specs.declared.part.Part.{Part}
 use Rattle.llcp_pdu.specs.declared.part.Part.TheVariants.{Symm, Ui, Connect, Disc, Cc, Dm, Frmr, Snl, Info, Rr, Rnr}
 use Rattle.llcp_pdu.specs.declared.pdu.Pdu.{Pdu}
 use Rattle.llcp_pdu.specs.declared.pdu.Pdu.TheVariants.{Agf, One}
-use Rattle.llcp_pdu.specs.Params.{param, is_known, Tlv, is_sized, AllSized, known_first, known, ParamsSpelling}
+use Rattle.llcp_pdu.specs.Params.{param, is_known, AllSized, known_first, known, ParamsSpelling}
 use Rattle.llcp_pdu.specs.Pdus.{pdu}
 use Rattle.llcp_pdu.specs.Ranges.{IsParam, AreParams, IsPart, AreParts, IsPdu}
 use Rattle.llcp_pdu.specs.Spelling.{PartSpelling, PartsSpelling, LlcpSpelling}

@@ -1,5 +1,5 @@
 -- What becomes of a reading in a call that takes memory.
-use Rattle.std.specs.Prelude.{◌≡◌, ℕ, min, Result, Ok, Err}
+use Rattle.std.specs.Prelude.{◌≡◌, min, Result, Ok, Err}
 use Rattle.llcp_pdu.specs.declared.fault.PduFault.{PduFault}
 use Rattle.llcp_pdu.specs.declared.fault.PduFault.TheVariants.{Refused, Memory}
 use Rattle.llcp_pdu.specs.declared.fault.Refusal.{Refusal}

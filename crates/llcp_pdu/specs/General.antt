@@ -1,5 +1,5 @@
 -- What general bytes say of an end (NFC Forum LLCP 1.3): three bytes of magic, and then parameters.
-use Rattle.std.specs.Prelude.{◌≡◌, ◌≤◌, ◌<◌, ℕ, ◌+◌, ◌-◌, ◌/◌, ◌==◌, ◌&&◌, Bool, true, false, if◌then◌else◌, List, [], ◌∷◌, ◌++◌, Option, Some, None, unwrap_or, Result, Ok, Err}
+use Rattle.std.specs.Prelude.{◌≡◌, ◌≤◌, ◌<◌, ℕ, ◌+◌, ◌-◌, ◌/◌, ◌==◌, ◌&&◌, if◌then◌else◌, List, [], ◌∷◌, ◌++◌, Option, Some, None, unwrap_or, Result, Ok, Err}
 use Rattle.llcp_pdu.specs.declared.fault.Refusal.{Refusal}
 use Rattle.llcp_pdu.specs.declared.general.GeneralFault.{GeneralFault}
 use Rattle.llcp_pdu.specs.declared.general.GeneralFault.TheVariants.{NoMagic, NoVersion, OtherMajor, Malformed}

@@ -1,6 +1,6 @@
 -- What one PDU that is no AGF is read as (NFC Forum LLCP 1.3), or its first fault: a header that is short, its PTYPE, its
 -- SAPs, and then what follows.
-use Rattle.std.specs.Prelude.{ℕ, ◌+◌, ◌-◌, ◌*◌, ◌/◌, ◌%◌, ◌==◌, ◌&&◌, Bool, true, false, if◌then◌else◌, List, [], ◌∷◌, length, drop, Option, Some, None, Result, Ok, Err}
+use Rattle.std.specs.Prelude.{ℕ, ◌+◌, ◌-◌, ◌*◌, ◌/◌, ◌%◌, ◌==◌, ◌&&◌, if◌then◌else◌, List, [], ◌∷◌, length, drop, Option, Some, None, Result, Ok}
 use Rattle.llcp_pdu.specs.declared.fault.PduKind.TheVariants.{Short, Ptype as WrongPtype, Sap, Nested}
 use Rattle.llcp_pdu.specs.declared.fault.Refusal.{Refusal}
 use Rattle.llcp_pdu.specs.declared.header.Header.{Header}

@@ -1,5 +1,5 @@
 -- The ranges that the fields of a PDU have on the wire.
-use Rattle.std.specs.Prelude.{◌<◌, ℕ, ◌+◌, List, [], ◌∷◌, length}
+use Rattle.std.specs.Prelude.{◌<◌, ◌+◌, List, [], ◌∷◌, length}
 use Rattle.llcp_pdu.specs.declared.param.Param.{Param}
 use Rattle.llcp_pdu.specs.declared.param.Param.TheVariants.{Version, Miux, Wks, Lto, Rw, Sn, Opt, SdReq, SdRes}
 use Rattle.llcp_pdu.specs.declared.part.Part.{Part}

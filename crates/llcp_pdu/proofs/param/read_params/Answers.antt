@@ -1,5 +1,5 @@
 use Rattle.std.proofs.Common.{rules, arith, ◌+◌, ◌∙◌, sym, ap, length, Ok}
-use Rattle.llcp_pdu.specs.Params.{param, params}
+use Rattle.llcp_pdu.specs.Params.{params}
 use Rattle.llcp_pdu.specs.Faults.{outcome}
 use Rattle.llcp_pdu.proofs.ParamLaws.{params_none, params_more}
 use Rattle.llcp_pdu.proofs.Outcomes.{answers_refusal, whole_refusal, whole_read}
