@@ -3,10 +3,11 @@ use Rattle.std.specs.Prelude.{◌≡◌, min, Result, Ok, Err}
 use Rattle.llcp_pdu.specs.declared.fault.PduFault.{PduFault}
 use Rattle.llcp_pdu.specs.declared.fault.PduFault.TheVariants.{Refused, Memory}
 use Rattle.llcp_pdu.specs.declared.fault.Refusal.{Refusal}
+use Rattle.llcp_pdu.specs.Wire.{last_place}
 
--- places from 65,535 on are told as 65,535
+-- places behind the last one that is told are told as it
 abbrev pub told : Refusal → PduFault
-told r = Refused (min r.place 65535) r.kind
+told r = Refused (min r.place last_place) r.kind
 
 abbrev pub outcome : {A : Type 0} → Result A Refusal → Result A PduFault
 outcome (Ok x) = Ok x

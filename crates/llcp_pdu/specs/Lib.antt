@@ -8,3 +8,4 @@ pub mod Writing
 pub mod Ranges
 pub mod General
 pub mod Faults
+pub mod Numbers

@@ -116,3 +116,7 @@ magic = magic_first ∷ magic_second ∷ magic_third ∷ []
 -- the major number of the version that is spoken here
 abbrev pub major : ℕ
 major = 1
+
+-- the last place of a fault that is told as it is
+abbrev pub last_place : ℕ
+last_place = 65535

@@ -2,6 +2,7 @@
 
 ghost use Rattle.std.specs.Prelude.{◌≡◌};
 ghost use Rattle.llcp_pdu.specs.Faults.{told};
+ghost use Rattle.llcp_pdu.specs.Numbers.{pdu_kind_number, pdu_fault_number};
 ghost use Rattle.llcp_pdu.specs.declared.fault.PduFault.TheVariants.{Memory};
 
 use std::alloc::{AllocError, AllocFailed};
@@ -28,6 +29,15 @@ pub enum PduKind {
     Trailing = 6,
 }
 
+impl PduKind {
+    /// Its number in reports and tests.
+    pub fn number(&self) -> u8
+        ensures { result ≡ pdu_kind_number self.now }
+    {
+        *self as u8
+    }
+}
+
 /// The first fault of some bytes.
 #[derive(Clone, Copy, Debug, PartialEq, Eq)]
 pub(crate) struct Refusal {
@@ -42,6 +52,18 @@ pub enum PduFault {
     Refused { place: u16, kind: PduKind },
     #[error("no memory")]
     Memory,
+}
+
+impl PduFault {
+    /// Its number in reports and tests.
+    pub fn number(&self) -> u8
+        ensures { result ≡ pdu_fault_number self.now }
+    {
+        match self {
+            PduFault::Refused { .. } => 1,
+            PduFault::Memory => 2,
+        }
+    }
 }
 
 impl Refusal {

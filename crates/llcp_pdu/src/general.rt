@@ -3,6 +3,7 @@
 ghost use Rattle.std.specs.Prelude.{◌≡◌, ◌≤◌, ◌+◌, ◌++◌, ◌↔◌, length, option_copied, option_map, Ok, Some, IfOk};
 ghost use Rattle.arrayvec.specs.ArrayVec.{array_vec_len};
 ghost use Rattle.llcp_pdu.specs.General.{general, general_bytes, unmasked as unmasked_of, heard, spoken, miux_of, IsMiu, IsLinkParams};
+ghost use Rattle.llcp_pdu.specs.Numbers.{general_fault_number};
 ghost use Rattle.llcp_pdu.specs.Params.{param};
 ghost use Rattle.llcp_pdu.specs.Wire.{least_miu};
 ghost use Rattle.llcp_pdu.specs.Writing.{params_bytes};
@@ -42,6 +43,15 @@ pub enum GeneralFault {
     OtherMajor = 3,
     #[error("the general bytes have a malformed parameter")]
     Malformed = 4,
+}
+
+impl GeneralFault {
+    /// Its number in reports and tests.
+    pub fn number(&self) -> u8
+        ensures { result ≡ general_fault_number self.now }
+    {
+        *self as u8
+    }
 }
 
 /// What was said so far.

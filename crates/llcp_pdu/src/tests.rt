@@ -136,12 +136,15 @@ fn plain_pdus_come_back(rt: HostRuntime) -> Result<(), Fail> {
     Ok(())
 }
 
-/// Parameters of unknown types, ignored bits, and an AGF.
+/// Units of a client, parameters of unknown types, ignored bits, and AGFs.
 #[test]
-fn what_is_ignored_is_not_written(rt: HostRuntime) -> Result<(), Fail> {
+fn bytes_come_back_without_what_is_ignored(rt: HostRuntime) -> Result<(), Fail> {
     let alloc = rt.alloc();
-    let rows: [(&[u8], &[u8]); 5] = [
+    let put = [0x13, 0x20, 0x00, 0x10, 0x02, 0, 0, 0, 3, 0xD0, 0, 0];
+    let rows: [(&[u8], &[u8]); 7] = [
         (&[0x11, 0x20], &[0x11, 0x20]),
+        (&put, &put),
+        (&[0x13, 0x20, 0x10, 0xAA], &[0x13, 0x20, 0x10, 0xAA]),
         (
             &[0x11, 0x20, 0x63, 0x01, 0x07, 0x05, 0x01, 0x14],
             &[0x11, 0x20, 0x05, 0x01, 0x04],
