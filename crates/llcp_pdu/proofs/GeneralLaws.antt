@@ -1,0 +1,53 @@
+-- What general bytes say, parameter after parameter.
+use Rattle.std.proofs.Common.{◌≡◌, ℕ, List, length, Option, Some, None, unwrap_or, Result, Ok, Err, refl, sym, ◌∙◌, ap}
+use Rattle.llcp_pdu.specs.declared.fault.Refusal.{Refusal}
+use Rattle.llcp_pdu.specs.declared.general.Spoken.{Spoken}
+use Rattle.llcp_pdu.specs.declared.param.Param.{Param}
+use Rattle.llcp_pdu.specs.Wire.{least_miu, magic_length}
+use Rattle.llcp_pdu.specs.Params.{params, kept, later, last_of, version_in, miux_in, wks_in}
+use Rattle.llcp_pdu.specs.General.{miu_by, spoken, said, unmasked, said_behind, general, heard, finished}
+use Rattle.llcp_pdu.proofs.ParamLaws.{params_none}
+
+later_none : {A : Type 0} (o : Option A) → later o None ≡ o
+later_none None = refl
+later_none (Some x) = refl
+
+later_joins : {A : Type 0} (a b c : Option A) → later a (later b c) ≡ later (later a b) c
+later_joins None b c = refl
+later_joins (Some x) b c = refl
+
+miu_joins : (miu : ℕ) (a b : Option ℕ) → miu_by (miu_by miu b) a ≡ miu_by miu (later a b)
+miu_joins miu None b = refl
+miu_joins miu (Some n) b = refl
+
+or_joins : (n : ℕ) (a b : Option ℕ) → unwrap_or a (unwrap_or b n) ≡ unwrap_or (later a b) n
+or_joins n None b = refl
+or_joins n (Some m) b = refl
+
+-- where nothing was said, all that is said is in the parameters
+pub finished_first : (r : Result (List Param) Refusal) → said r ≡ finished (record { version = None; miu = least_miu; wks = 0 }) r
+finished_first (Err r) = refl
+finished_first (Ok ps) = rw (later_none (last_of version_in ps)) refl
+
+-- one more parameter
+pub finished_more : (s : Spoken) (o : Option Param) (r : Result (List Param) Refusal) → finished s (kept o r) ≡ finished (heard s o) r
+finished_more s None r = refl
+finished_more s (Some p) (Err r) = refl
+finished_more s (Some p) (Ok ps) =
+    rw (later_joins (last_of version_in ps) (version_in p) s.version, miu_joins s.miu (last_of miux_in ps) (miux_in p), or_joins s.wks (last_of wks_in ps) (wks_in p)) refl
+
+-- nothing more
+pub finished_last : (s : Spoken) (xs : List ℕ) (at : ℕ) → length xs ≡ 0 → finished s (params xs 0 at) ≡ spoken s.version s.miu s.wks
+finished_last s xs at h = ap (finished s) (params_none xs at h)
+
+-- the parameters behind the magic
+pub general_behind : (b rest : List ℕ) → Some rest ≡ unmasked b → general b ≡ finished (record { version = None; miu = least_miu; wks = 0 }) (params rest 0 magic_length)
+general_behind b rest e = ap said_behind (sym e) ∙ finished_first (params rest 0 magic_length)
+
+pub general_without : (b : List ℕ) → None ≡ unmasked b → general b ≡ said_behind None
+general_without b e = ap said_behind (sym e)
+
+-- a parameter that is heard
+pub general_more : (b xs tail : List ℕ) (s : Spoken) (o : Option Param) (place next : ℕ) → general b ≡ finished s (params xs 0 place) → params xs 0 place ≡ kept o (params tail 0 next)
+    → general b ≡ finished (heard s o) (params tail 0 next)
+general_more b xs tail s o place next e i = e ∙ ap (finished s) i ∙ finished_more s o (params tail 0 next)

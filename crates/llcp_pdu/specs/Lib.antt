@@ -1,0 +1,11 @@
+pub mod Wire
+pub mod Reading
+pub mod Params
+pub mod Parts
+pub mod Pdus
+pub mod Spelling
+pub mod Writing
+pub mod Ranges
+pub mod General
+pub mod Faults
+pub mod Numbers

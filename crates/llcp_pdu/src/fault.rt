@@ -1,0 +1,102 @@
+//! What is wrong with bytes that are no PDU.
+
+ghost use Rattle.std.specs.Prelude.{◌≡◌};
+ghost use Rattle.llcp_pdu.specs.Faults.{told};
+ghost use Rattle.llcp_pdu.specs.Numbers.{pdu_kind_number, pdu_fault_number};
+ghost use Rattle.llcp_pdu.specs.declared.fault.PduFault.TheVariants.{Memory};
+
+use std::alloc::{AllocError, AllocFailed};
+use thiserror::Error;
+
+/// The last place that is told as it is.
+const LAST_PLACE: usize = 65535;
+
+/// What is wrong. What is refused, and at which place, is this project's own.
+#[derive(Clone, Copy, Debug, PartialEq, Eq)]
+pub enum PduKind {
+    /// A byte is missing, told at the end.
+    Short = 1,
+    /// No PDU has this PTYPE, told at the PDU's first byte.
+    Ptype = 2,
+    /// No PDU of this PTYPE has these SAPs, told at the PDU's first byte.
+    Sap = 3,
+    /// A parameter without its length, longer than what is left, or of another length than its type has; told at
+    /// its type.
+    Parameter = 4,
+    /// An AGF in an AGF, told at its length.
+    Nested = 5,
+    /// Something behind the last byte, told at its first byte.
+    Trailing = 6,
+}
+
+impl PduKind {
+    /// Its number in reports and tests.
+    pub fn number(&self) -> u8
+        ensures { result ≡ pdu_kind_number self.now }
+    {
+        *self as u8
+    }
+}
+
+/// The first fault of some bytes.
+#[derive(Clone, Copy, Debug, PartialEq, Eq)]
+pub(crate) struct Refusal {
+    pub(crate) place: usize,
+    pub(crate) kind: PduKind,
+}
+
+/// Why some bytes weren't read. Places count from 0; those from 65,535 on are told as 65,535.
+#[derive(Clone, Copy, Debug, PartialEq, Eq, Error)]
+pub enum PduFault {
+    #[error("no LLCP PDU: {kind:?} at byte {place}")]
+    Refused { place: u16, kind: PduKind },
+    #[error("no memory")]
+    Memory,
+}
+
+impl PduFault {
+    /// Its number in reports and tests.
+    pub fn number(&self) -> u8
+        ensures { result ≡ pdu_fault_number self.now }
+    {
+        match self {
+            PduFault::Refused { .. } => 1,
+            PduFault::Memory => 2,
+        }
+    }
+}
+
+impl Refusal {
+    pub(crate) fn at(place: usize, kind: PduKind) -> Refusal
+        ensures { result ≡ record { place = place; kind = kind } }
+    {
+        Refusal { place, kind }
+    }
+}
+
+impl From<Refusal> for PduFault {
+    ghost from_gives = { λ r f. f ≡ told r };
+
+    fn from(refusal: Refusal) -> PduFault {
+        PduFault::Refused {
+            place: refusal.place.min(LAST_PLACE) as u16,
+            kind: refusal.kind,
+        }
+    }
+}
+
+impl From<AllocError> for PduFault {
+    ghost from_gives = { λ _ f. f ≡ Memory };
+
+    fn from(_error: AllocError) -> PduFault {
+        PduFault::Memory
+    }
+}
+
+impl<T: Drop> From<AllocFailed<T>> for PduFault {
+    ghost from_gives = { λ _ f. f ≡ Memory };
+
+    fn from(_error: AllocFailed<T>) -> PduFault {
+        PduFault::Memory
+    }
+}
