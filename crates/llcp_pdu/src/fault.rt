@@ -45,7 +45,7 @@ pub(crate) struct Refusal {
     pub(crate) kind: PduKind,
 }
 
-/// Why some bytes weren't read. Places count from 0; those from 65,535 on are told as 65,535.
+/// Why some bytes weren't read. Places count from 0; those behind 65,535 are told as it.
 #[derive(Clone, Copy, Debug, PartialEq, Eq, Error)]
 pub enum PduFault {
     #[error("no LLCP PDU: {kind:?} at byte {place}")]
