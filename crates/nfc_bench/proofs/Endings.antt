@@ -1,5 +1,5 @@
 -- How a run ends, by how its parts did.
-use Rattle.std.proofs.Common.{◌≡◌, ℕ, ◌+◌, ◌≤◌, List, [], ◌∷◌, ◌++◌, length, false, Option, Some, None, Result, Ok, Err, refl, sym, ◌∙◌, ap, subst, arith, inl, inr}
+use Rattle.std.proofs.Common.{◌≡◌, ℕ, ◌+◌, ◌≤◌, List, [], ◌∷◌, ◌++◌, length, Bool, Option, Some, None, Result, Ok, Err, refl, sym, ◌∙◌, ap, subst, arith, inl, inr}
 use Rattle.std.specs.Prelude.{IfSome, OnOk, OnErr}
 use Rattle.std.specs.List.{All}
 use Rattle.std.proofs.lemmas.List.{append-nil, length-append}
@@ -13,7 +13,7 @@ use Rattle.nfc_bench.specs.declared.top.input.Ending.TheVariants.{End, Fault, En
 use Rattle.nfc_bench.specs.declared.top.lines.Stop.{Stop}
 use Rattle.nfc_bench.specs.declared.top.lines.Stop.TheVariants.{Refused, ReadFault, WriteFault, Memory}
 use Rattle.nfc_bench.specs.Lines.{lines_of}
-use Rattle.nfc_bench.specs.Limits.{most_lines, longest_line, PassesLimits}
+use Rattle.nfc_bench.specs.Limits.{most_lines, longest_line}
 use Rattle.nfc_bench.specs.Report.{report_text}
 use Rattle.nfc_bench.specs.Run.{FrontIsObeyed, FirstRefused, AllTaken, RefusesLine, ObeysFront, AddsFault, line_fault, memory_fault, read_fault, EndsDone, EndsRefused, EndsUnread, EndsUnwritten, EndsMemory}
 use Rattle.nfc_bench.specs.Stops.{ReadingEnds, MayFollow, TextDone, TextRefused, TextUnread, TextUnwritten, TextLost, TextStops, RunRefused, RunUnread, RunLost, RunStops}
@@ -21,21 +21,15 @@ use Rattle.nfc_bench.proofs.Limits.{all_at, IsShort}
 use Rattle.nfc_bench.proofs.Progress.{obeyed_none}
 use Rattle.nfc_bench.proofs.Journals.{written_none}
 
--- a text that is enough passes the limits
-pub passes_of : (left' : Option (List ℕ)) (text : List ℕ) (ending : Ending) (r r' : ℕ) → ReadingEnds left' text ending r r' → ending ≡ Enough → PassesLimits text
-passes_of left' text End r r' ends is = absurd cc
-passes_of left' text Fault r r' ends is = absurd cc
-passes_of left' text Enough r r' ends is = ends
+pub risen_of : (left' : Option (List ℕ)) (ending : Ending) (r r' : ℕ) → ReadingEnds left' ending r r' → ending ≡ Fault → HasRisen r r'
+risen_of left' End r r' ends is = absurd cc
+risen_of left' Fault r r' ends is = ends
+risen_of left' Enough r r' ends is = absurd cc
 
-pub risen_of : (left' : Option (List ℕ)) (text : List ℕ) (ending : Ending) (r r' : ℕ) → ReadingEnds left' text ending r r' → ending ≡ Fault → HasRisen r r'
-risen_of left' text End r r' ends is = absurd cc
-risen_of left' text Fault r r' ends is = ends
-risen_of left' text Enough r r' ends is = absurd cc
-
-pub ended_of : (left' : Option (List ℕ)) (text : List ℕ) (ending : Ending) (r r' : ℕ) → ReadingEnds left' text ending r r' → ending ≡ End → IfSome left' (λ rest. rest ≡ [])
-ended_of left' text End r r' ends is = ends
-ended_of left' text Fault r r' ends is = absurd cc
-ended_of left' text Enough r r' ends is = absurd cc
+pub ended_of : (left' : Option (List ℕ)) (ending : Ending) (r r' : ℕ) → ReadingEnds left' ending r r' → ending ≡ End → IfSome left' (λ rest. rest ≡ [])
+ended_of left' End r r' ends is = ends
+ended_of left' Fault r r' ends is = absurd cc
+ended_of left' Enough r r' ends is = absurd cc
 
 -- the input goes on behind the text, where the source tells it
 pub record GoesOnBy (left : Option (List ℕ)) (text : List ℕ) (ending : Ending) : Type 0 where
@@ -55,10 +49,10 @@ goes_on_by left (Some rest) text ending read ended = record {
   told = let P : Option (List ℕ) → Type 0 = λ o. IfSome o (λ bytes. text ++ rest ≡ bytes) in subst P (sym read) refl;
 }
 
-pub ends_done : (left left' t t' : Option (List ℕ)) (text : List ℕ) (ending : Ending) (j : List Entry) (r r' : ℕ)
-    → left ≡ with_front text left' → ReadingEnds left' text ending r r' → TextDone text ending j t t' → EndsDone left left' t t' j
-ends_done left left' t t' text ending j r r' read ends s = record {
-  lines = record { input = text; told = whole left left' text read (ended_of left' text ending r r' ends s.ended); obeyed = s.obeyed };
+pub ends_done : (quiet : Bool) (left left' t t' : Option (List ℕ)) (text : List ℕ) (ending : Ending) (j : List Entry) (r r' : ℕ)
+    → left ≡ with_front text left' → ReadingEnds left' ending r r' → TextDone quiet text ending j t t' → EndsDone quiet left left' t t' j
+ends_done quiet left left' t t' text ending j r r' read ends s = record {
+  lines = record { input = text; told = whole left left' text read (ended_of left' ending r r' ends s.ended); obeyed = s.obeyed };
   written = s.written;
 }
   where
@@ -68,24 +62,24 @@ ends_done left left' t t' text ending j r r' read ends s = record {
         let P : Option (List ℕ) → Type 0 = λ o. IfSome o (λ bytes. (text ≡ bytes) × (Some rest ≡ Some [])) in
         subst P (sym read) (sym (append-nil text) ∙ ap (λ x. text ++ x) (sym none), ap (λ x. let o : Option (List ℕ) = Some x in o) none)
 
-pub run_refused : (left left' t t' : Option (List ℕ)) (text : List ℕ) (ending : Ending) (j : List Entry) (n r r' : ℕ)
-    → left ≡ with_front text left' → ReadingEnds left' text ending r r' → TextRefused text ending j n t t' → RunRefused left t t' j n
-run_refused left left' t t' text ending j n r r' read ends s =
-    let on = goes_on_by left left' text ending read (ended_of left' text ending r r' ends) in
+pub run_refused : (quiet : Bool) (left left' t t' : Option (List ℕ)) (text : List ℕ) (ending : Ending) (j : List Entry) (n r r' : ℕ)
+    → left ≡ with_front text left' → ReadingEnds left' ending r r' → TextRefused quiet text ending j n t t' → RunRefused quiet left t t' j n
+run_refused quiet left left' t t' text ending j n r r' read ends s =
+    let on = goes_on_by left left' text ending read (ended_of left' ending r r' ends) in
     record { lines = record { input = text ++ on.more; told = on.told; first = s.first on.more on.follows }; written = s.written }
 
-pub run_unread : (left left' t t' : Option (List ℕ)) (text : List ℕ) (ending : Ending) (j : List Entry) (r r' : ℕ)
-    → left ≡ with_front text left' → ReadingEnds left' text ending r r' → TextUnread text ending j t t' → RunUnread left left' t t' r r' j
-run_unread left left' t t' text ending j r r' read ends s = record {
-  risen = risen_of left' text ending r r' ends s.fault;
+pub run_unread : (quiet : Bool) (left left' t t' : Option (List ℕ)) (text : List ℕ) (ending : Ending) (j : List Entry) (r r' : ℕ)
+    → left ≡ with_front text left' → ReadingEnds left' ending r r' → TextUnread quiet text ending j t t' → RunUnread quiet left left' t t' r r' j
+run_unread quiet left left' t t' text ending j r r' read ends s = record {
+  risen = risen_of left' ending r r' ends s.fault;
   lines = record { read = text; told = read; obeyed = s.obeyed };
   written = s.written;
 }
 
-pub run_unwritten : (left left' t t' : Option (List ℕ)) (text : List ℕ) (ending : Ending) (j : List Entry) (r r' w w' : ℕ)
-    → left ≡ with_front text left' → ReadingEnds left' text ending r r' → TextUnwritten text ending j t t' w w' → EndsUnwritten left t t' w w' j
-run_unwritten left left' t t' text ending j r r' w w' read ends s =
-    let on = goes_on_by left left' text ending read (ended_of left' text ending r r' ends) in
+pub run_unwritten : (quiet : Bool) (left left' t t' : Option (List ℕ)) (text : List ℕ) (ending : Ending) (j : List Entry) (r r' w w' : ℕ)
+    → left ≡ with_front text left' → ReadingEnds left' ending r r' → TextUnwritten quiet text ending j t t' w w' → EndsUnwritten quiet left t t' w w' j
+run_unwritten quiet left left' t t' text ending j r r' w w' read ends s =
+    let on = goes_on_by left left' text ending read (ended_of left' ending r r' ends) in
     record {
       risen = s.risen;
       lines = record { input = text ++ on.more; told = on.told; obeyed = s.front on.more on.follows };
@@ -95,26 +89,26 @@ run_unwritten left left' t t' text ending j r r' w w' read ends s =
       written = s.written;
     }
 
-pub run_lost : (left left' t t' : Option (List ℕ)) (text : List ℕ) (ending : Ending) (j : List Entry) (r r' : ℕ)
-    → left ≡ with_front text left' → ReadingEnds left' text ending r r' → TextLost text ending j t t' → RunLost left t t' j
-run_lost left left' t t' text ending j r r' read ends s =
-    let on = goes_on_by left left' text ending read (ended_of left' text ending r r' ends) in
+pub run_lost : (quiet : Bool) (left left' t t' : Option (List ℕ)) (text : List ℕ) (ending : Ending) (j : List Entry) (r r' : ℕ)
+    → left ≡ with_front text left' → ReadingEnds left' ending r r' → TextLost quiet text ending j t t' → RunLost quiet left t t' j
+run_lost quiet left left' t t' text ending j r r' read ends s =
+    let on = goes_on_by left left' text ending read (ended_of left' ending r r' ends) in
     record { lines = record { input = text ++ on.more; told = on.told; obeyed = s.front on.more on.follows }; most = s.most }
 
 -- the lines of a text that was read so ended the run
-pub run_stops : (left left' t t' : Option (List ℕ)) (text : List ℕ) (ending : Ending) (j : List Entry) (r r' w w' : ℕ) (stop : Stop)
-    → left ≡ with_front text left' → ReadingEnds left' text ending r r' → TextStops text ending j t t' w w' stop → RunStops left left' t t' r r' w w' j stop
-run_stops left left' t t' text ending j r r' w w' (Refused n) read ends s = run_refused left left' t t' text ending j n r r' read ends s
-run_stops left left' t t' text ending j r r' w w' ReadFault read ends s = run_unread left left' t t' text ending j r r' read ends s
-run_stops left left' t t' text ending j r r' w w' WriteFault read ends s = run_unwritten left left' t t' text ending j r r' w w' read ends s
-run_stops left left' t t' text ending j r r' w w' Memory read ends s = run_lost left left' t t' text ending j r r' read ends s
+pub run_stops : (quiet : Bool) (left left' t t' : Option (List ℕ)) (text : List ℕ) (ending : Ending) (j : List Entry) (r r' w w' : ℕ) (stop : Stop)
+    → left ≡ with_front text left' → ReadingEnds left' ending r r' → TextStops quiet text ending j t t' w w' stop → RunStops quiet left left' t t' r r' w w' j stop
+run_stops quiet left left' t t' text ending j r r' w w' (Refused n) read ends s = run_refused quiet left left' t t' text ending j n r r' read ends s
+run_stops quiet left left' t t' text ending j r r' w w' ReadFault read ends s = run_unread quiet left left' t t' text ending j r r' read ends s
+run_stops quiet left left' t t' text ending j r r' w w' WriteFault read ends s = run_unwritten quiet left left' t t' text ending j r r' w w' read ends s
+run_stops quiet left left' t t' text ending j r r' w w' Memory read ends s = run_lost quiet left left' t t' text ending j r r' read ends s
 
 -- memory was wanting before a line was obeyed
-pub lost_at_once : (left t : Option (List ℕ)) (j : List Entry) → j ≡ [] → RunLost left t t j
-lost_at_once left t j none =
-    let P : List Entry → Type 0 = λ js. RunLost left t t js in
+pub lost_at_once : (quiet : Bool) (left t : Option (List ℕ)) (j : List Entry) → j ≡ [] → RunLost quiet left t t j
+lost_at_once quiet left t j none =
+    let P : List Entry → Type 0 = λ js. RunLost quiet left t t js in
     let front : (lines : List (List ℕ)) → FrontIsObeyed lines [] = λ lines. record { front = []; rest = lines; parts = refl; obeyed = obeyed_none } in
-    let it : P [] = record { lines = lines_at_once left front; most = record { entries = []; most = inl refl; written = written_none t } } in
+    let it : P [] = record { lines = lines_at_once left front; most = record { entries = []; most = inl refl; written = written_none quiet t } } in
     subst P (sym none) it
   where
     lines_at_once : (left : Option (List ℕ)) → ((lines : List (List ℕ)) → FrontIsObeyed lines []) → ObeysFront left []
@@ -137,21 +131,21 @@ fault_behind t t1 t2 w w1 w2 report fault first count (inr (risen, front)) =
     let G : Option (List ℕ) → Type 0 = λ o. GainsFront o t2 fault in
     inr (rises_at_last w w1 w2 count risen, subst G (with_end-nil t1 ∙ first) front)
 
-pub ends_refused : (left t t1 t2 : Option (List ℕ)) (w w1 w2 : ℕ) (j : List Entry) (n : ℕ) (line : List ℕ)
-    → RunRefused left t t1 j n → line ≡ line_fault n → w ≤ w1 → AddsFault [] line t1 t2 w1 w2 → EndsRefused left t t2 w w2 j
-ends_refused left t t1 t2 w w1 w2 j n line s is count added =
-    let A : List ℕ → Type 0 = λ x. AddsFault (report_text false j) x t t2 w w2 in
-    record { number = n; lines = s.lines; written = subst A is (fault_behind t t1 t2 w w1 w2 (report_text false j) line s.written count added) }
+pub ends_refused : (quiet : Bool) (left t t1 t2 : Option (List ℕ)) (w w1 w2 : ℕ) (j : List Entry) (n : ℕ) (line : List ℕ)
+    → RunRefused quiet left t t1 j n → line ≡ line_fault n → w ≤ w1 → AddsFault [] line t1 t2 w1 w2 → EndsRefused quiet left t t2 w w2 j
+ends_refused quiet left t t1 t2 w w1 w2 j n line s is count added =
+    let A : List ℕ → Type 0 = λ x. AddsFault (report_text quiet j) x t t2 w w2 in
+    record { number = n; lines = s.lines; written = subst A is (fault_behind t t1 t2 w w1 w2 (report_text quiet j) line s.written count added) }
 
-pub ends_unread : (left left' t t1 t2 : Option (List ℕ)) (r r' w w1 w2 : ℕ) (j : List Entry)
-    → RunUnread left left' t t1 r r' j → w ≤ w1 → AddsFault [] read_fault t1 t2 w1 w2 → EndsUnread left left' t t2 r r' w w2 j
-ends_unread left left' t t1 t2 r r' w w1 w2 j s count added =
-    record { risen = s.risen; lines = s.lines; written = fault_behind t t1 t2 w w1 w2 (report_text false j) read_fault s.written count added }
+pub ends_unread : (quiet : Bool) (left left' t t1 t2 : Option (List ℕ)) (r r' w w1 w2 : ℕ) (j : List Entry)
+    → RunUnread quiet left left' t t1 r r' j → w ≤ w1 → AddsFault [] read_fault t1 t2 w1 w2 → EndsUnread quiet left left' t t2 r r' w w2 j
+ends_unread quiet left left' t t1 t2 r r' w w1 w2 j s count added =
+    record { risen = s.risen; lines = s.lines; written = fault_behind t t1 t2 w w1 w2 (report_text quiet j) read_fault s.written count added }
 
-pub ends_memory : (left t t1 t2 : Option (List ℕ)) (w w1 w2 : ℕ) (j : List Entry)
-    → RunLost left t t1 j → w ≤ w1 → AddsFault [] memory_fault t1 t2 w1 w2 → EndsMemory left t t2 w w2 j
-ends_memory left t t1 t2 w w1 w2 j s count added =
-    record { lines = s.lines; entries = s.most.entries; most = s.most.most; written = fault_behind t t1 t2 w w1 w2 (report_text false s.most.entries) memory_fault s.most.written count added }
+pub ends_memory : (quiet : Bool) (left t t1 t2 : Option (List ℕ)) (w w1 w2 : ℕ) (j : List Entry)
+    → RunLost quiet left t t1 j → w ≤ w1 → AddsFault [] memory_fault t1 t2 w1 w2 → EndsMemory quiet left t t2 w w2 j
+ends_memory quiet left t t1 t2 w w1 w2 j s count added =
+    record { lines = s.lines; entries = s.most.entries; most = s.most.most; written = fault_behind t t1 t2 w w1 w2 (report_text quiet s.most.entries) memory_fault s.most.written count added }
 
 -- where every line is taken, none is the first that is refused
 pub none_refused : (lines : List (List ℕ)) (j : List Entry) (n : ℕ) → AllTaken lines j → FirstRefused lines j n → ⊥

@@ -1,37 +1,55 @@
--- A journal gains an entry, and a report its text.
-use Rattle.std.proofs.Common.{◌≡◌, ℕ, ◌+◌, List, [], ◌∷◌, ◌++◌, length, false, Option, sym, ◌∙◌, ap, subst, arith}
+-- A journal gains entries, and a report their text.
+use Rattle.std.proofs.Common.{◌≡◌, ℕ, ◌+◌, List, [], ◌∷◌, ◌++◌, length, Bool, true, false, if◌then◌else◌, Option, refl, sym, ◌∙◌, ap, subst, arith}
 use Rattle.std.proofs.lemmas.List.{append-nil}
 use Rattle.std.proofs.lemmas.Grind.{flat_map-append}
 use Rattle.nfc_io.specs.Moves.{with_end}
 use Rattle.nfc_io.proofs.Moves.{write_on, with_end-nil}
 use Rattle.nfc_bench.specs.declared.command.Command.{Command}
+use Rattle.nfc_bench.specs.declared.command.Command.TheVariants.{Skip, PlaceT2, Read}
 use Rattle.nfc_bench.specs.declared.entry.Entry.{Entry}
-use Rattle.nfc_bench.specs.Script.{Spells}
-use Rattle.nfc_bench.specs.Legal.{State, LegalStep, EachLegal, first_state, state_from, state_after}
-use Rattle.nfc_bench.specs.Journal.{Numbered, Legal}
-use Rattle.nfc_bench.specs.Obeying.{Adds}
+use Rattle.nfc_bench.specs.Script.{is_skipped, Spells}
+use Rattle.nfc_bench.specs.Legal.{State, LegalStep, EachLegal, first_state, state_from, state_after, state_of}
+use Rattle.nfc_bench.specs.Journal.{NumberedLine, asking_lines, AreEntriesOf, Numbered, Legal}
+use Rattle.nfc_bench.specs.Obeying.{Adds, Obeys}
 use Rattle.nfc_bench.specs.Report.{entry_text, report_text}
+use Rattle.nfc_bench.specs.Stops.{Follows}
+use Rattle.nfc_bench.proofs.Spelling.{skipped_names_none}
 
--- each entry is legal, and so is one more
-pub each_more : (s : State) (es : List Entry) (e : Entry) → EachLegal s es → LegalStep (state_from s es) e.command e.events e.answer → EachLegal s (es ++ e ∷ [])
-each_more s [] e p q = (q, tt)
-each_more s (d ∷ es) e p q = (p.0, each_more (state_after s d.command d.events) es e p.1 q)
+-- each entry is legal, and so are some more
+pub each_more : (s : State) (es ds : List Entry) → EachLegal s es → EachLegal (state_from s es) ds → EachLegal s (es ++ ds)
+each_more s [] ds p q = q
+each_more s (e ∷ es) ds p q = (p.0, each_more (state_after s e.command e.events) es ds p.1 q)
 
-pub numbered_more : (n : ℕ) (ls : List (List ℕ)) (es : List Entry) (l : List ℕ) (e : Entry) → Numbered n ls es → e.line ≡ n + length ls → Spells l e.command → Numbered n (ls ++ l ∷ []) (es ++ e ∷ [])
-numbered_more n [] [] l e p at spelled = (at ∙ omega arith, spelled, tt)
-numbered_more n [] (d ∷ es) l e p at spelled = absurd p
-numbered_more n (k ∷ ls) [] l e p at spelled = absurd p
-numbered_more n (k ∷ ls) (d ∷ es) l e p at spelled = (p.0, p.1, numbered_more (n + 1) ls es l e p.2 (at ∙ omega arith) spelled)
+-- the lines that ask for something, of two texts one after the other
+pub asking_more : (n : ℕ) (ls ks : List (List ℕ)) → asking_lines n (ls ++ ks) ≡ asking_lines n ls ++ asking_lines (n + length ls) ks
+asking_more n [] ks = ap (λ m. asking_lines m ks) (let e : n ≡ n + 0 = omega arith in e)
+asking_more n (l ∷ ls) ks =
+    by_skip (is_skipped l) (asking_more (n + 1) ls ks ∙ ap (λ m. asking_lines (n + 1) ls ++ asking_lines m ks) (let e : n + 1 + length ls ≡ n + length (l ∷ ls) = omega arith in e))
+  where
+    by_skip : (v : Bool) → asking_lines (n + 1) (ls ++ ks) ≡ asking_lines (n + 1) ls ++ asking_lines (n + length (l ∷ ls)) ks → (if v then asking_lines (n + 1) (ls ++ ks) else record { number = n; text = l } ∷ asking_lines (n + 1) (ls ++ ks))
+        ≡ (if v then asking_lines (n + 1) ls else record { number = n; text = l } ∷ asking_lines (n + 1) ls) ++ asking_lines (n + length (l ∷ ls)) ks
+    by_skip true at = at
+    by_skip false at = ap (λ x. record { number = n; text = l } ∷ x) at
+
+pub entries_more : (ls ks : List NumberedLine) (es ds : List Entry) → AreEntriesOf ls es → AreEntriesOf ks ds → AreEntriesOf (ls ++ ks) (es ++ ds)
+entries_more [] ks [] ds p q = q
+entries_more [] ks (e ∷ es) ds p q = absurd p
+entries_more (l ∷ ls) ks [] ds p q = absurd p
+entries_more (l ∷ ls) ks (e ∷ es) ds p q = (p.0, p.1, entries_more ls ks es ds p.2 q)
+
+pub numbered_more : (n : ℕ) (ls ks : List (List ℕ)) (es ds : List Entry) → Numbered n ls es → Numbered (n + length ls) ks ds → Numbered n (ls ++ ks) (es ++ ds)
+numbered_more n ls ks es ds p q =
+    let A : List NumberedLine → Type 0 = λ x. AreEntriesOf x (es ++ ds) in
+    subst A (sym (asking_more n ls ks)) (entries_more (asking_lines n ls) (asking_lines (n + length ls) ks) es ds p q)
 
 -- one more line is obeyed
-pub legal_more : (ls : List (List ℕ)) (old new : List Entry) (l : List ℕ) (n : ℕ) (c : Command) → Legal ls old → Adds old new n c → n ≡ 1 + length ls → Spells l c → Legal (ls ++ l ∷ []) new
-legal_more ls old new l n c legal more at spelled =
+pub legal_more : (ls : List (List ℕ)) (old new : List Entry) (l : List ℕ) (n : ℕ) → Legal ls old → Follows old new n l → n ≡ 1 + length ls → Legal (ls ++ l ∷ []) new
+legal_more ls old new l n legal more at =
     let P : List Entry → Type 0 = λ js. Legal (ls ++ l ∷ []) js in
-    let S : Command → Type 0 = λ x. Spells l x in
-    let T : Command → Type 0 = λ x. LegalStep (state_from first_state old) x more.entry.events more.entry.answer in
-    let it : P (old ++ more.entry ∷ []) = record {
-      numbered = numbered_more 1 ls old l more.entry legal.numbered (more.numbered ∙ at) (subst S (sym more.asked) spelled);
-      steps = each_more first_state old more.entry legal.steps (subst T (sym more.asked) more.legal);
+    let N : ℕ → Type 0 = λ m. Numbered m (l ∷ []) more.entries in
+    let it : P (old ++ more.entries) = record {
+      numbered = numbered_more 1 ls (l ∷ []) old more.entries legal.numbered (subst N at more.numbered);
+      steps = each_more first_state old more.entries legal.steps more.steps;
     } in
     subst P (sym more.added) it
 
@@ -39,15 +57,71 @@ legal_more ls old new l n c legal more at spelled =
 pub legal_none : Legal [] []
 legal_none = record { numbered = tt; steps = tt }
 
-pub report_more : (js new : List Entry) (e : Entry) → new ≡ js ++ e ∷ [] → report_text false js ++ entry_text false e ≡ report_text false new
-report_more js new e is =
-    ap (λ t. report_text false js ++ t) (sym (append-nil (entry_text false e))) ∙ sym (flat_map-append (entry_text false) js (e ∷ [])) ∙ ap (report_text false) (sym is)
+-- a line that asks for nothing is obeyed by doing nothing
+pub follows_skipped : (old new : List Entry) (n : ℕ) (l : List ℕ) → is_skipped l ≡ true → new ≡ old → (follows : Follows old new n l) × (follows.entries ≡ [])
+follows_skipped old new n l skipped same =
+    let A : List NumberedLine → Type 0 = λ x. AreEntriesOf x [] in (
+      record {
+        entries = [];
+        added = same ∙ sym (append-nil old);
+        numbered = subst A (sym (ap (λ v. if v then asking_lines (n + 1) [] else record { number = n; text = l } ∷ asking_lines (n + 1) []) skipped)) tt;
+        steps = tt;
+      },
+      refl,
+    )
 
--- a report and the text of one more entry
-pub written_more : (t t1 t2 : Option (List ℕ)) (js new : List Entry) (e : Entry) → t1 ≡ with_end t (report_text false js) → t2 ≡ with_end t1 (entry_text false e) → new ≡ js ++ e ∷ []
-    → t2 ≡ with_end t (report_text false new)
-written_more t t1 t2 js new e first then is =
-    write_on t t1 t2 (report_text false js) (entry_text false e) first then ∙ ap (with_end t) (report_more js new e is)
+-- any other by its entry
+pub follows_entry : (old new : List Entry) (n : ℕ) (l : List ℕ) (c : Command) → is_skipped l ≡ false → Spells l c → (adds : Adds old new n c) → (follows : Follows old new n l) × (follows.entries ≡ adds.entry ∷ [])
+follows_entry old new n l c asks spelled adds =
+    let S : Command → Type 0 = λ x. Spells l x in
+    let T : Command → Type 0 = λ x. LegalStep (state_of old) x adds.entry.events adds.entry.answer in
+    let A : List NumberedLine → Type 0 = λ x. AreEntriesOf x (adds.entry ∷ []) in (
+      record {
+        entries = adds.entry ∷ [];
+        added = adds.added;
+        numbered = subst A (sym (ap (λ v. if v then asking_lines (n + 1) [] else record { number = n; text = l } ∷ asking_lines (n + 1) []) asks)) (adds.numbered, subst S (sym adds.asked) spelled, tt);
+        steps = (subst T (sym adds.asked) adds.legal, tt);
+      },
+      refl,
+    )
 
-pub written_none : (t : Option (List ℕ)) → t ≡ with_end t (report_text false [])
-written_none t = sym (with_end-nil t)
+-- a line that spells something else isn't skipped
+pub asks_something : (l : List ℕ) (c : Command) → Spells l c → (c ≡ Skip → ⊥) → is_skipped l ≡ false
+asks_something l Skip spelled other = absurd (other refl)
+asks_something l (PlaceT2 id blocks head) spelled other = by_skip (is_skipped l) refl
+  where
+    by_skip : (v : Bool) → is_skipped l ≡ v → v ≡ false
+    by_skip true h = absurd (skipped_names_none l (PlaceT2 id blocks head) h spelled)
+    by_skip false h = refl
+asks_something l (Read id) spelled other = by_skip (is_skipped l) refl
+  where
+    by_skip : (v : Bool) → is_skipped l ≡ v → v ≡ false
+    by_skip true h = absurd (skipped_names_none l (Read id) h spelled)
+    by_skip false h = refl
+
+-- what obeying adds, where it asks for something
+pub adds_of : (old new : List Entry) (n : ℕ) (c : Command) → Obeys old new n c → (c ≡ Skip → ⊥) → Adds old new n c
+adds_of old new n Skip p other = absurd (other refl)
+adds_of old new n (PlaceT2 id blocks head) p other = p
+adds_of old new n (Read id) p other = p
+
+pub obeys_of : (old new : List Entry) (n : ℕ) (c : Command) → Adds old new n c → (c ≡ Skip → ⊥) → Obeys old new n c
+obeys_of old new n Skip p other = absurd (other refl)
+obeys_of old new n (PlaceT2 id blocks head) p other = p
+obeys_of old new n (Read id) p other = p
+
+pub report_more : (quiet : Bool) (js new es : List Entry) → new ≡ js ++ es → report_text quiet js ++ report_text quiet es ≡ report_text quiet new
+report_more quiet js new es is = sym (flat_map-append (entry_text quiet) js es) ∙ ap (report_text quiet) (sym is)
+
+-- a report and the text of some more entries
+pub written_more : (quiet : Bool) (t t1 t2 : Option (List ℕ)) (js new es : List Entry) → t1 ≡ with_end t (report_text quiet js) → t2 ≡ with_end t1 (report_text quiet es) → new ≡ js ++ es
+    → t2 ≡ with_end t (report_text quiet new)
+written_more quiet t t1 t2 js new es first next is =
+    write_on t t1 t2 (report_text quiet js) (report_text quiet es) first next ∙ ap (with_end t) (report_more quiet js new es is)
+
+pub written_none : (quiet : Bool) (t : Option (List ℕ)) → t ≡ with_end t (report_text quiet [])
+written_none quiet t = sym (with_end-nil t)
+
+-- the report of one entry is its text
+pub report_one : (quiet : Bool) (es : List Entry) (e : Entry) → es ≡ e ∷ [] → report_text quiet es ≡ entry_text quiet e
+report_one quiet es e is = ap (report_text quiet) is ∙ append-nil (entry_text quiet e)

@@ -1,15 +1,15 @@
 -- How far a text that is read has come, and when a line of it passes the limits.
-use Rattle.std.proofs.Common.{◌≡◌, ◌≢◌, ℕ, zero, suc, ◌+◌, ◌*◌, ◌<◌, ◌≤◌, List, [], ◌∷◌, ◌++◌, length, Bool, true, false, ◌==◌, refl, sym, ◌∙◌, ap, subst, append_assoc, arith}
+use Rattle.std.proofs.Common.{◌≡◌, ◌≢◌, ℕ, zero, suc, ◌+◌, ◌*◌, ◌<◌, ◌≤◌, List, [], ◌∷◌, ◌++◌, map, length, Bool, true, false, ◌==◌, refl, sym, ◌∙◌, ap, subst, append_assoc, arith, inl, inr}
 use Rattle.std.specs.Prelude.{if◌then◌else◌}
-use Rattle.std.specs.List.{All}
-use Rattle.std.proofs.lemmas.List.{append-nil, length-append}
+use Rattle.std.specs.List.{All, AllByRecursion}
+use Rattle.std.proofs.lemmas.List.{append-nil, length-append, length-map, map-append}
 use Rattle.std.proofs.lemmas.List.Elements.{All-append}
 use Rattle.nfc_bench.specs.Script.{onto_first}
-use Rattle.nfc_bench.specs.Lines.{lines_of, NoLf}
-use Rattle.nfc_bench.specs.Limits.{most_lines, longest_line, longest_script, AreWithinLimits, PassesLimits}
-use Rattle.nfc_bench.specs.Stops.{EndsAt}
-use Rattle.nfc_bench.proofs.Words.{onto_if}
-use Rattle.nfc_bench.proofs.Lines.{lines_front, lines_last, lines_longer, GoesOn}
+use Rattle.nfc_bench.specs.Lines.{lines_of, whole_lines, NoLf}
+use Rattle.nfc_bench.specs.Limits.{most_lines, longest_line, longest_script, AreWithinLimits}
+use Rattle.nfc_bench.specs.declared.top.input.Ending.TheVariants.{Enough}
+use Rattle.nfc_bench.specs.Stops.{joined, Parted, EndsAt, ReadIs}
+use Rattle.nfc_bench.proofs.Lines.{lines_front, whole_front, lines_last}
 
 -- a line isn't too long
 abbrev pub IsShort : List ℕ → Type 0
@@ -22,6 +22,10 @@ all_one l short (suc k) d small = absurd (omega arith)
 pub all_at : (before after : List (List ℕ)) (l : List ℕ) → All IsShort (before ++ l ∷ after) → IsShort l
 all_at [] after l all = all 0 l (omega arith)
 all_at (x ∷ before) after l all = all_at before after l (λ k d small. all (suc k) d (omega arith))
+
+pub all_by_recursion : (ls : List (List ℕ)) → All IsShort ls → AllByRecursion (λ l. length l ≤ longest_line) ls
+all_by_recursion [] all = tt
+all_by_recursion (l ∷ ls) all = (all 0 l (omega arith), all_by_recursion ls (λ k d small. all (suc k) d (omega arith)))
 
 -- one more line
 pub limits_more : (lines : List (List ℕ)) (l : List ℕ) → AreWithinLimits lines → length lines < most_lines → IsShort l → AreWithinLimits (lines ++ l ∷ [])
@@ -39,104 +43,132 @@ no_lf_more [] b none other (suc k) small = absurd (omega arith)
 no_lf_more (x ∷ l) b none other zero small = none 0 (omega arith)
 no_lf_more (x ∷ l) b none other (suc k) small = no_lf_more l b (λ j less. none (suc j) (omega arith)) other k (omega arith)
 
-pub ends_at_start : EndsAt [] 0 0
+-- a text of no bytes
+pub ends_at_start : EndsAt [] [] 0
 ends_at_start = record {
-  whole = [];
-  last = [];
-  parts = λ more. refl;
-  none = λ k small. absurd (omega arith);
-  limits = no_limits;
-  lines_is = refl;
-  bytes_is = refl;
-  fits = omega arith;
-  full = λ e. refl;
+  rest = [];
+  parted = record { whole = []; parts = refl; clean = tt; sizes = refl; limits = no_limits };
+  unfinished = record { none = λ k small. absurd (omega arith); fits = omega arith; full = λ e. refl };
+  size = refl;
 }
 
+-- the lines of a text go on with those of its rest
+pub lines_joined : (ls : List (List ℕ)) (rest : List ℕ) → AllByRecursion NoLf ls → lines_of (joined ls ++ rest) ≡ ls ++ lines_of rest
+lines_joined [] rest clean = refl
+lines_joined (l ∷ ls) rest clean =
+    ap lines_of (append_assoc l (10 ∷ joined ls) rest) ∙ lines_front l (joined ls ++ rest) clean.0 ∙ ap (λ x. l ∷ x) (lines_joined ls rest clean.1)
+
+pub whole_joined : (ls : List (List ℕ)) (rest : List ℕ) → AllByRecursion NoLf ls → whole_lines (joined ls ++ rest) ≡ ls ++ whole_lines rest
+whole_joined [] rest clean = refl
+whole_joined (l ∷ ls) rest clean =
+    ap whole_lines (append_assoc l (10 ∷ joined ls) rest) ∙ whole_front l (joined ls ++ rest) clean.0 ∙ ap (λ x. l ∷ x) (whole_joined ls rest clean.1)
+
+joined_more : (ls : List (List ℕ)) (l : List ℕ) → joined (ls ++ l ∷ []) ≡ joined ls ++ (l ++ 10 ∷ [])
+joined_more [] l = refl
+joined_more (k ∷ ls) l = ap (λ x. k ++ 10 ∷ x) (joined_more ls l) ∙ sym (append_assoc k (10 ∷ joined ls) (l ++ 10 ∷ []))
+
+clean_more : (ls : List (List ℕ)) (l : List ℕ) → AllByRecursion NoLf ls → NoLf l → AllByRecursion NoLf (ls ++ l ∷ [])
+clean_more [] l clean none = (none, tt)
+clean_more (k ∷ ls) l clean none = (clean.0, clean_more ls l clean.1 none)
+
+pub length_sizes : (lengths : List ℕ) (ls : List (List ℕ)) → lengths ≡ map length ls → length lengths ≡ length ls
+length_sizes lengths ls sizes = ap length sizes ∙ length-map ls length
+
 -- LF ends a line
-pub ends_line : (t : List ℕ) (n m : ℕ) → EndsAt t n m → n < most_lines → EndsAt (t ++ 10 ∷ []) (n + 1) 0
-ends_line t n m e room =
-    let number : n ≡ length e.whole = e.lines_is in
-    let size : m ≡ length e.last = e.bytes_is in
-    let fits : m ≤ longest_line = e.fits in
+pub ends_line : (t lengths : List ℕ) (m : ℕ) → EndsAt t lengths m → length lengths < most_lines → EndsAt (t ++ 10 ∷ []) (lengths ++ m ∷ []) 0
+ends_line t lengths m e room =
+    let p : Parted t lengths e.rest = e.parted in
+    let fits : length e.rest ≤ longest_line = e.unfinished.fits in
+    let count : length lengths ≡ length p.whole = length_sizes lengths p.whole p.sizes in
     record {
-      whole = e.whole ++ e.last ∷ [];
-      last = [];
-      parts = λ more. ap lines_of (append_assoc t (10 ∷ []) more) ∙ e.parts (10 ∷ more) ∙ ap (λ x. e.whole ++ x) (lines_front e.last more e.none) ∙ sym (append_assoc e.whole (e.last ∷ []) (lines_of more));
-      none = λ k small. absurd (omega arith);
-      limits = limits_more e.whole e.last e.limits (omega arith) (omega arith);
-      lines_is = omega (arith, length-append e.whole (e.last ∷ []));
-      bytes_is = refl;
-      fits = omega arith;
-      full = λ _. refl;
+      rest = [];
+      parted = record {
+        whole = p.whole ++ e.rest ∷ [];
+        parts = ap (λ x. x ++ 10 ∷ []) p.parts ∙ append_assoc (joined p.whole) e.rest (10 ∷ []) ∙ sym (joined_more p.whole e.rest) ∙ sym (append-nil (joined (p.whole ++ e.rest ∷ [])));
+        clean = clean_more p.whole e.rest p.clean e.unfinished.none;
+        sizes = ap (λ x. x ++ m ∷ []) p.sizes ∙ ap (λ n. map length p.whole ++ n ∷ []) e.size ∙ sym (map-append length p.whole (e.rest ∷ []));
+        limits = limits_more p.whole e.rest p.limits (omega (arith, count)) fits;
+      };
+      unfinished = record { none = λ k small. absurd (omega arith); fits = omega arith; full = λ _. refl };
+      size = refl;
     }
 
 -- another byte makes it longer
-pub ends_later : (t : List ℕ) (b n m : ℕ) → EndsAt t n m → b ≢ 10 → n < most_lines → m < longest_line → EndsAt (t ++ b ∷ []) n (m + 1)
-ends_later t b n m e other room fits =
-    let size : m ≡ length e.last = e.bytes_is in
+pub ends_later : (t lengths : List ℕ) (b m : ℕ) → EndsAt t lengths m → b ≢ 10 → length lengths < most_lines → m < longest_line → EndsAt (t ++ b ∷ []) lengths (m + 1)
+ends_later t lengths b m e other room fits =
+    let p : Parted t lengths e.rest = e.parted in
+    let size : m ≡ length e.rest = e.size in
     record {
-      whole = e.whole;
-      last = e.last ++ b ∷ [];
-      parts = λ more. ap lines_of (append_assoc t (b ∷ []) more) ∙ e.parts (b ∷ more) ∙ ap (λ x. e.whole ++ lines_of x) (sym (append_assoc e.last (b ∷ []) more));
-      none = no_lf_more e.last b e.none other;
-      limits = e.limits;
-      lines_is = e.lines_is;
-      bytes_is = omega (arith, length-append e.last (b ∷ []));
-      fits = omega arith;
-      full = λ many. absurd (omega arith);
+      rest = e.rest ++ b ∷ [];
+      parted = record {
+        whole = p.whole;
+        parts = ap (λ x. x ++ b ∷ []) p.parts ∙ append_assoc (joined p.whole) e.rest (b ∷ []);
+        clean = p.clean;
+        sizes = p.sizes;
+        limits = p.limits;
+      };
+      unfinished = record {
+        none = no_lf_more e.rest b e.unfinished.none other;
+        fits = omega (arith, length-append e.rest (b ∷ []));
+        full = λ many. absurd (omega arith);
+      };
+      size = omega (arith, length-append e.rest (b ∷ []));
     }
 
-pub lines_some : (l more : List ℕ) (b : ℕ) → 0 < length (lines_of (l ++ b ∷ more))
-lines_some [] more b = some (lines_of (b ∷ more)) (λ e. onto_if (b == 10) b (lines_of more) e)
-  where
-    some : (ls : List (List ℕ)) → ls ≢ [] → 0 < length ls
-    some [] none = absurd (none refl)
-    some (l ∷ ls) none = omega arith
-lines_some (c ∷ l) more b = some (lines_of (c ∷ (l ++ b ∷ more))) (λ e. onto_if (c == 10) c (lines_of (l ++ b ∷ more)) e)
-  where
-    some : (ls : List (List ℕ)) → ls ≢ [] → 0 < length ls
-    some [] none = absurd (none refl)
-    some (l ∷ ls) none = omega arith
+-- a text that goes on behind its rest
+parted_more : (t more lengths rest : List ℕ) → Parted t lengths rest → Parted (t ++ more) lengths (rest ++ more)
+parted_more t more lengths rest p = record {
+  whole = p.whole;
+  parts = ap (λ x. x ++ more) p.parts ∙ append_assoc (joined p.whole) rest more;
+  clean = p.clean;
+  sizes = p.sizes;
+  limits = p.limits;
+}
 
 -- a byte behind the last line that may be
-pub passes_by_number : (t more : List ℕ) (b n m : ℕ) → EndsAt t n m → most_lines ≤ n → PassesLimits (t ++ b ∷ more)
-passes_by_number t more b n m e many limits =
-    let number : n ≡ length e.whole = e.lines_is in
-    let few : length (lines_of (t ++ b ∷ more)) ≤ most_lines = limits.few in
-    let split : length (lines_of (t ++ b ∷ more)) ≡ length e.whole + length (lines_of (e.last ++ b ∷ more)) = ap length (e.parts (b ∷ more)) ∙ length-append e.whole (lines_of (e.last ++ b ∷ more)) in
-    omega (arith, lines_some e.last more b)
+pub passes_by_number : (t more lengths : List ℕ) (b m : ℕ) → EndsAt t lengths m → most_lines ≤ length lengths → ReadIs (t ++ b ∷ more) lengths Enough
+passes_by_number t more lengths b m e many = record {
+  rest = e.rest ++ b ∷ more;
+  parted = parted_more t (b ∷ more) lengths e.rest e.parted;
+  left = record { some = omega (arith, length-append e.rest (b ∷ more)); why = inl many };
+}
 
 -- a byte behind the longest line that may be
-pub passes_by_length : (t more : List ℕ) (b n m : ℕ) → EndsAt t n m → b ≢ 10 → longest_line ≤ m → PassesLimits (t ++ b ∷ more)
-passes_by_length t more b n m e other long limits =
-    let size : m ≡ length e.last = e.bytes_is in
-    let len : length (e.last ++ b ∷ []) ≡ length e.last + 1 = length-append e.last (b ∷ []) in
-    let goes : GoesOn (e.last ++ b ∷ []) (lines_of ((e.last ++ b ∷ []) ++ more)) = lines_longer (e.last ++ b ∷ []) more (no_lf_more e.last b e.none other) (omega arith) in
-    let A : List (List ℕ) → Type 0 = λ ls. All IsShort ls in
-    let split : lines_of (t ++ b ∷ more) ≡ e.whole ++ goes.line ∷ goes.rest =
-    e.parts (b ∷ more) ∙ ap (λ x. e.whole ++ lines_of x) (sym (append_assoc e.last (b ∷ []) more)) ∙ ap (λ x. e.whole ++ x) goes.parts in
-    let short : length goes.line ≤ longest_line = all_at e.whole goes.rest goes.line (subst A split limits.short) in
-    let longer : length (e.last ++ b ∷ []) ≤ length goes.line = goes.longer in
-    omega arith
+pub passes_by_length : (t more lengths : List ℕ) (b m : ℕ) → EndsAt t lengths m → b ≢ 10 → longest_line ≤ m → ReadIs (t ++ b ∷ more) lengths Enough
+passes_by_length t more lengths b m e other long =
+    let size : m ≡ length e.rest = e.size in
+    record {
+      rest = e.rest ++ b ∷ more;
+      parted = parted_more t (b ∷ more) lengths e.rest e.parted;
+      left = record {
+        some = omega (arith, length-append e.rest (b ∷ more));
+        why = inr (record {
+          front = e.rest ++ b ∷ [];
+          more = more;
+          parts = sym (append_assoc e.rest (b ∷ []) more);
+          none = no_lf_more e.rest b e.unfinished.none other;
+          long = omega (arith, length-append e.rest (b ∷ []));
+        });
+      };
+    }
 
 pub not_full : (n m : ℕ) → n ≤ most_lines → (n ≡ most_lines → m ≡ 0) → 0 < m → n < most_lines
 not_full n m few full some = grind (arith, full)
 
 -- what was read so far is within the limits
-pub ends_within : (t : List ℕ) (n m : ℕ) → EndsAt t n m → AreWithinLimits (lines_of t)
-ends_within t n m e =
+pub ends_within : (t lengths : List ℕ) (m : ℕ) → EndsAt t lengths m → AreWithinLimits (lines_of t)
+ends_within t lengths m e =
     let W : List (List ℕ) → Type 0 = λ ls. AreWithinLimits ls in
-    let number : n ≡ length e.whole = e.lines_is in
-    let size : m ≡ length e.last = e.bytes_is in
-    let all : lines_of t ≡ e.whole ++ lines_of e.last = ap lines_of (sym (append-nil t)) ∙ e.parts [] ∙ ap (λ x. e.whole ++ lines_of x) (append-nil e.last) in
-    subst W (sym all) (with_last e.whole e.last n m number size e.limits e.none e.fits e.full)
+    let p : Parted t lengths e.rest = e.parted in
+    let count : length lengths ≡ length p.whole = length_sizes lengths p.whole p.sizes in
+    subst W (sym (ap lines_of p.parts ∙ lines_joined p.whole e.rest p.clean)) (with_last p.whole e.rest (length lengths) count p.limits e.unfinished.none e.unfinished.fits e.unfinished.full)
   where
-    with_last : (whole : List (List ℕ)) (last : List ℕ) (n m : ℕ) → n ≡ length whole → m ≡ length last → AreWithinLimits whole → NoLf last → m ≤ longest_line → (n ≡ most_lines → m ≡ 0) → AreWithinLimits (whole ++ lines_of last)
-    with_last whole [] n m number size limits none fits full = let W : List (List ℕ) → Type 0 = λ ls. AreWithinLimits ls in subst W (sym (append-nil whole)) limits
-    with_last whole (b ∷ l) n m number size limits none fits full =
+    with_last : (whole : List (List ℕ)) (last : List ℕ) (n : ℕ) → n ≡ length whole → AreWithinLimits whole → NoLf last → length last ≤ longest_line → (n ≡ most_lines → length last ≡ 0) → AreWithinLimits (whole ++ lines_of last)
+    with_last whole [] n number limits none fits full = let W : List (List ℕ) → Type 0 = λ ls. AreWithinLimits ls in subst W (sym (append-nil whole)) limits
+    with_last whole (b ∷ l) n number limits none fits full =
         let W : List (List ℕ) → Type 0 = λ ls. AreWithinLimits (whole ++ ls) in
         let few : length whole ≤ most_lines = limits.few in
-        subst W (sym (lines_last (b ∷ l) none (omega arith))) (limits_more whole (b ∷ l) limits (let room : n < most_lines = not_full n m (omega arith) full (omega arith) in omega arith) (omega arith))
+        subst W (sym (lines_last (b ∷ l) none (omega arith))) (limits_more whole (b ∷ l) limits (let room : n < most_lines = not_full n (length (b ∷ l)) (omega arith) full (omega arith) in omega arith) (omega arith))
 
 -- the bytes of some lines, with an LF each
 total : List (List ℕ) → ℕ

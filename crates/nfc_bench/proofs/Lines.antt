@@ -1,5 +1,6 @@
 -- The lines of a text, from its front.
-use Rattle.std.proofs.Common.{◌≡◌, ◌≢◌, ℕ, suc, ◌<◌, ◌≤◌, List, [], ◌∷◌, ◌++◌, length, refl, ap, arith}
+use Rattle.std.proofs.Common.{◌≡◌, ◌≢◌, ℕ, suc, ◌<◌, ◌≤◌, List, [], ◌∷◌, ◌++◌, length, Bool, true, false, ◌==◌, refl, ap, arith}
+use Rattle.std.specs.Prelude.{if◌then◌else◌}
 use Rattle.nfc_bench.specs.Script.{onto_first}
 use Rattle.nfc_bench.specs.Lines.{lines_of, whole_lines, onto_whole, NoLf}
 use Rattle.nfc_bench.proofs.Words.{eq_false}
@@ -29,6 +30,16 @@ pub record GoesOn (l : List ℕ) (lines : List (List ℕ)) : Type 0 where
   pub rest : List (List ℕ)
   pub parts : lines ≡ line ∷ rest
   pub longer : length l ≤ length line
+
+onto_some : (v : Bool) (b : ℕ) (ls : List (List ℕ)) → GoesOn [] (if v then [] ∷ ls else onto_first b ls)
+onto_some true b ls = record { line = []; rest = ls; parts = refl; longer = omega arith }
+onto_some false b [] = record { line = b ∷ []; rest = []; parts = refl; longer = omega arith }
+onto_some false b (w ∷ ws) = record { line = b ∷ w; rest = ws; parts = refl; longer = omega arith }
+
+-- a text that isn't empty has a line
+pub some_line : (l more : List ℕ) → 0 < length l → GoesOn [] (lines_of (l ++ more))
+some_line [] more some = absurd (omega arith)
+some_line (b ∷ l) more some = onto_some (b == 10) b (lines_of (l ++ more))
 
 pub onto_goes : (b : ℕ) (lines : List (List ℕ)) → GoesOn (b ∷ []) (onto_first b lines)
 onto_goes b [] = record { line = b ∷ []; rest = []; parts = refl; longer = omega arith }

@@ -1,93 +1,201 @@
 -- The lines of a text are obeyed one by one.
-use Rattle.std.proofs.Common.{◌≡◌, ℕ, ◌+◌, ◌<◌, ◌≤◌, ◌⊎◌, List, [], ◌∷◌, ◌++◌, length, false, Option, Some, None, refl, sym, ◌∙◌, ap, subst, append_assoc, arith, inl, inr}
+use Rattle.std.proofs.Common.{◌≡◌, ℕ, suc, ◌+◌, ◌<◌, ◌≤◌, ◌⊎◌, List, [], ◌∷◌, ◌++◌, length, get_or, take, drop, map, Bool, Option, Some, refl, sym, ◌∙◌, ap, subst, append_assoc, arith, inl, inr}
+use Rattle.std.specs.List.{AllByRecursion}
 use Rattle.std.proofs.lemmas.List.{append-nil, length-append}
+use Rattle.std.proofs.Math.ListN.{drop_of_length-le}
+use Rattle.std.proofs.Math.Seq.{take-append_seam, drop-append_seam, drop-cons}
 use Rattle.nfc_io.specs.Moves.{GainsFront}
 use Rattle.nfc_io.proofs.Counts.{rises_at_last}
-use Rattle.nfc_bench.specs.declared.command.Command.{Command}
 use Rattle.nfc_bench.specs.declared.entry.Entry.{Entry}
 use Rattle.nfc_bench.specs.declared.top.input.Ending.{Ending}
-use Rattle.nfc_bench.specs.declared.top.input.Ending.TheVariants.{End, Fault}
+use Rattle.nfc_bench.specs.declared.top.input.Ending.TheVariants.{End, Fault, Enough}
 use Rattle.nfc_bench.specs.declared.top.lines.Stop.{Stop}
 use Rattle.nfc_bench.specs.declared.top.lines.Stop.TheVariants.{Refused, ReadFault, WriteFault, Memory}
-use Rattle.nfc_bench.specs.Script.{Spells}
-use Rattle.nfc_bench.specs.Lines.{lines_of, whole_lines, CutsLine}
-use Rattle.nfc_bench.specs.Limits.{most_lines, longest_line, AreWithinLimits, PassesLimits}
-use Rattle.nfc_bench.specs.Obeying.{Adds}
+use Rattle.nfc_bench.specs.Lines.{lines_of, whole_lines, CutsLine, NoLf}
+use Rattle.nfc_bench.specs.Limits.{most_lines, longest_line}
 use Rattle.nfc_bench.specs.Report.{entry_text}
 use Rattle.nfc_bench.specs.Run.{AreObeyed, FrontIsObeyed}
-use Rattle.nfc_bench.specs.Stops.{MayFollow, LineDone, LineRefused, LineCut, LineLost, LineStops, Progress, TextDone, TextRefused, TextUnread, TextUnwritten, TextLost, TextStops}
-use Rattle.nfc_bench.proofs.Lines.{lines_front, whole_front, whole_last, lines_last, lines_longer, GoesOn}
-use Rattle.nfc_bench.proofs.Limits.{limits_more, no_limits}
+use Rattle.nfc_bench.specs.Stops.{joined, Parted, ReadIs, RestIs, IsUnfinished, IsTooMuch, AreLeft, MayFollow, Follows, LineDone, LineRefused, LineCut, LineLost, LineStops, Progress, TextDone, TextRefused, TextUnread, TextUnwritten, TextLost, TextStops}
+use Rattle.nfc_bench.proofs.Lines.{lines_front, whole_front, whole_last, lines_last, lines_longer, some_line, GoesOn}
+use Rattle.nfc_bench.proofs.Limits.{limits_more, no_limits, all_by_recursion, length_sizes, not_full}
 use Rattle.nfc_bench.proofs.Journals.{legal_more, legal_none, written_more, written_none}
 
 pub obeyed_none : AreObeyed [] []
 obeyed_none = record { legal = legal_none; limits = no_limits }
 
 -- one more line is obeyed
-pub obeyed_more : (ls : List (List ℕ)) (old new : List Entry) (l : List ℕ) (n : ℕ) (c : Command) → AreObeyed ls old → Adds old new n c → n ≡ 1 + length ls → n ≤ most_lines → length l ≤ longest_line → Spells l c → AreObeyed (ls ++ l ∷ []) new
-obeyed_more ls old new l n c obeyed adds at few fits spelled = record {
-  legal = legal_more ls old new l n c obeyed.legal adds at spelled;
+pub obeyed_more : (ls : List (List ℕ)) (old new : List Entry) (l : List ℕ) (n : ℕ) → AreObeyed ls old → Follows old new n l → n ≡ 1 + length ls → n ≤ most_lines → length l ≤ longest_line → AreObeyed (ls ++ l ∷ []) new
+obeyed_more ls old new l n obeyed follows at few fits = record {
+  legal = legal_more ls old new l n obeyed.legal follows at;
   limits = limits_more ls l obeyed.limits (omega arith) fits;
 }
 
-pub progress_start : (text : List ℕ) (j : List Entry) (t : Option (List ℕ)) → j ≡ [] → Progress text text j 1 t t
-progress_start text j t none =
-    let P : List Entry → Type 0 = λ js. Progress text text js 1 t t in
+pub progress_start : (quiet : Bool) (text : List ℕ) (j : List Entry) (t : Option (List ℕ)) → j ≡ [] → Progress quiet text text j 1 t t
+progress_start quiet text j t none =
+    let P : List Entry → Type 0 = λ js. Progress quiet text text js 1 t t in
     let it : P [] = record {
       done = [];
       lines = λ more. refl;
       whole = refl;
       obeyed = obeyed_none;
       number = refl;
-      written = written_none t;
+      written = written_none quiet t;
     } in
     subst P (sym none) it
+
+-- before the first line all are left
+pub left_start : (text lengths : List ℕ) (ending : Ending) → ReadIs text lengths ending → AreLeft ending 0 text lengths
+left_start text lengths ending r =
+    let p : Parted text lengths r.rest = r.parted in
+    let same : length lengths ≡ length p.whole = length_sizes lengths p.whole p.sizes in
+    let count : length lengths ≡ 0 + length p.whole = omega (arith, same) in
+    let few : length p.whole ≤ most_lines = p.limits.few in
+    let L : ℕ → Type 0 = λ n. RestIs ending n r.rest in
+    record {
+      lines = p.whole;
+      rest = r.rest;
+      parts = p.parts;
+      clean = p.clean;
+      sizes = p.sizes;
+      few = omega arith;
+      short = all_by_recursion p.whole p.limits.short;
+      left = subst L count r.left;
+    }
+
+-- The first line that is left, and what stands behind it.
+pub record FirstCut (ending : Ending) (obeyed : ℕ) (text first behind lengths : List ℕ) : Type 0 where
+  pub cut : CutsLine text first (Some (drop 1 behind))
+  pub some : 1 ≤ length behind
+  pub short : length first ≤ longest_line
+  pub room : obeyed < most_lines
+  pub left : AreLeft ending (obeyed + 1) (drop 1 behind) lengths
+
+abbrev IsCut : Ending → ℕ → List ℕ → List ℕ → ℕ → Type 0
+IsCut ending obeyed lengths text size = (size ≤ length text) × FirstCut ending obeyed text (take size text) (drop size text) lengths
+
+abbrev first_of : List ℕ → ℕ
+first_of [] = 0
+first_of (n ∷ ns) = n
+
+-- it is cut off by its length
+first_cut : (ending : Ending) (obeyed : ℕ) (text : List ℕ) (size : ℕ) (lengths : List ℕ) → AreLeft ending obeyed text (size ∷ lengths)
+    → IsCut ending obeyed lengths text size
+first_cut ending obeyed text size lengths a = by_lines a.lines a.rest a.parts a.clean a.sizes a.few a.short a.left
+  where
+    by_lines : (lines : List (List ℕ)) (rest : List ℕ) → text ≡ joined lines ++ rest → AllByRecursion NoLf lines → size ∷ lengths ≡ map length lines → obeyed + length lines ≤ most_lines → AllByRecursion (λ l. length l ≤ longest_line) lines → RestIs ending (obeyed + length lines) rest → IsCut ending obeyed lengths text size
+    by_lines [] rest parts clean sizes few short left = absurd cc
+    by_lines (l ∷ ls) rest parts clean sizes few short left =
+        let tail : List ℕ = joined ls ++ rest in
+        let n : size ≡ length l = ap first_of sizes in
+        let whole : text ≡ l ++ 10 ∷ tail = parts ∙ append_assoc l (10 ∷ joined ls) rest in
+        let front : take (length l) (l ++ 10 ∷ tail) ≡ l = take-append_seam l (10 ∷ tail) in
+        let behind : drop (length l) (l ++ 10 ∷ tail) ≡ 10 ∷ tail = drop-append_seam l (10 ∷ tail) in
+        let F : List ℕ → Type 0 = λ f. FirstCut ending obeyed (l ++ 10 ∷ tail) f (10 ∷ tail) lengths in
+        let B : List ℕ → Type 0 = λ b. FirstCut ending obeyed (l ++ 10 ∷ tail) (take (length l) (l ++ 10 ∷ tail)) b lengths in
+        let L : ℕ → Type 0 = λ m. RestIs ending m rest in
+        let it : F l = record {
+          cut = (refl, clean.0);
+          some = omega arith;
+          short = short.0;
+          room = omega arith;
+          left = record {
+            lines = ls;
+            rest = rest;
+            parts = refl;
+            clean = clean.1;
+            sizes = ap (drop 1) sizes;
+            few = omega arith;
+            short = short.1;
+            left = subst L (let e : obeyed + length (l ∷ ls) ≡ obeyed + 1 + length ls = omega arith in e) left;
+          };
+        } in
+        let T : List ℕ → Type 0 = λ t. IsCut ending obeyed lengths t (length l) in
+        let S : ℕ → Type 0 = λ m. IsCut ending obeyed lengths text m in
+        subst S (sym n) (subst T (sym whole) (omega (arith, length-append l (10 ∷ tail)), subst B (sym behind) (subst F (sym front) it)))
+
+-- where no line is left, the text is the rest
+pub none_left : (ending : Ending) (obeyed : ℕ) (text : List ℕ) → AreLeft ending obeyed text [] → RestIs ending obeyed text
+none_left ending obeyed text a = by_lines a.lines a.rest a.parts a.sizes a.left
+  where
+    by_lines : (lines : List (List ℕ)) (rest : List ℕ) → text ≡ joined lines ++ rest → [] ≡ map length lines → RestIs ending (obeyed + length lines) rest → RestIs ending obeyed text
+    by_lines [] rest parts sizes left =
+        let L : ℕ → Type 0 = λ m. RestIs ending m rest in
+        let R : List ℕ → Type 0 = λ t. RestIs ending obeyed t in
+        subst R (sym parts) (subst L (let e : obeyed + 0 ≡ obeyed = omega arith in e) left)
+    by_lines (l ∷ ls) rest parts sizes left = absurd cc
+
+-- the line that is next, of those that are left
+pub cut_at : (ending : Ending) (obeyed : ℕ) (text lengths : List ℕ) → obeyed < length lengths → AreLeft ending obeyed text (drop obeyed lengths)
+    → (get_or lengths obeyed 0 ≤ length text) × FirstCut ending obeyed text (take (get_or lengths obeyed 0) text) (drop (get_or lengths obeyed 0) text) (drop (suc obeyed) lengths)
+cut_at ending obeyed text lengths within a =
+    let A : List ℕ → Type 0 = λ ns. AreLeft ending obeyed text ns in
+    first_cut ending obeyed text (get_or lengths obeyed 0) (drop (suc obeyed) lengths) (subst A (drop-cons lengths obeyed 0 within) a)
+
+pub rest_at : (ending : Ending) (obeyed : ℕ) (text lengths : List ℕ) → length lengths ≤ obeyed → AreLeft ending obeyed text (drop obeyed lengths) → RestIs ending obeyed text
+rest_at ending obeyed text lengths end a =
+    let A : List ℕ → Type 0 = λ ns. AreLeft ending obeyed text ns in
+    none_left ending obeyed text (subst A (drop_of_length-le lengths end) a)
 
 -- a text, cut at its first LF, with more behind it
 pub cut_before : (rest first left more : List ℕ) → CutsLine rest first (Some left) → rest ++ more ≡ first ++ 10 ∷ (left ++ more)
 cut_before rest first left more cut = ap (λ x. x ++ more) cut.0 ∙ append_assoc first (10 ∷ left) more
 
 -- one more line is done
-pub progress_more : (text rest first left : List ℕ) (j new : List Entry) (n : ℕ) (t t1 t2 : Option (List ℕ))
-    → Progress text rest j n t t1 → CutsLine rest first (Some left) → length first ≤ longest_line → n ≤ most_lines → LineDone j new n first t1 t2 → Progress text left new (n + 1) t t2
-progress_more text rest first left j new n t t1 t2 p cut fits few line =
+pub progress_more : (quiet : Bool) (text rest first left : List ℕ) (j new : List Entry) (n : ℕ) (t t1 t2 : Option (List ℕ))
+    → Progress quiet text rest j n t t1 → CutsLine rest first (Some left) → length first ≤ longest_line → n ≤ most_lines → LineDone quiet j new n first t1 t2 → Progress quiet text left new (n + 1) t t2
+progress_more quiet text rest first left j new n t t1 t2 p cut fits few line =
     let number : n ≡ 1 + length p.done = p.number in
     record {
       done = p.done ++ first ∷ [];
       lines = λ more. p.lines more ∙ ap (λ x. p.done ++ lines_of x) (cut_before rest first left more cut) ∙ ap (λ x. p.done ++ x) (lines_front first (left ++ more) cut.1) ∙ sym (append_assoc p.done (first ∷ []) (lines_of (left ++ more)));
       whole = p.whole ∙ ap (λ x. p.done ++ whole_lines x) cut.0 ∙ ap (λ x. p.done ++ x) (whole_front first left cut.1) ∙ sym (append_assoc p.done (first ∷ []) (whole_lines left));
-      obeyed = obeyed_more p.done j new first n line.command p.obeyed line.adds p.number few fits line.spells;
+      obeyed = obeyed_more p.done j new first n p.obeyed line.follows p.number few fits;
       number = omega (arith, length-append p.done (first ∷ []));
-      written = written_more t t1 t2 j new line.adds.entry p.written line.written line.adds.added;
+      written = written_more quiet t t1 t2 j new line.follows.entries p.written line.written line.follows.added;
     }
 
 -- the line that is next, whatever follows
-pub next_line : (rest first : List ℕ) (after : Option (List ℕ)) → CutsLine rest first after → 0 < length rest → (more : List ℕ) → GoesOn first (lines_of (rest ++ more))
-next_line rest first None cut some more =
-    let P : List ℕ → Type 0 = λ x. GoesOn first (lines_of (x ++ more)) in
-    let size : 0 < length first = omega (arith, ap length cut.0) in
-    subst P (sym cut.0) (lines_longer first more cut.1 size)
-next_line rest first (Some left) cut some more =
-    record { line = first; rest = lines_of (left ++ more); parts = ap lines_of (cut_before rest first left more cut) ∙ lines_front first (left ++ more) cut.1; longer = omega arith }
+next_line : (rest more : List ℕ) → 0 < length rest → (front behind : List ℕ) → rest ≡ front ++ behind → NoLf front → GoesOn front (lines_of (rest ++ more))
+next_line rest more some [] behind parts none = some_line rest more some
+next_line rest more some (b ∷ front) behind parts none =
+    let P : List ℕ → Type 0 = λ x. GoesOn (b ∷ front) (lines_of x) in
+    subst P (sym (ap (λ x. x ++ more) parts ∙ append_assoc (b ∷ front) behind more)) (lines_longer (b ∷ front) (behind ++ more) none (omega arith))
 
 -- a line is refused for its number or its length
-pub refused_by_size : (text rest first : List ℕ) (after : Option (List ℕ)) (ending : Ending) (j : List Entry) (n : ℕ) (t t' : Option (List ℕ))
-    → Progress text rest j n t t' → CutsLine rest first after → 0 < length rest → (most_lines < n) ⊎ (longest_line < length first) → TextRefused text ending j n t t'
-refused_by_size text rest first after ending j n t t' p cut some why = record {
-  first = λ more follows.
-      let next : GoesOn first (lines_of (rest ++ more)) = next_line rest first after cut some more in
-      let long : length first ≤ length next.line = next.longer in
-      record {
-        before = p.done;
-        line = next.line;
-        after = next.rest;
-        parts = p.lines more ∙ ap (λ x. p.done ++ x) next.parts;
-        obeyed = p.obeyed;
-        number = p.number;
-        refused = elim why [ inl many ↦ inl many | inr size ↦ inr (inl (omega arith)) ];
-      };
-  written = p.written;
-}
+pub refused_by_size : (quiet : Bool) (text rest : List ℕ) (ending : Ending) (j : List Entry) (n : ℕ) (t t' : Option (List ℕ)) (lines : ℕ)
+    → Progress quiet text rest j n t t' → n ≡ 1 + lines → IsTooMuch lines rest → TextRefused quiet text ending j n t t'
+refused_by_size quiet text rest ending j n t t' lines p at much = elim much.why [
+  | inl many ↦ record {
+    first = λ more follows.
+        let next : GoesOn [] (lines_of (rest ++ more)) = some_line rest more much.some in
+        record {
+          before = p.done;
+          line = next.line;
+          after = next.rest;
+          parts = p.lines more ∙ ap (λ x. p.done ++ x) next.parts;
+          obeyed = p.obeyed;
+          number = p.number;
+          refused = inl (omega arith);
+        };
+    written = p.written;
+  }
+  | inr l ↦ record {
+    first = λ more follows.
+        let next : GoesOn l.front (lines_of (rest ++ more)) = next_line rest more much.some l.front l.more l.parts l.none in
+        let longer : length l.front ≤ length next.line = next.longer in
+        let long : longest_line < length l.front = l.long in
+        record {
+          before = p.done;
+          line = next.line;
+          after = next.rest;
+          parts = p.lines more ∙ ap (λ x. p.done ++ x) next.parts;
+          obeyed = p.obeyed;
+          number = p.number;
+          refused = inr (inl (omega arith));
+        };
+    written = p.written;
+  }
+]
 
 -- the next line is this one: LF ends it, or the input does
 abbrev pub IsNext : List ℕ → List ℕ → Ending → Type 0
@@ -97,28 +205,27 @@ pub is_next_by_lf : (rest first left : List ℕ) (ending : Ending) → CutsLine 
 is_next_by_lf rest first left ending cut more follows =
     (lines_of (left ++ more), ap lines_of (cut_before rest first left more cut) ∙ lines_front first (left ++ more) cut.1)
 
-pub is_next_by_end : (rest first : List ℕ) (ending : Ending) → CutsLine rest first None → 0 < length rest → ending ≡ End → IsNext rest first ending
-is_next_by_end rest first ending cut some end more follows =
-    let size : 0 < length first = omega (arith, ap length cut.0) in
-    ([], ap (λ x. lines_of (rest ++ x)) (follows end) ∙ ap lines_of (append-nil rest) ∙ ap lines_of cut.0 ∙ lines_last first cut.1 size)
+pub is_next_by_end : (rest : List ℕ) (ending : Ending) → NoLf rest → 0 < length rest → ending ≡ End → IsNext rest rest ending
+is_next_by_end rest ending none some end more follows =
+    ([], ap (λ x. lines_of (rest ++ x)) (follows end) ∙ ap lines_of (append-nil rest) ∙ lines_last rest none some)
 
 -- the line before was obeyed too
-pub front_with : (text rest first : List ℕ) (ending : Ending) (j new : List Entry) (n : ℕ) (t t1 : Option (List ℕ)) (c : Command)
-    → Progress text rest j n t t1 → IsNext rest first ending → length first ≤ longest_line → n ≤ most_lines → Spells first c → Adds j new n c
+pub front_with : (quiet : Bool) (text rest first : List ℕ) (ending : Ending) (j new : List Entry) (n : ℕ) (t t1 : Option (List ℕ))
+    → Progress quiet text rest j n t t1 → IsNext rest first ending → length first ≤ longest_line → n ≤ most_lines → Follows j new n first
     → (more : List ℕ) → MayFollow ending more → FrontIsObeyed (lines_of (text ++ more)) new
-front_with text rest first ending j new n t t1 c p next fits few spells adds more follows =
+front_with quiet text rest first ending j new n t t1 p next fits few line more follows =
     let at = next more follows in
     record {
       front = p.done ++ first ∷ [];
       rest = at.0;
       parts = p.lines more ∙ ap (λ x. p.done ++ x) at.1 ∙ sym (append_assoc p.done (first ∷ []) at.0);
-      obeyed = obeyed_more p.done j new first n c p.obeyed adds p.number few fits spells;
+      obeyed = obeyed_more p.done j new first n p.obeyed line p.number few fits;
     }
 
-pub refused_line : (text rest first : List ℕ) (ending : Ending) (j new : List Entry) (n m : ℕ) (t t1 t2 : Option (List ℕ))
-    → Progress text rest j n t t1 → IsNext rest first ending → LineRefused j new n m first t1 t2 → TextRefused text ending new m t t2
-refused_line text rest first ending j new n m t t1 t2 p next s =
-    let P : List Entry → Type 0 = λ js. TextRefused text ending js m t t2 in
+pub refused_line : (quiet : Bool) (text rest first : List ℕ) (ending : Ending) (j new : List Entry) (n m : ℕ) (t t1 t2 : Option (List ℕ))
+    → Progress quiet text rest j n t t1 → IsNext rest first ending → LineRefused j new n m first t1 t2 → TextRefused quiet text ending new m t t2
+refused_line quiet text rest first ending j new n m t t1 t2 p next s =
+    let P : List Entry → Type 0 = λ js. TextRefused quiet text ending js m t t2 in
     let it : P j = record {
       first = λ more follows.
           let at = next more follows in
@@ -135,83 +242,83 @@ refused_line text rest first ending j new n m t t1 t2 p next s =
     } in
     subst P (sym s.journal) it
 
-pub written_line : (text rest first : List ℕ) (ending : Ending) (j new : List Entry) (n : ℕ) (t t1 t2 : Option (List ℕ)) (w w1 w2 : ℕ)
-    → Progress text rest j n t t1 → IsNext rest first ending → length first ≤ longest_line → n ≤ most_lines → w ≤ w1 → LineCut j new n first t1 t2 w1 w2 → TextUnwritten text ending new t t2 w w2
-written_line text rest first ending j new n t t1 t2 w w1 w2 p next fits few count s =
-    let G : Option (List ℕ) → Type 0 = λ o. GainsFront o t2 (entry_text false s.adds.entry) in
+pub written_line : (quiet : Bool) (text rest first : List ℕ) (ending : Ending) (j new : List Entry) (n : ℕ) (t t1 t2 : Option (List ℕ)) (w w1 w2 : ℕ)
+    → Progress quiet text rest j n t t1 → IsNext rest first ending → length first ≤ longest_line → n ≤ most_lines → w ≤ w1 → LineCut quiet j new n first t1 t2 w1 w2 → TextUnwritten quiet text ending new t t2 w w2
+written_line quiet text rest first ending j new n t t1 t2 w w1 w2 p next fits few count s =
+    let G : Option (List ℕ) → Type 0 = λ o. GainsFront o t2 (entry_text quiet s.entry) in
     record {
       risen = rises_at_last w w1 w2 count s.risen;
-      front = front_with text rest first ending j new n t t1 s.command p next fits few s.spells s.adds;
+      front = front_with quiet text rest first ending j new n t t1 p next fits few s.follows;
       before = j;
-      last = s.adds.entry;
-      entries = s.adds.added;
+      last = s.entry;
+      entries = s.follows.added ∙ ap (λ es. j ++ es) s.one;
       written = subst G p.written s.written;
     }
 
-pub lost_line : (text rest first : List ℕ) (ending : Ending) (j new : List Entry) (n : ℕ) (t t1 t2 : Option (List ℕ))
-    → Progress text rest j n t t1 → IsNext rest first ending → length first ≤ longest_line → n ≤ most_lines → LineLost j new n first t1 t2 → TextLost text ending new t t2
-lost_line text rest first ending j new n t t1 t2 p next fits few s =
+pub lost_line : (quiet : Bool) (text rest first : List ℕ) (ending : Ending) (j new : List Entry) (n : ℕ) (t t1 t2 : Option (List ℕ))
+    → Progress quiet text rest j n t t1 → IsNext rest first ending → length first ≤ longest_line → n ≤ most_lines → LineLost j new n first t1 t2 → TextLost quiet text ending new t t2
+lost_line quiet text rest first ending j new n t t1 t2 p next fits few s =
     let L : List ℕ → Type 0 = λ more. MayFollow ending more → FrontIsObeyed (lines_of (text ++ more)) new in
     let O : List Entry → Type 0 = λ js. AreObeyed p.done js in
     record {
       front = λ more. elim s.journal as (λ _. L more) [
         | inl same ↦ λ follows. record { front = p.done; rest = lines_of (rest ++ more); parts = p.lines more; obeyed = subst O (sym same) p.obeyed }
-        | inr made ↦ front_with text rest first ending j new n t t1 made.0 p next fits few made.1 made.2 more
+        | inr made ↦ front_with quiet text rest first ending j new n t t1 p next fits few made.0 more
       ];
       most = record {
         entries = j;
-        most = elim s.journal as (λ _. (new ≡ j) ⊎ ((e : Entry) × (new ≡ j ++ e ∷ []))) [ inl same ↦ inl same | inr made ↦ inr (made.2.entry, made.2.added) ];
+        most = elim s.journal as (λ _. (new ≡ j) ⊎ ((e : Entry) × (new ≡ j ++ e ∷ []))) [ inl same ↦ inl same | inr made ↦ inr (made.1, made.0.added ∙ ap (λ es. j ++ es) made.2) ];
         written = s.same ∙ p.written;
       };
     }
 
 -- a line that was tried ended the run
-pub line_stops : (text rest first : List ℕ) (ending : Ending) (j new : List Entry) (n : ℕ) (t t1 t2 : Option (List ℕ)) (w w1 w2 : ℕ) (stop : Stop)
-    → Progress text rest j n t t1 → IsNext rest first ending → length first ≤ longest_line → n ≤ most_lines → w ≤ w1 → LineStops j new n first t1 t2 w1 w2 stop → TextStops text ending new t t2 w w2 stop
-line_stops text rest first ending j new n t t1 t2 w w1 w2 ReadFault p next fits few count s = absurd s
-line_stops text rest first ending j new n t t1 t2 w w1 w2 (Refused m) p next fits few count s = refused_line text rest first ending j new n m t t1 t2 p next s
-line_stops text rest first ending j new n t t1 t2 w w1 w2 WriteFault p next fits few count s = written_line text rest first ending j new n t t1 t2 w w1 w2 p next fits few count s
-line_stops text rest first ending j new n t t1 t2 w w1 w2 Memory p next fits few count s = lost_line text rest first ending j new n t t1 t2 p next fits few s
+pub line_stops : (quiet : Bool) (text rest first : List ℕ) (ending : Ending) (j new : List Entry) (n : ℕ) (t t1 t2 : Option (List ℕ)) (w w1 w2 : ℕ) (stop : Stop)
+    → Progress quiet text rest j n t t1 → IsNext rest first ending → length first ≤ longest_line → n ≤ most_lines → w ≤ w1 → LineStops quiet j new n first t1 t2 w1 w2 stop → TextStops quiet text ending new t t2 w w2 stop
+line_stops quiet text rest first ending j new n t t1 t2 w w1 w2 ReadFault p next fits few count s = absurd s
+line_stops quiet text rest first ending j new n t t1 t2 w w1 w2 (Refused m) p next fits few count s = refused_line quiet text rest first ending j new n m t t1 t2 p next s
+line_stops quiet text rest first ending j new n t t1 t2 w w1 w2 WriteFault p next fits few count s = written_line quiet text rest first ending j new n t t1 t2 w w1 w2 p next fits few count s
+line_stops quiet text rest first ending j new n t t1 t2 w w1 w2 Memory p next fits few count s = lost_line quiet text rest first ending j new n t t1 t2 p next fits few s
 
 -- all lines are done
-pub lines_at_end : (text rest : List ℕ) (j : List Entry) (n : ℕ) (t t' : Option (List ℕ)) (p : Progress text rest j n t t') → rest ≡ [] → lines_of text ≡ p.done
-lines_at_end text rest j n t t' p none = ap lines_of (sym (append-nil text)) ∙ p.lines [] ∙ ap (λ x. p.done ++ lines_of (x ++ [])) none ∙ append-nil p.done
-
-pub lines_at_last : (text rest first : List ℕ) (j : List Entry) (n : ℕ) (t t' : Option (List ℕ)) (p : Progress text rest j n t t') → CutsLine rest first None → 0 < length rest → lines_of text ≡ p.done ++ first ∷ []
-lines_at_last text rest first j n t t' p cut some =
-    let size : 0 < length first = omega (arith, ap length cut.0) in
-    ap lines_of (sym (append-nil text)) ∙ p.lines [] ∙ ap (λ x. p.done ++ lines_of x) (append-nil rest ∙ cut.0) ∙ ap (λ x. p.done ++ x) (lines_last first cut.1 size)
-
-pub done_at_end : (text rest : List ℕ) (ending : Ending) (j : List Entry) (n : ℕ) (t t' : Option (List ℕ)) → Progress text rest j n t t' → rest ≡ [] → ending ≡ End → TextDone text ending j t t'
-done_at_end text rest ending j n t t' p none end =
+pub done_at_end : (quiet : Bool) (text rest : List ℕ) (ending : Ending) (j : List Entry) (n : ℕ) (t t' : Option (List ℕ)) → Progress quiet text rest j n t t' → rest ≡ [] → ending ≡ End → TextDone quiet text ending j t t'
+done_at_end quiet text rest ending j n t t' p none end =
     let L : List (List ℕ) → Type 0 = λ ls. AreObeyed ls j in
-    record { ended = end; obeyed = subst L (sym (lines_at_end text rest j n t t' p none)) p.obeyed; written = p.written }
+    let all : lines_of text ≡ p.done = ap lines_of (sym (append-nil text)) ∙ p.lines [] ∙ ap (λ x. p.done ++ lines_of (x ++ [])) none ∙ append-nil p.done in
+    record { ended = end; obeyed = subst L (sym all) p.obeyed; written = p.written }
 
-pub done_at_last : (text rest first : List ℕ) (ending : Ending) (j new : List Entry) (n : ℕ) (t t1 t2 : Option (List ℕ))
-    → Progress text rest j n t t1 → CutsLine rest first None → 0 < length rest → length first ≤ longest_line → n ≤ most_lines → ending ≡ End → LineDone j new n first t1 t2 → TextDone text ending new t t2
-done_at_last text rest first ending j new n t t1 t2 p cut some fits few end line =
+pub done_at_last : (quiet : Bool) (text rest : List ℕ) (ending : Ending) (j new : List Entry) (n : ℕ) (t t1 t2 : Option (List ℕ))
+    → Progress quiet text rest j n t t1 → NoLf rest → 0 < length rest → length rest ≤ longest_line → n ≤ most_lines → ending ≡ End → LineDone quiet j new n rest t1 t2 → TextDone quiet text ending new t t2
+done_at_last quiet text rest ending j new n t t1 t2 p none some fits few end line =
     let L : List (List ℕ) → Type 0 = λ ls. AreObeyed ls new in
+    let all : lines_of text ≡ p.done ++ rest ∷ [] =
+    ap lines_of (sym (append-nil text)) ∙ p.lines [] ∙ ap (λ x. p.done ++ lines_of x) (append-nil rest) ∙ ap (λ x. p.done ++ x) (lines_last rest none some) in
     record {
       ended = end;
-      obeyed = subst L (sym (lines_at_last text rest first j n t t1 p cut some)) (obeyed_more p.done j new first n line.command p.obeyed line.adds p.number few fits line.spells);
-      written = written_more t t1 t2 j new line.adds.entry p.written line.written line.adds.added;
+      obeyed = subst L (sym all) (obeyed_more p.done j new rest n p.obeyed line.follows p.number few fits);
+      written = written_more quiet t t1 t2 j new line.follows.entries p.written line.written line.follows.added;
     }
 
-pub reading_stops : (text rest : List ℕ) (ending : Ending) (j : List Entry) (n : ℕ) (t t' : Option (List ℕ)) → Progress text rest j n t t' → whole_lines rest ≡ [] → ending ≡ Fault → TextUnread text ending j t t'
-reading_stops text rest ending j n t t' p none fault =
+pub reading_stops : (quiet : Bool) (text rest : List ℕ) (ending : Ending) (j : List Entry) (n : ℕ) (t t' : Option (List ℕ)) → Progress quiet text rest j n t t' → NoLf rest → ending ≡ Fault → TextUnread quiet text ending j t t'
+reading_stops quiet text rest ending j n t t' p none fault =
     let L : List (List ℕ) → Type 0 = λ ls. AreObeyed ls j in
-    record { fault = fault; obeyed = subst L (sym (p.whole ∙ ap (λ x. p.done ++ x) none ∙ append-nil p.done)) p.obeyed; written = p.written }
+    record { fault = fault; obeyed = subst L (sym (p.whole ∙ ap (λ x. p.done ++ x) (whole_last rest none) ∙ append-nil p.done)) p.obeyed; written = p.written }
 
-pub whole_at_last : (rest first : List ℕ) → CutsLine rest first None → whole_lines rest ≡ []
-whole_at_last rest first cut = ap whole_lines cut.0 ∙ whole_last first cut.1
+-- what is left behind the last whole line, by the ending
+pub unfinished_at : (ending : Ending) (n : ℕ) (rest : List ℕ) → RestIs ending n rest → (ending ≡ End) ⊎ (ending ≡ Fault) → IsUnfinished n rest
+unfinished_at End n rest left is = left
+unfinished_at Fault n rest left is = left
+unfinished_at Enough n rest left (inl is) = absurd cc
+unfinished_at Enough n rest left (inr is) = absurd cc
 
-pub not_enough_end : (text rest : List ℕ) (j : List Entry) (n : ℕ) (t t' : Option (List ℕ)) → Progress text rest j n t t' → rest ≡ [] → PassesLimits text → ⊥
-not_enough_end text rest j n t t' p none enough =
-    let S : List (List ℕ) → Type 0 = λ ls. AreWithinLimits ls in
-    enough (subst S (sym (lines_at_end text rest j n t t' p none)) p.obeyed.limits)
+pub too_much_at : (ending : Ending) (n : ℕ) (rest : List ℕ) → RestIs ending n rest → ending ≡ Enough → IsTooMuch n rest
+too_much_at End n rest left is = absurd cc
+too_much_at Fault n rest left is = absurd cc
+too_much_at Enough n rest left is = left
 
-pub not_enough_last : (text rest first : List ℕ) (j : List Entry) (n : ℕ) (t t' : Option (List ℕ)) → Progress text rest j n t t' → CutsLine rest first None → 0 < length rest → length first ≤ longest_line → n ≤ most_lines → PassesLimits text → ⊥
-not_enough_last text rest first j n t t' p cut some fits few enough =
-    let S : List (List ℕ) → Type 0 = λ ls. AreWithinLimits ls in
-    let number : n ≡ 1 + length p.done = p.number in
-    enough (subst S (sym (lines_at_last text rest first j n t t' p cut some)) (limits_more p.done first p.obeyed.limits (omega arith) fits))
+-- behind the last whole line there is room for one more
+pub few_left : (ending : Ending) (obeyed : ℕ) (text lengths : List ℕ) → AreLeft ending obeyed text lengths → obeyed ≤ most_lines
+few_left ending obeyed text lengths a = let few : obeyed + length a.lines ≤ most_lines = a.few in omega arith
+
+pub room_for : (n : ℕ) (rest : List ℕ) → IsUnfinished n rest → 0 < length rest → n ≤ most_lines → n < most_lines
+room_for n rest u some few = not_full n (length rest) few u.full some

@@ -9,17 +9,17 @@ use Rattle.nfc_bench.specs.Stops.{EndsAt}
 use Rattle.nfc_bench.proofs.Limits.{ends_within, within_short, no_limits}
 
 -- reading stops with the call that gave these bytes, or before
-pub stops_behind : (a b c : Option (List ℕ)) (text got : List ℕ) (n m : ℕ) → a ≡ with_front text b → EndsAt text n m → b ≡ with_front got c → length got ≤ chunk_size → ReadsInTime a c
-stops_behind a b c text got n m first e then size = record {
+pub stops_behind : (a b c : Option (List ℕ)) (text got lengths : List ℕ) (m : ℕ) → a ≡ with_front text b → EndsAt text lengths m → b ≡ with_front got c → length got ≤ chunk_size → ReadsInTime a c
+stops_behind a b c text got lengths m first e then size = record {
   front = text;
   chunk = got;
   read = read_on a b c text got first then;
-  short = ends_within text n m e;
+  short = ends_within text lengths m e;
   size = size;
 }
 
-pub stops_before : (a b c : Option (List ℕ)) (text : List ℕ) (n m : ℕ) → a ≡ with_front text b → EndsAt text n m → c ≡ b → ReadsInTime a c
-stops_before a b c text n m first e same = stops_behind a b c text [] n m first e (sym same ∙ sym (with_front-nil c)) (omega arith)
+pub stops_before : (a b c : Option (List ℕ)) (text lengths : List ℕ) (m : ℕ) → a ≡ with_front text b → EndsAt text lengths m → c ≡ b → ReadsInTime a c
+stops_before a b c text lengths m first e same = stops_behind a b c text [] lengths m first e (sym same ∙ sym (with_front-nil c)) (omega arith)
 
 -- nothing was read
 pub stops_at_once : (a b : Option (List ℕ)) → b ≡ a → ReadsInTime a b
@@ -42,7 +42,7 @@ pub chunk_fits : (buf old : List ℕ) (n : ℕ) → n ≤ length old → length 
 chunk_fits buf old n within kept size = omega (arith, length-take-le n buf (omega arith))
 
 -- less is left to be read
-pub less_left : (text new buf : List ℕ) (k n m : ℕ) → new ≡ text ++ take k buf → 0 < k → k ≤ length buf → EndsAt (text ++ take k buf) n m → longest_script - length new < longest_script - length text
-less_left text new buf k n m is some within e =
-    let short : length (text ++ take k buf) ≤ longest_script = within_short (text ++ take k buf) (ends_within (text ++ take k buf) n m e) in
+pub less_left : (text new buf lengths : List ℕ) (k m : ℕ) → new ≡ text ++ take k buf → 0 < k → k ≤ length buf → EndsAt (text ++ take k buf) lengths m → longest_script - length new < longest_script - length text
+less_left text new buf lengths k m is some within e =
+    let short : length (text ++ take k buf) ≤ longest_script = within_short (text ++ take k buf) (ends_within (text ++ take k buf) lengths m e) in
     omega (arith, ap length is, length-append text (take k buf), length-take-le k buf within)

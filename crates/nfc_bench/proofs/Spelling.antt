@@ -1,14 +1,15 @@
 -- No line spells two commands.
-use Rattle.std.proofs.Common.{◌≡◌, ℕ, ◌≤◌, inl, inr, List, [], ◌∷◌, Ok, sym, ◌∙◌, ap, subst, arith}
+use Rattle.std.proofs.Common.{◌≡◌, ◌≢◌, ℕ, ◌≤◌, ◌⊎◌, inl, inr, List, [], ◌∷◌, true, false, if◌then◌else◌, Ok, refl, sym, ◌∙◌, ap, subst, arith}
 use Rattle.std.specs.Prelude.{codes}
 use Rattle.std.proofs.lemmas.Fmt.{decimal_injective}
 use Rattle.hex.specs.Hex.{decode_of}
 use Rattle.hex.proofs.HexLemmas.{decode_of-same}
 use Rattle.nfc_bench.specs.declared.command.Command.{Command}
-use Rattle.nfc_bench.specs.declared.command.Command.TheVariants.{PlaceT2, Read}
+use Rattle.nfc_bench.specs.declared.command.Command.TheVariants.{Skip, PlaceT2, Read}
 use Rattle.nfc_bench.specs.declared.command.DeviceId.{DeviceId}
 use Rattle.nfc_bench.specs.declared.command.DeviceId.TheVariants.{A, V}
-use Rattle.nfc_bench.specs.Script.{SpellsHex, SpellsIdent, SpellsId, SpellsBlocks, SpelledBy}
+use Rattle.nfc_bench.specs.Script.{words_of, onto_first, is_skipped, SpellsHex, SpellsIdent, SpellsId, SpellsBlocks, SpelledBy, Spells}
+use Rattle.nfc_bench.proofs.Words.{eq_false}
 
 -- a word spells one identifier
 pub ident_one : (w i j : List ℕ) → SpellsIdent w i → SpellsIdent w j → i ≡ j
@@ -35,6 +36,9 @@ pub blocks_one : (w : List ℕ) (m n : ℕ) → SpellsBlocks w m → SpellsBlock
 blocks_one w m n p q = decimal_injective m n (let h : m ≤ 256 = p.2 in omega arith) (let h : n ≤ 256 = q.2 in omega arith) (sym p.0 ∙ q.0)
 
 pub spelled_one : (ws : List (List ℕ)) (c d : Command) → SpelledBy ws c → SpelledBy ws d → c ≡ d
+spelled_one ws Skip d p q = absurd p
+spelled_one ws (Read i) Skip p q = absurd q
+spelled_one ws (PlaceT2 i n h) Skip p q = absurd q
 spelled_one ws (Read i) (Read j) (v, e, p) (w, f, q) =
     let same : v ≡ w = cc in
     ap (λ x. let c : Command = Read x in c) (id_one w i j (let P : List ℕ → Type 0 = λ t. SpellsId t i in subst P same p) q)
@@ -52,7 +56,60 @@ spelled_one ws (PlaceT2 i m g) (PlaceT2 j n h) (u, v, w, e, p, r, s) (u', v', w'
 -- three words of which the last is no HEX place no tag
 pub head_refused : (ws : List (List ℕ)) (i b h : List ℕ) → ws ≡ i ∷ b ∷ h ∷ [] → ((bytes : List ℕ) → SpellsHex h bytes → ⊥)
     → (c : Command) → SpelledBy (codes "place" ∷ codes "t2" ∷ ws) c → ⊥
+head_refused ws i b h e none Skip p = p
 head_refused ws i b h e none (Read id) p = cc
 head_refused ws i b h e none (PlaceT2 id n head) (i', b', h', e', p, q, r) =
     let same : h' ≡ h = cc in
     none head (let P : List ℕ → Type 0 = λ t. SpellsHex t head in subst P same r)
+
+-- a line that is skipped spells nothing else
+first_byte : List (List ℕ) → ℕ
+first_byte [] = 0
+first_byte ([] ∷ ws) = 0
+first_byte ((b ∷ bs) ∷ ws) = b
+
+onto_begins : (b : ℕ) (ws : List (List ℕ)) → first_byte (onto_first b ws) ≡ b
+unfolding first_byte
+onto_begins b [] = refl
+onto_begins b (w ∷ ws) = refl
+
+begins_so : (ws : List (List ℕ)) (c : Command) → SpelledBy ws c → (first_byte ws ≡ 112) ⊎ (first_byte ws ≡ 114)
+unfolding first_byte
+begins_so ws Skip p = absurd p
+begins_so ws (PlaceT2 id n head) (i, b, h, e, p, q, r) = inl (ap first_byte e)
+begins_so ws (Read id) (i, e, p) = inr (ap first_byte e)
+
+words_begin : (b : ℕ) (bs : List ℕ) → b ≡ 35 → first_byte (words_of (b ∷ bs)) ≡ 35
+words_begin b bs hash =
+    let other : b ≢ 32 = λ e. omega arith in
+    ap (λ v. first_byte (if v then [] ∷ words_of bs else onto_first b (words_of bs))) (eq_false b 32 other) ∙ onto_begins b (words_of bs) ∙ hash
+
+pub skipped_names_none : (line : List ℕ) (c : Command) → is_skipped line ≡ true → SpelledBy (words_of line) c → ⊥
+unfolding first_byte
+skipped_names_none [] c h p = elim (begins_so (words_of []) c p) [ inl e ↦ omega (arith, e) | inr e ↦ omega (arith, e) ]
+skipped_names_none (b ∷ bs) c h p =
+    let begins : first_byte (words_of (b ∷ bs)) ≡ 35 = words_begin b bs (grind arith) in
+    elim (begins_so (words_of (b ∷ bs)) c p) [ inl e ↦ omega (arith, begins, e) | inr e ↦ omega (arith, begins, e) ]
+
+-- any other spells what its words do
+pub spells_words : (line : List ℕ) (c : Command) → SpelledBy (words_of line) c → Spells line c
+spells_words line Skip p = absurd p
+spells_words line (PlaceT2 id n head) p = p
+spells_words line (Read id) p = p
+
+pub words_spell : (line : List ℕ) (c : Command) → is_skipped line ≡ false → Spells line c → SpelledBy (words_of line) c
+words_spell line Skip h p = cc
+words_spell line (PlaceT2 id n head) h p = p
+words_spell line (Read id) h p = p
+
+-- no line spells two commands
+pub spells_one : (line : List ℕ) (c d : Command) → Spells line c → Spells line d → c ≡ d
+spells_one line Skip Skip p q = refl
+spells_one line Skip (PlaceT2 id n head) p q = absurd (skipped_names_none line (PlaceT2 id n head) p q)
+spells_one line Skip (Read id) p q = absurd (skipped_names_none line (Read id) p q)
+spells_one line (PlaceT2 id n head) Skip p q = absurd (skipped_names_none line (PlaceT2 id n head) q p)
+spells_one line (Read id) Skip p q = absurd (skipped_names_none line (Read id) q p)
+spells_one line (PlaceT2 i n h) (PlaceT2 j m g) p q = spelled_one (words_of line) (PlaceT2 i n h) (PlaceT2 j m g) p q
+spells_one line (PlaceT2 i n h) (Read j) p q = spelled_one (words_of line) (PlaceT2 i n h) (Read j) p q
+spells_one line (Read i) (PlaceT2 j m g) p q = spelled_one (words_of line) (Read i) (PlaceT2 j m g) p q
+spells_one line (Read i) (Read j) p q = spelled_one (words_of line) (Read i) (Read j) p q

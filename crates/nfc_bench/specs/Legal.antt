@@ -10,7 +10,7 @@ use Rattle.nfca_poll.specs.declared.kind.Kind.TheVariants as kinds
 use Rattle.nfca_poll.specs.Poll.{Polling, Polls, Done, Picked, NotFound, GivenUp, Refused, FieldLost, pick}
 use Rattle.t2t_tag.specs.Store.{IsT2Store}
 use Rattle.nfc_bench.specs.declared.command.Command.{Command}
-use Rattle.nfc_bench.specs.declared.command.Command.TheVariants.{PlaceT2, Read}
+use Rattle.nfc_bench.specs.declared.command.Command.TheVariants.{Skip, PlaceT2, Read}
 use Rattle.nfc_bench.specs.declared.command.DeviceId.TheVariants.{A, V}
 use Rattle.nfc_bench.specs.declared.device.Device.{Device}
 use Rattle.nfc_bench.specs.declared.device.Device.TheVariants.{T2}
@@ -61,12 +61,14 @@ pub record MayPlace (s : State) (id : List ℕ) (blocks : ℕ) (head : List ℕ)
 
 -- the conditions of a command beside its grammar
 abbrev pub IsAccepted : State → Command → Type 0
+IsAccepted s Skip = Unit {0}
 IsAccepted s (PlaceT2 id blocks head) = MayPlace s id blocks head
 IsAccepted s (Read (A id)) = IsSome (device_with id s.world.listeners)
 IsAccepted s (Read (V id)) = ⊥
 
 -- what a command itself changes, before anything is sent
 abbrev pub changed : State → Command → State
+changed s Skip = s
 changed s (PlaceT2 id blocks head) =
     record { world = record { lit = s.world.lit; listeners = s.world.listeners ++ T2 (new_tag id (memory_of blocks head)) ∷ [] }; queue = s.queue }
 changed s (Read id) = s
@@ -84,6 +86,7 @@ then_reads store (Done FieldLost ns) = Over
 
 -- what is due in a command, by what the reader knows
 abbrev pub due : State → Command → List Note → Next
+due s Skip ns = Over
 due s (PlaceT2 id blocks head) ns = Over
 due s (Read (A id)) ns = then_reads (store_of s id) (pick id ns)
 due s (Read (V id)) ns = Over
@@ -106,8 +109,9 @@ abbrev pub ReadAnswers : State → List ℕ → List Event → Answer → Type 0
 ReadAnswers s id events answers.Done = ⊥
 ReadAnswers s id events (answers.Message message writable) = ReadLaw s id events message writable
 
--- the law of the answers
+-- the law of the answers; a line that asks for nothing has none
 abbrev pub AnswerLaw : State → Command → List Event → Answer → Type 0
+AnswerLaw s Skip events answer = ⊥
 AnswerLaw s (PlaceT2 id blocks head) events answer = answer ≡ answers.Done
 AnswerLaw s (Read (A id)) events answer = ReadAnswers s id events answer
 AnswerLaw s (Read (V id)) events answer = ⊥

@@ -1,11 +1,10 @@
 -- The limits of a script; this project's own.
 use Rattle.std.specs.Prelude.{ℕ, ◌+◌, ◌*◌, ◌≤◌, List, length}
 use Rattle.std.specs.List.{All}
-use Rattle.nfc_bench.specs.Lines.{lines_of}
 
 -- how many lines it may have, and how many bytes a line, without its LF
 abbrev pub most_lines : ℕ
-most_lines = 2
+most_lines = 1000
 
 abbrev pub longest_line : ℕ
 longest_line = 4096
@@ -25,7 +24,3 @@ most_read = longest_script + chunk_size
 pub record AreWithinLimits (lines : List (List ℕ)) : Type 0 where
   pub few : length lines ≤ most_lines
   pub short : All (λ l. length l ≤ longest_line) lines
-
--- A line of the text is refused for its number or its length.
-abbrev pub PassesLimits : List ℕ → Type 0
-PassesLimits text = AreWithinLimits (lines_of text) → ⊥

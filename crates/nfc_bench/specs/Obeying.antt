@@ -4,6 +4,7 @@ use Rattle.air_core.specs.Turn.{Air}
 use Rattle.nfc_bench.specs.declared.bench.ObeyFault.{ObeyFault}
 use Rattle.nfc_bench.specs.declared.bench.ObeyFault.TheVariants as faults
 use Rattle.nfc_bench.specs.declared.command.Command.{Command}
+use Rattle.nfc_bench.specs.declared.command.Command.TheVariants.{Skip, PlaceT2, Read}
 use Rattle.nfc_bench.specs.declared.device.Device.{Device}
 use Rattle.nfc_bench.specs.declared.device.Device.TheVariants.{T2}
 use Rattle.nfc_bench.specs.declared.entry.Answer.{Answer}
@@ -61,3 +62,9 @@ pub record Adds (old new : List Entry) (line : ℕ) (c : Command) : Type 0 where
   pub numbered : entry.line ≡ line
   pub asked : entry.command ≡ c
   pub legal : LegalStep (state_of old) c entry.events entry.answer
+
+-- What obeying a line adds to the journal: one entry, and none where it asks for nothing.
+abbrev pub Obeys : List Entry → List Entry → ℕ → Command → Type 0
+Obeys old new line Skip = new ≡ old
+Obeys old new line (PlaceT2 id blocks head) = Adds old new line (PlaceT2 id blocks head)
+Obeys old new line (Read id) = Adds old new line (Read id)

@@ -1,5 +1,5 @@
 -- What a run does, by the status that it ends with.
-use Rattle.std.specs.Prelude.{◌≡◌, ℕ, ◌+◌, ◌<◌, ◌≤◌, ◌⊎◌, List, [], ◌∷◌, ◌++◌, length, codes, false, Option, Some, IfSome}
+use Rattle.std.specs.Prelude.{◌≡◌, ℕ, ◌+◌, ◌<◌, ◌≤◌, ◌⊎◌, List, [], ◌∷◌, ◌++◌, length, codes, Bool, ◌==◌, Option, Some, IfSome}
 use Rattle.std.specs.Fmt.{decimal}
 use Rattle.nfc_io.specs.Counts.{HasRisen}
 use Rattle.nfc_io.specs.Moves.{with_front, with_end, GainsFront}
@@ -14,7 +14,11 @@ use Rattle.nfc_bench.specs.Report.{entry_text, report_text}
 
 -- the words of a run
 abbrev pub IsRun : List (List ℕ) → Type 0
-IsRun words = words ≡ codes "run" ∷ []
+IsRun words = (words ≡ codes "run" ∷ []) ⊎ (words ≡ codes "run" ∷ codes "quiet" ∷ [])
+
+-- a run with a second word reports answers alone
+abbrev pub is_quiet : List (List ℕ) → Bool
+is_quiet words = length words == 2
 
 -- the fault lines
 abbrev pub words_fault : List ℕ
@@ -96,37 +100,37 @@ AddsFault report fault taken taken' writes writes' =
     (taken' ≡ with_end taken (report ++ fault)) ⊎ (HasRisen writes writes' × GainsFront (with_end taken report) taken' fault)
 
 -- Status 0: every line was obeyed, and its entry written.
-pub record EndsDone (left left' taken taken' : Option (List ℕ)) (journal : List Entry) : Type 0 where
+pub record EndsDone (quiet : Bool) (left left' taken taken' : Option (List ℕ)) (journal : List Entry) : Type 0 where
   pub lines : ObeysAll left left' journal
-  pub written : taken' ≡ with_end taken (report_text false journal)
+  pub written : taken' ≡ with_end taken (report_text quiet journal)
 
 -- Status 2: a line was the first that is refused.
-pub record EndsRefused (left taken taken' : Option (List ℕ)) (writes writes' : ℕ) (journal : List Entry) : Type 0 where
+pub record EndsRefused (quiet : Bool) (left taken taken' : Option (List ℕ)) (writes writes' : ℕ) (journal : List Entry) : Type 0 where
   pub number : ℕ
   pub lines : RefusesLine left journal number
-  pub written : AddsFault (report_text false journal) (line_fault number) taken taken' writes writes'
+  pub written : AddsFault (report_text quiet journal) (line_fault number) taken taken' writes writes'
 
 -- Status 3: the source failed, behind some bytes.
-pub record EndsUnread (left left' taken taken' : Option (List ℕ)) (reads reads' writes writes' : ℕ) (journal : List Entry) : Type 0 where
+pub record EndsUnread (quiet : Bool) (left left' taken taken' : Option (List ℕ)) (reads reads' writes writes' : ℕ) (journal : List Entry) : Type 0 where
   pub risen : HasRisen reads reads'
   pub lines : ObeysWhole left left' journal
-  pub written : AddsFault (report_text false journal) read_fault taken taken' writes writes'
+  pub written : AddsFault (report_text quiet journal) read_fault taken taken' writes writes'
 
 -- Status 4: the sink failed, within the text of the last entry.
-pub record EndsUnwritten (left taken taken' : Option (List ℕ)) (writes writes' : ℕ) (journal : List Entry) : Type 0 where
+pub record EndsUnwritten (quiet : Bool) (left taken taken' : Option (List ℕ)) (writes writes' : ℕ) (journal : List Entry) : Type 0 where
   pub risen : HasRisen writes writes'
   pub lines : ObeysFront left journal
   pub before : List Entry
   pub last : Entry
   pub entries : journal ≡ before ++ last ∷ []
-  pub written : GainsFront (with_end taken (report_text false before)) taken' (entry_text false last)
+  pub written : GainsFront (with_end taken (report_text quiet before)) taken' (entry_text quiet last)
 
 -- Status 5: memory was wanting. All entries were written, or all but the last.
-pub record EndsMemory (left taken taken' : Option (List ℕ)) (writes writes' : ℕ) (journal : List Entry) : Type 0 where
+pub record EndsMemory (quiet : Bool) (left taken taken' : Option (List ℕ)) (writes writes' : ℕ) (journal : List Entry) : Type 0 where
   pub lines : ObeysFront left journal
   pub entries : List Entry
   pub most : (journal ≡ entries) ⊎ ((last : Entry) × (journal ≡ entries ++ last ∷ []))
-  pub written : AddsFault (report_text false entries) memory_fault taken taken' writes writes'
+  pub written : AddsFault (report_text quiet entries) memory_fault taken taken' writes writes'
 
 -- So much was read: some bytes in which no line is refused for its number or its length, and behind them at most those
 -- of one call.

@@ -1,10 +1,10 @@
 -- How a script is written; the language is this project's own.
-use Rattle.std.specs.Prelude.{◌≡◌, ℕ, ◌<◌, ◌≤◌, ◌⊎◌, List, [], ◌∷◌, codes, length, ◌==◌, if◌then◌else◌, Ok}
+use Rattle.std.specs.Prelude.{◌≡◌, ℕ, ◌<◌, ◌≤◌, ◌⊎◌, List, [], ◌∷◌, Bool, true, codes, length, ◌==◌, if◌then◌else◌, Ok}
 use Rattle.std.specs.Fmt.{decimal}
 use Rattle.hex.specs.Hex.{decode_of}
 use Rattle.nfca_poll.specs.Ident.{IsIdent}
 use Rattle.nfc_bench.specs.declared.command.Command.{Command}
-use Rattle.nfc_bench.specs.declared.command.Command.TheVariants.{PlaceT2, Read}
+use Rattle.nfc_bench.specs.declared.command.Command.TheVariants.{Skip, PlaceT2, Read}
 use Rattle.nfc_bench.specs.declared.command.DeviceId.{DeviceId}
 use Rattle.nfc_bench.specs.declared.command.DeviceId.TheVariants.{A, V}
 use Rattle.nfc_bench.specs.declared.script.LineFault.{LineFault}
@@ -45,8 +45,14 @@ most_blocks = 256
 abbrev pub SpellsBlocks : List ℕ → ℕ → Type 0
 SpellsBlocks word n = (word ≡ decimal n) × (least_blocks ≤ n) × (n ≤ most_blocks)
 
+-- an empty line, and one that begins with `#`, whatever bytes follow, asks for nothing
+abbrev pub is_skipped : List ℕ → Bool
+is_skipped [] = true
+is_skipped (b ∷ bs) = b == 35
+
 -- `place t2 ID BLOCKS HEX` and `read ID`
 abbrev pub SpelledBy : List (List ℕ) → Command → Type 0
+SpelledBy ws Skip = ⊥
 SpelledBy ws (PlaceT2 id blocks head) =
     (i b h : List ℕ) × (ws ≡ codes "place" ∷ codes "t2" ∷ i ∷ b ∷ h ∷ [])
     × SpellsIdent i id × SpellsBlocks b blocks × SpellsHex h head
@@ -54,7 +60,9 @@ SpelledBy ws (Read id) = (i : List ℕ) × (ws ≡ codes "read" ∷ i ∷ []) ×
 
 -- the line spells the command
 abbrev pub Spells : List ℕ → Command → Type 0
-Spells line c = SpelledBy (words_of line) c
+Spells line Skip = is_skipped line ≡ true
+Spells line (PlaceT2 id blocks head) = SpelledBy (words_of line) (PlaceT2 id blocks head)
+Spells line (Read id) = SpelledBy (words_of line) (Read id)
 
 -- the numbers of the errors
 abbrev pub line_fault_number : LineFault → ℕ

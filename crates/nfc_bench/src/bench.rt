@@ -1,10 +1,10 @@
 //! The bench: the field, and the journal of what was obeyed.
 
-ghost use Rattle.std.specs.Prelude.{◌≡◌, ◌↔◌, ◌+◌, ◌*◌, ◌≤◌, ◌<◌, ◌++◌, List, [], ◌∷◌, Bool, false, IsTrue, IfOk, OnOk, OnErr, IsErrOf, vec_len, vec_capacity, length};
+ghost use Rattle.std.specs.Prelude.{◌≡◌, ◌≢◌, ◌↔◌, ◌+◌, ◌*◌, ◌≤◌, ◌<◌, ◌++◌, List, [], ◌∷◌, Bool, false, IsTrue, IfOk, OnOk, OnErr, IsErrOf, vec_len, vec_capacity, length};
 ghost use Rattle.t2t_tag.specs.Store.{IsT2Store};
 ghost use Rattle.nfc_bench.specs.Reading.{IsPlain};
 ghost use Rattle.nfc_bench.specs.Legal.{IsAccepted, memory_of, state_of};
-ghost use Rattle.nfc_bench.specs.Obeying.{Adds, AreTame, IsIdle, Obeyed, state_at, obey_fault_number};
+ghost use Rattle.nfc_bench.specs.Obeying.{Obeys, AreTame, IsIdle, Obeyed, state_at, obey_fault_number};
 
 use crate::command::{Command, DeviceId};
 use crate::device::Device;
@@ -140,12 +140,14 @@ fn run_command(
     field: &mut Field<Device>,
     command: &Command,
 ) -> Result<Answer, ObeyFault>
-    requires { IsIdle field.old }
+    requires idle { IsIdle field.old }
+    requires asks { command.now ≢ Command.Skip }
     ensures ok { IfOk result (λ a. Obeyed field.old field.new command.now a) }
     ensures refused { IsErrOf result ObeyFault.Refused → (field.new ≡ field.old) }
     ensures cause { IsErrOf result ObeyFault.Refused → IsAccepted (state_at field.old) command.now → ⊥ }
 {
     match command {
+        Command::Skip => unreachable!(),
         Command::PlaceT2 { id, blocks, head } => place(alloc, field, id, *blocks, head.as_slice()),
         Command::Read {
             id: DeviceId::A(id),
@@ -203,13 +205,16 @@ impl Bench {
         self.journal.as_slice()
     }
 
-    /// Obeys the command of a line, and adds its entry to the journal.
+    /// Obeys the command of a line, and adds its entry to the journal, none for a line that asks for nothing.
     pub fn obey(&mut self, line: u32, command: &Command) -> Result<(), ObeyFault>
-        ensures ok { OnOk result (Adds self.old.journal self.new.journal line command.now) }
+        ensures ok { OnOk result (Obeys self.old.journal self.new.journal line command.now) }
         ensures refused { IsErrOf result ObeyFault.Refused → (self.new ≡ self.old) }
         ensures cause { IsErrOf result ObeyFault.Refused → IsAccepted (state_of self.old.journal) command.now → ⊥ }
         ensures err { OnErr result (self.new.journal ≡ self.old.journal) }
     {
+        if let Command::Skip = command {
+            return Ok(());
+        }
         if self.spoiled {
             return Err(ObeyFault::Memory);
         }

@@ -28,6 +28,8 @@ impl DeviceId {
 /// A command of a script (this project's own), with the values of its line's words in their order.
 #[derive(Debug, Drop, PartialEq)]
 pub enum Command {
+    /// An empty line or a comment: it asks for nothing.
+    Skip,
     /// Puts a Type 2 tag of so many blocks into the field; its memory begins with `head`, and the rest is 0.
     PlaceT2 {
         id: Ident,
@@ -46,6 +48,7 @@ impl Command {
         ensures { IfOk result (λ c. c ≡ self.now) }
     {
         match self {
+            Command::Skip => Ok(Command::Skip),
             Command::PlaceT2 { id, blocks, head } => Ok(Command::PlaceT2 {
                 id: id.copy(),
                 blocks: *blocks,

@@ -1,7 +1,7 @@
 //! Reading the lines of a script.
 
 ghost use Rattle.std.specs.Prelude.{◌≡◌, ◌∷◌, IfOk, IsErrOf, codes};
-ghost use Rattle.nfc_bench.specs.Script.{words_of, SpelledBy, Spells, line_fault_number};
+ghost use Rattle.nfc_bench.specs.Script.{words_of, is_skipped, SpelledBy, Spells, line_fault_number};
 ghost use Rattle.nfc_bench.specs.declared.command.Command.{Command};
 ghost use Rattle.nfc_bench.specs.declared.script.LineFault.TheVariants.{Memory};
 
@@ -45,11 +45,28 @@ impl From<AllocError> for LineFault {
 }
 
 /// The command that a line spells, without its LF. The grammar is this project's own.
-#[tactic(auto, using(crate::proofs::Spelling::spelled_one))]
 pub fn parse_line(alloc: Global, line: &[u8]) -> Result<Command, LineFault>
     ensures ok { IfOk result (λ c. Spells line.now c) }
     ensures alone { IfOk result (λ c. (d : Command) → Spells line.now d → d ≡ c) }
     ensures refused { IsErrOf result LineFault.Refused → (c : Command) → Spells line.now c → ⊥ }
+{
+    if is_skipped(line) {
+        return Ok(Command::Skip);
+    }
+    command_line(alloc, line)
+}
+
+/// Whether a line asks for nothing: it is empty, or a comment.
+fn is_skipped(line: &[u8]) -> bool
+    ensures { result ≡ is_skipped line.now }
+{
+    matches!(line.first(), None | Some(b'#'))
+}
+
+/// A line that isn't skipped.
+fn command_line(alloc: Global, line: &[u8]) -> Result<Command, LineFault>
+    ensures ok { IfOk result (λ c. SpelledBy (words_of line.now) c) }
+    ensures refused { IsErrOf result LineFault.Refused → (c : Command) → SpelledBy (words_of line.now) c → ⊥ }
 {
     let (name, rest) = cut_word(line);
     let Some(rest) = rest else {
@@ -128,8 +145,11 @@ mod tests {
             ("read 00010203040506070809", 0),
             ("place t2 01020304 4 -", 0),
             ("place t2 01020304 256 00E1", 0),
-            ("", 1),
-            ("#", 1),
+            ("", 0),
+            ("#", 0),
+            ("# a comment\r \u{7f}", 0),
+            (" #", 1),
+            (" ", 1),
             ("read", 1),
             ("read ", 1),
             ("read -", 1),

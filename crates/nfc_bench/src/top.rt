@@ -1,11 +1,11 @@
 //! The top call: a run, from the bytes of a script to the bytes of its report.
 
-ghost use Rattle.std.specs.Prelude.{map, string_bytes, codes, IsTrue, ⊤, ◌⊎◌, ◌≡◌, ◌+◌, ◌<◌, ◌≤◌, ◌↔◌, ◌++◌, [], ℕ, List, length, Option, Some, false, OnOk, IfErr};
+ghost use Rattle.std.specs.Prelude.{map, string_bytes, codes, IsTrue, IfSome, None, ⊤, ◌⊎◌, ◌≡◌, ◌+◌, ◌<◌, ◌≤◌, ◌↔◌, ◌++◌, [], ℕ, List, length, Option, Some, false, OnOk, IfErr};
 ghost use Rattle.std.specs.Fmt.{decimal};
 ghost use Rattle.nfc_io.specs.Counts.{HasRisen};
 ghost use Rattle.nfc_bench.specs.Lines.{lines_of};
 ghost use Rattle.nfc_bench.specs.Limits.{most_read};
-ghost use Rattle.nfc_bench.specs.Run.{IsRun, words_fault, line_fault, AllTaken, AddsFault, EndsDone, EndsRefused, EndsUnread, EndsUnwritten, EndsMemory, ReadsInTime, ReadsAtMost};
+ghost use Rattle.nfc_bench.specs.Run.{IsRun, is_quiet, words_fault, line_fault, AllTaken, AddsFault, EndsDone, EndsRefused, EndsUnread, EndsUnwritten, EndsMemory, ReadsInTime, ReadsAtMost};
 ghost use Rattle.nfc_bench.specs.Stops.{RunStops};
 
 mod input;
@@ -32,11 +32,11 @@ pub fn run_bench<S: Source, K: Sink>(
     requires { bench.old ≡ record { journal = []; spoiled = false } }
     ensures status { (result ≡ 0) ⊎ ((2 ≤ result) × (result ≤ 6)) }
 
-    ensures done { result ≡ 0 → EndsDone (S.left source.old) (S.left source.new) (K.taken sink.old) (K.taken sink.new) bench.new.journal }
-    ensures refused { result ≡ 2 → EndsRefused (S.left source.old) (K.taken sink.old) (K.taken sink.new) (K.faults sink.old) (K.faults sink.new) bench.new.journal }
-    ensures unread { result ≡ 3 → EndsUnread (S.left source.old) (S.left source.new) (K.taken sink.old) (K.taken sink.new) (S.faults source.old) (S.faults source.new) (K.faults sink.old) (K.faults sink.new) bench.new.journal }
-    ensures unwritten { result ≡ 4 → EndsUnwritten (S.left source.old) (K.taken sink.old) (K.taken sink.new) (K.faults sink.old) (K.faults sink.new) bench.new.journal }
-    ensures memory { result ≡ 5 → EndsMemory (S.left source.old) (K.taken sink.old) (K.taken sink.new) (K.faults sink.old) (K.faults sink.new) bench.new.journal }
+    ensures done { result ≡ 0 → EndsDone (is_quiet (map string_bytes words.now)) (S.left source.old) (S.left source.new) (K.taken sink.old) (K.taken sink.new) bench.new.journal }
+    ensures refused { result ≡ 2 → EndsRefused (is_quiet (map string_bytes words.now)) (S.left source.old) (K.taken sink.old) (K.taken sink.new) (K.faults sink.old) (K.faults sink.new) bench.new.journal }
+    ensures unread { result ≡ 3 → EndsUnread (is_quiet (map string_bytes words.now)) (S.left source.old) (S.left source.new) (K.taken sink.old) (K.taken sink.new) (S.faults source.old) (S.faults source.new) (K.faults sink.old) (K.faults sink.new) bench.new.journal }
+    ensures unwritten { result ≡ 4 → EndsUnwritten (is_quiet (map string_bytes words.now)) (S.left source.old) (K.taken sink.old) (K.taken sink.new) (K.faults sink.old) (K.faults sink.new) bench.new.journal }
+    ensures memory { result ≡ 5 → EndsMemory (is_quiet (map string_bytes words.now)) (S.left source.old) (K.taken sink.old) (K.taken sink.new) (K.faults sink.old) (K.faults sink.new) bench.new.journal }
     ensures words { (result ≡ 6) ↔ (IsRun (map string_bytes words.now) → ⊥) }
     ensures same { result ≡ 6 → (source.new ≡ source.old) × (bench.new ≡ bench.old) }
     ensures told { result ≡ 6 → AddsFault [] words_fault (K.taken sink.old) (K.taken sink.new) (K.faults sink.old) (K.faults sink.new) }
@@ -49,11 +49,11 @@ pub fn run_bench<S: Source, K: Sink>(
     ensures reads { S.faults source.old ≤ S.faults source.new }
     ensures writes { K.faults sink.old ≤ K.faults sink.new }
 {
-    if !is_run(words) {
+    let Some(quiet) = form_of(words) else {
         write_fault(sink, b"fault 6 words\n");
         return 6;
-    }
-    match run_script(alloc, source, sink, bench) {
+    };
+    match run_script(alloc, quiet, source, sink, bench) {
         Ok(()) => 0,
         Err(Stop::Refused(n)) => {
             write_fault(sink, &refusal(n));
@@ -71,23 +71,29 @@ pub fn run_bench<S: Source, K: Sink>(
     }
 }
 
-/// Whether the words are a form that is known.
-fn is_run(words: &[String]) -> bool
-    ensures { IsTrue result ↔ IsRun (map string_bytes words.now) }
+/// Whether a run is to report answers alone; none where the words are no form that is known.
+fn form_of(words: &[String]) -> Option<bool>
+    ensures some { IfSome result (λ quiet. IsRun (map string_bytes words.now) × (quiet ≡ is_quiet (map string_bytes words.now))) }
+    ensures none { result ≡ None → IsRun (map string_bytes words.now) → ⊥ }
 {
-    words.len() == 1 && words[0].as_str() == "run"
+    match words {
+        [run] if run.as_str() == "run" => Some(false),
+        [run, quiet] if run.as_str() == "run" && quiet.as_str() == "quiet" => Some(true),
+        _ => None,
+    }
 }
 
 /// Reads a script, and obeys its lines.
 fn run_script<S: Source, K: Sink>(
     alloc: Global,
+    quiet: bool,
     source: &mut S,
     sink: &mut K,
     bench: &mut Bench,
 ) -> Result<(), Stop>
     requires { bench.old.journal ≡ [] }
-    ensures ok { OnOk result (EndsDone (S.left source.old) (S.left source.new) (K.taken sink.old) (K.taken sink.new) bench.new.journal) }
-    ensures err { IfErr result (λ s. RunStops (S.left source.old) (S.left source.new) (K.taken sink.old) (K.taken sink.new) (S.faults source.old) (S.faults source.new) (K.faults sink.old) (K.faults sink.new) bench.new.journal s) }
+    ensures ok { OnOk result (EndsDone quiet (S.left source.old) (S.left source.new) (K.taken sink.old) (K.taken sink.new) bench.new.journal) }
+    ensures err { IfErr result (λ s. RunStops quiet (S.left source.old) (S.left source.new) (K.taken sink.old) (K.taken sink.new) (S.faults source.old) (S.faults source.new) (K.faults sink.old) (K.faults sink.new) bench.new.journal s) }
     ensures stop { ReadsInTime (S.left source.old) (S.left source.new) }
     ensures bound { ReadsAtMost most_read (S.left source.old) (S.left source.new) }
     ensures reads { S.faults source.old ≤ S.faults source.new }
@@ -96,7 +102,7 @@ fn run_script<S: Source, K: Sink>(
     let Ok(script) = read_script(alloc, source) else {
         return Err(Stop::Memory);
     };
-    obey_lines(alloc, script.text.as_slice(), script.ending, sink, bench)
+    obey_lines(alloc, quiet, &script, sink, bench)
 }
 
 /// Writes a fault line, as far as the sink takes it.

@@ -1,13 +1,11 @@
 //! Obeying the lines of a script.
 
 ghost use Rattle.std.specs.Prelude.{◌≡◌, ◌<◌, ◌≤◌, [], length, OnOk, IfOk, IfErr};
-ghost use Rattle.std.specs.Option.{option_copied};
-ghost use Rattle.nfc_bench.specs.Lines.{CutsLine};
-ghost use Rattle.nfc_bench.specs.Limits.{PassesLimits};
-ghost use Rattle.nfc_bench.specs.Stops.{IsLastText, LineDone, LineStops, TextDone, TextStops};
+ghost use Rattle.nfc_bench.specs.Stops.{IsLastText, ReadIs, LineDone, LineStops, TextDone, TextStops};
 
-use super::input::{Ending, LONGEST_LINE, MOST_LINES};
+use super::input::{Ending, Script};
 use crate::bench::{Bench, ObeyFault};
+use crate::command::Command;
 use crate::report::render;
 use crate::script::{LineFault, parse_line};
 use nfc_io::{Sink, write_all};
@@ -22,37 +20,26 @@ pub enum Stop {
     Memory,
 }
 
-/// The first line, and what stands behind its LF.
-fn cut_line(text: &[u8]) -> (&[u8], Option<&[u8]>)
-    ensures { CutsLine text.now result.0.now (option_copied result.1) }
-{
-    for (i, b) in text.iter().enumerate() {
-        if *b == b'\n' {
-            return (&text[..i], Some(&text[i + 1..]));
-        }
-    }
-    (text, None)
-}
-
 /// The text of the journal's last entry.
-fn last_text(alloc: Global, bench: &Bench) -> Result<Vec<u8>, AllocError>
+fn last_text(alloc: Global, bench: &Bench, quiet: bool) -> Result<Vec<u8>, AllocError>
     requires { 0 < length bench.now.journal }
-    ensures { IfOk result (λ text. IsLastText bench.now.journal text.items) }
+    ensures { IfOk result (λ text. IsLastText quiet bench.now.journal text.items) }
 {
     let entries = bench.journal();
-    render(alloc, &entries[entries.len() - 1], false)
+    render(alloc, &entries[entries.len() - 1], quiet)
 }
 
-/// Obeys one line, and writes its entry.
+/// Obeys one line, and writes its entry, if it asks for something.
 fn obey_line<K: Sink>(
     alloc: Global,
+    quiet: bool,
     line: u32,
     text: &[u8],
     sink: &mut K,
     bench: &mut Bench,
 ) -> Result<(), Stop>
-    ensures ok { OnOk result (LineDone bench.old.journal bench.new.journal line text.now (K.taken sink.old) (K.taken sink.new)) }
-    ensures err { IfErr result (λ s. LineStops bench.old.journal bench.new.journal line text.now (K.taken sink.old) (K.taken sink.new) (K.faults sink.old) (K.faults sink.new) s) }
+    ensures ok { OnOk result (LineDone quiet bench.old.journal bench.new.journal line text.now (K.taken sink.old) (K.taken sink.new)) }
+    ensures err { IfErr result (λ s. LineStops quiet bench.old.journal bench.new.journal line text.now (K.taken sink.old) (K.taken sink.new) (K.faults sink.old) (K.faults sink.new) s) }
     ensures count { K.faults sink.old ≤ K.faults sink.new }
 {
     let command = match parse_line(alloc, text) {
@@ -65,7 +52,10 @@ fn obey_line<K: Sink>(
         Err(ObeyFault::Refused) => return Err(Stop::Refused(line)),
         Err(ObeyFault::Memory) => return Err(Stop::Memory),
     }
-    let Ok(text) = last_text(alloc, bench) else {
+    if let Command::Skip = command {
+        return Ok(());
+    }
+    let Ok(text) = last_text(alloc, bench, quiet) else {
         return Err(Stop::Memory);
     };
     match write_all(sink, text.as_slice()) {
@@ -74,47 +64,35 @@ fn obey_line<K: Sink>(
     }
 }
 
-/// Obeys the lines of a text one by one. Behind a fault of the source, a last line without its LF isn't whole.
+/// Obeys the lines of a script one by one. Behind a fault of the source, a last line without its LF isn't whole.
 pub fn obey_lines<K: Sink>(
     alloc: Global,
-    text: &[u8],
-    ending: Ending,
+    quiet: bool,
+    script: &Script,
     sink: &mut K,
     bench: &mut Bench,
 ) -> Result<(), Stop>
     requires empty { bench.old.journal ≡ [] }
-    requires enough { ending ≡ Ending.Enough → PassesLimits text.now }
-    ensures ok { OnOk result (TextDone text.now ending bench.new.journal (K.taken sink.old) (K.taken sink.new)) }
-    ensures err { IfErr result (λ s. TextStops text.now ending bench.new.journal (K.taken sink.old) (K.taken sink.new) (K.faults sink.old) (K.faults sink.new) s) }
+    requires lines { ReadIs script.now.text.items script.now.lengths.items script.now.ending }
+    ensures ok { OnOk result (TextDone quiet script.now.text.items script.now.ending bench.new.journal (K.taken sink.old) (K.taken sink.new)) }
+    ensures err { IfErr result (λ s. TextStops quiet script.now.text.items script.now.ending bench.new.journal (K.taken sink.old) (K.taken sink.new) (K.faults sink.old) (K.faults sink.new) s) }
     ensures count { K.faults sink.old ≤ K.faults sink.new }
 {
-    let mut rest = text;
+    let mut rest = script.text.as_slice();
     let mut line: u32 = 1;
-    'lines: while !rest.is_empty() {
-        let (first, after) = cut_line(rest);
-        if line > MOST_LINES {
-            return Err(Stop::Refused(line));
-        }
-        if first.len() > LONGEST_LINE {
-            return Err(Stop::Refused(line));
-        }
-        let Some(left) = after else {
-            return match ending {
-                Ending::End => obey_line(alloc, line, first, sink, bench),
-                Ending::Fault => Err(Stop::ReadFault),
-                Ending::Enough => unreachable!(),
-            };
-        };
-        match obey_line(alloc, line, first, sink, bench) {
+    'lines: for length in script.lengths.as_slice() {
+        let (first, behind) = rest.split_at(*length);
+        match obey_line(alloc, quiet, line, first, sink, bench) {
             Ok(()) => {}
             Err(stop) => return Err(stop),
         }
-        rest = left;
+        rest = behind.split_at(1).1;
         line += 1;
     }
-    match ending {
-        Ending::End => Ok(()),
+    match script.ending {
+        Ending::End if rest.is_empty() => Ok(()),
+        Ending::End => obey_line(alloc, quiet, line, rest, sink, bench),
         Ending::Fault => Err(Stop::ReadFault),
-        Ending::Enough => unreachable!(),
+        Ending::Enough => Err(Stop::Refused(line)),
     }
 }

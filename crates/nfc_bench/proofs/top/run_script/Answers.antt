@@ -1,5 +1,4 @@
-use Rattle.std.proofs.Common.{ℕ, List, Option, subst}
-use Rattle.nfc_bench.specs.declared.top.lines.Stop.{Stop}
+use Rattle.std.proofs.Common.{ℕ, List, Bool, Option}
 use Rattle.nfc_bench.specs.Stops.{TextStops, RunStops}
 use Rattle.nfc_bench.proofs.Outcomes.{if_err}
 use Rattle.nfc_bench.proofs.ScriptText.{reads_at_most}
@@ -7,7 +6,7 @@ use Rattle.nfc_bench.proofs.Endings.{lost_at_once, run_stops}
 use Rattle.nfc_bench.proofs.top.run_script.Goals as goal
 
 pub returns-in_default-clause-err : goal.returns-in_default-clause-err
-returns-in_default-clause-err g c = lost_at_once (g.S.Source.left c.args.source.now) (g.K.Sink.taken c.args.sink.now) c.args.bench.now.journal c.requires
+returns-in_default-clause-err g c = lost_at_once c.args.quiet (g.S.Source.left c.args.source.now) (g.K.Sink.taken c.args.sink.now) c.args.bench.now.journal c.requires
 
 pub returns-in_default-clause-bound : goal.returns-in_default-clause-bound
 returns-in_default-clause-bound g c = reads_at_most (g.S.Source.left c.args.source.now) (g.S.Source.left c.read_script.new.source) c.read_script.ensures.stop
@@ -25,9 +24,9 @@ returns-clause-err g c =
     let r' : ℕ = g.S.Source.faults c.read_script.new.source in
     let w : ℕ = g.K.Sink.faults c.args.sink.now in
     let w' : ℕ = g.K.Sink.faults c.obey_lines.new.sink in
+    let q : Bool = c.args.quiet in
     let text : List ℕ = c.in-Ok.script.text.items in
     let j = c.obey_lines.new.bench.journal in
-    let T : List ℕ → Stop → Type 0 = λ x s. TextStops x c.in-Ok.script.ending j t t' w w' s in
-    if_err c.obey_lines.result (λ s. T c.as_slice.result.now s) (λ s. RunStops left left' t t' r r' w w' j s)
-    (λ s stops. run_stops left left' t t' text c.in-Ok.script.ending j r r' w w' s c.in-Ok.ensures.ok c.in-Ok.ensures.cause (let P : List ℕ → Type 0 = λ x. T x s in subst P c.as_slice.ensures.value stops))
+    if_err c.obey_lines.result (λ s. TextStops q text c.in-Ok.script.ending j t t' w w' s) (λ s. RunStops q left left' t t' r r' w w' j s)
+    (λ s stops. run_stops q left left' t t' text c.in-Ok.script.ending j r r' w w' s c.in-Ok.ensures.ok c.in-Ok.ensures.cause stops)
     c.obey_lines.ensures.err

@@ -8,7 +8,7 @@ abbrev pub invariant-reading : goal.invariant-reading
 invariant-reading g l = record {
   read : g.S.Source.left l.fn.source ≡ with_front l.text.items (g.S.Source.left l.source);
   size : length l.buf ≡ chunk_size;
-  place : EndsAt l.text.items l.place.lines l.place.bytes;
+  place : EndsAt l.text.items l.lengths.items l.begun;
   count : g.S.Source.faults l.fn.source ≤ g.S.Source.faults l.source;
 }
 

@@ -1,135 +1,138 @@
-use Rattle.std.proofs.Common.{◌≡◌, ℕ, ◌<◌, List, [], length, Option, Some, None, arith, inl, inr, ap, subst}
+use Rattle.std.proofs.Common.{◌≡◌, ◌≤◌, ◌<◌, ◌+◌, ℕ, suc, List, length, take, drop, get_or, Option, refl, sym, ◌∙◌, ap, subst, arith, inl, inr}
 use Rattle.std.proofs.lemmas.Grind.{common_steps}
-use Rattle.std.proofs.lemmas.List.{nil_from_length}
-use Rattle.std.specs.Option.{option_copied}
-use Rattle.nfc_bench.specs.Lines.{CutsLine}
-use Rattle.nfc_bench.specs.Stops.{LineDone, LineStops, TextDone, TextStops}
+use Rattle.nfc_bench.specs.Limits.{most_lines}
+use Rattle.nfc_bench.specs.Stops.{AreLeft, IsUnfinished, Progress, LineDone, LineStops, TextDone, TextStops}
 use Rattle.nfc_bench.proofs.Outcomes.{on_ok, if_err}
-use Rattle.nfc_bench.proofs.Progress.{refused_by_size, line_stops, is_next_by_lf, is_next_by_end, done_at_end, done_at_last, reading_stops, whole_at_last, not_enough_end, not_enough_last, progress_more}
+use Rattle.nfc_bench.proofs.Progress.{FirstCut, cut_at, rest_at, left_start, progress_start, progress_more, line_stops, is_next_by_lf, is_next_by_end, done_at_last, reading_stops, refused_by_size, unfinished_at, too_much_at, room_for, few_left}
 use Rattle.nfc_bench.proofs.top.lines.obey_lines.Goals as goal
 
-pub returns-then-line-gt-MOST_LINES-clause-err : goal.returns-then-line-gt-MOST_LINES-clause-err
-returns-then-line-gt-MOST_LINES-clause-err g c =
-    let text : List ℕ = c.args.text.now in
-    let rest : List ℕ = c.lines.rest.now in
-    let t : Option (List ℕ) = g.K.Sink.taken c.args.sink.now in
-    let t1 : Option (List ℕ) = g.K.Sink.taken c.lines.sink in
-    let first : List ℕ = c.cut_line.result.0.now in
-    let some : 0 < length rest = grind (arith, common_steps) in
-    refused_by_size text rest first (option_copied c.cut_line.result.1) c.args.ending c.lines.bench.journal c.lines.line t t1 c.lines.invariant.progress c.cut_line.ensures some (inl c.if-line-gt-MOST_LINES.true)
+pub lines-init : goal.lines-init
+lines-init g c =
+    let P : List ℕ → Type 0 = λ r. Progress c.args.quiet c.args.script.now.text.items r c.args.bench.now.journal 1 (g.K.Sink.taken c.args.sink.now) (g.K.Sink.taken c.args.sink.now) in
+    let L : List ℕ → Type 0 = λ r. AreLeft c.args.script.now.ending 0 r c.args.script.now.lengths.items in
+    record {
+      progress = subst P (sym c.as_slice-rest.ensures.value) (progress_start c.args.quiet c.args.script.now.text.items c.args.bench.now.journal (g.K.Sink.taken c.args.sink.now) c.requires.empty);
+      left = subst L (sym c.as_slice-rest.ensures.value) (left_start c.args.script.now.text.items c.args.script.now.lengths.items c.args.script.now.ending c.requires.lines);
+      number = refl;
+      count = omega arith;
+    }
 
-pub returns-then-first-gt-LONGEST_LINE-clause-err : goal.returns-then-first-gt-LONGEST_LINE-clause-err
-returns-then-first-gt-LONGEST_LINE-clause-err g c =
-    let text : List ℕ = c.args.text.now in
-    let rest : List ℕ = c.lines.rest.now in
-    let t : Option (List ℕ) = g.K.Sink.taken c.args.sink.now in
-    let t1 : Option (List ℕ) = g.K.Sink.taken c.lines.sink in
-    let first : List ℕ = c.cut_line.result.0.now in
-    let some : 0 < length rest = grind (arith, common_steps) in
-    refused_by_size text rest first (option_copied c.cut_line.result.1) c.args.ending c.lines.bench.journal c.lines.line t t1 c.lines.invariant.progress c.cut_line.ensures some (inr c.if-first-gt-LONGEST_LINE.true)
-
-pub unreachable-requires : goal.unreachable-requires
-unreachable-requires g c =
-    let text : List ℕ = c.args.text.now in
-    let rest : List ℕ = c.lines.rest.now in
-    let t : Option (List ℕ) = g.K.Sink.taken c.args.sink.now in
-    let t1 : Option (List ℕ) = g.K.Sink.taken c.lines.sink in
-    let first : List ℕ = c.cut_line.result.0.now in
-    let some : 0 < length rest = grind (arith, common_steps) in
-    let O : Option (List ℕ) → Type 0 = λ o. CutsLine rest first o in
-    let cut : O None = subst O (ap option_copied c.in_default.is) c.cut_line.ensures in
-    not_enough_last text rest first c.lines.bench.journal c.lines.line t t1 c.lines.invariant.progress cut some c.if-first-gt-LONGEST_LINE.false c.if-line-gt-MOST_LINES.false (c.requires.enough c.in-Enough.is)
-
-pub returns-in-End-clause-ok : goal.returns-in-End-clause-ok
-returns-in-End-clause-ok g c =
-    let text : List ℕ = c.args.text.now in
-    let rest : List ℕ = c.lines.rest.now in
-    let t : Option (List ℕ) = g.K.Sink.taken c.args.sink.now in
-    let t1 : Option (List ℕ) = g.K.Sink.taken c.lines.sink in
-    let first : List ℕ = c.cut_line.result.0.now in
-    let some : 0 < length rest = grind (arith, common_steps) in
-    let O : Option (List ℕ) → Type 0 = λ o. CutsLine rest first o in
-    let cut : O None = subst O (ap option_copied c.in_default.is) c.cut_line.ensures in
-    let t2 : Option (List ℕ) = g.K.Sink.taken c.obey_line.new.sink in
-    on_ok c.obey_line.result
-    (LineDone c.lines.bench.journal c.obey_line.new.bench.journal c.lines.line first t1 t2)
-    (TextDone text c.args.ending c.obey_line.new.bench.journal t t2)
-    (λ line. done_at_last text rest first c.args.ending c.lines.bench.journal c.obey_line.new.bench.journal c.lines.line t t1 t2 c.lines.invariant.progress cut some c.if-first-gt-LONGEST_LINE.false c.if-line-gt-MOST_LINES.false c.in-End.is line)
-    c.obey_line.ensures.ok
-
-pub returns-in-End-clause-err : goal.returns-in-End-clause-err
-returns-in-End-clause-err g c =
-    let text : List ℕ = c.args.text.now in
-    let rest : List ℕ = c.lines.rest.now in
-    let t : Option (List ℕ) = g.K.Sink.taken c.args.sink.now in
-    let t1 : Option (List ℕ) = g.K.Sink.taken c.lines.sink in
-    let first : List ℕ = c.cut_line.result.0.now in
-    let some : 0 < length rest = grind (arith, common_steps) in
-    let O : Option (List ℕ) → Type 0 = λ o. CutsLine rest first o in
-    let cut : O None = subst O (ap option_copied c.in_default.is) c.cut_line.ensures in
-    let t2 : Option (List ℕ) = g.K.Sink.taken c.obey_line.new.sink in
-    if_err c.obey_line.result
-    (λ s. LineStops c.lines.bench.journal c.obey_line.new.bench.journal c.lines.line first t1 t2 (g.K.Sink.faults c.lines.sink) (g.K.Sink.faults c.obey_line.new.sink) s)
-    (λ s. TextStops text c.args.ending c.obey_line.new.bench.journal t t2 (g.K.Sink.faults c.args.sink.now) (g.K.Sink.faults c.obey_line.new.sink) s)
-    (λ s. line_stops text rest first c.args.ending c.lines.bench.journal c.obey_line.new.bench.journal c.lines.line t t1 t2 (g.K.Sink.faults c.args.sink.now) (g.K.Sink.faults c.lines.sink) (g.K.Sink.faults c.obey_line.new.sink) s c.lines.invariant.progress (is_next_by_end rest first c.args.ending cut some c.in-End.is) c.if-first-gt-LONGEST_LINE.false c.if-line-gt-MOST_LINES.false c.lines.invariant.count)
-    c.obey_line.ensures.err
-
-pub returns-in-Fault-clause-err : goal.returns-in-Fault-clause-err
-returns-in-Fault-clause-err g c =
-    let text : List ℕ = c.args.text.now in
-    let rest : List ℕ = c.lines.rest.now in
-    let t : Option (List ℕ) = g.K.Sink.taken c.args.sink.now in
-    let t1 : Option (List ℕ) = g.K.Sink.taken c.lines.sink in
-    let first : List ℕ = c.cut_line.result.0.now in
-    let some : 0 < length rest = grind (arith, common_steps) in
-    let O : Option (List ℕ) → Type 0 = λ o. CutsLine rest first o in
-    let cut : O None = subst O (ap option_copied c.in_default.is) c.cut_line.ensures in
-    reading_stops text rest c.args.ending c.lines.bench.journal c.lines.line t t1 c.lines.invariant.progress (whole_at_last rest first cut) c.in-Fault.is
+pub split_at-requires : goal.split_at-requires
+split_at-requires g c =
+    let lengths : List ℕ = c.args.script.now.lengths.items in
+    let value : c.as_slice-length-items.result.now ≡ lengths = c.as_slice-length-items.ensures.value in
+    let within : suc c.lines.length-index ≤ length lengths = omega (arith, ap length value) in
+    let B : List ℕ → Type 0 = λ ns. get_or ns c.lines.length-index 0 ≤ length c.lines.rest.now in
+    subst B (sym value) (cut_at c.args.script.now.ending c.lines.length-index c.lines.rest.now lengths within c.lines.invariant.left).0
 
 pub returns-in-Err-clause-err : goal.returns-in-Err-clause-err
 returns-in-Err-clause-err g c =
-    let text : List ℕ = c.args.text.now in
+    let lengths : List ℕ = c.args.script.now.lengths.items in
     let rest : List ℕ = c.lines.rest.now in
+    let k : ℕ = c.lines.length-index in
+    let value : c.as_slice-length-items.result.now ≡ lengths = c.as_slice-length-items.ensures.value in
+    let within : suc k ≤ length lengths = omega (arith, ap length value) in
+    let cut : FirstCut c.args.script.now.ending k rest (take (get_or lengths k 0) rest) (drop (get_or lengths k 0) rest) (drop (suc k) lengths) = (cut_at c.args.script.now.ending k rest lengths within c.lines.invariant.left).1 in
+    let F : List ℕ → Type 0 = λ f. FirstCut c.args.script.now.ending k rest f (drop (get_or lengths k 0) rest) (drop (suc k) lengths) in
+    let front : c.split_at.result.0.now ≡ take (get_or lengths k 0) rest = c.split_at.ensures.front ∙ ap (λ ns. take (get_or ns k 0) rest) value in
+    let first : F c.split_at.result.0.now = subst F (sym front) cut in
     let t : Option (List ℕ) = g.K.Sink.taken c.args.sink.now in
     let t1 : Option (List ℕ) = g.K.Sink.taken c.lines.sink in
-    let first : List ℕ = c.cut_line.result.0.now in
-    let some : 0 < length rest = grind (arith, common_steps) in
-    let O : Option (List ℕ) → Type 0 = λ o. CutsLine rest first o in
-    let cut : O (Some c.in-Some.left.now) = subst O (ap option_copied c.in-Some.is) c.cut_line.ensures in
-    let t2 : Option (List ℕ) = g.K.Sink.taken c.obey_line-in-lines.new.sink in
-    line_stops text rest first c.args.ending c.lines.bench.journal c.obey_line-in-lines.new.bench.journal c.lines.line t t1 t2 (g.K.Sink.faults c.args.sink.now) (g.K.Sink.faults c.lines.sink) (g.K.Sink.faults c.obey_line-in-lines.new.sink) c.in-Err.stop c.lines.invariant.progress (is_next_by_lf rest first c.in-Some.left.now c.args.ending cut) c.if-first-gt-LONGEST_LINE.false c.if-line-gt-MOST_LINES.false c.lines.invariant.count c.in-Err.ensures.err
+    let t2 : Option (List ℕ) = g.K.Sink.taken c.obey_line.new.sink in
+    let number : c.lines.line ≡ suc k = omega (arith, c.lines.invariant.number) in
+    line_stops c.args.quiet c.args.script.now.text.items rest c.split_at.result.0.now c.args.script.now.ending c.lines.bench.journal c.obey_line.new.bench.journal c.lines.line t t1 t2
+    (g.K.Sink.faults c.args.sink.now) (g.K.Sink.faults c.lines.sink) (g.K.Sink.faults c.obey_line.new.sink) c.in-Err.stop
+    c.lines.invariant.progress (is_next_by_lf rest c.split_at.result.0.now (drop 1 (drop (get_or lengths k 0) rest)) c.args.script.now.ending first.cut) first.short (omega (arith, first.room)) c.lines.invariant.count c.in-Err.ensures.err
+
+pub split_at-requires-in-lines : goal.split_at-requires-in-lines
+split_at-requires-in-lines g c =
+    let lengths : List ℕ = c.args.script.now.lengths.items in
+    let rest : List ℕ = c.lines.rest.now in
+    let k : ℕ = c.lines.length-index in
+    let value : c.as_slice-length-items.result.now ≡ lengths = c.as_slice-length-items.ensures.value in
+    let within : suc k ≤ length lengths = omega (arith, ap length value) in
+    let cut : FirstCut c.args.script.now.ending k rest (take (get_or lengths k 0) rest) (drop (get_or lengths k 0) rest) (drop (suc k) lengths) = (cut_at c.args.script.now.ending k rest lengths within c.lines.invariant.left).1 in
+    let back : c.split_at.result.1.now ≡ drop (get_or lengths k 0) rest = c.split_at.ensures.back ∙ ap (λ ns. drop (get_or ns k 0) rest) value in
+    omega (arith, cut.some, ap length back)
 
 pub lines-preserved : goal.lines-preserved
 lines-preserved g c =
-    let text : List ℕ = c.args.text.now in
+    let lengths : List ℕ = c.args.script.now.lengths.items in
     let rest : List ℕ = c.lines.rest.now in
+    let k : ℕ = c.lines.length-index in
+    let value : c.as_slice-length-items.result.now ≡ lengths = c.as_slice-length-items.ensures.value in
+    let within : suc k ≤ length lengths = omega (arith, ap length value) in
+    let cut : FirstCut c.args.script.now.ending k rest (take (get_or lengths k 0) rest) (drop (get_or lengths k 0) rest) (drop (suc k) lengths) = (cut_at c.args.script.now.ending k rest lengths within c.lines.invariant.left).1 in
+    let front : c.split_at.result.0.now ≡ take (get_or lengths k 0) rest = c.split_at.ensures.front ∙ ap (λ ns. take (get_or ns k 0) rest) value in
+    let back : c.split_at.result.1.now ≡ drop (get_or lengths k 0) rest = c.split_at.ensures.back ∙ ap (λ ns. drop (get_or ns k 0) rest) value in
+    let left : c.split_at-in-lines.result.1.now ≡ drop 1 (drop (get_or lengths k 0) rest) = c.split_at-in-lines.ensures.back ∙ ap (drop 1) back in
     let t : Option (List ℕ) = g.K.Sink.taken c.args.sink.now in
     let t1 : Option (List ℕ) = g.K.Sink.taken c.lines.sink in
-    let first : List ℕ = c.cut_line.result.0.now in
-    let some : 0 < length rest = grind (arith, common_steps) in
-    let O : Option (List ℕ) → Type 0 = λ o. CutsLine rest first o in
-    let cut : O (Some c.in-Some.left.now) = subst O (ap option_copied c.in-Some.is) c.cut_line.ensures in
-    let t2 : Option (List ℕ) = g.K.Sink.taken c.obey_line-in-lines.new.sink in
+    let t2 : Option (List ℕ) = g.K.Sink.taken c.obey_line.new.sink in
+    let F : List ℕ → Type 0 = λ f. FirstCut c.args.script.now.ending k rest f (drop (get_or lengths k 0) rest) (drop (suc k) lengths) in
+    let first : F c.split_at.result.0.now = subst F (sym front) cut in
+    let P : List ℕ → Type 0 = λ r. Progress c.args.quiet c.args.script.now.text.items r c.obey_line.new.bench.journal (c.lines.line + 1) t t2 in
+    let L : List ℕ → Type 0 = λ r. AreLeft c.args.script.now.ending (k + 1) r (drop (k + 1) lengths) in
+    let D : ℕ → Type 0 = λ n. AreLeft c.args.script.now.ending (k + 1) (drop 1 (drop (get_or lengths k 0) rest)) (drop n lengths) in
     record {
-      progress = progress_more text rest first c.in-Some.left.now c.lines.bench.journal c.obey_line-in-lines.new.bench.journal c.lines.line t t1 t2 c.lines.invariant.progress cut c.if-first-gt-LONGEST_LINE.false c.if-line-gt-MOST_LINES.false c.in-Ok.ensures.ok;
-      count = omega (arith, c.lines.invariant.count, c.obey_line-in-lines.ensures.count);
-      few = omega (arith, c.if-line-gt-MOST_LINES.false);
+      progress = subst P (sym left) (progress_more c.args.quiet c.args.script.now.text.items rest c.split_at.result.0.now (drop 1 (drop (get_or lengths k 0) rest)) c.lines.bench.journal c.obey_line.new.bench.journal c.lines.line t t1 t2
+          c.lines.invariant.progress first.cut first.short (omega (arith, first.room, c.lines.invariant.number)) c.in-Ok.ensures.ok);
+      left = subst L (sym left) (subst D (let e : suc k ≡ k + 1 = omega arith in e) cut.left);
+      number = omega (arith, c.lines.invariant.number);
+      count = omega (arith, c.lines.invariant.count, c.obey_line.ensures.count);
     }
 
-pub unreachable-requires-in-Enough-ending : goal.unreachable-requires-in-Enough-ending
-unreachable-requires-in-Enough-ending g c =
-    let text : List ℕ = c.args.text.now in
+pub returns-in-End-2-clause-ok : goal.returns-in-End-2-clause-ok
+returns-in-End-2-clause-ok g c =
     let rest : List ℕ = c.lines.rest.now in
+    let k : ℕ = c.lines.length-index in
+    let lengths : List ℕ = c.args.script.now.lengths.items in
+    let end : length lengths ≤ k = omega (arith, ap length c.as_slice-length-items.ensures.value) in
+    let left : IsUnfinished k rest = unfinished_at c.args.script.now.ending k rest (rest_at c.args.script.now.ending k rest lengths end c.lines.invariant.left) (inl c.in-End-2.is) in
+    let some : 0 < length rest = grind (arith, common_steps) in
+    let room : k < most_lines = room_for k rest left some (few_left c.args.script.now.ending k rest (drop k lengths) c.lines.invariant.left) in
     let t : Option (List ℕ) = g.K.Sink.taken c.args.sink.now in
     let t1 : Option (List ℕ) = g.K.Sink.taken c.lines.sink in
-    let none : rest ≡ [] = nil_from_length rest (grind (arith, common_steps)) in
-    not_enough_end text rest c.lines.bench.journal c.lines.line t t1 c.lines.invariant.progress none (c.requires.enough c.in-Enough-ending.is)
+    let t2 : Option (List ℕ) = g.K.Sink.taken c.obey_line-in-End-2.new.sink in
+    on_ok c.obey_line-in-End-2.result
+    (LineDone c.args.quiet c.lines.bench.journal c.obey_line-in-End-2.new.bench.journal c.lines.line rest t1 t2)
+    (TextDone c.args.quiet c.args.script.now.text.items c.args.script.now.ending c.obey_line-in-End-2.new.bench.journal t t2)
+    (λ line. done_at_last c.args.quiet c.args.script.now.text.items rest c.args.script.now.ending c.lines.bench.journal c.obey_line-in-End-2.new.bench.journal c.lines.line t t1 t2 c.lines.invariant.progress left.none some left.fits (omega (arith, room, c.lines.invariant.number)) c.in-End-2.is line)
+    c.obey_line-in-End-2.ensures.ok
 
-pub returns-in-End-ending-clause-ok : goal.returns-in-End-ending-clause-ok
-returns-in-End-ending-clause-ok g c =
-    let text : List ℕ = c.args.text.now in
+pub returns-in-End-2-clause-err : goal.returns-in-End-2-clause-err
+returns-in-End-2-clause-err g c =
     let rest : List ℕ = c.lines.rest.now in
+    let k : ℕ = c.lines.length-index in
+    let lengths : List ℕ = c.args.script.now.lengths.items in
+    let end : length lengths ≤ k = omega (arith, ap length c.as_slice-length-items.ensures.value) in
+    let left : IsUnfinished k rest = unfinished_at c.args.script.now.ending k rest (rest_at c.args.script.now.ending k rest lengths end c.lines.invariant.left) (inl c.in-End-2.is) in
+    let some : 0 < length rest = grind (arith, common_steps) in
+    let room : k < most_lines = room_for k rest left some (few_left c.args.script.now.ending k rest (drop k lengths) c.lines.invariant.left) in
     let t : Option (List ℕ) = g.K.Sink.taken c.args.sink.now in
     let t1 : Option (List ℕ) = g.K.Sink.taken c.lines.sink in
-    let none : rest ≡ [] = nil_from_length rest (grind (arith, common_steps)) in
-    done_at_end text rest c.args.ending c.lines.bench.journal c.lines.line t t1 c.lines.invariant.progress none c.in-End-ending.is
+    let t2 : Option (List ℕ) = g.K.Sink.taken c.obey_line-in-End-2.new.sink in
+    if_err c.obey_line-in-End-2.result
+    (λ s. LineStops c.args.quiet c.lines.bench.journal c.obey_line-in-End-2.new.bench.journal c.lines.line rest t1 t2 (g.K.Sink.faults c.lines.sink) (g.K.Sink.faults c.obey_line-in-End-2.new.sink) s)
+    (λ s. TextStops c.args.quiet c.args.script.now.text.items c.args.script.now.ending c.obey_line-in-End-2.new.bench.journal t t2 (g.K.Sink.faults c.args.sink.now) (g.K.Sink.faults c.obey_line-in-End-2.new.sink) s)
+    (λ s stops. line_stops c.args.quiet c.args.script.now.text.items rest rest c.args.script.now.ending c.lines.bench.journal c.obey_line-in-End-2.new.bench.journal c.lines.line t t1 t2
+    (g.K.Sink.faults c.args.sink.now) (g.K.Sink.faults c.lines.sink) (g.K.Sink.faults c.obey_line-in-End-2.new.sink) s c.lines.invariant.progress (is_next_by_end rest c.args.script.now.ending left.none some c.in-End-2.is) left.fits (omega (arith, room, c.lines.invariant.number)) c.lines.invariant.count stops)
+    c.obey_line-in-End-2.ensures.err
+
+pub returns-in-Fault-clause-err : goal.returns-in-Fault-clause-err
+returns-in-Fault-clause-err g c =
+    let rest : List ℕ = c.lines.rest.now in
+    let k : ℕ = c.lines.length-index in
+    let lengths : List ℕ = c.args.script.now.lengths.items in
+    let end : length lengths ≤ k = omega (arith, ap length c.as_slice-length-items.ensures.value) in
+    let left : IsUnfinished k rest = unfinished_at c.args.script.now.ending k rest (rest_at c.args.script.now.ending k rest lengths end c.lines.invariant.left) (inr c.in-Fault.is) in
+    reading_stops c.args.quiet c.args.script.now.text.items rest c.args.script.now.ending c.lines.bench.journal c.lines.line (g.K.Sink.taken c.args.sink.now) (g.K.Sink.taken c.lines.sink) c.lines.invariant.progress left.none c.in-Fault.is
+
+pub returns-in-Enough-clause-err : goal.returns-in-Enough-clause-err
+returns-in-Enough-clause-err g c =
+    let rest : List ℕ = c.lines.rest.now in
+    let k : ℕ = c.lines.length-index in
+    let lengths : List ℕ = c.args.script.now.lengths.items in
+    let end : length lengths ≤ k = omega (arith, ap length c.as_slice-length-items.ensures.value) in
+    let much = too_much_at c.args.script.now.ending k rest (rest_at c.args.script.now.ending k rest lengths end c.lines.invariant.left) c.in-Enough.is in
+    refused_by_size c.args.quiet c.args.script.now.text.items rest c.args.script.now.ending c.lines.bench.journal c.lines.line (g.K.Sink.taken c.args.sink.now) (g.K.Sink.taken c.lines.sink) k c.lines.invariant.progress c.lines.invariant.number much

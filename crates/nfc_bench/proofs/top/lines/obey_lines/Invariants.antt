@@ -1,14 +1,11 @@
-use Rattle.std.proofs.Common.{◌≤◌, ◌+◌, length}
-use Rattle.nfc_bench.specs.Limits.{most_lines}
-use Rattle.nfc_bench.specs.Stops.{Progress}
+use Rattle.std.proofs.Common.{◌≡◌, ◌≤◌, ◌+◌, drop}
+use Rattle.nfc_bench.specs.Stops.{Progress, AreLeft}
 use Rattle.nfc_bench.proofs.top.lines.obey_lines.Given as goal
 
 abbrev pub invariant-lines : goal.invariant-lines
 invariant-lines g l = record {
-  progress : Progress l.fn.text l.rest l.bench.journal l.line (g.K.Sink.taken l.fn.sink) (g.K.Sink.taken l.sink);
+  progress : Progress l.fn.quiet l.fn.script.text.items l.rest l.bench.journal l.line (g.K.Sink.taken l.fn.sink) (g.K.Sink.taken l.sink);
+  left : AreLeft l.fn.script.ending l.length-index l.rest (drop l.length-index l.fn.script.lengths.items);
+  number : l.line ≡ 1 + l.length-index;
   count : g.K.Sink.faults l.fn.sink ≤ g.K.Sink.faults l.sink;
-  few : l.line ≤ most_lines + 1;
 }
-
-abbrev pub decreases-lines : goal.decreases-lines
-decreases-lines g l = length l.rest
