@@ -1,7 +1,7 @@
 //! Whole runs, over a source and a sink in memory.
 
 use super::*;
-use nfc_io::{MemSink, MemSource};
+use nfc_io::{Failed, MemSink, MemSource};
 use std::alloc::AllocError;
 use std::test::Fail;
 
@@ -44,7 +44,7 @@ fn outcome(
         list.push(String::from_str(alloc, word)?)?;
     }
     let mut source = MemSource::new(script, vec![in alloc; failing_read]?);
-    let mut sink = MemSink::new(alloc, 1000, vec![in alloc; failing_write]?)?;
+    let mut sink = MemSink::new(alloc, 1 << 19, vec![in alloc; failing_write]?)?;
     let mut bench = Bench::new(alloc);
     let status = run_bench(alloc, &list, &mut source, &mut sink, &mut bench);
     let left = source.read(&mut [0; 8])?;
@@ -76,9 +76,54 @@ fn runs(rt: HostRuntime) -> Result<(), Fail> {
             [REPORT, ""],
         ),
         (
+            "answers alone",
+            "run quiet",
+            [PLACE, "read 01020304"],
+            0,
+            0,
+            0,
+            ["1 ok\n", "2 message D00000 writable\n"],
+        ),
+        (
+            "lines that ask for nothing count",
+            "run quiet",
+            ["\n# a comment, then the tag \r\t\u{7f}\u{e9}\n", PLACE],
+            0,
+            0,
+            0,
+            ["3 ok\n", ""],
+        ),
+        (
+            "a comment may be the last line",
+            "run",
+            [PLACE, "read 01020304\n# read 01020304"],
+            0,
+            0,
+            0,
+            [REPORT, ""],
+        ),
+        (
+            "a refused line behind a comment",
+            "run quiet",
+            [PLACE, "#\n\nfly"],
+            0,
+            0,
+            2,
+            ["1 ok\n", "fault 2 line 4\n"],
+        ),
+        (
+            "a space before # is no comment",
+            "run quiet",
+            [" #\n", PLACE],
+            0,
+            0,
+            2,
+            ["fault 2 line 1\n", ""],
+        ),
+        (
             "a third line is refused",
             "run",
-            [PLACE, "read 01020304\n#"],
+            [PLACE, "read 01020304\nfly"],
             0,
             0,
             2,
@@ -114,7 +159,7 @@ fn runs(rt: HostRuntime) -> Result<(), Fail> {
         (
             "a fault line that can't be written changes no status",
             "run",
-            ["\n", ""],
+            ["fly\n", ""],
             0,
             1,
             2,
@@ -123,6 +168,33 @@ fn runs(rt: HostRuntime) -> Result<(), Fail> {
         (
             "words that are no run read nothing",
             "run loud",
+            [PLACE, ""],
+            0,
+            0,
+            6,
+            ["fault 6 words\n", ""],
+        ),
+        (
+            "words behind quiet",
+            "run quiet quiet",
+            [PLACE, ""],
+            0,
+            0,
+            6,
+            ["fault 6 words\n", ""],
+        ),
+        (
+            "quiet alone",
+            "quiet",
+            [PLACE, ""],
+            0,
+            0,
+            6,
+            ["fault 6 words\n", ""],
+        ),
+        (
+            "quiet before run",
+            "quiet run",
             [PLACE, ""],
             0,
             0,
@@ -146,13 +218,156 @@ fn runs(rt: HostRuntime) -> Result<(), Fail> {
     Ok(())
 }
 
+/// So many times the same text, and another one behind it.
+fn repeated(alloc: Global, text: &str, times: u32, last: &str) -> Result<Vec<u8>, AllocError> {
+    let mut script = Vec::new(alloc);
+    for _ in 0..times {
+        script.extend_from_slice(text.as_bytes())?;
+    }
+    script.extend_from_slice(last.as_bytes())?;
+    Ok(script)
+}
+
 #[test]
-fn a_line_of_4097_bytes_is_refused(rt: HostRuntime) -> Result<(), Fail> {
+fn numbers_of_lines(rt: HostRuntime) -> Result<(), Fail> {
     let alloc = rt.alloc();
-    let script = vec![in alloc; b'x'; 4097]?;
-    let (status, written, left) = outcome(alloc, "run", script, 0, 0)?;
-    assert_eq!(rt; status, 2);
-    assert_eq!(rt; str::from_utf8(&written)?, "fault 2 line 1\n");
-    assert_eq!(rt; left, 0);
+    let rows = [
+        ("a thousand lines", "#\n", 1000, "", 0, ""),
+        ("without the last LF", "#\n", 999, "#", 0, ""),
+        ("a thousand empty lines", "\n", 1000, "", 0, ""),
+        ("one more", "#\n", 1000, "#", 2, "fault 2 line 1001\n"),
+        (
+            "one more that is empty",
+            "\n",
+            1001,
+            "",
+            2,
+            "fault 2 line 1001\n",
+        ),
+        (
+            "a refused line counts first",
+            "#\n",
+            999,
+            "fly\n#",
+            2,
+            "fault 2 line 1000\n",
+        ),
+    ];
+    for (shows, text, times, last, wanted, report) in rows {
+        let script = repeated(alloc, text, times, last)?;
+        let (status, written, _) = outcome(alloc, "run", script, 0, 0)?;
+        assert_eq!(rt; status, wanted, "{shows}");
+        assert_eq!(rt; str::from_utf8(&written)?, report, "{shows}");
+    }
+    Ok(())
+}
+
+#[test]
+fn lengths_of_lines(rt: HostRuntime) -> Result<(), Fail> {
+    let alloc = rt.alloc();
+    let rows = [
+        ("4,096 bytes", "#", 4096, "", 0, "", 0),
+        ("with an LF", "#", 4096, "\n", 0, "", 0),
+        ("4,097 bytes", "#", 4097, "", 2, "fault 2 line 1\n", 0),
+        (
+            "4,097 bytes and an LF",
+            "#",
+            4097,
+            "\n",
+            2,
+            "fault 2 line 1\n",
+            0,
+        ),
+        (
+            "no more is read than that line",
+            "#",
+            20_000,
+            "",
+            2,
+            "fault 2 line 1\n",
+            8,
+        ),
+    ];
+    for (shows, text, times, last, wanted, report, rest) in rows {
+        let script = repeated(alloc, text, times, last)?;
+        let (status, written, left) = outcome(alloc, "run", script, 0, 0)?;
+        assert_eq!(rt; status, wanted, "{shows}");
+        assert_eq!(rt; str::from_utf8(&written)?, report, "{shows}");
+        assert_eq!(rt; left, rest, "{shows}");
+    }
+    Ok(())
+}
+
+#[test]
+fn a_thousand_lines_are_obeyed(rt: HostRuntime) -> Result<(), Fail> {
+    let alloc = rt.alloc();
+    let mut script = repeated(alloc, PLACE, 1, "")?;
+    script.extend_from_slice(repeated(alloc, "read 01020304\n", 999, "")?.as_slice())?;
+    let (status, written, _) = outcome(alloc, "run", script, 0, 0)?;
+    assert_eq!(rt; status, 0);
+    let lines = written.as_slice().split(|b| *b == b'\n').count();
+    assert_eq!(rt; lines, 1 + 999 * 12 + 1);
+    Ok(())
+}
+
+/// A source that gives at most so many bytes a call. It tells nothing of them.
+#[derive(Drop)]
+struct Sips {
+    inner: MemSource,
+    most: usize,
+}
+
+impl Source for Sips {
+    ghost use Rattle.std.specs.Prelude.{None};
+
+    ghost left = { λ _. None };
+
+    ghost faults = { λ s. s.inner.plan.faults };
+
+    fn read(&mut self, buf: &mut [u8]) -> Result<usize, Failed> {
+        let size = buf.len().min(self.most);
+        self.inner.read(&mut buf[..size])
+    }
+}
+
+#[test]
+fn reads_of_a_few_bytes(rt: HostRuntime) -> Result<(), Fail> {
+    let alloc = rt.alloc();
+    for most in [1, 7, 4096] {
+        let words = vec![in alloc; String::from_str(alloc, "run")?]?;
+        let script = joined(alloc, [PLACE, "#\nread 01020304\nfly"])?;
+        let inner = MemSource::new(script, Vec::new(alloc));
+        let mut source = Sips { inner, most };
+        let mut sink = MemSink::new(alloc, 1000, Vec::new(alloc))?;
+        let mut bench = Bench::new(alloc);
+        let status = run_bench(alloc, &words, &mut source, &mut sink, &mut bench);
+        assert_eq!(rt; status, 2, "{most}");
+        assert_eq!(rt; bench.journal().len(), 2, "{most}");
+        assert!(rt;
+            sink.content()
+                .ends_with(b"3 message D00000 writable\nfault 2 line 4\n"),
+            "{most}"
+        );
+    }
+    Ok(())
+}
+
+/// Each entry is written before the next line is obeyed.
+#[test]
+fn a_sink_that_fails_at_a_call(rt: HostRuntime) -> Result<(), Fail> {
+    let alloc = rt.alloc();
+    for call in 1..5 {
+        let words = vec![in alloc; String::from_str(alloc, "run")?]?;
+        let script = joined(
+            alloc,
+            [PLACE, "read 01020304\nread 01020304\nread 01020304"],
+        )?;
+        let mut source = MemSource::new(script, Vec::new(alloc));
+        let mut sink = MemSink::new(alloc, 4000, vec![in alloc; call]?)?;
+        let mut bench = Bench::new(alloc);
+        let status = run_bench(alloc, &words, &mut source, &mut sink, &mut bench);
+        assert_eq!(rt; status, 4, "{call}");
+        assert_eq!(rt; bench.journal().len(), call as usize, "{call}");
+    }
     Ok(())
 }
