@@ -2,7 +2,7 @@
 
 ghost use Rattle.std.specs.Prelude.{◌≡◌, ◌↔◌, Some, IsNone};
 ghost use Rattle.t5t_tag.specs.Spelling.{answer_frame, IsT5Answer, T5AnswerSpelling};
-ghost use Rattle.t5t_tag.specs.Reading.{read_content, read_told, spelled_answer};
+ghost use Rattle.t5t_tag.specs.Reading.{read_content, read_told, answer_of, spelled_answer};
 ghost use Rattle.t5t_tag.specs.declared.answer.T5Answer.{T5Answer};
 
 use crate::identifier::turned;
@@ -36,11 +36,7 @@ impl T5Answer {
         if frame.tech() != Tech::V || frame.tail() != 0 {
             return None;
         }
-        match frame.view() {
-            [ERROR, code] => Some(T5Answer::Error(*code)),
-            [NO_ERROR, rest @ ..] => read_told(rest),
-            _ => None,
-        }
+        read_bytes(frame.view())
     }
 
     /// The frame that spells it; the content of blocks is a multiple of four bytes. It takes no memory.
@@ -64,6 +60,17 @@ impl T5Answer {
             }
             T5Answer::Error(code) => Frame::whole(Tech::V, &[ERROR, *code]).unwrap(),
         }
+    }
+}
+
+/// The answer of the bytes of a whole NFC-V frame.
+fn read_bytes(bytes: &[u8]) -> Option<T5Answer>
+    ensures { result ≡ answer_of bytes.now }
+{
+    match bytes {
+        [ERROR, code] => Some(T5Answer::Error(*code)),
+        [NO_ERROR, rest @ ..] => read_told(rest),
+        _ => None,
     }
 }
 

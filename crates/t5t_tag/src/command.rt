@@ -3,7 +3,7 @@
 ghost use Rattle.std.specs.Prelude.{◌≡◌, ◌↔◌, ◌≤◌, ◌++◌, length, Some, IsNone};
 ghost use Rattle.nfc_base.specs.Signal.{whole_v};
 ghost use Rattle.t5t_tag.specs.Spelling.{head, command_frame, IsT5Command, T5Spelling};
-ghost use Rattle.t5t_tag.specs.Reading.{filled, read_inventory, read_write, read_command, read_addressed, spelled_command};
+ghost use Rattle.t5t_tag.specs.Reading.{filled, read_inventory, read_write, read_command, read_addressed, command_of, spelled_command};
 ghost use Rattle.t5t_tag.specs.declared.command.T5Command.{T5Command};
 
 use crate::identifier::{MOST_BITS, kept, mask_size, turned};
@@ -69,12 +69,7 @@ impl T5Command {
         if frame.tech() != Tech::V || frame.tail() != 0 {
             return None;
         }
-        match frame.view() {
-            [ADDRESSED, code, rest @ ..] => read_addressed(*code, rest),
-            [PLAIN, code, rest @ ..] => read_command(None, *code, rest),
-            [ONE_SLOT, INVENTORY, bits, mask @ ..] => read_inventory(*bits, mask),
-            _ => None,
-        }
+        read_bytes(frame.view())
     }
 
     /// The frame that spells it, where a mask has at most 64 bits and its unused bits are 0. It takes no memory.
@@ -94,6 +89,18 @@ impl T5Command {
             }
             T5Command::ReadMany { id, first, more } => frame_of(*id, READ_MANY, &[*first, *more]),
         }
+    }
+}
+
+/// The command of the bytes of a whole NFC-V frame.
+fn read_bytes(bytes: &[u8]) -> Option<T5Command>
+    ensures { result ≡ command_of bytes.now }
+{
+    match bytes {
+        [ADDRESSED, code, rest @ ..] => read_addressed(*code, rest),
+        [PLAIN, code, rest @ ..] => read_command(None, *code, rest),
+        [ONE_SLOT, INVENTORY, bits, mask @ ..] => read_inventory(*bits, mask),
+        _ => None,
     }
 }
 
