@@ -6,3 +6,4 @@ pub mod Stores
 pub mod Turns
 pub mod Steps
 pub mod Again
+pub mod Inventories

@@ -25,11 +25,12 @@ stays_tag t is = on_turn t (λ r. IsT5State r.after) (record {
     read = λ block within. is;
     written = λ block content within long. record {
       id = is.id;
+      bytes = is.bytes;
       store = still_store t.size t.store (with_block t.size t.store block content) (length_with_block t.size t.store block content within long) is.store;
     };
   };
   none = is;
-  hushed = record { id = is.id; store = is.store };
+  hushed = record { id = is.id; bytes = is.bytes; store = is.store };
   present = is;
 })
 
@@ -154,8 +155,8 @@ pub read_keeps : (t : T5State) → IsT5State t → (block : ℕ) → t5_after t 
 read_keeps t is block = ap (λ (r : T5Turn). r.after) (read_turns t is block) ∙ read_leaves t block
 
 -- A frame for another identifier is silent and changes nothing.
-pub other_silent : (t : T5State) → IsT5State t → (id : List ℕ) → length id ≡ id_size → id ≢ t.id → (code : ℕ) (rest : List ℕ) → t5_turn t (whole_v (head (Some id) code ++ rest)) ≡ silent t
-other_silent t is id size other code rest = by_names (names t (low_first id ++ rest)) refl
+pub other_silent : (t : T5State) (id : List ℕ) → length id ≡ id_size → id ≢ t.id → (code : ℕ) (rest : List ℕ) → t5_turn t (whole_v (head (Some id) code ++ rest)) ≡ silent t
+other_silent t id size other code rest = by_names (names t (low_first id ++ rest)) refl
   where
     same_id : names t (low_first id ++ rest) ≡ true → id ≡ t.id
     same_id h =

@@ -81,6 +81,13 @@ impl T5Tag {
         })
     }
 
+    /// Its identifier, high byte first.
+    pub fn id(&self) -> [u8; 8]
+        ensures { result ≡ self.now.id }
+    {
+        self.id
+    }
+
     /// All bytes that it holds.
     pub fn store(&self) -> &[u8]
         ensures store { result.now ≡ self.now.store }
