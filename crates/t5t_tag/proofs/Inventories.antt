@@ -1,7 +1,7 @@
 -- What a tag answers to an inventory: to any, to one of its identifier, and to one of another.
 use Rattle.std.proofs.Common.{◌≡◌, ◌≢◌, ℕ, suc, zero, ◌-◌, ◌%◌, ◌*◌, ◌^◌, ◌<◌, ◌≤◌, min, List, [], ◌∷◌, length, get_or, take, reverse, Bool, true, false, not, nat_eq, nat_le, ◌==◌, ◌&&◌, if◌then◌else◌, Some, refl, sym, ◌∙◌, ap, subst, arith}
 use Rattle.std.specs.Cmp.Lexicographic.{pointwise}
-use Rattle.std.proofs.lemmas.List.{length-reverse, reverse-reverse, get_or-reverse}
+use Rattle.std.proofs.lemmas.List.{length-reverse, reverse-reverse, get_or-reverse, get_or_past}
 use Rattle.std.proofs.Math.Seq.{take-length}
 use Rattle.std.proofs.Math.Nat.{mod-eq_of_lt}
 use Rattle.nfc_base.specs.Signal.{whole_v}
@@ -24,7 +24,22 @@ kept_all bits (b ∷ bytes) h small =
     ∙ ap (λ t. b ∷ t) (kept_all (bits - 8) bytes (omega arith) (λ i. small (suc i)))
 
 small_reversed : (id : List ℕ) → ((i : ℕ) → get_or id i 0 < 256) → (i : ℕ) → get_or (low_first id) i 0 < 256
-small_reversed id small i = grind (arith, get_or-reverse {X = ℕ}, length-reverse {A = ℕ})
+small_reversed id small i = by_place (nat_le (length id) i) refl
+  where
+    behind : (n k : ℕ) → nat_le n k ≡ true → n ≤ k
+    behind n k h = grind arith
+
+    before : (n k : ℕ) → nat_le n k ≡ false → k < n
+    before n k h = grind arith
+
+    by_place : (v : Bool) → nat_le (length id) i ≡ v → get_or (low_first id) i 0 < 256
+    by_place true h =
+        let past : get_or (low_first id) i 0 ≡ 0 = get_or_past (low_first id) i 0 (omega (arith, behind (length id) i h, length-reverse id)) in
+        omega (arith, past)
+    by_place false h =
+        let turned : get_or (low_first id) i 0 ≡ get_or id (length id - 1 - i) 0 = get_or-reverse id i 0 (before (length id) i h) in
+        let less : get_or id (length id - 1 - i) 0 < 256 = small (length id - 1 - i) in
+        omega (arith, turned, less)
 
 -- the mask of all bits is the identifier
 pub whole_mask : (t : T5State) → IsT5State t → mask_of t.id most_bits ≡ low_first t.id

@@ -66,9 +66,9 @@ told_in_range t is = on_turn t (λ r. IsTold r.answer) (record {
   commands = record {
     error = λ code. tt;
     read = λ block within.
-      let long : length (block_of t.size t.store block) ≡ t.size = length_block t.size t.store block within in
-      let sized : (t.size ≤ 32) × (t.size % 4 ≡ 0) × (4 ≤ t.size) = size_of_block t.size is.store.sized in
-      (omega (arith, long, sized.0), ap (λ n. n % 4) long ∙ sized.1);
+        let long : length (block_of t.size t.store block) ≡ t.size = length_block t.size t.store block within in
+        let sized : (t.size ≤ 32) × (t.size % 4 ≡ 0) × (4 ≤ t.size) = size_of_block t.size is.store.sized in
+        (omega (arith, long, sized.0), ap (λ n. n % 4) long ∙ sized.1);
     written = λ block content within long. (omega arith, refl);
   };
   none = tt;
