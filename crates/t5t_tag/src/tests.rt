@@ -120,6 +120,29 @@ fn hears_flags_and_masks(rt: HostRuntime) -> Result<(), Fail> {
 }
 
 #[test]
+fn writes_no_locked_block(rt: HostRuntime) -> Result<(), Fail> {
+    let mut tag = T5Tag::new(ID, vec![in rt.alloc(); 0u8; 1024]?, 4)?;
+    tag.lock(9);
+    tag.lock(255);
+    tag.dark();
+    let rows: [(&[u8], &[u8]); 6] = [
+        (&[9, 1, 2, 3, 4], &[1, 0x12]),
+        (&[9, 1, 2, 3], &[1, 0x0F]),
+        (&[255, 1, 2, 3, 4], &[1, 0x12]),
+        (&[8, 1, 2, 3, 4], &[0]),
+        (&[1, 1, 2, 3, 4], &[0]),
+        (&[10, 1, 2, 3, 4], &[0]),
+    ];
+    for (rest, answer) in rows {
+        let request = addressed(0x21, rest)?;
+        assert_eq!(rt; told(&mut tag, &request).as_slice(), answer, "at {rest:?}");
+    }
+    let read = addressed(0x20, &[9])?;
+    assert_eq!(rt; told(&mut tag, &read).as_slice(), [0u8; 5].as_slice());
+    Ok(())
+}
+
+#[test]
 fn stays_quiet_until_dark(rt: HostRuntime) -> Result<(), Fail> {
     let mut tag = T5Tag::new(ID, store(&rt, 4, &[])?, 4)?;
     let all = Frame::whole(Tech::V, &[0x26, 1, 0])?;
