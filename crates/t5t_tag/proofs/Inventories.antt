@@ -1,5 +1,5 @@
 -- What a tag answers to an inventory: to any, to one of its identifier, and to one of another.
-use Rattle.std.proofs.Common.{◌≡◌, ◌≢◌, ℕ, suc, zero, ◌-◌, ◌%◌, ◌*◌, ◌^◌, ◌<◌, ◌≤◌, min, List, [], ◌∷◌, length, get_or, take, reverse, Bool, true, false, not, nat_eq, nat_le, ◌==◌, ◌&&◌, if◌then◌else◌, Some, refl, sym, ◌∙◌, ap, subst, arith}
+use Rattle.std.proofs.Common.{◌≡◌, ◌≢◌, ℕ, suc, ◌-◌, ◌%◌, ◌*◌, ◌^◌, ◌<◌, ◌≤◌, min, List, [], ◌∷◌, length, get_or, take, Bool, true, false, not, nat_eq, nat_le, ◌&&◌, if◌then◌else◌, refl, sym, ◌∙◌, ap, arith}
 use Rattle.std.specs.Cmp.Lexicographic.{pointwise}
 use Rattle.std.proofs.lemmas.List.{length-reverse, reverse-reverse, get_or-reverse, get_or_past}
 use Rattle.std.proofs.Math.Seq.{take-length}
@@ -9,9 +9,8 @@ use Rattle.t5t_tag.specs.declared.answer.T5Answer.TheVariants.{Present}
 use Rattle.t5t_tag.specs.Store.{T5State, IsT5State, id_size}
 use Rattle.t5t_tag.specs.Mask.{low_first, most_bits, kept, mask_of}
 use Rattle.t5t_tag.specs.Spelling.{inventory_flags, inventory_code}
-use Rattle.t5t_tag.specs.Step.{T5Turn, silent, tells, t5_turn}
+use Rattle.t5t_tag.specs.Step.{silent, tells, t5_turn}
 use Rattle.t5t_tag.proofs.Bytes.{equal_bytes, bytes_self}
-use Rattle.t5t_tag.proofs.Masks.{length_kept}
 
 -- all bits of bytes are kept
 kept_all : (bits : ℕ) (bytes : List ℕ) → 8 * length bytes ≤ bits → ((i : ℕ) → get_or bytes i 0 < 256) → kept bits bytes ≡ bytes

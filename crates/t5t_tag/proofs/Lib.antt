@@ -8,3 +8,4 @@ pub mod Steps
 pub mod Again
 pub mod Inventories
 pub mod Locking
+pub mod Hushed

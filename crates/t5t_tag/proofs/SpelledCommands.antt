@@ -1,5 +1,5 @@
 -- What is read from a frame is exactly the command that it spells.
-use Rattle.std.proofs.Common.{◌≡◌, ℕ, ◌≤◌, List, [], ◌∷◌, ◌++◌, length, take, drop, Bool, true, false, nat_eq, nat_le, ◌==◌, ◌&&◌, if◌then◌else◌, Option, Some, None, IsNone, ◌↔◌, refl, sym, ◌∙◌, ap, subst, arith}
+use Rattle.std.proofs.Common.{◌≡◌, ℕ, ◌≤◌, List, [], ◌∷◌, ◌++◌, length, take, drop, Bool, true, false, nat_eq, nat_le, ◌==◌, ◌&&◌, if◌then◌else◌, Option, Some, None, ◌↔◌, refl, sym, ◌∙◌, ap, subst, arith}
 use Rattle.std.specs.Cmp.Lexicographic.{pointwise}
 use Rattle.std.proofs.lemmas.List.{append-nil, length-append, length-reverse, length-take-le, nil_from_length, reverse-reverse, take-append-drop}
 use Rattle.std.proofs.Math.Seq.{take-append_seam, drop-append_seam}

@@ -1,5 +1,5 @@
 -- What the steps of a tag give its reader, and what they leave.
-use Rattle.std.proofs.Common.{◌≡◌, ◌≢◌, ℕ, ◌+◌, ◌/◌, ◌%◌, ◌<◌, ◌≤◌, List, [], ◌∷◌, ◌++◌, length, take, drop, Bool, true, false, not, nat_eq, nat_le, ◌==◌, ◌&&◌, if◌then◌else◌, Option, Some, None, refl, sym, ◌∙◌, ap, subst, arith}
+use Rattle.std.proofs.Common.{◌≡◌, ◌≢◌, ℕ, ◌+◌, ◌%◌, ◌<◌, ◌≤◌, List, [], ◌∷◌, ◌++◌, length, take, drop, Bool, true, false, not, nat_eq, nat_le, ◌==◌, ◌&&◌, if◌then◌else◌, Option, Some, None, refl, sym, ◌∙◌, ap, arith}
 use Rattle.std.specs.Cmp.Lexicographic.{pointwise}
 use Rattle.std.proofs.lemmas.List.{length-append, length-reverse, reverse-reverse}
 use Rattle.std.proofs.Math.Seq.{take-append_seam, drop-append_seam}
@@ -11,11 +11,11 @@ use Rattle.t5t_tag.specs.declared.answer.T5Answer.{T5Answer}
 use Rattle.t5t_tag.specs.declared.answer.T5Answer.TheVariants.{Present, Content, Error}
 use Rattle.t5t_tag.specs.Store.{T5State, IsT5State, id_size, block_count}
 use Rattle.t5t_tag.specs.Mask.{low_first}
-use Rattle.t5t_tag.specs.Spelling.{quiet_code, read_code, write_code, most_content, head, command_frame, answer_frame, IsT5Answer, T5AnswerSpelling}
+use Rattle.t5t_tag.specs.Spelling.{quiet_code, read_code, write_code, head, command_frame, answer_frame, IsT5Answer, T5AnswerSpelling}
 use Rattle.t5t_tag.specs.Step.{T5Turn, silent, tells, refuses, no_block, read_turn, write_turn, obeyed, names, t5_turn, sent, t5_answer, t5_after}
 use Rattle.t5t_tag.proofs.Bytes.{equal_bytes, bytes_self, is_at_most}
 use Rattle.t5t_tag.proofs.Stores.{length_block, length_with_block, still_store, size_of_block}
-use Rattle.t5t_tag.proofs.Turns.{hushes, OnTurns, OnCommands, on_turn}
+use Rattle.t5t_tag.proofs.Turns.{hushes, on_turn}
 
 -- A tag stays one that can be: its store is still one that a tag may have.
 pub stays_tag : (t : T5State) → IsT5State t → (f : Signal) → IsT5State (t5_after t f)
@@ -75,6 +75,19 @@ told_in_range t is = on_turn t (λ r. IsTold r.answer) (record {
   hushed = tt;
   present = is.id;
 })
+
+-- a refusal changes nothing
+pub refusal_keeps : (t : T5State) (f : Signal) (code : ℕ) → (t5_turn t f).answer ≡ Some (Error code) → t5_after t f ≡ t
+refusal_keeps t f code = on_turn t (λ r. r.answer ≡ Some (Error code) → r.after ≡ t) (record {
+  commands = record {
+    error = λ c e. refl;
+    read = λ block within e. refl;
+    written = λ block content within long e. absurd cc;
+  };
+  none = λ e. refl;
+  hushed = λ e. absurd cc;
+  present = λ e. refl;
+}) f
 
 spelled_of : (o : Option T5Answer) (g : Signal) → IsTold o → sent o ≡ Some g → (a : T5Answer) × ((o ≡ Some a) × T5AnswerSpelling a g)
 spelled_of None g is e = absurd cc

@@ -31,6 +31,7 @@ impl Locks {
     {
         self.table[block as usize / 8] >> (block % 8) & 1 == 1
     }
+
     /// This block is locked too.
     pub fn add(&mut self, block: u8)
         ensures { self.new ≡ set self.old block true }
