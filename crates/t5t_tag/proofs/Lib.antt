@@ -1,0 +1,11 @@
+pub mod Bytes
+pub mod Masks
+pub mod SpelledCommands
+pub mod SpelledAnswers
+pub mod Stores
+pub mod Turns
+pub mod Steps
+pub mod Again
+pub mod Inventories
+pub mod Locking
+pub mod Hushed
