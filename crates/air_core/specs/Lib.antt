@@ -8,3 +8,10 @@ pub mod Turn
 pub mod Settling
 pub mod Lends
 pub mod Quiet
+pub mod Turning
+pub mod Waits
+pub mod Waiting
+pub mod PlainTags
+pub mod PlainLinks
+pub mod PlainWaits
+pub mod PlainMoving
