@@ -1,20 +1,18 @@
 -- What `ask` of a link to a plain tag answers.
-use Rattle.std.proofs.Common.{◌≡◌, ◌≢◌, ℕ, zero, suc, ◌+◌, ◌*◌, ◌<◌, ◌≤◌, ◌⊎◌, inl, inr, List, [], ◌∷◌, ◌++◌, length, Bool, true, false, Option, Some, None, Result, Ok, Err, refl, sym, ◌∙◌, ap, subst, append-nil, arith}
-use Rattle.std.proofs.lemmas.List.{length-append}
+use Rattle.std.proofs.Common.{◌≡◌, ◌≢◌, ℕ, suc, ◌<◌, ◌≤◌, ◌⊎◌, inl, inr, List, [], ◌∷◌, ◌++◌, length, true, false, Option, Some, None, Ok, Err, refl, sym, ◌∙◌, ap, subst, append-nil, arith}
 use Rattle.std.specs.Prelude.{not}
-use Rattle.nfc_base.specs.declared.frame.Tech.TheVariants.{A, V}
-use Rattle.nfc_base.specs.declared.event.Event.{Event}
+use Rattle.nfc_base.specs.declared.frame.Tech.TheVariants.{A}
 use Rattle.nfc_base.specs.declared.tag_link.AskFault.{AskFault}
 use Rattle.nfc_base.specs.declared.tag_link.AskFault.TheVariants.{FieldLost, SixBad, Memory, Protocol}
 use Rattle.nfc_base.specs.Signal.{Signal}
 use Rattle.nfc_base.specs.Trace.{noise}
 use Rattle.nfc_base.specs.Links.{CountsOn}
-use Rattle.nfc_base.specs.TagLinks.{MayAsk, Obeys, Rises, IsAnswer, IsFault}
+use Rattle.nfc_base.specs.TagLinks.{Obeys, Rises, IsAnswer, IsFault}
 use Rattle.air_core.specs.Turn.{Air}
 use Rattle.air_core.specs.Waits.{Standing, Asking, Broken, stand}
-use Rattle.air_core.specs.PlainTags.{plain_kind, heard_times, tag_step, IsSteady, IsAlone, IsPlainTag, HasPlainTag, MayTell}
+use Rattle.air_core.specs.PlainTags.{plain_kind, heard_times, tag_step, IsSteady, IsAlone, IsPlainTag, MayTell}
 use Rattle.air_core.specs.PlainLinks.{PlainSeen, at_place, counts_of, unanswered, StandsAt, answered_by_link, plain_view, MayAskAt, IsPlainReady, PlainMoves}
-use Rattle.air_core.specs.PlainWaits.{after_bad, times, Waits, GoesOn, Answered, Darkened, Stopped, EndsBy, HasWaited}
+use Rattle.air_core.specs.PlainWaits.{after_bad, Waits, EndsBy, HasWaited}
 use Rattle.air_core.specs.declared.listener.Listener.{Ghosts}
 use Rattle.air_core.proofs.PlainAside.{Laws}
 use Rattle.air_core.proofs.PlainTurns.{asking_bad}
@@ -59,11 +57,27 @@ module _ {L : Type 0} (k : Ghosts L) (laws : Laws k) (old new : Air L) (place st
   left_of : (tag : L) (o : AskFault) → EndsBy k old new place f tag (Err o) → Left tag o
   left_of tag FieldLost (inl h) = record { turns = 0; heard = h.1.heard; s = Asking 0 (f ∷ []); left = heard_times k tag f h.1.heard; waits = h.1.waits; most = omega arith; is = inl refl; stands = (f, inr refl); calm = inr (inl h.0) }
   left_of tag FieldLost (inr h) = record {
-    turns = h.turns; heard = h.heard; s = Broken FieldLost (f ∷ []); left = k.machine.darkened (heard_times k tag f h.heard); waits = h.waits; most = h.bound; is = inr refl; stands = (f, inl refl); calm = inr (inr (inr h.noisy));
+    turns = h.turns;
+    heard = h.heard;
+    s = Broken FieldLost (f ∷ []);
+    left = k.machine.darkened (heard_times k tag f h.heard);
+    waits = h.waits;
+    most = h.bound;
+    is = inr refl;
+    stands = (f, inl refl);
+    calm = inr (inr (inr h.noisy));
   }
   left_of tag SixBad h = record { turns = 6; heard = h.heard; s = after_bad f 6; left = heard_times k tag f h.heard; waits = h.waits; most = omega arith; is = inl refl; stands = (f, refl); calm = inr (inr (h.calm (omega arith))) }
   left_of tag Memory h = record {
-    turns = h.bad; heard = h.goes.heard; s = after_bad f h.bad; left = heard_times k tag f h.goes.heard; waits = h.goes.waits; most = omega (arith, h.bound); is = inl refl; stands = (f, h.bad, asking_bad f h.bad h.bound); calm = inl refl;
+    turns = h.bad;
+    heard = h.goes.heard;
+    s = after_bad f h.bad;
+    left = heard_times k tag f h.goes.heard;
+    waits = h.goes.waits;
+    most = omega (arith, h.bound);
+    is = inl refl;
+    stands = (f, h.bad, asking_bad f h.bad h.bound);
+    calm = inl refl;
   }
   left_of tag Protocol h = absurd h
 
@@ -135,6 +149,9 @@ module _ {L : Type 0} (k : Ghosts L) (laws : Laws k) (old new : Air L) (place st
       told = λ e. ap (λ xs. answered_by_link k after_ok ++ xs) (none_left over (Some g) e) ∙ append-nil (answered_by_link k after_ok) ∙ shows.answered;
       most = omega (arith, shows.long, h.ends.bound);
       ended = λ x e. absurd cc;
+      obeyed = shows.obeys.more;
+      leads = shows.obeys.leads;
+      images = shows.images;
     }
 
   module _ (o : AskFault) (h : HasWaited k old new place f (Err o)) where
@@ -177,6 +194,9 @@ module _ {L : Type 0} (k : Ghosts L) (laws : Laws k) (old new : Air L) (place st
           told = λ e. ap (λ y. answered_by_link k after_err ++ y ∷ []) copied ∙ ap (λ ys. ys ++ f ∷ []) same_answered;
           most = omega (arith, shows_err.long, x.most);
           ended = λ y e. absurd cc;
+          obeyed = shows_err.obeys.more;
+          leads = shows_err.obeys.leads;
+          images = shows_err.images;
         }
 
     -- where all transmissions passed, a tag that answers was heard

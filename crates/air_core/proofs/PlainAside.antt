@@ -1,12 +1,12 @@
 -- What a tag is asked that is alone in its field: nobody else hears it or answers.
-use Rattle.std.proofs.Common.{◌≡◌, ℕ, suc, List, [], ◌∷◌, ◌++◌, length, Bool, true, false, if◌then◌else◌, Option, Some, None, refl, sym, ◌∙◌, ap, subst}
+use Rattle.std.proofs.Common.{◌≡◌, ℕ, suc, List, [], ◌∷◌, ◌++◌, length, true, false, if◌then◌else◌, Option, None, refl, sym, ◌∙◌, ap, subst}
 use Rattle.std.specs.Prelude.{map}
 use Rattle.std.specs.List.{AllByRecursion, filter_map, cons_option}
 use Rattle.nfc_base.specs.declared.frame.Tech.{Tech}
 use Rattle.nfc_base.specs.declared.frame.Tech.TheVariants.{A, V}
 use Rattle.nfc_base.specs.Signal.{Signal, whole_a}
-use Rattle.nfc_base.specs.Far.{FarUse, Untouched}
-use Rattle.nfc_base.specs.TagLinks.{MayAsk, IsAddressed, addressed}
+use Rattle.nfc_base.specs.Far.{Untouched}
+use Rattle.nfc_base.specs.TagLinks.{MayAsk, addressed}
 use Rattle.air_core.specs.Joint.{same_tech}
 use Rattle.air_core.specs.World.{hears, hands_over, answered_by, stepped_by}
 use Rattle.air_core.specs.Quiet.{EachQuiet}

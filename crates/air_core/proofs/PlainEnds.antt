@@ -1,7 +1,7 @@
 -- How the waits of a plain link begin, go on and end.
-use Rattle.std.proofs.Common.{◌≡◌, ℕ, zero, suc, ◌+◌, ◌<◌, ◌≤◌, ◌⊎◌, inl, inr, List, [], ◌∷◌, Bool, true, false, Option, Some, None, Result, Ok, Err, refl, sym, ◌∙◌, ap, subst, append-nil, arith}
+use Rattle.std.proofs.Common.{◌≡◌, ℕ, zero, suc, ◌<◌, inl, inr, List, [], ◌∷◌, Bool, true, false, Option, Some, None, Err, refl, sym, ◌∙◌, subst, append-nil, arith}
 use Rattle.nfc_base.specs.declared.frame.Tech.{Tech}
-use Rattle.nfc_base.specs.declared.frame.Tech.TheVariants.{A, V}
+use Rattle.nfc_base.specs.declared.frame.Tech.TheVariants.{A}
 use Rattle.nfc_base.specs.declared.event.Heard.{Heard}
 use Rattle.nfc_base.specs.declared.event.Heard.TheVariants.{Whole, Collided, Damaged, Silent}
 use Rattle.nfc_base.specs.declared.tag_link.AskFault.TheVariants as ask
@@ -18,7 +18,8 @@ use Rattle.air_core.specs.PlainWaits.{GoesOn, GoesFrom, HasWaited}
 use Rattle.air_core.specs.declared.listener.Listener.{Ghosts}
 use Rattle.air_core.proofs.Quiet.{quiet_turn, quiet_goes_on}
 use Rattle.air_core.proofs.PlainAside.{Laws}
-use Rattle.air_core.proofs.PlainSteps.{place_is, Outcome, each_quiet, turned}
+use Rattle.air_core.proofs.PlainStores.{place_is}
+use Rattle.air_core.proofs.PlainSteps.{Outcome, each_quiet, turned}
 
 module _ {L : Type 0} (k : Ghosts L) where
   pub may_tell : (air : Air L) (place : ℕ) (f : Signal) (t : HasPlainTag k air place) → MayAskAt k air place f → MayTell k t.tag f
@@ -48,6 +49,7 @@ module _ {L : Type 0} (k : Ghosts L) where
         obeyed = refl;
         answered = refl;
         most = omega arith;
+        images = tt;
       };
       lit = refl;
       begun = λ h. absurd (omega (arith, h));

@@ -1,11 +1,10 @@
 -- How a wait of a plain tag goes on by one turn, and how it ends.
-use Rattle.std.proofs.Common.{◌≡◌, ℕ, zero, suc, ◌+◌, ◌<◌, ◌≤◌, ◌⊎◌, inl, inr, List, [], ◌∷◌, ◌++◌, length, Bool, true, false, nat_lt, if◌then◌else◌, Option, Some, None, Result, Ok, Err, refl, sym, ◌∙◌, ap, subst, append-nil, arith}
+use Rattle.std.proofs.Common.{◌≡◌, ℕ, zero, suc, ◌+◌, ◌<◌, ◌≤◌, ◌⊎◌, inl, inr, List, [], ◌∷◌, ◌++◌, length, true, if◌then◌else◌, Option, Some, None, refl, sym, ◌∙◌, ap, subst, append-nil, arith}
 use Rattle.std.specs.Prelude.{map}
 use Rattle.std.specs.List.{filter_map, cons_option}
 use Rattle.nfc_base.specs.declared.frame.Tech.{Tech}
 use Rattle.nfc_base.specs.declared.frame.Tech.TheVariants.{A, V}
 use Rattle.nfc_base.specs.declared.event.Event.{Event}
-use Rattle.nfc_base.specs.declared.event.Event.TheVariants.{Request}
 use Rattle.nfc_base.specs.declared.event.Fate.{Fate}
 use Rattle.nfc_base.specs.declared.event.Fate.TheVariants.{Pass, Damage, Lose, Break}
 use Rattle.nfc_base.specs.declared.event.Heard.{Heard}
@@ -13,36 +12,29 @@ use Rattle.nfc_base.specs.declared.event.Heard.TheVariants.{Whole, Collided, Dam
 use Rattle.nfc_base.specs.declared.tag_link.AskFault.TheVariants as ask
 use Rattle.nfc_base.specs.Signal.{Signal}
 use Rattle.nfc_base.specs.Far.{Untouched}
+use Rattle.nfc_base.specs.TagLinks.{TagState, plain_state, after_all, passed}
 use Rattle.nfc_base.specs.Trace.{back_of, noise}
 use Rattle.nfc_base.specs.Trace as backs
-use Rattle.air_core.specs.Joint.{Joint, joint, same_tech}
+use Rattle.air_core.specs.Joint.{joint, same_tech}
 use Rattle.air_core.specs.World.{World, hears, hands_over, answered_by, stepped_by, quiet_air}
-use Rattle.air_core.specs.Conversation.{Note, note, replay, joint_events, turn_events, TurnsTo, first_fate, later_fates}
-use Rattle.air_core.specs.Turn.{Air, moment, world, TurnIs}
+use Rattle.air_core.specs.Conversation.{note, replay, turn_events, TurnsTo, first_fate, later_fates}
+use Rattle.air_core.specs.Turn.{Air, moment, world}
 use Rattle.air_core.specs.Quiet.{EachQuiet, QuietTurn}
-use Rattle.air_core.specs.Turning.{going_start}
-use Rattle.air_core.specs.Waits.{Standing, Asking, Broken, stand, waits_next}
-use Rattle.air_core.specs.PlainTags.{heard_times, tag_step, IsSteady, IsAside, IsAlone, HasPlainTag, MayTell}
-use Rattle.air_core.specs.PlainLinks.{at_place, obeyed_in, answered_in, MayAskAt}
-use Rattle.air_core.specs.PlainWaits.{after_bad, times, Waits, GoesOn, GoesFrom, Answered, Darkened}
+use Rattle.air_core.specs.Waits.{Asking, Broken, stand}
+use Rattle.air_core.specs.PlainTags.{heard_times, tag_step, IsSteady, IsAside, IsAlone, MayTell}
+use Rattle.air_core.specs.PlainLinks.{obeyed_in, answered_in, Follows, stores_after}
+use Rattle.air_core.specs.PlainWaits.{after_bad, times, Waits, GoesOn, Answered, Darkened}
 use Rattle.air_core.specs.declared.listener.Listener.{Ghosts}
-use Rattle.air_core.proofs.Quiet.{quiet_turn, quiet_turns_to}
+use Rattle.air_core.proofs.Quiet.{quiet_turns_to}
 use Rattle.air_core.proofs.PlainAside.{Laws, IsUnmoved, aside_silent, may_tech, alone_dark, alone_quiet, alone_says, alone_steps}
-use Rattle.air_core.proofs.PlainTurns.{one, joint_one, tag_events, tag_heard, turn_events_as, heard_as, tag_fresh, tag_most, noise_append, times_more, asking_bad, extend}
+use Rattle.air_core.proofs.PlainStores.{newly, passed_more, pictures}
+use Rattle.air_core.proofs.PlainTurns.{one, joint_one, tag_events, tag_heard, turn_events_as, heard_as, tag_most, noise_append, times_more, asking_bad, extend}
 
 same_itself : (t : Tech) → same_tech t t ≡ true
 same_itself A = refl
 same_itself V = refl
 
-place_split : {L B : Type 0} (f : L → B) (d : B) (before : List L) (l : L) (behind : List L) → at_place f d (before ++ l ∷ behind) (length before) ≡ f l
-place_split f d [] l behind = refl
-place_split f d (x ∷ before) l behind = place_split f d before l behind
-
 module _ {L : Type 0} (k : Ghosts L) where
-  -- what is seen at the tag's place
-  pub place_is : {B : Type 0} (f : L → B) (d : B) (own : List ℕ) (ls : List L) (place : ℕ) (l : L) → IsAlone k own ls place l → at_place f d ls place ≡ f l
-  place_is f d own ls place l a = ap (λ xs. at_place f d xs place) a.split ∙ ap (at_place f d (a.before ++ l ∷ a.behind)) (sym a.stands) ∙ place_split f d a.before l a.behind
-
   -- what a turn comes to after some bad receptions, by what was heard
   abbrev pub Outcome : Air L → Air L → ℕ → Signal → L → ℕ → Option Heard → Type 0
   Outcome old new place f tag bad None = Darkened k old new place f tag
@@ -89,21 +81,28 @@ module _ {L : Type 0} (k : Ghosts L) where
     module _ (old mid new : Air L) (place : ℕ) (f : Signal) (tag : L) (bad n : ℕ) (bound : bad < 6) (lit : mid.lit ≡ true) (start : old.lit ≡ true)
         (w : Waits k old mid place f tag bad n (after_bad f bad) (heard_times k tag f n) []) (calm : 0 < bad → ((tag_step k tag f).answer ≡ None) ⊎ (0 < noise w.events))
         (tech : same_tech f.tech (k.machine.tech tag) ≡ true) where
+      abbrev held : TagState
+      held = after_all (k.commands tag) (plain_state (k.store tag)) (times f n)
+
+      same_passed : passed (k.commands tag) (plain_state (k.store tag)) (times f n) ≡ passed (k.commands tag) (plain_state (k.store tag)) (times f n) ++ []
+      same_passed = sym (append-nil _)
+
       -- the wait goes on: the turn was bad
       goes_more : (h : Heard) (es : List Event) (n' : ℕ) → TurnsTo (quiet_air k.machine) (moment mid) (moment new) f (Some h)
           → new.trace ≡ mid.trace ++ es → back_of es ≡ backs.Nothing → length es ≤ 2 → IsAlone k (k.identifier tag) new.listeners place (heard_times k tag f n')
           → times f n ++ obeyed_in (k.machine.tech tag) es ≡ times f n' → answered_in es ≡ [] → stand bad (f ∷ []) (note (Some h) ∷ []) ≡ after_bad f (suc bad)
+          → (zs : List (List ℕ)) → passed (k.commands tag) (plain_state (k.store tag)) (times f n') ≡ passed (k.commands tag) (plain_state (k.store tag)) (times f n) ++ zs → Follows held.store (stores_after k place (world mid) es) zs
           → new.lit ≡ true → ((tag_step k tag f).answer ≡ None) ⊎ (0 < noise es) → GoesOn k old new place f tag (suc bad)
-      goes_more h es n' turn trace fresh short alone obeyed answered stands bright (inl none) = record {
+      goes_more h es n' turn trace fresh short alone obeyed answered stands zs more images bright (inl none) = record {
         heard = n';
-        waits = extend k old mid new place f tag bad n bad (after_bad f bad) (heard_times k tag f n) (Some h) es n' (after_bad f (suc bad)) (heard_times k tag f n') [] w (asking_bad f bad bound) turn trace fresh short alone obeyed answered stands;
+        waits = extend k old mid new place f tag bad n bad (after_bad f bad) (heard_times k tag f n) (Some h) es n' (after_bad f (suc bad)) (heard_times k tag f n') [] w (asking_bad f bad bound) turn trace fresh short alone obeyed answered stands zs more images;
         lit = bright ∙ sym start;
         begun = λ h. start;
         calm = λ h. inl none;
       }
-      goes_more h es n' turn trace fresh short alone obeyed answered stands bright (inr noisy) = record {
+      goes_more h es n' turn trace fresh short alone obeyed answered stands zs more images bright (inr noisy) = record {
         heard = n';
-        waits = extend k old mid new place f tag bad n bad (after_bad f bad) (heard_times k tag f n) (Some h) es n' (after_bad f (suc bad)) (heard_times k tag f n') [] w (asking_bad f bad bound) turn trace fresh short alone obeyed answered stands;
+        waits = extend k old mid new place f tag bad n bad (after_bad f bad) (heard_times k tag f n) (Some h) es n' (after_bad f (suc bad)) (heard_times k tag f n') [] w (asking_bad f bad bound) turn trace fresh short alone obeyed answered stands zs more images;
         lit = bright ∙ sym start;
         begun = λ h. start;
         calm = λ h. inr (let e : noise (w.events ++ es) ≡ noise w.events + noise es = noise_append w.events es in omega (arith, e, noisy));
@@ -112,40 +111,43 @@ module _ {L : Type 0} (k : Ghosts L) where
       -- the field was lost
       darkens : (es : List Event) (n' : ℕ) → TurnsTo (quiet_air k.machine) (moment mid) (moment new) f None
           → new.trace ≡ mid.trace ++ es → back_of es ≡ backs.Nothing → length es ≤ 2 → IsAlone k (k.identifier tag) new.listeners place (k.machine.darkened (heard_times k tag f n'))
-          → times f n ++ obeyed_in (k.machine.tech tag) es ≡ times f n' → answered_in es ≡ [] → 0 < noise es → Darkened k old new place f tag
-      darkens es n' turn trace fresh short alone obeyed answered noisy = record {
+          → times f n ++ obeyed_in (k.machine.tech tag) es ≡ times f n' → answered_in es ≡ []
+          → (zs : List (List ℕ)) → passed (k.commands tag) (plain_state (k.store tag)) (times f n') ≡ passed (k.commands tag) (plain_state (k.store tag)) (times f n) ++ zs → Follows held.store (stores_after k place (world mid) es) zs
+          → 0 < noise es → Darkened k old new place f tag
+      darkens es n' turn trace fresh short alone obeyed answered zs more images noisy = record {
         turns = suc bad;
         heard = n';
-        waits = extend k old mid new place f tag bad n bad (after_bad f bad) (heard_times k tag f n) None es n' (Broken ask.FieldLost (f ∷ [])) (k.machine.darkened (heard_times k tag f n')) [] w (asking_bad f bad bound) turn trace fresh short alone obeyed answered refl;
+        waits = extend k old mid new place f tag bad n bad (after_bad f bad) (heard_times k tag f n) None es n' (Broken ask.FieldLost (f ∷ [])) (k.machine.darkened (heard_times k tag f n')) [] w (asking_bad f bad bound) turn trace fresh short alone obeyed answered refl zs more images;
         bound = omega (arith, bound);
         noisy = let e : noise (w.events ++ es) ≡ noise w.events + noise es = noise_append w.events es in omega (arith, e, noisy);
       }
 
       finish : (x y : Fate) (o : Option Signal) → (tag_step k tag f).answer ≡ o → TurnsTo (quiet_air k.machine) (moment mid) (moment new) f (tag_heard x y o)
           → new.trace ≡ mid.trace ++ tag_events f x y o → world new ≡ replay (quiet_air k.machine) (world mid) (tag_events f x y o)
-          → IsAlone k (k.identifier tag) new.listeners place (tag_left (heard_times k tag f n) f x y o) → Outcome old new place f tag bad (tag_heard x y o)
-      finish Damage y o says turn trace after alone =
-          goes_more Silent (tag_events f Damage y o) n turn trace refl (tag_most f Damage y o) alone (append-nil (times f n)) refl refl (ap (λ v. v.lit) after ∙ lit) (inr (omega arith))
-      finish Lose y o says turn trace after alone =
-          goes_more Silent (tag_events f Lose y o) n turn trace refl (tag_most f Lose y o) alone (append-nil (times f n)) refl refl (ap (λ v. v.lit) after ∙ lit) (inr (omega arith))
-      finish Break y o says turn trace after alone = darkens (tag_events f Break y o) n turn trace refl (tag_most f Break y o) alone (append-nil (times f n)) refl (omega arith)
-      finish Pass y None says turn trace after alone =
-          goes_more Silent (tag_events f Pass y None) (suc n) turn trace refl (tag_most f Pass y None) alone (obeyed_once f (k.machine.tech tag) n tech) refl refl (ap (λ v. v.lit) after ∙ lit) (inl says)
-      finish Pass Pass (Some g) says turn trace after alone = record {
+          → IsAlone k (k.identifier tag) new.listeners place (tag_left (heard_times k tag f n) f x y o)
+          → Follows held.store (stores_after k place (world mid) (tag_events f x y o)) (passed (k.commands tag) held (newly x f)) → Outcome old new place f tag bad (tag_heard x y o)
+      finish Damage y o says turn trace after alone images =
+          goes_more Silent (tag_events f Damage y o) n turn trace refl (tag_most f Damage y o) alone (append-nil (times f n)) refl refl [] same_passed images (ap (λ v. v.lit) after ∙ lit) (inr (omega arith))
+      finish Lose y o says turn trace after alone images =
+          goes_more Silent (tag_events f Lose y o) n turn trace refl (tag_most f Lose y o) alone (append-nil (times f n)) refl refl [] same_passed images (ap (λ v. v.lit) after ∙ lit) (inr (omega arith))
+      finish Break y o says turn trace after alone images = darkens (tag_events f Break y o) n turn trace refl (tag_most f Break y o) alone (append-nil (times f n)) refl [] same_passed images (omega arith)
+      finish Pass y None says turn trace after alone images =
+          goes_more Silent (tag_events f Pass y None) (suc n) turn trace refl (tag_most f Pass y None) alone (obeyed_once f (k.machine.tech tag) n tech) refl refl _ (passed_more (k.commands tag) (plain_state (k.store tag)) f n) images (ap (λ v. v.lit) after ∙ lit) (inl says)
+      finish Pass Pass (Some g) says turn trace after alone images = record {
         turns = suc bad;
         heard = n;
         waits = extend k old mid new place f tag bad n bad (after_bad f bad) (heard_times k tag f n) (Some (Whole g)) (tag_events f Pass Pass (Some g)) (suc n) (Asking 0 []) (heard_times k tag f (suc n)) (f ∷ []) w (asking_bad f bad bound) turn trace refl
-            (tag_most f Pass Pass (Some g)) alone (obeyed_once f (k.machine.tech tag) n tech) refl refl;
+            (tag_most f Pass Pass (Some g)) alone (obeyed_once f (k.machine.tech tag) n tech) refl refl _ (passed_more (k.commands tag) (plain_state (k.store tag)) f n) images;
         bound = omega (arith, bound);
         lit = ap (λ v. v.lit) after ∙ lit;
         says = says;
       }
-      finish Pass Damage (Some g) says turn trace after alone =
-          goes_more Damaged (tag_events f Pass Damage (Some g)) (suc n) turn trace refl (tag_most f Pass Damage (Some g)) alone (obeyed_once f (k.machine.tech tag) n tech) refl refl (ap (λ v. v.lit) after ∙ lit) (inr (omega arith))
-      finish Pass Lose (Some g) says turn trace after alone =
-          goes_more Silent (tag_events f Pass Lose (Some g)) (suc n) turn trace refl (tag_most f Pass Lose (Some g)) alone (obeyed_once f (k.machine.tech tag) n tech) refl refl (ap (λ v. v.lit) after ∙ lit) (inr (omega arith))
-      finish Pass Break (Some g) says turn trace after alone =
-          darkens (tag_events f Pass Break (Some g)) (suc n) turn trace refl (tag_most f Pass Break (Some g)) alone (obeyed_once f (k.machine.tech tag) n tech) refl (omega arith)
+      finish Pass Damage (Some g) says turn trace after alone images =
+          goes_more Damaged (tag_events f Pass Damage (Some g)) (suc n) turn trace refl (tag_most f Pass Damage (Some g)) alone (obeyed_once f (k.machine.tech tag) n tech) refl refl _ (passed_more (k.commands tag) (plain_state (k.store tag)) f n) images (ap (λ v. v.lit) after ∙ lit) (inr (omega arith))
+      finish Pass Lose (Some g) says turn trace after alone images =
+          goes_more Silent (tag_events f Pass Lose (Some g)) (suc n) turn trace refl (tag_most f Pass Lose (Some g)) alone (obeyed_once f (k.machine.tech tag) n tech) refl refl _ (passed_more (k.commands tag) (plain_state (k.store tag)) f n) images (ap (λ v. v.lit) after ∙ lit) (inr (omega arith))
+      finish Pass Break (Some g) says turn trace after alone images =
+          darkens (tag_events f Pass Break (Some g)) (suc n) turn trace refl (tag_most f Pass Break (Some g)) alone (obeyed_once f (k.machine.tech tag) n tech) refl _ (passed_more (k.commands tag) (plain_state (k.store tag)) f n) images (omega arith)
 
     module _ (old mid : Air L) (place : ℕ) (f : Signal) (tag : L) (bad : ℕ) (steady : IsSteady k tag f) (may : MayTell k tag f) (eight : k.machine.tech tag ≡ V → length (k.identifier tag) ≡ 8)
         (goes : GoesOn k old mid place f tag bad) where
@@ -189,8 +191,11 @@ module _ {L : Type 0} (k : Ghosts L) where
           let after : world new ≡ replay (quiet_air k.machine) (world mid) (tag_events f x y o) = t.after ∙ ap (replay (quiet_air k.machine) (world mid)) es in
           let I : List L → Type 0 = λ ls. IsAlone k (k.identifier tag) ls place (tag_left (heard_times k tag f goes.heard) f x y o) in
           let alone : I new.listeners = subst I (sym (ap (λ v. v.listeners) after)) (alone_turn (k.identifier tag) f silent (world mid) place (heard_times k tag f goes.heard) goes.waits.alone steps x y o) in
+          let J : L → Type 0 = IsAlone k (k.identifier tag) (map (λ z. stepped_by k.machine z f None) mid.listeners) place in
+          let next : J (heard_times k tag f (suc goes.heard)) = subst J steps (alone_steps k laws (k.identifier tag) f silent mid.listeners place (heard_times k tag f goes.heard) goes.waits.alone) in
           let N : Option Heard → Type 0 = λ g. TurnsTo (quiet_air k.machine) (moment mid) (moment new) f g in
           let O : Option Heard → Type 0 = Outcome old new place f tag bad in
           let turn : N h = quiet_turns_to k.machine mid new f far far' h t in
           let start : old.lit ≡ true = sym goes.lit ∙ t.lit in
-          subst O (sym told) (finish old mid new place f tag bad goes.heard bound t.lit start goes.waits goes.calm same x y o refl (subst N told turn) trace after alone)
+          subst O (sym told) (finish old mid new place f tag bad goes.heard bound t.lit start goes.waits goes.calm same x y o refl (subst N told turn) trace after alone
+          (pictures k laws (k.identifier tag) tag f steady goes.heard (world mid) place goes.waits.alone next x y o))

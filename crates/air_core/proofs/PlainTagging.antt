@@ -1,5 +1,5 @@
 -- Tags that take commands as they are sent: how a listener is shown to be one.
-use Rattle.std.proofs.Common.{◌≡◌, ℕ, zero, suc, List, [], ◌∷◌, true, Option, Some, None, refl, sym, ◌∙◌}
+use Rattle.std.proofs.Common.{◌≡◌, ℕ, zero, suc, List, [], ◌∷◌, true, Some, None}
 use Rattle.std.specs.List.{AllByRecursion}
 use Rattle.nfc_base.specs.Signal.{Signal}
 use Rattle.nfc_base.specs.Far.{Untouched}

@@ -1,31 +1,30 @@
 -- One turn with a tag that is alone in its field.
-use Rattle.std.proofs.Common.{◌≡◌, ℕ, zero, suc, ◌+◌, ◌*◌, ◌<◌, ◌≤◌, ◌⊎◌, inl, inr, List, [], ◌∷◌, ◌++◌, length, Bool, true, false, nat_lt, if◌then◌else◌, Option, Some, None, refl, sym, ◌∙◌, ap, subst, append_assoc, append-nil, arith}
-use Rattle.std.specs.Prelude.{map}
+use Rattle.std.proofs.Common.{◌≡◌, ℕ, zero, suc, ◌+◌, ◌<◌, ◌≤◌, List, [], ◌∷◌, ◌++◌, length, true, nat_lt, if◌then◌else◌, Option, Some, None, refl, sym, ◌∙◌, ap, subst, append_assoc, arith}
 use Rattle.std.specs.List.{filter_map, cons_option}
-use Rattle.std.proofs.lemmas.List.{length-append}
+use Rattle.std.proofs.lemmas.List.{length-append, append_cancel_left}
 use Rattle.nfc_base.specs.declared.frame.Tech.{Tech}
 use Rattle.nfc_base.specs.declared.event.Event.{Event}
 use Rattle.nfc_base.specs.declared.event.Event.TheVariants.{Reset, Request, Answer, Clash}
 use Rattle.nfc_base.specs.declared.event.Fate.{Fate}
 use Rattle.nfc_base.specs.declared.event.Fate.TheVariants.{Pass, Damage, Lose, Break}
 use Rattle.nfc_base.specs.declared.event.Heard.{Heard}
-use Rattle.nfc_base.specs.declared.event.Heard.TheVariants.{Whole, Collided, Damaged, Silent}
 use Rattle.nfc_base.specs.declared.tag_link.AskFault.TheVariants.{SixBad}
 use Rattle.nfc_base.specs.Signal.{Signal}
 use Rattle.nfc_base.specs.Trace.{back_of, heard_by, noise}
 use Rattle.nfc_base.specs.Trace as backs
-use Rattle.air_core.specs.Joint.{Joint, Nothing, Single, joint, same_tech}
-use Rattle.air_core.specs.World.{World, hears, answered_by, stepped_by, stepped, dark, quiet_air}
-use Rattle.air_core.specs.Conversation.{Note, Got, note, Asks, joint_events, joint_back, replay, turn_events, TurnsTo}
+use Rattle.air_core.specs.Joint.{Joint, Nothing, Single, joint}
+use Rattle.air_core.specs.World.{World, answered_by, quiet_air}
+use Rattle.nfc_base.specs.TagLinks.{TagState, plain_state, after_all, passed}
+use Rattle.air_core.specs.Following.{last_passed, follows_on, stores_append}
+use Rattle.air_core.specs.Conversation.{Moment, note, joint_events, joint_back, replay, turn_events, TurnsTo}
 use Rattle.air_core.specs.Turn.{Air, moment, world}
 use Rattle.air_core.specs.Turning.{going_turn, back_of-append}
 use Rattle.air_core.specs.Waits.{Standing, Asking, Broken, stand, due_at, waits_next}
 use Rattle.air_core.specs.Waiting.{stand_on}
 use Rattle.air_core.specs.PlainTags.{IsAlone}
-use Rattle.air_core.specs.PlainLinks.{obeyed_of, obeyed_in, answered_of, answered_in}
+use Rattle.air_core.specs.PlainLinks.{obeyed_of, obeyed_in, answered_of, answered_in, Follows, stores_after}
 use Rattle.air_core.specs.PlainWaits.{after_bad, times, Waits}
 use Rattle.air_core.specs.declared.listener.Listener.{Ghosts}
-use Rattle.air_core.proofs.PlainAside.{Laws, alone_dark}
 
 -- the tag's answer as what comes back
 abbrev pub one : Option Signal → Joint
@@ -114,13 +113,35 @@ asking_bad f zero h = refl
 asking_bad f (suc bad) h = let e : nat_lt bad 5 ≡ true = grind (arith, h) in ap (λ v. if v then Asking (suc bad) (f ∷ []) else Broken SixBad (f ∷ [])) e
 
 module _ {L : Type 0} (k : Ghosts L) where
+  -- the stores of the events before, and of more of them
+  pub images_more : (old mid : Air L) (place : ℕ) (f : Signal) (tag : L) (turns n : ℕ) (begun : Standing) (lk : L) (w : Waits k old mid place f tag turns n begun lk []) (es : List Event)
+      (obeyed : List Signal) (zs : List (List ℕ)) → passed (k.commands tag) (plain_state (k.store tag)) obeyed ≡ passed (k.commands tag) (plain_state (k.store tag)) (times f n) ++ zs
+      → Follows (after_all (k.commands tag) (plain_state (k.store tag)) (times f n)).store (stores_after k place (world mid) es) zs
+      → Follows (k.store tag) (stores_after k place (world old) (w.events ++ es)) (passed (k.commands tag) (plain_state (k.store tag)) obeyed)
+  images_more old mid place f tag turns n begun lk w es obeyed zs more images =
+      let step = k.commands tag in
+      let s : TagState = plain_state (k.store tag) in
+      let trace : mid.trace ≡ old.trace ++ w.going.events = ap (λ (m : Moment (World L)). m.trace) w.going.moment in
+      let same : w.going.events ≡ w.events = append_cancel_left old.trace w.going.events w.events (sym trace ∙ w.trace) in
+      let reached : world mid ≡ replay (quiet_air k.machine) (world old) w.events =
+      ap (λ (m : Moment (World L)). m.world) w.going.moment ∙ ap (replay (quiet_air k.machine) (world old)) same in
+      let S : List (List ℕ) = stores_after k place (world old) w.events in
+      let stores : stores_after k place (world old) (w.events ++ es) ≡ S ++ stores_after k place (world mid) es =
+      stores_append k place (world old) w.events es ∙ ap (λ v. S ++ stores_after k place v es) (sym reached) in
+      let P : List (List ℕ) → Type 0 = λ xs. Follows (k.store tag) xs (passed step s obeyed) in
+      let Q : List (List ℕ) → Type 0 = λ xs. Follows (k.store tag) (S ++ stores_after k place (world mid) es) xs in
+      let R : List ℕ → Type 0 = λ c. Follows c (stores_after k place (world mid) es) zs in
+      subst P (sym stores) (subst Q (sym more)
+      (follows_on (k.store tag) S (passed step s (times f n)) (stores_after k place (world mid) es) zs w.images (subst R (sym (last_passed step s (times f n))) images)))
+
   -- one more turn of a wait
   abbrev pub extend : (old mid new : Air L) (place : ℕ) (f : Signal) (tag : L) (turns n bad : ℕ) (begun : Standing) (lk : L) (h : Option Heard) (es : List Event) (n' : ℕ) (s : Standing) (left : L) (done : List Signal)
       → Waits k old mid place f tag turns n begun lk [] → begun ≡ Asking bad (f ∷ [])
       → TurnsTo (quiet_air k.machine) (moment mid) (moment new) f h → new.trace ≡ mid.trace ++ es → back_of es ≡ backs.Nothing → length es ≤ 2
       → IsAlone k (k.identifier tag) new.listeners place left → times f n ++ obeyed_in (k.machine.tech tag) es ≡ times f n' → answered_in es ≡ done
-      → stand bad (f ∷ []) (note h ∷ []) ≡ s → Waits k old new place f tag (suc turns) n' s left done
-  extend old mid new place f tag turns n bad begun lk h es n' s left done w asks turn trace fresh short alone obeyed answered stands =
+      → stand bad (f ∷ []) (note h ∷ []) ≡ s → (zs : List (List ℕ)) → passed (k.commands tag) (plain_state (k.store tag)) (times f n') ≡ passed (k.commands tag) (plain_state (k.store tag)) (times f n) ++ zs
+      → Follows (after_all (k.commands tag) (plain_state (k.store tag)) (times f n)).store (stores_after k place (world mid) es) zs → Waits k old new place f tag (suc turns) n' s left done
+  extend old mid new place f tag turns n bad begun lk h es n' s left done w asks turn trace fresh short alone obeyed answered stands zs more images =
       let sum : length (w.events ++ es) ≡ length w.events + length es = length-append w.events es in
       record {
         alone = alone;
@@ -133,4 +154,5 @@ module _ {L : Type 0} (k : Ghosts L) where
         obeyed = obeyed_append (k.machine.tech tag) w.events es ∙ ap (λ t. t ++ obeyed_in (k.machine.tech tag) es) w.obeyed ∙ obeyed;
         answered = answered_append w.events es fresh ∙ ap (λ t. t ++ answered_in es) w.answered ∙ answered;
         most = omega (arith, w.most, short, sum);
+        images = images_more old mid place f tag turns n begun lk w es (times f n') zs more images;
       }

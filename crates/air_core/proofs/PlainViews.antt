@@ -1,39 +1,30 @@
 -- What a link to a plain tag shows after a wait.
-use Rattle.std.proofs.Common.{◌≡◌, ℕ, zero, suc, ◌+◌, ◌*◌, ◌<◌, ◌≤◌, ◌⊎◌, inl, inr, List, [], ◌∷◌, ◌++◌, length, drop, Bool, true, false, Option, Some, None, refl, sym, ◌∙◌, ap, subst, append_assoc, append-nil, arith}
+use Rattle.std.proofs.Common.{◌≡◌, ℕ, zero, suc, ◌+◌, ◌*◌, ◌≤◌, ◌⊎◌, inl, inr, List, [], ◌∷◌, ◌++◌, length, drop, Option, None, refl, sym, ◌∙◌, ap, subst, arith}
 use Rattle.std.specs.List.{AllByRecursion}
 use Rattle.std.proofs.lemmas.List.{length-append, drop-append-le}
+use Rattle.std.proofs.Math.Seq.{drop-append_seam}
 use Rattle.nfc_base.specs.declared.frame.Tech.{Tech}
 use Rattle.nfc_base.specs.declared.frame.Tech.TheVariants.{A, V}
 use Rattle.nfc_base.specs.declared.event.Event.{Event}
 use Rattle.nfc_base.specs.declared.tag_link.AskFault.{AskFault}
-use Rattle.nfc_base.specs.declared.tag_link.AskFault.TheVariants.{FieldLost, SixBad, Memory, Protocol}
 use Rattle.nfc_base.specs.Signal.{Signal}
 use Rattle.nfc_base.specs.Trace.{noise}
-use Rattle.nfc_base.specs.Links.{CountsOn}
-use Rattle.nfc_base.specs.TagLinks.{TagKind, Type4, TagState, TagStep, plain_state, LinkView, MayAsk, after_all, passed, Leads, Steady, Obeys, Rises}
-use Rattle.air_core.specs.Turn.{Air}
+use Rattle.nfc_base.specs.TagLinks.{TagKind, Type4, TagState, TagStep, plain_state, MayAsk, after_all, passed, Leads, Obeys}
+use Rattle.air_core.specs.Turn.{Air, world}
 use Rattle.air_core.specs.Waits.{Standing}
-use Rattle.air_core.specs.PlainTags.{plain_kind, heard_times, reached, tag_step, IsSteady, IsPlainTag, IsAlone, HasPlainTag, MayTell}
-use Rattle.air_core.specs.PlainLinks.{PlainSeen, at_place, obeyed_in, answered_in, counts_of, plain_view}
+use Rattle.air_core.specs.PlainTags.{plain_kind, heard_times, reached, tag_step, IsSteady, IsPlainTag, HasPlainTag, MayTell}
+use Rattle.air_core.specs.PlainLinks.{PlainSeen, at_place, obeyed_in, answered_in, Follows, stores_after, between, plain_view}
 use Rattle.air_core.specs.PlainWaits.{times, Waits}
 use Rattle.air_core.specs.declared.listener.Listener.{Ghosts}
 use Rattle.air_core.proofs.PlainAside.{Laws}
 use Rattle.air_core.proofs.PlainTurns.{obeyed_append, answered_append, noise_append}
-use Rattle.air_core.proofs.PlainSteps.{place_is}
-
--- a command that leaves what it left leaves it however often it comes
-after_stays : (step : TagState → Signal → TagStep) (s : TagState) (f : Signal) → (step s f).after ≡ s → (n : ℕ) → after_all step s (times f n) ≡ s
-after_stays step s f e zero = refl
-after_stays step s f e (suc n) = ap (λ t. after_all step t (times f n)) e ∙ after_stays step s f e n
+use Rattle.air_core.proofs.PlainStores.{after_times, place_is, store_heard}
 
 passed_stays : (step : TagState → Signal → TagStep) (s : TagState) (f : Signal) → (step s f).after ≡ s → (n : ℕ) → AllByRecursion (λ x. x ≡ s.store) (passed step s (times f n))
 passed_stays step s f e zero = tt
 passed_stays step s f e (suc n) =
     let P : TagState → Type 0 = λ t. AllByRecursion (λ x. x ≡ s.store) (passed step t (times f n)) in
     (ap (λ t. t.store) e, subst P (sym e) (passed_stays step s f e n))
-
-after_times : (step : TagState → Signal → TagStep) (s : TagState) (f : Signal) → (step (step s f).after f).after ≡ (step s f).after → (n : ℕ) → after_all step s (times f (suc n)) ≡ (step s f).after
-after_times step s f e n = after_stays step (step s f).after f e n
 
 passed_times : (step : TagState → Signal → TagStep) (s : TagState) (f : Signal) → (step (step s f).after f).after ≡ (step s f).after → (n : ℕ) → AllByRecursion (λ x. x ≡ (step s f).after.store) (passed step s (times f n))
 passed_times step s f e zero = tt
@@ -94,6 +85,7 @@ module _ {L : Type 0} (k : Ghosts L) where
     pub noise : (plain_view k b).noise ≡ (plain_view k a).noise + noise events
     pub long : length b.air.trace ≤ length a.air.trace + 2 * turns
     pub longer : length a.air.trace ≤ length b.air.trace
+    pub images : Follows (plain_view k a).state.store (stores_after k a.place (world a.air) (between k a b)) (passed (plain_view k a).step (plain_view k a).state obeys.more)
 
   module _ (laws : Laws k) (old : Air L) (place : ℕ) (f : Signal) (t : HasPlainTag k old place) (may : MayTell k t.tag f) (steady : IsSteady k t.tag f) where
     commands_heard : (n : ℕ) → k.commands (heard_times k t.tag f n) ≡ k.commands t.tag
@@ -101,10 +93,6 @@ module _ {L : Type 0} (k : Ghosts L) where
 
     commands_dark : (n : ℕ) → k.commands (k.machine.darkened (heard_times k t.tag f n)) ≡ k.commands t.tag
     commands_dark n = ap (λ l. k.commands (k.machine.darkened l)) (sym (reached_times t.tag f n)) ∙ t.plain.dark (times f n) (all_times (MayTell k t.tag) f may n)
-
-    store_heard : (n : ℕ) → plain_state (k.store (heard_times k t.tag f n)) ≡ after_all (k.commands t.tag) (plain_state (k.store t.tag)) (times f n)
-    store_heard zero = refl
-    store_heard (suc n) = steady.after n ∙ sym (after_times (k.commands t.tag) (plain_state (k.store t.tag)) f steady.again n)
 
     left_tech : (n : ℕ) (left : L) → IsLeft t.tag f n left → k.machine.tech left ≡ k.machine.tech t.tag
     left_tech n left (inl e) = ap k.machine.tech e ∙ (heard_same laws t.tag f n).0
@@ -119,8 +107,8 @@ module _ {L : Type 0} (k : Ghosts L) where
     left_commands n left (inr e) = ap k.commands e ∙ commands_dark n
 
     left_store : (n : ℕ) (left : L) → IsLeft t.tag f n left → plain_state (k.store left) ≡ after_all (k.commands t.tag) (plain_state (k.store t.tag)) (times f n)
-    left_store n left (inl e) = ap (λ l. plain_state (k.store l)) e ∙ store_heard n
-    left_store n left (inr e) = ap (λ l. plain_state (k.store l)) e ∙ ap plain_state (laws.dark_keeps (heard_times k t.tag f n)).2 ∙ store_heard n
+    left_store n left (inl e) = ap (λ l. plain_state (k.store l)) e ∙ store_heard k t.tag f steady n
+    left_store n left (inr e) = ap (λ l. plain_state (k.store l)) e ∙ ap plain_state (laws.dark_keeps (heard_times k t.tag f n)).2 ∙ store_heard k t.tag f steady n
 
     module _ (new : Air L) (turns heard : ℕ) (s : Standing) (left : L) (done : List Signal) (w : Waits k old new place f t.tag turns heard s left done) (is : IsLeft t.tag f heard left)
         (start : ℕ) (last last' : Option Signal) (over over' : Option AskFault) (begun : start ≤ length old.trace) where
@@ -179,7 +167,7 @@ module _ {L : Type 0} (k : Ghosts L) where
         state = shown_state;
       }
 
-      obeys : Obeys (plain_view k before) (plain_view k behind) f
+      abbrev obeys : Obeys (plain_view k before) (plain_view k behind) f
       obeys = record {
         more = times f heard;
         leads = leads;
@@ -214,6 +202,16 @@ module _ {L : Type 0} (k : Ghosts L) where
           ap length shown_obeyed ∙ length-append (plain_view k before).obeyed (times f heard)
           ∙ ap (λ n. length (plain_view k before).obeyed + n) (length_times f heard)
 
+      all_between : between k before behind ≡ w.events
+      all_between = ap (drop (length old.trace)) w.trace ∙ drop-append_seam old.trace w.events
+
+      shown_images : Follows (plain_view k before).state.store (stores_after k place (world old) (between k before behind)) (passed (plain_view k before).step (plain_view k before).state (times f heard))
+      shown_images =
+          let P : List Event → Type 0 = λ es. Follows (plain_view k before).state.store (stores_after k place (world old) es) (passed (plain_view k before).step (plain_view k before).state (times f heard)) in
+          let Q : List ℕ → Type 0 = λ s. Follows s (stores_after k place (world old) w.events) (passed (plain_view k before).step (plain_state s) (times f heard)) in
+          let R : (TagState → Signal → TagStep) → Type 0 = λ g. Follows (k.store t.tag) (stores_after k place (world old) w.events) (passed g (plain_state (k.store t.tag)) (times f heard)) in
+          subst P (sym all_between) (subst Q (sym (was k.store [])) (subst R (sym (was k.commands _)) w.images))
+
       pub shown : Shown before behind f t.tag turns heard done w.events
       shown = record {
         obeys = obeys;
@@ -225,4 +223,5 @@ module _ {L : Type 0} (k : Ghosts L) where
         noise = shown_noise;
         long = omega (arith, length_new, w.most);
         longer = omega (arith, length_new);
+        images = shown_images;
       }

@@ -14,4 +14,5 @@ pub mod Waiting
 pub mod PlainTags
 pub mod PlainLinks
 pub mod PlainWaits
+pub mod Following
 pub mod PlainMoving

@@ -1,6 +1,6 @@
 -- What contracts see of a link that sends each command as it is, over a field that it borrows. What the tag obeyed and
 -- what was answered is read off the field's trace.
-use Rattle.std.specs.Prelude.{◌≡◌, ◌⊎◌, ℕ, zero, suc, ◌+◌, ◌*◌, ◌≤◌, List, [], ◌∷◌, ◌++◌, length, drop, Bool, not, if◌then◌else◌, Option, Some, None}
+use Rattle.std.specs.Prelude.{◌≡◌, ◌⊎◌, ℕ, zero, suc, ◌+◌, ◌*◌, ◌≤◌, List, [], ◌∷◌, ◌++◌, length, drop, not, if◌then◌else◌, Option, Some, None}
 use Rattle.nfc_base.specs.declared.frame.Tech.{Tech}
 use Rattle.nfc_base.specs.declared.frame.Tech.TheVariants.{A}
 use Rattle.nfc_base.specs.declared.event.Event.{Event}
@@ -14,10 +14,10 @@ use Rattle.nfc_base.specs.declared.tag_link.AskFault.TheVariants.{FieldLost, Six
 use Rattle.nfc_base.specs.Signal.{Signal}
 use Rattle.nfc_base.specs.Trace.{back_of, heard_by, noise}
 use Rattle.nfc_base.specs.Links.{Counts}
-use Rattle.nfc_base.specs.TagLinks.{LinkView, TagState, TagStep, plain_state, MayAsk}
+use Rattle.nfc_base.specs.TagLinks.{LinkView, plain_state, MayAsk, passed, Leads}
 use Rattle.air_core.specs.Joint.{same_tech}
-use Rattle.air_core.specs.World.{quiet_air}
-use Rattle.air_core.specs.Turn.{Air, moment}
+use Rattle.air_core.specs.World.{World, happens, quiet_air}
+use Rattle.air_core.specs.Turn.{Air, world, moment}
 use Rattle.air_core.specs.Conversation.{Note, Going}
 use Rattle.air_core.specs.Waits.{Standing, Asking, Broken, stand, waits_next}
 use Rattle.air_core.specs.PlainTags.{plain_kind, HasPlainTag}
@@ -72,6 +72,18 @@ at_place f d (l ∷ ls) (suc n) = at_place f d ls n
 abbrev pub MayAskAt : {L : Type 0} → Ghosts L → Air L → ℕ → Signal → Type 0
 MayAskAt k air place f = MayAsk (plain_kind (at_place k.machine.tech A air.listeners place)) (at_place k.identifier [] air.listeners place) f
 
+-- Stores that follow others: each is the one before it or the next of the others, and all of these come in their order.
+abbrev pub Follows : List ℕ → List (List ℕ) → List (List ℕ) → Type 0
+Follows now [] [] = Unit {0}
+Follows now [] (y ∷ ys) = ⊥
+Follows now (x ∷ xs) [] = (x ≡ now) × Follows now xs []
+Follows now (x ∷ xs) (y ∷ ys) = ((x ≡ now) × Follows now xs (y ∷ ys)) ⊎ ((x ≡ y) × Follows y xs ys)
+
+-- the store of the listener at a place after each of some events
+abbrev pub stores_after : {L : Type 0} → Ghosts L → ℕ → World L → List Event → List (List ℕ)
+stores_after k place w [] = []
+stores_after k place w (e ∷ es) = at_place k.store [] (happens k.machine w e).listeners place ∷ stores_after k place (happens k.machine w e) es
+
 -- A link: its field, the place of its tag, how long the trace was when the link was made, the last command that was
 -- asked while it wasn't over, and by which fault it is over.
 pub record PlainSeen (L : Type 0) : Type 0 where
@@ -122,8 +134,13 @@ module _ {L : Type 0} (k : Ghosts L) where
     pub start : p.start ≤ length p.air.trace
     pub tag : HasPlainTag k p.air p.place
 
+  -- what happened to the field from one to the other
+  abbrev pub between : PlainSeen L → PlainSeen L → List Event
+  between a b = drop (length a.air.trace) b.air.trace
+
   -- Commands were asked, each in its wait, and nothing else happened to the field. What the link answered, and the
-  -- command that it ended with, are these commands. Each took at most twelve transmissions.
+  -- command that it ended with, are these commands. Each took at most twelve transmissions. The stores that the tag
+  -- passed by its steps are those that it had after the events, in their order.
   pub record PlainMoves (a b : PlainSeen L) : Type 0 where
     pub asked : List Signal
     pub notes : List Note
@@ -133,3 +150,6 @@ module _ {L : Type 0} (k : Ghosts L) where
     pub told : a.over ≡ None → answered_by_link b ++ unanswered b.over b.last ≡ answered_by_link a ++ asked
     pub most : length b.air.trace ≤ length a.air.trace + 12 * length asked
     pub ended : (e : AskFault) → a.over ≡ Some e → (b ≡ a) × (asked ≡ [])
+    pub obeyed : List Signal
+    pub leads : Leads (plain_view a) (plain_view b) obeyed
+    pub images : Follows (plain_view a).state.store (stores_after k a.place (world a.air) (between a b)) (passed (plain_view a).step (plain_view a).state obeyed)

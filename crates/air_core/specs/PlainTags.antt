@@ -1,12 +1,12 @@
 -- Tags that take commands as they are sent, alone in a field (NFC Forum Type 2 and Type 5 Tag; who hears what is this
 -- project's own).
-use Rattle.std.specs.Prelude.{◌≡◌, ℕ, zero, suc, List, [], ◌∷◌, ◌++◌, length, true, false, Option, Some, None}
+use Rattle.std.specs.Prelude.{◌≡◌, ℕ, zero, suc, List, [], ◌∷◌, ◌++◌, length, true, false, Some, None}
 use Rattle.std.specs.List.{AllByRecursion}
 use Rattle.nfc_base.specs.declared.frame.Tech.{Tech}
 use Rattle.nfc_base.specs.declared.frame.Tech.TheVariants.{A, V}
 use Rattle.nfc_base.specs.Signal.{Signal}
 use Rattle.nfc_base.specs.Far.{Untouched}
-use Rattle.nfc_base.specs.TagLinks.{TagKind, Type2, Type5, TagState, TagStep, plain_state, MayAsk}
+use Rattle.nfc_base.specs.TagLinks.{TagKind, Type2, Type5, TagStep, plain_state, MayAsk}
 use Rattle.air_core.specs.Turn.{Air}
 use Rattle.air_core.specs.declared.listener.Listener.{Ghosts}
 
@@ -42,7 +42,7 @@ module _ {L : Type 0} (k : Ghosts L) where
   -- is selected. Its step on commands stays, also in the dark.
   pub record IsPlainTag (kind : TagKind) (identifier : List ℕ) (l : L) : Type 0 where
     pub steady : (fs : List Signal) → AllByRecursion (MayAsk kind identifier) fs → k.is_selected (reached l fs) ≡ true →
-      (f : Signal) → MayAsk kind identifier f → IsSteady (reached l fs) f
+        (f : Signal) → MayAsk kind identifier f → IsSteady (reached l fs) f
     pub same : (fs : List Signal) → AllByRecursion (MayAsk kind identifier) fs → k.commands (reached l fs) ≡ k.commands l
     pub dark : (fs : List Signal) → AllByRecursion (MayAsk kind identifier) fs → k.commands (k.machine.darkened (reached l fs)) ≡ k.commands l
 

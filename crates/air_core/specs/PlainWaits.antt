@@ -1,18 +1,19 @@
 -- One wait of a tag that takes commands as they are sent: the turns that were made, and what each end of it leaves (this
 -- project's own air).
-use Rattle.std.specs.Prelude.{◌≡◌, ◌⊎◌, ℕ, zero, suc, ◌*◌, ◌<◌, ◌≤◌, List, [], ◌∷◌, ◌++◌, length, Bool, true, false, nat_lt, if◌then◌else◌, Option, Some, None, Result, Ok, Err}
+use Rattle.std.specs.Prelude.{◌≡◌, ◌⊎◌, ℕ, zero, suc, ◌*◌, ◌<◌, ◌≤◌, List, [], ◌∷◌, ◌++◌, length, true, false, nat_lt, if◌then◌else◌, Some, None, Result, Ok, Err}
 use Rattle.nfc_base.specs.declared.event.Event.{Event}
 use Rattle.nfc_base.specs.declared.tag_link.AskFault.{AskFault}
 use Rattle.nfc_base.specs.declared.tag_link.AskFault.TheVariants.{FieldLost, SixBad, Memory, Protocol}
 use Rattle.nfc_base.specs.Signal.{Signal}
 use Rattle.nfc_base.specs.Trace.{back_of, noise}
 use Rattle.nfc_base.specs.Trace as backs
+use Rattle.nfc_base.specs.TagLinks.{plain_state, passed}
 use Rattle.air_core.specs.World.{quiet_air}
-use Rattle.air_core.specs.Turn.{Air, moment}
+use Rattle.air_core.specs.Turn.{Air, world, moment}
 use Rattle.air_core.specs.Conversation.{Note, Going}
 use Rattle.air_core.specs.Waits.{Standing, Asking, Broken, stand, waits_next}
 use Rattle.air_core.specs.PlainTags.{heard_times, tag_step, IsAlone, HasPlainTag}
-use Rattle.air_core.specs.PlainLinks.{obeyed_in, answered_in}
+use Rattle.air_core.specs.PlainLinks.{obeyed_in, answered_in, Follows, stores_after}
 use Rattle.air_core.specs.declared.listener.Listener.{Ghosts}
 
 -- where a wait stands after so many bad receptions
@@ -39,6 +40,7 @@ module _ {L : Type 0} (k : Ghosts L) where
     pub obeyed : obeyed_in (k.machine.tech tag) events ≡ times f heard
     pub answered : answered_in events ≡ done
     pub most : length events ≤ 2 * turns
+    pub images : Follows (k.store tag) (stores_after k place (world old) events) (passed (k.commands tag) (plain_state (k.store tag)) (times f heard))
 
   -- After so many bad receptions of the command, the field is as lit as before, and the tag doesn't answer, or something
   -- didn't pass.

@@ -1,10 +1,10 @@
 -- Waits one after another: laws of `stand` and of the requests that are due.
-use Rattle.std.proofs.Common.{◌≡◌, ℕ, suc, List, [], ◌∷◌, ◌++◌, Bool, true, false, if◌then◌else◌, nat_lt, refl, sym, ◌∙◌, ap, subst}
+use Rattle.std.proofs.Common.{◌≡◌, ℕ, suc, List, [], ◌∷◌, ◌++◌, Bool, true, false, if◌then◌else◌, nat_lt, sym, ◌∙◌, ap, subst}
 use Rattle.nfc_base.specs.Signal.{Signal}
 use Rattle.nfc_base.specs.Trace.{is_bad_in_wait}
 use Rattle.nfc_base.specs.declared.tag_link.AskFault.TheVariants.{SixBad}
-use Rattle.air_core.specs.Conversation.{AirModel, Moment, Note, Lit, Got, Lost, Next, Over, Asks, IsDemand, Going}
-use Rattle.air_core.specs.Waits.{Standing, Asking, Broken, Astray, stand, due_at, waits_from, waits_next}
+use Rattle.air_core.specs.Conversation.{AirModel, Moment, Note, Lit, Got, Lost, Next, Over, IsDemand, Going}
+use Rattle.air_core.specs.Waits.{Asking, Broken, stand, due_at, waits_from, waits_next}
 use Rattle.air_core.specs.Turning.{due_weaker, going_then}
 
 stand_kinds : (bad : ℕ) (c : Signal) (cs : List Signal) (hs : List Note) (b : ℕ) (left ys : List Signal) (ns : List Note) (v w : Bool)

@@ -334,7 +334,10 @@ fn waits_of_a_link(rt: HostRuntime) -> Result<(), Fail> {
         (&[d], (0, 0, 0x61, 6, true)),
         (&[p, d, l], (0, 0, 0x61, 8, true)),
         (&[p, l, p, l, p, l, p, l, p, l], (0, 0, 0x61, 15, true)),
-        (&[p, l, p, l, p, l, p, l, p, l, p, l], (2, 2, 0x51, 13, true)),
+        (
+            &[p, l, p, l, p, l, p, l, p, l, p, l],
+            (2, 2, 0x51, 13, true),
+        ),
         (&[l, d, l, d, l, d], (2, 2, 0, 7, true)),
         (&[b], (1, 1, 0, 2, false)),
         (&[p, b], (1, 1, 0x51, 3, false)),

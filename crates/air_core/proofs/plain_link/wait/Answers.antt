@@ -1,7 +1,6 @@
-use Rattle.std.proofs.Common.{◌≡◌, ℕ, suc, ◌+◌, ◌<◌, ◌≤◌, List, [], Bool, false, Option, Some, None, Err, ap, subst, sym, ◌∙◌, arith}
+use Rattle.std.proofs.Common.{◌≡◌, ℕ, suc, ◌+◌, List, [], Bool, false, Some, Err, subst, arith}
 use Rattle.nfc_base.specs.declared.far.Mute.{Mute}
 use Rattle.nfc_base.specs.declared.event.Heard.{Heard}
-use Rattle.nfc_base.specs.declared.event.Heard.TheVariants.{Whole}
 use Rattle.air_core.specs.declared.fault.AirFault.{AirFault}
 use Rattle.air_core.specs.Turn.{Transmits}
 use Rattle.air_core.specs.PlainWaits.{GoesOn}

@@ -1,14 +1,12 @@
-use Rattle.std.proofs.Common.{◌≡◌, ℕ, List, [], ◌∷◌, Bool, true, false, if◌then◌else◌, Option, Some, None, refl, sym, ◌∙◌, ap, arith, slice_index}
+use Rattle.std.proofs.Common.{◌≡◌, [], ◌∷◌, Bool, true, if◌then◌else◌, Some, None, refl, ◌∙◌, ap, arith, slice_index}
 use Rattle.std.proofs.lemmas.Grind.{common_steps}
-use Rattle.nfc_base.specs.declared.frame.Tech.TheVariants.{A, V}
 use Rattle.nfc_base.specs.Signal.{Signal, part_a}
 use Rattle.nfc_base.specs.TagLinks.{Type2, plain_state}
-use Rattle.air_core.specs.PlainTags.{IsSteady, HasPlainTag}
+use Rattle.air_core.specs.PlainTags.{IsSteady}
 use Rattle.air_core.specs.declared.tests.Notepad.{Notepad}
 use Rattle.air_core.specs.contracts.tests.NotepadListener.TheImpl.{ghosts}
 use Rattle.air_core.proofs.PlainTagging.{DoesAgain, steady_by, plain_by}
 use Rattle.air_core.proofs.tests.notepad_field.Goals as goal
-
 
 steady : (m : Notepad) (f : Signal) → m.lit ≡ true → IsSteady ghosts m f
 steady m f lit = steady_by ghosts (λ x. x.lit ≡ true) m f lit does refl

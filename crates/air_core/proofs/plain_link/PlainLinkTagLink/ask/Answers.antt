@@ -1,5 +1,3 @@
-use Rattle.std.proofs.Common.{◌≡◌, Option, Some, None}
-use Rattle.nfc_base.specs.declared.tag_link.AskFault.{AskFault}
 use Rattle.air_core.specs.PlainMoving.{moves_again}
 use Rattle.air_core.proofs.PlainAside.{Laws}
 use Rattle.air_core.proofs.PlainAnswers.{none_here, ok_obeys, ok_rises, ok_answer, ok_ready, ok_moves, err_obeys, err_rises, err_fault, err_calm, err_moves}
