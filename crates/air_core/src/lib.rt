@@ -13,10 +13,12 @@ mod fault;
 mod field;
 mod hearing;
 mod listener;
+mod plain_link;
 
 pub use fault::AirFault;
 pub use field::Field;
 pub use listener::Listener;
+pub use plain_link::PlainLink;
 
 #[cfg(test)]
 mod tests;
