@@ -1,3 +1,4 @@
 pub mod Packing
 pub mod Deciding
 pub mod BitsOfBytes
+pub mod Leading

@@ -5,3 +5,4 @@ pub mod Trace
 pub mod Blocks
 pub mod Far
 pub mod Links
+pub mod TagLinks
