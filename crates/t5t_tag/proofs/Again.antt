@@ -1,0 +1,147 @@
+-- A frame that is heard again leaves the store that its first hearing left.
+use Rattle.std.proofs.Common.{◌≡◌, ℕ, ◌/◌, ◌<◌, List, [], ◌∷◌, length, drop, Bool, true, false, not, nat_eq, nat_le, ◌==◌, ◌&&◌, if◌then◌else◌, refl, sym, ◌∙◌, ap, subst, arith}
+use Rattle.nfc_base.specs.Signal.{Signal}
+use Rattle.t5t_tag.specs.declared.answer.T5Answer.TheVariants.{Present}
+use Rattle.t5t_tag.specs.Store.{T5State, id_size, block_count, is_locked}
+use Rattle.t5t_tag.specs.Mask.{asks_for}
+use Rattle.t5t_tag.specs.Spelling.{addressed_flags, plain_flags, inventory_flags, inventory_code, quiet_code, read_code, write_code}
+use Rattle.t5t_tag.specs.Step.{T5Turn, silent, tells, refuses, not_supported, no_block, block_locked, read_turn, write_turn, obeyed, names, addressed, plain, inventory, bytes_turn, is_nfc_v, t5_turn, t5_after}
+use Rattle.t5t_tag.proofs.Stores.{length_with_block, with_block_again}
+use Rattle.t5t_tag.proofs.Turns.{writes, hushes, by_test, less_of, same_of, on_write, on_obeyed}
+use Rattle.t5t_tag.proofs.Steps.{read_leaves}
+
+-- a step whose second time leaves the store of its first
+abbrev pub IsOnce : (T5State → T5Turn) → T5State → Type 0
+IsOnce step t = (step (step t).after).after.store ≡ (step t).after.store
+
+-- a step that changes nothing
+once_kept : (step : T5State → T5Turn) (t : T5State) → (step t).after ≡ t → IsOnce step t
+once_kept step t kept = ap (λ s. (step s).after.store) kept
+
+-- a choice between two steps by a test that the step doesn't change
+once_by : (t : T5State) (test : T5State → Bool) (x y : T5State → T5Turn) → test (if test t then x t else y t).after ≡ test t
+    → (test t ≡ true → IsOnce x t) → (test t ≡ false → IsOnce y t) → IsOnce (λ s. if test s then x s else y s) t
+once_by t test x y same yes_case no_case = by_value (test t) refl
+  where
+    by_value : (v : Bool) → test t ≡ v → IsOnce (λ s. if test s then x s else y s) t
+    by_value true h =
+        let first : (if test t then x t else y t) ≡ x t = ap (λ v. if v then x t else y t) h in
+        let again : test (x t).after ≡ true = ap (λ (r : T5Turn). test r.after) (sym first) ∙ same ∙ h in
+        ap (λ (r : T5Turn). (if test r.after then x r.after else y r.after).after.store) first
+        ∙ ap (λ v. (if v then x (x t).after else y (x t).after).after.store) again
+        ∙ yes_case h
+        ∙ sym (ap (λ (r : T5Turn). r.after.store) first)
+    by_value false h =
+        let first : (if test t then x t else y t) ≡ y t = ap (λ v. if v then x t else y t) h in
+        let again : test (y t).after ≡ false = ap (λ (r : T5Turn). test r.after) (sym first) ∙ same ∙ h in
+        ap (λ (r : T5Turn). (if test r.after then x r.after else y r.after).after.store) first
+        ∙ ap (λ v. (if v then x (y t).after else y (y t).after).after.store) again
+        ∙ no_case h
+        ∙ sym (ap (λ (r : T5Turn). r.after.store) first)
+
+-- the tests of a write behind that of the block's number: the length of the content, and the lock
+abbrev lock_step : ℕ → List ℕ → T5State → T5Turn
+lock_step block content t = if is_locked t block then refuses t block_locked else writes t block content
+
+abbrev size_step : ℕ → List ℕ → T5State → T5Turn
+size_step block content t = if not (length content == t.size) then refuses t not_supported else lock_step block content t
+
+lock_same : (t : T5State) (block : ℕ) (content : List ℕ) → is_locked (lock_step block content t).after block ≡ is_locked t block
+lock_same t block content =
+    by_test (λ r. is_locked r.after block ≡ is_locked t block) (is_locked t block) (refuses t block_locked) (writes t block content) (λ h. refl) (λ h. refl)
+
+size_same : (t : T5State) (block : ℕ) (content : List ℕ) → not (length content == (size_step block content t).after.size) ≡ not (length content == t.size)
+size_same t block content =
+    let P : T5Turn → Type 0 = λ r. not (length content == r.after.size) ≡ not (length content == t.size) in
+    by_test P (not (length content == t.size)) (refuses t not_supported) (lock_step block content t)
+    (λ h. refl)
+    (λ h. by_test P (is_locked t block) (refuses t block_locked) (writes t block content) (λ k. refl) (λ k. refl))
+
+write_once : (t : T5State) (block : ℕ) (content : List ℕ) → IsOnce (λ s. write_turn s block content) t
+write_once t block content =
+    once_by t (λ s. nat_le (block_count s) block) (λ s. refuses s no_block) (size_step block content)
+    (on_write t (λ r. nat_le (block_count r.after) block ≡ nat_le (block_count t) block) (record {
+      error = λ code. refl;
+      read = λ b within. refl;
+      written = λ b bytes within long. ap (λ n. nat_le (n / t.size) block) (length_with_block t.size t.store b bytes within long);
+    }) block content)
+    (λ h. refl)
+    (λ h. once_by t (λ s. not (length content == s.size)) (λ s. refuses s not_supported) (lock_step block content)
+    (size_same t block content)
+    (λ k. refl)
+    (λ k. once_by t (λ s. is_locked s block) (λ s. refuses s block_locked) (λ s. writes s block content)
+    (lock_same t block content)
+    (λ l. refl)
+    (λ l. with_block_again t.size t.store block content (less_of (block_count t) block h) (same_of (length content) t.size k))))
+
+-- a choice by a test that knows nothing of the tag
+once_of : (t : T5State) (v : Bool) (x y : T5State → T5Turn) → IsOnce x t → IsOnce y t → IsOnce (λ s. if v then x s else y s) t
+once_of t true x y p q = p
+once_of t false x y p q = q
+
+obeyed_once : (t : T5State) (code : ℕ) (rest : List ℕ) → IsOnce (λ s. obeyed s code rest) t
+obeyed_once t code [] = refl
+obeyed_once t code (block ∷ rest) =
+    let other : T5State → T5Turn = λ s. if (code == read_code) && (length rest == 0) then read_turn s block else refuses s not_supported in
+    once_of t (code == write_code) (λ s. write_turn s block rest) other
+    (write_once t block rest)
+    (once_of t ((code == read_code) && (length rest == 0)) (λ s. read_turn s block) (λ s. refuses s not_supported)
+    (once_kept (λ s. read_turn s block) t (read_leaves t block))
+    refl)
+
+-- a command changes neither the identifier nor whether the tag is quiet
+obeyed_keeps : (t : T5State) (code : ℕ) (rest : List ℕ) → ((obeyed t code rest).after.id ≡ t.id) × ((obeyed t code rest).after.quiet ≡ t.quiet)
+obeyed_keeps t code rest = on_obeyed t (λ r. (r.after.id ≡ t.id) × (r.after.quiet ≡ t.quiet)) (record {
+  error = λ c. (refl, refl);
+  read = λ b within. (refl, refl);
+  written = λ b bytes within long. (refl, refl);
+}) code rest
+
+addressed_once : (t : T5State) (rest : List ℕ) → IsOnce (λ s. addressed s rest) t
+addressed_once t [] = refl
+addressed_once t (code ∷ rest) =
+    let v : Bool = (code == quiet_code) && (length rest == id_size) in
+    let heard : T5State → T5Turn = λ s. if v then hushes s else obeyed s code (drop id_size rest) in
+    let P : T5Turn → Type 0 = λ r. not (names r.after rest) ≡ not (names t rest) in
+    once_by t (λ s. not (names s rest)) silent heard
+    (by_test P (not (names t rest)) (silent t) (heard t)
+    (λ h. refl)
+    (λ h. by_test P v (hushes t) (obeyed t code (drop id_size rest))
+    (λ k. refl)
+    (λ k. ap (λ id. not (names (record t { id = id }) rest)) (obeyed_keeps t code (drop id_size rest)).0)))
+    (λ h. refl)
+    (λ h. once_of t v hushes (λ s. obeyed s code (drop id_size rest)) refl (obeyed_once t code (drop id_size rest)))
+
+plain_once : (t : T5State) (rest : List ℕ) → IsOnce (λ s. plain s rest) t
+plain_once t [] =
+    once_by t (λ s. s.quiet) silent (λ s. refuses s not_supported)
+    (by_test (λ r. r.after.quiet ≡ t.quiet) t.quiet (silent t) (refuses t not_supported) (λ h. refl) (λ h. refl))
+    (λ h. refl)
+    (λ h. refl)
+plain_once t (code ∷ rest) =
+    once_by t (λ s. s.quiet) silent (λ s. obeyed s code rest)
+    (by_test (λ r. r.after.quiet ≡ t.quiet) t.quiet (silent t) (obeyed t code rest) (λ h. refl) (λ h. (obeyed_keeps t code rest).1))
+    (λ h. refl)
+    (λ h. obeyed_once t code rest)
+
+inventory_keeps : (t : T5State) (rest : List ℕ) → (inventory t rest).after ≡ t
+inventory_keeps t [] = refl
+inventory_keeps t (code ∷ []) = refl
+inventory_keeps t (code ∷ bits ∷ mask) =
+    by_test (λ r. r.after ≡ t) ((code == inventory_code) && not t.quiet && asks_for t.id bits mask) (tells t (Present t.id)) (silent t) (λ h. refl) (λ h. refl)
+
+bytes_once : (t : T5State) (bytes : List ℕ) → IsOnce (λ s. bytes_turn s bytes) t
+bytes_once t [] = refl
+bytes_once t (flags ∷ rest) =
+    let third : T5State → T5Turn = λ s. if flags == inventory_flags then inventory s rest else silent s in
+    let other : T5State → T5Turn = λ s. if flags == plain_flags then plain s rest else third s in
+    once_of t (flags == addressed_flags) (λ s. addressed s rest) other
+    (addressed_once t rest)
+    (once_of t (flags == plain_flags) (λ s. plain s rest) third
+    (plain_once t rest)
+    (once_of t (flags == inventory_flags) (λ s. inventory s rest) silent
+    (once_kept (λ s. inventory s rest) t (inventory_keeps t rest))
+    refl))
+
+pub heard_again : (t : T5State) (f : Signal) → (t5_after (t5_after t f) f).store ≡ (t5_after t f).store
+heard_again t f = once_of t (is_nfc_v f.tech && (f.tail == 0)) (λ s. bytes_turn s f.bytes) silent (bytes_once t f.bytes) refl

@@ -1,0 +1,189 @@
+-- What is read from a frame is exactly the command that it spells.
+use Rattle.std.proofs.Common.{◌≡◌, ℕ, ◌≤◌, List, [], ◌∷◌, ◌++◌, length, take, drop, Bool, true, false, nat_eq, nat_le, ◌==◌, ◌&&◌, if◌then◌else◌, Option, Some, None, IsNone, ◌↔◌, refl, sym, ◌∙◌, ap, subst, arith}
+use Rattle.std.specs.Cmp.Lexicographic.{pointwise}
+use Rattle.std.proofs.lemmas.List.{append-nil, length-append, length-reverse, length-take-le, nil_from_length, reverse-reverse, take-append-drop}
+use Rattle.std.proofs.Math.Seq.{take-append_seam, drop-append_seam}
+use Rattle.nfc_base.specs.declared.frame.Tech.{Tech}
+use Rattle.nfc_base.specs.declared.frame.Tech.TheVariants.{A, V}
+use Rattle.nfc_base.specs.Signal.{Signal, signal, whole_v}
+use Rattle.t5t_tag.specs.declared.command.T5Command.{T5Command}
+use Rattle.t5t_tag.specs.declared.command.T5Command.TheVariants.{Inventory, Quiet, Read, Write, ReadMany}
+use Rattle.t5t_tag.specs.Store.{id_size}
+use Rattle.t5t_tag.specs.Mask.{low_first, most_bits, mask_size, kept}
+use Rattle.t5t_tag.specs.Spelling.{addressed_flags, plain_flags, inventory_flags, inventory_code, quiet_code, read_code, write_code, read_many_code, most_written, head, IsAddress, IsT5Command, command_frame, T5Spelling}
+use Rattle.t5t_tag.specs.Reading.{filled, read_quiet, read_write, read_command, read_addressed, read_inventory, read_bits, command_of, spelled_command}
+use Rattle.t5t_tag.proofs.Bytes.{equal_of, at_most, is_at_most, left_of, right_of, equal_bytes, bytes_self, same_number, by_if}
+use Rattle.t5t_tag.proofs.Masks.{length_filled, kept_of_filled, take_filled, filled_take, length_front, kept_front}
+
+told : (v c : T5Command) (f : Signal) → T5Spelling v f → Some v ≡ Some c → T5Spelling c f
+told v c f is e =
+    let P : T5Command → Type 0 = λ x. T5Spelling x f in
+    subst P (let d : v ≡ c = cc in d) is
+
+-- what is read is spelled, from the inside out
+quiet_told : (id : Option (List ℕ)) (c : T5Command) → IsAddress id → read_quiet id ≡ Some c → T5Spelling c (whole_v (head id quiet_code ++ []))
+quiet_told None c is e = cc
+quiet_told (Some id) c is e =
+    told (Quiet id) c (whole_v (head (Some id) quiet_code ++ [])) (record {
+      range = is;
+      frame = ap (λ t. whole_v (addressed_flags ∷ quiet_code ∷ t)) (append-nil (low_first id));
+    }) e
+
+write_told : (id : Option (List ℕ)) (block : ℕ) (rest : List ℕ) (c : T5Command) → IsAddress id → read_write id block rest ≡ Some c → T5Spelling c (whole_v (head id write_code ++ block ∷ rest))
+write_told id block rest c is =
+    by_if (nat_le (length rest) most_written) (Some (Write id block (record { items = rest }))) None c (T5Spelling c (whole_v (head id write_code ++ block ∷ rest)))
+    (λ h e. told (Write id block (record { items = rest })) c (whole_v (head id write_code ++ block ∷ rest)) (record {
+      range = (is, at_most (length rest) most_written h);
+      frame = refl;
+    }) e)
+    (λ h e. cc)
+
+-- the same behind another name of the code
+coded : (id : Option (List ℕ)) (code n : ℕ) (rest : List ℕ) (c : T5Command) → (code == n) ≡ true → T5Spelling c (whole_v (head id n ++ rest)) → T5Spelling c (whole_v (head id code ++ rest))
+coded id code n rest c h is =
+    let P : ℕ → Type 0 = λ m. T5Spelling c (whole_v (head id m ++ rest)) in
+    subst P (sym (equal_of code n h)) is
+
+command_told : (id : Option (List ℕ)) (code : ℕ) (rest : List ℕ) (c : T5Command) → IsAddress id → read_command id code rest ≡ Some c → T5Spelling c (whole_v (head id code ++ rest))
+command_told id code [] c is =
+    by_if (code == quiet_code) (read_quiet id) None c (T5Spelling c (whole_v (head id code ++ [])))
+    (λ h e. coded id code quiet_code [] c h (quiet_told id c is e))
+    (λ h e. cc)
+command_told id code (block ∷ []) c is =
+    by_if (code == read_code) (Some (Read id block)) (if code == write_code then read_write id block [] else None) c (T5Spelling c (whole_v (head id code ++ block ∷ [])))
+    (λ h e. coded id code read_code (block ∷ []) c h (told (Read id block) c (whole_v (head id read_code ++ block ∷ [])) (record { range = is; frame = refl }) e))
+    (λ g. by_if (code == write_code) (read_write id block []) None c (T5Spelling c (whole_v (head id code ++ block ∷ [])))
+    (λ h e. coded id code write_code (block ∷ []) c h (write_told id block [] c is e))
+    (λ h e. cc))
+command_told id code (block ∷ more ∷ rest) c is =
+    by_if (code == write_code) (read_write id block (more ∷ rest)) (if (code == read_many_code) && (length rest == 0) then Some (ReadMany id block more) else None) c (T5Spelling c (whole_v (head id code ++ block ∷ more ∷ rest)))
+    (λ h e. coded id code write_code (block ∷ more ∷ rest) c h (write_told id block (more ∷ rest) c is e))
+    (λ g. by_if ((code == read_many_code) && (length rest == 0)) (Some (ReadMany id block more)) None c (T5Spelling c (whole_v (head id code ++ block ∷ more ∷ rest)))
+    (λ h e. coded id code read_many_code (block ∷ more ∷ rest) c (left_of (code == read_many_code) (length rest == 0) h) (told (ReadMany id block more) c (whole_v (head id read_many_code ++ block ∷ more ∷ rest)) (record {
+      range = is;
+      frame = ap (λ t. whole_v (head id read_many_code ++ block ∷ more ∷ t)) (nil_from_length rest (equal_of (length rest) 0 (right_of (code == read_many_code) (length rest == 0) h)));
+    }) e))
+    (λ h e. cc))
+
+addressed_told : (code : ℕ) (rest : List ℕ) (c : T5Command) → read_addressed code rest ≡ Some c → T5Spelling c (whole_v (addressed_flags ∷ code ∷ rest))
+addressed_told code rest c =
+    by_if (nat_le id_size (length rest)) (read_command (Some (low_first (take id_size rest))) code (drop id_size rest)) None c (T5Spelling c (whole_v (addressed_flags ∷ code ∷ rest)))
+    (λ h e.
+      let id : List ℕ = low_first (take id_size rest) in
+      let size : length id ≡ id_size = length-reverse (take id_size rest) ∙ length-take-le id_size rest (at_most id_size (length rest) h) in
+      let whole : low_first id ++ drop id_size rest ≡ rest = ap (λ t. t ++ drop id_size rest) (reverse-reverse (take id_size rest)) ∙ take-append-drop id_size rest in
+      let P : List ℕ → Type 0 = λ t. T5Spelling c (whole_v (addressed_flags ∷ code ∷ t)) in
+      subst P whole (command_told (Some id) code (drop id_size rest) c size e))
+    (λ h e. cc)
+
+inventory_told : (rest : List ℕ) (c : T5Command) → read_bits rest ≡ Some c → T5Spelling c (whole_v (inventory_flags ∷ inventory_code ∷ rest))
+inventory_told [] c e = cc
+inventory_told (bits ∷ mask) c e =
+    let few : Bool = nat_le bits most_bits in
+    let long : Bool = length mask == mask_size bits in
+    let same : Bool = pointwise nat_eq (kept bits mask) mask in
+    by_if (few && long && same) (Some (Inventory bits (filled mask))) None c (T5Spelling c (whole_v (inventory_flags ∷ inventory_code ∷ bits ∷ mask)))
+    (λ h e.
+      let both : (few && long) ≡ true = left_of (few && long) same h in
+      let bound : bits ≤ most_bits = at_most bits most_bits (left_of few long both) in
+      let size : length mask ≡ mask_size bits = equal_of (length mask) (mask_size bits) (right_of few long both) in
+      let clean : kept bits mask ≡ mask = equal_bytes (kept bits mask) mask (right_of (few && long) same h) in
+      told (Inventory bits (filled mask)) c (whole_v (inventory_flags ∷ inventory_code ∷ bits ∷ mask)) (record {
+        range = (bound, length_filled mask (omega (arith, bound, size)), kept_of_filled bits mask clean);
+        frame = ap (λ t. whole_v (inventory_flags ∷ inventory_code ∷ bits ∷ t)) (sym (take_filled (mask_size bits) mask size));
+      }) e)
+    (λ h e. cc)
+    e
+
+-- the same behind other names of the flags and the code
+flagged : (flags n : ℕ) (rest : List ℕ) (c : T5Command) → (flags == n) ≡ true → T5Spelling c (whole_v (n ∷ rest)) → T5Spelling c (whole_v (flags ∷ rest))
+flagged flags n rest c h is =
+    let P : ℕ → Type 0 = λ m. T5Spelling c (whole_v (m ∷ rest)) in
+    subst P (sym (equal_of flags n h)) is
+
+second : (flags code n : ℕ) (rest : List ℕ) (c : T5Command) → (code == n) ≡ true → T5Spelling c (whole_v (flags ∷ n ∷ rest)) → T5Spelling c (whole_v (flags ∷ code ∷ rest))
+second flags code n rest c h is =
+    let P : ℕ → Type 0 = λ m. T5Spelling c (whole_v (flags ∷ m ∷ rest)) in
+    subst P (sym (equal_of code n h)) is
+
+bytes_told : (bytes : List ℕ) (c : T5Command) → command_of bytes ≡ Some c → T5Spelling c (whole_v bytes)
+bytes_told [] c e = cc
+bytes_told (flags ∷ []) c e = cc
+bytes_told (flags ∷ code ∷ rest) c e =
+    let G : Type 0 = T5Spelling c (whole_v (flags ∷ code ∷ rest)) in
+    let third : Option T5Command = if (flags == inventory_flags) && (code == inventory_code) then read_bits rest else None in
+    by_if (flags == addressed_flags) (read_addressed code rest) (if flags == plain_flags then read_command None code rest else third) c G
+    (λ h e. flagged flags addressed_flags (code ∷ rest) c h (addressed_told code rest c e))
+    (λ g. by_if (flags == plain_flags) (read_command None code rest) third c G
+    (λ h e. flagged flags plain_flags (code ∷ rest) c h (command_told None code rest c tt e))
+    (λ k. by_if ((flags == inventory_flags) && (code == inventory_code)) (read_bits rest) None c G
+    (λ h e. flagged flags inventory_flags (code ∷ rest) c (left_of (flags == inventory_flags) (code == inventory_code) h) (second inventory_flags code inventory_code rest c (right_of (flags == inventory_flags) (code == inventory_code) h) (inventory_told rest c e)))
+    (λ h e. cc)))
+    e
+
+whole_told : (bytes : List ℕ) (tail : ℕ) (v : Bool) → (tail == 0) ≡ v → (c : T5Command) → (if v then command_of bytes else None) ≡ Some c → T5Spelling c (signal V bytes tail)
+whole_told bytes tail true is c e =
+    let P : ℕ → Type 0 = λ t. T5Spelling c (signal V bytes t) in
+    subst P (sym (equal_of tail 0 is)) (bytes_told bytes c e)
+whole_told bytes tail false is c e = cc
+
+frame_told : (tech : Tech) (bytes : List ℕ) (tail : ℕ) (c : T5Command) → spelled_command (signal tech bytes tail) ≡ Some c → T5Spelling c (signal tech bytes tail)
+frame_told A bytes tail c e = cc
+frame_told V bytes tail c e = whole_told bytes tail (tail == 0) refl c e
+
+-- what stands behind an identifier is read as it is without one
+pub addressed_reads : (code : ℕ) (id rest : List ℕ) → length id ≡ id_size → read_addressed code (low_first id ++ rest) ≡ read_command (Some id) code rest
+addressed_reads code id rest size =
+    let low : List ℕ = low_first id in
+    let long : length low ≡ id_size = length-reverse id ∙ size in
+    let enough : nat_le id_size (length (low ++ rest)) ≡ true = is_at_most id_size (length (low ++ rest)) (omega (arith, long, length-append low rest)) in
+    let front : take id_size (low ++ rest) ≡ low = ap (λ n. take n (low ++ rest)) (sym long) ∙ take-append_seam low rest in
+    let back : drop id_size (low ++ rest) ≡ rest = ap (λ n. drop n (low ++ rest)) (sym long) ∙ drop-append_seam low rest in
+    ap (λ v. if v then read_command (Some (low_first (take id_size (low ++ rest)))) code (drop id_size (low ++ rest)) else None) enough
+    ∙ ap (λ t. read_command (Some (low_first t)) code (drop id_size (low ++ rest))) front
+    ∙ ap (λ t. read_command (Some (low_first low)) code t) back
+    ∙ ap (λ t. read_command (Some t) code rest) (reverse-reverse id)
+
+headed_reads : (id : Option (List ℕ)) (code : ℕ) (rest : List ℕ) → IsAddress id → command_of (head id code ++ rest) ≡ read_command id code rest
+headed_reads None code rest is = refl
+headed_reads (Some id) code rest is = addressed_reads code id rest is
+
+write_reads : (id : Option (List ℕ)) (block : ℕ) (items : List ℕ) → length items ≤ most_written → read_command id write_code (block ∷ items) ≡ Some (Write id block (record { items = items }))
+write_reads id block [] few = refl
+write_reads id block (b ∷ items) few =
+    ap (λ v. if v then Some (Write id block (record { items = b ∷ items })) else None) (is_at_most (length (b ∷ items)) most_written few)
+
+inventory_reads : (bits : ℕ) (mask : List ℕ) → bits ≤ most_bits → length mask ≡ id_size → kept bits mask ≡ mask → read_inventory bits (take (mask_size bits) mask) ≡ Some (Inventory bits mask)
+inventory_reads bits mask few size is =
+    let n : ℕ = mask_size bits in
+    let front : List ℕ = take n mask in
+    let a : nat_le bits most_bits ≡ true = is_at_most bits most_bits few in
+    let b : (length front == n) ≡ true = ap (λ k. k == n) (length_front bits mask few size) ∙ same_number n in
+    let d : pointwise nat_eq (kept bits front) front ≡ true = ap (λ t. pointwise nat_eq t front) (kept_front n bits mask is) ∙ bytes_self front in
+    ap (λ v. if v && (length front == n) && pointwise nat_eq (kept bits front) front then Some (Inventory bits (filled front)) else None) a
+    ∙ ap (λ v. if true && v && pointwise nat_eq (kept bits front) front then Some (Inventory bits (filled front)) else None) b
+    ∙ ap (λ v. if true && true && v then Some (Inventory bits (filled front)) else None) d
+    ∙ ap (λ t. Some (Inventory bits t)) (filled_take bits mask few size is)
+
+-- a command is read from its frame
+pub command_reads : (c : T5Command) → IsT5Command c → spelled_command (command_frame c) ≡ Some c
+command_reads (Inventory bits mask) is = inventory_reads bits mask is.0 is.1 is.2
+command_reads (Quiet id) is =
+    ap (λ t. read_addressed quiet_code t) (sym (append-nil (low_first id))) ∙ addressed_reads quiet_code id [] is
+command_reads (Read id block) is = headed_reads id read_code (block ∷ []) is
+command_reads (Write id block content) is = headed_reads id write_code (block ∷ content.items) is.0 ∙ write_reads id block content.items is.1
+command_reads (ReadMany id first more) is = headed_reads id read_many_code (first ∷ more ∷ []) is
+
+-- what is read from a frame is exactly what it spells
+pub exact_command : (f : Signal) (o : Option T5Command) → o ≡ spelled_command f → (c : T5Command) → (o ≡ Some c) ↔ T5Spelling c f
+exact_command f o is c = (
+  (λ e. frame_told f.tech f.bytes f.tail c (sym is ∙ e)),
+  (λ s. is ∙ ap spelled_command s.frame ∙ command_reads c s.range),
+)
+
+-- no frame spells two commands
+pub one_command : (f : Signal) (c d : T5Command) → T5Spelling c f → T5Spelling d f → c ≡ d
+one_command f c d p q =
+    let a : spelled_command f ≡ Some c = (exact_command f (spelled_command f) refl c).1 p in
+    let b : spelled_command f ≡ Some d = (exact_command f (spelled_command f) refl d).1 q in
+    cc

@@ -1,0 +1,5 @@
+pub mod Store
+pub mod Mask
+pub mod Spelling
+pub mod Reading
+pub mod Step

@@ -1,0 +1,117 @@
+-- The step of a Type 5 tag on a frame (NFC Forum Type 5 Tag; ISO/IEC 15693-3). Which error a tag tells for which
+-- condition, and to which frames it is silent, is this project's own.
+use Rattle.std.specs.Prelude.{ℕ, List, [], ◌∷◌, length, take, drop, Bool, true, false, ◌==◌, ◌&&◌, not, nat_eq, nat_le, if◌then◌else◌, Option, Some, None}
+use Rattle.std.specs.Cmp.Lexicographic.{pointwise}
+use Rattle.nfc_base.specs.declared.frame.Tech.{Tech}
+use Rattle.nfc_base.specs.declared.frame.Tech.TheVariants.{A, V}
+use Rattle.nfc_base.specs.Signal.{Signal}
+use Rattle.nfc_base.specs.Blocks.{with_block, block_of}
+use Rattle.t5t_tag.specs.declared.answer.T5Answer.{T5Answer}
+use Rattle.t5t_tag.specs.declared.answer.T5Answer.TheVariants.{Present, Content, Error}
+use Rattle.t5t_tag.specs.Store.{T5State, id_size, block_count, is_locked}
+use Rattle.t5t_tag.specs.Mask.{low_first, asks_for}
+use Rattle.t5t_tag.specs.Spelling.{addressed_flags, plain_flags, inventory_flags, inventory_code, quiet_code, read_code, write_code, answer_frame}
+
+-- the error codes: a command that isn't supported or has another length, a block that isn't there, a locked block
+abbrev pub not_supported : ℕ
+not_supported = 0x0F
+
+abbrev pub no_block : ℕ
+no_block = 0x10
+
+abbrev pub block_locked : ℕ
+block_locked = 0x12
+
+-- what a tag does at a frame: its answer, if it has one, and the tag then
+pub record T5Turn : Type 0 where
+  pub answer : Option T5Answer
+  pub after : T5State
+
+-- no answer, and nothing changes
+abbrev pub silent : T5State → T5Turn
+silent t = record { answer = None; after = t }
+
+-- an answer, and nothing changes
+abbrev pub tells : T5State → T5Answer → T5Turn
+tells t a = record { answer = Some a; after = t }
+
+abbrev pub refuses : T5State → ℕ → T5Turn
+refuses t code = tells t (Error code)
+
+-- READ SINGLE BLOCK
+abbrev pub read_turn : T5State → ℕ → T5Turn
+read_turn t block =
+    if nat_le (block_count t) block then refuses t no_block
+    else tells t (Content (record { items = block_of t.size t.store block }))
+
+-- the tag with one block changed
+abbrev pub rewritten : T5State → ℕ → List ℕ → T5State
+rewritten t block content = record t { store = with_block t.size t.store block content }
+
+-- WRITE SINGLE BLOCK
+abbrev pub write_turn : T5State → ℕ → List ℕ → T5Turn
+write_turn t block content =
+    if nat_le (block_count t) block then refuses t no_block
+    else if not (length content == t.size) then refuses t not_supported
+    else if is_locked t block then refuses t block_locked
+    else record { answer = Some (Content (record { items = [] })); after = rewritten t block content }
+
+-- A command that this tag obeys: its code, and what follows. READ MULTIPLE BLOCKS isn't supported.
+abbrev pub obeyed : T5State → ℕ → List ℕ → T5Turn
+obeyed t code [] = refuses t not_supported
+obeyed t code (block ∷ rest) =
+    if code == write_code then write_turn t block rest
+    else if (code == read_code) && (length rest == 0) then read_turn t block
+    else refuses t not_supported
+
+-- an identifier stands there, low byte first, and it is this tag's
+abbrev pub names : T5State → List ℕ → Bool
+names t rest = pointwise nat_eq (take id_size rest) (low_first t.id)
+
+-- Behind the flags of an addressed command: its code, the identifier, and what follows. STAY QUIET has nothing more.
+abbrev pub addressed : T5State → List ℕ → T5Turn
+addressed t [] = silent t
+addressed t (code ∷ rest) =
+    if not (names t rest) then silent t
+    else if (code == quiet_code) && (length rest == id_size) then record { answer = None; after = record t { quiet = true } }
+    else obeyed t code (drop id_size rest)
+
+-- Behind the flags of a command to every tag: a quiet tag doesn't hear it.
+abbrev pub plain : T5State → List ℕ → T5Turn
+plain t [] = if t.quiet then silent t else refuses t not_supported
+plain t (code ∷ rest) = if t.quiet then silent t else obeyed t code rest
+
+-- Behind the flags of an inventory: its code, the length of its mask in bits, and the mask.
+abbrev pub inventory : T5State → List ℕ → T5Turn
+inventory t [] = silent t
+inventory t (code ∷ []) = silent t
+inventory t (code ∷ bits ∷ mask) =
+    if (code == inventory_code) && not t.quiet && asks_for t.id bits mask then tells t (Present t.id) else silent t
+
+-- the bytes of a whole NFC-V frame
+abbrev pub bytes_turn : T5State → List ℕ → T5Turn
+bytes_turn t [] = silent t
+bytes_turn t (flags ∷ rest) =
+    if flags == addressed_flags then addressed t rest
+    else if flags == plain_flags then plain t rest
+    else if flags == inventory_flags then inventory t rest
+    else silent t
+
+abbrev pub is_nfc_v : Tech → Bool
+is_nfc_v A = false
+is_nfc_v V = true
+
+-- the step of the tag
+abbrev pub t5_turn : T5State → Signal → T5Turn
+t5_turn t f = if is_nfc_v f.tech && (f.tail == 0) then bytes_turn t f.bytes else silent t
+
+-- the frame of an answer, where there is one
+abbrev pub sent : Option T5Answer → Option Signal
+sent None = None
+sent (Some a) = Some (answer_frame a)
+
+abbrev pub t5_answer : T5State → Signal → Option Signal
+t5_answer t f = sent (t5_turn t f).answer
+
+abbrev pub t5_after : T5State → Signal → T5State
+t5_after t f = (t5_turn t f).after

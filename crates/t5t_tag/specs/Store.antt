@@ -1,0 +1,55 @@
+-- What a Type 5 tag holds (NFC Forum Type 5 Tag; ISO/IEC 15693-3).
+use Rattle.std.specs.Prelude.{◌≡◌, ◌⊎◌, ℕ, ◌/◌, ◌%◌, ◌≤◌, List, length, get_or, replicate, Bool, false}
+use Rattle.t5t_tag.specs.declared.tag.StoreFault.{StoreFault}
+use Rattle.t5t_tag.specs.declared.tag.StoreFault.TheVariants.{BadStore}
+
+-- how many whole blocks of one size a store has
+abbrev pub blocks_in : ℕ → List ℕ → ℕ
+blocks_in size store = length store / size
+
+-- the sizes that a block may have
+abbrev pub IsBlockSize : ℕ → Type 0
+IsBlockSize size = (size ≡ 4) ⊎ ((size ≡ 8) ⊎ ((size ≡ 16) ⊎ (size ≡ 32)))
+
+-- A store is 1 to 256 whole blocks of 4, 8, 16 or 32 bytes.
+pub record IsT5Store (size : ℕ) (store : List ℕ) : Type 0 where
+  pub sized : IsBlockSize size
+  pub whole : length store % size ≡ 0
+  pub least : 1 ≤ blocks_in size store
+  pub most : blocks_in size store ≤ 256
+
+-- A tag: its identifier, high byte first, the size of its blocks, its store, of each block number whether that block
+-- is locked, and whether it was told to stay quiet.
+pub record T5State : Type 0 where
+  pub id : List ℕ
+  pub size : ℕ
+  pub store : List ℕ
+  pub locked : List Bool
+  pub quiet : Bool
+
+-- how many bytes an identifier has
+abbrev pub id_size : ℕ
+id_size = 8
+
+-- the states that a tag can have
+pub record IsT5State (t : T5State) : Type 0 where
+  pub id : length t.id ≡ id_size
+  pub store : IsT5Store t.size t.store
+
+-- how many blocks it has
+abbrev pub block_count : T5State → ℕ
+block_count t = blocks_in t.size t.store
+
+abbrev pub is_locked : T5State → ℕ → Bool
+is_locked t block = get_or t.locked block false
+
+-- a tag that holds a store, has no locked block and isn't quiet
+abbrev pub fresh : List ℕ → ℕ → List ℕ → T5State
+fresh id size store = record { id = id; size = size; store = store; locked = replicate 256 false; quiet = false }
+
+-- the tag behind the dark: it isn't quiet
+abbrev pub darkened : T5State → T5State
+darkened t = record t { quiet = false }
+
+abbrev pub store_fault_number : StoreFault → ℕ
+store_fault_number BadStore = 1

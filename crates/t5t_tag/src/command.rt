@@ -1,0 +1,191 @@
+//! What a reader asks of a Type 5 tag.
+
+ghost use Rattle.std.specs.Prelude.{◌≡◌, ◌↔◌, ◌≤◌, ◌++◌, length, Some, IsNone};
+ghost use Rattle.nfc_base.specs.Signal.{whole_v};
+ghost use Rattle.t5t_tag.specs.Spelling.{head, command_frame, IsT5Command, T5Spelling};
+ghost use Rattle.t5t_tag.specs.Reading.{filled, read_inventory, read_write, read_command, read_addressed, command_of, spelled_command};
+ghost use Rattle.t5t_tag.specs.declared.command.T5Command.{T5Command};
+
+use crate::identifier::{MOST_BITS, kept, mask_size, turned};
+use arrayvec::ArrayVec;
+use nfc_base::{Frame, Tech};
+
+/// The flags of a command to one tag by its identifier, of one to every tag that isn't quiet, and of an inventory of one
+/// slot.
+pub(crate) const ADDRESSED: u8 = 0x22;
+
+pub(crate) const PLAIN: u8 = 0x02;
+
+pub(crate) const ONE_SLOT: u8 = 0x26;
+
+pub(crate) const INVENTORY: u8 = 0x01;
+
+pub(crate) const QUIET: u8 = 0x02;
+
+pub(crate) const READ: u8 = 0x20;
+
+pub(crate) const WRITE: u8 = 0x21;
+
+const READ_MANY: u8 = 0x23;
+
+/// A command (NFC Forum Type 5 Tag; ISO/IEC 15693-3). Identifiers have their high byte first; a command with one is
+/// addressed to that tag alone.
+#[derive(Clone, Debug, Drop, PartialEq, Eq)]
+pub enum T5Command {
+    /// Which tags are there whose identifier ends with these lowest bits? The mask has its low byte first, and its unused
+    /// bits are 0.
+    Inventory {
+        mask_bits: u8,
+        mask: [u8; 8],
+    },
+    /// The tag answers only addressed commands from now on.
+    Quiet {
+        id: [u8; 8],
+    },
+    Read {
+        id: Option<[u8; 8]>,
+        block: u8,
+    },
+    Write {
+        id: Option<[u8; 8]>,
+        block: u8,
+        content: ArrayVec<u8, 32>,
+    },
+    /// Reads the first block and as many more.
+    ReadMany {
+        id: Option<[u8; 8]>,
+        first: u8,
+        more: u8,
+    },
+}
+
+impl T5Command {
+    /// The command that a frame spells. It takes no memory.
+    pub fn read_from(frame: &Frame) -> Option<T5Command>
+        ensures exact { (c : T5Command) → ((result ≡ Some c) ↔ T5Spelling c frame.now) }
+        ensures none { IsNone result ↔ ((c : T5Command) → ¬ T5Spelling c frame.now) }
+        ensures reads { result ≡ spelled_command frame.now }
+    {
+        if frame.tech() != Tech::V || frame.tail() != 0 {
+            return None;
+        }
+        read_bytes(frame.view())
+    }
+
+    /// The frame that spells it, where a mask has at most 64 bits and its unused bits are 0. It takes no memory.
+    pub fn to_frame(&self) -> Frame
+        ensures frame { result ≡ command_frame self.now }
+        ensures exact { IsT5Command self.now → T5Spelling self.now result }
+    {
+        match self {
+            T5Command::Inventory { mask_bits, mask } => inventory_frame(*mask_bits, *mask),
+            T5Command::Quiet { id } => frame_of(Some(*id), QUIET, &[]),
+            T5Command::Read { id, block } => frame_of(*id, READ, &[*block]),
+            T5Command::Write { id, block, content } => {
+                let mut bytes: ArrayVec<u8, 33> = ArrayVec::new();
+                bytes.push(*block);
+                bytes.try_extend_from_slice(content).unwrap();
+                frame_of(*id, WRITE, &bytes)
+            }
+            T5Command::ReadMany { id, first, more } => frame_of(*id, READ_MANY, &[*first, *more]),
+        }
+    }
+}
+
+/// The command of the bytes of a whole NFC-V frame.
+fn read_bytes(bytes: &[u8]) -> Option<T5Command>
+    ensures { result ≡ command_of bytes.now }
+{
+    match bytes {
+        [ADDRESSED, code, rest @ ..] => read_addressed(*code, rest),
+        [PLAIN, code, rest @ ..] => read_command(None, *code, rest),
+        [ONE_SLOT, INVENTORY, bits, mask @ ..] => read_inventory(*bits, mask),
+        _ => None,
+    }
+}
+
+fn read_addressed(code: u8, rest: &[u8]) -> Option<T5Command>
+    ensures { result ≡ read_addressed code rest.now }
+{
+    let (id, rest) = rest.split_first_chunk::<8>()?;
+    read_command(Some(turned(*id)), code, rest)
+}
+
+/// The command with this code, and this behind it or behind the identifier.
+fn read_command(id: Option<[u8; 8]>, code: u8, rest: &[u8]) -> Option<T5Command>
+    ensures { result ≡ read_command id code rest.now }
+{
+    match (code, rest) {
+        (QUIET, []) => Some(T5Command::Quiet { id: id? }),
+        (READ, [block]) => Some(T5Command::Read { id, block: *block }),
+        (WRITE, [block, content @ ..]) => read_write(id, *block, content),
+        (READ_MANY, [first, more]) => Some(T5Command::ReadMany {
+            id,
+            first: *first,
+            more: *more,
+        }),
+        _ => None,
+    }
+}
+
+fn read_write(id: Option<[u8; 8]>, block: u8, rest: &[u8]) -> Option<T5Command>
+    ensures { result ≡ read_write id block rest.now }
+{
+    let mut content = ArrayVec::new();
+    content.try_extend_from_slice(rest).ok()?;
+    Some(T5Command::Write { id, block, content })
+}
+
+fn read_inventory(bits: u8, mask: &[u8]) -> Option<T5Command>
+    ensures { result ≡ read_inventory bits mask.now }
+{
+    if bits > MOST_BITS || mask.len() != mask_size(bits) {
+        return None;
+    }
+    if kept(bits, mask).as_slice() != mask {
+        return None;
+    }
+    Some(T5Command::Inventory {
+        mask_bits: bits,
+        mask: filled(mask),
+    })
+}
+
+/// A mask filled up with 0 to eight bytes.
+fn filled(mask: &[u8]) -> [u8; 8]
+    requires { length mask.now ≤ 8 }
+    ensures { result ≡ filled mask.now }
+{
+    let mut bytes = [0; 8];
+    bytes[..mask.len()].copy_from_slice(mask);
+    bytes
+}
+
+fn inventory_frame(bits: u8, mask: [u8; 8]) -> Frame
+    ensures { result ≡ command_frame (T5Command.Inventory bits mask) }
+{
+    let mut bytes: ArrayVec<u8, 11> = ArrayVec::new();
+    bytes.push(ONE_SLOT);
+    bytes.push(INVENTORY);
+    bytes.push(bits);
+    let size = mask_size(bits).min(8);
+    bytes.try_extend_from_slice(&mask[..size]).unwrap();
+    Frame::whole(Tech::V, &bytes).unwrap()
+}
+
+/// The frame of a command with this code, and this behind it or behind the identifier.
+fn frame_of(id: Option<[u8; 8]>, code: u8, rest: &[u8]) -> Frame
+    requires { length rest.now ≤ 33 }
+    ensures { result ≡ whole_v (head id code ++ rest.now) }
+{
+    let mut bytes: ArrayVec<u8, 43> = ArrayVec::new();
+    match id {
+        None => bytes.try_extend_from_slice(&[PLAIN, code]).unwrap(),
+        Some(id) => {
+            bytes.try_extend_from_slice(&[ADDRESSED, code]).unwrap();
+            bytes.try_extend_from_slice(&turned(id)).unwrap();
+        }
+    }
+    bytes.try_extend_from_slice(rest).unwrap();
+    Frame::whole(Tech::V, &bytes).unwrap()
+}

@@ -1,0 +1,208 @@
+//! A Type 5 tag.
+
+ghost use Rattle.std.specs.Prelude.{◌≡◌, ◌↔◌, ◌∷◌, not, nat_le, IfOk, IsOk, Some};
+ghost use Rattle.t5t_tag.specs.Spelling.{inventory_code};
+ghost use Rattle.t5t_tag.specs.Store.{IsT5Store, IsT5State, block_count, fresh, darkened, store_fault_number};
+ghost use Rattle.t5t_tag.specs.Step.{read_turn, write_turn, obeyed, addressed, plain, inventory, bytes_turn, t5_answer, t5_after};
+
+use crate::answer::T5Answer;
+use crate::command::{ADDRESSED, INVENTORY, ONE_SLOT, PLAIN, QUIET, READ, WRITE};
+use crate::identifier::{asks_for, turned};
+use crate::locks::Locks;
+use arrayvec::ArrayVec;
+use nfc_base::{Frame, Tech};
+use std::marker::Model;
+use thiserror::Error;
+
+/// The error codes: a command that isn't supported or has another length, a block that isn't there, a locked block.
+const NOT_SUPPORTED: u8 = 0x0F;
+
+const NO_BLOCK: u8 = 0x10;
+
+const LOCKED: u8 = 0x12;
+
+/// Why some bytes are no store of a tag.
+#[derive(Clone, Copy, Debug, PartialEq, Eq, Error)]
+pub enum StoreFault {
+    #[error("a tag has 1 to 256 whole blocks of 4, 8, 16 or 32 bytes")]
+    BadStore = 1,
+}
+
+impl StoreFault {
+    /// Its number in reports and tests.
+    pub fn number(&self) -> u8
+        ensures { result ≡ store_fault_number self.now }
+    {
+        *self as u8
+    }
+}
+
+/// A tag of 1 to 256 blocks of one size (NFC Forum Type 5 Tag; ISO/IEC 15693-3). Which error it tells for which
+/// condition is this project's own.
+#[derive(Debug, Drop)]
+pub struct T5Tag {
+    id: [u8; 8],
+    block: u8,
+    store: Vec<u8>,
+    locks: Locks,
+    quiet: bool,
+}
+
+impl Model for T5Tag {
+    ghost use Rattle.t5t_tag.specs.Store.{T5State, IsT5State};
+
+    ghost Value = { T5State };
+
+    ghost view = { λ t. record { id = t.id; size = t.block; store = t.store.items; locked = t.locks; quiet = t.quiet } };
+
+    ghost invariant = { λ t. IsT5State (record { id = t.id; size = t.block; store = t.store.items; locked = t.locks; quiet = t.quiet }) };
+}
+
+impl T5Tag {
+    /// A tag with this identifier, high byte first, that holds these bytes in blocks of this size, with no block locked.
+    pub fn new(id: [u8; 8], store: Vec<u8>, block: u8) -> Result<T5Tag, StoreFault>
+        ensures ok { IfOk result (λ t. t ≡ fresh id block store.items) }
+        ensures exact { IsOk result ↔ IsT5Store block store.items }
+    {
+        if !matches!(block, 4 | 8 | 16 | 32) {
+            return Err(StoreFault::BadStore);
+        }
+        let size = block as usize;
+        let blocks = store.len() / size;
+        if store.len() % size != 0 || blocks < 1 || blocks > 256 {
+            return Err(StoreFault::BadStore);
+        }
+        Ok(T5Tag {
+            id,
+            block,
+            store,
+            locks: Locks::none(),
+            quiet: false,
+        })
+    }
+
+    /// All bytes that it holds.
+    pub fn store(&self) -> &[u8]
+        ensures store { result.now ≡ self.now.store }
+        ensures shape { IsT5State self.now }
+    {
+        self.store.as_slice()
+    }
+
+    /// The field is gone, and with it the quiet state.
+    pub fn dark(&mut self)
+        ensures { self.new ≡ darkened self.old }
+    {
+        self.quiet = false;
+    }
+
+    /// One step: it obeys what is said to it, and is silent to every other frame. It takes no memory.
+    pub fn obey(&mut self, request: &Frame) -> Option<Frame>
+        ensures answer { result ≡ t5_answer self.old request.now }
+        ensures step { self.new ≡ t5_after self.old request.now }
+    {
+        if request.tech() != Tech::V || request.tail() != 0 {
+            return None;
+        }
+        let answer = self.hear(request.view())?;
+        Some(answer.to_frame())
+    }
+
+    /// The step on the bytes of a whole NFC-V frame.
+    fn hear(&mut self, bytes: &[u8]) -> Option<T5Answer>
+        ensures answer { result ≡ (bytes_turn self.old bytes.now).answer }
+        ensures step { self.new ≡ (bytes_turn self.old bytes.now).after }
+    {
+        match bytes {
+            [ADDRESSED, code, rest @ ..] => self.hear_addressed(*code, rest),
+            [PLAIN, rest @ ..] => self.hear_plain(rest),
+            [ONE_SLOT, INVENTORY, bits, mask @ ..] => self.hear_inventory(*bits, mask),
+            _ => None,
+        }
+    }
+
+    fn hear_inventory(&self, bits: u8, mask: &[u8]) -> Option<T5Answer>
+        ensures { result ≡ (inventory self.now (inventory_code ∷ bits ∷ mask.now)).answer }
+    {
+        if self.quiet || !asks_for(self.id, bits, mask) {
+            return None;
+        }
+        Some(T5Answer::Present { id: self.id })
+    }
+
+    fn hear_addressed(&mut self, code: u8, rest: &[u8]) -> Option<T5Answer>
+        ensures answer { result ≡ (addressed self.old (code ∷ rest.now)).answer }
+        ensures step { self.new ≡ (addressed self.old (code ∷ rest.now)).after }
+    {
+        let behind = rest.strip_prefix(&turned(self.id))?;
+        if code == QUIET && behind.is_empty() {
+            self.quiet = true;
+            return None;
+        }
+        Some(self.obey_command(code, behind))
+    }
+
+    fn hear_plain(&mut self, rest: &[u8]) -> Option<T5Answer>
+        ensures answer { result ≡ (plain self.old rest.now).answer }
+        ensures step { self.new ≡ (plain self.old rest.now).after }
+    {
+        if self.quiet {
+            return None;
+        }
+        match rest {
+            [code, rest @ ..] => Some(self.obey_command(*code, rest)),
+            [] => Some(T5Answer::Error(NOT_SUPPORTED)),
+        }
+    }
+
+    fn obey_command(&mut self, code: u8, rest: &[u8]) -> T5Answer
+        ensures answer { Some result ≡ (obeyed self.old code rest.now).answer }
+        ensures step { self.new ≡ (obeyed self.old code rest.now).after }
+    {
+        match (code, rest) {
+            (WRITE, [block, content @ ..]) => self.write(*block, content),
+            (READ, [block]) => self.read(*block),
+            _ => T5Answer::Error(NOT_SUPPORTED),
+        }
+    }
+
+    fn has(&self, block: u8) -> bool
+        ensures { result ≡ not (nat_le (block_count self.now) block) }
+    {
+        (block as usize) < self.store.len() / self.block as usize
+    }
+
+    fn read(&self, block: u8) -> T5Answer
+        ensures { Some result ≡ (read_turn self.now block).answer }
+    {
+        if !self.has(block) {
+            return T5Answer::Error(NO_BLOCK);
+        }
+        let size = self.block as usize;
+        let start = size * block as usize;
+        let mut content = ArrayVec::new();
+        content
+            .try_extend_from_slice(&self.store[start..start + size])
+            .unwrap();
+        T5Answer::Content(content)
+    }
+
+    fn write(&mut self, block: u8, content: &[u8]) -> T5Answer
+        ensures answer { Some result ≡ (write_turn self.old block content.now).answer }
+        ensures step { self.new ≡ (write_turn self.old block content.now).after }
+    {
+        if !self.has(block) {
+            return T5Answer::Error(NO_BLOCK);
+        }
+        let size = self.block as usize;
+        if content.len() != size {
+            return T5Answer::Error(NOT_SUPPORTED);
+        }
+        if self.locks.has(block) {
+            return T5Answer::Error(LOCKED);
+        }
+        let start = size * block as usize;
+        self.store[start..start + size].copy_from_slice(content);
+        T5Answer::Content(ArrayVec::new())
+    }
+}
