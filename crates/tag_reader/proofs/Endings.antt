@@ -29,7 +29,7 @@ use Rattle.tag_reader.specs.declared.fault.ReadFault.TheVariants as fault
 use Rattle.tag_reader.specs.Kinds.{IsTag, IsStore, IsStoreForm, area_of, command, first}
 use Rattle.tag_reader.specs.Asked.{IsDue, AreDue, NeedsMore, IsAsked}
 use Rattle.tag_reader.specs.Calls.{Stays, last_of, HasAsked, HasAskedAll, ByLink}
-use Rattle.tag_reader.specs.Reading.{IsReadFault, is_told, OnTold}
+use Rattle.tag_reader.specs.Reading.{IsReadFault, is_told, IsToldOrMemory, IsCalm, OnTold}
 use Rattle.tag_reader.specs.Steps.{rolling, Answers, Learns, Fails, Knows, Walks, IsLinkFault, IsInReach, IsMapFound, Reads, IsCutFault, of_link, of_container}
 use Rattle.tag_reader.proofs.Bytes.{front_is}
 use Rattle.tag_reader.proofs.Areas.{sizes, t5_cut, named, some_size, needs_short, due_reach}
@@ -88,6 +88,13 @@ container_fault how size store a b container.NoRead has = container_form how siz
 container_fault how size store a b container.Sectors has = container_form how size store container.Sectors has
 container_fault how size store a b container.BadSize has = container_form how size store container.BadSize has
 
+container_told : (f : ContainerFault) → is_told (of_container f) ≡ true
+container_told container.NotNdef = refl
+container_told container.Version = refl
+container_told container.NoRead = refl
+container_told container.Sectors = refl
+container_told container.BadSize = refl
+
 -- what was asked, where all of it was answered
 pub knows_asked : (how : How) (size : ℕ) (a b : LinkView) (known : List ℕ) (n : ℕ) → Knows how size a b known n → HasAsked how size a.state.store a b
 knows_asked how size a b known n k = record { count = n + 1; each = k.each; answered = k.answered; last = inl (k.last ∙ sym (last_more how a n)) }
@@ -108,6 +115,7 @@ ends_container how size a b known f k has = record {
   asked = knows_asked how size a b known 0 k;
   whole = λ told. knows_all how size a b known 0 k none;
   tells = container_fault how size a.state.store a b f has;
+  calm = λ begun lit quiet. inl (container_told f);
 }
   where
     none : IsDue how size a.state.store 1 → ⊥
@@ -223,6 +231,7 @@ ends_first how size a b known e f = record {
   ];
   whole = untold e (HasAskedAll how size a.state.store a b) (link_untold a b e f.fault');
   tells = link_fault how a.state.store a b e f.fault';
+  calm = λ begun lit quiet. inr (f.calm begun lit quiet);
 }
 
 -- a later one
@@ -248,6 +257,7 @@ ends_later how size a b c known known' n e k due f =
       ];
       whole = untold e (HasAskedAll how size a.state.store a c) (link_untold a c e fault');
       tells = link_fault how a.state.store a c e fault';
+      calm = λ begun lit quiet. inr (f.calm k.over k.lit (omega (arith, quiet, k.stays.rises.noise, f.stays.rises.noise)));
     }
 
 -- the walk over what is known needs more
@@ -320,6 +330,10 @@ cut_told (T5 id) size a b known space e n is low end has ends cut' =
       | inr bad ↦ subst (λ x. IsReadFault (T5 id) store a b x) (sym bad.0) (cut_form id size store space form.BadTlv has short bad.1)
     ]
 
+cut_is_told : (space : Space) (known : List ℕ) (e : ReadFault) → IsCutFault space known e → is_told e ≡ true
+cut_is_told space known e (inl none) = ap is_told none.0
+cut_is_told space known e (inr bad) = ap is_told bad.0
+
 -- the tag ends before its area
 pub ends_cut : (how : How) (size : ℕ) (a b c : LinkView) (known : List ℕ) (space : Space) (n : ℕ) (e : ReadFault) → IsStore how size a.state.store →
     Walks how size a b known space n → NeedsMore how size a.state.store (n + 1) → Answers how size (n + 1) b c → length a.state.store ≡ size * (n + 1) →
@@ -338,6 +352,7 @@ ends_cut how size a b c known space n e is walks m answers end cut' =
         answered = answered;
       };
       tells = cut_told how size a c known space e (n + 1) is (due_reach how size a.state.store (n + 1) is (inr m)) end walks.area ends cut';
+      calm = λ begun lit quiet. inl (cut_is_told space known e cut');
     }
   where
     none : IsDue how size a.state.store (n + 1 + 1) → ⊥
@@ -345,3 +360,39 @@ ends_cut how size a b c known space n e is walks m answers end cut' =
     none (inr more) = (let some = some_size how size a.state.store is in
         let next : size * (n + 1 + 1) ≡ size * (n + 1) + size = omega arith in
         omega (arith, more.within))
+
+-- where no count rose, the link didn't end by one
+pub counts_calm : (how : How) (store : List ℕ) (a b : LinkView) (e : ReadFault) → a.over ≡ None → a.dark ≡ false → b.counts ≡ a.counts → IsReadFault how store a b e →
+    IsToldOrMemory e
+counts_calm how store a b fault.NotNdef begun lit same is = inl refl
+counts_calm how store a b fault.Version begun lit same is = inl refl
+counts_calm how store a b fault.NoRead begun lit same is = inl refl
+counts_calm how store a b fault.Sectors begun lit same is = inl refl
+counts_calm how store a b fault.BadSize begun lit same is = inl refl
+counts_calm how store a b fault.NoMessageTlv begun lit same is = inl refl
+counts_calm how store a b fault.BadTlv begun lit same is = inl refl
+counts_calm how store a b (fault.Refused code) begun lit same is = inl refl
+counts_calm how store a b fault.Memory begun lit same is = inr refl
+counts_calm how store a b fault.FieldLost begun lit same is = absurd (by_link is.1)
+  where
+    by_link : (a.over ≡ Some ask.FieldLost) ⊎ AskCause a b ask.FieldLost → ⊥
+    by_link (inl was) = (let clash : None ≡ Some ask.FieldLost = sym begun ∙ was in cc)
+    by_link (inr (inl rose)) = omega (arith, ap (λ n. n.breaks) same)
+    by_link (inr (inr dark)) = (let clash : false ≡ true = sym lit ∙ dark in cc)
+counts_calm how store a b fault.SixBad begun lit same is = absurd (by_link is.1)
+  where
+    by_link : (a.over ≡ Some ask.SixBad) ⊎ AskCause a b ask.SixBad → ⊥
+    by_link (inl was) = (let clash : None ≡ Some ask.SixBad = sym begun ∙ was in cc)
+    by_link (inr rose) = omega (arith, ap (λ n. n.six_bad) same)
+counts_calm how store a b fault.Protocol begun lit same is = absurd (by_link is.1)
+  where
+    by_link : (a.over ≡ Some ask.Protocol) ⊎ AskCause a b ask.Protocol → ⊥
+    by_link (inl was) = (let clash : None ≡ Some ask.Protocol = sym begun ∙ was in cc)
+    by_link (inr rose) = omega (arith, ap (λ n. n.odd) same)
+
+-- a reading that ends by a fault on a calm link
+pub calm_end : (how : How) (size : ℕ) (a b : LinkView) (known : List ℕ) (e : ReadFault) → Reads how size a b known (Err e) → IsCalm a b → IsToldOrMemory e
+calm_end how size a b known e reads is = elim is.calm [
+  | inl quiet ↦ reads.calm is.begun is.lit quiet
+  | inr same ↦ counts_calm how a.state.store a b e is.begun is.lit same reads.tells
+]

@@ -1,9 +1,10 @@
 -- One READ on a link.
-use Rattle.std.proofs.Common.{◌≡◌, ℕ, inl, inr, ◌⊎◌, List, [], ◌∷◌, ◌++◌, refl, sym, ◌∙◌, ap, subst}
+use Rattle.std.proofs.Common.{◌≡◌, ◌≢◌, ℕ, inl, inr, false, ◌⊎◌, List, [], ◌∷◌, ◌++◌, refl, sym, ◌∙◌, ap, subst}
 use Rattle.std.specs.Prelude.{Option, Some, None, Result, Ok, Err}
 use Rattle.std.specs.List.{AllByRecursion}
 use Rattle.nfc_base.specs.Signal.{Signal}
 use Rattle.nfc_base.specs.declared.tag_link.AskFault.{AskFault}
+use Rattle.nfc_base.specs.declared.tag_link.AskFault.TheVariants as ask
 use Rattle.nfc_base.specs.TagLinks.{TagState, TagStep, LinkView, passed, after_all, Leads, Obeys, Rises, IsAnswer, IsFault, AskCause, IsEnded}
 use Rattle.nfc_base.proofs.Leading.{all_map, leads_on, all_on, rises_on, cause_on}
 use Rattle.tag_reader.specs.declared.how.How.{How}
@@ -57,7 +58,7 @@ ask_answers how size a b k r is low obeys rises last answer = record {
 
 -- an answer that found no memory
 pub answer_lost : (how : How) (size : ℕ) (a b : LinkView) (k : ℕ) → Answers how size k a b → Fails how k a b fault.Memory
-answer_lost how size a b k answer = record { stays = answer.stays; fault' = inl refl; asked = inr (answer.answered, answer.last) }
+answer_lost how size a b k answer = record { stays = answer.stays; fault' = inl refl; asked = inr (answer.answered, answer.last); calm = λ begun lit quiet. refl }
 
 -- what a call that fails says of the link: it wasn't over before, or the call changed nothing
 pub data Began (a b : LinkView) (e : AskFault) : Type 0 where
@@ -83,16 +84,25 @@ began_last : (a b : LinkView) (e : AskFault) (c : Signal) → (a.over ≡ None �
 began_last a b e c last (Open was) = inr (last was)
 began_last a b e c last (Over was same) = inl (ap (λ v. v.last) same)
 
-pub ask_fails : (how : How) (size : ℕ) (a b : LinkView) (k : ℕ) (e : AskFault) (result : Result Signal AskFault) → IsTag how size a → IsInReach how size a.state.store k →
+-- where all passes, a command that the tag answers is answered
+abbrev pub IsAnswered : LinkView → LinkView → Signal → AskFault → Type 0
+IsAnswered a b c e = a.over ≡ None → a.dark ≡ false → b.noise ≡ a.noise → (a.step a.state c).answer ≢ None → e ≡ ask.Memory
+
+pub ask_fails : (how : How) (size : ℕ) (a b : LinkView) (k : ℕ) (e : AskFault) → IsTag how size a → IsInReach how size a.state.store k →
     Obeys a b (command how k) → Rises a b → (a.over ≡ None → b.last ≡ Some (command how k)) → IsFault a b (command how k) e →
-    (a.over ≡ None → AskCause a b e) → result ≡ Err e → ((f : AskFault) → a.over ≡ Some f → IsEnded a b f result) → Fails how k a b (of_link e)
-ask_fails how size a b k e result is low obeys rises last fails cause was ended =
-    let start = began a b e result was ended in
+    (a.over ≡ None → AskCause a b e) → ((f : AskFault) → a.over ≡ Some f → IsEnded a b f (Err e)) → IsAnswered a b (command how k) e → Fails how k a b (of_link e)
+ask_fails how size a b k e is low obeys rises last fails cause ended calm =
+    let start = began a b e (Err e) refl ended in
     record {
       stays = ask_stays how size a b k is low obeys rises;
       fault' = inr (e, refl, began_by a b e fails.over cause start);
       asked = inl (fails.answered, began_last a b e (command how k) last start);
+      calm = λ begun lit quiet. ap of_link (calm begun lit quiet answers);
     }
+  where
+    answers : (a.step a.state (command how k)).answer ≢ None
+    answers silent =
+        (let clash : None ≡ Some (reply how size a.state.store k) = sym silent ∙ ap (λ t. t.answer) (replies how size a k is low) in cc)
 
 -- the same of a frame that is the READ
 pub asked_ok : (how : How) (size : ℕ) (a b : LinkView) (k : ℕ) (f r : Signal) → f ≡ command how k → IsTag how size a → IsInReach how size a.state.store k →
@@ -103,8 +113,8 @@ asked_ok how size a b k f r e is low rises =
 
 pub asked_err : (how : How) (size : ℕ) (a b : LinkView) (k : ℕ) (f : Signal) (e : AskFault) → f ≡ command how k → IsTag how size a → IsInReach how size a.state.store k →
     Rises a b → Obeys a b f → (a.over ≡ None → b.last ≡ Some f) → IsFault a b f e → (a.over ≡ None → AskCause a b e) →
-    ((g : AskFault) → a.over ≡ Some g → IsEnded a b g (Err e)) → Fails how k a b (of_link e)
+    ((g : AskFault) → a.over ≡ Some g → IsEnded a b g (Err e)) → IsAnswered a b f e → Fails how k a b (of_link e)
 asked_err how size a b k f e is_f is low rises =
     let P : Signal → Type 0 = λ g. Obeys a b g → (a.over ≡ None → b.last ≡ Some g) → IsFault a b g e → (a.over ≡ None → AskCause a b e) →
-    ((h : AskFault) → a.over ≡ Some h → IsEnded a b h (Err e)) → Fails how k a b (of_link e) in
-    subst P (sym is_f) (λ obeys last fails cause ended. ask_fails how size a b k e (Err e) is low obeys rises last fails cause refl ended)
+    ((h : AskFault) → a.over ≡ Some h → IsEnded a b h (Err e)) → IsAnswered a b g e → Fails how k a b (of_link e) in
+    subst P (sym is_f) (λ obeys last fails cause ended calm. ask_fails how size a b k e is low obeys rises last fails cause ended calm)

@@ -79,6 +79,7 @@ held how size a b known front space n m is walks e there places = record {
   asked = knows_asked how size a b known n walks.knows;
   whole = settled_all how size a b known front space n (walk.Held m) is walks e tt there;
   tells = map_found how size a b known front space n m is walks e there places;
+  calm = tt;
 }
 
 pub none : (how : How) (size : ℕ) (a b : LinkView) (known front : List ℕ) (space : Space) (n : ℕ) → IsStore how size a.state.store →
@@ -89,6 +90,7 @@ none how size a b known front space n is walks e there = record {
   asked = knows_asked how size a b known n walks.knows;
   whole = λ told. settled_all how size a b known front space n walk.NoMessageTlv is walks e tt there;
   tells = settles how size a b known front space n walk.NoMessageTlv is walks e tt there;
+  calm = λ begun lit quiet. inl refl;
 }
 
 pub bad : (how : How) (size : ℕ) (a b : LinkView) (known front : List ℕ) (space : Space) (n : ℕ) → IsStore how size a.state.store →
@@ -99,6 +101,7 @@ bad how size a b known front space n is walks e there = record {
   asked = knows_asked how size a b known n walks.knows;
   whole = λ told. settled_all how size a b known front space n walk.BadTlv is walks e tt there;
   tells = settles how size a b known front space n walk.BadTlv is walks e tt there;
+  calm = λ begun lit quiet. inl refl;
 }
 
 -- it isn't: the next READ is due, and what it needs

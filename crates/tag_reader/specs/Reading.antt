@@ -1,5 +1,5 @@
 -- What a reading answers.
-use Rattle.std.specs.Prelude.{◌≡◌, ℕ, List, Bool, true, false, Result, Ok, Err}
+use Rattle.std.specs.Prelude.{◌≡◌, ℕ, ◌⊎◌, List, Bool, true, false, Option, None, Result, Ok, Err}
 use Rattle.nfc_base.specs.TagLinks.{LinkView}
 use Rattle.nfc_base.specs.declared.tag_link.AskFault.TheVariants as ask
 use Rattle.tlv_area.specs.declared.container.ContainerFault.TheVariants as container
@@ -48,6 +48,15 @@ is_told fault.SixBad = false
 is_told fault.Memory = false
 is_told fault.Protocol = false
 is_told _ = true
+
+abbrev pub IsToldOrMemory : ReadFault → Type 0
+IsToldOrMemory e = (is_told e ≡ true) ⊎ (e ≡ fault.Memory)
+
+-- The link was lit and not over, and since then all transmissions passed or no count of what may end a link rose.
+pub record IsCalm (a b : LinkView) : Type 0 where
+  pub begun : a.over ≡ None
+  pub lit : a.dark ≡ false
+  pub calm : (b.noise ≡ a.noise) ⊎ (b.counts ≡ a.counts)
 
 abbrev pub OnTold : {A : Type 0} → Result A ReadFault → Type 0 → Type 0
 OnTold (Ok a) P = P

@@ -22,7 +22,7 @@ use Rattle.tag_reader.specs.declared.told.Told.TheVariants.{Bytes, Ended}
 use Rattle.tag_reader.specs.Kinds.{area_of, command, first, reply, IsStore, IsStoreForm, IsTag}
 use Rattle.tag_reader.specs.Asked.{AreDue}
 use Rattle.tag_reader.specs.Calls.{Stays, HasAsked, HasAskedAll, ByLink}
-use Rattle.tag_reader.specs.Reading.{IsReadFault, OnTold}
+use Rattle.tag_reader.specs.Reading.{IsReadFault, IsToldOrMemory, OnTold}
 
 -- the fault of a reading for a fault of the link, and for one of the container
 abbrev pub of_link : AskFault → ReadFault
@@ -87,6 +87,7 @@ pub record Fails (how : How) (k : ℕ) (a b : LinkView) (e : ReadFault) : Type 0
   pub fault' : IsLinkFault a b e
   pub asked : ((b.answered ≡ a.answered) × ((b.last ≡ a.last) ⊎ (b.last ≡ Some (command how k))))
       ⊎ ((b.answered ≡ a.answered ++ command how k ∷ []) × (b.last ≡ Some (command how k)))
+  pub calm : a.over ≡ None → a.dark ≡ false → b.noise ≡ a.noise → e ≡ fault.Memory
 
 abbrev pub AsksNext : How → ℕ → ℕ → LinkView → LinkView → List ℕ → List ℕ → Result Bool ReadFault → Type 0
 AsksNext how size k a b known known' (Ok more) = Answers how size k a b × Learns size a.state.store k known known' more
@@ -128,12 +129,18 @@ abbrev pub Tells : How → ℕ → List ℕ → LinkView → LinkView → List �
 Tells how size store a b known (Ok map') = IsMapFound how size store known map'
 Tells how size store a b known (Err e) = IsReadFault how store a b e
 
+-- Where all transmissions pass, a reading tells what the store holds, or finds no memory.
+abbrev pub Calms : LinkView → LinkView → Result AreaMap ReadFault → Type 0
+Calms a b (Ok map') = Unit {0}
+Calms a b (Err e) = a.over ≡ None → a.dark ≡ false → b.noise ≡ a.noise → IsToldOrMemory e
+
 -- The end of a reading, but for its message.
 pub record Reads (how : How) (size : ℕ) (a b : LinkView) (known : List ℕ) (result : Result AreaMap ReadFault) : Type 0 where
   pub stays : Stays a b
   pub asked : HasAsked how size a.state.store a b
   pub whole : OnTold result (HasAskedAll how size a.state.store a b)
   pub tells : Tells how size a.state.store a b known result
+  pub calm : Calms a b result
 
 -- the fault of an area that ends where the memory does
 abbrev pub IsCutFault : Space → List ℕ → ReadFault → Type 0

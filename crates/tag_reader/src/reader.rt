@@ -3,7 +3,7 @@
 ghost use Rattle.std.specs.Prelude.{◌≡◌, ℕ, IfOk, IfErr};
 ghost use Rattle.tag_reader.specs.Kinds.{IsTag};
 ghost use Rattle.tag_reader.specs.Calls.{Stays, HasAsked, HasAskedAll};
-ghost use Rattle.tag_reader.specs.Reading.{IsFound, IsReadFault, OnTold};
+ghost use Rattle.tag_reader.specs.Reading.{IsFound, IsReadFault, IsCalm, IsToldOrMemory, OnTold};
 
 use crate::fault::ReadFault;
 use crate::finding::find_map;
@@ -25,6 +25,8 @@ pub fn read<T: TagLink>(alloc: Global, link: &mut T, how: How) -> Result<Found, 
     ensures whole { (size : ℕ) → IsTag how size (T.seen link.old) → OnTold result (HasAskedAll how size (T.seen link.old).state.store (T.seen link.old) (T.seen link.new)) }
     ensures ok { (size : ℕ) → IsTag how size (T.seen link.old) → IfOk result (IsFound how size (T.seen link.old).state.store) }
     ensures err { IfErr result (IsReadFault how (T.seen link.old).state.store (T.seen link.old) (T.seen link.new)) }
+    // where all passes, or each wait is answered, it tells what the store holds or finds no memory
+    ensures calm { IsCalm (T.seen link.old) (T.seen link.new) → IfErr result IsToldOrMemory }
     ensures ready { T.ready link.new }
     ensures same { T.lenders link.new ≡ T.lenders link.old }
     ensures moves { T.moves link.old link.new }

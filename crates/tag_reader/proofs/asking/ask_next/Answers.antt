@@ -7,7 +7,7 @@ pub returns-in-Err-clause-next : goal.returns-in-Err-clause-next
 returns-in-Err-clause-next g c size is low =
     subst (λ e. Fails c.args.how c.args.index (g.T.TagLink.seen c.args.link.now) (g.T.TagLink.seen c.ask.new.self) e) (sym c.of_link.ensures)
     (asked_err c.args.how size (g.T.TagLink.seen c.args.link.now) (g.T.TagLink.seen c.ask.new.self) c.args.index c.command-command.result c.in-Err.fault c.command-command.ensures is low
-    c.in-Err.ensures.rises c.in-Err.ensures.obeys c.in-Err.ensures.last c.in-Err.ensures.err c.in-Err.ensures.cause c.in-Err.ensures.ended)
+    c.in-Err.ensures.rises c.in-Err.ensures.obeys c.in-Err.ensures.last c.in-Err.ensures.err c.in-Err.ensures.cause c.in-Err.ensures.ended c.in-Err.ensures.calm)
 
 pub returns-in-Err-tell-clause-next : goal.returns-in-Err-tell-clause-next
 returns-in-Err-tell-clause-next g c size is low =
