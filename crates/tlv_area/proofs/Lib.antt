@@ -6,3 +6,4 @@ pub mod OneNext
 pub mod Fronts
 pub mod Places
 pub mod Cuts
+pub mod CutHeld

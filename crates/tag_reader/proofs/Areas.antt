@@ -1,0 +1,179 @@
+-- The area that a store's container names, and which READs it is due to ask for.
+use Rattle.std.proofs.Common.{◌≡◌, ℕ, suc, ◌+◌, ◌-◌, ◌*◌, ◌<◌, ◌≤◌, ◌⊎◌, inl, inr, Bool, true, false, List, ◌++◌, length, take, drop, refl, sym, ◌∙◌, ap, subst, lit≤, arith}
+use Rattle.std.specs.Prelude.{◌/◌, ◌%◌, ◌==◌, nat_lt, not, min, slice_index, Result, Ok, Err, Option, Some, None}
+use Rattle.std.proofs.lemmas.Bool.{cases_lt, cases_Bool, ltb-false, eqb-true, eqb-false}
+use Rattle.std.proofs.lemmas.List.{length-take-le, take-append-le, get_or-take}
+use Rattle.std.proofs.Math.Nat.{div-add-mod, mul-le-mul_left, lt_of_mul-lt-mul_left}
+use Rattle.t2t_tag.specs.Store.{block_count, IsT2Store}
+use Rattle.t5t_tag.specs.Store.{IsT5Store, IsBlockSize}
+use Rattle.tlv_area.specs.declared.space.Space.{Space}
+use Rattle.tlv_area.specs.declared.container.ContainerFault.{ContainerFault}
+use Rattle.tlv_area.specs.Layout.{IsArea}
+use Rattle.tlv_area.specs.Form as form
+use Rattle.tlv_area.specs.Containers.{first_fault, unless, t2_faults, t2_space, t2_container, t5_faults, t5_space, t5_container, high_nibble}
+use Rattle.tlv_area.specs.Stores.{four_bytes, cut, cut_by}
+use Rattle.tlv_area.proofs.Cuts.{none_unknown}
+use Rattle.tag_reader.specs.declared.how.How.{How}
+use Rattle.tag_reader.specs.declared.how.How.TheVariants.{T2, T5}
+use Rattle.tag_reader.specs.Kinds.{IsStore, area_of}
+use Rattle.tag_reader.specs.Asked.{NeedsMore, IsDue}
+use Rattle.tag_reader.specs.Steps.{rolling, IsAreaOf, IsInReach, HasNumber, HoldsContainer}
+
+-- what a Type 5 store is, in numbers
+pub record Sizes (size : ℕ) (store : List ℕ) : Type 0 where
+  pub least : 4 ≤ size
+  pub most : size ≤ 32
+  pub multiple : size % 4 ≡ 0
+  pub one : size ≤ length store
+  pub all : length store ≤ 256 * size
+  pub blocks : length store ≡ size * (length store / size)
+
+small_sizes : (size : ℕ) → IsBlockSize size → (4 ≤ size) × (size ≤ 32) × (size % 4 ≡ 0)
+small_sizes size (inl e) = (omega arith, omega arith, omega arith)
+small_sizes size (inr (inl e)) = (omega arith, omega arith, omega arith)
+small_sizes size (inr (inr (inl e))) = (omega arith, omega arith, omega arith)
+small_sizes size (inr (inr (inr e))) = (omega arith, omega arith, omega arith)
+
+pub sizes : (size : ℕ) (store : List ℕ) → IsT5Store size store → Sizes size store
+sizes size store is =
+    let small = small_sizes size is.sized in
+    let blocks : size * (length store / size) + length store % size ≡ length store = div-add-mod (length store) size in
+    let low = mul-le-mul_left size is.least in
+    let high = mul-le-mul_left size is.most in
+    record {
+      least = small.0;
+      most = small.1;
+      multiple = small.2;
+      one = omega (arith, is.whole, low, blocks);
+      all = omega (arith, is.whole, high, blocks);
+      blocks = omega (arith, is.whole, blocks);
+    }
+
+-- the area of a Type 2 tag
+pub record T2Area (store : List ℕ) (space : Space) : Type 0 where
+  pub start : space.start ≡ 16
+  pub some : 16 < space.end
+  pub within : space.end ≤ length store
+  pub most : space.end ≤ 1024
+
+pub t2_area : (store : List ℕ) (space : Space) → IsT2Store store → t2_container (four_bytes store 12) ≡ Ok space → T2Area store space
+t2_area store space is has =
+    elim (cases_Bool (slice_index store 12 == 0xE1)) [
+      | inr other ↦ (let h = rw other at has in absurd (cc))
+      | inl magic ↦ (let h = rw magic at has in elim (cases_Bool (high_nibble (slice_index store 13) == 1)) [
+        | inr other ↦ (let i = rw other at h in absurd (cc))
+        | inl version ↦ (let i = rw version at h in elim (cases_Bool (high_nibble (slice_index store 15) == 0)) [
+          | inr other ↦ (let j = rw other at i in absurd (cc))
+          | inl free ↦ (let j = rw free at i in elim (cases_Bool (nat_lt 0x7E (slice_index store 14))) [
+            | inl big ↦ (let k = rw big at j in absurd (cc))
+            | inr fits ↦ (let k = rw fits at j in elim (cases_Bool (slice_index store 14 == 0)) [
+              | inl none ↦ (let l = rw none at k in absurd (cc))
+              | inr some ↦ (let l = rw some at k in
+                  let size : slice_index store 14 ≤ 126 = ltb-false 126 (slice_index store 14) fits in
+                  let positive : 0 < slice_index store 14 = omega (arith, eqb-false (slice_index store 14) 0 some) in
+                  let holds = is.area (eqb-true (slice_index store 12) 225 magic) size in
+                  let same : t2_space (four_bytes store 12) ≡ space = cc in
+                  subst (λ x. T2Area store x) same (record { start = refl; some = omega arith; within = omega (arith, is.whole); most = omega arith }))
+            ])
+          ])
+        ])
+      ])
+    ]
+
+-- what a container names is what its bytes say, cut where block numbers end
+pub t5_cut : (bytes : List ℕ) (end : ℕ) (space : Space) → cut_by (t5_container bytes) end ≡ Ok space →
+    (cut (t5_space bytes) end ≡ space) × (t5_container bytes ≡ Ok (t5_space bytes))
+t5_cut bytes end space = by_fault (first_fault (t5_faults bytes))
+  where
+    by_fault : (f : Option ContainerFault) → cut_by (unless f (t5_space bytes)) end ≡ Ok space →
+        (cut (t5_space bytes) end ≡ space) × (unless f (t5_space bytes) ≡ Ok (t5_space bytes))
+    by_fault None has = (cc, refl)
+    by_fault (Some f) has = (absurd (cc), absurd (cc))
+
+-- what is known of an area
+pub record Named (size : ℕ) (store : List ℕ) (space : Space) : Type 0 where
+  pub area : IsArea space
+  pub begins : space.start ≤ length store
+  pub ends : space.end ≤ 256 * size
+
+pub named : (how : How) (size : ℕ) (store : List ℕ) (space : Space) → IsStore how size store → area_of how size store ≡ Ok space → Named size store space
+named T2 size store space is has =
+    let fits = t2_area store space is.1 has in
+    let least = is.1.least in
+    record {
+      area = record { order = omega (arith, fits.start, fits.some); small = λ control. omega (arith, fits.start, fits.most) };
+      begins = omega (arith, fits.start, least);
+      ends = omega (arith, is.0, fits.most);
+    }
+named (T5 id) size store space is has =
+    let facts = sizes size store is in
+    let b : List ℕ = four_bytes store 0 in
+    subst (λ x. Named size store x) (t5_cut b (256 * size) space has).0 (record {
+      area = record { order = omega (arith, facts.least); small = λ control. absurd (cc) };
+      begins = omega (arith, facts.least, facts.one);
+      ends = omega arith;
+    })
+
+-- where more is needed, less is known than the area
+pub needs_short : (how : How) (size : ℕ) (store : List ℕ) (n : ℕ) → IsStore how size store → (m : NeedsMore how size store n) → size * n < m.space.end
+needs_short how size store n is m =
+    let area = named how size store m.space is m.area in
+    let all : length (take (size * n) store) ≡ size * n = length-take-le (size * n) store m.within in
+    elim (cases_lt (size * n) m.space.end) [
+      | inl short ↦ short
+      | inr whole ↦ absurd (none_unknown m.space (take (size * n) store) area.area.order (omega arith) m.more)
+    ]
+
+needs_reach : (how : How) (size : ℕ) (store : List ℕ) (n : ℕ) → IsStore how size store → NeedsMore how size store n → IsInReach how size store n
+needs_reach T2 size store n is m =
+    let short = needs_short T2 size store n is m in
+    let fits = t2_area store m.space is.1 m.area in
+    let same : size * n ≡ 16 * n = ap (λ s. s * n) is.0 in
+    omega (arith, fits.within)
+needs_reach (T5 id) size store n is m =
+    let short = needs_short (T5 id) size store n is m in
+    let area = named (T5 id) size store m.space is m.area in
+    let below : size * n < size * 256 = omega (arith, area.ends) in
+    (lt_of_mul-lt-mul_left size below, m.within)
+
+first_reach : (how : How) (size : ℕ) (store : List ℕ) (n : ℕ) → IsStore how size store → n ≡ 0 → IsInReach how size store n
+first_reach T2 size store n is e = let least = is.1.least in omega arith
+first_reach (T5 id) size store n is e = (omega arith, rw e (omega arith))
+
+-- a READ that is due is in reach
+pub due_reach : (how : How) (size : ℕ) (store : List ℕ) (n : ℕ) → IsStore how size store → IsDue how size store n → IsInReach how size store n
+due_reach how size store n is (inl e) = first_reach how size store n is e
+due_reach how size store n is (inr m) = needs_reach how size store n is m
+
+pub reach_number : (how : How) (size : ℕ) (store : List ℕ) (n : ℕ) → IsStore how size store → IsInReach how size store n → HasNumber how n
+reach_number T2 size store n is low = let most = is.1.most in omega arith
+reach_number (T5 id) size store n is low = low.0
+
+-- block numbers end behind the last that is due
+pub due_below : (how : How) (size : ℕ) (store : List ℕ) (n : ℕ) → IsStore how size store → IsInReach how size store n → n < 256
+due_below T2 size store n is low = let most = is.1.most in omega arith
+due_below (T5 id) size store n is low = low.0
+
+-- the first bytes have the container
+four_front : (bytes : List ℕ) (n i : ℕ) → i + 3 < n → four_bytes (take n bytes) i ≡ four_bytes bytes i
+four_front bytes n i low =
+    rw (get_or-take n bytes i 0 (omega arith), get_or-take n bytes (i + 1) 0 (omega arith), get_or-take n bytes (i + 2) 0 (omega arith), get_or-take n bytes (i + 3) 0 low) refl
+
+pub front_area : (how : How) (size : ℕ) (store : List ℕ) → IsStore how size store → area_of how size (take size store) ≡ area_of how size store
+front_area T2 size store is = ap (λ b. t2_container b) (four_front store size 12 (omega (arith, is.0)))
+front_area (T5 id) size store is =
+    let facts = sizes size store is in
+    ap (λ b. cut_by (t5_container b) (256 * size)) (four_front store size 0 (omega (arith, facts.least)))
+
+-- how many bytes the first READ gives
+pub first_within : (how : How) (size : ℕ) (store : List ℕ) → IsStore how size store → size ≤ length store
+first_within T2 size store is = let least = is.1.least in omega (arith, is.0)
+first_within (T5 id) size store is = (sizes size store is).one
+
+pub some_size : (how : How) (size : ℕ) (store : List ℕ) → IsStore how size store → 0 < size
+some_size T2 size store is = omega (arith, is.0)
+some_size (T5 id) size store is = let least = (sizes size store is).least in omega arith
+
+pub holds_container : (how : How) (size : ℕ) (store bytes : List ℕ) → IsStore how size store → length bytes ≡ size → HoldsContainer how bytes
+holds_container T2 size store bytes is e = omega (arith, is.0)
+holds_container (T5 id) size store bytes is e = let facts = sizes size store is in (omega (arith, facts.least), omega (arith, facts.most))

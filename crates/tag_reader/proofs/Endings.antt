@@ -1,0 +1,398 @@
+-- How a reading ends.
+use Rattle.std.proofs.Common.{◌≡◌, ℕ, zero, suc, ◌+◌, ◌-◌, ◌*◌, ◌<◌, ◌≤◌, inl, inr, ◌⊎◌, Bool, true, false, List, [], ◌∷◌, ◌++◌, length, take, drop, map, refl, sym, ◌∙◌, ap, subst, append-nil, arith}
+use Rattle.std.specs.Prelude.{min, slice_index, Option, Some, None, Result, Ok, Err}
+use Rattle.std.proofs.lemmas.Bool.{cases_lt}
+use Rattle.std.proofs.lemmas.List.{length-append, length-take-le, take-append-drop, take-append-le, take_all, length-take, get_or_append_left}
+use Rattle.std.proofs.Math.Seq.{take-append_seam}
+use Rattle.nfc_base.specs.Signal.{Signal}
+use Rattle.nfc_base.specs.TagLinks.{LinkView, AskCause}
+use Rattle.nfc_base.specs.declared.tag_link.AskFault.{AskFault}
+use Rattle.nfc_base.specs.declared.tag_link.AskFault.TheVariants as ask
+use Rattle.nfc_base.proofs.Leading.{cause_on}
+use Rattle.tlv_area.specs.declared.space.Space.{Space}
+use Rattle.tlv_area.specs.declared.space.AreaMap.{AreaMap}
+use Rattle.tlv_area.specs.declared.container.ContainerFault.{ContainerFault}
+use Rattle.tlv_area.specs.declared.container.ContainerFault.TheVariants as container
+use Rattle.tlv_area.specs.declared.walk.Walk.{Walk}
+use Rattle.tlv_area.specs.declared.walk.Walk.TheVariants as walk
+use Rattle.tlv_area.specs.Layout.{bytes_at}
+use Rattle.tlv_area.specs.Form as form
+use Rattle.tlv_area.specs.Containers.{t2_container, t5_container, t5_space}
+use Rattle.tlv_area.specs.Stores.{four_bytes, cut, cut_by, IsFormBy}
+use Rattle.tlv_area.specs.Map.{IsWalk, IsSettled, TellsForm, IsPlacedIn, message_cells, message_place, map_cells}
+use Rattle.tlv_area.proofs.Cuts.{settled_form, cuts_settle}
+use Rattle.tlv_area.proofs.OneNext.{needs_more}
+use Rattle.tag_reader.specs.declared.how.How.{How}
+use Rattle.tag_reader.specs.declared.how.How.TheVariants.{T2, T5}
+use Rattle.tag_reader.specs.declared.fault.ReadFault.{ReadFault}
+use Rattle.tag_reader.specs.declared.fault.ReadFault.TheVariants as fault
+use Rattle.tag_reader.specs.Kinds.{IsTag, IsStore, IsStoreForm, area_of, command, first}
+use Rattle.tag_reader.specs.Asked.{IsDue, AreDue, NeedsMore, IsAsked}
+use Rattle.tag_reader.specs.Calls.{Stays, last_of, HasAsked, HasAskedAll, ByLink}
+use Rattle.tag_reader.specs.Reading.{IsReadFault, is_told, IsToldOrMemory, IsCalm, OnTold}
+use Rattle.tag_reader.specs.Steps.{rolling, Answers, Learns, Fails, Knows, Walks, IsLinkFault, IsInReach, IsMapFound, Reads, IsCutFault, of_link, of_container}
+use Rattle.tag_reader.proofs.Bytes.{front_is}
+use Rattle.tag_reader.proofs.Areas.{sizes, t5_cut, named, some_size, needs_short, due_reach}
+use Rattle.tag_reader.proofs.Knowing.{first_more, last_more, due_more, answered_more, stays_on, walk_front, store_goes_on, read_goes_on}
+
+-- what a settled walk over a store tells of it
+abbrev pub TellsStore : How → List ℕ → Walk → Type 0
+TellsStore how store (walk.Held m) = IsStoreForm how store (form.Message (bytes_at store (message_cells m)))
+TellsStore how store walk.NoMessageTlv = IsStoreForm how store form.NoMessageTlv
+TellsStore how store walk.BadTlv = IsStoreForm how store form.BadTlv
+TellsStore how store walk.More = ⊥
+
+-- the form of an area is that of the store whose container names it
+named_two : (store : List ℕ) (space : Space) (w : Walk) → t2_container (four_bytes store 12) ≡ Ok space → TellsForm space store w → TellsStore T2 store w
+named_two store space (walk.Held m) has is = subst (λ r. IsFormBy r store (form.Message (bytes_at store (message_cells m)))) (sym has) is
+named_two store space walk.NoMessageTlv has is = subst (λ r. IsFormBy r store form.NoMessageTlv) (sym has) is
+named_two store space walk.BadTlv has is = subst (λ r. IsFormBy r store form.BadTlv) (sym has) is
+named_two store space walk.More has is = is
+
+named_five : (id store : List ℕ) (space : Space) (w : Walk) → t5_container (four_bytes store 0) ≡ Ok space → TellsForm (cut space (length store)) store w → TellsStore (T5 id) store w
+named_five id store space (walk.Held m) has is = subst (λ r. IsFormBy (cut_by r (length store)) store (form.Message (bytes_at store (message_cells m)))) (sym has) is
+named_five id store space walk.NoMessageTlv has is = subst (λ r. IsFormBy (cut_by r (length store)) store form.NoMessageTlv) (sym has) is
+named_five id store space walk.BadTlv has is = subst (λ r. IsFormBy (cut_by r (length store)) store form.BadTlv) (sym has) is
+named_five id store space walk.More has is = is
+
+-- an area that is cut twice is cut where the nearer end is
+cut_twice : (space : Space) (far near : ℕ) → near ≤ far → cut (cut space far) near ≡ cut space near
+cut_twice space far near low = let e : min (min space.end far) near ≡ min space.end near = omega arith in ap (λ n. record space { end = n }) e
+
+pub tells_store : (how : How) (size : ℕ) (store : List ℕ) (space : Space) (w : Walk) → IsStore how size store → area_of how size store ≡ Ok space → IsSettled w →
+    IsWalk space store w → TellsStore how store w
+tells_store T2 size store space w is has settled walks = named_two store space w has (settled_form space store w settled walks)
+tells_store (T5 id) size store space w is has settled walks =
+    let facts = sizes size store is in
+    let area = named (T5 id) size store space is has in
+    let names = t5_cut (four_bytes store 0) (256 * size) space has in
+    let whole : Space = t5_space (four_bytes store 0) in
+    let ends : cut space (length store) ≡ cut whole (length store) =
+    ap (λ s. cut s (length store)) (sym names.0) ∙ cut_twice whole (256 * size) (length store) facts.all in
+    named_five id store whole w names.1 (subst (λ s. TellsForm s store w) ends (cuts_settle space store w area.begins settled walks))
+
+-- a container's fault is the store's
+pub container_form : (how : How) (size : ℕ) (store : List ℕ) (f : ContainerFault) → area_of how size store ≡ Err f → IsStoreForm how store (form.Faulty f)
+container_form T2 size store f has = subst (λ r. IsFormBy r store (form.Faulty f)) (sym has) refl
+container_form (T5 id) size store f has = by_container (t5_container (four_bytes store 0)) has
+  where
+    by_container : (r : Result Space ContainerFault) → cut_by r (256 * size) ≡ Err f → IsFormBy (cut_by r (length store)) store (form.Faulty f)
+    by_container (Ok space) e = absurd (cc)
+    by_container (Err g) e = (let same : form.Faulty f ≡ form.Faulty g = cc in same)
+
+pub container_fault : (how : How) (size : ℕ) (store : List ℕ) (a b : LinkView) (f : ContainerFault) → area_of how size store ≡ Err f →
+    IsReadFault how store a b (of_container f)
+container_fault how size store a b container.NotNdef has = container_form how size store container.NotNdef has
+container_fault how size store a b container.Version has = container_form how size store container.Version has
+container_fault how size store a b container.NoRead has = container_form how size store container.NoRead has
+container_fault how size store a b container.Sectors has = container_form how size store container.Sectors has
+container_fault how size store a b container.BadSize has = container_form how size store container.BadSize has
+
+container_told : (f : ContainerFault) → is_told (of_container f) ≡ true
+container_told container.NotNdef = refl
+container_told container.Version = refl
+container_told container.NoRead = refl
+container_told container.Sectors = refl
+container_told container.BadSize = refl
+
+-- what was asked, where all of it was answered
+pub knows_asked : (how : How) (size : ℕ) (a b : LinkView) (known : List ℕ) (n : ℕ) → Knows how size a b known n → HasAsked how size a.state.store a b
+knows_asked how size a b known n k = record { count = n + 1; each = k.each; answered = k.answered; last = inl (k.last ∙ sym (last_more how a n)) }
+
+knows_all : (how : How) (size : ℕ) (a b : LinkView) (known : List ℕ) (n : ℕ) → Knows how size a b known n → (IsDue how size a.state.store (n + 1) → ⊥) →
+    HasAskedAll how size a.state.store a b
+knows_all how size a b known n k ends = record {
+  commands = first how (n + 1);
+  all = record { count = n + 1; list = refl; each = k.each; no_more = ends };
+  answered = k.answered;
+}
+
+-- the container has a fault
+pub ends_container : (how : How) (size : ℕ) (a b : LinkView) (known : List ℕ) (f : ContainerFault) → Knows how size a b known 0 → area_of how size a.state.store ≡ Err f →
+    Reads how size a b known (Err (of_container f))
+ends_container how size a b known f k has = record {
+  stays = k.stays;
+  asked = knows_asked how size a b known 0 k;
+  whole = λ told. knows_all how size a b known 0 k none;
+  tells = container_fault how size a.state.store a b f has;
+  calm = λ begun lit quiet. inl (container_told f);
+}
+  where
+    none : IsDue how size a.state.store 1 → ⊥
+    none (inl e) = omega arith
+    none (inr m) = (let clash : Ok m.space ≡ Err f = sym m.area ∙ has in cc)
+
+module _ (how : How) (size : ℕ) (a b : LinkView) (known front : List ℕ) (space : Space) (n : ℕ) (w : Walk)
+    (is : IsStore how size a.state.store) (walks : Walks how size a b known space n) (e : front ≡ take space.end known)
+    (settled : IsSettled w) (there : (more : List ℕ) → IsWalk space (front ++ more) w) where
+  at_store : IsWalk space a.state.store w
+  at_store = subst (λ xs. IsWalk space xs w) (sym (store_goes_on a.state.store front (min space.end (size * (n + 1))) (walk_front how size a b known front space n walks e)))
+      (there (drop (min space.end (size * (n + 1))) a.state.store))
+
+  at_read : IsWalk space (take (size * (n + 1)) a.state.store) w
+  at_read = subst (λ xs. IsWalk space xs w) (sym (read_goes_on a.state.store front space.end (size * (n + 1)) (walk_front how size a b known front space n walks e)))
+      (there (drop (min space.end (size * (n + 1))) (take (size * (n + 1)) a.state.store)))
+
+  no_more : IsDue how size a.state.store (n + 1) → ⊥
+  no_more (inl zero') = omega arith
+  no_more (inr m) =
+      let same : m.space ≡ space = let both : Ok m.space ≡ Ok space = sym m.area ∙ walks.area in cc in
+      let more = subst (λ s. form.NeedsMore s (take (size * (n + 1)) a.state.store)) same m.more in
+      subst IsSettled (needs_more space (take (size * (n + 1)) a.state.store) w walks.fits.order at_read more) settled
+
+  pub settles : TellsStore how a.state.store w
+  settles = tells_store how size a.state.store space w is walks.area settled at_store
+
+  pub settled_walk : IsWalk space a.state.store w
+  settled_walk = at_store
+
+  pub settled_all : HasAskedAll how size a.state.store a b
+  settled_all = knows_all how size a b known n walks.knows no_more
+
+-- bytes that lie in a front
+bytes_front : (front more cells : List ℕ) → ((i : ℕ) → i < length cells → slice_index cells i < length front) → bytes_at (front ++ more) cells ≡ bytes_at front cells
+bytes_front front more [] below = refl
+bytes_front front more (c ∷ cells) below =
+    let here : slice_index (front ++ more) c ≡ slice_index front c = get_or_append_left front more 0 c (below 0 (omega arith)) in
+    let rest = bytes_front front more cells (λ i low. below (suc i) (omega arith)) in
+    ap (λ b. b ∷ bytes_at (front ++ more) cells) here ∙ ap (λ bs. slice_index front c ∷ bs) rest
+
+cells_below : (front : List ℕ) (m : AreaMap) → IsPlacedIn front m → (i : ℕ) → i < length (message_cells m) → slice_index (message_cells m) i < length front
+cells_below front m places i low = places.below i (omega (arith, length-take m.length (drop (message_place m) (map_cells m))))
+
+-- a message is found
+pub map_found : (how : How) (size : ℕ) (a b : LinkView) (known front : List ℕ) (space : Space) (n : ℕ) (m : AreaMap) → IsStore how size a.state.store →
+    Walks how size a b known space n → front ≡ take space.end known → ((more : List ℕ) → IsWalk space (front ++ more) (walk.Held m)) → IsPlacedIn front m →
+    IsMapFound how size a.state.store known m
+map_found how size a b known front space n m is walks e there places =
+    let store : List ℕ = a.state.store in
+    let cells : List ℕ = message_cells m in
+    let walked = settled_walk how size a b known front space n (walk.Held m) is walks e tt there in
+    let form' = settles how size a b known front space n (walk.Held m) is walks e tt there in
+    let below = cells_below front m places in
+    let whole : store ≡ front ++ drop (min space.end (size * (n + 1))) store =
+    store_goes_on store front (min space.end (size * (n + 1))) (walk_front how size a b known front space n walks e) in
+    let read : known ≡ front ++ drop space.end known = store_goes_on known front space.end e in
+    let bytes : bytes_at store cells ≡ bytes_at known cells =
+    ap (λ xs. bytes_at xs cells) whole ∙ bytes_front front (drop (min space.end (size * (n + 1))) store) cells below
+    ∙ sym (ap (λ xs. bytes_at xs cells) read ∙ bytes_front front (drop space.end known) cells below) in
+    let longer : length known ≡ length front + length (drop space.end known) = ap length read ∙ length-append front (drop space.end known) in
+    record {
+      area = walks.area ∙ ap (λ s. Ok s) (sym walked.0);
+      found = (refl, walked.1, walked.2, walked.3, walked.4);
+      placed = record { placed = places.placed; below = λ i low. omega (arith, places.below i low, longer) };
+      held = subst (λ bs. IsStoreForm how store (form.Message bs)) bytes form';
+    }
+
+-- a fault of the link
+fault_on : (a b c : LinkView) (e : ReadFault) → Stays a b → b.over ≡ None → b.dark ≡ false → IsLinkFault b c e → IsLinkFault a c e
+fault_on a b c e stays over lit (inl memory) = inl memory
+fault_on a b c e stays over lit (inr by) = inr (by.0, by.1, (by.2.0, by_link by.2.1))
+  where
+    by_link : (b.over ≡ Some by.0) ⊎ AskCause b c by.0 → (a.over ≡ Some by.0) ⊎ AskCause a c by.0
+    by_link (inl was) = (let clash : None ≡ Some by.0 = sym over ∙ was in absurd (cc))
+    by_link (inr cause) = inr (cause_on a b c by.0 stays.rises lit cause)
+
+link_fault : (how : How) (store : List ℕ) (a b : LinkView) (e : ReadFault) → IsLinkFault a b e → IsReadFault how store a b e
+link_fault how store a b e (inl memory) = subst (λ x. IsReadFault how store a b x) (sym memory) tt
+link_fault how store a b e (inr by) = subst (λ x. IsReadFault how store a b x) (sym by.1) (go by.0 by.2)
+  where
+    go : (f : AskFault) → ByLink a b f → IsReadFault how store a b (of_link f)
+    go ask.FieldLost is = is
+    go ask.SixBad is = is
+    go ask.Memory is = tt
+    go ask.Protocol is = is
+
+link_untold : (a b : LinkView) (e : ReadFault) → IsLinkFault a b e → is_told e ≡ false
+link_untold a b e (inl memory) = ap is_told memory
+link_untold a b e (inr by) = ap is_told by.1 ∙ go by.0
+  where
+    go : (f : AskFault) → is_told (of_link f) ≡ false
+    go ask.FieldLost = refl
+    go ask.SixBad = refl
+    go ask.Memory = refl
+    go ask.Protocol = refl
+
+untold : (e : ReadFault) (P : Type 0) → is_told e ≡ false → is_told e ≡ true → P
+untold e P not_told is = (let clash : false ≡ true = sym not_told ∙ is in absurd (cc))
+
+-- the first READ isn't answered, or its answer finds no memory
+pub ends_first : (how : How) (size : ℕ) (a b : LinkView) (known : List ℕ) (e : ReadFault) → Fails how 0 a b e → Reads how size a b known (Err e)
+ends_first how size a b known e f = record {
+  stays = f.stays;
+  asked = elim f.asked [
+    | inl none ↦ record {
+      count = 0;
+      each = λ k low. absurd (omega arith);
+      answered = none.0 ∙ sym (append-nil a.answered);
+      last = elim none.1 [ inl same ↦ inl same | inr next ↦ inr (next, inl refl) ];
+    }
+    | inr one ↦ record { count = 1; each = λ k low. inl (omega arith); answered = one.0; last = inl one.1 }
+  ];
+  whole = untold e (HasAskedAll how size a.state.store a b) (link_untold a b e f.fault');
+  tells = link_fault how a.state.store a b e f.fault';
+  calm = λ begun lit quiet. inr (f.calm begun lit quiet);
+}
+
+-- a later one
+pub ends_later : (how : How) (size : ℕ) (a b c : LinkView) (known known' : List ℕ) (n : ℕ) (e : ReadFault) → Knows how size a b known n →
+    IsDue how size a.state.store (n + 1) → Fails how (n + 1) b c e → Reads how size a c known' (Err e)
+ends_later how size a b c known known' n e k due f =
+    let fault' = fault_on a b c e k.stays k.over k.lit f.fault' in
+    record {
+      stays = stays_on a b c k.stays f.stays;
+      asked = elim f.asked [
+        | inl none ↦ record {
+          count = n + 1;
+          each = k.each;
+          answered = none.0 ∙ k.answered;
+          last = elim none.1 [ inl same ↦ inl (same ∙ k.last ∙ sym (last_more how a n)) | inr next ↦ inr (next, due) ];
+        }
+        | inr one ↦ record {
+          count = n + 1 + 1;
+          each = due_more how size a.state.store (n + 1) k.each due;
+          answered = answered_more how a.answered b.answered c.answered (n + 1) k.answered one.0;
+          last = inl (one.1 ∙ sym (last_more how a (n + 1)));
+        }
+      ];
+      whole = untold e (HasAskedAll how size a.state.store a c) (link_untold a c e fault');
+      tells = link_fault how a.state.store a c e fault';
+      calm = λ begun lit quiet. inr (f.calm k.over k.lit (omega (arith, quiet, k.stays.rises.noise, f.stays.rises.noise)));
+    }
+
+-- the walk over what is known needs more
+pub due_next : (how : How) (size : ℕ) (a b : LinkView) (known front : List ℕ) (space : Space) (n : ℕ) → Walks how size a b known space n → front ≡ take space.end known →
+    length front < space.end → form.NeedsMore space front → NeedsMore how size a.state.store (n + 1)
+due_next how size a b known front space n walks e short more =
+    let store : List ℕ = a.state.store in
+    let m : ℕ = size * (n + 1) in
+    let same : front ≡ take (min space.end m) store = walk_front how size a b known front space n walks e in
+    let within : min space.end m ≤ length store = elim walks.fits.within [ inl h ↦ omega arith | inr h ↦ omega arith ] in
+    let size' : length front ≡ min space.end m = ap length same ∙ length-take-le (min space.end m) store within in
+    let least : min space.end m ≡ m = omega arith in
+    record {
+      space = space;
+      area = walks.area;
+      within = omega arith;
+      more = subst (λ xs. form.NeedsMore space xs) (same ∙ ap (λ p. take p store) least) more;
+    }
+
+-- all of the store is known
+known_store : (how : How) (size : ℕ) (a b : LinkView) (known : List ℕ) (n : ℕ) → Knows how size a b known n → length a.state.store ≡ size * (n + 1) → known ≡ a.state.store
+known_store how size a b known n k end =
+    let store : List ℕ = a.state.store in
+    k.bytes ∙ ap (λ p. take p (store ++ store)) (sym end) ∙ take-append_seam store store
+
+-- what stands where the tag ends before its area
+pub record Ends (space : Space) (store known : List ℕ) : Type 0 where
+  pub same : known ≡ store
+  pub begins : space.start ≤ length known
+  pub more : form.NeedsMore space known
+  pub short : length known < space.end
+
+pub ends_at : (how : How) (size : ℕ) (a b : LinkView) (known : List ℕ) (space : Space) (n : ℕ) → IsStore how size a.state.store → Walks how size a b known space n →
+    NeedsMore how size a.state.store (n + 1) → length a.state.store ≡ size * (n + 1) → Ends space a.state.store known
+ends_at how size a b known space n is walks m end =
+    let store : List ℕ = a.state.store in
+    let same = known_store how size a b known n walks.knows end in
+    let all : take (size * (n + 1)) store ≡ known = take_all (size * (n + 1)) store (omega arith) ∙ sym same in
+    let area : m.space ≡ space = let both : Ok m.space ≡ Ok space = sym m.area ∙ walks.area in cc in
+    let low = needs_short how size store (n + 1) is m in
+    let sizes' : length known ≡ length store = ap length same in
+    record {
+      same = same;
+      begins = omega (arith, walks.fits.begins);
+      more = subst (λ xs. form.NeedsMore space xs) all (subst (λ s. form.NeedsMore s (take (size * (n + 1)) store)) area m.more);
+      short = omega (arith, ap (λ s. s.end) area);
+    }
+
+-- the form of a store that ends before its area
+cut_form : (id : List ℕ) (size : ℕ) (store : List ℕ) (space : Space) (f : form.Form) → area_of (T5 id) size store ≡ Ok space → length store < space.end →
+    form.IsForm (record space { end = length store }) store f → IsStoreForm (T5 id) store f
+cut_form id size store space f has short is =
+    let names = t5_cut (four_bytes store 0) (256 * size) space has in
+    let whole : Space = t5_space (four_bytes store 0) in
+    let ends : min whole.end (256 * size) ≡ space.end = ap (λ s. s.end) names.0 in
+    let least : length store ≡ min whole.end (length store) = omega arith in
+    let same : record space { end = length store } ≡ cut whole (length store) =
+    ap {B = Space} (λ (s : Space). record s { end = length store }) (sym names.0) ∙ ap {B = Space} (λ (p : ℕ). record whole { end = p }) least in
+    subst (λ r. IsFormBy (cut_by r (length store)) store f) (sym names.1) (subst (λ s. form.IsForm s store f) same is)
+
+cut_told : (how : How) (size : ℕ) (a b : LinkView) (known : List ℕ) (space : Space) (e : ReadFault) (n : ℕ) → IsStore how size a.state.store →
+    IsInReach how size a.state.store n → length a.state.store ≡ size * n → area_of how size a.state.store ≡ Ok space → Ends space a.state.store known →
+    IsCutFault space known e → IsReadFault how a.state.store a b e
+cut_told T2 size a b known space e n is low end has ends cut' = (let same : size * n ≡ 16 * n = ap (λ s. s * n) is.0 in absurd (omega arith))
+cut_told (T5 id) size a b known space e n is low end has ends cut' =
+    let store : List ℕ = a.state.store in
+    let short : length store < space.end = subst (λ xs. length xs < space.end) ends.same ends.short in
+    elim (subst (λ xs. IsCutFault space xs e) ends.same cut') [
+      | inl none ↦ subst (λ x. IsReadFault (T5 id) store a b x) (sym none.0) (cut_form id size store space form.NoMessageTlv has short none.1)
+      | inr bad ↦ subst (λ x. IsReadFault (T5 id) store a b x) (sym bad.0) (cut_form id size store space form.BadTlv has short bad.1)
+    ]
+
+cut_is_told : (space : Space) (known : List ℕ) (e : ReadFault) → IsCutFault space known e → is_told e ≡ true
+cut_is_told space known e (inl none) = ap is_told none.0
+cut_is_told space known e (inr bad) = ap is_told bad.0
+
+-- the tag ends before its area
+pub ends_cut : (how : How) (size : ℕ) (a b c : LinkView) (known : List ℕ) (space : Space) (n : ℕ) (e : ReadFault) → IsStore how size a.state.store →
+    Walks how size a b known space n → NeedsMore how size a.state.store (n + 1) → Answers how size (n + 1) b c → length a.state.store ≡ size * (n + 1) →
+    IsCutFault space known e → Reads how size a c known (Err e)
+ends_cut how size a b c known space n e is walks m answers end cut' =
+    let k = walks.knows in
+    let ends = ends_at how size a b known space n is walks m end in
+    let each = due_more how size a.state.store (n + 1) k.each (inr m) in
+    let answered = answered_more how a.answered b.answered c.answered (n + 1) k.answered answers.answered in
+    record {
+      stays = stays_on a b c k.stays answers.stays;
+      asked = record { count = n + 1 + 1; each = each; answered = answered; last = inl (answers.last ∙ sym (last_more how a (n + 1))) };
+      whole = λ told. record {
+        commands = first how (n + 1 + 1);
+        all = record { count = n + 1 + 1; list = refl; each = each; no_more = none };
+        answered = answered;
+      };
+      tells = cut_told how size a c known space e (n + 1) is (due_reach how size a.state.store (n + 1) is (inr m)) end walks.area ends cut';
+      calm = λ begun lit quiet. inl (cut_is_told space known e cut');
+    }
+  where
+    none : IsDue how size a.state.store (n + 1 + 1) → ⊥
+    none (inl zero') = omega arith
+    none (inr more) = (let some = some_size how size a.state.store is in
+        let next : size * (n + 1 + 1) ≡ size * (n + 1) + size = omega arith in
+        omega (arith, more.within))
+
+-- where no count rose, the link didn't end by one
+pub counts_calm : (how : How) (store : List ℕ) (a b : LinkView) (e : ReadFault) → a.over ≡ None → a.dark ≡ false → b.counts ≡ a.counts → IsReadFault how store a b e →
+    IsToldOrMemory e
+counts_calm how store a b fault.NotNdef begun lit same is = inl refl
+counts_calm how store a b fault.Version begun lit same is = inl refl
+counts_calm how store a b fault.NoRead begun lit same is = inl refl
+counts_calm how store a b fault.Sectors begun lit same is = inl refl
+counts_calm how store a b fault.BadSize begun lit same is = inl refl
+counts_calm how store a b fault.NoMessageTlv begun lit same is = inl refl
+counts_calm how store a b fault.BadTlv begun lit same is = inl refl
+counts_calm how store a b (fault.Refused code) begun lit same is = inl refl
+counts_calm how store a b fault.Memory begun lit same is = inr refl
+counts_calm how store a b fault.FieldLost begun lit same is = absurd (by_link is.1)
+  where
+    by_link : (a.over ≡ Some ask.FieldLost) ⊎ AskCause a b ask.FieldLost → ⊥
+    by_link (inl was) = (let clash : None ≡ Some ask.FieldLost = sym begun ∙ was in cc)
+    by_link (inr (inl rose)) = omega (arith, ap (λ n. n.breaks) same)
+    by_link (inr (inr dark)) = (let clash : false ≡ true = sym lit ∙ dark in cc)
+counts_calm how store a b fault.SixBad begun lit same is = absurd (by_link is.1)
+  where
+    by_link : (a.over ≡ Some ask.SixBad) ⊎ AskCause a b ask.SixBad → ⊥
+    by_link (inl was) = (let clash : None ≡ Some ask.SixBad = sym begun ∙ was in cc)
+    by_link (inr rose) = omega (arith, ap (λ n. n.six_bad) same)
+counts_calm how store a b fault.Protocol begun lit same is = absurd (by_link is.1)
+  where
+    by_link : (a.over ≡ Some ask.Protocol) ⊎ AskCause a b ask.Protocol → ⊥
+    by_link (inl was) = (let clash : None ≡ Some ask.Protocol = sym begun ∙ was in cc)
+    by_link (inr rose) = omega (arith, ap (λ n. n.odd) same)
+
+-- a reading that ends by a fault on a calm link
+pub calm_end : (how : How) (size : ℕ) (a b : LinkView) (known : List ℕ) (e : ReadFault) → Reads how size a b known (Err e) → IsCalm a b → IsToldOrMemory e
+calm_end how size a b known e reads is = elim is.calm [
+  | inl quiet ↦ reads.calm is.begun is.lit quiet
+  | inr same ↦ counts_calm how a.state.store a b e is.begun is.lit same reads.tells
+]

@@ -1,0 +1,9 @@
+pub mod Bytes
+pub mod Areas
+pub mod Replies
+pub mod Contents
+pub mod Links
+pub mod Knowing
+pub mod Endings
+pub mod Turns
+pub mod Lists

@@ -1,0 +1,65 @@
+-- What a tag does at a READ: it answers, and stays as it is.
+use Rattle.std.proofs.Common.{◌≡◌, ℕ, suc, ◌+◌, ◌*◌, ◌<◌, ◌≤◌, Bool, true, false, List, [], ◌∷◌, ◌++◌, length, take, drop, refl, sym, ◌∙◌, ap, subst, arith}
+use Rattle.std.specs.Prelude.{◌/◌, ◌%◌, nat_le, nat_lt, if◌then◌else◌, Option, Some, None}
+use Rattle.std.proofs.lemmas.Bool.{lt-ltb}
+use Rattle.nfc_base.specs.Signal.{Signal}
+use Rattle.nfc_base.specs.Blocks.{block_of}
+use Rattle.nfc_base.specs.TagLinks.{TagKind, TagState, TagStep, LinkView, MayAsk, Type2, Type5, IsAddressed}
+use Rattle.t2t_tag.specs.Store.{block_count, IsT2Store}
+use Rattle.t2t_tag.specs.Step.{four_blocks, t2_answer, t2_after}
+use Rattle.t2t_tag.specs.Spelling as t2
+use Rattle.t2t_tag.specs.declared.answer.T2Answer.{T2Answer}
+use Rattle.t2t_tag.specs.declared.answer.T2Answer.TheVariants as t2_says
+use Rattle.t5t_tag.specs.Store.{T5State, IsT5State, IsT5Store, id_size, blocks_in}
+use Rattle.t5t_tag.specs.Step.{T5Turn, refuses, tells, no_block, sent, t5_answer, t5_after}
+use Rattle.t5t_tag.specs.Spelling as t5
+use Rattle.t5t_tag.specs.declared.answer.T5Answer.TheVariants as t5_says
+use Rattle.t5t_tag.proofs.Steps.{read_turns, read_keeps}
+use Rattle.tag_reader.specs.declared.how.How.{How}
+use Rattle.tag_reader.specs.declared.how.How.TheVariants.{T2, T5}
+use Rattle.tag_reader.specs.Kinds.{IsTag, IsStore, kind_of, command, reply, block_answer, t2_memory, t2_step, t5_memory, t5_step}
+use Rattle.tag_reader.specs.Steps.{IsInReach}
+
+named_command : (how : How) (size : ℕ) (v : LinkView) (k : ℕ) → IsTag how size v → MayAsk (kind_of how) v.identifier (command how k)
+named_command T2 size v k is = refl
+named_command (T5 id) size v k is =
+    subst (λ i. MayAsk Type5 i (command (T5 id) k)) (sym is.named.0) (record { code = 32; rest = k ∷ []; frame = refl })
+
+-- a READ is what the tag may be asked
+pub may_ask : (how : How) (size : ℕ) (v : LinkView) (k : ℕ) → IsTag how size v → MayAsk v.kind v.identifier (command how k)
+may_ask how size v k is = subst (λ kind. MayAsk kind v.identifier (command how k)) (sym is.kind) (named_command how size v k is)
+
+-- the tag's answer, after which it is what it was
+abbrev pub Replies : TagState → Signal → TagStep
+Replies s r = record { answer = Some r; after = s }
+
+t2_replies : (locked : List Bool) (s : TagState) (k : ℕ) → IsT2Store s.store → 16 * k < length s.store →
+    t2_step locked s (command T2 k) ≡ Replies s (reply T2 16 s.store k)
+t2_replies locked s k is low =
+    let inside : nat_lt (4 * k) (block_count s.store) ≡ true = lt-ltb (4 * k) (block_count s.store) (omega (arith, is.whole)) in
+    rw inside refl
+
+t5_told : (id : List ℕ) (size : ℕ) (t : T5State) (k : ℕ) (v : Bool) →
+    sent (if v then refuses t no_block else tells t (t5_says.Content (record { items = block_of t.size t.store k }))).answer
+    ≡ Some (t5.answer_frame (if v then t5_says.Error no_block else t5_says.Content (record { items = block_of t.size t.store k })))
+t5_told id size t k true = refl
+t5_told id size t k false = refl
+
+t5_replies : (id : List ℕ) (size : ℕ) (locked : List Bool) (quiet : Bool) (s : TagState) (k : ℕ) → IsT5Store size s.store → length id ≡ id_size →
+    t5_step id size locked quiet s (command (T5 id) k) ≡ Replies s (reply (T5 id) size s.store k)
+t5_replies id size locked quiet s k is named =
+    let t : T5State = t5_memory id size locked quiet s in
+    let tag : IsT5State t = record { id = named; store = is } in
+    let answer : t5_answer t (command (T5 id) k) ≡ Some (reply (T5 id) size s.store k) =
+    ap (λ (r : T5Turn). sent r.answer) (read_turns t tag k) ∙ t5_told id size t k (nat_le (blocks_in size s.store) k) in
+    let after : t5_after t (command (T5 id) k) ≡ t = read_keeps t tag k in
+    rw (answer, after) refl
+
+-- the step of the tag behind a link on a READ that is in reach
+pub replies : (how : How) (size : ℕ) (v : LinkView) (k : ℕ) → IsTag how size v → IsInReach how size v.state.store k →
+    v.step v.state (command how k) ≡ Replies v.state (reply how size v.state.store k)
+replies T2 size v k is low =
+    is.steps.1 v.state (command T2 k) is.store.1 refl ∙ t2_replies is.steps.0 v.state k is.store.1 low
+replies (T5 id) size v k is low =
+    is.steps.2 v.state (command (T5 id) k) is.store (record { code = 32; rest = k ∷ []; frame = refl })
+    ∙ t5_replies id size is.steps.0 is.steps.1 v.state k is.store is.named.1

@@ -1,0 +1,40 @@
+-- What a reading does to a link: what it asked, that the store stays, and why it may end.
+use Rattle.std.specs.Prelude.{◌≡◌, ℕ, zero, suc, ◌⊎◌, List, ◌++◌, Option, Some}
+use Rattle.std.specs.List.{AllByRecursion}
+use Rattle.nfc_base.specs.Signal.{Signal}
+use Rattle.nfc_base.specs.TagLinks.{LinkView, Leads, passed, Rises, AskCause}
+use Rattle.nfc_base.specs.declared.tag_link.AskFault.{AskFault}
+use Rattle.tag_reader.specs.declared.how.How.{How}
+use Rattle.tag_reader.specs.Kinds.{command, first}
+use Rattle.tag_reader.specs.Asked.{IsDue, AreDue, IsAsked}
+
+-- Calls led from one view of a link to another, and each of the tag's stores in them is the one before.
+pub record Stays (a b : LinkView) : Type 0 where
+  pub more : List Signal
+  pub leads : Leads a b more
+  pub images : AllByRecursion (λ s. s ≡ a.state.store) (passed a.step a.state more)
+  pub state : b.state ≡ a.state
+  pub rises : Rises a b
+
+-- The last command is the last of the n that were answered or, where none was, the one before.
+abbrev pub last_of : How → LinkView → ℕ → Option Signal
+last_of how a zero = a.last
+last_of how a (suc n) = Some (command how n)
+
+-- The commands answered between two views are the first `count` of what is asked, and the last one that was asked is the
+-- last of them, or the next that is asked.
+pub record HasAsked (how : How) (size : ℕ) (store : List ℕ) (a b : LinkView) : Type 0 where
+  pub count : ℕ
+  pub each : AreDue how size store count
+  pub answered : b.answered ≡ a.answered ++ first how count
+  pub last : (b.last ≡ last_of how a count) ⊎ ((b.last ≡ Some (command how count)) × IsDue how size store count)
+
+-- All that is asked was answered between two views.
+pub record HasAskedAll (how : How) (size : ℕ) (store : List ℕ) (a b : LinkView) : Type 0 where
+  pub commands : List Signal
+  pub all : IsAsked how size store commands
+  pub answered : b.answered ≡ a.answered ++ commands
+
+-- The link is over by this fault, which it was before, or whose cause is known of the calls in between.
+abbrev pub ByLink : LinkView → LinkView → AskFault → Type 0
+ByLink a b e = (b.over ≡ Some e) × ((a.over ≡ Some e) ⊎ AskCause a b e)

@@ -1,0 +1,103 @@
+-- The kinds of tags that a reader knows (NFC Forum Type 2 Tag and Type 5 Tag): which stores they have, which area a store
+-- names and what it holds, and which commands ask for its bytes in their order.
+use Rattle.std.specs.Prelude.{◌≡◌, ℕ, zero, suc, ◌*◌, List, [], ◌∷◌, ◌++◌, length, Bool, nat_le, if◌then◌else◌, Result, Some}
+use Rattle.nfc_base.specs.Signal.{Signal}
+use Rattle.nfc_base.specs.Blocks.{block_of}
+use Rattle.nfc_base.specs.TagLinks.{TagKind, Type2, Type5, TagState, TagStep, LinkView, MayAsk}
+use Rattle.t2t_tag.specs.Store.{IsT2Store, T2Memory}
+use Rattle.t2t_tag.specs.Step.{four_blocks, t2_answer, t2_after}
+use Rattle.t2t_tag.specs.Spelling as t2
+use Rattle.t2t_tag.specs.declared.command.T2Command.TheVariants as t2_command
+use Rattle.t2t_tag.specs.declared.answer.T2Answer.TheVariants as t2_says
+use Rattle.t5t_tag.specs.Store.{IsT5Store, T5State, id_size, blocks_in}
+use Rattle.t5t_tag.specs.Step.{no_block, t5_answer, t5_after}
+use Rattle.t5t_tag.specs.Spelling as t5
+use Rattle.t5t_tag.specs.declared.command.T5Command.TheVariants as t5_command
+use Rattle.t5t_tag.specs.declared.answer.T5Answer.{T5Answer}
+use Rattle.t5t_tag.specs.declared.answer.T5Answer.TheVariants as t5_says
+use Rattle.tlv_area.specs.declared.space.Space.{Space}
+use Rattle.tlv_area.specs.declared.container.ContainerFault.{ContainerFault}
+use Rattle.tlv_area.specs.Containers.{t2_container, t5_container}
+use Rattle.tlv_area.specs.Form.{Form}
+use Rattle.tlv_area.specs.Stores.{four_bytes, cut_by, IsT2Form, IsT5Form}
+use Rattle.tag_reader.specs.declared.how.How.{How}
+use Rattle.tag_reader.specs.declared.how.How.TheVariants.{T2, T5}
+
+-- A store that a tag has, and how many bytes of it one READ asks for: 16 of a Type 2 tag, a block of a Type 5 tag.
+abbrev pub IsStore : How → ℕ → List ℕ → Type 0
+IsStore T2 size store = (size ≡ 16) × IsT2Store store
+IsStore (T5 id) size store = IsT5Store size store
+
+-- The area that a store's container names. A block number is one byte, so that of a Type 5 tag ends at the end of block
+-- 255 at the latest.
+abbrev pub area_of : How → ℕ → List ℕ → Result Space ContainerFault
+area_of T2 size store = t2_container (four_bytes store 12)
+area_of (T5 id) size store = cut_by (t5_container (four_bytes store 0)) (256 * size)
+
+-- the form of a store
+abbrev pub IsStoreForm : How → List ℕ → Form → Type 0
+IsStoreForm T2 store f = IsT2Form store f
+IsStoreForm (T5 id) store f = IsT5Form store f
+
+-- The READ that is the k-th, counted from 0: it asks for four blocks of a Type 2 tag, for one block of a Type 5 tag.
+abbrev pub command : How → ℕ → Signal
+command T2 k = t2.command_frame (t2_command.Read (4 * k))
+command (T5 id) k = t5.command_frame (t5_command.Read (Some id) k)
+
+-- the first so many of them
+abbrev pub first : How → ℕ → List Signal
+first how zero = []
+first how (suc n) = first how n ++ command how n ∷ []
+
+-- what a Type 5 tag answers to the READ of a block
+abbrev pub block_answer : ℕ → List ℕ → ℕ → T5Answer
+block_answer size store k =
+    if nat_le (blocks_in size store) k then t5_says.Error no_block
+    else t5_says.Content (record { items = block_of size store k })
+
+-- what a tag answers to the k-th READ
+abbrev pub reply : How → ℕ → List ℕ → ℕ → Signal
+reply T2 size store k = t2.answer_frame (t2_says.Content (four_blocks store (4 * k)))
+reply (T5 id) size store k = t5.answer_frame (block_answer size store k)
+
+-- The tag behind a link, of which the link's state shows the store.
+abbrev pub t2_memory : List Bool → TagState → T2Memory
+t2_memory locked s = record { store = s.store; locked = locked }
+
+abbrev pub t2_step : List Bool → TagState → Signal → TagStep
+t2_step locked s c = record {
+  answer = t2_answer (t2_memory locked s) c;
+  after = record s { store = (t2_after (t2_memory locked s) c).store };
+}
+
+abbrev pub t5_memory : List ℕ → ℕ → List Bool → Bool → TagState → T5State
+t5_memory id size locked quiet s = record { id = id; size = size; store = s.store; locked = locked; quiet = quiet }
+
+abbrev pub t5_step : List ℕ → ℕ → List Bool → Bool → TagState → Signal → TagStep
+t5_step id size locked quiet s c = record {
+  answer = t5_answer (t5_memory id size locked quiet s) c;
+  after = record s { store = (t5_after (t5_memory id size locked quiet s) c).store };
+}
+
+-- A tag's step on what it may be asked is the one of its kind. What a Type 5 tag answers to a command with its
+-- identifier doesn't depend on whether it was told to stay quiet.
+abbrev pub Steps : How → ℕ → LinkView → Type 0
+Steps T2 size v = (locked : List Bool)
+    × ((s : TagState) (c : Signal) → IsT2Store s.store → MayAsk Type2 v.identifier c → v.step s c ≡ t2_step locked s c)
+Steps (T5 id) size v = (locked : List Bool) × (quiet : Bool)
+    × ((s : TagState) (c : Signal) → IsT5Store size s.store → MayAsk Type5 id c → v.step s c ≡ t5_step id size locked quiet s c)
+
+abbrev pub kind_of : How → TagKind
+kind_of T2 = Type2
+kind_of (T5 id) = Type5
+
+abbrev pub IsNamed : How → List ℕ → Type 0
+IsNamed T2 identifier = Unit {0}
+IsNamed (T5 id) identifier = (identifier ≡ id) × (length id ≡ id_size)
+
+-- a link to a tag of this kind
+pub record IsTag (how : How) (size : ℕ) (v : LinkView) : Type 0 where
+  pub kind : v.kind ≡ kind_of how
+  pub named : IsNamed how v.identifier
+  pub store : IsStore how size v.state.store
+  pub steps : Steps how size v

@@ -1,0 +1,6 @@
+pub mod Kinds
+pub mod Asked
+pub mod Calls
+pub mod Reading
+pub mod Numbers
+pub mod Steps

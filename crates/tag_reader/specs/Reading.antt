@@ -1,0 +1,63 @@
+-- What a reading answers.
+use Rattle.std.specs.Prelude.{◌≡◌, ℕ, ◌⊎◌, List, Bool, true, false, Option, None, Result, Ok, Err}
+use Rattle.nfc_base.specs.TagLinks.{LinkView}
+use Rattle.nfc_base.specs.declared.tag_link.AskFault.TheVariants as ask
+use Rattle.tlv_area.specs.declared.container.ContainerFault.TheVariants as container
+use Rattle.tlv_area.specs.declared.walk.Walk.TheVariants as walk
+use Rattle.tlv_area.specs.Form.{Faulty, Message, NoMessageTlv, BadTlv}
+use Rattle.tlv_area.specs.Map.{IsWalk}
+use Rattle.tag_reader.specs.declared.how.How.{How}
+use Rattle.tag_reader.specs.declared.fault.ReadFault.{ReadFault}
+use Rattle.tag_reader.specs.declared.fault.ReadFault.TheVariants as fault
+use Rattle.tag_reader.specs.declared.found.Site.{Site}
+use Rattle.tag_reader.specs.declared.found.Site.TheVariants.{Area}
+use Rattle.tag_reader.specs.declared.found.Found.{Found}
+use Rattle.tag_reader.specs.Kinds.{area_of, IsStoreForm}
+use Rattle.tag_reader.specs.Calls.{ByLink}
+
+-- Where the message lies: the map of the area that the container names, found over the store. A tag that ends before its
+-- area doesn't cut it.
+abbrev pub IsSite : How → ℕ → List ℕ → Site → Bool → Type 0
+IsSite how size store (Area map') writable =
+    (area_of how size store ≡ Ok map'.space) × IsWalk map'.space store (walk.Held map') × (writable ≡ map'.space.writable)
+
+-- The message that a store holds, where it lies, and whether writing is free.
+pub record IsFound (how : How) (size : ℕ) (store : List ℕ) (found : Found) : Type 0 where
+  pub held : IsStoreForm how store (Message found.message)
+  pub site : IsSite how size store found.site found.writable
+
+-- Each fault: of the store's form, or of the link. A tag of these kinds refuses no READ that is asked.
+abbrev pub IsReadFault : How → List ℕ → LinkView → LinkView → ReadFault → Type 0
+IsReadFault how store a b fault.NotNdef = IsStoreForm how store (Faulty container.NotNdef)
+IsReadFault how store a b fault.Version = IsStoreForm how store (Faulty container.Version)
+IsReadFault how store a b fault.NoRead = IsStoreForm how store (Faulty container.NoRead)
+IsReadFault how store a b fault.Sectors = IsStoreForm how store (Faulty container.Sectors)
+IsReadFault how store a b fault.BadSize = IsStoreForm how store (Faulty container.BadSize)
+IsReadFault how store a b fault.NoMessageTlv = IsStoreForm how store NoMessageTlv
+IsReadFault how store a b fault.BadTlv = IsStoreForm how store BadTlv
+IsReadFault how store a b (fault.Refused code) = ⊥
+IsReadFault how store a b fault.FieldLost = ByLink a b ask.FieldLost
+IsReadFault how store a b fault.SixBad = ByLink a b ask.SixBad
+IsReadFault how store a b fault.Protocol = ByLink a b ask.Protocol
+IsReadFault how store a b fault.Memory = Unit {0}
+
+-- whether a reading ended by what the store holds, and not by the link or for want of memory
+abbrev pub is_told : ReadFault → Bool
+is_told fault.FieldLost = false
+is_told fault.SixBad = false
+is_told fault.Memory = false
+is_told fault.Protocol = false
+is_told _ = true
+
+abbrev pub IsToldOrMemory : ReadFault → Type 0
+IsToldOrMemory e = (is_told e ≡ true) ⊎ (e ≡ fault.Memory)
+
+-- The link was lit and not over, and since then all transmissions passed or no count of what may end a link rose.
+pub record IsCalm (a b : LinkView) : Type 0 where
+  pub begun : a.over ≡ None
+  pub lit : a.dark ≡ false
+  pub calm : (b.noise ≡ a.noise) ⊎ (b.counts ≡ a.counts)
+
+abbrev pub OnTold : {A : Type 0} → Result A ReadFault → Type 0 → Type 0
+OnTold (Ok a) P = P
+OnTold (Err e) P = is_told e ≡ true → P

@@ -1,0 +1,149 @@
+-- What the parts of a reading say. No public contract speaks of these.
+use Rattle.std.specs.Prelude.{◌≡◌, ℕ, ◌+◌, ◌*◌, ◌<◌, ◌≤◌, ◌⊎◌, List, [], ◌∷◌, ◌++◌, length, take, drop, Bool, true, false, Option, Some, None, Result, Ok, Err}
+use Rattle.nfc_base.specs.Signal.{Signal}
+use Rattle.nfc_base.specs.TagLinks.{LinkView}
+use Rattle.nfc_base.specs.declared.tag_link.AskFault.{AskFault}
+use Rattle.nfc_base.specs.declared.tag_link.AskFault.TheVariants as ask
+use Rattle.t2t_tag.specs.declared.answer.T2Answer.TheVariants as t2_says
+use Rattle.tlv_area.specs.declared.space.Space.{Space}
+use Rattle.tlv_area.specs.declared.space.AreaMap.{AreaMap}
+use Rattle.tlv_area.specs.declared.container.ContainerFault.{ContainerFault}
+use Rattle.tlv_area.specs.declared.container.ContainerFault.TheVariants as container
+use Rattle.tlv_area.specs.declared.walk.Walk.TheVariants as walk
+use Rattle.tlv_area.specs.Layout.{bytes_at}
+use Rattle.tlv_area.specs.Form.{Comes, End, Fault, Message}
+use Rattle.tlv_area.specs.Map.{IsWalk, IsPlacedIn, message_cells}
+use Rattle.tag_reader.specs.declared.how.How.{How}
+use Rattle.tag_reader.specs.declared.how.How.TheVariants.{T2, T5}
+use Rattle.tag_reader.specs.declared.fault.ReadFault.{ReadFault}
+use Rattle.tag_reader.specs.declared.fault.ReadFault.TheVariants as fault
+use Rattle.tag_reader.specs.declared.told.Told.{Told}
+use Rattle.tag_reader.specs.declared.told.Told.TheVariants.{Bytes, Ended}
+use Rattle.tag_reader.specs.Kinds.{area_of, command, first, reply, IsStore, IsStoreForm, IsTag}
+use Rattle.tag_reader.specs.Asked.{AreDue}
+use Rattle.tag_reader.specs.Calls.{Stays, HasAsked, HasAskedAll, ByLink}
+use Rattle.tag_reader.specs.Reading.{IsReadFault, IsToldOrMemory, OnTold}
+
+-- the fault of a reading for a fault of the link, and for one of the container
+abbrev pub of_link : AskFault → ReadFault
+of_link ask.FieldLost = fault.FieldLost
+of_link ask.SixBad = fault.SixBad
+of_link ask.Memory = fault.Memory
+of_link ask.Protocol = fault.Protocol
+
+abbrev pub of_container : ContainerFault → ReadFault
+of_container container.NotNdef = fault.NotNdef
+of_container container.Version = fault.Version
+of_container container.NoRead = fault.NoRead
+of_container container.Sectors = fault.Sectors
+of_container container.BadSize = fault.BadSize
+
+-- the k-th READ asks for a block that its number can name, and not past the one behind the tag's last
+abbrev pub IsInReach : How → ℕ → List ℕ → ℕ → Type 0
+IsInReach T2 size store k = 16 * k < length store
+IsInReach (T5 id) size store k = (k < 256) × (size * k ≤ length store)
+
+-- the first READ's answer has the container
+abbrev pub HoldsContainer : How → List ℕ → Type 0
+HoldsContainer T2 bytes = length bytes ≡ 16
+HoldsContainer (T5 id) bytes = (4 ≤ length bytes) × (length bytes ≤ 256)
+
+-- its number is one byte
+abbrev pub HasNumber : How → ℕ → Type 0
+HasNumber T2 k = 4 * k < 256
+HasNumber (T5 id) k = k < 256
+
+-- What READs give goes on with the store's first bytes behind its last, as a Type 2 tag's does.
+abbrev pub rolling : List ℕ → List ℕ
+rolling store = store ++ store
+
+-- what the answer to the k-th READ tells
+abbrev pub TellsNext : ℕ → List ℕ → ℕ → Result Told ReadFault → Type 0
+TellsNext size store k (Ok (Bytes bytes)) = (size * k < length store) × (bytes.items ≡ take size (drop (size * k) (rolling store)))
+TellsNext size store k (Ok Ended) = length store ≡ size * k
+TellsNext size store k (Err e) = ⊥
+
+-- want of memory, or a fault of the link with its cause
+abbrev pub IsLinkFault : LinkView → LinkView → ReadFault → Type 0
+IsLinkFault a b e = (e ≡ fault.Memory) ⊎ ((f : AskFault) × (e ≡ of_link f) × ByLink a b f)
+
+-- The k-th READ was answered.
+pub record Answers (how : How) (size k : ℕ) (a b : LinkView) : Type 0 where
+  pub stays : Stays a b
+  pub before : a.over ≡ None
+  pub over : b.over ≡ None
+  pub lit : b.dark ≡ false
+  pub answered : b.answered ≡ a.answered ++ command how k ∷ []
+  pub last : b.last ≡ Some (command how k)
+
+-- More is known then, or the tag has ended.
+abbrev pub Learns : ℕ → List ℕ → ℕ → List ℕ → List ℕ → Bool → Type 0
+Learns size store k known known' true = (size * k < length store) × (known' ≡ known ++ take size (drop (size * k) (rolling store)))
+Learns size store k known known' false = (length store ≡ size * k) × (known' ≡ known)
+
+-- It wasn't, or its answer found no memory.
+pub record Fails (how : How) (k : ℕ) (a b : LinkView) (e : ReadFault) : Type 0 where
+  pub stays : Stays a b
+  pub fault' : IsLinkFault a b e
+  pub asked : ((b.answered ≡ a.answered) × ((b.last ≡ a.last) ⊎ (b.last ≡ Some (command how k))))
+      ⊎ ((b.answered ≡ a.answered ++ command how k ∷ []) × (b.last ≡ Some (command how k)))
+  pub calm : a.over ≡ None → a.dark ≡ false → b.noise ≡ a.noise → e ≡ fault.Memory
+
+abbrev pub AsksNext : How → ℕ → ℕ → LinkView → LinkView → List ℕ → List ℕ → Result Bool ReadFault → Type 0
+AsksNext how size k a b known known' (Ok more) = Answers how size k a b × Learns size a.state.store k known known' more
+AsksNext how size k a b known known' (Err e) = Fails how k a b e
+
+-- A reading under way: the first n READs are answered, n not 0, and gave these bytes.
+pub record Knows (how : How) (size : ℕ) (a b : LinkView) (known : List ℕ) (n : ℕ) : Type 0 where
+  pub stays : Stays a b
+  pub before : a.over ≡ None
+  pub over : b.over ≡ None
+  pub lit : b.dark ≡ false
+  pub each : AreDue how size a.state.store (n + 1)
+  pub answered : b.answered ≡ a.answered ++ first how (n + 1)
+  pub last : b.last ≡ Some (command how n)
+  pub bytes : known ≡ take (size * (n + 1)) (rolling a.state.store)
+  pub tag : IsTag how size b
+
+-- The area that a container names: it begins in the store, and ends in it or READs don't go past it.
+pub record IsAreaOf (size : ℕ) (store : List ℕ) (space : Space) (n : ℕ) : Type 0 where
+  pub order : space.start ≤ space.end
+  pub begins : space.start ≤ length store
+  pub ends : space.end ≤ 256 * size
+  pub within : (space.end ≤ length store) ⊎ (size * (n + 1) ≤ length store)
+
+-- The walk over what is known is due.
+pub record Walks (how : How) (size : ℕ) (a b : LinkView) (known : List ℕ) (space : Space) (n : ℕ) : Type 0 where
+  pub knows : Knows how size a b known n
+  pub area : area_of how size a.state.store ≡ Ok space
+  pub fits : IsAreaOf size a.state.store space n
+
+-- A message is found: where it lies, and that the bytes that are known have it.
+pub record IsMapFound (how : How) (size : ℕ) (store known : List ℕ) (map' : AreaMap) : Type 0 where
+  pub area : area_of how size store ≡ Ok map'.space
+  pub found : IsWalk map'.space store (walk.Held map')
+  pub placed : IsPlacedIn known map'
+  pub held : IsStoreForm how store (Message (bytes_at known (message_cells map')))
+
+abbrev pub Tells : How → ℕ → List ℕ → LinkView → LinkView → List ℕ → Result AreaMap ReadFault → Type 0
+Tells how size store a b known (Ok map') = IsMapFound how size store known map'
+Tells how size store a b known (Err e) = IsReadFault how store a b e
+
+-- Where all transmissions pass, a reading tells what the store holds, or finds no memory.
+abbrev pub Calms : LinkView → LinkView → Result AreaMap ReadFault → Type 0
+Calms a b (Ok map') = Unit {0}
+Calms a b (Err e) = a.over ≡ None → a.dark ≡ false → b.noise ≡ a.noise → IsToldOrMemory e
+
+-- The end of a reading, but for its message.
+pub record Reads (how : How) (size : ℕ) (a b : LinkView) (known : List ℕ) (result : Result AreaMap ReadFault) : Type 0 where
+  pub stays : Stays a b
+  pub asked : HasAsked how size a.state.store a b
+  pub whole : OnTold result (HasAskedAll how size a.state.store a b)
+  pub tells : Tells how size a.state.store a b known result
+  pub calm : Calms a b result
+
+-- the fault of an area that ends where the memory does
+abbrev pub IsCutFault : Space → List ℕ → ReadFault → Type 0
+IsCutFault space memory e =
+    ((e ≡ fault.NoMessageTlv) × Comes (record space { end = length memory }) memory End)
+    ⊎ ((e ≡ fault.BadTlv) × Comes (record space { end = length memory }) memory Fault)

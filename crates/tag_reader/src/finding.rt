@@ -1,0 +1,118 @@
+//! Where the message lies, by as many READs as it takes to tell.
+
+ghost use Rattle.std.specs.Prelude.{◌≡◌, ℕ, ◌<◌, ◌≤◌, length, take, [], IfOk, IfErr, Ok, Err};
+ghost use Rattle.tlv_area.specs.declared.container.ContainerFault.{ContainerFault};
+ghost use Rattle.tlv_area.specs.Form.{NeedsMore};
+ghost use Rattle.tlv_area.specs.Layout.{IsArea};
+ghost use Rattle.tag_reader.specs.Kinds.{area_of, IsTag};
+ghost use Rattle.tag_reader.specs.Steps.{of_container, HoldsContainer, IsCutFault, Reads};
+
+use crate::asking::ask_next;
+use crate::fault::ReadFault;
+use crate::how::How;
+use crate::told::NO_BLOCK;
+use nfc_base::TagLink;
+use std::alloc::Global;
+use tlv_area::{AreaMap, ContainerFault, Space, Walk, container_t2, container_t5, find_message};
+
+/// How many blocks the numbers of one byte can name.
+const NAMED_BLOCKS: u32 = 256;
+
+fn of_container(fault: ContainerFault) -> ReadFault
+    ensures { result ≡ of_container fault }
+{
+    match fault {
+        ContainerFault::NotNdef => ReadFault::NotNdef,
+        ContainerFault::Version => ReadFault::Version,
+        ContainerFault::NoRead => ReadFault::NoRead,
+        ContainerFault::Sectors => ReadFault::Sectors,
+        ContainerFault::BadSize => ReadFault::BadSize,
+    }
+}
+
+/// The area that the container in the answer to the first READ names.
+pub fn space_of(how: How, first: &[u8]) -> Result<Space, ContainerFault>
+    requires { HoldsContainer how first.now }
+    ensures exact { result ≡ area_of how (length first.now) first.now }
+    ensures area { IfOk result IsArea }
+{
+    match how {
+        How::T2 => container_t2(&[first[12], first[13], first[14], first[15]]),
+        How::T5(_) => {
+            let space = container_t5(&[first[0], first[1], first[2], first[3]])?;
+            let end = space.end.min(NAMED_BLOCKS * first.len() as u32);
+            Ok(Space { end, ..space })
+        }
+    }
+}
+
+/// The known bytes up to an address.
+fn front(known: &[u8], end: u32) -> &[u8]
+    ensures { result.now ≡ take end known.now }
+{
+    if known.len() > end as usize {
+        &known[..end as usize]
+    } else {
+        known
+    }
+}
+
+/// What is wrong with an area that the tag ends before, where the walk needs a byte behind the tag's end.
+fn cut_fault(space: Space, known: &[u8]) -> ReadFault
+    requires area { IsArea space }
+    requires begins { space.start ≤ length known.now }
+    requires more { NeedsMore space known.now }
+    requires short { length known.now < space.end }
+    ensures { IsCutFault space known.now result }
+{
+    let cut = Space {
+        end: known.len() as u32,
+        ..space
+    };
+    match find_message(&cut, known) {
+        Walk::NoMessageTlv => ReadFault::NoMessageTlv,
+        Walk::BadTlv => ReadFault::BadTlv,
+        Walk::Held { map: _ } => unreachable!(),
+        Walk::More => unreachable!(),
+    }
+}
+
+/// Asks for bytes until they tell where the message lies. What it learns is known then.
+pub fn find_map<T: TagLink>(
+    alloc: Global,
+    link: &mut T,
+    how: How,
+    known: &mut Vec<u8>,
+) -> Result<AreaMap, ReadFault>
+    requires ready { T.ready link.old }
+    requires tag { (size : ℕ) × IsTag how size (T.seen link.old) }
+    requires begun { known.old.items ≡ [] }
+    ensures reads { (size : ℕ) → IsTag how size (T.seen link.old) → Reads how size (T.seen link.old) (T.seen link.new) known.new.items result }
+    ensures ready { T.ready link.new }
+    ensures same { T.lenders link.new ≡ T.lenders link.old }
+    ensures moves { T.moves link.old link.new }
+{
+    let begins = ask_next(alloc, link, how, 0, known)?;
+    if !begins {
+        return Err(ReadFault::Refused(NO_BLOCK as u16));
+    }
+    let space = match space_of(how, known.as_slice()) {
+        Ok(space) => space,
+        Err(fault) => return Err(of_container(fault)),
+    };
+    let mut index: u8 = 0;
+    'walk: loop {
+        match find_message(&space, front(known.as_slice(), space.end)) {
+            Walk::Held { map } => return Ok(map),
+            Walk::NoMessageTlv => return Err(ReadFault::NoMessageTlv),
+            Walk::BadTlv => return Err(ReadFault::BadTlv),
+            Walk::More => {
+                index += 1;
+                let goes_on = ask_next(alloc, link, how, index, known)?;
+                if !goes_on {
+                    return Err(cut_fault(space, known.as_slice()));
+                }
+            }
+        }
+    }
+}

@@ -1,0 +1,38 @@
+//! That each store has exactly one list of what is asked. The calls do nothing: they stand for this law.
+
+ghost use Rattle.std.specs.Prelude.{◌≡◌, ℕ, ◌<◌, ◌≤◌, List, length};
+ghost use Rattle.nfc_base.specs.Signal.{Signal};
+ghost use Rattle.tag_reader.specs.Kinds.{IsStore};
+ghost use Rattle.tag_reader.specs.Asked.{IsAsked, AreDue, IsDue};
+
+use crate::finding::space_of;
+use crate::how::How;
+use tlv_area::{Walk, find_message};
+
+/// How many READs of so many bytes are asked of a tag with this store.
+fn count_asked(how: How, size: usize, store: &[u8]) -> usize
+    requires { IsStore how size store.now }
+    ensures each { AreDue how size store.now result }
+    ensures no_more { IsDue how size store.now result → ⊥ }
+{
+    let Ok(space) = space_of(how, &store[..size]) else {
+        return 1;
+    };
+    let mut count = 1;
+    while size * count <= store.len() {
+        match find_message(&space, &store[..size * count]) {
+            Walk::More => count += 1,
+            _ => return count,
+        }
+    }
+    count
+}
+
+/// A store that a tag of this kind has, whose READs ask for so many bytes each.
+pub fn one_asked(how: How, size: usize, store: &[u8])
+    requires { IsStore how size store.now }
+    ensures some { (commands : List Signal) × IsAsked how size store.now commands }
+    ensures one { (xs ys : List Signal) → IsAsked how size store.now xs → IsAsked how size store.now ys → xs ≡ ys }
+{
+    count_asked(how, size, store);
+}

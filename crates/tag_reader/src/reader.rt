@@ -1,0 +1,47 @@
+//! The reading of a tag.
+
+ghost use Rattle.std.specs.Prelude.{◌≡◌, ℕ, IfOk, IfErr};
+ghost use Rattle.tag_reader.specs.Kinds.{IsTag};
+ghost use Rattle.tag_reader.specs.Calls.{Stays, HasAsked, HasAskedAll};
+ghost use Rattle.tag_reader.specs.Reading.{IsFound, IsReadFault, IsCalm, IsToldOrMemory, OnTold};
+
+use crate::fault::ReadFault;
+use crate::finding::find_map;
+use crate::found::{Found, Site};
+use crate::how::How;
+use crate::message::copy_message;
+use nfc_base::{Items, TagLink};
+use std::alloc::Global;
+
+/// Reads the message of the tag behind a link, which is of the kind that `how` names (NFC Forum Type 2 Tag and Type 5
+/// Tag). It writes nothing, and asks for no more than it needs.
+pub fn read<T: TagLink>(alloc: Global, link: &mut T, how: How) -> Result<Found, ReadFault>
+    requires ready { T.ready link.old }
+    requires tag { (size : ℕ) × IsTag how size (T.seen link.old) }
+    // the store stays, in each image
+    ensures stays { Stays (T.seen link.old) (T.seen link.new) }
+    // what was answered is the first of what is asked, and all of it unless the link or memory failed
+    ensures asked { (size : ℕ) → IsTag how size (T.seen link.old) → HasAsked how size (T.seen link.old).state.store (T.seen link.old) (T.seen link.new) }
+    ensures whole { (size : ℕ) → IsTag how size (T.seen link.old) → OnTold result (HasAskedAll how size (T.seen link.old).state.store (T.seen link.old) (T.seen link.new)) }
+    ensures ok { (size : ℕ) → IsTag how size (T.seen link.old) → IfOk result (IsFound how size (T.seen link.old).state.store) }
+    ensures err { IfErr result (IsReadFault how (T.seen link.old).state.store (T.seen link.old) (T.seen link.new)) }
+    // where all passes, or each wait is answered, it tells what the store holds or finds no memory
+    ensures calm { IsCalm (T.seen link.old) (T.seen link.new) → IfErr result IsToldOrMemory }
+    ensures ready { T.ready link.new }
+    ensures same { T.lenders link.new ≡ T.lenders link.old }
+    ensures moves { T.moves link.old link.new }
+{
+    let mut known = Vec::new(alloc);
+    let map = find_map(alloc, link, how, &mut known)?;
+    match copy_message(alloc, &map, known.as_slice()) {
+        Err(_) => Err(ReadFault::Memory),
+        Ok(message) => {
+            let writable = map.space.writable;
+            Ok(Found {
+                message: Items::new(message),
+                site: Site::Area(map),
+                writable,
+            })
+        }
+    }
+}

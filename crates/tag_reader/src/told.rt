@@ -1,0 +1,69 @@
+//! What the answers to READs tell.
+
+ghost use Rattle.std.specs.Prelude.{◌≡◌, ℕ, ◌%◌, ◌≤◌, List, length, Ok};
+ghost use Rattle.t2t_tag.specs.Spelling as t2;
+ghost use Rattle.t2t_tag.specs.declared.answer.T2Answer.{T2Answer};
+ghost use Rattle.t5t_tag.specs.Spelling as t5;
+ghost use Rattle.t5t_tag.specs.declared.answer.T5Answer.{T5Answer};
+ghost use Rattle.tag_reader.specs.Kinds.{reply, IsStore};
+ghost use Rattle.tag_reader.specs.Steps.{IsInReach, TellsNext};
+
+use crate::fault::ReadFault;
+use crate::how::How;
+use arrayvec::ArrayVec;
+use nfc_base::Frame;
+use t2t_tag::T2Answer;
+use t5t_tag::T5Answer;
+
+/// The error of a Type 5 tag that has no such block. This code is this project's own.
+pub const NO_BLOCK: u8 = 0x10;
+
+/// What the answer to a READ tells: some bytes of the store, or that the tag ends before them.
+#[derive(Drop)]
+pub enum Told {
+    Bytes(ArrayVec<u8, 256>),
+    Ended,
+}
+
+/// The content of four blocks of a Type 2 tag.
+fn four_blocks(content: &[u8; 16]) -> ArrayVec<u8, 256>
+    ensures { result.items ≡ content.now }
+{
+    let mut bytes = ArrayVec::new();
+    bytes.try_extend_from_slice(content).unwrap();
+    bytes
+}
+
+fn told_t2(answer: &Frame) -> Result<Told, ReadFault>
+    ensures { (content : List ℕ) → length content ≡ 16 → answer.now ≡ t2.answer_frame (T2Answer.Content content) → result ≡ Ok (Told.Bytes (record { items = content })) }
+{
+    match T2Answer::read_from(answer) {
+        Some(T2Answer::Content(content)) => Ok(Told::Bytes(four_blocks(&content))),
+        Some(T2Answer::Refused) => Err(ReadFault::Refused(0)),
+        Some(T2Answer::Done) => Err(ReadFault::Protocol),
+        None => Err(ReadFault::Protocol),
+    }
+}
+
+fn told_t5(answer: &Frame) -> Result<Told, ReadFault>
+    ensures content { (content : List ℕ) → length content ≤ 256 → length content % 4 ≡ 0 → answer.now ≡ t5.answer_frame (T5Answer.Content (record { items = content })) → result ≡ Ok (Told.Bytes (record { items = content })) }
+    ensures ended { answer.now ≡ t5.answer_frame (T5Answer.Error NO_BLOCK) → result ≡ Ok Told.Ended }
+{
+    match T5Answer::read_from(answer) {
+        Some(T5Answer::Content(content)) => Ok(Told::Bytes(content)),
+        Some(T5Answer::Error(NO_BLOCK)) => Ok(Told::Ended),
+        Some(T5Answer::Error(code)) => Err(ReadFault::Refused(code as u16)),
+        Some(T5Answer::Present { id: _ }) => Err(ReadFault::Protocol),
+        None => Err(ReadFault::Protocol),
+    }
+}
+
+/// What an answer tells.
+pub fn tell(how: How, answer: &Frame) -> Result<Told, ReadFault>
+    ensures { (size k : ℕ) (store : List ℕ) → IsStore how size store → IsInReach how size store k → answer.now ≡ reply how size store k → TellsNext size store k result }
+{
+    match how {
+        How::T2 => told_t2(answer),
+        How::T5(_) => told_t5(answer),
+    }
+}
