@@ -3,3 +3,4 @@ pub mod Calling
 pub mod Spans
 pub mod KnownBits
 pub mod Resting
+pub mod LevelParts

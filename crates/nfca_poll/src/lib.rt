@@ -7,12 +7,16 @@
 #![tactic(auto)]
 
 mod call;
+mod front;
 mod ident;
 mod kind;
 mod level;
 mod span;
+mod upper;
 
 pub use call::CallKind;
+pub use front::Front;
 pub use ident::{Ident, IdentFault};
 pub use kind::Kind;
 pub use level::Level;
+pub use upper::{UpStep, Upper};
