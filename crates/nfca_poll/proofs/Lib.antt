@@ -4,3 +4,7 @@ pub mod Spans
 pub mod KnownBits
 pub mod Resting
 pub mod LevelParts
+pub mod Muting
+pub mod KnownPacks
+pub mod SeekSteps
+pub mod Resolving

@@ -1,10 +1,10 @@
 //! Cascade levels.
 
-ghost use Rattle.std.specs.Prelude.{◌≡◌, ◌≤◌, length, take, drop, nat_eq, Bool};
+ghost use Rattle.std.specs.Prelude.{◌≡◌, ◌≤◌, ◌↔◌, length, take, drop, slice_index, nat_eq, Bool, IfSome, IsSome};
 ghost use Rattle.std.specs.Cmp.Lexicographic.{pointwise};
 ghost use Rattle.nfc_base.specs.declared.frame.Tech.{Tech};
 ghost use Rattle.nfc_base.specs.Bits.{bits_of, of_bits};
-ghost use Rattle.nfca_poll.specs.Levels.{level, levels};
+ghost use Rattle.nfca_poll.specs.Levels.{level, levels, bcc, cascades};
 ghost use Rattle.nfca_poll.specs.Calls.{is_sdd, is_sel, known_bits, named_level};
 ghost use Rattle.nfca_poll.specs.Front.{begins, level_at};
 
@@ -44,6 +44,32 @@ impl Level {
         Level {
             bytes: [a, b, c, d, a ^ b ^ c ^ d],
         }
+    }
+
+    /// The level that sends these five bytes, where the last of them is the check byte of the others.
+    pub fn read_from(bytes: [u8; 5]) -> Option<Level>
+        ensures some { IfSome result (λ l. l ≡ bytes) }
+        ensures exact { IsSome result ↔ (slice_index bytes 4 ≡ bcc bytes) }
+    {
+        let [a, b, c, d, _] = bytes;
+        let level = Level::new([a, b, c, d]);
+        if level.bytes != bytes {
+            return None;
+        }
+        Some(level)
+    }
+
+    pub fn bytes(&self) -> [u8; 5]
+        ensures { result ≡ self.now }
+    {
+        self.bytes
+    }
+
+    /// Whether it says that another level follows.
+    pub fn cascades(&self) -> bool
+        ensures { result ≡ cascades self.now }
+    {
+        self.bytes[0] == CASCADE_TAG
     }
 
     /// How many levels an identifier has.

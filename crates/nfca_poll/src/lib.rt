@@ -7,16 +7,23 @@
 #![tactic(auto)]
 
 mod call;
+mod fault;
 mod front;
 mod ident;
 mod kind;
+mod known;
 mod level;
+mod requests;
+mod resolution;
+mod seeking;
 mod span;
 mod upper;
 
 pub use call::CallKind;
+pub use fault::{Picked, PollFault};
 pub use front::Front;
 pub use ident::{Ident, IdentFault};
 pub use kind::Kind;
 pub use level::Level;
+pub use resolution::resolve;
 pub use upper::{UpStep, Upper};
