@@ -7,4 +7,4 @@ pub mod LevelParts
 pub mod Muting
 pub mod KnownPacks
 pub mod SeekSteps
-pub mod Resolving
+pub mod Enquiring

@@ -4,19 +4,21 @@ use Rattle.std.specs.List.{cons_option}
 use Rattle.nfc_base.specs.declared.far.Mute.{Mute}
 use Rattle.nfc_base.specs.Signal.{Signal}
 use Rattle.nfc_base.specs.Far.{FarUse, Untouched, Restarts, Hands, FarDid}
+use Rattle.nfc_base.specs.Trace.{heard_by}
 use Rattle.nfc_base.specs.declared.event.Event.TheVariants.{Request}
 use Rattle.nfc_base.specs.declared.event.Fate.{Fate}
 use Rattle.nfc_base.specs.declared.event.Fate.TheVariants.{Pass, Damage, Lose, Break}
 use Rattle.nfc_base.specs.declared.event.Heard.{Heard}
 use Rattle.air_core.specs.Joint.{Joint, Nothing, Single, Clashing, joint}
-use Rattle.air_core.specs.World.{Machine, World, hears, hands_over, answered_by, stepped_by}
-use Rattle.air_core.specs.Conversation.{first_fate, later_fates, TurnsTo}
+use Rattle.air_core.specs.World.{Machine, World, hears, hands_over, answered_by, stepped_by, stepped}
+use Rattle.air_core.specs.Conversation.{Moment, first_fate, later_fates, replay, turn_events, turn_heard, joint_events, joint_back, TurnsTo}
 use Rattle.air_core.specs.Listening.{Step}
 use Rattle.air_core.specs.Turn.{Air, moment, after_event, brought, Meets, HearAll, HearSome, Passes, Fails, TurnBy, TurnIs, Transmits}
 use Rattle.air_core.specs.declared.fault.AirFault.{AirFault}
 use Rattle.air_core.specs.declared.fault.AirFault.TheVariants.{FieldLost, Memory}
 use Rattle.air_core.proofs.Quiet.{quiet_always, quiet_turn, quiet_turns_to, endless_goes_on}
-use Rattle.nfca_poll.specs.Muted.{mute_reply, muted, mute_air, MuteTransmits}
+use Rattle.nfca_poll.specs.declared.fault.PollFault.TheVariants as faults
+use Rattle.nfca_poll.specs.Muted.{mute_reply, muted, mute_air, Asks}
 
 -- what a mute far end does
 abbrev pub restarts_mute : Mute → List ℕ → Mute → Type 0
@@ -85,11 +87,46 @@ module _ {L : Type 0} (m : Machine L) where
       (quiet_turn (muted m) restarts_mute steps_mute old f far heard new far' (quiet_always (muted m) (λ l g. refl) f old.listeners)
       (record { lit = t.lit; by = by_muted (first_fate old.fates) old f far heard new far' t.by }))
 
-  pub mute_transmits : (is_stuck : Mute → Bool) (old : Air L) (f : Signal) (far : Mute) (r : Result Heard AirFault) (new : Air L) (far' : Mute)
-      → Transmits m restarts_mute steps_mute stops_mute is_stuck old f far r new far' → MuteTransmits m old f r new
-  mute_transmits is_stuck old f far (Ok h) new far' t = turn_muted old f far (Some h) new far' t
-  mute_transmits is_stuck old f far (Err FieldLost) new far' (inl dark) = inl (dark.0, dark.1)
-  mute_transmits is_stuck old f far (Err FieldLost) new far' (inr t) = inr (turn_muted old f far None new far' t)
-  mute_transmits is_stuck old f far (Err Memory) new far' (lit, inl same) = same.0
-  mute_transmits is_stuck old f far (Err Memory) new far' (lit, inr s) =
+  -- a turn of which something was heard leaves the field lit
+  nothing_heard : (h : Heard) → Some h ≡ None → ⊥
+  nothing_heard h e = cc
+
+  back_lit : (w : World L) (j : Joint) (y : Fate) (h : Heard) → w.lit ≡ true → Some h ≡ heard_by Pass (joint_back j y) → (replay (mute_air m) w (joint_events j y)).lit ≡ true
+  back_lit w Nothing y h l e = l
+  back_lit w (Single g) Pass h l e = l
+  back_lit w (Single g) Damage h l e = l
+  back_lit w (Single g) Lose h l e = l
+  back_lit w (Single g) Break h l e = absurd (nothing_heard h e)
+  back_lit w (Clashing g) Pass h l e = l
+  back_lit w (Clashing g) Damage h l e = l
+  back_lit w (Clashing g) Lose h l e = l
+  back_lit w (Clashing g) Break h l e = absurd (nothing_heard h e)
+
+  heard_lit : (w : World L) (f : Signal) (x y : Fate) (h : Heard) → w.lit ≡ true → Some h ≡ turn_heard (mute_air m) w f x y → (replay (mute_air m) w (turn_events (mute_air m) w f x y)).lit ≡ true
+  heard_lit w f Pass y h l e = back_lit (stepped (muted m) w f) ((mute_air m).joint w f) y h l e
+  heard_lit w f Damage y h l e = l
+  heard_lit w f Lose y h l e = l
+  heard_lit w f Break y h l e = absurd (nothing_heard h e)
+
+  turn_lit : (a b : Air L) (f : Signal) (h : Heard) → TurnsTo (mute_air m) (moment a) (moment b) f (Some h) → b.lit ≡ true
+  turn_lit a b f h t =
+      let M : Moment (World L) → World L = λ x. x.world in
+      ap (λ x. (M x).lit) t.moment ∙ heard_lit (moment a).world f (first_fate a.fates) (first_fate (later_fates a.fates)) h t.lit t.heard
+
+  dark_lit : (a : Air L) → a.lit ≡ false → a.lit ≡ true → ⊥
+  dark_lit a d l = cc
+
+  pub ask_heard : (is_stuck : Mute → Bool) (old : Air L) (f : Signal) (far : Mute) (h : Heard) (new : Air L) (far' : Mute)
+      → Transmits m restarts_mute steps_mute stops_mute is_stuck old f far (Ok h) new far' → Asks m old f (Ok h) new
+  ask_heard is_stuck old f far h new far' t = let q : TurnsTo (mute_air m) (moment old) (moment new) f (Some h) = turn_muted old f far (Some h) new far' t in (q, turn_lit old new f h q)
+
+  pub ask_lost : (is_stuck : Mute → Bool) (old : Air L) (f : Signal) (far : Mute) (new : Air L) (far' : Mute) → old.lit ≡ true
+      → Transmits m restarts_mute steps_mute stops_mute is_stuck old f far (Err FieldLost) new far' → Asks m old f (Err faults.FieldLost) new
+  ask_lost is_stuck old f far new far' l (inl dark) = absurd (dark_lit old dark.0 l)
+  ask_lost is_stuck old f far new far' l (inr t) = turn_muted old f far None new far' t
+
+  pub ask_memory : (is_stuck : Mute → Bool) (old : Air L) (f : Signal) (far : Mute) (new : Air L) (far' : Mute)
+      → Transmits m restarts_mute steps_mute stops_mute is_stuck old f far (Err Memory) new far' → Asks m old f (Err faults.Memory) new
+  ask_memory is_stuck old f far new far' (lit, inl same) = same.0
+  ask_memory is_stuck old f far new far' (lit, inr s) =
       absurd (endless_goes_on m restarts_mute steps_mute stops_mute is_stuck (λ a payload b e. e) f old.listeners far s.listeners far' s.some)

@@ -1,9 +1,6 @@
--- One resolution: what it has come to by what the reader knows, and what it answers (NFC Forum Digital Protocol).
-use Rattle.std.specs.Prelude.{◌≡◌, ℕ, ◌+◌, List, [], ◌∷◌, length, Result, Ok, Err}
+-- One resolution as an enquiry, and how the code goes through it (NFC Forum Digital Protocol).
+use Rattle.std.specs.Prelude.{◌≡◌, ℕ, ◌+◌, List, [], ◌∷◌, length, Option, Some, None, Result, Ok, Err}
 use Rattle.nfc_base.specs.Signal.{Signal}
-use Rattle.air_core.specs.World.{Machine, World}
-use Rattle.air_core.specs.Turn.{Air, moment}
-use Rattle.air_core.specs.Conversation.{Note, Lit, Got, Lost, Next, Over, Going}
 use Rattle.nfca_poll.specs.declared.fault.Picked.{Picked}
 use Rattle.nfca_poll.specs.declared.fault.PollFault.{PollFault}
 use Rattle.nfca_poll.specs.declared.fault.PollFault.TheVariants as faults
@@ -16,27 +13,7 @@ use Rattle.nfca_poll.specs.declared.seeking.SeekStep.TheVariants.{Goes, Ends}
 use Rattle.nfca_poll.specs.Levels.{identifier}
 use Rattle.nfca_poll.specs.Calls.{Sens, Sdd, Sel, call_frame}
 use Rattle.nfca_poll.specs.Poll.{Seek, Calling, Asking, Selecting, Ended, Outcome, Nobody, Disturbed, BadAnswer, Found, seek_step, seek_next}
-use Rattle.nfca_poll.specs.Muted.{mute_air}
-
--- What a resolution has come to: it is so far, or it has lost the field.
-pub data Resolution : Type 0 where
-  Reaches : Seek → Resolution
-  Loses : Resolution
-
--- from here on, by what the reader knows since
-abbrev pub resolution : Seek → List Note → Resolution
-resolution s [] = Reaches s
-resolution s (Lit ∷ ns) = resolution s ns
-resolution s (Got h ∷ ns) = resolution (seek_step s h) ns
-resolution s (Lost ∷ ns) = Loses
-
-abbrev pub due_of : Resolution → Next
-due_of (Reaches s) = seek_next s
-due_of Loses = Over
-
--- the request that is due in a resolution
-abbrev pub resolving : List Note → Next
-resolving ns = due_of (resolution (Calling 0) ns)
+use Rattle.nfca_poll.specs.Enquiry.{Enquiry}
 
 -- what a resolution that is over answers
 abbrev pub outcome : Outcome → Result Picked PollFault
@@ -45,19 +22,15 @@ outcome Disturbed = Err faults.Disturbed
 outcome BadAnswer = Err faults.BadAnswer
 outcome (Found levels kind) = Ok (record { id = identifier levels; kind = kind })
 
--- Want of memory alone breaks off a resolution that isn't over.
-abbrev pub Comes : Resolution → Result Picked PollFault → Type 0
-Comes (Reaches (Calling n)) r = r ≡ Err faults.Memory
-Comes (Reaches (Asking done known)) r = r ≡ Err faults.Memory
-Comes (Reaches (Selecting done l)) r = r ≡ Err faults.Memory
-Comes (Reaches (Ended o)) r = r ≡ outcome o
-Comes Loses r = r ≡ Err faults.FieldLost
+abbrev pub seek_ended : Seek → Option (Result Picked PollFault)
+seek_ended (Calling n) = None
+seek_ended (Asking done known) = None
+seek_ended (Selecting done l) = None
+seek_ended (Ended o) = Some (outcome o)
 
--- Each request of a resolution was what was due, and this is what it came to.
-pub record Resolves {L : Type 0} (m : Machine L) (old : Air L) (r : Result Picked PollFault) (new : Air L) : Type 0 where
-  pub notes : List Note
-  pub going : Going (mute_air m) resolving (moment old) (moment new) notes
-  pub comes : Comes (resolution (Calling 0) notes) r
+-- one resolution
+abbrev pub resolution : Enquiry Seek Picked
+resolution = record { start = Calling 0; step = seek_step; next = seek_next; ended = seek_ended }
 
 -- how far the code is
 abbrev pub levels_of : Done → List (List ℕ)

@@ -1,9 +1,10 @@
 //! The frames of a reader's requests (NFC Forum Digital Protocol; ISO/IEC 14443-3).
 
-ghost use Rattle.std.specs.Prelude.{◌≡◌, ◌≤◌, ◌<◌, length, Result, IfOk};
+ghost use Rattle.std.specs.Prelude.{◌≡◌, ◌≤◌, true, length};
 ghost use Rattle.nfca_poll.specs.Calls.{Sens, Slp, Sdd, Sel, call_frame};
-ghost use Rattle.nfca_poll.specs.Muted.{MuteTransmits};
+ghost use Rattle.nfca_poll.specs.Muted.{Asks};
 
+use crate::fault::PollFault;
 use crate::known::KnownBits;
 use crate::level::Level;
 use air_core::{AirFault, Field, Listener};
@@ -48,9 +49,13 @@ pub fn sel_req(level: u8, bytes: &Level) -> Frame
 }
 
 /// One turn of a reader that polls. No far end stands above the listeners.
-#[tactic(auto, using(crate::proofs::Muting::mute_transmits))]
-pub fn ask<L: Listener>(field: &mut Field<L>, request: &Frame) -> Result<Heard, AirFault>
-    ensures { MuteTransmits L.machine field.old request.now result field.new }
+pub fn ask<L: Listener>(field: &mut Field<L>, request: &Frame) -> Result<Heard, PollFault>
+    requires { field.old.lit ≡ true }
+    ensures { Asks L.machine field.old request.now result field.new }
 {
-    field.transmit(request, &mut Mute)
+    match field.transmit(request, &mut Mute) {
+        Ok(heard) => Ok(heard),
+        Err(AirFault::FieldLost) => Err(PollFault::FieldLost),
+        Err(AirFault::Memory) => Err(PollFault::Memory),
+    }
 }
