@@ -1,5 +1,5 @@
 -- An enquiry over any field, turn by turn.
-use Rattle.std.proofs.Common.{◌≡◌, List, [], ◌∷◌, ◌++◌, true, Option, Some, None, Result, Ok, Err, refl, sym, ◌∙◌, ap, subst}
+use Rattle.std.proofs.Common.{◌≡◌, List, [], ◌∷◌, ◌++◌, Some, None, Result, Ok, Err, refl, sym, ◌∙◌, ap, subst}
 use Rattle.nfc_base.specs.Signal.{Signal}
 use Rattle.nfc_base.specs.declared.event.Heard.{Heard}
 use Rattle.air_core.specs.World.{Machine}

@@ -8,3 +8,4 @@ pub mod Muting
 pub mod KnownPacks
 pub mod SeekSteps
 pub mod Enquiring
+pub mod Inventories

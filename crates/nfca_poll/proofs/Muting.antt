@@ -1,6 +1,5 @@
 -- Turns under a far end that answers each payload by an empty one are turns of the mute air.
-use Rattle.std.proofs.Common.{◌≡◌, ℕ, List, [], ◌∷◌, ◌⊎◌, Bool, true, false, if◌then◌else◌, Option, Some, None, Result, Ok, Err, refl, sym, ◌∙◌, ap, subst, inl, inr}
-use Rattle.std.specs.List.{cons_option}
+use Rattle.std.proofs.Common.{◌≡◌, ℕ, List, [], ◌∷◌, Bool, true, false, if◌then◌else◌, Option, Some, None, Ok, Err, refl, ◌∙◌, ap, inl, inr}
 use Rattle.nfc_base.specs.declared.far.Mute.{Mute}
 use Rattle.nfc_base.specs.Signal.{Signal}
 use Rattle.nfc_base.specs.Far.{FarUse, Untouched, Restarts, Hands, FarDid}
@@ -10,11 +9,10 @@ use Rattle.nfc_base.specs.declared.event.Fate.{Fate}
 use Rattle.nfc_base.specs.declared.event.Fate.TheVariants.{Pass, Damage, Lose, Break}
 use Rattle.nfc_base.specs.declared.event.Heard.{Heard}
 use Rattle.air_core.specs.Joint.{Joint, Nothing, Single, Clashing, joint}
-use Rattle.air_core.specs.World.{Machine, World, hears, hands_over, answered_by, stepped_by, stepped}
+use Rattle.air_core.specs.World.{Machine, World, hears, stepped}
 use Rattle.air_core.specs.Conversation.{Moment, first_fate, later_fates, replay, turn_events, turn_heard, joint_events, joint_back, TurnsTo}
 use Rattle.air_core.specs.Listening.{Step}
-use Rattle.air_core.specs.Turn.{Air, moment, after_event, brought, Meets, HearAll, HearSome, Passes, Fails, TurnBy, TurnIs, Transmits}
-use Rattle.air_core.specs.declared.fault.AirFault.{AirFault}
+use Rattle.air_core.specs.Turn.{Air, moment, after_event, brought, HearAll, Passes, TurnBy, TurnIs, Transmits}
 use Rattle.air_core.specs.declared.fault.AirFault.TheVariants.{FieldLost, Memory}
 use Rattle.air_core.proofs.Quiet.{quiet_always, quiet_turn, quiet_turns_to, endless_goes_on}
 use Rattle.nfca_poll.specs.declared.fault.PollFault.TheVariants as faults

@@ -1,7 +1,6 @@
-use Rattle.std.proofs.Common.{◌≡◌, ◌<◌, ◌≤◌, ◌++◌, ◌∷◌, [], List, Bool, length, take, drop, refl, sym, ◌∙◌, ap, append_assoc, append-nil, arith}
+use Rattle.std.proofs.Common.{◌≡◌, ◌<◌, ◌≤◌, ◌++◌, ◌∷◌, [], List, Bool, length, take, drop, sym, ◌∙◌, ap, append_assoc, append-nil, arith}
 use Rattle.std.proofs.lemmas.Grind.{common_steps}
 use Rattle.nfc_base.specs.Bits.{number_of, packed}
-use Rattle.nfca_poll.proofs.Spans.{packed_none}
 use Rattle.nfca_poll.proofs.KnownPacks.{packed_more, packed_rest, packed_empty}
 use Rattle.nfca_poll.proofs.known.pack.Goals as goal
 
@@ -15,10 +14,10 @@ loop-left-preserved c =
     record {
       count = grind (arith, common_steps);
       bytes = c.loop-left.invariant.bytes ∙ ap (λ t. c.loop-left.packed.items ++ t) (packed_more x some)
-        ∙ ap (λ t. c.loop-left.packed.items ++ t ∷ packed (drop 8 x)) (sym n)
-        ∙ sym (append_assoc c.loop-left.packed.items (c.number.result ∷ []) (packed (drop 8 x)))
-        ∙ ap (λ t. t ++ packed (drop 8 x)) (sym c.push.ensures.items)
-        ∙ ap (λ t. c.push.new.self.items ++ packed t) (sym back);
+          ∙ ap (λ t. c.loop-left.packed.items ++ t ∷ packed (drop 8 x)) (sym n)
+          ∙ sym (append_assoc c.loop-left.packed.items (c.number.result ∷ []) (packed (drop 8 x)))
+          ∙ ap (λ t. t ++ packed (drop 8 x)) (sym c.push.ensures.items)
+          ∙ ap (λ t. c.push.new.self.items ++ packed t) (sym back);
     }
 
 pub returns-then-not-is_empty : goal.returns-then-not-is_empty

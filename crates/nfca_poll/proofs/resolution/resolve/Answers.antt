@@ -1,10 +1,10 @@
-use Rattle.std.proofs.Common.{◌≡◌, ℕ, ◌<◌, Result, Err, sym, subst, arith}
+use Rattle.std.proofs.Common.{◌≡◌, ◌<◌, Result, Err, sym, subst, arith}
 use Rattle.std.proofs.lemmas.Grind.{common_steps}
 use Rattle.nfca_poll.specs.declared.fault.Picked.{Picked}
 use Rattle.nfca_poll.specs.declared.fault.PollFault.{PollFault}
-use Rattle.nfca_poll.specs.Poll.{Seek, Ended, seek_step}
+use Rattle.nfca_poll.specs.Poll.{Seek, seek_step}
 use Rattle.nfca_poll.specs.Enquiry.{Enquires}
-use Rattle.nfca_poll.specs.Seeking.{resolution, seek_of, seek_ended, outcome}
+use Rattle.nfca_poll.specs.Seeking.{resolution, seek_of}
 use Rattle.nfca_poll.proofs.SeekSteps.{potential, falls}
 use Rattle.nfca_poll.proofs.Enquiring.{Reached, due_of_request, goes_on, ended_is, reached_turn, enquires_err, enquires_end}
 use Rattle.nfca_poll.proofs.resolution.resolve.Goals as goal
@@ -28,8 +28,8 @@ loop-heard-preserved g c =
     record {
       lit = c.in_ok-heard.ensures.1;
       so_far = subst P (sym c.in-Goes.ensures)
-        (reached_turn resolution g.L.Listener.machine c.args.field.now c.loop-heard.field c.ask.new.field (seek_of c.loop-heard.seeking) c.request.result c.in_ok-heard.heard c.loop-heard.invariant.so_far
-        (due_of_request c.loop-heard.seeking c.request.result c.request.ensures) c.in_ok-heard.ensures);
+          (reached_turn resolution g.L.Listener.machine c.args.field.now c.loop-heard.field c.ask.new.field (seek_of c.loop-heard.seeking) c.request.result c.in_ok-heard.heard c.loop-heard.invariant.so_far
+          (due_of_request c.loop-heard.seeking c.request.result c.request.ensures) c.in_ok-heard.ensures);
     }
 
 pub returns-in-Ends-clause-turns : goal.returns-in-Ends-clause-turns

@@ -17,6 +17,6 @@ loop-at-preserved c =
     record {
       count = grind (arith, common_steps);
       more = ap (λ t. t ++ drop (at + 1) (bits c.args.frame.now)) c.push.ensures.items
-        ∙ ap (λ t. (c.loop-at.self-inside.bits.items ++ c.bit.result ∷ []) ++ drop t (bits c.args.frame.now)) (sym q)
-        ∙ next_bit u u c.loop-at.self-inside.bits.items (c.args.self.now ++ bits c.args.frame.now) at to c.bit.result less held b c.loop-at.invariant.more;
+          ∙ ap (λ t. (c.loop-at.self-inside.bits.items ++ c.bit.result ∷ []) ++ drop t (bits c.args.frame.now)) (sym q)
+          ∙ next_bit u u c.loop-at.self-inside.bits.items (c.args.self.now ++ bits c.args.frame.now) at to c.bit.result less held b c.loop-at.invariant.more;
     }

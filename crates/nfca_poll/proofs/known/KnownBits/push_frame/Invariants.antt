@@ -1,5 +1,5 @@
-use Rattle.std.proofs.Common.{◌≡◌, ◌≤◌, ◌+◌, ◌++◌, length, drop}
-use Rattle.nfc_base.specs.Bits.{bits, bit_count}
+use Rattle.std.proofs.Common.{◌≡◌, ◌+◌, ◌++◌, length, drop}
+use Rattle.nfc_base.specs.Bits.{bits}
 use Rattle.nfca_poll.proofs.known.KnownBits.push_frame.Given as goal
 
 abbrev pub invariant-loop-at : goal.invariant-loop-at
