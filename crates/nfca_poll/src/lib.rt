@@ -29,3 +29,6 @@ pub use kind::Kind;
 pub use level::Level;
 pub use resolution::resolve;
 pub use upper::{UpStep, Upper};
+
+#[cfg(test)]
+mod tests;
