@@ -42,44 +42,44 @@ map_none f [] e = refl
 map_none f (x ∷ xs) e = ap (λ t. t ∷ map f xs) e.0 ∙ ap (λ t. x ∷ t) (map_none f xs e.1)
 
 -- answers of devices, by any rule
-abbrev pub IfSaid : (Y → Type 0) → Option (Y) → Type 0
+abbrev pub IfSaid : {Y : Type 0} → (Y → Type 0) → Option Y → Type 0
 IfSaid P None = Unit {0}
 IfSaid P (Some g) = P g
 
-pub said_map : {X Y : Type 0} (p : Y → Option (Y)) (h : X → Y) (cs : List X) → filter_map p (map h cs) ≡ filter_map (λ c. p (h c)) cs
+pub said_map : {X Z Y : Type 0} (p : Z → Option Y) (h : X → Z) (cs : List X) → filter_map p (map h cs) ≡ filter_map (λ c. p (h c)) cs
 said_map p h [] = refl
 said_map p h (c ∷ cs) = ap (cons_option (p (h c))) (said_map p h cs)
 
-pub said_same : {X : Type 0} (p q : X → Option (Y)) (cs : List X) → Each (λ c. p c ≡ q c) cs → filter_map p cs ≡ filter_map q cs
+pub said_same : {X Y : Type 0} (p q : X → Option Y) (cs : List X) → Each (λ c. p c ≡ q c) cs → filter_map p cs ≡ filter_map q cs
 said_same p q [] e = refl
 said_same p q (c ∷ cs) e = ap (λ t. cons_option t (filter_map p cs)) e.0 ∙ ap (cons_option (q c)) (said_same p q cs e.1)
 
-pub said_none : {X : Type 0} (p : X → Option (Y)) (cs : List X) → Each (λ c. p c ≡ None) cs → filter_map p cs ≡ []
+pub said_none : {X Y : Type 0} (p : X → Option Y) (cs : List X) → Each (λ c. p c ≡ None) cs → filter_map p cs ≡ []
 said_none p [] e = refl
 said_none p (c ∷ cs) e = ap (λ t. cons_option t (filter_map p cs)) e.0 ∙ said_none p cs e.1
 
-onto_each : (P : Y → Type 0) (o : Option (Y)) (gs : List (Y)) → IfSaid P o → Each P gs → Each P (cons_option o gs)
+onto_each : {Y : Type 0} (P : Y → Type 0) (o : Option Y) (gs : List Y) → IfSaid P o → Each P gs → Each P (cons_option o gs)
 onto_each P None gs i e = e
 onto_each P (Some g) gs i e = (i, e)
 
-pub said_each : {X : Type 0} (P : Y → Type 0) (p : X → Option (Y)) (cs : List X) → Each (λ c. IfSaid P (p c)) cs → Each P (filter_map p cs)
+pub said_each : {X Y : Type 0} (P : Y → Type 0) (p : X → Option Y) (cs : List X) → Each (λ c. IfSaid P (p c)) cs → Each P (filter_map p cs)
 said_each P p [] e = tt
 said_each P p (c ∷ cs) e = onto_each P (p c) (filter_map p cs) e.0 (said_each P p cs e.1)
 
-onto_back : (P : Y → Type 0) (o : Option (Y)) (gs : List (Y)) → Each P (cons_option o gs) → IfSaid P o × Each P gs
+onto_back : {Y : Type 0} (P : Y → Type 0) (o : Option Y) (gs : List Y) → Each P (cons_option o gs) → IfSaid P o × Each P gs
 onto_back P None gs e = (tt, e)
 onto_back P (Some g) gs e = e
 
-pub each_said : {X : Type 0} (P : Y → Type 0) (p : X → Option (Y)) (cs : List X) → Each P (filter_map p cs) → Each (λ c. IfSaid P (p c)) cs
+pub each_said : {X Y : Type 0} (P : Y → Type 0) (p : X → Option Y) (cs : List X) → Each P (filter_map p cs) → Each (λ c. IfSaid P (p c)) cs
 each_said P p [] e = tt
 each_said P p (c ∷ cs) e = let q : _ × _ = onto_back P (p c) (filter_map p cs) e in (q.0, each_said P p cs q.1)
 
-onto_has : (g : Y) (o : Option (Y)) (gs : List (Y)) → Has g gs → Has g (cons_option o gs)
+onto_has : {Y : Type 0} (g : Y) (o : Option Y) (gs : List Y) → Has g gs → Has g (cons_option o gs)
 onto_has g None gs h = h
 onto_has g (Some x) gs h = inr h
 
-pub said_has : {X : Type 0} (p : X → Option (Y)) (m : X) (g : Y) (cs : List X) → Has m cs → p m ≡ Some g → Has g (filter_map p cs)
+pub said_has : {X Y : Type 0} (p : X → Option Y) (m : X) (g : Y) (cs : List X) → Has m cs → p m ≡ Some g → Has g (filter_map p cs)
 said_has p m g [] h s = h
-said_has p m g (c ∷ cs) (inl q) s = let P : Option (Y) → Type 0 = λ o. Has g (cons_option o (filter_map p cs)) in subst P (sym (sym (ap p q) ∙ s)) (inl refl)
+said_has {Y = Y} p m g (c ∷ cs) (inl q) s = let P : Option Y → Type 0 = λ o. Has g (cons_option o (filter_map p cs)) in subst P (sym (sym (ap p q) ∙ s)) (inl refl)
 said_has p m g (c ∷ cs) (inr h) s = onto_has g (p c) (filter_map p cs) (said_has p m g cs h s)
 

@@ -9,3 +9,10 @@ pub mod KnownPacks
 pub mod SeekSteps
 pub mod Enquiring
 pub mod Inventories
+pub mod Clashes
+pub mod Eaches
+pub mod HeardBits
+pub mod LevelFacts
+pub mod CallsRead
+pub mod Fitting
+pub mod Choosing
