@@ -3,3 +3,16 @@ pub mod Calling
 pub mod Spans
 pub mod KnownBits
 pub mod Resting
+pub mod LevelParts
+pub mod Muting
+pub mod KnownPacks
+pub mod SeekSteps
+pub mod Enquiring
+pub mod Inventories
+pub mod Clashes
+pub mod Eaches
+pub mod HeardBits
+pub mod LevelFacts
+pub mod CallsRead
+pub mod Fitting
+pub mod Choosing

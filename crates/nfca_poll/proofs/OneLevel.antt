@@ -57,7 +57,7 @@ pointwise_self [] = refl
 pointwise_self (x ∷ xs) = ap (λ v. v && pointwise nat_eq xs xs) (same_number x) ∙ pointwise_self xs
 
 -- the check byte of a level is right
-level_checks : (id : List ℕ) → length id ≡ 4 → (get_or (level id) 4 0 == bcc (level id)) ≡ true
+pub level_checks : (id : List ℕ) → length id ≡ 4 → (get_or (level id) 4 0 == bcc (level id)) ≡ true
 level_checks = by_four (λ id. (get_or (level id) 4 0 == bcc (level id)) ≡ true) (λ a b c d. same_number (bcc (a ∷ b ∷ c ∷ d ∷ [])))
 
 -- a whole answer with a level's five bytes completes it

@@ -10,7 +10,7 @@ abbrev pub span : List Bool → ℕ → ℕ → List Bool
 span x from to = drop from (take to x)
 
 -- one bit more, from the back
-span_first : (x : List Bool) (from to : ℕ) → from < to → to ≤ length x → span x from to ≡ get_or x from false ∷ span x (suc from) to
+pub span_first : (x : List Bool) (from to : ℕ) → from < to → to ≤ length x → span x from to ≡ get_or x from false ∷ span x (suc from) to
 span_first [] from to h k = absurd (omega (arith, h, k))
 span_first (a ∷ x) from zero h k = absurd (omega (arith, h))
 span_first (a ∷ x) zero (suc to) h k = refl
@@ -62,7 +62,7 @@ packed_eight (a ∷ b ∷ c ∷ d ∷ e ∷ f ∷ []) y n = absurd (omega (arith
 packed_eight (a ∷ b ∷ c ∷ d ∷ e ∷ f ∷ g ∷ []) y n = absurd (omega (arith, n))
 packed_eight (a ∷ b ∷ c ∷ d ∷ e ∷ f ∷ g ∷ h ∷ i ∷ x) y n = absurd (omega (arith, n))
 
-packed_few : (x : List Bool) → 0 < length x → length x < 8 → packed x ≡ number_of x ∷ []
+pub packed_few : (x : List Bool) → 0 < length x → length x < 8 → packed x ≡ number_of x ∷ []
 unfolding packed
 packed_few [] h n = absurd (omega (arith, h))
 packed_few (a ∷ []) h n = refl

@@ -1,13 +1,14 @@
 //! Cascade levels.
 
-ghost use Rattle.std.specs.Prelude.{◌≡◌, ◌≤◌, length, take, drop, nat_eq, Bool};
+ghost use Rattle.std.specs.Prelude.{◌≡◌, ◌≤◌, ◌↔◌, length, take, drop, slice_index, nat_eq, Bool, IfSome, IsSome};
 ghost use Rattle.std.specs.Cmp.Lexicographic.{pointwise};
 ghost use Rattle.nfc_base.specs.declared.frame.Tech.{Tech};
 ghost use Rattle.nfc_base.specs.Bits.{bits_of, of_bits};
-ghost use Rattle.nfca_poll.specs.Levels.{level};
+ghost use Rattle.nfca_poll.specs.Levels.{level, levels, bcc, cascades};
 ghost use Rattle.nfca_poll.specs.Calls.{is_sdd, is_sel, known_bits, named_level};
-ghost use Rattle.nfca_poll.specs.Front.{begins};
+ghost use Rattle.nfca_poll.specs.Front.{begins, level_at};
 
+use crate::ident::{CASCADE_TAG, Ident};
 use crate::span::span_frame;
 use air_core::bits::{bit_len, shared};
 use nfc_base::Frame;
@@ -43,6 +44,60 @@ impl Level {
         Level {
             bytes: [a, b, c, d, a ^ b ^ c ^ d],
         }
+    }
+
+    /// The level that sends these five bytes, where the last of them is the check byte of the others.
+    pub fn read_from(bytes: [u8; 5]) -> Option<Level>
+        ensures some { IfSome result (λ l. l ≡ bytes) }
+        ensures exact { IsSome result ↔ (slice_index bytes 4 ≡ bcc bytes) }
+    {
+        let [a, b, c, d, _] = bytes;
+        let level = Level::new([a, b, c, d]);
+        if level.bytes != bytes {
+            return None;
+        }
+        Some(level)
+    }
+
+    pub fn bytes(&self) -> [u8; 5]
+        ensures { result ≡ self.now }
+    {
+        self.bytes
+    }
+
+    /// Whether it says that another level follows.
+    pub fn cascades(&self) -> bool
+        ensures { result ≡ cascades self.now }
+    {
+        self.bytes[0] == CASCADE_TAG
+    }
+
+    /// How many levels an identifier has.
+    #[tactic(auto, using(crate::proofs::LevelParts::levels_count))]
+    pub fn count(id: &Ident) -> u8
+        ensures count { result ≡ length (levels id.now) }
+        ensures low { 1 ≤ result }
+        ensures high { result ≤ 3 }
+    {
+        match id.view().len() {
+            4 => 1,
+            7 => 2,
+            _ => 3,
+        }
+    }
+
+    /// A level of an identifier. Levels count from 1.
+    pub fn of(id: &Ident, level: u8) -> Level
+        requires low { 1 ≤ level }
+        requires high { level ≤ length (levels id.now) }
+        ensures { result ≡ level_at (levels id.now) level }
+    {
+        let (_, rest) = id.view().split_at(3 * (level as usize - 1));
+        if rest.len() == 4 {
+            let last: [u8; 4] = rest.try_into().unwrap();
+            return Level::new(last);
+        }
+        Level::new([CASCADE_TAG, rest[0], rest[1], rest[2]])
     }
 
     /// Whether the known bits of SDD_REQ begin it.

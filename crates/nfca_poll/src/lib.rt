@@ -7,12 +7,28 @@
 #![tactic(auto)]
 
 mod call;
+mod fault;
+mod front;
 mod ident;
+mod inventory;
 mod kind;
+mod known;
 mod level;
+mod requests;
+mod resolution;
+mod seeking;
 mod span;
+mod upper;
 
 pub use call::CallKind;
+pub use fault::{Picked, PollFault};
+pub use front::Front;
 pub use ident::{Ident, IdentFault};
+pub use inventory::{Vcrowd, inventory_one, pick_v};
 pub use kind::Kind;
 pub use level::Level;
+pub use resolution::resolve;
+pub use upper::{UpStep, Upper};
+
+#[cfg(test)]
+mod tests;

@@ -1,0 +1,65 @@
+use Rattle.std.proofs.Common.{◌≡◌, ℕ, ◌<◌, ◌+◌, true, false, Result, Ok, Err, refl, sym, ◌∙◌, ap, subst, arith}
+use Rattle.std.proofs.lemmas.Grind.{common_steps}
+use Rattle.nfca_poll.specs.declared.fault.PollFault.{PollFault}
+use Rattle.nfca_poll.specs.declared.inventory.Vcrowd.{Vcrowd}
+use Rattle.nfca_poll.specs.declared.inventory.Vcrowd.TheVariants.{Crowd}
+use Rattle.nfca_poll.specs.Enquiry.{Enquires}
+use Rattle.nfca_poll.specs.Inventory.{Inventory, inventory, inventory_all, Tries, is_present, one_step, one_ended}
+use Rattle.nfca_poll.proofs.Enquiring.{Reached, reached_turn, enquires_err, enquires_end}
+use Rattle.nfca_poll.proofs.Inventories.{asks_again, one_again, one_present, one_strange, not_true}
+use Rattle.nfca_poll.proofs.inventory.inventory_one.Goals as goal
+use Rattle.nfca_poll.proofs.inventory.inventory_one.Goals.{in-Damaged, in-Silent}
+
+pub returns-in_err-answer-clause-turns : goal.returns-in_err-answer-clause-turns
+returns-in_err-answer-clause-turns g c lit =
+    let n : ℕ = c.loop.counter in
+    let h : n < 4 = omega arith in
+    let E : Result Vcrowd PollFault → Type 0 = λ r. Enquires inventory g.L.Listener.machine c.args.field.now r c.ask.new.field in
+    let same : c.from_residual.result ≡ Err c.in_err-answer.field-0.0 = grind (arith, common_steps) in
+    subst E (sym same)
+    (enquires_err inventory g.L.Listener.machine c.args.field.now c.loop.field c.ask.new.field (Tries n c.loop.damaged) c.inventory_req-request.result c.in_err-answer.field-0.0 c.loop.invariant.so_far
+    (asks_again Vcrowd inventory_all c.inventory_req-request.result n c.loop.damaged h c.inventory_req-request.ensures) (one_again n c.loop.damaged h) c.in_err-answer.ensures)
+
+pub returns-in-Some-clause-turns : goal.returns-in-Some-clause-turns
+returns-in-Some-clause-turns g c lit =
+    let n : ℕ = c.loop.counter in
+    let h : n < 4 = omega arith in
+    let s : Inventory Vcrowd = one_step (Tries n c.loop.damaged) c.in_ok-answer.field-0 in
+    let there : is_present c.in-Whole.answer ≡ true = c.in-Some.ensures.exact.0 refl in
+    enquires_end inventory g.L.Listener.machine c.args.field.now c.ask.new.field s (Ok _)
+    (reached_turn inventory g.L.Listener.machine c.args.field.now c.loop.field c.ask.new.field (Tries n c.loop.damaged) c.inventory_req-request.result c.in_ok-answer.field-0 c.loop.invariant.so_far
+    (asks_again Vcrowd inventory_all c.inventory_req-request.result n c.loop.damaged h c.inventory_req-request.ensures) c.in_ok-answer.ensures)
+    (ap (λ x. one_ended (one_step (Tries n c.loop.damaged) x)) c.in-Whole.is ∙ one_present n c.loop.damaged c.in-Whole.answer c.in-Some.id there c.in-Some.ensures.some)
+
+pub returns-in-None-clause-turns : goal.returns-in-None-clause-turns
+returns-in-None-clause-turns g c lit =
+    let n : ℕ = c.loop.counter in
+    let h : n < 4 = omega arith in
+    let s : Inventory Vcrowd = one_step (Tries n c.loop.damaged) c.in_ok-answer.field-0 in
+    let strange : is_present c.in-Whole.answer ≡ false = not_true (is_present c.in-Whole.answer) (λ e. absurd (let f : false ≡ true = c.in-None.ensures.exact.1 e in cc)) in
+    enquires_end inventory g.L.Listener.machine c.args.field.now c.ask.new.field s (Err _)
+    (reached_turn inventory g.L.Listener.machine c.args.field.now c.loop.field c.ask.new.field (Tries n c.loop.damaged) c.inventory_req-request.result c.in_ok-answer.field-0 c.loop.invariant.so_far
+    (asks_again Vcrowd inventory_all c.inventory_req-request.result n c.loop.damaged h c.inventory_req-request.ensures) c.in_ok-answer.ensures)
+    (ap (λ x. one_ended (one_step (Tries n c.loop.damaged) x)) c.in-Whole.is ∙ one_strange n c.loop.damaged c.in-Whole.answer strange)
+
+pub returns-in-Collided-clause-turns : goal.returns-in-Collided-clause-turns
+returns-in-Collided-clause-turns g c lit =
+    let n : ℕ = c.loop.counter in
+    let h : n < 4 = omega arith in
+    let s : Inventory Vcrowd = one_step (Tries n c.loop.damaged) c.in_ok-answer.field-0 in
+    enquires_end inventory g.L.Listener.machine c.args.field.now c.ask.new.field s (Ok Crowd)
+    (reached_turn inventory g.L.Listener.machine c.args.field.now c.loop.field c.ask.new.field (Tries n c.loop.damaged) c.inventory_req-request.result c.in_ok-answer.field-0 c.loop.invariant.so_far
+    (asks_again Vcrowd inventory_all c.inventory_req-request.result n c.loop.damaged h c.inventory_req-request.ensures) c.in_ok-answer.ensures)
+    (ap (λ x. one_ended (one_step (Tries n c.loop.damaged) x)) c.in-Collided.is)
+
+pub loop-preserved : goal.loop-preserved
+loop-preserved g c =
+    let n : ℕ = c.loop.counter in
+    let h : n < 4 = omega arith in
+    let R : Inventory Vcrowd → Type 0 = λ s. Reached inventory g.L.Listener.machine c.args.field.now c.ask.new.field s in
+    let turn : R (one_step (Tries n c.loop.damaged) c.in_ok-answer.field-0) =
+    reached_turn inventory g.L.Listener.machine c.args.field.now c.loop.field c.ask.new.field (Tries n c.loop.damaged) c.inventory_req-request.result c.in_ok-answer.field-0 c.loop.invariant.so_far
+    (asks_again Vcrowd inventory_all c.inventory_req-request.result n c.loop.damaged h c.inventory_req-request.ensures) c.in_ok-answer.ensures in
+    let goes : one_step (Tries n c.loop.damaged) c.in_ok-answer.field-0 ≡ Tries (n + 1) c.match-branch-2.damaged =
+    elim c.match-branch-2.branch [ in-Damaged w ↦ grind (arith, common_steps) | in-Silent w ↦ grind (arith, common_steps) ] in
+    record { lit = c.in_ok-answer.ensures.1; so_far = subst R goes turn }

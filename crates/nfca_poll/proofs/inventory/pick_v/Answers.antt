@@ -1,0 +1,62 @@
+use Rattle.std.proofs.Common.{◌≡◌, ℕ, ◌<◌, ◌+◌, true, false, Some, Result, Ok, Err, inl, inr, refl, sym, ◌∙◌, ap, subst, arith}
+use Rattle.std.proofs.lemmas.Grind.{common_steps}
+use Rattle.nfca_poll.specs.declared.fault.PollFault.{PollFault}
+use Rattle.nfca_poll.specs.Enquiry.{Enquires}
+use Rattle.nfca_poll.specs.Inventory.{Inventory, picking_v, inventory_of, Tries, is_present, pick_step, pick_ended}
+use Rattle.nfca_poll.proofs.Enquiring.{Reached, reached_turn, enquires_err, enquires_end}
+use Rattle.nfca_poll.proofs.Inventories.{asks_again, pick_again, pick_present, pick_strange, not_true}
+use Rattle.nfca_poll.proofs.inventory.pick_v.Goals as goal
+
+pub returns-in_err-answer-clause-turns : goal.returns-in_err-answer-clause-turns
+returns-in_err-answer-clause-turns g c lit =
+    let n : ℕ = c.loop.counter in
+    let h : n < 4 = omega arith in
+    let E : Result (Unit {0}) PollFault → Type 0 = λ r. Enquires (picking_v c.args.id) g.L.Listener.machine c.args.field.now r c.ask.new.field in
+    let same : c.from_residual.result ≡ Err c.in_err-answer.field-0.0 = grind (arith, common_steps) in
+    subst E (sym same)
+    (enquires_err (picking_v c.args.id) g.L.Listener.machine c.args.field.now c.loop.field c.ask.new.field (Tries n false) c.inventory_req_of-request.result c.in_err-answer.field-0.0 c.loop.invariant.so_far
+    (asks_again (Unit {0}) (inventory_of c.args.id) c.inventory_req_of-request.result n false h c.inventory_req_of-request.ensures) (pick_again n false h) c.in_err-answer.ensures)
+
+pub returns-in-Some-clause-turns : goal.returns-in-Some-clause-turns
+returns-in-Some-clause-turns g c lit =
+    let n : ℕ = c.loop.counter in
+    let h : n < 4 = omega arith in
+    let s : Inventory (Unit {0}) = pick_step (Tries n false) c.in_ok-answer.field-0 in
+    let there : is_present c.in-Whole.answer ≡ true = c.in-Some.ensures.exact.0 refl in
+    enquires_end (picking_v c.args.id) g.L.Listener.machine c.args.field.now c.ask.new.field s (Ok _)
+    (reached_turn (picking_v c.args.id) g.L.Listener.machine c.args.field.now c.loop.field c.ask.new.field (Tries n false) c.inventory_req_of-request.result c.in_ok-answer.field-0 c.loop.invariant.so_far
+    (asks_again (Unit {0}) (inventory_of c.args.id) c.inventory_req_of-request.result n false h c.inventory_req_of-request.ensures) c.in_ok-answer.ensures)
+    (ap (λ x. pick_ended (pick_step (Tries n false) x)) c.in-Whole.is ∙ pick_present n false c.in-Whole.answer there)
+
+pub returns-in-None-clause-turns : goal.returns-in-None-clause-turns
+returns-in-None-clause-turns g c lit =
+    let n : ℕ = c.loop.counter in
+    let h : n < 4 = omega arith in
+    let s : Inventory (Unit {0}) = pick_step (Tries n false) c.in_ok-answer.field-0 in
+    let strange : is_present c.in-Whole.answer ≡ false = not_true (is_present c.in-Whole.answer) (λ e. absurd (let f : false ≡ true = c.in-None.ensures.exact.1 e in cc)) in
+    enquires_end (picking_v c.args.id) g.L.Listener.machine c.args.field.now c.ask.new.field s (Err _)
+    (reached_turn (picking_v c.args.id) g.L.Listener.machine c.args.field.now c.loop.field c.ask.new.field (Tries n false) c.inventory_req_of-request.result c.in_ok-answer.field-0 c.loop.invariant.so_far
+    (asks_again (Unit {0}) (inventory_of c.args.id) c.inventory_req_of-request.result n false h c.inventory_req_of-request.ensures) c.in_ok-answer.ensures)
+    (ap (λ x. pick_ended (pick_step (Tries n false) x)) c.in-Whole.is ∙ pick_strange n false c.in-Whole.answer strange)
+
+pub returns-in-Collided-clause-turns : goal.returns-in-Collided-clause-turns
+returns-in-Collided-clause-turns g c lit =
+    let n : ℕ = c.loop.counter in
+    let h : n < 4 = omega arith in
+    let s : Inventory (Unit {0}) = pick_step (Tries n false) c.in_ok-answer.field-0 in
+    let picks : pick_ended s ≡ Some (Ok tt) = elim c.in-Collided.is [ inl w ↦ ap (λ x. pick_ended (pick_step (Tries n false) x)) w.1 | inr w ↦ ap (λ x. pick_ended (pick_step (Tries n false) x)) w ] in
+    enquires_end (picking_v c.args.id) g.L.Listener.machine c.args.field.now c.ask.new.field s (Ok tt)
+    (reached_turn (picking_v c.args.id) g.L.Listener.machine c.args.field.now c.loop.field c.ask.new.field (Tries n false) c.inventory_req_of-request.result c.in_ok-answer.field-0 c.loop.invariant.so_far
+    (asks_again (Unit {0}) (inventory_of c.args.id) c.inventory_req_of-request.result n false h c.inventory_req_of-request.ensures) c.in_ok-answer.ensures)
+    picks
+
+pub loop-preserved : goal.loop-preserved
+loop-preserved g c =
+    let n : ℕ = c.loop.counter in
+    let h : n < 4 = omega arith in
+    let R : Inventory (Unit {0}) → Type 0 = λ s. Reached (picking_v c.args.id) g.L.Listener.machine c.args.field.now c.ask.new.field s in
+    let turn : R (pick_step (Tries n false) c.in_ok-answer.field-0) =
+    reached_turn (picking_v c.args.id) g.L.Listener.machine c.args.field.now c.loop.field c.ask.new.field (Tries n false) c.inventory_req_of-request.result c.in_ok-answer.field-0 c.loop.invariant.so_far
+    (asks_again (Unit {0}) (inventory_of c.args.id) c.inventory_req_of-request.result n false h c.inventory_req_of-request.ensures) c.in_ok-answer.ensures in
+    let goes : pick_step (Tries n false) c.in_ok-answer.field-0 ≡ Tries (n + 1) false = ap (pick_step (Tries n false)) c.in-Silent.is in
+    record { lit = c.in_ok-answer.ensures.1; so_far = subst R goes turn }

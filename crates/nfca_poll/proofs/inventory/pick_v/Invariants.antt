@@ -1,0 +1,10 @@
+use Rattle.std.proofs.Common.{◌≡◌, true, false}
+use Rattle.nfca_poll.specs.Inventory.{picking_v, Tries}
+use Rattle.nfca_poll.proofs.Enquiring.{Reached}
+use Rattle.nfca_poll.proofs.inventory.pick_v.Given as goal
+
+abbrev pub invariant-loop : goal.invariant-loop
+invariant-loop g l = record {
+  lit : l.field.lit ≡ true;
+  so_far : Reached (picking_v l.fn.id) g.L.Listener.machine l.fn.field l.field (Tries l.counter false);
+}

@@ -1,0 +1,40 @@
+use Rattle.std.proofs.Common.{◌≡◌, ◌<◌, Result, Err, sym, subst, arith}
+use Rattle.std.proofs.lemmas.Grind.{common_steps}
+use Rattle.nfca_poll.specs.declared.fault.Picked.{Picked}
+use Rattle.nfca_poll.specs.declared.fault.PollFault.{PollFault}
+use Rattle.nfca_poll.specs.Poll.{Seek, seek_step}
+use Rattle.nfca_poll.specs.Enquiry.{Enquires}
+use Rattle.nfca_poll.specs.Seeking.{resolution, seek_of}
+use Rattle.nfca_poll.proofs.SeekSteps.{potential, falls}
+use Rattle.nfca_poll.proofs.Enquiring.{Reached, due_of_request, goes_on, ended_is, reached_turn, enquires_err, enquires_end}
+use Rattle.nfca_poll.proofs.resolution.resolve.Goals as goal
+
+pub returns-in_err-heard-clause-turns : goal.returns-in_err-heard-clause-turns
+returns-in_err-heard-clause-turns g c lit =
+    let E : Result Picked PollFault → Type 0 = λ r. Enquires resolution g.L.Listener.machine c.args.field.now r c.ask.new.field in
+    let same : c.from_residual.result ≡ Err c.in_err-heard.field-0.0 = grind (arith, common_steps) in
+    subst E (sym same)
+    (enquires_err resolution g.L.Listener.machine c.args.field.now c.loop-heard.field c.ask.new.field (seek_of c.loop-heard.seeking) c.request.result c.in_err-heard.field-0.0 c.loop-heard.invariant.so_far
+    (due_of_request c.loop-heard.seeking c.request.result c.request.ensures) (goes_on c.loop-heard.seeking) c.in_err-heard.ensures)
+
+pub loop-heard-smaller : goal.loop-heard-smaller
+loop-heard-smaller g c =
+    let P : Seek → Type 0 = λ s. potential s < potential (seek_of c.loop-heard.seeking) in
+    subst P (sym c.in-Goes.ensures) (falls c.loop-heard.seeking c.in_ok-heard.heard)
+
+pub loop-heard-preserved : goal.loop-heard-preserved
+loop-heard-preserved g c =
+    let P : Seek → Type 0 = λ s. Reached resolution g.L.Listener.machine c.args.field.now c.ask.new.field s in
+    record {
+      lit = c.in_ok-heard.ensures.1;
+      so_far = subst P (sym c.in-Goes.ensures)
+          (reached_turn resolution g.L.Listener.machine c.args.field.now c.loop-heard.field c.ask.new.field (seek_of c.loop-heard.seeking) c.request.result c.in_ok-heard.heard c.loop-heard.invariant.so_far
+          (due_of_request c.loop-heard.seeking c.request.result c.request.ensures) c.in_ok-heard.ensures);
+    }
+
+pub returns-in-Ends-clause-turns : goal.returns-in-Ends-clause-turns
+returns-in-Ends-clause-turns g c lit =
+    enquires_end resolution g.L.Listener.machine c.args.field.now c.ask.new.field (seek_step (seek_of c.loop-heard.seeking) c.in_ok-heard.heard) c.in-Ends.result
+    (reached_turn resolution g.L.Listener.machine c.args.field.now c.loop-heard.field c.ask.new.field (seek_of c.loop-heard.seeking) c.request.result c.in_ok-heard.heard c.loop-heard.invariant.so_far
+    (due_of_request c.loop-heard.seeking c.request.result c.request.ensures) c.in_ok-heard.ensures)
+    (ended_is (seek_step (seek_of c.loop-heard.seeking) c.in_ok-heard.heard) c.in-Ends.ensures.0 c.in-Ends.result c.in-Ends.ensures.1 c.in-Ends.ensures.2)

@@ -1,0 +1,315 @@
+//! The listener front of an NFC-A device.
+
+ghost use Rattle.std.specs.Prelude.{◌≡◌, ◌≤◌, length, Bool};
+ghost use Rattle.nfca_poll.specs.Levels.{levels};
+ghost use Rattle.nfca_poll.specs.Calls.{Calls, Sdd, Sel, call_of, is_sdd, is_sel, known_bits, named_level};
+ghost use Rattle.nfca_poll.specs.Front.{Off, Ready, sens_res, sel_res, home, front_says, front_next};
+ghost use Rattle.nfca_poll.specs.Fronted.{front_of, HasLevel};
+
+use crate::call::CallKind;
+use crate::ident::Ident;
+use crate::kind::Kind;
+use crate::level::Level;
+use crate::upper::{UpStep, Upper};
+use air_core::Listener;
+use nfc_base::{Answerer, Frame, Tech};
+use std::alloc::{AllocError, Global};
+use std::marker::Model;
+
+/// The first byte of SENS_RES for identifiers of one, two and three cascade levels; the second one is 0. The values are
+/// this project's own.
+const SENS_RES: [u8; 3] = [0x04, 0x44, 0x84];
+
+/// SEL_RES where another cascade level follows (NFC Forum Digital Protocol).
+const MORE_LEVELS: u8 = 0x04;
+
+/// The state of a front. `Ready` counts the cascade level that is asked next, from 1. A starred device was put to sleep
+/// before, and sleeps again where another one is idle.
+#[derive(Clone, Copy, Debug, PartialEq, Eq)]
+pub enum FrontState {
+    Off,
+    Idle,
+    Sleep,
+    Ready { level: u8, starred: bool },
+    Active { starred: bool },
+}
+
+/// An NFC-A device that a reader finds and selects by its identifier. Once it is selected, the machine above takes its
+/// own frames, and the front all others.
+#[derive(Debug, Drop)]
+pub struct Front<U> {
+    id: Ident,
+    state: FrontState,
+    upper: U,
+}
+
+impl<U> Model for Front<U> {
+    ghost use Rattle.std.specs.Prelude.{length};
+    ghost use Rattle.nfca_poll.specs.Levels.{levels};
+    ghost use Rattle.nfca_poll.specs.Ident.{IsIdent};
+    ghost use Rattle.nfca_poll.specs.Fronted.{Fronted, front_of, HasLevel};
+
+    ghost Value = { Fronted U };
+
+    ghost view = { λ f. record { id = f.id; front = front_of f.state; upper = f.upper } };
+
+    ghost invariant = { λ f. HasLevel (length (levels f.id)) (front_of f.state) };
+}
+
+impl<U: Upper> Front<U> {
+    ghost use Rattle.std.specs.Borrow.{sem};
+    ghost use Rattle.nfca_poll.specs.Fronted.{moved, plain_answer, plain_after};
+    ghost use Rattle.nfca_poll.specs.Lends.{lends_upper};
+
+    /// A device in the dark.
+    pub fn new(id: Ident, upper: U) -> Front<U>
+        ensures { result ≡ record { id = id; front = Off; upper = upper } }
+    {
+        Front {
+            id,
+            state: FrontState::Off,
+            upper,
+        }
+    }
+
+    pub fn id(&self) -> &Ident
+        ensures { result.now ≡ self.now.id }
+    {
+        &self.id
+    }
+
+    /// The machine above, to be looked at.
+    pub fn as_upper(&self) -> &U
+        ensures { result.now ≡ self.now.upper }
+    {
+        &self.upper
+    }
+
+    /// The machine above.
+    pub fn upper(&mut self) -> &mut U
+        ensures* lends { sem 𝓛 (lends_upper U.row self.entry result) }
+        ensures value { result.now ≡ self.old.upper }
+    {
+        &mut self.upper
+    }
+
+    /// Goes to another state. Where the device leaves the state Active, its machine gives up what is volatile.
+    fn go(&mut self, state: FrontState)
+        requires { HasLevel (length (levels self.old.id)) (front_of state) }
+        ensures { self.new ≡ moved U.machine self.old (front_of state) }
+    {
+        let stays = matches!(state, FrontState::Active { .. });
+        if matches!(self.state, FrontState::Active { .. }) && !stays {
+            self.upper.clear();
+        }
+        self.state = state;
+    }
+
+    /// A frame that isn't of the machine above.
+    fn take(&mut self, frame: &Frame) -> Option<Frame>
+        ensures answer { result ≡ plain_answer U.machine self.old frame.now }
+        ensures step { self.new ≡ plain_after U.machine self.old frame.now }
+    {
+        let step = step_at(&self.id, self.upper.kind(), self.state, frame);
+        self.go(step.state);
+        step.answer
+    }
+}
+
+impl<U: Upper> Listener for Front<U> {
+    ghost use Rattle.nfca_poll.specs.Fronted.{fronts};
+    ghost use Rattle.nfca_poll.specs.Front.{is_ready, is_active};
+    ghost use Rattle.nfca_poll.specs.FrontLaws.{step_keeps, light_keeps, dark_keeps, dark_rests, at_rest, ignores};
+
+    ghost machine = { fronts U.machine };
+
+    ghost identifier = { λ d. d.id };
+
+    ghost store = { λ d. U.store d.upper };
+
+    ghost is_ready = { λ d. is_ready d.front };
+
+    ghost is_selected = { λ d. is_active d.front };
+
+    fn tech(&self) -> Tech {
+        Tech::A
+    }
+
+    fn light(&mut self) {
+        self.go(FrontState::Idle);
+    }
+
+    fn dark(&mut self) {
+        self.go(FrontState::Off);
+    }
+
+    fn hear<A: Answerer>(
+        &mut self,
+        alloc: Global,
+        frame: &Frame,
+        far: &mut A,
+    ) -> Result<Option<Frame>, AllocError> {
+        match self.state {
+            FrontState::Active { .. } => {}
+            FrontState::Off | FrontState::Idle | FrontState::Sleep | FrontState::Ready { .. } =>
+                return Ok(self.take(frame)),
+        }
+        match self.upper.hear(alloc, frame, far)? {
+            UpStep::Foreign => Ok(self.take(frame)),
+            UpStep::Quiet => Ok(None),
+            UpStep::Reply(answer) => Ok(Some(answer)),
+            UpStep::Sleep(answer) => {
+                self.go(FrontState::Sleep);
+                Ok(Some(answer))
+            }
+            UpStep::Idle(answer) => {
+                self.go(FrontState::Idle);
+                Ok(Some(answer))
+            }
+        }
+    }
+
+    ghost step_keeps = { step_keeps U.machine };
+
+    ghost light_keeps = { light_keeps U.machine U.store U.keeps };
+
+    ghost dark_keeps = { dark_keeps U.machine U.store U.keeps };
+
+    ghost dark_rests = { dark_rests U.machine };
+
+    ghost rests = { at_rest U.machine };
+
+    ghost ignores = { ignores U.machine };
+}
+
+/// What a step of a front comes to.
+#[derive(Debug, Drop)]
+struct Step {
+    state: FrontState,
+    answer: Option<Frame>,
+}
+
+impl Step {
+    fn silent(state: FrontState) -> Step
+        ensures { result ≡ record { state = state; answer = None } }
+    {
+        Step {
+            state,
+            answer: None,
+        }
+    }
+
+    /// A device answers SENS_REQ or ALL_REQ.
+    fn wakes(id: &Ident, starred: bool) -> Step
+        ensures { result ≡ record { state = FrontState.Ready 1 starred; answer = Some (sens_res (length (levels id.now))) } }
+    {
+        let first = SENS_RES[Level::count(id) as usize - 1];
+        Step {
+            state: FrontState::Ready { level: 1, starred },
+            answer: Some(Frame::whole(Tech::A, &[first, 0]).unwrap()),
+        }
+    }
+}
+
+/// The step of a front at a frame that isn't of the machine above it.
+fn step_at(id: &Ident, kind: Kind, state: FrontState, frame: &Frame) -> Step
+    requires { HasLevel (length (levels id.now)) (front_of state) }
+    ensures state { front_of result.state ≡ front_next (levels id.now) (front_of state) (call_of frame.now) }
+    ensures answer { result.answer ≡ front_says (levels id.now) kind (front_of state) (call_of frame.now) }
+    ensures level { HasLevel (length (levels id.now)) (front_of result.state) }
+{
+    let call = CallKind::read_from(frame);
+    match state {
+        FrontState::Off => Step::silent(FrontState::Off),
+        FrontState::Idle => match call {
+            Some(CallKind::Sens | CallKind::All) => Step::wakes(id, false),
+            _ => Step::silent(FrontState::Idle),
+        },
+        FrontState::Sleep => match call {
+            Some(CallKind::All) => Step::wakes(id, true),
+            _ => Step::silent(FrontState::Sleep),
+        },
+        FrontState::Ready { level, starred } => match call {
+            Some(CallKind::Sdd { level: asked }) => {
+                step_at_sdd(id, kind, level, starred, asked, frame)
+            }
+            Some(CallKind::Sel { level: asked }) => {
+                step_at_sel(id, kind, level, starred, asked, frame)
+            }
+            _ => Step::silent(home(starred)),
+        },
+        FrontState::Active { starred } => match call {
+            Some(CallKind::Slp) => Step::silent(FrontState::Sleep),
+            _ => Step::silent(home(starred)),
+        },
+    }
+}
+
+/// A device that is ready hears SDD_REQ of some level.
+fn step_at_sdd(id: &Ident, kind: Kind, level: u8, starred: bool, asked: u8, frame: &Frame) -> Step
+    requires sdd { is_sdd frame.now ≡ Bool.true }
+    requires low { 1 ≤ level }
+    requires high { level ≤ length (levels id.now) }
+    ensures state { front_of result.state ≡ front_next (levels id.now) (Ready level starred) (Calls (Sdd asked (known_bits frame.now))) }
+    ensures answer { result.answer ≡ front_says (levels id.now) kind (Ready level starred) (Calls (Sdd asked (known_bits frame.now))) }
+    ensures level { HasLevel (length (levels id.now)) (front_of result.state) }
+{
+    let own = Level::of(id, level);
+    if asked != level || !own.begins_with(frame) {
+        return Step::silent(home(starred));
+    }
+    Step {
+        state: FrontState::Ready { level, starred },
+        answer: Some(own.rest(frame)),
+    }
+}
+
+/// A device that is ready hears SEL_REQ of some level.
+fn step_at_sel(id: &Ident, kind: Kind, level: u8, starred: bool, asked: u8, frame: &Frame) -> Step
+    requires sel { is_sel frame.now ≡ Bool.true }
+    requires low { 1 ≤ level }
+    requires high { level ≤ length (levels id.now) }
+    ensures state { front_of result.state ≡ front_next (levels id.now) (Ready level starred) (Calls (Sel asked (named_level frame.now))) }
+    ensures answer { result.answer ≡ front_says (levels id.now) kind (Ready level starred) (Calls (Sel asked (named_level frame.now))) }
+    ensures level { HasLevel (length (levels id.now)) (front_of result.state) }
+{
+    if asked != level || !Level::of(id, level).is_named_by(frame) {
+        return Step::silent(home(starred));
+    }
+    if level < Level::count(id) {
+        return Step {
+            state: FrontState::Ready {
+                level: level + 1,
+                starred,
+            },
+            answer: Some(Frame::whole(Tech::A, &[MORE_LEVELS]).unwrap()),
+        };
+    }
+    Step {
+        state: FrontState::Active { starred },
+        answer: Some(sel_res(kind)),
+    }
+}
+
+/// SEL_RES of a device that is selected (NFC Forum Digital Protocol).
+fn sel_res(kind: Kind) -> Frame
+    ensures { result ≡ sel_res kind }
+{
+    let byte = match kind {
+        Kind::T2 => 0x00,
+        Kind::T4 => 0x20,
+        Kind::Peer => 0x40,
+    };
+    Frame::whole(Tech::A, &[byte]).unwrap()
+}
+
+/// Where a device goes that leaves its state by any other frame.
+fn home(starred: bool) -> FrontState
+    ensures { front_of result ≡ home starred }
+{
+    if starred {
+        FrontState::Sleep
+    } else {
+        FrontState::Idle
+    }
+}

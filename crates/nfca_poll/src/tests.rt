@@ -1,0 +1,372 @@
+//! Fronts over plain machines, and what a reader finds among them.
+
+ghost use Rattle.std.specs.Prelude.{◌≡◌};
+
+use crate::{
+    Front, Ident, Kind, Picked, PollFault, UpStep, Upper, Vcrowd, inventory_one, pick_v, resolve,
+};
+use air_core::{Field, Listener};
+use nfc_base::{Answerer, Event, Fate, Frame, Mute, Tech};
+use std::alloc::{AllocError, Global};
+use std::process::Abort;
+use std::test::Fail;
+
+/// A machine that takes frames of whole bytes that begin with `takes`, and leaves the state Active at one of two bytes.
+#[derive(Drop)]
+struct Plain {
+    kind: Kind,
+    takes: u8,
+    fresh: bool,
+}
+
+impl Upper for Plain {
+    ghost use Rattle.std.specs.Prelude.{[], ◌∷◌, true, false, ◌==◌, ◌&&◌, length, get_or, if◌then◌else◌};
+    ghost use Rattle.std.proofs.Common.{rules};
+    ghost use Rattle.nfc_base.specs.Signal.{whole_a};
+    ghost use Rattle.nfc_base.specs.Far.{Untouched};
+    ghost use Rattle.nfca_poll.specs.declared.upper.UpStep.TheVariants as steps;
+
+    ghost machine = { record { kind = λ u. u.kind; handed = λ u f. Untouched; says = λ u f reply. if (length f.bytes == 1) && (get_or f.bytes 0 0 == u.takes) then steps.Sleep (whole_a (170 ∷ [])) else steps.Foreign; after = λ u f reply. if (length f.bytes == 1) && (get_or f.bytes 0 0 == u.takes) then record u { fresh = false } else u; cleared = λ u. record u { fresh = true } } };
+
+    ghost store = { λ u. [] };
+
+    fn kind(&self) -> Kind {
+        self.kind
+    }
+
+    fn clear(&mut self) {
+        self.fresh = true;
+    }
+
+    fn hear<A: Answerer>(
+        &mut self,
+        _alloc: Global,
+        frame: &Frame,
+        _far: &mut A,
+    ) -> Result<UpStep, AllocError> {
+        if frame.view().len() != 1 || frame.view()[0] != self.takes {
+            return Ok(UpStep::Foreign);
+        }
+        self.fresh = false;
+        Ok(UpStep::Sleep(Frame::whole(Tech::A, &[0xAA]).unwrap()))
+    }
+
+    ghost foreign = { Prim.search rules };
+
+    ghost waits = { Prim.search rules };
+
+    ghost keeps = { Prim.search rules };
+}
+
+fn front_of(id: &[u8], kind: Kind) -> Result<Front<Plain>, Fail> {
+    let upper = Plain {
+        kind,
+        takes: 0xC2,
+        fresh: true,
+    };
+    Ok(Front::new(Ident::new(id)?, upper))
+}
+
+/// A frame and its tail, and the answer and its tail; no answer where it has no bytes.
+type Row<'a> = (&'a [u8], u8, &'a [u8], u8);
+
+fn walk<R: Abort>(
+    rt: &R,
+    alloc: Global,
+    front: &mut Front<Plain>,
+    rows: &[Row],
+) -> Result<(), Fail> {
+    for (request, tail, answer, answer_tail) in rows {
+        let wanted = if answer.is_empty() {
+            None
+        } else {
+            Some(Frame::part(Tech::A, answer, *answer_tail)?)
+        };
+        let frame = Frame::part(Tech::A, request, *tail)?;
+        assert_eq!(rt;
+            front.hear(alloc, &frame, &mut Mute),
+            Ok(wanted),
+            "at {request:?}"
+        );
+    }
+    Ok(())
+}
+
+#[test]
+fn activation_of_seven_bytes(rt: HostRuntime) -> Result<(), Fail> {
+    let id = [0x04, 0x62, 0x26, 0x11, 0x80, 0x1D, 0x80];
+    let mut front = front_of(&id, Kind::Peer)?;
+    assert!(rt; front.tech() == Tech::A);
+    assert!(rt; front.id().view() == id.as_slice());
+    front.light();
+    let first = [0x93, 0x70, 0x88, 0x04, 0x62, 0x26, 0xC8];
+    let second = [0x95, 0x70, 0x11, 0x80, 0x1D, 0x80, 0x0C];
+    walk(
+        &rt,
+        rt.alloc(),
+        &mut front,
+        &[
+            (&[0x26], 7, &[0x44, 0x00], 0),
+            (&[0x93, 0x20], 0, &[0x88, 0x04, 0x62, 0x26, 0xC8], 0),
+            (&first, 0, &[0x04], 0),
+            (&[0x95, 0x20], 0, &[0x11, 0x80, 0x1D, 0x80, 0x0C], 0),
+            (&[0x95, 0x31, 0x11, 0x00], 1, &[0xC0, 0x0E, 0x40, 0x06], 7),
+            (&second, 0, &[0x40], 0),
+            (&[0xC2], 0, &[0xAA], 0),
+            (&[0x26], 7, &[], 0),
+            (&[0x52], 7, &[0x44, 0x00], 0),
+            (&first, 0, &[0x04], 0),
+            (&[0x93, 0x20], 0, &[], 0),
+            (&[0x26], 7, &[], 0),
+            (&[0x52], 7, &[0x44, 0x00], 0),
+            (&first, 0, &[0x04], 0),
+            (&second, 0, &[0x40], 0),
+            (&[0x50, 0x00], 0, &[], 0),
+            (&[0x26], 7, &[], 0),
+        ],
+    )?;
+    front.upper().takes = 0xC3;
+    assert!(rt; front.as_upper().fresh);
+    front.dark();
+    walk(&rt, rt.alloc(), &mut front, &[(&[0x52], 7, &[], 0)])
+}
+
+/// What an event is: a reset, a request, an answer or a clash, with its bytes and its tail.
+type Line<'a> = (char, &'a [u8], u8);
+
+fn is_line(event: &Event, line: &Line) -> bool {
+    let (letter, bytes, tail) = *line;
+    match event {
+        Event::Reset => letter == '!',
+        Event::Request { frame, .. } => {
+            letter == '>' && frame.view() == bytes && frame.tail() == tail
+        }
+        Event::Answer { frame, .. } => {
+            letter == '<' && frame.view() == bytes && frame.tail() == tail
+        }
+        Event::Clash { frame, .. } => {
+            letter == '*' && frame.view() == bytes && frame.tail() == tail
+        }
+    }
+}
+
+fn are_lines<R: Abort>(rt: &R, events: &[Event], lines: &[Line]) {
+    assert_eq!(rt; events.len(), lines.len());
+    for (event, line) in events.iter().zip(lines) {
+        assert!(rt; is_line(event, line), "at {event:?}");
+    }
+}
+
+/// A lit field of fronts with these identifiers, and these fates to come.
+fn field_of(alloc: Global, ids: &[&[u8]], fates: &[Fate]) -> Result<Field<Front<Plain>>, Fail> {
+    let mut field = Field::new(alloc);
+    for id in ids {
+        field.put_in(front_of(id, Kind::T4)?)?;
+    }
+    field.add_fates(fates)?;
+    field.reset()?;
+    Ok(field)
+}
+
+#[test]
+fn bit_by_bit(rt: HostRuntime) -> Result<(), Fail> {
+    let ids: [&[u8]; 3] = [
+        &[1, 2, 3, 4],
+        &[3, 2, 3, 4],
+        &[0x04, 0x11, 0x22, 0x33, 0x44, 0x55, 0x66],
+    ];
+    let mut field = field_of(rt.alloc(), &ids, &[])?;
+    let picked = Picked {
+        id: Ident::new(ids[1])?,
+        kind: Kind::T4,
+    };
+    assert_eq!(rt; resolve(&mut field), Ok(picked));
+    are_lines(
+        &rt,
+        field.trace(),
+        &[
+            ('!', &[], 0),
+            ('>', &[0x26], 7),
+            ('*', &[0x04], 6),
+            ('>', &[0x93, 0x20], 0),
+            ('*', &[], 0),
+            ('>', &[0x93, 0x21, 0x01], 1),
+            ('*', &[], 0),
+            ('>', &[0x93, 0x22, 0x03], 2),
+            ('<', &[0x80, 0xC0, 0x00, 0x81, 0x01], 6),
+            ('>', &[0x93, 0x70, 3, 2, 3, 4, 6], 0),
+            ('<', &[0x20], 0),
+        ],
+    );
+    Ok(())
+}
+
+#[test]
+fn equal_levels_are_heard_as_one(rt: HostRuntime) -> Result<(), Fail> {
+    let id: &[u8] = &[0x04, 0x62, 0x26, 0x11, 0x80, 0x1D, 0x80, 1, 2, 3];
+    let mut field = field_of(rt.alloc(), &[id, id], &[])?;
+    let picked = Picked {
+        id: Ident::new(id)?,
+        kind: Kind::T4,
+    };
+    assert_eq!(rt; resolve(&mut field), Ok(picked));
+    are_lines(
+        &rt,
+        field.trace(),
+        &[
+            ('!', &[], 0),
+            ('>', &[0x26], 7),
+            ('<', &[0x84, 0x00], 0),
+            ('>', &[0x93, 0x20], 0),
+            ('<', &[0x88, 0x04, 0x62, 0x26, 0xC8], 0),
+            ('>', &[0x93, 0x70, 0x88, 0x04, 0x62, 0x26, 0xC8], 0),
+            ('<', &[0x04], 0),
+            ('>', &[0x95, 0x20], 0),
+            ('<', &[0x88, 0x11, 0x80, 0x1D, 0x04], 0),
+            ('>', &[0x95, 0x70, 0x88, 0x11, 0x80, 0x1D, 0x04], 0),
+            ('<', &[0x04], 0),
+            ('>', &[0x97, 0x20], 0),
+            ('<', &[0x80, 0x01, 0x02, 0x03, 0x80], 0),
+            ('>', &[0x97, 0x70, 0x80, 0x01, 0x02, 0x03, 0x80], 0),
+            ('<', &[0x20], 0),
+        ],
+    );
+    Ok(())
+}
+
+#[test]
+fn faults(rt: HostRuntime) -> Result<(), Fail> {
+    const P: Fate = Fate::Pass;
+    const D: Fate = Fate::Damage;
+    const L: Fate = Fate::Lose;
+    const B: Fate = Fate::Break;
+    let rows: [(&[Fate], PollFault); 6] = [
+        (&[L, L, D, L], PollFault::Nobody),
+        (&[P, L, L, L, L], PollFault::Nobody),
+        (&[P, D, L], PollFault::Disturbed),
+        (&[P, P, P, P, P, D], PollFault::Disturbed),
+        (&[L, L, B], PollFault::FieldLost),
+        (&[P, P, P, B], PollFault::FieldLost),
+    ];
+    for (fates, fault) in rows {
+        let mut field = field_of(rt.alloc(), &[&[1, 2, 3, 4]], fates)?;
+        assert_eq!(rt; resolve(&mut field), Err(fault), "at {fates:?}");
+    }
+    let mut dark: Field<Front<Plain>> = Field::new(rt.alloc());
+    assert_eq!(rt; resolve(&mut dark), Err(PollFault::FieldLost));
+    assert_eq!(rt; inventory_one(&mut dark), Err(PollFault::FieldLost));
+    assert_eq!(rt; pick_v(&mut dark, [0; 8]), Err(PollFault::FieldLost));
+    assert_eq!(rt; PollFault::BadAnswer.number(), 6);
+    Ok(())
+}
+
+/// An NFC-V device that gives one answer to each inventory.
+#[derive(Drop)]
+struct Vicinity {
+    says: Frame,
+}
+
+impl Listener for Vicinity {
+    ghost use Rattle.std.specs.Prelude.{[], false, true, ◌==◌, get_or, Some, None, if◌then◌else◌};
+    ghost use Rattle.std.proofs.Common.{rules};
+    ghost use Rattle.nfc_base.specs.Far.{Untouched};
+    ghost use Rattle.nfc_base.specs.declared.frame.Tech.TheVariants as techs;
+
+    ghost machine = { record { tech = λ l. techs.V; handed = λ l f. Untouched; answer = λ l f reply. if get_or f.bytes 0 0 == 0x26 then Some l.says else None; after = λ l f reply. l; woken = λ l. l; darkened = λ l. l } };
+
+    ghost identifier = { λ l. [] };
+
+    ghost store = { λ l. [] };
+
+    ghost is_ready = { λ l. false };
+
+    ghost is_selected = { λ l. false };
+
+    fn tech(&self) -> Tech {
+        Tech::V
+    }
+
+    fn light(&mut self) {}
+
+    fn dark(&mut self) {}
+
+    fn hear<A: Answerer>(
+        &mut self,
+        _alloc: Global,
+        frame: &Frame,
+        _far: &mut A,
+    ) -> Result<Option<Frame>, AllocError> {
+        match frame.view() {
+            [0x26, ..] => Ok(Some(self.says.copy())),
+            _ => Ok(None),
+        }
+    }
+
+    ghost step_keeps = { Prim.search rules };
+
+    ghost light_keeps = { Prim.search rules };
+
+    ghost dark_keeps = { Prim.search rules };
+
+    ghost dark_rests = { Prim.search rules };
+
+    ghost rests = { Prim.search rules };
+
+    ghost ignores = { Prim.search rules };
+}
+
+/// A lit field of NFC-V devices that say this, and these fates to come.
+fn vicinities(alloc: Global, says: &[&[u8]], fates: &[Fate]) -> Result<Field<Vicinity>, Fail> {
+    let mut field = Field::new(alloc);
+    for bytes in says {
+        field.put_in(Vicinity {
+            says: Frame::whole(Tech::V, bytes)?,
+        })?;
+    }
+    field.add_fates(fates)?;
+    field.reset()?;
+    Ok(field)
+}
+
+#[test]
+fn inventories(rt: HostRuntime) -> Result<(), Fail> {
+    const P: Fate = Fate::Pass;
+    const D: Fate = Fate::Damage;
+    const L: Fate = Fate::Lose;
+    let one: &[u8] = &[0, 0, 6, 5, 4, 3, 2, 1, 4, 0xE0];
+    let other: &[u8] = &[0, 0, 7, 5, 4, 3, 2, 1, 4, 0xE0];
+    let short: &[u8] = &[0, 0, 6];
+    let id = [0xE0, 4, 1, 2, 3, 4, 5, 6];
+    // what the devices say, the fates; what an inventory finds, and whether the first identifier is picked
+    let rows: [(
+        &[&[u8]],
+        &[Fate],
+        Result<Vcrowd, PollFault>,
+        Result<(), PollFault>,
+    ); 7] = [
+        (&[one], &[], Ok(Vcrowd::One(id)), Ok(())),
+        (&[one, other], &[], Ok(Vcrowd::Crowd), Ok(())),
+        (&[], &[], Ok(Vcrowd::Nobody), Err(PollFault::NotFound)),
+        (
+            &[short],
+            &[],
+            Err(PollFault::BadAnswer),
+            Err(PollFault::BadAnswer),
+        ),
+        (&[one], &[L, L, P, L], Ok(Vcrowd::One(id)), Ok(())),
+        (&[one], &[L, L, L, P, D], Err(PollFault::Disturbed), Ok(())),
+        (
+            &[one],
+            &[L, L, L, L],
+            Ok(Vcrowd::Nobody),
+            Err(PollFault::NotFound),
+        ),
+    ];
+    for (says, fates, found, picked) in rows {
+        let mut field = vicinities(rt.alloc(), says, fates)?;
+        assert_eq!(rt; inventory_one(&mut field), found, "at {fates:?}");
+        let mut field = vicinities(rt.alloc(), says, fates)?;
+        assert_eq!(rt; pick_v(&mut field, id), picked, "at {fates:?}");
+    }
+    Ok(())
+}

@@ -1,0 +1,62 @@
+//! The machine above a listener front.
+
+ghost use Rattle.std.specs.Prelude.{◌≡◌, ℕ, ◌≤◌, List, length, Option, None, IfOk, OnErr};
+ghost use Rattle.nfc_base.specs.Signal.{Signal};
+ghost use Rattle.nfc_base.specs.Far.{Untouched, Hands};
+ghost use Rattle.air_core.specs.Listening.{Stop};
+ghost use Rattle.nfca_poll.specs.Upper.{UpperMachine, UpperStep};
+ghost use Rattle.nfca_poll.specs.declared.upper.UpStep.TheVariants as steps;
+
+use crate::kind::Kind;
+use nfc_base::{Answerer, Frame};
+use std::alloc::{AllocError, Global};
+
+/// What the machine above a front makes of a frame. A frame that it answers by `Sleep` or by `Idle` is its last one:
+/// the device leaves the state Active with that answer.
+#[derive(Debug, Drop)]
+pub enum UpStep {
+    /// Not a frame of this machine. The front takes it.
+    Foreign,
+    Quiet,
+    Reply(Frame),
+    Sleep(Frame),
+    Idle(Frame),
+}
+
+/// What a device is once it is selected: a tag, or the near end of a link. `Front` hands it frames in the state
+/// Active alone.
+pub trait Upper {
+    /// What it does.
+    ghost machine: { UpperMachine Self };
+
+    /// Its memory, in order; the empty list for a peer.
+    ghost store: { Self → List ℕ };
+
+    /// What it tells by SEL_RES.
+    fn kind(&self) -> Kind
+        ensures { result ≡ machine.kind self.now };
+
+    /// Gives up what is volatile. The front calls it whenever the device leaves the state Active.
+    fn clear(&mut self)
+        ensures { self.new ≡ machine.cleared self.old };
+
+    /// One step in the state Active. `Err` comes only where the far end answered `Err` in this step.
+    fn hear<A: Answerer>(
+        &mut self,
+        alloc: Global,
+        frame: &Frame,
+        far: &mut A,
+    ) -> Result<UpStep, AllocError>
+        ensures ok { IfOk result (λ s. UpperStep A.restarts A.steps (machine.handed self.old frame.now) (machine.says self.old frame.now) (machine.after self.old frame.now) far.old s self.new far.new) }
+        ensures err { OnErr result (Stop A.stops A.is_stuck (machine.handed self.old frame.now) (machine.after self.old frame.now) far.old self.new far.new) }
+        ensures bound { (payload : List ℕ) → machine.handed self.old frame.now ≡ Hands payload → length payload ≤ 2178 };
+
+    /// A foreign frame asks nothing of the far end, and changes nothing.
+    ghost foreign: { (u : Self) (f : Signal) (reply : Option (List ℕ)) → machine.says u f reply ≡ steps.Foreign → (machine.handed u f ≡ Untouched) × (machine.after u f reply ≡ u) };
+
+    /// Where a payload was handed over and no reply came, it says nothing.
+    ghost waits: { (u : Self) (f : Signal) (payload : List ℕ) → machine.handed u f ≡ Hands payload → machine.says u f None ≡ steps.Quiet };
+
+    /// What is given up isn't of its memory.
+    ghost keeps: { (u : Self) → store (machine.cleared u) ≡ store u };
+}
