@@ -1,24 +1,30 @@
 -- Which entries a bench may have: what it accepts, what each command changes, which request is due, and what it
 -- answers. A later command adds a case to each definition.
-use Rattle.std.specs.Prelude.{◌≡◌, ℕ, ◌*◌, ◌-◌, ◌≤◌, List, [], ◌∷◌, ◌++◌, map, length, replicate, Bool, false, nat_eq, if◌then◌else◌, Option, Some, None, IsSome}
+use Rattle.std.specs.Prelude.{◌≡◌, ℕ, ◌*◌, ◌-◌, ◌<◌, ◌≤◌, List, [], ◌∷◌, ◌++◌, map, length, replicate, Bool, nat_eq, if◌then◌else◌, Option, Some, None, IsSome, Ok, Err}
+use Rattle.std.specs.List.{AllByRecursion}
 use Rattle.std.specs.Cmp.Lexicographic.{pointwise}
+use Rattle.nfc_base.specs.declared.frame.Tech.TheVariants as techs
 use Rattle.nfc_base.specs.declared.event.Event.{Event}
 use Rattle.nfc_base.specs.declared.event.Fate.{Fate}
+use Rattle.nfc_base.specs.Signal.{Signal}
 use Rattle.air_core.specs.World.{World, quiet_air}
 use Rattle.air_core.specs.Conversation.{AirModel, Note, Next, Over, receptions, replay, queue_after, AreTurns, FatesFrom, EachDue}
+use Rattle.air_core.specs.Waits.{Asking, stand, waits_next}
 use Rattle.nfca_poll.specs.declared.kind.Kind.TheVariants as kinds
 use Rattle.nfca_poll.specs.Poll.{Polling, Polls, Done, Picked, NotFound, GivenUp, Refused, FieldLost, pick}
 use Rattle.t2t_tag.specs.Store.{IsT2Store}
+use Rattle.t5t_tag.specs.Store.{IsT5Store}
 use Rattle.nfc_bench.specs.declared.command.Command.{Command}
-use Rattle.nfc_bench.specs.declared.command.Command.TheVariants.{Skip, PlaceT2, Read}
+use Rattle.nfc_bench.specs.declared.command.Command.TheVariants.{Skip, PlaceT2, PlaceT5, Read}
+use Rattle.nfc_bench.specs.declared.command.DeviceId.{DeviceId}
 use Rattle.nfc_bench.specs.declared.command.DeviceId.TheVariants.{A, V}
 use Rattle.nfc_bench.specs.declared.device.Device.{Device}
-use Rattle.nfc_bench.specs.declared.device.Device.TheVariants.{T2}
 use Rattle.nfc_bench.specs.declared.entry.Answer.{Answer}
 use Rattle.nfc_bench.specs.declared.entry.Answer.TheVariants as answers
 use Rattle.nfc_bench.specs.declared.entry.Entry.{Entry}
-use Rattle.nfc_bench.specs.Device.{devices, device_id, device_store, new_tag}
-use Rattle.nfc_bench.specs.Reading.{IsPlain, Held, is_writable, reading, reading_at, Ended, Answered}
+use Rattle.nfc_bench.specs.Device.{devices, device_tech, device_id, device_store, new_t2, new_t5}
+use Rattle.nfc_bench.specs.Polling.{Followed, Asks, Told, pick_v, bytes_of, IsFoundBy}
+use Rattle.nfc_bench.specs.Reading.{AsksOf, TellsOf}
 
 -- the air of the bench's devices
 abbrev pub air : AirModel (World Device)
@@ -33,97 +39,126 @@ pub record State : Type 0 where
 abbrev pub first_state : State
 first_state = record { world = record { lit = false; listeners = [] }; queue = [] }
 
--- the memory of a new tag: the given bytes, then zeros
+-- the memory of a new tag of so many bytes: the given ones, then zeros
 abbrev pub memory_of : ℕ → List ℕ → List ℕ
-memory_of blocks head = head ++ replicate (4 * blocks - length head) 0
+memory_of size head = head ++ replicate (size - length head) 0
+
+-- how many devices may stand in the field at once
+abbrev pub most_devices : ℕ
+most_devices = 16
 
 -- the first device with an identifier
 abbrev pub device_with : List ℕ → List Device → Option Device
 device_with id [] = None
 device_with id (d ∷ ds) = if pointwise nat_eq (device_id d) id then Some d else device_with id ds
 
-abbrev pub store_or_none : Option Device → List ℕ
-store_or_none None = []
-store_or_none (Some d) = device_store d
+-- Something holds of the device with an identifier, which is placed.
+abbrev pub OfPlaced : (Device → Type 0) → Option Device → Type 0
+OfPlaced P None = ⊥
+OfPlaced P (Some d) = P d
 
--- the store of the device with an identifier; none where it isn't placed
-abbrev pub store_of : State → List ℕ → List ℕ
-store_of s id = store_or_none (device_with id s.world.listeners)
+abbrev pub OfDevice : State → DeviceId → (Device → Type 0) → Type 0
+OfDevice s id P = OfPlaced P (device_with (bytes_of id) s.world.listeners)
 
--- A Type 2 tag may be placed: no device is there, its identifier has 4 bytes, the given bytes fit, and its store is one
--- of a tag, and plain.
-pub record MayPlace (s : State) (id : List ℕ) (blocks : ℕ) (head : List ℕ) : Type 0 where
-  pub first : s.world.listeners ≡ []
+-- There is room for one more device, and none has this identifier.
+pub record IsFree (s : State) (id : List ℕ) : Type 0 where
+  pub room : length s.world.listeners < most_devices
+  pub fresh : device_with id s.world.listeners ≡ None
+
+-- A Type 2 tag may be placed: no device of NFC-A is there, its identifier has 4 bytes, the given bytes fit, and its store
+-- is one of a tag.
+pub record MayPlaceT2 (s : State) (id : List ℕ) (blocks : ℕ) (head : List ℕ) : Type 0 where
+  pub free : IsFree s id
+  pub first : AllByRecursion (λ d. device_tech d ≡ techs.V) s.world.listeners
   pub four : length id ≡ 4
   pub fits : length head ≤ 4 * blocks
-  pub store : IsT2Store (memory_of blocks head)
-  pub plain : IsPlain (memory_of blocks head)
+  pub store : IsT2Store (memory_of (4 * blocks) head)
+
+-- A Type 5 tag may be placed: the given bytes fit, and its store is one of a tag.
+pub record MayPlaceT5 (s : State) (id : List ℕ) (blocks size : ℕ) (head : List ℕ) : Type 0 where
+  pub free : IsFree s id
+  pub fits : length head ≤ size * blocks
+  pub store : IsT5Store size (memory_of (size * blocks) head)
 
 -- the conditions of a command beside its grammar
 abbrev pub IsAccepted : State → Command → Type 0
 IsAccepted s Skip = Unit {0}
-IsAccepted s (PlaceT2 id blocks head) = MayPlace s id blocks head
-IsAccepted s (Read (A id)) = IsSome (device_with id s.world.listeners)
-IsAccepted s (Read (V id)) = ⊥
+IsAccepted s (PlaceT2 id blocks head) = MayPlaceT2 s id blocks head
+IsAccepted s (PlaceT5 id blocks size head) = MayPlaceT5 s id blocks size head
+IsAccepted s (Read id) = IsSome (device_with (bytes_of id) s.world.listeners)
+
+-- the state with one more device
+abbrev pub with_device : State → Device → State
+with_device s d = record { world = record { lit = s.world.lit; listeners = s.world.listeners ++ d ∷ [] }; queue = s.queue }
 
 -- what a command itself changes, before anything is sent
 abbrev pub changed : State → Command → State
 changed s Skip = s
-changed s (PlaceT2 id blocks head) =
-    record { world = record { lit = s.world.lit; listeners = s.world.listeners ++ T2 (new_tag id (memory_of blocks head)) ∷ [] }; queue = s.queue }
+changed s (PlaceT2 id blocks head) = with_device s (new_t2 id (memory_of (4 * blocks) head))
+changed s (PlaceT5 id blocks size head) = with_device s (new_t5 id size (memory_of (size * blocks) head))
 changed s (Read id) = s
 
--- a command that polls, and then reads the store of a Type 2 tag
-abbrev pub then_reads : List ℕ → Polling → Next
-then_reads store (Polls n) = n
-then_reads store (Done (Picked kinds.T2) ns) = reading store ns
-then_reads store (Done (Picked kinds.T4) ns) = Over
-then_reads store (Done (Picked kinds.Peer) ns) = Over
-then_reads store (Done NotFound ns) = Over
-then_reads store (Done GivenUp ns) = Over
-then_reads store (Done Refused ns) = Over
-then_reads store (Done FieldLost ns) = Over
+-- what a command asks of its tag, from the first command of the tag to the last
+abbrev pub IsAskedBy : State → Command → List Signal → Type 0
+IsAskedBy s Skip asked = asked ≡ []
+IsAskedBy s (PlaceT2 id blocks head) asked = asked ≡ []
+IsAskedBy s (PlaceT5 id blocks size head) asked = asked ≡ []
+IsAskedBy s (Read id) asked = OfDevice s id (λ d. AsksOf d asked)
+
+-- a command that polls, and then asks these commands of the tag that it found
+abbrev pub then_asks : List Signal → Polling → Next
+then_asks asked (Polls n) = n
+then_asks asked (Done (Picked kinds.T2) ns) = waits_next asked ns
+then_asks asked (Done (Picked kinds.T4) ns) = Over
+then_asks asked (Done (Picked kinds.Peer) ns) = Over
+then_asks asked (Done NotFound ns) = Over
+then_asks asked (Done GivenUp ns) = Over
+then_asks asked (Done Refused ns) = Over
+then_asks asked (Done FieldLost ns) = Over
+
+abbrev pub then_asks_v : List Signal → Followed (Unit {0}) → Next
+then_asks_v asked (Asks n) = n
+then_asks_v asked (Told (Ok x) ns) = waits_next asked ns
+then_asks_v asked (Told (Err e) ns) = Over
 
 -- what is due in a command, by what the reader knows
-abbrev pub due : State → Command → List Note → Next
-due s Skip ns = Over
-due s (PlaceT2 id blocks head) ns = Over
-due s (Read (A id)) ns = then_reads (store_of s id) (pick id ns)
-due s (Read (V id)) ns = Over
+abbrev pub due : List Signal → Command → List Note → Next
+due asked Skip ns = Over
+due asked (PlaceT2 id blocks head) ns = Over
+due asked (PlaceT5 id blocks size head) ns = Over
+due asked (Read (A id)) ns = then_asks asked (pick id ns)
+due asked (Read (V id)) ns = then_asks_v asked (pick_v id ns)
 
 -- what stays of the devices when the field goes dark
 abbrev pub stable : World Device → List (List ℕ)
 stable w = map device_store w.listeners
 
--- A message is answered where the tag was found and selected and each command of the read was answered. It is the one
--- that the store holds, and no store changes.
-pub record ReadLaw (s : State) (id : List ℕ) (events : List Event) (message : List ℕ) (writable : Bool) : Type 0 where
+-- A read answers where its tag was found and selected and each of its commands was answered. What it tells is the form
+-- of the tag's store, and no store changes.
+pub record ReadLaw (s : State) (id : DeviceId) (asked : List Signal) (events : List Event) (answer : Answer) : Type 0 where
   pub rest : List Note
-  pub found : pick id (receptions events) ≡ Done (Picked kinds.T2) rest
-  pub answered : reading_at (store_of s id) rest ≡ Ended Answered
-  pub held : Held (store_of s id) message
-  pub access : writable ≡ is_writable (store_of s id)
+  pub found : IsFoundBy id (receptions events) rest
+  pub answered : stand 0 asked rest ≡ Asking 0 []
+  pub tells : OfDevice s id (λ d. TellsOf d answer)
   pub stays : stable (replay air s.world events) ≡ stable s.world
 
-abbrev pub ReadAnswers : State → List ℕ → List Event → Answer → Type 0
-ReadAnswers s id events answers.Done = ⊥
-ReadAnswers s id events (answers.Message message writable) = ReadLaw s id events message writable
-
 -- the law of the answers; a line that asks for nothing has none
-abbrev pub AnswerLaw : State → Command → List Event → Answer → Type 0
-AnswerLaw s Skip events answer = ⊥
-AnswerLaw s (PlaceT2 id blocks head) events answer = answer ≡ answers.Done
-AnswerLaw s (Read (A id)) events answer = ReadAnswers s id events answer
-AnswerLaw s (Read (V id)) events answer = ⊥
+abbrev pub AnswerLaw : State → Command → List Signal → List Event → Answer → Type 0
+AnswerLaw s Skip asked events answer = ⊥
+AnswerLaw s (PlaceT2 id blocks head) asked events answer = answer ≡ answers.Done
+AnswerLaw s (PlaceT5 id blocks size head) asked events answer = answer ≡ answers.Done
+AnswerLaw s (Read id) asked events answer = ReadLaw s id asked events answer
 
 -- From this state a command may be obeyed so.
 pub record LegalStep (s : State) (c : Command) (events : List Event) (answer : Answer) : Type 0 where
   pub accepted : IsAccepted s c
   pub turns : AreTurns air (changed s c).world events
   pub fates : FatesFrom (changed s c).queue events
-  pub each : EachDue (due s c) [] events
-  pub over : due s c (receptions events) ≡ Over
-  pub answered : AnswerLaw s c events answer
+  pub asked : List Signal
+  pub asks : IsAskedBy s c asked
+  pub each : EachDue (due asked c) [] events
+  pub over : due asked c (receptions events) ≡ Over
+  pub answered : AnswerLaw s c asked events answer
 
 -- the state after a command, after an entry, and after a journal
 abbrev pub state_after : State → Command → List Event → State

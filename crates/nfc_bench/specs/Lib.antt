@@ -1,7 +1,8 @@
-pub mod Placed
+pub mod Powered
 pub mod Device
 pub mod Standing
 pub mod Reading
+pub mod Polling
 pub mod Legal
 pub mod Obeying
 pub mod Journal

@@ -1,18 +1,15 @@
 -- What obeying a command does.
-use Rattle.std.specs.Prelude.{◌≡◌, ℕ, List, [], ◌∷◌, ◌++◌, Bool}
+use Rattle.std.specs.Prelude.{◌≡◌, ℕ, List, [], ◌∷◌, ◌++◌, map, Bool}
 use Rattle.air_core.specs.Turn.{Air}
 use Rattle.nfc_bench.specs.declared.bench.ObeyFault.{ObeyFault}
 use Rattle.nfc_bench.specs.declared.bench.ObeyFault.TheVariants as faults
 use Rattle.nfc_bench.specs.declared.command.Command.{Command}
-use Rattle.nfc_bench.specs.declared.command.Command.TheVariants.{Skip, PlaceT2, Read}
+use Rattle.nfc_bench.specs.declared.command.Command.TheVariants.{Skip, PlaceT2, PlaceT5, Read}
 use Rattle.nfc_bench.specs.declared.device.Device.{Device}
-use Rattle.nfc_bench.specs.declared.device.Device.TheVariants.{T2}
 use Rattle.nfc_bench.specs.declared.entry.Answer.{Answer}
 use Rattle.nfc_bench.specs.declared.entry.Entry.{Entry}
-use Rattle.nfc_bench.specs.Placed.{Placed}
-use Rattle.nfc_bench.specs.Device.{new_tag}
 use Rattle.nfc_bench.specs.Legal.{State, LegalStep, state_after, state_of}
-use Rattle.nfc_bench.specs.Phases.{IsTame}
+use Rattle.nfc_bench.specs.Phases.{AreTame, kept}
 
 abbrev pub obey_fault_number : ObeyFault → ℕ
 obey_fault_number faults.Refused = 1
@@ -22,21 +19,11 @@ obey_fault_number faults.Memory = 2
 abbrev pub state_at : Air Device → State
 state_at a = record { world = record { lit = a.lit; listeners = a.listeners }; queue = a.fates }
 
--- at most one tag stands in the field
-abbrev pub AreTame : List Device → Type 0
-AreTame [] = Unit {0}
-AreTame (T2 d ∷ ds) = IsTame d × (ds ≡ [])
-
--- the one tag, where there is one
-abbrev pub the_tag : List Device → Placed
-the_tag [] = new_tag [] []
-the_tag (T2 d ∷ ds) = d
-
 -- Between two commands nothing is in the trace, and no fate is left.
 pub record IsIdle (a : Air Device) : Type 0 where
   pub quiet : a.trace ≡ []
   pub fates : a.fates ≡ []
-  pub tame : AreTame a.listeners
+  pub tame : AreTame (map kept a.listeners)
 
 -- ... and the field is in the state that the journal leaves
 pub record IsReady (a : Air Device) (journal : List Entry) : Type 0 where
@@ -48,7 +35,7 @@ pub record Obeyed (old new : Air Device) (c : Command) (answer : Answer) : Type 
   pub step : LegalStep (state_at old) c new.trace answer
   pub state : state_at new ≡ state_after (state_at old) c new.trace
   pub fates : new.fates ≡ []
-  pub tame : AreTame new.listeners
+  pub tame : AreTame (map kept new.listeners)
 
 -- What contracts see of a bench: its journal, and whether want of memory spoiled it.
 pub record Benched : Type 0 where
@@ -67,4 +54,5 @@ pub record Adds (old new : List Entry) (line : ℕ) (c : Command) : Type 0 where
 abbrev pub Obeys : List Entry → List Entry → ℕ → Command → Type 0
 Obeys old new line Skip = new ≡ old
 Obeys old new line (PlaceT2 id blocks head) = Adds old new line (PlaceT2 id blocks head)
+Obeys old new line (PlaceT5 id blocks size head) = Adds old new line (PlaceT5 id blocks size head)
 Obeys old new line (Read id) = Adds old new line (Read id)

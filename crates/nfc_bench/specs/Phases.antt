@@ -1,93 +1,103 @@
--- What a call of polling and a call of reading do to the air, where one Type 2 tag stands in it and no fate is left.
-use Rattle.std.specs.Prelude.{◌≡◌, ℕ, ◌+◌, ◌*◌, ◌<◌, List, [], ◌∷◌, length, slice_index, nat_lt, if◌then◌else◌, true, false}
-use Rattle.nfc_base.specs.declared.event.Heard.TheVariants.{Whole, Collided, Damaged, Silent}
+-- What the parts of a read say of the field. No public contract speaks of these.
+use Rattle.std.specs.Prelude.{◌≡◌, ℕ, List, [], ◌∷◌, ◌++◌, map, length, slice_index, ◌<◌, true}
+use Rattle.std.specs.List.{AllByRecursion}
+use Rattle.nfc_base.specs.declared.frame.Tech.TheVariants.{A, V}
 use Rattle.nfc_base.specs.Signal.{Signal}
-use Rattle.air_core.specs.Joint.{Single}
+use Rattle.air_core.specs.declared.listener.Listener.{Ghosts}
 use Rattle.air_core.specs.World.{World}
-use Rattle.air_core.specs.Turn.{Air}
-use Rattle.air_core.specs.Conversation.{Moment, Note, Lit, Got, Lost, Next, Over, Going}
-use Rattle.nfca_poll.specs.declared.kind.Kind.TheVariants as kinds
+use Rattle.air_core.specs.Turn.{Air, moment}
+use Rattle.air_core.specs.Conversation.{Moment, Note, Going}
+use Rattle.air_core.specs.PlainTags.{IsAside}
+use Rattle.air_core.specs.Waits.{Asking, stand, waits_next}
 use Rattle.nfca_poll.specs.Ident.{IsIdent}
-use Rattle.nfca_poll.specs.Front.{Active}
-use Rattle.nfca_poll.specs.Poll.{Polling, Polls, Done, Picked, pick}
 use Rattle.t2t_tag.specs.Store.{IsT2Store}
+use Rattle.t5t_tag.specs.Store.{IsT5Store, id_size}
+use Rattle.tag_reader.specs.declared.how.How.{How}
+use Rattle.tag_reader.specs.declared.how.How.TheVariants.{T2, T5}
+use Rattle.nfc_bench.specs.declared.command.DeviceId.{DeviceId}
 use Rattle.nfc_bench.specs.declared.device.Device.{Device}
-use Rattle.nfc_bench.specs.declared.device.Device.TheVariants.{T2}
-use Rattle.nfc_bench.specs.Placed.{Placed, with_front}
-use Rattle.nfc_bench.specs.Reading.{IsPlain, Held, reading, reading_at, Ended, Answered, message_at, message_length}
+use Rattle.nfc_bench.specs.declared.entry.Answer.{Answer}
+use Rattle.nfc_bench.specs.Device.{devices, device_id, device_store, device_ready, device_selected, device_commands, how_of, size_of}
+use Rattle.nfc_bench.specs.Polling.{polling, bytes_of, IsFoundBy}
+use Rattle.nfc_bench.specs.Reading.{AsksOf, TellsOf}
 use Rattle.nfc_bench.specs.Legal.{air}
 
--- the moment at which a field is
-abbrev pub moment_of : Air Device → Moment (World Device)
-moment_of a = record { world = record { lit = a.lit; listeners = a.listeners }; queue = a.fates; trace = a.trace }
+-- the meanings of the bench's devices as listeners
+abbrev pub ghosts : Ghosts Device
+ghosts = record {
+  machine = devices;
+  identifier = device_id;
+  store = device_store;
+  is_ready = device_ready;
+  is_selected = device_selected;
+  commands = device_commands;
+}
 
--- the field is lit, and this tag alone stands in it
-abbrev pub alone : Placed → World Device
-alone d = record { lit = true; listeners = T2 d ∷ [] }
+-- What stays of a device through a read, whatever state it is in.
+pub record Kept : Type 0 where
+  pub id : List ℕ
+  pub how : How
+  pub size : ℕ
+  pub store : List ℕ
 
--- the tag is selected
-abbrev pub selected : Placed → Placed
-selected d = with_front d (Active false)
+abbrev pub kept : Device → Kept
+kept d = record { id = device_id d; how = how_of d; size = size_of d; store = device_store d }
 
--- the request that is due while a call of polling isn't over
-abbrev pub polled : Polling → Next
-polled (Polls n) = n
-polled (Done e ns) = Over
+-- a device that may be placed
+abbrev pub IsSoundAs : How → Kept → Type 0
+IsSoundAs T2 k = IsIdent k.id × (length k.id ≡ 4) × (k.size ≡ 16) × IsT2Store k.store
+IsSoundAs (T5 id) k = (id ≡ k.id) × (length k.id ≡ id_size) × ((i : ℕ) → slice_index k.id i < 256) × IsT5Store k.size k.store
 
--- a tag that may stand on the bench
-pub record IsTame (d : Placed) : Type 0 where
-  pub ident : IsIdent d.id
-  pub four : length d.id ≡ 4
-  pub store : IsT2Store d.tag.store
-  pub plain : IsPlain d.tag.store
+abbrev pub IsSound : Kept → Type 0
+IsSound k = IsSoundAs k.how k
 
--- In a lit field this tag stands alone, and no fate is left.
-pub record At (a : Moment (World Device)) (d : Placed) : Type 0 where
-  pub world : a.world ≡ alone d
+-- it is none of NFC-A
+abbrev pub IsOfV : How → Type 0
+IsOfV T2 = ⊥
+IsOfV (T5 id) = Unit {0}
+
+-- another device beside this one: of another identifier, and not of NFC-A where this one is
+abbrev pub IsApartAs : How → Kept → Kept → Type 0
+IsApartAs T2 k l = IsOfV l.how × (l.id ≡ k.id → ⊥)
+IsApartAs (T5 id) k l = l.id ≡ k.id → ⊥
+
+abbrev pub IsApart : Kept → Kept → Type 0
+IsApart k l = IsApartAs k.how k l
+
+-- Devices as they may stand in the field: each may be placed, with an identifier of its own, and at most one is of NFC-A.
+abbrev pub AreTame : List Kept → Type 0
+AreTame [] = Unit {0}
+AreTame (k ∷ ks) = IsSound k × AllByRecursion (IsApart k) ks × AreTame ks
+
+-- In a lit field with no fate left a device stands at a place. It is selected, and all others are aside of it.
+pub record Stands (a : Moment (World Device)) (place : ℕ) (d : Device) : Type 0 where
+  pub before : List Device
+  pub behind : List Device
+  pub world : a.world ≡ record { lit = true; listeners = before ++ d ∷ behind }
   pub queue : a.queue ≡ []
+  pub at : length before ≡ place
+  pub sound : IsSound (kept d)
+  pub selected : device_selected d ≡ true
+  pub first : AllByRecursion (IsAside ghosts (device_id d)) before
+  pub later : AllByRecursion (IsAside ghosts (device_id d)) behind
 
--- In a lit field where no fate is left, a request is answered by one frame.
-pub record Answers (a : Moment (World Device)) (f : Signal) : Type 0 where
-  pub lit : a.world.lit ≡ true
-  pub quiet : a.queue ≡ []
-  pub answer : Signal
-  pub some : air.joint a.world f ≡ Single answer
-
--- Polling asked what was due, and ended with the tag selected.
-pub record Picks (old new : Moment (World Device)) (d : Placed) : Type 0 where
+-- Polling asked what was due and selected the device with this identifier, which stands at this place.
+pub record Selects (id : DeviceId) (old new : Moment (World Device)) (place : ℕ) : Type 0 where
   pub notes : List Note
-  pub going : Going air (λ ns. polled (pick d.id ns)) old new notes
-  pub ended : pick d.id notes ≡ Done (Picked kinds.T2) []
-  pub at : At new (selected d)
+  pub going : Going air (polling id) old new notes
+  pub found : IsFoundBy id notes []
+  pub device : Device
+  pub named : device_id device ≡ bytes_of id
+  pub stands : Stands new place device
+  pub same : map kept new.world.listeners ≡ map kept old.world.listeners
 
--- each reception is a whole frame
-abbrev pub AllWhole : List Note → Type 0
-AllWhole [] = Unit {0}
-AllWhole (Got (Whole g) ∷ ns) = AllWhole ns
-AllWhole (Got (Collided g) ∷ ns) = ⊥
-AllWhole (Got Damaged ∷ ns) = ⊥
-AllWhole (Got Silent ∷ ns) = ⊥
-AllWhole (Lit ∷ ns) = ⊥
-AllWhole (Lost ∷ ns) = ⊥
-
--- how many bytes of a memory are needed, by those that are known
-abbrev pub needed_of : List ℕ → ℕ
-needed_of known = if nat_lt 17 (length known) then message_at + slice_index known 17 else message_at
-
--- Reading has asked what was due, and knows these bytes: as far as the store reaches they are its own.
-pub record Knows (d : Placed) (old now : Moment (World Device)) (known : List ℕ) : Type 0 where
+-- Reading asked all that it asks of a device, and tells what its store holds. No device changed but in its state.
+pub record Reads (old new : Moment (World Device)) (d : Device) (answer : Answer) : Type 0 where
+  pub asked : List Signal
+  pub asks : AsksOf d asked
   pub notes : List Note
-  pub going : Going air (reading d.tag.store) old now notes
-  pub whole : AllWhole notes
-  pub size : length known ≡ 16 * length notes
-  pub bound : length known < 34 + message_length d.tag.store
-  pub agrees : (i : ℕ) → i < length known → i < length d.tag.store → slice_index known i ≡ slice_index d.tag.store i
-  pub at : At now (selected d)
-
--- Reading asked what was due, to its end, found this message, and left the tag as it was.
-pub record Finds (d : Placed) (old new : Moment (World Device)) (message : List ℕ) : Type 0 where
-  pub notes : List Note
-  pub going : Going air (reading d.tag.store) old new notes
-  pub ended : reading_at d.tag.store notes ≡ Ended Answered
-  pub held : Held d.tag.store message
-  pub at : At new (selected d)
+  pub going : Going air (waits_next asked) old new notes
+  pub answered : stand 0 asked notes ≡ Asking 0 []
+  pub tells : TellsOf d answer
+  pub queue : new.queue ≡ []
+  pub same : map kept new.world.listeners ≡ map kept old.world.listeners

@@ -3,8 +3,9 @@ use Rattle.std.specs.Prelude.{◌≡◌, ℕ, ◌<◌, ◌≤◌, ◌⊎◌, Lis
 use Rattle.std.specs.Fmt.{decimal}
 use Rattle.hex.specs.Hex.{decode_of}
 use Rattle.nfca_poll.specs.Ident.{IsIdent}
+use Rattle.t5t_tag.specs.Store.{IsBlockSize}
 use Rattle.nfc_bench.specs.declared.command.Command.{Command}
-use Rattle.nfc_bench.specs.declared.command.Command.TheVariants.{Skip, PlaceT2, Read}
+use Rattle.nfc_bench.specs.declared.command.Command.TheVariants.{Skip, PlaceT2, PlaceT5, Read}
 use Rattle.nfc_bench.specs.declared.command.DeviceId.{DeviceId}
 use Rattle.nfc_bench.specs.declared.command.DeviceId.TheVariants.{A, V}
 use Rattle.nfc_bench.specs.declared.script.LineFault.{LineFault}
@@ -29,10 +30,14 @@ SpellsHex word bytes = ((word ≡ codes "-") × (bytes ≡ [])) ⊎ ((0 < length
 abbrev pub SpellsIdent : List ℕ → List ℕ → Type 0
 SpellsIdent word id = (decode_of word ≡ Ok id) × IsIdent id
 
--- ID of a device; none of 8 bytes has a word yet
+-- ID of a Type 5 tag: two digits of either case a byte, high byte first
+abbrev pub SpellsIdV : List ℕ → List ℕ → Type 0
+SpellsIdV word id = (decode_of word ≡ Ok id) × (length id ≡ 8)
+
+-- ID of a device
 abbrev pub SpellsId : List ℕ → DeviceId → Type 0
 SpellsId word (A id) = SpellsIdent word id
-SpellsId word (V id) = ⊥
+SpellsId word (V id) = SpellsIdV word id
 
 -- the fewest blocks of a Type 2 tag that may be placed, and the most
 abbrev pub least_blocks : ℕ
@@ -41,27 +46,39 @@ least_blocks = 4
 abbrev pub most_blocks : ℕ
 most_blocks = 256
 
--- BLOCKS: a decimal number without leading zeros, within these limits
-abbrev pub SpellsBlocks : List ℕ → ℕ → Type 0
-SpellsBlocks word n = (word ≡ decimal n) × (least_blocks ≤ n) × (n ≤ most_blocks)
+-- the fewest blocks of a Type 5 tag; it may have as many as a Type 2 tag
+abbrev pub least_blocks_v : ℕ
+least_blocks_v = 1
+
+-- BLOCKS: a decimal number without leading zeros, from this limit on
+abbrev pub SpellsBlocks : ℕ → List ℕ → ℕ → Type 0
+SpellsBlocks least word n = (word ≡ decimal n) × (least ≤ n) × (n ≤ most_blocks)
+
+-- SIZE: how many bytes a block of a Type 5 tag has
+abbrev pub SpellsSize : List ℕ → ℕ → Type 0
+SpellsSize word n = (word ≡ decimal n) × IsBlockSize n
 
 -- an empty line, and one that begins with `#`, whatever bytes follow, asks for nothing
 abbrev pub is_skipped : List ℕ → Bool
 is_skipped [] = true
 is_skipped (b ∷ bs) = b == 35
 
--- `place t2 ID BLOCKS HEX` and `read ID`
+-- `place t2 ID BLOCKS HEX`, `place t5 ID BLOCKS SIZE HEX` and `read ID`
 abbrev pub SpelledBy : List (List ℕ) → Command → Type 0
 SpelledBy ws Skip = ⊥
 SpelledBy ws (PlaceT2 id blocks head) =
     (i b h : List ℕ) × (ws ≡ codes "place" ∷ codes "t2" ∷ i ∷ b ∷ h ∷ [])
-    × SpellsIdent i id × SpellsBlocks b blocks × SpellsHex h head
+    × SpellsIdent i id × SpellsBlocks least_blocks b blocks × SpellsHex h head
+SpelledBy ws (PlaceT5 id blocks size head) =
+    (i b s h : List ℕ) × (ws ≡ codes "place" ∷ codes "t5" ∷ i ∷ b ∷ s ∷ h ∷ [])
+    × SpellsIdV i id × SpellsBlocks least_blocks_v b blocks × SpellsSize s size × SpellsHex h head
 SpelledBy ws (Read id) = (i : List ℕ) × (ws ≡ codes "read" ∷ i ∷ []) × SpellsId i id
 
 -- the line spells the command
 abbrev pub Spells : List ℕ → Command → Type 0
 Spells line Skip = is_skipped line ≡ true
 Spells line (PlaceT2 id blocks head) = SpelledBy (words_of line) (PlaceT2 id blocks head)
+Spells line (PlaceT5 id blocks size head) = SpelledBy (words_of line) (PlaceT5 id blocks size head)
 Spells line (Read id) = SpelledBy (words_of line) (Read id)
 
 -- the numbers of the errors

@@ -1,23 +1,27 @@
 //! The bench: the field, and the journal of what was obeyed.
 
-ghost use Rattle.std.specs.Prelude.{◌≡◌, ◌≢◌, ◌↔◌, ◌+◌, ◌*◌, ◌≤◌, ◌<◌, ◌++◌, List, [], ◌∷◌, Bool, false, IsTrue, IfOk, OnOk, OnErr, IsErrOf, vec_len, vec_capacity, length};
-ghost use Rattle.t2t_tag.specs.Store.{IsT2Store};
-ghost use Rattle.nfc_bench.specs.Reading.{IsPlain};
-ghost use Rattle.nfc_bench.specs.Legal.{IsAccepted, memory_of, state_of};
-ghost use Rattle.nfc_bench.specs.Obeying.{Obeys, AreTame, IsIdle, Obeyed, state_at, obey_fault_number};
+ghost use Rattle.std.specs.Prelude.{◌≡◌, ◌≢◌, ◌↔◌, ◌+◌, ◌*◌, ◌≤◌, ◌<◌, ◌++◌, List, [], ◌∷◌, Bool, false, nat_eq, is_some, None, IsTrue, IfOk, OnOk, OnErr, IsErrOf, vec_len, vec_capacity, length};
+ghost use Rattle.std.specs.Cmp.Lexicographic.{pointwise};
+ghost use Rattle.std.specs.List.{AllByRecursion};
+ghost use Rattle.nfc_base.specs.declared.frame.Tech.TheVariants as techs;
+ghost use Rattle.nfc_bench.specs.Device.{device_id, device_tech};
+ghost use Rattle.nfc_bench.specs.Legal.{IsAccepted, most_devices, device_with, memory_of, state_of};
+ghost use Rattle.nfc_bench.specs.Polling.{bytes_of};
+ghost use Rattle.nfc_bench.specs.Obeying.{Obeys, IsIdle, Obeyed, state_at, obey_fault_number};
 
 use crate::command::{Command, DeviceId};
-use crate::device::Device;
+use crate::device::{Device, PoweredTag, T2Upper};
 use crate::entry::{Answer, Entry};
-use crate::front::Front;
-use crate::polling::pick;
+use crate::polling::select;
 use crate::reading::read;
 use air_core::Field;
 use nfc_base::Items;
-use nfca_poll::Ident;
+use nfca_poll::{Front, Ident};
 use std::alloc::{AllocError, Global};
 use std::marker::Model;
 use t2t_tag::T2Tag;
+use t5t_tag::T5Tag;
+use tag_reader::How;
 use thiserror::Error;
 
 /// Why a bench obeys no command.
@@ -38,34 +42,62 @@ impl ObeyFault {
     }
 }
 
-/// Whether a store holds its message in the first TLV of its area, with a length of one byte.
-fn is_plain(store: &[u8]) -> bool
-    requires { IsT2Store store.now }
-    ensures { IsTrue result ↔ IsPlain store.now }
-{
-    store.len() >= 18
-        && store[12] == 0xE1
-        && store[13] / 16 == 1
-        && store[14] <= 0x7E
-        && store[14] > 0
-        && store[15] / 16 == 0
-        && store[16] == 0x03
-        && store[17] <= 0xFE
-        && 2 + store[17] as usize <= 8 * store[14] as usize
-}
+/// How many devices may stand in the field at once (this project's limit).
+const MOST_DEVICES: usize = 16;
 
-/// The memory of a new tag.
-fn memory(alloc: Global, blocks: u16, head: &[u8]) -> Result<Vec<u8>, AllocError>
-    requires { length head.now ≤ 4 * blocks }
-    ensures { IfOk result (λ v. v.items ≡ memory_of blocks head.now) }
+/// The memory of a new tag of so many bytes.
+fn memory(alloc: Global, size: usize, head: &[u8]) -> Result<Vec<u8>, AllocError>
+    requires { length head.now ≤ size }
+    ensures { IfOk result (λ v. v.items ≡ memory_of size head.now) }
 {
     let mut bytes = Vec::from_slice(alloc, head)?;
-    bytes.resize(4 * blocks as usize, 0)?;
+    bytes.resize(size, 0)?;
     Ok(bytes)
 }
 
-/// Puts a Type 2 tag into the empty field.
-fn place(
+/// A device's identifier.
+fn is_named(device: &Device, id: &[u8]) -> bool
+    ensures { result ≡ pointwise nat_eq (device_id device.now) id.now }
+{
+    match device {
+        Device::T2(front) => front.id().view() == id,
+        Device::T5(powered) => powered.tag().id().as_slice() == id,
+    }
+}
+
+/// Whether a device with this identifier is placed.
+fn is_placed(devices: &[Device], id: &[u8]) -> bool
+    ensures { result ≡ is_some (device_with id.now devices.now) }
+{
+    for device in devices {
+        if is_named(device, id) {
+            return true;
+        }
+    }
+    false
+}
+
+/// Whether no NFC-A device is placed.
+fn are_nfc_v(devices: &[Device]) -> bool
+    ensures { IsTrue result ↔ AllByRecursion (λ d. device_tech d ≡ techs.V) devices.now }
+{
+    for device in devices {
+        if let Device::T2(_) = device {
+            return false;
+        }
+    }
+    true
+}
+
+/// Whether there is room for a device, and none has its identifier.
+fn is_free(devices: &[Device], id: &[u8]) -> bool
+    ensures { IsTrue result ↔ ((length devices.now < most_devices) × (device_with id.now devices.now ≡ None)) }
+{
+    devices.len() < MOST_DEVICES && !is_placed(devices, id)
+}
+
+/// Puts a Type 2 tag into the field.
+fn place_t2(
     alloc: Global,
     field: &mut Field<Device>,
     id: &Ident,
@@ -77,61 +109,84 @@ fn place(
     ensures refused { IsErrOf result ObeyFault.Refused → (field.new ≡ field.old) }
     ensures cause { IsErrOf result ObeyFault.Refused → IsAccepted (state_at field.old) (Command.PlaceT2 id.now blocks head.now) → ⊥ }
 {
-    if !field.listeners().is_empty() {
+    let size = 4 * blocks as usize;
+    let devices = field.listeners();
+    if !is_free(devices, id.view()) || !are_nfc_v(devices) {
         return Err(ObeyFault::Refused);
     }
-    if id.view().len() != 4 {
+    if id.view().len() != 4 || head.len() > size {
         return Err(ObeyFault::Refused);
     }
-    if head.len() > 4 * blocks as usize {
-        return Err(ObeyFault::Refused);
-    }
-    let Ok(bytes) = memory(alloc, blocks, head) else {
+    let Ok(bytes) = memory(alloc, size, head) else {
         return Err(ObeyFault::Memory);
     };
     let Ok(tag) = T2Tag::new(bytes) else {
         return Err(ObeyFault::Refused);
     };
-    if !is_plain(tag.store()) {
-        return Err(ObeyFault::Refused);
-    }
-    match field.put_in(Device::T2(Front::new(id.copy(), tag))) {
+    match field.put_in(Device::T2(Front::new(id.copy(), T2Upper::new(tag)))) {
         Ok(_) => Ok(Answer::Done),
         Err(_) => Err(ObeyFault::Memory),
     }
 }
 
-/// Whether a tag with this identifier is placed.
-fn is_placed(field: &Field<Device>, id: &Ident) -> bool
-    requires { AreTame field.now.listeners }
-    ensures { IsTrue result ↔ IsAccepted (state_at field.now) (Command.Read (DeviceId.A id.now)) }
+/// Puts a Type 5 tag into the field.
+fn place_t5(
+    alloc: Global,
+    field: &mut Field<Device>,
+    id: [u8; 8],
+    blocks: u16,
+    size: u8,
+    head: &[u8],
+) -> Result<Answer, ObeyFault>
+    requires { IsIdle field.old }
+    ensures ok { IfOk result (λ a. Obeyed field.old field.new (Command.PlaceT5 id blocks size head.now) a) }
+    ensures refused { IsErrOf result ObeyFault.Refused → (field.new ≡ field.old) }
+    ensures cause { IsErrOf result ObeyFault.Refused → IsAccepted (state_at field.old) (Command.PlaceT5 id blocks size head.now) → ⊥ }
 {
-    match field.listeners().first() {
-        Some(Device::T2(front)) => front.id().view() == id.view(),
-        None => false,
+    let bytes = size as usize * blocks as usize;
+    if !is_free(field.listeners(), &id) || head.len() > bytes {
+        return Err(ObeyFault::Refused);
+    }
+    let Ok(store) = memory(alloc, bytes, head) else {
+        return Err(ObeyFault::Memory);
+    };
+    let Ok(tag) = T5Tag::new(id, store, size) else {
+        return Err(ObeyFault::Refused);
+    };
+    match field.put_in(Device::T5(PoweredTag::new(tag))) {
+        Ok(_) => Ok(Answer::Done),
+        Err(_) => Err(ObeyFault::Memory),
+    }
+}
+
+/// The bytes of an identifier, and how a tag with one is read.
+fn named(id: &DeviceId) -> (&[u8], How)
+    ensures { result.0.now ≡ bytes_of id.now }
+{
+    match id {
+        DeviceId::A(id) => (id.view(), How::T2),
+        DeviceId::V(id) => (id.as_slice(), How::T5(*id)),
     }
 }
 
 /// Finds and reads a tag.
-fn read_tag(alloc: Global, field: &mut Field<Device>, id: &Ident) -> Result<Answer, ObeyFault>
+fn read_tag(alloc: Global, field: &mut Field<Device>, id: &DeviceId) -> Result<Answer, ObeyFault>
     requires { IsIdle field.old }
-    ensures ok { IfOk result (λ a. Obeyed field.old field.new (Command.Read (DeviceId.A id.now)) a) }
+    ensures ok { IfOk result (λ a. Obeyed field.old field.new (Command.Read id.now) a) }
     ensures refused { IsErrOf result ObeyFault.Refused → (field.new ≡ field.old) }
-    ensures cause { IsErrOf result ObeyFault.Refused → IsAccepted (state_at field.old) (Command.Read (DeviceId.A id.now)) → ⊥ }
+    ensures cause { IsErrOf result ObeyFault.Refused → IsAccepted (state_at field.old) (Command.Read id.now) → ⊥ }
 {
-    if !is_placed(field, id) {
+    let (bytes, how) = named(id);
+    if !is_placed(field.listeners(), bytes) {
         return Err(ObeyFault::Refused);
     }
-    if pick(field).is_err() {
-        return Err(ObeyFault::Memory);
-    }
-    let Ok(found) = read(alloc, field) else {
+    let Ok(place) = select(field, id) else {
         return Err(ObeyFault::Memory);
     };
-    Ok(Answer::Message {
-        message: found.message,
-        writable: found.writable,
-    })
+    match read(alloc, field, place, how) {
+        Ok(answer) => Ok(answer),
+        Err(_) => Err(ObeyFault::Memory),
+    }
 }
 
 /// Does what a command asks.
@@ -148,11 +203,16 @@ fn run_command(
 {
     match command {
         Command::Skip => unreachable!(),
-        Command::PlaceT2 { id, blocks, head } => place(alloc, field, id, *blocks, head.as_slice()),
-        Command::Read {
-            id: DeviceId::A(id),
-        } => read_tag(alloc, field, id),
-        Command::Read { id: DeviceId::V(_) } => Err(ObeyFault::Refused),
+        Command::PlaceT2 { id, blocks, head } => {
+            place_t2(alloc, field, id, *blocks, head.as_slice())
+        }
+        Command::PlaceT5 {
+            id,
+            blocks,
+            size,
+            head,
+        } => place_t5(alloc, field, *id, *blocks, *size, head.as_slice()),
+        Command::Read { id } => read_tag(alloc, field, id),
     }
 }
 

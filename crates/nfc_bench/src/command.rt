@@ -36,6 +36,13 @@ pub enum Command {
         blocks: u16,
         head: Items<u8>,
     },
+    /// Puts a Type 5 tag of so many blocks of `size` bytes into the field; its identifier stands high byte first.
+    PlaceT5 {
+        id: [u8; 8],
+        blocks: u16,
+        size: u8,
+        head: Items<u8>,
+    },
     /// Reads the NDEF message of a tag.
     Read {
         id: DeviceId,
@@ -52,6 +59,17 @@ impl Command {
             Command::PlaceT2 { id, blocks, head } => Ok(Command::PlaceT2 {
                 id: id.copy(),
                 blocks: *blocks,
+                head: Items::from_bytes(alloc, head.as_slice())?,
+            }),
+            Command::PlaceT5 {
+                id,
+                blocks,
+                size,
+                head,
+            } => Ok(Command::PlaceT5 {
+                id: *id,
+                blocks: *blocks,
+                size: *size,
                 head: Items::from_bytes(alloc, head.as_slice())?,
             }),
             Command::Read { id } => Ok(Command::Read { id: id.copy() }),

@@ -5,7 +5,6 @@ mod bench;
 mod command;
 mod device;
 mod entry;
-mod front;
 mod polling;
 mod reading;
 mod report;

@@ -1,71 +1,52 @@
 //! Reading the selected tag.
 
-ghost use Rattle.std.specs.Prelude.{◌≡◌, ◌≤◌, length, IfOk};
-ghost use Rattle.nfc_bench.specs.Placed.{Placed};
-ghost use Rattle.nfc_bench.specs.Reading.{is_writable};
-ghost use Rattle.nfc_bench.specs.Phases.{moment_of, selected, At, Finds, IsTame, Knows, needed_of};
+ghost use Rattle.std.specs.Prelude.{◌≡◌, IfOk};
+ghost use Rattle.air_core.specs.Turn.{moment};
+ghost use Rattle.nfc_bench.specs.declared.device.Device.{Device as Placed};
+ghost use Rattle.nfc_bench.specs.Device.{how_of};
+ghost use Rattle.nfc_bench.specs.Phases.{Stands, Reads};
 
 use crate::device::Device;
-use crate::polling::ask;
-use air_core::Field;
-use nfc_base::Items;
+use crate::entry::Answer;
+use air_core::{Field, PlainLink};
 use std::alloc::{AllocError, Global};
-use t2t_tag::T2Command;
+use tag_reader::{How, ReadFault};
 
-/// Where the access byte of the capability container stands, the length of the first TLV, and its value.
-const ACCESS: usize = 15;
-
-const LENGTH: usize = 17;
-
-const VALUE: usize = 18;
-
-/// What a tag holds: its message, and whether writing is free.
-#[derive(Drop)]
-pub struct Found {
-    pub message: Items<u8>,
-    pub writable: bool,
-}
-
-/// How many bytes of the memory are needed, by those that are known.
-fn needed(known: &[u8]) -> usize
-    ensures { result ≡ needed_of known.now }
+/// What the selected tag at a place holds, where no fate is left. The device that stands there is a ghost's.
+pub fn read(
+    alloc: Global,
+    field: &mut Field<Device>,
+    place: usize,
+    how: How,
+) -> Result<Answer, AllocError>
+    ghost device: { Placed }
+    requires stands { Stands (moment field.old) place device }
+    requires how { how ≡ how_of device }
+    ensures { IfOk result (λ answer. Reads (moment field.old) (moment field.new) device answer) }
 {
-    if known.len() > LENGTH {
-        VALUE + known[LENGTH] as usize
-    } else {
-        VALUE
+    let mut link = PlainLink::on(field, place);
+    match tag_reader::read(alloc, &mut link, how) {
+        Ok(found) => Ok(Answer::Message {
+            message: found.message,
+            writable: found.writable,
+        }),
+        Err(fault) => told(fault),
     }
 }
 
-/// The memory as far as the message reaches.
-fn read_memory(alloc: Global, field: &mut Field<Device>) -> Result<Vec<u8>, AllocError>
-    ghost device: { Placed }
-    requires at { At (moment_of field.old) (selected device) }
-    requires tame { IsTame device }
-    ensures known { IfOk result (λ v. Knows device (moment_of field.old) (moment_of field.new) v.items) }
-    ensures enough { IfOk result (λ v. needed_of v.items ≤ length v.items) }
-{
-    let mut known: Vec<u8> = Vec::new(alloc);
-    'reading: while known.len() < needed(known.as_slice()) {
-        let block = (known.len() / 4) as u8;
-        let content = ask(field, &T2Command::Read { block }.to_frame())?;
-        known.extend_from_slice(content.view())?;
+/// A fault that the store has is an answer. Those of the link never come, since nothing disturbs it.
+fn told(fault: ReadFault) -> Result<Answer, AllocError> {
+    match fault {
+        ReadFault::NotNdef => Ok(Answer::NotNdef),
+        ReadFault::Version => Ok(Answer::Version),
+        ReadFault::NoRead => Ok(Answer::NoRead),
+        ReadFault::Sectors => Ok(Answer::Sectors),
+        ReadFault::BadSize => Ok(Answer::BadSize),
+        ReadFault::NoMessageTlv => Ok(Answer::NoMessageTlv),
+        ReadFault::BadTlv => Ok(Answer::BadTlv),
+        ReadFault::Memory => Err(AllocError),
+        ReadFault::Refused(_) | ReadFault::FieldLost | ReadFault::SixBad | ReadFault::Protocol => {
+            unreachable!()
+        }
     }
-    Ok(known)
-}
-
-/// The message of the selected tag, whose store is plain.
-pub fn read(alloc: Global, field: &mut Field<Device>) -> Result<Found, AllocError>
-    ghost device: { Placed }
-    requires at { At (moment_of field.old) (selected device) }
-    requires tame { IsTame device }
-    ensures finds { IfOk result (λ found. Finds device (moment_of field.old) (moment_of field.new) found.message) }
-    ensures access { IfOk result (λ found. found.writable ≡ is_writable device.tag.store) }
-{
-    let known = read_memory(alloc, field)?;
-    let length = known[LENGTH] as usize;
-    Ok(Found {
-        message: Items::from_bytes(alloc, &known[VALUE..VALUE + length])?,
-        writable: known[ACCESS] % 16 == 0,
-    })
 }

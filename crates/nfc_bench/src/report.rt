@@ -95,6 +95,13 @@ fn push_answer(alloc: Global, text: &mut Vec<u8>, answer: &Answer) -> Result<(),
 {
     match answer {
         Answer::Done => text.extend_from_slice(b"ok".as_slice()),
+        Answer::NotNdef => text.extend_from_slice(b"not ndef".as_slice()),
+        Answer::Version => text.extend_from_slice(b"version".as_slice()),
+        Answer::NoRead => text.extend_from_slice(b"no read".as_slice()),
+        Answer::Sectors => text.extend_from_slice(b"sectors".as_slice()),
+        Answer::BadSize => text.extend_from_slice(b"bad size".as_slice()),
+        Answer::NoMessageTlv => text.extend_from_slice(b"no message tlv".as_slice()),
+        Answer::BadTlv => text.extend_from_slice(b"bad tlv".as_slice()),
         Answer::Message { message, writable } => {
             text.extend_from_slice(b"message ".as_slice())?;
             push_hex(alloc, text, message.as_slice())?;
