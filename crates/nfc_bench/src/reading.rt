@@ -12,17 +12,15 @@ use air_core::{Field, PlainLink};
 use std::alloc::{AllocError, Global};
 use tag_reader::{How, ReadFault};
 
-/// What the selected tag at a place holds, where no fate is left. The device that stands there is a ghost's.
+/// What the selected tag at a place holds, where no fate is left.
 pub fn read(
     alloc: Global,
     field: &mut Field<Device>,
     place: usize,
     how: How,
 ) -> Result<Answer, AllocError>
-    ghost device: { Placed }
-    requires stands { Stands (moment field.old) place device }
-    requires how { how ≡ how_of device }
-    ensures { IfOk result (λ answer. Reads (moment field.old) (moment field.new) device answer) }
+    requires { (d : Placed) × Stands (moment field.old) place d × (how ≡ how_of d) }
+    ensures { IfOk result (λ answer. (d : Placed) → Stands (moment field.old) place d → Reads (moment field.old) (moment field.new) d answer) }
 {
     let mut link = PlainLink::on(field, place);
     match tag_reader::read(alloc, &mut link, how) {
