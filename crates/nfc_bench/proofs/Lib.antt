@@ -1,10 +1,7 @@
 pub mod Words
 pub mod Spelling
 pub mod Lines
-pub mod Answering
-pub mod Picking
-pub mod Memory
-pub mod Asking
+pub mod Placing
 pub mod Legality
 pub mod Limits
 pub mod Chunks
