@@ -2,6 +2,7 @@ pub mod Words
 pub mod Spelling
 pub mod Lines
 pub mod Placing
+pub mod Placed
 pub mod Legality
 pub mod Limits
 pub mod Chunks

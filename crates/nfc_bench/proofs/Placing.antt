@@ -29,17 +29,18 @@ tame_more (l ∷ ks) k tame sound apart = (tame.0, apart_more ks tame.1, tame_mo
     apart_more [] all = (apart.0, tt)
     apart_more (m ∷ ls) all = (all.0, apart_more ls all.1)
 
+unequal : (v : Bool) → v ≡ false → v ≡ true → ⊥
+unequal v p q = cc
+
 -- none has this identifier
 pub none_named : (ls : List Device) (id : List ℕ) → device_with id ls ≡ None → AllByRecursion (λ d. device_id d ≡ id → ⊥) ls
 none_named [] id none = tt
-none_named (d ∷ ls) id none = by_case (pointwise nat_eq (device_id d) id) refl none
+none_named (d ∷ ls) id none = by_case (pointwise nat_eq (device_id d) id) refl none (λ n. none_named ls id n)
   where
-    by_case : (v : Bool) → pointwise nat_eq (device_id d) id ≡ v → (if v then Some d else device_with id ls) ≡ None → AllByRecursion (λ d. device_id d ≡ id → ⊥) (d ∷ ls)
-    by_case true h n = absurd cc
-    by_case false h n = ((λ e. differ h (ap (λ x. pointwise nat_eq x id) e ∙ pointwise_self id)), none_named ls id n)
-      where
-        differ : {v : Bool} → v ≡ false → v ≡ true → ⊥
-        differ p q = cc
+    by_case : (v : Bool) → pointwise nat_eq (device_id d) id ≡ v → (if v then Some d else device_with id ls) ≡ None → (device_with id ls ≡ None → AllByRecursion (λ d. device_id d ≡ id → ⊥) ls)
+        → AllByRecursion (λ d. device_id d ≡ id → ⊥) (d ∷ ls)
+    by_case true h n later = absurd cc
+    by_case false h n later = (λ e. unequal (pointwise nat_eq (device_id d) id) h (ap (λ x. pointwise nat_eq x id) e ∙ pointwise_self id), later n)
 
 -- The first device with an identifier is the one of these devices that has it.
 pub record IsWith (ls : List Device) (id : List ℕ) (k : Kept) : Type 0 where
@@ -87,5 +88,5 @@ is_with (d ∷ ls) (b ∷ before) k behind id tame split named =
         by_how (hows.T5 i) a = a e
 
     by_case : {d' : Device} (v : Bool) → pointwise nat_eq (device_id d) id ≡ v → (device_id d ≡ id → ⊥) → device_with id ls ≡ Some d' → (if v then Some d else device_with id ls) ≡ Some d'
-    by_case true h no found = absurd (no (same_text (device_id d) id (sym h)))
-    by_case false h no found = found
+    by_case true h apart' found = absurd (apart' (same_text (device_id d) id (sym h)))
+    by_case false h apart' found = found
