@@ -1,5 +1,5 @@
 -- Commands that were obeyed, and journals.
-use Rattle.std.proofs.Common.{◌≡◌, ℕ, ◌*◌, ◌≤◌, List, [], ◌∷◌, ◌++◌, map, length, Bool, true, false, Option, Some, None, IsSome, is_some, Result, Ok, Err, refl, sym, ◌∙◌, ap, subst}
+use Rattle.std.proofs.Common.{◌≡◌, ℕ, ◌*◌, ◌≤◌, List, [], ◌∷◌, ◌++◌, map, length, Bool, true, false, Option, Some, None, IsSome, is_some, Result, Ok, Err, refl, sym, ◌∙◌, ap, subst, arith, inl, inr}
 use Rattle.std.specs.List.{AllByRecursion}
 use Rattle.nfc_base.specs.declared.event.Event.{Event}
 use Rattle.nfc_base.specs.declared.event.Fate.{Fate}
@@ -21,12 +21,15 @@ use Rattle.nfc_bench.specs.declared.command.DeviceId.TheVariants.{A, V}
 use Rattle.nfc_bench.specs.declared.device.Device.{Device}
 use Rattle.nfc_bench.specs.declared.entry.Answer.{Answer}
 use Rattle.nfc_bench.specs.declared.entry.Entry.{Entry}
-use Rattle.nfc_bench.specs.Device.{device_store}
+use Rattle.nfc_bench.specs.declared.device.Device.TheVariants.{T2, T5}
+use Rattle.nfc_bench.specs.Device.{device_id, device_store, how_of}
 use Rattle.nfc_bench.specs.Polling.{Followed, Asks as Requests, Told, followed, pick_v, asks_a, asks_v, polling, bytes_of, IsFoundBy}
 use Rattle.nfc_bench.specs.Reading.{Tells, AsksOf, TellsOf}
 use Rattle.nfc_bench.specs.Legal.{air, State, LegalStep, ReadLaw, OfPlaced, device_with, due, then_asks, then_asks_v, stable, state_after, state_from, state_of, first_state}
-use Rattle.nfc_bench.specs.Phases.{Kept, kept, AreTame, Selects, Reads}
+use Rattle.nfc_bench.specs.Phases.{Kept, kept, IsSound, AreTame, how_for, IsId, Selects, Reads}
 use Rattle.nfc_bench.specs.Obeying.{state_at, IsIdle, IsReady, Obeyed}
+use Rattle.tag_reader.specs.declared.how.How.{How}
+use Rattle.tag_reader.specs.declared.how.How.TheVariants as hows
 use Rattle.tag_reader.specs.Asked.{IsAsked}
 use Rattle.nfc_bench.proofs.Placing.{map-over, IsWith, is_with}
 
@@ -78,6 +81,16 @@ polls_first (V id) asked ns n h d = by_polling (pick_v id ns) n h d
     by_polling (Told e ns) Over h d = absurd d
     by_polling (Told e ns) LightUp h d = absurd cc
     by_polling (Told e ns) (Asks f) h d = absurd cc
+
+-- the device with an identifier is read as its identifier says
+pub how_named : (id : DeviceId) (d : Device) → IsId id → IsSound (kept d) → device_id d ≡ bytes_of id → how_of d ≡ how_for id
+how_named (A id) (T2 d) is sound named = refl
+how_named (A id) (T5 p) is sound named = absurd (elim is.size [
+  | inl four ↦ omega (arith, four, sound.1, ap length named)
+  | inr more ↦ (elim more [ inl seven ↦ omega (arith, seven, sound.1, ap length named) | inr ten ↦ omega (arith, ten, sound.1, ap length named) ])
+])
+how_named (V id) (T2 d) is sound named = absurd (omega (arith, is, sound.1, ap length named))
+how_named (V id) (T5 p) is sound named = ap (λ x. let h : How = hows.T5 x in h) named
 
 -- the stores of devices that are kept
 stores_kept : (ls : List Device) → map device_store ls ≡ map (λ (k : Kept). k.store) (map kept ls)

@@ -3,11 +3,7 @@ pub mod Spelling
 pub mod Lines
 pub mod Placing
 pub mod Placed
-pub mod Answering
 pub mod Ours
-pub mod Picking
-pub mod Memory
-pub mod Asking
 pub mod Legality
 pub mod Limits
 pub mod Chunks
