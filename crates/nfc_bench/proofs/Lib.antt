@@ -1,10 +1,12 @@
 pub mod Words
 pub mod Spelling
 pub mod Lines
-pub mod Answering
-pub mod Picking
+pub mod SelectingTurns
+pub mod SelectingResets
+pub mod SelectingAsks
+pub mod SelectingTags
+pub mod SelectingInventories
 pub mod Memory
-pub mod Asking
 pub mod Legality
 pub mod Limits
 pub mod Chunks
