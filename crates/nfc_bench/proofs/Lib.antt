@@ -6,6 +6,9 @@ pub mod SelectingResets
 pub mod SelectingAsks
 pub mod SelectingTags
 pub mod SelectingInventories
+pub mod Answering
+pub mod Ours
+pub mod Picking
 pub mod Memory
 pub mod Legality
 pub mod Limits
