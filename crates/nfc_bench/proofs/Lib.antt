@@ -2,6 +2,7 @@ pub mod Words
 pub mod Spelling
 pub mod Lines
 pub mod SelectingTurns
+pub mod SelectingPlaces
 pub mod SelectingResets
 pub mod SelectingAsks
 pub mod SelectingTags

@@ -1,5 +1,6 @@
 -- What `transmit` does in a field of tags, where a request is answered.
-use Rattle.std.proofs.Common.{◌≡◌, ℕ, List, [], ◌∷◌, Option, Some, refl, ◌∙◌, ap}
+use Rattle.std.proofs.Common.{◌≡◌, ℕ, List, [], ◌∷◌, false, Option, Some, Result, Ok, Err, refl, ◌∙◌, ap}
+use Rattle.std.specs.Result.{OnOk, is_err}
 use Rattle.nfc_base.specs.declared.event.Event.TheVariants.{Reset}
 use Rattle.nfc_base.specs.declared.event.Fate.TheVariants.{Pass}
 use Rattle.nfc_base.specs.declared.event.Heard.{Heard}
@@ -34,5 +35,7 @@ module _ {A : Type 0} {restarts : A → List ℕ → A → Type 0} {steps : A �
   asked_heard old new f far far' h a t = whole_if h a.answer (heard_whole old new f (Some h) a (asked_turn old new f far far' h t))
 
 -- the reset of a field is one of the air
-pub reset_moment : (old new : Air Device) → new ≡ after_event old Reset old.fates (reset_by devices (world old)) → moment new ≡ with_events air (moment old) (Reset ∷ [])
-reset_moment old new e = ap moment e
+pub reset_done : {T E : Type 0} (old new : Air Device) (r : Result T E) → OnOk r (new ≡ after_event old Reset old.fates (reset_by devices (world old))) → is_err r ≡ false
+    → moment new ≡ with_events air (moment old) (Reset ∷ [])
+reset_done old new (Ok x) h e = ap moment h
+reset_done old new (Err x) h e = absurd cc

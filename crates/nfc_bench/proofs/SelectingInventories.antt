@@ -1,5 +1,5 @@
 -- Selecting a Type 5 tag: an inventory of its identifier.
-use Rattle.std.proofs.Common.{◌≡◌, ℕ, List, [], ◌∷◌, ◌++◌, length, reverse, map, true, false, ◌==◌, ◌&&◌, if◌then◌else◌, Option, Some, None, Ok, Err, refl, sym, ◌∙◌, ap, subst, arith}
+use Rattle.std.proofs.Common.{◌≡◌, ℕ, List, [], ◌∷◌, ◌++◌, length, reverse, map, Bool, true, false, ◌==◌, ◌&&◌, if◌then◌else◌, Option, Some, None, Ok, Err, refl, sym, ◌∙◌, ap, subst, arith}
 use Rattle.std.proofs.lemmas.List.{length-reverse}
 use Rattle.std.specs.List.{AllByRecursion}
 use Rattle.nfc_base.specs.declared.event.Event.TheVariants.{Reset}
@@ -10,7 +10,7 @@ use Rattle.air_core.specs.World.{World, answered_by, stepped_by}
 use Rattle.air_core.specs.Conversation.{Moment, Note, Lit, Got, Next, Going, TurnsTo, with_events}
 use Rattle.air_core.proofs.Turns.{going_start, going_reset, going_turn}
 use Rattle.nfca_poll.specs.declared.fault.PollFault.TheVariants as faults
-use Rattle.nfca_poll.specs.Inventory.{inventory_of, is_present, picking_v}
+use Rattle.nfca_poll.specs.Inventory.{Inventory, inventory_of, is_present, picking_v}
 use Rattle.nfca_poll.specs.Inventory as inventory
 use Rattle.t5t_tag.specs.declared.answer.T5Answer.TheVariants.{Present}
 use Rattle.t5t_tag.specs.Store.{T5State, IsT5State, darkened}
@@ -39,7 +39,7 @@ pub record PlateAt (id : List ℕ) (listeners : List Device) (place : ℕ) : Typ
   pub named : tag.tag.id ≡ id
   pub around : Around before (T5 tag) behind
 
-pub plate_at : (id : List ℕ) (listeners : List Device) (place : ℕ) → length id ≡ 8 → StandsAt id listeners place → AreTame (map kept listeners) → PlateAt id listeners place
+plate_at : (id : List ℕ) (listeners : List Device) (place : ℕ) → length id ≡ 8 → StandsAt id listeners place → AreTame (map kept listeners) → PlateAt id listeners place
 plate_at id listeners place eight s tame =
     let T : List Device → Type 0 = λ ls. AreTame (map kept ls) in
     by_kind s.device s.split s.named (around s.before s.device s.behind (subst T s.split tame))
@@ -47,6 +47,10 @@ plate_at id listeners place eight s tame =
     by_kind : (d : Device) → listeners ≡ s.before ++ d ∷ s.behind → device_id d ≡ id → Around s.before d s.behind → PlateAt id listeners place
     by_kind (T2 d) split named r = absurd (omega (arith, eight, ap length named, r.sound.1))
     by_kind (T5 p) split named r = record { before = s.before; tag = p; behind = s.behind; split = split; at = s.at; named = named; around = r }
+
+-- the same, by what its parts showed
+pub plate_in : (id : List ℕ) (listeners shown : List Device) (place : ℕ) → length id ≡ 8 → shown ≡ listeners → StandsAt id shown place → AreTame (map kept listeners) → PlateAt id listeners place
+plate_in id listeners shown place eight all s tame = let Q : List Device → Type 0 = λ ls. StandsAt id ls place in plate_at id listeners place eight (subst Q all s) tame
 
 module _ (a0 : Moment (World Device)) (id : List ℕ) (place : ℕ) (o : PlateAt id a0.world.listeners place) (quiet : a0.queue ≡ []) where
   abbrev own : List ℕ
@@ -99,7 +103,7 @@ module _ (a0 : Moment (World Device)) (id : List ℕ) (place : ℕ) (o : PlateAt
 
   finds_tag : pick_v own (Lit ∷ Got (Whole present) ∷ []) ≡ Told (Ok tt) []
   finds_tag =
-      let S = λ v. if v then inventory.Told (Ok tt) else inventory.Told (Err faults.BadAnswer) in
+      let S : Bool → Inventory (Unit {0}) = λ v. if v then inventory.Told (Ok tt) else inventory.Told (Err faults.BadAnswer) in
       ap (λ v. followed (picking_v own) (S v) (inventory.pick_ended (S v)) []) whole_answer
 
   stands_lit : (a2 : Moment (World Device)) → At a2 xs lit ys → Stands a2 place lit

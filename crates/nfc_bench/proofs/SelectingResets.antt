@@ -1,5 +1,5 @@
 -- A reset of a field of tame devices: each is idle, and stays what it was.
-use Rattle.std.proofs.Common.{◌≡◌, ℕ, List, [], ◌∷◌, ◌++◌, map, length, true, false, if◌then◌else◌, None, refl, sym, ◌∙◌, ap, subst}
+use Rattle.std.proofs.Common.{◌≡◌, ℕ, suc, List, [], ◌∷◌, ◌++◌, map, length, true, false, if◌then◌else◌, None, refl, sym, ◌∙◌, ap, subst}
 use Rattle.std.specs.List.{AllByRecursion}
 use Rattle.nfc_base.specs.declared.frame.Tech.TheVariants.{A, V}
 use Rattle.nfc_base.specs.declared.event.Event.TheVariants.{Reset}
@@ -63,7 +63,7 @@ kept_among before behind xs ys d e first same later =
 
 pub length_relit : (ls : List Device) → length (map relit ls) ≡ length ls
 length_relit [] = refl
-length_relit (l ∷ ls) = grind (length_relit ls)
+length_relit (l ∷ ls) = ap suc (length_relit ls)
 
 relit_among : (before : List Device) (d : Device) (behind : List Device) → map relit (before ++ d ∷ behind) ≡ map relit before ++ relit d ∷ map relit behind
 relit_among [] d behind = refl

@@ -45,7 +45,7 @@ no_eight n (inl h) e = absurd (omega (arith, h, e))
 no_eight n (inr (inl h)) e = absurd (omega (arith, h, e))
 no_eight n (inr (inr h)) e = absurd (omega (arith, h, e))
 
-pub tag_at : (id : List ℕ) (listeners : List Device) (place : ℕ) → IsIdent id → StandsAt id listeners place → AreTame (map kept listeners) → TagAt id listeners place
+tag_at : (id : List ℕ) (listeners : List Device) (place : ℕ) → IsIdent id → StandsAt id listeners place → AreTame (map kept listeners) → TagAt id listeners place
 tag_at id listeners place ident s tame =
     let T : List Device → Type 0 = λ ls. AreTame (map kept ls) in
     by_kind s.device s.split s.named (around s.before s.device s.behind (subst T s.split tame))
@@ -53,6 +53,13 @@ tag_at id listeners place ident s tame =
     by_kind : (d : Device) → listeners ≡ s.before ++ d ∷ s.behind → device_id d ≡ id → Around s.before d s.behind → TagAt id listeners place
     by_kind (T2 d) split named r = record { before = s.before; tag = d; behind = s.behind; split = split; at = s.at; named = named; around = r }
     by_kind (T5 p) split named r = absurd (no_eight (length id) ident.size (ap length (sym named) ∙ r.sound.1))
+
+-- the same, by what its parts showed
+pub tag_in : (id seen : List ℕ) (listeners shown : List Device) (place : ℕ) → IsIdent id → seen ≡ id → shown ≡ listeners → StandsAt seen shown place → AreTame (map kept listeners) → TagAt id listeners place
+tag_in id seen listeners shown place ident same all s tame =
+    let P : List ℕ → Type 0 = λ i. StandsAt i shown place in
+    let Q : List Device → Type 0 = λ ls. StandsAt id ls place in
+    tag_at id listeners place ident (subst Q all (subst P same s)) tame
 
 module _ (a0 : Moment (World Device)) (id : List ℕ) (place : ℕ) (o : TagAt id a0.world.listeners place) (quiet : a0.queue ≡ []) where
   abbrev d : Fronted T2Memory
