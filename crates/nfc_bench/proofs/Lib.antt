@@ -5,11 +5,9 @@ pub mod SelectingTurns
 pub mod SelectingPlaces
 pub mod SelectingResets
 pub mod SelectingAsks
-pub mod SelectingTags
-pub mod SelectingInventories
-pub mod Answering
+pub mod SelectingT2
+pub mod SelectingT5
 pub mod Ours
-pub mod Picking
 pub mod Memory
 pub mod Legality
 pub mod Limits

@@ -1,5 +1,5 @@
 -- The place of the device with an identifier.
-use Rattle.std.proofs.Common.{◌≡◌, ℕ, zero, suc, ◌<◌, List, [], ◌∷◌, ◌++◌, length, get_or, true, nat_eq, refl, ap, arith}
+use Rattle.std.proofs.Common.{◌≡◌, ℕ, zero, suc, ◌<◌, List, [], ◌∷◌, length, get_or, true, nat_eq, refl, ap, arith}
 use Rattle.std.specs.Cmp.Lexicographic.{pointwise}
 use Rattle.t5t_tag.proofs.Bytes.{equal_bytes}
 use Rattle.nfc_bench.specs.declared.device.Device.{Device}

@@ -1,29 +1,28 @@
 -- A reset of a field of tame devices: each is idle, and stays what it was.
-use Rattle.std.proofs.Common.{◌≡◌, ℕ, suc, List, [], ◌∷◌, ◌++◌, map, length, true, false, if◌then◌else◌, None, refl, sym, ◌∙◌, ap, subst}
+use Rattle.std.proofs.Common.{◌≡◌, ℕ, suc, List, [], ◌∷◌, ◌++◌, map, length, true, if◌then◌else◌, None, refl, sym, ◌∙◌, ap}
 use Rattle.std.specs.List.{AllByRecursion}
 use Rattle.nfc_base.specs.declared.frame.Tech.TheVariants.{A, V}
 use Rattle.nfc_base.specs.declared.event.Event.TheVariants.{Reset}
 use Rattle.nfc_base.specs.Signal.{Signal}
 use Rattle.air_core.specs.Joint.{same_tech}
-use Rattle.air_core.specs.World.{World, reset_by}
+use Rattle.air_core.specs.World.{World}
 use Rattle.air_core.specs.Conversation.{Moment, with_events}
 use Rattle.air_core.specs.PlainTags.{IsAside}
 use Rattle.nfca_poll.specs.Front.{Front, Off, Idle, Sleep, Ready, Active}
 use Rattle.nfca_poll.specs.Fronted.{Fronted, left_at}
 use Rattle.nfca_poll.specs.Inventory.{inventory_of}
 use Rattle.t2t_tag.specs.Store.{T2Memory}
-use Rattle.t5t_tag.specs.Store.{T5State, IsT5State, darkened}
+use Rattle.t5t_tag.specs.Store.{T5State, darkened}
 use Rattle.t5t_tag.specs.Step.{T5Turn, sent}
 use Rattle.t5t_tag.proofs.Inventories.{unpicked}
 use Rattle.tag_reader.specs.declared.how.How.{How}
 use Rattle.tag_reader.specs.declared.how.How.TheVariants as hows
 use Rattle.nfc_bench.specs.declared.device.Device.{Device}
 use Rattle.nfc_bench.specs.declared.device.Device.TheVariants.{T2, T5}
-use Rattle.nfc_bench.specs.Powered.{Powered}
-use Rattle.nfc_bench.specs.Device.{devices, t2_machine, device_id, how_of, device_after}
+use Rattle.nfc_bench.specs.Device.{devices, t2_machine, device_id, how_of}
 use Rattle.nfc_bench.specs.Legal.{air}
 use Rattle.nfc_bench.specs.Phases.{ghosts, Kept, kept, IsSound, IsOfV, IsApart, AreTame}
-use Rattle.nfc_bench.proofs.SelectingTurns.{Deaf, At, among}
+use Rattle.nfc_bench.proofs.SelectingTurns.{Deaf, At}
 
 -- a device behind a reset
 abbrev pub relit : Device → Device

@@ -9,7 +9,7 @@ use Rattle.nfc_base.specs.declared.event.Heard.{Heard}
 use Rattle.nfc_base.specs.declared.event.Heard.TheVariants.{Whole}
 use Rattle.nfc_base.specs.Signal.{Signal}
 use Rattle.nfc_base.specs.Trace.{heard_by}
-use Rattle.air_core.specs.Joint.{Joint, Single, joint}
+use Rattle.air_core.specs.Joint.{Single, joint}
 use Rattle.air_core.specs.World.{World, answered_by, stepped_by, stepped, answers}
 use Rattle.air_core.specs.Conversation.{Moment, TurnsTo, replay, turn_events, joint_events, joint_back, queue_after}
 use Rattle.nfc_bench.specs.declared.device.Device.{Device}

@@ -1,6 +1,6 @@
 //! Finding a tag in the field.
 
-ghost use Rattle.std.specs.Prelude.{◌≡◌, [], IfOk, IsSome, Some, nat_eq, length};
+ghost use Rattle.std.specs.Prelude.{◌≡◌, [], IfOk, IsSome, Some, nat_eq};
 ghost use Rattle.std.specs.Cmp.Lexicographic.{pointwise};
 ghost use Rattle.nfc_base.specs.declared.event.Heard.TheVariants.{Whole};
 ghost use Rattle.air_core.specs.Conversation.{TurnsTo};

@@ -1,4 +1,4 @@
-use Rattle.std.proofs.Common.{◌≡◌, ◌<◌, length, true, nat_eq, get_or, arith, ap, sym, ◌∙◌}
+use Rattle.std.proofs.Common.{nat_eq, arith, ap, sym, ◌∙◌}
 use Rattle.std.specs.Cmp.Lexicographic.{pointwise}
 use Rattle.nfc_bench.specs.Device.{device_id}
 use Rattle.nfc_bench.proofs.SelectingPlaces.{stands_at}

@@ -1,6 +1,5 @@
 -- Selecting a Type 2 tag of one level: SENS_REQ, SDD_REQ, SEL_REQ.
-use Rattle.std.proofs.Common.{◌≡◌, ℕ, ◌<◌, List, [], ◌∷◌, ◌++◌, take, length, get_or, map, true, false, nat_lt, ◌==◌, ◌⊎◌, inl, inr, if◌then◌else◌, Option, Some, None, refl, sym, ◌∙◌, ap, subst, arith}
-use Rattle.std.specs.List.{AllByRecursion}
+use Rattle.std.proofs.Common.{◌≡◌, ℕ, List, [], ◌∷◌, ◌++◌, take, length, get_or, map, false, nat_lt, ◌==◌, inl, inr, if◌then◌else◌, Option, Some, None, refl, sym, ◌∙◌, ap, subst, arith}
 use Rattle.nfc_base.specs.declared.event.Event.TheVariants.{Reset}
 use Rattle.nfc_base.specs.declared.event.Heard.{Heard}
 use Rattle.nfc_base.specs.declared.event.Heard.TheVariants.{Whole}
@@ -23,14 +22,14 @@ use Rattle.nfc_bench.specs.declared.device.Device.{Device}
 use Rattle.nfc_bench.specs.declared.device.Device.TheVariants.{T2, T5}
 use Rattle.nfc_bench.specs.Device.{devices, t2_machine, device_id}
 use Rattle.nfc_bench.specs.Legal.{air}
-use Rattle.nfc_bench.specs.Phases.{kept, IsSound, AreTame, Selects, Stands}
+use Rattle.nfc_bench.specs.Phases.{kept, AreTame, Selects, Stands}
 use Rattle.nfc_bench.specs.Polling.{polling, asks_a}
 use Rattle.nfc_bench.specs.Choosing.{StandsAt, Answers}
 use Rattle.nfc_bench.proofs.SelectingTurns.{At, Meets, answered, met, same_frame}
 use Rattle.nfc_bench.proofs.SelectingResets.{relit, in_state, relit_idle, kept_all, kept_among, length_relit, reset_at, Around, around, all_aside, all_deaf_to_a}
 
 -- A Type 2 tag with this identifier stands at this place.
-pub record TagAt (id : List ℕ) (listeners : List Device) (place : ℕ) : Type 0 where
+pub record T2At (id : List ℕ) (listeners : List Device) (place : ℕ) : Type 0 where
   pub before : List Device
   pub tag : Fronted T2Memory
   pub behind : List Device
@@ -45,23 +44,23 @@ no_eight n (inl h) e = absurd (omega (arith, h, e))
 no_eight n (inr (inl h)) e = absurd (omega (arith, h, e))
 no_eight n (inr (inr h)) e = absurd (omega (arith, h, e))
 
-tag_at : (id : List ℕ) (listeners : List Device) (place : ℕ) → IsIdent id → StandsAt id listeners place → AreTame (map kept listeners) → TagAt id listeners place
-tag_at id listeners place ident s tame =
+t2_at : (id : List ℕ) (listeners : List Device) (place : ℕ) → IsIdent id → StandsAt id listeners place → AreTame (map kept listeners) → T2At id listeners place
+t2_at id listeners place ident s tame =
     let T : List Device → Type 0 = λ ls. AreTame (map kept ls) in
     by_kind s.device s.split s.named (around s.before s.device s.behind (subst T s.split tame))
   where
-    by_kind : (d : Device) → listeners ≡ s.before ++ d ∷ s.behind → device_id d ≡ id → Around s.before d s.behind → TagAt id listeners place
+    by_kind : (d : Device) → listeners ≡ s.before ++ d ∷ s.behind → device_id d ≡ id → Around s.before d s.behind → T2At id listeners place
     by_kind (T2 d) split named r = record { before = s.before; tag = d; behind = s.behind; split = split; at = s.at; named = named; around = r }
     by_kind (T5 p) split named r = absurd (no_eight (length id) ident.size (ap length (sym named) ∙ r.sound.1))
 
 -- the same, by what its parts showed
-pub tag_in : (id seen : List ℕ) (listeners shown : List Device) (place : ℕ) → IsIdent id → seen ≡ id → shown ≡ listeners → StandsAt seen shown place → AreTame (map kept listeners) → TagAt id listeners place
-tag_in id seen listeners shown place ident same all s tame =
+pub t2_in : (id seen : List ℕ) (listeners shown : List Device) (place : ℕ) → IsIdent id → seen ≡ id → shown ≡ listeners → StandsAt seen shown place → AreTame (map kept listeners) → T2At id listeners place
+t2_in id seen listeners shown place ident same all s tame =
     let P : List ℕ → Type 0 = λ i. StandsAt i shown place in
     let Q : List Device → Type 0 = λ ls. StandsAt id ls place in
-    tag_at id listeners place ident (subst Q all (subst P same s)) tame
+    t2_at id listeners place ident (subst Q all (subst P same s)) tame
 
-module _ (a0 : Moment (World Device)) (id : List ℕ) (place : ℕ) (o : TagAt id a0.world.listeners place) (quiet : a0.queue ≡ []) where
+module _ (a0 : Moment (World Device)) (id : List ℕ) (place : ℕ) (o : T2At id a0.world.listeners place) (quiet : a0.queue ≡ []) where
   abbrev d : Fronted T2Memory
   d = o.tag
 

@@ -1,11 +1,10 @@
 -- Selecting a Type 5 tag: an inventory of its identifier.
-use Rattle.std.proofs.Common.{◌≡◌, ℕ, List, [], ◌∷◌, ◌++◌, length, reverse, map, Bool, true, false, ◌==◌, ◌&&◌, if◌then◌else◌, Option, Some, None, Ok, Err, refl, sym, ◌∙◌, ap, subst, arith}
+use Rattle.std.proofs.Common.{◌≡◌, ℕ, List, [], ◌∷◌, ◌++◌, length, reverse, map, Bool, true, ◌==◌, ◌&&◌, if◌then◌else◌, Option, Some, None, Ok, Err, refl, sym, ◌∙◌, ap, subst, arith}
 use Rattle.std.proofs.lemmas.List.{length-reverse}
-use Rattle.std.specs.List.{AllByRecursion}
 use Rattle.nfc_base.specs.declared.event.Event.TheVariants.{Reset}
 use Rattle.nfc_base.specs.declared.event.Heard.{Heard}
 use Rattle.nfc_base.specs.declared.event.Heard.TheVariants.{Whole}
-use Rattle.nfc_base.specs.Signal.{Signal, whole_v}
+use Rattle.nfc_base.specs.Signal.{Signal}
 use Rattle.air_core.specs.World.{World, answered_by, stepped_by}
 use Rattle.air_core.specs.Conversation.{Moment, Note, Lit, Got, Next, Going, TurnsTo, with_events}
 use Rattle.air_core.proofs.Turns.{going_start, going_reset, going_turn}
@@ -30,7 +29,7 @@ use Rattle.nfc_bench.proofs.SelectingTurns.{At, Meets, answered, met, same_frame
 use Rattle.nfc_bench.proofs.SelectingResets.{relit, kept_all, kept_among, length_relit, reset_at, Around, around, all_aside, all_deaf_to_v}
 
 -- A Type 5 tag with this identifier stands at this place.
-pub record PlateAt (id : List ℕ) (listeners : List Device) (place : ℕ) : Type 0 where
+pub record T5At (id : List ℕ) (listeners : List Device) (place : ℕ) : Type 0 where
   pub before : List Device
   pub tag : Powered
   pub behind : List Device
@@ -39,20 +38,20 @@ pub record PlateAt (id : List ℕ) (listeners : List Device) (place : ℕ) : Typ
   pub named : tag.tag.id ≡ id
   pub around : Around before (T5 tag) behind
 
-plate_at : (id : List ℕ) (listeners : List Device) (place : ℕ) → length id ≡ 8 → StandsAt id listeners place → AreTame (map kept listeners) → PlateAt id listeners place
-plate_at id listeners place eight s tame =
+t5_at : (id : List ℕ) (listeners : List Device) (place : ℕ) → length id ≡ 8 → StandsAt id listeners place → AreTame (map kept listeners) → T5At id listeners place
+t5_at id listeners place eight s tame =
     let T : List Device → Type 0 = λ ls. AreTame (map kept ls) in
     by_kind s.device s.split s.named (around s.before s.device s.behind (subst T s.split tame))
   where
-    by_kind : (d : Device) → listeners ≡ s.before ++ d ∷ s.behind → device_id d ≡ id → Around s.before d s.behind → PlateAt id listeners place
+    by_kind : (d : Device) → listeners ≡ s.before ++ d ∷ s.behind → device_id d ≡ id → Around s.before d s.behind → T5At id listeners place
     by_kind (T2 d) split named r = absurd (omega (arith, eight, ap length named, r.sound.1))
     by_kind (T5 p) split named r = record { before = s.before; tag = p; behind = s.behind; split = split; at = s.at; named = named; around = r }
 
 -- the same, by what its parts showed
-pub plate_in : (id : List ℕ) (listeners shown : List Device) (place : ℕ) → length id ≡ 8 → shown ≡ listeners → StandsAt id shown place → AreTame (map kept listeners) → PlateAt id listeners place
-plate_in id listeners shown place eight all s tame = let Q : List Device → Type 0 = λ ls. StandsAt id ls place in plate_at id listeners place eight (subst Q all s) tame
+pub t5_in : (id : List ℕ) (listeners shown : List Device) (place : ℕ) → length id ≡ 8 → shown ≡ listeners → StandsAt id shown place → AreTame (map kept listeners) → T5At id listeners place
+t5_in id listeners shown place eight all s tame = let Q : List Device → Type 0 = λ ls. StandsAt id ls place in t5_at id listeners place eight (subst Q all s) tame
 
-module _ (a0 : Moment (World Device)) (id : List ℕ) (place : ℕ) (o : PlateAt id a0.world.listeners place) (quiet : a0.queue ≡ []) where
+module _ (a0 : Moment (World Device)) (id : List ℕ) (place : ℕ) (o : T5At id a0.world.listeners place) (quiet : a0.queue ≡ []) where
   abbrev own : List ℕ
   own = o.tag.tag.id
 
