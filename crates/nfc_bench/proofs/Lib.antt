@@ -4,6 +4,14 @@ pub mod Lines
 pub mod Placing
 pub mod Placed
 pub mod Ours
+pub mod SelectingTurns
+pub mod SelectingPlaces
+pub mod SelectingResets
+pub mod SelectingAsks
+pub mod SelectingT2
+pub mod SelectingT5
+pub mod Ours
+pub mod Memory
 pub mod Legality
 pub mod Limits
 pub mod Chunks
