@@ -129,7 +129,7 @@ module _ {L : Type 0} (k : Ghosts L) where
     noise = noise (since p);
   }
 
-  -- Once a link isn't over, its tag is there and takes commands.
+  -- While a link isn't over, its tag is there and takes commands.
   pub record IsPlainReady (p : PlainSeen L) : Type 0 where
     pub start : p.start ≤ length p.air.trace
     pub tag : HasPlainTag k p.air p.place
