@@ -1,18 +1,17 @@
 -- That the tags of this repository are tags that a link of the tests may lead to.
-use Rattle.std.proofs.Common.{◌≡◌, ℕ, suc, ◌+◌, ◌*◌, ◌<◌, ◌≤◌, Bool, true, false, List, length, refl, sym, ◌∙◌, ap, subst, arith}
+use Rattle.std.proofs.Common.{◌≡◌, ℕ, Bool, true, false, List, refl, sym, ◌∙◌, ap, subst}
 use Rattle.std.specs.Prelude.{if◌then◌else◌, Option, Some, None}
 use Rattle.nfc_base.specs.Signal.{Signal}
-use Rattle.nfc_base.specs.TagLinks.{TagState, TagStep, LinkView, MayAsk, Type2, Type5}
+use Rattle.nfc_base.specs.TagLinks.{LinkView, Type2, Type5}
 use Rattle.t2t_tag.specs.Store.{IsT2Store, T2Memory}
-use Rattle.t2t_tag.specs.Step.{t2_answer, t2_after, t2_obeyed, held_after, is_writable}
+use Rattle.t2t_tag.specs.Step.{t2_after, held_after, is_writable}
 use Rattle.t2t_tag.specs.Spelling.{spelled_command}
 use Rattle.t2t_tag.specs.declared.command.T2Command.{T2Command}
 use Rattle.t2t_tag.specs.declared.command.T2Command.TheVariants.{Read, Write}
 use Rattle.nfc_base.specs.Blocks.{with_block}
-use Rattle.t5t_tag.specs.Store.{IsT5Store, T5State, IsT5State, darkened, id_size}
-use Rattle.t5t_tag.specs.Step.{t5_answer, t5_after}
+use Rattle.t5t_tag.specs.Store.{IsT5Store, T5State, IsT5State, darkened}
+use Rattle.t5t_tag.specs.Step.{t5_after}
 use Rattle.t5t_tag.proofs.Steps.{same_tag}
-use Rattle.tag_reader.specs.declared.how.How.{How}
 use Rattle.tag_reader.specs.declared.how.How.TheVariants.{T2, T5}
 use Rattle.tag_reader.specs.Kinds.{IsTag, t2_step, t5_step}
 

@@ -1,10 +1,8 @@
 -- How a reading ends.
-use Rattle.std.proofs.Common.{◌≡◌, ℕ, zero, suc, ◌+◌, ◌-◌, ◌*◌, ◌<◌, ◌≤◌, inl, inr, ◌⊎◌, Bool, true, false, List, [], ◌∷◌, ◌++◌, length, take, drop, map, refl, sym, ◌∙◌, ap, subst, append-nil, arith}
-use Rattle.std.specs.Prelude.{min, slice_index, Option, Some, None, Result, Ok, Err}
-use Rattle.std.proofs.lemmas.Bool.{cases_lt}
-use Rattle.std.proofs.lemmas.List.{length-append, length-take-le, take-append-drop, take-append-le, take_all, length-take, get_or_append_left}
+use Rattle.std.proofs.Common.{◌≡◌, ℕ, suc, ◌+◌, ◌*◌, ◌<◌, ◌≤◌, inl, inr, ◌⊎◌, true, false, List, [], ◌∷◌, ◌++◌, length, take, drop, refl, sym, ◌∙◌, ap, subst, append-nil, arith}
+use Rattle.std.specs.Prelude.{min, slice_index, Some, None, Result, Ok, Err}
+use Rattle.std.proofs.lemmas.List.{length-append, length-take-le, take_all, length-take, get_or_append_left}
 use Rattle.std.proofs.Math.Seq.{take-append_seam}
-use Rattle.nfc_base.specs.Signal.{Signal}
 use Rattle.nfc_base.specs.TagLinks.{LinkView, AskCause}
 use Rattle.nfc_base.specs.declared.tag_link.AskFault.{AskFault}
 use Rattle.nfc_base.specs.declared.tag_link.AskFault.TheVariants as ask
@@ -26,14 +24,13 @@ use Rattle.tag_reader.specs.declared.how.How.{How}
 use Rattle.tag_reader.specs.declared.how.How.TheVariants.{T2, T5}
 use Rattle.tag_reader.specs.declared.fault.ReadFault.{ReadFault}
 use Rattle.tag_reader.specs.declared.fault.ReadFault.TheVariants as fault
-use Rattle.tag_reader.specs.Kinds.{IsTag, IsStore, IsStoreForm, area_of, command, first}
-use Rattle.tag_reader.specs.Asked.{IsDue, AreDue, NeedsMore, IsAsked}
-use Rattle.tag_reader.specs.Calls.{Stays, last_of, HasAsked, HasAskedAll, ByLink}
-use Rattle.tag_reader.specs.Reading.{IsReadFault, is_told, IsToldOrMemory, IsCalm, OnTold}
-use Rattle.tag_reader.specs.Steps.{rolling, Answers, Learns, Fails, Knows, Walks, IsLinkFault, IsInReach, IsMapFound, Reads, IsCutFault, of_link, of_container}
-use Rattle.tag_reader.proofs.Bytes.{front_is}
+use Rattle.tag_reader.specs.Kinds.{IsStore, IsStoreForm, area_of, first}
+use Rattle.tag_reader.specs.Asked.{IsDue, NeedsMore}
+use Rattle.tag_reader.specs.Calls.{Stays, HasAsked, HasAskedAll, ByLink}
+use Rattle.tag_reader.specs.Reading.{IsReadFault, is_told, IsToldOrMemory, IsCalm}
+use Rattle.tag_reader.specs.Steps.{Answers, Fails, Knows, Walks, IsLinkFault, IsInReach, IsMapFound, Reads, IsCutFault, of_link, of_container}
 use Rattle.tag_reader.proofs.Areas.{sizes, t5_cut, named, some_size, needs_short, due_reach}
-use Rattle.tag_reader.proofs.Knowing.{first_more, last_more, due_more, answered_more, stays_on, walk_front, store_goes_on, read_goes_on}
+use Rattle.tag_reader.proofs.Knowing.{last_more, due_more, answered_more, stays_on, walk_front, store_goes_on, read_goes_on}
 
 -- what a settled walk over a store tells of it
 abbrev pub TellsStore : How → List ℕ → Walk → Type 0

@@ -1,8 +1,8 @@
 -- A reading under way.
-use Rattle.std.proofs.Common.{◌≡◌, ℕ, zero, suc, ◌+◌, ◌-◌, ◌*◌, ◌<◌, ◌≤◌, inl, inr, ◌⊎◌, true, false, List, [], ◌∷◌, ◌++◌, length, take, drop, refl, sym, ◌∙◌, ap, subst, append_assoc, append-nil, arith}
-use Rattle.std.specs.Prelude.{min, Option, Some, None, Result, Ok, Err}
+use Rattle.std.proofs.Common.{◌≡◌, ℕ, suc, ◌+◌, ◌*◌, ◌<◌, ◌≤◌, inl, inr, ◌⊎◌, true, List, [], ◌∷◌, ◌++◌, length, take, drop, sym, ◌∙◌, ap, subst, append_assoc, arith}
+use Rattle.std.specs.Prelude.{min, Some, Ok}
 use Rattle.std.proofs.lemmas.Bool.{cases_lt}
-use Rattle.std.proofs.lemmas.List.{length-append, length-take-le, take-append-drop, take-take}
+use Rattle.std.proofs.lemmas.List.{take-append-drop, take-take}
 use Rattle.std.proofs.Math.Nat.{lt_of_mul-lt-mul_left, mul-le-mul_left}
 use Rattle.nfc_base.specs.Signal.{Signal}
 use Rattle.nfc_base.specs.TagLinks.{LinkView, TagState, MayAsk}
@@ -13,9 +13,9 @@ use Rattle.tag_reader.specs.declared.how.How.TheVariants.{T2, T5}
 use Rattle.tag_reader.specs.Kinds.{IsTag, IsStore, IsNamed, Steps, area_of, command, first}
 use Rattle.tag_reader.specs.Asked.{IsDue, AreDue}
 use Rattle.tag_reader.specs.Calls.{Stays, last_of}
-use Rattle.tag_reader.specs.Steps.{rolling, Answers, Learns, Knows, IsAreaOf, Walks}
+use Rattle.tag_reader.specs.Steps.{rolling, Answers, Learns, Knows, Walks}
 use Rattle.tag_reader.proofs.Bytes.{front_is, more_known}
-use Rattle.tag_reader.proofs.Areas.{sizes, t2_area, named, first_within, some_size}
+use Rattle.tag_reader.proofs.Areas.{sizes, t2_area, named}
 
 -- one more
 pub first_more : (how : How) (n : ℕ) → first how (n + 1) ≡ first how n ++ command how n ∷ []

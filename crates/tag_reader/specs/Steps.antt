@@ -1,10 +1,8 @@
 -- What the parts of a reading say. No public contract speaks of these.
-use Rattle.std.specs.Prelude.{◌≡◌, ℕ, ◌+◌, ◌*◌, ◌<◌, ◌≤◌, ◌⊎◌, List, [], ◌∷◌, ◌++◌, length, take, drop, Bool, true, false, Option, Some, None, Result, Ok, Err}
-use Rattle.nfc_base.specs.Signal.{Signal}
+use Rattle.std.specs.Prelude.{◌≡◌, ℕ, ◌+◌, ◌*◌, ◌<◌, ◌≤◌, ◌⊎◌, List, [], ◌∷◌, ◌++◌, length, take, drop, Bool, true, false, Some, None, Result, Ok, Err}
 use Rattle.nfc_base.specs.TagLinks.{LinkView}
 use Rattle.nfc_base.specs.declared.tag_link.AskFault.{AskFault}
 use Rattle.nfc_base.specs.declared.tag_link.AskFault.TheVariants as ask
-use Rattle.t2t_tag.specs.declared.answer.T2Answer.TheVariants as t2_says
 use Rattle.tlv_area.specs.declared.space.Space.{Space}
 use Rattle.tlv_area.specs.declared.space.AreaMap.{AreaMap}
 use Rattle.tlv_area.specs.declared.container.ContainerFault.{ContainerFault}
@@ -19,7 +17,7 @@ use Rattle.tag_reader.specs.declared.fault.ReadFault.{ReadFault}
 use Rattle.tag_reader.specs.declared.fault.ReadFault.TheVariants as fault
 use Rattle.tag_reader.specs.declared.told.Told.{Told}
 use Rattle.tag_reader.specs.declared.told.Told.TheVariants.{Bytes, Ended}
-use Rattle.tag_reader.specs.Kinds.{area_of, command, first, reply, IsStore, IsStoreForm, IsTag}
+use Rattle.tag_reader.specs.Kinds.{area_of, command, first, IsStoreForm, IsTag}
 use Rattle.tag_reader.specs.Asked.{AreDue}
 use Rattle.tag_reader.specs.Calls.{Stays, HasAsked, HasAskedAll, ByLink}
 use Rattle.tag_reader.specs.Reading.{IsReadFault, IsToldOrMemory, OnTold}

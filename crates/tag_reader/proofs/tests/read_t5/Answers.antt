@@ -1,9 +1,6 @@
-use Rattle.std.proofs.Common.{refl, ap, subst, ℕ}
-use Rattle.nfc_base.specs.TagLinks.{LinkView, plain_state, Type5}
-use Rattle.t5t_tag.specs.Store.{T5State}
-use Rattle.tag_reader.specs.declared.how.How.TheVariants.{T5}
+use Rattle.std.proofs.Common.{refl, ap}
 use Rattle.tag_reader.specs.declared.tests.Awake.{Awake}
-use Rattle.tag_reader.specs.Kinds.{IsTag, t5_step}
+use Rattle.tag_reader.specs.Kinds.{t5_step}
 use Rattle.tag_reader.proofs.Cards.{t5_tag}
 use Rattle.tag_reader.proofs.tests.read_t5.Goals as goal
 

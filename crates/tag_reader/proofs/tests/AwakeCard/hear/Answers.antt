@@ -1,4 +1,4 @@
-use Rattle.std.proofs.Common.{◌≡◌, ap, ◌∙◌, subst, sym}
+use Rattle.std.proofs.Common.{◌≡◌, ap, ◌∙◌}
 use Rattle.t5t_tag.specs.Store.{T5State, darkened}
 use Rattle.t5t_tag.specs.Step.{t5_after}
 use Rattle.t5t_tag.proofs.Steps.{same_tag}
