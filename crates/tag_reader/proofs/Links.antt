@@ -48,8 +48,7 @@ pub ask_answers : (how : How) (size : ℕ) (a b : LinkView) (k : ℕ) (r : Signa
 ask_answers how size a b k r is low obeys rises last answer = record {
   stays = ask_stays how size a b k is low obeys rises;
   before = answer.begun;
-  over = answer.stays;
-  lit = answer.lit;
+  goes_on = record { over = answer.stays; lit = answer.lit; counts = answer.counts };
   answered = answer.answered;
   last = last answer.begun;
 }

@@ -78,6 +78,7 @@ held how size a b known front space n m is walks e there places = record {
   stays = walks.knows.stays;
   asked = knows_asked how size a b known n walks.knows;
   whole = settled_all how size a b known front space n (walk.Held m) is walks e tt there;
+  goes_on = walks.knows.goes_on;
   tells = map_found how size a b known front space n m is walks e there places;
   calm = tt;
 }
@@ -89,6 +90,7 @@ none how size a b known front space n is walks e there = record {
   stays = walks.knows.stays;
   asked = knows_asked how size a b known n walks.knows;
   whole = λ told. settled_all how size a b known front space n walk.NoMessageTlv is walks e tt there;
+  goes_on = λ told. walks.knows.goes_on;
   tells = settles how size a b known front space n walk.NoMessageTlv is walks e tt there;
   calm = λ begun lit quiet. inl refl;
 }
@@ -100,6 +102,7 @@ bad how size a b known front space n is walks e there = record {
   stays = walks.knows.stays;
   asked = knows_asked how size a b known n walks.knows;
   whole = λ told. settled_all how size a b known front space n walk.BadTlv is walks e tt there;
+  goes_on = λ told. walks.knows.goes_on;
   tells = settles how size a b known front space n walk.BadTlv is walks e tt there;
   calm = λ begun lit quiet. inl refl;
 }
