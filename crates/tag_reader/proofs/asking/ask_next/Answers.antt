@@ -1,4 +1,4 @@
-use Rattle.std.proofs.Common.{◌++◌, refl, sym, ◌∙◌, ap, subst}
+use Rattle.std.proofs.Common.{◌≡◌, ◌*◌, ◌++◌, take, drop, refl, sym, ◌∙◌, ap, subst}
 use Rattle.tag_reader.specs.Steps.{Fails, rolling}
 use Rattle.tag_reader.proofs.Links.{answer_lost, asked_ok, asked_err}
 use Rattle.tag_reader.proofs.asking.ask_next.Goals as goal
