@@ -1,11 +1,11 @@
 -- A frame that is heard again leaves the store that its first hearing left.
-use Rattle.std.proofs.Common.{◌≡◌, ℕ, ◌/◌, ◌<◌, List, [], ◌∷◌, length, drop, Bool, true, false, not, nat_eq, nat_le, ◌==◌, ◌&&◌, if◌then◌else◌, refl, sym, ◌∙◌, ap, subst, arith}
+use Rattle.std.proofs.Common.{◌≡◌, ℕ, ◌/◌, List, [], ◌∷◌, length, drop, Bool, true, false, not, nat_le, ◌==◌, ◌&&◌, if◌then◌else◌, refl, sym, ◌∙◌, ap}
 use Rattle.nfc_base.specs.Signal.{Signal}
 use Rattle.t5t_tag.specs.declared.answer.T5Answer.TheVariants.{Present}
 use Rattle.t5t_tag.specs.Store.{T5State, id_size, block_count, is_locked}
 use Rattle.t5t_tag.specs.Mask.{asks_for}
 use Rattle.t5t_tag.specs.Spelling.{addressed_flags, plain_flags, inventory_flags, inventory_code, quiet_code, read_code, write_code}
-use Rattle.t5t_tag.specs.Step.{T5Turn, silent, tells, refuses, not_supported, no_block, block_locked, read_turn, write_turn, obeyed, names, addressed, plain, inventory, bytes_turn, is_nfc_v, t5_turn, t5_after}
+use Rattle.t5t_tag.specs.Step.{T5Turn, silent, tells, refuses, not_supported, no_block, block_locked, read_turn, write_turn, obeyed, names, addressed, plain, inventory, bytes_turn, is_nfc_v, t5_after}
 use Rattle.t5t_tag.proofs.Stores.{length_with_block, with_block_again}
 use Rattle.t5t_tag.proofs.Turns.{writes, hushes, by_test, less_of, same_of, on_write, on_obeyed}
 use Rattle.t5t_tag.proofs.Steps.{read_leaves}

@@ -6,3 +6,6 @@ pub mod Stores
 pub mod Turns
 pub mod Steps
 pub mod Again
+pub mod Inventories
+pub mod Locking
+pub mod Hushed

@@ -1,5 +1,5 @@
 -- What is read from a frame is exactly the answer that it spells.
-use Rattle.std.proofs.Common.{◌≡◌, ℕ, ◌≤◌, ◌%◌, List, [], ◌∷◌, ◌++◌, length, Bool, true, false, nat_eq, nat_le, ◌==◌, ◌&&◌, if◌then◌else◌, Option, Some, None, ◌↔◌, refl, sym, ◌∙◌, ap, subst, arith}
+use Rattle.std.proofs.Common.{◌≡◌, ℕ, ◌≤◌, ◌%◌, List, [], ◌∷◌, length, Bool, true, false, nat_le, ◌==◌, ◌&&◌, if◌then◌else◌, Option, Some, None, ◌↔◌, refl, sym, ◌∙◌, ap, subst, arith}
 use Rattle.nfc_base.specs.declared.frame.Tech.{Tech}
 use Rattle.nfc_base.specs.declared.frame.Tech.TheVariants.{A, V}
 use Rattle.nfc_base.specs.Signal.{Signal, signal, whole_v}
@@ -8,7 +8,7 @@ use Rattle.t5t_tag.specs.declared.answer.T5Answer.TheVariants.{Present, Content,
 use Rattle.t5t_tag.specs.Mask.{low_first}
 use Rattle.t5t_tag.specs.Spelling.{no_error, error, no_dsfid, most_content, IsT5Answer, answer_frame, T5AnswerSpelling}
 use Rattle.t5t_tag.specs.Reading.{read_content, read_told, read_error, answer_of, spelled_answer}
-use Rattle.t5t_tag.proofs.Bytes.{equal_of, at_most, is_at_most, left_of, right_of, same_number, by_if}
+use Rattle.t5t_tag.proofs.Bytes.{equal_of, at_most, is_at_most, left_of, right_of, by_if}
 
 told : (v a : T5Answer) (f : Signal) → T5AnswerSpelling v f → Some v ≡ Some a → T5AnswerSpelling a f
 told v a f is e =

@@ -1,5 +1,5 @@
 -- What is read from a frame is exactly the command that it spells.
-use Rattle.std.proofs.Common.{◌≡◌, ℕ, ◌≤◌, List, [], ◌∷◌, ◌++◌, length, take, drop, Bool, true, false, nat_eq, nat_le, ◌==◌, ◌&&◌, if◌then◌else◌, Option, Some, None, IsNone, ◌↔◌, refl, sym, ◌∙◌, ap, subst, arith}
+use Rattle.std.proofs.Common.{◌≡◌, ℕ, ◌≤◌, List, [], ◌∷◌, ◌++◌, length, take, drop, Bool, true, false, nat_eq, nat_le, ◌==◌, ◌&&◌, if◌then◌else◌, Option, Some, None, ◌↔◌, refl, sym, ◌∙◌, ap, subst, arith}
 use Rattle.std.specs.Cmp.Lexicographic.{pointwise}
 use Rattle.std.proofs.lemmas.List.{append-nil, length-append, length-reverse, length-take-le, nil_from_length, reverse-reverse, take-append-drop}
 use Rattle.std.proofs.Math.Seq.{take-append_seam, drop-append_seam}
@@ -69,11 +69,11 @@ addressed_told : (code : ℕ) (rest : List ℕ) (c : T5Command) → read_address
 addressed_told code rest c =
     by_if (nat_le id_size (length rest)) (read_command (Some (low_first (take id_size rest))) code (drop id_size rest)) None c (T5Spelling c (whole_v (addressed_flags ∷ code ∷ rest)))
     (λ h e.
-      let id : List ℕ = low_first (take id_size rest) in
-      let size : length id ≡ id_size = length-reverse (take id_size rest) ∙ length-take-le id_size rest (at_most id_size (length rest) h) in
-      let whole : low_first id ++ drop id_size rest ≡ rest = ap (λ t. t ++ drop id_size rest) (reverse-reverse (take id_size rest)) ∙ take-append-drop id_size rest in
-      let P : List ℕ → Type 0 = λ t. T5Spelling c (whole_v (addressed_flags ∷ code ∷ t)) in
-      subst P whole (command_told (Some id) code (drop id_size rest) c size e))
+    let id : List ℕ = low_first (take id_size rest) in
+    let size : length id ≡ id_size = length-reverse (take id_size rest) ∙ length-take-le id_size rest (at_most id_size (length rest) h) in
+    let whole : low_first id ++ drop id_size rest ≡ rest = ap (λ t. t ++ drop id_size rest) (reverse-reverse (take id_size rest)) ∙ take-append-drop id_size rest in
+    let P : List ℕ → Type 0 = λ t. T5Spelling c (whole_v (addressed_flags ∷ code ∷ t)) in
+    subst P whole (command_told (Some id) code (drop id_size rest) c size e))
     (λ h e. cc)
 
 inventory_told : (rest : List ℕ) (c : T5Command) → read_bits rest ≡ Some c → T5Spelling c (whole_v (inventory_flags ∷ inventory_code ∷ rest))
@@ -84,14 +84,14 @@ inventory_told (bits ∷ mask) c e =
     let same : Bool = pointwise nat_eq (kept bits mask) mask in
     by_if (few && long && same) (Some (Inventory bits (filled mask))) None c (T5Spelling c (whole_v (inventory_flags ∷ inventory_code ∷ bits ∷ mask)))
     (λ h e.
-      let both : (few && long) ≡ true = left_of (few && long) same h in
-      let bound : bits ≤ most_bits = at_most bits most_bits (left_of few long both) in
-      let size : length mask ≡ mask_size bits = equal_of (length mask) (mask_size bits) (right_of few long both) in
-      let clean : kept bits mask ≡ mask = equal_bytes (kept bits mask) mask (right_of (few && long) same h) in
-      told (Inventory bits (filled mask)) c (whole_v (inventory_flags ∷ inventory_code ∷ bits ∷ mask)) (record {
-        range = (bound, length_filled mask (omega (arith, bound, size)), kept_of_filled bits mask clean);
-        frame = ap (λ t. whole_v (inventory_flags ∷ inventory_code ∷ bits ∷ t)) (sym (take_filled (mask_size bits) mask size));
-      }) e)
+    let both : (few && long) ≡ true = left_of (few && long) same h in
+    let bound : bits ≤ most_bits = at_most bits most_bits (left_of few long both) in
+    let size : length mask ≡ mask_size bits = equal_of (length mask) (mask_size bits) (right_of few long both) in
+    let clean : kept bits mask ≡ mask = equal_bytes (kept bits mask) mask (right_of (few && long) same h) in
+    told (Inventory bits (filled mask)) c (whole_v (inventory_flags ∷ inventory_code ∷ bits ∷ mask)) (record {
+      range = (bound, length_filled mask (omega (arith, bound, size)), kept_of_filled bits mask clean);
+      frame = ap (λ t. whole_v (inventory_flags ∷ inventory_code ∷ bits ∷ t)) (sym (take_filled (mask_size bits) mask size));
+    }) e)
     (λ h e. cc)
     e
 

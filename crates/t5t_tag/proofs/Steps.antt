@@ -1,5 +1,5 @@
 -- What the steps of a tag give its reader, and what they leave.
-use Rattle.std.proofs.Common.{◌≡◌, ◌≢◌, ℕ, ◌+◌, ◌/◌, ◌%◌, ◌<◌, ◌≤◌, List, [], ◌∷◌, ◌++◌, length, take, drop, Bool, true, false, not, nat_eq, nat_le, ◌==◌, ◌&&◌, if◌then◌else◌, Option, Some, None, refl, sym, ◌∙◌, ap, subst, arith}
+use Rattle.std.proofs.Common.{◌≡◌, ◌≢◌, ℕ, ◌+◌, ◌%◌, ◌<◌, ◌≤◌, List, [], ◌∷◌, ◌++◌, length, take, drop, Bool, true, false, not, nat_eq, nat_le, ◌==◌, ◌&&◌, if◌then◌else◌, Option, Some, None, refl, sym, ◌∙◌, ap, arith}
 use Rattle.std.specs.Cmp.Lexicographic.{pointwise}
 use Rattle.std.proofs.lemmas.List.{length-append, length-reverse, reverse-reverse}
 use Rattle.std.proofs.Math.Seq.{take-append_seam, drop-append_seam}
@@ -11,11 +11,11 @@ use Rattle.t5t_tag.specs.declared.answer.T5Answer.{T5Answer}
 use Rattle.t5t_tag.specs.declared.answer.T5Answer.TheVariants.{Present, Content, Error}
 use Rattle.t5t_tag.specs.Store.{T5State, IsT5State, id_size, block_count}
 use Rattle.t5t_tag.specs.Mask.{low_first}
-use Rattle.t5t_tag.specs.Spelling.{quiet_code, read_code, write_code, most_content, head, command_frame, answer_frame, IsT5Answer, T5AnswerSpelling}
+use Rattle.t5t_tag.specs.Spelling.{quiet_code, read_code, write_code, head, command_frame, answer_frame, IsT5Answer, T5AnswerSpelling}
 use Rattle.t5t_tag.specs.Step.{T5Turn, silent, tells, refuses, no_block, read_turn, write_turn, obeyed, names, t5_turn, sent, t5_answer, t5_after}
 use Rattle.t5t_tag.proofs.Bytes.{equal_bytes, bytes_self, is_at_most}
 use Rattle.t5t_tag.proofs.Stores.{length_block, length_with_block, still_store, size_of_block}
-use Rattle.t5t_tag.proofs.Turns.{hushes, OnTurns, OnCommands, on_turn}
+use Rattle.t5t_tag.proofs.Turns.{hushes, on_turn}
 
 -- A tag stays one that can be: its store is still one that a tag may have.
 pub stays_tag : (t : T5State) → IsT5State t → (f : Signal) → IsT5State (t5_after t f)
@@ -25,11 +25,12 @@ stays_tag t is = on_turn t (λ r. IsT5State r.after) (record {
     read = λ block within. is;
     written = λ block content within long. record {
       id = is.id;
+      bytes = is.bytes;
       store = still_store t.size t.store (with_block t.size t.store block content) (length_with_block t.size t.store block content within long) is.store;
     };
   };
   none = is;
-  hushed = record { id = is.id; store = is.store };
+  hushed = record { id = is.id; bytes = is.bytes; store = is.store };
   present = is;
 })
 
@@ -65,15 +66,28 @@ told_in_range t is = on_turn t (λ r. IsTold r.answer) (record {
   commands = record {
     error = λ code. tt;
     read = λ block within.
-      let long : length (block_of t.size t.store block) ≡ t.size = length_block t.size t.store block within in
-      let sized : (t.size ≤ 32) × (t.size % 4 ≡ 0) × (4 ≤ t.size) = size_of_block t.size is.store.sized in
-      (omega (arith, long, sized.0), ap (λ n. n % 4) long ∙ sized.1);
+        let long : length (block_of t.size t.store block) ≡ t.size = length_block t.size t.store block within in
+        let sized : (t.size ≤ 32) × (t.size % 4 ≡ 0) × (4 ≤ t.size) = size_of_block t.size is.store.sized in
+        (omega (arith, long, sized.0), ap (λ n. n % 4) long ∙ sized.1);
     written = λ block content within long. (omega arith, refl);
   };
   none = tt;
   hushed = tt;
   present = is.id;
 })
+
+-- a refusal changes nothing
+pub refusal_keeps : (t : T5State) (f : Signal) (code : ℕ) → (t5_turn t f).answer ≡ Some (Error code) → t5_after t f ≡ t
+refusal_keeps t f code = on_turn t (λ r. r.answer ≡ Some (Error code) → r.after ≡ t) (record {
+  commands = record {
+    error = λ c e. refl;
+    read = λ block within e. refl;
+    written = λ block content within long e. absurd cc;
+  };
+  none = λ e. refl;
+  hushed = λ e. absurd cc;
+  present = λ e. refl;
+}) f
 
 spelled_of : (o : Option T5Answer) (g : Signal) → IsTold o → sent o ≡ Some g → (a : T5Answer) × ((o ≡ Some a) × T5AnswerSpelling a g)
 spelled_of None g is e = absurd cc
@@ -154,8 +168,8 @@ pub read_keeps : (t : T5State) → IsT5State t → (block : ℕ) → t5_after t 
 read_keeps t is block = ap (λ (r : T5Turn). r.after) (read_turns t is block) ∙ read_leaves t block
 
 -- A frame for another identifier is silent and changes nothing.
-pub other_silent : (t : T5State) → IsT5State t → (id : List ℕ) → length id ≡ id_size → id ≢ t.id → (code : ℕ) (rest : List ℕ) → t5_turn t (whole_v (head (Some id) code ++ rest)) ≡ silent t
-other_silent t is id size other code rest = by_names (names t (low_first id ++ rest)) refl
+pub other_silent : (t : T5State) (id : List ℕ) → length id ≡ id_size → id ≢ t.id → (code : ℕ) (rest : List ℕ) → t5_turn t (whole_v (head (Some id) code ++ rest)) ≡ silent t
+other_silent t id size other code rest = by_names (names t (low_first id ++ rest)) refl
   where
     same_id : names t (low_first id ++ rest) ≡ true → id ≡ t.id
     same_id h =

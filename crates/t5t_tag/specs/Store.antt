@@ -1,5 +1,5 @@
 -- What a Type 5 tag holds (NFC Forum Type 5 Tag; ISO/IEC 15693-3).
-use Rattle.std.specs.Prelude.{◌≡◌, ◌⊎◌, ℕ, ◌/◌, ◌%◌, ◌≤◌, List, length, get_or, replicate, Bool, false}
+use Rattle.std.specs.Prelude.{◌≡◌, ◌⊎◌, ℕ, ◌/◌, ◌%◌, ◌<◌, ◌≤◌, List, length, get_or, slice_index, set, replicate, Bool, true, false}
 use Rattle.t5t_tag.specs.declared.tag.StoreFault.{StoreFault}
 use Rattle.t5t_tag.specs.declared.tag.StoreFault.TheVariants.{BadStore}
 
@@ -34,6 +34,7 @@ id_size = 8
 -- the states that a tag can have
 pub record IsT5State (t : T5State) : Type 0 where
   pub id : length t.id ≡ id_size
+  pub bytes : (i : ℕ) → slice_index t.id i < 256
   pub store : IsT5Store t.size t.store
 
 -- how many blocks it has
@@ -42,6 +43,10 @@ block_count t = blocks_in t.size t.store
 
 abbrev pub is_locked : T5State → ℕ → Bool
 is_locked t block = get_or t.locked block false
+
+-- the tag with one block more locked
+abbrev pub locked_too : T5State → ℕ → T5State
+locked_too t block = record t { locked = set t.locked block true }
 
 -- a tag that holds a store, has no locked block and isn't quiet
 abbrev pub fresh : List ℕ → ℕ → List ℕ → T5State

@@ -27,11 +27,7 @@ pub(crate) fn mask_size(bits: u8) -> usize
 fn lowest(byte: u8, bits: u8) -> u8
     ensures { result ≡ byte % 2 ^ min bits 8 }
 {
-    if bits < 8 {
-        byte % (1 << bits)
-    } else {
-        byte
-    }
+    if bits < 8 { byte % (1 << bits) } else { byte }
 }
 
 /// Bytes with only their lowest bits; all others are 0.

@@ -14,3 +14,6 @@ mod tag;
 pub use answer::T5Answer;
 pub use command::T5Command;
 pub use tag::{StoreFault, T5Tag};
+
+#[cfg(test)]
+mod tests;

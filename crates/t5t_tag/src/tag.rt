@@ -1,8 +1,8 @@
 //! A Type 5 tag.
 
-ghost use Rattle.std.specs.Prelude.{◌≡◌, ◌↔◌, ◌∷◌, not, nat_le, IfOk, IsOk, Some};
+ghost use Rattle.std.specs.Prelude.{◌≡◌, ◌<◌, ◌↔◌, ◌∷◌, not, nat_le, IfOk, IsOk, Some};
 ghost use Rattle.t5t_tag.specs.Spelling.{inventory_code};
-ghost use Rattle.t5t_tag.specs.Store.{IsT5Store, IsT5State, block_count, fresh, darkened, store_fault_number};
+ghost use Rattle.t5t_tag.specs.Store.{IsT5Store, IsT5State, block_count, fresh, darkened, locked_too, store_fault_number};
 ghost use Rattle.t5t_tag.specs.Step.{read_turn, write_turn, obeyed, addressed, plain, inventory, bytes_turn, t5_answer, t5_after};
 
 use crate::answer::T5Answer;
@@ -81,12 +81,27 @@ impl T5Tag {
         })
     }
 
+    /// Its identifier, high byte first.
+    pub fn id(&self) -> [u8; 8]
+        ensures { result ≡ self.now.id }
+    {
+        self.id
+    }
+
     /// All bytes that it holds.
     pub fn store(&self) -> &[u8]
         ensures store { result.now ≡ self.now.store }
         ensures shape { IsT5State self.now }
     {
         self.store.as_slice()
+    }
+
+    /// Locks a block against writing, for good. It takes no memory.
+    pub fn lock(&mut self, block: u16)
+        requires { block < block_count self.old }
+        ensures { self.new ≡ locked_too self.old block }
+    {
+        self.locks.add(block as u8);
     }
 
     /// The field is gone, and with it the quiet state.

@@ -1,0 +1,57 @@
+-- Whether a tag is quiet changes nothing of what it does at an addressed command.
+use Rattle.std.proofs.Common.{◌≡◌, ℕ, List, [], ◌∷◌, length, drop, Bool, true, false, not, nat_le, ◌==◌, ◌&&◌, if◌then◌else◌, refl}
+use Rattle.nfc_base.specs.Blocks.{block_of}
+use Rattle.nfc_base.specs.Signal.{whole_v}
+use Rattle.t5t_tag.specs.declared.answer.T5Answer.TheVariants.{Content}
+use Rattle.t5t_tag.specs.Store.{T5State, id_size, block_count, is_locked}
+use Rattle.t5t_tag.specs.Spelling.{addressed_flags, quiet_code, read_code, write_code}
+use Rattle.t5t_tag.specs.Step.{T5Turn, silent, tells, refuses, not_supported, no_block, block_locked, read_turn, write_turn, obeyed, names, t5_turn}
+use Rattle.t5t_tag.proofs.Turns.{writes, hushes}
+
+-- a tag that may be quiet
+abbrev pub with_quiet : Bool → T5State → T5State
+with_quiet q t = record t { quiet = q }
+
+-- two turns have the same answer and leave the same store
+pub record IsAlike (r s : T5Turn) : Type 0 where
+  pub answer : r.answer ≡ s.answer
+  pub store : r.after.store ≡ s.after.store
+
+by_both : (v : Bool) (r s r' s' : T5Turn) → IsAlike r r' → IsAlike s s' → IsAlike (if v then r else s) (if v then r' else s')
+by_both true r s r' s' p q = p
+by_both false r s r' s' p q = q
+
+obeyed_alike : (t : T5State) (q : Bool) (code : ℕ) (rest : List ℕ) → IsAlike (obeyed (with_quiet q t) code rest) (obeyed t code rest)
+obeyed_alike t q code [] = record { answer = refl; store = refl }
+obeyed_alike t q code (block ∷ rest) =
+    let u : T5State = with_quiet q t in
+    let told : T5State → T5Turn = λ s. tells s (Content (record { items = block_of s.size s.store block })) in
+    let locked : T5State → T5Turn = λ s. if is_locked s block then refuses s block_locked else writes s block rest in
+    let sized : T5State → T5Turn = λ s. if not (length rest == s.size) then refuses s not_supported else locked s in
+    let read : T5State → T5Turn = λ s. if (code == read_code) && (length rest == 0) then read_turn s block else refuses s not_supported in
+    let error : (c : ℕ) → IsAlike (refuses u c) (refuses t c) = λ c. record { answer = refl; store = refl } in
+    by_both (code == write_code) (write_turn u block rest) (read u) (write_turn t block rest) (read t)
+    (by_both (nat_le (block_count t) block) (refuses u no_block) (sized u) (refuses t no_block) (sized t)
+    (error no_block)
+    (by_both (not (length rest == t.size)) (refuses u not_supported) (locked u) (refuses t not_supported) (locked t)
+    (error not_supported)
+    (by_both (is_locked t block) (refuses u block_locked) (writes u block rest) (refuses t block_locked) (writes t block rest)
+    (error block_locked)
+    (record { answer = refl; store = refl }))))
+    (by_both ((code == read_code) && (length rest == 0)) (read_turn u block) (refuses u not_supported) (read_turn t block) (refuses t not_supported)
+    (by_both (nat_le (block_count t) block) (refuses u no_block) (told u) (refuses t no_block) (told t)
+    (error no_block)
+    (record { answer = refl; store = refl }))
+    (error not_supported))
+
+pub addressed_alike : (t : T5State) (q : Bool) (rest : List ℕ) → IsAlike (t5_turn (with_quiet q t) (whole_v (addressed_flags ∷ rest))) (t5_turn t (whole_v (addressed_flags ∷ rest)))
+addressed_alike t q [] = record { answer = refl; store = refl }
+addressed_alike t q (code ∷ rest) =
+    let u : T5State = with_quiet q t in
+    let v : Bool = (code == quiet_code) && (length rest == id_size) in
+    let heard : T5State → T5Turn = λ s. if v then hushes s else obeyed s code (drop id_size rest) in
+    by_both (not (names t rest)) (silent u) (heard u) (silent t) (heard t)
+    (record { answer = refl; store = refl })
+    (by_both v (hushes u) (obeyed u code (drop id_size rest)) (hushes t) (obeyed t code (drop id_size rest))
+    (record { answer = refl; store = refl })
+    (obeyed_alike t q code (drop id_size rest)))
