@@ -8,3 +8,11 @@ pub mod Turn
 pub mod Settling
 pub mod Lends
 pub mod Quiet
+pub mod Turning
+pub mod Waits
+pub mod Waiting
+pub mod PlainTags
+pub mod PlainLinks
+pub mod PlainWaits
+pub mod Following
+pub mod PlainMoving

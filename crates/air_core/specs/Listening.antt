@@ -1,7 +1,8 @@
 -- One step of a listener: what it asks of the far end above it, and what follows from the reply.
-use Rattle.std.specs.Prelude.{◌≡◌, ℕ, List, ◌∷◌, ◌++◌, reverse, Bool, true, Option, None}
-use Rattle.nfc_base.specs.Signal.{Signal, whole_v}
+use Rattle.std.specs.Prelude.{◌≡◌, ℕ, List, Bool, true, Option, None}
+use Rattle.nfc_base.specs.Signal.{Signal}
 use Rattle.nfc_base.specs.Far.{FarUse, Hands, FarDid}
+pub use Rattle.nfc_base.specs.TagLinks.{addressed as addressed_to}
 
 -- The far end did what was asked of it. The answer, and what the listener is after, are these functions of the reply.
 pub record Step {L A : Type 0} (restarts : A → List ℕ → A → Type 0) (steps : A → List ℕ → List ℕ → A → Type 0) (asked : FarUse) (answers : Option (List ℕ) → Option Signal) (leaves : Option (List ℕ) → L) (old : A) (answer : Option Signal) (after : L) (new : A) : Type 0 where
@@ -17,8 +18,3 @@ pub record Stop {L A : Type 0} (stops : A → List ℕ → A → Type 0) (is_stu
   pub far : stops old payload new
   pub stuck : is_stuck new ≡ true
   pub left : after ≡ leaves None
-
--- a request of NFC-V to the device of this identifier, high byte first: flags for high data rate and address, a code,
--- the identifier, and what the code needs (ISO/IEC 15693-3)
-abbrev pub addressed_to : List ℕ → ℕ → List ℕ → Signal
-addressed_to identifier code rest = whole_v (34 ∷ code ∷ (reverse identifier ++ rest))

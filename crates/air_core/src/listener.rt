@@ -3,6 +3,7 @@
 ghost use Rattle.std.specs.Prelude.{◌≡◌, ℕ, ◌≤◌, List, length, Bool, false, Option, None, IfOk, OnErr};
 ghost use Rattle.nfc_base.specs.Signal.{Signal, whole_a};
 ghost use Rattle.nfc_base.specs.Far.{Untouched, Hands};
+ghost use Rattle.nfc_base.specs.TagLinks.{TagState, TagStep};
 ghost use Rattle.nfc_base.specs.declared.frame.Tech.TheVariants as techs;
 ghost use Rattle.air_core.specs.World.{Machine};
 ghost use Rattle.air_core.specs.Listening.{Step, Stop, addressed_to};
@@ -27,6 +28,9 @@ pub trait Listener {
 
     /// An NFC-A device that is selected, or a device of another technology in a lit field.
     ghost is_selected: { Self → Bool };
+
+    /// Of a tag: its step on commands, by what it holds. What is no tag has the one that stands here.
+    ghost commands: { Self → TagState → Signal → TagStep } = { λ _ s _. record { answer = None; after = s } };
 
     fn tech(&self) -> Tech
         ensures { result ≡ machine.tech self.now };

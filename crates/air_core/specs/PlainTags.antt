@@ -1,0 +1,74 @@
+-- Tags that take commands as they are sent, alone in a field (NFC Forum Type 2 and Type 5 Tag; who hears what is this
+-- project's own).
+use Rattle.std.specs.Prelude.{◌≡◌, ℕ, zero, suc, List, [], ◌∷◌, ◌++◌, length, true, false, Some, None}
+use Rattle.std.specs.List.{AllByRecursion}
+use Rattle.nfc_base.specs.declared.frame.Tech.{Tech}
+use Rattle.nfc_base.specs.declared.frame.Tech.TheVariants.{A, V}
+use Rattle.nfc_base.specs.Signal.{Signal}
+use Rattle.nfc_base.specs.Far.{Untouched}
+use Rattle.nfc_base.specs.TagLinks.{TagKind, Type2, Type5, TagStep, plain_state, MayAsk}
+use Rattle.air_core.specs.Turn.{Air}
+use Rattle.air_core.specs.declared.listener.Listener.{Ghosts}
+
+-- the kind of a tag that takes commands as they are sent
+abbrev pub plain_kind : Tech → TagKind
+plain_kind A = Type2
+plain_kind V = Type5
+
+module _ {L : Type 0} (k : Ghosts L) where
+  -- a listener once it has heard a frame so many times in a row, and once it has heard some frames
+  abbrev pub heard_times : L → Signal → ℕ → L
+  heard_times l f zero = l
+  heard_times l f (suc n) = k.machine.after (heard_times l f n) f None
+
+  abbrev pub reached : L → List Signal → L
+  reached l [] = l
+  reached l (f ∷ fs) = reached (k.machine.after l f None) fs
+
+  -- what the tag does with a command, by what it holds now
+  abbrev pub tag_step : L → Signal → TagStep
+  tag_step l f = k.commands l (plain_state (k.store l)) f
+
+  -- However often the frame is heard in a row: nothing is asked of a far end, the answer is that of the tag's step, the
+  -- store is that of its step and stays so, and a tag that answers stays selected.
+  pub record IsSteady (l : L) (f : Signal) : Type 0 where
+    pub quiet : (n : ℕ) → k.machine.handed (heard_times l f n) f ≡ Untouched
+    pub answer : (n : ℕ) → k.machine.answer (heard_times l f n) f None ≡ (tag_step l f).answer
+    pub after : (n : ℕ) → plain_state (k.store (heard_times l f (suc n))) ≡ (tag_step l f).after
+    pub again : (k.commands l (tag_step l f).after f).after ≡ (tag_step l f).after
+    pub selected : (g : Signal) → (tag_step l f).answer ≡ Some g → (n : ℕ) → k.is_selected (heard_times l f (suc n)) ≡ true
+
+  -- By frames that a tag of this kind and identifier may be asked, a listener only comes to where it is steady while it
+  -- is selected. Its step on commands stays, also in the dark.
+  pub record IsPlainTag (kind : TagKind) (identifier : List ℕ) (l : L) : Type 0 where
+    pub steady : (fs : List Signal) → AllByRecursion (MayAsk kind identifier) fs → k.is_selected (reached l fs) ≡ true →
+        (f : Signal) → MayAsk kind identifier f → IsSteady (reached l fs) f
+    pub same : (fs : List Signal) → AllByRecursion (MayAsk kind identifier) fs → k.commands (reached l fs) ≡ k.commands l
+    pub dark : (fs : List Signal) → AllByRecursion (MayAsk kind identifier) fs → k.commands (k.machine.darkened (reached l fs)) ≡ k.commands l
+
+  -- Another listener of the field: no NFC-A device that is ready or selected, and of another identifier.
+  pub record IsAside (identifier : List ℕ) (l : L) : Type 0 where
+    pub rests : k.machine.tech l ≡ A → (k.is_ready l ≡ false) × (k.is_selected l ≡ false)
+    pub other : identifier ≡ k.identifier l → ⊥
+
+  -- Among these listeners one stands at a place, and all others are aside of it.
+  pub record IsAlone (identifier : List ℕ) (listeners : List L) (place : ℕ) (l : L) : Type 0 where
+    pub before : List L
+    pub behind : List L
+    pub split : listeners ≡ before ++ l ∷ behind
+    pub stands : length before ≡ place
+    pub first : AllByRecursion (IsAside identifier) before
+    pub later : AllByRecursion (IsAside identifier) behind
+
+  -- At this place of a field a tag stands that is selected, alone, and takes commands as they are sent. An NFC-V device
+  -- has eight bytes of identifier.
+  pub record HasPlainTag (air : Air L) (place : ℕ) : Type 0 where
+    pub tag : L
+    pub selected : k.is_selected tag ≡ true
+    pub alone : IsAlone (k.identifier tag) air.listeners place tag
+    pub eight : k.machine.tech tag ≡ V → length (k.identifier tag) ≡ 8
+    pub plain : IsPlainTag (plain_kind (k.machine.tech tag)) (k.identifier tag) tag
+
+  -- the tag may be asked this
+  abbrev pub MayTell : L → Signal → Type 0
+  MayTell l f = MayAsk (plain_kind (k.machine.tech l)) (k.identifier l) f
