@@ -52,7 +52,7 @@ t5_tag id v t named kind is identifier store step = subst (λ i. (size : ℕ) ×
   t.size,
   record {
     kind = kind;
-    named = (identifier, is.id);
+    named = (identifier, is.id, is.bytes);
     store = subst (λ s. IsT5Store t.size s) (sym store) is.store;
     steps = (t.locked, t.quiet, λ s c is' may. ap (λ st. st s c) step);
   },

@@ -1,6 +1,6 @@
 -- What a tag does at a READ: it answers, and stays as it is.
 use Rattle.std.proofs.Common.{◌≡◌, ℕ, ◌*◌, ◌<◌, Bool, true, false, List, [], ◌∷◌, length, refl, sym, ◌∙◌, ap, subst, arith}
-use Rattle.std.specs.Prelude.{nat_le, nat_lt, if◌then◌else◌, Some}
+use Rattle.std.specs.Prelude.{nat_le, nat_lt, if◌then◌else◌, Some, slice_index}
 use Rattle.std.proofs.lemmas.Bool.{lt-ltb}
 use Rattle.nfc_base.specs.Signal.{Signal}
 use Rattle.nfc_base.specs.Blocks.{block_of}
@@ -41,11 +41,11 @@ t5_told : (id : List ℕ) (size : ℕ) (t : T5State) (k : ℕ) (v : Bool) →
 t5_told id size t k true = refl
 t5_told id size t k false = refl
 
-t5_replies : (id : List ℕ) (size : ℕ) (locked : List Bool) (quiet : Bool) (s : TagState) (k : ℕ) → IsT5Store size s.store → length id ≡ id_size →
+t5_replies : (id : List ℕ) (size : ℕ) (locked : List Bool) (quiet : Bool) (s : TagState) (k : ℕ) → IsT5Store size s.store → length id ≡ id_size → ((i : ℕ) → slice_index id i < 256) →
     t5_step id size locked quiet s (command (T5 id) k) ≡ Replies s (reply (T5 id) size s.store k)
-t5_replies id size locked quiet s k is named =
+t5_replies id size locked quiet s k is named bytes =
     let t : T5State = t5_memory id size locked quiet s in
-    let tag : IsT5State t = record { id = named; store = is } in
+    let tag : IsT5State t = record { id = named; bytes = bytes; store = is } in
     let answer : t5_answer t (command (T5 id) k) ≡ Some (reply (T5 id) size s.store k) =
     ap (λ (r : T5Turn). sent r.answer) (read_turns t tag k) ∙ t5_told id size t k (nat_le (blocks_in size s.store) k) in
     let after : t5_after t (command (T5 id) k) ≡ t = read_keeps t tag k in
@@ -58,4 +58,4 @@ replies T2 size v k is low =
     is.steps.1 v.state (command T2 k) is.store.1 refl ∙ t2_replies is.steps.0 v.state k is.store.1 low
 replies (T5 id) size v k is low =
     is.steps.2 v.state (command (T5 id) k) is.store (record { code = 32; rest = k ∷ []; frame = refl })
-    ∙ t5_replies id size is.steps.0 is.steps.1 v.state k is.store is.named.1
+    ∙ t5_replies id size is.steps.0 is.steps.1 v.state k is.store is.named.1 is.named.2
