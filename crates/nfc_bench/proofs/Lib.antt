@@ -11,7 +11,6 @@ pub mod SelectingAsks
 pub mod SelectingT2
 pub mod SelectingT5
 pub mod Ours
-pub mod Memory
 pub mod Legality
 pub mod Limits
 pub mod Chunks
