@@ -10,7 +10,6 @@ pub mod SelectingResets
 pub mod SelectingAsks
 pub mod SelectingT2
 pub mod SelectingT5
-pub mod Ours
 pub mod Legality
 pub mod Limits
 pub mod Chunks

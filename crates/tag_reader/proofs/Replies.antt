@@ -1,11 +1,6 @@
 -- What a tag does at a READ: it answers, and stays as it is.
-<<<<<<< HEAD
-use Rattle.std.proofs.Common.{◌≡◌, ℕ, suc, ◌+◌, ◌*◌, ◌<◌, ◌≤◌, Bool, true, false, List, [], ◌∷◌, ◌++◌, length, take, drop, refl, sym, ◌∙◌, ap, subst, arith}
-use Rattle.std.specs.Prelude.{◌/◌, ◌%◌, slice_index, nat_le, nat_lt, if◌then◌else◌, Option, Some, None}
-=======
 use Rattle.std.proofs.Common.{◌≡◌, ℕ, ◌*◌, ◌<◌, Bool, true, false, List, [], ◌∷◌, length, refl, sym, ◌∙◌, ap, subst, arith}
 use Rattle.std.specs.Prelude.{nat_le, nat_lt, if◌then◌else◌, Some, slice_index}
->>>>>>> 8e5261d84444fd7721f8a7764abe47f0394abb61
 use Rattle.std.proofs.lemmas.Bool.{lt-ltb}
 use Rattle.nfc_base.specs.Signal.{Signal}
 use Rattle.nfc_base.specs.Blocks.{block_of}

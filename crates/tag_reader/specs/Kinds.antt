@@ -1,10 +1,6 @@
 -- The kinds of tags that a reader knows (NFC Forum Type 2 Tag and Type 5 Tag): which stores they have, which area a store
 -- names and what it holds, and which commands ask for its bytes in their order.
-<<<<<<< HEAD
-use Rattle.std.specs.Prelude.{◌≡◌, ℕ, zero, suc, ◌*◌, ◌<◌, List, [], ◌∷◌, ◌++◌, length, slice_index, Bool, nat_le, if◌then◌else◌, Result, Some}
-=======
 use Rattle.std.specs.Prelude.{◌≡◌, ℕ, zero, suc, ◌*◌, List, [], ◌∷◌, ◌++◌, length, Bool, nat_le, if◌then◌else◌, Result, Some, ◌<◌, slice_index}
->>>>>>> 8e5261d84444fd7721f8a7764abe47f0394abb61
 use Rattle.nfc_base.specs.Signal.{Signal}
 use Rattle.nfc_base.specs.Blocks.{block_of}
 use Rattle.nfc_base.specs.TagLinks.{TagKind, Type2, Type5, TagState, TagStep, LinkView, MayAsk}
