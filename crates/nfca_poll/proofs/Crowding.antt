@@ -81,20 +81,17 @@ module _ {L : Type 0} (m : Machine L) where
   lost_fates w f Break y n e = omega (arith, n)
 
   -- the events of a turn
-  pub events_of : Air L → Signal → List Event
+  abbrev pub events_of : Air L → Signal → List Event
   events_of a f = turn_events (mute_air m) (moment a).world f (first_fate a.fates) (first_fate (later_fates a.fates))
 
   pub turn_trace : (old new : Air L) (f : Signal) (h : Option Heard) → TurnsTo (mute_air m) (moment old) (moment new) f h → new.trace ≡ old.trace ++ events_of old f
-  unfolding events_of
   turn_trace old new f h t = let M : Moment (World L) → List Event = λ x. x.trace in ap M t.moment
 
   pub lost_noise : (old new : Air L) (f : Signal) → TurnsTo (mute_air m) (moment old) (moment new) f None → noise (events_of old f) ≡ 0 → ⊥
-  unfolding events_of
   lost_noise old new f t n = lost_fates (moment old).world f (first_fate old.fates) (first_fate (later_fates old.fates)) n (sym t.heard)
 
   pub quiet_world : (old new : Air L) (f : Signal) (h : Heard) → TurnsTo (mute_air m) (moment old) (moment new) f (Some h) → noise (events_of old f) ≡ 0
       → (new.listeners ≡ map (λ l. stepped_by (muted m) l f None) old.listeners) × (h ≡ heard_of (joint (filter_map (λ l. answered_by (muted m) l f None) old.listeners)))
-  unfolding events_of
   quiet_world old new f h t n =
       let q = by_fates (moment old).world f (first_fate old.fates) (first_fate (later_fates old.fates)) h n t.heard in
       let M : Moment (World L) → List L = λ x. x.world.listeners in

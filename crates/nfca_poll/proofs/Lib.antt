@@ -20,3 +20,4 @@ pub mod Selects
 pub mod Crowding
 pub mod FirstPicked
 pub mod NobodyIdle
+pub mod FewAsked
