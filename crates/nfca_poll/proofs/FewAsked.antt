@@ -1,5 +1,5 @@
 -- A resolution asks only so often.
-use Rattle.std.proofs.Common.{◌≡◌, ℕ, suc, ◌+◌, ◌-◌, ◌*◌, ◌/◌, ◌%◌, ◌<◌, ◌≤◌, List, [], ◌∷◌, ◌++◌, length, drop, get_or, Bool, true, false, ◌==◌, ◌&&◌, nat_lt, nat_le, if◌then◌else◌, refl, sym, ◌∙◌, ap, subst, append_assoc, arith, Option, Some, None, Ok, Err}
+use Rattle.std.proofs.Common.{◌≡◌, ℕ, ◌+◌, ◌-◌, ◌<◌, ◌≤◌, List, [], ◌∷◌, ◌++◌, length, drop, get_or, Bool, true, false, ◌==◌, ◌&&◌, nat_lt, nat_le, if◌then◌else◌, refl, sym, ◌∙◌, ap, subst, append_assoc, arith, Option, Some, None, Ok, Err}
 use Rattle.std.proofs.lemmas.List.{length-append}
 use Rattle.nfc_base.specs.declared.event.Event.{Event}
 use Rattle.nfc_base.specs.declared.event.Event.TheVariants.{Reset, Request, Answer, Clash}
@@ -8,7 +8,7 @@ use Rattle.nfc_base.specs.declared.event.Fate.TheVariants.{Pass, Damage, Lose, B
 use Rattle.nfc_base.specs.declared.event.Heard.{Heard}
 use Rattle.nfc_base.specs.declared.event.Heard.TheVariants.{Whole, Collided, Damaged, Silent}
 use Rattle.nfc_base.specs.Signal.{Signal}
-use Rattle.nfc_base.specs.Bits.{bits, bits_of, bit_count, packed}
+use Rattle.nfc_base.specs.Bits.{bits, bit_count, packed}
 use Rattle.air_core.specs.Joint.{Joint, Nothing, Single, Clashing}
 use Rattle.air_core.specs.World.{Machine, World}
 use Rattle.air_core.specs.Turn.{Air, moment}
@@ -21,8 +21,8 @@ use Rattle.nfca_poll.specs.declared.seeking.Done.TheVariants as dones
 use Rattle.nfca_poll.specs.declared.fault.PollFault.{PollFault}
 use Rattle.nfca_poll.specs.declared.fault.PollFault.TheVariants as faults
 use Rattle.nfca_poll.specs.Levels.{bcc, cascades}
-use Rattle.nfca_poll.specs.Calls.{Sens, Sdd, Sel, call_frame, sel_cmd, sel_par, all_known, is_short, is_sdd, is_sel, is_sel_cmd, is_sdd_par, cmd_level, known_count}
-use Rattle.nfca_poll.specs.Poll.{Seek, Calling, Asking, Selecting, Ended, Found, Nobody, BadAnswer, seek_step, completed, narrowed, selected, goes_on, kind_of, has_bit, is_one_byte, level_bits, collision_bits}
+use Rattle.nfca_poll.specs.Calls.{Sdd, call_frame, sel_cmd, sel_par, all_known, is_short, is_sdd, is_sel, is_sel_cmd, is_sdd_par, cmd_level, known_count}
+use Rattle.nfca_poll.specs.Poll.{Seek, Calling, Asking, Selecting, Ended, Found, Nobody, BadAnswer, seek_step, selected, goes_on, kind_of, has_bit, is_one_byte, level_bits, collision_bits}
 use Rattle.nfca_poll.specs.Seeking.{resolution, seek_of, request_of, levels_of}
 use Rattle.nfca_poll.specs.Muted.{mute_air, Asks}
 use Rattle.nfca_poll.specs.Counting.{requests_that, is_sens_req, is_sdd_req, is_sel_req, AsksFew}

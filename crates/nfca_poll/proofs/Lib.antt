@@ -21,3 +21,4 @@ pub mod Crowding
 pub mod FirstPicked
 pub mod NobodyIdle
 pub mod FewAsked
+pub mod LostField
