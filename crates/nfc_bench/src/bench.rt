@@ -1,10 +1,9 @@
 //! The bench: the field, and the journal of what was obeyed.
 
-ghost use Rattle.std.specs.Prelude.{◌≡◌, ◌≢◌, ◌↔◌, ◌+◌, ◌*◌, ◌≤◌, ◌<◌, ◌++◌, List, [], ◌∷◌, Bool, false, nat_eq, is_some, None, IsTrue, IfOk, OnOk, OnErr, IsErrOf, vec_len, vec_capacity, length};
-ghost use Rattle.std.specs.Cmp.Lexicographic.{pointwise};
+ghost use Rattle.std.specs.Prelude.{◌≡◌, ◌≢◌, ◌↔◌, ◌+◌, ◌*◌, ◌≤◌, ◌<◌, ◌++◌, List, [], ◌∷◌, Bool, false, is_some, None, IsTrue, IfOk, OnOk, OnErr, IsErrOf, vec_len, vec_capacity, length};
 ghost use Rattle.std.specs.List.{AllByRecursion};
 ghost use Rattle.nfc_base.specs.declared.frame.Tech.TheVariants as techs;
-ghost use Rattle.nfc_bench.specs.Device.{device_id, device_tech};
+ghost use Rattle.nfc_bench.specs.Device.{device_tech};
 ghost use Rattle.nfc_bench.specs.Legal.{IsAccepted, most_devices, device_with, memory_of, state_of};
 ghost use Rattle.nfc_bench.specs.Polling.{bytes_of};
 ghost use Rattle.t5t_tag.specs.Store.{id_size};
@@ -15,7 +14,7 @@ ghost use Rattle.nfc_bench.specs.Obeying.{Obeys, IsIdle, Obeyed, state_at, obey_
 use crate::command::{Command, DeviceId};
 use crate::device::{Device, PoweredTag, T2Upper};
 use crate::entry::{Answer, Entry};
-use crate::polling::select;
+use crate::polling::{is_named, select};
 use crate::reading::read;
 use air_core::Field;
 use nfc_base::Items;
@@ -56,16 +55,6 @@ fn memory(alloc: Global, size: usize, head: &[u8]) -> Result<Vec<u8>, AllocError
     let mut bytes = Vec::from_slice(alloc, head)?;
     bytes.resize(size, 0)?;
     Ok(bytes)
-}
-
-/// A device's identifier.
-fn is_named(device: &Device, id: &[u8]) -> bool
-    ensures { result ≡ pointwise nat_eq (device_id device.now) id.now }
-{
-    match device {
-        Device::T2(front) => front.id().view() == id,
-        Device::T5(powered) => powered.tag().id().as_slice() == id,
-    }
 }
 
 /// Whether a device with this identifier is placed.
