@@ -3,8 +3,11 @@ pub mod Spelling
 pub mod Lines
 pub mod Answering
 pub mod Picking
-pub mod Memory
 pub mod Asking
+pub mod TagTwo
+pub mod TagFive
+pub mod ReadingTags
+pub mod ReadingAir
 pub mod Legality
 pub mod Limits
 pub mod Chunks
