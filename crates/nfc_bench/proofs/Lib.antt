@@ -2,6 +2,7 @@ pub mod Words
 pub mod Spelling
 pub mod Lines
 pub mod Answering
+pub mod Ours
 pub mod Picking
 pub mod Asking
 pub mod TagTwo

@@ -1,66 +1,73 @@
--- The bench's devices keep the laws of listeners.
-use Rattle.std.proofs.Common.{◌≡◌, ℕ, List, length, Bool, true, false, ◌&&◌, is_some, if◌then◌else◌, Option, None, refl, ◌∙◌, ap, subst}
-use Rattle.nfc_base.specs.declared.frame.Tech.{Tech}
+-- The bench's devices keep the laws of listeners, and its Type 2 tags those of machines above a front.
+use Rattle.std.proofs.Common.{◌≡◌, ℕ, List, length, Bool, true, false, if◌then◌else◌, Option, Some, None, refl, ap}
 use Rattle.nfc_base.specs.declared.frame.Tech.TheVariants.{A, V}
 use Rattle.nfc_base.specs.Signal.{Signal, whole_a}
-use Rattle.nfc_base.specs.Far.{Untouched}
+use Rattle.nfc_base.specs.Far.{Untouched, Hands}
 use Rattle.air_core.specs.Listening.{addressed_to}
-use Rattle.nfca_poll.specs.declared.kind.Kind.TheVariants as kinds
-use Rattle.nfca_poll.specs.Levels.{levels}
-use Rattle.nfca_poll.specs.Calls.{call_of}
-use Rattle.nfca_poll.specs.Front.{front_says, front_next, is_ready, is_active}
-use Rattle.nfca_poll.proofs.Resting.{Rests, rests, whole_wakes_none}
+use Rattle.nfca_poll.specs.declared.upper.UpStep.TheVariants as steps
+use Rattle.nfca_poll.specs.FrontLaws as fronted
+use Rattle.t2t_tag.specs.declared.command.T2Command.{T2Command}
 use Rattle.t2t_tag.specs.Spelling.{spelled_command}
-use Rattle.t2t_tag.specs.Step.{t2_answer, t2_after}
-use Rattle.nfc_bench.specs.Placed.{Placed, with_front}
+use Rattle.t2t_tag.specs.Store.{T2Memory}
+use Rattle.t2t_tag.specs.Step.{reply_frame, held_after}
+use Rattle.t5t_tag.specs.Step.{T5Turn, sent, t5_answer, t5_after}
+use Rattle.t5t_tag.proofs.Steps.{same_tag, other_silent}
+use Rattle.nfc_bench.specs.Powered.{Powered}
 use Rattle.nfc_bench.specs.declared.device.Device.{Device}
-use Rattle.nfc_bench.specs.declared.device.Device.TheVariants.{T2}
-use Rattle.nfc_bench.specs.Device.{placed_after, is_upper, devices, device_id, device_store, device_ready, device_selected}
+use Rattle.nfc_bench.specs.declared.device.Device.TheVariants.{T2, T5}
+use Rattle.nfc_bench.specs.Device.{says_of, t2_machine, device_id, device_store, device_ready, device_selected, devices}
 
--- a step keeps the identifier
-placed_keeps : (d : Placed) (f : Signal) → (placed_after d f).id ≡ d.id
-placed_keeps d f = by_upper (is_upper d f)
-  where
-    by_upper : (v : Bool) → (if v then record { id = d.id; front = d.front; tag = t2_after d.tag f } else with_front d (front_next (levels d.id) d.front (call_of f))).id ≡ d.id
-    by_upper true = refl
-    by_upper false = refl
+-- a frame that spells no command changes nothing
+foreign_command : (u : T2Memory) (c : Option T2Command) → says_of (reply_frame u c) ≡ steps.Foreign → held_after u c ≡ u
+foreign_command u None h = refl
+foreign_command u (Some c) h = absurd cc
+
+pub foreign_keeps : (u : T2Memory) (f : Signal) (reply : Option (List ℕ)) → t2_machine.says u f reply ≡ steps.Foreign → (t2_machine.handed u f ≡ Untouched) × (t2_machine.after u f reply ≡ u)
+foreign_keeps u f reply h = (refl, foreign_command u (spelled_command f) h)
+
+pub never_waits : (u : T2Memory) (f : Signal) (payload : List ℕ) → t2_machine.handed u f ≡ Hands payload → t2_machine.says u f None ≡ steps.Quiet
+never_waits u f payload h = absurd cc
+
+pub clear_keeps : (u : T2Memory) → (t2_machine.cleared u).store ≡ u.store
+clear_keeps u = refl
+
+-- A Type 5 tag steps in the light alone.
+powered_keeps : (lit : Bool) (p : Powered) (f : Signal) → device_id (if lit then T5 (record { tag = t5_after p.tag f; lit = true }) else T5 p) ≡ p.tag.id
+powered_keeps true p f = (same_tag p.tag f).id
+powered_keeps false p f = refl
+
+powered_tech : (lit : Bool) (p : Powered) (f : Signal) → devices.tech (if lit then T5 (record { tag = t5_after p.tag f; lit = true }) else T5 p) ≡ V
+powered_tech true p f = refl
+powered_tech false p f = refl
 
 pub step_keeps : (l : Device) (f : Signal) (reply : Option (List ℕ)) → (devices.tech (devices.after l f reply) ≡ devices.tech l) × (device_id (devices.after l f reply) ≡ device_id l)
-step_keeps (T2 d) f reply = (refl, placed_keeps d f)
+step_keeps (T2 d) f reply = fronted.step_keeps t2_machine d f None
+step_keeps (T5 p) f reply = (powered_tech p.lit p f, powered_keeps p.lit p f)
 
 pub light_keeps : (l : Device) → (devices.tech (devices.woken l) ≡ devices.tech l) × (device_id (devices.woken l) ≡ device_id l) × (device_store (devices.woken l) ≡ device_store l)
-light_keeps (T2 d) = (refl, refl, refl)
+light_keeps (T2 d) = fronted.light_keeps t2_machine (λ u. u.store) clear_keeps d
+light_keeps (T5 p) = (refl, refl, refl)
 
 pub dark_keeps : (l : Device) → (devices.tech (devices.darkened l) ≡ devices.tech l) × (device_id (devices.darkened l) ≡ device_id l) × (device_store (devices.darkened l) ≡ device_store l)
-dark_keeps (T2 d) = (refl, refl, refl)
+dark_keeps (T2 d) = fronted.dark_keeps t2_machine (λ u. u.store) clear_keeps d
+dark_keeps (T5 p) = (refl, refl, refl)
 
 pub dark_rests : (l : Device) → (device_ready (devices.darkened l) ≡ false) × (device_selected (devices.darkened l) ≡ false)
-dark_rests (T2 d) = (refl, refl)
-
--- a frame that isn't the tag's is the front's
-front_takes : (d : Placed) (f : Signal) → is_active d.front ≡ false → is_upper d f ≡ false
-front_takes d f h = ap (λ v. v && is_some (spelled_command f)) h
+dark_rests (T2 d) = fronted.dark_rests t2_machine d
+dark_rests (T5 p) = (refl, refl)
 
 pub at_rest : (l : Device) (bytes : List ℕ) → devices.tech l ≡ A → device_ready l ≡ false → device_selected l ≡ false
     → (devices.handed l (whole_a bytes) ≡ Untouched) × (devices.answer l (whole_a bytes) None ≡ None) × (device_ready (devices.after l (whole_a bytes) None) ≡ false) × (device_selected (devices.after l (whole_a bytes) None) ≡ false)
-at_rest (T2 d) bytes t r s =
-    let f : Signal = whole_a bytes in
-    let upper : is_upper d f ≡ false = front_takes d f s in
-    let front : Rests (levels d.id) kinds.T2 d.front (call_of f) = rests (levels d.id) kinds.T2 d.front (call_of f) r s (whole_wakes_none bytes) in
-    let taken : Placed = record { id = d.id; front = d.front; tag = t2_after d.tag f } in
-    let left : Placed = with_front d (front_next (levels d.id) d.front (call_of f)) in
-    let after : placed_after d f ≡ left = ap (λ v. if v then taken else left) upper in (
-      refl,
-      ap (λ v. if v then t2_answer d.tag f else front_says (levels d.id) kinds.T2 d.front (call_of f)) upper ∙ front.silent,
-      ap (λ p. is_ready p.front) after ∙ front.unready,
-      ap (λ p. is_active p.front) after ∙ front.inactive,
-    )
+at_rest (T2 d) bytes t r s = (refl, (fronted.at_rest t2_machine d bytes refl r s).1, (fronted.at_rest t2_machine d bytes refl r s).2, (fronted.at_rest t2_machine d bytes refl r s).3)
+at_rest (T5 p) bytes t r s = absurd cc
 
--- no device here is of NFC-V
-abbrev IsA : Tech → Type 0
-IsA A = Unit {0}
-IsA V = ⊥
+-- what a tag of another identifier hears, in the light and in the dark
+powered_ignores : (lit : Bool) (p : Powered) (f : Signal) → t5_answer p.tag f ≡ None → (if lit then t5_answer p.tag f else None) ≡ None
+powered_ignores true p f h = h
+powered_ignores false p f h = refl
 
 pub ignores : (l : Device) (other : List ℕ) (code : ℕ) (rest : List ℕ) → devices.tech l ≡ V → length other ≡ 8 → (other ≡ device_id l → ⊥)
     → (devices.handed l (addressed_to other code rest) ≡ Untouched) × (devices.answer l (addressed_to other code rest) None ≡ None)
-ignores (T2 d) other code rest t h k = absurd (subst IsA t tt)
+ignores (T2 d) other code rest t h k = absurd cc
+ignores (T5 p) other code rest t h k =
+    (refl, powered_ignores p.lit p (addressed_to other code rest) (ap (λ (r : T5Turn). sent r.answer) (other_silent p.tag other h k code rest)))

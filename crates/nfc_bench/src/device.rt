@@ -167,3 +167,96 @@ impl Listener for Device {
 
     ghost ignores = { ignores };
 }
+
+#[cfg(test)]
+mod tests {
+    use super::*;
+    use nfc_base::Mute;
+    use std::process::Abort;
+    use std::test::Fail;
+
+    /// The bytes of a request and its tail, and the bytes of the answer, which is whole: none where it is silent.
+    type Row<'a> = (&'a [u8], u8, &'a [u8]);
+
+    fn walk<R: Abort>(
+        rt: &R,
+        alloc: Global,
+        device: &mut Device,
+        rows: &[Row],
+    ) -> Result<(), Fail> {
+        let tech = device.tech();
+        for (request, tail, answer) in rows {
+            let wanted = if answer.is_empty() {
+                None
+            } else {
+                Some(Frame::whole(tech, answer)?)
+            };
+            let frame = Frame::part(tech, request, *tail)?;
+            assert_eq!(rt;
+                device.hear(alloc, &frame, &mut Mute),
+                Ok(wanted),
+                "at {request:?}"
+            );
+        }
+        Ok(())
+    }
+
+    const INVENTORY: [u8; 3] = [0x26, 0x01, 0x00];
+
+    const PRESENT: [u8; 10] = [0, 0, 0x06, 0x05, 0x04, 0x03, 0x02, 0x01, 0x04, 0xE0];
+
+    const QUIET: [u8; 10] = [0x22, 0x02, 0x06, 0x05, 0x04, 0x03, 0x02, 0x01, 0x04, 0xE0];
+
+    #[test]
+    fn type_5_tag_has_power_in_the_light(rt: HostRuntime) -> Result<(), Fail> {
+        let alloc = rt.alloc();
+        let id = [0xE0, 0x04, 0x01, 0x02, 0x03, 0x04, 0x05, 0x06];
+        let tag = T5Tag::new(id, vec![in alloc; 0u8; 16]?, 4)?;
+        let mut device = Device::T5(PoweredTag::new(tag));
+        walk(&rt, alloc, &mut device, &[(&INVENTORY, 0, &[])])?;
+        device.light();
+        walk(
+            &rt,
+            alloc,
+            &mut device,
+            &[
+                (&INVENTORY, 0, &PRESENT),
+                (&QUIET, 0, &[]),
+                (&INVENTORY, 0, &[]),
+            ],
+        )?;
+        device.light();
+        walk(&rt, alloc, &mut device, &[(&INVENTORY, 0, &[])])?;
+        device.dark();
+        walk(&rt, alloc, &mut device, &[(&INVENTORY, 0, &[])])?;
+        device.light();
+        walk(&rt, alloc, &mut device, &[(&INVENTORY, 0, &PRESENT)])
+    }
+
+    #[test]
+    fn type_2_tag_is_read_once_it_is_selected(rt: HostRuntime) -> Result<(), Fail> {
+        let alloc = rt.alloc();
+        let store = [
+            1, 2, 3, 4, 5, 6, 7, 8, 9, 10, 11, 12, 13, 14, 15, 16, 17, 18, 19, 20,
+        ];
+        let tag = T2Tag::new(store.to_vec(alloc)?)?;
+        let id = Ident::new(&[1, 2, 3, 4])?;
+        let mut device = Device::T2(Front::new(id, T2Upper::new(tag)));
+        walk(&rt, alloc, &mut device, &[(&[0x26], 7, &[])])?;
+        device.light();
+        let content = [5, 6, 7, 8, 9, 10, 11, 12, 13, 14, 15, 16, 17, 18, 19, 20];
+        let rows: [Row; 8] = [
+            (&[0x30, 1], 0, &[]),
+            (&[0x26], 7, &[0x04, 0]),
+            (&[0x93, 0x20], 0, &[1, 2, 3, 4, 4]),
+            (&[0x93, 0x70, 1, 2, 3, 4, 4], 0, &[0]),
+            (&[0x30, 1], 0, &content),
+            (&[0x50, 0], 0, &[]),
+            (&[0x30, 1], 0, &[]),
+            (&[0x26], 7, &[]),
+        ];
+        walk(&rt, alloc, &mut device, &rows)?;
+        device.dark();
+        walk(&rt, alloc, &mut device, &[(&[0x52], 7, &[])])
+    }
+}
