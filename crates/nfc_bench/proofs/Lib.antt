@@ -9,6 +9,7 @@ pub mod TagTwo
 pub mod TagFive
 pub mod ReadingTags
 pub mod ReadingAir
+pub mod ReadingEnds
 pub mod Legality
 pub mod Limits
 pub mod Chunks
