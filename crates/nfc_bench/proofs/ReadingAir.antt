@@ -1,16 +1,14 @@
 -- What the frames of a read change of the devices: nothing that stays.
-use Rattle.std.proofs.Common.{◌≡◌, ℕ, zero, suc, ◌+◌, List, [], ◌∷◌, ◌++◌, length, drop, Bool, true, false, ◌==◌, ◌&&◌, not, nat_lt, if◌then◌else◌, None, refl, ◌∙◌, ap, subst, arith}
+use Rattle.std.proofs.Common.{◌≡◌, ℕ, zero, suc, List, [], ◌∷◌, ◌++◌, length, drop, Bool, true, false, ◌==◌, not, nat_lt, if◌then◌else◌, None, refl, ◌∙◌, ap, subst, arith}
 use Rattle.std.specs.Prelude.{map}
 use Rattle.std.specs.List.{AllByRecursion}
 use Rattle.nfc_base.specs.declared.event.Event.{Event}
 use Rattle.nfc_base.specs.declared.event.Event.TheVariants.{Reset, Request, Answer, Clash}
-use Rattle.nfc_base.specs.declared.event.Fate.{Fate}
-use Rattle.nfc_base.specs.declared.event.Fate.TheVariants.{Pass}
 use Rattle.nfc_base.specs.declared.tag_link.AskFault.TheVariants.{SixBad}
 use Rattle.nfc_base.specs.Signal.{Signal}
 use Rattle.nfc_base.specs.Trace.{is_bad_in_wait, noise, other_than_pass}
 use Rattle.air_core.specs.World.{World, stepped_by, requested, came_back}
-use Rattle.air_core.specs.Conversation.{Note, Lit, Got, Lost, Next, LightUp, Asks, receptions, EachDue, queue_after, FatesFrom, replay}
+use Rattle.air_core.specs.Conversation.{Note, Lit, Got, Lost, LightUp, Asks, receptions, EachDue, queue_after, FatesFrom, replay}
 use Rattle.air_core.specs.Waits.{Standing, Asking, Broken, Astray, stand, due_at, waits_next}
 use Rattle.nfca_poll.specs.Front.{Front, Off, Idle, Sleep, Ready, Active}
 use Rattle.t2t_tag.specs.Store.{T2Memory}

@@ -1,5 +1,5 @@
 -- What a read of the selected tag answers, by what its link did.
-use Rattle.std.proofs.Common.{◌≡◌, inl, inr, ◌⊎◌, ℕ, List, [], ◌∷◌, ◌++◌, length, drop, Bool, true, false, not, Option, Some, None, refl, sym, ◌∙◌, ap, subst, arith, IfOk}
+use Rattle.std.proofs.Common.{◌≡◌, inl, inr, ℕ, List, [], ◌∷◌, ◌++◌, length, drop, Bool, true, not, Option, Some, None, refl, sym, ◌∙◌, ap, subst, arith, IfOk}
 use Rattle.std.specs.declared.alloc.AllocError.{AllocError}
 use Rattle.std.specs.Prelude.{map, Result, Ok, Err}
 use Rattle.std.specs.List.{AllByRecursion}
@@ -13,7 +13,7 @@ use Rattle.nfc_base.specs.TagLinks.{LinkView}
 use Rattle.air_core.specs.World.{World}
 use Rattle.air_core.specs.Turn.{Air, world, moment}
 use Rattle.air_core.specs.Conversation.{Moment, FatesFrom, queue_after}
-use Rattle.air_core.specs.Waits.{Standing, Asking, stand, waits_next}
+use Rattle.air_core.specs.Waits.{stand, waits_next}
 use Rattle.air_core.specs.PlainLinks.{PlainSeen, PlainMoves, IsPlainReady, StandsAt, unanswered, answered_in, answered_by_link, plain_view}
 use Rattle.air_core.specs.PlainMoving.{events_between}
 use Rattle.tag_reader.specs.declared.fault.ReadFault.{ReadFault}
@@ -31,7 +31,6 @@ use Rattle.nfc_bench.specs.declared.entry.Answer.{Answer}
 use Rattle.nfc_bench.specs.declared.entry.Answer.TheVariants as answers
 use Rattle.nfc_bench.specs.Device.{device_store, how_of, size_of}
 use Rattle.nfc_bench.specs.Reading.{IsAccessOf, TellsOf}
-use Rattle.nfc_bench.specs.Legal.{air}
 use Rattle.nfc_bench.specs.Phases.{ghosts, kept, Stands, Reads, MayEnd, told_by}
 use Rattle.nfc_bench.proofs.ReadingTags.{has_tag, begun, shows_tag, shows_store, stands_one}
 use Rattle.nfc_bench.proofs.ReadingAir.{IsRead, all_reads, events_keep, no_noise, no_queue}

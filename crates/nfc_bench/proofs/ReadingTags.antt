@@ -1,8 +1,7 @@
 -- The selected tag of a read, as a link sees it.
-use Rattle.std.proofs.Common.{◌≡◌, ℕ, List, [], ◌∷◌, ◌++◌, length, true, Option, Some, None, refl, sym, ◌∙◌, ap, subst}
+use Rattle.std.proofs.Common.{◌≡◌, ℕ, [], length, false, Some, None, refl, sym, ◌∙◌, ap, subst}
 use Rattle.nfc_base.specs.declared.frame.Tech.TheVariants.{A, V}
-use Rattle.nfc_base.specs.Signal.{Signal}
-use Rattle.nfc_base.specs.TagLinks.{TagState, TagStep, LinkView, plain_state}
+use Rattle.nfc_base.specs.TagLinks.{TagState, LinkView, plain_state}
 use Rattle.air_core.specs.Turn.{Air, moment}
 use Rattle.air_core.specs.PlainTags.{plain_kind, IsPlainTag, HasPlainTag, IsAlone}
 use Rattle.air_core.specs.PlainLinks.{PlainSeen, at_place, plain_view}
@@ -57,7 +56,7 @@ tag_by v (T5 p) kind named step state is = record {
   kind = kind;
   named = (named, is.1, is.2);
   store = subst (λ (s : TagState). IsT5Store p.tag.size s.store) (sym state) is.3;
-  steps = (p.tag.locked, Rattle.std.specs.Prelude.false, λ s c h may. ap (λ st. st s c) step);
+  steps = (p.tag.locked, false, λ s c h may. ap (λ st. st s c) step);
 }
 
 -- the link when it is made

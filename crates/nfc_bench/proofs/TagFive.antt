@@ -2,24 +2,24 @@
 use Rattle.std.proofs.Common.{◌≡◌, inl, inr, ◌⊎◌, ℕ, ◌/◌, List, [], ◌∷◌, ◌++◌, length, drop, Bool, true, false, not, nat_le, ◌==◌, ◌&&◌, if◌then◌else◌, Option, Some, None, refl, sym, ◌∙◌, ap, subst}
 use Rattle.std.specs.Prelude.{reverse, get_or}
 use Rattle.nfc_base.specs.Signal.{Signal}
-use Rattle.nfc_base.specs.TagLinks.{Type5, TagStep, plain_state, MayAsk, addressed as addressed_to}
+use Rattle.nfc_base.specs.TagLinks.{Type5, plain_state, MayAsk, addressed as addressed_to}
 use Rattle.air_core.specs.PlainTags.{tag_step, IsSteady, IsPlainTag}
 use Rattle.air_core.proofs.PlainTagging.{DoesAgain, steady_by, plain_by}
 use Rattle.t5t_tag.specs.declared.answer.T5Answer.{T5Answer}
 use Rattle.t5t_tag.specs.declared.answer.T5Answer.TheVariants.{Content, Error}
-use Rattle.t5t_tag.specs.Store.{T5State, id_size, block_count, blocks_in, is_locked}
+use Rattle.t5t_tag.specs.Store.{T5State, id_size, block_count, is_locked}
 use Rattle.t5t_tag.specs.Spelling.{quiet_code, read_code, write_code}
 use Rattle.t5t_tag.specs.Step.{T5Turn, silent, refuses, not_supported, no_block, block_locked, read_turn, write_turn, obeyed, names, addressed, t5_turn, sent, t5_answer, t5_after}
-use Rattle.t5t_tag.proofs.Turns.{writes, hushes, OnCommands, by_test, on_obeyed}
+use Rattle.t5t_tag.proofs.Turns.{writes, hushes, on_obeyed}
 use Rattle.t5t_tag.proofs.Stores.{length_with_block}
 use Rattle.t5t_tag.proofs.Steps.{IsSameTag, same_tag, read_leaves}
 use Rattle.t5t_tag.proofs.Again.{heard_again}
 use Rattle.t5t_tag.proofs.Hushed.{with_quiet, IsAlike, addressed_alike}
-use Rattle.tag_reader.specs.Kinds.{t5_step, t5_memory}
+use Rattle.tag_reader.specs.Kinds.{t5_step}
 use Rattle.nfc_bench.specs.Powered.{Powered}
 use Rattle.nfc_bench.specs.declared.device.Device.{Device}
 use Rattle.nfc_bench.specs.declared.device.Device.TheVariants.{T2, T5}
-use Rattle.nfc_bench.specs.Device.{device_answer, device_after, device_store, device_commands, device_darkened, device_selected}
+use Rattle.nfc_bench.specs.Device.{device_after, device_store, device_commands, device_darkened, device_selected}
 use Rattle.nfc_bench.specs.Phases.{ghosts}
 
 -- a step whose second time answers what its first did

@@ -27,22 +27,20 @@ pub fn read(
 }
 
 /// What the tag behind a new link holds.
-fn read_by(
-    alloc: Global,
-    link: &mut PlainLink<Device>,
-    how: How,
-) -> Result<Answer, AllocError>
+fn read_by(alloc: Global, link: &mut PlainLink<Device>, how: How) -> Result<Answer, AllocError>
     requires tag { (d : Placed) × Stands (moment link.old.field.now) link.old.place d × (how ≡ how_of d) }
     requires fresh { (link.old.start ≡ length link.old.field.now.trace) × (link.old.last ≡ None) × (link.old.over ≡ None) }
     ensures same { link.new.field.ghost_name ≡ link.old.field.ghost_name }
     ensures tells { IfOk result (λ answer. (d : Placed) → Stands (moment link.old.field.now) link.old.place d → Reads (moment link.old.field.now) (moment link.new.field.now) d answer) }
 {
     match tag_reader::read(alloc, link, how) {
-        Ok(Found {
-            message,
-            site: _,
-            writable,
-        }) => Ok(Answer::Message { message, writable }),
+        Ok(
+            Found {
+                message,
+                site: _,
+                writable,
+            },
+        ) => Ok(Answer::Message { message, writable }),
         Err(fault) => told(fault),
     }
 }

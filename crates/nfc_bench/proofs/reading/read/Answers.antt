@@ -1,4 +1,3 @@
-use Rattle.std.proofs.Common.{◌≡◌, rules}
 use Rattle.nfc_bench.proofs.ReadingTags.{has_tag}
 use Rattle.nfc_bench.proofs.reading.read.Goals as goal
 

@@ -1,4 +1,3 @@
-use Rattle.std.proofs.Common.{◌≡◌}
 use Rattle.nfc_bench.specs.declared.device.Device.{Device}
 use Rattle.air_core.specs.PlainLinks.{PlainSeen}
 use Rattle.air_core.specs.declared.plain_link.PlainLink.{PlainLink}
