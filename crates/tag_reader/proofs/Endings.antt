@@ -105,7 +105,6 @@ knows_all how size a b known n k ends = record {
   commands = first how (n + 1);
   all = record { count = n + 1; list = refl; each = k.each; no_more = ends };
   answered = k.answered;
-  over = k.over;
 }
 
 -- the container has a fault
@@ -351,7 +350,6 @@ ends_cut how size a b c known space n e is walks m answers end cut' =
         commands = first how (n + 1 + 1);
         all = record { count = n + 1 + 1; list = refl; each = each; no_more = none };
         answered = answered;
-        over = answers.over;
       };
       tells = cut_told how size a c known space e (n + 1) is (due_reach how size a.state.store (n + 1) is (inr m)) end walks.area ends cut';
       calm = λ begun lit quiet. inl (cut_is_told space known e cut');

@@ -1,5 +1,5 @@
 -- What a reading does to a link: what it asked, that the store stays, and why it may end.
-use Rattle.std.specs.Prelude.{◌≡◌, ℕ, zero, suc, ◌⊎◌, List, ◌++◌, Option, Some, None}
+use Rattle.std.specs.Prelude.{◌≡◌, ℕ, zero, suc, ◌⊎◌, List, ◌++◌, Option, Some}
 use Rattle.std.specs.List.{AllByRecursion}
 use Rattle.nfc_base.specs.Signal.{Signal}
 use Rattle.nfc_base.specs.TagLinks.{LinkView, Leads, passed, Rises, AskCause}
@@ -29,12 +29,11 @@ pub record HasAsked (how : How) (size : ℕ) (store : List ℕ) (a b : LinkView)
   pub answered : b.answered ≡ a.answered ++ first how count
   pub last : (b.last ≡ last_of how a count) ⊎ ((b.last ≡ Some (command how count)) × IsDue how size store count)
 
--- All that is asked was answered between two views, and the link isn't over.
+-- All that is asked was answered between two views.
 pub record HasAskedAll (how : How) (size : ℕ) (store : List ℕ) (a b : LinkView) : Type 0 where
   pub commands : List Signal
   pub all : IsAsked how size store commands
   pub answered : b.answered ≡ a.answered ++ commands
-  pub over : b.over ≡ None
 
 -- The link is over by this fault, which it was before, or whose cause is known of the calls in between.
 abbrev pub ByLink : LinkView → LinkView → AskFault → Type 0

@@ -20,7 +20,7 @@ pub fn read<T: TagLink>(alloc: Global, link: &mut T, how: How) -> Result<Found, 
     requires tag { (size : ℕ) × IsTag how size (T.seen link.old) }
     // the store stays, in each image
     ensures stays { Stays (T.seen link.old) (T.seen link.new) }
-    // what was answered is the first of what is asked; all of it, and the link not over, unless the link or memory failed
+    // what was answered is the first of what is asked, and all of it unless the link or memory failed
     ensures asked { (size : ℕ) → IsTag how size (T.seen link.old) → HasAsked how size (T.seen link.old).state.store (T.seen link.old) (T.seen link.new) }
     ensures whole { (size : ℕ) → IsTag how size (T.seen link.old) → OnTold result (HasAskedAll how size (T.seen link.old).state.store (T.seen link.old) (T.seen link.new)) }
     ensures ok { (size : ℕ) → IsTag how size (T.seen link.old) → IfOk result (IsFound how size (T.seen link.old).state.store) }
