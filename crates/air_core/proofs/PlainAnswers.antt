@@ -51,11 +51,11 @@ module _ {L : Type 0} (k : Ghosts L) (laws : Laws k) (old new : Air L) (place st
     pub waits : Waits k old new place f tag turns heard s left []
     pub most : turns ≤ 6
     pub is : IsLeft k tag f heard left
-    pub stands : StandsAt (Some o) s
+    pub stands : StandsAt (Some o) new.lit s
     pub calm : (o ≡ Memory) ⊎ ((old.lit ≡ false) ⊎ (((tag_step k tag f).answer ≡ None) ⊎ (0 < noise waits.events)))
 
   left_of : (tag : L) (o : AskFault) → EndsBy k old new place f tag (Err o) → Left tag o
-  left_of tag FieldLost (inl h) = record { turns = 0; heard = h.1.heard; s = Asking 0 (f ∷ []); left = heard_times k tag f h.1.heard; waits = h.1.waits; most = omega arith; is = inl refl; stands = (f, inr refl); calm = inr (inl h.0) }
+  left_of tag FieldLost (inl h) = record { turns = 0; heard = h.1.heard; s = Asking 0 (f ∷ []); left = heard_times k tag f h.1.heard; waits = h.1.waits; most = omega arith; is = inl refl; stands = (h.1.lit ∙ h.0, f, inr refl); calm = inr (inl h.0) }
   left_of tag FieldLost (inr h) = record {
     turns = h.turns;
     heard = h.heard;
@@ -64,7 +64,7 @@ module _ {L : Type 0} (k : Ghosts L) (laws : Laws k) (old new : Air L) (place st
     waits = h.waits;
     most = h.bound;
     is = inr refl;
-    stands = (f, inl refl);
+    stands = (h.dim, f, inl refl);
     calm = inr (inr (inr h.noisy));
   }
   left_of tag SixBad h = record { turns = 6; heard = h.heard; s = after_bad f 6; left = heard_times k tag f h.heard; waits = h.waits; most = omega arith; is = inl refl; stands = (f, refl); calm = inr (inr (h.calm (omega arith))) }
@@ -135,7 +135,7 @@ module _ {L : Type 0} (k : Ghosts L) (laws : Laws k) (old new : Air L) (place st
           };
         }
 
-    stands_ok : (o : Option AskFault) → o ≡ None → StandsAt o (stand 0 (f ∷ []) h.ends.waits.notes)
+    stands_ok : (o : Option AskFault) → o ≡ None → StandsAt o new.lit (stand 0 (f ∷ []) h.ends.waits.notes)
     stands_ok None e = h.ends.waits.stands
     stands_ok (Some x) e = absurd cc
 
@@ -184,7 +184,7 @@ module _ {L : Type 0} (k : Ghosts L) (laws : Laws k) (old new : Air L) (place st
 
     pub err_moves : PlainMoves k before after_err
     err_moves =
-        let P : Standing → Type 0 = StandsAt (Some o) in
+        let P : Standing → Type 0 = StandsAt (Some o) new.lit in
         record {
           asked = f ∷ [];
           notes = x.waits.notes;

@@ -1,5 +1,5 @@
 -- How a wait of a plain tag goes on by one turn, and how it ends.
-use Rattle.std.proofs.Common.{◌≡◌, ℕ, zero, suc, ◌+◌, ◌<◌, ◌≤◌, ◌⊎◌, inl, inr, List, [], ◌∷◌, ◌++◌, length, true, if◌then◌else◌, Option, Some, None, refl, sym, ◌∙◌, ap, subst, append-nil, arith}
+use Rattle.std.proofs.Common.{◌≡◌, ℕ, zero, suc, ◌+◌, ◌<◌, ◌≤◌, ◌⊎◌, inl, inr, List, [], ◌∷◌, ◌++◌, length, true, if◌then◌else◌, Option, Some, None, refl, sym, ◌∙◌, ap, subst, append-nil, arith, false}
 use Rattle.std.specs.Prelude.{map}
 use Rattle.std.specs.List.{filter_map, cons_option}
 use Rattle.nfc_base.specs.declared.frame.Tech.{Tech}
@@ -113,13 +113,14 @@ module _ {L : Type 0} (k : Ghosts L) where
           → new.trace ≡ mid.trace ++ es → back_of es ≡ backs.Nothing → length es ≤ 2 → IsAlone k (k.identifier tag) new.listeners place (k.machine.darkened (heard_times k tag f n'))
           → times f n ++ obeyed_in (k.machine.tech tag) es ≡ times f n' → answered_in es ≡ []
           → (zs : List (List ℕ)) → passed (k.commands tag) (plain_state (k.store tag)) (times f n') ≡ passed (k.commands tag) (plain_state (k.store tag)) (times f n) ++ zs → Follows held.store (stores_after k place (world mid) es) zs
-          → 0 < noise es → Darkened k old new place f tag
-      darkens es n' turn trace fresh short alone obeyed answered zs more images noisy = record {
+          → 0 < noise es → new.lit ≡ false → Darkened k old new place f tag
+      darkens es n' turn trace fresh short alone obeyed answered zs more images noisy dim = record {
         turns = suc bad;
         heard = n';
         waits = extend k old mid new place f tag bad n bad (after_bad f bad) (heard_times k tag f n) None es n' (Broken ask.FieldLost (f ∷ [])) (k.machine.darkened (heard_times k tag f n')) [] w (asking_bad f bad bound) turn trace fresh short alone obeyed answered refl zs more images;
         bound = omega (arith, bound);
         noisy = let e : noise (w.events ++ es) ≡ noise w.events + noise es = noise_append w.events es in omega (arith, e, noisy);
+        dim = dim;
       }
 
       finish : (x y : Fate) (o : Option Signal) → (tag_step k tag f).answer ≡ o → TurnsTo (quiet_air k.machine) (moment mid) (moment new) f (tag_heard x y o)
@@ -130,7 +131,7 @@ module _ {L : Type 0} (k : Ghosts L) where
           goes_more Silent (tag_events f Damage y o) n turn trace refl (tag_most f Damage y o) alone (append-nil (times f n)) refl refl [] same_passed images (ap (λ v. v.lit) after ∙ lit) (inr (omega arith))
       finish Lose y o says turn trace after alone images =
           goes_more Silent (tag_events f Lose y o) n turn trace refl (tag_most f Lose y o) alone (append-nil (times f n)) refl refl [] same_passed images (ap (λ v. v.lit) after ∙ lit) (inr (omega arith))
-      finish Break y o says turn trace after alone images = darkens (tag_events f Break y o) n turn trace refl (tag_most f Break y o) alone (append-nil (times f n)) refl [] same_passed images (omega arith)
+      finish Break y o says turn trace after alone images = darkens (tag_events f Break y o) n turn trace refl (tag_most f Break y o) alone (append-nil (times f n)) refl [] same_passed images (omega arith) (ap (λ v. v.lit) after)
       finish Pass y None says turn trace after alone images =
           goes_more Silent (tag_events f Pass y None) (suc n) turn trace refl (tag_most f Pass y None) alone (obeyed_once f (k.machine.tech tag) n tech) refl refl _ (passed_more (k.commands tag) (plain_state (k.store tag)) f n) images (ap (λ v. v.lit) after ∙ lit) (inl says)
       finish Pass Pass (Some g) says turn trace after alone images = record {
@@ -147,7 +148,7 @@ module _ {L : Type 0} (k : Ghosts L) where
       finish Pass Lose (Some g) says turn trace after alone images =
           goes_more Silent (tag_events f Pass Lose (Some g)) (suc n) turn trace refl (tag_most f Pass Lose (Some g)) alone (obeyed_once f (k.machine.tech tag) n tech) refl refl _ (passed_more (k.commands tag) (plain_state (k.store tag)) f n) images (ap (λ v. v.lit) after ∙ lit) (inr (omega arith))
       finish Pass Break (Some g) says turn trace after alone images =
-          darkens (tag_events f Pass Break (Some g)) (suc n) turn trace refl (tag_most f Pass Break (Some g)) alone (obeyed_once f (k.machine.tech tag) n tech) refl _ (passed_more (k.commands tag) (plain_state (k.store tag)) f n) images (omega arith)
+          darkens (tag_events f Pass Break (Some g)) (suc n) turn trace refl (tag_most f Pass Break (Some g)) alone (obeyed_once f (k.machine.tech tag) n tech) refl _ (passed_more (k.commands tag) (plain_state (k.store tag)) f n) images (omega arith) (ap (λ v. v.lit) after)
 
     module _ (old mid : Air L) (place : ℕ) (f : Signal) (tag : L) (bad : ℕ) (steady : IsSteady k tag f) (may : MayTell k tag f) (eight : k.machine.tech tag ≡ V → length (k.identifier tag) ≡ 8)
         (goes : GoesOn k old mid place f tag bad) where

@@ -1,6 +1,6 @@
 -- What contracts see of a link that sends each command as it is, over a field that it borrows. What the tag obeyed and
 -- what was answered is read off the field's trace.
-use Rattle.std.specs.Prelude.{◌≡◌, ◌⊎◌, ℕ, zero, suc, ◌+◌, ◌*◌, ◌≤◌, List, [], ◌∷◌, ◌++◌, length, drop, not, if◌then◌else◌, Option, Some, None}
+use Rattle.std.specs.Prelude.{◌≡◌, ◌⊎◌, ℕ, zero, suc, ◌+◌, ◌*◌, ◌≤◌, List, [], ◌∷◌, ◌++◌, length, drop, Bool, not, if◌then◌else◌, Option, Some, None, false}
 use Rattle.nfc_base.specs.declared.frame.Tech.{Tech}
 use Rattle.nfc_base.specs.declared.frame.Tech.TheVariants.{A}
 use Rattle.nfc_base.specs.declared.event.Event.{Event}
@@ -99,13 +99,14 @@ unanswered None last = []
 unanswered (Some e) None = []
 unanswered (Some e) (Some c) = c ∷ []
 
--- where the waits stand of a link that is over, or isn't
-abbrev pub StandsAt : Option AskFault → Standing → Type 0
-StandsAt None s = s ≡ Asking 0 []
-StandsAt (Some FieldLost) s = (c : Signal) × ((s ≡ Broken FieldLost (c ∷ [])) ⊎ (s ≡ Asking 0 (c ∷ [])))
-StandsAt (Some SixBad) s = (c : Signal) × (s ≡ Broken SixBad (c ∷ []))
-StandsAt (Some Memory) s = (c : Signal) × (bad : ℕ) × (s ≡ Asking bad (c ∷ []))
-StandsAt (Some Protocol) s = ⊥
+-- Where the waits stand of a link that is over, or isn't: all commands were answered, or the last one ended the link. After
+-- a lost field it is dark; it was lost in a turn, or was dark before the last command was sent.
+abbrev pub StandsAt : Option AskFault → Bool → Standing → Type 0
+StandsAt None lit s = s ≡ Asking 0 []
+StandsAt (Some FieldLost) lit s = (lit ≡ false) × (c : Signal) × ((s ≡ Broken FieldLost (c ∷ [])) ⊎ (s ≡ Asking 0 (c ∷ [])))
+StandsAt (Some SixBad) lit s = (c : Signal) × (s ≡ Broken SixBad (c ∷ []))
+StandsAt (Some Memory) lit s = (c : Signal) × (bad : ℕ) × (s ≡ Asking bad (c ∷ []))
+StandsAt (Some Protocol) lit s = ⊥
 
 module _ {L : Type 0} (k : Ghosts L) where
   abbrev pub since : PlainSeen L → List Event
@@ -129,7 +130,7 @@ module _ {L : Type 0} (k : Ghosts L) where
     noise = noise (since p);
   }
 
-  -- Once a link isn't over, its tag is there and takes commands.
+  -- While a link isn't over, its tag is there and takes commands.
   pub record IsPlainReady (p : PlainSeen L) : Type 0 where
     pub start : p.start ≤ length p.air.trace
     pub tag : HasPlainTag k p.air p.place
@@ -146,7 +147,7 @@ module _ {L : Type 0} (k : Ghosts L) where
     pub notes : List Note
     pub going : Going (quiet_air k.machine) (waits_next asked) (moment a.air) (moment b.air) notes
     pub same : (b.place ≡ a.place) × (b.start ≡ a.start)
-    pub stands : a.over ≡ None → StandsAt b.over (stand 0 asked notes)
+    pub stands : a.over ≡ None → StandsAt b.over b.air.lit (stand 0 asked notes)
     pub told : a.over ≡ None → answered_by_link b ++ unanswered b.over b.last ≡ answered_by_link a ++ asked
     pub most : length b.air.trace ≤ length a.air.trace + 12 * length asked
     pub ended : (e : AskFault) → a.over ≡ Some e → (b ≡ a) × (asked ≡ [])

@@ -1,5 +1,5 @@
 -- Calls on a plain link, one after another.
-use Rattle.std.proofs.Common.{◌≡◌, ℕ, ◌+◌, List, [], ◌∷◌, ◌++◌, length, drop, Option, Some, None, refl, sym, ◌∙◌, ap, subst, append_assoc, append-nil, arith}
+use Rattle.std.proofs.Common.{◌≡◌, ℕ, ◌+◌, List, [], ◌∷◌, ◌++◌, length, drop, Bool, Option, Some, None, refl, sym, ◌∙◌, ap, subst, append_assoc, append-nil, arith}
 use Rattle.std.proofs.lemmas.List.{length-append}
 use Rattle.std.proofs.Math.Seq.{drop-append_seam}
 use Rattle.nfc_base.specs.Signal.{Signal}
@@ -18,9 +18,9 @@ use Rattle.air_core.specs.declared.listener.Listener.{Ghosts}
 use Rattle.air_core.specs.Turning.{going_start}
 
 module _ {L : Type 0} (k : Ghosts L) where
-  again_stands : (o : Option AskFault) → o ≡ None → StandsAt o (Asking 0 [])
-  again_stands None e = refl
-  again_stands (Some f) e = absurd cc
+  again_stands : (o : Option AskFault) (lit : Bool) → o ≡ None → StandsAt o lit (Asking 0 [])
+  again_stands None lit e = refl
+  again_stands (Some f) lit e = absurd cc
 
   again_told : (o : Option AskFault) (last : Option Signal) (xs : List Signal) → o ≡ None → xs ++ unanswered o last ≡ xs ++ []
   again_told None last xs e = refl
@@ -43,7 +43,7 @@ module _ {L : Type 0} (k : Ghosts L) where
     notes = [];
     going = going_start (quiet_air k.machine) (waits_next []) (moment a.air);
     same = (refl, refl);
-    stands = λ h. again_stands a.over h;
+    stands = λ h. again_stands a.over a.air.lit h;
     told = λ h. again_told a.over a.last (answered_by_link k a) h;
     most = omega arith;
     ended = λ e h. (refl, refl);
@@ -87,7 +87,7 @@ module _ {L : Type 0} (k : Ghosts L) where
   both a b c ha hb p q =
       let xs : List Signal = p.asked in
       let ys : List Signal = q.asked in
-      let done : stand 0 xs p.notes ≡ Asking 0 [] = (let P : Option AskFault → Type 0 = λ o. StandsAt o (stand 0 xs p.notes) in subst P hb (p.stands ha)) in
+      let done : stand 0 xs p.notes ≡ Asking 0 [] = (let P : Option AskFault → Type 0 = λ o. StandsAt o b.air.lit (stand 0 xs p.notes) in subst P hb (p.stands ha)) in
       let front : answered_by_link k b ≡ answered_by_link k a ++ xs =
       sym (append-nil (answered_by_link k b)) ∙ ap (λ o. answered_by_link k b ++ unanswered o b.last) (sym hb) ∙ p.told ha in
       let sum : length (xs ++ ys) ≡ length xs + length ys = length-append xs ys in
@@ -96,7 +96,7 @@ module _ {L : Type 0} (k : Ghosts L) where
         notes = p.notes ++ q.notes;
         going = waits_then (quiet_air k.machine) (moment a.air) (moment b.air) (moment c.air) xs ys p.notes q.notes done p.going q.going;
         same = (q.same.0 ∙ p.same.0, q.same.1 ∙ p.same.1);
-        stands = λ h. (let P : Standing → Type 0 = StandsAt c.over in subst P (sym (stand_on 0 xs p.notes 0 [] done ys q.notes)) (q.stands hb));
+        stands = λ h. (let P : Standing → Type 0 = StandsAt c.over c.air.lit in subst P (sym (stand_on 0 xs p.notes 0 [] done ys q.notes)) (q.stands hb));
         told = λ h. q.told hb ∙ ap (λ t. t ++ ys) front ∙ append_assoc (answered_by_link k a) xs ys;
         most = omega (arith, p.most, q.most, sum);
         ended = λ e h. absurd cc;

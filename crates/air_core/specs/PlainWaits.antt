@@ -71,6 +71,7 @@ module _ {L : Type 0} (k : Ghosts L) where
     pub waits : Waits old new place f tag turns heard (Broken FieldLost (f ∷ [])) (k.machine.darkened (heard_times k tag f heard)) []
     pub bound : turns ≤ 6
     pub noisy : 0 < noise waits.events
+    pub dim : new.lit ≡ false
 
   -- Nothing more could be noted.
   pub record Stopped (old new : Air L) (place : ℕ) (f : Signal) (tag : L) : Type 0 where

@@ -4,6 +4,9 @@
 //! `hearing` lets a request reach the listeners, `answers` joins what they say, by `bits` where they differ.
 //! `specs/Turn.antt` says what a turn is with a far end of any type, and `specs/Conversation.antt` speaks of turns over
 //! any air; `proofs/Quiet.antt` leads from the one to the other where nothing is asked of a far end.
+//!
+//! `plain_link` is the link to a tag that takes commands as they are sent: `specs/PlainTags.antt` says which tags do,
+//! `specs/Waits.antt` what is due while commands are asked, `specs/PlainLinks.antt` what the link shows.
 #![tactic(auto)]
 
 mod answers;

@@ -29,7 +29,7 @@ pub trait Listener {
     /// An NFC-A device that is selected, or a device of another technology in a lit field.
     ghost is_selected: { Self → Bool };
 
-    /// Of a tag: its step on commands.
+    /// Of a tag: its step on commands, by what it holds. What is no tag has the one that stands here.
     ghost commands: { Self → TagState → Signal → TagStep } = { λ _ s _. record { answer = None; after = s } };
 
     fn tech(&self) -> Tech

@@ -5,9 +5,9 @@ use Rattle.std.proofs.lemmas.Grind.{flat_map-append}
 use Rattle.nfc_io.specs.Moves.{with_end}
 use Rattle.nfc_io.proofs.Moves.{write_on, with_end-nil}
 use Rattle.nfc_bench.specs.declared.command.Command.{Command}
-use Rattle.nfc_bench.specs.declared.command.Command.TheVariants.{Skip, PlaceT2, Read}
+use Rattle.nfc_bench.specs.declared.command.Command.TheVariants.{Skip, PlaceT2, PlaceT5, Read}
 use Rattle.nfc_bench.specs.declared.entry.Entry.{Entry}
-use Rattle.nfc_bench.specs.Script.{is_skipped, Spells}
+use Rattle.nfc_bench.specs.Script.{words_of, is_skipped, SpelledBy, Spells}
 use Rattle.nfc_bench.specs.Legal.{State, LegalStep, EachLegal, first_state, state_from, state_after, state_of}
 use Rattle.nfc_bench.specs.Journal.{NumberedLine, asking_lines, AreEntriesOf, Numbered, Legal}
 use Rattle.nfc_bench.specs.Obeying.{Adds, Obeys}
@@ -85,29 +85,28 @@ follows_entry old new n l c asks spelled adds =
       refl,
     )
 
+not_skipped : (l : List ℕ) (c : Command) → SpelledBy (words_of l) c → (v : Bool) → is_skipped l ≡ v → is_skipped l ≡ false
+not_skipped l c spelled true h = absurd (skipped_names_none l c h spelled)
+not_skipped l c spelled false h = h
+
 -- a line that spells something else isn't skipped
 pub asks_something : (l : List ℕ) (c : Command) → Spells l c → (c ≡ Skip → ⊥) → is_skipped l ≡ false
 asks_something l Skip spelled other = absurd (other refl)
-asks_something l (PlaceT2 id blocks head) spelled other = by_skip (is_skipped l) refl
-  where
-    by_skip : (v : Bool) → is_skipped l ≡ v → v ≡ false
-    by_skip true h = absurd (skipped_names_none l (PlaceT2 id blocks head) h spelled)
-    by_skip false h = refl
-asks_something l (Read id) spelled other = by_skip (is_skipped l) refl
-  where
-    by_skip : (v : Bool) → is_skipped l ≡ v → v ≡ false
-    by_skip true h = absurd (skipped_names_none l (Read id) h spelled)
-    by_skip false h = refl
+asks_something l (PlaceT2 id blocks head) spelled other = not_skipped l (PlaceT2 id blocks head) spelled (is_skipped l) refl
+asks_something l (PlaceT5 id blocks size head) spelled other = not_skipped l (PlaceT5 id blocks size head) spelled (is_skipped l) refl
+asks_something l (Read id) spelled other = not_skipped l (Read id) spelled (is_skipped l) refl
 
 -- what obeying adds, where it asks for something
 pub adds_of : (old new : List Entry) (n : ℕ) (c : Command) → Obeys old new n c → (c ≡ Skip → ⊥) → Adds old new n c
 adds_of old new n Skip p other = absurd (other refl)
 adds_of old new n (PlaceT2 id blocks head) p other = p
+adds_of old new n (PlaceT5 id blocks size head) p other = p
 adds_of old new n (Read id) p other = p
 
 pub obeys_of : (old new : List Entry) (n : ℕ) (c : Command) → Adds old new n c → (c ≡ Skip → ⊥) → Obeys old new n c
 obeys_of old new n Skip p other = absurd (other refl)
 obeys_of old new n (PlaceT2 id blocks head) p other = p
+obeys_of old new n (PlaceT5 id blocks size head) p other = p
 obeys_of old new n (Read id) p other = p
 
 pub report_more : (quiet : Bool) (js new es : List Entry) → new ≡ js ++ es → report_text quiet js ++ report_text quiet es ≡ report_text quiet new

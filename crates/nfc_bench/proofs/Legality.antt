@@ -1,29 +1,37 @@
 -- Commands that were obeyed, and journals.
-use Rattle.std.proofs.Common.{◌≡◌, ℕ, List, [], ◌∷◌, ◌++◌, map, Bool, true, false, nat_eq, if◌then◌else◌, Some, None, IsSome, is_some, refl, sym, ◌∙◌, ap, subst}
-use Rattle.std.specs.Cmp.Lexicographic.{pointwise, same_text}
+use Rattle.std.proofs.Common.{◌≡◌, ℕ, ◌*◌, ◌≤◌, List, [], ◌∷◌, ◌++◌, map, length, Bool, true, false, Option, Some, None, IsSome, is_some, Result, Ok, Err, refl, sym, ◌∙◌, ap, subst, arith, inl, inr}
+use Rattle.std.specs.List.{AllByRecursion}
 use Rattle.nfc_base.specs.declared.event.Event.{Event}
 use Rattle.nfc_base.specs.declared.event.Fate.{Fate}
+use Rattle.nfc_base.specs.Signal.{Signal}
 use Rattle.air_core.specs.World.{World}
-use Rattle.air_core.specs.Turn.{Air}
-use Rattle.air_core.specs.Conversation.{Moment, Note, Next, Over, LightUp, Asks, IsDemand, Going, replay, queue_after}
-use Rattle.air_core.proofs.Turns.{going_then}
+use Rattle.air_core.specs.Turn.{Air, moment}
+use Rattle.air_core.specs.Conversation.{Moment, Note, Lit, Got, Lost, Next, Over, LightUp, Asks, IsDemand, Going, replay, queue_after}
+use Rattle.air_core.specs.Waits.{Asking, stand, waits_next, due_at}
+use Rattle.air_core.specs.Turning.{going_then}
 use Rattle.nfca_poll.specs.declared.kind.Kind.TheVariants as kinds
-use Rattle.nfca_poll.specs.Poll.{Pick, Begins, Seeks, Sends, Ends, PickEnd, Picked, Polling, Polls, Done, pick, picking, pick_step}
-use Rattle.nfca_poll.proofs.OneLevel.{pointwise_self}
+use Rattle.nfca_poll.specs.declared.fault.PollFault.{PollFault}
+use Rattle.nfca_poll.specs.Enquiry.{Enquiry}
+use Rattle.nfca_poll.specs.Inventory.{picking_v}
+use Rattle.nfca_poll.specs.Poll.{Pick, Begins, Seeks, Sends, Ends, PickEnd, Picked, NotFound, GivenUp, Refused, FieldLost, Polling, Polls, Done, pick, picking, pick_step}
 use Rattle.nfc_bench.specs.declared.command.Command.{Command}
 use Rattle.nfc_bench.specs.declared.command.Command.TheVariants.{Read}
-use Rattle.nfc_bench.specs.declared.command.DeviceId.TheVariants.{A}
+use Rattle.nfc_bench.specs.declared.command.DeviceId.{DeviceId}
+use Rattle.nfc_bench.specs.declared.command.DeviceId.TheVariants.{A, V}
 use Rattle.nfc_bench.specs.declared.device.Device.{Device}
-use Rattle.nfc_bench.specs.declared.device.Device.TheVariants.{T2}
 use Rattle.nfc_bench.specs.declared.entry.Answer.{Answer}
-use Rattle.nfc_bench.specs.declared.entry.Answer.TheVariants.{Message}
 use Rattle.nfc_bench.specs.declared.entry.Entry.{Entry}
-use Rattle.nfc_bench.specs.Placed.{Placed}
-use Rattle.nfc_bench.specs.Device.{device_store}
-use Rattle.nfc_bench.specs.Reading.{Held, is_writable, reading, reading_at, demand}
-use Rattle.nfc_bench.specs.Legal.{air, State, LegalStep, device_with, store_of, store_or_none, then_reads, due, stable, ReadLaw, state_after, state_from, state_of, first_state}
-use Rattle.nfc_bench.specs.Phases.{moment_of, selected, polled, IsTame, At, Picks, Finds}
-use Rattle.nfc_bench.specs.Obeying.{state_at, AreTame, IsIdle, IsReady, Obeyed, the_tag}
+use Rattle.nfc_bench.specs.declared.device.Device.TheVariants.{T2, T5}
+use Rattle.nfc_bench.specs.Device.{device_id, device_store, how_of}
+use Rattle.nfc_bench.specs.Polling.{Followed, Asks as Requests, Told, followed, pick_v, asks_a, asks_v, polling, bytes_of, IsFoundBy}
+use Rattle.nfc_bench.specs.Reading.{Tells, AsksOf, TellsOf}
+use Rattle.nfc_bench.specs.Legal.{air, State, LegalStep, ReadLaw, OfPlaced, device_with, due, then_asks, then_asks_v, stable, state_after, state_from, state_of, first_state}
+use Rattle.nfc_bench.specs.Phases.{Kept, kept, IsSound, AreTame, how_for, IsId, Selects, Reads}
+use Rattle.nfc_bench.specs.Obeying.{state_at, IsIdle, IsReady, Obeyed}
+use Rattle.tag_reader.specs.declared.how.How.{How}
+use Rattle.tag_reader.specs.declared.how.How.TheVariants as hows
+use Rattle.tag_reader.specs.Asked.{IsAsked}
+use Rattle.nfc_bench.proofs.Placing.{map-over, IsWith, is_with}
 
 -- what is known behind the end of a call of polling
 picking_more : (wanted : List ℕ) (p : Pick) (hs ns rest : List Note) (e : PickEnd) → picking wanted p hs ≡ Done e rest → picking wanted p (hs ++ ns) ≡ Done e (rest ++ ns)
@@ -35,99 +43,111 @@ picking_more wanted (Seeks r f s) (n ∷ hs) ns rest e h = picking_more wanted (
 picking_more wanted (Sends r f) [] ns rest e h = absurd cc
 picking_more wanted (Sends r f) (n ∷ hs) ns rest e h = picking_more wanted (pick_step wanted (Sends r f) n) hs ns rest e h
 
+followed_more : {S X : Type 0} (e : Enquiry S X) (s : S) (o : Option (Result X PollFault)) (hs ns rest : List Note) (r : Result X PollFault) → followed e s o hs ≡ Told r rest → followed e s o (hs ++ ns) ≡ Told r (rest ++ ns)
+followed_more e s (Some x) hs ns rest r h = cc
+followed_more e s None [] ns rest r h = absurd cc
+followed_more e s None (Lit ∷ hs) ns rest r h = followed_more e s None hs ns rest r h
+followed_more e s None (Got g ∷ hs) ns rest r h = followed_more e (e.step s g) (e.ended (e.step s g)) hs ns rest r h
+followed_more e s None (Lost ∷ hs) ns rest r h = cc
+
+pick_v_more : (id : List ℕ) (hs ns rest : List Note) (r : Result (Unit {0}) PollFault) → pick_v id hs ≡ Told r rest → pick_v id (hs ++ ns) ≡ Told r (rest ++ ns)
+pick_v_more id [] ns rest r h = absurd cc
+pick_v_more id (Lit ∷ hs) ns rest r h = followed_more (picking_v id) (picking_v id).start ((picking_v id).ended (picking_v id).start) hs ns rest r h
+pick_v_more id (Got g ∷ hs) ns rest r h = pick_v_more id hs ns rest r h
+pick_v_more id (Lost ∷ hs) ns rest r h = cc
+
+found_more : (id : DeviceId) (hs ns : List Note) → IsFoundBy id hs [] → IsFoundBy id (hs ++ ns) ns
+found_more (A id) hs ns h = picking_more id (Begins 1) hs ns [] (Picked kinds.T2) h
+found_more (V id) hs ns h = pick_v_more id hs ns [] (Ok tt) h
+
+-- behind it the commands are asked
+then_waits : (id : DeviceId) (asked : List Signal) (hs ns : List Note) → IsFoundBy id hs ns → due asked (Read id) hs ≡ waits_next asked ns
+then_waits (A id) asked hs ns h = ap (then_asks asked) h
+then_waits (V id) asked hs ns h = ap (then_asks_v asked) h
+
 -- what polling asks, the command asks
-polls_first : (store : List ℕ) (p : Polling) (n : Next) → polled p ≡ n → IsDemand n → then_reads store p ≡ n
-polls_first store (Polls m) n h d = h
-polls_first store (Done e ns) Over h d = absurd d
-polls_first store (Done e ns) LightUp h d = absurd cc
-polls_first store (Done e ns) (Asks f) h d = absurd cc
-
--- the one tag of a field, where one with this identifier is placed
-pub record IsOne (ls : List Device) (id : List ℕ) : Type 0 where
-  pub one : ls ≡ T2 (the_tag ls) ∷ []
-  pub tame : IsTame (the_tag ls)
-  pub same : (the_tag ls).id ≡ id
-
-pub one_placed : (ls : List Device) (id : List ℕ) → AreTame ls → IsSome (device_with id ls) → IsOne ls id
-one_placed [] id tame some = absurd cc
-one_placed (T2 d ∷ ds) id tame some =
-    let S : List Device → Type 0 = λ xs. IsSome (device_with id (T2 d ∷ xs)) in
-    record { one = ap (λ xs. T2 d ∷ xs) tame.1; tame = tame.0; same = by_case (pointwise nat_eq d.id id) refl (subst S tame.1 some) }
+polls_first : (id : DeviceId) (asked : List Signal) (ns : List Note) (n : Next) → polling id ns ≡ n → IsDemand n → due asked (Read id) ns ≡ n
+polls_first (A id) asked ns n h d = by_polling (pick id ns) n h d
   where
-    by_case : (v : Bool) → pointwise nat_eq d.id id ≡ v → IsSome (if v then Some (T2 d) else None) → d.id ≡ id
-    by_case true h s = same_text d.id id (sym h)
-    by_case false h s = absurd cc
+    by_polling : (p : Polling) (n : Next) → asks_a p ≡ n → IsDemand n → then_asks asked p ≡ n
+    by_polling (Polls m) n h d = h
+    by_polling (Done e ns) Over h d = absurd d
+    by_polling (Done e ns) LightUp h d = absurd cc
+    by_polling (Done e ns) (Asks f) h d = absurd cc
+polls_first (V id) asked ns n h d = by_polling (pick_v id ns) n h d
+  where
+    by_polling : (p : Followed (Unit {0})) (n : Next) → asks_v p ≡ n → IsDemand n → then_asks_v asked p ≡ n
+    by_polling (Requests m) n h d = h
+    by_polling (Told e ns) Over h d = absurd d
+    by_polling (Told e ns) LightUp h d = absurd cc
+    by_polling (Told e ns) (Asks f) h d = absurd cc
 
--- the store of the one tag
-store_is : (s : State) (d : Placed) → s.world.listeners ≡ T2 d ∷ [] → store_of s d.id ≡ d.tag.store
-store_is s d one =
-    ap (λ ls. store_or_none (device_with d.id ls)) one ∙ ap (λ v. store_or_none (if v then Some (T2 d) else None)) (pointwise_self d.id)
+-- the device with an identifier is read as its identifier says
+pub how_named : (id : DeviceId) (d : Device) → IsId id → IsSound (kept d) → device_id d ≡ bytes_of id → how_of d ≡ how_for id
+how_named (A id) (T2 d) is sound named = refl
+how_named (A id) (T5 p) is sound named = absurd (elim is.size [
+  | inl four ↦ omega (arith, four, sound.1, ap length named)
+  | inr more ↦ (elim more [ inl seven ↦ omega (arith, seven, sound.1, ap length named) | inr ten ↦ omega (arith, ten, sound.1, ap length named) ])
+])
+how_named (V id) (T2 d) is sound named = absurd (omega (arith, is, sound.1, ap length named))
+how_named (V id) (T5 p) is sound named = ap (λ x. let h : How = hows.T5 x in h) named
 
--- a tag that was found and read: its events are one conversation
-read_going : (old mid new : Air Device) (d : Placed) (m : List ℕ) (p : Picks (moment_of old) (moment_of mid) d) (f : Finds (selected d) (moment_of mid) (moment_of new) m)
-    → old.listeners ≡ T2 d ∷ [] → Going air (due (state_at old) (Read (A d.id))) (moment_of old) (moment_of new) (p.notes ++ f.notes)
-read_going old mid new d m p f one =
-    let s : State = state_at old in
-    let store : List ℕ = d.tag.store in
-    let next : List Note → Next = due s (Read (A d.id)) in
-    let same : store_of s d.id ≡ store = store_is s d one in
-    let behind : (ns : List Note) → next (p.notes ++ ns) ≡ reading store ns =
-    λ ns. ap (then_reads (store_of s d.id)) (picking_more d.id (Begins 1) p.notes ns [] (Picked kinds.T2) p.ended) ∙ ap (λ x. reading x ns) same in
-    going_then air next (λ ns. polled (pick d.id ns)) (reading store) (moment_of old) (moment_of mid) (moment_of new) p.notes f.notes
-    (λ ns n h demand. polls_first (store_of s d.id) (pick d.id ns) n h demand) behind p.going f.going
+-- the stores of devices that are kept
+stores_kept : (ls : List Device) → map device_store ls ≡ map (λ (k : Kept). k.store) (map kept ls)
+stores_kept [] = refl
+stores_kept (d ∷ ls) = ap (λ xs. device_store d ∷ xs) (stores_kept ls)
 
--- a tag was read
-obeyed_at : (old mid new : Air Device) (d : Placed) (m : List ℕ) (writable : Bool) → IsIdle old → old.listeners ≡ T2 d ∷ [] → IsTame d
-    → Picks (moment_of old) (moment_of mid) d → Finds (selected d) (moment_of mid) (moment_of new) m → writable ≡ is_writable d.tag.store
-    → Obeyed old new (Read (A d.id)) (Message m writable)
-obeyed_at old mid new d m writable idle one tame p f access =
-    let s : State = state_at old in
-    let c : Command = Read (A d.id) in
-    let store : List ℕ = d.tag.store in
-    let g = read_going old mid new d m p f one in
+-- a tag was found and read
+pub read_obeyed : (old mid new : Air Device) (id : DeviceId) (place : ℕ) (answer : Answer) → IsIdle old
+    → (s : Selects id (moment old) (moment mid) place) → Reads (moment mid) (moment new) s.device answer → Obeyed old new (Read id) answer
+read_obeyed old mid new id place answer idle s r =
+    let c : Command = Read id in
+    let st : State = state_at old in
+    let g : Going air (due r.asked c) (moment old) (moment new) (s.notes ++ r.notes) =
+    going_then air (due r.asked c) (polling id) (waits_next r.asked) (moment old) (moment mid) (moment new) s.notes r.notes
+    (λ ns n h d. polls_first id r.asked ns n h d) (λ ns. then_waits id r.asked (s.notes ++ ns) ns (found_more id s.notes ns s.found)) s.going r.going in
     let es : List Event = g.events in
-    let same : store_of s d.id ≡ store = store_is s d one in
     let trace : new.trace ≡ es = ap (λ (t : Moment (World Device)). t.trace) g.moment ∙ ap (λ t. t ++ es) idle.quiet in
-    let world : (moment_of new).world ≡ replay air s.world es = ap (λ (t : Moment (World Device)). t.world) g.moment in
+    let world : (moment new).world ≡ replay air st.world es = ap (λ (t : Moment (World Device)). t.world) g.moment in
     let queue : new.fates ≡ queue_after old.fates es = ap (λ (t : Moment (World Device)). t.queue) g.moment in
-    let found : pick d.id (p.notes ++ f.notes) ≡ Done (Picked kinds.T2) f.notes = picking_more d.id (Begins 1) p.notes f.notes [] (Picked kinds.T2) p.ended in
-    let behind : due s c (p.notes ++ f.notes) ≡ Over =
-    ap (then_reads (store_of s d.id)) found ∙ ap (λ x. reading x f.notes) same ∙ ap demand f.ended in
-    let R : List ℕ → Type 0 = λ x. Held x m in
-    let accepted : IsSome (device_with d.id old.listeners) =
-    ap (λ ls. is_some (device_with d.id ls)) one ∙ ap (λ v. is_some (if v then Some (T2 d) else None)) (pointwise_self d.id) in
-    let law : ReadLaw s d.id es m writable =
-    record {
-      rest = f.notes;
-      found = ap (pick d.id) g.known ∙ found;
-      answered = ap (λ x. reading_at x f.notes) same ∙ f.ended;
-      held = subst R (sym same) f.held;
-      access = access ∙ ap is_writable (sym same);
-      stays = ap stable (sym world ∙ f.at.world) ∙ ap (λ ls. map device_store ls) (sym one);
+    let all : map kept new.listeners ≡ map kept old.listeners = r.same ∙ s.same in
+    let split : map kept old.listeners ≡ map kept s.stands.before ++ kept s.device ∷ map kept s.stands.behind =
+    sym s.same ∙ ap (λ (w : World Device). map kept w.listeners) s.stands.world ∙ map-over kept s.stands.before (s.device ∷ s.stands.behind) in
+    let w : IsWith old.listeners (bytes_of id) (kept s.device) = is_with old.listeners (map kept s.stands.before) (kept s.device) (map kept s.stands.behind) (bytes_of id) idle.tame split s.named in
+    let back : kept s.device ≡ kept w.device = sym w.same in
+    let P : Kept → Type 0 = λ k. Tells k.how k.size k.store answer in
+    let Q : (Device → Type 0) → Option Device → Type 0 = OfPlaced in
+    let asks : OfPlaced (λ d. AsksOf d r.asked) (device_with (bytes_of id) old.listeners) =
+    subst (λ o. OfPlaced (λ d. AsksOf d r.asked) o) (sym w.found) (subst (λ (k : Kept). IsAsked k.how k.size k.store r.asked) back r.asks) in
+    let tells : OfPlaced (λ d. TellsOf d answer) (device_with (bytes_of id) old.listeners) =
+    subst (λ o. OfPlaced (λ d. TellsOf d answer) o) (sym w.found) (subst P back r.tells) in
+    let found : IsFoundBy id (s.notes ++ r.notes) r.notes = found_more id s.notes r.notes s.found in
+    let over : due r.asked c (s.notes ++ r.notes) ≡ Over = then_waits id r.asked (s.notes ++ r.notes) r.notes found ∙ ap due_at r.answered in
+    let F : List Note → Type 0 = λ ns. IsFoundBy id ns r.notes in
+    let step : LegalStep st c es answer = record {
+      accepted = ap is_some w.found;
+      turns = g.turns;
+      fates = g.fates;
+      asked = r.asked;
+      asks = asks;
+      each = g.each;
+      over = ap (due r.asked c) g.known ∙ over;
+      answered = record {
+        rest = r.notes;
+        found = subst F (sym g.known) found;
+        answered = r.answered;
+        tells = tells;
+        stays = ap stable (sym world) ∙ stores_kept new.listeners ∙ ap (map (λ (k : Kept). k.store)) all ∙ sym (stores_kept old.listeners);
+      };
     } in
-    let step : LegalStep s c es (Message m writable) =
-    record { accepted = accepted; turns = g.turns; fates = g.fates; each = g.each; over = ap (due s c) g.known ∙ behind; answered = law } in
-    let L : List Event → Type 0 = λ t. LegalStep s c t (Message m writable) in
+    let L : List Event → Type 0 = λ t. LegalStep st c t answer in
     let S : World Device → List Fate → State = λ w q. record { world = w; queue = q } in
-    let T : List Device → Type 0 = AreTame in
     record {
       step = subst L (sym trace) step;
-      state = ap (λ w. S w new.fates) world ∙ ap (S (replay air s.world es)) queue ∙ ap (state_after s c) (sym trace);
-      fates = f.at.queue;
-      tame = subst T (sym (ap (λ (w : World Device). w.listeners) f.at.world)) (record { ident = tame.ident; four = tame.four; store = tame.store; plain = tame.plain }, refl);
+      state = ap (λ w. S w new.fates) world ∙ ap (S (replay air st.world es)) queue ∙ ap (state_after st c) (sym trace);
+      fates = r.queue;
+      tame = subst (λ ks. AreTame ks) (sym all) idle.tame;
     }
-
-pub read_obeyed : (old mid new : Air Device) (id m : List ℕ) (writable : Bool) → IsIdle old → IsSome (device_with id old.listeners)
-    → Picks (moment_of old) (moment_of mid) (the_tag old.listeners) → Finds (selected (the_tag old.listeners)) (moment_of mid) (moment_of new) m
-    → writable ≡ is_writable (the_tag old.listeners).tag.store → Obeyed old new (Read (A id)) (Message m writable)
-read_obeyed old mid new id m writable idle some p f access =
-    let o : IsOne old.listeners id = one_placed old.listeners id idle.tame some in
-    let O : List ℕ → Type 0 = λ x. Obeyed old new (Read (A x)) (Message m writable) in
-    subst O o.same (obeyed_at old mid new (the_tag old.listeners) m writable idle o.one o.tame p f access)
-
--- behind a call of polling the tag is the one of the field
-pub tag_selected : (mid : Air Device) (d : Placed) → At (moment_of mid) (selected d) → the_tag mid.listeners ≡ selected d
-tag_selected mid d at = ap (λ (w : World Device). the_tag w.listeners) at.world
 
 pub state_from-append : (s : State) (es fs : List Entry) → state_from s (es ++ fs) ≡ state_from (state_from s es) fs
 state_from-append s [] fs = refl
@@ -137,7 +157,7 @@ state_from-append s (e ∷ es) fs = state_from-append (state_after s e.command e
 pub ready_again : (a b k : Air Device) (js : List Entry) (c : Command) (answer : Answer) (e : Entry) → IsReady a js → Obeyed a b c answer
     → k ≡ record { lit = b.lit; listeners = b.listeners; fates = b.fates; trace = [] } → e.command ≡ c → e.events ≡ b.trace → IsReady k (js ++ e ∷ [])
 ready_again a b k js c answer e ready o is command events =
-    let T : List Device → Type 0 = AreTame in
+    let T : List Device → Type 0 = λ ls. AreTame (map kept ls) in
     record {
       idle = record {
         quiet = ap (λ (x : Air Device). x.trace) is;

@@ -1,7 +1,8 @@
 pub mod Words
 pub mod Spelling
 pub mod Lines
-pub mod Answering
+pub mod Placing
+pub mod Placed
 pub mod Ours
 pub mod Picking
 pub mod Asking
@@ -10,6 +11,12 @@ pub mod TagFive
 pub mod ReadingTags
 pub mod ReadingAir
 pub mod ReadingEnds
+pub mod SelectingTurns
+pub mod SelectingPlaces
+pub mod SelectingResets
+pub mod SelectingAsks
+pub mod SelectingT2
+pub mod SelectingT5
 pub mod Legality
 pub mod Limits
 pub mod Chunks

@@ -1,13 +1,11 @@
 -- The devices of the bench are listeners of this project: a Type 2 tag polls by its front, and a Type 5 tag has none.
-use Rattle.std.proofs.Common.{◌≡◌, ℕ, List, false, None, refl}
+use Rattle.std.proofs.Common.{◌≡◌, ℕ, List, false, refl}
 use Rattle.nfc_base.specs.declared.frame.Tech.TheVariants.{A}
 use Rattle.nfc_base.specs.Signal.{Signal}
 use Rattle.air_core.specs.Conversation.{AirModel}
 use Rattle.air_core.specs.World.{World}
 use Rattle.nfca_poll.specs.declared.kind.Kind.{Kind}
 use Rattle.nfca_poll.specs.declared.kind.Kind.TheVariants as kinds
-use Rattle.nfca_poll.specs.Levels.{levels}
-use Rattle.nfca_poll.specs.Calls.{call_of}
 use Rattle.nfca_poll.specs.Front.{Front, Off, Idle, Sleep, Ready, Active, is_active}
 use Rattle.nfca_poll.specs.Crowd.{AreOurs, StepsByFront}
 use Rattle.nfca_poll.specs.Muted.{mute_air}

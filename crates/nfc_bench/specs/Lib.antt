@@ -11,6 +11,7 @@ pub mod Words
 pub mod Lines
 pub mod Report
 pub mod Phases
+pub mod Choosing
 pub mod Limits
 pub mod Run
 pub mod Stops

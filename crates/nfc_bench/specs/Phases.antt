@@ -17,6 +17,7 @@ use Rattle.tag_reader.specs.declared.fault.ReadFault.TheVariants as faults
 use Rattle.tag_reader.specs.declared.how.How.{How}
 use Rattle.tag_reader.specs.declared.how.How.TheVariants.{T2, T5}
 use Rattle.nfc_bench.specs.declared.command.DeviceId.{DeviceId}
+use Rattle.nfc_bench.specs.declared.command.DeviceId.TheVariants as ids
 use Rattle.nfc_bench.specs.declared.device.Device.{Device}
 use Rattle.nfc_bench.specs.declared.entry.Answer.{Answer}
 use Rattle.nfc_bench.specs.declared.entry.Answer.TheVariants as answers
@@ -71,6 +72,15 @@ IsApart k l = IsApartAs k.how k l
 abbrev pub AreTame : List Kept → Type 0
 AreTame [] = Unit {0}
 AreTame (k ∷ ks) = IsSound k × AllByRecursion (IsApart k) ks × AreTame ks
+
+-- how a tag with an identifier is read, and what such an identifier is
+abbrev pub how_for : DeviceId → How
+how_for (ids.A id) = T2
+how_for (ids.V id) = T5 id
+
+abbrev pub IsId : DeviceId → Type 0
+IsId (ids.A id) = IsIdent id
+IsId (ids.V id) = length id ≡ id_size
 
 -- In a lit field with no fate left a device stands at a place. It is selected, and all others are aside of it.
 pub record Stands (a : Moment (World Device)) (place : ℕ) (d : Device) : Type 0 where

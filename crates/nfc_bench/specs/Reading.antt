@@ -3,7 +3,8 @@ use Rattle.std.specs.Prelude.{◌≡◌, ℕ, List, Bool, Option, Some, None, Ok
 use Rattle.nfc_base.specs.Signal.{Signal}
 use Rattle.tlv_area.specs.declared.space.Space.{Space}
 use Rattle.tlv_area.specs.declared.container.ContainerFault.TheVariants as container
-use Rattle.tlv_area.specs.Form.{Form, Faulty, Message, NoMessageTlv, BadTlv}
+use Rattle.tlv_area.specs.Form.{Faulty, Message, NoMessageTlv, BadTlv}
+use Rattle.tag_reader.specs.declared.how.How.{How}
 use Rattle.tag_reader.specs.Asked.{IsAsked}
 use Rattle.tag_reader.specs.Kinds.{area_of, IsStoreForm}
 use Rattle.nfc_bench.specs.declared.device.Device.{Device}
@@ -15,22 +16,21 @@ use Rattle.nfc_bench.specs.Device.{device_store, how_of, size_of}
 abbrev pub AsksOf : Device → List Signal → Type 0
 AsksOf d commands = IsAsked (how_of d) (size_of d) (device_store d) commands
 
--- the form of its store
-abbrev pub IsFormOf : Device → Form → Type 0
-IsFormOf d form = IsStoreForm (how_of d) (device_store d) form
-
 -- whether writing is free, by the container
-abbrev pub IsAccessOf : Device → Bool → Type 0
-IsAccessOf d writable = (space : Space) × (area_of (how_of d) (size_of d) (device_store d) ≡ Ok space) × (writable ≡ space.writable)
+abbrev pub IsAccess : How → ℕ → List ℕ → Bool → Type 0
+IsAccess how size store writable = (space : Space) × (area_of how size store ≡ Ok space) × (writable ≡ space.writable)
 
 -- What a read answers, by the form of the store.
+abbrev pub Tells : How → ℕ → List ℕ → Answer → Type 0
+Tells how size store answers.Done = ⊥
+Tells how size store (answers.Message message writable) = IsStoreForm how store (Message message) × IsAccess how size store writable
+Tells how size store answers.NotNdef = IsStoreForm how store (Faulty container.NotNdef)
+Tells how size store answers.Version = IsStoreForm how store (Faulty container.Version)
+Tells how size store answers.NoRead = IsStoreForm how store (Faulty container.NoRead)
+Tells how size store answers.Sectors = IsStoreForm how store (Faulty container.Sectors)
+Tells how size store answers.BadSize = IsStoreForm how store (Faulty container.BadSize)
+Tells how size store answers.NoMessageTlv = IsStoreForm how store NoMessageTlv
+Tells how size store answers.BadTlv = IsStoreForm how store BadTlv
+
 abbrev pub TellsOf : Device → Answer → Type 0
-TellsOf d answers.Done = ⊥
-TellsOf d (answers.Message message writable) = IsFormOf d (Message message) × IsAccessOf d writable
-TellsOf d answers.NotNdef = IsFormOf d (Faulty container.NotNdef)
-TellsOf d answers.Version = IsFormOf d (Faulty container.Version)
-TellsOf d answers.NoRead = IsFormOf d (Faulty container.NoRead)
-TellsOf d answers.Sectors = IsFormOf d (Faulty container.Sectors)
-TellsOf d answers.BadSize = IsFormOf d (Faulty container.BadSize)
-TellsOf d answers.NoMessageTlv = IsFormOf d NoMessageTlv
-TellsOf d answers.BadTlv = IsFormOf d BadTlv
+TellsOf d answer = Tells (how_of d) (size_of d) (device_store d) answer

@@ -10,3 +10,7 @@ CutsWord text word (Some rest) = words_of text ≡ word ∷ words_of rest
 -- the words aren't three
 abbrev pub NotThree : List (List ℕ) → Type 0
 NotThree ws = (a b c : List ℕ) → ws ≡ a ∷ b ∷ c ∷ [] → ⊥
+
+-- ... or four
+abbrev pub NotFour : List (List ℕ) → Type 0
+NotFour ws = (a b c d : List ℕ) → ws ≡ a ∷ b ∷ c ∷ d ∷ [] → ⊥

@@ -7,6 +7,9 @@ ghost use Rattle.nfc_base.specs.declared.frame.Tech.TheVariants as techs;
 ghost use Rattle.nfc_bench.specs.Device.{device_id, device_tech};
 ghost use Rattle.nfc_bench.specs.Legal.{IsAccepted, most_devices, device_with, memory_of, state_of};
 ghost use Rattle.nfc_bench.specs.Polling.{bytes_of};
+ghost use Rattle.t5t_tag.specs.Store.{id_size};
+ghost use Rattle.tag_reader.specs.declared.how.How.TheVariants as hows;
+ghost use Rattle.nfc_bench.specs.Phases.{how_for, IsId};
 ghost use Rattle.nfc_bench.specs.Obeying.{Obeys, IsIdle, Obeyed, state_at, obey_fault_number};
 
 use crate::command::{Command, DeviceId};
@@ -161,12 +164,22 @@ fn place_t5(
 
 /// The bytes of an identifier, and how a tag with one is read.
 fn named(id: &DeviceId) -> (&[u8], How)
-    ensures { result.0.now ≡ bytes_of id.now }
+    ensures bytes { result.0.now ≡ bytes_of id.now }
+    ensures how { result.1 ≡ how_for id.now }
+    ensures shape { IsId id.now }
 {
     match id {
         DeviceId::A(id) => (id.view(), How::T2),
-        DeviceId::V(id) => (id.as_slice(), How::T5(*id)),
+        DeviceId::V(id) => (id.as_slice(), type_5(*id)),
     }
+}
+
+/// How a Type 5 tag with this identifier is read.
+fn type_5(id: [u8; 8]) -> How
+    ensures how { result ≡ hows.T5 id }
+    ensures size { length id ≡ id_size }
+{
+    How::T5(id)
 }
 
 /// Finds and reads a tag.

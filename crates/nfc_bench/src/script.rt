@@ -7,14 +7,16 @@ ghost use Rattle.nfc_bench.specs.declared.script.LineFault.TheVariants.{Memory};
 
 mod words;
 
-use crate::command::{Command, DeviceId};
+use crate::command::Command;
 use std::alloc::{AllocError, Global};
 use thiserror::Error;
-use words::{cut_word, hex_word, ident_word, number_word, three_words};
+use words::{cut_word, device_word, four_words, hex_word, ident_word, ident_word_v, number_word, three_words};
 
-/// The blocks of a Type 2 tag that may be placed (this project's limits): its header has four, and a read names a
-/// block in one byte.
+/// The blocks of a tag that may be placed (this project's limits): the header of a Type 2 tag has four, a Type 5 tag has
+/// one, and a read names a block in one byte.
 const LEAST_BLOCKS: u16 = 4;
+
+const LEAST_BLOCKS_V: u16 = 1;
 
 const MOST_BLOCKS: u16 = 256;
 
@@ -89,10 +91,8 @@ fn read_line(alloc: Global, rest: &[u8]) -> Result<Command, LineFault>
     if more.is_some() {
         return Err(LineFault::Refused);
     }
-    match ident_word(alloc, word)? {
-        Some(id) => Ok(Command::Read {
-            id: DeviceId::A(id),
-        }),
+    match device_word(alloc, word)? {
+        Some(id) => Ok(Command::Read { id }),
         None => Err(LineFault::Refused),
     }
 }
@@ -108,6 +108,7 @@ fn place_line(alloc: Global, rest: &[u8]) -> Result<Command, LineFault>
     };
     match kind {
         b"t2" => place_t2(alloc, more),
+        b"t5" => place_t5(alloc, more),
         _ => Err(LineFault::Refused),
     }
 }
@@ -129,6 +130,35 @@ fn place_t2(alloc: Global, rest: &[u8]) -> Result<Command, LineFault>
     };
     match hex_word(alloc, head_text)? {
         Some(head) => Ok(Command::PlaceT2 { id, blocks, head }),
+        None => Err(LineFault::Refused),
+    }
+}
+
+/// `place t5 ID BLOCKS SIZE HEX`, behind its second word.
+#[tactic(auto, using(std::proofs::lemmas::Fmt::decimal_injective, crate::proofs::Spelling::four_refused))]
+fn place_t5(alloc: Global, rest: &[u8]) -> Result<Command, LineFault>
+    ensures ok { IfOk result (λ c. SpelledBy (codes "place" ∷ codes "t5" ∷ words_of rest.now) c) }
+    ensures refused { IsErrOf result LineFault.Refused → (c : Command) → SpelledBy (codes "place" ∷ codes "t5" ∷ words_of rest.now) c → ⊥ }
+{
+    let Some((id_text, blocks_text, size_text, head_text)) = four_words(rest) else {
+        return Err(LineFault::Refused);
+    };
+    let Some(id) = ident_word_v(alloc, id_text)? else {
+        return Err(LineFault::Refused);
+    };
+    let Some(blocks @ LEAST_BLOCKS_V..=MOST_BLOCKS) = number_word(alloc, blocks_text)? else {
+        return Err(LineFault::Refused);
+    };
+    let Some(size @ (4 | 8 | 16 | 32)) = number_word(alloc, size_text)? else {
+        return Err(LineFault::Refused);
+    };
+    match hex_word(alloc, head_text)? {
+        Some(head) => Ok(Command::PlaceT5 {
+            id,
+            blocks,
+            size: size as u8,
+            head,
+        }),
         None => Err(LineFault::Refused),
     }
 }
@@ -160,7 +190,20 @@ mod tests {
             ("read 0102030", 1),
             ("read 0102030G", 1),
             ("read 0102030405", 1),
-            ("read 0102030405060708", 1),
+            ("read 0102030405060708", 0),
+            ("read E00401020304050", 1),
+            ("read E0040102030405060", 1),
+            ("place t5 E004010203040506 1 4 -", 0),
+            ("place t5 e004010203040506 256 32 00", 0),
+            ("place t5 E004010203040506 0 4 -", 1),
+            ("place t5 E004010203040506 257 4 -", 1),
+            ("place t5 E004010203040506 4 5 -", 1),
+            ("place t5 E004010203040506 4 04 -", 1),
+            ("place t5 E004010203040506 4 260 -", 1),
+            ("place t5 E0040102030405 4 4 -", 1),
+            ("place t5 E004010203040506 4 4", 1),
+            ("place t5 E004010203040506 4 4 - -", 1),
+            ("place t2 E004010203040506 16 -", 1),
             ("read 88020304", 1),
             ("read 01020388050607", 1),
             ("place t2 01020304 3 -", 1),

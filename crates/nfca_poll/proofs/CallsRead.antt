@@ -1,7 +1,7 @@
 -- SDD_REQ and SEL_REQ are read as they are written.
-use Rattle.std.proofs.Common.{◌≡◌, ℕ, suc, ◌+◌, ◌-◌, ◌*◌, ◌/◌, ◌%◌, ◌<◌, ◌≤◌, List, [], ◌∷◌, ◌++◌, length, drop, get_or, Bool, true, false, ◌==◌, ◌&&◌, nat_le, if◌then◌else◌, refl, sym, ◌∙◌, ap, arith}
+use Rattle.std.proofs.Common.{◌≡◌, ℕ, suc, ◌+◌, ◌*◌, ◌≤◌, List, [], ◌∷◌, ◌++◌, length, drop, get_or, Bool, true, false, ◌==◌, ◌&&◌, nat_le, if◌then◌else◌, refl, sym, ◌∙◌, ap, arith}
 use Rattle.nfc_base.specs.Signal.{Signal}
-use Rattle.nfc_base.specs.Bits.{bits, bits_of, bit_count, packed}
+use Rattle.nfc_base.specs.Bits.{bits_of, bit_count, packed}
 use Rattle.nfca_poll.specs.Calls.{Reading, Calls, Other, Sens, All, Slp, Sdd, Sel, call_of, call_frame, sel_cmd, sel_par, all_known, is_short, is_slp, is_sdd, is_sel, is_sel_cmd, is_sdd_par, known_count, known_bits, cmd_level, named_level}
 use Rattle.nfca_poll.proofs.KnownPacks.{two_bytes, two_size}
 use Rattle.nfca_poll.proofs.HeardBits.{bits_back, count_packed}

@@ -1,7 +1,6 @@
 -- A resolution without noise picks the first in crowd order.
-use Rattle.std.proofs.Common.{◌≡◌, ◌≢◌, ℕ, ◌+◌, ◌<◌, ◌≤◌, List, [], ◌∷◌, ◌++◌, length, map, filter_map, take, drop, get_or, Bool, true, false, ◌&&◌, nat_lt, nat_le, nat_eq, ◌==◌, if◌then◌else◌, inl, inr, refl, sym, ◌∙◌, ap, subst, arith, Option, Some, None, append_assoc}
+use Rattle.std.proofs.Common.{◌≡◌, ℕ, ◌+◌, ◌<◌, ◌≤◌, List, [], ◌∷◌, ◌++◌, length, map, filter_map, take, drop, get_or, Bool, true, false, ◌&&◌, nat_le, ◌==◌, if◌then◌else◌, inl, inr, refl, sym, ◌∙◌, ap, subst, arith, Option, Some, None, append_assoc}
 use Rattle.std.specs.List.{cons_option}
-use Rattle.std.specs.Cmp.Lexicographic.{pointwise}
 use Rattle.std.proofs.lemmas.List.{length-append, append_cancel_left, length-take-le}
 use Rattle.nfc_base.specs.declared.frame.Tech.TheVariants.{A}
 use Rattle.nfc_base.specs.declared.event.Heard.{Heard}
@@ -9,21 +8,20 @@ use Rattle.nfc_base.specs.declared.event.Heard.TheVariants.{Whole, Collided}
 use Rattle.nfc_base.specs.Signal.{Signal}
 use Rattle.nfc_base.specs.Bits.{bits, bits_of, packed, of_bits}
 use Rattle.nfc_base.proofs.Packing.{packed_bits_of}
-use Rattle.air_core.specs.Joint.{Single, Clashing, joint, common_all, all_same as all_frames, same_signal}
+use Rattle.air_core.specs.Joint.{Single, Clashing, joint, common_all, all_same as all_frames}
 use Rattle.nfca_poll.specs.declared.kind.Kind.{Kind}
-use Rattle.nfca_poll.specs.declared.kind.Kind.TheVariants.{T2, T4, Peer}
 use Rattle.nfca_poll.specs.Ident.{IsIdent}
-use Rattle.nfca_poll.specs.Levels.{level, levels, cascades, bcc}
-use Rattle.nfca_poll.specs.Calls.{Reading, Calls, Sens, Sel}
-use Rattle.nfca_poll.specs.Front.{Front, Off, Idle, Sleep, Ready, Active, begins, more_levels, sel_res, sens_res}
-use Rattle.nfca_poll.specs.Poll.{Seek, Calling, Asking, Selecting, Ended, Found, BadAnswer, seek_step, completed, narrowed, goes_on, level_bits}
-use Rattle.nfca_poll.specs.Crowd.{Card, Each, with_front, is_idle, is_rest, ahead, level_bits_of, crowd_bits, IsFirst}
+use Rattle.nfca_poll.specs.Levels.{levels, bcc}
+use Rattle.nfca_poll.specs.Calls.{Reading, Calls, Sens}
+use Rattle.nfca_poll.specs.Front.{Front, Off, Idle, Sleep, Ready, Active, begins, sens_res}
+use Rattle.nfca_poll.specs.Poll.{Seek, Calling, Asking, Selecting, Ended, Found, BadAnswer, seek_step, completed, narrowed}
+use Rattle.nfca_poll.specs.Crowd.{Card, Each, with_front, is_idle, is_rest, ahead, crowd_bits, IsFirst}
 use Rattle.nfca_poll.proofs.Clashes.{wrong, wrong_back, and_both, and_make, Has, all_same, begins-append, begins_same, begins_first, begins_each, each_same, clash, same_bits, same_self}
-use Rattle.nfca_poll.proofs.Eaches.{each_map, each_with, each_has, each_front, each_back, has_middle, map_same, map_twice, map_none, IfSaid, said_map, said_same, said_each, each_said, said_has, said_none}
-use Rattle.nfca_poll.proofs.HeardBits.{bits_back, heard_of, heard_bits, joint_bits, signal_self, pointwise_path}
+use Rattle.nfca_poll.proofs.Eaches.{each_map, each_with, each_has, has_middle, map_same, map_twice, IfSaid, said_map, said_same, said_each, each_said, said_has}
+use Rattle.nfca_poll.proofs.HeardBits.{bits_back, heard_of, heard_bits, joint_bits}
 use Rattle.nfca_poll.proofs.OneLevel.{level_checks}
 use Rattle.nfca_poll.proofs.LevelFacts.{IsLevel, IsLevels, levels_are}
-use Rattle.nfca_poll.proofs.Fitting.{card_next, card_says, nth, fits, card_at, fits_level, fits_more, fits_not, fits_in, each_level, begins_split, begins_add, begins_whole, same_level, level_size as forty, level_by_bits, ahead_rest, ahead_behind, rest_at, framed, sdd_at, sel_at, asked_next, asked_says, sel_next, sel_says, fits_snoc, snoc_fits, fits_last, asked_if}
+use Rattle.nfca_poll.proofs.Fitting.{card_next, card_says, nth, fits, card_at, fits_level, fits_more, fits_not, fits_in, each_level, begins_split, begins_add, same_level, level_size as forty, ahead_rest, ahead_behind, rest_at, framed, sdd_at, asked_next, asked_says, asked_if}
 
 -- what a reader hears of some devices, without noise
 abbrev pub hears : Reading → List Card → Heard
@@ -204,7 +202,7 @@ framed_all : (p : Card → Option (List Bool)) (cs : List Card) → filter_map (
 framed_all p [] = refl
 framed_all p (c ∷ cs) = ap (cons_option (framed (p c))) (framed_all p cs) ∙ cons_framed (p c) (filter_map p cs)
 
-nth_level : (done : List (List ℕ)) (p : List Bool) (ls : List (List ℕ)) → IsLevels ls → fits done p ls ≡ true → IsLevel (nth ls (length done))
+pub nth_level : (done : List (List ℕ)) (p : List Bool) (ls : List (List ℕ)) → IsLevels ls → fits done p ls ≡ true → IsLevel (nth ls (length done))
 nth_level done p ls l f = each_level IsLevel ls (length done) l.each (fits_in done p ls f)
 
 good_answer : (done : List (List ℕ)) (known : List Bool) (m c : Card) → IsIdent m.id → IsIdent c.id → fits done known (levels m.id) ≡ true

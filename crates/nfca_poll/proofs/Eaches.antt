@@ -1,5 +1,5 @@
 -- Each element of a list, and answers of a list of devices.
-use Rattle.std.proofs.Common.{◌≡◌, List, [], ◌∷◌, ◌++◌, map, filter_map, true, inl, inr, refl, sym, ◌∙◌, ap, subst, Option, Some, None}
+use Rattle.std.proofs.Common.{◌≡◌, List, [], ◌∷◌, ◌++◌, map, filter_map, inl, inr, refl, sym, ◌∙◌, ap, subst, Option, Some, None}
 use Rattle.std.specs.List.{cons_option}
 use Rattle.nfca_poll.specs.Crowd.{Each}
 use Rattle.nfca_poll.proofs.Clashes.{Has}
@@ -66,7 +66,7 @@ pub said_each : {X Y : Type 0} (P : Y → Type 0) (p : X → Option Y) (cs : Lis
 said_each P p [] e = tt
 said_each P p (c ∷ cs) e = onto_each P (p c) (filter_map p cs) e.0 (said_each P p cs e.1)
 
-onto_back : {Y : Type 0} (P : Y → Type 0) (o : Option Y) (gs : List Y) → Each P (cons_option o gs) → IfSaid P o × Each P gs
+pub onto_back : {Y : Type 0} (P : Y → Type 0) (o : Option Y) (gs : List Y) → Each P (cons_option o gs) → IfSaid P o × Each P gs
 onto_back P None gs e = (tt, e)
 onto_back P (Some g) gs e = e
 
@@ -82,4 +82,3 @@ pub said_has : {X Y : Type 0} (p : X → Option Y) (m : X) (g : Y) (cs : List X)
 said_has p m g [] h s = h
 said_has {Y = Y} p m g (c ∷ cs) (inl q) s = let P : Option Y → Type 0 = λ o. Has g (cons_option o (filter_map p cs)) in subst P (sym (sym (ap p q) ∙ s)) (inl refl)
 said_has p m g (c ∷ cs) (inr h) s = onto_has g (p c) (filter_map p cs) (said_has p m g cs h s)
-

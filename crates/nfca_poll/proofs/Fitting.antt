@@ -1,5 +1,5 @@
 -- Levels that fit, and what a device does that is asked.
-use Rattle.std.proofs.Common.{◌≡◌, ℕ, zero, suc, ◌+◌, ◌-◌, ◌<◌, ◌≤◌, List, [], ◌∷◌, ◌++◌, length, take, drop, get_or, Bool, true, false, ◌&&◌, ◌==◌, nat_lt, nat_eq, if◌then◌else◌, refl, sym, ◌∙◌, ap, subst, arith, Option, Some, None, append_assoc}
+use Rattle.std.proofs.Common.{◌≡◌, ℕ, zero, suc, ◌+◌, ◌-◌, ◌<◌, ◌≤◌, List, [], ◌∷◌, ◌++◌, length, take, drop, get_or, Bool, true, false, ◌&&◌, nat_lt, nat_eq, if◌then◌else◌, refl, sym, ◌∙◌, ap, subst, arith, Option, Some, None, append_assoc}
 use Rattle.std.specs.Cmp.Lexicographic.{pointwise}
 use Rattle.nfc_base.specs.declared.frame.Tech.TheVariants.{A}
 use Rattle.nfc_base.specs.Signal.{Signal}
@@ -8,7 +8,7 @@ use Rattle.nfc_base.proofs.Packing.{length_of_bits, packed_bits_of}
 use Rattle.nfca_poll.specs.declared.kind.Kind.{Kind}
 use Rattle.nfca_poll.specs.Levels.{level, levels}
 use Rattle.nfca_poll.specs.Calls.{Reading, Calls, Sdd, Sel}
-use Rattle.nfca_poll.specs.Front.{Front, Off, Idle, Sleep, Ready, Active, begins, level_at, more_levels, sel_res, home, taken, taken_answer, front_next, front_says}
+use Rattle.nfca_poll.specs.Front.{Front, Off, Idle, Sleep, Ready, Active, begins, level_at, more_levels, sel_res, taken, taken_answer, front_next, front_says}
 use Rattle.nfca_poll.specs.Crowd.{Card, Each, with_front, is_idle, is_rest, ahead, level_bits_of}
 use Rattle.nfca_poll.proofs.Clashes.{wrong, and_both, and_make, begins_through}
 use Rattle.nfca_poll.proofs.HeardBits.{pointwise_same, pointwise_path}

@@ -1,5 +1,5 @@
 -- What the levels of an identifier are.
-use Rattle.std.proofs.Common.{◌≡◌, ℕ, zero, suc, ◌+◌, ◌<◌, ◌≤◌, List, [], ◌∷◌, length, take, drop, get_or, Bool, true, false, ◌==◌, nat_lt, refl, sym, ◌∙◌, ap, inl, inr, arith}
+use Rattle.std.proofs.Common.{◌≡◌, ℕ, zero, suc, ◌+◌, ◌<◌, ◌≤◌, List, [], ◌∷◌, length, take, get_or, false, ◌==◌, nat_lt, refl, inl, inr, arith}
 use Rattle.nfca_poll.specs.Ident.{IsIdent, cascade_tag}
 use Rattle.nfca_poll.specs.Levels.{level, levels, cascades}
 use Rattle.nfca_poll.specs.Crowd.{Each}

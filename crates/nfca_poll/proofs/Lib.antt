@@ -16,3 +16,9 @@ pub mod LevelFacts
 pub mod CallsRead
 pub mod Fitting
 pub mod Choosing
+pub mod Selects
+pub mod Crowding
+pub mod FirstPicked
+pub mod NobodyIdle
+pub mod FewAsked
+pub mod LostField

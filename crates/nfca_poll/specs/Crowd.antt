@@ -16,7 +16,7 @@ use Rattle.nfca_poll.specs.declared.fault.PollFault.TheVariants.{Nobody, Memory}
 use Rattle.nfca_poll.specs.Ident.{IsIdent}
 use Rattle.nfca_poll.specs.Levels.{levels}
 use Rattle.nfca_poll.specs.Calls.{call_of}
-use Rattle.nfca_poll.specs.Front.{Front, Off, Idle, Sleep, Ready, Active, front_says, front_next, is_active, is_ready}
+use Rattle.nfca_poll.specs.Front.{Front, Off, Idle, Sleep, Ready, Active, front_says, front_next, is_active}
 
 abbrev pub Each : {X : Type 0} → (X → Type 0) → List X → Type 0
 Each P [] = Unit {0}
@@ -100,9 +100,15 @@ module _ {L : Type 0} {m : Machine L} {identifier : L → List ℕ} (ours : AreO
   abbrev pub cards : List L → List Card
   cards ls = filter_map card_if ls
 
-  -- A call that met no noise, or want of memory, picked the first of the crowd that was idle, and left it active and all
-  -- others as they were. Where none was idle it found nobody, and left all as they were.
+  -- A call that met neither noise nor want of memory picked the first of the crowd that was idle, and left it active and
+  -- all others as they were.
   abbrev pub PicksFirst : Air L → Result Picked PollFault → Air L → Type 0
   PicksFirst old r new =
       (a : List Card) (c : Card) (b : List Card) → cards old.listeners ≡ a ++ c ∷ b → IsFirst a c b → noise (drop (length old.trace) new.trace) ≡ 0
       → (r ≡ Err Memory) ⊎ ((r ≡ Ok (record { id = c.id; kind = c.kind })) × (cards new.listeners ≡ a ++ with_front c (Active false) ∷ b))
+
+  -- Where none was idle, ready or active, such a call found nobody, and left all as they were.
+  abbrev pub FindsNobody : Air L → Result Picked PollFault → Air L → Type 0
+  FindsNobody old r new =
+      Each (λ c. (is_rest c.front ≡ true) × (is_idle c.front ≡ false)) (cards old.listeners) → noise (drop (length old.trace) new.trace) ≡ 0
+      → (r ≡ Err Memory) ⊎ ((r ≡ Err Nobody) × (cards new.listeners ≡ cards old.listeners))

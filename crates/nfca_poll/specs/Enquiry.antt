@@ -1,6 +1,7 @@
 -- A call by which a reader asks again and again: each request and the answer of the call, by what was heard (this
 -- project's own form of a dialogue).
-use Rattle.std.specs.Prelude.{◌≡◌, List, [], ◌∷◌, Option, Some, None, Result, Err}
+use Rattle.std.specs.Prelude.{◌≡◌, ◌⊎◌, ◌<◌, List, [], ◌∷◌, length, drop, false, Option, Some, None, Result, Err}
+use Rattle.nfc_base.specs.Trace.{breaks}
 use Rattle.nfc_base.specs.declared.event.Heard.{Heard}
 use Rattle.air_core.specs.World.{Machine}
 use Rattle.air_core.specs.Turn.{Air, moment}
@@ -25,6 +26,10 @@ pub data Progress (S : Type 0) : Type 0 where
 abbrev pub or_memory : {X : Type 0} → Option (Result X PollFault) → Result X PollFault
 or_memory None = Err Memory
 or_memory (Some r) = r
+
+-- The field was dark at the start, or a Break was used since.
+abbrev pub LosesByBreak : {L X : Type 0} → Air L → Result X PollFault → Air L → Type 0
+LosesByBreak old r new = r ≡ Err FieldLost → (old.lit ≡ false) ⊎ (0 < breaks (drop (length old.trace) new.trace))
 
 module _ {S X : Type 0} (e : Enquiry S X) where
   -- from here on, by what the reader knows since

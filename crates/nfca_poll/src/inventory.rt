@@ -2,7 +2,7 @@
 
 ghost use Rattle.std.specs.Prelude.{◌≡◌, ◌↔◌, Bool, Err, IfSome, IsSome};
 ghost use Rattle.nfca_poll.specs.declared.fault.PollFault.TheVariants.{FieldLost};
-ghost use Rattle.nfca_poll.specs.Enquiry.{Enquires};
+ghost use Rattle.nfca_poll.specs.Enquiry.{Enquires, LosesByBreak};
 ghost use Rattle.nfca_poll.specs.Inventory.{inventory_all, inventory_of, inventory, picking_v, is_present, answered_id};
 
 use crate::fault::PollFault;
@@ -60,6 +60,7 @@ fn present_id(answer: &Frame) -> Option<[u8; 8]>
 /// Asks which NFC-V devices are in a lit field, in up to four tries. In the dark it asks nothing.
 pub fn inventory_one<L: Listener>(field: &mut Field<L>) -> Result<Vcrowd, PollFault>
     ensures dark { field.old.lit ≡ Bool.false → (result ≡ Err FieldLost) × (field.new ≡ field.old) }
+    ensures lost { LosesByBreak field.old result field.new }
     ensures turns { field.old.lit ≡ Bool.true → Enquires inventory L.machine field.old result field.new }
 {
     if !field.is_lit() {
@@ -89,6 +90,7 @@ pub fn inventory_one<L: Listener>(field: &mut Field<L>) -> Result<Vcrowd, PollFa
 /// Asks for the NFC-V device with this identifier, high byte first, in up to four tries. In the dark it asks nothing.
 pub fn pick_v<L: Listener>(field: &mut Field<L>, id: [u8; 8]) -> Result<(), PollFault>
     ensures dark { field.old.lit ≡ Bool.false → (result ≡ Err FieldLost) × (field.new ≡ field.old) }
+    ensures lost { LosesByBreak field.old result field.new }
     ensures turns { field.old.lit ≡ Bool.true → Enquires (picking_v id) L.machine field.old result field.new }
 {
     if !field.is_lit() {

@@ -1,9 +1,10 @@
-//! NFC-A from the reader's side and from the listener's: identifiers, and how a reader finds the devices in its field
-//! (ISO/IEC 14443-3; NFC Forum Digital Protocol).
+//! NFC-A from the reader's side and from the listener's: identifiers, the front of a device, and how a reader finds the
+//! devices in its field (ISO/IEC 14443-3; NFC Forum Digital Protocol); beside it inventory of NFC-V (ISO/IEC 15693-3).
 //!
-//! `ident` has the identifier of a device and `kind` what a device is; `call` reads the requests of a reader, and
-//! `level` is a cascade level that they ask for. The definitions of the listener's front and of polling stand in
-//! `specs/`; their calls will stand here too.
+//! Of a listener: `ident` has its identifier, `level` a cascade level of it, `kind` what it is, `call` reads a reader's
+//! requests, and `front` answers them over the machine of `upper`. Of a reader: `requests` has the frames that it sends,
+//! `known` the bits of a level that it knows, `seeking` how a resolution goes on by what is heard, and `resolution` makes
+//! one in a field; `inventory` has the two calls for NFC-V.
 #![tactic(auto)]
 
 mod call;

@@ -1,7 +1,9 @@
 //! One resolution: which device of a field is the first in crowd order, bit by bit.
 
-ghost use Rattle.std.specs.Prelude.{◌≡◌, Bool, Err};
-ghost use Rattle.nfca_poll.specs.Enquiry.{Enquires};
+ghost use Rattle.std.specs.Prelude.{◌≡◌, length, drop, Bool, Err};
+ghost use Rattle.nfca_poll.specs.Crowd.{AreOurs, PicksFirst, FindsNobody};
+ghost use Rattle.nfca_poll.specs.Enquiry.{Enquires, LosesByBreak};
+ghost use Rattle.nfca_poll.specs.Counting.{AsksFew};
 ghost use Rattle.nfca_poll.specs.Seeking.{resolution};
 ghost use Rattle.nfca_poll.specs.declared.fault.PollFault.TheVariants.{FieldLost};
 
@@ -12,9 +14,14 @@ use air_core::{Field, Listener};
 
 /// Finds and selects one device: asks for presence, then level by level for the bits of its identifier, with bit 1 where
 /// answers differ (NFC Forum Digital Protocol; the choice of 1 and four presence requests are this project's own).
-/// It takes a lit field; in the dark it asks nothing.
+/// It takes a lit field; in the dark it asks nothing. Over this project's listeners, where none is ready or active and no
+/// noise is met, it picks the first of the crowd that is idle.
 pub fn resolve<L: Listener>(field: &mut Field<L>) -> Result<Picked, PollFault>
     ensures dark { field.old.lit ≡ Bool.false → (result ≡ Err FieldLost) × (field.new ≡ field.old) }
+    ensures few { AsksFew (drop (length field.old.trace) field.new.trace) }
+    ensures lost { LosesByBreak field.old result field.new }
+    ensures first { field.old.lit ≡ Bool.true → (ours : AreOurs L.machine L.identifier) → PicksFirst ours field.old result field.new }
+    ensures nobody { field.old.lit ≡ Bool.true → (ours : AreOurs L.machine L.identifier) → FindsNobody ours field.old result field.new }
     ensures turns { field.old.lit ≡ Bool.true → Enquires resolution L.machine field.old result field.new }
 {
     if !field.is_lit() {

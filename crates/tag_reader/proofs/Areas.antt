@@ -1,23 +1,22 @@
 -- The area that a store's container names, and which READs it is due to ask for.
-use Rattle.std.proofs.Common.{◌≡◌, ℕ, suc, ◌+◌, ◌-◌, ◌*◌, ◌<◌, ◌≤◌, ◌⊎◌, inl, inr, Bool, true, false, List, ◌++◌, length, take, drop, refl, sym, ◌∙◌, ap, subst, lit≤, arith}
-use Rattle.std.specs.Prelude.{◌/◌, ◌%◌, ◌==◌, nat_lt, not, min, slice_index, Result, Ok, Err, Option, Some, None}
+use Rattle.std.proofs.Common.{◌≡◌, ℕ, ◌+◌, ◌*◌, ◌<◌, ◌≤◌, inl, inr, List, length, take, refl, ap, subst, arith}
+use Rattle.std.specs.Prelude.{◌/◌, ◌%◌, ◌==◌, nat_lt, slice_index, Ok, Option, Some, None}
 use Rattle.std.proofs.lemmas.Bool.{cases_lt, cases_Bool, ltb-false, eqb-true, eqb-false}
-use Rattle.std.proofs.lemmas.List.{length-take-le, take-append-le, get_or-take}
+use Rattle.std.proofs.lemmas.List.{length-take-le, get_or-take}
 use Rattle.std.proofs.Math.Nat.{div-add-mod, mul-le-mul_left, lt_of_mul-lt-mul_left}
-use Rattle.t2t_tag.specs.Store.{block_count, IsT2Store}
+use Rattle.t2t_tag.specs.Store.{IsT2Store}
 use Rattle.t5t_tag.specs.Store.{IsT5Store, IsBlockSize}
 use Rattle.tlv_area.specs.declared.space.Space.{Space}
 use Rattle.tlv_area.specs.declared.container.ContainerFault.{ContainerFault}
 use Rattle.tlv_area.specs.Layout.{IsArea}
-use Rattle.tlv_area.specs.Form as form
-use Rattle.tlv_area.specs.Containers.{first_fault, unless, t2_faults, t2_space, t2_container, t5_faults, t5_space, t5_container, high_nibble}
+use Rattle.tlv_area.specs.Containers.{first_fault, unless, t2_space, t2_container, t5_faults, t5_space, t5_container, high_nibble}
 use Rattle.tlv_area.specs.Stores.{four_bytes, cut, cut_by}
 use Rattle.tlv_area.proofs.Cuts.{none_unknown}
 use Rattle.tag_reader.specs.declared.how.How.{How}
 use Rattle.tag_reader.specs.declared.how.How.TheVariants.{T2, T5}
 use Rattle.tag_reader.specs.Kinds.{IsStore, area_of}
 use Rattle.tag_reader.specs.Asked.{NeedsMore, IsDue}
-use Rattle.tag_reader.specs.Steps.{rolling, IsAreaOf, IsInReach, HasNumber, HoldsContainer}
+use Rattle.tag_reader.specs.Steps.{IsInReach, HasNumber, HoldsContainer}
 
 -- what a Type 5 store is, in numbers
 pub record Sizes (size : ℕ) (store : List ℕ) : Type 0 where

@@ -1,8 +1,8 @@
 -- The bytes that READs give, in their order.
-use Rattle.std.proofs.Common.{◌≡◌, ℕ, suc, ◌+◌, ◌-◌, ◌*◌, ◌<◌, ◌≤◌, ◌⊎◌, inl, inr, List, ◌++◌, length, take, drop, refl, sym, ◌∙◌, ap, subst, lit≤, arith}
-use Rattle.std.specs.Prelude.{◌/◌, ◌%◌, min}
+use Rattle.std.proofs.Common.{◌≡◌, ℕ, ◌+◌, ◌-◌, ◌*◌, ◌<◌, ◌≤◌, ◌⊎◌, inl, inr, List, ◌++◌, length, take, drop, refl, sym, ◌∙◌, ap, lit≤, arith}
+use Rattle.std.specs.Prelude.{◌%◌, min}
 use Rattle.std.proofs.lemmas.Bool.{cases_lt}
-use Rattle.std.proofs.lemmas.List.{take-take, take-append-le, take-append-drop, take_all, length-take-le, length-append, length-drop, drop-append-le, drop-drop, get_or-take}
+use Rattle.std.proofs.lemmas.List.{take-take, take-append-le, take_all, length-take-le, length-drop, drop-append-le, drop-drop}
 use Rattle.std.proofs.Math.Seq.{take-add, drop-append-add}
 use Rattle.std.proofs.Math.Nat.{mod-eq_of_lt, mod-eq-sub-mod}
 use Rattle.nfc_base.specs.Blocks.{block_of}

@@ -1,9 +1,9 @@
 -- What the answers to READs tell of a store.
-use Rattle.std.proofs.Common.{◌≡◌, ℕ, suc, ◌+◌, ◌-◌, ◌*◌, ◌<◌, ◌≤◌, inl, inr, Bool, true, false, List, ◌++◌, length, take, drop, refl, sym, ◌∙◌, ap, subst, arith}
-use Rattle.std.specs.Prelude.{◌/◌, ◌%◌, nat_le, if◌then◌else◌, Result, Ok, Err}
+use Rattle.std.proofs.Common.{◌≡◌, ℕ, ◌+◌, ◌*◌, ◌<◌, ◌≤◌, inl, inr, Bool, true, false, List, length, take, drop, sym, ◌∙◌, ap, subst, arith}
+use Rattle.std.specs.Prelude.{◌%◌, nat_le, if◌then◌else◌, Result, Ok}
 use Rattle.std.proofs.lemmas.Bool.{cases_Bool, leb-true, leb-false}
 use Rattle.std.proofs.lemmas.List.{length-append, length-drop, length-take-le}
-use Rattle.std.proofs.Math.Nat.{lt_of_mul-lt-mul_left, mul-le-mul_left}
+use Rattle.std.proofs.Math.Nat.{mul-le-mul_left}
 use Rattle.nfc_base.specs.Signal.{Signal}
 use Rattle.nfc_base.specs.Blocks.{block_of}
 use Rattle.t2t_tag.specs.Step.{four_blocks}
@@ -12,7 +12,6 @@ use Rattle.t2t_tag.specs.declared.answer.T2Answer.TheVariants as t2_says
 use Rattle.t5t_tag.specs.Store.{blocks_in}
 use Rattle.t5t_tag.specs.Step.{no_block}
 use Rattle.t5t_tag.specs.Spelling as t5
-use Rattle.t5t_tag.specs.declared.answer.T5Answer.{T5Answer}
 use Rattle.t5t_tag.specs.declared.answer.T5Answer.TheVariants as t5_says
 use Rattle.t5t_tag.proofs.Stores.{block_room, length_block}
 use Rattle.tag_reader.specs.declared.how.How.{How}
@@ -20,7 +19,7 @@ use Rattle.tag_reader.specs.declared.how.How.TheVariants.{T2, T5}
 use Rattle.tag_reader.specs.declared.fault.ReadFault.{ReadFault}
 use Rattle.tag_reader.specs.declared.told.Told.{Told}
 use Rattle.tag_reader.specs.declared.told.Told.TheVariants.{Bytes, Ended}
-use Rattle.tag_reader.specs.Kinds.{IsStore, reply, block_answer}
+use Rattle.tag_reader.specs.Kinds.{IsStore, reply}
 use Rattle.tag_reader.specs.Steps.{rolling, IsInReach, TellsNext}
 use Rattle.tag_reader.proofs.Bytes.{four_rolling, part_rolls}
 use Rattle.tag_reader.proofs.Areas.{sizes}

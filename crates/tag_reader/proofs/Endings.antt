@@ -1,10 +1,8 @@
 -- How a reading ends.
-use Rattle.std.proofs.Common.{◌≡◌, ℕ, zero, suc, ◌+◌, ◌-◌, ◌*◌, ◌<◌, ◌≤◌, inl, inr, ◌⊎◌, Bool, true, false, List, [], ◌∷◌, ◌++◌, length, take, drop, map, refl, sym, ◌∙◌, ap, subst, append-nil, arith}
-use Rattle.std.specs.Prelude.{min, slice_index, Option, Some, None, Result, Ok, Err}
-use Rattle.std.proofs.lemmas.Bool.{cases_lt}
-use Rattle.std.proofs.lemmas.List.{length-append, length-take-le, take-append-drop, take-append-le, take_all, length-take, get_or_append_left}
+use Rattle.std.proofs.Common.{◌≡◌, ℕ, suc, ◌+◌, ◌*◌, ◌<◌, ◌≤◌, inl, inr, ◌⊎◌, true, false, List, [], ◌∷◌, ◌++◌, length, take, drop, refl, sym, ◌∙◌, ap, subst, append-nil, arith}
+use Rattle.std.specs.Prelude.{min, slice_index, Some, None, Result, Ok, Err}
+use Rattle.std.proofs.lemmas.List.{length-append, length-take-le, take_all, length-take, get_or_append_left}
 use Rattle.std.proofs.Math.Seq.{take-append_seam}
-use Rattle.nfc_base.specs.Signal.{Signal}
 use Rattle.nfc_base.specs.TagLinks.{LinkView, AskCause}
 use Rattle.nfc_base.specs.declared.tag_link.AskFault.{AskFault}
 use Rattle.nfc_base.specs.declared.tag_link.AskFault.TheVariants as ask
@@ -26,14 +24,13 @@ use Rattle.tag_reader.specs.declared.how.How.{How}
 use Rattle.tag_reader.specs.declared.how.How.TheVariants.{T2, T5}
 use Rattle.tag_reader.specs.declared.fault.ReadFault.{ReadFault}
 use Rattle.tag_reader.specs.declared.fault.ReadFault.TheVariants as fault
-use Rattle.tag_reader.specs.Kinds.{IsTag, IsStore, IsStoreForm, area_of, command, first}
-use Rattle.tag_reader.specs.Asked.{IsDue, AreDue, NeedsMore, IsAsked}
-use Rattle.tag_reader.specs.Calls.{Stays, last_of, HasAsked, HasAskedAll, ByLink}
-use Rattle.tag_reader.specs.Reading.{IsReadFault, is_told, IsToldOrMemory, IsCalm, OnTold}
-use Rattle.tag_reader.specs.Steps.{rolling, Answers, Learns, Fails, Knows, Walks, IsLinkFault, IsInReach, IsMapFound, Reads, IsCutFault, of_link, of_container}
-use Rattle.tag_reader.proofs.Bytes.{front_is}
+use Rattle.tag_reader.specs.Kinds.{IsStore, IsStoreForm, area_of, first}
+use Rattle.tag_reader.specs.Asked.{IsDue, NeedsMore}
+use Rattle.tag_reader.specs.Calls.{Stays, HasAsked, HasAskedAll, GoesOn, ByLink}
+use Rattle.tag_reader.specs.Reading.{IsReadFault, is_told, IsToldOrMemory, IsCalm}
+use Rattle.tag_reader.specs.Steps.{Answers, Fails, Knows, Walks, IsLinkFault, IsInReach, IsMapFound, Reads, IsCutFault, of_link, of_container}
 use Rattle.tag_reader.proofs.Areas.{sizes, t5_cut, named, some_size, needs_short, due_reach}
-use Rattle.tag_reader.proofs.Knowing.{first_more, last_more, due_more, answered_more, stays_on, walk_front, store_goes_on, read_goes_on}
+use Rattle.tag_reader.proofs.Knowing.{last_more, due_more, answered_more, stays_on, goes_on_on, walk_front, store_goes_on, read_goes_on}
 
 -- what a settled walk over a store tells of it
 abbrev pub TellsStore : How → List ℕ → Walk → Type 0
@@ -114,6 +111,7 @@ ends_container how size a b known f k has = record {
   stays = k.stays;
   asked = knows_asked how size a b known 0 k;
   whole = λ told. knows_all how size a b known 0 k none;
+  goes_on = λ told. k.goes_on;
   tells = container_fault how size a.state.store a b f has;
   calm = λ begun lit quiet. inl (container_told f);
 }
@@ -230,6 +228,7 @@ ends_first how size a b known e f = record {
     | inr one ↦ record { count = 1; each = λ k low. inl (omega arith); answered = one.0; last = inl one.1 }
   ];
   whole = untold e (HasAskedAll how size a.state.store a b) (link_untold a b e f.fault');
+  goes_on = untold e (GoesOn a b) (link_untold a b e f.fault');
   tells = link_fault how a.state.store a b e f.fault';
   calm = λ begun lit quiet. inr (f.calm begun lit quiet);
 }
@@ -238,7 +237,7 @@ ends_first how size a b known e f = record {
 pub ends_later : (how : How) (size : ℕ) (a b c : LinkView) (known known' : List ℕ) (n : ℕ) (e : ReadFault) → Knows how size a b known n →
     IsDue how size a.state.store (n + 1) → Fails how (n + 1) b c e → Reads how size a c known' (Err e)
 ends_later how size a b c known known' n e k due f =
-    let fault' = fault_on a b c e k.stays k.over k.lit f.fault' in
+    let fault' = fault_on a b c e k.stays k.goes_on.over k.goes_on.lit f.fault' in
     record {
       stays = stays_on a b c k.stays f.stays;
       asked = elim f.asked [
@@ -256,8 +255,9 @@ ends_later how size a b c known known' n e k due f =
         }
       ];
       whole = untold e (HasAskedAll how size a.state.store a c) (link_untold a c e fault');
+      goes_on = untold e (GoesOn a c) (link_untold a c e fault');
       tells = link_fault how a.state.store a c e fault';
-      calm = λ begun lit quiet. inr (f.calm k.over k.lit (omega (arith, quiet, k.stays.rises.noise, f.stays.rises.noise)));
+      calm = λ begun lit quiet. inr (f.calm k.goes_on.over k.goes_on.lit (omega (arith, quiet, k.stays.rises.noise, f.stays.rises.noise)));
     }
 
 -- the walk over what is known needs more
@@ -351,6 +351,7 @@ ends_cut how size a b c known space n e is walks m answers end cut' =
         all = record { count = n + 1 + 1; list = refl; each = each; no_more = none };
         answered = answered;
       };
+      goes_on = λ told. goes_on_on a b c k.goes_on answers.goes_on;
       tells = cut_told how size a c known space e (n + 1) is (due_reach how size a.state.store (n + 1) is (inr m)) end walks.area ends cut';
       calm = λ begun lit quiet. inl (cut_is_told space known e cut');
     }

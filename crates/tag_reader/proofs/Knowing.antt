@@ -1,8 +1,8 @@
 -- A reading under way.
-use Rattle.std.proofs.Common.{◌≡◌, ℕ, zero, suc, ◌+◌, ◌-◌, ◌*◌, ◌<◌, ◌≤◌, inl, inr, ◌⊎◌, true, false, List, [], ◌∷◌, ◌++◌, length, take, drop, refl, sym, ◌∙◌, ap, subst, append_assoc, append-nil, arith}
-use Rattle.std.specs.Prelude.{min, Option, Some, None, Result, Ok, Err}
+use Rattle.std.proofs.Common.{◌≡◌, ℕ, suc, ◌+◌, ◌*◌, ◌<◌, ◌≤◌, inl, inr, ◌⊎◌, true, List, [], ◌∷◌, ◌++◌, length, take, drop, sym, ◌∙◌, ap, subst, append_assoc, arith}
+use Rattle.std.specs.Prelude.{min, Some, Ok}
 use Rattle.std.proofs.lemmas.Bool.{cases_lt}
-use Rattle.std.proofs.lemmas.List.{length-append, length-take-le, take-append-drop, take-take}
+use Rattle.std.proofs.lemmas.List.{take-append-drop, take-take}
 use Rattle.std.proofs.Math.Nat.{lt_of_mul-lt-mul_left, mul-le-mul_left}
 use Rattle.nfc_base.specs.Signal.{Signal}
 use Rattle.nfc_base.specs.TagLinks.{LinkView, TagState, MayAsk}
@@ -12,10 +12,10 @@ use Rattle.tag_reader.specs.declared.how.How.{How}
 use Rattle.tag_reader.specs.declared.how.How.TheVariants.{T2, T5}
 use Rattle.tag_reader.specs.Kinds.{IsTag, IsStore, IsNamed, Steps, area_of, command, first}
 use Rattle.tag_reader.specs.Asked.{IsDue, AreDue}
-use Rattle.tag_reader.specs.Calls.{Stays, last_of}
-use Rattle.tag_reader.specs.Steps.{rolling, Answers, Learns, Knows, IsAreaOf, Walks}
+use Rattle.tag_reader.specs.Calls.{Stays, GoesOn, last_of}
+use Rattle.tag_reader.specs.Steps.{rolling, Answers, Learns, Knows, Walks}
 use Rattle.tag_reader.proofs.Bytes.{front_is, more_known}
-use Rattle.tag_reader.proofs.Areas.{sizes, t2_area, named, first_within, some_size}
+use Rattle.tag_reader.proofs.Areas.{sizes, t2_area, named}
 
 -- one more
 pub first_more : (how : How) (n : ℕ) → first how (n + 1) ≡ first how n ++ command how n ∷ []
@@ -44,6 +44,9 @@ stays_on a b c p q = record {
   rises = rises_on a b c p.rises q.rises;
 }
 
+pub goes_on_on : (a b c : LinkView) → GoesOn a b → GoesOn b c → GoesOn a c
+goes_on_on a b c p q = record { over = q.over; lit = q.lit; counts = q.counts ∙ p.counts }
+
 -- the tag stays one of its kind
 pub tag_stays : (how : How) (size : ℕ) (a b : LinkView) → IsTag how size a → Stays a b → IsTag how size b
 tag_stays how size a b is s = record {
@@ -65,8 +68,7 @@ knows_first how size a b known is answers learns =
     record {
       stays = answers.stays;
       before = answers.before;
-      over = answers.over;
-      lit = answers.lit;
+      goes_on = answers.goes_on;
       each = λ k low. inl (omega arith);
       answered = answers.answered;
       last = answers.last;
@@ -82,8 +84,7 @@ knows_more how size a b c known known' n k due answers learns =
     record {
       stays = stays;
       before = k.before;
-      over = answers.over;
-      lit = answers.lit;
+      goes_on = goes_on_on a b c k.goes_on answers.goes_on;
       each = due_more how size a.state.store (n + 1) k.each due;
       answered = answered_more how a.answered b.answered c.answered (n + 1) k.answered answers.answered;
       last = answers.last;

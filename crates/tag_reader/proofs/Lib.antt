@@ -7,3 +7,4 @@ pub mod Knowing
 pub mod Endings
 pub mod Turns
 pub mod Lists
+pub mod Cards

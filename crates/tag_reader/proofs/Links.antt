@@ -1,19 +1,17 @@
 -- One READ on a link.
-use Rattle.std.proofs.Common.{◌≡◌, ◌≢◌, ℕ, inl, inr, false, ◌⊎◌, List, [], ◌∷◌, ◌++◌, refl, sym, ◌∙◌, ap, subst}
-use Rattle.std.specs.Prelude.{Option, Some, None, Result, Ok, Err}
+use Rattle.std.proofs.Common.{◌≡◌, ◌≢◌, ℕ, inl, inr, false, ◌⊎◌, List, [], ◌∷◌, refl, sym, ◌∙◌, ap, subst}
+use Rattle.std.specs.Prelude.{Option, Some, None, Result, Err}
 use Rattle.std.specs.List.{AllByRecursion}
 use Rattle.nfc_base.specs.Signal.{Signal}
 use Rattle.nfc_base.specs.declared.tag_link.AskFault.{AskFault}
 use Rattle.nfc_base.specs.declared.tag_link.AskFault.TheVariants as ask
-use Rattle.nfc_base.specs.TagLinks.{TagState, TagStep, LinkView, passed, after_all, Leads, Obeys, Rises, IsAnswer, IsFault, AskCause, IsEnded}
-use Rattle.nfc_base.proofs.Leading.{all_map, leads_on, all_on, rises_on, cause_on}
+use Rattle.nfc_base.specs.TagLinks.{TagState, TagStep, LinkView, passed, after_all, Obeys, Rises, IsAnswer, IsFault, AskCause, IsEnded}
+use Rattle.nfc_base.proofs.Leading.{all_map}
 use Rattle.tag_reader.specs.declared.how.How.{How}
-use Rattle.tag_reader.specs.declared.fault.ReadFault.{ReadFault}
 use Rattle.tag_reader.specs.declared.fault.ReadFault.TheVariants as fault
-use Rattle.tag_reader.specs.declared.told.Told.{Told}
 use Rattle.tag_reader.specs.Kinds.{IsTag, command, reply}
 use Rattle.tag_reader.specs.Calls.{Stays, ByLink}
-use Rattle.tag_reader.specs.Steps.{IsInReach, of_link, IsLinkFault, Answers, Fails, TellsNext}
+use Rattle.tag_reader.specs.Steps.{IsInReach, of_link, Answers, Fails}
 use Rattle.tag_reader.proofs.Replies.{Replies, replies}
 
 -- what changes nothing once changes nothing at all
@@ -50,8 +48,7 @@ pub ask_answers : (how : How) (size : ℕ) (a b : LinkView) (k : ℕ) (r : Signa
 ask_answers how size a b k r is low obeys rises last answer = record {
   stays = ask_stays how size a b k is low obeys rises;
   before = answer.begun;
-  over = answer.stays;
-  lit = answer.lit;
+  goes_on = record { over = answer.stays; lit = answer.lit; counts = answer.counts };
   answered = answer.answered;
   last = last answer.begun;
 }

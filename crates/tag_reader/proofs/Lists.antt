@@ -1,21 +1,18 @@
 -- The list of what is asked of a store is one, and what is asked so far is a front of it.
 use Rattle.std.proofs.Common.{◌≡◌, ℕ, zero, suc, ◌+◌, ◌-◌, ◌*◌, ◌<◌, ◌≤◌, inl, inr, List, [], ◌∷◌, ◌++◌, length, take, refl, sym, ◌∙◌, ap, append_assoc, append-nil, arith}
-use Rattle.std.specs.Prelude.{Result, Ok, Err}
+use Rattle.std.specs.Prelude.{Ok, Err}
 use Rattle.std.proofs.lemmas.Bool.{cases_lt}
 use Rattle.std.proofs.lemmas.List.{length-take-le}
 use Rattle.nfc_base.specs.Signal.{Signal}
 use Rattle.tlv_area.specs.declared.container.ContainerFault.{ContainerFault}
 use Rattle.tlv_area.specs.declared.space.Space.{Space}
-use Rattle.tlv_area.specs.declared.walk.Walk.{Walk}
-use Rattle.tlv_area.specs.declared.walk.Walk.TheVariants as walk
 use Rattle.tlv_area.specs.Form as form
-use Rattle.t2t_tag.specs.Store.{IsT2Store}
 use Rattle.tag_reader.specs.declared.how.How.{How}
 use Rattle.tag_reader.specs.declared.how.How.TheVariants.{T2, T5}
 use Rattle.tag_reader.specs.Kinds.{IsStore, area_of, command, first}
-use Rattle.tag_reader.specs.Asked.{IsDue, AreDue, NeedsMore, IsAsked}
+use Rattle.tag_reader.specs.Asked.{IsDue, AreDue, IsAsked}
 use Rattle.tag_reader.specs.Steps.{HoldsContainer}
-use Rattle.tag_reader.proofs.Areas.{sizes, named, first_within, front_area, holds_container}
+use Rattle.tag_reader.proofs.Areas.{sizes, first_within, front_area, holds_container}
 
 pub one_list : (how : How) (size : ℕ) (store : List ℕ) (xs ys : List Signal) → IsAsked how size store xs → IsAsked how size store ys → xs ≡ ys
 one_list how size store xs ys one other = elim (cases_lt one.count other.count) [

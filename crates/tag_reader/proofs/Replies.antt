@@ -1,15 +1,11 @@
 -- What a tag does at a READ: it answers, and stays as it is.
-use Rattle.std.proofs.Common.{◌≡◌, ℕ, suc, ◌+◌, ◌*◌, ◌<◌, ◌≤◌, Bool, true, false, List, [], ◌∷◌, ◌++◌, length, take, drop, refl, sym, ◌∙◌, ap, subst, arith}
-use Rattle.std.specs.Prelude.{◌/◌, ◌%◌, slice_index, nat_le, nat_lt, if◌then◌else◌, Option, Some, None}
+use Rattle.std.proofs.Common.{◌≡◌, ℕ, ◌*◌, ◌<◌, Bool, true, false, List, [], ◌∷◌, length, refl, sym, ◌∙◌, ap, subst, arith}
+use Rattle.std.specs.Prelude.{nat_le, nat_lt, if◌then◌else◌, Some, slice_index}
 use Rattle.std.proofs.lemmas.Bool.{lt-ltb}
 use Rattle.nfc_base.specs.Signal.{Signal}
 use Rattle.nfc_base.specs.Blocks.{block_of}
-use Rattle.nfc_base.specs.TagLinks.{TagKind, TagState, TagStep, LinkView, MayAsk, Type2, Type5, IsAddressed}
+use Rattle.nfc_base.specs.TagLinks.{TagState, TagStep, LinkView, MayAsk, Type5}
 use Rattle.t2t_tag.specs.Store.{block_count, IsT2Store}
-use Rattle.t2t_tag.specs.Step.{four_blocks, t2_answer, t2_after}
-use Rattle.t2t_tag.specs.Spelling as t2
-use Rattle.t2t_tag.specs.declared.answer.T2Answer.{T2Answer}
-use Rattle.t2t_tag.specs.declared.answer.T2Answer.TheVariants as t2_says
 use Rattle.t5t_tag.specs.Store.{T5State, IsT5State, IsT5Store, id_size, blocks_in}
 use Rattle.t5t_tag.specs.Step.{T5Turn, refuses, tells, no_block, sent, t5_answer, t5_after}
 use Rattle.t5t_tag.specs.Spelling as t5
@@ -17,7 +13,7 @@ use Rattle.t5t_tag.specs.declared.answer.T5Answer.TheVariants as t5_says
 use Rattle.t5t_tag.proofs.Steps.{read_turns, read_keeps}
 use Rattle.tag_reader.specs.declared.how.How.{How}
 use Rattle.tag_reader.specs.declared.how.How.TheVariants.{T2, T5}
-use Rattle.tag_reader.specs.Kinds.{IsTag, IsStore, kind_of, command, reply, block_answer, t2_memory, t2_step, t5_memory, t5_step}
+use Rattle.tag_reader.specs.Kinds.{IsTag, kind_of, command, reply, t2_step, t5_memory, t5_step}
 use Rattle.tag_reader.specs.Steps.{IsInReach}
 
 named_command : (how : How) (size : ℕ) (v : LinkView) (k : ℕ) → IsTag how size v → MayAsk (kind_of how) v.identifier (command how k)

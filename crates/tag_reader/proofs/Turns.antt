@@ -1,6 +1,6 @@
 -- The turns of a reading: the first READ, the walk over what is known, and the next READ.
-use Rattle.std.proofs.Common.{◌≡◌, ℕ, ◌+◌, ◌*◌, ◌<◌, ◌≤◌, inl, inr, Bool, true, false, List, [], ◌++◌, length, take, drop, refl, sym, ◌∙◌, ap, subst, arith}
-use Rattle.std.specs.Prelude.{Result, Ok, Err}
+use Rattle.std.proofs.Common.{◌≡◌, ℕ, ◌+◌, ◌*◌, ◌<◌, inl, inr, Bool, true, false, List, [], ◌++◌, length, take, refl, sym, ◌∙◌, ap, subst, arith}
+use Rattle.std.specs.Prelude.{Ok, Err}
 use Rattle.std.proofs.lemmas.List.{length-take-le, take-append-le}
 use Rattle.nfc_base.specs.TagLinks.{LinkView}
 use Rattle.tlv_area.specs.declared.space.Space.{Space}
@@ -13,11 +13,11 @@ use Rattle.tag_reader.specs.declared.how.How.{How}
 use Rattle.tag_reader.specs.declared.fault.ReadFault.{ReadFault}
 use Rattle.tag_reader.specs.declared.fault.ReadFault.TheVariants as fault
 use Rattle.tag_reader.specs.Kinds.{IsTag, IsStore, area_of}
-use Rattle.tag_reader.specs.Asked.{IsDue, NeedsMore}
-use Rattle.tag_reader.specs.Steps.{rolling, AsksNext, Learns, Knows, Walks, IsInReach, HoldsContainer, Reads, IsCutFault, of_container}
+use Rattle.tag_reader.specs.Asked.{NeedsMore}
+use Rattle.tag_reader.specs.Steps.{rolling, AsksNext, Knows, Walks, IsInReach, HoldsContainer, Reads, IsCutFault, of_container}
 use Rattle.tag_reader.proofs.Areas.{first_within, some_size, front_area, holds_container, due_reach, due_below}
 use Rattle.tag_reader.proofs.Knowing.{knows_first, knows_more, walks_at}
-use Rattle.tag_reader.proofs.Endings.{Ends, knows_asked, settles, settled_all, map_found, ends_container, ends_later, due_next, ends_at, ends_cut}
+use Rattle.tag_reader.proofs.Endings.{Ends, knows_asked, settles, settled_all, map_found, ends_container, due_next, ends_at, ends_cut}
 
 -- the first READ gave something
 pub begun : (how : How) (size : ℕ) (a b : LinkView) (before known : List ℕ) (more : Bool) → IsTag how size a → AsksNext how size 0 a b before known (Ok more) →
@@ -78,6 +78,7 @@ held how size a b known front space n m is walks e there places = record {
   stays = walks.knows.stays;
   asked = knows_asked how size a b known n walks.knows;
   whole = settled_all how size a b known front space n (walk.Held m) is walks e tt there;
+  goes_on = walks.knows.goes_on;
   tells = map_found how size a b known front space n m is walks e there places;
   calm = tt;
 }
@@ -89,6 +90,7 @@ none how size a b known front space n is walks e there = record {
   stays = walks.knows.stays;
   asked = knows_asked how size a b known n walks.knows;
   whole = λ told. settled_all how size a b known front space n walk.NoMessageTlv is walks e tt there;
+  goes_on = λ told. walks.knows.goes_on;
   tells = settles how size a b known front space n walk.NoMessageTlv is walks e tt there;
   calm = λ begun lit quiet. inl refl;
 }
@@ -100,6 +102,7 @@ bad how size a b known front space n is walks e there = record {
   stays = walks.knows.stays;
   asked = knows_asked how size a b known n walks.knows;
   whole = λ told. settled_all how size a b known front space n walk.BadTlv is walks e tt there;
+  goes_on = λ told. walks.knows.goes_on;
   tells = settles how size a b known front space n walk.BadTlv is walks e tt there;
   calm = λ begun lit quiet. inl refl;
 }

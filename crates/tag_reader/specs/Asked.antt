@@ -1,5 +1,5 @@
 -- What a reader asks of a tag, by the tag's store alone (NFC Forum Type 2 Tag and Type 5 Tag).
-use Rattle.std.specs.Prelude.{◌≡◌, ℕ, ◌*◌, ◌<◌, ◌≤◌, ◌⊎◌, List, length, take, Ok}
+use Rattle.std.specs.Prelude.{◌≡◌, ℕ, ◌*◌, ◌<◌, ◌≤◌, ◌⊎◌, List, ◌++◌, length, take, Ok}
 use Rattle.nfc_base.specs.Signal.{Signal}
 use Rattle.tlv_area.specs.declared.space.Space.{Space}
 use Rattle.tlv_area.specs.Form as form
@@ -27,3 +27,7 @@ pub record IsAsked (how : How) (size : ℕ) (store : List ℕ) (commands : List 
   pub list : commands ≡ first how count
   pub each : AreDue how size store count
   pub no_more : IsDue how size store count → ⊥
+
+-- these commands are the first of those
+abbrev pub IsFront : List Signal → List Signal → Type 0
+IsFront front commands = (rest : List Signal) × (commands ≡ front ++ rest)

@@ -1,5 +1,5 @@
 -- What a reading does to a link: what it asked, that the store stays, and why it may end.
-use Rattle.std.specs.Prelude.{◌≡◌, ℕ, zero, suc, ◌⊎◌, List, ◌++◌, Option, Some}
+use Rattle.std.specs.Prelude.{◌≡◌, ℕ, zero, suc, ◌⊎◌, List, ◌++◌, Option, Some, None, false}
 use Rattle.std.specs.List.{AllByRecursion}
 use Rattle.nfc_base.specs.Signal.{Signal}
 use Rattle.nfc_base.specs.TagLinks.{LinkView, Leads, passed, Rises, AskCause}
@@ -34,6 +34,12 @@ pub record HasAskedAll (how : How) (size : ℕ) (store : List ℕ) (a b : LinkVi
   pub commands : List Signal
   pub all : IsAsked how size store commands
   pub answered : b.answered ≡ a.answered ++ commands
+
+-- The link goes on: it isn't over, the field is lit, and no count of what may end it rose.
+pub record GoesOn (a b : LinkView) : Type 0 where
+  pub over : b.over ≡ None
+  pub lit : b.dark ≡ false
+  pub counts : b.counts ≡ a.counts
 
 -- The link is over by this fault, which it was before, or whose cause is known of the calls in between.
 abbrev pub ByLink : LinkView → LinkView → AskFault → Type 0

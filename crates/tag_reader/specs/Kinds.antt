@@ -1,6 +1,6 @@
 -- The kinds of tags that a reader knows (NFC Forum Type 2 Tag and Type 5 Tag): which stores they have, which area a store
 -- names and what it holds, and which commands ask for its bytes in their order.
-use Rattle.std.specs.Prelude.{◌≡◌, ℕ, zero, suc, ◌*◌, ◌<◌, List, [], ◌∷◌, ◌++◌, length, slice_index, Bool, nat_le, if◌then◌else◌, Result, Some}
+use Rattle.std.specs.Prelude.{◌≡◌, ℕ, zero, suc, ◌*◌, List, [], ◌∷◌, ◌++◌, length, Bool, nat_le, if◌then◌else◌, Result, Some, ◌<◌, slice_index}
 use Rattle.nfc_base.specs.Signal.{Signal}
 use Rattle.nfc_base.specs.Blocks.{block_of}
 use Rattle.nfc_base.specs.TagLinks.{TagKind, Type2, Type5, TagState, TagStep, LinkView, MayAsk}
@@ -91,6 +91,7 @@ abbrev pub kind_of : How → TagKind
 kind_of T2 = Type2
 kind_of (T5 id) = Type5
 
+-- a Type 5 tag has this identifier, eight bytes
 abbrev pub IsNamed : How → List ℕ → Type 0
 IsNamed T2 identifier = Unit {0}
 IsNamed (T5 id) identifier = (identifier ≡ id) × (length id ≡ id_size) × ((i : ℕ) → slice_index id i < 256)

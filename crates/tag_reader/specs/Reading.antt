@@ -1,5 +1,5 @@
 -- What a reading answers.
-use Rattle.std.specs.Prelude.{◌≡◌, ℕ, ◌⊎◌, List, Bool, true, false, Option, None, Result, Ok, Err}
+use Rattle.std.specs.Prelude.{◌≡◌, ℕ, ◌⊎◌, List, Bool, true, false, None, Result, Ok, Err}
 use Rattle.nfc_base.specs.TagLinks.{LinkView}
 use Rattle.nfc_base.specs.declared.tag_link.AskFault.TheVariants as ask
 use Rattle.tlv_area.specs.declared.container.ContainerFault.TheVariants as container

@@ -1,10 +1,8 @@
 -- What the parts of a reading say. No public contract speaks of these.
-use Rattle.std.specs.Prelude.{◌≡◌, ℕ, ◌+◌, ◌*◌, ◌<◌, ◌≤◌, ◌⊎◌, List, [], ◌∷◌, ◌++◌, length, take, drop, Bool, true, false, Option, Some, None, Result, Ok, Err}
-use Rattle.nfc_base.specs.Signal.{Signal}
+use Rattle.std.specs.Prelude.{◌≡◌, ℕ, ◌+◌, ◌*◌, ◌<◌, ◌≤◌, ◌⊎◌, List, [], ◌∷◌, ◌++◌, length, take, drop, Bool, true, false, Some, None, Result, Ok, Err}
 use Rattle.nfc_base.specs.TagLinks.{LinkView}
 use Rattle.nfc_base.specs.declared.tag_link.AskFault.{AskFault}
 use Rattle.nfc_base.specs.declared.tag_link.AskFault.TheVariants as ask
-use Rattle.t2t_tag.specs.declared.answer.T2Answer.TheVariants as t2_says
 use Rattle.tlv_area.specs.declared.space.Space.{Space}
 use Rattle.tlv_area.specs.declared.space.AreaMap.{AreaMap}
 use Rattle.tlv_area.specs.declared.container.ContainerFault.{ContainerFault}
@@ -19,9 +17,9 @@ use Rattle.tag_reader.specs.declared.fault.ReadFault.{ReadFault}
 use Rattle.tag_reader.specs.declared.fault.ReadFault.TheVariants as fault
 use Rattle.tag_reader.specs.declared.told.Told.{Told}
 use Rattle.tag_reader.specs.declared.told.Told.TheVariants.{Bytes, Ended}
-use Rattle.tag_reader.specs.Kinds.{area_of, command, first, reply, IsStore, IsStoreForm, IsTag}
+use Rattle.tag_reader.specs.Kinds.{area_of, command, first, IsStoreForm, IsTag}
 use Rattle.tag_reader.specs.Asked.{AreDue}
-use Rattle.tag_reader.specs.Calls.{Stays, HasAsked, HasAskedAll, ByLink}
+use Rattle.tag_reader.specs.Calls.{Stays, HasAsked, HasAskedAll, GoesOn, ByLink}
 use Rattle.tag_reader.specs.Reading.{IsReadFault, IsToldOrMemory, OnTold}
 
 -- the fault of a reading for a fault of the link, and for one of the container
@@ -71,8 +69,7 @@ IsLinkFault a b e = (e ≡ fault.Memory) ⊎ ((f : AskFault) × (e ≡ of_link f
 pub record Answers (how : How) (size k : ℕ) (a b : LinkView) : Type 0 where
   pub stays : Stays a b
   pub before : a.over ≡ None
-  pub over : b.over ≡ None
-  pub lit : b.dark ≡ false
+  pub goes_on : GoesOn a b
   pub answered : b.answered ≡ a.answered ++ command how k ∷ []
   pub last : b.last ≡ Some (command how k)
 
@@ -97,8 +94,7 @@ AsksNext how size k a b known known' (Err e) = Fails how k a b e
 pub record Knows (how : How) (size : ℕ) (a b : LinkView) (known : List ℕ) (n : ℕ) : Type 0 where
   pub stays : Stays a b
   pub before : a.over ≡ None
-  pub over : b.over ≡ None
-  pub lit : b.dark ≡ false
+  pub goes_on : GoesOn a b
   pub each : AreDue how size a.state.store (n + 1)
   pub answered : b.answered ≡ a.answered ++ first how (n + 1)
   pub last : b.last ≡ Some (command how n)
@@ -139,6 +135,7 @@ pub record Reads (how : How) (size : ℕ) (a b : LinkView) (known : List ℕ) (r
   pub stays : Stays a b
   pub asked : HasAsked how size a.state.store a b
   pub whole : OnTold result (HasAskedAll how size a.state.store a b)
+  pub goes_on : OnTold result (GoesOn a b)
   pub tells : Tells how size a.state.store a b known result
   pub calm : Calms a b result
 

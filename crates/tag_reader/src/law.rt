@@ -1,9 +1,10 @@
-//! That each store has exactly one list of what is asked. The calls do nothing: they stand for this law.
+//! That each store has exactly one list of what is asked, and that what a reading asked so far is a front of it. The
+//! calls do nothing: they stand for these laws.
 
 ghost use Rattle.std.specs.Prelude.{◌≡◌, ℕ, ◌<◌, ◌≤◌, List, length};
 ghost use Rattle.nfc_base.specs.Signal.{Signal};
-ghost use Rattle.tag_reader.specs.Kinds.{IsStore};
-ghost use Rattle.tag_reader.specs.Asked.{IsAsked, AreDue, IsDue};
+ghost use Rattle.tag_reader.specs.Kinds.{IsStore, first};
+ghost use Rattle.tag_reader.specs.Asked.{IsAsked, AreDue, IsDue, IsFront};
 
 use crate::finding::space_of;
 use crate::how::How;
@@ -33,6 +34,7 @@ pub fn one_asked(how: How, size: usize, store: &[u8])
     requires { IsStore how size store.now }
     ensures some { (commands : List Signal) × IsAsked how size store.now commands }
     ensures one { (xs ys : List Signal) → IsAsked how size store.now xs → IsAsked how size store.now ys → xs ≡ ys }
+    ensures front { (n : ℕ) (xs : List Signal) → AreDue how size store.now n → IsAsked how size store.now xs → IsFront (first how n) xs }
 {
     count_asked(how, size, store);
 }

@@ -21,3 +21,6 @@ pub use found::{Found, Site};
 pub use how::How;
 pub use law::one_asked;
 pub use reader::read;
+
+#[cfg(test)]
+mod tests;

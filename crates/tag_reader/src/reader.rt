@@ -2,7 +2,7 @@
 
 ghost use Rattle.std.specs.Prelude.{◌≡◌, ℕ, IfOk, IfErr};
 ghost use Rattle.tag_reader.specs.Kinds.{IsTag};
-ghost use Rattle.tag_reader.specs.Calls.{Stays, HasAsked, HasAskedAll};
+ghost use Rattle.tag_reader.specs.Calls.{Stays, HasAsked, HasAskedAll, GoesOn};
 ghost use Rattle.tag_reader.specs.Reading.{IsFound, IsReadFault, IsCalm, IsToldOrMemory, OnTold};
 
 use crate::fault::ReadFault;
@@ -23,6 +23,8 @@ pub fn read<T: TagLink>(alloc: Global, link: &mut T, how: How) -> Result<Found, 
     // what was answered is the first of what is asked, and all of it unless the link or memory failed
     ensures asked { (size : ℕ) → IsTag how size (T.seen link.old) → HasAsked how size (T.seen link.old).state.store (T.seen link.old) (T.seen link.new) }
     ensures whole { (size : ℕ) → IsTag how size (T.seen link.old) → OnTold result (HasAskedAll how size (T.seen link.old).state.store (T.seen link.old) (T.seen link.new)) }
+    // by what it then tells the link doesn't end
+    ensures goes_on { OnTold result (GoesOn (T.seen link.old) (T.seen link.new)) }
     ensures ok { (size : ℕ) → IsTag how size (T.seen link.old) → IfOk result (IsFound how size (T.seen link.old).state.store) }
     ensures err { IfErr result (IsReadFault how (T.seen link.old).state.store (T.seen link.old) (T.seen link.new)) }
     // where all passes, or each wait is answered, it tells what the store holds or finds no memory

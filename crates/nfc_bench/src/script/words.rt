@@ -3,9 +3,11 @@
 ghost use Rattle.std.specs.Prelude.{◌≡◌, ◌≢◌, ◌<◌, ◌^◌, ℕ, [], ◌∷◌, List, MatchOption, IfOk};
 ghost use Rattle.std.specs.Option.{option_copied};
 ghost use Rattle.std.specs.Fmt.{decimal};
-ghost use Rattle.nfc_bench.specs.Script.{words_of, SpellsHex, SpellsIdent};
-ghost use Rattle.nfc_bench.specs.Words.{CutsWord, NotThree};
+ghost use Rattle.nfc_bench.specs.Script.{words_of, SpellsHex, SpellsIdent, SpellsIdV, SpellsId};
+ghost use Rattle.nfc_bench.specs.declared.command.DeviceId.{DeviceId as Named};
+ghost use Rattle.nfc_bench.specs.Words.{CutsWord, NotThree, NotFour};
 
+use crate::command::DeviceId;
 use hex::FromHexError;
 use nfc_base::Items;
 use nfca_poll::Ident;
@@ -22,6 +24,16 @@ pub fn cut_word(text: &[u8]) -> (&[u8], Option<&[u8]>)
         }
     }
     (text, None)
+}
+
+/// The words of a text of four.
+#[tactic(auto, using(crate::proofs::Words::words_not_nil))]
+pub fn four_words(text: &[u8]) -> Option<(&[u8], &[u8], &[u8], &[u8])>
+    ensures { MatchOption result (NotFour (words_of text.now)) (λ x. words_of text.now ≡ x.0.now ∷ x.1.now ∷ x.2.now ∷ x.3.now ∷ []) }
+{
+    let (first, rest) = cut_word(text);
+    let (second, third, fourth) = three_words(rest?)?;
+    Some((first, second, third, fourth))
 }
 
 /// The words of a text of three.
@@ -49,6 +61,33 @@ pub fn ident_word(alloc: Global, word: &[u8]) -> Result<Option<Ident>, AllocErro
         },
         Err(FromHexError::OutOfMemory) => Err(AllocError),
         Err(_) => Ok(None),
+    }
+}
+
+/// The identifier of a Type 5 tag that a word spells, if it does.
+pub fn ident_word_v(alloc: Global, word: &[u8]) -> Result<Option<[u8; 8]>, AllocError>
+    ensures { IfOk result (λ o. MatchOption o ((id : List ℕ) → SpellsIdV word.now id → ⊥) (λ id. SpellsIdV word.now id)) }
+{
+    match hex::decode(alloc, word) {
+        Ok(bytes) => match bytes.as_slice().try_into() {
+            Ok(id) => Ok(Some(id)),
+            Err(_) => Ok(None),
+        },
+        Err(FromHexError::OutOfMemory) => Err(AllocError),
+        Err(_) => Ok(None),
+    }
+}
+
+/// The identifier of a device that a word spells, if it does.
+pub fn device_word(alloc: Global, word: &[u8]) -> Result<Option<DeviceId>, AllocError>
+    ensures { IfOk result (λ o. MatchOption o ((id : Named) → SpellsId word.now id → ⊥) (λ id. SpellsId word.now id)) }
+{
+    if let Some(id) = ident_word(alloc, word)? {
+        return Ok(Some(DeviceId::A(id)));
+    }
+    match ident_word_v(alloc, word)? {
+        Some(id) => Ok(Some(DeviceId::V(id))),
+        None => Ok(None),
     }
 }
 

@@ -3,9 +3,10 @@ use Rattle.std.proofs.lemmas.Grind.{common_steps}
 use Rattle.nfca_poll.specs.declared.fault.PollFault.{PollFault}
 use Rattle.nfca_poll.specs.declared.inventory.Vcrowd.{Vcrowd}
 use Rattle.nfca_poll.specs.declared.inventory.Vcrowd.TheVariants.{Crowd}
-use Rattle.nfca_poll.specs.Enquiry.{Enquires}
+use Rattle.nfca_poll.specs.Enquiry.{Enquires, LosesByBreak}
 use Rattle.nfca_poll.specs.Inventory.{Inventory, inventory, inventory_all, Tries, is_present, one_step, one_ended}
 use Rattle.nfca_poll.proofs.Enquiring.{Reached, reached_turn, enquires_err, enquires_end}
+use Rattle.nfca_poll.proofs.LostField.{lost_err}
 use Rattle.nfca_poll.proofs.Inventories.{asks_again, one_again, one_present, one_strange, not_true}
 use Rattle.nfca_poll.proofs.inventory.inventory_one.Goals as goal
 use Rattle.nfca_poll.proofs.inventory.inventory_one.Goals.{in-Damaged, in-Silent}
@@ -63,3 +64,10 @@ loop-preserved g c =
     let goes : one_step (Tries n c.loop.damaged) c.in_ok-answer.field-0 ≡ Tries (n + 1) c.match-branch-2.damaged =
     elim c.match-branch-2.branch [ in-Damaged w ↦ grind (arith, common_steps) | in-Silent w ↦ grind (arith, common_steps) ] in
     record { lit = c.in_ok-answer.ensures.1; so_far = subst R goes turn }
+
+pub returns-in_err-answer-clause-lost : goal.returns-in_err-answer-clause-lost
+returns-in_err-answer-clause-lost g c =
+    let E : Result Vcrowd PollFault → Type 0 = λ r. LosesByBreak c.args.field.now r c.ask.new.field in
+    let same : c.from_residual.result ≡ Err c.in_err-answer.field-0.0 = grind (arith, common_steps) in
+    subst E (sym same)
+    (lost_err g.L.Listener.machine inventory c.args.field.now c.loop.field c.ask.new.field (Tries c.loop.counter c.loop.damaged) c.inventory_req-request.result c.in_err-answer.field-0.0 c.loop.invariant.so_far c.in_err-answer.ensures)

@@ -1,9 +1,10 @@
 use Rattle.std.proofs.Common.{◌≡◌, ℕ, ◌<◌, ◌+◌, true, false, Some, Result, Ok, Err, inl, inr, refl, sym, ◌∙◌, ap, subst, arith}
 use Rattle.std.proofs.lemmas.Grind.{common_steps}
 use Rattle.nfca_poll.specs.declared.fault.PollFault.{PollFault}
-use Rattle.nfca_poll.specs.Enquiry.{Enquires}
+use Rattle.nfca_poll.specs.Enquiry.{Enquires, LosesByBreak}
 use Rattle.nfca_poll.specs.Inventory.{Inventory, picking_v, inventory_of, Tries, is_present, pick_step, pick_ended}
 use Rattle.nfca_poll.proofs.Enquiring.{Reached, reached_turn, enquires_err, enquires_end}
+use Rattle.nfca_poll.proofs.LostField.{lost_err}
 use Rattle.nfca_poll.proofs.Inventories.{asks_again, pick_again, pick_present, pick_strange, not_true}
 use Rattle.nfca_poll.proofs.inventory.pick_v.Goals as goal
 
@@ -60,3 +61,10 @@ loop-preserved g c =
     (asks_again (Unit {0}) (inventory_of c.args.id) c.inventory_req_of-request.result n false h c.inventory_req_of-request.ensures) c.in_ok-answer.ensures in
     let goes : pick_step (Tries n false) c.in_ok-answer.field-0 ≡ Tries (n + 1) false = ap (pick_step (Tries n false)) c.in-Silent.is in
     record { lit = c.in_ok-answer.ensures.1; so_far = subst R goes turn }
+
+pub returns-in_err-answer-clause-lost : goal.returns-in_err-answer-clause-lost
+returns-in_err-answer-clause-lost g c =
+    let E : Result (Unit {0}) PollFault → Type 0 = λ r. LosesByBreak c.args.field.now r c.ask.new.field in
+    let same : c.from_residual.result ≡ Err c.in_err-answer.field-0.0 = grind (arith, common_steps) in
+    subst E (sym same)
+    (lost_err g.L.Listener.machine (picking_v c.args.id) c.args.field.now c.loop.field c.ask.new.field (Tries c.loop.counter false) c.inventory_req_of-request.result c.in_err-answer.field-0.0 c.loop.invariant.so_far c.in_err-answer.ensures)

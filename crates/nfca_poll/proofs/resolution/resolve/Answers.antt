@@ -1,12 +1,17 @@
-use Rattle.std.proofs.Common.{◌≡◌, ◌<◌, Result, Err, sym, subst, arith}
+use Rattle.std.proofs.Common.{◌≡◌, ◌<◌, Result, Err, sym, ◌∙◌, subst, arith}
 use Rattle.std.proofs.lemmas.Grind.{common_steps}
 use Rattle.nfca_poll.specs.declared.fault.Picked.{Picked}
 use Rattle.nfca_poll.specs.declared.fault.PollFault.{PollFault}
 use Rattle.nfca_poll.specs.Poll.{Seek, seek_step}
-use Rattle.nfca_poll.specs.Enquiry.{Enquires}
+use Rattle.nfca_poll.specs.Enquiry.{Enquires, LosesByBreak}
 use Rattle.nfca_poll.specs.Seeking.{resolution, seek_of}
 use Rattle.nfca_poll.proofs.SeekSteps.{potential, falls}
-use Rattle.nfca_poll.proofs.Enquiring.{Reached, due_of_request, goes_on, ended_is, reached_turn, enquires_err, enquires_end}
+use Rattle.nfca_poll.proofs.Enquiring.{Reached, reached_start, due_of_request, goes_on, ended_is, reached_turn, enquires_err, enquires_end}
+use Rattle.nfca_poll.specs.Crowd.{PicksFirst, FindsNobody}
+use Rattle.nfca_poll.proofs.FewAsked.{Counted, counted_start, counted_turn, few_asked, few_err}
+use Rattle.nfca_poll.proofs.LostField.{lost_err, never_lost}
+use Rattle.nfca_poll.proofs.FirstPicked.{Follows, follows_start, follows_turn, follows_end, follows_err}
+use Rattle.nfca_poll.proofs.NobodyIdle.{Sleepers, sleepers_start, sleepers_turn, sleepers_end, sleepers_err}
 use Rattle.nfca_poll.proofs.resolution.resolve.Goals as goal
 
 pub returns-in_err-heard-clause-turns : goal.returns-in_err-heard-clause-turns
@@ -25,11 +30,23 @@ loop-heard-smaller g c =
 pub loop-heard-preserved : goal.loop-heard-preserved
 loop-heard-preserved g c =
     let P : Seek → Type 0 = λ s. Reached resolution g.L.Listener.machine c.args.field.now c.ask.new.field s in
+    let K : Seek → Type 0 = λ s. Counted g.L.Listener.machine c.args.field.now c.ask.new.field s in
+    let F : Seek → Type 0 = λ s. Follows g.L.Listener.machine g.L.Listener.identifier c.args.field.now c.ask.new.field s in
+    let N : Seek → Type 0 = λ s. Sleepers g.L.Listener.machine g.L.Listener.identifier c.args.field.now c.ask.new.field s in
     record {
       lit = c.in_ok-heard.ensures.1;
       so_far = subst P (sym c.in-Goes.ensures)
           (reached_turn resolution g.L.Listener.machine c.args.field.now c.loop-heard.field c.ask.new.field (seek_of c.loop-heard.seeking) c.request.result c.in_ok-heard.heard c.loop-heard.invariant.so_far
           (due_of_request c.loop-heard.seeking c.request.result c.request.ensures) c.in_ok-heard.ensures);
+      count = subst K (sym c.in-Goes.ensures)
+          (counted_turn g.L.Listener.machine c.args.field.now c.loop-heard.field c.ask.new.field c.loop-heard.seeking c.request.result c.in_ok-heard.heard c.loop-heard.invariant.count c.loop-heard.invariant.so_far
+          c.request.ensures c.in_ok-heard.ensures);
+      first = subst F (sym c.in-Goes.ensures)
+          (follows_turn g.L.Listener.machine g.L.Listener.identifier c.args.field.now c.loop-heard.field c.ask.new.field c.loop-heard.seeking c.request.result c.in_ok-heard.heard c.loop-heard.invariant.first c.loop-heard.invariant.so_far
+          c.request.ensures c.in_ok-heard.ensures);
+      nobody = subst N (sym c.in-Goes.ensures)
+          (sleepers_turn g.L.Listener.machine g.L.Listener.identifier c.args.field.now c.loop-heard.field c.ask.new.field c.loop-heard.seeking c.request.result c.in_ok-heard.heard c.loop-heard.invariant.nobody c.loop-heard.invariant.so_far
+          c.request.ensures c.in_ok-heard.ensures);
     }
 
 pub returns-in-Ends-clause-turns : goal.returns-in-Ends-clause-turns
@@ -38,3 +55,61 @@ returns-in-Ends-clause-turns g c lit =
     (reached_turn resolution g.L.Listener.machine c.args.field.now c.loop-heard.field c.ask.new.field (seek_of c.loop-heard.seeking) c.request.result c.in_ok-heard.heard c.loop-heard.invariant.so_far
     (due_of_request c.loop-heard.seeking c.request.result c.request.ensures) c.in_ok-heard.ensures)
     (ended_is (seek_step (seek_of c.loop-heard.seeking) c.in_ok-heard.heard) c.in-Ends.ensures.0 c.in-Ends.result c.in-Ends.ensures.1 c.in-Ends.ensures.2)
+
+pub returns-in_err-heard-clause-first : goal.returns-in_err-heard-clause-first
+returns-in_err-heard-clause-first g c lit ours =
+    let E : Result Picked PollFault → Type 0 = λ r. PicksFirst ours c.args.field.now r c.ask.new.field in
+    let same : c.from_residual.result ≡ Err c.in_err-heard.field-0.0 = grind (arith, common_steps) in
+    subst E (sym same)
+    (follows_err g.L.Listener.machine g.L.Listener.identifier c.args.field.now c.loop-heard.field c.ask.new.field c.loop-heard.seeking c.request.result c.in_err-heard.field-0.0 c.loop-heard.invariant.so_far c.in_err-heard.ensures ours)
+
+pub returns-in_err-heard-clause-nobody : goal.returns-in_err-heard-clause-nobody
+returns-in_err-heard-clause-nobody g c lit ours =
+    let E : Result Picked PollFault → Type 0 = λ r. FindsNobody ours c.args.field.now r c.ask.new.field in
+    let same : c.from_residual.result ≡ Err c.in_err-heard.field-0.0 = grind (arith, common_steps) in
+    subst E (sym same)
+    (sleepers_err g.L.Listener.machine g.L.Listener.identifier c.args.field.now c.loop-heard.field c.ask.new.field c.loop-heard.seeking c.request.result c.in_err-heard.field-0.0 c.loop-heard.invariant.so_far c.in_err-heard.ensures ours)
+
+pub returns-in-Ends-clause-first : goal.returns-in-Ends-clause-first
+returns-in-Ends-clause-first g c lit ours =
+    follows_end g.L.Listener.machine g.L.Listener.identifier c.args.field.now c.ask.new.field (seek_step (seek_of c.loop-heard.seeking) c.in_ok-heard.heard) c.in-Ends.ensures.0 c.in-Ends.result
+    (follows_turn g.L.Listener.machine g.L.Listener.identifier c.args.field.now c.loop-heard.field c.ask.new.field c.loop-heard.seeking c.request.result c.in_ok-heard.heard c.loop-heard.invariant.first c.loop-heard.invariant.so_far
+    c.request.ensures c.in_ok-heard.ensures)
+    c.in-Ends.ensures.1 c.in-Ends.ensures.2 ours
+
+pub returns-in-Ends-clause-nobody : goal.returns-in-Ends-clause-nobody
+returns-in-Ends-clause-nobody g c lit ours =
+    sleepers_end g.L.Listener.machine g.L.Listener.identifier c.args.field.now c.ask.new.field (seek_step (seek_of c.loop-heard.seeking) c.in_ok-heard.heard) c.in-Ends.ensures.0 c.in-Ends.result
+    (sleepers_turn g.L.Listener.machine g.L.Listener.identifier c.args.field.now c.loop-heard.field c.ask.new.field c.loop-heard.seeking c.request.result c.in_ok-heard.heard c.loop-heard.invariant.nobody c.loop-heard.invariant.so_far
+    c.request.ensures c.in_ok-heard.ensures)
+    c.in-Ends.ensures.1 c.in-Ends.ensures.2 ours
+
+pub loop-heard-init : goal.loop-heard-init
+loop-heard-init g c = record {
+  lit = grind (arith, common_steps);
+  so_far = reached_start resolution g.L.Listener.machine c.args.field.now;
+  count = counted_start g.L.Listener.machine c.args.field.now;
+  first = follows_start g.L.Listener.machine g.L.Listener.identifier c.args.field.now;
+  nobody = sleepers_start g.L.Listener.machine g.L.Listener.identifier c.args.field.now;
+}
+
+pub returns-in_err-heard-clause-few : goal.returns-in_err-heard-clause-few
+returns-in_err-heard-clause-few g c =
+    few_err g.L.Listener.machine c.args.field.now c.loop-heard.field c.ask.new.field c.loop-heard.seeking c.request.result c.in_err-heard.field-0.0 c.loop-heard.invariant.count c.loop-heard.invariant.so_far c.request.ensures
+    c.in_err-heard.ensures
+
+pub returns-in-Ends-clause-few : goal.returns-in-Ends-clause-few
+returns-in-Ends-clause-few g c =
+    few_asked g.L.Listener.machine c.args.field.now c.ask.new.field (seek_step (seek_of c.loop-heard.seeking) c.in_ok-heard.heard)
+    (counted_turn g.L.Listener.machine c.args.field.now c.loop-heard.field c.ask.new.field c.loop-heard.seeking c.request.result c.in_ok-heard.heard c.loop-heard.invariant.count c.loop-heard.invariant.so_far
+    c.request.ensures c.in_ok-heard.ensures)
+
+pub returns-in_err-heard-clause-lost : goal.returns-in_err-heard-clause-lost
+returns-in_err-heard-clause-lost g c =
+    let E : Result Picked PollFault → Type 0 = λ r. LosesByBreak c.args.field.now r c.ask.new.field in
+    let same : c.from_residual.result ≡ Err c.in_err-heard.field-0.0 = grind (arith, common_steps) in
+    subst E (sym same)
+    (lost_err g.L.Listener.machine resolution c.args.field.now c.loop-heard.field c.ask.new.field (seek_of c.loop-heard.seeking) c.request.result c.in_err-heard.field-0.0 c.loop-heard.invariant.so_far c.in_err-heard.ensures)
+
+pub returns-in-Ends-clause-lost : goal.returns-in-Ends-clause-lost
+returns-in-Ends-clause-lost g c e = absurd (never_lost c.in-Ends.ensures.0 (sym c.in-Ends.ensures.2 ∙ e))

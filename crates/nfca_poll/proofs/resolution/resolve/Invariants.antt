@@ -2,12 +2,18 @@ use Rattle.std.proofs.Common.{◌≡◌, true}
 use Rattle.nfca_poll.specs.Seeking.{resolution, seek_of}
 use Rattle.nfca_poll.proofs.SeekSteps.{potential}
 use Rattle.nfca_poll.proofs.Enquiring.{Reached}
+use Rattle.nfca_poll.proofs.FewAsked.{Counted}
+use Rattle.nfca_poll.proofs.FirstPicked.{Follows}
+use Rattle.nfca_poll.proofs.NobodyIdle.{Sleepers}
 use Rattle.nfca_poll.proofs.resolution.resolve.Given as goal
 
 abbrev pub invariant-loop-heard : goal.invariant-loop-heard
 invariant-loop-heard g l = record {
   lit : l.field.lit ≡ true;
   so_far : Reached resolution g.L.Listener.machine l.fn.field l.field (seek_of l.seeking);
+  count : Counted g.L.Listener.machine l.fn.field l.field (seek_of l.seeking);
+  first : Follows g.L.Listener.machine g.L.Listener.identifier l.fn.field l.field (seek_of l.seeking);
+  nobody : Sleepers g.L.Listener.machine g.L.Listener.identifier l.fn.field l.field (seek_of l.seeking);
 }
 
 abbrev pub decreases-loop-heard : goal.decreases-loop-heard

@@ -1,5 +1,5 @@
-use Rattle.std.proofs.Common.{◌≡◌, ◌++◌, refl, sym, ◌∙◌, ap, subst}
-use Rattle.tag_reader.specs.Steps.{Fails}
+use Rattle.std.proofs.Common.{◌≡◌, ◌*◌, ◌++◌, take, drop, refl, sym, ◌∙◌, ap, subst}
+use Rattle.tag_reader.specs.Steps.{Fails, rolling}
 use Rattle.tag_reader.proofs.Links.{answer_lost, asked_ok, asked_err}
 use Rattle.tag_reader.proofs.asking.ask_next.Goals as goal
 
@@ -33,4 +33,7 @@ returns-in-Ok-extend_from_slice-clause-next g c size is low =
     let told = asked_ok c.args.how size (g.T.TagLink.seen c.args.link.now) (g.T.TagLink.seen c.ask.new.self) c.args.index c.command-command.result c.in-Ok.answer c.command-command.ensures is low
     c.in-Ok.ensures.rises c.in-Ok.ensures.obeys c.in-Ok.ensures.last c.in-Ok.ensures.ok in
     let next = (rw c.in-Ok-Bytes.field-0-is at c.in-Ok-Bytes.ensures) size c.args.index (g.T.TagLink.seen c.args.link.now).state.store is.store low told.1 in
-    (told.0, (next.0, c.in-Ok-extend_from_slice.ensures.items ∙ ap (λ xs. c.args.known.now.items ++ xs) (c.deref.ensures.0 ∙ next.1)))
+    let grown : c.extend_from_slice.new.self.items ≡ c.args.known.now.items ++ c.deref.result.now = c.in-Ok-extend_from_slice.ensures.items in
+    let whole : c.deref.result.now ≡ c.in-Ok-Bytes.bytes.items = c.deref.ensures.0 in
+    let part : c.in-Ok-Bytes.bytes.items ≡ take size (drop (size * c.args.index) (rolling (g.T.TagLink.seen c.args.link.now).state.store)) = next.1 in
+    (told.0, (next.0, grown ∙ ap (λ xs. c.args.known.now.items ++ xs) (whole ∙ part)))

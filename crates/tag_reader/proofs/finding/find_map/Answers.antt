@@ -1,9 +1,8 @@
-use Rattle.std.proofs.Common.{rules, ◌≡◌, ℕ, ◌+◌, ◌<◌, ◌≤◌, ◌++◌, length, take, inl, inr, refl, sym, ◌∙◌, ap, subst, arith, Ok, Err}
-use Rattle.tag_reader.specs.Kinds.{IsTag}
-use Rattle.tag_reader.specs.Steps.{Reads, Walks, HoldsContainer}
+use Rattle.std.proofs.Common.{rules, ◌≡◌, take, inl, inr, refl, ◌∙◌, ap, arith, Err}
+use Rattle.tag_reader.specs.Steps.{Reads}
 use Rattle.tag_reader.proofs.Areas.{due_reach}
 use Rattle.tag_reader.proofs.Endings.{ends_first, ends_later}
-use Rattle.tag_reader.proofs.Turns.{begun, begun_empty, first_container, first_fault, first_walk, held, none, bad, next, goes_on, stopped, ended}
+use Rattle.tag_reader.proofs.Turns.{begun, first_fault, first_walk, held, none, bad, next, goes_on, stopped, ended}
 use Rattle.tag_reader.proofs.finding.find_map.Goals as goal
 
 pub returns-in_err-begins-clause-reads : goal.returns-in_err-begins-clause-reads

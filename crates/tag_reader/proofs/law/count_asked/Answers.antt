@@ -1,4 +1,4 @@
-use Rattle.std.proofs.Common.{◌≡◌, ℕ, ◌+◌, ◌*◌, ◌≤◌, take, length, refl, sym, ◌∙◌, arith, Ok}
+use Rattle.std.proofs.Common.{◌≡◌, ◌*◌, ◌≤◌, take, length, refl, sym, ◌∙◌, arith, Ok}
 use Rattle.tag_reader.specs.Kinds.{area_of}
 use Rattle.tag_reader.proofs.Knowing.{due_more}
 use Rattle.tag_reader.proofs.Lists.{front_named, walk_due, walk_ends}

@@ -1,4 +1,4 @@
-use Rattle.tag_reader.proofs.Lists.{asked_all, one_list}
+use Rattle.tag_reader.proofs.Lists.{asked_all, asked_front, one_list}
 use Rattle.tag_reader.proofs.law.one_asked.Goals as goal
 
 pub returns-clause-some : goal.returns-clause-some
@@ -6,3 +6,6 @@ returns-clause-some c = asked_all c.args.how c.args.size c.args.store.now c.coun
 
 pub returns-clause-one : goal.returns-clause-one
 returns-clause-one c = one_list c.args.how c.args.size c.args.store.now
+
+pub returns-clause-front : goal.returns-clause-front
+returns-clause-front c n xs = asked_front c.args.how c.args.size c.args.store.now n xs

@@ -1,5 +1,4 @@
-use Rattle.std.proofs.Common.{◌≡◌, ℕ, List, length, None, Some, Ok, refl, sym, ◌∙◌, ap}
-use Rattle.t2t_tag.specs.declared.answer.T2Answer.{T2Answer}
+use Rattle.std.proofs.Common.{◌≡◌, None, Some, Ok, ◌∙◌, ap}
 use Rattle.t2t_tag.specs.declared.answer.T2Answer.TheVariants.{Content}
 use Rattle.tag_reader.specs.declared.told.Told.TheVariants.{Bytes}
 use Rattle.tag_reader.proofs.told.told_t2.Goals as goal

@@ -1,0 +1,186 @@
+-- A turn of a field of this project's listeners without noise, as its cards see it.
+use Rattle.std.proofs.Common.{◌≡◌, ℕ, ◌+◌, List, [], ◌∷◌, ◌++◌, length, drop, map, filter_map, Bool, true, false, if◌then◌else◌, refl, sym, ◌∙◌, ap, subst, arith, Option, Some, None}
+use Rattle.std.specs.List.{cons_option}
+use Rattle.nfc_base.specs.declared.frame.Tech.{Tech}
+use Rattle.nfc_base.specs.declared.frame.Tech.TheVariants.{A, V}
+use Rattle.nfc_base.specs.Signal.{Signal}
+use Rattle.nfc_base.specs.Trace.{heard_by, noise, other_than_pass}
+use Rattle.nfc_base.specs.declared.event.Event.{Event}
+use Rattle.nfc_base.specs.declared.event.Event.TheVariants.{Reset, Request, Answer, Clash}
+use Rattle.nfc_base.specs.declared.event.Fate.{Fate}
+use Rattle.nfc_base.specs.declared.event.Fate.TheVariants.{Pass, Damage, Lose, Break}
+use Rattle.nfc_base.specs.declared.event.Heard.{Heard}
+use Rattle.air_core.specs.Joint.{Joint, Nothing, Single, Clashing, joint, same_tech}
+use Rattle.air_core.specs.World.{Machine, World, stepped, answers, stepped_by, answered_by}
+use Rattle.air_core.specs.Turn.{Air, moment}
+use Rattle.air_core.specs.Conversation.{Moment, TurnsTo, first_fate, later_fates, replay, turn_events, turn_heard, joint_events, joint_back}
+use Rattle.nfca_poll.specs.declared.kind.Kind.{Kind}
+use Rattle.nfca_poll.specs.Calls.{call_of}
+use Rattle.nfca_poll.specs.Front.{Front, is_active}
+use Rattle.nfca_poll.specs.Muted.{mute_reply, muted, mute_air}
+use Rattle.nfca_poll.specs.Crowd.{Card, Each, StepsByFront, AreOurs, card_of, card_if, cards}
+use Rattle.nfca_poll.proofs.Eaches.{IfSaid, onto_back}
+use Rattle.nfca_poll.proofs.HeardBits.{heard_of}
+use Rattle.nfca_poll.proofs.Fitting.{card_next, card_says}
+use Rattle.nfca_poll.proofs.Choosing.{hears}
+
+-- noise of some events and then others
+pub noise-append : (a b : List Event) → noise (a ++ b) ≡ noise a + noise b
+noise-append [] b = (let q : noise b ≡ 0 + noise b = omega arith in q)
+noise-append (Reset ∷ a) b = noise-append a b
+noise-append (Request f x ∷ a) b = ap (λ n. other_than_pass x + n) (noise-append a b) ∙ (let q : other_than_pass x + (noise a + noise b) ≡ (other_than_pass x + noise a) + noise b = omega arith in q)
+noise-append (Answer f x ∷ a) b = ap (λ n. other_than_pass x + n) (noise-append a b) ∙ (let q : other_than_pass x + (noise a + noise b) ≡ (other_than_pass x + noise a) + noise b = omega arith in q)
+noise-append (Clash f x ∷ a) b = ap (λ n. other_than_pass x + n) (noise-append a b) ∙ (let q : other_than_pass x + (noise a + noise b) ≡ (other_than_pass x + noise a) + noise b = omega arith in q)
+
+pub drop-front : {X : Type 0} (a b : List X) → drop (length a) (a ++ b) ≡ b
+drop-front [] b = refl
+drop-front (x ∷ a) b = drop-front a b
+
+heard_in : (h k : Heard) → Some h ≡ Some k → h ≡ k
+heard_in h k e = cc
+
+none_heard : (h : Heard) → None ≡ Some h → ⊥
+none_heard h e = cc
+
+module _ {L : Type 0} (m : Machine L) where
+  by_joint : (w : World L) (j : Joint) (y : Fate) (h : Heard) → noise (joint_events j y) ≡ 0 → Some h ≡ heard_by Pass (joint_back j y)
+      → (replay (mute_air m) w (joint_events j y) ≡ w) × (h ≡ heard_of j)
+  by_joint w Nothing y h n e = (refl, heard_in h _ e)
+  by_joint w (Single g) Pass h n e = (refl, heard_in h _ e)
+  by_joint w (Single g) Damage h n e = absurd (omega (arith, n))
+  by_joint w (Single g) Lose h n e = absurd (omega (arith, n))
+  by_joint w (Single g) Break h n e = absurd (omega (arith, n))
+  by_joint w (Clashing g) Pass h n e = (refl, heard_in h _ e)
+  by_joint w (Clashing g) Damage h n e = absurd (omega (arith, n))
+  by_joint w (Clashing g) Lose h n e = absurd (omega (arith, n))
+  by_joint w (Clashing g) Break h n e = absurd (omega (arith, n))
+
+  by_fates : (w : World L) (f : Signal) (x y : Fate) (h : Heard) → noise (turn_events (mute_air m) w f x y) ≡ 0 → Some h ≡ turn_heard (mute_air m) w f x y
+      → (replay (mute_air m) w (turn_events (mute_air m) w f x y) ≡ stepped (muted m) w f) × (h ≡ heard_of (joint (answers (muted m) w f)))
+  by_fates w f Pass y h n e = by_joint (stepped (muted m) w f) ((mute_air m).joint w f) y h (omega (arith, n)) e
+  by_fates w f Damage y h n e = absurd (omega (arith, n))
+  by_fates w f Lose y h n e = absurd (omega (arith, n))
+  by_fates w f Break y h n e = absurd (omega (arith, n))
+
+  -- a turn by which the field was lost has noise
+  lost_joint : (j : Joint) (y : Fate) → noise (joint_events j y) ≡ 0 → heard_by Pass (joint_back j y) ≡ None → ⊥
+  lost_joint Nothing y n e = cc
+  lost_joint (Single g) Pass n e = cc
+  lost_joint (Single g) Damage n e = omega (arith, n)
+  lost_joint (Single g) Lose n e = omega (arith, n)
+  lost_joint (Single g) Break n e = omega (arith, n)
+  lost_joint (Clashing g) Pass n e = cc
+  lost_joint (Clashing g) Damage n e = omega (arith, n)
+  lost_joint (Clashing g) Lose n e = omega (arith, n)
+  lost_joint (Clashing g) Break n e = omega (arith, n)
+
+  lost_fates : (w : World L) (f : Signal) (x y : Fate) → noise (turn_events (mute_air m) w f x y) ≡ 0 → turn_heard (mute_air m) w f x y ≡ None → ⊥
+  lost_fates w f Pass y n e = lost_joint ((mute_air m).joint w f) y (omega (arith, n)) e
+  lost_fates w f Damage y n e = omega (arith, n)
+  lost_fates w f Lose y n e = omega (arith, n)
+  lost_fates w f Break y n e = omega (arith, n)
+
+  -- the events of a turn
+  abbrev pub events_of : Air L → Signal → List Event
+  events_of a f = turn_events (mute_air m) (moment a).world f (first_fate a.fates) (first_fate (later_fates a.fates))
+
+  pub turn_trace : (old new : Air L) (f : Signal) (h : Option Heard) → TurnsTo (mute_air m) (moment old) (moment new) f h → new.trace ≡ old.trace ++ events_of old f
+  turn_trace old new f h t = let M : Moment (World L) → List Event = λ x. x.trace in ap M t.moment
+
+  pub lost_noise : (old new : Air L) (f : Signal) → TurnsTo (mute_air m) (moment old) (moment new) f None → noise (events_of old f) ≡ 0 → ⊥
+  lost_noise old new f t n = lost_fates (moment old).world f (first_fate old.fates) (first_fate (later_fates old.fates)) n (sym t.heard)
+
+  pub quiet_world : (old new : Air L) (f : Signal) (h : Heard) → TurnsTo (mute_air m) (moment old) (moment new) f (Some h) → noise (events_of old f) ≡ 0
+      → (new.listeners ≡ map (λ l. stepped_by (muted m) l f None) old.listeners) × (h ≡ heard_of (joint (filter_map (λ l. answered_by (muted m) l f None) old.listeners)))
+  quiet_world old new f h t n =
+      let q = by_fates (moment old).world f (first_fate old.fates) (first_fate (later_fates old.fates)) h n t.heard in
+      let M : Moment (World L) → List L = λ x. x.world.listeners in
+      (ap M t.moment ∙ ap (λ (w : World L). w.listeners) q.0, q.1)
+
+  module _ {identifier : L → List ℕ} (ours : AreOurs m identifier) (f : Signal) (request : f.tech ≡ A) where
+    abbrev step : L → L
+    step l = stepped_by (muted m) l f None
+
+    abbrev says : L → Option Signal
+    says l = answered_by (muted m) l f None
+
+    abbrev mapped : (Card → Card) → Option Card → Option Card
+    mapped g None = None
+    mapped g (Some c) = Some (g c)
+
+    abbrev said_by : (Card → Option Signal) → Option Card → Option Signal
+    said_by p None = None
+    said_by p (Some c) = p c
+
+    abbrev OneCard : L → Type 0
+    OneCard l = (card_if ours (step l) ≡ mapped (card_next (call_of f)) (card_if ours l)) × (says l ≡ said_by (card_says (call_of f)) (card_if ours l))
+
+    same_card : (id id' : List ℕ) (k k' : Kind) (x x' : Front) → id ≡ id' → k ≡ k' → x ≡ x' → ◌≡◌ {A = Card} (record { id = id; kind = k; front = x }) (record { id = id'; kind = k'; front = x' })
+    same_card id id' k k' x x' p q r =
+        let C : List ℕ → Kind → Front → Card = λ i j z. record { id = i; kind = j; front = z } in
+        ap (λ i. C i k x) p ∙ ap (λ j. C id' j x) q ∙ ap (C id' k') r
+
+    heard_by_it : (l : L) → m.tech l ≡ A → same_tech (m.tech l) f.tech ≡ true
+    heard_by_it l t = ap (λ u. same_tech u f.tech) t ∙ ap (same_tech A) request
+
+    not_heard : (l : L) → m.tech l ≡ V → same_tech (m.tech l) f.tech ≡ false
+    not_heard l t = ap (λ u. same_tech u f.tech) t ∙ ap (same_tech V) request
+
+    front_card : (l : L) → m.tech l ≡ A → is_active (ours.front l) ≡ false → OneCard l
+    front_card l t i =
+        let s : StepsByFront m identifier ours.kind ours.front l f = ours.steps l f t i in
+        let none : mute_reply (m.handed l f) ≡ None = ap mute_reply s.untouched in
+        let here : same_tech (m.tech l) A ≡ true = ap (λ u. same_tech u A) t in
+        let goes : step l ≡ m.after l f None = ap (λ v. if v then m.after l f (mute_reply (m.handed l f)) else l) (heard_by_it l t) ∙ ap (m.after l f) none in
+        let there : same_tech (m.tech (m.after l f None)) A ≡ true = ap (λ u. same_tech u A) (s.same_tech ∙ t) in
+        let card : card_of ours (m.after l f None) ≡ card_next (call_of f) (card_of ours l) =
+        same_card _ _ _ _ _ _ s.same_id s.same_kind s.goes in (
+          ap (card_if ours) goes ∙ ap (λ v. if v then Some (card_of ours (m.after l f None)) else None) there ∙ ap Some card
+              ∙ sym (ap (λ v. mapped (card_next (call_of f)) (if v then Some (card_of ours l) else None)) here),
+          ap (λ v. if v then m.answer l f (mute_reply (m.handed l f)) else None) (heard_by_it l t) ∙ ap (m.answer l f) none ∙ s.says
+              ∙ sym (ap (λ v. said_by (card_says (call_of f)) (if v then Some (card_of ours l) else None)) here),
+        )
+
+    other_card : (l : L) → m.tech l ≡ V → OneCard l
+    other_card l t =
+        let none : card_if ours l ≡ None = ap (λ u. if same_tech u A then Some (card_of ours l) else None) t in
+        let goes : step l ≡ l = ap (λ v. if v then m.after l f (mute_reply (m.handed l f)) else l) (not_heard l t) in (
+          ap (card_if ours) goes ∙ none ∙ sym (ap (mapped (card_next (call_of f))) none),
+          ap (λ v. if v then m.answer l f (mute_reply (m.handed l f)) else None) (not_heard l t) ∙ sym (ap (said_by (card_says (call_of f))) none),
+        )
+
+    one_card : (l : L) → IfSaid (λ c. is_active c.front ≡ false) (card_if ours l) → OneCard l
+    one_card l i = by_tech (m.tech l) refl
+      where
+        by_tech : (t : Tech) → m.tech l ≡ t → OneCard l
+        by_tech A t =
+            let P : Bool → Type 0 = λ v. IfSaid (λ c. is_active c.front ≡ false) (if v then Some (card_of ours l) else None) in
+            front_card l t (subst P (ap (λ u. same_tech u A) t) i)
+        by_tech V t = other_card l t
+
+    cons_mapped : (g : Card → Card) (o : Option Card) (xs : List Card) → cons_option (mapped g o) (map g xs) ≡ map g (cons_option o xs)
+    cons_mapped g None xs = refl
+    cons_mapped g (Some c) xs = refl
+
+    cons_said : (p : Card → Option Signal) (o : Option Card) (xs : List Card) → cons_option (said_by p o) (filter_map p xs) ≡ filter_map p (cons_option o xs)
+    cons_said p None xs = refl
+    cons_said p (Some c) xs = refl
+
+    cards_step : (ls : List L) → Each (λ c. is_active c.front ≡ false) (cards ours ls)
+        → (cards ours (map step ls) ≡ map (card_next (call_of f)) (cards ours ls)) × (filter_map says ls ≡ filter_map (card_says (call_of f)) (cards ours ls))
+    cards_step [] i = (refl, refl)
+    cards_step (l ∷ ls) i =
+        let s : _ × _ = onto_back (λ c. is_active c.front ≡ false) (card_if ours l) (cards ours ls) i in
+        let one : OneCard l = one_card l s.0 in
+        let rest = cards_step ls s.1 in (
+          ap (λ o. cons_option o (cards ours (map step ls))) one.0 ∙ ap (cons_option (mapped (card_next (call_of f)) (card_if ours l))) rest.0 ∙ cons_mapped (card_next (call_of f)) (card_if ours l) (cards ours ls),
+          ap (λ o. cons_option o (filter_map says ls)) one.1 ∙ ap (cons_option (said_by (card_says (call_of f)) (card_if ours l))) rest.1 ∙ cons_said (card_says (call_of f)) (card_if ours l) (cards ours ls),
+        )
+
+    -- the cards behind a turn without noise, and what was heard
+    pub quiet_cards : (old new : Air L) (h : Heard) → TurnsTo (mute_air m) (moment old) (moment new) f (Some h) → noise (events_of old f) ≡ 0 → Each (λ c. is_active c.front ≡ false) (cards ours old.listeners)
+        → (cards ours new.listeners ≡ map (card_next (call_of f)) (cards ours old.listeners)) × (h ≡ hears (call_of f) (cards ours old.listeners))
+    quiet_cards old new h t n i =
+        let w = quiet_world old new f h t n in
+        let s = cards_step old.listeners i in
+        (ap (cards ours) w.0 ∙ s.0, w.1 ∙ ap (λ x. heard_of (joint x)) s.1)

@@ -1,0 +1,338 @@
+//! Reads tags in memory.
+
+ghost use Rattle.std.specs.Prelude.{◌≡◌, ℕ, List, Bool, Option, [], None, Some, IfOk, true, false};
+ghost use Rattle.nfc_base.specs.Signal.{Signal};
+ghost use Rattle.nfc_base.specs.TagLinks.{TagKind, Type2, Type5, TagState, TagStep, LinkView, plain_state};
+ghost use Rattle.t5t_tag.specs.Store.{IsT5State};
+ghost use Rattle.t2t_tag.specs.Store.{IsT2Store};
+ghost use Rattle.tag_reader.specs.Kinds.{t2_step, t5_step, IsTag};
+
+use crate::{Found, How, ReadFault, Site, one_asked, read};
+use nfc_base::{AskFault, Frame, TagLink, Tech};
+use std::alloc::Global;
+use std::test::Fail;
+use t2t_tag::T2Tag;
+use t5t_tag::T5Tag;
+
+/// A tag that obeys at once.
+trait Card {
+    ghost kind: { Self → TagKind };
+
+    ghost identifier: { Self → List ℕ };
+
+    ghost store: { Self → List ℕ };
+
+    ghost step: { Self → TagState → Signal → TagStep };
+
+    fn hear(&mut self, command: &Frame) -> Option<Frame>
+        ensures answer { (step self.old (plain_state (store self.old)) command.now).answer ≡ result }
+        ensures after { (step self.old (plain_state (store self.old)) command.now).after ≡ plain_state (store self.new) }
+        ensures kind { kind self.new ≡ kind self.old }
+        ensures identifier { identifier self.new ≡ identifier self.old }
+        ensures step { step self.new ≡ step self.old };
+}
+
+impl Card for T2Tag {
+    ghost kind = { λ _. Type2 };
+
+    ghost identifier = { λ _. [] };
+
+    ghost store = { λ t. t.store };
+
+    ghost step = { λ t. t2_step t.locked };
+
+    #[tactic(auto, using(crate::proofs::Cards::t2_same))]
+    fn hear(&mut self, command: &Frame) -> Option<Frame> {
+        self.obey(command)
+    }
+}
+
+/// A Type 5 tag that doesn't stay quiet.
+#[derive(Drop)]
+struct Awake {
+    tag: T5Tag,
+    ghost awake: { tag.quiet ≡ false },
+}
+
+impl Card for Awake {
+    ghost kind = { λ _. Type5 };
+
+    ghost identifier = { λ t. t.tag.id };
+
+    ghost store = { λ t. t.tag.store };
+
+    ghost step = { λ t. t5_step t.tag.id t.tag.size t.tag.locked t.tag.quiet };
+
+    fn hear(&mut self, command: &Frame) -> Option<Frame> {
+        let answer = self.tag.obey(command);
+        self.tag.dark();
+        answer
+    }
+}
+
+/// A link to it that is lost after so many commands.
+#[derive(Drop)]
+struct MemLink<C> {
+    card: C,
+    left: u16,
+    obeyed: Vec<Frame>,
+    answered: Vec<Frame>,
+    last: Option<Frame>,
+    over: Option<AskFault>,
+    breaks: u8,
+    six_bad: u8,
+}
+
+impl<C: Card> TagLink for MemLink<C> {
+    ghost seen = { λ l. record { kind = C.kind l.card; identifier = C.identifier l.card; step = C.step l.card; state = plain_state (C.store l.card); obeyed = l.obeyed.items; answered = l.answered.items; last = l.last; over = l.over; dark = false; counts = record { breaks = l.breaks; six_bad = l.six_bad; odd = 0 }; noise = l.breaks } };
+
+    ghost lenders = { λ _. [] };
+
+    ghost ready = { λ _. Unit {0} };
+
+    ghost moves = { λ _ _. Unit {0} };
+
+    fn ask(&mut self, _alloc: Global, command: &Frame) -> Result<Frame, AskFault> {
+        if let Some(fault) = self.over {
+            return Err(fault);
+        }
+        self.last = Some(command.copy());
+        if self.left == 0 && self.breaks < 255 {
+            self.breaks += 1;
+            self.over = Some(AskFault::FieldLost);
+            return Err(AskFault::FieldLost);
+        }
+        self.left = self.left.saturating_sub(1);
+        if self.obeyed.push(command.copy()).is_err() {
+            self.over = Some(AskFault::Memory);
+            return Err(AskFault::Memory);
+        }
+        match self.card.hear(command) {
+            None if self.six_bad < 255 => {
+                self.six_bad += 1;
+                self.over = Some(AskFault::SixBad);
+                Err(AskFault::SixBad)
+            }
+            None => {
+                self.over = Some(AskFault::Memory);
+                Err(AskFault::Memory)
+            }
+            Some(answer) => {
+                if self.answered.push(command.copy()).is_err() {
+                    self.over = Some(AskFault::Memory);
+                    return Err(AskFault::Memory);
+                }
+                Ok(answer)
+            }
+        }
+    }
+
+    ghost stays = { λ a. tt };
+
+    ghost goes_on = { λ a b c p q. tt };
+}
+
+impl<C> MemLink<C> {
+    fn new(alloc: Global, card: C, left: u16) -> MemLink<C>
+        ensures { result.card ≡ card }
+    {
+        MemLink {
+            card,
+            left,
+            obeyed: Vec::new(alloc),
+            answered: Vec::new(alloc),
+            last: None,
+            over: None,
+            breaks: 0,
+            six_bad: 0,
+        }
+    }
+}
+
+/// A store of so many bytes that begins with zeros and goes on with these, and what a reading of it tells: a fault's
+/// number or 0, the message, whether writing is free, and how many commands it asks.
+#[derive(Drop)]
+struct Row<'a> {
+    zeros: usize,
+    size: usize,
+    head: &'a [u8],
+    fault: u8,
+    message: &'a [u8],
+    writable: bool,
+    asks: usize,
+}
+
+fn store_of(alloc: Global, row: &Row) -> Result<Vec<u8>, Fail> {
+    let mut store = vec![in alloc; 0u8; row.zeros]?;
+    store.extend_from_slice(row.head)?;
+    store.resize(row.size, 0)?;
+    Ok(store)
+}
+
+/// Whether a reading told what the row says.
+fn is_told(row: &Row, outcome: &Result<Found, ReadFault>, asks: usize) -> bool {
+    let told = match outcome {
+        Err(fault) => fault.number() == row.fault,
+        Ok(found) => {
+            let Site::Area(map) = &found.site;
+            row.fault == 0
+                && found.message.as_slice() == row.message
+                && found.writable == row.writable
+                && map.length as usize == row.message.len()
+        }
+    };
+    told && asks == row.asks
+}
+
+fn read_t2(alloc: Global, tag: T2Tag, left: u16) -> (Result<Found, ReadFault>, usize) {
+    let _shape = tag.store();
+    let mut link = MemLink::new(alloc, tag, left);
+    let outcome = read(alloc, &mut link, How::T2);
+    (outcome, link.answered.len())
+}
+
+fn read_t5(alloc: Global, id: [u8; 8], tag: T5Tag) -> (Result<Found, ReadFault>, usize)
+    requires named { tag.id ≡ id }
+    requires awake { tag.quiet ≡ false }
+{
+    let _shape = tag.store();
+    let mut link = MemLink::new(alloc, Awake { tag }, 1000);
+    let outcome = read(alloc, &mut link, How::T5(id));
+    (outcome, link.answered.len())
+}
+
+/// A store that holds a message.
+fn holds<'a>(zeros: usize, size: usize, head: &'a [u8], message: &'a [u8], asks: usize) -> Row<'a> {
+    Row {
+        zeros,
+        size,
+        head,
+        fault: 0,
+        message,
+        writable: true,
+        asks,
+    }
+}
+
+/// A store that holds none.
+fn lacks<'a>(zeros: usize, size: usize, head: &'a [u8], fault: u8, asks: usize) -> Row<'a> {
+    Row {
+        zeros,
+        size,
+        head,
+        fault,
+        message: &[],
+        writable: false,
+        asks,
+    }
+}
+
+#[test]
+fn reads_type_2_tags(rt: HostRuntime) -> Result<(), Fail> {
+    let plain = [0xE1, 0x10, 6, 0, 3, 3, 0xD0, 0, 0, 0xFE];
+    let delivered = [0xE1, 0x10, 0x12, 0, 1, 3, 0xA0, 0x0C, 0x34, 3, 0, 0xFE];
+    let long_form = [0xE1, 0x10, 6, 0, 3, 0xFF, 0, 3, 0xD0, 0, 0, 0xFE];
+    let elephant = *b"\xE1\x10\x06\x00\x03\x08elephant\xFE";
+    let two = [
+        0xE1, 0x10, 6, 0, 3, 4, 0xDE, 0xAD, 0xBE, 0xEF, 3, 1, 0x42, 0xFE,
+    ];
+    // a range of four bytes at 32 is reserved
+    let reserved = [
+        0xE1, 0x10, 6, 0, 2, 3, 0x20, 4, 4, 3, 12, 1, 2, 3, 4, 5, 6, 7, 8, 9, 0xAA, 0xBB, 0xCC,
+        0xDD, 10, 11, 12, 0xFE,
+    ];
+    // six blocks: a READ of the fifth goes on with the first
+    let short = [0xE1, 0x10, 1, 0, 3, 6, 1, 2, 3, 4, 5, 6];
+    let rows = [
+        holds(12, 64, &plain, &[0xD0, 0, 0], 2),
+        holds(12, 180, &delivered, &[], 2),
+        holds(12, 64, &long_form, &[0xD0, 0, 0], 2),
+        holds(12, 64, &elephant, b"elephant", 2),
+        holds(12, 64, &two, &[0xDE, 0xAD, 0xBE, 0xEF], 2),
+        holds(
+            12,
+            64,
+            &reserved,
+            &[1, 2, 3, 4, 5, 6, 7, 8, 9, 10, 11, 12],
+            3,
+        ),
+        holds(12, 24, &short, &[1, 2, 3, 4, 5, 6], 2),
+        lacks(12, 64, &[0, 0, 0, 0], 1, 1),
+        lacks(12, 64, &[0xE1, 0x20, 6, 0], 2, 1),
+        lacks(12, 64, &[0xE1, 0x10, 6, 0xF0], 3, 1),
+        lacks(12, 64, &[0xE1, 0x10, 0x7F, 0], 4, 1),
+        lacks(12, 64, &[0xE1, 0x10, 0, 0], 5, 1),
+        lacks(12, 64, &[0xE1, 0x10, 6, 0, 0xFE], 6, 2),
+        lacks(12, 64, &[0xE1, 0x10, 6, 0], 6, 4),
+        lacks(12, 64, &[0xE1, 0x10, 6, 0, 3, 0x30], 7, 2),
+        lacks(12, 64, &[0xE1, 0x10, 6, 0, 3, 0xFF, 0xFF, 0xFF], 7, 2),
+    ];
+    for row in &rows {
+        let tag = T2Tag::new(store_of(rt.alloc(), row)?)?;
+        let (outcome, asks) = read_t2(rt.alloc(), tag, 1000);
+        assert!(rt;
+            is_told(row, &outcome, asks),
+            "at {:?}: {outcome:?} {asks}",
+            row.head
+        );
+    }
+    Ok(())
+}
+
+#[test]
+fn reads_type_5_tags(rt: HostRuntime) -> Result<(), Fail> {
+    let id = [0xE0, 4, 1, 2, 3, 4, 5, 6];
+    let message = [0xD0, 0, 0];
+    let plain = [0xE1, 0x40, 0x0F, 0, 3, 3, 0xD0, 0, 0, 0xFE];
+    let cut = [0xE1, 0x40, 6, 0, 3, 3, 0xD0, 0, 0, 0xFE];
+    // the size of a block, and the row
+    let rows = [
+        (4, holds(0, 128, &plain, &message, 3)),
+        (4, holds(0, 16, &cut, &message, 3)),
+        (32, holds(0, 32, &cut, &message, 1)),
+        (4, lacks(0, 16, &[0, 0, 0, 0], 1, 1)),
+        (4, lacks(0, 16, &[0xE1, 0x80, 6, 0], 2, 1)),
+        (4, lacks(0, 16, &[0xE1, 0x4C, 6, 0], 3, 1)),
+        (4, lacks(0, 16, &[0xE1, 0x40, 0, 0], 5, 1)),
+        // the tag ends before its area, where nothing was found or a value goes on
+        (4, lacks(0, 16, &[0xE1, 0x40, 6, 0], 6, 5)),
+        (4, lacks(0, 16, &[0xE1, 0x40, 6, 0, 3, 0x20], 7, 5)),
+        (4, lacks(0, 16, &[0xE1, 0x40, 6, 0, 3, 0x30], 7, 2)),
+        // the numbers of blocks end before the area
+        (4, lacks(0, 1024, &[0xE1, 0x40, 0xFF, 0], 6, 256)),
+    ];
+    for (block, row) in &rows {
+        let tag = T5Tag::new(id, store_of(rt.alloc(), row)?, *block)?;
+        let (outcome, asks) = read_t5(rt.alloc(), id, tag);
+        assert!(rt;
+            is_told(row, &outcome, asks),
+            "at {:?}: {outcome:?} {asks}",
+            row.head
+        );
+    }
+    Ok(())
+}
+
+#[test]
+fn reads_what_is_closed_and_what_goes_away(rt: HostRuntime) -> Result<(), Fail> {
+    let closed = Row {
+        zeros: 12,
+        size: 64,
+        head: &[0xE1, 0x10, 6, 0x0F, 3, 0, 0xFE],
+        fault: 0,
+        message: &[],
+        writable: false,
+        asks: 2,
+    };
+    let tag = T2Tag::new(store_of(rt.alloc(), &closed)?)?;
+    one_asked(How::T2, 16, tag.store());
+    let (outcome, asks) = read_t2(rt.alloc(), tag, 1000);
+    assert!(rt; is_told(&closed, &outcome, asks));
+    for left in 0..2 {
+        let lost = lacks(12, 64, closed.head, 9, left);
+        let tag = T2Tag::new(store_of(rt.alloc(), &lost)?)?;
+        let (outcome, asks) = read_t2(rt.alloc(), tag, left as u16);
+        assert!(rt; is_told(&lost, &outcome, asks), "after {left}");
+    }
+    Ok(())
+}
