@@ -24,13 +24,13 @@ use Rattle.tag_reader.specs.declared.found.Site.TheVariants.{Area}
 use Rattle.tag_reader.specs.declared.how.How.{How}
 use Rattle.tag_reader.specs.Kinds.{IsTag}
 use Rattle.tag_reader.specs.Asked.{IsAsked}
-use Rattle.tag_reader.specs.Calls.{HasAskedAll}
+use Rattle.tag_reader.specs.Calls.{HasAskedAll, GoesOn}
 use Rattle.tag_reader.specs.Reading.{IsFound, IsSite, IsReadFault, IsToldOrMemory, IsCalm, is_told}
 use Rattle.nfc_bench.specs.declared.device.Device.{Device}
 use Rattle.nfc_bench.specs.declared.entry.Answer.{Answer}
 use Rattle.nfc_bench.specs.declared.entry.Answer.TheVariants as answers
 use Rattle.nfc_bench.specs.Device.{device_store, how_of, size_of}
-use Rattle.nfc_bench.specs.Reading.{IsAccessOf, TellsOf}
+use Rattle.nfc_bench.specs.Reading.{IsAccess, TellsOf}
 use Rattle.nfc_bench.specs.Phases.{ghosts, kept, Stands, Reads, MayEnd, told_by}
 use Rattle.nfc_bench.proofs.ReadingTags.{has_tag, begun, shows_tag, shows_store, stands_one}
 use Rattle.nfc_bench.proofs.ReadingAir.{IsRead, all_reads, events_keep, no_noise, no_queue}
@@ -62,7 +62,7 @@ unfinished None last e = refl
 unfinished (Some f) last e = absurd cc
 
 -- a found message is what the answer tells
-found_access : (d : Device) (site : Site) (writable : Bool) → IsSite (how_of d) (size_of d) (device_store d) site writable → IsAccessOf d writable
+found_access : (d : Device) (site : Site) (writable : Bool) → IsSite (how_of d) (size_of d) (device_store d) site writable → IsAccess (how_of d) (size_of d) (device_store d) writable
 found_access d (Area m) writable is = (m.space, is.0, is.2)
 
 pub found_tells : (d : Device) (found : Found) → IsFound (how_of d) (size_of d) (device_store d) found → TellsOf d (answers.Message found.message found.writable)
@@ -118,19 +118,19 @@ module _ (a : Air Device) (place : ℕ) (d : Device) (s : Stands (moment a) plac
   }
 
   -- what was asked is all that is asked of the tag
-  asked_all : (all : HasAskedAll (how_of d) (size_of d) (plain_view ghosts (begun a place)).state.store (plain_view ghosts (begun a place)) (plain_view ghosts q)) → m.asked ≡ all.commands
-  asked_all all =
+  asked_all : (all : HasAskedAll (how_of d) (size_of d) (plain_view ghosts (begun a place)).state.store (plain_view ghosts (begun a place)) (plain_view ghosts q)) → q.over ≡ None → m.asked ≡ all.commands
+  asked_all all open' =
       let none : answered_by_link ghosts (begun a place) ≡ [] = ap answered_in (none_behind a.trace) in
       let told : answered_by_link ghosts q ++ unanswered q.over q.last ≡ answered_by_link ghosts (begun a place) ++ m.asked = m.told refl in
       let front : answered_by_link ghosts q ++ unanswered q.over q.last ≡ all.commands =
-      ap (λ xs. answered_by_link ghosts q ++ xs) (unfinished q.over q.last all.over) ∙ append-nil (answered_by_link ghosts q)
+      ap (λ xs. answered_by_link ghosts q ++ xs) (unfinished q.over q.last open') ∙ append-nil (answered_by_link ghosts q)
       ∙ all.answered ∙ ap (λ xs. xs ++ all.commands) none in
       sym (told ∙ ap (λ xs. xs ++ m.asked) none) ∙ front
 
   pub read_done : (answer : Answer) → HasAskedAll (how_of d) (size_of d) (plain_view ghosts (begun a place)).state.store (plain_view ghosts (begun a place)) (plain_view ghosts q)
-      → TellsOf d answer → Reads (moment a) (moment q.air) d answer
-  read_done answer all tells =
-      let same : m.asked ≡ all.commands = asked_all all in
+      → q.over ≡ None → TellsOf d answer → Reads (moment a) (moment q.air) d answer
+  read_done answer all open' tells =
+      let same : m.asked ≡ all.commands = asked_all all open' in
       let store : (plain_view ghosts (begun a place)).state.store ≡ device_store d = shows_store a place d s in
       let reads : AllByRecursion (IsRead (how_of d)) m.asked =
       subst (AllByRecursion (IsRead (how_of d))) (sym (same ∙ all.all.list)) (all_reads (how_of d) all.all.count) in
@@ -140,7 +140,7 @@ module _ (a : Air Device) (place : ℕ) (d : Device) (s : Stands (moment a) plac
         asks = subst (λ xs. IsAsked (how_of d) (size_of d) (device_store d) xs) (sym same) (subst (λ xs. IsAsked (how_of d) (size_of d) xs all.commands) store all.all);
         notes = m.notes;
         going = m.going;
-        answered = subst (λ o. StandsAt o (stand 0 m.asked m.notes)) all.over (m.stands refl);
+        answered = subst (λ o. StandsAt o q.air.lit (stand 0 m.asked m.notes)) open' (m.stands refl);
         tells = tells;
         queue = ap (λ (t : Moment (World Device)). t.queue) m.going.moment ∙ ap (λ (xs : List Fate). queue_after xs m.going.events) s.queue ∙ no_queue m.going.events;
         same = ap (λ (w : World Device). map kept w.listeners) moved.2
@@ -189,29 +189,31 @@ module _ (p : PlainSeen Device) (is : IsNew p) (how : How) (one : (e : Device) �
     abbrev pub IsAskedOf : How → ℕ → PlainSeen Device → Type 0
     IsAskedOf h size x = HasAskedAll h size (plain_view ghosts x).state.store (plain_view ghosts x) (plain_view ghosts q)
 
-    ends : (answer : Answer) → IsAskedOf how (size_of one.0) p → TellsOf one.0 answer → (d : Device) → Stands (moment p.air) p.place d → Reads (moment p.air) (moment q.air) d answer
-    ends answer all tells d stands =
+    ends : (answer : Answer) → IsAskedOf how (size_of one.0) p → q.over ≡ None → TellsOf one.0 answer → (d : Device) → Stands (moment p.air) p.place d → Reads (moment p.air) (moment q.air) d answer
+    ends answer all open' tells d stands =
         let same : d ≡ one.0 = stands_one p.air p.place one.0 one.1 d stands in
         let here : IsAskedOf (how_of one.0) (size_of one.0) (begun p.air p.place) =
         subst (λ x. IsAskedOf (how_of one.0) (size_of one.0) x) (sym (new_is p is)) (subst (λ h. IsAskedOf h (size_of one.0) p) one.2 all) in
-        subst (λ e. Reads (moment p.air) (moment q.air) e answer) (sym same) (read_done p.air p.place one.0 one.1 q from_new answer here tells)
+        subst (λ e. Reads (moment p.air) (moment q.air) e answer) (sym same) (read_done p.air p.place one.0 one.1 q from_new answer here open' tells)
 
-    pub ends_found : (found : Found) → ((size : ℕ) → IsTag how size (plain_view ghosts p) → IsAskedOf how size p)
+    pub ends_found : (found : Found) → ((size : ℕ) → IsTag how size (plain_view ghosts p) → IsAskedOf how size p) → GoesOn (plain_view ghosts p) (plain_view ghosts q)
         → ((size : ℕ) → IsTag how size (plain_view ghosts p) → IsFound how size (plain_view ghosts p).state.store found)
         → (d : Device) → Stands (moment p.air) p.place d → Reads (moment p.air) (moment q.air) d (answers.Message found.message found.writable)
-    ends_found found whole ok =
+    ends_found found whole goes_on ok =
         let held : IsFound (how_of one.0) (size_of one.0) (device_store one.0) found =
         subst (λ xs. IsFound (how_of one.0) (size_of one.0) xs found) new_store
         (subst (λ h. IsFound h (size_of one.0) (plain_view ghosts p).state.store found) one.2 (ok new_is_tag.0 new_is_tag.1)) in
-        ends (answers.Message found.message found.writable) (whole new_is_tag.0 new_is_tag.1) (found_tells one.0 found held)
+        ends (answers.Message found.message found.writable) (whole new_is_tag.0 new_is_tag.1) goes_on.over (found_tells one.0 found held)
 
     pub ends_told : (fault : ReadFault) (result : Result Answer AllocError) → IfOk result (λ answer. told_by fault ≡ Some answer)
         → ((size : ℕ) → IsTag how size (plain_view ghosts p) → is_told fault ≡ true → IsAskedOf how size p)
+        → (is_told fault ≡ true → GoesOn (plain_view ghosts p) (plain_view ghosts q))
         → IsReadFault how (plain_view ghosts p).state.store (plain_view ghosts p) (plain_view ghosts q) fault
         → IfOk result (λ answer. (d : Device) → Stands (moment p.air) p.place d → Reads (moment p.air) (moment q.air) d answer)
-    ends_told fault (Err e) told whole err = tt
-    ends_told fault (Ok answer) told whole err =
+    ends_told fault (Err e) told whole goes_on err = tt
+    ends_told fault (Ok answer) told whole goes_on err =
+        let is : is_told fault ≡ true = told_fault fault answer told in
         let here : IsReadFault (how_of one.0) (device_store one.0) (plain_view ghosts p) (plain_view ghosts q) fault =
         subst (λ xs. IsReadFault (how_of one.0) xs (plain_view ghosts p) (plain_view ghosts q) fault) new_store
         (subst (λ h. IsReadFault h (plain_view ghosts p).state.store (plain_view ghosts p) (plain_view ghosts q) fault) one.2 err) in
-        ends answer (whole new_is_tag.0 new_is_tag.1 (told_fault fault answer told)) (fault_tells one.0 (plain_view ghosts p) (plain_view ghosts q) fault answer told here)
+        ends answer (whole new_is_tag.0 new_is_tag.1 is) (goes_on is).over (fault_tells one.0 (plain_view ghosts p) (plain_view ghosts q) fault answer told here)

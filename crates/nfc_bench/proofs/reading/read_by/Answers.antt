@@ -26,9 +26,9 @@ told-requires c =
 pub returns-in-Ok-clause-tells : goal.returns-in-Ok-clause-tells
 returns-in-Ok-clause-tells c =
     let new : IsNew (seen c.args.link.now) = record { start = c.requires.fresh.0; last = c.requires.fresh.1; over = c.requires.fresh.2 } in
-    ends_found (seen c.args.link.now) new c.args.how c.requires.tag (seen c.read.new.link) c.in-Ok.ensures.moves c.in-Ok.field-0 c.in-Ok.ensures.whole c.in-Ok.ensures.ok
+    ends_found (seen c.args.link.now) new c.args.how c.requires.tag (seen c.read.new.link) c.in-Ok.ensures.moves c.in-Ok.field-0 c.in-Ok.ensures.whole c.in-Ok.ensures.goes_on c.in-Ok.ensures.ok
 
 pub returns-in-Err-clause-tells : goal.returns-in-Err-clause-tells
 returns-in-Err-clause-tells c =
     let new : IsNew (seen c.args.link.now) = record { start = c.requires.fresh.0; last = c.requires.fresh.1; over = c.requires.fresh.2 } in
-    ends_told (seen c.args.link.now) new c.args.how c.requires.tag (seen c.read.new.link) c.in-Err.ensures.moves c.in-Err.fault c.told.result c.told.ensures c.in-Err.ensures.whole c.in-Err.ensures.err
+    ends_told (seen c.args.link.now) new c.args.how c.requires.tag (seen c.read.new.link) c.in-Err.ensures.moves c.in-Err.fault c.told.result c.told.ensures c.in-Err.ensures.whole c.in-Err.ensures.goes_on c.in-Err.ensures.err
