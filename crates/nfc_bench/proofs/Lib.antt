@@ -4,6 +4,13 @@ pub mod Lines
 pub mod Placing
 pub mod Placed
 pub mod Ours
+pub mod Picking
+pub mod Asking
+pub mod TagTwo
+pub mod TagFive
+pub mod ReadingTags
+pub mod ReadingAir
+pub mod ReadingEnds
 pub mod SelectingTurns
 pub mod SelectingPlaces
 pub mod SelectingResets

@@ -1,5 +1,5 @@
 -- What the parts of a read say of the field. No public contract speaks of these.
-use Rattle.std.specs.Prelude.{◌≡◌, ℕ, List, [], ◌∷◌, ◌++◌, map, length, slice_index, ◌<◌, true}
+use Rattle.std.specs.Prelude.{◌≡◌, ◌⊎◌, ℕ, List, [], ◌∷◌, ◌++◌, map, length, slice_index, ◌<◌, true, Option, Some, None, IsSome}
 use Rattle.std.specs.List.{AllByRecursion}
 use Rattle.nfc_base.specs.declared.frame.Tech.TheVariants.{A, V}
 use Rattle.nfc_base.specs.Signal.{Signal}
@@ -12,12 +12,15 @@ use Rattle.air_core.specs.Waits.{Asking, stand, waits_next}
 use Rattle.nfca_poll.specs.Ident.{IsIdent}
 use Rattle.t2t_tag.specs.Store.{IsT2Store}
 use Rattle.t5t_tag.specs.Store.{IsT5Store, id_size}
+use Rattle.tag_reader.specs.declared.fault.ReadFault.{ReadFault}
+use Rattle.tag_reader.specs.declared.fault.ReadFault.TheVariants as faults
 use Rattle.tag_reader.specs.declared.how.How.{How}
 use Rattle.tag_reader.specs.declared.how.How.TheVariants.{T2, T5}
 use Rattle.nfc_bench.specs.declared.command.DeviceId.{DeviceId}
 use Rattle.nfc_bench.specs.declared.command.DeviceId.TheVariants as ids
 use Rattle.nfc_bench.specs.declared.device.Device.{Device}
 use Rattle.nfc_bench.specs.declared.entry.Answer.{Answer}
+use Rattle.nfc_bench.specs.declared.entry.Answer.TheVariants as answers
 use Rattle.nfc_bench.specs.Device.{devices, device_id, device_store, device_ready, device_selected, device_commands, how_of, size_of}
 use Rattle.nfc_bench.specs.Polling.{polling, bytes_of, IsFoundBy}
 use Rattle.nfc_bench.specs.Reading.{AsksOf, TellsOf}
@@ -100,6 +103,25 @@ pub record Selects (id : DeviceId) (old new : Moment (World Device)) (place : �
   pub named : device_id device ≡ bytes_of id
   pub stands : Stands new place device
   pub same : map kept new.world.listeners ≡ map kept old.world.listeners
+
+-- the answer that tells of a fault, where the fault is one of the store
+abbrev pub told_by : ReadFault → Option Answer
+told_by faults.NotNdef = Some answers.NotNdef
+told_by faults.Version = Some answers.Version
+told_by faults.NoRead = Some answers.NoRead
+told_by faults.Sectors = Some answers.Sectors
+told_by faults.BadSize = Some answers.BadSize
+told_by faults.NoMessageTlv = Some answers.NoMessageTlv
+told_by faults.BadTlv = Some answers.BadTlv
+told_by (faults.Refused code) = None
+told_by faults.FieldLost = None
+told_by faults.SixBad = None
+told_by faults.Memory = None
+told_by faults.Protocol = None
+
+-- a fault that ends a read where no fate is left: one of the store, or want of memory
+abbrev pub MayEnd : ReadFault → Type 0
+MayEnd e = IsSome (told_by e) ⊎ (e ≡ faults.Memory)
 
 -- Reading asked all that it asks of a device, and tells what its store holds. No device changed but in its state.
 pub record Reads (old new : Moment (World Device)) (d : Device) (answer : Answer) : Type 0 where

@@ -1,16 +1,16 @@
 //! Reading the selected tag.
 
-ghost use Rattle.std.specs.Prelude.{◌≡◌, IfOk};
+ghost use Rattle.std.specs.Prelude.{◌≡◌, IfOk, Some, None, length};
 ghost use Rattle.air_core.specs.Turn.{moment};
 ghost use Rattle.nfc_bench.specs.declared.device.Device.{Device as Placed};
 ghost use Rattle.nfc_bench.specs.Device.{how_of};
-ghost use Rattle.nfc_bench.specs.Phases.{Stands, Reads};
+ghost use Rattle.nfc_bench.specs.Phases.{Stands, Reads, MayEnd, told_by};
 
 use crate::device::Device;
 use crate::entry::Answer;
 use air_core::{Field, PlainLink};
 use std::alloc::{AllocError, Global};
-use tag_reader::{How, ReadFault};
+use tag_reader::{Found, How, ReadFault};
 
 /// What the selected tag at a place holds, where no fate is left.
 pub fn read(
@@ -23,17 +23,33 @@ pub fn read(
     ensures { IfOk result (λ answer. (d : Placed) → Stands (moment field.old) place d → Reads (moment field.old) (moment field.new) d answer) }
 {
     let mut link = PlainLink::on(field, place);
-    match tag_reader::read(alloc, &mut link, how) {
-        Ok(found) => Ok(Answer::Message {
-            message: found.message,
-            writable: found.writable,
-        }),
+    read_by(alloc, &mut link, how)
+}
+
+/// What the tag behind a new link holds.
+fn read_by(alloc: Global, link: &mut PlainLink<Device>, how: How) -> Result<Answer, AllocError>
+    requires tag { (d : Placed) × Stands (moment link.old.field.now) link.old.place d × (how ≡ how_of d) }
+    requires fresh { (link.old.start ≡ length link.old.field.now.trace) × (link.old.last ≡ None) × (link.old.over ≡ None) }
+    ensures same { link.new.field.ghost_name ≡ link.old.field.ghost_name }
+    ensures tells { IfOk result (λ answer. (d : Placed) → Stands (moment link.old.field.now) link.old.place d → Reads (moment link.old.field.now) (moment link.new.field.now) d answer) }
+{
+    match tag_reader::read(alloc, link, how) {
+        Ok(
+            Found {
+                message,
+                site: _,
+                writable,
+            },
+        ) => Ok(Answer::Message { message, writable }),
         Err(fault) => told(fault),
     }
 }
 
 /// A fault that the store has is an answer. Those of the link never come, since nothing disturbs it.
-fn told(fault: ReadFault) -> Result<Answer, AllocError> {
+fn told(fault: ReadFault) -> Result<Answer, AllocError>
+    requires { MayEnd fault }
+    ensures { IfOk result (λ answer. told_by fault ≡ Some answer) }
+{
     match fault {
         ReadFault::NotNdef => Ok(Answer::NotNdef),
         ReadFault::Version => Ok(Answer::Version),

@@ -1,0 +1,144 @@
+-- What the frames of a read change of the devices: nothing that stays.
+use Rattle.std.proofs.Common.{◌≡◌, ℕ, zero, suc, List, [], ◌∷◌, ◌++◌, length, drop, Bool, true, false, ◌==◌, not, nat_lt, if◌then◌else◌, None, refl, ◌∙◌, ap, subst, arith}
+use Rattle.std.specs.Prelude.{map}
+use Rattle.std.specs.List.{AllByRecursion}
+use Rattle.nfc_base.specs.declared.event.Event.{Event}
+use Rattle.nfc_base.specs.declared.event.Event.TheVariants.{Reset, Request, Answer, Clash}
+use Rattle.nfc_base.specs.declared.tag_link.AskFault.TheVariants.{SixBad}
+use Rattle.nfc_base.specs.Signal.{Signal}
+use Rattle.nfc_base.specs.Trace.{is_bad_in_wait, noise, other_than_pass}
+use Rattle.air_core.specs.World.{World, stepped_by, requested, came_back}
+use Rattle.air_core.specs.Conversation.{Note, Lit, Got, Lost, LightUp, Asks, receptions, EachDue, queue_after, FatesFrom, replay}
+use Rattle.air_core.specs.Waits.{Standing, Asking, Broken, Astray, stand, due_at, waits_next}
+use Rattle.nfca_poll.specs.Front.{Front, Off, Idle, Sleep, Ready, Active}
+use Rattle.t2t_tag.specs.Store.{T2Memory}
+use Rattle.t5t_tag.specs.Store.{T5State, id_size}
+use Rattle.t5t_tag.specs.Spelling.{read_code}
+use Rattle.t5t_tag.specs.Step.{silent, refuses, not_supported, read_turn, obeyed, names, addressed, t5_after}
+use Rattle.t5t_tag.proofs.Steps.{read_leaves}
+use Rattle.tag_reader.specs.declared.how.How.{How}
+use Rattle.tag_reader.specs.declared.how.How.TheVariants as hows
+use Rattle.tag_reader.specs.Kinds.{command, first}
+use Rattle.nfc_bench.specs.Powered.{Powered}
+use Rattle.nfc_bench.specs.declared.device.Device.{Device}
+use Rattle.nfc_bench.specs.declared.device.Device.TheVariants.{T2, T5}
+use Rattle.nfc_bench.specs.Device.{devices, device_after}
+use Rattle.nfc_bench.specs.Legal.{air}
+use Rattle.nfc_bench.specs.Phases.{kept}
+
+-- a READ leaves a Type 5 tag as it is
+obeyed_leaves : (t : T5State) (rest : List ℕ) → (obeyed t read_code rest).after ≡ t
+obeyed_leaves t [] = refl
+obeyed_leaves t (block ∷ rest) = by_length (length rest == 0)
+  where
+    by_length : (v : Bool) → (if v then read_turn t block else refuses t not_supported).after ≡ t
+    by_length true = read_leaves t block
+    by_length false = refl
+
+read_addressed : (t : T5State) (rest : List ℕ) → (addressed t (read_code ∷ rest)).after ≡ t
+read_addressed t rest = by_names (names t rest)
+  where
+    by_names : (v : Bool) → (if not v then silent t else obeyed t read_code (drop id_size rest)).after ≡ t
+    by_names true = obeyed_leaves t (drop id_size rest)
+    by_names false = refl
+
+-- so does one of each kind of device, whichever it hears
+read_two : (id : List ℕ) (front : Front) (u : T2Memory) (k : ℕ)
+    → kept (device_after (T2 (record { id = id; front = front; upper = u })) (command hows.T2 k)) ≡ kept (T2 (record { id = id; front = front; upper = u }))
+read_two id Off u k = refl
+read_two id Idle u k = refl
+read_two id Sleep u k = refl
+read_two id (Ready level starred) u k = refl
+read_two id (Active starred) u k = refl
+
+read_five : (id : List ℕ) (p : Powered) (k : ℕ) → kept (device_after (T5 p) (command (hows.T5 id) k)) ≡ kept (T5 p)
+read_five id p k = by_light p.lit
+  where
+    by_light : (v : Bool) → kept (if v then T5 (record { tag = t5_after p.tag (command (hows.T5 id) k); lit = true }) else T5 p) ≡ kept (T5 p)
+    by_light true = ap (λ t. kept (T5 (record { tag = t; lit = true }))) (read_addressed p.tag _)
+    by_light false = refl
+
+read_keeps : (how : How) (k : ℕ) (d : Device) → kept (stepped_by devices d (command how k) None) ≡ kept d
+read_keeps hows.T2 k (T2 d) = read_two d.id d.front d.upper k
+read_keeps hows.T2 k (T5 p) = refl
+read_keeps (hows.T5 id) k (T2 d) = refl
+read_keeps (hows.T5 id) k (T5 p) = read_five id p k
+
+-- a frame that asks for bytes
+abbrev pub IsRead : How → Signal → Type 0
+IsRead how f = (k : ℕ) × (f ≡ command how k)
+
+all_more : (P : Signal → Type 0) (xs : List Signal) (y : Signal) → AllByRecursion P xs → P y → AllByRecursion P (xs ++ y ∷ [])
+all_more P [] y all here = (here, tt)
+all_more P (x ∷ xs) y all here = (all.0, all_more P xs y all.1 here)
+
+pub all_reads : (how : How) (n : ℕ) → AllByRecursion (IsRead how) (first how n)
+all_reads how zero = tt
+all_reads how (suc n) = all_more (IsRead how) (first how n) (command how n) (all_reads how n) (n, refl)
+
+map_keeps : (how : How) (f : Signal) → IsRead how f → (ls : List Device) → map kept (map (λ l. stepped_by devices l f None) ls) ≡ map kept ls
+map_keeps how f is [] = refl
+map_keeps how f is (l ∷ ls) =
+    ap (λ x. x ∷ map kept (map (λ l. stepped_by devices l f None) ls)) (ap (λ g. kept (stepped_by devices l g None)) is.1 ∙ read_keeps how is.0 l)
+    ∙ ap (λ xs. kept l ∷ xs) (map_keeps how f is ls)
+
+-- what is due in a wait is one of the commands
+abbrev AllLeft : (Signal → Type 0) → Standing → Type 0
+AllLeft P (Asking bad cs) = AllByRecursion P cs
+AllLeft P (Broken e cs) = Unit {0}
+AllLeft P Astray = Unit {0}
+
+by_heard : (P : Signal → Type 0) (bad : ℕ) (c : Signal) (cs : List Signal) (ns : List Note) (v w : Bool) → AllLeft P (stand (suc bad) (c ∷ cs) ns) → AllLeft P (stand 0 cs ns)
+    → AllLeft P (if v then (if w then stand (suc bad) (c ∷ cs) ns else Broken SixBad (c ∷ cs)) else stand 0 cs ns)
+by_heard P bad c cs ns true true more whole = more
+by_heard P bad c cs ns true false more whole = tt
+by_heard P bad c cs ns false w more whole = whole
+
+stand_all : (P : Signal → Type 0) (bad : ℕ) (cs : List Signal) (ns : List Note) → AllByRecursion P cs → AllLeft P (stand bad cs ns)
+stand_all P bad cs [] all = all
+stand_all P bad [] (n ∷ ns) all = tt
+stand_all P bad (c ∷ cs) (Lit ∷ ns) all = tt
+stand_all P bad (c ∷ cs) (Lost ∷ ns) all = tt
+stand_all P bad (c ∷ cs) (Got h ∷ ns) all = by_heard P bad c cs ns (is_bad_in_wait h) (nat_lt bad 5) (stand_all P (suc bad) (c ∷ cs) ns all) (stand_all P 0 cs ns all.1)
+
+due_all : (P : Signal → Type 0) (s : Standing) (f : Signal) → AllLeft P s → due_at s ≡ Asks f → P f
+due_all P (Asking bad []) f all e = absurd cc
+due_all P (Asking bad (c ∷ cs)) f all e = (let same : c ≡ f = cc in subst P same all.0)
+due_all P (Broken x cs) f all e = absurd cc
+due_all P Astray f all e = absurd cc
+
+never_light : (s : Standing) → due_at s ≡ LightUp → ⊥
+never_light (Asking bad []) e = cc
+never_light (Asking bad (c ∷ cs)) e = cc
+never_light (Broken x cs) e = cc
+never_light Astray e = cc
+
+pub events_keep : (how : How) (cs : List Signal) → AllByRecursion (IsRead how) cs → (w : World Device) (before es : List Event)
+    → EachDue (waits_next cs) before es → FatesFrom [] es → map kept (replay air w es).listeners ≡ map kept w.listeners
+events_keep how cs all w before [] due fates = refl
+events_keep how cs all w before (Reset ∷ es) due fates = absurd (never_light (stand 0 cs (receptions before)) due.0)
+events_keep how cs all w before (Request f x ∷ es) due fates =
+    events_keep how cs all (requested devices w f x) (before ++ Request f x ∷ []) es due.1 fates.1
+    ∙ ap (λ y. map kept (requested devices w f y).listeners) fates.0
+    ∙ map_keeps how f (due_all (IsRead how) (stand 0 cs (receptions before)) f (stand_all (IsRead how) 0 cs (receptions before) all) due.0) w.listeners
+events_keep how cs all w before (Answer g x ∷ es) due fates =
+    events_keep how cs all (came_back devices w x) (before ++ Answer g x ∷ []) es due fates.1
+    ∙ ap (λ y. map kept (came_back devices w y).listeners) fates.0
+events_keep how cs all w before (Clash g x ∷ es) due fates =
+    events_keep how cs all (came_back devices w x) (before ++ Clash g x ∷ []) es due fates.1
+    ∙ ap (λ y. map kept (came_back devices w y).listeners) fates.0
+
+-- where no fate is left all passes, and none is left then
+pub no_noise : (es : List Event) → FatesFrom [] es → noise es ≡ 0
+no_noise [] fates = refl
+no_noise (Reset ∷ es) fates = no_noise es fates
+no_noise (Request f x ∷ es) fates = let passed : other_than_pass x ≡ 0 = ap other_than_pass fates.0 in omega (arith, passed, no_noise es fates.1)
+no_noise (Answer f x ∷ es) fates = let passed : other_than_pass x ≡ 0 = ap other_than_pass fates.0 in omega (arith, passed, no_noise es fates.1)
+no_noise (Clash f x ∷ es) fates = let passed : other_than_pass x ≡ 0 = ap other_than_pass fates.0 in omega (arith, passed, no_noise es fates.1)
+
+pub no_queue : (es : List Event) → queue_after [] es ≡ []
+no_queue [] = refl
+no_queue (Reset ∷ es) = no_queue es
+no_queue (Request f x ∷ es) = no_queue es
+no_queue (Answer f x ∷ es) = no_queue es
+no_queue (Clash f x ∷ es) = no_queue es

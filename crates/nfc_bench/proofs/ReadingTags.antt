@@ -1,0 +1,81 @@
+-- The selected tag of a read, as a link sees it.
+use Rattle.std.proofs.Common.{◌≡◌, ℕ, [], length, false, Some, None, refl, sym, ◌∙◌, ap, subst}
+use Rattle.nfc_base.specs.declared.frame.Tech.TheVariants.{A, V}
+use Rattle.nfc_base.specs.TagLinks.{TagState, LinkView, plain_state}
+use Rattle.air_core.specs.Turn.{Air, moment}
+use Rattle.air_core.specs.PlainTags.{plain_kind, IsPlainTag, HasPlainTag, IsAlone}
+use Rattle.air_core.specs.PlainLinks.{PlainSeen, at_place, plain_view}
+use Rattle.air_core.proofs.PlainStores.{place_is}
+use Rattle.t2t_tag.specs.Store.{IsT2Store}
+use Rattle.t5t_tag.specs.Store.{IsT5Store}
+use Rattle.tag_reader.specs.Kinds.{IsTag}
+use Rattle.nfc_bench.specs.declared.device.Device.{Device}
+use Rattle.nfc_bench.specs.declared.device.Device.TheVariants.{T2, T5}
+use Rattle.nfc_bench.specs.Device.{device_tech, device_id, device_store, device_commands, how_of, size_of}
+use Rattle.nfc_bench.specs.Phases.{ghosts, kept, IsSound, Stands}
+use Rattle.nfc_bench.proofs.TagTwo.{plain_two}
+use Rattle.nfc_bench.proofs.TagFive.{plain_five}
+
+plain_device : (d : Device) → IsPlainTag ghosts (plain_kind (device_tech d)) (device_id d) d
+plain_device (T2 d) = plain_two d
+plain_device (T5 p) = plain_five p
+
+eight_bytes : (d : Device) → IsSound (kept d) → device_tech d ≡ V → length (device_id d) ≡ 8
+eight_bytes (T2 d) is e = absurd cc
+eight_bytes (T5 p) is e = is.1
+
+pub stands_alone : (a : Air Device) (place : ℕ) (d : Device) → Stands (moment a) place d → IsAlone ghosts (device_id d) a.listeners place d
+stands_alone a place d s = record {
+  before = s.before;
+  behind = s.behind;
+  split = ap (λ w. w.listeners) s.world;
+  stands = s.at;
+  first = s.first;
+  later = s.later;
+}
+
+pub has_tag : (a : Air Device) (place : ℕ) (d : Device) → Stands (moment a) place d → HasPlainTag ghosts a place
+has_tag a place d s = record {
+  tag = d;
+  selected = s.selected;
+  alone = stands_alone a place d s;
+  eight = eight_bytes d s.sound;
+  plain = plain_device d;
+}
+
+-- a view that shows a device shows a tag of its kind
+tag_by : (v : LinkView) (d : Device) → v.kind ≡ plain_kind (device_tech d) → v.identifier ≡ device_id d → v.step ≡ device_commands d
+    → v.state ≡ plain_state (device_store d) → IsSound (kept d) → IsTag (how_of d) (size_of d) v
+tag_by v (T2 e) kind named step state is = record {
+  kind = kind;
+  named = tt;
+  store = (refl, subst (λ (s : TagState). IsT2Store s.store) (sym state) is.3);
+  steps = (e.upper.locked, λ s c h may. ap (λ st. st s c) step);
+}
+tag_by v (T5 p) kind named step state is = record {
+  kind = kind;
+  named = (named, is.1, is.2);
+  store = subst (λ (s : TagState). IsT5Store p.tag.size s.store) (sym state) is.3;
+  steps = (p.tag.locked, false, λ s c h may. ap (λ st. st s c) step);
+}
+
+-- the link when it is made
+abbrev pub begun : Air Device → ℕ → PlainSeen Device
+begun a place = record { air = a; place = place; start = length a.trace; last = None; over = None }
+
+module _ (a : Air Device) (place : ℕ) (d : Device) (s : Stands (moment a) place d) where
+  seen : {B : Type 0} (f : Device → B) (o : B) → at_place f o a.listeners place ≡ f d
+  seen f o = place_is ghosts f o (device_id d) a.listeners place d (stands_alone a place d s)
+
+  pub shows_tag : IsTag (how_of d) (size_of d) (plain_view ghosts (begun a place))
+  shows_tag = tag_by (plain_view ghosts (begun a place)) d (ap plain_kind (seen device_tech A)) (seen device_id []) (seen device_commands _) (ap plain_state (seen device_store [])) s.sound
+
+  pub shows_store : (plain_view ghosts (begun a place)).state.store ≡ device_store d
+  shows_store = seen device_store []
+
+  -- no other device stands there
+  pub stands_one : (e : Device) → Stands (moment a) place e → e ≡ d
+  stands_one e t =
+      let there : at_place (λ x. Some x) None a.listeners place ≡ Some e = place_is ghosts (λ x. Some x) None (device_id e) a.listeners place e (stands_alone a place e t) in
+      let same : Some e ≡ Some d = sym there ∙ seen (λ x. Some x) None in
+      cc

@@ -1,0 +1,34 @@
+use Rattle.nfc_bench.specs.declared.device.Device.{Device}
+use Rattle.air_core.specs.PlainLinks.{PlainSeen}
+use Rattle.air_core.specs.declared.plain_link.PlainLink.{PlainLink}
+use Rattle.nfc_bench.proofs.ReadingEnds.{IsNew, new_ready, new_is_tag, ends_may, ends_found, ends_told}
+use Rattle.nfc_bench.proofs.reading.read_by.Goals as goal
+
+-- the link as contracts see it
+abbrev seen : PlainLink Device → PlainSeen Device
+seen l = record { air = l.field.now; place = l.place; start = l.start; last = l.last; over = l.over }
+
+pub read-requires-clause-ready : goal.read-requires-clause-ready
+read-requires-clause-ready c over =
+    let new : IsNew (seen c.args.link.now) = record { start = c.requires.fresh.0; last = c.requires.fresh.1; over = c.requires.fresh.2 } in
+    new_ready (seen c.args.link.now) new c.args.how c.requires.tag
+
+pub read-requires-clause-tag : goal.read-requires-clause-tag
+read-requires-clause-tag c =
+    let new : IsNew (seen c.args.link.now) = record { start = c.requires.fresh.0; last = c.requires.fresh.1; over = c.requires.fresh.2 } in
+    new_is_tag (seen c.args.link.now) new c.args.how c.requires.tag
+
+pub told-requires : goal.told-requires
+told-requires c =
+    let new : IsNew (seen c.args.link.now) = record { start = c.requires.fresh.0; last = c.requires.fresh.1; over = c.requires.fresh.2 } in
+    ends_may (seen c.args.link.now) new c.args.how c.requires.tag (seen c.read.new.link) c.in-Err.ensures.moves c.in-Err.fault c.in-Err.ensures.err c.in-Err.ensures.calm
+
+pub returns-in-Ok-clause-tells : goal.returns-in-Ok-clause-tells
+returns-in-Ok-clause-tells c =
+    let new : IsNew (seen c.args.link.now) = record { start = c.requires.fresh.0; last = c.requires.fresh.1; over = c.requires.fresh.2 } in
+    ends_found (seen c.args.link.now) new c.args.how c.requires.tag (seen c.read.new.link) c.in-Ok.ensures.moves c.in-Ok.field-0 c.in-Ok.ensures.whole c.in-Ok.ensures.goes_on c.in-Ok.ensures.ok
+
+pub returns-in-Err-clause-tells : goal.returns-in-Err-clause-tells
+returns-in-Err-clause-tells c =
+    let new : IsNew (seen c.args.link.now) = record { start = c.requires.fresh.0; last = c.requires.fresh.1; over = c.requires.fresh.2 } in
+    ends_told (seen c.args.link.now) new c.args.how c.requires.tag (seen c.read.new.link) c.in-Err.ensures.moves c.in-Err.fault c.told.result c.told.ensures c.in-Err.ensures.whole c.in-Err.ensures.goes_on c.in-Err.ensures.err
