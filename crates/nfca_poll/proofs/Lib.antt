@@ -25,3 +25,4 @@ pub mod LostField
 pub mod NoisyTurns
 pub mod ThroughNoise
 pub mod Causes
+pub mod Steady

@@ -29,7 +29,7 @@ pub data TurnWas (r : Reading) (v : List Card) : List Card → Heard → ℕ →
   lost : (g : Signal) → Has g (filter_map (card_says r) v) → TurnWas r v (map (card_next r) v) Silent 1
 
 -- the same of listeners and their answers
-data WorldWas {L : Type 0} (m : Machine L) (w : World L) (f : Signal) : World L → Heard → ℕ → Type 0 where
+pub data WorldWas {L : Type 0} (m : Machine L) (w : World L) (f : Signal) : World L → Heard → ℕ → Type 0 where
   passed : WorldWas m w f (stepped (muted m) w f) (heard_of (joint (answers (muted m) w f))) 0
   unheard : WorldWas m w f w Silent 1
   damaged : (g : Signal) → Has g (answers (muted m) w f) → WorldWas m w f (stepped (muted m) w f) Damaged 1
@@ -102,7 +102,7 @@ module _ {L : Type 0} (m : Machine L) where
       subst (P h) (let q : 1 ≡ 1 + 0 = omega arith in q) (subst Q (sym (heard_in h _ k)) unheard)
   by_fates w f Break y h k = absurd cc
 
-  world_was : (old new : Air L) (f : Signal) (h : Heard) → TurnsTo (mute_air m) (moment old) (moment new) f (Some h) → WorldWas m (moment old).world f (moment new).world h (noise (events_of m old f))
+  pub world_was : (old new : Air L) (f : Signal) (h : Heard) → TurnsTo (mute_air m) (moment old) (moment new) f (Some h) → WorldWas m (moment old).world f (moment new).world h (noise (events_of m old f))
   world_was old new f h t =
       let M : Moment (World L) → World L = λ x. x.world in
       let P : World L → Type 0 = λ w. WorldWas m (moment old).world f w h (noise (events_of m old f)) in
