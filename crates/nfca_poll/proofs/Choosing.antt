@@ -38,11 +38,11 @@ abbrev pub IsCard : Card → Type 0
 IsCard c = IsIdent c.id × (is_rest c.front ≡ true)
 
 -- SENS_REQ
-has_levels : (ls : List (List ℕ)) → 0 < length ls → fits [] [] ls ≡ true
+pub has_levels : (ls : List (List ℕ)) → 0 < length ls → fits [] [] ls ≡ true
 has_levels [] h = absurd (omega (arith, h))
 has_levels (l ∷ ls) h = refl
 
-heard_some : (g : Signal) (xs : List Signal) (n : ℕ) → Has g xs → seek_step (Calling n) (heard_of (joint xs)) ≡ Asking [] []
+pub heard_some : (g : Signal) (xs : List Signal) (n : ℕ) → Has g xs → seek_step (Calling n) (heard_of (joint xs)) ≡ Asking [] []
 heard_some g [] n h = absurd h
 heard_some g (x ∷ xs) n h = by_cases (all_frames x xs)
   where
@@ -50,7 +50,7 @@ heard_some g (x ∷ xs) n h = by_cases (all_frames x xs)
     by_cases true = refl
     by_cases false = refl
 
-woken_by : (id : List ℕ) (k : Kind) (f : Front) → 0 < length (levels id) → is_rest f ≡ true
+pub woken_by : (id : List ℕ) (k : Kind) (f : Front) → 0 < length (levels id) → is_rest f ≡ true
     → card_next (Calls Sens) (record { id = id; kind = k; front = f }) ≡ card_at [] [] (record { id = id; kind = k; front = f })
 woken_by id k Off h r = refl
 woken_by id k Idle h r = sym (ap (λ v. asked_if (record { id = id; kind = k; front = Idle }) 0 v) (has_levels (levels id) h))
@@ -58,10 +58,10 @@ woken_by id k Sleep h r = refl
 woken_by id k (Ready j s) h r = wrong r
 woken_by id k (Active s) h r = wrong r
 
-calls_idle : (m : Card) → m.front ≡ Idle → card_says (Calls Sens) m ≡ Some (sens_res (length (levels m.id)))
+pub calls_idle : (m : Card) → m.front ≡ Idle → card_says (Calls Sens) m ≡ Some (sens_res (length (levels m.id)))
 calls_idle m i = let S : Front → Option Signal = λ f. card_says (Calls Sens) (with_front m f) in ap S i
 
-some_levels : (id : List ℕ) → IsIdent id → 0 < length (levels id)
+pub some_levels : (id : List ℕ) → IsIdent id → 0 < length (levels id)
 some_levels id i = let l : IsLevels (levels id) = levels_are id i in l.some
 
 pub calling_turn : (a : List Card) (m : Card) (b : List Card) (n : ℕ) (v : List Card) → IsFirst a m b → v ≡ a ++ m ∷ b

@@ -166,7 +166,7 @@ module _ {L : Type 0} (m : Machine L) where
     cons_said p None xs = refl
     cons_said p (Some c) xs = refl
 
-    cards_step : (ls : List L) → Each (λ c. is_active c.front ≡ false) (cards ours ls)
+    pub cards_step : (ls : List L) → Each (λ c. is_active c.front ≡ false) (cards ours ls)
         → (cards ours (map step ls) ≡ map (card_next (call_of f)) (cards ours ls)) × (filter_map says ls ≡ filter_map (card_says (call_of f)) (cards ours ls))
     cards_step [] i = (refl, refl)
     cards_step (l ∷ ls) i =

@@ -36,19 +36,19 @@ rest_inactive Sleep r = refl
 rest_inactive (Ready k s) r = wrong r
 rest_inactive (Active s) r = wrong r
 
-at_inactive : (done : List (List ℕ)) (p : List Bool) (c : Card) → is_rest c.front ≡ true → is_active (card_at done p c).front ≡ false
+pub at_inactive : (done : List (List ℕ)) (p : List Bool) (c : Card) → is_rest c.front ≡ true → is_active (card_at done p c).front ≡ false
 at_inactive done p c r = by_fit (is_idle c.front && fits done p (levels c.id))
   where
     by_fit : (v : Bool) → is_active (if v then with_front c (Ready (length done + 1) false) else c).front ≡ false
     by_fit true = refl
     by_fit false = rest_inactive c.front r
 
-each_mapped : (g : Card → Card) (P : Card → Type 0) (cs : List Card) → Each (λ c. P (g c)) cs → Each P (map g cs)
+pub each_mapped : (g : Card → Card) (P : Card → Type 0) (cs : List Card) → Each (λ c. P (g c)) cs → Each P (map g cs)
 each_mapped g P [] e = tt
 each_mapped g P (c ∷ cs) e = (e.0, each_mapped g P cs e.1)
 
 -- nobody is active while the resolution goes on
-none_active : (a : List Card) (c : Card) (b : List Card) (q : Seeking) (v : List Card) → IsFirst a c b → Seeks a c b (seek_of q) v → Each (λ x. is_active x.front ≡ false) v
+pub none_active : (a : List Card) (c : Card) (b : List Card) (q : Seeking) (v : List Card) → IsFirst a c b → Seeks a c b (seek_of q) v → Each (λ x. is_active x.front ≡ false) v
 none_active a c b (seeks.Calling n) v F k =
     let P : List Card → Type 0 = λ w. Each (λ x. is_active x.front ≡ false) w in
     subst P (sym k) (each_map IsCard (λ x. is_active x.front ≡ false) (λ x i. rest_inactive x.front i.1) (a ++ c ∷ b) F.cards)

@@ -22,3 +22,7 @@ pub mod FirstPicked
 pub mod NobodyIdle
 pub mod FewAsked
 pub mod LostField
+pub mod NoisyTurns
+pub mod ThroughNoise
+pub mod Causes
+pub mod Steady

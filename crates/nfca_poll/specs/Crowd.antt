@@ -1,6 +1,6 @@
 -- The crowd: the NFC-A devices of a field as a reader can tell them apart, and their order (ISO/IEC 14443-3; the order
 -- is this project's own).
-use Rattle.std.specs.Prelude.{◌≡◌, ◌≢◌, ◌⊎◌, ℕ, List, [], ◌∷◌, ◌++◌, length, drop, filter_map, Bool, true, false, if◌then◌else◌, Option, Some, None, Result, Ok, Err}
+use Rattle.std.specs.Prelude.{◌≡◌, ◌≢◌, ◌⊎◌, ℕ, ◌<◌, ◌≤◌, List, [], ◌∷◌, ◌++◌, length, drop, filter_map, Bool, true, false, if◌then◌else◌, Option, Some, None, Result, Ok, Err}
 use Rattle.nfc_base.specs.declared.frame.Tech.TheVariants.{A}
 use Rattle.nfc_base.specs.Signal.{Signal}
 use Rattle.nfc_base.specs.Bits.{bits_of}
@@ -12,7 +12,7 @@ use Rattle.air_core.specs.Turn.{Air}
 use Rattle.nfca_poll.specs.declared.kind.Kind.{Kind}
 use Rattle.nfca_poll.specs.declared.fault.Picked.{Picked}
 use Rattle.nfca_poll.specs.declared.fault.PollFault.{PollFault}
-use Rattle.nfca_poll.specs.declared.fault.PollFault.TheVariants.{Nobody, Memory}
+use Rattle.nfca_poll.specs.declared.fault.PollFault.TheVariants.{Nobody, Disturbed, FieldLost, Memory, NotFound, BadAnswer}
 use Rattle.nfca_poll.specs.Ident.{IsIdent}
 use Rattle.nfca_poll.specs.Levels.{levels}
 use Rattle.nfca_poll.specs.Calls.{call_of}
@@ -107,8 +107,54 @@ module _ {L : Type 0} {m : Machine L} {identifier : L → List ℕ} (ours : AreO
       (a : List Card) (c : Card) (b : List Card) → cards old.listeners ≡ a ++ c ∷ b → IsFirst a c b → noise (drop (length old.trace) new.trace) ≡ 0
       → (r ≡ Err Memory) ⊎ ((r ≡ Ok (record { id = c.id; kind = c.kind })) × (cards new.listeners ≡ a ++ with_front c (Active false) ∷ b))
 
-  -- Where none was idle, ready or active, such a call found nobody, and left all as they were.
-  abbrev pub FindsNobody : Air L → Result Picked PollFault → Air L → Type 0
-  FindsNobody old r new =
-      Each (λ c. (is_rest c.front ≡ true) × (is_idle c.front ≡ false)) (cards old.listeners) → noise (drop (length old.trace) new.trace) ≡ 0
-      → (r ≡ Err Memory) ⊎ ((r ≡ Err Nobody) × (cards new.listeners ≡ cards old.listeners))
+-- How a resolution ends whose field has m as the first of its idle devices, between these others, by how many of its
+-- transmissions had noise.
+abbrev pub EndsThroughNoise : List Card → Card → List Card → Result Picked PollFault → List Card → ℕ → Type 0
+EndsThroughNoise a m b (Ok p) v n = (p ≡ record { id = m.id; kind = m.kind }) × (v ≡ a ++ with_front m (Active false) ∷ b)
+EndsThroughNoise a m b (Err Nobody) v n = 2 ≤ n
+EndsThroughNoise a m b (Err Disturbed) v n = 0 < n
+EndsThroughNoise a m b (Err FieldLost) v n = Unit {0}
+EndsThroughNoise a m b (Err Memory) v n = Unit {0}
+EndsThroughNoise a m b (Err NotFound) v n = ⊥
+EndsThroughNoise a m b (Err BadAnswer) v n = ⊥
+
+-- Whatever noise it meets, a resolution picks the first, or none.
+abbrev pub PicksThroughNoise : {L : Type 0} {m : Machine L} {identifier : L → List ℕ} → AreOurs m identifier → Air L → Result Picked PollFault → Air L → Type 0
+PicksThroughNoise ours old r new =
+    (a : List Card) (c : Card) (b : List Card) → cards ours old.listeners ≡ a ++ c ∷ b → IsFirst a c b
+    → EndsThroughNoise a c b r (cards ours new.listeners) (noise (drop (length old.trace) new.trace))
+
+-- Where none was idle, ready or active, it finds nobody and leaves all as they were, whatever noise it meets.
+abbrev pub EndsAlone : List Card → Result Picked PollFault → List Card → Type 0
+EndsAlone w (Ok p) v = ⊥
+EndsAlone w (Err Nobody) v = v ≡ w
+EndsAlone w (Err Disturbed) v = ⊥
+EndsAlone w (Err FieldLost) v = Unit {0}
+EndsAlone w (Err Memory) v = Unit {0}
+EndsAlone w (Err NotFound) v = ⊥
+EndsAlone w (Err BadAnswer) v = ⊥
+
+abbrev pub FindsNobody : {L : Type 0} {m : Machine L} {identifier : L → List ℕ} → AreOurs m identifier → Air L → Result Picked PollFault → Air L → Type 0
+FindsNobody ours old r new =
+    Each (λ c. (is_rest c.front ≡ true) × (is_idle c.front ≡ false)) (cards ours old.listeners) → EndsAlone (cards ours old.listeners) r (cards ours new.listeners)
+
+-- no two of these have one identifier
+abbrev pub AreDistinct : List Card → Type 0
+AreDistinct [] = Unit {0}
+AreDistinct (c ∷ cs) = Each (λ d. d.id ≢ c.id) cs × AreDistinct cs
+
+-- a crowd at rest: each has an identifier of its own, and none is ready or active
+pub record IsCrowd (w : List Card) : Type 0 where
+  pub cards : Each (λ c. IsIdent c.id × (is_rest c.front ≡ true)) w
+  pub distinct : AreDistinct w
+
+-- Why a resolution over a crowd at rest picks none: it is disturbed only by noise, finds nobody only where none is idle or
+-- two transmissions had noise, and hears no bad answer.
+abbrev pub HasCause : List Card → Result Picked PollFault → ℕ → Type 0
+HasCause w (Ok p) n = Unit {0}
+HasCause w (Err Nobody) n = Each (λ c. is_idle c.front ≡ false) w ⊎ (2 ≤ n)
+HasCause w (Err Disturbed) n = 0 < n
+HasCause w (Err FieldLost) n = Unit {0}
+HasCause w (Err Memory) n = Unit {0}
+HasCause w (Err NotFound) n = ⊥
+HasCause w (Err BadAnswer) n = ⊥

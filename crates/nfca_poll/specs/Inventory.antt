@@ -1,10 +1,16 @@
 -- Finding NFC-V devices: inventory of one slot (NFC Forum Digital Protocol; ISO/IEC 15693-3). Four tries are this
 -- project's own.
-use Rattle.std.specs.Prelude.{ℕ, ◌+◌, List, [], ◌∷◌, length, drop, reverse, Bool, true, false, ◌==◌, ◌&&◌, nat_lt, if◌then◌else◌, Option, Some, None, Result, Ok, Err}
+use Rattle.std.specs.Prelude.{◌≡◌, ◌⊎◌, ◌≤◌, ℕ, ◌+◌, List, [], ◌∷◌, length, drop, reverse, Bool, true, false, ◌==◌, ◌&&◌, nat_lt, if◌then◌else◌, Option, Some, None, Result, Ok, Err}
 use Rattle.nfc_base.specs.Signal.{Signal, whole_v}
 use Rattle.nfc_base.specs.declared.event.Heard.{Heard}
 use Rattle.nfc_base.specs.declared.event.Heard.TheVariants.{Whole, Collided, Damaged, Silent}
+use Rattle.nfc_base.specs.declared.frame.Tech.TheVariants.{V}
+use Rattle.nfc_base.specs.Far.{Untouched}
+use Rattle.nfc_base.specs.Trace.{noise}
+use Rattle.air_core.specs.World.{Machine, answered_by}
+use Rattle.air_core.specs.Turn.{Air}
 use Rattle.air_core.specs.Conversation.{Next, Over, Asks}
+use Rattle.nfca_poll.specs.Crowd.{Each}
 use Rattle.nfca_poll.specs.declared.fault.PollFault.{PollFault}
 use Rattle.nfca_poll.specs.declared.fault.PollFault.TheVariants as faults
 use Rattle.nfca_poll.specs.declared.inventory.Vcrowd.{Vcrowd}
@@ -68,3 +74,26 @@ inventory = record { start = Tries 0 false; step = one_step; next = asks_for inv
 
 abbrev pub picking_v : List ℕ → Enquiry (Inventory (Unit {0})) (Unit {0})
 picking_v id = record { start = Tries 0 false; step = pick_step; next = asks_for (inventory_of id); ended = pick_ended }
+
+-- An NFC-V listener that hands nothing over at this request, and stays as it is.
+abbrev pub IsSteady : {L : Type 0} → Machine L → Signal → L → Type 0
+IsSteady m f l = m.tech l ≡ V → (m.handed l f ≡ Untouched) × (m.after l f None ≡ l)
+
+-- nobody answers this request
+abbrev pub NoneAnswers : {L : Type 0} → Machine L → Signal → List L → Type 0
+NoneAnswers m f ls = Each (λ l. answered_by m l f None ≡ None) ls
+
+-- What was sought isn't there, or each of the tries met noise.
+abbrev pub IsMissed : {L : Type 0} → Machine L → Signal → Air L → Air L → Type 0
+IsMissed m f old new = NoneAnswers m f old.listeners ⊎ (tries ≤ noise (drop (length old.trace) new.trace))
+
+-- Where the NFC-V listeners are steady, inventory of one is disturbed only where each of its tries met noise, and finds
+-- nobody only where nobody answers or each did.
+abbrev pub HasCauseV : {L : Type 0} → Machine L → Air L → Result Vcrowd PollFault → Air L → Type 0
+HasCauseV m old r new =
+    Each (IsSteady m inventory_all) old.listeners
+    → (r ≡ Err faults.Disturbed → tries ≤ noise (drop (length old.trace) new.trace)) × (r ≡ Ok Nobody → IsMissed m inventory_all old new)
+
+-- Selection by an identifier finds nothing only where nobody answers, or each of its tries met noise.
+abbrev pub MissesV : {L : Type 0} → Machine L → List ℕ → Air L → Result (Unit {0}) PollFault → Air L → Type 0
+MissesV m id old r new = Each (IsSteady m (inventory_of id)) old.listeners → r ≡ Err faults.NotFound → IsMissed m (inventory_of id) old new

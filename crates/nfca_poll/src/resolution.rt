@@ -1,7 +1,8 @@
 //! One resolution: which device of a field is the first in crowd order, bit by bit.
 
 ghost use Rattle.std.specs.Prelude.{◌≡◌, length, drop, Bool, Err};
-ghost use Rattle.nfca_poll.specs.Crowd.{AreOurs, PicksFirst, FindsNobody};
+ghost use Rattle.nfc_base.specs.Trace.{noise};
+ghost use Rattle.nfca_poll.specs.Crowd.{AreOurs, IsCrowd, cards, PicksFirst, PicksThroughNoise, FindsNobody, HasCause};
 ghost use Rattle.nfca_poll.specs.Enquiry.{Enquires, LosesByBreak};
 ghost use Rattle.nfca_poll.specs.Counting.{AsksFew};
 ghost use Rattle.nfca_poll.specs.Seeking.{resolution};
@@ -21,6 +22,8 @@ pub fn resolve<L: Listener>(field: &mut Field<L>) -> Result<Picked, PollFault>
     ensures few { AsksFew (drop (length field.old.trace) field.new.trace) }
     ensures lost { LosesByBreak field.old result field.new }
     ensures first { field.old.lit ≡ Bool.true → (ours : AreOurs L.machine L.identifier) → PicksFirst ours field.old result field.new }
+    ensures noisy { field.old.lit ≡ Bool.true → (ours : AreOurs L.machine L.identifier) → PicksThroughNoise ours field.old result field.new }
+    ensures cause { field.old.lit ≡ Bool.true → (ours : AreOurs L.machine L.identifier) → IsCrowd (cards ours field.old.listeners) → HasCause (cards ours field.old.listeners) result (noise (drop (length field.old.trace) field.new.trace)) }
     ensures nobody { field.old.lit ≡ Bool.true → (ours : AreOurs L.machine L.identifier) → FindsNobody ours field.old result field.new }
     ensures turns { field.old.lit ≡ Bool.true → Enquires resolution L.machine field.old result field.new }
 {

@@ -1,11 +1,18 @@
-use Rattle.std.proofs.Common.{◌≡◌, ℕ, ◌<◌, ◌+◌, true, false, Result, Ok, Err, refl, sym, ◌∙◌, ap, subst, arith}
+use Rattle.std.proofs.Common.{◌≡◌, ℕ, ◌<◌, ◌+◌, true, false, Result, Ok, Err, refl, sym, ◌∙◌, ap, subst, arith, ◌⊎◌, ◌≤◌, Bool, Some, inl, inr, length, drop}
 use Rattle.std.proofs.lemmas.Grind.{common_steps}
 use Rattle.nfca_poll.specs.declared.fault.PollFault.{PollFault}
 use Rattle.nfca_poll.specs.declared.inventory.Vcrowd.{Vcrowd}
 use Rattle.nfca_poll.specs.declared.inventory.Vcrowd.TheVariants.{Crowd}
 use Rattle.nfca_poll.specs.Enquiry.{Enquires, LosesByBreak}
 use Rattle.nfca_poll.specs.Inventory.{Inventory, inventory, inventory_all, Tries, is_present, one_step, one_ended}
-use Rattle.nfca_poll.proofs.Enquiring.{Reached, reached_turn, enquires_err, enquires_end}
+use Rattle.nfc_base.specs.Signal.{Signal}
+use Rattle.nfc_base.specs.Trace.{noise}
+use Rattle.air_core.specs.Turn.{moment}
+use Rattle.air_core.specs.Conversation.{TurnsTo}
+use Rattle.nfc_base.specs.declared.event.Heard.TheVariants.{Damaged, Silent}
+use Rattle.nfca_poll.specs.Muted.{mute_air}
+use Rattle.nfca_poll.proofs.Steady.{InVain, vain_start, vain_turn, vain_noisy, far_missed}
+use Rattle.nfca_poll.proofs.Enquiring.{Reached, reached_start, reached_turn, enquires_err, enquires_end}
 use Rattle.nfca_poll.proofs.LostField.{lost_err}
 use Rattle.nfca_poll.proofs.Inventories.{asks_again, one_again, one_present, one_strange, not_true}
 use Rattle.nfca_poll.proofs.inventory.inventory_one.Goals as goal
@@ -63,7 +70,15 @@ loop-preserved g c =
     (asks_again Vcrowd inventory_all c.inventory_req-request.result n c.loop.damaged h c.inventory_req-request.ensures) c.in_ok-answer.ensures in
     let goes : one_step (Tries n c.loop.damaged) c.in_ok-answer.field-0 ≡ Tries (n + 1) c.match-branch-2.damaged =
     elim c.match-branch-2.branch [ in-Damaged w ↦ grind (arith, common_steps) | in-Silent w ↦ grind (arith, common_steps) ] in
-    record { lit = c.in_ok-answer.ensures.1; so_far = subst R goes turn }
+    let which : ((c.in_ok-answer.field-0 ≡ Silent) × (c.match-branch-2.damaged ≡ c.loop.damaged)) ⊎ ((c.in_ok-answer.field-0 ≡ Damaged) × (c.match-branch-2.damaged ≡ true)) =
+    elim c.match-branch-2.branch [ in-Damaged w ↦ inr (grind (arith, common_steps), grind (arith, common_steps)) | in-Silent w ↦ inl (grind (arith, common_steps), grind (arith, common_steps)) ] in
+    let T : Signal → Type 0 = λ x. TurnsTo (mute_air g.L.Listener.machine) (moment c.loop.field) (moment c.ask.new.field) x (Some c.in_ok-answer.field-0) in
+    record {
+      lit = c.in_ok-answer.ensures.1;
+      so_far = subst R goes turn;
+      vain = vain_turn g.L.Listener.machine inventory_all refl inventory c.args.field.now c.loop.field c.ask.new.field (Tries n c.loop.damaged) n c.loop.damaged c.match-branch-2.damaged c.in_ok-answer.field-0 c.loop.invariant.vain c.loop.invariant.so_far
+          (subst T c.inventory_req-request.ensures c.in_ok-answer.ensures.0) which;
+    }
 
 pub returns-in_err-answer-clause-lost : goal.returns-in_err-answer-clause-lost
 returns-in_err-answer-clause-lost g c =
@@ -71,3 +86,27 @@ returns-in_err-answer-clause-lost g c =
     let same : c.from_residual.result ≡ Err c.in_err-answer.field-0.0 = grind (arith, common_steps) in
     subst E (sym same)
     (lost_err g.L.Listener.machine inventory c.args.field.now c.loop.field c.ask.new.field (Tries c.loop.counter c.loop.damaged) c.inventory_req-request.result c.in_err-answer.field-0.0 c.loop.invariant.so_far c.in_err-answer.ensures)
+
+pub loop-init : goal.loop-init
+loop-init g c = record {
+  lit = grind (arith, common_steps);
+  so_far = reached_start inventory g.L.Listener.machine c.args.field.now;
+  vain = vain_start g.L.Listener.machine inventory_all refl c.args.field.now;
+}
+
+pub returns-then-damaged-clause-cause : goal.returns-then-damaged-clause-cause
+returns-then-damaged-clause-cause g c lit s =
+    let m = g.L.Listener.machine in
+    let n : ℕ = c.loop.counter in
+    let all : 4 ≤ n = omega arith in
+    let yes : c.loop.damaged ≡ true = grind (arith, common_steps) in
+    let D : Bool → Type 0 = λ v. InVain m inventory_all refl c.args.field.now c.loop.field n v in
+    let k : n ≤ noise (drop (length c.args.field.now.trace) c.loop.field.trace) = vain_noisy m inventory_all refl c.args.field.now c.loop.field n (subst D yes c.loop.invariant.vain) s in
+    (λ e. omega (arith, all, k), λ e. absurd cc)
+
+pub returns-clause-cause : goal.returns-clause-cause
+returns-clause-cause g c lit s =
+    let m = g.L.Listener.machine in
+    let n : ℕ = c.loop.counter in
+    let all : 4 ≤ n = omega arith in
+    (λ e. absurd cc, λ e. far_missed m inventory_all refl c.args.field.now c.loop.field n c.loop.damaged all c.loop.invariant.vain s)

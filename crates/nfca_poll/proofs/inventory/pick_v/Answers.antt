@@ -1,9 +1,14 @@
-use Rattle.std.proofs.Common.{◌≡◌, ℕ, ◌<◌, ◌+◌, true, false, Some, Result, Ok, Err, inl, inr, refl, sym, ◌∙◌, ap, subst, arith}
+use Rattle.std.proofs.Common.{◌≡◌, ℕ, ◌<◌, ◌+◌, true, false, Some, Result, Ok, Err, inl, inr, refl, sym, ◌∙◌, ap, subst, arith, ◌≤◌}
 use Rattle.std.proofs.lemmas.Grind.{common_steps}
 use Rattle.nfca_poll.specs.declared.fault.PollFault.{PollFault}
 use Rattle.nfca_poll.specs.Enquiry.{Enquires, LosesByBreak}
 use Rattle.nfca_poll.specs.Inventory.{Inventory, picking_v, inventory_of, Tries, is_present, pick_step, pick_ended}
-use Rattle.nfca_poll.proofs.Enquiring.{Reached, reached_turn, enquires_err, enquires_end}
+use Rattle.nfc_base.specs.Signal.{Signal}
+use Rattle.air_core.specs.Turn.{moment}
+use Rattle.air_core.specs.Conversation.{TurnsTo}
+use Rattle.nfca_poll.specs.Muted.{mute_air}
+use Rattle.nfca_poll.proofs.Steady.{vain_start, vain_turn, far_missed}
+use Rattle.nfca_poll.proofs.Enquiring.{Reached, reached_start, reached_turn, enquires_err, enquires_end}
 use Rattle.nfca_poll.proofs.LostField.{lost_err}
 use Rattle.nfca_poll.proofs.Inventories.{asks_again, pick_again, pick_present, pick_strange, not_true}
 use Rattle.nfca_poll.proofs.inventory.pick_v.Goals as goal
@@ -60,7 +65,13 @@ loop-preserved g c =
     reached_turn (picking_v c.args.id) g.L.Listener.machine c.args.field.now c.loop.field c.ask.new.field (Tries n false) c.inventory_req_of-request.result c.in_ok-answer.field-0 c.loop.invariant.so_far
     (asks_again (Unit {0}) (inventory_of c.args.id) c.inventory_req_of-request.result n false h c.inventory_req_of-request.ensures) c.in_ok-answer.ensures in
     let goes : pick_step (Tries n false) c.in_ok-answer.field-0 ≡ Tries (n + 1) false = ap (pick_step (Tries n false)) c.in-Silent.is in
-    record { lit = c.in_ok-answer.ensures.1; so_far = subst R goes turn }
+    let T : Signal → Type 0 = λ x. TurnsTo (mute_air g.L.Listener.machine) (moment c.loop.field) (moment c.ask.new.field) x (Some c.in_ok-answer.field-0) in
+    record {
+      lit = c.in_ok-answer.ensures.1;
+      so_far = subst R goes turn;
+      vain = vain_turn g.L.Listener.machine (inventory_of c.args.id) refl (picking_v c.args.id) c.args.field.now c.loop.field c.ask.new.field (Tries n false) n false false c.in_ok-answer.field-0 c.loop.invariant.vain c.loop.invariant.so_far
+          (subst T c.inventory_req_of-request.ensures c.in_ok-answer.ensures.0) (inl (c.in-Silent.is, refl));
+    }
 
 pub returns-in_err-answer-clause-lost : goal.returns-in_err-answer-clause-lost
 returns-in_err-answer-clause-lost g c =
@@ -68,3 +79,17 @@ returns-in_err-answer-clause-lost g c =
     let same : c.from_residual.result ≡ Err c.in_err-answer.field-0.0 = grind (arith, common_steps) in
     subst E (sym same)
     (lost_err g.L.Listener.machine (picking_v c.args.id) c.args.field.now c.loop.field c.ask.new.field (Tries c.loop.counter false) c.inventory_req_of-request.result c.in_err-answer.field-0.0 c.loop.invariant.so_far c.in_err-answer.ensures)
+
+pub loop-init : goal.loop-init
+loop-init g c = record {
+  lit = grind (arith, common_steps);
+  so_far = reached_start (picking_v c.args.id) g.L.Listener.machine c.args.field.now;
+  vain = vain_start g.L.Listener.machine (inventory_of c.args.id) refl c.args.field.now;
+}
+
+pub returns-clause-cause : goal.returns-clause-cause
+returns-clause-cause g c lit s e =
+    let m = g.L.Listener.machine in
+    let n : ℕ = c.loop.counter in
+    let all : 4 ≤ n = omega arith in
+    far_missed m (inventory_of c.args.id) refl c.args.field.now c.loop.field n false all c.loop.invariant.vain s

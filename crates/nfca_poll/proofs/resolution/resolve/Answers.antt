@@ -1,5 +1,6 @@
-use Rattle.std.proofs.Common.{◌≡◌, ◌<◌, Result, Err, sym, ◌∙◌, subst, arith}
+use Rattle.std.proofs.Common.{◌≡◌, ◌<◌, length, drop, Result, Err, sym, ◌∙◌, subst, arith}
 use Rattle.std.proofs.lemmas.Grind.{common_steps}
+use Rattle.nfc_base.specs.Trace.{noise}
 use Rattle.nfca_poll.specs.declared.fault.Picked.{Picked}
 use Rattle.nfca_poll.specs.declared.fault.PollFault.{PollFault}
 use Rattle.nfca_poll.specs.Poll.{Seek, seek_step}
@@ -7,10 +8,12 @@ use Rattle.nfca_poll.specs.Enquiry.{Enquires, LosesByBreak}
 use Rattle.nfca_poll.specs.Seeking.{resolution, seek_of}
 use Rattle.nfca_poll.proofs.SeekSteps.{potential, falls}
 use Rattle.nfca_poll.proofs.Enquiring.{Reached, reached_start, due_of_request, goes_on, ended_is, reached_turn, enquires_err, enquires_end}
-use Rattle.nfca_poll.specs.Crowd.{PicksFirst, FindsNobody}
+use Rattle.nfca_poll.specs.Crowd.{cards, PicksFirst, PicksThroughNoise, FindsNobody, HasCause}
 use Rattle.nfca_poll.proofs.FewAsked.{Counted, counted_start, counted_turn, few_asked, few_err}
 use Rattle.nfca_poll.proofs.LostField.{lost_err, never_lost}
 use Rattle.nfca_poll.proofs.FirstPicked.{Follows, follows_start, follows_turn, follows_end, follows_err}
+use Rattle.nfca_poll.proofs.ThroughNoise.{Holds, holds_start, holds_turn, holds_end, holds_err}
+use Rattle.nfca_poll.proofs.Causes.{has_cause}
 use Rattle.nfca_poll.proofs.NobodyIdle.{Sleepers, sleepers_start, sleepers_turn, sleepers_end, sleepers_err}
 use Rattle.nfca_poll.proofs.resolution.resolve.Goals as goal
 
@@ -32,6 +35,7 @@ loop-heard-preserved g c =
     let P : Seek → Type 0 = λ s. Reached resolution g.L.Listener.machine c.args.field.now c.ask.new.field s in
     let K : Seek → Type 0 = λ s. Counted g.L.Listener.machine c.args.field.now c.ask.new.field s in
     let F : Seek → Type 0 = λ s. Follows g.L.Listener.machine g.L.Listener.identifier c.args.field.now c.ask.new.field s in
+    let H : Seek → Type 0 = λ s. Holds g.L.Listener.machine g.L.Listener.identifier c.args.field.now c.ask.new.field s in
     let N : Seek → Type 0 = λ s. Sleepers g.L.Listener.machine g.L.Listener.identifier c.args.field.now c.ask.new.field s in
     record {
       lit = c.in_ok-heard.ensures.1;
@@ -44,8 +48,11 @@ loop-heard-preserved g c =
       first = subst F (sym c.in-Goes.ensures)
           (follows_turn g.L.Listener.machine g.L.Listener.identifier c.args.field.now c.loop-heard.field c.ask.new.field c.loop-heard.seeking c.request.result c.in_ok-heard.heard c.loop-heard.invariant.first c.loop-heard.invariant.so_far
           c.request.ensures c.in_ok-heard.ensures);
+      noisy = subst H (sym c.in-Goes.ensures)
+          (holds_turn g.L.Listener.machine g.L.Listener.identifier c.args.field.now c.loop-heard.field c.ask.new.field c.loop-heard.seeking c.request.result c.in_ok-heard.heard c.loop-heard.invariant.noisy c.loop-heard.invariant.so_far
+          c.request.ensures c.in_ok-heard.ensures);
       nobody = subst N (sym c.in-Goes.ensures)
-          (sleepers_turn g.L.Listener.machine g.L.Listener.identifier c.args.field.now c.loop-heard.field c.ask.new.field c.loop-heard.seeking c.request.result c.in_ok-heard.heard c.loop-heard.invariant.nobody c.loop-heard.invariant.so_far
+          (sleepers_turn g.L.Listener.machine g.L.Listener.identifier c.args.field.now c.loop-heard.field c.ask.new.field c.loop-heard.seeking c.request.result c.in_ok-heard.heard c.loop-heard.invariant.nobody
           c.request.ensures c.in_ok-heard.ensures);
     }
 
@@ -68,7 +75,7 @@ returns-in_err-heard-clause-nobody g c lit ours =
     let E : Result Picked PollFault → Type 0 = λ r. FindsNobody ours c.args.field.now r c.ask.new.field in
     let same : c.from_residual.result ≡ Err c.in_err-heard.field-0.0 = grind (arith, common_steps) in
     subst E (sym same)
-    (sleepers_err g.L.Listener.machine g.L.Listener.identifier c.args.field.now c.loop-heard.field c.ask.new.field c.loop-heard.seeking c.request.result c.in_err-heard.field-0.0 c.loop-heard.invariant.so_far c.in_err-heard.ensures ours)
+    (sleepers_err g.L.Listener.machine g.L.Listener.identifier c.args.field.now c.loop-heard.field c.ask.new.field c.request.result c.in_err-heard.field-0.0 c.in_err-heard.ensures ours)
 
 pub returns-in-Ends-clause-first : goal.returns-in-Ends-clause-first
 returns-in-Ends-clause-first g c lit ours =
@@ -80,7 +87,7 @@ returns-in-Ends-clause-first g c lit ours =
 pub returns-in-Ends-clause-nobody : goal.returns-in-Ends-clause-nobody
 returns-in-Ends-clause-nobody g c lit ours =
     sleepers_end g.L.Listener.machine g.L.Listener.identifier c.args.field.now c.ask.new.field (seek_step (seek_of c.loop-heard.seeking) c.in_ok-heard.heard) c.in-Ends.ensures.0 c.in-Ends.result
-    (sleepers_turn g.L.Listener.machine g.L.Listener.identifier c.args.field.now c.loop-heard.field c.ask.new.field c.loop-heard.seeking c.request.result c.in_ok-heard.heard c.loop-heard.invariant.nobody c.loop-heard.invariant.so_far
+    (sleepers_turn g.L.Listener.machine g.L.Listener.identifier c.args.field.now c.loop-heard.field c.ask.new.field c.loop-heard.seeking c.request.result c.in_ok-heard.heard c.loop-heard.invariant.nobody
     c.request.ensures c.in_ok-heard.ensures)
     c.in-Ends.ensures.1 c.in-Ends.ensures.2 ours
 
@@ -90,6 +97,7 @@ loop-heard-init g c = record {
   so_far = reached_start resolution g.L.Listener.machine c.args.field.now;
   count = counted_start g.L.Listener.machine c.args.field.now;
   first = follows_start g.L.Listener.machine g.L.Listener.identifier c.args.field.now;
+  noisy = holds_start g.L.Listener.machine g.L.Listener.identifier c.args.field.now;
   nobody = sleepers_start g.L.Listener.machine g.L.Listener.identifier c.args.field.now;
 }
 
@@ -113,3 +121,39 @@ returns-in_err-heard-clause-lost g c =
 
 pub returns-in-Ends-clause-lost : goal.returns-in-Ends-clause-lost
 returns-in-Ends-clause-lost g c e = absurd (never_lost c.in-Ends.ensures.0 (sym c.in-Ends.ensures.2 ∙ e))
+
+pub returns-in_err-heard-clause-noisy : goal.returns-in_err-heard-clause-noisy
+returns-in_err-heard-clause-noisy g c lit ours =
+    let E : Result Picked PollFault → Type 0 = λ r. PicksThroughNoise ours c.args.field.now r c.ask.new.field in
+    let same : c.from_residual.result ≡ Err c.in_err-heard.field-0.0 = grind (arith, common_steps) in
+    subst E (sym same)
+    (holds_err g.L.Listener.machine g.L.Listener.identifier c.args.field.now c.loop-heard.field c.ask.new.field c.request.result c.in_err-heard.field-0.0 c.in_err-heard.ensures ours)
+
+pub returns-in-Ends-clause-noisy : goal.returns-in-Ends-clause-noisy
+returns-in-Ends-clause-noisy g c lit ours =
+    holds_end g.L.Listener.machine g.L.Listener.identifier c.args.field.now c.ask.new.field (seek_step (seek_of c.loop-heard.seeking) c.in_ok-heard.heard) c.in-Ends.ensures.0 c.in-Ends.result
+    (holds_turn g.L.Listener.machine g.L.Listener.identifier c.args.field.now c.loop-heard.field c.ask.new.field c.loop-heard.seeking c.request.result c.in_ok-heard.heard c.loop-heard.invariant.noisy c.loop-heard.invariant.so_far
+    c.request.ensures c.in_ok-heard.ensures)
+    c.in-Ends.ensures.1 c.in-Ends.ensures.2 ours
+
+pub returns-in_err-heard-clause-cause : goal.returns-in_err-heard-clause-cause
+returns-in_err-heard-clause-cause g c lit ours crowd =
+    let E : Result Picked PollFault → Type 0 = λ r. HasCause (cards ours c.args.field.now.listeners) r (noise (drop (length c.args.field.now.trace) c.ask.new.field.trace)) in
+    let same : c.from_residual.result ≡ Err c.in_err-heard.field-0.0 = grind (arith, common_steps) in
+    subst E (sym same)
+    (has_cause g.L.Listener.machine g.L.Listener.identifier ours c.args.field.now c.ask.new.field (Err c.in_err-heard.field-0.0)
+    (holds_err g.L.Listener.machine g.L.Listener.identifier c.args.field.now c.loop-heard.field c.ask.new.field c.request.result c.in_err-heard.field-0.0 c.in_err-heard.ensures ours)
+    (sleepers_err g.L.Listener.machine g.L.Listener.identifier c.args.field.now c.loop-heard.field c.ask.new.field c.request.result c.in_err-heard.field-0.0 c.in_err-heard.ensures ours) crowd)
+
+pub returns-in-Ends-clause-cause : goal.returns-in-Ends-clause-cause
+returns-in-Ends-clause-cause g c lit ours crowd =
+    has_cause g.L.Listener.machine g.L.Listener.identifier ours c.args.field.now c.ask.new.field c.in-Ends.result
+    (holds_end g.L.Listener.machine g.L.Listener.identifier c.args.field.now c.ask.new.field (seek_step (seek_of c.loop-heard.seeking) c.in_ok-heard.heard) c.in-Ends.ensures.0 c.in-Ends.result
+    (holds_turn g.L.Listener.machine g.L.Listener.identifier c.args.field.now c.loop-heard.field c.ask.new.field c.loop-heard.seeking c.request.result c.in_ok-heard.heard c.loop-heard.invariant.noisy c.loop-heard.invariant.so_far
+    c.request.ensures c.in_ok-heard.ensures)
+    c.in-Ends.ensures.1 c.in-Ends.ensures.2 ours)
+    (sleepers_end g.L.Listener.machine g.L.Listener.identifier c.args.field.now c.ask.new.field (seek_step (seek_of c.loop-heard.seeking) c.in_ok-heard.heard) c.in-Ends.ensures.0 c.in-Ends.result
+    (sleepers_turn g.L.Listener.machine g.L.Listener.identifier c.args.field.now c.loop-heard.field c.ask.new.field c.loop-heard.seeking c.request.result c.in_ok-heard.heard c.loop-heard.invariant.nobody c.request.ensures
+    c.in_ok-heard.ensures)
+    c.in-Ends.ensures.1 c.in-Ends.ensures.2 ours)
+    crowd

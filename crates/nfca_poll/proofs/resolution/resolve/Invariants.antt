@@ -4,6 +4,7 @@ use Rattle.nfca_poll.proofs.SeekSteps.{potential}
 use Rattle.nfca_poll.proofs.Enquiring.{Reached}
 use Rattle.nfca_poll.proofs.FewAsked.{Counted}
 use Rattle.nfca_poll.proofs.FirstPicked.{Follows}
+use Rattle.nfca_poll.proofs.ThroughNoise.{Holds}
 use Rattle.nfca_poll.proofs.NobodyIdle.{Sleepers}
 use Rattle.nfca_poll.proofs.resolution.resolve.Given as goal
 
@@ -13,6 +14,7 @@ invariant-loop-heard g l = record {
   so_far : Reached resolution g.L.Listener.machine l.fn.field l.field (seek_of l.seeking);
   count : Counted g.L.Listener.machine l.fn.field l.field (seek_of l.seeking);
   first : Follows g.L.Listener.machine g.L.Listener.identifier l.fn.field l.field (seek_of l.seeking);
+  noisy : Holds g.L.Listener.machine g.L.Listener.identifier l.fn.field l.field (seek_of l.seeking);
   nobody : Sleepers g.L.Listener.machine g.L.Listener.identifier l.fn.field l.field (seek_of l.seeking);
 }
 
