@@ -4,8 +4,6 @@ pub mod Lines
 pub mod Placing
 pub mod Placed
 pub mod Ours
-pub mod Picking
-pub mod Asking
 pub mod TagTwo
 pub mod TagFive
 pub mod ReadingTags
