@@ -1,19 +1,18 @@
 -- Commands that were obeyed, and journals.
-use Rattle.std.proofs.Common.{◌≡◌, ℕ, ◌*◌, ◌≤◌, List, [], ◌∷◌, ◌++◌, map, length, Bool, true, false, Option, Some, None, IsSome, is_some, Result, Ok, Err, refl, sym, ◌∙◌, ap, subst, arith, inl, inr}
-use Rattle.std.specs.List.{AllByRecursion}
+use Rattle.std.proofs.Common.{◌≡◌, ℕ, List, [], ◌∷◌, ◌++◌, map, length, Option, Some, None, is_some, Result, Ok, refl, sym, ◌∙◌, ap, subst, arith, inl, inr}
 use Rattle.nfc_base.specs.declared.event.Event.{Event}
 use Rattle.nfc_base.specs.declared.event.Fate.{Fate}
 use Rattle.nfc_base.specs.Signal.{Signal}
 use Rattle.air_core.specs.World.{World}
 use Rattle.air_core.specs.Turn.{Air, moment}
 use Rattle.air_core.specs.Conversation.{Moment, Note, Lit, Got, Lost, Next, Over, LightUp, Asks, IsDemand, Going, replay, queue_after}
-use Rattle.air_core.specs.Waits.{Asking, stand, waits_next, due_at}
+use Rattle.air_core.specs.Waits.{waits_next, due_at}
 use Rattle.air_core.specs.Turning.{going_then}
 use Rattle.nfca_poll.specs.declared.kind.Kind.TheVariants as kinds
 use Rattle.nfca_poll.specs.declared.fault.PollFault.{PollFault}
 use Rattle.nfca_poll.specs.Enquiry.{Enquiry}
 use Rattle.nfca_poll.specs.Inventory.{picking_v}
-use Rattle.nfca_poll.specs.Poll.{Pick, Begins, Seeks, Sends, Ends, PickEnd, Picked, NotFound, GivenUp, Refused, FieldLost, Polling, Polls, Done, pick, picking, pick_step}
+use Rattle.nfca_poll.specs.Poll.{Pick, Begins, Seeks, Sends, Ends, PickEnd, Picked, Polling, Polls, Done, pick, picking, pick_step}
 use Rattle.nfc_bench.specs.declared.command.Command.{Command}
 use Rattle.nfc_bench.specs.declared.command.Command.TheVariants.{Read}
 use Rattle.nfc_bench.specs.declared.command.DeviceId.{DeviceId}
@@ -25,7 +24,7 @@ use Rattle.nfc_bench.specs.declared.device.Device.TheVariants.{T2, T5}
 use Rattle.nfc_bench.specs.Device.{device_id, device_store, how_of}
 use Rattle.nfc_bench.specs.Polling.{Followed, Asks as Requests, Told, followed, pick_v, asks_a, asks_v, polling, bytes_of, IsFoundBy}
 use Rattle.nfc_bench.specs.Reading.{Tells, AsksOf, TellsOf}
-use Rattle.nfc_bench.specs.Legal.{air, State, LegalStep, ReadLaw, OfPlaced, device_with, due, then_asks, then_asks_v, stable, state_after, state_from, state_of, first_state}
+use Rattle.nfc_bench.specs.Legal.{air, State, LegalStep, OfPlaced, device_with, due, then_asks, then_asks_v, stable, state_after, state_from, state_of, first_state}
 use Rattle.nfc_bench.specs.Phases.{Kept, kept, IsSound, AreTame, how_for, IsId, Selects, Reads}
 use Rattle.nfc_bench.specs.Obeying.{state_at, IsIdle, IsReady, Obeyed}
 use Rattle.tag_reader.specs.declared.how.How.{How}

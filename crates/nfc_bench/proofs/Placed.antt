@@ -1,13 +1,11 @@
 -- A tag is placed.
-use Rattle.std.proofs.Common.{◌≡◌, ℕ, ◌*◌, ◌≤◌, ◌<◌, List, [], ◌∷◌, ◌++◌, map, length, get_or, None, refl, sym, ◌∙◌, ap, subst}
+use Rattle.std.proofs.Common.{◌≡◌, ℕ, ◌*◌, ◌<◌, List, [], ◌∷◌, ◌++◌, map, length, get_or, refl, sym, ◌∙◌, ap, subst}
 use Rattle.std.specs.List.{AllByRecursion}
 use Rattle.nfc_base.specs.declared.frame.Tech.TheVariants as techs
 use Rattle.nfc_base.specs.declared.event.Event.{Event}
 use Rattle.air_core.specs.Turn.{Air}
 use Rattle.air_core.specs.Conversation.{Over}
 use Rattle.nfca_poll.specs.Ident.{IsIdent}
-use Rattle.t2t_tag.specs.Store.{IsT2Store}
-use Rattle.t5t_tag.specs.Store.{IsT5Store}
 use Rattle.nfc_bench.specs.declared.command.Command.{Command}
 use Rattle.nfc_bench.specs.declared.command.Command.TheVariants.{PlaceT2, PlaceT5}
 use Rattle.nfc_bench.specs.declared.device.Device.{Device}

@@ -1,18 +1,12 @@
 -- Devices that are placed, and the one with an identifier.
-use Rattle.std.proofs.Common.{◌≡◌, ℕ, ◌≤◌, List, [], ◌∷◌, ◌++◌, map, length, Bool, true, false, nat_eq, if◌then◌else◌, Option, Some, None, IsSome, is_some, refl, sym, ◌∙◌, ap, subst}
+use Rattle.std.proofs.Common.{◌≡◌, ℕ, List, [], ◌∷◌, ◌++◌, map, Bool, true, false, nat_eq, if◌then◌else◌, Some, None, refl, sym, ◌∙◌, ap, subst}
 use Rattle.std.specs.List.{AllByRecursion}
 use Rattle.std.specs.Cmp.Lexicographic.{pointwise, same_text}
-use Rattle.nfc_base.specs.declared.frame.Tech.{Tech}
-use Rattle.nfc_base.specs.declared.frame.Tech.TheVariants as techs
 use Rattle.nfca_poll.proofs.OneLevel.{pointwise_self}
-use Rattle.nfca_poll.specs.Ident.{IsIdent}
-use Rattle.t2t_tag.specs.Store.{IsT2Store}
-use Rattle.t5t_tag.specs.Store.{IsT5Store, IsT5State}
 use Rattle.tag_reader.specs.declared.how.How.{How}
 use Rattle.tag_reader.specs.declared.how.How.TheVariants as hows
 use Rattle.nfc_bench.specs.declared.device.Device.{Device}
-use Rattle.nfc_bench.specs.declared.device.Device.TheVariants.{T2, T5}
-use Rattle.nfc_bench.specs.Device.{device_id, device_tech, device_store, how_of, size_of, new_t2, new_t5}
+use Rattle.nfc_bench.specs.Device.{device_id}
 use Rattle.nfc_bench.specs.Legal.{device_with}
 use Rattle.nfc_bench.specs.Phases.{Kept, kept, IsSound, IsApart, IsApartAs, AreTame}
 

@@ -12,11 +12,11 @@ use Rattle.nfca_poll.specs.declared.upper.UpStep.{UpStep}
 use Rattle.nfca_poll.specs.declared.upper.UpStep.TheVariants as steps
 use Rattle.nfca_poll.specs.Ident.{IsIdent}
 use Rattle.nfca_poll.specs.Front.{Off, Idle, is_ready, is_active}
-use Rattle.nfca_poll.specs.Fronted.{Fronted, answer_by, after_by, moved}
+use Rattle.nfca_poll.specs.Fronted.{answer_by, after_by, moved}
 use Rattle.nfca_poll.specs.Upper.{UpperMachine}
 use Rattle.t2t_tag.specs.Store.{T2Memory, IsT2Store, unlocked}
 use Rattle.t2t_tag.specs.Step.{t2_answer, t2_after}
-use Rattle.t5t_tag.specs.Store.{T5State, IsT5State, fresh, darkened}
+use Rattle.t5t_tag.specs.Store.{IsT5State, fresh, darkened}
 use Rattle.t5t_tag.specs.Step.{t5_answer, t5_after}
 use Rattle.tag_reader.specs.declared.how.How.{How}
 use Rattle.tag_reader.specs.declared.how.How.TheVariants as hows

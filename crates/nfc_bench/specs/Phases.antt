@@ -1,11 +1,9 @@
 -- What the parts of a read say of the field. No public contract speaks of these.
 use Rattle.std.specs.Prelude.{◌≡◌, ◌⊎◌, ℕ, List, [], ◌∷◌, ◌++◌, map, length, slice_index, ◌<◌, true, Option, Some, None, IsSome}
 use Rattle.std.specs.List.{AllByRecursion}
-use Rattle.nfc_base.specs.declared.frame.Tech.TheVariants.{A, V}
 use Rattle.nfc_base.specs.Signal.{Signal}
 use Rattle.air_core.specs.declared.listener.Listener.{Ghosts}
 use Rattle.air_core.specs.World.{World}
-use Rattle.air_core.specs.Turn.{Air, moment}
 use Rattle.air_core.specs.Conversation.{Moment, Note, Going}
 use Rattle.air_core.specs.PlainTags.{IsAside}
 use Rattle.air_core.specs.Waits.{Asking, stand, waits_next}

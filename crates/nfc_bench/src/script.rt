@@ -10,7 +10,9 @@ mod words;
 use crate::command::Command;
 use std::alloc::{AllocError, Global};
 use thiserror::Error;
-use words::{cut_word, device_word, four_words, hex_word, ident_word, ident_word_v, number_word, three_words};
+use words::{
+    cut_word, device_word, four_words, hex_word, ident_word, ident_word_v, number_word, three_words,
+};
 
 /// The blocks of a tag that may be placed (this project's limits): the header of a Type 2 tag has four, a Type 5 tag has
 /// one, and a read names a block in one byte.

@@ -47,7 +47,11 @@ fn what_type_2_tags_hold(rt: HostRuntime) -> Result<(), Fail> {
         wanted.push_str("\n")?;
         let (status, written) = report(alloc, "run quiet", script.as_str())?;
         assert_eq!(rt; status, 0, "{container} {area}");
-        assert_eq!(rt; str::from_utf8(&written)?, wanted.as_str(), "{container} {area}");
+        assert_eq!(rt;
+            str::from_utf8(&written)?,
+            wanted.as_str(),
+            "{container} {area}"
+        );
     }
     Ok(())
 }

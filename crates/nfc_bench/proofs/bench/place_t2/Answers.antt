@@ -1,5 +1,4 @@
-use Rattle.std.proofs.Common.{◌≡◌, ℕ, ◌*◌, List, [], ◌∷◌, ◌++◌, length, rules, ◌∙◌, ap}
-use Rattle.nfc_base.specs.declared.event.Event.{Event}
+use Rattle.std.proofs.Common.{◌≡◌, ℕ, ◌*◌, List, rules, ◌∙◌, ap}
 use Rattle.air_core.specs.Turn.{Air}
 use Rattle.nfca_poll.specs.Ident.{IsIdent}
 use Rattle.nfca_poll.specs.Front.{Off}
@@ -7,7 +6,7 @@ use Rattle.nfca_poll.specs.Fronted.{Fronted}
 use Rattle.t2t_tag.specs.Store.{T2Memory, unlocked}
 use Rattle.nfc_bench.specs.declared.device.Device.{Device}
 use Rattle.nfc_bench.specs.declared.device.Device.TheVariants.{T2}
-use Rattle.nfc_bench.specs.Device.{device_darkened, new_t2}
+use Rattle.nfc_bench.specs.Device.{device_darkened}
 use Rattle.nfc_bench.specs.Legal.{MayPlaceT2, memory_of}
 use Rattle.nfc_bench.specs.Obeying.{state_at}
 use Rattle.nfc_bench.proofs.Placed.{more_by, t2_placed}

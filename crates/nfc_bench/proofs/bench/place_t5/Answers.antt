@@ -1,10 +1,9 @@
-use Rattle.std.proofs.Common.{◌≡◌, ℕ, ◌*◌, List, [], ◌∷◌, ◌++◌, length, rules, false, ◌∙◌, ap}
+use Rattle.std.proofs.Common.{◌≡◌, ℕ, ◌*◌, List, rules, false, ◌∙◌, ap}
 use Rattle.air_core.specs.Turn.{Air}
 use Rattle.t5t_tag.specs.Store.{T5State, fresh}
-use Rattle.nfc_bench.specs.Powered.{Powered}
 use Rattle.nfc_bench.specs.declared.device.Device.{Device}
 use Rattle.nfc_bench.specs.declared.device.Device.TheVariants.{T5}
-use Rattle.nfc_bench.specs.Device.{device_darkened, new_t5}
+use Rattle.nfc_bench.specs.Device.{device_darkened}
 use Rattle.nfc_bench.specs.Legal.{MayPlaceT5, memory_of}
 use Rattle.nfc_bench.specs.Obeying.{state_at}
 use Rattle.nfc_bench.proofs.Placed.{more_by, t5_placed}
