@@ -6,7 +6,6 @@ ghost use Rattle.nfc_base.specs.declared.event.Heard.TheVariants.{Whole};
 ghost use Rattle.air_core.specs.Conversation.{TurnsTo};
 ghost use Rattle.air_core.specs.Turn.{moment};
 ghost use Rattle.nfca_poll.specs.Calls.{Sens, Sdd, Sel, call_frame};
-ghost use Rattle.nfca_poll.specs.Inventory.{inventory_of};
 ghost use Rattle.nfc_bench.specs.Device.{device_id};
 ghost use Rattle.nfc_bench.specs.Legal.{air, device_with};
 ghost use Rattle.nfc_bench.specs.Polling.{bytes_of};
@@ -18,7 +17,7 @@ use crate::command::DeviceId;
 use crate::device::Device;
 use air_core::{AirFault, Field};
 use nfc_base::{Frame, Heard, Mute, Tech};
-use nfca_poll::Ident;
+use nfca_poll::{Ident, PollFault, pick_v};
 use std::alloc::AllocError;
 
 /// SENS_REQ of seven bits, SDD_REQ of level 1 with no known bits, and the first two bytes of SEL_REQ of level 1
@@ -28,14 +27,6 @@ const SENS_REQ: u8 = 0x26;
 const SDD_REQ: [u8; 2] = [0x93, 0x20];
 
 const SEL_REQ: [u8; 2] = [0x93, 0x70];
-
-/// The flags of an inventory of one slot, its code, and the length of a mask of a whole identifier in bits (ISO/IEC
-/// 15693-3).
-const ONE_SLOT: u8 = 0x26;
-
-const INVENTORY: u8 = 0x01;
-
-const WHOLE_MASK: u8 = 0x40;
 
 fn sens_req() -> Frame
     ensures { result ≡ call_frame Sens }
@@ -55,14 +46,6 @@ fn sel_req(level: &[u8; 5]) -> Frame
 {
     let [a, b, c, d, bcc] = *level;
     Frame::whole(Tech::A, &[SEL_REQ[0], SEL_REQ[1], a, b, c, d, bcc]).unwrap()
-}
-
-fn inventory_req(id: [u8; 8]) -> Frame
-    ensures { result ≡ inventory_of id }
-{
-    let [a, b, c, d, e, f, g, h] = id;
-    let bytes = [ONE_SLOT, INVENTORY, WHOLE_MASK, h, g, f, e, d, c, b, a];
-    Frame::whole(Tech::V, &bytes).unwrap()
 }
 
 /// Whether this is a device's identifier.
@@ -131,8 +114,13 @@ fn select_v(field: &mut Field<Device>, id: [u8; 8]) -> Result<usize, AllocError>
     if field.reset().is_err() {
         return Err(AllocError);
     }
-    let _ = ask(field, &inventory_req(id))?;
-    Ok(place)
+    match pick_v(field, id) {
+        Ok(()) => Ok(place),
+        Err(fault) => {
+            prove!(matches!(fault, PollFault::Memory));
+            Err(AllocError)
+        }
+    }
 }
 
 /// Resets the field and selects the tag with this identifier, where no fate is left. Gives its place.
