@@ -7,7 +7,6 @@ pub mod Ours
 pub mod SelectingTurns
 pub mod SelectingPlaces
 pub mod SelectingResets
-pub mod SelectingAsks
 pub mod QuietTurns
 pub mod SelectingT2
 pub mod SelectingT5

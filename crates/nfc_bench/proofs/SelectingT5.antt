@@ -28,9 +28,9 @@ use Rattle.nfc_bench.specs.Device.{devices, device_id}
 use Rattle.nfc_bench.specs.Legal.{air}
 use Rattle.nfc_bench.specs.Phases.{kept, AreTame, Selects, Stands}
 use Rattle.nfc_bench.specs.Polling.{polling, pick_v, Told, followed}
-use Rattle.nfc_bench.specs.Choosing.{StandsAt, Answers}
+use Rattle.nfc_bench.specs.Choosing.{StandsAt}
 use Rattle.nfc_bench.proofs.QuietTurns.{Turned, first_turn, nothing_more}
-use Rattle.nfc_bench.proofs.SelectingTurns.{At, Meets, answered, met, same_frame}
+use Rattle.nfc_bench.proofs.SelectingTurns.{At, Answers, Meets, answered, met, same_frame}
 use Rattle.nfc_bench.proofs.SelectingResets.{relit, kept_all, kept_among, length_relit, reset_at, Around, around, all_aside, all_deaf_to_v}
 
 -- A Type 5 tag with this identifier stands at this place.
@@ -87,7 +87,7 @@ module _ (a0 : Moment (World Device)) (id : List ℕ) (place : ℕ) (o : T5At id
   goes : stepped_by devices lit (inventory_of own) None ≡ lit
   goes = ap (λ (x : T5Turn). T5 (record { tag = x.after; lit = true })) (tags.picked t state refl)
 
-  pub inventory_answered : (a1 : Moment (World Device)) → a1 ≡ with_events air a0 (Reset ∷ []) → Answers a1 (inventory_of id)
+  inventory_answered : (a1 : Moment (World Device)) → a1 ≡ with_events air a0 (Reset ∷ []) → Answers a1 (inventory_of id)
   inventory_answered a1 reset =
       let P : List ℕ → Type 0 = λ i. Answers a1 (inventory_of i) in
       subst P o.named
@@ -146,7 +146,7 @@ module _ (a0 : Moment (World Device)) (id : List ℕ) (place : ℕ) (o : T5At id
         same = same_kept a2 m.at;
       }
 
-  pub inventoried : (a1 a2 : Moment (World Device)) (g : Signal) → a1 ≡ with_events air a0 (Reset ∷ []) → TurnsTo air a1 a2 (inventory_of id) (Some (Whole g)) → Selects (V id) a0 a2 place
+  inventoried : (a1 a2 : Moment (World Device)) (g : Signal) → a1 ≡ with_events air a0 (Reset ∷ []) → TurnsTo air a1 a2 (inventory_of id) (Some (Whole g)) → Selects (V id) a0 a2 place
   inventoried a1 a2 g reset turn =
       let T : List ℕ → Type 0 = λ i. TurnsTo air a1 a2 (inventory_of i) (Some (Whole g)) in
       let P : List ℕ → Type 0 = λ i. Selects (V i) a0 a2 place in

@@ -1,5 +1,4 @@
 use Rattle.std.proofs.Common.{◌≡◌, ◌⊎◌, inl, inr, true, false, Ok, Err, arith, ap, sym, ◌∙◌}
-use Rattle.std.proofs.lemmas.Grind.{common_steps}
 use Rattle.air_core.specs.World.{World}
 use Rattle.air_core.specs.Turn.{moment}
 use Rattle.air_core.specs.Conversation.{Moment}
@@ -8,7 +7,7 @@ use Rattle.nfc_bench.specs.declared.command.DeviceId.TheVariants as ids
 use Rattle.nfc_bench.specs.declared.device.Device.{Device}
 use Rattle.nfc_bench.specs.Phases.{Selects}
 use Rattle.nfc_bench.proofs.SelectingT5.{found_v, t5_in}
-use Rattle.nfc_bench.proofs.SelectingAsks.{reset_done}
+use Rattle.nfc_bench.proofs.SelectingResets.{reset_done}
 use Rattle.nfc_bench.proofs.polling.select_v.Goals as goal
 use Rattle.nfc_bench.proofs.polling.select_v.Goals.{in-Memory, in_default}
 
