@@ -12,7 +12,7 @@ pub mod ReadingEnds
 pub mod SelectingTurns
 pub mod SelectingPlaces
 pub mod SelectingResets
-pub mod SelectingAsks
+pub mod QuietTurns
 pub mod SelectingT2
 pub mod SelectingT5
 pub mod Legality

@@ -1,11 +1,13 @@
 -- A reset of a field of tame devices: each is idle, and stays what it was.
-use Rattle.std.proofs.Common.{◌≡◌, ℕ, suc, List, [], ◌∷◌, ◌++◌, map, length, true, if◌then◌else◌, None, refl, sym, ◌∙◌, ap}
+use Rattle.std.proofs.Common.{◌≡◌, ℕ, suc, List, [], ◌∷◌, ◌++◌, map, length, true, false, if◌then◌else◌, None, Result, Ok, Err, refl, sym, ◌∙◌, ap}
 use Rattle.std.specs.List.{AllByRecursion}
+use Rattle.std.specs.Result.{OnOk, is_err}
 use Rattle.nfc_base.specs.declared.frame.Tech.TheVariants.{A, V}
 use Rattle.nfc_base.specs.declared.event.Event.TheVariants.{Reset}
 use Rattle.nfc_base.specs.Signal.{Signal}
 use Rattle.air_core.specs.Joint.{same_tech}
-use Rattle.air_core.specs.World.{World}
+use Rattle.air_core.specs.World.{World, reset_by}
+use Rattle.air_core.specs.Turn.{Air, world, moment, after_event}
 use Rattle.air_core.specs.Conversation.{Moment, with_events}
 use Rattle.air_core.specs.PlainTags.{IsAside}
 use Rattle.nfca_poll.specs.Front.{Front, Off, Idle, Sleep, Ready, Active}
@@ -23,6 +25,12 @@ use Rattle.nfc_bench.specs.Device.{devices, t2_machine, device_id, how_of}
 use Rattle.nfc_bench.specs.Legal.{air}
 use Rattle.nfc_bench.specs.Phases.{ghosts, Kept, kept, IsSound, IsOfV, IsApart, AreTame}
 use Rattle.nfc_bench.proofs.SelectingTurns.{Deaf, At}
+
+-- the reset of a field is one of the air
+pub reset_done : {T E : Type 0} (old new : Air Device) (r : Result T E) → OnOk r (new ≡ after_event old Reset old.fates (reset_by devices (world old))) → is_err r ≡ false
+    → moment new ≡ with_events air (moment old) (Reset ∷ [])
+reset_done old new (Ok x) h e = ap moment h
+reset_done old new (Err x) h e = absurd cc
 
 -- a device behind a reset
 abbrev pub relit : Device → Device

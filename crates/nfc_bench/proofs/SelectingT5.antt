@@ -1,16 +1,20 @@
 -- Selecting a Type 5 tag: an inventory of its identifier.
-use Rattle.std.proofs.Common.{◌≡◌, ℕ, List, [], ◌∷◌, ◌++◌, length, reverse, map, Bool, true, ◌==◌, ◌&&◌, if◌then◌else◌, Option, Some, None, Ok, Err, refl, sym, ◌∙◌, ap, subst, arith}
+use Rattle.std.proofs.Common.{◌≡◌, ℕ, List, [], ◌∷◌, ◌++◌, length, reverse, map, Bool, true, false, ◌==◌, ◌&&◌, ◌⊎◌, inl, inr, if◌then◌else◌, Option, Some, None, Result, Ok, Err, refl, sym, ◌∙◌, ap, subst, arith}
 use Rattle.std.proofs.lemmas.List.{length-reverse}
 use Rattle.nfc_base.specs.declared.event.Event.TheVariants.{Reset}
 use Rattle.nfc_base.specs.declared.event.Heard.{Heard}
 use Rattle.nfc_base.specs.declared.event.Heard.TheVariants.{Whole}
 use Rattle.nfc_base.specs.Signal.{Signal}
 use Rattle.air_core.specs.World.{World, answered_by, stepped_by}
-use Rattle.air_core.specs.Conversation.{Moment, Note, Lit, Got, Next, Going, TurnsTo, with_events}
+use Rattle.air_core.specs.Turn.{Air, moment}
+use Rattle.air_core.specs.Conversation.{Moment, Note, Lit, Got, Next, Over, Going, TurnsTo, with_events}
 use Rattle.air_core.proofs.Turns.{going_start, going_reset, going_turn}
+use Rattle.nfca_poll.specs.declared.fault.PollFault.{PollFault}
 use Rattle.nfca_poll.specs.declared.fault.PollFault.TheVariants as faults
-use Rattle.nfca_poll.specs.Inventory.{Inventory, inventory_of, is_present, picking_v}
+use Rattle.nfca_poll.specs.Enquiry.{progress, enquiring, or_memory, answer_of, Enquires}
+use Rattle.nfca_poll.specs.Inventory.{Inventory, Tries, inventory_of, asks_for, is_present, pick_step, picking_v}
 use Rattle.nfca_poll.specs.Inventory as inventory
+use Rattle.nfca_poll.proofs.Inventories.{pick_present}
 use Rattle.t5t_tag.specs.declared.answer.T5Answer.TheVariants.{Present}
 use Rattle.t5t_tag.specs.Store.{T5State, IsT5State, darkened}
 use Rattle.t5t_tag.specs.Spelling.{answer_frame}
@@ -24,8 +28,9 @@ use Rattle.nfc_bench.specs.Device.{devices, device_id}
 use Rattle.nfc_bench.specs.Legal.{air}
 use Rattle.nfc_bench.specs.Phases.{kept, AreTame, Selects, Stands}
 use Rattle.nfc_bench.specs.Polling.{polling, pick_v, Told, followed}
-use Rattle.nfc_bench.specs.Choosing.{StandsAt, Answers}
-use Rattle.nfc_bench.proofs.SelectingTurns.{At, Meets, answered, met, same_frame}
+use Rattle.nfc_bench.specs.Choosing.{StandsAt}
+use Rattle.nfc_bench.proofs.QuietTurns.{Turned, first_turn, nothing_more}
+use Rattle.nfc_bench.proofs.SelectingTurns.{At, Answers, Meets, answered, met, same_frame}
 use Rattle.nfc_bench.proofs.SelectingResets.{relit, kept_all, kept_among, length_relit, reset_at, Around, around, all_aside, all_deaf_to_v}
 
 -- A Type 5 tag with this identifier stands at this place.
@@ -82,7 +87,7 @@ module _ (a0 : Moment (World Device)) (id : List ℕ) (place : ℕ) (o : T5At id
   goes : stepped_by devices lit (inventory_of own) None ≡ lit
   goes = ap (λ (x : T5Turn). T5 (record { tag = x.after; lit = true })) (tags.picked t state refl)
 
-  pub inventory_answered : (a1 : Moment (World Device)) → a1 ≡ with_events air a0 (Reset ∷ []) → Answers a1 (inventory_of id)
+  inventory_answered : (a1 : Moment (World Device)) → a1 ≡ with_events air a0 (Reset ∷ []) → Answers a1 (inventory_of id)
   inventory_answered a1 reset =
       let P : List ℕ → Type 0 = λ i. Answers a1 (inventory_of i) in
       subst P o.named
@@ -141,8 +146,43 @@ module _ (a0 : Moment (World Device)) (id : List ℕ) (place : ℕ) (o : T5At id
         same = same_kept a2 m.at;
       }
 
-  pub inventoried : (a1 a2 : Moment (World Device)) (g : Signal) → a1 ≡ with_events air a0 (Reset ∷ []) → TurnsTo air a1 a2 (inventory_of id) (Some (Whole g)) → Selects (V id) a0 a2 place
+  inventoried : (a1 a2 : Moment (World Device)) (g : Signal) → a1 ≡ with_events air a0 (Reset ∷ []) → TurnsTo air a1 a2 (inventory_of id) (Some (Whole g)) → Selects (V id) a0 a2 place
   inventoried a1 a2 g reset turn =
       let T : List ℕ → Type 0 = λ i. TurnsTo air a1 a2 (inventory_of i) (Some (Whole g)) in
       let P : List ℕ → Type 0 = λ i. Selects (V i) a0 a2 place in
       subst P o.named (found_here a1 a2 g reset (subst T (sym o.named) turn))
+
+  heard_present : (a1 a2 : Moment (World Device)) (g : Signal) → a1 ≡ with_events air a0 (Reset ∷ []) → TurnsTo air a1 a2 (inventory_of id) (Some (Whole g)) → is_present g ≡ true
+  heard_present a1 a2 g reset turn =
+      let T : List ℕ → Type 0 = λ i. TurnsTo air a1 a2 (inventory_of i) (Some (Whole g)) in
+      let m = inventory_met a1 a2 (Some (Whole g)) reset (subst T (sym o.named) turn) in
+      ap is_present (same_frame g present m.whole) ∙ whole_answer
+
+  -- what the call of polling asks and answers by these notes
+  abbrev next : List Note → Next
+  next = enquiring (picking_v id)
+
+  abbrev told : List Note → Result (Unit {0}) PollFault
+  told ns = answer_of (picking_v id) (progress (picking_v id) (picking_v id).start ns)
+
+  -- Behind a reset the call of polling finds the tag by its first inventory, if memory suffices.
+  pub found_v : (old new : Air Device) (r : Result (Unit {0}) PollFault) → moment old ≡ with_events air a0 (Reset ∷ []) → Enquires (picking_v id) devices old r new
+      → (r ≡ Err faults.Memory) ⊎ ((r ≡ Ok tt) × Selects (V id) a0 (moment new) place)
+  found_v old new r reset e = by_turn (first_turn air next (moment old) (moment new) e.notes e.going (inventory_of id) due.answer refl due.lit due.quiet due.some)
+    where
+      due : Answers (moment old) (inventory_of id)
+      due = inventory_answered (moment old) reset
+
+      by_turn : (e.notes ≡ []) ⊎ Turned air next (moment old) (moment new) e.notes (inventory_of id) due.answer → (r ≡ Err faults.Memory) ⊎ ((r ≡ Ok tt) × Selects (V id) a0 (moment new) place)
+      by_turn (inl none) = inl (e.comes ∙ ap told none)
+      by_turn (inr u) =
+          let g : Signal = due.answer in
+          let there : is_present g ≡ true = heard_present (moment old) u.mid g reset u.turn in
+          let over : next (Got (Whole g) ∷ []) ≡ Over =
+          ap (λ v. asks_for {X = Unit {0}} (inventory_of id) (if v then inventory.Told (Ok tt) else inventory.Told (Err faults.BadAnswer))) there in
+          let last = nothing_more air (λ ns. next (Got (Whole g) ∷ ns)) u.mid (moment new) u.rest u.going over in
+          let S : Moment (World Device) → Type 0 = λ a. Selects (V id) a0 a place in
+          inr (
+            e.comes ∙ ap told (u.known ∙ ap (λ ns. Got (Whole g) ∷ ns) last.0) ∙ ap or_memory (pick_present 0 false g there),
+            subst S (sym last.1) (inventoried (moment old) u.mid g reset u.turn),
+          )

@@ -15,7 +15,13 @@ use Rattle.air_core.specs.Conversation.{Moment, TurnsTo, replay, turn_events, jo
 use Rattle.nfc_bench.specs.declared.device.Device.{Device}
 use Rattle.nfc_bench.specs.Device.{devices}
 use Rattle.nfc_bench.specs.Legal.{air}
-use Rattle.nfc_bench.specs.Choosing.{Answers}
+
+-- In a lit field where no fate is left, a request is answered by one frame.
+pub record Answers (a : Moment (World Device)) (f : Signal) : Type 0 where
+  pub lit : a.world.lit ≡ true
+  pub quiet : a.queue ≡ []
+  pub answer : Signal
+  pub some : air.joint a.world f ≡ Single answer
 
 -- a device that a request leaves silent and as it is
 abbrev pub Deaf : Signal → Device → Type 0

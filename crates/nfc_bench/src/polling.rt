@@ -1,69 +1,20 @@
 //! Finding a tag in the field.
 
-ghost use Rattle.std.specs.Prelude.{◌≡◌, [], IfOk, IsSome, Some, nat_eq};
+ghost use Rattle.std.specs.Prelude.{◌≡◌, IfOk, IsSome, nat_eq};
 ghost use Rattle.std.specs.Cmp.Lexicographic.{pointwise};
-ghost use Rattle.nfc_base.specs.declared.event.Heard.TheVariants.{Whole};
-ghost use Rattle.air_core.specs.Conversation.{TurnsTo};
 ghost use Rattle.air_core.specs.Turn.{moment};
-ghost use Rattle.nfca_poll.specs.Calls.{Sens, Sdd, Sel, call_frame};
-ghost use Rattle.nfca_poll.specs.Inventory.{inventory_of};
 ghost use Rattle.nfc_bench.specs.Device.{device_id};
-ghost use Rattle.nfc_bench.specs.Legal.{air, device_with};
+ghost use Rattle.nfc_bench.specs.Legal.{device_with};
 ghost use Rattle.nfc_bench.specs.Polling.{bytes_of};
 ghost use Rattle.nfc_bench.specs.Obeying.{IsIdle};
 ghost use Rattle.nfc_bench.specs.Phases.{Selects};
-ghost use Rattle.nfc_bench.specs.Choosing.{StandsAt, Answers};
+ghost use Rattle.nfc_bench.specs.Choosing.{StandsAt};
 
 use crate::command::DeviceId;
 use crate::device::Device;
-use air_core::{AirFault, Field};
-use nfc_base::{Frame, Heard, Mute, Tech};
-use nfca_poll::Ident;
+use air_core::Field;
+use nfca_poll::{Ident, PollFault, pick_v, resolve};
 use std::alloc::AllocError;
-
-/// SENS_REQ of seven bits, SDD_REQ of level 1 with no known bits, and the first two bytes of SEL_REQ of level 1
-/// (NFC Forum Digital Protocol; ISO/IEC 14443-3).
-const SENS_REQ: u8 = 0x26;
-
-const SDD_REQ: [u8; 2] = [0x93, 0x20];
-
-const SEL_REQ: [u8; 2] = [0x93, 0x70];
-
-/// The flags of an inventory of one slot, its code, and the length of a mask of a whole identifier in bits (ISO/IEC
-/// 15693-3).
-const ONE_SLOT: u8 = 0x26;
-
-const INVENTORY: u8 = 0x01;
-
-const WHOLE_MASK: u8 = 0x40;
-
-fn sens_req() -> Frame
-    ensures { result ≡ call_frame Sens }
-{
-    Frame::part(Tech::A, &[SENS_REQ], 7).unwrap()
-}
-
-#[tactic(auto, using(nfca_poll::proofs::Calling::sdd_frame))]
-fn sdd_req() -> Frame
-    ensures { result ≡ call_frame (Sdd 1 []) }
-{
-    Frame::whole(Tech::A, &SDD_REQ).unwrap()
-}
-
-fn sel_req(level: &[u8; 5]) -> Frame
-    ensures { result ≡ call_frame (Sel 1 level.now) }
-{
-    let [a, b, c, d, bcc] = *level;
-    Frame::whole(Tech::A, &[SEL_REQ[0], SEL_REQ[1], a, b, c, d, bcc]).unwrap()
-}
-
-fn inventory_req(id: [u8; 8]) -> Frame
-    ensures { result ≡ inventory_of id }
-{
-    let [a, b, c, d, e, f, g, h] = id;
-    let bytes = [ONE_SLOT, INVENTORY, WHOLE_MASK, h, g, f, e, d, c, b, a];
-    Frame::whole(Tech::V, &bytes).unwrap()
-}
 
 /// Whether this is a device's identifier.
 pub fn is_named(device: &Device, id: &[u8]) -> bool
@@ -88,23 +39,8 @@ fn place_of(devices: &[Device], id: &[u8]) -> usize
     unreachable!()
 }
 
-/// One turn with a device that answers, where no fate is left: it is heard whole.
-#[tactic(auto, using(crate::proofs::SelectingAsks::asked_turn, crate::proofs::SelectingAsks::asked_heard))]
-fn ask(field: &mut Field<Device>, request: &Frame) -> Result<Frame, AllocError>
-    requires { Answers (moment field.old) request.now }
-    ensures { IfOk result (λ frame. TurnsTo air (moment field.old) (moment field.new) request.now (Some (Whole frame))) }
-{
-    match field.transmit(request, &mut Mute) {
-        Ok(Heard::Whole(frame)) => Ok(frame),
-        Ok(Heard::Collided(_)) => unreachable!(),
-        Ok(Heard::Damaged) => unreachable!(),
-        Ok(Heard::Silent) => unreachable!(),
-        Err(AirFault::FieldLost) => unreachable!(),
-        Err(AirFault::Memory) => Err(AllocError),
-    }
-}
-
-/// Selects the Type 2 tag with this identifier, which has one level.
+/// Selects the Type 2 tag with this identifier, the only device of NFC-A: a resolution finds it, and only want of memory
+/// can fail it.
 fn select_a(field: &mut Field<Device>, id: &Ident) -> Result<usize, AllocError>
     requires idle { IsIdle field.old }
     requires placed { IsSome (device_with id.now field.old.listeners) }
@@ -114,14 +50,16 @@ fn select_a(field: &mut Field<Device>, id: &Ident) -> Result<usize, AllocError>
     if field.reset().is_err() {
         return Err(AllocError);
     }
-    let _ = ask(field, &sens_req())?;
-    let answer = ask(field, &sdd_req())?;
-    let level: [u8; 5] = answer.view().try_into().unwrap();
-    let _ = ask(field, &sel_req(&level))?;
-    Ok(place)
+    match resolve(field) {
+        Ok(_) => Ok(place),
+        Err(fault) => {
+            prove!(matches!(fault, PollFault::Memory));
+            Err(AllocError)
+        }
+    }
 }
 
-/// Selects the Type 5 tag with this identifier, high byte first.
+/// Selects the Type 5 tag with this identifier, high byte first. Only want of memory can fail it.
 fn select_v(field: &mut Field<Device>, id: [u8; 8]) -> Result<usize, AllocError>
     requires idle { IsIdle field.old }
     requires placed { IsSome (device_with id field.old.listeners) }
@@ -131,8 +69,13 @@ fn select_v(field: &mut Field<Device>, id: [u8; 8]) -> Result<usize, AllocError>
     if field.reset().is_err() {
         return Err(AllocError);
     }
-    let _ = ask(field, &inventory_req(id))?;
-    Ok(place)
+    match pick_v(field, id) {
+        Ok(()) => Ok(place),
+        Err(fault) => {
+            prove!(matches!(fault, PollFault::Memory));
+            Err(AllocError)
+        }
+    }
 }
 
 /// Resets the field and selects the tag with this identifier, where no fate is left. Gives its place.

@@ -1,25 +1,37 @@
-use Rattle.std.proofs.Common.{Some, arith, sym, subst, ◌∙◌}
-use Rattle.nfc_base.specs.declared.event.Heard.TheVariants.{Whole}
-use Rattle.nfc_base.specs.Signal.{Signal}
-use Rattle.air_core.specs.Conversation.{TurnsTo}
+use Rattle.std.proofs.Common.{◌≡◌, ◌⊎◌, inl, inr, true, false, Ok, Err, arith, ap, sym, ◌∙◌}
+use Rattle.air_core.specs.World.{World}
 use Rattle.air_core.specs.Turn.{moment}
-use Rattle.nfc_bench.specs.Legal.{air}
-use Rattle.nfc_bench.specs.Choosing.{Answers}
-use Rattle.nfc_bench.proofs.SelectingT5.{inventory_answered, inventoried, t5_in}
-use Rattle.nfc_bench.proofs.SelectingAsks.{reset_done}
+use Rattle.air_core.specs.Conversation.{Moment}
+use Rattle.nfca_poll.specs.declared.fault.PollFault.TheVariants as faults
+use Rattle.nfc_bench.specs.declared.command.DeviceId.TheVariants as ids
+use Rattle.nfc_bench.specs.declared.device.Device.{Device}
+use Rattle.nfc_bench.specs.Phases.{Selects}
+use Rattle.nfc_bench.proofs.SelectingT5.{found_v, t5_in}
+use Rattle.nfc_bench.proofs.SelectingResets.{reset_done}
 use Rattle.nfc_bench.proofs.polling.select_v.Goals as goal
+use Rattle.nfc_bench.proofs.polling.select_v.Goals.{in-Memory, in_default}
 
-pub ask-requires : goal.ask-requires
-ask-requires c =
+pub prove-unreachable-requires : goal.prove-unreachable-requires
+prove-unreachable-requires c =
     let o = t5_in c.args.id c.args.field.now.listeners c.listeners.result.now c.place_of-place.result (omega (arith, c.well_formed)) c.listeners.ensures c.place_of-place.ensures c.requires.idle.tame in
     let reset = reset_done c.args.field.now c.reset.new.self c.reset.result c.reset.ensures.ok (sym c.is_err.ensures.value ∙ c.if-is_err.false) in
-    let P : Signal → Type 0 = λ f. Answers (moment c.reset.new.self) f in
-    subst P (sym c.inventory_req.ensures) (inventory_answered (moment c.args.field.now) c.args.id c.place_of-place.result o c.requires.idle.fates (moment c.reset.new.self) reset)
+    let lit : c.reset.new.self.lit ≡ true = ap (λ (m : Moment (World Device)). m.world.lit) reset in
+    by_end (found_v (moment c.args.field.now) c.args.id c.place_of-place.result o c.requires.idle.fates c.reset.new.self c.pick_v.new.field c.pick_v.result reset (c.pick_v.ensures.turns lit))
+  where
+    by_fault : c.in-Err.fault ≡ faults.Memory → ⊥
+    by_fault e = elim c.match-matches.branch [ in-Memory w ↦ let t : c.match-matches.matches ≡ true = w.matches-is in let f : c.match-matches.matches ≡ false = c.if-prove.true in cc | in_default w ↦ w.in_default.not-Memory e ]
 
-pub returns : goal.returns
-returns c =
+    by_end : (c.pick_v.result ≡ Err faults.Memory) ⊎ ((c.pick_v.result ≡ Ok tt) × Selects (ids.V c.args.id) (moment c.args.field.now) (moment c.pick_v.new.field) c.place_of-place.result) → ⊥
+    by_end (inl e) = by_fault (let k : c.pick_v.result ≡ Err c.in-Err.fault = c.in-Err.is in cc)
+    by_end (inr h) = let k : c.pick_v.result ≡ Err c.in-Err.fault = c.in-Err.is in let l : c.pick_v.result ≡ Ok tt = h.0 in cc
+
+pub returns-in-Ok : goal.returns-in-Ok
+returns-in-Ok c =
     let o = t5_in c.args.id c.args.field.now.listeners c.listeners.result.now c.place_of-place.result (omega (arith, c.well_formed)) c.listeners.ensures c.place_of-place.ensures c.requires.idle.tame in
     let reset = reset_done c.args.field.now c.reset.new.self c.reset.result c.reset.ensures.ok (sym c.is_err.ensures.value ∙ c.if-is_err.false) in
-    let T : Signal → Type 0 = λ f. TurnsTo air (moment c.reset.new.self) (moment c.ask.new.field) f (Some (Whole c.in_ok-ask.field-0)) in
-    inventoried (moment c.args.field.now) c.args.id c.place_of-place.result o c.requires.idle.fates (moment c.reset.new.self) (moment c.ask.new.field) c.in_ok-ask.field-0 reset
-    (subst T c.inventory_req.ensures c.in_ok-ask.ensures)
+    let lit : c.reset.new.self.lit ≡ true = ap (λ (m : Moment (World Device)). m.world.lit) reset in
+    by_end (found_v (moment c.args.field.now) c.args.id c.place_of-place.result o c.requires.idle.fates c.reset.new.self c.pick_v.new.field c.pick_v.result reset (c.pick_v.ensures.turns lit))
+  where
+    by_end : (c.pick_v.result ≡ Err faults.Memory) ⊎ ((c.pick_v.result ≡ Ok tt) × Selects (ids.V c.args.id) (moment c.args.field.now) (moment c.pick_v.new.field) c.place_of-place.result) → Selects (ids.V c.args.id) (moment c.args.field.now) (moment c.pick_v.new.field) c.place_of-place.result
+    by_end (inl e) = absurd (let k : c.pick_v.result ≡ Ok c.in-Ok.field-0 = c.in-Ok.is in cc)
+    by_end (inr h) = h.1
