@@ -1,18 +1,25 @@
 -- The devices of the bench are listeners of this project: a Type 2 tag polls by its front, and a Type 5 tag has none.
-use Rattle.std.proofs.Common.{◌≡◌, ℕ, List, false, refl}
-use Rattle.nfc_base.specs.declared.frame.Tech.TheVariants.{A}
-use Rattle.nfc_base.specs.Signal.{Signal}
+use Rattle.std.proofs.Common.{◌≡◌, ℕ, List, [], ◌∷◌, Bool, true, false, ◌&&◌, ◌==◌, not, reverse, if◌then◌else◌, Some, refl, ◌∙◌, ap}
+use Rattle.nfc_base.specs.declared.frame.Tech.TheVariants.{A, V}
+use Rattle.nfc_base.specs.Signal.{Signal, whole_v}
 use Rattle.air_core.specs.Conversation.{AirModel}
 use Rattle.air_core.specs.World.{World}
 use Rattle.nfca_poll.specs.declared.kind.Kind.{Kind}
 use Rattle.nfca_poll.specs.declared.kind.Kind.TheVariants as kinds
 use Rattle.nfca_poll.specs.Front.{Front, Off, Idle, Sleep, Ready, Active, is_active}
 use Rattle.nfca_poll.specs.Crowd.{AreOurs, StepsByFront}
+use Rattle.nfca_poll.specs.Inventory.{inventory_all, inventory_of, IsSteady}
 use Rattle.nfca_poll.specs.Muted.{mute_air}
 use Rattle.t2t_tag.specs.Store.{T2Memory}
+use Rattle.t5t_tag.specs.declared.answer.T5Answer.TheVariants.{Present}
+use Rattle.t5t_tag.specs.Mask.{asks_for}
+use Rattle.t5t_tag.specs.Spelling.{inventory_flags, inventory_code, answer_frame}
+use Rattle.t5t_tag.specs.Step.{T5Turn, tells, silent, sent, t5_turn, t5_after}
+use Rattle.t5t_tag.specs.Store.{T5State, IsT5State}
+use Rattle.t5t_tag.proofs.Inventories.{picked}
 use Rattle.nfc_bench.specs.declared.device.Device.{Device}
 use Rattle.nfc_bench.specs.declared.device.Device.TheVariants.{T2, T5}
-use Rattle.nfc_bench.specs.Device.{devices, device_id}
+use Rattle.nfc_bench.specs.Device.{devices, device_id, device_answer, device_after}
 use Rattle.nfc_bench.specs.Legal.{air}
 
 -- what a device tells that it is, and its front; a Type 5 tag has none
@@ -42,3 +49,28 @@ ours = record { kind = device_kind; front = device_front; steps = steps }
 -- Tags hand nothing over, so a far end makes no difference to their air.
 pub mute_is_quiet : ◌≡◌ {A = AirModel (World Device)} (mute_air devices) air
 mute_is_quiet = refl
+
+-- Whether it answers an inventory or not, a Type 5 tag stays as it is.
+told_stays : (v : Bool) (t : T5State) → (if v then tells t (Present t.id) else silent t).after ≡ t
+told_stays true t = refl
+told_stays false t = refl
+
+inventory_stays : (t : T5State) (bits : ℕ) (mask : List ℕ) → t5_after t (whole_v (inventory_flags ∷ inventory_code ∷ bits ∷ mask)) ≡ t
+inventory_stays t bits mask = told_stays ((inventory_code == inventory_code) && not t.quiet && asks_for t.id bits mask) t
+
+device_stays : (t : T5State) (lit : Bool) (f : Signal) → t5_after t f ≡ t → device_after (T5 (record { tag = t; lit = lit })) f ≡ T5 (record { tag = t; lit = lit })
+device_stays t true f e = ap (λ x. T5 (record { tag = x; lit = true })) e
+device_stays t false f e = refl
+
+-- So the devices are steady at inventories, as the law on what they miss asks.
+pub steady_at_all : (d : Device) → IsSteady devices inventory_all d
+steady_at_all (T2 d) v = absurd cc
+steady_at_all (T5 p) v = (refl, device_stays p.tag p.lit inventory_all (inventory_stays p.tag 0 []))
+
+pub steady_at : (id : List ℕ) (d : Device) → IsSteady devices (inventory_of id) d
+steady_at id (T2 d) v = absurd cc
+steady_at id (T5 p) v = (refl, device_stays p.tag p.lit (inventory_of id) (inventory_stays p.tag 64 (reverse id)))
+
+-- A Type 5 tag in the light that isn't quiet answers the inventory of its own identifier: where nobody answers, none is it.
+pub answers_own : (t : T5State) → IsT5State t → t.quiet ≡ false → device_answer (T5 (record { tag = t; lit = true })) (inventory_of t.id) ≡ Some (answer_frame (Present t.id))
+answers_own t is calm = ap (λ (r : T5Turn). sent r.answer) (picked t is calm)

@@ -10,11 +10,10 @@ use Rattle.air_core.specs.World.{Machine}
 use Rattle.nfca_poll.specs.declared.kind.Kind.TheVariants as kinds
 use Rattle.nfca_poll.specs.declared.upper.UpStep.{UpStep}
 use Rattle.nfca_poll.specs.declared.upper.UpStep.TheVariants as steps
-use Rattle.nfca_poll.specs.Ident.{IsIdent}
 use Rattle.nfca_poll.specs.Front.{Off, Idle, is_ready, is_active}
 use Rattle.nfca_poll.specs.Fronted.{answer_by, after_by, moved}
 use Rattle.nfca_poll.specs.Upper.{UpperMachine}
-use Rattle.t2t_tag.specs.Store.{T2Memory, IsT2Store, unlocked}
+use Rattle.t2t_tag.specs.Store.{T2Memory, unlocked}
 use Rattle.t2t_tag.specs.Step.{t2_answer, t2_after}
 use Rattle.t5t_tag.specs.Store.{IsT5State, fresh, darkened}
 use Rattle.t5t_tag.specs.Step.{t5_answer, t5_after}
@@ -108,8 +107,3 @@ how_of (T5 p) = hows.T5 p.tag.id
 abbrev pub size_of : Device → ℕ
 size_of (T2 d) = 16
 size_of (T5 p) = p.tag.size
-
--- A device that may be placed: its identifier and its store are such.
-abbrev pub IsSound : Device → Type 0
-IsSound (T2 d) = IsIdent d.id × (length d.id ≡ 4) × IsT2Store d.upper.store
-IsSound (T5 p) = IsT5State p.tag

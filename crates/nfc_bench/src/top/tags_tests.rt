@@ -20,24 +20,26 @@ fn report(alloc: Global, words: &str, script: &str) -> Result<(u8, Vec<u8>), Fai
     Ok((status, Vec::from_slice(alloc, sink.content())?))
 }
 
+/// A container, what stands in the area, and the answer of a read.
+const TYPE_2_READS: [(&str, &str, &str); 12] = [
+    ("00000000", "0300FE", "not ndef"),
+    ("E1200600", "0300FE", "version"),
+    ("E11006F0", "0300FE", "no read"),
+    ("E1107F00", "0300FE", "sectors"),
+    ("E1100000", "0300FE", "bad size"),
+    ("E1100600", "FE", "no message tlv"),
+    ("E1100600", "0330", "bad tlv"),
+    ("E1100600", "03FF0003D00000FE", "message D00000 writable"),
+    ("E1100600", "03FFFFFF", "bad tlv"),
+    ("E1100600", "0303D0000003010AFE", "message D00000 writable"),
+    ("E1100600", "FD01030301D1FE", "message D1 writable"),
+    ("E110060F", "0300FE", "message - readonly"),
+];
+
 #[test]
 fn what_type_2_tags_hold(rt: HostRuntime) -> Result<(), Fail> {
     let alloc = rt.alloc();
-    let rows = [
-        ("00000000", "0300FE", "not ndef"),
-        ("E1200600", "0300FE", "version"),
-        ("E11006F0", "0300FE", "no read"),
-        ("E1107F00", "0300FE", "sectors"),
-        ("E1100000", "0300FE", "bad size"),
-        ("E1100600", "FE", "no message tlv"),
-        ("E1100600", "0330", "bad tlv"),
-        ("E1100600", "03FF0003D00000FE", "message D00000 writable"),
-        ("E1100600", "03FFFFFF", "bad tlv"),
-        ("E1100600", "0303D0000003010AFE", "message D00000 writable"),
-        ("E1100600", "FD01030301D1FE", "message D1 writable"),
-        ("E110060F", "0300FE", "message - readonly"),
-    ];
-    for (container, area, answer) in rows {
+    for (container, area, answer) in TYPE_2_READS {
         let mut script = String::from_str(alloc, TYPE_2)?;
         script.push_str(container)?;
         script.push_str(area)?;
@@ -56,30 +58,28 @@ fn what_type_2_tags_hold(rt: HostRuntime) -> Result<(), Fail> {
     Ok(())
 }
 
-#[test]
-fn whole_scripts(rt: HostRuntime) -> Result<(), Fail> {
-    let alloc = rt.alloc();
-    let rows = [
-        (
-            "a lock control TLV that reserves bytes past the area",
-            "run quiet",
-            "place t2 01020304 45 000000000000000000000000E11012000103A00C340300FE\nread 01020304",
-            0,
-            "1 ok\n2 message - writable\n",
-        ),
-        (
-            "a Type 5 tag that ends before its area",
-            "run quiet",
-            "place t5 E004010203040506 4 4 E14006000303D00000FE\nread e004010203040506",
-            0,
-            "1 ok\n2 message D00000 writable\n",
-        ),
-        (
-            "each frame of a Type 5 tag",
-            "run",
-            "place t5 E004010203040506 4 32 E1400F000303D00000FE\nread E004010203040506",
-            0,
-            "1 ok
+/// What a script shows, its words, its lines, the status and the report.
+const SCRIPTS: [(&str, &str, &str, u8, &str); 10] = [
+    (
+        "a lock control TLV that reserves bytes past the area",
+        "run quiet",
+        "place t2 01020304 45 000000000000000000000000E11012000103A00C340300FE\nread 01020304",
+        0,
+        "1 ok\n2 message - writable\n",
+    ),
+    (
+        "a Type 5 tag that ends before its area",
+        "run quiet",
+        "place t5 E004010203040506 4 4 E14006000303D00000FE\nread e004010203040506",
+        0,
+        "1 ok\n2 message D00000 writable\n",
+    ),
+    (
+        "each frame of a Type 5 tag",
+        "run",
+        "place t5 E004010203040506 4 32 E1400F000303D00000FE\nread E004010203040506",
+        0,
+        "1 ok
 2 ! reset
 2 > 26014006050403020104E0 pass
 2 < 000006050403020104E0 pass
@@ -87,64 +87,68 @@ fn whole_scripts(rt: HostRuntime) -> Result<(), Fail> {
 2 < 00E1400F000303D00000FE00000000000000000000000000000000000000000000 pass
 2 message D00000 writable
 ",
-        ),
-        (
-            "error 10 ends an area that goes on past the tag",
-            "run quiet",
-            "place t5 E004010203040506 3 4 E14006000000000000000000\nread E004010203040506",
-            0,
-            "1 ok\n2 no message tlv\n",
-        ),
-        (
-            "tags of both kinds side by side",
-            "run quiet",
-            "place t5 E004010203040506 2 4 E14001000301D1FE
+    ),
+    (
+        "error 10 ends an area that goes on past the tag",
+        "run quiet",
+        "place t5 E004010203040506 3 4 E14006000000000000000000\nread E004010203040506",
+        0,
+        "1 ok\n2 no message tlv\n",
+    ),
+    (
+        "tags of both kinds side by side",
+        "run quiet",
+        "place t5 E004010203040506 2 4 E14001000301D1FE
 place t2 01020304 16 000000000000000000000000E11006000301D2FE
 place t5 E004010203040507 2 8 E14002000301D3FE
 read E004010203040506
 read 01020304
 read E004010203040507
 read 01020304",
-            0,
-            "1 ok\n2 ok\n3 ok\n4 message D1 writable\n5 message D2 writable\n6 message D3 writable\n7 message D2 writable\n",
-        ),
-        (
-            "an identifier is placed once",
-            "run quiet",
-            "place t5 E004010203040506 2 4 -\nplace t5 E004010203040506 2 8 -",
-            2,
-            "1 ok\nfault 2 line 2\n",
-        ),
-        (
-            "one tag of NFC-A",
-            "run quiet",
-            "place t2 01020304 4 -\nplace t2 01020305 4 -",
-            2,
-            "1 ok\nfault 2 line 2\n",
-        ),
-        (
-            "more bytes than the blocks hold",
-            "run quiet",
-            "place t5 E004010203040506 1 4 0000000000",
-            2,
-            "fault 2 line 1\n",
-        ),
-        (
-            "an area that the blocks don't hold",
-            "run quiet",
-            "place t2 01020304 15 000000000000000000000000E1100600",
-            2,
-            "fault 2 line 1\n",
-        ),
-        (
-            "a read of another tag",
-            "run quiet",
-            "place t5 E004010203040506 1 4 -\nread E004010203040507",
-            2,
-            "1 ok\nfault 2 line 2\n",
-        ),
-    ];
-    for (shows, words, script, wanted, text) in rows {
+        0,
+        "1 ok\n2 ok\n3 ok\n4 message D1 writable\n5 message D2 writable\n6 message D3 writable\n7 message D2 writable\n",
+    ),
+    (
+        "an identifier is placed once",
+        "run quiet",
+        "place t5 E004010203040506 2 4 -\nplace t5 E004010203040506 2 8 -",
+        2,
+        "1 ok\nfault 2 line 2\n",
+    ),
+    (
+        "one tag of NFC-A",
+        "run quiet",
+        "place t2 01020304 4 -\nplace t2 01020305 4 -",
+        2,
+        "1 ok\nfault 2 line 2\n",
+    ),
+    (
+        "more bytes than the blocks hold",
+        "run quiet",
+        "place t5 E004010203040506 1 4 0000000000",
+        2,
+        "fault 2 line 1\n",
+    ),
+    (
+        "an area that the blocks don't hold",
+        "run quiet",
+        "place t2 01020304 15 000000000000000000000000E1100600",
+        2,
+        "fault 2 line 1\n",
+    ),
+    (
+        "a read of another tag",
+        "run quiet",
+        "place t5 E004010203040506 1 4 -\nread E004010203040507",
+        2,
+        "1 ok\nfault 2 line 2\n",
+    ),
+];
+
+#[test]
+fn whole_scripts(rt: HostRuntime) -> Result<(), Fail> {
+    let alloc = rt.alloc();
+    for (shows, words, script, wanted, text) in SCRIPTS {
         let (status, written) = report(alloc, words, script)?;
         assert_eq!(rt; status, wanted, "{shows}");
         assert_eq!(rt; str::from_utf8(&written)?, text, "{shows}");
