@@ -1,11 +1,10 @@
 -- What the commands of a reader come to at a tag.
-use Rattle.std.proofs.Common.{◌≡◌, ◌≢◌, ℕ, ◌+◌, ◌*◌, ◌/◌, ◌%◌, ◌<◌, ◌≤◌, List, [], ◌∷◌, ◌++◌, length, take, drop, Bool, true, false, not, nat_le, nat_lt, ◌==◌, ◌&&◌, ◌||◌, if◌then◌else◌, refl, ◌∙◌, ap, arith}
+use Rattle.std.proofs.Common.{◌≡◌, ◌≢◌, ℕ, ◌+◌, ◌*◌, ◌/◌, ◌%◌, ◌<◌, ◌≤◌, List, length, Bool, true, false, not, nat_le, nat_lt, ◌==◌, ◌||◌, if◌then◌else◌, refl, ◌∙◌, ap, arith}
 use Rattle.t4t_tag.specs.declared.command.T4Command.TheVariants.{SelectApplication, SelectFile, ReadBinary, UpdateBinary}
-use Rattle.t4t_tag.specs.declared.current.CurrentFile.{CurrentFile}
-use Rattle.t4t_tag.specs.declared.current.CurrentFile.TheVariants.{NoFile, Container, Ndef}
+use Rattle.t4t_tag.specs.declared.current.CurrentFile.TheVariants.{Container, Ndef}
 use Rattle.t4t_tag.specs.Store.{T4State, IsT4State, most_read, most_written, file_id, read_access, write_access, everyone, container_id}
 use Rattle.t4t_tag.specs.Spelling.{offset_end, command_bytes}
-use Rattle.t4t_tag.specs.Step.{T4Turn, done, wrong_length, not_found, wrong_parameters, not_allowed, tells, opens, picks, writes, select_known, read_bytes, read_file, asked_count, update_file, overwritten, t4_step}
+use Rattle.t4t_tag.specs.Step.{T4Turn, wrong_length, not_found, wrong_parameters, not_allowed, tells, opens, picks, writes, select_known, read_bytes, read_file, asked_count, update_file, t4_step}
 use Rattle.t4t_tag.proofs.Turns.{content_of}
 
 -- two bytes, high first, are their number

@@ -1,9 +1,9 @@
 -- What the steps of a tag answer, and what they leave.
-use Rattle.std.proofs.Common.{◌≡◌, ◌≢◌, ℕ, ◌+◌, ◌-◌, ◌<◌, ◌≤◌, min, List, ◌++◌, length, take, drop, slice_index, Bool, true, ◌==◌, if◌then◌else◌, refl, sym, ◌∙◌, ap, arith}
+use Rattle.std.proofs.Common.{◌≡◌, ◌≢◌, ℕ, ◌+◌, ◌-◌, ◌<◌, ◌≤◌, min, List, ◌++◌, length, take, drop, slice_index, Bool, ◌==◌, if◌then◌else◌, refl, ◌∙◌, ap, arith}
 use Rattle.std.proofs.lemmas.List.{length-append, length-take, length-drop, length-take-le}
 use Rattle.t4t_tag.specs.declared.current.CurrentFile.TheVariants.{Ndef}
-use Rattle.t4t_tag.specs.Store.{IsT4Store, IsT4State, T4State, file_size}
-use Rattle.t4t_tag.specs.Step.{T4Turn, done, overwritten, writes, asked_count, t4_step, t4_answer, t4_after}
+use Rattle.t4t_tag.specs.Store.{IsT4State, T4State, IsSameTag}
+use Rattle.t4t_tag.specs.Step.{done, overwritten, asked_count, t4_answer, t4_after}
 use Rattle.t4t_tag.proofs.Turns.{content_of, on_step}
 
 -- a change inside a file leaves it as long as it was
@@ -15,12 +15,6 @@ length_overwritten file offset content within =
     length-append (take offset file ++ content) (drop (offset + length content) file) in
     let b : length (take offset file ++ content) ≡ length (take offset file) + length content = length-append (take offset file) content in
     omega (arith, within, front, rest, a, b)
-
--- what no command changes of a tag
-pub record IsSameTag (t u : T4State) : Type 0 where
-  pub code : u.code ≡ t.code
-  pub container : u.container ≡ t.container
-  pub length : length u.file ≡ length t.file
 
 itself : (t : T4State) → IsSameTag t t
 itself t = record { code = refl; container = refl; length = refl }

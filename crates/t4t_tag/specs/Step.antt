@@ -1,6 +1,6 @@
 -- The step of a Type 4 tag on a command (NFC Forum Type 4 Tag; ISO/IEC 7816-4). Which status a tag answers for which
 -- condition is this project's own.
-use Rattle.std.specs.Prelude.{ℕ, ◌+◌, ◌*◌, List, [], ◌∷◌, ◌++◌, length, take, drop, Bool, true, false, ◌==◌, ◌&&◌, ◌||◌, not, nat_eq, nat_le, nat_lt, if◌then◌else◌}
+use Rattle.std.specs.Prelude.{ℕ, ◌+◌, ◌*◌, List, [], ◌∷◌, ◌++◌, length, take, drop, Bool, true, ◌==◌, ◌&&◌, ◌||◌, not, nat_eq, nat_le, nat_lt, if◌then◌else◌}
 use Rattle.std.specs.Cmp.Lexicographic.{pointwise}
 use Rattle.t4t_tag.specs.declared.current.CurrentFile.{CurrentFile}
 use Rattle.t4t_tag.specs.declared.current.CurrentFile.TheVariants.{NoFile, Container, Ndef}

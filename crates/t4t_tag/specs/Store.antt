@@ -1,5 +1,5 @@
 -- What a Type 4 tag holds, and what it remembers while it is in the field (NFC Forum Type 4 Tag).
-use Rattle.std.specs.Prelude.{◌≡◌, ◌≢◌, ℕ, ◌+◌, ◌*◌, ◌≤◌, List, length, slice_index, Bool, false}
+use Rattle.std.specs.Prelude.{◌≡◌, ◌≢◌, ℕ, ◌+◌, ◌*◌, ◌≤◌, List, ◌++◌, length, slice_index, Bool, false}
 use Rattle.t4t_tag.specs.declared.tag.StoreFault.{StoreFault}
 use Rattle.t4t_tag.specs.declared.tag.StoreFault.TheVariants.{BadStore}
 use Rattle.t4t_tag.specs.declared.current.CurrentFile.{CurrentFile}
@@ -57,6 +57,16 @@ pub record T4State : Type 0 where
 -- the states that a tag can have
 abbrev pub IsT4State : T4State → Type 0
 IsT4State t = IsT4Store t.code t.container t.file
+
+-- the store as a link to the tag shows it: the container followed by the NDEF file
+abbrev pub store_of : T4State → List ℕ
+store_of t = t.container ++ t.file
+
+-- what no command changes of a tag
+pub record IsSameTag (t u : T4State) : Type 0 where
+  pub code : u.code ≡ t.code
+  pub container : u.container ≡ t.container
+  pub length : length u.file ≡ length t.file
 
 -- a tag that has just come into the field, or that left it: no application is selected, and there is no current file
 abbrev pub fresh : ℕ → List ℕ → List ℕ → T4State

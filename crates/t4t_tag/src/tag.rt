@@ -1,8 +1,8 @@
 //! A Type 4 tag.
 
-ghost use Rattle.std.specs.Prelude.{◌≡◌, ◌+◌, ◌<◌, ◌≤◌, ◌↔◌, length, IfOk, IsOk};
-ghost use Rattle.t4t_tag.specs.Store.{T4State, IsT4Store, IsT4State, word, fresh, darkened, store_fault_number};
-ghost use Rattle.t4t_tag.specs.Step.{select_application, select_file, select_known, select_turn, read_bytes, read_file, read_turn, update_file, update_turn, t4_answer, t4_after};
+ghost use Rattle.std.specs.Prelude.{◌≡◌, ◌≢◌, ◌+◌, ◌<◌, ◌≤◌, ◌↔◌, length, IfOk, IsOk};
+ghost use Rattle.t4t_tag.specs.Store.{T4State, IsT4Store, IsT4State, IsSameTag, word, fresh, darkened, store_fault_number};
+ghost use Rattle.t4t_tag.specs.Step.{done, select_application, select_file, select_known, select_turn, read_bytes, read_file, read_turn, update_file, update_turn, t4_answer, t4_after};
 ghost use Rattle.t4t_tag.specs.declared.current.CurrentFile.{CurrentFile};
 
 use crate::command::{APPLICATION, CLASS, READ_BINARY, SELECT, UPDATE_BINARY};
@@ -156,7 +156,19 @@ impl T4Tag {
     pub fn obey(&mut self, command: &[u8]) -> ArrayVec<u8, 258>
         ensures answer { result.items ≡ t4_answer self.old command.now }
         ensures step { self.new ≡ t4_after self.old command.now }
-        ensures size { 2 ≤ length result.items }
+        ensures least { 2 ≤ length result.items }
+        ensures most { length result.items ≤ 258 }
+        ensures same { IsSameTag self.old self.new }
+        // Only the bare status 9000h tells of a change.
+        ensures refusal { result.items ≢ done → self.new ≡ self.old }
+        ensures closed { self.old.current ≢ CurrentFile.Ndef → self.new.file ≡ self.old.file }
+    {
+        self.step(command)
+    }
+
+    fn step(&mut self, command: &[u8]) -> ArrayVec<u8, 258>
+        ensures answer { result.items ≡ t4_answer self.old command.now }
+        ensures step { self.new ≡ t4_after self.old command.now }
     {
         let [class, instruction, p1, p2, rest @ ..] = command else {
             return status(WRONG_LENGTH);
@@ -238,7 +250,11 @@ impl T4Tag {
             return status(WRONG_LENGTH);
         };
         // 00h asks for 256 bytes.
-        let count = if *expected == 0 { 256 } else { *expected as usize };
+        let count = if *expected == 0 {
+            256
+        } else {
+            *expected as usize
+        };
         match self.current {
             CurrentFile::NoFile => status(NOT_FOUND),
             CurrentFile::Container => bytes_from(&self.container, offset, count),

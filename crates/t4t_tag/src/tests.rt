@@ -34,11 +34,7 @@ fn file(rt: &HostRuntime, size: usize, head: &[u8]) -> Result<Vec<u8>, Fail> {
 
 /// A tag with this container and a file of so many bytes.
 fn tag(rt: &HostRuntime, container: &[u8], size: usize, head: &[u8]) -> Result<T4Tag, Fail> {
-    Ok(T4Tag::new(
-        8,
-        container.to_vec(rt.alloc())?,
-        file(rt, size, head)?,
-    )?)
+    Ok(T4Tag::new(8, container.to_vec(rt.alloc())?, file(rt, size, head)?)?)
 }
 
 /// Obeys these commands in order: the first row with another answer, if there is one.
@@ -66,10 +62,7 @@ fn reads_a_message(rt: HostRuntime) -> Result<(), Fail> {
             ],
         ),
         (&SELECT_NDEF, &[0x90, 0x00]),
-        (
-            &[0x00, 0xB0, 0x00, 0x00, 0x02],
-            &[0x00, 0x03, 0x90, 0x00],
-        ),
+        (&[0x00, 0xB0, 0x00, 0x00, 0x02], &[0x00, 0x03, 0x90, 0x00]),
         (
             &[0x00, 0xB0, 0x00, 0x02, 0x03],
             &[0xD0, 0x00, 0x00, 0x90, 0x00],
@@ -120,7 +113,10 @@ fn refuses_with_no_file(rt: HostRuntime) -> Result<(), Fail> {
         (&[0x00, 0xA4, 0x04, 0x00, 0x01, 1, 2, 3], &[0x67, 0x00]),
         (&[0x00, 0xA4, 0x04, 0x00, 0x01, 0xD2], &[0x6A, 0x82]),
         (&[0x00, 0xA4, 0x00, 0x0C, 0x01, 0xE1], &[0x67, 0x00]),
-        (&[0x00, 0xA4, 0x00, 0x0C, 0x03, 0xE1, 0x03, 0], &[0x67, 0x00]),
+        (
+            &[0x00, 0xA4, 0x00, 0x0C, 0x03, 0xE1, 0x03, 0],
+            &[0x67, 0x00],
+        ),
         (&SELECT_CONTAINER, &[0x6A, 0x82]),
         (&SELECT_NDEF, &[0x6A, 0x82]),
         (&[0x00, 0xA4, 0x04, 0x0C, 0x02, 0xE1, 0x03], &[0x6B, 0x00]),
@@ -168,7 +164,12 @@ fn keeps_its_file_through_refusals(rt: HostRuntime) -> Result<(), Fail> {
 }
 
 /// What a tag with this container answers to an update of two bytes, and to a read of two.
-fn guarded(rt: &HostRuntime, most: u8, read: u8, write: u8) -> Result<[ArrayVec<u8, 258>; 2], Fail> {
+fn guarded(
+    rt: &HostRuntime,
+    most: u8,
+    read: u8,
+    write: u8,
+) -> Result<[ArrayVec<u8, 258>; 2], Fail> {
     let mut container = CONTAINER;
     container[6] = most;
     container[13] = read;
@@ -217,7 +218,11 @@ fn takes_its_stores_alone(rt: HostRuntime) -> Result<(), Fail> {
             *place = *byte;
         }
         let told = T4Tag::new(code, container, file(&rt, size, &[])?);
-        assert_eq!(rt; told.is_ok(), taken, "at {code} {length} {control:?} {size}");
+        assert_eq!(rt;
+            told.is_ok(),
+            taken,
+            "at {code} {length} {control:?} {size}"
+        );
     }
     assert_eq!(rt; StoreFault::BadStore.number(), 1);
     Ok(())
@@ -237,7 +242,10 @@ fn spells_commands(rt: HostRuntime) -> Result<(), Fail> {
         offset: 0x7FFE,
         count: 0x3B,
     };
-    assert_eq!(rt; read.to_bytes().as_slice(), [0x00, 0xB0, 0x7F, 0xFE, 0x3B].as_slice());
+    assert_eq!(rt;
+        read.to_bytes().as_slice(),
+        [0x00, 0xB0, 0x7F, 0xFE, 0x3B].as_slice()
+    );
     let mut content = ArrayVec::new();
     content.try_extend_from_slice(&[0x01, 0x2C])?;
     let update = T4Command::UpdateBinary { offset: 0, content };
