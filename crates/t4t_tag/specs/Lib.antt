@@ -1,0 +1,3 @@
+pub mod Store
+pub mod Spelling
+pub mod Step

@@ -1,0 +1,257 @@
+//! What tags answer command by command, and the bytes of commands.
+
+use crate::{StoreFault, T4Command, T4Tag};
+use arrayvec::ArrayVec;
+use std::test::Fail;
+
+/// A container of 15 bytes: reads of at most 59 bytes, updates of at most 13, a file E104h of 512 bytes, free to read and
+/// to write.
+const CONTAINER: [u8; 15] = [
+    0x00, 0x0F, 0x20, 0x00, 0x3B, 0x00, 0x0D, 0x04, 0x06, 0xE1, 0x04, 0x02, 0x00, 0x00, 0x00,
+];
+
+/// The same with reads of at most 15 bytes, and a file of 59 bytes.
+const SMALL: [u8; 15] = [
+    0x00, 0x0F, 0x20, 0x00, 0x0F, 0x00, 0x0D, 0x04, 0x06, 0xE1, 0x04, 0x00, 0x3B, 0x00, 0x00,
+];
+
+const SELECT_APPLICATION: [u8; 13] = [
+    0x00, 0xA4, 0x04, 0x00, 0x07, 0xD2, 0x76, 0x00, 0x00, 0x85, 0x01, 0x01, 0x00,
+];
+
+const SELECT_CONTAINER: [u8; 7] = [0x00, 0xA4, 0x00, 0x0C, 0x02, 0xE1, 0x03];
+
+const SELECT_NDEF: [u8; 7] = [0x00, 0xA4, 0x00, 0x0C, 0x02, 0xE1, 0x04];
+
+/// A file of so many bytes, 0 but for these at its start.
+fn file(rt: &HostRuntime, size: usize, head: &[u8]) -> Result<Vec<u8>, Fail> {
+    let mut file = vec![in rt.alloc(); 0u8; size]?;
+    for (place, byte) in file.iter_mut().zip(head) {
+        *place = *byte;
+    }
+    Ok(file)
+}
+
+/// A tag with this container and a file of so many bytes.
+fn tag(rt: &HostRuntime, container: &[u8], size: usize, head: &[u8]) -> Result<T4Tag, Fail> {
+    Ok(T4Tag::new(8, container.to_vec(rt.alloc())?, file(rt, size, head)?)?)
+}
+
+/// Obeys these commands in order: the first row with another answer, if there is one.
+fn other(tag: &mut T4Tag, rows: &[(&[u8], &[u8])]) -> Option<usize> {
+    for (row, (command, answer)) in rows.iter().enumerate() {
+        if tag.obey(command).as_slice() != *answer {
+            return Some(row);
+        }
+    }
+    None
+}
+
+#[test]
+fn reads_a_message(rt: HostRuntime) -> Result<(), Fail> {
+    let head = [0x00, 0x03, 0xD0, 0x00, 0x00];
+    let mut tag = tag(&rt, &CONTAINER, 512, &head)?;
+    let rows: [(&[u8], &[u8]); 6] = [
+        (&SELECT_APPLICATION, &[0x90, 0x00]),
+        (&SELECT_CONTAINER, &[0x90, 0x00]),
+        (
+            &[0x00, 0xB0, 0x00, 0x00, 0x0F],
+            &[
+                0x00, 0x0F, 0x20, 0x00, 0x3B, 0x00, 0x0D, 0x04, 0x06, 0xE1, 0x04, 0x02, 0x00, 0x00,
+                0x00, 0x90, 0x00,
+            ],
+        ),
+        (&SELECT_NDEF, &[0x90, 0x00]),
+        (&[0x00, 0xB0, 0x00, 0x00, 0x02], &[0x00, 0x03, 0x90, 0x00]),
+        (
+            &[0x00, 0xB0, 0x00, 0x02, 0x03],
+            &[0xD0, 0x00, 0x00, 0x90, 0x00],
+        ),
+    ];
+    assert_eq!(rt; other(&mut tag, &rows), None);
+    Ok(())
+}
+
+#[test]
+fn reads_in_pieces_of_fifteen(rt: HostRuntime) -> Result<(), Fail> {
+    let mut tag = tag(&rt, &SMALL, 59, &[0x00, 0x39, 0xD0])?;
+    let zeros: [u8; 15] = [0; 15];
+    let rows: [(&[u8], &[u8]); 6] = [
+        (&SELECT_APPLICATION, &[0x90, 0x00]),
+        (&SELECT_NDEF, &[0x90, 0x00]),
+        (&[0x00, 0xB0, 0x00, 0x00, 0x02], &[0x00, 0x39, 0x90, 0x00]),
+        (
+            &[0x00, 0xB0, 0x00, 0x02, 0x0F],
+            &[0xD0, 0, 0, 0, 0, 0, 0, 0, 0, 0, 0, 0, 0, 0, 0, 0x90, 0x00],
+        ),
+        (
+            &[0x00, 0xB0, 0x00, 0x2F, 0x0C],
+            &[0, 0, 0, 0, 0, 0, 0, 0, 0, 0, 0, 0, 0x90, 0x00],
+        ),
+        (&[0x00, 0xB0, 0x00, 0x00, 0x10], &[0x67, 0x00]),
+    ];
+    assert_eq!(rt; other(&mut tag, &rows), None);
+    for offset in [0x11, 0x20] {
+        let answer = tag.obey(&[0x00, 0xB0, 0x00, offset, 0x0F]);
+        assert_eq!(rt; answer.len(), 17);
+        assert_eq!(rt; answer.starts_with(&zeros), true, "at {offset}");
+    }
+    Ok(())
+}
+
+#[test]
+fn refuses_with_no_file(rt: HostRuntime) -> Result<(), Fail> {
+    let mut tag = tag(&rt, &CONTAINER, 512, &[])?;
+    let rows: [(&[u8], &[u8]); 20] = [
+        (&[], &[0x67, 0x00]),
+        (&[0x00, 0xA4, 0x04], &[0x67, 0x00]),
+        (&[0x90, 0x5A, 0x00, 0x00], &[0x6E, 0x00]),
+        (&[0x00, 0x5A, 0x00, 0x00], &[0x6D, 0x00]),
+        (&[0x00, 0xA4, 0x04, 0x00], &[0x67, 0x00]),
+        (&[0x00, 0xA4, 0x04, 0x00, 0x00], &[0x67, 0x00]),
+        (&[0x00, 0xA4, 0x04, 0x00, 0x02, 0xD2], &[0x67, 0x00]),
+        (&[0x00, 0xA4, 0x04, 0x00, 0x01, 1, 2, 3], &[0x67, 0x00]),
+        (&[0x00, 0xA4, 0x04, 0x00, 0x01, 0xD2], &[0x6A, 0x82]),
+        (&[0x00, 0xA4, 0x00, 0x0C, 0x01, 0xE1], &[0x67, 0x00]),
+        (
+            &[0x00, 0xA4, 0x00, 0x0C, 0x03, 0xE1, 0x03, 0],
+            &[0x67, 0x00],
+        ),
+        (&SELECT_CONTAINER, &[0x6A, 0x82]),
+        (&SELECT_NDEF, &[0x6A, 0x82]),
+        (&[0x00, 0xA4, 0x04, 0x0C, 0x02, 0xE1, 0x03], &[0x6B, 0x00]),
+        (&[0x00, 0xB0, 0x00, 0x00], &[0x67, 0x00]),
+        (&[0x00, 0xB0, 0x00, 0x00, 0x0F], &[0x6A, 0x82]),
+        (&[0x00, 0xB0, 0x00, 0x00, 0x0F, 0x00], &[0x67, 0x00]),
+        (&[0x00, 0xD6, 0x00, 0x00], &[0x67, 0x00]),
+        (&[0x00, 0xD6, 0x00, 0x00, 0x00], &[0x67, 0x00]),
+        (&[0x00, 0xD6, 0x00, 0x00, 0x01, 0x07], &[0x6A, 0x82]),
+    ];
+    assert_eq!(rt; other(&mut tag, &rows), None);
+    Ok(())
+}
+
+#[test]
+fn keeps_its_file_through_refusals(rt: HostRuntime) -> Result<(), Fail> {
+    let mut tag = tag(&rt, &CONTAINER, 512, &[1, 2, 3])?;
+    let rows: [(&[u8], &[u8]); 17] = [
+        (&SELECT_APPLICATION[..12], &[0x90, 0x00]),
+        (&SELECT_CONTAINER, &[0x90, 0x00]),
+        (&[0x00, 0xD6, 0x00, 0x00, 0x01, 0x07], &[0x69, 0x82]),
+        (&[0x00, 0xB0, 0x00, 0x0E, 0x00], &[0x00, 0x90, 0x00]),
+        (&[0x00, 0xB0, 0x00, 0x0F, 0x01], &[0x6B, 0x00]),
+        (&[0x00, 0xA4, 0x00, 0x0C, 0x02, 0xE1, 0x05], &[0x6A, 0x82]),
+        (&[0x00, 0xB0, 0x00, 0x00, 0x02], &[0x00, 0x0F, 0x90, 0x00]),
+        (&SELECT_NDEF, &[0x90, 0x00]),
+        (&[0x00, 0xA4, 0x04, 0x00, 0x01, 0xD2], &[0x6A, 0x82]),
+        (&[0x00, 0xB0, 0x00, 0x00, 0x00], &[0x67, 0x00]),
+        (&[0x00, 0xB0, 0x00, 0x00, 0x3C], &[0x67, 0x00]),
+        (&[0x00, 0xB0, 0x02, 0x00, 0x01], &[0x6B, 0x00]),
+        (&[0x00, 0xB0, 0x80, 0x00, 0x01], &[0x6B, 0x00]),
+        (&[0x00, 0xB0, 0x01, 0xFF, 0x02], &[0x00, 0x90, 0x00]),
+        (&[0x00, 0xD6, 0x01, 0xFF, 0x02, 7, 7], &[0x6B, 0x00]),
+        (&[0x00, 0xD6, 0x00, 0x01, 0x02, 7, 8], &[0x90, 0x00]),
+        (&[0x00, 0xB0, 0x00, 0x00, 0x04], &[1, 7, 8, 0, 0x90, 0x00]),
+    ];
+    assert_eq!(rt; other(&mut tag, &rows), None);
+    tag.dark();
+    assert_eq!(rt; tag.obey(&SELECT_NDEF).as_slice(), [0x6A, 0x82].as_slice());
+    assert_eq!(rt; tag.file().len(), 512);
+    assert_eq!(rt; tag.file().starts_with(&[1, 7, 8, 0]), true);
+    assert_eq!(rt; tag.container(), CONTAINER.as_slice());
+    assert_eq!(rt; tag.code(), 8);
+    Ok(())
+}
+
+/// What a tag with this container answers to an update of two bytes, and to a read of two.
+fn guarded(
+    rt: &HostRuntime,
+    most: u8,
+    read: u8,
+    write: u8,
+) -> Result<[ArrayVec<u8, 258>; 2], Fail> {
+    let mut container = CONTAINER;
+    container[6] = most;
+    container[13] = read;
+    container[14] = write;
+    let mut tag = tag(rt, &container, 512, &[])?;
+    let _opened = tag.obey(&SELECT_APPLICATION);
+    let _picked = tag.obey(&SELECT_NDEF);
+    let updated = tag.obey(&[0x00, 0xD6, 0x00, 0x00, 0x02, 0x00, 0x00]);
+    Ok([updated, tag.obey(&[0x00, 0xB0, 0x00, 0x00, 0x02])])
+}
+
+#[test]
+fn obeys_its_container(rt: HostRuntime) -> Result<(), Fail> {
+    let rows: [(u8, u8, u8, &[u8], &[u8]); 5] = [
+        (0x0D, 0x00, 0x00, &[0x90, 0x00], &[0, 0, 0x90, 0x00]),
+        (0x02, 0x00, 0x00, &[0x90, 0x00], &[0, 0, 0x90, 0x00]),
+        (0x01, 0x00, 0x00, &[0x67, 0x00], &[0, 0, 0x90, 0x00]),
+        (0x01, 0x00, 0xFF, &[0x69, 0x82], &[0, 0, 0x90, 0x00]),
+        (0x0D, 0x80, 0x00, &[0x90, 0x00], &[0x69, 0x82]),
+    ];
+    for (most, read, write, updated, content) in rows {
+        let [first, second] = guarded(&rt, most, read, write)?;
+        assert_eq!(rt; first.as_slice(), updated, "at {most} {read} {write}");
+        assert_eq!(rt; second.as_slice(), content, "at {most} {read} {write}");
+    }
+    Ok(())
+}
+
+#[test]
+fn takes_its_stores_alone(rt: HostRuntime) -> Result<(), Fail> {
+    let rows: [(u8, usize, [u8; 4], usize, bool); 10] = [
+        (0, 15, [0xE1, 0x04, 0x00, 0x02], 2, true),
+        (8, 64, [0xE1, 0x04, 0x00, 0x00], 0, true),
+        (9, 15, [0xE1, 0x04, 0x00, 0x02], 2, false),
+        (8, 14, [0xE1, 0x04, 0x00, 0x02], 2, false),
+        (8, 65, [0xE1, 0x04, 0x00, 0x02], 2, false),
+        (8, 15, [0xE1, 0x03, 0x00, 0x02], 2, false),
+        (8, 15, [0x03, 0xE1, 0x00, 0x02], 2, true),
+        (8, 15, [0xE1, 0x04, 0x7F, 0xFF], 0x7FFF, true),
+        (8, 15, [0xE1, 0x04, 0x80, 0x00], 0x8000, false),
+        (8, 15, [0xE1, 0x04, 0x00, 0x02], 3, false),
+    ];
+    for (code, length, control, size, taken) in rows {
+        let mut container = file(&rt, length, &[])?;
+        for (place, byte) in container.iter_mut().skip(9).zip(&control) {
+            *place = *byte;
+        }
+        let told = T4Tag::new(code, container, file(&rt, size, &[])?);
+        assert_eq!(rt;
+            told.is_ok(),
+            taken,
+            "at {code} {length} {control:?} {size}"
+        );
+    }
+    assert_eq!(rt; StoreFault::BadStore.number(), 1);
+    Ok(())
+}
+
+#[test]
+fn spells_commands(rt: HostRuntime) -> Result<(), Fail> {
+    assert_eq!(rt;
+        T4Command::SelectApplication.to_bytes().as_slice(),
+        SELECT_APPLICATION.as_slice()
+    );
+    assert_eq!(rt;
+        T4Command::SelectFile { id: 0xE104 }.to_bytes().as_slice(),
+        SELECT_NDEF.as_slice()
+    );
+    let read = T4Command::ReadBinary {
+        offset: 0x7FFE,
+        count: 0x3B,
+    };
+    assert_eq!(rt;
+        read.to_bytes().as_slice(),
+        [0x00, 0xB0, 0x7F, 0xFE, 0x3B].as_slice()
+    );
+    let mut content = ArrayVec::new();
+    content.try_extend_from_slice(&[0x01, 0x2C])?;
+    let update = T4Command::UpdateBinary { offset: 0, content };
+    assert_eq!(rt;
+        update.to_bytes().as_slice(),
+        [0x00, 0xD6, 0x00, 0x00, 0x02, 0x01, 0x2C].as_slice()
+    );
+    Ok(())
+}
