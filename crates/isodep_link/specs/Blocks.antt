@@ -59,6 +59,12 @@ pub record BlockSpelling (b : Block) (f : Signal) : Type 0 where
   pub range : IsBlock b
   pub frame : f ≡ block_frame b
 
+-- the frame spells some block, and is no longer than a frame may be
+pub record IsSpelled (f : Signal) : Type 0 where
+  pub block : Block
+  pub spells : BlockSpelling block f
+  pub fits : length f.bytes ≤ 288
+
 -- a block of one byte, by its control byte without the number, and its number
 abbrev pub short_block : ℕ → ℕ → Option Block
 short_block sort n =

@@ -1,13 +1,13 @@
 -- The card's end of ISO-DEP (ISO/IEC 14443-4; NFC Forum Digital Protocol): what it does at each frame. Its silence after a
 -- chain above 264 bytes is this project's own.
-use Rattle.std.specs.Prelude.{ℕ, ◌==◌, nat_lt, Bool, true, false, List, [], ◌++◌, length, drop, Option, Some, None, if◌then◌else◌}
+use Rattle.std.specs.Prelude.{ℕ, ◌⊎◌, ◌==◌, nat_lt, Bool, true, false, List, [], ◌++◌, length, drop, Option, Some, None, if◌then◌else◌}
 use Rattle.nfc_base.specs.Signal.{Signal}
 use Rattle.isodep_link.specs.declared.block.Block.{Block}
 use Rattle.isodep_link.specs.declared.block.Block.TheVariants.{Info, Ack, Nak, Deselect}
 use Rattle.isodep_link.specs.declared.card.CardStep.{CardStep}
 use Rattle.isodep_link.specs.declared.card.CardStep.TheVariants as steps
-use Rattle.isodep_link.specs.Blocks.{toggled, piece, block_frame, spelled_block}
-use Rattle.isodep_link.specs.Sizes.{piece_size, least_code, limit, rats_code, ats_frame}
+use Rattle.isodep_link.specs.Blocks.{toggled, piece, block_frame, spelled_block, IsSpelled}
+use Rattle.isodep_link.specs.Sizes.{piece_size, least_code, limit, rats_code, ats_frame, IsAts}
 
 -- A card: its own size code, the most content of a block that the reader takes, its number, the last block that it sent
 -- other than an answer to R(NAK) with another number, the chain so far, the bytes of its answer that aren't sent, whether
@@ -114,3 +114,10 @@ reply_block t r = piece t.most t.number r
 abbrev pub fresh : ℕ → CardState
 fresh code =
     record { code = code; most = piece_size least_code; number = 1; last = None; chain = []; left = []; begun = false; mute = false }
+
+-- Whatever a card with this size code answers spells a block, or is its ATS.
+abbrev pub IsSaid : ℕ → CardStep → Type 0
+IsSaid code steps.Quiet = Unit {0}
+IsSaid code (steps.Reply f) = IsSpelled f ⊎ IsAts code f
+IsSaid code (steps.Deliver command) = Unit {0}
+IsSaid code (steps.Asleep f) = IsSpelled f

@@ -10,7 +10,7 @@ use Rattle.isodep_link.specs.declared.reader.Phase.{Phase}
 use Rattle.isodep_link.specs.declared.reader.Phase.TheVariants.{Asked, Nacked, Free, EndedSixBad, EndedProtocol}
 use Rattle.isodep_link.specs.declared.reader.ReaderStep.{ReaderStep}
 use Rattle.isodep_link.specs.declared.reader.ReaderStep.TheVariants as steps
-use Rattle.isodep_link.specs.Blocks.{toggled, piece, block_frame, spelled_block}
+use Rattle.isodep_link.specs.Blocks.{toggled, piece, block_frame, spelled_block, IsSpelled}
 use Rattle.isodep_link.specs.Sizes.{piece_size, limit}
 
 -- Where an exchange stands: the number, the most content of a block that the card takes, the bytes of the command that
@@ -171,3 +171,10 @@ begun i command =
 abbrev pub waiting : ℕ → ReaderState
 waiting code =
     record { core = record { number = 0; most = piece_size code; rest = []; drawing = false; got = [] }; phase = Free; bads = 0 }
+
+-- Whatever a reader sends spells a block.
+abbrev pub IsAsked : ReaderStep → Type 0
+IsAsked (steps.Send f) = IsSpelled f
+IsAsked (steps.Finished answer) = Unit {0}
+IsAsked steps.SixBad = Unit {0}
+IsAsked steps.Protocol = Unit {0}

@@ -1,6 +1,6 @@
 -- How long the blocks of ISO-DEP are, and the two frames by which the ends tell it (ISO/IEC 14443-4; NFC Forum Digital
 -- Protocol). That this card answers RATS by two bytes is this project's own.
-use Rattle.std.specs.Prelude.{ℕ, ◌-◌, ◌/◌, ◌==◌, ◌&&◌, List, [], ◌∷◌, length, slice_index, Bool, if◌then◌else◌, Option, Some, None}
+use Rattle.std.specs.Prelude.{◌≡◌, ℕ, ◌-◌, ◌≤◌, ◌/◌, ◌==◌, ◌&&◌, List, [], ◌∷◌, length, slice_index, Bool, if◌then◌else◌, Option, Some, None}
 use Rattle.nfc_base.specs.Signal.{Signal, whole_a}
 use Rattle.isodep_link.specs.Blocks.{is_whole_a}
 
@@ -39,6 +39,15 @@ is_rats f = is_whole_a f && (length f.bytes == 2) && (slice_index f.bytes 0 == r
 abbrev pub rats_code : Signal → Option ℕ
 rats_code f = if is_rats f then Some (slice_index f.bytes 1 / 16) else None
 
+-- the largest size code
+abbrev pub most_code : ℕ
+most_code = 8
+
 -- ATS: its own length, and the card's size code in the low nibble
 abbrev pub ats_frame : ℕ → Signal
 ats_frame code = whole_a (2 ∷ code ∷ [])
+
+-- the frame is ATS of a card with this code, which is a size code
+pub record IsAts (code : ℕ) (f : Signal) : Type 0 where
+  pub small : code ≤ most_code
+  pub frame : f ≡ ats_frame code

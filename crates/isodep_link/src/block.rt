@@ -2,7 +2,7 @@
 
 ghost use Rattle.std.specs.Prelude.{◌≡◌, ◌≤◌, ◌<◌, length, ◌∷◌};
 ghost use Rattle.nfc_base.specs.Signal.{whole_a};
-ghost use Rattle.isodep_link.specs.Blocks.{spelled_block, short_block, info_block, block_frame, pcb, toggled, piece};
+ghost use Rattle.isodep_link.specs.Blocks.{spelled_block, short_block, info_block, block_frame, pcb, toggled, piece, IsSpelled};
 
 use arrayvec::ArrayVec;
 use nfc_base::{Frame, Tech};
@@ -64,7 +64,15 @@ impl Block {
 
     /// The frame that spells it.
     pub(crate) fn to_frame(&self) -> Frame
-        ensures { result ≡ block_frame self.now }
+        ensures frame { result ≡ block_frame self.now }
+        ensures spelled { IsSpelled result }
+    {
+        self.written()
+    }
+
+    fn written(&self) -> Frame
+        ensures frame { result ≡ block_frame self.now }
+        ensures fits { length result.bytes ≤ 288 }
     {
         match self {
             Block::Info {
@@ -122,7 +130,8 @@ fn pcb(sort: u8, number: u8) -> u8
 /// A control byte and what follows it.
 fn info_frame(pcb: u8, content: &[u8]) -> Frame
     requires { length content.now ≤ 287 }
-    ensures { result ≡ whole_a (pcb ∷ content.now) }
+    ensures frame { result ≡ whole_a (pcb ∷ content.now) }
+    ensures fits { length result.bytes ≤ 288 }
 {
     let mut bytes = ArrayVec::<u8, 288>::new();
     bytes.push(pcb);

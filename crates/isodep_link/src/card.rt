@@ -1,8 +1,8 @@
 //! The card's end.
 
 ghost use Rattle.std.specs.Prelude.{◌≡◌, ◌≤◌, ◌++◌, length};
-ghost use Rattle.isodep_link.specs.Blocks.{block_frame};
-ghost use Rattle.isodep_link.specs.Card.{CardTurn, card_table, activated, framed, block_table, again, gathered, drawn, replied, reply_block, fresh};
+ghost use Rattle.isodep_link.specs.Blocks.{block_frame, IsSpelled};
+ghost use Rattle.isodep_link.specs.Card.{CardTurn, card_table, activated, framed, block_table, again, gathered, drawn, replied, reply_block, fresh, IsSaid};
 
 use crate::block::{Block, piece, toggled};
 use crate::size::{LEAST_CODE, ats_frame, piece_size, rats_code};
@@ -53,7 +53,7 @@ impl Model for CardEnd {
         mute = t.mute;
     } };
 
-    ghost invariant = { λ t. (0 < t.most) × (t.most ≤ 253) × (t.number < 2) × (t.at ≤ length t.answer.items) × (length t.answer.items ≤ 264) };
+    ghost invariant = { λ t. (t.code ≤ 8) × (0 < t.most) × (t.most ≤ 253) × (t.number < 2) × (t.at ≤ length t.answer.items) × (length t.answer.items ≤ 264) };
 }
 
 impl CardEnd {
@@ -92,6 +92,7 @@ impl CardEnd {
     /// One step.
     pub fn hear(&mut self, frame: &Frame) -> CardStep
         ensures step { record { state = self.new; does = result } ≡ card_table self.old frame.now }
+        ensures spelled { IsSaid self.old.code result }
     {
         if self.mute {
             return CardStep::Quiet;
@@ -110,6 +111,7 @@ impl CardEnd {
         requires { length content.now ≤ 264 }
         ensures step { self.new ≡ replied self.old content.now }
         ensures answer { result ≡ block_frame (reply_block self.old content.now) }
+        ensures spelled { IsSpelled result }
     {
         let mut answer = ArrayVec::new();
         answer.try_extend_from_slice(content).unwrap();
@@ -123,7 +125,8 @@ impl CardEnd {
 
     /// RATS with this size code.
     fn activate(&mut self, code: u8) -> CardStep
-        ensures { record { state = self.new; does = result } ≡ activated self.old code }
+        ensures step { record { state = self.new; does = result } ≡ activated self.old code }
+        ensures spelled { IsSaid self.old.code result }
     {
         if self.begun {
             return CardStep::Quiet;
@@ -133,7 +136,8 @@ impl CardEnd {
     }
 
     fn obey(&mut self, block: &Block) -> CardStep
-        ensures { record { state = self.new; does = result } ≡ framed (block_table self.old block.now) }
+        ensures step { record { state = self.new; does = result } ≡ framed (block_table self.old block.now) }
+        ensures spelled { IsSaid self.old.code result }
     {
         match block {
             Block::Info { more, content, .. } => self.gather(*more, content),
@@ -160,7 +164,8 @@ impl CardEnd {
 
     /// The last block again.
     fn repeat(&self) -> CardStep
-        ensures { record { state = self.now; does = result } ≡ framed (again self.now self.now.last) }
+        ensures step { record { state = self.now; does = result } ≡ framed (again self.now self.now.last) }
+        ensures spelled { IsSaid self.now.code result }
     {
         match &self.last {
             None => CardStep::Quiet,
@@ -170,7 +175,8 @@ impl CardEnd {
 
     /// A piece of a command.
     fn gather(&mut self, more: bool, content: &[u8]) -> CardStep
-        ensures { record { state = self.new; does = result } ≡ framed (gathered self.old more (self.old.chain ++ content.now)) }
+        ensures step { record { state = self.new; does = result } ≡ framed (gathered self.old more (self.old.chain ++ content.now)) }
+        ensures spelled { IsSaid self.old.code result }
     {
         self.begun = true;
         if self.chain.try_extend_from_slice(content).is_err() {
@@ -192,7 +198,8 @@ impl CardEnd {
 
     /// The next piece of the answer.
     fn draw(&mut self) -> CardStep
-        ensures { record { state = self.new; does = result } ≡ framed (drawn self.old) }
+        ensures step { record { state = self.new; does = result } ≡ framed (drawn self.old) }
+        ensures spelled { IsSaid self.old.code result }
     {
         let left = &self.answer.as_slice()[self.at..];
         if left.is_empty() {

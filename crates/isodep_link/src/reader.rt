@@ -1,8 +1,8 @@
 //! The reader's end.
 
 ghost use Rattle.std.specs.Prelude.{◌≡◌, ◌≤◌, length};
-ghost use Rattle.isodep_link.specs.Blocks.{block_frame, spelled_block};
-ghost use Rattle.isodep_link.specs.Reader.{ReaderTurn, reader_table, framed, sent, sends, refuses, bad, acked, missed, brought, answered, waited, whole_reception, request, more_follows, begun, waiting};
+ghost use Rattle.isodep_link.specs.Blocks.{block_frame, spelled_block, IsSpelled};
+ghost use Rattle.isodep_link.specs.Reader.{ReaderTurn, reader_table, framed, sent, sends, refuses, bad, acked, missed, brought, answered, waited, whole_reception, request, more_follows, begun, waiting, IsAsked};
 
 use crate::block::{Block, piece, toggled};
 use crate::size::piece_size;
@@ -92,6 +92,7 @@ impl ReaderEnd {
         requires { length command.now ≤ 264 }
         ensures step { self.new ≡ begun self.old command.now }
         ensures request { result ≡ block_frame (request (begun self.old command.now).core) }
+        ensures spelled { IsSpelled result }
     {
         let mut kept = ArrayVec::new();
         kept.try_extend_from_slice(command).unwrap();
@@ -107,6 +108,7 @@ impl ReaderEnd {
     /// One step.
     pub fn next(&mut self, heard: &Heard) -> ReaderStep
         ensures step { record { state = self.new; does = result } ≡ reader_table self.old heard.now }
+        ensures spelled { IsAsked result }
     {
         match (self.phase, heard) {
             (Phase::EndedSixBad, _) => ReaderStep::SixBad,
@@ -134,7 +136,8 @@ impl ReaderEnd {
 
     /// Sends what belongs to the phase.
     fn send(&mut self, phase: Phase) -> ReaderStep
-        ensures { record { state = self.new; does = result } ≡ framed (sends self.old.core phase self.old.bads) }
+        ensures step { record { state = self.new; does = result } ≡ framed (sends self.old.core phase self.old.bads) }
+        ensures spelled { IsAsked result }
     {
         self.phase = phase;
         let block = match phase {
@@ -148,7 +151,8 @@ impl ReaderEnd {
 
     /// A whole frame that isn't allowed.
     fn refuse(&mut self) -> ReaderStep
-        ensures { record { state = self.new; does = result } ≡ framed (refuses self.old) }
+        ensures step { record { state = self.new; does = result } ≡ framed (refuses self.old) }
+        ensures spelled { IsAsked result }
     {
         self.phase = Phase::EndedProtocol;
         ReaderStep::Protocol
@@ -156,7 +160,8 @@ impl ReaderEnd {
 
     /// A bad reception.
     fn bad(&mut self) -> ReaderStep
-        ensures { record { state = self.new; does = result } ≡ framed (bad self.old) }
+        ensures step { record { state = self.new; does = result } ≡ framed (bad self.old) }
+        ensures spelled { IsAsked result }
     {
         if self.bads == MOST_BADS {
             self.phase = Phase::EndedSixBad;
@@ -177,7 +182,8 @@ impl ReaderEnd {
 
     /// A whole frame while a command is under way.
     fn whole(&mut self, frame: &Frame) -> ReaderStep
-        ensures { record { state = self.new; does = result } ≡ framed (waited self.old (whole_reception (spelled_block frame.now))) }
+        ensures step { record { state = self.new; does = result } ≡ framed (waited self.old (whole_reception (spelled_block frame.now))) }
+        ensures spelled { IsAsked result }
     {
         match Block::read_from(frame) {
             Some(block) => self.answered(&block),
@@ -186,7 +192,8 @@ impl ReaderEnd {
     }
 
     fn answered(&mut self, block: &Block) -> ReaderStep
-        ensures { record { state = self.new; does = result } ≡ framed (answered self.old block.now) }
+        ensures step { record { state = self.new; does = result } ≡ framed (answered self.old block.now) }
+        ensures spelled { IsAsked result }
     {
         match block {
             Block::Info {
@@ -220,7 +227,8 @@ impl ReaderEnd {
 
     /// The card took a piece of the command.
     fn go_on(&mut self) -> ReaderStep
-        ensures { record { state = self.new; does = result } ≡ framed (acked self.old) }
+        ensures step { record { state = self.new; does = result } ≡ framed (acked self.old) }
+        ensures spelled { IsAsked result }
     {
         if !self.more_follows() {
             return self.refuse();
@@ -233,7 +241,8 @@ impl ReaderEnd {
 
     /// The card didn't hear the last I-block.
     fn ask_again(&mut self) -> ReaderStep
-        ensures { record { state = self.new; does = result } ≡ framed (missed self.old self.old.phase) }
+        ensures step { record { state = self.new; does = result } ≡ framed (missed self.old self.old.phase) }
+        ensures spelled { IsAsked result }
     {
         match self.phase {
             Phase::Nacked => self.send(Phase::Asked),
@@ -243,7 +252,8 @@ impl ReaderEnd {
 
     /// A piece of the answer.
     fn take(&mut self, more: bool, content: &[u8]) -> ReaderStep
-        ensures { record { state = self.new; does = result } ≡ framed (brought self.old more content.now) }
+        ensures step { record { state = self.new; does = result } ≡ framed (brought self.old more content.now) }
+        ensures spelled { IsAsked result }
     {
         if more && content.is_empty() {
             return self.refuse();
