@@ -1,2 +1,3 @@
 pub mod Spelled
 pub mod Once
+pub mod Ended
