@@ -1,11 +1,10 @@
 -- A reader whose exchange ended by a fault gives the same fault at every later reception.
-use Rattle.std.proofs.Common.{◌≡◌, ℕ, ◌+◌, ◌==◌, nat_lt, List, [], ◌++◌, length, drop, Bool, true, false, if◌then◌else◌, refl, sym, ap, subst, arith}
-use Rattle.arrayvec.specs.ArrayVec.{ArrayVec}
+use Rattle.std.proofs.Common.{◌≡◌, ℕ, ◌==◌, nat_lt, List, ◌++◌, Bool, true, false, if◌then◌else◌, refl, ap}
 use Rattle.isodep_link.specs.declared.block.Block.{Block}
 use Rattle.isodep_link.specs.declared.block.Block.TheVariants.{Info, Ack, Nak, Deselect}
 use Rattle.isodep_link.specs.declared.reader.Phase.{Phase}
 use Rattle.isodep_link.specs.declared.reader.Phase.TheVariants.{Asked, Nacked, Free, EndedSixBad, EndedProtocol}
-use Rattle.isodep_link.specs.Reader.{Core, ReaderState, ReaderMove, Reception, Hears, Odd, Bad, Next, Asks, Gives, GivesUp, Refuses, sends, refuses, after_bad, most_bads, bad, received, more_follows, is_refused, acked, missed, brought, answered, waited, unasked, in_phase, block_next, turned}
+use Rattle.isodep_link.specs.Reader.{Core, ReaderState, ReaderMove, Reception, Hears, Odd, Bad, GivesUp, Refuses, sends, refuses, most_bads, bad, received, more_follows, is_refused, acked, missed, brought, answered, waited, unasked, in_phase, block_next}
 
 -- a move that ends by a fault keeps which it was
 pub record Keeps (m : ReaderMove) : Type 0 where

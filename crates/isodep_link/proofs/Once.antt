@@ -1,11 +1,10 @@
 -- A card delivers only at an I-block, by which its number toggles: nothing that asks for a block again delivers.
-use Rattle.std.proofs.Common.{◌≡◌, ℕ, ◌==◌, nat_lt, List, [], ◌++◌, length, Bool, true, false, Option, Some, None, if◌then◌else◌, refl, arith}
-use Rattle.arrayvec.specs.ArrayVec.{ArrayVec}
+use Rattle.std.proofs.Common.{◌≡◌, ℕ, ◌==◌, nat_lt, List, ◌++◌, length, Bool, true, false, Option, Some, None, if◌then◌else◌, refl}
 use Rattle.isodep_link.specs.declared.block.Block.{Block}
 use Rattle.isodep_link.specs.declared.block.Block.TheVariants.{Info, Ack, Nak, Deselect}
 use Rattle.isodep_link.specs.Blocks.{toggled}
 use Rattle.isodep_link.specs.Sizes.{limit}
-use Rattle.isodep_link.specs.Card.{CardState, CardMove, Does, Stays, Answers, Delivers, Sleeps, stays, again, grown, drawn, block_table}
+use Rattle.isodep_link.specs.Card.{CardState, CardMove, Answers, Delivers, stays, again, grown, drawn, block_table}
 
 -- a move that delivers has toggled the number
 abbrev DeliversAnew : CardState → CardMove → Type 0

@@ -1,12 +1,11 @@
 -- What a block is written as spells a block, and each frame spells the block that is read from it.
-use Rattle.std.proofs.Common.{◌≡◌, ℕ, ◌+◌, ◌-◌, ◌%◌, ◌<◌, ◌≤◌, ◌==◌, ◌↔◌, nat_lt, if◌then◌else◌, zero, suc, List, [], ◌∷◌, length, Bool, true, false, Option, Some, None, refl, sym, ◌∙◌, ap, subst, arith}
-use Rattle.arrayvec.specs.ArrayVec.{ArrayVec}
+use Rattle.std.proofs.Common.{◌≡◌, ℕ, ◌+◌, ◌-◌, ◌%◌, ◌<◌, ◌≤◌, ◌==◌, ◌↔◌, nat_lt, if◌then◌else◌, zero, suc, List, [], ◌∷◌, length, Bool, true, false, Some, None, refl, sym, ◌∙◌, ap, subst, arith}
 use Rattle.nfc_base.specs.Signal.{Signal, signal, whole_a}
 use Rattle.nfc_base.specs.declared.frame.Tech.{Tech}
 use Rattle.nfc_base.specs.declared.frame.Tech.TheVariants.{A, V}
 use Rattle.isodep_link.specs.declared.block.Block.{Block}
 use Rattle.isodep_link.specs.declared.block.Block.TheVariants.{Info, Ack, Nak, Deselect}
-use Rattle.isodep_link.specs.Blocks.{info_sort, chained_sort, ack_sort, nak_sort, deselect_byte, info_block, short_block, sort_block, block_of, modulus, pcb, block_bytes, block_frame, IsBlock, BlockSpelling, IsSpelled, spelled_block}
+use Rattle.isodep_link.specs.Blocks.{info_sort, chained_sort, ack_sort, nak_sort, deselect_byte, info_block, short_block, sort_block, block_of, pcb, block_frame, IsBlock, BlockSpelling, IsSpelled, spelled_block}
 
 small : (n : ℕ) → n % 2 < 2
 small n = omega arith

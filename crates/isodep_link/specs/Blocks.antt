@@ -1,7 +1,6 @@
 -- The blocks of ISO-DEP and how they stand in frames (ISO/IEC 14443-4; NFC Forum Digital Protocol): a block, a printer of
 -- its bytes, and a fact that says which blocks are in range.
 use Rattle.std.specs.Prelude.{◌≡◌, ℕ, ◌+◌, ◌-◌, ◌%◌, ◌<◌, ◌≤◌, ◌==◌, ◌&&◌, nat_lt, List, [], ◌∷◌, length, take, drop, slice_index, Bool, true, false, if◌then◌else◌, Option, Some, None}
-use Rattle.arrayvec.specs.ArrayVec.{ArrayVec}
 use Rattle.nfc_base.specs.declared.frame.Tech.{Tech}
 use Rattle.nfc_base.specs.declared.frame.Tech.TheVariants.{A, V}
 use Rattle.nfc_base.specs.Signal.{Signal, whole_a}

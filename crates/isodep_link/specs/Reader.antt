@@ -1,7 +1,6 @@
 -- The reader's end of ISO-DEP (ISO/IEC 14443-4; NFC Forum Digital Protocol): what it sends next, or how the exchange
 -- ends, by what it sent last and what it heard. The six receptions and the 264 bytes are this project's own.
-use Rattle.std.specs.Prelude.{ℕ, ◌+◌, ◌==◌, ◌&&◌, ◌||◌, nat_lt, Bool, true, false, not, List, [], ◌++◌, length, drop, Option, Some, None, if◌then◌else◌}
-use Rattle.nfc_base.specs.Signal.{Signal}
+use Rattle.std.specs.Prelude.{ℕ, ◌+◌, ◌==◌, nat_lt, Bool, true, false, not, List, [], ◌++◌, length, drop, Option, Some, None, if◌then◌else◌}
 use Rattle.nfc_base.specs.declared.event.Heard.{Heard}
 use Rattle.nfc_base.specs.declared.event.Heard.TheVariants.{Whole, Collided, Damaged, Silent}
 use Rattle.isodep_link.specs.declared.block.Block.{Block}

@@ -1,6 +1,6 @@
 -- How long the blocks of ISO-DEP are, and the two frames by which the ends tell it (ISO/IEC 14443-4; NFC Forum Digital
 -- Protocol). That this card answers RATS by two bytes is this project's own.
-use Rattle.std.specs.Prelude.{◌≡◌, ℕ, ◌-◌, ◌≤◌, ◌/◌, ◌==◌, ◌&&◌, List, [], ◌∷◌, length, slice_index, Bool, if◌then◌else◌, Option, Some, None}
+use Rattle.std.specs.Prelude.{◌≡◌, ℕ, ◌-◌, ◌≤◌, ◌/◌, ◌==◌, ◌&&◌, [], ◌∷◌, length, slice_index, Bool, if◌then◌else◌, Option, Some, None}
 use Rattle.nfc_base.specs.Signal.{Signal, whole_a}
 use Rattle.isodep_link.specs.Blocks.{is_whole_a}
 

@@ -43,14 +43,14 @@ impl Model for CardEnd {
     ghost Value = { CardState };
 
     ghost view = { λ t. record {
-        code = t.code;
-        most = t.most;
-        number = t.number;
-        last = t.last;
-        chain = t.chain.items;
-        left = drop t.at t.answer.items;
-        begun = t.begun;
-        mute = t.mute;
+      code = t.code;
+      most = t.most;
+      number = t.number;
+      last = t.last;
+      chain = t.chain.items;
+      left = drop t.at t.answer.items;
+      begun = t.begun;
+      mute = t.mute;
     } };
 
     ghost invariant = { λ t. (t.code ≤ 8) × (0 < t.most) × (t.most ≤ 253) × (t.number < 2) × (t.at ≤ length t.answer.items) × (length t.answer.items ≤ 264) };

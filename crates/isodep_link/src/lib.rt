@@ -14,4 +14,3 @@ mod tests;
 
 pub use card::{CardEnd, CardStep};
 pub use reader::{ReaderEnd, ReaderStep};
-

@@ -56,15 +56,15 @@ impl Model for ReaderEnd {
     ghost Value = { ReaderState };
 
     ghost view = { λ i. record {
-        core = record {
-            number = i.number;
-            most = i.most;
-            rest = drop i.at i.command.items;
-            drawing = i.drawing;
-            got = i.got.items;
-        };
-        phase = i.phase;
-        bads = i.bads;
+      core = record {
+        number = i.number;
+        most = i.most;
+        rest = drop i.at i.command.items;
+        drawing = i.drawing;
+        got = i.got.items;
+      };
+      phase = i.phase;
+      bads = i.bads;
     } };
 
     ghost invariant = { λ i. (i.number < 2) × (0 < i.most) × (i.most ≤ 253) × (i.at ≤ length i.command.items) × (length i.command.items ≤ 264) × (i.bads ≤ 5) };

@@ -102,10 +102,17 @@ fn card_rows(rt: HostRuntime) -> Result<(), Fail> {
 fn reader_rows(rt: HostRuntime) -> Result<(), Fail> {
     let command = counted();
     let mut reader = ReaderEnd::new(0);
-    assert_eq!(rt; reader.begin(&command[..15]).view(), &[0x12, 0, 1, 2, 3, 4, 5, 6, 7, 8, 9, 10, 11, 12][..]);
+    assert_eq!(rt;
+        reader.begin(&command[..15]).view(),
+        &[0x12, 0, 1, 2, 3, 4, 5, 6, 7, 8, 9, 10, 11, 12][..]
+    );
     let rows: [Row; 9] = [
         (&[], b's', &[0xB2]),
-        (&[0xA3], b's', &[0x12, 0, 1, 2, 3, 4, 5, 6, 7, 8, 9, 10, 11, 12]),
+        (
+            &[0xA3],
+            b's',
+            &[0x12, 0, 1, 2, 3, 4, 5, 6, 7, 8, 9, 10, 11, 12],
+        ),
         (&[], b's', &[0xB2]),
         (&[0xA2], b's', &[3, 13, 14]),
         (&[], b's', &[0xB3]),
@@ -170,7 +177,11 @@ fn the_sixth_bad_reception_ends_a_wait(rt: HostRuntime) -> Result<(), Fail> {
     ];
     walk_reader(&rt, &mut reader, &ends)?;
     assert_eq!(rt; reader.begin(&[5]).view(), &[2, 5][..]);
-    walk_reader(&rt, &mut reader, &[(&[], b's', &[0xB2]), (&[2, 9], b'f', &[9])])
+    walk_reader(
+        &rt,
+        &mut reader,
+        &[(&[], b's', &[0xB2]), (&[2, 9], b'f', &[9])],
+    )
 }
 
 #[test]
@@ -179,7 +190,15 @@ fn a_chain_above_264_bytes_makes_the_card_silent(rt: HostRuntime) -> Result<(), 
     let mut card = CardEnd::new(8);
     walk_card(&rt, &mut card, &[(&block[..133], b'r', &[0xA2])])?;
     block[0] = 0x13;
-    walk_card(&rt, &mut card, &[(&block, b'q', &[]), (&[0xC2], b'q', &[]), (&[0xB2], b'q', &[])])?;
+    walk_card(
+        &rt,
+        &mut card,
+        &[
+            (&block, b'q', &[]),
+            (&[0xC2], b'q', &[]),
+            (&[0xB2], b'q', &[]),
+        ],
+    )?;
     card.dark();
     block[0] = 0x12;
     walk_card(&rt, &mut card, &[(&block[..133], b'r', &[0xA2])])?;
@@ -252,7 +271,9 @@ fn commands_of_a_tag(rt: HostRuntime) -> Result<(), Fail> {
     let mut card = CardEnd::new(8);
     walk_card(&rt, &mut card, &[(&[0xE0, 0x80], b'r', &[2, 8])])?;
     let mut reader = ReaderEnd::new(8);
-    let select = [0x00, 0xA4, 0x04, 0x00, 0x07, 0xD2, 0x76, 0x00, 0x00, 0x85, 0x01, 0x01, 0x00];
+    let select = [
+        0x00, 0xA4, 0x04, 0x00, 0x07, 0xD2, 0x76, 0x00, 0x00, 0x85, 0x01, 0x01, 0x00,
+    ];
     let first = [
         0x02, 0x00, 0xA4, 0x04, 0x00, 0x07, 0xD2, 0x76, 0x00, 0x00, 0x85, 0x01, 0x01, 0x00,
     ];
@@ -278,8 +299,22 @@ fn chains_both_ways(rt: HostRuntime) -> Result<(), Fail> {
     exchange(&rt, &mut reader, &mut card, &bytes[..27], &bytes[..40], 0)?;
     for lost in 0..32u32 {
         for at in 0..10u32 {
-            exchange(&rt, &mut reader, &mut card, &bytes[..27], &bytes[..40], lost << at)?;
-            exchange(&rt, &mut reader, &mut card, &bytes[..1], &bytes[..2], lost << at)?;
+            exchange(
+                &rt,
+                &mut reader,
+                &mut card,
+                &bytes[..27],
+                &bytes[..40],
+                lost << at,
+            )?;
+            exchange(
+                &rt,
+                &mut reader,
+                &mut card,
+                &bytes[..1],
+                &bytes[..2],
+                lost << at,
+            )?;
         }
     }
     Ok(())
