@@ -89,7 +89,7 @@ impl CardEnd {
         self.mute = false;
     }
 
-    /// One step.
+    /// One step at a frame of the reader. After `Deliver` the owner calls `reply`.
     pub fn hear(&mut self, frame: &Frame) -> CardStep
         ensures step { record { state = self.new; does = result } ≡ card_table self.old frame.now }
         ensures spelled { IsSaid self.old.code result }

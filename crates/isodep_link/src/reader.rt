@@ -105,7 +105,7 @@ impl ReaderEnd {
         self.request().to_frame()
     }
 
-    /// One step.
+    /// One step: what was heard of the frame that was sent last. A fault stays until `begin`.
     pub fn next(&mut self, heard: &Heard) -> ReaderStep
         ensures step { record { state = self.new; does = result } ≡ reader_table self.old heard.now }
         ensures spelled { IsAsked result }
