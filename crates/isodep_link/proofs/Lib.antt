@@ -1,0 +1,4 @@
+pub mod Spelled
+pub mod Once
+pub mod Ended
+pub mod Brought

@@ -1,0 +1,5 @@
+pub mod Blocks
+pub mod Sizes
+pub mod Card
+pub mod Commands
+pub mod Reader

@@ -1,0 +1,215 @@
+//! The card's end.
+
+ghost use Rattle.std.specs.Prelude.{◌≡◌, ◌≤◌, ◌++◌, length};
+ghost use Rattle.isodep_link.specs.Blocks.{block_frame, IsSpelled};
+ghost use Rattle.isodep_link.specs.Card.{CardTurn, card_table, activated, framed, block_table, again, gathered, drawn, replied, reply_block, fresh, IsSaid};
+
+use crate::block::{Block, piece, toggled};
+use crate::size::{LEAST_CODE, ats_frame, piece_size, rats_code};
+use arrayvec::ArrayVec;
+use nfc_base::Frame;
+use std::marker::Model;
+
+/// What a card does at a frame.
+#[derive(Debug, Drop)]
+pub enum CardStep {
+    Quiet,
+    Reply(Frame),
+    /// A whole command, which `CardEnd::reply` answers.
+    Deliver(ArrayVec<u8, 264>),
+    /// It answers a last time, and sleeps.
+    Asleep(Frame),
+}
+
+/// The card's end (ISO/IEC 14443-4; NFC Forum Digital Protocol): it puts commands together and hands out answers in
+/// pieces. It takes no memory. Its owner calls `dark` when the card leaves the field or sleeps.
+#[derive(Debug, Drop)]
+pub struct CardEnd {
+    code: u8,
+    most: usize,
+    number: u8,
+    last: Option<Block>,
+    chain: ArrayVec<u8, 264>,
+    answer: ArrayVec<u8, 264>,
+    at: usize,
+    begun: bool,
+    mute: bool,
+}
+
+impl Model for CardEnd {
+    ghost use Rattle.std.specs.Prelude.{◌<◌, ◌≤◌, length, drop};
+    ghost use Rattle.isodep_link.specs.Card.{CardState};
+
+    ghost Value = { CardState };
+
+    ghost view = { λ t. record {
+      code = t.code;
+      most = t.most;
+      number = t.number;
+      last = t.last;
+      chain = t.chain.items;
+      left = drop t.at t.answer.items;
+      begun = t.begun;
+      mute = t.mute;
+    } };
+
+    ghost invariant = { λ t. (t.code ≤ 8) × (0 < t.most) × (t.most ≤ 253) × (t.number < 2) × (t.at ≤ length t.answer.items) × (length t.answer.items ≤ 264) };
+}
+
+impl CardEnd {
+    /// A card with this size code, that heard nothing.
+    pub fn new(code: u8) -> CardEnd
+        requires { code ≤ 8 }
+        ensures { result ≡ fresh code }
+    {
+        CardEnd {
+            code,
+            most: piece_size(LEAST_CODE),
+            number: 1,
+            last: None,
+            chain: ArrayVec::new(),
+            answer: ArrayVec::new(),
+            at: 0,
+            begun: false,
+            mute: false,
+        }
+    }
+
+    /// It becomes as `new` gave it.
+    pub fn dark(&mut self)
+        ensures { self.new ≡ fresh self.old.code }
+    {
+        self.most = piece_size(LEAST_CODE);
+        self.number = 1;
+        self.last = None;
+        self.chain = ArrayVec::new();
+        self.answer = ArrayVec::new();
+        self.at = 0;
+        self.begun = false;
+        self.mute = false;
+    }
+
+    /// One step at a frame of the reader. After `Deliver` the owner calls `reply`.
+    pub fn hear(&mut self, frame: &Frame) -> CardStep
+        ensures step { record { state = self.new; does = result } ≡ card_table self.old frame.now }
+        ensures spelled { IsSaid self.old.code result }
+    {
+        if self.mute {
+            return CardStep::Quiet;
+        }
+        if let Some(code) = rats_code(frame) {
+            return self.activate(code);
+        }
+        match Block::read_from(frame) {
+            Some(block) => self.obey(&block),
+            None => CardStep::Quiet,
+        }
+    }
+
+    /// The first piece of the answer to what was delivered.
+    pub fn reply(&mut self, content: &[u8]) -> Frame
+        requires { length content.now ≤ 264 }
+        ensures step { self.new ≡ replied self.old content.now }
+        ensures answer { result ≡ block_frame (reply_block self.old content.now) }
+        ensures spelled { IsSpelled result }
+    {
+        let mut answer = ArrayVec::new();
+        answer.try_extend_from_slice(content).unwrap();
+        self.answer = answer;
+        self.at = content.len().min(self.most);
+        let block = piece(self.most, self.number, content);
+        let frame = block.to_frame();
+        self.last = Some(block);
+        frame
+    }
+
+    /// RATS with this size code.
+    fn activate(&mut self, code: u8) -> CardStep
+        ensures step { record { state = self.new; does = result } ≡ activated self.old code }
+        ensures spelled { IsSaid self.old.code result }
+    {
+        if self.begun {
+            return CardStep::Quiet;
+        }
+        self.most = piece_size(code);
+        CardStep::Reply(ats_frame(self.code))
+    }
+
+    fn obey(&mut self, block: &Block) -> CardStep
+        ensures step { record { state = self.new; does = result } ≡ framed (block_table self.old block.now) }
+        ensures spelled { IsSaid self.old.code result }
+    {
+        match block {
+            Block::Info { more, content, .. } => self.gather(*more, content),
+            Block::Ack { number } => {
+                if *number == self.number {
+                    self.repeat()
+                } else {
+                    self.draw()
+                }
+            }
+            Block::Nak { number } => {
+                if *number == self.number {
+                    self.repeat()
+                } else {
+                    let ack = Block::Ack {
+                        number: self.number,
+                    };
+                    CardStep::Reply(ack.to_frame())
+                }
+            }
+            Block::Deselect => CardStep::Asleep(Block::Deselect.to_frame()),
+        }
+    }
+
+    /// The last block again.
+    fn repeat(&self) -> CardStep
+        ensures step { record { state = self.now; does = result } ≡ framed (again self.now self.now.last) }
+        ensures spelled { IsSaid self.now.code result }
+    {
+        match &self.last {
+            None => CardStep::Quiet,
+            Some(block) => CardStep::Reply(block.to_frame()),
+        }
+    }
+
+    /// A piece of a command.
+    fn gather(&mut self, more: bool, content: &[u8]) -> CardStep
+        ensures step { record { state = self.new; does = result } ≡ framed (gathered self.old more (self.old.chain ++ content.now)) }
+        ensures spelled { IsSaid self.old.code result }
+    {
+        self.begun = true;
+        if self.chain.try_extend_from_slice(content).is_err() {
+            self.mute = true;
+            return CardStep::Quiet;
+        }
+        self.number = toggled(self.number);
+        if more {
+            let ack = Block::Ack {
+                number: self.number,
+            };
+            let frame = ack.to_frame();
+            self.last = Some(ack);
+            CardStep::Reply(frame)
+        } else {
+            CardStep::Deliver(std::mem::replace(&mut self.chain, ArrayVec::new()))
+        }
+    }
+
+    /// The next piece of the answer.
+    fn draw(&mut self) -> CardStep
+        ensures step { record { state = self.new; does = result } ≡ framed (drawn self.old) }
+        ensures spelled { IsSaid self.old.code result }
+    {
+        let left = &self.answer.as_slice()[self.at..];
+        if left.is_empty() {
+            return CardStep::Quiet;
+        }
+        self.number = toggled(self.number);
+        let block = piece(self.most, self.number, left);
+        self.at += left.len().min(self.most);
+        let frame = block.to_frame();
+        self.last = Some(block);
+        CardStep::Reply(frame)
+    }
+}

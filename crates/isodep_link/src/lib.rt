@@ -1,0 +1,16 @@
+//! ISO-DEP (ISO/IEC 14443-4; NFC Forum Digital Protocol), both ends: a reader's command and a card's answer, each in
+//! blocks that stop and wait.
+//!
+//! `block` reads and writes blocks, `size` says how long they are, `card` and `reader` are the ends, one step of their
+//! tables a call. None of it takes memory.
+#![tactic(auto)]
+
+mod block;
+mod card;
+mod reader;
+mod size;
+#[cfg(test)]
+mod tests;
+
+pub use card::{CardEnd, CardStep};
+pub use reader::{ReaderEnd, ReaderStep};

@@ -1,0 +1,275 @@
+//! The reader's end.
+
+ghost use Rattle.std.specs.Prelude.{◌≡◌, ◌≤◌, length};
+ghost use Rattle.isodep_link.specs.Blocks.{block_frame, spelled_block, IsSpelled};
+ghost use Rattle.isodep_link.specs.Reader.{ReaderTurn, reader_table, framed, sent, sends, refuses, bad, acked, missed, brought, answered, waited, whole_reception, request, more_follows, begun, waiting, IsAsked};
+
+use crate::block::{Block, piece, toggled};
+use crate::size::piece_size;
+use arrayvec::ArrayVec;
+use nfc_base::{Frame, Heard};
+use std::marker::Model;
+
+/// The most bad receptions of a wait that goes on.
+const MOST_BADS: u8 = 5;
+
+/// What a reader does at a reception.
+#[derive(Debug, Drop)]
+pub enum ReaderStep {
+    Send(Frame),
+    /// The whole answer.
+    Finished(ArrayVec<u8, 264>),
+    /// The sixth bad reception of a wait.
+    SixBad,
+    /// A whole frame that isn't allowed here.
+    Protocol,
+}
+
+/// What a reader sent last, or how its exchange ended. `Free` is a reader with no command under way.
+#[derive(Clone, Copy, Debug, PartialEq, Eq)]
+pub(crate) enum Phase {
+    Asked,
+    Nacked,
+    Free,
+    EndedSixBad,
+    EndedProtocol,
+}
+
+/// The reader's end (ISO/IEC 14443-4; NFC Forum Digital Protocol): one command after the other, in pieces, and the
+/// answer put together. It takes no memory.
+#[derive(Debug, Drop)]
+pub struct ReaderEnd {
+    number: u8,
+    most: usize,
+    command: ArrayVec<u8, 264>,
+    at: usize,
+    drawing: bool,
+    got: ArrayVec<u8, 264>,
+    phase: Phase,
+    bads: u8,
+}
+
+impl Model for ReaderEnd {
+    ghost use Rattle.std.specs.Prelude.{◌<◌, ◌≤◌, length, drop};
+    ghost use Rattle.isodep_link.specs.Reader.{ReaderState};
+
+    ghost Value = { ReaderState };
+
+    ghost view = { λ i. record {
+      core = record {
+        number = i.number;
+        most = i.most;
+        rest = drop i.at i.command.items;
+        drawing = i.drawing;
+        got = i.got.items;
+      };
+      phase = i.phase;
+      bads = i.bads;
+    } };
+
+    ghost invariant = { λ i. (i.number < 2) × (0 < i.most) × (i.most ≤ 253) × (i.at ≤ length i.command.items) × (length i.command.items ≤ 264) × (i.bads ≤ 5) };
+}
+
+impl ReaderEnd {
+    /// A reader for a card with this size code, of which codes above 8 count as 8.
+    pub fn new(card_code: u8) -> ReaderEnd
+        ensures { result ≡ waiting card_code }
+    {
+        ReaderEnd {
+            number: 0,
+            most: piece_size(card_code),
+            command: ArrayVec::new(),
+            at: 0,
+            drawing: false,
+            got: ArrayVec::new(),
+            phase: Phase::Free,
+            bads: 0,
+        }
+    }
+
+    /// The first block of a command. What was under way is given up.
+    pub fn begin(&mut self, command: &[u8]) -> Frame
+        requires { length command.now ≤ 264 }
+        ensures step { self.new ≡ begun self.old command.now }
+        ensures request { result ≡ block_frame (request (begun self.old command.now).core) }
+        ensures spelled { IsSpelled result }
+    {
+        let mut kept = ArrayVec::new();
+        kept.try_extend_from_slice(command).unwrap();
+        self.command = kept;
+        self.at = 0;
+        self.drawing = false;
+        self.got = ArrayVec::new();
+        self.phase = Phase::Asked;
+        self.bads = 0;
+        self.request().to_frame()
+    }
+
+    /// One step: what was heard of the frame that was sent last. A fault stays until `begin`.
+    pub fn next(&mut self, heard: &Heard) -> ReaderStep
+        ensures step { record { state = self.new; does = result } ≡ reader_table self.old heard.now }
+        ensures spelled { IsAsked result }
+    {
+        match (self.phase, heard) {
+            (Phase::EndedSixBad, _) => ReaderStep::SixBad,
+            (Phase::EndedProtocol, _) => ReaderStep::Protocol,
+            (Phase::Free, Heard::Whole(_)) => self.refuse(),
+            (_, Heard::Whole(frame)) => self.whole(frame),
+            (_, Heard::Collided(_)) => self.bad(),
+            (_, Heard::Damaged) => self.bad(),
+            (_, Heard::Silent) => self.bad(),
+        }
+    }
+
+    /// The block of this wait.
+    fn request(&self) -> Block
+        ensures { result ≡ request self.now.core }
+    {
+        if self.drawing {
+            Block::Ack {
+                number: self.number,
+            }
+        } else {
+            piece(self.most, self.number, &self.command.as_slice()[self.at..])
+        }
+    }
+
+    /// Sends what belongs to the phase.
+    fn send(&mut self, phase: Phase) -> ReaderStep
+        ensures step { record { state = self.new; does = result } ≡ framed (sends self.old.core phase self.old.bads) }
+        ensures spelled { IsAsked result }
+    {
+        self.phase = phase;
+        let block = match phase {
+            Phase::Nacked | Phase::Free => Block::Nak {
+                number: self.number,
+            },
+            _ => self.request(),
+        };
+        ReaderStep::Send(block.to_frame())
+    }
+
+    /// A whole frame that isn't allowed.
+    fn refuse(&mut self) -> ReaderStep
+        ensures step { record { state = self.new; does = result } ≡ framed (refuses self.old) }
+        ensures spelled { IsAsked result }
+    {
+        self.phase = Phase::EndedProtocol;
+        ReaderStep::Protocol
+    }
+
+    /// A bad reception.
+    fn bad(&mut self) -> ReaderStep
+        ensures step { record { state = self.new; does = result } ≡ framed (bad self.old) }
+        ensures spelled { IsAsked result }
+    {
+        if self.bads == MOST_BADS {
+            self.phase = Phase::EndedSixBad;
+            return ReaderStep::SixBad;
+        }
+        self.bads += 1;
+        match self.phase {
+            Phase::Free => self.send(Phase::Free),
+            _ => {
+                if self.drawing {
+                    self.send(Phase::Asked)
+                } else {
+                    self.send(Phase::Nacked)
+                }
+            }
+        }
+    }
+
+    /// A whole frame while a command is under way.
+    fn whole(&mut self, frame: &Frame) -> ReaderStep
+        ensures step { record { state = self.new; does = result } ≡ framed (waited self.old (whole_reception (spelled_block frame.now))) }
+        ensures spelled { IsAsked result }
+    {
+        match Block::read_from(frame) {
+            Some(block) => self.answered(&block),
+            None => self.refuse(),
+        }
+    }
+
+    fn answered(&mut self, block: &Block) -> ReaderStep
+        ensures step { record { state = self.new; does = result } ≡ framed (answered self.old block.now) }
+        ensures spelled { IsAsked result }
+    {
+        match block {
+            Block::Info {
+                more,
+                number,
+                content,
+            } => {
+                if !self.more_follows() && *number == self.number {
+                    self.take(*more, content)
+                } else {
+                    self.refuse()
+                }
+            }
+            Block::Ack { number } => {
+                if *number == self.number {
+                    self.go_on()
+                } else {
+                    self.ask_again()
+                }
+            }
+            _ => self.refuse(),
+        }
+    }
+
+    /// Whether pieces of the command follow the one that is under way.
+    fn more_follows(&self) -> bool
+        ensures { result ≡ more_follows self.now.core }
+    {
+        !self.drawing && self.most < self.command.len() - self.at
+    }
+
+    /// The card took a piece of the command.
+    fn go_on(&mut self) -> ReaderStep
+        ensures step { record { state = self.new; does = result } ≡ framed (acked self.old) }
+        ensures spelled { IsAsked result }
+    {
+        if !self.more_follows() {
+            return self.refuse();
+        }
+        self.at += self.most;
+        self.number = toggled(self.number);
+        self.bads = 0;
+        self.send(Phase::Asked)
+    }
+
+    /// The card didn't hear the last I-block.
+    fn ask_again(&mut self) -> ReaderStep
+        ensures step { record { state = self.new; does = result } ≡ framed (missed self.old self.old.phase) }
+        ensures spelled { IsAsked result }
+    {
+        match self.phase {
+            Phase::Nacked => self.send(Phase::Asked),
+            _ => self.refuse(),
+        }
+    }
+
+    /// A piece of the answer.
+    fn take(&mut self, more: bool, content: &[u8]) -> ReaderStep
+        ensures step { record { state = self.new; does = result } ≡ framed (brought self.old more content.now) }
+        ensures spelled { IsAsked result }
+    {
+        if more && content.is_empty() {
+            return self.refuse();
+        }
+        if self.got.try_extend_from_slice(content).is_err() {
+            return self.refuse();
+        }
+        self.at = self.command.len();
+        self.number = toggled(self.number);
+        self.bads = 0;
+        self.drawing = more;
+        if more {
+            self.send(Phase::Asked)
+        } else {
+            self.phase = Phase::Free;
+            ReaderStep::Finished(std::mem::replace(&mut self.got, ArrayVec::new()))
+        }
+    }
+}
