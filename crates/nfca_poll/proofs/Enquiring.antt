@@ -44,13 +44,13 @@ module _ {S X : Type 0} (e : Enquiry S X) where
 
   pub progress_got : (a : S) (ns : List Note) (s : S) (h : Heard) → progress e a ns ≡ Reaches s → progress e a (ns ++ Got h ∷ []) ≡ Reaches (e.step s h)
   progress_got a [] s h q = ap (λ r. Reaches (e.step (state_in a r) h)) q
-  progress_got a (Lit ∷ ns) s h q = progress_got a ns s h q
+  progress_got a (Lit ∷ ns) s h q = progress_got (e.light a) ns s h q
   progress_got a (Got g ∷ ns) s h q = progress_got (e.step a g) ns s h q
   progress_got a (Lost ∷ ns) s h q = absurd (no_state s q)
 
   pub progress_lost : (a : S) (ns : List Note) (s : S) → progress e a ns ≡ Reaches s → progress e a (ns ++ Lost ∷ []) ≡ Loses
   progress_lost a [] s q = refl
-  progress_lost a (Lit ∷ ns) s q = progress_lost a ns s q
+  progress_lost a (Lit ∷ ns) s q = progress_lost (e.light a) ns s q
   progress_lost a (Got g ∷ ns) s q = progress_lost (e.step a g) ns s q
   progress_lost a (Lost ∷ ns) s q = absurd (no_state s q)
 
