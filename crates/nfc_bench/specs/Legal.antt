@@ -1,30 +1,26 @@
 -- Which entries a bench may have: what it accepts, what each command changes, which request is due, and what it
 -- answers. A later command adds a case to each definition.
-use Rattle.std.specs.Prelude.{◌≡◌, ℕ, ◌*◌, ◌-◌, ◌<◌, ◌≤◌, List, [], ◌∷◌, ◌++◌, map, length, replicate, false, nat_eq, if◌then◌else◌, Option, Some, None, IsSome, Ok, Err}
-use Rattle.std.specs.List.{AllByRecursion}
-use Rattle.std.specs.Cmp.Lexicographic.{pointwise}
-use Rattle.nfc_base.specs.declared.frame.Tech.TheVariants as techs
+use Rattle.std.specs.Prelude.{◌≡◌, ℕ, ◌*◌, ◌-◌, ◌<◌, ◌≤◌, List, [], ◌∷◌, ◌++◌, map, length, replicate, Option, Some, None, IsSome, Ok, Err}
 use Rattle.nfc_base.specs.declared.event.Event.{Event}
 use Rattle.nfc_base.specs.declared.event.Fate.{Fate}
 use Rattle.nfc_base.specs.Signal.{Signal}
 use Rattle.air_core.specs.World.{World, quiet_air}
 use Rattle.air_core.specs.Conversation.{AirModel, Note, Next, Over, receptions, replay, queue_after, AreTurns, FatesFrom, EachDue}
-use Rattle.air_core.specs.Waits.{Asking, stand, waits_next}
-use Rattle.nfca_poll.specs.declared.kind.Kind.TheVariants as kinds
-use Rattle.nfca_poll.specs.Poll.{Polling, Polls, Done, Picked, NotFound, GivenUp, Refused, FieldLost, pick}
+use Rattle.air_core.specs.Waits.{waits_next}
 use Rattle.t2t_tag.specs.Store.{IsT2Store}
 use Rattle.t5t_tag.specs.Store.{IsT5Store}
 use Rattle.nfc_bench.specs.declared.command.Command.{Command}
-use Rattle.nfc_bench.specs.declared.command.Command.TheVariants.{Skip, PlaceT2, PlaceT5, Read}
+use Rattle.nfc_bench.specs.declared.command.Command.TheVariants.{Skip, Fates, PlaceT2, PlaceT5, Remove, Find, Read}
 use Rattle.nfc_bench.specs.declared.command.DeviceId.{DeviceId}
-use Rattle.nfc_bench.specs.declared.command.DeviceId.TheVariants.{A, V}
 use Rattle.nfc_bench.specs.declared.device.Device.{Device}
 use Rattle.nfc_bench.specs.declared.entry.Answer.{Answer}
 use Rattle.nfc_bench.specs.declared.entry.Answer.TheVariants as answers
 use Rattle.nfc_bench.specs.declared.entry.Entry.{Entry}
-use Rattle.nfc_bench.specs.Device.{devices, device_tech, device_id, device_store, new_t2, new_t5}
-use Rattle.nfc_bench.specs.Polling.{Followed, Asks, Told, pick_v, bytes_of, IsFoundBy}
-use Rattle.nfc_bench.specs.Reading.{AsksOf, TellsOf}
+use Rattle.nfc_bench.specs.Device.{devices, device_store, new_t2, new_t5}
+use Rattle.nfc_bench.specs.Polling.{Followed, Asks, Told, bytes_of, asks, selecting, finding_all}
+use Rattle.nfc_bench.specs.Placed.{device_with, without, IfPlaced}
+use Rattle.nfc_bench.specs.Reading.{AsksOf}
+use Rattle.nfc_bench.specs.Answering.{ReadTells, FindTells}
 
 -- the air of the bench's devices
 abbrev pub air : AirModel (World Device)
@@ -47,106 +43,83 @@ memory_of size head = head ++ replicate (size - length head) 0
 abbrev pub most_devices : ℕ
 most_devices = 16
 
--- the first device with an identifier
-abbrev pub device_with : List ℕ → List Device → Option Device
-device_with id [] = None
-device_with id (d ∷ ds) = if pointwise nat_eq (device_id d) id then Some d else device_with id ds
-
--- Something holds of the device with an identifier, which is placed.
-abbrev pub OfPlaced : (Device → Type 0) → Option Device → Type 0
-OfPlaced P None = ⊥
-OfPlaced P (Some d) = P d
-
-abbrev pub OfDevice : State → DeviceId → (Device → Type 0) → Type 0
-OfDevice s id P = OfPlaced P (device_with (bytes_of id) s.world.listeners)
-
 -- There is room for one more device, and none has this identifier.
 pub record IsFree (s : State) (id : List ℕ) : Type 0 where
   pub room : length s.world.listeners < most_devices
   pub fresh : device_with id s.world.listeners ≡ None
 
--- A Type 2 tag may be placed: no device of NFC-A is there, its identifier has 4 bytes, the given bytes fit, and its store
--- is one of a tag.
+-- A Type 2 tag may be placed: the given bytes fit, and its store is one of a tag.
 pub record MayPlaceT2 (s : State) (id : List ℕ) (blocks : ℕ) (head : List ℕ) : Type 0 where
   pub free : IsFree s id
-  pub first : AllByRecursion (λ d. device_tech d ≡ techs.V) s.world.listeners
-  pub four : length id ≡ 4
   pub fits : length head ≤ 4 * blocks
   pub store : IsT2Store (memory_of (4 * blocks) head)
 
--- A Type 5 tag may be placed: the given bytes fit, and its store is one of a tag.
+-- A Type 5 tag may be placed: likewise.
 pub record MayPlaceT5 (s : State) (id : List ℕ) (blocks size : ℕ) (head : List ℕ) : Type 0 where
   pub free : IsFree s id
   pub fits : length head ≤ size * blocks
   pub store : IsT5Store size (memory_of (size * blocks) head)
 
--- the conditions of a command beside its grammar
+-- The conditions of a command beside its grammar. Only what is placed can be taken away.
 abbrev pub IsAccepted : State → Command → Type 0
 IsAccepted s Skip = Unit {0}
+IsAccepted s (Fates fates) = Unit {0}
 IsAccepted s (PlaceT2 id blocks head) = MayPlaceT2 s id blocks head
 IsAccepted s (PlaceT5 id blocks size head) = MayPlaceT5 s id blocks size head
-IsAccepted s (Read id) = IsSome (device_with (bytes_of id) s.world.listeners)
+IsAccepted s (Remove id) = IsSome (device_with (bytes_of id) s.world.listeners)
+IsAccepted s Find = Unit {0}
+IsAccepted s (Read id) = Unit {0}
 
--- the state with one more device
-abbrev pub with_device : State → Device → State
-with_device s d = record { world = record { lit = s.world.lit; listeners = s.world.listeners ++ d ∷ [] }; queue = s.queue }
+-- the state with other devices
+abbrev pub with_devices : State → List Device → State
+with_devices s ds = record { world = record { lit = s.world.lit; listeners = ds }; queue = s.queue }
 
--- what a command itself changes, before anything is sent
+-- What a command itself changes, before anything is sent: fates are appended, and devices placed and taken away.
 abbrev pub changed : State → Command → State
-changed s Skip = s
-changed s (PlaceT2 id blocks head) = with_device s (new_t2 id (memory_of (4 * blocks) head))
-changed s (PlaceT5 id blocks size head) = with_device s (new_t5 id size (memory_of (size * blocks) head))
-changed s (Read id) = s
+changed s (Fates fates) = record { world = s.world; queue = s.queue ++ fates }
+changed s (PlaceT2 id blocks head) = with_devices s (s.world.listeners ++ new_t2 id (memory_of (4 * blocks) head) ∷ [])
+changed s (PlaceT5 id blocks size head) = with_devices s (s.world.listeners ++ new_t5 id size (memory_of (size * blocks) head) ∷ [])
+changed s (Remove id) = with_devices s (without (bytes_of id) s.world.listeners)
+changed s c = s
 
--- what a command asks of its tag, from the first command of the tag to the last
+-- What a command asks of its tag, from the first command of the tag to the last. Only a read of a placed one asks anything.
 abbrev pub IsAskedBy : State → Command → List Signal → Type 0
-IsAskedBy s Skip asked = asked ≡ []
-IsAskedBy s (PlaceT2 id blocks head) asked = asked ≡ []
-IsAskedBy s (PlaceT5 id blocks size head) asked = asked ≡ []
-IsAskedBy s (Read id) asked = OfDevice s id (λ d. AsksOf d asked)
+IsAskedBy s (Read id) asked = IfPlaced (λ d. AsksOf d asked) (asked ≡ []) (device_with (bytes_of id) s.world.listeners)
+IsAskedBy s c asked = asked ≡ []
 
--- a command that polls, and then asks these commands of the tag that it found
-abbrev pub then_asks : List Signal → Polling → Next
-then_asks asked (Polls n) = n
-then_asks asked (Done (Picked kinds.T2) ns) = waits_next asked ns
-then_asks asked (Done (Picked kinds.T4) ns) = Over
-then_asks asked (Done (Picked kinds.Peer) ns) = Over
-then_asks asked (Done NotFound ns) = Over
-then_asks asked (Done GivenUp ns) = Over
-then_asks asked (Done Refused ns) = Over
-then_asks asked (Done FieldLost ns) = Over
+-- a command that selects a tag, and then asks these commands of it
+abbrev pub then_asks : {X : Type 0} → List Signal → Followed X → Next
+then_asks asked (Asks n) = n
+then_asks asked (Told (Ok x) ns) = waits_next asked ns
+then_asks asked (Told (Err e) ns) = Over
 
-abbrev pub then_asks_v : List Signal → Followed (Unit {0}) → Next
-then_asks_v asked (Asks n) = n
-then_asks_v asked (Told (Ok x) ns) = waits_next asked ns
-then_asks_v asked (Told (Err e) ns) = Over
-
--- what is due in a command, by what the reader knows
+-- What is due in a command, by what the reader knows. Nothing is sent but in a read and in a search.
 abbrev pub due : List Signal → Command → List Note → Next
-due asked Skip ns = Over
-due asked (PlaceT2 id blocks head) ns = Over
-due asked (PlaceT5 id blocks size head) ns = Over
-due asked (Read (A id)) ns = then_asks asked (pick id ns)
-due asked (Read (V id)) ns = then_asks_v asked (pick_v id ns)
+due asked Find ns = asks (finding_all ns)
+due asked (Read id) ns = then_asks asked (selecting id ns)
+due asked c ns = Over
 
 -- what stays of the devices when the field goes dark
 abbrev pub stable : World Device → List (List ℕ)
 stable w = map device_store w.listeners
 
--- A read answers where its tag was found and selected and each of its commands was answered. What it tells is the form
--- of the tag's store, and no store changes.
+-- A search and a read change no store.
 pub record ReadLaw (s : State) (id : DeviceId) (asked : List Signal) (events : List Event) (answer : Answer) : Type 0 where
-  pub rest : List Note
-  pub found : IsFoundBy id (receptions events) rest
-  pub answered : stand 0 asked rest ≡ Asking 0 []
-  pub tells : OfDevice s id (λ d. TellsOf d answer)
+  pub tells : ReadTells id s.world.listeners asked events answer
+  pub stays : stable (replay air s.world events) ≡ stable s.world
+
+pub record FindLaw (s : State) (events : List Event) (answer : Answer) : Type 0 where
+  pub tells : FindTells s.world.listeners events answer
   pub stays : stable (replay air s.world events) ≡ stable s.world
 
 -- the law of the answers; a line that asks for nothing has none
 abbrev pub AnswerLaw : State → Command → List Signal → List Event → Answer → Type 0
 AnswerLaw s Skip asked events answer = ⊥
+AnswerLaw s (Fates fates) asked events answer = answer ≡ answers.Done
 AnswerLaw s (PlaceT2 id blocks head) asked events answer = answer ≡ answers.Done
 AnswerLaw s (PlaceT5 id blocks size head) asked events answer = answer ≡ answers.Done
+AnswerLaw s (Remove id) asked events answer = answer ≡ answers.Done
+AnswerLaw s Find asked events answer = FindLaw s events answer
 AnswerLaw s (Read id) asked events answer = ReadLaw s id asked events answer
 
 -- From this state a command may be obeyed so.

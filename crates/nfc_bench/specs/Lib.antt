@@ -3,6 +3,9 @@ pub mod Device
 pub mod Standing
 pub mod Reading
 pub mod Polling
+pub mod Placed
+pub mod Crowded
+pub mod Answering
 pub mod Legal
 pub mod Obeying
 pub mod Journal

@@ -4,7 +4,7 @@ use Rattle.air_core.specs.Turn.{Air}
 use Rattle.nfc_bench.specs.declared.bench.ObeyFault.{ObeyFault}
 use Rattle.nfc_bench.specs.declared.bench.ObeyFault.TheVariants as faults
 use Rattle.nfc_bench.specs.declared.command.Command.{Command}
-use Rattle.nfc_bench.specs.declared.command.Command.TheVariants.{Skip, PlaceT2, PlaceT5, Read}
+use Rattle.nfc_bench.specs.declared.command.Command.TheVariants.{Skip}
 use Rattle.nfc_bench.specs.declared.device.Device.{Device}
 use Rattle.nfc_bench.specs.declared.entry.Answer.{Answer}
 use Rattle.nfc_bench.specs.declared.entry.Entry.{Entry}
@@ -19,10 +19,9 @@ obey_fault_number faults.Memory = 2
 abbrev pub state_at : Air Device → State
 state_at a = record { world = record { lit = a.lit; listeners = a.listeners }; queue = a.fates }
 
--- Between two commands nothing is in the trace, and no fate is left.
+-- Between two commands nothing is in the trace.
 pub record IsIdle (a : Air Device) : Type 0 where
   pub quiet : a.trace ≡ []
-  pub fates : a.fates ≡ []
   pub tame : AreTame (map kept a.listeners)
 
 -- ... and the field is in the state that the journal leaves
@@ -34,7 +33,6 @@ pub record IsReady (a : Air Device) (journal : List Entry) : Type 0 where
 pub record Obeyed (old new : Air Device) (c : Command) (answer : Answer) : Type 0 where
   pub step : LegalStep (state_at old) c new.trace answer
   pub state : state_at new ≡ state_after (state_at old) c new.trace
-  pub fates : new.fates ≡ []
   pub tame : AreTame (map kept new.listeners)
 
 -- What contracts see of a bench: its journal, and whether want of memory spoiled it.
@@ -53,6 +51,4 @@ pub record Adds (old new : List Entry) (line : ℕ) (c : Command) : Type 0 where
 -- What obeying a line adds to the journal: one entry, and none where it asks for nothing.
 abbrev pub Obeys : List Entry → List Entry → ℕ → Command → Type 0
 Obeys old new line Skip = new ≡ old
-Obeys old new line (PlaceT2 id blocks head) = Adds old new line (PlaceT2 id blocks head)
-Obeys old new line (PlaceT5 id blocks size head) = Adds old new line (PlaceT5 id blocks size head)
-Obeys old new line (Read id) = Adds old new line (Read id)
+Obeys old new line c = Adds old new line c

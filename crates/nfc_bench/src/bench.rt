@@ -14,10 +14,11 @@ ghost use Rattle.nfc_bench.specs.Obeying.{Obeys, IsIdle, Obeyed, state_at, obey_
 use crate::command::{Command, DeviceId};
 use crate::device::{Device, PoweredTag, T2Upper};
 use crate::entry::{Answer, Entry};
-use crate::polling::{is_named, select};
+use crate::polling::{Selection, is_named, missed, place_of, select};
 use crate::reading::read;
+use crate::sweeping::sweep_field;
 use air_core::Field;
-use nfc_base::Items;
+use nfc_base::{Fate, Items};
 use nfca_poll::{Front, Ident};
 use std::alloc::{AllocError, Global};
 use std::marker::Model;
@@ -69,18 +70,6 @@ fn is_placed(devices: &[Device], id: &[u8]) -> bool
     false
 }
 
-/// Whether no NFC-A device is placed.
-fn are_nfc_v(devices: &[Device]) -> bool
-    ensures { IsTrue result ↔ AllByRecursion (λ d. device_tech d ≡ techs.V) devices.now }
-{
-    for device in devices {
-        if let Device::T2(_) = device {
-            return false;
-        }
-    }
-    true
-}
-
 /// Whether there is room for a device, and none has its identifier.
 fn is_free(devices: &[Device], id: &[u8]) -> bool
     ensures { IsTrue result ↔ ((length devices.now < most_devices) × (device_with id.now devices.now ≡ None)) }
@@ -103,10 +92,7 @@ fn place_t2(
 {
     let size = 4 * blocks as usize;
     let devices = field.listeners();
-    if !is_free(devices, id.view()) || !are_nfc_v(devices) {
-        return Err(ObeyFault::Refused);
-    }
-    if id.view().len() != 4 || head.len() > size {
+    if !is_free(devices, id.view()) || head.len() > size {
         return Err(ObeyFault::Refused);
     }
     let Ok(bytes) = memory(alloc, size, head) else {
@@ -171,21 +157,73 @@ fn type_5(id: [u8; 8]) -> How
     How::T5(id)
 }
 
-/// Finds and reads a tag.
-fn read_tag(alloc: Global, field: &mut Field<Device>, id: &DeviceId) -> Result<Answer, ObeyFault>
+/// Takes a device away. What it held is given up.
+fn remove(field: &mut Field<Device>, id: &DeviceId) -> Result<Answer, ObeyFault>
     requires { IsIdle field.old }
-    ensures ok { IfOk result (λ a. Obeyed field.old field.new (Command.Read id.now) a) }
+    ensures ok { IfOk result (λ a. Obeyed field.old field.new (Command.Remove id.now) a) }
     ensures refused { IsErrOf result ObeyFault.Refused → (field.new ≡ field.old) }
-    ensures cause { IsErrOf result ObeyFault.Refused → IsAccepted (state_at field.old) (Command.Read id.now) → ⊥ }
+    ensures cause { IsErrOf result ObeyFault.Refused → IsAccepted (state_at field.old) (Command.Remove id.now) → ⊥ }
 {
-    let (bytes, how) = named(id);
+    let (bytes, _) = named(id);
     if !is_placed(field.listeners(), bytes) {
         return Err(ObeyFault::Refused);
     }
-    let Ok(place) = select(field, id) else {
-        return Err(ObeyFault::Memory);
-    };
-    match read(alloc, field, place, how) {
+    let place = place_of(field.listeners(), bytes);
+    let _ = field.take_out(place);
+    Ok(Answer::Done)
+}
+
+/// Appends fates for transmissions to come.
+fn add_fates(field: &mut Field<Device>, fates: &[Fate]) -> Result<Answer, ObeyFault>
+    requires { IsIdle field.old }
+    ensures ok { IfOk result (λ a. Obeyed field.old field.new (Command.Fates fates.now) a) }
+    ensures never { IsErrOf result ObeyFault.Refused → ⊥ }
+{
+    match field.add_fates(fates) {
+        Ok(()) => Ok(Answer::Done),
+        Err(_) => Err(ObeyFault::Memory),
+    }
+}
+
+/// Selects a tag and reads it.
+fn select_and_read(
+    alloc: Global,
+    field: &mut Field<Device>,
+    id: &DeviceId,
+) -> Result<Answer, AllocError>
+    requires { IsIdle field.old }
+    ensures { IfOk result (λ a. Obeyed field.old field.new (Command.Read id.now) a) }
+{
+    let (_, how) = named(id);
+    match select(alloc, field, id)? {
+        Selection::Place(place) => read(alloc, field, place, how),
+        Selection::Missed(fault) => missed(fault),
+    }
+}
+
+/// Reads a tag, from a reset on.
+fn read_tag(
+    alloc: Global,
+    field: &mut Field<Device>,
+    id: &DeviceId,
+) -> Result<Answer, ObeyFault>
+    requires { IsIdle field.old }
+    ensures ok { IfOk result (λ a. Obeyed field.old field.new (Command.Read id.now) a) }
+    ensures never { IsErrOf result ObeyFault.Refused → ⊥ }
+{
+    match select_and_read(alloc, field, id) {
+        Ok(answer) => Ok(answer),
+        Err(_) => Err(ObeyFault::Memory),
+    }
+}
+
+/// Finds all devices.
+fn find(alloc: Global, field: &mut Field<Device>) -> Result<Answer, ObeyFault>
+    requires { IsIdle field.old }
+    ensures ok { IfOk result (λ a. Obeyed field.old field.new Command.Find a) }
+    ensures never { IsErrOf result ObeyFault.Refused → ⊥ }
+{
+    match sweep_field(alloc, field) {
         Ok(answer) => Ok(answer),
         Err(_) => Err(ObeyFault::Memory),
     }
@@ -205,6 +243,7 @@ fn run_command(
 {
     match command {
         Command::Skip => unreachable!(),
+        Command::Fates(fates) => add_fates(field, fates.as_slice()),
         Command::PlaceT2 { id, blocks, head } => {
             place_t2(alloc, field, id, *blocks, head.as_slice())
         }
@@ -214,6 +253,8 @@ fn run_command(
             size,
             head,
         } => place_t5(alloc, field, *id, *blocks, *size, head.as_slice()),
+        Command::Remove { id } => remove(field, id),
+        Command::Find => find(alloc, field),
         Command::Read { id } => read_tag(alloc, field, id),
     }
 }

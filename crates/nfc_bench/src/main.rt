@@ -9,6 +9,7 @@ mod polling;
 mod reading;
 mod report;
 mod script;
+mod sweeping;
 mod top;
 
 use bench::Bench;

@@ -1,20 +1,28 @@
 //! Finding a tag in the field.
 
-ghost use Rattle.std.specs.Prelude.{◌≡◌, IfOk, IsSome, nat_eq};
+ghost use Rattle.std.specs.Prelude.{◌≡◌, ◌⊎◌, Some, IfOk, IsSome, nat_eq};
 ghost use Rattle.std.specs.Cmp.Lexicographic.{pointwise};
 ghost use Rattle.air_core.specs.Turn.{moment};
 ghost use Rattle.nfc_bench.specs.Device.{device_id};
-ghost use Rattle.nfc_bench.specs.Legal.{device_with};
-ghost use Rattle.nfc_bench.specs.Polling.{bytes_of};
+ghost use Rattle.nfc_bench.specs.Placed.{device_with};
 ghost use Rattle.nfc_bench.specs.Obeying.{IsIdle};
-ghost use Rattle.nfc_bench.specs.Phases.{Selects};
+ghost use Rattle.nfca_poll.specs.declared.fault.PollFault.TheVariants as faults;
+ghost use Rattle.nfc_bench.specs.Answering.{poll_answer};
+ghost use Rattle.nfc_bench.specs.Phases.{SelectsTo};
 ghost use Rattle.nfc_bench.specs.Choosing.{StandsAt};
 
 use crate::command::DeviceId;
 use crate::device::Device;
+use crate::entry::Answer;
 use air_core::Field;
-use nfca_poll::{Ident, PollFault, pick_v, resolve};
-use std::alloc::AllocError;
+use nfca_poll::{Ident, PollFault, pick, pick_v};
+use std::alloc::{AllocError, Global};
+
+/// What selecting a tag has come to: it stands at this place, or none was selected.
+pub enum Selection {
+    Place(usize),
+    Missed(PollFault),
+}
 
 /// Whether this is a device's identifier.
 pub fn is_named(device: &Device, id: &[u8]) -> bool
@@ -27,7 +35,7 @@ pub fn is_named(device: &Device, id: &[u8]) -> bool
 }
 
 /// The place of the device with this identifier.
-fn place_of(devices: &[Device], id: &[u8]) -> usize
+pub fn place_of(devices: &[Device], id: &[u8]) -> usize
     requires { IsSome (device_with id.now devices.now) }
     ensures { StandsAt id.now devices.now result }
 {
@@ -39,53 +47,62 @@ fn place_of(devices: &[Device], id: &[u8]) -> usize
     unreachable!()
 }
 
-/// Selects the Type 2 tag with this identifier, the only device of NFC-A: a resolution finds it, and only want of memory
-/// can fail it.
-fn select_a(field: &mut Field<Device>, id: &Ident) -> Result<usize, AllocError>
+/// Selects the NFC-A device with this identifier.
+fn select_a(
+    alloc: Global,
+    field: &mut Field<Device>,
+    id: &Ident,
+) -> Result<Selection, AllocError>
     requires idle { IsIdle field.old }
-    requires placed { IsSome (device_with id.now field.old.listeners) }
-    ensures { IfOk result (λ place. Selects (DeviceId.A id.now) (moment field.old) (moment field.new) place) }
+    ensures { IfOk result (λ s. SelectsTo (DeviceId.A id.now) s (moment field.old) (moment field.new)) }
 {
-    let place = place_of(field.listeners(), id.view());
-    if field.reset().is_err() {
-        return Err(AllocError);
-    }
-    match resolve(field) {
-        Ok(_) => Ok(place),
-        Err(fault) => {
-            prove!(matches!(fault, PollFault::Memory));
-            Err(AllocError)
-        }
+    match pick(alloc, field, id) {
+        Ok(_) => Ok(Selection::Place(place_of(field.listeners(), id.view()))),
+        Err(PollFault::Memory) => Err(AllocError),
+        Err(fault) => Ok(Selection::Missed(fault)),
     }
 }
 
-/// Selects the Type 5 tag with this identifier, high byte first. Only want of memory can fail it.
-fn select_v(field: &mut Field<Device>, id: [u8; 8]) -> Result<usize, AllocError>
+/// Selects the Type 5 tag with this identifier, high byte first.
+fn select_v(field: &mut Field<Device>, id: [u8; 8]) -> Result<Selection, AllocError>
     requires idle { IsIdle field.old }
-    requires placed { IsSome (device_with id field.old.listeners) }
-    ensures { IfOk result (λ place. Selects (DeviceId.V id) (moment field.old) (moment field.new) place) }
+    ensures { IfOk result (λ s. SelectsTo (DeviceId.V id) s (moment field.old) (moment field.new)) }
 {
-    let place = place_of(field.listeners(), &id);
     if field.reset().is_err() {
         return Err(AllocError);
     }
     match pick_v(field, id) {
-        Ok(()) => Ok(place),
-        Err(fault) => {
-            prove!(matches!(fault, PollFault::Memory));
-            Err(AllocError)
-        }
+        Ok(()) => Ok(Selection::Place(place_of(field.listeners(), &id))),
+        Err(PollFault::Memory) => Err(AllocError),
+        Err(fault) => Ok(Selection::Missed(fault)),
     }
 }
 
-/// Resets the field and selects the tag with this identifier, where no fate is left. Gives its place.
-pub fn select(field: &mut Field<Device>, id: &DeviceId) -> Result<usize, AllocError>
+/// Selects the tag with this identifier, from a reset on.
+pub fn select(
+    alloc: Global,
+    field: &mut Field<Device>,
+    id: &DeviceId,
+) -> Result<Selection, AllocError>
     requires idle { IsIdle field.old }
-    requires placed { IsSome (device_with (bytes_of id.now) field.old.listeners) }
-    ensures { IfOk result (λ place. Selects id.now (moment field.old) (moment field.new) place) }
+    ensures { IfOk result (λ s. SelectsTo id.now s (moment field.old) (moment field.new)) }
 {
     match id {
-        DeviceId::A(id) => select_a(field, id),
+        DeviceId::A(id) => select_a(alloc, field, id),
         DeviceId::V(id) => select_v(field, *id),
+    }
+}
+
+/// The answer that tells of a fault of polling.
+pub fn missed(fault: PollFault) -> Result<Answer, AllocError>
+    requires { IsSome (poll_answer fault) ⊎ (fault ≡ faults.Memory) }
+    ensures { IfOk result (λ answer. poll_answer fault ≡ Some answer) }
+{
+    match fault {
+        PollFault::Disturbed => Ok(Answer::Disturbed),
+        PollFault::FieldLost => Ok(Answer::FieldLost),
+        PollFault::NotFound => Ok(Answer::NotFound),
+        PollFault::Memory => Err(AllocError),
+        PollFault::Nobody | PollFault::BadAnswer => unreachable!(),
     }
 }

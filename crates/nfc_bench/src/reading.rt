@@ -12,7 +12,7 @@ use air_core::{Field, PlainLink};
 use std::alloc::{AllocError, Global};
 use tag_reader::{Found, How, ReadFault};
 
-/// What the selected tag at a place holds, where no fate is left.
+/// What the selected tag at a place holds, or why the reading of it ended.
 pub fn read(
     alloc: Global,
     field: &mut Field<Device>,
@@ -45,7 +45,7 @@ fn read_by(alloc: Global, link: &mut PlainLink<Device>, how: How) -> Result<Answ
     }
 }
 
-/// A fault that the store has is an answer. Those of the link never come, since nothing disturbs it.
+/// The answer that tells of a fault of a read. A tag of the bench refuses no READ that is asked, and answers as it may.
 fn told(fault: ReadFault) -> Result<Answer, AllocError>
     requires { MayEnd fault }
     ensures { IfOk result (λ answer. told_by fault ≡ Some answer) }
@@ -58,9 +58,9 @@ fn told(fault: ReadFault) -> Result<Answer, AllocError>
         ReadFault::BadSize => Ok(Answer::BadSize),
         ReadFault::NoMessageTlv => Ok(Answer::NoMessageTlv),
         ReadFault::BadTlv => Ok(Answer::BadTlv),
+        ReadFault::FieldLost => Ok(Answer::FieldLost),
+        ReadFault::SixBad => Ok(Answer::SixBad),
         ReadFault::Memory => Err(AllocError),
-        ReadFault::Refused(_) | ReadFault::FieldLost | ReadFault::SixBad | ReadFault::Protocol => {
-            unreachable!()
-        }
+        ReadFault::Refused(_) | ReadFault::Protocol => unreachable!(),
     }
 }
