@@ -24,7 +24,8 @@ use Rattle.nfc_bench.specs.declared.device.Device.TheVariants.{T2, T5}
 use Rattle.nfc_bench.specs.Device.{device_id, device_store, how_of}
 use Rattle.nfc_bench.specs.Polling.{Followed, Asks as Requests, Told, followed, pick_v, asks_a, asks_v, polling, bytes_of, IsFoundBy}
 use Rattle.nfc_bench.specs.Reading.{Tells, AsksOf, TellsOf}
-use Rattle.nfc_bench.specs.Legal.{air, State, LegalStep, OfPlaced, device_with, due, then_asks, then_asks_v, stable, state_after, state_from, state_of, first_state}
+use Rattle.nfc_bench.specs.Legal.{air, State, LegalStep, due, then_asks, then_asks_v, stable, state_after, state_from, state_of, first_state}
+use Rattle.nfc_bench.specs.Placed.{OfPlaced, device_with}
 use Rattle.nfc_bench.specs.Phases.{Kept, kept, IsSound, AreTame, how_for, IsId, Selects, Reads}
 use Rattle.nfc_bench.specs.Obeying.{state_at, IsIdle, IsReady, Obeyed}
 use Rattle.tag_reader.specs.declared.how.How.{How}

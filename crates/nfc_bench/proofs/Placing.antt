@@ -7,7 +7,7 @@ use Rattle.tag_reader.specs.declared.how.How.{How}
 use Rattle.tag_reader.specs.declared.how.How.TheVariants as hows
 use Rattle.nfc_bench.specs.declared.device.Device.{Device}
 use Rattle.nfc_bench.specs.Device.{device_id}
-use Rattle.nfc_bench.specs.Legal.{device_with}
+use Rattle.nfc_bench.specs.Placed.{device_with}
 use Rattle.nfc_bench.specs.Phases.{Kept, kept, IsSound, IsApart, IsApartAs, AreTame}
 
 pub map-over : {A B : Type 0} (f : A → B) (xs ys : List A) → map f (xs ++ ys) ≡ map f xs ++ map f ys

@@ -9,7 +9,7 @@ use Rattle.nfc_base.specs.declared.event.Event.TheVariants.{Reset, Request, Answ
 use Rattle.nfc_base.specs.declared.event.Fate.{Fate}
 use Rattle.nfc_base.specs.declared.event.Fate.TheVariants.{Pass, Damage, Lose, Break}
 use Rattle.nfc_bench.specs.declared.entry.Answer.{Answer as Said}
-use Rattle.nfc_bench.specs.declared.entry.Answer.TheVariants.{Done, Message, NotNdef, Version, NoRead, Sectors, BadSize, NoMessageTlv, BadTlv}
+use Rattle.nfc_bench.specs.declared.entry.Answer.TheVariants.{Done, Message, NotNdef, Version, NoRead, Sectors, BadSize, NoMessageTlv, BadTlv, Found, Disturbed, FieldLost, NotFound, SixBad}
 use Rattle.nfc_bench.specs.declared.entry.Entry.{Entry}
 
 -- HEX: upper-case digits, two a byte; `-` for no bytes
@@ -57,6 +57,11 @@ answer_text Sectors = codes "sectors"
 answer_text BadSize = codes "bad size"
 answer_text NoMessageTlv = codes "no message tlv"
 answer_text BadTlv = codes "bad tlv"
+answer_text Disturbed = codes "disturbed"
+answer_text FieldLost = codes "field lost"
+answer_text NotFound = codes "not found"
+answer_text SixBad = codes "six bad"
+answer_text (Found devices crowd) = []
 answer_text (Message message writable) = codes "message " ++ hex_text message ++ codes " " ++ access_text writable
 
 -- a line of the report, for line n of the script

@@ -7,7 +7,11 @@ abbrev pub CutsWord : List ℕ → List ℕ → Option (List ℕ) → Type 0
 CutsWord text word None = words_of text ≡ word ∷ []
 CutsWord text word (Some rest) = words_of text ≡ word ∷ words_of rest
 
--- the words aren't three
+-- it isn't one word
+abbrev pub NotOne : List (List ℕ) → Type 0
+NotOne ws = (a : List ℕ) → ws ≡ a ∷ [] → ⊥
+
+-- ... or three
 abbrev pub NotThree : List (List ℕ) → Type 0
 NotThree ws = (a b c : List ℕ) → ws ≡ a ∷ b ∷ c ∷ [] → ⊥
 

@@ -4,7 +4,8 @@ ghost use Rattle.std.specs.Prelude.{◌≡◌, ◌≢◌, ◌↔◌, ◌+◌, �
 ghost use Rattle.std.specs.List.{AllByRecursion};
 ghost use Rattle.nfc_base.specs.declared.frame.Tech.TheVariants as techs;
 ghost use Rattle.nfc_bench.specs.Device.{device_tech};
-ghost use Rattle.nfc_bench.specs.Legal.{IsAccepted, most_devices, device_with, memory_of, state_of};
+ghost use Rattle.nfc_bench.specs.Legal.{IsAccepted, most_devices, memory_of, state_of};
+ghost use Rattle.nfc_bench.specs.Placed.{device_with};
 ghost use Rattle.nfc_bench.specs.Polling.{bytes_of};
 ghost use Rattle.t5t_tag.specs.Store.{id_size};
 ghost use Rattle.tag_reader.specs.declared.how.How.TheVariants as hows;

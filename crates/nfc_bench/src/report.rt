@@ -102,6 +102,11 @@ fn push_answer(alloc: Global, text: &mut Vec<u8>, answer: &Answer) -> Result<(),
         Answer::BadSize => text.extend_from_slice(b"bad size".as_slice()),
         Answer::NoMessageTlv => text.extend_from_slice(b"no message tlv".as_slice()),
         Answer::BadTlv => text.extend_from_slice(b"bad tlv".as_slice()),
+        Answer::Disturbed => text.extend_from_slice(b"disturbed".as_slice()),
+        Answer::FieldLost => text.extend_from_slice(b"field lost".as_slice()),
+        Answer::NotFound => text.extend_from_slice(b"not found".as_slice()),
+        Answer::SixBad => text.extend_from_slice(b"six bad".as_slice()),
+        Answer::Found { .. } => Ok(()),
         Answer::Message { message, writable } => {
             text.extend_from_slice(b"message ".as_slice())?;
             push_hex(alloc, text, message.as_slice())?;

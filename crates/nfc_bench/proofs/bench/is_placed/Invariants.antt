@@ -1,5 +1,5 @@
 use Rattle.std.proofs.Common.{◌≡◌, drop}
-use Rattle.nfc_bench.specs.Legal.{device_with}
+use Rattle.nfc_bench.specs.Placed.{device_with}
 use Rattle.nfc_bench.proofs.bench.is_placed.Given as goal
 
 abbrev pub invariant-loop-device : goal.invariant-loop-device

@@ -1,5 +1,5 @@
 use Rattle.std.proofs.Common.{IsSome, drop}
-use Rattle.nfc_bench.specs.Legal.{device_with}
+use Rattle.nfc_bench.specs.Placed.{device_with}
 use Rattle.nfc_bench.proofs.polling.place_of.Given as goal
 
 abbrev pub invariant-loop-place : goal.invariant-loop-place
