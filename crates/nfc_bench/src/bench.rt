@@ -214,6 +214,7 @@ fn run_command(
             size,
             head,
         } => place_t5(alloc, field, *id, *blocks, *size, head.as_slice()),
+        Command::Fates(_) | Command::Remove { .. } | Command::Find => Err(ObeyFault::Refused),
         Command::Read { id } => read_tag(alloc, field, id),
     }
 }
