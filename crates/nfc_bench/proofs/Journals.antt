@@ -99,10 +99,6 @@ pub adds_of : (old new : List Entry) (n : ℕ) (c : Command) → Obeys old new n
 adds_of old new n Skip p other = absurd (other refl)
 adds_of old new n c p other = p
 
-pub obeys_of : (old new : List Entry) (n : ℕ) (c : Command) → Adds old new n c → (c ≡ Skip → ⊥) → Obeys old new n c
-obeys_of old new n Skip p other = absurd (other refl)
-obeys_of old new n c p other = p
-
 pub report_more : (quiet : Bool) (js new es : List Entry) → new ≡ js ++ es → report_text quiet js ++ report_text quiet es ≡ report_text quiet new
 report_more quiet js new es is = sym (flat_map-append (entry_text quiet) js es) ∙ ap (report_text quiet) (sym is)
 

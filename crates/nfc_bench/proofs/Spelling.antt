@@ -1,5 +1,5 @@
 -- No line spells two commands.
-use Rattle.std.proofs.Common.{◌≡◌, ◌≢◌, ℕ, zero, suc, ◌<◌, ◌≤◌, ◌⊎◌, inl, inr, List, [], ◌∷◌, map, length, get_or, true, false, if◌then◌else◌, Ok, refl, sym, ◌∙◌, ap, subst, arith}
+use Rattle.std.proofs.Common.{◌≡◌, ◌≢◌, ℕ, zero, suc, ◌<◌, ◌≤◌, inl, inr, List, [], ◌∷◌, map, length, get_or, true, false, if◌then◌else◌, Ok, refl, sym, ◌∙◌, ap, subst, arith}
 use Rattle.std.specs.Prelude.{codes}
 use Rattle.std.proofs.lemmas.Fmt.{decimal_injective}
 use Rattle.nfc_base.specs.declared.event.Fate.{Fate}
@@ -10,6 +10,9 @@ use Rattle.nfc_bench.specs.declared.command.Command.{Command}
 use Rattle.nfc_bench.specs.declared.command.Command.TheVariants.{Skip, Fates, PlaceT2, PlaceT5, Remove, Find, Read}
 use Rattle.nfc_bench.specs.declared.command.DeviceId.{DeviceId}
 use Rattle.nfc_bench.specs.declared.command.DeviceId.TheVariants.{A, V}
+use Rattle.nfc_bench.specs.declared.script.words.CommandName.{CommandName}
+use Rattle.nfc_bench.specs.declared.script.words.CommandName.TheVariants as names
+use Rattle.nfc_bench.specs.Words.{name_text}
 use Rattle.nfc_bench.specs.Script.{words_of, onto_first, is_skipped, SpellsHex, SpellsIdent, SpellsIdV, SpellsId, SpellsBlocks, SpellsSize, fate_letter, SpellsFates, SpelledBy, Spells, least_blocks, least_blocks_v}
 use Rattle.nfca_poll.specs.Ident.{IsIdent}
 use Rattle.t5t_tag.specs.Store.{IsBlockSize}
@@ -112,7 +115,19 @@ spelled_one ws (PlaceT5 i m k g) (PlaceT5 j n l h) (u, v, w, x, e, p, r, t, s) (
     let sizes : k ≡ l = size_one w' k l (let P : List ℕ → Type 0 = λ t. SpellsSize t k in subst P third t) t' in
     let heads : g ≡ h = hex_one x' g h (let P : List ℕ → Type 0 = λ t. SpellsHex t g in subst P fourth s) s' in
     cc
+spelled_one ws Skip d p q = absurd p
+spelled_one ws c Skip p q = absurd q
 spelled_one ws c d p q = absurd cc
+
+-- a line of several words that begins with no name spells nothing
+pub nameless : (w : List ℕ) (ws : List (List ℕ)) → ((n : CommandName) → w ≢ name_text n) → ws ≢ [] → (c : Command) → SpelledBy (w ∷ ws) c → ⊥
+nameless w ws none some Skip p = p
+nameless w ws none some (Fates fates) (f, e, p) = none names.Fates (let h : w ≡ codes "fates" = cc in h)
+nameless w ws none some (PlaceT2 id n head) (i, b, d, e, p, q, r) = none names.Place (let h : w ≡ codes "place" = cc in h)
+nameless w ws none some (PlaceT5 id n k head) (i, b, s, d, e, p, q, t, r) = none names.Place (let h : w ≡ codes "place" = cc in h)
+nameless w ws none some (Remove id) (i, e, p) = none names.Remove (let h : w ≡ codes "remove" = cc in h)
+nameless w ws none some Find e = some (let h : ws ≡ [] = cc in h)
+nameless w ws none some (Read id) (i, e, p) = none names.Read (let h : w ≡ codes "read" = cc in h)
 
 -- three words of which the last is no HEX place no tag
 pub head_refused : (ws : List (List ℕ)) (i b h : List ℕ) → ws ≡ i ∷ b ∷ h ∷ [] → ((bytes : List ℕ) → SpellsHex h bytes → ⊥)
@@ -120,6 +135,7 @@ pub head_refused : (ws : List (List ℕ)) (i b h : List ℕ) → ws ≡ i ∷ b 
 head_refused ws i b h e none (PlaceT2 id n head) (i', b', h', e', p, q, r) =
     let same : h' ≡ h = cc in
     none head (let P : List ℕ → Type 0 = λ t. SpellsHex t head in subst P same r)
+head_refused ws i b h e none Skip p = p
 head_refused ws i b h e none c p = cc
 
 -- nor do four of which the last is none
@@ -128,6 +144,7 @@ pub four_refused : (ws : List (List ℕ)) (i b s h : List ℕ) → ws ≡ i ∷ 
 four_refused ws i b s h e none (PlaceT5 id n k head) (i', b', s', h', e', p, q, t, r) =
     let same : h' ≡ h = cc in
     none head (let P : List ℕ → Type 0 = λ t. SpellsHex t head in subst P same r)
+four_refused ws i b s h e none Skip p = p
 four_refused ws i b s h e none c p = cc
 
 -- a line that is skipped spells nothing else

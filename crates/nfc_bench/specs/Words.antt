@@ -1,5 +1,7 @@
 -- Words cut off the front of a text.
-use Rattle.std.specs.Prelude.{◌≡◌, ℕ, List, [], ◌∷◌, Option, Some, None}
+use Rattle.std.specs.Prelude.{◌≡◌, ℕ, List, [], ◌∷◌, codes, Option, Some, None}
+use Rattle.nfc_bench.specs.declared.script.words.CommandName.{CommandName}
+use Rattle.nfc_bench.specs.declared.script.words.CommandName.TheVariants as names
 use Rattle.nfc_bench.specs.Script.{words_of}
 
 -- the first word, and the text behind its space, where there is one
@@ -18,3 +20,10 @@ NotThree ws = (a b c : List ℕ) → ws ≡ a ∷ b ∷ c ∷ [] → ⊥
 -- ... or four
 abbrev pub NotFour : List (List ℕ) → Type 0
 NotFour ws = (a b c d : List ℕ) → ws ≡ a ∷ b ∷ c ∷ d ∷ [] → ⊥
+
+-- the first word of a line of several words
+abbrev pub name_text : CommandName → List ℕ
+name_text names.Fates = codes "fates"
+name_text names.Place = codes "place"
+name_text names.Remove = codes "remove"
+name_text names.Read = codes "read"

@@ -11,17 +11,15 @@ use crate::command::Command;
 use std::alloc::{AllocError, Global};
 use thiserror::Error;
 use words::{
-    cut_word, device_word, fates_word, four_words, hex_word, ident_word, ident_word_v, number_word,
-    only_word, three_words,
+    CommandName, blocks_word, cut_word, device_word, fates_word, four_words, hex_word, ident_word,
+    ident_word_v, name_of, only_word, size_word, three_words,
 };
 
-/// The blocks of a tag that may be placed (this project's limits): the header of a Type 2 tag has four, a Type 5 tag has
-/// one, and a read names a block in one byte.
+/// The fewest blocks of a tag that may be placed (this project's limits): the header of a Type 2 tag has four, a Type 5
+/// tag has one.
 const LEAST_BLOCKS: u16 = 4;
 
 const LEAST_BLOCKS_V: u16 = 1;
-
-const MOST_BLOCKS: u16 = 256;
 
 /// Why a line gives no command.
 #[derive(Clone, Copy, Debug, PartialEq, Eq, Error)]
@@ -69,6 +67,7 @@ fn is_skipped(line: &[u8]) -> bool
 }
 
 /// A line that isn't skipped.
+#[tactic(auto, using(crate::proofs::Spelling::nameless, crate::proofs::Words::words_not_nil))]
 fn command_line(alloc: Global, line: &[u8]) -> Result<Command, LineFault>
     ensures ok { IfOk result (λ c. SpelledBy (words_of line.now) c) }
     ensures refused { IsErrOf result LineFault.Refused → (c : Command) → SpelledBy (words_of line.now) c → ⊥ }
@@ -77,12 +76,12 @@ fn command_line(alloc: Global, line: &[u8]) -> Result<Command, LineFault>
     let Some(rest) = rest else {
         return lone_word(name);
     };
-    match name {
-        b"fates" => fates_line(alloc, rest),
-        b"place" => place_line(alloc, rest),
-        b"remove" => remove_line(alloc, rest),
-        b"read" => read_line(alloc, rest),
-        _ => Err(LineFault::Refused),
+    match name_of(name) {
+        Some(CommandName::Fates) => fates_line(alloc, rest),
+        Some(CommandName::Place) => place_line(alloc, rest),
+        Some(CommandName::Remove) => remove_line(alloc, rest),
+        Some(CommandName::Read) => read_line(alloc, rest),
+        None => Err(LineFault::Refused),
     }
 }
 
@@ -156,7 +155,7 @@ fn place_line(alloc: Global, rest: &[u8]) -> Result<Command, LineFault>
 }
 
 /// `place t2 ID BLOCKS HEX`, behind its second word.
-#[tactic(auto, using(std::proofs::lemmas::Fmt::decimal_injective, crate::proofs::Spelling::head_refused))]
+#[tactic(auto, using(crate::proofs::Spelling::head_refused))]
 fn place_t2(alloc: Global, rest: &[u8]) -> Result<Command, LineFault>
     ensures ok { IfOk result (λ c. SpelledBy (codes "place" ∷ codes "t2" ∷ words_of rest.now) c) }
     ensures refused { IsErrOf result LineFault.Refused → (c : Command) → SpelledBy (codes "place" ∷ codes "t2" ∷ words_of rest.now) c → ⊥ }
@@ -167,7 +166,7 @@ fn place_t2(alloc: Global, rest: &[u8]) -> Result<Command, LineFault>
     let Some(id) = ident_word(alloc, id_text)? else {
         return Err(LineFault::Refused);
     };
-    let Some(blocks @ LEAST_BLOCKS..=MOST_BLOCKS) = number_word(alloc, blocks_text)? else {
+    let Some(blocks) = blocks_word(alloc, blocks_text, LEAST_BLOCKS)? else {
         return Err(LineFault::Refused);
     };
     match hex_word(alloc, head_text)? {
@@ -177,7 +176,7 @@ fn place_t2(alloc: Global, rest: &[u8]) -> Result<Command, LineFault>
 }
 
 /// `place t5 ID BLOCKS SIZE HEX`, behind its second word.
-#[tactic(auto, using(std::proofs::lemmas::Fmt::decimal_injective, crate::proofs::Spelling::four_refused))]
+#[tactic(auto, using(crate::proofs::Spelling::four_refused))]
 fn place_t5(alloc: Global, rest: &[u8]) -> Result<Command, LineFault>
     ensures ok { IfOk result (λ c. SpelledBy (codes "place" ∷ codes "t5" ∷ words_of rest.now) c) }
     ensures refused { IsErrOf result LineFault.Refused → (c : Command) → SpelledBy (codes "place" ∷ codes "t5" ∷ words_of rest.now) c → ⊥ }
@@ -188,17 +187,17 @@ fn place_t5(alloc: Global, rest: &[u8]) -> Result<Command, LineFault>
     let Some(id) = ident_word_v(alloc, id_text)? else {
         return Err(LineFault::Refused);
     };
-    let Some(blocks @ LEAST_BLOCKS_V..=MOST_BLOCKS) = number_word(alloc, blocks_text)? else {
+    let Some(blocks) = blocks_word(alloc, blocks_text, LEAST_BLOCKS_V)? else {
         return Err(LineFault::Refused);
     };
-    let Some(size @ (4 | 8 | 16 | 32)) = number_word(alloc, size_text)? else {
+    let Some(size) = size_word(alloc, size_text)? else {
         return Err(LineFault::Refused);
     };
     match hex_word(alloc, head_text)? {
         Some(head) => Ok(Command::PlaceT5 {
             id,
             blocks,
-            size: size as u8,
+            size,
             head,
         }),
         None => Err(LineFault::Refused),

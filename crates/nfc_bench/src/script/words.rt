@@ -4,9 +4,10 @@ ghost use Rattle.std.specs.Prelude.{◌≡◌, ◌≢◌, ◌<◌, ◌^◌, ℕ,
 ghost use Rattle.nfc_base.specs.declared.event.Fate.{Fate as Becomes};
 ghost use Rattle.std.specs.Option.{option_copied};
 ghost use Rattle.std.specs.Fmt.{decimal};
-ghost use Rattle.nfc_bench.specs.Script.{words_of, SpellsHex, SpellsIdent, SpellsIdV, SpellsId, fate_letter, SpellsFates};
+ghost use Rattle.nfc_bench.specs.Script.{words_of, SpellsHex, SpellsIdent, SpellsIdV, SpellsId, SpellsBlocks, SpellsSize, fate_letter, SpellsFates};
 ghost use Rattle.nfc_bench.specs.declared.command.DeviceId.{DeviceId as Named};
-ghost use Rattle.nfc_bench.specs.Words.{CutsWord, NotOne, NotThree, NotFour};
+ghost use Rattle.nfc_bench.specs.declared.script.words.CommandName.{CommandName as Names};
+ghost use Rattle.nfc_bench.specs.Words.{CutsWord, NotOne, NotThree, NotFour, name_text};
 
 use crate::command::DeviceId;
 use hex::FromHexError;
@@ -16,6 +17,31 @@ use std::alloc::{AllocError, Global};
 
 /// How many fates a line may have (this project's limit).
 const MOST_FATES: usize = 4000;
+
+/// The most blocks of a tag (this project's limit): a read names a block in one byte.
+const MOST_BLOCKS: u16 = 256;
+
+/// The first word of a line of several words.
+#[derive(Clone, Copy, Debug, PartialEq, Eq)]
+pub enum CommandName {
+    Fates,
+    Place,
+    Remove,
+    Read,
+}
+
+/// The name that a word is.
+pub fn name_of(word: &[u8]) -> Option<CommandName>
+    ensures { MatchOption result ((n : Names) → word.now ≢ name_text n) (λ n. word.now ≡ name_text n) }
+{
+    match word {
+        b"fates" => Some(CommandName::Fates),
+        b"place" => Some(CommandName::Place),
+        b"remove" => Some(CommandName::Remove),
+        b"read" => Some(CommandName::Read),
+        _ => None,
+    }
+}
 
 /// The first word, and what stands behind its space.
 #[tactic(auto, using(crate::proofs::Words::words_cut, crate::proofs::Words::words_end))]
@@ -139,6 +165,28 @@ pub fn number_word(alloc: Global, word: &[u8]) -> Result<Option<u16>, AllocError
         Ok(Some(n))
     } else {
         Ok(None)
+    }
+}
+
+/// The number of blocks that a word spells, from a limit on, if it does.
+#[tactic(auto, using(std::proofs::lemmas::Fmt::decimal_injective))]
+pub fn blocks_word(alloc: Global, word: &[u8], least: u16) -> Result<Option<u16>, AllocError>
+    ensures { IfOk result (λ o. MatchOption o ((n : ℕ) → SpellsBlocks least word.now n → ⊥) (λ n. SpellsBlocks least word.now n)) }
+{
+    match number_word(alloc, word)? {
+        Some(n) if least <= n && n <= MOST_BLOCKS => Ok(Some(n)),
+        _ => Ok(None),
+    }
+}
+
+/// The size of a Type 5 tag's blocks that a word spells, if it does.
+#[tactic(auto, using(std::proofs::lemmas::Fmt::decimal_injective))]
+pub fn size_word(alloc: Global, word: &[u8]) -> Result<Option<u8>, AllocError>
+    ensures { IfOk result (λ o. MatchOption o ((n : ℕ) → SpellsSize word.now n → ⊥) (λ n. SpellsSize word.now n)) }
+{
+    match number_word(alloc, word)? {
+        Some(n @ (4 | 8 | 16 | 32)) => Ok(Some(n as u8)),
+        _ => Ok(None),
     }
 }
 
