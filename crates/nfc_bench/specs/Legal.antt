@@ -80,25 +80,39 @@ pub record MayPlaceT5 (s : State) (id : List ℕ) (blocks size : ℕ) (head : Li
   pub fits : length head ≤ size * blocks
   pub store : IsT5Store size (memory_of (size * blocks) head)
 
--- The conditions of a command beside its grammar. No state accepts `fates`, `remove` or `find` yet.
+-- a device with this identifier is placed
+abbrev pub IsPlaced : State → DeviceId → Type 0
+IsPlaced s id = IsSome (device_with (bytes_of id) s.world.listeners)
+
+-- The conditions of a command beside its grammar. No state accepts `fates` or `find` yet.
 abbrev pub IsAccepted : State → Command → Type 0
 IsAccepted s Skip = Unit {0}
 IsAccepted s (Fates fates) = ⊥
 IsAccepted s (PlaceT2 id blocks head) = MayPlaceT2 s id blocks head
 IsAccepted s (PlaceT5 id blocks size head) = MayPlaceT5 s id blocks size head
-IsAccepted s (Remove id) = ⊥
+IsAccepted s (Remove id) = IsPlaced s id
 IsAccepted s Find = ⊥
-IsAccepted s (Read id) = IsSome (device_with (bytes_of id) s.world.listeners)
+IsAccepted s (Read id) = IsPlaced s id
 
 -- the state with one more device
 abbrev pub with_device : State → Device → State
 with_device s d = record { world = record { lit = s.world.lit; listeners = s.world.listeners ++ d ∷ [] }; queue = s.queue }
 
--- What a command itself changes, before anything is sent: fates are appended, and tags are placed.
+-- the devices without the first that has an identifier; the others stay in their order
+abbrev pub without : List ℕ → List Device → List Device
+without id [] = []
+without id (d ∷ ds) = if pointwise nat_eq (device_id d) id then ds else d ∷ without id ds
+
+-- the state with that device taken away
+abbrev pub without_device : State → DeviceId → State
+without_device s id = record { world = record { lit = s.world.lit; listeners = without (bytes_of id) s.world.listeners }; queue = s.queue }
+
+-- What a command itself changes, before anything is sent: fates are appended, devices are placed and taken away.
 abbrev pub changed : State → Command → State
 changed s (Fates fates) = record { world = s.world; queue = s.queue ++ fates }
 changed s (PlaceT2 id blocks head) = with_device s (new_t2 id (memory_of (4 * blocks) head))
 changed s (PlaceT5 id blocks size head) = with_device s (new_t5 id size (memory_of (size * blocks) head))
+changed s (Remove id) = without_device s id
 changed s c = s
 
 -- What a command asks of its tag, from the first command of the tag to the last. Only a read asks anything.
