@@ -60,26 +60,34 @@ pub record MayPlaceT5 (s : State) (id : List ℕ) (blocks size : ℕ) (head : Li
   pub fits : length head ≤ size * blocks
   pub store : IsT5Store size (memory_of (size * blocks) head)
 
+-- a device with this identifier is placed
+abbrev pub IsPlaced : State → DeviceId → Type 0
+IsPlaced s id = IsSome (device_with (bytes_of id) s.world.listeners)
+
 -- The conditions of a command beside its grammar. Only what is placed can be taken away.
 abbrev pub IsAccepted : State → Command → Type 0
 IsAccepted s Skip = Unit {0}
 IsAccepted s (Fates fates) = Unit {0}
 IsAccepted s (PlaceT2 id blocks head) = MayPlaceT2 s id blocks head
 IsAccepted s (PlaceT5 id blocks size head) = MayPlaceT5 s id blocks size head
-IsAccepted s (Remove id) = IsSome (device_with (bytes_of id) s.world.listeners)
+IsAccepted s (Remove id) = IsPlaced s id
 IsAccepted s Find = Unit {0}
 IsAccepted s (Read id) = Unit {0}
 
--- the state with other devices
-abbrev pub with_devices : State → List Device → State
-with_devices s ds = record { world = record { lit = s.world.lit; listeners = ds }; queue = s.queue }
+-- the state with one more device
+abbrev pub with_device : State → Device → State
+with_device s d = record { world = record { lit = s.world.lit; listeners = s.world.listeners ++ d ∷ [] }; queue = s.queue }
 
--- What a command itself changes, before anything is sent: fates are appended, and devices placed and taken away.
+-- the state with the device that has an identifier taken away
+abbrev pub without_device : State → DeviceId → State
+without_device s id = record { world = record { lit = s.world.lit; listeners = without (bytes_of id) s.world.listeners }; queue = s.queue }
+
+-- What a command itself changes, before anything is sent: fates are appended, devices are placed and taken away.
 abbrev pub changed : State → Command → State
 changed s (Fates fates) = record { world = s.world; queue = s.queue ++ fates }
-changed s (PlaceT2 id blocks head) = with_devices s (s.world.listeners ++ new_t2 id (memory_of (4 * blocks) head) ∷ [])
-changed s (PlaceT5 id blocks size head) = with_devices s (s.world.listeners ++ new_t5 id size (memory_of (size * blocks) head) ∷ [])
-changed s (Remove id) = with_devices s (without (bytes_of id) s.world.listeners)
+changed s (PlaceT2 id blocks head) = with_device s (new_t2 id (memory_of (4 * blocks) head))
+changed s (PlaceT5 id blocks size head) = with_device s (new_t5 id size (memory_of (size * blocks) head))
+changed s (Remove id) = without_device s id
 changed s c = s
 
 -- What a command asks of its tag, from the first command of the tag to the last. Only a read of a placed one asks anything.

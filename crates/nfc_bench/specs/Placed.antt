@@ -9,7 +9,7 @@ abbrev pub device_with : List ℕ → List Device → Option Device
 device_with id [] = None
 device_with id (d ∷ ds) = if pointwise nat_eq (device_id d) id then Some d else device_with id ds
 
--- the devices without the first one that has an identifier
+-- the devices without the first that has an identifier; the others stay in their order
 abbrev pub without : List ℕ → List Device → List Device
 without id [] = []
 without id (d ∷ ds) = if pointwise nat_eq (device_id d) id then ds else d ∷ without id ds

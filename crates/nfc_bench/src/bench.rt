@@ -138,6 +138,22 @@ fn place_t5(
     }
 }
 
+/// Takes a device away.
+fn remove_device(field: &mut Field<Device>, id: &DeviceId) -> Result<Answer, ObeyFault>
+    requires { IsIdle field.old }
+    ensures ok { IfOk result (λ a. Obeyed field.old field.new (Command.Remove id.now) a) }
+    ensures refused { IsErrOf result ObeyFault.Refused → (field.new ≡ field.old) }
+    ensures cause { IsErrOf result ObeyFault.Refused → IsAccepted (state_at field.old) (Command.Remove id.now) → ⊥ }
+{
+    let bytes = id.bytes();
+    if !is_placed(field.listeners(), bytes) {
+        return Err(ObeyFault::Refused);
+    }
+    let place = place_of(field.listeners(), bytes);
+    let _ = field.take_out(place);
+    Ok(Answer::Done)
+}
+
 /// The bytes of an identifier, and how a tag with one is read.
 fn named(id: &DeviceId) -> (&[u8], How)
     ensures bytes { result.0.now ≡ bytes_of id.now }
@@ -156,22 +172,6 @@ fn type_5(id: [u8; 8]) -> How
     ensures size { length id ≡ id_size }
 {
     How::T5(id)
-}
-
-/// Takes a device away. What it held is given up.
-fn remove(field: &mut Field<Device>, id: &DeviceId) -> Result<Answer, ObeyFault>
-    requires { IsIdle field.old }
-    ensures ok { IfOk result (λ a. Obeyed field.old field.new (Command.Remove id.now) a) }
-    ensures refused { IsErrOf result ObeyFault.Refused → (field.new ≡ field.old) }
-    ensures cause { IsErrOf result ObeyFault.Refused → IsAccepted (state_at field.old) (Command.Remove id.now) → ⊥ }
-{
-    let (bytes, _) = named(id);
-    if !is_placed(field.listeners(), bytes) {
-        return Err(ObeyFault::Refused);
-    }
-    let place = place_of(field.listeners(), bytes);
-    let _ = field.take_out(place);
-    Ok(Answer::Done)
 }
 
 /// Appends fates for transmissions to come.
@@ -254,7 +254,7 @@ fn run_command(
             size,
             head,
         } => place_t5(alloc, field, *id, *blocks, *size, head.as_slice()),
-        Command::Remove { id } => remove(field, id),
+        Command::Remove { id } => remove_device(field, id),
         Command::Find => find(alloc, field),
         Command::Read { id } => read_tag(alloc, field, id),
     }

@@ -1,6 +1,7 @@
 //! What a line of a script asks for.
 
 ghost use Rattle.std.specs.Prelude.{◌≡◌, IfOk};
+ghost use Rattle.nfc_bench.specs.Polling.{bytes_of};
 
 use nfc_base::{Fate, Items};
 use nfca_poll::Ident;
@@ -14,6 +15,15 @@ pub enum DeviceId {
 }
 
 impl DeviceId {
+    pub fn bytes(&self) -> &[u8]
+        ensures { result.now ≡ bytes_of self.now }
+    {
+        match self {
+            DeviceId::A(id) => id.view(),
+            DeviceId::V(id) => id.as_slice(),
+        }
+    }
+
     /// The same identifier again. It takes no memory.
     pub fn copy(&self) -> DeviceId
         ensures { result ≡ self.now }

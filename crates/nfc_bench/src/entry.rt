@@ -3,7 +3,7 @@
 use crate::command::{Command, DeviceId};
 use nfc_base::{Event, Items};
 
-/// What a search tells that a device is.
+/// What kind of device was found.
 #[derive(Clone, Copy, Debug, PartialEq, Eq)]
 pub enum SeenKind {
     T2,
@@ -12,7 +12,7 @@ pub enum SeenKind {
     Peer,
 }
 
-/// A device that a search found.
+/// A device that was found.
 #[derive(Debug, Drop, PartialEq)]
 pub struct Seen {
     pub id: DeviceId,
@@ -24,7 +24,7 @@ pub struct Seen {
 pub enum Answer {
     /// It is done, and there is nothing to tell.
     Done,
-    /// The devices that a search found, and whether there are several Type 5 tags, which it doesn't list.
+    /// The devices that were found, and whether Type 5 tags stand in a crowd, which isn't among them.
     Found { devices: Items<Seen>, crowd: bool },
     /// The message that a tag holds, and whether it may be written.
     Message { message: Items<u8>, writable: bool },
@@ -38,11 +38,13 @@ pub enum Answer {
     /// Its area holds no NDEF TLV, or a TLV before one isn't whole.
     NoMessageTlv,
     BadTlv,
-    /// Each of the rounds, or of the tries, met noise; the field was lost; no device with this identifier answered; six
-    /// bad receptions in one wait.
+    /// Noise ended each round of polling, or each of its tries.
     Disturbed,
+    /// The field went dark.
     FieldLost,
+    /// No device with this identifier was found.
     NotFound,
+    /// Nothing whole was heard in six tries.
     SixBad,
 }
 
