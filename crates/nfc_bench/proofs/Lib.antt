@@ -6,6 +6,8 @@ pub mod Placed
 pub mod Ours
 pub mod TagTwo
 pub mod TagFive
+pub mod Breaks
+pub mod BrokenWaits
 pub mod ReadingTags
 pub mod ReadingAir
 pub mod ReadingEnds

@@ -1,14 +1,16 @@
 -- What the frames of a read change of the devices: nothing that stays.
-use Rattle.std.proofs.Common.{◌≡◌, ℕ, zero, suc, List, [], ◌∷◌, ◌++◌, length, drop, Bool, true, false, ◌==◌, not, nat_lt, if◌then◌else◌, None, refl, ◌∙◌, ap, subst, arith}
+use Rattle.std.proofs.Common.{◌≡◌, ℕ, zero, suc, List, [], ◌∷◌, ◌++◌, length, drop, Bool, true, false, ◌==◌, not, nat_lt, if◌then◌else◌, None, refl, ◌∙◌, ap, subst}
 use Rattle.std.specs.Prelude.{map}
 use Rattle.std.specs.List.{AllByRecursion}
 use Rattle.nfc_base.specs.declared.event.Event.{Event}
 use Rattle.nfc_base.specs.declared.event.Event.TheVariants.{Reset, Request, Answer, Clash}
+use Rattle.nfc_base.specs.declared.event.Fate.{Fate}
+use Rattle.nfc_base.specs.declared.event.Fate.TheVariants.{Pass, Damage, Lose, Break}
 use Rattle.nfc_base.specs.declared.tag_link.AskFault.TheVariants.{SixBad}
 use Rattle.nfc_base.specs.Signal.{Signal}
-use Rattle.nfc_base.specs.Trace.{is_bad_in_wait, noise, other_than_pass}
+use Rattle.nfc_base.specs.Trace.{is_bad_in_wait}
 use Rattle.air_core.specs.World.{World, stepped_by, requested, came_back}
-use Rattle.air_core.specs.Conversation.{Note, Lit, Got, Lost, LightUp, Asks, receptions, EachDue, queue_after, FatesFrom, replay}
+use Rattle.air_core.specs.Conversation.{Note, Lit, Got, Lost, Asks, receptions, EachDue, replay}
 use Rattle.air_core.specs.Waits.{Standing, Asking, Broken, Astray, stand, due_at, waits_next}
 use Rattle.nfca_poll.specs.Front.{Front, Off, Idle, Sleep, Ready, Active}
 use Rattle.t2t_tag.specs.Store.{T2Memory}
@@ -22,9 +24,11 @@ use Rattle.tag_reader.specs.Kinds.{command, first}
 use Rattle.nfc_bench.specs.Powered.{Powered}
 use Rattle.nfc_bench.specs.declared.device.Device.{Device}
 use Rattle.nfc_bench.specs.declared.device.Device.TheVariants.{T2, T5}
-use Rattle.nfc_bench.specs.Device.{devices, device_after}
+use Rattle.nfc_bench.specs.Device.{devices, device_after, device_darkened}
 use Rattle.nfc_bench.specs.Legal.{air}
 use Rattle.nfc_bench.specs.Phases.{kept}
+use Rattle.nfc_bench.proofs.BrokenWaits.{never_light}
+use Rattle.nfc_bench.proofs.TagTwo.{keeps_upper}
 
 -- a READ leaves a Type 5 tag as it is
 obeyed_leaves : (t : T5State) (rest : List ℕ) → (obeyed t read_code rest).after ≡ t
@@ -107,38 +111,33 @@ due_all P (Asking bad (c ∷ cs)) f all e = (let same : c ≡ f = cc in subst P 
 due_all P (Broken x cs) f all e = absurd cc
 due_all P Astray f all e = absurd cc
 
-never_light : (s : Standing) → due_at s ≡ LightUp → ⊥
-never_light (Asking bad []) e = cc
-never_light (Asking bad (c ∷ cs)) e = cc
-never_light (Broken x cs) e = cc
-never_light Astray e = cc
+-- the dark takes nothing of a device that stays
+dark_keeps : (d : Device) → kept (device_darkened d) ≡ kept d
+dark_keeps (T2 d) = ap (λ u. kept (T2 (record { id = d.id; front = Off; upper = u }))) (keeps_upper d.front Off d.upper)
+dark_keeps (T5 p) = refl
+
+map_dark : (ls : List Device) → map kept (map device_darkened ls) ≡ map kept ls
+map_dark [] = refl
+map_dark (l ∷ ls) = ap (λ x. x ∷ map kept (map device_darkened ls)) (dark_keeps l) ∙ ap (λ xs. kept l ∷ xs) (map_dark ls)
+
+request_keeps : (how : How) (f : Signal) → IsRead how f → (w : World Device) (x : Fate) → map kept (requested devices w f x).listeners ≡ map kept w.listeners
+request_keeps how f is w Pass = map_keeps how f is w.listeners
+request_keeps how f is w Damage = refl
+request_keeps how f is w Lose = refl
+request_keeps how f is w Break = map_dark w.listeners
+
+back_keeps : (w : World Device) (x : Fate) → map kept (came_back devices w x).listeners ≡ map kept w.listeners
+back_keeps w Pass = refl
+back_keeps w Damage = refl
+back_keeps w Lose = refl
+back_keeps w Break = map_dark w.listeners
 
 pub events_keep : (how : How) (cs : List Signal) → AllByRecursion (IsRead how) cs → (w : World Device) (before es : List Event)
-    → EachDue (waits_next cs) before es → FatesFrom [] es → map kept (replay air w es).listeners ≡ map kept w.listeners
-events_keep how cs all w before [] due fates = refl
-events_keep how cs all w before (Reset ∷ es) due fates = absurd (never_light (stand 0 cs (receptions before)) due.0)
-events_keep how cs all w before (Request f x ∷ es) due fates =
-    events_keep how cs all (requested devices w f x) (before ++ Request f x ∷ []) es due.1 fates.1
-    ∙ ap (λ y. map kept (requested devices w f y).listeners) fates.0
-    ∙ map_keeps how f (due_all (IsRead how) (stand 0 cs (receptions before)) f (stand_all (IsRead how) 0 cs (receptions before) all) due.0) w.listeners
-events_keep how cs all w before (Answer g x ∷ es) due fates =
-    events_keep how cs all (came_back devices w x) (before ++ Answer g x ∷ []) es due fates.1
-    ∙ ap (λ y. map kept (came_back devices w y).listeners) fates.0
-events_keep how cs all w before (Clash g x ∷ es) due fates =
-    events_keep how cs all (came_back devices w x) (before ++ Clash g x ∷ []) es due fates.1
-    ∙ ap (λ y. map kept (came_back devices w y).listeners) fates.0
-
--- where no fate is left all passes, and none is left then
-pub no_noise : (es : List Event) → FatesFrom [] es → noise es ≡ 0
-no_noise [] fates = refl
-no_noise (Reset ∷ es) fates = no_noise es fates
-no_noise (Request f x ∷ es) fates = let passed : other_than_pass x ≡ 0 = ap other_than_pass fates.0 in omega (arith, passed, no_noise es fates.1)
-no_noise (Answer f x ∷ es) fates = let passed : other_than_pass x ≡ 0 = ap other_than_pass fates.0 in omega (arith, passed, no_noise es fates.1)
-no_noise (Clash f x ∷ es) fates = let passed : other_than_pass x ≡ 0 = ap other_than_pass fates.0 in omega (arith, passed, no_noise es fates.1)
-
-pub no_queue : (es : List Event) → queue_after [] es ≡ []
-no_queue [] = refl
-no_queue (Reset ∷ es) = no_queue es
-no_queue (Request f x ∷ es) = no_queue es
-no_queue (Answer f x ∷ es) = no_queue es
-no_queue (Clash f x ∷ es) = no_queue es
+    → EachDue (waits_next cs) before es → map kept (replay air w es).listeners ≡ map kept w.listeners
+events_keep how cs all w before [] due = refl
+events_keep how cs all w before (Reset ∷ es) due = absurd (never_light (stand 0 cs (receptions before)) due.0)
+events_keep how cs all w before (Request f x ∷ es) due =
+    events_keep how cs all (requested devices w f x) (before ++ Request f x ∷ []) es due.1
+    ∙ request_keeps how f (due_all (IsRead how) (stand 0 cs (receptions before)) f (stand_all (IsRead how) 0 cs (receptions before) all) due.0) w x
+events_keep how cs all w before (Answer g x ∷ es) due = events_keep how cs all (came_back devices w x) (before ++ Answer g x ∷ []) es due ∙ back_keeps w x
+events_keep how cs all w before (Clash g x ∷ es) due = events_keep how cs all (came_back devices w x) (before ++ Clash g x ∷ []) es due ∙ back_keeps w x
