@@ -6,6 +6,7 @@ pub mod Placed
 pub mod Ours
 pub mod Following
 pub mod SelectingCards
+pub mod SelectingAir
 pub mod SelectingKept
 pub mod TagTwo
 pub mod TagFive

@@ -98,15 +98,15 @@ ours = record { kind = device_kind; front = device_front; steps = steps }
 abbrev pub always : Device → Bool
 always d = true
 
-same_tech_woken : (l : Device) → devices.tech (devices.woken (devices.darkened l)) ≡ devices.tech l
+pub same_tech_woken : (l : Device) → devices.tech (devices.woken (devices.darkened l)) ≡ devices.tech l
 same_tech_woken (T2 d) = refl
 same_tech_woken (T5 p) = refl
 
-wakes_idle : (l : Device) → devices.tech l ≡ A → WakesIdle devices device_id device_kind device_front always l
+pub wakes_idle : (l : Device) → devices.tech l ≡ A → WakesIdle devices device_id device_kind device_front always l
 wakes_idle (T2 d) t = record { idle = refl; fresh = refl; same_id = refl; same_kind = refl }
 wakes_idle (T5 p) t = absurd cc
 
-steps_fresh : (l : Device) (f : Signal) (c : Call) → devices.tech l ≡ A → always l ≡ true → call_of f ≡ Calls c → StepsFresh devices device_id device_kind device_front always l f
+pub steps_fresh : (l : Device) (f : Signal) (c : Call) → devices.tech l ≡ A → always l ≡ true → call_of f ≡ Calls c → StepsFresh devices device_id device_kind device_front always l f
 steps_fresh (T2 d) f c t r e = record { step = step_at_call d f (no_command f c e); fresh = refl }
 steps_fresh (T5 p) f c t r e = absurd cc
 

@@ -1,5 +1,5 @@
 -- What stays of the devices while a reader polls: resets, calls, inventories and the dark change no device but in its state.
-use Rattle.std.proofs.Common.{◌≡◌, ℕ, List, [], ◌∷◌, ◌++◌, map, reverse, Option, Some, None, refl, sym, ◌∙◌, ap, subst}
+use Rattle.std.proofs.Common.{◌≡◌, List, [], ◌∷◌, ◌++◌, map, if◌then◌else◌, None, refl, sym, ◌∙◌, ap, subst}
 use Rattle.nfc_base.specs.declared.frame.Tech.TheVariants.{A, V}
 use Rattle.nfc_base.specs.declared.event.Event.{Event}
 use Rattle.nfc_base.specs.declared.event.Event.TheVariants.{Reset, Request, Answer, Clash}
@@ -21,7 +21,7 @@ use Rattle.nfc_bench.specs.declared.device.Device.TheVariants.{T2, T5}
 use Rattle.nfc_bench.specs.Device.{devices, t2_machine}
 use Rattle.nfc_bench.specs.Legal.{air}
 use Rattle.nfc_bench.specs.Phases.{Kept, kept}
-use Rattle.nfc_bench.proofs.SelectingCards.{call_goes}
+use Rattle.nfc_bench.proofs.SelectingCards.{carded, call_goes}
 
 -- a frame that changes no device but in its state
 abbrev pub IsHarmless : Signal → Type 0
@@ -44,11 +44,11 @@ dark_stays (Active starred) (Ready k other) u = refl
 dark_stays (Active starred) (Active other) u = refl
 
 pub kept_dark : (d : Device) → kept (devices.darkened d) ≡ kept d
-kept_dark (T2 d) = ap (λ (u : T2Memory). record { kept (T2 d) with store = u.store }) (dark_stays d.front Off d.upper)
+kept_dark (T2 d) = ap (λ u. kept (T2 (carded d.id d.front u))) (dark_stays d.front Off d.upper)
 kept_dark (T5 p) = refl
 
 pub kept_lit : (d : Device) → kept (devices.woken d) ≡ kept d
-kept_lit (T2 d) = ap (λ (u : T2Memory). record { kept (T2 d) with store = u.store }) (dark_stays d.front Idle d.upper)
+kept_lit (T2 d) = ap (λ u. kept (T2 (carded d.id d.front u))) (dark_stays d.front Idle d.upper)
 kept_lit (T5 p) = refl
 
 map_kept : (g : Device → Device) → ((d : Device) → kept (g d) ≡ kept d) → (ds : List Device) → map kept (map g ds) ≡ map kept ds
