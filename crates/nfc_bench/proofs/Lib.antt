@@ -4,6 +4,10 @@ pub mod Lines
 pub mod Placing
 pub mod Placed
 pub mod Ours
+pub mod Following
+pub mod SelectingCards
+pub mod SelectingAir
+pub mod SelectingKept
 pub mod TagTwo
 pub mod TagFive
 pub mod Breaks
@@ -11,12 +15,7 @@ pub mod BrokenWaits
 pub mod ReadingTags
 pub mod ReadingAir
 pub mod ReadingEnds
-pub mod SelectingTurns
 pub mod SelectingPlaces
-pub mod SelectingResets
-pub mod QuietTurns
-pub mod SelectingT2
-pub mod SelectingT5
 pub mod Legality
 pub mod Limits
 pub mod Chunks
