@@ -10,7 +10,6 @@ pub mod SelectingAir
 pub mod SelectingKept
 pub mod TagTwo
 pub mod TagFive
-pub mod Breaks
 pub mod BrokenWaits
 pub mod ReadingTags
 pub mod ReadingAir

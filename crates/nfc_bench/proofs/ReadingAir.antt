@@ -1,16 +1,11 @@
 -- What the frames of a read change of the devices: nothing that stays.
 use Rattle.std.proofs.Common.{◌≡◌, ℕ, zero, suc, List, [], ◌∷◌, ◌++◌, length, drop, Bool, true, false, ◌==◌, not, nat_lt, if◌then◌else◌, None, refl, ◌∙◌, ap, subst}
-use Rattle.std.specs.Prelude.{map}
 use Rattle.std.specs.List.{AllByRecursion}
-use Rattle.nfc_base.specs.declared.event.Event.{Event}
-use Rattle.nfc_base.specs.declared.event.Event.TheVariants.{Reset, Request, Answer, Clash}
-use Rattle.nfc_base.specs.declared.event.Fate.{Fate}
-use Rattle.nfc_base.specs.declared.event.Fate.TheVariants.{Pass, Damage, Lose, Break}
 use Rattle.nfc_base.specs.declared.tag_link.AskFault.TheVariants.{SixBad}
 use Rattle.nfc_base.specs.Signal.{Signal}
 use Rattle.nfc_base.specs.Trace.{is_bad_in_wait}
-use Rattle.air_core.specs.World.{World, stepped_by, requested, came_back}
-use Rattle.air_core.specs.Conversation.{Note, Lit, Got, Lost, Asks, receptions, EachDue, replay}
+use Rattle.air_core.specs.World.{stepped_by}
+use Rattle.air_core.specs.Conversation.{Note, Lit, Got, Lost, Asks}
 use Rattle.air_core.specs.Waits.{Standing, Asking, Broken, Astray, stand, due_at, waits_next}
 use Rattle.nfca_poll.specs.Front.{Front, Off, Idle, Sleep, Ready, Active}
 use Rattle.t2t_tag.specs.Store.{T2Memory}
@@ -24,11 +19,9 @@ use Rattle.tag_reader.specs.Kinds.{command, first}
 use Rattle.nfc_bench.specs.Powered.{Powered}
 use Rattle.nfc_bench.specs.declared.device.Device.{Device}
 use Rattle.nfc_bench.specs.declared.device.Device.TheVariants.{T2, T5}
-use Rattle.nfc_bench.specs.Device.{devices, device_after, device_darkened}
-use Rattle.nfc_bench.specs.Legal.{air}
+use Rattle.nfc_bench.specs.Device.{devices, device_after}
 use Rattle.nfc_bench.specs.Phases.{kept}
-use Rattle.nfc_bench.proofs.BrokenWaits.{never_light}
-use Rattle.nfc_bench.proofs.TagTwo.{keeps_upper}
+use Rattle.nfc_bench.proofs.SelectingKept.{IsHarmless}
 
 -- a READ leaves a Type 5 tag as it is
 obeyed_leaves : (t : T5State) (rest : List ℕ) → (obeyed t read_code rest).after ≡ t
@@ -80,12 +73,6 @@ pub all_reads : (how : How) (n : ℕ) → AllByRecursion (IsRead how) (first how
 all_reads how zero = tt
 all_reads how (suc n) = all_more (IsRead how) (first how n) (command how n) (all_reads how n) (n, refl)
 
-map_keeps : (how : How) (f : Signal) → IsRead how f → (ls : List Device) → map kept (map (λ l. stepped_by devices l f None) ls) ≡ map kept ls
-map_keeps how f is [] = refl
-map_keeps how f is (l ∷ ls) =
-    ap (λ x. x ∷ map kept (map (λ l. stepped_by devices l f None) ls)) (ap (λ g. kept (stepped_by devices l g None)) is.1 ∙ read_keeps how is.0 l)
-    ∙ ap (λ xs. kept l ∷ xs) (map_keeps how f is ls)
-
 -- what is due in a wait is one of the commands
 abbrev AllLeft : (Signal → Type 0) → Standing → Type 0
 AllLeft P (Asking bad cs) = AllByRecursion P cs
@@ -111,33 +98,8 @@ due_all P (Asking bad (c ∷ cs)) f all e = (let same : c ≡ f = cc in subst P 
 due_all P (Broken x cs) f all e = absurd cc
 due_all P Astray f all e = absurd cc
 
--- the dark takes nothing of a device that stays
-dark_keeps : (d : Device) → kept (device_darkened d) ≡ kept d
-dark_keeps (T2 d) = ap (λ u. kept (T2 (record { id = d.id; front = Off; upper = u }))) (keeps_upper d.front Off d.upper)
-dark_keeps (T5 p) = refl
-
-map_dark : (ls : List Device) → map kept (map device_darkened ls) ≡ map kept ls
-map_dark [] = refl
-map_dark (l ∷ ls) = ap (λ x. x ∷ map kept (map device_darkened ls)) (dark_keeps l) ∙ ap (λ xs. kept l ∷ xs) (map_dark ls)
-
-request_keeps : (how : How) (f : Signal) → IsRead how f → (w : World Device) (x : Fate) → map kept (requested devices w f x).listeners ≡ map kept w.listeners
-request_keeps how f is w Pass = map_keeps how f is w.listeners
-request_keeps how f is w Damage = refl
-request_keeps how f is w Lose = refl
-request_keeps how f is w Break = map_dark w.listeners
-
-back_keeps : (w : World Device) (x : Fate) → map kept (came_back devices w x).listeners ≡ map kept w.listeners
-back_keeps w Pass = refl
-back_keeps w Damage = refl
-back_keeps w Lose = refl
-back_keeps w Break = map_dark w.listeners
-
-pub events_keep : (how : How) (cs : List Signal) → AllByRecursion (IsRead how) cs → (w : World Device) (before es : List Event)
-    → EachDue (waits_next cs) before es → map kept (replay air w es).listeners ≡ map kept w.listeners
-events_keep how cs all w before [] due = refl
-events_keep how cs all w before (Reset ∷ es) due = absurd (never_light (stand 0 cs (receptions before)) due.0)
-events_keep how cs all w before (Request f x ∷ es) due =
-    events_keep how cs all (requested devices w f x) (before ++ Request f x ∷ []) es due.1
-    ∙ request_keeps how f (due_all (IsRead how) (stand 0 cs (receptions before)) f (stand_all (IsRead how) 0 cs (receptions before) all) due.0) w x
-events_keep how cs all w before (Answer g x ∷ es) due = events_keep how cs all (came_back devices w x) (before ++ Answer g x ∷ []) es due ∙ back_keeps w x
-events_keep how cs all w before (Clash g x ∷ es) due = events_keep how cs all (came_back devices w x) (before ++ Clash g x ∷ []) es due ∙ back_keeps w x
+-- what is due while READs are asked changes no device but in its state
+pub reads_harmless : (how : How) (cs : List Signal) → AllByRecursion (IsRead how) cs → (ns : List Note) (f : Signal) → waits_next cs ns ≡ Asks f → IsHarmless f
+reads_harmless how cs all ns f due d =
+    let is : IsRead how f = due_all (IsRead how) (stand 0 cs ns) f (stand_all (IsRead how) 0 cs ns all) due in
+    ap (λ g. kept (stepped_by devices d g None)) is.1 ∙ read_keeps how is.0 d

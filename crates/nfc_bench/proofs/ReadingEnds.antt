@@ -38,10 +38,11 @@ use Rattle.nfc_bench.specs.Answering.{TellsStanding}
 use Rattle.nfc_bench.specs.Legal.{air}
 use Rattle.nfc_bench.specs.Reading.{AsksOf, IsAccess, TellsOf}
 use Rattle.nfc_bench.specs.Phases.{ghosts, kept, Stands, Reads, MayEnd, told_by}
-use Rattle.nfc_bench.proofs.Breaks.{break_loses, stays_lit}
-use Rattle.nfc_bench.proofs.BrokenWaits.{loses_stands, broken_front}
+use Rattle.nfc_bench.proofs.SelectingAir.{going_lost}
+use Rattle.nfc_bench.proofs.SelectingKept.{going_keeps}
+use Rattle.nfc_bench.proofs.BrokenWaits.{EndsLost, lost_ends, broken_front, stays_lit}
 use Rattle.nfc_bench.proofs.ReadingTags.{has_tag, begun, shows_tag, shows_store, stands_one, some_asked}
-use Rattle.nfc_bench.proofs.ReadingAir.{IsRead, all_reads, events_keep}
+use Rattle.nfc_bench.proofs.ReadingAir.{IsRead, all_reads, reads_harmless}
 
 none_behind : (xs : List Event) → drop (length xs) xs ≡ []
 none_behind [] = refl
@@ -113,15 +114,11 @@ module _ (a : Air Device) (place : ℕ) (d : Device) (s : Stands (moment a) plac
   all_reads_of n list = subst (AllByRecursion (IsRead (how_of d))) (sym list) (all_reads (how_of d) n)
 
   same_devices : (n : ℕ) → m.asked ≡ first (how_of d) n → map kept q.air.listeners ≡ map kept a.listeners
-  same_devices n list =
-      ap (λ (t : Moment (World Device)). map kept t.world.listeners) m.going.moment
-      ∙ events_keep (how_of d) m.asked (all_reads_of n list) (world a) [] m.going.events m.going.each
+  same_devices n list = going_keeps (waits_next m.asked) (moment a) (moment q.air) m.notes (reads_harmless (how_of d) m.asked (all_reads_of n list)) m.going
 
   -- the field was lost exactly where the waits ended so
-  broken_by : 0 < breaks m.going.events → (left : List Signal) × (stand 0 m.asked m.notes ≡ Broken FieldLost left)
-  broken_by some =
-      let on = loses_stands m.asked [] m.going.events m.going.each (break_loses air (world a) m.going.events m.going.turns some) in
-      (on.0, ap (λ hs. stand 0 m.asked hs) (sym m.going.known) ∙ on.1)
+  broken_by : 0 < breaks m.going.events → EndsLost m.asked m.notes
+  broken_by some = lost_ends air m.asked (moment a) (moment q.air) m.notes m.going (going_lost devices (waits_next m.asked) (moment a) (moment q.air) m.notes m.going some)
 
   some_break : q.air.lit ≡ false → 0 < breaks m.going.events
   some_break dim = elim (cases_lt 0 (breaks m.going.events)) [

@@ -10,7 +10,7 @@ use Rattle.air_core.proofs.PlainStores.{place_is}
 use Rattle.t2t_tag.specs.Store.{IsT2Store}
 use Rattle.t5t_tag.specs.Store.{IsT5Store}
 use Rattle.tag_reader.specs.Kinds.{IsTag, IsStore}
-use Rattle.tag_reader.proofs.Lists.{some_list}
+use Rattle.tag_reader.proofs.SomeList.{some_list}
 use Rattle.nfc_bench.specs.declared.device.Device.{Device}
 use Rattle.nfc_bench.specs.declared.device.Device.TheVariants.{T2, T5}
 use Rattle.nfc_bench.specs.Device.{device_tech, device_id, device_store, device_commands, how_of, size_of}

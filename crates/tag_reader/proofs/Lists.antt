@@ -1,21 +1,18 @@
 -- The list of what is asked of a store is one, and what is asked so far is a front of it.
-use Rattle.std.proofs.Common.{◌≡◌, ℕ, zero, suc, ◌+◌, ◌-◌, ◌*◌, ◌<◌, ◌≤◌, inl, inr, ◌⊎◌, List, [], ◌∷◌, ◌++◌, length, take, refl, sym, ◌∙◌, ap, append_assoc, append-nil, arith}
-use Rattle.std.specs.Prelude.{Result, Ok, Err}
+use Rattle.std.proofs.Common.{◌≡◌, ℕ, zero, suc, ◌+◌, ◌-◌, ◌*◌, ◌<◌, ◌≤◌, inl, inr, List, [], ◌∷◌, ◌++◌, length, take, refl, sym, ◌∙◌, ap, append_assoc, append-nil, arith}
+use Rattle.std.specs.Prelude.{Ok, Err}
 use Rattle.std.proofs.lemmas.Bool.{cases_lt}
 use Rattle.std.proofs.lemmas.List.{length-take-le}
-use Rattle.std.proofs.Math.Nat.{mul-le-mul_right}
 use Rattle.nfc_base.specs.Signal.{Signal}
 use Rattle.tlv_area.specs.declared.container.ContainerFault.{ContainerFault}
 use Rattle.tlv_area.specs.declared.space.Space.{Space}
 use Rattle.tlv_area.specs.Form as form
-use Rattle.tlv_area.proofs.Needing.{needing}
 use Rattle.tag_reader.specs.declared.how.How.{How}
 use Rattle.tag_reader.specs.declared.how.How.TheVariants.{T2, T5}
 use Rattle.tag_reader.specs.Kinds.{IsStore, area_of, command, first}
 use Rattle.tag_reader.specs.Asked.{IsDue, AreDue, IsAsked}
 use Rattle.tag_reader.specs.Steps.{HoldsContainer}
-use Rattle.tag_reader.proofs.Areas.{sizes, named, first_within, front_area, holds_container, some_size}
-use Rattle.tag_reader.proofs.Knowing.{due_more}
+use Rattle.tag_reader.proofs.Areas.{sizes, first_within, front_area, holds_container}
 
 pub one_list : (how : How) (size : ℕ) (store : List ℕ) (xs ys : List Signal) → IsAsked how size store xs → IsAsked how size store ys → xs ≡ ys
 one_list how size store xs ys one other = elim (cases_lt one.count other.count) [
@@ -90,31 +87,3 @@ tag_ends how size store n some short (inr m) = let within = m.within in omega ar
 pub small_store : (how : How) (size : ℕ) (store : List ℕ) → IsStore how size store → (0 < size) × (size ≤ 32) × (length store ≤ 8192)
 small_store T2 size store is = let most = is.1.most in let whole = is.1.whole in (omega (arith, is.0), omega (arith, is.0), omega arith)
 small_store (T5 id) size store is = let facts = sizes size store is in (omega (arith, facts.least), facts.most, omega (arith, facts.most, facts.all))
-
--- a further READ is asked, or it isn't
-due_decided : (how : How) (size : ℕ) (store : List ℕ) (n : ℕ) → IsStore how size store → 0 < n → IsDue how size store n ⊎ (IsDue how size store n → ⊥)
-due_decided how size store n is some = elim (cases_lt (length store) (size * n)) [
-  | inl short ↦ inr (tag_ends how size store n some short)
-  | inr long ↦ by_area (area_of how size store) refl (let within : size * n ≤ length store = omega arith in within)
-]
-  where
-    by_area : (r : Result Space ContainerFault) → area_of how size store ≡ r → size * n ≤ length store → IsDue how size store n ⊎ (IsDue how size store n → ⊥)
-    by_area (Err f) has within = inr (fault_ends how size store n f some has)
-    by_area (Ok space) has within = elim (needing space (take (size * n) store) (named how size store space is has).area.order) [
-      | inl more ↦ inl (walk_due how size store (take (size * n) store) space n has within refl more)
-      | inr none ↦ inr (walk_ends how size store (take (size * n) store) space n some has refl none)
-    ]
-
-list_from : (how : How) (size : ℕ) (store : List ℕ) → IsStore how size store → (fuel n : ℕ) → 0 < n → length store < n + fuel → AreDue how size store n → (xs : List Signal) × IsAsked how size store xs
-list_from how size store is zero n some past each =
-    let least : 1 ≤ size = some_size how size store is in
-    let more : 1 * n ≤ size * n = mul-le-mul_right n least in
-    asked_all how size store n each (tag_ends how size store n some (omega arith))
-list_from how size store is (suc fuel) n some past each = elim (due_decided how size store n is some) [
-  | inl due ↦ list_from how size store is fuel (n + 1) (omega arith) (omega arith) (due_more how size store n each due)
-  | inr none ↦ asked_all how size store n each none
-]
-
--- each store has a list of what is asked
-pub some_list : (how : How) (size : ℕ) (store : List ℕ) → IsStore how size store → (xs : List Signal) × IsAsked how size store xs
-some_list how size store is = list_from how size store is (length store) 1 (omega arith) (omega arith) (one_due how size store)
