@@ -39,7 +39,7 @@ by_front Sleep id u f a = record { untouched = refl; says = refl; goes = refl; s
 by_front (Ready k starred) id u f a = record { untouched = refl; says = refl; goes = refl; same_tech = refl; same_id = refl; same_kind = refl }
 by_front (Active starred) id u f a = absurd cc
 
-steps : (l : Device) (f : Signal) → devices.tech l ≡ A → is_active (device_front l) ≡ false → StepsByFront devices device_id device_kind device_front l f
+pub steps : (l : Device) (f : Signal) → devices.tech l ≡ A → is_active (device_front l) ≡ false → StepsByFront devices device_id device_kind device_front l f
 steps (T2 d) f t a = by_front d.front d.id d.upper f a
 steps (T5 p) f t a = absurd cc
 

@@ -1,14 +1,11 @@
 -- What the frames of a read change of the devices: nothing that stays.
-use Rattle.std.proofs.Common.{◌≡◌, ℕ, zero, suc, List, [], ◌∷◌, ◌++◌, length, drop, Bool, true, false, ◌==◌, not, nat_lt, if◌then◌else◌, None, refl, ◌∙◌, ap, subst, arith}
-use Rattle.std.specs.Prelude.{map}
+use Rattle.std.proofs.Common.{◌≡◌, ℕ, zero, suc, List, [], ◌∷◌, ◌++◌, length, drop, Bool, true, false, ◌==◌, not, nat_lt, if◌then◌else◌, None, refl, ◌∙◌, ap, subst}
 use Rattle.std.specs.List.{AllByRecursion}
-use Rattle.nfc_base.specs.declared.event.Event.{Event}
-use Rattle.nfc_base.specs.declared.event.Event.TheVariants.{Reset, Request, Answer, Clash}
 use Rattle.nfc_base.specs.declared.tag_link.AskFault.TheVariants.{SixBad}
 use Rattle.nfc_base.specs.Signal.{Signal}
-use Rattle.nfc_base.specs.Trace.{is_bad_in_wait, noise, other_than_pass}
-use Rattle.air_core.specs.World.{World, stepped_by, requested, came_back}
-use Rattle.air_core.specs.Conversation.{Note, Lit, Got, Lost, LightUp, Asks, receptions, EachDue, queue_after, FatesFrom, replay}
+use Rattle.nfc_base.specs.Trace.{is_bad_in_wait}
+use Rattle.air_core.specs.World.{stepped_by}
+use Rattle.air_core.specs.Conversation.{Note, Lit, Got, Lost, Asks}
 use Rattle.air_core.specs.Waits.{Standing, Asking, Broken, Astray, stand, due_at, waits_next}
 use Rattle.nfca_poll.specs.Front.{Front, Off, Idle, Sleep, Ready, Active}
 use Rattle.t2t_tag.specs.Store.{T2Memory}
@@ -23,8 +20,8 @@ use Rattle.nfc_bench.specs.Powered.{Powered}
 use Rattle.nfc_bench.specs.declared.device.Device.{Device}
 use Rattle.nfc_bench.specs.declared.device.Device.TheVariants.{T2, T5}
 use Rattle.nfc_bench.specs.Device.{devices, device_after}
-use Rattle.nfc_bench.specs.Legal.{air}
 use Rattle.nfc_bench.specs.Phases.{kept}
+use Rattle.nfc_bench.proofs.SelectingKept.{IsHarmless}
 
 -- a READ leaves a Type 5 tag as it is
 obeyed_leaves : (t : T5State) (rest : List ℕ) → (obeyed t read_code rest).after ≡ t
@@ -76,12 +73,6 @@ pub all_reads : (how : How) (n : ℕ) → AllByRecursion (IsRead how) (first how
 all_reads how zero = tt
 all_reads how (suc n) = all_more (IsRead how) (first how n) (command how n) (all_reads how n) (n, refl)
 
-map_keeps : (how : How) (f : Signal) → IsRead how f → (ls : List Device) → map kept (map (λ l. stepped_by devices l f None) ls) ≡ map kept ls
-map_keeps how f is [] = refl
-map_keeps how f is (l ∷ ls) =
-    ap (λ x. x ∷ map kept (map (λ l. stepped_by devices l f None) ls)) (ap (λ g. kept (stepped_by devices l g None)) is.1 ∙ read_keeps how is.0 l)
-    ∙ ap (λ xs. kept l ∷ xs) (map_keeps how f is ls)
-
 -- what is due in a wait is one of the commands
 abbrev AllLeft : (Signal → Type 0) → Standing → Type 0
 AllLeft P (Asking bad cs) = AllByRecursion P cs
@@ -107,38 +98,8 @@ due_all P (Asking bad (c ∷ cs)) f all e = (let same : c ≡ f = cc in subst P 
 due_all P (Broken x cs) f all e = absurd cc
 due_all P Astray f all e = absurd cc
 
-never_light : (s : Standing) → due_at s ≡ LightUp → ⊥
-never_light (Asking bad []) e = cc
-never_light (Asking bad (c ∷ cs)) e = cc
-never_light (Broken x cs) e = cc
-never_light Astray e = cc
-
-pub events_keep : (how : How) (cs : List Signal) → AllByRecursion (IsRead how) cs → (w : World Device) (before es : List Event)
-    → EachDue (waits_next cs) before es → FatesFrom [] es → map kept (replay air w es).listeners ≡ map kept w.listeners
-events_keep how cs all w before [] due fates = refl
-events_keep how cs all w before (Reset ∷ es) due fates = absurd (never_light (stand 0 cs (receptions before)) due.0)
-events_keep how cs all w before (Request f x ∷ es) due fates =
-    events_keep how cs all (requested devices w f x) (before ++ Request f x ∷ []) es due.1 fates.1
-    ∙ ap (λ y. map kept (requested devices w f y).listeners) fates.0
-    ∙ map_keeps how f (due_all (IsRead how) (stand 0 cs (receptions before)) f (stand_all (IsRead how) 0 cs (receptions before) all) due.0) w.listeners
-events_keep how cs all w before (Answer g x ∷ es) due fates =
-    events_keep how cs all (came_back devices w x) (before ++ Answer g x ∷ []) es due fates.1
-    ∙ ap (λ y. map kept (came_back devices w y).listeners) fates.0
-events_keep how cs all w before (Clash g x ∷ es) due fates =
-    events_keep how cs all (came_back devices w x) (before ++ Clash g x ∷ []) es due fates.1
-    ∙ ap (λ y. map kept (came_back devices w y).listeners) fates.0
-
--- where no fate is left all passes, and none is left then
-pub no_noise : (es : List Event) → FatesFrom [] es → noise es ≡ 0
-no_noise [] fates = refl
-no_noise (Reset ∷ es) fates = no_noise es fates
-no_noise (Request f x ∷ es) fates = let passed : other_than_pass x ≡ 0 = ap other_than_pass fates.0 in omega (arith, passed, no_noise es fates.1)
-no_noise (Answer f x ∷ es) fates = let passed : other_than_pass x ≡ 0 = ap other_than_pass fates.0 in omega (arith, passed, no_noise es fates.1)
-no_noise (Clash f x ∷ es) fates = let passed : other_than_pass x ≡ 0 = ap other_than_pass fates.0 in omega (arith, passed, no_noise es fates.1)
-
-pub no_queue : (es : List Event) → queue_after [] es ≡ []
-no_queue [] = refl
-no_queue (Reset ∷ es) = no_queue es
-no_queue (Request f x ∷ es) = no_queue es
-no_queue (Answer f x ∷ es) = no_queue es
-no_queue (Clash f x ∷ es) = no_queue es
+-- what is due while READs are asked changes no device but in its state
+pub reads_harmless : (how : How) (cs : List Signal) → AllByRecursion (IsRead how) cs → (ns : List Note) (f : Signal) → waits_next cs ns ≡ Asks f → IsHarmless f
+reads_harmless how cs all ns f due d =
+    let is : IsRead how f = due_all (IsRead how) (stand 0 cs ns) f (stand_all (IsRead how) 0 cs ns all) due in
+    ap (λ g. kept (stepped_by devices d g None)) is.1 ∙ read_keeps how is.0 d

@@ -1,151 +1,234 @@
 -- What a read of the selected tag answers, by what its link did.
-use Rattle.std.proofs.Common.{◌≡◌, inl, inr, ℕ, List, [], ◌∷◌, ◌++◌, length, drop, Bool, true, not, Option, Some, None, refl, sym, ◌∙◌, ap, subst, arith, IfOk}
+use Rattle.std.proofs.Common.{◌≡◌, inl, inr, ◌⊎◌, ℕ, suc, ◌+◌, ◌<◌, List, [], ◌∷◌, ◌++◌, length, drop, Bool, true, false, Some, None, refl, sym, ◌∙◌, ap, subst, arith, IfOk}
 use Rattle.std.specs.declared.alloc.AllocError.{AllocError}
-use Rattle.std.specs.Prelude.{map, Result, Ok, Err}
+use Rattle.std.specs.Prelude.{map, Option, Result, Ok, Err}
 use Rattle.std.specs.List.{AllByRecursion}
 use Rattle.std.proofs.lemmas.List.{append-nil}
+use Rattle.std.proofs.lemmas.Bool.{cases_lt}
 use Rattle.nfc_base.specs.declared.event.Event.{Event}
-use Rattle.nfc_base.specs.declared.event.Fate.{Fate}
 use Rattle.nfc_base.specs.declared.tag_link.AskFault.{AskFault}
+use Rattle.nfc_base.specs.declared.tag_link.AskFault.TheVariants.{FieldLost, SixBad, Protocol}
 use Rattle.nfc_base.specs.Signal.{Signal}
-use Rattle.nfc_base.specs.Trace.{noise}
+use Rattle.nfc_base.specs.Trace.{breaks}
 use Rattle.nfc_base.specs.TagLinks.{LinkView}
 use Rattle.air_core.specs.World.{World}
 use Rattle.air_core.specs.Turn.{Air, world, moment}
-use Rattle.air_core.specs.Conversation.{Moment, FatesFrom, queue_after}
-use Rattle.air_core.specs.Waits.{stand, waits_next}
-use Rattle.air_core.specs.PlainLinks.{PlainSeen, PlainMoves, IsPlainReady, StandsAt, unanswered, answered_in, answered_by_link, plain_view}
-use Rattle.air_core.specs.PlainMoving.{events_between}
+use Rattle.air_core.specs.Conversation.{Moment, Over, Going, replay}
+use Rattle.air_core.specs.Turning.{due_weaker}
+use Rattle.air_core.specs.Waits.{Standing, Asking, Broken, stand, due_at, waits_next}
+use Rattle.air_core.specs.Waiting.{front_due}
+use Rattle.air_core.specs.PlainLinks.{PlainSeen, PlainMoves, IsPlainReady, StandsAt, unanswered, answered_in, plain_view}
 use Rattle.tag_reader.specs.declared.fault.ReadFault.{ReadFault}
 use Rattle.tag_reader.specs.declared.fault.ReadFault.TheVariants as faults
 use Rattle.tag_reader.specs.declared.found.Found.{Found}
 use Rattle.tag_reader.specs.declared.found.Site.{Site}
 use Rattle.tag_reader.specs.declared.found.Site.TheVariants.{Area}
 use Rattle.tag_reader.specs.declared.how.How.{How}
-use Rattle.tag_reader.specs.Kinds.{IsTag}
-use Rattle.tag_reader.specs.Asked.{IsAsked}
-use Rattle.tag_reader.specs.Calls.{HasAskedAll, GoesOn}
-use Rattle.tag_reader.specs.Reading.{IsFound, IsSite, IsReadFault, IsToldOrMemory, IsCalm, is_told}
+use Rattle.tag_reader.specs.Kinds.{IsTag, command, first}
+use Rattle.tag_reader.specs.Asked.{IsAsked, IsDue, AreDue}
+use Rattle.tag_reader.specs.Calls.{HasAsked, HasAskedAll, GoesOn, last_of}
+use Rattle.tag_reader.specs.Reading.{IsFound, IsSite, IsReadFault, is_told}
+use Rattle.tag_reader.proofs.Knowing.{due_more}
+use Rattle.tag_reader.proofs.Lists.{asked_front}
 use Rattle.nfc_bench.specs.declared.device.Device.{Device}
 use Rattle.nfc_bench.specs.declared.entry.Answer.{Answer}
 use Rattle.nfc_bench.specs.declared.entry.Answer.TheVariants as answers
-use Rattle.nfc_bench.specs.Device.{device_store, how_of, size_of}
-use Rattle.nfc_bench.specs.Reading.{IsAccess, TellsOf}
+use Rattle.nfc_bench.specs.Device.{devices, device_store, how_of, size_of}
+use Rattle.nfc_bench.specs.Answering.{TellsStanding}
+use Rattle.nfc_bench.specs.Legal.{air}
+use Rattle.nfc_bench.specs.Reading.{AsksOf, IsAccess, TellsOf}
 use Rattle.nfc_bench.specs.Phases.{ghosts, kept, Stands, Reads, MayEnd, told_by}
-use Rattle.nfc_bench.proofs.ReadingTags.{has_tag, begun, shows_tag, shows_store, stands_one}
-use Rattle.nfc_bench.proofs.ReadingAir.{IsRead, all_reads, events_keep, no_noise, no_queue}
-
--- a fault of the store, or want of memory
-may_end : (how : How) (store : List ℕ) (a b : LinkView) (fault : ReadFault) → IsReadFault how store a b fault → IsToldOrMemory fault → MayEnd fault
-may_end how store a b faults.NotNdef is calm = inl refl
-may_end how store a b faults.Version is calm = inl refl
-may_end how store a b faults.NoRead is calm = inl refl
-may_end how store a b faults.Sectors is calm = inl refl
-may_end how store a b faults.BadSize is calm = inl refl
-may_end how store a b faults.NoMessageTlv is calm = inl refl
-may_end how store a b faults.BadTlv is calm = inl refl
-may_end how store a b (faults.Refused code) is calm = absurd is
-may_end how store a b faults.Memory is calm = inr refl
-may_end how store a b faults.FieldLost is (inl told) = absurd cc
-may_end how store a b faults.FieldLost is (inr e) = absurd cc
-may_end how store a b faults.SixBad is (inl told) = absurd cc
-may_end how store a b faults.SixBad is (inr e) = absurd cc
-may_end how store a b faults.Protocol is (inl told) = absurd cc
-may_end how store a b faults.Protocol is (inr e) = absurd cc
+use Rattle.nfc_bench.proofs.SelectingAir.{going_lost}
+use Rattle.nfc_bench.proofs.SelectingKept.{going_keeps}
+use Rattle.nfc_bench.proofs.BrokenWaits.{EndsLost, lost_ends, broken_front, stays_lit}
+use Rattle.nfc_bench.proofs.ReadingTags.{has_tag, begun, shows_tag, shows_store, stands_one, some_asked}
+use Rattle.nfc_bench.proofs.ReadingAir.{IsRead, all_reads, reads_harmless}
 
 none_behind : (xs : List Event) → drop (length xs) xs ≡ []
 none_behind [] = refl
 none_behind (x ∷ xs) = none_behind xs
 
-unfinished : (o : Option AskFault) (last : Option Signal) → o ≡ None → unanswered o last ≡ []
-unfinished None last e = refl
-unfinished (Some f) last e = absurd cc
-
 -- a found message is what the answer tells
 found_access : (d : Device) (site : Site) (writable : Bool) → IsSite (how_of d) (size_of d) (device_store d) site writable → IsAccess (how_of d) (size_of d) (device_store d) writable
 found_access d (Area m) writable is = (m.space, is.0, is.2)
 
-pub found_tells : (d : Device) (found : Found) → IsFound (how_of d) (size_of d) (device_store d) found → TellsOf d (answers.Message found.message found.writable)
+found_tells : (d : Device) (found : Found) → IsFound (how_of d) (size_of d) (device_store d) found → TellsOf d (answers.Message found.message found.writable)
 found_tells d found is = (is.held, found_access d found.site found.writable is.site)
 
-told_is : (d : Device) (answer told : Answer) → Some told ≡ Some answer → TellsOf d told → TellsOf d answer
-told_is d answer told e is = (let same : told ≡ answer = cc in subst (TellsOf d) same is)
-
--- so is a fault of the store
-pub fault_tells : (d : Device) (a b : LinkView) (fault : ReadFault) (answer : Answer) → told_by fault ≡ Some answer → IsReadFault (how_of d) (device_store d) a b fault → TellsOf d answer
-fault_tells d a b faults.NotNdef answer e is = told_is d answer answers.NotNdef e is
-fault_tells d a b faults.Version answer e is = told_is d answer answers.Version e is
-fault_tells d a b faults.NoRead answer e is = told_is d answer answers.NoRead e is
-fault_tells d a b faults.Sectors answer e is = told_is d answer answers.Sectors e is
-fault_tells d a b faults.BadSize answer e is = told_is d answer answers.BadSize e is
-fault_tells d a b faults.NoMessageTlv answer e is = told_is d answer answers.NoMessageTlv e is
-fault_tells d a b faults.BadTlv answer e is = told_is d answer answers.BadTlv e is
-fault_tells d a b (faults.Refused code) answer e is = absurd is
-fault_tells d a b faults.FieldLost answer e is = absurd cc
-fault_tells d a b faults.SixBad answer e is = absurd cc
-fault_tells d a b faults.Memory answer e is = absurd cc
-fault_tells d a b faults.Protocol answer e is = absurd cc
-
-pub told_fault : (fault : ReadFault) (answer : Answer) → told_by fault ≡ Some answer → is_told fault ≡ true
-told_fault faults.NotNdef answer e = refl
-told_fault faults.Version answer e = refl
-told_fault faults.NoRead answer e = refl
-told_fault faults.Sectors answer e = refl
-told_fault faults.BadSize answer e = refl
-told_fault faults.NoMessageTlv answer e = refl
-told_fault faults.BadTlv answer e = refl
-told_fault (faults.Refused code) answer e = refl
-told_fault faults.FieldLost answer e = absurd cc
-told_fault faults.SixBad answer e = absurd cc
-told_fault faults.Memory answer e = absurd cc
-told_fault faults.Protocol answer e = absurd cc
+-- What a read asked, where each of the first n READs is asked: these commands, or those that were answered and the one
+-- that the link ended with.
+record AskedSome (d : Device) (asked : List Signal) : Type 0 where
+  pub count : ℕ
+  pub list : asked ≡ first (how_of d) count
+  pub each : AreDue (how_of d) (size_of d) (device_store d) count
 
 module _ (a : Air Device) (place : ℕ) (d : Device) (s : Stands (moment a) place d) (q : PlainSeen Device) (m : PlainMoves ghosts (begun a place) q) where
-  -- no fate is left for what was sent
-  all_pass : FatesFrom [] m.going.events
-  all_pass = subst (λ (xs : List Fate). FatesFrom xs m.going.events) s.queue m.going.fates
+  abbrev pub from : LinkView
+  from = plain_view ghosts (begun a place)
 
-  since_is : drop q.start q.air.trace ≡ m.going.events
-  since_is =
-      ap (λ n. drop n q.air.trace) m.same.1
-      ∙ (events_between ghosts a q.air (waits_next m.asked) m.notes m.going).0
+  abbrev pub to : LinkView
+  to = plain_view ghosts q
 
-  pub is_calm : IsCalm (plain_view ghosts (begun a place)) (plain_view ghosts q)
-  is_calm = record {
-    begun = refl;
-    lit = ap (λ (w : World Device). not w.lit) s.world;
-    calm = inl (ap noise since_is ∙ no_noise m.going.events all_pass ∙ sym (ap noise (none_behind a.trace)));
+  abbrev pub HasAskedOf : Type 0
+  HasAskedOf = HasAsked (how_of d) (size_of d) from.state.store from to
+
+  abbrev pub HasAskedAllOf : Type 0
+  HasAskedAllOf = HasAskedAll (how_of d) (size_of d) from.state.store from to
+
+  abbrev ReadsSo : Answer → Type 0
+  ReadsSo answer = Reads (moment a) (moment q.air) d answer
+
+  none_before : from.answered ≡ []
+  none_before = ap answered_in (none_behind a.trace)
+
+  -- what was asked, by the link and by the reader
+  asked_told : to.answered ++ unanswered q.over q.last ≡ m.asked
+  asked_told = m.told refl ∙ ap (λ xs. xs ++ m.asked) none_before
+
+  due_here : (n : ℕ) → AreDue (how_of d) (size_of d) from.state.store n → AreDue (how_of d) (size_of d) (device_store d) n
+  due_here n each = subst (λ xs. AreDue (how_of d) (size_of d) xs n) (shows_store a place d s) each
+
+  -- the command that the link ended with is the next that is asked
+  asked_more : (h : HasAskedOf) (e : AskFault) → q.over ≡ Some e → AskedSome d m.asked
+  asked_more h e over = by_last h.last
+    where
+      by_last : ((q.last ≡ last_of (how_of d) from h.count) × (q.over ≡ None)) ⊎ ((q.last ≡ Some (command (how_of d) h.count)) × IsDue (how_of d) (size_of d) from.state.store h.count) → AskedSome d m.asked
+      by_last (inl (last, open')) = absurd (let clash : None ≡ Some e = sym open' ∙ over in cc)
+      by_last (inr (last, due)) =
+          let c : Signal = command (how_of d) h.count in
+          let left : unanswered q.over q.last ≡ c ∷ [] = ap (λ o. unanswered o q.last) over ∙ ap (unanswered (Some e)) last in
+          let one : h.count + 1 ≡ suc h.count = omega arith in
+          record {
+            count = suc h.count;
+            list = sym asked_told ∙ ap (λ xs. to.answered ++ xs) left ∙ ap (λ xs. xs ++ c ∷ []) (h.answered ∙ ap (λ xs. xs ++ first (how_of d) h.count) none_before);
+            each = subst (AreDue (how_of d) (size_of d) (device_store d)) one
+                (due_here (h.count + 1) (due_more (how_of d) (size_of d) from.state.store h.count h.each due));
+          }
+
+  -- where the link isn't over, what was asked was answered
+  asked_whole : (all : HasAskedAllOf) → q.over ≡ None → m.asked ≡ all.commands
+  asked_whole all open' =
+      sym asked_told ∙ ap (λ o. to.answered ++ unanswered o q.last) open' ∙ append-nil to.answered ∙ all.answered ∙ ap (λ xs. xs ++ all.commands) none_before
+
+  all_reads_of : (n : ℕ) → m.asked ≡ first (how_of d) n → AllByRecursion (IsRead (how_of d)) m.asked
+  all_reads_of n list = subst (AllByRecursion (IsRead (how_of d))) (sym list) (all_reads (how_of d) n)
+
+  same_devices : (n : ℕ) → m.asked ≡ first (how_of d) n → map kept q.air.listeners ≡ map kept a.listeners
+  same_devices n list = going_keeps (waits_next m.asked) (moment a) (moment q.air) m.notes (reads_harmless (how_of d) m.asked (all_reads_of n list)) m.going
+
+  -- the field was lost exactly where the waits ended so
+  broken_by : 0 < breaks m.going.events → EndsLost m.asked m.notes
+  broken_by some = lost_ends air m.asked (moment a) (moment q.air) m.notes m.going (going_lost devices (waits_next m.asked) (moment a) (moment q.air) m.notes m.going some)
+
+  some_break : q.air.lit ≡ false → 0 < breaks m.going.events
+  some_break dim = elim (cases_lt 0 (breaks m.going.events)) [
+    | inl some ↦ some
+    | inr none ↦ absurd (
+        let lit : (replay air (world a) m.going.events).lit ≡ true = stays_lit devices (world a) m.going.events (ap (λ (w : World Device). w.lit) s.world) (omega arith) in
+        let end : q.air.lit ≡ (replay air (world a) m.going.events).lit = ap (λ (t : Moment (World Device)). t.world.lit) m.going.moment in
+        let clash : true ≡ false = sym lit ∙ sym end ∙ dim in
+        cc)
+  ]
+
+  -- what was asked is the first of what is asked
+  abbrev asked_front_of : (rest : List Signal) → Going air (waits_next (m.asked ++ rest)) (moment a) (moment q.air) m.notes
+  asked_front_of rest = record {
+    events = m.going.events;
+    moment = m.going.moment;
+    turns = m.going.turns;
+    each = due_weaker (waits_next (m.asked ++ rest)) (waits_next m.asked) (λ ns n e due. front_due 0 m.asked rest ns n e due) [] m.going.events m.going.each;
+    fates = m.going.fates;
+    fresh = m.going.fresh;
+    known = m.going.known;
   }
 
-  -- what was asked is all that is asked of the tag
-  asked_all : (all : HasAskedAll (how_of d) (size_of d) (plain_view ghosts (begun a place)).state.store (plain_view ghosts (begun a place)) (plain_view ghosts q)) → q.over ≡ None → m.asked ≡ all.commands
-  asked_all all open' =
-      let none : answered_by_link ghosts (begun a place) ≡ [] = ap answered_in (none_behind a.trace) in
-      let told : answered_by_link ghosts q ++ unanswered q.over q.last ≡ answered_by_link ghosts (begun a place) ++ m.asked = m.told refl in
-      let front : answered_by_link ghosts q ++ unanswered q.over q.last ≡ all.commands =
-      ap (λ xs. answered_by_link ghosts q ++ xs) (unfinished q.over q.last open') ∙ append-nil (answered_by_link ghosts q)
-      ∙ all.answered ∙ ap (λ xs. xs ++ all.commands) none in
-      sym (told ∙ ap (λ xs. xs ++ m.asked) none) ∙ front
+  -- What a read did, where its waits stand so at the end.
+  reads_by : (answer : Answer) (n : ℕ) → m.asked ≡ first (how_of d) n → (rest : List Signal) → AsksOf d (m.asked ++ rest)
+      → (x : Standing) → stand 0 (m.asked ++ rest) m.notes ≡ x → due_at x ≡ Over → TellsStanding (TellsOf d) x answer
+      → (answer ≡ answers.FieldLost → 0 < breaks m.going.events) → (0 < breaks m.going.events → answer ≡ answers.FieldLost) → ReadsSo answer
+  reads_by answer n list rest asks x stands over tells lost by_break = record {
+    commands = m.asked ++ rest;
+    asks = asks;
+    asked = record {
+      notes = m.notes;
+      going = asked_front_of rest;
+      over = ap due_at stands ∙ over;
+      same = same_devices n list;
+    };
+    ends = subst (λ st. TellsStanding (TellsOf d) st answer) (sym stands) tells;
+    lost = (lost, by_break);
+  }
 
-  pub read_done : (answer : Answer) → HasAskedAll (how_of d) (size_of d) (plain_view ghosts (begun a place)).state.store (plain_view ghosts (begun a place)) (plain_view ghosts q)
-      → q.over ≡ None → TellsOf d answer → Reads (moment a) (moment q.air) d answer
-  read_done answer all open' tells =
-      let same : m.asked ≡ all.commands = asked_all all open' in
-      let store : (plain_view ghosts (begun a place)).state.store ≡ device_store d = shows_store a place d s in
-      let reads : AllByRecursion (IsRead (how_of d)) m.asked =
-      subst (AllByRecursion (IsRead (how_of d))) (sym (same ∙ all.all.list)) (all_reads (how_of d) all.all.count) in
-      let moved = events_between ghosts a q.air (waits_next m.asked) m.notes m.going in
-      record {
-        asked = m.asked;
-        asks = subst (λ xs. IsAsked (how_of d) (size_of d) (device_store d) xs) (sym same) (subst (λ xs. IsAsked (how_of d) (size_of d) xs all.commands) store all.all);
-        notes = m.notes;
-        going = m.going;
-        answered = subst (λ o. StandsAt o q.air.lit (stand 0 m.asked m.notes)) open' (m.stands refl);
-        tells = tells;
-        queue = ap (λ (t : Moment (World Device)). t.queue) m.going.moment ∙ ap (λ (xs : List Fate). queue_after xs m.going.events) s.queue ∙ no_queue m.going.events;
-        same = ap (λ (w : World Device). map kept w.listeners) moved.2
-            ∙ events_keep (how_of d) m.asked reads (world a) [] m.going.events m.going.each all_pass;
-      }
+  -- all was answered
+  pub read_told : (answer : Answer) → HasAskedAllOf → GoesOn from to → TellsOf d answer → ReadsSo answer
+  read_told answer all goes tells =
+      let whole : m.asked ≡ all.commands = asked_whole all goes.over in
+      let here : AsksOf d all.commands = subst (λ xs. IsAsked (how_of d) (size_of d) xs all.commands) (shows_store a place d s) all.all in
+      let done : stand 0 m.asked m.notes ≡ Asking 0 [] = subst (λ o. StandsAt o q.air.lit (stand 0 m.asked m.notes)) goes.over (m.stands refl) in
+      reads_by answer all.all.count (whole ∙ all.all.list) [] (subst (AsksOf d) (sym (append-nil m.asked ∙ whole)) here)
+      (Asking 0 []) (ap (λ cs. stand 0 cs m.notes) (append-nil m.asked) ∙ done) refl tells
+      (λ e. absurd (subst (TellsOf d) e tells))
+      (λ some. absurd (let on = broken_by some in let clash : Asking 0 [] ≡ Broken FieldLost on.0 = sym done ∙ on.1 in cc))
+
+  -- a wait ended by a fault
+  read_broken : (h : HasAskedOf) (answer : Answer) (e : AskFault) (left : List Signal) → q.over ≡ Some e → stand 0 m.asked m.notes ≡ Broken e left
+      → ((cs : List Signal) → TellsStanding (TellsOf d) (Broken e cs) answer)
+      → (answer ≡ answers.FieldLost → 0 < breaks m.going.events) → (0 < breaks m.going.events → answer ≡ answers.FieldLost) → ReadsSo answer
+  read_broken h answer e left over stands tells lost by_break =
+      let some = asked_more h e over in
+      let whole = some_asked d s.sound in
+      let front = asked_front (how_of d) (size_of d) (device_store d) some.count whole.0 some.each whole.1 in
+      reads_by answer some.count some.list front.0 (subst (AsksOf d) (front.1 ∙ ap (λ xs. xs ++ front.0) (sym some.list)) whole.1)
+      (Broken e (left ++ front.0)) (broken_front 0 m.asked m.notes e left front.0 stands) refl (tells (left ++ front.0)) lost by_break
+
+  pub read_lost : HasAskedOf → q.over ≡ Some FieldLost → ReadsSo answers.FieldLost
+  read_lost h over =
+      let ends = subst (λ o. StandsAt o q.air.lit (stand 0 m.asked m.notes)) over (m.stands refl) in
+      let some : 0 < breaks m.going.events = some_break ends.0 in
+      let on = broken_by some in
+      read_broken h answers.FieldLost FieldLost on.0 over on.1 (λ cs. refl) (λ e. some) (λ b. refl)
+
+  pub read_six : HasAskedOf → q.over ≡ Some SixBad → ReadsSo answers.SixBad
+  read_six h over =
+      let ends = subst (λ o. StandsAt o q.air.lit (stand 0 m.asked m.notes)) over (m.stands refl) in
+      read_broken h answers.SixBad SixBad (ends.0 ∷ []) over ends.1 (λ cs. refl) (λ e. absurd cc)
+      (λ some. absurd (let on = broken_by some in let clash : Broken SixBad (ends.0 ∷ []) ≡ Broken FieldLost on.0 = sym ends.1 ∙ on.1 in cc))
+
+  never_odd : q.over ≡ Some Protocol → ⊥
+  never_odd over = subst (λ o. StandsAt o q.air.lit (stand 0 m.asked m.notes)) over (m.stands refl)
+
+  -- a fault of the store, a fault of the link, or want of memory
+  pub may_end : (how : How) (store : List ℕ) (fault : ReadFault) → IsReadFault how store from to fault → MayEnd fault
+  may_end how store faults.NotNdef is = inl refl
+  may_end how store faults.Version is = inl refl
+  may_end how store faults.NoRead is = inl refl
+  may_end how store faults.Sectors is = inl refl
+  may_end how store faults.BadSize is = inl refl
+  may_end how store faults.NoMessageTlv is = inl refl
+  may_end how store faults.BadTlv is = inl refl
+  may_end how store (faults.Refused code) is = absurd is
+  may_end how store faults.FieldLost is = inl refl
+  may_end how store faults.SixBad is = inl refl
+  may_end how store faults.Memory is = inr refl
+  may_end how store faults.Protocol is = absurd (never_odd is.0)
+
+  as_told : (answer told : Answer) → Some told ≡ Some answer → ReadsSo told → ReadsSo answer
+  as_told answer told e reads = (let same : told ≡ answer = cc in subst ReadsSo same reads)
+
+  pub read_fault : (fault : ReadFault) (answer : Answer) → told_by fault ≡ Some answer → HasAskedOf → (is_told fault ≡ true → HasAskedAllOf) → (is_told fault ≡ true → GoesOn from to)
+      → IsReadFault (how_of d) (device_store d) from to fault → ReadsSo answer
+  read_fault faults.NotNdef answer e h all goes is = as_told answer answers.NotNdef e (read_told answers.NotNdef (all refl) (goes refl) is)
+  read_fault faults.Version answer e h all goes is = as_told answer answers.Version e (read_told answers.Version (all refl) (goes refl) is)
+  read_fault faults.NoRead answer e h all goes is = as_told answer answers.NoRead e (read_told answers.NoRead (all refl) (goes refl) is)
+  read_fault faults.Sectors answer e h all goes is = as_told answer answers.Sectors e (read_told answers.Sectors (all refl) (goes refl) is)
+  read_fault faults.BadSize answer e h all goes is = as_told answer answers.BadSize e (read_told answers.BadSize (all refl) (goes refl) is)
+  read_fault faults.NoMessageTlv answer e h all goes is = as_told answer answers.NoMessageTlv e (read_told answers.NoMessageTlv (all refl) (goes refl) is)
+  read_fault faults.BadTlv answer e h all goes is = as_told answer answers.BadTlv e (read_told answers.BadTlv (all refl) (goes refl) is)
+  read_fault (faults.Refused code) answer e h all goes is = absurd is
+  read_fault faults.FieldLost answer e h all goes is = as_told answer answers.FieldLost e (read_lost h is.0)
+  read_fault faults.SixBad answer e h all goes is = as_told answer answers.SixBad e (read_six h is.0)
+  read_fault faults.Memory answer e h all goes is = absurd cc
+  read_fault faults.Protocol answer e h all goes is = absurd cc
 
 -- a link as it is made
 pub record IsNew (p : PlainSeen Device) : Type 0 where
@@ -178,42 +261,54 @@ module _ (p : PlainSeen Device) (is : IsNew p) (how : How) (one : (e : Device) �
     from_new : PlainMoves ghosts (begun p.air p.place) q
     from_new = subst (λ x. PlainMoves ghosts x q) (sym (new_is p is)) moves
 
-    new_calm : IsCalm (plain_view ghosts p) (plain_view ghosts q)
-    new_calm = subst (λ x. IsCalm (plain_view ghosts x) (plain_view ghosts q)) (new_is p is) (is_calm p.air p.place one.0 one.1 q from_new)
+    pub ends_may : (fault : ReadFault) → IsReadFault how (plain_view ghosts p).state.store (plain_view ghosts p) (plain_view ghosts q) fault → MayEnd fault
+    ends_may fault err =
+        may_end p.air p.place one.0 one.1 q from_new how (plain_view ghosts p).state.store fault
+        (subst (λ x. IsReadFault how (plain_view ghosts p).state.store (plain_view ghosts x) (plain_view ghosts q) fault) (sym (new_is p is)) err)
 
-    pub ends_may : (fault : ReadFault) → IsReadFault how (plain_view ghosts p).state.store (plain_view ghosts p) (plain_view ghosts q) fault
-        → (IsCalm (plain_view ghosts p) (plain_view ghosts q) → IsToldOrMemory fault) → MayEnd fault
-    ends_may fault err calm = may_end how (plain_view ghosts p).state.store (plain_view ghosts p) (plain_view ghosts q) fault err (calm new_calm)
+    -- what is asked of a tag of this kind, and all of it
+    abbrev pub HasAskedSome : How → ℕ → PlainSeen Device → Type 0
+    HasAskedSome h size x = HasAsked h size (plain_view ghosts x).state.store (plain_view ghosts x) (plain_view ghosts q)
 
-    -- what is asked of a tag of this kind
-    abbrev pub IsAskedOf : How → ℕ → PlainSeen Device → Type 0
-    IsAskedOf h size x = HasAskedAll h size (plain_view ghosts x).state.store (plain_view ghosts x) (plain_view ghosts q)
+    abbrev pub HasAskedEach : How → ℕ → PlainSeen Device → Type 0
+    HasAskedEach h size x = HasAskedAll h size (plain_view ghosts x).state.store (plain_view ghosts x) (plain_view ghosts q)
 
-    ends : (answer : Answer) → IsAskedOf how (size_of one.0) p → q.over ≡ None → TellsOf one.0 answer → (d : Device) → Stands (moment p.air) p.place d → Reads (moment p.air) (moment q.air) d answer
-    ends answer all open' tells d stands =
-        let same : d ≡ one.0 = stands_one p.air p.place one.0 one.1 d stands in
-        let here : IsAskedOf (how_of one.0) (size_of one.0) (begun p.air p.place) =
-        subst (λ x. IsAskedOf (how_of one.0) (size_of one.0) x) (sym (new_is p is)) (subst (λ h. IsAskedOf h (size_of one.0) p) one.2 all) in
-        subst (λ e. Reads (moment p.air) (moment q.air) e answer) (sym same) (read_done p.air p.place one.0 one.1 q from_new answer here open' tells)
+    -- so it is of the tag that stands there, on the link as it is made
+    some_here : HasAskedSome how (size_of one.0) p → HasAskedSome (how_of one.0) (size_of one.0) (begun p.air p.place)
+    some_here h = subst (λ x. HasAskedSome (how_of one.0) (size_of one.0) x) (sym (new_is p is)) (subst (λ g. HasAskedSome g (size_of one.0) p) one.2 h)
 
-    pub ends_found : (found : Found) → ((size : ℕ) → IsTag how size (plain_view ghosts p) → IsAskedOf how size p) → GoesOn (plain_view ghosts p) (plain_view ghosts q)
+    each_here : HasAskedEach how (size_of one.0) p → HasAskedEach (how_of one.0) (size_of one.0) (begun p.air p.place)
+    each_here h = subst (λ x. HasAskedEach (how_of one.0) (size_of one.0) x) (sym (new_is p is)) (subst (λ g. HasAskedEach g (size_of one.0) p) one.2 h)
+
+    goes_here : GoesOn (plain_view ghosts p) (plain_view ghosts q) → GoesOn (plain_view ghosts (begun p.air p.place)) (plain_view ghosts q)
+    goes_here goes = subst (λ x. GoesOn (plain_view ghosts x) (plain_view ghosts q)) (sym (new_is p is)) goes
+
+    -- what a read of the tag that stands there did, a read of any that stands there did
+    of_any : (answer : Answer) → Reads (moment p.air) (moment q.air) one.0 answer → (d : Device) → Stands (moment p.air) p.place d → Reads (moment p.air) (moment q.air) d answer
+    of_any answer reads d stands = subst (λ e. Reads (moment p.air) (moment q.air) e answer) (sym (stands_one p.air p.place one.0 one.1 d stands)) reads
+
+    pub ends_found : (found : Found) → ((size : ℕ) → IsTag how size (plain_view ghosts p) → HasAskedEach how size p) → GoesOn (plain_view ghosts p) (plain_view ghosts q)
         → ((size : ℕ) → IsTag how size (plain_view ghosts p) → IsFound how size (plain_view ghosts p).state.store found)
         → (d : Device) → Stands (moment p.air) p.place d → Reads (moment p.air) (moment q.air) d (answers.Message found.message found.writable)
-    ends_found found whole goes_on ok =
+    ends_found found whole goes ok =
         let held : IsFound (how_of one.0) (size_of one.0) (device_store one.0) found =
         subst (λ xs. IsFound (how_of one.0) (size_of one.0) xs found) new_store
         (subst (λ h. IsFound h (size_of one.0) (plain_view ghosts p).state.store found) one.2 (ok new_is_tag.0 new_is_tag.1)) in
-        ends (answers.Message found.message found.writable) (whole new_is_tag.0 new_is_tag.1) goes_on.over (found_tells one.0 found held)
+        of_any (answers.Message found.message found.writable)
+        (read_told p.air p.place one.0 one.1 q from_new (answers.Message found.message found.writable) (each_here (whole new_is_tag.0 new_is_tag.1)) (goes_here goes) (found_tells one.0 found held))
 
     pub ends_told : (fault : ReadFault) (result : Result Answer AllocError) → IfOk result (λ answer. told_by fault ≡ Some answer)
-        → ((size : ℕ) → IsTag how size (plain_view ghosts p) → is_told fault ≡ true → IsAskedOf how size p)
+        → ((size : ℕ) → IsTag how size (plain_view ghosts p) → HasAskedSome how size p)
+        → ((size : ℕ) → IsTag how size (plain_view ghosts p) → is_told fault ≡ true → HasAskedEach how size p)
         → (is_told fault ≡ true → GoesOn (plain_view ghosts p) (plain_view ghosts q))
         → IsReadFault how (plain_view ghosts p).state.store (plain_view ghosts p) (plain_view ghosts q) fault
         → IfOk result (λ answer. (d : Device) → Stands (moment p.air) p.place d → Reads (moment p.air) (moment q.air) d answer)
-    ends_told fault (Err e) told whole goes_on err = tt
-    ends_told fault (Ok answer) told whole goes_on err =
-        let is : is_told fault ≡ true = told_fault fault answer told in
-        let here : IsReadFault (how_of one.0) (device_store one.0) (plain_view ghosts p) (plain_view ghosts q) fault =
-        subst (λ xs. IsReadFault (how_of one.0) xs (plain_view ghosts p) (plain_view ghosts q) fault) new_store
-        (subst (λ h. IsReadFault h (plain_view ghosts p).state.store (plain_view ghosts p) (plain_view ghosts q) fault) one.2 err) in
-        ends answer (whole new_is_tag.0 new_is_tag.1 is) (goes_on is).over (fault_tells one.0 (plain_view ghosts p) (plain_view ghosts q) fault answer told here)
+    ends_told fault (Err e) told some whole goes err = tt
+    ends_told fault (Ok answer) told some whole goes err =
+        let here : IsReadFault (how_of one.0) (device_store one.0) (plain_view ghosts (begun p.air p.place)) (plain_view ghosts q) fault =
+        subst (λ x. IsReadFault (how_of one.0) (device_store one.0) (plain_view ghosts x) (plain_view ghosts q) fault) (sym (new_is p is))
+        (subst (λ xs. IsReadFault (how_of one.0) xs (plain_view ghosts p) (plain_view ghosts q) fault) new_store
+        (subst (λ h. IsReadFault h (plain_view ghosts p).state.store (plain_view ghosts p) (plain_view ghosts q) fault) one.2 err)) in
+        of_any answer
+        (read_fault p.air p.place one.0 one.1 q from_new fault answer told (some_here (some new_is_tag.0 new_is_tag.1))
+        (λ is'. each_here (whole new_is_tag.0 new_is_tag.1 is')) (λ is'. goes_here (goes is')) here)

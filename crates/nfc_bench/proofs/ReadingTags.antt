@@ -1,6 +1,7 @@
 -- The selected tag of a read, as a link sees it.
-use Rattle.std.proofs.Common.{◌≡◌, ℕ, [], length, false, Some, None, refl, sym, ◌∙◌, ap, subst}
+use Rattle.std.proofs.Common.{◌≡◌, ℕ, List, [], length, false, Some, None, refl, sym, ◌∙◌, ap, subst}
 use Rattle.nfc_base.specs.declared.frame.Tech.TheVariants.{A, V}
+use Rattle.nfc_base.specs.Signal.{Signal}
 use Rattle.nfc_base.specs.TagLinks.{TagState, LinkView, plain_state}
 use Rattle.air_core.specs.Turn.{Air, moment}
 use Rattle.air_core.specs.PlainTags.{plain_kind, IsPlainTag, HasPlainTag, IsAlone}
@@ -8,11 +9,13 @@ use Rattle.air_core.specs.PlainLinks.{PlainSeen, at_place, plain_view}
 use Rattle.air_core.proofs.PlainStores.{place_is}
 use Rattle.t2t_tag.specs.Store.{IsT2Store}
 use Rattle.t5t_tag.specs.Store.{IsT5Store}
-use Rattle.tag_reader.specs.Kinds.{IsTag}
+use Rattle.tag_reader.specs.Kinds.{IsTag, IsStore}
+use Rattle.tag_reader.proofs.SomeList.{some_list}
 use Rattle.nfc_bench.specs.declared.device.Device.{Device}
 use Rattle.nfc_bench.specs.declared.device.Device.TheVariants.{T2, T5}
 use Rattle.nfc_bench.specs.Device.{device_tech, device_id, device_store, device_commands, how_of, size_of}
 use Rattle.nfc_bench.specs.Phases.{ghosts, kept, IsSound, Stands}
+use Rattle.nfc_bench.specs.Reading.{AsksOf}
 use Rattle.nfc_bench.proofs.TagTwo.{plain_two}
 use Rattle.nfc_bench.proofs.TagFive.{plain_five}
 
@@ -49,7 +52,7 @@ tag_by : (v : LinkView) (d : Device) → v.kind ≡ plain_kind (device_tech d) �
 tag_by v (T2 e) kind named step state is = record {
   kind = kind;
   named = tt;
-  store = (refl, subst (λ (s : TagState). IsT2Store s.store) (sym state) is.3);
+  store = (refl, subst (λ (s : TagState). IsT2Store s.store) (sym state) is.2);
   steps = (e.upper.locked, λ s c h may. ap (λ st. st s c) step);
 }
 tag_by v (T5 p) kind named step state is = record {
@@ -58,6 +61,14 @@ tag_by v (T5 p) kind named step state is = record {
   store = subst (λ (s : TagState). IsT5Store p.tag.size s.store) (sym state) is.3;
   steps = (p.tag.locked, false, λ s c h may. ap (λ st. st s c) step);
 }
+
+sound_store : (d : Device) → IsSound (kept d) → IsStore (how_of d) (size_of d) (device_store d)
+sound_store (T2 d) is = (refl, is.2)
+sound_store (T5 p) is = is.3
+
+-- each device has a list of what a read asks of it
+pub some_asked : (d : Device) → IsSound (kept d) → (commands : List Signal) × AsksOf d commands
+some_asked d is = some_list (how_of d) (size_of d) (device_store d) (sound_store d is)
 
 -- the link when it is made
 abbrev pub begun : Air Device → ℕ → PlainSeen Device

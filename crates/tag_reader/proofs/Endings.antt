@@ -94,7 +94,7 @@ container_told container.BadSize = refl
 
 -- what was asked, where all of it was answered
 pub knows_asked : (how : How) (size : ℕ) (a b : LinkView) (known : List ℕ) (n : ℕ) → Knows how size a b known n → HasAsked how size a.state.store a b
-knows_asked how size a b known n k = record { count = n + 1; each = k.each; answered = k.answered; last = inl (k.last ∙ sym (last_more how a n)) }
+knows_asked how size a b known n k = record { count = n + 1; each = k.each; answered = k.answered; last = inl (k.last ∙ sym (last_more how a n), k.goes_on.over ∙ sym k.before) }
 
 knows_all : (how : How) (size : ℕ) (a b : LinkView) (known : List ℕ) (n : ℕ) → Knows how size a b known n → (IsDue how size a.state.store (n + 1) → ⊥) →
     HasAskedAll how size a.state.store a b
@@ -225,7 +225,7 @@ ends_first how size a b known e f = record {
       answered = none.0 ∙ sym (append-nil a.answered);
       last = elim none.1 [ inl same ↦ inl same | inr next ↦ inr (next, inl refl) ];
     }
-    | inr one ↦ record { count = 1; each = λ k low. inl (omega arith); answered = one.0; last = inl one.1 }
+    | inr one ↦ record { count = 1; each = λ k low. inl (omega arith); answered = one.0; last = inl (one.1, one.2) }
   ];
   whole = untold e (HasAskedAll how size a.state.store a b) (link_untold a b e f.fault');
   goes_on = untold e (GoesOn a b) (link_untold a b e f.fault');
@@ -238,6 +238,7 @@ pub ends_later : (how : How) (size : ℕ) (a b c : LinkView) (known known' : Lis
     IsDue how size a.state.store (n + 1) → Fails how (n + 1) b c e → Reads how size a c known' (Err e)
 ends_later how size a b c known known' n e k due f =
     let fault' = fault_on a b c e k.stays k.goes_on.over k.goes_on.lit f.fault' in
+    let open' : b.over ≡ a.over = k.goes_on.over ∙ sym k.before in
     record {
       stays = stays_on a b c k.stays f.stays;
       asked = elim f.asked [
@@ -245,13 +246,13 @@ ends_later how size a b c known known' n e k due f =
           count = n + 1;
           each = k.each;
           answered = none.0 ∙ k.answered;
-          last = elim none.1 [ inl same ↦ inl (same ∙ k.last ∙ sym (last_more how a n)) | inr next ↦ inr (next, due) ];
+          last = elim none.1 [ inl same ↦ inl (same.0 ∙ k.last ∙ sym (last_more how a n), same.1 ∙ open') | inr next ↦ inr (next, due) ];
         }
         | inr one ↦ record {
           count = n + 1 + 1;
           each = due_more how size a.state.store (n + 1) k.each due;
           answered = answered_more how a.answered b.answered c.answered (n + 1) k.answered one.0;
-          last = inl (one.1 ∙ sym (last_more how a (n + 1)));
+          last = inl (one.1 ∙ sym (last_more how a (n + 1)), one.2 ∙ open');
         }
       ];
       whole = untold e (HasAskedAll how size a.state.store a c) (link_untold a c e fault');
@@ -345,7 +346,7 @@ ends_cut how size a b c known space n e is walks m answers end cut' =
     let answered = answered_more how a.answered b.answered c.answered (n + 1) k.answered answers.answered in
     record {
       stays = stays_on a b c k.stays answers.stays;
-      asked = record { count = n + 1 + 1; each = each; answered = answered; last = inl (answers.last ∙ sym (last_more how a (n + 1))) };
+      asked = record { count = n + 1 + 1; each = each; answered = answered; last = inl (answers.last ∙ sym (last_more how a (n + 1)), answers.goes_on.over ∙ sym k.before) };
       whole = λ told. record {
         commands = first how (n + 1 + 1);
         all = record { count = n + 1 + 1; list = refl; each = each; no_more = none };

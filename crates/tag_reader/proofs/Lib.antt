@@ -7,4 +7,5 @@ pub mod Knowing
 pub mod Endings
 pub mod Turns
 pub mod Lists
+pub mod SomeList
 pub mod Cards

@@ -55,7 +55,7 @@ ask_answers how size a b k r is low obeys rises last answer = record {
 
 -- an answer that found no memory
 pub answer_lost : (how : How) (size : ℕ) (a b : LinkView) (k : ℕ) → Answers how size k a b → Fails how k a b fault.Memory
-answer_lost how size a b k answer = record { stays = answer.stays; fault' = inl refl; asked = inr (answer.answered, answer.last); calm = λ begun lit quiet. refl }
+answer_lost how size a b k answer = record { stays = answer.stays; fault' = inl refl; asked = inr (answer.answered, answer.last, answer.goes_on.over ∙ sym answer.before); calm = λ begun lit quiet. refl }
 
 -- what a call that fails says of the link: it wasn't over before, or the call changed nothing
 pub data Began (a b : LinkView) (e : AskFault) : Type 0 where
@@ -77,9 +77,9 @@ began_by : (a b : LinkView) (e : AskFault) → b.over ≡ Some e → (a.over ≡
 began_by a b e over cause (Open was) = (over, inr (cause was))
 began_by a b e over cause (Over was same) = (over, inl was)
 
-began_last : (a b : LinkView) (e : AskFault) (c : Signal) → (a.over ≡ None → b.last ≡ Some c) → Began a b e → (b.last ≡ a.last) ⊎ (b.last ≡ Some c)
+began_last : (a b : LinkView) (e : AskFault) (c : Signal) → (a.over ≡ None → b.last ≡ Some c) → Began a b e → ((b.last ≡ a.last) × (b.over ≡ a.over)) ⊎ (b.last ≡ Some c)
 began_last a b e c last (Open was) = inr (last was)
-began_last a b e c last (Over was same) = inl (ap (λ v. v.last) same)
+began_last a b e c last (Over was same) = inl (ap (λ v. v.last) same, ap (λ v. v.over) same)
 
 -- where all passes, a command that the tag answers is answered
 abbrev pub IsAnswered : LinkView → LinkView → Signal → AskFault → Type 0

@@ -21,13 +21,13 @@ abbrev pub last_of : How → LinkView → ℕ → Option Signal
 last_of how a zero = a.last
 last_of how a (suc n) = Some (command how n)
 
--- The commands answered between two views are the first `count` of what is asked, and the last one that was asked is the
--- last of them, or the next that is asked.
+-- The commands answered between two views are the first `count` of what is asked. The last one that was asked is the last of
+-- them, and then the link is over only where it was before; or it is the next that is asked.
 pub record HasAsked (how : How) (size : ℕ) (store : List ℕ) (a b : LinkView) : Type 0 where
   pub count : ℕ
   pub each : AreDue how size store count
   pub answered : b.answered ≡ a.answered ++ first how count
-  pub last : (b.last ≡ last_of how a count) ⊎ ((b.last ≡ Some (command how count)) × IsDue how size store count)
+  pub last : ((b.last ≡ last_of how a count) × (b.over ≡ a.over)) ⊎ ((b.last ≡ Some (command how count)) × IsDue how size store count)
 
 -- All that is asked was answered between two views.
 pub record HasAskedAll (how : How) (size : ℕ) (store : List ℕ) (a b : LinkView) : Type 0 where

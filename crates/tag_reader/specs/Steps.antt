@@ -82,8 +82,8 @@ Learns size store k known known' false = (length store ≡ size * k) × (known' 
 pub record Fails (how : How) (k : ℕ) (a b : LinkView) (e : ReadFault) : Type 0 where
   pub stays : Stays a b
   pub fault' : IsLinkFault a b e
-  pub asked : ((b.answered ≡ a.answered) × ((b.last ≡ a.last) ⊎ (b.last ≡ Some (command how k))))
-      ⊎ ((b.answered ≡ a.answered ++ command how k ∷ []) × (b.last ≡ Some (command how k)))
+  pub asked : ((b.answered ≡ a.answered) × (((b.last ≡ a.last) × (b.over ≡ a.over)) ⊎ (b.last ≡ Some (command how k))))
+      ⊎ ((b.answered ≡ a.answered ++ command how k ∷ []) × (b.last ≡ Some (command how k)) × (b.over ≡ a.over))
   pub calm : a.over ≡ None → a.dark ≡ false → b.noise ≡ a.noise → e ≡ fault.Memory
 
 abbrev pub AsksNext : How → ℕ → ℕ → LinkView → LinkView → List ℕ → List ℕ → Result Bool ReadFault → Type 0

@@ -3,6 +3,7 @@ pub mod Steps
 pub mod Trails
 pub mod OneForm
 pub mod OneNext
+pub mod Needing
 pub mod Fronts
 pub mod Places
 pub mod Cuts

@@ -159,13 +159,13 @@ split r at end x front back order is =
     (found.0, subst (λ n. IsSplit r at n (x ∷ front) back found.0) e found.1)
 
 -- one TLV after the other, each reserving for those behind it
-abbrev Steps : List ℕ → Bool → ℕ → (ℕ → Bool) → ℕ → List Tlv → List ℕ → Type 0
+abbrev pub Steps : List ℕ → Bool → ℕ → (ℕ → Bool) → ℕ → List Tlv → List ℕ → Type 0
 Steps memory control end r at [] rest = rest ≡ free r at end
 Steps memory control end r at (t ∷ ts) rest =
     (p : ℕ) × (at < p) × (p ≤ end) × (t.at ≡ free r at p) × (r (p - 1) ≡ false) × LiesIn memory t × (t.kind ≢ 3)
     × Steps memory control end (λ a. r a || (control && reserves t a)) p ts rest
 
-nonempty : (memory : List ℕ) (t : Tlv) → LiesIn memory t → (x : ℕ) × (front : List ℕ) × (t.at ≡ x ∷ front)
+pub nonempty : (memory : List ℕ) (t : Tlv) → LiesIn memory t → (x : ℕ) × (front : List ℕ) × (t.at ≡ x ∷ front)
 nonempty memory t lies = first t.at lies.bytes
   where
     first : (cells : List ℕ) → bytes_at memory cells ≡ spelling t → (x : ℕ) × (front : List ℕ) × (cells ≡ x ∷ front)
@@ -195,7 +195,7 @@ none_below memory (t ∷ ts) p a low lie above =
     let rest = none_below memory ts p a low lie.1 parts.1 in
     rw none rest
 
-layout_steps : (memory : List ℕ) (control : Bool) (end : ℕ) (r q : ℕ → Bool) (at : ℕ) (ts : List Tlv) (rest : List ℕ) →
+pub layout_steps : (memory : List ℕ) (control : Bool) (end : ℕ) (r q : ℕ → Bool) (at : ℕ) (ts : List Tlv) (rest : List ℕ) →
     ((a : ℕ) → q a ≡ (r a || reserved_by control ts a)) → flat_map (λ t. t.at) ts ++ rest ≡ free q at end → at ≤ end →
     AllByRecursion (LiesIn memory) ts → AllByRecursion (λ t. t.kind ≢ 3) ts → Steps memory control end r at ts rest
 layout_steps memory control end r q at [] rest same cells order lie plain =
@@ -250,7 +250,7 @@ goes_on memory t more lies plain stops =
     let is : next memory (t.at ++ more) ≡ Item t = next_there memory t more lies in
     plain (subst Stops is stops)
 
-same_past : (r : ℕ → Bool) (at p q : ℕ) → at < p → at < q → r (p - 1) ≡ false → r (q - 1) ≡ false → free r at p ≡ free r at q → p ≡ q
+pub same_past : (r : ℕ → Bool) (at p q : ℕ) → at < p → at < q → r (p - 1) ≡ false → r (q - 1) ≡ false → free r at p ≡ free r at q → p ≡ q
 same_past r at p q up_p up_q open_p open_q same = elim (cases_order p q) [
   | inl e ↦ e
   | inr o ↦ elim o [

@@ -21,7 +21,7 @@ read-requires-clause-tag c =
 pub told-requires : goal.told-requires
 told-requires c =
     let new : IsNew (seen c.args.link.now) = record { start = c.requires.fresh.0; last = c.requires.fresh.1; over = c.requires.fresh.2 } in
-    ends_may (seen c.args.link.now) new c.args.how c.requires.tag (seen c.read.new.link) c.in-Err.ensures.moves c.in-Err.fault c.in-Err.ensures.err c.in-Err.ensures.calm
+    ends_may (seen c.args.link.now) new c.args.how c.requires.tag (seen c.read.new.link) c.in-Err.ensures.moves c.in-Err.fault c.in-Err.ensures.err
 
 pub returns-in-Ok-clause-tells : goal.returns-in-Ok-clause-tells
 returns-in-Ok-clause-tells c =
@@ -31,4 +31,4 @@ returns-in-Ok-clause-tells c =
 pub returns-in-Err-clause-tells : goal.returns-in-Err-clause-tells
 returns-in-Err-clause-tells c =
     let new : IsNew (seen c.args.link.now) = record { start = c.requires.fresh.0; last = c.requires.fresh.1; over = c.requires.fresh.2 } in
-    ends_told (seen c.args.link.now) new c.args.how c.requires.tag (seen c.read.new.link) c.in-Err.ensures.moves c.in-Err.fault c.told.result c.told.ensures c.in-Err.ensures.whole c.in-Err.ensures.goes_on c.in-Err.ensures.err
+    ends_told (seen c.args.link.now) new c.args.how c.requires.tag (seen c.read.new.link) c.in-Err.ensures.moves c.in-Err.fault c.told.result c.told.ensures c.in-Err.ensures.asked c.in-Err.ensures.whole c.in-Err.ensures.goes_on c.in-Err.ensures.err

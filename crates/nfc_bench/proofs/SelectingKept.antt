@@ -1,0 +1,101 @@
+-- What stays of the devices while a reader polls: resets, calls, inventories and the dark change no device but in its state.
+use Rattle.std.proofs.Common.{◌≡◌, List, [], ◌∷◌, ◌++◌, map, if◌then◌else◌, None, refl, sym, ◌∙◌, ap, subst}
+use Rattle.nfc_base.specs.declared.frame.Tech.TheVariants.{A, V}
+use Rattle.nfc_base.specs.declared.event.Event.{Event}
+use Rattle.nfc_base.specs.declared.event.Event.TheVariants.{Reset, Request, Answer, Clash}
+use Rattle.nfc_base.specs.declared.event.Fate.{Fate}
+use Rattle.nfc_base.specs.declared.event.Fate.TheVariants.{Pass, Damage, Lose, Break}
+use Rattle.nfc_base.specs.Signal.{Signal}
+use Rattle.air_core.specs.Joint.{same_tech}
+use Rattle.air_core.specs.World.{World, stepped_by, requested, came_back}
+use Rattle.air_core.specs.Conversation.{Note, Next, Asks, EachDue, Moment, Going, replay, receptions}
+use Rattle.nfca_poll.specs.Calls.{Call, Calls, call_of, call_frame}
+use Rattle.nfca_poll.specs.Front.{Front, Off, Idle, Sleep, Ready, Active}
+use Rattle.nfca_poll.specs.Fronted.{Fronted, left_at}
+use Rattle.nfca_poll.specs.Inventory.{inventory_of}
+use Rattle.t2t_tag.specs.declared.command.T2Command.{T2Command}
+use Rattle.t2t_tag.specs.Spelling.{spelled_command}
+use Rattle.t2t_tag.specs.Store.{T2Memory}
+use Rattle.nfc_bench.specs.declared.device.Device.{Device}
+use Rattle.nfc_bench.specs.declared.device.Device.TheVariants.{T2, T5}
+use Rattle.nfc_bench.specs.Device.{devices, t2_machine}
+use Rattle.nfc_bench.specs.Legal.{air}
+use Rattle.nfc_bench.specs.Phases.{Kept, kept}
+use Rattle.nfc_bench.proofs.SelectingCards.{carded, call_goes}
+
+-- a frame that changes no device but in its state
+abbrev pub IsHarmless : Signal → Type 0
+IsHarmless f = (d : Device) → kept (stepped_by devices d f None) ≡ kept d
+
+pub harmless_call : (f : Signal) → f.tech ≡ A → spelled_command f ≡ None → IsHarmless f
+harmless_call f a e (T2 d) =
+    ap (λ t. kept (if same_tech A t then devices.after (T2 d) f None else T2 d)) a ∙ ap (λ x. kept (T2 x)) (call_goes d.front d.id d.upper f e)
+harmless_call f a e (T5 p) = ap (λ t. kept (if same_tech V t then devices.after (T5 p) f None else T5 p)) a
+
+dark_stays : (front next : Front) (u : T2Memory) → left_at t2_machine front next u ≡ u
+dark_stays Off next u = refl
+dark_stays Idle next u = refl
+dark_stays Sleep next u = refl
+dark_stays (Ready k starred) next u = refl
+dark_stays (Active starred) Off u = refl
+dark_stays (Active starred) Idle u = refl
+dark_stays (Active starred) Sleep u = refl
+dark_stays (Active starred) (Ready k other) u = refl
+dark_stays (Active starred) (Active other) u = refl
+
+pub kept_dark : (d : Device) → kept (devices.darkened d) ≡ kept d
+kept_dark (T2 d) = ap (λ u. kept (T2 (carded d.id d.front u))) (dark_stays d.front Off d.upper)
+kept_dark (T5 p) = refl
+
+pub kept_lit : (d : Device) → kept (devices.woken d) ≡ kept d
+kept_lit (T2 d) = ap (λ u. kept (T2 (carded d.id d.front u))) (dark_stays d.front Idle d.upper)
+kept_lit (T5 p) = refl
+
+map_kept : (g : Device → Device) → ((d : Device) → kept (g d) ≡ kept d) → (ds : List Device) → map kept (map g ds) ≡ map kept ds
+map_kept g h [] = refl
+map_kept g h (d ∷ ds) = ap (λ k. k ∷ map kept (map g ds)) (h d) ∙ ap (λ ks. kept d ∷ ks) (map_kept g h ds)
+
+pub kept_relit : (ds : List Device) → map kept (map (λ l. devices.woken (devices.darkened l)) ds) ≡ map kept ds
+kept_relit ds = map_kept (λ l. devices.woken (devices.darkened l)) (λ d. kept_lit (devices.darkened d) ∙ kept_dark d) ds
+
+-- each request of some events is harmless
+abbrev pub AreHarmless : List Event → Type 0
+AreHarmless [] = Unit {0}
+AreHarmless (Reset ∷ es) = AreHarmless es
+AreHarmless (Request f x ∷ es) = IsHarmless f × AreHarmless es
+AreHarmless (Answer g x ∷ es) = AreHarmless es
+AreHarmless (Clash g x ∷ es) = AreHarmless es
+
+abbrev kept_in : World Device → List Kept
+kept_in w = map kept w.listeners
+
+requested_keeps : (w : World Device) (f : Signal) (x : Fate) → IsHarmless f → kept_in (requested devices w f x) ≡ kept_in w
+requested_keeps w f Pass h = map_kept (λ l. stepped_by devices l f None) h w.listeners
+requested_keeps w f Damage h = refl
+requested_keeps w f Lose h = refl
+requested_keeps w f Break h = map_kept devices.darkened kept_dark w.listeners
+
+back_keeps : (w : World Device) (x : Fate) → kept_in (came_back devices w x) ≡ kept_in w
+back_keeps w Pass = refl
+back_keeps w Damage = refl
+back_keeps w Lose = refl
+back_keeps w Break = map_kept devices.darkened kept_dark w.listeners
+
+pub events_keep : (es : List Event) (w : World Device) → AreHarmless es → kept_in (replay air w es) ≡ kept_in w
+events_keep [] w h = refl
+events_keep (Reset ∷ es) w h = events_keep es (air.happens w Reset) h ∙ kept_relit w.listeners
+events_keep (Request f x ∷ es) w h = events_keep es (requested devices w f x) h.1 ∙ requested_keeps w f x h.0
+events_keep (Answer g x ∷ es) w h = events_keep es (came_back devices w x) h ∙ back_keeps w x
+events_keep (Clash g x ∷ es) w h = events_keep es (came_back devices w x) h ∙ back_keeps w x
+
+due_harmless : (next : List Note → Next) → ((ns : List Note) (f : Signal) → next ns ≡ Asks f → IsHarmless f) → (before es : List Event) → EachDue next before es → AreHarmless es
+due_harmless next h before [] q = tt
+due_harmless next h before (Reset ∷ es) q = due_harmless next h (before ++ Reset ∷ []) es q.1
+due_harmless next h before (Request f x ∷ es) q = (h (receptions before) f q.0, due_harmless next h (before ++ Request f x ∷ []) es q.1)
+due_harmless next h before (Answer g x ∷ es) q = due_harmless next h (before ++ Answer g x ∷ []) es q
+due_harmless next h before (Clash g x ∷ es) q = due_harmless next h (before ++ Clash g x ∷ []) es q
+
+-- where each request that may be due is harmless, no device changed but in its state
+pub going_keeps : (next : List Note → Next) (a b : Moment (World Device)) (ns : List Note) → ((ks : List Note) (f : Signal) → next ks ≡ Asks f → IsHarmless f) → Going air next a b ns
+    → map kept b.world.listeners ≡ map kept a.world.listeners
+going_keeps next a b ns h g = ap (λ (m : Moment (World Device)). kept_in m.world) g.moment ∙ events_keep g.events a.world (due_harmless next h [] g.events g.each)
