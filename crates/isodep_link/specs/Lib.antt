@@ -3,3 +3,4 @@ pub mod Sizes
 pub mod Card
 pub mod Commands
 pub mod Reader
+pub mod Exchange
