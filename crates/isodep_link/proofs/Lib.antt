@@ -4,3 +4,6 @@ pub mod Ended
 pub mod Brought
 pub mod Wire
 pub mod Standing
+pub mod Landing
+pub mod Hearing
+pub mod Obeyed

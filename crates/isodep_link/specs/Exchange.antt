@@ -79,9 +79,8 @@ abbrev pub IsCut : CardState → List (List ℕ) → List Signal → Type 0
 IsCut t commands arrived = cut_by (record { chain = []; commands = [] }) (blocks_of arrived) ≡ record { chain = t.chain; commands = commands }
 
 -- the next exchange may begin
-pub record IsReady (w : Exchange) : Type 0 where
-  pub step : InStep w.asking w.answering
-  pub cut : IsCut w.answering w.delivered w.arrived
+abbrev pub IsReady : Exchange → Type 0
+IsReady w = InStep w.asking w.answering × IsCut w.answering w.delivered w.arrived
 
 -- an exchange of this command begins, behind those in which the card obeyed these commands and heard these frames
 abbrev pub beginning : ReaderState → CardState → List (List ℕ) → List Signal → List ℕ → Exchange
