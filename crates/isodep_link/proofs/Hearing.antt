@@ -14,7 +14,8 @@ use Rattle.isodep_link.specs.Sizes.{limit}
 use Rattle.isodep_link.specs.Card.{CardState}
 use Rattle.isodep_link.specs.Reader as reader
 use Rattle.isodep_link.specs.Reader.{Core, ReaderState, ReaderMove, ReaderTurn, Asks, Gives, GivesUp, Refuses, request, sent, sends, after_bad, most_bads, bad, turned, more_follows, is_refused, answered, block_next, framed, framed_next, reader_table}
-use Rattle.isodep_link.specs.Exchange.{iso_dep, reader_does, heard_of, pieces, InStep}
+use Rattle.nfc_base.specs.LinkTurns.{heard_of}
+use Rattle.isodep_link.specs.Exchange.{iso_dep, reader_does, pieces, InStep}
 use Rattle.isodep_link.proofs.Wire.{reader_heeds, is_piece}
 use Rattle.isodep_link.proofs.Standing.{same, toggled_not, toggled_twice, toggled_small, not_lt, le_from_not, pieces_drop, chain_fits, Bounds, Asking, Drawing, Acked, Answered, Held, of_chain, of_answer, Ask, asks, draws, draws_again, naks, naks_held, IsLive, Wait, has, misses}
 
@@ -67,6 +68,7 @@ module _ (m : ℕ) (out : List ℕ) where
     where
       p : Phase
       p = if i.core.drawing then Asked else Nacked
+
       go : (v : Bool) → nat_lt i.bads most_bads ≡ v → Survives i t g n (bad i)
       go true v =
           let q : bad i ≡ sends i.core p (i.bads + 1) = rw v (ap (λ x. sends i.core x (i.bads + 1)) (live_after i.phase i.core l)) in
@@ -124,23 +126,25 @@ module _ (m : ℕ) (out : List ℕ) where
 
   ack_heard : (i : ReaderState) (t : CardState) (g : Option (List ℕ)) → Acked m out i.core t g
       → (answered i (Ack i.core.number) ≡ sends (sent_on i.core) Asked 0) × Asking m out (sent_on i.core) t g
-  ack_heard i t g h =
-      ( rw (same i.core.number, h.sending, lt-ltb i.core.most (length i.core.rest) h.more) refl
-      , record {
-          bounds = h.bounds;
-          number = toggled_small i.core.number;
-          sending = refl;
-          empty = h.empty;
-          other = rw (h.same_number, toggled_twice i.core.number h.number) refl;
-          joins = h.joins;
-          none = h.none;
-        } )
+  ack_heard i t g h = (
+    rw (same i.core.number, h.sending, lt-ltb i.core.most (length i.core.rest) h.more) refl,
+    record {
+      bounds = h.bounds;
+      number = toggled_small i.core.number;
+      sending = refl;
+      empty = h.empty;
+      other = rw (h.same_number, toggled_twice i.core.number h.number) refl;
+      joins = h.joins;
+      none = h.none;
+    },
+  )
 
   not_refused : (got xs : List ℕ) (n : ℕ) → 0 < n → length (got ++ xs) ≤ limit → is_refused (nat_lt n (length xs)) (take n xs) (got ++ take n xs) ≡ false
   not_refused got xs n p f = go (nat_lt n (length xs)) refl
     where
       le : length (got ++ take n xs) ≤ limit
       le = chain_fits got xs (got ++ xs) n refl f
+
       go : (b : Bool) → nat_lt n (length xs) ≡ b → is_refused (nat_lt n (length xs)) (take n xs) (got ++ take n xs) ≡ false
       go false e = rw (not_lt limit (length (got ++ take n xs)) le, e) refl
       go true e =
@@ -154,18 +158,19 @@ module _ (m : ℕ) (out : List ℕ) where
 
   piece_heard : (i : ReaderState) (t : CardState) (g : Option (List ℕ)) (bytes : List ℕ) → Answered m out i.core t g bytes → t.most < length bytes
       → (answered i (piece t.most i.core.number bytes) ≡ sends (got_on i.core (take t.most bytes)) Asked 0) × Drawing m out (got_on i.core (take t.most bytes)) t g
-  piece_heard i t g bytes h l =
-      ( rw (h.no_more, same i.core.number, not_refused i.core.got bytes t.most h.bounds.some_back h.short_back, lt-ltb t.most (length bytes) l) refl
-      , record {
-          bounds = h.bounds;
-          number = toggled_small i.core.number;
-          receiving = refl;
-          other = rw (h.same_number, toggled_twice i.core.number h.number) refl;
-          no_chain = h.no_chain;
-          left = rw (h.left, length-drop) (omega arith);
-          reply = rw (h.left, append_assoc, take-append-drop) h.reply;
-          short_back = rw (h.left, append_assoc, take-append-drop) h.short_back;
-        } )
+  piece_heard i t g bytes h l = (
+    rw (h.no_more, same i.core.number, not_refused i.core.got bytes t.most h.bounds.some_back h.short_back, lt-ltb t.most (length bytes) l) refl,
+    record {
+      bounds = h.bounds;
+      number = toggled_small i.core.number;
+      receiving = refl;
+      other = rw (h.same_number, toggled_twice i.core.number h.number) refl;
+      no_chain = h.no_chain;
+      left = rw (h.left, length-drop) (omega arith);
+      reply = rw (h.left, append_assoc, take-append-drop) h.reply;
+      short_back = rw (h.left, append_assoc, take-append-drop) h.short_back;
+    },
+  )
 
   abbrev ended : Core → ReaderState
   ended c = record { core = turned c [] false []; phase = Free; bads = 0 }
@@ -186,38 +191,42 @@ module _ (m : ℕ) (out : List ℕ) where
     where
       r : IsBlock (piece t.most i.core.number bytes)
       r = is_piece t.most i.core.number bytes h.number h.bounds.fits_back
+
       go : (d : Bool) → nat_lt t.most (length bytes) ≡ d → AcceptedAt i t g a n
       go true d =
           let l = ltb-true t.most (length bytes) d in
           let q = piece_heard i t g bytes h l in
           let z = pieces_drop t.most bytes h.bounds.some_back l in
           accepted_by i t g a (piece t.most i.core.number bytes) n _ p e r q.0
-            (2 * pieces t.most (drop t.most bytes), draws refl refl q.1 (rw h.left (omega arith)), omega arith)
+          (2 * pieces t.most (drop t.most bytes), draws refl refl q.1 (rw h.left (omega arith)), omega arith)
       go false d =
           let l = le_from_not t.most (length bytes) d in
-          accepted_by i t g a (piece t.most i.core.number bytes) n _ p e r (last_heard i t g bytes h l)
-            ( h.reply
-            , record {
-                heeds = h.bounds.heeds;
-                number = toggled_small i.core.number;
-                other = rw (h.same_number, toggled_twice i.core.number h.number) refl;
-                no_chain = h.no_chain;
-                asks = (h.bounds.some, h.bounds.fits);
-                answers = (h.bounds.some_back, h.bounds.fits_back);
-              } )
+          accepted_by i t g a (piece t.most i.core.number bytes) n _ p e r (last_heard i t g bytes h l) (
+            h.reply,
+            record {
+              heeds = h.bounds.heeds;
+              number = toggled_small i.core.number;
+              other = rw (h.same_number, toggled_twice i.core.number h.number) refl;
+              no_chain = h.no_chain;
+              asks = (h.bounds.some, h.bounds.fits);
+              answers = (h.bounds.some_back, h.bounds.fits_back);
+            },
+          )
 
   pub answered_at : (i : ReaderState) (t : CardState) (g : Option (List ℕ)) (a : Signal) (n : ℕ) → Wait m out i t g a n → (2 ≤ n) × AcceptedAt i t g a n
   answered_at i t g a n (misses p e h b) =
-      let r : IsBlock (Ack t.number) = rw h.other (toggled_small i.core.number) in
-      ( omega arith
-      , accepted_by i t g a (Ack t.number) n _ (inr p) e r (missed_heard i t p h.other h.number) (2 * pieces i.core.most i.core.rest, asks refl refl h (omega arith), b) )
+      let r : IsBlock (Ack t.number) = rw h.other (toggled_small i.core.number) in (
+        omega arith,
+        accepted_by i t g a (Ack t.number) n _ (inr p) e r (missed_heard i t p h.other h.number) (2 * pieces i.core.most i.core.rest, asks refl refl h (omega arith), b),
+      )
   answered_at i t g a n (has p x e l (of_chain h b)) =
       let q : x ≡ Ack i.core.number = (let y = h.last in cc) in
       let s = ack_heard i t g h in
-      let z = pieces_drop i.core.most i.core.rest h.bounds.some h.more in
-      ( omega arith
-      , accepted_by i t g a (Ack i.core.number) n _ p (e ∙ ap block_frame q) h.number s.0
-          (2 * pieces i.core.most (drop i.core.most i.core.rest), asks refl refl s.1 (omega arith), omega arith) )
+      let z = pieces_drop i.core.most i.core.rest h.bounds.some h.more in (
+        omega arith,
+        accepted_by i t g a (Ack i.core.number) n _ p (e ∙ ap block_frame q) h.number s.0
+            (2 * pieces i.core.most (drop i.core.most i.core.rest), asks refl refl s.1 (omega arith), omega arith),
+      )
   answered_at i t g a n (has p x e l (of_answer bytes h b)) =
       let q : x ≡ piece t.most i.core.number bytes = (let y = h.last in cc) in
       (omega arith, answer_heard i t g a n bytes p (e ∙ ap block_frame q) h b)

@@ -44,19 +44,20 @@ module _ (m : ℕ) (out : List ℕ) where
 
   piece_taken : (c : Core) (t : CardState) (g : Option (List ℕ)) → Asking m out c t g → c.most < length c.rest
       → (block_table t (request c) ≡ record { state = took t c; does = Answers (Ack (toggled t.number)) }) × Acked m out c (took t c) g
-  piece_taken c t g h l =
-      ( rw (h.sending, lt-ltb c.most (length c.rest) l, not_lt limit (length (t.chain ++ take c.most c.rest)) (chain_fits t.chain c.rest out c.most h.joins h.bounds.short)) refl
-      , record {
-          bounds = h.bounds;
-          number = h.number;
-          sending = h.sending;
-          empty = h.empty;
-          more = l;
-          same_number = rw (h.other, toggled_twice c.number h.number) refl;
-          joins = rw (append_assoc, take-append-drop) h.joins;
-          none = h.none;
-          last = rw (h.other, toggled_twice c.number h.number) refl;
-        } )
+  piece_taken c t g h l = (
+    rw (h.sending, lt-ltb c.most (length c.rest) l, not_lt limit (length (t.chain ++ take c.most c.rest)) (chain_fits t.chain c.rest out c.most h.joins h.bounds.short)) refl,
+    record {
+      bounds = h.bounds;
+      number = h.number;
+      sending = h.sending;
+      empty = h.empty;
+      more = l;
+      same_number = rw (h.other, toggled_twice c.number h.number) refl;
+      joins = rw (append_assoc, take-append-drop) h.joins;
+      none = h.none;
+      last = rw (h.other, toggled_twice c.number h.number) refl;
+    },
+  )
 
   handed_over : (c : Core) (t : CardState) (g : Option (List ℕ)) → Asking m out c t g → length c.rest ≤ c.most
       → (block_table t (request c) ≡ record { state = handing t; does = Delivers out }) × (t.chain ++ take c.most c.rest ≡ out)
@@ -82,19 +83,20 @@ module _ (m : ℕ) (out : List ℕ) where
 
   reply_drawn : (c : Core) (t : CardState) (g : Option (List ℕ)) → Drawing m out c t g
       → (block_table t (request c) ≡ record { state = drew t; does = Answers (piece t.most (toggled t.number) t.left) }) × Answered m out c (drew t) g t.left
-  reply_drawn c t g h =
-      ( rw (h.receiving, h.other, not_toggled c.number h.number, lt-ltb 0 (length t.left) h.left) refl
-      , record {
-          bounds = h.bounds;
-          number = h.number;
-          no_more = rw h.receiving refl;
-          same_number = rw (h.other, toggled_twice c.number h.number) refl;
-          no_chain = h.no_chain;
-          last = rw (h.other, toggled_twice c.number h.number) refl;
-          left = refl;
-          reply = h.reply;
-          short_back = h.short_back;
-        } )
+  reply_drawn c t g h = (
+    rw (h.receiving, h.other, not_toggled c.number h.number, lt-ltb 0 (length t.left) h.left) refl,
+    record {
+      bounds = h.bounds;
+      number = h.number;
+      no_more = rw h.receiving refl;
+      same_number = rw (h.other, toggled_twice c.number h.number) refl;
+      no_chain = h.no_chain;
+      last = rw (h.other, toggled_twice c.number h.number) refl;
+      left = refl;
+      reply = h.reply;
+      short_back = h.short_back;
+    },
+  )
 
   request_again : (c : Core) (t : CardState) (b : Block) → c.drawing ≡ true → t.number ≡ c.number → t.last ≡ Some b
       → block_table t (request c) ≡ record { state = t; does = Answers b }
@@ -147,36 +149,42 @@ module _ (m : ℕ) (out : List ℕ) where
     where
       r : IsBlock (request i.core)
       r = is_request i.core h.number h.bounds.fits
+
       go : (d : Bool) → nat_lt i.core.most (length i.core.rest) ≡ d
           → Lands iso_dep out (Ask m out) (Wait m out) (more m out) (Fits m out) IsCut i t g f n (iso_dep.heard t f) (iso_dep.does t f)
       go true d =
           let q = piece_taken i.core t g h (ltb-true i.core.most (length i.core.rest) d) in
-          lands_by i t g f (request i.core) n _ e h.bounds.heeds r q.0
-            ( has (inl p) (Ack (toggled t.number)) refl refl (of_chain q.1 b)
-            , cuts_same t (took t i.core) f (request i.core) e r (λ ps. chained_cut i.core t ps h.sending d) )
+          lands_by i t g f (request i.core) n _ e h.bounds.heeds r q.0 (
+            has (inl p) (Ack (toggled t.number)) refl refl (of_chain q.1 b),
+            cuts_same t (took t i.core) f (request i.core) e r (λ ps. chained_cut i.core t ps h.sending d),
+          )
       go false d =
           let l = le_from_not i.core.most (length i.core.rest) d in
           let q = handed_over i.core t g h l in
-          lands_by i t g f (request i.core) n _ e h.bounds.heeds r q.0
-            ( refl
-            , h.none
-            , λ x s. ( has (inl p) (reply_block (handing t) x) refl refl (of_answer x (answers i.core t g h l x s) (rw h.bounds.sizes (omega arith)))
-              , cuts_on t (replied (handing t) x) f (request i.core) (out ∷ []) e r (λ ps. last_cut i.core t x ps h.sending d q.1) ) )
+          lands_by i t g f (request i.core) n _ e h.bounds.heeds r q.0 (
+            refl,
+            h.none,
+            λ x s. (
+              has (inl p) (reply_block (handing t) x) refl refl (of_answer x (answers i.core t g h l x s) (rw h.bounds.sizes (omega arith))),
+              cuts_on t (replied (handing t) x) f (request i.core) (out ∷ []) e r (λ ps. last_cut i.core t x ps h.sending d q.1),
+            ),
+          )
   lands_at i t g f n (draws p e h b) =
       let q = reply_drawn i.core t g h in
       let r = is_request i.core h.number h.bounds.fits in
-      lands_by i t g f (request i.core) n _ e h.bounds.heeds r q.0
-        ( has (inl p) (piece t.most (toggled t.number) t.left) refl refl (of_answer t.left q.1 b)
-        , cuts_same t (drew t) f (request i.core) e r (λ ps. ack_cut i.core t ps h.receiving) )
+      lands_by i t g f (request i.core) n _ e h.bounds.heeds r q.0 (
+        has (inl p) (piece t.most (toggled t.number) t.left) refl refl (of_answer t.left q.1 b),
+        cuts_same t (drew t) f (request i.core) e r (λ ps. ack_cut i.core t ps h.receiving),
+      )
   lands_at i t g f n (draws_again p e d h) =
       let a = last_of i.core t g n h in
       let r = is_request i.core a.number a.fits in
       lands_by i t g f (request i.core) n (record { state = t; does = Answers a.block }) e a.heeds r (request_again i.core t a.block d a.same_number a.last)
-        (has (inl p) a.block refl a.last h, cuts_same t t f (request i.core) e r (λ ps. ack_cut i.core t ps d))
+      (has (inl p) a.block refl a.last h, cuts_same t t f (request i.core) e r (λ ps. ack_cut i.core t ps d))
   lands_at i t g f n (naks p e h b) =
       lands_by i t g f (Nak i.core.number) n (record { state = t; does = Answers (Ack t.number) }) e h.bounds.heeds h.number (nak_missed i.core t h.other h.number)
-        (misses p refl h b, cuts_same t t f (Nak i.core.number) e h.number (λ ps. refl))
+      (misses p refl h b, cuts_same t t f (Nak i.core.number) e h.number (λ ps. refl))
   lands_at i t g f n (naks_held p e d h) =
       let a = last_of i.core t g n h in
       lands_by i t g f (Nak i.core.number) n (record { state = t; does = Answers a.block }) e a.heeds a.number (nak_again i.core t a.block a.same_number a.last)
-        (has (inr p) a.block refl a.last h, cuts_same t t f (Nak i.core.number) e a.number (λ ps. refl))
+      (has (inr p) a.block refl a.last h, cuts_same t t f (Nak i.core.number) e a.number (λ ps. refl))

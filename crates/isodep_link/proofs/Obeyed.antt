@@ -17,20 +17,20 @@ use Rattle.isodep_link.proofs.Hearing.{unheard_at, lost_at, damaged_at, answered
 -- What two ends of such a link owe for one step, the ends of ISO-DEP keep.
 abbrev pub keeps : (m : ℕ) (out : List ℕ) → Keeps iso_dep out
 keeps m out = record {
-    Ask = Ask m out;
-    Wait = Wait m out;
-    Done = InStep;
-    more = more m out;
-    Fits = Fits m out;
-    Stood = IsCut;
-    stood = λ t commands arrived s. ap (λ c. c.commands) s;
-    some_left = ask_left m out;
-    lands = lands_at m out;
-    unheard = unheard_at m out;
-    lost = lost_at m out;
-    damaged = damaged_at m out;
-    answered = answered_at m out;
-  }
+  Ask = Ask m out;
+  Wait = Wait m out;
+  Done = InStep;
+  more = more m out;
+  Fits = Fits m out;
+  Stood = IsCut;
+  stood = λ t commands arrived s. ap (λ c. c.commands) s;
+  some_left = ask_left m out;
+  lands = lands_at m out;
+  unheard = unheard_at m out;
+  lost = lost_at m out;
+  damaged = damaged_at m out;
+  answered = answered_at m out;
+}
 
 -- an exchange begins so
 asking_first : (i : ReaderState) (t : CardState) (command : List ℕ) → length command ≤ limit → InStep i t → Asking t.most command (begun i command).core t None
@@ -54,7 +54,8 @@ pub obeyed_once : (far : List ℕ → List ℕ) (i : ReaderState) (t : CardState
     → ObeyedOnce far i t commands command (run iso_dep far (beginning i t commands arrived command) fates)
 obeyed_once far i t commands arrived command fates fits short s c =
     exactly_once iso_dep commands command (keeps t.most command) (IsReplyTo far command) (pieces i.core.most command) (pieces t.most) (λ r. refl)
-      far fits refl (beginning i t commands arrived command) fates
-      ( 2 * pieces i.core.most command
-      , asks refl refl (asking_first i t command short s) (omega arith)
-      , record { once = sym (append-nil commands); reply = tt; stood = c; bound = omega arith } )
+    far fits refl (beginning i t commands arrived command) fates (
+      2 * pieces i.core.most command,
+      asks refl refl (asking_first i t command short s) (omega arith),
+      record { once = sym (append-nil commands); reply = tt; stood = c; bound = omega arith },
+    )

@@ -40,8 +40,8 @@ no_rats Deselect r = refl
 pub card_heeds : (t : CardState) (b : Block) → t.mute ≡ false → IsBlock b → card_table t (block_frame b) ≡ card.framed (block_table t b)
 card_heeds t b e r =
     ap (λ v. if v then card.framed (stays t) else heeded t (rats_code (block_frame b)) (spelled_block (block_frame b))) e
-      ∙ ap (λ o. heeded t o (spelled_block (block_frame b))) (no_rats b r)
-      ∙ ap (λ o. heeded t None o) (written_read b r)
+    ∙ ap (λ o. heeded t o (spelled_block (block_frame b))) (no_rats b r)
+    ∙ ap (λ o. heeded t None o) (written_read b r)
 
 -- a reader does at the frame of a block what its table says
 pub reader_heeds : (i : ReaderState) (b : Block) → IsBlock b → reader_table i (heard.Whole (block_frame b)) ≡ reader.framed (block_next i (Hears b))

@@ -3,8 +3,7 @@
 use Rattle.std.specs.Prelude.{◌≡◌, ℕ, ◌+◌, ◌-◌, ◌/◌, ◌<◌, ◌≤◌, Bool, false, List, [], ◌∷◌, ◌++◌, length, Option, Some, None}
 use Rattle.nfc_base.specs.Signal.{Signal}
 use Rattle.nfc_base.specs.StopAndWait.{Does, Quiet, Reply, Deliver, Hears, Whole, Damaged, Silent, Ending, Finished, SixBad, Protocol, Next, Send, Ends, StopAndWait, Requests, World, Once, IsReplyTo}
-use Rattle.nfc_base.specs.declared.event.Heard.{Heard}
-use Rattle.nfc_base.specs.declared.event.Heard.TheVariants as heard
+use Rattle.nfc_base.specs.LinkTurns.{heard_of}
 use Rattle.isodep_link.specs.declared.block.Block.{Block}
 use Rattle.isodep_link.specs.declared.card.CardStep.{CardStep}
 use Rattle.isodep_link.specs.declared.card.CardStep.TheVariants as card
@@ -28,12 +27,6 @@ reader_does (reader.Finished answer) = Ends (Finished answer.items)
 reader_does reader.SixBad = Ends SixBad
 reader_does reader.Protocol = Ends Protocol
 
--- With one card in the field nothing collides.
-abbrev pub heard_of : Hears Signal → Heard
-heard_of (Whole f) = heard.Whole f
-heard_of Damaged = heard.Damaged
-heard_of Silent = heard.Silent
-
 abbrev pub before_blocks : Option Block → List Block → List Block
 before_blocks None bs = bs
 before_blocks (Some b) bs = b ∷ bs
@@ -46,15 +39,15 @@ blocks_of (f ∷ fs) = before_blocks (spelled_block f) (blocks_of fs)
 -- the tables of reader and card
 abbrev pub iso_dep : StopAndWait ReaderState CardState Signal
 iso_dep = record {
-    heard = λ t f. (card_table t f).state;
-    does = λ t f. card_does (card_table t f).does;
-    replied = replied;
-    answer = λ t r. block_frame (reply_block t r);
-    dark = λ t. fresh t.code;
-    next = λ i h. (reader_table i (heard_of h)).state;
-    acts = λ i h. reader_does (reader_table i (heard_of h)).does;
-    payloads = λ fs. iso_commands (blocks_of fs);
-  }
+  heard = λ t f. (card_table t f).state;
+  does = λ t f. card_does (card_table t f).does;
+  replied = replied;
+  answer = λ t r. block_frame (reply_block t r);
+  dark = λ t. fresh t.code;
+  next = λ i h. (reader_table i (heard_of h)).state;
+  acts = λ i h. reader_does (reader_table i (heard_of h)).does;
+  payloads = λ fs. iso_commands (blocks_of fs);
+}
 
 -- an exchange on such a link
 abbrev pub Exchange : Type 0

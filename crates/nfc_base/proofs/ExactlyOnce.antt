@@ -115,28 +115,29 @@ module _ {I T F : Type 0} (L : StopAndWait I T F) (before : List (List ℕ)) (ou
       → K.Ask w.asking w.answering w.given f n → Base w n 1
       → (x : Does F) → Lands L out K.Ask K.Wait K.more K.Fits K.Stood w.asking w.answering w.given f n (L.heard w.answering f) x
       → Inv (answering_does L far (record w { arrived = w.arrived ++ f ∷ [] }) (L.heard w.answering f) x)
-          (answering_does L far (record w { arrived = w.arrived ++ f ∷ [] }) (L.heard w.answering f) x).stage
+      (answering_does L far (record w { arrived = w.arrived ++ f ∷ [] }) (L.heard w.answering f) x).stage
   arrives_keeps far fits y w f n a b Quiet q =
       let c : K.Stood (L.heard w.answering f) w.delivered (w.arrived ++ f ∷ []) =
-          subst (λ (ps : List (List ℕ)). K.Stood (L.heard w.answering f) ps (w.arrived ++ f ∷ [])) (append-nil w.delivered) (q.1 w.delivered w.arrived b.stood) in
+      subst (λ (ps : List (List ℕ)). K.Stood (L.heard w.answering f) ps (w.arrived ++ f ∷ [])) (append-nil w.delivered) (q.1 w.delivered w.arrived b.stood) in
       bad_keeps (record w { arrived = w.arrived ++ f ∷ []; answering = L.heard w.answering f }) Silent n refl
-        (record { once = b.once; reply = b.reply; stood = c; bound = (let z = b.bound in omega arith) }) (L.acts w.asking Silent)
-        (K.unheard w.asking (L.heard w.answering f) w.given f n q.0)
+      (record { once = b.once; reply = b.reply; stood = c; bound = (let z = b.bound in omega arith) }) (L.acts w.asking Silent)
+      (K.unheard w.asking (L.heard w.answering f) w.given f n q.0)
   arrives_keeps far fits y w f n a b (Reply r) q =
       let c : K.Stood (L.heard w.answering f) w.delivered (w.arrived ++ f ∷ []) =
-          subst (λ (ps : List (List ℕ)). K.Stood (L.heard w.answering f) ps (w.arrived ++ f ∷ [])) (append-nil w.delivered) (q.1 w.delivered w.arrived b.stood) in
+      subst (λ (ps : List (List ℕ)). K.Stood (L.heard w.answering f) ps (w.arrived ++ f ∷ [])) (append-nil w.delivered) (q.1 w.delivered w.arrived b.stood) in
       (n, q.0, record { once = b.once; reply = b.reply; stood = c; bound = b.bound })
   arrives_keeps far fits y w f n a b (Deliver p) q =
       let s = q.2 (far p) (fits p) in
-      let o : w.delivered ≡ before = b.once ∙ ap (λ (z : Option (List ℕ)). before ++ delivered_of out z) q.1 ∙ append-nil before in
-      ( n + 2 * K.more (far p)
-      , s.0
-      , record {
+      let o : w.delivered ≡ before = b.once ∙ ap (λ (z : Option (List ℕ)). before ++ delivered_of out z) q.1 ∙ append-nil before in (
+        n + 2 * K.more (far p),
+        s.0,
+        record {
           once = rw (o, q.0) refl;
           reply = rw q.0 y;
           stood = s.1 w.delivered w.arrived b.stood;
           bound = (let z = rw q.1 at b.bound in omega arith);
-        } )
+        },
+      )
 
   -- a whole answer is heard
   heard_keeps : (w : World I T F) (a : F) (n : ℕ) → 2 ≤ n → Base w n 2
@@ -147,8 +148,11 @@ module _ {I T F : Type 0} (L : StopAndWait I T F) (before : List (List ℕ)) (ou
       (m, s, record { once = b.once; reply = b.reply; stood = b.stood; bound = (let z = b.bound in omega arith) })
   heard_keeps w a n p b (Ends (Finished r)) z =
       record {
-        once = b.once; reply = b.reply; brings = K.stood w.answering w.delivered w.arrived b.stood;
-        ending = (z.0, (z.1, b.stood)); within = (let y = b.bound in omega arith);
+        once = b.once;
+        reply = b.reply;
+        brings = K.stood w.answering w.delivered w.arrived b.stood;
+        ending = (z.0, (z.1, b.stood));
+        within = (let y = b.bound in omega arith);
       }
   heard_keeps w a n p b (Ends SixBad) z = absurd z
   heard_keeps w a n p b (Ends Protocol) z = absurd z
@@ -207,7 +211,10 @@ module _ {I T F : Type 0} (L : StopAndWait I T F) (before : List (List ℕ)) (pa
   kept_once w h =
       let k = kept_now L before payload K Gave (2 * out) w w.stage h in
       record {
-        once = k.once; reply = k.reply; brings = k.brings; ending = k.ending;
+        once = k.once;
+        reply = k.reply;
+        brings = k.brings;
+        ending = k.ending;
         within = bounded out back K.more w.given w.sent w.bads more k.within;
       }
 

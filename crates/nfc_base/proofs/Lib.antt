@@ -3,3 +3,4 @@ pub mod Deciding
 pub mod BitsOfBytes
 pub mod Leading
 pub mod ExactlyOnce
+pub mod LinkTurns

@@ -7,3 +7,4 @@ pub mod Far
 pub mod Links
 pub mod TagLinks
 pub mod StopAndWait
+pub mod LinkTurns
