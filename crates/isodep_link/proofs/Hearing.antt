@@ -1,12 +1,12 @@
 -- The reader at the card's answers, and at bad receptions, while an exchange is under way.
-use Rattle.std.proofs.Common.{◌≡◌, ℕ, ◌+◌, ◌*◌, ◌<◌, ◌≤◌, nat_lt, if◌then◌else◌, Bool, true, false, List, [], ◌∷◌, ◌++◌, length, take, drop, Option, Some, None, ◌⊎◌, inl, inr, refl, sym, ◌∙◌, ap, subst, arith, append_assoc, take_all, length-drop}
+use Rattle.std.proofs.Common.{◌≡◌, ℕ, ◌+◌, ◌*◌, ◌<◌, ◌≤◌, nat_lt, if◌then◌else◌, Bool, true, false, List, [], ◌++◌, length, take, drop, Option, Some, inl, inr, refl, sym, ◌∙◌, ap, subst, arith, append_assoc, take_all, length-drop}
 use Rattle.std.proofs.lemmas.Bool.{lt-ltb, ltb-true}
 use Rattle.std.proofs.lemmas.List.{take-append-drop, length-take-le}
 use Rattle.nfc_base.specs.Signal.{Signal}
-use Rattle.nfc_base.specs.StopAndWait.{Hears, Whole, Damaged, Silent}
+use Rattle.nfc_base.specs.StopAndWait.{Whole, Damaged, Silent}
 use Rattle.nfc_base.proofs.ExactlyOnce.{Goes}
 use Rattle.isodep_link.specs.declared.block.Block.{Block}
-use Rattle.isodep_link.specs.declared.block.Block.TheVariants.{Info, Ack, Nak, Deselect}
+use Rattle.isodep_link.specs.declared.block.Block.TheVariants.{Ack}
 use Rattle.isodep_link.specs.declared.reader.Phase.{Phase}
 use Rattle.isodep_link.specs.declared.reader.Phase.TheVariants.{Asked, Nacked, Free, EndedSixBad, EndedProtocol}
 use Rattle.isodep_link.specs.Blocks.{toggled, IsBlock, block_frame, piece}
@@ -17,7 +17,7 @@ use Rattle.isodep_link.specs.Reader.{Core, ReaderState, ReaderMove, ReaderTurn, 
 use Rattle.nfc_base.specs.LinkTurns.{heard_of}
 use Rattle.isodep_link.specs.Exchange.{iso_dep, reader_does, pieces, InStep}
 use Rattle.isodep_link.proofs.Wire.{reader_heeds, is_piece}
-use Rattle.isodep_link.proofs.Standing.{same, toggled_not, toggled_twice, toggled_small, not_lt, le_from_not, pieces_drop, chain_fits, Bounds, Asking, Drawing, Acked, Answered, Held, of_chain, of_answer, Ask, asks, draws, draws_again, naks, naks_held, IsLive, Wait, has, misses}
+use Rattle.isodep_link.proofs.Standing.{same, toggled_not, toggled_twice, toggled_small, not_lt, le_from_not, pieces_drop, chain_fits, Asking, Drawing, Acked, Answered, Held, of_chain, of_answer, Ask, asks, draws, draws_again, naks, naks_held, IsLive, Wait, has, misses}
 
 module _ (m : ℕ) (out : List ℕ) where
   -- a bad reception: the reader sends something, of which two transmissions more are left, or gives up

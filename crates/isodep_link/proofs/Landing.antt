@@ -1,22 +1,20 @@
 -- The card at the reader's frames, while an exchange is under way: it answers what it has, takes the next piece, or obeys the
 -- whole command for the first time.
-use Rattle.std.proofs.Common.{◌≡◌, ℕ, ◌+◌, ◌*◌, ◌<◌, ◌≤◌, nat_lt, Bool, true, false, List, [], ◌∷◌, ◌++◌, length, take, drop, Option, Some, None, ◌⊎◌, inl, inr, refl, sym, ◌∙◌, ap, subst, arith, append_assoc, take_all}
+use Rattle.std.proofs.Common.{◌≡◌, ℕ, ◌<◌, ◌≤◌, nat_lt, Bool, true, false, List, [], ◌∷◌, ◌++◌, length, take, drop, Option, Some, inl, inr, refl, sym, ◌∙◌, ap, subst, arith, append_assoc, take_all}
 use Rattle.std.proofs.lemmas.Bool.{lt-ltb, ltb-true}
 use Rattle.std.proofs.lemmas.List.{take-append-drop}
-use Rattle.std.proofs.Math.Nat.{add-div_left}
 use Rattle.nfc_base.specs.Signal.{Signal}
 use Rattle.nfc_base.proofs.ExactlyOnce.{Lands}
 use Rattle.isodep_link.specs.declared.block.Block.{Block}
-use Rattle.isodep_link.specs.declared.block.Block.TheVariants.{Info, Ack, Nak, Deselect}
-use Rattle.isodep_link.specs.declared.reader.Phase.TheVariants.{Asked, Nacked, Free, EndedSixBad, EndedProtocol}
+use Rattle.isodep_link.specs.declared.block.Block.TheVariants.{Ack, Nak}
 use Rattle.isodep_link.specs.Blocks.{toggled, IsBlock, block_frame, piece}
 use Rattle.isodep_link.specs.Sizes.{limit}
-use Rattle.isodep_link.specs.Card.{CardState, CardMove, CardTurn, Does, Stays, Answers, Delivers, Sleeps, framed, framed_does, card_table, block_table, replied, reply_block}
-use Rattle.isodep_link.specs.Reader.{Core, ReaderState, request, more_follows}
+use Rattle.isodep_link.specs.Card.{CardState, CardMove, CardTurn, Answers, Delivers, framed, framed_does, card_table, block_table, replied, reply_block}
+use Rattle.isodep_link.specs.Reader.{Core, ReaderState, request}
 use Rattle.isodep_link.specs.Commands.{taken}
-use Rattle.isodep_link.specs.Exchange.{iso_dep, card_does, IsCut, pieces}
+use Rattle.isodep_link.specs.Exchange.{iso_dep, card_does, IsCut}
 use Rattle.isodep_link.proofs.Wire.{card_heeds, is_piece, cut_of, cuts_on, cuts_same}
-use Rattle.isodep_link.proofs.Standing.{same, not_toggled, toggled_twice, not_lt, le_from_not, chain_fits, Bounds, Asking, Drawing, Acked, Answered, Held, of_chain, of_answer, Ask, asks, draws, draws_again, naks, naks_held, Wait, has, misses, more, Fits}
+use Rattle.isodep_link.proofs.Standing.{same, not_toggled, toggled_twice, not_lt, le_from_not, chain_fits, Asking, Drawing, Acked, Answered, Held, of_chain, of_answer, Ask, asks, draws, draws_again, naks, naks_held, Wait, has, misses, more, Fits}
 
 module _ (m : ℕ) (out : List ℕ) where
   -- the reader's frame f lands, at which the card makes that move

@@ -7,3 +7,4 @@ pub mod Standing
 pub mod Landing
 pub mod Hearing
 pub mod Obeyed
+pub mod Session

@@ -1,14 +1,12 @@
 -- Over every air a card obeys the command of an exchange at most once, and exactly once where the reader has the answer.
-use Rattle.std.proofs.Common.{◌≡◌, ℕ, ◌+◌, ◌*◌, ◌≤◌, List, [], ◌∷◌, ◌++◌, length, Option, Some, None, refl, sym, ◌∙◌, ap, arith, append-nil}
+use Rattle.std.proofs.Common.{ℕ, ◌*◌, ◌≤◌, List, length, None, refl, sym, ap, arith, append-nil}
 use Rattle.nfc_base.specs.Signal.{Signal}
-use Rattle.nfc_base.specs.StopAndWait.{Requests, World, run, IsReplyTo, Once}
+use Rattle.nfc_base.specs.StopAndWait.{run, IsReplyTo}
 use Rattle.nfc_base.specs.declared.event.Fate.{Fate}
-use Rattle.nfc_base.proofs.ExactlyOnce.{Keeps, IsReady, exactly_once, Inv}
-use Rattle.isodep_link.specs.declared.reader.Phase.TheVariants.{Asked}
-use Rattle.isodep_link.specs.Blocks.{block_frame}
+use Rattle.nfc_base.proofs.ExactlyOnce.{Keeps, exactly_once}
 use Rattle.isodep_link.specs.Sizes.{limit}
 use Rattle.isodep_link.specs.Card.{CardState}
-use Rattle.isodep_link.specs.Reader.{ReaderState, request, begun}
+use Rattle.isodep_link.specs.Reader.{ReaderState, begun}
 use Rattle.isodep_link.specs.Exchange.{iso_dep, pieces, InStep, IsCut, beginning, ObeyedOnce}
 use Rattle.isodep_link.proofs.Standing.{Asking, Ask, asks, Wait, more, Fits}
 use Rattle.isodep_link.proofs.Landing.{lands_at}

@@ -1,8 +1,8 @@
 -- Both ends of ISO-DEP as a link that stops and waits (ISO/IEC 14443-4; NFC Forum Digital Protocol): their tables on the air,
 -- how one exchange begins, and in how many blocks its command and its answer are sent.
-use Rattle.std.specs.Prelude.{◌≡◌, ℕ, ◌+◌, ◌-◌, ◌/◌, ◌<◌, ◌≤◌, Bool, false, List, [], ◌∷◌, ◌++◌, length, Option, Some, None}
+use Rattle.std.specs.Prelude.{◌≡◌, ℕ, ◌+◌, ◌-◌, ◌/◌, ◌<◌, ◌≤◌, false, List, [], ◌∷◌, length, Option, Some, None}
 use Rattle.nfc_base.specs.Signal.{Signal}
-use Rattle.nfc_base.specs.StopAndWait.{Does, Quiet, Reply, Deliver, Hears, Whole, Damaged, Silent, Ending, Finished, SixBad, Protocol, Next, Send, Ends, StopAndWait, Requests, World, Once, IsReplyTo}
+use Rattle.nfc_base.specs.StopAndWait.{Does, Quiet, Reply, Deliver, Finished, SixBad, Protocol, Next, Send, Ends, StopAndWait, Requests, World, Once, IsReplyTo}
 use Rattle.nfc_base.specs.LinkTurns.{heard_of}
 use Rattle.isodep_link.specs.declared.block.Block.{Block}
 use Rattle.isodep_link.specs.declared.card.CardStep.{CardStep}
@@ -12,7 +12,7 @@ use Rattle.isodep_link.specs.declared.reader.ReaderStep.TheVariants as reader
 use Rattle.isodep_link.specs.Blocks.{toggled, block_frame, spelled_block}
 use Rattle.isodep_link.specs.Card.{CardState, card_table, replied, reply_block, fresh}
 use Rattle.isodep_link.specs.Reader.{ReaderState, reader_table, begun, request}
-use Rattle.isodep_link.specs.Commands.{Cut, cut_by, iso_commands}
+use Rattle.isodep_link.specs.Commands.{cut_by, iso_commands}
 
 -- the steps of both ends, in the words of such a link
 abbrev pub card_does : CardStep → Does Signal

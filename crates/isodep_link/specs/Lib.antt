@@ -4,3 +4,4 @@ pub mod Card
 pub mod Commands
 pub mod Reader
 pub mod Exchange
+pub mod Sessions
