@@ -27,4 +27,5 @@ pub mod Moves
 pub mod ThroughNoise
 pub mod Causes
 pub mod Twins
+pub mod FromAny
 pub mod Steady

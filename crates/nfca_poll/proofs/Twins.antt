@@ -98,9 +98,6 @@ pub kept_turn : (r : Reading) → polls r ≡ true → (w v u : List Card) → P
 kept_turn r p w v u k e = pairs_with Keeps Keeps Keeps keeps_on w v u k (pairs_map (Moves r) Keeps (move_keeps r p) v u e)
 
 -- what is said of identifiers stays true
-SameId : Card → Card → Type 0
-SameId c d = d.id ≡ c.id
-
 pub each_kept : (P : List ℕ → Type 0) (w v : List Card) → Pairs Keeps w v → Each (λ c. P c.id) w → Each (λ c. P c.id) v
 each_kept P [] [] k e = tt
 each_kept P [] (d ∷ v) k e = absurd k
@@ -152,9 +149,6 @@ distinct_rested [] e = tt
 distinct_rested (c ∷ v) e = (each_rested (λ x. x ≢ c.id) v e.0, distinct_rested v e.1)
 
 -- SENS_REQ
-card : List ℕ → Kind → Front → Card
-card id k f = record { id = id; kind = k; front = f }
-
 woken_by : (id : List ℕ) (k : Kind) (f : Front) → IsIdent id → Twin (card_at [] [] (at_rest (card_next (Calls Sens) (record { id = id; kind = k; front = f })))) (card_next (Calls Sens) (record { id = id; kind = k; front = f }))
 woken_by id k Off i = inl refl
 woken_by id k Idle i = inl (ap (λ v. asked_if (record { id = id; kind = k; front = Idle }) 0 v) (has_levels (levels id) (some_levels id i)))
@@ -216,3 +210,123 @@ woken v u g i j d e h = by_lead (map at_rest u) refl (leads (map at_rest u) (eac
     by_lead _ q (some a m b F) =
         let T : List Card → Type 0 = λ x. Pairs Twin (map (card_at [] []) x) u in
         record { before = a; first = m; behind = b; leads = F; twins = subst T q (woken_twins v u i e) }
+
+-- SDD_REQ and SEL_REQ
+abbrev pub asks_ready : Reading → Bool
+asks_ready (Calls Sens) = false
+asks_ready (Calls All) = false
+asks_ready (Calls Slp) = false
+asks_ready (Calls (Sdd level known)) = true
+asks_ready (Calls (Sel level bytes)) = true
+asks_ready Other = false
+
+pub ready_polls : (r : Reading) → asks_ready r ≡ true → polls r ≡ true
+ready_polls (Calls Sens) a = wrong a
+ready_polls (Calls All) a = wrong a
+ready_polls (Calls Slp) a = wrong a
+ready_polls (Calls (Sdd level known)) a = refl
+ready_polls (Calls (Sel level bytes)) a = refl
+ready_polls Other a = wrong a
+
+-- at these a front that isn't ready says nothing, doesn't become ready, and isn't active afterwards
+abbrev IsDeaf : List (List ℕ) → Kind → Front → Reading → Type 0
+IsDeaf ls k f r = (front_says ls k f r ≡ None) × (is_ready (front_next ls f r) ≡ false) × (is_active (front_next ls f r) ≡ false)
+
+home_deaf : (s : Bool) → (is_ready (home s) ≡ false) × (is_active (home s) ≡ false)
+home_deaf true = (refl, refl)
+home_deaf false = (refl, refl)
+
+deaf_at : (ls : List (List ℕ)) (k : Kind) (f : Front) (r : Reading) → asks_ready r ≡ true → is_ready f ≡ false → IsDeaf ls k f r
+deaf_at ls k f (Calls Sens) a n = wrong a
+deaf_at ls k f (Calls All) a n = wrong a
+deaf_at ls k f (Calls Slp) a n = wrong a
+deaf_at ls k f Other a n = wrong a
+deaf_at ls k Off (Calls (Sdd level known)) a n = (refl, refl, refl)
+deaf_at ls k Idle (Calls (Sdd level known)) a n = (refl, refl, refl)
+deaf_at ls k Sleep (Calls (Sdd level known)) a n = (refl, refl, refl)
+deaf_at ls k (Ready j s) (Calls (Sdd level known)) a n = wrong_back n
+deaf_at ls k (Active s) (Calls (Sdd level known)) a n = (refl, (home_deaf s).0, (home_deaf s).1)
+deaf_at ls k Off (Calls (Sel level bytes)) a n = (refl, refl, refl)
+deaf_at ls k Idle (Calls (Sel level bytes)) a n = (refl, refl, refl)
+deaf_at ls k Sleep (Calls (Sel level bytes)) a n = (refl, refl, refl)
+deaf_at ls k (Ready j s) (Calls (Sel level bytes)) a n = wrong_back n
+deaf_at ls k (Active s) (Calls (Sel level bytes)) a n = (refl, (home_deaf s).0, (home_deaf s).1)
+
+asleep_by : (id : List ℕ) (k : Kind) (f : Front) (r : Reading) → asks_ready r ≡ true → Sleeps (record { id = id; kind = k; front = f })
+    → (card_next r (record { id = id; kind = k; front = f }) ≡ record { id = id; kind = k; front = f }) × (card_says r (record { id = id; kind = k; front = f }) ≡ None)
+asleep_by id k f (Calls Sens) a s = wrong a
+asleep_by id k f (Calls All) a s = wrong a
+asleep_by id k f (Calls Slp) a s = wrong a
+asleep_by id k f Other a s = wrong a
+asleep_by id k Off (Calls (Sdd level known)) a s = (refl, refl)
+asleep_by id k Idle (Calls (Sdd level known)) a s = wrong_back s.1
+asleep_by id k Sleep (Calls (Sdd level known)) a s = (refl, refl)
+asleep_by id k (Ready j t) (Calls (Sdd level known)) a s = wrong s.0
+asleep_by id k (Active t) (Calls (Sdd level known)) a s = wrong s.0
+asleep_by id k Off (Calls (Sel level bytes)) a s = (refl, refl)
+asleep_by id k Idle (Calls (Sel level bytes)) a s = wrong_back s.1
+asleep_by id k Sleep (Calls (Sel level bytes)) a s = (refl, refl)
+asleep_by id k (Ready j t) (Calls (Sel level bytes)) a s = wrong s.0
+asleep_by id k (Active t) (Calls (Sel level bytes)) a s = wrong s.0
+
+module _ (r : Reading) (a : asks_ready r ≡ true) where
+  -- twins say the same, and go on as twins
+  twin_says : (x y : Card) → Twin x y → card_says r x ≡ card_says r y
+  twin_says x y (inl e) = ap (card_says r) e
+  twin_says x y (inr t) =
+      let deaf : IsDeaf (levels y.id) y.kind y.front r = deaf_at (levels y.id) y.kind y.front r a t.3 in
+      (asleep_by x.id x.kind x.front r a t.2).1 ∙ sym deaf.0
+
+  twin_moves : (x y z : Card) → Twin x y → is_active x.front ≡ false → Moves r y z → Twin (card_next r x) z
+  twin_moves x y z (inl e) i (inl m) = inl (ap (card_next r) e ∙ sym m)
+  twin_moves x y z (inl e) i (inr m) = let C : Card → Bool = λ c. is_active c.front in wrong (sym i ∙ ap C e ∙ m.0)
+  twin_moves x y z (inr t) i m =
+      let T : Card → Type 0 = λ c. Twin c z in
+      subst T (sym (asleep_by x.id x.kind x.front r a t.2).0) (by_move m)
+    where
+      by_move : Moves r y z → Twin x z
+      by_move (inl e) =
+          let U : Card → Type 0 = λ c. Twin x c in
+          let deaf : IsDeaf (levels y.id) y.kind y.front r = deaf_at (levels y.id) y.kind y.front r a t.3 in
+          subst U (sym e) (inr (t.0, t.1, t.2, deaf.1))
+      by_move (inr s) = let U : Card → Type 0 = λ c. Twin x c in subst U (sym s.1) (inr t)
+
+  -- one of the field becomes active only where its twin does
+  twin_wakes : (x y z : Card) → Twin x y → is_active x.front ≡ false → Moves r y z → is_active z.front ≡ true → (is_active y.front ≡ true) ⊎ (card_next r x ≡ z)
+  twin_wakes x y z (inl e) i (inl m) v = inr (ap (card_next r) e ∙ sym m)
+  twin_wakes x y z t i (inr m) v = inl m.0
+  twin_wakes x y z (inr t) i (inl m) v =
+      let C : Card → Bool = λ c. is_active c.front in
+      let deaf : IsDeaf (levels y.id) y.kind y.front r = deaf_at (levels y.id) y.kind y.front r a t.3 in
+      wrong (sym deaf.2 ∙ sym (ap C m) ∙ v)
+
+  pub twins_say : (xs ys : List Card) → Pairs Twin xs ys → filter_map (card_says r) xs ≡ filter_map (card_says r) ys
+  twins_say [] [] t = refl
+  twins_say [] (y ∷ ys) t = absurd t
+  twins_say (x ∷ xs) [] t = absurd t
+  twins_say (x ∷ xs) (y ∷ ys) t =
+      ap (λ o. cons_option o (filter_map (card_says r) xs)) (twin_says x y t.0) ∙ ap (cons_option (card_says r y)) (twins_say xs ys t.1)
+
+  pub twins_move : (xs ys zs : List Card) → Pairs Twin xs ys → Each (λ c. is_active c.front ≡ false) xs → Pairs (Moves r) ys zs → Pairs Twin (map (card_next r) xs) zs
+  twins_move [] [] [] t i m = tt
+  twins_move [] [] (z ∷ zs) t i m = m
+  twins_move [] (y ∷ ys) zs t i m = absurd t
+  twins_move (x ∷ xs) [] zs t i m = absurd t
+  twins_move (x ∷ xs) (y ∷ ys) [] t i m = m
+  twins_move (x ∷ xs) (y ∷ ys) (z ∷ zs) t i m = (twin_moves x y z t.0 i.0 m.0, twins_move xs ys zs t.1 i.1 m.1)
+
+  -- where only cards of this kind become active at rest, so in the field
+  pub twins_wake : (P : Card → Type 0) (xs ys zs : List Card) → Pairs Twin xs ys → Each (λ c. is_active c.front ≡ false) xs → Pairs (Moves r) ys zs
+      → Each (λ c. is_active c.front ≡ true → P c) (map (card_next r) xs) → Pairs (λ y z. is_active z.front ≡ true → (is_active y.front ≡ true) ⊎ P z) ys zs
+  twins_wake P [] [] [] t i m w = tt
+  twins_wake P [] [] (z ∷ zs) t i m w = m
+  twins_wake P [] (y ∷ ys) zs t i m w = absurd t
+  twins_wake P (x ∷ xs) [] zs t i m w = absurd t
+  twins_wake P (x ∷ xs) (y ∷ ys) [] t i m w = m
+  twins_wake P (x ∷ xs) (y ∷ ys) (z ∷ zs) t i m w = ((λ v. by_twin v (twin_wakes x y z t.0 i.0 m.0 v)), twins_wake P xs ys zs t.1 i.1 m.1 w.1)
+    where
+      by_twin : is_active z.front ≡ true → (is_active y.front ≡ true) ⊎ (card_next r x ≡ z) → (is_active y.front ≡ true) ⊎ P z
+      by_twin v (inl e) = inl e
+      by_twin v (inr e) =
+          let C : Card → Bool = λ c. is_active c.front in
+          inr (subst P e (w.0 (ap C e ∙ v)))

@@ -1,6 +1,6 @@
 -- A resolution from any start: the NFC-A devices are in any state, and active ones under any machine (NFC Forum Digital
 -- Protocol; what a machine above a front does at the calls of a reader is this project's own).
-use Rattle.std.specs.Prelude.{◌≡◌, ◌⊎◌, ℕ, ◌<◌, List, [], ◌∷◌, ◌++◌, length, drop, Bool, true, false, None, Result, Ok, Err}
+use Rattle.std.specs.Prelude.{◌≡◌, ◌⊎◌, ℕ, ◌<◌, ◌≤◌, List, [], ◌∷◌, ◌++◌, length, drop, Bool, true, false, None, Result, Ok, Err}
 use Rattle.nfc_base.specs.declared.frame.Tech.TheVariants.{A}
 use Rattle.nfc_base.specs.Signal.{Signal}
 use Rattle.nfc_base.specs.Far.{Untouched}
@@ -64,12 +64,21 @@ pub record IsActiveIn (v : List Card) (p : Picked) : Type 0 where
   pub behind : List Card
   pub place : v ≡ before ++ record { id = p.id; kind = p.kind; front = Active false } ∷ behind
 
+-- none but one with this identifier becomes active
+abbrev pub WakesOnly : List ℕ → Card → Card → Type 0
+WakesOnly id c d = is_active d.front ≡ true → (is_active c.front ≡ true) ⊎ (d.id ≡ id)
+
+-- a device that waits to be found: it isn't active, and is idle or goes there
+abbrev pub IsWaiting : Card → Type 0
+IsWaiting c = (is_active c.front ≡ false) × (home_of c.front ≡ Idle)
+
 -- How a resolution ends among devices w in any state, which are v afterwards, by how many of its transmissions had noise: it
--- picks one of them, which is active then, it is disturbed only by noise, and it hears no bad answer. Unless the field
--- is lost each device keeps its identifier, its kind and its home.
+-- picks one of them, which alone becomes active; it finds nobody only where none waits to be found or two transmissions
+-- had noise; it is disturbed only by noise; and it hears no bad answer. Unless the field is lost each device keeps its
+-- identifier, its kind and its home.
 abbrev pub EndsFromAny : List Card → Result Picked PollFault → List Card → ℕ → Type 0
-EndsFromAny w (Ok p) v n = Pairs Keeps w v × IsActiveIn v p
-EndsFromAny w (Err Nobody) v n = Pairs Keeps w v
+EndsFromAny w (Ok p) v n = Pairs Keeps w v × IsActiveIn v p × Pairs (WakesOnly p.id) w v
+EndsFromAny w (Err Nobody) v n = Pairs Keeps w v × (Each (λ c. IsWaiting c → ⊥) w ⊎ (2 ≤ n))
 EndsFromAny w (Err Disturbed) v n = Pairs Keeps w v × (0 < n)
 EndsFromAny w (Err FieldLost) v n = Unit {0}
 EndsFromAny w (Err Memory) v n = Pairs Keeps w v

@@ -1,0 +1,231 @@
+-- A resolution over this project's listeners in any state, whatever noise it meets.
+use Rattle.std.proofs.Common.{◌≡◌, ◌⊎◌, ℕ, ◌+◌, ◌*◌, ◌<◌, ◌≤◌, List, [], ◌∷◌, ◌++◌, length, drop, map, filter_map, Bool, true, false, ◌&&◌, nat_lt, nat_le, if◌then◌else◌, inl, inr, refl, sym, ◌∙◌, ap, subst, arith, Option, Some, None, Result, Ok, Err}
+use Rattle.std.specs.List.{cons_option}
+use Rattle.nfc_base.specs.declared.frame.Tech.TheVariants.{A}
+use Rattle.nfc_base.specs.declared.event.Heard.{Heard}
+use Rattle.nfc_base.specs.declared.event.Heard.TheVariants.{Damaged, Silent}
+use Rattle.nfc_base.specs.Signal.{Signal}
+use Rattle.nfc_base.specs.Trace.{noise}
+use Rattle.air_core.specs.Joint.{joint}
+use Rattle.air_core.specs.World.{Machine}
+use Rattle.air_core.specs.Turn.{Air}
+use Rattle.nfca_poll.specs.declared.kind.Kind.{Kind}
+use Rattle.nfca_poll.specs.declared.fault.Picked.{Picked}
+use Rattle.nfca_poll.specs.declared.fault.PollFault.{PollFault}
+use Rattle.nfca_poll.specs.declared.fault.PollFault.TheVariants as faults
+use Rattle.nfca_poll.specs.declared.seeking.Seeking.{Seeking}
+use Rattle.nfca_poll.specs.declared.seeking.Seeking.TheVariants as seeks
+use Rattle.nfca_poll.specs.Ident.{IsIdent}
+use Rattle.nfca_poll.specs.Levels.{levels}
+use Rattle.nfca_poll.specs.Calls.{Call, Calls, Reading, Sens, Sdd, Sel, call_of}
+use Rattle.nfca_poll.specs.Front.{Front, Off, Idle, Sleep, Ready, Active, home, front_next, is_active}
+use Rattle.nfca_poll.specs.Poll.{Seek, Calling, Asking, Selecting, Ended, Outcome, Nobody, Disturbed, BadAnswer, Found, seek_step}
+use Rattle.nfca_poll.specs.Muted.{Asks}
+use Rattle.nfca_poll.specs.Seeking.{resolution, seek_of, request_of, outcome, levels_of}
+use Rattle.nfca_poll.specs.Crowd.{Card, Each, with_front, is_rest, IsFirst, AreOurs, cards, AreDistinct}
+use Rattle.nfca_poll.specs.AnyStart.{YieldsToCalls, HaveOwnIdents, Pairs, home_of, Keeps, IsActiveIn, WakesOnly, IsWaiting, EndsFromAny, PicksFromAny}
+use Rattle.nfca_poll.proofs.Clashes.{wrong, wrong_back, Has}
+use Rattle.nfca_poll.proofs.Eaches.{each_map, each_has, has_middle, none_in}
+use Rattle.nfca_poll.proofs.HeardBits.{heard_of}
+use Rattle.nfca_poll.proofs.CallsRead.{sdd_read, sel_read}
+use Rattle.nfca_poll.proofs.LevelFacts.{IsLevel}
+use Rattle.nfca_poll.proofs.Enquiring.{Reached}
+use Rattle.nfca_poll.proofs.Fitting.{card_next, card_says, card_at}
+use Rattle.nfca_poll.proofs.Choosing.{hears, Seeks, IsCard, heard_some}
+use Rattle.nfca_poll.proofs.Selects.{quiet_turn, identifier_of, few_done}
+use Rattle.nfca_poll.proofs.Crowding.{events_of}
+use Rattle.nfca_poll.proofs.FirstPicked.{rest_inactive, at_inactive, each_mapped, request_a}
+use Rattle.nfca_poll.proofs.ThroughNoise.{is_calling, asking_on, selecting_on, asked_first, noise_so_far}
+use Rattle.nfca_poll.proofs.Moves.{Moves, TurnOf, passed, unheard, damaged, lost, turn_of}
+use Rattle.nfca_poll.proofs.Twins.{pairs_map, pairs_with, kept_start, kept_turn, each_kept, distinct_kept, polls, asks_ready, ready_polls, Twin, Woken, woken, twins_say, twins_move, twins_wake}
+
+-- active only where it was before
+abbrev pub Stays : Card → Card → Type 0
+Stays c d = is_active d.front ≡ true → is_active c.front ≡ true
+
+-- Behind so many silences and so much noise, a device that waits to be found is idle, or goes there next.
+abbrev pub Soon : ℕ → ℕ → Front → Type 0
+Soon k n Off = ⊥
+Soon k n Idle = k ≤ 2 * n + 1
+Soon k n Sleep = ⊥
+Soon k n (Ready j true) = ⊥
+Soon k n (Ready j false) = k ≤ 2 * n
+Soon k n (Active s) = ⊥
+
+abbrev pub Due : ℕ → ℕ → Card → Card → Type 0
+Due k n c d = IsWaiting c → Soon k n d.front
+
+-- Among devices w, the call has asked for presence in vain so often.
+pub record CallsInVain (w : List Card) (k : ℕ) (v : List Card) (n : ℕ) : Type 0 where
+  pub kept : Pairs Keeps w v
+  pub stay : Pairs Stays w v
+  pub due : Pairs (Due k n) w v
+
+-- Behind presence the devices are twins of a crowd at rest in which the resolution is as far.
+pub record Behind (w : List Card) (s : Seek) (v : List Card) : Type 0 where
+  pub kept : Pairs Keeps w v
+  pub stay : Pairs Stays w v
+  pub before : List Card
+  pub first : Card
+  pub behind : List Card
+  pub leads : IsFirst before first behind
+  pub crowd : List Card
+  pub seeks : Seeks before first behind s crowd
+  pub twins : Pairs Twin crowd v
+
+abbrev pub Mixed : List Card → Seek → List Card → ℕ → Type 0
+Mixed w (Calling k) v n = CallsInVain w k v n
+Mixed w (Asking done known) v n = Behind w (Asking done known) v
+Mixed w (Selecting done l) v n = Behind w (Selecting done l) v
+Mixed w (Ended o) v n = EndsFromAny w (outcome o) v n
+
+-- SENS_REQ: who waits
+waits_at_home : (f : Front) → is_active f ≡ false → home_of f ≡ Idle → Soon 0 0 f
+waits_at_home Off a h = absurd cc
+waits_at_home Idle a h = omega arith
+waits_at_home Sleep a h = absurd cc
+waits_at_home (Ready j true) a h = absurd cc
+waits_at_home (Ready j false) a h = omega arith
+waits_at_home (Active s) a h = wrong_back a
+
+due_start : (w : List Card) → Pairs (Due 0 0) w w
+due_start [] = tt
+due_start (c ∷ w) = ((λ q. waits_at_home c.front q.0 q.1), due_start w)
+
+-- a request that was lost
+soon_unheard : (k n : ℕ) (f : Front) → Soon k n f → Soon (k + 1) (n + 1) f
+soon_unheard k n Off h = h
+soon_unheard k n Idle h = omega (arith, h)
+soon_unheard k n Sleep h = h
+soon_unheard k n (Ready j true) h = h
+soon_unheard k n (Ready j false) h = omega (arith, h)
+soon_unheard k n (Active s) h = h
+
+-- an answer that was lost
+soon_lost : (k n : ℕ) (kind : Kind) (id : List ℕ) (f : Front) (d : Card) → Moves (Calls Sens) (record { id = id; kind = kind; front = f }) d → Soon k n f → Soon (k + 1) (n + 1) d.front
+soon_lost k n kind id Off d m h = absurd h
+soon_lost k n kind id Idle d (inl e) h = let S : Card → Type 0 = λ x. Soon (k + 1) (n + 1) x.front in subst S (sym e) (omega (arith, h))
+soon_lost k n kind id Idle d (inr t) h = wrong t.0
+soon_lost k n kind id Sleep d m h = absurd h
+soon_lost k n kind id (Ready j true) d m h = absurd h
+soon_lost k n kind id (Ready j false) d (inl e) h = let S : Card → Type 0 = λ x. Soon (k + 1) (n + 1) x.front in subst S (sym e) (omega (arith, h))
+soon_lost k n kind id (Ready j false) d (inr t) h = wrong t.0
+soon_lost k n kind id (Active s) d m h = absurd h
+
+-- nobody has answered
+soon_silent : (k n : ℕ) (kind : Kind) (id : List ℕ) (f : Front) (d : Card) → card_says (Calls Sens) (record { id = id; kind = kind; front = f }) ≡ None → Moves (Calls Sens) (record { id = id; kind = kind; front = f }) d
+    → Soon k n f → Soon (k + 1) n d.front
+soon_silent k n kind id Off d q m h = absurd h
+soon_silent k n kind id Idle d q m h = absurd cc
+soon_silent k n kind id Sleep d q m h = absurd h
+soon_silent k n kind id (Ready j true) d q m h = absurd h
+soon_silent k n kind id (Ready j false) d q (inl e) h = let S : Card → Type 0 = λ x. Soon (k + 1) n x.front in subst S (sym e) (omega (arith, h))
+soon_silent k n kind id (Ready j false) d q (inr t) h = wrong t.0
+soon_silent k n kind id (Active s) d q m h = absurd h
+
+due_unheard : (k n : ℕ) (w v : List Card) → Pairs (Due k n) w v → Pairs (Due (k + 1) (n + 1)) w v
+due_unheard k n w v d = pairs_map (Due k n) (Due (k + 1) (n + 1)) (λ c x h q. soon_unheard k n x.front (h q)) w v d
+
+due_lost : (k n : ℕ) (w v u : List Card) → Pairs (Due k n) w v → Pairs (Moves (Calls Sens)) v u → Pairs (Due (k + 1) (n + 1)) w u
+due_lost k n w v u d m = pairs_with (Due k n) (Moves (Calls Sens)) (Due (k + 1) (n + 1)) (λ c x y h e q. soon_lost k n x.kind x.id x.front y e (h q)) w v u d m
+
+due_silent : (k n : ℕ) (w v u : List Card) → Each (λ c. card_says (Calls Sens) c ≡ None) v → Pairs (Due k n) w v → Pairs (Moves (Calls Sens)) v u → Pairs (Due (k + 1) n) w u
+due_silent k n [] [] [] s d m = tt
+due_silent k n [] [] (y ∷ u) s d m = m
+due_silent k n [] (x ∷ v) u s d m = absurd d
+due_silent k n (c ∷ w) [] u s d m = absurd d
+due_silent k n (c ∷ w) (x ∷ v) [] s d m = m
+due_silent k n (c ∷ w) (x ∷ v) (y ∷ u) s d m = ((λ q. soon_silent k n x.kind x.id x.front y s.0 m.0 (d.0 q)), due_silent k n w v u s.1 d.1 m.1)
+
+-- four silences and little noise: none has waited
+late : (k n : ℕ) (f : Front) → 3 ≤ k → n < 2 → Soon (k + 1) n f → ⊥
+late k n Off a b h = h
+late k n Idle a b h = omega (arith, a, b, h)
+late k n Sleep a b h = h
+late k n (Ready j true) a b h = h
+late k n (Ready j false) a b h = omega (arith, a, b, h)
+late k n (Active s) a b h = h
+
+none_waited : (k n : ℕ) (w v : List Card) → 3 ≤ k → n < 2 → Pairs (Due (k + 1) n) w v → Each (λ c. IsWaiting c → ⊥) w
+none_waited k n [] [] a b d = tt
+none_waited k n [] (x ∷ v) a b d = tt
+none_waited k n (c ∷ w) [] a b d = absurd d
+none_waited k n (c ∷ w) (x ∷ v) a b d = ((λ q. late k n x.front a b (d.0 q)), none_waited k n w v a b d.1)
+
+-- one silence more
+silence : (w : List Card) (k : ℕ) (v : List Card) (n : ℕ) → Pairs Keeps w v → Pairs Stays w v → Pairs (Due (k + 1) n) w v → Mixed w (seek_step (Calling k) Silent) v n
+silence w k v n p s d = by_count (nat_lt k 3) refl
+  where
+    at_least : (i j : ℕ) → nat_lt i j ≡ false → j ≤ i
+    at_least i j h = grind arith
+
+    le_of : (i j : ℕ) → nat_le i j ≡ true → i ≤ j
+    le_of i j h = grind arith
+
+    less_of : (i j : ℕ) → nat_le i j ≡ false → j < i
+    less_of i j h = grind arith
+
+    by_noise : 3 ≤ k → (t : Bool) → nat_le 2 n ≡ t → Each (λ c. IsWaiting c → ⊥) w ⊎ (2 ≤ n)
+    by_noise a true q = inr (le_of 2 n q)
+    by_noise a false q = inl (none_waited k n w v a (less_of 2 n q) d)
+
+    by_count : (t : Bool) → nat_lt k 3 ≡ t → Mixed w (if t then Calling (k + 1) else Ended Nobody) v n
+    by_count true q = record { kept = p; stay = s; due = d }
+    by_count false q = (p, by_noise (at_least k 3 q) (nat_le 2 n) refl)
+
+-- nobody becomes active by SENS_REQ
+home_inactive : (s : Bool) → is_active (home s) ≡ false
+home_inactive true = refl
+home_inactive false = refl
+
+sens_inactive : (ls : List (List ℕ)) (f : Front) → is_active (front_next ls f (Calls Sens)) ≡ false
+sens_inactive ls Off = refl
+sens_inactive ls Idle = refl
+sens_inactive ls Sleep = refl
+sens_inactive ls (Ready j s) = home_inactive s
+sens_inactive ls (Active s) = home_inactive s
+
+sens_stays : (x y : Card) → Moves (Calls Sens) x y → Stays x y
+sens_stays x y (inl e) a = let C : Card → Bool = λ c. is_active c.front in wrong (sym (sens_inactive (levels x.id) x.front) ∙ sym (ap C e) ∙ a)
+sens_stays x y (inr s) a = s.0
+
+stay_called : (w v u : List Card) → Pairs Stays w v → Pairs (Moves (Calls Sens)) v u → Pairs Stays w u
+stay_called w v u s m = pairs_with Stays (Moves (Calls Sens)) Stays (λ c x y h e a. h (sens_stays x y e a)) w v u s m
+
+-- presence was heard
+present : (w v u : List Card) (g : Signal) → HaveOwnIdents w → Pairs Keeps w v → Pairs Stays w v → Pairs (Moves (Calls Sens)) v u → Has g (filter_map (card_says (Calls Sens)) v) → Behind w (Asking [] []) u
+present w v u g own k s m h =
+    let kept : Pairs Keeps w u = kept_turn (Calls Sens) refl w v u k m in
+    let up : Woken u = woken v u g (each_kept IsIdent w v k own.idents) (each_kept IsIdent w u kept own.idents) (distinct_kept w u kept own.distinct) m h in
+    record {
+      kept = kept;
+      stay = stay_called w v u s m;
+      before = up.before;
+      first = up.first;
+      behind = up.behind;
+      leads = up.leads;
+      crowd = map (card_at [] []) (up.before ++ up.first ∷ up.behind);
+      seeks = asked_first up.before up.first up.behind up.leads;
+      twins = up.twins;
+    }
+
+calling_turn : (w : List Card) (k : ℕ) (v u : List Card) (h : Heard) (n t : ℕ) → HaveOwnIdents w → CallsInVain w k v n → TurnOf (Calls Sens) v u h t → Mixed w (seek_step (Calling k) h) u (n + t)
+calling_turn w k v u _ n _ own c (passed m) = by_answers (filter_map (card_says (Calls Sens)) v) refl
+  where
+    by_answers : (xs : List Signal) → filter_map (card_says (Calls Sens)) v ≡ xs → Mixed w (seek_step (Calling k) (hears (Calls Sens) v)) u (n + 0)
+    by_answers [] e =
+        let P : List Signal → Type 0 = λ xs. Mixed w (seek_step (Calling k) (heard_of (joint xs))) u (n + 0) in
+        let N : ℕ → Type 0 = λ x. Mixed w (seek_step (Calling k) Silent) u x in
+        subst P (sym e)
+        (subst N (let q : n ≡ n + 0 = omega arith in q)
+        (silence w k u n (kept_turn (Calls Sens) refl w v u c.kept m) (stay_called w v u c.stay m) (due_silent k n w v u (none_in (card_says (Calls Sens)) v e) c.due m)))
+    by_answers (g ∷ gs) e =
+        let P : List Signal → Type 0 = λ xs. Mixed w (seek_step (Calling k) (heard_of (joint xs))) u (n + 0) in
+        let S : Seek → Type 0 = λ s. Mixed w s u (n + 0) in
+        let H : List Signal → Type 0 = λ xs. Has g xs in
+        subst P (sym e) (subst S (sym (heard_some g (g ∷ gs) k (inl refl))) (present w v u g own c.kept c.stay m (subst H (sym e) (inl refl))))
+calling_turn w k v u _ n _ own c (unheard e) =
+    let P : List Card → Type 0 = λ x. Mixed w (seek_step (Calling k) Silent) x (n + 1) in
+    subst P (sym e) (silence w k v (n + 1) c.kept c.stay (due_unheard k n w v c.due))
+calling_turn w k v u _ n _ own c (damaged m g h) = present w v u g own c.kept c.stay m h
+calling_turn w k v u _ n _ own c (lost m g h) = silence w k u (n + 1) (kept_turn (Calls Sens) refl w v u c.kept m) (stay_called w v u c.stay m) (due_lost k n w v u c.due m)
