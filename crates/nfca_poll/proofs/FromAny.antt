@@ -37,7 +37,7 @@ use Rattle.nfca_poll.proofs.Crowding.{events_of}
 use Rattle.nfca_poll.proofs.FirstPicked.{rest_inactive, at_inactive, each_mapped, request_a}
 use Rattle.nfca_poll.proofs.ThroughNoise.{is_calling, asking_on, selecting_on, asked_first, noise_so_far}
 use Rattle.nfca_poll.proofs.Moves.{Moves, TurnOf, passed, unheard, damaged, lost, turn_of}
-use Rattle.nfca_poll.proofs.Twins.{pairs_map, pairs_with, kept_start, kept_turn, each_kept, distinct_kept, polls, asks_ready, ready_polls, Twin, Woken, woken, twins_say, twins_move, twins_wake}
+use Rattle.nfca_poll.proofs.Twins.{pairs_map, pairs_same, pairs_with, kept_start, kept_turn, each_kept, distinct_kept, polls, asks_ready, ready_polls, Twin, Woken, woken, twins_say, twins_move, twins_wake}
 
 -- active only where it was before
 abbrev pub Stays : Card → Card → Type 0
@@ -88,7 +88,10 @@ waits_at_home (Ready j true) a h = absurd cc
 waits_at_home (Ready j false) a h = omega arith
 waits_at_home (Active s) a h = wrong_back a
 
-due_start : (w : List Card) → Pairs (Due 0 0) w w
+pub stay_start : (w : List Card) → Pairs Stays w w
+stay_start w = pairs_same Stays (λ c a. a) w
+
+pub due_start : (w : List Card) → Pairs (Due 0 0) w w
 due_start [] = tt
 due_start (c ∷ w) = ((λ q. waits_at_home c.front q.0 q.1), due_start w)
 
@@ -209,7 +212,7 @@ present w v u g own k s m h =
       twins = up.twins;
     }
 
-calling_turn : (w : List Card) (k : ℕ) (v u : List Card) (h : Heard) (n t : ℕ) → HaveOwnIdents w → CallsInVain w k v n → TurnOf (Calls Sens) v u h t → Mixed w (seek_step (Calling k) h) u (n + t)
+pub calling_turn : (w : List Card) (k : ℕ) (v u : List Card) (h : Heard) (n t : ℕ) → HaveOwnIdents w → CallsInVain w k v n → TurnOf (Calls Sens) v u h t → Mixed w (seek_step (Calling k) h) u (n + t)
 calling_turn w k v u _ n _ own c (passed m) = by_answers (filter_map (card_says (Calls Sens)) v) refl
   where
     by_answers : (xs : List Signal) → filter_map (card_says (Calls Sens)) v ≡ xs → Mixed w (seek_step (Calling k) (hears (Calls Sens) v)) u (n + 0)

@@ -28,4 +28,5 @@ pub mod ThroughNoise
 pub mod Causes
 pub mod Twins
 pub mod FromAny
+pub mod AnyTurns
 pub mod Steady
