@@ -3,6 +3,7 @@
 ghost use Rattle.std.specs.Prelude.{◌≡◌, length, drop, Bool, Err};
 ghost use Rattle.nfc_base.specs.Trace.{noise};
 ghost use Rattle.nfca_poll.specs.Crowd.{AreOurs, IsCrowd, cards, PicksFirst, PicksThroughNoise, FindsNobody, HasCause};
+ghost use Rattle.nfca_poll.specs.AnyStart.{YieldsToCalls, PicksFromAny};
 ghost use Rattle.nfca_poll.specs.Enquiry.{Enquires, LosesByBreak};
 ghost use Rattle.nfca_poll.specs.Counting.{AsksFew};
 ghost use Rattle.nfca_poll.specs.Seeking.{resolution};
@@ -25,6 +26,7 @@ pub fn resolve<L: Listener>(field: &mut Field<L>) -> Result<Picked, PollFault>
     ensures noisy { field.old.lit ≡ Bool.true → (ours : AreOurs L.machine L.identifier) → PicksThroughNoise ours field.old result field.new }
     ensures cause { field.old.lit ≡ Bool.true → (ours : AreOurs L.machine L.identifier) → IsCrowd (cards ours field.old.listeners) → HasCause (cards ours field.old.listeners) result (noise (drop (length field.old.trace) field.new.trace)) }
     ensures nobody { field.old.lit ≡ Bool.true → (ours : AreOurs L.machine L.identifier) → FindsNobody ours field.old result field.new }
+    ensures any { field.old.lit ≡ Bool.true → (ours : AreOurs L.machine L.identifier) → YieldsToCalls ours → PicksFromAny ours field.old result field.new }
     ensures turns { field.old.lit ≡ Bool.true → Enquires resolution L.machine field.old result field.new }
 {
     if !field.is_lit() {
