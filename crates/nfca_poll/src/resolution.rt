@@ -1,6 +1,6 @@
 //! One resolution: which device of a field is the first in crowd order, bit by bit.
 
-ghost use Rattle.std.specs.Prelude.{◌≡◌, length, drop, Bool, Err};
+ghost use Rattle.std.specs.Prelude.{◌≡◌, ◌⊎◌, length, drop, Bool, Err};
 ghost use Rattle.nfc_base.specs.Trace.{noise};
 ghost use Rattle.nfca_poll.specs.Crowd.{AreOurs, IsCrowd, cards, PicksFirst, PicksThroughNoise, FindsNobody, HasCause};
 ghost use Rattle.nfca_poll.specs.AnyStart.{YieldsToCalls, PicksFromAny};
@@ -20,6 +20,7 @@ use air_core::{Field, Listener};
 /// noise is met, it picks the first of the crowd that is idle.
 pub fn resolve<L: Listener>(field: &mut Field<L>) -> Result<Picked, PollFault>
     ensures dark { field.old.lit ≡ Bool.false → (result ≡ Err FieldLost) × (field.new ≡ field.old) }
+    ensures lit { (result ≡ Err FieldLost) ⊎ (field.new.lit ≡ Bool.true) }
     ensures few { AsksFew (drop (length field.old.trace) field.new.trace) }
     ensures lost { LosesByBreak field.old result field.new }
     ensures first { field.old.lit ≡ Bool.true → (ours : AreOurs L.machine L.identifier) → PicksFirst ours field.old result field.new }
