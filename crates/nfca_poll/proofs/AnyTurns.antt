@@ -18,12 +18,12 @@ use Rattle.nfca_poll.specs.declared.seeking.Seeking.TheVariants as seeks
 use Rattle.nfca_poll.specs.Ident.{IsIdent}
 use Rattle.nfca_poll.specs.Levels.{levels}
 use Rattle.nfca_poll.specs.Calls.{Call, Calls, Reading, Sens, Sdd, Sel, call_of}
-use Rattle.nfca_poll.specs.Front.{Front, Off, Idle, Sleep, Ready, Active, is_active}
+use Rattle.nfca_poll.specs.Front.{Front, Off, Idle, Sleep, Ready, Active, is_ready, is_active}
 use Rattle.nfca_poll.specs.Poll.{Seek, Calling, Asking, Selecting, Ended, Outcome, Disturbed, Found, seek_step}
 use Rattle.nfca_poll.specs.Muted.{Asks}
 use Rattle.nfca_poll.specs.Seeking.{resolution, seek_of, request_of, outcome, levels_of}
 use Rattle.nfca_poll.specs.Crowd.{Card, Each, with_front, is_rest, IsFirst, AreOurs, cards}
-use Rattle.nfca_poll.specs.AnyStart.{YieldsToCalls, HaveOwnIdents, Pairs, Keeps, IsActiveIn, WakesOnly, EndsFromAny, PicksFromAny}
+use Rattle.nfca_poll.specs.AnyStart.{YieldsToCalls, HaveOwnIdents, Pairs, Keeps, EndsFromAny, PicksFromAny}
 use Rattle.nfca_poll.proofs.Clashes.{wrong, wrong_back}
 use Rattle.nfca_poll.proofs.Eaches.{each_map, each_has, each_front, each_back, has_middle}
 use Rattle.nfca_poll.proofs.HeardBits.{heard_of}
@@ -37,8 +37,8 @@ use Rattle.nfca_poll.proofs.Crowding.{events_of}
 use Rattle.nfca_poll.proofs.FirstPicked.{rest_inactive, at_inactive, each_mapped, request_a}
 use Rattle.nfca_poll.proofs.ThroughNoise.{is_calling, asking_on, selecting_on, noise_so_far}
 use Rattle.nfca_poll.proofs.Moves.{Moves, TurnOf, passed, unheard, damaged, lost, turn_of}
-use Rattle.nfca_poll.proofs.Twins.{pairs_map, pairs_with, kept_start, kept_turn, asks_ready, ready_polls, Twin, twins_say, twins_move, twins_wake}
-use Rattle.nfca_poll.proofs.FromAny.{Stays, CallsInVain, Behind, Mixed, due_start, stay_start, calling_turn}
+use Rattle.nfca_poll.proofs.Twins.{pairs_map, pairs_with, each_onward, kept_start, kept_turn, asks_ready, ready_polls, Twin, twins_say, twins_move, twins_wake}
+use Rattle.nfca_poll.proofs.FromAny.{Stays, CallsInVain, Behind, Mixed, each_around, due_start, stay_start, turn_start, calling_turn}
 
 -- which of a crowd at rest are active while a resolution goes on, and at its end
 abbrev IsQuiet : Card → Type 0
@@ -47,16 +47,29 @@ IsQuiet c = is_active c.front ≡ false
 asked_quiet : (a : List Card) (m : Card) (b : List Card) (done : List (List ℕ)) (p : List Bool) → IsFirst a m b → Each IsQuiet (map (card_at done p) (a ++ m ∷ b))
 asked_quiet a m b done p F = each_mapped (card_at done p) IsQuiet (a ++ m ∷ b) (each_map IsCard (λ c. IsQuiet (card_at done p c)) (λ c i. at_inactive done p c i.1) (a ++ m ∷ b) F.cards)
 
-each_around : (P : Card → Type 0) (a : List Card) (m : Card) (b : List Card) → Each P a → P m → Each P b → Each P (a ++ m ∷ b)
-each_around P [] m b x y z = (y, z)
-each_around P (c ∷ a) m b x y z = (x.0, each_around P a m b x.1 y z)
-
 picked_wakes : (a : List Card) (m : Card) (b : List Card) → IsFirst a m b → Each (λ c. is_active c.front ≡ true → c.id ≡ m.id) (a ++ with_front m (Active false) ∷ b)
 picked_wakes a m b F =
     let W : Card → Type 0 = λ c. is_active c.front ≡ true → c.id ≡ m.id in
     let rest : (c : Card) → IsCard c → W c = λ c i v. wrong (sym (rest_inactive c.front i.1) ∙ v) in
     each_around W a (with_front m (Active false)) b (each_map IsCard W rest a (each_front IsCard a (m ∷ b) F.cards)) (λ v. refl)
     (each_map IsCard W rest b (let e : IsCard m × Each IsCard b = each_back IsCard a (m ∷ b) F.cards in e.1))
+
+rest_unready : (f : Front) → is_rest f ≡ true → is_ready f ≡ false
+rest_unready Off i = refl
+rest_unready Idle i = refl
+rest_unready Sleep i = refl
+rest_unready (Ready j s) i = wrong i
+rest_unready (Active s) i = wrong i
+
+picked_unready : (a : List Card) (m : Card) (b : List Card) → IsFirst a m b → Each (λ c. is_ready c.front ≡ false) (a ++ with_front m (Active false) ∷ b)
+picked_unready a m b F =
+    let U : Card → Type 0 = λ c. is_ready c.front ≡ false in
+    each_around U a (with_front m (Active false)) b (each_map IsCard U (λ c i. rest_unready c.front i.1) a (each_front IsCard a (m ∷ b) F.cards)) refl
+    (each_map IsCard U (λ c i. rest_unready c.front i.1) b (let e : IsCard m × Each IsCard b = each_back IsCard a (m ∷ b) F.cards in e.1))
+
+twin_unready : (x y : Card) → Twin x y → is_ready x.front ≡ false → is_ready y.front ≡ false
+twin_unready x y (inl e) h = let C : Card → Bool = λ c. is_ready c.front in sym (ap C e) ∙ h
+twin_unready x y (inr t) h = t.3
 
 -- the twin of a device that is active is that device
 record Place (m : Card) (v : List Card) : Type 0 where
@@ -113,6 +126,7 @@ module _ (w : List Card) (s : Seek) (v u : List Card) (r : Reading) (asks : asks
     first = k.first;
     behind = k.behind;
     leads = k.leads;
+    order = k.order;
     crowd = crowd_next;
     seeks = q;
     twins = twins;
@@ -124,12 +138,21 @@ module _ (w : List Card) (s : Seek) (v u : List Card) (r : Reading) (asks : asks
       let own : IsIdent c.id = (each_has IsCard c (k.before ++ c ∷ k.behind) k.leads.cards (has_middle c k.before k.behind)).0 in
       let T : List Card → Type 0 = λ x. Pairs Twin x u in
       let E : List Card → Type 0 = λ x. Each (λ (y : Card). is_active y.front ≡ true → y.id ≡ c.id) x in
+      let U : List Card → Type 0 = λ x. Each (λ (y : Card). is_ready y.front ≡ false) x in
       let p : Place (with_front c (Active false)) u = twin_place k.before (with_front c (Active false)) k.behind u refl (subst T q.1 twins) in
       let P : Outcome → Type 0 = λ x. EndsFromAny w (outcome x) u n in
       let R : List ℕ → Type 0 = λ i. EndsFromAny w (Ok (record { id = i; kind = c.kind })) u n in
       subst P (sym q.0)
       (subst R (sym (identifier_of c.id own))
-      (kept, record { before = p.before; behind = p.behind; place = p.place }, wakes (λ z. z.id ≡ c.id) (subst E (sym q.1) (picked_wakes k.before c k.behind k.leads))))
+      (record {
+        kept = kept;
+        before = p.before;
+        behind = p.behind;
+        place = p.place;
+        alone = wakes (λ z. z.id ≡ c.id) (subst E (sym q.1) (picked_wakes k.before c k.behind k.leads));
+        none_ready = each_onward Twin (λ x. is_ready x.front ≡ false) (λ y. is_ready y.front ≡ false) twin_unready crowd_next u twins (subst U (sym q.1) (picked_unready k.before c k.behind k.leads));
+        first = k.order;
+      }))
 
   lands : (t : Seek) (n : ℕ) → is_calling t ≡ false → Seeks k.before k.first k.behind t crowd_next → Mixed w t u n
   lands (Calling j) n h q = wrong_back h
@@ -212,7 +235,7 @@ module _ {L : Type 0} (m : Machine L) (identifier' : L → List ℕ) where
   mixes_start old ours yields own =
       let w : List Card = cards ours old.listeners in
       let N : ℕ → Type 0 = λ n. CallsInVain w 0 w n in
-      subst N (no_noise old) (record { kept = kept_start w; stay = stay_start w; due = due_start w })
+      subst N (no_noise old) (record { kept = kept_start w; stay = stay_start w; due = due_start w; ready = false; turn = turn_start w })
 
   pub mixes_turn : (old now new : Air L) (q : Seeking) (f : Signal) (h : Heard) → Mixes old now (seek_of q) → Reached resolution m old now (seek_of q) → f ≡ request_of q → Asks m now f (Ok h) new
       → Mixes old new (seek_step (seek_of q) h)

@@ -1,5 +1,5 @@
 -- A resolution over this project's listeners in any state, whatever noise it meets.
-use Rattle.std.proofs.Common.{◌≡◌, ◌⊎◌, ℕ, ◌+◌, ◌*◌, ◌<◌, ◌≤◌, List, [], ◌∷◌, ◌++◌, length, drop, map, filter_map, Bool, true, false, ◌&&◌, nat_lt, nat_le, if◌then◌else◌, inl, inr, refl, sym, ◌∙◌, ap, subst, arith, Option, Some, None, Result, Ok, Err}
+use Rattle.std.proofs.Common.{◌≡◌, ◌≢◌, ◌⊎◌, ℕ, ◌+◌, ◌*◌, ◌<◌, ◌≤◌, List, [], ◌∷◌, ◌++◌, length, drop, map, filter_map, Bool, true, false, ◌&&◌, nat_lt, nat_le, not, if◌then◌else◌, inl, inr, refl, sym, ◌∙◌, ap, subst, arith, Option, Some, None, Result, Ok, Err}
 use Rattle.std.specs.List.{cons_option}
 use Rattle.nfc_base.specs.declared.frame.Tech.TheVariants.{A}
 use Rattle.nfc_base.specs.declared.event.Heard.{Heard}
@@ -22,8 +22,8 @@ use Rattle.nfca_poll.specs.Front.{Front, Off, Idle, Sleep, Ready, Active, home, 
 use Rattle.nfca_poll.specs.Poll.{Seek, Calling, Asking, Selecting, Ended, Outcome, Nobody, Disturbed, BadAnswer, Found, seek_step}
 use Rattle.nfca_poll.specs.Muted.{Asks}
 use Rattle.nfca_poll.specs.Seeking.{resolution, seek_of, request_of, outcome, levels_of}
-use Rattle.nfca_poll.specs.Crowd.{Card, Each, with_front, is_rest, IsFirst, AreOurs, cards, AreDistinct}
-use Rattle.nfca_poll.specs.AnyStart.{YieldsToCalls, HaveOwnIdents, Pairs, home_of, Keeps, IsActiveIn, WakesOnly, IsWaiting, EndsFromAny, PicksFromAny}
+use Rattle.nfca_poll.specs.Crowd.{Card, Each, ahead, crowd_bits, is_idle, IsFirst}
+use Rattle.nfca_poll.specs.AnyStart.{HaveOwnIdents, Pairs, home_of, Keeps, IsAhead, IsWaiting, EndsFromAny}
 use Rattle.nfca_poll.proofs.Clashes.{wrong, wrong_back, Has}
 use Rattle.nfca_poll.proofs.Eaches.{each_map, each_has, has_middle, none_in}
 use Rattle.nfca_poll.proofs.HeardBits.{heard_of}
@@ -36,8 +36,9 @@ use Rattle.nfca_poll.proofs.Selects.{quiet_turn, identifier_of, few_done}
 use Rattle.nfca_poll.proofs.Crowding.{events_of}
 use Rattle.nfca_poll.proofs.FirstPicked.{rest_inactive, at_inactive, each_mapped, request_a}
 use Rattle.nfca_poll.proofs.ThroughNoise.{is_calling, asking_on, selecting_on, asked_first, noise_so_far}
+use Rattle.nfca_poll.proofs.Causes.{idle_is}
 use Rattle.nfca_poll.proofs.Moves.{Moves, TurnOf, passed, unheard, damaged, lost, turn_of}
-use Rattle.nfca_poll.proofs.Twins.{pairs_map, pairs_same, pairs_with, kept_start, kept_turn, each_kept, distinct_kept, polls, asks_ready, ready_polls, Twin, Woken, woken, twins_say, twins_move, twins_wake}
+use Rattle.nfca_poll.proofs.Twins.{pairs_map, pairs_same, pairs_with, pairs_both, pairs_each, kept_start, kept_turn, each_kept, distinct_kept, polls, asks_ready, ready_polls, Twin, rested, at_rest, Woken, woken}
 
 -- active only where it was before
 abbrev pub Stays : Card → Card → Type 0
@@ -55,11 +56,17 @@ Soon k n (Active s) = ⊥
 abbrev pub Due : ℕ → ℕ → Card → Card → Type 0
 Due k n c d = IsWaiting c → Soon k n d.front
 
+-- Devices that were idle are idle, or all of them ready.
+abbrev pub SameTurn : Bool → Card → Card → Type 0
+SameTurn ready c d = is_idle c.front ≡ true → d.front ≡ (if ready then Ready 1 false else Idle)
+
 -- Among devices w, the call has asked for presence in vain so often.
 pub record CallsInVain (w : List Card) (k : ℕ) (v : List Card) (n : ℕ) : Type 0 where
   pub kept : Pairs Keeps w v
   pub stay : Pairs Stays w v
   pub due : Pairs (Due k n) w v
+  pub ready : Bool
+  pub turn : Pairs (SameTurn ready) w v
 
 -- Behind presence the devices are twins of a crowd at rest in which the resolution is as far.
 pub record Behind (w : List Card) (s : Seek) (v : List Card) : Type 0 where
@@ -69,6 +76,7 @@ pub record Behind (w : List Card) (s : Seek) (v : List Card) : Type 0 where
   pub first : Card
   pub behind : List Card
   pub leads : IsFirst before first behind
+  pub order : Each (λ c. c.id ≡ first.id → is_idle c.front ≡ true → IsAhead first.id w) w
   pub crowd : List Card
   pub seeks : Seeks before first behind s crowd
   pub twins : Pairs Twin crowd v
@@ -78,6 +86,10 @@ Mixed w (Calling k) v n = CallsInVain w k v n
 Mixed w (Asking done known) v n = Behind w (Asking done known) v
 Mixed w (Selecting done l) v n = Behind w (Selecting done l) v
 Mixed w (Ended o) v n = EndsFromAny w (outcome o) v n
+
+pub each_around : (P : Card → Type 0) (a : List Card) (m : Card) (b : List Card) → Each P a → P m → Each P b → Each P (a ++ m ∷ b)
+each_around P [] m b x y z = (y, z)
+each_around P (c ∷ a) m b x y z = (x.0, each_around P a m b x.1 y z)
 
 -- SENS_REQ: who waits
 waits_at_home : (f : Front) → is_active f ≡ false → home_of f ≡ Idle → Soon 0 0 f
@@ -90,6 +102,9 @@ waits_at_home (Active s) a h = wrong_back a
 
 pub stay_start : (w : List Card) → Pairs Stays w w
 stay_start w = pairs_same Stays (λ c a. a) w
+
+pub turn_start : (w : List Card) → Pairs (SameTurn false) w w
+turn_start w = pairs_same (SameTurn false) (λ c i. idle_is c.front i) w
 
 pub due_start : (w : List Card) → Pairs (Due 0 0) w w
 due_start [] = tt
@@ -156,8 +171,8 @@ none_waited k n (c ∷ w) [] a b d = absurd d
 none_waited k n (c ∷ w) (x ∷ v) a b d = ((λ q. late k n x.front a b (d.0 q)), none_waited k n w v a b d.1)
 
 -- one silence more
-silence : (w : List Card) (k : ℕ) (v : List Card) (n : ℕ) → Pairs Keeps w v → Pairs Stays w v → Pairs (Due (k + 1) n) w v → Mixed w (seek_step (Calling k) Silent) v n
-silence w k v n p s d = by_count (nat_lt k 3) refl
+silence : (w : List Card) (k : ℕ) (v : List Card) (n : ℕ) (ready : Bool) → Pairs Keeps w v → Pairs Stays w v → Pairs (Due (k + 1) n) w v → Pairs (SameTurn ready) w v → Mixed w (seek_step (Calling k) Silent) v n
+silence w k v n ready p s d a = by_count (nat_lt k 3) refl
   where
     at_least : (i j : ℕ) → nat_lt i j ≡ false → j ≤ i
     at_least i j h = grind arith
@@ -173,7 +188,7 @@ silence w k v n p s d = by_count (nat_lt k 3) refl
     by_noise a false q = inl (none_waited k n w v a (less_of 2 n q) d)
 
     by_count : (t : Bool) → nat_lt k 3 ≡ t → Mixed w (if t then Calling (k + 1) else Ended Nobody) v n
-    by_count true q = record { kept = p; stay = s; due = d }
+    by_count true q = record { kept = p; stay = s; due = d; ready = ready; turn = a }
     by_count false q = (p, by_noise (at_least k 3 q) (nat_le 2 n) refl)
 
 -- nobody becomes active by SENS_REQ
@@ -195,9 +210,57 @@ sens_stays x y (inr s) a = s.0
 stay_called : (w v u : List Card) → Pairs Stays w v → Pairs (Moves (Calls Sens)) v u → Pairs Stays w u
 stay_called w v u s m = pairs_with Stays (Moves (Calls Sens)) Stays (λ c x y h e a. h (sens_stays x y e a)) w v u s m
 
+-- those that were idle wake up, or go home again
+turns_by : (id : List ℕ) (k : Kind) (f : Front) (y : Card) (ready : Bool) → Moves (Calls Sens) (record { id = id; kind = k; front = f }) y → f ≡ (if ready then Ready 1 false else Idle) → y.front ≡ (if not ready then Ready 1 false else Idle)
+turns_by id k f y true (inl e) h = let C : Card → Front = λ c. c.front in ap C e ∙ ap (λ x. front_next (levels id) x (Calls Sens)) h
+turns_by id k f y false (inl e) h = let C : Card → Front = λ c. c.front in ap C e ∙ ap (λ x. front_next (levels id) x (Calls Sens)) h
+turns_by id k f y true (inr s) h = wrong (sym (ap is_active h) ∙ s.0)
+turns_by id k f y false (inr s) h = wrong (sym (ap is_active h) ∙ s.0)
+
+turn_called : (ready : Bool) (w v u : List Card) → Pairs (SameTurn ready) w v → Pairs (Moves (Calls Sens)) v u → Pairs (SameTurn (not ready)) w u
+turn_called ready w v u t m = pairs_with (SameTurn ready) (Moves (Calls Sens)) (SameTurn (not ready)) (λ c x y h e i. turns_by x.id x.kind x.front y ready e (h i)) w v u t m
+
+each_unmapped : (P : Card → Type 0) (u : List Card) → Each P (map at_rest u) → Each (λ y. P (at_rest y)) u
+each_unmapped P [] e = tt
+each_unmapped P (y ∷ u) e = (e.0, each_unmapped P u e.1)
+
+-- the first of the crowd alone has its identifier
+only_first : (a : List Card) (m : Card) (b : List Card) → IsFirst a m b → Each (λ x. x.id ≡ m.id → x.front ≡ Idle) (a ++ m ∷ b)
+only_first a m b F =
+    each_around (λ x. x.id ≡ m.id → x.front ≡ Idle) a m b (each_map (λ x. x.id ≢ m.id) (λ x. x.id ≡ m.id → x.front ≡ Idle) (λ x d e. absurd (d e)) a F.distinct_before) (λ e. F.idle)
+    (each_map (λ x. x.id ≢ m.id) (λ x. x.id ≡ m.id → x.front ≡ Idle) (λ x d e. absurd (d e)) b F.distinct_after)
+
+sleep_idle : Sleep ≡ Idle → ⊥
+sleep_idle e = cc
+
+-- If it was idle before, it is the first of those that were.
+in_order : (w u : List Card) (up : Woken u) (ready : Bool) → Pairs Keeps w u → Pairs (SameTurn ready) w u → Each (λ c. c.id ≡ up.first.id → is_idle c.front ≡ true → IsAhead up.first.id w) w
+in_order w u up true k t =
+    let m : Card = up.first in
+    let A : Card → Type 0 = λ x. is_idle x.front ≡ true → ahead (crowd_bits m.id) (crowd_bits x.id) ≡ true in
+    let E : List Card → Type 0 = λ xs. Each A xs in
+    let all : Each (λ y. A (at_rest y)) u = each_unmapped A u (subst E up.rests up.leads.first) in
+    let here : IsAhead m.id w =
+    pairs_each (λ c d. Keeps c d × SameTurn true c d) (λ y. A (at_rest y)) A
+    (λ c d h a i. (let R : List ℕ → Type 0 = λ x. ahead (crowd_bits m.id) (crowd_bits x) ≡ true in let e : d.id ≡ c.id = h.0.id in subst R e (a (ap (λ f. is_idle (rested f)) (h.1 i)))))
+    w u (pairs_both Keeps (SameTurn true) w u k t) all in
+    each_any (λ c. c.id ≡ m.id → is_idle c.front ≡ true → IsAhead m.id w) (λ c e i. here) w
+  where
+    each_any : (P : Card → Type 0) → ((c : Card) → P c) → (xs : List Card) → Each P xs
+    each_any P f [] = tt
+    each_any P f (x ∷ xs) = (f x, each_any P f xs)
+in_order w u up false k t =
+    let m : Card = up.first in
+    let O : Card → Type 0 = λ x. x.id ≡ m.id → x.front ≡ Idle in
+    let E : List Card → Type 0 = λ xs. Each O xs in
+    let all : Each (λ y. O (at_rest y)) u = each_unmapped O u (subst E up.rests (only_first up.before m up.behind up.leads)) in
+    pairs_each (λ c d. Keeps c d × SameTurn false c d) (λ y. O (at_rest y)) (λ c. c.id ≡ m.id → is_idle c.front ≡ true → IsAhead m.id w)
+    (λ c d h o e i. (let g : d.id ≡ c.id = h.0.id in absurd (sleep_idle (sym (ap rested (h.1 i)) ∙ o (g ∙ e)))))
+    w u (pairs_both Keeps (SameTurn false) w u k t) all
+
 -- presence was heard
-present : (w v u : List Card) (g : Signal) → HaveOwnIdents w → Pairs Keeps w v → Pairs Stays w v → Pairs (Moves (Calls Sens)) v u → Has g (filter_map (card_says (Calls Sens)) v) → Behind w (Asking [] []) u
-present w v u g own k s m h =
+present : (w v u : List Card) (g : Signal) (ready : Bool) → HaveOwnIdents w → Pairs Keeps w v → Pairs Stays w v → Pairs (SameTurn ready) w v → Pairs (Moves (Calls Sens)) v u → Has g (filter_map (card_says (Calls Sens)) v) → Behind w (Asking [] []) u
+present w v u g ready own k s a m h =
     let kept : Pairs Keeps w u = kept_turn (Calls Sens) refl w v u k m in
     let up : Woken u = woken v u g (each_kept IsIdent w v k own.idents) (each_kept IsIdent w u kept own.idents) (distinct_kept w u kept own.distinct) m h in
     record {
@@ -207,6 +270,7 @@ present w v u g own k s m h =
       first = up.first;
       behind = up.behind;
       leads = up.leads;
+      order = in_order w u up (not ready) kept (turn_called ready w v u a m);
       crowd = map (card_at [] []) (up.before ++ up.first ∷ up.behind);
       seeks = asked_first up.before up.first up.behind up.leads;
       twins = up.twins;
@@ -221,14 +285,14 @@ calling_turn w k v u _ n _ own c (passed m) = by_answers (filter_map (card_says 
         let N : ℕ → Type 0 = λ x. Mixed w (seek_step (Calling k) Silent) u x in
         subst P (sym e)
         (subst N (let q : n ≡ n + 0 = omega arith in q)
-        (silence w k u n (kept_turn (Calls Sens) refl w v u c.kept m) (stay_called w v u c.stay m) (due_silent k n w v u (none_in (card_says (Calls Sens)) v e) c.due m)))
+        (silence w k u n (not c.ready) (kept_turn (Calls Sens) refl w v u c.kept m) (stay_called w v u c.stay m) (due_silent k n w v u (none_in (card_says (Calls Sens)) v e) c.due m) (turn_called c.ready w v u c.turn m)))
     by_answers (g ∷ gs) e =
         let P : List Signal → Type 0 = λ xs. Mixed w (seek_step (Calling k) (heard_of (joint xs))) u (n + 0) in
         let S : Seek → Type 0 = λ s. Mixed w s u (n + 0) in
         let H : List Signal → Type 0 = λ xs. Has g xs in
-        subst P (sym e) (subst S (sym (heard_some g (g ∷ gs) k (inl refl))) (present w v u g own c.kept c.stay m (subst H (sym e) (inl refl))))
+        subst P (sym e) (subst S (sym (heard_some g (g ∷ gs) k (inl refl))) (present w v u g c.ready own c.kept c.stay c.turn m (subst H (sym e) (inl refl))))
 calling_turn w k v u _ n _ own c (unheard e) =
     let P : List Card → Type 0 = λ x. Mixed w (seek_step (Calling k) Silent) x (n + 1) in
-    subst P (sym e) (silence w k v (n + 1) c.kept c.stay (due_unheard k n w v c.due))
-calling_turn w k v u _ n _ own c (damaged m g h) = present w v u g own c.kept c.stay m h
-calling_turn w k v u _ n _ own c (lost m g h) = silence w k u (n + 1) (kept_turn (Calls Sens) refl w v u c.kept m) (stay_called w v u c.stay m) (due_lost k n w v u c.due m)
+    subst P (sym e) (silence w k v (n + 1) c.ready c.kept c.stay (due_unheard k n w v c.due) c.turn)
+calling_turn w k v u _ n _ own c (damaged m g h) = present w v u g c.ready own c.kept c.stay c.turn m h
+calling_turn w k v u _ n _ own c (lost m g h) = silence w k u (n + 1) (not c.ready) (kept_turn (Calls Sens) refl w v u c.kept m) (stay_called w v u c.stay m) (due_lost k n w v u c.due m) (turn_called c.ready w v u c.turn m)

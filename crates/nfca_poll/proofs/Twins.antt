@@ -37,6 +37,25 @@ pairs_with P Q R f (c ∷ v) [] w p q = absurd p
 pairs_with P Q R f (c ∷ v) (d ∷ u) [] p q = q
 pairs_with P Q R f (c ∷ v) (d ∷ u) (e ∷ w) p q = (f c d e p.0 q.0, pairs_with P Q R f v u w p.1 q.1)
 
+pub pairs_both : (P Q : Card → Card → Type 0) → (v u : List Card) → Pairs P v u → Pairs Q v u → Pairs (λ c d. P c d × Q c d) v u
+pairs_both P Q [] [] p q = tt
+pairs_both P Q [] (d ∷ u) p q = p
+pairs_both P Q (c ∷ v) [] p q = p
+pairs_both P Q (c ∷ v) (d ∷ u) p q = ((p.0, q.0), pairs_both P Q v u p.1 q.1)
+
+-- what each of one list has, and what that says of the other
+pub pairs_each : (P : Card → Card → Type 0) (Q R : Card → Type 0) → ((c d : Card) → P c d → Q d → R c) → (v u : List Card) → Pairs P v u → Each Q u → Each R v
+pairs_each P Q R f [] [] p q = tt
+pairs_each P Q R f [] (d ∷ u) p q = absurd p
+pairs_each P Q R f (c ∷ v) [] p q = absurd p
+pairs_each P Q R f (c ∷ v) (d ∷ u) p q = (f c d p.0 q.0, pairs_each P Q R f v u p.1 q.1)
+
+pub each_onward : (P : Card → Card → Type 0) (Q R : Card → Type 0) → ((c d : Card) → P c d → Q c → R d) → (v u : List Card) → Pairs P v u → Each Q v → Each R u
+each_onward P Q R f [] [] p q = tt
+each_onward P Q R f [] (d ∷ u) p q = absurd p
+each_onward P Q R f (c ∷ v) [] p q = absurd p
+each_onward P Q R f (c ∷ v) (d ∷ u) p q = (f c d p.0 q.0, each_onward P Q R f v u p.1 q.1)
+
 -- a device keeps its identifier, its kind and its home at calls but SLP_REQ and ALL_REQ
 abbrev pub polls : Reading → Bool
 polls (Calls Sens) = true
@@ -99,10 +118,7 @@ kept_turn r p w v u k e = pairs_with Keeps Keeps Keeps keeps_on w v u k (pairs_m
 
 -- what is said of identifiers stays true
 pub each_kept : (P : List ℕ → Type 0) (w v : List Card) → Pairs Keeps w v → Each (λ c. P c.id) w → Each (λ c. P c.id) v
-each_kept P [] [] k e = tt
-each_kept P [] (d ∷ v) k e = absurd k
-each_kept P (c ∷ w) [] k e = absurd k
-each_kept P (c ∷ w) (d ∷ v) k e = (let i : d.id ≡ c.id = k.0.id in subst P (sym i) e.0, each_kept P w v k.1 e.1)
+each_kept P w v k e = each_onward Keeps (λ c. P c.id) (λ c. P c.id) (λ c d h x. (let i : d.id ≡ c.id = h.id in subst P (sym i) x)) w v k e
 
 pub distinct_kept : (w v : List Card) → Pairs Keeps w v → AreDistinct w → AreDistinct v
 distinct_kept [] [] k e = tt
@@ -197,6 +213,7 @@ pub record Woken (u : List Card) : Type 0 where
   pub first : Card
   pub behind : List Card
   pub leads : IsFirst before first behind
+  pub rests : before ++ first ∷ behind ≡ map at_rest u
   pub twins : Pairs Twin (map (card_at [] []) (before ++ first ∷ behind)) u
 
 pub woken : (v u : List Card) (g : Signal) → Each (λ c. IsIdent c.id) v → Each (λ c. IsIdent c.id) u → AreDistinct u → Pairs (Moves (Calls Sens)) v u → Has g (filter_map (card_says (Calls Sens)) v) → Woken u
@@ -209,7 +226,7 @@ woken v u g i j d e h = by_lead (map at_rest u) refl (leads (map at_rest u) (eac
         absurd (subst H (none_answers v u e (subst S (sym q) s)) h)
     by_lead _ q (some a m b F) =
         let T : List Card → Type 0 = λ x. Pairs Twin (map (card_at [] []) x) u in
-        record { before = a; first = m; behind = b; leads = F; twins = subst T q (woken_twins v u i e) }
+        record { before = a; first = m; behind = b; leads = F; rests = sym q; twins = subst T q (woken_twins v u i e) }
 
 -- SDD_REQ and SEL_REQ
 abbrev pub asks_ready : Reading → Bool

@@ -13,8 +13,8 @@ use Rattle.nfca_poll.specs.declared.fault.PollFault.{PollFault}
 use Rattle.nfca_poll.specs.declared.fault.PollFault.TheVariants.{Nobody, Disturbed, FieldLost, Memory, NotFound, BadAnswer}
 use Rattle.nfca_poll.specs.Ident.{IsIdent}
 use Rattle.nfca_poll.specs.Calls.{Call, Calls, call_of}
-use Rattle.nfca_poll.specs.Front.{Front, Off, Idle, Sleep, Ready, Active, home, is_active}
-use Rattle.nfca_poll.specs.Crowd.{Card, Each, StepsByFront, AreOurs, AreDistinct, cards}
+use Rattle.nfca_poll.specs.Front.{Front, Off, Idle, Sleep, Ready, Active, home, is_ready, is_active}
+use Rattle.nfca_poll.specs.Crowd.{Card, Each, ahead, crowd_bits, is_idle, StepsByFront, AreOurs, AreDistinct, cards}
 
 -- An active listener stays active at a frame, as a card does that took RATS, or a peer that took ATR_REQ: it hands nothing
 -- over, says nothing, and shows what it showed before.
@@ -58,26 +58,34 @@ pub record Keeps (c d : Card) : Type 0 where
   pub kind : d.kind ≡ c.kind
   pub home : home_of d.front ≡ home_of c.front
 
--- the device that was picked is among these, and active
-pub record IsActiveIn (v : List Card) (p : Picked) : Type 0 where
+-- this identifier stands before those of the idle devices in crowd order, or is one of them
+abbrev pub IsAhead : List ℕ → List Card → Type 0
+IsAhead id w = Each (λ d. is_idle d.front ≡ true → ahead (crowd_bits id) (crowd_bits d.id) ≡ true) w
+
+-- A device p was picked among devices w in any state, which are v afterwards.
+pub record PicksOne (w : List Card) (p : Picked) (v : List Card) : Type 0 where
+  -- each is as before but for its state
+  pub kept : Pairs Keeps w v
+  -- it is one of them, and active
   pub before : List Card
   pub behind : List Card
   pub place : v ≡ before ++ record { id = p.id; kind = p.kind; front = Active false } ∷ behind
-
--- none but one with this identifier becomes active
-abbrev pub WakesOnly : List ℕ → Card → Card → Type 0
-WakesOnly id c d = is_active d.front ≡ true → (is_active c.front ≡ true) ⊎ (d.id ≡ id)
+  -- no other one became active, and none is left ready
+  pub alone : Pairs (λ c d. is_active d.front ≡ true → (is_active c.front ≡ true) ⊎ (d.id ≡ p.id)) w v
+  pub none_ready : Each (λ d. is_ready d.front ≡ false) v
+  -- if it was idle, it was the first in crowd order of those that were idle
+  pub first : Each (λ c. c.id ≡ p.id → is_idle c.front ≡ true → IsAhead p.id w) w
 
 -- a device that waits to be found: it isn't active, and is idle or goes there
 abbrev pub IsWaiting : Card → Type 0
 IsWaiting c = (is_active c.front ≡ false) × (home_of c.front ≡ Idle)
 
 -- How a resolution ends among devices w in any state, which are v afterwards, by how many of its transmissions had noise: it
--- picks one of them, which alone becomes active; it finds nobody only where none waits to be found or two transmissions
--- had noise; it is disturbed only by noise; and it hears no bad answer. Unless the field is lost each device keeps its
--- identifier, its kind and its home.
+-- picks one of them; it finds nobody only where none waits to be found or two transmissions had noise; it is disturbed
+-- only by noise; and it hears no bad answer. Unless the field is lost each device keeps its identifier, its kind and its
+-- home.
 abbrev pub EndsFromAny : List Card → Result Picked PollFault → List Card → ℕ → Type 0
-EndsFromAny w (Ok p) v n = Pairs Keeps w v × IsActiveIn v p × Pairs (WakesOnly p.id) w v
+EndsFromAny w (Ok p) v n = PicksOne w p v
 EndsFromAny w (Err Nobody) v n = Pairs Keeps w v × (Each (λ c. IsWaiting c → ⊥) w ⊎ (2 ≤ n))
 EndsFromAny w (Err Disturbed) v n = Pairs Keeps w v × (0 < n)
 EndsFromAny w (Err FieldLost) v n = Unit {0}
