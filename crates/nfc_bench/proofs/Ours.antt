@@ -7,7 +7,7 @@ use Rattle.air_core.specs.World.{World}
 use Rattle.nfca_poll.specs.declared.kind.Kind.{Kind}
 use Rattle.nfca_poll.specs.declared.kind.Kind.TheVariants as kinds
 use Rattle.nfca_poll.specs.declared.upper.UpStep.{UpStep}
-use Rattle.nfca_poll.specs.declared.upper.UpStep.TheVariants as steps
+use Rattle.nfca_poll.specs.declared.upper.UpStep.TheVariants as said
 use Rattle.nfca_poll.specs.Calls.{Call, Calls, Reading, Other, call_of}
 use Rattle.nfca_poll.specs.Fronted.{Fronted, active_answer, active_after}
 use Rattle.nfca_poll.specs.AnyStart.{YieldsToCalls}
@@ -87,7 +87,7 @@ yields_by Sleep id u f c a k = absurd cc
 yields_by (Ready j starred) id u f c a k = absurd cc
 yields_by (Active starred) id u f c a k =
     let d : Fronted T2Memory = record { id = id; front = Active starred; upper = u } in
-    let s : says_of (t2_answer u f) ≡ steps.Foreign = ap (λ o. says_of (reply_frame u o)) (no_command f c k) in
+    let s : says_of (t2_answer u f) ≡ said.Foreign = ap (λ o. says_of (reply_frame u o)) (no_command f c k) in
     let after : UpStep → Fronted T2Memory = λ x. active_after t2_machine x (t2_after u f) d f in
     record {
       untouched = refl;

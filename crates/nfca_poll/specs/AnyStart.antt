@@ -44,7 +44,7 @@ Pairs P [] (d ∷ ds) = ⊥
 Pairs P (c ∷ cs) [] = ⊥
 Pairs P (c ∷ cs) (d ∷ ds) = P c d × Pairs P cs ds
 
--- where a device is or goes once its round is over: off, idle, or asleep, as its star says
+-- where a device is at rest, or goes from Ready and Active: off, idle, or asleep, as its star says
 abbrev pub home_of : Front → Front
 home_of Off = Off
 home_of Idle = Idle
