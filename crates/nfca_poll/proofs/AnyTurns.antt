@@ -22,8 +22,8 @@ use Rattle.nfca_poll.specs.Front.{Front, Off, Idle, Sleep, Ready, Active, is_rea
 use Rattle.nfca_poll.specs.Poll.{Seek, Calling, Asking, Selecting, Ended, Outcome, Disturbed, Found, seek_step}
 use Rattle.nfca_poll.specs.Muted.{Asks}
 use Rattle.nfca_poll.specs.Seeking.{resolution, seek_of, request_of, outcome, levels_of}
-use Rattle.nfca_poll.specs.Crowd.{Card, Each, with_front, is_rest, IsFirst, AreOurs, cards}
-use Rattle.nfca_poll.specs.AnyStart.{YieldsToCalls, HaveOwnIdents, Pairs, Keeps, EndsFromAny, PicksFromAny}
+use Rattle.nfca_poll.specs.Crowd.{Card, Each, with_front, is_rest, IsFirst, StepsByFront, AreOurs, cards}
+use Rattle.nfca_poll.specs.AnyStart.{StaysActive, YieldsToCalls, HaveOwnIdents, Pairs, Keeps, EndsFromAny, PicksFromAny}
 use Rattle.nfca_poll.proofs.Clashes.{wrong, wrong_back}
 use Rattle.nfca_poll.proofs.Eaches.{each_map, each_has, each_front, each_back, has_middle}
 use Rattle.nfca_poll.proofs.HeardBits.{heard_of}
@@ -36,14 +36,11 @@ use Rattle.nfca_poll.proofs.Selects.{quiet_turn, identifier_of, few_done}
 use Rattle.nfca_poll.proofs.Crowding.{events_of}
 use Rattle.nfca_poll.proofs.FirstPicked.{rest_inactive, at_inactive, each_mapped, request_a}
 use Rattle.nfca_poll.proofs.ThroughNoise.{is_calling, asking_on, selecting_on, noise_so_far}
-use Rattle.nfca_poll.proofs.Moves.{Moves, TurnOf, passed, unheard, damaged, lost, turn_of}
+use Rattle.nfca_poll.proofs.Moves.{Moves, YieldsAt, TurnOf, passed, unheard, damaged, lost, turn_of}
 use Rattle.nfca_poll.proofs.Twins.{pairs_map, pairs_with, each_onward, kept_start, kept_turn, asks_ready, ready_polls, Twin, twins_say, twins_move, twins_wake}
-use Rattle.nfca_poll.proofs.FromAny.{Stays, CallsInVain, Behind, Mixed, each_around, due_start, stay_start, turn_start, calling_turn}
+use Rattle.nfca_poll.proofs.FromAny.{IsQuiet, IsAlone, Stays, CallsInVain, Behind, Mixed, each_around, due_start, stay_start, turn_start, calling_turn}
 
 -- which of a crowd at rest are active while a resolution goes on, and at its end
-abbrev IsQuiet : Card → Type 0
-IsQuiet c = is_active c.front ≡ false
-
 asked_quiet : (a : List Card) (m : Card) (b : List Card) (done : List (List ℕ)) (p : List Bool) → IsFirst a m b → Each IsQuiet (map (card_at done p) (a ++ m ∷ b))
 asked_quiet a m b done p F = each_mapped (card_at done p) IsQuiet (a ++ m ∷ b) (each_map IsCard (λ c. IsQuiet (card_at done p c)) (λ c i. at_inactive done p c i.1) (a ++ m ∷ b) F.cards)
 
@@ -89,21 +86,21 @@ twin_place (c ∷ a) m b (y ∷ v) i t =
     let p : Place m v = twin_place a m b v i t.1 in
     record { before = y ∷ p.before; behind = p.behind; place = ap (λ x. y ∷ x) p.place }
 
-module _ (w : List Card) (s : Seek) (v u : List Card) (r : Reading) (asks : asks_ready r ≡ true) (k : Behind w s v) (still : Each IsQuiet k.crowd) (m : Pairs (Moves r) v u) where
+module _ (may : Bool) (w : List Card) (s : Seek) (v u : List Card) (r : Reading) (asks : asks_ready r ≡ true) (k : Behind may w s v) (still : Each IsQuiet k.crowd) (m : Pairs (Moves may r) v u) where
   abbrev crowd_next : List Card
   crowd_next = map (card_next r) k.crowd
 
   kept : Pairs Keeps w u
-  kept = kept_turn r (ready_polls r asks) w v u k.kept m
+  kept = kept_turn may r (ready_polls r asks) w v u k.kept m
 
   twins : Pairs Twin crowd_next u
-  twins = twins_move r asks k.crowd v u k.twins still m
+  twins = twins_move r asks may k.crowd v u k.twins still m
 
   -- only those become active that do at rest
   wakes : (P : Card → Type 0) → Each (λ c. is_active c.front ≡ true → P c) crowd_next → Pairs (λ c z. is_active z.front ≡ true → (is_active c.front ≡ true) ⊎ P z) w u
   wakes P e =
       pairs_with Stays (λ y z. is_active z.front ≡ true → (is_active y.front ≡ true) ⊎ P z) (λ c z. is_active z.front ≡ true → (is_active c.front ≡ true) ⊎ P z)
-      (λ c y z h f x. by_either c y z h (f x)) w v u k.stay (twins_wake r asks P k.crowd v u k.twins still m e)
+      (λ c y z h f x. by_either c y z h (f x)) w v u k.stay (twins_wake r asks may P k.crowd v u k.twins still m e)
     where
       by_either : (c y z : Card) → Stays c y → (is_active y.front ≡ true) ⊎ P z → (is_active c.front ≡ true) ⊎ P z
       by_either c y z h (inl x) = inl (h x)
@@ -118,10 +115,30 @@ module _ (w : List Card) (s : Seek) (v u : List Card) (r : Reading) (asks : asks
       or_none P (inl x) = x
       or_none P (inr x) = absurd x
 
-  goes : (t : Seek) → Seeks k.before k.first k.behind t crowd_next → Each IsQuiet crowd_next → Behind w t u
+  -- where none may stay active, only those are that are so at rest
+  active_as : may ≡ false → (P : Card → Type 0) → Each (λ c. is_active c.front ≡ true → P c) crowd_next → Each (λ z. is_active z.front ≡ true → P z) u
+  active_as q P e =
+      each_onward (λ y z. is_active z.front ≡ true → (is_active y.front ≡ true) ⊎ P z) IsQuiet (λ z. is_active z.front ≡ true → P z)
+      (λ y z f i x. or_that y z i (f x)) v u (twins_wake r asks may P k.crowd v u k.twins still m e) (k.quiet q)
+    where
+      or_that : (y z : Card) → IsQuiet y → (is_active y.front ≡ true) ⊎ P z → P z
+      or_that y z i (inl x) = wrong (sym i ∙ x)
+      or_that y z i (inr x) = x
+
+  quiet : Each IsQuiet crowd_next → may ≡ false → Each IsQuiet u
+  quiet e q =
+      each_map (λ z. is_active z.front ≡ true → ⊥) IsQuiet (λ z f. unless (is_active z.front) f) u
+      (active_as q (λ z. ⊥) (each_map IsQuiet (λ c. is_active c.front ≡ true → ⊥) (λ c h x. wrong (sym h ∙ x)) crowd_next e))
+    where
+      unless : (b : Bool) → (b ≡ true → ⊥) → b ≡ false
+      unless true f = absurd (f refl)
+      unless false f = refl
+
+  goes : (t : Seek) → Seeks k.before k.first k.behind t crowd_next → Each IsQuiet crowd_next → Behind may w t u
   goes t q e = record {
     kept = kept;
     stay = stay e;
+    quiet = quiet e;
     before = k.before;
     first = k.first;
     behind = k.behind;
@@ -154,7 +171,21 @@ module _ (w : List Card) (s : Seek) (v u : List Card) (r : Reading) (asks : asks
         first = k.order;
       }))
 
-  lands : (t : Seek) (n : ℕ) → is_calling t ≡ false → Seeks k.before k.first k.behind t crowd_next → Mixed w t u n
+  id_in : Result Picked PollFault → List ℕ
+  id_in (Ok p) = p.id
+  id_in (Err f) = []
+
+  alone : (o : Outcome) → (o ≡ Found (levels k.first.id) k.first.kind) × (crowd_next ≡ k.before ++ with_front k.first (Active false) ∷ k.behind) → may ≡ false → IsAlone (outcome o) u
+  unfolding id_in
+  alone o q free p e =
+      let c : Card = k.first in
+      let own : IsIdent c.id = (each_has IsCard c (k.before ++ c ∷ k.behind) k.leads.cards (has_middle c k.before k.behind)).0 in
+      let E : List Card → Type 0 = λ x. Each (λ (y : Card). is_active y.front ≡ true → y.id ≡ c.id) x in
+      let same : c.id ≡ p.id = sym (identifier_of c.id own) ∙ sym (ap (λ x. id_in (outcome x)) q.0) ∙ ap id_in e in
+      let I : List ℕ → Type 0 = λ i. Each (λ (d : Card). is_active d.front ≡ true → d.id ≡ i) u in
+      subst I same (active_as free (λ z. z.id ≡ c.id) (subst E (sym q.1) (picked_wakes k.before c k.behind k.leads)))
+
+  lands : (t : Seek) (n : ℕ) → is_calling t ≡ false → Seeks k.before k.first k.behind t crowd_next → Mixed may w t u n
   lands (Calling j) n h q = wrong_back h
   lands (Asking done known) n h q =
       let E : List Card → Type 0 = λ x. Each IsQuiet x in
@@ -162,101 +193,123 @@ module _ (w : List Card) (s : Seek) (v u : List Card) (r : Reading) (asks : asks
   lands (Selecting done l) n h q =
       let E : List Card → Type 0 = λ x. Each IsQuiet x in
       goes (Selecting done l) q (subst E (sym q.0) (asked_quiet k.before k.first k.behind done (bits_of l) k.leads))
-  lands (Ended o) n h q = ends o n q
+  lands (Ended o) n h q = (ends o n q, alone o q)
 
 -- SDD_REQ or SEL_REQ, with or without noise
 abbrev due : Seeking → Reading
 due q = call_of (request_of q)
 
-later_turn : (w : List Card) (q : Seeking) (v u : List Card) (h : Heard) (n t : ℕ) → asks_ready (due q) ≡ true → (k : Behind w (seek_of q) v) → Each IsQuiet k.crowd
+later_turn : (may : Bool) (w : List Card) (q : Seeking) (v u : List Card) (h : Heard) (n t : ℕ) → asks_ready (due q) ≡ true → (k : Behind may w (seek_of q) v) → Each IsQuiet k.crowd
     → ((x : Heard) → is_calling (seek_step (seek_of q) x) ≡ false) → seek_step (seek_of q) Silent ≡ Ended Disturbed → seek_step (seek_of q) Damaged ≡ Ended Disturbed
-    → TurnOf (due q) v u h t → Mixed w (seek_step (seek_of q) h) u (n + t)
-later_turn w q v u _ n _ a k e on s d (passed m) =
+    → TurnOf may (due q) v u h t → Mixed may w (seek_step (seek_of q) h) u (n + t)
+later_turn may w q v u _ n _ a k e on s d (passed m) =
     let r : Reading = due q in
     let heard : hears r k.crowd ≡ hears r v = ap (λ x. heard_of (joint x)) (twins_say r a k.crowd v k.twins) in
     let Q : Heard → Type 0 = λ x. Seeks k.before k.first k.behind (seek_step (seek_of q) x) (map (card_next r) k.crowd) in
-    lands w (seek_of q) v u r a k e m (seek_step (seek_of q) (hears r v)) (n + 0) (on (hears r v)) (subst Q heard (quiet_turn k.before k.first k.behind q k.crowd k.leads k.seeks))
-later_turn w q v u _ n _ a k e on s d (unheard x) =
-    let P : Seek → Type 0 = λ y. Mixed w y u (n + 1) in
+    lands may w (seek_of q) v u r a k e m (seek_step (seek_of q) (hears r v)) (n + 0) (on (hears r v)) (subst Q heard (quiet_turn k.before k.first k.behind q k.crowd k.leads k.seeks))
+later_turn may w q v u _ n _ a k e on s d (unheard x) =
+    let P : Seek → Type 0 = λ y. Mixed may w y u (n + 1) in
     let K : List Card → Type 0 = λ y. Pairs Keeps w y in
-    subst P (sym s) (subst K (sym x) k.kept, omega arith)
-later_turn w q v u _ n _ a k e on s d (damaged m g h) = let P : Seek → Type 0 = λ y. Mixed w y u (n + 1) in subst P (sym d) (kept_turn (due q) (ready_polls (due q) a) w v u k.kept m, omega arith)
-later_turn w q v u _ n _ a k e on s d (lost m g h) = let P : Seek → Type 0 = λ y. Mixed w y u (n + 1) in subst P (sym s) (kept_turn (due q) (ready_polls (due q) a) w v u k.kept m, omega arith)
+    subst P (sym s) ((subst K (sym x) k.kept, omega arith), (λ f i j. absurd cc))
+later_turn may w q v u _ n _ a k e on s d (damaged m g h) = let P : Seek → Type 0 = λ y. Mixed may w y u (n + 1) in subst P (sym d) ((kept_turn may (due q) (ready_polls (due q) a) w v u k.kept m, omega arith), (λ f i j. absurd cc))
+later_turn may w q v u _ n _ a k e on s d (lost m g h) = let P : Seek → Type 0 = λ y. Mixed may w y u (n + 1) in subst P (sym s) ((kept_turn may (due q) (ready_polls (due q) a) w v u k.kept m, omega arith), (λ f i j. absurd cc))
 
-pub any_turn : (w : List Card) (q : Seeking) (v u : List Card) (h : Heard) (n t : ℕ) → HaveOwnIdents w → Mixed w (seek_of q) v n → TurnOf (call_of (request_of q)) v u h t → Mixed w (seek_step (seek_of q) h) u (n + t)
-any_turn w (seeks.Calling k) v u h n t own c was = calling_turn w k v u h n t own c was
-any_turn w (seeks.Asking d known) v u h n t own k was =
+pub any_turn : (may : Bool) (w : List Card) (q : Seeking) (v u : List Card) (h : Heard) (n t : ℕ) → HaveOwnIdents w → Mixed may w (seek_of q) v n → TurnOf may (call_of (request_of q)) v u h t → Mixed may w (seek_step (seek_of q) h) u (n + t)
+any_turn may w (seeks.Calling k) v u h n t own c was = calling_turn may w k v u h n t own c was
+any_turn may w (seeks.Asking d known) v u h n t own k was =
     let done : List (List ℕ) = levels_of d in
     let S : _ = k.seeks in
     let few : length known ≤ 32 = S.4 in
     let E : List Card → Type 0 = λ x. Each IsQuiet x in
-    later_turn w (seeks.Asking d known) v u h n t (ap asks_ready (sdd_read (length done + 1) known (omega arith) (few_done d) (omega (arith, few)))) k
+    later_turn may w (seeks.Asking d known) v u h n t (ap asks_ready (sdd_read (length done + 1) known (omega arith) (few_done d) (omega (arith, few)))) k
     (subst E (sym S.1) (asked_quiet k.before k.first k.behind done S.0 k.leads)) (asking_on done known) refl refl was
-any_turn w (seeks.Selecting d l) v u h n t own k was =
+any_turn may w (seeks.Selecting d l) v u h n t own k was =
     let done : List (List ℕ) = levels_of d in
     let S : _ = k.seeks in
     let i : IsLevel l = S.2 in
     let E : List Card → Type 0 = λ x. Each IsQuiet x in
-    later_turn w (seeks.Selecting d l) v u h n t (ap asks_ready (sel_read (length done + 1) l (omega arith) (few_done d) i.size)) k
+    later_turn may w (seeks.Selecting d l) v u h n t (ap asks_ready (sel_read (length done + 1) l (omega arith) (few_done d) i.size)) k
     (subst E (sym S.0) (asked_quiet k.before k.first k.behind done (bits_of l) k.leads)) (selecting_on done l) refl refl was
 
 -- nothing has happened to identifiers, kinds and homes while it goes on
-kept_so_far : (w : List Card) (q : Seeking) (v : List Card) (n : ℕ) → Mixed w (seek_of q) v n → Pairs Keeps w v
-kept_so_far w (seeks.Calling k) v n c = c.kept
-kept_so_far w (seeks.Asking d known) v n k = k.kept
-kept_so_far w (seeks.Selecting d l) v n k = k.kept
+pub kept_so_far : (may : Bool) (w : List Card) (q : Seeking) (v : List Card) (n : ℕ) → Mixed may w (seek_of q) v n → Pairs Keeps w v
+kept_so_far may w (seeks.Calling k) v n c = c.kept
+kept_so_far may w (seeks.Asking d known) v n k = k.kept
+kept_so_far may w (seeks.Selecting d l) v n k = k.kept
 
 -- which call is due
-due_call : (w : List Card) (q : Seeking) (v : List Card) (n : ℕ) → Mixed w (seek_of q) v n → (c : Call) × (call_of (request_of q) ≡ Calls c)
-due_call w (seeks.Calling k) v n c = (Sens, refl)
-due_call w (seeks.Asking d known) v n k =
+pub due_call : (may : Bool) (w : List Card) (q : Seeking) (v : List Card) (n : ℕ) → Mixed may w (seek_of q) v n → (c : Call) × (call_of (request_of q) ≡ Calls c)
+due_call may w (seeks.Calling k) v n c = (Sens, refl)
+due_call may w (seeks.Asking d known) v n k =
     let S : _ = k.seeks in
     let few : length known ≤ 32 = S.4 in
     (Sdd (length (levels_of d) + 1) known, sdd_read (length (levels_of d) + 1) known (omega arith) (few_done d) (omega (arith, few)))
-due_call w (seeks.Selecting d l) v n k =
+due_call may w (seeks.Selecting d l) v n k =
     let S : _ = k.seeks in
     let i : IsLevel l = S.2 in
     (Sel (length (levels_of d) + 1) l, sel_read (length (levels_of d) + 1) l (omega arith) (few_done d) i.size)
 
-module _ {L : Type 0} (m : Machine L) (identifier' : L → List ℕ) where
-  -- So far, whatever noise was met, this is known of the cards.
-  abbrev pub Mixes : Air L → Air L → Seek → Type 0
-  Mixes old now s =
-      (ours : AreOurs m identifier') → YieldsToCalls ours → HaveOwnIdents (cards ours old.listeners) → Mixed (cards ours old.listeners) s (cards ours now.listeners) (noise (drop (length old.trace) now.trace))
+each_any : {X : Type 0} (P : X → Type 0) → ((x : X) → P x) → (xs : List X) → Each P xs
+each_any P f [] = tt
+each_any P f (x ∷ xs) = (f x, each_any P f xs)
 
-  no_noise : (a : Air L) → 0 ≡ noise (drop (length a.trace) a.trace)
+module _ {L : Type 0} (m : Machine L) (identifier' : L → List ℕ) where
+  -- no noise at the start
+  pub no_noise : (a : Air L) → 0 ≡ noise (drop (length a.trace) a.trace)
   no_noise a = sym (ap noise (none_left a.trace))
     where
       none_left : {X : Type 0} (xs : List X) → drop (length xs) xs ≡ []
       none_left [] = refl
       none_left (x ∷ xs) = none_left xs
 
-  pub mixes_start : (old : Air L) → Mixes old old (Calling 0)
-  mixes_start old ours yields own =
+  pub mixed_start : (may : Bool) (ours : AreOurs m identifier') (old : Air L) → Mixed may (cards ours old.listeners) (Calling 0) (cards ours old.listeners) (noise (drop (length old.trace) old.trace))
+  mixed_start may ours old =
       let w : List Card = cards ours old.listeners in
       let N : ℕ → Type 0 = λ n. CallsInVain w 0 w n in
       subst N (no_noise old) (record { kept = kept_start w; stay = stay_start w; due = due_start w; ready = false; turn = turn_start w })
+
+  -- a turn of any listeners that yield at it
+  pub mixed_turn : (may : Bool) (ours : AreOurs m identifier') (w : List Card) (old now new : Air L) (q : Seeking) (f : Signal) (h : Heard) → HaveOwnIdents w
+      → Mixed may w (seek_of q) (cards ours now.listeners) (noise (drop (length old.trace) now.trace)) → Each (YieldsAt ours may f) now.listeners
+      → Reached resolution m old now (seek_of q) → f ≡ request_of q → Asks m now f (Ok h) new
+      → Mixed may w (seek_step (seek_of q) h) (cards ours new.listeners) (noise (drop (length old.trace) new.trace))
+  mixed_turn may ours w old now new q f h own k yields r e t =
+      let n : ℕ = noise (drop (length old.trace) now.trace) in
+      let tech : f.tech ≡ A = ap (λ (x : Signal). x.tech) e ∙ request_a q in
+      let was = turn_of m ours may f tech now new h yields t.0 in
+      let W : Signal → Type 0 = λ x. TurnOf may (call_of x) (cards ours now.listeners) (cards ours new.listeners) h (noise (events_of m now f)) in
+      let N : ℕ → Type 0 = λ x. Mixed may w (seek_step (seek_of q) h) (cards ours new.listeners) x in
+      subst N (noise_so_far m identifier' old now new (seek_of q) f h r t.0) (any_turn may w q (cards ours now.listeners) (cards ours new.listeners) h n (noise (events_of m now f)) own k (subst W e was))
+
+  -- So far, whatever noise was met, this is known of the cards.
+  abbrev pub Mixes : Air L → Air L → Seek → Type 0
+  Mixes old now s =
+      (ours : AreOurs m identifier') → YieldsToCalls ours → HaveOwnIdents (cards ours old.listeners) → Mixed true (cards ours old.listeners) s (cards ours now.listeners) (noise (drop (length old.trace) now.trace))
+
+  pub mixes_start : (old : Air L) → Mixes old old (Calling 0)
+  mixes_start old ours yields own = mixed_start true ours old
 
   pub mixes_turn : (old now new : Air L) (q : Seeking) (f : Signal) (h : Heard) → Mixes old now (seek_of q) → Reached resolution m old now (seek_of q) → f ≡ request_of q → Asks m now f (Ok h) new
       → Mixes old new (seek_step (seek_of q) h)
   mixes_turn old now new q f h mixes r e t ours yields own =
       let w : List Card = cards ours old.listeners in
-      let n : ℕ = noise (drop (length old.trace) now.trace) in
       let k = mixes ours yields own in
-      let tech : f.tech ≡ A = ap (λ (x : Signal). x.tech) e ∙ request_a q in
-      let c = due_call w q (cards ours now.listeners) n k in
-      let was = turn_of m ours yields f tech c.0 (ap call_of e ∙ c.1) now new h t.0 in
-      let W : Signal → Type 0 = λ x. TurnOf (call_of x) (cards ours now.listeners) (cards ours new.listeners) h (noise (events_of m now f)) in
-      let N : ℕ → Type 0 = λ x. Mixed w (seek_step (seek_of q) h) (cards ours new.listeners) x in
-      subst N (noise_so_far m identifier' old now new (seek_of q) f h r t.0) (any_turn w q (cards ours now.listeners) (cards ours new.listeners) h n (noise (events_of m now f)) own k (subst W e was))
+      let c = due_call true w q (cards ours now.listeners) (noise (drop (length old.trace) now.trace)) k in
+      mixed_turn true ours w old now new q f h own k (each_any (YieldsAt ours true f) (λ l t i. or_stays l (yields l f c.0 t i (ap call_of e ∙ c.1))) now.listeners) r e t
+    where
+      or_stays : (l : L) → StepsByFront m identifier' ours.kind ours.front l f ⊎ StaysActive m identifier' ours.kind ours.front l f
+          → StepsByFront m identifier' ours.kind ours.front l f ⊎ ((true ≡ true) × StaysActive m identifier' ours.kind ours.front l f)
+      or_stays l (inl s) = inl s
+      or_stays l (inr s) = inr (refl, s)
 
   pub mixes_end : (old new : Air L) (s : Seek) (o : Outcome) (r : Result Picked PollFault) → Mixes old new s → s ≡ Ended o → r ≡ outcome o → (ours : AreOurs m identifier') → YieldsToCalls ours → PicksFromAny ours old r new
   mixes_end old new s o r mixes e end ours yields own =
       let w : List Card = cards ours old.listeners in
       let n : ℕ = noise (drop (length old.trace) new.trace) in
-      let P : Seek → Type 0 = λ x. Mixed w x (cards ours new.listeners) n in
+      let P : Seek → Type 0 = λ x. Mixed true w x (cards ours new.listeners) n in
+      let k : EndsFromAny w (outcome o) (cards ours new.listeners) n × (true ≡ false → IsAlone (outcome o) (cards ours new.listeners)) = subst P e (mixes ours yields own) in
       let R : Result Picked PollFault → Type 0 = λ x. EndsFromAny w x (cards ours new.listeners) n in
-      subst R (sym end) (subst P e (mixes ours yields own))
+      subst R (sym end) k.0
 
   pub mixes_err : (old now new : Air L) (q : Seeking) (f : Signal) (fault : PollFault) → Mixes old now (seek_of q) → Asks m now f (Err fault) new → (ours : AreOurs m identifier') → YieldsToCalls ours
       → PicksFromAny ours old (Err fault) new
@@ -267,6 +320,6 @@ module _ {L : Type 0} (m : Machine L) (identifier' : L → List ℕ) where
       let w : List Card = cards ours old.listeners in
       let n : ℕ = noise (drop (length old.trace) now.trace) in
       let P : Air L → Type 0 = λ x. Pairs Keeps w (cards ours x.listeners) in
-      subst P (sym t) (kept_so_far w q (cards ours now.listeners) n (k ours yields own))
+      subst P (sym t) (kept_so_far true w q (cards ours now.listeners) n (k ours yields own))
   mixes_err old now new q f faults.NotFound k t ours yields own = absurd t
   mixes_err old now new q f faults.BadAnswer k t ours yields own = absurd t

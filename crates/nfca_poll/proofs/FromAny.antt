@@ -68,10 +68,18 @@ pub record CallsInVain (w : List Card) (k : ℕ) (v : List Card) (n : ℕ) : Typ
   pub ready : Bool
   pub turn : Pairs (SameTurn ready) w v
 
--- Behind presence the devices are twins of a crowd at rest in which the resolution is as far.
-pub record Behind (w : List Card) (s : Seek) (v : List Card) : Type 0 where
+abbrev pub IsQuiet : Card → Type 0
+IsQuiet c = is_active c.front ≡ false
+
+-- where one was picked, it alone is active
+abbrev pub IsAlone : Result Picked PollFault → List Card → Type 0
+IsAlone r v = (p : Picked) → r ≡ Ok p → Each (λ d. is_active d.front ≡ true → d.id ≡ p.id) v
+
+-- Behind presence none is active, unless one may stay so, and the devices are twins of a crowd at rest in which the resolution is as far.
+pub record Behind (may : Bool) (w : List Card) (s : Seek) (v : List Card) : Type 0 where
   pub kept : Pairs Keeps w v
   pub stay : Pairs Stays w v
+  pub quiet : may ≡ false → Each IsQuiet v
   pub before : List Card
   pub first : Card
   pub behind : List Card
@@ -81,11 +89,11 @@ pub record Behind (w : List Card) (s : Seek) (v : List Card) : Type 0 where
   pub seeks : Seeks before first behind s crowd
   pub twins : Pairs Twin crowd v
 
-abbrev pub Mixed : List Card → Seek → List Card → ℕ → Type 0
-Mixed w (Calling k) v n = CallsInVain w k v n
-Mixed w (Asking done known) v n = Behind w (Asking done known) v
-Mixed w (Selecting done l) v n = Behind w (Selecting done l) v
-Mixed w (Ended o) v n = EndsFromAny w (outcome o) v n
+abbrev pub Mixed : Bool → List Card → Seek → List Card → ℕ → Type 0
+Mixed may w (Calling k) v n = CallsInVain w k v n
+Mixed may w (Asking done known) v n = Behind may w (Asking done known) v
+Mixed may w (Selecting done l) v n = Behind may w (Selecting done l) v
+Mixed may w (Ended o) v n = EndsFromAny w (outcome o) v n × (may ≡ false → IsAlone (outcome o) v)
 
 pub each_around : (P : Card → Type 0) (a : List Card) (m : Card) (b : List Card) → Each P a → P m → Each P b → Each P (a ++ m ∷ b)
 each_around P [] m b x y z = (y, z)
@@ -120,40 +128,40 @@ soon_unheard k n (Ready j false) h = omega (arith, h)
 soon_unheard k n (Active s) h = h
 
 -- an answer that was lost
-soon_lost : (k n : ℕ) (kind : Kind) (id : List ℕ) (f : Front) (d : Card) → Moves (Calls Sens) (record { id = id; kind = kind; front = f }) d → Soon k n f → Soon (k + 1) (n + 1) d.front
-soon_lost k n kind id Off d m h = absurd h
-soon_lost k n kind id Idle d (inl e) h = let S : Card → Type 0 = λ x. Soon (k + 1) (n + 1) x.front in subst S (sym e) (omega (arith, h))
-soon_lost k n kind id Idle d (inr t) h = wrong t.0
-soon_lost k n kind id Sleep d m h = absurd h
-soon_lost k n kind id (Ready j true) d m h = absurd h
-soon_lost k n kind id (Ready j false) d (inl e) h = let S : Card → Type 0 = λ x. Soon (k + 1) (n + 1) x.front in subst S (sym e) (omega (arith, h))
-soon_lost k n kind id (Ready j false) d (inr t) h = wrong t.0
-soon_lost k n kind id (Active s) d m h = absurd h
+soon_lost : (may : Bool) (k n : ℕ) (kind : Kind) (id : List ℕ) (f : Front) (d : Card) → Moves may (Calls Sens) (record { id = id; kind = kind; front = f }) d → Soon k n f → Soon (k + 1) (n + 1) d.front
+soon_lost may k n kind id Off d m h = absurd h
+soon_lost may k n kind id Idle d (inl e) h = let S : Card → Type 0 = λ x. Soon (k + 1) (n + 1) x.front in subst S (sym e) (omega (arith, h))
+soon_lost may k n kind id Idle d (inr t) h = wrong t.1
+soon_lost may k n kind id Sleep d m h = absurd h
+soon_lost may k n kind id (Ready j true) d m h = absurd h
+soon_lost may k n kind id (Ready j false) d (inl e) h = let S : Card → Type 0 = λ x. Soon (k + 1) (n + 1) x.front in subst S (sym e) (omega (arith, h))
+soon_lost may k n kind id (Ready j false) d (inr t) h = wrong t.1
+soon_lost may k n kind id (Active s) d m h = absurd h
 
 -- nobody has answered
-soon_silent : (k n : ℕ) (kind : Kind) (id : List ℕ) (f : Front) (d : Card) → card_says (Calls Sens) (record { id = id; kind = kind; front = f }) ≡ None → Moves (Calls Sens) (record { id = id; kind = kind; front = f }) d
+soon_silent : (may : Bool) (k n : ℕ) (kind : Kind) (id : List ℕ) (f : Front) (d : Card) → card_says (Calls Sens) (record { id = id; kind = kind; front = f }) ≡ None → Moves may (Calls Sens) (record { id = id; kind = kind; front = f }) d
     → Soon k n f → Soon (k + 1) n d.front
-soon_silent k n kind id Off d q m h = absurd h
-soon_silent k n kind id Idle d q m h = absurd cc
-soon_silent k n kind id Sleep d q m h = absurd h
-soon_silent k n kind id (Ready j true) d q m h = absurd h
-soon_silent k n kind id (Ready j false) d q (inl e) h = let S : Card → Type 0 = λ x. Soon (k + 1) n x.front in subst S (sym e) (omega (arith, h))
-soon_silent k n kind id (Ready j false) d q (inr t) h = wrong t.0
-soon_silent k n kind id (Active s) d q m h = absurd h
+soon_silent may k n kind id Off d q m h = absurd h
+soon_silent may k n kind id Idle d q m h = absurd cc
+soon_silent may k n kind id Sleep d q m h = absurd h
+soon_silent may k n kind id (Ready j true) d q m h = absurd h
+soon_silent may k n kind id (Ready j false) d q (inl e) h = let S : Card → Type 0 = λ x. Soon (k + 1) n x.front in subst S (sym e) (omega (arith, h))
+soon_silent may k n kind id (Ready j false) d q (inr t) h = wrong t.1
+soon_silent may k n kind id (Active s) d q m h = absurd h
 
 due_unheard : (k n : ℕ) (w v : List Card) → Pairs (Due k n) w v → Pairs (Due (k + 1) (n + 1)) w v
 due_unheard k n w v d = pairs_map (Due k n) (Due (k + 1) (n + 1)) (λ c x h q. soon_unheard k n x.front (h q)) w v d
 
-due_lost : (k n : ℕ) (w v u : List Card) → Pairs (Due k n) w v → Pairs (Moves (Calls Sens)) v u → Pairs (Due (k + 1) (n + 1)) w u
-due_lost k n w v u d m = pairs_with (Due k n) (Moves (Calls Sens)) (Due (k + 1) (n + 1)) (λ c x y h e q. soon_lost k n x.kind x.id x.front y e (h q)) w v u d m
+due_lost : (may : Bool) (k n : ℕ) (w v u : List Card) → Pairs (Due k n) w v → Pairs (Moves may (Calls Sens)) v u → Pairs (Due (k + 1) (n + 1)) w u
+due_lost may k n w v u d m = pairs_with (Due k n) (Moves may (Calls Sens)) (Due (k + 1) (n + 1)) (λ c x y h e q. soon_lost may k n x.kind x.id x.front y e (h q)) w v u d m
 
-due_silent : (k n : ℕ) (w v u : List Card) → Each (λ c. card_says (Calls Sens) c ≡ None) v → Pairs (Due k n) w v → Pairs (Moves (Calls Sens)) v u → Pairs (Due (k + 1) n) w u
-due_silent k n [] [] [] s d m = tt
-due_silent k n [] [] (y ∷ u) s d m = m
-due_silent k n [] (x ∷ v) u s d m = absurd d
-due_silent k n (c ∷ w) [] u s d m = absurd d
-due_silent k n (c ∷ w) (x ∷ v) [] s d m = m
-due_silent k n (c ∷ w) (x ∷ v) (y ∷ u) s d m = ((λ q. soon_silent k n x.kind x.id x.front y s.0 m.0 (d.0 q)), due_silent k n w v u s.1 d.1 m.1)
+due_silent : (may : Bool) (k n : ℕ) (w v u : List Card) → Each (λ c. card_says (Calls Sens) c ≡ None) v → Pairs (Due k n) w v → Pairs (Moves may (Calls Sens)) v u → Pairs (Due (k + 1) n) w u
+due_silent may k n [] [] [] s d m = tt
+due_silent may k n [] [] (y ∷ u) s d m = m
+due_silent may k n [] (x ∷ v) u s d m = absurd d
+due_silent may k n (c ∷ w) [] u s d m = absurd d
+due_silent may k n (c ∷ w) (x ∷ v) [] s d m = m
+due_silent may k n (c ∷ w) (x ∷ v) (y ∷ u) s d m = ((λ q. soon_silent may k n x.kind x.id x.front y s.0 m.0 (d.0 q)), due_silent may k n w v u s.1 d.1 m.1)
 
 -- four silences and little noise: none has waited
 late : (k n : ℕ) (f : Front) → 3 ≤ k → n < 2 → Soon (k + 1) n f → ⊥
@@ -171,8 +179,8 @@ none_waited k n (c ∷ w) [] a b d = absurd d
 none_waited k n (c ∷ w) (x ∷ v) a b d = ((λ q. late k n x.front a b (d.0 q)), none_waited k n w v a b d.1)
 
 -- one silence more
-silence : (w : List Card) (k : ℕ) (v : List Card) (n : ℕ) (ready : Bool) → Pairs Keeps w v → Pairs Stays w v → Pairs (Due (k + 1) n) w v → Pairs (SameTurn ready) w v → Mixed w (seek_step (Calling k) Silent) v n
-silence w k v n ready p s d a = by_count (nat_lt k 3) refl
+silence : (may : Bool) (w : List Card) (k : ℕ) (v : List Card) (n : ℕ) (ready : Bool) → Pairs Keeps w v → Pairs Stays w v → Pairs (Due (k + 1) n) w v → Pairs (SameTurn ready) w v → Mixed may w (seek_step (Calling k) Silent) v n
+silence may w k v n ready p s d a = by_count (nat_lt k 3) refl
   where
     at_least : (i j : ℕ) → nat_lt i j ≡ false → j ≤ i
     at_least i j h = grind arith
@@ -187,9 +195,9 @@ silence w k v n ready p s d a = by_count (nat_lt k 3) refl
     by_noise a true q = inr (le_of 2 n q)
     by_noise a false q = inl (none_waited k n w v a (less_of 2 n q) d)
 
-    by_count : (t : Bool) → nat_lt k 3 ≡ t → Mixed w (if t then Calling (k + 1) else Ended Nobody) v n
+    by_count : (t : Bool) → nat_lt k 3 ≡ t → Mixed may w (if t then Calling (k + 1) else Ended Nobody) v n
     by_count true q = record { kept = p; stay = s; due = d; ready = ready; turn = a }
-    by_count false q = (p, by_noise (at_least k 3 q) (nat_le 2 n) refl)
+    by_count false q = ((p, by_noise (at_least k 3 q) (nat_le 2 n) refl), (λ e i j. absurd cc))
 
 -- nobody becomes active by SENS_REQ
 home_inactive : (s : Bool) → is_active (home s) ≡ false
@@ -203,22 +211,32 @@ sens_inactive ls Sleep = refl
 sens_inactive ls (Ready j s) = home_inactive s
 sens_inactive ls (Active s) = home_inactive s
 
-sens_stays : (x y : Card) → Moves (Calls Sens) x y → Stays x y
-sens_stays x y (inl e) a = let C : Card → Bool = λ c. is_active c.front in wrong (sym (sens_inactive (levels x.id) x.front) ∙ sym (ap C e) ∙ a)
-sens_stays x y (inr s) a = s.0
+sens_stays : (may : Bool) (x y : Card) → Moves may (Calls Sens) x y → Stays x y
+sens_stays may x y (inl e) a = let C : Card → Bool = λ c. is_active c.front in wrong (sym (sens_inactive (levels x.id) x.front) ∙ sym (ap C e) ∙ a)
+sens_stays may x y (inr s) a = s.1
 
-stay_called : (w v u : List Card) → Pairs Stays w v → Pairs (Moves (Calls Sens)) v u → Pairs Stays w u
-stay_called w v u s m = pairs_with Stays (Moves (Calls Sens)) Stays (λ c x y h e a. h (sens_stays x y e a)) w v u s m
+stay_called : (may : Bool) (w v u : List Card) → Pairs Stays w v → Pairs (Moves may (Calls Sens)) v u → Pairs Stays w u
+stay_called may w v u s m = pairs_with Stays (Moves may (Calls Sens)) Stays (λ c x y h e a. h (sens_stays may x y e a)) w v u s m
+
+sens_quiet : (may : Bool) (x y : Card) → Moves may (Calls Sens) x y → may ≡ false → IsQuiet y
+sens_quiet may x y (inl e) q = let C : Card → Bool = λ c. is_active c.front in ap C e ∙ sens_inactive (levels x.id) x.front
+sens_quiet may x y (inr s) q = wrong (sym q ∙ s.0)
+
+quiet_called : (may : Bool) (v u : List Card) → Pairs (Moves may (Calls Sens)) v u → may ≡ false → Each IsQuiet u
+quiet_called may [] [] m q = tt
+quiet_called may [] (y ∷ u) m q = absurd m
+quiet_called may (x ∷ v) [] m q = absurd m
+quiet_called may (x ∷ v) (y ∷ u) m q = (sens_quiet may x y m.0 q, quiet_called may v u m.1 q)
 
 -- those that were idle wake up, or go home again
-turns_by : (id : List ℕ) (k : Kind) (f : Front) (y : Card) (ready : Bool) → Moves (Calls Sens) (record { id = id; kind = k; front = f }) y → f ≡ (if ready then Ready 1 false else Idle) → y.front ≡ (if not ready then Ready 1 false else Idle)
-turns_by id k f y true (inl e) h = let C : Card → Front = λ c. c.front in ap C e ∙ ap (λ x. front_next (levels id) x (Calls Sens)) h
-turns_by id k f y false (inl e) h = let C : Card → Front = λ c. c.front in ap C e ∙ ap (λ x. front_next (levels id) x (Calls Sens)) h
-turns_by id k f y true (inr s) h = wrong (sym (ap is_active h) ∙ s.0)
-turns_by id k f y false (inr s) h = wrong (sym (ap is_active h) ∙ s.0)
+turns_by : (may : Bool) (id : List ℕ) (k : Kind) (f : Front) (y : Card) (ready : Bool) → Moves may (Calls Sens) (record { id = id; kind = k; front = f }) y → f ≡ (if ready then Ready 1 false else Idle) → y.front ≡ (if not ready then Ready 1 false else Idle)
+turns_by may id k f y true (inl e) h = let C : Card → Front = λ c. c.front in ap C e ∙ ap (λ x. front_next (levels id) x (Calls Sens)) h
+turns_by may id k f y false (inl e) h = let C : Card → Front = λ c. c.front in ap C e ∙ ap (λ x. front_next (levels id) x (Calls Sens)) h
+turns_by may id k f y true (inr s) h = wrong (sym (ap is_active h) ∙ s.1)
+turns_by may id k f y false (inr s) h = wrong (sym (ap is_active h) ∙ s.1)
 
-turn_called : (ready : Bool) (w v u : List Card) → Pairs (SameTurn ready) w v → Pairs (Moves (Calls Sens)) v u → Pairs (SameTurn (not ready)) w u
-turn_called ready w v u t m = pairs_with (SameTurn ready) (Moves (Calls Sens)) (SameTurn (not ready)) (λ c x y h e i. turns_by x.id x.kind x.front y ready e (h i)) w v u t m
+turn_called : (may : Bool) (ready : Bool) (w v u : List Card) → Pairs (SameTurn ready) w v → Pairs (Moves may (Calls Sens)) v u → Pairs (SameTurn (not ready)) w u
+turn_called may ready w v u t m = pairs_with (SameTurn ready) (Moves may (Calls Sens)) (SameTurn (not ready)) (λ c x y h e i. turns_by may x.id x.kind x.front y ready e (h i)) w v u t m
 
 each_unmapped : (P : Card → Type 0) (u : List Card) → Each P (map at_rest u) → Each (λ y. P (at_rest y)) u
 each_unmapped P [] e = tt
@@ -259,40 +277,41 @@ in_order w u up false k t =
     w u (pairs_both Keeps (SameTurn false) w u k t) all
 
 -- presence was heard
-present : (w v u : List Card) (g : Signal) (ready : Bool) → HaveOwnIdents w → Pairs Keeps w v → Pairs Stays w v → Pairs (SameTurn ready) w v → Pairs (Moves (Calls Sens)) v u → Has g (filter_map (card_says (Calls Sens)) v) → Behind w (Asking [] []) u
-present w v u g ready own k s a m h =
-    let kept : Pairs Keeps w u = kept_turn (Calls Sens) refl w v u k m in
-    let up : Woken u = woken v u g (each_kept IsIdent w v k own.idents) (each_kept IsIdent w u kept own.idents) (distinct_kept w u kept own.distinct) m h in
+present : (may : Bool) (w v u : List Card) (g : Signal) (ready : Bool) → HaveOwnIdents w → Pairs Keeps w v → Pairs Stays w v → Pairs (SameTurn ready) w v → Pairs (Moves may (Calls Sens)) v u → Has g (filter_map (card_says (Calls Sens)) v) → Behind may w (Asking [] []) u
+present may w v u g ready own k s a m h =
+    let kept : Pairs Keeps w u = kept_turn may (Calls Sens) refl w v u k m in
+    let up : Woken u = woken may v u g (each_kept IsIdent w v k own.idents) (each_kept IsIdent w u kept own.idents) (distinct_kept w u kept own.distinct) m h in
     record {
       kept = kept;
-      stay = stay_called w v u s m;
+      stay = stay_called may w v u s m;
+      quiet = quiet_called may v u m;
       before = up.before;
       first = up.first;
       behind = up.behind;
       leads = up.leads;
-      order = in_order w u up (not ready) kept (turn_called ready w v u a m);
+      order = in_order w u up (not ready) kept (turn_called may ready w v u a m);
       crowd = map (card_at [] []) (up.before ++ up.first ∷ up.behind);
       seeks = asked_first up.before up.first up.behind up.leads;
       twins = up.twins;
     }
 
-pub calling_turn : (w : List Card) (k : ℕ) (v u : List Card) (h : Heard) (n t : ℕ) → HaveOwnIdents w → CallsInVain w k v n → TurnOf (Calls Sens) v u h t → Mixed w (seek_step (Calling k) h) u (n + t)
-calling_turn w k v u _ n _ own c (passed m) = by_answers (filter_map (card_says (Calls Sens)) v) refl
+pub calling_turn : (may : Bool) (w : List Card) (k : ℕ) (v u : List Card) (h : Heard) (n t : ℕ) → HaveOwnIdents w → CallsInVain w k v n → TurnOf may (Calls Sens) v u h t → Mixed may w (seek_step (Calling k) h) u (n + t)
+calling_turn may w k v u _ n _ own c (passed m) = by_answers (filter_map (card_says (Calls Sens)) v) refl
   where
-    by_answers : (xs : List Signal) → filter_map (card_says (Calls Sens)) v ≡ xs → Mixed w (seek_step (Calling k) (hears (Calls Sens) v)) u (n + 0)
+    by_answers : (xs : List Signal) → filter_map (card_says (Calls Sens)) v ≡ xs → Mixed may w (seek_step (Calling k) (hears (Calls Sens) v)) u (n + 0)
     by_answers [] e =
-        let P : List Signal → Type 0 = λ xs. Mixed w (seek_step (Calling k) (heard_of (joint xs))) u (n + 0) in
-        let N : ℕ → Type 0 = λ x. Mixed w (seek_step (Calling k) Silent) u x in
+        let P : List Signal → Type 0 = λ xs. Mixed may w (seek_step (Calling k) (heard_of (joint xs))) u (n + 0) in
+        let N : ℕ → Type 0 = λ x. Mixed may w (seek_step (Calling k) Silent) u x in
         subst P (sym e)
         (subst N (let q : n ≡ n + 0 = omega arith in q)
-        (silence w k u n (not c.ready) (kept_turn (Calls Sens) refl w v u c.kept m) (stay_called w v u c.stay m) (due_silent k n w v u (none_in (card_says (Calls Sens)) v e) c.due m) (turn_called c.ready w v u c.turn m)))
+        (silence may w k u n (not c.ready) (kept_turn may (Calls Sens) refl w v u c.kept m) (stay_called may w v u c.stay m) (due_silent may k n w v u (none_in (card_says (Calls Sens)) v e) c.due m) (turn_called may c.ready w v u c.turn m)))
     by_answers (g ∷ gs) e =
-        let P : List Signal → Type 0 = λ xs. Mixed w (seek_step (Calling k) (heard_of (joint xs))) u (n + 0) in
-        let S : Seek → Type 0 = λ s. Mixed w s u (n + 0) in
+        let P : List Signal → Type 0 = λ xs. Mixed may w (seek_step (Calling k) (heard_of (joint xs))) u (n + 0) in
+        let S : Seek → Type 0 = λ s. Mixed may w s u (n + 0) in
         let H : List Signal → Type 0 = λ xs. Has g xs in
-        subst P (sym e) (subst S (sym (heard_some g (g ∷ gs) k (inl refl))) (present w v u g c.ready own c.kept c.stay c.turn m (subst H (sym e) (inl refl))))
-calling_turn w k v u _ n _ own c (unheard e) =
-    let P : List Card → Type 0 = λ x. Mixed w (seek_step (Calling k) Silent) x (n + 1) in
-    subst P (sym e) (silence w k v (n + 1) c.ready c.kept c.stay (due_unheard k n w v c.due) c.turn)
-calling_turn w k v u _ n _ own c (damaged m g h) = present w v u g c.ready own c.kept c.stay c.turn m h
-calling_turn w k v u _ n _ own c (lost m g h) = silence w k u (n + 1) (not c.ready) (kept_turn (Calls Sens) refl w v u c.kept m) (stay_called w v u c.stay m) (due_lost k n w v u c.due m) (turn_called c.ready w v u c.turn m)
+        subst P (sym e) (subst S (sym (heard_some g (g ∷ gs) k (inl refl))) (present may w v u g c.ready own c.kept c.stay c.turn m (subst H (sym e) (inl refl))))
+calling_turn may w k v u _ n _ own c (unheard e) =
+    let P : List Card → Type 0 = λ x. Mixed may w (seek_step (Calling k) Silent) x (n + 1) in
+    subst P (sym e) (silence may w k v (n + 1) c.ready c.kept c.stay (due_unheard k n w v c.due) c.turn)
+calling_turn may w k v u _ n _ own c (damaged m g h) = present may w v u g c.ready own c.kept c.stay c.turn m h
+calling_turn may w k v u _ n _ own c (lost m g h) = silence may w k u (n + 1) (not c.ready) (kept_turn may (Calls Sens) refl w v u c.kept m) (stay_called may w v u c.stay m) (due_lost may k n w v u c.due m) (turn_called may c.ready w v u c.turn m)

@@ -29,4 +29,5 @@ pub mod Causes
 pub mod Twins
 pub mod FromAny
 pub mod AnyTurns
+pub mod Unlinked
 pub mod Steady

@@ -104,17 +104,17 @@ keeps_same c = record { id = refl; kind = refl; home = refl }
 keeps_on : (c d e : Card) → Keeps c d → Keeps d e → Keeps c e
 keeps_on c d e k l = record { id = l.id ∙ k.id; kind = l.kind ∙ k.kind; home = l.home ∙ k.home }
 
-move_keeps : (r : Reading) → polls r ≡ true → (c d : Card) → Moves r c d → Keeps c d
-move_keeps r p c d (inl e) =
+move_keeps : (may : Bool) (r : Reading) → polls r ≡ true → (c d : Card) → Moves may r c d → Keeps c d
+move_keeps may r p c d (inl e) =
     let K : Card → Type 0 = λ x. Keeps c x in
     subst K (sym e) (record { id = refl; kind = refl; home = same_home (levels c.id) c.front r p })
-move_keeps r p c d (inr s) = let K : Card → Type 0 = λ x. Keeps c x in subst K (sym s.1) (keeps_same c)
+move_keeps may r p c d (inr s) = let K : Card → Type 0 = λ x. Keeps c x in subst K (sym s.2) (keeps_same c)
 
 pub kept_start : (w : List Card) → Pairs Keeps w w
 kept_start w = pairs_same Keeps keeps_same w
 
-pub kept_turn : (r : Reading) → polls r ≡ true → (w v u : List Card) → Pairs Keeps w v → Pairs (Moves r) v u → Pairs Keeps w u
-kept_turn r p w v u k e = pairs_with Keeps Keeps Keeps keeps_on w v u k (pairs_map (Moves r) Keeps (move_keeps r p) v u e)
+pub kept_turn : (may : Bool) (r : Reading) → polls r ≡ true → (w v u : List Card) → Pairs Keeps w v → Pairs (Moves may r) v u → Pairs Keeps w u
+kept_turn may r p w v u k e = pairs_with Keeps Keeps Keeps keeps_on w v u k (pairs_map (Moves may r) Keeps (move_keeps may r p) v u e)
 
 -- what is said of identifiers stays true
 pub each_kept : (P : List ℕ → Type 0) (w v : List Card) → Pairs Keeps w v → Each (λ c. P c.id) w → Each (λ c. P c.id) v
@@ -181,31 +181,31 @@ stays_by id k Sleep i = wrong_back (sym i)
 stays_by id k (Ready j s) i = wrong_back (sym i)
 stays_by id k (Active s) i = inr (refl, refl, (refl, refl), refl)
 
-woken_twin : (c d : Card) → IsIdent c.id → Moves (Calls Sens) c d → Twin (card_at [] [] (at_rest d)) d
-woken_twin c d i (inl e) = let T : Card → Type 0 = λ x. Twin (card_at [] [] (at_rest x)) x in subst T (sym e) (woken_by c.id c.kind c.front i)
-woken_twin c d i (inr s) = let T : Card → Type 0 = λ x. Twin (card_at [] [] (at_rest x)) x in subst T (sym s.1) (stays_by c.id c.kind c.front s.0)
+woken_twin : (may : Bool) (c d : Card) → IsIdent c.id → Moves may (Calls Sens) c d → Twin (card_at [] [] (at_rest d)) d
+woken_twin may c d i (inl e) = let T : Card → Type 0 = λ x. Twin (card_at [] [] (at_rest x)) x in subst T (sym e) (woken_by c.id c.kind c.front i)
+woken_twin may c d i (inr s) = let T : Card → Type 0 = λ x. Twin (card_at [] [] (at_rest x)) x in subst T (sym s.2) (stays_by c.id c.kind c.front s.1)
 
-woken_twins : (v u : List Card) → Each (λ c. IsIdent c.id) v → Pairs (Moves (Calls Sens)) v u → Pairs Twin (map (card_at [] []) (map at_rest u)) u
-woken_twins [] [] i e = tt
-woken_twins [] (d ∷ u) i e = absurd e
-woken_twins (c ∷ v) [] i e = absurd e
-woken_twins (c ∷ v) (d ∷ u) i e = (woken_twin c d i.0 e.0, woken_twins v u i.1 e.1)
+woken_twins : (may : Bool) (v u : List Card) → Each (λ c. IsIdent c.id) v → Pairs (Moves may (Calls Sens)) v u → Pairs Twin (map (card_at [] []) (map at_rest u)) u
+woken_twins may [] [] i e = tt
+woken_twins may [] (d ∷ u) i e = absurd e
+woken_twins may (c ∷ v) [] i e = absurd e
+woken_twins may (c ∷ v) (d ∷ u) i e = (woken_twin may c d i.0 e.0, woken_twins may v u i.1 e.1)
 
 -- one that has answered is idle in that crowd
-answers_by : (id : List ℕ) (k : Kind) (f : Front) (d : Card) → Moves (Calls Sens) (record { id = id; kind = k; front = f }) d → Sleeps (at_rest d) → card_says (Calls Sens) (record { id = id; kind = k; front = f }) ≡ None
-answers_by id k Off d e s = refl
-answers_by id k Idle d (inl e) s = let T : Card → Type 0 = λ x. is_idle (rested x.front) ≡ false in wrong_back (subst T e s.1)
-answers_by id k Idle d (inr t) s = wrong t.0
-answers_by id k Sleep d e s = refl
-answers_by id k (Ready j t) d e s = refl
-answers_by id k (Active t) d e s = refl
+answers_by : (may : Bool) (id : List ℕ) (k : Kind) (f : Front) (d : Card) → Moves may (Calls Sens) (record { id = id; kind = k; front = f }) d → Sleeps (at_rest d) → card_says (Calls Sens) (record { id = id; kind = k; front = f }) ≡ None
+answers_by may id k Off d e s = refl
+answers_by may id k Idle d (inl e) s = let T : Card → Type 0 = λ x. is_idle (rested x.front) ≡ false in wrong_back (subst T e s.1)
+answers_by may id k Idle d (inr t) s = wrong t.1
+answers_by may id k Sleep d e s = refl
+answers_by may id k (Ready j t) d e s = refl
+answers_by may id k (Active t) d e s = refl
 
-none_answers : (v u : List Card) → Pairs (Moves (Calls Sens)) v u → Each Sleeps (map at_rest u) → filter_map (card_says (Calls Sens)) v ≡ []
-none_answers [] [] e s = refl
-none_answers [] (d ∷ u) e s = absurd e
-none_answers (c ∷ v) [] e s = absurd e
-none_answers (c ∷ v) (d ∷ u) e s =
-    ap (λ o. cons_option o (filter_map (card_says (Calls Sens)) v)) (answers_by c.id c.kind c.front d e.0 s.0) ∙ none_answers v u e.1 s.1
+none_answers : (may : Bool) (v u : List Card) → Pairs (Moves may (Calls Sens)) v u → Each Sleeps (map at_rest u) → filter_map (card_says (Calls Sens)) v ≡ []
+none_answers may [] [] e s = refl
+none_answers may [] (d ∷ u) e s = absurd e
+none_answers may (c ∷ v) [] e s = absurd e
+none_answers may (c ∷ v) (d ∷ u) e s =
+    ap (λ o. cons_option o (filter_map (card_says (Calls Sens)) v)) (answers_by may c.id c.kind c.front d e.0 s.0) ∙ none_answers may v u e.1 s.1
 
 -- a crowd at rest, and the devices of the field behind SENS_REQ
 pub record Woken (u : List Card) : Type 0 where
@@ -216,17 +216,17 @@ pub record Woken (u : List Card) : Type 0 where
   pub rests : before ++ first ∷ behind ≡ map at_rest u
   pub twins : Pairs Twin (map (card_at [] []) (before ++ first ∷ behind)) u
 
-pub woken : (v u : List Card) (g : Signal) → Each (λ c. IsIdent c.id) v → Each (λ c. IsIdent c.id) u → AreDistinct u → Pairs (Moves (Calls Sens)) v u → Has g (filter_map (card_says (Calls Sens)) v) → Woken u
-woken v u g i j d e h = by_lead (map at_rest u) refl (leads (map at_rest u) (each_at_rest u j) (distinct_rested u d))
+pub woken : (may : Bool) (v u : List Card) (g : Signal) → Each (λ c. IsIdent c.id) v → Each (λ c. IsIdent c.id) u → AreDistinct u → Pairs (Moves may (Calls Sens)) v u → Has g (filter_map (card_says (Calls Sens)) v) → Woken u
+woken may v u g i j d e h = by_lead (map at_rest u) refl (leads (map at_rest u) (each_at_rest u j) (distinct_rested u d))
   where
     by_lead : (w : List Card) → map at_rest u ≡ w → Leads w → Woken u
     by_lead _ q (none w s) =
         let S : List Card → Type 0 = λ x. Each Sleeps x in
         let H : List Signal → Type 0 = λ x. Has g x in
-        absurd (subst H (none_answers v u e (subst S (sym q) s)) h)
+        absurd (subst H (none_answers may v u e (subst S (sym q) s)) h)
     by_lead _ q (some a m b F) =
         let T : List Card → Type 0 = λ x. Pairs Twin (map (card_at [] []) x) u in
-        record { before = a; first = m; behind = b; leads = F; rests = sym q; twins = subst T q (woken_twins v u i e) }
+        record { before = a; first = m; behind = b; leads = F; rests = sym q; twins = subst T q (woken_twins may v u i e) }
 
 -- SDD_REQ and SEL_REQ
 abbrev pub asks_ready : Reading → Bool
@@ -294,25 +294,25 @@ module _ (r : Reading) (a : asks_ready r ≡ true) where
       let deaf : IsDeaf (levels y.id) y.kind y.front r = deaf_at (levels y.id) y.kind y.front r a t.3 in
       (asleep_by x.id x.kind x.front r a t.2).1 ∙ sym deaf.0
 
-  twin_moves : (x y z : Card) → Twin x y → is_active x.front ≡ false → Moves r y z → Twin (card_next r x) z
-  twin_moves x y z (inl e) i (inl m) = inl (ap (card_next r) e ∙ sym m)
-  twin_moves x y z (inl e) i (inr m) = let C : Card → Bool = λ c. is_active c.front in wrong (sym i ∙ ap C e ∙ m.0)
-  twin_moves x y z (inr t) i m =
+  twin_moves : (may : Bool) (x y z : Card) → Twin x y → is_active x.front ≡ false → Moves may r y z → Twin (card_next r x) z
+  twin_moves may x y z (inl e) i (inl m) = inl (ap (card_next r) e ∙ sym m)
+  twin_moves may x y z (inl e) i (inr m) = let C : Card → Bool = λ c. is_active c.front in wrong (sym i ∙ ap C e ∙ m.1)
+  twin_moves may x y z (inr t) i m =
       let T : Card → Type 0 = λ c. Twin c z in
       subst T (sym (asleep_by x.id x.kind x.front r a t.2).0) (by_move m)
     where
-      by_move : Moves r y z → Twin x z
+      by_move : Moves may r y z → Twin x z
       by_move (inl e) =
           let U : Card → Type 0 = λ c. Twin x c in
           let deaf : IsDeaf (levels y.id) y.kind y.front r = deaf_at (levels y.id) y.kind y.front r a t.3 in
           subst U (sym e) (inr (t.0, t.1, t.2, deaf.1))
-      by_move (inr s) = let U : Card → Type 0 = λ c. Twin x c in subst U (sym s.1) (inr t)
+      by_move (inr s) = let U : Card → Type 0 = λ c. Twin x c in subst U (sym s.2) (inr t)
 
   -- one of the field becomes active only where its twin does
-  twin_wakes : (x y z : Card) → Twin x y → is_active x.front ≡ false → Moves r y z → is_active z.front ≡ true → (is_active y.front ≡ true) ⊎ (card_next r x ≡ z)
-  twin_wakes x y z (inl e) i (inl m) v = inr (ap (card_next r) e ∙ sym m)
-  twin_wakes x y z t i (inr m) v = inl m.0
-  twin_wakes x y z (inr t) i (inl m) v =
+  twin_wakes : (may : Bool) (x y z : Card) → Twin x y → is_active x.front ≡ false → Moves may r y z → is_active z.front ≡ true → (is_active y.front ≡ true) ⊎ (card_next r x ≡ z)
+  twin_wakes may x y z (inl e) i (inl m) v = inr (ap (card_next r) e ∙ sym m)
+  twin_wakes may x y z t i (inr m) v = inl m.1
+  twin_wakes may x y z (inr t) i (inl m) v =
       let C : Card → Bool = λ c. is_active c.front in
       let deaf : IsDeaf (levels y.id) y.kind y.front r = deaf_at (levels y.id) y.kind y.front r a t.3 in
       wrong (sym deaf.2 ∙ sym (ap C m) ∙ v)
@@ -324,23 +324,23 @@ module _ (r : Reading) (a : asks_ready r ≡ true) where
   twins_say (x ∷ xs) (y ∷ ys) t =
       ap (λ o. cons_option o (filter_map (card_says r) xs)) (twin_says x y t.0) ∙ ap (cons_option (card_says r y)) (twins_say xs ys t.1)
 
-  pub twins_move : (xs ys zs : List Card) → Pairs Twin xs ys → Each (λ c. is_active c.front ≡ false) xs → Pairs (Moves r) ys zs → Pairs Twin (map (card_next r) xs) zs
-  twins_move [] [] [] t i m = tt
-  twins_move [] [] (z ∷ zs) t i m = m
-  twins_move [] (y ∷ ys) zs t i m = absurd t
-  twins_move (x ∷ xs) [] zs t i m = absurd t
-  twins_move (x ∷ xs) (y ∷ ys) [] t i m = m
-  twins_move (x ∷ xs) (y ∷ ys) (z ∷ zs) t i m = (twin_moves x y z t.0 i.0 m.0, twins_move xs ys zs t.1 i.1 m.1)
+  pub twins_move : (may : Bool) (xs ys zs : List Card) → Pairs Twin xs ys → Each (λ c. is_active c.front ≡ false) xs → Pairs (Moves may r) ys zs → Pairs Twin (map (card_next r) xs) zs
+  twins_move may [] [] [] t i m = tt
+  twins_move may [] [] (z ∷ zs) t i m = m
+  twins_move may [] (y ∷ ys) zs t i m = absurd t
+  twins_move may (x ∷ xs) [] zs t i m = absurd t
+  twins_move may (x ∷ xs) (y ∷ ys) [] t i m = m
+  twins_move may (x ∷ xs) (y ∷ ys) (z ∷ zs) t i m = (twin_moves may x y z t.0 i.0 m.0, twins_move may xs ys zs t.1 i.1 m.1)
 
   -- where only cards of this kind become active at rest, so in the field
-  pub twins_wake : (P : Card → Type 0) (xs ys zs : List Card) → Pairs Twin xs ys → Each (λ c. is_active c.front ≡ false) xs → Pairs (Moves r) ys zs
+  pub twins_wake : (may : Bool) (P : Card → Type 0) (xs ys zs : List Card) → Pairs Twin xs ys → Each (λ c. is_active c.front ≡ false) xs → Pairs (Moves may r) ys zs
       → Each (λ c. is_active c.front ≡ true → P c) (map (card_next r) xs) → Pairs (λ y z. is_active z.front ≡ true → (is_active y.front ≡ true) ⊎ P z) ys zs
-  twins_wake P [] [] [] t i m w = tt
-  twins_wake P [] [] (z ∷ zs) t i m w = m
-  twins_wake P [] (y ∷ ys) zs t i m w = absurd t
-  twins_wake P (x ∷ xs) [] zs t i m w = absurd t
-  twins_wake P (x ∷ xs) (y ∷ ys) [] t i m w = m
-  twins_wake P (x ∷ xs) (y ∷ ys) (z ∷ zs) t i m w = ((λ v. by_twin v (twin_wakes x y z t.0 i.0 m.0 v)), twins_wake P xs ys zs t.1 i.1 m.1 w.1)
+  twins_wake may P [] [] [] t i m w = tt
+  twins_wake may P [] [] (z ∷ zs) t i m w = m
+  twins_wake may P [] (y ∷ ys) zs t i m w = absurd t
+  twins_wake may P (x ∷ xs) [] zs t i m w = absurd t
+  twins_wake may P (x ∷ xs) (y ∷ ys) [] t i m w = m
+  twins_wake may P (x ∷ xs) (y ∷ ys) (z ∷ zs) t i m w = ((λ v. by_twin v (twin_wakes may x y z t.0 i.0 m.0 v)), twins_wake may P xs ys zs t.1 i.1 m.1 w.1)
     where
       by_twin : is_active z.front ≡ true → (is_active y.front ≡ true) ⊎ (card_next r x ≡ z) → (is_active y.front ≡ true) ⊎ P z
       by_twin v (inl e) = inl e

@@ -97,3 +97,19 @@ EndsFromAny w (Err BadAnswer) v n = ⊥
 abbrev pub PicksFromAny : {L : Type 0} {m : Machine L} {identifier : L → List ℕ} → AreOurs m identifier → Air L → Result Picked PollFault → Air L → Type 0
 PicksFromAny ours old r new =
     HaveOwnIdents (cards ours old.listeners) → EndsFromAny (cards ours old.listeners) r (cards ours new.listeners) (noise (drop (length old.trace) new.trace))
+
+-- Listeners with this mark have no link, as a card before RATS and a peer before ATR_REQ: at each call by which a reader polls,
+-- an active one leaves the state Active by the front's table, and each keeps the mark.
+abbrev pub LeavesAtCalls : {L : Type 0} {m : Machine L} {identifier : L → List ℕ} → AreOurs m identifier → (L → Bool) → Type 0
+LeavesAtCalls {L = L} {m = m} {identifier = identifier} ours unlinked =
+    (l : L) (f : Signal) (c : Call) → m.tech l ≡ A → unlinked l ≡ true → call_of f ≡ Calls c
+    → (is_active (ours.front l) ≡ true → StepsByFront m identifier ours.kind ours.front l f) × (unlinked (m.after l f None) ≡ true)
+
+abbrev pub AreUnlinked : {L : Type 0} → Machine L → (L → Bool) → List L → Type 0
+AreUnlinked m unlinked ls = Each (λ l. m.tech l ≡ A → unlinked l ≡ true) ls
+
+-- Among listeners without links the device that is picked is active alone, and unless the field is lost none has a link then.
+abbrev pub PicksAlone : {L : Type 0} {m : Machine L} {identifier : L → List ℕ} → AreOurs m identifier → (L → Bool) → Air L → Result Picked PollFault → Air L → Type 0
+PicksAlone {m = m} ours unlinked old r new =
+    HaveOwnIdents (cards ours old.listeners) → AreUnlinked m unlinked old.listeners
+    → ((r ≡ Err FieldLost) ⊎ AreUnlinked m unlinked new.listeners) × ((p : Picked) → r ≡ Ok p → Each (λ d. is_active d.front ≡ true → d.id ≡ p.id) (cards ours new.listeners))
