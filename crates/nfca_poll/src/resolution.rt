@@ -3,7 +3,7 @@
 ghost use Rattle.std.specs.Prelude.{◌≡◌, ◌⊎◌, length, drop, Bool, Err};
 ghost use Rattle.nfc_base.specs.Trace.{noise};
 ghost use Rattle.nfca_poll.specs.Crowd.{AreOurs, IsCrowd, cards, PicksFirst, PicksThroughNoise, FindsNobody, HasCause};
-ghost use Rattle.nfca_poll.specs.AnyStart.{YieldsToCalls, PicksFromAny};
+ghost use Rattle.nfca_poll.specs.AnyStart.{YieldsToCalls, PicksFromAny, LeavesAtCalls, PicksAlone};
 ghost use Rattle.nfca_poll.specs.Enquiry.{Enquires, LosesByBreak};
 ghost use Rattle.nfca_poll.specs.Counting.{AsksFew};
 ghost use Rattle.nfca_poll.specs.Seeking.{resolution};
@@ -28,6 +28,7 @@ pub fn resolve<L: Listener>(field: &mut Field<L>) -> Result<Picked, PollFault>
     ensures cause { field.old.lit ≡ Bool.true → (ours : AreOurs L.machine L.identifier) → IsCrowd (cards ours field.old.listeners) → HasCause (cards ours field.old.listeners) result (noise (drop (length field.old.trace) field.new.trace)) }
     ensures nobody { field.old.lit ≡ Bool.true → (ours : AreOurs L.machine L.identifier) → FindsNobody ours field.old result field.new }
     ensures any { field.old.lit ≡ Bool.true → (ours : AreOurs L.machine L.identifier) → YieldsToCalls ours → PicksFromAny ours field.old result field.new }
+    ensures alone { field.old.lit ≡ Bool.true → (ours : AreOurs L.machine L.identifier) (unlinked : L → Bool) → LeavesAtCalls ours unlinked → PicksAlone ours unlinked field.old result field.new }
     ensures turns { field.old.lit ≡ Bool.true → Enquires resolution L.machine field.old result field.new }
 {
     if !field.is_lit() {
