@@ -5,7 +5,7 @@ use Rattle.std.proofs.lemmas.Grind.{flat_map-append}
 use Rattle.nfc_io.specs.Moves.{with_end}
 use Rattle.nfc_io.proofs.Moves.{write_on, with_end-nil}
 use Rattle.nfc_bench.specs.declared.command.Command.{Command}
-use Rattle.nfc_bench.specs.declared.command.Command.TheVariants.{Skip, PlaceT2, PlaceT5, Read}
+use Rattle.nfc_bench.specs.declared.command.Command.TheVariants.{Skip}
 use Rattle.nfc_bench.specs.declared.entry.Entry.{Entry}
 use Rattle.nfc_bench.specs.Script.{words_of, is_skipped, SpelledBy, Spells}
 use Rattle.nfc_bench.specs.Legal.{State, LegalStep, EachLegal, first_state, state_from, state_after, state_of}
@@ -92,22 +92,12 @@ not_skipped l c spelled false h = h
 -- a line that spells something else isn't skipped
 pub asks_something : (l : List ℕ) (c : Command) → Spells l c → (c ≡ Skip → ⊥) → is_skipped l ≡ false
 asks_something l Skip spelled other = absurd (other refl)
-asks_something l (PlaceT2 id blocks head) spelled other = not_skipped l (PlaceT2 id blocks head) spelled (is_skipped l) refl
-asks_something l (PlaceT5 id blocks size head) spelled other = not_skipped l (PlaceT5 id blocks size head) spelled (is_skipped l) refl
-asks_something l (Read id) spelled other = not_skipped l (Read id) spelled (is_skipped l) refl
+asks_something l c spelled other = not_skipped l c spelled (is_skipped l) refl
 
 -- what obeying adds, where it asks for something
 pub adds_of : (old new : List Entry) (n : ℕ) (c : Command) → Obeys old new n c → (c ≡ Skip → ⊥) → Adds old new n c
 adds_of old new n Skip p other = absurd (other refl)
-adds_of old new n (PlaceT2 id blocks head) p other = p
-adds_of old new n (PlaceT5 id blocks size head) p other = p
-adds_of old new n (Read id) p other = p
-
-pub obeys_of : (old new : List Entry) (n : ℕ) (c : Command) → Adds old new n c → (c ≡ Skip → ⊥) → Obeys old new n c
-obeys_of old new n Skip p other = absurd (other refl)
-obeys_of old new n (PlaceT2 id blocks head) p other = p
-obeys_of old new n (PlaceT5 id blocks size head) p other = p
-obeys_of old new n (Read id) p other = p
+adds_of old new n c p other = p
 
 pub report_more : (quiet : Bool) (js new es : List Entry) → new ≡ js ++ es → report_text quiet js ++ report_text quiet es ≡ report_text quiet new
 report_more quiet js new es is = sym (flat_map-append (entry_text quiet) js es) ∙ ap (report_text quiet) (sym is)

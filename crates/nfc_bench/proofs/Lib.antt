@@ -3,6 +3,7 @@ pub mod Spelling
 pub mod Lines
 pub mod Placing
 pub mod Placed
+pub mod Removing
 pub mod Ours
 pub mod TagTwo
 pub mod TagFive

@@ -1,4 +1,4 @@
--- A tag is placed.
+-- Commands that change the field and send nothing; a tag is placed.
 use Rattle.std.proofs.Common.{◌≡◌, ℕ, ◌*◌, ◌<◌, List, [], ◌∷◌, ◌++◌, map, length, get_or, refl, sym, ◌∙◌, ap, subst}
 use Rattle.std.specs.List.{AllByRecursion}
 use Rattle.nfc_base.specs.declared.frame.Tech.TheVariants as techs
@@ -25,21 +25,24 @@ kept_all P (d ∷ ls) all = (all.0, kept_all P ls all.1)
 abbrev pub more_by : Air Device → Device → Air Device
 more_by a d = record { lit = a.lit; listeners = a.listeners ++ d ∷ []; fates = a.fates; trace = a.trace }
 
--- a command that places a device, and sends nothing
+-- a command that changes the field as it says, and sends nothing
+pub still_obeyed : (old new : Air Device) (c : Command) → IsIdle old → IsAccepted (state_at old) c → state_at new ≡ changed (state_at old) c → new.trace ≡ old.trace → new.fates ≡ []
+    → IsAskedBy (state_at old) c [] → due [] c [] ≡ Over → AnswerLaw (state_at old) c [] [] Done → AreTame (map kept new.listeners) → Obeyed old new c Done
+still_obeyed old new c idle accepted changes trace none asks over law tame =
+    let st : State = state_at old in
+    let L : List Event → Type 0 = λ es. LegalStep st c es Done in
+    let quiet : new.trace ≡ [] = trace ∙ idle.quiet in
+    let step : L [] = record { accepted = accepted; turns = record { moves = []; made = refl }; fates = tt; asked = []; asks = asks; each = tt; over = over; answered = law } in
+    record { step = subst L (sym quiet) step; state = changes ∙ ap (state_after st c) (sym quiet); fates = none; tame = tame }
+
+-- a command that places a device
 place_obeyed : (old : Air Device) (c : Command) (d : Device) → IsIdle old → IsAccepted (state_at old) c → changed (state_at old) c ≡ with_device (state_at old) d
     → IsAskedBy (state_at old) c [] → due [] c [] ≡ Over → AnswerLaw (state_at old) c [] [] Done
     → IsSound (kept d) → AllByRecursion (λ e. IsApart (kept e) (kept d)) old.listeners → Obeyed old (more_by old d) c Done
 place_obeyed old c d idle accepted changes asks over law sound apart =
-    let st : State = state_at old in
-    let L : List Event → Type 0 = λ es. LegalStep st c es Done in
-    let step : L [] = record { accepted = accepted; turns = record { moves = []; made = refl }; fates = tt; asked = []; asks = asks; each = tt; over = over; answered = law } in
     let T : List Kept → Type 0 = AreTame in
-    record {
-      step = subst L (sym idle.quiet) step;
-      state = sym changes ∙ ap (state_after st c) (sym idle.quiet);
-      fates = idle.fates;
-      tame = subst T (sym (map-over kept old.listeners (d ∷ []))) (tame_more (map kept old.listeners) (kept d) idle.tame sound (kept_all (λ l. IsApart l (kept d)) old.listeners apart));
-    }
+    still_obeyed old (more_by old d) c idle accepted (sym changes) refl idle.fates asks over law
+    (subst T (sym (map-over kept old.listeners (d ∷ []))) (tame_more (map kept old.listeners) (kept d) idle.tame sound (kept_all (λ l. IsApart l (kept d)) old.listeners apart)))
 
 -- a Type 2 tag beside Type 5 tags alone
 apart_t2 : (ls : List Device) (d : Device) → AllByRecursion (λ e. device_tech e ≡ techs.V) ls → AllByRecursion (λ e. device_id e ≡ device_id d → ⊥) ls → AllByRecursion (λ e. IsApart (kept e) (kept d)) ls

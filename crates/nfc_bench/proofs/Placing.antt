@@ -36,6 +36,14 @@ none_named (d ∷ ls) id none = by_case (pointwise nat_eq (device_id d) id) refl
     by_case true h n later = absurd cc
     by_case false h n later = (λ e. unequal (pointwise nat_eq (device_id d) id) h (ap (λ x. pointwise nat_eq x id) e ∙ pointwise_self id), later n)
 
+-- devices that stand apart have other identifiers
+pub apart_differs : (k l : Kept) → IsApart k l → l.id ≡ k.id → ⊥
+apart_differs k l apart e = by_how k.how apart
+  where
+    by_how : (h : How) → IsApartAs h k l → ⊥
+    by_how hows.T2 a = a.1 e
+    by_how (hows.T5 i) a = a e
+
 -- The first device with an identifier is the one of these devices that has it.
 pub record IsWith (ls : List Device) (id : List ℕ) (k : Kept) : Type 0 where
   pub device : Device
@@ -58,7 +66,7 @@ is_with (d ∷ ls) (b ∷ before) k behind id tame split named =
     let rest : map kept ls ≡ before ++ k ∷ behind = ap tail split in
     let A : List Kept → Type 0 = λ xs. AllByRecursion (IsApart (kept d)) xs in
     let apart : IsApart (kept d) k = at before (subst A rest tame.1) in
-    let differs : device_id d ≡ id → ⊥ = λ e. other (kept d) k apart (named ∙ sym e) in
+    let differs : device_id d ≡ id → ⊥ = λ e. apart_differs (kept d) k apart (named ∙ sym e) in
     let next : IsWith ls id k = is_with ls before k behind id tame.2 rest named in
     record { device = next.device; found = by_case (pointwise nat_eq (device_id d) id) refl differs next.found; same = next.same }
   where
@@ -73,13 +81,6 @@ is_with (d ∷ ls) (b ∷ before) k behind id tame split named =
     at : (xs : List Kept) → AllByRecursion (IsApart (kept d)) (xs ++ k ∷ behind) → IsApart (kept d) k
     at [] all = all.0
     at (x ∷ xs) all = at xs all.1
-
-    other : (l m : Kept) → IsApart l m → m.id ≡ l.id → ⊥
-    other l m apart e = by_how l.how apart
-      where
-        by_how : (h : How) → IsApartAs h l m → ⊥
-        by_how hows.T2 a = a.1 e
-        by_how (hows.T5 i) a = a e
 
     by_case : {d' : Device} (v : Bool) → pointwise nat_eq (device_id d) id ≡ v → (device_id d ≡ id → ⊥) → device_with id ls ≡ Some d' → (if v then Some d else device_with id ls) ≡ Some d'
     by_case true h apart' found = absurd (apart' (same_text (device_id d) id (sym h)))

@@ -1,14 +1,19 @@
 -- No line spells two commands.
-use Rattle.std.proofs.Common.{◌≡◌, ◌≢◌, ℕ, ◌≤◌, ◌⊎◌, inl, inr, List, [], ◌∷◌, length, true, false, if◌then◌else◌, Ok, refl, sym, ◌∙◌, ap, subst, arith}
+use Rattle.std.proofs.Common.{◌≡◌, ◌≢◌, ℕ, zero, suc, ◌<◌, ◌≤◌, inl, inr, List, [], ◌∷◌, map, length, get_or, true, false, if◌then◌else◌, Ok, refl, sym, ◌∙◌, ap, subst, arith}
 use Rattle.std.specs.Prelude.{codes}
 use Rattle.std.proofs.lemmas.Fmt.{decimal_injective}
+use Rattle.nfc_base.specs.declared.event.Fate.{Fate}
+use Rattle.nfc_base.specs.declared.event.Fate.TheVariants.{Pass, Damage, Lose, Break}
 use Rattle.hex.specs.Hex.{decode_of}
 use Rattle.hex.proofs.HexLemmas.{decode_of-same}
 use Rattle.nfc_bench.specs.declared.command.Command.{Command}
-use Rattle.nfc_bench.specs.declared.command.Command.TheVariants.{Skip, PlaceT2, PlaceT5, Read}
+use Rattle.nfc_bench.specs.declared.command.Command.TheVariants.{Skip, Fates, PlaceT2, PlaceT5, Remove, Find, Read}
 use Rattle.nfc_bench.specs.declared.command.DeviceId.{DeviceId}
 use Rattle.nfc_bench.specs.declared.command.DeviceId.TheVariants.{A, V}
-use Rattle.nfc_bench.specs.Script.{words_of, onto_first, is_skipped, SpellsHex, SpellsIdent, SpellsIdV, SpellsId, SpellsBlocks, SpellsSize, SpelledBy, Spells, least_blocks, least_blocks_v}
+use Rattle.nfc_bench.specs.declared.script.words.CommandName.{CommandName}
+use Rattle.nfc_bench.specs.declared.script.words.CommandName.TheVariants as names
+use Rattle.nfc_bench.specs.Words.{name_text}
+use Rattle.nfc_bench.specs.Script.{words_of, onto_first, is_skipped, SpellsHex, SpellsIdent, SpellsIdV, SpellsId, SpellsBlocks, SpellsSize, fate_letter, SpellsFates, SpelledBy, Spells, least_blocks, least_blocks_v}
 use Rattle.nfca_poll.specs.Ident.{IsIdent}
 use Rattle.t5t_tag.specs.Store.{IsBlockSize}
 use Rattle.nfc_bench.proofs.Words.{eq_false}
@@ -54,20 +59,44 @@ size_small n (inr (inr (inr e))) = omega arith
 pub size_one : (w : List ℕ) (m n : ℕ) → SpellsSize w m → SpellsSize w n → m ≡ n
 size_one w m n p q = decimal_injective m n (let h : m ≤ 32 = size_small m p.1 in omega arith) (let h : n ≤ 32 = size_small n q.1 in omega arith) (sym p.0 ∙ q.0)
 
+-- no two fates have one letter
+letter_one : (a b : Fate) → fate_letter a ≡ fate_letter b → a ≡ b
+letter_one Pass Pass e = refl
+letter_one Damage Damage e = refl
+letter_one Lose Lose e = refl
+letter_one Break Break e = refl
+letter_one a b e = absurd (omega (arith, e))
+
+letters_one : (a b : List Fate) → map fate_letter a ≡ map fate_letter b → a ≡ b
+letters_one [] [] e = refl
+letters_one (x ∷ a) (y ∷ b) e =
+    let one : x ≡ y = letter_one x y (let h : fate_letter x ≡ fate_letter y = cc in h) in
+    let more : a ≡ b = letters_one a b (let h : map fate_letter a ≡ map fate_letter b = cc in h) in
+    cc
+letters_one a b e = absurd cc
+
+-- a word spells one list of fates
+pub fates_one : (w : List ℕ) (a b : List Fate) → SpellsFates w a → SpellsFates w b → a ≡ b
+fates_one w a b p q = letters_one a b (sym p.letters ∙ q.letters)
+
+-- each letter of a list of fates is one of a fate
+pub letter_at : (fates : List Fate) (i d : ℕ) → i < length (map fate_letter fates) → (f : Fate) × (get_or (map fate_letter fates) i d ≡ fate_letter f)
+letter_at [] i d h = absurd (omega (arith, h))
+letter_at (f ∷ fs) zero d h = (f, refl)
+letter_at (f ∷ fs) (suc i) d h = letter_at fs i d (omega (arith, h))
+
+-- where the first words are alike, so are the values; words that differ spell no two commands
 pub spelled_one : (ws : List (List ℕ)) (c d : Command) → SpelledBy ws c → SpelledBy ws d → c ≡ d
-spelled_one ws Skip d p q = absurd p
-spelled_one ws (Read i) Skip p q = absurd q
-spelled_one ws (PlaceT2 i n h) Skip p q = absurd q
-spelled_one ws (PlaceT5 i n k h) Skip p q = absurd q
-spelled_one ws (PlaceT5 i n k h) (Read j) p q = cc
-spelled_one ws (PlaceT5 i n k h) (PlaceT2 j m g) p q = cc
-spelled_one ws (Read j) (PlaceT5 i n k h) p q = cc
-spelled_one ws (PlaceT2 j m g) (PlaceT5 i n k h) p q = cc
+spelled_one ws (Fates a) (Fates b) (v, e, p) (w, f, q) =
+    let same : v ≡ w = cc in
+    ap (λ x. let c : Command = Fates x in c) (fates_one w a b (let P : List ℕ → Type 0 = λ t. SpellsFates t a in subst P same p) q)
+spelled_one ws (Remove i) (Remove j) (v, e, p) (w, f, q) =
+    let same : v ≡ w = cc in
+    ap (λ x. let c : Command = Remove x in c) (id_one w i j (let P : List ℕ → Type 0 = λ t. SpellsId t i in subst P same p) q)
+spelled_one ws Find Find p q = refl
 spelled_one ws (Read i) (Read j) (v, e, p) (w, f, q) =
     let same : v ≡ w = cc in
     ap (λ x. let c : Command = Read x in c) (id_one w i j (let P : List ℕ → Type 0 = λ t. SpellsId t i in subst P same p) q)
-spelled_one ws (Read i) (PlaceT2 j n h) p q = cc
-spelled_one ws (PlaceT2 i n h) (Read j) p q = cc
 spelled_one ws (PlaceT2 i m g) (PlaceT2 j n h) (u, v, w, e, p, r, s) (u', v', w', e', p', r', s') =
     let first : u ≡ u' = cc in
     let second : v ≡ v' = cc in
@@ -86,26 +115,37 @@ spelled_one ws (PlaceT5 i m k g) (PlaceT5 j n l h) (u, v, w, x, e, p, r, t, s) (
     let sizes : k ≡ l = size_one w' k l (let P : List ℕ → Type 0 = λ t. SpellsSize t k in subst P third t) t' in
     let heads : g ≡ h = hex_one x' g h (let P : List ℕ → Type 0 = λ t. SpellsHex t g in subst P fourth s) s' in
     cc
+spelled_one ws Skip d p q = absurd p
+spelled_one ws c Skip p q = absurd q
+spelled_one ws c d p q = absurd cc
+
+-- a line of several words that begins with no name spells nothing
+pub nameless : (w : List ℕ) (ws : List (List ℕ)) → ((n : CommandName) → w ≢ name_text n) → ws ≢ [] → (c : Command) → SpelledBy (w ∷ ws) c → ⊥
+nameless w ws none some Skip p = p
+nameless w ws none some (Fates fates) (f, e, p) = none names.Fates (let h : w ≡ codes "fates" = cc in h)
+nameless w ws none some (PlaceT2 id n head) (i, b, d, e, p, q, r) = none names.Place (let h : w ≡ codes "place" = cc in h)
+nameless w ws none some (PlaceT5 id n k head) (i, b, s, d, e, p, q, t, r) = none names.Place (let h : w ≡ codes "place" = cc in h)
+nameless w ws none some (Remove id) (i, e, p) = none names.Remove (let h : w ≡ codes "remove" = cc in h)
+nameless w ws none some Find e = some (let h : ws ≡ [] = cc in h)
+nameless w ws none some (Read id) (i, e, p) = none names.Read (let h : w ≡ codes "read" = cc in h)
 
 -- three words of which the last is no HEX place no tag
 pub head_refused : (ws : List (List ℕ)) (i b h : List ℕ) → ws ≡ i ∷ b ∷ h ∷ [] → ((bytes : List ℕ) → SpellsHex h bytes → ⊥)
     → (c : Command) → SpelledBy (codes "place" ∷ codes "t2" ∷ ws) c → ⊥
-head_refused ws i b h e none Skip p = p
-head_refused ws i b h e none (Read id) p = cc
-head_refused ws i b h e none (PlaceT5 id n k head) p = cc
 head_refused ws i b h e none (PlaceT2 id n head) (i', b', h', e', p, q, r) =
     let same : h' ≡ h = cc in
     none head (let P : List ℕ → Type 0 = λ t. SpellsHex t head in subst P same r)
+head_refused ws i b h e none Skip p = p
+head_refused ws i b h e none c p = cc
 
 -- nor do four of which the last is none
 pub four_refused : (ws : List (List ℕ)) (i b s h : List ℕ) → ws ≡ i ∷ b ∷ s ∷ h ∷ [] → ((bytes : List ℕ) → SpellsHex h bytes → ⊥)
     → (c : Command) → SpelledBy (codes "place" ∷ codes "t5" ∷ ws) c → ⊥
-four_refused ws i b s h e none Skip p = p
-four_refused ws i b s h e none (Read id) p = cc
-four_refused ws i b s h e none (PlaceT2 id n head) p = cc
 four_refused ws i b s h e none (PlaceT5 id n k head) (i', b', s', h', e', p, q, t, r) =
     let same : h' ≡ h = cc in
     none head (let P : List ℕ → Type 0 = λ t. SpellsHex t head in subst P same r)
+four_refused ws i b s h e none Skip p = p
+four_refused ws i b s h e none c p = cc
 
 -- a line that is skipped spells nothing else
 first_byte : List (List ℕ) → ℕ
@@ -118,12 +158,15 @@ unfolding first_byte
 onto_begins b [] = refl
 onto_begins b (w ∷ ws) = refl
 
-begins_so : (ws : List (List ℕ)) (c : Command) → SpelledBy ws c → (first_byte ws ≡ 112) ⊎ (first_byte ws ≡ 114)
+hash_begins_none : (ws : List (List ℕ)) (c : Command) → SpelledBy ws c → first_byte ws ≢ 35
 unfolding first_byte
-begins_so ws Skip p = absurd p
-begins_so ws (PlaceT2 id n head) (i, b, h, e, p, q, r) = inl (ap first_byte e)
-begins_so ws (PlaceT5 id n k head) (i, b, s, h, e, p, q, t, r) = inl (ap first_byte e)
-begins_so ws (Read id) (i, e, p) = inr (ap first_byte e)
+hash_begins_none ws Skip p h = p
+hash_begins_none ws (Fates fates) (f, e, p) h = omega (arith, h, ap first_byte e)
+hash_begins_none ws (PlaceT2 id n head) (i, b, d, e, p, q, r) h = omega (arith, h, ap first_byte e)
+hash_begins_none ws (PlaceT5 id n k head) (i, b, s, d, e, p, q, t, r) h = omega (arith, h, ap first_byte e)
+hash_begins_none ws (Remove id) (i, e, p) h = omega (arith, h, ap first_byte e)
+hash_begins_none ws Find e h = omega (arith, h, ap first_byte e)
+hash_begins_none ws (Read id) (i, e, p) h = omega (arith, h, ap first_byte e)
 
 words_begin : (b : ℕ) (bs : List ℕ) → b ≡ 35 → first_byte (words_of (b ∷ bs)) ≡ 35
 words_begin b bs hash =
@@ -132,36 +175,22 @@ words_begin b bs hash =
 
 pub skipped_names_none : (line : List ℕ) (c : Command) → is_skipped line ≡ true → SpelledBy (words_of line) c → ⊥
 unfolding first_byte
-skipped_names_none [] c h p = elim (begins_so (words_of []) c p) [ inl e ↦ omega (arith, e) | inr e ↦ omega (arith, e) ]
-skipped_names_none (b ∷ bs) c h p =
-    let begins : first_byte (words_of (b ∷ bs)) ≡ 35 = words_begin b bs (grind arith) in
-    elim (begins_so (words_of (b ∷ bs)) c p) [ inl e ↦ omega (arith, begins, e) | inr e ↦ omega (arith, begins, e) ]
+skipped_names_none [] Skip h p = p
+skipped_names_none [] c h p = cc
+skipped_names_none (b ∷ bs) c h p = hash_begins_none (words_of (b ∷ bs)) c p (words_begin b bs (grind arith))
 
 -- any other spells what its words do
 pub spells_words : (line : List ℕ) (c : Command) → SpelledBy (words_of line) c → Spells line c
 spells_words line Skip p = absurd p
-spells_words line (PlaceT2 id n head) p = p
-spells_words line (PlaceT5 id n k head) p = p
-spells_words line (Read id) p = p
+spells_words line c p = p
 
 pub words_spell : (line : List ℕ) (c : Command) → is_skipped line ≡ false → Spells line c → SpelledBy (words_of line) c
 words_spell line Skip h p = cc
-words_spell line (PlaceT2 id n head) h p = p
-words_spell line (PlaceT5 id n k head) h p = p
-words_spell line (Read id) h p = p
-
-by_words : (line : List ℕ) (c d : Command) → SpelledBy (words_of line) c → Spells line d → c ≡ d
-by_words line c Skip p q = absurd (skipped_names_none line c q p)
-by_words line c (PlaceT2 id n head) p q = spelled_one (words_of line) c (PlaceT2 id n head) p q
-by_words line c (PlaceT5 id n k head) p q = spelled_one (words_of line) c (PlaceT5 id n k head) p q
-by_words line c (Read id) p q = spelled_one (words_of line) c (Read id) p q
+words_spell line c h p = p
 
 -- no line spells two commands
 pub spells_one : (line : List ℕ) (c d : Command) → Spells line c → Spells line d → c ≡ d
 spells_one line Skip Skip p q = refl
-spells_one line Skip (PlaceT2 id n head) p q = absurd (skipped_names_none line (PlaceT2 id n head) p q)
-spells_one line Skip (PlaceT5 id n k head) p q = absurd (skipped_names_none line (PlaceT5 id n k head) p q)
-spells_one line Skip (Read id) p q = absurd (skipped_names_none line (Read id) p q)
-spells_one line (PlaceT2 id n head) d p q = by_words line (PlaceT2 id n head) d p q
-spells_one line (PlaceT5 id n k head) d p q = by_words line (PlaceT5 id n k head) d p q
-spells_one line (Read id) d p q = by_words line (Read id) d p q
+spells_one line Skip d p q = absurd (skipped_names_none line d p q)
+spells_one line c Skip p q = absurd (skipped_names_none line c q p)
+spells_one line c d p q = spelled_one (words_of line) c d p q

@@ -15,7 +15,7 @@ use Rattle.nfca_poll.specs.Poll.{Polling, Polls, Done, Picked, NotFound, GivenUp
 use Rattle.t2t_tag.specs.Store.{IsT2Store}
 use Rattle.t5t_tag.specs.Store.{IsT5Store}
 use Rattle.nfc_bench.specs.declared.command.Command.{Command}
-use Rattle.nfc_bench.specs.declared.command.Command.TheVariants.{Skip, PlaceT2, PlaceT5, Read}
+use Rattle.nfc_bench.specs.declared.command.Command.TheVariants.{Skip, Fates, PlaceT2, PlaceT5, Remove, Find, Read}
 use Rattle.nfc_bench.specs.declared.command.DeviceId.{DeviceId}
 use Rattle.nfc_bench.specs.declared.command.DeviceId.TheVariants.{A, V}
 use Rattle.nfc_bench.specs.declared.device.Device.{Device}
@@ -80,30 +80,45 @@ pub record MayPlaceT5 (s : State) (id : List ℕ) (blocks size : ℕ) (head : Li
   pub fits : length head ≤ size * blocks
   pub store : IsT5Store size (memory_of (size * blocks) head)
 
--- the conditions of a command beside its grammar
+-- a device with this identifier is placed
+abbrev pub IsPlaced : State → DeviceId → Type 0
+IsPlaced s id = IsSome (device_with (bytes_of id) s.world.listeners)
+
+-- The conditions of a command beside its grammar. No state accepts `fates` or `find` yet.
 abbrev pub IsAccepted : State → Command → Type 0
 IsAccepted s Skip = Unit {0}
+IsAccepted s (Fates fates) = ⊥
 IsAccepted s (PlaceT2 id blocks head) = MayPlaceT2 s id blocks head
 IsAccepted s (PlaceT5 id blocks size head) = MayPlaceT5 s id blocks size head
-IsAccepted s (Read id) = IsSome (device_with (bytes_of id) s.world.listeners)
+IsAccepted s (Remove id) = IsPlaced s id
+IsAccepted s Find = ⊥
+IsAccepted s (Read id) = IsPlaced s id
 
 -- the state with one more device
 abbrev pub with_device : State → Device → State
 with_device s d = record { world = record { lit = s.world.lit; listeners = s.world.listeners ++ d ∷ [] }; queue = s.queue }
 
--- what a command itself changes, before anything is sent
+-- the devices without the first that has an identifier; the others stay in their order
+abbrev pub without : List ℕ → List Device → List Device
+without id [] = []
+without id (d ∷ ds) = if pointwise nat_eq (device_id d) id then ds else d ∷ without id ds
+
+-- the state with that device taken away
+abbrev pub without_device : State → DeviceId → State
+without_device s id = record { world = record { lit = s.world.lit; listeners = without (bytes_of id) s.world.listeners }; queue = s.queue }
+
+-- What a command itself changes, before anything is sent: fates are appended, devices are placed and taken away.
 abbrev pub changed : State → Command → State
-changed s Skip = s
+changed s (Fates fates) = record { world = s.world; queue = s.queue ++ fates }
 changed s (PlaceT2 id blocks head) = with_device s (new_t2 id (memory_of (4 * blocks) head))
 changed s (PlaceT5 id blocks size head) = with_device s (new_t5 id size (memory_of (size * blocks) head))
-changed s (Read id) = s
+changed s (Remove id) = without_device s id
+changed s c = s
 
--- what a command asks of its tag, from the first command of the tag to the last
+-- What a command asks of its tag, from the first command of the tag to the last. Only a read asks anything.
 abbrev pub IsAskedBy : State → Command → List Signal → Type 0
-IsAskedBy s Skip asked = asked ≡ []
-IsAskedBy s (PlaceT2 id blocks head) asked = asked ≡ []
-IsAskedBy s (PlaceT5 id blocks size head) asked = asked ≡ []
 IsAskedBy s (Read id) asked = OfDevice s id (λ d. AsksOf d asked)
+IsAskedBy s c asked = asked ≡ []
 
 -- a command that polls, and then asks these commands of the tag that it found
 abbrev pub then_asks : List Signal → Polling → Next
@@ -121,13 +136,11 @@ then_asks_v asked (Asks n) = n
 then_asks_v asked (Told (Ok x) ns) = waits_next asked ns
 then_asks_v asked (Told (Err e) ns) = Over
 
--- what is due in a command, by what the reader knows
+-- What is due in a command, by what the reader knows. Nothing is sent but in a read.
 abbrev pub due : List Signal → Command → List Note → Next
-due asked Skip ns = Over
-due asked (PlaceT2 id blocks head) ns = Over
-due asked (PlaceT5 id blocks size head) ns = Over
 due asked (Read (A id)) ns = then_asks asked (pick id ns)
 due asked (Read (V id)) ns = then_asks_v asked (pick_v id ns)
+due asked c ns = Over
 
 -- what stays of the devices when the field goes dark
 abbrev pub stable : World Device → List (List ℕ)
@@ -145,8 +158,11 @@ pub record ReadLaw (s : State) (id : DeviceId) (asked : List Signal) (events : L
 -- the law of the answers; a line that asks for nothing has none
 abbrev pub AnswerLaw : State → Command → List Signal → List Event → Answer → Type 0
 AnswerLaw s Skip asked events answer = ⊥
+AnswerLaw s (Fates fates) asked events answer = answer ≡ answers.Done
 AnswerLaw s (PlaceT2 id blocks head) asked events answer = answer ≡ answers.Done
 AnswerLaw s (PlaceT5 id blocks size head) asked events answer = answer ≡ answers.Done
+AnswerLaw s (Remove id) asked events answer = answer ≡ answers.Done
+AnswerLaw s Find asked events answer = ⊥
 AnswerLaw s (Read id) asked events answer = ReadLaw s id asked events answer
 
 -- From this state a command may be obeyed so.

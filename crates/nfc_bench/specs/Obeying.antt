@@ -4,7 +4,7 @@ use Rattle.air_core.specs.Turn.{Air}
 use Rattle.nfc_bench.specs.declared.bench.ObeyFault.{ObeyFault}
 use Rattle.nfc_bench.specs.declared.bench.ObeyFault.TheVariants as faults
 use Rattle.nfc_bench.specs.declared.command.Command.{Command}
-use Rattle.nfc_bench.specs.declared.command.Command.TheVariants.{Skip, PlaceT2, PlaceT5, Read}
+use Rattle.nfc_bench.specs.declared.command.Command.TheVariants.{Skip}
 use Rattle.nfc_bench.specs.declared.device.Device.{Device}
 use Rattle.nfc_bench.specs.declared.entry.Answer.{Answer}
 use Rattle.nfc_bench.specs.declared.entry.Entry.{Entry}
@@ -53,6 +53,4 @@ pub record Adds (old new : List Entry) (line : ℕ) (c : Command) : Type 0 where
 -- What obeying a line adds to the journal: one entry, and none where it asks for nothing.
 abbrev pub Obeys : List Entry → List Entry → ℕ → Command → Type 0
 Obeys old new line Skip = new ≡ old
-Obeys old new line (PlaceT2 id blocks head) = Adds old new line (PlaceT2 id blocks head)
-Obeys old new line (PlaceT5 id blocks size head) = Adds old new line (PlaceT5 id blocks size head)
-Obeys old new line (Read id) = Adds old new line (Read id)
+Obeys old new line c = Adds old new line c

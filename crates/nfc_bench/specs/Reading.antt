@@ -20,9 +20,8 @@ AsksOf d commands = IsAsked (how_of d) (size_of d) (device_store d) commands
 abbrev pub IsAccess : How → ℕ → List ℕ → Bool → Type 0
 IsAccess how size store writable = (space : Space) × (area_of how size store ≡ Ok space) × (writable ≡ space.writable)
 
--- What a read answers, by the form of the store.
+-- What a read answers, by the form of the store. The other answers tell of none.
 abbrev pub Tells : How → ℕ → List ℕ → Answer → Type 0
-Tells how size store answers.Done = ⊥
 Tells how size store (answers.Message message writable) = IsStoreForm how store (Message message) × IsAccess how size store writable
 Tells how size store answers.NotNdef = IsStoreForm how store (Faulty container.NotNdef)
 Tells how size store answers.Version = IsStoreForm how store (Faulty container.Version)
@@ -31,6 +30,7 @@ Tells how size store answers.Sectors = IsStoreForm how store (Faulty container.S
 Tells how size store answers.BadSize = IsStoreForm how store (Faulty container.BadSize)
 Tells how size store answers.NoMessageTlv = IsStoreForm how store NoMessageTlv
 Tells how size store answers.BadTlv = IsStoreForm how store BadTlv
+Tells how size store answer = ⊥
 
 abbrev pub TellsOf : Device → Answer → Type 0
 TellsOf d answer = Tells (how_of d) (size_of d) (device_store d) answer

@@ -9,8 +9,12 @@ use Rattle.nfc_base.specs.declared.event.Event.TheVariants.{Reset, Request, Answ
 use Rattle.nfc_base.specs.declared.event.Fate.{Fate}
 use Rattle.nfc_base.specs.declared.event.Fate.TheVariants.{Pass, Damage, Lose, Break}
 use Rattle.nfc_bench.specs.declared.entry.Answer.{Answer as Said}
-use Rattle.nfc_bench.specs.declared.entry.Answer.TheVariants.{Done, Message, NotNdef, Version, NoRead, Sectors, BadSize, NoMessageTlv, BadTlv}
+use Rattle.nfc_bench.specs.declared.entry.Answer.TheVariants.{Done, Found, Message, NotNdef, Version, NoRead, Sectors, BadSize, NoMessageTlv, BadTlv, Disturbed, FieldLost, NotFound, SixBad}
 use Rattle.nfc_bench.specs.declared.entry.Entry.{Entry}
+use Rattle.nfc_bench.specs.declared.entry.Seen.{Seen}
+use Rattle.nfc_bench.specs.declared.entry.SeenKind.{SeenKind}
+use Rattle.nfc_bench.specs.declared.entry.SeenKind.TheVariants as kinds
+use Rattle.nfc_bench.specs.Polling.{bytes_of}
 
 -- HEX: upper-case digits, two a byte; `-` for no bytes
 abbrev pub hex_text : List ℕ → List ℕ
@@ -47,6 +51,21 @@ abbrev pub access_text : Bool → List ℕ
 access_text true = codes "writable"
 access_text false = codes "readonly"
 
+-- KIND
+abbrev pub kind_text : SeenKind → List ℕ
+kind_text kinds.T2 = codes "t2"
+kind_text kinds.T4 = codes "t4"
+kind_text kinds.T5 = codes "t5"
+kind_text kinds.Peer = codes "peer"
+
+-- a device that was found: a space, then ID:KIND
+abbrev pub seen_text : Seen → List ℕ
+seen_text s = codes " " ++ hex_text (bytes_of s.id) ++ codes ":" ++ kind_text s.kind
+
+-- how many devices were found, and which
+abbrev pub found_text : List Seen → Bool → List ℕ
+found_text devices crowd = codes "found " ++ decimal (length devices) ++ flat_map seen_text devices ++ (if crowd then codes " crowd" else [])
+
 -- ANSWER
 abbrev pub answer_text : Said → List ℕ
 answer_text Done = codes "ok"
@@ -57,6 +76,11 @@ answer_text Sectors = codes "sectors"
 answer_text BadSize = codes "bad size"
 answer_text NoMessageTlv = codes "no message tlv"
 answer_text BadTlv = codes "bad tlv"
+answer_text Disturbed = codes "disturbed"
+answer_text FieldLost = codes "field lost"
+answer_text NotFound = codes "not found"
+answer_text SixBad = codes "six bad"
+answer_text (Found devices crowd) = found_text devices crowd
 answer_text (Message message writable) = codes "message " ++ hex_text message ++ codes " " ++ access_text writable
 
 -- a line of the report, for line n of the script

@@ -1,11 +1,13 @@
 -- How a script is written; the language is this project's own.
-use Rattle.std.specs.Prelude.{◌≡◌, ℕ, ◌<◌, ◌≤◌, ◌⊎◌, List, [], ◌∷◌, Bool, true, codes, length, ◌==◌, if◌then◌else◌, Ok}
+use Rattle.std.specs.Prelude.{◌≡◌, ℕ, ◌<◌, ◌≤◌, ◌⊎◌, List, [], ◌∷◌, map, Bool, true, codes, length, ◌==◌, if◌then◌else◌, Ok}
 use Rattle.std.specs.Fmt.{decimal}
 use Rattle.hex.specs.Hex.{decode_of}
+use Rattle.nfc_base.specs.declared.event.Fate.{Fate}
+use Rattle.nfc_base.specs.declared.event.Fate.TheVariants.{Pass, Damage, Lose, Break}
 use Rattle.nfca_poll.specs.Ident.{IsIdent}
 use Rattle.t5t_tag.specs.Store.{IsBlockSize}
 use Rattle.nfc_bench.specs.declared.command.Command.{Command}
-use Rattle.nfc_bench.specs.declared.command.Command.TheVariants.{Skip, PlaceT2, PlaceT5, Read}
+use Rattle.nfc_bench.specs.declared.command.Command.TheVariants.{Skip, Fates, PlaceT2, PlaceT5, Remove, Find, Read}
 use Rattle.nfc_bench.specs.declared.command.DeviceId.{DeviceId}
 use Rattle.nfc_bench.specs.declared.command.DeviceId.TheVariants.{A, V}
 use Rattle.nfc_bench.specs.declared.script.LineFault.{LineFault}
@@ -58,28 +60,46 @@ SpellsBlocks least word n = (word ≡ decimal n) × (least ≤ n) × (n ≤ most
 abbrev pub SpellsSize : List ℕ → ℕ → Type 0
 SpellsSize word n = (word ≡ decimal n) × IsBlockSize n
 
+-- the letter of a fate, in upper case alone: P, D, L or B
+abbrev pub fate_letter : Fate → ℕ
+fate_letter Pass = 80
+fate_letter Damage = 68
+fate_letter Lose = 76
+fate_letter Break = 66
+
+-- how many fates a line may have
+abbrev pub most_fates : ℕ
+most_fates = 4000
+
+-- FATES: a letter for each fate, and at least one
+pub record SpellsFates (word : List ℕ) (fates : List Fate) : Type 0 where
+  pub letters : word ≡ map fate_letter fates
+  pub some : 0 < length fates
+  pub few : length fates ≤ most_fates
+
 -- an empty line, and one that begins with `#`, whatever bytes follow, asks for nothing
 abbrev pub is_skipped : List ℕ → Bool
 is_skipped [] = true
 is_skipped (b ∷ bs) = b == 35
 
--- `place t2 ID BLOCKS HEX`, `place t5 ID BLOCKS SIZE HEX` and `read ID`
+-- `fates FATES`, `place t2 ID BLOCKS HEX`, `place t5 ID BLOCKS SIZE HEX`, `remove ID`, `find` and `read ID`
 abbrev pub SpelledBy : List (List ℕ) → Command → Type 0
 SpelledBy ws Skip = ⊥
+SpelledBy ws (Fates fates) = (f : List ℕ) × (ws ≡ codes "fates" ∷ f ∷ []) × SpellsFates f fates
 SpelledBy ws (PlaceT2 id blocks head) =
     (i b h : List ℕ) × (ws ≡ codes "place" ∷ codes "t2" ∷ i ∷ b ∷ h ∷ [])
     × SpellsIdent i id × SpellsBlocks least_blocks b blocks × SpellsHex h head
 SpelledBy ws (PlaceT5 id blocks size head) =
     (i b s h : List ℕ) × (ws ≡ codes "place" ∷ codes "t5" ∷ i ∷ b ∷ s ∷ h ∷ [])
     × SpellsIdV i id × SpellsBlocks least_blocks_v b blocks × SpellsSize s size × SpellsHex h head
+SpelledBy ws (Remove id) = (i : List ℕ) × (ws ≡ codes "remove" ∷ i ∷ []) × SpellsId i id
+SpelledBy ws Find = ws ≡ codes "find" ∷ []
 SpelledBy ws (Read id) = (i : List ℕ) × (ws ≡ codes "read" ∷ i ∷ []) × SpellsId i id
 
 -- the line spells the command
 abbrev pub Spells : List ℕ → Command → Type 0
 Spells line Skip = is_skipped line ≡ true
-Spells line (PlaceT2 id blocks head) = SpelledBy (words_of line) (PlaceT2 id blocks head)
-Spells line (PlaceT5 id blocks size head) = SpelledBy (words_of line) (PlaceT5 id blocks size head)
-Spells line (Read id) = SpelledBy (words_of line) (Read id)
+Spells line c = SpelledBy (words_of line) c
 
 -- the numbers of the errors
 abbrev pub line_fault_number : LineFault → ℕ

@@ -14,7 +14,7 @@ ghost use Rattle.nfc_bench.specs.Obeying.{Obeys, IsIdle, Obeyed, state_at, obey_
 use crate::command::{Command, DeviceId};
 use crate::device::{Device, PoweredTag, T2Upper};
 use crate::entry::{Answer, Entry};
-use crate::polling::{is_named, select};
+use crate::polling::{is_named, place_of, select};
 use crate::reading::read;
 use air_core::Field;
 use nfc_base::Items;
@@ -151,6 +151,22 @@ fn place_t5(
     }
 }
 
+/// Takes a device away.
+fn remove_device(field: &mut Field<Device>, id: &DeviceId) -> Result<Answer, ObeyFault>
+    requires { IsIdle field.old }
+    ensures ok { IfOk result (λ a. Obeyed field.old field.new (Command.Remove id.now) a) }
+    ensures refused { IsErrOf result ObeyFault.Refused → (field.new ≡ field.old) }
+    ensures cause { IsErrOf result ObeyFault.Refused → IsAccepted (state_at field.old) (Command.Remove id.now) → ⊥ }
+{
+    let bytes = id.bytes();
+    if !is_placed(field.listeners(), bytes) {
+        return Err(ObeyFault::Refused);
+    }
+    let place = place_of(field.listeners(), bytes);
+    let _ = field.take_out(place);
+    Ok(Answer::Done)
+}
+
 /// The bytes of an identifier, and how a tag with one is read.
 fn named(id: &DeviceId) -> (&[u8], How)
     ensures bytes { result.0.now ≡ bytes_of id.now }
@@ -214,6 +230,8 @@ fn run_command(
             size,
             head,
         } => place_t5(alloc, field, *id, *blocks, *size, head.as_slice()),
+        Command::Remove { id } => remove_device(field, id),
+        Command::Fates(_) | Command::Find => Err(ObeyFault::Refused),
         Command::Read { id } => read_tag(alloc, field, id),
     }
 }

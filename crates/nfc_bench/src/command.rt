@@ -1,8 +1,9 @@
 //! What a line of a script asks for.
 
 ghost use Rattle.std.specs.Prelude.{◌≡◌, IfOk};
+ghost use Rattle.nfc_bench.specs.Polling.{bytes_of};
 
-use nfc_base::Items;
+use nfc_base::{Fate, Items};
 use nfca_poll::Ident;
 use std::alloc::{AllocError, Global};
 
@@ -14,6 +15,15 @@ pub enum DeviceId {
 }
 
 impl DeviceId {
+    pub fn bytes(&self) -> &[u8]
+        ensures { result.now ≡ bytes_of self.now }
+    {
+        match self {
+            DeviceId::A(id) => id.view(),
+            DeviceId::V(id) => id.as_slice(),
+        }
+    }
+
     /// The same identifier again. It takes no memory.
     pub fn copy(&self) -> DeviceId
         ensures { result ≡ self.now }
@@ -30,6 +40,8 @@ impl DeviceId {
 pub enum Command {
     /// An empty line or a comment: it asks for nothing.
     Skip,
+    /// Appends the fates of transmissions to come.
+    Fates(Items<Fate>),
     /// Puts a Type 2 tag of so many blocks into the field; its memory begins with `head`, and the rest is 0.
     PlaceT2 {
         id: Ident,
@@ -43,6 +55,12 @@ pub enum Command {
         size: u8,
         head: Items<u8>,
     },
+    /// Takes a device away.
+    Remove {
+        id: DeviceId,
+    },
+    /// Finds all devices.
+    Find,
     /// Reads the NDEF message of a tag.
     Read {
         id: DeviceId,
@@ -56,6 +74,10 @@ impl Command {
     {
         match self {
             Command::Skip => Ok(Command::Skip),
+            Command::Fates(fates) => {
+                let copy = Vec::from_slice(alloc, fates.as_slice())?;
+                Ok(Command::Fates(Items::new(copy)))
+            }
             Command::PlaceT2 { id, blocks, head } => Ok(Command::PlaceT2 {
                 id: id.copy(),
                 blocks: *blocks,
@@ -72,6 +94,8 @@ impl Command {
                 size: *size,
                 head: Items::from_bytes(alloc, head.as_slice())?,
             }),
+            Command::Remove { id } => Ok(Command::Remove { id: id.copy() }),
+            Command::Find => Ok(Command::Find),
             Command::Read { id } => Ok(Command::Read { id: id.copy() }),
         }
     }

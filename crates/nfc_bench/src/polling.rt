@@ -27,7 +27,7 @@ pub fn is_named(device: &Device, id: &[u8]) -> bool
 }
 
 /// The place of the device with this identifier.
-fn place_of(devices: &[Device], id: &[u8]) -> usize
+pub fn place_of(devices: &[Device], id: &[u8]) -> usize
     requires { IsSome (device_with id.now devices.now) }
     ensures { StandsAt id.now devices.now result }
 {

@@ -1,6 +1,6 @@
 //! Reading the lines of a script.
 
-ghost use Rattle.std.specs.Prelude.{◌≡◌, ◌∷◌, IfOk, IsErrOf, codes};
+ghost use Rattle.std.specs.Prelude.{◌≡◌, [], ◌∷◌, IfOk, IsErrOf, codes};
 ghost use Rattle.nfc_bench.specs.Script.{words_of, is_skipped, SpelledBy, Spells, line_fault_number};
 ghost use Rattle.nfc_bench.specs.declared.command.Command.{Command};
 ghost use Rattle.nfc_bench.specs.declared.script.LineFault.TheVariants.{Memory};
@@ -11,16 +11,15 @@ use crate::command::Command;
 use std::alloc::{AllocError, Global};
 use thiserror::Error;
 use words::{
-    cut_word, device_word, four_words, hex_word, ident_word, ident_word_v, number_word, three_words,
+    CommandName, blocks_word, cut_word, device_word, fates_word, four_words, hex_word, ident_word,
+    ident_word_v, name_of, only_word, size_word, three_words,
 };
 
-/// The blocks of a tag that may be placed (this project's limits): the header of a Type 2 tag has four, a Type 5 tag has
-/// one, and a read names a block in one byte.
+/// The fewest blocks of a tag that may be placed (this project's limits): the header of a Type 2 tag has four, a Type 5
+/// tag has one.
 const LEAST_BLOCKS: u16 = 4;
 
 const LEAST_BLOCKS_V: u16 = 1;
-
-const MOST_BLOCKS: u16 = 256;
 
 /// Why a line gives no command.
 #[derive(Clone, Copy, Debug, PartialEq, Eq, Error)]
@@ -68,31 +67,71 @@ fn is_skipped(line: &[u8]) -> bool
 }
 
 /// A line that isn't skipped.
+#[tactic(auto, using(crate::proofs::Spelling::nameless, crate::proofs::Words::words_not_nil))]
 fn command_line(alloc: Global, line: &[u8]) -> Result<Command, LineFault>
     ensures ok { IfOk result (λ c. SpelledBy (words_of line.now) c) }
     ensures refused { IsErrOf result LineFault.Refused → (c : Command) → SpelledBy (words_of line.now) c → ⊥ }
 {
     let (name, rest) = cut_word(line);
     let Some(rest) = rest else {
-        return Err(LineFault::Refused);
+        return lone_word(name);
     };
+    match name_of(name) {
+        Some(CommandName::Fates) => fates_line(alloc, rest),
+        Some(CommandName::Place) => place_line(alloc, rest),
+        Some(CommandName::Remove) => remove_line(alloc, rest),
+        Some(CommandName::Read) => read_line(alloc, rest),
+        None => Err(LineFault::Refused),
+    }
+}
+
+/// A line of one word.
+fn lone_word(name: &[u8]) -> Result<Command, LineFault>
+    ensures ok { IfOk result (λ c. SpelledBy (name.now ∷ []) c) }
+    ensures refused { IsErrOf result LineFault.Refused → (c : Command) → SpelledBy (name.now ∷ []) c → ⊥ }
+{
     match name {
-        b"read" => read_line(alloc, rest),
-        b"place" => place_line(alloc, rest),
+        b"find" => Ok(Command::Find),
         _ => Err(LineFault::Refused),
     }
 }
 
+/// `fates FATES`, behind its first word.
+fn fates_line(alloc: Global, rest: &[u8]) -> Result<Command, LineFault>
+    ensures ok { IfOk result (λ c. SpelledBy (codes "fates" ∷ words_of rest.now) c) }
+    ensures refused { IsErrOf result LineFault.Refused → (c : Command) → SpelledBy (codes "fates" ∷ words_of rest.now) c → ⊥ }
+{
+    let Some(word) = only_word(rest) else {
+        return Err(LineFault::Refused);
+    };
+    match fates_word(alloc, word)? {
+        Some(fates) => Ok(Command::Fates(fates)),
+        None => Err(LineFault::Refused),
+    }
+}
+
+/// `remove ID`, behind its first word.
+fn remove_line(alloc: Global, rest: &[u8]) -> Result<Command, LineFault>
+    ensures ok { IfOk result (λ c. SpelledBy (codes "remove" ∷ words_of rest.now) c) }
+    ensures refused { IsErrOf result LineFault.Refused → (c : Command) → SpelledBy (codes "remove" ∷ words_of rest.now) c → ⊥ }
+{
+    let Some(word) = only_word(rest) else {
+        return Err(LineFault::Refused);
+    };
+    match device_word(alloc, word)? {
+        Some(id) => Ok(Command::Remove { id }),
+        None => Err(LineFault::Refused),
+    }
+}
+
 /// `read ID`, behind its first word.
-#[tactic(auto, using(crate::proofs::Words::words_not_nil))]
 fn read_line(alloc: Global, rest: &[u8]) -> Result<Command, LineFault>
     ensures ok { IfOk result (λ c. SpelledBy (codes "read" ∷ words_of rest.now) c) }
     ensures refused { IsErrOf result LineFault.Refused → (c : Command) → SpelledBy (codes "read" ∷ words_of rest.now) c → ⊥ }
 {
-    let (word, more) = cut_word(rest);
-    if more.is_some() {
+    let Some(word) = only_word(rest) else {
         return Err(LineFault::Refused);
-    }
+    };
     match device_word(alloc, word)? {
         Some(id) => Ok(Command::Read { id }),
         None => Err(LineFault::Refused),
@@ -116,7 +155,7 @@ fn place_line(alloc: Global, rest: &[u8]) -> Result<Command, LineFault>
 }
 
 /// `place t2 ID BLOCKS HEX`, behind its second word.
-#[tactic(auto, using(std::proofs::lemmas::Fmt::decimal_injective, crate::proofs::Spelling::head_refused))]
+#[tactic(auto, using(crate::proofs::Spelling::head_refused))]
 fn place_t2(alloc: Global, rest: &[u8]) -> Result<Command, LineFault>
     ensures ok { IfOk result (λ c. SpelledBy (codes "place" ∷ codes "t2" ∷ words_of rest.now) c) }
     ensures refused { IsErrOf result LineFault.Refused → (c : Command) → SpelledBy (codes "place" ∷ codes "t2" ∷ words_of rest.now) c → ⊥ }
@@ -127,7 +166,7 @@ fn place_t2(alloc: Global, rest: &[u8]) -> Result<Command, LineFault>
     let Some(id) = ident_word(alloc, id_text)? else {
         return Err(LineFault::Refused);
     };
-    let Some(blocks @ LEAST_BLOCKS..=MOST_BLOCKS) = number_word(alloc, blocks_text)? else {
+    let Some(blocks) = blocks_word(alloc, blocks_text, LEAST_BLOCKS)? else {
         return Err(LineFault::Refused);
     };
     match hex_word(alloc, head_text)? {
@@ -137,7 +176,7 @@ fn place_t2(alloc: Global, rest: &[u8]) -> Result<Command, LineFault>
 }
 
 /// `place t5 ID BLOCKS SIZE HEX`, behind its second word.
-#[tactic(auto, using(std::proofs::lemmas::Fmt::decimal_injective, crate::proofs::Spelling::four_refused))]
+#[tactic(auto, using(crate::proofs::Spelling::four_refused))]
 fn place_t5(alloc: Global, rest: &[u8]) -> Result<Command, LineFault>
     ensures ok { IfOk result (λ c. SpelledBy (codes "place" ∷ codes "t5" ∷ words_of rest.now) c) }
     ensures refused { IsErrOf result LineFault.Refused → (c : Command) → SpelledBy (codes "place" ∷ codes "t5" ∷ words_of rest.now) c → ⊥ }
@@ -148,17 +187,17 @@ fn place_t5(alloc: Global, rest: &[u8]) -> Result<Command, LineFault>
     let Some(id) = ident_word_v(alloc, id_text)? else {
         return Err(LineFault::Refused);
     };
-    let Some(blocks @ LEAST_BLOCKS_V..=MOST_BLOCKS) = number_word(alloc, blocks_text)? else {
+    let Some(blocks) = blocks_word(alloc, blocks_text, LEAST_BLOCKS_V)? else {
         return Err(LineFault::Refused);
     };
-    let Some(size @ (4 | 8 | 16 | 32)) = number_word(alloc, size_text)? else {
+    let Some(size) = size_word(alloc, size_text)? else {
         return Err(LineFault::Refused);
     };
     match hex_word(alloc, head_text)? {
         Some(head) => Ok(Command::PlaceT5 {
             id,
             blocks,
-            size: size as u8,
+            size,
             head,
         }),
         None => Err(LineFault::Refused),
@@ -168,6 +207,10 @@ fn place_t5(alloc: Global, rest: &[u8]) -> Result<Command, LineFault>
 #[cfg(test)]
 mod tests {
     use super::*;
+    use crate::command::DeviceId;
+    use nfc_base::{Fate, Items};
+    use nfca_poll::Ident;
+    use std::test::Fail;
 
     #[test]
     fn lines(rt: HostRuntime) {
@@ -218,6 +261,33 @@ mod tests {
             ("place t2 01020304 16 000", 1),
             ("place t2 01020304 16 - -", 1),
             ("place t4 01020304 16 -", 1),
+            ("fates P", 0),
+            ("fates PDLBBLDP", 0),
+            ("fates", 1),
+            ("fates ", 1),
+            ("fates -", 1),
+            ("fates p", 1),
+            ("fates PPl", 1),
+            ("fates PXP", 1),
+            ("fates P P", 1),
+            ("fates P ", 1),
+            ("Fates P", 1),
+            ("remove 01020304", 0),
+            ("remove 04112233445566", 0),
+            ("remove 00010203040506070809", 0),
+            ("remove e004010203040506", 0),
+            ("remove", 1),
+            ("remove ", 1),
+            ("remove -", 1),
+            ("remove 0102030405", 1),
+            ("remove 88020304", 1),
+            ("remove 0102030G", 1),
+            ("remove t2 01020304", 1),
+            ("find", 0),
+            ("find ", 1),
+            (" find", 1),
+            ("find 01020304", 1),
+            ("Find", 1),
         ];
         for (line, wanted) in rows {
             let fault = match parse_line(rt.alloc(), line.as_bytes()) {
@@ -226,5 +296,50 @@ mod tests {
             };
             assert_eq!(rt; fault, wanted, "{line}");
         }
+    }
+
+    #[test]
+    fn values(rt: HostRuntime) -> Result<(), Fail> {
+        let alloc = rt.alloc();
+        let letters = [Fate::Pass, Fate::Damage, Fate::Lose, Fate::Break];
+        let fates = Items::new(Vec::from_slice(alloc, letters.as_slice())?);
+        let ident = Ident::new(&[4, 17, 34, 51, 68, 85, 102])?;
+        let tag = [0xE0, 4, 1, 2, 3, 4, 5, 0xFF];
+        let rows = [
+            ("fates PDLB", Command::Fates(fates)),
+            (
+                "remove 04112233445566",
+                Command::Remove {
+                    id: DeviceId::A(ident),
+                },
+            ),
+            (
+                "remove E0040102030405fF",
+                Command::Remove {
+                    id: DeviceId::V(tag),
+                },
+            ),
+            ("find", Command::Find),
+            ("#find", Command::Skip),
+        ];
+        for (line, wanted) in rows {
+            let command = parse_line(alloc, line.as_bytes())?;
+            assert!(rt; command == wanted, "{line}");
+            assert!(rt; command.copy(alloc)? == wanted, "{line}");
+        }
+        Ok(())
+    }
+
+    #[test]
+    fn numbers_of_fates(rt: HostRuntime) -> Result<(), Fail> {
+        let alloc = rt.alloc();
+        let mut line = String::from_str(alloc, "fates ")?;
+        for _ in 0..4000 {
+            line.push_str("P")?;
+        }
+        assert!(rt; parse_line(alloc, line.as_bytes()).is_ok());
+        line.push_str("P")?;
+        assert!(rt; parse_line(alloc, line.as_bytes()).is_err());
+        Ok(())
     }
 }

@@ -1,17 +1,47 @@
 //! The words of a line.
 
 ghost use Rattle.std.specs.Prelude.{◌≡◌, ◌≢◌, ◌<◌, ◌^◌, ℕ, [], ◌∷◌, List, MatchOption, IfOk};
+ghost use Rattle.nfc_base.specs.declared.event.Fate.{Fate as Becomes};
 ghost use Rattle.std.specs.Option.{option_copied};
 ghost use Rattle.std.specs.Fmt.{decimal};
-ghost use Rattle.nfc_bench.specs.Script.{words_of, SpellsHex, SpellsIdent, SpellsIdV, SpellsId};
+ghost use Rattle.nfc_bench.specs.Script.{words_of, SpellsHex, SpellsIdent, SpellsIdV, SpellsId, SpellsBlocks, SpellsSize, fate_letter, SpellsFates};
 ghost use Rattle.nfc_bench.specs.declared.command.DeviceId.{DeviceId as Named};
-ghost use Rattle.nfc_bench.specs.Words.{CutsWord, NotThree, NotFour};
+ghost use Rattle.nfc_bench.specs.declared.script.words.CommandName.{CommandName as Names};
+ghost use Rattle.nfc_bench.specs.Words.{CutsWord, NotOne, NotThree, NotFour, name_text};
 
 use crate::command::DeviceId;
 use hex::FromHexError;
-use nfc_base::Items;
+use nfc_base::{Fate, Items};
 use nfca_poll::Ident;
 use std::alloc::{AllocError, Global};
+
+/// How many fates a line may have (this project's limit).
+const MOST_FATES: usize = 4000;
+
+/// The most blocks of a tag (this project's limit): a read names a block in one byte.
+const MOST_BLOCKS: u16 = 256;
+
+/// The first word of a line of several words.
+#[derive(Clone, Copy, Debug, PartialEq, Eq)]
+pub enum CommandName {
+    Fates,
+    Place,
+    Remove,
+    Read,
+}
+
+/// The name that a word is.
+pub fn name_of(word: &[u8]) -> Option<CommandName>
+    ensures { MatchOption result ((n : Names) → word.now ≢ name_text n) (λ n. word.now ≡ name_text n) }
+{
+    match word {
+        b"fates" => Some(CommandName::Fates),
+        b"place" => Some(CommandName::Place),
+        b"remove" => Some(CommandName::Remove),
+        b"read" => Some(CommandName::Read),
+        _ => None,
+    }
+}
 
 /// The first word, and what stands behind its space.
 #[tactic(auto, using(crate::proofs::Words::words_cut, crate::proofs::Words::words_end))]
@@ -24,6 +54,18 @@ pub fn cut_word(text: &[u8]) -> (&[u8], Option<&[u8]>)
         }
     }
     (text, None)
+}
+
+/// The word of a text of one.
+#[tactic(auto, using(crate::proofs::Words::words_not_nil))]
+pub fn only_word(text: &[u8]) -> Option<&[u8]>
+    ensures { MatchOption result (NotOne (words_of text.now)) (λ w. words_of text.now ≡ w.now ∷ []) }
+{
+    let (word, rest) = cut_word(text);
+    match rest {
+        None => Some(word),
+        Some(_) => None,
+    }
 }
 
 /// The words of a text of four.
@@ -124,4 +166,56 @@ pub fn number_word(alloc: Global, word: &[u8]) -> Result<Option<u16>, AllocError
     } else {
         Ok(None)
     }
+}
+
+/// The number of blocks that a word spells, from a limit on, if it does.
+#[tactic(auto, using(std::proofs::lemmas::Fmt::decimal_injective))]
+pub fn blocks_word(alloc: Global, word: &[u8], least: u16) -> Result<Option<u16>, AllocError>
+    ensures { IfOk result (λ o. MatchOption o ((n : ℕ) → SpellsBlocks least word.now n → ⊥) (λ n. SpellsBlocks least word.now n)) }
+{
+    match number_word(alloc, word)? {
+        Some(n) if least <= n && n <= MOST_BLOCKS => Ok(Some(n)),
+        _ => Ok(None),
+    }
+}
+
+/// The size of a Type 5 tag's blocks that a word spells, if it does.
+#[tactic(auto, using(std::proofs::lemmas::Fmt::decimal_injective))]
+pub fn size_word(alloc: Global, word: &[u8]) -> Result<Option<u8>, AllocError>
+    ensures { IfOk result (λ o. MatchOption o ((n : ℕ) → SpellsSize word.now n → ⊥) (λ n. SpellsSize word.now n)) }
+{
+    match number_word(alloc, word)? {
+        Some(n @ (4 | 8 | 16 | 32)) => Ok(Some(n as u8)),
+        _ => Ok(None),
+    }
+}
+
+/// The fate of a letter.
+fn fate_of(letter: u8) -> Option<Fate>
+    ensures { MatchOption result ((f : Becomes) → letter ≢ fate_letter f) (λ f. letter ≡ fate_letter f) }
+{
+    match letter {
+        b'P' => Some(Fate::Pass),
+        b'D' => Some(Fate::Damage),
+        b'L' => Some(Fate::Lose),
+        b'B' => Some(Fate::Break),
+        _ => None,
+    }
+}
+
+/// The fates that a word spells, if it does.
+pub fn fates_word(alloc: Global, word: &[u8]) -> Result<Option<Items<Fate>>, AllocError>
+    ensures { IfOk result (λ o. MatchOption o ((fates : List Becomes) → SpellsFates word.now fates → ⊥) (λ fates. SpellsFates word.now fates)) }
+{
+    if word.is_empty() || word.len() > MOST_FATES {
+        return Ok(None);
+    }
+    let mut fates = Vec::new(alloc);
+    for letter in word {
+        match fate_of(*letter) {
+            Some(fate) => fates.push(fate)?,
+            None => return Ok(None),
+        }
+    }
+    Ok(Some(Items::new(fates)))
 }

@@ -59,7 +59,7 @@ fn what_type_2_tags_hold(rt: HostRuntime) -> Result<(), Fail> {
 }
 
 /// What a script shows, its words, its lines, the status and the report.
-const SCRIPTS: [(&str, &str, &str, u8, &str); 10] = [
+const SCRIPTS: [(&str, &str, &str, u8, &str); 17] = [
     (
         "a lock control TLV that reserves bytes past the area",
         "run quiet",
@@ -140,6 +140,68 @@ read 01020304",
         "a read of another tag",
         "run quiet",
         "place t5 E004010203040506 1 4 -\nread E004010203040507",
+        2,
+        "1 ok\nfault 2 line 2\n",
+    ),
+    (
+        "a tag that was taken away isn't read",
+        "run quiet",
+        "place t2 01020304 4 -\nremove 01020304\nread 01020304",
+        2,
+        "1 ok\n2 ok\nfault 2 line 3\n",
+    ),
+    (
+        "what isn't placed isn't taken away",
+        "run quiet",
+        "place t5 E004010203040506 1 4 -\nremove E004010203040507",
+        2,
+        "1 ok\nfault 2 line 2\n",
+    ),
+    (
+        "a tag is taken away once",
+        "run",
+        "place t2 01020304 4 -\nremove 01020304\nremove 01020304",
+        2,
+        "1 ok\n2 ok\nfault 2 line 3\n",
+    ),
+    (
+        "an identifier is placed again",
+        "run quiet",
+        "place t2 01020304 16 000000000000000000000000E11006000301D1FE
+read 01020304
+remove 01020304
+place t2 01020304 16 000000000000000000000000E11006000301D2FE
+read 01020304",
+        0,
+        "1 ok\n2 message D1 writable\n3 ok\n4 ok\n5 message D2 writable\n",
+    ),
+    (
+        "the others stay when one is taken away",
+        "run quiet",
+        "place t5 E004010203040506 2 4 E14001000301D1FE
+place t2 01020304 16 000000000000000000000000E11006000301D2FE
+place t5 E004010203040507 2 8 E14002000301D3FE
+read 01020304
+remove E004010203040506
+place t5 E004010203040508 2 4 E14001000301D4FE
+read E004010203040507
+read 01020304
+read E004010203040508
+read E004010203040506",
+        2,
+        "1 ok\n2 ok\n3 ok\n4 message D2 writable\n5 ok\n6 ok\n7 message D3 writable\n8 message D2 writable\n9 message D4 writable\nfault 2 line 10\n",
+    ),
+    (
+        "fates are refused as long as no read through noise is proved",
+        "run quiet",
+        "fates P",
+        2,
+        "fault 2 line 1\n",
+    ),
+    (
+        "so is find",
+        "run quiet",
+        "place t2 01020304 4 -\nfind",
         2,
         "1 ok\nfault 2 line 2\n",
     ),

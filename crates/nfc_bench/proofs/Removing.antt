@@ -1,0 +1,66 @@
+-- A device is taken away.
+use Rattle.std.proofs.Common.{◌≡◌, ℕ, List, [], ◌∷◌, ◌++◌, map, length, Bool, true, false, nat_eq, if◌then◌else◌, refl, sym, ◌∙◌, ap, subst}
+use Rattle.std.specs.List.{AllByRecursion, remove}
+use Rattle.std.specs.Cmp.Lexicographic.{pointwise, same_text}
+use Rattle.air_core.specs.Turn.{Air}
+use Rattle.nfca_poll.proofs.OneLevel.{pointwise_self}
+use Rattle.nfc_bench.specs.declared.command.Command.TheVariants.{Remove}
+use Rattle.nfc_bench.specs.declared.command.DeviceId.{DeviceId}
+use Rattle.nfc_bench.specs.declared.device.Device.{Device}
+use Rattle.nfc_bench.specs.declared.entry.Answer.TheVariants.{Done}
+use Rattle.nfc_bench.specs.Choosing.{StandsAt}
+use Rattle.nfc_bench.specs.Device.{device_id}
+use Rattle.nfc_bench.specs.Legal.{IsPlaced, without}
+use Rattle.nfc_bench.specs.Obeying.{state_at, IsIdle, Obeyed}
+use Rattle.nfc_bench.specs.Phases.{Kept, kept, IsApart, AreTame}
+use Rattle.nfc_bench.specs.Polling.{bytes_of}
+use Rattle.nfc_bench.proofs.Placed.{still_obeyed}
+use Rattle.nfc_bench.proofs.Placing.{apart_differs}
+
+-- the item behind some others is removed
+remove_behind : {X : Type 0} (xs : List X) (x : X) (ys : List X) → remove (xs ++ x ∷ ys) (length xs) ≡ xs ++ ys
+remove_behind [] x ys = refl
+remove_behind (w ∷ xs) x ys = ap (λ zs. w ∷ zs) (remove_behind xs x ys)
+
+-- what holds of all devices holds of one of them, and of the others
+holds_of : (P : Kept → Type 0) (before : List Device) (d : Device) (behind : List Device) → AllByRecursion P (map kept (before ++ d ∷ behind)) → P (kept d)
+holds_of P [] d behind all = all.0
+holds_of P (b ∷ before) d behind all = holds_of P before d behind all.1
+
+holds_without : (P : Kept → Type 0) (before : List Device) (d : Device) (behind : List Device) → AllByRecursion P (map kept (before ++ d ∷ behind)) → AllByRecursion P (map kept (before ++ behind))
+holds_without P [] d behind all = all.1
+holds_without P (b ∷ before) d behind all = (all.0, holds_without P before d behind all.1)
+
+tame_without : (before : List Device) (d : Device) (behind : List Device) → AreTame (map kept (before ++ d ∷ behind)) → AreTame (map kept (before ++ behind))
+tame_without [] d behind tame = tame.2
+tame_without (b ∷ before) d behind tame = (tame.0, holds_without (IsApart (kept b)) before d behind tame.1, tame_without before d behind tame.2)
+
+-- no other device has its identifier, so it is the first that has it
+without_behind : (before : List Device) (d : Device) (behind : List Device) (id : List ℕ) → device_id d ≡ id → AreTame (map kept (before ++ d ∷ behind)) → without id (before ++ d ∷ behind) ≡ before ++ behind
+without_behind [] d behind id named tame = ap (λ v. if v then behind else d ∷ without id behind) (ap (λ x. pointwise nat_eq x id) named ∙ pointwise_self id)
+without_behind (b ∷ before) d behind id named tame = by_case (pointwise nat_eq (device_id b) id) refl (without_behind before d behind id named tame.2)
+  where
+    differs : device_id b ≡ id → ⊥
+    differs e = apart_differs (kept b) (kept d) (holds_of (IsApart (kept b)) before d behind tame.1) (named ∙ sym e)
+
+    by_case : (v : Bool) → pointwise nat_eq (device_id b) id ≡ v → without id (before ++ d ∷ behind) ≡ before ++ behind → (if v then before ++ d ∷ behind else b ∷ without id (before ++ d ∷ behind)) ≡ b ∷ (before ++ behind)
+    by_case true h rest = absurd (differs (same_text (device_id b) id (sym h)))
+    by_case false h rest = ap (λ xs. b ∷ xs) rest
+
+-- the field without the listener at a place
+abbrev pub less_by : Air Device → ℕ → Air Device
+less_by a place = record { lit = a.lit; listeners = remove a.listeners place; fates = a.fates; trace = a.trace }
+
+-- a device was taken away
+pub removed : (old new : Air Device) (id : DeviceId) (place : ℕ) → IsIdle old → IsPlaced (state_at old) id → StandsAt (bytes_of id) old.listeners place → new ≡ less_by old place → Obeyed old new (Remove id) Done
+removed old new id place idle placed s is =
+    let T : List Device → Type 0 = λ ls. AreTame (map kept ls) in
+    let O : Air Device → Type 0 = λ a. Obeyed old a (Remove id) Done in
+    let F : List Device → Air Device = λ ls. record { lit = old.lit; listeners = ls; fates = old.fates; trace = old.trace } in
+    let tame : T (s.before ++ s.device ∷ s.behind) = subst T s.split idle.tame in
+    let left : remove old.listeners place ≡ s.before ++ s.behind =
+    ap (λ ls. remove ls place) s.split ∙ ap (remove (s.before ++ s.device ∷ s.behind)) (sym s.at) ∙ remove_behind s.before s.device s.behind in
+    let same : without (bytes_of id) old.listeners ≡ s.before ++ s.behind =
+    ap (without (bytes_of id)) s.split ∙ without_behind s.before s.device s.behind (bytes_of id) s.named tame in
+    subst O (sym (is ∙ ap F left))
+    (still_obeyed old (F (s.before ++ s.behind)) (Remove id) idle placed (ap (λ ls. state_at (F ls)) (sym same)) refl idle.fates refl refl refl (tame_without s.before s.device s.behind tame))
