@@ -26,3 +26,4 @@ pub mod NoisyTurns
 pub mod ThroughNoise
 pub mod Causes
 pub mod Steady
+pub mod EnquiryLaws
