@@ -27,3 +27,5 @@ pub mod ThroughNoise
 pub mod Causes
 pub mod Steady
 pub mod EnquiryLaws
+pub mod PolledTurns
+pub mod RoundParts

@@ -1,0 +1,145 @@
+-- A reset and a turn of a field of polled listeners, as its cards see them.
+use Rattle.std.proofs.Common.{◌≡◌, ℕ, List, [], ◌∷◌, map, filter_map, Bool, true, false, if◌then◌else◌, inl, inr, refl, sym, ◌∙◌, ap, subst, Option, Some, None}
+use Rattle.std.specs.List.{cons_option}
+use Rattle.nfc_base.specs.declared.frame.Tech.{Tech}
+use Rattle.nfc_base.specs.declared.frame.Tech.TheVariants.{A, V}
+use Rattle.nfc_base.specs.Signal.{Signal}
+use Rattle.nfc_base.specs.declared.event.Heard.{Heard}
+use Rattle.nfc_base.specs.declared.event.Heard.TheVariants.{Damaged, Silent}
+use Rattle.air_core.specs.Joint.{joint, same_tech}
+use Rattle.air_core.specs.World.{Machine, World, answers}
+use Rattle.nfca_poll.specs.declared.kind.Kind.{Kind}
+use Rattle.nfca_poll.specs.Calls.{Call, Calls, call_of}
+use Rattle.nfca_poll.specs.Front.{Front, Idle}
+use Rattle.nfca_poll.specs.Muted.{mute_reply, muted}
+use Rattle.nfca_poll.specs.Crowd.{Card, Each, with_front, StepsByFront, AreOurs, card_of, card_if, cards}
+use Rattle.nfca_poll.specs.Polled.{WakesIdle, StepsFresh, ArePolled}
+use Rattle.nfca_poll.proofs.Clashes.{Has}
+use Rattle.nfca_poll.proofs.HeardBits.{heard_of}
+use Rattle.nfca_poll.proofs.Fitting.{card_next, card_says}
+use Rattle.nfca_poll.proofs.Crowding.{step, says, mapped, said_by, OneCard, same_card, heard_by_it, table_card, other_card}
+use Rattle.nfca_poll.proofs.NoisyTurns as turns
+use Rattle.nfca_poll.proofs.NoisyTurns.{TurnWas, passed, unheard, damaged, lost, WorldWas}
+
+no_tech : V ≡ A → ⊥
+no_tech e = cc
+
+-- a card that a reset has made idle
+abbrev pub idled : Card → Card
+idled c = with_front c Idle
+
+abbrev idled_if : Option Card → Option Card
+idled_if None = None
+idled_if (Some c) = Some (idled c)
+
+cons_idled : (o : Option Card) (xs : List Card) → cons_option (idled_if o) (map idled xs) ≡ map idled (cons_option o xs)
+cons_idled None xs = refl
+cons_idled (Some c) xs = refl
+
+module _ {L : Type 0} (m : Machine L) {identifier : L → List ℕ} (polled : ArePolled m identifier) where
+  -- each NFC-A listener is fresh
+  abbrev pub AllFresh : List L → Type 0
+  AllFresh ls = Each (λ l. m.tech l ≡ A → polled.fresh l ≡ true) ls
+
+  abbrev wake : L → L
+  wake l = m.woken (m.darkened l)
+
+  waking_card : (l : L) → m.tech l ≡ A → card_if polled.ours (wake l) ≡ idled_if (card_if polled.ours l)
+  waking_card l t =
+      let k : WakesIdle m identifier polled.ours.kind polled.ours.front polled.fresh l = polled.wakes l t in
+      let C : List ℕ → Kind → Front → Card = λ i j z. record { id = i; kind = j; front = z } in
+      let card : card_of polled.ours (wake l) ≡ idled (card_of polled.ours l) =
+      ap (λ i. C i (polled.ours.kind (wake l)) (polled.ours.front (wake l))) k.same_id
+      ∙ ap (λ j. C (identifier l) j (polled.ours.front (wake l))) k.same_kind
+      ∙ ap (C (identifier l) (polled.ours.kind l)) k.idle in
+      ap (λ u. if same_tech u A then Some (card_of polled.ours (wake l)) else None) (polled.same_tech l ∙ t) ∙ ap Some card
+      ∙ sym (ap (λ u. idled_if (if same_tech u A then Some (card_of polled.ours l) else None)) t)
+
+  other_waking : (l : L) → m.tech l ≡ V → card_if polled.ours (wake l) ≡ idled_if (card_if polled.ours l)
+  other_waking l t =
+      ap (λ u. if same_tech u A then Some (card_of polled.ours (wake l)) else None) (polled.same_tech l ∙ t)
+      ∙ sym (ap (λ u. idled_if (if same_tech u A then Some (card_of polled.ours l) else None)) t)
+
+  one_waking : (l : L) → card_if polled.ours (wake l) ≡ idled_if (card_if polled.ours l)
+  one_waking l = by_tech (m.tech l) refl
+    where
+      by_tech : (t : Tech) → m.tech l ≡ t → card_if polled.ours (wake l) ≡ idled_if (card_if polled.ours l)
+      by_tech A t = waking_card l t
+      by_tech V t = other_waking l t
+
+  -- a reset makes each NFC-A device idle
+  pub reset_cards : (ls : List L) → cards polled.ours (map (λ l. m.woken (m.darkened l)) ls) ≡ map idled (cards polled.ours ls)
+  reset_cards [] = refl
+  reset_cards (l ∷ ls) =
+      ap (λ o. cons_option o (cards polled.ours (map wake ls))) (one_waking l) ∙ ap (cons_option (idled_if (card_if polled.ours l))) (reset_cards ls)
+      ∙ cons_idled (card_if polled.ours l) (cards polled.ours ls)
+
+  -- and fresh
+  pub reset_fresh : (ls : List L) → AllFresh (map (λ l. m.woken (m.darkened l)) ls)
+  reset_fresh [] = tt
+  reset_fresh (l ∷ ls) = ((λ t. (polled.wakes l (sym (polled.same_tech l) ∙ t)).fresh), reset_fresh ls)
+
+  module _ (f : Signal) (request : f.tech ≡ A) (c : Call) (call : call_of f ≡ Calls c) where
+    abbrev next : L → L
+    next l = step m polled.ours f request l
+
+    table_fresh : (l : L) → m.tech l ≡ A → polled.fresh l ≡ true → polled.fresh (next l) ≡ true
+    table_fresh l t k =
+        let s : StepsFresh m identifier polled.ours.kind polled.ours.front polled.fresh l f = polled.steps l f c t k call in
+        let none : mute_reply (m.handed l f) ≡ None = ap mute_reply s.step.untouched in
+        ap polled.fresh (ap (λ v. if v then m.after l f (mute_reply (m.handed l f)) else l) (heard_by_it m polled.ours f request l t) ∙ ap (m.after l f) none) ∙ s.fresh
+
+    one_steps : (l : L) → (m.tech l ≡ A → polled.fresh l ≡ true) → OneCard m polled.ours f request l × (m.tech (next l) ≡ A → polled.fresh (next l) ≡ true)
+    one_steps l k = by_tech (m.tech l) refl
+      where
+        by_tech : (t : Tech) → m.tech l ≡ t → OneCard m polled.ours f request l × (m.tech (next l) ≡ A → polled.fresh (next l) ≡ true)
+        by_tech A t = (table_card m polled.ours f request l t (polled.steps l f c t (k t) call).step, (λ i. table_fresh l t (k t)))
+        by_tech V t =
+            let deaf : same_tech (m.tech l) f.tech ≡ false = ap (λ u. same_tech u f.tech) t ∙ ap (same_tech V) request in
+            let same : next l ≡ l = ap (λ v. if v then m.after l f (mute_reply (m.handed l f)) else l) deaf in
+            (other_card m polled.ours f request l t, (λ i. absurd (no_tech (sym t ∙ sym (ap m.tech same) ∙ i))))
+
+    cons_mapped : (g : Card → Card) (o : Option Card) (xs : List Card) → cons_option (mapped m polled.ours f request g o) (map g xs) ≡ map g (cons_option o xs)
+    cons_mapped g None xs = refl
+    cons_mapped g (Some d) xs = refl
+
+    cons_said : (p : Card → Option Signal) (o : Option Card) (xs : List Card) → cons_option (said_by m polled.ours f request p o) (filter_map p xs) ≡ filter_map p (cons_option o xs)
+    cons_said p None xs = refl
+    cons_said p (Some d) xs = refl
+
+    all_step : (ls : List L) → AllFresh ls
+        → (cards polled.ours (map next ls) ≡ map (card_next (call_of f)) (cards polled.ours ls))
+        × (filter_map (says m polled.ours f request) ls ≡ filter_map (card_says (call_of f)) (cards polled.ours ls)) × AllFresh (map next ls)
+    all_step [] k = (refl, refl, tt)
+    all_step (l ∷ ls) k =
+        let one : OneCard m polled.ours f request l × (m.tech (next l) ≡ A → polled.fresh (next l) ≡ true) = one_steps l k.0 in
+        let rest = all_step ls k.1 in (
+          ap (λ o. cons_option o (cards polled.ours (map next ls))) one.0.0
+              ∙ ap (cons_option (mapped m polled.ours f request (card_next (call_of f)) (card_if polled.ours l))) rest.0
+              ∙ cons_mapped (card_next (call_of f)) (card_if polled.ours l) (cards polled.ours ls),
+          ap (λ o. cons_option o (filter_map (says m polled.ours f request) ls)) one.0.1
+              ∙ ap (cons_option (said_by m polled.ours f request (card_says (call_of f)) (card_if polled.ours l))) rest.1
+              ∙ cons_said (card_says (call_of f)) (card_if polled.ours l) (cards polled.ours ls),
+          (one.1, rest.2),
+        )
+
+    -- a turn of a call
+    pub call_turn : (w v : World L) (h : Heard) (n : ℕ) → AllFresh w.listeners → WorldWas m w f v h n
+        → TurnWas (call_of f) (cards polled.ours w.listeners) (cards polled.ours v.listeners) h n × AllFresh v.listeners
+    call_turn w _ _ _ k turns.passed =
+        let s = all_step w.listeners k in
+        let P : List Card → Heard → Type 0 = λ x h. TurnWas (call_of f) (cards polled.ours w.listeners) x h 0 in
+        let Q : List Signal → Type 0 = λ gs. P (map (card_next (call_of f)) (cards polled.ours w.listeners)) (heard_of (joint gs)) in
+        let R : List Card → Type 0 = λ x. P x (heard_of (joint (answers (muted m) w f))) in
+        (subst R (sym s.0) (subst Q (sym s.1) passed), s.2)
+    call_turn w _ _ _ k turns.unheard = (unheard, k)
+    call_turn w _ _ _ k (turns.damaged g h) =
+        let s = all_step w.listeners k in
+        let H : List Signal → Type 0 = λ gs. Has g gs in
+        let R : List Card → Type 0 = λ x. TurnWas (call_of f) (cards polled.ours w.listeners) x Damaged 1 in
+        (subst R (sym s.0) (damaged g (subst H s.1 h)), s.2)
+    call_turn w _ _ _ k (turns.lost g h) =
+        let s = all_step w.listeners k in
+        let H : List Signal → Type 0 = λ gs. Has g gs in
+        let R : List Card → Type 0 = λ x. TurnWas (call_of f) (cards polled.ours w.listeners) x Silent 1 in
+        (subst R (sym s.0) (lost g (subst H s.1 h)), s.2)
