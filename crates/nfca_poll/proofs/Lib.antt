@@ -29,3 +29,4 @@ pub mod Steady
 pub mod EnquiryLaws
 pub mod PolledTurns
 pub mod RoundParts
+pub mod CrowdOrder
