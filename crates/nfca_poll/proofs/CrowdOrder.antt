@@ -17,7 +17,7 @@ use Rattle.nfca_poll.proofs.HeardBits.{pointwise_same, pointwise_path}
 use Rattle.nfca_poll.proofs.LevelFacts.{IsLevel, IsLevels, levels_are}
 use Rattle.nfca_poll.proofs.Fitting.{level_size, level_by_bits}
 use Rattle.nfca_poll.proofs.Selects.{identifier_of}
-use Rattle.nfca_poll.proofs.Causes.{ahead_else}
+use Rattle.nfca_poll.proofs.Causes.{ahead_else, ahead_on}
 use Rattle.nfca_poll.proofs.Crowding.{drop-front}
 
 -- lists
@@ -100,27 +100,12 @@ put_each P p (q ∷ qs) a e = by_place (ahead (crowd_bits p.id) (crowd_bits q.id
     by_place true r = (a, e)
     by_place false r = (e.0, r)
 
-ahead_through : (p q : Picked) (r : Picked) → IsAhead p q → IsAhead q r → IsAhead p r
-ahead_through p q r a b = on (crowd_bits p.id) (crowd_bits q.id) (crowd_bits r.id) a b
-  where
-    on : (x y z : List Bool) → ahead x y ≡ true → ahead y z ≡ true → ahead x z ≡ true
-    on x y [] h k = refl
-    on x [] (c ∷ z) h k = wrong k
-    on [] (b ∷ y) (c ∷ z) h k = wrong h
-    on (true ∷ x) (true ∷ y) (true ∷ z) h k = on x y z h k
-    on (true ∷ x) (true ∷ y) (false ∷ z) h k = refl
-    on (true ∷ x) (false ∷ y) (true ∷ z) h k = wrong k
-    on (true ∷ x) (false ∷ y) (false ∷ z) h k = refl
-    on (false ∷ x) (true ∷ y) (c ∷ z) h k = wrong h
-    on (false ∷ x) (false ∷ y) (true ∷ z) h k = wrong k
-    on (false ∷ x) (false ∷ y) (false ∷ z) h k = on x y z h k
-
 put_sorted : (p : Picked) (ps : List Picked) → IsSorted ps → IsSorted (put_by p ps)
 put_sorted p [] s = (tt, tt)
 put_sorted p (q ∷ qs) s = by_place (ahead (crowd_bits p.id) (crowd_bits q.id)) refl (put_sorted p qs s.1)
   where
     by_place : (v : Bool) → ahead (crowd_bits p.id) (crowd_bits q.id) ≡ v → IsSorted (put_by p qs) → IsSorted (if v then p ∷ q ∷ qs else q ∷ put_by p qs)
-    by_place true e r = ((e, each_map (IsAhead q) (IsAhead p) (λ x k. ahead_through p q x e k) qs s.0), s)
+    by_place true e r = ((e, each_map (IsAhead q) (IsAhead p) (λ x k. ahead_on (crowd_bits p.id) (crowd_bits q.id) (crowd_bits x.id) e k) qs s.0), s)
     by_place false e r = (put_each (IsAhead q) p qs (ahead_else (crowd_bits p.id) (crowd_bits q.id) e) s.0, r)
 
 put_unlike : (p : Picked) (ps : List Picked) → Each (λ q. q.id ≢ p.id) ps → AllUnlike ps → AllUnlike (put_by p ps)

@@ -30,3 +30,5 @@ pub mod EnquiryLaws
 pub mod PolledTurns
 pub mod RoundParts
 pub mod CrowdOrder
+pub mod Standing
+pub mod SoughtFrom
