@@ -32,3 +32,4 @@ pub mod RoundParts
 pub mod CrowdOrder
 pub mod Standing
 pub mod SoughtFrom
+pub mod PickedFrom

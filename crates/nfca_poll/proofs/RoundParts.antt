@@ -177,6 +177,27 @@ module _ {W : Type 0} (m : AirModel W) where
       count_one true t = refl
       count_one false t = refl
 
+  -- no turn has more noisy turns of SENS_REQ than noise
+  pub counted_turn : (w : W) (f : Signal) (x y : Fate) → noisy_count (calls (turn_events m w f x y)) ≤ noise (turn_events m w f x y)
+  counted_turn w f x y = by_kind (is_sens_req f) refl
+    where
+      at_most : (n : ℕ) → (if nat_lt 0 n then 1 else 0) ≤ n
+      at_most n = grind arith
+
+      by_kind : (v : Bool) → is_sens_req f ≡ v → noisy_count (calls (turn_events m w f x y)) ≤ noise (turn_events m w f x y)
+      by_kind true s =
+          let c : noisy_count (calls (turn_events m w f x y)) ≡ (if nat_lt 0 (noise (turn_events m w f x y)) then 1 else 0) = (sens_turn w f x y s).1 in
+          let l : (if nat_lt 0 (noise (turn_events m w f x y)) then 1 else 0) ≤ noise (turn_events m w f x y) = at_most (noise (turn_events m w f x y)) in
+          let P : ℕ → Type 0 = λ n. n ≤ noise (turn_events m w f x y) in
+          subst P (sym c) l
+      by_kind false s =
+          let k : IsTurn f (turn_events m w f x y) = is_turn w f x y in
+          let t : Turn = record { request = f; fate = k.0; back = k.1 } in
+          let F : List Turn → List Turn = λ ts. filter (λ u. is_sens_req u.request) ts in
+          let none : calls (turn_events m w f x y) ≡ [] = ap F k.2 ∙ ap (λ v. if v then t ∷ [] else []) s in
+          let P : ℕ → Type 0 = λ n. n ≤ noise (turn_events m w f x y) in
+          subst P (sym (ap noisy_count none)) (omega arith)
+
 -- four turns of SENS_REQ, behind others, are the last four
 pub last_are : (a b : List Turn) → length b ≡ 4 → last_four (a ++ b) ≡ b
 last_are a b h =

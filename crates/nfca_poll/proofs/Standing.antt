@@ -149,7 +149,7 @@ third_answers (c ∷ cs) e =
     ∙ ap (cons_option (card_says (Calls Sens) (cast true c))) (third_answers cs e.1)
 
 -- parts are at rest, each with an identifier of its own
-part_rests : (idle : Bool) (f : Front) → is_rest (part_of idle f) ≡ true
+pub part_rests : (idle : Bool) (f : Front) → is_rest (part_of idle f) ≡ true
 part_rests idle Off = refl
 part_rests true Idle = refl
 part_rests false Idle = refl
