@@ -33,3 +33,4 @@ pub mod CrowdOrder
 pub mod Standing
 pub mod SoughtFrom
 pub mod PickedFrom
+pub mod RoundCards
