@@ -34,3 +34,4 @@ pub mod Standing
 pub mod SoughtFrom
 pub mod PickedFrom
 pub mod RoundCards
+pub mod RoundHolds
