@@ -35,3 +35,4 @@ pub mod SoughtFrom
 pub mod PickedFrom
 pub mod RoundCards
 pub mod RoundHolds
+pub mod CrowdSteps
