@@ -36,3 +36,4 @@ pub mod PickedFrom
 pub mod RoundCards
 pub mod RoundHolds
 pub mod CrowdSteps
+pub mod FoundCrowd
