@@ -66,7 +66,7 @@ module _ {L : Type 0} (m : Machine L) {identifier' : L → List ℕ} (polled : A
   lit : (round : ℕ) (a : World L) (es : List Event) → AtReset m polled aim w field round a es → InSeek m polled aim w field round [] (Calling 0) (reset_by (muted m) a) (es ++ Reset ∷ [])
   lit round a es r =
       let b : World L = reset_by (muted m) a in
-      let idle : of b ≡ map (λ c. with_front c Idle) (of a) = reset_cards m polled a.listeners in
+      let idle : of b ≡ map (λ c. with_front c Idle) (of a) = reset_cards m polled a.listeners r.sound in
       let same : map told_of (of b) ≡ map told_of w = ap (map told_of) idle ∙ map_twice told_of (λ c. with_front c Idle) (of a) ∙ r.same in
       let F : List Card → Type 0 = λ t. Each (FitsRound false 0 []) t in
       record {
@@ -74,7 +74,7 @@ module _ {L : Type 0} (m : Machine L) {identifier' : L → List ℕ} (polled : A
         common = record {
           few = r.few;
           here = record { before = es; made = refl; whole = tt; noisy = r.noisy; count = r.count };
-          fresh = reset_fresh m polled a.listeners;
+          fresh = reset_fresh m polled a.listeners r.sound;
           same = same;
           rest = crowd w;
           known = refl;

@@ -12,7 +12,7 @@ use Rattle.nfca_poll.specs.Enquiry.{Enquires, or_memory}
 use Rattle.nfca_poll.specs.Crowd.{Card, Each, cards}
 use Rattle.nfca_poll.specs.Rounds.{is_same, Aim, Search, Begins, Seeks, Sends, Told, search_ended, searching, all_devices, device_of, finding, picking}
 use Rattle.nfca_poll.specs.RoundTrace.{Misses}
-use Rattle.nfca_poll.specs.Polled.{ArePolled, IsField}
+use Rattle.nfca_poll.specs.Polled.{ArePolled, AreSound, IsField}
 use Rattle.nfca_poll.specs.RoundEnds.{told_of, crowd, FindEnds, LeavesActive, PickEnds, FindsCrowd, PicksAlone}
 use Rattle.nfca_poll.proofs.Clashes.{wrong_back, Has}
 use Rattle.nfca_poll.proofs.Eaches.{each_has}
@@ -20,7 +20,7 @@ use Rattle.nfca_poll.proofs.HeardBits.{pointwise_same, pointwise_path}
 use Rattle.nfca_poll.proofs.Crowding.{drop-front}
 use Rattle.nfca_poll.proofs.EnquiryLaws.{Ending, comes, loses, ending}
 use Rattle.nfca_poll.proofs.CrowdOrder.{each_of, has_mapped, crowd_has}
-use Rattle.nfca_poll.proofs.RoundHolds.{CallEnds, taken, nobody, gave_up, Holds}
+use Rattle.nfca_poll.proofs.RoundHolds.{CallEnds, taken, nobody, gave_up, too_many, Holds}
 use Rattle.nfca_poll.proofs.CrowdSteps.{keeps}
 
 none_some : {X : Type 0} (x : X) → None ≡ Some x → ⊥
@@ -33,6 +33,7 @@ find_ends : (w v : List Card) (es : List Event) (r : Result (List Picked) PollFa
 find_ends w v es _ (taken p x e left) = absurd (none_some x e)
 find_ends w v es _ (nobody found others begins ends) = (begins, ends)
 find_ends w v es _ (gave_up g) = g
+find_ends w v es _ (too_many n) = n
 
 module _ (id : List ℕ) where
   abbrev taken_if : Bool → Kind → Option Kind
@@ -63,17 +64,18 @@ module _ (id : List ℕ) where
   pick_ends w v es _ (taken p x e left) = is_taken w v p x e left
   pick_ends w v es _ (nobody found others begins ends) = elim ends [ inl all ↦ inl (not_found w found others all) | inr q ↦ inr q ]
   pick_ends w v es _ (gave_up g) = g
+  pick_ends w v es _ (too_many n) = n
 
 module _ {L : Type 0} (m : Machine L) {identifier' : L → List ℕ} (polled : ArePolled m identifier') where
   -- how a call by rounds ends, by its trace
-  whole : {X : Type 0} (aim : Aim X) (old new : Air L) (r : Result X PollFault) → Enquires (searching aim) m old r new → (field : IsField (cards polled.ours old.listeners))
+  whole : {X : Type 0} (aim : Aim X) (old new : Air L) (r : Result X PollFault) → Enquires (searching aim) m old r new → AreSound polled old.listeners → (field : IsField (cards polled.ours old.listeners))
       → (e : List Event) × Ending (searching aim) (mute_air m) (Holds m polled aim (cards polled.ours old.listeners) field) (moment new).world e r × (drop (length old.trace) new.trace ≡ e)
-  whole aim old new r q field =
+  whole aim old new r q sound field =
       let w : List Card = cards polled.ours old.listeners in
       let M : Moment (World L) → List Event = λ x. x.trace in (
         q.going.events,
         ending (searching aim) (mute_air m) (Holds m polled aim w field) (keeps m polled aim w field) (moment old) (moment new) q.notes r
-            (record { few = omega arith; same = refl; noisy = tt; count = refl }) q.going q.comes,
+            (record { few = omega arith; sound = sound; same = refl; noisy = tt; count = refl }) q.going q.comes,
         ap (drop (length old.trace)) (ap M q.going.moment) ∙ drop-front old.trace q.going.events,
       )
 
@@ -103,14 +105,14 @@ module _ {L : Type 0} (m : Machine L) {identifier' : L → List ℕ} (polled : A
 
 -- A call that asks so finds the crowd.
 pub finds_crowd : {L : Type 0} (m : Machine L) (identifier' : L → List ℕ) (old new : Air L) (r : Result (List Picked) PollFault) → Enquires finding m old r new → FindsCrowd m identifier' old r new
-finds_crowd m identifier' old new r q polled field =
-    let k = whole m polled all_devices old new r q field in
+finds_crowd m identifier' old new r q polled sound field =
+    let k = whole m polled all_devices old new r q sound field in
     let P : List Event → Type 0 = λ es. FindEnds (cards polled.ours old.listeners) r es in
     subst P (sym k.2) (find_ending m polled (cards polled.ours old.listeners) field (moment new).world k.0 r k.1)
 
 -- And one that asks for one device leaves it active alone.
 pub picks_alone : {L : Type 0} (m : Machine L) (identifier' : L → List ℕ) (id : List ℕ) (old new : Air L) (r : Result Kind PollFault) → Enquires (picking id) m old r new → PicksAlone m identifier' id old r new
-picks_alone m identifier' id old new r q polled field =
-    let k = whole m polled (device_of id) old new r q field in
+picks_alone m identifier' id old new r q polled sound field =
+    let k = whole m polled (device_of id) old new r q sound field in
     let P : List Event → Type 0 = λ es. PickEnds id (cards polled.ours old.listeners) r (cards polled.ours new.listeners) es in
     subst P (sym k.2) (pick_ending m polled id (cards polled.ours old.listeners) field (moment new).world k.0 r k.1)

@@ -13,7 +13,7 @@ use Rattle.nfca_poll.specs.Calls.{Call, Calls, call_of}
 use Rattle.nfca_poll.specs.Front.{Front, Idle}
 use Rattle.nfca_poll.specs.Muted.{mute_reply, muted}
 use Rattle.nfca_poll.specs.Crowd.{Card, Each, with_front, StepsByFront, AreOurs, card_of, card_if, cards}
-use Rattle.nfca_poll.specs.Polled.{WakesIdle, StepsFresh, ArePolled}
+use Rattle.nfca_poll.specs.Polled.{WakesIdle, StepsFresh, ArePolled, AreSound}
 use Rattle.nfca_poll.proofs.Clashes.{Has}
 use Rattle.nfca_poll.proofs.HeardBits.{heard_of}
 use Rattle.nfca_poll.proofs.Fitting.{card_next, card_says}
@@ -44,9 +44,9 @@ module _ {L : Type 0} (m : Machine L) {identifier : L → List ℕ} (polled : Ar
   abbrev wake : L → L
   wake l = m.woken (m.darkened l)
 
-  waking_card : (l : L) → m.tech l ≡ A → card_if polled.ours (wake l) ≡ idled_if (card_if polled.ours l)
-  waking_card l t =
-      let k : WakesIdle m identifier polled.ours.kind polled.ours.front polled.fresh l = polled.wakes l t in
+  waking_card : (l : L) → m.tech l ≡ A → polled.sound l ≡ true → card_if polled.ours (wake l) ≡ idled_if (card_if polled.ours l)
+  waking_card l t s =
+      let k : WakesIdle m identifier polled.ours.kind polled.ours.front polled.fresh l = polled.wakes l t s in
       let C : List ℕ → Kind → Front → Card = λ i j z. record { id = i; kind = j; front = z } in
       let card : card_of polled.ours (wake l) ≡ idled (card_of polled.ours l) =
       ap (λ i. C i (polled.ours.kind (wake l)) (polled.ours.front (wake l))) k.same_id
@@ -60,24 +60,28 @@ module _ {L : Type 0} (m : Machine L) {identifier : L → List ℕ} (polled : Ar
       ap (λ u. if same_tech u A then Some (card_of polled.ours (wake l)) else None) (polled.same_tech l ∙ t)
       ∙ sym (ap (λ u. idled_if (if same_tech u A then Some (card_of polled.ours l) else None)) t)
 
-  one_waking : (l : L) → card_if polled.ours (wake l) ≡ idled_if (card_if polled.ours l)
-  one_waking l = by_tech (m.tech l) refl
+  one_waking : (l : L) → (m.tech l ≡ A → polled.sound l ≡ true) → card_if polled.ours (wake l) ≡ idled_if (card_if polled.ours l)
+  one_waking l s = by_tech (m.tech l) refl
     where
       by_tech : (t : Tech) → m.tech l ≡ t → card_if polled.ours (wake l) ≡ idled_if (card_if polled.ours l)
-      by_tech A t = waking_card l t
+      by_tech A t = waking_card l t (s t)
       by_tech V t = other_waking l t
 
   -- a reset makes each NFC-A device idle
-  pub reset_cards : (ls : List L) → cards polled.ours (map (λ l. m.woken (m.darkened l)) ls) ≡ map idled (cards polled.ours ls)
-  reset_cards [] = refl
-  reset_cards (l ∷ ls) =
-      ap (λ o. cons_option o (cards polled.ours (map wake ls))) (one_waking l) ∙ ap (cons_option (idled_if (card_if polled.ours l))) (reset_cards ls)
+  pub reset_cards : (ls : List L) → AreSound polled ls → cards polled.ours (map (λ l. m.woken (m.darkened l)) ls) ≡ map idled (cards polled.ours ls)
+  reset_cards [] s = refl
+  reset_cards (l ∷ ls) s =
+      ap (λ o. cons_option o (cards polled.ours (map wake ls))) (one_waking l s.0) ∙ ap (cons_option (idled_if (card_if polled.ours l))) (reset_cards ls s.1)
       ∙ cons_idled (card_if polled.ours l) (cards polled.ours ls)
 
   -- and fresh
-  pub reset_fresh : (ls : List L) → AllFresh (map (λ l. m.woken (m.darkened l)) ls)
-  reset_fresh [] = tt
-  reset_fresh (l ∷ ls) = ((λ t. (polled.wakes l (sym (polled.same_tech l) ∙ t)).fresh), reset_fresh ls)
+  pub reset_fresh : (ls : List L) → AreSound polled ls → AllFresh (map (λ l. m.woken (m.darkened l)) ls)
+  reset_fresh [] s = tt
+  reset_fresh (l ∷ ls) s = ((λ t. (polled.wakes l (sym (polled.same_tech l) ∙ t) (s.0 (sym (polled.same_tech l) ∙ t))).fresh), reset_fresh ls s.1)
+
+  pub fresh_sound : (ls : List L) → AllFresh ls → AreSound polled ls
+  fresh_sound [] k = tt
+  fresh_sound (l ∷ ls) k = ((λ t. polled.stays l t (k.0 t)), fresh_sound ls k.1)
 
   module _ (f : Signal) (request : f.tech ≡ A) (c : Call) (call : call_of f ≡ Calls c) where
     abbrev next : L → L

@@ -15,24 +15,25 @@ use Rattle.nfca_poll.specs.Poll.{Seek, Calling, Asking, Selecting, Ended, Outcom
 use Rattle.nfca_poll.specs.Crowd.{Card, Each, is_idle, is_rest, AreDistinct, cards}
 use Rattle.nfca_poll.specs.Rounds.{most_rounds, most_found, Aim, Search, Begins, Seeks, Sends, Told, next_round, has_found, met, met_or_taken, sought}
 use Rattle.nfca_poll.specs.RoundTrace.{rounds, is_noisy, last_four, AreNoisy, MissesEnd, Misses, GivesUp}
-use Rattle.nfca_poll.specs.Polled.{ArePolled, IsField}
+use Rattle.nfca_poll.specs.Polled.{ArePolled, AreSound, IsField}
 use Rattle.nfca_poll.specs.RoundEnds.{told_of, crowd, LeavesActive}
 use Rattle.nfca_poll.specs.RoundEnds as ends
 use Rattle.nfca_poll.proofs.Clashes.{wrong, Has}
 use Rattle.nfca_poll.proofs.Eaches.{each_has, has_middle}
 use Rattle.nfca_poll.proofs.Selects.{identifier_of}
-use Rattle.nfca_poll.proofs.PolledTurns.{AllFresh}
+use Rattle.nfca_poll.proofs.PolledTurns.{AllFresh, fresh_sound}
 use Rattle.nfca_poll.proofs.RoundParts.{InRound, all_noisy, misses, gives_up, calls, noisy_count, last_are}
 use Rattle.nfca_poll.proofs.CrowdOrder.{each_of, mapped_each, each_unmapped, has_mapped, mapped_has, has_front, has_back, IsSorted, AllUnlike, unlike_apart, same_by_id, crowd_sorted, crowd_length, crowd_has, has_crowd, crowd_unlike, unlike_cards, cards_unlike, next_is, found_has, has_found_is}
 use Rattle.nfca_poll.proofs.SoughtFrom.{Plays, NoneIdle, EndsWith, SoughtFrom}
 use Rattle.nfca_poll.proofs.PickedFrom.{PickedFrom, picked_from, shades_rest}
 use Rattle.nfca_poll.proofs.RoundCards.{FitsRound, picked_again, picked_new, picked_sends, picked_first, unfound_idle}
 
--- How a call by rounds ends: it took a device, found nobody more, or gave all rounds up.
+-- How a call by rounds ends: it took a device, found nobody more, gave all rounds up, or found too many.
 pub data CallEnds {X : Type 0} (aim : Aim X) (w : List Card) (v : List Card) (es : List Event) : Result X PollFault → Type 0 where
   taken : (p : Picked) (x : X) → aim.takes p ≡ Some x → LeavesActive p.id p.kind w v → CallEnds aim w v es (Ok x)
   nobody : (found : List Picked) → Each (λ p. aim.takes p ≡ None) found → ends.Begins found (crowd w) → (found ≡ crowd w) ⊎ Misses es → CallEnds aim w v es (aim.nobody found)
   gave_up : GivesUp es → CallEnds aim w v es (Err faults.Disturbed)
+  too_many : most_found < length w → CallEnds aim w v es (Err faults.BadAnswer)
 
 -- What doesn't change in a resolution: the cards at its start, and its turns of SENS_REQ, which stand behind others.
 pub record Resolves (w : List Card) (found : List Picked) (start : List Card) (ts : List Turn) (now : List Event) : Type 0 where
@@ -81,6 +82,7 @@ module _ {L : Type 0} (m : Machine L) {identifier' : L → List ℕ} (polled : A
   -- before a round
   pub record AtReset (round : ℕ) (a : World L) (es : List Event) : Type 0 where
     pub few : round ≤ most_rounds
+    pub sound : AreSound polled a.listeners
     pub same : map told_of (cards_of a) ≡ map told_of w
     pub noisy : AreNoisy (rounds es)
     pub count : length (rounds es) + 1 ≡ round
@@ -126,7 +128,7 @@ module _ {L : Type 0} (m : Machine L) {identifier' : L → List ℕ} (polled : A
       by_count true q =
           let k : _ × _ = all_noisy es now round c.here n in
           let l : round < most_rounds = less round q in
-          record { few = omega (arith, l); same = c.same; noisy = k.0; count = ap (λ i. i + 1) k.1 }
+          record { few = omega (arith, l); sound = fresh_sound m polled a.listeners c.fresh; same = c.same; noisy = k.0; count = ap (λ i. i + 1) k.1 }
       by_count false q = gave_up (gives_up es now round c.here n (last round q c.few))
 
   -- Nobody: all are found, or the end was missed
@@ -214,15 +216,15 @@ module _ {L : Type 0} (m : Machine L) {identifier' : L → List ℕ} (polled : A
         (let H : List Picked → Type 0 = λ t. Has z t in subst H (sym r.same) (has_crowd w z (subst H (sym c.known) (has_back z found c.rest h))))
         (λ f. unlike_apart found c.rest z (crowd_apart found c.rest c.known) f h))
 
-    room : (more : List Picked) → c.rest ≡ told_of k.picked ∷ more → nat_lt (length found) most_found ≡ true
-    room more e =
+    no_room : (more : List Picked) → c.rest ≡ told_of k.picked ∷ more → nat_lt (length found) most_found ≡ false → most_found < length w
+    no_room more e q =
         let n : length (crowd w) ≡ length found + length (told_of k.picked ∷ more) = ap length (c.known ∙ ap (λ t. found ++ t) e) ∙ length-append found (told_of k.picked ∷ more) in
         let l : length (crowd w) ≡ length w = crowd_length w in
-        let f : length w ≤ 256 = field.few in
-        less (length found) (omega (arith, n, l, f))
+        let f : most_found ≤ length found = full (length found) q in
+        omega (arith, n, l, f)
       where
-        less : (i : ℕ) → i < 256 → nat_lt i most_found ≡ true
-        less i h = grind arith
+        full : (i : ℕ) → nat_lt i most_found ≡ false → most_found ≤ i
+        full i h = grind arith
 
     sends : aim.takes (told_of k.picked) ≡ None → (Has (told_of k.picked) found → ⊥) → InSend round (found ++ told_of k.picked ∷ []) a es
     sends e new =
@@ -247,7 +249,7 @@ module _ {L : Type 0} (m : Machine L) {identifier' : L → List ℕ} (polled : A
         by_room : (Has (told_of k.picked) found → ⊥) → (v : Bool) → nat_lt (length found) most_found ≡ v
             → Holds (if v then Sends round (found ++ told_of k.picked ∷ []) else Told (Err faults.BadAnswer)) a es
         by_room new true q = sends e new
-        by_room new false q = let more : (more : List Picked) × (c.rest ≡ told_of k.picked ∷ more) = the_next new in wrong (sym q ∙ room more.0 more.1)
+        by_room new false q = let more : (more : List Picked) × (c.rest ≡ told_of k.picked ∷ more) = the_next new in too_many (no_room more.0 more.1 q)
 
         by_found : (v : Bool) → has_found found (told_of k.picked).id ≡ v
             → Holds (if v then next_round round else if nat_lt (length found) most_found then Sends round (found ++ told_of k.picked ∷ []) else Told (Err faults.BadAnswer)) a es

@@ -1,6 +1,6 @@
 -- Listeners of this project under polling: a reset wakes each, and until another frame than a call comes, each steps by its
 -- front alone (this project's own).
-use Rattle.std.specs.Prelude.{◌≡◌, ℕ, ◌≤◌, List, length, Bool, true, None}
+use Rattle.std.specs.Prelude.{◌≡◌, ℕ, List, Bool, true, None}
 use Rattle.nfc_base.specs.declared.frame.Tech.TheVariants.{A}
 use Rattle.nfc_base.specs.Signal.{Signal}
 use Rattle.air_core.specs.World.{Machine}
@@ -23,16 +23,21 @@ module _ {L : Type 0} (m : Machine L) (identifier : L → List ℕ) (kind : L �
     pub step : StepsByFront m identifier kind front l f
     pub fresh : is_fresh (m.after l f None) ≡ true
 
--- Each NFC-A listener is woken by a reset, and is fresh then: it has heard calls alone since.
+-- A reset wakes each NFC-A listener that is sound, and makes it fresh: it has heard calls alone since. A fresh one is sound.
 pub record ArePolled {L : Type 0} (m : Machine L) (identifier : L → List ℕ) : Type 0 where
   pub ours : AreOurs m identifier
+  pub sound : L → Bool
   pub fresh : L → Bool
   pub same_tech : (l : L) → m.tech (m.woken (m.darkened l)) ≡ m.tech l
-  pub wakes : (l : L) → m.tech l ≡ A → WakesIdle m identifier ours.kind ours.front fresh l
+  pub wakes : (l : L) → m.tech l ≡ A → sound l ≡ true → WakesIdle m identifier ours.kind ours.front fresh l
+  pub stays : (l : L) → m.tech l ≡ A → fresh l ≡ true → sound l ≡ true
   pub steps : (l : L) (f : Signal) (c : Call) → m.tech l ≡ A → fresh l ≡ true → call_of f ≡ Calls c → StepsFresh m identifier ours.kind ours.front fresh l f
 
--- the NFC-A devices of a field: at most 256, each with an identifier of its own
+-- each NFC-A listener of a field is sound
+abbrev pub AreSound : {L : Type 0} {m : Machine L} {identifier : L → List ℕ} → ArePolled m identifier → List L → Type 0
+AreSound {m = m} polled ls = Each (λ l. m.tech l ≡ A → polled.sound l ≡ true) ls
+
+-- the NFC-A devices of a field, each with an identifier of its own
 pub record IsField (w : List Card) : Type 0 where
-  pub few : length w ≤ 256
   pub idents : Each (λ c. IsIdent c.id) w
   pub distinct : AreDistinct w
