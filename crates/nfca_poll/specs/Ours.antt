@@ -11,7 +11,7 @@ module _ {U : Type 0} (m : UpperMachine U) where
   abbrev kind_of : Fronted U → Kind
   kind_of d = m.kind d.upper
 
-  steps_by : (front : Front) (id : List ℕ) (u : U) (f : Signal) → is_active front ≡ false
+  pub steps_by : (front : Front) (id : List ℕ) (u : U) (f : Signal) → is_active front ≡ false
       → StepsByFront (fronts m) (λ d. d.id) kind_of (λ d. d.front) (record { id = id; front = front; upper = u }) f
   steps_by Off id u f i = record { untouched = refl; says = refl; goes = refl; same_tech = refl; same_id = refl; same_kind = refl }
   steps_by Idle id u f i = record { untouched = refl; says = refl; goes = refl; same_tech = refl; same_id = refl; same_kind = refl }
@@ -19,5 +19,5 @@ module _ {U : Type 0} (m : UpperMachine U) where
   steps_by (Ready k starred) id u f i = record { untouched = refl; says = refl; goes = refl; same_tech = refl; same_id = refl; same_kind = refl }
   steps_by (Active starred) id u f i = absurd cc
 
-  pub fronts_are_ours : AreOurs (fronts m) (λ d. d.id)
+  unfoldable pub fronts_are_ours : AreOurs (fronts m) (λ d. d.id)
   fronts_are_ours = record { kind = kind_of; front = λ d. d.front; steps = λ d f t i. steps_by d.front d.id d.upper f i }
