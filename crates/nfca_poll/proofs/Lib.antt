@@ -8,6 +8,7 @@ pub mod Muting
 pub mod KnownPacks
 pub mod SeekSteps
 pub mod Enquiring
+pub mod EnquiryWalks
 pub mod Inventories
 pub mod Clashes
 pub mod Eaches
