@@ -9,6 +9,7 @@ pub mod KnownPacks
 pub mod SeekSteps
 pub mod Enquiring
 pub mod EnquiryWalks
+pub mod Embedding
 pub mod Inventories
 pub mod Clashes
 pub mod Eaches
