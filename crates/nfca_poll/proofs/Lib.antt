@@ -10,6 +10,7 @@ pub mod SeekSteps
 pub mod Enquiring
 pub mod EnquiryWalks
 pub mod Embedding
+pub mod RoundSteps
 pub mod Inventories
 pub mod Clashes
 pub mod Eaches
