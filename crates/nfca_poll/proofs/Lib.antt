@@ -11,6 +11,7 @@ pub mod Enquiring
 pub mod EnquiryWalks
 pub mod Embedding
 pub mod RoundSteps
+pub mod EnquiryEnds
 pub mod Inventories
 pub mod Clashes
 pub mod Eaches
