@@ -8,6 +8,10 @@ pub mod Muting
 pub mod KnownPacks
 pub mod SeekSteps
 pub mod Enquiring
+pub mod EnquiryWalks
+pub mod Embedding
+pub mod RoundSteps
+pub mod EnquiryEnds
 pub mod Inventories
 pub mod Clashes
 pub mod Eaches

@@ -1,6 +1,6 @@
 -- How polling by rounds ends over this project's listeners, whatever noise it meets (ISO/IEC 14443-3; the crowd's order,
 -- rounds and their number are this project's own).
-use Rattle.std.specs.Prelude.{◌≡◌, ◌≢◌, ◌⊎◌, ℕ, ◌<◌, List, [], ◌∷◌, ◌++◌, map, drop, length, Bool, true, false, if◌then◌else◌, Result, Ok, Err}
+use Rattle.std.specs.Prelude.{◌≡◌, ◌≢◌, ◌⊎◌, ℕ, ◌<◌, List, [], ◌∷◌, ◌++◌, map, drop, length, true, false, if◌then◌else◌, Result, Ok, Err}
 use Rattle.nfc_base.specs.declared.event.Event.{Event}
 use Rattle.air_core.specs.World.{Machine}
 use Rattle.air_core.specs.Turn.{Air}
