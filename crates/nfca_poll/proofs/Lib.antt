@@ -9,6 +9,7 @@ pub mod KnownPacks
 pub mod SeekSteps
 pub mod Enquiring
 pub mod EnquiryWalks
+pub mod EnquiryLaws
 pub mod Embedding
 pub mod RoundSteps
 pub mod EnquiryEnds
@@ -30,7 +31,6 @@ pub mod NoisyTurns
 pub mod ThroughNoise
 pub mod Causes
 pub mod Steady
-pub mod EnquiryLaws
 pub mod PolledTurns
 pub mod RoundParts
 pub mod CrowdOrder
