@@ -43,7 +43,7 @@ pub data Leads : List Card → Type 0 where
   none : (w : List Card) → Each Sleeps w → Leads w
   some : (a : List Card) (m : Card) (b : List Card) → IsFirst a m b → Leads (a ++ m ∷ b)
 
-idle_is : (f : Front) → is_idle f ≡ true → f ≡ Idle
+pub idle_is : (f : Front) → is_idle f ≡ true → f ≡ Idle
 idle_is Off h = wrong h
 idle_is Idle h = refl
 idle_is Sleep h = wrong h

@@ -123,7 +123,7 @@ module _ {L : Type 0} (m : Machine L) where
     pub heard_by_it : (l : L) → m.tech l ≡ A → same_tech (m.tech l) f.tech ≡ true
     heard_by_it l t = ap (λ u. same_tech u f.tech) t ∙ ap (same_tech A) request
 
-    not_heard : (l : L) → m.tech l ≡ V → same_tech (m.tech l) f.tech ≡ false
+    pub not_heard : (l : L) → m.tech l ≡ V → same_tech (m.tech l) f.tech ≡ false
     not_heard l t = ap (λ u. same_tech u f.tech) t ∙ ap (same_tech V) request
 
     -- one that steps by its front's table

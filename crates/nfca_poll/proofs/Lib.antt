@@ -28,8 +28,13 @@ pub mod NobodyIdle
 pub mod FewAsked
 pub mod LostField
 pub mod NoisyTurns
+pub mod Moves
 pub mod ThroughNoise
 pub mod Causes
+pub mod Twins
+pub mod FromAny
+pub mod AnyTurns
+pub mod Unlinked
 pub mod Steady
 pub mod PolledTurns
 pub mod RoundParts

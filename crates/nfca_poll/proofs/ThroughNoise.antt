@@ -216,7 +216,7 @@ module _ {L : Type 0} (m : Machine L) (identifier' : L → List ℕ) where
   pub holds_start : (old : Air L) → Holds old old (Calling 0)
   holds_start old ours a c b e F = inl (e, omega arith)
 
-  noise_so_far : (old now new : Air L) (s : Seek) (f : Signal) (h : Heard) → Reached resolution m old now s → TurnsTo (mute_air m) (moment now) (moment new) f (Some h)
+  pub noise_so_far : (old now new : Air L) (s : Seek) (f : Signal) (h : Heard) → Reached resolution m old now s → TurnsTo (mute_air m) (moment now) (moment new) f (Some h)
       → noise (drop (length old.trace) now.trace) + noise (events_of m now f) ≡ noise (drop (length old.trace) new.trace)
   noise_so_far old now new s f h r t =
       let M : Moment (World L) → List Event = λ x. x.trace in

@@ -202,6 +202,20 @@ fn bit_by_bit(rt: HostRuntime) -> Result<(), Fail> {
 }
 
 #[test]
+fn picked_in_turn_where_no_reset_is_between(rt: HostRuntime) -> Result<(), Fail> {
+    let ids: [&[u8]; 2] = [&[1, 2, 3, 4], &[3, 2, 3, 4]];
+    let mut field = field_of(rt.alloc(), &ids, &[])?;
+    for id in [ids[1], ids[0], ids[1]] {
+        let picked = Picked {
+            id: Ident::new(id)?,
+            kind: Kind::T4,
+        };
+        assert_eq!(rt; resolve(&mut field), Ok(picked));
+    }
+    Ok(())
+}
+
+#[test]
 fn equal_levels_are_heard_as_one(rt: HostRuntime) -> Result<(), Fail> {
     let id: &[u8] = &[0x04, 0x62, 0x26, 0x11, 0x80, 0x1D, 0x80, 1, 2, 3];
     let mut field = field_of(rt.alloc(), &[id, id], &[])?;
