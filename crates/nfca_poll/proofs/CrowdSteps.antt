@@ -19,14 +19,15 @@ use Rattle.nfca_poll.specs.Muted.{muted, mute_air}
 use Rattle.nfca_poll.specs.Counting.{is_sens_req}
 use Rattle.nfca_poll.specs.Crowd.{Card, Each, with_front, cards}
 use Rattle.nfca_poll.specs.Rounds.{Aim, Search, Begins, Seeks, Sends, Told, sought, search_step, search_lit, search_next, searching}
-use Rattle.nfca_poll.specs.Polled.{ArePolled, IsField}
+use Rattle.nfca_poll.specs.AnyStart.{AreUnlinked, HaveOwnIdents}
+use Rattle.nfca_poll.specs.Polled.{ArePolled}
 use Rattle.nfca_poll.specs.RoundEnds.{told_of, crowd}
 use Rattle.nfca_poll.proofs.Eaches.{map_twice}
 use Rattle.nfca_poll.proofs.Crowding.{noise-append}
 use Rattle.nfca_poll.proofs.NoisyTurns as turns
 use Rattle.nfca_poll.proofs.NoisyTurns.{TurnWas, passed, unheard, damaged, lost, by_fates}
 use Rattle.nfca_poll.proofs.EnquiryLaws.{Keeps}
-use Rattle.nfca_poll.proofs.PolledTurns.{AllFresh, reset_cards, reset_fresh, call_turn}
+use Rattle.nfca_poll.proofs.PolledTurns.{reset_cards, reset_unlinked, call_turn}
 use Rattle.nfca_poll.proofs.RoundParts.{no_reset-append, turn_whole, turn_fresh, calls, calls-append, noisy_count, count-append, sens_turn, counted_turn}
 use Rattle.nfca_poll.proofs.Standing.{Stands}
 use Rattle.nfca_poll.proofs.SoughtFrom.{Plays, SoughtFrom, none, sens_step, sdd_step, sel_step, sdd_is_read, sel_is_read}
@@ -55,7 +56,7 @@ was_small r v _ _ _ unheard = refl
 was_small r v _ _ _ (damaged g h) = refl
 was_small r v _ _ _ (lost g h) = refl
 
-module _ {L : Type 0} (m : Machine L) {identifier' : L → List ℕ} (polled : ArePolled m identifier') {X : Type 0} (aim : Aim X) (w : List Card) (field : IsField w) where
+module _ {L : Type 0} (m : Machine L) {identifier' : L → List ℕ} (polled : ArePolled m identifier') {X : Type 0} (aim : Aim X) (w : List Card) (field : HaveOwnIdents w) where
   abbrev At : Search X → World L → List Event → Type 0
   At s a es = Holds m polled aim w field s a es
 
@@ -66,7 +67,7 @@ module _ {L : Type 0} (m : Machine L) {identifier' : L → List ℕ} (polled : A
   lit : (round : ℕ) (a : World L) (es : List Event) → AtReset m polled aim w field round a es → InSeek m polled aim w field round [] (Calling 0) (reset_by (muted m) a) (es ++ Reset ∷ [])
   lit round a es r =
       let b : World L = reset_by (muted m) a in
-      let idle : of b ≡ map (λ c. with_front c Idle) (of a) = reset_cards m polled a.listeners r.sound in
+      let idle : of b ≡ map (λ c. with_front c Idle) (of a) = reset_cards m polled a.listeners r.tidy in
       let same : map told_of (of b) ≡ map told_of w = ap (map told_of) idle ∙ map_twice told_of (λ c. with_front c Idle) (of a) ∙ r.same in
       let F : List Card → Type 0 = λ t. Each (FitsRound false 0 []) t in
       record {
@@ -74,7 +75,7 @@ module _ {L : Type 0} (m : Machine L) {identifier' : L → List ℕ} (polled : A
         common = record {
           few = r.few;
           here = record { before = es; made = refl; whole = tt; noisy = r.noisy; count = r.count };
-          fresh = reset_fresh m polled a.listeners r.sound;
+          unlinked = reset_unlinked m polled a.listeners r.tidy;
           same = same;
           rest = crowd w;
           known = refl;
@@ -106,7 +107,7 @@ module _ {L : Type 0} (m : Machine L) {identifier' : L → List ℕ} (polled : A
     more_noise : (now : List Event) → noise now + noise te ≡ noise (now ++ te)
     more_noise now = sym (noise-append now te)
 
-    rounds_turn : (round : ℕ) (found : List Picked) (now : List Event) → Rounds m polled aim w field round found now a es → map told_of (of b) ≡ map told_of (of a) → AllFresh m polled b.listeners
+    rounds_turn : (round : ℕ) (found : List Picked) (now : List Event) → Rounds m polled aim w field round found now a es → map told_of (of b) ≡ map told_of (of a) → AreUnlinked m polled.unlinked b.listeners
         → Rounds m polled aim w field round found (now ++ te) b (es ++ te)
     rounds_turn round found now c same fresh = record {
       few = c.few;
@@ -117,7 +118,7 @@ module _ {L : Type 0} (m : Machine L) {identifier' : L → List ℕ} (polled : A
         noisy = c.here.noisy;
         count = c.here.count;
       };
-      fresh = fresh;
+      unlinked = fresh;
       same = same ∙ c.same;
       rest = c.rest;
       known = c.known;
@@ -139,7 +140,7 @@ module _ {L : Type 0} (m : Machine L) {identifier' : L → List ℕ} (polled : A
         }
 
     -- what the cards see of it
-    was : (c : Call) → f.tech ≡ A → call_of f ≡ Calls c → AllFresh m polled a.listeners → TurnWas (Calls c) (of a) (of b) h (noise te) × AllFresh m polled b.listeners
+    was : (c : Call) → f.tech ≡ A → call_of f ≡ Calls c → AreUnlinked m polled.unlinked a.listeners → TurnWas (Calls c) (of a) (of b) h (noise te) × AreUnlinked m polled.unlinked b.listeners
     was c tech call fresh =
         let t = call_turn m polled f tech c call a b h (noise te) fresh (by_fates m a f x y h heard) in
         let W : Reading → Type 0 = λ r. TurnWas r (of a) (of b) h (noise te) in
@@ -149,7 +150,7 @@ module _ {L : Type 0} (m : Machine L) {identifier' : L → List ℕ} (polled : A
         → (TurnWas (Calls c) (of a) (of b) h (noise te) → SoughtFrom k.start (seek_step s h) (of b) (k.ts ++ calls te) (noise k.now + noise te))
         → At (sought aim round found (seek_step s h)) b (es ++ te)
     seek_turn round found s c tech call k step =
-        let t = was c tech call k.common.fresh in
+        let t = was c tech call k.common.unlinked in
         let N : ℕ → Type 0 = λ n. SoughtFrom k.start (seek_step s h) (of b) (k.ts ++ calls te) n in
         lands m polled aim w field (seek_step s h) round found (k.now ++ te) b (es ++ te) k.start (k.ts ++ calls te)
         (rounds_turn round found k.now k.common (told_turn (Calls c) (of a) (of b) h (noise te) t.0) t.1)
@@ -183,7 +184,7 @@ module _ {L : Type 0} (m : Machine L) {identifier' : L → List ℕ} (polled : A
     -- SLP_REQ, and the next resolution begins
     sends : (round : ℕ) (found : List Picked) → InSend m polled aim w field round found a es → call_frame Slp ≡ f → InSeek m polled aim w field round found (Calling 0) b (es ++ te)
     sends round found k e =
-        let t = was Slp (ap (λ (g : Signal). g.tech) (sym e)) (ap call_of (sym e)) k.common.fresh in
+        let t = was Slp (ap (λ (g : Signal). g.tech) (sym e)) (ap call_of (sym e)) k.common.unlinked in
         let c : Rounds m polled aim w field round found (k.now ++ te) b (es ++ te) = rounds_turn round found k.now k.common (told_turn (Calls Slp) (of a) (of b) h (noise te) t.0) t.1 in
         let N : ℕ → Type 0 = λ n. Each (FitsRound false n found) (of b) in
         record {

@@ -12,8 +12,9 @@ use Rattle.nfca_poll.specs.Enquiry.{Enquires, or_memory}
 use Rattle.nfca_poll.specs.Crowd.{Card, Each, cards}
 use Rattle.nfca_poll.specs.Rounds.{is_same, Aim, Search, Begins, Seeks, Sends, Told, search_ended, searching, all_devices, device_of, finding, picking}
 use Rattle.nfca_poll.specs.RoundTrace.{Misses}
-use Rattle.nfca_poll.specs.Polled.{ArePolled, AreSound, IsField}
-use Rattle.nfca_poll.specs.RoundEnds.{told_of, crowd, FindEnds, LeavesActive, PickEnds, FindsCrowd, PicksAlone}
+use Rattle.nfca_poll.specs.AnyStart.{AreUnlinked, HaveOwnIdents}
+use Rattle.nfca_poll.specs.Polled.{ArePolled, AreTidy}
+use Rattle.nfca_poll.specs.RoundEnds.{told_of, crowd, FindEnds, LeavesActive, PickEnds, FindsCrowd, SelectsAlone}
 use Rattle.nfca_poll.proofs.Clashes.{wrong_back, Has}
 use Rattle.nfca_poll.proofs.Eaches.{each_has}
 use Rattle.nfca_poll.proofs.HeardBits.{pointwise_same, pointwise_path}
@@ -68,51 +69,51 @@ module _ (id : List ℕ) where
 
 module _ {L : Type 0} (m : Machine L) {identifier' : L → List ℕ} (polled : ArePolled m identifier') where
   -- how a call by rounds ends, by its trace
-  whole : {X : Type 0} (aim : Aim X) (old new : Air L) (r : Result X PollFault) → Enquires (searching aim) m old r new → AreSound polled old.listeners → (field : IsField (cards polled.ours old.listeners))
+  whole : {X : Type 0} (aim : Aim X) (old new : Air L) (r : Result X PollFault) → Enquires (searching aim) m old r new → AreTidy polled old.listeners → (field : HaveOwnIdents (cards polled.ours old.listeners))
       → (e : List Event) × Ending (searching aim) (mute_air m) (Holds m polled aim (cards polled.ours old.listeners) field) (moment new).world e r × (drop (length old.trace) new.trace ≡ e)
-  whole aim old new r q sound field =
+  whole aim old new r q tidy field =
       let w : List Card = cards polled.ours old.listeners in
       let M : Moment (World L) → List Event = λ x. x.trace in (
         q.going.events,
         ending (searching aim) (mute_air m) (Holds m polled aim w field) (keeps m polled aim w field) (moment old) (moment new) q.notes r
-            (record { few = omega arith; sound = sound; same = refl; noisy = tt; count = refl }) q.going q.comes,
+            (record { few = omega arith; tidy = tidy; same = refl; noisy = tt; count = refl }) q.going q.comes,
         ap (drop (length old.trace)) (ap M q.going.moment) ∙ drop-front old.trace q.going.events,
       )
 
-  found_by : (field' : List Card) (field : IsField field') (s : Search (List Picked)) (a : World L) (es : List Event) → Holds m polled all_devices field' field s a es
+  found_by : (field' : List Card) (field : HaveOwnIdents field') (s : Search (List Picked)) (a : World L) (es : List Event) → Holds m polled all_devices field' field s a es
       → FindEnds field' (or_memory (search_ended all_devices s)) es
   found_by w field (Begins round) a es k = tt
   found_by w field (Seeks round found s) a es k = tt
   found_by w field (Sends round found) a es k = tt
   found_by w field (Told r) a es k = find_ends w (cards polled.ours a.listeners) es r k
 
-  picked_by : (id : List ℕ) (field' : List Card) (field : IsField field') (s : Search Kind) (a : World L) (es : List Event) → Holds m polled (device_of id) field' field s a es
+  picked_by : (id : List ℕ) (field' : List Card) (field : HaveOwnIdents field') (s : Search Kind) (a : World L) (es : List Event) → Holds m polled (device_of id) field' field s a es
       → PickEnds id field' (or_memory (search_ended (device_of id) s)) (cards polled.ours a.listeners) es
   picked_by id w field (Begins round) a es k = tt
   picked_by id w field (Seeks round found s) a es k = tt
   picked_by id w field (Sends round found) a es k = tt
   picked_by id w field (Told r) a es k = pick_ends id w (cards polled.ours a.listeners) es r k
 
-  find_ending : (w : List Card) (field : IsField w) (a : World L) (es : List Event) (r : Result (List Picked) PollFault)
+  find_ending : (w : List Card) (field : HaveOwnIdents w) (a : World L) (es : List Event) (r : Result (List Picked) PollFault)
       → Ending finding (mute_air m) (Holds m polled all_devices w field) a es r → FindEnds w r es
   find_ending w field a es _ (comes s k) = found_by w field s a es k
   find_ending w field a es _ loses = tt
 
-  pick_ending : (id : List ℕ) (w : List Card) (field : IsField w) (a : World L) (es : List Event) (r : Result Kind PollFault)
+  pick_ending : (id : List ℕ) (w : List Card) (field : HaveOwnIdents w) (a : World L) (es : List Event) (r : Result Kind PollFault)
       → Ending (picking id) (mute_air m) (Holds m polled (device_of id) w field) a es r → PickEnds id w r (cards polled.ours a.listeners) es
   pick_ending id w field a es _ (comes s k) = picked_by id w field s a es k
   pick_ending id w field a es _ loses = tt
 
 -- A call that asks so finds the crowd.
 pub finds_crowd : {L : Type 0} (m : Machine L) (identifier' : L → List ℕ) (old new : Air L) (r : Result (List Picked) PollFault) → Enquires finding m old r new → FindsCrowd m identifier' old r new
-finds_crowd m identifier' old new r q polled sound field =
-    let k = whole m polled all_devices old new r q sound field in
+finds_crowd m identifier' old new r q polled tidy field =
+    let k = whole m polled all_devices old new r q tidy field in
     let P : List Event → Type 0 = λ es. FindEnds (cards polled.ours old.listeners) r es in
     subst P (sym k.2) (find_ending m polled (cards polled.ours old.listeners) field (moment new).world k.0 r k.1)
 
 -- And one that asks for one device leaves it active alone.
-pub picks_alone : {L : Type 0} (m : Machine L) (identifier' : L → List ℕ) (id : List ℕ) (old new : Air L) (r : Result Kind PollFault) → Enquires (picking id) m old r new → PicksAlone m identifier' id old r new
-picks_alone m identifier' id old new r q polled sound field =
-    let k = whole m polled (device_of id) old new r q sound field in
+pub selects_alone : {L : Type 0} (m : Machine L) (identifier' : L → List ℕ) (id : List ℕ) (old new : Air L) (r : Result Kind PollFault) → Enquires (picking id) m old r new → SelectsAlone m identifier' id old r new
+selects_alone m identifier' id old new r q polled tidy field =
+    let k = whole m polled (device_of id) old new r q tidy field in
     let P : List Event → Type 0 = λ es. PickEnds id (cards polled.ours old.listeners) r (cards polled.ours new.listeners) es in
     subst P (sym k.2) (pick_ending m polled id (cards polled.ours old.listeners) field (moment new).world k.0 r k.1)

@@ -15,13 +15,14 @@ use Rattle.nfca_poll.specs.Poll.{Seek, Calling, Asking, Selecting, Ended, Outcom
 use Rattle.nfca_poll.specs.Crowd.{Card, Each, is_idle, is_rest, AreDistinct, cards}
 use Rattle.nfca_poll.specs.Rounds.{most_rounds, most_found, Aim, Search, Begins, Seeks, Sends, Told, next_round, has_found, met, met_or_taken, sought}
 use Rattle.nfca_poll.specs.RoundTrace.{rounds, is_noisy, last_four, AreNoisy, MissesEnd, Misses, GivesUp}
-use Rattle.nfca_poll.specs.Polled.{ArePolled, AreSound, IsField}
+use Rattle.nfca_poll.specs.AnyStart.{AreUnlinked, HaveOwnIdents}
+use Rattle.nfca_poll.specs.Polled.{ArePolled, AreTidy}
 use Rattle.nfca_poll.specs.RoundEnds.{told_of, crowd, LeavesActive}
 use Rattle.nfca_poll.specs.RoundEnds as ends
 use Rattle.nfca_poll.proofs.Clashes.{wrong, Has}
 use Rattle.nfca_poll.proofs.Eaches.{each_has, has_middle}
 use Rattle.nfca_poll.proofs.Selects.{identifier_of}
-use Rattle.nfca_poll.proofs.PolledTurns.{AllFresh, fresh_sound}
+use Rattle.nfca_poll.proofs.PolledTurns.{unlinked_tidy}
 use Rattle.nfca_poll.proofs.RoundParts.{InRound, all_noisy, misses, gives_up, calls, noisy_count, last_are}
 use Rattle.nfca_poll.proofs.CrowdOrder.{each_of, mapped_each, each_unmapped, has_mapped, mapped_has, has_front, has_back, IsSorted, AllUnlike, unlike_apart, same_by_id, crowd_sorted, crowd_length, crowd_has, has_crowd, crowd_unlike, unlike_cards, cards_unlike, next_is, found_has, has_found_is}
 use Rattle.nfca_poll.proofs.SoughtFrom.{Plays, NoneIdle, EndsWith, SoughtFrom}
@@ -50,7 +51,7 @@ each_both P (x ∷ a) b p q = (p.0, each_both P a b p.1 q)
 each_snoc : {X : Type 0} (P : X → Type 0) (a : List X) (x : X) → Each P a → P x → Each P (a ++ x ∷ [])
 each_snoc P a x p q = each_both P a (x ∷ []) p (q, tt)
 
-module _ {L : Type 0} (m : Machine L) {identifier' : L → List ℕ} (polled : ArePolled m identifier') {X : Type 0} (aim : Aim X) (w : List Card) (field : IsField w) where
+module _ {L : Type 0} (m : Machine L) {identifier' : L → List ℕ} (polled : ArePolled m identifier') {X : Type 0} (aim : Aim X) (w : List Card) (field : HaveOwnIdents w) where
   abbrev pub cards_of : World L → List Card
   cards_of a = cards polled.ours a.listeners
 
@@ -58,7 +59,7 @@ module _ {L : Type 0} (m : Machine L) {identifier' : L → List ℕ} (polled : A
   pub record Rounds (round : ℕ) (found : List Picked) (now : List Event) (a : World L) (es : List Event) : Type 0 where
     pub few : round ≤ most_rounds
     pub here : InRound es round now
-    pub fresh : AllFresh m polled a.listeners
+    pub unlinked : AreUnlinked m polled.unlinked a.listeners
     pub same : map told_of (cards_of a) ≡ map told_of w
     pub rest : List Picked
     pub known : crowd w ≡ found ++ rest
@@ -82,7 +83,7 @@ module _ {L : Type 0} (m : Machine L) {identifier' : L → List ℕ} (polled : A
   -- before a round
   pub record AtReset (round : ℕ) (a : World L) (es : List Event) : Type 0 where
     pub few : round ≤ most_rounds
-    pub sound : AreSound polled a.listeners
+    pub tidy : AreTidy polled a.listeners
     pub same : map told_of (cards_of a) ≡ map told_of w
     pub noisy : AreNoisy (rounds es)
     pub count : length (rounds es) + 1 ≡ round
@@ -128,7 +129,7 @@ module _ {L : Type 0} (m : Machine L) {identifier' : L → List ℕ} (polled : A
       by_count true q =
           let k : _ × _ = all_noisy es now round c.here n in
           let l : round < most_rounds = less round q in
-          record { few = omega (arith, l); sound = fresh_sound m polled a.listeners c.fresh; same = c.same; noisy = k.0; count = ap (λ i. i + 1) k.1 }
+          record { few = omega (arith, l); tidy = unlinked_tidy m polled a.listeners c.unlinked; same = c.same; noisy = k.0; count = ap (λ i. i + 1) k.1 }
       by_count false q = gave_up (gives_up es now round c.here n (last round q c.few))
 
   -- Nobody: all are found, or the end was missed
@@ -234,7 +235,7 @@ module _ {L : Type 0} (m : Machine L) {identifier' : L → List ℕ} (polled : A
           common = record {
             few = c.few;
             here = c.here;
-            fresh = c.fresh;
+            unlinked = c.unlinked;
             same = c.same;
             rest = more.0;
             known = c.known ∙ ap (λ t. found ++ t) more.1 ∙ sym (append_assoc found (told_of k.picked ∷ []) more.0);

@@ -11,7 +11,8 @@ use Rattle.nfca_poll.specs.declared.fault.PollFault.TheVariants.{Nobody, Disturb
 use Rattle.nfca_poll.specs.Front.{Active}
 use Rattle.nfca_poll.specs.Crowd.{Each, Card, crowd_bits, ahead, is_rest, cards}
 use Rattle.nfca_poll.specs.Rounds.{most_found}
-use Rattle.nfca_poll.specs.Polled.{ArePolled, AreSound, IsField}
+use Rattle.nfca_poll.specs.AnyStart.{HaveOwnIdents}
+use Rattle.nfca_poll.specs.Polled.{ArePolled, AreTidy}
 use Rattle.nfca_poll.specs.RoundTrace.{Misses, GivesUp}
 
 -- what a reader can tell of a device
@@ -64,11 +65,11 @@ module _ {L : Type 0} (m : Machine L) (identifier : L → List ℕ) where
   -- a call that finds all devices of a field
   abbrev pub FindsCrowd : Air L → Result (List Picked) PollFault → Air L → Type 0
   FindsCrowd old r new =
-      (polled : ArePolled m identifier) → AreSound polled old.listeners → IsField (cards polled.ours old.listeners)
+      (polled : ArePolled m identifier) → AreTidy polled old.listeners → HaveOwnIdents (cards polled.ours old.listeners)
       → FindEnds (cards polled.ours old.listeners) r (drop (length old.trace) new.trace)
 
   -- a call that selects one device of a field
-  abbrev pub PicksAlone : List ℕ → Air L → Result Kind PollFault → Air L → Type 0
-  PicksAlone id old r new =
-      (polled : ArePolled m identifier) → AreSound polled old.listeners → IsField (cards polled.ours old.listeners)
+  abbrev pub SelectsAlone : List ℕ → Air L → Result Kind PollFault → Air L → Type 0
+  SelectsAlone id old r new =
+      (polled : ArePolled m identifier) → AreTidy polled old.listeners → HaveOwnIdents (cards polled.ours old.listeners)
       → PickEnds id (cards polled.ours old.listeners) r (cards polled.ours new.listeners) (drop (length old.trace) new.trace)
