@@ -19,13 +19,13 @@ use Rattle.nfca_poll.proofs.Enquiring.{Reached, enquires_end, enquires_so}
 use Rattle.nfca_poll.proofs.Embedding.{Embeds, Arrives, reached_then}
 
 -- nothing is due
-over_no_demand : (n : Next) → Over ≡ n → IsDemand n → ⊥
+pub over_no_demand : (n : Next) → Over ≡ n → IsDemand n → ⊥
 over_no_demand n q d = subst IsDemand (sym q) d
 
-over_no_light : Over ≡ LightUp → ⊥
+pub over_no_light : Over ≡ LightUp → ⊥
 over_no_light q = cc
 
-over_no_ask : (f : Signal) → Over ≡ Asks f → ⊥
+pub over_no_ask : (f : Signal) → Over ≡ Asks f → ⊥
 over_no_ask f q = cc
 
 abbrev device_in : Picked → Result Picked PollFault → Picked
