@@ -8,9 +8,9 @@ use Rattle.nfc_base.specs.declared.event.Fate.{Fate}
 use Rattle.nfc_base.specs.declared.event.Fate.TheVariants.{Pass, Damage, Lose, Break}
 use Rattle.nfc_base.specs.declared.event.Heard.{Heard}
 use Rattle.air_core.specs.Joint.{Joint, Nothing, Single, Clashing}
-use Rattle.air_core.specs.World.{Machine, World}
+use Rattle.air_core.specs.World.{Machine}
 use Rattle.air_core.specs.Turn.{Air, moment}
-use Rattle.air_core.specs.Conversation.{AirModel, Note, note, Next, Over, LightUp, Asks, joint_events, replay, turn_events, turn_heard}
+use Rattle.air_core.specs.Conversation.{AirModel, note, Over, LightUp, Asks, joint_events, replay, turn_events, turn_heard}
 use Rattle.nfca_poll.specs.declared.kind.Kind.{Kind}
 use Rattle.nfca_poll.specs.declared.fault.Picked.{Picked}
 use Rattle.nfca_poll.specs.declared.fault.PollFault.{PollFault}
@@ -20,8 +20,8 @@ use Rattle.nfca_poll.specs.Levels.{identifier}
 use Rattle.nfca_poll.specs.Poll.{Seek, Calling, Asking, Selecting, Ended, Nobody, Disturbed, BadAnswer, Found, seek_step, seek_next}
 use Rattle.nfca_poll.specs.Muted.{mute_air}
 use Rattle.nfca_poll.specs.Enquiry.{Progress, Reaches, Loses, progress, or_memory, Enquires}
-use Rattle.nfca_poll.specs.Rounds.{Aim, finding, picking, all_devices, device_of, LeavesLit, Search, Begins, Seeks, Sends, Told, next_round, has_found, most_found, most_rounds, met, met_or_taken, sought, searching, search_next, search_lit, search_step, search_ended}
-use Rattle.nfca_poll.specs.RoundTrace.{up_to_reset, rounds}
+use Rattle.nfca_poll.specs.Rounds.{Aim, finding, picking, all_devices, device_of, LeavesLit, Search, Begins, Seeks, Sends, Told, next_round, has_found, most_found, most_rounds, met_or_taken, sought, searching, search_next, search_lit, search_step, search_ended}
+use Rattle.nfca_poll.specs.RoundTrace.{rounds}
 use Rattle.nfca_poll.proofs.EnquiryWalks.{after, holds}
 use Rattle.nfca_poll.proofs.EnquiryEnds.{Ends, ends, events_gained, leaves_lit}
 

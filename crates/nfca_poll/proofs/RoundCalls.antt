@@ -4,7 +4,7 @@ use Rattle.nfc_base.specs.Signal.{Signal}
 use Rattle.nfc_base.specs.declared.event.Heard.{Heard}
 use Rattle.air_core.specs.World.{Machine}
 use Rattle.air_core.specs.Turn.{Air}
-use Rattle.air_core.specs.Conversation.{Next, Over, LightUp, Asks, IsDemand}
+use Rattle.air_core.specs.Conversation.{Next, LightUp, Asks, IsDemand}
 use Rattle.nfca_poll.specs.declared.kind.Kind.{Kind}
 use Rattle.nfca_poll.specs.declared.fault.Picked.{Picked}
 use Rattle.nfca_poll.specs.declared.fault.PollFault.{PollFault}
@@ -16,8 +16,8 @@ use Rattle.nfca_poll.specs.Poll.{Seek, Calling, Asking, Selecting, Ended, Nobody
 use Rattle.nfca_poll.specs.Enquiry.{Progress, Reaches, Loses, or_memory, Enquires}
 use Rattle.nfca_poll.specs.Rounds as calls
 use Rattle.nfca_poll.specs.Rounds.{Aim, Search, Told, next_round, has_found, most_found, most_rounds, met_or_taken, sought, searching, search_next, search_lit, search_step, search_ended}
-use Rattle.nfca_poll.specs.OneRound.{Round, Begins, Seeks, Sends, Comes, is_wanted, joined, met_in, sought_in, one_round, round_next, round_lit, round_step, round_ended}
-use Rattle.nfca_poll.proofs.Enquiring.{Reached, reached_start, enquires_end, enquires_so}
+use Rattle.nfca_poll.specs.OneRound.{Round, Begins, Seeks, Sends, Comes, is_wanted, joined, sought_in, one_round, round_next, round_lit, round_step, round_ended}
+use Rattle.nfca_poll.proofs.Enquiring.{Reached, enquires_so}
 use Rattle.nfca_poll.proofs.EnquiryEnds.{Ends, ends as ends_so}
 use Rattle.nfca_poll.proofs.Embedding.{Embeds, Arrives, reached_then}
 use Rattle.nfca_poll.proofs.RoundSteps.{over_no_demand, over_no_light, over_no_ask}

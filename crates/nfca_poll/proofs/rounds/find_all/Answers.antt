@@ -7,7 +7,7 @@ use Rattle.nfca_poll.specs.declared.rounds.RoundEnd.{RoundEnd}
 use Rattle.nfca_poll.specs.declared.rounds.RoundEnd.TheVariants as ends
 use Rattle.nfca_poll.specs.Enquiry.{Enquires}
 use Rattle.nfca_poll.specs.OneRound.{one_round}
-use Rattle.nfca_poll.specs.Rounds.{Search, Begins, Told, all_devices, finding, next_round, listed}
+use Rattle.nfca_poll.specs.Rounds.{Search, Told, all_devices, finding, next_round, listed}
 use Rattle.nfca_poll.proofs.Enquiring.{Reached, reached_start, enquires_end}
 use Rattle.nfca_poll.proofs.RoundCalls.{round_begins, round_came, round_failed, given_up}
 use Rattle.nfca_poll.proofs.CallEnds.{find_lit, find_lost, find_rounds, find_other}
