@@ -121,7 +121,8 @@ module _ {T Y S X : Type 0} (i : Enquiry T Y) (e : Enquiry S X) (into : T → S)
         } in
         let whole : Going (mute_air m) (enquiring e) (moment old) (moment new) (k.notes ++ q.notes) =
         going_then (mute_air m) (enquiring e) (enquiring e) outer (moment old) (moment mid) (moment new) k.notes q.notes (λ ns n due d. due)
-        (λ ns. ap (due_of e) (progress_then e e.start k.notes ns ∙ ap (λ p. progress_on e p ns) k.at)) k.going part in
-        (progress i i.start q.notes,
-        arrives old mid new r (progress i i.start q.notes) k.notes q.notes whole k.at
-        (ap (progress e (into i.start)) (sym q.going.known) ∙ s.at) q.comes)
+        (λ ns. ap (due_of e) (progress_then e e.start k.notes ns ∙ ap (λ p. progress_on e p ns) k.at)) k.going part in (
+          progress i i.start q.notes,
+          arrives old mid new r (progress i i.start q.notes) k.notes q.notes whole k.at
+              (ap (progress e (into i.start)) (sym q.going.known) ∙ s.at) q.comes,
+        )

@@ -1,5 +1,5 @@
 -- How an enquiry leaves the field, and how it ends: by what it keeps, or by a Break.
-use Rattle.std.proofs.Common.{◌≡◌, ◌⊎◌, inl, inr, ◌+◌, ◌<◌, List, [], ◌∷◌, ◌++◌, length, drop, true, Option, Some, None, Result, Ok, Err, refl, sym, ◌∙◌, ap, subst, arith}
+use Rattle.std.proofs.Common.{◌≡◌, ◌⊎◌, inl, inr, ◌<◌, List, [], ◌∷◌, ◌++◌, length, drop, true, Option, Some, None, Result, Ok, Err, refl, sym, ◌∙◌, ap, subst, arith}
 use Rattle.nfc_base.specs.Signal.{Signal}
 use Rattle.nfc_base.specs.Trace.{breaks}
 use Rattle.nfc_base.specs.declared.event.Event.{Event}
@@ -8,7 +8,7 @@ use Rattle.nfc_base.specs.declared.event.Fate.{Fate}
 use Rattle.nfc_base.specs.declared.event.Heard.{Heard}
 use Rattle.air_core.specs.World.{Machine, World}
 use Rattle.air_core.specs.Turn.{Air, moment}
-use Rattle.air_core.specs.Conversation.{Note, note, LightUp, Asks, replay, turn_events, turn_heard, Moment}
+use Rattle.air_core.specs.Conversation.{note, LightUp, Asks, replay, turn_events, turn_heard, Moment}
 use Rattle.air_core.proofs.Turns.{replay-append}
 use Rattle.nfca_poll.specs.declared.fault.PollFault.{PollFault}
 use Rattle.nfca_poll.specs.declared.fault.PollFault.TheVariants.{Nobody, Disturbed, FieldLost, Memory, NotFound, BadAnswer}

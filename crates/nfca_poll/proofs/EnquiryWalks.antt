@@ -91,7 +91,7 @@ module _ {S X : Type 0} (e : Enquiry S X) where
       (begins : P (Reaches e.start) [])
       (resets : (s : S) (es : List Event) → P (Reaches s) es → e.next s ≡ LightUp → P (Reaches (e.light s)) (es ++ Reset ∷ []))
       (asks : (s : S) (es : List Event) (f : Signal) (x y : Fate) → P (Reaches s) es → e.next s ≡ Asks f → m.lit (replay m w es) ≡ true
-          → P (after (Reaches s) (note (turn_heard m (replay m w es) f x y))) (es ++ turn_events m (replay m w es) f x y)) where
+      → P (after (Reaches s) (note (turn_heard m (replay m w es) f x y))) (es ++ turn_events m (replay m w es) f x y)) where
     abbrev comes : List Event → Progress S
     comes es = progress e e.start (receptions es)
 

@@ -13,6 +13,8 @@ pub mod EnquiryLaws
 pub mod Embedding
 pub mod RoundSteps
 pub mod EnquiryEnds
+pub mod RoundCalls
+pub mod CallEnds
 pub mod Inventories
 pub mod Clashes
 pub mod Eaches

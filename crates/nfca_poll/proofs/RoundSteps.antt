@@ -1,11 +1,10 @@
 -- How one round goes on: by what a resolution in it answers, and by SLP_REQ.
-use Rattle.std.proofs.Common.{◌≡◌, ℕ, List, [], ◌∷◌, ◌++◌, length, Bool, true, false, nat_lt, if◌then◌else◌, Option, Some, None, Result, Ok, Err, refl, sym, ◌∙◌, ap, subst}
+use Rattle.std.proofs.Common.{◌≡◌, ℕ, List, [], ◌∷◌, ◌++◌, length, Bool, true, false, nat_lt, if◌then◌else◌, Option, Result, Ok, Err, refl, sym, ◌∙◌, ap, subst}
 use Rattle.nfc_base.specs.Signal.{Signal}
 use Rattle.nfc_base.specs.declared.event.Heard.{Heard}
 use Rattle.air_core.specs.World.{Machine}
 use Rattle.air_core.specs.Turn.{Air}
 use Rattle.air_core.specs.Conversation.{Next, Over, LightUp, Asks, IsDemand}
-use Rattle.nfca_poll.specs.declared.kind.Kind.{Kind}
 use Rattle.nfca_poll.specs.declared.fault.Picked.{Picked}
 use Rattle.nfca_poll.specs.declared.fault.PollFault.{PollFault}
 use Rattle.nfca_poll.specs.declared.fault.PollFault.TheVariants as faults
@@ -19,13 +18,13 @@ use Rattle.nfca_poll.proofs.Enquiring.{Reached, enquires_end, enquires_so}
 use Rattle.nfca_poll.proofs.Embedding.{Embeds, Arrives, reached_then}
 
 -- nothing is due
-over_no_demand : (n : Next) → Over ≡ n → IsDemand n → ⊥
+pub over_no_demand : (n : Next) → Over ≡ n → IsDemand n → ⊥
 over_no_demand n q d = subst IsDemand (sym q) d
 
-over_no_light : Over ≡ LightUp → ⊥
+pub over_no_light : Over ≡ LightUp → ⊥
 over_no_light q = cc
 
-over_no_ask : (f : Signal) → Over ≡ Asks f → ⊥
+pub over_no_ask : (f : Signal) → Over ≡ Asks f → ⊥
 over_no_ask f q = cc
 
 abbrev device_in : Picked → Result Picked PollFault → Picked
