@@ -10,6 +10,7 @@ use Rattle.nfca_poll.specs.OneRound.{one_round}
 use Rattle.nfca_poll.specs.Rounds.{Search, Told, all_devices, finding, next_round, listed}
 use Rattle.nfca_poll.proofs.Enquiring.{Reached, reached_start, enquires_end}
 use Rattle.nfca_poll.proofs.RoundCalls.{round_begins, round_came, round_failed, given_up}
+use Rattle.nfca_poll.proofs.FoundCrowd.{finds_crowd}
 use Rattle.nfca_poll.proofs.CallEnds.{find_lit, find_lost, find_rounds, find_other}
 use Rattle.nfca_poll.proofs.rounds.find_all.Goals as goal
 
@@ -46,6 +47,9 @@ returns-in_err-found-clause-lost g c = find_lost g.L.Listener.machine c.args.fie
 pub returns-in_err-found-clause-rounds : goal.returns-in_err-found-clause-rounds
 returns-in_err-found-clause-rounds g c = find_rounds g.L.Listener.machine c.args.field.now c.round.new.field (listed c.from_residual.result) (returns-in_err-found-clause-turns g c)
 
+pub returns-in_err-found-clause-crowd : goal.returns-in_err-found-clause-crowd
+returns-in_err-found-clause-crowd g c = finds_crowd g.L.Listener.machine g.L.Listener.identifier c.args.field.now c.round.new.field (listed c.from_residual.result) (returns-in_err-found-clause-turns g c)
+
 pub returns-in_err-found-clause-other : goal.returns-in_err-found-clause-other
 returns-in_err-found-clause-other g c = find_other g.L.Listener.machine c.args.field.now c.round.new.field (listed c.from_residual.result) (returns-in_err-found-clause-turns g c)
 
@@ -69,6 +73,9 @@ returns-in-Nobody-clause-lit g c = find_lit g.L.Listener.machine c.args.field.no
 pub returns-in-Nobody-clause-rounds : goal.returns-in-Nobody-clause-rounds
 returns-in-Nobody-clause-rounds g c = find_rounds g.L.Listener.machine c.args.field.now c.round.new.field (Ok c.into_vec.result.items) (returns-in-Nobody-clause-turns g c)
 
+pub returns-in-Nobody-clause-crowd : goal.returns-in-Nobody-clause-crowd
+returns-in-Nobody-clause-crowd g c = finds_crowd g.L.Listener.machine g.L.Listener.identifier c.args.field.now c.round.new.field (Ok c.into_vec.result.items) (returns-in-Nobody-clause-turns g c)
+
 pub returns-clause-turns : goal.returns-clause-turns
 returns-clause-turns g c =
     let m = g.L.Listener.machine in
@@ -81,3 +88,6 @@ returns-clause-lit g c = find_lit g.L.Listener.machine c.args.field.now c.loop.f
 
 pub returns-clause-rounds : goal.returns-clause-rounds
 returns-clause-rounds g c = find_rounds g.L.Listener.machine c.args.field.now c.loop.field (Err faults.Disturbed) (returns-clause-turns g c)
+
+pub returns-clause-crowd : goal.returns-clause-crowd
+returns-clause-crowd g c = finds_crowd g.L.Listener.machine g.L.Listener.identifier c.args.field.now c.loop.field (Err faults.Disturbed) (returns-clause-turns g c)

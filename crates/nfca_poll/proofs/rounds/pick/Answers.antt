@@ -10,6 +10,7 @@ use Rattle.nfca_poll.specs.OneRound.{one_round}
 use Rattle.nfca_poll.specs.Rounds.{Search, Told, device_of, picking, next_round}
 use Rattle.nfca_poll.proofs.Enquiring.{Reached, reached_start, enquires_end}
 use Rattle.nfca_poll.proofs.RoundCalls.{round_begins, round_came, round_failed}
+use Rattle.nfca_poll.proofs.FoundCrowd.{selects_alone}
 use Rattle.nfca_poll.proofs.CallEnds.{pick_lit, pick_lost, pick_rounds, pick_other}
 use Rattle.nfca_poll.proofs.rounds.pick.Goals as goal
 
@@ -48,6 +49,9 @@ returns-in_err-round-clause-lost g c = pick_lost c.args.id.now g.L.Listener.mach
 pub returns-in_err-round-clause-rounds : goal.returns-in_err-round-clause-rounds
 returns-in_err-round-clause-rounds g c = pick_rounds c.args.id.now g.L.Listener.machine c.args.field.now c.round.new.field c.from_residual.result (returns-in_err-round-clause-turns g c)
 
+pub returns-in_err-round-clause-crowd : goal.returns-in_err-round-clause-crowd
+returns-in_err-round-clause-crowd g c = selects_alone g.L.Listener.machine g.L.Listener.identifier c.args.id.now c.args.field.now c.round.new.field c.from_residual.result (returns-in_err-round-clause-turns g c)
+
 pub returns-in_err-round-clause-other : goal.returns-in_err-round-clause-other
 returns-in_err-round-clause-other g c = pick_other c.args.id.now g.L.Listener.machine c.args.field.now c.round.new.field c.from_residual.result (returns-in_err-round-clause-turns g c)
 
@@ -70,6 +74,9 @@ returns-in-Nobody-clause-lit g c = pick_lit c.args.id.now g.L.Listener.machine c
 pub returns-in-Nobody-clause-rounds : goal.returns-in-Nobody-clause-rounds
 returns-in-Nobody-clause-rounds g c = pick_rounds c.args.id.now g.L.Listener.machine c.args.field.now c.round.new.field (Err faults.NotFound) (returns-in-Nobody-clause-turns g c)
 
+pub returns-in-Nobody-clause-crowd : goal.returns-in-Nobody-clause-crowd
+returns-in-Nobody-clause-crowd g c = selects_alone g.L.Listener.machine g.L.Listener.identifier c.args.id.now c.args.field.now c.round.new.field (Err faults.NotFound) (returns-in-Nobody-clause-turns g c)
+
 pub returns-in-Selected-clause-turns : goal.returns-in-Selected-clause-turns
 returns-in-Selected-clause-turns g c =
     let m = g.L.Listener.machine in
@@ -89,6 +96,9 @@ returns-in-Selected-clause-lit g c = pick_lit c.args.id.now g.L.Listener.machine
 pub returns-in-Selected-clause-rounds : goal.returns-in-Selected-clause-rounds
 returns-in-Selected-clause-rounds g c = pick_rounds c.args.id.now g.L.Listener.machine c.args.field.now c.round.new.field (Ok c.in-Selected.kind) (returns-in-Selected-clause-turns g c)
 
+pub returns-in-Selected-clause-crowd : goal.returns-in-Selected-clause-crowd
+returns-in-Selected-clause-crowd g c = selects_alone g.L.Listener.machine g.L.Listener.identifier c.args.id.now c.args.field.now c.round.new.field (Ok c.in-Selected.kind) (returns-in-Selected-clause-turns g c)
+
 pub returns-clause-turns : goal.returns-clause-turns
 returns-clause-turns g c =
     let m = g.L.Listener.machine in
@@ -102,3 +112,6 @@ returns-clause-lit g c = pick_lit c.args.id.now g.L.Listener.machine c.args.fiel
 
 pub returns-clause-rounds : goal.returns-clause-rounds
 returns-clause-rounds g c = pick_rounds c.args.id.now g.L.Listener.machine c.args.field.now c.loop.field (Err faults.Disturbed) (returns-clause-turns g c)
+
+pub returns-clause-crowd : goal.returns-clause-crowd
+returns-clause-crowd g c = selects_alone g.L.Listener.machine g.L.Listener.identifier c.args.id.now c.args.field.now c.loop.field (Err faults.Disturbed) (returns-clause-turns g c)
