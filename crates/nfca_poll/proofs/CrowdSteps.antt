@@ -1,5 +1,5 @@
 -- A call by rounds keeps what is known of it, at each reset and each turn.
-use Rattle.std.proofs.Common.{◌≡◌, ℕ, ◌+◌, ◌≤◌, List, [], ◌∷◌, ◌++◌, length, map, Bool, true, false, nat_lt, if◌then◌else◌, inl, inr, refl, sym, ◌∙◌, ap, subst, append_assoc, arith, Some}
+use Rattle.std.proofs.Common.{◌≡◌, ℕ, ◌+◌, ◌≤◌, List, [], ◌∷◌, ◌++◌, length, map, Bool, true, false, nat_lt, if◌then◌else◌, inr, refl, sym, ◌∙◌, ap, subst, append_assoc, arith, Some}
 use Rattle.std.proofs.lemmas.List.{append-nil, length-append}
 use Rattle.nfc_base.specs.declared.frame.Tech.TheVariants.{A}
 use Rattle.nfc_base.specs.Signal.{Signal}
@@ -13,8 +13,8 @@ use Rattle.air_core.specs.Conversation as air
 use Rattle.air_core.specs.Conversation.{Next, Over, LightUp, replay, turn_events, turn_heard}
 use Rattle.nfca_poll.specs.declared.fault.Picked.{Picked}
 use Rattle.nfca_poll.specs.Calls.{Call, Calls, Reading, Sens, Slp, Sdd, Sel, call_of, call_frame}
-use Rattle.nfca_poll.specs.Front.{Front, Idle}
-use Rattle.nfca_poll.specs.Poll.{Seek, Calling, Asking, Selecting, Ended, seek_step, seek_next}
+use Rattle.nfca_poll.specs.Front.{Idle}
+use Rattle.nfca_poll.specs.Poll.{Seek, Calling, Asking, Selecting, Ended, seek_step}
 use Rattle.nfca_poll.specs.Muted.{muted, mute_air}
 use Rattle.nfca_poll.specs.Counting.{is_sens_req}
 use Rattle.nfca_poll.specs.Crowd.{Card, Each, with_front, cards}
@@ -24,15 +24,14 @@ use Rattle.nfca_poll.specs.Polled.{ArePolled}
 use Rattle.nfca_poll.specs.RoundEnds.{told_of, crowd}
 use Rattle.nfca_poll.proofs.Eaches.{map_twice}
 use Rattle.nfca_poll.proofs.Crowding.{noise-append}
-use Rattle.nfca_poll.proofs.NoisyTurns as turns
 use Rattle.nfca_poll.proofs.NoisyTurns.{TurnWas, passed, unheard, damaged, lost, by_fates}
 use Rattle.nfca_poll.proofs.EnquiryLaws.{Keeps}
 use Rattle.nfca_poll.proofs.PolledTurns.{reset_cards, reset_unlinked, call_turn}
 use Rattle.nfca_poll.proofs.RoundParts.{no_reset-append, turn_whole, turn_fresh, calls, calls-append, noisy_count, count-append, sens_turn, counted_turn}
 use Rattle.nfca_poll.proofs.Standing.{Stands}
-use Rattle.nfca_poll.proofs.SoughtFrom.{Plays, SoughtFrom, none, sens_step, sdd_step, sel_step, sdd_is_read, sel_is_read}
+use Rattle.nfca_poll.proofs.SoughtFrom.{SoughtFrom, none, sens_step, sdd_step, sel_step, sdd_is_read, sel_is_read}
 use Rattle.nfca_poll.proofs.RoundCards.{FitsRound, fits_later, fits_reset, fits_stand, fits_slp, told_turn}
-use Rattle.nfca_poll.proofs.RoundHolds.{Resolves, Rounds, InSeek, InSend, AtReset, Holds, cards_of, same_idents, same_distinct, lands}
+use Rattle.nfca_poll.proofs.RoundHolds.{Resolves, Rounds, InSeek, InSend, AtReset, Holds, same_idents, same_distinct, lands}
 
 asks_same : (f g : Signal) → ◌≡◌ {A = Next} (air.Asks f) (air.Asks g) → f ≡ g
 asks_same f g e = cc

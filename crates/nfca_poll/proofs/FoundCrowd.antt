@@ -1,5 +1,5 @@
 -- A call that asks by rounds finds the crowd, or selects one device of it alone.
-use Rattle.std.proofs.Common.{◌≡◌, ◌≢◌, ◌⊎◌, ℕ, List, [], ◌∷◌, length, drop, Bool, true, false, if◌then◌else◌, inl, inr, refl, sym, ◌∙◌, ap, subst, arith, Option, Some, None, Result, Ok, Err}
+use Rattle.std.proofs.Common.{◌≡◌, ◌≢◌, ℕ, List, length, drop, Bool, true, false, if◌then◌else◌, inl, inr, refl, sym, ◌∙◌, ap, subst, arith, Option, Some, None, Result}
 use Rattle.nfc_base.specs.declared.event.Event.{Event}
 use Rattle.air_core.specs.World.{Machine, World}
 use Rattle.air_core.specs.Turn.{Air, moment}
@@ -11,11 +11,10 @@ use Rattle.nfca_poll.specs.Muted.{mute_air}
 use Rattle.nfca_poll.specs.Enquiry.{Enquires, or_memory}
 use Rattle.nfca_poll.specs.Crowd.{Card, Each, cards}
 use Rattle.nfca_poll.specs.Rounds.{is_same, Aim, Search, Begins, Seeks, Sends, Told, search_ended, searching, all_devices, device_of, finding, picking}
-use Rattle.nfca_poll.specs.RoundTrace.{Misses}
-use Rattle.nfca_poll.specs.AnyStart.{AreUnlinked, HaveOwnIdents}
+use Rattle.nfca_poll.specs.AnyStart.{HaveOwnIdents}
 use Rattle.nfca_poll.specs.Polled.{ArePolled, AreTidy}
 use Rattle.nfca_poll.specs.RoundEnds.{told_of, crowd, FindEnds, LeavesActive, PickEnds, FindsCrowd, SelectsAlone}
-use Rattle.nfca_poll.proofs.Clashes.{wrong_back, Has}
+use Rattle.nfca_poll.proofs.Clashes.{Has}
 use Rattle.nfca_poll.proofs.Eaches.{each_has}
 use Rattle.nfca_poll.proofs.HeardBits.{pointwise_same, pointwise_path}
 use Rattle.nfca_poll.proofs.Crowding.{drop-front}

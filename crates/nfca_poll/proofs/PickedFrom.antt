@@ -1,12 +1,12 @@
 -- What a resolution that picked a device leaves of the cards.
-use Rattle.std.proofs.Common.{◌≡◌, ◌⊎◌, ℕ, List, [], ◌∷◌, ◌++◌, map, Bool, true, false, if◌then◌else◌, inl, inr, refl, sym, ◌∙◌, ap, subst}
+use Rattle.std.proofs.Common.{◌≡◌, ℕ, List, [], ◌∷◌, ◌++◌, map, Bool, true, false, inl, inr, refl, sym, ◌∙◌, ap, subst}
 use Rattle.nfca_poll.specs.declared.kind.Kind.{Kind}
 use Rattle.nfca_poll.specs.Ident.{IsIdent}
 use Rattle.nfca_poll.specs.Levels.{levels}
-use Rattle.nfca_poll.specs.Front.{Front, Off, Idle, Sleep, Ready, Active}
-use Rattle.nfca_poll.specs.Poll.{Seek, Ended, Outcome, Found}
+use Rattle.nfca_poll.specs.Front.{Front, Idle, Sleep, Active}
+use Rattle.nfca_poll.specs.Poll.{Ended, Outcome, Found}
 use Rattle.nfca_poll.specs.Crowd.{Card, Each, with_front, is_idle, is_rest, ahead, crowd_bits, IsFirst}
-use Rattle.nfca_poll.proofs.Eaches.{each_front, each_back}
+use Rattle.nfca_poll.proofs.Eaches.{each_back}
 use Rattle.nfca_poll.proofs.CrowdOrder.{each_unmapped}
 use Rattle.nfca_poll.proofs.Standing.{part_of, cast, Shade, Shades, part_rests}
 use Rattle.nfca_poll.proofs.SoughtFrom.{Plays}

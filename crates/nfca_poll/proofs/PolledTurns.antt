@@ -1,5 +1,5 @@
 -- A reset and a turn of a field of polled listeners, as its cards see them.
-use Rattle.std.proofs.Common.{◌≡◌, ℕ, List, [], ◌∷◌, map, filter_map, Bool, true, false, if◌then◌else◌, inl, inr, refl, sym, ◌∙◌, ap, subst, Option, Some, None}
+use Rattle.std.proofs.Common.{◌≡◌, ℕ, List, [], ◌∷◌, map, filter_map, Bool, true, false, if◌then◌else◌, inr, refl, sym, ◌∙◌, ap, subst, Option, Some, None}
 use Rattle.std.specs.List.{cons_option}
 use Rattle.nfc_base.specs.declared.frame.Tech.{Tech}
 use Rattle.nfc_base.specs.declared.frame.Tech.TheVariants.{A, V}
@@ -12,13 +12,13 @@ use Rattle.nfca_poll.specs.declared.kind.Kind.{Kind}
 use Rattle.nfca_poll.specs.Calls.{Call, Calls, call_of}
 use Rattle.nfca_poll.specs.Front.{Front, Idle, is_active}
 use Rattle.nfca_poll.specs.Muted.{mute_reply, muted}
-use Rattle.nfca_poll.specs.Crowd.{Card, Each, with_front, StepsByFront, AreOurs, card_of, card_if, cards}
+use Rattle.nfca_poll.specs.Crowd.{Card, with_front, StepsByFront, card_of, card_if, cards}
 use Rattle.nfca_poll.specs.AnyStart.{AreUnlinked}
 use Rattle.nfca_poll.specs.Polled.{WakesIdle, IsTidy, ArePolled, AreTidy}
 use Rattle.nfca_poll.proofs.Clashes.{Has}
 use Rattle.nfca_poll.proofs.HeardBits.{heard_of}
 use Rattle.nfca_poll.proofs.Fitting.{card_next, card_says}
-use Rattle.nfca_poll.proofs.Crowding.{step, says, mapped, said_by, OneCard, same_card, heard_by_it, table_card, other_card}
+use Rattle.nfca_poll.proofs.Crowding.{step, says, mapped, said_by, OneCard, heard_by_it, table_card, other_card}
 use Rattle.nfca_poll.proofs.NoisyTurns as turns
 use Rattle.nfca_poll.proofs.NoisyTurns.{TurnWas, passed, unheard, damaged, lost, WorldWas}
 

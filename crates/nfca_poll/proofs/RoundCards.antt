@@ -1,5 +1,5 @@
 -- The cards of a round: those that it found sleep, or are awake by noise; the others are idle.
-use Rattle.std.proofs.Common.{◌≡◌, ◌⊎◌, ℕ, ◌+◌, ◌<◌, ◌≤◌, List, [], ◌∷◌, ◌++◌, map, Bool, true, false, if◌then◌else◌, inl, inr, refl, sym, ◌∙◌, ap, subst, arith}
+use Rattle.std.proofs.Common.{◌≡◌, ◌⊎◌, ℕ, ◌+◌, ◌<◌, ◌≤◌, List, [], ◌∷◌, ◌++◌, map, Bool, true, false, if◌then◌else◌, inl, inr, refl, sym, ap, subst, arith}
 use Rattle.nfc_base.specs.declared.event.Heard.{Heard}
 use Rattle.nfca_poll.specs.declared.kind.Kind.{Kind}
 use Rattle.nfca_poll.specs.declared.fault.Picked.{Picked}
@@ -9,11 +9,11 @@ use Rattle.nfca_poll.specs.Calls.{Reading, Calls, Slp}
 use Rattle.nfca_poll.specs.Front.{Front, Off, Idle, Sleep, Ready, Active, front_next, is_active}
 use Rattle.nfca_poll.specs.Crowd.{Card, Each, with_front, is_idle, ahead, crowd_bits}
 use Rattle.nfca_poll.specs.RoundEnds.{told_of}
-use Rattle.nfca_poll.proofs.Clashes.{wrong, wrong_back, Has}
+use Rattle.nfca_poll.proofs.Clashes.{wrong, Has}
 use Rattle.nfca_poll.proofs.Eaches.{each_map, each_has, each_front, each_back, map_twice}
 use Rattle.nfca_poll.proofs.Fitting.{card_next}
 use Rattle.nfca_poll.proofs.NoisyTurns.{TurnWas, passed, unheard, damaged, lost}
-use Rattle.nfca_poll.proofs.CrowdOrder.{mapped_each, mapped_has, has_front, has_back, has_either}
+use Rattle.nfca_poll.proofs.CrowdOrder.{mapped_has, has_front, has_back, has_either}
 use Rattle.nfca_poll.proofs.Standing.{is_standing, Stands, part_of, cast, Shade, Shades}
 use Rattle.nfca_poll.proofs.PickedFrom.{PickedFrom}
 

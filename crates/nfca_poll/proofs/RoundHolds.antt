@@ -1,5 +1,5 @@
 -- What is known at each point of a call by rounds, over polled listeners and whatever noise it meets.
-use Rattle.std.proofs.Common.{◌≡◌, ◌⊎◌, ℕ, ◌+◌, ◌-◌, ◌*◌, ◌<◌, ◌≤◌, List, [], ◌∷◌, ◌++◌, length, drop, filter, map, Bool, true, false, nat_lt, if◌then◌else◌, inl, inr, refl, sym, ◌∙◌, ap, subst, append_assoc, arith, Option, Some, None, Result, Ok, Err}
+use Rattle.std.proofs.Common.{◌≡◌, ◌⊎◌, ℕ, ◌+◌, ◌<◌, ◌≤◌, List, [], ◌∷◌, ◌++◌, length, filter, map, Bool, true, false, nat_lt, if◌then◌else◌, inl, inr, refl, sym, ◌∙◌, ap, subst, append_assoc, arith, Option, Some, None, Result, Ok, Err}
 use Rattle.std.proofs.lemmas.List.{append-nil, length-append}
 use Rattle.nfc_base.specs.Trace.{Turn, noise}
 use Rattle.nfc_base.specs.declared.event.Event.{Event}
@@ -9,8 +9,7 @@ use Rattle.nfca_poll.specs.declared.fault.Picked.{Picked}
 use Rattle.nfca_poll.specs.declared.fault.PollFault.{PollFault}
 use Rattle.nfca_poll.specs.declared.fault.PollFault.TheVariants as faults
 use Rattle.nfca_poll.specs.Ident.{IsIdent}
-use Rattle.nfca_poll.specs.Levels.{identifier, levels}
-use Rattle.nfca_poll.specs.Front.{Front, Active}
+use Rattle.nfca_poll.specs.Levels.{identifier}
 use Rattle.nfca_poll.specs.Poll.{Seek, Calling, Asking, Selecting, Ended, Outcome, Nobody, Disturbed, BadAnswer, Found}
 use Rattle.nfca_poll.specs.Crowd.{Card, Each, is_idle, is_rest, AreDistinct, cards}
 use Rattle.nfca_poll.specs.Rounds.{most_rounds, most_found, Aim, Search, Begins, Seeks, Sends, Told, next_round, has_found, met, met_or_taken, sought}
@@ -25,9 +24,9 @@ use Rattle.nfca_poll.proofs.Selects.{identifier_of}
 use Rattle.nfca_poll.proofs.PolledTurns.{unlinked_tidy}
 use Rattle.nfca_poll.proofs.RoundParts.{InRound, all_noisy, misses, gives_up, calls, noisy_count, last_are}
 use Rattle.nfca_poll.proofs.CrowdOrder.{each_of, mapped_each, each_unmapped, has_mapped, mapped_has, has_front, has_back, IsSorted, AllUnlike, unlike_apart, same_by_id, crowd_sorted, crowd_length, crowd_has, has_crowd, crowd_unlike, unlike_cards, cards_unlike, next_is, found_has, has_found_is}
-use Rattle.nfca_poll.proofs.SoughtFrom.{Plays, NoneIdle, EndsWith, SoughtFrom}
+use Rattle.nfca_poll.proofs.SoughtFrom.{NoneIdle, EndsWith, SoughtFrom}
 use Rattle.nfca_poll.proofs.PickedFrom.{PickedFrom, picked_from, shades_rest}
-use Rattle.nfca_poll.proofs.RoundCards.{FitsRound, picked_again, picked_new, picked_sends, picked_first, unfound_idle}
+use Rattle.nfca_poll.proofs.RoundCards.{FitsRound, picked_again, picked_sends, picked_first, unfound_idle}
 
 -- How a call by rounds ends: it took a device, found nobody more, gave all rounds up, or found too many.
 pub data CallEnds {X : Type 0} (aim : Aim X) (w : List Card) (v : List Card) (es : List Event) : Result X PollFault → Type 0 where

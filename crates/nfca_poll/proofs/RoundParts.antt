@@ -11,11 +11,9 @@ use Rattle.nfc_base.specs.declared.event.Fate.TheVariants.{Pass, Damage, Lose, B
 use Rattle.air_core.specs.Joint.{Joint, Nothing, Single, Clashing}
 use Rattle.air_core.specs.Conversation.{AirModel, joint_events, turn_events}
 use Rattle.air_core.specs.Turning.{back_of-append}
-use Rattle.nfca_poll.specs.Crowd.{Each}
 use Rattle.nfca_poll.specs.Counting.{is_sens_req}
 use Rattle.nfca_poll.specs.Rounds.{most_rounds}
-use Rattle.nfca_poll.specs.RoundTrace.{up_to_reset, rounds, last_of, back_noise, is_noisy, last_four, last_calls, MissesEnd, AreNoisy, Misses, GivesUp}
-use Rattle.nfca_poll.proofs.Clashes.{wrong}
+use Rattle.nfca_poll.specs.RoundTrace.{up_to_reset, rounds, last_of, back_noise, is_noisy, last_four, MissesEnd, AreNoisy, Misses, GivesUp}
 use Rattle.nfca_poll.proofs.Crowding.{drop-front}
 
 -- events with no reset among them

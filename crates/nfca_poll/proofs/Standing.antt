@@ -1,18 +1,16 @@
 -- A resolution whose field has active devices beside idle ones: those of one group are picked from, the others are as good
 -- as asleep.
-use Rattle.std.proofs.Common.{◌≡◌, ◌⊎◌, ℕ, ◌<◌, List, [], ◌∷◌, ◌++◌, length, map, filter_map, Bool, true, false, ◌&&◌, if◌then◌else◌, inl, inr, refl, sym, ◌∙◌, ap, subst, Option, Some, None}
+use Rattle.std.proofs.Common.{◌≡◌, ◌⊎◌, ℕ, ◌<◌, List, [], ◌∷◌, length, map, filter_map, Bool, true, false, if◌then◌else◌, inl, inr, refl, sym, ◌∙◌, ap, None}
 use Rattle.std.specs.List.{cons_option}
-use Rattle.nfc_base.specs.Signal.{Signal}
 use Rattle.nfca_poll.specs.declared.kind.Kind.{Kind}
 use Rattle.nfca_poll.specs.Ident.{IsIdent}
 use Rattle.nfca_poll.specs.Levels.{levels}
-use Rattle.nfca_poll.specs.Calls.{Reading, Calls, Sens, Slp, Sdd, Sel}
+use Rattle.nfca_poll.specs.Calls.{Reading, Calls, Sens, Sdd, Sel}
 use Rattle.nfca_poll.specs.Front.{Front, Off, Idle, Sleep, Ready, Active, front_next, front_says, is_active}
 use Rattle.nfca_poll.specs.Crowd.{Card, Each, with_front, is_idle, is_rest, AreDistinct}
 use Rattle.nfca_poll.proofs.Clashes.{wrong}
 use Rattle.nfca_poll.proofs.Fitting.{card_next, card_says, card_at}
 use Rattle.nfca_poll.proofs.Choosing.{IsCard, woken_by, some_levels}
-use Rattle.nfca_poll.proofs.Eaches.{said_map, said_same, map_twice, map_same}
 
 -- how a device stands where a resolution of a round begins: neither ready, nor active after sleep
 abbrev pub is_standing : Front → Bool
