@@ -10,7 +10,7 @@ use Rattle.nfca_poll.specs.declared.upper.UpStep.{UpStep}
 use Rattle.nfca_poll.specs.declared.upper.UpStep.TheVariants as said
 use Rattle.nfca_poll.specs.Calls.{Call, Calls, Reading, Other, call_of}
 use Rattle.nfca_poll.specs.Fronted.{Fronted, active_answer, active_after}
-use Rattle.nfca_poll.specs.AnyStart.{YieldsToCalls}
+use Rattle.nfca_poll.specs.AnyStart.{YieldsToCalls, LeavesAtCalls}
 use Rattle.nfca_poll.specs.Front.{Front, Off, Idle, Sleep, Ready, Active, is_active}
 use Rattle.nfca_poll.specs.Crowd.{AreOurs, StepsByFront}
 use Rattle.nfca_poll.specs.Inventory.{inventory_all, inventory_of, IsSteady}
@@ -102,6 +102,12 @@ pub yields : YieldsToCalls ours
 unfolding ours
 yields (T2 d) f c t a k = inl (yields_by d.front d.id d.upper f c a k)
 yields (T5 p) f c t a k = absurd cc
+
+-- None of them has a link.
+pub leaves : LeavesAtCalls ours (λ d. true)
+unfolding ours
+leaves (T2 d) f c t u k = ((λ a. yields_by d.front d.id d.upper f c a k), refl)
+leaves (T5 p) f c t u k = absurd cc
 
 -- Tags hand nothing over, so a far end makes no difference to their air.
 pub mute_is_quiet : ◌≡◌ {A = AirModel (World Device)} (mute_air devices) air

@@ -1,5 +1,5 @@
 -- Each turn of a resolution over this project's listeners in any state, and how it ends.
-use Rattle.std.proofs.Common.{◌≡◌, ◌⊎◌, ℕ, ◌+◌, ◌<◌, ◌≤◌, List, [], ◌∷◌, ◌++◌, length, drop, map, filter_map, Bool, true, false, if◌then◌else◌, inl, inr, refl, sym, ◌∙◌, ap, subst, arith, Result, Ok, Err}
+use Rattle.std.proofs.Common.{◌≡◌, ◌⊎◌, ℕ, ◌+◌, ◌≤◌, List, [], ◌∷◌, ◌++◌, length, drop, map, Bool, true, false, inl, inr, refl, sym, ◌∙◌, ap, subst, arith, Result, Ok, Err}
 use Rattle.nfc_base.specs.declared.frame.Tech.TheVariants.{A}
 use Rattle.nfc_base.specs.declared.event.Heard.{Heard}
 use Rattle.nfc_base.specs.declared.event.Heard.TheVariants.{Damaged, Silent}
@@ -9,7 +9,6 @@ use Rattle.nfc_base.specs.Trace.{noise}
 use Rattle.air_core.specs.Joint.{joint}
 use Rattle.air_core.specs.World.{Machine}
 use Rattle.air_core.specs.Turn.{Air}
-use Rattle.nfca_poll.specs.declared.kind.Kind.{Kind}
 use Rattle.nfca_poll.specs.declared.fault.Picked.{Picked}
 use Rattle.nfca_poll.specs.declared.fault.PollFault.{PollFault}
 use Rattle.nfca_poll.specs.declared.fault.PollFault.TheVariants as faults
@@ -30,7 +29,7 @@ use Rattle.nfca_poll.proofs.HeardBits.{heard_of}
 use Rattle.nfca_poll.proofs.CallsRead.{sdd_read, sel_read}
 use Rattle.nfca_poll.proofs.LevelFacts.{IsLevel}
 use Rattle.nfca_poll.proofs.Enquiring.{Reached}
-use Rattle.nfca_poll.proofs.Fitting.{card_next, card_says, card_at}
+use Rattle.nfca_poll.proofs.Fitting.{card_next, card_at}
 use Rattle.nfca_poll.proofs.Choosing.{hears, Seeks, IsCard}
 use Rattle.nfca_poll.proofs.Selects.{quiet_turn, identifier_of, few_done}
 use Rattle.nfca_poll.proofs.Crowding.{events_of}

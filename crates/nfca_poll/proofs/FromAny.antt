@@ -1,44 +1,29 @@
 -- A resolution over this project's listeners in any state, whatever noise it meets.
-use Rattle.std.proofs.Common.{◌≡◌, ◌≢◌, ◌⊎◌, ℕ, ◌+◌, ◌*◌, ◌<◌, ◌≤◌, List, [], ◌∷◌, ◌++◌, length, drop, map, filter_map, Bool, true, false, ◌&&◌, nat_lt, nat_le, not, if◌then◌else◌, inl, inr, refl, sym, ◌∙◌, ap, subst, arith, Option, Some, None, Result, Ok, Err}
-use Rattle.std.specs.List.{cons_option}
-use Rattle.nfc_base.specs.declared.frame.Tech.TheVariants.{A}
+use Rattle.std.proofs.Common.{◌≡◌, ◌≢◌, ◌⊎◌, ℕ, ◌+◌, ◌*◌, ◌<◌, ◌≤◌, List, [], ◌∷◌, ◌++◌, map, filter_map, Bool, true, false, nat_lt, nat_le, not, if◌then◌else◌, inl, inr, refl, sym, ◌∙◌, ap, subst, arith, None, Result, Ok}
 use Rattle.nfc_base.specs.declared.event.Heard.{Heard}
-use Rattle.nfc_base.specs.declared.event.Heard.TheVariants.{Damaged, Silent}
+use Rattle.nfc_base.specs.declared.event.Heard.TheVariants.{Silent}
 use Rattle.nfc_base.specs.Signal.{Signal}
-use Rattle.nfc_base.specs.Trace.{noise}
 use Rattle.air_core.specs.Joint.{joint}
-use Rattle.air_core.specs.World.{Machine}
-use Rattle.air_core.specs.Turn.{Air}
 use Rattle.nfca_poll.specs.declared.kind.Kind.{Kind}
 use Rattle.nfca_poll.specs.declared.fault.Picked.{Picked}
 use Rattle.nfca_poll.specs.declared.fault.PollFault.{PollFault}
-use Rattle.nfca_poll.specs.declared.fault.PollFault.TheVariants as faults
-use Rattle.nfca_poll.specs.declared.seeking.Seeking.{Seeking}
-use Rattle.nfca_poll.specs.declared.seeking.Seeking.TheVariants as seeks
 use Rattle.nfca_poll.specs.Ident.{IsIdent}
 use Rattle.nfca_poll.specs.Levels.{levels}
-use Rattle.nfca_poll.specs.Calls.{Call, Calls, Reading, Sens, Sdd, Sel, call_of}
+use Rattle.nfca_poll.specs.Calls.{Calls, Sens}
 use Rattle.nfca_poll.specs.Front.{Front, Off, Idle, Sleep, Ready, Active, home, front_next, is_active}
-use Rattle.nfca_poll.specs.Poll.{Seek, Calling, Asking, Selecting, Ended, Outcome, Nobody, Disturbed, BadAnswer, Found, seek_step}
-use Rattle.nfca_poll.specs.Muted.{Asks}
-use Rattle.nfca_poll.specs.Seeking.{resolution, seek_of, request_of, outcome, levels_of}
+use Rattle.nfca_poll.specs.Poll.{Seek, Calling, Asking, Selecting, Ended, Nobody, seek_step}
+use Rattle.nfca_poll.specs.Seeking.{outcome}
 use Rattle.nfca_poll.specs.Crowd.{Card, Each, ahead, crowd_bits, is_idle, IsFirst}
 use Rattle.nfca_poll.specs.AnyStart.{HaveOwnIdents, Pairs, home_of, Keeps, IsAhead, IsWaiting, EndsFromAny}
 use Rattle.nfca_poll.proofs.Clashes.{wrong, wrong_back, Has}
-use Rattle.nfca_poll.proofs.Eaches.{each_map, each_has, has_middle, none_in}
+use Rattle.nfca_poll.proofs.Eaches.{each_map, none_in}
 use Rattle.nfca_poll.proofs.HeardBits.{heard_of}
-use Rattle.nfca_poll.proofs.CallsRead.{sdd_read, sel_read}
-use Rattle.nfca_poll.proofs.LevelFacts.{IsLevel}
-use Rattle.nfca_poll.proofs.Enquiring.{Reached}
-use Rattle.nfca_poll.proofs.Fitting.{card_next, card_says, card_at}
-use Rattle.nfca_poll.proofs.Choosing.{hears, Seeks, IsCard, heard_some}
-use Rattle.nfca_poll.proofs.Selects.{quiet_turn, identifier_of, few_done}
-use Rattle.nfca_poll.proofs.Crowding.{events_of}
-use Rattle.nfca_poll.proofs.FirstPicked.{rest_inactive, at_inactive, each_mapped, request_a}
-use Rattle.nfca_poll.proofs.ThroughNoise.{is_calling, asking_on, selecting_on, asked_first, noise_so_far}
+use Rattle.nfca_poll.proofs.Fitting.{card_says, card_at}
+use Rattle.nfca_poll.proofs.Choosing.{hears, Seeks, heard_some}
+use Rattle.nfca_poll.proofs.ThroughNoise.{asked_first}
 use Rattle.nfca_poll.proofs.Causes.{idle_is}
-use Rattle.nfca_poll.proofs.Moves.{Moves, TurnOf, passed, unheard, damaged, lost, turn_of}
-use Rattle.nfca_poll.proofs.Twins.{pairs_map, pairs_same, pairs_with, pairs_both, pairs_each, kept_start, kept_turn, each_kept, distinct_kept, polls, asks_ready, ready_polls, Twin, rested, at_rest, Woken, woken}
+use Rattle.nfca_poll.proofs.Moves.{Moves, TurnOf, passed, unheard, damaged, lost}
+use Rattle.nfca_poll.proofs.Twins.{pairs_map, pairs_same, pairs_with, pairs_both, pairs_each, kept_turn, each_kept, distinct_kept, Twin, rested, at_rest, Woken, woken}
 
 -- active only where it was before
 abbrev pub Stays : Card → Card → Type 0

@@ -8,21 +8,21 @@ use Rattle.nfc_base.specs.Trace.{noise}
 use Rattle.nfc_base.specs.declared.event.Heard.{Heard}
 use Rattle.nfc_base.specs.declared.event.Heard.TheVariants.{Damaged, Silent}
 use Rattle.air_core.specs.Joint.{joint, same_tech}
-use Rattle.air_core.specs.World.{Machine, World, answers}
+use Rattle.air_core.specs.World.{Machine, World}
 use Rattle.air_core.specs.Turn.{Air, moment}
 use Rattle.air_core.specs.Conversation.{TurnsTo}
 use Rattle.nfca_poll.specs.declared.kind.Kind.{Kind}
 use Rattle.nfca_poll.specs.Levels.{levels}
 use Rattle.nfca_poll.specs.Calls.{Reading, call_of}
 use Rattle.nfca_poll.specs.Front.{Front, Off, Idle, Sleep, Ready, Active, front_says, is_active}
-use Rattle.nfca_poll.specs.Muted.{mute_reply, muted, mute_air}
+use Rattle.nfca_poll.specs.Muted.{mute_reply, mute_air}
 use Rattle.nfca_poll.specs.Crowd.{Card, Each, StepsByFront, AreOurs, card_of, card_if, cards}
 use Rattle.nfca_poll.specs.AnyStart.{StaysActive, Pairs}
 use Rattle.nfca_poll.proofs.Clashes.{Has, wrong_back}
 use Rattle.nfca_poll.proofs.HeardBits.{heard_of}
 use Rattle.nfca_poll.proofs.Fitting.{card_next, card_says}
 use Rattle.nfca_poll.proofs.Choosing.{hears}
-use Rattle.nfca_poll.proofs.Crowding.{events_of, step, says, mapped, said_by, OneCard, same_card, heard_by_it, table_card, other_card, one_card}
+use Rattle.nfca_poll.proofs.Crowding.{events_of, step, says, mapped, said_by, OneCard, same_card, heard_by_it, table_card, other_card}
 use Rattle.nfca_poll.proofs.NoisyTurns as turns
 use Rattle.nfca_poll.proofs.NoisyTurns.{WorldWas, world_was}
 

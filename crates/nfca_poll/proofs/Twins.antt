@@ -1,17 +1,16 @@
 -- Behind SENS_REQ a field in any state hears a resolution as a crowd at rest does, whose devices are idle where those of the field
 -- are ready, and asleep or off where they are not.
-use Rattle.std.proofs.Common.{◌≡◌, ◌≢◌, ◌⊎◌, ℕ, ◌+◌, List, [], ◌∷◌, ◌++◌, length, map, filter_map, Bool, true, false, ◌&&◌, nat_lt, if◌then◌else◌, inl, inr, refl, sym, ◌∙◌, ap, subst, Option, Some, None}
+use Rattle.std.proofs.Common.{◌≡◌, ◌≢◌, ◌⊎◌, ℕ, ◌+◌, List, [], ◌∷◌, ◌++◌, length, map, filter_map, Bool, true, false, nat_lt, if◌then◌else◌, inl, inr, refl, sym, ◌∙◌, ap, subst, None}
 use Rattle.std.specs.List.{cons_option}
 use Rattle.nfc_base.specs.Signal.{Signal}
 use Rattle.nfca_poll.specs.declared.kind.Kind.{Kind}
 use Rattle.nfca_poll.specs.Ident.{IsIdent}
 use Rattle.nfca_poll.specs.Levels.{levels}
-use Rattle.nfca_poll.specs.Calls.{Call, Reading, Calls, Other, Sens, All, Slp, Sdd, Sel}
-use Rattle.nfca_poll.specs.Front.{Front, Off, Idle, Sleep, Ready, Active, home, is_asked, is_taken, taken, is_ready, is_active, front_next, front_says}
+use Rattle.nfca_poll.specs.Calls.{Reading, Calls, Other, Sens, All, Slp, Sdd, Sel}
+use Rattle.nfca_poll.specs.Front.{Front, Off, Idle, Sleep, Ready, Active, home, is_asked, is_taken, is_ready, is_active, front_next, front_says}
 use Rattle.nfca_poll.specs.Crowd.{Card, Each, with_front, is_idle, is_rest, IsFirst, AreDistinct}
 use Rattle.nfca_poll.specs.AnyStart.{Pairs, Keeps, home_of}
 use Rattle.nfca_poll.proofs.Clashes.{wrong, wrong_back, Has}
-use Rattle.nfca_poll.proofs.Eaches.{each_map}
 use Rattle.nfca_poll.proofs.Fitting.{card_next, card_says, card_at, asked_if}
 use Rattle.nfca_poll.proofs.Choosing.{IsCard, has_levels, some_levels}
 use Rattle.nfca_poll.proofs.NobodyIdle.{Sleeps}

@@ -1,9 +1,8 @@
 -- A resolution over listeners without links leaves the device that it picks active alone.
-use Rattle.std.proofs.Common.{◌≡◌, ◌⊎◌, ℕ, List, [], ◌∷◌, length, drop, map, Bool, true, false, if◌then◌else◌, inl, inr, refl, sym, ◌∙◌, ap, subst, None, Result, Ok, Err}
+use Rattle.std.proofs.Common.{◌≡◌, ℕ, List, [], ◌∷◌, length, drop, map, Bool, true, false, if◌then◌else◌, inl, inr, refl, sym, ◌∙◌, ap, subst, None, Result, Ok, Err}
 use Rattle.nfc_base.specs.declared.frame.Tech.{Tech}
 use Rattle.nfc_base.specs.declared.frame.Tech.TheVariants.{A, V}
 use Rattle.nfc_base.specs.declared.event.Heard.{Heard}
-use Rattle.nfc_base.specs.Far.{Untouched}
 use Rattle.nfc_base.specs.Signal.{Signal}
 use Rattle.nfc_base.specs.Trace.{noise}
 use Rattle.air_core.specs.World.{Machine, World}
@@ -19,7 +18,6 @@ use Rattle.nfca_poll.specs.Muted.{Asks, mute_reply}
 use Rattle.nfca_poll.specs.Seeking.{resolution, seek_of, request_of, outcome}
 use Rattle.nfca_poll.specs.Crowd.{Card, Each, StepsByFront, AreOurs, cards}
 use Rattle.nfca_poll.specs.AnyStart.{HaveOwnIdents, EndsFromAny, LeavesAtCalls, AreUnlinked, PicksAlone}
-use Rattle.nfca_poll.proofs.Clashes.{wrong}
 use Rattle.nfca_poll.proofs.Eaches.{each_map}
 use Rattle.nfca_poll.proofs.Enquiring.{Reached}
 use Rattle.nfca_poll.proofs.Crowding.{events_of, step, heard_by_it, not_heard}

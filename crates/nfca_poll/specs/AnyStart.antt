@@ -105,6 +105,7 @@ LeavesAtCalls {L = L} {m = m} {identifier = identifier} ours unlinked =
     (l : L) (f : Signal) (c : Call) → m.tech l ≡ A → unlinked l ≡ true → call_of f ≡ Calls c
     → (is_active (ours.front l) ≡ true → StepsByFront m identifier ours.kind ours.front l f) × (unlinked (m.after l f None) ≡ true)
 
+-- each NFC-A listener among these has the mark
 abbrev pub AreUnlinked : {L : Type 0} → Machine L → (L → Bool) → List L → Type 0
 AreUnlinked m unlinked ls = Each (λ l. m.tech l ≡ A → unlinked l ≡ true) ls
 
