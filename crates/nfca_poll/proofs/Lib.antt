@@ -8,6 +8,13 @@ pub mod Muting
 pub mod KnownPacks
 pub mod SeekSteps
 pub mod Enquiring
+pub mod EnquiryWalks
+pub mod EnquiryLaws
+pub mod Embedding
+pub mod RoundSteps
+pub mod EnquiryEnds
+pub mod RoundCalls
+pub mod CallEnds
 pub mod Inventories
 pub mod Clashes
 pub mod Eaches
@@ -31,3 +38,13 @@ pub mod FromAny
 pub mod AnyTurns
 pub mod Unlinked
 pub mod Steady
+pub mod PolledTurns
+pub mod RoundParts
+pub mod CrowdOrder
+pub mod Standing
+pub mod SoughtFrom
+pub mod PickedFrom
+pub mod RoundCards
+pub mod RoundHolds
+pub mod CrowdSteps
+pub mod FoundCrowd

@@ -86,7 +86,7 @@ seeks_noisy a m b (Selecting done l) v n h q = q
 seeks_noisy a m b (Ended o) v n h q = inl q
 
 -- SENS_REQ among devices at rest
-presence : (a : List Card) (m : Card) (b : List Card) (k : ℕ) → IsFirst a m b → seek_step (Calling k) (hears (Calls Sens) (a ++ m ∷ b)) ≡ Asking [] []
+pub presence : (a : List Card) (m : Card) (b : List Card) (k : ℕ) → IsFirst a m b → seek_step (Calling k) (hears (Calls Sens) (a ++ m ∷ b)) ≡ Asking [] []
 presence a m b k F =
     let W : List Card = a ++ m ∷ b in
     heard_some (sens_res (length (levels m.id))) (filter_map (card_says (Calls Sens)) W) k (said_has (card_says (Calls Sens)) m (sens_res (length (levels m.id))) W (has_middle m a b) (calls_idle m F.idle))
@@ -124,7 +124,7 @@ say_none a m b F =
     said_map (card_says (Calls Sens)) (card_at [] []) (a ++ m ∷ b)
     ∙ said_none (λ c. card_says (Calls Sens) (card_at [] [] c)) (a ++ m ∷ b) (each_map GoesHome (λ c. card_says (Calls Sens) (card_at [] [] c) ≡ None) (λ c h. h.1) (a ++ m ∷ b) (go_home a m b F))
 
-at_least : (k : ℕ) → nat_lt k 3 ≡ false → 3 ≤ k
+pub at_least : (k : ℕ) → nat_lt k 3 ≡ false → 3 ≤ k
 at_least k h = grind arith
 
 -- a silence more: at home, or ready with one silence to spare

@@ -10,9 +10,11 @@ use Rattle.nfca_poll.specs.declared.fault.PollFault.{PollFault}
 use Rattle.nfca_poll.specs.declared.fault.PollFault.TheVariants.{FieldLost, Memory}
 use Rattle.nfca_poll.specs.Muted.{mute_air}
 
--- Where an enquiry begins, how it goes on by what is heard, which request is due, and what it answers where it is over.
+-- Where an enquiry begins, what a reset makes of it, how it goes on by what is heard, which request or reset is due, and
+-- what it answers where it is over.
 pub record Enquiry (S X : Type 0) : Type 0 where
   pub start : S
+  pub light : S → S
   pub step : S → Heard → S
   pub next : S → Next
   pub ended : S → Option (Result X PollFault)
@@ -35,7 +37,7 @@ module _ {S X : Type 0} (e : Enquiry S X) where
   -- from here on, by what the reader knows since
   abbrev pub progress : S → List Note → Progress S
   progress s [] = Reaches s
-  progress s (Lit ∷ ns) = progress s ns
+  progress s (Lit ∷ ns) = progress (e.light s) ns
   progress s (Got h ∷ ns) = progress (e.step s h) ns
   progress s (Lost ∷ ns) = Loses
 

@@ -70,10 +70,10 @@ asks_for f (Tries n damaged) = if nat_lt n tries then Asks f else Over
 asks_for f (Told r) = Over
 
 abbrev pub inventory : Enquiry (Inventory Vcrowd) Vcrowd
-inventory = record { start = Tries 0 false; step = one_step; next = asks_for inventory_all; ended = one_ended }
+inventory = record { start = Tries 0 false; light = λ s. s; step = one_step; next = asks_for inventory_all; ended = one_ended }
 
 abbrev pub picking_v : List ℕ → Enquiry (Inventory (Unit {0})) (Unit {0})
-picking_v id = record { start = Tries 0 false; step = pick_step; next = asks_for (inventory_of id); ended = pick_ended }
+picking_v id = record { start = Tries 0 false; light = λ s. s; step = pick_step; next = asks_for (inventory_of id); ended = pick_ended }
 
 -- An NFC-V listener that hands nothing over at this request, and stays as it is.
 abbrev pub IsSteady : {L : Type 0} → Machine L → Signal → L → Type 0

@@ -12,6 +12,7 @@ use Rattle.nfca_poll.specs.Upper.{UpperMachine}
 use Rattle.nfca_poll.specs.Fronted.{Fronted, fronts, left_at, active_answer, active_after}
 use Rattle.nfca_poll.specs.Crowd.{StepsByFront, AreOurs}
 use Rattle.nfca_poll.specs.AnyStart.{StaysActive, YieldsToCalls, LeavesAtCalls}
+use Rattle.nfca_poll.specs.Polled.{ArePolled}
 
 -- What a machine above a front does at a call by which a reader polls: it hands nothing over, and the call is foreign to it, or
 -- it is silent and tells the same kind as before. So it does where it gives up what is volatile.
@@ -123,3 +124,32 @@ module _ {U : Type 0} (m : UpperMachine U) where
       pub fronts_leave : LeavesAtCalls fronts_are_ours (λ d. unlinked d.upper)
       unfolding fronts_are_ours
       fronts_leave d f c t n e = leaves_by d.front d.id d.upper f c n e
+
+      -- a reset wakes them, and takes their links
+      dark_unlinked : (front : Front) (u : U) → (is_active front ≡ true) ⊎ (unlinked u ≡ true) → unlinked (left_at m front Off u) ≡ true
+      dark_unlinked Off u (inl a) = absurd cc
+      dark_unlinked Off u (inr n) = n
+      dark_unlinked Idle u (inl a) = absurd cc
+      dark_unlinked Idle u (inr n) = n
+      dark_unlinked Sleep u (inl a) = absurd cc
+      dark_unlinked Sleep u (inr n) = n
+      dark_unlinked (Ready k starred) u (inl a) = absurd cc
+      dark_unlinked (Ready k starred) u (inr n) = n
+      dark_unlinked (Active starred) u tidy = calls.cleared u
+
+      dark_kind : (front : Front) (u : U) → m.kind (left_at m front Off u) ≡ m.kind u
+      dark_kind Off u = refl
+      dark_kind Idle u = refl
+      dark_kind Sleep u = refl
+      dark_kind (Ready k starred) u = refl
+      dark_kind (Active starred) u = quiet.cleared u
+
+      pub fronts_are_polled : ArePolled (fronts m) (λ d. d.id)
+      unfolding fronts_are_ours
+      fronts_are_polled = record {
+        ours = fronts_are_ours;
+        unlinked = λ d. unlinked d.upper;
+        leaves = fronts_leave;
+        same_tech = λ d. refl;
+        wakes = λ d t tidy. record { idle = refl; no_link = dark_unlinked d.front d.upper tidy; same_id = refl; same_kind = dark_kind d.front d.upper };
+      }

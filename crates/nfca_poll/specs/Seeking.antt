@@ -30,7 +30,7 @@ seek_ended (Ended o) = Some (outcome o)
 
 -- one resolution
 abbrev pub resolution : Enquiry Seek Picked
-resolution = record { start = Calling 0; step = seek_step; next = seek_next; ended = seek_ended }
+resolution = record { start = Calling 0; light = λ s. s; step = seek_step; next = seek_next; ended = seek_ended }
 
 -- how far the code is
 abbrev pub levels_of : Done → List (List ℕ)

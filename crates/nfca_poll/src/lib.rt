@@ -17,6 +17,7 @@ mod known;
 mod level;
 mod requests;
 mod resolution;
+mod rounds;
 mod seeking;
 mod span;
 mod upper;
@@ -29,6 +30,7 @@ pub use inventory::{Vcrowd, inventory_one, pick_v};
 pub use kind::Kind;
 pub use level::Level;
 pub use resolution::resolve;
+pub use rounds::{find_all, pick};
 pub use upper::{UpStep, Upper};
 
 #[cfg(test)]
