@@ -77,7 +77,7 @@ module _ {W : Type 0} (m : AirModel W) where
   nothing_more next before (Clash g x ∷ es) over fresh q = absurd cc
 
   -- another one that asks the same
-  pub going_as : (next part : List Note → Next) (a b : Moment W) (ns : List Note) → ((ks : List Note) → next ks ≡ part ks) → Going m part a b ns → Going m next a b ns
+  abbrev pub going_as : (next part : List Note → Next) (a b : Moment W) (ns : List Note) → ((ks : List Note) → next ks ≡ part ks) → Going m part a b ns → Going m next a b ns
   going_as next part a b ns same g = record {
     events = g.events;
     moment = g.moment;

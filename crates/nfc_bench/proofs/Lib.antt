@@ -14,6 +14,7 @@ pub mod ReadingTags
 pub mod ReadingAir
 pub mod ReadingEnds
 pub mod SelectingPlaces
+pub mod SelectingA
 pub mod Legality
 pub mod Limits
 pub mod Chunks
