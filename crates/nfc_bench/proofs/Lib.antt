@@ -15,6 +15,8 @@ pub mod ReadingAir
 pub mod ReadingEnds
 pub mod SelectingPlaces
 pub mod SelectingA
+pub mod SelectingV
+pub mod Selections
 pub mod Legality
 pub mod Limits
 pub mod Chunks
