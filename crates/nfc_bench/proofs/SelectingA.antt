@@ -267,7 +267,7 @@ all_aside id (T2 d ∷ ds) h o = (record { rests = λ t. rest_unready d.front h.
 all_aside id (T5 p ∷ ds) h o = (record { rests = λ t. absurd cc; other = o.0 }, all_aside id ds h o.1)
 
 -- what is left of a field behind its trace
-events_are : {W : Type 0} (a : AirModel W) (t u : Moment W) (es : List Event) → u ≡ with_events a t es → drop (length t.trace) u.trace ≡ es
+pub events_are : {W : Type 0} (a : AirModel W) (t u : Moment W) (es : List Event) → u ≡ with_events a t es → drop (length t.trace) u.trace ≡ es
 events_are a t u es e = ap (λ (x : Moment _). drop (length t.trace) x.trace) e ∙ drop-front t.trace es
 
 module _ (id : List ℕ) (old new : Air Device) (r : Result Kind PollFault) (ident : IsIdent id) (tame : AreTame (map kept old.listeners)) (turns : Enquires (picking id) devices old r new) where

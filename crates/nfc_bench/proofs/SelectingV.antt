@@ -21,7 +21,7 @@ use Rattle.air_core.proofs.Turns.{going_start, going_reset, going_then}
 use Rattle.nfca_poll.specs.declared.fault.PollFault.{PollFault}
 use Rattle.nfca_poll.specs.declared.fault.PollFault.TheVariants as faults
 use Rattle.nfca_poll.specs.Crowd.{Each}
-use Rattle.nfca_poll.specs.Front.{Idle}
+use Rattle.nfca_poll.specs.Front.{Idle, is_ready, is_active}
 use Rattle.nfca_poll.specs.Fronted.{Fronted}
 use Rattle.nfca_poll.specs.Enquiry.{Enquiry, Progress, Reaches, Loses, progress, due_of, enquiring, or_memory, answer_of, Enquires, LosesByBreak}
 use Rattle.nfca_poll.specs.Inventory.{Inventory, Tries, Told, tries, inventory_of, asks_for, is_present, pick_step, pick_ended, picking_v, IsSteady, NoneAnswers, MissesV}
@@ -357,3 +357,196 @@ module _ (id : List ℕ) where
   tries_vain (Got Damaged ∷ ns) n d h = absurd (damaged_silent h.0)
   tries_vain (Got Silent ∷ ns) n d h = tries_vain ns (n + 1) d h.1
   tries_vain (Lost ∷ ns) n d h = tt
+
+-- What the devices answer behind a reset to an inventory of one identifier.
+module _ (id : List ℕ) where
+  abbrev says : Device → Option Signal
+  says l = answered_by devices l (inventory_of id) None
+
+  abbrev answers_in : List Device → List Signal
+  answers_in ls = filter_map says ls
+
+  -- a tag in the light that isn't quiet
+  state_of : (p : Powered) → IsSound (kept (T5 p)) → IsT5State (darkened p.tag)
+  state_of p s = record { id = s.1; bytes = s.2; store = s.3 }
+
+  other_silent : (l : Device) → IsSound (kept l) → (id ≡ device_id l → ⊥) → says (relit l) ≡ None
+  other_silent (T2 d) s o = refl
+  other_silent (T5 p) s o = ap (λ (x : T5Turn). sent x.answer) (unpicked (darkened p.tag) (state_of p s) id o)
+
+  others_silent : (ls : List Device) → AreSound (map kept ls) → AllByRecursion (λ l. id ≡ device_id l → ⊥) ls → Each (λ l. says l ≡ None) (map relit ls)
+  others_silent [] s o = tt
+  others_silent (l ∷ ls) s o = (other_silent l s.0 o.0, others_silent ls s.2 o.1)
+
+  own_answer : (p : Powered) → IsSound (kept (T5 p)) → p.tag.id ≡ id → says (relit (T5 p)) ≡ Some (answer_frame (Present p.tag.id))
+  own_answer p s named = ap (λ i. answered_by devices (relit (T5 p)) (inventory_of i) None) (sym named) ∙ ap (λ (x : T5Turn). sent x.answer) (picked (darkened p.tag) (state_of p s) refl)
+
+  one_answer : (before : List Device) (d : Device) (behind : List Device) (g : Signal) → Each (λ l. says l ≡ None) (map relit before) → says (relit d) ≡ Some g → Each (λ l. says l ≡ None) (map relit behind)
+      → answers_in (map relit (before ++ d ∷ behind)) ≡ g ∷ []
+  one_answer [] d behind g h k j = ap (λ o. cons_option o (answers_in (map relit behind))) k ∙ ap (λ gs. g ∷ gs) (said_none says (map relit behind) j)
+  one_answer (l ∷ ls) d behind g h k j = ap (λ o. cons_option o (answers_in (map relit (ls ++ d ∷ behind)))) h.0 ∙ one_answer ls d behind g h.1 k j
+
+  is_whole : (i : List ℕ) → length i ≡ 8 → is_present (answer_frame (Present i)) ≡ true
+  is_whole i e =
+      let long : length (reverse i) ≡ 8 = length-reverse i ∙ e in
+      ap (λ n. (n == 10) && (0 == 0)) (ten long)
+    where
+      ten : length (reverse i) ≡ 8 → length (answer_frame (Present i)).bytes ≡ 10
+      ten k = omega (arith, k)
+
+  -- one tag answers, and its answer is one to an inventory
+  pub record Answered (ls : List Device) : Type 0 where
+    pub answer : Signal
+    pub one : answers_in (map relit ls) ≡ answer ∷ []
+    pub present : is_present answer ≡ true
+
+  amid_answers : (ls : List Device) → length id ≡ 8 → AreSound (map kept ls) → Amid id ls → Answered ls
+  amid_answers ls eight s a =
+      by_kind a.device a.split a.named
+    where
+      by_kind : (d : Device) → ls ≡ a.before ++ d ∷ a.behind → device_id d ≡ id → Answered ls
+      by_kind (T2 d) split named =
+          let sound : AreSound (map kept (a.before ++ T2 d ∷ a.behind)) = subst (λ ds. AreSound (map kept ds)) split s in
+          let own : IsSound (kept (T2 d)) = sound_amid a.before (T2 d) a.behind sound in
+          absurd (not_eight (length d.id) own.0.size (ap length named ∙ eight))
+      by_kind (T5 p) split named =
+          let sound : AreSound (map kept (a.before ++ T5 p ∷ a.behind)) = subst (λ ds. AreSound (map kept ds)) split s in
+          let own : IsSound (kept (T5 p)) = sound_amid a.before (T5 p) a.behind sound in
+          let O : List Device → Type 0 = λ ds. AllByRecursion (λ l. id ≡ device_id l → ⊥) ds in
+          let first : O a.before = subst (λ i. AllByRecursion (λ l. i ≡ device_id l → ⊥) a.before) named (others_before a.before (T5 p) a.behind sound) in
+          let later : O a.behind = subst (λ i. AllByRecursion (λ l. i ≡ device_id l → ⊥) a.behind) named (others_behind a.before (T5 p) a.behind sound) in
+          let around : AreSound (map kept (T5 p ∷ a.behind)) = sound_back a.before (T5 p ∷ a.behind) sound in
+          record {
+            answer = answer_frame (Present p.tag.id);
+            one = ap (λ ds. answers_in (map relit ds)) split
+                ∙ one_answer a.before (T5 p) a.behind (answer_frame (Present p.tag.id)) (others_silent a.before (sound_front a.before (T5 p ∷ a.behind) sound) first) (own_answer p own named)
+                (others_silent a.behind around.2 later);
+            present = is_whole p.tag.id own.1;
+          }
+
+  none_answers : (ls : List Device) → AreSound (map kept ls) → device_with id ls ≡ None → answers_in (map relit ls) ≡ []
+  none_answers ls s none = said_none says (map relit ls) (others_silent ls s (each_other id ls none))
+
+  presented : (ls : List Device) → length id ≡ 8 → AreSound (map kept ls) → IsPresented (joint (answers_in (map relit ls)))
+  presented ls eight s = by_one (none_or_amid id ls)
+    where
+      by_one : (device_with id ls ≡ None) ⊎ Amid id ls → IsPresented (joint (answers_in (map relit ls)))
+      by_one (inl none) = subst (λ gs. IsPresented (joint gs)) (sym (none_answers ls s none)) tt
+      by_one (inr a) = let r : Answered ls = amid_answers ls eight s a in subst (λ gs. IsPresented (joint gs)) (sym r.one) r.present
+
+  no_answers : (g : Signal) → g ∷ [] ≡ [] → ⊥
+  no_answers g e = cc
+
+  -- where nobody answers, no device of this identifier is there
+  silence_tells : (ls : List Device) → length id ≡ 8 → AreSound (map kept ls) → NoneAnswers devices (inventory_of id) (map relit ls) → device_with id ls ≡ None
+  silence_tells ls eight s n = by_one (none_or_amid id ls)
+    where
+      by_one : (device_with id ls ≡ None) ⊎ Amid id ls → device_with id ls ≡ None
+      by_one (inl none) = none
+      by_one (inr a) = let r : Answered ls = amid_answers ls eight s a in absurd (no_answers r.answer (sym r.one ∙ said_none says (map relit ls) n))
+
+all_of : (P : Device → Type 0) → ((d : Device) → P d) → (ls : List Device) → Each P ls
+all_of P h [] = tt
+all_of P h (l ∷ ls) = (h l, all_of P h ls)
+
+-- a device of either kind stays as it is at an inventory
+stays_at : (id : List ℕ) (d : Device) → stepped_by devices d (inventory_of id) None ≡ d
+stays_at id (T2 d) = refl
+stays_at id (T5 p) = (steady_at id (T5 p) refl).1
+
+-- a device as a reset leaves it
+abbrev IsRelit : Device → Type 0
+IsRelit (T2 d) = d.front ≡ Idle
+IsRelit (T5 p) = p.lit ≡ true
+
+are_relit : (ls : List Device) → AllByRecursion IsRelit (map relit ls)
+are_relit [] = tt
+are_relit (T2 d ∷ ls) = (refl, are_relit ls)
+are_relit (T5 p ∷ ls) = (refl, are_relit ls)
+
+relit_front : (before behind : List Device) → AllByRecursion IsRelit (before ++ behind) → AllByRecursion IsRelit before
+relit_front [] behind h = tt
+relit_front (l ∷ ls) behind h = (h.0, relit_front ls behind h.1)
+
+relit_back : (before behind : List Device) → AllByRecursion IsRelit (before ++ behind) → AllByRecursion IsRelit behind
+relit_back [] behind h = h
+relit_back (l ∷ ls) behind h = relit_back ls behind h.1
+
+relit_aside : (id : List ℕ) (ls : List Device) → AllByRecursion IsRelit ls → AllByRecursion (λ l. id ≡ device_id l → ⊥) ls → AllByRecursion (IsAside ghosts id) ls
+relit_aside id [] h o = tt
+relit_aside id (T2 d ∷ ls) h o = (record { rests = λ t. (ap is_ready h.0, ap is_active h.0); other = o.0 }, relit_aside id ls h.1 o.1)
+relit_aside id (T5 p ∷ ls) h o = (record { rests = λ t. absurd cc; other = o.0 }, relit_aside id ls h.1 o.1)
+
+relit_id : (l : Device) → device_id (relit l) ≡ device_id l
+relit_id (T2 d) = refl
+relit_id (T5 p) = refl
+
+relit_among : (before : List Device) (d : Device) (behind : List Device) → map relit (before ++ d ∷ behind) ≡ map relit before ++ relit d ∷ map relit behind
+relit_among [] d behind = refl
+relit_among (l ∷ ls) d behind = ap (λ xs. relit l ∷ xs) (relit_among ls d behind)
+
+-- the reset of a field is one of the air
+pub reset_done : {T E : Type 0} (old new : Air Device) (r : Result T E) → OnOk r (new ≡ after_event old Reset old.fates (reset_by devices (world old))) → is_err r ≡ false
+    → moment new ≡ with_events air (moment old) (Reset ∷ [])
+reset_done old new (Ok x) h e = ap moment h
+reset_done old new (Err x) h e = absurd cc
+
+module _ (id : List ℕ) (eight : length id ≡ 8) (old mid new : Air Device) (r : Result (Unit {0}) PollFault) (tame : AreTame (map kept old.listeners))
+    (reset : moment mid ≡ with_events air (moment old) (Reset ∷ [])) (turns : Enquires (picking_v id) devices mid r new) where
+  part : Going air (enquiring (picking_v id)) (moment mid) (moment new) turns.notes
+  part = turns.going
+
+  abbrev notes : List Note
+  notes = turns.notes
+
+  abbrev later : List Event
+  later = turns.going.events
+
+  relit_at : mid.listeners ≡ map relit old.listeners
+  relit_at = ap (λ (m : Moment (World Device)). m.world.listeners) reset
+
+  mid_lit : mid.lit ≡ true
+  mid_lit = ap (λ (m : Moment (World Device)). m.world.lit) reset
+
+  abbrev begun : Going air (next id) (moment old) (moment mid) (Lit ∷ [])
+  begun = going_reset air (next id) (moment old) (moment old) (moment mid) [] (going_start air (next id) (moment old)) refl reset
+
+  abbrev whole : Going air (next id) (moment old) (moment new) (Lit ∷ notes)
+  whole = going_then air (next id) (next id) (enquiring (picking_v id)) (moment old) (moment mid) (moment new) (Lit ∷ []) notes (λ ns n p d. p) (λ ns. asks_same (picking_v id) (v_closes id) ns) begun turns.going
+
+  later_is : drop (length mid.trace) new.trace ≡ later
+  later_is = events_are air (moment mid) (moment new) later turns.going.moment
+
+  whole_is : whole.events ≡ Reset ∷ later
+  whole_is =
+      let T : Moment (World Device) → List Event = λ m. m.trace in
+      let all : new.trace ≡ old.trace ++ (Reset ∷ later) = ap T turns.going.moment ∙ ap (λ t. t ++ later) (ap T reset) ∙ append_assoc old.trace (Reset ∷ []) later in
+      sym (events_are air (moment old) (moment new) whole.events whole.moment) ∙ ap (drop (length old.trace)) all ∙ drop-front old.trace (Reset ∷ later)
+
+  told : (r ≡ Err faults.Memory → ⊥) → selecting (ids.V id) (Lit ∷ notes) ≡ followed.Told r []
+  told starved = told_same (picking_v id) (v_closes id) air (moment mid) (moment new) notes r turns.going turns.comes starved
+
+  pub same_kept : map kept new.listeners ≡ map kept old.listeners
+  same_kept = going_keeps (next id) (moment old) (moment new) (Lit ∷ notes) (next_asked id) whole
+
+  abbrev asked : (r ≡ Err faults.Memory → ⊥) → Asked (next id) (moment old) (moment new)
+  asked starved = record { notes = Lit ∷ notes; going = whole; over = ap asks (told starved); same = same_kept }
+
+  only : OnlyAsks (inventory_of id) later
+  only = only_due id [] later turns.going.each
+
+  stay : AllStay (inventory_of id) (map relit old.listeners)
+  stay = all_of (λ d. stepped_by devices d (inventory_of id) None ≡ d) (stays_at id) (map relit old.listeners)
+
+  abbrev heard_joint : Joint
+  heard_joint = joint (answers_in id (map relit old.listeners))
+
+  heard : AllHeard heard_joint notes
+  heard =
+      let O : List Event → Type 0 = OnlyAsks (inventory_of id) in
+      let made : later ≡ trace_of air (moment mid).world turns.going.turns.moves = turns.going.turns.made in
+      subst (AllHeard heard_joint) (ap receptions (sym made) ∙ turns.going.known)
+      (all_heard (inventory_of id) (map relit old.listeners) stay turns.going.turns.moves (moment mid).world relit_at (subst O made only))
+
+  may : MayCome r
+  may = subst MayCome (sym turns.comes) (tries_may id heard_joint (presented id old.listeners eight tame.sound) notes 0 false heard)
