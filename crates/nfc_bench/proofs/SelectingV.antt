@@ -1,5 +1,5 @@
 -- Selecting a Type 5 tag: a reset, and inventories of its identifier, which it alone answers.
-use Rattle.std.proofs.Common.{◌≡◌, ◌⊎◌, ◌↔◌, inl, inr, ℕ, suc, ◌+◌, ◌<◌, ◌≤◌, ◌==◌, ◌&&◌, nat_lt, List, [], ◌∷◌, ◌++◌, map, length, drop, reverse, filter_map, Bool, true, false, if◌then◌else◌, Option, Some, None, IsSome, Result, Ok, Err, refl, sym, ◌∙◌, ap, subst, append_assoc, arith}
+use Rattle.std.proofs.Common.{◌≡◌, ◌⊎◌, ◌↔◌, inl, inr, ℕ, zero, suc, ◌+◌, ◌<◌, ◌≤◌, ◌==◌, ◌&&◌, nat_lt, List, [], ◌∷◌, ◌++◌, map, length, drop, reverse, filter_map, Bool, true, false, if◌then◌else◌, Option, Some, None, IsSome, Result, Ok, Err, refl, sym, ◌∙◌, ap, subst, append_assoc, arith}
 use Rattle.std.proofs.lemmas.List.{length-reverse}
 use Rattle.std.specs.List.{AllByRecursion, cons_option}
 use Rattle.std.specs.Result.{OnOk, is_err}
@@ -36,7 +36,7 @@ use Rattle.nfc_bench.specs.declared.command.DeviceId.TheVariants as ids
 use Rattle.nfc_bench.specs.declared.device.Device.{Device}
 use Rattle.nfc_bench.specs.declared.device.Device.TheVariants.{T2, T5}
 use Rattle.nfc_bench.specs.Powered.{Powered}
-use Rattle.nfc_bench.specs.Device.{devices, device_id}
+use Rattle.nfc_bench.specs.Device.{devices, device_id, device_selected}
 use Rattle.nfc_bench.specs.Legal.{air}
 use Rattle.nfc_bench.specs.Placed.{device_with}
 use Rattle.nfc_bench.specs.Answering.{HasPollCause, MissedBy, poll_answer}
@@ -46,7 +46,7 @@ use Rattle.nfc_bench.specs.Polling as followed
 use Rattle.nfc_bench.specs.Polling.{Followed, follows, pick_v, selecting, asks}
 use Rattle.nfc_bench.proofs.Ours.{steady_at}
 use Rattle.nfc_bench.proofs.Following.{HasEnded, Closes, asks_same, told_same, trace_first, turn_known}
-use Rattle.nfc_bench.proofs.SelectingAir.{over, HasLost, going_lit, going_lost, loses, stays_lit}
+use Rattle.nfc_bench.proofs.SelectingAir.{over, lit_by, HasLost, going_lit, going_lost, loses, stays_lit}
 use Rattle.nfc_bench.proofs.SelectingKept.{IsHarmless, going_keeps}
 use Rattle.nfc_bench.proofs.SelectingPlaces.{not_eight, some_named, Amid, none_or_amid, each_other, sound_amid, sound_front, sound_back, others_before, others_behind}
 use Rattle.nfc_bench.proofs.SelectingA.{events_are}
@@ -550,3 +550,136 @@ module _ (id : List ℕ) (eight : length id ≡ 8) (old mid new : Air Device) (r
 
   may : MayCome r
   may = subst MayCome (sym turns.comes) (tries_may id heard_joint (presented id old.listeners eight tame.sound) notes 0 false heard)
+
+  module _ (lost : LosesByBreak mid r new) (misses : MissesV devices id mid r new) where
+    dark_lit : mid.lit ≡ false → ⊥
+    dark_lit d = let l : mid.lit ≡ true = mid_lit in cc
+
+    lost_there : (mid.lit ≡ false) ⊎ (0 < breaks (drop (length mid.trace) new.trace)) → 0 < breaks whole.events
+    lost_there (inl d) = absurd (dark_lit d)
+    lost_there (inr h) = subst (λ es. 0 < breaks es) (sym whole_is) (subst (λ es. 0 < breaks es) later_is h)
+
+    broken : 0 < breaks later → r ≡ Err faults.FieldLost
+    broken h =
+        let gone : HasLost notes = going_lost devices (enquiring (picking_v id)) (moment mid) (moment new) notes turns.going h in
+        turns.comes ∙ ap (answer_of (picking_v id)) (loses (picking_v id) (Tries 0 false) notes gone)
+
+    lost_back : 0 < breaks whole.events → r ≡ Err faults.FieldLost
+    lost_back h = broken (subst (λ es. 0 < breaks es) whole_is h)
+
+    missed_by : r ≡ Err faults.NotFound → MissedBy (ids.V id) old.listeners whole.events
+    missed_by e = by_miss (misses (all_of (IsSteady devices (inventory_of id)) (steady_at id) mid.listeners) e)
+      where
+        by_miss : NoneAnswers devices (inventory_of id) mid.listeners ⊎ (tries ≤ noise (drop (length mid.trace) new.trace)) → MissedBy (ids.V id) old.listeners whole.events
+        by_miss (inl n) = inl (silence_tells id old.listeners eight tame.sound (subst (NoneAnswers devices (inventory_of id)) relit_at n))
+        by_miss (inr n) = inr (subst (λ es. tries ≤ noise es) (sym whole_is) (subst (λ es. tries ≤ noise es) later_is n))
+
+    cause : (q : Result (Unit {0}) PollFault) → r ≡ q → MayCome q → (q ≡ Err faults.Memory → ⊥) → HasPollCause (ids.V id) old.listeners q whole.events
+    cause (Ok x) e m n = tt
+    cause (Err faults.Nobody) e m n = m
+    cause (Err faults.Disturbed) e m n = m
+    cause (Err faults.FieldLost) e m n = tt
+    cause (Err faults.Memory) e m n = absurd (n refl)
+    cause (Err faults.NotFound) e m n = missed_by e
+    cause (Err faults.BadAnswer) e m n = m
+
+    pub selects : (r ≡ Err faults.Memory → ⊥) → Selects (ids.V id) r (moment old) (moment new)
+    selects starved = record {
+      asked = asked starved;
+      told = told starved;
+      cause = cause r refl may starved;
+      lost = ((λ e. lost_there (lost e)), lost_back);
+    }
+
+    answers : (q : PollFault) → MayCome (Err q) → (q ≡ faults.Memory → ⊥) → IsSome (poll_answer q)
+    answers faults.Nobody m n = absurd m
+    answers faults.Disturbed m n = absurd m
+    answers faults.FieldLost m n = refl
+    answers faults.Memory m n = absurd (n refl)
+    answers faults.NotFound m n = refl
+    answers faults.BadAnswer m n = absurd m
+
+    -- a fault that ends it is answered
+    pub answered : (q : PollFault) → r ≡ Err q → (q ≡ faults.Memory → ⊥) → IsSome (poll_answer q)
+    answered q e n = answers q (subst MayCome e may) n
+
+    module _ (well : r ≡ Ok tt) where
+      not_lost : r ≡ Err faults.FieldLost → ⊥
+      not_lost e = let k : r ≡ Ok tt = well in cc
+
+      not_starving : r ≡ Err faults.Memory → ⊥
+      not_starving e = let k : r ≡ Ok tt = well in cc
+
+      unbroken : breaks later ≡ 0
+      unbroken = by_count (breaks later) refl
+        where
+          by_count : (n : ℕ) → breaks later ≡ n → breaks later ≡ 0
+          by_count zero e = e
+          by_count (suc n) e = absurd (not_lost (broken (omega (arith, e))))
+
+      listeners_are : new.listeners ≡ map relit old.listeners
+      listeners_are =
+          ap (λ (m : Moment (World Device)). m.world.listeners) turns.going.moment
+          ∙ all_stay (inventory_of id) later (moment mid).world only (subst (AllStay (inventory_of id)) (sym relit_at) stay) unbroken ∙ relit_at
+
+      there : Amid id old.listeners
+      there = by_one (none_or_amid id old.listeners)
+        where
+          by_one : (device_with id old.listeners ≡ None) ⊎ Amid id old.listeners → Amid id old.listeners
+          by_one (inr a) = a
+          by_one (inl none) =
+              let silent : AllHeard Nothing notes = subst (λ gs. AllHeard (joint gs) notes) (none_answers id old.listeners tame.sound none) heard in
+              absurd (subst IsVain (sym turns.comes ∙ well) (tries_vain id notes 0 false silent))
+
+      -- there is a device of this identifier
+      pub placed : IsSome (device_with id new.listeners)
+      placed =
+          let a : Amid id old.listeners = there in
+          let all : new.listeners ≡ map relit a.before ++ relit a.device ∷ map relit a.behind = listeners_are ∙ ap (map relit) a.split ∙ relit_among a.before a.device a.behind in
+          subst (λ ls. IsSome (device_with id ls)) (sym all) (some_named id (map relit a.before) (relit a.device) (map relit a.behind) (relit_id a.device ∙ a.named))
+
+      no_loss : (p : Progress (Inventory (Unit {0}))) → Ok tt ≡ answer_of (picking_v id) p → ◌≡◌ {A = Progress (Inventory (Unit {0}))} Loses p → ⊥
+      no_loss p e h = let k : Ok tt ≡ Err faults.FieldLost = e ∙ ap (answer_of (picking_v id)) (sym h) in cc
+
+      lit_at_end : lit_by true notes ≡ true
+      lit_at_end = by_progress (progress (picking_v id) (Tries 0 false) notes) refl (sym well ∙ turns.comes)
+        where
+          by_progress : (p : Progress (Inventory (Unit {0}))) → progress (picking_v id) (Tries 0 false) notes ≡ p → Ok tt ≡ answer_of (picking_v id) (progress (picking_v id) (Tries 0 false) notes) → lit_by true notes ≡ true
+          by_progress (Reaches s) h e = stays_lit (picking_v id) (Tries 0 false) s notes h
+          by_progress Loses h e = absurd (no_loss (progress (picking_v id) (Tries 0 false) notes) e (sym h))
+
+      world_lit : new.lit ≡ true
+      world_lit = going_lit devices (enquiring (picking_v id)) (moment mid) (moment new) notes turns.going ∙ ap (λ v. lit_by v notes) mid_lit ∙ lit_at_end
+
+      relit_all : AllByRecursion IsRelit new.listeners
+      relit_all = subst (AllByRecursion IsRelit) (sym listeners_are) (are_relit old.listeners)
+
+      sound : AreSound (map kept new.listeners)
+      sound = subst AreSound (sym same_kept) tame.sound
+
+      selected_if : (d : Device) → IsRelit d → IsSound (kept d) → device_id d ≡ id → device_selected d ≡ true
+      selected_if (T2 d) h s named = absurd (not_eight (length d.id) s.0.size (ap length named ∙ eight))
+      selected_if (T5 p) h s named = h
+
+      -- it is selected, and stands at the place that was found
+      pub selects_at : (place : ℕ) → StandsAt id new.listeners place → SelectsAt (ids.V id) place (moment old) (moment new)
+      selects_at place s =
+          let whole_sound : AreSound (map kept (s.before ++ s.device ∷ s.behind)) = subst (λ ls. AreSound (map kept ls)) s.split sound in
+          let all : AllByRecursion IsRelit (s.before ++ s.device ∷ s.behind) = subst (AllByRecursion IsRelit) s.split relit_all in
+          let own : IsSound (kept s.device) = sound_amid s.before s.device s.behind whole_sound in
+          let behind : AllByRecursion IsRelit (s.device ∷ s.behind) = relit_back s.before (s.device ∷ s.behind) all in
+          record {
+            selects = subst (λ q. Selects (ids.V id) q (moment old) (moment new)) well (selects not_starving);
+            device = s.device;
+            named = s.named;
+            stands = record {
+              before = s.before;
+              behind = s.behind;
+              world = ap (λ v. record { lit = v; listeners = new.listeners }) world_lit ∙ ap (λ ls. record { lit = true; listeners = ls }) s.split;
+              at = s.at;
+              sound = own;
+              selected = selected_if s.device behind.0 own s.named;
+              first = relit_aside (device_id s.device) s.before (relit_front s.before (s.device ∷ s.behind) all) (others_before s.before s.device s.behind whole_sound);
+              later = relit_aside (device_id s.device) s.behind behind.1 (others_behind s.before s.device s.behind whole_sound);
+            };
+          }
