@@ -8,6 +8,8 @@ pub mod Following
 pub mod SelectingCards
 pub mod SelectingAir
 pub mod SelectingKept
+pub mod Searching
+pub mod Unmoved
 pub mod TagTwo
 pub mod TagFive
 pub mod ReadingTags

@@ -1,12 +1,11 @@
 -- The place of the device with an identifier, among others that have other ones.
-use Rattle.std.proofs.Common.{◌≡◌, ℕ, zero, suc, ◌<◌, List, [], ◌∷◌, ◌++◌, map, length, get_or, Bool, true, false, nat_eq, if◌then◌else◌, Option, Some, None, IsSome, refl, sym, ◌∙◌, ap, subst, arith, ◌⊎◌, inl, inr}
+use Rattle.std.proofs.Common.{◌≡◌, ℕ, zero, suc, ◌<◌, List, [], ◌∷◌, ◌++◌, map, length, get_or, Bool, true, false, nat_eq, if◌then◌else◌, Some, None, IsSome, refl, sym, ◌∙◌, ap, subst, arith, ◌⊎◌, inl, inr}
 use Rattle.std.specs.List.{AllByRecursion}
 use Rattle.std.specs.Cmp.Lexicographic.{pointwise}
-use Rattle.nfca_poll.specs.Ident.{IsIdent, IsIdentLength}
+use Rattle.nfca_poll.specs.Ident.{IsIdentLength}
 use Rattle.nfca_poll.proofs.OneLevel.{pointwise_self}
 use Rattle.t5t_tag.proofs.Bytes.{equal_bytes}
 use Rattle.nfc_bench.specs.declared.device.Device.{Device}
-use Rattle.nfc_bench.specs.declared.device.Device.TheVariants.{T2, T5}
 use Rattle.nfc_bench.specs.Device.{device_id}
 use Rattle.nfc_bench.specs.Placed.{device_with}
 use Rattle.nfc_bench.specs.Phases.{Kept, kept, IsSound, IsApart, AreSound}

@@ -1,37 +1,33 @@
 -- Selecting a Type 5 tag: a reset, and inventories of its identifier, which it alone answers.
-use Rattle.std.proofs.Common.{◌≡◌, ◌⊎◌, ◌↔◌, inl, inr, ℕ, zero, suc, ◌+◌, ◌<◌, ◌≤◌, ◌==◌, ◌&&◌, nat_lt, List, [], ◌∷◌, ◌++◌, map, length, drop, reverse, filter_map, Bool, true, false, if◌then◌else◌, Option, Some, None, IsSome, Result, Ok, Err, refl, sym, ◌∙◌, ap, subst, append_assoc, arith}
+use Rattle.std.proofs.Common.{◌≡◌, ◌⊎◌, inl, inr, ℕ, zero, suc, ◌+◌, ◌<◌, ◌≤◌, ◌==◌, ◌&&◌, nat_lt, List, [], ◌∷◌, ◌++◌, map, length, drop, reverse, filter_map, Bool, true, false, if◌then◌else◌, Option, Some, None, IsSome, Result, Ok, Err, refl, sym, ◌∙◌, ap, subst, append_assoc, arith}
 use Rattle.std.proofs.lemmas.List.{length-reverse}
 use Rattle.std.specs.List.{AllByRecursion, cons_option}
 use Rattle.std.specs.Result.{OnOk, is_err}
 use Rattle.nfc_base.specs.declared.event.Event.{Event}
 use Rattle.nfc_base.specs.declared.event.Event.TheVariants.{Reset, Request, Answer, Clash}
-use Rattle.nfc_base.specs.declared.event.Fate.{Fate}
-use Rattle.nfc_base.specs.declared.event.Fate.TheVariants.{Pass, Damage, Lose, Break}
 use Rattle.nfc_base.specs.declared.event.Heard.{Heard}
 use Rattle.nfc_base.specs.declared.event.Heard.TheVariants.{Whole, Collided, Damaged, Silent}
-use Rattle.nfc_base.specs.declared.frame.Tech.TheVariants.{A as NfcA}
 use Rattle.nfc_base.specs.Signal.{Signal}
-use Rattle.nfc_base.specs.Trace.{breaks, noise, heard_by}
+use Rattle.nfc_base.specs.Trace.{breaks, noise}
 use Rattle.air_core.specs.Joint.{Joint, Nothing, Single, Clashing, joint}
 use Rattle.air_core.specs.Turn.{Air, world, moment, after_event}
-use Rattle.air_core.specs.World.{World, answered_by, stepped_by, reset_by, requested, came_back, stepped}
-use Rattle.air_core.specs.Conversation.{Note, Lit, Got, Lost, note, Next, Over, LightUp, Asks, IsDemand, Moment, Going, EachDue, with_events, replay, receptions, joint_events, joint_back, turn_events, turn_heard, Move, Light, Ask, trace_of}
+use Rattle.air_core.specs.World.{World, answered_by, stepped_by, reset_by}
+use Rattle.air_core.specs.Conversation.{Note, Lit, Got, Lost, Next, Over, LightUp, Asks, Moment, Going, EachDue, with_events, receptions, trace_of}
 use Rattle.air_core.specs.PlainTags.{IsAside}
 use Rattle.air_core.proofs.Turns.{going_start, going_reset, going_then}
 use Rattle.nfca_poll.specs.declared.fault.PollFault.{PollFault}
 use Rattle.nfca_poll.specs.declared.fault.PollFault.TheVariants as faults
 use Rattle.nfca_poll.specs.Crowd.{Each}
 use Rattle.nfca_poll.specs.Front.{Idle, is_ready, is_active}
-use Rattle.nfca_poll.specs.Fronted.{Fronted}
 use Rattle.nfca_poll.specs.Enquiry.{Enquiry, Progress, Reaches, Loses, progress, due_of, enquiring, or_memory, answer_of, Enquires, LosesByBreak}
 use Rattle.nfca_poll.specs.Inventory.{Inventory, Tries, Told, tries, inventory_of, asks_for, is_present, pick_step, pick_ended, picking_v, IsSteady, NoneAnswers, MissesV}
 use Rattle.nfca_poll.proofs.Crowding.{drop-front}
-use Rattle.nfca_poll.proofs.Eaches.{map_none, said_none}
+use Rattle.nfca_poll.proofs.Eaches.{said_none}
 use Rattle.t5t_tag.specs.declared.answer.T5Answer.TheVariants.{Present}
-use Rattle.t5t_tag.specs.Store.{T5State, IsT5State, darkened}
+use Rattle.t5t_tag.specs.Store.{IsT5State, darkened}
 use Rattle.t5t_tag.specs.Spelling.{answer_frame}
 use Rattle.t5t_tag.specs.Step.{T5Turn, sent}
-use Rattle.t5t_tag.proofs.Inventories.{picked, unpicked}
+use Rattle.t5t_tag.proofs.Inventories.{unpicked}
 use Rattle.nfc_bench.specs.declared.command.DeviceId.TheVariants as ids
 use Rattle.nfc_bench.specs.declared.device.Device.{Device}
 use Rattle.nfc_bench.specs.declared.device.Device.TheVariants.{T2, T5}
@@ -41,15 +37,15 @@ use Rattle.nfc_bench.specs.Legal.{air}
 use Rattle.nfc_bench.specs.Placed.{device_with}
 use Rattle.nfc_bench.specs.Answering.{HasPollCause, MissedBy, poll_answer}
 use Rattle.nfc_bench.specs.Choosing.{StandsAt}
-use Rattle.nfc_bench.specs.Phases.{ghosts, kept, IsSound, AreSound, AreTame, Stands, Asked, Selects, SelectsAt}
+use Rattle.nfc_bench.specs.Phases.{ghosts, kept, IsSound, AreSound, AreTame, Asked, Selects, SelectsAt}
 use Rattle.nfc_bench.specs.Polling as followed
 use Rattle.nfc_bench.specs.Polling.{Followed, follows, pick_v, selecting, asks}
-use Rattle.nfc_bench.proofs.Ours.{steady_at}
-use Rattle.nfc_bench.proofs.Following.{HasEnded, Closes, asks_same, told_same, trace_first, turn_known}
-use Rattle.nfc_bench.proofs.SelectingAir.{over, lit_by, HasLost, going_lit, going_lost, loses, stays_lit}
+use Rattle.nfc_bench.proofs.Ours.{steady_at, answers_own}
+use Rattle.nfc_bench.proofs.Following.{HasEnded, Closes, same_asked, light_is_no_request, over_is_no_request, over_is_no_light, asks_same, told_same}
+use Rattle.nfc_bench.proofs.Unmoved.{OnlyAsks, AllHeard, AllStay, all_stay, all_heard}
+use Rattle.nfc_bench.proofs.SelectingAir.{events_are, lit_by, HasLost, going_lit, going_lost, loses, stays_lit}
 use Rattle.nfc_bench.proofs.SelectingKept.{IsHarmless, going_keeps}
 use Rattle.nfc_bench.proofs.SelectingPlaces.{not_eight, some_named, Amid, none_or_amid, each_other, sound_amid, sound_front, sound_back, others_before, others_behind}
-use Rattle.nfc_bench.proofs.SelectingA.{events_are}
 
 -- a device behind a reset
 abbrev pub relit : Device → Device
@@ -69,159 +65,6 @@ more_tries n false true p q h = absurd (fewer n p q)
 told_either : (v : Bool) → HasEnded (pick_ended (if v then Told (Ok tt) else Told (Err faults.BadAnswer)))
 told_either true = tt
 told_either false = tt
-
-same_asked : (f g : Signal) → Asks f ≡ Asks g → g ≡ f
-same_asked f g e = cc
-
-no_asks : (f : Signal) → LightUp ≡ Asks f → ⊥
-no_asks f e = cc
-
-no_light : (f : Signal) → Asks f ≡ LightUp → ⊥
-no_light f e = cc
-
-over_asks : (f : Signal) → Over ≡ Asks f → ⊥
-over_asks f e = cc
-
-over_light : Over ≡ LightUp → ⊥
-over_light e = cc
-
-in_some : (h k : Heard) → Some h ≡ Some k → h ≡ k
-in_some h k e = cc
-
-none_some : (h : Heard) → None ≡ Some h → ⊥
-none_some h e = cc
-
--- each request is this one, and there is no reset
-abbrev OnlyAsks : Signal → List Event → Type 0
-OnlyAsks f [] = Unit {0}
-OnlyAsks f (Reset ∷ es) = ⊥
-OnlyAsks f (Request g x ∷ es) = (g ≡ f) × OnlyAsks f es
-OnlyAsks f (Answer g x ∷ es) = OnlyAsks f es
-OnlyAsks f (Clash g x ∷ es) = OnlyAsks f es
-
-only_joint : (f : Signal) (j : Joint) (y : Fate) (es : List Event) → OnlyAsks f (joint_events j y ++ es) → OnlyAsks f es
-only_joint f Nothing y es h = h
-only_joint f (Single g) y es h = h
-only_joint f (Clashing g) y es h = h
-
-only_turn : (f : Signal) (w : World Device) (g : Signal) (x y : Fate) (es : List Event) → OnlyAsks f (turn_events air w g x y ++ es) → (g ≡ f) × OnlyAsks f es
-only_turn f w g Pass y es h = (h.0, only_joint f (air.joint w g) y es h.1)
-only_turn f w g Damage y es h = h
-only_turn f w g Lose y es h = h
-only_turn f w g Break y es h = h
-
--- what a turn may be heard as whose request is answered so
-abbrev HeardOf : Joint → Heard → Type 0
-HeardOf Nothing h = h ≡ Silent
-HeardOf (Single g) (Whole k) = k ≡ g
-HeardOf (Single g) (Collided k) = ⊥
-HeardOf (Single g) Damaged = Unit {0}
-HeardOf (Single g) Silent = Unit {0}
-HeardOf (Clashing g) h = Unit {0}
-
-silent_of : (j : Joint) → HeardOf j Silent
-silent_of Nothing = refl
-silent_of (Single g) = tt
-silent_of (Clashing g) = tt
-
-back_of_joint : (j : Joint) (y : Fate) (h : Heard) → heard_by Pass (joint_back j y) ≡ Some h → HeardOf j h
-back_of_joint Nothing y h e = sym (in_some Silent h e)
-back_of_joint (Single g) Pass h e = subst (HeardOf (Single g)) (in_some (Whole g) h e) refl
-back_of_joint (Single g) Damage h e = subst (HeardOf (Single g)) (in_some Damaged h e) tt
-back_of_joint (Single g) Lose h e = subst (HeardOf (Single g)) (in_some Silent h e) tt
-back_of_joint (Single g) Break h e = absurd (none_some h e)
-back_of_joint (Clashing g) y h e = tt
-
-heard_of_turn : (w : World Device) (f : Signal) (x y : Fate) (h : Heard) → turn_heard air w f x y ≡ Some h → HeardOf (air.joint w f) h
-heard_of_turn w f Pass y h e = back_of_joint (air.joint w f) y h e
-heard_of_turn w f Damage y h e = subst (HeardOf (air.joint w f)) (in_some Silent h e) (silent_of (air.joint w f))
-heard_of_turn w f Lose y h e = subst (HeardOf (air.joint w f)) (in_some Silent h e) (silent_of (air.joint w f))
-heard_of_turn w f Break y h e = absurd (none_some h e)
-
--- all that was heard up to the loss of the field
-abbrev AllHeard : Joint → List Note → Type 0
-AllHeard j [] = Unit {0}
-AllHeard j (Lit ∷ ns) = ⊥
-AllHeard j (Got h ∷ ns) = HeardOf j h × AllHeard j ns
-AllHeard j (Lost ∷ ns) = Unit {0}
-
--- devices that stay as they are at a request
-abbrev AllStay : Signal → List Device → Type 0
-AllStay f ls = Each (λ l. stepped_by devices l f None ≡ l) ls
-
-stepped_same : (f : Signal) (ls : List Device) → AllStay f ls → map (λ l. stepped_by devices l f None) ls ≡ ls
-stepped_same f ls s = map_none (λ l. stepped_by devices l f None) ls s
-
-back_stays : (w : World Device) (j : Joint) (y : Fate) (h : Heard) → heard_by Pass (joint_back j y) ≡ Some h → (over devices (joint_events j y) w).listeners ≡ w.listeners
-back_stays w Nothing y h e = refl
-back_stays w (Single g) Pass h e = refl
-back_stays w (Single g) Damage h e = refl
-back_stays w (Single g) Lose h e = refl
-back_stays w (Single g) Break h e = absurd (none_some h e)
-back_stays w (Clashing g) Pass h e = refl
-back_stays w (Clashing g) Damage h e = refl
-back_stays w (Clashing g) Lose h e = refl
-back_stays w (Clashing g) Break h e = absurd (none_some h e)
-
-turn_stays : (w : World Device) (f : Signal) (x y : Fate) (h : Heard) → turn_heard air w f x y ≡ Some h → AllStay f w.listeners → (over devices (turn_events air w f x y) w).listeners ≡ w.listeners
-turn_stays w f Pass y h e s = back_stays (stepped devices w f) (air.joint w f) y h e ∙ stepped_same f w.listeners s
-turn_stays w f Damage y h e s = refl
-turn_stays w f Lose y h e s = refl
-turn_stays w f Break y h e s = absurd (none_some h e)
-
--- where no Break is used, they are as they were
-pub all_stay : (f : Signal) (es : List Event) (w : World Device) → OnlyAsks f es → AllStay f w.listeners → breaks es ≡ 0 → (over devices es w).listeners ≡ w.listeners
-all_stay f [] w h s b = refl
-all_stay f (Reset ∷ es) w h s b = absurd h
-all_stay f (Request g Pass ∷ es) w h s b =
-    let same : (stepped devices w g).listeners ≡ w.listeners = ap (λ k. map (λ l. stepped_by devices l k None) w.listeners) h.0 ∙ stepped_same f w.listeners s in
-    all_stay f es (stepped devices w g) h.1 (subst (AllStay f) (sym same) s) (omega (arith, b)) ∙ same
-all_stay f (Request g Damage ∷ es) w h s b = all_stay f es w h.1 s (omega (arith, b))
-all_stay f (Request g Lose ∷ es) w h s b = all_stay f es w h.1 s (omega (arith, b))
-all_stay f (Request g Break ∷ es) w h s b = absurd (omega (arith, b))
-all_stay f (Answer g Pass ∷ es) w h s b = all_stay f es w h s (omega (arith, b))
-all_stay f (Answer g Damage ∷ es) w h s b = all_stay f es w h s (omega (arith, b))
-all_stay f (Answer g Lose ∷ es) w h s b = all_stay f es w h s (omega (arith, b))
-all_stay f (Answer g Break ∷ es) w h s b = absurd (omega (arith, b))
-all_stay f (Clash g Pass ∷ es) w h s b = all_stay f es w h s (omega (arith, b))
-all_stay f (Clash g Damage ∷ es) w h s b = all_stay f es w h s (omega (arith, b))
-all_stay f (Clash g Lose ∷ es) w h s b = all_stay f es w h s (omega (arith, b))
-all_stay f (Clash g Break ∷ es) w h s b = absurd (omega (arith, b))
-
--- What is heard among devices that stay as they are.
-module _ (f : Signal) (ls : List Device) (s : AllStay f ls) where
-  abbrev joint_in : Joint
-  joint_in = joint (filter_map (λ l. answered_by devices l f None) ls)
-
-  abbrev behind : World Device → Signal → Fate → Fate → List (Move air) → List Event
-  behind w g x y ks = trace_of air (over devices (turn_events air w g x y) w) ks
-
-  module _ (w : World Device) (at : w.listeners ≡ ls) (g : Signal) (x y : Fate) (ks : List (Move air))
-      (more : (over devices (turn_events air w g x y) w).listeners ≡ ls → OnlyAsks f (behind w g x y ks) → AllHeard joint_in (receptions (behind w g x y ks))) where
-    heard_turn : (o : Option Heard) → turn_heard air w g x y ≡ o → g ≡ f → OnlyAsks f (behind w g x y ks) → AllHeard joint_in (note o ∷ receptions (behind w g x y ks))
-    heard_turn None e same only = tt
-    heard_turn (Some h) e same only =
-        let there : air.joint w g ≡ joint_in = ap (λ (k : Signal). joint (filter_map (λ l. answered_by devices l k None) w.listeners)) same ∙ ap (λ ds. joint (filter_map (λ l. answered_by devices l f None) ds)) at in
-        let stay : AllStay g w.listeners = subst (λ k. AllStay k w.listeners) (sym same) (subst (AllStay f) (sym at) s) in
-        (subst (λ j. HeardOf j h) there (heard_of_turn w g x y h e), more (turn_stays w g x y h e stay ∙ at) only)
-
-    heard_asked : OnlyAsks f (turn_events air w g x y ++ behind w g x y ks) → AllHeard joint_in (receptions (turn_events air w g x y ++ behind w g x y ks))
-    heard_asked q =
-        let k = only_turn f w g x y (behind w g x y ks) q in
-        subst (AllHeard joint_in) (sym (turn_known air w g x y (behind w g x y ks) (trace_first air (over devices (turn_events air w g x y) w) ks))) (heard_turn (turn_heard air w g x y) refl k.0 k.1)
-
-  all_heard : (ks : List (Move air)) (w : World Device) → w.listeners ≡ ls → OnlyAsks f (trace_of air w ks) → AllHeard joint_in (receptions (trace_of air w ks))
-  all_heard [] w at q = tt
-  all_heard (Light ∷ ks) w at q = absurd q
-  all_heard (Ask g x y ∷ ks) w at q =
-      by_light w.lit q (λ p. all_heard ks w at p) (λ p. heard_asked w at g x y ks (λ k o. all_heard ks (over devices (turn_events air w g x y) w) k o) p)
-    where
-      by_light : (v : Bool) → OnlyAsks f ((if v then turn_events air w g x y else []) ++ trace_of air (replay air w (if v then turn_events air w g x y else [])) ks)
-          → (OnlyAsks f (trace_of air w ks) → AllHeard joint_in (receptions (trace_of air w ks)))
-          → (OnlyAsks f (turn_events air w g x y ++ behind w g x y ks) → AllHeard joint_in (receptions (turn_events air w g x y ++ behind w g x y ks)))
-          → AllHeard joint_in (receptions ((if v then turn_events air w g x y else []) ++ trace_of air (replay air w (if v then turn_events air w g x y else [])) ks))
-      by_light false p same turn = same p
-      by_light true p same turn = turn p
 
 -- nobody answers, or one answer of the form that an inventory has
 abbrev IsPresented : Joint → Type 0
@@ -289,22 +132,22 @@ module _ (id : List ℕ) where
   v_closes = record { silent = v_silent; lit = λ s h. h; heard = v_heard }
 
   tries_ask : (v : Bool) (f : Signal) → (if v then Asks inventory else Over) ≡ Asks f → f ≡ inventory
-  tries_ask true f e = same_asked inventory f e
-  tries_ask false f e = absurd (over_asks f e)
+  tries_ask true f e = sym (same_asked inventory f e)
+  tries_ask false f e = absurd (over_is_no_request f e)
 
   tries_light : (v : Bool) → (if v then Asks inventory else Over) ≡ LightUp → ⊥
-  tries_light true e = no_light inventory e
-  tries_light false e = over_light e
+  tries_light true e = light_is_no_request inventory (sym e)
+  tries_light false e = over_is_no_light e
 
   due_only : (p : Progress (Inventory (Unit {0}))) (f : Signal) → due_of call p ≡ Asks f → f ≡ inventory
   due_only (Reaches (Tries n d)) f e = tries_ask (nat_lt n tries) f e
-  due_only (Reaches (Told r)) f e = absurd (over_asks f e)
-  due_only Loses f e = absurd (over_asks f e)
+  due_only (Reaches (Told r)) f e = absurd (over_is_no_request f e)
+  due_only Loses f e = absurd (over_is_no_request f e)
 
   never_lit : (p : Progress (Inventory (Unit {0}))) → due_of call p ≡ LightUp → ⊥
   never_lit (Reaches (Tries n d)) e = tries_light (nat_lt n tries) e
-  never_lit (Reaches (Told r)) e = over_light e
-  never_lit Loses e = over_light e
+  never_lit (Reaches (Told r)) e = over_is_no_light e
+  never_lit Loses e = over_is_no_light e
 
   only_due : (before es : List Event) → EachDue (enquiring call) before es → OnlyAsks inventory es
   only_due before [] q = tt
@@ -321,10 +164,10 @@ module _ (id : List ℕ) where
   next ns = asks (selecting (ids.V id) ns)
 
   next_asked : (ns : List Note) (f : Signal) → next ns ≡ Asks f → IsHarmless f
-  next_asked [] f e = absurd (no_asks f e)
+  next_asked [] f e = absurd (light_is_no_request f e)
   next_asked (Lit ∷ ns) f e = subst IsHarmless (sym (due_only (progress call (Tries 0 false) ns) f (sym (asks_same call v_closes ns) ∙ e))) harmless
   next_asked (Got h ∷ ns) f e = next_asked ns f e
-  next_asked (Lost ∷ ns) f e = absurd (over_asks f e)
+  next_asked (Lost ∷ ns) f e = absurd (over_is_no_request f e)
 
   told_may : (q : Result (Unit {0}) PollFault) (ns : List Note) → MayCome q → MayCome (answer_of call (progress call (Told q) ns))
   told_may q [] m = m
@@ -379,7 +222,7 @@ module _ (id : List ℕ) where
   others_silent (l ∷ ls) s o = (other_silent l s.0 o.0, others_silent ls s.2 o.1)
 
   own_answer : (p : Powered) → IsSound (kept (T5 p)) → p.tag.id ≡ id → says (relit (T5 p)) ≡ Some (answer_frame (Present p.tag.id))
-  own_answer p s named = ap (λ i. answered_by devices (relit (T5 p)) (inventory_of i) None) (sym named) ∙ ap (λ (x : T5Turn). sent x.answer) (picked (darkened p.tag) (state_of p s) refl)
+  own_answer p s named = ap (λ i. answered_by devices (relit (T5 p)) (inventory_of i) None) (sym named) ∙ answers_own (darkened p.tag) (state_of p s) refl
 
   one_answer : (before : List Device) (d : Device) (behind : List Device) (g : Signal) → Each (λ l. says l ≡ None) (map relit before) → says (relit d) ≡ Some g → Each (λ l. says l ≡ None) (map relit behind)
       → answers_in (map relit (before ++ d ∷ behind)) ≡ g ∷ []

@@ -59,11 +59,7 @@ fn none_selected(fault: PollFault) -> Result<Selection, AllocError>
 }
 
 /// Selects the NFC-A device with this identifier.
-fn select_a(
-    alloc: Global,
-    field: &mut Field<Device>,
-    id: &Ident,
-) -> Result<Selection, AllocError>
+fn select_a(alloc: Global, field: &mut Field<Device>, id: &Ident) -> Result<Selection, AllocError>
     requires idle { IsIdle field.old }
     ensures { IfOk result (λ s. SelectsTo (DeviceId.A id.now) s (moment field.old) (moment field.new)) }
 {

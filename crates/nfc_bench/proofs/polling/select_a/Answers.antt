@@ -28,7 +28,7 @@ returns-in-Err c =
     let P : Result Kind PollFault → Type 0 = λ r. Selects (ids.A c.args.id.now) (any r) (moment c.args.field.now) (moment c.pick.new.field) in
     if_missed c.none_selected.result c.in-Err.fault (λ s. SelectsTo (ids.A c.args.id.now) s (moment c.args.field.now) (moment c.pick.new.field)) c.none_selected.ensures (λ m. (
       subst P c.in-Err.is
-      (selects c.args.id.now c.args.field.now c.pick.new.field c.pick.result c.view-wanted.ensures.valid c.requires.idle.tame c.pick.ensures.turns c.pick.ensures.lost c.pick.ensures.crowd
-      (not_starved c.pick.result c.in-Err.fault c.in-Err.is m)),
+          (selects c.args.id.now c.args.field.now c.pick.new.field c.pick.result c.view-wanted.ensures.valid c.requires.idle.tame c.pick.ensures.turns c.pick.ensures.lost c.pick.ensures.crowd
+          (not_starved c.pick.result c.in-Err.fault c.in-Err.is m)),
       answered c.args.id.now c.args.field.now c.pick.new.field c.pick.result c.view-wanted.ensures.valid c.requires.idle.tame c.pick.ensures.turns c.pick.ensures.lost c.pick.ensures.crowd c.in-Err.fault c.in-Err.is m,
     ))

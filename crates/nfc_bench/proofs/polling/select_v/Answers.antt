@@ -1,12 +1,10 @@
-use Rattle.std.proofs.Common.{◌≡◌, List, length, Result, true, false, sym, ◌∙◌, ap, subst, IsSome, arith}
-use Rattle.nfc_base.specs.declared.event.Event.TheVariants.{Reset}
-use Rattle.air_core.specs.Turn.{Air, moment}
+use Rattle.std.proofs.Common.{◌≡◌, List, length, Result, true, sym, ◌∙◌, ap, subst, IsSome, arith}
+use Rattle.air_core.specs.Turn.{moment}
 use Rattle.air_core.specs.World.{World}
-use Rattle.air_core.specs.Conversation.{Moment, with_events}
+use Rattle.air_core.specs.Conversation.{Moment}
 use Rattle.nfca_poll.specs.declared.fault.PollFault.{PollFault}
 use Rattle.nfc_bench.specs.declared.command.DeviceId.TheVariants as ids
 use Rattle.nfc_bench.specs.declared.device.Device.{Device}
-use Rattle.nfc_bench.specs.Legal.{air}
 use Rattle.nfc_bench.specs.Placed.{device_with}
 use Rattle.nfc_bench.specs.Choosing.{StandsAt}
 use Rattle.nfc_bench.specs.Phases.{Selects, SelectsTo}
@@ -37,7 +35,7 @@ returns-in-Err c =
     let P : Result (Unit {0}) PollFault → Type 0 = λ r. Selects (ids.V c.args.id) r (moment c.args.field.now) (moment c.pick_v.new.field) in
     if_missed c.none_selected.result c.in-Err.fault (λ s. SelectsTo (ids.V c.args.id) s (moment c.args.field.now) (moment c.pick_v.new.field)) c.none_selected.ensures (λ m. (
       subst P c.in-Err.is
-      (selects c.args.id eight c.args.field.now c.reset.new.self c.pick_v.new.field c.pick_v.result c.requires.idle.tame reset (c.pick_v.ensures.turns lit) c.pick_v.ensures.lost (c.pick_v.ensures.cause lit)
-      (not_starved c.pick_v.result c.in-Err.fault c.in-Err.is m)),
+          (selects c.args.id eight c.args.field.now c.reset.new.self c.pick_v.new.field c.pick_v.result c.requires.idle.tame reset (c.pick_v.ensures.turns lit) c.pick_v.ensures.lost (c.pick_v.ensures.cause lit)
+          (not_starved c.pick_v.result c.in-Err.fault c.in-Err.is m)),
       answered c.args.id eight c.args.field.now c.reset.new.self c.pick_v.new.field c.pick_v.result c.requires.idle.tame reset (c.pick_v.ensures.turns lit) c.pick_v.ensures.lost (c.pick_v.ensures.cause lit) c.in-Err.fault c.in-Err.is m,
     ))
