@@ -1,36 +1,22 @@
 -- The devices of the bench are listeners of this project: a Type 2 tag polls by its front, and a Type 5 tag has none.
-use Rattle.std.proofs.Common.{◌≡◌, ℕ, List, [], ◌∷◌, length, Bool, true, false, ◌&&◌, ◌==◌, not, reverse, if◌then◌else◌, Option, Some, None, inl, refl, sym, ◌∙◌, ap, arith}
-use Rattle.nfc_base.specs.declared.frame.Tech.TheVariants.{A, V}
+use Rattle.std.proofs.Common.{◌≡◌, ℕ, List, [], ◌∷◌, Bool, true, false, ◌&&◌, ◌==◌, not, reverse, if◌then◌else◌, Some, refl, ap}
+use Rattle.nfc_base.specs.declared.frame.Tech.TheVariants.{A}
 use Rattle.nfc_base.specs.Signal.{Signal, whole_v}
-use Rattle.air_core.specs.Conversation.{AirModel}
-use Rattle.air_core.specs.World.{World}
 use Rattle.nfca_poll.specs.declared.kind.Kind.{Kind}
 use Rattle.nfca_poll.specs.declared.kind.Kind.TheVariants as kinds
-use Rattle.nfca_poll.specs.declared.upper.UpStep.{UpStep}
-use Rattle.nfca_poll.specs.declared.upper.UpStep.TheVariants as said
-use Rattle.nfca_poll.specs.Calls.{Call, Calls, Reading, Other, call_of}
-use Rattle.nfca_poll.specs.Fronted.{Fronted, active_answer, active_after}
-use Rattle.nfca_poll.specs.AnyStart.{YieldsToCalls, LeavesAtCalls}
 use Rattle.nfca_poll.specs.Front.{Front, Off, Idle, Sleep, Ready, Active, is_active}
-use Rattle.nfca_poll.specs.Crowd.{AreOurs, StepsByFront}
+use Rattle.nfca_poll.specs.Crowd.{StepsByFront}
 use Rattle.nfca_poll.specs.Inventory.{inventory_all, inventory_of, IsSteady}
-use Rattle.nfca_poll.specs.Muted.{mute_air}
-use Rattle.t2t_tag.specs.declared.command.T2Command.{T2Command}
-use Rattle.t2t_tag.specs.declared.command.T2Command.TheVariants.{Read, Write}
-use Rattle.t2t_tag.specs.Spelling.{T2Spelling, command_frame, spelled_command}
-use Rattle.t2t_tag.specs.Step.{reply_frame, t2_answer, t2_after}
 use Rattle.t2t_tag.specs.Store.{T2Memory}
-use Rattle.t2t_tag.proofs.Spellings.{exact_by}
 use Rattle.t5t_tag.specs.declared.answer.T5Answer.TheVariants.{Present}
 use Rattle.t5t_tag.specs.Mask.{asks_for}
 use Rattle.t5t_tag.specs.Spelling.{inventory_flags, inventory_code, answer_frame}
-use Rattle.t5t_tag.specs.Step.{T5Turn, tells, silent, sent, t5_turn, t5_after}
+use Rattle.t5t_tag.specs.Step.{T5Turn, tells, silent, sent, t5_after}
 use Rattle.t5t_tag.specs.Store.{T5State, IsT5State}
 use Rattle.t5t_tag.proofs.Inventories.{picked}
 use Rattle.nfc_bench.specs.declared.device.Device.{Device}
 use Rattle.nfc_bench.specs.declared.device.Device.TheVariants.{T2, T5}
-use Rattle.nfc_bench.specs.Device.{devices, device_id, device_answer, device_after, says_of, t2_machine}
-use Rattle.nfc_bench.specs.Legal.{air}
+use Rattle.nfc_bench.specs.Device.{devices, device_id, device_answer, device_after}
 
 -- what a device tells that it is, and its front; a Type 5 tag has none
 abbrev pub device_kind : Device → Kind
@@ -52,66 +38,6 @@ by_front (Active starred) id u f a = absurd cc
 pub steps : (l : Device) (f : Signal) → devices.tech l ≡ A → is_active (device_front l) ≡ false → StepsByFront devices device_id device_kind device_front l f
 steps (T2 d) f t a = by_front d.front d.id d.upper f a
 steps (T5 p) f t a = absurd cc
-
-pub ours : AreOurs devices device_id
-ours = record { kind = device_kind; front = device_front; steps = steps }
-
--- No command of a Type 2 tag is a call of a reader, so a selected tag leaves its state by the front's table at each call.
-other_call : (r : Reading) (c : Call) → r ≡ Other → r ≡ Calls c → ⊥
-other_call r c e k = cc
-
-no_write : (block : ℕ) (content : List ℕ) (c : Call) → length content ≡ 4 → call_of (command_frame (Write block content)) ≡ Calls c → ⊥
-no_write block [] c n k = absurd cc
-no_write block (x ∷ []) c n k = absurd cc
-no_write block (x ∷ y ∷ []) c n k = absurd cc
-no_write block (x ∷ y ∷ z ∷ []) c n k = absurd cc
-no_write block (x ∷ y ∷ z ∷ t ∷ []) c n k = other_call (call_of (command_frame (Write block (x ∷ y ∷ z ∷ t ∷ [])))) c refl k
-no_write block (x ∷ y ∷ z ∷ t ∷ v ∷ rest) c n k = absurd (omega (arith, n))
-
-no_call : (f : Signal) (c : Call) (t : T2Command) → T2Spelling t f → call_of f ≡ Calls c → ⊥
-no_call f c (Read block) s k = other_call (call_of (command_frame (Read block))) c refl (sym (ap call_of s) ∙ k)
-no_call f c (Write block content) s k = no_write block content c s.0 (sym (ap call_of s.1) ∙ k)
-
-no_command : (f : Signal) (c : Call) → call_of f ≡ Calls c → spelled_command f ≡ None
-no_command f c k = by_command (spelled_command f) refl
-  where
-    by_command : (o : Option T2Command) → spelled_command f ≡ o → o ≡ None
-    by_command None e = refl
-    by_command (Some t) e = absurd (no_call f c t ((exact_by f (spelled_command f) refl t).0 e) k)
-
-yields_by : (front : Front) (id : List ℕ) (u : T2Memory) (f : Signal) (c : Call) → is_active front ≡ true → call_of f ≡ Calls c
-    → StepsByFront devices device_id device_kind device_front (T2 (record { id = id; front = front; upper = u })) f
-yields_by Off id u f c a k = absurd cc
-yields_by Idle id u f c a k = absurd cc
-yields_by Sleep id u f c a k = absurd cc
-yields_by (Ready j starred) id u f c a k = absurd cc
-yields_by (Active starred) id u f c a k =
-    let d : Fronted T2Memory = record { id = id; front = Active starred; upper = u } in
-    let s : says_of (t2_answer u f) ≡ said.Foreign = ap (λ o. says_of (reply_frame u o)) (no_command f c k) in
-    let after : UpStep → Fronted T2Memory = λ x. active_after t2_machine x (t2_after u f) d f in
-    record {
-      untouched = refl;
-      says = ap (λ x. active_answer t2_machine x d f) s;
-      goes = ap (λ x. (after x).front) s;
-      same_tech = refl;
-      same_id = ap (λ x. (after x).id) s;
-      same_kind = refl;
-    }
-
-pub yields : YieldsToCalls ours
-unfolding ours
-yields (T2 d) f c t a k = inl (yields_by d.front d.id d.upper f c a k)
-yields (T5 p) f c t a k = absurd cc
-
--- None of them has a link.
-pub leaves : LeavesAtCalls ours (λ d. true)
-unfolding ours
-leaves (T2 d) f c t u k = ((λ a. yields_by d.front d.id d.upper f c a k), refl)
-leaves (T5 p) f c t u k = absurd cc
-
--- Tags hand nothing over, so a far end makes no difference to their air.
-pub mute_is_quiet : ◌≡◌ {A = AirModel (World Device)} (mute_air devices) air
-mute_is_quiet = refl
 
 -- Whether it answers an inventory or not, a Type 5 tag stays as it is.
 told_stays : (v : Bool) (t : T5State) → (if v then tells t (Present t.id) else silent t).after ≡ t
