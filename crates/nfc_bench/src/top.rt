@@ -11,6 +11,8 @@ ghost use Rattle.nfc_bench.specs.Stops.{RunStops};
 mod input;
 mod lines;
 #[cfg(test)]
+mod crowd_tests;
+#[cfg(test)]
 mod tags_tests;
 #[cfg(test)]
 mod tests;
