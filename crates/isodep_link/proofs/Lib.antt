@@ -2,3 +2,9 @@ pub mod Spelled
 pub mod Once
 pub mod Ended
 pub mod Brought
+pub mod Wire
+pub mod Standing
+pub mod Landing
+pub mod Hearing
+pub mod Obeyed
+pub mod Session

@@ -3,3 +3,5 @@ pub mod Sizes
 pub mod Card
 pub mod Commands
 pub mod Reader
+pub mod Exchange
+pub mod Sessions

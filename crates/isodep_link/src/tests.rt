@@ -3,7 +3,7 @@
 ghost use Rattle.std.specs.Prelude.{◌≤◌, length};
 
 use crate::{CardEnd, CardStep, ReaderEnd, ReaderStep};
-use nfc_base::{Frame, Heard, Tech};
+use nfc_base::{Fate, Frame, Heard, Tech};
 use std::process::Abort;
 use std::test::Fail;
 
@@ -208,53 +208,146 @@ fn a_chain_above_264_bytes_makes_the_card_silent(rt: HostRuntime) -> Result<(), 
     Ok(())
 }
 
-/// One exchange, in which the transmissions whose bits stand in `lost` are lost. The card obeys exactly once.
+/// How an exchange ended.
+#[derive(Clone, Copy, Debug, PartialEq, Eq)]
+enum End {
+    Answered,
+    SixBad,
+    FieldLost,
+}
+
+/// How often the card obeyed the command of an exchange, how many transmissions and bad receptions it took, and the
+/// fates that are left, two bits each.
+#[derive(Debug, Drop)]
+struct Course {
+    obeyed: u32,
+    sent: u32,
+    bads: u32,
+    fates: u32,
+}
+
+/// The fate of the next transmission. Behind the last one that is given all pass.
+fn next_fate(course: &mut Course) -> Fate {
+    let letter = course.fates % 4;
+    course.fates /= 4;
+    course.sent = course.sent.saturating_add(1);
+    match letter {
+        0 => Fate::Pass,
+        1 => Fate::Damage,
+        2 => Fate::Lose,
+        _ => Fate::Break,
+    }
+}
+
+/// One turn: what the reader hears, none where the field is lost.
+fn turn<R: Abort>(
+    rt: &R,
+    card: &mut CardEnd,
+    frame: &Frame,
+    command: &[u8],
+    answer: &[u8],
+    course: &mut Course,
+) -> Result<Option<Heard>, Fail>
+    requires { length answer.now ≤ 264 }
+{
+    match next_fate(course) {
+        Fate::Pass => {}
+        Fate::Damage | Fate::Lose => return Ok(Some(Heard::Silent)),
+        Fate::Break => return Ok(None),
+    }
+    let back = match card.hear(frame) {
+        CardStep::Quiet => return Ok(Some(Heard::Silent)),
+        CardStep::Reply(block) => block,
+        CardStep::Asleep(block) => block,
+        CardStep::Deliver(got) => {
+            assert!(rt; got.as_slice() == command);
+            course.obeyed = course.obeyed.saturating_add(1);
+            card.reply(answer)
+        }
+    };
+    Ok(match next_fate(course) {
+        Fate::Pass => Some(Heard::Whole(back)),
+        Fate::Damage => Some(Heard::Damaged),
+        Fate::Lose => Some(Heard::Silent),
+        Fate::Break => None,
+    })
+}
+
+/// One exchange, up to its end.
 fn exchange<R: Abort>(
     rt: &R,
     reader: &mut ReaderEnd,
     card: &mut CardEnd,
     command: &[u8],
     answer: &[u8],
-    lost: u32,
-) -> Result<(), Fail>
+    course: &mut Course,
+) -> Result<End, Fail>
     requires command { length command.now ≤ 264 }
     requires answer { length answer.now ≤ 264 }
 {
-    let mut delivered = 0u8;
-    let mut lost = lost;
     let mut frame = reader.begin(command);
-    for _ in 0..64 {
-        let mut heard = Heard::Silent;
-        if lost % 2 == 0 {
-            heard = match card.hear(&frame) {
-                CardStep::Quiet => Heard::Silent,
-                CardStep::Reply(block) => Heard::Whole(block),
-                CardStep::Asleep(block) => Heard::Whole(block),
-                CardStep::Deliver(got) => {
-                    assert!(rt; got.as_slice() == command);
-                    delivered = delivered.saturating_add(1);
-                    Heard::Whole(card.reply(answer))
-                }
-            };
-            lost /= 2;
-            if lost % 2 == 1 {
-                heard = Heard::Damaged;
-            }
+    for _ in 0..200 {
+        let heard = match turn(rt, card, &frame, command, answer, course)? {
+            Some(heard) => heard,
+            None => return Ok(End::FieldLost),
+        };
+        if !matches!(heard, Heard::Whole(_)) {
+            course.bads = course.bads.saturating_add(1);
         }
-        lost /= 2;
         match reader.next(&heard) {
             ReaderStep::Send(next) => frame = next,
             ReaderStep::Finished(got) => {
                 assert!(rt; got.as_slice() == answer);
-                assert_eq!(rt; delivered, 1);
-                return Ok(());
+                return Ok(End::Answered);
             }
-            ReaderStep::SixBad => assert!(rt; false, "six bad"),
+            ReaderStep::SixBad => return Ok(End::SixBad),
             ReaderStep::Protocol => assert!(rt; false, "protocol"),
         }
     }
     assert!(rt; false, "no end");
-    Ok(())
+    Ok(End::FieldLost)
+}
+
+/// Whether an exchange went as the law has it: the card obeyed at most once, and exactly once where it was answered; with
+/// so many blocks out and back, and b bad receptions, at most 2 (out + back - 1) + 4 b transmissions.
+fn is_lawful(course: &Course, end: End, out: u32, back: u32) -> bool {
+    let once = match end {
+        End::Answered => course.obeyed == 1,
+        End::SixBad => course.obeyed <= 1 && course.bads >= 6,
+        End::FieldLost => course.obeyed <= 1,
+    };
+    let back = if course.obeyed == 0 { 1 } else { back };
+    let rounds = out.saturating_add(back).saturating_sub(1);
+    let most = rounds
+        .saturating_mul(2)
+        .saturating_add(course.bads.saturating_mul(4));
+    once && course.sent <= most
+}
+
+/// A command and an answer of these sizes, and the blocks of at most 13 bytes that they take.
+type Sizes = (usize, usize, u32, u32);
+
+/// One exchange over these fates. Where it is answered the next one, over air in which all pass, takes as few
+/// transmissions as it can.
+fn over_fates<R: Abort>(
+    rt: &R,
+    reader: &mut ReaderEnd,
+    card: &mut CardEnd,
+    sizes: &Sizes,
+    fates: u32,
+) -> Result<End, Fail> {
+    let bytes = counted();
+    let command = &bytes[..sizes.0.min(264)];
+    let answer = &bytes[..sizes.1.min(264)];
+    let mut course = Course {
+        obeyed: 0,
+        sent: 0,
+        bads: 0,
+        fates,
+    };
+    let end = exchange(rt, reader, card, command, answer, &mut course)?;
+    assert!(rt; is_lawful(&course, end, sizes.2, sizes.3), "over {fates:x}");
+    Ok(end)
 }
 
 /// A card that heard RATS.
@@ -267,55 +360,114 @@ fn lit_card(rats: &Frame, code: u8) -> CardEnd
 }
 
 #[test]
-fn commands_of_a_tag(rt: HostRuntime) -> Result<(), Fail> {
+fn all_lists_of_five_fates(rt: HostRuntime) -> Result<(), Fail> {
+    let rats = Frame::whole(Tech::A, &[0xE0, 0])?;
+    let rows: [Sizes; 4] = [(1, 2, 1, 1), (14, 13, 2, 1), (13, 14, 1, 2), (27, 40, 3, 4)];
+    for sizes in &rows {
+        for fates in 0..1024u32 {
+            let mut card = lit_card(&rats, 0);
+            let mut reader = ReaderEnd::new(0);
+            let end = over_fates(&rt, &mut reader, &mut card, sizes, fates)?;
+            if end == End::Answered {
+                let next = over_fates(&rt, &mut reader, &mut card, sizes, 0)?;
+                assert_eq!(rt; next, End::Answered);
+            }
+        }
+    }
+    Ok(())
+}
+
+/// The number after one in a long row of numbers.
+fn shuffled(number: u32) -> u32 {
+    number.wrapping_mul(1_664_525).wrapping_add(1_013_904_223)
+}
+
+#[test]
+fn lists_of_twelve_fates(rt: HostRuntime) -> Result<(), Fail> {
+    let rats = Frame::whole(Tech::A, &[0xE0, 0])?;
+    let sizes: Sizes = (27, 40, 3, 4);
+    let mut card = lit_card(&rats, 0);
+    let mut reader = ReaderEnd::new(0);
+    let mut number = 1u32;
+    let mut ends = [0u32; 3];
+    for round in 0..3000u32 {
+        number = shuffled(number);
+        let mut fates = number >> 8;
+        if round % 3 != 0 {
+            fates &= !((fates & (fates >> 1) & 0x55_5555) << 1);
+        }
+        let end = over_fates(&rt, &mut reader, &mut card, &sizes, fates)?;
+        let at = match end {
+            End::Answered => 0,
+            End::SixBad => 1,
+            End::FieldLost => 2,
+        };
+        ends[at] = ends[at].saturating_add(1);
+        if end != End::Answered {
+            card = lit_card(&rats, 0);
+            reader = ReaderEnd::new(0);
+        }
+    }
+    assert!(rt; ends[0] > 100 && ends[1] > 100 && ends[2] > 100, "{ends:?}");
+    Ok(())
+}
+
+#[test]
+fn longest_chains_both_ways(rt: HostRuntime) -> Result<(), Fail> {
+    let rats = Frame::whole(Tech::A, &[0xE0, 0])?;
+    let mut card = lit_card(&rats, 0);
+    let mut reader = ReaderEnd::new(0);
+    let end = over_fates(&rt, &mut reader, &mut card, &(264, 264, 21, 21), 0)?;
+    assert_eq!(rt; end, End::Answered);
+    Ok(())
+}
+
+/// The block of a command, and that of its answer.
+type Asked<'a> = (&'a [u8], &'a [u8]);
+
+/// One exchange in one block each way.
+fn ask<R: Abort>(
+    rt: &R,
+    reader: &mut ReaderEnd,
+    card: &mut CardEnd,
+    row: &Asked,
+) -> Result<(), Fail> {
+    let (block, back) = *row;
+    let command = &block[1.min(block.len())..block.len().min(265)];
+    let answer = &back[1.min(back.len())..back.len().min(265)];
+    assert_eq!(rt; reader.begin(command).view(), block);
+    walk_card(rt, card, &[(block, b'd', command)])?;
+    assert_eq!(rt; card.reply(answer).view(), back);
+    walk_reader(rt, reader, &[(back, b'f', answer)])
+}
+
+#[test]
+fn commands_of_a_tag_that_is_read(rt: HostRuntime) -> Result<(), Fail> {
     let mut card = CardEnd::new(8);
     walk_card(&rt, &mut card, &[(&[0xE0, 0x80], b'r', &[2, 8])])?;
     let mut reader = ReaderEnd::new(8);
     let select = [
-        0x00, 0xA4, 0x04, 0x00, 0x07, 0xD2, 0x76, 0x00, 0x00, 0x85, 0x01, 0x01, 0x00,
-    ];
-    let first = [
         0x02, 0x00, 0xA4, 0x04, 0x00, 0x07, 0xD2, 0x76, 0x00, 0x00, 0x85, 0x01, 0x01, 0x00,
     ];
-    assert_eq!(rt; reader.begin(&select).view(), &first[..]);
-    walk_card(&rt, &mut card, &[(&first, b'd', &select)])?;
-    assert_eq!(rt; card.reply(&[0x90, 0]).view(), &[2, 0x90, 0][..]);
-    walk_reader(&rt, &mut reader, &[(&[2, 0x90, 0], b'f', &[0x90, 0])])?;
-    let file = [0x00, 0xA4, 0x00, 0x0C, 0x02, 0xE1, 0x03];
-    let second = [0x03, 0x00, 0xA4, 0x00, 0x0C, 0x02, 0xE1, 0x03];
-    assert_eq!(rt; reader.begin(&file).view(), &second[..]);
-    walk_card(&rt, &mut card, &[(&second, b'd', &file)])?;
-    assert_eq!(rt; card.reply(&[0x90, 0]).view(), &[3, 0x90, 0][..]);
-    walk_reader(&rt, &mut reader, &[(&[3, 0x90, 0], b'f', &[0x90, 0])])
-}
-
-#[test]
-fn chains_both_ways(rt: HostRuntime) -> Result<(), Fail> {
-    let bytes = counted();
-    let rats = Frame::whole(Tech::A, &[0xE0, 0])?;
-    let mut card = lit_card(&rats, 0);
-    let mut reader = ReaderEnd::new(0);
-    exchange(&rt, &mut reader, &mut card, &bytes[..264], &bytes[..264], 0)?;
-    exchange(&rt, &mut reader, &mut card, &bytes[..27], &bytes[..40], 0)?;
-    for lost in 0..32u32 {
-        for at in 0..10u32 {
-            exchange(
-                &rt,
-                &mut reader,
-                &mut card,
-                &bytes[..27],
-                &bytes[..40],
-                lost << at,
-            )?;
-            exchange(
-                &rt,
-                &mut reader,
-                &mut card,
-                &bytes[..1],
-                &bytes[..2],
-                lost << at,
-            )?;
-        }
+    let container = [0x03, 0x00, 0xA4, 0x00, 0x0C, 0x02, 0xE1, 0x03];
+    let read_container = [0x02, 0x00, 0xB0, 0x00, 0x00, 0x0F];
+    let file = [0x03, 0x00, 0xA4, 0x00, 0x0C, 0x02, 0xE1, 0x04];
+    let read_length = [0x02, 0x00, 0xB0, 0x00, 0x00, 0x02];
+    let read_message = [0x03, 0x00, 0xB0, 0x00, 0x02, 0x03];
+    let content = [
+        0x02, 0x00, 0x0F, 0x20, 0x00, 0x3B, 0x00, 0x0D, 0x04, 0x06, 0xE1, 0x04, 0x02, 0x00, 0x00,
+        0x00, 0x90, 0x00,
+    ];
+    let rows: [Asked; 6] = [
+        (&select, &[0x02, 0x90, 0x00]),
+        (&container, &[0x03, 0x90, 0x00]),
+        (&read_container, &content),
+        (&file, &[0x03, 0x90, 0x00]),
+        (&read_length, &[0x02, 0x00, 0x03, 0x90, 0x00]),
+        (&read_message, &[0x03, 0xD0, 0x00, 0x00, 0x90, 0x00]),
+    ];
+    for row in &rows {
+        ask(&rt, &mut reader, &mut card, row)?;
     }
     Ok(())
 }

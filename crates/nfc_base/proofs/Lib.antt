@@ -2,3 +2,5 @@ pub mod Packing
 pub mod Deciding
 pub mod BitsOfBytes
 pub mod Leading
+pub mod ExactlyOnce
+pub mod LinkTurns

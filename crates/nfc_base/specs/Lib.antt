@@ -6,3 +6,5 @@ pub mod Blocks
 pub mod Far
 pub mod Links
 pub mod TagLinks
+pub mod StopAndWait
+pub mod LinkTurns

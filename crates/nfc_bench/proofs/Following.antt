@@ -1,5 +1,5 @@
 -- An enquiry as a command sees it: what is due in it, and what it has told once it is over.
-use Rattle.std.proofs.Common.{◌≡◌, List, [], ◌∷◌, ◌++◌, Bool, true, false, if◌then◌else◌, Option, Some, None, Result, Ok, Err, refl, sym, ◌∙◌, ap, subst, append_assoc}
+use Rattle.std.proofs.Common.{◌≡◌, List, [], ◌∷◌, ◌++◌, Bool, true, false, if◌then◌else◌, Option, Some, None, Result, Err, refl, sym, ◌∙◌, ap, subst, append_assoc}
 use Rattle.std.proofs.lemmas.List.{append-nil}
 use Rattle.nfc_base.specs.Signal.{Signal}
 use Rattle.nfc_base.specs.Trace.{back_of, heard_by}
@@ -15,7 +15,7 @@ use Rattle.air_core.proofs.Turns.{receptions-append, due_weaker}
 use Rattle.nfca_poll.specs.declared.fault.PollFault.{PollFault}
 use Rattle.nfca_poll.specs.declared.fault.PollFault.TheVariants as faults
 use Rattle.nfca_poll.specs.Enquiry.{Enquiry, Progress, Reaches, Loses, progress, due_of, enquiring, or_memory, answer_of}
-use Rattle.nfc_bench.specs.Polling.{Followed, Told, followed, follows, asks}
+use Rattle.nfc_bench.specs.Polling.{Told, followed, follows, asks}
 
 abbrev pub HasEnded : {X : Type 0} → Option (Result X PollFault) → Type 0
 HasEnded None = ⊥
@@ -23,6 +23,19 @@ HasEnded (Some r) = Unit {0}
 
 no_demand : (n : Next) → n ≡ Over → IsDemand n → ⊥
 no_demand n e d = subst IsDemand e d
+
+-- one thing is due at a time
+pub same_asked : (f g : Signal) → Asks f ≡ Asks g → f ≡ g
+same_asked f g e = cc
+
+pub light_is_no_request : (f : Signal) → LightUp ≡ Asks f → ⊥
+light_is_no_request f e = cc
+
+pub over_is_no_request : (f : Signal) → Over ≡ Asks f → ⊥
+over_is_no_request f e = cc
+
+pub over_is_no_light : Over ≡ LightUp → ⊥
+over_is_no_light e = cc
 
 module _ {W : Type 0} (m : AirModel W) where
   -- the events of some moves begin with no answer
@@ -77,7 +90,7 @@ module _ {W : Type 0} (m : AirModel W) where
   nothing_more next before (Clash g x ∷ es) over fresh q = absurd cc
 
   -- another one that asks the same
-  pub going_as : (next part : List Note → Next) (a b : Moment W) (ns : List Note) → ((ks : List Note) → next ks ≡ part ks) → Going m part a b ns → Going m next a b ns
+  abbrev pub going_as : (next part : List Note → Next) (a b : Moment W) (ns : List Note) → ((ks : List Note) → next ks ≡ part ks) → Going m part a b ns → Going m next a b ns
   going_as next part a b ns same g = record {
     events = g.events;
     moment = g.moment;

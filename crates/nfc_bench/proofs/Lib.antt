@@ -9,6 +9,8 @@ pub mod Following
 pub mod SelectingCards
 pub mod SelectingAir
 pub mod SelectingKept
+pub mod Searching
+pub mod Unmoved
 pub mod TagTwo
 pub mod TagFive
 pub mod BrokenWaits
@@ -16,6 +18,9 @@ pub mod ReadingTags
 pub mod ReadingAir
 pub mod ReadingEnds
 pub mod SelectingPlaces
+pub mod SelectingA
+pub mod SelectingV
+pub mod Selections
 pub mod Legality
 pub mod Limits
 pub mod Chunks

@@ -1,26 +1,22 @@
 -- The devices of the bench are listeners of this project: a Type 2 tag polls by its front, and a Type 5 tag has none.
-use Rattle.std.proofs.Common.{◌≡◌, ℕ, List, [], ◌∷◌, Bool, true, false, ◌&&◌, ◌==◌, not, reverse, if◌then◌else◌, Some, refl, ◌∙◌, ap}
-use Rattle.nfc_base.specs.declared.frame.Tech.TheVariants.{A, V}
+use Rattle.std.proofs.Common.{◌≡◌, ℕ, List, [], ◌∷◌, Bool, true, false, ◌&&◌, ◌==◌, not, reverse, if◌then◌else◌, Some, refl, ap}
+use Rattle.nfc_base.specs.declared.frame.Tech.TheVariants.{A}
 use Rattle.nfc_base.specs.Signal.{Signal, whole_v}
-use Rattle.air_core.specs.Conversation.{AirModel}
-use Rattle.air_core.specs.World.{World}
 use Rattle.nfca_poll.specs.declared.kind.Kind.{Kind}
 use Rattle.nfca_poll.specs.declared.kind.Kind.TheVariants as kinds
 use Rattle.nfca_poll.specs.Front.{Front, Off, Idle, Sleep, Ready, Active, is_active}
-use Rattle.nfca_poll.specs.Crowd.{AreOurs, StepsByFront}
+use Rattle.nfca_poll.specs.Crowd.{StepsByFront}
 use Rattle.nfca_poll.specs.Inventory.{inventory_all, inventory_of, IsSteady}
-use Rattle.nfca_poll.specs.Muted.{mute_air}
 use Rattle.t2t_tag.specs.Store.{T2Memory}
 use Rattle.t5t_tag.specs.declared.answer.T5Answer.TheVariants.{Present}
 use Rattle.t5t_tag.specs.Mask.{asks_for}
 use Rattle.t5t_tag.specs.Spelling.{inventory_flags, inventory_code, answer_frame}
-use Rattle.t5t_tag.specs.Step.{T5Turn, tells, silent, sent, t5_turn, t5_after}
+use Rattle.t5t_tag.specs.Step.{T5Turn, tells, silent, sent, t5_after}
 use Rattle.t5t_tag.specs.Store.{T5State, IsT5State}
 use Rattle.t5t_tag.proofs.Inventories.{picked}
 use Rattle.nfc_bench.specs.declared.device.Device.{Device}
 use Rattle.nfc_bench.specs.declared.device.Device.TheVariants.{T2, T5}
 use Rattle.nfc_bench.specs.Device.{devices, device_id, device_answer, device_after}
-use Rattle.nfc_bench.specs.Legal.{air}
 
 -- what a device tells that it is, and its front; a Type 5 tag has none
 abbrev pub device_kind : Device → Kind
@@ -42,13 +38,6 @@ by_front (Active starred) id u f a = absurd cc
 pub steps : (l : Device) (f : Signal) → devices.tech l ≡ A → is_active (device_front l) ≡ false → StepsByFront devices device_id device_kind device_front l f
 steps (T2 d) f t a = by_front d.front d.id d.upper f a
 steps (T5 p) f t a = absurd cc
-
-pub ours : AreOurs devices device_id
-ours = record { kind = device_kind; front = device_front; steps = steps }
-
--- Tags hand nothing over, so a far end makes no difference to their air.
-pub mute_is_quiet : ◌≡◌ {A = AirModel (World Device)} (mute_air devices) air
-mute_is_quiet = refl
 
 -- Whether it answers an inventory or not, a Type 5 tag stays as it is.
 told_stays : (v : Bool) (t : T5State) → (if v then tells t (Present t.id) else silent t).after ≡ t

@@ -1,5 +1,5 @@
 -- What the notes of a reader tell of the field: whether it is lit, and whether a Break was used.
-use Rattle.std.proofs.Common.{◌≡◌, ℕ, zero, suc, ◌+◌, ◌<◌, List, [], ◌∷◌, ◌++◌, Bool, true, false, if◌then◌else◌, Option, Some, None, refl, sym, ◌∙◌, ap, subst, arith}
+use Rattle.std.proofs.Common.{◌≡◌, ℕ, zero, suc, ◌+◌, ◌<◌, List, [], ◌∷◌, ◌++◌, length, drop, Bool, true, false, if◌then◌else◌, Option, Some, None, refl, sym, ◌∙◌, ap, subst, arith}
 use Rattle.nfc_base.specs.declared.event.Event.{Event}
 use Rattle.nfc_base.specs.declared.event.Event.TheVariants.{Reset, Request, Answer, Clash}
 use Rattle.nfc_base.specs.declared.event.Fate.{Fate}
@@ -8,9 +8,10 @@ use Rattle.nfc_base.specs.declared.event.Heard.{Heard}
 use Rattle.nfc_base.specs.Signal.{Signal}
 use Rattle.nfc_base.specs.Trace.{breaks, of_break, heard_by}
 use Rattle.air_core.specs.Joint.{Joint, Nothing, Single, Clashing}
-use Rattle.air_core.specs.World.{Machine, World, quiet_air, requested, stepped}
-use Rattle.air_core.specs.Conversation.{Note, Lit, Got, Lost, note, Next, Moment, Going, replay, receptions, joint_events, joint_back, turn_events, turn_heard, Move, Light, Ask, trace_of}
+use Rattle.air_core.specs.World.{Machine, World, quiet_air, stepped}
+use Rattle.air_core.specs.Conversation.{AirModel, with_events, Note, Lit, Got, Lost, note, Next, Moment, Going, replay, receptions, joint_events, joint_back, turn_events, turn_heard, Move, Light, Ask, trace_of}
 use Rattle.air_core.proofs.Turns.{replay-append}
+use Rattle.nfca_poll.proofs.Crowding.{drop-front}
 use Rattle.nfca_poll.specs.Enquiry.{Enquiry, Progress, Reaches, Loses, progress}
 use Rattle.nfc_bench.proofs.Following.{trace_first, turn_known}
 
@@ -176,3 +177,7 @@ stays_lit e s t [] h = refl
 stays_lit e s t (Lit ∷ ns) h = stays_lit e (e.light s) t ns h
 stays_lit e s t (Got g ∷ ns) h = stays_lit e (e.step s g) t ns h
 stays_lit e s t (Lost ∷ ns) h = absurd (no_state t h)
+
+-- what is left of a field behind its trace
+pub events_are : {W : Type 0} (a : AirModel W) (t u : Moment W) (es : List Event) → u ≡ with_events a t es → drop (length t.trace) u.trace ≡ es
+events_are a t u es e = ap (λ (x : Moment _). drop (length t.trace) x.trace) e ∙ drop-front t.trace es

@@ -1,30 +1,27 @@
 -- The bench's devices as a crowd of cards: at a call each steps by its front and keeps what it holds, and no two have one
 -- identifier.
-use Rattle.std.proofs.Common.{◌≡◌, ◌≢◌, ℕ, suc, ◌≤◌, List, [], ◌∷◌, length, map, filter_map, Bool, true, Option, Some, None, refl, sym, ◌∙◌, ap, subst, arith}
+use Rattle.std.proofs.Common.{◌≡◌, ◌≢◌, ℕ, suc, ◌≤◌, List, [], ◌∷◌, length, map, filter_map, Bool, true, Option, Some, None, refl, ◌∙◌, ap, arith}
 use Rattle.std.specs.List.{AllByRecursion, cons_option}
 use Rattle.nfc_base.specs.declared.frame.Tech.TheVariants.{A}
-use Rattle.nfc_base.specs.Signal.{Signal, whole_a}
+use Rattle.nfc_base.specs.Signal.{Signal}
 use Rattle.nfca_poll.specs.declared.kind.Kind.TheVariants as kinds
-use Rattle.nfca_poll.specs.declared.upper.UpStep.{UpStep}
-use Rattle.nfca_poll.specs.declared.upper.UpStep.TheVariants as steps
 use Rattle.nfca_poll.specs.Ident.{IsIdent}
 use Rattle.nfca_poll.specs.Levels.{levels}
-use Rattle.nfca_poll.specs.Calls.{Call, Reading, Calls, Other, call_of}
+use Rattle.nfca_poll.specs.Calls.{Call, Calls, Other, call_of}
 use Rattle.nfca_poll.specs.Front.{Front, Off, Idle, Sleep, Ready, Active, front_says, front_next}
-use Rattle.nfca_poll.specs.Fronted.{Fronted, left_at, moved, answer_by, after_by, active_answer, active_after}
+use Rattle.nfca_poll.specs.Fronted.{Fronted, left_at, answer_by, after_by, active_answer, active_after}
 use Rattle.nfca_poll.specs.Crowd.{Card, Each, AreDistinct, AreOurs, StepsByFront, card_if, cards}
 use Rattle.nfca_poll.specs.Polled.{ArePolled, WakesIdle, StepsFresh, IsField}
-use Rattle.nfca_poll.proofs.Eaches.{IfSaid, said_each, each_map}
 use Rattle.t2t_tag.specs.declared.command.T2Command.{T2Command}
 use Rattle.t2t_tag.specs.declared.command.T2Command.TheVariants.{Read, Write}
 use Rattle.t2t_tag.specs.Spelling.{command_frame, spelled_command, T2Spelling}
 use Rattle.t2t_tag.specs.Store.{T2Memory}
-use Rattle.t2t_tag.specs.Step.{reply_frame, t2_after, held_after}
+use Rattle.t2t_tag.specs.Step.{reply_frame, t2_after}
 use Rattle.t2t_tag.proofs.Spellings.{exact_by}
 use Rattle.nfc_bench.specs.declared.device.Device.{Device}
 use Rattle.nfc_bench.specs.declared.device.Device.TheVariants.{T2, T5}
-use Rattle.nfc_bench.specs.Device.{devices, device_id, device_after, says_of, t2_machine}
-use Rattle.nfc_bench.specs.Phases.{Kept, kept, IsSound, IsApart, AreSound, AreTame}
+use Rattle.nfc_bench.specs.Device.{devices, device_id, says_of, t2_machine}
+use Rattle.nfc_bench.specs.Phases.{Kept, kept, IsApart, AreSound, AreTame}
 use Rattle.nfc_bench.proofs.Ours.{device_kind, device_front, steps}
 
 -- a frame of six bytes that begins with the code of WRITE is no call

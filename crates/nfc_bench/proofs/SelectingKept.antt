@@ -1,5 +1,5 @@
 -- What stays of the devices while a reader polls: resets, calls, inventories and the dark change no device but in its state.
-use Rattle.std.proofs.Common.{◌≡◌, List, [], ◌∷◌, ◌++◌, map, if◌then◌else◌, None, refl, sym, ◌∙◌, ap, subst}
+use Rattle.std.proofs.Common.{◌≡◌, List, [], ◌∷◌, ◌++◌, map, if◌then◌else◌, None, refl, ◌∙◌, ap}
 use Rattle.nfc_base.specs.declared.frame.Tech.TheVariants.{A, V}
 use Rattle.nfc_base.specs.declared.event.Event.{Event}
 use Rattle.nfc_base.specs.declared.event.Event.TheVariants.{Reset, Request, Answer, Clash}
@@ -9,11 +9,8 @@ use Rattle.nfc_base.specs.Signal.{Signal}
 use Rattle.air_core.specs.Joint.{same_tech}
 use Rattle.air_core.specs.World.{World, stepped_by, requested, came_back}
 use Rattle.air_core.specs.Conversation.{Note, Next, Asks, EachDue, Moment, Going, replay, receptions}
-use Rattle.nfca_poll.specs.Calls.{Call, Calls, call_of, call_frame}
 use Rattle.nfca_poll.specs.Front.{Front, Off, Idle, Sleep, Ready, Active}
-use Rattle.nfca_poll.specs.Fronted.{Fronted, left_at}
-use Rattle.nfca_poll.specs.Inventory.{inventory_of}
-use Rattle.t2t_tag.specs.declared.command.T2Command.{T2Command}
+use Rattle.nfca_poll.specs.Fronted.{left_at}
 use Rattle.t2t_tag.specs.Spelling.{spelled_command}
 use Rattle.t2t_tag.specs.Store.{T2Memory}
 use Rattle.nfc_bench.specs.declared.device.Device.{Device}

@@ -10,6 +10,7 @@ ghost use Rattle.nfca_poll.specs.declared.fault.PollFault.TheVariants as faults;
 ghost use Rattle.nfc_bench.specs.Answering.{poll_answer};
 ghost use Rattle.nfc_bench.specs.Phases.{SelectsTo};
 ghost use Rattle.nfc_bench.specs.Choosing.{StandsAt};
+ghost use Rattle.nfc_bench.specs.declared.polling.Selection.TheVariants.{Missed};
 
 use crate::command::DeviceId;
 use crate::device::Device;
@@ -47,19 +48,25 @@ pub fn place_of(devices: &[Device], id: &[u8]) -> usize
     unreachable!()
 }
 
+/// What selecting came to by a fault: no tag was selected, unless memory was wanting.
+fn none_selected(fault: PollFault) -> Result<Selection, AllocError>
+    ensures { IfOk result (λ s. (s ≡ Missed fault) × (fault ≡ faults.Memory → ⊥)) }
+{
+    match fault {
+        PollFault::Memory => Err(AllocError),
+        other => Ok(Selection::Missed(other)),
+    }
+}
+
 /// Selects the NFC-A device with this identifier.
-fn select_a(
-    alloc: Global,
-    field: &mut Field<Device>,
-    id: &Ident,
-) -> Result<Selection, AllocError>
+fn select_a(alloc: Global, field: &mut Field<Device>, id: &Ident) -> Result<Selection, AllocError>
     requires idle { IsIdle field.old }
     ensures { IfOk result (λ s. SelectsTo (DeviceId.A id.now) s (moment field.old) (moment field.new)) }
 {
+    let wanted = id.view();
     match pick(alloc, field, id) {
-        Ok(_) => Ok(Selection::Place(place_of(field.listeners(), id.view()))),
-        Err(PollFault::Memory) => Err(AllocError),
-        Err(fault) => Ok(Selection::Missed(fault)),
+        Ok(_) => Ok(Selection::Place(place_of(field.listeners(), wanted))),
+        Err(fault) => none_selected(fault),
     }
 }
 
@@ -73,8 +80,7 @@ fn select_v(field: &mut Field<Device>, id: [u8; 8]) -> Result<Selection, AllocEr
     }
     match pick_v(field, id) {
         Ok(()) => Ok(Selection::Place(place_of(field.listeners(), &id))),
-        Err(PollFault::Memory) => Err(AllocError),
-        Err(fault) => Ok(Selection::Missed(fault)),
+        Err(fault) => none_selected(fault),
     }
 }
 

@@ -39,11 +39,11 @@ ahead_on (false ∷ x) (false ∷ y) (true ∷ z) h k = wrong k
 ahead_on (false ∷ x) (false ∷ y) (false ∷ z) h k = ahead_on x y z h k
 
 -- either nobody is idle, or there is a first
-data Leads : List Card → Type 0 where
+pub data Leads : List Card → Type 0 where
   none : (w : List Card) → Each Sleeps w → Leads w
   some : (a : List Card) (m : Card) (b : List Card) → IsFirst a m b → Leads (a ++ m ∷ b)
 
-idle_is : (f : Front) → is_idle f ≡ true → f ≡ Idle
+pub idle_is : (f : Front) → is_idle f ≡ true → f ≡ Idle
 idle_is Off h = wrong h
 idle_is Idle h = refl
 idle_is Sleep h = wrong h
@@ -91,7 +91,7 @@ lead_more c _ i cs d (some a m b F) = by_front (is_idle c.front) refl (ahead (cr
       distinct_after = d;
     })
 
-leads : (w : List Card) → Each IsCard w → AreDistinct w → Leads w
+pub leads : (w : List Card) → Each IsCard w → AreDistinct w → Leads w
 leads [] e d = none [] tt
 leads (c ∷ w) e d = lead_more c w e.0 e.1 d.0 (leads w e.1 d.1)
 

@@ -98,37 +98,37 @@ module _ {L : Type 0} (m : Machine L) where
       (ap M t.moment ∙ ap (λ (w : World L). w.listeners) q.0, q.1)
 
   module _ {identifier : L → List ℕ} (ours : AreOurs m identifier) (f : Signal) (request : f.tech ≡ A) where
-    abbrev step : L → L
+    abbrev pub step : L → L
     step l = stepped_by (muted m) l f None
 
-    abbrev says : L → Option Signal
+    abbrev pub says : L → Option Signal
     says l = answered_by (muted m) l f None
 
-    abbrev mapped : (Card → Card) → Option Card → Option Card
+    abbrev pub mapped : (Card → Card) → Option Card → Option Card
     mapped g None = None
     mapped g (Some c) = Some (g c)
 
-    abbrev said_by : (Card → Option Signal) → Option Card → Option Signal
+    abbrev pub said_by : (Card → Option Signal) → Option Card → Option Signal
     said_by p None = None
     said_by p (Some c) = p c
 
-    abbrev OneCard : L → Type 0
+    abbrev pub OneCard : L → Type 0
     OneCard l = (card_if ours (step l) ≡ mapped (card_next (call_of f)) (card_if ours l)) × (says l ≡ said_by (card_says (call_of f)) (card_if ours l))
 
-    same_card : (id id' : List ℕ) (k k' : Kind) (x x' : Front) → id ≡ id' → k ≡ k' → x ≡ x' → ◌≡◌ {A = Card} (record { id = id; kind = k; front = x }) (record { id = id'; kind = k'; front = x' })
+    pub same_card : (id id' : List ℕ) (k k' : Kind) (x x' : Front) → id ≡ id' → k ≡ k' → x ≡ x' → ◌≡◌ {A = Card} (record { id = id; kind = k; front = x }) (record { id = id'; kind = k'; front = x' })
     same_card id id' k k' x x' p q r =
         let C : List ℕ → Kind → Front → Card = λ i j z. record { id = i; kind = j; front = z } in
         ap (λ i. C i k x) p ∙ ap (λ j. C id' j x) q ∙ ap (C id' k') r
 
-    heard_by_it : (l : L) → m.tech l ≡ A → same_tech (m.tech l) f.tech ≡ true
+    pub heard_by_it : (l : L) → m.tech l ≡ A → same_tech (m.tech l) f.tech ≡ true
     heard_by_it l t = ap (λ u. same_tech u f.tech) t ∙ ap (same_tech A) request
 
-    not_heard : (l : L) → m.tech l ≡ V → same_tech (m.tech l) f.tech ≡ false
+    pub not_heard : (l : L) → m.tech l ≡ V → same_tech (m.tech l) f.tech ≡ false
     not_heard l t = ap (λ u. same_tech u f.tech) t ∙ ap (same_tech V) request
 
-    front_card : (l : L) → m.tech l ≡ A → is_active (ours.front l) ≡ false → OneCard l
-    front_card l t i =
-        let s : StepsByFront m identifier ours.kind ours.front l f = ours.steps l f t i in
+    -- one that steps by its front's table
+    pub table_card : (l : L) → m.tech l ≡ A → StepsByFront m identifier ours.kind ours.front l f → OneCard l
+    table_card l t s =
         let none : mute_reply (m.handed l f) ≡ None = ap mute_reply s.untouched in
         let here : same_tech (m.tech l) A ≡ true = ap (λ u. same_tech u A) t in
         let goes : step l ≡ m.after l f None = ap (λ v. if v then m.after l f (mute_reply (m.handed l f)) else l) (heard_by_it l t) ∙ ap (m.after l f) none in
@@ -141,7 +141,7 @@ module _ {L : Type 0} (m : Machine L) where
               ∙ sym (ap (λ v. said_by (card_says (call_of f)) (if v then Some (card_of ours l) else None)) here),
         )
 
-    other_card : (l : L) → m.tech l ≡ V → OneCard l
+    pub other_card : (l : L) → m.tech l ≡ V → OneCard l
     other_card l t =
         let none : card_if ours l ≡ None = ap (λ u. if same_tech u A then Some (card_of ours l) else None) t in
         let goes : step l ≡ l = ap (λ v. if v then m.after l f (mute_reply (m.handed l f)) else l) (not_heard l t) in (
@@ -149,13 +149,13 @@ module _ {L : Type 0} (m : Machine L) where
           ap (λ v. if v then m.answer l f (mute_reply (m.handed l f)) else None) (not_heard l t) ∙ sym (ap (said_by (card_says (call_of f))) none),
         )
 
-    one_card : (l : L) → IfSaid (λ c. is_active c.front ≡ false) (card_if ours l) → OneCard l
+    pub one_card : (l : L) → IfSaid (λ c. is_active c.front ≡ false) (card_if ours l) → OneCard l
     one_card l i = by_tech (m.tech l) refl
       where
         by_tech : (t : Tech) → m.tech l ≡ t → OneCard l
         by_tech A t =
             let P : Bool → Type 0 = λ v. IfSaid (λ c. is_active c.front ≡ false) (if v then Some (card_of ours l) else None) in
-            front_card l t (subst P (ap (λ u. same_tech u A) t) i)
+            table_card l t (ours.steps l f t (subst P (ap (λ u. same_tech u A) t) i))
         by_tech V t = other_card l t
 
     cons_mapped : (g : Card → Card) (o : Option Card) (xs : List Card) → cons_option (mapped g o) (map g xs) ≡ map g (cons_option o xs)

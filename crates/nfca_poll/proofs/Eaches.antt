@@ -82,3 +82,11 @@ pub said_has : {X Y : Type 0} (p : X → Option Y) (m : X) (g : Y) (cs : List X)
 said_has p m g [] h s = h
 said_has {Y = Y} p m g (c ∷ cs) (inl q) s = let P : Option Y → Type 0 = λ o. Has g (cons_option o (filter_map p cs)) in subst P (sym (sym (ap p q) ∙ s)) (inl refl)
 said_has p m g (c ∷ cs) (inr h) s = onto_has g (p c) (filter_map p cs) (said_has p m g cs h s)
+
+pub none_in : {X Y : Type 0} (p : X → Option Y) (xs : List X) → filter_map p xs ≡ [] → Each (λ x. p x ≡ None) xs
+none_in p [] e = tt
+none_in {Y = Y} p (x ∷ xs) e = by_one (p x) refl e (λ k. none_in p xs k)
+  where
+    by_one : (o : Option Y) → p x ≡ o → cons_option o (filter_map p xs) ≡ [] → (filter_map p xs ≡ [] → Each (λ z. p z ≡ None) xs) → Each (λ z. p z ≡ None) (x ∷ xs)
+    by_one None q k rest = (q, rest k)
+    by_one (Some y) q k rest = absurd cc

@@ -2,11 +2,12 @@
 use Rattle.std.proofs.Common.{◌≡◌, List, [], ◌∷◌, ◌++◌, Some, None, Result, Ok, Err, refl, sym, ◌∙◌, ap, subst}
 use Rattle.nfc_base.specs.Signal.{Signal}
 use Rattle.nfc_base.specs.declared.event.Heard.{Heard}
-use Rattle.air_core.specs.World.{Machine}
-use Rattle.air_core.specs.Turn.{Air, moment}
+use Rattle.nfc_base.specs.declared.event.Event.TheVariants.{Reset}
+use Rattle.air_core.specs.World.{Machine, reset_by}
+use Rattle.air_core.specs.Turn.{Air, moment, world, after_event}
 use Rattle.air_core.specs.Conversation as air
 use Rattle.air_core.specs.Conversation.{Note, Lit, Got, Lost, Next, Going, TurnsTo}
-use Rattle.air_core.proofs.Turns.{going_start, going_turn}
+use Rattle.air_core.proofs.Turns.{going_start, going_reset, going_turn}
 use Rattle.nfca_poll.specs.declared.fault.Picked.{Picked}
 use Rattle.nfca_poll.specs.declared.fault.PollFault.{PollFault}
 use Rattle.nfca_poll.specs.declared.fault.PollFault.TheVariants.{Nobody, Disturbed, FieldLost, Memory, NotFound, BadAnswer}
@@ -47,6 +48,12 @@ module _ {S X : Type 0} (e : Enquiry S X) where
   progress_got a (Lit ∷ ns) s h q = progress_got (e.light a) ns s h q
   progress_got a (Got g ∷ ns) s h q = progress_got (e.step a g) ns s h q
   progress_got a (Lost ∷ ns) s h q = absurd (no_state s q)
+
+  pub progress_lit : (a : S) (ns : List Note) (s : S) → progress e a ns ≡ Reaches s → progress e a (ns ++ Lit ∷ []) ≡ Reaches (e.light s)
+  progress_lit a [] s q = ap (λ r. Reaches (e.light (state_in a r))) q
+  progress_lit a (Lit ∷ ns) s q = progress_lit (e.light a) ns s q
+  progress_lit a (Got h ∷ ns) s q = progress_lit (e.step a h) ns s q
+  progress_lit a (Lost ∷ ns) s q = absurd (no_state s q)
 
   pub progress_lost : (a : S) (ns : List Note) (s : S) → progress e a ns ≡ Reaches s → progress e a (ns ++ Lost ∷ []) ≡ Loses
   progress_lost a [] s q = refl
@@ -95,3 +102,14 @@ module _ {S X : Type 0} (e : Enquiry S X) where
 
     pub enquires_end : (old new : Air L) (s : S) (r : Result X PollFault) → Reached old new s → e.ended s ≡ Some r → Enquires e m old r new
     enquires_end old new s r k end = record { notes = k.notes; going = k.going; comes = sym (ap (answer_of e) k.at ∙ ap or_memory end) }
+
+    -- the field is reset
+    pub reached_reset : (old now new : Air L) (s : S) → Reached old now s → e.next s ≡ air.LightUp → new ≡ after_event now Reset now.fates (reset_by m (world now)) → Reached old new (e.light s)
+    reached_reset old now new s r due same = record {
+      notes = r.notes ++ Lit ∷ [];
+      going = going_reset (mute_air m) (enquiring e) (moment old) (moment now) (moment new) r.notes r.going (ap (due_of e) r.at ∙ due) (ap moment same);
+      at = progress_lit e.start r.notes s r.at;
+    }
+
+    pub enquires_so : (old new : Air L) (s : S) (r : Result X PollFault) → Reached old new s → r ≡ or_memory (e.ended s) → Enquires e m old r new
+    enquires_so old new s r k q = record { notes = k.notes; going = k.going; comes = q ∙ sym (ap (answer_of e) k.at) }

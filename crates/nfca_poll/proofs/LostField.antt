@@ -20,7 +20,7 @@ use Rattle.nfca_poll.specs.Seeking.{outcome}
 use Rattle.nfca_poll.proofs.Enquiring.{Reached}
 use Rattle.nfca_poll.proofs.Crowding.{drop-front}
 
-breaks-append : (a b : List Event) → breaks (a ++ b) ≡ breaks a + breaks b
+pub breaks-append : (a b : List Event) → breaks (a ++ b) ≡ breaks a + breaks b
 breaks-append [] b = (let q : breaks b ≡ 0 + breaks b = omega arith in q)
 breaks-append (Reset ∷ a) b = breaks-append a b
 breaks-append (Request f x ∷ a) b = ap (λ n. of_break x + n) (breaks-append a b) ∙ (let q : of_break x + (breaks a + breaks b) ≡ (of_break x + breaks a) + breaks b = omega arith in q)
@@ -45,7 +45,7 @@ never_lost poll.BadAnswer e = cc
 never_lost (poll.Found ls k) e = cc
 
 module _ {L : Type 0} (m : Machine L) where
-  turn_breaks : (w : World L) (f : Signal) (x y : Fate) → turn_heard (mute_air m) w f x y ≡ None → 0 < breaks (turn_events (mute_air m) w f x y)
+  pub turn_breaks : (w : World L) (f : Signal) (x y : Fate) → turn_heard (mute_air m) w f x y ≡ None → 0 < breaks (turn_events (mute_air m) w f x y)
   turn_breaks w f Pass y e = omega (arith, joint_breaks ((mute_air m).joint w f) y e)
   turn_breaks w f Damage y e = absurd cc
   turn_breaks w f Lose y e = absurd cc

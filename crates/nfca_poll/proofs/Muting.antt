@@ -100,7 +100,7 @@ module _ {L : Type 0} (m : Machine L) where
   back_lit w (Clashing g) Lose h l e = l
   back_lit w (Clashing g) Break h l e = absurd (nothing_heard h e)
 
-  heard_lit : (w : World L) (f : Signal) (x y : Fate) (h : Heard) → w.lit ≡ true → Some h ≡ turn_heard (mute_air m) w f x y → (replay (mute_air m) w (turn_events (mute_air m) w f x y)).lit ≡ true
+  pub heard_lit : (w : World L) (f : Signal) (x y : Fate) (h : Heard) → w.lit ≡ true → Some h ≡ turn_heard (mute_air m) w f x y → (replay (mute_air m) w (turn_events (mute_air m) w f x y)).lit ≡ true
   heard_lit w f Pass y h l e = back_lit (stepped (muted m) w f) ((mute_air m).joint w f) y h l e
   heard_lit w f Damage y h l e = l
   heard_lit w f Lose y h l e = l

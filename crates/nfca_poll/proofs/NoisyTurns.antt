@@ -87,7 +87,7 @@ module _ {L : Type 0} (m : Machine L) where
       subst (P h) (let q : 1 ≡ 1 + 0 = omega arith in q) (subst Q (sym (heard_in h _ k)) (lost a.0 a.1))
   by_joint w f (Clashing g) Break h e k = absurd cc
 
-  by_fates : (w : World L) (f : Signal) (x y : Fate) (h : Heard) → Some h ≡ turn_heard (mute_air m) w f x y
+  pub by_fates : (w : World L) (f : Signal) (x y : Fate) (h : Heard) → Some h ≡ turn_heard (mute_air m) w f x y
       → WorldWas m w f (replay (mute_air m) w (turn_events (mute_air m) w f x y)) h (noise (turn_events (mute_air m) w f x y))
   by_fates w f Pass y h k =
       let P : ℕ → Type 0 = λ n. WorldWas m w f (replay (mute_air m) w (turn_events (mute_air m) w f Pass y)) h n in

@@ -253,7 +253,7 @@ selecting_turn a m b done l v F k = by_cases (nat_lt (length done + 1) (length (
         let Q : Seek → Type 0 = λ s. Seeks a m b s (map (card_next f) v) in
         subst Q (sym state) (ap (λ x. Found x m.kind) (sym (last_levels done l (levels m.id) here k.2 k.1 t)), world)
 
-few_done : (d : Done) → length (levels_of d) + 1 ≤ 3
+pub few_done : (d : Done) → length (levels_of d) + 1 ≤ 3
 few_done dones.Nothing = omega arith
 few_done (dones.One x) = omega arith
 few_done (dones.Two x y) = omega arith

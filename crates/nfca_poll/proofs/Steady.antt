@@ -18,6 +18,7 @@ use Rattle.nfca_poll.specs.Enquiry.{Enquiry}
 use Rattle.nfca_poll.specs.Inventory.{IsSteady, NoneAnswers}
 use Rattle.nfca_poll.specs.Crowd.{Each}
 use Rattle.nfca_poll.proofs.Clashes.{Has}
+use Rattle.nfca_poll.proofs.Eaches.{none_in}
 use Rattle.nfca_poll.proofs.HeardBits.{heard_of}
 use Rattle.nfca_poll.proofs.Enquiring.{Reached}
 use Rattle.nfca_poll.proofs.Crowding.{noise-append, drop-front, events_of, turn_trace}
@@ -32,14 +33,6 @@ heard_some g gs h e s = by_same (all_same g gs) e s
     by_same true q (inr s) = cc
     by_same false q (inl s) = cc
     by_same false q (inr s) = cc
-
-none_in : {X Y : Type 0} (p : X → Option Y) (xs : List X) → filter_map p xs ≡ [] → Each (λ x. p x ≡ None) xs
-none_in p [] e = tt
-none_in {Y = Y} p (x ∷ xs) e = by_one (p x) refl e (λ k. none_in p xs k)
-  where
-    by_one : (o : Option Y) → p x ≡ o → cons_option o (filter_map p xs) ≡ [] → (filter_map p xs ≡ [] → Each (λ z. p z ≡ None) xs) → Each (λ z. p z ≡ None) (x ∷ xs)
-    by_one None q k rest = (q, rest k)
-    by_one (Some y) q k rest = absurd cc
 
 -- What is known once so many tries were in vain: where nobody answers none was damaged, else each met noise.
 abbrev pub Vain : List Signal → ℕ → Bool → ℕ → Type 0

@@ -48,7 +48,7 @@ Noisy a m b (Asking done known) v n = Seeks a m b (Asking done known) v
 Noisy a m b (Selecting done l) v n = Seeks a m b (Selecting done l) v
 Noisy a m b (Ended o) v n = EndsSo a m b o v n
 
-abbrev is_calling : Seek → Bool
+abbrev pub is_calling : Seek → Bool
 is_calling (Calling k) = true
 is_calling (Asking done known) = false
 is_calling (Selecting done l) = false
@@ -58,7 +58,7 @@ either : (v : Bool) (s t : Seek) → is_calling s ≡ false → is_calling t ≡
 either true s t h k = h
 either false s t h k = k
 
-asking_on : (done : List (List ℕ)) (known : List Bool) (h : Heard) → is_calling (seek_step (Asking done known) h) ≡ false
+pub asking_on : (done : List (List ℕ)) (known : List Bool) (h : Heard) → is_calling (seek_step (Asking done known) h) ≡ false
 asking_on done known (Whole g) =
     let x : List Bool = known ++ bits g in
     either ((length x == level_bits) && (get_or (packed x) 4 0 == bcc (packed x))) (Selecting done (packed x)) (Ended BadAnswer) refl refl
@@ -66,7 +66,7 @@ asking_on done known (Collided g) = either (nat_le collision_bits (length (known
 asking_on done known Damaged = refl
 asking_on done known Silent = refl
 
-selecting_on : (done : List (List ℕ)) (l : List ℕ) (h : Heard) → is_calling (seek_step (Selecting done l) h) ≡ false
+pub selecting_on : (done : List (List ℕ)) (l : List ℕ) (h : Heard) → is_calling (seek_step (Selecting done l) h) ≡ false
 selecting_on done l (Whole g) =
     let res : ℕ = get_or g.bytes 0 0 in
     either (is_one_byte g) (selected done l res) (Ended BadAnswer)
@@ -86,7 +86,7 @@ seeks_noisy a m b (Selecting done l) v n h q = q
 seeks_noisy a m b (Ended o) v n h q = inl q
 
 -- SENS_REQ among devices at rest
-presence : (a : List Card) (m : Card) (b : List Card) (k : ℕ) → IsFirst a m b → seek_step (Calling k) (hears (Calls Sens) (a ++ m ∷ b)) ≡ Asking [] []
+pub presence : (a : List Card) (m : Card) (b : List Card) (k : ℕ) → IsFirst a m b → seek_step (Calling k) (hears (Calls Sens) (a ++ m ∷ b)) ≡ Asking [] []
 presence a m b k F =
     let W : List Card = a ++ m ∷ b in
     heard_some (sens_res (length (levels m.id))) (filter_map (card_says (Calls Sens)) W) k (said_has (card_says (Calls Sens)) m (sens_res (length (levels m.id))) W (has_middle m a b) (calls_idle m F.idle))
@@ -94,7 +94,7 @@ presence a m b k F =
 wakes : (a : List Card) (m : Card) (b : List Card) → IsFirst a m b → map (card_next (Calls Sens)) (a ++ m ∷ b) ≡ map (card_at [] []) (a ++ m ∷ b)
 wakes a m b F = map_same (card_next (Calls Sens)) (card_at [] []) (a ++ m ∷ b) (each_map IsCard (λ c. card_next (Calls Sens) c ≡ card_at [] [] c) (λ c h. woken_by c.id c.kind c.front (some_levels c.id h.0) h.1) (a ++ m ∷ b) F.cards)
 
-asked_first : (a : List Card) (m : Card) (b : List Card) → IsFirst a m b → Seeks a m b (Asking [] []) (map (card_at [] []) (a ++ m ∷ b))
+pub asked_first : (a : List Card) (m : Card) (b : List Card) → IsFirst a m b → Seeks a m b (Asking [] []) (map (card_at [] []) (a ++ m ∷ b))
 asked_first a m b F = ([], refl, refl, has_levels (levels m.id) (some_levels m.id (each_has IsCard m (a ++ m ∷ b) F.cards (has_middle m a b)).0), omega arith)
 
 -- and among those that are ready: they go home
@@ -124,7 +124,7 @@ say_none a m b F =
     said_map (card_says (Calls Sens)) (card_at [] []) (a ++ m ∷ b)
     ∙ said_none (λ c. card_says (Calls Sens) (card_at [] [] c)) (a ++ m ∷ b) (each_map GoesHome (λ c. card_says (Calls Sens) (card_at [] [] c) ≡ None) (λ c h. h.1) (a ++ m ∷ b) (go_home a m b F))
 
-at_least : (k : ℕ) → nat_lt k 3 ≡ false → 3 ≤ k
+pub at_least : (k : ℕ) → nat_lt k 3 ≡ false → 3 ≤ k
 at_least k h = grind arith
 
 -- a silence more: at home, or ready with one silence to spare
@@ -216,7 +216,7 @@ module _ {L : Type 0} (m : Machine L) (identifier' : L → List ℕ) where
   pub holds_start : (old : Air L) → Holds old old (Calling 0)
   holds_start old ours a c b e F = inl (e, omega arith)
 
-  noise_so_far : (old now new : Air L) (s : Seek) (f : Signal) (h : Heard) → Reached resolution m old now s → TurnsTo (mute_air m) (moment now) (moment new) f (Some h)
+  pub noise_so_far : (old now new : Air L) (s : Seek) (f : Signal) (h : Heard) → Reached resolution m old now s → TurnsTo (mute_air m) (moment now) (moment new) f (Some h)
       → noise (drop (length old.trace) now.trace) + noise (events_of m now f) ≡ noise (drop (length old.trace) new.trace)
   noise_so_far old now new s f h r t =
       let M : Moment (World L) → List Event = λ x. x.trace in

@@ -1,38 +1,32 @@
--- Listeners of this project under polling: a reset wakes each, and until another frame than a call comes, each steps by its
--- front alone (this project's own).
-use Rattle.std.specs.Prelude.{◌≡◌, ℕ, ◌≤◌, List, length, Bool, true, None}
+-- Listeners of this project under polling: a reset wakes each, and takes its link; then each steps by its front at each call of
+-- a reader, until another frame than a call comes (this project's own).
+use Rattle.std.specs.Prelude.{◌≡◌, ◌⊎◌, ℕ, List, Bool, true}
 use Rattle.nfc_base.specs.declared.frame.Tech.TheVariants.{A}
-use Rattle.nfc_base.specs.Signal.{Signal}
 use Rattle.air_core.specs.World.{Machine}
 use Rattle.nfca_poll.specs.declared.kind.Kind.{Kind}
-use Rattle.nfca_poll.specs.Ident.{IsIdent}
-use Rattle.nfca_poll.specs.Calls.{Call, Calls, call_of}
-use Rattle.nfca_poll.specs.Front.{Front, Idle}
-use Rattle.nfca_poll.specs.Crowd.{Card, Each, AreDistinct, AreOurs, StepsByFront}
+use Rattle.nfca_poll.specs.Front.{Front, Idle, is_active}
+use Rattle.nfca_poll.specs.Crowd.{Each, AreOurs}
+use Rattle.nfca_poll.specs.AnyStart.{LeavesAtCalls}
 
-module _ {L : Type 0} (m : Machine L) (identifier : L → List ℕ) (kind : L → Kind) (front : L → Front) (is_fresh : L → Bool) where
-  -- a reset makes a listener idle, and nothing else of it that polling can tell
-  pub record WakesIdle (l : L) : Type 0 where
-    pub idle : front (m.woken (m.darkened l)) ≡ Idle
-    pub fresh : is_fresh (m.woken (m.darkened l)) ≡ true
-    pub same_id : identifier (m.woken (m.darkened l)) ≡ identifier l
-    pub same_kind : kind (m.woken (m.darkened l)) ≡ kind l
+-- a reset makes a listener idle and takes its link, and changes nothing else of it that polling can tell
+pub record WakesIdle {L : Type 0} (m : Machine L) (identifier : L → List ℕ) (kind : L → Kind) (front : L → Front) (unlinked : L → Bool) (l : L) : Type 0 where
+  pub idle : front (m.woken (m.darkened l)) ≡ Idle
+  pub no_link : unlinked (m.woken (m.darkened l)) ≡ true
+  pub same_id : identifier (m.woken (m.darkened l)) ≡ identifier l
+  pub same_kind : kind (m.woken (m.darkened l)) ≡ kind l
 
-  -- at a call a fresh listener steps by its front, also where it is active, and stays fresh
-  pub record StepsFresh (l : L) (f : Signal) : Type 0 where
-    pub step : StepsByFront m identifier kind front l f
-    pub fresh : is_fresh (m.after l f None) ≡ true
+-- unless it is active, it has no link
+abbrev pub IsTidy : {L : Type 0} → (L → Front) → (L → Bool) → L → Type 0
+IsTidy front unlinked l = (is_active (front l) ≡ true) ⊎ (unlinked l ≡ true)
 
--- Each NFC-A listener is woken by a reset, and is fresh then: it has heard calls alone since.
+-- The NFC-A listeners, of which those without a link have a mark: such a one steps by its front at each call, and a reset
+-- wakes a tidy one.
 pub record ArePolled {L : Type 0} (m : Machine L) (identifier : L → List ℕ) : Type 0 where
   pub ours : AreOurs m identifier
-  pub fresh : L → Bool
+  pub unlinked : L → Bool
+  pub leaves : LeavesAtCalls ours unlinked
   pub same_tech : (l : L) → m.tech (m.woken (m.darkened l)) ≡ m.tech l
-  pub wakes : (l : L) → m.tech l ≡ A → WakesIdle m identifier ours.kind ours.front fresh l
-  pub steps : (l : L) (f : Signal) (c : Call) → m.tech l ≡ A → fresh l ≡ true → call_of f ≡ Calls c → StepsFresh m identifier ours.kind ours.front fresh l f
+  pub wakes : (l : L) → m.tech l ≡ A → IsTidy ours.front unlinked l → WakesIdle m identifier ours.kind ours.front unlinked l
 
--- the NFC-A devices of a field: at most 256, each with an identifier of its own
-pub record IsField (w : List Card) : Type 0 where
-  pub few : length w ≤ 256
-  pub idents : Each (λ c. IsIdent c.id) w
-  pub distinct : AreDistinct w
+abbrev pub AreTidy : {L : Type 0} {m : Machine L} {identifier : L → List ℕ} → ArePolled m identifier → List L → Type 0
+AreTidy {m = m} polled ls = Each (λ l. m.tech l ≡ A → IsTidy polled.ours.front polled.unlinked l) ls

@@ -1,6 +1,6 @@
 -- How polling by rounds ends over this project's listeners, whatever noise it meets (ISO/IEC 14443-3; the crowd's order,
 -- rounds and their number are this project's own).
-use Rattle.std.specs.Prelude.{◌≡◌, ◌≢◌, ◌⊎◌, ℕ, List, [], ◌∷◌, ◌++◌, map, drop, length, Bool, true, false, if◌then◌else◌, Result, Ok, Err}
+use Rattle.std.specs.Prelude.{◌≡◌, ◌≢◌, ◌⊎◌, ℕ, ◌<◌, List, [], ◌∷◌, ◌++◌, map, drop, length, true, false, if◌then◌else◌, Result, Ok, Err}
 use Rattle.nfc_base.specs.declared.event.Event.{Event}
 use Rattle.air_core.specs.World.{Machine}
 use Rattle.air_core.specs.Turn.{Air}
@@ -10,7 +10,9 @@ use Rattle.nfca_poll.specs.declared.fault.PollFault.{PollFault}
 use Rattle.nfca_poll.specs.declared.fault.PollFault.TheVariants.{Nobody, Disturbed, FieldLost, Memory, NotFound, BadAnswer}
 use Rattle.nfca_poll.specs.Front.{Active}
 use Rattle.nfca_poll.specs.Crowd.{Each, Card, crowd_bits, ahead, is_rest, cards}
-use Rattle.nfca_poll.specs.Polled.{ArePolled, IsField}
+use Rattle.nfca_poll.specs.Rounds.{most_found}
+use Rattle.nfca_poll.specs.AnyStart.{HaveOwnIdents}
+use Rattle.nfca_poll.specs.Polled.{ArePolled, AreTidy}
 use Rattle.nfca_poll.specs.RoundTrace.{Misses, GivesUp}
 
 -- what a reader can tell of a device
@@ -32,7 +34,7 @@ abbrev pub Begins : List Picked → List Picked → Type 0
 Begins xs ys = (zs : List Picked) × (ys ≡ xs ++ zs)
 
 -- How a search for all devices ends over these ones: it found the first of the crowd, and left others out only at a missed
--- end; it was disturbed only where each of its rounds had noise.
+-- end; it was disturbed only where each of its rounds had noise; a bad answer is one device too many in a round.
 abbrev pub FindEnds : List Card → Result (List Picked) PollFault → List Event → Type 0
 FindEnds w (Ok found) es = Begins found (crowd w) × ((found ≡ crowd w) ⊎ Misses es)
 FindEnds w (Err Nobody) es = ⊥
@@ -40,7 +42,7 @@ FindEnds w (Err Disturbed) es = GivesUp es
 FindEnds w (Err FieldLost) es = Unit {0}
 FindEnds w (Err Memory) es = Unit {0}
 FindEnds w (Err NotFound) es = ⊥
-FindEnds w (Err BadAnswer) es = ⊥
+FindEnds w (Err BadAnswer) es = most_found < length w
 
 -- The device with this identifier is active, and no other one is ready or active.
 abbrev pub LeavesActive : List ℕ → Kind → List Card → List Card → Type 0
@@ -49,7 +51,7 @@ LeavesActive id kind w v =
     × Each (λ c. is_rest c.front ≡ true) (a ++ b) × (map told_of v ≡ map told_of w)
 
 -- How a search for one device ends over these ones: it is there, and selected alone; or it isn't there, or the end was missed;
--- or each of the rounds had noise.
+-- or each of the rounds had noise; or a round found one too many.
 abbrev pub PickEnds : List ℕ → List Card → Result Kind PollFault → List Card → List Event → Type 0
 PickEnds id w (Ok kind) v es = LeavesActive id kind w v
 PickEnds id w (Err Nobody) v es = ⊥
@@ -57,17 +59,17 @@ PickEnds id w (Err Disturbed) v es = GivesUp es
 PickEnds id w (Err FieldLost) v es = Unit {0}
 PickEnds id w (Err Memory) v es = Unit {0}
 PickEnds id w (Err NotFound) v es = Each (λ c. c.id ≢ id) w ⊎ Misses es
-PickEnds id w (Err BadAnswer) v es = ⊥
+PickEnds id w (Err BadAnswer) v es = most_found < length w
 
 module _ {L : Type 0} (m : Machine L) (identifier : L → List ℕ) where
   -- a call that finds all devices of a field
   abbrev pub FindsCrowd : Air L → Result (List Picked) PollFault → Air L → Type 0
   FindsCrowd old r new =
-      (polled : ArePolled m identifier) → IsField (cards polled.ours old.listeners)
+      (polled : ArePolled m identifier) → AreTidy polled old.listeners → HaveOwnIdents (cards polled.ours old.listeners)
       → FindEnds (cards polled.ours old.listeners) r (drop (length old.trace) new.trace)
 
   -- a call that selects one device of a field
-  abbrev pub PicksAlone : List ℕ → Air L → Result Kind PollFault → Air L → Type 0
-  PicksAlone id old r new =
-      (polled : ArePolled m identifier) → IsField (cards polled.ours old.listeners)
+  abbrev pub SelectsAlone : List ℕ → Air L → Result Kind PollFault → Air L → Type 0
+  SelectsAlone id old r new =
+      (polled : ArePolled m identifier) → AreTidy polled old.listeners → HaveOwnIdents (cards polled.ours old.listeners)
       → PickEnds id (cards polled.ours old.listeners) r (cards polled.ours new.listeners) (drop (length old.trace) new.trace)

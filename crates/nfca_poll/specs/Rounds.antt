@@ -1,10 +1,11 @@
 -- Polling by rounds: what a reader asks who finds all NFC-A devices, or selects one of them by its identifier (NFC Forum
 -- Digital Protocol; ISO/IEC 14443-3). Rounds and their number are this project's own.
-use Rattle.std.specs.Prelude.{ℕ, ◌+◌, List, [], ◌∷◌, ◌++◌, length, Bool, nat_eq, nat_lt, if◌then◌else◌, Option, Some, None, Result, Ok, Err}
+use Rattle.std.specs.Prelude.{◌≡◌, ℕ, ◌+◌, List, [], ◌∷◌, ◌++◌, length, Bool, true, nat_eq, nat_lt, if◌then◌else◌, Option, Some, None, Result, Ok, Err, Vec}
 use Rattle.std.specs.List.{list_any}
 use Rattle.std.specs.Cmp.Lexicographic.{pointwise}
 use Rattle.nfc_base.specs.declared.event.Heard.{Heard}
 use Rattle.air_core.specs.Conversation.{Next, Over, LightUp, Asks}
+use Rattle.air_core.specs.Turn.{Air}
 use Rattle.nfca_poll.specs.declared.kind.Kind.{Kind}
 use Rattle.nfca_poll.specs.declared.fault.Picked.{Picked}
 use Rattle.nfca_poll.specs.declared.fault.PollFault.{PollFault}
@@ -113,3 +114,18 @@ finding = searching all_devices
 
 abbrev pub picking : List ℕ → Enquiry (Search Kind) Kind
 picking id = searching (device_of id)
+
+-- the devices that a call answers, as a list
+abbrev pub listed : {Z : Type 0} → Result (Vec Picked Z) PollFault → Result (List Picked) PollFault
+listed (Ok devices) = Ok devices.items
+listed (Err fault) = Err fault
+
+-- A call by rounds leaves the field lit, unless it lost it or memory was wanting.
+abbrev pub LeavesLit : {L X : Type 0} → Result X PollFault → Air L → Type 0
+LeavesLit (Ok x) new = new.lit ≡ true
+LeavesLit (Err faults.Nobody) new = new.lit ≡ true
+LeavesLit (Err faults.Disturbed) new = new.lit ≡ true
+LeavesLit (Err faults.FieldLost) new = Unit {0}
+LeavesLit (Err faults.Memory) new = Unit {0}
+LeavesLit (Err faults.NotFound) new = new.lit ≡ true
+LeavesLit (Err faults.BadAnswer) new = new.lit ≡ true

@@ -13,6 +13,9 @@ use nfc_base::{Frame, Heard, Mute, Tech};
 
 const SENS_REQ: u8 = 0x26;
 
+/// The first byte of SLP_REQ; the second one is 0.
+const SLP_REQ: u8 = 0x50;
+
 /// SEL_CMD of a level is this and twice the level.
 const SEL_CMD: u8 = 0x91;
 
@@ -23,6 +26,12 @@ pub fn sens_req() -> Frame
     ensures { result ≡ call_frame Sens }
 {
     Frame::part(Tech::A, &[SENS_REQ], 7).unwrap()
+}
+
+pub fn slp_req() -> Frame
+    ensures { result ≡ call_frame Slp }
+{
+    Frame::whole(Tech::A, &[SLP_REQ, 0]).unwrap()
 }
 
 /// SDD_REQ of a level, counted from 1, with the bits of it that are known.

@@ -1,8 +1,9 @@
 //! One resolution: which device of a field is the first in crowd order, bit by bit.
 
-ghost use Rattle.std.specs.Prelude.{◌≡◌, length, drop, Bool, Err};
+ghost use Rattle.std.specs.Prelude.{◌≡◌, ◌⊎◌, length, drop, Bool, Err};
 ghost use Rattle.nfc_base.specs.Trace.{noise};
 ghost use Rattle.nfca_poll.specs.Crowd.{AreOurs, IsCrowd, cards, PicksFirst, PicksThroughNoise, FindsNobody, HasCause};
+ghost use Rattle.nfca_poll.specs.AnyStart.{YieldsToCalls, PicksFromAny, LeavesAtCalls, PicksAlone};
 ghost use Rattle.nfca_poll.specs.Enquiry.{Enquires, LosesByBreak};
 ghost use Rattle.nfca_poll.specs.Counting.{AsksFew};
 ghost use Rattle.nfca_poll.specs.Seeking.{resolution};
@@ -16,15 +17,18 @@ use air_core::{Field, Listener};
 /// Finds and selects one device: asks for presence, then level by level for the bits of its identifier, with bit 1 where
 /// answers differ (NFC Forum Digital Protocol; the choice of 1 and four presence requests are this project's own).
 /// It takes a lit field; in the dark it asks nothing. Over this project's listeners, where none is ready or active and no
-/// noise is met, it picks the first of the crowd that is idle.
+/// noise is met, it picks the first of the crowd that is idle. From any other start it picks one of them, or has its cause.
 pub fn resolve<L: Listener>(field: &mut Field<L>) -> Result<Picked, PollFault>
     ensures dark { field.old.lit ≡ Bool.false → (result ≡ Err FieldLost) × (field.new ≡ field.old) }
+    ensures lit { (result ≡ Err FieldLost) ⊎ (field.new.lit ≡ Bool.true) }
     ensures few { AsksFew (drop (length field.old.trace) field.new.trace) }
     ensures lost { LosesByBreak field.old result field.new }
     ensures first { field.old.lit ≡ Bool.true → (ours : AreOurs L.machine L.identifier) → PicksFirst ours field.old result field.new }
     ensures noisy { field.old.lit ≡ Bool.true → (ours : AreOurs L.machine L.identifier) → PicksThroughNoise ours field.old result field.new }
     ensures cause { field.old.lit ≡ Bool.true → (ours : AreOurs L.machine L.identifier) → IsCrowd (cards ours field.old.listeners) → HasCause (cards ours field.old.listeners) result (noise (drop (length field.old.trace) field.new.trace)) }
     ensures nobody { field.old.lit ≡ Bool.true → (ours : AreOurs L.machine L.identifier) → FindsNobody ours field.old result field.new }
+    ensures any { field.old.lit ≡ Bool.true → (ours : AreOurs L.machine L.identifier) → YieldsToCalls ours → PicksFromAny ours field.old result field.new }
+    ensures alone { field.old.lit ≡ Bool.true → (ours : AreOurs L.machine L.identifier) (unlinked : L → Bool) → LeavesAtCalls ours unlinked → PicksAlone ours unlinked field.old result field.new }
     ensures turns { field.old.lit ≡ Bool.true → Enquires resolution L.machine field.old result field.new }
 {
     if !field.is_lit() {

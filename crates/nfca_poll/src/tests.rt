@@ -3,10 +3,11 @@
 ghost use Rattle.std.specs.Prelude.{◌≡◌};
 
 use crate::{
-    Front, Ident, Kind, Picked, PollFault, UpStep, Upper, Vcrowd, inventory_one, pick_v, resolve,
+    Front, Ident, Kind, Picked, PollFault, UpStep, Upper, Vcrowd, find_all, inventory_one, pick,
+    pick_v, resolve,
 };
 use air_core::{Field, Listener};
-use nfc_base::{Answerer, Event, Fate, Frame, Mute, Tech};
+use nfc_base::{Answerer, Event, Fate, Frame, Heard, Mute, Tech};
 use std::alloc::{AllocError, Global};
 use std::process::Abort;
 use std::test::Fail;
@@ -202,6 +203,20 @@ fn bit_by_bit(rt: HostRuntime) -> Result<(), Fail> {
 }
 
 #[test]
+fn picked_in_turn_where_no_reset_is_between(rt: HostRuntime) -> Result<(), Fail> {
+    let ids: [&[u8]; 2] = [&[1, 2, 3, 4], &[3, 2, 3, 4]];
+    let mut field = field_of(rt.alloc(), &ids, &[])?;
+    for id in [ids[1], ids[0], ids[1]] {
+        let picked = Picked {
+            id: Ident::new(id)?,
+            kind: Kind::T4,
+        };
+        assert_eq!(rt; resolve(&mut field), Ok(picked));
+    }
+    Ok(())
+}
+
+#[test]
 fn equal_levels_are_heard_as_one(rt: HostRuntime) -> Result<(), Fail> {
     let id: &[u8] = &[0x04, 0x62, 0x26, 0x11, 0x80, 0x1D, 0x80, 1, 2, 3];
     let mut field = field_of(rt.alloc(), &[id, id], &[])?;
@@ -257,6 +272,177 @@ fn faults(rt: HostRuntime) -> Result<(), Fail> {
     assert_eq!(rt; inventory_one(&mut dark), Err(PollFault::FieldLost));
     assert_eq!(rt; pick_v(&mut dark, [0; 8]), Err(PollFault::FieldLost));
     assert_eq!(rt; PollFault::BadAnswer.number(), 6);
+    Ok(())
+}
+
+/// How many of the events are this one.
+fn count_of(events: &[Event], line: &Line) -> usize {
+    let mut count = 0usize;
+    for event in events {
+        if is_line(event, line) {
+            count = count.saturating_add(1);
+        }
+    }
+    count
+}
+
+#[test]
+fn crowd_in_order(rt: HostRuntime) -> Result<(), Fail> {
+    let ids: [&[u8]; 4] = [
+        &[3, 2, 3, 4],
+        &[1, 2, 3, 4],
+        &[0x05, 1, 2, 3, 4, 5, 6, 7, 8, 9],
+        &[0x04, 0x11, 0x22, 0x33, 0x44, 0x55, 0x66],
+    ];
+    let placed = [ids[1], ids[3], ids[0], ids[2]];
+    let mut field = field_of(rt.alloc(), &placed, &[])?;
+    let found = find_all(rt.alloc(), &mut field)?;
+    assert_eq!(rt; found.len(), ids.len());
+    for (device, id) in found.iter().zip(ids) {
+        assert!(rt; device.id.view() == id, "at {device:?}");
+        assert!(rt; device.kind == Kind::T4, "at {device:?}");
+    }
+    // after each call the device is active alone, so it alone answers the machine's frame, and falls asleep by it
+    let of_machine = Frame::whole(Tech::A, &[0xC2])?;
+    let answer = Frame::whole(Tech::A, &[0xAA])?;
+    for id in ids {
+        let id = Ident::new(id)?;
+        assert_eq!(rt;
+            pick(rt.alloc(), &mut field, &id),
+            Ok(Kind::T4),
+            "at {id:?}"
+        );
+        assert_eq!(rt;
+            field.transmit(&of_machine, &mut Mute),
+            Ok(Heard::Whole(answer.copy()))
+        );
+    }
+    // the last one of the crowd was found behind all others, which sleep
+    let sens_req = Frame::part(Tech::A, &[0x26], 7)?;
+    assert_eq!(rt; field.transmit(&sens_req, &mut Mute), Ok(Heard::Silent));
+    let absent = Ident::new(&[9, 9, 9, 9])?;
+    assert_eq!(rt;
+        pick(rt.alloc(), &mut field, &absent),
+        Err(PollFault::NotFound)
+    );
+    Ok(())
+}
+
+#[test]
+fn first_round_of_three(rt: HostRuntime) -> Result<(), Fail> {
+    let ids: [&[u8]; 3] = [
+        &[1, 2, 3, 4],
+        &[3, 2, 3, 4],
+        &[0x04, 0x11, 0x22, 0x33, 0x44, 0x55, 0x66],
+    ];
+    let mut field = Field::new(rt.alloc());
+    for id in ids {
+        field.put_in(front_of(id, Kind::T2)?)?;
+    }
+    let found = find_all(rt.alloc(), &mut field)?;
+    assert_eq!(rt; found.len(), 3);
+    let (first, _) = field.trace().split_at(12);
+    are_lines(
+        &rt,
+        first,
+        &[
+            ('!', &[], 0),
+            ('>', &[0x26], 7),
+            ('*', &[0x04], 6),
+            ('>', &[0x93, 0x20], 0),
+            ('*', &[], 0),
+            ('>', &[0x93, 0x21, 0x01], 1),
+            ('*', &[], 0),
+            ('>', &[0x93, 0x22, 0x03], 2),
+            ('<', &[0x80, 0xC0, 0x00, 0x81, 0x01], 6),
+            ('>', &[0x93, 0x70, 3, 2, 3, 4, 6], 0),
+            ('<', &[0x00], 0),
+            ('>', &[0x50, 0x00], 0),
+        ],
+    );
+    Ok(())
+}
+
+#[test]
+fn rounds_under_noise(rt: HostRuntime) -> Result<(), Fail> {
+    const P: Fate = Fate::Pass;
+    const D: Fate = Fate::Damage;
+    const L: Fate = Fate::Lose;
+    const B: Fate = Fate::Break;
+    let ids: [&[u8]; 2] = [&[1, 2, 3, 4], &[3, 2, 3, 4]];
+    let wanted = Ident::new(ids[0])?;
+    // the fates; how many devices are found, in how many rounds, with how many SLP_REQ; and what comes of the second device
+    let rows: [(
+        &[Fate],
+        Result<usize, PollFault>,
+        usize,
+        usize,
+        Result<Kind, PollFault>,
+    ); 9] = [
+        (&[], Ok(2), 1, 2, Ok(Kind::T4)),
+        (&[P, P, P, P, P, P, P, P, L], Ok(2), 2, 4, Ok(Kind::T4)),
+        (&[P, P, P, P, P, D], Ok(2), 2, 2, Ok(Kind::T4)),
+        (
+            &[P, P, P, D, P, P, P, D, P, P, P, D, P, P, P, D],
+            Err(PollFault::Disturbed),
+            4,
+            0,
+            Err(PollFault::Disturbed),
+        ),
+        (
+            &[P, P, P, D, P, P, P, D, P, P, P, D],
+            Ok(2),
+            4,
+            2,
+            Ok(Kind::T4),
+        ),
+        (&[L, L, L, L], Ok(0), 1, 0, Err(PollFault::NotFound)),
+        (
+            &[P, P, P, B],
+            Err(PollFault::FieldLost),
+            1,
+            0,
+            Err(PollFault::FieldLost),
+        ),
+        (
+            &[P, P, P, P, P, P, P, P, B],
+            Err(PollFault::FieldLost),
+            1,
+            1,
+            Err(PollFault::FieldLost),
+        ),
+        (
+            &[P, P, P, D, L, B],
+            Err(PollFault::FieldLost),
+            2,
+            0,
+            Err(PollFault::FieldLost),
+        ),
+    ];
+    for (fates, found, rounds, sleeps, picked) in rows {
+        let mut field = field_of(rt.alloc(), &ids, fates)?;
+        let _ = field.take_trace();
+        match find_all(rt.alloc(), &mut field) {
+            Ok(devices) => assert_eq!(rt; Ok(devices.len()), found, "at {fates:?}"),
+            Err(fault) => assert_eq!(rt; Err(fault), found, "at {fates:?}"),
+        }
+        assert_eq!(rt;
+            count_of(field.trace(), &('!', &[], 0)),
+            rounds,
+            "at {fates:?}"
+        );
+        assert_eq!(rt;
+            count_of(field.trace(), &('>', &[0x50, 0x00], 0)),
+            sleeps,
+            "at {fates:?}"
+        );
+        let mut field = field_of(rt.alloc(), &ids, fates)?;
+        assert_eq!(rt;
+            pick(rt.alloc(), &mut field, &wanted),
+            picked,
+            "at {fates:?}"
+        );
+    }
     Ok(())
 }
 

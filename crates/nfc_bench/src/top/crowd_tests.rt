@@ -1,11 +1,10 @@
 //! Whole runs over crowds of devices and over lost, damaged and broken transmissions.
 
 use super::tags_tests::report;
-use super::*;
 use std::test::Fail;
 
 /// What a script shows, its words, its lines, the status and the report.
-const SCRIPTS: [(&str, &str, &str, u8, &str); 23] = [
+const SCRIPTS: [(&str, &str, &str, u8, &str); 24] = [
     (
         "an identifier of seven bytes is asked for by two levels",
         "run",
@@ -482,45 +481,39 @@ find",
 ",
     ),
     (
-        "sixteen devices of a full field",
+        "a search that noise cut behind the first of a crowd",
         "run quiet",
-        "place t2 0B020300 4 -
-place t2 30020301 4 -
-place t2 55020302 4 -
-place t2 7A020303 4 -
-place t2 9F020304 4 -
-place t2 C4020305 4 -
-place t2 E9020306 4 -
-place t2 0E020307 4 -
-place t2 33020308 4 -
-place t2 58020309 4 -
-place t2 7D02030A 4 -
-place t2 A202030B 4 -
-place t2 04112233445566 4 -
-place t2 04112233445567 4 -
-place t2 04112233445566778899 4 -
-place t5 E004010203040506 1 4 -
-find
-place t5 E004010203040507 1 4 -",
-        2,
+        "place t2 01020304 16 000000000000000000000000E11006000303D00000FE0000
+place t2 03020304 16 000000000000000000000000E11006000303D00000FE0000
+fates PPPPPPPPPLLLL
+find",
+        0,
         "1 ok
 2 ok
 3 ok
-4 ok
-5 ok
+4 found 1 03020304:t2
+",
+    ),
+    (
+        "one of a crowd is read, then another one, and one that was taken away",
+        "run quiet",
+        "place t2 01020304 16 000000000000000000000000E11006000301D1FE
+place t2 03020304 16 000000000000000000000000E11006000301D2FE
+place t2 08112233445566778899 16 000000000000000000000000E11006000301D3FE
+read 01020304
+read 08112233445566778899
+remove 03020304
+read 03020304
+read 01020304",
+        0,
+        "1 ok
+2 ok
+3 ok
+4 message D1 writable
+5 message D3 writable
 6 ok
-7 ok
-8 ok
-9 ok
-10 ok
-11 ok
-12 ok
-13 ok
-14 ok
-15 ok
-16 ok
-17 found 16 9F020304:t2 0B020300:t2 33020308:t2 7D02030A:t2 55020302:t2 E9020306:t2 0E020307:t2 7A020303:t2 A202030B:t2 C4020305:t2 58020309:t2 04112233445567:t2 04112233445566:t2 04112233445566778899:t2 30020301:t2 E004010203040506:t5
-fault 2 line 18
+7 not found
+8 message D1 writable
 ",
     ),
 ];
@@ -533,5 +526,59 @@ fn crowds_and_fates(rt: HostRuntime) -> Result<(), Fail> {
         assert_eq!(rt; status, wanted, "{shows}");
         assert_eq!(rt; str::from_utf8(&written)?, text, "{shows}");
     }
+    Ok(())
+}
+
+/// The report's first lines of a search among three tags.
+const FIRST_ROUND: &str = "1 ok
+2 ok
+3 ok
+4 ! reset
+4 > 26/7 pass
+4 * 04/6 pass
+4 > 9320 pass
+4 * - pass
+4 > 932101/1 pass
+4 * - pass
+4 > 932203/2 pass
+4 < 80C0008101/6 pass
+4 > 93700302030406 pass
+4 < 00 pass
+4 > 5000 pass
+";
+
+#[test]
+fn a_crowd_bit_by_bit(rt: HostRuntime) -> Result<(), Fail> {
+    let alloc = rt.alloc();
+    let script = "place t2 01020304 4 -\nplace t2 03020304 4 -\nplace t2 04112233445566 4 -\nfind";
+    let (status, written) = report(alloc, "run", script)?;
+    assert_eq!(rt; status, 0);
+    assert!(rt; written.as_slice().starts_with(FIRST_ROUND.as_bytes()));
+    Ok(())
+}
+
+/// The digits of sixteen identifiers' last bytes, in crowd order: their bits are compared from the lowest on.
+const LAST_BYTES: [&str; 16] = [
+    "0F", "07", "0B", "03", "0D", "05", "09", "01", "0E", "06", "0A", "02", "0C", "04", "08", "00",
+];
+
+#[test]
+fn a_full_field_in_crowd_order(rt: HostRuntime) -> Result<(), Fail> {
+    let alloc = rt.alloc();
+    let mut script = String::new(alloc);
+    let mut wanted = String::from_str(alloc, "17 found 16")?;
+    for last in LAST_BYTES {
+        script.push_str("place t2 010203")?;
+        script.push_str(last)?;
+        script.push_str(" 4 -\n")?;
+        wanted.push_str(" 010203")?;
+        wanted.push_str(last)?;
+        wanted.push_str(":t2")?;
+    }
+    script.push_str("find")?;
+    wanted.push_str("\n")?;
+    let (status, written) = report(alloc, "run quiet", script.as_str())?;
+    assert_eq!(rt; status, 0);
+    assert!(rt; written.as_slice().ends_with(wanted.as_str().as_bytes()));
     Ok(())
 }

@@ -59,7 +59,7 @@ fn what_type_2_tags_hold(rt: HostRuntime) -> Result<(), Fail> {
 }
 
 /// What a script shows, its words, its lines, the status and the report.
-const SCRIPTS: [(&str, &str, &str, u8, &str); 15] = [
+const SCRIPTS: [(&str, &str, &str, u8, &str); 13] = [
     (
         "a lock control TLV that reserves bytes past the area",
         "run quiet",
@@ -116,13 +116,6 @@ read 01020304",
         "1 ok\nfault 2 line 2\n",
     ),
     (
-        "tags of NFC-A stand side by side",
-        "run quiet",
-        "place t2 01020304 4 -\nplace t2 01020305 4 -",
-        0,
-        "1 ok\n2 ok\n",
-    ),
-    (
         "more bytes than the blocks hold",
         "run quiet",
         "place t5 E004010203040506 1 4 0000000000",
@@ -135,13 +128,6 @@ read 01020304",
         "place t2 01020304 15 000000000000000000000000E1100600",
         2,
         "fault 2 line 1\n",
-    ),
-    (
-        "a read of another tag",
-        "run quiet",
-        "place t5 E004010203040506 1 4 -\nread E004010203040507",
-        0,
-        "1 ok\n2 not found\n",
     ),
     (
         "a tag that was taken away isn't read",

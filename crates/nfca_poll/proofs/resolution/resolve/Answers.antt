@@ -15,6 +15,9 @@ use Rattle.nfca_poll.proofs.FirstPicked.{Follows, follows_start, follows_turn, f
 use Rattle.nfca_poll.proofs.ThroughNoise.{Holds, holds_start, holds_turn, holds_end, holds_err}
 use Rattle.nfca_poll.proofs.Causes.{has_cause}
 use Rattle.nfca_poll.proofs.NobodyIdle.{Sleepers, sleepers_start, sleepers_turn, sleepers_end, sleepers_err}
+use Rattle.nfca_poll.specs.AnyStart.{PicksFromAny, PicksAlone}
+use Rattle.nfca_poll.proofs.AnyTurns.{Mixes, mixes_start, mixes_turn, mixes_end, mixes_err}
+use Rattle.nfca_poll.proofs.Unlinked.{Frees, frees_start, frees_turn, frees_end, frees_err}
 use Rattle.nfca_poll.proofs.resolution.resolve.Goals as goal
 
 pub returns-in_err-heard-clause-turns : goal.returns-in_err-heard-clause-turns
@@ -36,6 +39,8 @@ loop-heard-preserved g c =
     let K : Seek → Type 0 = λ s. Counted g.L.Listener.machine c.args.field.now c.ask.new.field s in
     let F : Seek → Type 0 = λ s. Follows g.L.Listener.machine g.L.Listener.identifier c.args.field.now c.ask.new.field s in
     let H : Seek → Type 0 = λ s. Holds g.L.Listener.machine g.L.Listener.identifier c.args.field.now c.ask.new.field s in
+    let M : Seek → Type 0 = λ s. Mixes g.L.Listener.machine g.L.Listener.identifier c.args.field.now c.ask.new.field s in
+    let U : Seek → Type 0 = λ s. Frees g.L.Listener.machine g.L.Listener.identifier c.args.field.now c.ask.new.field s in
     let N : Seek → Type 0 = λ s. Sleepers g.L.Listener.machine g.L.Listener.identifier c.args.field.now c.ask.new.field s in
     record {
       lit = c.in_ok-heard.ensures.1;
@@ -53,6 +58,12 @@ loop-heard-preserved g c =
           c.request.ensures c.in_ok-heard.ensures);
       nobody = subst N (sym c.in-Goes.ensures)
           (sleepers_turn g.L.Listener.machine g.L.Listener.identifier c.args.field.now c.loop-heard.field c.ask.new.field c.loop-heard.seeking c.request.result c.in_ok-heard.heard c.loop-heard.invariant.nobody
+          c.request.ensures c.in_ok-heard.ensures);
+      any = subst M (sym c.in-Goes.ensures)
+          (mixes_turn g.L.Listener.machine g.L.Listener.identifier c.args.field.now c.loop-heard.field c.ask.new.field c.loop-heard.seeking c.request.result c.in_ok-heard.heard c.loop-heard.invariant.any c.loop-heard.invariant.so_far
+          c.request.ensures c.in_ok-heard.ensures);
+      alone = subst U (sym c.in-Goes.ensures)
+          (frees_turn g.L.Listener.machine g.L.Listener.identifier c.args.field.now c.loop-heard.field c.ask.new.field c.loop-heard.seeking c.request.result c.in_ok-heard.heard c.loop-heard.invariant.alone c.loop-heard.invariant.so_far
           c.request.ensures c.in_ok-heard.ensures);
     }
 
@@ -99,6 +110,8 @@ loop-heard-init g c = record {
   first = follows_start g.L.Listener.machine g.L.Listener.identifier c.args.field.now;
   noisy = holds_start g.L.Listener.machine g.L.Listener.identifier c.args.field.now;
   nobody = sleepers_start g.L.Listener.machine g.L.Listener.identifier c.args.field.now;
+  any = mixes_start g.L.Listener.machine g.L.Listener.identifier c.args.field.now;
+  alone = frees_start g.L.Listener.machine g.L.Listener.identifier c.args.field.now;
 }
 
 pub returns-in_err-heard-clause-few : goal.returns-in_err-heard-clause-few
@@ -157,3 +170,31 @@ returns-in-Ends-clause-cause g c lit ours crowd =
     c.in_ok-heard.ensures)
     c.in-Ends.ensures.1 c.in-Ends.ensures.2 ours)
     crowd
+
+pub returns-in_err-heard-clause-any : goal.returns-in_err-heard-clause-any
+returns-in_err-heard-clause-any g c lit ours yields =
+    let E : Result Picked PollFault → Type 0 = λ r. PicksFromAny ours c.args.field.now r c.ask.new.field in
+    let same : c.from_residual.result ≡ Err c.in_err-heard.field-0.0 = grind (arith, common_steps) in
+    subst E (sym same)
+    (mixes_err g.L.Listener.machine g.L.Listener.identifier c.args.field.now c.loop-heard.field c.ask.new.field c.loop-heard.seeking c.request.result c.in_err-heard.field-0.0 c.loop-heard.invariant.any c.in_err-heard.ensures ours yields)
+
+pub returns-in-Ends-clause-any : goal.returns-in-Ends-clause-any
+returns-in-Ends-clause-any g c lit ours yields =
+    mixes_end g.L.Listener.machine g.L.Listener.identifier c.args.field.now c.ask.new.field (seek_step (seek_of c.loop-heard.seeking) c.in_ok-heard.heard) c.in-Ends.ensures.0 c.in-Ends.result
+    (mixes_turn g.L.Listener.machine g.L.Listener.identifier c.args.field.now c.loop-heard.field c.ask.new.field c.loop-heard.seeking c.request.result c.in_ok-heard.heard c.loop-heard.invariant.any c.loop-heard.invariant.so_far
+    c.request.ensures c.in_ok-heard.ensures)
+    c.in-Ends.ensures.1 c.in-Ends.ensures.2 ours yields
+
+pub returns-in_err-heard-clause-alone : goal.returns-in_err-heard-clause-alone
+returns-in_err-heard-clause-alone g c lit ours unlinked leaves =
+    let E : Result Picked PollFault → Type 0 = λ r. PicksAlone ours unlinked c.args.field.now r c.ask.new.field in
+    let same : c.from_residual.result ≡ Err c.in_err-heard.field-0.0 = grind (arith, common_steps) in
+    subst E (sym same)
+    (frees_err g.L.Listener.machine g.L.Listener.identifier c.args.field.now c.loop-heard.field c.ask.new.field c.loop-heard.seeking c.request.result c.in_err-heard.field-0.0 c.loop-heard.invariant.alone c.in_err-heard.ensures ours unlinked leaves)
+
+pub returns-in-Ends-clause-alone : goal.returns-in-Ends-clause-alone
+returns-in-Ends-clause-alone g c lit ours unlinked leaves =
+    frees_end g.L.Listener.machine g.L.Listener.identifier c.args.field.now c.ask.new.field (seek_step (seek_of c.loop-heard.seeking) c.in_ok-heard.heard) c.in-Ends.ensures.0 c.in-Ends.result
+    (frees_turn g.L.Listener.machine g.L.Listener.identifier c.args.field.now c.loop-heard.field c.ask.new.field c.loop-heard.seeking c.request.result c.in_ok-heard.heard c.loop-heard.invariant.alone c.loop-heard.invariant.so_far
+    c.request.ensures c.in_ok-heard.ensures)
+    c.in-Ends.ensures.1 c.in-Ends.ensures.2 ours unlinked leaves

@@ -6,6 +6,8 @@ use Rattle.nfca_poll.proofs.FewAsked.{Counted}
 use Rattle.nfca_poll.proofs.FirstPicked.{Follows}
 use Rattle.nfca_poll.proofs.ThroughNoise.{Holds}
 use Rattle.nfca_poll.proofs.NobodyIdle.{Sleepers}
+use Rattle.nfca_poll.proofs.AnyTurns.{Mixes}
+use Rattle.nfca_poll.proofs.Unlinked.{Frees}
 use Rattle.nfca_poll.proofs.resolution.resolve.Given as goal
 
 abbrev pub invariant-loop-heard : goal.invariant-loop-heard
@@ -16,6 +18,8 @@ invariant-loop-heard g l = record {
   first : Follows g.L.Listener.machine g.L.Listener.identifier l.fn.field l.field (seek_of l.seeking);
   noisy : Holds g.L.Listener.machine g.L.Listener.identifier l.fn.field l.field (seek_of l.seeking);
   nobody : Sleepers g.L.Listener.machine g.L.Listener.identifier l.fn.field l.field (seek_of l.seeking);
+  any : Mixes g.L.Listener.machine g.L.Listener.identifier l.fn.field l.field (seek_of l.seeking);
+  alone : Frees g.L.Listener.machine g.L.Listener.identifier l.fn.field l.field (seek_of l.seeking);
 }
 
 abbrev pub decreases-loop-heard : goal.decreases-loop-heard

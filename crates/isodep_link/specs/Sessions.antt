@@ -1,0 +1,62 @@
+-- Exchanges of ISO-DEP one after another on one link, each over an air of its own (this project's own air).
+use Rattle.std.specs.Prelude.{◌≡◌, ◌⊎◌, ℕ, ◌≤◌, Bool, true, false, if◌then◌else◌, List, [], ◌∷◌, ◌++◌, length, None}
+use Rattle.nfc_base.specs.Signal.{Signal}
+use Rattle.nfc_base.specs.StopAndWait.{Finished, SixBad, Protocol, Stage, Requests, Answers, Over, Dark, run}
+use Rattle.nfc_base.specs.declared.event.Fate.{Fate}
+use Rattle.isodep_link.specs.Sizes.{limit}
+use Rattle.isodep_link.specs.Card.{fresh, activated}
+use Rattle.isodep_link.specs.Reader.{waiting}
+use Rattle.isodep_link.specs.Exchange.{iso_dep, Exchange, beginning}
+
+-- a command, how the card's owner answers then, and what becomes of the transmissions
+pub record Asked : Type 0 where
+  pub command : List ℕ
+  pub far : List ℕ → List ℕ
+  pub fates : List Fate
+
+-- A command and every answer of the owner have at most 264 bytes.
+pub record Fits (q : Asked) : Type 0 where
+  pub command : length q.command ≤ limit
+  pub answers : (xs : List ℕ) → length (q.far xs) ≤ limit
+
+-- the exchange ended with an answer
+abbrev pub is_answered : Stage Signal → Bool
+is_answered (Requests f) = false
+is_answered (Answers f) = false
+is_answered (Over (Finished r)) = true
+is_answered (Over SixBad) = false
+is_answered (Over Protocol) = false
+is_answered Dark = false
+
+-- the exchange of this command, from where the one before it ended
+abbrev pub exchanged : Exchange → Asked → Exchange
+exchanged w q = run iso_dep q.far (beginning w.asking w.answering w.delivered w.arrived q.command) q.fates
+
+-- The exchanges of some commands; the first one that isn't answered is the last.
+abbrev pub session : Exchange → List Asked → Exchange
+session w [] = w
+session w (q ∷ qs) = if is_answered (exchanged w q).stage then session (exchanged w q) qs else exchanged w q
+
+-- the commands that are asked in them
+abbrev pub asked_in : Exchange → List Asked → List (List ℕ)
+asked_in w [] = []
+asked_in w (q ∷ qs) = q.command ∷ (if is_answered (exchanged w q).stage then asked_in (exchanged w q) qs else [])
+
+-- All that was asked was obeyed, each command once and in order; or all but the last, and that one wasn't answered.
+abbrev pub ObeysAll : List (List ℕ) → List (List ℕ) → Exchange → Type 0
+ObeysAll before asked w =
+    (w.delivered ≡ before ++ asked) ⊎ ((last : List ℕ) × (w.delivered ++ last ∷ [] ≡ before ++ asked) × (is_answered w.stage ≡ false))
+
+-- A card of this size code has answered RATS of a reader with the other one, and was asked nothing yet.
+abbrev pub activated_link : ℕ → ℕ → Exchange
+activated_link card_code reader_code =
+    record {
+      asking = waiting card_code;
+      answering = (activated (fresh card_code) reader_code).state;
+      stage = Over (Finished []);
+      given = None;
+      delivered = [];
+      arrived = [];
+      sent = 0;
+      bads = 0;
+    }
