@@ -1,86 +1,89 @@
 -- Commands that were obeyed, and journals.
-use Rattle.std.proofs.Common.{◌≡◌, ℕ, List, [], ◌∷◌, ◌++◌, map, length, Option, Some, None, is_some, Result, Ok, refl, sym, ◌∙◌, ap, subst, arith, inl, inr}
+use Rattle.std.proofs.Common.{◌≡◌, ◌↔◌, ℕ, ◌+◌, ◌<◌, List, [], ◌∷◌, ◌++◌, map, length, Option, Some, None, Result, Ok, Err, refl, sym, ◌∙◌, ap, subst, arith, inl, inr}
+use Rattle.std.proofs.lemmas.Bool.{cases_lt}
+use Rattle.std.proofs.lemmas.List.{append-nil}
 use Rattle.nfc_base.specs.declared.event.Event.{Event}
 use Rattle.nfc_base.specs.declared.event.Fate.{Fate}
+use Rattle.nfc_base.specs.declared.tag_link.AskFault.TheVariants as asking
 use Rattle.nfc_base.specs.Signal.{Signal}
+use Rattle.nfc_base.specs.Trace.{back_of, breaks}
+use Rattle.nfc_base.specs.Trace as backs
 use Rattle.air_core.specs.World.{World}
 use Rattle.air_core.specs.Turn.{Air, moment}
-use Rattle.air_core.specs.Conversation.{Moment, Note, Lit, Got, Lost, Next, Over, LightUp, Asks, IsDemand, Going, replay, queue_after}
-use Rattle.air_core.specs.Waits.{waits_next, due_at}
-use Rattle.air_core.specs.Turning.{going_then}
-use Rattle.nfca_poll.specs.declared.kind.Kind.TheVariants as kinds
+use Rattle.air_core.specs.Conversation.{Moment, Note, Lit, Got, Lost, Next, Over, LightUp, Asks, IsDemand, AreTurns, FatesFrom, EachDue, Going, receptions, replay, queue_after, with_events}
+use Rattle.air_core.specs.Waits.{Standing, Asking, Broken, Astray, stand, waits_next}
+use Rattle.air_core.specs.Turning.{due-append, due_weaker, due_shift, fates-append, back_of-append, receptions-append, turns-append, events-append}
 use Rattle.nfca_poll.specs.declared.fault.PollFault.{PollFault}
+use Rattle.nfca_poll.specs.declared.fault.PollFault.TheVariants as faults
 use Rattle.nfca_poll.specs.Enquiry.{Enquiry}
 use Rattle.nfca_poll.specs.Inventory.{picking_v}
-use Rattle.nfca_poll.specs.Poll.{Pick, Begins, Seeks, Sends, Ends, PickEnd, Picked, Polling, Polls, Done, pick, picking, pick_step}
+use Rattle.nfca_poll.specs.Rounds.{picking}
 use Rattle.nfc_bench.specs.declared.command.Command.{Command}
-use Rattle.nfc_bench.specs.declared.command.Command.TheVariants.{Read}
+use Rattle.nfc_bench.specs.declared.command.Command.TheVariants.{Find, Read}
 use Rattle.nfc_bench.specs.declared.command.DeviceId.{DeviceId}
 use Rattle.nfc_bench.specs.declared.command.DeviceId.TheVariants.{A, V}
 use Rattle.nfc_bench.specs.declared.device.Device.{Device}
-use Rattle.nfc_bench.specs.declared.entry.Answer.{Answer}
-use Rattle.nfc_bench.specs.declared.entry.Entry.{Entry}
 use Rattle.nfc_bench.specs.declared.device.Device.TheVariants.{T2, T5}
+use Rattle.nfc_bench.specs.declared.entry.Answer.{Answer}
+use Rattle.nfc_bench.specs.declared.entry.Answer.TheVariants as answers
+use Rattle.nfc_bench.specs.declared.entry.Entry.{Entry}
+use Rattle.nfc_bench.specs.Answering.{ReadTells, TellsStanding, poll_answer}
 use Rattle.nfc_bench.specs.Device.{device_id, device_store, how_of}
-use Rattle.nfc_bench.specs.Polling.{Followed, Asks as Requests, Told, followed, pick_v, asks_a, asks_v, polling, bytes_of, IsFoundBy}
+use Rattle.nfc_bench.specs.Polling.{Followed, Asks as Requests, Told, followed, follows, picked_any, pick_v, asks, bytes_of, selecting}
 use Rattle.nfc_bench.specs.Reading.{Tells, AsksOf, TellsOf}
-use Rattle.nfc_bench.specs.Legal.{air, State, LegalStep, due, then_asks, then_asks_v, stable, state_after, state_from, state_of, first_state}
-use Rattle.nfc_bench.specs.Placed.{OfPlaced, device_with}
-use Rattle.nfc_bench.specs.Phases.{Kept, kept, IsSound, AreTame, how_for, IsId, Selects, Reads}
+use Rattle.nfc_bench.specs.Legal.{air, State, LegalStep, IsAccepted, IsAskedBy, AnswerLaw, changed, due, then_asks, stable, state_after, state_from, state_of, first_state}
+use Rattle.nfc_bench.specs.Placed.{OfPlaced, IfPlaced, device_with}
+use Rattle.nfc_bench.specs.Phases.{Kept, kept, IsSound, AreTame, how_for, IsId, Selects, SelectsAt, Reads, Searches}
 use Rattle.nfc_bench.specs.Obeying.{state_at, IsIdle, IsReady, Obeyed}
 use Rattle.tag_reader.specs.declared.how.How.{How}
 use Rattle.tag_reader.specs.declared.how.How.TheVariants as hows
 use Rattle.tag_reader.specs.Asked.{IsAsked}
-use Rattle.nfc_bench.proofs.Placing.{map-over, IsWith, is_with}
+use Rattle.nfc_bench.proofs.Placing.{map-over, IsWith, is_with, with_sound}
+use Rattle.nfc_bench.proofs.ReadingTags.{some_asked}
+use Rattle.nfc_bench.proofs.SelectingAir.{breaks-append}
 
--- what is known behind the end of a call of polling
-picking_more : (wanted : List ℕ) (p : Pick) (hs ns rest : List Note) (e : PickEnd) → picking wanted p hs ≡ Done e rest → picking wanted p (hs ++ ns) ≡ Done e (rest ++ ns)
-picking_more wanted (Ends f) hs ns rest e h = cc
-picking_more wanted (Begins r) [] ns rest e h = absurd cc
-picking_more wanted (Begins r) (n ∷ hs) ns rest e h = picking_more wanted (pick_step wanted (Begins r) n) hs ns rest e h
-picking_more wanted (Seeks r f s) [] ns rest e h = absurd cc
-picking_more wanted (Seeks r f s) (n ∷ hs) ns rest e h = picking_more wanted (pick_step wanted (Seeks r f s) n) hs ns rest e h
-picking_more wanted (Sends r f) [] ns rest e h = absurd cc
-picking_more wanted (Sends r f) (n ∷ hs) ns rest e h = picking_more wanted (pick_step wanted (Sends r f) n) hs ns rest e h
+-- what one has told, the other tells too, with more that is known since
+abbrev StaysTold : {X : Type 0} → Followed X → Followed X → List Note → Type 0
+StaysTold (Requests n) q ns = Unit {0}
+StaysTold (Told r rest) q ns = q ≡ Told r (rest ++ ns)
 
-followed_more : {S X : Type 0} (e : Enquiry S X) (s : S) (o : Option (Result X PollFault)) (hs ns rest : List Note) (r : Result X PollFault) → followed e s o hs ≡ Told r rest → followed e s o (hs ++ ns) ≡ Told r (rest ++ ns)
-followed_more e s (Some x) hs ns rest r h = cc
-followed_more e s None [] ns rest r h = absurd cc
-followed_more e s None (Lit ∷ hs) ns rest r h = followed_more e s None hs ns rest r h
-followed_more e s None (Got g ∷ hs) ns rest r h = followed_more e (e.step s g) (e.ended (e.step s g)) hs ns rest r h
-followed_more e s None (Lost ∷ hs) ns rest r h = cc
+followed_more : {S X : Type 0} (e : Enquiry S X) (s : S) (o : Option (Result X PollFault)) (hs ns : List Note) → StaysTold (followed e s o hs) (followed e s o (hs ++ ns)) ns
+followed_more e s (Some r) hs ns = refl
+followed_more e s None [] ns = tt
+followed_more e s None (Lit ∷ hs) ns = followed_more e (e.light s) (e.ended (e.light s)) hs ns
+followed_more e s None (Got h ∷ hs) ns = followed_more e (e.step s h) (e.ended (e.step s h)) hs ns
+followed_more e s None (Lost ∷ hs) ns = refl
 
-pick_v_more : (id : List ℕ) (hs ns rest : List Note) (r : Result (Unit {0}) PollFault) → pick_v id hs ≡ Told r rest → pick_v id (hs ++ ns) ≡ Told r (rest ++ ns)
-pick_v_more id [] ns rest r h = absurd cc
-pick_v_more id (Lit ∷ hs) ns rest r h = followed_more (picking_v id) (picking_v id).start ((picking_v id).ended (picking_v id).start) hs ns rest r h
-pick_v_more id (Got g ∷ hs) ns rest r h = pick_v_more id hs ns rest r h
-pick_v_more id (Lost ∷ hs) ns rest r h = cc
+any_more : {X : Type 0} (p q : Followed X) (ns : List Note) → StaysTold p q ns → StaysTold (picked_any p) (picked_any q) ns
+any_more (Requests n) q ns h = tt
+any_more (Told (Ok x) rest) q ns h = ap picked_any h
+any_more (Told (Err e) rest) q ns h = ap picked_any h
 
-found_more : (id : DeviceId) (hs ns : List Note) → IsFoundBy id hs [] → IsFoundBy id (hs ++ ns) ns
-found_more (A id) hs ns h = picking_more id (Begins 1) hs ns [] (Picked kinds.T2) h
-found_more (V id) hs ns h = pick_v_more id hs ns [] (Ok tt) h
+pick_v_more : (id : List ℕ) (hs ns : List Note) → StaysTold (pick_v id hs) (pick_v id (hs ++ ns)) ns
+pick_v_more id [] ns = tt
+pick_v_more id (Lit ∷ hs) ns = followed_more (picking_v id) (picking_v id).start ((picking_v id).ended (picking_v id).start) hs ns
+pick_v_more id (Got h ∷ hs) ns = pick_v_more id hs ns
+pick_v_more id (Lost ∷ hs) ns = refl
+
+selecting_stays : (id : DeviceId) (hs ns : List Note) → StaysTold (selecting id hs) (selecting id (hs ++ ns)) ns
+selecting_stays (A id) hs ns =
+    any_more (follows (picking id) hs) (follows (picking id) (hs ++ ns)) ns (followed_more (picking id) (picking id).start ((picking id).ended (picking id).start) hs ns)
+selecting_stays (V id) hs ns = pick_v_more id hs ns
+
+-- a device that was selected stays so, whatever is known since
+selecting_more : (id : DeviceId) (hs ns : List Note) (r : Result (Unit {0}) PollFault) → selecting id hs ≡ Told r [] → selecting id (hs ++ ns) ≡ Told r ns
+selecting_more id hs ns r told = let P : Followed (Unit {0}) → Type 0 = λ p. StaysTold p (selecting id (hs ++ ns)) ns in subst P told (selecting_stays id hs ns)
 
 -- behind it the commands are asked
-then_waits : (id : DeviceId) (asked : List Signal) (hs ns : List Note) → IsFoundBy id hs ns → due asked (Read id) hs ≡ waits_next asked ns
-then_waits (A id) asked hs ns h = ap (then_asks asked) h
-then_waits (V id) asked hs ns h = ap (then_asks_v asked) h
+then_waits : (id : DeviceId) (asked : List Signal) (hs ns : List Note) → selecting id hs ≡ Told (Ok tt) [] → due asked (Read id) (hs ++ ns) ≡ waits_next asked ns
+then_waits id asked hs ns told = ap (then_asks asked) (selecting_more id hs ns (Ok tt) told)
 
 -- what polling asks, the command asks
-polls_first : (id : DeviceId) (asked : List Signal) (ns : List Note) (n : Next) → polling id ns ≡ n → IsDemand n → due asked (Read id) ns ≡ n
-polls_first (A id) asked ns n h d = by_polling (pick id ns) n h d
-  where
-    by_polling : (p : Polling) (n : Next) → asks_a p ≡ n → IsDemand n → then_asks asked p ≡ n
-    by_polling (Polls m) n h d = h
-    by_polling (Done e ns) Over h d = absurd d
-    by_polling (Done e ns) LightUp h d = absurd cc
-    by_polling (Done e ns) (Asks f) h d = absurd cc
-polls_first (V id) asked ns n h d = by_polling (pick_v id ns) n h d
-  where
-    by_polling : (p : Followed (Unit {0})) (n : Next) → asks_v p ≡ n → IsDemand n → then_asks_v asked p ≡ n
-    by_polling (Requests m) n h d = h
-    by_polling (Told e ns) Over h d = absurd d
-    by_polling (Told e ns) LightUp h d = absurd cc
-    by_polling (Told e ns) (Asks f) h d = absurd cc
+polls_first : (asked : List Signal) (p : Followed (Unit {0})) (n : Next) → asks p ≡ n → IsDemand n → then_asks asked p ≡ n
+polls_first asked (Requests m) n h d = h
+polls_first asked (Told r ns) Over h d = absurd d
+polls_first asked (Told r ns) LightUp h d = absurd cc
+polls_first asked (Told r ns) (Asks f) h d = absurd cc
 
 -- the device with an identifier is read as its identifier says
 pub how_named : (id : DeviceId) (d : Device) → IsId id → IsSound (kept d) → device_id d ≡ bytes_of id → how_of d ≡ how_for id
@@ -97,57 +100,201 @@ stores_kept : (ls : List Device) → map device_store ls ≡ map (λ (k : Kept).
 stores_kept [] = refl
 stores_kept (d ∷ ls) = ap (λ xs. device_store d ∷ xs) (stores_kept ls)
 
--- a tag was found and read
-pub read_obeyed : (old mid new : Air Device) (id : DeviceId) (place : ℕ) (answer : Answer) → IsIdle old
-    → (s : Selects id (moment old) (moment mid) place) → Reads (moment mid) (moment new) s.device answer → Obeyed old new (Read id) answer
-read_obeyed old mid new id place answer idle s r =
-    let c : Command = Read id in
+-- no store changed
+stores_stay : (old new : Air Device) (es : List Event) → (moment new).world ≡ replay air (moment old).world es → map kept new.listeners ≡ map kept old.listeners
+    → stable (replay air (state_at old).world es) ≡ stable (state_at old).world
+stores_stay old new es world same =
+    ap stable (sym world) ∙ stores_kept new.listeners ∙ ap (map (λ (k : Kept). k.store)) same ∙ sym (stores_kept old.listeners)
+
+-- a command that asks, and changes nothing itself
+asks_obeyed : (old new : Air Device) (c : Command) (asked : List Signal) (ns : List Note) (answer : Answer) → IsIdle old → IsAccepted (state_at old) c → changed (state_at old) c ≡ state_at old
+    → (g : Going air (due asked c) (moment old) (moment new) ns) → due asked c ns ≡ Over → IsAskedBy (state_at old) c asked → AnswerLaw (state_at old) c asked g.events answer
+    → map kept new.listeners ≡ map kept old.listeners → Obeyed old new c answer
+asks_obeyed old new c asked ns answer idle accepted still g over asked_by law same =
     let st : State = state_at old in
-    let g : Going air (due r.asked c) (moment old) (moment new) (s.notes ++ r.notes) =
-    going_then air (due r.asked c) (polling id) (waits_next r.asked) (moment old) (moment mid) (moment new) s.notes r.notes
-    (λ ns n h d. polls_first id r.asked ns n h d) (λ ns. then_waits id r.asked (s.notes ++ ns) ns (found_more id s.notes ns s.found)) s.going r.going in
     let es : List Event = g.events in
     let trace : new.trace ≡ es = ap (λ (t : Moment (World Device)). t.trace) g.moment ∙ ap (λ t. t ++ es) idle.quiet in
     let world : (moment new).world ≡ replay air st.world es = ap (λ (t : Moment (World Device)). t.world) g.moment in
     let queue : new.fates ≡ queue_after old.fates es = ap (λ (t : Moment (World Device)). t.queue) g.moment in
-    let all : map kept new.listeners ≡ map kept old.listeners = r.same ∙ s.same in
-    let split : map kept old.listeners ≡ map kept s.stands.before ++ kept s.device ∷ map kept s.stands.behind =
-    sym s.same ∙ ap (λ (w : World Device). map kept w.listeners) s.stands.world ∙ map-over kept s.stands.before (s.device ∷ s.stands.behind) in
-    let w : IsWith old.listeners (bytes_of id) (kept s.device) = is_with old.listeners (map kept s.stands.before) (kept s.device) (map kept s.stands.behind) (bytes_of id) idle.tame split s.named in
-    let back : kept s.device ≡ kept w.device = sym w.same in
-    let P : Kept → Type 0 = λ k. Tells k.how k.size k.store answer in
-    let Q : (Device → Type 0) → Option Device → Type 0 = OfPlaced in
-    let asks : OfPlaced (λ d. AsksOf d r.asked) (device_with (bytes_of id) old.listeners) =
-    subst (λ o. OfPlaced (λ d. AsksOf d r.asked) o) (sym w.found) (subst (λ (k : Kept). IsAsked k.how k.size k.store r.asked) back r.asks) in
-    let tells : OfPlaced (λ d. TellsOf d answer) (device_with (bytes_of id) old.listeners) =
-    subst (λ o. OfPlaced (λ d. TellsOf d answer) o) (sym w.found) (subst P back r.tells) in
-    let found : IsFoundBy id (s.notes ++ r.notes) r.notes = found_more id s.notes r.notes s.found in
-    let over : due r.asked c (s.notes ++ r.notes) ≡ Over = then_waits id r.asked (s.notes ++ r.notes) r.notes found ∙ ap due_at r.answered in
-    let F : List Note → Type 0 = λ ns. IsFoundBy id ns r.notes in
+    let T : State → Type 0 = λ s. AreTurns air s.world es in
+    let F : State → Type 0 = λ s. FatesFrom s.queue es in
     let step : LegalStep st c es answer = record {
-      accepted = ap is_some w.found;
-      turns = g.turns;
-      fates = g.fates;
-      asked = r.asked;
-      asks = asks;
+      accepted = accepted;
+      turns = subst T (sym still) g.turns;
+      fates = subst F (sym still) g.fates;
+      asked = asked;
+      asks = asked_by;
       each = g.each;
-      over = ap (due r.asked c) g.known ∙ over;
-      answered = record {
-        rest = r.notes;
-        found = subst F (sym g.known) found;
-        answered = r.answered;
-        tells = tells;
-        stays = ap stable (sym world) ∙ stores_kept new.listeners ∙ ap (map (λ (k : Kept). k.store)) all ∙ sym (stores_kept old.listeners);
-      };
+      over = ap (due asked c) g.known ∙ over;
+      answered = law;
     } in
     let L : List Event → Type 0 = λ t. LegalStep st c t answer in
     let S : World Device → List Fate → State = λ w q. record { world = w; queue = q } in
     record {
       step = subst L (sym trace) step;
-      state = ap (λ w. S w new.fates) world ∙ ap (S (replay air st.world es)) queue ∙ ap (state_after st c) (sym trace);
-      fates = r.queue;
-      tame = subst (λ ks. AreTame ks) (sym all) idle.tame;
+      state = ap (λ w. S w new.fates) world ∙ ap (S (replay air st.world es)) queue ∙ ap (λ (s : State). S (replay air s.world es) (queue_after s.queue es)) (sym still)
+          ∙ ap (state_after st c) (sym trace);
+      tame = subst (λ ks. AreTame ks) (sym same) idle.tame;
     }
+
+-- all devices were searched for
+pub search_obeyed : (old new : Air Device) (answer : Answer) → IsIdle old → Searches (moment old) (moment new) answer → Obeyed old new Find answer
+search_obeyed old new answer idle s =
+    let world : (moment new).world ≡ replay air (moment old).world s.asked.going.events = ap (λ (t : Moment (World Device)). t.world) s.asked.going.moment in
+    asks_obeyed old new Find [] s.asked.notes answer idle tt refl s.asked.going s.asked.over refl
+    (record { tells = s.tells; stays = stores_stay old new s.asked.going.events world s.asked.same }) s.asked.same
+
+-- what a read asks of a placed device, and nothing where none is placed
+asked_by : (old : Air Device) (id : DeviceId) → IsIdle old → (asked : List Signal) × IsAskedBy (state_at old) (Read id) asked
+asked_by old id idle = by_found (device_with (bytes_of id) old.listeners) refl
+  where
+    by_found : (o : Option Device) → device_with (bytes_of id) old.listeners ≡ o → (asked : List Signal) × IfPlaced (λ d. AsksOf d asked) (asked ≡ []) o
+    by_found None found = ([], refl)
+    by_found (Some d) found = some_asked d (with_sound old.listeners (bytes_of id) d idle.tame.sound found)
+
+-- the field was lost where the answer tells it
+told_lost : (e : PollFault) (answer : Answer) → poll_answer e ≡ Some answer → answer ≡ answers.FieldLost → ◌≡◌ {A = Result (Unit {0}) PollFault} (Err e) (Err faults.FieldLost)
+told_lost faults.Nobody answer is lost = absurd cc
+told_lost faults.Disturbed answer is lost = absurd cc
+told_lost faults.FieldLost answer is lost = refl
+told_lost faults.Memory answer is lost = absurd cc
+told_lost faults.NotFound answer is lost = absurd cc
+told_lost faults.BadAnswer answer is lost = absurd cc
+
+lost_told : (e : PollFault) (answer : Answer) → poll_answer e ≡ Some answer → ◌≡◌ {A = Result (Unit {0}) PollFault} (Err e) (Err faults.FieldLost) → answer ≡ answers.FieldLost
+lost_told e answer is lost = (let same : e ≡ faults.FieldLost = cc in let told : Some answer ≡ Some answers.FieldLost = sym is ∙ ap poll_answer same in cc)
+
+-- no tag was selected
+pub missed_obeyed : (old new : Air Device) (id : DeviceId) (e : PollFault) (answer : Answer) → IsIdle old → Selects id (Err e) (moment old) (moment new) → poll_answer e ≡ Some answer → Obeyed old new (Read id) answer
+missed_obeyed old new id e answer idle s is =
+    let some = asked_by old id idle in
+    let g : Going air (λ ns. asks (selecting id ns)) (moment old) (moment new) s.asked.notes = s.asked.going in
+    let going : Going air (due some.0 (Read id)) (moment old) (moment new) s.asked.notes = record {
+      events = g.events;
+      moment = g.moment;
+      turns = g.turns;
+      each = due_weaker (due some.0 (Read id)) (λ ns. asks (selecting id ns)) (λ ns n h d. polls_first some.0 (selecting id ns) n h d) [] g.events g.each;
+      fates = g.fates;
+      fresh = g.fresh;
+      known = g.known;
+    } in
+    let world : (moment new).world ≡ replay air (moment old).world g.events = ap (λ (t : Moment (World Device)). t.world) g.moment in
+    let tells : ReadTells id old.listeners some.0 g.events answer = record {
+      first = g.events;
+      rest = [];
+      parts = sym (append-nil g.events);
+      polled = Err e;
+      selected = ap (selecting id) g.known ∙ s.told;
+      cause = s.cause;
+      ends = (refl, is);
+      lost = (λ lost. s.lost.0 (told_lost e answer is lost), λ broken. lost_told e answer is (s.lost.1 broken));
+    } in
+    asks_obeyed old new (Read id) some.0 s.asked.notes answer idle tt refl going (ap (then_asks some.0) s.told) some.1
+    (record { tells = tells; stays = stores_stay old new g.events world s.asked.same }) s.asked.same
+
+-- what a read tells by the standing of its waits, told of another store in the same words
+tells_as : (P Q : Answer → Type 0) (x : Standing) (answer : Answer) → (P answer → Q answer) → TellsStanding P x answer → TellsStanding Q x answer
+tells_as P Q (Asking bad []) answer says tells = says tells
+tells_as P Q (Asking bad (c ∷ cs)) answer says tells = absurd tells
+tells_as P Q (Broken asking.FieldLost cs) answer says tells = tells
+tells_as P Q (Broken asking.SixBad cs) answer says tells = tells
+tells_as P Q (Broken asking.Memory cs) answer says tells = absurd tells
+tells_as P Q (Broken asking.Protocol cs) answer says tells = absurd tells
+tells_as P Q Astray answer says tells = absurd tells
+
+-- A tag was selected, and commands were asked behind that: both are one command.
+module _ (id : DeviceId) (asked : List Signal) (a b c : Moment (World Device)) (hs ks : List Note) (told : selecting id hs ≡ Told (Ok tt) [])
+    (g : Going air (λ ns. asks (selecting id ns)) a b hs) (k : Going air (waits_next asked) b c ks) where
+  waits_behind : (t : List Event) → back_of t ≡ backs.Nothing → due asked (Read id) (receptions (g.events ++ t)) ≡ waits_next asked (receptions t)
+  waits_behind t fresh =
+      ap (due asked (Read id)) (receptions-append g.events t fresh ∙ ap (λ r. r ++ receptions t) g.known) ∙ then_waits id asked hs (receptions t) told
+
+  each_of_both : EachDue (due asked (Read id)) [] (g.events ++ k.events)
+  each_of_both =
+      let D : List Event → Type 0 = λ t. EachDue (due asked (Read id)) t k.events in
+      due-append (due asked (Read id)) [] g.events k.events
+      (due_weaker (due asked (Read id)) (λ ns. asks (selecting id ns)) (λ ns n h d. polls_first asked (selecting id ns) n h d) [] g.events g.each)
+      (subst D (append-nil g.events) (due_shift (due asked (Read id)) (waits_next asked) g.events waits_behind [] k.events k.fresh k.each))
+
+  turns_of_both : AreTurns air a.world (g.events ++ k.events)
+  turns_of_both =
+      let T : World Device → Type 0 = λ w. AreTurns air w k.events in
+      turns-append air a.world g.events k.events g.turns (subst T (ap (λ (t : Moment (World Device)). t.world) g.moment) k.turns)
+
+  fates_of_both : FatesFrom a.queue (g.events ++ k.events)
+  fates_of_both =
+      let F : List Fate → Type 0 = λ q. FatesFrom q k.events in
+      fates-append a.queue g.events k.events g.fates (subst F (ap (λ (t : Moment (World Device)). t.queue) g.moment) k.fates)
+
+  abbrev both : Going air (due asked (Read id)) a c (hs ++ ks)
+  both = record {
+    events = g.events ++ k.events;
+    moment = k.moment ∙ ap (λ t. with_events air t k.events) g.moment ∙ events-append air a g.events k.events;
+    turns = turns_of_both;
+    each = each_of_both;
+    fates = fates_of_both;
+    fresh = back_of-append g.events k.events k.fresh ∙ g.fresh;
+    known = receptions-append g.events k.events k.fresh ∙ ap (λ t. t ++ receptions k.events) g.known ∙ ap (λ t. hs ++ t) k.known;
+  }
+
+-- no Break was used by the first events
+lost_behind : (answer : Answer) (first rest : List Event) → ((0 < breaks first) → ⊥) → (answer ≡ answers.FieldLost) ↔ (0 < breaks rest) → (answer ≡ answers.FieldLost) ↔ (0 < breaks (first ++ rest))
+lost_behind answer first rest none lost =
+    let sum : breaks (first ++ rest) ≡ breaks first + breaks rest = breaks-append first rest in
+    elim (cases_lt 0 (breaks first)) [
+      | inl some ↦ absurd (none some)
+      | inr still ↦ (
+        λ is. let some : 0 < breaks rest = lost.0 is in let all : 0 < breaks (first ++ rest) = omega (arith, sum, some) in all,
+        λ all. lost.1 (let some : 0 < breaks rest = omega (arith, sum, all, still) in some),
+      )
+    ]
+
+-- a tag was selected and read
+module _ (old mid new : Air Device) (id : DeviceId) (place : ℕ) (answer : Answer) (idle : IsIdle old)
+    (s : SelectsAt id place (moment old) (moment mid)) (r : Reads (moment mid) (moment new) s.device answer) where
+  selected_with : IsWith old.listeners (bytes_of id) (kept s.device)
+  selected_with =
+      let split : map kept old.listeners ≡ map kept s.stands.before ++ kept s.device ∷ map kept s.stands.behind =
+      sym s.selects.asked.same ∙ ap (λ (w : World Device). map kept w.listeners) s.stands.world ∙ map-over kept s.stands.before (s.device ∷ s.stands.behind) in
+      is_with old.listeners (map kept s.stands.before) (kept s.device) (map kept s.stands.behind) (bytes_of id) idle.tame.sound split s.named
+
+  abbrev PlacedTells : Answer → Type 0
+  PlacedTells told = OfPlaced (λ d. TellsOf d told) (device_with (bytes_of id) old.listeners)
+
+  placed_tells : TellsOf s.device answer → PlacedTells answer
+  placed_tells tells =
+      let P : Kept → Type 0 = λ k. Tells k.how k.size k.store answer in
+      subst (λ o. OfPlaced (λ d. TellsOf d answer) o) (sym selected_with.found) (subst P (sym selected_with.same) tells)
+
+  placed_asked : IsAskedBy (state_at old) (Read id) r.commands
+  placed_asked =
+      let P : Kept → Type 0 = λ k. IsAsked k.how k.size k.store r.commands in
+      subst (λ o. IfPlaced (λ d. AsksOf d r.commands) (r.commands ≡ []) o) (sym selected_with.found) (subst P (sym selected_with.same) r.asks)
+
+  read_tells : ReadTells id old.listeners r.commands (s.selects.asked.going.events ++ r.asked.going.events) answer
+  read_tells = record {
+    first = s.selects.asked.going.events;
+    rest = r.asked.going.events;
+    parts = refl;
+    polled = Ok tt;
+    selected = ap (selecting id) s.selects.asked.going.known ∙ s.selects.told;
+    cause = tt;
+    ends = tells_as (TellsOf s.device) PlacedTells (stand 0 r.commands (receptions r.asked.going.events)) answer placed_tells
+        (subst (λ ns. TellsStanding (TellsOf s.device) (stand 0 r.commands ns) answer) (sym r.asked.going.known) r.ends);
+    lost = lost_behind answer s.selects.asked.going.events r.asked.going.events
+        (λ some. let is : ◌≡◌ {A = Result (Unit {0}) PollFault} (Ok tt) (Err faults.FieldLost) = s.selects.lost.1 some in cc) r.lost;
+  }
+
+  pub read_obeyed : Obeyed old new (Read id) answer
+  read_obeyed =
+      let hs : List Note = s.selects.asked.notes in
+      let ks : List Note = r.asked.notes in
+      let g : Going air (due r.commands (Read id)) (moment old) (moment new) (hs ++ ks) =
+      both id r.commands (moment old) (moment mid) (moment new) hs ks s.selects.told s.selects.asked.going r.asked.going in
+      let world : (moment new).world ≡ replay air (moment old).world (s.selects.asked.going.events ++ r.asked.going.events) = ap (λ (t : Moment (World Device)). t.world) g.moment in
+      let same : map kept new.listeners ≡ map kept old.listeners = r.asked.same ∙ s.selects.asked.same in
+      asks_obeyed old new (Read id) r.commands (hs ++ ks) answer idle tt refl g (then_waits id r.commands hs ks s.selects.told ∙ r.asked.over) placed_asked
+      (record { tells = read_tells; stays = stores_stay old new (s.selects.asked.going.events ++ r.asked.going.events) world same }) same
 
 pub state_from-append : (s : State) (es fs : List Entry) → state_from s (es ++ fs) ≡ state_from (state_from s es) fs
 state_from-append s [] fs = refl
@@ -161,7 +308,6 @@ ready_again a b k js c answer e ready o is command events =
     record {
       idle = record {
         quiet = ap (λ (x : Air Device). x.trace) is;
-        fates = ap (λ (x : Air Device). x.fates) is ∙ o.fates;
         tame = subst T (sym (ap (λ (x : Air Device). x.listeners) is)) o.tame;
       };
       state = ap state_at is ∙ o.state ∙ ap (λ s. state_after s c b.trace) ready.state

@@ -1,5 +1,5 @@
 -- A device is taken away.
-use Rattle.std.proofs.Common.{◌≡◌, ℕ, List, [], ◌∷◌, ◌++◌, map, length, Bool, true, false, nat_eq, if◌then◌else◌, refl, sym, ◌∙◌, ap, subst}
+use Rattle.std.proofs.Common.{◌≡◌, ℕ, ◌≤◌, List, [], ◌∷◌, ◌++◌, map, length, Bool, true, false, nat_eq, if◌then◌else◌, refl, sym, ◌∙◌, ap, subst, arith}
 use Rattle.std.specs.List.{AllByRecursion, remove}
 use Rattle.std.specs.Cmp.Lexicographic.{pointwise, same_text}
 use Rattle.air_core.specs.Turn.{Air}
@@ -13,10 +13,9 @@ use Rattle.nfc_bench.specs.Device.{device_id}
 use Rattle.nfc_bench.specs.Legal.{IsPlaced}
 use Rattle.nfc_bench.specs.Placed.{without}
 use Rattle.nfc_bench.specs.Obeying.{state_at, IsIdle, Obeyed}
-use Rattle.nfc_bench.specs.Phases.{Kept, kept, IsApart, AreTame}
+use Rattle.nfc_bench.specs.Phases.{Kept, kept, IsApart, AreSound, AreTame}
 use Rattle.nfc_bench.specs.Polling.{bytes_of}
 use Rattle.nfc_bench.proofs.Placed.{still_obeyed}
-use Rattle.nfc_bench.proofs.Placing.{apart_differs}
 
 -- the item behind some others is removed
 remove_behind : {X : Type 0} (xs : List X) (x : X) (ys : List X) → remove (xs ++ x ∷ ys) (length xs) ≡ xs ++ ys
@@ -32,17 +31,24 @@ holds_without : (P : Kept → Type 0) (before : List Device) (d : Device) (behin
 holds_without P [] d behind all = all.1
 holds_without P (b ∷ before) d behind all = (all.0, holds_without P before d behind all.1)
 
+sound_without : (before : List Device) (d : Device) (behind : List Device) → AreSound (map kept (before ++ d ∷ behind)) → AreSound (map kept (before ++ behind))
+sound_without [] d behind sound = sound.2
+sound_without (b ∷ before) d behind sound = (sound.0, holds_without (IsApart (kept b)) before d behind sound.1, sound_without before d behind sound.2)
+
+fewer : (before : List Device) (d : Device) (behind : List Device) → length (map kept (before ++ behind)) ≤ length (map kept (before ++ d ∷ behind))
+fewer [] d behind = omega arith
+fewer (b ∷ before) d behind = omega (arith, fewer before d behind)
+
 tame_without : (before : List Device) (d : Device) (behind : List Device) → AreTame (map kept (before ++ d ∷ behind)) → AreTame (map kept (before ++ behind))
-tame_without [] d behind tame = tame.2
-tame_without (b ∷ before) d behind tame = (tame.0, holds_without (IsApart (kept b)) before d behind tame.1, tame_without before d behind tame.2)
+tame_without before d behind tame = record { sound = sound_without before d behind tame.sound; few = omega (arith, fewer before d behind, tame.few) }
 
 -- no other device has its identifier, so it is the first that has it
-without_behind : (before : List Device) (d : Device) (behind : List Device) (id : List ℕ) → device_id d ≡ id → AreTame (map kept (before ++ d ∷ behind)) → without id (before ++ d ∷ behind) ≡ before ++ behind
-without_behind [] d behind id named tame = ap (λ v. if v then behind else d ∷ without id behind) (ap (λ x. pointwise nat_eq x id) named ∙ pointwise_self id)
-without_behind (b ∷ before) d behind id named tame = by_case (pointwise nat_eq (device_id b) id) refl (without_behind before d behind id named tame.2)
+without_behind : (before : List Device) (d : Device) (behind : List Device) (id : List ℕ) → device_id d ≡ id → AreSound (map kept (before ++ d ∷ behind)) → without id (before ++ d ∷ behind) ≡ before ++ behind
+without_behind [] d behind id named sound = ap (λ v. if v then behind else d ∷ without id behind) (ap (λ x. pointwise nat_eq x id) named ∙ pointwise_self id)
+without_behind (b ∷ before) d behind id named sound = by_case (pointwise nat_eq (device_id b) id) refl (without_behind before d behind id named sound.2)
   where
     differs : device_id b ≡ id → ⊥
-    differs e = apart_differs (kept b) (kept d) (holds_of (IsApart (kept b)) before d behind tame.1) (named ∙ sym e)
+    differs e = holds_of (IsApart (kept b)) before d behind sound.1 (named ∙ sym e)
 
     by_case : (v : Bool) → pointwise nat_eq (device_id b) id ≡ v → without id (before ++ d ∷ behind) ≡ before ++ behind → (if v then before ++ d ∷ behind else b ∷ without id (before ++ d ∷ behind)) ≡ b ∷ (before ++ behind)
     by_case true h rest = absurd (differs (same_text (device_id b) id (sym h)))
@@ -62,6 +68,6 @@ removed old new id place idle placed s is =
     let left : remove old.listeners place ≡ s.before ++ s.behind =
     ap (λ ls. remove ls place) s.split ∙ ap (remove (s.before ++ s.device ∷ s.behind)) (sym s.at) ∙ remove_behind s.before s.device s.behind in
     let same : without (bytes_of id) old.listeners ≡ s.before ++ s.behind =
-    ap (without (bytes_of id)) s.split ∙ without_behind s.before s.device s.behind (bytes_of id) s.named tame in
+    ap (without (bytes_of id)) s.split ∙ without_behind s.before s.device s.behind (bytes_of id) s.named tame.sound in
     subst O (sym (is ∙ ap F left))
-    (still_obeyed old (F (s.before ++ s.behind)) (Remove id) idle placed (ap (λ ls. state_at (F ls)) (sym same)) refl idle.fates refl refl refl (tame_without s.before s.device s.behind tame))
+    (still_obeyed old (F (s.before ++ s.behind)) (Remove id) idle placed (ap (λ ls. state_at (F ls)) (sym same)) refl refl refl refl (tame_without s.before s.device s.behind tame))

@@ -22,8 +22,6 @@ returns-in-Ok-put_in-clause-ok c =
     c.new-3.ensures ∙ ap (λ i. record { id = i; front = Off; upper = c.new-2.result }) c.copy.ensures ∙ ap (λ (u : T2Memory). record { id = c.args.id.now; front = Off; upper = u }) held in
     let may : MayPlaceT2 (state_at old) c.args.id.now c.args.blocks c.args.head.now = record {
       free = record { room = search rules; fresh = search rules };
-      first = search rules;
-      four = search rules;
       fits = search rules;
       store = search rules;
     } in
