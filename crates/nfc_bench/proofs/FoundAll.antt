@@ -1,5 +1,5 @@
 -- A search for all devices: what its two calls of polling asked, and what they came to.
-use Rattle.std.proofs.Common.{◌≡◌, ◌⊎◌, inl, inr, ℕ, zero, suc, ◌+◌, ◌<◌, ◌≤◌, List, [], ◌∷◌, ◌++◌, map, length, drop, filter_map, true, false, Option, Some, None, IsSome, Result, Ok, Err, refl, sym, ◌∙◌, ap, subst, append_assoc, arith}
+use Rattle.std.proofs.Common.{◌≡◌, ◌⊎◌, inl, inr, ℕ, zero, suc, ◌+◌, ◌<◌, ◌≤◌, List, [], ◌∷◌, ◌++◌, map, length, drop, filter_map, true, false, Option, Some, None, IsSome, IfOk, Result, Ok, Err, refl, sym, ◌∙◌, ap, subst, append_assoc, arith}
 use Rattle.std.proofs.lemmas.List.{append-nil}
 use Rattle.std.specs.List.{AllByRecursion}
 use Rattle.nfc_base.specs.declared.event.Event.{Event}
@@ -122,6 +122,13 @@ all_of P h (d ∷ ds) = (h d, all_of P h ds)
 none_of : (n : ℕ) → (0 < n → ⊥) → n ≡ 0
 none_of zero h = refl
 none_of (suc n) h = absurd (h (omega arith))
+
+pub if_answered : {E : Type 0} (r : Result Answer E) (P Q : Answer → Type 0) → IfOk r P → ((answer : Answer) → P answer → Q answer) → IfOk r Q
+if_answered (Ok answer) P Q h k = k answer h
+if_answered (Err e) P Q h k = h
+
+front_none : (m n : ℕ) → m ≡ 0 → m + n ≡ n
+front_none m n e = omega (arith, e)
 
 -- what an answer tells of the inventory
 abbrev pub TellsOthers : List Picked → Result Vcrowd PollFault → Answer → Type 0
@@ -253,7 +260,7 @@ module _ (old mid : Air Device) (found : Result (List Picked) PollFault) (tame :
           sym (events_are air (moment old) (moment new) whole.events whole.moment) ∙ ap (drop (length old.trace)) all ∙ drop-front old.trace (first ++ rest)
 
       breaks_whole : breaks whole.events ≡ breaks rest
-      breaks_whole = ap breaks whole_is ∙ breaks-append first rest ∙ ap (λ n. n + breaks rest) unbroken
+      breaks_whole = ap breaks whole_is ∙ breaks-append first rest ∙ front_none (breaks first) (breaks rest) unbroken
 
       comes : Comes (others_of old.listeners) r
       comes =
