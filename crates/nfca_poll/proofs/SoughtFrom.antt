@@ -99,7 +99,7 @@ module _ (start : List Card) (stand : Each Stands start) (apart : AreDistinct st
 
   abbrev Answers : Bool → List Card → Type 0
   Answers idle v = (Plays start (Asking [] []) (map called v) × ((k : ℕ) → seek_step (Calling k) (hears (Calls Sens) v) ≡ Asking [] []))
-    ⊎ ((filter_map (card_says (Calls Sens)) v ≡ []) × Each Sleeps (map (cast idle) start))
+      ⊎ ((filter_map (card_says (Calls Sens)) v ≡ []) × Each Sleeps (map (cast idle) start))
 
   group_answers : (idle : Bool) (v : List Card) → Group idle v → Answers idle v
   group_answers idle v g = by_lead (map (cast idle) start) refl (leads (map (cast idle) start) (cast_cards idle start stand) (cast_distinct idle start apart))

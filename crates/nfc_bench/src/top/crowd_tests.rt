@@ -1,0 +1,174 @@
+//! Whole runs over crowds and noise: what a search finds, which device a read selects, and what becomes of a lost frame.
+
+use super::tags_tests::report;
+use std::test::Fail;
+
+/// What a script shows, its lines and its report, answers alone. Each run ends with status 0.
+const QUIET: [(&str, &str, &str); 14] = [
+    (
+        "a tag of a two-level identifier, as it is delivered",
+        "place t2 04112233445566 45 000000000000000000000000E11012000103A00C340300FE\nread 04112233445566",
+        "1 ok\n2 message - writable\n",
+    ),
+    (
+        "a crowd in its order",
+        "place t2 01020304 16 000000000000000000000000E11006000303D00000FE0000
+place t2 03020304 16 000000000000000000000000E11006000303D00000FE0000
+place t2 04112233445566 45 000000000000000000000000E11012000103A00C340300FE
+find",
+        "1 ok\n2 ok\n3 ok\n4 found 3 03020304:t2 01020304:t2 04112233445566:t2\n",
+    ),
+    (
+        "four lost presence requests find nobody",
+        "place t2 01020304 4 -\nfates LLLL\nfind",
+        "1 ok\n2 ok\n3 found 0\n",
+    ),
+    (
+        "nobody is there",
+        "find",
+        "1 found 0\n",
+    ),
+    (
+        "a Type 5 tag stands behind those of NFC-A",
+        "place t5 E004010203040506 1 4 E1400100\nplace t2 01020304 4 -\nfind",
+        "1 ok\n2 ok\n3 found 2 01020304:t2 E004010203040506:t5\n",
+    ),
+    (
+        "several Type 5 tags are a crowd, and aren't counted",
+        "place t5 E004010203040506 1 4 E1400100\nplace t5 E004010203040507 1 4 E1400100\nfind",
+        "1 ok\n2 ok\n3 found 0 crowd\n",
+    ),
+    (
+        "an identifier that isn't placed",
+        "read 0A0B0C0D\nread E004010203040506",
+        "1 not found\n2 not found\n",
+    ),
+    (
+        "one of a crowd is read, then another one",
+        "place t2 01020304 16 000000000000000000000000E11006000301D1FE
+place t2 03020304 16 000000000000000000000000E11006000301D2FE
+place t2 08112233445566778899 16 000000000000000000000000E11006000301D3FE
+read 01020304
+read 08112233445566778899
+remove 03020304
+read 03020304
+read 01020304",
+        "1 ok\n2 ok\n3 ok\n4 message D1 writable\n5 message D3 writable\n6 ok\n7 not found\n8 message D1 writable\n",
+    ),
+    (
+        "a field that is lost in polling, and the read behind it",
+        "place t2 01020304 16 000000000000000000000000E11006000303D00000FE0000
+fates PPB
+read 01020304
+read 01020304",
+        "1 ok\n2 ok\n3 field lost\n4 message D00000 writable\n",
+    ),
+    (
+        "a field that is lost in reading",
+        "place t2 01020304 16 000000000000000000000000E11006000303D00000FE0000
+fates PPPPPPPPPB
+read 01020304",
+        "1 ok\n2 ok\n3 field lost\n",
+    ),
+    (
+        "six bad receptions in one wait, and five",
+        "place t2 01020304 16 000000000000000000000000E11006000303D00000FE0000
+fates PPPPPPLLDLPDL
+read 01020304
+fates PPPPPPLLDLPD
+read 01020304",
+        "1 ok\n2 ok\n3 six bad\n4 ok\n5 message D00000 writable\n",
+    ),
+    (
+        "a lost SLP_REQ makes its device come again, and the round is given up",
+        "place t2 01020304 4 -\nplace t2 03020304 4 -\nfates PPPPPPPPPPL\nfind",
+        "1 ok\n2 ok\n3 ok\n4 found 2 03020304:t2 01020304:t2\n",
+    ),
+    (
+        "each of four rounds is disturbed",
+        "place t2 01020304 4 -\nfates PPDPPDPPDPPD\nfind\nread 01020304",
+        "1 ok\n2 ok\n3 disturbed\n4 not ndef\n",
+    ),
+    (
+        "a front of the crowd, cut by noise at the second search for presence",
+        "place t2 01020304 4 -\nplace t2 03020304 4 -\nfates PPPPPPPPPPPLLLL\nfind",
+        "1 ok\n2 ok\n3 ok\n4 found 1 03020304:t2\n",
+    ),
+];
+
+#[test]
+fn crowds_and_noise(rt: HostRuntime) -> Result<(), Fail> {
+    let alloc = rt.alloc();
+    for (shows, script, text) in QUIET {
+        let (status, written) = report(alloc, "run quiet", script)?;
+        assert_eq!(rt; str::from_utf8(&written)?, text, "{shows}");
+        assert_eq!(rt; status, 0, "{shows}");
+    }
+    Ok(())
+}
+
+/// The report's first lines of a search among three tags.
+const FIRST_ROUND: &str = "1 ok
+2 ok
+3 ok
+4 ! reset
+4 > 26/7 pass
+4 * 04/6 pass
+4 > 9320 pass
+4 * - pass
+4 > 932101/1 pass
+4 * - pass
+4 > 932203/2 pass
+4 < 80C0008101/6 pass
+4 > 93700302030406 pass
+4 < 00 pass
+4 > 5000 pass
+";
+
+#[test]
+fn a_crowd_bit_by_bit(rt: HostRuntime) -> Result<(), Fail> {
+    let alloc = rt.alloc();
+    let script = "place t2 01020304 4 -\nplace t2 03020304 4 -\nplace t2 04112233445566 4 -\nfind";
+    let (status, written) = report(alloc, "run", script)?;
+    assert_eq!(rt; status, 0);
+    assert!(rt; written.as_slice().starts_with(FIRST_ROUND.as_bytes()));
+    Ok(())
+}
+
+#[test]
+fn a_line_that_is_none_ends_the_run_behind_a_search(rt: HostRuntime) -> Result<(), Fail> {
+    let script = "place t2 01020304 16 000000000000000000000000E11006000303D00000FE0000\nfind\nfly";
+    let (status, written) = report(rt.alloc(), "run quiet", script)?;
+    assert_eq!(rt; status, 2);
+    assert_eq!(rt;
+        str::from_utf8(&written)?,
+        "1 ok\n2 found 1 01020304:t2\nfault 2 line 3\n"
+    );
+    Ok(())
+}
+
+/// The digits of sixteen identifiers' last bytes, in crowd order: their bits are compared from the lowest on.
+const LAST_BYTES: [&str; 16] = [
+    "0F", "07", "0B", "03", "0D", "05", "09", "01", "0E", "06", "0A", "02", "0C", "04", "08", "00",
+];
+
+#[test]
+fn a_full_field_in_crowd_order(rt: HostRuntime) -> Result<(), Fail> {
+    let alloc = rt.alloc();
+    let mut script = String::new(alloc);
+    let mut wanted = String::from_str(alloc, "17 found 16")?;
+    for last in LAST_BYTES {
+        script.push_str("place t2 010203")?;
+        script.push_str(last)?;
+        script.push_str(" 4 -\n")?;
+        wanted.push_str(" 010203")?;
+        wanted.push_str(last)?;
+        wanted.push_str(":t2")?;
+    }
+    script.push_str("find")?;
+    wanted.push_str("\n")?;
+    let (status, written) = report(alloc, "run quiet", script.as_str())?;
+    assert_eq!(rt; status, 0);
+    assert!(rt; written.as_slice().ends_with(wanted.as_str().as_bytes()));
+    Ok(())
+}
