@@ -2,7 +2,7 @@
 
 ghost use Rattle.std.specs.Prelude.{◌≡◌, ◌++◌, map, IfOk};
 ghost use Rattle.air_core.specs.Turn.{moment};
-ghost use Rattle.nfc_bench.specs.Crowded.{seen_card, seen_all};
+ghost use Rattle.nfc_bench.specs.Crowded.{seen_card, seen_all, is_crowd};
 ghost use Rattle.nfc_bench.specs.Obeying.{IsIdle};
 ghost use Rattle.nfc_bench.specs.Phases.{Searches};
 
@@ -53,6 +53,16 @@ fn listed(
     Ok(Items::new(devices))
 }
 
+/// Whether there are several NFC-V devices.
+fn is_crowd(others: Vcrowd) -> bool
+    ensures { result ≡ is_crowd others }
+{
+    match others {
+        Vcrowd::Nobody | Vcrowd::One(_) => false,
+        Vcrowd::Crowd => true,
+    }
+}
+
 /// Finds all devices, from a reset on: those of NFC-A, and then those of NFC-V in the field that is lit.
 pub fn sweep_field(alloc: Global, field: &mut Field<Device>) -> Result<Answer, AllocError>
     requires idle { IsIdle field.old }
@@ -68,6 +78,6 @@ pub fn sweep_field(alloc: Global, field: &mut Field<Device>) -> Result<Answer, A
     };
     Ok(Answer::Found {
         devices: listed(alloc, picked, others)?,
-        crowd: others == Vcrowd::Crowd,
+        crowd: is_crowd(others),
     })
 }
