@@ -1,5 +1,5 @@
 -- The devices of the bench are listeners of this project: a Type 2 tag polls by its front, and a Type 5 tag has none.
-use Rattle.std.proofs.Common.{◌≡◌, ℕ, List, [], ◌∷◌, length, Bool, true, false, ◌&&◌, ◌==◌, not, reverse, if◌then◌else◌, Option, Some, None, inl, refl, sym, ◌∙◌, ap, arith}
+use Rattle.std.proofs.Common.{◌≡◌, ℕ, List, [], ◌∷◌, length, Bool, true, false, ◌&&◌, ◌==◌, not, reverse, if◌then◌else◌, Option, Some, None, inl, inr, refl, sym, ◌∙◌, ap, arith}
 use Rattle.nfc_base.specs.declared.frame.Tech.TheVariants.{A, V}
 use Rattle.nfc_base.specs.Signal.{Signal, whole_v}
 use Rattle.air_core.specs.Conversation.{AirModel}
@@ -11,6 +11,7 @@ use Rattle.nfca_poll.specs.declared.upper.UpStep.TheVariants as said
 use Rattle.nfca_poll.specs.Calls.{Call, Calls, Reading, Other, call_of}
 use Rattle.nfca_poll.specs.Fronted.{Fronted, active_answer, active_after}
 use Rattle.nfca_poll.specs.AnyStart.{YieldsToCalls, LeavesAtCalls}
+use Rattle.nfca_poll.specs.Polled.{WakesIdle, ArePolled, AreTidy}
 use Rattle.nfca_poll.specs.Front.{Front, Off, Idle, Sleep, Ready, Active, is_active}
 use Rattle.nfca_poll.specs.Crowd.{AreOurs, StepsByFront}
 use Rattle.nfca_poll.specs.Inventory.{inventory_all, inventory_of, IsSteady}
@@ -108,6 +109,24 @@ pub leaves : LeavesAtCalls ours (λ d. true)
 unfolding ours
 leaves (T2 d) f c t u k = ((λ a. yields_by d.front d.id d.upper f c a k), refl)
 leaves (T5 p) f c t u k = absurd cc
+
+-- A reset makes a Type 2 tag idle, so the laws on calls by rounds hold of fields of them.
+same_tech : (l : Device) → devices.tech (devices.woken (devices.darkened l)) ≡ devices.tech l
+same_tech (T2 d) = refl
+same_tech (T5 p) = refl
+
+wakes : (l : Device) → devices.tech l ≡ A → WakesIdle devices device_id device_kind device_front (λ d. true) l
+wakes (T2 d) t = record { idle = refl; no_link = refl; same_id = refl; same_kind = refl }
+wakes (T5 p) t = absurd cc
+
+pub polled : ArePolled devices device_id
+unfolding ours
+polled = record { ours = ours; unlinked = λ d. true; leaves = leaves; same_tech = same_tech; wakes = λ l t tidy. wakes l t }
+
+pub all_tidy : (ls : List Device) → AreTidy polled ls
+unfolding polled
+all_tidy [] = tt
+all_tidy (l ∷ ls) = ((λ t. inr refl), all_tidy ls)
 
 -- Tags hand nothing over, so a far end makes no difference to their air.
 pub mute_is_quiet : ◌≡◌ {A = AirModel (World Device)} (mute_air devices) air
