@@ -10,7 +10,7 @@ use Rattle.nfc_base.specs.declared.event.Heard.{Heard}
 use Rattle.air_core.specs.Joint.{Joint, Nothing, Single, Clashing}
 use Rattle.air_core.specs.World.{Machine}
 use Rattle.air_core.specs.Turn.{Air, moment}
-use Rattle.air_core.specs.Conversation.{AirModel, note, Over, LightUp, Asks, joint_events, replay, turn_events, turn_heard}
+use Rattle.air_core.specs.Conversation.{AirModel, note, LightUp, Asks, joint_events, replay, turn_events, turn_heard}
 use Rattle.nfca_poll.specs.declared.kind.Kind.{Kind}
 use Rattle.nfca_poll.specs.declared.fault.Picked.{Picked}
 use Rattle.nfca_poll.specs.declared.fault.PollFault.{PollFault}
@@ -22,7 +22,7 @@ use Rattle.nfca_poll.specs.Muted.{mute_air}
 use Rattle.nfca_poll.specs.Enquiry.{Progress, Reaches, Loses, progress, or_memory, Enquires}
 use Rattle.nfca_poll.specs.Rounds.{Aim, finding, picking, all_devices, device_of, LeavesLit, Search, Begins, Seeks, Sends, Told, next_round, has_found, most_found, most_rounds, met_or_taken, sought, searching, search_next, search_lit, search_step, search_ended}
 use Rattle.nfca_poll.specs.RoundTrace.{rounds}
-use Rattle.nfca_poll.proofs.EnquiryWalks.{after, holds}
+use Rattle.nfca_poll.proofs.EnquiryWalks.{nothing_lit, after, holds}
 use Rattle.nfca_poll.proofs.EnquiryEnds.{Ends, ends, events_gained, leaves_lit}
 
 module _ {X : Type 0} (aim : Aim X) (f : PollFault) (a : faults.Disturbed ≡ f → ⊥) (b : faults.BadAnswer ≡ f → ⊥) (c : (found : List Picked) → aim.nobody found ≡ Err f → ⊥) where
@@ -168,14 +168,11 @@ module _ {X : Type 0} (aim : Aim X) where
   asks_no_light : (g : Signal) → Asks g ≡ LightUp → ⊥
   asks_no_light g q = cc
 
-  over_no_light : Over ≡ LightUp → ⊥
-  over_no_light q = cc
-
   light_left : (s : Search X) → search_next aim s ≡ LightUp → suc (left (search_lit aim s)) ≡ left s
   light_left (Begins k) q = refl
   light_left (Seeks k found t) q = absurd (seek_no_light t q)
   light_left (Sends k found) q = absurd (asks_no_light (call_frame Slp) q)
-  light_left (Told r) q = absurd (over_no_light q)
+  light_left (Told r) q = absurd (nothing_lit q)
 
   -- the rounds that began, and those that may begin yet, are at most four
   abbrev Few : Progress (Search X) → List Event → Type 0

@@ -9,7 +9,7 @@ use Rattle.nfc_base.specs.declared.event.Event.TheVariants.{Reset, Request, Answ
 use Rattle.nfc_base.specs.declared.event.Fate.{Fate}
 use Rattle.nfc_base.specs.declared.event.Fate.TheVariants.{Pass, Damage, Lose, Break}
 use Rattle.air_core.specs.Joint.{Joint, Nothing, Single, Clashing}
-use Rattle.air_core.specs.Conversation.{AirModel, Note, Lit, Got, Lost, note, Next, Over, LightUp, Asks, receptions, EachDue, joint_events, joint_back, replay, turn_events, turn_heard, Move, Light, Ask, move_events, trace_of, Moment, Going}
+use Rattle.air_core.specs.Conversation.{AirModel, Note, Lit, Got, Lost, note, Next, Over, LightUp, Asks, IsDemand, receptions, EachDue, joint_events, joint_back, replay, turn_events, turn_heard, Move, Light, Ask, move_events, trace_of, Moment, Going}
 use Rattle.air_core.proofs.Turns.{receptions-append, replay-append}
 use Rattle.nfca_poll.specs.Enquiry.{Enquiry, Progress, Reaches, Loses, progress, due_of, enquiring}
 
@@ -64,6 +64,16 @@ module _ {W : Type 0} (m : AirModel W) where
   turn_fresh w f Lose y = refl
   turn_fresh w f Break y = refl
 
+-- what is over asks for nothing
+pub nothing_lit : Over ≡ LightUp → ⊥
+nothing_lit q = cc
+
+pub nothing_asked : (f : Signal) → Over ≡ Asks f → ⊥
+nothing_asked f q = cc
+
+pub nothing_due : (n : Next) → Over ≡ n → IsDemand n → ⊥
+nothing_due n q d = subst IsDemand (sym q) d
+
 module _ {S X : Type 0} (e : Enquiry S X) where
   -- by one note more
   abbrev pub after : Progress S → Note → Progress S
@@ -79,13 +89,6 @@ module _ {S X : Type 0} (e : Enquiry S X) where
   progress_more a (Lit ∷ ns) n = progress_more (e.light a) ns n
   progress_more a (Got h ∷ ns) n = progress_more (e.step a h) ns n
   progress_more a (Lost ∷ ns) n = refl
-
-  -- once something was lost, nothing is due
-  pub nothing_lit : Over ≡ LightUp → ⊥
-  nothing_lit q = cc
-
-  pub nothing_asked : (f : Signal) → Over ≡ Asks f → ⊥
-  nothing_asked f q = cc
 
   module _ {W : Type 0} (m : AirModel W) (w : W) (P : Progress S → List Event → Type 0)
       (begins : P (Reaches e.start) [])

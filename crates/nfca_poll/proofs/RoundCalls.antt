@@ -20,7 +20,7 @@ use Rattle.nfca_poll.specs.OneRound.{Round, Begins, Seeks, Sends, Comes, is_want
 use Rattle.nfca_poll.proofs.Enquiring.{Reached, enquires_so}
 use Rattle.nfca_poll.proofs.EnquiryEnds.{Ends, ends as ends_so}
 use Rattle.nfca_poll.proofs.Embedding.{Embeds, Arrives, reached_then}
-use Rattle.nfca_poll.proofs.RoundSteps.{over_no_demand, over_no_light, over_no_ask}
+use Rattle.nfca_poll.proofs.EnquiryWalks.{nothing_due, nothing_lit, nothing_asked}
 
 -- the next round begins, as long as there is one
 pub round_begins : {X : Type 0} (n : ℕ) → n < 4 → next_round {X = X} n ≡ calls.Begins (n + 1)
@@ -65,19 +65,19 @@ module _ {X : Type 0} (aim : Aim X) (w : Option (List ℕ)) (kinded : Kind → X
   call_next Begins n q d = q
   call_next (Seeks found s) n q d = q
   call_next (Sends found) n q d = q
-  call_next (Comes r) n q d = absurd (over_no_demand n q d)
+  call_next (Comes r) n q d = absurd (nothing_due n q d)
 
   call_light : (t : Round) → round_next w t ≡ LightUp → search_lit aim (in_call t) ≡ in_call (round_lit w t)
   call_light Begins q = refl
   call_light (Seeks found s) q = refl
   call_light (Sends found) q = refl
-  call_light (Comes r) q = absurd (over_no_light q)
+  call_light (Comes r) q = absurd (nothing_lit q)
 
   call_step : (t : Round) (f : Signal) (h : Heard) → round_next w t ≡ Asks f → search_step aim (in_call t) h ≡ in_call (round_step w t h)
   call_step Begins f h q = refl
   call_step (Seeks found s) f h q = sought_as found (seek_step s h)
   call_step (Sends found) f h q = refl
-  call_step (Comes r) f h q = absurd (over_no_ask f q)
+  call_step (Comes r) f h q = absurd (nothing_asked f q)
 
   -- a round is a part of a call
   pub round_embeds : Embeds (one_round w) (searching aim) in_call

@@ -4,7 +4,7 @@ use Rattle.nfc_base.specs.Signal.{Signal}
 use Rattle.nfc_base.specs.declared.event.Heard.{Heard}
 use Rattle.air_core.specs.World.{Machine}
 use Rattle.air_core.specs.Turn.{Air}
-use Rattle.air_core.specs.Conversation.{Next, Over, LightUp, Asks, IsDemand}
+use Rattle.air_core.specs.Conversation.{Next, LightUp, Asks, IsDemand}
 use Rattle.nfca_poll.specs.declared.fault.Picked.{Picked}
 use Rattle.nfca_poll.specs.declared.fault.PollFault.{PollFault}
 use Rattle.nfca_poll.specs.declared.fault.PollFault.TheVariants as faults
@@ -15,17 +15,8 @@ use Rattle.nfca_poll.specs.Seeking.{resolution, seek_ended}
 use Rattle.nfca_poll.specs.Rounds.{has_found, most_found}
 use Rattle.nfca_poll.specs.OneRound.{Round, Seeks, Sends, Comes, is_wanted, joined, met_in, sought_in, one_round, round_next, round_lit, round_step, round_ended}
 use Rattle.nfca_poll.proofs.Enquiring.{Reached, enquires_end, enquires_so}
+use Rattle.nfca_poll.proofs.EnquiryWalks.{nothing_due, nothing_lit, nothing_asked}
 use Rattle.nfca_poll.proofs.Embedding.{Embeds, Arrives, reached_then}
-
--- nothing is due
-pub over_no_demand : (n : Next) → Over ≡ n → IsDemand n → ⊥
-over_no_demand n q d = subst IsDemand (sym q) d
-
-pub over_no_light : Over ≡ LightUp → ⊥
-over_no_light q = cc
-
-pub over_no_ask : (f : Signal) → Over ≡ Asks f → ⊥
-over_no_ask f q = cc
 
 abbrev device_in : Picked → Result Picked PollFault → Picked
 device_in d (Ok p) = p
@@ -40,19 +31,19 @@ module _ (w : Option (List ℕ)) (found : List Picked) where
   seeks_next (Calling k) n q d = q
   seeks_next (Asking done known) n q d = q
   seeks_next (Selecting done l) n q d = q
-  seeks_next (Ended o) n q d = absurd (over_no_demand n q d)
+  seeks_next (Ended o) n q d = absurd (nothing_due n q d)
 
   seeks_light : (t : Seek) → seek_next t ≡ LightUp → round_lit w (sought_in w found t) ≡ sought_in w found t
   seeks_light (Calling k) q = refl
   seeks_light (Asking done known) q = refl
   seeks_light (Selecting done l) q = refl
-  seeks_light (Ended o) q = absurd (over_no_light q)
+  seeks_light (Ended o) q = absurd (nothing_lit q)
 
   seeks_step : (t : Seek) (f : Signal) (h : Heard) → seek_next t ≡ Asks f → round_step w (sought_in w found t) h ≡ sought_in w found (seek_step t h)
   seeks_step (Calling k) f h q = refl
   seeks_step (Asking done known) f h q = refl
   seeks_step (Selecting done l) f h q = refl
-  seeks_step (Ended o) f h q = absurd (over_no_ask f q)
+  seeks_step (Ended o) f h q = absurd (nothing_asked f q)
 
   -- a resolution is a part of a round
   pub seeks_embed : Embeds resolution (one_round w) (sought_in w found)
