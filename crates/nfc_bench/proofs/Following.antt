@@ -15,13 +15,14 @@ use Rattle.air_core.proofs.Turns.{receptions-append, due_weaker}
 use Rattle.nfca_poll.specs.declared.fault.PollFault.{PollFault}
 use Rattle.nfca_poll.specs.declared.fault.PollFault.TheVariants as faults
 use Rattle.nfca_poll.specs.Enquiry.{Enquiry, Progress, Reaches, Loses, progress, due_of, enquiring, or_memory, answer_of}
-use Rattle.nfc_bench.specs.Polling.{Told, followed, follows, asks}
+use Rattle.nfc_bench.specs.Polling as polls
+use Rattle.nfc_bench.specs.Polling.{Followed, Told, followed, follows, asks}
 
 abbrev pub HasEnded : {X : Type 0} → Option (Result X PollFault) → Type 0
 HasEnded None = ⊥
 HasEnded (Some r) = Unit {0}
 
-no_demand : (n : Next) → n ≡ Over → IsDemand n → ⊥
+pub no_demand : (n : Next) → n ≡ Over → IsDemand n → ⊥
 no_demand n e d = subst IsDemand e d
 
 -- one thing is due at a time
@@ -216,3 +217,20 @@ module _ {S X : Type 0} (e : Enquiry S X) where
     pub told_same : {W : Type 0} (m : AirModel W) (a b : Moment W) (ns : List Note) (r : Result X PollFault) → Going m (enquiring e) a b ns → r ≡ answer_of e (progress e e.start ns) → (r ≡ Err faults.Memory → ⊥)
         → follows e ns ≡ Told r []
     told_same m a b ns r g c starved = told_from e.start (e.ended e.start) ns r refl (going_driven m a b ns g) c starved
+
+-- by more notes, what was told stays told
+abbrev pub ToldOn : {X : Type 0} → Followed X → List Note → Followed X → Type 0
+ToldOn (polls.Asks n) ks p = Unit {0}
+ToldOn (Told r ns) ks p = p ≡ Told r (ns ++ ks)
+
+module _ {S X : Type 0} (e : Enquiry S X) where
+  told_on : (s : S) (o : Option (Result X PollFault)) (ns ks : List Note) → ToldOn (followed e s o ns) ks (followed e s o (ns ++ ks))
+  told_on s (Some r) ns ks = refl
+  told_on s None [] ks = tt
+  told_on s None (Lit ∷ ns) ks = told_on (e.light s) (e.ended (e.light s)) ns ks
+  told_on s None (Got h ∷ ns) ks = told_on (e.step s h) (e.ended (e.step s h)) ns ks
+  told_on s None (Lost ∷ ns) ks = refl
+
+  -- once an enquiry is over, what is known since is left
+  pub follows_on : (ns ks : List Note) (r : Result X PollFault) → follows e ns ≡ Told r [] → follows e (ns ++ ks) ≡ Told r ks
+  follows_on ns ks r h = subst (λ p. ToldOn p ks (follows e (ns ++ ks))) h (told_on e.start (e.ended e.start) ns ks)

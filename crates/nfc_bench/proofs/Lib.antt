@@ -20,6 +20,9 @@ pub mod ReadingEnds
 pub mod SelectingPlaces
 pub mod SelectingA
 pub mod SelectingV
+pub mod Inventoried
+pub mod Awake
+pub mod FoundAll
 pub mod Selections
 pub mod Legality
 pub mod Limits

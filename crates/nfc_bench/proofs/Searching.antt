@@ -79,10 +79,17 @@ call_tech (Sel k level) = refl
 pub call_harmless : (c : Call) → IsHarmless (call_frame c)
 call_harmless c = harmless_call (call_frame c) (call_tech c) (call_spells_none c)
 
-call_asked : (c : Call) (f : Signal) → Asks (call_frame c) ≡ Asks f → IsHarmless f
-call_asked c f e = subst IsHarmless (same_asked (call_frame c) f e) (call_harmless c)
+-- a frame that is a call
+abbrev pub IsCall : Signal → Type 0
+IsCall f = (c : Call) × (call_frame c ≡ f)
 
-seek_asked : (s : Seek) (f : Signal) → seek_next s ≡ Asks f → IsHarmless f
+pub of_nfc_a : (f : Signal) → IsCall f → f.tech ≡ NfcA
+of_nfc_a f is = ap (λ (g : Signal). g.tech) (sym is.1) ∙ call_tech is.0
+
+call_asked : (c : Call) (f : Signal) → Asks (call_frame c) ≡ Asks f → IsCall f
+call_asked c f e = (c, same_asked (call_frame c) f e)
+
+seek_asked : (s : Seek) (f : Signal) → seek_next s ≡ Asks f → IsCall f
 seek_asked (Calling n) f e = call_asked Sens f e
 seek_asked (Asking done known) f e = call_asked (Sdd (length done + 1) known) f e
 seek_asked (Selecting done l) f e = call_asked (Sel (length done + 1) l) f e
@@ -90,15 +97,18 @@ seek_asked (Ended o) f e = absurd (over_is_no_request f e)
 
 -- What is asked in a search by rounds are calls, and once it is over nothing is.
 module _ {X : Type 0} (aim : Aim X) where
-  search_asked : (s : Search X) (f : Signal) → search_next aim s ≡ Asks f → IsHarmless f
+  search_asked : (s : Search X) (f : Signal) → search_next aim s ≡ Asks f → IsCall f
   search_asked (Begins round) f e = absurd (light_is_no_request f e)
   search_asked (Seeks round found s) f e = seek_asked s f e
   search_asked (Sends round found) f e = call_asked Slp f e
   search_asked (Told r) f e = absurd (over_is_no_request f e)
 
+  pub progress_calls : (p : Progress (Search X)) (f : Signal) → due_of (searching aim) p ≡ Asks f → IsCall f
+  progress_calls (Reaches s) f e = search_asked s f e
+  progress_calls Loses f e = absurd (over_is_no_request f e)
+
   pub progress_asked : (p : Progress (Search X)) (f : Signal) → due_of (searching aim) p ≡ Asks f → IsHarmless f
-  progress_asked (Reaches s) f e = search_asked s f e
-  progress_asked Loses f e = absurd (over_is_no_request f e)
+  progress_asked p f e = let is : IsCall f = progress_calls p f e in subst IsHarmless is.1 (call_harmless is.0)
 
   silent : (s : Search X) → HasEnded (search_ended aim s) → search_next aim s ≡ Over
   silent (Begins round) h = absurd h

@@ -16,7 +16,7 @@ use Rattle.nfca_poll.specs.Crowd.{Card, Each, is_rest, card_of}
 use Rattle.nfca_poll.specs.Enquiry.{progress, enquiring, answer_of, Enquires}
 use Rattle.nfca_poll.specs.Rounds.{Begins, device_of, picking}
 use Rattle.nfca_poll.specs.RoundTrace.{Misses}
-use Rattle.nfca_poll.specs.RoundEnds.{LeavesActive, PickEnds, PicksAlone}
+use Rattle.nfca_poll.specs.RoundEnds.{LeavesActive, PickEnds, SelectsAlone}
 use Rattle.nfca_poll.proofs.Eaches.{each_front, each_back}
 use Rattle.t2t_tag.specs.Store.{T2Memory}
 use Rattle.nfc_bench.specs.declared.command.DeviceId.TheVariants as ids
@@ -33,7 +33,7 @@ use Rattle.nfc_bench.specs.Polling.{Followed, follows, picked_any, selecting, as
 use Rattle.nfc_bench.proofs.Following.{asks_same, told_same, going_as}
 use Rattle.nfc_bench.proofs.Searching.{progress_asked, search_closes, ends_lit}
 use Rattle.nfc_bench.proofs.SelectingAir.{events_are, HasLost, going_lit, going_lost, loses}
-use Rattle.nfc_bench.proofs.SelectingCards.{ours, polled, cards_of, field_of}
+use Rattle.nfc_bench.proofs.SelectingCards.{ours, polled, tidy, cards_of, own_idents, few_cards}
 use Rattle.nfc_bench.proofs.SelectingKept.{going_keeps}
 use Rattle.nfc_bench.proofs.SelectingPlaces.{not_eight, some_named, none_with, sound_amid, others_before, others_behind, same_place}
 
@@ -150,9 +150,9 @@ module _ (id : List ℕ) (old new : Air Device) (r : Result Kind PollFault) (ide
       let lost : HasLost turns.notes = going_lost devices (enquiring (picking id)) (moment old) (moment new) turns.notes going h in
       ap any (turns.comes ∙ ap (answer_of (picking id)) (loses (picking id) (Begins 1) turns.notes lost))
 
-  module _ (lost : r ≡ Err faults.FieldLost → 0 < breaks (drop (length old.trace) new.trace)) (crowd : PicksAlone devices device_id id old r new) where
+  module _ (lost : r ≡ Err faults.FieldLost → 0 < breaks (drop (length old.trace) new.trace)) (crowd : SelectsAlone devices device_id id old r new) where
     ends : PickEnds id (cards_of old.listeners) r (cards_of new.listeners) events
-    ends = let P : List Event → Type 0 = λ es. PickEnds id (cards_of old.listeners) r (cards_of new.listeners) es in subst P trace_is (crowd polled (field_of old.listeners tame))
+    ends = let P : List Event → Type 0 = λ es. PickEnds id (cards_of old.listeners) r (cards_of new.listeners) es in subst P trace_is (crowd polled (tidy old.listeners) (own_idents old.listeners tame))
 
     missing : Each (λ c. c.id ≢ id) (cards_of old.listeners) ⊎ Misses events → MissedBy (ids.A id) old.listeners events
     missing (inl h) = inl (none_with id old.listeners (other_ids id old.listeners ident tame.sound h))
@@ -165,7 +165,7 @@ module _ (id : List ℕ) (old new : Air Device) (r : Result Kind PollFault) (ide
     cause (Err faults.FieldLost) h m = tt
     cause (Err faults.Memory) h m = absurd (m refl)
     cause (Err faults.NotFound) h m = missing h
-    cause (Err faults.BadAnswer) h m = h
+    cause (Err faults.BadAnswer) h m = few_cards old.listeners tame h
 
     pub selects : (r ≡ Err faults.Memory → ⊥) → Selects (ids.A id) (any r) (moment old) (moment new)
     selects starved = record {
@@ -181,7 +181,7 @@ module _ (id : List ℕ) (old new : Air Device) (r : Result Kind PollFault) (ide
     answers faults.FieldLost h m = refl
     answers faults.Memory h m = absurd (m refl)
     answers faults.NotFound h m = refl
-    answers faults.BadAnswer h m = absurd h
+    answers faults.BadAnswer h m = absurd (few_cards old.listeners tame h)
 
     -- a fault that ends it is answered
     pub answered : (q : PollFault) → r ≡ Err q → (q ≡ faults.Memory → ⊥) → IsSome (poll_answer q)

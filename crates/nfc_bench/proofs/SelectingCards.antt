@@ -1,6 +1,6 @@
 -- The bench's devices as a crowd of cards: at a call each steps by its front and keeps what it holds, and no two have one
 -- identifier.
-use Rattle.std.proofs.Common.{◌≡◌, ◌≢◌, ℕ, suc, ◌≤◌, List, [], ◌∷◌, length, map, filter_map, Bool, true, Option, Some, None, refl, ◌∙◌, ap, arith}
+use Rattle.std.proofs.Common.{◌≡◌, ◌≢◌, ℕ, suc, ◌≤◌, ◌<◌, List, [], ◌∷◌, length, map, filter_map, Bool, true, Option, Some, None, inr, refl, ◌∙◌, ap, arith}
 use Rattle.std.specs.List.{AllByRecursion, cons_option}
 use Rattle.nfc_base.specs.declared.frame.Tech.TheVariants.{A}
 use Rattle.nfc_base.specs.Signal.{Signal}
@@ -11,7 +11,9 @@ use Rattle.nfca_poll.specs.Calls.{Call, Calls, Other, call_of}
 use Rattle.nfca_poll.specs.Front.{Front, Off, Idle, Sleep, Ready, Active, front_says, front_next}
 use Rattle.nfca_poll.specs.Fronted.{Fronted, left_at, answer_by, after_by, active_answer, active_after}
 use Rattle.nfca_poll.specs.Crowd.{Card, Each, AreDistinct, AreOurs, StepsByFront, card_if, cards}
-use Rattle.nfca_poll.specs.Polled.{ArePolled, WakesIdle, StepsFresh, IsField}
+use Rattle.nfca_poll.specs.AnyStart.{HaveOwnIdents, LeavesAtCalls}
+use Rattle.nfca_poll.specs.Rounds.{most_found}
+use Rattle.nfca_poll.specs.Polled.{ArePolled, AreTidy, WakesIdle}
 use Rattle.t2t_tag.specs.declared.command.T2Command.{T2Command}
 use Rattle.t2t_tag.specs.declared.command.T2Command.TheVariants.{Read, Write}
 use Rattle.t2t_tag.specs.Spelling.{command_frame, spelled_command, T2Spelling}
@@ -91,7 +93,7 @@ step_at_call d f e =
 abbrev pub ours : AreOurs devices device_id
 ours = record { kind = device_kind; front = device_front; steps = steps }
 
--- A device hears nothing that needs it to be as it was behind a reset.
+-- No device of the bench has a link.
 abbrev pub always : Device → Bool
 always d = true
 
@@ -100,15 +102,19 @@ same_tech_woken (T2 d) = refl
 same_tech_woken (T5 p) = refl
 
 pub wakes_idle : (l : Device) → devices.tech l ≡ A → WakesIdle devices device_id device_kind device_front always l
-wakes_idle (T2 d) t = record { idle = refl; fresh = refl; same_id = refl; same_kind = refl }
+wakes_idle (T2 d) t = record { idle = refl; no_link = refl; same_id = refl; same_kind = refl }
 wakes_idle (T5 p) t = absurd cc
 
-pub steps_fresh : (l : Device) (f : Signal) (c : Call) → devices.tech l ≡ A → always l ≡ true → call_of f ≡ Calls c → StepsFresh devices device_id device_kind device_front always l f
-steps_fresh (T2 d) f c t r e = record { step = step_at_call d f (no_command f c e); fresh = refl }
-steps_fresh (T5 p) f c t r e = absurd cc
+pub leaves : LeavesAtCalls ours always
+leaves (T2 d) f c t u e = ((λ a. step_at_call d f (no_command f c e)), refl)
+leaves (T5 p) f c t u e = absurd cc
 
 abbrev pub polled : ArePolled devices device_id
-polled = record { ours = ours; fresh = always; same_tech = same_tech_woken; wakes = wakes_idle; steps = steps_fresh }
+polled = record { ours = ours; unlinked = always; leaves = leaves; same_tech = same_tech_woken; wakes = λ l t tidy. wakes_idle l t }
+
+pub tidy : (ds : List Device) → AreTidy polled ds
+tidy [] = tt
+tidy (d ∷ ds) = ((λ t. inr refl), tidy ds)
 
 -- the cards of the devices
 abbrev pub cards_of : List Device → List Card
@@ -142,9 +148,9 @@ cards_distinct [] s = tt
 cards_distinct (T2 d ∷ ds) s = (cards_apart (kept (T2 d)) ds s.1, cards_distinct ds s.2)
 cards_distinct (T5 p ∷ ds) s = cards_distinct ds s.2
 
-pub field_of : (ds : List Device) → AreTame (map kept ds) → IsField (cards_of ds)
-field_of ds tame = record {
-  few = let n : length (map kept ds) ≡ length ds = length_map kept ds in omega (arith, fewer (card_if ours) ds, n, tame.few);
-  idents = cards_idents ds tame.sound;
-  distinct = cards_distinct ds tame.sound;
-}
+pub own_idents : (ds : List Device) → AreTame (map kept ds) → HaveOwnIdents (cards_of ds)
+own_idents ds tame = record { idents = cards_idents ds tame.sound; distinct = cards_distinct ds tame.sound }
+
+-- they are too few for a round to find one too many
+pub few_cards : (ds : List Device) → AreTame (map kept ds) → most_found < length (cards_of ds) → ⊥
+few_cards ds tame h = absurd (let n : length (map kept ds) ≡ length ds = length_map kept ds in omega (arith, fewer (card_if ours) ds, n, tame.few, h))

@@ -55,13 +55,21 @@ map_kept g h (d ∷ ds) = ap (λ k. k ∷ map kept (map g ds)) (h d) ∙ ap (λ 
 pub kept_relit : (ds : List Device) → map kept (map (λ l. devices.woken (devices.darkened l)) ds) ≡ map kept ds
 kept_relit ds = map_kept (λ l. devices.woken (devices.darkened l)) (λ d. kept_lit (devices.darkened d) ∙ kept_dark d) ds
 
--- each request of some events is harmless
-abbrev pub AreHarmless : List Event → Type 0
-AreHarmless [] = Unit {0}
-AreHarmless (Reset ∷ es) = AreHarmless es
-AreHarmless (Request f x ∷ es) = IsHarmless f × AreHarmless es
-AreHarmless (Answer g x ∷ es) = AreHarmless es
-AreHarmless (Clash g x ∷ es) = AreHarmless es
+-- something holds of each request of some events
+abbrev pub EachAsked : (Signal → Type 0) → List Event → Type 0
+EachAsked P [] = Unit {0}
+EachAsked P (Reset ∷ es) = EachAsked P es
+EachAsked P (Request f x ∷ es) = P f × EachAsked P es
+EachAsked P (Answer g x ∷ es) = EachAsked P es
+EachAsked P (Clash g x ∷ es) = EachAsked P es
+
+-- it holds of all that may be due
+pub due_asked : (P : Signal → Type 0) (next : List Note → Next) → ((ns : List Note) (f : Signal) → next ns ≡ Asks f → P f) → (before es : List Event) → EachDue next before es → EachAsked P es
+due_asked P next h before [] q = tt
+due_asked P next h before (Reset ∷ es) q = due_asked P next h (before ++ Reset ∷ []) es q.1
+due_asked P next h before (Request f x ∷ es) q = (h (receptions before) f q.0, due_asked P next h (before ++ Request f x ∷ []) es q.1)
+due_asked P next h before (Answer g x ∷ es) q = due_asked P next h (before ++ Answer g x ∷ []) es q
+due_asked P next h before (Clash g x ∷ es) q = due_asked P next h (before ++ Clash g x ∷ []) es q
 
 abbrev kept_in : World Device → List Kept
 kept_in w = map kept w.listeners
@@ -78,21 +86,14 @@ back_keeps w Damage = refl
 back_keeps w Lose = refl
 back_keeps w Break = map_kept devices.darkened kept_dark w.listeners
 
-pub events_keep : (es : List Event) (w : World Device) → AreHarmless es → kept_in (replay air w es) ≡ kept_in w
+pub events_keep : (es : List Event) (w : World Device) → EachAsked IsHarmless es → kept_in (replay air w es) ≡ kept_in w
 events_keep [] w h = refl
 events_keep (Reset ∷ es) w h = events_keep es (air.happens w Reset) h ∙ kept_relit w.listeners
 events_keep (Request f x ∷ es) w h = events_keep es (requested devices w f x) h.1 ∙ requested_keeps w f x h.0
 events_keep (Answer g x ∷ es) w h = events_keep es (came_back devices w x) h ∙ back_keeps w x
 events_keep (Clash g x ∷ es) w h = events_keep es (came_back devices w x) h ∙ back_keeps w x
 
-due_harmless : (next : List Note → Next) → ((ns : List Note) (f : Signal) → next ns ≡ Asks f → IsHarmless f) → (before es : List Event) → EachDue next before es → AreHarmless es
-due_harmless next h before [] q = tt
-due_harmless next h before (Reset ∷ es) q = due_harmless next h (before ++ Reset ∷ []) es q.1
-due_harmless next h before (Request f x ∷ es) q = (h (receptions before) f q.0, due_harmless next h (before ++ Request f x ∷ []) es q.1)
-due_harmless next h before (Answer g x ∷ es) q = due_harmless next h (before ++ Answer g x ∷ []) es q
-due_harmless next h before (Clash g x ∷ es) q = due_harmless next h (before ++ Clash g x ∷ []) es q
-
 -- where each request that may be due is harmless, no device changed but in its state
 pub going_keeps : (next : List Note → Next) (a b : Moment (World Device)) (ns : List Note) → ((ks : List Note) (f : Signal) → next ks ≡ Asks f → IsHarmless f) → Going air next a b ns
     → map kept b.world.listeners ≡ map kept a.world.listeners
-going_keeps next a b ns h g = ap (λ (m : Moment (World Device)). kept_in m.world) g.moment ∙ events_keep g.events a.world (due_harmless next h [] g.events g.each)
+going_keeps next a b ns h g = ap (λ (m : Moment (World Device)). kept_in m.world) g.moment ∙ events_keep g.events a.world (due_asked IsHarmless next h [] g.events g.each)

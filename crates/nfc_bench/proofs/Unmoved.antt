@@ -51,7 +51,10 @@ HeardOf (Single g) (Whole k) = k ≡ g
 HeardOf (Single g) (Collided k) = ⊥
 HeardOf (Single g) Damaged = Unit {0}
 HeardOf (Single g) Silent = Unit {0}
-HeardOf (Clashing g) h = Unit {0}
+HeardOf (Clashing g) (Whole k) = ⊥
+HeardOf (Clashing g) (Collided k) = Unit {0}
+HeardOf (Clashing g) Damaged = Unit {0}
+HeardOf (Clashing g) Silent = Unit {0}
 
 silent_of : (j : Joint) → HeardOf j Silent
 silent_of Nothing = refl
@@ -64,7 +67,10 @@ back_of_joint (Single g) Pass h e = subst (HeardOf (Single g)) (in_some (Whole g
 back_of_joint (Single g) Damage h e = subst (HeardOf (Single g)) (in_some Damaged h e) tt
 back_of_joint (Single g) Lose h e = subst (HeardOf (Single g)) (in_some Silent h e) tt
 back_of_joint (Single g) Break h e = absurd (none_some h e)
-back_of_joint (Clashing g) y h e = tt
+back_of_joint (Clashing g) Pass h e = subst (HeardOf (Clashing g)) (in_some (Collided g) h e) tt
+back_of_joint (Clashing g) Damage h e = subst (HeardOf (Clashing g)) (in_some Damaged h e) tt
+back_of_joint (Clashing g) Lose h e = subst (HeardOf (Clashing g)) (in_some Silent h e) tt
+back_of_joint (Clashing g) Break h e = absurd (none_some h e)
 
 pub heard_of_turn : (w : World Device) (f : Signal) (x y : Fate) (h : Heard) → turn_heard air w f x y ≡ Some h → HeardOf (air.joint w f) h
 heard_of_turn w f Pass y h e = back_of_joint (air.joint w f) y h e

@@ -2,7 +2,7 @@
 
 ghost use Rattle.std.specs.Prelude.{◌≡◌, ◌++◌, map, IfOk};
 ghost use Rattle.air_core.specs.Turn.{moment};
-ghost use Rattle.nfc_bench.specs.Crowded.{seen_card, seen_all};
+ghost use Rattle.nfc_bench.specs.Crowded.{seen_card, seen_all, is_crowd};
 ghost use Rattle.nfc_bench.specs.Obeying.{IsIdle};
 ghost use Rattle.nfc_bench.specs.Phases.{Searches};
 
@@ -32,11 +32,7 @@ fn seen(picked: Picked) -> Seen
 }
 
 /// The devices that a search lists: those of NFC-A, and behind them the only Type 5 tag.
-fn listed(
-    alloc: Global,
-    picked: Vec<Picked>,
-    others: Vcrowd,
-) -> Result<Items<Seen>, AllocError>
+fn listed(alloc: Global, picked: Vec<Picked>, others: Vcrowd) -> Result<Items<Seen>, AllocError>
     ensures { IfOk result (λ devices. devices ≡ seen_all (record { cards = picked.items; others = others })) }
 {
     let mut devices = Vec::new(alloc);
@@ -51,6 +47,16 @@ fn listed(
         })?;
     }
     Ok(Items::new(devices))
+}
+
+/// Whether there are several NFC-V devices.
+fn is_crowd(others: Vcrowd) -> bool
+    ensures { result ≡ is_crowd others }
+{
+    match others {
+        Vcrowd::Nobody | Vcrowd::One(_) => false,
+        Vcrowd::Crowd => true,
+    }
 }
 
 /// Finds all devices, from a reset on: those of NFC-A, and then those of NFC-V in the field that is lit.
@@ -68,6 +74,6 @@ pub fn sweep_field(alloc: Global, field: &mut Field<Device>) -> Result<Answer, A
     };
     Ok(Answer::Found {
         devices: listed(alloc, picked, others)?,
-        crowd: others == Vcrowd::Crowd,
+        crowd: is_crowd(others),
     })
 }

@@ -1,0 +1,349 @@
+-- A search for all devices: what its two calls of polling asked, and what they came to.
+use Rattle.std.proofs.Common.{◌≡◌, ◌⊎◌, inl, inr, ℕ, zero, suc, ◌+◌, ◌<◌, ◌≤◌, List, [], ◌∷◌, ◌++◌, map, length, drop, filter_map, true, false, Option, Some, None, IsSome, IfOk, Result, Ok, Err, refl, sym, ◌∙◌, ap, subst, append_assoc, arith}
+use Rattle.std.proofs.lemmas.List.{append-nil}
+use Rattle.std.specs.List.{AllByRecursion}
+use Rattle.nfc_base.specs.declared.event.Event.{Event}
+use Rattle.nfc_base.specs.Trace.{breaks, noise}
+use Rattle.air_core.specs.Turn.{Air, moment}
+use Rattle.air_core.specs.World.{World}
+use Rattle.air_core.specs.Conversation.{Note, Next, IsDemand, Moment, Going, receptions}
+use Rattle.air_core.proofs.Turns.{due_weaker, going_then}
+use Rattle.nfca_poll.specs.declared.fault.Picked.{Picked}
+use Rattle.nfca_poll.specs.declared.kind.Kind.TheVariants as kinds
+use Rattle.nfca_poll.specs.declared.fault.PollFault.{PollFault}
+use Rattle.nfca_poll.specs.declared.fault.PollFault.TheVariants as faults
+use Rattle.nfca_poll.specs.declared.inventory.Vcrowd.{Vcrowd}
+use Rattle.nfca_poll.specs.declared.inventory.Vcrowd.TheVariants.{Nobody}
+use Rattle.nfca_poll.specs.Enquiry.{progress, enquiring, answer_of, Enquires, LosesByBreak}
+use Rattle.nfca_poll.specs.Inventory.{Tries, tries, inventory, inventory_all, IsSteady, NoneAnswers, HasCauseV}
+use Rattle.nfca_poll.specs.Rounds.{Begins as Starts, all_devices, finding}
+use Rattle.nfca_poll.specs.RoundTrace.{Misses}
+use Rattle.nfca_poll.specs.RoundEnds as rounds
+use Rattle.nfca_poll.specs.RoundEnds.{crowd, FindsCrowd}
+use Rattle.nfca_poll.proofs.Crowding.{drop-front}
+use Rattle.tag_reader.specs.declared.how.How.{How}
+use Rattle.tag_reader.specs.declared.how.How.TheVariants as hows
+use Rattle.nfc_bench.specs.declared.device.Device.{Device}
+use Rattle.nfc_bench.specs.declared.device.Device.TheVariants.{T2, T5}
+use Rattle.nfc_bench.specs.declared.entry.Answer.{Answer}
+use Rattle.nfc_bench.specs.declared.entry.Answer.TheVariants as answers
+use Rattle.nfc_bench.specs.Device.{devices, device_id}
+use Rattle.nfc_bench.specs.Crowded.{card_if, v_if, crowd_of, inventory_of, others_of, seen_all, is_crowd}
+use Rattle.nfc_bench.specs.Legal.{air}
+use Rattle.nfc_bench.specs.Answering.{poll_answer, AreOthers, InventoryEnds, FindEnds}
+use Rattle.nfc_bench.specs.Phases.{Kept, kept, AreSound, AreTame, Searches}
+use Rattle.nfc_bench.specs.Polling as followed
+use Rattle.nfc_bench.specs.Polling.{Followed, Everybody, follows, finding_all, then_inventory, then_others, asks}
+use Rattle.nfc_bench.proofs.Ours.{steady_at_all}
+use Rattle.nfc_bench.proofs.Following.{no_demand, asks_same, told_same, follows_on}
+use Rattle.nfc_bench.proofs.Searching.{progress_asked, search_closes}
+use Rattle.nfc_bench.proofs.SelectingAir.{events_are, breaks-append, HasLost, going_lost, loses}
+use Rattle.nfc_bench.proofs.SelectingCards.{polled, tidy, cards_of, own_idents, few_cards}
+use Rattle.nfc_bench.proofs.SelectingKept.{going_keeps}
+use Rattle.nfc_bench.proofs.Inventoried.{IsAwake, none_told, all_of, Comes, inventory_closes, inventory_harmless, inventory_comes}
+use Rattle.nfc_bench.proofs.Awake.{awake_behind}
+
+abbrev next : List Note → Next
+next ns = asks (finding_all ns)
+
+-- the search of NFC-A comes first
+first_by : (p : Followed (List Picked)) (n : Next) → asks p ≡ n → IsDemand n → asks (then_inventory p) ≡ n
+first_by (followed.Asks m) n e d = e
+first_by (followed.Told r ns) n e d = absurd (no_demand n (sym e) d)
+
+first_asks : (ns : List Note) (n : Next) → enquiring finding ns ≡ n → IsDemand n → next ns ≡ n
+first_asks ns n e d = first_by (follows finding ns) n (asks_same finding (search_closes all_devices) ns ∙ e) d
+
+-- and the inventory behind it
+others_ask : (cards : List Picked) (p : Followed Vcrowd) → asks (then_others cards p) ≡ asks p
+others_ask cards (followed.Asks n) = refl
+others_ask cards (followed.Told (Ok others) ns) = refl
+others_ask cards (followed.Told (Err e) ns) = refl
+
+then_asks : (cards : List Picked) (hs : List Note) → follows finding hs ≡ followed.Told (Ok cards) [] → (ns : List Note) → next (hs ++ ns) ≡ enquiring inventory ns
+then_asks cards hs told ns =
+    ap (λ p. asks (then_inventory p)) (follows_on finding hs ns (Ok cards) told) ∙ others_ask cards (follows inventory ns) ∙ asks_same inventory inventory_closes ns
+
+-- What a search tells of the devices is the same before and behind it.
+same_cards : (ds : List Device) → cards_of ds ≡ filter_map card_if ds
+same_cards [] = refl
+same_cards (T2 d ∷ ds) = ap (λ cs. record { id = d.id; kind = kinds.T2; front = d.front } ∷ cs) (same_cards ds)
+same_cards (T5 p ∷ ds) = same_cards ds
+
+v_how : How → Option (List ℕ)
+v_how hows.T2 = None
+v_how (hows.T5 id) = Some id
+
+v_kept : (ds : List Device) → filter_map v_if ds ≡ filter_map (λ (k : Kept). v_how k.how) (map kept ds)
+unfolding v_how
+v_kept [] = refl
+v_kept (T2 d ∷ ds) = v_kept ds
+v_kept (T5 p ∷ ds) = ap (λ is. p.tag.id ∷ is) (v_kept ds)
+
+same_others : (a b : List Device) → map kept a ≡ map kept b → inventory_of (filter_map v_if a) ≡ others_of b
+same_others a b e = ap inventory_of (v_kept a ∙ ap (filter_map (λ (k : Kept). v_how k.how)) e ∙ sym (v_kept b))
+
+same_answer : (a b : Answer) → Some a ≡ Some b → b ≡ a
+same_answer a b e = cc
+
+no_answer : (a : Answer) → None ≡ Some a → ⊥
+no_answer a e = cc
+
+other_than_lost : (a b : Answer) → Some a ≡ Some b → b ≡ answers.FieldLost → a ≡ answers.FieldLost
+other_than_lost a b e l = cc
+
+-- the field alone is told as lost
+tells_lost : (e : PollFault) (answer : Answer) → poll_answer e ≡ Some answer → answer ≡ answers.FieldLost → e ≡ faults.FieldLost
+tells_lost faults.Nobody answer t l = absurd (no_answer answer t)
+tells_lost faults.Disturbed answer t l = absurd (let k : answers.Disturbed ≡ answers.FieldLost = other_than_lost answers.Disturbed answer t l in cc)
+tells_lost faults.FieldLost answer t l = refl
+tells_lost faults.Memory answer t l = absurd (no_answer answer t)
+tells_lost faults.NotFound answer t l = absurd (let k : answers.NotFound ≡ answers.FieldLost = other_than_lost answers.NotFound answer t l in cc)
+tells_lost faults.BadAnswer answer t l = absurd (no_answer answer t)
+
+lost_tells : (e : PollFault) (answer : Answer) → poll_answer e ≡ Some answer → e ≡ faults.FieldLost → answer ≡ answers.FieldLost
+lost_tells e answer t l = same_answer answers.FieldLost answer (sym (ap poll_answer l) ∙ t)
+
+not_starved : (e : PollFault) (answer : Answer) → poll_answer e ≡ Some answer → e ≡ faults.Memory → ⊥
+not_starved e answer t m = no_answer answer (sym (ap poll_answer m) ∙ t)
+
+err_of : {X : Type 0} (e f : PollFault) → ◌≡◌ {A = Result X PollFault} (Err e) (Err f) → e ≡ f
+err_of e f h = cc
+
+ok_no_err : {X : Type 0} (x : X) (e : PollFault) → ◌≡◌ {A = Result X PollFault} (Ok x) (Err e) → ⊥
+ok_no_err x e h = cc
+
+none_of : (n : ℕ) → (0 < n → ⊥) → n ≡ 0
+none_of zero h = refl
+none_of (suc n) h = absurd (h (omega arith))
+
+pub if_answered : {E : Type 0} (r : Result Answer E) (P Q : Answer → Type 0) → IfOk r P → ((answer : Answer) → P answer → Q answer) → IfOk r Q
+if_answered (Ok answer) P Q h k = k answer h
+if_answered (Err e) P Q h k = h
+
+front_none : (m n : ℕ) → m ≡ 0 → m + n ≡ n
+front_none m n e = omega (arith, e)
+
+-- what an answer tells of the inventory
+abbrev pub TellsOthers : List Picked → Result Vcrowd PollFault → Answer → Type 0
+TellsOthers cards (Ok others) answer = answer ≡ answers.Found (seen_all (record { cards = cards; others = others })) (is_crowd others)
+TellsOthers cards (Err e) answer = poll_answer e ≡ Some answer
+
+module _ (old mid : Air Device) (found : Result (List Picked) PollFault) (tame : AreTame (map kept old.listeners)) (turns : Enquires finding devices old found mid)
+    (ends_so : FindsCrowd devices device_id old found mid) (lost : found ≡ Err faults.FieldLost → 0 < breaks (drop (length old.trace) mid.trace)) where
+  abbrev first : List Event
+  first = turns.going.events
+
+  first_is : drop (length old.trace) mid.trace ≡ first
+  first_is = events_are air (moment old) (moment mid) first turns.going.moment
+
+  first_kept : map kept mid.listeners ≡ map kept old.listeners
+  first_kept = going_keeps (enquiring finding) (moment old) (moment mid) turns.notes (λ ks f e. progress_asked all_devices (progress finding (Starts 1) ks) f e) turns.going
+
+  ends : rounds.FindEnds (cards_of old.listeners) found first
+  ends = let P : List Event → Type 0 = λ es. rounds.FindEnds (cards_of old.listeners) found es in subst P first_is (ends_so polled (tidy old.listeners) (own_idents old.listeners tame))
+
+  told : (found ≡ Err faults.Memory → ⊥) → follows finding turns.notes ≡ followed.Told found []
+  told starved = told_same finding (search_closes all_devices) air (moment old) (moment mid) turns.notes found turns.going turns.comes starved
+
+  broken : 0 < breaks first → found ≡ Err faults.FieldLost
+  broken h =
+      let gone : HasLost turns.notes = going_lost devices (enquiring finding) (moment old) (moment mid) turns.notes turns.going h in
+      turns.comes ∙ ap (answer_of finding) (loses finding (Starts 1) turns.notes gone)
+
+  -- the search of NFC-A ended by a fault
+  module _ (e : PollFault) (bad : found ≡ Err e) where
+    bad_ends : rounds.FindEnds (cards_of old.listeners) (Err e) first
+    bad_ends = let P : Result (List Picked) PollFault → Type 0 = λ x. rounds.FindEnds (cards_of old.listeners) x first in subst P bad ends
+
+    may : (q : PollFault) → rounds.FindEnds (cards_of old.listeners) (Err q) first → IsSome (poll_answer q) ⊎ (q ≡ faults.Memory)
+    may faults.Nobody h = absurd h
+    may faults.Disturbed h = inl refl
+    may faults.FieldLost h = inl refl
+    may faults.Memory h = inr refl
+    may faults.NotFound h = absurd h
+    may faults.BadAnswer h = absurd (few_cards old.listeners tame h)
+
+    -- an answer tells of it
+    pub fault_answered : IsSome (poll_answer e) ⊎ (e ≡ faults.Memory)
+    fault_answered = may e bad_ends
+
+    ends_by : (q : PollFault) (answer : Answer) → rounds.FindEnds (cards_of old.listeners) (Err q) first → poll_answer q ≡ Some answer → FindEnds old.listeners (Err q) first [] answer
+    ends_by faults.Nobody answer h t = absurd h
+    ends_by faults.Disturbed answer h t = (refl, same_answer answers.Disturbed answer t, h)
+    ends_by faults.FieldLost answer h t = (refl, same_answer answers.FieldLost answer t)
+    ends_by faults.Memory answer h t = absurd (no_answer answer t)
+    ends_by faults.NotFound answer h t = absurd h
+    ends_by faults.BadAnswer answer h t = absurd (few_cards old.listeners tame h)
+
+    module _ (answer : Answer) (tells : poll_answer e ≡ Some answer) where
+      told_bad : follows finding turns.notes ≡ followed.Told (Err e) []
+      told_bad = told (λ m. not_starved e answer tells (err_of e faults.Memory (sym bad ∙ m))) ∙ ap (λ x. followed.Told x []) bad
+
+      abbrev alone : Going air next (moment old) (moment mid) turns.notes
+      alone = record {
+        events = first;
+        moment = turns.going.moment;
+        turns = turns.going.turns;
+        each = due_weaker next (enquiring finding) first_asks [] first turns.going.each;
+        fates = turns.going.fates;
+        fresh = turns.going.fresh;
+        known = turns.going.known;
+      }
+
+      lost_one : answer ≡ answers.FieldLost → 0 < breaks first
+      lost_one l = subst (λ es. 0 < breaks es) first_is (lost (bad ∙ ap Err (tells_lost e answer tells l)))
+
+      lost_back : 0 < breaks first → answer ≡ answers.FieldLost
+      lost_back h = lost_tells e answer tells (err_of e faults.FieldLost (sym bad ∙ broken h))
+
+      -- no inventory followed
+      pub searches_one : Searches (moment old) (moment mid) answer
+      searches_one = record {
+        asked = record { notes = turns.notes; going = alone; over = ap (λ p. asks (then_inventory p)) told_bad; same = first_kept };
+        tells = record {
+          first = first;
+          rest = [];
+          parts = sym (append-nil first);
+          found = Err e;
+          searched = ap (follows finding) turns.going.known ∙ told_bad;
+          ends = ends_by e answer bad_ends tells;
+          lost = (lost_one, lost_back);
+        };
+      }
+
+  -- it ended well, and the inventory followed
+  module _ (cards : List Picked) (well : found ≡ Ok cards) where
+    well_ends : rounds.Begins cards (crowd_of old.listeners) × ((cards ≡ crowd_of old.listeners) ⊎ Misses first)
+    well_ends =
+        let P : Result (List Picked) PollFault → Type 0 = λ x. rounds.FindEnds (cards_of old.listeners) x first in
+        let Q : List Picked → Type 0 = λ c. rounds.Begins cards c × ((cards ≡ c) ⊎ Misses first) in
+        subst Q (ap crowd (same_cards old.listeners)) (subst P well ends)
+
+    told_well : follows finding turns.notes ≡ followed.Told (Ok cards) []
+    told_well = told (λ m. ok_no_err cards faults.Memory (sym well ∙ m)) ∙ ap (λ x. followed.Told x []) well
+
+    unbroken : breaks first ≡ 0
+    unbroken = none_of (breaks first) (λ h. ok_no_err cards faults.FieldLost (sym well ∙ broken h))
+
+    asked_some : first ≡ [] → ⊥
+    asked_some e =
+        let none : turns.notes ≡ [] = sym turns.going.known ∙ ap receptions e in
+        ok_no_err cards faults.Memory (sym well ∙ turns.comes ∙ ap (λ ns. answer_of finding (progress finding (Starts 1) ns)) none)
+
+    awake : AllByRecursion IsAwake mid.listeners
+    awake =
+        let at : mid.listeners ≡ _ = ap (λ (m : Moment (World Device)). m.world.listeners) turns.going.moment in
+        subst (AllByRecursion IsAwake) (sym at) (awake_behind first (moment old).world turns.going.each turns.going.fresh unbroken asked_some)
+
+    module _ (new : Air Device) (r : Result Vcrowd PollFault) (more : Enquires inventory devices mid r new) (cause : HasCauseV devices mid r new) (lost_more : LosesByBreak mid r new) (lit : mid.lit ≡ true) where
+      abbrev rest : List Event
+      rest = more.going.events
+
+      rest_is : drop (length mid.trace) new.trace ≡ rest
+      rest_is = events_are air (moment mid) (moment new) rest more.going.moment
+
+      abbrev whole : Going air next (moment old) (moment new) (turns.notes ++ more.notes)
+      whole =
+          going_then air next (enquiring finding) (enquiring inventory) (moment old) (moment mid) (moment new) turns.notes more.notes first_asks (then_asks cards turns.notes told_well) turns.going more.going
+
+      whole_is : whole.events ≡ first ++ rest
+      whole_is =
+          let T : Moment (World Device) → List Event = λ m. m.trace in
+          let all : new.trace ≡ old.trace ++ (first ++ rest) = ap T more.going.moment ∙ ap (λ t. t ++ rest) (ap T turns.going.moment) ∙ append_assoc old.trace first rest in
+          sym (events_are air (moment old) (moment new) whole.events whole.moment) ∙ ap (drop (length old.trace)) all ∙ drop-front old.trace (first ++ rest)
+
+      breaks_whole : breaks whole.events ≡ breaks rest
+      breaks_whole = ap breaks whole_is ∙ breaks-append first rest ∙ front_none (breaks first) (breaks rest) unbroken
+
+      comes : Comes (others_of old.listeners) r
+      comes =
+          let C : Vcrowd → Type 0 = λ v. Comes v r in
+          let sound = subst (λ ks. AreSound ks) (sym first_kept) tame.sound in
+          subst C (same_others mid.listeners old.listeners first_kept)
+          (subst (Comes (inventory_of (filter_map v_if mid.listeners))) (sym more.comes) (inventory_comes (moment mid) (moment new) more.notes more.going awake sound))
+
+      abbrev causes : (r ≡ Err faults.Disturbed → tries ≤ noise (drop (length mid.trace) new.trace)) × (r ≡ Ok Nobody → NoneAnswers devices inventory_all mid.listeners ⊎ (tries ≤ noise (drop (length mid.trace) new.trace)))
+      causes = cause (all_of (IsSteady devices inventory_all) steady_at_all mid.listeners)
+
+      noisy : tries ≤ noise (drop (length mid.trace) new.trace) → tries ≤ noise rest
+      noisy h = subst (λ es. tries ≤ noise es) rest_is h
+
+      may_others : (q : PollFault) → Comes (others_of old.listeners) (Err q) → IsSome (poll_answer q) ⊎ (q ≡ faults.Memory)
+      may_others faults.Nobody h = absurd h
+      may_others faults.Disturbed h = inl refl
+      may_others faults.FieldLost h = inl refl
+      may_others faults.Memory h = inr refl
+      may_others faults.NotFound h = absurd h
+      may_others faults.BadAnswer h = absurd h
+
+      -- an answer tells of its fault
+      pub others_answered : (q : PollFault) → r ≡ Err q → IsSome (poll_answer q) ⊎ (q ≡ faults.Memory)
+      others_answered q e = may_others q (subst (Comes (others_of old.listeners)) e comes)
+
+      are_others : (others : Vcrowd) → r ≡ Ok others → (others ≡ others_of old.listeners) ⊎ (others ≡ Nobody) → AreOthers old.listeners others rest
+      are_others others e (inl same) = inl same
+      are_others others e (inr nobody) = by_miss (causes.1 (e ∙ ap Ok nobody))
+        where
+          by_miss : NoneAnswers devices inventory_all mid.listeners ⊎ (tries ≤ noise (drop (length mid.trace) new.trace)) → AreOthers old.listeners others rest
+          by_miss (inl none) = inl (nobody ∙ sym (none_told mid.listeners awake none) ∙ same_others mid.listeners old.listeners first_kept)
+          by_miss (inr n) = inr (nobody, noisy n)
+
+      ends_with : (q : Result Vcrowd PollFault) (answer : Answer) → r ≡ q → Comes (others_of old.listeners) q → TellsOthers cards q answer → InventoryEnds old.listeners cards q rest answer
+      ends_with (Ok others) answer e c t = (are_others others e c, t)
+      ends_with (Err faults.Nobody) answer e c t = absurd c
+      ends_with (Err faults.Disturbed) answer e c t = (same_answer answers.Disturbed answer t, noisy (causes.0 e))
+      ends_with (Err faults.FieldLost) answer e c t = same_answer answers.FieldLost answer t
+      ends_with (Err faults.Memory) answer e c t = absurd (no_answer answer t)
+      ends_with (Err faults.NotFound) answer e c t = absurd c
+      ends_with (Err faults.BadAnswer) answer e c t = absurd c
+
+      broken_more : 0 < breaks rest → r ≡ Err faults.FieldLost
+      broken_more h =
+          let gone : HasLost more.notes = going_lost devices (enquiring inventory) (moment mid) (moment new) more.notes more.going h in
+          more.comes ∙ ap (answer_of inventory) (loses inventory (Tries 0 false) more.notes gone)
+
+      no_loss : (others : Vcrowd) (answer : Answer) → TellsOthers cards (Ok others) answer → answer ≡ answers.FieldLost → ⊥
+      no_loss others answer t l = absurd (let k : answers.Found (seen_all (record { cards = cards; others = others })) (is_crowd others) ≡ answers.FieldLost = sym t ∙ l in cc)
+
+      lit_lost : (mid.lit ≡ false) ⊎ (0 < breaks (drop (length mid.trace) new.trace)) → 0 < breaks rest
+      lit_lost (inl dark) = absurd (let k : mid.lit ≡ true = lit in cc)
+      lit_lost (inr h) = subst (λ es. 0 < breaks es) rest_is h
+
+      lost_with : (q : Result Vcrowd PollFault) (answer : Answer) → r ≡ q → TellsOthers cards q answer → answer ≡ answers.FieldLost → 0 < breaks rest
+      lost_with (Ok others) answer e t l = absurd (no_loss others answer t l)
+      lost_with (Err f) answer e t l = lit_lost (lost_more (e ∙ ap Err (tells_lost f answer t l)))
+
+      lost_again : (q : Result Vcrowd PollFault) (answer : Answer) → r ≡ q → TellsOthers cards q answer → r ≡ Err faults.FieldLost → answer ≡ answers.FieldLost
+      lost_again (Ok others) answer e t l = absurd (ok_no_err others faults.FieldLost (sym e ∙ l))
+      lost_again (Err f) answer e t l = lost_tells f answer t (err_of f faults.FieldLost (sym e ∙ l))
+
+      fed : (q : Result Vcrowd PollFault) (answer : Answer) → TellsOthers cards q answer → q ≡ Err faults.Memory → ⊥
+      fed (Ok others) answer t m = ok_no_err others faults.Memory m
+      fed (Err f) answer t m = not_starved f answer t (err_of f faults.Memory m)
+
+      -- it was over, and the answer tells of both
+      pub searches_both : (answer : Answer) → TellsOthers cards r answer → Searches (moment old) (moment new) answer
+      searches_both answer t =
+          let told_others : follows inventory more.notes ≡ followed.Told r [] =
+          told_same inventory inventory_closes air (moment mid) (moment new) more.notes r more.going more.comes (fed r answer t) in
+          record {
+            asked = record {
+              notes = turns.notes ++ more.notes;
+              going = whole;
+              over = then_asks cards turns.notes told_well more.notes ∙ sym (asks_same inventory inventory_closes more.notes) ∙ ap asks told_others;
+              same = going_keeps (enquiring inventory) (moment mid) (moment new) more.notes inventory_harmless more.going ∙ first_kept;
+            };
+            tells = record {
+              first = first;
+              rest = rest;
+              parts = whole_is;
+              found = Ok cards;
+              searched = ap (follows finding) turns.going.known ∙ told_well;
+              ends = (well_ends.0, well_ends.1, r, ap (follows inventory) more.going.known ∙ told_others, ends_with r answer refl comes t);
+              lost = (
+                (λ l. subst (λ n. 0 < n) (sym breaks_whole) (lost_with r answer refl t l)),
+                (λ h. lost_again r answer refl t (broken_more (subst (λ n. 0 < n) breaks_whole h))),
+              );
+            };
+          }
