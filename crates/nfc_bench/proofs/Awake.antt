@@ -1,5 +1,5 @@
 -- Behind a search by rounds that ended well each Type 5 tag stands in the light and isn't quiet.
-use Rattle.std.proofs.Common.{◌≡◌, List, [], ◌∷◌, ◌++◌, ℕ, map, true, if◌then◌else◌, None, Result, Ok, Err, refl, sym, ◌∙◌, ap, subst, arith}
+use Rattle.std.proofs.Common.{◌≡◌, List, [], ◌∷◌, map, if◌then◌else◌, None, refl, sym, subst, arith}
 use Rattle.std.specs.List.{AllByRecursion}
 use Rattle.nfc_base.specs.declared.event.Event.{Event}
 use Rattle.nfc_base.specs.declared.event.Event.TheVariants.{Reset, Request, Answer, Clash}
@@ -10,7 +10,7 @@ use Rattle.nfc_base.specs.Trace.{breaks, back_of}
 use Rattle.nfc_base.specs.Trace as backs
 use Rattle.air_core.specs.Joint.{same_tech}
 use Rattle.air_core.specs.World.{World, stepped_by, stepped, reset_by}
-use Rattle.air_core.specs.Conversation.{LightUp, EachDue}
+use Rattle.air_core.specs.Conversation.{EachDue}
 use Rattle.nfca_poll.specs.Enquiry.{progress, enquiring}
 use Rattle.nfca_poll.specs.Rounds.{Begins, all_devices, finding}
 use Rattle.nfc_bench.specs.declared.device.Device.{Device}
@@ -19,7 +19,7 @@ use Rattle.nfc_bench.specs.Device.{devices}
 use Rattle.nfc_bench.proofs.Following.{light_is_no_request}
 use Rattle.nfc_bench.proofs.SelectingAir.{over}
 use Rattle.nfc_bench.proofs.SelectingKept.{EachAsked, due_asked}
-use Rattle.nfc_bench.proofs.Searching.{IsCall, of_nfc_a, progress_calls}
+use Rattle.nfc_bench.proofs.Searching.{of_nfc_a, progress_calls}
 use Rattle.nfc_bench.proofs.Inventoried.{IsAwake}
 
 abbrev AreAwake : List Device → Type 0

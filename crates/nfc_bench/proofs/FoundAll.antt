@@ -5,8 +5,8 @@ use Rattle.std.specs.List.{AllByRecursion}
 use Rattle.nfc_base.specs.declared.event.Event.{Event}
 use Rattle.nfc_base.specs.Trace.{breaks, noise}
 use Rattle.air_core.specs.Turn.{Air, moment}
-use Rattle.air_core.specs.World.{World, answered_by}
-use Rattle.air_core.specs.Conversation.{Note, Next, Over, IsDemand, Moment, Going, EachDue, receptions}
+use Rattle.air_core.specs.World.{World}
+use Rattle.air_core.specs.Conversation.{Note, Next, IsDemand, Moment, Going, receptions}
 use Rattle.air_core.proofs.Turns.{due_weaker, going_then}
 use Rattle.nfca_poll.specs.declared.fault.Picked.{Picked}
 use Rattle.nfca_poll.specs.declared.kind.Kind.TheVariants as kinds
@@ -14,7 +14,6 @@ use Rattle.nfca_poll.specs.declared.fault.PollFault.{PollFault}
 use Rattle.nfca_poll.specs.declared.fault.PollFault.TheVariants as faults
 use Rattle.nfca_poll.specs.declared.inventory.Vcrowd.{Vcrowd}
 use Rattle.nfca_poll.specs.declared.inventory.Vcrowd.TheVariants.{Nobody}
-use Rattle.nfca_poll.specs.Crowd.{Each}
 use Rattle.nfca_poll.specs.Enquiry.{progress, enquiring, answer_of, Enquires, LosesByBreak}
 use Rattle.nfca_poll.specs.Inventory.{Tries, tries, inventory, inventory_all, IsSteady, NoneAnswers, HasCauseV}
 use Rattle.nfca_poll.specs.Rounds.{Begins as Starts, all_devices, finding}
@@ -22,7 +21,6 @@ use Rattle.nfca_poll.specs.RoundTrace.{Misses}
 use Rattle.nfca_poll.specs.RoundEnds as rounds
 use Rattle.nfca_poll.specs.RoundEnds.{crowd, FindsCrowd}
 use Rattle.nfca_poll.proofs.Crowding.{drop-front}
-use Rattle.nfca_poll.proofs.Eaches.{said_none}
 use Rattle.tag_reader.specs.declared.how.How.{How}
 use Rattle.tag_reader.specs.declared.how.How.TheVariants as hows
 use Rattle.nfc_bench.specs.declared.device.Device.{Device}
@@ -32,7 +30,7 @@ use Rattle.nfc_bench.specs.declared.entry.Answer.TheVariants as answers
 use Rattle.nfc_bench.specs.Device.{devices, device_id}
 use Rattle.nfc_bench.specs.Crowded.{card_if, v_if, crowd_of, inventory_of, others_of, seen_all, is_crowd}
 use Rattle.nfc_bench.specs.Legal.{air}
-use Rattle.nfc_bench.specs.Answering.{poll_answer, AreOthers, InventoryEnds, FindEnds, FindTells}
+use Rattle.nfc_bench.specs.Answering.{poll_answer, AreOthers, InventoryEnds, FindEnds}
 use Rattle.nfc_bench.specs.Phases.{Kept, kept, AreSound, AreTame, Searches}
 use Rattle.nfc_bench.specs.Polling as followed
 use Rattle.nfc_bench.specs.Polling.{Followed, Everybody, follows, finding_all, then_inventory, then_others, asks}
@@ -42,7 +40,7 @@ use Rattle.nfc_bench.proofs.Searching.{progress_asked, search_closes}
 use Rattle.nfc_bench.proofs.SelectingAir.{events_are, breaks-append, HasLost, going_lost, loses}
 use Rattle.nfc_bench.proofs.SelectingCards.{polled, tidy, cards_of, own_idents, few_cards}
 use Rattle.nfc_bench.proofs.SelectingKept.{going_keeps}
-use Rattle.nfc_bench.proofs.Inventoried.{IsAwake, says, none_told, Comes, inventory_closes, inventory_harmless, inventory_comes}
+use Rattle.nfc_bench.proofs.Inventoried.{IsAwake, none_told, all_of, Comes, inventory_closes, inventory_harmless, inventory_comes}
 use Rattle.nfc_bench.proofs.Awake.{awake_behind}
 
 abbrev next : List Note → Next
@@ -114,10 +112,6 @@ err_of e f h = cc
 
 ok_no_err : {X : Type 0} (x : X) (e : PollFault) → ◌≡◌ {A = Result X PollFault} (Ok x) (Err e) → ⊥
 ok_no_err x e h = cc
-
-all_of : (P : Device → Type 0) → ((d : Device) → P d) → (ds : List Device) → Each P ds
-all_of P h [] = tt
-all_of P h (d ∷ ds) = (h d, all_of P h ds)
 
 none_of : (n : ℕ) → (0 < n → ⊥) → n ≡ 0
 none_of zero h = refl

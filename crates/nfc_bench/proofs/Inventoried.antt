@@ -12,7 +12,7 @@ use Rattle.nfc_base.specs.Signal.{Signal}
 use Rattle.nfc_base.specs.Bits.{bits, of_bits}
 use Rattle.air_core.specs.Joint.{Joint, Nothing, Single, Clashing, joint, all_same, same_signal, common_all}
 use Rattle.air_core.specs.World.{World, answered_by, stepped_by}
-use Rattle.air_core.specs.Conversation.{Note, Lit, Got, Lost, Next, Over, LightUp, Asks, EachDue, Moment, Going, receptions, trace_of}
+use Rattle.air_core.specs.Conversation.{Note, Lit, Got, Lost, Over, LightUp, Asks, EachDue, Moment, Going, receptions, trace_of}
 use Rattle.nfca_poll.specs.declared.fault.PollFault.{PollFault}
 use Rattle.nfca_poll.specs.declared.fault.PollFault.TheVariants as faults
 use Rattle.nfca_poll.specs.declared.inventory.Vcrowd.{Vcrowd}
@@ -35,7 +35,7 @@ use Rattle.nfc_bench.specs.Legal.{air}
 use Rattle.nfc_bench.specs.Phases.{Kept, kept, IsApart, AreSound}
 use Rattle.nfc_bench.proofs.Ours.{steady_at_all}
 use Rattle.nfc_bench.proofs.Following.{HasEnded, Closes, same_asked, light_is_no_request, over_is_no_request, over_is_no_light}
-use Rattle.nfc_bench.proofs.Unmoved.{OnlyAsks, AllHeard, AllStay, all_heard}
+use Rattle.nfc_bench.proofs.Unmoved.{OnlyAsks, AllHeard, all_heard}
 use Rattle.nfc_bench.proofs.SelectingKept.{IsHarmless}
 
 -- A Type 5 tag in the light that isn't quiet. A Type 2 tag hears no inventory.
@@ -81,7 +81,7 @@ own_ids [] s = tt
 own_ids (T2 d ∷ ds) s = own_ids ds s.2
 own_ids (T5 p ∷ ds) s = (s.0.1, others_apart (kept (T5 p)) ds s.1, own_ids ds s.2)
 
-is_whole : (i : List ℕ) → length i ≡ 8 → is_present (present i) ≡ true
+pub is_whole : (i : List ℕ) → length i ≡ 8 → is_present (present i) ≡ true
 is_whole i e = ap (λ n. (n == 10) && (0 == 0)) (ten (length-reverse i ∙ e))
   where
     ten : length (reverse i) ≡ 8 → length (present i).bytes ≡ 10
@@ -124,13 +124,13 @@ Comes v (Err faults.Memory) = Unit {0}
 Comes v (Err faults.NotFound) = ⊥
 Comes v (Err faults.BadAnswer) = ⊥
 
-whole_silent : (g : Signal) → Whole g ≡ Silent → ⊥
+pub whole_silent : (g : Signal) → Whole g ≡ Silent → ⊥
 whole_silent g e = cc
 
-collided_silent : (g : Signal) → Collided g ≡ Silent → ⊥
+pub collided_silent : (g : Signal) → Collided g ≡ Silent → ⊥
 collided_silent g e = cc
 
-damaged_silent : Damaged ≡ Silent → ⊥
+pub damaged_silent : Damaged ≡ Silent → ⊥
 damaged_silent e = cc
 
 module _ (v : Vcrowd) where
@@ -167,7 +167,7 @@ module _ (v : Vcrowd) where
 abbrev ended_if : Bool → Bool → Option (Result Vcrowd PollFault)
 ended_if more d = if more then None else Some (if d then Err faults.Disturbed else Ok Nobody)
 
-fewer : (n : ℕ) → nat_lt n 4 ≡ false → nat_lt (n + 1) 4 ≡ true → ⊥
+pub fewer : (n : ℕ) → nat_lt n 4 ≡ false → nat_lt (n + 1) 4 ≡ true → ⊥
 fewer n h k = grind arith
 
 more_tries : (n : ℕ) (x y c d : Bool) → nat_lt n tries ≡ x → nat_lt (n + 1) tries ≡ y → HasEnded (ended_if x c) → HasEnded (ended_if y d)
@@ -197,21 +197,21 @@ one_heard (Told r) g h = tt
 pub inventory_closes : Closes inventory
 inventory_closes = record { silent = one_silent; lit = λ s h. h; heard = one_heard }
 
-tries_ask : (v : Bool) (f : Signal) → (if v then Asks inventory_all else Over) ≡ Asks f → f ≡ inventory_all
-tries_ask true f e = sym (same_asked inventory_all f e)
-tries_ask false f e = absurd (over_is_no_request f e)
+pub tries_ask : (f g : Signal) (v : Bool) → (if v then Asks f else Over) ≡ Asks g → g ≡ f
+tries_ask f g true e = sym (same_asked f g e)
+tries_ask f g false e = absurd (over_is_no_request g e)
 
-tries_light : (v : Bool) → (if v then Asks inventory_all else Over) ≡ LightUp → ⊥
-tries_light true e = light_is_no_request inventory_all (sym e)
-tries_light false e = over_is_no_light e
+pub tries_light : (f : Signal) (v : Bool) → (if v then Asks f else Over) ≡ LightUp → ⊥
+tries_light f true e = light_is_no_request f (sym e)
+tries_light f false e = over_is_no_light e
 
 due_only : (p : Progress (Inventory Vcrowd)) (f : Signal) → due_of inventory p ≡ Asks f → f ≡ inventory_all
-due_only (Reaches (Tries n d)) f e = tries_ask (nat_lt n tries) f e
+due_only (Reaches (Tries n d)) f e = tries_ask inventory_all f (nat_lt n tries) e
 due_only (Reaches (Told r)) f e = absurd (over_is_no_request f e)
 due_only Loses f e = absurd (over_is_no_request f e)
 
 never_lit : (p : Progress (Inventory Vcrowd)) → due_of inventory p ≡ LightUp → ⊥
-never_lit (Reaches (Tries n d)) e = tries_light (nat_lt n tries) e
+never_lit (Reaches (Tries n d)) e = tries_light inventory_all (nat_lt n tries) e
 never_lit (Reaches (Told r)) e = over_is_no_light e
 never_lit Loses e = over_is_no_light e
 
@@ -233,9 +233,9 @@ stays_at : (d : Device) → stepped_by devices d inventory_all None ≡ d
 stays_at (T2 d) = refl
 stays_at (T5 p) = (steady_at_all (T5 p) refl).1
 
-all_stay : (ds : List Device) → AllStay inventory_all ds
-all_stay [] = tt
-all_stay (d ∷ ds) = (stays_at d, all_stay ds)
+pub all_of : (P : Device → Type 0) → ((d : Device) → P d) → (ds : List Device) → Each P ds
+all_of P h [] = tt
+all_of P h (d ∷ ds) = (h d, all_of P h ds)
 
 -- Among devices that are awake an inventory tells of the Type 5 tags, or of nobody, or ends by a fault.
 pub inventory_comes : (a b : Moment (World Device)) (ns : List Note) → Going air (enquiring inventory) a b ns → AllByRecursion IsAwake a.world.listeners → AreSound (map kept a.world.listeners)
@@ -244,7 +244,7 @@ inventory_comes a b ns g awake sound =
     let ds : List Device = a.world.listeners in
     let made = g.turns.made in
     let heard : AllHeard (joint (filter_map says ds)) (receptions (trace_of air a.world g.turns.moves)) =
-    all_heard inventory_all ds (all_stay ds) g.turns.moves a.world refl (subst (OnlyAsks inventory_all) made (only_due [] g.events g.each)) in
+    all_heard inventory_all ds (all_of (λ d. stepped_by devices d inventory_all None ≡ d) stays_at ds) g.turns.moves a.world refl (subst (OnlyAsks inventory_all) made (only_due [] g.events g.each)) in
     let known : AllHeard (joint (filter_map says ds)) ns = subst (AllHeard (joint (filter_map says ds))) (ap receptions (sym made) ∙ g.known) heard in
     let tells : Tells (joint (filter_map says ds)) (inventory_of (filter_map v_if ds)) = subst (λ gs. Tells (joint gs) (inventory_of (filter_map v_if ds))) (sym (all_answer ds awake)) (tells_of (filter_map v_if ds) (own_ids ds sound)) in
     tries_come (inventory_of (filter_map v_if ds)) (joint (filter_map says ds)) tells ns 0 false known

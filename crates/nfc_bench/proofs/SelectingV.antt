@@ -1,6 +1,5 @@
 -- Selecting a Type 5 tag: a reset, and inventories of its identifier, which it alone answers.
-use Rattle.std.proofs.Common.{◌≡◌, ◌⊎◌, inl, inr, ℕ, zero, suc, ◌+◌, ◌<◌, ◌≤◌, ◌==◌, ◌&&◌, nat_lt, List, [], ◌∷◌, ◌++◌, map, length, drop, reverse, filter_map, Bool, true, false, if◌then◌else◌, Option, Some, None, IsSome, Result, Ok, Err, refl, sym, ◌∙◌, ap, subst, append_assoc, arith}
-use Rattle.std.proofs.lemmas.List.{length-reverse}
+use Rattle.std.proofs.Common.{◌≡◌, ◌⊎◌, inl, inr, ℕ, zero, suc, ◌+◌, ◌<◌, ◌≤◌, nat_lt, List, [], ◌∷◌, ◌++◌, map, length, drop, filter_map, Bool, true, false, if◌then◌else◌, Option, Some, None, IsSome, Result, Ok, Err, refl, sym, ◌∙◌, ap, subst, append_assoc, arith}
 use Rattle.std.specs.List.{AllByRecursion, cons_option}
 use Rattle.std.specs.Result.{OnOk, is_err}
 use Rattle.nfc_base.specs.declared.event.Event.{Event}
@@ -41,7 +40,8 @@ use Rattle.nfc_bench.specs.Phases.{ghosts, kept, IsSound, AreSound, AreTame, Ask
 use Rattle.nfc_bench.specs.Polling as followed
 use Rattle.nfc_bench.specs.Polling.{Followed, follows, pick_v, selecting, asks}
 use Rattle.nfc_bench.proofs.Ours.{steady_at, answers_own}
-use Rattle.nfc_bench.proofs.Following.{HasEnded, Closes, same_asked, light_is_no_request, over_is_no_request, over_is_no_light, asks_same, told_same}
+use Rattle.nfc_bench.proofs.Inventoried.{fewer, whole_silent, collided_silent, damaged_silent, is_whole, tries_ask, tries_light, all_of}
+use Rattle.nfc_bench.proofs.Following.{HasEnded, Closes, light_is_no_request, over_is_no_request, over_is_no_light, asks_same, told_same}
 use Rattle.nfc_bench.proofs.Unmoved.{OnlyAsks, AllHeard, AllStay, all_stay, all_heard}
 use Rattle.nfc_bench.proofs.SelectingAir.{events_are, lit_by, HasLost, going_lit, going_lost, loses, stays_lit}
 use Rattle.nfc_bench.proofs.SelectingKept.{IsHarmless, going_keeps}
@@ -53,9 +53,6 @@ relit l = devices.woken (devices.darkened l)
 
 abbrev ended_if : Bool → Option (Result (Unit {0}) PollFault)
 ended_if v = if v then None else Some (Err faults.NotFound)
-
-fewer : (n : ℕ) → nat_lt n 4 ≡ false → nat_lt (n + 1) 4 ≡ true → ⊥
-fewer n h k = grind arith
 
 more_tries : (n : ℕ) (v w : Bool) → nat_lt n tries ≡ v → nat_lt (n + 1) tries ≡ w → HasEnded (ended_if v) → HasEnded (ended_if w)
 more_tries n true w p q h = absurd h
@@ -97,15 +94,6 @@ vain_tries false = tt
 no_heard : (h : Heard) (A : Type 0) → (h ≡ Silent → ⊥) → h ≡ Silent → A
 no_heard h A n e = absurd (n e)
 
-whole_silent : (g : Signal) → Whole g ≡ Silent → ⊥
-whole_silent g e = cc
-
-collided_silent : (g : Signal) → Collided g ≡ Silent → ⊥
-collided_silent g e = cc
-
-damaged_silent : Damaged ≡ Silent → ⊥
-damaged_silent e = cc
-
 module _ (id : List ℕ) where
   abbrev inventory : Signal
   inventory = inventory_of id
@@ -131,21 +119,13 @@ module _ (id : List ℕ) where
   v_closes : Closes call
   v_closes = record { silent = v_silent; lit = λ s h. h; heard = v_heard }
 
-  tries_ask : (v : Bool) (f : Signal) → (if v then Asks inventory else Over) ≡ Asks f → f ≡ inventory
-  tries_ask true f e = sym (same_asked inventory f e)
-  tries_ask false f e = absurd (over_is_no_request f e)
-
-  tries_light : (v : Bool) → (if v then Asks inventory else Over) ≡ LightUp → ⊥
-  tries_light true e = light_is_no_request inventory (sym e)
-  tries_light false e = over_is_no_light e
-
   due_only : (p : Progress (Inventory (Unit {0}))) (f : Signal) → due_of call p ≡ Asks f → f ≡ inventory
-  due_only (Reaches (Tries n d)) f e = tries_ask (nat_lt n tries) f e
+  due_only (Reaches (Tries n d)) f e = tries_ask inventory f (nat_lt n tries) e
   due_only (Reaches (Told r)) f e = absurd (over_is_no_request f e)
   due_only Loses f e = absurd (over_is_no_request f e)
 
   never_lit : (p : Progress (Inventory (Unit {0}))) → due_of call p ≡ LightUp → ⊥
-  never_lit (Reaches (Tries n d)) e = tries_light (nat_lt n tries) e
+  never_lit (Reaches (Tries n d)) e = tries_light inventory (nat_lt n tries) e
   never_lit (Reaches (Told r)) e = over_is_no_light e
   never_lit Loses e = over_is_no_light e
 
@@ -229,14 +209,6 @@ module _ (id : List ℕ) where
   one_answer [] d behind g h k j = ap (λ o. cons_option o (answers_in (map relit behind))) k ∙ ap (λ gs. g ∷ gs) (said_none says (map relit behind) j)
   one_answer (l ∷ ls) d behind g h k j = ap (λ o. cons_option o (answers_in (map relit (ls ++ d ∷ behind)))) h.0 ∙ one_answer ls d behind g h.1 k j
 
-  is_whole : (i : List ℕ) → length i ≡ 8 → is_present (answer_frame (Present i)) ≡ true
-  is_whole i e =
-      let long : length (reverse i) ≡ 8 = length-reverse i ∙ e in
-      ap (λ n. (n == 10) && (0 == 0)) (ten long)
-    where
-      ten : length (reverse i) ≡ 8 → length (answer_frame (Present i)).bytes ≡ 10
-      ten k = omega (arith, k)
-
   -- one tag answers, and its answer is one to an inventory
   pub record Answered (ls : List Device) : Type 0 where
     pub answer : Signal
@@ -287,10 +259,6 @@ module _ (id : List ℕ) where
       by_one : (device_with id ls ≡ None) ⊎ Amid id ls → device_with id ls ≡ None
       by_one (inl none) = none
       by_one (inr a) = let r : Answered ls = amid_answers ls eight s a in absurd (no_answers r.answer (sym r.one ∙ said_none says (map relit ls) n))
-
-all_of : (P : Device → Type 0) → ((d : Device) → P d) → (ls : List Device) → Each P ls
-all_of P h [] = tt
-all_of P h (l ∷ ls) = (h l, all_of P h ls)
 
 -- a device of either kind stays as it is at an inventory
 stays_at : (id : List ℕ) (d : Device) → stepped_by devices d (inventory_of id) None ≡ d

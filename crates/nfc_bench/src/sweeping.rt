@@ -32,11 +32,7 @@ fn seen(picked: Picked) -> Seen
 }
 
 /// The devices that a search lists: those of NFC-A, and behind them the only Type 5 tag.
-fn listed(
-    alloc: Global,
-    picked: Vec<Picked>,
-    others: Vcrowd,
-) -> Result<Items<Seen>, AllocError>
+fn listed(alloc: Global, picked: Vec<Picked>, others: Vcrowd) -> Result<Items<Seen>, AllocError>
     ensures { IfOk result (λ devices. devices ≡ seen_all (record { cards = picked.items; others = others })) }
 {
     let mut devices = Vec::new(alloc);
