@@ -8,3 +8,4 @@ pub mod Landing
 pub mod Hearing
 pub mod Obeyed
 pub mod Session
+pub mod CardTurns

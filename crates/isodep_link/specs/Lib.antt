@@ -5,3 +5,4 @@ pub mod Commands
 pub mod Reader
 pub mod Exchange
 pub mod Sessions
+pub mod CardTags

@@ -7,10 +7,12 @@
 
 mod block;
 mod card;
+mod listener;
 mod reader;
 mod size;
 #[cfg(test)]
 mod tests;
 
 pub use card::{CardEnd, CardStep};
+pub use listener::CardListener;
 pub use reader::{ReaderEnd, ReaderStep};
