@@ -9,3 +9,5 @@ pub mod Hearing
 pub mod Obeyed
 pub mod Session
 pub mod CardTurns
+pub mod AskingLaw
+pub mod Falls

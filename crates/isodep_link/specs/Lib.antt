@@ -6,3 +6,5 @@ pub mod Reader
 pub mod Exchange
 pub mod Sessions
 pub mod CardTags
+pub mod Asking
+pub mod Falling

@@ -7,6 +7,7 @@
 
 mod block;
 mod card;
+mod exchange;
 mod listener;
 mod reader;
 mod size;
@@ -14,5 +15,6 @@ mod size;
 mod tests;
 
 pub use card::{CardEnd, CardStep};
+pub use exchange::ask_card;
 pub use listener::CardListener;
 pub use reader::{ReaderEnd, ReaderStep};

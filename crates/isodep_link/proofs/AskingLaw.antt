@@ -1,0 +1,385 @@
+-- A reader that asks a command of a Type 4 tag keeps the law of the exchange, turn by turn.
+use Rattle.std.proofs.Common.{◌≡◌, ℕ, ◌+◌, ◌-◌, ◌*◌, ◌<◌, ◌≤◌, ◌⊎◌, inl, inr, List, [], ◌∷◌, ◌++◌, length, Bool, true, false, if◌then◌else◌, Option, Some, None, refl, sym, ◌∙◌, ap, subst, arith, append_assoc, append-nil}
+use Rattle.std.specs.List.{AllByRecursion}
+use Rattle.nfc_base.specs.Signal.{Signal, whole_a}
+use Rattle.nfc_base.specs.TagLinks.{TagState, TagStep}
+use Rattle.nfc_base.specs.StopAndWait.{Hears, Whole, Damaged, Silent, Finished, SixBad, Protocol, Stage, Requests, Answers, Over, Dark, stage_of, World, Once, IsEnding, delivered_of, pieces_back}
+use Rattle.nfc_base.specs.LinkTurns.{heard_of, heard_in, IsTurn, GivenBy}
+use Rattle.nfc_base.specs.LinkTurns as turns
+use Rattle.nfc_base.proofs.ExactlyOnce.{IsReady, kept_once}
+use Rattle.nfc_base.specs.declared.event.Event.{Event}
+use Rattle.nfc_base.specs.declared.event.Heard.{Heard}
+use Rattle.nfc_base.specs.declared.tag_link.AskFault.TheVariants.{FieldLost}
+use Rattle.nfc_base.proofs.Leading.{all_append}
+use Rattle.nfc_base.proofs.LinkTurns.{J, Along, Onward, goes_along, starts_along, next_asking, next_stage}
+use Rattle.air_core.specs.World.{quiet_air}
+use Rattle.air_core.specs.Turn.{Air, moment}
+use Rattle.air_core.specs.Turning.{going_start, going_turn}
+use Rattle.air_core.specs.Conversation.{Note, note, Going, Next, Asks, TurnsTo}
+use Rattle.air_core.specs.Quiet.{EachQuiet, QuietTurn}
+use Rattle.air_core.specs.PlainTags.{reached, IsAlone}
+use Rattle.air_core.specs.declared.listener.Listener.{Ghosts}
+use Rattle.air_core.proofs.PlainAside.{Laws}
+use Rattle.air_core.proofs.Quiet.{quiet_turns_to}
+use Rattle.isodep_link.specs.declared.block.Block.{Block}
+use Rattle.isodep_link.specs.declared.block.Block.TheVariants.{Info, Ack, Nak, Deselect}
+use Rattle.isodep_link.specs.Blocks.{IsBlock, block_frame, piece}
+use Rattle.isodep_link.specs.Sizes.{limit}
+use Rattle.isodep_link.specs.Card.{CardState}
+use Rattle.isodep_link.specs.Reader.{Core, ReaderState, reader_table, request, begun}
+use Rattle.isodep_link.specs.Commands.{iso_commands}
+use Rattle.isodep_link.specs.Exchange.{iso_dep, blocks_of, pieces, reader_does, beginning, InStep, IsCut}
+use Rattle.isodep_link.specs.CardTags.{IsAsked, IsAskedBlock, Obeys, IsShort, StepsByCard, IsCardTag}
+use Rattle.isodep_link.specs.Asking.{Standing, Waits, Rests, Broken, Astray, asks, goes_by, noted, stand, due_at, iso_next, HasCardTag, IsAfter, Asked}
+use Rattle.isodep_link.proofs.Wire.{is_piece}
+use Rattle.isodep_link.proofs.Standing as law
+use Rattle.isodep_link.proofs.Obeyed.{keeps, asking_first}
+use Rattle.isodep_link.proofs.CardTurns.{CardTurn, IsLeft, card_turn, quiet_asked}
+
+-- what is noted behind some notes
+stand_on : (s : Standing) (ns : List Note) (n : Note) → stand s (ns ++ n ∷ []) ≡ noted (stand s ns) n
+stand_on s [] n = refl
+stand_on s (m ∷ ns) n = stand_on (noted s m) ns n
+
+-- what the reader sends is a block that a reader sends
+request_asked : (c : Core) → c.number < 2 → c.most ≤ 253 → IsAsked (block_frame (request c))
+request_asked c p q = record { block = request c; asked = go c.drawing refl; frame = refl }
+  where
+    go : (d : Bool) → c.drawing ≡ d → IsAskedBlock (request c)
+    go true e = rw e p
+    go false e = rw e (is_piece c.most c.number c.rest p q)
+
+held_number : (m : ℕ) (out : List ℕ) (c : Core) (t : CardState) (g : Option (List ℕ)) (n : ℕ) → law.Held m out c t g n → (c.number < 2) × (c.most ≤ 253)
+held_number m out c t g n (law.of_chain h l) = (h.number, h.bounds.fits)
+held_number m out c t g n (law.of_answer bytes h l) = (h.number, h.bounds.fits)
+
+asked_frame : (m : ℕ) (out : List ℕ) (i : ReaderState) (t : CardState) (g : Option (List ℕ)) (f : Signal) (n : ℕ) → law.Ask m out i t g f n → IsAsked f
+asked_frame m out i t g f n (law.asks p e h b) = subst IsAsked (sym e) (request_asked i.core h.number h.bounds.fits)
+asked_frame m out i t g f n (law.draws p e h b) = subst IsAsked (sym e) (request_asked i.core h.number h.bounds.fits)
+asked_frame m out i t g f n (law.draws_again p e d h) = let x = held_number m out i.core t g n h in subst IsAsked (sym e) (request_asked i.core x.0 x.1)
+asked_frame m out i t g f n (law.naks p e h b) = record { block = Nak i.core.number; asked = h.number; frame = e }
+asked_frame m out i t g f n (law.naks_held p e d h) = record { block = Nak i.core.number; asked = (held_number m out i.core t g n h).0; frame = e }
+
+module _ {L : Type 0} (k : Ghosts L) (card : L → CardState) (tag : L → TagState) (begin : L) (i0 : ReaderState) (commands : List (List ℕ)) (arrived : List Signal) (command : List ℕ) where
+  -- how the exchange stands
+  abbrev pub StandsBy : List Event → ReaderState → CardState → List Event → TagState → Stage Signal → Type 0
+  StandsBy es0 i t es held stage =
+      Along iso_dep commands command (keeps (card begin).most command) (2 * pieces i0.core.most command) TagState (Obeys (k.commands begin)) arrived es0 (tag begin) i t es held stage
+
+  -- Where the reader stands in a field that is as lit as it was: the listener heard these frames, the exchange keeps its law,
+  -- each request was due, and no turn was made in the dark.
+  pub record OnTag (old mid : Air L) (place : ℕ) (i : ReaderState) (stage : Stage Signal) (s : Standing) : Type 0 where
+    pub frames : List Signal
+    pub asked : AllByRecursion IsAsked frames
+    pub alone : IsAlone k (k.identifier begin) mid.listeners place (reached k begin frames)
+    pub selected : k.is_selected (reached k begin frames) ≡ true
+    pub lit : mid.lit ≡ old.lit
+    pub dim : mid.lit ≡ false → mid ≡ old
+    pub along : StandsBy old.trace i (card (reached k begin frames)) mid.trace (tag (reached k begin frames)) stage
+    pub notes : List Note
+    pub going : Going (quiet_air k.machine) (iso_next i0 (command ∷ [])) (moment old) (moment mid) notes
+    pub stands : stand (asks i0 (command ∷ [])) notes ≡ s
+
+  -- a turn that lost the field
+  pub record LostTag (old new : Air L) (place : ℕ) : Type 0 where
+    pub frames : List Signal
+    pub asked : AllByRecursion IsAsked frames
+    pub left : L
+    pub alone : IsAlone k (k.identifier begin) new.listeners place left
+    pub darkened : left ≡ k.machine.darkened (reached k begin frames)
+    pub dark : new.lit ≡ false
+    pub reader : ReaderState
+    pub along : StandsBy old.trace reader (card left) new.trace (tag (reached k begin frames)) Dark
+    pub notes : List Note
+    pub going : Going (quiet_air k.machine) (iso_next i0 (command ∷ [])) (moment old) (moment new) notes
+    pub stands : stand (asks i0 (command ∷ [])) notes ≡ Broken FieldLost
+
+module _ {L : Type 0} (k : Ghosts L) (laws : Laws k) where
+  reached_twice : (l : L) (fs gs : List Signal) → reached k (reached k l fs) gs ≡ reached k l (fs ++ gs)
+  reached_twice l [] gs = refl
+  reached_twice l (f ∷ fs) gs = reached_twice (k.machine.after l f None) fs gs
+
+  reached_same : (l : L) (fs : List Signal) → (k.machine.tech (reached k l fs) ≡ k.machine.tech l) × (k.identifier (reached k l fs) ≡ k.identifier l)
+  reached_same l [] = (refl, refl)
+  reached_same l (f ∷ fs) =
+      let e = reached_same (k.machine.after l f None) fs in
+      let d = laws.step_keeps l f None in
+      (e.0 ∙ d.0, e.1 ∙ d.1)
+
+  module _ (card : L → CardState) (tag : L → TagState) where
+    -- a tag stays one by frames that are asked of it
+    pub stays_card_tag : (l : L) (fs : List Signal) → AllByRecursion IsAsked fs → IsCardTag k card tag l → IsCardTag k card tag (reached k l fs)
+    stays_card_tag l fs a c =
+        record {
+          tech = (reached_same l fs).0 ∙ c.tech;
+          steps = λ gs b f q. subst (λ (x : L). StepsByCard k card tag x f) (sym (reached_twice l fs gs)) (c.steps (fs ++ gs) (all_append IsAsked fs gs a b) f q);
+          same = λ gs b. ap k.commands (reached_twice l fs gs) ∙ c.same (fs ++ gs) (all_append IsAsked fs gs a b) ∙ sym (c.same fs a);
+          dark = λ gs b. ap (λ x. k.commands (k.machine.darkened x)) (reached_twice l fs gs) ∙ c.dark (fs ++ gs) (all_append IsAsked fs gs a b) ∙ sym (c.same fs a);
+          holds = λ gs b. let P : L → Type 0 = λ x. k.store x ≡ (tag x).store in subst P (sym (reached_twice l fs gs)) (c.holds (fs ++ gs) (all_append IsAsked fs gs a b));
+          cleared = λ gs b.
+              subst (λ (x : L). card (k.machine.darkened x) ≡ dark_of (card x)) (sym (reached_twice l fs gs)) (c.cleared (fs ++ gs) (all_append IsAsked fs gs a b));
+        }
+      where
+        dark_of : CardState → CardState
+        dark_of t = iso_dep.dark t
+
+    module _ (begin : L) (c : IsCardTag k card tag begin) (i0 : ReaderState) (commands : List (List ℕ)) (arrived : List Signal) (command : List ℕ) where
+      abbrev pub Stands : List Event → ReaderState → CardState → List Event → TagState → Stage Signal → Type 0
+      Stands es0 i t es held stage = StandsBy k card tag begin i0 commands arrived command es0 i t es held stage
+
+      abbrev pub On : Air L → Air L → ℕ → ReaderState → Stage Signal → Standing → Type 0
+      On old mid place i stage s = OnTag k card tag begin i0 commands arrived command old mid place i stage s
+
+      abbrev pub Lost : Air L → Air L → ℕ → Type 0
+      Lost old new place = LostTag k card tag begin i0 commands arrived command old new place
+
+      -- an exchange begins
+      pub begins_on : (old : Air L) (place : ℕ) → k.is_selected begin ≡ true → IsAlone k (k.identifier begin) old.listeners place begin
+          → length command ≤ limit → InStep i0 (card begin) → IsCut (card begin) commands arrived
+          → On old old place (begun i0 command) (Requests (block_frame (request (begun i0 command).core))) (Waits (begun i0 command) (block_frame (request (begun i0 command).core)) [])
+      begins_on old place selected alone short s cut =
+          record {
+            frames = [];
+            asked = tt;
+            alone = alone;
+            selected = selected;
+            lit = refl;
+            dim = λ e. refl;
+            along =
+                starts_along iso_dep commands command (keeps (card begin).most command) (2 * pieces i0.core.most command) TagState (Obeys (k.commands begin)) arrived old.trace (tag begin)
+                  (beginning i0 (card begin) commands arrived command)
+                  ( 2 * pieces i0.core.most command
+                  , law.asks refl refl (asking_first i0 (card begin) command short s) (omega arith)
+                  , record { once = sym (append-nil commands); reply = tt; stood = cut; bound = omega arith } )
+                  refl refl refl refl;
+            notes = [];
+            going = going_start (quiet_air k.machine) (iso_next i0 (command ∷ [])) (moment old);
+            stands = refl;
+          }
+
+      -- the frame that is sent is one that a reader sends
+      frame_asked : (es0 es : List Event) (i : ReaderState) (t : CardState) (held : TagState) (f : Signal) → Stands es0 i t es held (Requests f) → IsAsked f
+      frame_asked es0 es i t held f a =
+          let j = subst (λ (x : Stage Signal). J iso_dep commands command (keeps (card begin).most command) (2 * pieces i0.core.most command) a.world x) a.stage_is a.inv in
+          asked_frame (card begin).most command a.world.asking a.world.answering a.world.given f j.0 j.1
+
+      module _ (old mid : Air L) (place : ℕ) (i : ReaderState) (f : Signal) (o : On old mid place i (Requests f) (Waits i f [])) where
+        abbrev last : L
+        last = reached k begin o.frames
+
+        is_asked : IsAsked f
+        is_asked = frame_asked old.trace mid.trace i (card last) (tag last) f o.along
+
+        last_tag : IsCardTag k card tag last
+        last_tag = stays_card_tag begin o.frames o.asked c
+
+        own_same : k.identifier last ≡ k.identifier begin
+        own_same = (reached_same begin o.frames).1
+
+        last_alone : IsAlone k (k.identifier last) mid.listeners place last
+        last_alone = subst (λ (own : List ℕ). IsAlone k own mid.listeners place last) (sym own_same) o.alone
+
+        -- nobody asks anything of a far end
+        pub quiet_on : EachQuiet k.machine f mid.listeners
+        quiet_on = quiet_asked k laws card tag mid place last f last_alone last_tag is_asked
+
+        due : iso_next i0 (command ∷ []) o.notes ≡ Asks f
+        due = ap due_at o.stands
+
+        module _ {F : Type 0} (far far' : F) (new : Air L) (h : Option Heard) (q : QuietTurn k.machine mid f far h new far') where
+          turn : CardTurn k laws card tag mid new place last f h
+          turn = card_turn k laws card tag mid place last f last_alone last_tag is_asked far far' new h q
+
+          onward : Onward iso_dep commands command (keeps (card begin).most command) (2 * pieces i0.core.most command) TagState (Obeys (k.commands begin)) arrived old.trace (tag begin) i h (card turn.left) new.trace turn.held
+          onward =
+              goes_along iso_dep commands command (keeps (card begin).most command) (2 * pieces i0.core.most command) TagState (Obeys (k.commands begin)) arrived old.trace (tag begin)
+                i (card last) (card turn.left) mid.trace new.trace (tag last) turn.held f h o.along
+                (subst (λ (g : TagState → Signal → TagStep). IsTurn iso_dep TagState IsShort (Obeys g) (card last) mid.trace (tag last) f h (card turn.left) new.trace turn.held) (c.same o.frames o.asked) turn.turn)
+
+          going_on : Going (quiet_air k.machine) (iso_next i0 (command ∷ [])) (moment old) (moment new) (o.notes ++ note h ∷ [])
+          going_on = going_turn (quiet_air k.machine) (iso_next i0 (command ∷ [])) (moment old) (moment mid) (moment new) f h o.notes o.going due (quiet_turns_to k.machine mid new f far far' h q)
+
+          stands_then : stand (asks i0 (command ∷ [])) (o.notes ++ note h ∷ []) ≡ noted (Waits i f []) (note h)
+          stands_then = stand_on (asks i0 (command ∷ [])) o.notes (note h) ∙ ap (λ (s : Standing). noted s (note h)) o.stands
+
+          alone_left : IsAlone k (k.identifier begin) new.listeners place turn.left
+          alone_left = subst (λ (own : List ℕ). IsAlone k own new.listeners place turn.left) own_same turn.alone
+
+      -- what the asking end heard is what was heard
+      heard_next : (es0 es : List Event) (i : ReaderState) (t : CardState) (held : TagState) (h : Heard) (z : Option (Hears Signal)) → Some h ≡ heard_in z
+          → Stands es0 (next_asking iso_dep commands command (keeps (card begin).most command) (2 * pieces i0.core.most command) i z) t es held
+              (next_stage iso_dep commands command (keeps (card begin).most command) (2 * pieces i0.core.most command) i z)
+          → Stands es0 (reader_table i h).state t es held (stage_of (reader_does (reader_table i h).does))
+      heard_next es0 es i t held h None e a = absurd (cc)
+      heard_next es0 es i t held h (Some z) e a =
+          let q : heard_of z ≡ h = cc in
+          subst (λ (x : Heard). Stands es0 (reader_table i x).state t es held (stage_of (reader_does (reader_table i x).does))) q a
+
+      heard_nothing : (es0 es : List Event) (i : ReaderState) (t : CardState) (held : TagState) (z : Option (Hears Signal)) → None ≡ heard_in z
+          → Stands es0 (next_asking iso_dep commands command (keeps (card begin).most command) (2 * pieces i0.core.most command) i z) t es held
+              (next_stage iso_dep commands command (keeps (card begin).most command) (2 * pieces i0.core.most command) i z)
+          → Stands es0 i t es held Dark
+      heard_nothing es0 es i t held None e a = a
+      heard_nothing es0 es i t held (Some z) e a = absurd (cc)
+
+      module _ (old mid : Air L) (place : ℕ) (i : ReaderState) (f : Signal) (o : On old mid place i (Requests f) (Waits i f [])) {F : Type 0} (far far' : F) (new : Air L) where
+        abbrev more_frames : List Signal
+        more_frames = o.frames ++ f ∷ []
+
+        more_asked : AllByRecursion IsAsked more_frames
+        more_asked = all_append IsAsked o.frames (f ∷ []) o.asked (is_asked old mid place i f o, tt)
+
+        reached_more : k.machine.after (reached k begin o.frames) f None ≡ reached k begin more_frames
+        reached_more = reached_twice begin o.frames (f ∷ [])
+
+        selected_more : k.is_selected (reached k begin more_frames) ≡ true
+        selected_more =
+            subst (λ (x : L). k.is_selected x ≡ true) reached_more ((last_tag old mid place i f o).steps [] tt f (is_asked old mid place i f o)).selected
+
+        -- a turn of which something was heard
+        module _ (h : Heard) (q : QuietTurn k.machine mid f far (Some h) new far') where
+          abbrev t : CardTurn k laws card tag mid new place (reached k begin o.frames) f (Some h)
+          t = turn old mid place i f o far far' new (Some h) q
+
+          n : Onward iso_dep commands command (keeps (card begin).most command) (2 * pieces i0.core.most command) TagState (Obeys (k.commands begin)) arrived old.trace (tag begin) i (Some h) (card t.left) new.trace t.held
+          n = onward old mid place i f o far far' new (Some h) q
+
+          abbrev Next_on : Type 0
+          Next_on = On old new place (reader_table i h).state (stage_of (reader_does (reader_table i h).does)) (goes_by (reader_table i h).state (reader_table i h).does [])
+
+          on_left : (fs : List Signal) → AllByRecursion IsAsked fs → t.left ≡ reached k begin fs → k.is_selected (reached k begin fs) ≡ true → tag t.left ≡ t.held → new.lit ≡ true → Next_on
+          on_left fs a e s held lit =
+              record {
+                frames = fs;
+                asked = a;
+                alone = subst (λ (x : L). IsAlone k (k.identifier begin) new.listeners place x) e (alone_left old mid place i f o far far' new (Some h) q);
+                selected = s;
+                lit = lit ∙ sym q.lit ∙ o.lit;
+                dim = λ d. absurd (cc);
+                along =
+                    (let b = heard_next old.trace new.trace i (card t.left) t.held h n.hears n.heard_is n.along in
+                     subst (λ (x : L). Stands old.trace (reader_table i h).state (card x) new.trace (tag x) (stage_of (reader_does (reader_table i h).does))) e
+                       (subst (λ (z : TagState). Stands old.trace (reader_table i h).state (card t.left) new.trace z (stage_of (reader_does (reader_table i h).does))) (sym held) b));
+                notes = o.notes ++ note (Some h) ∷ [];
+                going = going_on old mid place i f o far far' new (Some h) q;
+                stands = stands_then old mid place i f o far far' new (Some h) q;
+              }
+
+          by_left : (t.left ≡ reached k begin o.frames) ⊎ (t.left ≡ k.machine.after (reached k begin o.frames) f None) → tag t.left ≡ t.held → new.lit ≡ true → Next_on
+          by_left (inl e) held lit = on_left o.frames o.asked e o.selected held lit
+          by_left (inr e) held lit = on_left more_frames more_asked (e ∙ reached_more) selected_more held lit
+
+          pub turn_on : Next_on
+          turn_on = by_left t.is.0 t.is.1 t.is.2
+
+        -- a turn that lost the field
+        module _ (q : QuietTurn k.machine mid f far None new far') where
+          abbrev t0 : CardTurn k laws card tag mid new place (reached k begin o.frames) f None
+          t0 = turn old mid place i f o far far' new None q
+
+          n0 : Onward iso_dep commands command (keeps (card begin).most command) (2 * pieces i0.core.most command) TagState (Obeys (k.commands begin)) arrived old.trace (tag begin) i None (card t0.left) new.trace t0.held
+          n0 = onward old mid place i f o far far' new None q
+
+          lost_left : (was : L) (fs : List Signal) → AllByRecursion IsAsked fs → was ≡ reached k begin fs → t0.left ≡ k.machine.darkened was → tag was ≡ t0.held → new.lit ≡ false → Lost old new place
+          lost_left was fs a e d held lit =
+              record {
+                frames = fs;
+                asked = a;
+                left = t0.left;
+                alone = alone_left old mid place i f o far far' new None q;
+                darkened = d ∙ ap k.machine.darkened e;
+                dark = lit;
+                reader = i;
+                along =
+                    (let b = heard_nothing old.trace new.trace i (card t0.left) t0.held n0.hears n0.heard_is n0.along in
+                     subst (λ (z : TagState). Stands old.trace i (card t0.left) new.trace z Dark) (sym held ∙ ap tag e) b);
+                notes = o.notes ++ note None ∷ [];
+                going = going_on old mid place i f o far far' new None q;
+                stands = stands_then old mid place i f o far far' new None q;
+              }
+
+          lost_by : (was : L) → (was ≡ reached k begin o.frames) ⊎ (was ≡ k.machine.after (reached k begin o.frames) f None) → t0.left ≡ k.machine.darkened was → tag was ≡ t0.held → new.lit ≡ false → Lost old new place
+          lost_by was (inl e) d held lit = lost_left was o.frames o.asked e d held lit
+          lost_by was (inr e) d held lit = lost_left was more_frames more_asked (e ∙ reached_more) d held lit
+
+          pub turn_lost : Lost old new place
+          turn_lost = lost_by t0.is.0 t0.is.2 t0.is.1 t0.is.3 t0.is.4
+
+      -- what is known of the exchange, wherever the loop stands
+      abbrev pub OnceAlong : World ReaderState CardState Signal → Type 0
+      OnceAlong w =
+          Once iso_dep (IsReady iso_dep command (keeps (card begin).most command)) (λ g. Unit {0}) commands command (pieces i0.core.most command) (pieces (card begin).most) w
+
+      pub once_along : (es0 es : List Event) (i : ReaderState) (t : CardState) (held : TagState) (stage : Stage Signal) (a : Stands es0 i t es held stage) → OnceAlong a.world
+      once_along es0 es i t held stage a =
+          kept_once iso_dep commands command (keeps (card begin).most command) (λ g. Unit {0}) (pieces i0.core.most command) (pieces (card begin).most) (λ r. refl) a.world a.inv
+
+      abbrev pub asked_by : (old new : Air L) (place : ℕ) (i : ReaderState) (t : CardState) (held : TagState) (stage : Stage Signal) (a : Stands old.trace i t new.trace held stage)
+          → (g : Option (List ℕ)) → a.world.given ≡ g → IsAfter k card tag new place begin held → (notes : List Note)
+          → Going (quiet_air k.machine) (iso_next i0 (command ∷ [])) (moment old) (moment new) notes → (s : Standing) → stand (asks i0 (command ∷ [])) notes ≡ s
+          → Asked k card tag old new place begin i0 commands arrived command g s
+      asked_by old new place i t held stage a g e after notes going s stands =
+          let o : OnceAlong a.world = once_along old.trace new.trace i t held stage a in
+          record {
+            held = held;
+            after = after;
+            given_by = subst (λ (x : Option (List ℕ)). GivenBy (Obeys (k.commands begin)) (tag begin) command x held) e a.given;
+            events = a.added;
+            trace = a.events;
+            obeyed = ap (λ (fs : List Signal). iso_commands (blocks_of fs)) a.arrives ∙ o.brings ∙ o.once ∙ ap (λ (x : Option (List ℕ)). commands ++ delivered_of command x) e;
+            within =
+                (let w : a.world.sent ≤ 2 * (pieces i0.core.most command + pieces_back (pieces (card begin).most) g - 1) + 4 * a.world.bads =
+                     subst (λ (x : Option (List ℕ)). a.world.sent ≤ 2 * (pieces i0.core.most command + pieces_back (pieces (card begin).most) x - 1) + 4 * a.world.bads) e o.within in
+                 rw (a.sent, a.bads) w);
+            notes = notes;
+            going = going;
+            stands = stands;
+          }
+
+      after_on : (old mid : Air L) (place : ℕ) (i : ReaderState) (stage : Stage Signal) (s : Standing) (o : On old mid place i stage s) → mid.lit ≡ true
+          → IsAfter k card tag mid place begin (tag (reached k begin o.frames))
+      after_on old mid place i stage s o lit =
+          record { frames = o.frames; asked = o.asked; left = reached k begin o.frames; alone = o.alone; holds = refl; is = inl (lit, refl) }
+
+      -- the command is under way in a lit field, or was broken off there
+      pub on_asked : (old mid : Air L) (place : ℕ) (i : ReaderState) (stage : Stage Signal) (s : Standing) (o : On old mid place i stage s) → mid.lit ≡ true
+          → Asked k card tag old mid place begin i0 commands arrived command o.along.world.given s
+      on_asked old mid place i stage s o lit =
+          asked_by old mid place i (card (reached k begin o.frames)) (tag (reached k begin o.frames)) stage o.along o.along.world.given refl (after_on old mid place i stage s o lit) o.notes o.going s o.stands
+
+      pub lost_asked : (old new : Air L) (place : ℕ) (o : Lost old new place) → Asked k card tag old new place begin i0 commands arrived command o.along.world.given (Broken FieldLost)
+      lost_asked old new place o =
+          asked_by old new place o.reader (card o.left) (tag (reached k begin o.frames)) Dark o.along o.along.world.given refl
+            (record { frames = o.frames; asked = o.asked; left = o.left; alone = o.alone; holds = refl; is = inr (o.dark, o.darkened) }) o.notes o.going (Broken FieldLost) o.stands
+
+      -- an exchange that ended, by what its end tells
+      ending_along : (es0 es : List Event) (i : ReaderState) (t : CardState) (held : TagState) (stage : Stage Signal) (a : Stands es0 i t es held stage)
+          → IsEnding (IsReady iso_dep command (keeps (card begin).most command)) a.world stage
+      ending_along es0 es i t held stage a =
+          subst (λ (s : Stage Signal). IsEnding (IsReady iso_dep command (keeps (card begin).most command)) a.world s) a.stage_is (once_along es0 es i t held stage a).ending
+
+      pub never_protocol : (old mid : Air L) (place : ℕ) (i : ReaderState) (s : Standing) → On old mid place i (Over Protocol) s → ⊥
+      never_protocol old mid place i s o = ending_along old.trace mid.trace i (card (reached k begin o.frames)) (tag (reached k begin o.frames)) (Over Protocol) o.along
+
+      -- the whole answer was heard
+      pub answered_asked : (old new : Air L) (place : ℕ) (i : ReaderState) (r : List ℕ) (s : Standing) (o : On old new place i (Over (Finished r)) s) → new.lit ≡ true
+          → (a : Asked k card tag old new place begin i0 commands arrived command (Some r) s) × HasCardTag k card tag new place i (commands ++ command ∷ []) (arrived ++ turns.arrived a.events)
+      answered_asked old new place i r s o lit =
+          let l : L = reached k begin o.frames in
+          let e = ending_along old.trace new.trace i (card l) (tag l) (Over (Finished r)) o.along in
+          let once : OnceAlong o.along.world = once_along old.trace new.trace i (card l) (tag l) (Over (Finished r)) o.along in
+          let did : o.along.world.delivered ≡ commands ++ command ∷ [] = once.once ∙ ap (λ (x : Option (List ℕ)). commands ++ delivered_of command x) e.0 in
+          let P : ReaderState → CardState → Type 0 = λ x y. InStep x y in
+          let Q : CardState → List (List ℕ) → List Signal → Type 0 = IsCut in
+          ( asked_by old new place i (card l) (tag l) (Over (Finished r)) o.along (Some r) e.0 (after_on old new place i (Over (Finished r)) s o lit) o.notes o.going s o.stands
+          , record {
+              listener = l;
+              selected = o.selected;
+              alone = subst (λ (own : List ℕ). IsAlone k own new.listeners place l) (sym (reached_same begin o.frames).1) o.alone;
+              is = stays_card_tag begin o.frames o.asked c;
+              step = subst (λ (x : ReaderState). P x (card l)) o.along.asking (subst (λ (y : CardState). P o.along.world.asking y) o.along.answering e.1.0);
+              cut =
+                  subst (λ (fs : List Signal). Q (card l) (commands ++ command ∷ []) fs) (sym o.along.arrives)
+                    (subst (λ (cs : List (List ℕ)). Q (card l) cs o.along.world.arrived) did
+                      (subst (λ (y : CardState). Q y o.along.world.delivered o.along.world.arrived) o.along.answering e.1.1));
+            } )
