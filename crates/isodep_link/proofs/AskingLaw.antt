@@ -1,5 +1,5 @@
 -- A reader that asks a command of a Type 4 tag keeps the law of the exchange, turn by turn.
-use Rattle.std.proofs.Common.{◌≡◌, ℕ, ◌+◌, ◌-◌, ◌*◌, ◌<◌, ◌≤◌, ◌⊎◌, inl, inr, List, [], ◌∷◌, ◌++◌, length, Bool, true, false, if◌then◌else◌, Option, Some, None, refl, sym, ◌∙◌, ap, subst, arith, append_assoc, append-nil}
+use Rattle.std.proofs.Common.{◌≡◌, ℕ, ◌+◌, ◌-◌, ◌*◌, ◌<◌, ◌≤◌, ◌⊎◌, inl, inr, List, [], ◌∷◌, ◌++◌, length, Bool, true, false, if◌then◌else◌, Option, Some, None, Result, Ok, Err, refl, sym, ◌∙◌, ap, subst, arith, append_assoc, append-nil}
 use Rattle.std.specs.List.{AllByRecursion}
 use Rattle.nfc_base.specs.Signal.{Signal, whole_a}
 use Rattle.nfc_base.specs.TagLinks.{TagState, TagStep}
@@ -10,27 +10,31 @@ use Rattle.nfc_base.proofs.ExactlyOnce.{IsReady, kept_once}
 use Rattle.nfc_base.specs.declared.event.Event.{Event}
 use Rattle.nfc_base.specs.declared.event.Heard.{Heard}
 use Rattle.nfc_base.specs.declared.tag_link.AskFault.TheVariants.{FieldLost}
+use Rattle.nfc_base.specs.declared.tag_link.AskFault.TheVariants as ask
+use Rattle.air_core.specs.declared.fault.AirFault.TheVariants as air
 use Rattle.nfc_base.proofs.Leading.{all_append}
 use Rattle.nfc_base.proofs.LinkTurns.{J, Along, Onward, goes_along, starts_along, next_asking, next_stage}
 use Rattle.air_core.specs.World.{quiet_air}
-use Rattle.air_core.specs.Turn.{Air, moment}
+use Rattle.air_core.specs.Turn.{Air, moment, TurnIs, Transmits}
 use Rattle.air_core.specs.Turning.{going_start, going_turn}
 use Rattle.air_core.specs.Conversation.{Note, note, Going, Next, Asks, TurnsTo}
 use Rattle.air_core.specs.Quiet.{EachQuiet, QuietTurn}
 use Rattle.air_core.specs.PlainTags.{reached, IsAlone}
 use Rattle.air_core.specs.declared.listener.Listener.{Ghosts}
 use Rattle.air_core.proofs.PlainAside.{Laws}
-use Rattle.air_core.proofs.Quiet.{quiet_turns_to}
+use Rattle.air_core.proofs.Quiet.{quiet_turns_to, quiet_turn, quiet_transmits}
 use Rattle.isodep_link.specs.declared.block.Block.{Block}
 use Rattle.isodep_link.specs.declared.block.Block.TheVariants.{Info, Ack, Nak, Deselect}
 use Rattle.isodep_link.specs.Blocks.{IsBlock, block_frame, piece}
 use Rattle.isodep_link.specs.Sizes.{limit}
 use Rattle.isodep_link.specs.Card.{CardState}
-use Rattle.isodep_link.specs.Reader.{Core, ReaderState, reader_table, request, begun}
+use Rattle.isodep_link.specs.declared.reader.ReaderStep.{ReaderStep}
+use Rattle.isodep_link.specs.declared.reader.ReaderStep.TheVariants as step
+use Rattle.isodep_link.specs.Reader.{Core, ReaderState, ReaderTurn, reader_table, request, begun}
 use Rattle.isodep_link.specs.Commands.{iso_commands}
 use Rattle.isodep_link.specs.Exchange.{iso_dep, blocks_of, pieces, reader_does, beginning, InStep, IsCut}
 use Rattle.isodep_link.specs.CardTags.{IsAsked, IsAskedBlock, Obeys, IsShort, StepsByCard, IsCardTag}
-use Rattle.isodep_link.specs.Asking.{Standing, Waits, Rests, Broken, Astray, asks, goes_by, noted, stand, due_at, iso_next, HasCardTag, IsAfter, Asked}
+use Rattle.isodep_link.specs.Asking.{Standing, Waits, Rests, Broken, Astray, asks, goes_by, noted, stand, due_at, iso_next, HasCardTag, IsAfter, Asked, EndsBy}
 use Rattle.isodep_link.proofs.Wire.{is_piece}
 use Rattle.isodep_link.proofs.Standing as law
 use Rattle.isodep_link.proofs.Obeyed.{keeps, asking_first}
@@ -383,3 +387,72 @@ module _ {L : Type 0} (k : Ghosts L) (laws : Laws k) where
                     (subst (λ (cs : List (List ℕ)). Q (card l) cs o.along.world.arrived) did
                       (subst (λ (y : CardState). Q y o.along.world.delivered o.along.world.arrived) o.along.answering e.1.1));
             } )
+
+-- one command, from the reader's first block to its end
+module _ {L : Type 0} (k : Ghosts L) (laws : Laws k) (card : L → CardState) (tag : L → TagState) (old : Air L) (place : ℕ) (i0 : ReaderState) (command : List ℕ) (commands : List (List ℕ)) (arrived : List Signal)
+    (t : HasCardTag k card tag old place i0 commands arrived) where
+  abbrev pub Here : Air L → ReaderState → Stage Signal → Standing → Type 0
+  Here mid i stage s = OnTag k card tag t.listener i0 commands arrived command old mid place i stage s
+
+  pub first_here : length command ≤ limit → (i : ReaderState) (f : Signal) → i ≡ begun i0 command → f ≡ block_frame (request (begun i0 command).core)
+      → Here old i (Requests f) (Waits i f [])
+  first_here short i f e d =
+      let b : ReaderState = begun i0 command in
+      subst (λ (x : ReaderState). Here old x (Requests f) (Waits x f [])) (sym e)
+        (subst (λ (g : Signal). Here old b (Requests g) (Waits b g [])) (sym d)
+          (begins_on k laws card tag t.listener t.is i0 commands arrived command old place t.selected t.alone short t.step t.cut))
+
+  module _ (mid : Air L) (i : ReaderState) (f : Signal) (o : Here mid i (Requests f) (Waits i f [])) {F : Type 0} (restarts : F → List ℕ → F → Type 0) (steps : F → List ℕ → List ℕ → F → Type 0)
+      (far far' : F) (new : Air L) where
+    quiet_here : EachQuiet k.machine f mid.listeners
+    quiet_here = quiet_on k laws card tag t.listener t.is i0 commands arrived command old mid place i f o
+
+    -- the reader goes on by what it heard
+    pub next_here : (h : Heard) → TurnIs k.machine restarts steps mid f far (Some h) new far' → (i' : ReaderState) (d : ReaderStep)
+        → (let x : ReaderTurn = record { state = i'; does = d } in x) ≡ reader_table i h → Here new i' (stage_of (reader_does d)) (goes_by i' d [])
+    next_here h turn i' d e =
+        subst (λ (x : ReaderTurn). Here new x.state (stage_of (reader_does x.does)) (goes_by x.state x.does [])) (sym e)
+          (turn_on k laws card tag t.listener t.is i0 commands arrived command old mid place i f o far far' new h (quiet_turn k.machine restarts steps mid f far (Some h) new far' quiet_here turn))
+
+    lit_here : (h : Heard) → TurnIs k.machine restarts steps mid f far (Some h) new far' → new.lit ≡ old.lit → new.lit ≡ true
+    lit_here h turn e = e ∙ sym o.lit ∙ turn.lit
+
+    -- the answer came
+    pub ends_answered : (h : Heard) → TurnIs k.machine restarts steps mid f far (Some h) new far' → (i' : ReaderState) (r : List ℕ)
+        → (let x : ReaderTurn = record { state = i'; does = step.Finished (record { items = r }) } in x) ≡ reader_table i h → (answer : Signal) → answer ≡ whole_a r
+        → EndsBy k card tag old new place t.listener i0 i' commands arrived command (Ok answer)
+    ends_answered h turn i' r e answer w =
+        let n = next_here h turn i' (step.Finished (record { items = r })) e in
+        let lit = lit_here h turn n.lit in
+        let a = answered_asked k laws card tag t.listener t.is i0 commands arrived command old new place i' r (Rests i') n lit in
+        (r, a.0, w, lit, a.1)
+
+    pub ends_six : (h : Heard) → TurnIs k.machine restarts steps mid f far (Some h) new far' → (i' : ReaderState)
+        → (let x : ReaderTurn = record { state = i'; does = step.SixBad } in x) ≡ reader_table i h → EndsBy k card tag old new place t.listener i0 i' commands arrived command (Err ask.SixBad)
+    ends_six h turn i' e =
+        let n = next_here h turn i' step.SixBad e in
+        let lit = lit_here h turn n.lit in
+        (n.along.world.given, Broken ask.SixBad, on_asked k laws card tag t.listener t.is i0 commands arrived command old new place i' (Over SixBad) (Broken ask.SixBad) n lit, (refl, lit))
+
+    pub ends_never : (h : Heard) → TurnIs k.machine restarts steps mid f far (Some h) new far' → (i' : ReaderState)
+        → (let x : ReaderTurn = record { state = i'; does = step.Protocol } in x) ≡ reader_table i h → ⊥
+    ends_never h turn i' e =
+        never_protocol k laws card tag t.listener t.is i0 commands arrived command old new place i' (Broken ask.Protocol) (next_here h turn i' step.Protocol e)
+
+    module _ (stops : F → List ℕ → F → Type 0) (is_stuck : F → Bool) where
+      -- the field was dark, or was lost
+      pub ends_lost : (i' : ReaderState) → Transmits k.machine restarts steps stops is_stuck mid f far (Err air.FieldLost) new far'
+          → EndsBy k card tag old new place t.listener i0 i' commands arrived command (Err ask.FieldLost)
+      ends_lost i' (inl d) = inl (sym o.lit ∙ d.0, d.1 ∙ o.dim d.0)
+      ends_lost i' (inr turn) =
+          let l = turn_lost k laws card tag t.listener t.is i0 commands arrived command old mid place i f o far far' new (quiet_turn k.machine restarts steps mid f far None new far' quiet_here turn) in
+          inr (l.along.world.given, Broken ask.FieldLost, lost_asked k laws card tag t.listener t.is i0 commands arrived command old new place l, (refl, l.dark))
+
+      -- nothing more could be noted
+      pub ends_stopped : Transmits k.machine restarts steps stops is_stuck mid f far (Err air.Memory) new far'
+          → EndsBy k card tag old new place t.listener i0 i commands arrived command (Err ask.Memory)
+      ends_stopped turn =
+          let q = quiet_transmits k.machine restarts steps stops is_stuck mid f far (Err air.Memory) new far' quiet_here turn in
+          let P : Air L → Type 0 = λ a. EndsBy k card tag old a place t.listener i0 i commands arrived command (Err ask.Memory) in
+          subst P (sym q.1)
+            (o.along.world.given, Waits i f [], on_asked k laws card tag t.listener t.is i0 commands arrived command old mid place i (Requests f) (Waits i f []) o q.0, (f, refl, o.lit))

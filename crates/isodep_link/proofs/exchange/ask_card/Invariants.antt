@@ -8,8 +8,8 @@ use Rattle.isodep_link.proofs.exchange.ask_card.Given as goal
 
 abbrev pub invariant-loop-heard : goal.invariant-loop-heard
 invariant-loop-heard g l = record {
-  goes : (commands : List (List ℕ)) (arrived : List Signal) (t : HasCardTag g.L.Listener g.L.card g.L.tag l.fn.field l.place l.fn.reader commands arrived)
-      → OnTag g.L.Listener g.L.card g.L.tag t.listener l.fn.reader commands arrived l.command.bytes l.fn.field l.field l.place l.reader (Requests l.frame) (Waits l.reader l.frame []);
+  goes : (commands : List (List ℕ)) (arrived : List Signal) (t : HasCardTag g.L.Listener g.L.CardListener.card g.L.CardListener.tag l.fn.field l.place l.fn.reader commands arrived)
+      → OnTag g.L.Listener g.L.CardListener.card g.L.CardListener.tag t.listener l.fn.reader commands arrived l.command.bytes l.fn.field l.field l.place l.reader (Requests l.frame) (Waits l.reader l.frame []);
 }
 
 abbrev pub decreases-loop-heard : goal.decreases-loop-heard
