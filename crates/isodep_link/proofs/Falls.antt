@@ -126,3 +126,9 @@ pub falls_at : (i : ReaderState) (h : Heard) (f : Signal) → 0 < i.core.most �
 falls_at i h f p e =
     let s = sent_block (block_next i (reception h)).does f e in
     falls_in i i.phase (reception h) p s.0 s.1
+
+-- the same, by what a step has told
+pub falls_by : (i i' : ReaderState) (h : Heard) (f : Signal) → 0 < i.core.most → (let x : ReaderTurn = record { state = i'; does = steps.Send f } in x) ≡ reader_table i h
+    → left_to_do i' < left_to_do i
+falls_by i i' h f p e =
+    subst (λ (x : ReaderState). left_to_do x < left_to_do i) (sym (ap (λ (x : ReaderTurn). x.state) e)) (falls_at i h f p (sym (ap (λ (x : ReaderTurn). x.does) e)))
