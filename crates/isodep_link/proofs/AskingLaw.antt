@@ -1,14 +1,21 @@
 -- A reader that asks a command of a Type 4 tag keeps the law of the exchange, turn by turn.
-use Rattle.std.proofs.Common.{◌≡◌, ℕ, ◌+◌, ◌-◌, ◌*◌, ◌<◌, ◌≤◌, ◌⊎◌, inl, inr, List, [], ◌∷◌, ◌++◌, length, Bool, true, false, if◌then◌else◌, Option, Some, None, Result, Ok, Err, refl, sym, ◌∙◌, ap, subst, arith, append_assoc, append-nil}
+use Rattle.std.proofs.Common.{◌≡◌, ℕ, zero, suc, ◌+◌, ◌-◌, ◌*◌, ◌<◌, ◌≤◌, ◌⊎◌, inl, inr, List, [], ◌∷◌, ◌++◌, length, Bool, true, false, if◌then◌else◌, Option, Some, None, Result, Ok, Err, refl, sym, ◌∙◌, ap, subst, arith, append_assoc, append-nil}
 use Rattle.std.specs.List.{AllByRecursion}
 use Rattle.nfc_base.specs.Signal.{Signal, whole_a}
 use Rattle.nfc_base.specs.TagLinks.{TagState, TagStep}
-use Rattle.nfc_base.specs.StopAndWait.{Hears, Whole, Damaged, Silent, Finished, SixBad, Protocol, Stage, Requests, Answers, Over, Dark, stage_of, World, Once, IsEnding, delivered_of, pieces_back}
-use Rattle.nfc_base.specs.LinkTurns.{heard_of, heard_in, IsTurn, GivenBy}
+use Rattle.nfc_base.specs.Trace.{noise}
+use Rattle.nfc_base.specs.StopAndWait.{Does, Quiet, Reply, Deliver, Hears, Whole, Damaged, Silent, Finished, SixBad, Protocol, Stage, Requests, Answers, Over, Dark, stage_of, World, Once, IsEnding, delivered_of, pieces_back}
+use Rattle.nfc_base.specs.LinkTurns.{heard_of, heard_in, settled, IsTurn, GivenBy}
 use Rattle.nfc_base.specs.LinkTurns as turns
 use Rattle.nfc_base.proofs.ExactlyOnce.{IsReady, kept_once}
 use Rattle.nfc_base.specs.declared.event.Event.{Event}
 use Rattle.nfc_base.specs.declared.event.Heard.{Heard}
+use Rattle.nfc_base.specs.declared.event.Heard.TheVariants as heards
+use Rattle.std.proofs.lemmas.List.{append_cancel_left}
+use Rattle.air_core.proofs.PlainTurns.{noise_append}
+use Rattle.isodep_link.specs.declared.reader.Phase.TheVariants as phases
+use Rattle.isodep_link.proofs.Landing.{speaks_at}
+use Rattle.isodep_link.proofs.Ended.{whole_not_six}
 use Rattle.nfc_base.specs.declared.tag_link.AskFault.TheVariants.{FieldLost}
 use Rattle.nfc_base.specs.declared.tag_link.AskFault.TheVariants as ask
 use Rattle.air_core.specs.declared.fault.AirFault.TheVariants as air
@@ -63,6 +70,32 @@ asked_frame m out i t g f n (law.draws p e h b) = subst IsAsked (sym e) (request
 asked_frame m out i t g f n (law.draws_again p e d h) = let x = held_number m out i.core t g n h in subst IsAsked (sym e) (request_asked i.core x.0 x.1)
 asked_frame m out i t g f n (law.naks p e h b) = record { block = Nak i.core.number; asked = h.number; frame = e }
 asked_frame m out i t g f n (law.naks_held p e d h) = record { block = Nak i.core.number; asked = (held_number m out i.core t g n h).0; frame = e }
+
+live_of : (m : ℕ) (out : List ℕ) (i : ReaderState) (t : CardState) (g : Option (List ℕ)) (f : Signal) (n : ℕ) → law.Ask m out i t g f n → (i.phase ≡ phases.Asked) ⊎ (i.phase ≡ phases.Nacked)
+live_of m out i t g f n (law.asks p e h b) = inl p
+live_of m out i t g f n (law.draws p e h b) = inl p
+live_of m out i t g f n (law.draws_again p e d h) = inl p
+live_of m out i t g f n (law.naks p e h b) = inr p
+live_of m out i t g f n (law.naks_held p e d h) = inr p
+
+-- an answering end that isn't quiet says something
+says_some : (r : List ℕ) (t : CardState) (d : Does Signal) → (settled iso_dep r t d).answer ≡ None → d ≡ Quiet
+says_some r t Quiet e = refl
+says_some r t (Reply a) e = absurd (cc)
+says_some r t (Deliver p) e = absurd (cc)
+
+positive : (n : ℕ) → (n ≡ 0 → ⊥) → 0 < n
+positive zero p = absurd (p refl)
+positive (suc n) p = omega arith
+
+-- what didn't pass in a turn didn't pass in all of them
+noise_later : (base xs ys zs : List Event) (mid new : List Event) → mid ≡ base ++ xs → new ≡ mid ++ ys → new ≡ base ++ zs → 0 < noise ys → 0 < noise zs
+noise_later base xs ys zs mid new e1 e2 e3 h =
+    let q : base ++ zs ≡ base ++ (xs ++ ys) = sym e3 ∙ e2 ∙ ap (λ (es : List Event). es ++ ys) e1 ∙ append_assoc base xs ys in
+    let same : zs ≡ xs ++ ys = append_cancel_left base zs (xs ++ ys) q in
+    let sum : noise (xs ++ ys) ≡ noise xs + noise ys = noise_append xs ys in
+    let all : noise zs ≡ noise (xs ++ ys) = ap noise same in
+    omega (arith, sum, all, h)
 
 module _ {L : Type 0} (k : Ghosts L) (card : L → CardState) (tag : L → TagState) (begin : L) (i0 : ReaderState) (commands : List (List ℕ)) (arrived : List Signal) (command : List ℕ) where
   -- how the exchange stands
@@ -206,6 +239,31 @@ module _ {L : Type 0} (k : Ghosts L) (laws : Laws k) where
           stands_then : stand (asks i0 (command ∷ [])) (o.notes ++ note h ∷ []) ≡ noted (Waits i f []) (note h)
           stands_then = stand_on (asks i0 (command ∷ [])) o.notes (note h) ∙ ap (λ (s : Standing). noted s (note h)) o.stands
 
+          -- the card says something
+          speaks : k.machine.answer last f None ≡ None → ⊥
+          speaks e =
+              let j = subst (λ (x : Stage Signal). J iso_dep commands command (keeps (card begin).most command) (2 * pieces i0.core.most command) o.along.world x) o.along.stage_is o.along.inv in
+              let s : StepsByCard k card tag last f = last_tag.steps [] tt f is_asked in
+              let d : iso_dep.does (card last) f ≡ Quiet = says_some s.reply (iso_dep.heard (card last) f) (iso_dep.does (card last) f) (sym s.answer ∙ e) in
+              speaks_at (card begin).most command o.along.world.asking o.along.world.answering o.along.world.given f j.0 j.1 (subst (λ (x : CardState). iso_dep.does x f ≡ Quiet) (sym o.along.answering) d)
+
+          live : (i.phase ≡ phases.Asked) ⊎ (i.phase ≡ phases.Nacked)
+          live =
+              let j = subst (λ (x : Stage Signal). J iso_dep commands command (keeps (card begin).most command) (2 * pieces i0.core.most command) o.along.world x) o.along.stage_is o.along.inv in
+              subst (λ (x : ReaderState). (x.phase ≡ phases.Asked) ⊎ (x.phase ≡ phases.Nacked)) o.along.asking
+                (live_of (card begin).most command o.along.world.asking o.along.world.answering o.along.world.given f j.0 j.1)
+
+          calm_or : (noise turn.added ≡ 0 → (k.machine.answer last f None ≡ None) ⊎ ((g : Signal) × (h ≡ Some (heards.Whole g)))) → ((g : Signal) → h ≡ Some (heards.Whole g) → ⊥) → 0 < noise turn.added
+          calm_or calm never = positive (noise turn.added) (λ z. go (calm z))
+            where
+              go : (k.machine.answer last f None ≡ None) ⊎ ((g : Signal) × (h ≡ Some (heards.Whole g))) → ⊥
+              go (inl e) = speaks e
+              go (inr (g, e)) = never g e
+
+          -- where no whole frame is heard something didn't pass, since the reader's trace began
+          pub noisy : ((g : Signal) → h ≡ Some (heards.Whole g) → ⊥) → (zs : List Event) → new.trace ≡ old.trace ++ zs → 0 < noise zs
+          noisy never zs e = noise_later old.trace o.along.added turn.added zs mid.trace new.trace o.along.events turn.trace e (calm_or turn.calm never)
+
           alone_left : IsAlone k (k.identifier begin) new.listeners place turn.left
           alone_left = subst (λ (own : List ℕ). IsAlone k own new.listeners place turn.left) own_same turn.alone
 
@@ -340,18 +398,18 @@ module _ {L : Type 0} (k : Ghosts L) (laws : Laws k) where
             stands = stands;
           }
 
-      after_on : (old mid : Air L) (place : ℕ) (i : ReaderState) (stage : Stage Signal) (s : Standing) (o : On old mid place i stage s) → mid.lit ≡ true
+      pub after_on : (old mid : Air L) (place : ℕ) (i : ReaderState) (stage : Stage Signal) (s : Standing) (o : On old mid place i stage s) → mid.lit ≡ true
           → IsAfter k card tag mid place begin (tag (reached k begin o.frames))
       after_on old mid place i stage s o lit =
           record { frames = o.frames; asked = o.asked; left = reached k begin o.frames; alone = o.alone; holds = refl; is = inl (lit, refl) }
 
       -- the command is under way in a lit field, or was broken off there
-      pub on_asked : (old mid : Air L) (place : ℕ) (i : ReaderState) (stage : Stage Signal) (s : Standing) (o : On old mid place i stage s) → mid.lit ≡ true
+      abbrev pub on_asked : (old mid : Air L) (place : ℕ) (i : ReaderState) (stage : Stage Signal) (s : Standing) (o : On old mid place i stage s) → mid.lit ≡ true
           → Asked k card tag old mid place begin i0 commands arrived command o.along.world.given s
       on_asked old mid place i stage s o lit =
           asked_by old mid place i (card (reached k begin o.frames)) (tag (reached k begin o.frames)) stage o.along o.along.world.given refl (after_on old mid place i stage s o lit) o.notes o.going s o.stands
 
-      pub lost_asked : (old new : Air L) (place : ℕ) (o : Lost old new place) → Asked k card tag old new place begin i0 commands arrived command o.along.world.given (Broken FieldLost)
+      abbrev pub lost_asked : (old new : Air L) (place : ℕ) (o : Lost old new place) → Asked k card tag old new place begin i0 commands arrived command o.along.world.given (Broken FieldLost)
       lost_asked old new place o =
           asked_by old new place o.reader (card o.left) (tag (reached k begin o.frames)) Dark o.along o.along.world.given refl
             (record { frames = o.frames; asked = o.asked; left = o.left; alone = o.alone; holds = refl; is = inr (o.dark, o.darkened) }) o.notes o.going (Broken FieldLost) o.stands
@@ -417,6 +475,20 @@ module _ {L : Type 0} (k : Ghosts L) (laws : Laws k) (card : L → CardState) (t
     lit_here : (h : Heard) → TurnIs k.machine restarts steps mid f far (Some h) new far' → new.lit ≡ old.lit → new.lit ≡ true
     lit_here h turn e = e ∙ sym o.lit ∙ turn.lit
 
+    six_noisy : (h : Heard) → TurnIs k.machine restarts steps mid f far (Some h) new far' → (i' : ReaderState)
+        → (let x : ReaderTurn = record { state = i'; does = step.SixBad } in x) ≡ reader_table i h → (zs : List Event) → new.trace ≡ old.trace ++ zs → 0 < noise zs
+    six_noisy h turn i' e zs z =
+        noisy k laws card tag t.listener t.is i0 commands arrived command old mid place i f o far far' new (Some h) (quiet_turn k.machine restarts steps mid f far (Some h) new far' quiet_here turn)
+          (λ g q. let w : h ≡ heards.Whole g = cc in
+             whole_not_six i g (live k laws card tag t.listener t.is i0 commands arrived command old mid place i f o far far' new (Some h) (quiet_turn k.machine restarts steps mid f far (Some h) new far' quiet_here turn))
+               (ap (λ x. (reader_table i x).does) (sym w) ∙ sym (ap (λ (x : ReaderTurn). x.does) e)))
+          zs z
+
+    lost_noisy : TurnIs k.machine restarts steps mid f far None new far' → (zs : List Event) → new.trace ≡ old.trace ++ zs → 0 < noise zs
+    lost_noisy turn zs z =
+        noisy k laws card tag t.listener t.is i0 commands arrived command old mid place i f o far far' new None (quiet_turn k.machine restarts steps mid f far None new far' quiet_here turn)
+          (λ g q. absurd (cc)) zs z
+
     -- the answer came
     pub ends_answered : (h : Heard) → TurnIs k.machine restarts steps mid f far (Some h) new far' → (i' : ReaderState) (r : List ℕ)
         → (let x : ReaderTurn = record { state = i'; does = step.Finished (record { items = r }) } in x) ≡ reader_table i h → (answer : Signal) → answer ≡ whole_a r
@@ -432,7 +504,7 @@ module _ {L : Type 0} (k : Ghosts L) (laws : Laws k) (card : L → CardState) (t
     ends_six h turn i' e =
         let n = next_here h turn i' step.SixBad e in
         let lit = lit_here h turn n.lit in
-        (n.along.world.given, Broken ask.SixBad, on_asked k laws card tag t.listener t.is i0 commands arrived command old new place i' (Over SixBad) (Broken ask.SixBad) n lit, (refl, lit))
+        (n.along.world.given, Broken ask.SixBad, on_asked k laws card tag t.listener t.is i0 commands arrived command old new place i' (Over SixBad) (Broken ask.SixBad) n lit, (refl, lit, six_noisy h turn i' e n.along.added n.along.events))
 
     pub ends_never : (h : Heard) → TurnIs k.machine restarts steps mid f far (Some h) new far' → (i' : ReaderState)
         → (let x : ReaderTurn = record { state = i'; does = step.Protocol } in x) ≡ reader_table i h → ⊥
@@ -446,7 +518,7 @@ module _ {L : Type 0} (k : Ghosts L) (laws : Laws k) (card : L → CardState) (t
       ends_lost i' (inl d) = inl (sym o.lit ∙ d.0, d.1 ∙ o.dim d.0)
       ends_lost i' (inr turn) =
           let l = turn_lost k laws card tag t.listener t.is i0 commands arrived command old mid place i f o far far' new (quiet_turn k.machine restarts steps mid f far None new far' quiet_here turn) in
-          inr (l.along.world.given, Broken ask.FieldLost, lost_asked k laws card tag t.listener t.is i0 commands arrived command old new place l, (refl, l.dark))
+          inr (l.along.world.given, Broken ask.FieldLost, lost_asked k laws card tag t.listener t.is i0 commands arrived command old new place l, (refl, l.dark, lost_noisy turn l.along.added l.along.events))
 
       -- nothing more could be noted
       pub ends_stopped : Transmits k.machine restarts steps stops is_stuck mid f far (Err air.Memory) new far'

@@ -8,6 +8,8 @@ use Rattle.nfc_base.specs.declared.event.Event.TheVariants.{Request, Answer}
 use Rattle.nfc_base.specs.declared.event.Fate.{Fate}
 use Rattle.nfc_base.specs.declared.event.Fate.TheVariants.{Pass, Damage, Lose, Break}
 use Rattle.nfc_base.specs.declared.event.Heard.{Heard}
+use Rattle.nfc_base.specs.declared.event.Heard.TheVariants as heards
+use Rattle.nfc_base.specs.Trace.{noise}
 use Rattle.nfc_base.specs.Signal.{Signal, whole_a}
 use Rattle.nfc_base.specs.Far.{Untouched}
 use Rattle.nfc_base.specs.TagLinks.{TagState}
@@ -139,6 +141,9 @@ module _ {L : Type 0} (k : Ghosts L) (laws : Laws k) (card : L → CardState) (t
     pub held : TagState
     pub turn : IsTurn iso_dep TagState IsShort (Obeys (k.commands l)) (card l) old.trace (tag l) f h (card left) new.trace held
     pub is : IsLeft l f held new.lit h left
+    pub added : List Event
+    pub trace : new.trace ≡ old.trace ++ added
+    pub calm : noise added ≡ 0 → (k.machine.answer l f None ≡ None) ⊎ ((g : Signal) × (h ≡ Some (heards.Whole g)))
 
   left_is : (l : L) (f : Signal) (lit : Bool) (x y : Fate) (q : Option Signal) → lit ≡ true → (w : World L) → w.lit ≡ lit
       → IsLeft l f (met l f x) (replay (quiet_air k.machine) w (tag_events f x y q)).lit (tag_heard x y q) (left_by l f x y q)
@@ -150,6 +155,22 @@ module _ {L : Type 0} (k : Ghosts L) (laws : Laws k) (card : L → CardState) (t
   left_is l f lit Damage y q e w i = (inl refl, refl, i ∙ e)
   left_is l f lit Lose y q e w i = (inl refl, refl, i ∙ e)
   left_is l f lit Break y q e w i = (l, refl, inl refl, refl, refl)
+
+  -- where all passes, nothing is said or that is heard
+  calm_events : (f : Signal) (x y : Fate) (q : Option Signal) → noise (tag_events f x y q) ≡ 0 → (q ≡ None) ⊎ ((g : Signal) × (tag_heard x y q ≡ Some (heards.Whole g)))
+  calm_events f Pass y None e = inl refl
+  calm_events f Pass Pass (Some g) e = inr (g, refl)
+  calm_events f Pass Damage (Some g) e = absurd (omega (arith, e))
+  calm_events f Pass Lose (Some g) e = absurd (omega (arith, e))
+  calm_events f Pass Break (Some g) e = absurd (omega (arith, e))
+  calm_events f Damage y q e = absurd (omega (arith, e))
+  calm_events f Lose y q e = absurd (omega (arith, e))
+  calm_events f Break y q e = absurd (omega (arith, e))
+
+  calm_is : (a : Option Signal) (x y : Fate) (o : Option Signal) (h : Option Heard) → a ≡ o → h ≡ tag_heard x y o → (o ≡ None) ⊎ ((g : Signal) × (tag_heard x y o ≡ Some (heards.Whole g)))
+      → (a ≡ None) ⊎ ((g : Signal) × (h ≡ Some (heards.Whole g)))
+  calm_is a x y o h e t (inl n) = inl (e ∙ n)
+  calm_is a x y o h e t (inr (g, n)) = inr (g, t ∙ n)
 
   -- the reader's frame is an NFC-A frame of whole bytes
   whole_asked : (f : Signal) → IsAsked f → f ≡ whole_a f.bytes
@@ -205,4 +226,7 @@ module _ {L : Type 0} (k : Ghosts L) (laws : Laws k) (card : L → CardState) (t
                subst P (sym after)
                  (subst (λ (z : Option Heard). IsLeft l f (met l f x) (replay (quiet_air k.machine) (world old) (tag_events f x y o)).lit z (left_by l f x y o)) (sym told)
                    (left_is l f old.lit x y o q.lit (world old) refl)));
+          added = tag_events f x y o;
+          trace = q.trace ∙ ap (λ (es : List Event). old.trace ++ es) events;
+          calm = λ z. calm_is (k.machine.answer l f None) x y o h s.answer told (calm_events f x y o z);
         }

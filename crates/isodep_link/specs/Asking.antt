@@ -1,8 +1,9 @@
 -- What a reader asks of a Type 4 tag, by what it has heard (NFC Forum Digital Protocol), and what one command does there.
-use Rattle.std.specs.Prelude.{◌≡◌, ◌⊎◌, ℕ, ◌+◌, ◌-◌, ◌*◌, ◌≤◌, List, [], ◌∷◌, ◌++◌, length, Bool, true, false, Option, Some, None, Result, Ok, Err}
+use Rattle.std.specs.Prelude.{◌≡◌, ◌⊎◌, ℕ, ◌+◌, ◌-◌, ◌*◌, ◌<◌, ◌≤◌, List, [], ◌∷◌, ◌++◌, length, Bool, true, false, Option, Some, None, Result, Ok, Err}
 use Rattle.std.specs.List.{AllByRecursion}
 use Rattle.nfc_base.specs.Signal.{Signal, whole_a}
 use Rattle.nfc_base.specs.TagLinks.{TagState}
+use Rattle.nfc_base.specs.Trace.{noise}
 use Rattle.nfc_base.specs.StopAndWait.{delivered_of, pieces_back}
 use Rattle.nfc_base.specs.LinkTurns.{GivenBy, bad_receptions}
 use Rattle.nfc_base.specs.LinkTurns as turns
@@ -100,21 +101,22 @@ module _ {L : Type 0} (k : Ghosts L) (card : L → CardState) (tag : L → TagSt
     pub stands : stand (asks i (command ∷ [])) notes ≡ s
 
   -- the command is under way, or was broken off
-  abbrev pub UnderWay : Air L → Air L → ℕ → L → ReaderState → List (List ℕ) → List Signal → List ℕ → (Standing → Type 0) → Type 0
+  abbrev pub UnderWay : Air L → Air L → ℕ → L → ReaderState → List (List ℕ) → List Signal → List ℕ → (Standing → List Event → Type 0) → Type 0
   UnderWay old new place begin i commands arrived command P =
-      (given : Option (List ℕ)) × (s : Standing) × Asked old new place begin i commands arrived command given s × P s
+      (given : Option (List ℕ)) × (s : Standing) × (a : Asked old new place begin i commands arrived command given s) × P s a.events
 
-  -- How one command ends. An answer leaves the tag ready for the next.
+  -- How one command ends. An answer leaves the tag ready for the next; a field that is lost, and six bad receptions, have a
+  -- transmission that didn't pass.
   abbrev pub EndsBy : Air L → Air L → ℕ → L → ReaderState → ReaderState → List (List ℕ) → List Signal → List ℕ → Result Signal AskFault → Type 0
   EndsBy old new place begin i i' commands arrived command (Ok answer) =
       (r : List ℕ) × (a : Asked old new place begin i commands arrived command (Some r) (Rests i')) × (answer ≡ whole_a r) × (new.lit ≡ true)
         × HasCardTag new place i' (commands ++ command ∷ []) (arrived ++ turns.arrived a.events)
   EndsBy old new place begin i i' commands arrived command (Err FieldLost) =
-      ((old.lit ≡ false) × (new ≡ old)) ⊎ UnderWay old new place begin i commands arrived command (λ s. (s ≡ Broken FieldLost) × (new.lit ≡ false))
+      ((old.lit ≡ false) × (new ≡ old)) ⊎ UnderWay old new place begin i commands arrived command (λ s es. (s ≡ Broken FieldLost) × (new.lit ≡ false) × (0 < noise es))
   EndsBy old new place begin i i' commands arrived command (Err SixBad) =
-      UnderWay old new place begin i commands arrived command (λ s. (s ≡ Broken SixBad) × (new.lit ≡ true))
+      UnderWay old new place begin i commands arrived command (λ s es. (s ≡ Broken SixBad) × (new.lit ≡ true) × (0 < noise es))
   EndsBy old new place begin i i' commands arrived command (Err Memory) =
-      UnderWay old new place begin i commands arrived command (λ s. (f : Signal) × (s ≡ Waits i' f []) × (new.lit ≡ old.lit))
+      UnderWay old new place begin i commands arrived command (λ s es. (f : Signal) × (s ≡ Waits i' f []) × (new.lit ≡ old.lit))
   EndsBy old new place begin i i' commands arrived command (Err Protocol) = ⊥
 
   -- what a reader that asks one command of the tag at a place does, whatever was asked before
