@@ -136,7 +136,7 @@ module _ {L : Type 0} (k : Ghosts L) (laws : Laws k) where
   reached_twice l [] gs = refl
   reached_twice l (f ∷ fs) gs = reached_twice (k.machine.after l f None) fs gs
 
-  reached_same : (l : L) (fs : List Signal) → (k.machine.tech (reached k l fs) ≡ k.machine.tech l) × (k.identifier (reached k l fs) ≡ k.identifier l)
+  pub reached_same : (l : L) (fs : List Signal) → (k.machine.tech (reached k l fs) ≡ k.machine.tech l) × (k.identifier (reached k l fs) ≡ k.identifier l)
   reached_same l [] = (refl, refl)
   reached_same l (f ∷ fs) =
       let e = reached_same (k.machine.after l f None) fs in

@@ -11,3 +11,4 @@ pub mod Session
 pub mod CardTurns
 pub mod AskingLaw
 pub mod Falls
+pub mod IsoViews

@@ -8,3 +8,4 @@ pub mod Sessions
 pub mod CardTags
 pub mod Asking
 pub mod Falling
+pub mod IsoLinks
