@@ -67,3 +67,128 @@ module _ {L : Type 0} (k : Ghosts L) (laws : Laws k) (card : L → CardState) (t
         let S : (TagState → Signal → TagStep) → TagState = λ g. opened_by g (store_of k card tag before) (plain_state (store_of k card tag before)) cs in
         let T : List ℕ → TagState = λ s. opened_by (k.commands l) s (plain_state s) cs in
         ap S (was k.commands _) ∙ ap T (was k.store [] ∙ r.has.is.holds [] tt ∙ ap (λ (s : TagState). s.store) r.holds) ∙ r.replays cs ∙ sym r.holds
+
+    -- a command was asked
+    module _ (new : Air L) (told' : ℕ) (i' : ReaderState) (last' : Option Signal) (over' : Option AskFault) (c : Signal) (may : c ≡ whole_a c.bytes) (g : Option (List ℕ)) (s : Standing)
+        (w : Asked k card tag old new place l i (commands_of (since k card tag before)) (arrived (since k card tag before)) c.bytes g s) where
+      abbrev pub behind : IsoSeen L
+      behind = record { air = new; place = place; start = start; told = told'; reader = i'; last = last'; over = over' }
+
+      abbrev left : L
+      left = w.after.left
+
+      now : {B : Type 0} (g : L → B) (d : B) → at_place g d new.listeners place ≡ g left
+      now g d = place_is k g d (k.identifier l) new.listeners place left w.after.alone
+
+      abbrev IsLeft : Type 0
+      IsLeft = ((new.lit ≡ true) × (left ≡ reached k l w.after.frames)) ⊎ ((new.lit ≡ false) × (left ≡ k.machine.darkened (reached k l w.after.frames)))
+
+      left_commands : IsLeft → k.commands left ≡ k.commands l
+      left_commands (inl e) = ap k.commands e.1 ∙ r.has.is.same w.after.frames w.after.asked
+      left_commands (inr e) = ap k.commands e.1 ∙ r.has.is.dark w.after.frames w.after.asked
+
+      left_identifier : IsLeft → k.identifier left ≡ k.identifier l
+      left_identifier (inl e) = ap k.identifier e.1 ∙ (reached_same k laws l w.after.frames).1
+      left_identifier (inr e) = ap k.identifier e.1 ∙ (laws.dark_keeps (reached k l w.after.frames)).1 ∙ (reached_same k laws l w.after.frames).1
+
+      reached_store : k.store (reached k l w.after.frames) ≡ w.held.store
+      reached_store = r.has.is.holds w.after.frames w.after.asked ∙ ap (λ (t : TagState). t.store) w.after.holds
+
+      left_store : IsLeft → k.store left ≡ w.held.store
+      left_store (inl e) = ap k.store e.1 ∙ reached_store
+      left_store (inr e) = ap k.store e.1 ∙ (laws.dark_keeps (reached k l w.after.frames)).2 ∙ reached_store
+
+      same_step : (iso_view k card tag behind).step ≡ (iso_view k card tag before).step
+      same_step = now k.commands _ ∙ left_commands w.after.is ∙ sym (was k.commands _)
+
+      since_new : drop start new.trace ≡ drop start old.trace ++ w.events
+      since_new = ap (drop start) w.trace ∙ drop-append-le start old.trace w.events r.start
+
+      pub shown_obeyed : (iso_view k card tag behind).obeyed ≡ (iso_view k card tag before).obeyed ++ handed c g
+      shown_obeyed =
+          ap obeyed_in since_new ∙ ap (λ fs. map whole_a (iso_commands (blocks_of fs))) (arrived_append (drop start old.trace) w.events) ∙ ap (map whole_a) w.obeyed
+            ∙ map-append whole_a (commands_of (drop start old.trace)) (delivered_of c.bytes g)
+
+      -- the step of the command where something was given
+      after_given : (o : Option (List ℕ)) (held : TagState) → GivenBy (tags.Obeys (k.commands l)) (tag l) c.bytes o held → held ≡ after_all (k.commands l) (tag l) (handed c o)
+      after_given None held h = h
+      after_given (Some x) held h = h.1
+
+      pub held_after : w.held ≡ after_all (k.commands l) (tag l) (handed c g)
+      held_after = after_given g w.held w.given_by
+
+      held_all : w.held ≡ after_all (k.commands l) (plain_state r.origin) (obeyed_in (since k card tag before) ++ handed c g)
+      held_all =
+          held_after ∙ ap (λ (t : TagState). after_all (k.commands l) t (handed c g)) r.holds
+            ∙ sym (after_append (k.commands l) (plain_state r.origin) (obeyed_in (since k card tag before)) (handed c g))
+
+      pub shown_held : (iso_view k card tag behind).state ≡ w.held
+      shown_held =
+          let cs : List Signal = obeyed_in (since k card tag before) ++ handed c g in
+          let S : (TagState → Signal → TagStep) → TagState = λ z. opened_by z (store_of k card tag behind) (plain_state (store_of k card tag behind)) (obeyed_in (since k card tag behind)) in
+          let T : List ℕ → TagState = λ z. opened_by (k.commands l) z (plain_state z) (obeyed_in (since k card tag behind)) in
+          let Z : List ℕ = (after_all (k.commands l) (plain_state r.origin) cs).store in
+          let U : List Signal → TagState = λ z. opened_by (k.commands l) Z (plain_state Z) z in
+          ap S (now k.commands _ ∙ left_commands w.after.is) ∙ ap T (now k.store [] ∙ left_store w.after.is ∙ ap (λ (t : TagState). t.store) held_all) ∙ ap U shown_obeyed ∙ r.replays cs ∙ sym held_all
+
+      leads : Leads (iso_view k card tag before) (iso_view k card tag behind) (handed c g)
+      leads = record {
+        kind = refl;
+        identifier = now k.identifier [] ∙ left_identifier w.after.is ∙ sym (was k.identifier []);
+        step = same_step;
+        obeyed = shown_obeyed;
+        state =
+            shown_held ∙ held_after ∙ ap (λ (t : TagState). after_all (k.commands l) t (handed c g)) (sym shown_state)
+              ∙ ap (λ (z : TagState → Signal → TagStep). after_all z (iso_view k card tag before).state (handed c g)) (sym (was k.commands _));
+      }
+
+      only_handed : (o : Option (List ℕ)) → AllByRecursion (λ d. d ≡ c) (handed c o)
+      only_handed None = tt
+      only_handed (Some x) = (sym may, tt)
+
+      same_handed : (o : Option (List ℕ)) (step : TagState → Signal → TagStep) (t : TagState) → AllByRecursion (λ z. z ≡ (step t c).after.store) (passed step t (handed c o))
+      same_handed None step t = tt
+      same_handed (Some x) step t = (ap (λ (d : Signal). (step t d).after.store) (sym may), tt)
+
+      most_handed : (o : Option (List ℕ)) → length (handed c o) ≤ 1
+      most_handed None = omega arith
+      most_handed (Some x) = omega arith
+
+      pub obeys : Obeys (iso_view k card tag before) (iso_view k card tag behind) c
+      obeys = record {
+        more = handed c g;
+        leads = leads;
+        steady = record {
+          only = only_handed g;
+          same = same_handed g (iso_view k card tag before).step (iso_view k card tag before).state;
+          most = λ e. most_handed g;
+        };
+      }
+
+      pub shown_noise : (iso_view k card tag behind).noise ≡ (iso_view k card tag before).noise + noise w.events
+      shown_noise = ap noise since_new ∙ noise_append (drop start old.trace) w.events
+
+      -- what the tag does with the command, as the link shows it
+      pub shown_step : (iso_view k card tag before).step (iso_view k card tag before).state c ≡ k.commands l (tag l) (whole_a c.bytes)
+      shown_step =
+          let S : TagState → TagStep = λ x. (iso_view k card tag before).step x c in
+          let T : (TagState → Signal → TagStep) → TagStep = λ z. z (tag l) c in
+          ap S shown_state ∙ ap T (was k.commands _) ∙ ap (λ (d : Signal). k.commands l (tag l) d) may
+
+      -- the tag is what it was before the command or after it
+      pub either_state : (o : Option (List ℕ)) → o ≡ g
+          → ((iso_view k card tag behind).state ≡ (iso_view k card tag before).state) ⊎ ((iso_view k card tag behind).state ≡ ((iso_view k card tag before).step (iso_view k card tag before).state c).after)
+      either_state None e = inl (shown_held ∙ held_after ∙ ap (λ (z : Option (List ℕ)). after_all (k.commands l) (tag l) (handed c z)) (sym e) ∙ sym shown_state)
+      either_state (Some x) e =
+          inr (shown_held ∙ held_after ∙ ap (λ (z : Option (List ℕ)). after_all (k.commands l) (tag l) (handed c z)) (sym e) ∙ sym (ap (λ (z : TagStep). z.after) shown_step))
+
+      -- what was answered before stays answered
+      pub still_answered : told ≤ length old.trace → obeyed_in (drop start (take told new.trace)) ≡ (iso_view k card tag before).answered
+      still_answered h = ap (λ (es : List Event). obeyed_in (drop start (take told es))) w.trace ∙ ap (λ (es : List Event). obeyed_in (drop start es)) (take-append-le told old.trace w.events h)
+
+      pub all_answered : obeyed_in (drop start (take (length new.trace) new.trace)) ≡ (iso_view k card tag behind).obeyed
+      all_answered = ap (λ (es : List Event). obeyed_in (drop start es)) (take_all (length new.trace) new.trace (omega arith))
+
+    -- before it all that was obeyed was answered
+    pub answered_before : (iso_view k card tag before).answered ≡ (iso_view k card tag before).obeyed
+    answered_before = ap (λ (es : List Event). obeyed_in (drop start es)) (take_all told old.trace (let e = r.told in omega (arith, e)))
