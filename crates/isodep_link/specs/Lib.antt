@@ -9,3 +9,4 @@ pub mod CardTags
 pub mod Asking
 pub mod Falling
 pub mod IsoLinks
+pub mod IsoMoving
