@@ -101,7 +101,7 @@ module _ {L : Type 0} (k : Ghosts L) (laws : Laws k) (card : L → CardState) (t
       same_step : (iso_view k card tag behind).step ≡ (iso_view k card tag before).step
       same_step = now k.commands _ ∙ left_commands w.after.is ∙ sym (was k.commands _)
 
-      since_new : drop start new.trace ≡ drop start old.trace ++ w.events
+      pub since_new : drop start new.trace ≡ drop start old.trace ++ w.events
       since_new = ap (drop start) w.trace ∙ drop-append-le start old.trace w.events r.start
 
       pub shown_obeyed : (iso_view k card tag behind).obeyed ≡ (iso_view k card tag before).obeyed ++ handed c g
@@ -117,7 +117,7 @@ module _ {L : Type 0} (k : Ghosts L) (laws : Laws k) (card : L → CardState) (t
       pub held_after : w.held ≡ after_all (k.commands l) (tag l) (handed c g)
       held_after = after_given g w.held w.given_by
 
-      held_all : w.held ≡ after_all (k.commands l) (plain_state r.origin) (obeyed_in (since k card tag before) ++ handed c g)
+      pub held_all : w.held ≡ after_all (k.commands l) (plain_state r.origin) (obeyed_in (since k card tag before) ++ handed c g)
       held_all =
           held_after ∙ ap (λ (t : TagState). after_all (k.commands l) t (handed c g)) r.holds
             ∙ sym (after_append (k.commands l) (plain_state r.origin) (obeyed_in (since k card tag before)) (handed c g))

@@ -12,3 +12,4 @@ pub mod CardTurns
 pub mod AskingLaw
 pub mod Falls
 pub mod IsoViews
+pub mod IsoAnswers
