@@ -8,6 +8,7 @@
 mod block;
 mod card;
 mod exchange;
+mod link;
 mod listener;
 mod reader;
 mod size;
@@ -16,5 +17,6 @@ mod tests;
 
 pub use card::{CardEnd, CardStep};
 pub use exchange::ask_card;
+pub use link::IsoLink;
 pub use listener::CardListener;
 pub use reader::{ReaderEnd, ReaderStep};
