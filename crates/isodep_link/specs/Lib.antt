@@ -10,3 +10,4 @@ pub mod Asking
 pub mod Falling
 pub mod IsoLinks
 pub mod IsoMoving
+pub mod Activating

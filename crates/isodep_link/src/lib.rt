@@ -5,6 +5,7 @@
 //! tables a call. None of it takes memory.
 #![tactic(auto)]
 
+mod activate;
 mod block;
 mod card;
 mod exchange;
@@ -15,6 +16,7 @@ mod size;
 #[cfg(test)]
 mod tests;
 
+pub use activate::activate_card;
 pub use card::{CardEnd, CardStep};
 pub use exchange::ask_card;
 pub use link::IsoLink;
