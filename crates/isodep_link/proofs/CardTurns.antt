@@ -32,13 +32,13 @@ use Rattle.isodep_link.specs.CardTags.{IsAsked, IsAskedBlock, Obeys, IsShort, St
 
 module _ {L : Type 0} (k : Ghosts L) (laws : Laws k) (card : L → CardState) (tag : L → TagState) where
   -- what the listener is after a turn
-  abbrev back_left : L → Fate → L
+  abbrev pub back_left : L → Fate → L
   back_left l Pass = l
   back_left l Damage = l
   back_left l Lose = l
   back_left l Break = k.machine.darkened l
 
-  abbrev left_by : L → Signal → Fate → Fate → Option Signal → L
+  abbrev pub left_by : L → Signal → Fate → Fate → Option Signal → L
   left_by l f Pass y None = k.machine.after l f None
   left_by l f Pass y (Some g) = back_left (k.machine.after l f None) y
   left_by l f Damage y o = l
@@ -57,7 +57,7 @@ module _ {L : Type 0} (k : Ghosts L) (laws : Laws k) (card : L → CardState) (t
     stepped_alone : IsAlone k own (map (λ x. stepped_by k.machine x f None) w.listeners) place (k.machine.after l f None)
     stepped_alone = let P : L → Type 0 = IsAlone k own (map (λ x. stepped_by k.machine x f None) w.listeners) place in subst P e (alone_steps k laws own f all w.listeners place l a)
 
-    alone_after : (x y : Fate) (o : Option Signal) → IsAlone k own (replay (quiet_air k.machine) w (tag_events f x y o)).listeners place (left_by l f x y o)
+    pub alone_after : (x y : Fate) (o : Option Signal) → IsAlone k own (replay (quiet_air k.machine) w (tag_events f x y o)).listeners place (left_by l f x y o)
     alone_after Pass y None = stepped_alone
     alone_after Pass Pass (Some g) = stepped_alone
     alone_after Pass Damage (Some g) = stepped_alone

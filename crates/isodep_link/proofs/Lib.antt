@@ -13,3 +13,4 @@ pub mod AskingLaw
 pub mod Falls
 pub mod IsoViews
 pub mod IsoAnswers
+pub mod ActivateLaw

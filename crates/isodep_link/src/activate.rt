@@ -50,7 +50,10 @@ pub fn activate_card<L: CardListener>(field: &mut Field<L>, place: usize) -> Res
         match field.transmit(&request, &mut far) {
             Ok(heard) => {
                 if let Heard::Whole(answer) = heard {
-                    return ats_code(&answer).ok_or(AskFault::Protocol);
+                    return match ats_code(&answer) {
+                        Some(code) => Ok(code),
+                        None => Err(AskFault::Protocol),
+                    };
                 }
                 bad += 1;
             }
