@@ -23,7 +23,8 @@ use Rattle.air_core.proofs.PlainTurns.{noise_append}
 use Rattle.isodep_link.specs.Card.{CardState}
 use Rattle.isodep_link.specs.Reader.{ReaderState}
 use Rattle.isodep_link.specs.Commands.{iso_commands}
-use Rattle.isodep_link.specs.Exchange.{blocks_of}
+use Rattle.isodep_link.specs.Exchange.{blocks_of, IsCut}
+use Rattle.isodep_link.specs.Activating.{IsActivated}
 use Rattle.isodep_link.specs.CardTags as tags
 use Rattle.isodep_link.specs.Asking.{Standing, HasCardTag, IsAfter, Asked}
 use Rattle.isodep_link.specs.IsoLinks.{IsoSeen, commands_of, obeyed_in, opened_by, Replays, since, step_of, store_of, iso_view, IsIsoReady}
@@ -192,3 +193,29 @@ module _ {L : Type 0} (k : Ghosts L) (laws : Laws k) (card : L → CardState) (t
     -- before it all that was obeyed was answered
     pub answered_before : (iso_view k card tag before).answered ≡ (iso_view k card tag before).obeyed
     answered_before = ap (λ (es : List Event). obeyed_in (drop start es)) (take_all told old.trace (let e = r.told in omega (arith, e)))
+
+no_more : (xs : List Event) → drop (length xs) xs ≡ []
+no_more [] = refl
+no_more (x ∷ xs) = no_more xs
+
+-- a link that is made where a tag was activated is ready
+pub ready_on : {L : Type 0} (k : Ghosts L) (card : L → CardState) (tag : L → TagState) (air : Air L) (place : ℕ) (i : ReaderState) → IsActivated k card tag air place i
+    → IsIsoReady k card tag (record { air = air; place = place; start = length air.trace; told = length air.trace; reader = i; last = None; over = None })
+ready_on k card tag air place i a =
+    let none : drop (length air.trace) air.trace ≡ [] = no_more air.trace in
+    let Q : List Event → Type 0 = λ es. IsCut (card a.has.listener) (commands_of es) (arrived es) in
+    record {
+      start = omega arith;
+      told = refl;
+      has = record {
+        listener = a.has.listener;
+        selected = a.has.selected;
+        alone = a.has.alone;
+        is = a.has.is;
+        step = a.has.step;
+        cut = subst Q (sym none) a.has.cut;
+      };
+      origin = a.origin;
+      holds = a.holds ∙ ap (λ (es : List Event). after_all (k.commands a.has.listener) (plain_state a.origin) (obeyed_in es)) (sym none);
+      replays = a.replays;
+    }

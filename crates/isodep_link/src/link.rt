@@ -1,5 +1,10 @@
 //! A link to a Type 4 tag.
 
+ghost use Rattle.std.specs.Prelude.{◌≡◌, length, IfOk, IfErr, None};
+ghost use Rattle.isodep_link.specs.Reader.{waiting};
+ghost use Rattle.isodep_link.specs.Activating.{IsActivated};
+ghost use Rattle.isodep_link.specs.IsoLinks.{IsIsoReady};
+
 use crate::exchange::ask_card;
 use crate::listener::CardListener;
 use crate::reader::ReaderEnd;
@@ -18,6 +23,29 @@ pub struct IsoLink<'a, L> {
     told: usize,
     last: Option<Frame>,
     over: Option<AskFault>,
+}
+
+impl<'a, L: CardListener> IsoLink<'a, L> {
+    /// A link to the tag at a place, which was activated and told this size code.
+    pub fn on(field: &'a mut Field<L>, place: usize, code: u8) -> IsoLink<'a, L>
+        requires tag { IsActivated L.Listener L.card L.tag field.old place (waiting code) }
+        ensures same { result.field.ghost_name ≡ field.entry.ghost_name }
+        ensures field { result.field.now ≡ field.old }
+        ensures fresh { (result.place ≡ place) × (result.start ≡ length field.old.trace) × (result.told ≡ length field.old.trace) × (result.last ≡ None) × (result.over ≡ None) }
+        ensures reader { result.reader ≡ waiting code }
+        ensures ready { IsIsoReady L.Listener L.card L.tag (record { air = field.old; place = place; start = length field.old.trace; told = length field.old.trace; reader = waiting code; last = None; over = None }) }
+    {
+        let start = field.trace().len();
+        IsoLink {
+            field,
+            place,
+            reader: ReaderEnd::new(code),
+            start,
+            told: start,
+            last: None,
+            over: None,
+        }
+    }
 }
 
 impl<'a, L: CardListener> TagLink for IsoLink<'a, L> {
