@@ -1,8 +1,7 @@
 -- The wait of RATS at a Type 4 tag that nothing was asked of, turn by turn.
-use Rattle.std.proofs.Common.{◌≡◌, ℕ, zero, suc, ◌+◌, ◌%◌, ◌<◌, ◌≤◌, ◌==◌, ◌⊎◌, inl, inr, List, [], ◌∷◌, ◌++◌, length, Bool, true, false, if◌then◌else◌, Option, Some, None, Result, Ok, Err, refl, sym, ◌∙◌, ap, subst, arith}
+use Rattle.std.proofs.Common.{◌≡◌, ℕ, suc, ◌<◌, ◌≤◌, inl, inr, List, [], ◌∷◌, ◌++◌, Bool, true, false, if◌then◌else◌, Option, Some, None, Ok, Err, refl, sym, ◌∙◌, ap, subst, arith}
 use Rattle.std.specs.List.{filter_map, cons_option}
 use Rattle.nfc_base.specs.declared.frame.Tech.TheVariants.{A}
-use Rattle.nfc_base.specs.declared.event.Event.{Event}
 use Rattle.nfc_base.specs.declared.event.Fate.{Fate}
 use Rattle.nfc_base.specs.declared.event.Fate.TheVariants.{Pass, Damage, Lose, Break}
 use Rattle.nfc_base.specs.declared.event.Heard.{Heard}
@@ -14,7 +13,7 @@ use Rattle.nfc_base.specs.TagLinks.{TagState}
 use Rattle.air_core.specs.declared.fault.AirFault.TheVariants as air
 use Rattle.air_core.specs.Joint.{joint, same_tech}
 use Rattle.air_core.specs.World.{World, hears, answered_by, stepped_by, quiet_air}
-use Rattle.air_core.specs.Conversation.{Asks, note, replay, turn_events, first_fate, later_fates}
+use Rattle.air_core.specs.Conversation.{note, replay, turn_events, first_fate, later_fates}
 use Rattle.air_core.specs.Turn.{Air, world, moment, TurnIs, Transmits}
 use Rattle.air_core.specs.Turning.{going_start, going_turn}
 use Rattle.air_core.specs.Quiet.{EachQuiet, QuietTurn}
@@ -28,11 +27,10 @@ use Rattle.air_core.proofs.PlainAside.{Laws, IsUnmoved, aside_silent, alone_quie
 use Rattle.air_core.proofs.PlainTurns.{one, joint_one, tag_events, tag_heard, turn_events_as, heard_as, asking_bad}
 use Rattle.air_core.proofs.PlainViews.{heard_same}
 use Rattle.isodep_link.specs.Sizes.{ats_frame, most_code}
-use Rattle.isodep_link.specs.Card.{CardState, fresh, activated}
-use Rattle.isodep_link.specs.Reader.{ReaderState, waiting}
+use Rattle.isodep_link.specs.Card.{CardState}
+use Rattle.isodep_link.specs.Reader.{waiting}
 use Rattle.isodep_link.specs.Exchange.{InStep, IsCut}
-use Rattle.isodep_link.specs.Asking.{HasCardTag}
-use Rattle.isodep_link.specs.Activating.{reader_code, rats, ats_code, TakesRats, HasFreshTag, IsActivated, RatsSent, RatsEnds}
+use Rattle.isodep_link.specs.Activating.{reader_code, rats, ats_code, HasFreshTag, IsActivated, RatsSent, RatsEnds}
 use Rattle.isodep_link.proofs.Session.{ready_first}
 use Rattle.isodep_link.proofs.CardTurns.{left_by, alone_after}
 
@@ -90,7 +88,7 @@ module _ {L : Type 0} (k : Ghosts L) (laws : Laws k) (card : L → CardState) (t
     quiet_rats : EachQuiet k.machine rats mid.listeners
     quiet_rats =
         alone_quiet k laws (k.identifier l) rats (rats_aside (k.identifier l)) mid.listeners place now o.alone
-          (ap (λ v. if v then k.machine.handed now rats else Untouched) hears_rats ∙ t.takes.quiet o.heard)
+        (ap (λ v. if v then k.machine.handed now rats else Untouched) hears_rats ∙ t.takes.quiet o.heard)
 
     module _ {F : Type 0} (far far' : F) (new : Air L) where
       sent_on : (h : Option Heard) → QuietTurn k.machine mid rats far h new far' → (s : Standing) → stand bad (rats ∷ []) (note h ∷ []) ≡ s → RatsSent k card tag old new s
@@ -130,14 +128,14 @@ module _ {L : Type 0} (k : Ghosts L) (laws : Laws k) (card : L → CardState) (t
           let says : answered_by k.machine now rats None ≡ Some ats = ap (λ v. if v then k.machine.answer now rats None else None) hears_rats ∙ t.takes.answer o.heard in
           let steps : stepped_by k.machine now rats None ≡ k.machine.after now rats None = ap (λ v. if v then k.machine.after now rats None else now) hears_rats in
           let joins : joint (filter_map (λ z. answered_by k.machine z rats None) mid.listeners) ≡ one (Some ats) =
-              ap joint (alone_says k laws (k.identifier l) rats (rats_aside (k.identifier l)) mid.listeners place now o.alone) ∙ ap (λ z. joint (cons_option z [])) says ∙ joint_one (Some ats) in
+          ap joint (alone_says k laws (k.identifier l) rats (rats_aside (k.identifier l)) mid.listeners place now o.alone) ∙ ap (λ z. joint (cons_option z [])) says ∙ joint_one (Some ats) in
           let events : turn_events (quiet_air k.machine) (world mid) rats x y ≡ tag_events rats x y (Some ats) = turn_events_as k (world mid) rats x y (Some ats) joins in
           let after : world new ≡ replay (quiet_air k.machine) (world mid) (tag_events rats x y (Some ats)) = q.after ∙ ap (replay (quiet_air k.machine) (world mid)) events in
           let told : h ≡ tag_heard x y (Some ats) = heard_as k (world mid) rats x y (Some ats) h joins q.told in
           let P : World L → Type 0 = λ w. IsAlone k (k.identifier l) w.listeners place (left_by k laws card tag now rats x y (Some ats)) in
           subst (λ (z : Option Heard). After new bad z) (sym told)
-            (finish x y (subst (λ (z : Option Heard). QuietTurn k.machine mid rats far z new far') told q) (ap (λ (w : World L). w.lit) after)
-              (subst P (sym after) (alone_after k laws card tag (k.identifier l) rats (rats_aside (k.identifier l)) (world mid) place now o.alone steps x y (Some ats))))
+          (finish x y (subst (λ (z : Option Heard). QuietTurn k.machine mid rats far z new far') told q) (ap (λ (w : World L). w.lit) after)
+          (subst P (sym after) (alone_after k laws card tag (k.identifier l) rats (rats_aside (k.identifier l)) (world mid) place now o.alone steps x y (Some ats))))
 
     module _ {F : Type 0} (restarts : F → List ℕ → F → Type 0) (steps : F → List ℕ → List ℕ → F → Type 0) (far far' : F) (new : Air L) where
       pub after_rats : (h : Heard) → TurnIs k.machine restarts steps mid rats far (Some h) new far' → After new bad (Some h)
@@ -173,18 +171,18 @@ module _ {L : Type 0} (k : Ghosts L) (laws : Laws k) (card : L → CardState) (t
       let P : CardState → Type 0 = λ y. InStep (waiting t.takes.code) y in
       let Q : CardState → Type 0 = λ y. IsCut y [] [] in
       let ready : IsActivated k card tag new place (waiting t.takes.code) = record {
-            has = record {
-              listener = x;
-              selected = t.takes.selected n;
-              alone = subst (λ (i : List ℕ). IsAlone k i new.listeners place x) (sym own) alone;
-              is = t.takes.is n;
-              step = subst P (sym (t.takes.card_is n)) (ready_first t.takes.code reader_code).0;
-              cut = subst Q (sym (t.takes.card_is n)) refl;
-            };
-            origin = k.store l;
-            holds = t.takes.tag_is n;
-            replays = t.takes.replays n;
-          } in
+        has = record {
+          listener = x;
+          selected = t.takes.selected n;
+          alone = subst (λ (i : List ℕ). IsAlone k i new.listeners place x) (sym own) alone;
+          is = t.takes.is n;
+          step = subst P (sym (t.takes.card_is n)) (ready_first t.takes.code reader_code).0;
+          cut = subst Q (sym (t.takes.card_is n)) refl;
+        };
+        origin = k.store l;
+        holds = t.takes.tag_is n;
+        replays = t.takes.replays n;
+      } in
       (sent, lit, subst (λ (z : ℕ). IsActivated k card tag new place (waiting z)) (sym same) ready)
 
   -- own cards never answer RATS otherwise

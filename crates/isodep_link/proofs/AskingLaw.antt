@@ -1,10 +1,10 @@
 -- A reader that asks a command of a Type 4 tag keeps the law of the exchange, turn by turn.
-use Rattle.std.proofs.Common.{◌≡◌, ℕ, zero, suc, ◌+◌, ◌-◌, ◌*◌, ◌<◌, ◌≤◌, ◌⊎◌, inl, inr, List, [], ◌∷◌, ◌++◌, length, Bool, true, false, if◌then◌else◌, Option, Some, None, Result, Ok, Err, refl, sym, ◌∙◌, ap, subst, arith, append_assoc, append-nil}
+use Rattle.std.proofs.Common.{◌≡◌, ℕ, zero, suc, ◌+◌, ◌-◌, ◌*◌, ◌<◌, ◌≤◌, ◌⊎◌, inl, inr, List, [], ◌∷◌, ◌++◌, length, Bool, true, false, Option, Some, None, Ok, Err, refl, sym, ◌∙◌, ap, subst, arith, append_assoc, append-nil}
 use Rattle.std.specs.List.{AllByRecursion}
 use Rattle.nfc_base.specs.Signal.{Signal, whole_a}
 use Rattle.nfc_base.specs.TagLinks.{TagState, TagStep}
 use Rattle.nfc_base.specs.Trace.{noise}
-use Rattle.nfc_base.specs.StopAndWait.{Does, Quiet, Reply, Deliver, Hears, Whole, Damaged, Silent, Finished, SixBad, Protocol, Stage, Requests, Answers, Over, Dark, stage_of, World, Once, IsEnding, delivered_of, pieces_back}
+use Rattle.nfc_base.specs.StopAndWait.{Does, Quiet, Reply, Deliver, Hears, Finished, SixBad, Protocol, Stage, Requests, Over, Dark, stage_of, World, Once, IsEnding, delivered_of, pieces_back}
 use Rattle.nfc_base.specs.LinkTurns.{heard_of, heard_in, settled, IsTurn, GivenBy}
 use Rattle.nfc_base.specs.LinkTurns as turns
 use Rattle.nfc_base.proofs.ExactlyOnce.{IsReady, kept_once}
@@ -24,15 +24,14 @@ use Rattle.nfc_base.proofs.LinkTurns.{J, Along, Onward, goes_along, starts_along
 use Rattle.air_core.specs.World.{quiet_air}
 use Rattle.air_core.specs.Turn.{Air, moment, TurnIs, Transmits}
 use Rattle.air_core.specs.Turning.{going_start, going_turn}
-use Rattle.air_core.specs.Conversation.{Note, note, Going, Next, Asks, TurnsTo}
+use Rattle.air_core.specs.Conversation.{Note, note, Going, Asks}
 use Rattle.air_core.specs.Quiet.{EachQuiet, QuietTurn}
 use Rattle.air_core.specs.PlainTags.{reached, IsAlone}
 use Rattle.air_core.specs.declared.listener.Listener.{Ghosts}
 use Rattle.air_core.proofs.PlainAside.{Laws}
 use Rattle.air_core.proofs.Quiet.{quiet_turns_to, quiet_turn, quiet_transmits}
-use Rattle.isodep_link.specs.declared.block.Block.{Block}
-use Rattle.isodep_link.specs.declared.block.Block.TheVariants.{Info, Ack, Nak, Deselect}
-use Rattle.isodep_link.specs.Blocks.{IsBlock, block_frame, piece}
+use Rattle.isodep_link.specs.declared.block.Block.TheVariants.{Nak}
+use Rattle.isodep_link.specs.Blocks.{block_frame}
 use Rattle.isodep_link.specs.Sizes.{limit}
 use Rattle.isodep_link.specs.Card.{CardState}
 use Rattle.isodep_link.specs.declared.reader.ReaderStep.{ReaderStep}
@@ -41,11 +40,11 @@ use Rattle.isodep_link.specs.Reader.{Core, ReaderState, ReaderTurn, reader_table
 use Rattle.isodep_link.specs.Commands.{iso_commands}
 use Rattle.isodep_link.specs.Exchange.{iso_dep, blocks_of, pieces, reader_does, beginning, InStep, IsCut}
 use Rattle.isodep_link.specs.CardTags.{IsAsked, IsAskedBlock, Obeys, IsShort, StepsByCard, IsCardTag}
-use Rattle.isodep_link.specs.Asking.{Standing, Waits, Rests, Broken, Astray, asks, goes_by, noted, stand, due_at, iso_next, HasCardTag, IsAfter, Asked, EndsBy}
+use Rattle.isodep_link.specs.Asking.{Standing, Waits, Rests, Broken, asks, goes_by, noted, stand, due_at, iso_next, HasCardTag, IsAfter, Asked, EndsBy}
 use Rattle.isodep_link.proofs.Wire.{is_piece}
 use Rattle.isodep_link.proofs.Standing as law
 use Rattle.isodep_link.proofs.Obeyed.{keeps, asking_first}
-use Rattle.isodep_link.proofs.CardTurns.{CardTurn, IsLeft, card_turn, quiet_asked}
+use Rattle.isodep_link.proofs.CardTurns.{CardTurn, card_turn, quiet_asked}
 
 -- what is noted behind some notes
 stand_on : (s : Standing) (ns : List Note) (n : Note) → stand s (ns ++ n ∷ []) ≡ noted (stand s ns) n
@@ -184,11 +183,12 @@ module _ {L : Type 0} (k : Ghosts L) (laws : Laws k) where
             dim = λ e. refl;
             along =
                 starts_along iso_dep commands command (keeps (card begin).most command) (2 * pieces i0.core.most command) TagState (Obeys (k.commands begin)) arrived old.trace (tag begin)
-                  (beginning i0 (card begin) commands arrived command)
-                  ( 2 * pieces i0.core.most command
-                  , law.asks refl refl (asking_first i0 (card begin) command short s) (omega arith)
-                  , record { once = sym (append-nil commands); reply = tt; stood = cut; bound = omega arith } )
-                  refl refl refl refl;
+                (beginning i0 (card begin) commands arrived command) (
+                  2 * pieces i0.core.most command,
+                  law.asks refl refl (asking_first i0 (card begin) command short s) (omega arith),
+                  record { once = sym (append-nil commands); reply = tt; stood = cut; bound = omega arith },
+                )
+                refl refl refl refl;
             notes = [];
             going = going_start (quiet_air k.machine) (iso_next i0 (command ∷ [])) (moment old);
             stands = refl;
@@ -230,8 +230,8 @@ module _ {L : Type 0} (k : Ghosts L) (laws : Laws k) where
           onward : Onward iso_dep commands command (keeps (card begin).most command) (2 * pieces i0.core.most command) TagState (Obeys (k.commands begin)) arrived old.trace (tag begin) i h (card turn.left) new.trace turn.held
           onward =
               goes_along iso_dep commands command (keeps (card begin).most command) (2 * pieces i0.core.most command) TagState (Obeys (k.commands begin)) arrived old.trace (tag begin)
-                i (card last) (card turn.left) mid.trace new.trace (tag last) turn.held f h o.along
-                (subst (λ (g : TagState → Signal → TagStep). IsTurn iso_dep TagState IsShort (Obeys g) (card last) mid.trace (tag last) f h (card turn.left) new.trace turn.held) (c.same o.frames o.asked) turn.turn)
+              i (card last) (card turn.left) mid.trace new.trace (tag last) turn.held f h o.along
+              (subst (λ (g : TagState → Signal → TagStep). IsTurn iso_dep TagState IsShort (Obeys g) (card last) mid.trace (tag last) f h (card turn.left) new.trace turn.held) (c.same o.frames o.asked) turn.turn)
 
           going_on : Going (quiet_air k.machine) (iso_next i0 (command ∷ [])) (moment old) (moment new) (o.notes ++ note h ∷ [])
           going_on = going_turn (quiet_air k.machine) (iso_next i0 (command ∷ [])) (moment old) (moment mid) (moment new) f h o.notes o.going due (quiet_turns_to k.machine mid new f far far' h q)
@@ -251,7 +251,7 @@ module _ {L : Type 0} (k : Ghosts L) (laws : Laws k) where
           live =
               let j = subst (λ (x : Stage Signal). J iso_dep commands command (keeps (card begin).most command) (2 * pieces i0.core.most command) o.along.world x) o.along.stage_is o.along.inv in
               subst (λ (x : ReaderState). (x.phase ≡ phases.Asked) ⊎ (x.phase ≡ phases.Nacked)) o.along.asking
-                (live_of (card begin).most command o.along.world.asking o.along.world.answering o.along.world.given f j.0 j.1)
+              (live_of (card begin).most command o.along.world.asking o.along.world.answering o.along.world.given f j.0 j.1)
 
           calm_or : (noise turn.added ≡ 0 → (k.machine.answer last f None ≡ None) ⊎ ((g : Signal) × (h ≡ Some (heards.Whole g)))) → ((g : Signal) → h ≡ Some (heards.Whole g) → ⊥) → 0 < noise turn.added
           calm_or calm never = positive (noise turn.added) (λ z. go (calm z))
@@ -270,7 +270,7 @@ module _ {L : Type 0} (k : Ghosts L) (laws : Laws k) where
       -- what the asking end heard is what was heard
       heard_next : (es0 es : List Event) (i : ReaderState) (t : CardState) (held : TagState) (h : Heard) (z : Option (Hears Signal)) → Some h ≡ heard_in z
           → Stands es0 (next_asking iso_dep commands command (keeps (card begin).most command) (2 * pieces i0.core.most command) i z) t es held
-              (next_stage iso_dep commands command (keeps (card begin).most command) (2 * pieces i0.core.most command) i z)
+          (next_stage iso_dep commands command (keeps (card begin).most command) (2 * pieces i0.core.most command) i z)
           → Stands es0 (reader_table i h).state t es held (stage_of (reader_does (reader_table i h).does))
       heard_next es0 es i t held h None e a = absurd (cc)
       heard_next es0 es i t held h (Some z) e a =
@@ -279,7 +279,7 @@ module _ {L : Type 0} (k : Ghosts L) (laws : Laws k) where
 
       heard_nothing : (es0 es : List Event) (i : ReaderState) (t : CardState) (held : TagState) (z : Option (Hears Signal)) → None ≡ heard_in z
           → Stands es0 (next_asking iso_dep commands command (keeps (card begin).most command) (2 * pieces i0.core.most command) i z) t es held
-              (next_stage iso_dep commands command (keeps (card begin).most command) (2 * pieces i0.core.most command) i z)
+          (next_stage iso_dep commands command (keeps (card begin).most command) (2 * pieces i0.core.most command) i z)
           → Stands es0 i t es held Dark
       heard_nothing es0 es i t held None e a = a
       heard_nothing es0 es i t held (Some z) e a = absurd (cc)
@@ -320,8 +320,8 @@ module _ {L : Type 0} (k : Ghosts L) (laws : Laws k) where
                 dim = λ d. absurd (cc);
                 along =
                     (let b = heard_next old.trace new.trace i (card t.left) t.held h n.hears n.heard_is n.along in
-                     subst (λ (x : L). Stands old.trace (reader_table i h).state (card x) new.trace (tag x) (stage_of (reader_does (reader_table i h).does))) e
-                       (subst (λ (z : TagState). Stands old.trace (reader_table i h).state (card t.left) new.trace z (stage_of (reader_does (reader_table i h).does))) (sym held) b));
+                    subst (λ (x : L). Stands old.trace (reader_table i h).state (card x) new.trace (tag x) (stage_of (reader_does (reader_table i h).does))) e
+                    (subst (λ (z : TagState). Stands old.trace (reader_table i h).state (card t.left) new.trace z (stage_of (reader_does (reader_table i h).does))) (sym held) b));
                 notes = o.notes ++ note (Some h) ∷ [];
                 going = going_on old mid place i f o far far' new (Some h) q;
                 stands = stands_then old mid place i f o far far' new (Some h) q;
@@ -354,7 +354,7 @@ module _ {L : Type 0} (k : Ghosts L) (laws : Laws k) where
                 reader = i;
                 along =
                     (let b = heard_nothing old.trace new.trace i (card t0.left) t0.held n0.hears n0.heard_is n0.along in
-                     subst (λ (z : TagState). Stands old.trace i (card t0.left) new.trace z Dark) (sym held ∙ ap tag e) b);
+                    subst (λ (z : TagState). Stands old.trace i (card t0.left) new.trace z Dark) (sym held ∙ ap tag e) b);
                 notes = o.notes ++ note None ∷ [];
                 going = going_on old mid place i f o far far' new None q;
                 stands = stands_then old mid place i f o far far' new None q;
@@ -391,8 +391,8 @@ module _ {L : Type 0} (k : Ghosts L) (laws : Laws k) where
             obeyed = ap (λ (fs : List Signal). iso_commands (blocks_of fs)) a.arrives ∙ o.brings ∙ o.once ∙ ap (λ (x : Option (List ℕ)). commands ++ delivered_of command x) e;
             within =
                 (let w : a.world.sent ≤ 2 * (pieces i0.core.most command + pieces_back (pieces (card begin).most) g - 1) + 4 * a.world.bads =
-                     subst (λ (x : Option (List ℕ)). a.world.sent ≤ 2 * (pieces i0.core.most command + pieces_back (pieces (card begin).most) x - 1) + 4 * a.world.bads) e o.within in
-                 rw (a.sent, a.bads) w);
+                subst (λ (x : Option (List ℕ)). a.world.sent ≤ 2 * (pieces i0.core.most command + pieces_back (pieces (card begin).most) x - 1) + 4 * a.world.bads) e o.within in
+                rw (a.sent, a.bads) w);
             notes = notes;
             going = going;
             stands = stands;
@@ -412,7 +412,7 @@ module _ {L : Type 0} (k : Ghosts L) (laws : Laws k) where
       abbrev pub lost_asked : (old new : Air L) (place : ℕ) (o : Lost old new place) → Asked k card tag old new place begin i0 commands arrived command o.along.world.given (Broken FieldLost)
       lost_asked old new place o =
           asked_by old new place o.reader (card o.left) (tag (reached k begin o.frames)) Dark o.along o.along.world.given refl
-            (record { frames = o.frames; asked = o.asked; left = o.left; alone = o.alone; holds = refl; is = inr (o.dark, o.darkened) }) o.notes o.going (Broken FieldLost) o.stands
+          (record { frames = o.frames; asked = o.asked; left = o.left; alone = o.alone; holds = refl; is = inr (o.dark, o.darkened) }) o.notes o.going (Broken FieldLost) o.stands
 
       -- an exchange that ended, by what its end tells
       ending_along : (es0 es : List Event) (i : ReaderState) (t : CardState) (held : TagState) (stage : Stage Signal) (a : Stands es0 i t es held stage)
@@ -432,9 +432,9 @@ module _ {L : Type 0} (k : Ghosts L) (laws : Laws k) where
           let once : OnceAlong o.along.world = once_along old.trace new.trace i (card l) (tag l) (Over (Finished r)) o.along in
           let did : o.along.world.delivered ≡ commands ++ command ∷ [] = once.once ∙ ap (λ (x : Option (List ℕ)). commands ++ delivered_of command x) e.0 in
           let P : ReaderState → CardState → Type 0 = λ x y. InStep x y in
-          let Q : CardState → List (List ℕ) → List Signal → Type 0 = IsCut in
-          ( asked_by old new place i (card l) (tag l) (Over (Finished r)) o.along (Some r) e.0 (after_on old new place i (Over (Finished r)) s o lit) o.notes o.going s o.stands
-          , record {
+          let Q : CardState → List (List ℕ) → List Signal → Type 0 = IsCut in (
+            asked_by old new place i (card l) (tag l) (Over (Finished r)) o.along (Some r) e.0 (after_on old new place i (Over (Finished r)) s o lit) o.notes o.going s o.stands,
+            record {
               listener = l;
               selected = o.selected;
               alone = subst (λ (own : List ℕ). IsAlone k own new.listeners place l) (sym (reached_same begin o.frames).1) o.alone;
@@ -442,9 +442,10 @@ module _ {L : Type 0} (k : Ghosts L) (laws : Laws k) where
               step = subst (λ (x : ReaderState). P x (card l)) o.along.asking (subst (λ (y : CardState). P o.along.world.asking y) o.along.answering e.1.0);
               cut =
                   subst (λ (fs : List Signal). Q (card l) (commands ++ command ∷ []) fs) (sym o.along.arrives)
-                    (subst (λ (cs : List (List ℕ)). Q (card l) cs o.along.world.arrived) did
-                      (subst (λ (y : CardState). Q y o.along.world.delivered o.along.world.arrived) o.along.answering e.1.1));
-            } )
+                  (subst (λ (cs : List (List ℕ)). Q (card l) cs o.along.world.arrived) did
+                  (subst (λ (y : CardState). Q y o.along.world.delivered o.along.world.arrived) o.along.answering e.1.1));
+            },
+          )
 
 -- one command, from the reader's first block to its end
 module _ {L : Type 0} (k : Ghosts L) (laws : Laws k) (card : L → CardState) (tag : L → TagState) (old : Air L) (place : ℕ) (i0 : ReaderState) (command : List ℕ) (commands : List (List ℕ)) (arrived : List Signal)
@@ -457,8 +458,8 @@ module _ {L : Type 0} (k : Ghosts L) (laws : Laws k) (card : L → CardState) (t
   first_here short i f e d =
       let b : ReaderState = begun i0 command in
       subst (λ (x : ReaderState). Here old x (Requests f) (Waits x f [])) (sym e)
-        (subst (λ (g : Signal). Here old b (Requests g) (Waits b g [])) (sym d)
-          (begins_on k laws card tag t.listener t.is i0 commands arrived command old place t.selected t.alone short t.step t.cut))
+      (subst (λ (g : Signal). Here old b (Requests g) (Waits b g [])) (sym d)
+      (begins_on k laws card tag t.listener t.is i0 commands arrived command old place t.selected t.alone short t.step t.cut))
 
   module _ (mid : Air L) (i : ReaderState) (f : Signal) (o : Here mid i (Requests f) (Waits i f [])) {F : Type 0} (restarts : F → List ℕ → F → Type 0) (steps : F → List ℕ → List ℕ → F → Type 0)
       (far far' : F) (new : Air L) where
@@ -470,7 +471,7 @@ module _ {L : Type 0} (k : Ghosts L) (laws : Laws k) (card : L → CardState) (t
         → (let x : ReaderTurn = record { state = i'; does = d } in x) ≡ reader_table i h → Here new i' (stage_of (reader_does d)) (goes_by i' d [])
     next_here h turn i' d e =
         subst (λ (x : ReaderTurn). Here new x.state (stage_of (reader_does x.does)) (goes_by x.state x.does [])) (sym e)
-          (turn_on k laws card tag t.listener t.is i0 commands arrived command old mid place i f o far far' new h (quiet_turn k.machine restarts steps mid f far (Some h) new far' quiet_here turn))
+        (turn_on k laws card tag t.listener t.is i0 commands arrived command old mid place i f o far far' new h (quiet_turn k.machine restarts steps mid f far (Some h) new far' quiet_here turn))
 
     lit_here : (h : Heard) → TurnIs k.machine restarts steps mid f far (Some h) new far' → new.lit ≡ old.lit → new.lit ≡ true
     lit_here h turn e = e ∙ sym o.lit ∙ turn.lit
@@ -479,15 +480,15 @@ module _ {L : Type 0} (k : Ghosts L) (laws : Laws k) (card : L → CardState) (t
         → (let x : ReaderTurn = record { state = i'; does = step.SixBad } in x) ≡ reader_table i h → (zs : List Event) → new.trace ≡ old.trace ++ zs → 0 < noise zs
     six_noisy h turn i' e zs z =
         noisy k laws card tag t.listener t.is i0 commands arrived command old mid place i f o far far' new (Some h) (quiet_turn k.machine restarts steps mid f far (Some h) new far' quiet_here turn)
-          (λ g q. let w : h ≡ heards.Whole g = cc in
-             whole_not_six i g (live k laws card tag t.listener t.is i0 commands arrived command old mid place i f o far far' new (Some h) (quiet_turn k.machine restarts steps mid f far (Some h) new far' quiet_here turn))
-               (ap (λ x. (reader_table i x).does) (sym w) ∙ sym (ap (λ (x : ReaderTurn). x.does) e)))
-          zs z
+        (λ g q. let w : h ≡ heards.Whole g = cc in
+        whole_not_six i g (live k laws card tag t.listener t.is i0 commands arrived command old mid place i f o far far' new (Some h) (quiet_turn k.machine restarts steps mid f far (Some h) new far' quiet_here turn))
+        (ap (λ x. (reader_table i x).does) (sym w) ∙ sym (ap (λ (x : ReaderTurn). x.does) e)))
+        zs z
 
     lost_noisy : TurnIs k.machine restarts steps mid f far None new far' → (zs : List Event) → new.trace ≡ old.trace ++ zs → 0 < noise zs
     lost_noisy turn zs z =
         noisy k laws card tag t.listener t.is i0 commands arrived command old mid place i f o far far' new None (quiet_turn k.machine restarts steps mid f far None new far' quiet_here turn)
-          (λ g q. absurd (cc)) zs z
+        (λ g q. absurd (cc)) zs z
 
     -- the answer came
     pub ends_answered : (h : Heard) → TurnIs k.machine restarts steps mid f far (Some h) new far' → (i' : ReaderState) (r : List ℕ)
@@ -527,4 +528,4 @@ module _ {L : Type 0} (k : Ghosts L) (laws : Laws k) (card : L → CardState) (t
           let q = quiet_transmits k.machine restarts steps stops is_stuck mid f far (Err air.Memory) new far' quiet_here turn in
           let P : Air L → Type 0 = λ a. EndsBy k card tag old a place t.listener i0 i commands arrived command (Err ask.Memory) in
           subst P (sym q.1)
-            (o.along.world.given, Waits i f [], on_asked k laws card tag t.listener t.is i0 commands arrived command old mid place i (Requests f) (Waits i f []) o q.0, (f, refl, o.lit))
+          (o.along.world.given, Waits i f [], on_asked k laws card tag t.listener t.is i0 commands arrived command old mid place i (Requests f) (Waits i f []) o q.0, (f, refl, o.lit))

@@ -1,10 +1,9 @@
 -- One turn with a Type 4 tag that is alone in its field is a turn of reader and card.
-use Rattle.std.proofs.Common.{◌≡◌, ℕ, ◌+◌, ◌<◌, ◌≤◌, ◌⊎◌, inl, inr, List, [], ◌∷◌, ◌++◌, Bool, true, false, if◌then◌else◌, Option, Some, None, refl, sym, ◌∙◌, ap, subst, arith}
+use Rattle.std.proofs.Common.{◌≡◌, ℕ, ◌⊎◌, inl, inr, List, [], ◌∷◌, ◌++◌, Bool, true, false, if◌then◌else◌, Option, Some, None, refl, sym, ◌∙◌, ap, subst, arith}
 use Rattle.std.specs.Prelude.{map}
-use Rattle.std.specs.List.{AllByRecursion, filter_map, cons_option}
-use Rattle.nfc_base.specs.declared.frame.Tech.TheVariants.{A, V}
+use Rattle.std.specs.List.{filter_map, cons_option}
+use Rattle.nfc_base.specs.declared.frame.Tech.TheVariants.{A}
 use Rattle.nfc_base.specs.declared.event.Event.{Event}
-use Rattle.nfc_base.specs.declared.event.Event.TheVariants.{Request, Answer}
 use Rattle.nfc_base.specs.declared.event.Fate.{Fate}
 use Rattle.nfc_base.specs.declared.event.Fate.TheVariants.{Pass, Damage, Lose, Break}
 use Rattle.nfc_base.specs.declared.event.Heard.{Heard}
@@ -13,22 +12,19 @@ use Rattle.nfc_base.specs.Trace.{noise}
 use Rattle.nfc_base.specs.Signal.{Signal, whole_a}
 use Rattle.nfc_base.specs.Far.{Untouched}
 use Rattle.nfc_base.specs.TagLinks.{TagState}
-use Rattle.nfc_base.specs.LinkTurns.{heard_in, MovedBy, Turned, Step, step, answered, turned, IsTurn}
+use Rattle.nfc_base.specs.LinkTurns.{heard_in, MovedBy, Step, step, answered, turned, IsTurn}
 use Rattle.air_core.specs.Joint.{joint, same_tech}
-use Rattle.air_core.specs.World.{World, hears, hands_over, answered_by, stepped_by, quiet_air}
+use Rattle.air_core.specs.World.{World, hears, answered_by, stepped_by, quiet_air}
 use Rattle.air_core.specs.Conversation.{replay, turn_events, first_fate, later_fates}
 use Rattle.air_core.specs.Turn.{Air, world}
 use Rattle.air_core.specs.Quiet.{EachQuiet, QuietTurn}
-use Rattle.air_core.specs.PlainTags.{reached, IsAside, IsAlone}
+use Rattle.air_core.specs.PlainTags.{IsAside, IsAlone}
 use Rattle.air_core.specs.declared.listener.Listener.{Ghosts}
 use Rattle.air_core.proofs.PlainAside.{Laws, IsUnmoved, aside_silent, alone_dark, alone_quiet, alone_says, alone_steps}
 use Rattle.air_core.proofs.PlainTurns.{one, joint_one, tag_events, tag_heard, turn_events_as, heard_as}
-use Rattle.isodep_link.specs.declared.block.Block.{Block}
-use Rattle.isodep_link.specs.declared.block.Block.TheVariants.{Info, Ack, Nak, Deselect}
-use Rattle.isodep_link.specs.Blocks.{block_frame, block_bytes}
 use Rattle.isodep_link.specs.Card.{CardState, fresh}
 use Rattle.isodep_link.specs.Exchange.{iso_dep}
-use Rattle.isodep_link.specs.CardTags.{IsAsked, IsAskedBlock, Obeys, IsShort, StepsByCard, IsCardTag}
+use Rattle.isodep_link.specs.CardTags.{IsAsked, Obeys, IsShort, StepsByCard, IsCardTag}
 
 module _ {L : Type 0} (k : Ghosts L) (laws : Laws k) (card : L → CardState) (tag : L → TagState) where
   -- what the listener is after a turn
@@ -190,7 +186,7 @@ module _ {L : Type 0} (k : Ghosts L) (laws : Laws k) (card : L → CardState) (t
     pub quiet_asked : EachQuiet k.machine f old.listeners
     quiet_asked =
         alone_quiet k laws (k.identifier l) f (asked_aside (k.identifier l) f a) old.listeners place l alone
-          (ap (λ v. if v then k.machine.handed l f else Untouched) (hears_asked l f a c.tech) ∙ s.quiet)
+        (ap (λ v. if v then k.machine.handed l f else Untouched) (hears_asked l f a c.tech) ∙ s.quiet)
 
     pub card_turn : {F : Type 0} (far far' : F) (new : Air L) (h : Option Heard) → QuietTurn k.machine old f far h new far' → CardTurn old new place l f h
     card_turn far far' new h q =
@@ -201,7 +197,7 @@ module _ {L : Type 0} (k : Ghosts L) (laws : Laws k) (card : L → CardState) (t
         let says : answered_by k.machine l f None ≡ o = ap (λ v. if v then k.machine.answer l f None else None) heard ∙ s.answer in
         let steps : stepped_by k.machine l f None ≡ k.machine.after l f None = ap (λ v. if v then k.machine.after l f None else l) heard in
         let joins : joint (filter_map (λ z. answered_by k.machine z f None) old.listeners) ≡ one o =
-            ap joint (alone_says k laws (k.identifier l) f (asked_aside (k.identifier l) f a) old.listeners place l alone) ∙ ap (λ z. joint (cons_option z [])) says ∙ joint_one o in
+        ap joint (alone_says k laws (k.identifier l) f (asked_aside (k.identifier l) f a) old.listeners place l alone) ∙ ap (λ z. joint (cons_option z [])) says ∙ joint_one o in
         let events : turn_events (quiet_air k.machine) (world old) f x y ≡ tag_events f x y o = turn_events_as k (world old) f x y o joins in
         let after : world new ≡ replay (quiet_air k.machine) (world old) (tag_events f x y o) = q.after ∙ ap (replay (quiet_air k.machine) (world old)) events in
         let told : h ≡ tag_heard x y o = heard_as k (world old) f x y o h joins q.told in
@@ -209,7 +205,7 @@ module _ {L : Type 0} (k : Ghosts L) (laws : Laws k) (card : L → CardState) (t
           left = left_by l f x y o;
           alone =
               (let P : World L → Type 0 = λ w. IsAlone k (k.identifier l) w.listeners place (left_by l f x y o) in
-               subst P (sym after) (alone_after (k.identifier l) f (asked_aside (k.identifier l) f a) (world old) place l alone steps x y o));
+              subst P (sym after) (alone_after (k.identifier l) f (asked_aside (k.identifier l) f a) (world old) place l alone steps x y o));
           held = met l f x;
           turn = record {
             reply = s.reply;
@@ -223,9 +219,9 @@ module _ {L : Type 0} (k : Ghosts L) (laws : Laws k) (card : L → CardState) (t
           };
           is =
               (let P : World L → Type 0 = λ w. IsLeft l f (met l f x) w.lit h (left_by l f x y o) in
-               subst P (sym after)
-                 (subst (λ (z : Option Heard). IsLeft l f (met l f x) (replay (quiet_air k.machine) (world old) (tag_events f x y o)).lit z (left_by l f x y o)) (sym told)
-                   (left_is l f old.lit x y o q.lit (world old) refl)));
+              subst P (sym after)
+              (subst (λ (z : Option Heard). IsLeft l f (met l f x) (replay (quiet_air k.machine) (world old) (tag_events f x y o)).lit z (left_by l f x y o)) (sym told)
+              (left_is l f old.lit x y o q.lit (world old) refl)));
           added = tag_events f x y o;
           trace = q.trace ∙ ap (λ (es : List Event). old.trace ++ es) events;
           calm = λ z. calm_is (k.machine.answer l f None) x y o h s.answer told (calm_events f x y o z);

@@ -101,7 +101,7 @@ not_six_missed i EndedProtocol = λ e. absurd cc
 not_six_answered : (i : ReaderState) (b : Block) → IsNotSix (answered i b)
 not_six_answered i (Info more n c) =
     not_six_if (if more_follows i.core then false else n == i.core.number) _ _
-      (not_six_if (is_refused more c.items (i.core.got ++ c.items)) _ _ (λ e. absurd cc) (not_six_received i more (i.core.got ++ c.items))) (λ e. absurd cc)
+    (not_six_if (is_refused more c.items (i.core.got ++ c.items)) _ _ (λ e. absurd cc) (not_six_received i more (i.core.got ++ c.items))) (λ e. absurd cc)
 not_six_answered i (Ack n) = not_six_if (n == i.core.number) _ _ (not_six_if (more_follows i.core) _ _ (λ e. absurd cc) (λ e. absurd cc)) (not_six_missed i i.phase)
 not_six_answered i (Nak n) = λ e. absurd cc
 not_six_answered i Deselect = λ e. absurd cc

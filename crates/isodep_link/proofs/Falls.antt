@@ -1,16 +1,15 @@
 -- Each block that a reader sends leaves less to do.
-use Rattle.std.proofs.Common.{◌≡◌, ℕ, ◌+◌, ◌-◌, ◌*◌, ◌<◌, ◌≤◌, ◌==◌, ◌⊎◌, nat_lt, Bool, true, false, not, if◌then◌else◌, List, [], ◌++◌, length, drop, refl, sym, ◌∙◌, ap, subst, arith, length-append, length-drop}
+use Rattle.std.proofs.Common.{◌≡◌, ℕ, ◌<◌, ◌≤◌, ◌==◌, nat_lt, Bool, true, false, not, if◌then◌else◌, List, ◌++◌, length, refl, sym, ◌∙◌, ap, subst, arith, length-append, length-drop}
 use Rattle.std.proofs.lemmas.Bool.{ltb-true}
 use Rattle.isodep_link.specs.declared.block.Block.{Block}
 use Rattle.isodep_link.specs.declared.block.Block.TheVariants.{Info, Ack, Nak, Deselect}
 use Rattle.isodep_link.specs.declared.reader.Phase.{Phase}
 use Rattle.isodep_link.specs.declared.reader.Phase.TheVariants.{Asked, Nacked, Free, EndedSixBad, EndedProtocol}
-use Rattle.isodep_link.specs.declared.reader.ReaderStep.{ReaderStep}
 use Rattle.isodep_link.specs.declared.reader.ReaderStep.TheVariants as steps
 use Rattle.nfc_base.specs.Signal.{Signal}
 use Rattle.nfc_base.specs.declared.event.Heard.{Heard}
 use Rattle.isodep_link.specs.Sizes.{limit}
-use Rattle.isodep_link.specs.Reader.{Core, ReaderState, ReaderMove, ReaderTurn, Reception, Hears, Odd, Bad, Asks, Gives, GivesUp, Refuses, Next, framed, framed_next, reception, reader_table, sends, refuses, most_bads, bad, after_bad, turned, received, more_follows, is_refused, acked, missed, brought, answered, waited, unasked, in_phase, block_next}
+use Rattle.isodep_link.specs.Reader.{Core, ReaderState, ReaderMove, ReaderTurn, Reception, Hears, Odd, Bad, Asks, Gives, GivesUp, Refuses, Next, framed_next, reception, reader_table, refuses, most_bads, bad, after_bad, received, more_follows, is_refused, acked, missed, brought, answered, waited, unasked, in_phase, block_next}
 use Rattle.isodep_link.specs.Falling.{after_nak, left_to_do}
 use Rattle.isodep_link.proofs.Standing.{le_from_not}
 
@@ -38,8 +37,8 @@ one_at_most EndedProtocol = omega arith
 falls_bad : (i : ReaderState) → Falls i (bad i)
 falls_bad i =
     falls_if i (nat_lt i.bads most_bads) _ _
-      (λ v b e. let l = ltb-true i.bads most_bads v in let o = one_at_most (after_bad i.phase i.core) in omega (arith, l, o))
-      (λ v b e. absurd (cc))
+    (λ v b e. let l = ltb-true i.bads most_bads v in let o = one_at_most (after_bad i.phase i.core) in omega (arith, l, o))
+    (λ v b e. absurd (cc))
 
 falls_received : (i : ReaderState) (more : Bool) (xs : List ℕ) → 0 < length xs → length (i.core.got ++ xs) ≤ limit → Falls i (received i more (i.core.got ++ xs))
 falls_received i true xs p l = λ b e. let a = length-append i.core.got xs in omega (arith, a, p, l)
@@ -81,8 +80,8 @@ more_than c e = go c.drawing e
 falls_acked : (i : ReaderState) → 0 < i.core.most → Falls i (acked i)
 falls_acked i p =
     falls_if i (more_follows i.core) _ _
-      (λ v b e. let l = more_than i.core v in let d = length-drop i.core.most i.core.rest in omega (arith, l, d, p))
-      (λ v. falls_refuses i)
+    (λ v b e. let l = more_than i.core v in let d = length-drop i.core.most i.core.rest in omega (arith, l, d, p))
+    (λ v. falls_refuses i)
 
 falls_missed : (i : ReaderState) (p : Phase) → i.phase ≡ p → Falls i (missed i p)
 falls_missed i Asked e = falls_refuses i

@@ -1,5 +1,5 @@
 -- What `ask` of a link to a Type 4 tag answers.
-use Rattle.std.proofs.Common.{◌≡◌, ◌≢◌, ℕ, ◌+◌, ◌<◌, ◌≤◌, ◌⊎◌, inl, inr, List, [], ◌∷◌, ◌++◌, length, map, Bool, true, false, Option, Some, None, Result, Ok, Err, refl, sym, ◌∙◌, ap, subst, arith, append-nil}
+use Rattle.std.proofs.Common.{◌≡◌, ℕ, ◌+◌, ◌<◌, ◌≤◌, ◌⊎◌, inl, inr, List, [], ◌∷◌, ◌++◌, length, true, false, Option, Some, None, Ok, Err, refl, sym, ◌∙◌, ap, subst, arith, append-nil}
 use Rattle.std.specs.Prelude.{not}
 use Rattle.std.proofs.lemmas.List.{length-append}
 use Rattle.nfc_base.specs.Signal.{Signal, whole_a}
@@ -7,7 +7,6 @@ use Rattle.nfc_base.specs.Trace.{noise}
 use Rattle.nfc_base.specs.Links.{CountsOn}
 use Rattle.nfc_base.specs.LinkTurns.{arrived}
 use Rattle.nfc_base.specs.TagLinks.{TagState, TagStep, plain_state, after_all, Obeys, Rises, IsAnswer, IsFault}
-use Rattle.nfc_base.specs.declared.event.Event.{Event}
 use Rattle.nfc_base.specs.declared.tag_link.AskFault.{AskFault}
 use Rattle.nfc_base.specs.declared.tag_link.AskFault.TheVariants.{FieldLost, SixBad, Memory, Protocol}
 use Rattle.air_core.specs.World.{quiet_air}
@@ -24,9 +23,9 @@ use Rattle.isodep_link.specs.Card.{CardState}
 use Rattle.isodep_link.specs.Reader.{ReaderState, request, begun}
 use Rattle.isodep_link.specs.Commands.{iso_commands}
 use Rattle.isodep_link.specs.Exchange.{blocks_of, IsCut}
-use Rattle.isodep_link.specs.Asking.{Standing, Waits, Rests, Broken, asks, stand, iso_next, HasCardTag, Asked, EndsBy}
+use Rattle.isodep_link.specs.Asking.{Standing, Rests, asks, stand, iso_next, HasCardTag, Asked, EndsBy}
 use Rattle.isodep_link.specs.IsoLinks.{IsoSeen, commands_of, obeyed_in, Replays, StandsAt, since, iso_view, IsIsoReady, IsoMoves}
-use Rattle.isodep_link.proofs.IsoViews.{arrived_append, handed, before, behind, shown_obeyed, shown_held, obeys, shown_noise, shown_step, either_state, still_answered, all_answered, answered_before, since_new, held_all}
+use Rattle.isodep_link.proofs.IsoViews.{arrived_append, before, shown_obeyed, shown_held, obeys, shown_noise, shown_step, either_state, still_answered, all_answered, answered_before, since_new, held_all}
 
 pub none_here : (o : Option AskFault) → ((x : AskFault) → o ≡ Some x → ⊥) → o ≡ None
 none_here None other = refl
@@ -68,7 +67,7 @@ module _ {L : Type 0} (k : Ghosts L) (laws : Laws k) (card : L → CardState) (t
     obeyed_one : (iso_view k card tag after_ok).obeyed ≡ (iso_view k card tag was).obeyed ++ c ∷ []
     obeyed_one =
         shown_obeyed k laws card tag old place start told i last over r new (length new.trace) i' (Some g) over c may (Some h.0) (Rests i') w
-          ∙ ap (λ (d : Signal). (iso_view k card tag was).obeyed ++ d ∷ []) (sym may)
+        ∙ ap (λ (d : Signal). (iso_view k card tag was).obeyed ++ d ∷ []) (sym may)
 
     noise_ok : (iso_view k card tag after_ok).noise ≡ (iso_view k card tag was).noise + noise w.events
     noise_ok = shown_noise k laws card tag old place start told i last over r new (length new.trace) i' (Some g) over c may (Some h.0) (Rests i') w
@@ -79,7 +78,7 @@ module _ {L : Type 0} (k : Ghosts L) (laws : Laws k) (card : L → CardState) (t
     answered_one : (iso_view k card tag after_ok).answered ≡ (iso_view k card tag was).answered ++ c ∷ []
     answered_one =
         all_answered k laws card tag old place start told i last over r new (length new.trace) i' (Some g) over c may (Some h.0) (Rests i') w
-          ∙ obeyed_one ∙ ap (λ (xs : List Signal). xs ++ c ∷ []) (sym (answered_before k laws card tag old place start told i last over r))
+        ∙ obeyed_one ∙ ap (λ (xs : List Signal). xs ++ c ∷ []) (sym (answered_before k laws card tag old place start told i last over r))
 
     pub ok_obeys : Obeys (iso_view k card tag was) (iso_view k card tag after_ok) c
     ok_obeys = obeys k laws card tag old place start told i last over r new (length new.trace) i' (Some g) over c may (Some h.0) (Rests i') w
@@ -95,12 +94,12 @@ module _ {L : Type 0} (k : Ghosts L) (laws : Laws k) (card : L → CardState) (t
       answer = ap (λ (x : TagStep). x.answer) step_ok ∙ w.given_by.0 ∙ ap (λ (x : Signal). Some x) (sym h.2);
       after =
           shown_held k laws card tag old place start told i last over r new (length new.trace) i' (Some g) over c may (Some h.0) (Rests i') w
-            ∙ w.given_by.1 ∙ sym (ap (λ (x : TagStep). x.after) step_ok);
+          ∙ w.given_by.1 ∙ sym (ap (λ (x : TagStep). x.after) step_ok);
       answered = answered_one;
       counts = refl;
       least =
           (let n : length (iso_view k card tag after_ok).obeyed ≡ length (iso_view k card tag was).obeyed + 1 =
-               ap length obeyed_one ∙ length-append (iso_view k card tag was).obeyed (c ∷ []) in omega (arith, n));
+          ap length obeyed_one ∙ length-append (iso_view k card tag was).obeyed (c ∷ []) in omega (arith, n));
       once = λ e. obeyed_one;
     }
 
@@ -123,14 +122,14 @@ module _ {L : Type 0} (k : Ghosts L) (laws : Laws k) (card : L → CardState) (t
     held_left : w.held ≡ after_all (k.commands l) (plain_state r.origin) (obeyed_in (since k card tag after_ok))
     held_left =
         held_all k laws card tag old place start told i last over r new (length new.trace) i' (Some g) over c may (Some h.0) (Rests i') w
-          ∙ ap (λ (cs : List Signal). after_all (k.commands l) (plain_state r.origin) cs)
-            (sym (shown_obeyed k laws card tag old place start told i last over r new (length new.trace) i' (Some g) over c may (Some h.0) (Rests i') w))
+        ∙ ap (λ (cs : List Signal). after_all (k.commands l) (plain_state r.origin) cs)
+        (sym (shown_obeyed k laws card tag old place start told i last over r new (length new.trace) i' (Some g) over c may (Some h.0) (Rests i') w))
 
     pub ok_ready : over ≡ None → IsIsoReady k card tag after_ok
     ok_ready e =
         let fs : arrived (since k card tag was) ++ arrived w.events ≡ arrived (since k card tag after_ok) =
-            sym (arrived_append (since k card tag was) w.events)
-              ∙ ap arrived (sym (since_new k laws card tag old place start told i last over r new (length new.trace) i' (Some g) over c may (Some h.0) (Rests i') w)) in
+        sym (arrived_append (since k card tag was) w.events)
+        ∙ ap arrived (sym (since_new k laws card tag old place start told i last over r new (length new.trace) i' (Some g) over c may (Some h.0) (Rests i') w)) in
         let cs : commands_of (since k card tag was) ++ c.bytes ∷ [] ≡ commands_of (since k card tag after_ok) = sym w.obeyed ∙ ap (λ (x : List Signal). iso_commands (blocks_of x)) fs in
         let Q : List (List ℕ) → List Signal → Type 0 = IsCut (card ready_tag.listener) in
         record {

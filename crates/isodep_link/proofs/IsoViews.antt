@@ -1,12 +1,12 @@
 -- What a link to a Type 4 tag shows once a command was asked.
-use Rattle.std.proofs.Common.{◌≡◌, ℕ, ◌+◌, ◌<◌, ◌≤◌, ◌⊎◌, inl, inr, List, [], ◌∷◌, ◌++◌, length, take, drop, map, Bool, true, false, Option, Some, None, refl, sym, ◌∙◌, ap, subst, arith, append_assoc, append-nil, take_all}
-use Rattle.std.proofs.lemmas.List.{drop-append-le, take-append-le, map-append, length-append}
+use Rattle.std.proofs.Common.{◌≡◌, ℕ, ◌+◌, ◌≤◌, ◌⊎◌, inl, inr, List, [], ◌∷◌, ◌++◌, length, take, drop, map, true, false, Option, Some, None, refl, sym, ◌∙◌, ap, subst, arith, take_all}
+use Rattle.std.proofs.lemmas.List.{drop-append-le, take-append-le, map-append}
 use Rattle.std.specs.List.{AllByRecursion}
 use Rattle.nfc_base.specs.Signal.{Signal, whole_a}
 use Rattle.nfc_base.specs.Trace.{noise}
 use Rattle.nfc_base.specs.StopAndWait.{delivered_of}
 use Rattle.nfc_base.specs.LinkTurns.{with_arrived, arrived, GivenBy}
-use Rattle.nfc_base.specs.TagLinks.{TagState, TagStep, LinkView, plain_state, after_all, passed, Leads, Steady, Obeys}
+use Rattle.nfc_base.specs.TagLinks.{TagState, TagStep, plain_state, after_all, passed, Leads, Obeys}
 use Rattle.nfc_base.specs.declared.event.Event.{Event}
 use Rattle.nfc_base.specs.declared.event.Event.TheVariants.{Reset, Request, Answer, Clash}
 use Rattle.nfc_base.specs.declared.event.Fate.{Fate}
@@ -14,7 +14,7 @@ use Rattle.nfc_base.specs.declared.event.Fate.TheVariants.{Pass, Damage, Lose, B
 use Rattle.nfc_base.specs.declared.tag_link.AskFault.{AskFault}
 use Rattle.nfc_base.proofs.Leading.{after_append}
 use Rattle.air_core.specs.Turn.{Air}
-use Rattle.air_core.specs.PlainTags.{reached, IsAlone}
+use Rattle.air_core.specs.PlainTags.{reached}
 use Rattle.air_core.specs.PlainLinks.{at_place}
 use Rattle.air_core.specs.declared.listener.Listener.{Ghosts}
 use Rattle.air_core.proofs.PlainAside.{Laws}
@@ -26,8 +26,8 @@ use Rattle.isodep_link.specs.Commands.{iso_commands}
 use Rattle.isodep_link.specs.Exchange.{blocks_of, IsCut}
 use Rattle.isodep_link.specs.Activating.{IsActivated}
 use Rattle.isodep_link.specs.CardTags as tags
-use Rattle.isodep_link.specs.Asking.{Standing, HasCardTag, IsAfter, Asked}
-use Rattle.isodep_link.specs.IsoLinks.{IsoSeen, commands_of, obeyed_in, opened_by, Replays, since, step_of, store_of, iso_view, IsIsoReady}
+use Rattle.isodep_link.specs.Asking.{Standing, Asked}
+use Rattle.isodep_link.specs.IsoLinks.{IsoSeen, commands_of, obeyed_in, opened_by, since, store_of, iso_view, IsIsoReady}
 use Rattle.isodep_link.proofs.AskingLaw.{reached_same}
 
 with_append : (f : Signal) (x : Fate) (xs ys zs : List Signal) → xs ≡ ys ++ zs → with_arrived f x xs ≡ with_arrived f x ys ++ zs
@@ -108,7 +108,7 @@ module _ {L : Type 0} (k : Ghosts L) (laws : Laws k) (card : L → CardState) (t
       pub shown_obeyed : (iso_view k card tag behind).obeyed ≡ (iso_view k card tag before).obeyed ++ handed c g
       shown_obeyed =
           ap obeyed_in since_new ∙ ap (λ fs. map whole_a (iso_commands (blocks_of fs))) (arrived_append (drop start old.trace) w.events) ∙ ap (map whole_a) w.obeyed
-            ∙ map-append whole_a (commands_of (drop start old.trace)) (delivered_of c.bytes g)
+          ∙ map-append whole_a (commands_of (drop start old.trace)) (delivered_of c.bytes g)
 
       -- the step of the command where something was given
       after_given : (o : Option (List ℕ)) (held : TagState) → GivenBy (tags.Obeys (k.commands l)) (tag l) c.bytes o held → held ≡ after_all (k.commands l) (tag l) (handed c o)
@@ -121,7 +121,7 @@ module _ {L : Type 0} (k : Ghosts L) (laws : Laws k) (card : L → CardState) (t
       pub held_all : w.held ≡ after_all (k.commands l) (plain_state r.origin) (obeyed_in (since k card tag before) ++ handed c g)
       held_all =
           held_after ∙ ap (λ (t : TagState). after_all (k.commands l) t (handed c g)) r.holds
-            ∙ sym (after_append (k.commands l) (plain_state r.origin) (obeyed_in (since k card tag before)) (handed c g))
+          ∙ sym (after_append (k.commands l) (plain_state r.origin) (obeyed_in (since k card tag before)) (handed c g))
 
       pub shown_held : (iso_view k card tag behind).state ≡ w.held
       shown_held =
@@ -140,7 +140,7 @@ module _ {L : Type 0} (k : Ghosts L) (laws : Laws k) (card : L → CardState) (t
         obeyed = shown_obeyed;
         state =
             shown_held ∙ held_after ∙ ap (λ (t : TagState). after_all (k.commands l) t (handed c g)) (sym shown_state)
-              ∙ ap (λ (z : TagState → Signal → TagStep). after_all z (iso_view k card tag before).state (handed c g)) (sym (was k.commands _));
+            ∙ ap (λ (z : TagState → Signal → TagStep). after_all z (iso_view k card tag before).state (handed c g)) (sym (was k.commands _));
       }
 
       only_handed : (o : Option (List ℕ)) → AllByRecursion (λ d. d ≡ c) (handed c o)

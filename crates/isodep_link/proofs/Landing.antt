@@ -200,6 +200,7 @@ module _ (m : ℕ) (out : List ℕ) where
     where
       r : IsBlock (request i.core)
       r = is_request i.core h.number h.bounds.fits
+
       go : (d : Bool) → nat_lt i.core.most (length i.core.rest) ≡ d → iso_dep.does t f ≡ Quiet → ⊥
       go true d = speaks_by t f (request i.core) _ e h.bounds.heeds r (piece_taken i.core t g h (ltb-true i.core.most (length i.core.rest) d)).0 (λ z. absurd (cc))
       go false d = speaks_by t f (request i.core) _ e h.bounds.heeds r (handed_over i.core t g h (le_from_not i.core.most (length i.core.rest) d)).0 (λ z. absurd (cc))

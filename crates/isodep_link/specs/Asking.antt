@@ -1,5 +1,5 @@
 -- What a reader asks of a Type 4 tag, by what it has heard (NFC Forum Digital Protocol), and what one command does there.
-use Rattle.std.specs.Prelude.{◌≡◌, ◌⊎◌, ℕ, ◌+◌, ◌-◌, ◌*◌, ◌<◌, ◌≤◌, List, [], ◌∷◌, ◌++◌, length, Bool, true, false, Option, Some, None, Result, Ok, Err}
+use Rattle.std.specs.Prelude.{◌≡◌, ◌⊎◌, ℕ, ◌+◌, ◌-◌, ◌*◌, ◌<◌, ◌≤◌, List, [], ◌∷◌, ◌++◌, length, true, false, Option, Some, Result, Ok, Err}
 use Rattle.std.specs.List.{AllByRecursion}
 use Rattle.nfc_base.specs.Signal.{Signal, whole_a}
 use Rattle.nfc_base.specs.TagLinks.{TagState}
@@ -110,7 +110,7 @@ module _ {L : Type 0} (k : Ghosts L) (card : L → CardState) (tag : L → TagSt
   abbrev pub EndsBy : Air L → Air L → ℕ → L → ReaderState → ReaderState → List (List ℕ) → List Signal → List ℕ → Result Signal AskFault → Type 0
   EndsBy old new place begin i i' commands arrived command (Ok answer) =
       (r : List ℕ) × (a : Asked old new place begin i commands arrived command (Some r) (Rests i')) × (answer ≡ whole_a r) × (new.lit ≡ true)
-        × HasCardTag new place i' (commands ++ command ∷ []) (arrived ++ turns.arrived a.events)
+      × HasCardTag new place i' (commands ++ command ∷ []) (arrived ++ turns.arrived a.events)
   EndsBy old new place begin i i' commands arrived command (Err FieldLost) =
       ((old.lit ≡ false) × (new ≡ old)) ⊎ UnderWay old new place begin i commands arrived command (λ s es. (s ≡ Broken FieldLost) × (new.lit ≡ false) × (0 < noise es))
   EndsBy old new place begin i i' commands arrived command (Err SixBad) =

@@ -1,6 +1,6 @@
 -- Type 4 tags in a field (NFC Forum Digital Protocol; NFC Forum Type 4 Tag): a listener that does at the reader's blocks what
 -- the card's table says, over the tag's own step on commands. Who hears what is this project's own.
-use Rattle.std.specs.Prelude.{◌≡◌, ◌≢◌, ℕ, ◌≤◌, List, [], ◌∷◌, length, true, false, Option, Some, None}
+use Rattle.std.specs.Prelude.{◌≡◌, ℕ, ◌≤◌, List, length, true, Some, None}
 use Rattle.std.specs.List.{AllByRecursion}
 use Rattle.nfc_base.specs.declared.frame.Tech.TheVariants.{A}
 use Rattle.nfc_base.specs.Signal.{Signal, whole_a}

@@ -1,7 +1,7 @@
 -- How long an exchange may still go on, by the reader alone.
 use Rattle.std.specs.Prelude.{ℕ, ◌+◌, ◌-◌, ◌*◌, length}
 use Rattle.isodep_link.specs.declared.reader.Phase.{Phase}
-use Rattle.isodep_link.specs.declared.reader.Phase.TheVariants.{Asked, Nacked, Free, EndedSixBad, EndedProtocol}
+use Rattle.isodep_link.specs.declared.reader.Phase.TheVariants.{Nacked}
 use Rattle.isodep_link.specs.Sizes.{limit}
 use Rattle.isodep_link.specs.Reader.{ReaderState, most_bads}
 

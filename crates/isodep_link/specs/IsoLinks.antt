@@ -1,6 +1,6 @@
 -- What contracts see of a link to a Type 4 tag, over a field that it borrows (NFC Forum Type 4 Tag; ISO/IEC 14443-4). What the
 -- tag obeyed is read off the blocks that arrived.
-use Rattle.std.specs.Prelude.{◌≡◌, ◌⊎◌, ℕ, ◌≤◌, List, [], ◌∷◌, ◌++◌, length, take, drop, map, Bool, true, false, not, Option, Some, None}
+use Rattle.std.specs.Prelude.{◌≡◌, ◌⊎◌, ℕ, ◌≤◌, List, [], ◌∷◌, ◌++◌, length, take, drop, map, Bool, false, not, Option, Some, None}
 use Rattle.nfc_base.specs.Signal.{Signal, whole_a}
 use Rattle.nfc_base.specs.Trace.{noise}
 use Rattle.nfc_base.specs.LinkTurns.{arrived}

@@ -1,13 +1,12 @@
 -- Calls on a link to a Type 4 tag, one after another.
-use Rattle.std.proofs.Common.{◌≡◌, ℕ, List, [], ◌∷◌, ◌++◌, length, map, Bool, true, false, Option, Some, None, refl, sym, ◌∙◌, ap, subst, append_assoc, append-nil}
+use Rattle.std.proofs.Common.{◌≡◌, ℕ, List, [], ◌∷◌, ◌++◌, Bool, Option, Some, None, refl, sym, ◌∙◌, ap, subst, append_assoc, append-nil}
 use Rattle.std.proofs.lemmas.List.{map-append}
 use Rattle.nfc_base.specs.Signal.{Signal}
-use Rattle.nfc_base.specs.declared.event.Heard.{Heard}
 use Rattle.nfc_base.specs.declared.tag_link.AskFault.{AskFault}
 use Rattle.nfc_base.proofs.Leading.{leads_again, leads_on}
 use Rattle.air_core.specs.World.{quiet_air}
-use Rattle.air_core.specs.Turn.{Air, moment}
-use Rattle.air_core.specs.Conversation.{AirModel, Moment, Note, Lit, Got, Lost, Next, Over, LightUp, IsDemand, Going}
+use Rattle.air_core.specs.Turn.{moment}
+use Rattle.air_core.specs.Conversation.{AirModel, Moment, Note, Lit, Got, Lost, Next, Over, IsDemand, Going}
 use Rattle.air_core.specs.Turning.{going_start, going_then}
 use Rattle.air_core.specs.PlainLinks.{unanswered}
 use Rattle.air_core.specs.declared.listener.Listener.{Ghosts}

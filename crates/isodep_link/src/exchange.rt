@@ -10,7 +10,7 @@ use nfc_base::{AskFault, Frame, Mute, Tech};
 
 /// Asks one command of the tag at a place: turns with the reader's blocks, up to the answer or a fault. The far end of its
 /// turns is mute, since such a tag asks nothing of one.
-pub fn ask_card<L: CardListener>(
+pub(crate) fn ask_card<L: CardListener>(
     field: &mut Field<L>,
     place: usize,
     reader: &mut ReaderEnd,

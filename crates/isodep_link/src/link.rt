@@ -1,6 +1,6 @@
 //! A link to a Type 4 tag.
 
-ghost use Rattle.std.specs.Prelude.{◌≡◌, length, IfOk, IfErr, None};
+ghost use Rattle.std.specs.Prelude.{◌≡◌, length, None};
 ghost use Rattle.isodep_link.specs.Reader.{waiting};
 ghost use Rattle.isodep_link.specs.Activating.{IsActivated};
 ghost use Rattle.isodep_link.specs.IsoLinks.{IsIsoReady};

@@ -1,4 +1,4 @@
-use Rattle.std.proofs.Common.{◌≡◌, ℕ, suc, ◌+◌, List, [], Bool, false, Option, Some, None, Err, sym, ◌∙◌, ap, subst, arith}
+use Rattle.std.proofs.Common.{◌≡◌, ℕ, suc, ◌+◌, List, [], Bool, false, Some, Err, sym, ◌∙◌, subst, arith}
 use Rattle.nfc_base.specs.declared.far.Mute.{Mute}
 use Rattle.nfc_base.specs.declared.event.Heard.{Heard}
 use Rattle.nfc_base.specs.Signal.{Signal}
@@ -6,7 +6,6 @@ use Rattle.air_core.specs.declared.fault.AirFault.{AirFault}
 use Rattle.air_core.specs.declared.fault.AirFault.TheVariants as air
 use Rattle.air_core.specs.Turn.{TurnIs, Transmits}
 use Rattle.air_core.proofs.PlainAside.{Laws}
-use Rattle.isodep_link.specs.Activating.{rats}
 use Rattle.isodep_link.proofs.ActivateLaw.{RatsOn, After, first_rats, after_rats, rats_lost, rats_stopped, rats_more, rats_six, rats_done, rats_never}
 use Rattle.isodep_link.proofs.activate.activate_card.Given as given
 use Rattle.isodep_link.proofs.activate.activate_card.Goals as goal
@@ -48,8 +47,8 @@ loop-bad-preserved g c =
           let Q : ℕ → Type 0 = λ n. RatsOn g.L.Listener g.L.CardListener.card g.L.CardListener.tag c.args.field.now c.args.place t c.transmit.new.self n in
           subst Q one
           (rats_more g.L.Listener (laws g) g.L.CardListener.card g.L.CardListener.tag c.args.field.now c.args.place t c.transmit.new.self c.loop-bad.bad c.in-Ok.heard c.in_default.not-Whole
-            (after_rats g.L.Listener (laws g) g.L.CardListener.card g.L.CardListener.tag c.args.field.now c.args.place t c.loop-bad.field c.loop-bad.bad c.loop-bad-test.true (c.loop-bad.invariant.goes t)
-              {F = Mute} restarts steps c.loop-bad.far c.transmit.new.far c.transmit.new.self c.in-Ok.heard (subst T c.rats-request.ensures c.in-Ok.ensures.turn)));
+          (after_rats g.L.Listener (laws g) g.L.CardListener.card g.L.CardListener.tag c.args.field.now c.args.place t c.loop-bad.field c.loop-bad.bad c.loop-bad-test.true (c.loop-bad.invariant.goes t)
+          {F = Mute} restarts steps c.loop-bad.far c.transmit.new.far c.transmit.new.self c.in-Ok.heard (subst T c.rats-request.ensures c.in-Ok.ensures.turn)));
       most = omega (arith, c.loop-bad-test.true);
     }
 
@@ -59,8 +58,8 @@ returns-in-Some g c = λ t.
     let P : Heard → Type 0 = λ h. After g.L.Listener (laws g) g.L.CardListener.card g.L.CardListener.tag c.args.field.now c.args.place t c.transmit.new.self c.loop-bad.bad (Some h) in
     rats_done g.L.Listener (laws g) g.L.CardListener.card g.L.CardListener.tag c.args.field.now c.args.place t c.transmit.new.self c.loop-bad.bad c.in-Whole.answer
     (subst P c.in-Whole.is
-      (after_rats g.L.Listener (laws g) g.L.CardListener.card g.L.CardListener.tag c.args.field.now c.args.place t c.loop-bad.field c.loop-bad.bad c.loop-bad-test.true (c.loop-bad.invariant.goes t)
-        {F = Mute} restarts steps c.loop-bad.far c.transmit.new.far c.transmit.new.self c.in-Ok.heard (subst T c.rats-request.ensures c.in-Ok.ensures.turn)))
+    (after_rats g.L.Listener (laws g) g.L.CardListener.card g.L.CardListener.tag c.args.field.now c.args.place t c.loop-bad.field c.loop-bad.bad c.loop-bad-test.true (c.loop-bad.invariant.goes t)
+    {F = Mute} restarts steps c.loop-bad.far c.transmit.new.far c.transmit.new.self c.in-Ok.heard (subst T c.rats-request.ensures c.in-Ok.ensures.turn)))
     c.in-Some.code (sym c.ats_code.ensures ∙ c.in-Some.is)
 
 pub returns-in-None : goal.returns-in-None
@@ -69,8 +68,8 @@ returns-in-None g c = λ t.
     let P : Heard → Type 0 = λ h. After g.L.Listener (laws g) g.L.CardListener.card g.L.CardListener.tag c.args.field.now c.args.place t c.transmit.new.self c.loop-bad.bad (Some h) in
     rats_never g.L.Listener (laws g) g.L.CardListener.card g.L.CardListener.tag c.args.field.now c.args.place t c.transmit.new.self c.loop-bad.bad c.in-Whole.answer
     (subst P c.in-Whole.is
-      (after_rats g.L.Listener (laws g) g.L.CardListener.card g.L.CardListener.tag c.args.field.now c.args.place t c.loop-bad.field c.loop-bad.bad c.loop-bad-test.true (c.loop-bad.invariant.goes t)
-        {F = Mute} restarts steps c.loop-bad.far c.transmit.new.far c.transmit.new.self c.in-Ok.heard (subst T c.rats-request.ensures c.in-Ok.ensures.turn)))
+    (after_rats g.L.Listener (laws g) g.L.CardListener.card g.L.CardListener.tag c.args.field.now c.args.place t c.loop-bad.field c.loop-bad.bad c.loop-bad-test.true (c.loop-bad.invariant.goes t)
+    {F = Mute} restarts steps c.loop-bad.far c.transmit.new.far c.transmit.new.self c.in-Ok.heard (subst T c.rats-request.ensures c.in-Ok.ensures.turn)))
     (sym c.ats_code.ensures ∙ c.in-None.is)
 
 pub returns-in-Err-FieldLost : goal.returns-in-Err-FieldLost

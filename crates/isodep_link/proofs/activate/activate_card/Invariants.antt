@@ -1,4 +1,4 @@
-use Rattle.std.proofs.Common.{◌-◌, ◌≤◌, ◌≡◌}
+use Rattle.std.proofs.Common.{◌-◌, ◌≤◌}
 use Rattle.isodep_link.specs.Activating.{HasFreshTag}
 use Rattle.isodep_link.proofs.ActivateLaw.{RatsOn}
 use Rattle.isodep_link.proofs.activate.activate_card.Given as goal

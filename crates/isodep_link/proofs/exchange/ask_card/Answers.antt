@@ -1,4 +1,4 @@
-use Rattle.std.proofs.Common.{◌≡◌, ℕ, List, [], Bool, false, Some, Result, Ok, Err, IfOk, refl, sym, ◌∙◌, ap, subst, arith}
+use Rattle.std.proofs.Common.{◌≡◌, ℕ, List, [], Bool, false, Result, Ok, Err, IfOk, sym, ◌∙◌, ap, subst}
 use Rattle.nfc_base.specs.declared.far.Mute.{Mute}
 use Rattle.nfc_base.specs.Signal.{Signal, whole_a}
 use Rattle.air_core.specs.declared.fault.AirFault.{AirFault}
