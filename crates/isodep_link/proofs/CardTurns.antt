@@ -1,7 +1,7 @@
 -- One turn with a Type 4 tag that is alone in its field is a turn of reader and card.
 use Rattle.std.proofs.Common.{◌≡◌, ℕ, ◌⊎◌, inl, inr, List, [], ◌∷◌, ◌++◌, Bool, true, false, if◌then◌else◌, Option, Some, None, refl, sym, ◌∙◌, ap, subst, arith}
 use Rattle.std.specs.Prelude.{map}
-use Rattle.std.specs.List.{filter_map, cons_option}
+use Rattle.std.specs.List.{AllByRecursion, filter_map, cons_option}
 use Rattle.nfc_base.specs.declared.frame.Tech.TheVariants.{A}
 use Rattle.nfc_base.specs.declared.event.Event.{Event}
 use Rattle.nfc_base.specs.declared.event.Fate.{Fate}
@@ -19,12 +19,19 @@ use Rattle.air_core.specs.Conversation.{replay, turn_events, first_fate, later_f
 use Rattle.air_core.specs.Turn.{Air, world}
 use Rattle.air_core.specs.Quiet.{EachQuiet, QuietTurn}
 use Rattle.air_core.specs.PlainTags.{IsAside, IsAlone}
+use Rattle.air_core.specs.PlainLinks.{at_place, stores_after}
+use Rattle.air_core.proofs.PlainStores.{place_is}
 use Rattle.air_core.specs.declared.listener.Listener.{Ghosts}
 use Rattle.air_core.proofs.PlainAside.{Laws, IsUnmoved, aside_silent, alone_dark, alone_quiet, alone_says, alone_steps}
 use Rattle.air_core.proofs.PlainTurns.{one, joint_one, tag_events, tag_heard, turn_events_as, heard_as}
 use Rattle.isodep_link.specs.Card.{CardState, fresh}
 use Rattle.isodep_link.specs.Exchange.{iso_dep}
 use Rattle.isodep_link.specs.CardTags.{IsAsked, Obeys, IsShort, StepsByCard, IsCardTag}
+
+-- some stores, all of them this one
+abbrev pub Shows : List ℕ → List (List ℕ) → Type 0
+Shows z [] = ⊥
+Shows z (x ∷ xs) = (x ≡ z) × AllByRecursion (λ s. s ≡ z) xs
 
 module _ {L : Type 0} (k : Ghosts L) (laws : Laws k) (card : L → CardState) (tag : L → TagState) where
   -- what the listener is after a turn
@@ -40,6 +47,13 @@ module _ {L : Type 0} (k : Ghosts L) (laws : Laws k) (card : L → CardState) (t
   left_by l f Damage y o = l
   left_by l f Lose y o = l
   left_by l f Break y o = k.machine.darkened l
+
+  -- the listener that met the frame, before the dark
+  abbrev met_by : L → Signal → Fate → L
+  met_by l f Pass = k.machine.after l f None
+  met_by l f Damage = l
+  met_by l f Lose = l
+  met_by l f Break = l
 
   -- what the tag holds after a turn, before the dark
   abbrev met : L → Signal → Fate → TagState
@@ -62,6 +76,35 @@ module _ {L : Type 0} (k : Ghosts L) (laws : Laws k) (card : L → CardState) (t
     alone_after Damage y o = a
     alone_after Lose y o = a
     alone_after Break y o = alone_dark k laws own w.listeners place l a
+
+    -- after each event of a turn the tag holds the same store
+    module _ (z : List ℕ) where
+      stays : k.store l ≡ z → at_place k.store [] w.listeners place ≡ z
+      stays q = place_is k k.store [] own w.listeners place l a ∙ q
+
+      dims : k.store l ≡ z → at_place k.store [] (map k.machine.darkened w.listeners) place ≡ z
+      dims q = place_is k k.store [] own (map k.machine.darkened w.listeners) place (k.machine.darkened l) (alone_dark k laws own w.listeners place l a) ∙ (laws.dark_keeps l).2 ∙ q
+
+      abbrev stepped_on : List L
+      stepped_on = map (λ x. stepped_by k.machine x f None) w.listeners
+
+      steps : k.store (k.machine.after l f None) ≡ z → at_place k.store [] stepped_on place ≡ z
+      steps q = place_is k k.store [] own stepped_on place (k.machine.after l f None) stepped_alone ∙ q
+
+      steps_dim : k.store (k.machine.after l f None) ≡ z → at_place k.store [] (map k.machine.darkened stepped_on) place ≡ z
+      steps_dim q =
+          place_is k k.store [] own (map k.machine.darkened stepped_on) place (k.machine.darkened (k.machine.after l f None)) (alone_dark k laws own stepped_on place (k.machine.after l f None) stepped_alone)
+            ∙ (laws.dark_keeps (k.machine.after l f None)).2 ∙ q
+
+      shows_store : (x y : Fate) (o : Option Signal) → k.store (met_by l f x) ≡ z → Shows z (stores_after k place w (tag_events f x y o))
+      shows_store Damage y o q = (stays q, tt)
+      shows_store Lose y o q = (stays q, tt)
+      shows_store Break y o q = (dims q, tt)
+      shows_store Pass y None q = (steps q, tt)
+      shows_store Pass Pass (Some g) q = (steps q, (steps q, tt))
+      shows_store Pass Damage (Some g) q = (steps q, (steps q, tt))
+      shows_store Pass Lose (Some g) q = (steps q, (steps q, tt))
+      shows_store Pass Break (Some g) q = (steps q, (steps_dim q, tt))
 
   -- a turn of the two tables has the same events, and the same is heard of it
   answered_events : (t : CardState) (asked : Option (List ℕ)) (f : Signal) (q : Option Signal) (y : Fate) → (answered iso_dep t asked f q y).events ≡ tag_events f Pass y q
@@ -140,6 +183,7 @@ module _ {L : Type 0} (k : Ghosts L) (laws : Laws k) (card : L → CardState) (t
     pub added : List Event
     pub trace : new.trace ≡ old.trace ++ added
     pub calm : noise added ≡ 0 → (k.machine.answer l f None ≡ None) ⊎ ((g : Signal) × (h ≡ Some (heards.Whole g)))
+    pub stores : Shows held.store (stores_after k place (world old) added)
 
   left_is : (l : L) (f : Signal) (lit : Bool) (x y : Fate) (q : Option Signal) → lit ≡ true → (w : World L) → w.lit ≡ lit
       → IsLeft l f (met l f x) (replay (quiet_air k.machine) w (tag_events f x y q)).lit (tag_heard x y q) (left_by l f x y q)
@@ -162,6 +206,12 @@ module _ {L : Type 0} (k : Ghosts L) (laws : Laws k) (card : L → CardState) (t
   calm_events f Damage y q e = absurd (omega (arith, e))
   calm_events f Lose y q e = absurd (omega (arith, e))
   calm_events f Break y q e = absurd (omega (arith, e))
+
+  met_holds : (l : L) (f : Signal) (x : Fate) → k.store l ≡ (tag l).store → k.store (k.machine.after l f None) ≡ (tag (k.machine.after l f None)).store → k.store (met_by l f x) ≡ (met l f x).store
+  met_holds l f Pass p q = q
+  met_holds l f Damage p q = p
+  met_holds l f Lose p q = p
+  met_holds l f Break p q = p
 
   calm_is : (a : Option Signal) (x y : Fate) (o : Option Signal) (h : Option Heard) → a ≡ o → h ≡ tag_heard x y o → (o ≡ None) ⊎ ((g : Signal) × (tag_heard x y o ≡ Some (heards.Whole g)))
       → (a ≡ None) ⊎ ((g : Signal) × (h ≡ Some (heards.Whole g)))
@@ -225,4 +275,7 @@ module _ {L : Type 0} (k : Ghosts L) (laws : Laws k) (card : L → CardState) (t
           added = tag_events f x y o;
           trace = q.trace ∙ ap (λ (es : List Event). old.trace ++ es) events;
           calm = λ z. calm_is (k.machine.answer l f None) x y o h s.answer told (calm_events f x y o z);
+          stores =
+              shows_store (k.identifier l) f (asked_aside (k.identifier l) f a) (world old) place l alone steps (met l f x).store x y o
+                (met_holds l f x (c.holds [] tt) (c.holds (f ∷ []) (a, tt)));
         }
