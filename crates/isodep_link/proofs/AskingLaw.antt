@@ -1,8 +1,8 @@
 -- A reader that asks a command of a Type 4 tag keeps the law of the exchange, turn by turn.
-use Rattle.std.proofs.Common.{◌≡◌, ℕ, zero, suc, ◌+◌, ◌-◌, ◌*◌, ◌<◌, ◌≤◌, ◌⊎◌, inl, inr, List, [], ◌∷◌, ◌++◌, length, Bool, true, false, Option, Some, None, Ok, Err, refl, sym, ◌∙◌, ap, subst, arith, append_assoc, append-nil}
+use Rattle.std.proofs.Common.{◌≡◌, ℕ, zero, suc, ◌+◌, ◌-◌, ◌*◌, ◌<◌, ◌≤◌, ◌⊎◌, inl, inr, List, [], ◌∷◌, ◌++◌, length, map, Bool, true, false, Option, Some, None, Ok, Err, refl, sym, ◌∙◌, ap, subst, arith, append_assoc, append-nil}
 use Rattle.std.specs.List.{AllByRecursion}
 use Rattle.nfc_base.specs.Signal.{Signal, whole_a}
-use Rattle.nfc_base.specs.TagLinks.{TagState, TagStep}
+use Rattle.nfc_base.specs.TagLinks.{TagState, TagStep, passed}
 use Rattle.nfc_base.specs.Trace.{noise}
 use Rattle.nfc_base.specs.StopAndWait.{Does, Quiet, Reply, Deliver, Hears, Finished, SixBad, Protocol, Stage, Requests, Over, Dark, stage_of, World, Once, IsEnding, delivered_of, pieces_back}
 use Rattle.nfc_base.specs.LinkTurns.{heard_of, heard_in, settled, IsTurn, GivenBy}
@@ -22,9 +22,12 @@ use Rattle.air_core.specs.declared.fault.AirFault.TheVariants as air
 use Rattle.nfc_base.proofs.Leading.{all_append}
 use Rattle.nfc_base.proofs.LinkTurns.{J, Along, Onward, goes_along, starts_along, next_asking, next_stage}
 use Rattle.air_core.specs.World.{quiet_air}
-use Rattle.air_core.specs.Turn.{Air, moment, TurnIs, Transmits}
+use Rattle.air_core.specs.World as worlds
+use Rattle.air_core.specs.PlainLinks.{Follows, stores_after}
+use Rattle.air_core.specs.Following.{stores_append}
+use Rattle.air_core.specs.Turn.{Air, world, moment, TurnIs, Transmits}
 use Rattle.air_core.specs.Turning.{going_start, going_turn}
-use Rattle.air_core.specs.Conversation.{Note, note, Going, Asks}
+use Rattle.air_core.specs.Conversation.{Note, note, Going, Asks, Moment, replay}
 use Rattle.air_core.specs.Quiet.{EachQuiet, QuietTurn}
 use Rattle.air_core.specs.PlainTags.{reached, IsAlone}
 use Rattle.air_core.specs.declared.listener.Listener.{Ghosts}
@@ -44,7 +47,8 @@ use Rattle.isodep_link.specs.Asking.{Standing, Waits, Rests, Broken, asks, goes_
 use Rattle.isodep_link.proofs.Wire.{is_piece}
 use Rattle.isodep_link.proofs.Standing as law
 use Rattle.isodep_link.proofs.Obeyed.{keeps, asking_first}
-use Rattle.isodep_link.proofs.CardTurns.{CardTurn, card_turn, quiet_asked}
+use Rattle.isodep_link.proofs.Images.{arrived_append, after_it, Stores, images_grow, commands_grow, given_stays}
+use Rattle.isodep_link.proofs.CardTurns.{Shows, CardTurn, card_turn, quiet_asked}
 
 -- what is noted behind some notes
 stand_on : (s : Standing) (ns : List Note) (n : Note) → stand s (ns ++ n ∷ []) ≡ noted (stand s ns) n
@@ -115,6 +119,9 @@ module _ {L : Type 0} (k : Ghosts L) (card : L → CardState) (tag : L → TagSt
     pub notes : List Note
     pub going : Going (quiet_air k.machine) (iso_next i0 (command ∷ [])) (moment old) (moment mid) notes
     pub stands : stand (asks i0 (command ∷ [])) notes ≡ s
+    pub seen : List Event
+    pub seen_is : mid.trace ≡ old.trace ++ seen
+    pub images : Follows (k.store begin) (stores_after k place (world old) seen) (after_it along.world.given (tag (reached k begin frames)).store)
 
   -- a turn that lost the field
   pub record LostTag (old new : Air L) (place : ℕ) : Type 0 where
@@ -129,6 +136,9 @@ module _ {L : Type 0} (k : Ghosts L) (card : L → CardState) (tag : L → TagSt
     pub notes : List Note
     pub going : Going (quiet_air k.machine) (iso_next i0 (command ∷ [])) (moment old) (moment new) notes
     pub stands : stand (asks i0 (command ∷ [])) notes ≡ Broken FieldLost
+    pub seen : List Event
+    pub seen_is : new.trace ≡ old.trace ++ seen
+    pub images : Follows (k.store begin) (stores_after k place (world old) seen) (after_it along.world.given (tag (reached k begin frames)).store)
 
 module _ {L : Type 0} (k : Ghosts L) (laws : Laws k) where
   reached_twice : (l : L) (fs gs : List Signal) → reached k (reached k l fs) gs ≡ reached k l (fs ++ gs)
@@ -181,14 +191,26 @@ module _ {L : Type 0} (k : Ghosts L) (laws : Laws k) where
             selected = selected;
             lit = refl;
             dim = λ e. refl;
-            along =
-                starts_along iso_dep commands command (keeps (card begin).most command) (2 * pieces i0.core.most command) TagState (Obeys (k.commands begin)) arrived old.trace (tag begin)
-                (beginning i0 (card begin) commands arrived command) (
-                  2 * pieces i0.core.most command,
-                  law.asks refl refl (asking_first i0 (card begin) command short s) (omega arith),
-                  record { once = sym (append-nil commands); reply = tt; stood = cut; bound = omega arith },
-                )
-                refl refl refl refl;
+            along = record {
+              world = beginning i0 (card begin) commands arrived command;
+              asking = refl;
+              answering = refl;
+              stage_is = refl;
+              inv = (
+                2 * pieces i0.core.most command,
+                law.asks refl refl (asking_first i0 (card begin) command short s) (omega arith),
+                record { once = sym (append-nil commands); reply = tt; stood = cut; bound = omega arith },
+              );
+              added = [];
+              events = sym (append-nil old.trace);
+              arrives = append-nil arrived;
+              sent = refl;
+              bads = refl;
+              given = refl;
+            };
+            seen = [];
+            seen_is = sym (append-nil old.trace);
+            images = tt;
             notes = [];
             going = going_start (quiet_air k.machine) (iso_next i0 (command ∷ [])) (moment old);
             stands = refl;
@@ -284,6 +306,69 @@ module _ {L : Type 0} (k : Ghosts L) (laws : Laws k) where
       heard_nothing es0 es i t held None e a = a
       heard_nothing es0 es i t held (Some z) e a = absurd (cc)
 
+      -- what is known of the exchange, wherever the loop stands
+      abbrev pub OnceAlong : World ReaderState CardState Signal → Type 0
+      OnceAlong w =
+          Once iso_dep (IsReady iso_dep command (keeps (card begin).most command)) (λ g. Unit {0}) commands command (pieces i0.core.most command) (pieces (card begin).most) w
+
+      pub once_along : (es0 es : List Event) (i : ReaderState) (t : CardState) (held : TagState) (stage : Stage Signal) (a : Stands es0 i t es held stage) → OnceAlong a.world
+      once_along es0 es i t held stage a =
+          kept_once iso_dep commands command (keeps (card begin).most command) (λ g. Unit {0}) (pieces i0.core.most command) (pieces (card begin).most) (λ r. refl) a.world a.inv
+
+      -- the stores that the tag shows in one turn more
+      module _ (old mid new : Air L) (place : ℕ) (i : ReaderState) (stage0 : Stage Signal) (s0 : Standing) (o : On old mid place i stage0 s0) (more : List Event) (trace : new.trace ≡ mid.trace ++ more)
+          (i' : ReaderState) (t' : CardState) (held : TagState) (stage : Stage Signal) (b : Stands old.trace i' t' new.trace held stage) (shown : Shows held.store (stores_after k place (world mid) more)) where
+        abbrev first : L
+        first = reached k begin o.frames
+
+        added_is : b.added ≡ o.along.added ++ more
+        added_is =
+            append_cancel_left old.trace b.added (o.along.added ++ more)
+              (sym b.events ∙ trace ∙ ap (λ (es : List Event). es ++ more) o.along.events ∙ append_assoc old.trace o.along.added more)
+
+        arrived_is : b.world.arrived ≡ o.along.world.arrived ++ turns.arrived more
+        arrived_is =
+            sym b.arrives ∙ ap (λ (es : List Event). arrived ++ turns.arrived es) added_is ∙ ap (λ (fs : List Signal). arrived ++ fs) (arrived_append o.along.added more)
+              ∙ sym (append_assoc arrived (turns.arrived o.along.added) (turns.arrived more)) ∙ ap (λ (fs : List Signal). fs ++ turns.arrived more) o.along.arrives
+
+        never_less : (r : List ℕ) → o.along.world.given ≡ Some r → b.world.given ≡ None → ⊥
+        never_less r p q =
+            let was = once_along old.trace mid.trace i (card first) (tag first) stage0 o.along in
+            let now = once_along old.trace new.trace i' t' held stage b in
+            let grow = commands_grow o.along.world.arrived (turns.arrived more) in
+            given_stays commands command o.along.world.given b.world.given grow.0
+              ( sym now.once ∙ sym now.brings ∙ ap (λ (fs : List Signal). iso_commands (blocks_of fs)) arrived_is ∙ grow.1
+                ∙ ap (λ (cs : List (List ℕ)). cs ++ grow.0) (was.brings ∙ was.once) )
+              r p q
+
+        first_store : (tag begin).store ≡ k.store begin
+        first_store = sym (c.holds [] tt)
+
+        stores_by : (g h : Option (List ℕ)) → o.along.world.given ≡ g → b.world.given ≡ h → Stores (k.store begin) g (tag first).store h held.store
+        stores_by None None p q =
+            ap (λ (x : TagState). x.store) (subst (λ (x : Option (List ℕ)). GivenBy (Obeys (k.commands begin)) (tag begin) command x held) q b.given) ∙ first_store
+        stores_by None (Some y) p q = tt
+        stores_by (Some x) (Some y) p q =
+            let was = subst (λ (z : Option (List ℕ)). GivenBy (Obeys (k.commands begin)) (tag begin) command z (tag first)) p o.along.given in
+            let now = subst (λ (z : Option (List ℕ)). GivenBy (Obeys (k.commands begin)) (tag begin) command z held) q b.given in
+            ap (λ (z : TagState). z.store) (was.1 ∙ sym now.1)
+        stores_by (Some x) None p q = never_less x p q
+
+        pub seen_on : new.trace ≡ old.trace ++ (o.seen ++ more)
+        seen_on = trace ∙ ap (λ (es : List Event). es ++ more) o.seen_is ∙ append_assoc old.trace o.seen more
+
+        pub images_on : Follows (k.store begin) (stores_after k place (world old) (o.seen ++ more)) (after_it b.world.given held.store)
+        images_on =
+            let same : o.going.events ≡ o.seen =
+                append_cancel_left old.trace o.going.events o.seen (sym (ap (λ (m : Moment (worlds.World L)). m.trace) o.going.moment) ∙ o.seen_is) in
+            let reached_world : world mid ≡ replay (quiet_air k.machine) (world old) o.seen =
+                ap (λ (m : Moment (worlds.World L)). m.world) o.going.moment ∙ ap (replay (quiet_air k.machine) (world old)) same in
+            let all : stores_after k place (world old) (o.seen ++ more) ≡ stores_after k place (world old) o.seen ++ stores_after k place (world mid) more =
+                stores_append k place (world old) o.seen more ∙ ap (λ (w : worlds.World L). stores_after k place (world old) o.seen ++ stores_after k place w more) (sym reached_world) in
+            subst (λ (xs : List (List ℕ)). Follows (k.store begin) xs (after_it b.world.given held.store)) (sym all)
+              (images_grow (k.store begin) (stores_after k place (world old) o.seen) (stores_after k place (world mid) more) o.along.world.given b.world.given (tag first).store held.store
+                o.images shown (stores_by o.along.world.given b.world.given refl refl))
+
       module _ (old mid : Air L) (place : ℕ) (i : ReaderState) (f : Signal) (o : On old mid place i (Requests f) (Waits i f [])) {F : Type 0} (far far' : F) (new : Air L) where
         abbrev more_frames : List Signal
         more_frames = o.frames ++ f ∷ []
@@ -311,6 +396,12 @@ module _ {L : Type 0} (k : Ghosts L) (laws : Laws k) where
 
           on_left : (fs : List Signal) → AllByRecursion IsAsked fs → t.left ≡ reached k begin fs → k.is_selected (reached k begin fs) ≡ true → tag t.left ≡ t.held → new.lit ≡ true → Next_on
           on_left fs a e s held lit =
+              let b = heard_next old.trace new.trace i (card t.left) t.held h n.hears n.heard_is n.along in
+              let al : Stands old.trace (reader_table i h).state (card (reached k begin fs)) new.trace (tag (reached k begin fs)) (stage_of (reader_does (reader_table i h).does)) =
+                  subst (λ (x : L). Stands old.trace (reader_table i h).state (card x) new.trace (tag x) (stage_of (reader_does (reader_table i h).does))) e
+                    (subst (λ (z : TagState). Stands old.trace (reader_table i h).state (card t.left) new.trace z (stage_of (reader_does (reader_table i h).does))) (sym held) b) in
+              let sh : Shows (tag (reached k begin fs)).store (stores_after k place (world mid) t.added) =
+                  subst (λ (z : TagState). Shows z.store (stores_after k place (world mid) t.added)) (sym held ∙ ap tag e) t.stores in
               record {
                 frames = fs;
                 asked = a;
@@ -318,13 +409,13 @@ module _ {L : Type 0} (k : Ghosts L) (laws : Laws k) where
                 selected = s;
                 lit = lit ∙ sym q.lit ∙ o.lit;
                 dim = λ d. absurd (cc);
-                along =
-                    (let b = heard_next old.trace new.trace i (card t.left) t.held h n.hears n.heard_is n.along in
-                    subst (λ (x : L). Stands old.trace (reader_table i h).state (card x) new.trace (tag x) (stage_of (reader_does (reader_table i h).does))) e
-                    (subst (λ (z : TagState). Stands old.trace (reader_table i h).state (card t.left) new.trace z (stage_of (reader_does (reader_table i h).does))) (sym held) b));
+                along = al;
                 notes = o.notes ++ note (Some h) ∷ [];
                 going = going_on old mid place i f o far far' new (Some h) q;
                 stands = stands_then old mid place i f o far far' new (Some h) q;
+                seen = o.seen ++ t.added;
+                seen_is = seen_on old mid new place i (Requests f) (Waits i f []) o t.added t.trace (reader_table i h).state (card (reached k begin fs)) (tag (reached k begin fs)) (stage_of (reader_does (reader_table i h).does)) al sh;
+                images = images_on old mid new place i (Requests f) (Waits i f []) o t.added t.trace (reader_table i h).state (card (reached k begin fs)) (tag (reached k begin fs)) (stage_of (reader_does (reader_table i h).does)) al sh;
               }
 
           by_left : (t.left ≡ reached k begin o.frames) ⊎ (t.left ≡ k.machine.after (reached k begin o.frames) f None) → tag t.left ≡ t.held → new.lit ≡ true → Next_on
@@ -344,6 +435,11 @@ module _ {L : Type 0} (k : Ghosts L) (laws : Laws k) where
 
           lost_left : (was : L) (fs : List Signal) → AllByRecursion IsAsked fs → was ≡ reached k begin fs → t0.left ≡ k.machine.darkened was → tag was ≡ t0.held → new.lit ≡ false → Lost old new place
           lost_left was fs a e d held lit =
+              let b = heard_nothing old.trace new.trace i (card t0.left) t0.held n0.hears n0.heard_is n0.along in
+              let al : Stands old.trace i (card t0.left) new.trace (tag (reached k begin fs)) Dark =
+                  subst (λ (z : TagState). Stands old.trace i (card t0.left) new.trace z Dark) (sym held ∙ ap tag e) b in
+              let sh : Shows (tag (reached k begin fs)).store (stores_after k place (world mid) t0.added) =
+                  subst (λ (z : TagState). Shows z.store (stores_after k place (world mid) t0.added)) (sym held ∙ ap tag e) t0.stores in
               record {
                 frames = fs;
                 asked = a;
@@ -352,12 +448,13 @@ module _ {L : Type 0} (k : Ghosts L) (laws : Laws k) where
                 darkened = d ∙ ap k.machine.darkened e;
                 dark = lit;
                 reader = i;
-                along =
-                    (let b = heard_nothing old.trace new.trace i (card t0.left) t0.held n0.hears n0.heard_is n0.along in
-                    subst (λ (z : TagState). Stands old.trace i (card t0.left) new.trace z Dark) (sym held ∙ ap tag e) b);
+                along = al;
                 notes = o.notes ++ note None ∷ [];
                 going = going_on old mid place i f o far far' new None q;
                 stands = stands_then old mid place i f o far far' new None q;
+                seen = o.seen ++ t0.added;
+                seen_is = seen_on old mid new place i (Requests f) (Waits i f []) o t0.added t0.trace i (card t0.left) (tag (reached k begin fs)) Dark al sh;
+                images = images_on old mid new place i (Requests f) (Waits i f []) o t0.added t0.trace i (card t0.left) (tag (reached k begin fs)) Dark al sh;
               }
 
           lost_by : (was : L) → (was ≡ reached k begin o.frames) ⊎ (was ≡ k.machine.after (reached k begin o.frames) f None) → t0.left ≡ k.machine.darkened was → tag was ≡ t0.held → new.lit ≡ false → Lost old new place
@@ -367,20 +464,18 @@ module _ {L : Type 0} (k : Ghosts L) (laws : Laws k) where
           pub turn_lost : Lost old new place
           turn_lost = lost_by t0.is.0 t0.is.2 t0.is.1 t0.is.3 t0.is.4
 
-      -- what is known of the exchange, wherever the loop stands
-      abbrev pub OnceAlong : World ReaderState CardState Signal → Type 0
-      OnceAlong w =
-          Once iso_dep (IsReady iso_dep command (keeps (card begin).most command)) (λ g. Unit {0}) commands command (pieces i0.core.most command) (pieces (card begin).most) w
-
-      pub once_along : (es0 es : List Event) (i : ReaderState) (t : CardState) (held : TagState) (stage : Stage Signal) (a : Stands es0 i t es held stage) → OnceAlong a.world
-      once_along es0 es i t held stage a =
-          kept_once iso_dep commands command (keeps (card begin).most command) (λ g. Unit {0}) (pieces i0.core.most command) (pieces (card begin).most) (λ r. refl) a.world a.inv
+      -- the stores that the command passes
+      pub passed_by : (g : Option (List ℕ)) (held : TagState) → GivenBy (Obeys (k.commands begin)) (tag begin) command g held
+          → after_it g held.store ≡ passed (k.commands begin) (tag begin) (map whole_a (delivered_of command g))
+      passed_by None held h = refl
+      passed_by (Some r) held h = ap (λ (x : TagState). x.store ∷ []) h.1
 
       abbrev pub asked_by : (old new : Air L) (place : ℕ) (i : ReaderState) (t : CardState) (held : TagState) (stage : Stage Signal) (a : Stands old.trace i t new.trace held stage)
+          → (seen : List Event) → new.trace ≡ old.trace ++ seen → Follows (k.store begin) (stores_after k place (world old) seen) (after_it a.world.given held.store)
           → (g : Option (List ℕ)) → a.world.given ≡ g → IsAfter k card tag new place begin held → (notes : List Note)
           → Going (quiet_air k.machine) (iso_next i0 (command ∷ [])) (moment old) (moment new) notes → (s : Standing) → stand (asks i0 (command ∷ [])) notes ≡ s
           → Asked k card tag old new place begin i0 commands arrived command g s
-      asked_by old new place i t held stage a g e after notes going s stands =
+      asked_by old new place i t held stage a seen seen_is images g e after notes going s stands =
           let o : OnceAlong a.world = once_along old.trace new.trace i t held stage a in
           record {
             held = held;
@@ -396,6 +491,12 @@ module _ {L : Type 0} (k : Ghosts L) (laws : Laws k) where
             notes = notes;
             going = going;
             stands = stands;
+            images =
+                (let same : seen ≡ a.added = append_cancel_left old.trace seen a.added (sym seen_is ∙ a.events) in
+                 let given : GivenBy (Obeys (k.commands begin)) (tag begin) command g held = subst (λ (x : Option (List ℕ)). GivenBy (Obeys (k.commands begin)) (tag begin) command x held) e a.given in
+                 subst (λ (es : List Event). Follows (k.store begin) (stores_after k place (world old) es) (passed (k.commands begin) (tag begin) (map whole_a (delivered_of command g)))) same
+                   (subst (λ (xs : List (List ℕ)). Follows (k.store begin) (stores_after k place (world old) seen) xs) (passed_by g held given)
+                     (subst (λ (x : Option (List ℕ)). Follows (k.store begin) (stores_after k place (world old) seen) (after_it x held.store)) e images)));
           }
 
       pub after_on : (old mid : Air L) (place : ℕ) (i : ReaderState) (stage : Stage Signal) (s : Standing) (o : On old mid place i stage s) → mid.lit ≡ true
@@ -407,11 +508,11 @@ module _ {L : Type 0} (k : Ghosts L) (laws : Laws k) where
       abbrev pub on_asked : (old mid : Air L) (place : ℕ) (i : ReaderState) (stage : Stage Signal) (s : Standing) (o : On old mid place i stage s) → mid.lit ≡ true
           → Asked k card tag old mid place begin i0 commands arrived command o.along.world.given s
       on_asked old mid place i stage s o lit =
-          asked_by old mid place i (card (reached k begin o.frames)) (tag (reached k begin o.frames)) stage o.along o.along.world.given refl (after_on old mid place i stage s o lit) o.notes o.going s o.stands
+          asked_by old mid place i (card (reached k begin o.frames)) (tag (reached k begin o.frames)) stage o.along o.seen o.seen_is o.images o.along.world.given refl (after_on old mid place i stage s o lit) o.notes o.going s o.stands
 
       abbrev pub lost_asked : (old new : Air L) (place : ℕ) (o : Lost old new place) → Asked k card tag old new place begin i0 commands arrived command o.along.world.given (Broken FieldLost)
       lost_asked old new place o =
-          asked_by old new place o.reader (card o.left) (tag (reached k begin o.frames)) Dark o.along o.along.world.given refl
+          asked_by old new place o.reader (card o.left) (tag (reached k begin o.frames)) Dark o.along o.seen o.seen_is o.images o.along.world.given refl
           (record { frames = o.frames; asked = o.asked; left = o.left; alone = o.alone; holds = refl; is = inr (o.dark, o.darkened) }) o.notes o.going (Broken FieldLost) o.stands
 
       -- an exchange that ended, by what its end tells
@@ -433,7 +534,7 @@ module _ {L : Type 0} (k : Ghosts L) (laws : Laws k) where
           let did : o.along.world.delivered ≡ commands ++ command ∷ [] = once.once ∙ ap (λ (x : Option (List ℕ)). commands ++ delivered_of command x) e.0 in
           let P : ReaderState → CardState → Type 0 = λ x y. InStep x y in
           let Q : CardState → List (List ℕ) → List Signal → Type 0 = IsCut in (
-            asked_by old new place i (card l) (tag l) (Over (Finished r)) o.along (Some r) e.0 (after_on old new place i (Over (Finished r)) s o lit) o.notes o.going s o.stands,
+            asked_by old new place i (card l) (tag l) (Over (Finished r)) o.along o.seen o.seen_is o.images (Some r) e.0 (after_on old new place i (Over (Finished r)) s o lit) o.notes o.going s o.stands,
             record {
               listener = l;
               selected = o.selected;

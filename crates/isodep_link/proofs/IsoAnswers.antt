@@ -25,7 +25,8 @@ use Rattle.isodep_link.specs.Commands.{iso_commands}
 use Rattle.isodep_link.specs.Exchange.{blocks_of, IsCut}
 use Rattle.isodep_link.specs.Asking.{Standing, Rests, asks, stand, iso_next, HasCardTag, Asked, EndsBy}
 use Rattle.isodep_link.specs.IsoLinks.{IsoSeen, commands_of, obeyed_in, Replays, StandsAt, since, iso_view, IsIsoReady, IsoMoves}
-use Rattle.isodep_link.proofs.IsoViews.{arrived_append, before, shown_obeyed, shown_held, obeys, shown_noise, shown_step, either_state, still_answered, all_answered, answered_before, since_new, held_all}
+use Rattle.isodep_link.proofs.Images.{arrived_append}
+use Rattle.isodep_link.proofs.IsoViews.{before, shown_obeyed, shown_held, obeys, shown_noise, shown_step, either_state, still_answered, all_answered, answered_before, since_new, held_all}
 
 pub none_here : (o : Option AskFault) → ((x : AskFault) → o ≡ Some x → ⊥) → o ≡ None
 none_here None other = refl

@@ -28,20 +28,8 @@ use Rattle.isodep_link.specs.Activating.{IsActivated}
 use Rattle.isodep_link.specs.CardTags as tags
 use Rattle.isodep_link.specs.Asking.{Standing, Asked}
 use Rattle.isodep_link.specs.IsoLinks.{IsoSeen, commands_of, obeyed_in, opened_by, since, store_of, iso_view, IsIsoReady}
+use Rattle.isodep_link.proofs.Images.{arrived_append}
 use Rattle.isodep_link.proofs.AskingLaw.{reached_same}
-
-with_append : (f : Signal) (x : Fate) (xs ys zs : List Signal) → xs ≡ ys ++ zs → with_arrived f x xs ≡ with_arrived f x ys ++ zs
-with_append f Pass xs ys zs e = ap (λ fs. f ∷ fs) e
-with_append f Damage xs ys zs e = e
-with_append f Lose xs ys zs e = e
-with_append f Break xs ys zs e = e
-
-pub arrived_append : (xs ys : List Event) → arrived (xs ++ ys) ≡ arrived xs ++ arrived ys
-arrived_append [] ys = refl
-arrived_append (Reset ∷ xs) ys = arrived_append xs ys
-arrived_append (Request f x ∷ xs) ys = with_append f x (arrived (xs ++ ys)) (arrived xs) (arrived ys) (arrived_append xs ys)
-arrived_append (Answer g x ∷ xs) ys = arrived_append xs ys
-arrived_append (Clash g x ∷ xs) ys = arrived_append xs ys
 
 -- the command, where something was given
 abbrev pub handed : Signal → Option (List ℕ) → List Signal

@@ -1,8 +1,8 @@
 -- What a reader asks of a Type 4 tag, by what it has heard (NFC Forum Digital Protocol), and what one command does there.
-use Rattle.std.specs.Prelude.{◌≡◌, ◌⊎◌, ℕ, ◌+◌, ◌-◌, ◌*◌, ◌<◌, ◌≤◌, List, [], ◌∷◌, ◌++◌, length, true, false, Option, Some, Result, Ok, Err}
+use Rattle.std.specs.Prelude.{◌≡◌, ◌⊎◌, ℕ, ◌+◌, ◌-◌, ◌*◌, ◌<◌, ◌≤◌, List, [], ◌∷◌, ◌++◌, length, map, true, false, Option, Some, Result, Ok, Err}
 use Rattle.std.specs.List.{AllByRecursion}
 use Rattle.nfc_base.specs.Signal.{Signal, whole_a}
-use Rattle.nfc_base.specs.TagLinks.{TagState}
+use Rattle.nfc_base.specs.TagLinks.{TagState, passed}
 use Rattle.nfc_base.specs.Trace.{noise}
 use Rattle.nfc_base.specs.StopAndWait.{delivered_of, pieces_back}
 use Rattle.nfc_base.specs.LinkTurns.{GivenBy, bad_receptions}
@@ -11,9 +11,10 @@ use Rattle.nfc_base.specs.declared.event.Event.{Event}
 use Rattle.nfc_base.specs.declared.tag_link.AskFault.{AskFault}
 use Rattle.nfc_base.specs.declared.tag_link.AskFault.TheVariants.{FieldLost, SixBad, Memory, Protocol}
 use Rattle.air_core.specs.World.{quiet_air}
-use Rattle.air_core.specs.Turn.{Air, moment}
+use Rattle.air_core.specs.Turn.{Air, world, moment}
 use Rattle.air_core.specs.Conversation.{Note, Lit, Got, Lost, Next, Over, Asks, Going}
 use Rattle.air_core.specs.PlainTags.{reached, IsAlone}
+use Rattle.air_core.specs.PlainLinks.{Follows, stores_after}
 use Rattle.air_core.specs.declared.listener.Listener.{Ghosts}
 use Rattle.isodep_link.specs.declared.reader.ReaderStep.{ReaderStep}
 use Rattle.isodep_link.specs.declared.reader.ReaderStep.TheVariants as steps
@@ -87,7 +88,8 @@ module _ {L : Type 0} (k : Ghosts L) (card : L → CardState) (tag : L → TagSt
     pub is : ((air.lit ≡ true) × (left ≡ reached k begin frames)) ⊎ ((air.lit ≡ false) × (left ≡ k.machine.darkened (reached k begin frames)))
 
   -- From one moment of a field to another, turns of one command were made, each due, and this is where the reader
-  -- stands then. The tag obeyed the command at most once, where it gave an answer; so much was sent at most.
+  -- stands then. The tag obeyed the command at most once, where it gave an answer; so much was sent at most; and its store was
+  -- the one before the command, and then the one after it.
   pub record Asked (old new : Air L) (place : ℕ) (begin : L) (i : ReaderState) (commands : List (List ℕ)) (arrived : List Signal) (command : List ℕ) (given : Option (List ℕ)) (s : Standing) : Type 0 where
     pub held : TagState
     pub after : IsAfter new place begin held
@@ -99,6 +101,7 @@ module _ {L : Type 0} (k : Ghosts L) (card : L → CardState) (tag : L → TagSt
     pub notes : List Note
     pub going : Going (quiet_air k.machine) (iso_next i (command ∷ [])) (moment old) (moment new) notes
     pub stands : stand (asks i (command ∷ [])) notes ≡ s
+    pub images : Follows (k.store begin) (stores_after k place (world old) events) (passed (k.commands begin) (tag begin) (map whole_a (delivered_of command given)))
 
   -- the command is under way, or was broken off
   abbrev pub UnderWay : Air L → Air L → ℕ → L → ReaderState → List (List ℕ) → List Signal → List ℕ → (Standing → List Event → Type 0) → Type 0
