@@ -1,20 +1,21 @@
 -- What `ask` of a link to a Type 4 tag answers.
-use Rattle.std.proofs.Common.{◌≡◌, ℕ, ◌+◌, ◌<◌, ◌≤◌, ◌⊎◌, inl, inr, List, [], ◌∷◌, ◌++◌, length, true, false, Option, Some, None, Ok, Err, refl, sym, ◌∙◌, ap, subst, arith, append-nil}
+use Rattle.std.proofs.Common.{◌≡◌, ℕ, ◌+◌, ◌<◌, ◌≤◌, ◌⊎◌, inl, inr, List, [], ◌∷◌, ◌++◌, length, drop, true, false, Option, Some, None, Ok, Err, refl, sym, ◌∙◌, ap, subst, arith, append-nil}
 use Rattle.std.specs.Prelude.{not}
 use Rattle.std.proofs.lemmas.List.{length-append}
 use Rattle.nfc_base.specs.Signal.{Signal, whole_a}
 use Rattle.nfc_base.specs.Trace.{noise}
 use Rattle.nfc_base.specs.Links.{CountsOn}
 use Rattle.nfc_base.specs.LinkTurns.{arrived}
-use Rattle.nfc_base.specs.TagLinks.{TagState, TagStep, plain_state, after_all, Obeys, Rises, IsAnswer, IsFault}
+use Rattle.nfc_base.specs.TagLinks.{TagState, TagStep, plain_state, after_all, passed, Leads, Obeys, Rises, IsAnswer, IsFault}
 use Rattle.nfc_base.specs.declared.tag_link.AskFault.{AskFault}
 use Rattle.nfc_base.specs.declared.tag_link.AskFault.TheVariants.{FieldLost, SixBad, Memory, Protocol}
 use Rattle.air_core.specs.World.{quiet_air}
-use Rattle.air_core.specs.Turn.{Air, moment}
+use Rattle.air_core.specs.Turn.{Air, world, moment}
 use Rattle.air_core.specs.Turning.{going_start}
 use Rattle.air_core.specs.Conversation.{Note, Going}
 use Rattle.air_core.specs.PlainTags.{reached}
-use Rattle.air_core.specs.PlainLinks.{counts_of, unanswered}
+use Rattle.air_core.specs.PlainLinks.{counts_of, unanswered, Follows, stores_after}
+use Rattle.nfc_base.specs.declared.event.Event.{Event}
 use Rattle.air_core.specs.declared.listener.Listener.{Ghosts}
 use Rattle.air_core.proofs.PlainAside.{Laws}
 use Rattle.air_core.proofs.PlainStores.{place_is}
@@ -26,7 +27,7 @@ use Rattle.isodep_link.specs.Exchange.{blocks_of, IsCut}
 use Rattle.isodep_link.specs.Asking.{Standing, Rests, asks, stand, iso_next, HasCardTag, Asked, EndsBy}
 use Rattle.isodep_link.specs.IsoLinks.{IsoSeen, commands_of, obeyed_in, Replays, StandsAt, since, iso_view, IsIsoReady, IsoMoves}
 use Rattle.isodep_link.proofs.Images.{arrived_append}
-use Rattle.isodep_link.proofs.IsoViews.{before, shown_obeyed, shown_held, obeys, shown_noise, shown_step, either_state, still_answered, all_answered, answered_before, since_new, held_all}
+use Rattle.isodep_link.proofs.IsoViews.{handed, leads, shown_images, no_more, before, shown_obeyed, shown_held, obeys, shown_noise, shown_step, either_state, still_answered, all_answered, answered_before, since_new, held_all}
 
 pub none_here : (o : Option AskFault) → ((x : AskFault) → o ≡ Some x → ⊥) → o ≡ None
 none_here None other = refl
@@ -162,8 +163,9 @@ module _ {L : Type 0} (k : Ghosts L) (laws : Laws k) (card : L → CardState) (t
       stands = λ e. stands_ok over e;
       told = λ e. ap (λ (xs : List Signal). (iso_view k card tag after_ok).answered ++ xs) (none_left over (Some g) e) ∙ append-nil (iso_view k card tag after_ok).answered ∙ answered_one;
       ended = λ x e. absurd cc;
-      obeyed = ok_obeys.more;
-      leads = ok_obeys.leads;
+      obeyed = handed c (Some h.0);
+      leads = leads k laws card tag old place start told i last over r new (length new.trace) i' (Some g) over c may (Some h.0) (Rests i') w;
+      images = shown_images k laws card tag old place start told i last over r new (length new.trace) i' (Some g) over c may (Some h.0) (Rests i') w;
     }
 
   -- a fault
@@ -177,6 +179,9 @@ module _ {L : Type 0} (k : Ghosts L) (laws : Laws k) (card : L → CardState) (t
         ⊎ ((iso_view k card tag (after_err new i' o)).state ≡ ((iso_view k card tag was).step (iso_view k card tag was).state c).after)
     pub answered : (iso_view k card tag (after_err new i' o)).answered ≡ (iso_view k card tag was).answered
     pub calm : (o ≡ Memory) ⊎ ((old.lit ≡ false) ⊎ ((iso_view k card tag was).noise < (iso_view k card tag (after_err new i' o)).noise))
+    pub more : List Signal
+    pub leads_to : Leads (iso_view k card tag was) (iso_view k card tag (after_err new i' o)) more
+    pub images : Follows (iso_view k card tag was).state.store (stores_after k place (world old) (drop (length old.trace) new.trace)) (passed (iso_view k card tag was).step (iso_view k card tag was).state more)
     pub notes : List Note
     pub going : Going (quiet_air k.machine) (iso_next i (c.bytes ∷ [])) (moment old) (moment new) notes
     pub stands : StandsAt (Some o) new.lit i' (stand (asks i (c.bytes ∷ [])) notes)
@@ -193,6 +198,11 @@ module _ {L : Type 0} (k : Ghosts L) (laws : Laws k) (card : L → CardState) (t
     either = inl refl;
     answered = refl;
     calm = inr (inl dim);
+    more = [];
+    leads_to = record { kind = refl; identifier = refl; step = refl; obeyed = sym (append-nil (iso_view k card tag was).obeyed); state = refl };
+    images =
+        (let P : List Event → Type 0 = λ es. Follows (iso_view k card tag was).state.store (stores_after k place (world old) es) [] in
+        subst P (sym (no_more old.trace)) tt);
     notes = [];
     going = going_start (quiet_air k.machine) (iso_next i (c.bytes ∷ [])) (moment old);
     stands = (dim, inr (block_frame (request (begun i c.bytes).core), begun i c.bytes, refl));
@@ -212,6 +222,9 @@ module _ {L : Type 0} (k : Ghosts L) (laws : Laws k) (card : L → CardState) (t
         either = either_state k laws card tag old place start told i last over r new told i' (Some g) (Some o) c may x s a x refl;
         answered = still_answered k laws card tag old place start told i last over r new told i' (Some g) (Some o) c may x s a told_before;
         calm = by_calm calm n;
+        more = handed c x;
+        leads_to = leads k laws card tag old place start told i last over r new told i' (Some g) (Some o) c may x s a;
+        images = shown_images k laws card tag old place start told i last over r new told i' (Some g) (Some o) c may x s a;
         notes = a.notes;
         going = a.going;
         stands = subst (λ (z : Standing). StandsAt (Some o) new.lit i' z) (sym a.stands) stands;
@@ -252,8 +265,9 @@ module _ {L : Type 0} (k : Ghosts L) (laws : Laws k) (card : L → CardState) (t
       told =
           λ e. ap (λ (y : Signal). (iso_view k card tag (after_err new i' o)).answered ++ y ∷ []) copied ∙ ap (λ (ys : List Signal). ys ++ c ∷ []) x.answered;
       ended = λ y e. absurd cc;
-      obeyed = x.obeyed.more;
-      leads = x.obeyed.leads;
+      obeyed = x.more;
+      leads = x.leads_to;
+      images = x.images;
     }
 
     -- where all transmissions passed the answer came

@@ -13,9 +13,10 @@ use Rattle.nfc_base.specs.declared.event.Fate.{Fate}
 use Rattle.nfc_base.specs.declared.event.Fate.TheVariants.{Pass, Damage, Lose, Break}
 use Rattle.nfc_base.specs.declared.tag_link.AskFault.{AskFault}
 use Rattle.nfc_base.proofs.Leading.{after_append}
-use Rattle.air_core.specs.Turn.{Air}
+use Rattle.air_core.specs.Turn.{Air, world}
 use Rattle.air_core.specs.PlainTags.{reached}
-use Rattle.air_core.specs.PlainLinks.{at_place}
+use Rattle.air_core.specs.PlainLinks.{at_place, Follows, stores_after}
+use Rattle.std.proofs.Math.Seq.{drop-append_seam}
 use Rattle.air_core.specs.declared.listener.Listener.{Ghosts}
 use Rattle.air_core.proofs.PlainAside.{Laws}
 use Rattle.air_core.proofs.PlainStores.{place_is}
@@ -120,7 +121,7 @@ module _ {L : Type 0} (k : Ghosts L) (laws : Laws k) (card : L → CardState) (t
           let U : List Signal → TagState = λ z. opened_by (k.commands l) Z (plain_state Z) z in
           ap S (now k.commands _ ∙ left_commands w.after.is) ∙ ap T (now k.store [] ∙ left_store w.after.is ∙ ap (λ (t : TagState). t.store) held_all) ∙ ap U shown_obeyed ∙ r.replays cs ∙ sym held_all
 
-      leads : Leads (iso_view k card tag before) (iso_view k card tag behind) (handed c g)
+      pub leads : Leads (iso_view k card tag before) (iso_view k card tag behind) (handed c g)
       leads = record {
         kind = refl;
         identifier = now k.identifier [] ∙ left_identifier w.after.is ∙ sym (was k.identifier []);
@@ -154,6 +155,18 @@ module _ {L : Type 0} (k : Ghosts L) (laws : Laws k) (card : L → CardState) (t
         };
       }
 
+      -- the stores that the tag passed, as the link shows them
+      pub shown_images : Follows (iso_view k card tag before).state.store (stores_after k place (world old) (drop (length old.trace) new.trace))
+          (passed (iso_view k card tag before).step (iso_view k card tag before).state (handed c g))
+      shown_images =
+          let now_is : (iso_view k card tag before).state.store ≡ k.store l = ap (λ (t : TagState). t.store) shown_state ∙ sym (r.has.is.holds [] tt) in
+          let es : drop (length old.trace) new.trace ≡ w.events = ap (drop (length old.trace)) w.trace ∙ drop-append_seam old.trace w.events in
+          let P : List Event → Type 0 = λ xs. Follows (iso_view k card tag before).state.store (stores_after k place (world old) xs) (passed (iso_view k card tag before).step (iso_view k card tag before).state (handed c g)) in
+          let Q : List ℕ → Type 0 = λ z. Follows z (stores_after k place (world old) w.events) (passed (iso_view k card tag before).step (iso_view k card tag before).state (handed c g)) in
+          let R : TagState → Type 0 = λ z. Follows (k.store l) (stores_after k place (world old) w.events) (passed (iso_view k card tag before).step z (handed c g)) in
+          let S : (TagState → Signal → TagStep) → Type 0 = λ z. Follows (k.store l) (stores_after k place (world old) w.events) (passed z (tag l) (handed c g)) in
+          subst P (sym es) (subst Q (sym now_is) (subst R (sym shown_state) (subst S (sym (was k.commands _)) w.images)))
+
       pub shown_noise : (iso_view k card tag behind).noise ≡ (iso_view k card tag before).noise + noise w.events
       shown_noise = ap noise since_new ∙ noise_append (drop start old.trace) w.events
 
@@ -182,7 +195,7 @@ module _ {L : Type 0} (k : Ghosts L) (laws : Laws k) (card : L → CardState) (t
     pub answered_before : (iso_view k card tag before).answered ≡ (iso_view k card tag before).obeyed
     answered_before = ap (λ (es : List Event). obeyed_in (drop start es)) (take_all told old.trace (let e = r.told in omega (arith, e)))
 
-no_more : (xs : List Event) → drop (length xs) xs ≡ []
+pub no_more : (xs : List Event) → drop (length xs) xs ≡ []
 no_more [] = refl
 no_more (x ∷ xs) = no_more xs
 

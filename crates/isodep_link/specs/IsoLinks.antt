@@ -4,14 +4,14 @@ use Rattle.std.specs.Prelude.{◌≡◌, ◌⊎◌, ℕ, ◌≤◌, List, [], �
 use Rattle.nfc_base.specs.Signal.{Signal, whole_a}
 use Rattle.nfc_base.specs.Trace.{noise}
 use Rattle.nfc_base.specs.LinkTurns.{arrived}
-use Rattle.nfc_base.specs.TagLinks.{Type4, TagState, TagStep, LinkView, plain_state, after_all, Leads}
+use Rattle.nfc_base.specs.TagLinks.{Type4, TagState, TagStep, LinkView, plain_state, after_all, passed, Leads}
 use Rattle.nfc_base.specs.declared.event.Event.{Event}
 use Rattle.nfc_base.specs.declared.tag_link.AskFault.{AskFault}
 use Rattle.nfc_base.specs.declared.tag_link.AskFault.TheVariants.{FieldLost, SixBad, Memory, Protocol}
 use Rattle.air_core.specs.World.{quiet_air}
-use Rattle.air_core.specs.Turn.{Air, moment}
+use Rattle.air_core.specs.Turn.{Air, world, moment}
 use Rattle.air_core.specs.Conversation.{Note, Going}
-use Rattle.air_core.specs.PlainLinks.{at_place, counts_of, unanswered}
+use Rattle.air_core.specs.PlainLinks.{at_place, counts_of, unanswered, Follows, stores_after}
 use Rattle.air_core.specs.declared.listener.Listener.{Ghosts}
 use Rattle.isodep_link.specs.Card.{CardState}
 use Rattle.isodep_link.specs.Reader.{ReaderState}
@@ -97,7 +97,8 @@ module _ {L : Type 0} (k : Ghosts L) (card : L → CardState) (tag : L → TagSt
     pub replays : Replays (k.commands has.listener) origin
 
   -- Commands were asked, each request was due, and nothing else happened to the field. What the link answered, and the command
-  -- that it ended with, are these commands.
+  -- that it ended with, are these commands. The stores that the tag passed by its steps are those that it had after the events,
+  -- in their order.
   pub record IsoMoves (a b : IsoSeen L) : Type 0 where
     pub asked : List Signal
     pub notes : List Note
@@ -108,3 +109,4 @@ module _ {L : Type 0} (k : Ghosts L) (card : L → CardState) (tag : L → TagSt
     pub ended : (e : AskFault) → a.over ≡ Some e → (b ≡ a) × (asked ≡ [])
     pub obeyed : List Signal
     pub leads : Leads (iso_view a) (iso_view b) obeyed
+    pub images : Follows (iso_view a).state.store (stores_after k a.place (world a.air) (drop (length a.air.trace) b.air.trace)) (passed (iso_view a).step (iso_view a).state obeyed)

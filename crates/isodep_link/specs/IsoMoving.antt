@@ -1,14 +1,19 @@
 -- Calls on a link to a Type 4 tag, one after another.
-use Rattle.std.proofs.Common.{◌≡◌, ℕ, List, [], ◌∷◌, ◌++◌, Bool, Option, Some, None, refl, sym, ◌∙◌, ap, subst, append_assoc, append-nil}
+use Rattle.std.proofs.Common.{◌≡◌, ℕ, List, [], ◌∷◌, ◌++◌, length, drop, Bool, Option, Some, None, refl, sym, ◌∙◌, ap, subst, append_assoc, append-nil}
 use Rattle.std.proofs.lemmas.List.{map-append}
 use Rattle.nfc_base.specs.Signal.{Signal}
 use Rattle.nfc_base.specs.declared.tag_link.AskFault.{AskFault}
-use Rattle.nfc_base.proofs.Leading.{leads_again, leads_on}
+use Rattle.nfc_base.specs.declared.event.Event.{Event}
+use Rattle.nfc_base.specs.TagLinks.{passed}
+use Rattle.nfc_base.proofs.Leading.{leads_again, leads_on, passed_on}
+use Rattle.std.proofs.Math.Seq.{drop-append_seam}
+use Rattle.air_core.specs.Following.{last_of, last_passed, follows_on, stores_append}
+use Rattle.air_core.specs.PlainMoving.{events_between}
 use Rattle.air_core.specs.World.{quiet_air}
-use Rattle.air_core.specs.Turn.{moment}
+use Rattle.air_core.specs.Turn.{world, moment}
 use Rattle.air_core.specs.Conversation.{AirModel, Moment, Note, Lit, Got, Lost, Next, Over, IsDemand, Going}
 use Rattle.air_core.specs.Turning.{going_start, going_then}
-use Rattle.air_core.specs.PlainLinks.{unanswered}
+use Rattle.air_core.specs.PlainLinks.{unanswered, Follows, stores_after}
 use Rattle.air_core.specs.declared.listener.Listener.{Ghosts}
 use Rattle.isodep_link.specs.declared.reader.ReaderStep.{ReaderStep}
 use Rattle.isodep_link.specs.declared.reader.ReaderStep.TheVariants as steps
@@ -82,6 +87,10 @@ module _ {W : Type 0} (m : AirModel W) where
       (λ ns n e d. ap (λ (s : Standing). due_at (stand s ns)) (asks_more i xs ys) ∙ front_due (asks i xs) ys ns n e d)
       (λ ns. ap due_at (stand_all i j xs ys hs ns done)) g k
 
+no_more : (xs : List Event) → drop (length xs) xs ≡ []
+no_more [] = refl
+no_more (x ∷ xs) = no_more xs
+
 module _ {L : Type 0} (k : Ghosts L) (card : L → CardState) (tag : L → TagState) where
   again_stands : (o : Option AskFault) (lit : Bool) (i : ReaderState) → o ≡ None → StandsAt o lit i (Rests i)
   again_stands None lit i e = refl
@@ -102,7 +111,40 @@ module _ {L : Type 0} (k : Ghosts L) (card : L → CardState) (tag : L → TagSt
     ended = λ e h. (refl, refl);
     obeyed = [];
     leads = leads_again (iso_view k card tag a);
+    images =
+        let P : List Event → Type 0 = λ es. Follows (iso_view k card tag a).state.store (stores_after k a.place (world a.air) es) [] in
+        subst P (sym (no_more a.air.trace)) tt;
   }
+
+  -- the stores of two stretches
+  images_on : (a b c : IsoSeen L) (p : IsoMoves k card tag a b) (q : IsoMoves k card tag b c)
+      → Follows (iso_view k card tag a).state.store (stores_after k a.place (world a.air) (drop (length a.air.trace) c.air.trace)) (passed (iso_view k card tag a).step (iso_view k card tag a).state (p.obeyed ++ q.obeyed))
+  images_on a b c p q =
+      let e = events_between k a.air b.air (iso_next a.reader (bytes_of p.asked)) p.notes p.going in
+      let f = events_between k b.air c.air (iso_next b.reader (bytes_of q.asked)) q.notes q.going in
+      let xs : List Event = p.going.events in
+      let ys : List Event = q.going.events in
+      let now : List ℕ = (iso_view k card tag a).state.store in
+      let step = (iso_view k card tag a).step in
+      let state = (iso_view k card tag a).state in
+      let trace : c.air.trace ≡ a.air.trace ++ (xs ++ ys) = f.1 ∙ ap (λ t. t ++ ys) e.1 ∙ append_assoc a.air.trace xs ys in
+      let all : drop (length a.air.trace) c.air.trace ≡ xs ++ ys = ap (drop (length a.air.trace)) trace ∙ drop-append_seam a.air.trace (xs ++ ys) in
+      let S : List (List ℕ) = stores_after k a.place (world a.air) xs in
+      let T : List (List ℕ) = stores_after k b.place (world b.air) ys in
+      let stores : stores_after k a.place (world a.air) (drop (length a.air.trace) c.air.trace) ≡ S ++ T =
+      ap (stores_after k a.place (world a.air)) all ∙ stores_append k a.place (world a.air) xs ys
+      ∙ ap (λ w. S ++ stores_after k a.place w ys) (sym e.2) ∙ ap (λ i. S ++ stores_after k i (world b.air) ys) (sym p.same.0) in
+      let P1 : List Event → Type 0 = λ es. Follows now (stores_after k a.place (world a.air) es) (passed step state p.obeyed) in
+      let first : P1 xs = subst P1 e.0 p.images in
+      let P2 : List Event → Type 0 = λ es. Follows (iso_view k card tag b).state.store (stores_after k b.place (world b.air) es) (passed (iso_view k card tag b).step (iso_view k card tag b).state q.obeyed) in
+      let second : P2 ys = subst P2 f.0 q.images in
+      let last : (iso_view k card tag b).state.store ≡ last_of now (passed step state p.obeyed) =
+      ap (λ s. s.store) p.leads.state ∙ sym (last_passed step state p.obeyed) in
+      let P3 : List ℕ → Type 0 = λ s. Follows s T (passed (iso_view k card tag b).step (iso_view k card tag b).state q.obeyed) in
+      let P4 : List (List ℕ) → Type 0 = λ zs. Follows now zs (passed step state (p.obeyed ++ q.obeyed)) in
+      let P5 : List (List ℕ) → Type 0 = λ zs. Follows now (S ++ T) zs in
+      subst P4 (sym stores) (subst P5 (sym (passed_on (iso_view k card tag a) (iso_view k card tag b) p.obeyed q.obeyed p.leads))
+      (follows_on now S (passed step state p.obeyed) T (passed (iso_view k card tag b).step (iso_view k card tag b).state q.obeyed) first (subst P3 last second)))
 
   both : (a b c : IsoSeen L) → a.over ≡ None → b.over ≡ None → IsoMoves k card tag a b → IsoMoves k card tag b c → IsoMoves k card tag a c
   both a b c ha hb p q =
@@ -126,6 +168,7 @@ module _ {L : Type 0} (k : Ghosts L) (card : L → CardState) (tag : L → TagSt
         ended = λ e h. absurd cc;
         obeyed = p.obeyed ++ q.obeyed;
         leads = leads_on (iso_view k card tag a) (iso_view k card tag b) (iso_view k card tag c) p.obeyed q.obeyed p.leads q.leads;
+        images = images_on a b c p q;
       }
 
   pub moves_on : (a b c : IsoSeen L) → IsoMoves k card tag a b → IsoMoves k card tag b c → IsoMoves k card tag a c
