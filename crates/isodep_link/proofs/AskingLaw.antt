@@ -20,7 +20,7 @@ use Rattle.nfc_base.specs.declared.tag_link.AskFault.TheVariants.{FieldLost}
 use Rattle.nfc_base.specs.declared.tag_link.AskFault.TheVariants as ask
 use Rattle.air_core.specs.declared.fault.AirFault.TheVariants as air
 use Rattle.nfc_base.proofs.Leading.{all_append}
-use Rattle.nfc_base.proofs.LinkTurns.{J, Along, Onward, goes_along, starts_along, next_asking, next_stage}
+use Rattle.nfc_base.proofs.LinkTurns.{J, Along, Onward, goes_along, next_asking, next_stage}
 use Rattle.air_core.specs.World.{quiet_air}
 use Rattle.air_core.specs.World as worlds
 use Rattle.air_core.specs.PlainLinks.{Follows, stores_after}
@@ -324,12 +324,12 @@ module _ {L : Type 0} (k : Ghosts L) (laws : Laws k) where
         added_is : b.added ≡ o.along.added ++ more
         added_is =
             append_cancel_left old.trace b.added (o.along.added ++ more)
-              (sym b.events ∙ trace ∙ ap (λ (es : List Event). es ++ more) o.along.events ∙ append_assoc old.trace o.along.added more)
+            (sym b.events ∙ trace ∙ ap (λ (es : List Event). es ++ more) o.along.events ∙ append_assoc old.trace o.along.added more)
 
         arrived_is : b.world.arrived ≡ o.along.world.arrived ++ turns.arrived more
         arrived_is =
             sym b.arrives ∙ ap (λ (es : List Event). arrived ++ turns.arrived es) added_is ∙ ap (λ (fs : List Signal). arrived ++ fs) (arrived_append o.along.added more)
-              ∙ sym (append_assoc arrived (turns.arrived o.along.added) (turns.arrived more)) ∙ ap (λ (fs : List Signal). fs ++ turns.arrived more) o.along.arrives
+            ∙ sym (append_assoc arrived (turns.arrived o.along.added) (turns.arrived more)) ∙ ap (λ (fs : List Signal). fs ++ turns.arrived more) o.along.arrives
 
         never_less : (r : List ℕ) → o.along.world.given ≡ Some r → b.world.given ≡ None → ⊥
         never_less r p q =
@@ -337,9 +337,9 @@ module _ {L : Type 0} (k : Ghosts L) (laws : Laws k) where
             let now = once_along old.trace new.trace i' t' held stage b in
             let grow = commands_grow o.along.world.arrived (turns.arrived more) in
             given_stays commands command o.along.world.given b.world.given grow.0
-              ( sym now.once ∙ sym now.brings ∙ ap (λ (fs : List Signal). iso_commands (blocks_of fs)) arrived_is ∙ grow.1
-                ∙ ap (λ (cs : List (List ℕ)). cs ++ grow.0) (was.brings ∙ was.once) )
-              r p q
+            (sym now.once ∙ sym now.brings ∙ ap (λ (fs : List Signal). iso_commands (blocks_of fs)) arrived_is ∙ grow.1
+            ∙ ap (λ (cs : List (List ℕ)). cs ++ grow.0) (was.brings ∙ was.once))
+            r p q
 
         first_store : (tag begin).store ≡ k.store begin
         first_store = sym (c.holds [] tt)
@@ -360,14 +360,14 @@ module _ {L : Type 0} (k : Ghosts L) (laws : Laws k) where
         pub images_on : Follows (k.store begin) (stores_after k place (world old) (o.seen ++ more)) (after_it b.world.given held.store)
         images_on =
             let same : o.going.events ≡ o.seen =
-                append_cancel_left old.trace o.going.events o.seen (sym (ap (λ (m : Moment (worlds.World L)). m.trace) o.going.moment) ∙ o.seen_is) in
+            append_cancel_left old.trace o.going.events o.seen (sym (ap (λ (m : Moment (worlds.World L)). m.trace) o.going.moment) ∙ o.seen_is) in
             let reached_world : world mid ≡ replay (quiet_air k.machine) (world old) o.seen =
-                ap (λ (m : Moment (worlds.World L)). m.world) o.going.moment ∙ ap (replay (quiet_air k.machine) (world old)) same in
+            ap (λ (m : Moment (worlds.World L)). m.world) o.going.moment ∙ ap (replay (quiet_air k.machine) (world old)) same in
             let all : stores_after k place (world old) (o.seen ++ more) ≡ stores_after k place (world old) o.seen ++ stores_after k place (world mid) more =
-                stores_append k place (world old) o.seen more ∙ ap (λ (w : worlds.World L). stores_after k place (world old) o.seen ++ stores_after k place w more) (sym reached_world) in
+            stores_append k place (world old) o.seen more ∙ ap (λ (w : worlds.World L). stores_after k place (world old) o.seen ++ stores_after k place w more) (sym reached_world) in
             subst (λ (xs : List (List ℕ)). Follows (k.store begin) xs (after_it b.world.given held.store)) (sym all)
-              (images_grow (k.store begin) (stores_after k place (world old) o.seen) (stores_after k place (world mid) more) o.along.world.given b.world.given (tag first).store held.store
-                o.images shown (stores_by o.along.world.given b.world.given refl refl))
+            (images_grow (k.store begin) (stores_after k place (world old) o.seen) (stores_after k place (world mid) more) o.along.world.given b.world.given (tag first).store held.store
+            o.images shown (stores_by o.along.world.given b.world.given refl refl))
 
       module _ (old mid : Air L) (place : ℕ) (i : ReaderState) (f : Signal) (o : On old mid place i (Requests f) (Waits i f [])) {F : Type 0} (far far' : F) (new : Air L) where
         abbrev more_frames : List Signal
@@ -398,10 +398,10 @@ module _ {L : Type 0} (k : Ghosts L) (laws : Laws k) where
           on_left fs a e s held lit =
               let b = heard_next old.trace new.trace i (card t.left) t.held h n.hears n.heard_is n.along in
               let al : Stands old.trace (reader_table i h).state (card (reached k begin fs)) new.trace (tag (reached k begin fs)) (stage_of (reader_does (reader_table i h).does)) =
-                  subst (λ (x : L). Stands old.trace (reader_table i h).state (card x) new.trace (tag x) (stage_of (reader_does (reader_table i h).does))) e
-                    (subst (λ (z : TagState). Stands old.trace (reader_table i h).state (card t.left) new.trace z (stage_of (reader_does (reader_table i h).does))) (sym held) b) in
+              subst (λ (x : L). Stands old.trace (reader_table i h).state (card x) new.trace (tag x) (stage_of (reader_does (reader_table i h).does))) e
+              (subst (λ (z : TagState). Stands old.trace (reader_table i h).state (card t.left) new.trace z (stage_of (reader_does (reader_table i h).does))) (sym held) b) in
               let sh : Shows (tag (reached k begin fs)).store (stores_after k place (world mid) t.added) =
-                  subst (λ (z : TagState). Shows z.store (stores_after k place (world mid) t.added)) (sym held ∙ ap tag e) t.stores in
+              subst (λ (z : TagState). Shows z.store (stores_after k place (world mid) t.added)) (sym held ∙ ap tag e) t.stores in
               record {
                 frames = fs;
                 asked = a;
@@ -437,9 +437,9 @@ module _ {L : Type 0} (k : Ghosts L) (laws : Laws k) where
           lost_left was fs a e d held lit =
               let b = heard_nothing old.trace new.trace i (card t0.left) t0.held n0.hears n0.heard_is n0.along in
               let al : Stands old.trace i (card t0.left) new.trace (tag (reached k begin fs)) Dark =
-                  subst (λ (z : TagState). Stands old.trace i (card t0.left) new.trace z Dark) (sym held ∙ ap tag e) b in
+              subst (λ (z : TagState). Stands old.trace i (card t0.left) new.trace z Dark) (sym held ∙ ap tag e) b in
               let sh : Shows (tag (reached k begin fs)).store (stores_after k place (world mid) t0.added) =
-                  subst (λ (z : TagState). Shows z.store (stores_after k place (world mid) t0.added)) (sym held ∙ ap tag e) t0.stores in
+              subst (λ (z : TagState). Shows z.store (stores_after k place (world mid) t0.added)) (sym held ∙ ap tag e) t0.stores in
               record {
                 frames = fs;
                 asked = a;
@@ -493,10 +493,10 @@ module _ {L : Type 0} (k : Ghosts L) (laws : Laws k) where
             stands = stands;
             images =
                 (let same : seen ≡ a.added = append_cancel_left old.trace seen a.added (sym seen_is ∙ a.events) in
-                 let given : GivenBy (Obeys (k.commands begin)) (tag begin) command g held = subst (λ (x : Option (List ℕ)). GivenBy (Obeys (k.commands begin)) (tag begin) command x held) e a.given in
-                 subst (λ (es : List Event). Follows (k.store begin) (stores_after k place (world old) es) (passed (k.commands begin) (tag begin) (map whole_a (delivered_of command g)))) same
-                   (subst (λ (xs : List (List ℕ)). Follows (k.store begin) (stores_after k place (world old) seen) xs) (passed_by g held given)
-                     (subst (λ (x : Option (List ℕ)). Follows (k.store begin) (stores_after k place (world old) seen) (after_it x held.store)) e images)));
+                let given : GivenBy (Obeys (k.commands begin)) (tag begin) command g held = subst (λ (x : Option (List ℕ)). GivenBy (Obeys (k.commands begin)) (tag begin) command x held) e a.given in
+                subst (λ (es : List Event). Follows (k.store begin) (stores_after k place (world old) es) (passed (k.commands begin) (tag begin) (map whole_a (delivered_of command g)))) same
+                (subst (λ (xs : List (List ℕ)). Follows (k.store begin) (stores_after k place (world old) seen) xs) (passed_by g held given)
+                (subst (λ (x : Option (List ℕ)). Follows (k.store begin) (stores_after k place (world old) seen) (after_it x held.store)) e images)));
           }
 
       pub after_on : (old mid : Air L) (place : ℕ) (i : ReaderState) (stage : Stage Signal) (s : Standing) (o : On old mid place i stage s) → mid.lit ≡ true

@@ -94,7 +94,7 @@ module _ {L : Type 0} (k : Ghosts L) (laws : Laws k) (card : L → CardState) (t
       steps_dim : k.store (k.machine.after l f None) ≡ z → at_place k.store [] (map k.machine.darkened stepped_on) place ≡ z
       steps_dim q =
           place_is k k.store [] own (map k.machine.darkened stepped_on) place (k.machine.darkened (k.machine.after l f None)) (alone_dark k laws own stepped_on place (k.machine.after l f None) stepped_alone)
-            ∙ (laws.dark_keeps (k.machine.after l f None)).2 ∙ q
+          ∙ (laws.dark_keeps (k.machine.after l f None)).2 ∙ q
 
       shows_store : (x y : Fate) (o : Option Signal) → k.store (met_by l f x) ≡ z → Shows z (stores_after k place w (tag_events f x y o))
       shows_store Damage y o q = (stays q, tt)
@@ -277,5 +277,5 @@ module _ {L : Type 0} (k : Ghosts L) (laws : Laws k) (card : L → CardState) (t
           calm = λ z. calm_is (k.machine.answer l f None) x y o h s.answer told (calm_events f x y o z);
           stores =
               shows_store (k.identifier l) f (asked_aside (k.identifier l) f a) (world old) place l alone steps (met l f x).store x y o
-                (met_holds l f x (c.holds [] tt) (c.holds (f ∷ []) (a, tt)));
+              (met_holds l f x (c.holds [] tt) (c.holds (f ∷ []) (a, tt)));
         }

@@ -1,5 +1,5 @@
 -- The stores that a Type 4 tag shows while a command is asked of it: the one before it, and then the one after it.
-use Rattle.std.proofs.Common.{◌≡◌, ℕ, ◌+◌, inl, inr, List, [], ◌∷◌, ◌++◌, length, true, false, Option, Some, None, refl, sym, ◌∙◌, ap, subst, arith, append_assoc, append-nil}
+use Rattle.std.proofs.Common.{◌≡◌, ℕ, ◌+◌, inr, List, [], ◌∷◌, ◌++◌, length, true, false, Option, Some, None, refl, sym, ◌∙◌, ap, subst, arith, append_assoc, append-nil}
 use Rattle.std.proofs.lemmas.List.{length-append}
 use Rattle.std.specs.List.{AllByRecursion}
 use Rattle.nfc_base.specs.Signal.{Signal}
@@ -63,7 +63,7 @@ images_grow now xs ys None None s t p a e = follows_on now xs [] ys [] p (subst 
 images_grow now xs ys None (Some b) s t p a e = follows_on now xs [] ys (t ∷ []) p (shown_next now t ys a)
 images_grow now xs ys (Some c) (Some b) s t p a e =
     subst (λ (z : List ℕ). Follows now (xs ++ ys) (z ∷ [])) e
-      (follows_on now xs (s ∷ []) ys [] p (subst (λ (z : List ℕ). Follows z ys []) (sym e) (shown_follow t ys a)))
+    (follows_on now xs (s ∷ []) ys [] p (subst (λ (z : List ℕ). Follows z ys []) (sym e) (shown_follow t ys a)))
 images_grow now xs ys (Some c) None s t p a e = absurd e
 
 -- frames that arrive later bring no fewer commands

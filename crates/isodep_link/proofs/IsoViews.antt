@@ -5,12 +5,9 @@ use Rattle.std.specs.List.{AllByRecursion}
 use Rattle.nfc_base.specs.Signal.{Signal, whole_a}
 use Rattle.nfc_base.specs.Trace.{noise}
 use Rattle.nfc_base.specs.StopAndWait.{delivered_of}
-use Rattle.nfc_base.specs.LinkTurns.{with_arrived, arrived, GivenBy}
+use Rattle.nfc_base.specs.LinkTurns.{arrived, GivenBy}
 use Rattle.nfc_base.specs.TagLinks.{TagState, TagStep, plain_state, after_all, passed, Leads, Obeys}
 use Rattle.nfc_base.specs.declared.event.Event.{Event}
-use Rattle.nfc_base.specs.declared.event.Event.TheVariants.{Reset, Request, Answer, Clash}
-use Rattle.nfc_base.specs.declared.event.Fate.{Fate}
-use Rattle.nfc_base.specs.declared.event.Fate.TheVariants.{Pass, Damage, Lose, Break}
 use Rattle.nfc_base.specs.declared.tag_link.AskFault.{AskFault}
 use Rattle.nfc_base.proofs.Leading.{after_append}
 use Rattle.air_core.specs.Turn.{Air, world}

@@ -485,7 +485,10 @@ fn answers_to_rats(rt: HostRuntime) -> Result<(), Fail> {
         (&[], None),
     ];
     for (bytes, code) in &rows {
-        assert!(rt; ats_code(&Frame::whole(Tech::A, bytes)?) == *code, "at {bytes:?}");
+        assert!(rt;
+            ats_code(&Frame::whole(Tech::A, bytes)?) == *code,
+            "at {bytes:?}"
+        );
     }
     assert!(rt; ats_code(&Frame::whole(Tech::V, &[2, 8])?).is_none());
     Ok(())
