@@ -1,10 +1,14 @@
 -- A reader whose exchange ended by a fault gives the same fault at every later reception.
-use Rattle.std.proofs.Common.{◌≡◌, ℕ, ◌==◌, nat_lt, List, ◌++◌, Bool, true, false, if◌then◌else◌, refl, ap}
+use Rattle.std.proofs.Common.{◌≡◌, ℕ, ◌==◌, nat_lt, List, ◌++◌, Bool, true, false, if◌then◌else◌, Option, Some, None, ◌⊎◌, inl, inr, refl, sym, ◌∙◌, ap}
 use Rattle.isodep_link.specs.declared.block.Block.{Block}
 use Rattle.isodep_link.specs.declared.block.Block.TheVariants.{Info, Ack, Nak, Deselect}
 use Rattle.isodep_link.specs.declared.reader.Phase.{Phase}
 use Rattle.isodep_link.specs.declared.reader.Phase.TheVariants.{Asked, Nacked, Free, EndedSixBad, EndedProtocol}
-use Rattle.isodep_link.specs.Reader.{Core, ReaderState, ReaderMove, Reception, Hears, Odd, Bad, GivesUp, Refuses, sends, refuses, most_bads, bad, received, more_follows, is_refused, acked, missed, brought, answered, waited, unasked, in_phase, block_next}
+use Rattle.nfc_base.specs.Signal.{Signal}
+use Rattle.nfc_base.specs.declared.event.Heard.TheVariants as heard
+use Rattle.isodep_link.specs.declared.reader.ReaderStep.TheVariants as steps
+use Rattle.isodep_link.specs.Blocks.{spelled_block}
+use Rattle.isodep_link.specs.Reader.{framed_next, Next, Asks, Gives, whole_reception, reader_table, Core, ReaderState, ReaderMove, Reception, Hears, Odd, Bad, GivesUp, Refuses, sends, refuses, most_bads, bad, received, more_follows, is_refused, acked, missed, brought, answered, waited, unasked, in_phase, block_next}
 
 -- a move that ends by a fault keeps which it was
 pub record Keeps (m : ReaderMove) : Type 0 where
@@ -74,3 +78,46 @@ gives_up_again i h k e = ap (λ p. in_phase (block_next i h).state p k) ((keeps_
 pub refuses_again : (i : ReaderState) (h k : Reception) → (block_next i h).does ≡ Refuses
     → block_next (block_next i h).state k ≡ record { state = (block_next i h).state; does = Refuses }
 refuses_again i h k e = ap (λ p. in_phase (block_next i h).state p k) ((keeps_in i i.phase refl h).refused e)
+
+-- a whole frame never ends a wait as six bad receptions do
+abbrev IsNotSix : ReaderMove → Type 0
+IsNotSix m = m.does ≡ GivesUp → ⊥
+
+not_six_if : (v : Bool) (m n : ReaderMove) → IsNotSix m → IsNotSix n → IsNotSix (if v then m else n)
+not_six_if true m n p q = p
+not_six_if false m n p q = q
+
+not_six_received : (i : ReaderState) (more : Bool) (xs : List ℕ) → IsNotSix (received i more xs)
+not_six_received i true xs = λ e. absurd cc
+not_six_received i false xs = λ e. absurd cc
+
+not_six_missed : (i : ReaderState) (p : Phase) → IsNotSix (missed i p)
+not_six_missed i Asked = λ e. absurd cc
+not_six_missed i Nacked = λ e. absurd cc
+not_six_missed i Free = λ e. absurd cc
+not_six_missed i EndedSixBad = λ e. absurd cc
+not_six_missed i EndedProtocol = λ e. absurd cc
+
+not_six_answered : (i : ReaderState) (b : Block) → IsNotSix (answered i b)
+not_six_answered i (Info more n c) =
+    not_six_if (if more_follows i.core then false else n == i.core.number) _ _
+    (not_six_if (is_refused more c.items (i.core.got ++ c.items)) _ _ (λ e. absurd cc) (not_six_received i more (i.core.got ++ c.items))) (λ e. absurd cc)
+not_six_answered i (Ack n) = not_six_if (n == i.core.number) _ _ (not_six_if (more_follows i.core) _ _ (λ e. absurd cc) (λ e. absurd cc)) (not_six_missed i i.phase)
+not_six_answered i (Nak n) = λ e. absurd cc
+not_six_answered i Deselect = λ e. absurd cc
+
+not_six_whole : (i : ReaderState) (o : Option Block) → IsNotSix (waited i (whole_reception o))
+not_six_whole i None = λ e. absurd cc
+not_six_whole i (Some b) = not_six_answered i b
+
+six_framed : (x : Next) → framed_next x ≡ steps.SixBad → x ≡ GivesUp
+six_framed (Asks b) e = absurd cc
+six_framed (Gives xs) e = absurd cc
+six_framed GivesUp e = refl
+six_framed Refuses e = absurd cc
+
+pub whole_not_six : (i : ReaderState) (g : Signal) → (i.phase ≡ Asked) ⊎ (i.phase ≡ Nacked) → (reader_table i (heard.Whole g)).does ≡ steps.SixBad → ⊥
+whole_not_six i g (inl p) e =
+    not_six_whole i (spelled_block g) (sym (ap (λ q. (in_phase i q (whole_reception (spelled_block g))).does) p) ∙ six_framed _ e)
+whole_not_six i g (inr p) e =
+    not_six_whole i (spelled_block g) (sym (ap (λ q. (in_phase i q (whole_reception (spelled_block g))).does) p) ∙ six_framed _ e)

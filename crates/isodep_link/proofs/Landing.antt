@@ -4,6 +4,7 @@ use Rattle.std.proofs.Common.{◌≡◌, ℕ, ◌<◌, ◌≤◌, nat_lt, Bool, 
 use Rattle.std.proofs.lemmas.Bool.{lt-ltb, ltb-true}
 use Rattle.std.proofs.lemmas.List.{take-append-drop}
 use Rattle.nfc_base.specs.Signal.{Signal}
+use Rattle.nfc_base.specs.StopAndWait.{Quiet}
 use Rattle.nfc_base.proofs.ExactlyOnce.{Lands}
 use Rattle.isodep_link.specs.declared.block.Block.{Block}
 use Rattle.isodep_link.specs.declared.block.Block.TheVariants.{Ack, Nak}
@@ -186,3 +187,29 @@ module _ (m : ℕ) (out : List ℕ) where
       let a = last_of i.core t g n h in
       lands_by i t g f (Nak i.core.number) n (record { state = t; does = Answers a.block }) e a.heeds a.number (nak_again i.core t a.block a.same_number a.last)
       (has (inr p) a.block refl a.last h, cuts_same t t f (Nak i.core.number) e a.number (λ ps. refl))
+
+  -- the card is never silent at what is asked of it
+  speaks_by : (t : CardState) (f : Signal) (b : Block) (x : CardMove) → f ≡ block_frame b → t.mute ≡ false → IsBlock b → block_table t b ≡ x
+      → (card_does (framed_does x.does) ≡ Quiet → ⊥) → iso_dep.does t f ≡ Quiet → ⊥
+  speaks_by t f b x e h r q never d =
+      let k : card_table t f ≡ framed x = ap (card_table t) e ∙ card_heeds t b h r ∙ ap framed q in
+      never (sym (ap (λ (y : CardTurn). card_does y.does) k) ∙ d)
+
+  pub speaks_at : (i : ReaderState) (t : CardState) (g : Option (List ℕ)) (f : Signal) (n : ℕ) → Ask m out i t g f n → iso_dep.does t f ≡ Quiet → ⊥
+  speaks_at i t g f n (asks p e h b) = go (nat_lt i.core.most (length i.core.rest)) refl
+    where
+      r : IsBlock (request i.core)
+      r = is_request i.core h.number h.bounds.fits
+
+      go : (d : Bool) → nat_lt i.core.most (length i.core.rest) ≡ d → iso_dep.does t f ≡ Quiet → ⊥
+      go true d = speaks_by t f (request i.core) _ e h.bounds.heeds r (piece_taken i.core t g h (ltb-true i.core.most (length i.core.rest) d)).0 (λ z. absurd (cc))
+      go false d = speaks_by t f (request i.core) _ e h.bounds.heeds r (handed_over i.core t g h (le_from_not i.core.most (length i.core.rest) d)).0 (λ z. absurd (cc))
+  speaks_at i t g f n (draws p e h b) = speaks_by t f (request i.core) _ e h.bounds.heeds (is_request i.core h.number h.bounds.fits) (reply_drawn i.core t g h).0 (λ z. absurd (cc))
+  speaks_at i t g f n (draws_again p e d h) =
+      let a = last_of i.core t g n h in
+      speaks_by t f (request i.core) (record { state = t; does = Answers a.block }) e a.heeds (is_request i.core a.number a.fits) (request_again i.core t a.block d a.same_number a.last) (λ z. absurd (cc))
+  speaks_at i t g f n (naks p e h b) =
+      speaks_by t f (Nak i.core.number) (record { state = t; does = Answers (Ack t.number) }) e h.bounds.heeds h.number (nak_missed i.core t h.other h.number) (λ z. absurd (cc))
+  speaks_at i t g f n (naks_held p e d h) =
+      let a = last_of i.core t g n h in
+      speaks_by t f (Nak i.core.number) (record { state = t; does = Answers a.block }) e a.heeds a.number (nak_again i.core t a.block a.same_number a.last) (λ z. absurd (cc))

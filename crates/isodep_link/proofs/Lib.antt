@@ -8,3 +8,10 @@ pub mod Landing
 pub mod Hearing
 pub mod Obeyed
 pub mod Session
+pub mod CardTurns
+pub mod Images
+pub mod AskingLaw
+pub mod Falls
+pub mod IsoViews
+pub mod IsoAnswers
+pub mod ActivateLaw

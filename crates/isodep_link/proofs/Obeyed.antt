@@ -31,7 +31,7 @@ keeps m out = record {
 }
 
 -- an exchange begins so
-asking_first : (i : ReaderState) (t : CardState) (command : List ℕ) → length command ≤ limit → InStep i t → Asking t.most command (begun i command).core t None
+pub asking_first : (i : ReaderState) (t : CardState) (command : List ℕ) → length command ≤ limit → InStep i t → Asking t.most command (begun i command).core t None
 asking_first i t command short s =
     record {
       bounds = record { heeds = s.heeds; short = short; some = s.asks.0; fits = s.asks.1; sizes = refl; some_back = s.answers.0; fits_back = s.answers.1 };

@@ -55,7 +55,7 @@ before_append : (o : Option Block) (xs ys zs : List Block) → xs ≡ ys ++ zs �
 before_append None xs ys zs e = e
 before_append (Some b) xs ys zs e = ap (λ bs. b ∷ bs) e
 
-blocks_append : (fs gs : List Signal) → blocks_of (fs ++ gs) ≡ blocks_of fs ++ blocks_of gs
+pub blocks_append : (fs gs : List Signal) → blocks_of (fs ++ gs) ≡ blocks_of fs ++ blocks_of gs
 blocks_append [] gs = refl
 blocks_append (f ∷ fs) gs = before_append (spelled_block f) (blocks_of (fs ++ gs)) (blocks_of fs) (blocks_of gs) (blocks_append fs gs)
 

@@ -5,3 +5,9 @@ pub mod Commands
 pub mod Reader
 pub mod Exchange
 pub mod Sessions
+pub mod CardTags
+pub mod Asking
+pub mod Falling
+pub mod IsoLinks
+pub mod IsoMoving
+pub mod Activating

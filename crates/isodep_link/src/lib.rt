@@ -2,15 +2,23 @@
 //! blocks that stop and wait.
 //!
 //! `block` reads and writes blocks, `size` says how long they are, `card` and `reader` are the ends, one step of their
-//! tables a call. None of it takes memory.
+//! tables a call; none of these takes memory. `listener` says what a Type 4 tag is in a field, `activate` and `exchange`
+//! are the reader's turns with one, and `link` is the link to it.
 #![tactic(auto)]
 
+mod activate;
 mod block;
 mod card;
+mod exchange;
+mod link;
+mod listener;
 mod reader;
 mod size;
 #[cfg(test)]
 mod tests;
 
+pub use activate::activate_card;
 pub use card::{CardEnd, CardStep};
+pub use link::IsoLink;
+pub use listener::CardListener;
 pub use reader::{ReaderEnd, ReaderStep};

@@ -1,6 +1,6 @@
 //! The reader's end.
 
-ghost use Rattle.std.specs.Prelude.{◌≡◌, ◌≤◌, length};
+ghost use Rattle.std.specs.Prelude.{◌≡◌, ◌<◌, ◌≤◌, length};
 ghost use Rattle.isodep_link.specs.Blocks.{block_frame, spelled_block, IsSpelled};
 ghost use Rattle.isodep_link.specs.Reader.{ReaderTurn, reader_table, framed, sent, sends, refuses, bad, acked, missed, brought, answered, waited, whole_reception, request, more_follows, begun, waiting, IsAsked};
 
@@ -109,6 +109,7 @@ impl ReaderEnd {
     pub fn next(&mut self, heard: &Heard) -> ReaderStep
         ensures step { record { state = self.new; does = result } ≡ reader_table self.old heard.now }
         ensures spelled { IsAsked result }
+        ensures some { 0 < self.old.core.most }
     {
         match (self.phase, heard) {
             (Phase::EndedSixBad, _) => ReaderStep::SixBad,

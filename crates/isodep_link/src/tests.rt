@@ -2,6 +2,7 @@
 
 ghost use Rattle.std.specs.Prelude.{◌≤◌, length};
 
+use crate::activate::ats_code;
 use crate::{CardEnd, CardStep, ReaderEnd, ReaderStep};
 use nfc_base::{Fate, Frame, Heard, Tech};
 use std::process::Abort;
@@ -469,5 +470,26 @@ fn commands_of_a_tag_that_is_read(rt: HostRuntime) -> Result<(), Fail> {
     for row in &rows {
         ask(&rt, &mut reader, &mut card, row)?;
     }
+    Ok(())
+}
+
+#[test]
+fn answers_to_rats(rt: HostRuntime) -> Result<(), Fail> {
+    let rows: [(&[u8], Option<u8>); 7] = [
+        (&[2, 8], Some(8)),
+        (&[2, 0xF5], Some(5)),
+        (&[1], Some(2)),
+        (&[5, 0x78, 0x80, 0x70, 2], Some(8)),
+        (&[3, 8], None),
+        (&[1, 8], None),
+        (&[], None),
+    ];
+    for (bytes, code) in &rows {
+        assert!(rt;
+            ats_code(&Frame::whole(Tech::A, bytes)?) == *code,
+            "at {bytes:?}"
+        );
+    }
+    assert!(rt; ats_code(&Frame::whole(Tech::V, &[2, 8])?).is_none());
     Ok(())
 }

@@ -1,0 +1,190 @@
+-- The wait of RATS at a Type 4 tag that nothing was asked of, turn by turn.
+use Rattle.std.proofs.Common.{◌≡◌, ℕ, suc, ◌<◌, ◌≤◌, inl, inr, List, [], ◌∷◌, ◌++◌, Bool, true, false, if◌then◌else◌, Option, Some, None, Ok, Err, refl, sym, ◌∙◌, ap, subst, arith}
+use Rattle.std.specs.List.{filter_map, cons_option}
+use Rattle.nfc_base.specs.declared.frame.Tech.TheVariants.{A}
+use Rattle.nfc_base.specs.declared.event.Fate.{Fate}
+use Rattle.nfc_base.specs.declared.event.Fate.TheVariants.{Pass, Damage, Lose, Break}
+use Rattle.nfc_base.specs.declared.event.Heard.{Heard}
+use Rattle.nfc_base.specs.declared.event.Heard.TheVariants.{Whole, Collided, Damaged, Silent}
+use Rattle.nfc_base.specs.declared.tag_link.AskFault.TheVariants as ask
+use Rattle.nfc_base.specs.Signal.{Signal}
+use Rattle.nfc_base.specs.Far.{Untouched}
+use Rattle.nfc_base.specs.TagLinks.{TagState}
+use Rattle.air_core.specs.declared.fault.AirFault.TheVariants as air
+use Rattle.air_core.specs.Joint.{joint, same_tech}
+use Rattle.air_core.specs.World.{World, hears, answered_by, stepped_by, quiet_air}
+use Rattle.air_core.specs.Conversation.{note, replay, turn_events, first_fate, later_fates}
+use Rattle.air_core.specs.Turn.{Air, world, moment, TurnIs, Transmits}
+use Rattle.air_core.specs.Turning.{going_start, going_turn}
+use Rattle.air_core.specs.Quiet.{EachQuiet, QuietTurn}
+use Rattle.air_core.specs.Waits.{Standing, Asking, Broken, stand, due_at, waits_next}
+use Rattle.air_core.specs.Waiting.{stand_on}
+use Rattle.air_core.specs.PlainTags.{heard_times, IsAside, IsAlone}
+use Rattle.air_core.specs.PlainWaits.{after_bad}
+use Rattle.air_core.specs.declared.listener.Listener.{Ghosts}
+use Rattle.air_core.proofs.Quiet.{quiet_turns_to, quiet_turn, quiet_transmits}
+use Rattle.air_core.proofs.PlainAside.{Laws, IsUnmoved, aside_silent, alone_quiet, alone_says}
+use Rattle.air_core.proofs.PlainTurns.{one, joint_one, tag_events, tag_heard, turn_events_as, heard_as, asking_bad}
+use Rattle.air_core.proofs.PlainViews.{heard_same}
+use Rattle.isodep_link.specs.Sizes.{ats_frame, most_code}
+use Rattle.isodep_link.specs.Card.{CardState}
+use Rattle.isodep_link.specs.Reader.{waiting}
+use Rattle.isodep_link.specs.Exchange.{InStep, IsCut}
+use Rattle.isodep_link.specs.Activating.{reader_code, rats, ats_code, HasFreshTag, IsActivated, RatsSent, RatsEnds}
+use Rattle.isodep_link.proofs.Session.{ready_first}
+use Rattle.isodep_link.proofs.CardTurns.{left_by, alone_after}
+
+-- ATS is read as the code that it tells
+ats_read : (code : ℕ) → code ≤ most_code → ats_code (ats_frame code) ≡ Some code
+ats_read code h = ap (λ (n : ℕ). Some n) (omega (arith, h))
+
+module _ {L : Type 0} (k : Ghosts L) (card : L → CardState) (tag : L → TagState) (old : Air L) (place : ℕ) (t : HasFreshTag k card tag old place) where
+  -- Where the wait stands after so many bad receptions.
+  pub record RatsOn (mid : Air L) (bad : ℕ) : Type 0 where
+    pub heard : ℕ
+    pub alone : IsAlone k (k.identifier t.listener) mid.listeners place (heard_times k t.listener rats heard)
+    pub lit : mid.lit ≡ old.lit
+    pub dim : mid.lit ≡ false → mid ≡ old
+    pub sent : RatsSent k card tag old mid (after_bad rats bad)
+
+module _ {L : Type 0} (k : Ghosts L) (laws : Laws k) (card : L → CardState) (tag : L → TagState) (old : Air L) (place : ℕ) (t : HasFreshTag k card tag old place) where
+  abbrev l : L
+  l = t.listener
+
+  abbrev ats : Signal
+  ats = ats_frame t.takes.code
+
+  abbrev pub On : Air L → ℕ → Type 0
+  On mid bad = RatsOn k card tag old place t mid bad
+
+  pub first_rats : On old 0
+  first_rats = record {
+    heard = 0;
+    alone = t.alone;
+    lit = refl;
+    dim = λ e. refl;
+    sent = record { notes = []; going = going_start (quiet_air k.machine) (waits_next (rats ∷ [])) (moment old); stands = refl };
+  }
+
+  -- what a turn comes to, by what was heard
+  abbrev pub After : Air L → ℕ → Option Heard → Type 0
+  After new bad None = RatsSent k card tag old new (Broken ask.FieldLost (rats ∷ [])) × (new.lit ≡ false)
+  After new bad (Some (Whole g)) =
+      (n : ℕ) × (g ≡ ats) × RatsSent k card tag old new (Asking 0 []) × (new.lit ≡ true) × IsAlone k (k.identifier l) new.listeners place (heard_times k l rats (suc n))
+  After new bad (Some (Collided g)) = On new (suc bad)
+  After new bad (Some Damaged) = On new (suc bad)
+  After new bad (Some Silent) = On new (suc bad)
+
+  rats_aside : (own : List ℕ) (x : L) → IsAside k own x → IsUnmoved k laws own rats x
+  rats_aside own x s = aside_silent k laws own A rats refl (λ e. absurd cc) x s
+
+  module _ (mid : Air L) (bad : ℕ) (bound : bad < 6) (o : On mid bad) where
+    abbrev now : L
+    now = heard_times k l rats o.heard
+
+    hears_rats : hears k.machine now rats ≡ true
+    hears_rats = ap (λ u. same_tech u A) ((heard_same k laws l rats o.heard).0 ∙ t.takes.tech)
+
+    quiet_rats : EachQuiet k.machine rats mid.listeners
+    quiet_rats =
+        alone_quiet k laws (k.identifier l) rats (rats_aside (k.identifier l)) mid.listeners place now o.alone
+        (ap (λ v. if v then k.machine.handed now rats else Untouched) hears_rats ∙ t.takes.quiet o.heard)
+
+    module _ {F : Type 0} (far far' : F) (new : Air L) where
+      sent_on : (h : Option Heard) → QuietTurn k.machine mid rats far h new far' → (s : Standing) → stand bad (rats ∷ []) (note h ∷ []) ≡ s → RatsSent k card tag old new s
+      sent_on h q s e =
+          let asks : stand 0 (rats ∷ []) o.sent.notes ≡ Asking bad (rats ∷ []) = o.sent.stands ∙ asking_bad rats bad bound in
+          record {
+            notes = o.sent.notes ++ note h ∷ [];
+            going = going_turn (quiet_air k.machine) (waits_next (rats ∷ [])) (moment old) (moment mid) (moment new) rats h o.sent.notes o.sent.going (ap due_at asks) (quiet_turns_to k.machine mid new rats far far' h q);
+            stands = stand_on 0 (rats ∷ []) o.sent.notes bad (rats ∷ []) asks [] (note h ∷ []) ∙ e;
+          }
+
+      bad_on : (h : Option Heard) → QuietTurn k.machine mid rats far h new far' → stand bad (rats ∷ []) (note h ∷ []) ≡ after_bad rats (suc bad)
+          → (n : ℕ) → IsAlone k (k.identifier l) new.listeners place (heard_times k l rats n) → new.lit ≡ true → On new (suc bad)
+      bad_on h q e n alone lit = record {
+        heard = n;
+        alone = alone;
+        lit = lit ∙ sym q.lit ∙ o.lit;
+        dim = λ d. absurd (cc);
+        sent = sent_on h q (after_bad rats (suc bad)) e;
+      }
+
+      finish : (x y : Fate) → QuietTurn k.machine mid rats far (tag_heard x y (Some ats)) new far'
+          → new.lit ≡ (replay (quiet_air k.machine) (world mid) (tag_events rats x y (Some ats))).lit
+          → IsAlone k (k.identifier l) new.listeners place (left_by k laws card tag now rats x y (Some ats)) → After new bad (tag_heard x y (Some ats))
+      finish Pass Pass q lit alone = (o.heard, refl, sent_on (Some (Whole ats)) q (Asking 0 []) refl, lit ∙ q.lit, alone)
+      finish Pass Damage q lit alone = bad_on (Some Damaged) q refl (suc o.heard) alone (lit ∙ q.lit)
+      finish Pass Lose q lit alone = bad_on (Some Silent) q refl (suc o.heard) alone (lit ∙ q.lit)
+      finish Pass Break q lit alone = (sent_on None q (Broken ask.FieldLost (rats ∷ [])) refl, lit)
+      finish Damage y q lit alone = bad_on (Some Silent) q refl o.heard alone (lit ∙ q.lit)
+      finish Lose y q lit alone = bad_on (Some Silent) q refl o.heard alone (lit ∙ q.lit)
+      finish Break y q lit alone = (sent_on None q (Broken ask.FieldLost (rats ∷ [])) refl, lit)
+
+      pub rats_turn : (h : Option Heard) → QuietTurn k.machine mid rats far h new far' → After new bad h
+      rats_turn h q =
+          let x : Fate = first_fate mid.fates in
+          let y : Fate = first_fate (later_fates mid.fates) in
+          let says : answered_by k.machine now rats None ≡ Some ats = ap (λ v. if v then k.machine.answer now rats None else None) hears_rats ∙ t.takes.answer o.heard in
+          let steps : stepped_by k.machine now rats None ≡ k.machine.after now rats None = ap (λ v. if v then k.machine.after now rats None else now) hears_rats in
+          let joins : joint (filter_map (λ z. answered_by k.machine z rats None) mid.listeners) ≡ one (Some ats) =
+          ap joint (alone_says k laws (k.identifier l) rats (rats_aside (k.identifier l)) mid.listeners place now o.alone) ∙ ap (λ z. joint (cons_option z [])) says ∙ joint_one (Some ats) in
+          let events : turn_events (quiet_air k.machine) (world mid) rats x y ≡ tag_events rats x y (Some ats) = turn_events_as k (world mid) rats x y (Some ats) joins in
+          let after : world new ≡ replay (quiet_air k.machine) (world mid) (tag_events rats x y (Some ats)) = q.after ∙ ap (replay (quiet_air k.machine) (world mid)) events in
+          let told : h ≡ tag_heard x y (Some ats) = heard_as k (world mid) rats x y (Some ats) h joins q.told in
+          let P : World L → Type 0 = λ w. IsAlone k (k.identifier l) w.listeners place (left_by k laws card tag now rats x y (Some ats)) in
+          subst (λ (z : Option Heard). After new bad z) (sym told)
+          (finish x y (subst (λ (z : Option Heard). QuietTurn k.machine mid rats far z new far') told q) (ap (λ (w : World L). w.lit) after)
+          (subst P (sym after) (alone_after k laws card tag (k.identifier l) rats (rats_aside (k.identifier l)) (world mid) place now o.alone steps x y (Some ats))))
+
+    module _ {F : Type 0} (restarts : F → List ℕ → F → Type 0) (steps : F → List ℕ → List ℕ → F → Type 0) (far far' : F) (new : Air L) where
+      pub after_rats : (h : Heard) → TurnIs k.machine restarts steps mid rats far (Some h) new far' → After new bad (Some h)
+      after_rats h turn = rats_turn far far' new (Some h) (quiet_turn k.machine restarts steps mid rats far (Some h) new far' quiet_rats turn)
+
+      module _ (stops : F → List ℕ → F → Type 0) (is_stuck : F → Bool) where
+        pub rats_lost : Transmits k.machine restarts steps stops is_stuck mid rats far (Err air.FieldLost) new far' → RatsEnds k card tag old new place (Err ask.FieldLost)
+        rats_lost (inl d) = inl (sym o.lit ∙ d.0, d.1 ∙ o.dim d.0)
+        rats_lost (inr turn) = inr (rats_turn far far' new None (quiet_turn k.machine restarts steps mid rats far None new far' quiet_rats turn))
+
+        pub rats_stopped : Transmits k.machine restarts steps stops is_stuck mid rats far (Err air.Memory) new far' → RatsEnds k card tag old new place (Err ask.Memory)
+        rats_stopped turn =
+            let q = quiet_transmits k.machine restarts steps stops is_stuck mid rats far (Err air.Memory) new far' quiet_rats turn in
+            let P : Air L → Type 0 = λ a. RatsEnds k card tag old a place (Err ask.Memory) in
+            subst P (sym q.1) (bad, (record { notes = o.sent.notes; going = o.sent.going; stands = o.sent.stands ∙ asking_bad rats bad bound }))
+
+  -- a bad reception
+  pub rats_more : (new : Air L) (bad : ℕ) (h : Heard) → ((g : Signal) → h ≡ Whole g → ⊥) → After new bad (Some h) → On new (suc bad)
+  rats_more new bad (Whole g) never a = absurd (never g refl)
+  rats_more new bad (Collided g) never a = a
+  rats_more new bad Damaged never a = a
+  rats_more new bad Silent never a = a
+
+  pub rats_six : (new : Air L) (bad : ℕ) → bad ≡ 6 → On new bad → RatsEnds k card tag old new place (Err ask.SixBad)
+  rats_six new bad e o = subst (λ (n : ℕ). RatsSent k card tag old new (after_bad rats n)) e o.sent
+
+  -- ATS came: the tag is activated
+  pub rats_done : (new : Air L) (bad : ℕ) (g : Signal) → After new bad (Some (Whole g)) → (c : ℕ) → ats_code g ≡ Some c → RatsEnds k card tag old new place (Ok c)
+  rats_done new bad g (n, e, sent, lit, alone) c q =
+      let x : L = heard_times k l rats (suc n) in
+      let same : c ≡ t.takes.code = (let z : Some c ≡ Some t.takes.code = sym q ∙ ap ats_code e ∙ ats_read t.takes.code t.takes.small in cc) in
+      let own : k.identifier x ≡ k.identifier l = (heard_same k laws l rats (suc n)).1 in
+      let P : CardState → Type 0 = λ y. InStep (waiting t.takes.code) y in
+      let Q : CardState → Type 0 = λ y. IsCut y [] [] in
+      let ready : IsActivated k card tag new place (waiting t.takes.code) = record {
+        has = record {
+          listener = x;
+          selected = t.takes.selected n;
+          alone = subst (λ (i : List ℕ). IsAlone k i new.listeners place x) (sym own) alone;
+          is = t.takes.is n;
+          step = subst P (sym (t.takes.card_is n)) (ready_first t.takes.code reader_code).0;
+          cut = subst Q (sym (t.takes.card_is n)) refl;
+        };
+        origin = k.store l;
+        holds = t.takes.tag_is n;
+        replays = t.takes.replays n;
+      } in
+      (sent, lit, subst (λ (z : ℕ). IsActivated k card tag new place (waiting z)) (sym same) ready)
+
+  -- own cards never answer RATS otherwise
+  pub rats_never : (new : Air L) (bad : ℕ) (g : Signal) → After new bad (Some (Whole g)) → ats_code g ≡ None → ⊥
+  rats_never new bad g (n, e, sent, lit, alone) q = let z : None ≡ Some t.takes.code = sym q ∙ ap ats_code e ∙ ats_read t.takes.code t.takes.small in absurd (cc)

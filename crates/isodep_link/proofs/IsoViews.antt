@@ -1,0 +1,219 @@
+-- What a link to a Type 4 tag shows once a command was asked.
+use Rattle.std.proofs.Common.{◌≡◌, ℕ, ◌+◌, ◌≤◌, ◌⊎◌, inl, inr, List, [], ◌∷◌, ◌++◌, length, take, drop, map, true, false, Option, Some, None, refl, sym, ◌∙◌, ap, subst, arith, take_all}
+use Rattle.std.proofs.lemmas.List.{drop-append-le, take-append-le, map-append}
+use Rattle.std.specs.List.{AllByRecursion}
+use Rattle.nfc_base.specs.Signal.{Signal, whole_a}
+use Rattle.nfc_base.specs.Trace.{noise}
+use Rattle.nfc_base.specs.StopAndWait.{delivered_of}
+use Rattle.nfc_base.specs.LinkTurns.{arrived, GivenBy}
+use Rattle.nfc_base.specs.TagLinks.{TagState, TagStep, plain_state, after_all, passed, Leads, Obeys}
+use Rattle.nfc_base.specs.declared.event.Event.{Event}
+use Rattle.nfc_base.specs.declared.tag_link.AskFault.{AskFault}
+use Rattle.nfc_base.proofs.Leading.{after_append}
+use Rattle.air_core.specs.Turn.{Air, world}
+use Rattle.air_core.specs.PlainTags.{reached}
+use Rattle.air_core.specs.PlainLinks.{at_place, Follows, stores_after}
+use Rattle.std.proofs.Math.Seq.{drop-append_seam}
+use Rattle.air_core.specs.declared.listener.Listener.{Ghosts}
+use Rattle.air_core.proofs.PlainAside.{Laws}
+use Rattle.air_core.proofs.PlainStores.{place_is}
+use Rattle.air_core.proofs.PlainTurns.{noise_append}
+use Rattle.isodep_link.specs.Card.{CardState}
+use Rattle.isodep_link.specs.Reader.{ReaderState}
+use Rattle.isodep_link.specs.Commands.{iso_commands}
+use Rattle.isodep_link.specs.Exchange.{blocks_of, IsCut}
+use Rattle.isodep_link.specs.Activating.{IsActivated}
+use Rattle.isodep_link.specs.CardTags as tags
+use Rattle.isodep_link.specs.Asking.{Standing, Asked}
+use Rattle.isodep_link.specs.IsoLinks.{IsoSeen, commands_of, obeyed_in, opened_by, since, store_of, iso_view, IsIsoReady}
+use Rattle.isodep_link.proofs.Images.{arrived_append}
+use Rattle.isodep_link.proofs.AskingLaw.{reached_same}
+
+-- the command, where something was given
+abbrev pub handed : Signal → Option (List ℕ) → List Signal
+handed c g = map whole_a (delivered_of c.bytes g)
+
+module _ {L : Type 0} (k : Ghosts L) (laws : Laws k) (card : L → CardState) (tag : L → TagState) (old : Air L) (place start told : ℕ) (i : ReaderState) (last : Option Signal) (over : Option AskFault) where
+  abbrev pub before : IsoSeen L
+  before = record { air = old; place = place; start = start; told = told; reader = i; last = last; over = over }
+
+  module _ (r : IsIsoReady k card tag before) where
+    abbrev l : L
+    l = r.has.listener
+
+    was : {B : Type 0} (g : L → B) (d : B) → at_place g d old.listeners place ≡ g l
+    was g d = place_is k g d (k.identifier l) old.listeners place l r.has.alone
+
+    -- what the tag holds, as the link shows it
+    opened : TagState
+    opened = after_all (k.commands l) (plain_state r.origin) (obeyed_in (since k card tag before))
+
+    shown_state : (iso_view k card tag before).state ≡ tag l
+    shown_state =
+        let cs : List Signal = obeyed_in (since k card tag before) in
+        let S : (TagState → Signal → TagStep) → TagState = λ g. opened_by g (store_of k card tag before) (plain_state (store_of k card tag before)) cs in
+        let T : List ℕ → TagState = λ s. opened_by (k.commands l) s (plain_state s) cs in
+        ap S (was k.commands _) ∙ ap T (was k.store [] ∙ r.has.is.holds [] tt ∙ ap (λ (s : TagState). s.store) r.holds) ∙ r.replays cs ∙ sym r.holds
+
+    -- a command was asked
+    module _ (new : Air L) (told' : ℕ) (i' : ReaderState) (last' : Option Signal) (over' : Option AskFault) (c : Signal) (may : c ≡ whole_a c.bytes) (g : Option (List ℕ)) (s : Standing)
+        (w : Asked k card tag old new place l i (commands_of (since k card tag before)) (arrived (since k card tag before)) c.bytes g s) where
+      abbrev pub behind : IsoSeen L
+      behind = record { air = new; place = place; start = start; told = told'; reader = i'; last = last'; over = over' }
+
+      abbrev left : L
+      left = w.after.left
+
+      now : {B : Type 0} (g : L → B) (d : B) → at_place g d new.listeners place ≡ g left
+      now g d = place_is k g d (k.identifier l) new.listeners place left w.after.alone
+
+      abbrev IsLeft : Type 0
+      IsLeft = ((new.lit ≡ true) × (left ≡ reached k l w.after.frames)) ⊎ ((new.lit ≡ false) × (left ≡ k.machine.darkened (reached k l w.after.frames)))
+
+      left_commands : IsLeft → k.commands left ≡ k.commands l
+      left_commands (inl e) = ap k.commands e.1 ∙ r.has.is.same w.after.frames w.after.asked
+      left_commands (inr e) = ap k.commands e.1 ∙ r.has.is.dark w.after.frames w.after.asked
+
+      left_identifier : IsLeft → k.identifier left ≡ k.identifier l
+      left_identifier (inl e) = ap k.identifier e.1 ∙ (reached_same k laws l w.after.frames).1
+      left_identifier (inr e) = ap k.identifier e.1 ∙ (laws.dark_keeps (reached k l w.after.frames)).1 ∙ (reached_same k laws l w.after.frames).1
+
+      reached_store : k.store (reached k l w.after.frames) ≡ w.held.store
+      reached_store = r.has.is.holds w.after.frames w.after.asked ∙ ap (λ (t : TagState). t.store) w.after.holds
+
+      left_store : IsLeft → k.store left ≡ w.held.store
+      left_store (inl e) = ap k.store e.1 ∙ reached_store
+      left_store (inr e) = ap k.store e.1 ∙ (laws.dark_keeps (reached k l w.after.frames)).2 ∙ reached_store
+
+      same_step : (iso_view k card tag behind).step ≡ (iso_view k card tag before).step
+      same_step = now k.commands _ ∙ left_commands w.after.is ∙ sym (was k.commands _)
+
+      pub since_new : drop start new.trace ≡ drop start old.trace ++ w.events
+      since_new = ap (drop start) w.trace ∙ drop-append-le start old.trace w.events r.start
+
+      pub shown_obeyed : (iso_view k card tag behind).obeyed ≡ (iso_view k card tag before).obeyed ++ handed c g
+      shown_obeyed =
+          ap obeyed_in since_new ∙ ap (λ fs. map whole_a (iso_commands (blocks_of fs))) (arrived_append (drop start old.trace) w.events) ∙ ap (map whole_a) w.obeyed
+          ∙ map-append whole_a (commands_of (drop start old.trace)) (delivered_of c.bytes g)
+
+      -- the step of the command where something was given
+      after_given : (o : Option (List ℕ)) (held : TagState) → GivenBy (tags.Obeys (k.commands l)) (tag l) c.bytes o held → held ≡ after_all (k.commands l) (tag l) (handed c o)
+      after_given None held h = h
+      after_given (Some x) held h = h.1
+
+      pub held_after : w.held ≡ after_all (k.commands l) (tag l) (handed c g)
+      held_after = after_given g w.held w.given_by
+
+      pub held_all : w.held ≡ after_all (k.commands l) (plain_state r.origin) (obeyed_in (since k card tag before) ++ handed c g)
+      held_all =
+          held_after ∙ ap (λ (t : TagState). after_all (k.commands l) t (handed c g)) r.holds
+          ∙ sym (after_append (k.commands l) (plain_state r.origin) (obeyed_in (since k card tag before)) (handed c g))
+
+      pub shown_held : (iso_view k card tag behind).state ≡ w.held
+      shown_held =
+          let cs : List Signal = obeyed_in (since k card tag before) ++ handed c g in
+          let S : (TagState → Signal → TagStep) → TagState = λ z. opened_by z (store_of k card tag behind) (plain_state (store_of k card tag behind)) (obeyed_in (since k card tag behind)) in
+          let T : List ℕ → TagState = λ z. opened_by (k.commands l) z (plain_state z) (obeyed_in (since k card tag behind)) in
+          let Z : List ℕ = (after_all (k.commands l) (plain_state r.origin) cs).store in
+          let U : List Signal → TagState = λ z. opened_by (k.commands l) Z (plain_state Z) z in
+          ap S (now k.commands _ ∙ left_commands w.after.is) ∙ ap T (now k.store [] ∙ left_store w.after.is ∙ ap (λ (t : TagState). t.store) held_all) ∙ ap U shown_obeyed ∙ r.replays cs ∙ sym held_all
+
+      pub leads : Leads (iso_view k card tag before) (iso_view k card tag behind) (handed c g)
+      leads = record {
+        kind = refl;
+        identifier = now k.identifier [] ∙ left_identifier w.after.is ∙ sym (was k.identifier []);
+        step = same_step;
+        obeyed = shown_obeyed;
+        state =
+            shown_held ∙ held_after ∙ ap (λ (t : TagState). after_all (k.commands l) t (handed c g)) (sym shown_state)
+            ∙ ap (λ (z : TagState → Signal → TagStep). after_all z (iso_view k card tag before).state (handed c g)) (sym (was k.commands _));
+      }
+
+      only_handed : (o : Option (List ℕ)) → AllByRecursion (λ d. d ≡ c) (handed c o)
+      only_handed None = tt
+      only_handed (Some x) = (sym may, tt)
+
+      same_handed : (o : Option (List ℕ)) (step : TagState → Signal → TagStep) (t : TagState) → AllByRecursion (λ z. z ≡ (step t c).after.store) (passed step t (handed c o))
+      same_handed None step t = tt
+      same_handed (Some x) step t = (ap (λ (d : Signal). (step t d).after.store) (sym may), tt)
+
+      most_handed : (o : Option (List ℕ)) → length (handed c o) ≤ 1
+      most_handed None = omega arith
+      most_handed (Some x) = omega arith
+
+      pub obeys : Obeys (iso_view k card tag before) (iso_view k card tag behind) c
+      obeys = record {
+        more = handed c g;
+        leads = leads;
+        steady = record {
+          only = only_handed g;
+          same = same_handed g (iso_view k card tag before).step (iso_view k card tag before).state;
+          most = λ e. most_handed g;
+        };
+      }
+
+      -- the stores that the tag passed, as the link shows them
+      pub shown_images : Follows (iso_view k card tag before).state.store (stores_after k place (world old) (drop (length old.trace) new.trace))
+          (passed (iso_view k card tag before).step (iso_view k card tag before).state (handed c g))
+      shown_images =
+          let now_is : (iso_view k card tag before).state.store ≡ k.store l = ap (λ (t : TagState). t.store) shown_state ∙ sym (r.has.is.holds [] tt) in
+          let es : drop (length old.trace) new.trace ≡ w.events = ap (drop (length old.trace)) w.trace ∙ drop-append_seam old.trace w.events in
+          let P : List Event → Type 0 = λ xs. Follows (iso_view k card tag before).state.store (stores_after k place (world old) xs) (passed (iso_view k card tag before).step (iso_view k card tag before).state (handed c g)) in
+          let Q : List ℕ → Type 0 = λ z. Follows z (stores_after k place (world old) w.events) (passed (iso_view k card tag before).step (iso_view k card tag before).state (handed c g)) in
+          let R : TagState → Type 0 = λ z. Follows (k.store l) (stores_after k place (world old) w.events) (passed (iso_view k card tag before).step z (handed c g)) in
+          let S : (TagState → Signal → TagStep) → Type 0 = λ z. Follows (k.store l) (stores_after k place (world old) w.events) (passed z (tag l) (handed c g)) in
+          subst P (sym es) (subst Q (sym now_is) (subst R (sym shown_state) (subst S (sym (was k.commands _)) w.images)))
+
+      pub shown_noise : (iso_view k card tag behind).noise ≡ (iso_view k card tag before).noise + noise w.events
+      shown_noise = ap noise since_new ∙ noise_append (drop start old.trace) w.events
+
+      -- what the tag does with the command, as the link shows it
+      pub shown_step : (iso_view k card tag before).step (iso_view k card tag before).state c ≡ k.commands l (tag l) (whole_a c.bytes)
+      shown_step =
+          let S : TagState → TagStep = λ x. (iso_view k card tag before).step x c in
+          let T : (TagState → Signal → TagStep) → TagStep = λ z. z (tag l) c in
+          ap S shown_state ∙ ap T (was k.commands _) ∙ ap (λ (d : Signal). k.commands l (tag l) d) may
+
+      -- the tag is what it was before the command or after it
+      pub either_state : (o : Option (List ℕ)) → o ≡ g
+          → ((iso_view k card tag behind).state ≡ (iso_view k card tag before).state) ⊎ ((iso_view k card tag behind).state ≡ ((iso_view k card tag before).step (iso_view k card tag before).state c).after)
+      either_state None e = inl (shown_held ∙ held_after ∙ ap (λ (z : Option (List ℕ)). after_all (k.commands l) (tag l) (handed c z)) (sym e) ∙ sym shown_state)
+      either_state (Some x) e =
+          inr (shown_held ∙ held_after ∙ ap (λ (z : Option (List ℕ)). after_all (k.commands l) (tag l) (handed c z)) (sym e) ∙ sym (ap (λ (z : TagStep). z.after) shown_step))
+
+      -- what was answered before stays answered
+      pub still_answered : told ≤ length old.trace → obeyed_in (drop start (take told new.trace)) ≡ (iso_view k card tag before).answered
+      still_answered h = ap (λ (es : List Event). obeyed_in (drop start (take told es))) w.trace ∙ ap (λ (es : List Event). obeyed_in (drop start es)) (take-append-le told old.trace w.events h)
+
+      pub all_answered : obeyed_in (drop start (take (length new.trace) new.trace)) ≡ (iso_view k card tag behind).obeyed
+      all_answered = ap (λ (es : List Event). obeyed_in (drop start es)) (take_all (length new.trace) new.trace (omega arith))
+
+    -- before it all that was obeyed was answered
+    pub answered_before : (iso_view k card tag before).answered ≡ (iso_view k card tag before).obeyed
+    answered_before = ap (λ (es : List Event). obeyed_in (drop start es)) (take_all told old.trace (let e = r.told in omega (arith, e)))
+
+pub no_more : (xs : List Event) → drop (length xs) xs ≡ []
+no_more [] = refl
+no_more (x ∷ xs) = no_more xs
+
+-- a link that is made where a tag was activated is ready
+pub ready_on : {L : Type 0} (k : Ghosts L) (card : L → CardState) (tag : L → TagState) (air : Air L) (place : ℕ) (i : ReaderState) → IsActivated k card tag air place i
+    → IsIsoReady k card tag (record { air = air; place = place; start = length air.trace; told = length air.trace; reader = i; last = None; over = None })
+ready_on k card tag air place i a =
+    let none : drop (length air.trace) air.trace ≡ [] = no_more air.trace in
+    let Q : List Event → Type 0 = λ es. IsCut (card a.has.listener) (commands_of es) (arrived es) in
+    record {
+      start = omega arith;
+      told = refl;
+      has = record {
+        listener = a.has.listener;
+        selected = a.has.selected;
+        alone = a.has.alone;
+        is = a.has.is;
+        step = a.has.step;
+        cut = subst Q (sym none) a.has.cut;
+      };
+      origin = a.origin;
+      holds = a.holds ∙ ap (λ (es : List Event). after_all (k.commands a.has.listener) (plain_state a.origin) (obeyed_in es)) (sym none);
+      replays = a.replays;
+    }

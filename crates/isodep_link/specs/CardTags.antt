@@ -1,0 +1,57 @@
+-- Type 4 tags in a field (NFC Forum Digital Protocol; NFC Forum Type 4 Tag): a listener that does at the reader's blocks what
+-- the card's table says, over the tag's own step on commands. Who hears what is this project's own.
+use Rattle.std.specs.Prelude.{◌≡◌, ℕ, ◌≤◌, List, length, true, Some, None}
+use Rattle.std.specs.List.{AllByRecursion}
+use Rattle.nfc_base.specs.declared.frame.Tech.TheVariants.{A}
+use Rattle.nfc_base.specs.Signal.{Signal, whole_a}
+use Rattle.nfc_base.specs.Far.{Untouched}
+use Rattle.nfc_base.specs.TagLinks.{TagState, TagStep}
+use Rattle.nfc_base.specs.LinkTurns.{MovedBy, step}
+use Rattle.air_core.specs.PlainTags.{reached}
+use Rattle.air_core.specs.declared.listener.Listener.{Ghosts}
+use Rattle.isodep_link.specs.declared.block.Block.{Block}
+use Rattle.isodep_link.specs.declared.block.Block.TheVariants.{Info, Ack, Nak, Deselect}
+use Rattle.isodep_link.specs.Blocks.{IsBlock, block_frame}
+use Rattle.isodep_link.specs.Sizes.{limit}
+use Rattle.isodep_link.specs.Card.{CardState, fresh}
+use Rattle.isodep_link.specs.Exchange.{iso_dep}
+
+-- a block that a reader sends while it asks commands
+abbrev pub IsAskedBlock : Block → Type 0
+IsAskedBlock (Info more n content) = IsBlock (Info more n content)
+IsAskedBlock (Ack n) = IsBlock (Ack n)
+IsAskedBlock (Nak n) = IsBlock (Nak n)
+IsAskedBlock Deselect = ⊥
+
+pub record IsAsked (f : Signal) : Type 0 where
+  pub block : Block
+  pub asked : IsAskedBlock block
+  pub frame : f ≡ block_frame block
+
+-- the tag's step on the bytes of a command: the bytes of its answer, and what the tag is then
+abbrev pub Obeys : (TagState → Signal → TagStep) → TagState → List ℕ → List ℕ → TagState → Type 0
+Obeys step s command answer after = ((step s (whole_a command)).answer ≡ Some (whole_a answer)) × (after ≡ (step s (whole_a command)).after)
+
+abbrev pub IsShort : List ℕ → Type 0
+IsShort xs = length xs ≤ limit
+
+module _ {L : Type 0} (k : Ghosts L) (card : L → CardState) (tag : L → TagState) where
+  -- At a frame a listener does what the card's table says, whose owner is the tag; it hands nothing over, and stays selected.
+  pub record StepsByCard (l : L) (f : Signal) : Type 0 where
+    pub quiet : k.machine.handed l f ≡ Untouched
+    pub reply : List ℕ
+    pub short : IsShort reply
+    pub answer : k.machine.answer l f None ≡ (step iso_dep reply (card l) f).answer
+    pub card_is : card (k.machine.after l f None) ≡ (step iso_dep reply (card l) f).state
+    pub moved : MovedBy (Obeys (k.commands l)) (tag l) (step iso_dep reply (card l) f).asked reply (tag (k.machine.after l f None))
+    pub selected : k.is_selected (k.machine.after l f None) ≡ true
+
+  -- A selected listener is a Type 4 tag that was activated: by the reader's blocks it only comes to where it does so again.
+  -- Its step on commands stays, also in the dark; its store is what the tag holds; the dark clears its card's end.
+  pub record IsCardTag (l : L) : Type 0 where
+    pub tech : k.machine.tech l ≡ A
+    pub steps : (fs : List Signal) → AllByRecursion IsAsked fs → (f : Signal) → IsAsked f → StepsByCard (reached k l fs) f
+    pub same : (fs : List Signal) → AllByRecursion IsAsked fs → k.commands (reached k l fs) ≡ k.commands l
+    pub dark : (fs : List Signal) → AllByRecursion IsAsked fs → k.commands (k.machine.darkened (reached k l fs)) ≡ k.commands l
+    pub holds : (fs : List Signal) → AllByRecursion IsAsked fs → k.store (reached k l fs) ≡ (tag (reached k l fs)).store
+    pub cleared : (fs : List Signal) → AllByRecursion IsAsked fs → card (k.machine.darkened (reached k l fs)) ≡ fresh (card (reached k l fs)).code

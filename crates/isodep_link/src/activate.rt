@@ -1,0 +1,65 @@
+//! The activation of a Type 4 tag by RATS.
+
+ghost use Rattle.std.specs.Prelude.{◌≡◌};
+ghost use Rattle.isodep_link.specs.Activating.{rats, ats_code, Activates};
+
+use crate::listener::CardListener;
+use air_core::{AirFault, Field};
+use nfc_base::{AskFault, Frame, Heard, Mute, Tech};
+
+/// RATS of this reader: its size code, the largest, in the high nibble of the second byte.
+const RATS: [u8; 2] = [0xE0, 0x80];
+
+/// The card's size code where its answer has one byte alone.
+const DEFAULT_CODE: u8 = 2;
+
+/// How many bad receptions end a wait (this project's own).
+const BAD_RECEPTIONS: u8 = 6;
+
+fn rats() -> Frame
+    ensures { result ≡ rats }
+{
+    Frame::whole(Tech::A, &RATS).unwrap()
+}
+
+/// The card's size code, where a frame is an answer to RATS.
+pub(crate) fn ats_code(frame: &Frame) -> Option<u8>
+    ensures { result ≡ ats_code frame.now }
+{
+    if frame.tech() != Tech::A || frame.tail() != 0 {
+        return None;
+    }
+    let bytes = frame.view();
+    if bytes.is_empty() || bytes[0] as usize != bytes.len() {
+        return None;
+    }
+    if bytes.len() == 1 {
+        return Some(DEFAULT_CODE);
+    }
+    Some(bytes[1] % 16)
+}
+
+/// Sends RATS to the tag at a place, again after each bad reception, and gives the card's size code.
+pub fn activate_card<L: CardListener>(field: &mut Field<L>, place: usize) -> Result<u8, AskFault>
+    ensures { Activates L.Listener L.card L.tag field.old field.new place result }
+{
+    let mut far = Mute;
+    let request = rats();
+    let mut bad = 0;
+    while bad < BAD_RECEPTIONS {
+        match field.transmit(&request, &mut far) {
+            Ok(heard) => {
+                if let Heard::Whole(answer) = heard {
+                    return match ats_code(&answer) {
+                        Some(code) => Ok(code),
+                        None => Err(AskFault::Protocol),
+                    };
+                }
+                bad += 1;
+            }
+            Err(AirFault::FieldLost) => return Err(AskFault::FieldLost),
+            Err(AirFault::Memory) => return Err(AskFault::Memory),
+        }
+    }
+    Err(AskFault::SixBad)
+}

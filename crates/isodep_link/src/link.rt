@@ -1,0 +1,84 @@
+//! A link to a Type 4 tag.
+
+ghost use Rattle.std.specs.Prelude.{◌≡◌, length, None};
+ghost use Rattle.isodep_link.specs.Reader.{waiting};
+ghost use Rattle.isodep_link.specs.Activating.{IsActivated};
+ghost use Rattle.isodep_link.specs.IsoLinks.{IsIsoReady};
+
+use crate::exchange::ask_card;
+use crate::listener::CardListener;
+use crate::reader::ReaderEnd;
+use air_core::Field;
+use nfc_base::{AskFault, Frame, TagLink};
+use std::alloc::Global;
+
+/// A link to one Type 4 tag, which was activated, is selected and alone in the field. Each command is an exchange of
+/// ISO-DEP, in which the tag obeys it at most once.
+#[derive(Drop)]
+pub struct IsoLink<'a, L> {
+    field: &'a mut Field<L>,
+    place: usize,
+    reader: ReaderEnd,
+    start: usize,
+    told: usize,
+    last: Option<Frame>,
+    over: Option<AskFault>,
+}
+
+impl<'a, L: CardListener> IsoLink<'a, L> {
+    /// A link to the tag at a place, which was activated and told this size code.
+    pub fn on(field: &'a mut Field<L>, place: usize, code: u8) -> IsoLink<'a, L>
+        requires tag { IsActivated L.Listener L.card L.tag field.old place (waiting code) }
+        ensures same { result.field.ghost_name ≡ field.entry.ghost_name }
+        ensures field { result.field.now ≡ field.old }
+        ensures fresh { (result.place ≡ place) × (result.start ≡ length field.old.trace) × (result.told ≡ length field.old.trace) × (result.last ≡ None) × (result.over ≡ None) }
+        ensures reader { result.reader ≡ waiting code }
+        ensures ready { IsIsoReady L.Listener L.card L.tag (record { air = field.old; place = place; start = length field.old.trace; told = length field.old.trace; reader = waiting code; last = None; over = None }) }
+    {
+        let start = field.trace().len();
+        IsoLink {
+            field,
+            place,
+            reader: ReaderEnd::new(code),
+            start,
+            told: start,
+            last: None,
+            over: None,
+        }
+    }
+}
+
+impl<'a, L: CardListener> TagLink for IsoLink<'a, L> {
+    ghost use Rattle.std.specs.Prelude.{◌≡◌, [], ◌∷◌, None};
+    ghost use Rattle.isodep_link.specs.IsoLinks.{IsoSeen, iso_view, IsIsoReady, IsoMoves};
+    ghost use Rattle.isodep_link.specs.IsoMoving.{moves_again, moves_on};
+
+    ghost seen = { λ p. iso_view L.Listener L.card L.tag (record { air = p.field.now; place = p.place; start = p.start; told = p.told; reader = p.reader; last = p.last; over = p.over }) };
+
+    ghost lenders = { λ p. p.field.ghost_name ∷ [] };
+
+    ghost ready = { λ p. p.over ≡ None → IsIsoReady L.Listener L.card L.tag (record { air = p.field.now; place = p.place; start = p.start; told = p.told; reader = p.reader; last = p.last; over = p.over }) };
+
+    ghost moves = { λ a b. IsoMoves L.Listener L.card L.tag (record { air = a.field.now; place = a.place; start = a.start; told = a.told; reader = a.reader; last = a.last; over = a.over }) (record { air = b.field.now; place = b.place; start = b.start; told = b.told; reader = b.reader; last = b.last; over = b.over }) };
+
+    fn ask(&mut self, _alloc: Global, command: &Frame) -> Result<Frame, AskFault> {
+        if let Some(fault) = self.over {
+            return Err(fault);
+        }
+        self.last = Some(command.copy());
+        match ask_card(self.field, self.place, &mut self.reader, command) {
+            Ok(answer) => {
+                self.told = self.field.trace().len();
+                Ok(answer)
+            }
+            Err(fault) => {
+                self.over = Some(fault);
+                Err(fault)
+            }
+        }
+    }
+
+    ghost stays = { λ a. moves_again _ _ _ _ };
+
+    ghost goes_on = { λ a b c p q. moves_on _ _ _ _ _ _ p q };
+}
