@@ -1,16 +1,15 @@
--- Polling for NFC-A: what a reader asks next, by what it heard (NFC Forum Digital Protocol; ISO/IEC 14443-3). The
--- choice of bit 1 at a collision, rounds and their number, and four presence requests are this project's own.
-use Rattle.std.specs.Prelude.{ℕ, ◌+◌, List, [], ◌∷◌, ◌++◌, length, slice_index, Bool, true, false, ◌==◌, ◌&&◌, ◌||◌, nat_eq, nat_lt, nat_le, bit_and, if◌then◌else◌}
-use Rattle.std.specs.Cmp.Lexicographic.{pointwise}
+-- One resolution of NFC-A: what a reader asks next, by what it heard (NFC Forum Digital Protocol; ISO/IEC 14443-3). The
+-- choice of bit 1 at a collision and four presence requests are this project's own.
+use Rattle.std.specs.Prelude.{ℕ, ◌+◌, List, [], ◌∷◌, ◌++◌, length, slice_index, Bool, true, ◌==◌, ◌&&◌, nat_lt, nat_le, bit_and, if◌then◌else◌}
 use Rattle.nfc_base.specs.Signal.{Signal}
 use Rattle.nfc_base.specs.Bits.{bits, packed}
 use Rattle.nfc_base.specs.declared.event.Heard.{Heard}
 use Rattle.nfc_base.specs.declared.event.Heard.TheVariants.{Whole, Collided, Damaged, Silent}
-use Rattle.air_core.specs.Conversation.{Note, Lit, Got, Lost, Next, Over, LightUp, Asks}
+use Rattle.air_core.specs.Conversation.{Next, Over, Asks}
 use Rattle.nfca_poll.specs.declared.kind.Kind.{Kind}
 use Rattle.nfca_poll.specs.declared.kind.Kind.TheVariants.{T2, T4, Peer}
-use Rattle.nfca_poll.specs.Levels.{bcc, cascades, identifier}
-use Rattle.nfca_poll.specs.Calls.{Sens, Slp, Sdd, Sel, call_frame}
+use Rattle.nfca_poll.specs.Levels.{bcc, cascades}
+use Rattle.nfca_poll.specs.Calls.{Sens, Sdd, Sel, call_frame}
 
 -- how a resolution ends
 pub data Outcome : Type 0 where
@@ -79,83 +78,9 @@ seek_step (Selecting done l) Damaged = Ended Disturbed
 seek_step (Selecting done l) Silent = Ended Disturbed
 seek_step (Ended o) h = Ended o
 
--- How a call of polling for one identifier ends.
-pub data PickEnd : Type 0 where
-  Picked : Kind → PickEnd
-  NotFound : PickEnd
-  GivenUp : PickEnd
-  Refused : PickEnd
-  FieldLost : PickEnd
-
--- How far it is: a reset is due for this round; a resolution, with the identifiers found in this round; SLP_REQ is due;
--- it is over. Rounds count from 1.
-pub data Pick : Type 0 where
-  Begins : ℕ → Pick
-  Seeks : ℕ → List (List ℕ) → Seek → Pick
-  Sends : ℕ → List (List ℕ) → Pick
-  Ends : PickEnd → Pick
-
--- a round that is disturbed is given up; the fourth one ends the call
-abbrev pub next_round : ℕ → Pick
-next_round round = if nat_lt round 4 then Begins (round + 1) else Ends GivenUp
-
-abbrev pub is_same : List ℕ → List ℕ → Bool
-is_same a b = pointwise nat_eq a b
-
-abbrev pub has : List (List ℕ) → List ℕ → Bool
-has [] id = false
-has (x ∷ xs) id = is_same x id || has xs id
-
--- a device is selected: the wanted one, one that was found before, or another one, which is put to sleep
-abbrev pub meets : List ℕ → ℕ → List (List ℕ) → List ℕ → Kind → Pick
-meets wanted round found id kind =
-    if is_same id wanted then Ends (Picked kind)
-    else if has found id then next_round round
-    else if nat_lt (length found) 256 then Sends round (id ∷ found)
-    else Ends Refused
-
-abbrev pub sought : List ℕ → ℕ → List (List ℕ) → Seek → Pick
-sought wanted round found (Calling n) = Seeks round found (Calling n)
-sought wanted round found (Asking done known) = Seeks round found (Asking done known)
-sought wanted round found (Selecting done l) = Seeks round found (Selecting done l)
-sought wanted round found (Ended Nobody) = Ends NotFound
-sought wanted round found (Ended Disturbed) = next_round round
-sought wanted round found (Ended BadAnswer) = Ends Refused
-sought wanted round found (Ended (Found ls kind)) = meets wanted round found (identifier ls) kind
-
--- the call goes on by what the reader knows
-abbrev pub pick_step : List ℕ → Pick → Note → Pick
-pick_step wanted (Begins round) Lit = Seeks round [] (Calling 0)
-pick_step wanted (Begins round) (Got h) = Begins round
-pick_step wanted (Begins round) Lost = Ends FieldLost
-pick_step wanted (Seeks round found s) Lit = Seeks round found s
-pick_step wanted (Seeks round found s) (Got h) = sought wanted round found (seek_step s h)
-pick_step wanted (Seeks round found s) Lost = Ends FieldLost
-pick_step wanted (Sends round found) Lit = Sends round found
-pick_step wanted (Sends round found) (Got h) = Seeks round found (Calling 0)
-pick_step wanted (Sends round found) Lost = Ends FieldLost
-pick_step wanted (Ends e) n = Ends e
-
+-- the request that is due
 abbrev pub seek_next : Seek → Next
 seek_next (Calling n) = Asks (call_frame Sens)
 seek_next (Asking done known) = Asks (call_frame (Sdd (length done + 1) known))
 seek_next (Selecting done l) = Asks (call_frame (Sel (length done + 1) l))
 seek_next (Ended o) = Over
-
--- Where the call is over, its end and what the reader knows since; else the request that is due.
-pub data Polling : Type 0 where
-  Polls : Next → Polling
-  Done : PickEnd → List Note → Polling
-
-abbrev pub picking : List ℕ → Pick → List Note → Polling
-picking wanted (Ends e) ns = Done e ns
-picking wanted (Begins round) [] = Polls LightUp
-picking wanted (Begins round) (n ∷ ns) = picking wanted (pick_step wanted (Begins round) n) ns
-picking wanted (Seeks round found s) [] = Polls (seek_next s)
-picking wanted (Seeks round found s) (n ∷ ns) = picking wanted (pick_step wanted (Seeks round found s) n) ns
-picking wanted (Sends round found) [] = Polls (Asks (call_frame Slp))
-picking wanted (Sends round found) (n ∷ ns) = picking wanted (pick_step wanted (Sends round found) n) ns
-
--- A call of polling for one identifier, from its first reset on.
-abbrev pub pick : List ℕ → List Note → Polling
-pick wanted ns = picking wanted (Begins 1) ns
