@@ -203,11 +203,7 @@ fn select_and_read(
 }
 
 /// Reads a tag, from a reset on.
-fn read_tag(
-    alloc: Global,
-    field: &mut Field<Device>,
-    id: &DeviceId,
-) -> Result<Answer, ObeyFault>
+fn read_tag(alloc: Global, field: &mut Field<Device>, id: &DeviceId) -> Result<Answer, ObeyFault>
     requires { IsIdle field.old }
     ensures ok { IfOk result (λ a. Obeyed field.old field.new (Command.Read id.now) a) }
     ensures never { IsErrOf result ObeyFault.Refused → ⊥ }

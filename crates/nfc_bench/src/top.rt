@@ -8,10 +8,10 @@ ghost use Rattle.nfc_bench.specs.Limits.{most_read};
 ghost use Rattle.nfc_bench.specs.Run.{IsRun, is_quiet, words_fault, line_fault, AllTaken, AddsFault, EndsDone, EndsRefused, EndsUnread, EndsUnwritten, EndsMemory, ReadsInTime, ReadsAtMost};
 ghost use Rattle.nfc_bench.specs.Stops.{RunStops};
 
-mod input;
-mod lines;
 #[cfg(test)]
 mod crowd_tests;
+mod input;
+mod lines;
 #[cfg(test)]
 mod tags_tests;
 #[cfg(test)]
