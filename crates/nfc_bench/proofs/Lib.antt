@@ -32,3 +32,4 @@ pub mod Journals
 pub mod Progress
 pub mod Outcomes
 pub mod Endings
+pub mod Complete

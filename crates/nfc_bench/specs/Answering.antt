@@ -1,11 +1,10 @@
 -- What a command answers that polls, and the cause of each answer.
-use Rattle.std.specs.Prelude.{◌≡◌, ◌↔◌, ◌⊎◌, ℕ, ◌<◌, ◌≤◌, List, [], ◌∷◌, ◌++◌, Option, Some, None, Result, Ok, Err}
+use Rattle.std.specs.Prelude.{◌≡◌, ◌↔◌, ◌⊎◌, ◌<◌, ◌≤◌, List, [], ◌∷◌, ◌++◌, Option, Some, None, Result, Ok, Err}
 use Rattle.nfc_base.specs.Signal.{Signal}
 use Rattle.nfc_base.specs.Trace.{noise, breaks}
 use Rattle.nfc_base.specs.declared.event.Event.{Event}
-use Rattle.nfc_base.specs.declared.tag_link.AskFault.{AskFault}
 use Rattle.nfc_base.specs.declared.tag_link.AskFault.TheVariants as asking
-use Rattle.air_core.specs.Conversation.{Note, receptions}
+use Rattle.air_core.specs.Conversation.{receptions}
 use Rattle.air_core.specs.Waits.{Standing, Asking, Broken, Astray, stand}
 use Rattle.nfca_poll.specs.declared.fault.Picked.{Picked}
 use Rattle.nfca_poll.specs.declared.fault.PollFault.{PollFault}
@@ -21,7 +20,7 @@ use Rattle.nfc_bench.specs.declared.command.DeviceId.TheVariants.{A, V}
 use Rattle.nfc_bench.specs.declared.device.Device.{Device}
 use Rattle.nfc_bench.specs.declared.entry.Answer.{Answer}
 use Rattle.nfc_bench.specs.declared.entry.Answer.TheVariants as answers
-use Rattle.nfc_bench.specs.Polling.{Followed, Told, bytes_of, follows, selecting}
+use Rattle.nfc_bench.specs.Polling.{Told, bytes_of, follows, selecting}
 use Rattle.nfc_bench.specs.Crowded.{crowd_of, others_of, seen_all, is_crowd}
 use Rattle.nfc_bench.specs.Placed.{device_with, OfPlaced}
 use Rattle.nfc_bench.specs.Reading.{TellsOf}

@@ -1,13 +1,12 @@
 -- The devices that stand in the bench's field, as a search tells of them: those of NFC-A in crowd order, and the Type 5 tag, or
 -- that there are several.
-use Rattle.std.specs.Prelude.{ℕ, List, [], ◌∷◌, ◌++◌, map, length, Bool, true, false, filter_map, Option, Some, None}
+use Rattle.std.specs.Prelude.{ℕ, List, [], ◌∷◌, ◌++◌, map, Bool, true, false, filter_map, Option, Some, None}
 use Rattle.nfca_poll.specs.declared.kind.Kind.{Kind}
 use Rattle.nfca_poll.specs.declared.kind.Kind.TheVariants as kinds
 use Rattle.nfca_poll.specs.declared.fault.Picked.{Picked}
 use Rattle.nfca_poll.specs.declared.inventory.Vcrowd.{Vcrowd}
 use Rattle.nfca_poll.specs.declared.inventory.Vcrowd.TheVariants as inventories
 use Rattle.nfca_poll.specs.Crowd.{Card}
-use Rattle.nfca_poll.specs.Front.{Off}
 use Rattle.nfca_poll.specs.RoundEnds.{crowd}
 use Rattle.nfc_bench.specs.declared.command.DeviceId.TheVariants as ids
 use Rattle.nfc_bench.specs.declared.device.Device.{Device}

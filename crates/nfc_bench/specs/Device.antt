@@ -1,6 +1,6 @@
 -- The devices of the bench: a Type 2 tag under the listener front of its identifier, and a Type 5 tag (NFC Forum Digital
 -- Protocol; NFC Forum Type 2 Tag and Type 5 Tag).
-use Rattle.std.specs.Prelude.{◌≡◌, ℕ, List, Bool, true, false, if◌then◌else◌, length, Option, Some, None}
+use Rattle.std.specs.Prelude.{ℕ, List, Bool, true, false, if◌then◌else◌, Option, Some, None}
 use Rattle.nfc_base.specs.declared.frame.Tech.{Tech}
 use Rattle.nfc_base.specs.declared.frame.Tech.TheVariants.{A, V}
 use Rattle.nfc_base.specs.Signal.{Signal}
@@ -15,7 +15,7 @@ use Rattle.nfca_poll.specs.Fronted.{answer_by, after_by, moved}
 use Rattle.nfca_poll.specs.Upper.{UpperMachine}
 use Rattle.t2t_tag.specs.Store.{T2Memory, unlocked}
 use Rattle.t2t_tag.specs.Step.{t2_answer, t2_after}
-use Rattle.t5t_tag.specs.Store.{IsT5State, fresh, darkened}
+use Rattle.t5t_tag.specs.Store.{fresh, darkened}
 use Rattle.t5t_tag.specs.Step.{t5_answer, t5_after}
 use Rattle.tag_reader.specs.declared.how.How.{How}
 use Rattle.tag_reader.specs.declared.how.How.TheVariants as hows
