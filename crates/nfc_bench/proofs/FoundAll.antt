@@ -72,6 +72,7 @@ same_cards (T5 p ∷ ds) = same_cards ds
 
 v_how : How → Option (List ℕ)
 v_how hows.T2 = None
+v_how hows.T4 = None
 v_how (hows.T5 id) = Some id
 
 v_kept : (ds : List Device) → filter_map v_if ds ≡ filter_map (λ (k : Kept). v_how k.how) (map kept ds)

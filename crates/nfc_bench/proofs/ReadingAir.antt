@@ -13,13 +13,12 @@ use Rattle.t5t_tag.specs.Store.{T5State, id_size}
 use Rattle.t5t_tag.specs.Spelling.{read_code}
 use Rattle.t5t_tag.specs.Step.{silent, refuses, not_supported, read_turn, obeyed, names, addressed, t5_after}
 use Rattle.t5t_tag.proofs.Steps.{read_leaves}
-use Rattle.tag_reader.specs.declared.how.How.{How}
 use Rattle.tag_reader.specs.declared.how.How.TheVariants as hows
 use Rattle.tag_reader.specs.Kinds.{command, first}
 use Rattle.nfc_bench.specs.Powered.{Powered}
 use Rattle.nfc_bench.specs.declared.device.Device.{Device}
 use Rattle.nfc_bench.specs.declared.device.Device.TheVariants.{T2, T5}
-use Rattle.nfc_bench.specs.Device.{devices, device_after}
+use Rattle.nfc_bench.specs.Device.{devices, device_after, how_of}
 use Rattle.nfc_bench.specs.Phases.{kept}
 use Rattle.nfc_bench.proofs.SelectingKept.{IsHarmless}
 
@@ -40,38 +39,38 @@ read_addressed t rest = by_names (names t rest)
     by_names false = refl
 
 -- so does one of each kind of device, whichever it hears
-read_two : (id : List ℕ) (front : Front) (u : T2Memory) (k : ℕ)
-    → kept (device_after (T2 (record { id = id; front = front; upper = u })) (command hows.T2 k)) ≡ kept (T2 (record { id = id; front = front; upper = u }))
-read_two id Off u k = refl
-read_two id Idle u k = refl
-read_two id Sleep u k = refl
-read_two id (Ready level starred) u k = refl
-read_two id (Active starred) u k = refl
+read_two : (id : List ℕ) (front : Front) (u : T2Memory) (store : List ℕ) (k : ℕ)
+    → kept (device_after (T2 (record { id = id; front = front; upper = u })) (command hows.T2 store k)) ≡ kept (T2 (record { id = id; front = front; upper = u }))
+read_two id Off u store k = refl
+read_two id Idle u store k = refl
+read_two id Sleep u store k = refl
+read_two id (Ready level starred) u store k = refl
+read_two id (Active starred) u store k = refl
 
-read_five : (id : List ℕ) (p : Powered) (k : ℕ) → kept (device_after (T5 p) (command (hows.T5 id) k)) ≡ kept (T5 p)
-read_five id p k = by_light p.lit
+read_five : (id : List ℕ) (p : Powered) (store : List ℕ) (k : ℕ) → kept (device_after (T5 p) (command (hows.T5 id) store k)) ≡ kept (T5 p)
+read_five id p store k = by_light p.lit
   where
-    by_light : (v : Bool) → kept (if v then T5 (record { tag = t5_after p.tag (command (hows.T5 id) k); lit = true }) else T5 p) ≡ kept (T5 p)
+    by_light : (v : Bool) → kept (if v then T5 (record { tag = t5_after p.tag (command (hows.T5 id) store k); lit = true }) else T5 p) ≡ kept (T5 p)
     by_light true = ap (λ t. kept (T5 (record { tag = t; lit = true }))) (read_addressed p.tag _)
     by_light false = refl
 
-read_keeps : (how : How) (k : ℕ) (d : Device) → kept (stepped_by devices d (command how k) None) ≡ kept d
-read_keeps hows.T2 k (T2 d) = read_two d.id d.front d.upper k
-read_keeps hows.T2 k (T5 p) = refl
-read_keeps (hows.T5 id) k (T2 d) = refl
-read_keeps (hows.T5 id) k (T5 p) = read_five id p k
+read_keeps : (e : Device) (store : List ℕ) (k : ℕ) (d : Device) → kept (stepped_by devices d (command (how_of e) store k) None) ≡ kept d
+read_keeps (T2 e) store k (T2 d) = read_two d.id d.front d.upper store k
+read_keeps (T2 e) store k (T5 p) = refl
+read_keeps (T5 e) store k (T2 d) = refl
+read_keeps (T5 e) store k (T5 p) = read_five e.tag.id p store k
 
--- a frame that asks for bytes
-abbrev pub IsRead : How → Signal → Type 0
-IsRead how f = (k : ℕ) × (f ≡ command how k)
+-- a frame that asks a device for bytes
+abbrev pub IsRead : Device → Signal → Type 0
+IsRead e f = (store : List ℕ) × (k : ℕ) × (f ≡ command (how_of e) store k)
 
 all_more : (P : Signal → Type 0) (xs : List Signal) (y : Signal) → AllByRecursion P xs → P y → AllByRecursion P (xs ++ y ∷ [])
 all_more P [] y all here = (here, tt)
 all_more P (x ∷ xs) y all here = (all.0, all_more P xs y all.1 here)
 
-pub all_reads : (how : How) (n : ℕ) → AllByRecursion (IsRead how) (first how n)
-all_reads how zero = tt
-all_reads how (suc n) = all_more (IsRead how) (first how n) (command how n) (all_reads how n) (n, refl)
+pub all_reads : (e : Device) (store : List ℕ) (n : ℕ) → AllByRecursion (IsRead e) (first (how_of e) store n)
+all_reads e store zero = tt
+all_reads e store (suc n) = all_more (IsRead e) (first (how_of e) store n) (command (how_of e) store n) (all_reads e store n) (store, n, refl)
 
 -- what is due in a wait is one of the commands
 abbrev AllLeft : (Signal → Type 0) → Standing → Type 0
@@ -99,7 +98,7 @@ due_all P (Broken x cs) f all e = absurd cc
 due_all P Astray f all e = absurd cc
 
 -- what is due while READs are asked changes no device but in its state
-pub reads_harmless : (how : How) (cs : List Signal) → AllByRecursion (IsRead how) cs → (ns : List Note) (f : Signal) → waits_next cs ns ≡ Asks f → IsHarmless f
-reads_harmless how cs all ns f due d =
-    let is : IsRead how f = due_all (IsRead how) (stand 0 cs ns) f (stand_all (IsRead how) 0 cs ns all) due in
-    ap (λ g. kept (stepped_by devices d g None)) is.1 ∙ read_keeps how is.0 d
+pub reads_harmless : (e : Device) (cs : List Signal) → AllByRecursion (IsRead e) cs → (ns : List Note) (f : Signal) → waits_next cs ns ≡ Asks f → IsHarmless f
+reads_harmless e cs all ns f due d =
+    let is : IsRead e f = due_all (IsRead e) (stand 0 cs ns) f (stand_all (IsRead e) 0 cs ns all) due in
+    ap (λ g. kept (stepped_by devices d g None)) is.2 ∙ read_keeps e is.0 is.1 d

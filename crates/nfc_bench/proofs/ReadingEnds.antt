@@ -22,7 +22,7 @@ use Rattle.tag_reader.specs.declared.fault.ReadFault.{ReadFault}
 use Rattle.tag_reader.specs.declared.fault.ReadFault.TheVariants as faults
 use Rattle.tag_reader.specs.declared.found.Found.{Found}
 use Rattle.tag_reader.specs.declared.found.Site.{Site}
-use Rattle.tag_reader.specs.declared.found.Site.TheVariants.{Area}
+use Rattle.tag_reader.specs.declared.found.Site.TheVariants.{Area, File}
 use Rattle.tag_reader.specs.declared.how.How.{How}
 use Rattle.tag_reader.specs.Kinds.{IsTag, command, first}
 use Rattle.tag_reader.specs.Asked.{IsAsked, IsDue, AreDue}
@@ -31,6 +31,7 @@ use Rattle.tag_reader.specs.Reading.{IsFound, IsSite, IsReadFault, is_told}
 use Rattle.tag_reader.proofs.Knowing.{due_more}
 use Rattle.tag_reader.proofs.Lists.{asked_front}
 use Rattle.nfc_bench.specs.declared.device.Device.{Device}
+use Rattle.nfc_bench.specs.declared.device.Device.TheVariants.{T2, T5}
 use Rattle.nfc_bench.specs.declared.entry.Answer.{Answer}
 use Rattle.nfc_bench.specs.declared.entry.Answer.TheVariants as answers
 use Rattle.nfc_bench.specs.Device.{devices, device_store, how_of, size_of}
@@ -51,6 +52,8 @@ none_behind (x ∷ xs) = none_behind xs
 -- a found message is what the answer tells
 found_access : (d : Device) (site : Site) (writable : Bool) → IsSite (how_of d) (size_of d) (device_store d) site writable → IsAccess (how_of d) (size_of d) (device_store d) writable
 found_access d (Area m) writable is = (m.space, is.0, is.2)
+found_access (T2 d) (File m) writable is = absurd is.0
+found_access (T5 p) (File m) writable is = absurd is.0
 
 found_tells : (d : Device) (found : Found) → IsFound (how_of d) (size_of d) (device_store d) found → TellsOf d (answers.Message found.message found.writable)
 found_tells d found is = (is.held, found_access d found.site found.writable is.site)
@@ -59,7 +62,7 @@ found_tells d found is = (is.held, found_access d found.site found.writable is.s
 -- that the link ended with.
 record AskedSome (d : Device) (asked : List Signal) : Type 0 where
   pub count : ℕ
-  pub list : asked ≡ first (how_of d) count
+  pub list : asked ≡ first (how_of d) (device_store d) count
   pub each : AreDue (how_of d) (size_of d) (device_store d) count
 
 module _ (a : Air Device) (place : ℕ) (d : Device) (s : Stands (moment a) place d) (q : PlainSeen Device) (m : PlainMoves ghosts (begun a place) q) where
@@ -88,19 +91,24 @@ module _ (a : Air Device) (place : ℕ) (d : Device) (s : Stands (moment a) plac
   due_here : (n : ℕ) → AreDue (how_of d) (size_of d) from.state.store n → AreDue (how_of d) (size_of d) (device_store d) n
   due_here n each = subst (λ xs. AreDue (how_of d) (size_of d) xs n) (shows_store a place d s) each
 
+  first_here : (n : ℕ) → first (how_of d) from.state.store n ≡ first (how_of d) (device_store d) n
+  first_here n = ap (λ xs. first (how_of d) xs n) (shows_store a place d s)
+
   -- the command that the link ended with is the next that is asked
   asked_more : (h : HasAskedOf) (e : AskFault) → q.over ≡ Some e → AskedSome d m.asked
   asked_more h e over = by_last h.last
     where
-      by_last : ((q.last ≡ last_of (how_of d) from h.count) × (q.over ≡ None)) ⊎ ((q.last ≡ Some (command (how_of d) h.count)) × IsDue (how_of d) (size_of d) from.state.store h.count) → AskedSome d m.asked
+      by_last : ((q.last ≡ last_of (how_of d) from.state.store from h.count) × (q.over ≡ None)) ⊎ ((q.last ≡ Some (command (how_of d) from.state.store h.count)) × IsDue (how_of d) (size_of d) from.state.store h.count) → AskedSome d m.asked
       by_last (inl (last, open')) = absurd (let clash : None ≡ Some e = sym open' ∙ over in cc)
       by_last (inr (last, due)) =
-          let c : Signal = command (how_of d) h.count in
+          let c : Signal = command (how_of d) from.state.store h.count in
           let left : unanswered q.over q.last ≡ c ∷ [] = ap (λ o. unanswered o q.last) over ∙ ap (unanswered (Some e)) last in
           let one : h.count + 1 ≡ suc h.count = omega arith in
           record {
             count = suc h.count;
-            list = sym asked_told ∙ ap (λ xs. to.answered ++ xs) left ∙ ap (λ xs. xs ++ c ∷ []) (h.answered ∙ ap (λ xs. xs ++ first (how_of d) h.count) none_before);
+            list = sym asked_told ∙ ap (λ xs. to.answered ++ xs) left
+                ∙ ap (λ xs. xs ++ c ∷ []) (h.answered ∙ ap (λ xs. xs ++ first (how_of d) from.state.store h.count) none_before)
+                ∙ first_here (suc h.count);
             each = subst (AreDue (how_of d) (size_of d) (device_store d)) one
                 (due_here (h.count + 1) (due_more (how_of d) (size_of d) from.state.store h.count h.each due));
           }
@@ -110,11 +118,11 @@ module _ (a : Air Device) (place : ℕ) (d : Device) (s : Stands (moment a) plac
   asked_whole all open' =
       sym asked_told ∙ ap (λ o. to.answered ++ unanswered o q.last) open' ∙ append-nil to.answered ∙ all.answered ∙ ap (λ xs. xs ++ all.commands) none_before
 
-  all_reads_of : (n : ℕ) → m.asked ≡ first (how_of d) n → AllByRecursion (IsRead (how_of d)) m.asked
-  all_reads_of n list = subst (AllByRecursion (IsRead (how_of d))) (sym list) (all_reads (how_of d) n)
+  all_reads_of : (n : ℕ) → m.asked ≡ first (how_of d) (device_store d) n → AllByRecursion (IsRead d) m.asked
+  all_reads_of n list = subst (AllByRecursion (IsRead d)) (sym list) (all_reads d (device_store d) n)
 
-  same_devices : (n : ℕ) → m.asked ≡ first (how_of d) n → map kept q.air.listeners ≡ map kept a.listeners
-  same_devices n list = going_keeps (waits_next m.asked) (moment a) (moment q.air) m.notes (reads_harmless (how_of d) m.asked (all_reads_of n list)) m.going
+  same_devices : (n : ℕ) → m.asked ≡ first (how_of d) (device_store d) n → map kept q.air.listeners ≡ map kept a.listeners
+  same_devices n list = going_keeps (waits_next m.asked) (moment a) (moment q.air) m.notes (reads_harmless d m.asked (all_reads_of n list)) m.going
 
   -- the field was lost exactly where the waits ended so
   broken_by : 0 < breaks m.going.events → EndsLost m.asked m.notes
@@ -143,7 +151,7 @@ module _ (a : Air Device) (place : ℕ) (d : Device) (s : Stands (moment a) plac
   }
 
   -- What a read did, where its waits stand so at the end.
-  reads_by : (answer : Answer) (n : ℕ) → m.asked ≡ first (how_of d) n → (rest : List Signal) → AsksOf d (m.asked ++ rest)
+  reads_by : (answer : Answer) (n : ℕ) → m.asked ≡ first (how_of d) (device_store d) n → (rest : List Signal) → AsksOf d (m.asked ++ rest)
       → (x : Standing) → stand 0 (m.asked ++ rest) m.notes ≡ x → due_at x ≡ Over → TellsStanding (TellsOf d) x answer
       → (answer ≡ answers.FieldLost → 0 < breaks m.going.events) → (0 < breaks m.going.events → answer ≡ answers.FieldLost) → ReadsSo answer
   reads_by answer n list rest asks x stands over tells lost by_break = record {
@@ -165,7 +173,7 @@ module _ (a : Air Device) (place : ℕ) (d : Device) (s : Stands (moment a) plac
       let whole : m.asked ≡ all.commands = asked_whole all goes.over in
       let here : AsksOf d all.commands = subst (λ xs. IsAsked (how_of d) (size_of d) xs all.commands) (shows_store a place d s) all.all in
       let done : stand 0 m.asked m.notes ≡ Asking 0 [] = subst (λ o. StandsAt o q.air.lit (stand 0 m.asked m.notes)) goes.over (m.stands refl) in
-      reads_by answer all.all.count (whole ∙ all.all.list) [] (subst (AsksOf d) (sym (append-nil m.asked ∙ whole)) here)
+      reads_by answer all.all.count (whole ∙ all.all.list ∙ first_here all.all.count) [] (subst (AsksOf d) (sym (append-nil m.asked ∙ whole)) here)
       (Asking 0 []) (ap (λ cs. stand 0 cs m.notes) (append-nil m.asked) ∙ done) refl tells
       (λ e. absurd (subst (TellsOf d) e tells))
       (λ some. absurd (let on = broken_by some in let clash : Asking 0 [] ≡ Broken FieldLost on.0 = sym done ∙ on.1 in cc))

@@ -9,7 +9,8 @@ use Rattle.air_core.specs.PlainLinks.{PlainSeen, at_place, plain_view}
 use Rattle.air_core.proofs.PlainStores.{place_is}
 use Rattle.t2t_tag.specs.Store.{IsT2Store}
 use Rattle.t5t_tag.specs.Store.{IsT5Store}
-use Rattle.tag_reader.specs.Kinds.{IsTag, IsStore}
+use Rattle.tag_reader.specs.Kinds.{IsTag}
+use Rattle.tag_reader.specs.Steps.{IsBlockStore}
 use Rattle.tag_reader.proofs.SomeList.{some_list}
 use Rattle.nfc_bench.specs.declared.device.Device.{Device}
 use Rattle.nfc_bench.specs.declared.device.Device.TheVariants.{T2, T5}
@@ -62,7 +63,7 @@ tag_by v (T5 p) kind named step state is = record {
   steps = (p.tag.locked, false, λ s c h may. ap (λ st. st s c) step);
 }
 
-sound_store : (d : Device) → IsSound (kept d) → IsStore (how_of d) (size_of d) (device_store d)
+sound_store : (d : Device) → IsSound (kept d) → IsBlockStore (how_of d) (size_of d) (device_store d)
 sound_store (T2 d) is = (refl, is.2)
 sound_store (T5 p) is = is.3
 

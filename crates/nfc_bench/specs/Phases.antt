@@ -16,7 +16,7 @@ use Rattle.t5t_tag.specs.Store.{IsT5Store, id_size}
 use Rattle.tag_reader.specs.declared.fault.ReadFault.{ReadFault}
 use Rattle.tag_reader.specs.declared.fault.ReadFault.TheVariants as faults
 use Rattle.tag_reader.specs.declared.how.How.{How}
-use Rattle.tag_reader.specs.declared.how.How.TheVariants.{T2, T5}
+use Rattle.tag_reader.specs.declared.how.How.TheVariants.{T2, T4, T5}
 use Rattle.nfc_bench.specs.declared.command.DeviceId.{DeviceId}
 use Rattle.nfc_bench.specs.declared.command.DeviceId.TheVariants as ids
 use Rattle.nfc_bench.specs.declared.device.Device.{Device}
@@ -51,9 +51,10 @@ pub record Kept : Type 0 where
 abbrev pub kept : Device → Kept
 kept d = record { id = device_id d; how = how_of d; size = size_of d; store = device_store d }
 
--- a device that may be placed
+-- a device that may be placed; none of them is a Type 4 tag yet
 abbrev pub IsSoundAs : How → Kept → Type 0
 IsSoundAs T2 k = IsIdent k.id × (k.size ≡ 16) × IsT2Store k.store
+IsSoundAs T4 k = ⊥
 IsSoundAs (T5 id) k = (id ≡ k.id) × (length k.id ≡ id_size) × ((i : ℕ) → slice_index k.id i < 256) × IsT5Store k.size k.store
 
 abbrev pub IsSound : Kept → Type 0

@@ -13,10 +13,10 @@ use Rattle.tlv_area.specs.Containers.{first_fault, unless, t2_space, t2_containe
 use Rattle.tlv_area.specs.Stores.{four_bytes, cut, cut_by}
 use Rattle.tlv_area.proofs.Cuts.{none_unknown}
 use Rattle.tag_reader.specs.declared.how.How.{How}
-use Rattle.tag_reader.specs.declared.how.How.TheVariants.{T2, T5}
+use Rattle.tag_reader.specs.declared.how.How.TheVariants.{T2, T4, T5}
 use Rattle.tag_reader.specs.Kinds.{IsStore, area_of}
-use Rattle.tag_reader.specs.Asked.{NeedsMore, IsDue}
-use Rattle.tag_reader.specs.Steps.{IsInReach, HasNumber, HoldsContainer}
+use Rattle.tag_reader.specs.Asked.{NeedsMore, IsNext, IsDue}
+use Rattle.tag_reader.specs.Steps.{IsBlockStore, IsOfBlocks, IsInReach, HasNumber, HoldsContainer}
 
 -- what a Type 5 store is, in numbers
 pub record Sizes (size : ℕ) (store : List ℕ) : Type 0 where
@@ -95,7 +95,7 @@ pub record Named (size : ℕ) (store : List ℕ) (space : Space) : Type 0 where
   pub begins : space.start ≤ length store
   pub ends : space.end ≤ 256 * size
 
-pub named : (how : How) (size : ℕ) (store : List ℕ) (space : Space) → IsStore how size store → area_of how size store ≡ Ok space → Named size store space
+pub named : (how : How) (size : ℕ) (store : List ℕ) (space : Space) → IsBlockStore how size store → area_of how size store ≡ Ok space → Named size store space
 named T2 size store space is has =
     let fits = t2_area store space is.1 has in
     let least = is.1.least in
@@ -104,6 +104,7 @@ named T2 size store space is has =
       begins = omega (arith, fits.start, least);
       ends = omega (arith, is.0, fits.most);
     }
+named T4 size store space is has = absurd is
 named (T5 id) size store space is has =
     let facts = sizes size store is in
     let b : List ℕ = four_bytes store 0 in
@@ -114,7 +115,7 @@ named (T5 id) size store space is has =
     })
 
 -- where more is needed, less is known than the area
-pub needs_short : (how : How) (size : ℕ) (store : List ℕ) (n : ℕ) → IsStore how size store → (m : NeedsMore how size store n) → size * n < m.space.end
+pub needs_short : (how : How) (size : ℕ) (store : List ℕ) (n : ℕ) → IsBlockStore how size store → (m : NeedsMore how size store n) → size * n < m.space.end
 needs_short how size store n is m =
     let area = named how size store m.space is m.area in
     let all : length (take (size * n) store) ≡ size * n = length-take-le (size * n) store m.within in
@@ -123,34 +124,49 @@ needs_short how size store n is m =
       | inr whole ↦ absurd (none_unknown m.space (take (size * n) store) area.area.order (omega arith) m.more)
     ]
 
-needs_reach : (how : How) (size : ℕ) (store : List ℕ) (n : ℕ) → IsStore how size store → NeedsMore how size store n → IsInReach how size store n
+needs_reach : (how : How) (size : ℕ) (store : List ℕ) (n : ℕ) → IsBlockStore how size store → NeedsMore how size store n → IsInReach how size store n
 needs_reach T2 size store n is m =
     let short = needs_short T2 size store n is m in
     let fits = t2_area store m.space is.1 m.area in
     let same : size * n ≡ 16 * n = ap (λ s. s * n) is.0 in
     omega (arith, fits.within)
+needs_reach T4 size store n is m = absurd is
 needs_reach (T5 id) size store n is m =
     let short = needs_short (T5 id) size store n is m in
     let area = named (T5 id) size store m.space is m.area in
     let below : size * n < size * 256 = omega (arith, area.ends) in
     (lt_of_mul-lt-mul_left size below, m.within)
 
-first_reach : (how : How) (size : ℕ) (store : List ℕ) (n : ℕ) → IsStore how size store → n ≡ 0 → IsInReach how size store n
+first_reach : (how : How) (size : ℕ) (store : List ℕ) (n : ℕ) → IsBlockStore how size store → n ≡ 0 → IsInReach how size store n
 first_reach T2 size store n is e = let least = is.1.least in omega arith
+first_reach T4 size store n is e = absurd is
 first_reach (T5 id) size store n is e = (omega arith, rw e (omega arith))
 
--- a READ that is due is in reach
-pub due_reach : (how : How) (size : ℕ) (store : List ℕ) (n : ℕ) → IsStore how size store → IsDue how size store n → IsInReach how size store n
-due_reach how size store n is (inl e) = first_reach how size store n is e
-due_reach how size store n is (inr m) = needs_reach how size store n is m
+-- behind the first READ a READ of blocks is asked where the walk needs more
+pub next_needs : (how : How) (size : ℕ) (store : List ℕ) (n : ℕ) → IsBlockStore how size store → IsNext how size store n → NeedsMore how size store n
+next_needs T2 size store n is next = next
+next_needs T4 size store n is next = absurd is
+next_needs (T5 id) size store n is next = next
 
-pub reach_number : (how : How) (size : ℕ) (store : List ℕ) (n : ℕ) → IsStore how size store → IsInReach how size store n → HasNumber how n
+pub needs_next : (how : How) (size : ℕ) (store : List ℕ) (n : ℕ) → IsBlockStore how size store → NeedsMore how size store n → IsNext how size store n
+needs_next T2 size store n is needs = needs
+needs_next T4 size store n is needs = absurd is
+needs_next (T5 id) size store n is needs = needs
+
+-- a READ that is due is in reach
+pub due_reach : (how : How) (size : ℕ) (store : List ℕ) (n : ℕ) → IsBlockStore how size store → IsDue how size store n → IsInReach how size store n
+due_reach how size store n is (inl e) = first_reach how size store n is e
+due_reach how size store n is (inr next) = needs_reach how size store n is (next_needs how size store n is next)
+
+pub reach_number : (how : How) (size : ℕ) (store : List ℕ) (n : ℕ) → IsBlockStore how size store → IsInReach how size store n → HasNumber how n
 reach_number T2 size store n is low = let most = is.1.most in omega arith
+reach_number T4 size store n is low = absurd is
 reach_number (T5 id) size store n is low = low.0
 
 -- block numbers end behind the last that is due
-pub due_below : (how : How) (size : ℕ) (store : List ℕ) (n : ℕ) → IsStore how size store → IsInReach how size store n → n < 256
+pub due_below : (how : How) (size : ℕ) (store : List ℕ) (n : ℕ) → IsBlockStore how size store → IsInReach how size store n → n < 256
 due_below T2 size store n is low = let most = is.1.most in omega arith
+due_below T4 size store n is low = absurd is
 due_below (T5 id) size store n is low = low.0
 
 -- the first bytes have the container
@@ -158,21 +174,35 @@ four_front : (bytes : List ℕ) (n i : ℕ) → i + 3 < n → four_bytes (take n
 four_front bytes n i low =
     rw (get_or-take n bytes i 0 (omega arith), get_or-take n bytes (i + 1) 0 (omega arith), get_or-take n bytes (i + 2) 0 (omega arith), get_or-take n bytes (i + 3) 0 low) refl
 
-pub front_area : (how : How) (size : ℕ) (store : List ℕ) → IsStore how size store → area_of how size (take size store) ≡ area_of how size store
+pub front_area : (how : How) (size : ℕ) (store : List ℕ) → IsBlockStore how size store → area_of how size (take size store) ≡ area_of how size store
 front_area T2 size store is = ap (λ b. t2_container b) (four_front store size 12 (omega (arith, is.0)))
+front_area T4 size store is = absurd is
 front_area (T5 id) size store is =
     let facts = sizes size store is in
     ap (λ b. cut_by (t5_container b) (256 * size)) (four_front store size 0 (omega (arith, facts.least)))
 
 -- how many bytes the first READ gives
-pub first_within : (how : How) (size : ℕ) (store : List ℕ) → IsStore how size store → size ≤ length store
+pub first_within : (how : How) (size : ℕ) (store : List ℕ) → IsBlockStore how size store → size ≤ length store
 first_within T2 size store is = let least = is.1.least in omega (arith, is.0)
+first_within T4 size store is = absurd is
 first_within (T5 id) size store is = (sizes size store is).one
 
-pub some_size : (how : How) (size : ℕ) (store : List ℕ) → IsStore how size store → 0 < size
+pub some_size : (how : How) (size : ℕ) (store : List ℕ) → IsBlockStore how size store → 0 < size
 some_size T2 size store is = omega (arith, is.0)
+some_size T4 size store is = absurd is
 some_size (T5 id) size store is = let least = (sizes size store is).least in omega arith
 
-pub holds_container : (how : How) (size : ℕ) (store bytes : List ℕ) → IsStore how size store → length bytes ≡ size → HoldsContainer how bytes
+pub holds_container : (how : How) (size : ℕ) (store bytes : List ℕ) → IsBlockStore how size store → length bytes ≡ size → HoldsContainer how bytes
 holds_container T2 size store bytes is e = omega (arith, is.0)
+holds_container T4 size store bytes is e = absurd is
 holds_container (T5 id) size store bytes is e = let facts = sizes size store is in (omega (arith, facts.least), omega (arith, facts.most))
+
+pub of_blocks : (how : How) (size : ℕ) (store : List ℕ) → IsBlockStore how size store → IsOfBlocks how
+of_blocks T2 size store is = tt
+of_blocks T4 size store is = is
+of_blocks (T5 id) size store is = tt
+
+pub block_store : (how : How) (size : ℕ) (store : List ℕ) → IsOfBlocks how → IsStore how size store → IsBlockStore how size store
+block_store T2 size store blocks is = is
+block_store T4 size store blocks is = absurd blocks
+block_store (T5 id) size store blocks is = is

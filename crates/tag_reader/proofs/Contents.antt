@@ -19,8 +19,8 @@ use Rattle.tag_reader.specs.declared.how.How.TheVariants.{T2, T5}
 use Rattle.tag_reader.specs.declared.fault.ReadFault.{ReadFault}
 use Rattle.tag_reader.specs.declared.told.Told.{Told}
 use Rattle.tag_reader.specs.declared.told.Told.TheVariants.{Bytes, Ended}
-use Rattle.tag_reader.specs.Kinds.{IsStore, reply}
-use Rattle.tag_reader.specs.Steps.{rolling, IsInReach, TellsNext}
+use Rattle.tag_reader.specs.Kinds.{reply}
+use Rattle.tag_reader.specs.Steps.{IsBlockStore, rolling, IsInReach, TellsNext}
 use Rattle.tag_reader.proofs.Bytes.{four_rolling, part_rolls}
 use Rattle.tag_reader.proofs.Areas.{sizes}
 
@@ -36,7 +36,7 @@ abbrev pub EndsT5 : Signal → Result Told ReadFault → Type 0
 EndsT5 answer result = answer ≡ t5.answer_frame (t5_says.Error no_block) → result ≡ Ok Ended
 
 abbrev pub Tells : How → Signal → Result Told ReadFault → Type 0
-Tells how answer result = (size k : ℕ) (store : List ℕ) → IsStore how size store → IsInReach how size store k → answer ≡ reply how size store k → TellsNext size store k result
+Tells how answer result = (size k : ℕ) (store : List ℕ) → IsBlockStore how size store → IsInReach how size store k → answer ≡ reply how size store k → TellsNext size store k result
 
 tells_two : (answer : Signal) (result : Result Told ReadFault) → TellsT2 answer result → Tells T2 answer result
 tells_two answer result tells size k store is low e =

@@ -21,15 +21,15 @@ use Rattle.tlv_area.specs.Map.{IsWalk, IsSettled, TellsForm, IsPlacedIn, message
 use Rattle.tlv_area.proofs.Cuts.{settled_form, cuts_settle}
 use Rattle.tlv_area.proofs.OneNext.{needs_more}
 use Rattle.tag_reader.specs.declared.how.How.{How}
-use Rattle.tag_reader.specs.declared.how.How.TheVariants.{T2, T5}
+use Rattle.tag_reader.specs.declared.how.How.TheVariants.{T2, T4, T5}
 use Rattle.tag_reader.specs.declared.fault.ReadFault.{ReadFault}
 use Rattle.tag_reader.specs.declared.fault.ReadFault.TheVariants as fault
-use Rattle.tag_reader.specs.Kinds.{IsStore, IsStoreForm, area_of, first}
+use Rattle.tag_reader.specs.Kinds.{IsStoreForm, area_of, command, first}
 use Rattle.tag_reader.specs.Asked.{IsDue, NeedsMore}
 use Rattle.tag_reader.specs.Calls.{Stays, HasAsked, HasAskedAll, GoesOn, ByLink}
 use Rattle.tag_reader.specs.Reading.{IsReadFault, is_told, IsToldOrMemory, IsCalm}
-use Rattle.tag_reader.specs.Steps.{Answers, Fails, Knows, Walks, IsLinkFault, IsInReach, IsMapFound, Reads, IsCutFault, of_link, of_container}
-use Rattle.tag_reader.proofs.Areas.{sizes, t5_cut, named, some_size, needs_short, due_reach}
+use Rattle.tag_reader.specs.Steps.{IsBlockStore, Answers, Fails, Asks, Knows, Walks, IsLinkFault, IsInReach, IsMapFound, IsRead, Reads, IsCutFault, of_link, of_container}
+use Rattle.tag_reader.proofs.Areas.{sizes, t5_cut, next_needs, needs_next, named, some_size, needs_short, due_reach}
 use Rattle.tag_reader.proofs.Knowing.{last_more, due_more, answered_more, stays_on, goes_on_on, walk_front, store_goes_on, read_goes_on}
 
 -- what a settled walk over a store tells of it
@@ -56,9 +56,10 @@ named_five id store space walk.More has is = is
 cut_twice : (space : Space) (far near : ℕ) → near ≤ far → cut (cut space far) near ≡ cut space near
 cut_twice space far near low = let e : min (min space.end far) near ≡ min space.end near = omega arith in ap (λ n. record space { end = n }) e
 
-pub tells_store : (how : How) (size : ℕ) (store : List ℕ) (space : Space) (w : Walk) → IsStore how size store → area_of how size store ≡ Ok space → IsSettled w →
+pub tells_store : (how : How) (size : ℕ) (store : List ℕ) (space : Space) (w : Walk) → IsBlockStore how size store → area_of how size store ≡ Ok space → IsSettled w →
     IsWalk space store w → TellsStore how store w
 tells_store T2 size store space w is has settled walks = named_two store space w has (settled_form space store w settled walks)
+tells_store T4 size store space w is has settled walks = absurd is
 tells_store (T5 id) size store space w is has settled walks =
     let facts = sizes size store is in
     let area = named (T5 id) size store space is has in
@@ -69,23 +70,23 @@ tells_store (T5 id) size store space w is has settled walks =
     named_five id store whole w names.1 (subst (λ s. TellsForm s store w) ends (cuts_settle space store w area.begins settled walks))
 
 -- a container's fault is the store's
-pub container_form : (how : How) (size : ℕ) (store : List ℕ) (f : ContainerFault) → area_of how size store ≡ Err f → IsStoreForm how store (form.Faulty f)
-container_form T2 size store f has = subst (λ r. IsFormBy r store (form.Faulty f)) (sym has) refl
-container_form (T5 id) size store f has = by_container (t5_container (four_bytes store 0)) has
+pub container_form : (how : How) (size : ℕ) (store : List ℕ) (f : ContainerFault) → IsBlockStore how size store → area_of how size store ≡ Err f → IsStoreForm how store (form.Faulty f)
+container_form T2 size store f is has = subst (λ r. IsFormBy r store (form.Faulty f)) (sym has) refl
+container_form T4 size store f is has = absurd is
+container_form (T5 id) size store f is has = by_container (t5_container (four_bytes store 0)) has
   where
     by_container : (r : Result Space ContainerFault) → cut_by r (256 * size) ≡ Err f → IsFormBy (cut_by r (length store)) store (form.Faulty f)
     by_container (Ok space) e = absurd (cc)
     by_container (Err g) e = (let same : form.Faulty f ≡ form.Faulty g = cc in same)
 
-pub container_fault : (how : How) (size : ℕ) (store : List ℕ) (a b : LinkView) (f : ContainerFault) → area_of how size store ≡ Err f →
-    IsReadFault how store a b (of_container f)
-container_fault how size store a b container.NotNdef has = container_form how size store container.NotNdef has
-container_fault how size store a b container.Version has = container_form how size store container.Version has
-container_fault how size store a b container.NoRead has = container_form how size store container.NoRead has
-container_fault how size store a b container.Sectors has = container_form how size store container.Sectors has
-container_fault how size store a b container.BadSize has = container_form how size store container.BadSize has
+pub container_fault : (how : How) (store : List ℕ) (a b : LinkView) (f : ContainerFault) → IsStoreForm how store (form.Faulty f) → IsReadFault how store a b (of_container f)
+container_fault how store a b container.NotNdef is = is
+container_fault how store a b container.Version is = is
+container_fault how store a b container.NoRead is = is
+container_fault how store a b container.Sectors is = is
+container_fault how store a b container.BadSize is = is
 
-container_told : (f : ContainerFault) → is_told (of_container f) ≡ true
+pub container_told : (f : ContainerFault) → is_told (of_container f) ≡ true
 container_told container.NotNdef = refl
 container_told container.Version = refl
 container_told container.NoRead = refl
@@ -94,34 +95,34 @@ container_told container.BadSize = refl
 
 -- what was asked, where all of it was answered
 pub knows_asked : (how : How) (size : ℕ) (a b : LinkView) (known : List ℕ) (n : ℕ) → Knows how size a b known n → HasAsked how size a.state.store a b
-knows_asked how size a b known n k = record { count = n + 1; each = k.each; answered = k.answered; last = inl (k.last ∙ sym (last_more how a n), k.goes_on.over ∙ sym k.before) }
+knows_asked how size a b known n k = record { count = n + 1; each = k.each; answered = k.answered; last = inl (k.last ∙ sym (last_more how a.state.store a n), k.goes_on.over ∙ sym k.before) }
 
 knows_all : (how : How) (size : ℕ) (a b : LinkView) (known : List ℕ) (n : ℕ) → Knows how size a b known n → (IsDue how size a.state.store (n + 1) → ⊥) →
     HasAskedAll how size a.state.store a b
 knows_all how size a b known n k ends = record {
-  commands = first how (n + 1);
+  commands = first how a.state.store (n + 1);
   all = record { count = n + 1; list = refl; each = k.each; no_more = ends };
   answered = k.answered;
 }
 
 -- the container has a fault
-pub ends_container : (how : How) (size : ℕ) (a b : LinkView) (known : List ℕ) (f : ContainerFault) → Knows how size a b known 0 → area_of how size a.state.store ≡ Err f →
+pub ends_container : (how : How) (size : ℕ) (a b : LinkView) (known : List ℕ) (f : ContainerFault) → IsBlockStore how size a.state.store → Knows how size a b known 0 → area_of how size a.state.store ≡ Err f →
     Reads how size a b known (Err (of_container f))
-ends_container how size a b known f k has = record {
+ends_container how size a b known f is k has = record {
   stays = k.stays;
   asked = knows_asked how size a b known 0 k;
   whole = λ told. knows_all how size a b known 0 k none;
   goes_on = λ told. k.goes_on;
-  tells = container_fault how size a.state.store a b f has;
+  tells = container_fault how a.state.store a b f (container_form how size a.state.store f is has);
   calm = λ begun lit quiet. inl (container_told f);
 }
   where
     none : IsDue how size a.state.store 1 → ⊥
     none (inl e) = omega arith
-    none (inr m) = (let clash : Ok m.space ≡ Err f = sym m.area ∙ has in cc)
+    none (inr next) = (let m = next_needs how size a.state.store 1 is next in let clash : Ok m.space ≡ Err f = sym m.area ∙ has in cc)
 
 module _ (how : How) (size : ℕ) (a b : LinkView) (known front : List ℕ) (space : Space) (n : ℕ) (w : Walk)
-    (is : IsStore how size a.state.store) (walks : Walks how size a b known space n) (e : front ≡ take space.end known)
+    (is : IsBlockStore how size a.state.store) (walks : Walks how size a b known space n) (e : front ≡ take space.end known)
     (settled : IsSettled w) (there : (more : List ℕ) → IsWalk space (front ++ more) w) where
   at_store : IsWalk space a.state.store w
   at_store = subst (λ xs. IsWalk space xs w) (sym (store_goes_on a.state.store front (min space.end (size * (n + 1))) (walk_front how size a b known front space n walks e)))
@@ -133,7 +134,8 @@ module _ (how : How) (size : ℕ) (a b : LinkView) (known front : List ℕ) (spa
 
   no_more : IsDue how size a.state.store (n + 1) → ⊥
   no_more (inl zero') = omega arith
-  no_more (inr m) =
+  no_more (inr next) =
+      let m = next_needs how size a.state.store (n + 1) is next in
       let same : m.space ≡ space = let both : Ok m.space ≡ Ok space = sym m.area ∙ walks.area in cc in
       let more = subst (λ s. form.NeedsMore s (take (size * (n + 1)) a.state.store)) same m.more in
       subst IsSettled (needs_more space (take (size * (n + 1)) a.state.store) w walks.fits.order at_read more) settled
@@ -159,7 +161,7 @@ cells_below : (front : List ℕ) (m : AreaMap) → IsPlacedIn front m → (i : �
 cells_below front m places i low = places.below i (omega (arith, length-take m.length (drop (message_place m) (map_cells m))))
 
 -- a message is found
-pub map_found : (how : How) (size : ℕ) (a b : LinkView) (known front : List ℕ) (space : Space) (n : ℕ) (m : AreaMap) → IsStore how size a.state.store →
+pub map_found : (how : How) (size : ℕ) (a b : LinkView) (known front : List ℕ) (space : Space) (n : ℕ) (m : AreaMap) → IsBlockStore how size a.state.store →
     Walks how size a b known space n → front ≡ take space.end known → ((more : List ℕ) → IsWalk space (front ++ more) (walk.Held m)) → IsPlacedIn front m →
     IsMapFound how size a.state.store known m
 map_found how size a b known front space n m is walks e there places =
@@ -215,7 +217,7 @@ untold : (e : ReadFault) (P : Type 0) → is_told e ≡ false → is_told e ≡ 
 untold e P not_told is = (let clash : false ≡ true = sym not_told ∙ is in absurd (cc))
 
 -- the first READ isn't answered, or its answer finds no memory
-pub ends_first : (how : How) (size : ℕ) (a b : LinkView) (known : List ℕ) (e : ReadFault) → Fails how 0 a b e → Reads how size a b known (Err e)
+pub ends_first : (how : How) (size : ℕ) (a b : LinkView) (known : List ℕ) (e : ReadFault) → Fails (command how a.state.store 0) a b e → Reads how size a b known (Err e)
 ends_first how size a b known e f = record {
   stays = f.stays;
   asked = elim f.asked [
@@ -233,26 +235,37 @@ ends_first how size a b known e f = record {
   calm = λ begun lit quiet. inr (f.calm begun lit quiet);
 }
 
+-- READs of blocks that are answered are commands that are
+pub knows_asks : (how : How) (size : ℕ) (a b : LinkView) (known : List ℕ) (n : ℕ) → Knows how size a b known n → Asks how size a b (n + 1)
+knows_asks how size a b known n k = record {
+  stays = k.stays;
+  before = k.before;
+  goes_on = k.goes_on;
+  each = k.each;
+  answered = k.answered;
+  last = k.last ∙ sym (last_more how a.state.store a n);
+}
+
 -- a later one
-pub ends_later : (how : How) (size : ℕ) (a b c : LinkView) (known known' : List ℕ) (n : ℕ) (e : ReadFault) → Knows how size a b known n →
-    IsDue how size a.state.store (n + 1) → Fails how (n + 1) b c e → Reads how size a c known' (Err e)
-ends_later how size a b c known known' n e k due f =
+pub ends_asks : (how : How) (size : ℕ) (a b c : LinkView) (known : List ℕ) (n : ℕ) (e : ReadFault) → Asks how size a b n →
+    IsDue how size a.state.store n → Fails (command how a.state.store n) b c e → Reads how size a c known (Err e)
+ends_asks how size a b c known n e k due f =
     let fault' = fault_on a b c e k.stays k.goes_on.over k.goes_on.lit f.fault' in
     let open' : b.over ≡ a.over = k.goes_on.over ∙ sym k.before in
     record {
       stays = stays_on a b c k.stays f.stays;
       asked = elim f.asked [
         | inl none ↦ record {
-          count = n + 1;
+          count = n;
           each = k.each;
           answered = none.0 ∙ k.answered;
-          last = elim none.1 [ inl same ↦ inl (same.0 ∙ k.last ∙ sym (last_more how a n), same.1 ∙ open') | inr next ↦ inr (next, due) ];
+          last = elim none.1 [ inl same ↦ inl (same.0 ∙ k.last, same.1 ∙ open') | inr next ↦ inr (next, due) ];
         }
         | inr one ↦ record {
-          count = n + 1 + 1;
-          each = due_more how size a.state.store (n + 1) k.each due;
-          answered = answered_more how a.answered b.answered c.answered (n + 1) k.answered one.0;
-          last = inl (one.1 ∙ sym (last_more how a (n + 1)), one.2 ∙ open');
+          count = n + 1;
+          each = due_more how size a.state.store n k.each due;
+          answered = answered_more how a.state.store a.answered b.answered c.answered n k.answered one.0;
+          last = inl (one.1 ∙ sym (last_more how a.state.store a n), one.2 ∙ open');
         }
       ];
       whole = untold e (HasAskedAll how size a.state.store a c) (link_untold a c e fault');
@@ -260,6 +273,11 @@ ends_later how size a b c known known' n e k due f =
       tells = link_fault how a.state.store a c e fault';
       calm = λ begun lit quiet. inr (f.calm k.goes_on.over k.goes_on.lit (omega (arith, quiet, k.stays.rises.noise, f.stays.rises.noise)));
     }
+
+pub ends_later : (how : How) (size : ℕ) (a b c : LinkView) (known known' : List ℕ) (n : ℕ) (e : ReadFault) → Knows how size a b known n →
+    IsDue how size a.state.store (n + 1) → Fails (command how b.state.store (n + 1)) b c e → Reads how size a c known' (Err e)
+ends_later how size a b c known known' n e k due f =
+    ends_asks how size a b c known' (n + 1) e (knows_asks how size a b known n k) due (subst (λ s. Fails (command how s (n + 1)) b c e) k.stays.store f)
 
 -- the walk over what is known needs more
 pub due_next : (how : How) (size : ℕ) (a b : LinkView) (known front : List ℕ) (space : Space) (n : ℕ) → Walks how size a b known space n → front ≡ take space.end known →
@@ -291,7 +309,7 @@ pub record Ends (space : Space) (store known : List ℕ) : Type 0 where
   pub more : form.NeedsMore space known
   pub short : length known < space.end
 
-pub ends_at : (how : How) (size : ℕ) (a b : LinkView) (known : List ℕ) (space : Space) (n : ℕ) → IsStore how size a.state.store → Walks how size a b known space n →
+pub ends_at : (how : How) (size : ℕ) (a b : LinkView) (known : List ℕ) (space : Space) (n : ℕ) → IsBlockStore how size a.state.store → Walks how size a b known space n →
     NeedsMore how size a.state.store (n + 1) → length a.state.store ≡ size * (n + 1) → Ends space a.state.store known
 ends_at how size a b known space n is walks m end =
     let store : List ℕ = a.state.store in
@@ -319,10 +337,11 @@ cut_form id size store space f has short is =
     ap {B = Space} (λ (s : Space). record s { end = length store }) (sym names.0) ∙ ap {B = Space} (λ (p : ℕ). record whole { end = p }) least in
     subst (λ r. IsFormBy (cut_by r (length store)) store f) (sym names.1) (subst (λ s. form.IsForm s store f) same is)
 
-cut_told : (how : How) (size : ℕ) (a b : LinkView) (known : List ℕ) (space : Space) (e : ReadFault) (n : ℕ) → IsStore how size a.state.store →
+cut_told : (how : How) (size : ℕ) (a b : LinkView) (known : List ℕ) (space : Space) (e : ReadFault) (n : ℕ) → IsBlockStore how size a.state.store →
     IsInReach how size a.state.store n → length a.state.store ≡ size * n → area_of how size a.state.store ≡ Ok space → Ends space a.state.store known →
     IsCutFault space known e → IsReadFault how a.state.store a b e
 cut_told T2 size a b known space e n is low end has ends cut' = (let same : size * n ≡ 16 * n = ap (λ s. s * n) is.0 in absurd (omega arith))
+cut_told T4 size a b known space e n is low end has ends cut' = absurd is
 cut_told (T5 id) size a b known space e n is low end has ends cut' =
     let store : List ℕ = a.state.store in
     let short : length store < space.end = subst (λ xs. length xs < space.end) ends.same ends.short in
@@ -336,30 +355,38 @@ cut_is_told space known e (inl none) = ap is_told none.0
 cut_is_told space known e (inr bad) = ap is_told bad.0
 
 -- the tag ends before its area
-pub ends_cut : (how : How) (size : ℕ) (a b c : LinkView) (known : List ℕ) (space : Space) (n : ℕ) (e : ReadFault) → IsStore how size a.state.store →
-    Walks how size a b known space n → NeedsMore how size a.state.store (n + 1) → Answers how size (n + 1) b c → length a.state.store ≡ size * (n + 1) →
+pub ends_cut : (how : How) (size : ℕ) (a b c : LinkView) (known : List ℕ) (space : Space) (n : ℕ) (e : ReadFault) → IsBlockStore how size a.state.store →
+    Walks how size a b known space n → NeedsMore how size a.state.store (n + 1) → Answers (command how b.state.store (n + 1)) b c → length a.state.store ≡ size * (n + 1) →
     IsCutFault space known e → Reads how size a c known (Err e)
 ends_cut how size a b c known space n e is walks m answers end cut' =
     let k = walks.knows in
     let ends = ends_at how size a b known space n is walks m end in
-    let each = due_more how size a.state.store (n + 1) k.each (inr m) in
-    let answered = answered_more how a.answered b.answered c.answered (n + 1) k.answered answers.answered in
+    let due = inr (needs_next how size a.state.store (n + 1) is m) in
+    let each = due_more how size a.state.store (n + 1) k.each due in
+    let same : b.state.store ≡ a.state.store = k.stays.store in
+    let answered = answered_more how a.state.store a.answered b.answered c.answered (n + 1) k.answered
+    (answers.answered ∙ ap (λ s. b.answered ++ command how s (n + 1) ∷ []) same) in
     record {
       stays = stays_on a b c k.stays answers.stays;
-      asked = record { count = n + 1 + 1; each = each; answered = answered; last = inl (answers.last ∙ sym (last_more how a (n + 1)), answers.goes_on.over ∙ sym k.before) };
+      asked = record {
+        count = n + 1 + 1;
+        each = each;
+        answered = answered;
+        last = inl (answers.last ∙ ap (λ s. Some (command how s (n + 1))) same ∙ sym (last_more how a.state.store a (n + 1)), answers.goes_on.over ∙ sym k.before);
+      };
       whole = λ told. record {
-        commands = first how (n + 1 + 1);
+        commands = first how a.state.store (n + 1 + 1);
         all = record { count = n + 1 + 1; list = refl; each = each; no_more = none };
         answered = answered;
       };
       goes_on = λ told. goes_on_on a b c k.goes_on answers.goes_on;
-      tells = cut_told how size a c known space e (n + 1) is (due_reach how size a.state.store (n + 1) is (inr m)) end walks.area ends cut';
+      tells = cut_told how size a c known space e (n + 1) is (due_reach how size a.state.store (n + 1) is due) end walks.area ends cut';
       calm = λ begun lit quiet. inl (cut_is_told space known e cut');
     }
   where
     none : IsDue how size a.state.store (n + 1 + 1) → ⊥
     none (inl zero') = omega arith
-    none (inr more) = (let some = some_size how size a.state.store is in
+    none (inr next) = (let more = next_needs how size a.state.store (n + 1 + 1) is next in let some = some_size how size a.state.store is in
         let next : size * (n + 1 + 1) ≡ size * (n + 1) + size = omega arith in
         omega (arith, more.within))
 
@@ -398,3 +425,15 @@ calm_end how size a b known e reads is = elim is.calm [
   | inl quiet ↦ reads.calm is.begun is.lit quiet
   | inr same ↦ counts_calm how a.state.store a b e is.begun is.lit same reads.tells
 ]
+
+-- a reading that a fault ended
+pub read_ended : (how : How) (size : ℕ) (a b : LinkView) (known : List ℕ) (e : ReadFault) → Reads how size a b known (Err e) → IsRead how size a b (Err e)
+read_ended how size a b known e r = record {
+  stays = r.stays;
+  asked = r.asked;
+  whole = r.whole;
+  goes_on = r.goes_on;
+  ok = tt;
+  err = r.tells;
+  calm = λ is. calm_end how size a b known e r is;
+}

@@ -1,11 +1,14 @@
 pub mod Bytes
 pub mod Areas
+pub mod Links
 pub mod Replies
 pub mod Contents
-pub mod Links
 pub mod Knowing
 pub mod Endings
 pub mod Turns
 pub mod Lists
 pub mod SomeList
+pub mod Files
+pub mod FileReading
+pub mod FileAsked
 pub mod Cards

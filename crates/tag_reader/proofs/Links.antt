@@ -1,52 +1,47 @@
--- One READ on a link.
-use Rattle.std.proofs.Common.{◌≡◌, ◌≢◌, ℕ, inl, inr, false, ◌⊎◌, List, [], ◌∷◌, refl, sym, ◌∙◌, ap, subst}
+-- One command on a link.
+use Rattle.std.proofs.Common.{◌≡◌, ◌≢◌, inl, inr, ◌⊎◌, false, refl, sym, ◌∙◌, ap, subst}
 use Rattle.std.specs.Prelude.{Option, Some, None, Result, Err}
-use Rattle.std.specs.List.{AllByRecursion}
 use Rattle.nfc_base.specs.Signal.{Signal}
 use Rattle.nfc_base.specs.declared.tag_link.AskFault.{AskFault}
 use Rattle.nfc_base.specs.declared.tag_link.AskFault.TheVariants as ask
-use Rattle.nfc_base.specs.TagLinks.{TagState, TagStep, LinkView, passed, after_all, Obeys, Rises, IsAnswer, IsFault, AskCause, IsEnded}
+use Rattle.nfc_base.specs.TagLinks.{TagState, LinkView, passed, Obeys, Rises, IsAnswer, IsFault, AskCause, IsEnded}
 use Rattle.nfc_base.proofs.Leading.{all_map}
-use Rattle.tag_reader.specs.declared.how.How.{How}
 use Rattle.tag_reader.specs.declared.fault.ReadFault.TheVariants as fault
-use Rattle.tag_reader.specs.Kinds.{IsTag, command, reply}
 use Rattle.tag_reader.specs.Calls.{Stays, ByLink}
-use Rattle.tag_reader.specs.Steps.{IsInReach, of_link, Answers, Fails}
-use Rattle.tag_reader.proofs.Replies.{Replies, replies}
+use Rattle.tag_reader.specs.Steps.{of_link, Answers, Fails}
 
--- what changes nothing once changes nothing at all
-stays_all : (step : TagState → Signal → TagStep) (s : TagState) (c : Signal) (more : List Signal) → (step s c).after ≡ s →
-    AllByRecursion (λ d. d ≡ c) more → after_all step s more ≡ s
-stays_all step s c [] same only = refl
-stays_all step s c (d ∷ more) same only =
-    let here : (step s d).after ≡ s = ap (λ e. (step s e).after) only.0 ∙ same in
-    ap (λ t. after_all step t more) here ∙ stays_all step s c more same only.1
+-- the tag answers a command, is this then, and keeps its store
+pub record Keeps (a : LinkView) (c r : Signal) (after : TagState) : Type 0 where
+  pub step : a.step a.state c ≡ record { answer = Some r; after = after }
+  pub store : after.store ≡ a.state.store
 
-pub ask_stays : (how : How) (size : ℕ) (a b : LinkView) (k : ℕ) → IsTag how size a → IsInReach how size a.state.store k →
-    Obeys a b (command how k) → Rises a b → Stays a b
-ask_stays how size a b k is low obeys rises =
-    let c : Signal = command how k in
-    let step : a.step a.state c ≡ Replies a.state (reply how size a.state.store k) = replies how size a k is low in
-    record {
-      more = obeys.more;
-      leads = obeys.leads;
-      images = all_map (λ s. s ≡ (a.step a.state c).after.store) (λ s. s ≡ a.state.store) (passed a.step a.state obeys.more)
-          (λ s e. e ∙ ap (λ t. t.after.store) step) obeys.steady.same;
-      state = obeys.leads.state ∙ stays_all a.step a.state c obeys.more (ap (λ t. t.after) step) obeys.steady.only;
-      rises = rises;
-    }
+after_is : (a : LinkView) (c r : Signal) (after : TagState) → Keeps a c r after → (a.step a.state c).after ≡ after
+after_is a c r after k = ap (λ t. t.after) k.step
+
+ask_stays : (a b : LinkView) (c r : Signal) (after : TagState) → Keeps a c r after → Obeys a b c → Rises a b → b.state.store ≡ a.state.store → Stays a b
+ask_stays a b c r after k obeys rises store = record {
+  more = obeys.more;
+  leads = obeys.leads;
+  images = all_map (λ s. s ≡ (a.step a.state c).after.store) (λ s. s ≡ a.state.store) (passed a.step a.state obeys.more)
+      (λ s e. e ∙ ap (λ t. t.store) (after_is a c r after k) ∙ k.store) obeys.steady.same;
+  store = store;
+  rises = rises;
+}
 
 -- the answer is the tag's
-pub answer_is : (how : How) (size : ℕ) (a b : LinkView) (k : ℕ) (r : Signal) → IsTag how size a → IsInReach how size a.state.store k →
-    IsAnswer a b (command how k) r → r ≡ reply how size a.state.store k
-answer_is how size a b k r is low answer =
-    let same : Some r ≡ Some (reply how size a.state.store k) = sym answer.answer ∙ ap (λ t. t.answer) (replies how size a k is low) in
+answer_is : (a b : LinkView) (c r s : Signal) (after : TagState) → Keeps a c r after → IsAnswer a b c s → s ≡ r
+answer_is a b c r s after k answer =
+    let same : Some s ≡ Some r = sym answer.answer ∙ ap (λ t. t.answer) k.step in
     cc
 
-pub ask_answers : (how : How) (size : ℕ) (a b : LinkView) (k : ℕ) (r : Signal) → IsTag how size a → IsInReach how size a.state.store k →
-    Obeys a b (command how k) → Rises a b → (a.over ≡ None → b.last ≡ Some (command how k)) → IsAnswer a b (command how k) r → Answers how size k a b
-ask_answers how size a b k r is low obeys rises last answer = record {
-  stays = ask_stays how size a b k is low obeys rises;
+-- the tag is what it is behind its step
+state_is : (a b : LinkView) (c r s : Signal) (after : TagState) → Keeps a c r after → IsAnswer a b c s → b.state ≡ after
+state_is a b c r s after k answer = answer.after ∙ after_is a c r after k
+
+ask_answers : (a b : LinkView) (c r s : Signal) (after : TagState) → Keeps a c r after → Obeys a b c → Rises a b → (a.over ≡ None → b.last ≡ Some c) →
+    IsAnswer a b c s → Answers c a b
+ask_answers a b c r s after k obeys rises last answer = record {
+  stays = ask_stays a b c r after k obeys rises (ap (λ t. t.store) (state_is a b c r s after k answer) ∙ k.store);
   before = answer.begun;
   goes_on = record { over = answer.stays; lit = answer.lit; counts = answer.counts };
   answered = answer.answered;
@@ -54,8 +49,8 @@ ask_answers how size a b k r is low obeys rises last answer = record {
 }
 
 -- an answer that found no memory
-pub answer_lost : (how : How) (size : ℕ) (a b : LinkView) (k : ℕ) → Answers how size k a b → Fails how k a b fault.Memory
-answer_lost how size a b k answer = record { stays = answer.stays; fault' = inl refl; asked = inr (answer.answered, answer.last, answer.goes_on.over ∙ sym answer.before); calm = λ begun lit quiet. refl }
+pub answer_lost : (c : Signal) (a b : LinkView) → Answers c a b → Fails c a b fault.Memory
+answer_lost c a b answer = record { stays = answer.stays; fault' = inl refl; asked = inr (answer.answered, answer.last, answer.goes_on.over ∙ sym answer.before); calm = λ begun lit quiet. refl }
 
 -- what a call that fails says of the link: it wasn't over before, or the call changed nothing
 pub data Began (a b : LinkView) (e : AskFault) : Type 0 where
@@ -85,33 +80,34 @@ began_last a b e c last (Over was same) = inl (ap (λ v. v.last) same, ap (λ v.
 abbrev pub IsAnswered : LinkView → LinkView → Signal → AskFault → Type 0
 IsAnswered a b c e = a.over ≡ None → a.dark ≡ false → b.noise ≡ a.noise → (a.step a.state c).answer ≢ None → e ≡ ask.Memory
 
-pub ask_fails : (how : How) (size : ℕ) (a b : LinkView) (k : ℕ) (e : AskFault) → IsTag how size a → IsInReach how size a.state.store k →
-    Obeys a b (command how k) → Rises a b → (a.over ≡ None → b.last ≡ Some (command how k)) → IsFault a b (command how k) e →
-    (a.over ≡ None → AskCause a b e) → ((f : AskFault) → a.over ≡ Some f → IsEnded a b f (Err e)) → IsAnswered a b (command how k) e → Fails how k a b (of_link e)
-ask_fails how size a b k e is low obeys rises last fails cause ended calm =
+ask_fails : (a b : LinkView) (c r : Signal) (after : TagState) (e : AskFault) → Keeps a c r after → Obeys a b c → Rises a b → (a.over ≡ None → b.last ≡ Some c) →
+    IsFault a b c e → (a.over ≡ None → AskCause a b e) → ((f : AskFault) → a.over ≡ Some f → IsEnded a b f (Err e)) → IsAnswered a b c e → Fails c a b (of_link e)
+ask_fails a b c r after e k obeys rises last fails cause ended calm =
     let start = began a b e (Err e) refl ended in
     record {
-      stays = ask_stays how size a b k is low obeys rises;
+      stays = ask_stays a b c r after k obeys rises (elim fails.after [
+        | inl same ↦ ap (λ t. t.store) same
+        | inr done ↦ ap (λ t. t.store) (done ∙ after_is a c r after k) ∙ k.store
+      ]);
       fault' = inr (e, refl, began_by a b e fails.over cause start);
-      asked = inl (fails.answered, began_last a b e (command how k) last start);
+      asked = inl (fails.answered, began_last a b e c last start);
       calm = λ begun lit quiet. ap of_link (calm begun lit quiet answers);
     }
   where
-    answers : (a.step a.state (command how k)).answer ≢ None
-    answers silent =
-        (let clash : None ≡ Some (reply how size a.state.store k) = sym silent ∙ ap (λ t. t.answer) (replies how size a k is low) in cc)
+    answers : (a.step a.state c).answer ≢ None
+    answers silent = (let clash : None ≡ Some r = sym silent ∙ ap (λ t. t.answer) k.step in cc)
 
--- the same of a frame that is the READ
-pub asked_ok : (how : How) (size : ℕ) (a b : LinkView) (k : ℕ) (f r : Signal) → f ≡ command how k → IsTag how size a → IsInReach how size a.state.store k →
-    Rises a b → Obeys a b f → (a.over ≡ None → b.last ≡ Some f) → IsAnswer a b f r → Answers how size k a b × (r ≡ reply how size a.state.store k)
-asked_ok how size a b k f r e is low rises =
-    let P : Signal → Type 0 = λ g. Obeys a b g → (a.over ≡ None → b.last ≡ Some g) → IsAnswer a b g r → Answers how size k a b × (r ≡ reply how size a.state.store k) in
-    subst P (sym e) (λ obeys last answer. (ask_answers how size a b k r is low obeys rises last answer, answer_is how size a b k r is low answer))
+-- the same of a frame that is the command
+pub asked_ok : (a b : LinkView) (c r s f : Signal) (after : TagState) → f ≡ c → Keeps a c r after →
+    Rises a b → Obeys a b f → (a.over ≡ None → b.last ≡ Some f) → IsAnswer a b f s → Answers c a b × (s ≡ r) × (b.state ≡ after)
+asked_ok a b c r s f after e k rises =
+    let P : Signal → Type 0 = λ g. Obeys a b g → (a.over ≡ None → b.last ≡ Some g) → IsAnswer a b g s → Answers c a b × (s ≡ r) × (b.state ≡ after) in
+    subst P (sym e) (λ obeys last answer. (ask_answers a b c r s after k obeys rises last answer, answer_is a b c r s after k answer, state_is a b c r s after k answer))
 
-pub asked_err : (how : How) (size : ℕ) (a b : LinkView) (k : ℕ) (f : Signal) (e : AskFault) → f ≡ command how k → IsTag how size a → IsInReach how size a.state.store k →
+pub asked_err : (a b : LinkView) (c r f : Signal) (after : TagState) (e : AskFault) → f ≡ c → Keeps a c r after →
     Rises a b → Obeys a b f → (a.over ≡ None → b.last ≡ Some f) → IsFault a b f e → (a.over ≡ None → AskCause a b e) →
-    ((g : AskFault) → a.over ≡ Some g → IsEnded a b g (Err e)) → IsAnswered a b f e → Fails how k a b (of_link e)
-asked_err how size a b k f e is_f is low rises =
+    ((g : AskFault) → a.over ≡ Some g → IsEnded a b g (Err e)) → IsAnswered a b f e → Fails c a b (of_link e)
+asked_err a b c r f after e is_f k rises =
     let P : Signal → Type 0 = λ g. Obeys a b g → (a.over ≡ None → b.last ≡ Some g) → IsFault a b g e → (a.over ≡ None → AskCause a b e) →
-    ((h : AskFault) → a.over ≡ Some h → IsEnded a b h (Err e)) → IsAnswered a b g e → Fails how k a b (of_link e) in
-    subst P (sym is_f) (λ obeys last fails cause ended calm. ask_fails how size a b k e is low obeys rises last fails cause ended calm)
+    ((h : AskFault) → a.over ≡ Some h → IsEnded a b h (Err e)) → IsAnswered a b g e → Fails c a b (of_link e) in
+    subst P (sym is_f) (λ obeys last fails cause ended calm. ask_fails a b c r after e k obeys rises last fails cause ended calm)

@@ -8,82 +8,84 @@ use Rattle.tlv_area.specs.declared.container.ContainerFault.{ContainerFault}
 use Rattle.tlv_area.specs.declared.space.Space.{Space}
 use Rattle.tlv_area.specs.Form as form
 use Rattle.tag_reader.specs.declared.how.How.{How}
-use Rattle.tag_reader.specs.declared.how.How.TheVariants.{T2, T5}
-use Rattle.tag_reader.specs.Kinds.{IsStore, area_of, command, first}
+use Rattle.tag_reader.specs.declared.how.How.TheVariants.{T2, T4, T5}
+use Rattle.tag_reader.specs.Kinds.{area_of, command, first}
 use Rattle.tag_reader.specs.Asked.{IsDue, AreDue, IsAsked}
-use Rattle.tag_reader.specs.Steps.{HoldsContainer}
-use Rattle.tag_reader.proofs.Areas.{sizes, first_within, front_area, holds_container}
+use Rattle.tag_reader.specs.Steps.{IsBlockStore, HoldsContainer}
+use Rattle.tag_reader.proofs.Areas.{sizes, next_needs, needs_next, first_within, front_area, holds_container}
 
 pub one_list : (how : How) (size : ℕ) (store : List ℕ) (xs ys : List Signal) → IsAsked how size store xs → IsAsked how size store ys → xs ≡ ys
 one_list how size store xs ys one other = elim (cases_lt one.count other.count) [
   | inl less ↦ absurd (one.no_more (other.each one.count less))
   | inr more ↦ elim (cases_lt other.count one.count) [
     | inl less ↦ absurd (other.no_more (one.each other.count less))
-    | inr rest ↦ (let same : one.count ≡ other.count = omega arith in one.list ∙ ap (λ n. first how n) same ∙ sym other.list)
+    | inr rest ↦ (let same : one.count ≡ other.count = omega arith in one.list ∙ ap (λ n. first how store n) same ∙ sym other.list)
   ]
 ]
 
-first_split : (how : How) (n m : ℕ) → (rest : List Signal) × (first how (n + m) ≡ first how n ++ rest)
-first_split how n zero = let e : n + 0 ≡ n = omega arith in ([], ap (λ k. first how k) e ∙ sym (append-nil (first how n)))
-first_split how n (suc m) =
+first_split : (how : How) (store : List ℕ) (n m : ℕ) → (rest : List Signal) × (first how store (n + m) ≡ first how store n ++ rest)
+first_split how store n zero = let e : n + 0 ≡ n = omega arith in ([], ap (λ k. first how store k) e ∙ sym (append-nil (first how store n)))
+first_split how store n (suc m) =
     let e : n + suc m ≡ suc (n + m) = omega arith in
-    let part = first_split how n m in (
-      part.0 ++ command how (n + m) ∷ [],
-      ap (λ k. first how k) e ∙ ap (λ xs. xs ++ command how (n + m) ∷ []) part.1 ∙ append_assoc (first how n) part.0 (command how (n + m) ∷ []),
+    let part = first_split how store n m in (
+      part.0 ++ command how store (n + m) ∷ [],
+      ap (λ k. first how store k) e ∙ ap (λ xs. xs ++ command how store (n + m) ∷ []) part.1 ∙ append_assoc (first how store n) part.0 (command how store (n + m) ∷ []),
     )
 
 -- what is asked so far
 pub asked_front : (how : How) (size : ℕ) (store : List ℕ) (n : ℕ) (xs : List Signal) → AreDue how size store n → IsAsked how size store xs →
-    (rest : List Signal) × (xs ≡ first how n ++ rest)
+    (rest : List Signal) × (xs ≡ first how store n ++ rest)
 asked_front how size store n xs each all = elim (cases_lt all.count n) [
   | inl past ↦ absurd (all.no_more (each all.count past))
-  | inr within ↦ (let parts = first_split how n (all.count - n) in
+  | inr within ↦ (let parts = first_split how store n (all.count - n) in
       let e : n + (all.count - n) ≡ all.count = omega arith in
-      (parts.0, all.list ∙ ap (λ k. first how k) (sym e) ∙ parts.1))
+      (parts.0, all.list ∙ ap (λ k. first how store k) (sym e) ∙ parts.1))
 ]
 
 -- a list up to where no more is due
 pub asked_all : (how : How) (size : ℕ) (store : List ℕ) (n : ℕ) → AreDue how size store n → (IsDue how size store n → ⊥) → (xs : List Signal) × IsAsked how size store xs
-asked_all how size store n each no_more = (first how n, record { count = n; list = refl; each = each; no_more = no_more })
+asked_all how size store n each no_more = (first how store n, record { count = n; list = refl; each = each; no_more = no_more })
 
 pub one_due : (how : How) (size : ℕ) (store : List ℕ) → AreDue how size store 1
 one_due how size store k low = inl (omega arith)
 
 -- the container in the first bytes
-pub front_container : (how : How) (size : ℕ) (store bytes : List ℕ) → IsStore how size store → bytes ≡ take size store → HoldsContainer how bytes
+pub front_container : (how : How) (size : ℕ) (store bytes : List ℕ) → IsBlockStore how size store → bytes ≡ take size store → HoldsContainer how bytes
 front_container how size store bytes is same =
     holds_container how size store bytes is (ap length same ∙ length-take-le size store (first_within how size store is))
 
-pub front_named : (how : How) (size : ℕ) (store bytes : List ℕ) → IsStore how size store → bytes ≡ take size store → area_of how (length bytes) bytes ≡ area_of how size store
+pub front_named : (how : How) (size : ℕ) (store bytes : List ℕ) → IsBlockStore how size store → bytes ≡ take size store → area_of how (length bytes) bytes ≡ area_of how size store
 front_named how size store bytes is same =
     ap (λ xs. area_of how (length xs) xs) same ∙ ap (λ n. area_of how n (take size store)) (length-take-le size store (first_within how size store is)) ∙ front_area how size store is
 
-pub fault_ends : (how : How) (size : ℕ) (store : List ℕ) (n : ℕ) (f : ContainerFault) → 0 < n → area_of how size store ≡ Err f → IsDue how size store n → ⊥
-fault_ends how size store n f some has (inl e) = omega arith
-fault_ends how size store n f some has (inr m) = let clash : Ok m.space ≡ Err f = sym m.area ∙ has in cc
+pub fault_ends : (how : How) (size : ℕ) (store : List ℕ) (n : ℕ) (f : ContainerFault) → IsBlockStore how size store → 0 < n → area_of how size store ≡ Err f → IsDue how size store n → ⊥
+fault_ends how size store n f is some has (inl e) = omega arith
+fault_ends how size store n f is some has (inr next) = let m = next_needs how size store n is next in let clash : Ok m.space ≡ Err f = sym m.area ∙ has in cc
 
 -- the walk over what n READs give
-pub walk_due : (how : How) (size : ℕ) (store bytes : List ℕ) (space : Space) (n : ℕ) → area_of how size store ≡ Ok space → size * n ≤ length store → bytes ≡ take (size * n) store →
+pub walk_due : (how : How) (size : ℕ) (store bytes : List ℕ) (space : Space) (n : ℕ) → IsBlockStore how size store → area_of how size store ≡ Ok space → size * n ≤ length store → bytes ≡ take (size * n) store →
     form.NeedsMore space bytes → IsDue how size store n
-walk_due how size store bytes space n has within same more = inr (record {
+walk_due how size store bytes space n is has within same more = inr (needs_next how size store n is (record {
   space = space;
   area = has;
   within = within;
   more = rw (sym same) more;
-})
+}))
 
-pub walk_ends : (how : How) (size : ℕ) (store bytes : List ℕ) (space : Space) (n : ℕ) → 0 < n → area_of how size store ≡ Ok space → bytes ≡ take (size * n) store →
+pub walk_ends : (how : How) (size : ℕ) (store bytes : List ℕ) (space : Space) (n : ℕ) → IsBlockStore how size store → 0 < n → area_of how size store ≡ Ok space → bytes ≡ take (size * n) store →
     (form.NeedsMore space bytes → ⊥) → IsDue how size store n → ⊥
-walk_ends how size store bytes space n some has same ends (inl e) = omega arith
-walk_ends how size store bytes space n some has same ends (inr m) =
+walk_ends how size store bytes space n is some has same ends (inl e) = omega arith
+walk_ends how size store bytes space n is some has same ends (inr next) =
+    let m = next_needs how size store n is next in
     let area : m.space ≡ space = let both : Ok m.space ≡ Ok space = sym m.area ∙ has in cc in
     ends (rw (same, sym area) m.more)
 
-pub tag_ends : (how : How) (size : ℕ) (store : List ℕ) (n : ℕ) → 0 < n → length store < size * n → IsDue how size store n → ⊥
-tag_ends how size store n some short (inl e) = omega arith
-tag_ends how size store n some short (inr m) = let within = m.within in omega arith
+pub tag_ends : (how : How) (size : ℕ) (store : List ℕ) (n : ℕ) → IsBlockStore how size store → 0 < n → length store < size * n → IsDue how size store n → ⊥
+tag_ends how size store n is some short (inl e) = omega arith
+tag_ends how size store n is some short (inr next) = let m = next_needs how size store n is next in let within = m.within in omega arith
 
 -- how large stores are
-pub small_store : (how : How) (size : ℕ) (store : List ℕ) → IsStore how size store → (0 < size) × (size ≤ 32) × (length store ≤ 8192)
+pub small_store : (how : How) (size : ℕ) (store : List ℕ) → IsBlockStore how size store → (0 < size) × (size ≤ 32) × (length store ≤ 8192)
 small_store T2 size store is = let most = is.1.most in let whole = is.1.whole in (omega (arith, is.0), omega (arith, is.0), omega arith)
+small_store T4 size store is = absurd is
 small_store (T5 id) size store is = let facts = sizes size store is in (omega (arith, facts.least), facts.most, omega (arith, facts.most, facts.all))

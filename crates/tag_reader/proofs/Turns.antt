@@ -12,15 +12,15 @@ use Rattle.tlv_area.specs.Map.{IsWalk, IsPlacedIn}
 use Rattle.tag_reader.specs.declared.how.How.{How}
 use Rattle.tag_reader.specs.declared.fault.ReadFault.{ReadFault}
 use Rattle.tag_reader.specs.declared.fault.ReadFault.TheVariants as fault
-use Rattle.tag_reader.specs.Kinds.{IsTag, IsStore, area_of}
+use Rattle.tag_reader.specs.Kinds.{area_of}
 use Rattle.tag_reader.specs.Asked.{NeedsMore}
-use Rattle.tag_reader.specs.Steps.{rolling, AsksNext, Knows, Walks, IsInReach, HoldsContainer, Reads, IsCutFault, of_container}
-use Rattle.tag_reader.proofs.Areas.{first_within, some_size, front_area, holds_container, due_reach, due_below}
+use Rattle.tag_reader.specs.Steps.{IsBlockTag, IsBlockStore, rolling, AsksNext, Knows, Walks, IsInReach, HoldsContainer, Reads, IsCutFault, of_container}
+use Rattle.tag_reader.proofs.Areas.{needs_next, first_within, some_size, front_area, holds_container, due_reach, due_below}
 use Rattle.tag_reader.proofs.Knowing.{knows_first, knows_more, walks_at}
 use Rattle.tag_reader.proofs.Endings.{Ends, knows_asked, settles, settled_all, map_found, ends_container, due_next, ends_at, ends_cut}
 
 -- the first READ gave something
-pub begun : (how : How) (size : ℕ) (a b : LinkView) (before known : List ℕ) (more : Bool) → IsTag how size a → AsksNext how size 0 a b before known (Ok more) →
+pub begun : (how : How) (size : ℕ) (a b : LinkView) (before known : List ℕ) (more : Bool) → IsBlockTag how size a → AsksNext how size 0 a b before known (Ok more) →
     more ≡ true → before ≡ [] → Knows how size a b known 0
 begun how size a b before known more is next goes none =
     let here : AsksNext how size 0 a b [] known (Ok true) =
@@ -28,7 +28,7 @@ begun how size a b before known more is next goes none =
     knows_first how size a b known is here.0 here.1
 
 -- it can't be that it didn't
-pub begun_empty : (how : How) (size : ℕ) (a b : LinkView) (before known : List ℕ) (more : Bool) → IsTag how size a → AsksNext how size 0 a b before known (Ok more) →
+pub begun_empty : (how : How) (size : ℕ) (a b : LinkView) (before known : List ℕ) (more : Bool) → IsBlockTag how size a → AsksNext how size 0 a b before known (Ok more) →
     more ≡ false → ⊥
 begun_empty how size a b before known more is next goes =
     let here : AsksNext how size 0 a b before known (Ok false) = subst (λ m. AsksNext how size 0 a b before known (Ok m)) goes next in
@@ -37,33 +37,33 @@ begun_empty how size a b before known more is next goes =
     omega (arith, (here.1).0)
 
 -- what it gave
-first_bytes : (how : How) (size : ℕ) (a b : LinkView) (known : List ℕ) → IsStore how size a.state.store → Knows how size a b known 0 → known ≡ take size a.state.store
+first_bytes : (how : How) (size : ℕ) (a b : LinkView) (known : List ℕ) → IsBlockStore how size a.state.store → Knows how size a b known 0 → known ≡ take size a.state.store
 first_bytes how size a b known is k =
     let one : size * (0 + 1) ≡ size = omega arith in
     k.bytes ∙ ap (λ n. take n (rolling a.state.store)) one ∙ take-append-le size a.state.store a.state.store (first_within how size a.state.store is)
 
-first_size : (how : How) (size : ℕ) (a b : LinkView) (known : List ℕ) → IsStore how size a.state.store → Knows how size a b known 0 → length known ≡ size
+first_size : (how : How) (size : ℕ) (a b : LinkView) (known : List ℕ) → IsBlockStore how size a.state.store → Knows how size a b known 0 → length known ≡ size
 first_size how size a b known is k =
     ap length (first_bytes how size a b known is k) ∙ length-take-le size a.state.store (first_within how size a.state.store is)
 
-pub first_container : (how : How) (size : ℕ) (a b : LinkView) (known slice : List ℕ) → IsStore how size a.state.store → Knows how size a b known 0 → slice ≡ known →
+pub first_container : (how : How) (size : ℕ) (a b : LinkView) (known slice : List ℕ) → IsBlockStore how size a.state.store → Knows how size a b known 0 → slice ≡ known →
     HoldsContainer how slice
 first_container how size a b known slice is k same =
     holds_container how size a.state.store slice is (ap length same ∙ first_size how size a b known is k)
 
-pub first_area : (how : How) (size : ℕ) (a b : LinkView) (known slice : List ℕ) → IsStore how size a.state.store → Knows how size a b known 0 → slice ≡ known →
+pub first_area : (how : How) (size : ℕ) (a b : LinkView) (known slice : List ℕ) → IsBlockStore how size a.state.store → Knows how size a b known 0 → slice ≡ known →
     area_of how (length slice) slice ≡ area_of how size a.state.store
 first_area how size a b known slice is k same =
     ap (λ xs. area_of how (length xs) xs) same ∙ ap (λ n. area_of how n known) (first_size how size a b known is k)
     ∙ ap (λ xs. area_of how size xs) (first_bytes how size a b known is k) ∙ front_area how size a.state.store is
 
-pub first_fault : (how : How) (size : ℕ) (a b : LinkView) (known slice : List ℕ) (f : ContainerFault) (e : ReadFault) → IsStore how size a.state.store → Knows how size a b known 0 →
+pub first_fault : (how : How) (size : ℕ) (a b : LinkView) (known slice : List ℕ) (f : ContainerFault) (e : ReadFault) → IsBlockStore how size a.state.store → Knows how size a b known 0 →
     slice ≡ known → Err f ≡ area_of how (length slice) slice → e ≡ of_container f → Reads how size a b known (Err e)
 first_fault how size a b known slice f e is k same has told =
     subst (λ x. Reads how size a b known (Err x)) (sym told)
-    (ends_container how size a b known f k (sym (has ∙ first_area how size a b known slice is k same)))
+    (ends_container how size a b known f is k (sym (has ∙ first_area how size a b known slice is k same)))
 
-pub first_walk : (how : How) (size : ℕ) (a b : LinkView) (known slice : List ℕ) (space : Space) → IsStore how size a.state.store → Knows how size a b known 0 →
+pub first_walk : (how : How) (size : ℕ) (a b : LinkView) (known slice : List ℕ) (space : Space) → IsBlockStore how size a.state.store → Knows how size a b known 0 →
     slice ≡ known → Ok space ≡ area_of how (length slice) slice → Walks how size a b known space 0
 first_walk how size a b known slice space is k same has =
     let some = some_size how size a.state.store is in
@@ -71,7 +71,7 @@ first_walk how size a b known slice space is k same has =
     walks_at how size a b known space 0 is k (sym (has ∙ first_area how size a b known slice is k same)) (omega arith)
 
 -- the walk is settled
-pub held : (how : How) (size : ℕ) (a b : LinkView) (known front : List ℕ) (space : Space) (n : ℕ) (m : AreaMap) → IsStore how size a.state.store →
+pub held : (how : How) (size : ℕ) (a b : LinkView) (known front : List ℕ) (space : Space) (n : ℕ) (m : AreaMap) → IsBlockStore how size a.state.store →
     Walks how size a b known space n → front ≡ take space.end known → ((more : List ℕ) → IsWalk space (front ++ more) (walk.Held m)) → IsPlacedIn front m →
     Reads how size a b known (Ok m)
 held how size a b known front space n m is walks e there places = record {
@@ -83,7 +83,7 @@ held how size a b known front space n m is walks e there places = record {
   calm = tt;
 }
 
-pub none : (how : How) (size : ℕ) (a b : LinkView) (known front : List ℕ) (space : Space) (n : ℕ) → IsStore how size a.state.store →
+pub none : (how : How) (size : ℕ) (a b : LinkView) (known front : List ℕ) (space : Space) (n : ℕ) → IsBlockStore how size a.state.store →
     Walks how size a b known space n → front ≡ take space.end known → ((more : List ℕ) → IsWalk space (front ++ more) walk.NoMessageTlv) →
     Reads how size a b known (Err fault.NoMessageTlv)
 none how size a b known front space n is walks e there = record {
@@ -95,7 +95,7 @@ none how size a b known front space n is walks e there = record {
   calm = λ begun lit quiet. inl refl;
 }
 
-pub bad : (how : How) (size : ℕ) (a b : LinkView) (known front : List ℕ) (space : Space) (n : ℕ) → IsStore how size a.state.store →
+pub bad : (how : How) (size : ℕ) (a b : LinkView) (known front : List ℕ) (space : Space) (n : ℕ) → IsBlockStore how size a.state.store →
     Walks how size a b known space n → front ≡ take space.end known → ((more : List ℕ) → IsWalk space (front ++ more) walk.BadTlv) →
     Reads how size a b known (Err fault.BadTlv)
 bad how size a b known front space n is walks e there = record {
@@ -110,45 +110,45 @@ bad how size a b known front space n is walks e there = record {
 -- it isn't: the next READ is due, and what it needs
 pub record Next (how : How) (size : ℕ) (a b : LinkView) (n : ℕ) : Type 0 where
   pub due : NeedsMore how size a.state.store (n + 1)
-  pub tag : IsTag how size b
+  pub tag : IsBlockTag how size b
   pub reach : IsInReach how size b.state.store (n + 1)
   pub below : n + 1 < 256
 
-pub next : (how : How) (size : ℕ) (a b : LinkView) (known front : List ℕ) (space : Space) (n : ℕ) → IsStore how size a.state.store → Walks how size a b known space n →
+pub next : (how : How) (size : ℕ) (a b : LinkView) (known front : List ℕ) (space : Space) (n : ℕ) → IsBlockStore how size a.state.store → Walks how size a b known space n →
     front ≡ take space.end known → length front < space.end → form.NeedsMore space front → Next how size a b n
 next how size a b known front space n is walks e short more =
     let due = due_next how size a b known front space n walks e short more in
-    let reach = due_reach how size a.state.store (n + 1) is (inr due) in
+    let reach = due_reach how size a.state.store (n + 1) is (inr (needs_next how size a.state.store (n + 1) is due)) in
     record {
       due = due;
       tag = walks.knows.tag;
-      reach = subst (λ s. IsInReach how size s (n + 1)) (sym (ap (λ t. t.store) walks.knows.stays.state)) reach;
+      reach = subst (λ s. IsInReach how size s (n + 1)) (sym walks.knows.stays.store) reach;
       below = due_below how size a.state.store (n + 1) is reach;
     }
 
 -- it gives more
-pub goes_on : (how : How) (size : ℕ) (a b c : LinkView) (known known' : List ℕ) (space : Space) (n : ℕ) (more : Bool) → IsStore how size a.state.store →
+pub goes_on : (how : How) (size : ℕ) (a b c : LinkView) (known known' : List ℕ) (space : Space) (n : ℕ) (more : Bool) → IsBlockStore how size a.state.store →
     Walks how size a b known space n → Next how size a b n → AsksNext how size (n + 1) b c known known' (Ok more) → more ≡ true → Walks how size a c known' space (n + 1)
 goes_on how size a b c known known' space n more is walks due asks goes =
     let here : AsksNext how size (n + 1) b c known known' (Ok true) = subst (λ m. AsksNext how size (n + 1) b c known known' (Ok m)) goes asks in
-    let store : b.state.store ≡ a.state.store = ap (λ t. t.store) walks.knows.stays.state in
-    walks_at how size a c known' space (n + 1) is (knows_more how size a b c known known' n walks.knows (inr due.due) here.0 here.1) walks.area
+    let store : b.state.store ≡ a.state.store = walks.knows.stays.store in
+    walks_at how size a c known' space (n + 1) is (knows_more how size a b c known known' n walks.knows (inr (needs_next how size a.state.store (n + 1) is due.due)) here.0 here.1) walks.area
     (subst (λ s. size * (n + 1) < length s) store (here.1).0)
 
 -- or the tag has ended
-pub stopped : (how : How) (size : ℕ) (a b c : LinkView) (known known' slice : List ℕ) (space : Space) (n : ℕ) (more : Bool) → IsStore how size a.state.store →
+pub stopped : (how : How) (size : ℕ) (a b c : LinkView) (known known' slice : List ℕ) (space : Space) (n : ℕ) (more : Bool) → IsBlockStore how size a.state.store →
     Walks how size a b known space n → Next how size a b n → AsksNext how size (n + 1) b c known known' (Ok more) → more ≡ false → slice ≡ known' →
     Ends space a.state.store slice
 stopped how size a b c known known' slice space n more is walks due asks goes same =
     let here : AsksNext how size (n + 1) b c known known' (Ok false) = subst (λ m. AsksNext how size (n + 1) b c known known' (Ok m)) goes asks in
-    let end : length a.state.store ≡ size * (n + 1) = sym (ap (λ t. length t.store) walks.knows.stays.state) ∙ (here.1).0 in
+    let end : length a.state.store ≡ size * (n + 1) = sym (ap length walks.knows.stays.store) ∙ (here.1).0 in
     subst (λ xs. Ends space a.state.store xs) (sym (same ∙ (here.1).1)) (ends_at how size a b known space n is walks due.due end)
 
-pub ended : (how : How) (size : ℕ) (a b c : LinkView) (known known' slice : List ℕ) (space : Space) (n : ℕ) (more : Bool) (e : ReadFault) → IsStore how size a.state.store →
+pub ended : (how : How) (size : ℕ) (a b c : LinkView) (known known' slice : List ℕ) (space : Space) (n : ℕ) (more : Bool) (e : ReadFault) → IsBlockStore how size a.state.store →
     Walks how size a b known space n → Next how size a b n → AsksNext how size (n + 1) b c known known' (Ok more) → more ≡ false → slice ≡ known' →
     IsCutFault space slice e → Reads how size a c known' (Err e)
 ended how size a b c known known' slice space n more e is walks due asks goes same cut' =
     let here : AsksNext how size (n + 1) b c known known' (Ok false) = subst (λ m. AsksNext how size (n + 1) b c known known' (Ok m)) goes asks in
-    let end : length a.state.store ≡ size * (n + 1) = sym (ap (λ t. length t.store) walks.knows.stays.state) ∙ (here.1).0 in
+    let end : length a.state.store ≡ size * (n + 1) = sym (ap length walks.knows.stays.store) ∙ (here.1).0 in
     subst (λ xs. Reads how size a c xs (Err e)) (sym (here.1).1)
     (ends_cut how size a b c known space n e is walks due.due here.0 end (subst (λ xs. IsCutFault space xs e) (same ∙ (here.1).1) cut'))

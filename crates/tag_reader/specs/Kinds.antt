@@ -1,9 +1,9 @@
--- The kinds of tags that a reader knows (NFC Forum Type 2 Tag and Type 5 Tag): which stores they have, which area a store
--- names and what it holds, and which commands ask for its bytes in their order.
-use Rattle.std.specs.Prelude.{◌≡◌, ℕ, zero, suc, ◌*◌, List, [], ◌∷◌, ◌++◌, length, Bool, nat_le, if◌then◌else◌, Result, Some, ◌<◌, slice_index}
-use Rattle.nfc_base.specs.Signal.{Signal}
+-- The kinds of tags that a reader knows (NFC Forum Type 2, Type 4 and Type 5 Tag): which stores they have, which area a store
+-- names and what it holds, and which commands ask for its bytes in their order. Files.antt says it of a Type 4 tag.
+use Rattle.std.specs.Prelude.{◌≡◌, ℕ, zero, suc, ◌*◌, List, [], ◌∷◌, ◌++◌, length, Bool, nat_le, if◌then◌else◌, Result, Err, Some, ◌<◌, ◌≤◌, slice_index}
+use Rattle.nfc_base.specs.Signal.{Signal, whole_a}
 use Rattle.nfc_base.specs.Blocks.{block_of}
-use Rattle.nfc_base.specs.TagLinks.{TagKind, Type2, Type5, TagState, TagStep, LinkView, MayAsk}
+use Rattle.nfc_base.specs.TagLinks.{TagKind, Type2, Type4, Type5, TagState, TagStep, LinkView, MayAsk}
 use Rattle.t2t_tag.specs.Store.{IsT2Store, T2Memory}
 use Rattle.t2t_tag.specs.Step.{four_blocks, t2_answer, t2_after}
 use Rattle.t2t_tag.specs.Spelling as t2
@@ -17,37 +17,45 @@ use Rattle.t5t_tag.specs.declared.answer.T5Answer.{T5Answer}
 use Rattle.t5t_tag.specs.declared.answer.T5Answer.TheVariants as t5_says
 use Rattle.tlv_area.specs.declared.space.Space.{Space}
 use Rattle.tlv_area.specs.declared.container.ContainerFault.{ContainerFault}
+use Rattle.tlv_area.specs.declared.container.ContainerFault.TheVariants.{NotNdef}
 use Rattle.tlv_area.specs.Containers.{t2_container, t5_container}
 use Rattle.tlv_area.specs.Form.{Form}
 use Rattle.tlv_area.specs.Stores.{four_bytes, cut_by, IsT2Form, IsT5Form}
 use Rattle.tag_reader.specs.declared.how.How.{How}
-use Rattle.tag_reader.specs.declared.how.How.TheVariants.{T2, T5}
+use Rattle.tag_reader.specs.declared.how.How.TheVariants.{T2, T4, T5}
+use Rattle.tag_reader.specs.Files.{IsFileStore, t4_form, file_command, file_frame, t4_link_step}
 
--- A store that a tag has, and how many bytes of it one READ asks for: 16 of a Type 2 tag, a block of a Type 5 tag.
+-- A store that a tag has, and how many bytes of it one READ asks for: 16 of a Type 2 tag, a block of a Type 5 tag. The number
+-- says nothing of a Type 4 tag, whose container says how many bytes a read may ask for.
 abbrev pub IsStore : How → ℕ → List ℕ → Type 0
 IsStore T2 size store = (size ≡ 16) × IsT2Store store
+IsStore T4 size store = IsFileStore store
 IsStore (T5 id) size store = IsT5Store size store
 
 -- The area that a store's container names. A block number is one byte, so that of a Type 5 tag ends at the end of block
--- 255 at the latest.
+-- 255 at the latest. A Type 4 tag has a file in the place of an area, and none is named.
 abbrev pub area_of : How → ℕ → List ℕ → Result Space ContainerFault
 area_of T2 size store = t2_container (four_bytes store 12)
+area_of T4 size store = Err NotNdef
 area_of (T5 id) size store = cut_by (t5_container (four_bytes store 0)) (256 * size)
 
 -- the form of a store
 abbrev pub IsStoreForm : How → List ℕ → Form → Type 0
 IsStoreForm T2 store f = IsT2Form store f
+IsStoreForm T4 store f = f ≡ t4_form store
 IsStoreForm (T5 id) store f = IsT5Form store f
 
--- The READ that is the k-th, counted from 0: it asks for four blocks of a Type 2 tag, for one block of a Type 5 tag.
-abbrev pub command : How → ℕ → Signal
-command T2 k = t2.command_frame (t2_command.Read (4 * k))
-command (T5 id) k = t5.command_frame (t5_command.Read (Some id) k)
+-- The command that is the k-th, counted from 0, of those that ask for what a store holds: a READ of four blocks of a Type 2
+-- tag or of one block of a Type 5 tag, or a command of a Type 4 tag.
+abbrev pub command : How → List ℕ → ℕ → Signal
+command T2 store k = t2.command_frame (t2_command.Read (4 * k))
+command T4 store k = file_frame (file_command store k)
+command (T5 id) store k = t5.command_frame (t5_command.Read (Some id) k)
 
 -- the first so many of them
-abbrev pub first : How → ℕ → List Signal
-first how zero = []
-first how (suc n) = first how n ++ command how n ∷ []
+abbrev pub first : How → List ℕ → ℕ → List Signal
+first how store zero = []
+first how store (suc n) = first how store n ++ command how store n ∷ []
 
 -- what a Type 5 tag answers to the READ of a block
 abbrev pub block_answer : ℕ → List ℕ → ℕ → T5Answer
@@ -55,9 +63,10 @@ block_answer size store k =
     if nat_le (blocks_in size store) k then t5_says.Error no_block
     else t5_says.Content (record { items = block_of size store k })
 
--- what a tag answers to the k-th READ
+-- what a tag answers to the k-th READ of blocks; a Type 4 tag has none
 abbrev pub reply : How → ℕ → List ℕ → ℕ → Signal
 reply T2 size store k = t2.answer_frame (t2_says.Content (four_blocks store (4 * k)))
+reply T4 size store k = whole_a []
 reply (T5 id) size store k = t5.answer_frame (block_answer size store k)
 
 -- The tag behind a link, of which the link's state shows the store.
@@ -84,16 +93,20 @@ t5_step id size locked quiet s c = record {
 abbrev pub Steps : How → ℕ → LinkView → Type 0
 Steps T2 size v = (locked : List Bool)
     × ((s : TagState) (c : Signal) → IsT2Store s.store → MayAsk Type2 v.identifier c → v.step s c ≡ t2_step locked s c)
+Steps T4 size v = (code : ℕ) × (code ≤ 8)
+    × ((s : TagState) (c : Signal) → IsFileStore s.store → MayAsk Type4 v.identifier c → v.step s c ≡ t4_link_step code s c)
 Steps (T5 id) size v = (locked : List Bool) × (quiet : Bool)
     × ((s : TagState) (c : Signal) → IsT5Store size s.store → MayAsk Type5 id c → v.step s c ≡ t5_step id size locked quiet s c)
 
 abbrev pub kind_of : How → TagKind
 kind_of T2 = Type2
+kind_of T4 = Type4
 kind_of (T5 id) = Type5
 
 -- a Type 5 tag has this identifier, eight bytes
 abbrev pub IsNamed : How → List ℕ → Type 0
 IsNamed T2 identifier = Unit {0}
+IsNamed T4 identifier = Unit {0}
 IsNamed (T5 id) identifier = (identifier ≡ id) × (length id ≡ id_size) × ((i : ℕ) → slice_index id i < 256)
 
 -- a link to a tag of this kind

@@ -3,30 +3,40 @@ use Rattle.std.specs.Prelude.{◌≡◌, ℕ, ◌⊎◌, List, Bool, true, false
 use Rattle.nfc_base.specs.TagLinks.{LinkView}
 use Rattle.nfc_base.specs.declared.tag_link.AskFault.TheVariants as ask
 use Rattle.tlv_area.specs.declared.container.ContainerFault.TheVariants as container
+use Rattle.tlv_area.specs.declared.container.FileMap.{FileMap}
 use Rattle.tlv_area.specs.declared.walk.Walk.TheVariants as walk
 use Rattle.tlv_area.specs.Form.{Faulty, Message, NoMessageTlv, BadTlv}
 use Rattle.tlv_area.specs.Map.{IsWalk}
 use Rattle.tag_reader.specs.declared.how.How.{How}
+use Rattle.tag_reader.specs.declared.how.How.TheVariants.{T2, T4, T5}
 use Rattle.tag_reader.specs.declared.fault.ReadFault.{ReadFault}
 use Rattle.tag_reader.specs.declared.fault.ReadFault.TheVariants as fault
 use Rattle.tag_reader.specs.declared.found.Site.{Site}
-use Rattle.tag_reader.specs.declared.found.Site.TheVariants.{Area}
+use Rattle.tag_reader.specs.declared.found.Site.TheVariants.{Area, File}
 use Rattle.tag_reader.specs.declared.found.Found.{Found}
+use Rattle.tag_reader.specs.Files.{NamesFile}
 use Rattle.tag_reader.specs.Kinds.{area_of, IsStoreForm}
 use Rattle.tag_reader.specs.Calls.{ByLink}
 
--- Where the message lies: the map of the area that the container names, found over the store. A tag that ends before its
--- area doesn't cut it.
+-- a Type 4 tag's container names this file
+abbrev pub IsFileOf : How → List ℕ → FileMap → Type 0
+IsFileOf T2 store map' = ⊥
+IsFileOf T4 store map' = NamesFile store map'
+IsFileOf (T5 id) store map' = ⊥
+
+-- Where the message lies: the map of the area that the container names, found over the store, or the file that it names. A tag
+-- that ends before its area doesn't cut it.
 abbrev pub IsSite : How → ℕ → List ℕ → Site → Bool → Type 0
 IsSite how size store (Area map') writable =
     (area_of how size store ≡ Ok map'.space) × IsWalk map'.space store (walk.Held map') × (writable ≡ map'.space.writable)
+IsSite how size store (File map') writable = IsFileOf how store map' × (writable ≡ map'.writable)
 
 -- The message that a store holds, where it lies, and whether writing is free.
 pub record IsFound (how : How) (size : ℕ) (store : List ℕ) (found : Found) : Type 0 where
   pub held : IsStoreForm how store (Message found.message)
   pub site : IsSite how size store found.site found.writable
 
--- Each fault: of the store's form, or of the link. A tag of these kinds refuses no READ that is asked.
+-- Each fault: of the store's form, or of the link. A tag of these kinds refuses no command that is asked.
 abbrev pub IsReadFault : How → List ℕ → LinkView → LinkView → ReadFault → Type 0
 IsReadFault how store a b fault.NotNdef = IsStoreForm how store (Faulty container.NotNdef)
 IsReadFault how store a b fault.Version = IsStoreForm how store (Faulty container.Version)

@@ -1,8 +1,11 @@
 -- What the parts of a reading say. No public contract speaks of these.
-use Rattle.std.specs.Prelude.{◌≡◌, ℕ, ◌+◌, ◌*◌, ◌<◌, ◌≤◌, ◌⊎◌, List, [], ◌∷◌, ◌++◌, length, take, drop, Bool, true, false, Some, None, Result, Ok, Err}
+use Rattle.std.specs.Prelude.{◌≡◌, ℕ, ◌+◌, ◌*◌, ◌<◌, ◌≤◌, ◌⊎◌, List, [], ◌∷◌, ◌++◌, length, take, drop, Bool, true, false, Some, None, Result, Ok, Err, IfOk, IfErr}
+use Rattle.nfc_base.specs.Signal.{Signal}
 use Rattle.nfc_base.specs.TagLinks.{LinkView}
 use Rattle.nfc_base.specs.declared.tag_link.AskFault.{AskFault}
 use Rattle.nfc_base.specs.declared.tag_link.AskFault.TheVariants as ask
+use Rattle.t2t_tag.specs.Store.{IsT2Store}
+use Rattle.t5t_tag.specs.Store.{IsT5Store}
 use Rattle.tlv_area.specs.declared.space.Space.{Space}
 use Rattle.tlv_area.specs.declared.space.AreaMap.{AreaMap}
 use Rattle.tlv_area.specs.declared.container.ContainerFault.{ContainerFault}
@@ -12,15 +15,16 @@ use Rattle.tlv_area.specs.Layout.{bytes_at}
 use Rattle.tlv_area.specs.Form.{Comes, End, Fault, Message}
 use Rattle.tlv_area.specs.Map.{IsWalk, IsPlacedIn, message_cells}
 use Rattle.tag_reader.specs.declared.how.How.{How}
-use Rattle.tag_reader.specs.declared.how.How.TheVariants.{T2, T5}
+use Rattle.tag_reader.specs.declared.how.How.TheVariants.{T2, T4, T5}
 use Rattle.tag_reader.specs.declared.fault.ReadFault.{ReadFault}
 use Rattle.tag_reader.specs.declared.fault.ReadFault.TheVariants as fault
+use Rattle.tag_reader.specs.declared.found.Found.{Found}
 use Rattle.tag_reader.specs.declared.told.Told.{Told}
 use Rattle.tag_reader.specs.declared.told.Told.TheVariants.{Bytes, Ended}
-use Rattle.tag_reader.specs.Kinds.{area_of, command, first, IsStoreForm, IsTag}
+use Rattle.tag_reader.specs.Kinds.{area_of, command, first, kind_of, IsNamed, IsStoreForm, Steps}
 use Rattle.tag_reader.specs.Asked.{AreDue}
-use Rattle.tag_reader.specs.Calls.{Stays, HasAsked, HasAskedAll, GoesOn, ByLink}
-use Rattle.tag_reader.specs.Reading.{IsReadFault, IsToldOrMemory, OnTold}
+use Rattle.tag_reader.specs.Calls.{Stays, last_of, HasAsked, HasAskedAll, GoesOn, ByLink}
+use Rattle.tag_reader.specs.Reading.{IsFound, IsReadFault, IsCalm, IsToldOrMemory, OnTold}
 
 -- the fault of a reading for a fault of the link, and for one of the container
 abbrev pub of_link : AskFault → ReadFault
@@ -36,24 +40,49 @@ of_container container.NoRead = fault.NoRead
 of_container container.Sectors = fault.Sectors
 of_container container.BadSize = fault.BadSize
 
+-- a store of blocks, and a tag with one
+abbrev pub IsBlockStore : How → ℕ → List ℕ → Type 0
+IsBlockStore T2 size store = (size ≡ 16) × IsT2Store store
+IsBlockStore T4 size store = ⊥
+IsBlockStore (T5 id) size store = IsT5Store size store
+
+pub record IsBlockTag (how : How) (size : ℕ) (v : LinkView) : Type 0 where
+  pub kind : v.kind ≡ kind_of how
+  pub named : IsNamed how v.identifier
+  pub store : IsBlockStore how size v.state.store
+  pub steps : Steps how size v
+
+-- a kind of tags of blocks
+abbrev pub IsOfBlocks : How → Type 0
+IsOfBlocks T2 = Unit {0}
+IsOfBlocks T4 = ⊥
+IsOfBlocks (T5 id) = Unit {0}
+
 -- the k-th READ asks for a block that its number can name, and not past the one behind the tag's last
 abbrev pub IsInReach : How → ℕ → List ℕ → ℕ → Type 0
 IsInReach T2 size store k = 16 * k < length store
+IsInReach T4 size store k = ⊥
 IsInReach (T5 id) size store k = (k < 256) × (size * k ≤ length store)
 
 -- the first READ's answer has the container
 abbrev pub HoldsContainer : How → List ℕ → Type 0
 HoldsContainer T2 bytes = length bytes ≡ 16
+HoldsContainer T4 bytes = ⊥
 HoldsContainer (T5 id) bytes = (4 ≤ length bytes) × (length bytes ≤ 256)
 
 -- its number is one byte
 abbrev pub HasNumber : How → ℕ → Type 0
 HasNumber T2 k = 4 * k < 256
+HasNumber T4 k = ⊥
 HasNumber (T5 id) k = k < 256
 
 -- What READs give goes on with the store's first bytes behind its last, as a Type 2 tag's does.
 abbrev pub rolling : List ℕ → List ℕ
 rolling store = store ++ store
+
+-- the status bytes of an answer that refuses: any but 9000h
+abbrev pub IsRefusal : ℕ → ℕ → Type 0
+IsRefusal high low = ((high ≡ 0x90) × (low ≡ 0x00)) → ⊥
 
 -- what the answer to the k-th READ tells
 abbrev pub TellsNext : ℕ → List ℕ → ℕ → Result Told ReadFault → Type 0
@@ -65,13 +94,13 @@ TellsNext size store k (Err e) = ⊥
 abbrev pub IsLinkFault : LinkView → LinkView → ReadFault → Type 0
 IsLinkFault a b e = (e ≡ fault.Memory) ⊎ ((f : AskFault) × (e ≡ of_link f) × ByLink a b f)
 
--- The k-th READ was answered.
-pub record Answers (how : How) (size k : ℕ) (a b : LinkView) : Type 0 where
+-- A command was answered.
+pub record Answers (c : Signal) (a b : LinkView) : Type 0 where
   pub stays : Stays a b
   pub before : a.over ≡ None
   pub goes_on : GoesOn a b
-  pub answered : b.answered ≡ a.answered ++ command how k ∷ []
-  pub last : b.last ≡ Some (command how k)
+  pub answered : b.answered ≡ a.answered ++ c ∷ []
+  pub last : b.last ≡ Some c
 
 -- More is known then, or the tag has ended.
 abbrev pub Learns : ℕ → List ℕ → ℕ → List ℕ → List ℕ → Bool → Type 0
@@ -79,27 +108,36 @@ Learns size store k known known' true = (size * k < length store) × (known' ≡
 Learns size store k known known' false = (length store ≡ size * k) × (known' ≡ known)
 
 -- It wasn't, or its answer found no memory.
-pub record Fails (how : How) (k : ℕ) (a b : LinkView) (e : ReadFault) : Type 0 where
+pub record Fails (c : Signal) (a b : LinkView) (e : ReadFault) : Type 0 where
   pub stays : Stays a b
   pub fault' : IsLinkFault a b e
-  pub asked : ((b.answered ≡ a.answered) × (((b.last ≡ a.last) × (b.over ≡ a.over)) ⊎ (b.last ≡ Some (command how k))))
-      ⊎ ((b.answered ≡ a.answered ++ command how k ∷ []) × (b.last ≡ Some (command how k)) × (b.over ≡ a.over))
+  pub asked : ((b.answered ≡ a.answered) × (((b.last ≡ a.last) × (b.over ≡ a.over)) ⊎ (b.last ≡ Some c)))
+      ⊎ ((b.answered ≡ a.answered ++ c ∷ []) × (b.last ≡ Some c) × (b.over ≡ a.over))
   pub calm : a.over ≡ None → a.dark ≡ false → b.noise ≡ a.noise → e ≡ fault.Memory
 
 abbrev pub AsksNext : How → ℕ → ℕ → LinkView → LinkView → List ℕ → List ℕ → Result Bool ReadFault → Type 0
-AsksNext how size k a b known known' (Ok more) = Answers how size k a b × Learns size a.state.store k known known' more
-AsksNext how size k a b known known' (Err e) = Fails how k a b e
+AsksNext how size k a b known known' (Ok more) = Answers (command how a.state.store k) a b × Learns size a.state.store k known known' more
+AsksNext how size k a b known known' (Err e) = Fails (command how a.state.store k) a b e
 
--- A reading under way: the first n READs are answered, n not 0, and gave these bytes.
+-- A reading under way, of a tag of whatever kind: the first n commands are answered, n not 0.
+pub record Asks (how : How) (size : ℕ) (a b : LinkView) (n : ℕ) : Type 0 where
+  pub stays : Stays a b
+  pub before : a.over ≡ None
+  pub goes_on : GoesOn a b
+  pub each : AreDue how size a.state.store n
+  pub answered : b.answered ≡ a.answered ++ first how a.state.store n
+  pub last : b.last ≡ last_of how a.state.store a n
+
+-- A reading of blocks under way: the first n + 1 READs are answered, and gave these bytes.
 pub record Knows (how : How) (size : ℕ) (a b : LinkView) (known : List ℕ) (n : ℕ) : Type 0 where
   pub stays : Stays a b
   pub before : a.over ≡ None
   pub goes_on : GoesOn a b
   pub each : AreDue how size a.state.store (n + 1)
-  pub answered : b.answered ≡ a.answered ++ first how (n + 1)
-  pub last : b.last ≡ Some (command how n)
+  pub answered : b.answered ≡ a.answered ++ first how a.state.store (n + 1)
+  pub last : b.last ≡ Some (command how a.state.store n)
   pub bytes : known ≡ take (size * (n + 1)) (rolling a.state.store)
-  pub tag : IsTag how size b
+  pub tag : IsBlockTag how size b
 
 -- The area that a container names: it begins in the store, and ends in it or READs don't go past it.
 pub record IsAreaOf (size : ℕ) (store : List ℕ) (space : Space) (n : ℕ) : Type 0 where
@@ -138,6 +176,16 @@ pub record Reads (how : How) (size : ℕ) (a b : LinkView) (known : List ℕ) (r
   pub goes_on : OnTold result (GoesOn a b)
   pub tells : Tells how size a.state.store a b known result
   pub calm : Calms a b result
+
+-- A reading, of a tag of whatever kind, from its first view of the link to its last.
+pub record IsRead (how : How) (size : ℕ) (a b : LinkView) (result : Result Found ReadFault) : Type 0 where
+  pub stays : Stays a b
+  pub asked : HasAsked how size a.state.store a b
+  pub whole : OnTold result (HasAskedAll how size a.state.store a b)
+  pub goes_on : OnTold result (GoesOn a b)
+  pub ok : IfOk result (IsFound how size a.state.store)
+  pub err : IfErr result (IsReadFault how a.state.store a b)
+  pub calm : IsCalm a b → IfErr result IsToldOrMemory
 
 -- the fault of an area that ends where the memory does
 abbrev pub IsCutFault : Space → List ℕ → ReadFault → Type 0

@@ -2,8 +2,7 @@
 
 ghost use Rattle.std.specs.Prelude.{◌≡◌, ℕ};
 ghost use Rattle.nfc_base.specs.declared.tag_link.AskFault.{AskFault};
-ghost use Rattle.tag_reader.specs.Kinds.{IsTag};
-ghost use Rattle.tag_reader.specs.Steps.{of_link, IsInReach, AsksNext};
+ghost use Rattle.tag_reader.specs.Steps.{of_link, IsBlockTag, IsInReach, AsksNext};
 
 use crate::fault::ReadFault;
 use crate::how::{How, command};
@@ -11,7 +10,7 @@ use crate::told::{Told, tell};
 use nfc_base::{AskFault, TagLink};
 use std::alloc::Global;
 
-fn of_link(fault: AskFault) -> ReadFault
+pub fn of_link(fault: AskFault) -> ReadFault
     ensures { result ≡ of_link fault }
 {
     match fault {
@@ -31,8 +30,8 @@ pub fn ask_next<T: TagLink>(
     known: &mut Vec<u8>,
 ) -> Result<bool, ReadFault>
     requires ready { T.ready link.old }
-    requires tag { (size : ℕ) × IsTag how size (T.seen link.old) × IsInReach how size (T.seen link.old).state.store index }
-    ensures next { (size : ℕ) → IsTag how size (T.seen link.old) → IsInReach how size (T.seen link.old).state.store index → AsksNext how size index (T.seen link.old) (T.seen link.new) known.old.items known.new.items result }
+    requires tag { (size : ℕ) × IsBlockTag how size (T.seen link.old) × IsInReach how size (T.seen link.old).state.store index }
+    ensures next { (size : ℕ) → IsBlockTag how size (T.seen link.old) → IsInReach how size (T.seen link.old).state.store index → AsksNext how size index (T.seen link.old) (T.seen link.new) known.old.items known.new.items result }
     ensures ready { T.ready link.new }
     ensures same { T.lenders link.new ≡ T.lenders link.old }
     ensures moves { T.moves link.old link.new }

@@ -4,8 +4,8 @@ ghost use Rattle.std.specs.Prelude.{◌≡◌, ℕ, ◌<◌, ◌≤◌, length, 
 ghost use Rattle.tlv_area.specs.declared.container.ContainerFault.{ContainerFault};
 ghost use Rattle.tlv_area.specs.Form.{NeedsMore};
 ghost use Rattle.tlv_area.specs.Layout.{IsArea};
-ghost use Rattle.tag_reader.specs.Kinds.{area_of, IsTag};
-ghost use Rattle.tag_reader.specs.Steps.{of_container, HoldsContainer, IsCutFault, Reads};
+ghost use Rattle.tag_reader.specs.Kinds.{area_of};
+ghost use Rattle.tag_reader.specs.Steps.{of_container, IsBlockTag, HoldsContainer, IsCutFault, Reads};
 
 use crate::asking::ask_next;
 use crate::fault::ReadFault;
@@ -18,7 +18,7 @@ use tlv_area::{AreaMap, ContainerFault, Space, Walk, container_t2, container_t5,
 /// How many blocks the numbers of one byte can name.
 const NAMED_BLOCKS: u32 = 256;
 
-fn of_container(fault: ContainerFault) -> ReadFault
+pub fn of_container(fault: ContainerFault) -> ReadFault
     ensures { result ≡ of_container fault }
 {
     match fault {
@@ -38,6 +38,7 @@ pub fn space_of(how: How, first: &[u8]) -> Result<Space, ContainerFault>
 {
     match how {
         How::T2 => container_t2(&[first[12], first[13], first[14], first[15]]),
+        How::T4 => unreachable!(),
         How::T5(_) => {
             let space = container_t5(&[first[0], first[1], first[2], first[3]])?;
             let end = space.end.min(NAMED_BLOCKS * first.len() as u32);
@@ -85,9 +86,9 @@ pub fn find_map<T: TagLink>(
     known: &mut Vec<u8>,
 ) -> Result<AreaMap, ReadFault>
     requires ready { T.ready link.old }
-    requires tag { (size : ℕ) × IsTag how size (T.seen link.old) }
+    requires tag { (size : ℕ) × IsBlockTag how size (T.seen link.old) }
     requires begun { known.old.items ≡ [] }
-    ensures reads { (size : ℕ) → IsTag how size (T.seen link.old) → Reads how size (T.seen link.old) (T.seen link.new) known.new.items result }
+    ensures reads { (size : ℕ) → IsBlockTag how size (T.seen link.old) → Reads how size (T.seen link.old) (T.seen link.new) known.new.items result }
     ensures ready { T.ready link.new }
     ensures same { T.lenders link.new ≡ T.lenders link.old }
     ensures moves { T.moves link.old link.new }

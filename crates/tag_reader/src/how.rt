@@ -1,6 +1,6 @@
 //! The kinds of tags that a reader knows.
 
-ghost use Rattle.std.specs.Prelude.{◌≡◌};
+ghost use Rattle.std.specs.Prelude.{◌≡◌, ℕ, List};
 ghost use Rattle.tag_reader.specs.Kinds.{command};
 ghost use Rattle.tag_reader.specs.Steps.{HasNumber};
 
@@ -12,16 +12,18 @@ use t5t_tag::T5Command;
 #[derive(Clone, Copy, Debug, PartialEq, Eq)]
 pub enum How {
     T2,
+    T4,
     T5([u8; 8]),
 }
 
 /// The READ that is the `index`-th, counted from 0: four blocks of a Type 2 tag, or one block of a Type 5 tag.
 pub fn command(how: How, index: u8) -> Frame
     requires { HasNumber how index }
-    ensures { result ≡ command how index }
+    ensures { (store : List ℕ) → result ≡ command how store index }
 {
     match how {
         How::T2 => T2Command::Read { block: 4 * index }.to_frame(),
+        How::T4 => unreachable!(),
         How::T5(id) => T5Command::Read {
             id: Some(id),
             block: index,

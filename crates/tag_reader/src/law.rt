@@ -5,14 +5,15 @@ ghost use Rattle.std.specs.Prelude.{◌≡◌, ℕ, ◌<◌, ◌≤◌, List, le
 ghost use Rattle.nfc_base.specs.Signal.{Signal};
 ghost use Rattle.tag_reader.specs.Kinds.{IsStore, first};
 ghost use Rattle.tag_reader.specs.Asked.{IsAsked, AreDue, IsDue, IsFront};
+ghost use Rattle.tag_reader.specs.Steps.{IsBlockStore};
 
 use crate::finding::space_of;
 use crate::how::How;
 use tlv_area::{Walk, find_message};
 
-/// How many READs of so many bytes are asked of a tag with this store.
-fn count_asked(how: How, size: usize, store: &[u8]) -> usize
-    requires { IsStore how size store.now }
+/// How many READs of so many bytes are asked of a tag of blocks with this store.
+fn count_blocks(how: How, size: usize, store: &[u8]) -> usize
+    requires { IsBlockStore how size store.now }
     ensures each { AreDue how size store.now result }
     ensures no_more { IsDue how size store.now result → ⊥ }
 {
@@ -29,12 +30,20 @@ fn count_asked(how: How, size: usize, store: &[u8]) -> usize
     count
 }
 
-/// A store that a tag of this kind has, whose READs ask for so many bytes each.
+/// A store that a tag of this kind has; the READs of a tag of blocks ask for so many bytes each.
 pub fn one_asked(how: How, size: usize, store: &[u8])
     requires { IsStore how size store.now }
     ensures some { (commands : List Signal) × IsAsked how size store.now commands }
     ensures one { (xs ys : List Signal) → IsAsked how size store.now xs → IsAsked how size store.now ys → xs ≡ ys }
-    ensures front { (n : ℕ) (xs : List Signal) → AreDue how size store.now n → IsAsked how size store.now xs → IsFront (first how n) xs }
+    ensures front { (n : ℕ) (xs : List Signal) → AreDue how size store.now n → IsAsked how size store.now xs → IsFront (first how store.now n) xs }
 {
-    count_asked(how, size, store);
+    match how {
+        How::T2 => {
+            count_blocks(how, size, store);
+        }
+        How::T4 => {}
+        How::T5(_) => {
+            count_blocks(how, size, store);
+        }
+    }
 }

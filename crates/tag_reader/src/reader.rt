@@ -4,8 +4,10 @@ ghost use Rattle.std.specs.Prelude.{◌≡◌, ℕ, IfOk, IfErr};
 ghost use Rattle.tag_reader.specs.Kinds.{IsTag};
 ghost use Rattle.tag_reader.specs.Calls.{Stays, HasAsked, HasAskedAll, GoesOn};
 ghost use Rattle.tag_reader.specs.Reading.{IsFound, IsReadFault, IsCalm, IsToldOrMemory, OnTold};
+ghost use Rattle.tag_reader.specs.Steps.{IsBlockTag, IsRead};
 
 use crate::fault::ReadFault;
+use crate::file::read_file;
 use crate::finding::find_map;
 use crate::found::{Found, Site};
 use crate::how::How;
@@ -13,8 +15,8 @@ use crate::message::copy_message;
 use nfc_base::{Items, TagLink};
 use std::alloc::Global;
 
-/// Reads the message of the tag behind a link, which is of the kind that `how` names (NFC Forum Type 2 Tag and Type 5
-/// Tag). It writes nothing, and asks for no more than it needs.
+/// Reads the message of the tag behind a link, which is of the kind that `how` names (NFC Forum Type 2 Tag, Type 4 Tag and
+/// Type 5 Tag). It writes nothing, and asks for no more than it needs.
 pub fn read<T: TagLink>(alloc: Global, link: &mut T, how: How) -> Result<Found, ReadFault>
     requires ready { T.ready link.old }
     requires tag { (size : ℕ) × IsTag how size (T.seen link.old) }
@@ -29,6 +31,33 @@ pub fn read<T: TagLink>(alloc: Global, link: &mut T, how: How) -> Result<Found, 
     ensures err { IfErr result (IsReadFault how (T.seen link.old).state.store (T.seen link.old) (T.seen link.new)) }
     // where all passes, or each wait is answered, it tells what the store holds or finds no memory
     ensures calm { IsCalm (T.seen link.old) (T.seen link.new) → IfErr result IsToldOrMemory }
+    ensures ready { T.ready link.new }
+    ensures same { T.lenders link.new ≡ T.lenders link.old }
+    ensures moves { T.moves link.old link.new }
+{
+    read_kind(alloc, link, how)
+}
+
+fn read_kind<T: TagLink>(alloc: Global, link: &mut T, how: How) -> Result<Found, ReadFault>
+    requires ready { T.ready link.old }
+    requires tag { (size : ℕ) × IsTag how size (T.seen link.old) }
+    ensures reads { (size : ℕ) → IsTag how size (T.seen link.old) → IsRead how size (T.seen link.old) (T.seen link.new) result }
+    ensures ready { T.ready link.new }
+    ensures same { T.lenders link.new ≡ T.lenders link.old }
+    ensures moves { T.moves link.old link.new }
+{
+    match how {
+        How::T2 => read_area(alloc, link, how),
+        How::T4 => read_file(alloc, link),
+        How::T5(_) => read_area(alloc, link, how),
+    }
+}
+
+/// Reads the message of a tag that has an area of TLVs.
+fn read_area<T: TagLink>(alloc: Global, link: &mut T, how: How) -> Result<Found, ReadFault>
+    requires ready { T.ready link.old }
+    requires tag { (size : ℕ) × IsBlockTag how size (T.seen link.old) }
+    ensures reads { (size : ℕ) → IsBlockTag how size (T.seen link.old) → IsRead how size (T.seen link.old) (T.seen link.new) result }
     ensures ready { T.ready link.new }
     ensures same { T.lenders link.new ≡ T.lenders link.old }
     ensures moves { T.moves link.old link.new }

@@ -2,9 +2,10 @@
 
 ghost use Rattle.std.specs.Prelude.{◌≡◌, ℕ, List, Bool, Option, [], None, Some, IfOk, true, false};
 ghost use Rattle.nfc_base.specs.Signal.{Signal};
-ghost use Rattle.nfc_base.specs.TagLinks.{TagKind, Type2, Type5, TagState, TagStep, LinkView, plain_state};
+ghost use Rattle.nfc_base.specs.TagLinks.{TagKind, Type2, Type4, Type5, TagState, TagStep, LinkView, plain_state};
 ghost use Rattle.t5t_tag.specs.Store.{IsT5State};
 ghost use Rattle.t2t_tag.specs.Store.{IsT2Store};
+ghost use Rattle.tag_reader.specs.Files.{shown, t4_link_step};
 ghost use Rattle.tag_reader.specs.Kinds.{t2_step, t5_step, IsTag};
 
 use crate::{Found, How, ReadFault, Site, one_asked, read};
@@ -12,6 +13,7 @@ use nfc_base::{AskFault, Frame, TagLink, Tech};
 use std::alloc::Global;
 use std::test::Fail;
 use t2t_tag::T2Tag;
+use t4t_tag::T4Tag;
 use t5t_tag::T5Tag;
 
 /// A tag that obeys at once.
@@ -20,13 +22,13 @@ trait Card {
 
     ghost identifier: { Self → List ℕ };
 
-    ghost store: { Self → List ℕ };
+    ghost state: { Self → TagState };
 
     ghost step: { Self → TagState → Signal → TagStep };
 
     fn hear(&mut self, command: &Frame) -> Option<Frame>
-        ensures answer { (step self.old (plain_state (store self.old)) command.now).answer ≡ result }
-        ensures after { (step self.old (plain_state (store self.old)) command.now).after ≡ plain_state (store self.new) }
+        ensures answer { (step self.old (state self.old) command.now).answer ≡ result }
+        ensures after { (step self.old (state self.old) command.now).after ≡ state self.new }
         ensures kind { kind self.new ≡ kind self.old }
         ensures identifier { identifier self.new ≡ identifier self.old }
         ensures step { step self.new ≡ step self.old };
@@ -37,13 +39,29 @@ impl Card for T2Tag {
 
     ghost identifier = { λ _. [] };
 
-    ghost store = { λ t. t.store };
+    ghost state = { λ t. plain_state t.store };
 
     ghost step = { λ t. t2_step t.locked };
 
     #[tactic(auto, using(crate::proofs::Cards::t2_same))]
     fn hear(&mut self, command: &Frame) -> Option<Frame> {
         self.obey(command)
+    }
+}
+
+impl Card for T4Tag {
+    ghost kind = { λ _. Type4 };
+
+    ghost identifier = { λ _. [] };
+
+    ghost state = { λ t. shown t };
+
+    ghost step = { λ t. t4_link_step t.code };
+
+    fn hear(&mut self, command: &Frame) -> Option<Frame> {
+        let _shape = self.file();
+        let answer = self.obey(command.view());
+        Some(Frame::whole(Tech::A, answer.as_slice()).unwrap())
     }
 }
 
@@ -59,7 +77,7 @@ impl Card for Awake {
 
     ghost identifier = { λ t. t.tag.id };
 
-    ghost store = { λ t. t.tag.store };
+    ghost state = { λ t. plain_state t.tag.store };
 
     ghost step = { λ t. t5_step t.tag.id t.tag.size t.tag.locked t.tag.quiet };
 
@@ -84,7 +102,7 @@ struct MemLink<C> {
 }
 
 impl<C: Card> TagLink for MemLink<C> {
-    ghost seen = { λ l. record { kind = C.kind l.card; identifier = C.identifier l.card; step = C.step l.card; state = plain_state (C.store l.card); obeyed = l.obeyed.items; answered = l.answered.items; last = l.last; over = l.over; dark = false; counts = record { breaks = l.breaks; six_bad = l.six_bad; odd = 0 }; noise = l.breaks } };
+    ghost seen = { λ l. record { kind = C.kind l.card; identifier = C.identifier l.card; step = C.step l.card; state = C.state l.card; obeyed = l.obeyed.items; answered = l.answered.items; last = l.last; over = l.over; dark = false; counts = record { breaks = l.breaks; six_bad = l.six_bad; odd = 0 }; noise = l.breaks } };
 
     ghost lenders = { λ _. [] };
 
@@ -169,16 +187,23 @@ fn store_of(alloc: Global, row: &Row) -> Result<Vec<u8>, Fail> {
     Ok(store)
 }
 
+/// Whether a message of so many bytes lies there.
+fn fits(site: &Site, length: usize) -> bool {
+    match site {
+        Site::Area(map) => map.length as usize == length,
+        Site::File(map) => length < map.size as usize,
+    }
+}
+
 /// Whether a reading told what the row says.
 fn is_told(row: &Row, outcome: &Result<Found, ReadFault>, asks: usize) -> bool {
     let told = match outcome {
         Err(fault) => fault.number() == row.fault,
         Ok(found) => {
-            let Site::Area(map) = &found.site;
             row.fault == 0
                 && found.message.as_slice() == row.message
                 && found.writable == row.writable
-                && map.length as usize == row.message.len()
+                && fits(&found.site, row.message.len())
         }
     };
     told && asks == row.asks
@@ -188,6 +213,13 @@ fn read_t2(alloc: Global, tag: T2Tag, left: u16) -> (Result<Found, ReadFault>, u
     let _shape = tag.store();
     let mut link = MemLink::new(alloc, tag, left);
     let outcome = read(alloc, &mut link, How::T2);
+    (outcome, link.answered.len())
+}
+
+fn read_t4(alloc: Global, tag: T4Tag, left: u16) -> (Result<Found, ReadFault>, usize) {
+    let _shape = tag.file();
+    let mut link = MemLink::new(alloc, tag, left);
+    let outcome = read(alloc, &mut link, How::T4);
     (outcome, link.answered.len())
 }
 
@@ -334,5 +366,133 @@ fn reads_what_is_closed_and_what_goes_away(rt: HostRuntime) -> Result<(), Fail> 
         let (outcome, asks) = read_t2(rt.alloc(), tag, left as u16);
         assert!(rt; is_told(&lost, &outcome, asks), "after {left}");
     }
+    Ok(())
+}
+
+/// A container of a real tag: reads of at most 59 bytes, a file E104h of 2,048 bytes, free to read and to write.
+const CONTAINER: [u8; 15] = [
+    0x00, 0x0F, 0x20, 0x00, 0x3B, 0x00, 0x34, 0x04, 0x06, 0xE1, 0x04, 0x08, 0x00, 0x00, 0x00,
+];
+
+/// Its message.
+const MESSAGE: [u8; 15] = *b"\xD1\x01\x0B\x54\x02enNFC TEST";
+
+/// The container, but for some of its bytes.
+fn container_with(changes: &[(usize, u8)]) -> [u8; 15] {
+    let mut container = CONTAINER;
+    for (at, byte) in changes {
+        if *at < 15 {
+            container[*at] = *byte;
+        }
+    }
+    container
+}
+
+/// A tag with a container, and a file of as many bytes as it says, which begins with these.
+fn tag_t4(alloc: Global, container: &[u8; 15], head: &[u8]) -> Result<T4Tag, Fail> {
+    let size = container[11] as usize * 256 + container[12] as usize;
+    let mut file = head.to_vec(alloc)?;
+    file.resize(size, 0)?;
+    Ok(T4Tag::new(8, container.to_vec(alloc)?, file)?)
+}
+
+#[test]
+fn reads_type_4_tags(rt: HostRuntime) -> Result<(), Fail> {
+    let plain = *b"\x00\x0F\xD1\x01\x0B\x54\x02enNFC TEST";
+    let zeros = [0; 300];
+    let closed = Row {
+        zeros: 0,
+        size: 0,
+        head: &[0, 1, 0xD0],
+        fault: 0,
+        message: &[0xD0],
+        writable: false,
+        asks: 6,
+    };
+    // the container, and the row
+    let rows = [
+        (CONTAINER, holds(0, 0, &plain, &MESSAGE, 6)),
+        (CONTAINER, holds(0, 0, &[0, 0], &[], 5)),
+        (container_with(&[(14, 0xFF)]), closed),
+        (container_with(&[(2, 0x30)]), holds(0, 0, &[0, 0], &[], 5)),
+        // a file that its message fills, in four reads; one byte more passes its end
+        (
+            container_with(&[(4, 15), (11, 0), (12, 59)]),
+            holds(0, 0, &[0, 57], &zeros[..57], 9),
+        ),
+        (
+            container_with(&[(4, 15), (11, 0), (12, 59)]),
+            lacks(0, 0, &[0, 58], 7, 5),
+        ),
+        (
+            container_with(&[(11, 0), (12, 2)]),
+            holds(0, 0, &[0, 0], &[], 5),
+        ),
+        (
+            container_with(&[(11, 0), (12, 2)]),
+            lacks(0, 0, &[0, 1], 7, 5),
+        ),
+        (CONTAINER, lacks(0, 0, &[0xFF, 0xFF], 7, 5)),
+        // reads of more than 255 bytes are allowed, and not asked for
+        (container_with(&[(3, 1)]), holds(0, 0, &[1, 44], &zeros, 7)),
+        (container_with(&[(7, 5)]), lacks(0, 0, &[], 1, 3)),
+        (container_with(&[(2, 0x10)]), lacks(0, 0, &[], 2, 3)),
+        (container_with(&[(13, 0xFF)]), lacks(0, 0, &[], 3, 3)),
+        (container_with(&[(1, 14)]), lacks(0, 0, &[], 5, 3)),
+        (container_with(&[(4, 0)]), lacks(0, 0, &[], 5, 3)),
+        (container_with(&[(4, 14)]), lacks(0, 0, &[], 5, 3)),
+        (container_with(&[(11, 0), (12, 1)]), lacks(0, 0, &[], 5, 3)),
+        (container_with(&[(7, 5), (2, 0x10)]), lacks(0, 0, &[], 1, 3)),
+    ];
+    for (container, row) in &rows {
+        let tag = tag_t4(rt.alloc(), container, row.head)?;
+        let (outcome, asks) = read_t4(rt.alloc(), tag, 1000);
+        assert!(rt;
+            is_told(row, &outcome, asks),
+            "at {:?}: {outcome:?} {asks}",
+            row.head
+        );
+    }
+    for left in 0..6 {
+        let lost = lacks(0, 0, &plain, 9, left);
+        let tag = tag_t4(rt.alloc(), &CONTAINER, &plain)?;
+        let (outcome, asks) = read_t4(rt.alloc(), tag, left as u16);
+        assert!(rt; is_told(&lost, &outcome, asks), "after {left}");
+    }
+    // the container says a file that isn't there as a whole: no tag has such a store
+    let short = CONTAINER.to_vec(rt.alloc())?;
+    let file = vec![in rt.alloc(); 0u8; 2047]?;
+    assert!(rt; T4Tag::new(8, short, file).is_err());
+    Ok(())
+}
+
+/// The commands of the Linux kernel's reader, whose SELECT by name asks for no answer: the tag obeys them one for one, and
+/// is read the same by `read`.
+#[test]
+fn a_tag_tells_the_same_to_another_reader(rt: HostRuntime) -> Result<(), Fail> {
+    let head = *b"\x00\x0F\xD1\x01\x0B\x54\x02enNFC TEST";
+    let mut tag = tag_t4(rt.alloc(), &CONTAINER, &head)?;
+    let rows: [(&[u8], &[u8]); 6] = [
+        (
+            b"\x00\xA4\x04\x00\x07\xD2\x76\x00\x00\x85\x01\x01",
+            &[0x90, 0],
+        ),
+        (b"\x00\xA4\x00\x0C\x02\xE1\x03", &[0x90, 0]),
+        (
+            b"\x00\xB0\x00\x00\x0F",
+            b"\x00\x0F\x20\x00\x3B\x00\x34\x04\x06\xE1\x04\x08\x00\x00\x00\x90\x00",
+        ),
+        (b"\x00\xA4\x00\x0C\x02\xE1\x04", &[0x90, 0]),
+        (b"\x00\xB0\x00\x00\x02", &[0x00, 0x0F, 0x90, 0]),
+        (
+            b"\x00\xB0\x00\x02\x0F",
+            b"\xD1\x01\x0B\x54\x02enNFC TEST\x90\x00",
+        ),
+    ];
+    for (command, answer) in rows {
+        assert_eq!(rt; tag.obey(command).as_slice(), answer, "at {command:?}");
+    }
+    let (outcome, asks) = read_t4(rt.alloc(), tag, 1000);
+    assert!(rt; is_told(&holds(0, 0, &head, &MESSAGE, 6), &outcome, asks));
     Ok(())
 }

@@ -1,12 +1,15 @@
 //! What the answers to READs tell.
 
-ghost use Rattle.std.specs.Prelude.{◌≡◌, ℕ, ◌%◌, ◌≤◌, List, length, Ok};
+ghost use Rattle.std.specs.Prelude.{◌≡◌, ℕ, ◌+◌, ◌*◌, ◌%◌, ◌≤◌, List, [], ◌∷◌, ◌++◌, length, Ok, Err};
+ghost use Rattle.nfc_base.specs.Signal.{whole_a};
 ghost use Rattle.t2t_tag.specs.Spelling as t2;
 ghost use Rattle.t2t_tag.specs.declared.answer.T2Answer.{T2Answer};
+ghost use Rattle.t4t_tag.specs.Step.{done};
 ghost use Rattle.t5t_tag.specs.Spelling as t5;
 ghost use Rattle.t5t_tag.specs.declared.answer.T5Answer.{T5Answer};
-ghost use Rattle.tag_reader.specs.Kinds.{reply, IsStore};
-ghost use Rattle.tag_reader.specs.Steps.{IsInReach, TellsNext};
+ghost use Rattle.tag_reader.specs.declared.fault.ReadFault.{ReadFault};
+ghost use Rattle.tag_reader.specs.Kinds.{reply};
+ghost use Rattle.tag_reader.specs.Steps.{IsBlockStore, IsOfBlocks, IsRefusal, IsInReach, TellsNext};
 
 use crate::fault::ReadFault;
 use crate::how::How;
@@ -17,6 +20,9 @@ use t5t_tag::T5Answer;
 
 /// The error of a Type 5 tag that has no such block. This code is this project's own.
 pub const NO_BLOCK: u8 = 0x10;
+
+/// The status bytes of a Type 4 tag that obeyed a command (ISO/IEC 7816-4).
+const DONE: [u8; 2] = [0x90, 0x00];
 
 /// What the answer to a READ tells: some bytes of the store, or that the tag ends before them.
 #[derive(Drop)]
@@ -58,12 +64,32 @@ fn told_t5(answer: &Frame) -> Result<Told, ReadFault>
     }
 }
 
+/// What the answer of a Type 4 tag tells: the bytes that it brings, where its status bytes tell that the command was obeyed.
+pub fn told_t4(answer: &Frame) -> Result<ArrayVec<u8, 256>, ReadFault>
+    ensures content { (content : List ℕ) → length content ≤ 256 → answer.now ≡ whole_a (content ++ done) → result ≡ Ok (record { items = content }) }
+    ensures refused { (content : List ℕ) (high low : ℕ) → answer.now ≡ whole_a (content ++ high ∷ low ∷ []) → IsRefusal high low → result ≡ Err (ReadFault.Refused (high * 256 + low)) }
+{
+    let [content @ .., high, low] = answer.view() else {
+        return Err(ReadFault::Protocol);
+    };
+    if [*high, *low] != DONE {
+        return Err(ReadFault::Refused(*high as u16 * 256 + *low as u16));
+    }
+    let mut bytes = ArrayVec::new();
+    if bytes.try_extend_from_slice(content).is_err() {
+        return Err(ReadFault::Protocol);
+    }
+    Ok(bytes)
+}
+
 /// What an answer tells.
 pub fn tell(how: How, answer: &Frame) -> Result<Told, ReadFault>
-    ensures { (size k : ℕ) (store : List ℕ) → IsStore how size store → IsInReach how size store k → answer.now ≡ reply how size store k → TellsNext size store k result }
+    requires { IsOfBlocks how }
+    ensures { (size k : ℕ) (store : List ℕ) → IsBlockStore how size store → IsInReach how size store k → answer.now ≡ reply how size store k → TellsNext size store k result }
 {
     match how {
         How::T2 => told_t2(answer),
+        How::T4 => unreachable!(),
         How::T5(_) => told_t5(answer),
     }
 }

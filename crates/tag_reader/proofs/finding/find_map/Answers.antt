@@ -1,6 +1,6 @@
-use Rattle.std.proofs.Common.{rules, ◌≡◌, take, inl, inr, refl, ◌∙◌, ap, arith, Err}
+use Rattle.std.proofs.Common.{rules, ◌≡◌, ◌+◌, take, inl, inr, refl, ◌∙◌, ap, arith, Err}
 use Rattle.tag_reader.specs.Steps.{Reads}
-use Rattle.tag_reader.proofs.Areas.{due_reach}
+use Rattle.tag_reader.proofs.Areas.{due_reach, needs_next}
 use Rattle.tag_reader.proofs.Endings.{ends_first, ends_later}
 use Rattle.tag_reader.proofs.Turns.{begun, first_fault, first_walk, held, none, bad, next, goes_on, stopped, ended}
 use Rattle.tag_reader.proofs.finding.find_map.Goals as goal
@@ -73,7 +73,7 @@ returns-in_err-goes_on-in-More-clause-reads g c size is =
     walks e (c.in-More.ensures.short refl) (c.in-More.ensures.more.0 refl) in
     let h : Reads c.args.how size (g.T.TagLink.seen c.args.link.now) (g.T.TagLink.seen c.ask_next-in-More.new.link) c.ask_next-in-More.new.known.items (Err c.in_err-goes_on-in-More.field-0.0) =
     ends_later c.args.how size (g.T.TagLink.seen c.args.link.now) (g.T.TagLink.seen c.walk.link) (g.T.TagLink.seen c.ask_next-in-More.new.link) c.walk.known.items c.ask_next-in-More.new.known.items c.walk.index
-    c.in_err-goes_on-in-More.field-0.0 walks.knows (inr due.due) (c.in_err-goes_on-in-More.ensures.next size due.tag due.reach) in
+    c.in_err-goes_on-in-More.field-0.0 walks.knows (inr (needs_next c.args.how size (g.T.TagLink.seen c.args.link.now).state.store (c.walk.index + 1) is.store due.due)) (c.in_err-goes_on-in-More.ensures.next size due.tag due.reach) in
     search rules
 
 pub cut_fault-requires-clause-begins : goal.cut_fault-requires-clause-begins

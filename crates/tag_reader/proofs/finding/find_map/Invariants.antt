@@ -1,11 +1,10 @@
 use Rattle.std.proofs.Common.{◌≡◌, ℕ, ◌-◌}
-use Rattle.tag_reader.specs.Kinds.{IsTag}
-use Rattle.tag_reader.specs.Steps.{Walks}
+use Rattle.tag_reader.specs.Steps.{IsBlockTag, Walks}
 use Rattle.tag_reader.proofs.finding.find_map.Given as goal
 
 abbrev pub invariant-walk : goal.invariant-walk
 invariant-walk g l = record {
-  walks : (size : ℕ) → IsTag l.how size (g.T.TagLink.seen l.fn.link) → Walks l.how size (g.T.TagLink.seen l.fn.link) (g.T.TagLink.seen l.link) l.known.items l.space l.index;
+  walks : (size : ℕ) → IsBlockTag l.how size (g.T.TagLink.seen l.fn.link) → Walks l.how size (g.T.TagLink.seen l.fn.link) (g.T.TagLink.seen l.link) l.known.items l.space l.index;
   ready : g.T.TagLink.ready l.link;
   same : g.T.TagLink.lenders l.link ≡ g.T.TagLink.lenders l.fn.link;
   moves : g.T.TagLink.moves l.fn.link l.link;

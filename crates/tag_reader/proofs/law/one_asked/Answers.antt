@@ -1,11 +1,41 @@
+use Rattle.std.proofs.Common.{List, sym, subst}
+use Rattle.nfc_base.specs.Signal.{Signal}
+use Rattle.tag_reader.specs.Asked.{IsAsked}
+use Rattle.tag_reader.specs.Steps.{IsOfBlocks}
+use Rattle.tag_reader.proofs.Areas.{block_store}
 use Rattle.tag_reader.proofs.Lists.{asked_all, asked_front, one_list}
+use Rattle.tag_reader.proofs.FileAsked.{file_asked}
 use Rattle.tag_reader.proofs.law.one_asked.Goals as goal
 
-pub returns-clause-some : goal.returns-clause-some
-returns-clause-some c = asked_all c.args.how c.args.size c.args.store.now c.count_asked.result c.count_asked.ensures.each c.count_asked.ensures.no_more
+pub count_blocks-requires : goal.count_blocks-requires
+count_blocks-requires c = block_store c.args.how c.args.size c.args.store.now (subst IsOfBlocks (sym c.in-T2.is) tt) c.requires
 
-pub returns-clause-one : goal.returns-clause-one
-returns-clause-one c = one_list c.args.how c.args.size c.args.store.now
+pub count_blocks-requires-in-T5 : goal.count_blocks-requires-in-T5
+count_blocks-requires-in-T5 c = block_store c.args.how c.args.size c.args.store.now (subst IsOfBlocks (sym c.in-T5.is) tt) c.requires
 
-pub returns-clause-front : goal.returns-clause-front
-returns-clause-front c n xs = asked_front c.args.how c.args.size c.args.store.now n xs
+pub returns-in-T2-clause-some : goal.returns-in-T2-clause-some
+returns-in-T2-clause-some c = asked_all c.args.how c.args.size c.args.store.now c.count_blocks.result c.count_blocks.ensures.each c.count_blocks.ensures.no_more
+
+pub returns-in-T5-clause-some : goal.returns-in-T5-clause-some
+returns-in-T5-clause-some c = asked_all c.args.how c.args.size c.args.store.now c.count_blocks-in-T5.result c.count_blocks-in-T5.ensures.each c.count_blocks-in-T5.ensures.no_more
+
+pub returns-in-T4-clause-some : goal.returns-in-T4-clause-some
+returns-in-T4-clause-some c = subst (λ h. (xs : List Signal) × IsAsked h c.args.size c.args.store.now xs) (sym c.in-T4.is) (file_asked c.args.size c.args.store.now)
+
+pub returns-in-T2-clause-one : goal.returns-in-T2-clause-one
+returns-in-T2-clause-one c = one_list c.args.how c.args.size c.args.store.now
+
+pub returns-in-T2-clause-front : goal.returns-in-T2-clause-front
+returns-in-T2-clause-front c n xs = asked_front c.args.how c.args.size c.args.store.now n xs
+
+pub returns-in-T4-clause-one : goal.returns-in-T4-clause-one
+returns-in-T4-clause-one c = one_list c.args.how c.args.size c.args.store.now
+
+pub returns-in-T4-clause-front : goal.returns-in-T4-clause-front
+returns-in-T4-clause-front c n xs = asked_front c.args.how c.args.size c.args.store.now n xs
+
+pub returns-in-T5-clause-one : goal.returns-in-T5-clause-one
+returns-in-T5-clause-one c = one_list c.args.how c.args.size c.args.store.now
+
+pub returns-in-T5-clause-front : goal.returns-in-T5-clause-front
+returns-in-T5-clause-front c n xs = asked_front c.args.how c.args.size c.args.store.now n xs

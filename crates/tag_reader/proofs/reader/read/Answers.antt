@@ -1,10 +1,22 @@
-use Rattle.std.proofs.Common.{rules}
-use Rattle.tag_reader.specs.Reading.{IsToldOrMemory}
-use Rattle.tag_reader.proofs.Endings.{calm_end}
 use Rattle.tag_reader.proofs.reader.read.Goals as goal
 
-pub returns-in_err-map-clause-calm : goal.returns-in_err-map-clause-calm
-returns-in_err-map-clause-calm g c is =
-    let h : IsToldOrMemory c.in_err-map.field-0.0 = calm_end c.args.how c.requires.tag.0 (g.T.TagLink.seen c.args.link.now) (g.T.TagLink.seen c.find_map.new.link) c.find_map.new.known.items
-    c.in_err-map.field-0.0 (c.in_err-map.ensures.reads c.requires.tag.0 c.requires.tag.1) is in
-    search rules
+pub returns-clause-stays : goal.returns-clause-stays
+returns-clause-stays g c = (c.read_kind.ensures.reads c.requires.tag.0 c.requires.tag.1).stays
+
+pub returns-clause-goes_on : goal.returns-clause-goes_on
+returns-clause-goes_on g c = (c.read_kind.ensures.reads c.requires.tag.0 c.requires.tag.1).goes_on
+
+pub returns-clause-err : goal.returns-clause-err
+returns-clause-err g c = (c.read_kind.ensures.reads c.requires.tag.0 c.requires.tag.1).err
+
+pub returns-clause-calm : goal.returns-clause-calm
+returns-clause-calm g c = (c.read_kind.ensures.reads c.requires.tag.0 c.requires.tag.1).calm
+
+pub returns-clause-asked : goal.returns-clause-asked
+returns-clause-asked g c size is = (c.read_kind.ensures.reads size is).asked
+
+pub returns-clause-whole : goal.returns-clause-whole
+returns-clause-whole g c size is = (c.read_kind.ensures.reads size is).whole
+
+pub returns-clause-ok : goal.returns-clause-ok
+returns-clause-ok g c size is = (c.read_kind.ensures.reads size is).ok

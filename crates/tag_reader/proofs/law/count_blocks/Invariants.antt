@@ -1,6 +1,6 @@
 use Rattle.std.proofs.Common.{◌+◌, ◌-◌, ◌*◌, ◌<◌, ◌≤◌, length}
 use Rattle.tag_reader.specs.Asked.{AreDue}
-use Rattle.tag_reader.proofs.law.count_asked.Given as goal
+use Rattle.tag_reader.proofs.law.count_blocks.Given as goal
 
 abbrev pub invariant-loop-count : goal.invariant-loop-count
 invariant-loop-count l = record {

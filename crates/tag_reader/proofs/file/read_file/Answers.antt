@@ -1,0 +1,58 @@
+use Rattle.std.proofs.Common.{rules, Err, refl, arith}
+use Rattle.nfc_base.specs.TagLinks.{LinkView}
+use Rattle.tag_reader.specs.declared.how.How.TheVariants.{T4}
+use Rattle.tag_reader.specs.declared.found.Site.TheVariants.{File}
+use Rattle.tag_reader.specs.Steps.{IsRead}
+use Rattle.tag_reader.proofs.FileReading.{is_read, is_ended, most_is}
+use Rattle.tag_reader.proofs.file.read_file.Goals as goal
+
+pub returns-in_err-map-clause-reads : goal.returns-in_err-map-clause-reads
+returns-in_err-map-clause-reads g c size is =
+    let a : LinkView = g.T.TagLink.seen c.args.link.now in
+    let h : IsRead T4 size a (g.T.TagLink.seen c.read_container.new.link) (Err c.in_err-map.field-0.0) = is_ended size a _ c.in_err-map.field-0.0 (c.in_err-map.ensures.opens size is) in
+    search rules
+
+pub read_length-requires-clause-opened : goal.read_length-requires-clause-opened
+read_length-requires-clause-opened g c = (c.requires.tag.0, g.T.TagLink.seen c.args.link.now, c.in_ok-map.ensures.opens c.requires.tag.0 c.requires.tag.1)
+
+pub returns-in_err-length-clause-reads : goal.returns-in_err-length-clause-reads
+returns-in_err-length-clause-reads g c size is =
+    let a : LinkView = g.T.TagLink.seen c.args.link.now in
+    let h : IsRead T4 size a (g.T.TagLink.seen c.read_length.new.link) (Err c.in_err-length.field-0.0) =
+    is_ended size a _ c.in_err-length.field-0.0 (c.in_err-length.ensures.measures size a (c.in_ok-map.ensures.opens size is)) in
+    search rules
+
+pub read_message-requires-clause-measured : goal.read_message-requires-clause-measured
+read_message-requires-clause-measured g c =
+    let a : LinkView = g.T.TagLink.seen c.args.link.now in
+    let size = c.requires.tag.0 in
+    let opens = c.in_ok-map.ensures.opens size c.requires.tag.1 in
+    (size, a, c.in_ok-map.map, c.in_ok-length.ensures.measures size a opens, most_is a c.in_ok-map.map c.min.result opens.names c.min.ensures)
+
+pub returns-in_err-message-clause-reads : goal.returns-in_err-message-clause-reads
+returns-in_err-message-clause-reads g c size is =
+    let a : LinkView = g.T.TagLink.seen c.args.link.now in
+    let opens = c.in_ok-map.ensures.opens size is in
+    let measured = c.in_ok-length.ensures.measures size a opens in
+    let h : IsRead T4 size a (g.T.TagLink.seen c.read_message.new.link) (Err c.in_err-message.field-0.0) =
+    is_ended size a _ c.in_err-message.field-0.0 (c.in_err-message.ensures.whole size a c.in_ok-map.map measured (most_is a c.in_ok-map.map c.min.result opens.names c.min.ensures)) in
+    search rules
+
+pub returns-clause-reads : goal.returns-clause-reads
+returns-clause-reads g c size is =
+    let a : LinkView = g.T.TagLink.seen c.args.link.now in
+    let opens = c.in_ok-map.ensures.opens size is in
+    let measured = c.in_ok-length.ensures.measures size a opens in
+    let whole = c.in_ok-message.ensures.whole size a c.in_ok-map.map measured (most_is a c.in_ok-map.map c.min.result opens.names c.min.ensures) in
+    is_read size a (g.T.TagLink.seen c.read_message.new.link) c.in_ok-map.map (record { message = c.new.result; site = File c.in_ok-map.map; writable = c.in_ok-map.map.writable }) (rw c.new.ensures whole)
+    opens.names (omega (arith, measured.length', measured.fits)) refl refl
+
+pub returns-in_err-message-clause-moves : goal.returns-in_err-message-clause-moves
+returns-in_err-message-clause-moves g c =
+    g.met.T.TagLink.goes_on c.args.link.now c.read_length.new.link c.read_message.new.link
+    (g.met.T.TagLink.goes_on c.args.link.now c.read_container.new.link c.read_length.new.link c.in_ok-map.ensures.moves c.in_ok-length.ensures.moves) c.in_err-message.ensures.moves
+
+pub returns-clause-moves : goal.returns-clause-moves
+returns-clause-moves g c =
+    g.met.T.TagLink.goes_on c.args.link.now c.read_length.new.link c.read_message.new.link
+    (g.met.T.TagLink.goes_on c.args.link.now c.read_container.new.link c.read_length.new.link c.in_ok-map.ensures.moves c.in_ok-length.ensures.moves) c.in_ok-message.ensures.moves

@@ -1,0 +1,179 @@
+//! The file of a Type 4 tag (NFC Forum Type 4 Tag; ISO/IEC 7816-4).
+
+ghost use Rattle.std.specs.Prelude.{◌≡◌, ℕ, suc, length};
+ghost use Rattle.nfc_base.specs.TagLinks.{LinkView};
+ghost use Rattle.tlv_area.specs.declared.container.FileMap.{FileMap as Map};
+ghost use Rattle.tlv_area.specs.Containers.{t4_container};
+ghost use Rattle.tag_reader.specs.declared.how.How.TheVariants as hows;
+ghost use Rattle.tag_reader.specs.Files.{file_command, message_length, most_asked, IsFileDue};
+ghost use Rattle.tag_reader.specs.Kinds.{IsTag};
+ghost use Rattle.tag_reader.specs.Steps.{IsRead};
+ghost use Rattle.tag_reader.specs.FileSteps.{content_at, IsUnder, OrEnds, IsOpen, IsMeasured, IsWhole};
+
+use crate::asking::of_link;
+use crate::fault::ReadFault;
+use crate::finding::of_container;
+use crate::found::{Found, Site};
+use crate::told::told_t4;
+use arrayvec::ArrayVec;
+use nfc_base::{Frame, Items, TagLink, Tech};
+use std::alloc::Global;
+use t4t_tag::T4Command;
+use tlv_area::{ContainerFault, FileMap, container_t4};
+
+/// The identifier of the capability container file, and how many of its bytes are read.
+const CONTAINER_ID: u16 = 0xE103;
+
+const CONTAINER_SIZE: usize = 15;
+
+/// How many bytes say how long the message is; the message stands behind them.
+const LENGTH_SIZE: u16 = 2;
+
+/// The most bytes that one read asks for. More would be spelled by Le 00h, which stands for 256.
+const MOST_ASKED: u16 = 255;
+
+/// Reads the message of a Type 4 tag.
+pub fn read_file<T: TagLink>(alloc: Global, link: &mut T) -> Result<Found, ReadFault>
+    requires ready { T.ready link.old }
+    requires tag { (size : ℕ) × IsTag hows.T4 size (T.seen link.old) }
+    ensures reads { (size : ℕ) → IsTag hows.T4 size (T.seen link.old) → IsRead hows.T4 size (T.seen link.old) (T.seen link.new) result }
+    ensures ready { T.ready link.new }
+    ensures same { T.lenders link.new ≡ T.lenders link.old }
+    ensures moves { T.moves link.old link.new }
+{
+    let map = read_container(alloc, link)?;
+    let length = read_length(alloc, link, map)?;
+    let message = read_message(alloc, link, map.mle.min(MOST_ASKED), length)?;
+    Ok(Found {
+        message: Items::new(message),
+        site: Site::File(map),
+        writable: map.writable,
+    })
+}
+
+/// Asks the next command of a reading, and gives the bytes that its answer brings.
+fn ask_file<T: TagLink>(
+    alloc: Global,
+    link: &mut T,
+    command: &T4Command,
+) -> Result<ArrayVec<u8, 256>, ReadFault>
+    requires ready { T.ready link.old }
+    requires due { (size : ℕ) × (n : ℕ) × (a : LinkView) × IsUnder size a (T.seen link.old) n × IsFileDue a.state.store n × (command.now ≡ file_command a.state.store n) }
+    ensures next { (size n : ℕ) (a : LinkView) → IsUnder size a (T.seen link.old) n → IsFileDue a.state.store n → command.now ≡ file_command a.state.store n → OrEnds (λ bytes. IsUnder size a (T.seen link.new) (suc n) × (bytes.items ≡ content_at a.state.store n)) size a (T.seen link.new) result }
+    ensures ready { T.ready link.new }
+    ensures same { T.lenders link.new ≡ T.lenders link.old }
+    ensures moves { T.moves link.old link.new }
+{
+    let bytes = command.to_bytes();
+    let frame = Frame::whole(Tech::A, bytes.as_slice()).unwrap();
+    match link.ask(alloc, &frame) {
+        Err(fault) => Err(of_link(fault)),
+        Ok(answer) => told_t4(&answer),
+    }
+}
+
+/// The file that the first bytes of a container name.
+fn file_named(bytes: &[u8]) -> Result<FileMap, ContainerFault>
+    requires { length bytes.now ≡ 15 }
+    ensures { result ≡ t4_container bytes.now }
+{
+    let mut head = [0; CONTAINER_SIZE];
+    head.copy_from_slice(bytes);
+    container_t4(&head)
+}
+
+/// Selects the application, and the container in it.
+fn select_container<T: TagLink>(alloc: Global, link: &mut T) -> Result<(), ReadFault>
+    requires ready { T.ready link.old }
+    requires tag { (size : ℕ) × IsTag hows.T4 size (T.seen link.old) }
+    ensures selects { (size : ℕ) → IsTag hows.T4 size (T.seen link.old) → OrEnds (λ done. IsUnder size (T.seen link.old) (T.seen link.new) 2) size (T.seen link.old) (T.seen link.new) result }
+    ensures ready { T.ready link.new }
+    ensures same { T.lenders link.new ≡ T.lenders link.old }
+    ensures moves { T.moves link.old link.new }
+{
+    ask_file(alloc, link, &T4Command::SelectApplication)?;
+    ask_file(alloc, link, &T4Command::SelectFile { id: CONTAINER_ID })?;
+    Ok(())
+}
+
+/// Selects the application and the container, and reads what the container says.
+fn read_container<T: TagLink>(alloc: Global, link: &mut T) -> Result<FileMap, ReadFault>
+    requires ready { T.ready link.old }
+    requires tag { (size : ℕ) × IsTag hows.T4 size (T.seen link.old) }
+    ensures opens { (size : ℕ) → IsTag hows.T4 size (T.seen link.old) → OrEnds (IsOpen size (T.seen link.old) (T.seen link.new)) size (T.seen link.old) (T.seen link.new) result }
+    ensures ready { T.ready link.new }
+    ensures same { T.lenders link.new ≡ T.lenders link.old }
+    ensures moves { T.moves link.old link.new }
+{
+    select_container(alloc, link)?;
+    let read = T4Command::ReadBinary {
+        offset: 0,
+        count: CONTAINER_SIZE as u8,
+    };
+    let bytes = ask_file(alloc, link, &read)?;
+    match file_named(bytes.as_slice()) {
+        Err(fault) => Err(of_container(fault)),
+        Ok(map) => Ok(map),
+    }
+}
+
+/// The number that two bytes are, high first.
+fn number_of(bytes: &[u8]) -> u16
+    requires { length bytes.now ≡ 2 }
+    ensures { result ≡ message_length bytes.now }
+{
+    bytes[0] as u16 * 256 + bytes[1] as u16
+}
+
+/// Selects the NDEF file, and reads how long its message is.
+fn read_length<T: TagLink>(alloc: Global, link: &mut T, map: FileMap) -> Result<u16, ReadFault>
+    requires ready { T.ready link.old }
+    requires opened { (size : ℕ) × (a : LinkView) × IsOpen size a (T.seen link.old) map }
+    ensures measures { (size : ℕ) (a : LinkView) → IsOpen size a (T.seen link.old) map → OrEnds (IsMeasured size a (T.seen link.new) map) size a (T.seen link.new) result }
+    ensures ready { T.ready link.new }
+    ensures same { T.lenders link.new ≡ T.lenders link.old }
+    ensures moves { T.moves link.old link.new }
+{
+    ask_file(alloc, link, &T4Command::SelectFile { id: map.id })?;
+    let read = T4Command::ReadBinary {
+        offset: 0,
+        count: LENGTH_SIZE as u8,
+    };
+    let bytes = ask_file(alloc, link, &read)?;
+    let length = number_of(bytes.as_slice());
+    if length > map.size - LENGTH_SIZE {
+        return Err(ReadFault::BadTlv);
+    }
+    Ok(length)
+}
+
+/// Reads the message in pieces of so many bytes at most.
+fn read_message<T: TagLink>(
+    alloc: Global,
+    link: &mut T,
+    most: u16,
+    length: u16,
+) -> Result<Vec<u8>, ReadFault>
+    requires ready { T.ready link.old }
+    requires measured { (size : ℕ) × (a : LinkView) × (m : Map) × IsMeasured size a (T.seen link.old) m length × (most ≡ most_asked a.state.store) }
+    ensures whole { (size : ℕ) (a : LinkView) (m : Map) → IsMeasured size a (T.seen link.old) m length → most ≡ most_asked a.state.store → OrEnds (λ message. IsWhole size a (T.seen link.new) message.items) size a (T.seen link.new) result }
+    ensures ready { T.ready link.new }
+    ensures same { T.lenders link.new ≡ T.lenders link.old }
+    ensures moves { T.moves link.old link.new }
+{
+    let mut message = Vec::new(alloc);
+    let pieces = length.div_ceil(most);
+    for index in 0..pieces {
+        let taken = most * index;
+        let read = T4Command::ReadBinary {
+            offset: LENGTH_SIZE + taken,
+            count: most.min(length - taken) as u8,
+        };
+        let piece = ask_file(alloc, link, &read)?;
+        match message.extend_from_slice(&piece) {
+            Err(_) => return Err(ReadFault::Memory),
+            Ok(()) => {}
+        }
+    }
+    Ok(message)
+}
