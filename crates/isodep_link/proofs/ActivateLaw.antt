@@ -13,7 +13,7 @@ use Rattle.nfc_base.specs.TagLinks.{TagState}
 use Rattle.air_core.specs.declared.fault.AirFault.TheVariants as air
 use Rattle.air_core.specs.Joint.{joint, same_tech}
 use Rattle.air_core.specs.World.{World, hears, answered_by, stepped_by, quiet_air}
-use Rattle.air_core.specs.Conversation.{note, replay, turn_events, first_fate, later_fates}
+use Rattle.air_core.specs.Conversation.{Note, Got, note, replay, turn_events, first_fate, later_fates}
 use Rattle.air_core.specs.Turn.{Air, world, moment, TurnIs, Transmits}
 use Rattle.air_core.specs.Turning.{going_start, going_turn}
 use Rattle.air_core.specs.Quiet.{EachQuiet, QuietTurn}
@@ -70,7 +70,8 @@ module _ {L : Type 0} (k : Ghosts L) (laws : Laws k) (card : L → CardState) (t
   abbrev pub After : Air L → ℕ → Option Heard → Type 0
   After new bad None = RatsSent k card tag old new (Broken ask.FieldLost (rats ∷ [])) × (new.lit ≡ false)
   After new bad (Some (Whole g)) =
-      (n : ℕ) × (g ≡ ats) × RatsSent k card tag old new (Asking 0 []) × (new.lit ≡ true) × IsAlone k (k.identifier l) new.listeners place (heard_times k l rats (suc n))
+      (n : ℕ) × (g ≡ ats) × (sent : RatsSent k card tag old new (Asking 0 [])) × (new.lit ≡ true) × IsAlone k (k.identifier l) new.listeners place (heard_times k l rats (suc n))
+      × (before : List Note) × (sent.notes ≡ before ++ Got (Whole g) ∷ [])
   After new bad (Some (Collided g)) = On new (suc bad)
   After new bad (Some Damaged) = On new (suc bad)
   After new bad (Some Silent) = On new (suc bad)
@@ -113,7 +114,8 @@ module _ {L : Type 0} (k : Ghosts L) (laws : Laws k) (card : L → CardState) (t
       finish : (x y : Fate) → QuietTurn k.machine mid rats far (tag_heard x y (Some ats)) new far'
           → new.lit ≡ (replay (quiet_air k.machine) (world mid) (tag_events rats x y (Some ats))).lit
           → IsAlone k (k.identifier l) new.listeners place (left_by k laws card tag now rats x y (Some ats)) → After new bad (tag_heard x y (Some ats))
-      finish Pass Pass q lit alone = (o.heard, refl, sent_on (Some (Whole ats)) q (Asking 0 []) refl, lit ∙ q.lit, alone)
+      unfolding sent_on
+      finish Pass Pass q lit alone = (o.heard, refl, sent_on (Some (Whole ats)) q (Asking 0 []) refl, lit ∙ q.lit, alone, o.sent.notes, refl)
       finish Pass Damage q lit alone = bad_on (Some Damaged) q refl (suc o.heard) alone (lit ∙ q.lit)
       finish Pass Lose q lit alone = bad_on (Some Silent) q refl (suc o.heard) alone (lit ∙ q.lit)
       finish Pass Break q lit alone = (sent_on None q (Broken ask.FieldLost (rats ∷ [])) refl, lit)
@@ -164,7 +166,7 @@ module _ {L : Type 0} (k : Ghosts L) (laws : Laws k) (card : L → CardState) (t
 
   -- ATS came: the tag is activated
   pub rats_done : (new : Air L) (bad : ℕ) (g : Signal) → After new bad (Some (Whole g)) → (c : ℕ) → ats_code g ≡ Some c → RatsEnds k card tag old new place (Ok c)
-  rats_done new bad g (n, e, sent, lit, alone) c q =
+  rats_done new bad g (n, e, sent, lit, alone, before, last) c q =
       let x : L = heard_times k l rats (suc n) in
       let same : c ≡ t.takes.code = (let z : Some c ≡ Some t.takes.code = sym q ∙ ap ats_code e ∙ ats_read t.takes.code t.takes.small in cc) in
       let own : k.identifier x ≡ k.identifier l = (heard_same k laws l rats (suc n)).1 in
@@ -183,8 +185,8 @@ module _ {L : Type 0} (k : Ghosts L) (laws : Laws k) (card : L → CardState) (t
         holds = t.takes.tag_is n;
         replays = t.takes.replays n;
       } in
-      (sent, lit, subst (λ (z : ℕ). IsActivated k card tag new place (waiting z)) (sym same) ready)
+      (sent, lit, subst (λ (z : ℕ). IsActivated k card tag new place (waiting z)) (sym same) ready, (before, g, last, q))
 
   -- own cards never answer RATS otherwise
   pub rats_never : (new : Air L) (bad : ℕ) (g : Signal) → After new bad (Some (Whole g)) → ats_code g ≡ None → ⊥
-  rats_never new bad g (n, e, sent, lit, alone) q = let z : None ≡ Some t.takes.code = sym q ∙ ap ats_code e ∙ ats_read t.takes.code t.takes.small in absurd (cc)
+  rats_never new bad g (n, e, sent, lit, alone, before, last) q = let z : None ≡ Some t.takes.code = sym q ∙ ap ats_code e ∙ ats_read t.takes.code t.takes.small in absurd (cc)

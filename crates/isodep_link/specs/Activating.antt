@@ -1,5 +1,5 @@
 -- How a reader activates a Type 4 tag by RATS (ISO/IEC 14443-4; NFC Forum Digital Protocol).
-use Rattle.std.specs.Prelude.{◌≡◌, ◌⊎◌, ℕ, suc, ◌%◌, ◌≤◌, ◌==◌, ◌&&◌, nat_lt, List, [], ◌∷◌, length, slice_index, true, false, if◌then◌else◌, Option, Some, None, Result, Ok, Err}
+use Rattle.std.specs.Prelude.{◌≡◌, ◌⊎◌, ℕ, suc, ◌%◌, ◌≤◌, ◌==◌, ◌&&◌, nat_lt, List, [], ◌∷◌, ◌++◌, length, slice_index, true, false, if◌then◌else◌, Option, Some, None, Result, Ok, Err}
 use Rattle.nfc_base.specs.declared.frame.Tech.TheVariants.{A}
 use Rattle.nfc_base.specs.Signal.{Signal, whole_a}
 use Rattle.nfc_base.specs.Far.{Untouched}
@@ -8,7 +8,8 @@ use Rattle.nfc_base.specs.declared.tag_link.AskFault.{AskFault}
 use Rattle.nfc_base.specs.declared.tag_link.AskFault.TheVariants.{FieldLost, SixBad, Memory, Protocol}
 use Rattle.air_core.specs.World.{quiet_air}
 use Rattle.air_core.specs.Turn.{Air, moment}
-use Rattle.air_core.specs.Conversation.{Note, Going}
+use Rattle.nfc_base.specs.declared.event.Heard.TheVariants.{Whole}
+use Rattle.air_core.specs.Conversation.{Note, Got, Going}
 use Rattle.air_core.specs.Waits.{Standing, Asking, Broken, stand, waits_next}
 use Rattle.air_core.specs.PlainTags.{heard_times, IsAlone}
 use Rattle.air_core.specs.declared.listener.Listener.{Ghosts}
@@ -37,6 +38,10 @@ ats_code f =
     if is_whole_a f && nat_lt 0 (length f.bytes) && (slice_index f.bytes 0 == length f.bytes)
     then Some (if length f.bytes == 1 then default_code else slice_index f.bytes 1 % 16)
     else None
+
+-- the last that was heard is an answer to RATS that tells this code
+abbrev pub TellsCode : List Note → ℕ → Type 0
+TellsCode ns code = (before : List Note) × (f : Signal) × (ns ≡ before ++ Got (Whole f) ∷ []) × (ats_code f ≡ Some code)
 
 module _ {L : Type 0} (k : Ghosts L) (card : L → CardState) (tag : L → TagState) where
   -- A selected listener is a Type 4 tag that nothing was asked of: however often it hears RATS in a row it answers ATS of its
@@ -75,7 +80,8 @@ module _ {L : Type 0} (k : Ghosts L) (card : L → CardState) (tag : L → TagSt
 
   -- how the wait of RATS ends
   abbrev pub RatsEnds : Air L → Air L → ℕ → Result ℕ AskFault → Type 0
-  RatsEnds old new place (Ok code) = RatsSent old new (Asking 0 []) × (new.lit ≡ true) × IsActivated new place (waiting code)
+  RatsEnds old new place (Ok code) =
+      (sent : RatsSent old new (Asking 0 [])) × (new.lit ≡ true) × IsActivated new place (waiting code) × TellsCode sent.notes code
   RatsEnds old new place (Err FieldLost) = ((old.lit ≡ false) × (new ≡ old)) ⊎ (RatsSent old new (Broken FieldLost (rats ∷ [])) × (new.lit ≡ false))
   RatsEnds old new place (Err SixBad) = RatsSent old new (Broken SixBad (rats ∷ []))
   RatsEnds old new place (Err Memory) = (bad : ℕ) × RatsSent old new (Asking bad (rats ∷ []))

@@ -22,3 +22,4 @@ pub use card::{CardEnd, CardStep};
 pub use link::IsoLink;
 pub use listener::CardListener;
 pub use reader::{ReaderEnd, ReaderStep};
+pub use size::is_rats;

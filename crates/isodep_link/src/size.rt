@@ -1,7 +1,7 @@
 //! How long blocks are, and RATS and ATS, by which the ends tell it.
 
 ghost use Rattle.std.specs.Prelude.{◌≡◌, ◌<◌, ◌≤◌};
-ghost use Rattle.isodep_link.specs.Sizes.{piece_size, rats_code, ats_frame};
+ghost use Rattle.isodep_link.specs.Sizes.{piece_size, is_rats, rats_code, ats_frame};
 
 use nfc_base::{Frame, Tech};
 
@@ -36,18 +36,26 @@ pub(crate) fn piece_size(code: u8) -> usize
     block - AROUND
 }
 
+/// Whether a frame is RATS, which opens a link to a Type 4 tag (ISO/IEC 14443-4). Whoever holds a `CardEnd` hands it all frames
+/// from there on.
+pub fn is_rats(frame: &Frame) -> bool
+    ensures { result ≡ is_rats frame.now }
+{
+    if frame.tech() != Tech::A || frame.tail() != 0 {
+        return false;
+    }
+    let bytes = frame.view();
+    bytes.len() == 2 && bytes[0] == RATS
+}
+
 /// The reader's size code, where the frame is RATS.
 pub(crate) fn rats_code(frame: &Frame) -> Option<u8>
     ensures { result ≡ rats_code frame.now }
 {
-    if frame.tech() != Tech::A || frame.tail() != 0 {
+    if !is_rats(frame) {
         return None;
     }
-    let bytes = frame.view();
-    if bytes.len() != 2 || bytes[0] != RATS {
-        return None;
-    }
-    Some(bytes[1] / 16)
+    Some(frame.view()[1] / 16)
 }
 
 /// ATS of a card with this size code: two bytes.

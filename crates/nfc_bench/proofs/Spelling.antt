@@ -7,13 +7,13 @@ use Rattle.nfc_base.specs.declared.event.Fate.TheVariants.{Pass, Damage, Lose, B
 use Rattle.hex.specs.Hex.{decode_of}
 use Rattle.hex.proofs.HexLemmas.{decode_of-same}
 use Rattle.nfc_bench.specs.declared.command.Command.{Command}
-use Rattle.nfc_bench.specs.declared.command.Command.TheVariants.{Skip, Fates, PlaceT2, PlaceT5, Remove, Find, Read}
+use Rattle.nfc_bench.specs.declared.command.Command.TheVariants.{Skip, Fates, PlaceT2, PlaceT4, PlaceT5, Remove, Find, Read}
 use Rattle.nfc_bench.specs.declared.command.DeviceId.{DeviceId}
 use Rattle.nfc_bench.specs.declared.command.DeviceId.TheVariants.{A, V}
 use Rattle.nfc_bench.specs.declared.script.words.CommandName.{CommandName}
 use Rattle.nfc_bench.specs.declared.script.words.CommandName.TheVariants as names
 use Rattle.nfc_bench.specs.Words.{name_text}
-use Rattle.nfc_bench.specs.Script.{words_of, onto_first, is_skipped, SpellsHex, SpellsIdent, SpellsIdV, SpellsId, SpellsBlocks, SpellsSize, fate_letter, SpellsFates, SpelledBy, Spells, least_blocks, least_blocks_v}
+use Rattle.nfc_bench.specs.Script.{words_of, onto_first, is_skipped, SpellsHex, SpellsIdent, SpellsIdV, SpellsId, SpellsBlocks, SpellsSize, SpellsCode, fate_letter, SpellsFates, SpelledBy, Spells, least_blocks, least_blocks_v}
 use Rattle.nfca_poll.specs.Ident.{IsIdent}
 use Rattle.t5t_tag.specs.Store.{IsBlockSize}
 use Rattle.nfc_bench.proofs.Words.{eq_false}
@@ -58,6 +58,9 @@ size_small n (inr (inr (inr e))) = omega arith
 
 pub size_one : (w : List ℕ) (m n : ℕ) → SpellsSize w m → SpellsSize w n → m ≡ n
 size_one w m n p q = decimal_injective m n (let h : m ≤ 32 = size_small m p.1 in omega arith) (let h : n ≤ 32 = size_small n q.1 in omega arith) (sym p.0 ∙ q.0)
+
+pub code_one : (w : List ℕ) (m n : ℕ) → SpellsCode w m → SpellsCode w n → m ≡ n
+code_one w m n p q = decimal_injective m n (let h : m ≤ 8 = p.1 in omega arith) (let h : n ≤ 8 = q.1 in omega arith) (sym p.0 ∙ q.0)
 
 -- no two fates have one letter
 letter_one : (a b : Fate) → fate_letter a ≡ fate_letter b → a ≡ b
@@ -105,6 +108,16 @@ spelled_one ws (PlaceT2 i m g) (PlaceT2 j n h) (u, v, w, e, p, r, s) (u', v', w'
     let numbers : m ≡ n = blocks_one least_blocks v' m n (let P : List ℕ → Type 0 = λ t. SpellsBlocks least_blocks t m in subst P second r) r' in
     let heads : g ≡ h = hex_one w' g h (let P : List ℕ → Type 0 = λ t. SpellsHex t g in subst P third s) s' in
     cc
+spelled_one ws (PlaceT4 i m k g) (PlaceT4 j n l h) (u, v, w, x, e, p, r, t, s) (u', v', w', x', e', p', r', t', s') =
+    let first : u ≡ u' = cc in
+    let second : v ≡ v' = cc in
+    let third : w ≡ w' = cc in
+    let fourth : x ≡ x' = cc in
+    let ids : i ≡ j = ident_one u' i j (let P : List ℕ → Type 0 = λ t. SpellsIdent t i in subst P first p) p' in
+    let numbers : m ≡ n = code_one v' m n (let P : List ℕ → Type 0 = λ t. SpellsCode t m in subst P second r) r' in
+    let containers : k ≡ l = hex_one w' k l (let P : List ℕ → Type 0 = λ t. SpellsHex t k in subst P third t) t' in
+    let heads : g ≡ h = hex_one x' g h (let P : List ℕ → Type 0 = λ t. SpellsHex t g in subst P fourth s) s' in
+    cc
 spelled_one ws (PlaceT5 i m k g) (PlaceT5 j n l h) (u, v, w, x, e, p, r, t, s) (u', v', w', x', e', p', r', t', s') =
     let first : u ≡ u' = cc in
     let second : v ≡ v' = cc in
@@ -124,6 +137,7 @@ pub nameless : (w : List ℕ) (ws : List (List ℕ)) → ((n : CommandName) → 
 nameless w ws none some Skip p = p
 nameless w ws none some (Fates fates) (f, e, p) = none names.Fates (let h : w ≡ codes "fates" = cc in h)
 nameless w ws none some (PlaceT2 id n head) (i, b, d, e, p, q, r) = none names.Place (let h : w ≡ codes "place" = cc in h)
+nameless w ws none some (PlaceT4 id n k head) (i, b, s, d, e, p, q, t, r) = none names.Place (let h : w ≡ codes "place" = cc in h)
 nameless w ws none some (PlaceT5 id n k head) (i, b, s, d, e, p, q, t, r) = none names.Place (let h : w ≡ codes "place" = cc in h)
 nameless w ws none some (Remove id) (i, e, p) = none names.Remove (let h : w ≡ codes "remove" = cc in h)
 nameless w ws none some Find e = some (let h : ws ≡ [] = cc in h)
@@ -147,6 +161,15 @@ four_refused ws i b s h e none (PlaceT5 id n k head) (i', b', s', h', e', p, q, 
 four_refused ws i b s h e none Skip p = p
 four_refused ws i b s h e none c p = cc
 
+-- and so for a Type 4 tag, of whose words the last two are HEX
+pub heads_refused : (ws : List (List ℕ)) (i b s h : List ℕ) → ws ≡ i ∷ b ∷ s ∷ h ∷ [] → ((bytes : List ℕ) → SpellsHex h bytes → ⊥)
+    → (c : Command) → SpelledBy (codes "place" ∷ codes "t4" ∷ ws) c → ⊥
+heads_refused ws i b s h e none (PlaceT4 id n k head) (i', b', s', h', e', p, q, t, r) =
+    let same : h' ≡ h = cc in
+    none head (let P : List ℕ → Type 0 = λ t. SpellsHex t head in subst P same r)
+heads_refused ws i b s h e none Skip p = p
+heads_refused ws i b s h e none c p = cc
+
 -- a line that is skipped spells nothing else
 first_byte : List (List ℕ) → ℕ
 first_byte [] = 0
@@ -163,6 +186,7 @@ unfolding first_byte
 hash_begins_none ws Skip p h = p
 hash_begins_none ws (Fates fates) (f, e, p) h = omega (arith, h, ap first_byte e)
 hash_begins_none ws (PlaceT2 id n head) (i, b, d, e, p, q, r) h = omega (arith, h, ap first_byte e)
+hash_begins_none ws (PlaceT4 id n k head) (i, b, s, d, e, p, q, t, r) h = omega (arith, h, ap first_byte e)
 hash_begins_none ws (PlaceT5 id n k head) (i, b, s, d, e, p, q, t, r) h = omega (arith, h, ap first_byte e)
 hash_begins_none ws (Remove id) (i, e, p) h = omega (arith, h, ap first_byte e)
 hash_begins_none ws Find e h = omega (arith, h, ap first_byte e)

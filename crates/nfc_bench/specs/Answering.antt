@@ -4,7 +4,7 @@ use Rattle.nfc_base.specs.Signal.{Signal}
 use Rattle.nfc_base.specs.Trace.{noise, breaks}
 use Rattle.nfc_base.specs.declared.event.Event.{Event}
 use Rattle.nfc_base.specs.declared.tag_link.AskFault.TheVariants as asking
-use Rattle.air_core.specs.Conversation.{receptions}
+use Rattle.air_core.specs.Conversation.{Note, receptions}
 use Rattle.air_core.specs.Waits.{Standing, Asking, Broken, Astray, stand}
 use Rattle.nfca_poll.specs.declared.fault.Picked.{Picked}
 use Rattle.nfca_poll.specs.declared.fault.PollFault.{PollFault}
@@ -20,6 +20,10 @@ use Rattle.nfc_bench.specs.declared.command.DeviceId.TheVariants.{A, V}
 use Rattle.nfc_bench.specs.declared.device.Device.{Device}
 use Rattle.nfc_bench.specs.declared.entry.Answer.{Answer}
 use Rattle.nfc_bench.specs.declared.entry.Answer.TheVariants as answers
+use Rattle.nfc_bench.specs.declared.entry.SeenKind.{SeenKind}
+use Rattle.nfc_bench.specs.declared.entry.SeenKind.TheVariants as seen
+use Rattle.isodep_link.specs.Asking as exchange
+use Rattle.nfc_bench.specs.CardAsking.{CardStanding, Activates, Exchanges, card_stands}
 use Rattle.nfc_bench.specs.Polling.{Told, bytes_of, follows, selecting}
 use Rattle.nfc_bench.specs.Crowded.{crowd_of, others_of, seen_all, is_crowd}
 use Rattle.nfc_bench.specs.Placed.{device_with, OfPlaced}
@@ -46,7 +50,7 @@ IsGivenUp (A id) es = GivesUp es
 IsGivenUp (V id) es = ⊥
 
 -- why selecting a device ended so, by the devices that are placed and the events of it
-abbrev pub HasPollCause : DeviceId → List Device → Result (Unit {0}) PollFault → List Event → Type 0
+abbrev pub HasPollCause : DeviceId → List Device → Result SeenKind PollFault → List Event → Type 0
 HasPollCause id ds (Ok x) es = Unit {0}
 HasPollCause id ds (Err faults.Nobody) es = ⊥
 HasPollCause id ds (Err faults.Disturbed) es = IsGivenUp id es
@@ -66,9 +70,30 @@ TellsStanding Tells (Broken asking.Memory cs) answer = ⊥
 TellsStanding Tells (Broken asking.Protocol cs) answer = ⊥
 TellsStanding Tells Astray answer = ⊥
 
+-- Likewise of a Type 4 tag, whose activation is a wait too.
+abbrev pub TellsExchange : (Answer → Type 0) → exchange.Standing → Answer → Type 0
+TellsExchange Tells (exchange.Waits i f cs) answer = ⊥
+TellsExchange Tells (exchange.Rests i) answer = Tells answer
+TellsExchange Tells (exchange.Broken asking.FieldLost) answer = answer ≡ answers.FieldLost
+TellsExchange Tells (exchange.Broken asking.SixBad) answer = answer ≡ answers.SixBad
+TellsExchange Tells (exchange.Broken asking.Memory) answer = ⊥
+TellsExchange Tells (exchange.Broken asking.Protocol) answer = ⊥
+TellsExchange Tells exchange.Astray answer = ⊥
+
+abbrev pub TellsCard : (Answer → Type 0) → CardStanding → Answer → Type 0
+TellsCard Tells (Activates bad) answer = ⊥
+TellsCard Tells (Exchanges s) answer = TellsExchange Tells s answer
+
+-- what a read answers of a tag that is seen to be of this kind, by what was heard since it was selected
+abbrev pub TellsBy : SeenKind → (Answer → Type 0) → List Signal → List Note → Answer → Type 0
+TellsBy seen.T2 Tells asked ns answer = TellsStanding Tells (stand 0 asked ns) answer
+TellsBy seen.T4 Tells asked ns answer = TellsCard Tells (card_stands asked ns) answer
+TellsBy seen.T5 Tells asked ns answer = TellsStanding Tells (stand 0 asked ns) answer
+TellsBy seen.Peer Tells asked ns answer = ⊥
+
 -- What a read answers, by how selecting its tag ended and what happened since.
-abbrev pub ReadEnds : DeviceId → List Device → List Signal → Result (Unit {0}) PollFault → List Event → Answer → Type 0
-ReadEnds id ds asked (Ok x) es answer = TellsStanding (λ a. OfPlaced (λ d. TellsOf d a) (device_with (bytes_of id) ds)) (stand 0 asked (receptions es)) answer
+abbrev pub ReadEnds : DeviceId → List Device → List Signal → Result SeenKind PollFault → List Event → Answer → Type 0
+ReadEnds id ds asked (Ok kind) es answer = TellsBy kind (λ a. OfPlaced (λ d. TellsOf d a) (device_with (bytes_of id) ds)) asked (receptions es) answer
 ReadEnds id ds asked (Err e) es answer = (es ≡ []) × (poll_answer e ≡ Some answer)
 
 -- The law of a read, over the devices that are placed: first it selects, then it asks what it asks of the tag. The field is
@@ -77,7 +102,7 @@ pub record ReadTells (id : DeviceId) (ds : List Device) (asked : List Signal) (e
   pub first : List Event
   pub rest : List Event
   pub parts : events ≡ first ++ rest
-  pub polled : Result (Unit {0}) PollFault
+  pub polled : Result SeenKind PollFault
   pub selected : selecting id (receptions first) ≡ Told polled []
   pub cause : HasPollCause id ds polled first
   pub ends : ReadEnds id ds asked polled rest answer

@@ -1,7 +1,6 @@
 -- The devices that stand in the bench's field, as a search tells of them: those of NFC-A in crowd order, and the Type 5 tag, or
 -- that there are several.
 use Rattle.std.specs.Prelude.{ℕ, List, [], ◌∷◌, ◌++◌, map, Bool, true, false, filter_map, Option, Some, None}
-use Rattle.nfca_poll.specs.declared.kind.Kind.{Kind}
 use Rattle.nfca_poll.specs.declared.kind.Kind.TheVariants as kinds
 use Rattle.nfca_poll.specs.declared.fault.Picked.{Picked}
 use Rattle.nfca_poll.specs.declared.inventory.Vcrowd.{Vcrowd}
@@ -10,19 +9,20 @@ use Rattle.nfca_poll.specs.Crowd.{Card}
 use Rattle.nfca_poll.specs.RoundEnds.{crowd}
 use Rattle.nfc_bench.specs.declared.command.DeviceId.TheVariants as ids
 use Rattle.nfc_bench.specs.declared.device.Device.{Device}
-use Rattle.nfc_bench.specs.declared.device.Device.TheVariants.{T2, T5}
+use Rattle.nfc_bench.specs.declared.device.Device.TheVariants.{T2, T4, T5}
 use Rattle.nfc_bench.specs.declared.entry.Seen.{Seen}
-use Rattle.nfc_bench.specs.declared.entry.SeenKind.{SeenKind}
 use Rattle.nfc_bench.specs.declared.entry.SeenKind.TheVariants as seen
-use Rattle.nfc_bench.specs.Polling.{Everybody}
+use Rattle.nfc_bench.specs.Polling.{Everybody, seen_kind}
 
 -- an NFC-A device, and the identifier of an NFC-V one
 abbrev pub card_if : Device → Option Card
 card_if (T2 d) = Some (record { id = d.id; kind = kinds.T2; front = d.front })
+card_if (T4 d) = Some (record { id = d.id; kind = kinds.T4; front = d.front })
 card_if (T5 p) = None
 
 abbrev pub v_if : Device → Option (List ℕ)
 v_if (T2 d) = None
+v_if (T4 d) = None
 v_if (T5 p) = Some p.tag.id
 
 -- the NFC-A devices that stand in the field, in crowd order
@@ -37,11 +37,6 @@ inventory_of (id ∷ other ∷ more) = inventories.Crowd
 
 abbrev pub others_of : List Device → Vcrowd
 others_of ds = inventory_of (filter_map v_if ds)
-
-abbrev pub seen_kind : Kind → SeenKind
-seen_kind kinds.T2 = seen.T2
-seen_kind kinds.T4 = seen.T4
-seen_kind kinds.Peer = seen.Peer
 
 abbrev pub seen_card : Picked → Seen
 seen_card p = record { id = ids.A p.id; kind = seen_kind p.kind }

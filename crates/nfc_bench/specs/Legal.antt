@@ -6,17 +6,19 @@ use Rattle.nfc_base.specs.declared.event.Fate.{Fate}
 use Rattle.nfc_base.specs.Signal.{Signal}
 use Rattle.air_core.specs.World.{World, quiet_air}
 use Rattle.air_core.specs.Conversation.{AirModel, Note, Next, Over, receptions, replay, queue_after, AreTurns, FatesFrom, EachDue}
-use Rattle.air_core.specs.Waits.{waits_next}
 use Rattle.t2t_tag.specs.Store.{IsT2Store}
+use Rattle.t4t_tag.specs.Store.{IsT4Store, file_size}
 use Rattle.t5t_tag.specs.Store.{IsT5Store}
 use Rattle.nfc_bench.specs.declared.command.Command.{Command}
-use Rattle.nfc_bench.specs.declared.command.Command.TheVariants.{Skip, Fates, PlaceT2, PlaceT5, Remove, Find, Read}
+use Rattle.nfc_bench.specs.declared.command.Command.TheVariants.{Skip, Fates, PlaceT2, PlaceT4, PlaceT5, Remove, Find, Read}
 use Rattle.nfc_bench.specs.declared.command.DeviceId.{DeviceId}
 use Rattle.nfc_bench.specs.declared.device.Device.{Device}
 use Rattle.nfc_bench.specs.declared.entry.Answer.{Answer}
 use Rattle.nfc_bench.specs.declared.entry.Answer.TheVariants as answers
 use Rattle.nfc_bench.specs.declared.entry.Entry.{Entry}
-use Rattle.nfc_bench.specs.Device.{devices, device_store, new_t2, new_t5}
+use Rattle.nfc_bench.specs.Device.{devices, device_store, new_t2, new_t4, new_t5}
+use Rattle.nfc_bench.specs.declared.entry.SeenKind.{SeenKind}
+use Rattle.nfc_bench.specs.CardAsking.{tag_next}
 use Rattle.nfc_bench.specs.Polling.{Followed, Asks, Told, bytes_of, asks, selecting, finding_all}
 use Rattle.nfc_bench.specs.Placed.{device_with, without, IfPlaced}
 use Rattle.nfc_bench.specs.Reading.{AsksOf}
@@ -54,6 +56,13 @@ pub record MayPlaceT2 (s : State) (id : List ℕ) (blocks : ℕ) (head : List �
   pub fits : length head ≤ 4 * blocks
   pub store : IsT2Store (memory_of (4 * blocks) head)
 
+-- A Type 4 tag may be placed: the given bytes fit into the NDEF file, which is as long as the container says, and its store
+-- is one of a tag.
+pub record MayPlaceT4 (s : State) (id : List ℕ) (code : ℕ) (container head : List ℕ) : Type 0 where
+  pub free : IsFree s id
+  pub fits : length head ≤ file_size container
+  pub store : IsT4Store code container (memory_of (file_size container) head)
+
 -- A Type 5 tag may be placed: likewise.
 pub record MayPlaceT5 (s : State) (id : List ℕ) (blocks size : ℕ) (head : List ℕ) : Type 0 where
   pub free : IsFree s id
@@ -69,6 +78,7 @@ abbrev pub IsAccepted : State → Command → Type 0
 IsAccepted s Skip = Unit {0}
 IsAccepted s (Fates fates) = Unit {0}
 IsAccepted s (PlaceT2 id blocks head) = MayPlaceT2 s id blocks head
+IsAccepted s (PlaceT4 id code container head) = MayPlaceT4 s id code container head
 IsAccepted s (PlaceT5 id blocks size head) = MayPlaceT5 s id blocks size head
 IsAccepted s (Remove id) = IsPlaced s id
 IsAccepted s Find = Unit {0}
@@ -86,6 +96,7 @@ without_device s id = record { world = record { lit = s.world.lit; listeners = w
 abbrev pub changed : State → Command → State
 changed s (Fates fates) = record { world = s.world; queue = s.queue ++ fates }
 changed s (PlaceT2 id blocks head) = with_device s (new_t2 id (memory_of (4 * blocks) head))
+changed s (PlaceT4 id code container head) = with_device s (new_t4 id code container (memory_of (file_size container) head))
 changed s (PlaceT5 id blocks size head) = with_device s (new_t5 id size (memory_of (size * blocks) head))
 changed s (Remove id) = without_device s id
 changed s c = s
@@ -95,10 +106,10 @@ abbrev pub IsAskedBy : State → Command → List Signal → Type 0
 IsAskedBy s (Read id) asked = IfPlaced (λ d. AsksOf d asked) (asked ≡ []) (device_with (bytes_of id) s.world.listeners)
 IsAskedBy s c asked = asked ≡ []
 
--- a command that selects a tag, and then asks these commands of it
-abbrev pub then_asks : {X : Type 0} → List Signal → Followed X → Next
+-- a command that selects a tag, and then asks these commands of it, by the kind that it is seen to be of
+abbrev pub then_asks : List Signal → Followed SeenKind → Next
 then_asks asked (Asks n) = n
-then_asks asked (Told (Ok x) ns) = waits_next asked ns
+then_asks asked (Told (Ok kind) ns) = tag_next kind asked ns
 then_asks asked (Told (Err e) ns) = Over
 
 -- What is due in a command, by what the reader knows. Nothing is sent but in a read and in a search.
@@ -125,6 +136,7 @@ abbrev pub AnswerLaw : State → Command → List Signal → List Event → Answ
 AnswerLaw s Skip asked events answer = ⊥
 AnswerLaw s (Fates fates) asked events answer = answer ≡ answers.Done
 AnswerLaw s (PlaceT2 id blocks head) asked events answer = answer ≡ answers.Done
+AnswerLaw s (PlaceT4 id code container head) asked events answer = answer ≡ answers.Done
 AnswerLaw s (PlaceT5 id blocks size head) asked events answer = answer ≡ answers.Done
 AnswerLaw s (Remove id) asked events answer = answer ≡ answers.Done
 AnswerLaw s Find asked events answer = FindLaw s events answer

@@ -1,10 +1,12 @@
 pub mod Powered
+pub mod Cards
 pub mod Device
 pub mod Standing
 pub mod Reading
 pub mod Polling
 pub mod Placed
 pub mod Crowded
+pub mod CardAsking
 pub mod Answering
 pub mod Legal
 pub mod Obeying
@@ -14,6 +16,7 @@ pub mod Words
 pub mod Lines
 pub mod Report
 pub mod Phases
+pub mod Linking
 pub mod Choosing
 pub mod Limits
 pub mod Run

@@ -9,7 +9,7 @@ use Rattle.nfc_bench.specs.declared.device.Device.{Device}
 use Rattle.nfc_bench.specs.declared.entry.Answer.{Answer}
 use Rattle.nfc_bench.specs.declared.entry.Entry.{Entry}
 use Rattle.nfc_bench.specs.Legal.{State, LegalStep, state_after, state_of}
-use Rattle.nfc_bench.specs.Phases.{AreTame, kept}
+use Rattle.nfc_bench.specs.Phases.{AreTame, AreTidy, kept}
 
 abbrev pub obey_fault_number : ObeyFault → ℕ
 obey_fault_number faults.Refused = 1
@@ -23,6 +23,7 @@ state_at a = record { world = record { lit = a.lit; listeners = a.listeners }; q
 pub record IsIdle (a : Air Device) : Type 0 where
   pub quiet : a.trace ≡ []
   pub tame : AreTame (map kept a.listeners)
+  pub tidy : AreTidy a.listeners
 
 -- ... and the field is in the state that the journal leaves
 pub record IsReady (a : Air Device) (journal : List Entry) : Type 0 where
@@ -34,6 +35,7 @@ pub record Obeyed (old new : Air Device) (c : Command) (answer : Answer) : Type 
   pub step : LegalStep (state_at old) c new.trace answer
   pub state : state_at new ≡ state_after (state_at old) c new.trace
   pub tame : AreTame (map kept new.listeners)
+  pub tidy : AreTidy new.listeners
 
 -- What contracts see of a bench: its journal, and whether want of memory spoiled it.
 pub record Benched : Type 0 where

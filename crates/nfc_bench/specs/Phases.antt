@@ -6,12 +6,12 @@ use Rattle.air_core.specs.declared.listener.Listener.{Ghosts}
 use Rattle.air_core.specs.World.{World}
 use Rattle.air_core.specs.Conversation.{Moment, Note, Next, Over, Going}
 use Rattle.air_core.specs.PlainTags.{IsAside}
-use Rattle.air_core.specs.Waits.{stand, waits_next}
 use Rattle.nfc_base.specs.Trace.{breaks}
 use Rattle.nfca_poll.specs.declared.fault.PollFault.{PollFault}
 use Rattle.nfca_poll.specs.declared.fault.PollFault.TheVariants as polling
 use Rattle.nfca_poll.specs.Ident.{IsIdent}
 use Rattle.t2t_tag.specs.Store.{IsT2Store}
+use Rattle.t4t_tag.specs.Store.{IsT4Store}
 use Rattle.t5t_tag.specs.Store.{IsT5Store, id_size}
 use Rattle.tag_reader.specs.declared.fault.ReadFault.{ReadFault}
 use Rattle.tag_reader.specs.declared.fault.ReadFault.TheVariants as faults
@@ -22,11 +22,15 @@ use Rattle.nfc_bench.specs.declared.command.DeviceId.TheVariants as ids
 use Rattle.nfc_bench.specs.declared.device.Device.{Device}
 use Rattle.nfc_bench.specs.declared.entry.Answer.{Answer}
 use Rattle.nfc_bench.specs.declared.entry.Answer.TheVariants as answers
-use Rattle.nfc_bench.specs.Device.{devices, device_id, device_store, device_ready, device_selected, device_commands, how_of, size_of}
+use Rattle.nfca_poll.specs.Front.{is_active}
+use Rattle.nfc_bench.specs.declared.device.Device.TheVariants as placed
+use Rattle.nfc_bench.specs.declared.entry.SeenKind.{SeenKind}
+use Rattle.nfc_bench.specs.Device.{devices, device_id, device_store, device_ready, device_selected, device_commands, how_of, size_of, seen_of, is_unlinked}
+use Rattle.nfc_bench.specs.CardAsking.{tag_next}
 use Rattle.nfc_bench.specs.declared.polling.Selection.{Selection}
 use Rattle.nfc_bench.specs.declared.polling.Selection.TheVariants.{Place, Missed}
 use Rattle.nfc_bench.specs.Polling.{Told, asks, bytes_of, selecting, finding_all}
-use Rattle.nfc_bench.specs.Answering.{HasPollCause, FindTells, TellsStanding, poll_answer}
+use Rattle.nfc_bench.specs.Answering.{HasPollCause, FindTells, TellsBy, poll_answer}
 use Rattle.nfc_bench.specs.Reading.{AsksOf, TellsOf}
 use Rattle.nfc_bench.specs.Legal.{air, most_devices}
 
@@ -41,20 +45,32 @@ ghosts = record {
   commands = device_commands;
 }
 
--- What stays of a device through a read, whatever state it is in.
+-- What stays of a device through a read, whatever state it is in; of a Type 4 tag also its code and its container.
 pub record Kept : Type 0 where
   pub id : List ℕ
   pub how : How
   pub size : ℕ
   pub store : List ℕ
+  pub code : ℕ
+  pub container : List ℕ
+
+abbrev pub code_of : Device → ℕ
+code_of (placed.T2 d) = 0
+code_of (placed.T4 d) = d.upper.tag.code
+code_of (placed.T5 p) = 0
+
+abbrev pub container_of : Device → List ℕ
+container_of (placed.T2 d) = []
+container_of (placed.T4 d) = d.upper.tag.container
+container_of (placed.T5 p) = []
 
 abbrev pub kept : Device → Kept
-kept d = record { id = device_id d; how = how_of d; size = size_of d; store = device_store d }
+kept d = record { id = device_id d; how = how_of d; size = size_of d; store = device_store d; code = code_of d; container = container_of d }
 
--- a device that may be placed; none of them is a Type 4 tag yet
+-- a device that may be placed
 abbrev pub IsSoundAs : How → Kept → Type 0
 IsSoundAs T2 k = IsIdent k.id × (k.size ≡ 16) × IsT2Store k.store
-IsSoundAs T4 k = ⊥
+IsSoundAs T4 k = IsIdent k.id × (file : List ℕ) × (k.store ≡ k.container ++ file) × IsT4Store k.code k.container file
 IsSoundAs (T5 id) k = (id ≡ k.id) × (length k.id ≡ id_size) × ((i : ℕ) → slice_index k.id i < 256) × IsT5Store k.size k.store
 
 abbrev pub IsSound : Kept → Type 0
@@ -73,11 +89,22 @@ pub record AreTame (ks : List Kept) : Type 0 where
   pub sound : AreSound ks
   pub few : length ks ≤ most_devices
 
--- how a tag with an identifier is read, and what such an identifier is
-abbrev pub how_for : DeviceId → How
-how_for (ids.A id) = T2
-how_for (ids.V id) = T5 id
+-- A Type 4 tag has a link at most while it is active.
+abbrev pub IsTidy : Device → Type 0
+IsTidy (placed.T2 d) = Unit {0}
+IsTidy (placed.T4 d) = (is_active d.front ≡ true) ⊎ (is_unlinked d.upper ≡ true)
+IsTidy (placed.T5 p) = Unit {0}
 
+abbrev pub AreTidy : List Device → Type 0
+AreTidy ds = AllByRecursion IsTidy ds
+
+-- Nothing was asked of it since it was selected.
+abbrev pub IsUnasked : Device → Type 0
+IsUnasked (placed.T2 d) = Unit {0}
+IsUnasked (placed.T4 d) = is_unlinked d.upper ≡ true
+IsUnasked (placed.T5 p) = Unit {0}
+
+-- what an identifier is
 abbrev pub IsId : DeviceId → Type 0
 IsId (ids.A id) = IsIdent id
 IsId (ids.V id) = length id ≡ id_size
@@ -90,6 +117,7 @@ pub record Stands (a : Moment (World Device)) (place : ℕ) (d : Device) : Type 
   pub at : length before ≡ place
   pub sound : IsSound (kept d)
   pub selected : device_selected d ≡ true
+  pub unasked : IsUnasked d
   pub first : AllByRecursion (IsAside ghosts (device_id d)) before
   pub later : AllByRecursion (IsAside ghosts (device_id d)) behind
 
@@ -101,7 +129,7 @@ pub record Asked (due : List Note → Next) (old new : Moment (World Device)) : 
   pub same : map kept new.world.listeners ≡ map kept old.world.listeners
 
 -- Selecting a device ended so, and the field is lost exactly where a Break was used.
-pub record Selects (id : DeviceId) (r : Result (Unit {0}) PollFault) (old new : Moment (World Device)) : Type 0 where
+pub record Selects (id : DeviceId) (r : Result SeenKind PollFault) (old new : Moment (World Device)) : Type 0 where
   pub asked : Asked (λ ns. asks (selecting id ns)) old new
   pub told : selecting id asked.notes ≡ Told r []
   pub cause : HasPollCause id old.world.listeners r asked.going.events
@@ -109,8 +137,8 @@ pub record Selects (id : DeviceId) (r : Result (Unit {0}) PollFault) (old new : 
 
 -- The device with this identifier is selected, and stands at this place.
 pub record SelectsAt (id : DeviceId) (place : ℕ) (old new : Moment (World Device)) : Type 0 where
-  pub selects : Selects id (Ok tt) old new
   pub device : Device
+  pub selects : Selects id (Ok (seen_of device)) old new
   pub named : device_id device ≡ bytes_of id
   pub stands : Stands new place device
 
@@ -142,8 +170,8 @@ MayEnd e = IsSome (told_by e) ⊎ (e ≡ faults.Memory)
 pub record Reads (old new : Moment (World Device)) (d : Device) (answer : Answer) : Type 0 where
   pub commands : List Signal
   pub asks : AsksOf d commands
-  pub asked : Asked (waits_next commands) old new
-  pub ends : TellsStanding (TellsOf d) (stand 0 commands asked.notes) answer
+  pub asked : Asked (tag_next (seen_of d) commands) old new
+  pub ends : TellsBy (seen_of d) (TellsOf d) commands asked.notes answer
   pub lost : (answer ≡ answers.FieldLost) ↔ (0 < breaks asked.going.events)
 
 -- A search asked what was due, and tells of all devices.

@@ -9,8 +9,12 @@ use Rattle.nfca_poll.specs.declared.inventory.Vcrowd.{Vcrowd}
 use Rattle.nfca_poll.specs.Enquiry.{Enquiry}
 use Rattle.nfca_poll.specs.Inventory.{inventory, picking_v}
 use Rattle.nfca_poll.specs.Rounds.{finding, picking}
+use Rattle.nfca_poll.specs.declared.kind.Kind.{Kind}
+use Rattle.nfca_poll.specs.declared.kind.Kind.TheVariants as kinds
 use Rattle.nfc_bench.specs.declared.command.DeviceId.{DeviceId}
 use Rattle.nfc_bench.specs.declared.command.DeviceId.TheVariants.{A, V}
+use Rattle.nfc_bench.specs.declared.entry.SeenKind.{SeenKind}
+use Rattle.nfc_bench.specs.declared.entry.SeenKind.TheVariants as seen
 
 -- an identifier's bytes
 abbrev pub bytes_of : DeviceId → List ℕ
@@ -34,22 +38,28 @@ followed e s None (Lost ∷ ns) = Told (Err faults.FieldLost) ns
 abbrev pub follows : {S X : Type 0} → Enquiry S X → List Note → Followed X
 follows e ns = followed e e.start (e.ended e.start) ns
 
--- what was told, without more of it
-abbrev pub picked_any : {X : Type 0} → Followed X → Followed (Unit {0})
-picked_any (Asks n) = Asks n
-picked_any (Told (Ok x) ns) = Told (Ok tt) ns
-picked_any (Told (Err e) ns) = Told (Err e) ns
+-- what a reader sees a device to be, by SEL_RES
+abbrev pub seen_kind : Kind → SeenKind
+seen_kind kinds.T2 = seen.T2
+seen_kind kinds.T4 = seen.T4
+seen_kind kinds.Peer = seen.Peer
+
+-- the kind by what was told
+abbrev pub kind_by : {X : Type 0} → (X → SeenKind) → Followed X → Followed SeenKind
+kind_by kind (Asks n) = Asks n
+kind_by kind (Told (Ok x) ns) = Told (Ok (kind x)) ns
+kind_by kind (Told (Err e) ns) = Told (Err e) ns
 
 -- Selecting an NFC-V device: a reset, then the inventory of this identifier.
-abbrev pub pick_v : List ℕ → List Note → Followed (Unit {0})
+abbrev pub pick_v : List ℕ → List Note → Followed SeenKind
 pick_v id [] = Asks LightUp
-pick_v id (Lit ∷ ns) = follows (picking_v id) ns
+pick_v id (Lit ∷ ns) = kind_by (λ x. seen.T5) (follows (picking_v id) ns)
 pick_v id (Got h ∷ ns) = pick_v id ns
 pick_v id (Lost ∷ ns) = Told (Err faults.FieldLost) ns
 
--- selecting the device with an identifier
-abbrev pub selecting : DeviceId → List Note → Followed (Unit {0})
-selecting (A id) ns = picked_any (follows (picking id) ns)
+-- selecting the device with an identifier, and what it is seen to be
+abbrev pub selecting : DeviceId → List Note → Followed SeenKind
+selecting (A id) ns = kind_by seen_kind (follows (picking id) ns)
 selecting (V id) ns = pick_v id ns
 
 -- What a search for all devices has come to: those of NFC-A, in the order in which they were found, and then what the

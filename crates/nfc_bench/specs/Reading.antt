@@ -4,7 +4,10 @@ use Rattle.nfc_base.specs.Signal.{Signal}
 use Rattle.tlv_area.specs.declared.space.Space.{Space}
 use Rattle.tlv_area.specs.declared.container.ContainerFault.TheVariants as container
 use Rattle.tlv_area.specs.Form.{Faulty, Message, NoMessageTlv, BadTlv}
+use Rattle.tlv_area.specs.declared.container.FileMap.{FileMap}
 use Rattle.tag_reader.specs.declared.how.How.{How}
+use Rattle.tag_reader.specs.declared.how.How.TheVariants as hows
+use Rattle.tag_reader.specs.Files.{NamesFile}
 use Rattle.tag_reader.specs.Asked.{IsAsked}
 use Rattle.tag_reader.specs.Kinds.{area_of, IsStoreForm}
 use Rattle.nfc_bench.specs.declared.device.Device.{Device}
@@ -16,9 +19,14 @@ use Rattle.nfc_bench.specs.Device.{device_store, how_of, size_of}
 abbrev pub AsksOf : Device → List Signal → Type 0
 AsksOf d commands = IsAsked (how_of d) (size_of d) (device_store d) commands
 
--- whether writing is free, by the container
+-- whether writing is free, by the container's area or, of a Type 4 tag, by its file
+abbrev pub IsAreaAccess : How → ℕ → List ℕ → Bool → Type 0
+IsAreaAccess how size store writable = (space : Space) × (area_of how size store ≡ Ok space) × (writable ≡ space.writable)
+
 abbrev pub IsAccess : How → ℕ → List ℕ → Bool → Type 0
-IsAccess how size store writable = (space : Space) × (area_of how size store ≡ Ok space) × (writable ≡ space.writable)
+IsAccess hows.T2 size store writable = IsAreaAccess hows.T2 size store writable
+IsAccess hows.T4 size store writable = (file : FileMap) × NamesFile store file × (writable ≡ file.writable)
+IsAccess (hows.T5 id) size store writable = IsAreaAccess (hows.T5 id) size store writable
 
 -- What a read answers, by the form of the store. The other answers tell of none.
 abbrev pub Tells : How → ℕ → List ℕ → Answer → Type 0

@@ -7,7 +7,7 @@ use Rattle.nfc_base.specs.declared.event.Fate.TheVariants.{Pass, Damage, Lose, B
 use Rattle.nfca_poll.specs.Ident.{IsIdent}
 use Rattle.t5t_tag.specs.Store.{IsBlockSize}
 use Rattle.nfc_bench.specs.declared.command.Command.{Command}
-use Rattle.nfc_bench.specs.declared.command.Command.TheVariants.{Skip, Fates, PlaceT2, PlaceT5, Remove, Find, Read}
+use Rattle.nfc_bench.specs.declared.command.Command.TheVariants.{Skip, Fates, PlaceT2, PlaceT4, PlaceT5, Remove, Find, Read}
 use Rattle.nfc_bench.specs.declared.command.DeviceId.{DeviceId}
 use Rattle.nfc_bench.specs.declared.command.DeviceId.TheVariants.{A, V}
 use Rattle.nfc_bench.specs.declared.script.LineFault.{LineFault}
@@ -60,6 +60,13 @@ SpellsBlocks least word n = (word ≡ decimal n) × (least ≤ n) × (n ≤ most
 abbrev pub SpellsSize : List ℕ → ℕ → Type 0
 SpellsSize word n = (word ≡ decimal n) × IsBlockSize n
 
+-- CODE: how long the frames are that a Type 4 tag takes
+abbrev pub most_code : ℕ
+most_code = 8
+
+abbrev pub SpellsCode : List ℕ → ℕ → Type 0
+SpellsCode word n = (word ≡ decimal n) × (n ≤ most_code)
+
 -- the letter of a fate, in upper case alone: P, D, L or B
 abbrev pub fate_letter : Fate → ℕ
 fate_letter Pass = 80
@@ -82,13 +89,17 @@ abbrev pub is_skipped : List ℕ → Bool
 is_skipped [] = true
 is_skipped (b ∷ bs) = b == 35
 
--- `fates FATES`, `place t2 ID BLOCKS HEX`, `place t5 ID BLOCKS SIZE HEX`, `remove ID`, `find` and `read ID`
+-- `fates FATES`, `place t2 ID BLOCKS HEX`, `place t4 ID CODE HEX HEX`, `place t5 ID BLOCKS SIZE HEX`, `remove ID`, `find` and
+-- `read ID`
 abbrev pub SpelledBy : List (List ℕ) → Command → Type 0
 SpelledBy ws Skip = ⊥
 SpelledBy ws (Fates fates) = (f : List ℕ) × (ws ≡ codes "fates" ∷ f ∷ []) × SpellsFates f fates
 SpelledBy ws (PlaceT2 id blocks head) =
     (i b h : List ℕ) × (ws ≡ codes "place" ∷ codes "t2" ∷ i ∷ b ∷ h ∷ [])
     × SpellsIdent i id × SpellsBlocks least_blocks b blocks × SpellsHex h head
+SpelledBy ws (PlaceT4 id code container head) =
+    (i c k h : List ℕ) × (ws ≡ codes "place" ∷ codes "t4" ∷ i ∷ c ∷ k ∷ h ∷ [])
+    × SpellsIdent i id × SpellsCode c code × SpellsHex k container × SpellsHex h head
 SpelledBy ws (PlaceT5 id blocks size head) =
     (i b s h : List ℕ) × (ws ≡ codes "place" ∷ codes "t5" ∷ i ∷ b ∷ s ∷ h ∷ [])
     × SpellsIdV i id × SpellsBlocks least_blocks_v b blocks × SpellsSize s size × SpellsHex h head

@@ -1,19 +1,17 @@
 //! The bench: the field, and the journal of what was obeyed.
 
-ghost use Rattle.std.specs.Prelude.{◌≡◌, ◌≢◌, ◌↔◌, ◌+◌, ◌*◌, ◌≤◌, ◌<◌, ◌++◌, List, [], ◌∷◌, Bool, false, is_some, None, IsTrue, IfOk, OnOk, OnErr, IsErrOf, vec_len, vec_capacity, length};
+ghost use Rattle.std.specs.Prelude.{◌≡◌, ◌≢◌, ◌↔◌, ◌+◌, ◌*◌, ◌≤◌, ◌<◌, ◌++◌, List, [], ◌∷◌, Bool, false, is_some, None, MatchOption, IsTrue, IfOk, OnOk, OnErr, IsErrOf, vec_len, vec_capacity, length};
 ghost use Rattle.std.specs.List.{AllByRecursion};
 ghost use Rattle.nfc_base.specs.declared.frame.Tech.TheVariants as techs;
 ghost use Rattle.nfc_bench.specs.Device.{device_tech};
 ghost use Rattle.nfc_bench.specs.Legal.{IsAccepted, most_devices, memory_of, state_of};
 ghost use Rattle.nfc_bench.specs.Placed.{device_with};
-ghost use Rattle.nfc_bench.specs.Polling.{bytes_of};
-ghost use Rattle.t5t_tag.specs.Store.{id_size};
-ghost use Rattle.tag_reader.specs.declared.how.How.TheVariants as hows;
-ghost use Rattle.nfc_bench.specs.Phases.{how_for, IsId};
+ghost use Rattle.t4t_tag.specs.Store.{file_size as named_size};
+ghost use Rattle.nfc_bench.specs.Limits.{least_container};
 ghost use Rattle.nfc_bench.specs.Obeying.{Obeys, IsIdle, Obeyed, state_at, obey_fault_number};
 
 use crate::command::{Command, DeviceId};
-use crate::device::{Device, PoweredTag, T2Upper};
+use crate::device::{Device, PoweredTag, T2Upper, T4Upper};
 use crate::entry::{Answer, Entry};
 use crate::polling::{Selection, is_named, missed, place_of, select};
 use crate::reading::read;
@@ -24,8 +22,8 @@ use nfca_poll::{Front, Ident};
 use std::alloc::{AllocError, Global};
 use std::marker::Model;
 use t2t_tag::T2Tag;
+use t4t_tag::T4Tag;
 use t5t_tag::T5Tag;
-use tag_reader::How;
 use thiserror::Error;
 
 /// Why a bench obeys no command.
@@ -48,6 +46,12 @@ impl ObeyFault {
 
 /// How many devices may stand in the field at once (this project's limit).
 const MOST_DEVICES: usize = 16;
+
+/// The fewest bytes of a capability container of a Type 4 tag, and where it says how long its NDEF file is (NFC Forum Type 4
+/// Tag).
+const LEAST_CONTAINER: usize = 15;
+
+const FILE_SIZE: usize = 11;
 
 /// The memory of a new tag of so many bytes.
 fn memory(alloc: Global, size: usize, head: &[u8]) -> Result<Vec<u8>, AllocError>
@@ -108,6 +112,51 @@ fn place_t2(
     }
 }
 
+/// How many bytes the NDEF file has that a capability container names, where it is long enough to.
+fn file_size(container: &[u8]) -> Option<usize>
+    ensures { MatchOption result (length container.now < least_container) (λ n. (n ≡ named_size container.now) × (n ≤ 65535)) }
+{
+    if container.len() < LEAST_CONTAINER {
+        return None;
+    }
+    Some(container[FILE_SIZE] as usize * 256 + container[FILE_SIZE + 1] as usize)
+}
+
+/// Puts a Type 4 tag into the field.
+fn place_t4(
+    alloc: Global,
+    field: &mut Field<Device>,
+    id: &Ident,
+    code: u8,
+    container: &[u8],
+    head: &[u8],
+) -> Result<Answer, ObeyFault>
+    requires { IsIdle field.old }
+    ensures ok { IfOk result (λ a. Obeyed field.old field.new (Command.PlaceT4 id.now code container.now head.now) a) }
+    ensures refused { IsErrOf result ObeyFault.Refused → (field.new ≡ field.old) }
+    ensures cause { IsErrOf result ObeyFault.Refused → IsAccepted (state_at field.old) (Command.PlaceT4 id.now code container.now head.now) → ⊥ }
+{
+    let Some(size) = file_size(container) else {
+        return Err(ObeyFault::Refused);
+    };
+    if !is_free(field.listeners(), id.view()) || head.len() > size {
+        return Err(ObeyFault::Refused);
+    }
+    let Ok(files) = Vec::from_slice(alloc, container) else {
+        return Err(ObeyFault::Memory);
+    };
+    let Ok(file) = memory(alloc, size, head) else {
+        return Err(ObeyFault::Memory);
+    };
+    let Ok(tag) = T4Tag::new(code, files, file) else {
+        return Err(ObeyFault::Refused);
+    };
+    match field.put_in(Device::T4(Front::new(id.copy(), T4Upper::new(tag)))) {
+        Ok(_) => Ok(Answer::Done),
+        Err(_) => Err(ObeyFault::Memory),
+    }
+}
+
 /// Puts a Type 5 tag into the field.
 fn place_t5(
     alloc: Global,
@@ -154,26 +203,6 @@ fn remove_device(field: &mut Field<Device>, id: &DeviceId) -> Result<Answer, Obe
     Ok(Answer::Done)
 }
 
-/// The bytes of an identifier, and how a tag with one is read.
-fn named(id: &DeviceId) -> (&[u8], How)
-    ensures bytes { result.0.now ≡ bytes_of id.now }
-    ensures how { result.1 ≡ how_for id.now }
-    ensures shape { IsId id.now }
-{
-    match id {
-        DeviceId::A(id) => (id.view(), How::T2),
-        DeviceId::V(id) => (id.as_slice(), type_5(*id)),
-    }
-}
-
-/// How a Type 5 tag with this identifier is read.
-fn type_5(id: [u8; 8]) -> How
-    ensures how { result ≡ hows.T5 id }
-    ensures size { length id ≡ id_size }
-{
-    How::T5(id)
-}
-
 /// Appends fates for transmissions to come.
 fn add_fates(field: &mut Field<Device>, fates: &[Fate]) -> Result<Answer, ObeyFault>
     requires { IsIdle field.old }
@@ -195,9 +224,8 @@ fn select_and_read(
     requires { IsIdle field.old }
     ensures { IfOk result (λ a. Obeyed field.old field.new (Command.Read id.now) a) }
 {
-    let (_, how) = named(id);
     match select(alloc, field, id)? {
-        Selection::Place(place) => read(alloc, field, place, how),
+        Selection::Place(place) => read(alloc, field, place),
         Selection::Missed(fault) => missed(fault),
     }
 }
@@ -244,6 +272,12 @@ fn run_command(
         Command::PlaceT2 { id, blocks, head } => {
             place_t2(alloc, field, id, *blocks, head.as_slice())
         }
+        Command::PlaceT4 {
+            id,
+            code,
+            container,
+            head,
+        } => place_t4(alloc, field, id, *code, container.as_slice(), head.as_slice()),
         Command::PlaceT5 {
             id,
             blocks,

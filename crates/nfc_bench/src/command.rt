@@ -48,6 +48,14 @@ pub enum Command {
         blocks: u16,
         head: Items<u8>,
     },
+    /// Puts a Type 4 tag into the field, which takes frames of this size code (ISO/IEC 14443-4). It has this capability
+    /// container; its NDEF file is as long as the container says, begins with `head`, and the rest is 0.
+    PlaceT4 {
+        id: Ident,
+        code: u8,
+        container: Items<u8>,
+        head: Items<u8>,
+    },
     /// Puts a Type 5 tag of so many blocks of `size` bytes into the field; its identifier stands high byte first.
     PlaceT5 {
         id: [u8; 8],
@@ -81,6 +89,17 @@ impl Command {
             Command::PlaceT2 { id, blocks, head } => Ok(Command::PlaceT2 {
                 id: id.copy(),
                 blocks: *blocks,
+                head: Items::from_bytes(alloc, head.as_slice())?,
+            }),
+            Command::PlaceT4 {
+                id,
+                code,
+                container,
+                head,
+            } => Ok(Command::PlaceT4 {
+                id: id.copy(),
+                code: *code,
+                container: Items::from_bytes(alloc, container.as_slice())?,
                 head: Items::from_bytes(alloc, head.as_slice())?,
             }),
             Command::PlaceT5 {

@@ -1,14 +1,18 @@
 //! The devices of the bench.
 
-ghost use Rattle.std.specs.Prelude.{◌≡◌, false};
+ghost use Rattle.std.specs.Prelude.{◌≡◌, false, Some, None};
+ghost use Rattle.nfc_bench.specs.Device.{linked, how_of};
 
 use air_core::Listener;
+use isodep_link::{CardEnd, CardListener, CardStep, is_rats};
 use nfc_base::{Answerer, Frame, Tech};
 use nfca_poll::{Front, Ident, Kind, UpStep, Upper};
 use std::alloc::{AllocError, Global};
 use std::marker::Model;
 use t2t_tag::T2Tag;
+use t4t_tag::T4Tag;
 use t5t_tag::T5Tag;
+use tag_reader::How;
 
 /// A Type 2 tag as the machine above a listener front: it takes READ and WRITE, and all other frames are the front's.
 #[derive(Debug, Drop)]
@@ -65,6 +69,86 @@ impl Upper for T2Upper {
     ghost keeps = { clear_keeps };
 }
 
+/// A Type 4 tag as the machine above a listener front. RATS opens a link to it, whose end takes every frame from then on and
+/// hands commands to the tag.
+#[derive(Debug, Drop)]
+pub struct T4Upper {
+    tag: T4Tag,
+    card: Option<CardEnd>,
+}
+
+impl Model for T4Upper {
+    ghost use Rattle.nfc_bench.specs.Cards.{T4Near};
+
+    ghost Value = { T4Near };
+
+    ghost view = { λ u. record { tag = u.tag; link = u.card } };
+}
+
+impl T4Upper {
+    /// A tag without a link.
+    pub fn new(tag: T4Tag) -> T4Upper
+        ensures { result ≡ record { tag = tag; link = None } }
+    {
+        T4Upper { tag, card: None }
+    }
+
+    /// A frame of the link to the tag.
+    fn take(tag: &mut T4Tag, card: &mut CardEnd, frame: &Frame) -> UpStep
+        ensures { record { says = result; after = record { tag = tag.new; link = Some card.new } } ≡ linked tag.old card.old frame.now }
+    {
+        match card.hear(frame) {
+            CardStep::Quiet => UpStep::Quiet,
+            CardStep::Reply(answer) => UpStep::Reply(answer),
+            CardStep::Deliver(command) => UpStep::Reply(card.reply(&tag.obey(&command))),
+            CardStep::Asleep(answer) => UpStep::Sleep(answer),
+        }
+    }
+}
+
+impl Upper for T4Upper {
+    ghost use Rattle.t4t_tag.specs.Store.{store_of};
+    ghost use Rattle.nfc_bench.specs.Device.{t4_machine};
+    ghost use Rattle.nfc_bench.specs.Standing.{foreign_card, card_never_waits, clear_card_keeps};
+
+    ghost machine = { t4_machine };
+
+    ghost store = { λ u. store_of u.tag };
+
+    fn kind(&self) -> Kind {
+        Kind::T4
+    }
+
+    fn clear(&mut self) {
+        self.card = None;
+        self.tag.dark();
+    }
+
+    fn hear<A: Answerer>(
+        &mut self,
+        _alloc: Global,
+        frame: &Frame,
+        _far: &mut A,
+    ) -> Result<UpStep, AllocError> {
+        match &mut self.card {
+            Some(card) => Ok(T4Upper::take(&mut self.tag, card, frame)),
+            None if is_rats(frame) => {
+                let mut card = CardEnd::new(self.tag.code());
+                let step = T4Upper::take(&mut self.tag, &mut card, frame);
+                self.card = Some(card);
+                Ok(step)
+            }
+            None => Ok(UpStep::Foreign),
+        }
+    }
+
+    ghost foreign = { foreign_card };
+
+    ghost waits = { card_never_waits };
+
+    ghost keeps = { clear_card_keeps };
+}
+
 /// A Type 5 tag in the field. It is off until the field is lit.
 #[derive(Debug, Drop)]
 pub struct PoweredTag {
@@ -99,6 +183,7 @@ impl PoweredTag {
 #[derive(Debug, Drop)]
 pub enum Device {
     T2(Front<T2Upper>),
+    T4(Front<T4Upper>),
     T5(PoweredTag),
 }
 
@@ -120,7 +205,7 @@ impl Listener for Device {
 
     fn tech(&self) -> Tech {
         match self {
-            Device::T2(_) => Tech::A,
+            Device::T2(_) | Device::T4(_) => Tech::A,
             Device::T5(_) => Tech::V,
         }
     }
@@ -128,6 +213,7 @@ impl Listener for Device {
     fn light(&mut self) {
         match self {
             Device::T2(front) => front.light(),
+            Device::T4(front) => front.light(),
             Device::T5(powered) => powered.lit = true,
         }
     }
@@ -135,6 +221,7 @@ impl Listener for Device {
     fn dark(&mut self) {
         match self {
             Device::T2(front) => front.dark(),
+            Device::T4(front) => front.dark(),
             Device::T5(powered) => {
                 powered.tag.dark();
                 powered.lit = false;
@@ -150,6 +237,7 @@ impl Listener for Device {
     ) -> Result<Option<Frame>, AllocError> {
         match self {
             Device::T2(front) => front.hear(alloc, frame, far),
+            Device::T4(front) => front.hear(alloc, frame, far),
             Device::T5(powered) if powered.lit => Ok(powered.tag.obey(frame)),
             Device::T5(_) => Ok(None),
         }
@@ -166,6 +254,27 @@ impl Listener for Device {
     ghost rests = { at_rest };
 
     ghost ignores = { ignores };
+}
+
+impl CardListener for Device {
+    ghost use Rattle.nfc_bench.specs.Device.{device_card, device_tag};
+
+    ghost card = { device_card };
+
+    ghost tag = { device_tag };
+}
+
+impl Device {
+    /// How a tag of its kind is read.
+    pub fn how(&self) -> How
+        ensures { result ≡ how_of self.now }
+    {
+        match self {
+            Device::T2(_) => How::T2,
+            Device::T4(_) => How::T4,
+            Device::T5(powered) => How::T5(powered.tag().id()),
+        }
+    }
 }
 
 #[cfg(test)]

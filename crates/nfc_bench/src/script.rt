@@ -11,7 +11,7 @@ use crate::command::Command;
 use std::alloc::{AllocError, Global};
 use thiserror::Error;
 use words::{
-    CommandName, blocks_word, cut_word, device_word, fates_word, four_words, hex_word, ident_word,
+    CommandName, blocks_word, code_word, cut_word, device_word, fates_word, four_words, hex_word, ident_word,
     ident_word_v, name_of, only_word, size_word, three_words,
 };
 
@@ -149,6 +149,7 @@ fn place_line(alloc: Global, rest: &[u8]) -> Result<Command, LineFault>
     };
     match kind {
         b"t2" => place_t2(alloc, more),
+        b"t4" => place_t4(alloc, more),
         b"t5" => place_t5(alloc, more),
         _ => Err(LineFault::Refused),
     }
@@ -171,6 +172,35 @@ fn place_t2(alloc: Global, rest: &[u8]) -> Result<Command, LineFault>
     };
     match hex_word(alloc, head_text)? {
         Some(head) => Ok(Command::PlaceT2 { id, blocks, head }),
+        None => Err(LineFault::Refused),
+    }
+}
+
+/// `place t4 ID CODE HEX HEX`, behind its second word.
+#[tactic(auto, using(crate::proofs::Spelling::heads_refused))]
+fn place_t4(alloc: Global, rest: &[u8]) -> Result<Command, LineFault>
+    ensures ok { IfOk result (λ c. SpelledBy (codes "place" ∷ codes "t4" ∷ words_of rest.now) c) }
+    ensures refused { IsErrOf result LineFault.Refused → (c : Command) → SpelledBy (codes "place" ∷ codes "t4" ∷ words_of rest.now) c → ⊥ }
+{
+    let Some((id_text, code_text, container_text, head_text)) = four_words(rest) else {
+        return Err(LineFault::Refused);
+    };
+    let Some(id) = ident_word(alloc, id_text)? else {
+        return Err(LineFault::Refused);
+    };
+    let Some(code) = code_word(alloc, code_text)? else {
+        return Err(LineFault::Refused);
+    };
+    let Some(container) = hex_word(alloc, container_text)? else {
+        return Err(LineFault::Refused);
+    };
+    match hex_word(alloc, head_text)? {
+        Some(head) => Ok(Command::PlaceT4 {
+            id,
+            code,
+            container,
+            head,
+        }),
         None => Err(LineFault::Refused),
     }
 }

@@ -123,7 +123,8 @@ impl T4Tag {
 
     /// The code of the longest frame that it takes.
     pub fn code(&self) -> u8
-        ensures { result ≡ self.now.code }
+        ensures code { result ≡ self.now.code }
+        ensures small { result ≤ 8 }
     {
         self.code
     }

@@ -4,7 +4,7 @@ ghost use Rattle.std.specs.Prelude.{◌≡◌, ◌≢◌, ◌<◌, ◌^◌, ℕ,
 ghost use Rattle.nfc_base.specs.declared.event.Fate.{Fate as Becomes};
 ghost use Rattle.std.specs.Option.{option_copied};
 ghost use Rattle.std.specs.Fmt.{decimal};
-ghost use Rattle.nfc_bench.specs.Script.{words_of, SpellsHex, SpellsIdent, SpellsIdV, SpellsId, SpellsBlocks, SpellsSize, fate_letter, SpellsFates};
+ghost use Rattle.nfc_bench.specs.Script.{words_of, SpellsHex, SpellsIdent, SpellsIdV, SpellsId, SpellsBlocks, SpellsSize, SpellsCode, fate_letter, SpellsFates};
 ghost use Rattle.nfc_bench.specs.declared.command.DeviceId.{DeviceId as Named};
 ghost use Rattle.nfc_bench.specs.declared.script.words.CommandName.{CommandName as Names};
 ghost use Rattle.nfc_bench.specs.Words.{CutsWord, NotOne, NotThree, NotFour, name_text};
@@ -20,6 +20,9 @@ const MOST_FATES: usize = 4000;
 
 /// The most blocks of a tag (this project's limit): a read names a block in one byte.
 const MOST_BLOCKS: u16 = 256;
+
+/// The largest size code of a Type 4 tag (ISO/IEC 14443-4).
+const MOST_CODE: u16 = 8;
 
 /// The first word of a line of several words.
 #[derive(Clone, Copy, Debug, PartialEq, Eq)]
@@ -186,6 +189,17 @@ pub fn size_word(alloc: Global, word: &[u8]) -> Result<Option<u8>, AllocError>
 {
     match number_word(alloc, word)? {
         Some(n @ (4 | 8 | 16 | 32)) => Ok(Some(n as u8)),
+        _ => Ok(None),
+    }
+}
+
+/// The size code of a Type 4 tag that a word spells, if it does.
+#[tactic(auto, using(std::proofs::lemmas::Fmt::decimal_injective))]
+pub fn code_word(alloc: Global, word: &[u8]) -> Result<Option<u8>, AllocError>
+    ensures { IfOk result (λ o. MatchOption o ((n : ℕ) → SpellsCode word.now n → ⊥) (λ n. SpellsCode word.now n)) }
+{
+    match number_word(alloc, word)? {
+        Some(n) if n <= MOST_CODE => Ok(Some(n as u8)),
         _ => Ok(None),
     }
 }
