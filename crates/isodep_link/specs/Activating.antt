@@ -18,7 +18,7 @@ use Rattle.isodep_link.specs.Card.{CardState, fresh, activated}
 use Rattle.isodep_link.specs.Reader.{ReaderState, waiting}
 use Rattle.isodep_link.specs.CardTags.{IsCardTag}
 use Rattle.isodep_link.specs.Asking.{HasCardTag}
-use Rattle.isodep_link.specs.IsoLinks.{Replays}
+use Rattle.isodep_link.specs.IsoLinks.{IsoSeen, Replays, IsIsoReady}
 
 -- the reader's size code, the largest, and its RATS
 abbrev pub reader_code : ℕ
@@ -37,6 +37,10 @@ ats_code f =
     if is_whole_a f && nat_lt 0 (length f.bytes) && (slice_index f.bytes 0 == length f.bytes)
     then Some (if length f.bytes == 1 then default_code else slice_index f.bytes 1 % 16)
     else None
+
+-- the link to the tag at a place that told this size code, before anything is asked
+abbrev pub first_link : {L : Type 0} → Air L → ℕ → ℕ → IsoSeen L
+first_link air place code = record { air = air; place = place; start = length air.trace; told = length air.trace; reader = waiting code; last = None; over = None }
 
 module _ {L : Type 0} (k : Ghosts L) (card : L → CardState) (tag : L → TagState) where
   -- A selected listener is a Type 4 tag that nothing was asked of: however often it hears RATS in a row it answers ATS of its
@@ -84,3 +88,13 @@ module _ {L : Type 0} (k : Ghosts L) (card : L → CardState) (tag : L → TagSt
   -- what a reader does that activates the tag at a place
   abbrev pub Activates : Air L → Air L → ℕ → Result ℕ AskFault → Type 0
   Activates old new place result = HasFreshTag old place → RatsEnds old new place result
+
+  -- From one moment on RATS was sent again and again, up to the answer of the tag, which told a size code: the tag was activated,
+  -- and this is a link to it that is ready for commands.
+  pub record IsActivatedLink (old : Air L) (p : IsoSeen L) : Type 0 where
+    pub code : ℕ
+    pub sent : RatsSent old p.air (Asking 0 [])
+    pub lit : p.air.lit ≡ true
+    pub activated : IsActivated p.air p.place (waiting code)
+    pub reader : p.reader ≡ waiting code
+    pub ready : IsIsoReady k card tag p
