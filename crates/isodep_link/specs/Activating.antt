@@ -13,7 +13,7 @@ use Rattle.air_core.specs.Waits.{Standing, Asking, Broken, stand, waits_next}
 use Rattle.air_core.specs.PlainTags.{heard_times, IsAlone}
 use Rattle.air_core.specs.declared.listener.Listener.{Ghosts}
 use Rattle.isodep_link.specs.Blocks.{is_whole_a}
-use Rattle.isodep_link.specs.Sizes.{rats_byte, most_code, ats_frame}
+use Rattle.isodep_link.specs.Sizes.{rats_byte, piece_size, most_code, ats_frame}
 use Rattle.isodep_link.specs.Card.{CardState, fresh, activated}
 use Rattle.isodep_link.specs.Reader.{ReaderState, waiting}
 use Rattle.isodep_link.specs.CardTags.{IsCardTag}
@@ -63,10 +63,11 @@ module _ {L : Type 0} (k : Ghosts L) (card : L → CardState) (tag : L → TagSt
     pub alone : IsAlone k (k.identifier listener) air.listeners place listener
     pub takes : TakesRats listener
 
-  -- At this place of a field a Type 4 tag stands that was activated, in step with a reader that knows this size code of it, and
+  -- At this place of a field a Type 4 tag stands that was activated, in step with a reader that cuts to the tag's own size code, and
   -- nothing is selected of it.
   pub record IsActivated (air : Air L) (place : ℕ) (i : ReaderState) : Type 0 where
     pub has : HasCardTag k card tag air place i [] []
+    pub own : i.core.most ≡ piece_size (card has.listener).code
     pub origin : List ℕ
     pub holds : tag has.listener ≡ plain_state origin
     pub replays : Replays (k.commands has.listener) origin
