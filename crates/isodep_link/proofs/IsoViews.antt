@@ -221,6 +221,6 @@ ready_on k card tag air place i a =
 -- the first link to a tag whose answer to RATS came is one to a tag that was activated
 pub activated_link : {L : Type 0} (k : Ghosts L) (card : L → CardState) (tag : L → TagState) (old new : Air L) (place code : ℕ) (p : IsoSeen L) → p ≡ first_link new place code
     → RatsEnds k card tag old new place (Ok code) → IsActivatedLink k card tag old p
-activated_link k card tag old new place code p e (sent, lit, is) =
+activated_link k card tag old new place code p e (sent, lit, is, tells) =
     let P : IsoSeen _ → Type 0 = λ q. IsActivatedLink k card tag old q in
-    subst P (sym e) (record { code = code; sent = sent; lit = lit; activated = is; reader = refl; ready = ready_on k card tag new place (waiting code) is })
+    subst P (sym e) (record { code = code; sent = sent; tells = tells; lit = lit; activated = is; reader = refl; ready = ready_on k card tag new place (waiting code) is })

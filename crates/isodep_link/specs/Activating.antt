@@ -101,6 +101,7 @@ module _ {L : Type 0} (k : Ghosts L) (card : L → CardState) (tag : L → TagSt
   pub record IsActivatedLink (old : Air L) (p : IsoSeen L) : Type 0 where
     pub code : ℕ
     pub sent : RatsSent old p.air (Asking 0 [])
+    pub tells : TellsCode sent.notes code
     pub lit : p.air.lit ≡ true
     pub activated : IsActivated p.air p.place (waiting code)
     pub reader : p.reader ≡ waiting code
