@@ -183,6 +183,7 @@ missed_obeyed old new id e answer idle s is =
       first = g.events;
       rest = [];
       parts = sym (append-nil g.events);
+      cut = refl;
       polled = Err e;
       selected = ap (selecting id) g.known ∙ s.told;
       cause = s.cause;
@@ -276,6 +277,7 @@ module _ (old mid new : Air Device) (id : DeviceId) (place : ℕ) (answer : Answ
     first = s.selects.asked.going.events;
     rest = r.asked.going.events;
     parts = refl;
+    cut = r.asked.going.fresh;
     polled = Ok tt;
     selected = ap (selecting id) s.selects.asked.going.known ∙ s.selects.told;
     cause = tt;
