@@ -33,3 +33,5 @@ pub mod Progress
 pub mod Outcomes
 pub mod Endings
 pub mod Complete
+pub mod QuietEvents
+pub mod QuietAsked
