@@ -71,7 +71,7 @@ selecting_stays (A id) hs ns =
 selecting_stays (V id) hs ns = pick_v_more id hs ns
 
 -- a device that was selected stays so, whatever is known since
-selecting_more : (id : DeviceId) (hs ns : List Note) (r : Result (Unit {0}) PollFault) → selecting id hs ≡ Told r [] → selecting id (hs ++ ns) ≡ Told r ns
+pub selecting_more : (id : DeviceId) (hs ns : List Note) (r : Result (Unit {0}) PollFault) → selecting id hs ≡ Told r [] → selecting id (hs ++ ns) ≡ Told r ns
 selecting_more id hs ns r told = let P : Followed (Unit {0}) → Type 0 = λ p. StaysTold p (selecting id (hs ++ ns)) ns in subst P told (selecting_stays id hs ns)
 
 -- behind it the commands are asked

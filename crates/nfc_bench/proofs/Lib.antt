@@ -35,3 +35,6 @@ pub mod Endings
 pub mod Complete
 pub mod QuietEvents
 pub mod QuietAsked
+pub mod QuietCuts
+pub mod QuietForms
+pub mod QuietAnswers
