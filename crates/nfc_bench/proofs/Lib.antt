@@ -38,3 +38,4 @@ pub mod QuietAsked
 pub mod QuietCuts
 pub mod QuietForms
 pub mod QuietAnswers
+pub mod QuietJournal
