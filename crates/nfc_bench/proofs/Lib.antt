@@ -33,9 +33,9 @@ pub mod Progress
 pub mod Outcomes
 pub mod Endings
 pub mod Complete
-pub mod QuietEvents
-pub mod QuietAsked
-pub mod QuietCuts
-pub mod QuietForms
-pub mod QuietAnswers
-pub mod QuietJournal
+pub mod OneCourse
+pub mod OneList
+pub mod OneCut
+pub mod OneForm
+pub mod OneAnswer
+pub mod OneJournal

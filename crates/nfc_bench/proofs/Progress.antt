@@ -12,23 +12,27 @@ use Rattle.nfc_bench.specs.declared.top.input.Ending.TheVariants.{End, Fault, En
 use Rattle.nfc_bench.specs.declared.top.lines.Stop.{Stop}
 use Rattle.nfc_bench.specs.declared.top.lines.Stop.TheVariants.{Refused, ReadFault, WriteFault, Memory}
 use Rattle.nfc_bench.specs.Lines.{lines_of, whole_lines, CutsLine, NoLf}
-use Rattle.nfc_bench.specs.Limits.{most_lines, longest_line}
+use Rattle.nfc_bench.specs.Journal.{Legal}
+use Rattle.nfc_bench.specs.Limits.{most_lines, longest_line, AreWithinLimits}
 use Rattle.nfc_bench.specs.Report.{entry_text}
 use Rattle.nfc_bench.specs.Run.{AreObeyed, FrontIsObeyed}
 use Rattle.nfc_bench.specs.Stops.{joined, Parted, ReadIs, RestIs, IsUnfinished, IsTooMuch, AreLeft, MayFollow, Follows, LineDone, LineRefused, LineCut, LineLost, LineStops, Progress, TextDone, TextRefused, TextUnread, TextUnwritten, TextLost, TextStops}
 use Rattle.nfc_bench.proofs.Lines.{lines_front, whole_front, whole_last, lines_last, lines_longer, some_line, GoesOn}
 use Rattle.nfc_bench.proofs.Limits.{limits_more, no_limits, all_by_recursion, length_sizes, not_full}
+use Rattle.nfc_bench.proofs.OneJournal.{one_legal}
 use Rattle.nfc_bench.proofs.Journals.{legal_more, legal_none, written_more, written_none}
 
+-- a legal journal of some lines is the only one of them
+is_obeyed : (lines : List (List ℕ)) (journal : List Entry) → Legal lines journal → AreWithinLimits lines → AreObeyed lines journal
+is_obeyed lines journal legal limits = record { legal = legal; only = λ other is. one_legal lines other journal is legal; limits = limits }
+
 pub obeyed_none : AreObeyed [] []
-obeyed_none = record { legal = legal_none; limits = no_limits }
+obeyed_none = is_obeyed [] [] legal_none no_limits
 
 -- one more line is obeyed
 pub obeyed_more : (ls : List (List ℕ)) (old new : List Entry) (l : List ℕ) (n : ℕ) → AreObeyed ls old → Follows old new n l → n ≡ 1 + length ls → n ≤ most_lines → length l ≤ longest_line → AreObeyed (ls ++ l ∷ []) new
-obeyed_more ls old new l n obeyed follows at few fits = record {
-  legal = legal_more ls old new l n obeyed.legal follows at;
-  limits = limits_more ls l obeyed.limits (omega arith) fits;
-}
+obeyed_more ls old new l n obeyed follows at few fits =
+    is_obeyed (ls ++ l ∷ []) new (legal_more ls old new l n obeyed.legal follows at) (limits_more ls l obeyed.limits (omega arith) fits)
 
 pub progress_start : (quiet : Bool) (text : List ℕ) (j : List Entry) (t : Option (List ℕ)) → j ≡ [] → Progress quiet text text j 1 t t
 progress_start quiet text j t none =

@@ -33,9 +33,10 @@ read_fault = codes "fault 3 read\n"
 abbrev pub line_fault : ℕ → List ℕ
 line_fault n = codes "fault 2 line " ++ decimal n ++ codes "\n"
 
--- These lines were obeyed, and this is their journal.
+-- These lines were obeyed, and this is their journal: it is legal, and no other one is.
 pub record AreObeyed (lines : List (List ℕ)) (journal : List Entry) : Type 0 where
   pub legal : Legal lines journal
+  pub only : (other : List Entry) → Legal lines other → other ≡ journal
   pub limits : AreWithinLimits lines
 
 -- The first of these lines were obeyed, and this is their journal.

@@ -4,7 +4,7 @@ use Rattle.nfc_base.specs.Signal.{Signal}
 use Rattle.nfc_base.specs.declared.event.Event.{Event}
 use Rattle.air_core.specs.Conversation.{Over, EachDue, receptions}
 use Rattle.nfc_bench.specs.declared.command.Command.{Command}
-use Rattle.nfc_bench.specs.declared.command.Command.TheVariants.{Skip, Fates, PlaceT2, PlaceT5, Remove, Find, Read}
+use Rattle.nfc_bench.specs.declared.command.Command.TheVariants.{Skip, Fates, PlaceT2, PlaceT4, PlaceT5, Remove, Find, Read}
 use Rattle.nfc_bench.specs.declared.device.Device.{Device}
 use Rattle.nfc_bench.specs.declared.entry.Answer.{Answer}
 use Rattle.nfc_bench.specs.declared.entry.Entry.{Entry}
@@ -14,11 +14,11 @@ use Rattle.nfc_bench.specs.Placed.{device_with, IfPlaced}
 use Rattle.nfc_bench.specs.Reading.{AsksOf}
 use Rattle.nfc_bench.specs.Legal.{air, State, IsAskedBy, AnswerLaw, LegalStep, EachLegal, changed, due, state_after, first_state}
 use Rattle.nfc_bench.specs.Journal.{NumberedLine, AreEntriesOf, asking_lines, Legal}
-use Rattle.nfc_bench.specs.Quiet.{SameCommands, OnlyPass}
+use Rattle.nfc_bench.specs.SameCommands.{SameCommands}
 use Rattle.nfc_bench.proofs.Spelling.{spells_one}
-use Rattle.nfc_bench.proofs.QuietAsked.{one_asked}
-use Rattle.nfc_bench.proofs.QuietAnswers.{one_read, one_find}
-use Rattle.nfc_bench.proofs.QuietEvents.{one_course}
+use Rattle.nfc_bench.proofs.OneList.{one_asked}
+use Rattle.nfc_bench.proofs.OneAnswer.{one_read, one_find}
+use Rattle.nfc_bench.proofs.OneCourse.{one_course}
 
 one_asked_of : (o : Option Device) (a b : List Signal) → IfPlaced (λ d. AsksOf d a) (a ≡ []) o → IfPlaced (λ d. AsksOf d b) (b ≡ []) o → a ≡ b
 one_asked_of None a b p q = p ∙ sym q
@@ -34,6 +34,7 @@ one_answer : (s : State) (c : Command) (asked : List Signal) (events : List Even
 one_answer s Skip asked events a b p q = absurd p
 one_answer s (Fates fates) asked events a b p q = p ∙ sym q
 one_answer s (PlaceT2 id blocks head) asked events a b p q = p ∙ sym q
+one_answer s (PlaceT4 id code container head) asked events a b p q = p ∙ sym q
 one_answer s (PlaceT5 id blocks size head) asked events a b p q = p ∙ sym q
 one_answer s (Remove id) asked events a b p q = p ∙ sym q
 one_answer s Find asked events a b p q = one_find s.world.listeners events a b p.tells q.tells
@@ -76,10 +77,6 @@ one_journal s (j ∷ js) (k ∷ ks) same p q =
     ap (λ c. state_after s c k.events) (sym same.1) ∙ ap (state_after s j.command) (sym events) in
     ap (λ e. e ∷ js) (same_entry j k same.0 same.1 events answer)
     ∙ ap (λ es. k ∷ es) (one_journal (state_after s j.command j.events) js ks same.2 p.1 (subst (λ t. EachLegal t ks) after q.1))
-
--- Where no line of fates has another letter than P, two legal journals of the same lines and commands are the same.
-pub quiet_journal : (js ks : List Entry) → SameCommands js ks → EachLegal first_state js → EachLegal first_state ks → OnlyPass js → js ≡ ks
-quiet_journal js ks same p q quiet = one_journal first_state js ks same p q
 
 -- entries of the same lines have the same commands
 same_commands : (lines : List NumberedLine) (js ks : List Entry) → AreEntriesOf lines js → AreEntriesOf lines ks → SameCommands js ks

@@ -3,7 +3,7 @@ use Rattle.std.proofs.Common.{◌≡◌, List, [], ◌∷◌, Option, Some, None
 use Rattle.nfc_base.specs.Signal.{Signal}
 use Rattle.nfc_base.specs.declared.event.Event.{Event}
 use Rattle.nfc_base.specs.declared.tag_link.AskFault.TheVariants as asking
-use Rattle.air_core.specs.Conversation.{receptions}
+use Rattle.air_core.specs.Conversation.{Note, receptions}
 use Rattle.air_core.specs.Waits.{Standing, Asking, Broken, Astray, stand}
 use Rattle.nfca_poll.specs.declared.fault.Picked.{Picked}
 use Rattle.nfca_poll.specs.declared.fault.PollFault.{PollFault}
@@ -17,11 +17,15 @@ use Rattle.nfc_bench.specs.Device.{device_store, how_of, size_of}
 use Rattle.nfc_bench.specs.Polling.{bytes_of, follows, selecting}
 use Rattle.nfc_bench.specs.Placed.{device_with, OfPlaced}
 use Rattle.nfc_bench.specs.Reading.{TellsOf}
-use Rattle.nfc_bench.specs.Answering.{TellsStanding, ReadEnds, ReadTells, InventoryEnds, FindEnds, FindTells}
+use Rattle.isodep_link.specs.Asking as exchange
+use Rattle.nfc_bench.specs.declared.entry.SeenKind.{SeenKind}
+use Rattle.nfc_bench.specs.declared.entry.SeenKind.TheVariants as seen
+use Rattle.nfc_bench.specs.CardAsking.{CardStanding, Activates, Exchanges, card_stands}
+use Rattle.nfc_bench.specs.Answering.{TellsStanding, TellsExchange, TellsCard, TellsBy, ReadEnds, ReadTells, InventoryEnds, FindEnds, FindTells}
 use Rattle.nfc_bench.proofs.Following.{follows_on}
 use Rattle.nfc_bench.proofs.Legality.{selecting_more}
-use Rattle.nfc_bench.proofs.QuietCuts.{SameCut, one_end, one_cut}
-use Rattle.nfc_bench.proofs.QuietForms.{one_telling}
+use Rattle.nfc_bench.proofs.OneCut.{SameCut, one_end, one_cut}
+use Rattle.nfc_bench.proofs.OneForm.{one_telling}
 
 -- at most one answer is so
 abbrev AtMostOne : (Answer → Type 0) → Type 0
@@ -37,6 +41,26 @@ one_standing Tells one (Broken asking.Memory cs) a b p q = absurd p
 one_standing Tells one (Broken asking.Protocol cs) a b p q = absurd p
 one_standing Tells one Astray a b p q = absurd p
 
+-- and of a Type 4 tag, by where its activation and its exchanges stand
+one_exchange : (Tells : Answer → Type 0) → AtMostOne Tells → (s : exchange.Standing) → AtMostOne (TellsExchange Tells s)
+one_exchange Tells one (exchange.Waits i f cs) a b p q = absurd p
+one_exchange Tells one (exchange.Rests i) a b p q = one a b p q
+one_exchange Tells one (exchange.Broken asking.FieldLost) a b p q = p ∙ sym q
+one_exchange Tells one (exchange.Broken asking.SixBad) a b p q = p ∙ sym q
+one_exchange Tells one (exchange.Broken asking.Memory) a b p q = absurd p
+one_exchange Tells one (exchange.Broken asking.Protocol) a b p q = absurd p
+one_exchange Tells one exchange.Astray a b p q = absurd p
+
+one_card : (Tells : Answer → Type 0) → AtMostOne Tells → (s : CardStanding) → AtMostOne (TellsCard Tells s)
+one_card Tells one (Activates bad) a b p q = absurd p
+one_card Tells one (Exchanges s) a b p q = one_exchange Tells one s a b p q
+
+one_told : (kind : SeenKind) (Tells : Answer → Type 0) → AtMostOne Tells → (asked : List Signal) (ns : List Note) → AtMostOne (TellsBy kind Tells asked ns)
+one_told seen.T2 Tells one asked ns a b p q = one_standing Tells one (stand 0 asked ns) a b p q
+one_told seen.T4 Tells one asked ns a b p q = one_card Tells one (card_stands asked ns) a b p q
+one_told seen.T5 Tells one asked ns a b p q = one_standing Tells one (stand 0 asked ns) a b p q
+one_told seen.Peer Tells one asked ns a b p q = absurd p
+
 one_placed : (o : Option Device) → AtMostOne (λ answer. OfPlaced (λ d. TellsOf d answer) o)
 one_placed None a b p q = absurd p
 one_placed (Some d) a b p q = one_telling (how_of d) (size_of d) (device_store d) a b p q
@@ -46,9 +70,9 @@ same_some a b e = cc
 
 -- A read has one answer.
 module _ (id : DeviceId) (ds : List Device) (asked : List Signal) where
-  one_read_end : (r : Result (Unit {0}) PollFault) (es : List Event) → AtMostOne (ReadEnds id ds asked r es)
-  one_read_end (Ok x) es a b p q =
-      one_standing (λ answer. OfPlaced (λ d. TellsOf d answer) (device_with (bytes_of id) ds)) (one_placed (device_with (bytes_of id) ds)) (stand 0 asked (receptions es)) a b p q
+  one_read_end : (r : Result SeenKind PollFault) (es : List Event) → AtMostOne (ReadEnds id ds asked r es)
+  one_read_end (Ok kind) es a b p q =
+      one_told kind (λ answer. OfPlaced (λ d. TellsOf d answer) (device_with (bytes_of id) ds)) (one_placed (device_with (bytes_of id) ds)) asked (receptions es) a b p q
   one_read_end (Err e) es a b p q = same_some a b (sym p.1 ∙ q.1)
 
   pub one_read : (events : List Event) (a b : Answer) → ReadTells id ds asked events a → ReadTells id ds asked events b → a ≡ b

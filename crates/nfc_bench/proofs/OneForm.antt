@@ -4,6 +4,7 @@ use Rattle.std.specs.List.{flat_map}
 use Rattle.std.proofs.lemmas.Bool.{cases_lt}
 use Rattle.tlv_area.specs.declared.space.Space.{Space}
 use Rattle.tlv_area.specs.declared.container.ContainerFault.{ContainerFault}
+use Rattle.tlv_area.specs.declared.container.FileMap.{FileMap}
 use Rattle.tlv_area.specs.declared.container.ContainerFault.TheVariants as container
 use Rattle.tlv_area.specs.Containers.{t2_container, t5_container}
 use Rattle.tlv_area.specs.Layout.{Tlv, Layout, free, reserved_by}
@@ -16,7 +17,7 @@ use Rattle.tag_reader.specs.declared.how.How.TheVariants.{T2, T4, T5}
 use Rattle.tag_reader.specs.Kinds.{IsStoreForm}
 use Rattle.nfc_bench.specs.declared.entry.Answer.{Answer}
 use Rattle.nfc_bench.specs.declared.entry.Answer.TheVariants as answers
-use Rattle.nfc_bench.specs.Reading.{IsAccess, Tells}
+use Rattle.nfc_bench.specs.Reading.{IsAreaAccess, IsAccess, Tells}
 
 nil_behind : (a b : List ℕ) → a ++ b ≡ [] → b ≡ []
 nil_behind [] b none = none
@@ -77,9 +78,20 @@ answer_by BadTlv writable = answers.BadTlv
 same_space : (a b : Space) → ◌≡◌ {A = Result Space ContainerFault} (Ok a) (Ok b) → a ≡ b
 same_space a b e = cc
 
+same_file : (a b : FileMap) → ◌≡◌ {A = Result FileMap ContainerFault} (Ok a) (Ok b) → a ≡ b
+same_file a b e = cc
+
+one_area_access : (how : How) (size : ℕ) (store : List ℕ) (v w : Bool) → IsAreaAccess how size store v → IsAreaAccess how size store w → v ≡ w
+one_area_access how size store v w p q = p.2 ∙ ap (λ (s : Space). s.writable) (same_space p.0 q.0 (sym p.1 ∙ q.1)) ∙ sym q.2
+
+access_one : (how : How) (size : ℕ) (store : List ℕ) (v w : Bool) → IsAccess how size store v → IsAccess how size store w → v ≡ w
+access_one T2 size store v w p q = one_area_access T2 size store v w p q
+access_one T4 size store v w p q = p.2 ∙ ap (λ (f : FileMap). f.writable) (same_file p.0 q.0 (sym p.1 ∙ q.1)) ∙ sym q.2
+access_one (T5 id) size store v w p q = one_area_access (T5 id) size store v w p q
+
 module _ (how : How) (size : ℕ) (store : List ℕ) where
   one_access : (v w : Bool) → IsAccess how size store v → IsAccess how size store w → v ≡ w
-  one_access v w p q = p.2 ∙ ap (λ (s : Space). s.writable) (same_space p.0 q.0 (sym p.1 ∙ q.1)) ∙ sym q.2
+  one_access v w p q = access_one how size store v w p q
 
   -- whether writing is free is told of a message alone
   abbrev AccessIf : Form → Bool → Type 0
