@@ -9,6 +9,8 @@ ghost use Rattle.nfc_bench.specs.Run.{IsRun, is_quiet, words_fault, line_fault, 
 ghost use Rattle.nfc_bench.specs.Stops.{RunStops};
 
 #[cfg(test)]
+mod card_tests;
+#[cfg(test)]
 mod crowd_tests;
 mod input;
 mod lines;
