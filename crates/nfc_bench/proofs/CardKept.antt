@@ -1,6 +1,6 @@
 -- What frames leave of the devices where a Type 4 tag is activated and asked: nothing that stays of them changes but the store
 -- of the tag that is asked.
-use Rattle.std.proofs.Common.{◌≡◌, ℕ, zero, suc, List, [], ◌∷◌, ◌++◌, length, map, Bool, true, false, if◌then◌else◌, Option, Some, None, refl, sym, ◌∙◌, ap, subst}
+use Rattle.std.proofs.Common.{◌≡◌, ℕ, List, [], ◌∷◌, ◌++◌, length, map, Bool, true, false, if◌then◌else◌, Option, Some, None, refl, sym, ◌∙◌, ap, subst}
 use Rattle.std.specs.List.{AllByRecursion}
 use Rattle.std.proofs.lemmas.List.{map-append, length-map}
 use Rattle.nfc_base.specs.declared.frame.Tech.TheVariants.{A}
@@ -25,7 +25,6 @@ use Rattle.t2t_tag.specs.Store.{T2Memory}
 use Rattle.t4t_tag.specs.Store.{T4State, IsSameTag, store_of, darkened}
 use Rattle.t4t_tag.proofs.Steps.{same_tag}
 use Rattle.tag_reader.specs.declared.how.How.TheVariants as hows
-use Rattle.isodep_link.specs.declared.block.Block.{Block}
 use Rattle.isodep_link.specs.declared.card.CardStep.{CardStep}
 use Rattle.isodep_link.specs.declared.card.CardStep.TheVariants as card
 use Rattle.isodep_link.specs.Activating.{rats}
@@ -36,7 +35,7 @@ use Rattle.isodep_link.specs.Card as ends
 use Rattle.nfc_bench.specs.Cards.{T4Near}
 use Rattle.nfc_bench.specs.declared.device.Device.{Device}
 use Rattle.nfc_bench.specs.declared.device.Device.TheVariants.{T2, T4, T5}
-use Rattle.nfc_bench.specs.Device.{devices, device_id, device_store, device_ready, device_selected, t2_machine, T4Did, by_card, linked, t4_did, t4_machine}
+use Rattle.nfc_bench.specs.Device.{devices, device_id, device_store, device_ready, device_selected, by_card, linked, t4_did, t4_machine}
 use Rattle.nfc_bench.specs.Legal.{air}
 use Rattle.nfc_bench.specs.Phases.{Kept, kept, ghosts}
 use Rattle.nfc_bench.specs.Standing.{at_rest, step_keeps}

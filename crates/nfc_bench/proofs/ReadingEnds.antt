@@ -51,7 +51,8 @@ none_behind [] = refl
 none_behind (x ∷ xs) = none_behind xs
 
 -- a found message is what the answer tells
-found_access : (d : Device) → IsPlainHow (how_of d) → (site : Site) (writable : Bool) → IsSite (how_of d) (size_of d) (device_store d) site writable → IsAccess (how_of d) (size_of d) (device_store d) writable
+found_access : (d : Device) → IsPlainHow (how_of d) → (site : Site) (writable : Bool)
+    → IsSite (how_of d) (size_of d) (device_store d) site writable → IsAccess (how_of d) (size_of d) (device_store d) writable
 found_access (T2 d) plain (Area m) writable is = (m.space, is.0, is.2)
 found_access (T2 d) plain (File m) writable is = absurd is.0
 found_access (T4 d) plain site writable is = absurd plain

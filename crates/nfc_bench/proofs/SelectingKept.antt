@@ -42,7 +42,8 @@ dark_stays (Active starred) (Ready k other) u = refl
 dark_stays (Active starred) (Active other) u = refl
 
 -- a Type 4 tag that gives up its link holds what it held
-four_stays : (id : List ℕ) (front next : Front) (u : T4Near) → kept (T4 (record { id = id; front = next; upper = left_at t4_machine front next u })) ≡ kept (T4 (record { id = id; front = front; upper = u }))
+four_stays : (id : List ℕ) (front next : Front) (u : T4Near)
+    → kept (T4 (record { id = id; front = next; upper = left_at t4_machine front next u })) ≡ kept (T4 (record { id = id; front = front; upper = u }))
 four_stays id Off next u = refl
 four_stays id Idle next u = refl
 four_stays id Sleep next u = refl
