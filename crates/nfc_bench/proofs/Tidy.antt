@@ -22,11 +22,11 @@ use Rattle.nfc_bench.specs.Legal.{air}
 use Rattle.nfc_bench.specs.Phases.{IsTidy, AreTidy}
 
 -- a front in a state, under which the machine of a Type 4 tag is tidy
-abbrev IsTidyAt : Front → T4Near → Type 0
+abbrev pub IsTidyAt : Front → T4Near → Type 0
 IsTidyAt front u = (is_active front ≡ true) ⊎ (is_unlinked u ≡ true)
 
 -- where a front leaves Active the link is given up
-left_tidy : (front next : Front) (u : T4Near) → IsTidyAt front u → IsTidyAt next (left_at t4_machine front next u)
+pub left_tidy : (front next : Front) (u : T4Near) → IsTidyAt front u → IsTidyAt next (left_at t4_machine front next u)
 left_tidy Off next u (inl a) = absurd cc
 left_tidy Off next u (inr n) = inr n
 left_tidy Idle next u (inl a) = absurd cc
