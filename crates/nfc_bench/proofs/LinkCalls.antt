@@ -1,10 +1,14 @@
--- What a reader calls devices with while it polls is no frame of a link to a card: it isn't RATS, and spells no block.
-use Rattle.std.proofs.Common.{◌≡◌, ℕ, ◌+◌, ◌-◌, ◌/◌, ◌%◌, ◌≤◌, List, length, drop, slice_index, Bool, true, false, ◌==◌, ◌&&◌, if◌then◌else◌, nat_lt, nat_le, Option, Some, None, refl, sym, ◌∙◌, ap, arith}
+-- What a reader calls devices with while it polls is no frame for a tag: it spells no command of a Type 2 tag, isn't RATS, and
+-- spells no block of a link.
+use Rattle.std.proofs.Common.{◌≡◌, ℕ, ◌+◌, ◌-◌, ◌/◌, ◌%◌, ◌≤◌, List, [], ◌∷◌, length, drop, slice_index, Bool, true, false, ◌==◌, ◌&&◌, if◌then◌else◌, nat_lt, nat_le, Option, Some, None, refl, sym, ◌∙◌, ap, arith}
 use Rattle.nfc_base.specs.Signal.{Signal}
 use Rattle.nfca_poll.specs.Calls.{Call, Reading, Calls, Other, Sens, All, Slp, Sdd, Sel, call_of, is_short, is_slp, is_sdd, is_sel, is_sel_cmd, is_sdd_par, known_count, known_bits, cmd_level, named_level, all_known}
 use Rattle.nfca_poll.specs.declared.upper.UpStep.{UpStep}
 use Rattle.nfca_poll.specs.declared.upper.UpStep.TheVariants as steps
 use Rattle.nfc_base.specs.Bits.{bit_count}
+use Rattle.t2t_tag.specs.declared.command.T2Command.TheVariants.{Read, Write}
+use Rattle.t2t_tag.specs.Spelling as t2
+use Rattle.t2t_tag.specs.Spelling.{command_of, spelled_command}
 use Rattle.t4t_tag.specs.Store.{T4State}
 use Rattle.isodep_link.specs.declared.block.Block.{Block}
 use Rattle.isodep_link.specs.declared.block.Block.TheVariants.{Ack, Nak, Deselect}
@@ -13,7 +17,7 @@ use Rattle.isodep_link.specs.Sizes.{is_rats, rats_code}
 use Rattle.isodep_link.specs.Card.{CardState, CardTurn, card_table, framed, stays, heeded, fresh}
 use Rattle.nfc_bench.specs.Device.{T4Did, by_card, linked, t4_did}
 
--- A frame of whole bytes begins with 50h to 97h, or isn't one. So do calls; a frame of a link begins with another byte.
+-- If this is a frame of whole bytes, it begins with 50h to 97h. So do calls; a frame for a tag begins with another byte.
 abbrev pub BeginsAsCalls : Signal → Type 0
 BeginsAsCalls f = f.tail ≡ 0 → (0x50 ≤ slice_index f.bytes 0) × (slice_index f.bytes 0 ≤ 0x97)
 
@@ -29,6 +33,33 @@ last_false true true false b h = refl
 last_false true false l b h = refl
 last_false false t l b h = refl
 
+-- no command begins so
+no_read : (n : ℕ) → 0x50 ≤ n → (n == 0x30) ≡ false
+no_read n h = grind arith
+
+no_write : (n : ℕ) → n ≤ 0x97 → (n == 0xA2) ≡ false
+no_write n h = grind arith
+
+none_spelled : (bytes : List ℕ) → 0x50 ≤ slice_index bytes 0 → slice_index bytes 0 ≤ 0x97 → command_of bytes ≡ None
+none_spelled [] h k = refl
+none_spelled (code ∷ []) h k = refl
+none_spelled (code ∷ block ∷ []) h k = ap (λ v. if v then Some (Read block) else None) (no_read code h)
+none_spelled (code ∷ block ∷ a ∷ []) h k = refl
+none_spelled (code ∷ block ∷ a ∷ b ∷ []) h k = refl
+none_spelled (code ∷ block ∷ a ∷ b ∷ c ∷ []) h k = refl
+none_spelled (code ∷ block ∷ a ∷ b ∷ c ∷ d ∷ []) h k = ap (λ v. if v then Some (Write block (a ∷ b ∷ c ∷ d ∷ [])) else None) (no_write code k)
+none_spelled (code ∷ block ∷ a ∷ b ∷ c ∷ d ∷ e ∷ more) h k = refl
+
+none_whole : (v w : Bool) (bytes : List ℕ) → (v ≡ true → (0x50 ≤ slice_index bytes 0) × (slice_index bytes 0 ≤ 0x97)) → (if w && v then command_of bytes else None) ≡ None
+none_whole true true bytes h = let k = h refl in none_spelled bytes k.0 k.1
+none_whole true false bytes h = refl
+none_whole false true bytes h = refl
+none_whole false false bytes h = refl
+
+pub no_command : (f : Signal) → BeginsAsCalls f → spelled_command f ≡ None
+no_command f h = none_whole (f.tail == 0) (t2.is_nfc_a f.tech) f.bytes (λ t. h (is_zero f.tail t))
+
+-- nor does RATS
 pub no_rats : (f : Signal) → BeginsAsCalls f → is_rats f ≡ false
 no_rats f h = last_false (is_nfc_a f.tech) (f.tail == 0) (length f.bytes == 2) (slice_index f.bytes 0 == 0xE0) (λ t. no_e0 (slice_index f.bytes 0) (h (is_zero f.tail t)).1)
 

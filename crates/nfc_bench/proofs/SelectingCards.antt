@@ -7,7 +7,7 @@ use Rattle.nfc_base.specs.Signal.{Signal}
 use Rattle.nfca_poll.specs.declared.kind.Kind.TheVariants as kinds
 use Rattle.nfca_poll.specs.Ident.{IsIdent}
 use Rattle.nfca_poll.specs.Levels.{levels}
-use Rattle.nfca_poll.specs.Calls.{Call, Calls, Other, call_of}
+use Rattle.nfca_poll.specs.Calls.{Call, Calls, call_of}
 use Rattle.nfca_poll.specs.Front.{Front, Off, Idle, Sleep, Ready, Active, front_says, front_next, is_active}
 use Rattle.nfca_poll.specs.Fronted.{Fronted, left_at, answer_by, after_by, active_answer, active_after}
 use Rattle.nfca_poll.specs.Crowd.{Card, Each, AreDistinct, AreOurs, StepsByFront, card_if, cards}
@@ -15,12 +15,9 @@ use Rattle.nfca_poll.specs.AnyStart.{HaveOwnIdents, LeavesAtCalls}
 use Rattle.nfca_poll.specs.Rounds.{most_found}
 use Rattle.nfca_poll.specs.Polled.{ArePolled, AreTidy, WakesIdle, IsTidy as Tidy}
 use Rattle.nfca_poll.specs.declared.upper.UpStep.TheVariants as ups
-use Rattle.t2t_tag.specs.declared.command.T2Command.{T2Command}
-use Rattle.t2t_tag.specs.declared.command.T2Command.TheVariants.{Read, Write}
-use Rattle.t2t_tag.specs.Spelling.{command_frame, spelled_command, T2Spelling}
+use Rattle.t2t_tag.specs.Spelling.{spelled_command}
 use Rattle.t2t_tag.specs.Store.{T2Memory}
 use Rattle.t2t_tag.specs.Step.{reply_frame, t2_after}
-use Rattle.t2t_tag.proofs.Spellings.{exact_by}
 use Rattle.nfc_bench.specs.declared.device.Device.{Device}
 use Rattle.nfc_bench.specs.declared.device.Device.TheVariants.{T2, T4, T5}
 use Rattle.t4t_tag.specs.Store.{T4State}
@@ -32,28 +29,7 @@ use Rattle.nfc_bench.specs.Phases as bench
 use Rattle.nfc_bench.specs.Phases.{Kept, kept, IsApart, AreSound, AreTame, IsTidy}
 use Rattle.nfc_bench.proofs.Ours.{device_kind, device_front, steps}
 use Rattle.nfc_bench.proofs.Tidy.{left_tidy}
-use Rattle.nfc_bench.proofs.LinkCalls.{BeginsAsCalls, call_begins, did_at_call}
-
--- a frame of six bytes that begins with the code of WRITE is no call
-no_write : (block : ℕ) (content : List ℕ) → length content ≡ 4 → call_of (command_frame (Write block content)) ≡ Other
-no_write block [] h = absurd (omega (arith, h))
-no_write block (a ∷ []) h = absurd (omega (arith, h))
-no_write block (a ∷ b ∷ []) h = absurd (omega (arith, h))
-no_write block (a ∷ b ∷ c ∷ []) h = absurd (omega (arith, h))
-no_write block (a ∷ b ∷ c ∷ d ∷ []) h = refl
-no_write block (a ∷ b ∷ c ∷ d ∷ e ∷ more) h = absurd (omega (arith, h))
-
-no_call : (k : T2Command) (f : Signal) → T2Spelling k f → call_of f ≡ Other
-no_call (Read block) f is = ap call_of is
-no_call (Write block content) f is = ap call_of is.1 ∙ no_write block content is.0
-
--- a call spells no command of a tag
-pub no_command : (f : Signal) (c : Call) → call_of f ≡ Calls c → spelled_command f ≡ None
-no_command f c e = by_command (spelled_command f) refl
-  where
-    by_command : (o : Option T2Command) → spelled_command f ≡ o → o ≡ None
-    by_command None s = refl
-    by_command (Some k) s = absurd (let other : call_of f ≡ Other = no_call k f ((exact_by f (spelled_command f) refl k).0 s) in cc)
+use Rattle.nfc_bench.proofs.LinkCalls.{BeginsAsCalls, call_begins, no_command, did_at_call}
 
 left_stays : (starred : Bool) (next : Front) (u : T2Memory) → left_at t2_machine (Active starred) next u ≡ u
 left_stays starred Off u = refl
@@ -116,7 +92,7 @@ foreign_at tag (Some t) f h v w n = absurd cc
 foreign_to : (u : T4Near) (f : Signal) → BeginsAsCalls f → is_unlinked u ≡ true → t4_did u u.link f ≡ record { says = ups.Foreign; after = u }
 foreign_to u f h n = foreign_at u.tag u.link f h (not u.tag.selected) (is_no_file u.tag.current) n
 
-abbrev near : List ℕ → Front → T4Near → Fronted T4Near
+abbrev pub near : List ℕ → Front → T4Near → Fronted T4Near
 near id front u = record { id = id; front = front; upper = u }
 
 -- so it steps by its front, and has no link afterwards
@@ -173,7 +149,7 @@ same_tech_woken (T4 d) = refl
 same_tech_woken (T5 p) = refl
 
 pub leaves : LeavesAtCalls ours device_unlinked
-leaves (T2 d) f c t u e = ((λ a. step_at_call d f (no_command f c e)), refl)
+leaves (T2 d) f c t u e = ((λ a. step_at_call d f (no_command f (call_begins f c e))), refl)
 leaves (T4 d) f c t u e = ((λ a. card_steps d.front d.id d.upper f (foreign_to d.upper f (call_begins f c e) u)), stays_unlinked (T4 d) f (call_begins f c e) u)
 leaves (T5 p) f c t u e = absurd cc
 
