@@ -39,3 +39,4 @@ pub mod QuietCuts
 pub mod QuietForms
 pub mod QuietAnswers
 pub mod QuietJournal
+pub mod Replaying
