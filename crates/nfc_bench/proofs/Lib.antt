@@ -40,3 +40,5 @@ pub mod QuietForms
 pub mod QuietAnswers
 pub mod QuietJournal
 pub mod Replaying
+pub mod TagFourSteps
+pub mod TagFour

@@ -7,7 +7,7 @@ use Rattle.t4t_tag.specs.declared.current.CurrentFile.{CurrentFile}
 use Rattle.t4t_tag.specs.declared.current.CurrentFile.TheVariants.{NoFile, Container, Ndef}
 use Rattle.t4t_tag.specs.Store.{T4State, IsT4State, IsSameTag, store_of, darkened, most_read, most_written, file_id, read_access, write_access, everyone, container_id}
 use Rattle.t4t_tag.specs.Spelling.{class_byte, select_code, read_code, update_code, application_name, offset_end}
-use Rattle.t4t_tag.specs.Step.{T4Turn, wrong_length, wrong_class, wrong_instruction, not_found, wrong_parameters, not_allowed, tells, opens, picks, writes, select_application, select_known, select_file, is_named, select_turn, read_bytes, read_file, asked_count, read_turn, update_file, update_turn, t4_step, t4_after}
+use Rattle.t4t_tag.specs.Step.{T4Turn, wrong_length, wrong_class, wrong_instruction, not_found, wrong_parameters, not_allowed, tells, opens, picks, writes, select_application, select_known, select_file, is_named, select_turn, read_bytes, read_file, asked_count, read_turn, update_file, update_turn, t4_after}
 use Rattle.t4t_tag.proofs.Turns.{by_test, content_of}
 use Rattle.t4t_tag.proofs.Steps.{same_tag, stays_tag}
 use Rattle.tag_reader.specs.Files.{t4_memory, shown, t4_link_step}
@@ -27,10 +27,12 @@ module _ (file : List ℕ) where
   abbrev IsLike : T4Turn → T4Turn → Type 0
   IsLike x y = with_file file x.after ≡ with_file file y.after
 
+  -- a read of bytes leaves all
   bytes_leave : (t : T4State) (bytes : List ℕ) (offset count : ℕ) → IsLeft t (read_bytes t bytes offset count)
   bytes_leave t bytes offset count =
       by_test (IsLeft t) (nat_le offset_end offset || nat_le (length bytes) offset) (tells t wrong_parameters) (tells t (content_of bytes offset count)) (λ h. refl) (λ h. refl)
 
+  -- a read of the current file leaves all
   file_leaves : (t : T4State) (current : CurrentFile) (offset count : ℕ) → IsLeft t (read_file t current offset count)
   file_leaves t NoFile offset count = refl
   file_leaves t Container offset count = bytes_leave t t.container offset count
@@ -42,12 +44,13 @@ module _ (file : List ℕ) where
       (λ k. refl)
       (λ k. bytes_leave t t.file offset count))
 
-  -- a read leaves all but the file, which it leaves as well
+  -- a read leaves all
   read_leaves : (t : T4State) (offset : ℕ) (rest : List ℕ) → IsLeft t (read_turn t offset rest)
   read_leaves t offset [] = refl
   read_leaves t offset (expected ∷ []) = file_leaves t t.current offset (asked_count expected)
   read_leaves t offset (expected ∷ more ∷ rest) = refl
 
+  -- an update of the current file leaves all but the file
   update_leaves_at : (t : T4State) (current : CurrentFile) (offset : ℕ) (content : List ℕ) → IsLeft t (update_file t current offset content)
   update_leaves_at t NoFile offset content = refl
   update_leaves_at t Container offset content = refl
@@ -69,6 +72,7 @@ module _ (file : List ℕ) where
       (λ h. refl)
       (λ h. update_leaves_at t t.current offset content)
 
+  -- what holds in both cases holds
   like_by : (v : Bool) (x y a b : T4Turn) → IsLike x a → IsLike y b → IsLike (if v then x else y) (if v then a else b)
   like_by true x y a b p q = p
   like_by false x y a b p q = q
@@ -78,6 +82,7 @@ module _ (file : List ℕ) where
     abbrev other : T4State
     other = with_file file t
 
+    -- SELECT by identifier does
     known_like : (id : ℕ) → IsLike (select_known other id) (select_known t id)
     known_like id =
         let ndef : T4State → T4Turn = λ u. if id == file_id u.container then picks u Ndef else tells u not_found in
@@ -86,15 +91,18 @@ module _ (file : List ℕ) where
         (like_by (id == container_id) (picks other Container) (ndef other) (picks t Container) (ndef t) refl
         (like_by (id == file_id t.container) (picks other Ndef) (tells other not_found) (picks t Ndef) (tells t not_found) refl refl))
 
+    -- SELECT of a file does
     name_like : (name : List ℕ) → IsLike (select_file other name) (select_file t name)
     name_like [] = refl
     name_like (high ∷ []) = refl
     name_like (high ∷ low ∷ []) = known_like (high * 256 + low)
     name_like (high ∷ low ∷ more ∷ rest) = refl
 
+    -- SELECT by name does
     application_like : (name : List ℕ) → IsLike (select_application other name) (select_application t name)
     application_like name = like_by (pointwise nat_eq name application_name) (opens other) (tells other not_found) (opens t) (tells t not_found) refl refl
 
+    -- SELECT does
     select_like : (p1 p2 : ℕ) (rest : List ℕ) → IsLike (select_turn other p1 p2 rest) (select_turn t p1 p2 rest)
     select_like p1 p2 [] = refl
     select_like p1 p2 (count ∷ behind) =
@@ -105,6 +113,7 @@ module _ (file : List ℕ) where
         (like_by ((p1 == 0x04) && (p2 == 0x00)) (select_application other name) (by_id other) (select_application t name) (by_id t) (application_like name)
         (like_by ((p1 == 0x00) && (p2 == 0x0C)) (select_file other name) (tells other wrong_parameters) (select_file t name) (tells t wrong_parameters) (name_like name) refl))
 
+    -- Each command leaves a tag with another file what it would leave, but for the file.
     pub selects_alike : (c : List ℕ) → with_file file (t4_after other c) ≡ with_file file (t4_after t c)
     selects_alike [] = refl
     selects_alike (a ∷ []) = refl
@@ -126,6 +135,7 @@ abbrev ran : T4State → List Signal → T4State
 ran t [] = t
 ran t (c ∷ cs) = ran (t4_after t c.bytes) cs
 
+-- no commands change its code, its container or its file's length
 ran_same : (cs : List Signal) (t : T4State) → IsSameTag t (ran t cs)
 ran_same [] t = record { code = refl; container = refl; length = refl }
 ran_same (c ∷ cs) t =
@@ -134,6 +144,7 @@ ran_same (c ∷ cs) t =
     record { code = rest.code ∙ one.code; container = rest.container ∙ one.container; length = rest.length ∙ one.length }
 
 module _ (code : ℕ) where
+  -- the tag behind a link is the one that it shows
   memory_at : (t : T4State) → IsT4State t → t.code ≡ code → t4_memory code (shown t) ≡ t
   memory_at t is e = ap (λ n. t4_memory n (shown t)) (sym e) ∙ memory_is t is
 
