@@ -43,3 +43,12 @@ pub mod OneCut
 pub mod OneForm
 pub mod OneAnswer
 pub mod OneJournal
+pub mod QuietEvents
+pub mod QuietAsked
+pub mod QuietCuts
+pub mod QuietForms
+pub mod QuietAnswers
+pub mod QuietJournal
+pub mod Replaying
+pub mod TagFourSteps
+pub mod TagFour
