@@ -5,6 +5,8 @@ pub mod Placing
 pub mod Placed
 pub mod Removing
 pub mod Ours
+pub mod Tidy
+pub mod LinkCalls
 pub mod Following
 pub mod SelectingCards
 pub mod SelectingAir
@@ -14,6 +16,8 @@ pub mod Unmoved
 pub mod TagTwo
 pub mod TagFive
 pub mod BrokenWaits
+pub mod DueWaits
+pub mod CardKept
 pub mod ReadingTags
 pub mod ReadingAir
 pub mod ReadingEnds
