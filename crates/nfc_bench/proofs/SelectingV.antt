@@ -29,7 +29,7 @@ use Rattle.t5t_tag.specs.Step.{T5Turn, sent}
 use Rattle.t5t_tag.proofs.Inventories.{unpicked}
 use Rattle.nfc_bench.specs.declared.command.DeviceId.TheVariants as ids
 use Rattle.nfc_bench.specs.declared.device.Device.{Device}
-use Rattle.nfc_bench.specs.declared.device.Device.TheVariants.{T2, T5}
+use Rattle.nfc_bench.specs.declared.device.Device.TheVariants.{T2, T4, T5}
 use Rattle.nfc_bench.specs.Powered.{Powered}
 use Rattle.nfc_bench.specs.Device.{devices, device_id, device_selected}
 use Rattle.nfc_bench.specs.Legal.{air}
@@ -138,6 +138,7 @@ module _ (id : List ℕ) where
 
   harmless : IsHarmless inventory
   harmless (T2 d) = refl
+  harmless (T4 d) = refl
   harmless (T5 p) = ap kept (steady_at id (T5 p) refl).1
 
   abbrev next : List Note → Next
@@ -195,6 +196,7 @@ module _ (id : List ℕ) where
 
   other_silent : (l : Device) → IsSound (kept l) → (id ≡ device_id l → ⊥) → says (relit l) ≡ None
   other_silent (T2 d) s o = refl
+  other_silent (T4 d) s o = refl
   other_silent (T5 p) s o = ap (λ (x : T5Turn). sent x.answer) (unpicked (darkened p.tag) (state_of p s) id o)
 
   others_silent : (ls : List Device) → AreSound (map kept ls) → AllByRecursion (λ l. id ≡ device_id l → ⊥) ls → Each (λ l. says l ≡ None) (map relit ls)
@@ -223,6 +225,10 @@ module _ (id : List ℕ) where
       by_kind (T2 d) split named =
           let sound : AreSound (map kept (a.before ++ T2 d ∷ a.behind)) = subst (λ ds. AreSound (map kept ds)) split s in
           let own : IsSound (kept (T2 d)) = sound_amid a.before (T2 d) a.behind sound in
+          absurd (not_eight (length d.id) own.0.size (ap length named ∙ eight))
+      by_kind (T4 d) split named =
+          let sound : AreSound (map kept (a.before ++ T4 d ∷ a.behind)) = subst (λ ds. AreSound (map kept ds)) split s in
+          let own : IsSound (kept (T4 d)) = sound_amid a.before (T4 d) a.behind sound in
           absurd (not_eight (length d.id) own.0.size (ap length named ∙ eight))
       by_kind (T5 p) split named =
           let sound : AreSound (map kept (a.before ++ T5 p ∷ a.behind)) = subst (λ ds. AreSound (map kept ds)) split s in
@@ -263,16 +269,19 @@ module _ (id : List ℕ) where
 -- a device of either kind stays as it is at an inventory
 stays_at : (id : List ℕ) (d : Device) → stepped_by devices d (inventory_of id) None ≡ d
 stays_at id (T2 d) = refl
+stays_at id (T4 d) = refl
 stays_at id (T5 p) = (steady_at id (T5 p) refl).1
 
 -- a device as a reset leaves it
 abbrev IsRelit : Device → Type 0
 IsRelit (T2 d) = d.front ≡ Idle
+IsRelit (T4 d) = d.front ≡ Idle
 IsRelit (T5 p) = p.lit ≡ true
 
 are_relit : (ls : List Device) → AllByRecursion IsRelit (map relit ls)
 are_relit [] = tt
 are_relit (T2 d ∷ ls) = (refl, are_relit ls)
+are_relit (T4 d ∷ ls) = (refl, are_relit ls)
 are_relit (T5 p ∷ ls) = (refl, are_relit ls)
 
 relit_front : (before behind : List Device) → AllByRecursion IsRelit (before ++ behind) → AllByRecursion IsRelit before
@@ -286,10 +295,12 @@ relit_back (l ∷ ls) behind h = relit_back ls behind h.1
 relit_aside : (id : List ℕ) (ls : List Device) → AllByRecursion IsRelit ls → AllByRecursion (λ l. id ≡ device_id l → ⊥) ls → AllByRecursion (IsAside ghosts id) ls
 relit_aside id [] h o = tt
 relit_aside id (T2 d ∷ ls) h o = (record { rests = λ t. (ap is_ready h.0, ap is_active h.0); other = o.0 }, relit_aside id ls h.1 o.1)
+relit_aside id (T4 d ∷ ls) h o = (record { rests = λ t. (ap is_ready h.0, ap is_active h.0); other = o.0 }, relit_aside id ls h.1 o.1)
 relit_aside id (T5 p ∷ ls) h o = (record { rests = λ t. absurd cc; other = o.0 }, relit_aside id ls h.1 o.1)
 
 relit_id : (l : Device) → device_id (relit l) ≡ device_id l
 relit_id (T2 d) = refl
+relit_id (T4 d) = refl
 relit_id (T5 p) = refl
 
 relit_among : (before : List Device) (d : Device) (behind : List Device) → map relit (before ++ d ∷ behind) ≡ map relit before ++ relit d ∷ map relit behind
@@ -470,6 +481,7 @@ module _ (id : List ℕ) (eight : length id ≡ 8) (old mid new : Air Device) (r
 
       selected_if : (d : Device) → IsRelit d → IsSound (kept d) → device_id d ≡ id → device_selected d ≡ true
       selected_if (T2 d) h s named = absurd (not_eight (length d.id) s.0.size (ap length named ∙ eight))
+      selected_if (T4 d) h s named = absurd (not_eight (length d.id) s.0.size (ap length named ∙ eight))
       selected_if (T5 p) h s named = h
 
       -- it is selected, and stands at the place that was found
