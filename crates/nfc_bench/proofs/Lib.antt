@@ -12,6 +12,7 @@ pub mod SelectingCards
 pub mod SelectingAir
 pub mod SelectingKept
 pub mod Searching
+pub mod SelectingLinks
 pub mod Unmoved
 pub mod TagTwo
 pub mod TagFive
