@@ -17,6 +17,7 @@ pub mod BrokenWaits
 pub mod ReadingTags
 pub mod ReadingAir
 pub mod ReadingEnds
+pub mod CardReadingNotes
 pub mod SelectingPlaces
 pub mod SelectingA
 pub mod SelectingV
