@@ -14,6 +14,8 @@ pub mod Unmoved
 pub mod TagTwo
 pub mod TagFive
 pub mod BrokenWaits
+pub mod DueWaits
+pub mod CardKept
 pub mod ReadingTags
 pub mod ReadingAir
 pub mod ReadingEnds

@@ -1,5 +1,5 @@
 -- What a read of the selected tag answers, by what its link did.
-use Rattle.std.proofs.Common.{◌≡◌, inl, inr, ◌⊎◌, ℕ, suc, ◌+◌, ◌<◌, List, [], ◌∷◌, ◌++◌, length, drop, Bool, true, false, Some, None, refl, sym, ◌∙◌, ap, subst, arith, IfOk}
+use Rattle.std.proofs.Common.{◌≡◌, ◌↔◌, inl, inr, ◌⊎◌, ℕ, suc, ◌+◌, ◌<◌, List, [], ◌∷◌, ◌++◌, length, drop, Bool, true, false, Some, None, refl, sym, ◌∙◌, ap, subst, arith, IfOk}
 use Rattle.std.specs.declared.alloc.AllocError.{AllocError}
 use Rattle.std.specs.Prelude.{map, Option, Result, Ok, Err}
 use Rattle.std.specs.List.{AllByRecursion}
@@ -31,14 +31,15 @@ use Rattle.tag_reader.specs.Reading.{IsFound, IsSite, IsReadFault, is_told}
 use Rattle.tag_reader.proofs.Knowing.{due_more}
 use Rattle.tag_reader.proofs.Lists.{asked_front}
 use Rattle.nfc_bench.specs.declared.device.Device.{Device}
-use Rattle.nfc_bench.specs.declared.device.Device.TheVariants.{T2, T5}
+use Rattle.nfc_bench.specs.declared.device.Device.TheVariants.{T2, T4, T5}
 use Rattle.nfc_bench.specs.declared.entry.Answer.{Answer}
 use Rattle.nfc_bench.specs.declared.entry.Answer.TheVariants as answers
 use Rattle.nfc_bench.specs.Device.{devices, device_store, how_of, size_of}
 use Rattle.nfc_bench.specs.Answering.{TellsStanding}
 use Rattle.nfc_bench.specs.Legal.{air}
 use Rattle.nfc_bench.specs.Reading.{AsksOf, IsAccess, TellsOf}
-use Rattle.nfc_bench.specs.Phases.{ghosts, kept, Stands, Reads, MayEnd, told_by}
+use Rattle.nfc_bench.specs.Linking.{IsPlainHow}
+use Rattle.nfc_bench.specs.Phases.{ghosts, kept, Stands, Asked, Reads, MayEnd, told_by}
 use Rattle.nfc_bench.proofs.SelectingAir.{going_lost}
 use Rattle.nfc_bench.proofs.SelectingKept.{going_keeps}
 use Rattle.nfc_bench.proofs.BrokenWaits.{EndsLost, lost_ends, broken_front, stays_lit}
@@ -50,13 +51,15 @@ none_behind [] = refl
 none_behind (x ∷ xs) = none_behind xs
 
 -- a found message is what the answer tells
-found_access : (d : Device) (site : Site) (writable : Bool) → IsSite (how_of d) (size_of d) (device_store d) site writable → IsAccess (how_of d) (size_of d) (device_store d) writable
-found_access d (Area m) writable is = (m.space, is.0, is.2)
-found_access (T2 d) (File m) writable is = absurd is.0
-found_access (T5 p) (File m) writable is = absurd is.0
+found_access : (d : Device) → IsPlainHow (how_of d) → (site : Site) (writable : Bool) → IsSite (how_of d) (size_of d) (device_store d) site writable → IsAccess (how_of d) (size_of d) (device_store d) writable
+found_access (T2 d) plain (Area m) writable is = (m.space, is.0, is.2)
+found_access (T2 d) plain (File m) writable is = absurd is.0
+found_access (T4 d) plain site writable is = absurd plain
+found_access (T5 p) plain (Area m) writable is = (m.space, is.0, is.2)
+found_access (T5 p) plain (File m) writable is = absurd is.0
 
-found_tells : (d : Device) (found : Found) → IsFound (how_of d) (size_of d) (device_store d) found → TellsOf d (answers.Message found.message found.writable)
-found_tells d found is = (is.held, found_access d found.site found.writable is.site)
+found_tells : (d : Device) → IsPlainHow (how_of d) → (found : Found) → IsFound (how_of d) (size_of d) (device_store d) found → TellsOf d (answers.Message found.message found.writable)
+found_tells d plain found is = (is.held, found_access d plain found.site found.writable is.site)
 
 -- What a read asked, where each of the first n READs is asked: these commands, or those that were answered and the one
 -- that the link ended with.
@@ -65,7 +68,20 @@ record AskedSome (d : Device) (asked : List Signal) : Type 0 where
   pub list : asked ≡ first (how_of d) (device_store d) count
   pub each : AreDue (how_of d) (size_of d) (device_store d) count
 
-module _ (a : Air Device) (place : ℕ) (d : Device) (s : Stands (moment a) place d) (q : PlainSeen Device) (m : PlainMoves ghosts (begun a place) q) where
+-- what a read of a plain tag did
+pub record ReadsPlain (old new : Moment (World Device)) (d : Device) (answer : Answer) : Type 0 where
+  pub commands : List Signal
+  pub asks : AsksOf d commands
+  pub asked : Asked (waits_next commands) old new
+  pub ends : TellsStanding (TellsOf d) (stand 0 commands asked.notes) answer
+  pub lost : (answer ≡ answers.FieldLost) ↔ (0 < breaks asked.going.events)
+
+as_reads : (old new : Moment (World Device)) (d : Device) (answer : Answer) → IsPlainHow (how_of d) → ReadsPlain old new d answer → Reads old new d answer
+as_reads old new (T2 d) answer plain r = record { commands = r.commands; asks = r.asks; asked = r.asked; ends = r.ends; lost = r.lost }
+as_reads old new (T4 d) answer plain r = absurd plain
+as_reads old new (T5 p) answer plain r = record { commands = r.commands; asks = r.asks; asked = r.asked; ends = r.ends; lost = r.lost }
+
+module _ (a : Air Device) (place : ℕ) (d : Device) (s : Stands (moment a) place d) (plain : IsPlainHow (how_of d)) (q : PlainSeen Device) (m : PlainMoves ghosts (begun a place) q) where
   abbrev pub from : LinkView
   from = plain_view ghosts (begun a place)
 
@@ -79,7 +95,7 @@ module _ (a : Air Device) (place : ℕ) (d : Device) (s : Stands (moment a) plac
   HasAskedAllOf = HasAskedAll (how_of d) (size_of d) from.state.store from to
 
   abbrev ReadsSo : Answer → Type 0
-  ReadsSo answer = Reads (moment a) (moment q.air) d answer
+  ReadsSo answer = ReadsPlain (moment a) (moment q.air) d answer
 
   none_before : from.answered ≡ []
   none_before = ap answered_in (none_behind a.trace)
@@ -122,7 +138,7 @@ module _ (a : Air Device) (place : ℕ) (d : Device) (s : Stands (moment a) plac
   all_reads_of n list = subst (AllByRecursion (IsRead d)) (sym list) (all_reads d (device_store d) n)
 
   same_devices : (n : ℕ) → m.asked ≡ first (how_of d) (device_store d) n → map kept q.air.listeners ≡ map kept a.listeners
-  same_devices n list = going_keeps (waits_next m.asked) (moment a) (moment q.air) m.notes (reads_harmless d m.asked (all_reads_of n list)) m.going
+  same_devices n list = going_keeps (waits_next m.asked) (moment a) (moment q.air) m.notes (reads_harmless d plain m.asked (all_reads_of n list)) m.going
 
   -- the field was lost exactly where the waits ended so
   broken_by : 0 < breaks m.going.events → EndsLost m.asked m.notes
@@ -184,7 +200,7 @@ module _ (a : Air Device) (place : ℕ) (d : Device) (s : Stands (moment a) plac
       → (answer ≡ answers.FieldLost → 0 < breaks m.going.events) → (0 < breaks m.going.events → answer ≡ answers.FieldLost) → ReadsSo answer
   read_broken h answer e left over stands tells lost by_break =
       let some = asked_more h e over in
-      let whole = some_asked d s.sound in
+      let whole = some_asked d s.sound plain in
       let front = asked_front (how_of d) (size_of d) (device_store d) some.count whole.0 some.each whole.1 in
       reads_by answer some.count some.list front.0 (subst (AsksOf d) (front.1 ∙ ap (λ xs. xs ++ front.0) (sym some.list)) whole.1)
       (Broken e (left ++ front.0)) (broken_front 0 m.asked m.notes e left front.0 stands) refl (tells (left ++ front.0)) lost by_break
@@ -252,12 +268,15 @@ new_is p is =
     ap (λ n. as_seen p.air p.place n None None) (sym is.start) ∙ ap (λ x. as_seen p.air p.place p.start x None) (sym is.last)
     ∙ ap (λ x. as_seen p.air p.place p.start p.last x) (sym is.over)
 
-module _ (p : PlainSeen Device) (is : IsNew p) (how : How) (one : (e : Device) × Stands (moment p.air) p.place e × (how ≡ how_of e)) where
+module _ (p : PlainSeen Device) (is : IsNew p) (how : How) (one : (e : Device) × Stands (moment p.air) p.place e × (how ≡ how_of e) × IsPlainHow how) where
+  plain_one : IsPlainHow (how_of one.0)
+  plain_one = subst IsPlainHow one.2 one.3
+
   pub new_ready : IsPlainReady ghosts p
-  new_ready = record { start = omega (arith, is.start); tag = has_tag p.air p.place one.0 one.1 }
+  new_ready = record { start = omega (arith, is.start); tag = has_tag p.air p.place one.0 one.1 plain_one }
 
   pub new_tag : IsTag (how_of one.0) (size_of one.0) (plain_view ghosts p)
-  new_tag = subst (λ x. IsTag (how_of one.0) (size_of one.0) (plain_view ghosts x)) (new_is p is) (shows_tag p.air p.place one.0 one.1)
+  new_tag = subst (λ x. IsTag (how_of one.0) (size_of one.0) (plain_view ghosts x)) (new_is p is) (shows_tag p.air p.place one.0 one.1 plain_one)
 
   abbrev pub new_is_tag : (size : ℕ) × IsTag how size (plain_view ghosts p)
   new_is_tag = (size_of one.0, subst (λ h. IsTag h (size_of one.0) (plain_view ghosts p)) (sym one.2) new_tag)
@@ -271,7 +290,7 @@ module _ (p : PlainSeen Device) (is : IsNew p) (how : How) (one : (e : Device) �
 
     pub ends_may : (fault : ReadFault) → IsReadFault how (plain_view ghosts p).state.store (plain_view ghosts p) (plain_view ghosts q) fault → MayEnd fault
     ends_may fault err =
-        may_end p.air p.place one.0 one.1 q from_new how (plain_view ghosts p).state.store fault
+        may_end p.air p.place one.0 one.1 plain_one q from_new how (plain_view ghosts p).state.store fault
         (subst (λ x. IsReadFault how (plain_view ghosts p).state.store (plain_view ghosts x) (plain_view ghosts q) fault) (sym (new_is p is)) err)
 
     -- what is asked of a tag of this kind, and all of it
@@ -292,8 +311,10 @@ module _ (p : PlainSeen Device) (is : IsNew p) (how : How) (one : (e : Device) �
     goes_here goes = subst (λ x. GoesOn (plain_view ghosts x) (plain_view ghosts q)) (sym (new_is p is)) goes
 
     -- what a read of the tag that stands there did, a read of any that stands there did
-    of_any : (answer : Answer) → Reads (moment p.air) (moment q.air) one.0 answer → (d : Device) → Stands (moment p.air) p.place d → Reads (moment p.air) (moment q.air) d answer
-    of_any answer reads d stands = subst (λ e. Reads (moment p.air) (moment q.air) e answer) (sym (stands_one p.air p.place one.0 one.1 d stands)) reads
+    of_any : (answer : Answer) → ReadsPlain (moment p.air) (moment q.air) one.0 answer → (d : Device) → Stands (moment p.air) p.place d → Reads (moment p.air) (moment q.air) d answer
+    of_any answer reads d stands =
+        subst (λ e. Reads (moment p.air) (moment q.air) e answer) (sym (stands_one p.air p.place one.0 one.1 d stands))
+        (as_reads (moment p.air) (moment q.air) one.0 answer plain_one reads)
 
     pub ends_found : (found : Found) → ((size : ℕ) → IsTag how size (plain_view ghosts p) → HasAskedEach how size p) → GoesOn (plain_view ghosts p) (plain_view ghosts q)
         → ((size : ℕ) → IsTag how size (plain_view ghosts p) → IsFound how size (plain_view ghosts p).state.store found)
@@ -303,7 +324,7 @@ module _ (p : PlainSeen Device) (is : IsNew p) (how : How) (one : (e : Device) �
         subst (λ xs. IsFound (how_of one.0) (size_of one.0) xs found) new_store
         (subst (λ h. IsFound h (size_of one.0) (plain_view ghosts p).state.store found) one.2 (ok new_is_tag.0 new_is_tag.1)) in
         of_any (answers.Message found.message found.writable)
-        (read_told p.air p.place one.0 one.1 q from_new (answers.Message found.message found.writable) (each_here (whole new_is_tag.0 new_is_tag.1)) (goes_here goes) (found_tells one.0 found held))
+        (read_told p.air p.place one.0 one.1 plain_one q from_new (answers.Message found.message found.writable) (each_here (whole new_is_tag.0 new_is_tag.1)) (goes_here goes) (found_tells one.0 plain_one found held))
 
     pub ends_told : (fault : ReadFault) (result : Result Answer AllocError) → IfOk result (λ answer. told_by fault ≡ Some answer)
         → ((size : ℕ) → IsTag how size (plain_view ghosts p) → HasAskedSome how size p)
@@ -318,5 +339,5 @@ module _ (p : PlainSeen Device) (is : IsNew p) (how : How) (one : (e : Device) �
         (subst (λ xs. IsReadFault (how_of one.0) xs (plain_view ghosts p) (plain_view ghosts q) fault) new_store
         (subst (λ h. IsReadFault h (plain_view ghosts p).state.store (plain_view ghosts p) (plain_view ghosts q) fault) one.2 err)) in
         of_any answer
-        (read_fault p.air p.place one.0 one.1 q from_new fault answer told (some_here (some new_is_tag.0 new_is_tag.1))
+        (read_fault p.air p.place one.0 one.1 plain_one q from_new fault answer told (some_here (some new_is_tag.0 new_is_tag.1))
         (λ is'. each_here (whole new_is_tag.0 new_is_tag.1 is')) (λ is'. goes_here (goes is')) here)

@@ -1,5 +1,5 @@
 -- What stays of the devices while a reader polls: resets, calls, inventories and the dark change no device but in its state.
-use Rattle.std.proofs.Common.{◌≡◌, List, [], ◌∷◌, ◌++◌, map, if◌then◌else◌, None, refl, ◌∙◌, ap}
+use Rattle.std.proofs.Common.{◌≡◌, ℕ, List, [], ◌∷◌, ◌++◌, map, if◌then◌else◌, None, refl, ◌∙◌, ap}
 use Rattle.nfc_base.specs.declared.frame.Tech.TheVariants.{A, V}
 use Rattle.nfc_base.specs.declared.event.Event.{Event}
 use Rattle.nfc_base.specs.declared.event.Event.TheVariants.{Reset, Request, Answer, Clash}
@@ -13,9 +13,10 @@ use Rattle.nfca_poll.specs.Front.{Front, Off, Idle, Sleep, Ready, Active}
 use Rattle.nfca_poll.specs.Fronted.{left_at}
 use Rattle.t2t_tag.specs.Spelling.{spelled_command}
 use Rattle.t2t_tag.specs.Store.{T2Memory}
+use Rattle.nfc_bench.specs.Cards.{T4Near}
 use Rattle.nfc_bench.specs.declared.device.Device.{Device}
-use Rattle.nfc_bench.specs.declared.device.Device.TheVariants.{T2, T5}
-use Rattle.nfc_bench.specs.Device.{devices, t2_machine}
+use Rattle.nfc_bench.specs.declared.device.Device.TheVariants.{T2, T4, T5}
+use Rattle.nfc_bench.specs.Device.{devices, t2_machine, t4_machine}
 use Rattle.nfc_bench.specs.Legal.{air}
 use Rattle.nfc_bench.specs.Phases.{Kept, kept}
 use Rattle.nfc_bench.proofs.SelectingCards.{carded, call_goes}
@@ -40,12 +41,26 @@ dark_stays (Active starred) Sleep u = refl
 dark_stays (Active starred) (Ready k other) u = refl
 dark_stays (Active starred) (Active other) u = refl
 
+-- a Type 4 tag that gives up its link holds what it held
+four_stays : (id : List ℕ) (front next : Front) (u : T4Near) → kept (T4 (record { id = id; front = next; upper = left_at t4_machine front next u })) ≡ kept (T4 (record { id = id; front = front; upper = u }))
+four_stays id Off next u = refl
+four_stays id Idle next u = refl
+four_stays id Sleep next u = refl
+four_stays id (Ready k starred) next u = refl
+four_stays id (Active starred) Off u = refl
+four_stays id (Active starred) Idle u = refl
+four_stays id (Active starred) Sleep u = refl
+four_stays id (Active starred) (Ready k other) u = refl
+four_stays id (Active starred) (Active other) u = refl
+
 pub kept_dark : (d : Device) → kept (devices.darkened d) ≡ kept d
 kept_dark (T2 d) = ap (λ u. kept (T2 (carded d.id d.front u))) (dark_stays d.front Off d.upper)
+kept_dark (T4 d) = four_stays d.id d.front Off d.upper
 kept_dark (T5 p) = refl
 
 pub kept_lit : (d : Device) → kept (devices.woken d) ≡ kept d
 kept_lit (T2 d) = ap (λ u. kept (T2 (carded d.id d.front u))) (dark_stays d.front Idle d.upper)
+kept_lit (T4 d) = four_stays d.id d.front Idle d.upper
 kept_lit (T5 p) = refl
 
 map_kept : (g : Device → Device) → ((d : Device) → kept (g d) ≡ kept d) → (ds : List Device) → map kept (map g ds) ≡ map kept ds

@@ -18,7 +18,7 @@ use Rattle.t5t_tag.proofs.Hushed.{with_quiet, IsAlike, addressed_alike}
 use Rattle.tag_reader.specs.Kinds.{t5_step}
 use Rattle.nfc_bench.specs.Powered.{Powered}
 use Rattle.nfc_bench.specs.declared.device.Device.{Device}
-use Rattle.nfc_bench.specs.declared.device.Device.TheVariants.{T2, T5}
+use Rattle.nfc_bench.specs.declared.device.Device.TheVariants.{T2, T4, T5}
 use Rattle.nfc_bench.specs.Device.{device_after, device_store, device_commands, device_darkened, device_selected}
 use Rattle.nfc_bench.specs.Phases.{ghosts}
 
@@ -171,6 +171,7 @@ module _ (t : T5State) (own : List ℕ) (code : ℕ) (rest : List ℕ) where
 -- a lit device whose tag has heard a command, or hasn't
 abbrev IsLitBy : T5State → Signal → Device → Type 0
 IsLitBy t f (T2 d) = ⊥
+IsLitBy t f (T4 d) = ⊥
 IsLitBy t f (T5 p) = (p.lit ≡ true) × HasHeard t f p.tag
 
 -- the tag as its step sees it
@@ -186,6 +187,7 @@ module _ (p : Powered) (own : List ℕ) (code : ℕ) (rest : List ℕ) where
 
   does : (m : Device) → IsLitBy t f m → DoesAgain ghosts (IsLitBy t f) (T5 p) f m
   does (T2 d) is = absurd is
+  does (T4 d) is = absurd is
   does (T5 q) is =
       let goes : device_after (T5 q) f ≡ T5 (record { tag = t5_after q.tag f; lit = true }) =
       ap (λ v. if v then T5 (record { tag = t5_after q.tag f; lit = true }) else T5 q) is.0 in
@@ -207,6 +209,7 @@ module _ (p : Powered) (own : List ℕ) (code : ℕ) (rest : List ℕ) where
 -- a Type 5 tag of this identifier, size and locked blocks
 abbrev IsTagAs : T5State → Device → Type 0
 IsTagAs t (T2 d) = ⊥
+IsTagAs t (T4 d) = ⊥
 IsTagAs t (T5 p) = (p.tag.id ≡ t.id) × (p.tag.size ≡ t.size) × (p.tag.locked ≡ t.locked)
 
 pub plain_five : (p : Powered) → IsPlainTag ghosts Type5 p.tag.id (T5 p)
@@ -214,6 +217,7 @@ plain_five p = plain_by ghosts Type5 p.tag.id (IsTagAs p.tag) (T5 p) (refl, refl
   where
     goes_on : (m : Device) (f : Signal) → MayAsk Type5 p.tag.id f → IsTagAs p.tag m → IsTagAs p.tag (device_after m f)
     goes_on (T2 d) f may is = absurd is
+    goes_on (T4 d) f may is = absurd is
     goes_on (T5 q) f may is = by_light q.lit
       where
         by_light : (v : Bool) → IsTagAs p.tag (if v then T5 (record { tag = t5_after q.tag f; lit = true }) else T5 q)
@@ -222,6 +226,7 @@ plain_five p = plain_by ghosts Type5 p.tag.id (IsTagAs p.tag) (T5 p) (refl, refl
 
     steady : (m : Device) (f : Signal) → MayAsk Type5 p.tag.id f → IsTagAs p.tag m → device_selected m ≡ true → IsSteady ghosts m f
     steady (T2 d) f may is s = absurd is
+    steady (T4 d) f may is s = absurd is
     steady (T5 q) f may is s = subst (IsSteady ghosts (T5 q)) (sym may.frame) (steady_five q p.tag.id may.code may.rest s)
 
     steps_as : (t : T5State) → t.id ≡ p.tag.id → t.size ≡ p.tag.size → t.locked ≡ p.tag.locked → t5_step t.id t.size t.locked false ≡ t5_step p.tag.id p.tag.size p.tag.locked false
@@ -230,8 +235,10 @@ plain_five p = plain_by ghosts Type5 p.tag.id (IsTagAs p.tag) (T5 p) (refl, refl
 
     same : (m : Device) → IsTagAs p.tag m → device_commands m ≡ device_commands (T5 p)
     same (T2 d) is = absurd is
+    same (T4 d) is = absurd is
     same (T5 q) is = steps_as q.tag is.0 is.1 is.2
 
     dark : (m : Device) → IsTagAs p.tag m → device_commands (device_darkened m) ≡ device_commands (T5 p)
     dark (T2 d) is = absurd is
+    dark (T4 d) is = absurd is
     dark (T5 q) is = steps_as q.tag is.0 is.1 is.2

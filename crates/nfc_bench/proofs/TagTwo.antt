@@ -21,7 +21,7 @@ use Rattle.t2t_tag.proofs.Spellings.{exact_by}
 use Rattle.t5t_tag.proofs.Stores.{length_with_block, with_block_again}
 use Rattle.tag_reader.specs.Kinds.{t2_step}
 use Rattle.nfc_bench.specs.declared.device.Device.{Device}
-use Rattle.nfc_bench.specs.declared.device.Device.TheVariants.{T2, T5}
+use Rattle.nfc_bench.specs.declared.device.Device.TheVariants.{T2, T4, T5}
 use Rattle.nfc_bench.specs.Device.{says_of, t2_machine, device_answer, device_after, device_store, device_commands, device_darkened, device_selected}
 use Rattle.nfc_bench.specs.Phases.{ghosts}
 
@@ -120,6 +120,7 @@ leaves ls starred Other = home_rests starred
 -- a device that has heard only frames that spell nothing
 abbrev pub IsUnspoken : T2Memory → Device → Type 0
 IsUnspoken u (T2 e) = (e.upper ≡ u) × (is_ready e.front ≡ false)
+IsUnspoken u (T4 e) = ⊥
 IsUnspoken u (T5 p) = ⊥
 
 none_says : (id : List ℕ) (front : Front) (u : T2Memory) (f : Signal) → wakes (call_of f) ≡ false → spelled_command f ≡ None → is_ready front ≡ false
@@ -145,6 +146,7 @@ none_goes id (Active starred) u v f w e r s =
 -- a selected device that holds what it held before a frame, or what it holds once it has heard it
 abbrev pub IsSpoken : T2Memory → Signal → Device → Type 0
 IsSpoken u f (T2 e) = (is_active e.front ≡ true) × ((e.upper ≡ u) ⊎ (e.upper ≡ t2_after u f))
+IsSpoken u f (T4 e) = ⊥
 IsSpoken u f (T5 p) = ⊥
 
 module _ (d : Fronted T2Memory) (f : Signal) where
@@ -159,7 +161,9 @@ module _ (d : Fronted T2Memory) (f : Signal) where
     where
       stores : (m : Device) → IsUnspoken d.upper m → device_store m ≡ d.upper.store
       stores (T2 y) is = ap (λ u. u.store) is.0
+      stores (T4 e) is = absurd is
       stores (T5 p) is = absurd is
+  unspoken_does w e (T4 x) is = absurd is
   unspoken_does w e (T5 p) is = absurd is
 
   module _ (c : T2Command) (e : spelled_command f ≡ Some c) where
@@ -199,6 +203,7 @@ module _ (d : Fronted T2Memory) (f : Signal) where
 
     spoken_does : (m : Device) → IsSpoken d.upper f m → DoesAgain ghosts (IsSpoken d.upper f) (T2 d) f m
     spoken_does (T2 x) is = by_front x.id x.front x.upper is.0 is.1
+    spoken_does (T4 e) is = absurd is
     spoken_does (T5 p) is = absurd is
 
 -- not ready, since active
@@ -232,6 +237,7 @@ steady_two d f may a = by_command (spelled_command f) refl
 -- a device whose locked blocks are these
 abbrev pub LocksAs : List Bool → Device → Type 0
 LocksAs locked (T2 e) = e.upper.locked ≡ locked
+LocksAs locked (T4 e) = ⊥
 LocksAs locked (T5 p) = ⊥
 
 says_locked : (o : Option Signal) (u : T2Memory) (d : Fronted T2Memory) (f : Signal) → u.locked ≡ d.upper.locked
@@ -251,16 +257,20 @@ plain_two d = plain_by ghosts Type2 d.id (LocksAs d.upper.locked) (T2 d) refl go
   where
     goes_on : (m : Device) (f : Signal) → MayAsk Type2 d.id f → LocksAs d.upper.locked m → LocksAs d.upper.locked (device_after m f)
     goes_on (T2 e) f may is = after_locked e.front e f ∙ is
+    goes_on (T4 e) f may is = absurd is
     goes_on (T5 p) f may is = absurd is
 
     steady : (m : Device) (f : Signal) → MayAsk Type2 d.id f → LocksAs d.upper.locked m → device_selected m ≡ true → IsSteady ghosts m f
     steady (T2 e) f may is s = steady_two e f may s
+    steady (T4 e) f may is s = absurd is
     steady (T5 p) f may is s = absurd is
 
     same : (m : Device) → LocksAs d.upper.locked m → device_commands m ≡ device_commands (T2 d)
     same (T2 e) is = ap t2_step is
+    same (T4 e) is = absurd is
     same (T5 p) is = absurd is
 
     dark : (m : Device) → LocksAs d.upper.locked m → device_commands (device_darkened m) ≡ device_commands (T2 d)
     dark (T2 e) is = ap t2_step (ap (λ u. u.locked) (keeps_upper e.front Off e.upper) ∙ is)
+    dark (T4 e) is = absurd is
     dark (T5 p) is = absurd is
