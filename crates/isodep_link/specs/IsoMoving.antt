@@ -24,7 +24,7 @@ use Rattle.isodep_link.specs.IsoLinks.{IsoSeen, bytes_of, StandsAt, iso_view, Is
 use Rattle.nfc_base.specs.TagLinks.{TagState}
 
 -- more commands behind those that are asked
-abbrev more : List (List ℕ) → Standing → Standing
+abbrev pub more : List (List ℕ) → Standing → Standing
 more ys (Waits i f cs) = Waits i f (cs ++ ys)
 more ys (Rests i) = asks i ys
 more ys (Broken e) = Broken e

@@ -1,6 +1,6 @@
 -- What a reader hears while it reads a Type 4 tag: something is due before each note, so that nothing is known behind the loss of the
 -- field or the sixth bad reception of a wait.
-use Rattle.std.proofs.Common.{◌≡◌, ℕ, zero, suc, List, [], ◌∷◌, ◌++◌, Bool, true, false, nat_lt, if◌then◌else◌, Option, Some, None, refl, sym, ◌∙◌, ap, subst, append_assoc, append-nil}
+use Rattle.std.proofs.Common.{◌≡◌, ℕ, zero, suc, ◌<◌, List, [], ◌∷◌, ◌++◌, Bool, true, false, nat_lt, if◌then◌else◌, Option, Some, None, refl, sym, ◌∙◌, ap, subst, append_assoc, append-nil}
 use Rattle.nfc_base.specs.declared.event.Event.{Event}
 use Rattle.nfc_base.specs.declared.event.Event.TheVariants.{Reset, Request, Answer, Clash}
 use Rattle.nfc_base.specs.declared.event.Fate.{Fate}
@@ -9,8 +9,9 @@ use Rattle.nfc_base.specs.declared.event.Heard.TheVariants.{Whole, Collided, Dam
 use Rattle.nfc_base.specs.declared.tag_link.AskFault.{AskFault}
 use Rattle.nfc_base.specs.declared.tag_link.AskFault.TheVariants.{FieldLost, SixBad}
 use Rattle.nfc_base.specs.Signal.{Signal}
-use Rattle.nfc_base.specs.Trace.{back_of}
+use Rattle.nfc_base.specs.Trace.{back_of, breaks}
 use Rattle.nfc_base.specs.Trace as backs
+use Rattle.air_core.specs.World.{Machine, World, quiet_air}
 use Rattle.air_core.specs.Conversation.{AirModel, Note, Lit, Got, Lost, note, Next, Over, LightUp, Asks, IsDemand, EachDue, replay, turn_events, turn_heard, Move, Light, Ask, trace_of, Moment, Going, receptions}
 use Rattle.air_core.specs.Turning.{receptions-append, due_weaker}
 use Rattle.air_core.specs.Waits as waits
@@ -21,7 +22,7 @@ use Rattle.isodep_link.specs.Reader.{ReaderState, waiting}
 use Rattle.isodep_link.specs.Activating.{rats, ats_code, TellsCode}
 use Rattle.nfc_bench.specs.CardAsking.{CardStanding, Activates, Exchanges, told_code, bad_again, heard_ats, card_noted, card_stand, card_due}
 use Rattle.nfc_bench.proofs.Following.{turn_known, trace_first, turn_split, turn_first}
-use Rattle.nfc_bench.proofs.SelectingAir.{HasLost}
+use Rattle.nfc_bench.proofs.SelectingAir.{HasLost, going_lost}
 
 -- something was due before each of these notes, which stand behind others
 abbrev pub Driven : (List Note → Next) → List Note → List Note → Type 0
@@ -236,3 +237,14 @@ broken_more i xs ys ns e is = ap (λ (s : Standing). stand s ns) (asks_more i xs
 -- what is due for some commands is due with more of them behind
 pub due_front : (i : ReaderState) (xs ys : List (List ℕ)) (ns : List Note) (n : Next) → iso_next i xs ns ≡ n → IsDemand n → iso_next i (xs ++ ys) ns ≡ n
 due_front i xs ys ns n e d = ap (λ (s : Standing). due_at (stand s ns)) (asks_more i xs ys) ∙ front_due (asks i xs) ys ns n e d
+
+-- A Break ends the exchanges as the loss of the field.
+pub exchange_lost : {L : Type 0} (m : Machine L) (i : ReaderState) (cs : List (List ℕ)) (a b : Moment (World L)) (ns : List Note) (g : Going (quiet_air m) (iso_next i cs) a b ns)
+    → 0 < breaks g.events → stand (asks i cs) ns ≡ Broken FieldLost
+exchange_lost m i cs a b ns g some =
+    let start : CardStanding = Exchanges (asks i cs) in
+    let due : (ks : List Note) → iso_next i cs ks ≡ card_due (card_stand cs start ks) = λ ks. sym (ap card_due (exchanges_stand cs (asks i cs) ks)) in
+    let lost : card_stand cs start ns ≡ Exchanges (Broken FieldLost) =
+    lost_at cs start ns (driven_at cs (iso_next i cs) start due ns (driven (quiet_air m) (iso_next i cs) a b ns g)) (going_lost m (iso_next i cs) a b ns g some) in
+    let same : Exchanges (stand (asks i cs) ns) ≡ Exchanges (Broken FieldLost) = sym (exchanges_stand cs (asks i cs) ns) ∙ lost in
+    cc

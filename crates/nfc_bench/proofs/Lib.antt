@@ -20,6 +20,7 @@ pub mod ReadingTags
 pub mod ReadingAir
 pub mod ReadingEnds
 pub mod CardReadingNotes
+pub mod CardReadingLinks
 pub mod SelectingPlaces
 pub mod SelectingA
 pub mod SelectingV
