@@ -5,6 +5,8 @@ pub mod Placing
 pub mod Placed
 pub mod Removing
 pub mod Ours
+pub mod Tidy
+pub mod LinkCalls
 pub mod Following
 pub mod SelectingCards
 pub mod SelectingAir

@@ -1,4 +1,5 @@
--- The devices of the bench are listeners of this project: a Type 2 tag polls by its front, and a Type 5 tag has none.
+-- The devices of the bench are listeners of this project: a Type 2 and a Type 4 tag poll by their fronts, and a Type 5 tag has
+-- none.
 use Rattle.std.proofs.Common.{◌≡◌, ℕ, List, [], ◌∷◌, Bool, true, false, ◌&&◌, ◌==◌, not, reverse, if◌then◌else◌, Some, refl, ap}
 use Rattle.nfc_base.specs.declared.frame.Tech.TheVariants.{A}
 use Rattle.nfc_base.specs.Signal.{Signal, whole_v}
@@ -15,15 +16,19 @@ use Rattle.t5t_tag.specs.Step.{T5Turn, tells, silent, sent, t5_after}
 use Rattle.t5t_tag.specs.Store.{T5State, IsT5State}
 use Rattle.t5t_tag.proofs.Inventories.{picked}
 use Rattle.nfc_bench.specs.declared.device.Device.{Device}
-use Rattle.nfc_bench.specs.declared.device.Device.TheVariants.{T2, T5}
+use Rattle.nfc_bench.specs.declared.device.Device.TheVariants.{T2, T4, T5}
+use Rattle.nfc_bench.specs.Cards.{T4Near}
 use Rattle.nfc_bench.specs.Device.{devices, device_id, device_answer, device_after}
 
 -- what a device tells that it is, and its front; a Type 5 tag has none
 abbrev pub device_kind : Device → Kind
-device_kind d = kinds.T2
+device_kind (T2 d) = kinds.T2
+device_kind (T4 d) = kinds.T4
+device_kind (T5 p) = kinds.T2
 
 abbrev pub device_front : Device → Front
 device_front (T2 d) = d.front
+device_front (T4 d) = d.front
 device_front (T5 p) = Off
 
 -- an NFC-A device that isn't active steps by its front
@@ -35,8 +40,17 @@ by_front Sleep id u f a = record { untouched = refl; says = refl; goes = refl; s
 by_front (Ready k starred) id u f a = record { untouched = refl; says = refl; goes = refl; same_tech = refl; same_id = refl; same_kind = refl }
 by_front (Active starred) id u f a = absurd cc
 
+card_by_front : (front : Front) (id : List ℕ) (u : T4Near) (f : Signal) → is_active front ≡ false
+    → StepsByFront devices device_id device_kind device_front (T4 (record { id = id; front = front; upper = u })) f
+card_by_front Off id u f a = record { untouched = refl; says = refl; goes = refl; same_tech = refl; same_id = refl; same_kind = refl }
+card_by_front Idle id u f a = record { untouched = refl; says = refl; goes = refl; same_tech = refl; same_id = refl; same_kind = refl }
+card_by_front Sleep id u f a = record { untouched = refl; says = refl; goes = refl; same_tech = refl; same_id = refl; same_kind = refl }
+card_by_front (Ready k starred) id u f a = record { untouched = refl; says = refl; goes = refl; same_tech = refl; same_id = refl; same_kind = refl }
+card_by_front (Active starred) id u f a = absurd cc
+
 pub steps : (l : Device) (f : Signal) → devices.tech l ≡ A → is_active (device_front l) ≡ false → StepsByFront devices device_id device_kind device_front l f
 steps (T2 d) f t a = by_front d.front d.id d.upper f a
+steps (T4 d) f t a = card_by_front d.front d.id d.upper f a
 steps (T5 p) f t a = absurd cc
 
 -- Whether it answers an inventory or not, a Type 5 tag stays as it is.
@@ -54,10 +68,12 @@ device_stays t false f e = refl
 -- So the devices are steady at inventories, as the law on what they miss asks.
 pub steady_at_all : (d : Device) → IsSteady devices inventory_all d
 steady_at_all (T2 d) v = absurd cc
+steady_at_all (T4 d) v = absurd cc
 steady_at_all (T5 p) v = (refl, device_stays p.tag p.lit inventory_all (inventory_stays p.tag 0 []))
 
 pub steady_at : (id : List ℕ) (d : Device) → IsSteady devices (inventory_of id) d
 steady_at id (T2 d) v = absurd cc
+steady_at id (T4 d) v = absurd cc
 steady_at id (T5 p) v = (refl, device_stays p.tag p.lit (inventory_of id) (inventory_stays p.tag 64 (reverse id)))
 
 -- A Type 5 tag in the light that isn't quiet answers the inventory of its own identifier: where nobody answers, none is it.

@@ -1,5 +1,5 @@
 -- What stays of the devices while a reader polls: resets, calls, inventories and the dark change no device but in its state.
-use Rattle.std.proofs.Common.{◌≡◌, ℕ, List, [], ◌∷◌, ◌++◌, map, if◌then◌else◌, None, refl, ◌∙◌, ap}
+use Rattle.std.proofs.Common.{◌≡◌, ℕ, List, [], ◌∷◌, ◌++◌, map, Bool, if◌then◌else◌, Option, Some, None, refl, ◌∙◌, ap}
 use Rattle.nfc_base.specs.declared.frame.Tech.TheVariants.{A, V}
 use Rattle.nfc_base.specs.declared.event.Event.{Event}
 use Rattle.nfc_base.specs.declared.event.Event.TheVariants.{Reset, Request, Answer, Clash}
@@ -9,26 +9,55 @@ use Rattle.nfc_base.specs.Signal.{Signal}
 use Rattle.air_core.specs.Joint.{same_tech}
 use Rattle.air_core.specs.World.{World, stepped_by, requested, came_back}
 use Rattle.air_core.specs.Conversation.{Note, Next, Asks, EachDue, Moment, Going, replay, receptions}
-use Rattle.nfca_poll.specs.Front.{Front, Off, Idle, Sleep, Ready, Active}
-use Rattle.nfca_poll.specs.Fronted.{left_at}
-use Rattle.t2t_tag.specs.Spelling.{spelled_command}
+use Rattle.nfca_poll.specs.Levels.{levels}
+use Rattle.nfca_poll.specs.Calls.{call_of}
+use Rattle.nfca_poll.specs.Front.{Front, Off, Idle, Sleep, Ready, Active, front_next}
+use Rattle.nfca_poll.specs.Fronted.{left_at, active_after, after_by}
 use Rattle.t2t_tag.specs.Store.{T2Memory}
-use Rattle.nfc_bench.specs.Cards.{T4Near}
 use Rattle.nfc_bench.specs.declared.device.Device.{Device}
 use Rattle.nfc_bench.specs.declared.device.Device.TheVariants.{T2, T4, T5}
-use Rattle.nfc_bench.specs.Device.{devices, t2_machine, t4_machine}
+use Rattle.isodep_link.specs.Card.{CardState}
+use Rattle.nfc_bench.specs.Cards.{T4Near}
+use Rattle.nfc_bench.specs.Device.{devices, t2_machine, t4_machine, T4Did}
 use Rattle.nfc_bench.specs.Legal.{air}
 use Rattle.nfc_bench.specs.Phases.{Kept, kept}
-use Rattle.nfc_bench.proofs.SelectingCards.{carded, call_goes}
+use Rattle.nfc_bench.proofs.LinkCalls.{BeginsAsCalls, no_command, says_at, did_at_call}
+use Rattle.nfc_bench.proofs.SelectingCards.{carded, near, call_goes}
 
 -- a frame that changes no device but in its state
 abbrev pub IsHarmless : Signal → Type 0
 IsHarmless f = (d : Device) → kept (stepped_by devices d f None) ≡ kept d
 
-pub harmless_call : (f : Signal) → f.tech ≡ A → spelled_command f ≡ None → IsHarmless f
-harmless_call f a e (T2 d) =
-    ap (λ t. kept (if same_tech A t then devices.after (T2 d) f None else T2 d)) a ∙ ap (λ x. kept (T2 x)) (call_goes d.front d.id d.upper f e)
-harmless_call f a e (T5 p) = ap (λ t. kept (if same_tech V t then devices.after (T5 p) f None else T5 p)) a
+-- what is kept of a Type 4 tag stays where its front changes its state
+kept_left : (front next at : Front) (id : List ℕ) (u : T4Near) → kept (T4 (near id at (left_at t4_machine front next u))) ≡ kept (T4 (near id front u))
+kept_left Off next at id u = refl
+kept_left Idle next at id u = refl
+kept_left Sleep next at id u = refl
+kept_left (Ready k starred) next at id u = refl
+kept_left (Active starred) Off at id u = refl
+kept_left (Active starred) Idle at id u = refl
+kept_left (Active starred) Sleep at id u = refl
+kept_left (Active starred) (Ready k other) at id u = refl
+kept_left (Active starred) (Active other) at id u = refl
+
+kept_said : (link : Option CardState) (starred : Bool) (id : List ℕ) (u : T4Near) (f : Signal)
+    → kept (T4 (active_after t4_machine (says_at link) u (near id (Active starred) u) f)) ≡ kept (T4 (near id (Active starred) u))
+kept_said None starred id u f = let next : Front = front_next (levels id) (Active starred) (call_of f) in kept_left (Active starred) next next id u
+kept_said (Some t) starred id u f = refl
+
+kept_card : (front : Front) (id : List ℕ) (u : T4Near) (f : Signal) → BeginsAsCalls f → kept (T4 (after_by t4_machine front (near id front u) f None)) ≡ kept (T4 (near id front u))
+kept_card Off id u f h = refl
+kept_card Idle id u f h = refl
+kept_card Sleep id u f h = refl
+kept_card (Ready k starred) id u f h = refl
+kept_card (Active starred) id u f h =
+    ap (λ (x : T4Did). kept (T4 (active_after t4_machine x.says x.after (near id (Active starred) u) f))) (did_at_call u.tag u.link f h) ∙ kept_said u.link starred id u f
+
+pub harmless_call : (f : Signal) → f.tech ≡ A → BeginsAsCalls f → IsHarmless f
+harmless_call f a h (T2 d) =
+    ap (λ t. kept (if same_tech A t then devices.after (T2 d) f None else T2 d)) a ∙ ap (λ x. kept (T2 x)) (call_goes d.front d.id d.upper f (no_command f h))
+harmless_call f a h (T4 d) = ap (λ t. kept (if same_tech A t then devices.after (T4 d) f None else T4 d)) a ∙ kept_card d.front d.id d.upper f h
+harmless_call f a h (T5 p) = ap (λ t. kept (if same_tech V t then devices.after (T5 p) f None else T5 p)) a
 
 dark_stays : (front next : Front) (u : T2Memory) → left_at t2_machine front next u ≡ u
 dark_stays Off next u = refl
@@ -41,26 +70,14 @@ dark_stays (Active starred) Sleep u = refl
 dark_stays (Active starred) (Ready k other) u = refl
 dark_stays (Active starred) (Active other) u = refl
 
--- a Type 4 tag that gives up its link holds what it held
-four_stays : (id : List ℕ) (front next : Front) (u : T4Near) → kept (T4 (record { id = id; front = next; upper = left_at t4_machine front next u })) ≡ kept (T4 (record { id = id; front = front; upper = u }))
-four_stays id Off next u = refl
-four_stays id Idle next u = refl
-four_stays id Sleep next u = refl
-four_stays id (Ready k starred) next u = refl
-four_stays id (Active starred) Off u = refl
-four_stays id (Active starred) Idle u = refl
-four_stays id (Active starred) Sleep u = refl
-four_stays id (Active starred) (Ready k other) u = refl
-four_stays id (Active starred) (Active other) u = refl
-
 pub kept_dark : (d : Device) → kept (devices.darkened d) ≡ kept d
 kept_dark (T2 d) = ap (λ u. kept (T2 (carded d.id d.front u))) (dark_stays d.front Off d.upper)
-kept_dark (T4 d) = four_stays d.id d.front Off d.upper
+kept_dark (T4 d) = kept_left d.front Off Off d.id d.upper
 kept_dark (T5 p) = refl
 
 pub kept_lit : (d : Device) → kept (devices.woken d) ≡ kept d
 kept_lit (T2 d) = ap (λ u. kept (T2 (carded d.id d.front u))) (dark_stays d.front Idle d.upper)
-kept_lit (T4 d) = four_stays d.id d.front Idle d.upper
+kept_lit (T4 d) = kept_left d.front Idle Idle d.id d.upper
 kept_lit (T5 p) = refl
 
 map_kept : (g : Device → Device) → ((d : Device) → kept (g d) ≡ kept d) → (ds : List Device) → map kept (map g ds) ≡ map kept ds
