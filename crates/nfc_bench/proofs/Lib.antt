@@ -22,6 +22,8 @@ pub mod CardKept
 pub mod ReadingTags
 pub mod ReadingAir
 pub mod ReadingEnds
+pub mod CardReadingNotes
+pub mod CardReadingLinks
 pub mod SelectingPlaces
 pub mod SelectingA
 pub mod SelectingV
