@@ -24,13 +24,13 @@ use Rattle.isodep_link.specs.IsoLinks.{IsoSeen, bytes_of, StandsAt, iso_view, Is
 use Rattle.nfc_base.specs.TagLinks.{TagState}
 
 -- more commands behind those that are asked
-abbrev more : List (List ℕ) → Standing → Standing
+abbrev pub more : List (List ℕ) → Standing → Standing
 more ys (Waits i f cs) = Waits i f (cs ++ ys)
 more ys (Rests i) = asks i ys
 more ys (Broken e) = Broken e
 more ys Astray = Astray
 
-asks_more : (i : ReaderState) (xs ys : List (List ℕ)) → asks i (xs ++ ys) ≡ more ys (asks i xs)
+pub asks_more : (i : ReaderState) (xs ys : List (List ℕ)) → asks i (xs ++ ys) ≡ more ys (asks i xs)
 asks_more i [] ys = refl
 asks_more i (x ∷ xs) ys = refl
 
@@ -40,12 +40,12 @@ goes_more i (steps.Finished answer) cs ys = asks_more i cs ys
 goes_more i steps.SixBad cs ys = refl
 goes_more i steps.Protocol cs ys = refl
 
-noted_more : (i : ReaderState) (f : Signal) (cs ys : List (List ℕ)) (n : Note) → noted (Waits i f (cs ++ ys)) n ≡ more ys (noted (Waits i f cs) n)
+pub noted_more : (i : ReaderState) (f : Signal) (cs ys : List (List ℕ)) (n : Note) → noted (Waits i f (cs ++ ys)) n ≡ more ys (noted (Waits i f cs) n)
 noted_more i f cs ys Lit = refl
 noted_more i f cs ys Lost = refl
 noted_more i f cs ys (Got h) = goes_more (reader_table i h).state (reader_table i h).does cs ys
 
-astray_stays : (ns : List Note) → stand Astray ns ≡ Astray
+pub astray_stays : (ns : List Note) → stand Astray ns ≡ Astray
 astray_stays [] = refl
 astray_stays (n ∷ ns) = astray_stays ns
 
@@ -56,7 +56,7 @@ astray_due : {A : Type 0} (ns : List Note) (n : Next) → due_at (stand Astray n
 astray_due ns n e d = none_due n (sym (ap due_at (astray_stays ns)) ∙ e) d
 
 -- what is due is due with more commands behind
-front_due : (s : Standing) (ys : List (List ℕ)) (ns : List Note) (n : Next) → due_at (stand s ns) ≡ n → IsDemand n → due_at (stand (more ys s) ns) ≡ n
+pub front_due : (s : Standing) (ys : List (List ℕ)) (ns : List Note) (n : Next) → due_at (stand s ns) ≡ n → IsDemand n → due_at (stand (more ys s) ns) ≡ n
 front_due (Waits i f cs) ys [] n e d = e
 front_due (Rests i) ys [] n e d = none_due n e d
 front_due (Broken x) ys [] n e d = none_due n e d

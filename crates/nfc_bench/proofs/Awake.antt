@@ -11,15 +11,15 @@ use Rattle.nfc_base.specs.Trace as backs
 use Rattle.air_core.specs.Joint.{same_tech}
 use Rattle.air_core.specs.World.{World, stepped_by, stepped, reset_by}
 use Rattle.air_core.specs.Conversation.{EachDue}
-use Rattle.nfca_poll.specs.Enquiry.{progress, enquiring}
-use Rattle.nfca_poll.specs.Rounds.{Begins, all_devices, finding}
+use Rattle.nfca_poll.specs.Enquiry.{enquiring}
+use Rattle.nfca_poll.specs.Rounds.{all_devices, finding}
 use Rattle.nfc_bench.specs.declared.device.Device.{Device}
-use Rattle.nfc_bench.specs.declared.device.Device.TheVariants.{T2, T5}
+use Rattle.nfc_bench.specs.declared.device.Device.TheVariants.{T2, T4, T5}
 use Rattle.nfc_bench.specs.Device.{devices}
 use Rattle.nfc_bench.proofs.Following.{light_is_no_request}
 use Rattle.nfc_bench.proofs.SelectingAir.{over}
 use Rattle.nfc_bench.proofs.SelectingKept.{EachAsked, due_asked}
-use Rattle.nfc_bench.proofs.Searching.{of_nfc_a, progress_calls}
+use Rattle.nfc_bench.proofs.Searching.{IsCall, asks_calls}
 use Rattle.nfc_bench.proofs.Inventoried.{IsAwake}
 
 abbrev AreAwake : List Device → Type 0
@@ -29,11 +29,13 @@ AreAwake ds = AllByRecursion IsAwake ds
 woken : (ds : List Device) → AreAwake (map (λ l. devices.woken (devices.darkened l)) ds)
 woken [] = tt
 woken (T2 d ∷ ds) = (tt, woken ds)
+woken (T4 d ∷ ds) = (tt, woken ds)
 woken (T5 p ∷ ds) = ((refl, refl), woken ds)
 
 -- a frame of NFC-A leaves each as it was
 step_leaves : (f : Signal) (d : Device) → f.tech ≡ A → IsAwake d → IsAwake (stepped_by devices d f None)
 step_leaves f (T2 d) a h = subst (λ t. IsAwake (if same_tech A t then devices.after (T2 d) f None else T2 d)) (sym a) tt
+step_leaves f (T4 d) a h = subst (λ t. IsAwake (if same_tech A t then devices.after (T4 d) f None else T4 d)) (sym a) tt
 step_leaves f (T5 p) a h = subst (λ t. IsAwake (if same_tech V t then devices.after (T5 p) f None else T5 p)) (sym a) h
 
 steps_leave : (f : Signal) (ds : List Device) → f.tech ≡ A → AreAwake ds → AreAwake (map (λ l. stepped_by devices l f None) ds)
@@ -64,7 +66,7 @@ stay_awake (Clash g Break ∷ es) w q b h = absurd (omega (arith, b))
 pub awake_behind : (es : List Event) (w : World Device) → EachDue (enquiring finding) [] es → back_of es ≡ backs.Nothing → breaks es ≡ 0 → (es ≡ [] → ⊥) → AllByRecursion IsAwake (over devices es w).listeners
 awake_behind [] w q fresh b some = absurd (some refl)
 awake_behind (Reset ∷ es) w q fresh b some =
-    let of_a = due_asked IsOfA (enquiring finding) (λ ns f e. of_nfc_a f (progress_calls all_devices (progress finding (Begins 1) ns) f e)) [] (Reset ∷ es) q in
+    let of_a = due_asked IsOfA (enquiring finding) (λ ns f e. let is : IsCall f = asks_calls all_devices ns f e in is.of_a) [] (Reset ∷ es) q in
     stay_awake es (reset_by devices w) of_a b (woken w.listeners)
 awake_behind (Request f x ∷ es) w q fresh b some = absurd (light_is_no_request f q.0)
 awake_behind (Answer g x ∷ es) w q fresh b some = absurd cc

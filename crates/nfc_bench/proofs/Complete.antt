@@ -5,7 +5,7 @@ use Rattle.nfc_base.specs.Signal.{Signal}
 use Rattle.nfc_base.specs.Trace.{noise, breaks}
 use Rattle.nfc_base.specs.declared.event.Event.{Event}
 use Rattle.nfc_base.specs.declared.tag_link.AskFault.TheVariants as asking
-use Rattle.air_core.specs.Conversation.{receptions}
+use Rattle.air_core.specs.Conversation.{Note, receptions}
 use Rattle.air_core.specs.Waits.{Standing, Asking, Broken, Astray, stand}
 use Rattle.nfca_poll.specs.declared.fault.Picked.{Picked}
 use Rattle.nfca_poll.specs.declared.fault.PollFault.{PollFault}
@@ -18,11 +18,15 @@ use Rattle.nfc_bench.specs.declared.command.DeviceId.TheVariants.{A, V}
 use Rattle.nfc_bench.specs.declared.device.Device.{Device}
 use Rattle.nfc_bench.specs.declared.entry.Answer.{Answer}
 use Rattle.nfc_bench.specs.declared.entry.Answer.TheVariants as answers
+use Rattle.nfc_bench.specs.declared.entry.SeenKind.{SeenKind}
+use Rattle.nfc_bench.specs.declared.entry.SeenKind.TheVariants as seen
+use Rattle.isodep_link.specs.Asking as exchange
+use Rattle.nfc_bench.specs.CardAsking.{CardStanding, Activates, Exchanges, card_stands}
 use Rattle.nfc_bench.specs.Polling.{bytes_of}
 use Rattle.nfc_bench.specs.Crowded.{crowd_of, others_of, seen_all, is_crowd}
 use Rattle.nfc_bench.specs.Placed.{device_with, OfPlaced}
 use Rattle.nfc_bench.specs.Reading.{TellsOf}
-use Rattle.nfc_bench.specs.Answering.{MissedBy, IsGivenUp, HasPollCause, TellsStanding, ReadEnds, ReadTells, AreOthers, InventoryEnds, FindEnds, FindTells}
+use Rattle.nfc_bench.specs.Answering.{MissedBy, IsGivenUp, HasPollCause, TellsStanding, TellsExchange, TellsCard, TellsBy, ReadEnds, ReadTells, AreOthers, InventoryEnds, FindEnds, FindTells}
 
 -- One round had no noise; of the four tries for a Type 5 tag, one had none.
 abbrev pub IsQuietOnce : DeviceId → List Event → Type 0
@@ -53,8 +57,14 @@ module _ (id : DeviceId) (ds : List Device) (d : Device) (placed : device_with (
   given_up (V x) es q g = g
 
   module _ (asked : List Signal) (answer : Answer) (lit : answer ≡ answers.FieldLost → ⊥) (heard : answer ≡ answers.SixBad → ⊥) where
-    standing : (s : Standing) → TellsStanding (λ a. OfPlaced (λ e. TellsOf e a) (device_with (bytes_of id) ds)) s answer → TellsOf d answer
-    standing (Asking bad []) t = let P : Option Device → Type 0 = λ o. OfPlaced (λ e. TellsOf e answer) o in subst P placed t
+    abbrev PlacedTells : Answer → Type 0
+    PlacedTells a = OfPlaced (λ e. TellsOf e a) (device_with (bytes_of id) ds)
+
+    of_placed : PlacedTells answer → TellsOf d answer
+    of_placed t = let P : Option Device → Type 0 = λ o. OfPlaced (λ e. TellsOf e answer) o in subst P placed t
+
+    standing : (s : Standing) → TellsStanding PlacedTells s answer → TellsOf d answer
+    standing (Asking bad []) t = of_placed t
     standing (Asking bad (c ∷ cs)) t = absurd t
     standing (Broken asking.FieldLost cs) t = absurd (lit t)
     standing (Broken asking.SixBad cs) t = absurd (heard t)
@@ -62,8 +72,27 @@ module _ (id : DeviceId) (ds : List Device) (d : Device) (placed : device_with (
     standing (Broken asking.Protocol cs) t = absurd t
     standing Astray t = absurd t
 
-    read_ends : (r : Result (Unit {0}) PollFault) (first rest : List Event) → IsQuietOnce id first → HasPollCause id ds r first → ReadEnds id ds asked r rest answer → TellsOf d answer
-    read_ends (Ok x) first rest q c e = standing (stand 0 asked (receptions rest)) e
+    exchanged : (s : exchange.Standing) → TellsExchange PlacedTells s answer → TellsOf d answer
+    exchanged (exchange.Waits i f cs) t = absurd t
+    exchanged (exchange.Rests i) t = of_placed t
+    exchanged (exchange.Broken asking.FieldLost) t = absurd (lit t)
+    exchanged (exchange.Broken asking.SixBad) t = absurd (heard t)
+    exchanged (exchange.Broken asking.Memory) t = absurd t
+    exchanged (exchange.Broken asking.Protocol) t = absurd t
+    exchanged exchange.Astray t = absurd t
+
+    activated : (s : CardStanding) → TellsCard PlacedTells s answer → TellsOf d answer
+    activated (Activates bad) t = absurd t
+    activated (Exchanges s) t = exchanged s t
+
+    told_by : (kind : SeenKind) (ns : List Note) → TellsBy kind PlacedTells asked ns answer → TellsOf d answer
+    told_by seen.T2 ns t = standing (stand 0 asked ns) t
+    told_by seen.T4 ns t = activated (card_stands asked ns) t
+    told_by seen.T5 ns t = standing (stand 0 asked ns) t
+    told_by seen.Peer ns t = absurd t
+
+    read_ends : (r : Result SeenKind PollFault) (first rest : List Event) → IsQuietOnce id first → HasPollCause id ds r first → ReadEnds id ds asked r rest answer → TellsOf d answer
+    read_ends (Ok kind) first rest q c e = told_by kind (receptions rest) e
     read_ends (Err faults.Nobody) first rest q c e = absurd c
     read_ends (Err faults.Disturbed) first rest q c e = absurd (given_up id first q c)
     read_ends (Err faults.FieldLost) first rest q c e = absurd (lit (told_once answers.FieldLost answer e.1))

@@ -1,5 +1,5 @@
 -- An enquiry as a command sees it: what is due in it, and what it has told once it is over.
-use Rattle.std.proofs.Common.{◌≡◌, List, [], ◌∷◌, ◌++◌, Bool, true, false, if◌then◌else◌, Option, Some, None, Result, Err, refl, sym, ◌∙◌, ap, subst, append_assoc}
+use Rattle.std.proofs.Common.{◌≡◌, List, [], ◌∷◌, ◌++◌, Bool, true, false, if◌then◌else◌, Option, Some, None, Result, Ok, Err, refl, sym, ◌∙◌, ap, subst, append_assoc}
 use Rattle.std.proofs.lemmas.List.{append-nil}
 use Rattle.nfc_base.specs.Signal.{Signal}
 use Rattle.nfc_base.specs.Trace.{back_of, heard_by}
@@ -15,8 +15,9 @@ use Rattle.air_core.proofs.Turns.{receptions-append, due_weaker}
 use Rattle.nfca_poll.specs.declared.fault.PollFault.{PollFault}
 use Rattle.nfca_poll.specs.declared.fault.PollFault.TheVariants as faults
 use Rattle.nfca_poll.specs.Enquiry.{Enquiry, Progress, Reaches, Loses, progress, due_of, enquiring, or_memory, answer_of}
+use Rattle.nfc_bench.specs.declared.entry.SeenKind.{SeenKind}
 use Rattle.nfc_bench.specs.Polling as polls
-use Rattle.nfc_bench.specs.Polling.{Followed, Told, followed, follows, asks}
+use Rattle.nfc_bench.specs.Polling.{Followed, Told, followed, follows, kind_by, asks}
 
 abbrev pub HasEnded : {X : Type 0} → Option (Result X PollFault) → Type 0
 HasEnded None = ⊥
@@ -37,6 +38,24 @@ over_is_no_request f e = cc
 
 pub over_is_no_light : Over ≡ LightUp → ⊥
 over_is_no_light e = cc
+
+-- an enquiry of which the kind alone is told
+abbrev pub seen_by : {X : Type 0} → (X → SeenKind) → Result X PollFault → Result SeenKind PollFault
+seen_by kind (Ok x) = Ok (kind x)
+seen_by kind (Err e) = Err e
+
+pub kind_told : {X : Type 0} (kind : X → SeenKind) (r : Result X PollFault) (ns : List Note) → kind_by kind (Told r ns) ≡ Told (seen_by kind r) ns
+kind_told kind (Ok x) ns = refl
+kind_told kind (Err e) ns = refl
+
+pub kind_asks : {X : Type 0} (kind : X → SeenKind) (p : Followed X) → asks (kind_by kind p) ≡ asks p
+kind_asks kind (polls.Asks n) = refl
+kind_asks kind (Told (Ok x) ns) = refl
+kind_asks kind (Told (Err e) ns) = refl
+
+pub seen_lost : {X : Type 0} (kind : X → SeenKind) (r : Result X PollFault) → seen_by kind r ≡ Err faults.FieldLost → r ≡ Err faults.FieldLost
+seen_lost kind (Ok x) e = absurd cc
+seen_lost kind (Err f) e = let same : f ≡ faults.FieldLost = cc in ap Err same
 
 module _ {W : Type 0} (m : AirModel W) where
   -- the events of some moves begin with no answer

@@ -24,19 +24,19 @@ use Rattle.nfca_poll.proofs.Crowding.{drop-front}
 use Rattle.tag_reader.specs.declared.how.How.{How}
 use Rattle.tag_reader.specs.declared.how.How.TheVariants as hows
 use Rattle.nfc_bench.specs.declared.device.Device.{Device}
-use Rattle.nfc_bench.specs.declared.device.Device.TheVariants.{T2, T5}
+use Rattle.nfc_bench.specs.declared.device.Device.TheVariants.{T2, T4, T5}
 use Rattle.nfc_bench.specs.declared.entry.Answer.{Answer}
 use Rattle.nfc_bench.specs.declared.entry.Answer.TheVariants as answers
 use Rattle.nfc_bench.specs.Device.{devices, device_id}
 use Rattle.nfc_bench.specs.Crowded.{card_if, v_if, crowd_of, inventory_of, others_of, seen_all, is_crowd}
 use Rattle.nfc_bench.specs.Legal.{air}
 use Rattle.nfc_bench.specs.Answering.{poll_answer, AreOthers, InventoryEnds, FindEnds}
-use Rattle.nfc_bench.specs.Phases.{Kept, kept, AreSound, AreTame, Searches}
+use Rattle.nfc_bench.specs.Phases.{Kept, kept, AreSound, AreTame, AreTidy, Searches}
 use Rattle.nfc_bench.specs.Polling as followed
 use Rattle.nfc_bench.specs.Polling.{Followed, Everybody, follows, finding_all, then_inventory, then_others, asks}
 use Rattle.nfc_bench.proofs.Ours.{steady_at_all}
 use Rattle.nfc_bench.proofs.Following.{no_demand, asks_same, told_same, follows_on}
-use Rattle.nfc_bench.proofs.Searching.{progress_asked, search_closes}
+use Rattle.nfc_bench.proofs.Searching.{asks_harmless, search_closes}
 use Rattle.nfc_bench.proofs.SelectingAir.{events_are, breaks-append, HasLost, going_lost, loses}
 use Rattle.nfc_bench.proofs.SelectingCards.{polled, tidy, cards_of, own_idents, few_cards}
 use Rattle.nfc_bench.proofs.SelectingKept.{going_keeps}
@@ -68,6 +68,7 @@ then_asks cards hs told ns =
 same_cards : (ds : List Device) → cards_of ds ≡ filter_map card_if ds
 same_cards [] = refl
 same_cards (T2 d ∷ ds) = ap (λ cs. record { id = d.id; kind = kinds.T2; front = d.front } ∷ cs) (same_cards ds)
+same_cards (T4 d ∷ ds) = ap (λ cs. record { id = d.id; kind = kinds.T4; front = d.front } ∷ cs) (same_cards ds)
 same_cards (T5 p ∷ ds) = same_cards ds
 
 v_how : How → Option (List ℕ)
@@ -79,6 +80,7 @@ v_kept : (ds : List Device) → filter_map v_if ds ≡ filter_map (λ (k : Kept)
 unfolding v_how
 v_kept [] = refl
 v_kept (T2 d ∷ ds) = v_kept ds
+v_kept (T4 d ∷ ds) = v_kept ds
 v_kept (T5 p ∷ ds) = ap (λ is. p.tag.id ∷ is) (v_kept ds)
 
 same_others : (a b : List Device) → map kept a ≡ map kept b → inventory_of (filter_map v_if a) ≡ others_of b
@@ -130,7 +132,7 @@ abbrev pub TellsOthers : List Picked → Result Vcrowd PollFault → Answer → 
 TellsOthers cards (Ok others) answer = answer ≡ answers.Found (seen_all (record { cards = cards; others = others })) (is_crowd others)
 TellsOthers cards (Err e) answer = poll_answer e ≡ Some answer
 
-module _ (old mid : Air Device) (found : Result (List Picked) PollFault) (tame : AreTame (map kept old.listeners)) (turns : Enquires finding devices old found mid)
+module _ (old mid : Air Device) (found : Result (List Picked) PollFault) (tame : AreTame (map kept old.listeners)) (calm : AreTidy old.listeners) (turns : Enquires finding devices old found mid)
     (ends_so : FindsCrowd devices device_id old found mid) (lost : found ≡ Err faults.FieldLost → 0 < breaks (drop (length old.trace) mid.trace)) where
   abbrev first : List Event
   first = turns.going.events
@@ -139,10 +141,10 @@ module _ (old mid : Air Device) (found : Result (List Picked) PollFault) (tame :
   first_is = events_are air (moment old) (moment mid) first turns.going.moment
 
   first_kept : map kept mid.listeners ≡ map kept old.listeners
-  first_kept = going_keeps (enquiring finding) (moment old) (moment mid) turns.notes (λ ks f e. progress_asked all_devices (progress finding (Starts 1) ks) f e) turns.going
+  first_kept = going_keeps (enquiring finding) (moment old) (moment mid) turns.notes (asks_harmless all_devices) turns.going
 
   ends : rounds.FindEnds (cards_of old.listeners) found first
-  ends = let P : List Event → Type 0 = λ es. rounds.FindEnds (cards_of old.listeners) found es in subst P first_is (ends_so polled (tidy old.listeners) (own_idents old.listeners tame))
+  ends = let P : List Event → Type 0 = λ es. rounds.FindEnds (cards_of old.listeners) found es in subst P first_is (ends_so polled (tidy old.listeners calm) (own_idents old.listeners tame))
 
   told : (found ≡ Err faults.Memory → ⊥) → follows finding turns.notes ≡ followed.Told found []
   told starved = told_same finding (search_closes all_devices) air (moment old) (moment mid) turns.notes found turns.going turns.comes starved

@@ -27,7 +27,7 @@ use Rattle.t5t_tag.specs.Step.{T5Turn, sent, t5_answer}
 use Rattle.t5t_tag.proofs.Bytes.{equal_bytes}
 use Rattle.t5t_tag.proofs.Inventories.{counted}
 use Rattle.nfc_bench.specs.declared.device.Device.{Device}
-use Rattle.nfc_bench.specs.declared.device.Device.TheVariants.{T2, T5}
+use Rattle.nfc_bench.specs.declared.device.Device.TheVariants.{T2, T4, T5}
 use Rattle.nfc_bench.specs.Powered.{Powered}
 use Rattle.nfc_bench.specs.Device.{devices}
 use Rattle.nfc_bench.specs.Crowded.{v_if, inventory_of}
@@ -38,9 +38,10 @@ use Rattle.nfc_bench.proofs.Following.{HasEnded, Closes, same_asked, light_is_no
 use Rattle.nfc_bench.proofs.Unmoved.{OnlyAsks, AllHeard, all_heard}
 use Rattle.nfc_bench.proofs.SelectingKept.{IsHarmless}
 
--- A Type 5 tag in the light that isn't quiet. A Type 2 tag hears no inventory.
+-- A Type 5 tag in the light that isn't quiet. A tag of NFC-A hears no inventory.
 abbrev pub IsAwake : Device → Type 0
 IsAwake (T2 d) = Unit {0}
+IsAwake (T4 d) = Unit {0}
 IsAwake (T5 p) = (p.lit ≡ true) × (p.tag.quiet ≡ false)
 
 abbrev pub says : Device → Option Signal
@@ -56,6 +57,7 @@ tag_says p h = ap (λ v. if v then t5_answer p.tag inventory_all else None) h.0 
 all_answer : (ds : List Device) → AllByRecursion IsAwake ds → filter_map says ds ≡ map present (filter_map v_if ds)
 all_answer [] h = refl
 all_answer (T2 d ∷ ds) h = all_answer ds h.1
+all_answer (T4 d ∷ ds) h = all_answer ds h.1
 all_answer (T5 p ∷ ds) h = ap (λ o. cons_option o (filter_map says ds)) (tag_says p h.0) ∙ ap (λ gs. present p.tag.id ∷ gs) (all_answer ds h.1)
 
 no_ids : (ids : List (List ℕ)) → map present ids ≡ [] → inventory_of ids ≡ Nobody
@@ -74,11 +76,13 @@ AreOwn (i ∷ is) = (length i ≡ 8) × AllByRecursion (λ j. j ≡ i → ⊥) i
 others_apart : (k : Kept) (ds : List Device) → AllByRecursion (IsApart k) (map kept ds) → AllByRecursion (λ j. j ≡ k.id → ⊥) (filter_map v_if ds)
 others_apart k [] a = tt
 others_apart k (T2 d ∷ ds) a = others_apart k ds a.1
+others_apart k (T4 d ∷ ds) a = others_apart k ds a.1
 others_apart k (T5 p ∷ ds) a = (a.0, others_apart k ds a.1)
 
 own_ids : (ds : List Device) → AreSound (map kept ds) → AreOwn (filter_map v_if ds)
 own_ids [] s = tt
 own_ids (T2 d ∷ ds) s = own_ids ds s.2
+own_ids (T4 d ∷ ds) s = own_ids ds s.2
 own_ids (T5 p ∷ ds) s = (s.0.1, others_apart (kept (T5 p)) ds s.1, own_ids ds s.2)
 
 pub is_whole : (i : List ℕ) → length i ≡ 8 → is_present (present i) ≡ true
@@ -224,6 +228,7 @@ only_due before (Clash g x ∷ es) q = only_due (before ++ Clash g x ∷ []) es 
 
 harmless : IsHarmless inventory_all
 harmless (T2 d) = refl
+harmless (T4 d) = refl
 harmless (T5 p) = ap kept (steady_at_all (T5 p) refl).1
 
 pub inventory_harmless : (ns : List Note) (f : Signal) → enquiring inventory ns ≡ Asks f → IsHarmless f
@@ -231,6 +236,7 @@ inventory_harmless ns f e = subst IsHarmless (sym (due_only (progress inventory 
 
 stays_at : (d : Device) → stepped_by devices d inventory_all None ≡ d
 stays_at (T2 d) = refl
+stays_at (T4 d) = refl
 stays_at (T5 p) = (steady_at_all (T5 p) refl).1
 
 pub all_of : (P : Device → Type 0) → ((d : Device) → P d) → (ds : List Device) → Each P ds

@@ -11,7 +11,7 @@ use Rattle.nfc_base.specs.Trace as backs
 use Rattle.air_core.specs.World.{World}
 use Rattle.air_core.specs.Turn.{Air, moment}
 use Rattle.air_core.specs.Conversation.{Moment, Note, Lit, Got, Lost, Next, Over, LightUp, Asks, IsDemand, AreTurns, FatesFrom, EachDue, Going, receptions, replay, queue_after, with_events}
-use Rattle.air_core.specs.Waits.{Standing, Asking, Broken, Astray, stand, waits_next}
+use Rattle.air_core.specs.Waits.{Standing, Asking, Broken, Astray, stand}
 use Rattle.air_core.specs.Turning.{due-append, due_weaker, due_shift, fates-append, back_of-append, receptions-append, turns-append, events-append}
 use Rattle.nfca_poll.specs.declared.fault.PollFault.{PollFault}
 use Rattle.nfca_poll.specs.declared.fault.PollFault.TheVariants as faults
@@ -23,24 +23,28 @@ use Rattle.nfc_bench.specs.declared.command.Command.TheVariants.{Find, Read}
 use Rattle.nfc_bench.specs.declared.command.DeviceId.{DeviceId}
 use Rattle.nfc_bench.specs.declared.command.DeviceId.TheVariants.{A, V}
 use Rattle.nfc_bench.specs.declared.device.Device.{Device}
-use Rattle.nfc_bench.specs.declared.device.Device.TheVariants.{T2, T5}
+use Rattle.nfc_bench.specs.declared.device.Device.TheVariants.{T2, T4, T5}
 use Rattle.nfc_bench.specs.declared.entry.Answer.{Answer}
 use Rattle.nfc_bench.specs.declared.entry.Answer.TheVariants as answers
 use Rattle.nfc_bench.specs.declared.entry.Entry.{Entry}
-use Rattle.nfc_bench.specs.Answering.{ReadTells, TellsStanding, poll_answer}
-use Rattle.nfc_bench.specs.Device.{device_id, device_store, how_of}
-use Rattle.nfc_bench.specs.Polling.{Followed, Asks as Requests, Told, followed, follows, picked_any, pick_v, asks, bytes_of, selecting}
+use Rattle.nfc_bench.specs.declared.entry.SeenKind.{SeenKind}
+use Rattle.nfc_bench.specs.declared.entry.SeenKind.TheVariants as seen
+use Rattle.isodep_link.specs.Asking as exchange
+use Rattle.nfc_bench.specs.CardAsking.{CardStanding, Activates, Exchanges, card_stands, tag_next}
+use Rattle.nfc_bench.specs.Answering.{ReadTells, TellsStanding, TellsExchange, TellsCard, TellsBy, poll_answer}
+use Rattle.nfc_bench.specs.Device.{device_store, seen_of}
+use Rattle.nfc_bench.specs.Polling.{Followed, Asks as Requests, Told, followed, follows, kind_by, seen_kind, pick_v, asks, bytes_of, selecting}
 use Rattle.nfc_bench.specs.Reading.{Tells, AsksOf, TellsOf}
 use Rattle.nfc_bench.specs.Legal.{air, State, LegalStep, IsAccepted, IsAskedBy, AnswerLaw, changed, due, then_asks, stable, state_after, state_from, state_of, first_state}
 use Rattle.nfc_bench.specs.Placed.{OfPlaced, IfPlaced, device_with}
-use Rattle.nfc_bench.specs.Phases.{Kept, kept, IsSound, AreTame, how_for, IsId, Selects, SelectsAt, Reads, Searches}
+use Rattle.nfc_bench.specs.Phases.{Kept, kept, IsSound, AreTame, AreTidy, Selects, SelectsAt, Reads, Searches}
 use Rattle.nfc_bench.specs.Obeying.{state_at, IsIdle, IsReady, Obeyed}
-use Rattle.tag_reader.specs.declared.how.How.{How}
-use Rattle.tag_reader.specs.declared.how.How.TheVariants as hows
 use Rattle.tag_reader.specs.Asked.{IsAsked}
+use Rattle.tag_reader.proofs.FileAsked.{file_asked}
 use Rattle.nfc_bench.proofs.Placing.{map-over, IsWith, is_with, with_sound}
 use Rattle.nfc_bench.proofs.ReadingTags.{some_asked}
 use Rattle.nfc_bench.proofs.SelectingAir.{breaks-append}
+use Rattle.nfc_bench.proofs.Tidy.{going_tidy}
 
 -- what one has told, the other tells too, with more that is known since
 abbrev StaysTold : {X : Type 0} → Followed X → Followed X → List Note → Type 0
@@ -54,46 +58,38 @@ followed_more e s None (Lit ∷ hs) ns = followed_more e (e.light s) (e.ended (e
 followed_more e s None (Got h ∷ hs) ns = followed_more e (e.step s h) (e.ended (e.step s h)) hs ns
 followed_more e s None (Lost ∷ hs) ns = refl
 
-any_more : {X : Type 0} (p q : Followed X) (ns : List Note) → StaysTold p q ns → StaysTold (picked_any p) (picked_any q) ns
-any_more (Requests n) q ns h = tt
-any_more (Told (Ok x) rest) q ns h = ap picked_any h
-any_more (Told (Err e) rest) q ns h = ap picked_any h
+kind_more : {X : Type 0} (kind : X → SeenKind) (p q : Followed X) (ns : List Note) → StaysTold p q ns → StaysTold (kind_by kind p) (kind_by kind q) ns
+kind_more kind (Requests n) q ns h = tt
+kind_more kind (Told (Ok x) rest) q ns h = ap (kind_by kind) h
+kind_more kind (Told (Err e) rest) q ns h = ap (kind_by kind) h
+
+follows_more : {S X : Type 0} (e : Enquiry S X) (kind : X → SeenKind) (hs ns : List Note) → StaysTold (kind_by kind (follows e hs)) (kind_by kind (follows e (hs ++ ns))) ns
+follows_more e kind hs ns = kind_more kind (follows e hs) (follows e (hs ++ ns)) ns (followed_more e e.start (e.ended e.start) hs ns)
 
 pick_v_more : (id : List ℕ) (hs ns : List Note) → StaysTold (pick_v id hs) (pick_v id (hs ++ ns)) ns
 pick_v_more id [] ns = tt
-pick_v_more id (Lit ∷ hs) ns = followed_more (picking_v id) (picking_v id).start ((picking_v id).ended (picking_v id).start) hs ns
+pick_v_more id (Lit ∷ hs) ns = follows_more (picking_v id) (λ x. seen.T5) hs ns
 pick_v_more id (Got h ∷ hs) ns = pick_v_more id hs ns
 pick_v_more id (Lost ∷ hs) ns = refl
 
 selecting_stays : (id : DeviceId) (hs ns : List Note) → StaysTold (selecting id hs) (selecting id (hs ++ ns)) ns
-selecting_stays (A id) hs ns =
-    any_more (follows (picking id) hs) (follows (picking id) (hs ++ ns)) ns (followed_more (picking id) (picking id).start ((picking id).ended (picking id).start) hs ns)
+selecting_stays (A id) hs ns = follows_more (picking id) seen_kind hs ns
 selecting_stays (V id) hs ns = pick_v_more id hs ns
 
 -- a device that was selected stays so, whatever is known since
-pub selecting_more : (id : DeviceId) (hs ns : List Note) (r : Result (Unit {0}) PollFault) → selecting id hs ≡ Told r [] → selecting id (hs ++ ns) ≡ Told r ns
-selecting_more id hs ns r told = let P : Followed (Unit {0}) → Type 0 = λ p. StaysTold p (selecting id (hs ++ ns)) ns in subst P told (selecting_stays id hs ns)
+pub selecting_more : (id : DeviceId) (hs ns : List Note) (r : Result SeenKind PollFault) → selecting id hs ≡ Told r [] → selecting id (hs ++ ns) ≡ Told r ns
+selecting_more id hs ns r told = let P : Followed SeenKind → Type 0 = λ p. StaysTold p (selecting id (hs ++ ns)) ns in subst P told (selecting_stays id hs ns)
 
--- behind it the commands are asked
-then_waits : (id : DeviceId) (asked : List Signal) (hs ns : List Note) → selecting id hs ≡ Told (Ok tt) [] → due asked (Read id) (hs ++ ns) ≡ waits_next asked ns
-then_waits id asked hs ns told = ap (then_asks asked) (selecting_more id hs ns (Ok tt) told)
+-- behind it the commands are asked, as its kind takes them
+then_tag : (id : DeviceId) (kind : SeenKind) (asked : List Signal) (hs ns : List Note) → selecting id hs ≡ Told (Ok kind) [] → due asked (Read id) (hs ++ ns) ≡ tag_next kind asked ns
+then_tag id kind asked hs ns told = ap (then_asks asked) (selecting_more id hs ns (Ok kind) told)
 
 -- what polling asks, the command asks
-polls_first : (asked : List Signal) (p : Followed (Unit {0})) (n : Next) → asks p ≡ n → IsDemand n → then_asks asked p ≡ n
+polls_first : (asked : List Signal) (p : Followed SeenKind) (n : Next) → asks p ≡ n → IsDemand n → then_asks asked p ≡ n
 polls_first asked (Requests m) n h d = h
 polls_first asked (Told r ns) Over h d = absurd d
 polls_first asked (Told r ns) LightUp h d = absurd cc
 polls_first asked (Told r ns) (Asks f) h d = absurd cc
-
--- the device with an identifier is read as its identifier says
-pub how_named : (id : DeviceId) (d : Device) → IsId id → IsSound (kept d) → device_id d ≡ bytes_of id → how_of d ≡ how_for id
-how_named (A id) (T2 d) is sound named = refl
-how_named (A id) (T5 p) is sound named = absurd (elim is.size [
-  | inl four ↦ omega (arith, four, sound.1, ap length named)
-  | inr more ↦ (elim more [ inl seven ↦ omega (arith, seven, sound.1, ap length named) | inr ten ↦ omega (arith, ten, sound.1, ap length named) ])
-])
-how_named (V id) (T2 d) is sound named = absurd (omega (arith, is, sound.1, ap length named))
-how_named (V id) (T5 p) is sound named = ap (λ x. let h : How = hows.T5 x in h) named
 
 -- the stores of devices that are kept
 stores_kept : (ls : List Device) → map device_store ls ≡ map (λ (k : Kept). k.store) (map kept ls)
@@ -135,6 +131,7 @@ asks_obeyed old new c asked ns answer idle accepted still g over asked_by law sa
       state = ap (λ w. S w new.fates) world ∙ ap (S (replay air st.world es)) queue ∙ ap (λ (s : State). S (replay air s.world es) (queue_after s.queue es)) (sym still)
           ∙ ap (state_after st c) (sym trace);
       tame = subst (λ ks. AreTame ks) (sym same) idle.tame;
+      tidy = going_tidy (due asked c) (moment old) (moment new) ns g idle.tidy;
     }
 
 -- all devices were searched for
@@ -144,16 +141,22 @@ search_obeyed old new answer idle s =
     asks_obeyed old new Find [] s.asked.notes answer idle tt refl s.asked.going s.asked.over refl
     (record { tells = s.tells; stays = stores_stay old new s.asked.going.events world s.asked.same }) s.asked.same
 
+-- each device has a list of what a read asks of it
+all_asked : (d : Device) → IsSound (kept d) → (asked : List Signal) × AsksOf d asked
+all_asked (T2 d) sound = some_asked (T2 d) sound tt
+all_asked (T4 d) sound = file_asked 0 (device_store (T4 d))
+all_asked (T5 p) sound = some_asked (T5 p) sound tt
+
 -- what a read asks of a placed device, and nothing where none is placed
 asked_by : (old : Air Device) (id : DeviceId) → IsIdle old → (asked : List Signal) × IsAskedBy (state_at old) (Read id) asked
 asked_by old id idle = by_found (device_with (bytes_of id) old.listeners) refl
   where
     by_found : (o : Option Device) → device_with (bytes_of id) old.listeners ≡ o → (asked : List Signal) × IfPlaced (λ d. AsksOf d asked) (asked ≡ []) o
     by_found None found = ([], refl)
-    by_found (Some d) found = some_asked d (with_sound old.listeners (bytes_of id) d idle.tame.sound found)
+    by_found (Some d) found = all_asked d (with_sound old.listeners (bytes_of id) d idle.tame.sound found)
 
 -- the field was lost where the answer tells it
-told_lost : (e : PollFault) (answer : Answer) → poll_answer e ≡ Some answer → answer ≡ answers.FieldLost → ◌≡◌ {A = Result (Unit {0}) PollFault} (Err e) (Err faults.FieldLost)
+told_lost : (e : PollFault) (answer : Answer) → poll_answer e ≡ Some answer → answer ≡ answers.FieldLost → ◌≡◌ {A = Result SeenKind PollFault} (Err e) (Err faults.FieldLost)
 told_lost faults.Nobody answer is lost = absurd cc
 told_lost faults.Disturbed answer is lost = absurd cc
 told_lost faults.FieldLost answer is lost = refl
@@ -161,7 +164,7 @@ told_lost faults.Memory answer is lost = absurd cc
 told_lost faults.NotFound answer is lost = absurd cc
 told_lost faults.BadAnswer answer is lost = absurd cc
 
-lost_told : (e : PollFault) (answer : Answer) → poll_answer e ≡ Some answer → ◌≡◌ {A = Result (Unit {0}) PollFault} (Err e) (Err faults.FieldLost) → answer ≡ answers.FieldLost
+lost_told : (e : PollFault) (answer : Answer) → poll_answer e ≡ Some answer → ◌≡◌ {A = Result SeenKind PollFault} (Err e) (Err faults.FieldLost) → answer ≡ answers.FieldLost
 lost_told e answer is lost = (let same : e ≡ faults.FieldLost = cc in let told : Some answer ≡ Some answers.FieldLost = sym is ∙ ap poll_answer same in cc)
 
 -- no tag was selected
@@ -203,19 +206,40 @@ tells_as P Q (Broken asking.Memory cs) answer says tells = absurd tells
 tells_as P Q (Broken asking.Protocol cs) answer says tells = absurd tells
 tells_as P Q Astray answer says tells = absurd tells
 
+exchange_tells_as : (P Q : Answer → Type 0) (x : exchange.Standing) (answer : Answer) → (P answer → Q answer) → TellsExchange P x answer → TellsExchange Q x answer
+exchange_tells_as P Q (exchange.Waits i f cs) answer says tells = absurd tells
+exchange_tells_as P Q (exchange.Rests i) answer says tells = says tells
+exchange_tells_as P Q (exchange.Broken asking.FieldLost) answer says tells = tells
+exchange_tells_as P Q (exchange.Broken asking.SixBad) answer says tells = tells
+exchange_tells_as P Q (exchange.Broken asking.Memory) answer says tells = absurd tells
+exchange_tells_as P Q (exchange.Broken asking.Protocol) answer says tells = absurd tells
+exchange_tells_as P Q exchange.Astray answer says tells = absurd tells
+
+card_tells_as : (P Q : Answer → Type 0) (x : CardStanding) (answer : Answer) → (P answer → Q answer) → TellsCard P x answer → TellsCard Q x answer
+card_tells_as P Q (Activates bad) answer says tells = absurd tells
+card_tells_as P Q (Exchanges s) answer says tells = exchange_tells_as P Q s answer says tells
+
+-- and so of a tag of each kind
+kind_tells_as : (kind : SeenKind) (P Q : Answer → Type 0) (asked : List Signal) (ns : List Note) (answer : Answer) → (P answer → Q answer)
+    → TellsBy kind P asked ns answer → TellsBy kind Q asked ns answer
+kind_tells_as seen.T2 P Q asked ns answer says tells = tells_as P Q (stand 0 asked ns) answer says tells
+kind_tells_as seen.T4 P Q asked ns answer says tells = card_tells_as P Q (card_stands asked ns) answer says tells
+kind_tells_as seen.T5 P Q asked ns answer says tells = tells_as P Q (stand 0 asked ns) answer says tells
+kind_tells_as seen.Peer P Q asked ns answer says tells = absurd tells
+
 -- A tag was selected, and commands were asked behind that: both are one command.
-module _ (id : DeviceId) (asked : List Signal) (a b c : Moment (World Device)) (hs ks : List Note) (told : selecting id hs ≡ Told (Ok tt) [])
-    (g : Going air (λ ns. asks (selecting id ns)) a b hs) (k : Going air (waits_next asked) b c ks) where
-  waits_behind : (t : List Event) → back_of t ≡ backs.Nothing → due asked (Read id) (receptions (g.events ++ t)) ≡ waits_next asked (receptions t)
-  waits_behind t fresh =
-      ap (due asked (Read id)) (receptions-append g.events t fresh ∙ ap (λ r. r ++ receptions t) g.known) ∙ then_waits id asked hs (receptions t) told
+module _ (id : DeviceId) (kind : SeenKind) (asked : List Signal) (a b c : Moment (World Device)) (hs ks : List Note) (told : selecting id hs ≡ Told (Ok kind) [])
+    (g : Going air (λ ns. asks (selecting id ns)) a b hs) (k : Going air (tag_next kind asked) b c ks) where
+  asks_behind : (t : List Event) → back_of t ≡ backs.Nothing → due asked (Read id) (receptions (g.events ++ t)) ≡ tag_next kind asked (receptions t)
+  asks_behind t fresh =
+      ap (due asked (Read id)) (receptions-append g.events t fresh ∙ ap (λ r. r ++ receptions t) g.known) ∙ then_tag id kind asked hs (receptions t) told
 
   each_of_both : EachDue (due asked (Read id)) [] (g.events ++ k.events)
   each_of_both =
       let D : List Event → Type 0 = λ t. EachDue (due asked (Read id)) t k.events in
       due-append (due asked (Read id)) [] g.events k.events
       (due_weaker (due asked (Read id)) (λ ns. asks (selecting id ns)) (λ ns n h d. polls_first asked (selecting id ns) n h d) [] g.events g.each)
-      (subst D (append-nil g.events) (due_shift (due asked (Read id)) (waits_next asked) g.events waits_behind [] k.events k.fresh k.each))
+      (subst D (append-nil g.events) (due_shift (due asked (Read id)) (tag_next kind asked) g.events asks_behind [] k.events k.fresh k.each))
 
   turns_of_both : AreTurns air a.world (g.events ++ k.events)
   turns_of_both =
@@ -278,13 +302,13 @@ module _ (old mid new : Air Device) (id : DeviceId) (place : ℕ) (answer : Answ
     rest = r.asked.going.events;
     parts = refl;
     cut = r.asked.going.fresh;
-    polled = Ok tt;
+    polled = Ok (seen_of s.device);
     selected = ap (selecting id) s.selects.asked.going.known ∙ s.selects.told;
     cause = tt;
-    ends = tells_as (TellsOf s.device) PlacedTells (stand 0 r.commands (receptions r.asked.going.events)) answer placed_tells
-        (subst (λ ns. TellsStanding (TellsOf s.device) (stand 0 r.commands ns) answer) (sym r.asked.going.known) r.ends);
+    ends = kind_tells_as (seen_of s.device) (TellsOf s.device) PlacedTells r.commands (receptions r.asked.going.events) answer placed_tells
+        (subst (λ ns. TellsBy (seen_of s.device) (TellsOf s.device) r.commands ns answer) (sym r.asked.going.known) r.ends);
     lost = lost_behind answer s.selects.asked.going.events r.asked.going.events
-        (λ some. let is : ◌≡◌ {A = Result (Unit {0}) PollFault} (Ok tt) (Err faults.FieldLost) = s.selects.lost.1 some in cc) r.lost;
+        (λ some. let is : ◌≡◌ {A = Result SeenKind PollFault} (Ok (seen_of s.device)) (Err faults.FieldLost) = s.selects.lost.1 some in cc) r.lost;
   }
 
   pub read_obeyed : Obeyed old new (Read id) answer
@@ -292,10 +316,10 @@ module _ (old mid new : Air Device) (id : DeviceId) (place : ℕ) (answer : Answ
       let hs : List Note = s.selects.asked.notes in
       let ks : List Note = r.asked.notes in
       let g : Going air (due r.commands (Read id)) (moment old) (moment new) (hs ++ ks) =
-      both id r.commands (moment old) (moment mid) (moment new) hs ks s.selects.told s.selects.asked.going r.asked.going in
+      both id (seen_of s.device) r.commands (moment old) (moment mid) (moment new) hs ks s.selects.told s.selects.asked.going r.asked.going in
       let world : (moment new).world ≡ replay air (moment old).world (s.selects.asked.going.events ++ r.asked.going.events) = ap (λ (t : Moment (World Device)). t.world) g.moment in
       let same : map kept new.listeners ≡ map kept old.listeners = r.asked.same ∙ s.selects.asked.same in
-      asks_obeyed old new (Read id) r.commands (hs ++ ks) answer idle tt refl g (then_waits id r.commands hs ks s.selects.told ∙ r.asked.over) placed_asked
+      asks_obeyed old new (Read id) r.commands (hs ++ ks) answer idle tt refl g (then_tag id (seen_of s.device) r.commands hs ks s.selects.told ∙ r.asked.over) placed_asked
       (record { tells = read_tells; stays = stores_stay old new (s.selects.asked.going.events ++ r.asked.going.events) world same }) same
 
 pub state_from-append : (s : State) (es fs : List Entry) → state_from s (es ++ fs) ≡ state_from (state_from s es) fs
@@ -311,6 +335,7 @@ ready_again a b k js c answer e ready o is command events =
       idle = record {
         quiet = ap (λ (x : Air Device). x.trace) is;
         tame = subst T (sym (ap (λ (x : Air Device). x.listeners) is)) o.tame;
+        tidy = subst (λ ls. AreTidy ls) (sym (ap (λ (x : Air Device). x.listeners) is)) o.tidy;
       };
       state = ap state_at is ∙ o.state ∙ ap (λ s. state_after s c b.trace) ready.state
           ∙ ap (λ x. state_after (state_of js) x b.trace) (sym command) ∙ ap (state_after (state_of js) e.command) (sym events)

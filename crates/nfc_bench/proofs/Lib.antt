@@ -12,6 +12,7 @@ pub mod SelectingCards
 pub mod SelectingAir
 pub mod SelectingKept
 pub mod Searching
+pub mod SelectingLinks
 pub mod Unmoved
 pub mod TagTwo
 pub mod TagFive
@@ -21,6 +22,8 @@ pub mod CardKept
 pub mod ReadingTags
 pub mod ReadingAir
 pub mod ReadingEnds
+pub mod CardReadingNotes
+pub mod CardReadingLinks
 pub mod SelectingPlaces
 pub mod SelectingA
 pub mod SelectingV
@@ -43,12 +46,6 @@ pub mod OneCut
 pub mod OneForm
 pub mod OneAnswer
 pub mod OneJournal
-pub mod QuietEvents
-pub mod QuietAsked
-pub mod QuietCuts
-pub mod QuietForms
-pub mod QuietAnswers
-pub mod QuietJournal
 pub mod Replaying
 pub mod TagFourSteps
 pub mod TagFour

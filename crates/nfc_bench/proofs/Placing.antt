@@ -8,7 +8,7 @@ use Rattle.nfc_bench.specs.declared.device.Device.{Device}
 use Rattle.nfc_bench.specs.Device.{device_id}
 use Rattle.nfc_bench.specs.Legal.{most_devices}
 use Rattle.nfc_bench.specs.Placed.{device_with}
-use Rattle.nfc_bench.specs.Phases.{Kept, kept, IsSound, IsApart, AreSound, AreTame}
+use Rattle.nfc_bench.specs.Phases.{Kept, kept, IsSound, IsApart, AreSound, AreTame, IsTidy, AreTidy}
 
 pub map-over : {A B : Type 0} (f : A → B) (xs ys : List A) → map f (xs ++ ys) ≡ map f xs ++ map f ys
 map-over f [] ys = refl
@@ -28,6 +28,10 @@ tame_more ks k tame own apart room = record {
   sound = sound_more ks k tame.sound own apart;
   few = let size : length (ks ++ k ∷ []) ≡ length ks + 1 = length-append ks (k ∷ []) in omega (arith, size, room);
 }
+
+pub tidy_more : (ds : List Device) (d : Device) → AreTidy ds → IsTidy d → AreTidy (ds ++ d ∷ [])
+tidy_more [] d tidy own = (own, tt)
+tidy_more (e ∷ ds) d tidy own = (tidy.0, tidy_more ds d tidy.1 own)
 
 unequal : (v : Bool) → v ≡ false → v ≡ true → ⊥
 unequal v p q = cc

@@ -13,7 +13,7 @@ use Rattle.nfc_bench.specs.Device.{device_id}
 use Rattle.nfc_bench.specs.Legal.{IsPlaced}
 use Rattle.nfc_bench.specs.Placed.{without}
 use Rattle.nfc_bench.specs.Obeying.{state_at, IsIdle, Obeyed}
-use Rattle.nfc_bench.specs.Phases.{Kept, kept, IsApart, AreSound, AreTame}
+use Rattle.nfc_bench.specs.Phases.{Kept, kept, IsApart, AreSound, AreTame, AreTidy}
 use Rattle.nfc_bench.specs.Polling.{bytes_of}
 use Rattle.nfc_bench.proofs.Placed.{still_obeyed}
 
@@ -41,6 +41,10 @@ fewer (b ∷ before) d behind = omega (arith, fewer before d behind)
 
 tame_without : (before : List Device) (d : Device) (behind : List Device) → AreTame (map kept (before ++ d ∷ behind)) → AreTame (map kept (before ++ behind))
 tame_without before d behind tame = record { sound = sound_without before d behind tame.sound; few = omega (arith, fewer before d behind, tame.few) }
+
+tidy_without : (before : List Device) (d : Device) (behind : List Device) → AreTidy (before ++ d ∷ behind) → AreTidy (before ++ behind)
+tidy_without [] d behind tidy = tidy.1
+tidy_without (b ∷ before) d behind tidy = (tidy.0, tidy_without before d behind tidy.1)
 
 -- no other device has its identifier, so it is the first that has it
 without_behind : (before : List Device) (d : Device) (behind : List Device) (id : List ℕ) → device_id d ≡ id → AreSound (map kept (before ++ d ∷ behind)) → without id (before ++ d ∷ behind) ≡ before ++ behind
@@ -70,4 +74,5 @@ removed old new id place idle placed s is =
     let same : without (bytes_of id) old.listeners ≡ s.before ++ s.behind =
     ap (without (bytes_of id)) s.split ∙ without_behind s.before s.device s.behind (bytes_of id) s.named tame.sound in
     subst O (sym (is ∙ ap F left))
-    (still_obeyed old (F (s.before ++ s.behind)) (Remove id) idle placed (ap (λ ls. state_at (F ls)) (sym same)) refl refl refl refl (tame_without s.before s.device s.behind tame))
+    (still_obeyed old (F (s.before ++ s.behind)) (Remove id) idle placed (ap (λ ls. state_at (F ls)) (sym same)) refl refl refl refl (tame_without s.before s.device s.behind tame)
+    (tidy_without s.before s.device s.behind (subst AreTidy s.split idle.tidy)))

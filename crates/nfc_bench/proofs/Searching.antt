@@ -1,114 +1,176 @@
 -- A search by rounds over the bench's devices: what it asks are calls, it is over for good, and it leaves the field lit where it
 -- ends well.
-use Rattle.std.proofs.Common.{◌≡◌, ℕ, ◌+◌, ◌%◌, ◌*◌, ◌/◌, ◌==◌, ◌&&◌, List, [], ◌∷◌, ◌++◌, length, Bool, true, false, if◌then◌else◌, Option, Some, None, Result, Ok, Err, refl, sym, ◌∙◌, ap, subst, arith}
+use Rattle.std.proofs.Common.{◌≡◌, ℕ, ◌+◌, ◌<◌, ◌≤◌, ◌==◌, ◌&&◌, nat_lt, nat_le, List, [], ◌∷◌, ◌++◌, length, slice_index, Bool, true, false, if◌then◌else◌, Option, Some, None, Result, Ok, Err, refl, sym, ◌∙◌, ap, subst, arith}
+use Rattle.std.proofs.lemmas.List.{length-append}
 use Rattle.nfc_base.specs.declared.event.Heard.{Heard}
+use Rattle.nfc_base.specs.declared.event.Heard.TheVariants.{Whole, Collided, Damaged, Silent}
 use Rattle.nfc_base.specs.declared.frame.Tech.TheVariants.{A as NfcA}
 use Rattle.nfc_base.specs.Signal.{Signal}
-use Rattle.nfc_base.specs.Bits.{low_bits, bits_of, number_of, packed}
+use Rattle.nfc_base.specs.Bits.{low_bits, bits, bits_of, number_of, packed}
+use Rattle.nfc_base.proofs.Packing.{number_of_low_bits}
 use Rattle.air_core.specs.Conversation.{Note, Lit, Got, Lost, Over, Asks}
 use Rattle.nfca_poll.specs.declared.fault.PollFault.{PollFault}
 use Rattle.nfca_poll.specs.declared.fault.PollFault.TheVariants as faults
-use Rattle.nfca_poll.specs.Calls.{Call, Sens, All, Slp, Sdd, Sel, call_frame, sel_cmd, sel_par, all_known}
-use Rattle.nfca_poll.specs.Poll.{Seek, Calling, Asking, Selecting, Ended, seek_next}
-use Rattle.nfca_poll.specs.Enquiry.{Progress, Reaches, Loses, progress, due_of, answer_of}
-use Rattle.nfca_poll.specs.Rounds.{Search, Begins, Seeks, Sends, Told, Aim, search_next, search_lit, search_step, search_ended, searching}
-use Rattle.t2t_tag.specs.declared.command.T2Command.{T2Command}
-use Rattle.t2t_tag.specs.declared.command.T2Command.TheVariants.{Read, Write}
-use Rattle.t2t_tag.specs.Spelling.{command_of, is_nfc_a, spelled_command}
+use Rattle.nfca_poll.specs.declared.fault.Picked.{Picked}
+use Rattle.nfca_poll.specs.Levels.{bcc, cascades, identifier}
+use Rattle.nfca_poll.specs.Calls.{Call, Sens, Slp, Sdd, Sel, call_frame, sel_cmd, sel_par}
+use Rattle.nfca_poll.specs.Poll.{Seek, Calling, Asking, Selecting, Ended, Nobody, Disturbed, BadAnswer, Found, seek_step, seek_next, goes_on, level_bits, collision_bits, has_bit, kind_of, is_one_byte}
+use Rattle.nfca_poll.specs.Enquiry.{Progress, Reaches, Loses, progress, due_of, enquiring, answer_of}
+use Rattle.nfca_poll.specs.Rounds.{Search, Begins, Seeks, Sends, Told, Aim, most_rounds, most_found, next_round, has_found, met_or_taken, sought, search_next, search_lit, search_step, search_ended, searching}
 use Rattle.nfc_bench.proofs.Following.{HasEnded, Closes, same_asked, light_is_no_request, over_is_no_request}
 use Rattle.nfc_bench.proofs.SelectingAir.{lit_by, stays_lit}
+use Rattle.nfc_bench.proofs.LinkCalls.{BeginsAsCalls}
 use Rattle.nfc_bench.proofs.SelectingKept.{IsHarmless, harmless_call}
 
--- A frame whose first byte is odd is no command of a tag.
-not_read : (n : ℕ) → n % 2 ≡ 1 → (n == 0x30) ≡ false
-not_read n h = grind arith
+-- a request of polling: a frame of NFC-A that begins as calls do
+pub record IsCall (f : Signal) : Type 0 where
+  pub of_a : f.tech ≡ NfcA
+  pub begins : BeginsAsCalls f
 
-not_write : (n : ℕ) → n % 2 ≡ 1 → (n == 0xA2) ≡ false
-not_write n h = grind arith
-
-odd_code : (code block : ℕ) (more : List ℕ) → code % 2 ≡ 1 → command_of (code ∷ block ∷ more) ≡ None
-odd_code code block [] odd = ap (λ v. if v then Some (Read block) else None) (not_read code odd)
-odd_code code block (a ∷ []) odd = refl
-odd_code code block (a ∷ b ∷ []) odd = refl
-odd_code code block (a ∷ b ∷ c ∷ []) odd = refl
-odd_code code block (a ∷ b ∷ c ∷ d ∷ []) odd = ap (λ v. if v then Some (Write block (a ∷ b ∷ c ∷ d ∷ [])) else None) (not_write code odd)
-odd_code code block (a ∷ b ∷ c ∷ d ∷ e ∷ more) odd = refl
-
-none_either : (v : Bool) → ◌≡◌ {A = Option T2Command} (if v then None else None) None
-none_either true = refl
-none_either false = refl
-
-odd_frame : (f : Signal) (code block : ℕ) (more : List ℕ) → f.bytes ≡ code ∷ block ∷ more → code % 2 ≡ 1 → spelled_command f ≡ None
-odd_frame f code block more e odd =
-    let v : Bool = is_nfc_a f.tech && (f.tail == 0) in
-    ap (λ o. if v then o else None) (ap command_of e ∙ odd_code code block more odd) ∙ none_either v
+pub call_harmless : (f : Signal) → IsCall f → IsHarmless f
+call_harmless f is = harmless_call f is.of_a is.begins
 
 sdd_bytes : (a p : ℕ) (known : List Bool) → packed (bits_of (a ∷ p ∷ []) ++ known) ≡ number_of (low_bits 8 a) ∷ number_of (low_bits 8 p) ∷ packed known
 unfolding packed bits_of
 sdd_bytes a p known = refl
 
-odd_bit : (n : ℕ) → (sel_cmd n % 2 == 1) ≡ true
-odd_bit n = grind arith
+-- the codes of the three levels
+in_range : (k n : ℕ) → n ≡ sel_cmd k → k ≤ 3 → (0x50 ≤ n) × (n ≤ 0x97)
+in_range k n e h = (omega (arith, e), omega (arith, e, h))
 
-odd_sum : (n : ℕ) → (1 + 2 * n) % 2 ≡ 1
-odd_sum n = omega arith
+small_code : (k : ℕ) → k ≤ 3 → sel_cmd k < 256
+small_code k h = omega (arith, h)
 
-sdd_odd : (k : ℕ) → number_of (low_bits 8 (sel_cmd k)) % 2 ≡ 1
-sdd_odd k =
-    let rest : ℕ = number_of (low_bits 7 (sel_cmd k / 2)) in
-    ap (λ v. ((if v then 1 else 0) + 2 * rest) % 2) (odd_bit k) ∙ odd_sum rest
+sdd_call : (k : ℕ) (known : List Bool) → k ≤ 3 → IsCall (call_frame (Sdd k known))
+sdd_call k known h =
+    let first : slice_index (call_frame (Sdd k known)).bytes 0 ≡ sel_cmd k =
+    ap (λ bytes. slice_index bytes 0) (sdd_bytes (sel_cmd k) (sel_par (length known)) known) ∙ number_of_low_bits 8 (sel_cmd k) (small_code k h) in
+    record { of_a = refl; begins = λ t. in_range k (slice_index (call_frame (Sdd k known)).bytes 0) first h }
 
-sel_odd : (k : ℕ) → sel_cmd k % 2 ≡ 1
-sel_odd k = omega arith
+sel_call : (k : ℕ) (l : List ℕ) → k ≤ 3 → IsCall (call_frame (Sel k l))
+sel_call k l h = record { of_a = refl; begins = λ t. in_range k (sel_cmd k) refl h }
 
--- no call of a reader is one
-call_spells_none : (c : Call) → spelled_command (call_frame c) ≡ None
-call_spells_none Sens = refl
-call_spells_none All = refl
-call_spells_none Slp = refl
-call_spells_none (Sdd k known) = odd_frame (call_frame (Sdd k known)) (number_of (low_bits 8 (sel_cmd k))) (number_of (low_bits 8 (sel_par (length known)))) (packed known) (sdd_bytes (sel_cmd k) (sel_par (length known)) known) (sdd_odd k)
-call_spells_none (Sel k level) = odd_frame (call_frame (Sel k level)) (sel_cmd k) all_known level refl (sel_odd k)
+sens_call : IsCall (call_frame Sens)
+sens_call = record { of_a = refl; begins = λ t. absurd cc }
 
-call_tech : (c : Call) → (call_frame c).tech ≡ NfcA
-call_tech Sens = refl
-call_tech All = refl
-call_tech Slp = refl
-call_tech (Sdd k known) = refl
-call_tech (Sel k level) = refl
+slp_call : IsCall (call_frame Slp)
+slp_call = record { of_a = refl; begins = λ t. (omega arith, omega arith) }
 
-pub call_harmless : (c : Call) → IsHarmless (call_frame c)
-call_harmless c = harmless_call (call_frame c) (call_tech c) (call_spells_none c)
+call_asked : (c : Call) (f : Signal) → IsCall (call_frame c) → Asks (call_frame c) ≡ Asks f → IsCall f
+call_asked c f is e = subst IsCall (same_asked (call_frame c) f e) is
 
--- a frame that is a call
-abbrev pub IsCall : Signal → Type 0
-IsCall f = (c : Call) × (call_frame c ≡ f)
+-- A resolution knows two levels at most before the one that it asks.
+abbrev IsFew : Seek → Type 0
+IsFew (Calling n) = Unit {0}
+IsFew (Asking done known) = length done ≤ 2
+IsFew (Selecting done l) = length done ≤ 2
+IsFew (Ended o) = Unit {0}
 
-pub of_nfc_a : (f : Signal) → IsCall f → f.tech ≡ NfcA
-of_nfc_a f is = ap (λ (g : Signal). g.tech) (sym is.1) ∙ call_tech is.0
+few_either : (v : Bool) (s t : Seek) → IsFew s → IsFew t → IsFew (if v then s else t)
+few_either true s t h k = h
+few_either false s t h k = k
 
-call_asked : (c : Call) (f : Signal) → Asks (call_frame c) ≡ Asks f → IsCall f
-call_asked c f e = (c, same_asked (call_frame c) f e)
+few_more : (done : List (List ℕ)) (l : List ℕ) (v : Bool) → goes_on done l ≡ v → IsFew (if v then Asking (done ++ l ∷ []) [] else Ended BadAnswer)
+few_more done l true e = one_more (length done) (length (done ++ l ∷ [])) (cascades l) e (length-append done (l ∷ []))
+  where
+    one_more : (n m : ℕ) (w : Bool) → (nat_lt n 2 && w) ≡ true → m ≡ n + 1 → m ≤ 2
+    one_more n m w h k = grind arith
+few_more done l false e = tt
 
-seek_asked : (s : Seek) (f : Signal) → seek_next s ≡ Asks f → IsCall f
-seek_asked (Calling n) f e = call_asked Sens f e
-seek_asked (Asking done known) f e = call_asked (Sdd (length done + 1) known) f e
-seek_asked (Selecting done l) f e = call_asked (Sel (length done + 1) l) f e
-seek_asked (Ended o) f e = absurd (over_is_no_request f e)
+few_step : (s : Seek) (h : Heard) → IsFew s → IsFew (seek_step s h)
+few_step (Calling n) (Whole g) k = omega arith
+few_step (Calling n) (Collided g) k = omega arith
+few_step (Calling n) Damaged k = omega arith
+few_step (Calling n) Silent k = few_either (nat_lt n 3) (Calling (n + 1)) (Ended Nobody) tt tt
+few_step (Asking done known) (Whole g) k =
+    let heard : List Bool = known ++ bits g in
+    few_either ((length heard == level_bits) && (slice_index (packed heard) 4 == bcc (packed heard))) (Selecting done (packed heard)) (Ended BadAnswer) k tt
+few_step (Asking done known) (Collided g) k =
+    let heard : List Bool = known ++ bits g in
+    few_either (nat_le collision_bits (length heard)) (Ended BadAnswer) (Asking done (heard ++ true ∷ [])) tt k
+few_step (Asking done known) Damaged k = tt
+few_step (Asking done known) Silent k = tt
+few_step (Selecting done l) (Whole g) k =
+    let res : ℕ = slice_index g.bytes 0 in
+    let more : Seek = if goes_on done l then Asking (done ++ l ∷ []) [] else Ended BadAnswer in
+    let last : Seek = if goes_on done l then Ended BadAnswer else Ended (Found (done ++ l ∷ []) (kind_of res)) in
+    let none : IsFew last = few_either (goes_on done l) (Ended BadAnswer) (Ended (Found (done ++ l ∷ []) (kind_of res))) tt tt in
+    few_either (is_one_byte g) (if has_bit res 0x04 then more else last) (Ended BadAnswer) (few_either (has_bit res 0x04) more last (few_more done l (goes_on done l) refl) none) tt
+few_step (Selecting done l) (Collided g) k = tt
+few_step (Selecting done l) Damaged k = tt
+few_step (Selecting done l) Silent k = tt
+few_step (Ended o) h k = tt
+
+third : (n : ℕ) → n ≤ 2 → n + 1 ≤ 3
+third n h = omega (arith, h)
+
+seek_asked : (s : Seek) (f : Signal) → IsFew s → seek_next s ≡ Asks f → IsCall f
+seek_asked (Calling n) f k e = call_asked Sens f sens_call e
+seek_asked (Asking done known) f k e = call_asked (Sdd (length done + 1) known) f (sdd_call (length done + 1) known (third (length done) k)) e
+seek_asked (Selecting done l) f k e = call_asked (Sel (length done + 1) l) f (sel_call (length done + 1) l (third (length done) k)) e
+seek_asked (Ended o) f k e = absurd (over_is_no_request f e)
 
 -- What is asked in a search by rounds are calls, and once it is over nothing is.
 module _ {X : Type 0} (aim : Aim X) where
-  search_asked : (s : Search X) (f : Signal) → search_next aim s ≡ Asks f → IsCall f
-  search_asked (Begins round) f e = absurd (light_is_no_request f e)
-  search_asked (Seeks round found s) f e = seek_asked s f e
-  search_asked (Sends round found) f e = call_asked Slp f e
-  search_asked (Told r) f e = absurd (over_is_no_request f e)
+  abbrev KnowsFew : Search X → Type 0
+  KnowsFew (Begins round) = Unit {0}
+  KnowsFew (Seeks round found s) = IsFew s
+  KnowsFew (Sends round found) = Unit {0}
+  KnowsFew (Told r) = Unit {0}
 
-  pub progress_calls : (p : Progress (Search X)) (f : Signal) → due_of (searching aim) p ≡ Asks f → IsCall f
-  progress_calls (Reaches s) f e = search_asked s f e
-  progress_calls Loses f e = absurd (over_is_no_request f e)
+  few_of : (v : Bool) (s t : Search X) → KnowsFew s → KnowsFew t → KnowsFew (if v then s else t)
+  few_of true s t h k = h
+  few_of false s t h k = k
 
-  pub progress_asked : (p : Progress (Search X)) (f : Signal) → due_of (searching aim) p ≡ Asks f → IsHarmless f
-  progress_asked p f e = let is : IsCall f = progress_calls p f e in subst IsHarmless is.1 (call_harmless is.0)
+  few_next : (round : ℕ) → KnowsFew (next_round round)
+  few_next round = few_of (nat_lt round most_rounds) (Begins (round + 1)) (Told (Err faults.Disturbed)) tt tt
+
+  few_met : (round : ℕ) (found : List Picked) (p : Picked) (o : Option X) → KnowsFew (met_or_taken round found p o)
+  few_met round found p (Some x) = tt
+  few_met round found p None =
+      let sleeps : Search X = if nat_lt (length found) most_found then Sends round (found ++ p ∷ []) else Told (Err faults.BadAnswer) in
+      few_of (has_found found p.id) (next_round round) sleeps (few_next round) (few_of (nat_lt (length found) most_found) (Sends round (found ++ p ∷ [])) (Told (Err faults.BadAnswer)) tt tt)
+
+  few_sought : (round : ℕ) (found : List Picked) (s : Seek) → IsFew s → KnowsFew (sought aim round found s)
+  few_sought round found (Calling n) k = tt
+  few_sought round found (Asking done known) k = k
+  few_sought round found (Selecting done l) k = k
+  few_sought round found (Ended Nobody) k = tt
+  few_sought round found (Ended Disturbed) k = few_next round
+  few_sought round found (Ended BadAnswer) k = tt
+  few_sought round found (Ended (Found ls kind)) k =
+      let p : Picked = record { id = identifier ls; kind = kind } in
+      few_met round found p (aim.takes p)
+
+  few_heard : (s : Search X) (h : Heard) → KnowsFew s → KnowsFew (search_step aim s h)
+  few_heard (Begins round) h k = tt
+  few_heard (Seeks round found s) h k = few_sought round found (seek_step s h) (few_step s h k)
+  few_heard (Sends round found) h k = tt
+  few_heard (Told r) h k = tt
+
+  few_lit : (s : Search X) → KnowsFew s → KnowsFew (search_lit aim s)
+  few_lit (Begins round) k = tt
+  few_lit (Seeks round found s) k = k
+  few_lit (Sends round found) k = tt
+  few_lit (Told r) k = tt
+
+  search_asked : (s : Search X) (f : Signal) → KnowsFew s → search_next aim s ≡ Asks f → IsCall f
+  search_asked (Begins round) f k e = absurd (light_is_no_request f e)
+  search_asked (Seeks round found s) f k e = seek_asked s f k e
+  search_asked (Sends round found) f k e = call_asked Slp f slp_call e
+  search_asked (Told r) f k e = absurd (over_is_no_request f e)
+
+  calls_from : (s : Search X) (ns : List Note) (f : Signal) → KnowsFew s → due_of (searching aim) (progress (searching aim) s ns) ≡ Asks f → IsCall f
+  calls_from s [] f k e = search_asked s f k e
+  calls_from s (Lit ∷ ns) f k e = calls_from (search_lit aim s) ns f (few_lit s k) e
+  calls_from s (Got h ∷ ns) f k e = calls_from (search_step aim s h) ns f (few_heard s h k) e
+  calls_from s (Lost ∷ ns) f k e = absurd (over_is_no_request f e)
+
+  pub asks_calls : (ns : List Note) (f : Signal) → enquiring (searching aim) ns ≡ Asks f → IsCall f
+  asks_calls ns f e = calls_from (Begins 1) ns f tt e
+
+  pub asks_harmless : (ns : List Note) (f : Signal) → enquiring (searching aim) ns ≡ Asks f → IsHarmless f
+  asks_harmless ns f e = call_harmless f (asks_calls ns f e)
 
   silent : (s : Search X) → HasEnded (search_ended aim s) → search_next aim s ≡ Over
   silent (Begins round) h = absurd h

@@ -4,70 +4,58 @@ use Rattle.std.specs.List.{AllByRecursion}
 use Rattle.nfc_base.specs.declared.event.Event.{Event}
 use Rattle.nfc_base.specs.Trace.{breaks}
 use Rattle.air_core.specs.Turn.{Air, moment}
-use Rattle.air_core.specs.Conversation.{Note, Next, Going}
+use Rattle.air_core.specs.World.{World}
+use Rattle.air_core.specs.Conversation.{Note, Next, Moment, Going, receptions}
 use Rattle.air_core.specs.PlainTags.{IsAside}
 use Rattle.nfca_poll.specs.declared.kind.Kind.{Kind}
 use Rattle.nfca_poll.specs.declared.fault.PollFault.{PollFault}
 use Rattle.nfca_poll.specs.declared.fault.PollFault.TheVariants as faults
 use Rattle.nfca_poll.specs.Ident.{IsIdent}
 use Rattle.nfca_poll.specs.Front.{Front, Off, Idle, Sleep, Ready, Active, is_ready, is_active}
-use Rattle.nfca_poll.specs.Fronted.{Fronted}
 use Rattle.nfca_poll.specs.Crowd.{Card, Each, is_rest, card_of}
 use Rattle.nfca_poll.specs.Enquiry.{progress, enquiring, answer_of, Enquires}
 use Rattle.nfca_poll.specs.Rounds.{Begins, device_of, picking}
 use Rattle.nfca_poll.specs.RoundTrace.{Misses}
 use Rattle.nfca_poll.specs.RoundEnds.{LeavesActive, PickEnds, SelectsAlone}
 use Rattle.nfca_poll.proofs.Eaches.{each_front, each_back}
-use Rattle.t2t_tag.specs.Store.{T2Memory}
 use Rattle.nfc_bench.specs.declared.command.DeviceId.TheVariants as ids
 use Rattle.nfc_bench.specs.declared.device.Device.{Device}
-use Rattle.nfc_bench.specs.declared.device.Device.TheVariants.{T2, T5}
-use Rattle.nfc_bench.specs.Device.{devices, device_id}
+use Rattle.nfc_bench.specs.declared.device.Device.TheVariants.{T2, T4, T5}
+use Rattle.nfc_bench.specs.declared.entry.SeenKind.{SeenKind}
+use Rattle.nfc_bench.specs.Device.{devices, device_id, device_selected, seen_of}
 use Rattle.nfc_bench.specs.Legal.{air}
 use Rattle.nfc_bench.specs.Placed.{device_with}
 use Rattle.nfc_bench.specs.Answering.{HasPollCause, MissedBy, poll_answer}
 use Rattle.nfc_bench.specs.Choosing.{StandsAt}
-use Rattle.nfc_bench.specs.Phases.{ghosts, kept, AreSound, AreTame, Stands, Asked, Selects, SelectsAt}
+use Rattle.nfc_bench.specs.Phases.{ghosts, kept, AreSound, AreTame, AreTidy, Stands, Asked, Selects, SelectsAt}
 use Rattle.nfc_bench.specs.Polling as followed
-use Rattle.nfc_bench.specs.Polling.{Followed, follows, picked_any, selecting, asks}
-use Rattle.nfc_bench.proofs.Following.{asks_same, told_same, going_as}
-use Rattle.nfc_bench.proofs.Searching.{progress_asked, search_closes, ends_lit}
+use Rattle.nfc_bench.specs.Polling.{follows, kind_by, seen_kind, selecting, asks}
+use Rattle.nfc_bench.proofs.Following.{seen_by, kind_told, kind_asks, seen_lost, asks_same, told_same, going_as}
+use Rattle.nfc_bench.proofs.Searching.{asks_harmless, search_closes, ends_lit}
 use Rattle.nfc_bench.proofs.SelectingAir.{events_are, HasLost, going_lit, going_lost, loses}
 use Rattle.nfc_bench.proofs.SelectingCards.{ours, polled, tidy, cards_of, own_idents, few_cards}
 use Rattle.nfc_bench.proofs.SelectingKept.{going_keeps}
+use Rattle.nfc_bench.proofs.SelectingLinks.{AreUnlinked, unasked, unlinked_amid, unlinked_behind}
 use Rattle.nfc_bench.proofs.SelectingPlaces.{not_eight, some_named, none_with, sound_amid, others_before, others_behind, same_place}
 
--- the outcome without the kind of the device
-abbrev pub any : Result Kind PollFault → Result (Unit {0}) PollFault
-any (Ok kind) = Ok tt
-any (Err e) = Err e
-
-any_told : (r : Result Kind PollFault) (ns : List Note) → picked_any (followed.Told r ns) ≡ followed.Told (any r) ns
-any_told (Ok kind) ns = refl
-any_told (Err e) ns = refl
-
-any_asks : (p : Followed Kind) → asks (picked_any p) ≡ asks p
-any_asks (followed.Asks n) = refl
-any_asks (followed.Told (Ok kind) ns) = refl
-any_asks (followed.Told (Err e) ns) = refl
-
-any_lost : (r : Result Kind PollFault) → any r ≡ Err faults.FieldLost → r ≡ Err faults.FieldLost
-any_lost (Ok kind) e = absurd cc
-any_lost (Err f) e = let same : f ≡ faults.FieldLost = cc in ap Err same
+-- what is seen of the device, by the kind that was told
+abbrev pub any : Result Kind PollFault → Result SeenKind PollFault
+any r = seen_by seen_kind r
 
 -- no card has an identifier: no device has it
 other_ids : (id : List ℕ) (ds : List Device) → IsIdent id → AreSound (map kept ds) → Each (λ c. c.id ≢ id) (cards_of ds) → AllByRecursion (λ l. id ≡ device_id l → ⊥) ds
 other_ids id [] ident s h = tt
 other_ids id (T2 d ∷ ds) ident s h = ((λ e. h.0 (sym e)), other_ids id ds ident s.2 h.1)
+other_ids id (T4 d ∷ ds) ident s h = ((λ e. h.0 (sym e)), other_ids id ds ident s.2 h.1)
 other_ids id (T5 p ∷ ds) ident s h = ((λ e. not_eight (length id) ident.size (ap length e ∙ s.0.1)), other_ids id ds ident s.2 h)
 
 -- the device that has a card
 record CardAt (ds : List Device) (a : List Card) (c : Card) (b : List Card) : Type 0 where
   pub before : List Device
-  pub device : Fronted T2Memory
+  pub device : Device
   pub behind : List Device
-  pub split : ds ≡ before ++ T2 device ∷ behind
-  pub card : card_of ours (T2 device) ≡ c
+  pub split : ds ≡ before ++ device ∷ behind
+  pub card : card_of ours device ≡ c
   pub first : cards_of before ≡ a
   pub later : cards_of behind ≡ b
 
@@ -82,25 +70,46 @@ tail_of : List Card → List Card
 tail_of [] = []
 tail_of (x ∷ xs) = xs
 
-card_at : (ds : List Device) (a : List Card) (c : Card) (b : List Card) → cards_of ds ≡ a ++ c ∷ b → CardAt ds a c b
+abbrev IsCarded : Device → Type 0
+IsCarded d = (ds : List Device) → cards_of (d ∷ ds) ≡ card_of ours d ∷ cards_of ds
+
+-- the first of some devices has the card, or another one has it
+card_here : (d : Device) (ds : List Device) (c : Card) (b : List Card) → card_of ours d ∷ cards_of ds ≡ c ∷ b → CardAt (d ∷ ds) [] c b
 unfolding head_or tail_of
+card_here d ds c b e = record { before = []; device = d; behind = ds; split = refl; card = ap (head_or (card_of ours d)) e; first = refl; later = ap tail_of e }
+
+card_later : (d : Device) (ds : List Device) (x : Card) (a : List Card) (c : Card) (b : List Card) → IsCarded d → card_of ours d ∷ cards_of ds ≡ x ∷ (a ++ c ∷ b) → CardAt ds a c b → CardAt (d ∷ ds) (x ∷ a) c b
+unfolding head_or
+card_later d ds x a c b carded e r = record {
+  before = d ∷ r.before;
+  device = r.device;
+  behind = r.behind;
+  split = ap (λ xs. d ∷ xs) r.split;
+  card = r.card;
+  first = carded r.before ∙ ap (λ xs. card_of ours d ∷ xs) r.first ∙ ap (λ y. y ∷ a) (ap (head_or (card_of ours d)) e);
+  later = r.later;
+}
+
+card_at : (ds : List Device) (a : List Card) (c : Card) (b : List Card) → cards_of ds ≡ a ++ c ∷ b → CardAt ds a c b
+unfolding tail_of
 card_at [] [] c b e = absurd (no_card c b e)
 card_at [] (x ∷ a) c b e = absurd (no_card x (a ++ c ∷ b) e)
 card_at (T5 p ∷ ds) a c b e =
     let r : CardAt ds a c b = card_at ds a c b e in
     record { before = T5 p ∷ r.before; device = r.device; behind = r.behind; split = ap (λ xs. T5 p ∷ xs) r.split; card = r.card; first = r.first; later = r.later }
-card_at (T2 d ∷ ds) [] c b e = record { before = []; device = d; behind = ds; split = refl; card = ap (head_or (card_of ours (T2 d))) e; first = refl; later = ap tail_of e }
-card_at (T2 d ∷ ds) (x ∷ a) c b e =
-    let r : CardAt ds a c b = card_at ds a c b (ap tail_of e) in
-    record {
-      before = T2 d ∷ r.before;
-      device = r.device;
-      behind = r.behind;
-      split = ap (λ xs. T2 d ∷ xs) r.split;
-      card = r.card;
-      first = ap (λ xs. card_of ours (T2 d) ∷ xs) r.first ∙ ap (λ y. y ∷ a) (ap (head_or (card_of ours (T2 d))) e);
-      later = r.later;
-    }
+card_at (T2 d ∷ ds) [] c b e = card_here (T2 d) ds c b e
+card_at (T2 d ∷ ds) (x ∷ a) c b e = card_later (T2 d) ds x a c b (λ xs. refl) e (card_at ds a c b (ap tail_of e))
+card_at (T4 d ∷ ds) [] c b e = card_here (T4 d) ds c b e
+card_at (T4 d ∷ ds) (x ∷ a) c b e = card_later (T4 d) ds x a c b (λ xs. refl) e (card_at ds a c b (ap tail_of e))
+
+-- a device whose card is active is selected, and is what its card tells
+no_off : Off ≡ Active false → ⊥
+no_off e = cc
+
+told_right : (d : Device) (c : Card) → card_of ours d ≡ c → c.front ≡ Active false → (seen_of d ≡ seen_kind c.kind) × (device_selected d ≡ true)
+told_right (T2 d) c e f = (ap (λ (x : Card). seen_kind x.kind) e, ap (λ (x : Card). is_active x.front) e ∙ ap is_active f)
+told_right (T4 d) c e f = (ap (λ (x : Card). seen_kind x.kind) e, ap (λ (x : Card). is_active x.front) e ∙ ap is_active f)
+told_right (T5 p) c e f = absurd (no_off (ap (λ (x : Card). x.front) e ∙ f))
 
 rest_unready : (front : Front) → is_rest front ≡ true → (is_ready front ≡ false) × (is_active front ≡ false)
 rest_unready Off h = (refl, refl)
@@ -113,14 +122,16 @@ rest_unready (Active starred) h = absurd cc
 all_aside : (id : List ℕ) (ds : List Device) → Each (λ c. is_rest c.front ≡ true) (cards_of ds) → AllByRecursion (λ l. id ≡ device_id l → ⊥) ds → AllByRecursion (IsAside ghosts id) ds
 all_aside id [] h o = tt
 all_aside id (T2 d ∷ ds) h o = (record { rests = λ t. rest_unready d.front h.0; other = o.0 }, all_aside id ds h.1 o.1)
+all_aside id (T4 d ∷ ds) h o = (record { rests = λ t. rest_unready d.front h.0; other = o.0 }, all_aside id ds h.1 o.1)
 all_aside id (T5 p ∷ ds) h o = (record { rests = λ t. absurd cc; other = o.0 }, all_aside id ds h o.1)
 
-module _ (id : List ℕ) (old new : Air Device) (r : Result Kind PollFault) (ident : IsIdent id) (tame : AreTame (map kept old.listeners)) (turns : Enquires (picking id) devices old r new) where
+module _ (id : List ℕ) (old new : Air Device) (r : Result Kind PollFault) (ident : IsIdent id) (tame : AreTame (map kept old.listeners)) (calm : AreTidy old.listeners)
+    (turns : Enquires (picking id) devices old r new) where
   abbrev next : List Note → Next
   next ns = asks (selecting (ids.A id) ns)
 
   next_same : (ns : List Note) → next ns ≡ enquiring (picking id) ns
-  next_same ns = any_asks (follows (picking id) ns) ∙ asks_same (picking id) (search_closes (device_of id)) ns
+  next_same ns = kind_asks seen_kind (follows (picking id) ns) ∙ asks_same (picking id) (search_closes (device_of id)) ns
 
   abbrev going : Going air (enquiring (picking id)) (moment old) (moment new) turns.notes
   going = turns.going
@@ -132,10 +143,10 @@ module _ (id : List ℕ) (old new : Air Device) (r : Result Kind PollFault) (ide
   trace_is = events_are air (moment old) (moment new) events turns.going.moment
 
   pub same_kept : map kept new.listeners ≡ map kept old.listeners
-  same_kept = going_keeps (enquiring (picking id)) (moment old) (moment new) turns.notes (λ ks f e. progress_asked (device_of id) (progress (picking id) (Begins 1) ks) f e) going
+  same_kept = going_keeps (enquiring (picking id)) (moment old) (moment new) turns.notes (asks_harmless (device_of id)) going
 
   pub told : (r ≡ Err faults.Memory → ⊥) → selecting (ids.A id) turns.notes ≡ followed.Told (any r) []
-  told starved = ap picked_any (told_same (picking id) (search_closes (device_of id)) air (moment old) (moment new) turns.notes r going turns.comes starved) ∙ any_told r []
+  told starved = ap (kind_by seen_kind) (told_same (picking id) (search_closes (device_of id)) air (moment old) (moment new) turns.notes r going turns.comes starved) ∙ kind_told seen_kind r []
 
   abbrev asked : (r ≡ Err faults.Memory → ⊥) → Asked next (moment old) (moment new)
   asked starved = record {
@@ -152,7 +163,7 @@ module _ (id : List ℕ) (old new : Air Device) (r : Result Kind PollFault) (ide
 
   module _ (lost : r ≡ Err faults.FieldLost → 0 < breaks (drop (length old.trace) new.trace)) (crowd : SelectsAlone devices device_id id old r new) where
     ends : PickEnds id (cards_of old.listeners) r (cards_of new.listeners) events
-    ends = let P : List Event → Type 0 = λ es. PickEnds id (cards_of old.listeners) r (cards_of new.listeners) es in subst P trace_is (crowd polled (tidy old.listeners) (own_idents old.listeners tame))
+    ends = let P : List Event → Type 0 = λ es. PickEnds id (cards_of old.listeners) r (cards_of new.listeners) es in subst P trace_is (crowd polled (tidy old.listeners calm) (own_idents old.listeners tame))
 
     missing : Each (λ c. c.id ≢ id) (cards_of old.listeners) ⊎ Misses events → MissedBy (ids.A id) old.listeners events
     missing (inl h) = inl (none_with id old.listeners (other_ids id old.listeners ident tame.sound h))
@@ -172,7 +183,7 @@ module _ (id : List ℕ) (old new : Air Device) (r : Result Kind PollFault) (ide
       asked = asked starved;
       told = told starved;
       cause = cause r ends starved;
-      lost = ((λ e. subst (λ es. 0 < breaks es) trace_is (lost (any_lost r e))), lost_back);
+      lost = ((λ e. subst (λ es. 0 < breaks es) trace_is (lost (seen_lost seen_kind r e))), lost_back);
     }
 
     answers : (q : PollFault) → PickEnds id (cards_of old.listeners) (Err q) (cards_of new.listeners) events → (q ≡ faults.Memory → ⊥) → IsSome (poll_answer q)
@@ -197,15 +208,15 @@ module _ (id : List ℕ) (old new : Air Device) (r : Result Kind PollFault) (ide
       found : CardAt new.listeners leaves.0 picked leaves.1
       found = card_at new.listeners leaves.0 picked leaves.1 leaves.2
 
-      sound : AreSound (map kept (found.before ++ T2 found.device ∷ found.behind))
+      sound : AreSound (map kept (found.before ++ found.device ∷ found.behind))
       sound = let P : List Device → Type 0 = λ ls. AreSound (map kept ls) in subst P found.split (subst AreSound (sym same_kept) tame.sound)
 
-      own : found.device.id ≡ id
+      own : device_id found.device ≡ id
       own = ap (λ (c : Card). c.id) found.card
 
       -- there is a device of this identifier
       pub placed : IsSome (device_with id new.listeners)
-      placed = subst (λ ls. IsSome (device_with id ls)) (sym found.split) (some_named id found.before (T2 found.device) found.behind own)
+      placed = subst (λ ls. IsSome (device_with id ls)) (sym found.split) (some_named id found.before found.device found.behind own)
 
       world_lit : new.lit ≡ true
       world_lit =
@@ -215,16 +226,34 @@ module _ (id : List ℕ) (old new : Air Device) (r : Result Kind PollFault) (ide
       resting : Each (λ c. is_rest c.front ≡ true) (cards_of found.before ++ cards_of found.behind)
       resting = let P : List Card → Type 0 = λ cs. Each (λ c. is_rest c.front ≡ true) cs in subst (λ b. P (cards_of found.before ++ b)) (sym found.later) (subst (λ a. P (a ++ leaves.1)) (sym found.first) leaves.3)
 
-      stands : (place : ℕ) → length found.before ≡ place → Stands (moment new) place (T2 found.device)
+      not_starved : Ok kind ≡ Err faults.Memory → ⊥
+      not_starved e = cc
+
+      right : (seen_of found.device ≡ seen_kind kind) × (device_selected found.device ≡ true)
+      right = told_right found.device picked found.card refl
+
+      -- it began with a reset, so none has a link
+      asked_some : events ≡ [] → ⊥
+      asked_some e =
+          let none : turns.notes ≡ [] = sym turns.going.known ∙ ap receptions e in
+          not_starved (sym well ∙ turns.comes ∙ ap (λ ns. answer_of (picking id) (progress (picking id) (Begins 1) ns)) none)
+
+      unlinked : AreUnlinked new.listeners
+      unlinked =
+          let at : new.listeners ≡ _ = ap (λ (m : Moment (World Device)). m.world.listeners) turns.going.moment in
+          subst AreUnlinked (sym at) (unlinked_behind id events (moment old).world turns.going.each turns.going.fresh asked_some calm)
+
+      stands : (place : ℕ) → length found.before ≡ place → Stands (moment new) place found.device
       stands place at = record {
         before = found.before;
         behind = found.behind;
         world = ap (λ v. record { lit = v; listeners = new.listeners }) world_lit ∙ ap (λ ls. record { lit = true; listeners = ls }) found.split;
         at = at;
-        sound = sound_amid found.before (T2 found.device) found.behind sound;
-        selected = ap (λ (c : Card). is_active c.front) found.card;
-        first = all_aside found.device.id found.before (each_front (λ c. is_rest c.front ≡ true) (cards_of found.before) (cards_of found.behind) resting) (others_before found.before (T2 found.device) found.behind sound);
-        later = all_aside found.device.id found.behind (each_back (λ c. is_rest c.front ≡ true) (cards_of found.before) (cards_of found.behind) resting) (others_behind found.before (T2 found.device) found.behind sound);
+        sound = sound_amid found.before found.device found.behind sound;
+        selected = right.1;
+        unasked = unasked found.device (unlinked_amid found.before found.device found.behind (subst AreUnlinked found.split unlinked));
+        first = all_aside (device_id found.device) found.before (each_front (λ c. is_rest c.front ≡ true) (cards_of found.before) (cards_of found.behind) resting) (others_before found.before found.device found.behind sound);
+        later = all_aside (device_id found.device) found.behind (each_back (λ c. is_rest c.front ≡ true) (cards_of found.before) (cards_of found.behind) resting) (others_behind found.before found.device found.behind sound);
       }
 
       -- it is selected, and stands at the place that was found
@@ -232,13 +261,10 @@ module _ (id : List ℕ) (old new : Air Device) (r : Result Kind PollFault) (ide
       selects_at place s =
           let P : Result Kind PollFault → Type 0 = λ x. Selects (ids.A id) (any x) (moment old) (moment new) in
           let at : length found.before ≡ length s.before =
-          same_place found.before (T2 found.device) found.behind s.before s.device s.behind sound (sym found.split ∙ s.split) (own ∙ sym s.named) in
+          same_place found.before found.device found.behind s.before s.device s.behind sound (sym found.split ∙ s.split) (own ∙ sym s.named) in
           record {
-            selects = subst P well (selects (λ e. not_starved (sym well ∙ e)));
-            device = T2 found.device;
+            selects = subst (λ k. Selects (ids.A id) (Ok k) (moment old) (moment new)) (sym right.0) (subst P well (selects (λ e. not_starved (sym well ∙ e))));
+            device = found.device;
             named = own;
             stands = stands place (at ∙ s.at);
           }
-        where
-          not_starved : Ok kind ≡ Err faults.Memory → ⊥
-          not_starved e = cc

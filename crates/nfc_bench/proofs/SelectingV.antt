@@ -29,19 +29,21 @@ use Rattle.t5t_tag.specs.Step.{T5Turn, sent}
 use Rattle.t5t_tag.proofs.Inventories.{unpicked}
 use Rattle.nfc_bench.specs.declared.command.DeviceId.TheVariants as ids
 use Rattle.nfc_bench.specs.declared.device.Device.{Device}
-use Rattle.nfc_bench.specs.declared.device.Device.TheVariants.{T2, T5}
+use Rattle.nfc_bench.specs.declared.device.Device.TheVariants.{T2, T4, T5}
+use Rattle.nfc_bench.specs.declared.entry.SeenKind.{SeenKind}
+use Rattle.nfc_bench.specs.declared.entry.SeenKind.TheVariants as seen
 use Rattle.nfc_bench.specs.Powered.{Powered}
-use Rattle.nfc_bench.specs.Device.{devices, device_id, device_selected}
+use Rattle.nfc_bench.specs.Device.{devices, device_id, device_selected, seen_of}
 use Rattle.nfc_bench.specs.Legal.{air}
 use Rattle.nfc_bench.specs.Placed.{device_with}
 use Rattle.nfc_bench.specs.Answering.{HasPollCause, MissedBy, poll_answer}
 use Rattle.nfc_bench.specs.Choosing.{StandsAt}
-use Rattle.nfc_bench.specs.Phases.{ghosts, kept, IsSound, AreSound, AreTame, Asked, Selects, SelectsAt}
+use Rattle.nfc_bench.specs.Phases.{ghosts, kept, IsSound, AreSound, AreTame, IsUnasked, Asked, Selects, SelectsAt}
 use Rattle.nfc_bench.specs.Polling as followed
-use Rattle.nfc_bench.specs.Polling.{Followed, follows, pick_v, selecting, asks}
+use Rattle.nfc_bench.specs.Polling.{Followed, follows, kind_by, pick_v, selecting, asks}
 use Rattle.nfc_bench.proofs.Ours.{steady_at, answers_own}
 use Rattle.nfc_bench.proofs.Inventoried.{fewer, whole_silent, collided_silent, damaged_silent, is_whole, tries_ask, tries_light, all_of}
-use Rattle.nfc_bench.proofs.Following.{HasEnded, Closes, light_is_no_request, over_is_no_request, over_is_no_light, asks_same, told_same}
+use Rattle.nfc_bench.proofs.Following.{HasEnded, Closes, light_is_no_request, over_is_no_request, over_is_no_light, seen_by, kind_told, kind_asks, seen_lost, asks_same, told_same}
 use Rattle.nfc_bench.proofs.Unmoved.{OnlyAsks, AllHeard, AllStay, all_stay, all_heard}
 use Rattle.nfc_bench.proofs.SelectingAir.{events_are, lit_by, HasLost, going_lit, going_lost, loses, stays_lit}
 use Rattle.nfc_bench.proofs.SelectingKept.{IsHarmless, going_keeps}
@@ -50,6 +52,13 @@ use Rattle.nfc_bench.proofs.SelectingPlaces.{not_eight, some_named, Amid, none_o
 -- a device behind a reset
 abbrev pub relit : Device → Device
 relit l = devices.woken (devices.darkened l)
+
+-- what is selected is a Type 5 tag
+abbrev is_five : Unit {0} → SeenKind
+is_five x = seen.T5
+
+abbrev pub five : Result (Unit {0}) PollFault → Result SeenKind PollFault
+five r = seen_by is_five r
 
 abbrev ended_if : Bool → Option (Result (Unit {0}) PollFault)
 ended_if v = if v then None else Some (Err faults.NotFound)
@@ -138,6 +147,7 @@ module _ (id : List ℕ) where
 
   harmless : IsHarmless inventory
   harmless (T2 d) = refl
+  harmless (T4 d) = refl
   harmless (T5 p) = ap kept (steady_at id (T5 p) refl).1
 
   abbrev next : List Note → Next
@@ -145,7 +155,9 @@ module _ (id : List ℕ) where
 
   next_asked : (ns : List Note) (f : Signal) → next ns ≡ Asks f → IsHarmless f
   next_asked [] f e = absurd (light_is_no_request f e)
-  next_asked (Lit ∷ ns) f e = subst IsHarmless (sym (due_only (progress call (Tries 0 false) ns) f (sym (asks_same call v_closes ns) ∙ e))) harmless
+  next_asked (Lit ∷ ns) f e =
+      let same : asks (kind_by is_five (follows call ns)) ≡ enquiring call ns = kind_asks is_five (follows call ns) ∙ asks_same call v_closes ns in
+      subst IsHarmless (sym (due_only (progress call (Tries 0 false) ns) f (sym same ∙ e))) harmless
   next_asked (Got h ∷ ns) f e = next_asked ns f e
   next_asked (Lost ∷ ns) f e = absurd (over_is_no_request f e)
 
@@ -195,6 +207,7 @@ module _ (id : List ℕ) where
 
   other_silent : (l : Device) → IsSound (kept l) → (id ≡ device_id l → ⊥) → says (relit l) ≡ None
   other_silent (T2 d) s o = refl
+  other_silent (T4 d) s o = refl
   other_silent (T5 p) s o = ap (λ (x : T5Turn). sent x.answer) (unpicked (darkened p.tag) (state_of p s) id o)
 
   others_silent : (ls : List Device) → AreSound (map kept ls) → AllByRecursion (λ l. id ≡ device_id l → ⊥) ls → Each (λ l. says l ≡ None) (map relit ls)
@@ -223,6 +236,10 @@ module _ (id : List ℕ) where
       by_kind (T2 d) split named =
           let sound : AreSound (map kept (a.before ++ T2 d ∷ a.behind)) = subst (λ ds. AreSound (map kept ds)) split s in
           let own : IsSound (kept (T2 d)) = sound_amid a.before (T2 d) a.behind sound in
+          absurd (not_eight (length d.id) own.0.size (ap length named ∙ eight))
+      by_kind (T4 d) split named =
+          let sound : AreSound (map kept (a.before ++ T4 d ∷ a.behind)) = subst (λ ds. AreSound (map kept ds)) split s in
+          let own : IsSound (kept (T4 d)) = sound_amid a.before (T4 d) a.behind sound in
           absurd (not_eight (length d.id) own.0.size (ap length named ∙ eight))
       by_kind (T5 p) split named =
           let sound : AreSound (map kept (a.before ++ T5 p ∷ a.behind)) = subst (λ ds. AreSound (map kept ds)) split s in
@@ -263,16 +280,19 @@ module _ (id : List ℕ) where
 -- a device of either kind stays as it is at an inventory
 stays_at : (id : List ℕ) (d : Device) → stepped_by devices d (inventory_of id) None ≡ d
 stays_at id (T2 d) = refl
+stays_at id (T4 d) = refl
 stays_at id (T5 p) = (steady_at id (T5 p) refl).1
 
 -- a device as a reset leaves it
 abbrev IsRelit : Device → Type 0
 IsRelit (T2 d) = d.front ≡ Idle
+IsRelit (T4 d) = d.front ≡ Idle
 IsRelit (T5 p) = p.lit ≡ true
 
 are_relit : (ls : List Device) → AllByRecursion IsRelit (map relit ls)
 are_relit [] = tt
 are_relit (T2 d ∷ ls) = (refl, are_relit ls)
+are_relit (T4 d ∷ ls) = (refl, are_relit ls)
 are_relit (T5 p ∷ ls) = (refl, are_relit ls)
 
 relit_front : (before behind : List Device) → AllByRecursion IsRelit (before ++ behind) → AllByRecursion IsRelit before
@@ -286,10 +306,12 @@ relit_back (l ∷ ls) behind h = relit_back ls behind h.1
 relit_aside : (id : List ℕ) (ls : List Device) → AllByRecursion IsRelit ls → AllByRecursion (λ l. id ≡ device_id l → ⊥) ls → AllByRecursion (IsAside ghosts id) ls
 relit_aside id [] h o = tt
 relit_aside id (T2 d ∷ ls) h o = (record { rests = λ t. (ap is_ready h.0, ap is_active h.0); other = o.0 }, relit_aside id ls h.1 o.1)
+relit_aside id (T4 d ∷ ls) h o = (record { rests = λ t. (ap is_ready h.0, ap is_active h.0); other = o.0 }, relit_aside id ls h.1 o.1)
 relit_aside id (T5 p ∷ ls) h o = (record { rests = λ t. absurd cc; other = o.0 }, relit_aside id ls h.1 o.1)
 
 relit_id : (l : Device) → device_id (relit l) ≡ device_id l
 relit_id (T2 d) = refl
+relit_id (T4 d) = refl
 relit_id (T5 p) = refl
 
 relit_among : (before : List Device) (d : Device) (behind : List Device) → map relit (before ++ d ∷ behind) ≡ map relit before ++ relit d ∷ map relit behind
@@ -323,7 +345,7 @@ module _ (id : List ℕ) (eight : length id ≡ 8) (old mid new : Air Device) (r
   begun = going_reset air (next id) (moment old) (moment old) (moment mid) [] (going_start air (next id) (moment old)) refl reset
 
   abbrev whole : Going air (next id) (moment old) (moment new) (Lit ∷ notes)
-  whole = going_then air (next id) (next id) (enquiring (picking_v id)) (moment old) (moment mid) (moment new) (Lit ∷ []) notes (λ ns n p d. p) (λ ns. asks_same (picking_v id) (v_closes id) ns) begun turns.going
+  whole = going_then air (next id) (next id) (enquiring (picking_v id)) (moment old) (moment mid) (moment new) (Lit ∷ []) notes (λ ns n p d. p) (λ ns. kind_asks is_five (follows (picking_v id) ns) ∙ asks_same (picking_v id) (v_closes id) ns) begun turns.going
 
   later_is : drop (length mid.trace) new.trace ≡ later
   later_is = events_are air (moment mid) (moment new) later turns.going.moment
@@ -334,8 +356,8 @@ module _ (id : List ℕ) (eight : length id ≡ 8) (old mid new : Air Device) (r
       let all : new.trace ≡ old.trace ++ (Reset ∷ later) = ap T turns.going.moment ∙ ap (λ t. t ++ later) (ap T reset) ∙ append_assoc old.trace (Reset ∷ []) later in
       sym (events_are air (moment old) (moment new) whole.events whole.moment) ∙ ap (drop (length old.trace)) all ∙ drop-front old.trace (Reset ∷ later)
 
-  told : (r ≡ Err faults.Memory → ⊥) → selecting (ids.V id) (Lit ∷ notes) ≡ followed.Told r []
-  told starved = told_same (picking_v id) (v_closes id) air (moment mid) (moment new) notes r turns.going turns.comes starved
+  told : (r ≡ Err faults.Memory → ⊥) → selecting (ids.V id) (Lit ∷ notes) ≡ followed.Told (five r) []
+  told starved = ap (kind_by is_five) (told_same (picking_v id) (v_closes id) air (moment mid) (moment new) notes r turns.going turns.comes starved) ∙ kind_told is_five r []
 
   pub same_kept : map kept new.listeners ≡ map kept old.listeners
   same_kept = going_keeps (next id) (moment old) (moment new) (Lit ∷ notes) (next_asked id) whole
@@ -385,7 +407,7 @@ module _ (id : List ℕ) (eight : length id ≡ 8) (old mid new : Air Device) (r
         by_miss (inl n) = inl (silence_tells id old.listeners eight tame.sound (subst (NoneAnswers devices (inventory_of id)) relit_at n))
         by_miss (inr n) = inr (subst (λ es. tries ≤ noise es) (sym whole_is) (subst (λ es. tries ≤ noise es) later_is n))
 
-    cause : (q : Result (Unit {0}) PollFault) → r ≡ q → MayCome q → (q ≡ Err faults.Memory → ⊥) → HasPollCause (ids.V id) old.listeners q whole.events
+    cause : (q : Result (Unit {0}) PollFault) → r ≡ q → MayCome q → (q ≡ Err faults.Memory → ⊥) → HasPollCause (ids.V id) old.listeners (five q) whole.events
     cause (Ok x) e m n = tt
     cause (Err faults.Nobody) e m n = m
     cause (Err faults.Disturbed) e m n = m
@@ -394,12 +416,12 @@ module _ (id : List ℕ) (eight : length id ≡ 8) (old mid new : Air Device) (r
     cause (Err faults.NotFound) e m n = missed_by e
     cause (Err faults.BadAnswer) e m n = m
 
-    pub selects : (r ≡ Err faults.Memory → ⊥) → Selects (ids.V id) r (moment old) (moment new)
+    pub selects : (r ≡ Err faults.Memory → ⊥) → Selects (ids.V id) (five r) (moment old) (moment new)
     selects starved = record {
       asked = asked starved;
       told = told starved;
       cause = cause r refl may starved;
-      lost = ((λ e. lost_there (lost e)), lost_back);
+      lost = ((λ e. lost_there (lost (seen_lost is_five r e))), (λ h. ap five (lost_back h)));
     }
 
     answers : (q : PollFault) → MayCome (Err q) → (q ≡ faults.Memory → ⊥) → IsSome (poll_answer q)
@@ -470,7 +492,13 @@ module _ (id : List ℕ) (eight : length id ≡ 8) (old mid new : Air Device) (r
 
       selected_if : (d : Device) → IsRelit d → IsSound (kept d) → device_id d ≡ id → device_selected d ≡ true
       selected_if (T2 d) h s named = absurd (not_eight (length d.id) s.0.size (ap length named ∙ eight))
+      selected_if (T4 d) h s named = absurd (not_eight (length d.id) s.0.size (ap length named ∙ eight))
       selected_if (T5 p) h s named = h
+
+      five_if : (d : Device) → IsSound (kept d) → device_id d ≡ id → (seen_of d ≡ seen.T5) × IsUnasked d
+      five_if (T2 d) s named = absurd (not_eight (length d.id) s.0.size (ap length named ∙ eight))
+      five_if (T4 d) s named = absurd (not_eight (length d.id) s.0.size (ap length named ∙ eight))
+      five_if (T5 p) s named = (refl, tt)
 
       -- it is selected, and stands at the place that was found
       pub selects_at : (place : ℕ) → StandsAt id new.listeners place → SelectsAt (ids.V id) place (moment old) (moment new)
@@ -478,9 +506,10 @@ module _ (id : List ℕ) (eight : length id ≡ 8) (old mid new : Air Device) (r
           let whole_sound : AreSound (map kept (s.before ++ s.device ∷ s.behind)) = subst (λ ls. AreSound (map kept ls)) s.split sound in
           let all : AllByRecursion IsRelit (s.before ++ s.device ∷ s.behind) = subst (AllByRecursion IsRelit) s.split relit_all in
           let own : IsSound (kept s.device) = sound_amid s.before s.device s.behind whole_sound in
+          let is : (seen_of s.device ≡ seen.T5) × IsUnasked s.device = five_if s.device own s.named in
           let behind : AllByRecursion IsRelit (s.device ∷ s.behind) = relit_back s.before (s.device ∷ s.behind) all in
           record {
-            selects = subst (λ q. Selects (ids.V id) q (moment old) (moment new)) well (selects not_starving);
+            selects = subst (λ k. Selects (ids.V id) (Ok k) (moment old) (moment new)) (sym is.0) (subst (λ q. Selects (ids.V id) (five q) (moment old) (moment new)) well (selects not_starving));
             device = s.device;
             named = s.named;
             stands = record {
@@ -490,6 +519,7 @@ module _ (id : List ℕ) (eight : length id ≡ 8) (old mid new : Air Device) (r
               at = s.at;
               sound = own;
               selected = selected_if s.device behind.0 own s.named;
+              unasked = is.1;
               first = relit_aside (device_id s.device) s.before (relit_front s.before (s.device ∷ s.behind) all) (others_before s.before s.device s.behind whole_sound);
               later = relit_aside (device_id s.device) s.behind behind.1 (others_behind s.before s.device s.behind whole_sound);
             };

@@ -88,6 +88,15 @@ letter_at [] i d h = absurd (omega (arith, h))
 letter_at (f ∷ fs) zero d h = (f, refl)
 letter_at (f ∷ fs) (suc i) d h = letter_at fs i d (omega (arith, h))
 
+-- the second byte of the second word
+abbrev kind_byte : List (List ℕ) → ℕ
+kind_byte (w ∷ (a ∷ b ∷ bs) ∷ ws) = b
+kind_byte ws = 0
+
+-- `t4` isn't `t5`
+four_differs : (ws xs ys : List (List ℕ)) → ws ≡ codes "place" ∷ codes "t4" ∷ xs → ws ≡ codes "place" ∷ codes "t5" ∷ ys → ⊥
+four_differs ws xs ys p q = let h : 52 ≡ 53 = ap kind_byte (sym p ∙ q) in omega (arith, h)
+
 -- where the first words are alike, so are the values; words that differ spell no two commands
 pub spelled_one : (ws : List (List ℕ)) (c d : Command) → SpelledBy ws c → SpelledBy ws d → c ≡ d
 spelled_one ws (Fates a) (Fates b) (v, e, p) (w, f, q) =
@@ -128,6 +137,8 @@ spelled_one ws (PlaceT5 i m k g) (PlaceT5 j n l h) (u, v, w, x, e, p, r, t, s) (
     let sizes : k ≡ l = size_one w' k l (let P : List ℕ → Type 0 = λ t. SpellsSize t k in subst P third t) t' in
     let heads : g ≡ h = hex_one x' g h (let P : List ℕ → Type 0 = λ t. SpellsHex t g in subst P fourth s) s' in
     cc
+spelled_one ws (PlaceT4 i m k g) (PlaceT5 j n l h) (u, v, w, x, e, p, r, t, s) (u', v', w', x', e', p', r', t', s') = absurd (four_differs ws (u ∷ v ∷ w ∷ x ∷ []) (u' ∷ v' ∷ w' ∷ x' ∷ []) e e')
+spelled_one ws (PlaceT5 i m k g) (PlaceT4 j n l h) (u, v, w, x, e, p, r, t, s) (u', v', w', x', e', p', r', t', s') = absurd (four_differs ws (u' ∷ v' ∷ w' ∷ x' ∷ []) (u ∷ v ∷ w ∷ x ∷ []) e' e)
 spelled_one ws Skip d p q = absurd p
 spelled_one ws c Skip p q = absurd q
 spelled_one ws c d p q = absurd cc
@@ -158,15 +169,27 @@ pub four_refused : (ws : List (List ℕ)) (i b s h : List ℕ) → ws ≡ i ∷ 
 four_refused ws i b s h e none (PlaceT5 id n k head) (i', b', s', h', e', p, q, t, r) =
     let same : h' ≡ h = cc in
     none head (let P : List ℕ → Type 0 = λ t. SpellsHex t head in subst P same r)
+four_refused ws i b s h e none (PlaceT4 id n k head) (i', b', s', h', e', p, q, t, r) = four_differs (codes "place" ∷ codes "t5" ∷ ws) (i' ∷ b' ∷ s' ∷ h' ∷ []) ws e' refl
 four_refused ws i b s h e none Skip p = p
 four_refused ws i b s h e none c p = cc
 
 -- and so for a Type 4 tag, of whose words the last two are HEX
+pub container_refused : (ws : List (List ℕ)) (i b s h : List ℕ) → ws ≡ i ∷ b ∷ s ∷ h ∷ [] → ((bytes : List ℕ) → SpellsHex s bytes → ⊥)
+    → (c : Command) → SpelledBy (codes "place" ∷ codes "t4" ∷ ws) c → ⊥
+container_refused ws i b s h e none (PlaceT4 id n k head) (i', b', s', h', e', p, q, t, r) =
+    let same : s' ≡ s = cc in
+    none k (let P : List ℕ → Type 0 = λ t. SpellsHex t k in subst P same t)
+container_refused ws i b s h e none (PlaceT5 id n k head) (i', b', s', h', e', p, q, t, r) =
+    four_differs (codes "place" ∷ codes "t4" ∷ ws) ws (i' ∷ b' ∷ s' ∷ h' ∷ []) refl e'
+container_refused ws i b s h e none Skip p = p
+container_refused ws i b s h e none c p = cc
+
 pub heads_refused : (ws : List (List ℕ)) (i b s h : List ℕ) → ws ≡ i ∷ b ∷ s ∷ h ∷ [] → ((bytes : List ℕ) → SpellsHex h bytes → ⊥)
     → (c : Command) → SpelledBy (codes "place" ∷ codes "t4" ∷ ws) c → ⊥
 heads_refused ws i b s h e none (PlaceT4 id n k head) (i', b', s', h', e', p, q, t, r) =
     let same : h' ≡ h = cc in
     none head (let P : List ℕ → Type 0 = λ t. SpellsHex t head in subst P same r)
+heads_refused ws i b s h e none (PlaceT5 id n k head) (i', b', s', h', e', p, q, t, r) = four_differs (codes "place" ∷ codes "t4" ∷ ws) ws (i' ∷ b' ∷ s' ∷ h' ∷ []) refl e'
 heads_refused ws i b s h e none Skip p = p
 heads_refused ws i b s h e none c p = cc
 

@@ -177,7 +177,7 @@ fn place_t2(alloc: Global, rest: &[u8]) -> Result<Command, LineFault>
 }
 
 /// `place t4 ID CODE HEX HEX`, behind its second word.
-#[tactic(auto, using(crate::proofs::Spelling::heads_refused))]
+#[tactic(auto, using(crate::proofs::Spelling::container_refused, crate::proofs::Spelling::heads_refused))]
 fn place_t4(alloc: Global, rest: &[u8]) -> Result<Command, LineFault>
     ensures ok { IfOk result (λ c. SpelledBy (codes "place" ∷ codes "t4" ∷ words_of rest.now) c) }
     ensures refused { IsErrOf result LineFault.Refused → (c : Command) → SpelledBy (codes "place" ∷ codes "t4" ∷ words_of rest.now) c → ⊥ }

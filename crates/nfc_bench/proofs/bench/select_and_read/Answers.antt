@@ -1,4 +1,4 @@
-use Rattle.std.proofs.Common.{◌≡◌, Some, sym, ◌∙◌, subst}
+use Rattle.std.proofs.Common.{◌≡◌, Some, subst}
 use Rattle.std.specs.Prelude.{Err, IsSome}
 use Rattle.air_core.specs.Turn.{moment}
 use Rattle.nfc_bench.specs.declared.command.Command.TheVariants.{Read}
@@ -7,7 +7,7 @@ use Rattle.nfc_bench.specs.declared.polling.Selection.{Selection}
 use Rattle.nfc_bench.specs.Answering.{poll_answer}
 use Rattle.nfc_bench.specs.Phases.{Stands, Selects, SelectsAt, SelectsTo, Reads}
 use Rattle.nfc_bench.specs.Obeying.{Obeyed}
-use Rattle.nfc_bench.proofs.Legality.{how_named, read_obeyed, missed_obeyed}
+use Rattle.nfc_bench.proofs.Legality.{read_obeyed, missed_obeyed}
 use Rattle.nfc_bench.proofs.Outcomes.{if_ok}
 use Rattle.nfc_bench.proofs.bench.select_and_read.Goals as goal
 
@@ -15,7 +15,7 @@ pub read-requires : goal.read-requires
 read-requires c =
     let S : Selection → Type 0 = λ s. SelectsTo c.args.id.now s (moment c.args.field.now) (moment c.select.new.field) in
     let s : SelectsAt c.args.id.now c.in-Place.place (moment c.args.field.now) (moment c.select.new.field) = subst S c.in-Place.is c.in_ok-place.ensures in
-    (s.device, s.stands, c.named-how.ensures.how ∙ sym (how_named c.args.id.now s.device c.named-how.ensures.shape s.stands.sound s.named))
+    (s.device, s.stands)
 
 pub returns-in-Place : goal.returns-in-Place
 returns-in-Place c =

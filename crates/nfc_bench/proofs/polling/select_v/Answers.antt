@@ -8,7 +8,7 @@ use Rattle.nfc_bench.specs.declared.device.Device.{Device}
 use Rattle.nfc_bench.specs.Placed.{device_with}
 use Rattle.nfc_bench.specs.Choosing.{StandsAt}
 use Rattle.nfc_bench.specs.Phases.{Selects, SelectsTo}
-use Rattle.nfc_bench.proofs.SelectingV.{reset_done, placed, selects, answered, selects_at}
+use Rattle.nfc_bench.proofs.SelectingV.{five, reset_done, placed, selects, answered, selects_at}
 use Rattle.nfc_bench.proofs.Selections.{if_missed, not_starved}
 use Rattle.nfc_bench.proofs.polling.select_v.Goals as goal
 
@@ -32,7 +32,7 @@ returns-in-Err c =
     let reset = reset_done c.args.field.now c.reset.new.self c.reset.result c.reset.ensures.ok (sym c.is_err.ensures.value ∙ c.if-is_err.false) in
     let lit : c.reset.new.self.lit ≡ true = ap (λ (m : Moment (World Device)). m.world.lit) reset in
     let eight : length c.args.id ≡ 8 = omega (arith, c.well_formed) in
-    let P : Result (Unit {0}) PollFault → Type 0 = λ r. Selects (ids.V c.args.id) r (moment c.args.field.now) (moment c.pick_v.new.field) in
+    let P : Result (Unit {0}) PollFault → Type 0 = λ r. Selects (ids.V c.args.id) (five r) (moment c.args.field.now) (moment c.pick_v.new.field) in
     if_missed c.none_selected.result c.in-Err.fault (λ s. SelectsTo (ids.V c.args.id) s (moment c.args.field.now) (moment c.pick_v.new.field)) c.none_selected.ensures (λ m. (
       subst P c.in-Err.is
           (selects c.args.id eight c.args.field.now c.reset.new.self c.pick_v.new.field c.pick_v.result c.requires.idle.tame reset (c.pick_v.ensures.turns lit) c.pick_v.ensures.lost (c.pick_v.ensures.cause lit)

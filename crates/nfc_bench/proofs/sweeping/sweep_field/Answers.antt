@@ -13,20 +13,20 @@ use Rattle.nfc_bench.proofs.sweeping.sweep_field.Goals as goal
 
 pub missed-requires : goal.missed-requires
 missed-requires c =
-    fault_answered c.args.field.now c.find_all.new.field (listed c.find_all.result) c.requires.idle.tame c.find_all.ensures.turns c.find_all.ensures.crowd c.find_all.ensures.lost
+    fault_answered c.args.field.now c.find_all.new.field (listed c.find_all.result) c.requires.idle.tame c.requires.idle.tidy c.find_all.ensures.turns c.find_all.ensures.crowd c.find_all.ensures.lost
     c.in-Err.fault (ap listed c.in-Err.is)
 
 pub returns-in-Err : goal.returns-in-Err
 returns-in-Err c =
     if_answered c.missed.result (λ a. poll_answer c.in-Err.fault ≡ Some a) (λ a. Searches (moment c.args.field.now) (moment c.find_all.new.field) a) c.missed.ensures (λ a t.
-    searches_one c.args.field.now c.find_all.new.field (listed c.find_all.result) c.requires.idle.tame c.find_all.ensures.turns c.find_all.ensures.crowd c.find_all.ensures.lost
+    searches_one c.args.field.now c.find_all.new.field (listed c.find_all.result) c.requires.idle.tame c.requires.idle.tidy c.find_all.ensures.turns c.find_all.ensures.crowd c.find_all.ensures.lost
     c.in-Err.fault (ap listed c.in-Err.is) a t)
 
 pub missed-requires-in-Err-inventory_one : goal.missed-requires-in-Err-inventory_one
 missed-requires-in-Err-inventory_one c =
     let well : listed c.find_all.result ≡ Ok c.in-Ok.picked.items = ap listed c.in-Ok.is in
     let lit : c.find_all.new.field.lit ≡ true = let P : Result (List Picked) PollFault → Type 0 = λ r. LeavesLit r c.find_all.new.field in subst P well c.find_all.ensures.lit in
-    others_answered c.args.field.now c.find_all.new.field (listed c.find_all.result) c.requires.idle.tame c.find_all.ensures.turns c.find_all.ensures.crowd c.find_all.ensures.lost
+    others_answered c.args.field.now c.find_all.new.field (listed c.find_all.result) c.requires.idle.tame c.requires.idle.tidy c.find_all.ensures.turns c.find_all.ensures.crowd c.find_all.ensures.lost
     c.in-Ok.picked.items well c.inventory_one.new.field c.inventory_one.result (c.inventory_one.ensures.turns lit) (c.inventory_one.ensures.cause lit) c.inventory_one.ensures.lost lit
     c.in-Err-inventory_one.fault c.in-Err-inventory_one.is
 
@@ -36,7 +36,7 @@ returns-in-Err-inventory_one c =
     let lit : c.find_all.new.field.lit ≡ true = let P : Result (List Picked) PollFault → Type 0 = λ r. LeavesLit r c.find_all.new.field in subst P well c.find_all.ensures.lit in
     if_answered c.missed-in-Err-inventory_one.result (λ a. poll_answer c.in-Err-inventory_one.fault ≡ Some a) (λ a. Searches (moment c.args.field.now) (moment c.inventory_one.new.field) a) c.missed-in-Err-inventory_one.ensures (λ a t.
     let T : Result Vcrowd PollFault → Type 0 = λ r. TellsOthers c.in-Ok.picked.items r a in
-    searches_both c.args.field.now c.find_all.new.field (listed c.find_all.result) c.requires.idle.tame c.find_all.ensures.turns c.find_all.ensures.crowd c.find_all.ensures.lost
+    searches_both c.args.field.now c.find_all.new.field (listed c.find_all.result) c.requires.idle.tame c.requires.idle.tidy c.find_all.ensures.turns c.find_all.ensures.crowd c.find_all.ensures.lost
     c.in-Ok.picked.items well c.inventory_one.new.field c.inventory_one.result (c.inventory_one.ensures.turns lit) (c.inventory_one.ensures.cause lit) c.inventory_one.ensures.lost lit
     a (subst T (sym c.in-Err-inventory_one.is) t))
 
@@ -49,6 +49,6 @@ returns c =
     let T : Result Vcrowd PollFault → Type 0 = λ r. TellsOthers c.in-Ok.picked.items r answer in
     let tells : T (Ok others) =
     ap (λ ds. answers.Found ds c.is_crowd.result) c.in_ok-listed.ensures ∙ ap (answers.Found (seen_all (record { cards = c.in-Ok.picked.items; others = others }))) c.is_crowd.ensures in
-    searches_both c.args.field.now c.find_all.new.field (listed c.find_all.result) c.requires.idle.tame c.find_all.ensures.turns c.find_all.ensures.crowd c.find_all.ensures.lost
+    searches_both c.args.field.now c.find_all.new.field (listed c.find_all.result) c.requires.idle.tame c.requires.idle.tidy c.find_all.ensures.turns c.find_all.ensures.crowd c.find_all.ensures.lost
     c.in-Ok.picked.items well c.inventory_one.new.field c.inventory_one.result (c.inventory_one.ensures.turns lit) (c.inventory_one.ensures.cause lit) c.inventory_one.ensures.lost lit
     answer (subst T (sym c.in-Ok-inventory_one.is) tells)

@@ -1,0 +1,50 @@
+use Rattle.std.specs.declared.alloc.AllocError.{AllocError}
+use Rattle.std.specs.Prelude.{◌≡◌, Some, Result, Ok, Err, IfOk}
+use Rattle.isodep_link.specs.declared.link.IsoLink.{IsoLink}
+use Rattle.isodep_link.specs.IsoLinks.{IsoSeen}
+use Rattle.air_core.specs.Turn.{moment}
+use Rattle.tag_reader.specs.declared.fault.ReadFault.{ReadFault}
+use Rattle.nfc_bench.specs.declared.device.Device.{Device}
+use Rattle.nfc_bench.specs.declared.entry.Answer.{Answer}
+use Rattle.nfc_bench.specs.Device.{size_of}
+use Rattle.nfc_bench.specs.Linking.{Linked, ReadsOn}
+use Rattle.nfc_bench.specs.Phases.{told_by}
+use Rattle.nfc_bench.proofs.CardReadingLinks.{IsNewLink, from, new_ready, new_tag, ends_may, ends_found, ends_told}
+use Rattle.nfc_bench.proofs.reading.read_linked.Goals as goal
+
+-- the link as contracts see it
+abbrev seen : IsoLink Device → IsoSeen Device
+seen l = record { air = l.field.now; place = l.place; start = l.start; told = l.told; reader = l.reader; last = l.last; over = l.over }
+
+pub read-requires-clause-ready : goal.read-requires-clause-ready
+read-requires-clause-ready c over =
+    let new : IsNewLink (seen c.args.link.now) = record { start = c.requires.fresh.0; told = c.requires.fresh.1; last = c.requires.fresh.2; over = c.requires.fresh.3 } in
+    new_ready (seen c.args.link.now) new c.requires.tag.0 c.requires.tag.1
+
+pub read-requires-clause-tag : goal.read-requires-clause-tag
+read-requires-clause-tag c =
+    let new : IsNewLink (seen c.args.link.now) = record { start = c.requires.fresh.0; told = c.requires.fresh.1; last = c.requires.fresh.2; over = c.requires.fresh.3 } in
+    (size_of c.requires.tag.0, new_tag (seen c.args.link.now) new c.requires.tag.0 c.requires.tag.1)
+
+pub told-requires : goal.told-requires
+told-requires c =
+    let new : IsNewLink (seen c.args.link.now) = record { start = c.requires.fresh.0; told = c.requires.fresh.1; last = c.requires.fresh.2; over = c.requires.fresh.3 } in
+    ends_may (seen c.args.link.now) new c.requires.tag.0 c.requires.tag.1 (seen c.read.new.link) c.in-Err.ensures.moves
+    (from (seen c.args.link.now) new c.requires.tag.0 c.requires.tag.1).state.store c.in-Err.fault c.in-Err.ensures.err
+
+pub returns-in-Ok-clause-tells : goal.returns-in-Ok-clause-tells
+returns-in-Ok-clause-tells c d linked =
+    let new : IsNewLink (seen c.args.link.now) = record { start = c.requires.fresh.0; told = c.requires.fresh.1; last = c.requires.fresh.2; over = c.requires.fresh.3 } in
+    ends_found (seen c.args.link.now) new d linked (seen c.read.new.link) c.in-Ok.ensures.moves c.in-Ok.field-0 c.in-Ok.ensures.stays.store c.in-Ok.ensures.whole c.in-Ok.ensures.goes_on c.in-Ok.ensures.ok
+
+pub returns-in-Err-clause-tells : goal.returns-in-Err-clause-tells
+returns-in-Err-clause-tells c = by_answer c.told.result c.told.ensures
+  where
+    by_answer : (r : Result Answer AllocError) → IfOk r (λ answer. told_by c.in-Err.fault ≡ Some answer)
+        → IfOk r (λ answer. (d : Device) → Linked d c.args.link.now.field.now c.args.link.now.place c.args.link.now.reader
+            → ReadsOn (moment c.args.link.now.field.now) (moment c.read.new.link.field.now) d c.args.link.now.reader answer)
+    by_answer (Err e) told = tt
+    by_answer (Ok answer) told = λ d linked.
+        (let new : IsNewLink (seen c.args.link.now) = record { start = c.requires.fresh.0; told = c.requires.fresh.1; last = c.requires.fresh.2; over = c.requires.fresh.3 } in
+        ends_told (seen c.args.link.now) new d linked (seen c.read.new.link) c.in-Err.ensures.moves c.in-Err.fault answer told c.in-Err.ensures.stays.store
+        c.in-Err.ensures.asked c.in-Err.ensures.whole c.in-Err.ensures.goes_on c.in-Err.ensures.err)
