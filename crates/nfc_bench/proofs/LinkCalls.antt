@@ -1,8 +1,8 @@
 -- What a reader calls devices with while it polls is no frame for a tag: it spells no command of a Type 2 tag, isn't RATS, and
 -- spells no block of a link.
-use Rattle.std.proofs.Common.{◌≡◌, ℕ, ◌+◌, ◌-◌, ◌/◌, ◌%◌, ◌≤◌, List, [], ◌∷◌, length, drop, slice_index, Bool, true, false, ◌==◌, ◌&&◌, if◌then◌else◌, nat_lt, nat_le, Option, Some, None, refl, sym, ◌∙◌, ap, arith}
+use Rattle.std.proofs.Common.{◌≡◌, ℕ, ◌+◌, ◌-◌, ◌/◌, ◌%◌, ◌≤◌, List, [], ◌∷◌, length, drop, slice_index, Bool, true, false, ◌==◌, ◌&&◌, if◌then◌else◌, nat_lt, nat_le, Option, Some, None, refl, ◌∙◌, ap, arith}
 use Rattle.nfc_base.specs.Signal.{Signal}
-use Rattle.nfca_poll.specs.Calls.{Call, Reading, Calls, Other, Sens, All, Slp, Sdd, Sel, call_of, is_short, is_slp, is_sdd, is_sel, is_sel_cmd, is_sdd_par, known_count, known_bits, cmd_level, named_level, all_known}
+use Rattle.nfca_poll.specs.Calls.{Call, Calls, Other, Sens, All, Slp, Sdd, Sel, call_of, is_short, is_slp, is_sdd, is_sel, is_sel_cmd, is_sdd_par, known_count, known_bits, cmd_level, named_level, all_known}
 use Rattle.nfca_poll.specs.declared.upper.UpStep.{UpStep}
 use Rattle.nfca_poll.specs.declared.upper.UpStep.TheVariants as steps
 use Rattle.nfc_base.specs.Bits.{bit_count}
@@ -12,10 +12,10 @@ use Rattle.t2t_tag.specs.Spelling.{command_of, spelled_command}
 use Rattle.t4t_tag.specs.Store.{T4State}
 use Rattle.isodep_link.specs.declared.block.Block.{Block}
 use Rattle.isodep_link.specs.declared.block.Block.TheVariants.{Ack, Nak, Deselect}
-use Rattle.isodep_link.specs.Blocks.{block_of, sort_block, short_block, spelled_block, is_nfc_a, is_whole_a, info_block}
-use Rattle.isodep_link.specs.Sizes.{is_rats, rats_code}
+use Rattle.isodep_link.specs.Blocks.{block_of, sort_block, short_block, spelled_block, is_nfc_a, info_block}
+use Rattle.isodep_link.specs.Sizes.{is_rats}
 use Rattle.isodep_link.specs.Card.{CardState, CardTurn, card_table, framed, stays, heeded, fresh}
-use Rattle.nfc_bench.specs.Device.{T4Did, by_card, linked, t4_did}
+use Rattle.nfc_bench.specs.Device.{by_card, linked, t4_did}
 
 -- If this is a frame of whole bytes, it begins with 50h to 97h. So do calls; a frame for a tag begins with another byte.
 abbrev pub BeginsAsCalls : Signal → Type 0
@@ -138,11 +138,11 @@ other_call f t b c =
     let code : ℕ = slice_index f.bytes 0 in
     let par : ℕ = slice_index f.bytes 1 in
     none_of (is_short f 0x26) (is_short f 0x52) (is_slp f) (is_sdd f) (is_sel f) (Sdd (cmd_level code) (known_bits f)) (Sel (cmd_level code) (named_level f))
-        (none_short (f.tail == 7) (length f.bytes == 1) (code == 0x26) (no_seven f.tail t))
-        (none_short (f.tail == 7) (length f.bytes == 1) (code == 0x52) (no_seven f.tail t))
-        (none_slp (f.tail == 0) (length f.bytes == 2) (code == 0x50) (par == 0) b)
-        (none_sdd (nat_le 2 (length f.bytes)) (is_sel_cmd code) (is_sdd_par par) (bit_count f == 16 + known_count par) c)
-        (none_slp (f.tail == 0) (length f.bytes == 7) (is_sel_cmd code) (par == all_known) c)
+    (none_short (f.tail == 7) (length f.bytes == 1) (code == 0x26) (no_seven f.tail t))
+    (none_short (f.tail == 7) (length f.bytes == 1) (code == 0x52) (no_seven f.tail t))
+    (none_slp (f.tail == 0) (length f.bytes == 2) (code == 0x50) (par == 0) b)
+    (none_sdd (nat_le 2 (length f.bytes)) (is_sel_cmd code) (is_sdd_par par) (bit_count f == 16 + known_count par) c)
+    (none_slp (f.tail == 0) (length f.bytes == 7) (is_sel_cmd code) (par == all_known) c)
 
 sel_range : (n : ℕ) → is_sel_cmd n ≡ true → (0x50 ≤ n) × (n ≤ 0x97)
 sel_range n h = (grind arith, grind arith)

@@ -7,7 +7,7 @@ use Rattle.nfc_base.specs.Signal.{Signal}
 use Rattle.nfca_poll.specs.declared.kind.Kind.TheVariants as kinds
 use Rattle.nfca_poll.specs.Ident.{IsIdent}
 use Rattle.nfca_poll.specs.Levels.{levels}
-use Rattle.nfca_poll.specs.Calls.{Call, Calls, call_of}
+use Rattle.nfca_poll.specs.Calls.{call_of}
 use Rattle.nfca_poll.specs.Front.{Front, Off, Idle, Sleep, Ready, Active, front_says, front_next, is_active}
 use Rattle.nfca_poll.specs.Fronted.{Fronted, left_at, answer_by, after_by, active_answer, active_after}
 use Rattle.nfca_poll.specs.Crowd.{Card, Each, AreDistinct, AreOurs, StepsByFront, card_if, cards}
@@ -77,7 +77,7 @@ step_at_call d f e =
 abbrev pub ours : AreOurs devices device_id
 ours = record { kind = device_kind; front = device_front; steps = steps }
 
--- A Type 4 tag has no link, nor has any other device.
+-- whether a device has no link; a Type 4 tag alone may have one
 abbrev pub device_unlinked : Device → Bool
 device_unlinked (T2 d) = true
 device_unlinked (T4 d) = is_unlinked d.upper
