@@ -26,7 +26,7 @@ use Rattle.air_core.proofs.Quiet.{quiet_turns_to, quiet_turn, quiet_transmits}
 use Rattle.air_core.proofs.PlainAside.{Laws, IsUnmoved, aside_silent, alone_quiet, alone_says}
 use Rattle.air_core.proofs.PlainTurns.{one, joint_one, tag_events, tag_heard, turn_events_as, heard_as, asking_bad}
 use Rattle.air_core.proofs.PlainViews.{heard_same}
-use Rattle.isodep_link.specs.Sizes.{ats_frame, most_code}
+use Rattle.isodep_link.specs.Sizes.{piece_size, ats_frame, most_code}
 use Rattle.isodep_link.specs.Card.{CardState}
 use Rattle.isodep_link.specs.Reader.{waiting}
 use Rattle.isodep_link.specs.Exchange.{InStep, IsCut}
@@ -181,6 +181,7 @@ module _ {L : Type 0} (k : Ghosts L) (laws : Laws k) (card : L → CardState) (t
           step = subst P (sym (t.takes.card_is n)) (ready_first t.takes.code reader_code).0;
           cut = subst Q (sym (t.takes.card_is n)) refl;
         };
+        own = ap (λ (y : CardState). piece_size y.code) (sym (t.takes.card_is n));
         origin = k.store l;
         holds = t.takes.tag_is n;
         replays = t.takes.replays n;

@@ -1,5 +1,5 @@
 -- A reader that asks a command of a Type 4 tag keeps the law of the exchange, turn by turn.
-use Rattle.std.proofs.Common.{◌≡◌, ℕ, zero, suc, ◌+◌, ◌-◌, ◌*◌, ◌<◌, ◌≤◌, ◌⊎◌, inl, inr, List, [], ◌∷◌, ◌++◌, length, map, Bool, true, false, Option, Some, None, Ok, Err, refl, sym, ◌∙◌, ap, subst, arith, append_assoc, append-nil}
+use Rattle.std.proofs.Common.{◌≡◌, ℕ, zero, suc, ◌+◌, ◌-◌, ◌*◌, ◌<◌, ◌≤◌, ◌⊎◌, inl, inr, List, [], ◌∷◌, ◌++◌, length, slice_index, map, Bool, true, false, Option, Some, None, Ok, Err, refl, sym, ◌∙◌, ap, subst, arith, append_assoc, append-nil}
 use Rattle.std.specs.List.{AllByRecursion}
 use Rattle.nfc_base.specs.Signal.{Signal, whole_a}
 use Rattle.nfc_base.specs.TagLinks.{TagState, TagStep, passed}
@@ -55,9 +55,13 @@ stand_on : (s : Standing) (ns : List Note) (n : Note) → stand s (ns ++ n ∷ [
 stand_on s [] n = refl
 stand_on s (m ∷ ns) n = stand_on (noted s m) ns n
 
+-- the items of a frame are bytes
+abbrev pub HasBytes : Signal → Type 0
+HasBytes f = (i : ℕ) → slice_index f.bytes i < 256
+
 -- what the reader sends is a block that a reader sends
-request_asked : (c : Core) → c.number < 2 → c.most ≤ 253 → IsAsked (block_frame (request c))
-request_asked c p q = record { block = request c; asked = go c.drawing refl; frame = refl }
+request_asked : (c : Core) (f : Signal) → f ≡ block_frame (request c) → HasBytes f → c.number < 2 → c.most ≤ 253 → IsAsked f
+request_asked c f e bytes p q = record { block = request c; asked = go c.drawing refl; bytes = bytes; frame = e }
   where
     go : (d : Bool) → c.drawing ≡ d → IsAskedBlock (request c)
     go true e = rw e p
@@ -67,12 +71,12 @@ held_number : (m : ℕ) (out : List ℕ) (c : Core) (t : CardState) (g : Option 
 held_number m out c t g n (law.of_chain h l) = (h.number, h.bounds.fits)
 held_number m out c t g n (law.of_answer bytes h l) = (h.number, h.bounds.fits)
 
-asked_frame : (m : ℕ) (out : List ℕ) (i : ReaderState) (t : CardState) (g : Option (List ℕ)) (f : Signal) (n : ℕ) → law.Ask m out i t g f n → IsAsked f
-asked_frame m out i t g f n (law.asks p e h b) = subst IsAsked (sym e) (request_asked i.core h.number h.bounds.fits)
-asked_frame m out i t g f n (law.draws p e h b) = subst IsAsked (sym e) (request_asked i.core h.number h.bounds.fits)
-asked_frame m out i t g f n (law.draws_again p e d h) = let x = held_number m out i.core t g n h in subst IsAsked (sym e) (request_asked i.core x.0 x.1)
-asked_frame m out i t g f n (law.naks p e h b) = record { block = Nak i.core.number; asked = h.number; frame = e }
-asked_frame m out i t g f n (law.naks_held p e d h) = record { block = Nak i.core.number; asked = (held_number m out i.core t g n h).0; frame = e }
+asked_frame : (m : ℕ) (out : List ℕ) (i : ReaderState) (t : CardState) (g : Option (List ℕ)) (f : Signal) → HasBytes f → (n : ℕ) → law.Ask m out i t g f n → IsAsked f
+asked_frame m out i t g f bytes n (law.asks p e h b) = request_asked i.core f e bytes h.number h.bounds.fits
+asked_frame m out i t g f bytes n (law.draws p e h b) = request_asked i.core f e bytes h.number h.bounds.fits
+asked_frame m out i t g f bytes n (law.draws_again p e d h) = let x = held_number m out i.core t g n h in request_asked i.core f e bytes x.0 x.1
+asked_frame m out i t g f bytes n (law.naks p e h b) = record { block = Nak i.core.number; asked = h.number; bytes = bytes; frame = e }
+asked_frame m out i t g f bytes n (law.naks_held p e d h) = record { block = Nak i.core.number; asked = (held_number m out i.core t g n h).0; bytes = bytes; frame = e }
 
 live_of : (m : ℕ) (out : List ℕ) (i : ReaderState) (t : CardState) (g : Option (List ℕ)) (f : Signal) (n : ℕ) → law.Ask m out i t g f n → (i.phase ≡ phases.Asked) ⊎ (i.phase ≡ phases.Nacked)
 live_of m out i t g f n (law.asks p e h b) = inl p
@@ -217,17 +221,17 @@ module _ {L : Type 0} (k : Ghosts L) (laws : Laws k) where
           }
 
       -- the frame that is sent is one that a reader sends
-      frame_asked : (es0 es : List Event) (i : ReaderState) (t : CardState) (held : TagState) (f : Signal) → Stands es0 i t es held (Requests f) → IsAsked f
-      frame_asked es0 es i t held f a =
+      frame_asked : (es0 es : List Event) (i : ReaderState) (t : CardState) (held : TagState) (f : Signal) → HasBytes f → Stands es0 i t es held (Requests f) → IsAsked f
+      frame_asked es0 es i t held f bytes a =
           let j = subst (λ (x : Stage Signal). J iso_dep commands command (keeps (card begin).most command) (2 * pieces i0.core.most command) a.world x) a.stage_is a.inv in
-          asked_frame (card begin).most command a.world.asking a.world.answering a.world.given f j.0 j.1
+          asked_frame (card begin).most command a.world.asking a.world.answering a.world.given f bytes j.0 j.1
 
-      module _ (old mid : Air L) (place : ℕ) (i : ReaderState) (f : Signal) (o : On old mid place i (Requests f) (Waits i f [])) where
+      module _ (old mid : Air L) (place : ℕ) (i : ReaderState) (f : Signal) (bytes : HasBytes f) (o : On old mid place i (Requests f) (Waits i f [])) where
         abbrev last : L
         last = reached k begin o.frames
 
         is_asked : IsAsked f
-        is_asked = frame_asked old.trace mid.trace i (card last) (tag last) f o.along
+        is_asked = frame_asked old.trace mid.trace i (card last) (tag last) f bytes o.along
 
         last_tag : IsCardTag k card tag last
         last_tag = stays_card_tag begin o.frames o.asked c
@@ -369,27 +373,27 @@ module _ {L : Type 0} (k : Ghosts L) (laws : Laws k) where
             (images_grow (k.store begin) (stores_after k place (world old) o.seen) (stores_after k place (world mid) more) o.along.world.given b.world.given (tag first).store held.store
             o.images shown (stores_by o.along.world.given b.world.given refl refl))
 
-      module _ (old mid : Air L) (place : ℕ) (i : ReaderState) (f : Signal) (o : On old mid place i (Requests f) (Waits i f [])) {F : Type 0} (far far' : F) (new : Air L) where
+      module _ (old mid : Air L) (place : ℕ) (i : ReaderState) (f : Signal) (bytes : HasBytes f) (o : On old mid place i (Requests f) (Waits i f [])) {F : Type 0} (far far' : F) (new : Air L) where
         abbrev more_frames : List Signal
         more_frames = o.frames ++ f ∷ []
 
         more_asked : AllByRecursion IsAsked more_frames
-        more_asked = all_append IsAsked o.frames (f ∷ []) o.asked (is_asked old mid place i f o, tt)
+        more_asked = all_append IsAsked o.frames (f ∷ []) o.asked (is_asked old mid place i f bytes o, tt)
 
         reached_more : k.machine.after (reached k begin o.frames) f None ≡ reached k begin more_frames
         reached_more = reached_twice begin o.frames (f ∷ [])
 
         selected_more : k.is_selected (reached k begin more_frames) ≡ true
         selected_more =
-            subst (λ (x : L). k.is_selected x ≡ true) reached_more ((last_tag old mid place i f o).steps [] tt f (is_asked old mid place i f o)).selected
+            subst (λ (x : L). k.is_selected x ≡ true) reached_more ((last_tag old mid place i f bytes o).steps [] tt f (is_asked old mid place i f bytes o)).selected
 
         -- a turn of which something was heard
         module _ (h : Heard) (q : QuietTurn k.machine mid f far (Some h) new far') where
           abbrev t : CardTurn k laws card tag mid new place (reached k begin o.frames) f (Some h)
-          t = turn old mid place i f o far far' new (Some h) q
+          t = turn old mid place i f bytes o far far' new (Some h) q
 
           n : Onward iso_dep commands command (keeps (card begin).most command) (2 * pieces i0.core.most command) TagState (Obeys (k.commands begin)) arrived old.trace (tag begin) i (Some h) (card t.left) new.trace t.held
-          n = onward old mid place i f o far far' new (Some h) q
+          n = onward old mid place i f bytes o far far' new (Some h) q
 
           abbrev Next_on : Type 0
           Next_on = On old new place (reader_table i h).state (stage_of (reader_does (reader_table i h).does)) (goes_by (reader_table i h).state (reader_table i h).does [])
@@ -405,14 +409,14 @@ module _ {L : Type 0} (k : Ghosts L) (laws : Laws k) where
               record {
                 frames = fs;
                 asked = a;
-                alone = subst (λ (x : L). IsAlone k (k.identifier begin) new.listeners place x) e (alone_left old mid place i f o far far' new (Some h) q);
+                alone = subst (λ (x : L). IsAlone k (k.identifier begin) new.listeners place x) e (alone_left old mid place i f bytes o far far' new (Some h) q);
                 selected = s;
                 lit = lit ∙ sym q.lit ∙ o.lit;
                 dim = λ d. absurd (cc);
                 along = al;
                 notes = o.notes ++ note (Some h) ∷ [];
-                going = going_on old mid place i f o far far' new (Some h) q;
-                stands = stands_then old mid place i f o far far' new (Some h) q;
+                going = going_on old mid place i f bytes o far far' new (Some h) q;
+                stands = stands_then old mid place i f bytes o far far' new (Some h) q;
                 seen = o.seen ++ t.added;
                 seen_is = seen_on old mid new place i (Requests f) (Waits i f []) o t.added t.trace (reader_table i h).state (card (reached k begin fs)) (tag (reached k begin fs)) (stage_of (reader_does (reader_table i h).does)) al sh;
                 images = images_on old mid new place i (Requests f) (Waits i f []) o t.added t.trace (reader_table i h).state (card (reached k begin fs)) (tag (reached k begin fs)) (stage_of (reader_does (reader_table i h).does)) al sh;
@@ -428,10 +432,10 @@ module _ {L : Type 0} (k : Ghosts L) (laws : Laws k) where
         -- a turn that lost the field
         module _ (q : QuietTurn k.machine mid f far None new far') where
           abbrev t0 : CardTurn k laws card tag mid new place (reached k begin o.frames) f None
-          t0 = turn old mid place i f o far far' new None q
+          t0 = turn old mid place i f bytes o far far' new None q
 
           n0 : Onward iso_dep commands command (keeps (card begin).most command) (2 * pieces i0.core.most command) TagState (Obeys (k.commands begin)) arrived old.trace (tag begin) i None (card t0.left) new.trace t0.held
-          n0 = onward old mid place i f o far far' new None q
+          n0 = onward old mid place i f bytes o far far' new None q
 
           lost_left : (was : L) (fs : List Signal) → AllByRecursion IsAsked fs → was ≡ reached k begin fs → t0.left ≡ k.machine.darkened was → tag was ≡ t0.held → new.lit ≡ false → Lost old new place
           lost_left was fs a e d held lit =
@@ -444,14 +448,14 @@ module _ {L : Type 0} (k : Ghosts L) (laws : Laws k) where
                 frames = fs;
                 asked = a;
                 left = t0.left;
-                alone = alone_left old mid place i f o far far' new None q;
+                alone = alone_left old mid place i f bytes o far far' new None q;
                 darkened = d ∙ ap k.machine.darkened e;
                 dark = lit;
                 reader = i;
                 along = al;
                 notes = o.notes ++ note None ∷ [];
-                going = going_on old mid place i f o far far' new None q;
-                stands = stands_then old mid place i f o far far' new None q;
+                going = going_on old mid place i f bytes o far far' new None q;
+                stands = stands_then old mid place i f bytes o far far' new None q;
                 seen = o.seen ++ t0.added;
                 seen_is = seen_on old mid new place i (Requests f) (Waits i f []) o t0.added t0.trace i (card t0.left) (tag (reached k begin fs)) Dark al sh;
                 images = images_on old mid new place i (Requests f) (Waits i f []) o t0.added t0.trace i (card t0.left) (tag (reached k begin fs)) Dark al sh;
@@ -562,17 +566,17 @@ module _ {L : Type 0} (k : Ghosts L) (laws : Laws k) (card : L → CardState) (t
       (subst (λ (g : Signal). Here old b (Requests g) (Waits b g [])) (sym d)
       (begins_on k laws card tag t.listener t.is i0 commands arrived command old place t.selected t.alone short t.step t.cut))
 
-  module _ (mid : Air L) (i : ReaderState) (f : Signal) (o : Here mid i (Requests f) (Waits i f [])) {F : Type 0} (restarts : F → List ℕ → F → Type 0) (steps : F → List ℕ → List ℕ → F → Type 0)
-      (far far' : F) (new : Air L) where
+  module _ (mid : Air L) (i : ReaderState) (f : Signal) (bytes : HasBytes f) (o : Here mid i (Requests f) (Waits i f []))
+      {F : Type 0} (restarts : F → List ℕ → F → Type 0) (steps : F → List ℕ → List ℕ → F → Type 0) (far far' : F) (new : Air L) where
     quiet_here : EachQuiet k.machine f mid.listeners
-    quiet_here = quiet_on k laws card tag t.listener t.is i0 commands arrived command old mid place i f o
+    quiet_here = quiet_on k laws card tag t.listener t.is i0 commands arrived command old mid place i f bytes o
 
     -- the reader goes on by what it heard
     pub next_here : (h : Heard) → TurnIs k.machine restarts steps mid f far (Some h) new far' → (i' : ReaderState) (d : ReaderStep)
         → (let x : ReaderTurn = record { state = i'; does = d } in x) ≡ reader_table i h → Here new i' (stage_of (reader_does d)) (goes_by i' d [])
     next_here h turn i' d e =
         subst (λ (x : ReaderTurn). Here new x.state (stage_of (reader_does x.does)) (goes_by x.state x.does [])) (sym e)
-        (turn_on k laws card tag t.listener t.is i0 commands arrived command old mid place i f o far far' new h (quiet_turn k.machine restarts steps mid f far (Some h) new far' quiet_here turn))
+        (turn_on k laws card tag t.listener t.is i0 commands arrived command old mid place i f bytes o far far' new h (quiet_turn k.machine restarts steps mid f far (Some h) new far' quiet_here turn))
 
     lit_here : (h : Heard) → TurnIs k.machine restarts steps mid f far (Some h) new far' → new.lit ≡ old.lit → new.lit ≡ true
     lit_here h turn e = e ∙ sym o.lit ∙ turn.lit
@@ -580,15 +584,15 @@ module _ {L : Type 0} (k : Ghosts L) (laws : Laws k) (card : L → CardState) (t
     six_noisy : (h : Heard) → TurnIs k.machine restarts steps mid f far (Some h) new far' → (i' : ReaderState)
         → (let x : ReaderTurn = record { state = i'; does = step.SixBad } in x) ≡ reader_table i h → (zs : List Event) → new.trace ≡ old.trace ++ zs → 0 < noise zs
     six_noisy h turn i' e zs z =
-        noisy k laws card tag t.listener t.is i0 commands arrived command old mid place i f o far far' new (Some h) (quiet_turn k.machine restarts steps mid f far (Some h) new far' quiet_here turn)
+        noisy k laws card tag t.listener t.is i0 commands arrived command old mid place i f bytes o far far' new (Some h) (quiet_turn k.machine restarts steps mid f far (Some h) new far' quiet_here turn)
         (λ g q. let w : h ≡ heards.Whole g = cc in
-        whole_not_six i g (live k laws card tag t.listener t.is i0 commands arrived command old mid place i f o far far' new (Some h) (quiet_turn k.machine restarts steps mid f far (Some h) new far' quiet_here turn))
+        whole_not_six i g (live k laws card tag t.listener t.is i0 commands arrived command old mid place i f bytes o far far' new (Some h) (quiet_turn k.machine restarts steps mid f far (Some h) new far' quiet_here turn))
         (ap (λ x. (reader_table i x).does) (sym w) ∙ sym (ap (λ (x : ReaderTurn). x.does) e)))
         zs z
 
     lost_noisy : TurnIs k.machine restarts steps mid f far None new far' → (zs : List Event) → new.trace ≡ old.trace ++ zs → 0 < noise zs
     lost_noisy turn zs z =
-        noisy k laws card tag t.listener t.is i0 commands arrived command old mid place i f o far far' new None (quiet_turn k.machine restarts steps mid f far None new far' quiet_here turn)
+        noisy k laws card tag t.listener t.is i0 commands arrived command old mid place i f bytes o far far' new None (quiet_turn k.machine restarts steps mid f far None new far' quiet_here turn)
         (λ g q. absurd (cc)) zs z
 
     -- the answer came
@@ -619,7 +623,7 @@ module _ {L : Type 0} (k : Ghosts L) (laws : Laws k) (card : L → CardState) (t
           → EndsBy k card tag old new place t.listener i0 i' commands arrived command (Err ask.FieldLost)
       ends_lost i' (inl d) = inl (sym o.lit ∙ d.0, d.1 ∙ o.dim d.0)
       ends_lost i' (inr turn) =
-          let l = turn_lost k laws card tag t.listener t.is i0 commands arrived command old mid place i f o far far' new (quiet_turn k.machine restarts steps mid f far None new far' quiet_here turn) in
+          let l = turn_lost k laws card tag t.listener t.is i0 commands arrived command old mid place i f bytes o far far' new (quiet_turn k.machine restarts steps mid f far None new far' quiet_here turn) in
           inr (l.along.world.given, Broken ask.FieldLost, lost_asked k laws card tag t.listener t.is i0 commands arrived command old new place l, (refl, l.dark, lost_noisy turn l.along.added l.along.events))
 
       -- nothing more could be noted

@@ -1,5 +1,5 @@
 -- What a link to a Type 4 tag shows once a command was asked.
-use Rattle.std.proofs.Common.{◌≡◌, ℕ, ◌+◌, ◌≤◌, ◌⊎◌, inl, inr, List, [], ◌∷◌, ◌++◌, length, take, drop, map, true, false, Option, Some, None, refl, sym, ◌∙◌, ap, subst, arith, take_all}
+use Rattle.std.proofs.Common.{◌≡◌, ℕ, ◌+◌, ◌≤◌, ◌⊎◌, inl, inr, List, [], ◌∷◌, ◌++◌, length, take, drop, map, true, false, Option, Some, None, Ok, refl, sym, ◌∙◌, ap, subst, arith, take_all}
 use Rattle.std.proofs.lemmas.List.{drop-append-le, take-append-le, map-append}
 use Rattle.std.specs.List.{AllByRecursion}
 use Rattle.nfc_base.specs.Signal.{Signal, whole_a}
@@ -19,10 +19,10 @@ use Rattle.air_core.proofs.PlainAside.{Laws}
 use Rattle.air_core.proofs.PlainStores.{place_is}
 use Rattle.air_core.proofs.PlainTurns.{noise_append}
 use Rattle.isodep_link.specs.Card.{CardState}
-use Rattle.isodep_link.specs.Reader.{ReaderState}
+use Rattle.isodep_link.specs.Reader.{ReaderState, waiting}
 use Rattle.isodep_link.specs.Commands.{iso_commands}
 use Rattle.isodep_link.specs.Exchange.{blocks_of, IsCut}
-use Rattle.isodep_link.specs.Activating.{IsActivated}
+use Rattle.isodep_link.specs.Activating.{first_link, IsActivated, RatsEnds, IsActivatedLink}
 use Rattle.isodep_link.specs.CardTags as tags
 use Rattle.isodep_link.specs.Asking.{Standing, Asked}
 use Rattle.isodep_link.specs.IsoLinks.{IsoSeen, commands_of, obeyed_in, opened_by, since, store_of, iso_view, IsIsoReady}
@@ -217,3 +217,10 @@ ready_on k card tag air place i a =
       holds = a.holds ∙ ap (λ (es : List Event). after_all (k.commands a.has.listener) (plain_state a.origin) (obeyed_in es)) (sym none);
       replays = a.replays;
     }
+
+-- the first link to a tag whose answer to RATS came is one to a tag that was activated
+pub activated_link : {L : Type 0} (k : Ghosts L) (card : L → CardState) (tag : L → TagState) (old new : Air L) (place code : ℕ) (p : IsoSeen L) → p ≡ first_link new place code
+    → RatsEnds k card tag old new place (Ok code) → IsActivatedLink k card tag old p
+activated_link k card tag old new place code p e (sent, lit, is, tells) =
+    let P : IsoSeen _ → Type 0 = λ q. IsActivatedLink k card tag old q in
+    subst P (sym e) (record { code = code; sent = sent; tells = tells; lit = lit; activated = is; reader = refl; ready = ready_on k card tag new place (waiting code) is })

@@ -14,12 +14,12 @@ use Rattle.air_core.specs.Waits.{Standing, Asking, Broken, stand, waits_next}
 use Rattle.air_core.specs.PlainTags.{heard_times, IsAlone}
 use Rattle.air_core.specs.declared.listener.Listener.{Ghosts}
 use Rattle.isodep_link.specs.Blocks.{is_whole_a}
-use Rattle.isodep_link.specs.Sizes.{rats_byte, most_code, ats_frame}
+use Rattle.isodep_link.specs.Sizes.{rats_byte, piece_size, most_code, ats_frame}
 use Rattle.isodep_link.specs.Card.{CardState, fresh, activated}
 use Rattle.isodep_link.specs.Reader.{ReaderState, waiting}
 use Rattle.isodep_link.specs.CardTags.{IsCardTag}
 use Rattle.isodep_link.specs.Asking.{HasCardTag}
-use Rattle.isodep_link.specs.IsoLinks.{Replays}
+use Rattle.isodep_link.specs.IsoLinks.{IsoSeen, Replays, IsIsoReady}
 
 -- the reader's size code, the largest, and its RATS
 abbrev pub reader_code : ℕ
@@ -43,6 +43,10 @@ ats_code f =
 abbrev pub TellsCode : List Note → ℕ → Type 0
 TellsCode ns code = (before : List Note) × (f : Signal) × (ns ≡ before ++ Got (Whole f) ∷ []) × (ats_code f ≡ Some code)
 
+-- the link to the tag at a place that told this size code, before anything is asked
+abbrev pub first_link : {L : Type 0} → Air L → ℕ → ℕ → IsoSeen L
+first_link air place code = record { air = air; place = place; start = length air.trace; told = length air.trace; reader = waiting code; last = None; over = None }
+
 module _ {L : Type 0} (k : Ghosts L) (card : L → CardState) (tag : L → TagState) where
   -- A selected listener is a Type 4 tag that nothing was asked of: however often it hears RATS in a row it answers ATS of its
   -- size code, stays selected, and is then a tag of which nothing is selected.
@@ -64,10 +68,11 @@ module _ {L : Type 0} (k : Ghosts L) (card : L → CardState) (tag : L → TagSt
     pub alone : IsAlone k (k.identifier listener) air.listeners place listener
     pub takes : TakesRats listener
 
-  -- At this place of a field a Type 4 tag stands that was activated, in step with a reader that knows this size code of it, and
+  -- At this place of a field a Type 4 tag stands that was activated, in step with a reader that cuts to the tag's own size code, and
   -- nothing is selected of it.
   pub record IsActivated (air : Air L) (place : ℕ) (i : ReaderState) : Type 0 where
     pub has : HasCardTag k card tag air place i [] []
+    pub own : i.core.most ≡ piece_size (card has.listener).code
     pub origin : List ℕ
     pub holds : tag has.listener ≡ plain_state origin
     pub replays : Replays (k.commands has.listener) origin
@@ -90,3 +95,14 @@ module _ {L : Type 0} (k : Ghosts L) (card : L → CardState) (tag : L → TagSt
   -- what a reader does that activates the tag at a place
   abbrev pub Activates : Air L → Air L → ℕ → Result ℕ AskFault → Type 0
   Activates old new place result = HasFreshTag old place → RatsEnds old new place result
+
+  -- From one moment on RATS was sent again and again, up to the answer of the tag, which told a size code: the tag was activated,
+  -- and this is a link to it that is ready for commands.
+  pub record IsActivatedLink (old : Air L) (p : IsoSeen L) : Type 0 where
+    pub code : ℕ
+    pub sent : RatsSent old p.air (Asking 0 [])
+    pub tells : TellsCode sent.notes code
+    pub lit : p.air.lit ≡ true
+    pub activated : IsActivated p.air p.place (waiting code)
+    pub reader : p.reader ≡ waiting code
+    pub ready : IsIsoReady k card tag p

@@ -1,6 +1,6 @@
 -- Type 4 tags in a field (NFC Forum Digital Protocol; NFC Forum Type 4 Tag): a listener that does at the reader's blocks what
 -- the card's table says, over the tag's own step on commands. Who hears what is this project's own.
-use Rattle.std.specs.Prelude.{◌≡◌, ℕ, ◌≤◌, List, length, true, Some, None}
+use Rattle.std.specs.Prelude.{◌≡◌, ℕ, ◌<◌, ◌≤◌, List, length, slice_index, true, Some, None}
 use Rattle.std.specs.List.{AllByRecursion}
 use Rattle.nfc_base.specs.declared.frame.Tech.TheVariants.{A}
 use Rattle.nfc_base.specs.Signal.{Signal, whole_a}
@@ -23,9 +23,11 @@ IsAskedBlock (Ack n) = IsBlock (Ack n)
 IsAskedBlock (Nak n) = IsBlock (Nak n)
 IsAskedBlock Deselect = ⊥
 
+-- the frame of such a block, whose items are bytes
 pub record IsAsked (f : Signal) : Type 0 where
   pub block : Block
   pub asked : IsAskedBlock block
+  pub bytes : (i : ℕ) → slice_index f.bytes i < 256
   pub frame : f ≡ block_frame block
 
 -- the tag's step on the bytes of a command: the bytes of its answer, and what the tag is then

@@ -11,3 +11,4 @@ pub mod Falling
 pub mod IsoLinks
 pub mod IsoMoving
 pub mod Activating
+pub mod Lends

@@ -1,10 +1,11 @@
 //! A link to a Type 4 tag.
 
-ghost use Rattle.std.specs.Prelude.{◌≡◌, length, None};
+ghost use Rattle.std.specs.Prelude.{◌≡◌, length, None, IfOk};
 ghost use Rattle.isodep_link.specs.Reader.{waiting};
-ghost use Rattle.isodep_link.specs.Activating.{IsActivated};
+ghost use Rattle.isodep_link.specs.Activating.{first_link, HasFreshTag, IsActivated, IsActivatedLink};
 ghost use Rattle.isodep_link.specs.IsoLinks.{IsIsoReady};
 
+use crate::activate::activate_card;
 use crate::exchange::ask_card;
 use crate::listener::CardListener;
 use crate::reader::ReaderEnd;
@@ -26,6 +27,22 @@ pub struct IsoLink<'a, L> {
 }
 
 impl<'a, L: CardListener> IsoLink<'a, L> {
+    ghost use Rattle.std.specs.Borrow.{sem};
+    ghost use Rattle.isodep_link.specs.Lends.{rests_if_refused};
+
+    /// Sends RATS to the tag at a place, again after each bad reception, and gives the link to it.
+    pub fn activate(field: &'a mut Field<L>, place: usize) -> Result<IsoLink<'a, L>, AskFault>
+        ensures* rests { sem 𝓛 (rests_if_refused L.row L.Listener L.card L.tag field.entry place result) }
+        ensures same { IfOk result (λ l. l.field.ghost_name ≡ field.entry.ghost_name) }
+        ensures fresh { IfOk result (λ l. (l.place ≡ place) × (l.start ≡ length l.field.now.trace) × (l.told ≡ length l.field.now.trace) × (l.last ≡ None) × (l.over ≡ None)) }
+        ensures ok { IfOk result (λ l. HasFreshTag L.Listener L.card L.tag field.old place → IsActivatedLink L.Listener L.card L.tag field.old (record { air = l.field.now; place = l.place; start = l.start; told = l.told; reader = l.reader; last = l.last; over = l.over })) }
+    {
+        match activate_card(field, place) {
+            Ok(code) => Ok(IsoLink::first(field, place, code)),
+            Err(fault) => Err(fault),
+        }
+    }
+
     /// A link to the tag at a place, which was activated and told this size code.
     pub fn on(field: &'a mut Field<L>, place: usize, code: u8) -> IsoLink<'a, L>
         requires tag { IsActivated L.Listener L.card L.tag field.old place (waiting code) }
@@ -33,7 +50,17 @@ impl<'a, L: CardListener> IsoLink<'a, L> {
         ensures field { result.field.now ≡ field.old }
         ensures fresh { (result.place ≡ place) × (result.start ≡ length field.old.trace) × (result.told ≡ length field.old.trace) × (result.last ≡ None) × (result.over ≡ None) }
         ensures reader { result.reader ≡ waiting code }
-        ensures ready { IsIsoReady L.Listener L.card L.tag (record { air = field.old; place = place; start = length field.old.trace; told = length field.old.trace; reader = waiting code; last = None; over = None }) }
+        ensures ready { IsIsoReady L.Listener L.card L.tag (first_link field.old place code) }
+    {
+        IsoLink::first(field, place, code)
+    }
+
+    /// The link before anything is asked.
+    fn first(field: &'a mut Field<L>, place: usize, code: u8) -> IsoLink<'a, L>
+        ensures same { result.field.ghost_name ≡ field.entry.ghost_name }
+        ensures field { result.field.now ≡ field.old }
+        ensures fresh { (result.place ≡ place) × (result.start ≡ length result.field.now.trace) × (result.told ≡ length result.field.now.trace) × (result.last ≡ None) × (result.over ≡ None) }
+        ensures first { record { air = result.field.now; place = result.place; start = result.start; told = result.told; reader = result.reader; last = result.last; over = result.over } ≡ first_link field.old place code }
     {
         let start = field.trace().len();
         IsoLink {

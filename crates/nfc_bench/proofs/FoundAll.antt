@@ -206,6 +206,7 @@ module _ (old mid : Air Device) (found : Result (List Picked) PollFault) (tame :
           first = first;
           rest = [];
           parts = sym (append-nil first);
+          cut = refl;
           found = Err e;
           searched = ap (follows finding) turns.going.known ∙ told_bad;
           ends = ends_by e answer bad_ends tells;
@@ -339,6 +340,7 @@ module _ (old mid : Air Device) (found : Result (List Picked) PollFault) (tame :
               first = first;
               rest = rest;
               parts = whole_is;
+              cut = more.going.fresh;
               found = Ok cards;
               searched = ap (follows finding) turns.going.known ∙ told_well;
               ends = (well_ends.0, well_ends.1, r, ap (follows inventory) more.going.known ∙ told_others, ends_with r answer refl comes t);

@@ -71,7 +71,7 @@ selecting_stays (A id) hs ns =
 selecting_stays (V id) hs ns = pick_v_more id hs ns
 
 -- a device that was selected stays so, whatever is known since
-selecting_more : (id : DeviceId) (hs ns : List Note) (r : Result (Unit {0}) PollFault) → selecting id hs ≡ Told r [] → selecting id (hs ++ ns) ≡ Told r ns
+pub selecting_more : (id : DeviceId) (hs ns : List Note) (r : Result (Unit {0}) PollFault) → selecting id hs ≡ Told r [] → selecting id (hs ++ ns) ≡ Told r ns
 selecting_more id hs ns r told = let P : Followed (Unit {0}) → Type 0 = λ p. StaysTold p (selecting id (hs ++ ns)) ns in subst P told (selecting_stays id hs ns)
 
 -- behind it the commands are asked
@@ -183,6 +183,7 @@ missed_obeyed old new id e answer idle s is =
       first = g.events;
       rest = [];
       parts = sym (append-nil g.events);
+      cut = refl;
       polled = Err e;
       selected = ap (selecting id) g.known ∙ s.told;
       cause = s.cause;
@@ -276,6 +277,7 @@ module _ (old mid new : Air Device) (id : DeviceId) (place : ℕ) (answer : Answ
     first = s.selects.asked.going.events;
     rest = r.asked.going.events;
     parts = refl;
+    cut = r.asked.going.fresh;
     polled = Ok tt;
     selected = ap (selecting id) s.selects.asked.going.known ∙ s.selects.told;
     cause = tt;

@@ -39,3 +39,12 @@ pub mod Progress
 pub mod Outcomes
 pub mod Endings
 pub mod Complete
+pub mod QuietEvents
+pub mod QuietAsked
+pub mod QuietCuts
+pub mod QuietForms
+pub mod QuietAnswers
+pub mod QuietJournal
+pub mod Replaying
+pub mod TagFourSteps
+pub mod TagFour

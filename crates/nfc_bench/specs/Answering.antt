@@ -1,7 +1,8 @@
 -- What a command answers that polls, and the cause of each answer.
 use Rattle.std.specs.Prelude.{◌≡◌, ◌↔◌, ◌⊎◌, ◌<◌, ◌≤◌, List, [], ◌∷◌, ◌++◌, Option, Some, None, Result, Ok, Err}
 use Rattle.nfc_base.specs.Signal.{Signal}
-use Rattle.nfc_base.specs.Trace.{noise, breaks}
+use Rattle.nfc_base.specs.Trace.{noise, breaks, back_of}
+use Rattle.nfc_base.specs.Trace as backs
 use Rattle.nfc_base.specs.declared.event.Event.{Event}
 use Rattle.nfc_base.specs.declared.tag_link.AskFault.TheVariants as asking
 use Rattle.air_core.specs.Conversation.{Note, receptions}
@@ -96,12 +97,13 @@ abbrev pub ReadEnds : DeviceId → List Device → List Signal → Result SeenKi
 ReadEnds id ds asked (Ok kind) es answer = TellsBy kind (λ a. OfPlaced (λ d. TellsOf d a) (device_with (bytes_of id) ds)) asked (receptions es) answer
 ReadEnds id ds asked (Err e) es answer = (es ≡ []) × (poll_answer e ≡ Some answer)
 
--- The law of a read, over the devices that are placed: first it selects, then it asks what it asks of the tag. The field is
--- lost exactly where a Break was used.
+-- The law of a read, over the devices that are placed: first it selects, then it asks what it asks of the tag. No request is
+-- cut from what came back of it. The field is lost exactly where a Break was used.
 pub record ReadTells (id : DeviceId) (ds : List Device) (asked : List Signal) (events : List Event) (answer : Answer) : Type 0 where
   pub first : List Event
   pub rest : List Event
   pub parts : events ≡ first ++ rest
+  pub cut : back_of rest ≡ backs.Nothing
   pub polled : Result SeenKind PollFault
   pub selected : selecting id (receptions first) ≡ Told polled []
   pub cause : HasPollCause id ds polled first
@@ -136,11 +138,13 @@ FindEnds ds (Err faults.Memory) es rest answer = ⊥
 FindEnds ds (Err faults.NotFound) es rest answer = ⊥
 FindEnds ds (Err faults.BadAnswer) es rest answer = ⊥
 
--- The law of a search for all devices. The field is lost exactly where a Break was used.
+-- The law of a search for all devices: first it finds those of NFC-A, then the inventory follows. No request is cut from what
+-- came back of it. The field is lost exactly where a Break was used.
 pub record FindTells (ds : List Device) (events : List Event) (answer : Answer) : Type 0 where
   pub first : List Event
   pub rest : List Event
   pub parts : events ≡ first ++ rest
+  pub cut : back_of rest ≡ backs.Nothing
   pub found : Result (List Picked) PollFault
   pub searched : follows finding (receptions first) ≡ Told found []
   pub ends : FindEnds ds found first rest answer

@@ -11,6 +11,7 @@ pub mod Answering
 pub mod Legal
 pub mod Obeying
 pub mod Journal
+pub mod Quiet
 pub mod Script
 pub mod Words
 pub mod Lines

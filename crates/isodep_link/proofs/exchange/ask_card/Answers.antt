@@ -1,4 +1,4 @@
-use Rattle.std.proofs.Common.{◌≡◌, ℕ, List, [], Bool, false, Result, Ok, Err, IfOk, sym, ◌∙◌, ap, subst}
+use Rattle.std.proofs.Common.{◌≡◌, ℕ, List, [], Bool, false, Result, Ok, Err, IfOk, sym, ◌∙◌, ap, subst, rules}
 use Rattle.nfc_base.specs.declared.far.Mute.{Mute}
 use Rattle.nfc_base.specs.Signal.{Signal, whole_a}
 use Rattle.air_core.specs.declared.fault.AirFault.{AirFault}
@@ -39,6 +39,7 @@ ok_value (Err x) f g e h = absurd cc
 
 pub loop-heard-init : goal.loop-heard-init
 loop-heard-init g c = record {
+  bytes = search rules;
   goes = λ commands arrived t.
       first_here g.L.Listener (laws g) g.L.CardListener.card g.L.CardListener.tag c.args.field.now c.args.place c.args.reader.now c.args.command.now.bytes commands arrived t
       c.requires.fits c.begin-frame.new.self c.begin-frame.result
@@ -48,43 +49,44 @@ loop-heard-init g c = record {
 
 pub loop-heard-preserved : goal.loop-heard-preserved
 loop-heard-preserved g c = record {
+  bytes = search rules;
   goes = λ commands arrived t.
       next_here g.L.Listener (laws g) g.L.CardListener.card g.L.CardListener.tag c.args.field.now c.args.place c.args.reader.now c.args.command.now.bytes commands arrived t
-      c.loop-heard.field c.loop-heard.reader c.loop-heard.frame (c.loop-heard.invariant.goes commands arrived t) {F = Mute} restarts steps c.loop-heard.far c.transmit.new.far c.transmit.new.self
+      c.loop-heard.field c.loop-heard.reader c.loop-heard.frame c.loop-heard.invariant.bytes (c.loop-heard.invariant.goes commands arrived t) {F = Mute} restarts steps c.loop-heard.far c.transmit.new.far c.transmit.new.self
       c.in-Ok.heard c.in-Ok.ensures.turn c.next.new.self _ c.in-Send.ensures.step;
 }
 
 pub returns-in-Finished : goal.returns-in-Finished
 returns-in-Finished g c = λ commands arrived t.
     ends_answered g.L.Listener (laws g) g.L.CardListener.card g.L.CardListener.tag c.args.field.now c.args.place c.args.reader.now c.args.command.now.bytes commands arrived t
-    c.loop-heard.field c.loop-heard.reader c.loop-heard.frame (c.loop-heard.invariant.goes commands arrived t) {F = Mute} restarts steps c.loop-heard.far c.transmit.new.far c.transmit.new.self
+    c.loop-heard.field c.loop-heard.reader c.loop-heard.frame c.loop-heard.invariant.bytes (c.loop-heard.invariant.goes commands arrived t) {F = Mute} restarts steps c.loop-heard.far c.transmit.new.far c.transmit.new.self
     c.in-Ok.heard c.in-Ok.ensures.turn c.next.new.self c.in-Finished.answer.items c.in-Finished.ensures.step c.unwrap.result
     (ok_value c.whole.result c.unwrap.result (whole_a c.deref.result.now) c.unwrap.ensures c.whole.ensures.ok ∙ ap whole_a c.deref.ensures.0)
 
 pub returns-in-SixBad : goal.returns-in-SixBad
 returns-in-SixBad g c = λ commands arrived t.
     ends_six g.L.Listener (laws g) g.L.CardListener.card g.L.CardListener.tag c.args.field.now c.args.place c.args.reader.now c.args.command.now.bytes commands arrived t
-    c.loop-heard.field c.loop-heard.reader c.loop-heard.frame (c.loop-heard.invariant.goes commands arrived t) {F = Mute} restarts steps c.loop-heard.far c.transmit.new.far c.transmit.new.self
+    c.loop-heard.field c.loop-heard.reader c.loop-heard.frame c.loop-heard.invariant.bytes (c.loop-heard.invariant.goes commands arrived t) {F = Mute} restarts steps c.loop-heard.far c.transmit.new.far c.transmit.new.self
     c.in-Ok.heard c.in-Ok.ensures.turn c.next.new.self c.in-SixBad.ensures.step
 
 pub returns-in-Protocol : goal.returns-in-Protocol
 returns-in-Protocol g c = λ commands arrived t.
     ends_never g.L.Listener (laws g) g.L.CardListener.card g.L.CardListener.tag c.args.field.now c.args.place c.args.reader.now c.args.command.now.bytes commands arrived t
-    c.loop-heard.field c.loop-heard.reader c.loop-heard.frame (c.loop-heard.invariant.goes commands arrived t) {F = Mute} restarts steps c.loop-heard.far c.transmit.new.far c.transmit.new.self
+    c.loop-heard.field c.loop-heard.reader c.loop-heard.frame c.loop-heard.invariant.bytes (c.loop-heard.invariant.goes commands arrived t) {F = Mute} restarts steps c.loop-heard.far c.transmit.new.far c.transmit.new.self
     c.in-Ok.heard c.in-Ok.ensures.turn c.next.new.self c.in-Protocol.ensures.step
 
 pub returns-in-Err-FieldLost : goal.returns-in-Err-FieldLost
 returns-in-Err-FieldLost g c = λ commands arrived t.
     let P : AirFault → Type 0 = λ e. Transmits g.L.Listener.machine restarts steps stops is_stuck c.loop-heard.field c.loop-heard.frame c.loop-heard.far (Err e) c.transmit.new.self c.transmit.new.far in
     ends_lost g.L.Listener (laws g) g.L.CardListener.card g.L.CardListener.tag c.args.field.now c.args.place c.args.reader.now c.args.command.now.bytes commands arrived t
-    c.loop-heard.field c.loop-heard.reader c.loop-heard.frame (c.loop-heard.invariant.goes commands arrived t) {F = Mute} restarts steps c.loop-heard.far c.transmit.new.far c.transmit.new.self
+    c.loop-heard.field c.loop-heard.reader c.loop-heard.frame c.loop-heard.invariant.bytes (c.loop-heard.invariant.goes commands arrived t) {F = Mute} restarts steps c.loop-heard.far c.transmit.new.far c.transmit.new.self
     stops is_stuck c.loop-heard.reader (subst P c.in-Err-FieldLost.field-0-is c.in-Err-FieldLost.ensures.turn)
 
 pub returns-in-Err-Memory : goal.returns-in-Err-Memory
 returns-in-Err-Memory g c = λ commands arrived t.
     let P : AirFault → Type 0 = λ e. Transmits g.L.Listener.machine restarts steps stops is_stuck c.loop-heard.field c.loop-heard.frame c.loop-heard.far (Err e) c.transmit.new.self c.transmit.new.far in
     ends_stopped g.L.Listener (laws g) g.L.CardListener.card g.L.CardListener.tag c.args.field.now c.args.place c.args.reader.now c.args.command.now.bytes commands arrived t
-    c.loop-heard.field c.loop-heard.reader c.loop-heard.frame (c.loop-heard.invariant.goes commands arrived t) {F = Mute} restarts steps c.loop-heard.far c.transmit.new.far c.transmit.new.self
+    c.loop-heard.field c.loop-heard.reader c.loop-heard.frame c.loop-heard.invariant.bytes (c.loop-heard.invariant.goes commands arrived t) {F = Mute} restarts steps c.loop-heard.far c.transmit.new.far c.transmit.new.self
     stops is_stuck (subst P c.in-Err-Memory.field-0-is c.in-Err-Memory.ensures.turn)
 
 pub loop-heard-smaller : goal.loop-heard-smaller

@@ -1,0 +1,93 @@
+-- What happened decides what a command that polls answers.
+use Rattle.std.proofs.Common.{◌≡◌, List, [], ◌∷◌, Option, Some, None, Result, Ok, Err, sym, ◌∙◌, subst}
+use Rattle.nfc_base.specs.Signal.{Signal}
+use Rattle.nfc_base.specs.declared.event.Event.{Event}
+use Rattle.nfc_base.specs.declared.tag_link.AskFault.TheVariants as asking
+use Rattle.air_core.specs.Conversation.{receptions}
+use Rattle.air_core.specs.Waits.{Standing, Asking, Broken, Astray, stand}
+use Rattle.nfca_poll.specs.declared.fault.Picked.{Picked}
+use Rattle.nfca_poll.specs.declared.fault.PollFault.{PollFault}
+use Rattle.nfca_poll.specs.declared.fault.PollFault.TheVariants as faults
+use Rattle.nfca_poll.specs.declared.inventory.Vcrowd.{Vcrowd}
+use Rattle.nfca_poll.specs.Rounds.{finding}
+use Rattle.nfc_bench.specs.declared.command.DeviceId.{DeviceId}
+use Rattle.nfc_bench.specs.declared.device.Device.{Device}
+use Rattle.nfc_bench.specs.declared.entry.Answer.{Answer}
+use Rattle.nfc_bench.specs.Device.{device_store, how_of, size_of}
+use Rattle.nfc_bench.specs.Polling.{bytes_of, follows, selecting}
+use Rattle.nfc_bench.specs.Placed.{device_with, OfPlaced}
+use Rattle.nfc_bench.specs.Reading.{TellsOf}
+use Rattle.nfc_bench.specs.Answering.{TellsStanding, ReadEnds, ReadTells, InventoryEnds, FindEnds, FindTells}
+use Rattle.nfc_bench.proofs.Following.{follows_on}
+use Rattle.nfc_bench.proofs.Legality.{selecting_more}
+use Rattle.nfc_bench.proofs.QuietCuts.{SameCut, one_end, one_cut}
+use Rattle.nfc_bench.proofs.QuietForms.{one_telling}
+
+-- at most one answer is so
+abbrev AtMostOne : (Answer → Type 0) → Type 0
+AtMostOne is = (a b : Answer) → is a → is b → a ≡ b
+
+-- by where the waits stand
+one_standing : (Tells : Answer → Type 0) → AtMostOne Tells → (s : Standing) → AtMostOne (TellsStanding Tells s)
+one_standing Tells one (Asking bad []) a b p q = one a b p q
+one_standing Tells one (Asking bad (c ∷ cs)) a b p q = absurd p
+one_standing Tells one (Broken asking.FieldLost cs) a b p q = p ∙ sym q
+one_standing Tells one (Broken asking.SixBad cs) a b p q = p ∙ sym q
+one_standing Tells one (Broken asking.Memory cs) a b p q = absurd p
+one_standing Tells one (Broken asking.Protocol cs) a b p q = absurd p
+one_standing Tells one Astray a b p q = absurd p
+
+one_placed : (o : Option Device) → AtMostOne (λ answer. OfPlaced (λ d. TellsOf d answer) o)
+one_placed None a b p q = absurd p
+one_placed (Some d) a b p q = one_telling (how_of d) (size_of d) (device_store d) a b p q
+
+same_some : (a b : Answer) → ◌≡◌ {A = Option Answer} (Some a) (Some b) → a ≡ b
+same_some a b e = cc
+
+-- A read has one answer.
+module _ (id : DeviceId) (ds : List Device) (asked : List Signal) where
+  one_read_end : (r : Result (Unit {0}) PollFault) (es : List Event) → AtMostOne (ReadEnds id ds asked r es)
+  one_read_end (Ok x) es a b p q =
+      one_standing (λ answer. OfPlaced (λ d. TellsOf d answer) (device_with (bytes_of id) ds)) (one_placed (device_with (bytes_of id) ds)) (stand 0 asked (receptions es)) a b p q
+  one_read_end (Err e) es a b p q = same_some a b (sym p.1 ∙ q.1)
+
+  pub one_read : (events : List Event) (a b : Answer) → ReadTells id ds asked events a → ReadTells id ds asked events b → a ≡ b
+  one_read events a b p q =
+      let same : SameCut (selecting id) (selecting_more id) p.first p.rest q.first q.rest p.polled q.polled =
+      one_cut (selecting id) (selecting_more id) events p.first p.rest q.first q.rest p.polled q.polled
+      (record { parts = p.parts; cut = p.cut; told = p.selected }) (record { parts = q.parts; cut = q.cut; told = q.selected }) in
+      let ends : ReadEnds id ds asked p.polled p.rest b =
+      subst (λ t. ReadEnds id ds asked p.polled t b) (sym same.back) (subst (λ r. ReadEnds id ds asked r q.rest b) (sym same.end) q.ends) in
+      one_read_end p.polled p.rest a b p.ends ends
+
+-- A search has one answer.
+module _ (ds : List Device) where
+  one_inventory_end : (cards : List Picked) (others : Result Vcrowd PollFault) (es : List Event) → AtMostOne (InventoryEnds ds cards others es)
+  one_inventory_end cards (Ok others) es a b p q = p.1 ∙ sym q.1
+  one_inventory_end cards (Err faults.Nobody) es a b p q = absurd p
+  one_inventory_end cards (Err faults.Disturbed) es a b p q = p.0 ∙ sym q.0
+  one_inventory_end cards (Err faults.FieldLost) es a b p q = p ∙ sym q
+  one_inventory_end cards (Err faults.Memory) es a b p q = absurd p
+  one_inventory_end cards (Err faults.NotFound) es a b p q = absurd p
+  one_inventory_end cards (Err faults.BadAnswer) es a b p q = absurd p
+
+  one_find_end : (found : Result (List Picked) PollFault) (first rest : List Event) → AtMostOne (FindEnds ds found first rest)
+  one_find_end (Ok cards) first rest a b p q =
+      let same : q.2 ≡ p.2 = (one_end q.2 p.2 [] (sym q.3 ∙ p.3)).0 in
+      one_inventory_end cards p.2 rest a b p.4 (subst (λ o. InventoryEnds ds cards o rest b) same q.4)
+  one_find_end (Err faults.Nobody) first rest a b p q = absurd p
+  one_find_end (Err faults.Disturbed) first rest a b p q = p.1 ∙ sym q.1
+  one_find_end (Err faults.FieldLost) first rest a b p q = p.1 ∙ sym q.1
+  one_find_end (Err faults.Memory) first rest a b p q = absurd p
+  one_find_end (Err faults.NotFound) first rest a b p q = absurd p
+  one_find_end (Err faults.BadAnswer) first rest a b p q = absurd p
+
+  pub one_find : (events : List Event) (a b : Answer) → FindTells ds events a → FindTells ds events b → a ≡ b
+  one_find events a b p q =
+      let same : SameCut (follows finding) (follows_on finding) p.first p.rest q.first q.rest p.found q.found =
+      one_cut (follows finding) (follows_on finding) events p.first p.rest q.first q.rest p.found q.found
+      (record { parts = p.parts; cut = p.cut; told = p.searched }) (record { parts = q.parts; cut = q.cut; told = q.searched }) in
+      let E : Result (List Picked) PollFault → List Event → List Event → Type 0 = λ found first rest. FindEnds ds found first rest b in
+      let ends : E p.found p.first p.rest =
+      subst (λ found. E found p.first p.rest) (sym same.end) (subst (λ t. E q.found t p.rest) (sym same.front) (subst (E q.found q.first) (sym same.back) q.ends)) in
+      one_find_end p.found p.first p.rest a b p.ends ends
