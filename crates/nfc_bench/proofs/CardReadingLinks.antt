@@ -1,7 +1,6 @@
 -- What a read of a Type 4 tag answers over its link, by what the link did.
-use Rattle.std.proofs.Common.{◌≡◌, inl, inr, ◌⊎◌, ℕ, suc, ◌+◌, ◌<◌, ◌≤◌, List, [], ◌∷◌, ◌++◌, length, take, drop, Bool, true, false, Option, Some, None, refl, sym, ◌∙◌, ap, subst, arith, IfOk, append-nil}
-use Rattle.std.specs.declared.alloc.AllocError.{AllocError}
-use Rattle.std.specs.Prelude.{map, Result, Ok, Err}
+use Rattle.std.proofs.Common.{◌≡◌, inl, inr, ◌⊎◌, ℕ, suc, ◌+◌, ◌<◌, List, [], ◌∷◌, ◌++◌, length, take, drop, Bool, true, false, Some, None, refl, sym, ◌∙◌, ap, subst, arith, append-nil}
+use Rattle.std.specs.Prelude.{map}
 use Rattle.std.proofs.lemmas.List.{map-append, take_all}
 use Rattle.std.proofs.lemmas.Bool.{cases_lt}
 use Rattle.std.proofs.Math.Seq.{drop-append_seam}
@@ -13,8 +12,8 @@ use Rattle.nfc_base.specs.Trace.{breaks}
 use Rattle.nfc_base.specs.LinkTurns.{arrived}
 use Rattle.nfc_base.specs.TagLinks.{Type4, TagState, TagStep, LinkView, plain_state, after_all}
 use Rattle.air_core.specs.World.{World}
-use Rattle.air_core.specs.Turn.{Air, world, moment}
-use Rattle.air_core.specs.Conversation.{Moment, Note, Lit, Got, Lost, Next, Over, Asks, EachDue, replay}
+use Rattle.air_core.specs.Turn.{world, moment}
+use Rattle.air_core.specs.Conversation.{Moment, Note, Lit, Got, Lost, Over, Asks, EachDue, replay}
 use Rattle.air_core.specs.Turning.{due_weaker}
 use Rattle.air_core.specs.PlainLinks.{at_place, unanswered}
 use Rattle.air_core.proofs.PlainStores.{place_is}
@@ -30,12 +29,11 @@ use Rattle.tag_reader.specs.declared.fault.ReadFault.TheVariants as faults
 use Rattle.tag_reader.specs.declared.found.Found.{Found}
 use Rattle.tag_reader.specs.declared.found.Site.{Site}
 use Rattle.tag_reader.specs.declared.found.Site.TheVariants.{Area, File}
-use Rattle.tag_reader.specs.declared.how.How.{How}
 use Rattle.tag_reader.specs.declared.how.How.TheVariants as hows
 use Rattle.tag_reader.specs.Files.{shown}
 use Rattle.tag_reader.specs.Kinds.{IsTag, command, first}
 use Rattle.tag_reader.specs.Asked.{IsAsked, IsDue, AreDue}
-use Rattle.tag_reader.specs.Calls.{HasAsked, HasAskedAll, GoesOn, Stays, last_of}
+use Rattle.tag_reader.specs.Calls.{HasAsked, HasAskedAll, GoesOn, last_of}
 use Rattle.tag_reader.specs.Reading.{IsFound, IsSite, IsReadFault, is_told}
 use Rattle.tag_reader.proofs.Cards.{t4_tag}
 use Rattle.tag_reader.proofs.FileAsked.{file_asked}
@@ -49,9 +47,9 @@ use Rattle.nfc_bench.specs.declared.entry.Answer.TheVariants as answers
 use Rattle.nfc_bench.specs.Device.{devices, device_id, device_store, device_commands, device_card, device_tag, how_of, size_of}
 use Rattle.nfc_bench.specs.Answering.{TellsExchange}
 use Rattle.nfc_bench.specs.Legal.{air}
-use Rattle.nfc_bench.specs.Reading.{AsksOf, IsAccess, Tells, TellsOf}
+use Rattle.nfc_bench.specs.Reading.{IsAccess, Tells, TellsOf}
 use Rattle.nfc_bench.specs.Linking.{Linked, ReadsOn}
-use Rattle.nfc_bench.specs.Phases.{Kept, ghosts, kept, IsSound, MayEnd, told_by}
+use Rattle.nfc_bench.specs.Phases.{ghosts, kept, IsSound, MayEnd, told_by}
 use Rattle.nfc_bench.proofs.BrokenWaits.{stays_lit}
 use Rattle.nfc_bench.proofs.CardKept.{exchange_keeps}
 use Rattle.nfc_bench.proofs.CardReadingNotes.{exchange_lost, broken_more, due_front}
@@ -189,7 +187,7 @@ module _ (p : IsoSeen Device) (is : IsNewLink p) (d : Device) (l : Linked d p.ai
   pub new_tag : IsTag hows.T4 (size_of d) from
   new_tag =
       let tag = shows_four from x l.activated.origin (ap (λ k. k.how) l.same ∙ l.card) (subst IsSound (sym l.same) l.sound) refl
-          (from_state ∙ ap plain_state (seen device_store [])) (seen device_commands _) l.activated.holds in
+      (from_state ∙ ap plain_state (seen device_store [])) (seen device_commands _) l.activated.holds in
       resized tag.0 (size_of d) from tag.1
 
   module _ (q : IsoSeen Device) (m : IsoMoves ghosts device_card device_tag p q) where
@@ -231,7 +229,8 @@ module _ (p : IsoSeen Device) (is : IsNewLink p) (d : Device) (l : Linked d p.ai
     asked_more : (h : HasAskedOf) (e : AskFault) → q.over ≡ Some e → AskedSome (size_of d) (device_store d) m.asked
     asked_more h e over = by_last h.last
       where
-        by_last : ((q.last ≡ last_of hows.T4 from.state.store from h.count) × (q.over ≡ p.over)) ⊎ ((q.last ≡ Some (command hows.T4 from.state.store h.count)) × IsDue hows.T4 (size_of d) from.state.store h.count)
+        by_last : ((q.last ≡ last_of hows.T4 from.state.store from h.count) × (q.over ≡ p.over))
+            ⊎ ((q.last ≡ Some (command hows.T4 from.state.store h.count)) × IsDue hows.T4 (size_of d) from.state.store h.count)
             → AskedSome (size_of d) (device_store d) m.asked
         by_last (inl (last, open')) = absurd (let clash : None ≡ Some e = sym is.over ∙ sym open' ∙ over in cc)
         by_last (inr (last, due)) =
@@ -257,7 +256,8 @@ module _ (p : IsoSeen Device) (is : IsNewLink p) (d : Device) (l : Linked d p.ai
     same_devices stays =
         let alone = l.activated.has.alone in
         let shown_store : to.state.store ≡ store_of ghosts device_card device_tag q =
-        opened_store (step_of ghosts device_card device_tag q) (store_of ghosts device_card device_tag q) (plain_state (store_of ghosts device_card device_tag q)) (obeyed_in (since ghosts device_card device_tag q)) refl in
+        opened_store (step_of ghosts device_card device_tag q) (store_of ghosts device_card device_tag q)
+        (plain_state (store_of ghosts device_card device_tag q)) (obeyed_in (since ghosts device_card device_tag q)) refl in
         let holds : at_place device_store [] q.air.listeners p.place ≡ device_store x =
         ap (at_place device_store [] q.air.listeners) (sym m.same.0) ∙ sym shown_store ∙ stays ∙ from_store in
         exchange_keeps (iso_next p.reader (bytes_of m.asked)) (moment p.air) (moment q.air) m.notes p.place alone.before x alone.behind m.going

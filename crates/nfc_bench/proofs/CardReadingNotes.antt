@@ -1,10 +1,9 @@
 -- What a reader hears while it reads a Type 4 tag: something is due before each note, so that nothing is known behind the loss of the
 -- field or the sixth bad reception of a wait.
-use Rattle.std.proofs.Common.{◌≡◌, ℕ, zero, suc, ◌<◌, List, [], ◌∷◌, ◌++◌, Bool, true, false, nat_lt, if◌then◌else◌, Option, Some, None, refl, sym, ◌∙◌, ap, subst, append_assoc, append-nil}
+use Rattle.std.proofs.Common.{◌≡◌, ℕ, zero, suc, ◌<◌, List, [], ◌∷◌, ◌++◌, Bool, true, false, nat_lt, if◌then◌else◌, Some, refl, sym, ◌∙◌, ap, subst, append_assoc, append-nil}
 use Rattle.nfc_base.specs.declared.event.Event.{Event}
-use Rattle.nfc_base.specs.declared.event.Event.TheVariants.{Reset, Request, Answer, Clash}
+use Rattle.nfc_base.specs.declared.event.Event.TheVariants.{Reset}
 use Rattle.nfc_base.specs.declared.event.Fate.{Fate}
-use Rattle.nfc_base.specs.declared.event.Heard.{Heard}
 use Rattle.nfc_base.specs.declared.event.Heard.TheVariants.{Whole, Collided, Damaged, Silent}
 use Rattle.nfc_base.specs.declared.tag_link.AskFault.{AskFault}
 use Rattle.nfc_base.specs.declared.tag_link.AskFault.TheVariants.{FieldLost, SixBad}
@@ -13,14 +12,15 @@ use Rattle.nfc_base.specs.Trace.{back_of, breaks}
 use Rattle.nfc_base.specs.Trace as backs
 use Rattle.air_core.specs.World.{Machine, World, quiet_air}
 use Rattle.air_core.specs.Conversation.{AirModel, Note, Lit, Got, Lost, note, Next, Over, LightUp, Asks, IsDemand, EachDue, replay, turn_events, turn_heard, Move, Light, Ask, trace_of, Moment, Going, receptions}
-use Rattle.air_core.specs.Turning.{receptions-append, due_weaker}
+use Rattle.air_core.specs.Turning.{receptions-append}
 use Rattle.air_core.specs.Waits as waits
-use Rattle.air_core.specs.Waits.{waits_from, waits_next}
+use Rattle.air_core.specs.Waits.{waits_from}
 use Rattle.isodep_link.specs.Asking.{Standing, Waits, Rests, Broken, Astray, asks, noted, stand, due_at, iso_next}
 use Rattle.isodep_link.specs.IsoMoving.{more, asks_more, noted_more, astray_stays, front_due}
+use Rattle.isodep_link.specs.IsoLinks.{bytes_of}
 use Rattle.isodep_link.specs.Reader.{ReaderState, waiting}
 use Rattle.isodep_link.specs.Activating.{rats, ats_code, TellsCode}
-use Rattle.nfc_bench.specs.CardAsking.{CardStanding, Activates, Exchanges, told_code, bad_again, heard_ats, card_noted, card_stand, card_due}
+use Rattle.nfc_bench.specs.CardAsking.{CardStanding, Activates, Exchanges, told_code, card_noted, card_stand, card_due, card_stands, card_next}
 use Rattle.nfc_bench.proofs.Following.{turn_known, trace_first, turn_split, turn_first}
 use Rattle.nfc_bench.proofs.SelectingAir.{HasLost, going_lost}
 
@@ -119,7 +119,7 @@ module _ (commands : List (List ℕ)) where
   lost_at (Exchanges (Broken e)) (Lost ∷ ns) q lost = absurd q.0
   lost_at (Exchanges Astray) (Lost ∷ ns) q lost = absurd q.0
 
-  -- What RATS is due for in a wait, the reading asks.
+  -- where RATS is due in its wait it is due in the reading
   none_due : {A : Type 0} (n : Next) → Over ≡ n → IsDemand n → A
   none_due n e d = absurd (subst IsDemand (sym e) d)
 
@@ -155,7 +155,8 @@ module _ (commands : List (List ℕ)) where
   again_told bad ns ms s true on e = on e
   again_told bad ns ms s false on e = absurd cc
 
-  told_behind : (bad : ℕ) (before : List Note) (f : Signal) (code : ℕ) (ms : List Note) → ats_code f ≡ Some code → waits.stand bad (rats ∷ []) (before ++ Got (Whole f) ∷ []) ≡ waits.Asking 0 []
+  told_behind : (bad : ℕ) (before : List Note) (f : Signal) (code : ℕ) (ms : List Note) → ats_code f ≡ Some code
+      → waits.stand bad (rats ∷ []) (before ++ Got (Whole f) ∷ []) ≡ waits.Asking 0 []
       → card_stand commands (Activates bad) (before ++ Got (Whole f) ∷ ms) ≡ Exchanges (stand (asks (waiting code) commands) ms)
   told_behind bad [] f code ms tells e = ap (λ o. card_stand commands (told_code commands o) ms) tells ∙ exchanges_stand (asks (waiting code) commands) ms
   told_behind bad (Lit ∷ before) f code ms tells e = absurd cc
@@ -178,7 +179,7 @@ module _ (commands : List (List ℕ)) where
       ∙ ap (card_stand commands (Activates zero)) (append_assoc before (Got (Whole f) ∷ []) ms)
       ∙ told_behind 0 before f code ms tells (ap (waits.stand 0 (rats ∷ [])) (sym last) ∙ done)
 
-  -- six bad receptions of RATS end the reading
+  -- Six bad receptions of RATS end the reading.
   never_six : (ns : List Note) (left : List Signal) → waits.stand 0 [] ns ≡ waits.Broken SixBad left → ⊥
   never_six [] left e = cc
   never_six (n ∷ ns) left e = cc
@@ -201,7 +202,7 @@ module _ (commands : List (List ℕ)) where
   rats_six bad (Got Damaged ∷ ns) left q e = again_six bad ns left (nat_lt bad 5) (λ p h. rats_six (suc bad) ns left p h) q.1 e
   rats_six bad (Got Silent ∷ ns) left q e = again_six bad ns left (nat_lt bad 5) (λ p h. rats_six (suc bad) ns left p h) q.1 e
 
--- a wait that a lost field ended
+-- where a wait ended so, the field was lost
 lost_again : (bad : ℕ) (c : Signal) (cs : List Signal) (ns : List Note) (left : List Signal) (v w : Bool)
     → (waits.stand (suc bad) (c ∷ cs) ns ≡ waits.Broken FieldLost left → HasLost ns) → (waits.stand 0 cs ns ≡ waits.Broken FieldLost left → HasLost ns)
     → (if v then (if w then waits.stand (suc bad) (c ∷ cs) ns else waits.Broken SixBad (c ∷ cs)) else waits.stand 0 cs ns) ≡ waits.Broken FieldLost left → HasLost ns
@@ -248,3 +249,15 @@ exchange_lost m i cs a b ns g some =
     lost_at cs start ns (driven_at cs (iso_next i cs) start due ns (driven (quiet_air m) (iso_next i cs) a b ns g)) (going_lost m (iso_next i cs) a b ns g some) in
     let same : Exchanges (stand (asks i cs) ns) ≡ Exchanges (Broken FieldLost) = sym (exchanges_stand cs (asks i cs) ns) ∙ lost in
     cc
+
+-- the loss of the field ends a reading, from RATS on
+pub reading_lost : {L : Type 0} (m : Machine L) (commands : List Signal) (a b : Moment (World L)) (ns : List Note) → Going (quiet_air m) (card_next commands) a b ns → HasLost ns
+    → card_stands commands ns ≡ Exchanges (Broken FieldLost)
+reading_lost m commands a b ns g lost =
+    lost_at (bytes_of commands) (Activates zero) ns (driven_at (bytes_of commands) (card_next commands) (Activates zero) (λ ks. refl) ns (driven (quiet_air m) (card_next commands) a b ns g)) lost
+
+-- so do six bad receptions of RATS
+pub reading_six : {L : Type 0} (m : Machine L) (commands : List Signal) (a b : Moment (World L)) (ns : List Note) (left : List Signal) → Going (quiet_air m) (card_next commands) a b ns
+    → waits.stand 0 (rats ∷ []) ns ≡ waits.Broken SixBad left → card_stands commands ns ≡ Exchanges (Broken SixBad)
+reading_six m commands a b ns left g six =
+    rats_six (bytes_of commands) 0 ns left (driven_at (bytes_of commands) (card_next commands) (Activates zero) (λ ks. refl) ns (driven (quiet_air m) (card_next commands) a b ns g)) six

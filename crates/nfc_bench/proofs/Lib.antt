@@ -24,6 +24,7 @@ pub mod ReadingAir
 pub mod ReadingEnds
 pub mod CardReadingNotes
 pub mod CardReadingLinks
+pub mod CardReading
 pub mod SelectingPlaces
 pub mod SelectingA
 pub mod SelectingV

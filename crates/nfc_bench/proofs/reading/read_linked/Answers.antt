@@ -3,7 +3,6 @@ use Rattle.std.specs.Prelude.{◌≡◌, Some, Result, Ok, Err, IfOk}
 use Rattle.isodep_link.specs.declared.link.IsoLink.{IsoLink}
 use Rattle.isodep_link.specs.IsoLinks.{IsoSeen}
 use Rattle.air_core.specs.Turn.{moment}
-use Rattle.tag_reader.specs.declared.fault.ReadFault.{ReadFault}
 use Rattle.nfc_bench.specs.declared.device.Device.{Device}
 use Rattle.nfc_bench.specs.declared.entry.Answer.{Answer}
 use Rattle.nfc_bench.specs.Device.{size_of}
@@ -35,14 +34,15 @@ told-requires c =
 pub returns-in-Ok-clause-tells : goal.returns-in-Ok-clause-tells
 returns-in-Ok-clause-tells c d linked =
     let new : IsNewLink (seen c.args.link.now) = record { start = c.requires.fresh.0; told = c.requires.fresh.1; last = c.requires.fresh.2; over = c.requires.fresh.3 } in
-    ends_found (seen c.args.link.now) new d linked (seen c.read.new.link) c.in-Ok.ensures.moves c.in-Ok.field-0 c.in-Ok.ensures.stays.store c.in-Ok.ensures.whole c.in-Ok.ensures.goes_on c.in-Ok.ensures.ok
+    ends_found (seen c.args.link.now) new d linked (seen c.read.new.link) c.in-Ok.ensures.moves c.in-Ok.field-0 c.in-Ok.ensures.stays.store
+    c.in-Ok.ensures.whole c.in-Ok.ensures.goes_on c.in-Ok.ensures.ok
 
 pub returns-in-Err-clause-tells : goal.returns-in-Err-clause-tells
 returns-in-Err-clause-tells c = by_answer c.told.result c.told.ensures
   where
     by_answer : (r : Result Answer AllocError) → IfOk r (λ answer. told_by c.in-Err.fault ≡ Some answer)
         → IfOk r (λ answer. (d : Device) → Linked d c.args.link.now.field.now c.args.link.now.place c.args.link.now.reader
-            → ReadsOn (moment c.args.link.now.field.now) (moment c.read.new.link.field.now) d c.args.link.now.reader answer)
+        → ReadsOn (moment c.args.link.now.field.now) (moment c.read.new.link.field.now) d c.args.link.now.reader answer)
     by_answer (Err e) told = tt
     by_answer (Ok answer) told = λ d linked.
         (let new : IsNewLink (seen c.args.link.now) = record { start = c.requires.fresh.0; told = c.requires.fresh.1; last = c.requires.fresh.2; over = c.requires.fresh.3 } in

@@ -1,0 +1,255 @@
+-- What a read of a Type 4 tag does: RATS activates it, and then its commands are asked over a link.
+use Rattle.std.proofs.Common.{◌≡◌, ◌↔◌, inl, inr, ℕ, zero, suc, ◌+◌, ◌<◌, List, [], ◌∷◌, ◌++◌, true, false, Some, None, refl, sym, ◌∙◌, ap, subst, arith, IfOk}
+use Rattle.std.specs.declared.alloc.AllocError.{AllocError}
+use Rattle.std.specs.Prelude.{map, Result, Ok, Err}
+use Rattle.std.proofs.lemmas.Bool.{cases_lt}
+use Rattle.nfc_base.specs.declared.tag_link.AskFault.{AskFault}
+use Rattle.nfc_base.specs.declared.tag_link.AskFault.TheVariants as asking
+use Rattle.nfc_base.specs.Signal.{Signal}
+use Rattle.nfc_base.specs.Trace.{breaks}
+use Rattle.air_core.specs.World.{World}
+use Rattle.air_core.specs.Turn.{Air, world, moment}
+use Rattle.air_core.specs.Conversation.{Moment, Going, replay, with_events}
+use Rattle.air_core.specs.Turning.{due_weaker, going_then, events-append}
+use Rattle.air_core.specs.Waits as waits
+use Rattle.air_core.specs.Waits.{waits_next}
+use Rattle.air_core.specs.PlainLinks.{at_place}
+use Rattle.air_core.proofs.PlainStores.{place_is}
+use Rattle.isodep_link.specs.Activating.{rats, TellsCode, HasFreshTag, IsActivated, RatsSent, RatsEnds}
+use Rattle.isodep_link.specs.Asking as exchange
+use Rattle.isodep_link.specs.Asking.{asks, stand, iso_next}
+use Rattle.isodep_link.specs.IsoLinks.{bytes_of}
+use Rattle.isodep_link.specs.Reader.{ReaderState, waiting}
+use Rattle.tag_reader.specs.declared.how.How.TheVariants as hows
+use Rattle.tag_reader.specs.Asked.{IsAsked}
+use Rattle.tag_reader.proofs.FileAsked.{file_asked}
+use Rattle.nfc_bench.specs.declared.device.Device.{Device}
+use Rattle.nfc_bench.specs.declared.device.Device.TheVariants.{T2, T4, T5}
+use Rattle.nfc_bench.specs.declared.entry.Answer.{Answer}
+use Rattle.nfc_bench.specs.declared.entry.Answer.TheVariants as answers
+use Rattle.nfc_bench.specs.Device.{devices, device_id, device_store, device_card, device_tag, how_of, size_of}
+use Rattle.nfc_bench.specs.Answering.{TellsExchange, TellsCard}
+use Rattle.nfc_bench.specs.CardAsking.{Exchanges, card_due, card_stands, card_next}
+use Rattle.nfc_bench.specs.Legal.{air}
+use Rattle.nfc_bench.specs.Linking.{Linked, ReadsOn, unanswered_by, MayFail}
+use Rattle.nfc_bench.specs.Phases.{Kept, ghosts, kept, Asked, Stands, Reads}
+use Rattle.nfc_bench.specs.Reading.{AsksOf, TellsOf}
+use Rattle.nfc_bench.proofs.BrokenWaits.{stays_lit}
+use Rattle.nfc_bench.proofs.CardKept.{rats_harmless}
+use Rattle.nfc_bench.proofs.CardReadingNotes.{rats_due, rats_told, lost_wait, reading_lost, reading_six}
+use Rattle.nfc_bench.proofs.ReadingTags.{stands_alone, seen, stands_one}
+use Rattle.nfc_bench.proofs.SelectingAir.{going_lost, breaks-append, events_are}
+use Rattle.nfc_bench.proofs.SelectingKept.{going_keeps}
+use Rattle.nfc_bench.proofs.TagFour.{takes_rats}
+
+-- a selected Type 4 tag of which nothing was asked takes RATS
+pub has_fresh : (a : Air Device) (place : ℕ) (d : Device) → Stands (moment a) place d → how_of d ≡ hows.T4 → HasFreshTag ghosts device_card device_tag a place
+has_fresh a place (T2 d) s four = absurd cc
+has_fresh a place (T4 d) s four = record { listener = T4 d; alone = stands_alone a place (T4 d) s; takes = takes_rats d s.sound s.selected s.unasked }
+has_fresh a place (T5 p) s four = absurd cc
+
+-- what a read of a Type 4 tag did
+pub record ReadsCard (old new : Moment (World Device)) (d : Device) (answer : Answer) : Type 0 where
+  pub commands : List Signal
+  pub asks : AsksOf d commands
+  pub asked : Asked (card_next commands) old new
+  pub ends : TellsCard (TellsOf d) (card_stands commands asked.notes) answer
+  pub lost : (answer ≡ answers.FieldLost) ↔ (0 < breaks asked.going.events)
+
+as_reads : (old new : Moment (World Device)) (d : Device) (answer : Answer) → how_of d ≡ hows.T4 → ReadsCard old new d answer → Reads old new d answer
+as_reads old new (T2 d) answer four r = absurd cc
+as_reads old new (T4 d) answer four r = record { commands = r.commands; asks = r.asks; asked = r.asked; ends = r.ends; lost = r.lost }
+as_reads old new (T5 p) answer four r = absurd cc
+
+-- what stays of the device at a place is what stays there
+at_kept : (ls : List Device) (place : ℕ) → at_place (λ d. Some (kept d)) None ls place ≡ at_place (λ (k : Kept). Some k) None (map kept ls) place
+at_kept [] place = refl
+at_kept (l ∷ ls) zero = refl
+at_kept (l ∷ ls) (suc n) = at_kept ls n
+
+-- fewer breaks in a part than in the whole
+more_breaks : (m n k : ℕ) → k ≡ m + n → 0 < n → 0 < k
+more_breaks m n k sum some = omega (arith, sum, some)
+
+module _ (old mid : Air Device) (place : ℕ) (d : Device) (s : Stands (moment old) place d) (four : how_of d ≡ hows.T4) where
+  lit_before : old.lit ≡ true
+  lit_before = ap (λ (w : World Device). w.lit) s.world
+
+  -- RATS was sent, up to some end of its wait.
+  module _ (st : waits.Standing) (sent : RatsSent ghosts device_card device_tag old mid st) where
+    -- no device changed but in its state
+    rats_keep : map kept mid.listeners ≡ map kept old.listeners
+    rats_keep = going_keeps (waits_next (rats ∷ [])) (moment old) (moment mid) sent.notes rats_harmless sent.going
+
+    -- the tag that was activated is the one that was selected
+    pub is_linked : (code : ℕ) → mid.lit ≡ true → IsActivated ghosts device_card device_tag mid place (waiting code) → Linked d mid place (waiting code)
+    is_linked code lit activated =
+        let x : Device = activated.has.listener in
+        let there : at_place (λ e. Some (kept e)) None mid.listeners place ≡ Some (kept x) =
+        place_is ghosts (λ e. Some (kept e)) None (device_id x) mid.listeners place x activated.has.alone in
+        let here : at_place (λ e. Some (kept e)) None old.listeners place ≡ Some (kept d) = seen old place d s (λ e. Some (kept e)) None in
+        let both : at_place (λ e. Some (kept e)) None mid.listeners place ≡ at_place (λ e. Some (kept e)) None old.listeners place =
+        at_kept mid.listeners place ∙ ap (λ ks. at_place (λ (k : Kept). Some k) None ks place) rats_keep ∙ sym (at_kept old.listeners place) in
+        let same : Some (kept x) ≡ Some (kept d) = sym there ∙ both ∙ here in
+        record { activated = activated; same = (let q : kept x ≡ kept d = cc in q); card = four; sound = s.sound; lit = lit }
+
+    -- the wait is the first part of a reading
+    abbrev as_reading : (commands : List Signal) → Going air (card_next commands) (moment old) (moment mid) sent.notes
+    as_reading commands = record {
+      events = sent.going.events;
+      moment = sent.going.moment;
+      turns = sent.going.turns;
+      each = due_weaker (card_next commands) (waits_next (rats ∷ [])) (λ ns n e due. rats_due (bytes_of commands) 0 ns n e due) [] sent.going.events sent.going.each;
+      fates = sent.going.fates;
+      fresh = sent.going.fresh;
+      known = sent.going.known;
+    }
+
+    asks_list : (commands : List Signal) → IsAsked hows.T4 (size_of d) (device_store d) commands → AsksOf d commands
+    asks_list commands asked = subst (λ h. IsAsked h (size_of d) (device_store d) commands) (sym four) asked
+
+    -- a reading that ended there
+    ended : (commands : List Signal) (answer : Answer) (e : AskFault) → AsksOf d commands → card_stands commands sent.notes ≡ Exchanges (exchange.Broken e)
+        → TellsExchange (TellsOf d) (exchange.Broken e) answer → (answer ≡ answers.FieldLost) ↔ (0 < breaks sent.going.events) → ReadsCard (moment old) (moment mid) d answer
+    ended commands answer e asked stands tells lost = record {
+      commands = commands;
+      asks = asked;
+      asked = record { notes = sent.notes; going = as_reading commands; over = ap card_due stands; same = rats_keep };
+      ends = subst (λ x. TellsCard (TellsOf d) x answer) (sym stands) tells;
+      lost = lost;
+    }
+
+    some_break : mid.lit ≡ false → 0 < breaks sent.going.events
+    some_break dim = elim (cases_lt 0 (breaks sent.going.events)) [
+      | inl some ↦ some
+      | inr none ↦ absurd (
+          let lit : (replay air (world old) sent.going.events).lit ≡ true = stays_lit devices (world old) sent.going.events lit_before (omega (arith, none)) in
+          let last : mid.lit ≡ (replay air (world old) sent.going.events).lit = ap (λ (t : Moment (World Device)). t.world.lit) sent.going.moment in
+          let clash : true ≡ false = sym lit ∙ sym last ∙ dim in
+          cc)
+    ]
+
+  -- the field was lost while RATS was sent
+  rats_lost : (left : List Signal) → RatsSent ghosts device_card device_tag old mid (waits.Broken asking.FieldLost left) → mid.lit ≡ false
+      → ReadsCard (moment old) (moment mid) d answers.FieldLost
+  rats_lost left sent dim =
+      let st : waits.Standing = waits.Broken asking.FieldLost left in
+      let whole = file_asked (size_of d) (device_store d) in
+      let stands : card_stands whole.0 sent.notes ≡ Exchanges (exchange.Broken asking.FieldLost) =
+      reading_lost devices whole.0 (moment old) (moment mid) sent.notes (as_reading st sent whole.0) (lost_wait 0 (rats ∷ []) sent.notes left sent.stands) in
+      ended st sent whole.0 answers.FieldLost asking.FieldLost (asks_list st sent whole.0 whole.1) stands refl (λ e. some_break st sent dim, λ some. refl)
+
+  -- six receptions were bad
+  rats_bad : (left : List Signal) → RatsSent ghosts device_card device_tag old mid (waits.Broken asking.SixBad left) → ReadsCard (moment old) (moment mid) d answers.SixBad
+  rats_bad left sent =
+      let st : waits.Standing = waits.Broken asking.SixBad left in
+      let whole = file_asked (size_of d) (device_store d) in
+      let stands : card_stands whole.0 sent.notes ≡ Exchanges (exchange.Broken asking.SixBad) =
+      reading_six devices whole.0 (moment old) (moment mid) sent.notes left (as_reading st sent whole.0) sent.stands in
+      let never : 0 < breaks sent.going.events → answers.SixBad ≡ answers.FieldLost = λ some.
+      absurd (let lost = reading_lost devices whole.0 (moment old) (moment mid) sent.notes (as_reading st sent whole.0)
+      (going_lost devices (waits_next (rats ∷ [])) (moment old) (moment mid) sent.notes sent.going some) in
+      let clash : Exchanges (exchange.Broken asking.SixBad) ≡ Exchanges (exchange.Broken asking.FieldLost) = sym stands ∙ lost in
+      let same : exchange.Broken asking.SixBad ≡ exchange.Broken asking.FieldLost = cc in
+      cc) in
+      ended st sent whole.0 answers.SixBad asking.SixBad (asks_list st sent whole.0 whole.1) stands refl (λ e. absurd cc, never)
+
+  -- what a reading answers whose tag wasn't activated
+  unanswered_reads : (fault : AskFault) (answer : Answer) → RatsEnds ghosts device_card device_tag old mid place (Err fault) → unanswered_by fault ≡ Some answer
+      → ReadsCard (moment old) (moment mid) d answer
+  unanswered_reads asking.FieldLost answer (inl dark) told = absurd (let clash : true ≡ false = sym lit_before ∙ dark.0 in cc)
+  unanswered_reads asking.FieldLost answer (inr ends) told =
+      (let same : answers.FieldLost ≡ answer = cc in subst (ReadsCard (moment old) (moment mid) d) same (rats_lost (rats ∷ []) ends.0 ends.1))
+  unanswered_reads asking.SixBad answer ends told =
+      (let same : answers.SixBad ≡ answer = cc in subst (ReadsCard (moment old) (moment mid) d) same (rats_bad (rats ∷ []) ends))
+  unanswered_reads asking.Memory answer ends told = absurd cc
+  unanswered_reads asking.Protocol answer ends told = absurd cc
+
+  pub reads_unanswered : (fault : AskFault) (answer : Answer) → RatsEnds ghosts device_card device_tag old mid place (Err fault) → unanswered_by fault ≡ Some answer
+      → Reads (moment old) (moment mid) d answer
+  reads_unanswered fault answer ends told = as_reads (moment old) (moment mid) d answer four (unanswered_reads fault answer ends told)
+
+  -- The tag was activated, and read over its link: both are one reading.
+  module _ (new : Air Device) (code : ℕ) (sent : RatsSent ghosts device_card device_tag old mid (waits.Asking 0 [])) (tells : TellsCode sent.notes code)
+      (answer : Answer) (r : ReadsOn (moment mid) (moment new) d (waiting code) answer) where
+    both : Going air (card_next r.commands) (moment old) (moment new) (sent.notes ++ r.asked.notes)
+    both =
+        going_then air (card_next r.commands) (waits_next (rats ∷ [])) (iso_next (waiting code) (bytes_of r.commands)) (moment old) (moment mid) (moment new) sent.notes r.asked.notes
+        (λ ns n e due. rats_due (bytes_of r.commands) 0 ns n e due) (λ ns. ap card_due (rats_told (bytes_of r.commands) sent.notes ns code sent.stands tells)) sent.going r.asked.going
+
+    events_both : both.events ≡ sent.going.events ++ r.asked.going.events
+    events_both =
+        sym (events_are air (moment old) (moment new) both.events both.moment)
+        ∙ events_are air (moment old) (moment new) (sent.going.events ++ r.asked.going.events)
+        (r.asked.going.moment ∙ ap (λ t. with_events air t r.asked.going.events) sent.going.moment ∙ events-append air (moment old) sent.going.events r.asked.going.events)
+
+    breaks_both : breaks both.events ≡ breaks sent.going.events + breaks r.asked.going.events
+    breaks_both = ap breaks events_both ∙ breaks-append sent.going.events r.asked.going.events
+
+    stands_both : card_stands r.commands (sent.notes ++ r.asked.notes) ≡ Exchanges (stand (asks (waiting code) (bytes_of r.commands)) r.asked.notes)
+    stands_both = rats_told (bytes_of r.commands) sent.notes r.asked.notes code sent.stands tells
+
+    broken_both : 0 < breaks both.events → answer ≡ answers.FieldLost
+    broken_both some =
+        let lost : card_stands r.commands (sent.notes ++ r.asked.notes) ≡ Exchanges (exchange.Broken asking.FieldLost) =
+        reading_lost devices r.commands (moment old) (moment new) (sent.notes ++ r.asked.notes) both
+        (going_lost devices (card_next r.commands) (moment old) (moment new) (sent.notes ++ r.asked.notes) both some) in
+        let same : Exchanges (stand (asks (waiting code) (bytes_of r.commands)) r.asked.notes) ≡ Exchanges (exchange.Broken asking.FieldLost) = sym stands_both ∙ lost in
+        let ends : stand (asks (waiting code) (bytes_of r.commands)) r.asked.notes ≡ exchange.Broken asking.FieldLost = cc in
+        subst (λ x. TellsExchange (TellsOf d) x answer) ends r.ends
+
+    linked_reads : ReadsCard (moment old) (moment new) d answer
+    linked_reads = record {
+      commands = r.commands;
+      asks = r.asks;
+      asked = record {
+        notes = sent.notes ++ r.asked.notes;
+        going = both;
+        over = ap card_due stands_both ∙ r.asked.over;
+        same = r.asked.same ∙ rats_keep (waits.Asking 0 []) sent;
+      };
+      ends = subst (λ x. TellsCard (TellsOf d) x answer) (sym stands_both) r.ends;
+      lost = (λ e. more_breaks (breaks sent.going.events) (breaks r.asked.going.events) (breaks both.events) breaks_both (r.lost.0 e), broken_both);
+    }
+
+    pub reads_linked : Reads (moment old) (moment new) d answer
+    reads_linked = as_reads (moment old) (moment new) d answer four linked_reads
+
+-- The link that is made to the tag that was activated, and what it did.
+module _ (old mid : Air Device) (place : ℕ) (one : (e : Device) × Stands (moment old) place e × (how_of e ≡ hows.T4)) where
+  -- what a read of the tag that stands there did, a read of any that stands there did
+  of_any : (new : Air Device) (answer : Answer) → Reads (moment old) (moment new) one.0 answer → (e : Device) → Stands (moment old) place e → Reads (moment old) (moment new) e answer
+  of_any new answer reads e stands = subst (λ x. Reads (moment old) (moment new) x answer) (sym (stands_one old place one.0 one.1 e stands)) reads
+
+  module _ (code : ℕ) (link : Air Device) (at : ℕ) (reader : ReaderState) (field : link ≡ mid) (same : at ≡ place) (begun : reader ≡ waiting code) where
+    pub link_is : RatsEnds ghosts device_card device_tag old mid place (Ok code) → Linked one.0 link at reader
+    link_is (sent, lit, activated, tells) =
+        subst (λ a. Linked one.0 a at reader) (sym field) (subst (λ n. Linked one.0 mid n reader) (sym same) (subst (λ i. Linked one.0 mid place i) (sym begun)
+        (is_linked old mid place one.0 one.1 one.2 (waits.Asking 0 []) sent code lit activated)))
+
+    linked_ends : RatsEnds ghosts device_card device_tag old mid place (Ok code) → (new : Air Device) (answer : Answer) → ReadsOn (moment link) (moment new) one.0 reader answer
+        → Reads (moment old) (moment new) one.0 answer
+    linked_ends (sent, lit, activated, tells) new answer r =
+        reads_linked old mid place one.0 one.1 one.2 new code sent tells answer
+        (subst (λ i. ReadsOn (moment mid) (moment new) one.0 i answer) begun (subst (λ a. ReadsOn (moment a) (moment new) one.0 reader answer) field r))
+
+    -- the field is given back as the link left it
+    pub ends_linked : RatsEnds ghosts device_card device_tag old mid place (Ok code) → (left new : Air Device) → left ≡ new → (result : Result Answer AllocError)
+        → IfOk result (λ answer. (e : Device) → Linked e link at reader → ReadsOn (moment link) (moment left) e reader answer)
+        → IfOk result (λ answer. (e : Device) → Stands (moment old) place e → Reads (moment old) (moment new) e answer)
+    ends_linked ends left new back (Err e) told = tt
+    ends_linked ends left new back (Ok answer) told =
+        let reads : Reads (moment old) (moment left) one.0 answer = linked_ends ends left answer (told one.0 (link_is ends)) in
+        of_any new answer (subst (λ a. Reads (moment old) (moment a) one.0 answer) back reads)
+
+  pub ends_unanswered : (fault : AskFault) (result : Result Answer AllocError) → RatsEnds ghosts device_card device_tag old mid place (Err fault)
+      → IfOk result (λ answer. unanswered_by fault ≡ Some answer) → IfOk result (λ answer. (e : Device) → Stands (moment old) place e → Reads (moment old) (moment mid) e answer)
+  ends_unanswered fault (Err e) ends told = tt
+  ends_unanswered fault (Ok answer) ends told = of_any mid answer (reads_unanswered old mid place one.0 one.1 one.2 fault answer ends told)
+
+-- why RATS wasn't answered
+pub may_fail : (old new : Air Device) (place : ℕ) (fault : AskFault) → RatsEnds ghosts device_card device_tag old new place (Err fault) → MayFail fault
+may_fail old new place asking.FieldLost ends = inl refl
+may_fail old new place asking.SixBad ends = inl refl
+may_fail old new place asking.Memory ends = inr refl
+may_fail old new place asking.Protocol ends = absurd ends
