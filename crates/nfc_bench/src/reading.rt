@@ -48,13 +48,7 @@ fn read_by(alloc: Global, link: &mut PlainLink<Device>, how: How) -> Result<Answ
     ensures tells { IfOk result (λ answer. (d : Placed) → Stands (moment link.old.field.now) link.old.place d → Reads (moment link.old.field.now) (moment link.new.field.now) d answer) }
 {
     match tag_reader::read(alloc, link, how) {
-        Ok(
-            Found {
-                message,
-                site: _,
-                writable,
-            },
-        ) => Ok(Answer::Message { message, writable }),
+        Ok(found) => Ok(message(found)),
         Err(fault) => told(fault),
     }
 }
@@ -81,15 +75,21 @@ fn read_linked(alloc: Global, link: &mut IsoLink<Device>) -> Result<Answer, Allo
     ensures tells { IfOk result (λ answer. (d : Placed) → Linked d link.old.field.now link.old.place link.old.reader → ReadsOn (moment link.old.field.now) (moment link.new.field.now) d link.old.reader answer) }
 {
     match tag_reader::read(alloc, link, How::T4) {
-        Ok(
-            Found {
-                message,
-                site: _,
-                writable,
-            },
-        ) => Ok(Answer::Message { message, writable }),
+        Ok(found) => Ok(message(found)),
         Err(fault) => told(fault),
     }
+}
+
+/// The answer that tells of a message.
+fn message(found: Found) -> Answer
+    ensures { result ≡ Answer.Message found.message found.writable }
+{
+    let Found {
+        message,
+        site: _,
+        writable,
+    } = found;
+    Answer::Message { message, writable }
 }
 
 /// The answer that tells why RATS wasn't answered. The bench's tags answer it as they may.

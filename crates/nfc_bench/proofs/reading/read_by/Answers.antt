@@ -1,4 +1,8 @@
+use Rattle.std.proofs.Common.{sym, subst}
 use Rattle.nfc_bench.specs.declared.device.Device.{Device}
+use Rattle.nfc_bench.specs.declared.entry.Answer.{Answer}
+use Rattle.nfc_bench.specs.Phases.{Stands, Reads}
+use Rattle.air_core.specs.Turn.{moment}
 use Rattle.air_core.specs.PlainLinks.{PlainSeen}
 use Rattle.air_core.specs.declared.plain_link.PlainLink.{PlainLink}
 use Rattle.nfc_bench.proofs.ReadingEnds.{IsNew, new_ready, new_is_tag, ends_may, ends_found, ends_told}
@@ -26,7 +30,9 @@ told-requires c =
 pub returns-in-Ok-clause-tells : goal.returns-in-Ok-clause-tells
 returns-in-Ok-clause-tells c =
     let new : IsNew (seen c.args.link.now) = record { start = c.requires.fresh.0; last = c.requires.fresh.1; over = c.requires.fresh.2 } in
-    ends_found (seen c.args.link.now) new c.args.how c.requires.tag (seen c.read.new.link) c.in-Ok.ensures.moves c.in-Ok.field-0 c.in-Ok.ensures.whole c.in-Ok.ensures.goes_on c.in-Ok.ensures.ok
+    let P : Answer → Type 0 = λ a. (d : Device) → Stands (moment c.args.link.now.field.now) c.args.link.now.place d → Reads (moment c.args.link.now.field.now) (moment c.read.new.link.field.now) d a in
+    subst P (sym c.message.ensures)
+    (ends_found (seen c.args.link.now) new c.args.how c.requires.tag (seen c.read.new.link) c.in-Ok.ensures.moves c.in-Ok.found c.in-Ok.ensures.whole c.in-Ok.ensures.goes_on c.in-Ok.ensures.ok)
 
 pub returns-in-Err-clause-tells : goal.returns-in-Err-clause-tells
 returns-in-Err-clause-tells c =

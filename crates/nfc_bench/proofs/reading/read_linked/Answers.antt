@@ -1,3 +1,4 @@
+use Rattle.std.proofs.Common.{sym, subst}
 use Rattle.std.specs.declared.alloc.AllocError.{AllocError}
 use Rattle.std.specs.Prelude.{◌≡◌, Some, Result, Ok, Err, IfOk}
 use Rattle.isodep_link.specs.declared.link.IsoLink.{IsoLink}
@@ -34,8 +35,10 @@ told-requires c =
 pub returns-in-Ok-clause-tells : goal.returns-in-Ok-clause-tells
 returns-in-Ok-clause-tells c d linked =
     let new : IsNewLink (seen c.args.link.now) = record { start = c.requires.fresh.0; told = c.requires.fresh.1; last = c.requires.fresh.2; over = c.requires.fresh.3 } in
-    ends_found (seen c.args.link.now) new d linked (seen c.read.new.link) c.in-Ok.ensures.moves c.in-Ok.field-0 c.in-Ok.ensures.stays.store
-    c.in-Ok.ensures.whole c.in-Ok.ensures.goes_on c.in-Ok.ensures.ok
+    let P : Answer → Type 0 = λ a. ReadsOn (moment c.args.link.now.field.now) (moment c.read.new.link.field.now) d c.args.link.now.reader a in
+    subst P (sym c.message.ensures)
+    (ends_found (seen c.args.link.now) new d linked (seen c.read.new.link) c.in-Ok.ensures.moves c.in-Ok.found c.in-Ok.ensures.stays.store
+    c.in-Ok.ensures.whole c.in-Ok.ensures.goes_on c.in-Ok.ensures.ok)
 
 pub returns-in-Err-clause-tells : goal.returns-in-Err-clause-tells
 returns-in-Err-clause-tells c = by_answer c.told.result c.told.ensures
