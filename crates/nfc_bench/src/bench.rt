@@ -277,7 +277,14 @@ fn run_command(
             code,
             container,
             head,
-        } => place_t4(alloc, field, id, *code, container.as_slice(), head.as_slice()),
+        } => place_t4(
+            alloc,
+            field,
+            id,
+            *code,
+            container.as_slice(),
+            head.as_slice(),
+        ),
         Command::PlaceT5 {
             id,
             blocks,

@@ -368,4 +368,73 @@ mod tests {
         device.dark();
         walk(&rt, alloc, &mut device, &[(&[0x52], 7, &[])])
     }
+
+    /// A call of all devices, and the selection of this one.
+    const SELECTION: [Row; 3] = [
+        (&[0x52], 7, &[0x04, 0]),
+        (&[0x93, 0x20], 0, &[1, 2, 3, 4, 4]),
+        (&[0x93, 0x70, 1, 2, 3, 4, 4], 0, &[0x20]),
+    ];
+
+    const RATS: Row = (&[0xE0, 0x80], 0, &[0x02, 0x00]);
+
+    /// SLP_REQ, and a call of those that don't sleep, which are silent.
+    const SLP_REQ: Row = (&[0x50, 0], 0, &[]);
+
+    const SENS_REQ: Row = (&[0x26], 7, &[]);
+
+    const DESELECT: Row = (&[0xC2], 0, &[0xC2]);
+
+    /// SELECT of the NDEF application in a block, which is done.
+    const SELECT: Row = (
+        &[
+            0x02, 0x00, 0xA4, 0x04, 0x00, 0x07, 0xD2, 0x76, 0x00, 0x00, 0x85, 0x01, 0x01,
+        ],
+        0,
+        &[0x02, 0x90, 0x00],
+    );
+
+    fn type_4_tag(alloc: Global) -> Result<Device, Fail> {
+        let container = [
+            0x00, 0x0F, 0x20, 0x00, 0x3B, 0x00, 0x0D, 0x04, 0x06, 0xE1, 0x04, 0x00, 0x02, 0x00,
+            0x00,
+        ];
+        let tag = T4Tag::new(0, container.to_vec(alloc)?, vec![in alloc; 0u8; 2]?)?;
+        let id = Ident::new(&[1, 2, 3, 4])?;
+        Ok(Device::T4(Front::new(id, T4Upper::new(tag))))
+    }
+
+    #[test]
+    fn type_4_tag_sleeps_without_a_link(rt: HostRuntime) -> Result<(), Fail> {
+        let alloc = rt.alloc();
+        let mut device = type_4_tag(alloc)?;
+        device.light();
+        walk(&rt, alloc, &mut device, &SELECTION)?;
+        walk(&rt, alloc, &mut device, &[SLP_REQ, SENS_REQ])
+    }
+
+    #[test]
+    fn link_to_a_type_4_tag_takes_every_frame(rt: HostRuntime) -> Result<(), Fail> {
+        let alloc = rt.alloc();
+        let mut device = type_4_tag(alloc)?;
+        walk(&rt, alloc, &mut device, &[(&[0x52], 7, &[])])?;
+        device.light();
+        walk(&rt, alloc, &mut device, &[(&[0xE0, 0x80], 0, &[])])?;
+        walk(&rt, alloc, &mut device, &SELECTION)?;
+        walk(
+            &rt,
+            alloc,
+            &mut device,
+            &[RATS, SLP_REQ, SELECT, DESELECT, SENS_REQ],
+        )?;
+        walk(&rt, alloc, &mut device, &SELECTION)?;
+        walk(
+            &rt,
+            alloc,
+            &mut device,
+            &[(&[0xE0, 0x51], 0, &[0x02, 0x00]), SELECT],
+        )?;
+        device.dark();
+        walk(&rt, alloc, &mut device, &[(&[0x52], 7, &[])])
+    }
 }

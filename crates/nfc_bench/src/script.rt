@@ -11,8 +11,8 @@ use crate::command::Command;
 use std::alloc::{AllocError, Global};
 use thiserror::Error;
 use words::{
-    CommandName, blocks_word, code_word, cut_word, device_word, fates_word, four_words, hex_word, ident_word,
-    ident_word_v, name_of, only_word, size_word, three_words,
+    CommandName, blocks_word, code_word, cut_word, device_word, fates_word, four_words, hex_word,
+    ident_word, ident_word_v, name_of, only_word, size_word, three_words,
 };
 
 /// The fewest blocks of a tag that may be placed (this project's limits): the header of a Type 2 tag has four, a Type 5
@@ -290,7 +290,20 @@ mod tests {
             ("place t2 01020304 16 ", 1),
             ("place t2 01020304 16 000", 1),
             ("place t2 01020304 16 - -", 1),
+            ("place t4 01020304 0 - -", 0),
+            ("place t4 01020304 8 000F20003B000D0406E10400200000 -", 0),
+            ("place t4 04112233445566 8 00 0003D00000", 0),
+            ("place t4 01020304 9 - -", 1),
+            ("place t4 01020304 264 - -", 1),
+            ("place t4 01020304 08 - -", 1),
+            ("place t4 01020304 - - -", 1),
+            ("place t4 01020304 8 0 -", 1),
+            ("place t4 01020304 8 - 0", 1),
+            ("place t4 E004010203040506 8 - -", 1),
+            ("place t4 01020304 8 -", 1),
+            ("place t4 01020304 8 - - -", 1),
             ("place t4 01020304 16 -", 1),
+            ("place t3 01020304 8 - -", 1),
             ("fates P", 0),
             ("fates PDLBBLDP", 0),
             ("fates", 1),
@@ -337,6 +350,15 @@ mod tests {
         let tag = [0xE0, 4, 1, 2, 3, 4, 5, 0xFF];
         let rows = [
             ("fates PDLB", Command::Fates(fates)),
+            (
+                "place t4 04112233445566 8 0aFF -",
+                Command::PlaceT4 {
+                    id: ident.copy(),
+                    code: 8,
+                    container: Items::new(Vec::from_slice(alloc, &[10, 255])?),
+                    head: Items::new(Vec::new(alloc)),
+                },
+            ),
             (
                 "remove 04112233445566",
                 Command::Remove {
