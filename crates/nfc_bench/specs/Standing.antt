@@ -22,7 +22,7 @@ use Rattle.isodep_link.specs.Sizes.{is_rats}
 use Rattle.isodep_link.specs.Card.{CardState, card_table}
 use Rattle.isodep_link.specs.Card as ends
 use Rattle.nfc_bench.specs.Cards.{T4Near}
-use Rattle.nfc_bench.specs.Device.{says_of, t2_machine, T4Did, by_card, linked, t4_did, t4_machine, device_id, device_store, device_ready, device_selected, devices}
+use Rattle.nfc_bench.specs.Device.{says_of, t2_machine, by_card, linked, t4_did, t4_machine, device_id, device_store, device_ready, device_selected, devices}
 
 -- a frame that spells no command changes nothing
 foreign_command : (u : T2Memory) (c : Option T2Command) → says_of (reply_frame u c) ≡ steps.Foreign → held_after u c ≡ u
