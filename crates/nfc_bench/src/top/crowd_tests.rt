@@ -22,8 +22,8 @@ const ANSWERS: [(&str, &str, &str); 6] = [
     ),
     (
         "a field that is lost is lit again",
-        "place t2 01020304 4 -\nfates PPB\nread 01020304\nread 01020304",
-        "1 ok\n2 ok\n3 field lost\n4 not ndef\n",
+        "place t2 01020304 16 000000000000000000000000E11006000303D00000FE0000\nfates PPB\nread 01020304\nread 01020304",
+        "1 ok\n2 ok\n3 field lost\n4 message D00000 writable\n",
     ),
     (
         "six bad receptions",
