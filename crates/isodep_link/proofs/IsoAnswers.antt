@@ -1,11 +1,11 @@
 -- What `ask` of a link to a Type 4 tag answers.
-use Rattle.std.proofs.Common.{◌≡◌, ℕ, ◌+◌, ◌<◌, ◌≤◌, ◌⊎◌, inl, inr, List, [], ◌∷◌, ◌++◌, length, drop, true, false, Option, Some, None, Ok, Err, refl, sym, ◌∙◌, ap, subst, arith, append-nil}
+use Rattle.std.proofs.Common.{◌≡◌, ℕ, ◌+◌, ◌*◌, ◌<◌, ◌≤◌, ◌⊎◌, inl, inr, List, [], ◌∷◌, ◌++◌, length, drop, true, false, Option, Some, None, Ok, Err, refl, sym, ◌∙◌, ap, subst, arith, append-nil}
 use Rattle.std.specs.Prelude.{not}
 use Rattle.std.proofs.lemmas.List.{length-append}
 use Rattle.nfc_base.specs.Signal.{Signal, whole_a}
 use Rattle.nfc_base.specs.Trace.{noise}
 use Rattle.nfc_base.specs.Links.{CountsOn}
-use Rattle.nfc_base.specs.LinkTurns.{arrived}
+use Rattle.nfc_base.specs.LinkTurns.{arrived, bad_receptions}
 use Rattle.nfc_base.specs.TagLinks.{TagState, TagStep, plain_state, after_all, passed, Leads, Obeys, Rises, IsAnswer, IsFault}
 use Rattle.nfc_base.specs.declared.tag_link.AskFault.{AskFault}
 use Rattle.nfc_base.specs.declared.tag_link.AskFault.TheVariants.{FieldLost, SixBad, Memory, Protocol}
@@ -25,9 +25,11 @@ use Rattle.isodep_link.specs.Reader.{ReaderState, request, begun}
 use Rattle.isodep_link.specs.Commands.{iso_commands}
 use Rattle.isodep_link.specs.Exchange.{blocks_of, IsCut}
 use Rattle.isodep_link.specs.Asking.{Standing, Rests, asks, stand, iso_next, HasCardTag, Asked, EndsBy}
-use Rattle.isodep_link.specs.IsoLinks.{IsoSeen, commands_of, obeyed_in, Replays, StandsAt, since, iso_view, IsIsoReady, IsoMoves}
+use Rattle.isodep_link.specs.IsoLinks.{IsoSeen, commands_of, obeyed_in, Replays, StandsAt, most_sent, since, card_most, iso_view, IsIsoReady, IsoMoves}
+use Rattle.isodep_link.specs.IsoMoving.{none_between}
+use Rattle.isodep_link.proofs.CutSizes.{rests_cut, reached_cuts}
 use Rattle.isodep_link.proofs.Images.{arrived_append}
-use Rattle.isodep_link.proofs.IsoViews.{handed, leads, shown_images, no_more, before, shown_obeyed, shown_held, obeys, shown_noise, shown_step, either_state, still_answered, all_answered, answered_before, since_new, held_all}
+use Rattle.isodep_link.proofs.IsoViews.{handed, leads, shown_images, no_more, before, shown_obeyed, shown_held, obeys, shown_noise, shown_step, shown_within, either_state, still_answered, all_answered, answered_before, since_new, held_all}
 
 pub none_here : (o : Option AskFault) → ((x : AskFault) → o ≡ Some x → ⊥) → o ≡ None
 none_here None other = refl
@@ -150,6 +152,14 @@ module _ {L : Type 0} (k : Ghosts L) (laws : Laws k) (card : L → CardState) (t
           replays = subst (λ (z : TagState → Signal → TagStep). Replays z r.origin) (sym left_commands) r.replays;
         }
 
+    -- the tag cuts its answers as before
+    same_card_most : card_most k card tag after_ok ≡ card_most k card tag was
+    same_card_most =
+        place_is k (λ (x : L). (card x).most) 0 (k.identifier l) new.listeners place w.after.left w.after.alone
+        ∙ ap (λ (x : L). (card x).most) (left_lit w.after.is)
+        ∙ reached_cuts k laws card tag l w.after.frames w.after.asked r.has.is
+        ∙ sym (place_is k (λ (x : L). (card x).most) 0 (k.identifier l) old.listeners place l r.has.alone)
+
     stands_ok : (o : Option AskFault) → o ≡ None → StandsAt o new.lit i' (stand (asks i (c.bytes ∷ [])) w.notes)
     stands_ok None e = w.stands
     stands_ok (Some x) e = absurd cc
@@ -162,8 +172,11 @@ module _ {L : Type 0} (k : Ghosts L) (laws : Laws k) (card : L → CardState) (t
       same = (refl, refl);
       stands = λ e. stands_ok over e;
       told = λ e. ap (λ (xs : List Signal). (iso_view k card tag after_ok).answered ++ xs) (none_left over (Some g) e) ∙ append-nil (iso_view k card tag after_ok).answered ∙ answered_one;
+      within = shown_within k laws card tag old place start told i last over r new (length new.trace) i' (Some g) over c may (Some h.0) (Rests i') w;
       ended = λ x e. absurd cc;
       obeyed = handed c (Some h.0);
+      all = λ e. ap (λ (d : Signal). d ∷ []) (sym may);
+      cuts = λ e. (rests_cut i i' (c.bytes ∷ []) w.notes w.stands, same_card_most);
       leads = leads k laws card tag old place start told i last over r new (length new.trace) i' (Some g) over c may (Some h.0) (Rests i') w;
       images = shown_images k laws card tag old place start told i last over r new (length new.trace) i' (Some g) over c may (Some h.0) (Rests i') w;
     }
@@ -185,6 +198,7 @@ module _ {L : Type 0} (k : Ghosts L) (laws : Laws k) (card : L → CardState) (t
     pub notes : List Note
     pub going : Going (quiet_air k.machine) (iso_next i (c.bytes ∷ [])) (moment old) (moment new) notes
     pub stands : StandsAt (Some o) new.lit i' (stand (asks i (c.bytes ∷ [])) notes)
+    pub within : length going.events ≤ most_sent i.core.most (card_most k card tag was) (iso_view k card tag was).step (iso_view k card tag was).state (c ∷ []) + 4 * bad_receptions going.events
 
   -- nothing was sent, since the field was dark
   failed_dark : (i' : ReaderState) → old.lit ≡ false → Failed old i' FieldLost
@@ -206,6 +220,8 @@ module _ {L : Type 0} (k : Ghosts L) (laws : Laws k) (card : L → CardState) (t
     notes = [];
     going = going_start (quiet_air k.machine) (iso_next i (c.bytes ∷ [])) (moment old);
     stands = (dim, inr (block_frame (request (begun i c.bytes).core), begun i c.bytes, refl));
+    within =
+        (let none = ap length (none_between k old (iso_next i (c.bytes ∷ [])) [] (going_start (quiet_air k.machine) (iso_next i (c.bytes ∷ [])) (moment old))) in omega (arith, none));
   }
 
   told_before : told ≤ length old.trace
@@ -228,6 +244,7 @@ module _ {L : Type 0} (k : Ghosts L) (laws : Laws k) (card : L → CardState) (t
         notes = a.notes;
         going = a.going;
         stands = subst (λ (z : Standing). StandsAt (Some o) new.lit i' z) (sym a.stands) stands;
+        within = shown_within k laws card tag old place start told i last over r new told i' (Some g) (Some o) c may x s a;
       }
     where
       by_calm : {p q z : ℕ} → (o ≡ Memory) ⊎ (0 < z) → q ≡ p + z → (o ≡ Memory) ⊎ ((old.lit ≡ false) ⊎ (p < q))
@@ -264,8 +281,11 @@ module _ {L : Type 0} (k : Ghosts L) (laws : Laws k) (card : L → CardState) (t
       stands = λ e. x.stands;
       told =
           λ e. ap (λ (y : Signal). (iso_view k card tag (after_err new i' o)).answered ++ y ∷ []) copied ∙ ap (λ (ys : List Signal). ys ++ c ∷ []) x.answered;
+      within = x.within;
       ended = λ y e. absurd cc;
       obeyed = x.more;
+      all = λ e. absurd cc;
+      cuts = λ e. absurd cc;
       leads = x.leads_to;
       images = x.images;
     }

@@ -1,11 +1,11 @@
 -- What a link to a Type 4 tag shows once a command was asked.
-use Rattle.std.proofs.Common.{◌≡◌, ℕ, ◌+◌, ◌≤◌, ◌⊎◌, inl, inr, List, [], ◌∷◌, ◌++◌, length, take, drop, map, true, false, Option, Some, None, Ok, refl, sym, ◌∙◌, ap, subst, arith, take_all}
+use Rattle.std.proofs.Common.{◌≡◌, ℕ, ◌+◌, ◌-◌, ◌*◌, ◌/◌, ◌≤◌, ◌⊎◌, inl, inr, List, [], ◌∷◌, ◌++◌, length, take, drop, map, true, false, Option, Some, None, Ok, refl, sym, ◌∙◌, ap, subst, arith, take_all}
 use Rattle.std.proofs.lemmas.List.{drop-append-le, take-append-le, map-append}
 use Rattle.std.specs.List.{AllByRecursion}
 use Rattle.nfc_base.specs.Signal.{Signal, whole_a}
 use Rattle.nfc_base.specs.Trace.{noise}
-use Rattle.nfc_base.specs.StopAndWait.{delivered_of}
-use Rattle.nfc_base.specs.LinkTurns.{arrived, GivenBy}
+use Rattle.nfc_base.specs.StopAndWait.{delivered_of, pieces_back}
+use Rattle.nfc_base.specs.LinkTurns.{arrived, GivenBy, bad_receptions}
 use Rattle.nfc_base.specs.TagLinks.{TagState, TagStep, plain_state, after_all, passed, Leads, Obeys}
 use Rattle.nfc_base.specs.declared.event.Event.{Event}
 use Rattle.nfc_base.specs.declared.tag_link.AskFault.{AskFault}
@@ -13,6 +13,7 @@ use Rattle.nfc_base.proofs.Leading.{after_append}
 use Rattle.air_core.specs.Turn.{Air, world}
 use Rattle.air_core.specs.PlainTags.{reached}
 use Rattle.air_core.specs.PlainLinks.{at_place, Follows, stores_after}
+use Rattle.air_core.specs.PlainMoving.{events_between}
 use Rattle.std.proofs.Math.Seq.{drop-append_seam}
 use Rattle.air_core.specs.declared.listener.Listener.{Ghosts}
 use Rattle.air_core.proofs.PlainAside.{Laws}
@@ -21,17 +22,35 @@ use Rattle.air_core.proofs.PlainTurns.{noise_append}
 use Rattle.isodep_link.specs.Card.{CardState}
 use Rattle.isodep_link.specs.Reader.{ReaderState, waiting}
 use Rattle.isodep_link.specs.Commands.{iso_commands}
-use Rattle.isodep_link.specs.Exchange.{blocks_of, IsCut}
+use Rattle.isodep_link.specs.Exchange.{blocks_of, pieces, IsCut}
 use Rattle.isodep_link.specs.Activating.{first_link, IsActivated, RatsEnds, IsActivatedLink}
 use Rattle.isodep_link.specs.CardTags as tags
-use Rattle.isodep_link.specs.Asking.{Standing, Asked}
-use Rattle.isodep_link.specs.IsoLinks.{IsoSeen, commands_of, obeyed_in, opened_by, since, store_of, iso_view, IsIsoReady}
+use Rattle.isodep_link.specs.Asking.{Standing, iso_next, Asked}
+use Rattle.isodep_link.specs.IsoLinks.{IsoSeen, commands_of, obeyed_in, opened_by, answer_pieces, most_sent, since, store_of, card_most, iso_view, IsIsoReady}
 use Rattle.isodep_link.proofs.Images.{arrived_append}
 use Rattle.isodep_link.proofs.AskingLaw.{reached_same}
 
 -- the command, where something was given
 abbrev pub handed : Signal → Option (List ℕ) → List Signal
 handed c g = map whole_a (delivered_of c.bytes g)
+
+-- an answer takes a piece at least
+some_pieces : (n : ℕ) (o : Option Signal) → 1 ≤ answer_pieces n o
+some_pieces n None = omega arith
+some_pieces n (Some f) = one_more ((length f.bytes - 1) / n)
+  where
+    one_more : (m : ℕ) → 1 ≤ 1 + m
+    one_more m = omega arith
+
+-- what was given takes as many pieces as the answer of the tag's step, or none was given
+given_pieces : (n : ℕ) (step : TagState → Signal → TagStep) (s held : TagState) (c : List ℕ) (o : Option (List ℕ)) → GivenBy (tags.Obeys step) s c o held
+    → pieces_back (pieces n) o ≤ answer_pieces n (step s (whole_a c)).answer
+given_pieces n step s held c None h = some_pieces n (step s (whole_a c)).answer
+given_pieces n step s held c (Some r) h = let P : Option Signal → Type 0 = λ x. pieces n r ≤ answer_pieces n x in subst P (sym h.0) (omega arith)
+
+-- a bound by fewer blocks back is one by more
+more_back : (n x p q b : ℕ) → n ≤ 2 * (x + p - 1) + 4 * b → p ≤ q → n ≤ 2 * (x + q - 1) + 0 + 4 * b
+more_back n x p q b h l = omega (arith, h, l)
 
 module _ {L : Type 0} (k : Ghosts L) (laws : Laws k) (card : L → CardState) (tag : L → TagState) (old : Air L) (place start told : ℕ) (i : ReaderState) (last : Option Signal) (over : Option AskFault) where
   abbrev pub before : IsoSeen L
@@ -173,6 +192,19 @@ module _ {L : Type 0} (k : Ghosts L) (laws : Laws k) (card : L → CardState) (t
           let S : TagState → TagStep = λ x. (iso_view k card tag before).step x c in
           let T : (TagState → Signal → TagStep) → TagStep = λ z. z (tag l) c in
           ap S shown_state ∙ ap T (was k.commands _) ∙ ap (λ (d : Signal). k.commands l (tag l) d) may
+
+      -- how many transmissions the command took at most, as the link shows it
+      pub shown_within : length w.going.events
+          ≤ most_sent i.core.most (card_most k card tag before) (iso_view k card tag before).step (iso_view k card tag before).state (c ∷ []) + 4 * bad_receptions w.going.events
+      shown_within =
+          let e = (events_between k old new (iso_next i (c.bytes ∷ [])) w.notes w.going).0 in
+          let es : w.events ≡ w.going.events = sym (drop-append_seam old.trace w.events) ∙ sym (ap (drop (length old.trace)) w.trace) ∙ e in
+          let P : TagStep → Type 0 = λ x. pieces_back (pieces (card l).most) g ≤ answer_pieces (card l).most x.answer in
+          let Q : ℕ → Type 0 = λ n. pieces_back (pieces (card l).most) g ≤ answer_pieces n ((iso_view k card tag before).step (iso_view k card tag before).state c).answer in
+          let back : Q (card_most k card tag before) =
+          subst Q (sym (was (λ (x : L). (card x).most) 0)) (subst P (sym shown_step) (given_pieces (card l).most (k.commands l) (tag l) w.held c.bytes g w.given_by)) in
+          let R : List Event → Type 0 = λ xs. length xs ≤ 2 * (pieces i.core.most c.bytes + pieces_back (pieces (card l).most) g - 1) + 4 * bad_receptions xs in
+          more_back _ _ _ _ _ (subst R es w.within) back
 
       -- the tag is what it was before the command or after it
       pub either_state : (o : Option (List ℕ)) → o ≡ g

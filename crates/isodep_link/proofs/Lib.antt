@@ -9,6 +9,7 @@ pub mod Hearing
 pub mod Obeyed
 pub mod Session
 pub mod CardTurns
+pub mod CutSizes
 pub mod Images
 pub mod AskingLaw
 pub mod Falls

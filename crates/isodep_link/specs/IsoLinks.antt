@@ -1,9 +1,9 @@
 -- What contracts see of a link to a Type 4 tag, over a field that it borrows (NFC Forum Type 4 Tag; ISO/IEC 14443-4). What the
 -- tag obeyed is read off the blocks that arrived.
-use Rattle.std.specs.Prelude.{◌≡◌, ◌⊎◌, ℕ, ◌≤◌, List, [], ◌∷◌, ◌++◌, length, take, drop, map, Bool, false, not, Option, Some, None}
+use Rattle.std.specs.Prelude.{◌≡◌, ◌⊎◌, ℕ, ◌+◌, ◌-◌, ◌*◌, ◌≤◌, List, [], ◌∷◌, ◌++◌, length, take, drop, map, Bool, false, not, Option, Some, None}
 use Rattle.nfc_base.specs.Signal.{Signal, whole_a}
 use Rattle.nfc_base.specs.Trace.{noise}
-use Rattle.nfc_base.specs.LinkTurns.{arrived}
+use Rattle.nfc_base.specs.LinkTurns.{arrived, bad_receptions}
 use Rattle.nfc_base.specs.TagLinks.{Type4, TagState, TagStep, LinkView, plain_state, after_all, passed, Leads}
 use Rattle.nfc_base.specs.declared.event.Event.{Event}
 use Rattle.nfc_base.specs.declared.tag_link.AskFault.{AskFault}
@@ -16,7 +16,7 @@ use Rattle.air_core.specs.declared.listener.Listener.{Ghosts}
 use Rattle.isodep_link.specs.Card.{CardState}
 use Rattle.isodep_link.specs.Reader.{ReaderState}
 use Rattle.isodep_link.specs.Commands.{iso_commands}
-use Rattle.isodep_link.specs.Exchange.{blocks_of}
+use Rattle.isodep_link.specs.Exchange.{blocks_of, pieces}
 use Rattle.isodep_link.specs.Asking.{Standing, Waits, Rests, Broken, asks, stand, iso_next, HasCardTag}
 
 -- A link: its field, the place of its tag, how long the trace was when the link was made and when the last answer came, the
@@ -51,6 +51,17 @@ Replays step origin =
 abbrev pub bytes_of : List Signal → List (List ℕ)
 bytes_of fs = map (λ f. f.bytes) fs
 
+-- in how many blocks an answer comes, by the most content of each; where there is none it counts as one
+abbrev pub answer_pieces : ℕ → Option Signal → ℕ
+answer_pieces most None = 1
+answer_pieces most (Some f) = pieces most f.bytes
+
+-- The most transmissions that commands take without a bad reception: of each 2 (k1 + k2 - 1), for its k1 blocks out and the k2
+-- blocks back of its answer, which the tag's step gives where the commands before it left the tag.
+abbrev pub most_sent : ℕ → ℕ → (TagState → Signal → TagStep) → TagState → List Signal → ℕ
+most_sent out back step s [] = 0
+most_sent out back step s (c ∷ cs) = 2 * (pieces out c.bytes + answer_pieces back (step s c).answer - 1) + most_sent out back step (step s c).after cs
+
 -- Where a reader stands whose link is over, or isn't: all commands were answered, or the last one ended the link.
 abbrev pub StandsAt : Option AskFault → Bool → ReaderState → Standing → Type 0
 StandsAt None lit i s = s ≡ Rests i
@@ -69,6 +80,10 @@ module _ {L : Type 0} (k : Ghosts L) (card : L → CardState) (tag : L → TagSt
 
   abbrev pub store_of : IsoSeen L → List ℕ
   store_of p = at_place k.store [] p.air.listeners p.place
+
+  -- the most content of a block that the tag sends
+  abbrev pub card_most : IsoSeen L → ℕ
+  card_most p = at_place (λ l. (card l).most) 0 p.air.listeners p.place
 
   -- What is selected of the tag is read off the commands that it obeyed on this link: the dark clears it of the tag itself.
   abbrev pub iso_view : IsoSeen L → LinkView
@@ -97,8 +112,9 @@ module _ {L : Type 0} (k : Ghosts L) (card : L → CardState) (tag : L → TagSt
     pub replays : Replays (k.commands has.listener) origin
 
   -- Commands were asked, each request was due, and nothing else happened to the field. What the link answered, and the command
-  -- that it ended with, are these commands. The stores that the tag passed by its steps are those that it had after the events,
-  -- in their order.
+  -- that it ended with, are these commands. They took at most `most_sent` transmissions, and four more for each bad reception.
+  -- While the link isn't over the tag obeyed all of them, and both ends cut to the same sizes as before. The stores that the tag
+  -- passed by its steps are those that it had after the events, in their order.
   pub record IsoMoves (a b : IsoSeen L) : Type 0 where
     pub asked : List Signal
     pub notes : List Note
@@ -106,7 +122,10 @@ module _ {L : Type 0} (k : Ghosts L) (card : L → CardState) (tag : L → TagSt
     pub same : (b.place ≡ a.place) × (b.start ≡ a.start)
     pub stands : a.over ≡ None → StandsAt b.over b.air.lit b.reader (stand (asks a.reader (bytes_of asked)) notes)
     pub told : a.over ≡ None → (iso_view b).answered ++ unanswered b.over b.last ≡ (iso_view a).answered ++ asked
+    pub within : length going.events ≤ most_sent a.reader.core.most (card_most a) (iso_view a).step (iso_view a).state asked + 4 * bad_receptions going.events
     pub ended : (e : AskFault) → a.over ≡ Some e → (b ≡ a) × (asked ≡ [])
     pub obeyed : List Signal
+    pub all : b.over ≡ None → obeyed ≡ asked
+    pub cuts : b.over ≡ None → (b.reader.core.most ≡ a.reader.core.most) × (card_most b ≡ card_most a)
     pub leads : Leads (iso_view a) (iso_view b) obeyed
     pub images : Follows (iso_view a).state.store (stores_after k a.place (world a.air) (drop (length a.air.trace) b.air.trace)) (passed (iso_view a).step (iso_view a).state obeyed)

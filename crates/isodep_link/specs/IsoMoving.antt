@@ -1,16 +1,18 @@
 -- Calls on a link to a Type 4 tag, one after another.
-use Rattle.std.proofs.Common.{◌≡◌, ℕ, List, [], ◌∷◌, ◌++◌, length, drop, Bool, Option, Some, None, refl, sym, ◌∙◌, ap, subst, append_assoc, append-nil}
-use Rattle.std.proofs.lemmas.List.{map-append}
+use Rattle.std.proofs.Common.{◌≡◌, ℕ, ◌+◌, ◌-◌, ◌*◌, ◌≤◌, List, [], ◌∷◌, ◌++◌, length, drop, Bool, Option, Some, None, arith, refl, sym, ◌∙◌, ap, subst, append_assoc, append-nil}
+use Rattle.std.proofs.lemmas.List.{length-append, map-append}
 use Rattle.nfc_base.specs.Signal.{Signal}
 use Rattle.nfc_base.specs.declared.tag_link.AskFault.{AskFault}
 use Rattle.nfc_base.specs.declared.event.Event.{Event}
-use Rattle.nfc_base.specs.TagLinks.{passed}
+use Rattle.nfc_base.specs.LinkTurns.{bad_receptions}
+use Rattle.nfc_base.specs.TagLinks.{TagStep, after_all, passed}
+use Rattle.nfc_base.proofs.LinkTurns.{bads_append}
 use Rattle.nfc_base.proofs.Leading.{leads_again, leads_on, passed_on}
 use Rattle.std.proofs.Math.Seq.{drop-append_seam}
 use Rattle.air_core.specs.Following.{last_of, last_passed, follows_on, stores_append}
 use Rattle.air_core.specs.PlainMoving.{events_between}
 use Rattle.air_core.specs.World.{quiet_air}
-use Rattle.air_core.specs.Turn.{world, moment}
+use Rattle.air_core.specs.Turn.{Air, world, moment}
 use Rattle.air_core.specs.Conversation.{AirModel, Moment, Note, Lit, Got, Lost, Next, Over, IsDemand, Going}
 use Rattle.air_core.specs.Turning.{going_start, going_then}
 use Rattle.air_core.specs.PlainLinks.{unanswered, Follows, stores_after}
@@ -20,7 +22,8 @@ use Rattle.isodep_link.specs.declared.reader.ReaderStep.TheVariants as steps
 use Rattle.isodep_link.specs.Card.{CardState}
 use Rattle.isodep_link.specs.Reader.{ReaderState, reader_table}
 use Rattle.isodep_link.specs.Asking.{Standing, Waits, Rests, Broken, Astray, asks, goes_by, noted, stand, due_at, iso_next}
-use Rattle.isodep_link.specs.IsoLinks.{IsoSeen, bytes_of, StandsAt, iso_view, IsoMoves}
+use Rattle.isodep_link.specs.Exchange.{pieces}
+use Rattle.isodep_link.specs.IsoLinks.{IsoSeen, bytes_of, answer_pieces, most_sent, StandsAt, card_most, iso_view, IsoMoves}
 use Rattle.nfc_base.specs.TagLinks.{TagState}
 
 -- more commands behind those that are asked
@@ -87,9 +90,29 @@ module _ {W : Type 0} (m : AirModel W) where
       (λ ns n e d. ap (λ (s : Standing). due_at (stand s ns)) (asks_more i xs ys) ∙ front_due (asks i xs) ys ns n e d)
       (λ ns. ap due_at (stand_all i j xs ys hs ns done)) g k
 
+-- what commands take one behind another
+sent_append : (out back : ℕ) (step : TagState → Signal → TagStep) (s : TagState) (xs ys : List Signal)
+    → most_sent out back step s (xs ++ ys) ≡ most_sent out back step s xs + most_sent out back step (after_all step s xs) ys
+sent_append out back step s [] ys = omega arith
+sent_append out back step s (c ∷ cs) ys =
+    let e = sent_append out back step (step s c).after cs ys in
+    plus_assoc (2 * (pieces out c.bytes + answer_pieces back (step s c).answer - 1)) _ _ _ e
+  where
+    plus_assoc : (n p q r : ℕ) → p ≡ q + r → n + p ≡ n + q + r
+    plus_assoc n p q r e = omega (arith, e)
+
+-- bounds of two stretches
+sums : (n n1 n2 m m1 m2 b b1 b2 : ℕ) → n ≡ n1 + n2 → m ≡ m1 + m2 → b ≡ b1 + b2 → n1 ≤ m1 + 4 * b1 → n2 ≤ m2 + 4 * b2 → n ≤ m + 4 * b
+sums n n1 n2 m m1 m2 b b1 b2 e f g p q = omega (arith, e, f, g, p, q)
+
 no_more : (xs : List Event) → drop (length xs) xs ≡ []
 no_more [] = refl
 no_more (x ∷ xs) = no_more xs
+
+-- nothing happens between a moment and itself
+module _ {L : Type 0} (k : Ghosts L) where
+  pub none_between : (a : Air L) (next : List Note → Next) (hs : List Note) (g : Going (quiet_air k.machine) next (moment a) (moment a) hs) → g.events ≡ []
+  none_between a next hs g = sym (events_between k a a next hs g).0 ∙ no_more a.trace
 
 module _ {L : Type 0} (k : Ghosts L) (card : L → CardState) (tag : L → TagState) where
   again_stands : (o : Option AskFault) (lit : Bool) (i : ReaderState) → o ≡ None → StandsAt o lit i (Rests i)
@@ -108,13 +131,51 @@ module _ {L : Type 0} (k : Ghosts L) (card : L → CardState) (tag : L → TagSt
     same = (refl, refl);
     stands = λ h. again_stands a.over a.air.lit a.reader h;
     told = λ h. again_told a.over a.last (iso_view k card tag a).answered h;
+    within = (let none = ap length (none_between k a.air (iso_next a.reader []) [] (going_start (quiet_air k.machine) (iso_next a.reader []) (moment a.air))) in omega (arith, none));
     ended = λ e h. (refl, refl);
     obeyed = [];
+    all = λ h. refl;
+    cuts = λ h. (refl, refl);
     leads = leads_again (iso_view k card tag a);
     images =
         let P : List Event → Type 0 = λ es. Follows (iso_view k card tag a).state.store (stores_after k a.place (world a.air) es) [] in
         subst P (sym (no_more a.air.trace)) tt;
   }
+
+  -- the events of two stretches
+  between_both : (a b c : IsoSeen L) (p : IsoMoves k card tag a b) (q : IsoMoves k card tag b c) → drop (length a.air.trace) c.air.trace ≡ p.going.events ++ q.going.events
+  between_both a b c p q =
+      let e = events_between k a.air b.air (iso_next a.reader (bytes_of p.asked)) p.notes p.going in
+      let f = events_between k b.air c.air (iso_next b.reader (bytes_of q.asked)) q.notes q.going in
+      let trace : c.air.trace ≡ a.air.trace ++ (p.going.events ++ q.going.events) = f.1 ∙ ap (λ t. t ++ q.going.events) e.1 ∙ append_assoc a.air.trace p.going.events q.going.events in
+      ap (drop (length a.air.trace)) trace ∙ drop-append_seam a.air.trace (p.going.events ++ q.going.events)
+
+  -- what both stretches take, by what the first left
+  sent_on : (a b c : IsoSeen L) → b.over ≡ None → (p : IsoMoves k card tag a b) (q : IsoMoves k card tag b c)
+      → most_sent a.reader.core.most (card_most k card tag a) (iso_view k card tag a).step (iso_view k card tag a).state (p.asked ++ q.asked)
+      ≡ most_sent a.reader.core.most (card_most k card tag a) (iso_view k card tag a).step (iso_view k card tag a).state p.asked
+      + most_sent b.reader.core.most (card_most k card tag b) (iso_view k card tag b).step (iso_view k card tag b).state q.asked
+  sent_on a b c hb p q =
+      let size = p.cuts hb in
+      let out : ℕ = a.reader.core.most in
+      let back : ℕ = card_most k card tag a in
+      let step = (iso_view k card tag a).step in
+      let state = (iso_view k card tag a).state in
+      let held : (iso_view k card tag b).state ≡ after_all step state p.asked = p.leads.state ∙ ap (λ (cs : List Signal). after_all step state cs) (p.all hb) in
+      let same : most_sent b.reader.core.most (card_most k card tag b) (iso_view k card tag b).step (iso_view k card tag b).state q.asked ≡ most_sent out back step (after_all step state p.asked) q.asked =
+      ap (λ (n : ℕ). most_sent n (card_most k card tag b) (iso_view k card tag b).step (iso_view k card tag b).state q.asked) size.0
+      ∙ ap (λ (n : ℕ). most_sent out n (iso_view k card tag b).step (iso_view k card tag b).state q.asked) size.1
+      ∙ ap (λ (z : TagState → Signal → TagStep). most_sent out back z (iso_view k card tag b).state q.asked) p.leads.step
+      ∙ ap (λ (z : TagState). most_sent out back step z q.asked) held in
+      sent_append out back step state p.asked q.asked ∙ ap (λ (n : ℕ). most_sent out back step state p.asked + n) (sym same)
+
+  -- the transmissions of two stretches
+  within_on : (a b c : IsoSeen L) → b.over ≡ None → (p : IsoMoves k card tag a b) (q : IsoMoves k card tag b c) (es : List Event) → drop (length a.air.trace) c.air.trace ≡ es
+      → length es ≤ most_sent a.reader.core.most (card_most k card tag a) (iso_view k card tag a).step (iso_view k card tag a).state (p.asked ++ q.asked) + 4 * bad_receptions es
+  within_on a b c hb p q es e =
+      let both : es ≡ p.going.events ++ q.going.events = sym e ∙ between_both a b c p q in
+      sums _ _ _ _ _ _ _ _ _ (ap length both ∙ length-append p.going.events q.going.events) (sent_on a b c hb p q)
+      (ap bad_receptions both ∙ bads_append p.going.events q.going.events q.going.fresh) p.within q.within
 
   -- the stores of two stretches
   images_on : (a b c : IsoSeen L) (p : IsoMoves k card tag a b) (q : IsoMoves k card tag b c)
@@ -127,8 +188,7 @@ module _ {L : Type 0} (k : Ghosts L) (card : L → CardState) (tag : L → TagSt
       let now : List ℕ = (iso_view k card tag a).state.store in
       let step = (iso_view k card tag a).step in
       let state = (iso_view k card tag a).state in
-      let trace : c.air.trace ≡ a.air.trace ++ (xs ++ ys) = f.1 ∙ ap (λ t. t ++ ys) e.1 ∙ append_assoc a.air.trace xs ys in
-      let all : drop (length a.air.trace) c.air.trace ≡ xs ++ ys = ap (drop (length a.air.trace)) trace ∙ drop-append_seam a.air.trace (xs ++ ys) in
+      let all : drop (length a.air.trace) c.air.trace ≡ xs ++ ys = between_both a b c p q in
       let S : List (List ℕ) = stores_after k a.place (world a.air) xs in
       let T : List (List ℕ) = stores_after k b.place (world b.air) ys in
       let stores : stores_after k a.place (world a.air) (drop (length a.air.trace) c.air.trace) ≡ S ++ T =
@@ -156,17 +216,23 @@ module _ {L : Type 0} (k : Ghosts L) (card : L → CardState) (tag : L → TagSt
       let front : (iso_view k card tag b).answered ≡ (iso_view k card tag a).answered ++ xs =
       sym (append-nil (iso_view k card tag b).answered) ∙ ap (λ o. (iso_view k card tag b).answered ++ unanswered o b.last) (sym hb) ∙ p.told ha in
       let G : List (List ℕ) → Type 0 = λ zs. Going (quiet_air k.machine) (iso_next a.reader zs) (moment a.air) (moment c.air) (p.notes ++ q.notes) in
+      let going : G (bytes_of (xs ++ ys)) =
+      subst G (sym sum) (iso_then (quiet_air k.machine) (moment a.air) (moment b.air) (moment c.air) a.reader b.reader (bytes_of xs) (bytes_of ys) p.notes q.notes done p.going q.going) in
+      let size = p.cuts hb in
       record {
         asked = xs ++ ys;
         notes = p.notes ++ q.notes;
-        going = subst G (sym sum) (iso_then (quiet_air k.machine) (moment a.air) (moment b.air) (moment c.air) a.reader b.reader (bytes_of xs) (bytes_of ys) p.notes q.notes done p.going q.going);
+        going = going;
         same = (q.same.0 ∙ p.same.0, q.same.1 ∙ p.same.1);
         stands = λ h.
             (let P : Standing → Type 0 = StandsAt c.over c.air.lit c.reader in
             subst P (sym (ap (λ zs. stand (asks a.reader zs) (p.notes ++ q.notes)) sum ∙ stand_all a.reader b.reader (bytes_of xs) (bytes_of ys) p.notes q.notes done)) (q.stands hb));
         told = λ h. q.told hb ∙ ap (λ t. t ++ ys) front ∙ append_assoc (iso_view k card tag a).answered xs ys;
+        within = within_on a b c hb p q going.events (events_between k a.air c.air (iso_next a.reader (bytes_of (xs ++ ys))) (p.notes ++ q.notes) going).0;
         ended = λ e h. absurd cc;
         obeyed = p.obeyed ++ q.obeyed;
+        all = λ h. ap (λ zs. zs ++ q.obeyed) (p.all hb) ∙ ap (λ zs. xs ++ zs) (q.all h);
+        cuts = λ h. ((q.cuts h).0 ∙ size.0, (q.cuts h).1 ∙ size.1);
         leads = leads_on (iso_view k card tag a) (iso_view k card tag b) (iso_view k card tag c) p.obeyed q.obeyed p.leads q.leads;
         images = images_on a b c p q;
       }

@@ -1,0 +1,171 @@
+-- While commands are asked, reader and card cut what they send into pieces of the same size as before.
+use Rattle.std.proofs.Common.{◌≡◌, ℕ, ◌==◌, nat_lt, List, [], ◌∷◌, ◌++◌, length, Bool, true, false, if◌then◌else◌, Option, Some, None, refl, ◌∙◌, ap, subst}
+use Rattle.std.specs.List.{AllByRecursion}
+use Rattle.nfc_base.specs.Signal.{Signal}
+use Rattle.nfc_base.specs.StopAndWait.{Does, Quiet, Reply, Deliver}
+use Rattle.nfc_base.specs.LinkTurns.{settled, step}
+use Rattle.nfc_base.specs.TagLinks.{TagState}
+use Rattle.nfc_base.specs.declared.event.Heard.{Heard}
+use Rattle.air_core.specs.Conversation.{Note, Lit, Got, Lost}
+use Rattle.air_core.specs.PlainTags.{reached}
+use Rattle.air_core.specs.declared.listener.Listener.{Ghosts}
+use Rattle.air_core.proofs.PlainAside.{Laws}
+use Rattle.isodep_link.specs.declared.block.Block.{Block}
+use Rattle.isodep_link.specs.declared.block.Block.TheVariants.{Info, Ack, Nak, Deselect}
+use Rattle.isodep_link.specs.declared.reader.Phase.{Phase}
+use Rattle.isodep_link.specs.declared.reader.Phase.TheVariants.{Asked, Nacked, Free, EndedSixBad, EndedProtocol}
+use Rattle.isodep_link.specs.declared.reader.ReaderStep.{ReaderStep}
+use Rattle.isodep_link.specs.declared.reader.ReaderStep.TheVariants as steps
+use Rattle.isodep_link.specs.Blocks.{IsBlock, spelled_block}
+use Rattle.isodep_link.specs.Sizes.{limit, rats_code}
+use Rattle.isodep_link.specs.Card as cards
+use Rattle.isodep_link.specs.Card.{CardState, CardMove, card_table, block_table, grown, again, heeded, stays}
+use Rattle.isodep_link.specs.Reader.{ReaderState, ReaderMove, Reception, Hears, Odd, Bad, reception, reader_table, most_bads, bad, received, more_follows, is_refused, acked, missed, brought, answered, waited, unasked, in_phase}
+use Rattle.isodep_link.specs.Exchange.{iso_dep}
+use Rattle.isodep_link.specs.CardTags.{IsAskedBlock, IsAsked, IsCardTag}
+use Rattle.isodep_link.specs.Asking.{Standing, Waits, Rests, Broken, Astray, asks, goes_by, noted, stand}
+use Rattle.isodep_link.proofs.Wire.{card_heeds}
+use Rattle.isodep_link.proofs.AskingLaw.{stays_card_tag}
+
+-- a reader's move after which it cuts to the same size
+abbrev Keeps : ReaderState → ReaderMove → Type 0
+Keeps i m = m.state.core.most ≡ i.core.most
+
+-- each of the reader's moves is one
+keeps_if : (i : ReaderState) (v : Bool) (m n : ReaderMove) → Keeps i m → Keeps i n → Keeps i (if v then m else n)
+keeps_if i true m n p q = p
+keeps_if i false m n p q = q
+
+keeps_bad : (i : ReaderState) → Keeps i (bad i)
+keeps_bad i = keeps_if i (nat_lt i.bads most_bads) _ _ refl refl
+
+keeps_received : (i : ReaderState) (more : Bool) (xs : List ℕ) → Keeps i (received i more xs)
+keeps_received i true xs = refl
+keeps_received i false xs = refl
+
+keeps_brought : (i : ReaderState) (more : Bool) (xs : List ℕ) → Keeps i (brought i more xs)
+keeps_brought i more xs = keeps_if i (is_refused more xs (i.core.got ++ xs)) _ _ refl (keeps_received i more (i.core.got ++ xs))
+
+keeps_acked : (i : ReaderState) → Keeps i (acked i)
+keeps_acked i = keeps_if i (more_follows i.core) _ _ refl refl
+
+keeps_missed : (i : ReaderState) (phase : Phase) → Keeps i (missed i phase)
+keeps_missed i Asked = refl
+keeps_missed i Nacked = refl
+keeps_missed i Free = refl
+keeps_missed i EndedSixBad = refl
+keeps_missed i EndedProtocol = refl
+
+keeps_answered : (i : ReaderState) (b : Block) → Keeps i (answered i b)
+keeps_answered i (Info more n c) = keeps_if i (if more_follows i.core then false else n == i.core.number) _ _ (keeps_brought i more c.items) refl
+keeps_answered i (Ack n) = keeps_if i (n == i.core.number) _ _ (keeps_acked i) (keeps_missed i i.phase)
+keeps_answered i (Nak n) = refl
+keeps_answered i Deselect = refl
+
+keeps_waited : (i : ReaderState) (h : Reception) → Keeps i (waited i h)
+keeps_waited i (Hears b) = keeps_answered i b
+keeps_waited i Odd = refl
+keeps_waited i Bad = keeps_bad i
+
+keeps_unasked : (i : ReaderState) (h : Reception) → Keeps i (unasked i h)
+keeps_unasked i (Hears b) = refl
+keeps_unasked i Odd = refl
+keeps_unasked i Bad = keeps_bad i
+
+keeps_in : (i : ReaderState) (phase : Phase) (h : Reception) → Keeps i (in_phase i phase h)
+keeps_in i Asked h = keeps_waited i h
+keeps_in i Nacked h = keeps_waited i h
+keeps_in i Free h = keeps_unasked i h
+keeps_in i EndedSixBad h = refl
+keeps_in i EndedProtocol h = refl
+
+-- whatever it hears the reader cuts to the same size
+reader_keeps : (i : ReaderState) (h : Heard) → (reader_table i h).state.core.most ≡ i.core.most
+reader_keeps i h = keeps_in i i.phase (reception h)
+
+-- where a reader stands that cuts to this size
+abbrev CutsTo : ℕ → Standing → Type 0
+CutsTo n (Waits i f cs) = i.core.most ≡ n
+CutsTo n (Rests i) = i.core.most ≡ n
+CutsTo n (Broken e) = Unit {0}
+CutsTo n Astray = Unit {0}
+
+-- a reader goes on cutting to it, whatever is noted
+asks_cuts : (n : ℕ) (i : ReaderState) (cs : List (List ℕ)) → i.core.most ≡ n → CutsTo n (asks i cs)
+asks_cuts n i [] e = e
+asks_cuts n i (c ∷ cs) e = e
+
+goes_cuts : (n : ℕ) (i : ReaderState) (d : ReaderStep) (cs : List (List ℕ)) → i.core.most ≡ n → CutsTo n (goes_by i d cs)
+goes_cuts n i (steps.Send f) cs e = e
+goes_cuts n i (steps.Finished answer) cs e = asks_cuts n i cs e
+goes_cuts n i steps.SixBad cs e = tt
+goes_cuts n i steps.Protocol cs e = tt
+
+noted_cuts : (n : ℕ) (s : Standing) (x : Note) → CutsTo n s → CutsTo n (noted s x)
+noted_cuts n (Waits i f cs) Lit e = tt
+noted_cuts n (Waits i f cs) Lost e = tt
+noted_cuts n (Waits i f cs) (Got h) e = goes_cuts n (reader_table i h).state (reader_table i h).does cs (reader_keeps i h ∙ e)
+noted_cuts n (Rests i) x e = tt
+noted_cuts n (Broken f) x e = tt
+noted_cuts n Astray x e = tt
+
+stand_cuts : (n : ℕ) (s : Standing) (ns : List Note) → CutsTo n s → CutsTo n (stand s ns)
+stand_cuts n s [] e = e
+stand_cuts n s (x ∷ ns) e = stand_cuts n (noted s x) ns (noted_cuts n s x e)
+
+-- a reader whose commands were all answered cuts to the same size as before
+pub rests_cut : (i j : ReaderState) (cs : List (List ℕ)) (ns : List Note) → stand (asks i cs) ns ≡ Rests j → j.core.most ≡ i.core.most
+rests_cut i j cs ns e = let P : Standing → Type 0 = CutsTo i.core.most in subst P e (stand_cuts i.core.most (asks i cs) ns (asks_cuts i.core.most i cs refl))
+
+-- a card's move after which it cuts to the same size
+abbrev CardKeeps : CardState → CardMove → Type 0
+CardKeeps t m = m.state.most ≡ t.most
+
+-- each of the card's moves is one
+card_keeps_if : (t : CardState) (v : Bool) (m n : CardMove) → CardKeeps t m → CardKeeps t n → CardKeeps t (if v then m else n)
+card_keeps_if t true m n p q = p
+card_keeps_if t false m n p q = q
+
+keeps_grown : (t : CardState) (more : Bool) (xs : List ℕ) → CardKeeps t (grown t more xs)
+keeps_grown t true xs = refl
+keeps_grown t false xs = refl
+
+keeps_again : (t : CardState) (o : Option Block) → CardKeeps t (again t o)
+keeps_again t None = refl
+keeps_again t (Some b) = refl
+
+card_keeps : (t : CardState) (b : Block) → CardKeeps t (block_table t b)
+card_keeps t (Info more n c) = card_keeps_if t (nat_lt limit (length (t.chain ++ c.items))) _ _ refl (keeps_grown t more (t.chain ++ c.items))
+card_keeps t (Ack n) = card_keeps_if t (n == t.number) _ _ (keeps_again t t.last) (card_keeps_if t (nat_lt 0 (length t.left)) _ _ refl refl)
+card_keeps t (Nak n) = card_keeps_if t (n == t.number) _ _ (keeps_again t t.last) refl
+card_keeps t Deselect = refl
+
+-- a block that a reader sends is in range
+in_range : (b : Block) → IsAskedBlock b → IsBlock b
+in_range (Info more n c) a = a
+in_range (Ack n) a = a
+in_range (Nak n) a = a
+in_range Deselect a = absurd a
+
+-- at a frame that a reader sends the card cuts to the same size, also once its owner answered
+table_keeps : (t : CardState) (f : Signal) → IsAsked f → (v : Bool) → t.mute ≡ v → (card_table t f).state.most ≡ t.most
+table_keeps t f a true e = ap (λ v. (if v then cards.framed (stays t) else heeded t (rats_code f) (spelled_block f)).state.most) e
+table_keeps t f a false e =
+    ap (λ (z : Signal). (card_table t z).state.most) a.frame ∙ ap (λ m. m.state.most) (card_heeds t a.block e (in_range a.block a.asked)) ∙ card_keeps t a.block
+
+settled_keeps : (r : List ℕ) (t : CardState) (d : Does Signal) → (settled iso_dep r t d).state.most ≡ t.most
+settled_keeps r t Quiet = refl
+settled_keeps r t (Reply a) = refl
+settled_keeps r t (Deliver p) = refl
+
+step_keeps : (r : List ℕ) (t : CardState) (f : Signal) → IsAsked f → (step iso_dep r t f).state.most ≡ t.most
+step_keeps r t f a = settled_keeps r (iso_dep.heard t f) (iso_dep.does t f) ∙ table_keeps t f a t.mute refl
+
+-- a tag that heard blocks cuts to the same size as before
+pub reached_cuts : {L : Type 0} (k : Ghosts L) (laws : Laws k) (card : L → CardState) (tag : L → TagState) (l : L) (fs : List Signal) → AllByRecursion IsAsked fs → IsCardTag k card tag l
+    → (card (reached k l fs)).most ≡ (card l).most
+reached_cuts k laws card tag l [] a c = refl
+reached_cuts k laws card tag l (f ∷ fs) a c =
+    let s = c.steps [] tt f a.0 in
+    let here : (card (k.machine.after l f None)).most ≡ (card l).most = ap (λ (t : CardState). t.most) s.card_is ∙ step_keeps s.reply (card l) f a.0 in
+    reached_cuts k laws card tag (k.machine.after l f None) fs a.1 (stays_card_tag k laws card tag l (f ∷ []) (a.0, tt) c) ∙ here
