@@ -229,7 +229,7 @@ no_more [] = refl
 no_more (x ∷ xs) = no_more xs
 
 -- a link that is made where a tag was activated is ready
-pub ready_on : {L : Type 0} (k : Ghosts L) (card : L → CardState) (tag : L → TagState) (air : Air L) (place : ℕ) (i : ReaderState) → IsActivated k card tag air place i
+ready_on : {L : Type 0} (k : Ghosts L) (card : L → CardState) (tag : L → TagState) (air : Air L) (place : ℕ) (i : ReaderState) → IsActivated k card tag air place i
     → IsIsoReady k card tag (record { air = air; place = place; start = length air.trace; told = length air.trace; reader = i; last = None; over = None })
 ready_on k card tag air place i a =
     let none : drop (length air.trace) air.trace ≡ [] = no_more air.trace in

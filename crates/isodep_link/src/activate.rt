@@ -40,7 +40,10 @@ pub(crate) fn ats_code(frame: &Frame) -> Option<u8>
 }
 
 /// Sends RATS to the tag at a place, again after each bad reception, and gives the card's size code.
-pub fn activate_card<L: CardListener>(field: &mut Field<L>, place: usize) -> Result<u8, AskFault>
+pub(crate) fn activate_card<L: CardListener>(
+    field: &mut Field<L>,
+    place: usize,
+) -> Result<u8, AskFault>
     ensures { Activates L.Listener L.card L.tag field.old field.new place result }
 {
     let mut far = Mute;

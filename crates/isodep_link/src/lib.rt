@@ -17,7 +17,6 @@ mod size;
 #[cfg(test)]
 mod tests;
 
-pub use activate::activate_card;
 pub use card::{CardEnd, CardStep};
 pub use link::IsoLink;
 pub use listener::CardListener;

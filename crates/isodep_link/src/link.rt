@@ -1,9 +1,7 @@
 //! A link to a Type 4 tag.
 
 ghost use Rattle.std.specs.Prelude.{◌≡◌, length, None, IfOk};
-ghost use Rattle.isodep_link.specs.Reader.{waiting};
-ghost use Rattle.isodep_link.specs.Activating.{first_link, HasFreshTag, IsActivated, IsActivatedLink};
-ghost use Rattle.isodep_link.specs.IsoLinks.{IsIsoReady};
+ghost use Rattle.isodep_link.specs.Activating.{first_link, HasFreshTag, IsActivatedLink};
 
 use crate::activate::activate_card;
 use crate::exchange::ask_card;
@@ -43,19 +41,7 @@ impl<'a, L: CardListener> IsoLink<'a, L> {
         }
     }
 
-    /// A link to the tag at a place, which was activated and told this size code.
-    pub fn on(field: &'a mut Field<L>, place: usize, code: u8) -> IsoLink<'a, L>
-        requires tag { IsActivated L.Listener L.card L.tag field.old place (waiting code) }
-        ensures same { result.field.ghost_name ≡ field.entry.ghost_name }
-        ensures field { result.field.now ≡ field.old }
-        ensures fresh { (result.place ≡ place) × (result.start ≡ length field.old.trace) × (result.told ≡ length field.old.trace) × (result.last ≡ None) × (result.over ≡ None) }
-        ensures reader { result.reader ≡ waiting code }
-        ensures ready { IsIsoReady L.Listener L.card L.tag (first_link field.old place code) }
-    {
-        IsoLink::first(field, place, code)
-    }
-
-    /// The link before anything is asked.
+    /// The link to the tag at a place that told this size code, before anything is asked.
     fn first(field: &'a mut Field<L>, place: usize, code: u8) -> IsoLink<'a, L>
         ensures same { result.field.ghost_name ≡ field.entry.ghost_name }
         ensures field { result.field.now ≡ field.old }

@@ -2,6 +2,7 @@
 use Rattle.std.proofs.Common.{◌≡◌, ◌↔◌, inl, inr, ℕ, zero, suc, ◌+◌, ◌<◌, List, [], ◌∷◌, ◌++◌, true, false, Some, None, refl, sym, ◌∙◌, ap, subst, arith, IfOk}
 use Rattle.std.specs.declared.alloc.AllocError.{AllocError}
 use Rattle.std.specs.Prelude.{map, Result, Ok, Err}
+use Rattle.std.specs.Result.{IfErr, OnErr}
 use Rattle.std.proofs.lemmas.Bool.{cases_lt}
 use Rattle.nfc_base.specs.declared.tag_link.AskFault.{AskFault}
 use Rattle.nfc_base.specs.declared.tag_link.AskFault.TheVariants as asking
@@ -15,11 +16,12 @@ use Rattle.air_core.specs.Waits as waits
 use Rattle.air_core.specs.Waits.{waits_next}
 use Rattle.air_core.specs.PlainLinks.{at_place}
 use Rattle.air_core.proofs.PlainStores.{place_is}
-use Rattle.isodep_link.specs.Activating.{rats, TellsCode, HasFreshTag, IsActivated, RatsSent, RatsEnds}
+use Rattle.isodep_link.specs.Activating.{rats, TellsCode, HasFreshTag, IsActivated, RatsSent, RatsEnds, Activates, IsActivatedLink}
 use Rattle.isodep_link.specs.Asking as exchange
 use Rattle.isodep_link.specs.Asking.{asks, stand, iso_next}
-use Rattle.isodep_link.specs.IsoLinks.{bytes_of}
-use Rattle.isodep_link.specs.Reader.{ReaderState, waiting}
+use Rattle.isodep_link.specs.IsoLinks.{IsoSeen, bytes_of}
+use Rattle.isodep_link.specs.Reader.{waiting}
+use Rattle.isodep_link.specs.declared.link.IsoLink.{IsoLink}
 use Rattle.tag_reader.specs.declared.how.How.TheVariants as hows
 use Rattle.tag_reader.specs.Asked.{IsAsked}
 use Rattle.tag_reader.proofs.FileAsked.{file_asked}
@@ -43,7 +45,7 @@ use Rattle.nfc_bench.proofs.SelectingKept.{going_keeps}
 use Rattle.nfc_bench.proofs.TagFour.{takes_rats}
 
 -- a selected Type 4 tag of which nothing was asked takes RATS
-pub has_fresh : (a : Air Device) (place : ℕ) (d : Device) → Stands (moment a) place d → how_of d ≡ hows.T4 → HasFreshTag ghosts device_card device_tag a place
+has_fresh : (a : Air Device) (place : ℕ) (d : Device) → Stands (moment a) place d → how_of d ≡ hows.T4 → HasFreshTag ghosts device_card device_tag a place
 has_fresh a place (T2 d) s four = absurd cc
 has_fresh a place (T4 d) s four = record { listener = T4 d; alone = stands_alone a place (T4 d) s; takes = takes_rats d s.sound s.selected s.unasked }
 has_fresh a place (T5 p) s four = absurd cc
@@ -82,7 +84,7 @@ module _ (old mid : Air Device) (place : ℕ) (d : Device) (s : Stands (moment o
     rats_keep = going_keeps (waits_next (rats ∷ [])) (moment old) (moment mid) sent.notes rats_harmless sent.going
 
     -- the tag that was activated is the one that was selected
-    pub is_linked : (code : ℕ) → mid.lit ≡ true → IsActivated ghosts device_card device_tag mid place (waiting code) → Linked d mid place (waiting code)
+    is_linked : (code : ℕ) → mid.lit ≡ true → IsActivated ghosts device_card device_tag mid place (waiting code) → Linked d mid place (waiting code)
     is_linked code lit activated =
         let x : Device = activated.has.listener in
         let there : at_place (λ e. Some (kept e)) None mid.listeners place ≡ Some (kept x) =
@@ -165,7 +167,7 @@ module _ (old mid : Air Device) (place : ℕ) (d : Device) (s : Stands (moment o
   unanswered_reads asking.Memory answer ends told = absurd cc
   unanswered_reads asking.Protocol answer ends told = absurd cc
 
-  pub reads_unanswered : (fault : AskFault) (answer : Answer) → RatsEnds ghosts device_card device_tag old mid place (Err fault) → unanswered_by fault ≡ Some answer
+  reads_unanswered : (fault : AskFault) (answer : Answer) → RatsEnds ghosts device_card device_tag old mid place (Err fault) → unanswered_by fault ≡ Some answer
       → Reads (moment old) (moment mid) d answer
   reads_unanswered fault answer ends told = as_reads (moment old) (moment mid) d answer four (unanswered_reads fault answer ends told)
 
@@ -212,44 +214,66 @@ module _ (old mid : Air Device) (place : ℕ) (d : Device) (s : Stands (moment o
       lost = (λ e. more_breaks (breaks sent.going.events) (breaks r.asked.going.events) (breaks both.events) breaks_both (r.lost.0 e), broken_both);
     }
 
-    pub reads_linked : Reads (moment old) (moment new) d answer
+    reads_linked : Reads (moment old) (moment new) d answer
     reads_linked = as_reads (moment old) (moment new) d answer four linked_reads
 
--- The link that is made to the tag that was activated, and what it did.
-module _ (old mid : Air Device) (place : ℕ) (one : (e : Device) × Stands (moment old) place e × (how_of e ≡ hows.T4)) where
+-- why RATS wasn't answered
+rats_may_fail : (old new : Air Device) (place : ℕ) (fault : AskFault) → RatsEnds ghosts device_card device_tag old new place (Err fault) → MayFail fault
+rats_may_fail old new place asking.FieldLost ends = inl refl
+rats_may_fail old new place asking.SixBad ends = inl refl
+rats_may_fail old new place asking.Memory ends = inr refl
+rats_may_fail old new place asking.Protocol ends = absurd ends
+
+-- what is seen of a link
+abbrev pub seen_of : IsoLink Device → IsoSeen Device
+seen_of l = record { air = l.field.now; place = l.place; start = l.start; told = l.told; reader = l.reader; last = l.last; over = l.over }
+
+-- The link that was given to the tag, and what was asked over it, or why none was given.
+module _ (old : Air Device) (place : ℕ) (one : (e : Device) × Stands (moment old) place e × (how_of e ≡ hows.T4)) where
   -- what a read of the tag that stands there did, a read of any that stands there did
   of_any : (new : Air Device) (answer : Answer) → Reads (moment old) (moment new) one.0 answer → (e : Device) → Stands (moment old) place e → Reads (moment old) (moment new) e answer
   of_any new answer reads e stands = subst (λ x. Reads (moment old) (moment new) x answer) (sym (stands_one old place one.0 one.1 e stands)) reads
 
-  module _ (code : ℕ) (link : Air Device) (at : ℕ) (reader : ReaderState) (field : link ≡ mid) (same : at ≡ place) (begun : reader ≡ waiting code) where
-    pub link_is : RatsEnds ghosts device_card device_tag old mid place (Ok code) → Linked one.0 link at reader
-    link_is (sent, lit, activated, tells) =
-        subst (λ a. Linked one.0 a at reader) (sym field) (subst (λ n. Linked one.0 mid n reader) (sym same) (subst (λ i. Linked one.0 mid place i) (sym begun)
-        (is_linked old mid place one.0 one.1 one.2 (waits.Asking 0 []) sent code lit activated)))
+  -- a Type 4 tag stands there that takes RATS
+  fresh_tag : HasFreshTag ghosts device_card device_tag old place
+  fresh_tag = has_fresh old place one.0 one.1 one.2
 
-    linked_ends : RatsEnds ghosts device_card device_tag old mid place (Ok code) → (new : Air Device) (answer : Answer) → ReadsOn (moment link) (moment new) one.0 reader answer
-        → Reads (moment old) (moment new) one.0 answer
-    linked_ends (sent, lit, activated, tells) new answer r =
-        reads_linked old mid place one.0 one.1 one.2 new code sent tells answer
-        (subst (λ i. ReadsOn (moment mid) (moment new) one.0 i answer) begun (subst (λ a. ReadsOn (moment a) (moment new) one.0 reader answer) field r))
+  module _ (l : IsoLink Device) (there : l.place ≡ place) (given : HasFreshTag ghosts device_card device_tag old place → IsActivatedLink ghosts device_card device_tag old (seen_of l)) where
+    made : IsActivatedLink ghosts device_card device_tag old (seen_of l)
+    made = given fresh_tag
+
+    -- the tag at the other end of the link is the one that was selected
+    pub link_is : Linked one.0 l.field.now l.place l.reader
+    link_is =
+        let at : IsActivated ghosts device_card device_tag l.field.now place (waiting made.code) =
+        subst (λ n. IsActivated ghosts device_card device_tag l.field.now n (waiting made.code)) there made.activated in
+        let linked : Linked one.0 l.field.now place (waiting made.code) = is_linked old l.field.now place one.0 one.1 one.2 (waits.Asking 0 []) made.sent made.code made.lit at in
+        subst (λ n. Linked one.0 l.field.now n l.reader) (sym there) (subst (λ i. Linked one.0 l.field.now place i) (sym made.reader) linked)
+
+    linked_ends : (new : Air Device) (answer : Answer) → ReadsOn (moment l.field.now) (moment new) one.0 l.reader answer → Reads (moment old) (moment new) one.0 answer
+    linked_ends new answer r =
+        reads_linked old l.field.now place one.0 one.1 one.2 new made.code made.sent made.tells answer
+        (subst (λ i. ReadsOn (moment l.field.now) (moment new) one.0 i answer) made.reader r)
 
     -- the field is given back as the link left it
-    pub ends_linked : RatsEnds ghosts device_card device_tag old mid place (Ok code) → (left new : Air Device) → left ≡ new → (result : Result Answer AllocError)
-        → IfOk result (λ answer. (e : Device) → Linked e link at reader → ReadsOn (moment link) (moment left) e reader answer)
+    pub ends_linked : (left new : Air Device) → left ≡ new → (result : Result Answer AllocError)
+        → IfOk result (λ answer. (e : Device) → Linked e l.field.now l.place l.reader → ReadsOn (moment l.field.now) (moment left) e l.reader answer)
         → IfOk result (λ answer. (e : Device) → Stands (moment old) place e → Reads (moment old) (moment new) e answer)
-    ends_linked ends left new back (Err e) told = tt
-    ends_linked ends left new back (Ok answer) told =
-        let reads : Reads (moment old) (moment left) one.0 answer = linked_ends ends left answer (told one.0 (link_is ends)) in
+    ends_linked left new back (Err e) told = tt
+    ends_linked left new back (Ok answer) told =
+        let reads : Reads (moment old) (moment left) one.0 answer = linked_ends left answer (told one.0 link_is) in
         of_any new answer (subst (λ a. Reads (moment old) (moment a) one.0 answer) back reads)
 
-  pub ends_unanswered : (fault : AskFault) (result : Result Answer AllocError) → RatsEnds ghosts device_card device_tag old mid place (Err fault)
-      → IfOk result (λ answer. unanswered_by fault ≡ Some answer) → IfOk result (λ answer. (e : Device) → Stands (moment old) place e → Reads (moment old) (moment mid) e answer)
-  ends_unanswered fault (Err e) ends told = tt
-  ends_unanswered fault (Ok answer) ends told = of_any mid answer (reads_unanswered old mid place one.0 one.1 one.2 fault answer ends told)
+  -- No link was given.
+  module _ {R : Type 0} (new : Air Device) (given : Result R AskFault) (fault : AskFault) (failed : given ≡ Err fault)
+      (rests : OnErr given (IfErr given (λ e. Activates ghosts device_card device_tag old new place (Err e)))) where
+    refused : RatsEnds ghosts device_card device_tag old new place (Err fault)
+    refused = subst (λ r. OnErr r (IfErr r (λ e. Activates ghosts device_card device_tag old new place (Err e)))) failed rests fresh_tag
 
--- why RATS wasn't answered
-pub may_fail : (old new : Air Device) (place : ℕ) (fault : AskFault) → RatsEnds ghosts device_card device_tag old new place (Err fault) → MayFail fault
-may_fail old new place asking.FieldLost ends = inl refl
-may_fail old new place asking.SixBad ends = inl refl
-may_fail old new place asking.Memory ends = inr refl
-may_fail old new place asking.Protocol ends = absurd ends
+    pub may_fail : MayFail fault
+    may_fail = rats_may_fail old new place fault refused
+
+    pub ends_unanswered : (result : Result Answer AllocError) → IfOk result (λ answer. unanswered_by fault ≡ Some answer)
+        → IfOk result (λ answer. (e : Device) → Stands (moment old) place e → Reads (moment old) (moment new) e answer)
+    ends_unanswered (Err e) told = tt
+    ends_unanswered (Ok answer) told = of_any new answer (reads_unanswered old new place one.0 one.1 one.2 fault answer refused told)

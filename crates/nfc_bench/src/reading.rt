@@ -10,7 +10,7 @@ ghost use Rattle.nfc_bench.specs.Linking.{IsPlainHow, Linked, ReadsOn, unanswere
 use crate::device::Device;
 use crate::entry::Answer;
 use air_core::{Field, PlainLink};
-use isodep_link::{IsoLink, activate_card};
+use isodep_link::IsoLink;
 use nfc_base::AskFault;
 use std::alloc::{AllocError, Global};
 use tag_reader::{Found, How, ReadFault};
@@ -58,11 +58,8 @@ fn read_card(alloc: Global, field: &mut Field<Device>, place: usize) -> Result<A
     requires { (d : Placed) × Stands (moment field.old) place d × (how_of d ≡ How.T4) }
     ensures { IfOk result (λ answer. (d : Placed) → Stands (moment field.old) place d → Reads (moment field.old) (moment field.new) d answer) }
 {
-    match activate_card(field, place) {
-        Ok(code) => {
-            let mut link = IsoLink::on(field, place, code);
-            read_linked(alloc, &mut link)
-        }
+    match IsoLink::activate(field, place) {
+        Ok(mut link) => read_linked(alloc, &mut link),
         Err(fault) => unanswered(fault),
     }
 }
