@@ -4,9 +4,11 @@ use Rattle.std.proofs.lemmas.List.{length-append, map-append}
 use Rattle.nfc_base.specs.Signal.{Signal}
 use Rattle.nfc_base.specs.declared.tag_link.AskFault.{AskFault}
 use Rattle.nfc_base.specs.declared.event.Event.{Event}
-use Rattle.nfc_base.specs.LinkTurns.{bad_receptions}
+use Rattle.nfc_base.specs.LinkTurns.{bads_heard, bad_receptions}
+use Rattle.nfc_base.specs.Trace.{back_of, heard_by}
+use Rattle.nfc_base.specs.Trace as backs
+use Rattle.nfc_base.specs.declared.event.Event.TheVariants.{Reset, Request, Answer, Clash}
 use Rattle.nfc_base.specs.TagLinks.{TagStep, after_all, passed}
-use Rattle.nfc_base.proofs.LinkTurns.{bads_append}
 use Rattle.nfc_base.proofs.Leading.{leads_again, leads_on, passed_on}
 use Rattle.std.proofs.Math.Seq.{drop-append_seam}
 use Rattle.air_core.specs.Following.{last_of, last_passed, follows_on, stores_append}
@@ -14,7 +16,7 @@ use Rattle.air_core.specs.PlainMoving.{events_between}
 use Rattle.air_core.specs.World.{quiet_air}
 use Rattle.air_core.specs.Turn.{Air, world, moment}
 use Rattle.air_core.specs.Conversation.{AirModel, Moment, Note, Lit, Got, Lost, Next, Over, IsDemand, Going}
-use Rattle.air_core.specs.Turning.{going_start, going_then}
+use Rattle.air_core.specs.Turning.{back_of-append, going_start, going_then}
 use Rattle.air_core.specs.PlainLinks.{unanswered, Follows, stores_after}
 use Rattle.air_core.specs.declared.listener.Listener.{Ghosts}
 use Rattle.isodep_link.specs.declared.reader.ReaderStep.{ReaderStep}
@@ -100,6 +102,17 @@ sent_append out back step s (c ∷ cs) ys =
   where
     plus_assoc : (n p q r : ℕ) → p ≡ q + r → n + p ≡ n + q + r
     plus_assoc n p q r e = omega (arith, e)
+
+-- the bad receptions of two stretches
+bads_append : (xs ys : List Event) → back_of ys ≡ backs.Nothing → bad_receptions (xs ++ ys) ≡ bad_receptions xs + bad_receptions ys
+bads_append [] ys h = omega arith
+bads_append (Reset ∷ xs) ys h = bads_append xs ys h
+bads_append (Request f x ∷ xs) ys h =
+    let e : bad_receptions (xs ++ ys) ≡ bad_receptions xs + bad_receptions ys = bads_append xs ys h in
+    let k : bads_heard (heard_by x (back_of (xs ++ ys))) ≡ bads_heard (heard_by x (back_of xs)) = ap (λ b. bads_heard (heard_by x b)) (back_of-append xs ys h) in
+    omega (arith, e, k)
+bads_append (Answer g x ∷ xs) ys h = bads_append xs ys h
+bads_append (Clash g x ∷ xs) ys h = bads_append xs ys h
 
 -- bounds of two stretches
 sums : (n n1 n2 m m1 m2 b b1 b2 : ℕ) → n ≡ n1 + n2 → m ≡ m1 + m2 → b ≡ b1 + b2 → n1 ≤ m1 + 4 * b1 → n2 ≤ m2 + 4 * b2 → n ≤ m + 4 * b

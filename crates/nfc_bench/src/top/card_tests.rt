@@ -34,6 +34,45 @@ fn frames_of_a_reading(rt: HostRuntime) -> Result<(), Fail> {
     Ok(())
 }
 
+/// A capability container, how the NDEF file begins, and the answer of a read.
+const READS: [(&str, &str, &str); 8] = [
+    (
+        "000F30003B000D0406E104002000FF",
+        "0003D00000",
+        "message D00000 readonly",
+    ),
+    ("000F20003B000D0406E10400020000", "-", "message - writable"),
+    ("000F20003B000D0506E10400200000", "-", "not ndef"),
+    ("000F10003B000D0406E10400200000", "-", "version"),
+    ("000F20003B000D0406E10400208000", "-", "no read"),
+    ("000F20000E000D0406E10400200000", "-", "bad size"),
+    ("000F20003B000D0406E10400010000", "-", "bad size"),
+    ("000F20003B000D0406E10400020000", "0001", "bad tlv"),
+];
+
+#[test]
+fn what_type_4_tags_hold(rt: HostRuntime) -> Result<(), Fail> {
+    let alloc = rt.alloc();
+    for (container, file, answer) in READS {
+        let mut script = String::from_str(alloc, "place t4 01020304 8 ")?;
+        script.push_str(container)?;
+        script.push_str(" ")?;
+        script.push_str(file)?;
+        script.push_str("\nread 01020304")?;
+        let mut wanted = String::from_str(alloc, "1 ok\n2 ")?;
+        wanted.push_str(answer)?;
+        wanted.push_str("\n")?;
+        let (status, written) = report(alloc, "run quiet", script.as_str())?;
+        assert_eq!(rt; status, 0, "{container} {file}");
+        assert_eq!(rt;
+            str::from_utf8(&written)?,
+            wanted.as_str(),
+            "{container} {file}"
+        );
+    }
+    Ok(())
+}
+
 /// What a script shows, its lines, and its answers.
 const ANSWERS: [(&str, &str, &str); 6] = [
     (
