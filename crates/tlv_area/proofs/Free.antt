@@ -1,10 +1,11 @@
 -- Free addresses.
-use Rattle.std.proofs.Common.{◌≡◌, ℕ, suc, zero, ◌+◌, ◌-◌, ◌≤◌, Bool, true, false, cond, [], ◌∷◌, ◌++◌, length, not, refl, ◌∙◌, ap, arith}
+use Rattle.std.proofs.Common.{◌≡◌, ℕ, suc, zero, ◌+◌, ◌-◌, ◌≤◌, Bool, true, false, cond, List, [], ◌∷◌, ◌++◌, length, not, refl, ◌∙◌, ap, arith}
 use Rattle.std.specs.Prelude.{filter}
 use Rattle.std.specs.List.{range_with_len}
 use Rattle.std.proofs.lemmas.List.{length-append}
 use Rattle.std.proofs.lemmas.List.Elements.{filter-append}
 use Rattle.tlv_area.specs.Layout.{free}
+use Rattle.tlv_area.specs.Map.{in_ranges}
 
 pub range-add : (a m n : ℕ) → range_with_len a (m + n) ≡ range_with_len a m ++ range_with_len (a + m) n
 range-add a zero n = grind arith
@@ -44,6 +45,10 @@ length-free_open r at m low taken =
     omega (arith, length-free_more r at m low)
 
 -- where nothing is reserved
+pub nothing_reserved : (rs : List (ℕ × ℕ)) → length rs ≡ 0 → (a : ℕ) → in_ranges rs a ≡ false
+nothing_reserved [] e a = refl
+nothing_reserved (r ∷ rs) e a = absurd (omega arith)
+
 range_open : (r : ℕ → Bool) (a n : ℕ) → ((b : ℕ) → r b ≡ false) → length (filter (λ b. not (r b)) (range_with_len a n)) ≡ n
 range_open r a zero none = refl
 range_open r a (suc n) none = rw (none a) (ap suc (range_open r (a + 1) n none))

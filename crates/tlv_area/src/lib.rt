@@ -12,12 +12,14 @@ mod control;
 mod form;
 mod message;
 mod ranges;
+mod room;
 mod space;
 mod walk;
 
 pub use container::{ContainerFault, FileMap, container_t2, container_t4, container_t5};
 pub use form::{one_form, one_form_t2, one_form_t5};
 pub use message::message_byte;
+pub use room::capacity;
 pub use space::{AreaMap, Space};
 pub use walk::{Walk, find_message};
 

@@ -1,6 +1,6 @@
 //! Addresses that control TLVs reserve.
 
-ghost use Rattle.std.specs.Prelude.{◌≡◌, ◌<◌, ◌≤◌, length, IfSome, IfNone};
+ghost use Rattle.std.specs.Prelude.{◌≡◌, ◌-◌, ◌<◌, ◌≤◌, length, IfSome, IfNone};
 ghost use Rattle.tlv_area.specs.Layout.{free};
 ghost use Rattle.tlv_area.specs.Map.{in_ranges};
 ghost use Rattle.tlv_area.specs.Reading.{IsPast};
@@ -37,4 +37,22 @@ pub fn past(reserved: &[(u32, u32)], at: u32, end: u32, count: u32) -> Option<u3
         address += 1;
     }
     Some(address)
+}
+
+/// How many addresses are free from `at` on. Where nothing is reserved it looks at none of them.
+pub fn count_free(reserved: &[(u32, u32)], at: u32, end: u32) -> u32
+    requires { at ≤ end }
+    ensures count { result ≡ length (free (in_ranges reserved.now) at end) }
+    ensures bound { result ≤ end - at }
+{
+    if reserved.is_empty() {
+        return end - at;
+    }
+    let mut count = 0;
+    for address in at..end {
+        if !is_reserved(reserved, address) {
+            count += 1;
+        }
+    }
+    count
 }

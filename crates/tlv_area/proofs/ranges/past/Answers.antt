@@ -1,7 +1,7 @@
 use Rattle.std.proofs.Common.{◌≡◌, ℕ, ◌+◌, ◌-◌, ◌≤◌, Bool, true, false, arith, sym, ◌∙◌, List, [], ◌∷◌, length, refl}
 use Rattle.std.proofs.lemmas.Bool.{eqb-true}
 use Rattle.tlv_area.specs.Map.{in_ranges}
-use Rattle.tlv_area.proofs.Free.{length-free_taken, length-free_open, length-free_all}
+use Rattle.tlv_area.proofs.Free.{length-free_taken, length-free_open, length-free_all, nothing_reserved}
 use Rattle.tlv_area.proofs.ranges.past.Goals as goal
 use Rattle.tlv_area.proofs.ranges.past.Goals.{then-not-is_reserved, else-not-is_reserved}
 
@@ -37,14 +37,10 @@ loop-left-preserved c =
           })
     ]
 
-nothing : (rs : List (ℕ × ℕ)) → length rs ≡ 0 → (a : ℕ) → in_ranges rs a ≡ false
-nothing [] e a = refl
-nothing (r ∷ rs) e a = absurd (omega arith)
-
 pub returns-then-count-end-clause-none : goal.returns-then-count-end-clause-none
 returns-then-count-end-clause-none c =
     let none : length c.args.reserved.now ≡ 0 = eqb-true (length c.args.reserved.now) 0 (sym c.is_empty.ensures ∙ c.if-is_empty.true) in
-    omega (arith, length-free_all (in_ranges c.args.reserved.now) c.args.at c.args.end (nothing c.args.reserved.now none))
+    omega (arith, length-free_all (in_ranges c.args.reserved.now) c.args.at c.args.end (nothing_reserved c.args.reserved.now none))
 
 pub returns-then-is_empty-clause-some : goal.returns-then-is_empty-clause-some
 returns-then-is_empty-clause-some c =
@@ -52,7 +48,7 @@ returns-then-is_empty-clause-some c =
     record {
       above = omega arith;
       below = omega (arith, c.requires);
-      count = length-free_all (in_ranges c.args.reserved.now) c.args.at (c.args.at + c.args.count) (nothing c.args.reserved.now none) ∙ omega arith;
-      last = λ _. nothing c.args.reserved.now none (c.args.at + c.args.count - 1);
+      count = length-free_all (in_ranges c.args.reserved.now) c.args.at (c.args.at + c.args.count) (nothing_reserved c.args.reserved.now none) ∙ omega arith;
+      last = λ _. nothing_reserved c.args.reserved.now none (c.args.at + c.args.count - 1);
       none = λ e. omega arith;
     }
