@@ -8,3 +8,8 @@ pub mod Fronts
 pub mod Places
 pub mod Cuts
 pub mod CutHeld
+pub mod Blocks
+pub mod Holding
+pub mod Putting
+pub mod Stepping
+pub mod Images

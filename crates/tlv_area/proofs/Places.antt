@@ -25,7 +25,8 @@ nonempty memory t lies = first t.at lies.bytes
     first [] e = cc
     first (x ∷ front) e = (x, front, refl)
 
-drop_past : (front : List ℕ) (x : ℕ) (tail : List ℕ) (n : ℕ) → n ≡ length front → drop (n + 1) (front ++ x ∷ tail) ≡ tail
+-- what lies behind one address more than a list has
+pub drop_past : (front : List ℕ) (x : ℕ) (tail : List ℕ) (n : ℕ) → n ≡ length front → drop (n + 1) (front ++ x ∷ tail) ≡ tail
 drop_past front x tail n is =
     let size : length (front ++ x ∷ []) ≡ n + 1 = omega (arith, length-append front (x ∷ [])) in
     ap (λ cells. drop (n + 1) cells) (sym (append_assoc front (x ∷ []) tail)) ∙ drop_at (front ++ x ∷ []) tail (n + 1) size

@@ -4,4 +4,5 @@ pub mod Form
 pub mod Stores
 pub mod Map
 pub mod Tail
+pub mod Writing
 pub mod Reading

@@ -11,16 +11,21 @@ mod container;
 mod control;
 mod form;
 mod message;
+mod planning;
 mod ranges;
 mod room;
 mod space;
+mod step;
 mod walk;
+mod writing;
 
 pub use container::{ContainerFault, FileMap, container_t2, container_t4, container_t5};
 pub use form::{one_form, one_form_t2, one_form_t5};
 pub use message::message_byte;
+pub use planning::{PlanFault, plan};
 pub use room::capacity;
 pub use space::{AreaMap, Space};
+pub use step::{Plan, Step};
 pub use walk::{Walk, find_message};
 
 #[cfg(test)]

@@ -1,0 +1,80 @@
+-- Blocks of a memory.
+use Rattle.std.proofs.Common.{◌≡◌, ℕ, suc, zero, ◌+◌, ◌-◌, ◌*◌, ◌/◌, ◌<◌, ◌≤◌, Bool, true, false, cond, List, [], ◌∷◌, ◌++◌, not, refl, ◌∙◌, ap, arith, inl, inr, eqb}
+use Rattle.std.specs.Prelude.{◌||◌, ◌&&◌, ◌==◌, filter}
+use Rattle.std.specs.List.{range_with_len}
+use Rattle.std.proofs.Math.Nat.{lt-div-mul-add, mul-le-mul_left}
+use Rattle.std.proofs.lemmas.Nat.{div-mul-add, div-add-mod', le-div}
+use Rattle.std.proofs.lemmas.List.Folds.{list_any-append}
+use Rattle.std.proofs.lemmas.Bool.{cases_Bool, ne_eqb, eq-eqb}
+use Rattle.tlv_area.specs.Layout.{free}
+use Rattle.tlv_area.specs.Writing.{touches, blocks_touched, blocks_below}
+use Rattle.tlv_area.proofs.Free.{free_split, free_at, range-add}
+use Rattle.std.proofs.lemmas.List.Elements.{filter-append}
+
+pub block_is : (size k a : ℕ) → k * size ≤ a → a < k * size + size → a / size ≡ k
+block_is size k a low high =
+    let b : ℕ = a - k * size in
+    let e : a ≡ k * size + b = omega arith in
+    ap (λ n. n / size) e ∙ div-mul-add k size b (omega arith)
+
+pub block_bounds : (size a : ℕ) → 0 < size → (a / size * size ≤ a) × (a < a / size * size + size)
+block_bounds size a some = (omega (arith, div-add-mod' a size), lt-div-mul-add some)
+
+pub touched_at : (r : ℕ → Bool) (from to a size k : ℕ) → from ≤ a → a < to → r a ≡ false → a / size ≡ k → touches size (free r from to) k ≡ true
+touched_at r from to a size k low high open_cell block =
+    let one : free r a (a + 1) ≡ a ∷ [] = free_at r a ∙ ap (λ b. cond (not b) (a ∷ []) []) open_cell in
+    let here : touches size (free r a (a + 1)) k ≡ true = ap (λ c. touches size c k) one ∙ ap (λ v. v || false) (eq-eqb (a / size) k block) in
+    ap (λ c. touches size c k) (free_split r from a to low (omega arith))
+    ∙ list_any-append (λ b. b / size == k) (free r from a) (free r a to)
+    ∙ ap (λ c. touches size (free r from a) k || touches size c k) (free_split r a (a + 1) to (omega arith) (omega arith))
+    ∙ ap (λ v. touches size (free r from a) k || v) (list_any-append (λ b. b / size == k) (free r a (a + 1)) (free r (a + 1) to) ∙ ap (λ v. v || touches size (free r (a + 1) to) k) here)
+    ∙ or_true (touches size (free r from a) k)
+  where
+    or_true : (x : Bool) → (x || true) ≡ true
+    or_true true = refl
+    or_true false = refl
+
+untouched_range : (r : ℕ → Bool) (a n size k : ℕ) → ((b : ℕ) → a ≤ b → b < a + n → r b ≡ false → b / size ≡ k → ⊥) →
+    touches size (filter (λ b. not (r b)) (range_with_len a n)) k ≡ false
+untouched_range r a zero size k none = refl
+untouched_range r a (suc n) size k none =
+    let rest = untouched_range r (a + 1) n size k (λ b low high. none b (omega arith) (omega arith)) in
+    elim (cases_Bool (r a)) [
+      | inl taken ↦ rw taken rest
+      | inr open_cell ↦ (let other : eqb (a / size) k ≡ false = ne_eqb (a / size) k (none a (omega arith) (omega arith) open_cell) in rw (open_cell, other) rest)
+    ]
+
+pub untouched : (r : ℕ → Bool) (from to size k : ℕ) → ((b : ℕ) → from ≤ b → b < to → r b ≡ false → b / size ≡ k → ⊥) →
+    touches size (free r from to) k ≡ false
+untouched r from to size k none = untouched_range r from (to - from) size k (λ b low high. none b low (omega arith))
+
+pub blocks_more : (size : ℕ) (cells : List ℕ) (h n : ℕ) →
+    blocks_touched size cells h (n + 1) ≡ blocks_touched size cells h n ++ cond (not (n == h) && touches size cells n) (n ∷ []) []
+blocks_more size cells h n =
+    let base : 0 + n ≡ n = omega arith in
+    let last : range_with_len (0 + n) 1 ≡ n ∷ [] = ap (λ b. range_with_len b 1) base in
+    ap (λ c. filter (λ k. not (k == h) && touches size cells k) c) (range-add 0 n 1 ∙ ap (λ c. range_with_len 0 n ++ c) last)
+    ∙ filter-append (λ k. not (k == h) && touches size cells k) (range_with_len 0 n) (n ∷ [])
+
+-- the block of an address before the end is whole among the blocks up to the end
+pub block_within : (a end size : ℕ) → 0 < size → a < end → size * (a / size) + size ≤ size * blocks_below size end
+block_within a end size some below =
+    let q : ℕ = a / size in
+    let bounds = block_bounds size a some in
+    let product : (q + 1) * size ≡ q * size + size = omega arith in
+    let inside : (q + 1) * size ≤ end + size - 1 = omega (arith, bounds.0, product) in
+    let more : q + 1 ≤ (end + size - 1) / size = le-div (q + 1) (end + size - 1) size some inside in
+    let turned : size * (q + 1) ≡ size * q + size = omega arith in
+    omega (arith, turned, mul-le-mul_left size more)
+
+-- the blocks up to the end are whole where that of the last address is
+pub blocks_within : (end size room : ℕ) → 0 < size → 0 < end → size * ((end - 1) / size) + size ≤ room → size * blocks_below size end ≤ room
+blocks_within end size room some none last =
+    let q : ℕ = (end - 1) / size in
+    let b : ℕ = end - 1 - q * size in
+    let bounds = block_bounds size (end - 1) some in
+    let e : end + size - 1 ≡ (q + 1) * size + b = omega (arith, bounds.0) in
+    let count : blocks_below size end ≡ q + 1 = ap (λ n. n / size) e ∙ div-mul-add (q + 1) size b (omega (arith, bounds.1)) in
+    let turned : size * (q + 1) ≡ size * q + size = omega arith in
+    let product : size * blocks_below size end ≡ size * (q + 1) = ap (λ n. size * n) count in
+    omega (arith, turned, product, last)

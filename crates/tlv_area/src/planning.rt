@@ -1,0 +1,155 @@
+//! The plan of a message: which blocks are written for it, in which order.
+
+ghost use Rattle.std.specs.Prelude.{◌≡◌, ◌+◌, ◌*◌, ◌^◌, ◌<◌, ◌≤◌, ◌↔◌, ◌&&◌, ◌==◌, not, length, map as list_map, IfOk, OnOk, IsErrOf};
+ghost use Rattle.tlv_area.specs.declared.planning.PlanFault.{PlanFault};
+ghost use Rattle.tlv_area.specs.declared.planning.PlanFault.TheVariants.{TooLong, Memory};
+ghost use Rattle.tlv_area.specs.Layout.{free};
+ghost use Rattle.tlv_area.specs.Map.{in_ranges, IsPlaced};
+ghost use Rattle.tlv_area.specs.Tail.{map_room, capacity_of};
+ghost use Rattle.tlv_area.specs.Writing.{HasBlocks, blocks_below, touches, blocks_touched, write_of, block_in, GivesPlan, KeepsPlan, plan_fault_number};
+
+use crate::ranges::{count_free, is_reserved};
+use crate::room::capacity;
+use crate::space::AreaMap;
+use crate::step::{Plan, Step, block_step, closing_step};
+use crate::writing::{length_place, new_bytes, new_store, span_end, tail_start};
+use nfc_base::Items;
+use std::alloc::{AllocError, Global};
+use thiserror::Error;
+
+/// Why there is no plan of a message. The numbers are this project's own.
+#[derive(Clone, Copy, Debug, PartialEq, Eq, Error)]
+pub enum PlanFault {
+    #[error("the message is longer than its place")]
+    TooLong = 1,
+    #[error("out of memory")]
+    Memory = 2,
+}
+
+impl PlanFault {
+    /// Its number in reports and tests.
+    pub fn number(&self) -> u8
+        ensures { result ≡ plan_fault_number self.now }
+    {
+        *self as u8
+    }
+}
+
+impl From<AllocError> for PlanFault {
+    ghost from_gives = { λ _ e. e ≡ Memory };
+
+    fn from(_error: AllocError) -> PlanFault {
+        PlanFault::Memory
+    }
+}
+
+/// Whether a block has a free address between two.
+fn is_touched(reserved: &[(u32, u32)], from: u32, to: u32, block: u32, size: u32) -> bool
+    requires some { 0 < size }
+    requires order { from ≤ to }
+    requires fits { block * size + size < 2 ^ 32 }
+    ensures { result ≡ touches size (free (in_ranges reserved.now) from to) block }
+{
+    for address in block * size..block * size + size {
+        if from <= address && address < to && !is_reserved(reserved, address) {
+            return true;
+        }
+    }
+    false
+}
+
+/// Whether a block other than `home` has a free address between two.
+fn is_filled(reserved: &[(u32, u32)], from: u32, to: u32, home: u32, block: u32, size: u32) -> bool
+    requires some { 0 < size }
+    requires order { from ≤ to }
+    requires fits { block * size + size < 2 ^ 32 }
+    ensures { result ≡ (not (block == home) && touches size (free (in_ranges reserved.now) from to) block) }
+{
+    block != home && is_touched(reserved, from, to, block, size)
+}
+
+/// The blocks other than `home` with a free address between two, as a store has them, ascending.
+fn fill_steps(
+    alloc: Global,
+    map: &AreaMap,
+    store: &[u8],
+    from: u32,
+    to: u32,
+    home: u32,
+    size: u32,
+) -> Result<Vec<Step>, AllocError>
+    requires order { from ≤ to }
+    requires some { 0 < size }
+    requires small { size ≤ 32 }
+    requires end { map.now.space.end ≤ 65536 * size }
+    requires within { size * blocks_below size map.now.space.end ≤ length store.now }
+    ensures { IfOk result (λ v. list_map write_of v.items
+        ≡ list_map (λ k. block_in size store.now k)
+        (blocks_touched size (free (in_ranges map.now.reserved.items) from to) home (blocks_below size map.now.space.end))) }
+{
+    let count = (map.space.end as u64 + size as u64 - 1) / size as u64;
+    let mut fill = Vec::new(alloc);
+    for block in 0..count as u32 {
+        if is_filled(map.reserved.as_slice(), from, to, home, block, size) {
+            fill.push(block_step(store, block, size))?;
+        }
+    }
+    Ok(fill)
+}
+
+/// The plan, over a store with so many whole blocks.
+fn plan_steps(
+    alloc: Global,
+    map: &AreaMap,
+    store: &[u8],
+    block: u32,
+    message: &[u8],
+) -> Result<Plan, PlanFault>
+    requires placed { IsPlaced map.now }
+    requires some { 0 < block }
+    requires small { block ≤ 32 }
+    requires end { map.now.space.end ≤ 65536 * block }
+    requires within { block * blocks_below block map.now.space.end ≤ length store.now }
+    ensures plan { IfOk result (λ p. GivesPlan block map.now store.now message.now p) }
+    ensures fits { OnOk result (length message.now ≤ capacity_of (map_room map.now)) }
+    ensures too_long { IsErrOf result TooLong ↔ (capacity_of (map_room map.now) < length message.now) }
+{
+    if message.len() > capacity(map) as usize {
+        return Err(PlanFault::TooLong);
+    }
+    let tail = tail_start(map);
+    let room = count_free(map.reserved.as_slice(), tail, map.space.end);
+    let owned = new_bytes(alloc, message, room)?;
+    let bytes = owned.as_slice();
+    let new = new_store(alloc, map, store, tail, bytes)?;
+    let to = span_end(map, tail, bytes.len() as u32);
+    let place = length_place(map, tail);
+    let home = place / block;
+    let fill = fill_steps(alloc, map, new.as_slice(), tail, to, home, block)?;
+    Ok(Plan {
+        close: closing_step(store, place, block),
+        fill: Items::new(fill),
+        last: block_step(new.as_slice(), home, block),
+    })
+}
+
+/// The plan of a message in the place of the one that is there, over blocks of a size of 4, 8, 16 or 32 bytes.
+pub fn plan(
+    alloc: Global,
+    map: &AreaMap,
+    store: &[u8],
+    block: u32,
+    message: &[u8],
+) -> Result<Plan, PlanFault>
+    requires placed { IsPlaced map.now }
+    requires some { 0 < block }
+    requires small { block ≤ 32 }
+    requires end { map.now.space.end ≤ 65536 * block }
+    requires within { HasBlocks block map.now.space store.now }
+    ensures plan { IfOk result (λ p. GivesPlan block map.now store.now message.now p) }
+    // of a store with this map: each step but the last leaves the empty message, the last the new one, and all else stays
+    ensures keeps { IfOk result (λ p. KeepsPlan block map.now store.now message.now p) }
+    ensures too_long { IsErrOf result TooLong ↔ (capacity_of (map_room map.now) < length message.now) }
+{
+    plan_steps(alloc, map, store, block, message)
+}

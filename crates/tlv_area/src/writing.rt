@@ -1,0 +1,143 @@
+//! The store that has a message in the place of another.
+
+ghost use Rattle.std.specs.Prelude.{◌≡◌, ◌<◌, ◌≤◌, ◌++◌, [], ◌∷◌, length, nat_lt, if◌then◌else◌, take, slice_index, IfOk, OnOk};
+ghost use Rattle.tlv_area.specs.Layout.{free, length_bytes, terminator};
+ghost use Rattle.tlv_area.specs.Map.{in_ranges, IsPlaced};
+ghost use Rattle.tlv_area.specs.Tail.{map_tail, written};
+ghost use Rattle.tlv_area.specs.Writing.{IsPut};
+
+use crate::ranges::{is_reserved, past};
+use crate::room::LONGEST_SHORT;
+use crate::space::AreaMap;
+use std::alloc::{AllocError, Global};
+
+/// The first byte of a length that has three.
+const LONG_MARK: u8 = 0xFF;
+
+/// The TLV that ends an area.
+const TERMINATOR: u8 = 0xFE;
+
+/// Adds the bytes of a length, in the shortest form.
+fn push_length(bytes: &mut Vec<u8>, length: usize) -> Result<(), AllocError>
+    requires { length < 65535 }
+    ensures { OnOk result (bytes.new.items ≡ bytes.old.items ++ length_bytes (nat_lt 254 length) length) }
+{
+    if length <= LONGEST_SHORT as usize {
+        bytes.push(length as u8)?;
+        return Ok(());
+    }
+    bytes.push(LONG_MARK)?;
+    bytes.push((length / 256) as u8)?;
+    bytes.push((length % 256) as u8)?;
+    Ok(())
+}
+
+/// Adds a terminator where a byte is left.
+fn push_terminator(bytes: &mut Vec<u8>, room: u32) -> Result<(), AllocError>
+    ensures { OnOk result (bytes.new.items ≡ bytes.old.items ++ (if nat_lt (length bytes.old.items) room then terminator ∷ [] else [])) }
+{
+    if bytes.len() < room as usize {
+        bytes.push(TERMINATOR)?;
+    }
+    Ok(())
+}
+
+/// What a message has written from the second byte of its TLV on, where so many addresses are free.
+pub fn new_bytes(alloc: Global, message: &[u8], room: u32) -> Result<Vec<u8>, AllocError>
+    requires { length message.now < 65535 }
+    ensures { IfOk result (λ v. v.items ≡ written room message.now) }
+{
+    let mut bytes = Vec::new(alloc);
+    push_length(&mut bytes, message.len())?;
+    bytes.extend_from_slice(message)?;
+    push_terminator(&mut bytes, room)?;
+    Ok(bytes)
+}
+
+/// The address from which on the free ones are those of the message's TLV from its second byte on.
+pub fn tail_start(map: &AreaMap) -> u32
+    requires { IsPlaced map.now }
+    ensures tail { free (in_ranges map.now.reserved.items) result map.now.space.end ≡ map_tail map.now }
+    ensures low { map.now.space.start ≤ result }
+    ensures high { result ≤ map.now.space.end }
+{
+    let end = map.space.end;
+    match past(map.reserved.as_slice(), map.space.start, end, map.tlv + 1) {
+        Some(past) => past,
+        None => end,
+    }
+}
+
+/// The address just past the first `count` free ones of a tail, or the area's end where it hasn't that many.
+pub fn span_end(map: &AreaMap, tail: u32, count: u32) -> u32
+    requires { tail ≤ map.now.space.end }
+    ensures span { free (in_ranges map.now.reserved.items) tail result
+        ≡ take count (free (in_ranges map.now.reserved.items) tail map.now.space.end) }
+    ensures low { tail ≤ result }
+    ensures high { result ≤ map.now.space.end }
+{
+    match past(map.reserved.as_slice(), tail, map.space.end, count) {
+        Some(past) => past,
+        None => map.space.end,
+    }
+}
+
+/// The address of the length's first byte, which is the first free one of the tail.
+pub fn length_place(map: &AreaMap, tail: u32) -> u32
+    requires placed { IsPlaced map.now }
+    requires low { map.now.space.start ≤ tail }
+    requires order { tail ≤ map.now.space.end }
+    requires tail { free (in_ranges map.now.reserved.items) tail map.now.space.end ≡ map_tail map.now }
+    ensures place { result ≡ slice_index (map_tail map.now) 0 }
+    ensures low { map.now.space.start ≤ result }
+    ensures high { result < map.now.space.end }
+{
+    match past(map.reserved.as_slice(), tail, map.space.end, 1) {
+        Some(past) => past - 1,
+        None => 0,
+    }
+}
+
+/// Writes bytes at the free addresses from `at` on.
+fn put(memory: &mut [u8], reserved: &[(u32, u32)], at: u32, end: u32, bytes: &[u8])
+    requires order { at ≤ end }
+    requires within { end ≤ length memory.old }
+    requires fits { length bytes.now ≤ length (free (in_ranges reserved.now) at end) }
+    ensures { IsPut (take (length bytes.now) (free (in_ranges reserved.now) at end)) memory.old memory.new bytes.now }
+{
+    let mut index = 0;
+    for address in at..end {
+        if index == bytes.len() {
+            return;
+        }
+        if !is_reserved(reserved, address) {
+            memory[address as usize] = bytes[index];
+            index += 1;
+        }
+    }
+}
+
+/// The store with bytes written at the free addresses from `at` on.
+pub fn new_store(
+    alloc: Global,
+    map: &AreaMap,
+    store: &[u8],
+    at: u32,
+    bytes: &[u8],
+) -> Result<Vec<u8>, AllocError>
+    requires order { at ≤ map.now.space.end }
+    requires within { map.now.space.end ≤ length store.now }
+    requires fits { length bytes.now ≤ length (free (in_ranges map.now.reserved.items) at map.now.space.end) }
+    ensures { IfOk result (λ v. IsPut (take (length bytes.now) (free (in_ranges map.now.reserved.items) at map.now.space.end))
+        store.now v.items bytes.now) }
+{
+    let mut new = Vec::from_slice(alloc, store)?;
+    put(
+        new.as_mut_slice(),
+        map.reserved.as_slice(),
+        at,
+        map.space.end,
+        bytes,
+    );
+    Ok(new)
+}
