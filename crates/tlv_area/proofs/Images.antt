@@ -1,6 +1,6 @@
 -- What a plan's steps leave.
 use Rattle.std.proofs.Common.{◌≡◌, ℕ, suc, zero, ◌+◌, ◌-◌, ◌*◌, ◌/◌, ◌%◌, ◌<◌, ◌≤◌, Bool, true, false, cond, List, [], ◌∷◌, ◌++◌, length, not, refl, sym, ◌∙◌, ap, arith, subst, take, drop, map, inl, inr, eqb, ltb, leb, set}
-use Rattle.std.specs.Prelude.{slice_index, ◌||◌, ◌&&◌, ◌==◌, nat_lt, filter, min}
+use Rattle.std.specs.Prelude.{slice_index, ◌||◌, ◌&&◌, ◌==◌, nat_lt, nat_le, filter, min}
 use Rattle.std.specs.List.{range_with_len, list_any, list_all, flat_map, AllByRecursion}
 use Rattle.std.proofs.Math.Nat.{mul-le-mul_right, min-le_left, min-le_right}
 use Rattle.std.proofs.lemmas.List.{length-append, length-drop, length-set, get_or-set_same, get_or-set_other, take-append-drop, take-map, take-take, take_at, ext_get_or}
@@ -19,6 +19,7 @@ use Rattle.tlv_area.specs.Writing.{is_in, SameOutside, IsNew, blocks_below, fill
 use Rattle.tlv_area.proofs.Steps.{free_below}
 use Rattle.tlv_area.proofs.Places.{message_fits, map_parts, tail_same}
 use Rattle.tlv_area.proofs.Holding.{tail_holds, apart}
+use Rattle.tlv_area.proofs.OneForm.{range_above}
 use Rattle.tlv_area.proofs.Blocks.{block_bounds, block_within}
 use Rattle.tlv_area.proofs.Stepping.{Writes, written_block, steps_write, After, steps_leave, after_append, or_false, length-with_block, block_inside, block_other, block_of-at, block_of-size}
 
@@ -417,6 +418,16 @@ module _ (size : ℕ) (m : AreaMap) (old message new : List ℕ) (plan' : Plan) 
       not_true true e = cc
       not_true false e = refl
 
+  span_in_area : (a : ℕ) → is_in (span (map_tail m) message) a ≡ true → (m.space.start ≤ a) × (a < m.space.end)
+  span_in_area a there =
+      let in_tail : is_in (map_tail m) a ≡ true = elim (cases_Bool (is_in (map_tail m) a)) [
+        | inl e ↦ e
+        | inr absent ↦ (let clash : true ≡ false = sym there ∙ span_in_tail a absent in cc)
+      ] in
+      let above = range_above (in_ranges m.reserved.items) m.space.start m.space.start (m.space.end - m.space.start) (omega arith) in
+      let low = all_in (λ b. nat_le m.space.start b) (map_tail m) a (all_drop (λ b. nat_le m.space.start b) (m.tlv + 1) (map_cells m) above) in_tail in
+      (leb-true m.space.start a low, tail_below a in_tail)
+
   reserved_apart : (a : ℕ) → reserved_by m.space.control ts a ≡ true → is_in (span (map_tail m) message) a ≡ false
   reserved_apart a taken = span_in_tail a (elim (cases_Bool (is_in (map_tail m) a)) [
     | inr absent ↦ absent
@@ -445,6 +456,7 @@ module _ (size : ℕ) (m : AreaMap) (old message new : List ℕ) (plan' : Plan) 
     new = subst (λ s. IsNew (map_tail m) old message s) (sym all_is) new_is;
     holds = subst (λ s. Holds m.space s message) (sym all_is) new_holds;
     outside = outside_span;
+    inside = span_in_area;
     reserved = reserved_apart;
     others = others_apart;
     whole = all_steps;

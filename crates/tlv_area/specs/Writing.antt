@@ -100,12 +100,14 @@ pub record IsWhole (size : ℕ) (store : List ℕ) (s : Step) : Type 0 where
 
 -- What a plan does to a store that holds a message, ts being the TLVs before it and this the tail of its own: after close
 -- and each step of fill it holds the empty message, after last it is the new store, which holds the message. Outside
--- the span all stays as it was; and no reserved address is in the span, and none of the TLVs before the message.
+-- the span all stays as it was. The span lies in the area, and no reserved address is in it, and none of the TLVs before the
+-- message.
 pub record PlanKeeps (size : ℕ) (space : Space) (ts : List Tlv) (tail old message : List ℕ) (plan : Plan) : Type 0 where
   pub empty : (n : ℕ) → IsForm space (image size old plan n) (Message [])
   pub new : IsNew tail old message (after_steps size old (steps_of plan))
   pub holds : IsForm space (after_steps size old (steps_of plan)) (Message message)
   pub outside : (n : ℕ) → SameOutside (span tail message) old (image size old plan n)
+  pub inside : (a : ℕ) → is_in (span tail message) a ≡ true → (space.start ≤ a) × (a < space.end)
   pub reserved : (a : ℕ) → reserved_by space.control ts a ≡ true → is_in (span tail message) a ≡ false
   pub others : (a : ℕ) → is_in (flat_map (λ u. u.at) ts) a ≡ true → is_in (span tail message) a ≡ false
   pub whole : AllByRecursion (IsWhole size old) (steps_of plan)

@@ -29,4 +29,6 @@ pub use step::{Plan, Step};
 pub use walk::{Walk, find_message};
 
 #[cfg(test)]
+mod plan_tests;
+#[cfg(test)]
 mod tests;

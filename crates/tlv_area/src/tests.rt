@@ -17,7 +17,7 @@ enum Holds {
 }
 
 /// A store of so many bytes, 0 but for these from an address on.
-fn store(rt: &HostRuntime, size: usize, at: usize, bytes: &[u8]) -> Result<Vec<u8>, Fail> {
+pub fn store(rt: &HostRuntime, size: usize, at: usize, bytes: &[u8]) -> Result<Vec<u8>, Fail> {
     let mut store = vec![in rt.alloc(); 0u8; size]?;
     for (place, byte) in store.iter_mut().skip(at).zip(bytes) {
         *place = *byte;

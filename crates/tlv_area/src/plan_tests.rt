@@ -1,0 +1,212 @@
+//! Plans of messages on real tags, at the borders of the capacity, and through reserved addresses.
+
+ghost use Rattle.std.specs.Prelude.{◌≡◌, ◌+◌, ◌*◌, ◌<◌, ◌≤◌, length};
+ghost use Rattle.tlv_area.specs.Layout.{IsArea};
+ghost use Rattle.tlv_area.specs.Writing.{HasBlocks};
+
+use crate::tests::store;
+use crate::{Plan, Space, Walk, capacity, find_message, plan};
+use std::test::Fail;
+
+/// What a plan comes to: its steps, each the number of a block and what is written there; or the number of its fault and
+/// the capacity; or that the area holds no message.
+#[derive(Debug, Drop, PartialEq, Eq)]
+enum Planned {
+    Steps(Vec<(u16, Vec<u8>)>),
+    Fault(u8, u32),
+    NoMessage,
+}
+
+fn steps(rt: &HostRuntime, plan: &Plan) -> Result<Vec<(u16, Vec<u8>)>, Fail> {
+    let mut steps = Vec::new(rt.alloc());
+    steps.push((plan.close.block, plan.close.content.to_vec(rt.alloc())?))?;
+    for step in plan.fill.as_slice() {
+        steps.push((step.block, step.content.to_vec(rt.alloc())?))?;
+    }
+    steps.push((plan.last.block, plan.last.content.to_vec(rt.alloc())?))?;
+    Ok(steps)
+}
+
+/// The plan of a message of so many bytes, counting up from the first.
+fn planned(
+    rt: &HostRuntime,
+    space: &Space,
+    store: &[u8],
+    block: u32,
+    count: usize,
+    first: u8,
+) -> Result<Planned, Fail>
+    requires area { IsArea space.now }
+    requires some { 0 < block }
+    requires small { block ≤ 32 }
+    requires end { space.now.end ≤ 65536 * block }
+    requires within { HasBlocks block space.now store.now }
+{
+    let mut message = Vec::new(rt.alloc());
+    let mut byte = first;
+    for _ in 0..count {
+        message.push(byte)?;
+        byte = byte.wrapping_add(1);
+    }
+    let Walk::Held { map } = find_message(space, store) else {
+        return Ok(Planned::NoMessage);
+    };
+    match plan(rt.alloc(), &map, store, block, &message) {
+        Ok(plan) => Ok(Planned::Steps(steps(rt, &plan)?)),
+        Err(fault) => Ok(Planned::Fault(fault.number(), capacity(&map))),
+    }
+}
+
+/// The steps that write these blocks.
+fn blocks(rt: &HostRuntime, rows: &[(u16, &[u8])]) -> Result<Planned, Fail> {
+    let mut steps = Vec::new(rt.alloc());
+    for (block, content) in rows {
+        steps.push((*block, Vec::from_slice(rt.alloc(), content)?))?;
+    }
+    Ok(Planned::Steps(steps))
+}
+
+fn is_step(steps: &[(u16, Vec<u8>)], index: usize, block: u16, content: &[u8]) -> bool {
+    match steps.get(index) {
+        Some(step) => step.0 == block && step.1.as_slice() == content,
+        None => false,
+    }
+}
+
+fn t2_space(end: u32) -> Space
+    ensures { (result.start ≡ 16) × (result.end ≡ end) × (result.control ≡ true) }
+{
+    Space {
+        start: 16,
+        end,
+        control: true,
+        writable: true,
+    }
+}
+
+/// The longest message leaves no room for a terminator.
+#[test]
+fn the_longest_message(rt: HostRuntime) -> Result<(), Fail> {
+    let store = store(&rt, 64, 12, &[0xE1, 0x10, 6, 0, 3, 0, 0xFE])?;
+    let space = t2_space(64);
+    if store.len() == 64 {
+        let Planned::Steps(steps) = planned(&rt, &space, &store, 4, 46, 0)? else {
+            panic!(rt; "no plan");
+        };
+        assert_eq!(rt; steps.len(), 13);
+        assert!(rt; is_step(&steps, 0, 4, &[3, 0, 0xFE, 0]));
+        assert!(rt; is_step(&steps, 1, 5, &[2, 3, 4, 5]));
+        assert!(rt; is_step(&steps, 11, 15, &[42, 43, 44, 45]));
+        assert!(rt; is_step(&steps, 12, 4, &[3, 46, 0, 1]));
+        let long = planned(&rt, &space, &store, 4, 47, 0)?;
+        assert_eq!(rt; long, Planned::Fault(1, 46));
+    }
+    Ok(())
+}
+
+/// A length of three bytes lies in two blocks; the first of them is written first and last.
+#[test]
+fn a_length_over_two_blocks(rt: HostRuntime) -> Result<(), Fail> {
+    let store = store(
+        &rt,
+        280,
+        12,
+        &[
+            0xE1, 0x10, 0x21, 0, 1, 3, 0x90, 0x10, 0x35, 3, 3, 0xD0, 0, 0, 0xFE,
+        ],
+    )?;
+    let space = t2_space(280);
+    if store.len() == 280 {
+        let Planned::Steps(steps) = planned(&rt, &space, &store, 4, 255, 1)? else {
+            panic!(rt; "no plan");
+        };
+        assert_eq!(rt; steps.len(), 66);
+        assert!(rt; is_step(&steps, 0, 5, &[0x35, 3, 0, 0xD0]));
+        assert!(rt; is_step(&steps, 1, 6, &[0xFF, 1, 2, 3]));
+        assert!(rt; is_step(&steps, 64, 69, &[252, 253, 254, 255]));
+        assert!(rt; is_step(&steps, 65, 5, &[0x35, 3, 0xFF, 0]));
+        assert_eq!(rt;
+            planned(&rt, &space, &store, 4, 256, 1)?,
+            Planned::Fault(1, 255)
+        );
+    }
+    Ok(())
+}
+
+/// A memory control TLV reserves the addresses 32 to 35: block 8 is left alone.
+#[test]
+fn reserved_addresses_stay(rt: HostRuntime) -> Result<(), Fail> {
+    let store = store(
+        &rt,
+        64,
+        12,
+        &[
+            0xE1, 0x10, 6, 0, 2, 3, 0x20, 4, 4, 3, 0, 0xFE, 0, 0, 0, 0, 0, 0, 0, 0, 0xAA, 0xBB,
+            0xCC, 0xDD,
+        ],
+    )?;
+    let space = t2_space(64);
+    if store.len() == 64 {
+        let rows: [(u16, &[u8]); 5] = [
+            (5, &[4, 3, 0, 0xFE]),
+            (6, &[2, 3, 4, 5]),
+            (7, &[6, 7, 8, 9]),
+            (9, &[10, 11, 12, 0xFE]),
+            (5, &[4, 3, 12, 1]),
+        ];
+        assert_eq!(rt;
+            planned(&rt, &space, &store, 4, 12, 1)?,
+            blocks(&rt, &rows)?
+        );
+        assert_eq!(rt;
+            planned(&rt, &space, &store, 4, 38, 1)?,
+            Planned::Fault(1, 37)
+        );
+    }
+    Ok(())
+}
+
+/// Blocks of 32 bytes: the message shares one with the container, which stays.
+#[test]
+fn one_block_of_a_type_5_tag(rt: HostRuntime) -> Result<(), Fail> {
+    let held = [0xE1, 0x40, 0x0F, 0, 3, 3, 0xD0, 0, 0, 0xFE];
+    let store = store(&rt, 128, 0, &held)?;
+    let space = Space {
+        start: 4,
+        end: 124,
+        control: false,
+        writable: true,
+    };
+    if store.len() == 128 {
+        let Planned::Steps(steps) = planned(&rt, &space, &store, 32, 2, 0xD1)? else {
+            panic!(rt; "no plan");
+        };
+        assert_eq!(rt; steps.len(), 2);
+        let mut block = [0; 32];
+        let close = [0xE1, 0x40, 0x0F, 0, 3, 0, 0xD0, 0, 0, 0xFE];
+        block[..10].copy_from_slice(&close);
+        assert!(rt; is_step(&steps, 0, 0, &block));
+        let last = [0xE1, 0x40, 0x0F, 0, 3, 2, 0xD1, 0xD2, 0xFE, 0xFE];
+        block[..10].copy_from_slice(&last);
+        assert!(rt; is_step(&steps, 1, 0, &block));
+        assert_eq!(rt;
+            planned(&rt, &space, &store, 32, 119, 0)?,
+            Planned::Fault(1, 118)
+        );
+    }
+    Ok(())
+}
+
+/// An area of a message's TLV alone: its capacity at the borders of the two forms of a length.
+#[test]
+fn capacities(rt: HostRuntime) -> Result<(), Fail> {
+    for (end, most) in [(18, 0), (272, 254), (273, 254), (274, 254), (275, 255)] {
+        let store = store(&rt, 280, 16, &[3, 0])?;
+        let space = t2_space(end);
+        let Walk::Held { map } = find_message(&space, &store) else {
+            panic!(rt; "no message");
+        };
+        assert_eq!(rt; capacity(&map), most, "with {end}");
+    }
+    Ok(())
+}
