@@ -1,6 +1,6 @@
 //! Plans of messages on real tags, at the borders of the capacity, and through reserved addresses.
 
-ghost use Rattle.std.specs.Prelude.{◌≡◌, ◌+◌, ◌*◌, ◌<◌, ◌≤◌, length};
+ghost use Rattle.std.specs.Prelude.{◌≡◌, ◌*◌, ◌<◌, ◌≤◌, true};
 ghost use Rattle.tlv_area.specs.Layout.{IsArea};
 ghost use Rattle.tlv_area.specs.Writing.{HasBlocks};
 
@@ -11,7 +11,7 @@ use std::test::Fail;
 /// What a plan comes to: its steps, each the number of a block and what is written there; or the number of its fault and
 /// the capacity; or that the area holds no message.
 #[derive(Debug, Drop, PartialEq, Eq)]
-enum Planned {
+enum Outcome {
     Steps(Vec<(u16, Vec<u8>)>),
     Fault(u8, u32),
     NoMessage,
@@ -35,7 +35,7 @@ fn planned(
     block: u32,
     count: usize,
     first: u8,
-) -> Result<Planned, Fail>
+) -> Result<Outcome, Fail>
     requires area { IsArea space.now }
     requires some { 0 < block }
     requires small { block ≤ 32 }
@@ -49,21 +49,21 @@ fn planned(
         byte = byte.wrapping_add(1);
     }
     let Walk::Held { map } = find_message(space, store) else {
-        return Ok(Planned::NoMessage);
+        return Ok(Outcome::NoMessage);
     };
     match plan(rt.alloc(), &map, store, block, &message) {
-        Ok(plan) => Ok(Planned::Steps(steps(rt, &plan)?)),
-        Err(fault) => Ok(Planned::Fault(fault.number(), capacity(&map))),
+        Ok(plan) => Ok(Outcome::Steps(steps(rt, &plan)?)),
+        Err(fault) => Ok(Outcome::Fault(fault.number(), capacity(&map))),
     }
 }
 
 /// The steps that write these blocks.
-fn blocks(rt: &HostRuntime, rows: &[(u16, &[u8])]) -> Result<Planned, Fail> {
+fn blocks(rt: &HostRuntime, rows: &[(u16, &[u8])]) -> Result<Outcome, Fail> {
     let mut steps = Vec::new(rt.alloc());
     for (block, content) in rows {
         steps.push((*block, Vec::from_slice(rt.alloc(), content)?))?;
     }
-    Ok(Planned::Steps(steps))
+    Ok(Outcome::Steps(steps))
 }
 
 fn is_step(steps: &[(u16, Vec<u8>)], index: usize, block: u16, content: &[u8]) -> bool {
@@ -90,7 +90,7 @@ fn the_longest_message(rt: HostRuntime) -> Result<(), Fail> {
     let store = store(&rt, 64, 12, &[0xE1, 0x10, 6, 0, 3, 0, 0xFE])?;
     let space = t2_space(64);
     if store.len() == 64 {
-        let Planned::Steps(steps) = planned(&rt, &space, &store, 4, 46, 0)? else {
+        let Outcome::Steps(steps) = planned(&rt, &space, &store, 4, 46, 0)? else {
             panic!(rt; "no plan");
         };
         assert_eq!(rt; steps.len(), 13);
@@ -99,7 +99,7 @@ fn the_longest_message(rt: HostRuntime) -> Result<(), Fail> {
         assert!(rt; is_step(&steps, 11, 15, &[42, 43, 44, 45]));
         assert!(rt; is_step(&steps, 12, 4, &[3, 46, 0, 1]));
         let long = planned(&rt, &space, &store, 4, 47, 0)?;
-        assert_eq!(rt; long, Planned::Fault(1, 46));
+        assert_eq!(rt; long, Outcome::Fault(1, 46));
     }
     Ok(())
 }
@@ -117,7 +117,7 @@ fn a_length_over_two_blocks(rt: HostRuntime) -> Result<(), Fail> {
     )?;
     let space = t2_space(280);
     if store.len() == 280 {
-        let Planned::Steps(steps) = planned(&rt, &space, &store, 4, 255, 1)? else {
+        let Outcome::Steps(steps) = planned(&rt, &space, &store, 4, 255, 1)? else {
             panic!(rt; "no plan");
         };
         assert_eq!(rt; steps.len(), 66);
@@ -127,7 +127,7 @@ fn a_length_over_two_blocks(rt: HostRuntime) -> Result<(), Fail> {
         assert!(rt; is_step(&steps, 65, 5, &[0x35, 3, 0xFF, 0]));
         assert_eq!(rt;
             planned(&rt, &space, &store, 4, 256, 1)?,
-            Planned::Fault(1, 255)
+            Outcome::Fault(1, 255)
         );
     }
     Ok(())
@@ -160,7 +160,7 @@ fn reserved_addresses_stay(rt: HostRuntime) -> Result<(), Fail> {
         );
         assert_eq!(rt;
             planned(&rt, &space, &store, 4, 38, 1)?,
-            Planned::Fault(1, 37)
+            Outcome::Fault(1, 37)
         );
     }
     Ok(())
@@ -178,7 +178,7 @@ fn one_block_of_a_type_5_tag(rt: HostRuntime) -> Result<(), Fail> {
         writable: true,
     };
     if store.len() == 128 {
-        let Planned::Steps(steps) = planned(&rt, &space, &store, 32, 2, 0xD1)? else {
+        let Outcome::Steps(steps) = planned(&rt, &space, &store, 32, 2, 0xD1)? else {
             panic!(rt; "no plan");
         };
         assert_eq!(rt; steps.len(), 2);
@@ -191,7 +191,7 @@ fn one_block_of_a_type_5_tag(rt: HostRuntime) -> Result<(), Fail> {
         assert!(rt; is_step(&steps, 1, 0, &block));
         assert_eq!(rt;
             planned(&rt, &space, &store, 32, 119, 0)?,
-            Planned::Fault(1, 118)
+            Outcome::Fault(1, 118)
         );
     }
     Ok(())
