@@ -220,7 +220,7 @@ mod tests {
 
     #[test]
     fn writes_no_locked_block(rt: HostRuntime) -> Result<(), Fail> {
-        let mut tag = T2Tag::new(addresses(&rt, 64)?)?;
+        let mut tag = T2Tag::new(vec![in rt.alloc(); 0u8; 64]?)?;
         tag.lock(5);
         tag.lock(15);
         let steps: [(u8, u8); 6] = [(4, 0xA), (5, 0), (6, 0xA), (13, 0xA), (14, 0xA), (15, 0)];
@@ -232,9 +232,10 @@ mod tests {
                 "at {block}"
             );
         }
+        let content = [9, 8, 7, 6, 0, 0, 0, 0, 9, 8, 7, 6, 0, 0, 0, 0];
         assert_eq!(rt;
-            tag.store()[16..28],
-            [9, 8, 7, 6, 20, 21, 22, 23, 9, 8, 7, 6]
+            tag.obey(&Frame::whole(Tech::A, &[0x30, 4])?),
+            Some(Frame::whole(Tech::A, &content)?)
         );
         Ok(())
     }
