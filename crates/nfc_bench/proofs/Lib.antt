@@ -4,6 +4,7 @@ pub mod Lines
 pub mod Placing
 pub mod Placed
 pub mod Removing
+pub mod Locking
 pub mod Ours
 pub mod Tidy
 pub mod LinkCalls

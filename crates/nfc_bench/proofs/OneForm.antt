@@ -129,6 +129,7 @@ module _ (how : How) (size : ℕ) (store : List ℕ) where
   tells_form answers.NoMessageTlv t = record { form = NoMessageTlv; writable = false; is = t; access = tt; same = refl }
   tells_form answers.BadTlv t = record { form = BadTlv; writable = false; is = t; access = tt; same = refl }
   tells_form answers.Done t = absurd t
+  tells_form (answers.Store bytes) t = absurd t
   tells_form (answers.Found devices crowd) t = absurd t
   tells_form answers.Disturbed t = absurd t
   tells_form answers.FieldLost t = absurd t

@@ -4,13 +4,14 @@ use Rattle.nfc_base.specs.Signal.{Signal}
 use Rattle.nfc_base.specs.declared.event.Event.{Event}
 use Rattle.air_core.specs.Conversation.{Over, EachDue, receptions}
 use Rattle.nfc_bench.specs.declared.command.Command.{Command}
-use Rattle.nfc_bench.specs.declared.command.Command.TheVariants.{Skip, Fates, PlaceT2, PlaceT4, PlaceT5, Remove, Find, Read}
+use Rattle.nfc_bench.specs.declared.command.Command.TheVariants.{Skip, Fates, PlaceT2, PlaceT4, PlaceT5, Lock, Remove, Dump, Find, Read}
 use Rattle.nfc_bench.specs.declared.device.Device.{Device}
 use Rattle.nfc_bench.specs.declared.entry.Answer.{Answer}
+use Rattle.nfc_bench.specs.declared.entry.Answer.TheVariants.{Store}
 use Rattle.nfc_bench.specs.declared.entry.Entry.{Entry}
-use Rattle.nfc_bench.specs.Device.{device_store, how_of, size_of}
+use Rattle.nfc_bench.specs.Device.{device_store, how_of, size_of, memory_in}
 use Rattle.nfc_bench.specs.Polling.{bytes_of}
-use Rattle.nfc_bench.specs.Placed.{device_with, IfPlaced}
+use Rattle.nfc_bench.specs.Placed.{device_with, OfPlaced, IfPlaced}
 use Rattle.nfc_bench.specs.Reading.{AsksOf}
 use Rattle.nfc_bench.specs.Legal.{air, State, IsAskedBy, AnswerLaw, LegalStep, EachLegal, changed, due, state_after, first_state}
 use Rattle.nfc_bench.specs.Journal.{NumberedLine, AreEntriesOf, asking_lines, Legal}
@@ -29,6 +30,11 @@ one_asked_by : (s : State) (c : Command) (a b : List Signal) → IsAskedBy s c a
 one_asked_by s (Read id) a b p q = one_asked_of (device_with (bytes_of id) s.world.listeners) a b p q
 one_asked_by s c a b p q = p ∙ sym q
 
+-- a dump tells of one device
+one_dump : (o : Option Device) (a b : Answer) → OfPlaced (λ d. a ≡ Store (memory_in d)) o → OfPlaced (λ d. b ≡ Store (memory_in d)) o → a ≡ b
+one_dump None a b p q = absurd p
+one_dump (Some d) a b p q = p ∙ sym q
+
 -- what happened decides what it answers
 one_answer : (s : State) (c : Command) (asked : List Signal) (events : List Event) (a b : Answer) → AnswerLaw s c asked events a → AnswerLaw s c asked events b → a ≡ b
 one_answer s Skip asked events a b p q = absurd p
@@ -36,7 +42,9 @@ one_answer s (Fates fates) asked events a b p q = p ∙ sym q
 one_answer s (PlaceT2 id blocks head) asked events a b p q = p ∙ sym q
 one_answer s (PlaceT4 id code container head) asked events a b p q = p ∙ sym q
 one_answer s (PlaceT5 id blocks size head) asked events a b p q = p ∙ sym q
+one_answer s (Lock id block) asked events a b p q = p ∙ sym q
 one_answer s (Remove id) asked events a b p q = p ∙ sym q
+one_answer s (Dump id) asked events a b p q = one_dump (device_with (bytes_of id) s.world.listeners) a b p q
 one_answer s Find asked events a b p q = one_find s.world.listeners events a b p.tells q.tells
 one_answer s (Read id) asked events a b p q = one_read id s.world.listeners asked events a b p.tells q.tells
 

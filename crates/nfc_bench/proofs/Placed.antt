@@ -1,4 +1,4 @@
--- Commands that change the field and send nothing: fates are appended, and a tag is placed.
+-- Commands that send nothing: fates are appended, and a tag is placed.
 use Rattle.std.proofs.Common.{◌≡◌, ℕ, ◌*◌, ◌<◌, List, [], ◌∷◌, ◌++◌, map, length, slice_index, refl, sym, ◌∙◌, ap, subst, arith, inr}
 use Rattle.std.proofs.lemmas.List.{length-map}
 use Rattle.std.specs.List.{AllByRecursion}
@@ -12,6 +12,7 @@ use Rattle.t5t_tag.specs.Store.{id_size}
 use Rattle.nfc_bench.specs.declared.command.Command.{Command}
 use Rattle.nfc_bench.specs.declared.command.Command.TheVariants.{Fates, PlaceT2, PlaceT4, PlaceT5}
 use Rattle.nfc_bench.specs.declared.device.Device.{Device}
+use Rattle.nfc_bench.specs.declared.entry.Answer.{Answer}
 use Rattle.nfc_bench.specs.declared.entry.Answer.TheVariants.{Done}
 use Rattle.nfc_bench.specs.Device.{device_id, new_t2, new_t4, new_t5}
 use Rattle.nfc_bench.specs.Legal.{State, LegalStep, IsAccepted, IsAskedBy, IsFree, MayPlaceT2, MayPlaceT4, MayPlaceT5, AnswerLaw, most_devices, with_device, changed, due, memory_of, state_after}
@@ -29,11 +30,11 @@ abbrev pub more_by : Air Device → Device → Air Device
 more_by a d = record { lit = a.lit; listeners = a.listeners ++ d ∷ []; fates = a.fates; trace = a.trace }
 
 -- a command that changes the field as it says, and sends nothing
-pub still_obeyed : (old new : Air Device) (c : Command) → IsIdle old → IsAccepted (state_at old) c → state_at new ≡ changed (state_at old) c → new.trace ≡ old.trace
-    → IsAskedBy (state_at old) c [] → due [] c [] ≡ Over → AnswerLaw (state_at old) c [] [] Done → AreTame (map kept new.listeners) → AreTidy new.listeners → Obeyed old new c Done
-still_obeyed old new c idle accepted changes trace asks over law tame tidy =
+pub still_obeyed : (old new : Air Device) (c : Command) (answer : Answer) → IsIdle old → IsAccepted (state_at old) c → state_at new ≡ changed (state_at old) c → new.trace ≡ old.trace
+    → IsAskedBy (state_at old) c [] → due [] c [] ≡ Over → AnswerLaw (state_at old) c [] [] answer → AreTame (map kept new.listeners) → AreTidy new.listeners → Obeyed old new c answer
+still_obeyed old new c answer idle accepted changes trace asks over law tame tidy =
     let st : State = state_at old in
-    let L : List Event → Type 0 = λ es. LegalStep st c es Done in
+    let L : List Event → Type 0 = λ es. LegalStep st c es answer in
     let quiet : new.trace ≡ [] = trace ∙ idle.quiet in
     let step : L [] = record { accepted = accepted; turns = record { moves = []; made = refl }; fates = tt; asked = []; asks = asks; each = tt; over = over; answered = law } in
     record { step = subst L (sym quiet) step; state = changes ∙ ap (state_after st c) (sym quiet); tame = tame; tidy = tidy }
@@ -44,7 +45,7 @@ pub fates_obeyed : (old new : Air Device) (fates : List Fate) → IsIdle old →
 fates_obeyed old new fates idle is =
     let O : Air Device → Type 0 = λ a. Obeyed old a (Fates fates) Done in
     let more : Air Device = record { lit = old.lit; listeners = old.listeners; fates = old.fates ++ fates; trace = old.trace } in
-    subst O (sym is) (still_obeyed old more (Fates fates) idle tt refl refl refl refl refl idle.tame idle.tidy)
+    subst O (sym is) (still_obeyed old more (Fates fates) Done idle tt refl refl refl refl refl idle.tame idle.tidy)
 
 -- a command that places a device
 place_obeyed : (old : Air Device) (c : Command) (d : Device) → IsIdle old → IsAccepted (state_at old) c → changed (state_at old) c ≡ with_device (state_at old) d
@@ -54,7 +55,7 @@ place_obeyed old c d idle accepted changes asks over law sound tidy free =
     let T : List Kept → Type 0 = AreTame in
     let apart : AllByRecursion (λ l. IsApart l (kept d)) (map kept old.listeners) = apart_all old.listeners d (none_named old.listeners (device_id d) free.fresh) in
     let room : length (map kept old.listeners) < most_devices = omega (arith, length-map old.listeners kept, free.room) in
-    still_obeyed old (more_by old d) c idle accepted (sym changes) refl asks over law
+    still_obeyed old (more_by old d) c Done idle accepted (sym changes) refl asks over law
     (subst T (sym (map-over kept old.listeners (d ∷ []))) (tame_more (map kept old.listeners) (kept d) idle.tame sound apart room))
     (tidy_more old.listeners d idle.tidy tidy)
 

@@ -46,17 +46,21 @@ tidy_without : (before : List Device) (d : Device) (behind : List Device) → Ar
 tidy_without [] d behind tidy = tidy.1
 tidy_without (b ∷ before) d behind tidy = (tidy.0, tidy_without before d behind tidy.1)
 
+-- a device before it has another identifier
+pub is_other : (b : Device) (before : List Device) (d : Device) (behind : List Device) (id : List ℕ) → device_id d ≡ id → AllByRecursion (IsApart (kept b)) (map kept (before ++ d ∷ behind))
+    → pointwise nat_eq (device_id b) id ≡ false
+is_other b before d behind id named apart = by_case (pointwise nat_eq (device_id b) id) refl
+  where
+    by_case : (v : Bool) → pointwise nat_eq (device_id b) id ≡ v → v ≡ false
+    by_case true h = absurd (holds_of (IsApart (kept b)) before d behind apart (named ∙ sym (same_text (device_id b) id (sym h))))
+    by_case false h = refl
+
 -- no other device has its identifier, so it is the first that has it
 without_behind : (before : List Device) (d : Device) (behind : List Device) (id : List ℕ) → device_id d ≡ id → AreSound (map kept (before ++ d ∷ behind)) → without id (before ++ d ∷ behind) ≡ before ++ behind
 without_behind [] d behind id named sound = ap (λ v. if v then behind else d ∷ without id behind) (ap (λ x. pointwise nat_eq x id) named ∙ pointwise_self id)
-without_behind (b ∷ before) d behind id named sound = by_case (pointwise nat_eq (device_id b) id) refl (without_behind before d behind id named sound.2)
-  where
-    differs : device_id b ≡ id → ⊥
-    differs e = holds_of (IsApart (kept b)) before d behind sound.1 (named ∙ sym e)
-
-    by_case : (v : Bool) → pointwise nat_eq (device_id b) id ≡ v → without id (before ++ d ∷ behind) ≡ before ++ behind → (if v then before ++ d ∷ behind else b ∷ without id (before ++ d ∷ behind)) ≡ b ∷ (before ++ behind)
-    by_case true h rest = absurd (differs (same_text (device_id b) id (sym h)))
-    by_case false h rest = ap (λ xs. b ∷ xs) rest
+without_behind (b ∷ before) d behind id named sound =
+    ap (λ v. if v then before ++ d ∷ behind else b ∷ without id (before ++ d ∷ behind)) (is_other b before d behind id named sound.1)
+    ∙ ap (λ xs. b ∷ xs) (without_behind before d behind id named sound.2)
 
 -- the field without the listener at a place
 abbrev pub less_by : Air Device → ℕ → Air Device
@@ -74,5 +78,5 @@ removed old new id place idle placed s is =
     let same : without (bytes_of id) old.listeners ≡ s.before ++ s.behind =
     ap (without (bytes_of id)) s.split ∙ without_behind s.before s.device s.behind (bytes_of id) s.named tame.sound in
     subst O (sym (is ∙ ap F left))
-    (still_obeyed old (F (s.before ++ s.behind)) (Remove id) idle placed (ap (λ ls. state_at (F ls)) (sym same)) refl refl refl refl (tame_without s.before s.device s.behind tame)
+    (still_obeyed old (F (s.before ++ s.behind)) (Remove id) Done idle placed (ap (λ ls. state_at (F ls)) (sym same)) refl refl refl refl (tame_without s.before s.device s.behind tame)
     (tidy_without s.before s.device s.behind (subst AreTidy s.split idle.tidy)))

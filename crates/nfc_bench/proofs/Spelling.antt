@@ -7,13 +7,13 @@ use Rattle.nfc_base.specs.declared.event.Fate.TheVariants.{Pass, Damage, Lose, B
 use Rattle.hex.specs.Hex.{decode_of}
 use Rattle.hex.proofs.HexLemmas.{decode_of-same}
 use Rattle.nfc_bench.specs.declared.command.Command.{Command}
-use Rattle.nfc_bench.specs.declared.command.Command.TheVariants.{Skip, Fates, PlaceT2, PlaceT4, PlaceT5, Remove, Find, Read}
+use Rattle.nfc_bench.specs.declared.command.Command.TheVariants.{Skip, Fates, PlaceT2, PlaceT4, PlaceT5, Lock, Remove, Dump, Find, Read}
 use Rattle.nfc_bench.specs.declared.command.DeviceId.{DeviceId}
 use Rattle.nfc_bench.specs.declared.command.DeviceId.TheVariants.{A, V}
 use Rattle.nfc_bench.specs.declared.script.words.CommandName.{CommandName}
 use Rattle.nfc_bench.specs.declared.script.words.CommandName.TheVariants as names
 use Rattle.nfc_bench.specs.Words.{name_text}
-use Rattle.nfc_bench.specs.Script.{words_of, onto_first, is_skipped, SpellsHex, SpellsIdent, SpellsIdV, SpellsId, SpellsBlocks, SpellsSize, SpellsCode, fate_letter, SpellsFates, SpelledBy, Spells, least_blocks, least_blocks_v}
+use Rattle.nfc_bench.specs.Script.{words_of, onto_first, is_skipped, SpellsHex, SpellsIdent, SpellsIdV, SpellsId, SpellsBlocks, SpellsSize, SpellsCode, SpellsBlock, fate_letter, SpellsFates, SpelledBy, Spells, least_blocks, least_blocks_v}
 use Rattle.nfca_poll.specs.Ident.{IsIdent}
 use Rattle.t5t_tag.specs.Store.{IsBlockSize}
 use Rattle.nfc_bench.proofs.Words.{eq_false}
@@ -62,6 +62,9 @@ size_one w m n p q = decimal_injective m n (let h : m ≤ 32 = size_small m p.1 
 pub code_one : (w : List ℕ) (m n : ℕ) → SpellsCode w m → SpellsCode w n → m ≡ n
 code_one w m n p q = decimal_injective m n (let h : m ≤ 8 = p.1 in omega arith) (let h : n ≤ 8 = q.1 in omega arith) (sym p.0 ∙ q.0)
 
+pub block_one : (w : List ℕ) (m n : ℕ) → SpellsBlock w m → SpellsBlock w n → m ≡ n
+block_one w m n p q = decimal_injective m n (let h : m < 65536 = p.1 in omega arith) (let h : n < 65536 = q.1 in omega arith) (sym p.0 ∙ q.0)
+
 -- no two fates have one letter
 letter_one : (a b : Fate) → fate_letter a ≡ fate_letter b → a ≡ b
 letter_one Pass Pass e = refl
@@ -97,6 +100,17 @@ kind_byte ws = 0
 four_differs : (ws xs ys : List (List ℕ)) → ws ≡ codes "place" ∷ codes "t4" ∷ xs → ws ≡ codes "place" ∷ codes "t5" ∷ ys → ⊥
 four_differs ws xs ys p q = let h : 52 ≡ 53 = ap kind_byte (sym p ∙ q) in omega (arith, h)
 
+-- the first byte of the first word
+first_byte : List (List ℕ) → ℕ
+first_byte [] = 0
+first_byte ([] ∷ ws) = 0
+first_byte ((b ∷ bs) ∷ ws) = b
+
+-- `dump` isn't `read`
+dump_differs : (ws xs ys : List (List ℕ)) → ws ≡ codes "dump" ∷ xs → ws ≡ codes "read" ∷ ys → ⊥
+unfolding first_byte
+dump_differs ws xs ys p q = let h : 100 ≡ 114 = ap first_byte (sym p ∙ q) in omega (arith, h)
+
 -- where the first words are alike, so are the values; words that differ spell no two commands
 pub spelled_one : (ws : List (List ℕ)) (c d : Command) → SpelledBy ws c → SpelledBy ws d → c ≡ d
 spelled_one ws (Fates a) (Fates b) (v, e, p) (w, f, q) =
@@ -105,6 +119,15 @@ spelled_one ws (Fates a) (Fates b) (v, e, p) (w, f, q) =
 spelled_one ws (Remove i) (Remove j) (v, e, p) (w, f, q) =
     let same : v ≡ w = cc in
     ap (λ x. let c : Command = Remove x in c) (id_one w i j (let P : List ℕ → Type 0 = λ t. SpellsId t i in subst P same p) q)
+spelled_one ws (Lock i m) (Lock j n) (u, v, e, p, r) (u', v', e', p', r') =
+    let first : u ≡ u' = cc in
+    let second : v ≡ v' = cc in
+    let ids : i ≡ j = id_one u' i j (let P : List ℕ → Type 0 = λ t. SpellsId t i in subst P first p) p' in
+    let numbers : m ≡ n = block_one v' m n (let P : List ℕ → Type 0 = λ t. SpellsBlock t m in subst P second r) r' in
+    cc
+spelled_one ws (Dump i) (Dump j) (v, e, p) (w, f, q) =
+    let same : v ≡ w = cc in
+    ap (λ x. let c : Command = Dump x in c) (id_one w i j (let P : List ℕ → Type 0 = λ t. SpellsId t i in subst P same p) q)
 spelled_one ws Find Find p q = refl
 spelled_one ws (Read i) (Read j) (v, e, p) (w, f, q) =
     let same : v ≡ w = cc in
@@ -139,6 +162,8 @@ spelled_one ws (PlaceT5 i m k g) (PlaceT5 j n l h) (u, v, w, x, e, p, r, t, s) (
     cc
 spelled_one ws (PlaceT4 i m k g) (PlaceT5 j n l h) (u, v, w, x, e, p, r, t, s) (u', v', w', x', e', p', r', t', s') = absurd (four_differs ws (u ∷ v ∷ w ∷ x ∷ []) (u' ∷ v' ∷ w' ∷ x' ∷ []) e e')
 spelled_one ws (PlaceT5 i m k g) (PlaceT4 j n l h) (u, v, w, x, e, p, r, t, s) (u', v', w', x', e', p', r', t', s') = absurd (four_differs ws (u' ∷ v' ∷ w' ∷ x' ∷ []) (u ∷ v ∷ w ∷ x ∷ []) e' e)
+spelled_one ws (Dump i) (Read j) (v, e, p) (w, f, q) = absurd (dump_differs ws (v ∷ []) (w ∷ []) e f)
+spelled_one ws (Read i) (Dump j) (v, e, p) (w, f, q) = absurd (dump_differs ws (w ∷ []) (v ∷ []) f e)
 spelled_one ws Skip d p q = absurd p
 spelled_one ws c Skip p q = absurd q
 spelled_one ws c d p q = absurd cc
@@ -150,6 +175,8 @@ nameless w ws none some (Fates fates) (f, e, p) = none names.Fates (let h : w �
 nameless w ws none some (PlaceT2 id n head) (i, b, d, e, p, q, r) = none names.Place (let h : w ≡ codes "place" = cc in h)
 nameless w ws none some (PlaceT4 id n k head) (i, b, s, d, e, p, q, t, r) = none names.Place (let h : w ≡ codes "place" = cc in h)
 nameless w ws none some (PlaceT5 id n k head) (i, b, s, d, e, p, q, t, r) = none names.Place (let h : w ≡ codes "place" = cc in h)
+nameless w ws none some (Lock id block) (i, b, e, p, q) = none names.Lock (let h : w ≡ codes "lock" = cc in h)
+nameless w ws none some (Dump id) (i, e, p) = none names.Dump (let h : w ≡ codes "dump" = cc in h)
 nameless w ws none some (Remove id) (i, e, p) = none names.Remove (let h : w ≡ codes "remove" = cc in h)
 nameless w ws none some Find e = some (let h : ws ≡ [] = cc in h)
 nameless w ws none some (Read id) (i, e, p) = none names.Read (let h : w ≡ codes "read" = cc in h)
@@ -194,11 +221,6 @@ heads_refused ws i b s h e none Skip p = p
 heads_refused ws i b s h e none c p = cc
 
 -- a line that is skipped spells nothing else
-first_byte : List (List ℕ) → ℕ
-first_byte [] = 0
-first_byte ([] ∷ ws) = 0
-first_byte ((b ∷ bs) ∷ ws) = b
-
 onto_begins : (b : ℕ) (ws : List (List ℕ)) → first_byte (onto_first b ws) ≡ b
 unfolding first_byte
 onto_begins b [] = refl
@@ -211,6 +233,8 @@ hash_begins_none ws (Fates fates) (f, e, p) h = omega (arith, h, ap first_byte e
 hash_begins_none ws (PlaceT2 id n head) (i, b, d, e, p, q, r) h = omega (arith, h, ap first_byte e)
 hash_begins_none ws (PlaceT4 id n k head) (i, b, s, d, e, p, q, t, r) h = omega (arith, h, ap first_byte e)
 hash_begins_none ws (PlaceT5 id n k head) (i, b, s, d, e, p, q, t, r) h = omega (arith, h, ap first_byte e)
+hash_begins_none ws (Lock id block) (i, b, e, p, q) h = omega (arith, h, ap first_byte e)
+hash_begins_none ws (Dump id) (i, e, p) h = omega (arith, h, ap first_byte e)
 hash_begins_none ws (Remove id) (i, e, p) h = omega (arith, h, ap first_byte e)
 hash_begins_none ws Find e h = omega (arith, h, ap first_byte e)
 hash_begins_none ws (Read id) (i, e, p) h = omega (arith, h, ap first_byte e)

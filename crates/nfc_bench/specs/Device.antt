@@ -13,6 +13,7 @@ use Rattle.nfca_poll.specs.declared.upper.UpStep.TheVariants as steps
 use Rattle.nfca_poll.specs.Front.{Off, Idle, is_ready, is_active}
 use Rattle.nfca_poll.specs.Fronted.{answer_by, after_by, moved}
 use Rattle.nfca_poll.specs.Upper.{UpperMachine}
+use Rattle.t2t_tag.specs.Store as t2
 use Rattle.t2t_tag.specs.Store.{T2Memory, unlocked}
 use Rattle.t2t_tag.specs.Step.{t2_answer, t2_after}
 use Rattle.t4t_tag.specs.declared.current.CurrentFile.{CurrentFile}
@@ -20,7 +21,7 @@ use Rattle.t4t_tag.specs.declared.current.CurrentFile.TheVariants as current
 use Rattle.t4t_tag.specs.Store as t4
 use Rattle.t4t_tag.specs.Store.{T4State}
 use Rattle.t4t_tag.specs.Step.{t4_answer, t4_after}
-use Rattle.t5t_tag.specs.Store.{fresh, darkened}
+use Rattle.t5t_tag.specs.Store.{fresh, darkened, block_count, locked_too}
 use Rattle.t5t_tag.specs.Step.{t5_answer, t5_after}
 use Rattle.tag_reader.specs.declared.how.How.{How}
 use Rattle.tag_reader.specs.declared.how.How.TheVariants as hows
@@ -199,3 +200,21 @@ abbrev pub seen_of : Device → SeenKind
 seen_of (T2 d) = seen.T2
 seen_of (T4 d) = seen.T4
 seen_of (T5 p) = seen.T5
+
+-- how many blocks it has that can be locked: a Type 4 tag has none
+abbrev pub blocks_of : Device → ℕ
+blocks_of (T2 d) = t2.block_count d.upper.store
+blocks_of (T4 d) = 0
+blocks_of (T5 p) = block_count p.tag
+
+-- the device with one block more locked
+abbrev pub device_locked : ℕ → Device → Device
+device_locked block (T2 d) = T2 (record { id = d.id; front = d.front; upper = t2.locked_too d.upper block })
+device_locked block (T4 d) = T4 d
+device_locked block (T5 p) = T5 (record { tag = locked_too p.tag block; lit = p.lit })
+
+-- what a dump of it shows: all its memory, and of a Type 4 tag the NDEF file alone
+abbrev pub memory_in : Device → List ℕ
+memory_in (T2 d) = d.upper.store
+memory_in (T4 d) = d.upper.tag.file
+memory_in (T5 p) = p.tag.store

@@ -10,17 +10,17 @@ use Rattle.t2t_tag.specs.Store.{IsT2Store}
 use Rattle.t4t_tag.specs.Store.{IsT4Store, file_size}
 use Rattle.t5t_tag.specs.Store.{IsT5Store}
 use Rattle.nfc_bench.specs.declared.command.Command.{Command}
-use Rattle.nfc_bench.specs.declared.command.Command.TheVariants.{Skip, Fates, PlaceT2, PlaceT4, PlaceT5, Remove, Find, Read}
+use Rattle.nfc_bench.specs.declared.command.Command.TheVariants.{Skip, Fates, PlaceT2, PlaceT4, PlaceT5, Lock, Remove, Dump, Find, Read}
 use Rattle.nfc_bench.specs.declared.command.DeviceId.{DeviceId}
 use Rattle.nfc_bench.specs.declared.device.Device.{Device}
 use Rattle.nfc_bench.specs.declared.entry.Answer.{Answer}
 use Rattle.nfc_bench.specs.declared.entry.Answer.TheVariants as answers
 use Rattle.nfc_bench.specs.declared.entry.Entry.{Entry}
-use Rattle.nfc_bench.specs.Device.{devices, device_store, new_t2, new_t4, new_t5}
+use Rattle.nfc_bench.specs.Device.{devices, device_store, new_t2, new_t4, new_t5, blocks_of, device_locked, memory_in}
 use Rattle.nfc_bench.specs.declared.entry.SeenKind.{SeenKind}
 use Rattle.nfc_bench.specs.CardAsking.{tag_next}
 use Rattle.nfc_bench.specs.Polling.{Followed, Asks, Told, bytes_of, asks, selecting, finding_all}
-use Rattle.nfc_bench.specs.Placed.{device_with, without, IfPlaced}
+use Rattle.nfc_bench.specs.Placed.{device_with, without, with_changed, OfPlaced, IfPlaced}
 use Rattle.nfc_bench.specs.Reading.{AsksOf}
 use Rattle.nfc_bench.specs.Answering.{ReadTells, FindTells}
 
@@ -73,14 +73,20 @@ pub record MayPlaceT5 (s : State) (id : List ℕ) (blocks size : ℕ) (head : Li
 abbrev pub IsPlaced : State → DeviceId → Type 0
 IsPlaced s id = IsSome (device_with (bytes_of id) s.world.listeners)
 
--- The conditions of a command beside its grammar. Only what is placed can be taken away.
+-- The device with this identifier has this block. Only a Type 2 or Type 5 tag has one that can be locked.
+abbrev pub HasBlock : State → DeviceId → ℕ → Type 0
+HasBlock s id block = OfPlaced (λ d. block < blocks_of d) (device_with (bytes_of id) s.world.listeners)
+
+-- The conditions of a command beside its grammar. Only what is placed can be taken away, or shows what it holds.
 abbrev pub IsAccepted : State → Command → Type 0
 IsAccepted s Skip = Unit {0}
 IsAccepted s (Fates fates) = Unit {0}
 IsAccepted s (PlaceT2 id blocks head) = MayPlaceT2 s id blocks head
 IsAccepted s (PlaceT4 id code container head) = MayPlaceT4 s id code container head
 IsAccepted s (PlaceT5 id blocks size head) = MayPlaceT5 s id blocks size head
+IsAccepted s (Lock id block) = HasBlock s id block
 IsAccepted s (Remove id) = IsPlaced s id
+IsAccepted s (Dump id) = IsPlaced s id
 IsAccepted s Find = Unit {0}
 IsAccepted s (Read id) = Unit {0}
 
@@ -92,12 +98,18 @@ with_device s d = record { world = record { lit = s.world.lit; listeners = s.wor
 abbrev pub without_device : State → DeviceId → State
 without_device s id = record { world = record { lit = s.world.lit; listeners = without (bytes_of id) s.world.listeners }; queue = s.queue }
 
--- What a command itself changes, before anything is sent: fates are appended, devices are placed and taken away.
+-- the state in which the device with an identifier has one block more locked
+abbrev pub with_locked : State → DeviceId → ℕ → State
+with_locked s id block = record { world = record { lit = s.world.lit; listeners = with_changed (device_locked block) (bytes_of id) s.world.listeners }; queue = s.queue }
+
+-- What a command itself changes, before anything is sent: fates are appended, devices are placed and taken away, and a block is
+-- locked.
 abbrev pub changed : State → Command → State
 changed s (Fates fates) = record { world = s.world; queue = s.queue ++ fates }
 changed s (PlaceT2 id blocks head) = with_device s (new_t2 id (memory_of (4 * blocks) head))
 changed s (PlaceT4 id code container head) = with_device s (new_t4 id code container (memory_of (file_size container) head))
 changed s (PlaceT5 id blocks size head) = with_device s (new_t5 id size (memory_of (size * blocks) head))
+changed s (Lock id block) = with_locked s id block
 changed s (Remove id) = without_device s id
 changed s c = s
 
@@ -131,6 +143,10 @@ pub record FindLaw (s : State) (events : List Event) (answer : Answer) : Type 0 
   pub tells : FindTells s.world.listeners events answer
   pub stays : stable (replay air s.world events) ≡ stable s.world
 
+-- A dump tells what the device with this identifier holds.
+abbrev pub DumpLaw : State → DeviceId → Answer → Type 0
+DumpLaw s id answer = OfPlaced (λ d. answer ≡ answers.Store (memory_in d)) (device_with (bytes_of id) s.world.listeners)
+
 -- the law of the answers; a line that asks for nothing has none
 abbrev pub AnswerLaw : State → Command → List Signal → List Event → Answer → Type 0
 AnswerLaw s Skip asked events answer = ⊥
@@ -138,7 +154,9 @@ AnswerLaw s (Fates fates) asked events answer = answer ≡ answers.Done
 AnswerLaw s (PlaceT2 id blocks head) asked events answer = answer ≡ answers.Done
 AnswerLaw s (PlaceT4 id code container head) asked events answer = answer ≡ answers.Done
 AnswerLaw s (PlaceT5 id blocks size head) asked events answer = answer ≡ answers.Done
+AnswerLaw s (Lock id block) asked events answer = answer ≡ answers.Done
 AnswerLaw s (Remove id) asked events answer = answer ≡ answers.Done
+AnswerLaw s (Dump id) asked events answer = DumpLaw s id answer
 AnswerLaw s Find asked events answer = FindLaw s events answer
 AnswerLaw s (Read id) asked events answer = ReadLaw s id asked events answer
 

@@ -9,7 +9,7 @@ use Rattle.nfc_base.specs.declared.event.Event.TheVariants.{Reset, Request, Answ
 use Rattle.nfc_base.specs.declared.event.Fate.{Fate}
 use Rattle.nfc_base.specs.declared.event.Fate.TheVariants.{Pass, Damage, Lose, Break}
 use Rattle.nfc_bench.specs.declared.entry.Answer.{Answer as Said}
-use Rattle.nfc_bench.specs.declared.entry.Answer.TheVariants.{Done, Found, Message, NotNdef, Version, NoRead, Sectors, BadSize, NoMessageTlv, BadTlv, Disturbed, FieldLost, NotFound, SixBad}
+use Rattle.nfc_bench.specs.declared.entry.Answer.TheVariants.{Done, Store, Found, Message, NotNdef, Version, NoRead, Sectors, BadSize, NoMessageTlv, BadTlv, Disturbed, FieldLost, NotFound, SixBad}
 use Rattle.nfc_bench.specs.declared.entry.Entry.{Entry}
 use Rattle.nfc_bench.specs.declared.entry.Seen.{Seen}
 use Rattle.nfc_bench.specs.declared.entry.SeenKind.{SeenKind}
@@ -80,6 +80,7 @@ answer_text Disturbed = codes "disturbed"
 answer_text FieldLost = codes "field lost"
 answer_text NotFound = codes "not found"
 answer_text SixBad = codes "six bad"
+answer_text (Store bytes) = codes "store " ++ hex_text bytes
 answer_text (Found devices crowd) = found_text devices crowd
 answer_text (Message message writable) = codes "message " ++ hex_text message ++ codes " " ++ access_text writable
 

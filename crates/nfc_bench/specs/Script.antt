@@ -1,5 +1,5 @@
 -- How a script is written; the language is this project's own.
-use Rattle.std.specs.Prelude.{◌≡◌, ℕ, ◌<◌, ◌≤◌, ◌⊎◌, List, [], ◌∷◌, map, Bool, true, codes, length, ◌==◌, if◌then◌else◌, Ok}
+use Rattle.std.specs.Prelude.{◌≡◌, ℕ, ◌^◌, ◌<◌, ◌≤◌, ◌⊎◌, List, [], ◌∷◌, map, Bool, true, codes, length, ◌==◌, if◌then◌else◌, Ok}
 use Rattle.std.specs.Fmt.{decimal}
 use Rattle.hex.specs.Hex.{decode_of}
 use Rattle.nfc_base.specs.declared.event.Fate.{Fate}
@@ -7,7 +7,7 @@ use Rattle.nfc_base.specs.declared.event.Fate.TheVariants.{Pass, Damage, Lose, B
 use Rattle.nfca_poll.specs.Ident.{IsIdent}
 use Rattle.t5t_tag.specs.Store.{IsBlockSize}
 use Rattle.nfc_bench.specs.declared.command.Command.{Command}
-use Rattle.nfc_bench.specs.declared.command.Command.TheVariants.{Skip, Fates, PlaceT2, PlaceT4, PlaceT5, Remove, Find, Read}
+use Rattle.nfc_bench.specs.declared.command.Command.TheVariants.{Skip, Fates, PlaceT2, PlaceT4, PlaceT5, Lock, Remove, Dump, Find, Read}
 use Rattle.nfc_bench.specs.declared.command.DeviceId.{DeviceId}
 use Rattle.nfc_bench.specs.declared.command.DeviceId.TheVariants.{A, V}
 use Rattle.nfc_bench.specs.declared.script.LineFault.{LineFault}
@@ -67,6 +67,10 @@ most_code = 8
 abbrev pub SpellsCode : List ℕ → ℕ → Type 0
 SpellsCode word n = (word ≡ decimal n) × (n ≤ most_code)
 
+-- BLOCK: the number of a block, of which a device may have fewer
+abbrev pub SpellsBlock : List ℕ → ℕ → Type 0
+SpellsBlock word n = (word ≡ decimal n) × (n < 2 ^ 16)
+
 -- the letter of a fate, in upper case alone: P, D, L or B
 abbrev pub fate_letter : Fate → ℕ
 fate_letter Pass = 80
@@ -89,8 +93,8 @@ abbrev pub is_skipped : List ℕ → Bool
 is_skipped [] = true
 is_skipped (b ∷ bs) = b == 35
 
--- `fates FATES`, `place t2 ID BLOCKS HEX`, `place t4 ID CODE HEX HEX`, `place t5 ID BLOCKS SIZE HEX`, `remove ID`, `find` and
--- `read ID`
+-- `fates FATES`, `place t2 ID BLOCKS HEX`, `place t4 ID CODE HEX HEX`, `place t5 ID BLOCKS SIZE HEX`, `lock ID BLOCK`,
+-- `remove ID`, `dump ID`, `find` and `read ID`
 abbrev pub SpelledBy : List (List ℕ) → Command → Type 0
 SpelledBy ws Skip = ⊥
 SpelledBy ws (Fates fates) = (f : List ℕ) × (ws ≡ codes "fates" ∷ f ∷ []) × SpellsFates f fates
@@ -103,7 +107,9 @@ SpelledBy ws (PlaceT4 id code container head) =
 SpelledBy ws (PlaceT5 id blocks size head) =
     (i b s h : List ℕ) × (ws ≡ codes "place" ∷ codes "t5" ∷ i ∷ b ∷ s ∷ h ∷ [])
     × SpellsIdV i id × SpellsBlocks least_blocks_v b blocks × SpellsSize s size × SpellsHex h head
+SpelledBy ws (Lock id block) = (i b : List ℕ) × (ws ≡ codes "lock" ∷ i ∷ b ∷ []) × SpellsId i id × SpellsBlock b block
 SpelledBy ws (Remove id) = (i : List ℕ) × (ws ≡ codes "remove" ∷ i ∷ []) × SpellsId i id
+SpelledBy ws (Dump id) = (i : List ℕ) × (ws ≡ codes "dump" ∷ i ∷ []) × SpellsId i id
 SpelledBy ws Find = ws ≡ codes "find" ∷ []
 SpelledBy ws (Read id) = (i : List ℕ) × (ws ≡ codes "read" ∷ i ∷ []) × SpellsId i id
 

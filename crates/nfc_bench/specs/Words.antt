@@ -13,6 +13,10 @@ CutsWord text word (Some rest) = words_of text ≡ word ∷ words_of rest
 abbrev pub NotOne : List (List ℕ) → Type 0
 NotOne ws = (a : List ℕ) → ws ≡ a ∷ [] → ⊥
 
+-- ... or two
+abbrev pub NotTwo : List (List ℕ) → Type 0
+NotTwo ws = (a b : List ℕ) → ws ≡ a ∷ b ∷ [] → ⊥
+
 -- ... or three
 abbrev pub NotThree : List (List ℕ) → Type 0
 NotThree ws = (a b c : List ℕ) → ws ≡ a ∷ b ∷ c ∷ [] → ⊥
@@ -25,5 +29,7 @@ NotFour ws = (a b c d : List ℕ) → ws ≡ a ∷ b ∷ c ∷ d ∷ [] → ⊥
 abbrev pub name_text : CommandName → List ℕ
 name_text names.Fates = codes "fates"
 name_text names.Place = codes "place"
+name_text names.Lock = codes "lock"
 name_text names.Remove = codes "remove"
+name_text names.Dump = codes "dump"
 name_text names.Read = codes "read"

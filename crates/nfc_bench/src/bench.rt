@@ -203,6 +203,44 @@ fn remove_device(field: &mut Field<Device>, id: &DeviceId) -> Result<Answer, Obe
     Ok(Answer::Done)
 }
 
+/// Locks a block of a tag.
+fn lock_block(field: &mut Field<Device>, id: &DeviceId, block: u16) -> Result<Answer, ObeyFault>
+    requires { IsIdle field.old }
+    ensures ok { IfOk result (λ a. Obeyed field.old field.new (Command.Lock id.now block) a) }
+    ensures refused { IsErrOf result ObeyFault.Refused → (field.new ≡ field.old) }
+    ensures cause { IsErrOf result ObeyFault.Refused → IsAccepted (state_at field.old) (Command.Lock id.now block) → ⊥ }
+{
+    let bytes = id.bytes();
+    let devices = field.listeners();
+    if !is_placed(devices, bytes) {
+        return Err(ObeyFault::Refused);
+    }
+    let place = place_of(devices, bytes);
+    if block >= devices[place].blocks() {
+        return Err(ObeyFault::Refused);
+    }
+    field.listener(place).lock(block);
+    Ok(Answer::Done)
+}
+
+/// Tells what a tag holds.
+fn dump_store(alloc: Global, field: &Field<Device>, id: &DeviceId) -> Result<Answer, ObeyFault>
+    requires { IsIdle field.now }
+    ensures ok { IfOk result (λ a. Obeyed field.now field.now (Command.Dump id.now) a) }
+    ensures cause { IsErrOf result ObeyFault.Refused → IsAccepted (state_at field.now) (Command.Dump id.now) → ⊥ }
+{
+    let bytes = id.bytes();
+    let devices = field.listeners();
+    if !is_placed(devices, bytes) {
+        return Err(ObeyFault::Refused);
+    }
+    let place = place_of(devices, bytes);
+    match Items::from_bytes(alloc, devices[place].memory()) {
+        Ok(store) => Ok(Answer::Store(store)),
+        Err(_) => Err(ObeyFault::Memory),
+    }
+}
+
 /// Appends fates for transmissions to come.
 fn add_fates(field: &mut Field<Device>, fates: &[Fate]) -> Result<Answer, ObeyFault>
     requires { IsIdle field.old }
@@ -291,7 +329,9 @@ fn run_command(
             size,
             head,
         } => place_t5(alloc, field, *id, *blocks, *size, head.as_slice()),
+        Command::Lock { id, block } => lock_block(field, id, *block),
         Command::Remove { id } => remove_device(field, id),
+        Command::Dump { id } => dump_store(alloc, field, id),
         Command::Find => find(alloc, field),
         Command::Read { id } => read_tag(alloc, field, id),
     }

@@ -63,8 +63,17 @@ pub enum Command {
         size: u8,
         head: Items<u8>,
     },
+    /// Locks a block of a Type 2 or Type 5 tag against writing.
+    Lock {
+        id: DeviceId,
+        block: u16,
+    },
     /// Takes a device away.
     Remove {
+        id: DeviceId,
+    },
+    /// Shows what a tag holds.
+    Dump {
         id: DeviceId,
     },
     /// Finds all devices.
@@ -113,7 +122,12 @@ impl Command {
                 size: *size,
                 head: Items::from_bytes(alloc, head.as_slice())?,
             }),
+            Command::Lock { id, block } => Ok(Command::Lock {
+                id: id.copy(),
+                block: *block,
+            }),
             Command::Remove { id } => Ok(Command::Remove { id: id.copy() }),
+            Command::Dump { id } => Ok(Command::Dump { id: id.copy() }),
             Command::Find => Ok(Command::Find),
             Command::Read { id } => Ok(Command::Read { id: id.copy() }),
         }

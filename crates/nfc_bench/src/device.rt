@@ -1,7 +1,9 @@
 //! The devices of the bench.
 
-ghost use Rattle.std.specs.Prelude.{◌≡◌, false, Some, None};
-ghost use Rattle.nfc_bench.specs.Device.{linked, how_of};
+ghost use Rattle.std.specs.Prelude.{◌≡◌, ◌<◌, false, Some, None};
+ghost use Rattle.t2t_tag.specs.Store as t2;
+ghost use Rattle.t5t_tag.specs.Store as t5;
+ghost use Rattle.nfc_bench.specs.Device.{linked, how_of, blocks_of, device_locked, memory_in};
 
 use air_core::Listener;
 use isodep_link::{CardEnd, CardListener, CardStep, is_rats};
@@ -33,6 +35,20 @@ impl T2Upper {
         ensures { result ≡ tag }
     {
         T2Upper { tag }
+    }
+
+    pub fn tag(&self) -> &T2Tag
+        ensures { result.now ≡ self.now }
+    {
+        &self.tag
+    }
+
+    /// Locks a block of the tag.
+    pub fn lock(&mut self, block: u16)
+        requires { block < t2.block_count self.old.store }
+        ensures { self.new ≡ t2.locked_too self.old block }
+    {
+        self.tag.lock(block);
     }
 }
 
@@ -91,6 +107,12 @@ impl T4Upper {
         ensures { result ≡ record { tag = tag; link = None } }
     {
         T4Upper { tag, card: None }
+    }
+
+    pub fn tag(&self) -> &T4Tag
+        ensures { result.now ≡ self.now.tag }
+    {
+        &self.tag
     }
 
     /// A frame of the link to the tag.
@@ -176,6 +198,14 @@ impl PoweredTag {
         ensures { result.now ≡ self.now.tag }
     {
         &self.tag
+    }
+
+    /// Locks a block of the tag.
+    pub fn lock(&mut self, block: u16)
+        requires { block < t5.block_count self.old.tag }
+        ensures { self.new ≡ record { tag = t5.locked_too self.old.tag block; lit = self.old.lit } }
+    {
+        self.tag.lock(block);
     }
 }
 
@@ -273,6 +303,40 @@ impl Device {
             Device::T2(_) => How::T2,
             Device::T4(_) => How::T4,
             Device::T5(powered) => How::T5(powered.tag().id()),
+        }
+    }
+
+    /// What it holds: of a Type 4 tag its NDEF file alone.
+    pub fn memory(&self) -> &[u8]
+        ensures { result.now ≡ memory_in self.now }
+    {
+        match self {
+            Device::T2(front) => front.as_upper().tag().store(),
+            Device::T4(front) => front.as_upper().tag().file(),
+            Device::T5(powered) => powered.tag().store(),
+        }
+    }
+
+    /// How many blocks it has that can be locked.
+    pub fn blocks(&self) -> u16
+        ensures { result ≡ blocks_of self.now }
+    {
+        match self {
+            Device::T2(front) => front.as_upper().tag().blocks(),
+            Device::T4(_) => 0,
+            Device::T5(powered) => powered.tag().blocks(),
+        }
+    }
+
+    /// Locks one of its blocks against writing, for good. It takes no memory.
+    pub fn lock(&mut self, block: u16)
+        requires { block < blocks_of self.old }
+        ensures { self.new ≡ device_locked block self.old }
+    {
+        match self {
+            Device::T2(front) => front.upper().lock(block),
+            Device::T4(_) => unreachable!(),
+            Device::T5(powered) => powered.lock(block),
         }
     }
 }

@@ -24,6 +24,8 @@ pub struct Seen {
 pub enum Answer {
     /// It is done, and there is nothing to tell.
     Done,
+    /// What a tag holds: its memory, or its NDEF file.
+    Store(Items<u8>),
     /// The devices that were found, and whether Type 5 tags stand in a crowd, which isn't among them.
     Found { devices: Items<Seen>, crowd: bool },
     /// The message that a tag holds, and whether it may be written.

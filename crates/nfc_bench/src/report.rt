@@ -107,6 +107,10 @@ fn push_answer(alloc: Global, text: &mut Vec<u8>, answer: &Answer) -> Result<(),
         Answer::FieldLost => text.extend_from_slice(b"field lost".as_slice()),
         Answer::NotFound => text.extend_from_slice(b"not found".as_slice()),
         Answer::SixBad => text.extend_from_slice(b"six bad".as_slice()),
+        Answer::Store(bytes) => {
+            text.extend_from_slice(b"store ".as_slice())?;
+            push_hex(alloc, text, bytes.as_slice())
+        }
         Answer::Found { devices, crowd } => push_found(alloc, text, devices.as_slice(), *crowd),
         Answer::Message { message, writable } => {
             text.extend_from_slice(b"message ".as_slice())?;
@@ -280,8 +284,11 @@ mod tests {
             devices: one_of_each(alloc)?,
             crowd: true,
         };
+        let bytes = Items::from_bytes(alloc, &[0, 0xAB])?;
         let rows = [
             (Answer::Done, "7 ok\n"),
+            (Answer::Store(bytes), "7 store 00AB\n"),
+            (Answer::Store(Items::new(Vec::new(alloc))), "7 store -\n"),
             (Answer::NotNdef, "7 not ndef\n"),
             (Answer::NoMessageTlv, "7 no message tlv\n"),
             (Answer::Disturbed, "7 disturbed\n"),

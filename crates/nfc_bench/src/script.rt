@@ -11,8 +11,8 @@ use crate::command::Command;
 use std::alloc::{AllocError, Global};
 use thiserror::Error;
 use words::{
-    CommandName, blocks_word, code_word, cut_word, device_word, fates_word, four_words, hex_word,
-    ident_word, ident_word_v, name_of, only_word, size_word, three_words,
+    CommandName, block_word, blocks_word, code_word, cut_word, device_word, fates_word, four_words,
+    hex_word, ident_word, ident_word_v, name_of, only_word, size_word, three_words, two_words,
 };
 
 /// The fewest blocks of a tag that may be placed (this project's limits): the header of a Type 2 tag has four, a Type 5
@@ -79,7 +79,9 @@ fn command_line(alloc: Global, line: &[u8]) -> Result<Command, LineFault>
     match name_of(name) {
         Some(CommandName::Fates) => fates_line(alloc, rest),
         Some(CommandName::Place) => place_line(alloc, rest),
+        Some(CommandName::Lock) => lock_line(alloc, rest),
         Some(CommandName::Remove) => remove_line(alloc, rest),
+        Some(CommandName::Dump) => dump_line(alloc, rest),
         Some(CommandName::Read) => read_line(alloc, rest),
         None => Err(LineFault::Refused),
     }
@@ -110,6 +112,23 @@ fn fates_line(alloc: Global, rest: &[u8]) -> Result<Command, LineFault>
     }
 }
 
+/// `lock ID BLOCK`, behind its first word.
+fn lock_line(alloc: Global, rest: &[u8]) -> Result<Command, LineFault>
+    ensures ok { IfOk result (λ c. SpelledBy (codes "lock" ∷ words_of rest.now) c) }
+    ensures refused { IsErrOf result LineFault.Refused → (c : Command) → SpelledBy (codes "lock" ∷ words_of rest.now) c → ⊥ }
+{
+    let Some((id_text, block_text)) = two_words(rest) else {
+        return Err(LineFault::Refused);
+    };
+    let Some(id) = device_word(alloc, id_text)? else {
+        return Err(LineFault::Refused);
+    };
+    match block_word(alloc, block_text)? {
+        Some(block) => Ok(Command::Lock { id, block }),
+        None => Err(LineFault::Refused),
+    }
+}
+
 /// `remove ID`, behind its first word.
 fn remove_line(alloc: Global, rest: &[u8]) -> Result<Command, LineFault>
     ensures ok { IfOk result (λ c. SpelledBy (codes "remove" ∷ words_of rest.now) c) }
@@ -120,6 +139,20 @@ fn remove_line(alloc: Global, rest: &[u8]) -> Result<Command, LineFault>
     };
     match device_word(alloc, word)? {
         Some(id) => Ok(Command::Remove { id }),
+        None => Err(LineFault::Refused),
+    }
+}
+
+/// `dump ID`, behind its first word.
+fn dump_line(alloc: Global, rest: &[u8]) -> Result<Command, LineFault>
+    ensures ok { IfOk result (λ c. SpelledBy (codes "dump" ∷ words_of rest.now) c) }
+    ensures refused { IsErrOf result LineFault.Refused → (c : Command) → SpelledBy (codes "dump" ∷ words_of rest.now) c → ⊥ }
+{
+    let Some(word) = only_word(rest) else {
+        return Err(LineFault::Refused);
+    };
+    match device_word(alloc, word)? {
+        Some(id) => Ok(Command::Dump { id }),
         None => Err(LineFault::Refused),
     }
 }
@@ -326,6 +359,25 @@ mod tests {
             ("remove 88020304", 1),
             ("remove 0102030G", 1),
             ("remove t2 01020304", 1),
+            ("lock 01020304 0", 0),
+            ("lock 04112233445566 65535", 0),
+            ("lock e004010203040506 255", 0),
+            ("lock 01020304 65536", 1),
+            ("lock 01020304 04", 1),
+            ("lock 01020304 +4", 1),
+            ("lock 01020304 -", 1),
+            ("lock 01020304 ", 1),
+            ("lock 01020304", 1),
+            ("lock 0102030405 4", 1),
+            ("lock 4 01020304", 1),
+            ("lock 01020304 4 4", 1),
+            ("dump 01020304", 0),
+            ("dump E004010203040506", 0),
+            ("dump", 1),
+            ("dump ", 1),
+            ("dump -", 1),
+            ("dump 0102030405", 1),
+            ("dump 01020304 4", 1),
             ("find", 0),
             ("find ", 1),
             (" find", 1),
@@ -357,6 +409,19 @@ mod tests {
                     code: 8,
                     container: Items::new(Vec::from_slice(alloc, &[10, 255])?),
                     head: Items::new(Vec::new(alloc)),
+                },
+            ),
+            (
+                "lock 04112233445566 12",
+                Command::Lock {
+                    id: DeviceId::A(ident.copy()),
+                    block: 12,
+                },
+            ),
+            (
+                "dump E0040102030405fF",
+                Command::Dump {
+                    id: DeviceId::V(tag),
                 },
             ),
             (

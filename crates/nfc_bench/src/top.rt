@@ -15,6 +15,8 @@ mod crowd_tests;
 mod input;
 mod lines;
 #[cfg(test)]
+mod store_tests;
+#[cfg(test)]
 mod tags_tests;
 #[cfg(test)]
 mod tests;

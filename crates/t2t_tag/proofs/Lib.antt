@@ -1,3 +1,4 @@
 pub mod Spellings
 pub mod Memory
 pub mod Steps
+pub mod Locking

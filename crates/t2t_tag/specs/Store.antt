@@ -1,5 +1,5 @@
 -- What a Type 2 tag holds (NFC Forum Type 2 Tag).
-use Rattle.std.specs.Prelude.{◌≡◌, ℕ, ◌+◌, ◌*◌, ◌/◌, ◌%◌, ◌≤◌, List, length, get_or, slice_index, replicate, Bool, false}
+use Rattle.std.specs.Prelude.{◌≡◌, ℕ, ◌+◌, ◌*◌, ◌/◌, ◌%◌, ◌≤◌, List, length, get_or, slice_index, set, replicate, Bool, true, false}
 use Rattle.t2t_tag.specs.declared.tag.StoreFault.{StoreFault}
 use Rattle.t2t_tag.specs.declared.tag.StoreFault.TheVariants.{BadStore}
 
@@ -22,6 +22,10 @@ pub record T2Memory : Type 0 where
 
 abbrev pub is_locked : T2Memory → ℕ → Bool
 is_locked m block = get_or m.locked block false
+
+-- the tag with one block more locked
+abbrev pub locked_too : T2Memory → ℕ → T2Memory
+locked_too m block = record m { locked = set m.locked block true }
 
 -- a tag that holds a store and has no locked block
 abbrev pub unlocked : List ℕ → T2Memory

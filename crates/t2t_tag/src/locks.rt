@@ -1,6 +1,6 @@
 //! The locked blocks of a tag.
 
-ghost use Rattle.std.specs.Prelude.{◌≡◌, get_or, replicate, false};
+ghost use Rattle.std.specs.Prelude.{◌≡◌, get_or, replicate, set, true, false};
 
 use std::marker::Model;
 
@@ -30,5 +30,12 @@ impl Locks {
         ensures { result ≡ get_or self.now block false }
     {
         self.table[block as usize / 8] >> (block % 8) & 1 == 1
+    }
+
+    /// This block is locked too.
+    pub fn add(&mut self, block: u8)
+        ensures { self.new ≡ set self.old block true }
+    {
+        self.table[block as usize / 8] |= 1 << (block % 8);
     }
 }

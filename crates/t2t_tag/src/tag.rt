@@ -2,7 +2,7 @@
 
 ghost use Rattle.std.specs.Prelude.{◌≡◌, ◌<◌, ◌↔◌, length, IfOk, IsOk};
 ghost use Rattle.nfc_base.specs.Blocks.{block_of};
-ghost use Rattle.t2t_tag.specs.Store.{IsT2Store, block_count, unlocked, store_fault_number};
+ghost use Rattle.t2t_tag.specs.Store.{IsT2Store, block_count, unlocked, locked_too, store_fault_number};
 ghost use Rattle.t2t_tag.specs.Step.{four_blocks, t2_reply, t2_obeyed, t2_answer, t2_after};
 
 use crate::answer::T2Answer;
@@ -81,6 +81,21 @@ impl T2Tag {
         ensures shape { IsT2Store self.now.store }
     {
         self.store.as_slice()
+    }
+
+    /// How many blocks it has.
+    pub fn blocks(&self) -> u16
+        ensures { result ≡ block_count self.now.store }
+    {
+        (self.store.len() / BLOCK) as u16
+    }
+
+    /// Locks a block against writing, for good. It takes no memory.
+    pub fn lock(&mut self, block: u16)
+        requires { block < block_count self.old.store }
+        ensures { self.new ≡ locked_too self.old block }
+    {
+        self.locks.add(block as u8);
     }
 
     /// One step: it answers a command and is silent to every other frame. It takes no memory.
@@ -200,6 +215,28 @@ mod tests {
             }
             assert_eq!(rt; tag.obey(&Frame::whole(Tech::V, request)?), None);
         }
+        Ok(())
+    }
+
+    #[test]
+    fn writes_no_locked_block(rt: HostRuntime) -> Result<(), Fail> {
+        let mut tag = T2Tag::new(vec![in rt.alloc(); 0u8; 64]?)?;
+        tag.lock(5);
+        tag.lock(15);
+        let steps: [(u8, u8); 6] = [(4, 0xA), (5, 0), (6, 0xA), (13, 0xA), (14, 0xA), (15, 0)];
+        for (block, answer) in steps {
+            let request = Frame::whole(Tech::A, &[0xA2, block, 9, 8, 7, 6])?;
+            assert_eq!(rt;
+                tag.obey(&request),
+                Some(Frame::part(Tech::A, &[answer], 4)?),
+                "at {block}"
+            );
+        }
+        let content = [9, 8, 7, 6, 0, 0, 0, 0, 9, 8, 7, 6, 0, 0, 0, 0];
+        assert_eq!(rt;
+            tag.obey(&Frame::whole(Tech::A, &[0x30, 4])?),
+            Some(Frame::whole(Tech::A, &content)?)
+        );
         Ok(())
     }
 

@@ -96,6 +96,13 @@ impl T5Tag {
         self.store.as_slice()
     }
 
+    /// How many blocks it has.
+    pub fn blocks(&self) -> u16
+        ensures { result ≡ block_count self.now }
+    {
+        (self.store.len() / self.block as usize) as u16
+    }
+
     /// Locks a block against writing, for good. It takes no memory.
     pub fn lock(&mut self, block: u16)
         requires { block < block_count self.old }

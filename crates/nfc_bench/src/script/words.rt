@@ -4,10 +4,10 @@ ghost use Rattle.std.specs.Prelude.{◌≡◌, ◌≢◌, ◌<◌, ◌^◌, ℕ,
 ghost use Rattle.nfc_base.specs.declared.event.Fate.{Fate as Becomes};
 ghost use Rattle.std.specs.Option.{option_copied};
 ghost use Rattle.std.specs.Fmt.{decimal};
-ghost use Rattle.nfc_bench.specs.Script.{words_of, SpellsHex, SpellsIdent, SpellsIdV, SpellsId, SpellsBlocks, SpellsSize, SpellsCode, fate_letter, SpellsFates};
+ghost use Rattle.nfc_bench.specs.Script.{words_of, SpellsHex, SpellsIdent, SpellsIdV, SpellsId, SpellsBlocks, SpellsSize, SpellsCode, SpellsBlock, fate_letter, SpellsFates};
 ghost use Rattle.nfc_bench.specs.declared.command.DeviceId.{DeviceId as Named};
 ghost use Rattle.nfc_bench.specs.declared.script.words.CommandName.{CommandName as Names};
-ghost use Rattle.nfc_bench.specs.Words.{CutsWord, NotOne, NotThree, NotFour, name_text};
+ghost use Rattle.nfc_bench.specs.Words.{CutsWord, NotOne, NotTwo, NotThree, NotFour, name_text};
 
 use crate::command::DeviceId;
 use hex::FromHexError;
@@ -29,7 +29,9 @@ const MOST_CODE: u16 = 8;
 pub enum CommandName {
     Fates,
     Place,
+    Lock,
     Remove,
+    Dump,
     Read,
 }
 
@@ -40,7 +42,9 @@ pub fn name_of(word: &[u8]) -> Option<CommandName>
     match word {
         b"fates" => Some(CommandName::Fates),
         b"place" => Some(CommandName::Place),
+        b"lock" => Some(CommandName::Lock),
         b"remove" => Some(CommandName::Remove),
+        b"dump" => Some(CommandName::Dump),
         b"read" => Some(CommandName::Read),
         _ => None,
     }
@@ -69,6 +73,15 @@ pub fn only_word(text: &[u8]) -> Option<&[u8]>
         None => Some(word),
         Some(_) => None,
     }
+}
+
+/// The words of a text of two.
+#[tactic(auto, using(crate::proofs::Words::words_not_nil))]
+pub fn two_words(text: &[u8]) -> Option<(&[u8], &[u8])>
+    ensures { MatchOption result (NotTwo (words_of text.now)) (λ x. words_of text.now ≡ x.0.now ∷ x.1.now ∷ []) }
+{
+    let (first, rest) = cut_word(text);
+    Some((first, only_word(rest?)?))
 }
 
 /// The words of a text of four.
@@ -169,6 +182,13 @@ pub fn number_word(alloc: Global, word: &[u8]) -> Result<Option<u16>, AllocError
     } else {
         Ok(None)
     }
+}
+
+/// The number of a block that a word spells, if it does.
+pub fn block_word(alloc: Global, word: &[u8]) -> Result<Option<u16>, AllocError>
+    ensures { IfOk result (λ o. MatchOption o ((n : ℕ) → SpellsBlock word.now n → ⊥) (λ n. SpellsBlock word.now n)) }
+{
+    number_word(alloc, word)
 }
 
 /// The number of blocks that a word spells, from a limit on, if it does.
