@@ -11,15 +11,18 @@ use Rattle.tlv_area.specs.Writing.{touches, blocks_touched, blocks_below}
 use Rattle.tlv_area.proofs.Free.{free_split, free_at, range-add}
 use Rattle.std.proofs.lemmas.List.Elements.{filter-append}
 
+-- the addresses of a block are in that block
 pub block_is : (size k a : ℕ) → k * size ≤ a → a < k * size + size → a / size ≡ k
 block_is size k a low high =
     let b : ℕ = a - k * size in
     let e : a ≡ k * size + b = omega arith in
     ap (λ n. n / size) e ∙ div-mul-add k size b (omega arith)
 
+-- an address lies in its block
 pub block_bounds : (size a : ℕ) → 0 < size → (a / size * size ≤ a) × (a < a / size * size + size)
 block_bounds size a some = (omega (arith, div-add-mod' a size), lt-div-mul-add some)
 
+-- a block with a free address is touched
 pub touched_at : (r : ℕ → Bool) (from to a size k : ℕ) → from ≤ a → a < to → r a ≡ false → a / size ≡ k → touches size (free r from to) k ≡ true
 touched_at r from to a size k low high open_cell block =
     let one : free r a (a + 1) ≡ a ∷ [] = free_at r a ∙ ap (λ b. cond (not b) (a ∷ []) []) open_cell in
@@ -34,6 +37,7 @@ touched_at r from to a size k low high open_cell block =
     or_true true = refl
     or_true false = refl
 
+-- a block without one isn't
 untouched_range : (r : ℕ → Bool) (a n size k : ℕ) → ((b : ℕ) → a ≤ b → b < a + n → r b ≡ false → b / size ≡ k → ⊥) →
     touches size (filter (λ b. not (r b)) (range_with_len a n)) k ≡ false
 untouched_range r a zero size k none = refl
@@ -48,6 +52,7 @@ pub untouched : (r : ℕ → Bool) (from to size k : ℕ) → ((b : ℕ) → fro
     touches size (free r from to) k ≡ false
 untouched r from to size k none = untouched_range r from (to - from) size k (λ b low high. none b low (omega arith))
 
+-- one block more
 pub blocks_more : (size : ℕ) (cells : List ℕ) (h n : ℕ) →
     blocks_touched size cells h (n + 1) ≡ blocks_touched size cells h n ++ cond (not (n == h) && touches size cells n) (n ∷ []) []
 blocks_more size cells h n =

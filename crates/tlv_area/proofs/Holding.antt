@@ -2,13 +2,13 @@
 use Rattle.std.proofs.Common.{◌≡◌, ℕ, ◌+◌, ◌-◌, ◌<◌, ◌≤◌, Bool, true, false, cond, List, [], ◌∷◌, ◌++◌, length, refl, sym, ◌∙◌, ap, arith, subst, ltb, leb, eqb, take, drop, inl, inr}
 use Rattle.std.specs.Prelude.{◌||◌, ◌==◌, nat_lt, nat_le, slice_index}
 use Rattle.std.specs.List.{list_all, flat_map, AllByRecursion}
-use Rattle.std.proofs.lemmas.List.{length-append, drop_at, append_assoc, take-append-drop}
+use Rattle.std.proofs.lemmas.List.{append_assoc, take-append-drop}
 use Rattle.std.proofs.lemmas.List.Folds.{list_all-append, list_any-append}
 use Rattle.std.proofs.lemmas.Bool.{ltb-true, ltb-false, leb-true, and_parts, cases_Bool, eqb-true, ne_eqb, eq-eqb}
 use Rattle.tlv_area.specs.declared.space.AreaMap.{AreaMap}
 use Rattle.tlv_area.specs.Form.{Holds}
 use Rattle.tlv_area.specs.Writing.{SameOutside}
-use Rattle.tlv_area.specs.Layout.{free, is_known, bytes_at, Tlv, LiesIn, Layout, spelling, reserved_by}
+use Rattle.tlv_area.specs.Layout.{free, is_known, bytes_at, Tlv, LiesIn, Layout, spelling}
 use Rattle.tlv_area.specs.Map.{in_ranges, IsMap, map_cells}
 use Rattle.tlv_area.specs.Tail.{map_tail, is_long, new_tail}
 use Rattle.tlv_area.specs.Writing.{is_in}
@@ -16,7 +16,7 @@ use Rattle.tlv_area.proofs.Steps.{free_below}
 use Rattle.tlv_area.proofs.Places.{map_parts, drop_past}
 use Rattle.tlv_area.proofs.OneForm.{split, range_above}
 
--- what all of a list passes, each passes
+-- bytes that stay at each of some addresses are the same bytes
 pub all_bytes_same : (old new cells : List ℕ) → ((a : ℕ) → is_in cells a ≡ true → slice_index new a ≡ slice_index old a) → bytes_at new cells ≡ bytes_at old cells
 all_bytes_same old new [] same = refl
 all_bytes_same old new (a ∷ cells) same =
@@ -37,6 +37,7 @@ in_above (b ∷ cells) p a above low =
     let other : eqb b a ≡ false = ne_eqb b a (λ e. omega arith) in
     rw other (in_above cells p a parts.1 low)
 
+-- an element of a list of numbers below p is below p
 pub in_below : (cells : List ℕ) (p a : ℕ) → list_all (λ b. nat_lt b p) cells ≡ true → is_in cells a ≡ true → a < p
 in_below [] p a below there = cc
 in_below (b ∷ cells) p a below there =
@@ -67,6 +68,7 @@ first_kind memory t lies = first t.at lies.bytes
     first [] e = cc
     first (x ∷ tail) e = (x, tail, refl, (cc))
 
+-- TLVs stay where their bytes do
 lie_kept : (old new : List ℕ) (ts : List Tlv) → length new ≡ length old →
     ((a : ℕ) → is_in (flat_map (λ t. t.at) ts) a ≡ true → slice_index new a ≡ slice_index old a) →
     AllByRecursion (LiesIn old) ts → AllByRecursion (LiesIn new) ts

@@ -49,6 +49,7 @@ all_in p (x ∷ xs) a all_of there =
       | inr e ↦ (let rest : is_in xs a ≡ true = rw e at there in all_in p xs a parts.1 rest)
     ]
 
+-- numbers of a range stay below its end
 filter_below : (p : ℕ → Bool) (a n top : ℕ) → a + n ≤ top → list_all (λ k. nat_lt k top) (filter p (range_with_len a n)) ≡ true
 filter_below p a zero top high = refl
 filter_below p a (suc n) top high =
@@ -57,6 +58,7 @@ filter_below p a (suc n) top high =
     elim (p a) as (λ v. list_all (λ k. nat_lt k top) (cond v (a ∷ filter p (range_with_len (a + 1) n)) (filter p (range_with_len (a + 1) n))) ≡ true)
     [ true ↦ rw here rest | false ↦ rest ]
 
+-- a number that passes is among those that pass
 filter_has : (p : ℕ → Bool) (a n k : ℕ) → a ≤ k → k < a + n → p k ≡ true → is_in (filter p (range_with_len a n)) k ≡ true
 filter_has p a zero k low high passes = absurd (omega arith)
 filter_has p a (suc n) k low high passes = elim (cases_eq a k) [
@@ -67,6 +69,7 @@ filter_has p a (suc n) k low high passes = elim (cases_eq a k) [
       elim (cases_Bool (p a)) [ inl t ↦ rw (t, other) rest | inr f ↦ rw f rest ])
 ]
 
+-- the one that is left out isn't
 filter_lacks : (q : ℕ → Bool) (h : ℕ) (xs : List ℕ) → is_in (filter (λ k. not (k == h) && q k) xs) h ≡ false
 filter_lacks q h [] = refl
 filter_lacks q h (x ∷ xs) =
@@ -76,6 +79,7 @@ filter_lacks q h (x ∷ xs) =
       | inr e ↦ elim (cases_Bool (q x)) [ inl t ↦ rw (e, t, e) rest | inr f ↦ rw (e, f) rest ]
     ]
 
+-- the block of an address is touched by it
 touched_by : (size : ℕ) (cells : List ℕ) (a : ℕ) → is_in cells a ≡ true → touches size cells (a / size) ≡ true
 touched_by size [] a there = cc
 touched_by size (x ∷ xs) a there = elim (cases_Bool (eqb x a)) [
@@ -135,6 +139,7 @@ fits_in message n some within = elim (cases_Bool (leb n 256)) [
   ])
 ]
 
+-- a new tail has a byte
 tail_size : (message : List ℕ) → 1 ≤ length (new_tail message)
 tail_size message = elim (cases_Bool (ltb 254 (length message))) [
   | inl d ↦ rw d (omega arith)

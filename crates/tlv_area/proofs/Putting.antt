@@ -23,6 +23,7 @@ one_taken_more : (r : ℕ → Bool) (at a : ℕ) → at ≤ a → r a ≡ true �
 one_taken_more r at a low taken = free_split r at a (a + 1) low (omega arith)
     ∙ ap (λ cells. free r at a ++ cells) (free_at r a ∙ ap (λ b. cond (not b) (a ∷ []) []) taken) ∙ append-nil (free r at a)
 
+-- one byte more at the next free address
 pub put_more : (r : ℕ → Bool) (at a i : ℕ) (old mem bytes : List ℕ) → at ≤ a → r a ≡ false → a < length mem → i < length bytes →
     IsPut (free r at a) old mem (take i bytes) → IsPut (free r at (a + 1)) old (set mem a (slice_index bytes i)) (take (i + 1) bytes)
 put_more r at a i old mem bytes low open_cell within more so_far =
@@ -49,10 +50,12 @@ put_more r at a i old mem bytes low open_cell within more so_far =
           ∙ sym (take_more bytes i 0 more);
     }
 
+-- a reserved address is passed over
 pub put_skip : (r : ℕ → Bool) (at a : ℕ) (old mem bytes : List ℕ) → at ≤ a → r a ≡ true →
     IsPut (free r at a) old mem bytes → IsPut (free r at (a + 1)) old mem bytes
 put_skip r at a old mem bytes low taken so_far = subst (λ c. IsPut c old mem bytes) (sym (one_taken_more r at a low taken)) so_far
 
+-- all bytes are put
 pub put_done : (r : ℕ → Bool) (at a end i : ℕ) (old mem bytes : List ℕ) → at ≤ a → a ≤ end → i ≡ length bytes → i ≡ length (free r at a) →
     IsPut (free r at a) old mem (take i bytes) → IsPut (take (length bytes) (free r at end)) old mem bytes
 put_done r at a end i old mem bytes low high all_of count so_far =

@@ -1,6 +1,6 @@
 -- What steps leave that write whole blocks.
-use Rattle.std.proofs.Common.{◌≡◌, ℕ, suc, zero, ◌+◌, ◌-◌, ◌*◌, ◌/◌, ◌<◌, ◌≤◌, Bool, true, false, List, [], ◌∷◌, ◌++◌, length, refl, sym, ◌∙◌, ap, arith, take, drop, map, inl, inr, eqb, ltb, append_assoc}
-use Rattle.std.specs.Prelude.{slice_index, ◌||◌, ◌==◌, nat_lt}
+use Rattle.std.proofs.Common.{◌≡◌, ℕ, ◌+◌, ◌-◌, ◌*◌, ◌/◌, ◌<◌, ◌≤◌, Bool, true, false, List, [], ◌∷◌, ◌++◌, length, refl, sym, ◌∙◌, ap, arith, take, drop, map, inl, inr, eqb, ltb, append_assoc}
+use Rattle.std.specs.Prelude.{slice_index, ◌||◌, nat_lt}
 use Rattle.std.specs.List.{list_all, AllByRecursion}
 use Rattle.std.proofs.Math.Nat.{mul-le-mul_right}
 use Rattle.std.proofs.lemmas.List.{length-append, length-take-le, length-drop, get_or-append_right, get_or_append_left, get_or-take, get_or-drop}
@@ -74,6 +74,7 @@ module _ (size : ℕ) (mem : List ℕ) (k : ℕ) (content : List ℕ) (whole : l
     ]
   ]
 
+-- the bytes of a block, by their addresses
 pub block_of-at : (size : ℕ) (new : List ℕ) (k a : ℕ) → k * size ≤ a → a < k * size + size → slice_index (block_of size new k) (a - k * size) ≡ slice_index new a
 block_of-at size new k a low high =
     let turned : size * k ≡ k * size = omega arith in
@@ -81,6 +82,7 @@ block_of-at size new k a low high =
     ap (λ n. slice_index (take size (drop n new)) (a - k * size)) turned
     ∙ get_or-take size (drop (k * size) new) (a - k * size) 0 (omega arith) ∙ get_or-drop (k * size) new (a - k * size) 0 ∙ ap (λ n. slice_index new n) place
 
+-- a block that lies in a store has its size
 pub block_of-size : (size : ℕ) (new : List ℕ) (k : ℕ) → k * size + size ≤ length new → length (block_of size new k) ≡ size
 block_of-size size new k within =
     let turned : size * k ≡ k * size = omega arith in
@@ -96,6 +98,7 @@ pub record After (size : ℕ) (mem new : List ℕ) (ss : List Step) (img : List 
   pub filled : (a : ℕ) → is_in (map written_block ss) (a / size) ≡ true → slice_index img a ≡ slice_index new a
   pub kept : (a : ℕ) → is_in (map written_block ss) (a / size) ≡ false → slice_index img a ≡ slice_index mem a
 
+-- such steps leave that
 pub steps_leave : (size n : ℕ) (mem new : List ℕ) (ss : List Step) → 0 < size → n * size ≤ length mem → length new ≡ length mem →
     AllByRecursion (Writes size new) ss → list_all (λ k. nat_lt k n) (map written_block ss) ≡ true →
     After size mem new ss (after_steps size mem ss)

@@ -10,7 +10,7 @@ use Rattle.tlv_area.specs.declared.step.Plan.{Plan}
 use Rattle.tlv_area.specs.declared.planning.PlanFault.{PlanFault}
 use Rattle.tlv_area.specs.declared.planning.PlanFault.TheVariants.{TooLong, Memory}
 use Rattle.tlv_area.specs.Layout.{Tlv, bytes_at, reserved_by}
-use Rattle.tlv_area.specs.Form.{Form, Message, IsForm}
+use Rattle.tlv_area.specs.Form.{Message, IsForm}
 use Rattle.tlv_area.specs.Map.{IsMap}
 use Rattle.tlv_area.specs.Tail.{message_tail, map_tail, written, span}
 

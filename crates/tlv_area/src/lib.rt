@@ -3,7 +3,9 @@
 //! `container` reads the capability container, which names a `space`. `walk` goes over the TLVs of a space and makes
 //! the map of its message: `ahead` reads one TLV, `control` takes the range that a control TLV reserves, `ranges` counts
 //! addresses that are free. `message` gives the address of each byte of the message. `specs/Layout.antt` and
-//! `specs/Form.antt` say what a store holds, and `form` that each store has exactly one form.
+//! `specs/Form.antt` say what a store holds, and `form` that each store has exactly one form. `room` tells how long a
+//! message may be in the place of another, `writing` makes the store that has it, and `planning` the plan of the blocks that
+//! are written for it, each a `step`. `specs/Writing.antt` says what each step leaves.
 #![tactic(auto)]
 
 mod ahead;

@@ -1,7 +1,5 @@
-use Rattle.std.proofs.Common.{◌≡◌, ℕ, ◌+◌, ◌*◌, ◌/◌, ◌-◌, ◌≤◌, ◌++◌, List, [], ◌∷◌, cond, sym, ◌∙◌, ap, map, arith}
+use Rattle.std.proofs.Common.{◌≡◌, ℕ, ◌+◌, ◌++◌, List, [], ◌∷◌, cond, sym, ◌∙◌, ap, map}
 use Rattle.std.proofs.lemmas.List.{map_push, append-nil}
-use Rattle.std.proofs.Math.Nat.{mul-le-mul_left}
-use Rattle.nfc_base.specs.Blocks.{block_of}
 use Rattle.tlv_area.specs.Layout.{free}
 use Rattle.tlv_area.specs.Map.{in_ranges}
 use Rattle.tlv_area.specs.Writing.{blocks_touched, write_of, block_in}

@@ -1,4 +1,4 @@
-use Rattle.std.proofs.Common.{◌≡◌, ◌+◌, ◌*◌, ◌/◌, ◌%◌, ◌≤◌, ℕ, Bool, List, length, map, arith, ◌∙◌, ap, subst, take}
+use Rattle.std.proofs.Common.{◌≡◌, ◌/◌, ◌%◌, ℕ, Bool, List, length, map, arith, ◌∙◌, ap, subst, take}
 use Rattle.std.specs.Prelude.{slice_index, slice_set}
 use Rattle.nfc_base.specs.Blocks.{block_of}
 use Rattle.tlv_area.specs.declared.space.AreaMap.{AreaMap}

@@ -20,7 +20,8 @@ loop-address-preserved c =
           record {
             count = omega (arith, more);
             low = omega arith;
-            so_far = rw (w.memory-is, w.index-is) (put_more (in_ranges c.args.reserved.now) c.args.at c.loop-address.address c.loop-address.index c.args.memory.now c.loop-address.memory c.args.bytes.now
+            so_far = rw (w.memory-is, w.index-is) (put_more (in_ranges c.args.reserved.now) c.args.at c.loop-address.address c.loop-address.index
+                c.args.memory.now c.loop-address.memory c.args.bytes.now
                 low open_cell (omega arith) (omega arith) c.loop-address.invariant.so_far);
           })
       | else-not-is_reserved w ↦
@@ -29,7 +30,8 @@ loop-address-preserved c =
           record {
             count = omega (arith, more);
             low = omega arith;
-            so_far = rw (w.memory-is, w.index-is) (put_skip (in_ranges c.args.reserved.now) c.args.at c.loop-address.address c.args.memory.now c.loop-address.memory (take c.loop-address.index c.args.bytes.now)
+            so_far = rw (w.memory-is, w.index-is) (put_skip (in_ranges c.args.reserved.now) c.args.at c.loop-address.address
+                c.args.memory.now c.loop-address.memory (take c.loop-address.index c.args.bytes.now)
                 low taken c.loop-address.invariant.so_far);
           })
     ]
