@@ -35,7 +35,7 @@ module _ {L A : Type 0} (m : Machine L) (restarts : A → List ℕ → A → Typ
       let P : List L → Type 0 = λ zs. HearAll m restarts steps f zs mid more ys after in
       let h' : HearAll m restarts steps f (drop (i + 1) items) mid more ys after = subst P rest h in
       let Q : List L → Type 0 = λ zs. HearAll m restarts steps f zs far (cons_option answer more) (y ∷ ys) after in
-      let whole : HearAll m restarts steps f (drop i items) far (cons_option answer more) (y ∷ ys) after = subst Q (sym split) (answer, more, mid, step, h', refl) in
+      let whole : HearAll m restarts steps f (drop i items) far (cons_option answer more) (y ∷ ys) after = subst Q (sym split) (answer, more, y, mid, ys, step, h', refl, refl) in
       let w : Whole old begin (take i items ++ (y ∷ ys)) after (joint_with so_far (cons_option answer more)) = so (cons_option answer more) (y ∷ ys) after whole in
       let R : List L → Type 0 = λ zs. HearAll m restarts steps f old begin w.answers zs after in
       let same : take i items ++ (y ∷ ys) ≡ take (i + 1) (set items i y) ++ ys = grind (arith, common_steps, front) in
@@ -47,7 +47,7 @@ module _ {L A : Type 0} (m : Machine L) (restarts : A → List ℕ → A → Typ
   ends old begin items i so_far far le so =
       let none : drop i items ≡ [] = grind (arith, common_steps) in
       let P : List L → Type 0 = λ zs. HearAll m restarts steps f zs far [] [] far in
-      let last : HearAll m restarts steps f (drop i items) far [] [] far = subst P (sym none) (refl, refl) in
+      let last : HearAll m restarts steps f (drop i items) far [] [] far = subst P (sym none) (refl, refl, refl) in
       let R : List L → Type 0 = λ zs. Whole old begin zs far (joint_with so_far []) in
       let all : take i items ++ [] ≡ items = grind (arith, common_steps) in
       subst R all (so [] [] far last)
@@ -68,7 +68,7 @@ module _ {L A : Type 0} (m : Machine L) (restarts : A → List ℕ → A → Typ
         let P : List L → Type 0 = λ zs. HearSome m restarts steps stops is_stuck f zs mid ys after in
         let h' : HearSome m restarts steps stops is_stuck f (drop (i + 1) items) mid ys after = subst P rest h in
         let Q : List L → Type 0 = λ zs. HearSome m restarts steps stops is_stuck f zs far (y ∷ ys) after in
-        let whole : HearSome m restarts steps stops is_stuck f (drop i items) far (y ∷ ys) after = subst Q (sym split) (inr (answer, mid, step, h')) in
+        let whole : HearSome m restarts steps stops is_stuck f (drop i items) far (y ∷ ys) after = subst Q (sym split) (y, ys, refl, inr (answer, mid, step, h')) in
         let R : List L → Type 0 = λ zs. HearSome m restarts steps stops is_stuck f old begin zs after in
         let same : take i items ++ (y ∷ ys) ≡ take (i + 1) (set items i y) ++ ys = grind (arith, common_steps, front) in
         subst R same (so (y ∷ ys) after whole)
@@ -82,7 +82,7 @@ module _ {L A : Type 0} (m : Machine L) (restarts : A → List ℕ → A → Typ
     stops_here old begin items i far d y after lt so stop =
         let split : drop i items ≡ get_or items i d ∷ drop (i + 1) items = rw add-one (drop-cons items i d lt) in
         let P : List L → Type 0 = λ zs. HearSome m restarts steps stops is_stuck f zs far (y ∷ drop (i + 1) items) after in
-        let here : HearSome m restarts steps stops is_stuck f (drop i items) far (y ∷ drop (i + 1) items) after = subst P (sym split) (inl (stop, refl)) in
+        let here : HearSome m restarts steps stops is_stuck f (drop i items) far (y ∷ drop (i + 1) items) after = subst P (sym split) (y, drop (i + 1) items, refl, inl (stop, refl)) in
         let whole : take i items ++ (y ∷ drop (i + 1) items) ≡ set items i y = sym (set_at items i y lt) in
         let R : List L → Type 0 = λ zs. HearSome m restarts steps stops is_stuck f old begin zs after in
         subst R whole (so (y ∷ drop (i + 1) items) after here)

@@ -7,17 +7,18 @@ use Rattle.nfc_base.specs.declared.tag_link.AskFault.TheVariants.{FieldLost, Six
 use Rattle.nfc_base.specs.Signal.{Signal}
 use Rattle.nfc_base.specs.Trace.{noise}
 use Rattle.nfc_base.specs.Links.{CountsOn}
-use Rattle.nfc_base.specs.TagLinks.{Obeys, Rises, IsAnswer, IsFault}
+use Rattle.nfc_base.specs.TagLinks.{IsNamedIn, Obeys, Rises, IsAnswer, IsFault}
 use Rattle.air_core.specs.Turn.{Air}
 use Rattle.air_core.specs.Waits.{Standing, Asking, Broken, stand}
-use Rattle.air_core.specs.PlainTags.{plain_kind, heard_times, tag_step, IsSteady, IsAlone, IsPlainTag, MayTell}
-use Rattle.air_core.specs.PlainLinks.{PlainSeen, at_place, counts_of, unanswered, StandsAt, answered_by_link, plain_view, MayAskAt, IsPlainReady, PlainMoves}
-use Rattle.air_core.specs.PlainWaits.{after_bad, Waits, EndsBy, HasWaited}
+use Rattle.air_core.specs.PlainTags.{plain_kind, heard_times, tag_step, IsAlone, IsPlainTag, MayTell}
+use Rattle.air_core.specs.PlainLinks.{PlainSeen, at_place, counts_of, unanswered, StandsAt, answered_by_link, asked_on, plain_view, MayAskAt, IsPlainReady, PlainMoves}
+use Rattle.air_core.specs.PlainWaits.{after_bad, Waited, EndsBy, HasWaited}
 use Rattle.air_core.specs.declared.listener.Listener.{Ghosts}
 use Rattle.air_core.proofs.PlainAside.{Laws}
 use Rattle.air_core.proofs.PlainTurns.{asking_bad}
 use Rattle.air_core.proofs.PlainEnds.{may_tell, steady_now}
-use Rattle.air_core.proofs.PlainViews.{never_type4, plain_heard, IsLeft, heard_same, Shown, shown}
+use Rattle.air_core.proofs.PlainTagging.{IsSteady, plain_heard}
+use Rattle.air_core.proofs.PlainViews.{never_type4, IsLeft, heard_same, Shown, shown}
 
 pub none_here : (o : Option AskFault) → ((x : AskFault) → o ≡ Some x → ⊥) → o ≡ None
 none_here None other = refl
@@ -39,6 +40,9 @@ module _ {L : Type 0} (k : Ghosts L) (laws : Laws k) (old new : Air L) (place st
   abbrev before : PlainSeen L
   before = record { air = old; place = place; start = start; last = last; over = over }
 
+  none_more : (p : PlainSeen L) → p.over ≡ None → asked_on k p ≡ answered_by_link k p
+  none_more p e = ap (λ xs. answered_by_link k p ++ xs) (none_left p.over p.last e) ∙ append-nil (answered_by_link k p)
+
   bound : start ≤ length old.trace
   bound = (ready begun).start
 
@@ -48,7 +52,7 @@ module _ {L : Type 0} (k : Ghosts L) (laws : Laws k) (old new : Air L) (place st
     pub heard : ℕ
     pub s : Standing
     pub left : L
-    pub waits : Waits k old new place f tag turns heard s left []
+    pub waits : Waited k old new place f tag turns heard s left []
     pub most : turns ≤ 6
     pub is : IsLeft k tag f heard left
     pub stands : StandsAt (Some o) new.lit s
@@ -67,7 +71,7 @@ module _ {L : Type 0} (k : Ghosts L) (laws : Laws k) (old new : Air L) (place st
     stands = (h.dim, f, inl refl);
     calm = inr (inr (inr h.noisy));
   }
-  left_of tag SixBad h = record { turns = 6; heard = h.heard; s = after_bad f 6; left = heard_times k tag f h.heard; waits = h.waits; most = omega arith; is = inl refl; stands = (f, refl); calm = inr (inr (h.calm (omega arith))) }
+  left_of tag SixBad h = record { turns = 6; heard = h.heard; s = after_bad f 6; left = heard_times k tag f h.heard; waits = h.waits; most = omega arith; is = inl refl; stands = (h.lit ∙ h.begun (omega arith), f, refl); calm = inr (inr (h.calm (omega arith))) }
   left_of tag Memory h = record {
     turns = h.bad;
     heard = h.goes.heard;
@@ -76,7 +80,7 @@ module _ {L : Type 0} (k : Ghosts L) (laws : Laws k) (old new : Air L) (place st
     waits = h.goes.waits;
     most = omega (arith, h.bound);
     is = inl refl;
-    stands = (f, h.bad, asking_bad f h.bad h.bound);
+    stands = (h.lit, f, h.bad, asking_bad f h.bad h.bound);
     calm = inl refl;
   }
   left_of tag Protocol h = absurd h
@@ -89,12 +93,12 @@ module _ {L : Type 0} (k : Ghosts L) (laws : Laws k) (old new : Air L) (place st
     tell = may_tell k old place f h.tag may
 
     steady : IsSteady k h.tag.tag f
-    steady = steady_now k old place f h.tag tell
+    steady = steady_now k laws old place f h.tag tell
 
     shows : Shown k before after_ok f h.tag.tag h.ends.turns (suc h.ends.heard) (f ∷ []) h.ends.waits.events
     shows =
         shown k laws old place f h.tag tell steady new h.ends.turns (suc h.ends.heard) (Asking 0 []) (heard_times k h.tag.tag f (suc h.ends.heard)) (f ∷ []) h.ends.waits (inl refl)
-        start last (Some g) over over bound
+        start last (Some g) over over bound begun
 
     pub ok_obeys : Obeys (plain_view k before) (plain_view k after_ok) f
     ok_obeys = shows.obeys
@@ -124,14 +128,16 @@ module _ {L : Type 0} (k : Ghosts L) (laws : Laws k) (old new : Air L) (place st
         let I : List ℕ → Type 0 = λ i. IsAlone k i new.listeners place left in
         let P : List ℕ → Type 0 = λ i. IsPlainTag k (plain_kind (k.machine.tech h.tag.tag)) i left in
         let Q : _ → Type 0 = λ u. IsPlainTag k (plain_kind u) (k.identifier left) left in
+        let M : List ℕ → Type 0 = IsNamedIn (k.machine.tech h.tag.tag) in
+        let N : _ → Type 0 = λ u. IsNamedIn u (k.identifier left) in
         record {
           start = omega (arith, bound, shows.longer);
           tag = record {
             tag = left;
             selected = steady.selected reply h.ends.says h.ends.heard;
             alone = subst I (sym own) h.ends.waits.alone;
-            eight = λ v. ap length own ∙ h.tag.eight (sym keeps.0 ∙ v);
-            plain = subst Q (sym keeps.0) (subst P (sym own) (plain_heard k (plain_kind (k.machine.tech h.tag.tag)) (k.identifier h.tag.tag) h.tag.tag f tell h.tag.plain n));
+            named = subst N (sym keeps.0) (subst M (sym own) h.tag.named);
+            plain = subst Q (sym keeps.0) (subst P (sym own) (plain_heard k laws (plain_kind (k.machine.tech h.tag.tag)) (k.identifier h.tag.tag) h.tag.tag f tell h.tag.plain n));
           };
         }
 
@@ -141,17 +147,17 @@ module _ {L : Type 0} (k : Ghosts L) (laws : Laws k) (old new : Air L) (place st
 
     pub ok_moves : PlainMoves k before after_ok
     ok_moves = record {
-      asked = f ∷ [];
-      notes = h.ends.waits.notes;
-      going = h.ends.waits.going;
       same = (refl, refl);
-      stands = λ e. stands_ok over e;
-      told = λ e. ap (λ xs. answered_by_link k after_ok ++ xs) (none_left over (Some g) e) ∙ append-nil (answered_by_link k after_ok) ∙ shows.answered;
-      most = omega (arith, shows.long, h.ends.bound);
+      asked = record {
+        commands = f ∷ [];
+        notes = h.ends.waits.notes;
+        going = h.ends.waits.going;
+        stands = λ e. stands_ok over e;
+        told = none_more after_ok begun ∙ shows.answered ∙ ap (λ xs. xs ++ f ∷ []) (sym (none_more before begun));
+        most = omega (arith, shows.long, h.ends.bound);
+      };
       ended = λ x e. absurd cc;
-      obeyed = shows.obeys.more;
-      leads = shows.obeys.leads;
-      images = shows.images;
+      obeyed = record { commands = shows.obeys.more; leads = shows.obeys.leads; images = shows.images };
     }
 
   module _ (o : AskFault) (h : HasWaited k old new place f (Err o)) where
@@ -162,13 +168,13 @@ module _ {L : Type 0} (k : Ghosts L) (laws : Laws k) (old new : Air L) (place st
     tell_err = may_tell k old place f h.tag may
 
     steady_err : IsSteady k h.tag.tag f
-    steady_err = steady_now k old place f h.tag tell_err
+    steady_err = steady_now k laws old place f h.tag tell_err
 
     x : Left h.tag.tag o
     x = left_of h.tag.tag o h.ends
 
     shows_err : Shown k before after_err f h.tag.tag x.turns x.heard [] x.waits.events
-    shows_err = shown k laws old place f h.tag tell_err steady_err new x.turns x.heard x.s x.left [] x.waits x.is start last (Some g) over (Some o) bound
+    shows_err = shown k laws old place f h.tag tell_err steady_err new x.turns x.heard x.s x.left [] x.waits x.is start last (Some g) over (Some o) bound begun
 
     pub err_obeys : Obeys (plain_view k before) (plain_view k after_err) f
     err_obeys = shows_err.obeys
@@ -180,23 +186,23 @@ module _ {L : Type 0} (k : Ghosts L) (laws : Laws k) (old new : Air L) (place st
     same_answered = shows_err.answered ∙ append-nil (plain_view k before).answered
 
     pub err_fault : IsFault (plain_view k before) (plain_view k after_err) f o
-    err_fault = record { over = refl; after = shows_err.either; answered = same_answered }
+    err_fault = record { over = refl; store = shows_err.either; answered = same_answered }
 
     pub err_moves : PlainMoves k before after_err
     err_moves =
         let P : Standing → Type 0 = StandsAt (Some o) new.lit in
         record {
-          asked = f ∷ [];
-          notes = x.waits.notes;
-          going = x.waits.going;
           same = (refl, refl);
-          stands = λ e. subst P (sym x.waits.stands) x.stands;
-          told = λ e. ap (λ y. answered_by_link k after_err ++ y ∷ []) copied ∙ ap (λ ys. ys ++ f ∷ []) same_answered;
-          most = omega (arith, shows_err.long, x.most);
+          asked = record {
+            commands = f ∷ [];
+            notes = x.waits.notes;
+            going = x.waits.going;
+            stands = λ e. subst P (sym x.waits.stands) x.stands;
+            told = ap (λ y. answered_by_link k after_err ++ y ∷ []) copied ∙ ap (λ ys. ys ++ f ∷ []) (same_answered ∙ sym (none_more before begun));
+            most = omega (arith, shows_err.long, x.most);
+          };
           ended = λ y e. absurd cc;
-          obeyed = shows_err.obeys.more;
-          leads = shows_err.obeys.leads;
-          images = shows_err.images;
+          obeyed = record { commands = shows_err.obeys.more; leads = shows_err.obeys.leads; images = shows_err.images };
         }
 
     -- where all transmissions passed, a tag that answers was heard

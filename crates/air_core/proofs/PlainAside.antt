@@ -6,21 +6,21 @@ use Rattle.nfc_base.specs.declared.frame.Tech.{Tech}
 use Rattle.nfc_base.specs.declared.frame.Tech.TheVariants.{A, V}
 use Rattle.nfc_base.specs.Signal.{Signal, whole_a}
 use Rattle.nfc_base.specs.Far.{Untouched}
-use Rattle.nfc_base.specs.TagLinks.{MayAsk, addressed}
+use Rattle.nfc_base.specs.TagLinks.{MayAsk, addressed, IsNamedIn, IsAddressedIn}
 use Rattle.air_core.specs.Joint.{same_tech}
 use Rattle.air_core.specs.World.{hears, hands_over, answered_by, stepped_by}
 use Rattle.air_core.specs.Quiet.{EachQuiet}
-use Rattle.air_core.specs.Listening.{addressed_to}
+use Rattle.air_core.specs.Listening.{StaysSame}
 use Rattle.air_core.specs.PlainTags.{plain_kind, IsAside, IsAlone}
 use Rattle.air_core.specs.declared.listener.Listener.{Ghosts}
 
 -- the laws of listeners
 pub record Laws {L : Type 0} (k : Ghosts L) : Type 0 where
-  pub step_keeps : (l : L) (f : Signal) (reply : Option (List ℕ)) → (k.machine.tech (k.machine.after l f reply) ≡ k.machine.tech l) × (k.identifier (k.machine.after l f reply) ≡ k.identifier l)
-  pub dark_keeps : (l : L) → (k.machine.tech (k.machine.darkened l) ≡ k.machine.tech l) × (k.identifier (k.machine.darkened l) ≡ k.identifier l) × (k.store (k.machine.darkened l) ≡ k.store l)
+  pub step_keeps : (l : L) (f : Signal) (reply : Option (List ℕ)) → StaysSame k.machine.tech k.identifier k.commands l (k.machine.after l f reply)
+  pub dark_keeps : (l : L) → StaysSame k.machine.tech k.identifier k.commands l (k.machine.darkened l) × (k.store (k.machine.darkened l) ≡ k.store l)
   pub dark_rests : (l : L) → (k.is_ready (k.machine.darkened l) ≡ false) × (k.is_selected (k.machine.darkened l) ≡ false)
   pub rests : (l : L) (bytes : List ℕ) → k.machine.tech l ≡ A → k.is_ready l ≡ false → k.is_selected l ≡ false → (k.machine.handed l (whole_a bytes) ≡ Untouched) × (k.machine.answer l (whole_a bytes) None ≡ None) × (k.is_ready (k.machine.after l (whole_a bytes) None) ≡ false) × (k.is_selected (k.machine.after l (whole_a bytes) None) ≡ false)
-  pub ignores : (l : L) (other : List ℕ) (code : ℕ) (rest : List ℕ) → k.machine.tech l ≡ V → length other ≡ 8 → (other ≡ k.identifier l → ⊥) → (k.machine.handed l (addressed_to other code rest) ≡ Untouched) × (k.machine.answer l (addressed_to other code rest) None ≡ None)
+  pub ignores : (l : L) (other : List ℕ) (f : Signal) → IsAddressedIn (k.machine.tech l) other f → (other ≡ k.identifier l → ⊥) → (k.machine.handed l f ≡ Untouched) × (k.machine.answer l f None ≡ None)
 
 module _ {L : Type 0} (k : Ghosts L) (laws : Laws k) where
   -- another listener at a frame: it is silent, and stays aside
@@ -45,7 +45,7 @@ module _ {L : Type 0} (k : Ghosts L) (laws : Laws k) where
   }
 
   other_stays : (own : List ℕ) (f : Signal) (l : L) → (own ≡ k.identifier l → ⊥) → own ≡ k.identifier (k.machine.after l f None) → ⊥
-  other_stays own f l o e = o (e ∙ (laws.step_keeps l f None).1)
+  other_stays own f l o e = o (e ∙ (laws.step_keeps l f None).identifier')
 
   by_a : (own bytes : List ℕ) (l : L) → IsAside k own l → (u : Tech) → k.machine.tech l ≡ u → IsUnmoved own (whole_a bytes) l
   by_a own bytes l a A e =
@@ -55,18 +55,19 @@ module _ {L : Type 0} (k : Ghosts L) (laws : Laws k) where
       (record { rests = λ h. (law.2, law.3); other = other_stays own (whole_a bytes) l a.other })
   by_a own bytes l a V e = deaf own (whole_a bytes) l (ap (λ t. same_tech t A) e) a
 
-  by_v : (own : List ℕ) (code : ℕ) (rest : List ℕ) (l : L) → length own ≡ 8 → IsAside k own l → (u : Tech) → k.machine.tech l ≡ u → IsUnmoved own (addressed own code rest) l
-  by_v own code rest l eight a A e = deaf own (addressed own code rest) l (ap (λ t. same_tech t V) e) a
-  by_v own code rest l eight a V e =
-      let law = laws.ignores l own code rest e eight a.other in
+  by_v : (own : List ℕ) (code : ℕ) (rest : List ℕ) (l : L) → IsNamedIn V own → IsAside k own l → (u : Tech) → k.machine.tech l ≡ u → IsUnmoved own (addressed own code rest) l
+  by_v own code rest l named a A e = deaf own (addressed own code rest) l (ap (λ t. same_tech t V) e) a
+  by_v own code rest l named a V e =
       let f : Signal = addressed own code rest in
-      let tech : k.machine.tech (k.machine.after l f None) ≡ V = (laws.step_keeps l f None).0 ∙ e in
+      let P : Tech → Type 0 = λ t. IsAddressedIn t own f in
+      let law = laws.ignores l own f (subst P (sym e) (named, record { code = code; rest = rest; frame = refl })) a.other in
+      let tech : k.machine.tech (k.machine.after l f None) ≡ V = (laws.step_keeps l f None).tech' ∙ e in
       hearing own f l (ap (λ t. same_tech t V) e) law.0 law.1
       (record { rests = λ h. absurd cc; other = other_stays own f l a.other })
 
-  pub aside_silent : (own : List ℕ) (t : Tech) (f : Signal) → MayAsk (plain_kind t) own f → (t ≡ V → length own ≡ 8) → (l : L) → IsAside k own l → IsUnmoved own f l
-  aside_silent own A f may eight l a = let P : Signal → Type 0 = λ g. IsUnmoved own g l in subst P (sym may) (by_a own f.bytes l a (k.machine.tech l) refl)
-  aside_silent own V f may eight l a = let P : Signal → Type 0 = λ g. IsUnmoved own g l in subst P (sym may.frame) (by_v own may.code may.rest l (eight refl) a (k.machine.tech l) refl)
+  pub aside_silent : (own : List ℕ) (t : Tech) (f : Signal) → MayAsk (plain_kind t) own f → IsNamedIn t own → (l : L) → IsAside k own l → IsUnmoved own f l
+  aside_silent own A f may named l a = let P : Signal → Type 0 = λ g. IsUnmoved own g l in subst P (sym may) (by_a own f.bytes l a (k.machine.tech l) refl)
+  aside_silent own V f may named l a = let P : Signal → Type 0 = λ g. IsUnmoved own g l in subst P (sym may.frame) (by_v own may.code may.rest l named a (k.machine.tech l) refl)
 
   -- the tag's technology is that of what it may be asked
   pub may_tech : (own : List ℕ) (t : Tech) (f : Signal) → MayAsk (plain_kind t) own f → f.tech ≡ t
@@ -74,7 +75,7 @@ module _ {L : Type 0} (k : Ghosts L) (laws : Laws k) where
   may_tech own V f may = ap (λ g. g.tech) may.frame
 
   aside_dark : (own : List ℕ) (l : L) → IsAside k own l → IsAside k own (k.machine.darkened l)
-  aside_dark own l a = record { rests = λ h. laws.dark_rests l; other = λ e. a.other (e ∙ (laws.dark_keeps l).1) }
+  aside_dark own l a = record { rests = λ h. laws.dark_rests l; other = λ e. a.other (e ∙ (laws.dark_keeps l).0.identifier') }
 
   dark_all : (own : List ℕ) (ls : List L) → AllByRecursion (IsAside k own) ls → AllByRecursion (IsAside k own) (map k.machine.darkened ls)
   dark_all own [] a = tt

@@ -1,5 +1,5 @@
 -- How the waits of a plain link begin, go on and end.
-use Rattle.std.proofs.Common.{◌≡◌, ℕ, zero, suc, ◌<◌, inl, inr, List, [], ◌∷◌, Bool, true, false, Option, Some, None, Err, refl, sym, ◌∙◌, subst, append-nil, arith}
+use Rattle.std.proofs.Common.{◌≡◌, ℕ, zero, suc, ◌<◌, inl, inr, List, [], ◌∷◌, Bool, true, false, Option, Some, None, Err, refl, sym, ◌∙◌, ap, subst, append-nil, arith}
 use Rattle.nfc_base.specs.declared.frame.Tech.{Tech}
 use Rattle.nfc_base.specs.declared.frame.Tech.TheVariants.{A}
 use Rattle.nfc_base.specs.declared.event.Heard.{Heard}
@@ -12,12 +12,13 @@ use Rattle.air_core.specs.Turn.{Air, moment, TurnIs, Transmits}
 use Rattle.air_core.specs.declared.fault.AirFault.TheVariants.{FieldLost, Memory}
 use Rattle.air_core.specs.Turning.{going_start}
 use Rattle.air_core.specs.Waits.{waits_next}
-use Rattle.air_core.specs.PlainTags.{plain_kind, IsSteady, HasPlainTag, MayTell}
+use Rattle.air_core.specs.PlainTags.{plain_kind, HasPlainTag, MayTell}
 use Rattle.air_core.specs.PlainLinks.{at_place, MayAskAt}
 use Rattle.air_core.specs.PlainWaits.{GoesOn, GoesFrom, HasWaited}
 use Rattle.air_core.specs.declared.listener.Listener.{Ghosts}
 use Rattle.air_core.proofs.Quiet.{quiet_turn, quiet_goes_on}
 use Rattle.air_core.proofs.PlainAside.{Laws}
+use Rattle.air_core.proofs.PlainTagging.{IsSteady, steady}
 use Rattle.air_core.proofs.PlainStores.{place_is}
 use Rattle.air_core.proofs.PlainSteps.{Outcome, each_quiet, turned}
 
@@ -30,8 +31,8 @@ module _ {L : Type 0} (k : Ghosts L) where
       let Q : Tech → Type 0 = λ u. MayAsk (plain_kind u) (at_place k.identifier [] air.listeners place) f in
       subst P own (subst Q tech may)
 
-  pub steady_now : (air : Air L) (place : ℕ) (f : Signal) (t : HasPlainTag k air place) → MayTell k t.tag f → IsSteady k t.tag f
-  steady_now air place f t may = t.plain.steady [] tt t.selected f may
+  pub steady_now : (laws : Laws k) (air : Air L) (place : ℕ) (f : Signal) (t : HasPlainTag k air place) → MayTell k t.tag f → IsSteady k t.tag f
+  steady_now laws air place f t may = steady k laws (plain_kind (k.machine.tech t.tag)) (k.identifier t.tag) t.tag f may t.plain t.selected
 
   pub begins : (old : Air L) (place : ℕ) (f : Signal) → HasPlainTag k old place → GoesFrom k old old place f 0
   begins old place f t = record {
@@ -63,9 +64,9 @@ module _ {L : Type 0} (k : Ghosts L) where
     pub goes_turn : (h : Option Heard) → TurnIs k.machine restarts steps mid f far h new far' → Outcome k old new place f g.tag.tag bad h
     goes_turn h turn =
         let tell : MayTell k g.tag.tag f = may_tell old place f g.tag may in
-        let steady : IsSteady k g.tag.tag f = steady_now old place f g.tag tell in
-        turned k laws old mid place f g.tag.tag bad steady tell g.tag.eight g.goes new h far far' bound
-        (quiet_turn k.machine restarts steps mid f far h new far' (each_quiet k laws old mid place f g.tag.tag bad steady tell g.tag.eight g.goes) turn)
+        let still : IsSteady k g.tag.tag f = steady_now laws old place f g.tag tell in
+        turned k laws old mid place f g.tag.tag bad still tell g.tag.named g.goes new h far far' bound
+        (quiet_turn k.machine restarts steps mid f far h new far' (each_quiet k laws old mid place f g.tag.tag bad still tell g.tag.named g.goes) turn)
 
     at_first : (n : ℕ) → GoesOn k old mid place f g.tag.tag n → mid.lit ≡ false → n ≡ 0
     at_first zero goes dim = refl
@@ -84,11 +85,11 @@ module _ {L : Type 0} (k : Ghosts L) where
     pub goes_stops : Transmits k.machine restarts steps stops is_stuck mid f far (Err Memory) new far' → HasWaited k old new place f (Err ask.Memory)
     goes_stops (lit, inl same) =
         let P : Air L → Type 0 = λ a. GoesOn k old a place f g.tag.tag bad in
-        record { tag = g.tag; ends = record { bad = bad; bound = bound; goes = subst P (sym same.0) g.goes } }
+        record { tag = g.tag; ends = record { lit = ap (λ (a : Air L). a.lit) same.0 ∙ lit; bad = bad; bound = bound; goes = subst P (sym same.0) g.goes } }
     goes_stops (lit, inr s) =
         let tell : MayTell k g.tag.tag f = may_tell old place f g.tag may in
-        let steady : IsSteady k g.tag.tag f = steady_now old place f g.tag tell in
-        absurd (quiet_goes_on k.machine restarts steps stops is_stuck f mid.listeners far s.listeners far' (each_quiet k laws old mid place f g.tag.tag bad steady tell g.tag.eight g.goes) s.some)
+        let still : IsSteady k g.tag.tag f = steady_now laws old place f g.tag tell in
+        absurd (quiet_goes_on k.machine restarts steps stops is_stuck f mid.listeners far s.listeners far' (each_quiet k laws old mid place f g.tag.tag bad still tell g.tag.named g.goes) s.some)
 
   pub goes_six : (old mid : Air L) (place : ℕ) (f : Signal) (bad : ℕ) → bad ≡ 6 → GoesFrom k old mid place f bad → HasWaited k old mid place f (Err ask.SixBad)
   goes_six old mid place f bad six g = let Q : ℕ → Type 0 = λ n. GoesOn k old mid place f g.tag.tag n in record { tag = g.tag; ends = subst Q six g.goes }

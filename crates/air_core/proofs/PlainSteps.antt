@@ -12,8 +12,8 @@ use Rattle.nfc_base.specs.declared.event.Heard.TheVariants.{Whole, Collided, Dam
 use Rattle.nfc_base.specs.declared.tag_link.AskFault.TheVariants as ask
 use Rattle.nfc_base.specs.Signal.{Signal}
 use Rattle.nfc_base.specs.Far.{Untouched}
-use Rattle.nfc_base.specs.TagLinks.{TagState, plain_state, after_all, passed}
-use Rattle.nfc_base.specs.Trace.{back_of, noise}
+use Rattle.nfc_base.specs.TagLinks.{TagState, plain_state, IsNamedIn, after_all, passed}
+use Rattle.nfc_base.specs.Trace.{Turn, back_of, noise}
 use Rattle.nfc_base.specs.Trace as backs
 use Rattle.air_core.specs.Joint.{joint, same_tech}
 use Rattle.air_core.specs.World.{World, hears, hands_over, answered_by, stepped_by, quiet_air}
@@ -21,12 +21,13 @@ use Rattle.air_core.specs.Conversation.{note, replay, turn_events, TurnsTo, firs
 use Rattle.air_core.specs.Turn.{Air, moment, world}
 use Rattle.air_core.specs.Quiet.{EachQuiet, QuietTurn}
 use Rattle.air_core.specs.Waits.{Asking, Broken, stand}
-use Rattle.air_core.specs.PlainTags.{heard_times, tag_step, IsSteady, IsAside, IsAlone, MayTell}
+use Rattle.air_core.specs.PlainTags.{heard_times, tag_step, IsAside, IsAlone, MayTell}
 use Rattle.air_core.specs.PlainLinks.{obeyed_in, answered_in, Follows, stores_after}
-use Rattle.air_core.specs.PlainWaits.{after_bad, times, Waits, GoesOn, Answered, Darkened}
+use Rattle.air_core.specs.PlainWaits.{after_bad, times, Waited, GoesOn, Answered, Darkened}
 use Rattle.air_core.specs.declared.listener.Listener.{Ghosts}
 use Rattle.air_core.proofs.Quiet.{quiet_turns_to}
 use Rattle.air_core.proofs.PlainAside.{Laws, IsUnmoved, aside_silent, may_tech, alone_dark, alone_quiet, alone_says, alone_steps}
+use Rattle.air_core.proofs.PlainTagging.{IsSteady}
 use Rattle.air_core.proofs.PlainStores.{newly, passed_more, pictures}
 use Rattle.air_core.proofs.PlainTurns.{one, joint_one, tag_events, tag_heard, turn_events_as, heard_as, tag_most, noise_append, times_more, asking_bad, extend}
 
@@ -73,13 +74,18 @@ module _ {L : Type 0} (k : Ghosts L) where
 
     heard_keeps : (l : L) (f : Signal) (n : ℕ) → (k.machine.tech (heard_times k l f n) ≡ k.machine.tech l) × (k.identifier (heard_times k l f n) ≡ k.identifier l)
     heard_keeps l f zero = (refl, refl)
-    heard_keeps l f (suc n) = ((laws.step_keeps (heard_times k l f n) f None).0 ∙ (heard_keeps l f n).0, (laws.step_keeps (heard_times k l f n) f None).1 ∙ (heard_keeps l f n).1)
+    heard_keeps l f (suc n) = ((laws.step_keeps (heard_times k l f n) f None).tech' ∙ (heard_keeps l f n).0, (laws.step_keeps (heard_times k l f n) f None).identifier' ∙ (heard_keeps l f n).1)
 
-    obeyed_once : (f : Signal) (t : Tech) (n : ℕ) → same_tech f.tech t ≡ true → times f n ++ ((if same_tech f.tech t then f ∷ [] else []) ++ []) ≡ times f (suc n)
-    obeyed_once f t n e = ap (λ v. times f n ++ ((if v then f ∷ [] else []) ++ [])) e ∙ times_more f n
+    obeyed_once : (f : Signal) (t : Tech) (n : ℕ) (y : Fate) (o : Option Signal) → same_tech f.tech t ≡ true → times f n ++ obeyed_in t (tag_events f Pass y o) ≡ times f (suc n)
+    obeyed_once f t n y None e =
+        let u : Turn = record { request = f; fate = Pass; back = backs.Nothing } in
+        ap (λ v. times f n ++ map (λ (z : Turn). z.request) (if v then u ∷ [] else [])) e ∙ times_more f n
+    obeyed_once f t n y (Some g) e =
+        let u : Turn = record { request = f; fate = Pass; back = backs.Single g y } in
+        ap (λ v. times f n ++ map (λ (z : Turn). z.request) (if v then u ∷ [] else [])) e ∙ times_more f n
 
     module _ (old mid new : Air L) (place : ℕ) (f : Signal) (tag : L) (bad n : ℕ) (bound : bad < 6) (lit : mid.lit ≡ true) (start : old.lit ≡ true)
-        (w : Waits k old mid place f tag bad n (after_bad f bad) (heard_times k tag f n) []) (calm : 0 < bad → ((tag_step k tag f).answer ≡ None) ⊎ (0 < noise w.events))
+        (w : Waited k old mid place f tag bad n (after_bad f bad) (heard_times k tag f n) []) (calm : 0 < bad → ((tag_step k tag f).answer ≡ None) ⊎ (0 < noise w.events))
         (tech : same_tech f.tech (k.machine.tech tag) ≡ true) where
       abbrev held : TagState
       held = after_all (k.commands tag) (plain_state (k.store tag)) (times f n)
@@ -133,27 +139,27 @@ module _ {L : Type 0} (k : Ghosts L) where
           goes_more Silent (tag_events f Lose y o) n turn trace refl (tag_most f Lose y o) alone (append-nil (times f n)) refl refl [] same_passed images (ap (λ v. v.lit) after ∙ lit) (inr (omega arith))
       finish Break y o says turn trace after alone images = darkens (tag_events f Break y o) n turn trace refl (tag_most f Break y o) alone (append-nil (times f n)) refl [] same_passed images (omega arith) (ap (λ v. v.lit) after)
       finish Pass y None says turn trace after alone images =
-          goes_more Silent (tag_events f Pass y None) (suc n) turn trace refl (tag_most f Pass y None) alone (obeyed_once f (k.machine.tech tag) n tech) refl refl _ (passed_more (k.commands tag) (plain_state (k.store tag)) f n) images (ap (λ v. v.lit) after ∙ lit) (inl says)
+          goes_more Silent (tag_events f Pass y None) (suc n) turn trace refl (tag_most f Pass y None) alone (obeyed_once f (k.machine.tech tag) n y None tech) refl refl _ (passed_more (k.commands tag) (plain_state (k.store tag)) f n) images (ap (λ v. v.lit) after ∙ lit) (inl says)
       finish Pass Pass (Some g) says turn trace after alone images = record {
         turns = suc bad;
         heard = n;
         waits = extend k old mid new place f tag bad n bad (after_bad f bad) (heard_times k tag f n) (Some (Whole g)) (tag_events f Pass Pass (Some g)) (suc n) (Asking 0 []) (heard_times k tag f (suc n)) (f ∷ []) w (asking_bad f bad bound) turn trace refl
-            (tag_most f Pass Pass (Some g)) alone (obeyed_once f (k.machine.tech tag) n tech) refl refl _ (passed_more (k.commands tag) (plain_state (k.store tag)) f n) images;
+            (tag_most f Pass Pass (Some g)) alone (obeyed_once f (k.machine.tech tag) n Pass (Some g) tech) refl refl _ (passed_more (k.commands tag) (plain_state (k.store tag)) f n) images;
         bound = omega (arith, bound);
         lit = ap (λ v. v.lit) after ∙ lit;
         says = says;
       }
       finish Pass Damage (Some g) says turn trace after alone images =
-          goes_more Damaged (tag_events f Pass Damage (Some g)) (suc n) turn trace refl (tag_most f Pass Damage (Some g)) alone (obeyed_once f (k.machine.tech tag) n tech) refl refl _ (passed_more (k.commands tag) (plain_state (k.store tag)) f n) images (ap (λ v. v.lit) after ∙ lit) (inr (omega arith))
+          goes_more Damaged (tag_events f Pass Damage (Some g)) (suc n) turn trace refl (tag_most f Pass Damage (Some g)) alone (obeyed_once f (k.machine.tech tag) n Damage (Some g) tech) refl refl _ (passed_more (k.commands tag) (plain_state (k.store tag)) f n) images (ap (λ v. v.lit) after ∙ lit) (inr (omega arith))
       finish Pass Lose (Some g) says turn trace after alone images =
-          goes_more Silent (tag_events f Pass Lose (Some g)) (suc n) turn trace refl (tag_most f Pass Lose (Some g)) alone (obeyed_once f (k.machine.tech tag) n tech) refl refl _ (passed_more (k.commands tag) (plain_state (k.store tag)) f n) images (ap (λ v. v.lit) after ∙ lit) (inr (omega arith))
+          goes_more Silent (tag_events f Pass Lose (Some g)) (suc n) turn trace refl (tag_most f Pass Lose (Some g)) alone (obeyed_once f (k.machine.tech tag) n Lose (Some g) tech) refl refl _ (passed_more (k.commands tag) (plain_state (k.store tag)) f n) images (ap (λ v. v.lit) after ∙ lit) (inr (omega arith))
       finish Pass Break (Some g) says turn trace after alone images =
-          darkens (tag_events f Pass Break (Some g)) (suc n) turn trace refl (tag_most f Pass Break (Some g)) alone (obeyed_once f (k.machine.tech tag) n tech) refl _ (passed_more (k.commands tag) (plain_state (k.store tag)) f n) images (omega arith) (ap (λ v. v.lit) after)
+          darkens (tag_events f Pass Break (Some g)) (suc n) turn trace refl (tag_most f Pass Break (Some g)) alone (obeyed_once f (k.machine.tech tag) n Break (Some g) tech) refl _ (passed_more (k.commands tag) (plain_state (k.store tag)) f n) images (omega arith) (ap (λ v. v.lit) after)
 
-    module _ (old mid : Air L) (place : ℕ) (f : Signal) (tag : L) (bad : ℕ) (steady : IsSteady k tag f) (may : MayTell k tag f) (eight : k.machine.tech tag ≡ V → length (k.identifier tag) ≡ 8)
+    module _ (old mid : Air L) (place : ℕ) (f : Signal) (tag : L) (bad : ℕ) (steady : IsSteady k tag f) (may : MayTell k tag f) (named : IsNamedIn (k.machine.tech tag) (k.identifier tag))
         (goes : GoesOn k old mid place f tag bad) where
       silent : (l : L) → IsAside k (k.identifier tag) l → IsUnmoved k laws (k.identifier tag) f l
-      silent l a = aside_silent k laws (k.identifier tag) (k.machine.tech tag) f may eight l a
+      silent l a = aside_silent k laws (k.identifier tag) (k.machine.tech tag) f may named l a
 
       same : same_tech f.tech (k.machine.tech tag) ≡ true
       same = ap (λ t. same_tech t (k.machine.tech tag)) (may_tech k laws (k.identifier tag) (k.machine.tech tag) f may) ∙ same_itself (k.machine.tech tag)

@@ -7,11 +7,12 @@ use Rattle.nfc_base.specs.Signal.{Signal}
 use Rattle.nfc_base.specs.TagLinks.{TagState, TagStep, plain_state, after_all, passed}
 use Rattle.nfc_base.proofs.Leading.{after_append, passed_append}
 use Rattle.air_core.specs.World.{World, stepped_by}
-use Rattle.air_core.specs.PlainTags.{heard_times, IsSteady, IsAlone}
+use Rattle.air_core.specs.PlainTags.{heard_times, IsAlone}
 use Rattle.air_core.specs.PlainLinks.{at_place, Follows, stores_after}
 use Rattle.air_core.specs.PlainWaits.{times}
 use Rattle.air_core.specs.declared.listener.Listener.{Ghosts}
 use Rattle.air_core.proofs.PlainAside.{Laws, alone_dark}
+use Rattle.air_core.proofs.PlainTagging.{IsSteady}
 use Rattle.air_core.proofs.PlainTurns.{tag_events, times_more}
 
 -- a command that leaves what it left leaves it however often it comes
@@ -67,7 +68,7 @@ module _ {L : Type 0} (k : Ghosts L) where
     dims : at_place k.store [] (map k.machine.darkened w.listeners) place ≡ state.store
     dims =
         place_is k.store [] own (map k.machine.darkened w.listeners) place (k.machine.darkened (heard_times k tag f n)) (alone_dark k laws own w.listeners place (heard_times k tag f n) here)
-        ∙ (laws.dark_keeps (heard_times k tag f n)).2 ∙ store_here
+        ∙ (laws.dark_keeps (heard_times k tag f n)).1 ∙ store_here
 
     abbrev stepped_on : List L
     stepped_on = map (λ x. stepped_by k.machine x f None) w.listeners
@@ -78,7 +79,7 @@ module _ {L : Type 0} (k : Ghosts L) where
     steps_dim : at_place k.store [] (map k.machine.darkened stepped_on) place ≡ (k.commands tag state f).after.store
     steps_dim =
         place_is k.store [] own (map k.machine.darkened stepped_on) place (k.machine.darkened (heard_times k tag f (suc n))) (alone_dark k laws own stepped_on place (heard_times k tag f (suc n)) next)
-        ∙ (laws.dark_keeps (heard_times k tag f (suc n))).2 ∙ store_next
+        ∙ (laws.dark_keeps (heard_times k tag f (suc n))).1 ∙ store_next
 
     -- after each event of a turn the tag holds what it held, or what its step leaves
     pub pictures : (x y : Fate) (o : Option Signal) → Follows state.store (stores_after k place w (tag_events f x y o)) (passed (k.commands tag) state (newly x f))

@@ -1,6 +1,7 @@
 -- One turn with a tag that is alone in its field.
-use Rattle.std.proofs.Common.{◌≡◌, ℕ, zero, suc, ◌+◌, ◌<◌, ◌≤◌, List, [], ◌∷◌, ◌++◌, length, true, nat_lt, if◌then◌else◌, Option, Some, None, refl, sym, ◌∙◌, ap, subst, append_assoc, arith}
-use Rattle.std.specs.List.{filter_map, cons_option}
+use Rattle.std.proofs.Common.{◌≡◌, ℕ, zero, suc, ◌+◌, ◌<◌, ◌≤◌, List, [], ◌∷◌, ◌++◌, length, Bool, true, false, nat_lt, if◌then◌else◌, Option, Some, None, refl, sym, ◌∙◌, ap, subst, append_assoc, arith}
+use Rattle.std.specs.Prelude.{map}
+use Rattle.std.specs.List.{filter, filter_map, cons_option}
 use Rattle.std.proofs.lemmas.List.{length-append, append_cancel_left}
 use Rattle.nfc_base.specs.declared.frame.Tech.{Tech}
 use Rattle.nfc_base.specs.declared.event.Event.{Event}
@@ -10,9 +11,9 @@ use Rattle.nfc_base.specs.declared.event.Fate.TheVariants.{Pass, Damage, Lose, B
 use Rattle.nfc_base.specs.declared.event.Heard.{Heard}
 use Rattle.nfc_base.specs.declared.tag_link.AskFault.TheVariants.{SixBad}
 use Rattle.nfc_base.specs.Signal.{Signal}
-use Rattle.nfc_base.specs.Trace.{back_of, heard_by, noise}
+use Rattle.nfc_base.specs.Trace.{Back, Turn, by_fate, back_of, turns, heard, heard_by, noise}
 use Rattle.nfc_base.specs.Trace as backs
-use Rattle.air_core.specs.Joint.{Joint, Nothing, Single, joint}
+use Rattle.air_core.specs.Joint.{Joint, Nothing, Single, joint, same_tech}
 use Rattle.air_core.specs.World.{World, answered_by, quiet_air}
 use Rattle.nfc_base.specs.TagLinks.{TagState, plain_state, after_all, passed}
 use Rattle.air_core.specs.Following.{last_passed, follows_on, stores_append}
@@ -22,8 +23,8 @@ use Rattle.air_core.specs.Turning.{going_turn, back_of-append}
 use Rattle.air_core.specs.Waits.{Standing, Asking, Broken, stand, due_at, waits_next}
 use Rattle.air_core.specs.Waiting.{stand_on}
 use Rattle.air_core.specs.PlainTags.{IsAlone}
-use Rattle.air_core.specs.PlainLinks.{obeyed_of, obeyed_in, answered_of, answered_in, Follows, stores_after}
-use Rattle.air_core.specs.PlainWaits.{after_bad, times, Waits}
+use Rattle.air_core.specs.PlainLinks.{has_reached, is_whole, obeyed_in, answered_in, Follows, stores_after}
+use Rattle.air_core.specs.PlainWaits.{after_bad, times, Waited}
 use Rattle.air_core.specs.declared.listener.Listener.{Ghosts}
 
 -- the tag's answer as what comes back
@@ -37,10 +38,7 @@ joint_one (Some g) = refl
 
 -- the events of a turn, and what was heard, by its fates and the tag's answer
 abbrev pub tag_events : Signal → Fate → Fate → Option Signal → List Event
-tag_events f Pass y o = Request f Pass ∷ joint_events (one o) y
-tag_events f Damage y o = Request f Damage ∷ []
-tag_events f Lose y o = Request f Lose ∷ []
-tag_events f Break y o = Request f Break ∷ []
+tag_events f x y o = Request f x ∷ by_fate x (joint_events (one o) y) [] []
 
 abbrev pub tag_heard : Fate → Fate → Option Signal → Option Heard
 tag_heard x y o = heard_by x (joint_back (one o) y)
@@ -64,13 +62,6 @@ pub heard_as : {L : Type 0} (k : Ghosts L) (w : World L) (f : Signal) (x y : Fat
     → h ≡ heard_by x (joint_back (joint (filter_map (λ l. answered_by k.machine l f None) w.listeners)) y) → h ≡ tag_heard x y o
 heard_as k w f x y o h e is = is ∙ heard_passed x y _ (one o) e
 
--- the events of such a turn stand for themselves, and are two at most
-pub tag_fresh : (f : Signal) (x y : Fate) (o : Option Signal) → back_of (tag_events f x y o) ≡ backs.Nothing
-tag_fresh f Pass y o = refl
-tag_fresh f Damage y o = refl
-tag_fresh f Lose y o = refl
-tag_fresh f Break y o = refl
-
 pub tag_most : (f : Signal) (x y : Fate) (o : Option Signal) → length (tag_events f x y o) ≤ 2
 tag_most f Pass y None = omega arith
 tag_most f Pass y (Some g) = omega arith
@@ -79,20 +70,36 @@ tag_most f Lose y o = omega arith
 tag_most f Break y o = omega arith
 
 -- what the trace tells of some events and of others behind them
+abbrev request_of : Turn → Signal
+request_of u = u.request
+
+one_more : (v : Bool) (u w : Turn) (xs ys : List Turn) (zs : List Signal) → u.request ≡ w.request → map request_of xs ≡ map request_of ys ++ zs
+    → map request_of (if v then u ∷ xs else xs) ≡ map request_of (if v then w ∷ ys else ys) ++ zs
+one_more true u w xs ys zs r e = ap (λ c. c ∷ map request_of xs) r ∙ ap (λ cs. w.request ∷ cs) e
+one_more false u w xs ys zs r e = e
+
+abbrev turn_of : Signal → Fate → Back → Turn
+turn_of f x back = record { request = f; fate = x; back = back }
+
 pub obeyed_append : (t : Tech) (a b : List Event) → obeyed_in t (a ++ b) ≡ obeyed_in t a ++ obeyed_in t b
 obeyed_append t [] b = refl
 obeyed_append t (Reset ∷ a) b = obeyed_append t a b
-obeyed_append t (Request f x ∷ a) b = ap (λ r. obeyed_of t f x ++ r) (obeyed_append t a b) ∙ sym (append_assoc (obeyed_of t f x) (obeyed_in t a) (obeyed_in t b))
+obeyed_append t (Request f x ∷ a) b =
+    one_more (by_fate x (same_tech f.tech t) false false) (turn_of f x (back_of (a ++ b))) (turn_of f x (back_of a))
+    (filter (has_reached t) (turns (a ++ b))) (filter (has_reached t) (turns a)) (obeyed_in t b) refl (obeyed_append t a b)
 obeyed_append t (Answer g x ∷ a) b = obeyed_append t a b
 obeyed_append t (Clash g x ∷ a) b = obeyed_append t a b
+
+abbrev was_heard : Turn → Bool
+was_heard u = is_whole (heard u)
 
 pub answered_append : (a b : List Event) → back_of b ≡ backs.Nothing → answered_in (a ++ b) ≡ answered_in a ++ answered_in b
 answered_append [] b e = refl
 answered_append (Reset ∷ a) b e = answered_append a b e
 answered_append (Request f x ∷ a) b e =
-    ap (λ t. answered_of f (heard_by x t) ++ answered_in (a ++ b)) (back_of-append a b e)
-    ∙ ap (λ r. answered_of f (heard_by x (back_of a)) ++ r) (answered_append a b e)
-    ∙ sym (append_assoc (answered_of f (heard_by x (back_of a))) (answered_in a) (answered_in b))
+    ap (λ back. map request_of (filter was_heard (turn_of f x back ∷ turns (a ++ b)))) (back_of-append a b e)
+    ∙ one_more (is_whole (heard_by x (back_of a))) (turn_of f x (back_of a)) (turn_of f x (back_of a))
+    (filter was_heard (turns (a ++ b))) (filter was_heard (turns a)) (answered_in b) refl (answered_append a b e)
 answered_append (Answer g x ∷ a) b e = answered_append a b e
 answered_append (Clash g x ∷ a) b e = answered_append a b e
 
@@ -114,7 +121,7 @@ asking_bad f (suc bad) h = let e : nat_lt bad 5 ≡ true = grind (arith, h) in a
 
 module _ {L : Type 0} (k : Ghosts L) where
   -- the stores of the events before, and of more of them
-  pub images_more : (old mid : Air L) (place : ℕ) (f : Signal) (tag : L) (turns n : ℕ) (begun : Standing) (lk : L) (w : Waits k old mid place f tag turns n begun lk []) (es : List Event)
+  pub images_more : (old mid : Air L) (place : ℕ) (f : Signal) (tag : L) (turns n : ℕ) (begun : Standing) (lk : L) (w : Waited k old mid place f tag turns n begun lk []) (es : List Event)
       (obeyed : List Signal) (zs : List (List ℕ)) → passed (k.commands tag) (plain_state (k.store tag)) obeyed ≡ passed (k.commands tag) (plain_state (k.store tag)) (times f n) ++ zs
       → Follows (after_all (k.commands tag) (plain_state (k.store tag)) (times f n)).store (stores_after k place (world mid) es) zs
       → Follows (k.store tag) (stores_after k place (world old) (w.events ++ es)) (passed (k.commands tag) (plain_state (k.store tag)) obeyed)
@@ -136,11 +143,11 @@ module _ {L : Type 0} (k : Ghosts L) where
 
   -- one more turn of a wait
   abbrev pub extend : (old mid new : Air L) (place : ℕ) (f : Signal) (tag : L) (turns n bad : ℕ) (begun : Standing) (lk : L) (h : Option Heard) (es : List Event) (n' : ℕ) (s : Standing) (left : L) (done : List Signal)
-      → Waits k old mid place f tag turns n begun lk [] → begun ≡ Asking bad (f ∷ [])
+      → Waited k old mid place f tag turns n begun lk [] → begun ≡ Asking bad (f ∷ [])
       → TurnsTo (quiet_air k.machine) (moment mid) (moment new) f h → new.trace ≡ mid.trace ++ es → back_of es ≡ backs.Nothing → length es ≤ 2
       → IsAlone k (k.identifier tag) new.listeners place left → times f n ++ obeyed_in (k.machine.tech tag) es ≡ times f n' → answered_in es ≡ done
       → stand bad (f ∷ []) (note h ∷ []) ≡ s → (zs : List (List ℕ)) → passed (k.commands tag) (plain_state (k.store tag)) (times f n') ≡ passed (k.commands tag) (plain_state (k.store tag)) (times f n) ++ zs
-      → Follows (after_all (k.commands tag) (plain_state (k.store tag)) (times f n)).store (stores_after k place (world mid) es) zs → Waits k old new place f tag (suc turns) n' s left done
+      → Follows (after_all (k.commands tag) (plain_state (k.store tag)) (times f n)).store (stores_after k place (world mid) es) zs → Waited k old new place f tag (suc turns) n' s left done
   extend old mid new place f tag turns n bad begun lk h es n' s left done w asks turn trace fresh short alone obeyed answered stands zs more images =
       let sum : length (w.events ++ es) ≡ length w.events + length es = length-append w.events es in
       record {

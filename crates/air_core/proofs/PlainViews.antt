@@ -1,5 +1,5 @@
 -- What a link to a plain tag shows after a wait.
-use Rattle.std.proofs.Common.{◌≡◌, ℕ, zero, suc, ◌+◌, ◌*◌, ◌≤◌, ◌⊎◌, inl, inr, List, [], ◌∷◌, ◌++◌, length, drop, Option, None, refl, sym, ◌∙◌, ap, subst, arith}
+use Rattle.std.proofs.Common.{◌≡◌, ℕ, zero, suc, ◌+◌, ◌*◌, ◌≤◌, ◌⊎◌, inl, inr, List, [], ◌++◌, length, drop, Option, None, refl, sym, ◌∙◌, ap, subst, arith}
 use Rattle.std.specs.List.{AllByRecursion}
 use Rattle.std.proofs.lemmas.List.{length-append, drop-append-le}
 use Rattle.std.proofs.Math.Seq.{drop-append_seam}
@@ -9,14 +9,15 @@ use Rattle.nfc_base.specs.declared.event.Event.{Event}
 use Rattle.nfc_base.specs.declared.tag_link.AskFault.{AskFault}
 use Rattle.nfc_base.specs.Signal.{Signal}
 use Rattle.nfc_base.specs.Trace.{noise}
-use Rattle.nfc_base.specs.TagLinks.{TagKind, Type4, TagState, TagStep, plain_state, MayAsk, after_all, passed, Leads, Obeys}
+use Rattle.nfc_base.specs.TagLinks.{Type4, TagState, TagStep, plain_state, after_all, passed, Leads, Obeys}
 use Rattle.air_core.specs.Turn.{Air, world}
 use Rattle.air_core.specs.Waits.{Standing}
-use Rattle.air_core.specs.PlainTags.{plain_kind, heard_times, reached, tag_step, IsSteady, IsPlainTag, HasPlainTag, MayTell}
+use Rattle.air_core.specs.PlainTags.{plain_kind, heard_times, tag_step, HasPlainTag, MayTell}
 use Rattle.air_core.specs.PlainLinks.{PlainSeen, at_place, obeyed_in, answered_in, Follows, stores_after, between, plain_view}
-use Rattle.air_core.specs.PlainWaits.{times, Waits}
+use Rattle.air_core.specs.PlainWaits.{times, Waited}
 use Rattle.air_core.specs.declared.listener.Listener.{Ghosts}
 use Rattle.air_core.proofs.PlainAside.{Laws}
+use Rattle.air_core.proofs.PlainTagging.{IsSteady}
 use Rattle.air_core.proofs.PlainTurns.{obeyed_append, answered_append, noise_append}
 use Rattle.air_core.proofs.PlainStores.{after_times, place_is, store_heard}
 
@@ -38,41 +39,18 @@ length_times : (f : Signal) (n : ℕ) → length (times f n) ≡ n
 length_times f zero = refl
 length_times f (suc n) = ap suc (length_times f n)
 
-all_times : (P : Signal → Type 0) (f : Signal) → P f → (n : ℕ) → AllByRecursion P (times f n)
-all_times P f p zero = tt
-all_times P f p (suc n) = (p, all_times P f p n)
-
 pub never_type4 : (t : Tech) → plain_kind t ≡ Type4 → ⊥
 never_type4 A e = absurd cc
 never_type4 V e = absurd cc
 
 module _ {L : Type 0} (k : Ghosts L) where
-  heard_first : (l : L) (f : Signal) (n : ℕ) → heard_times k (k.machine.after l f None) f n ≡ heard_times k l f (suc n)
-  heard_first l f zero = refl
-  heard_first l f (suc n) = ap (λ x. k.machine.after x f None) (heard_first l f n)
-
-  reached_times : (l : L) (f : Signal) (n : ℕ) → reached k l (times f n) ≡ heard_times k l f n
-  reached_times l f zero = refl
-  reached_times l f (suc n) = reached_times (k.machine.after l f None) f n ∙ heard_first l f n
-
-  plain_after : (kind : TagKind) (own : List ℕ) (l : L) (f : Signal) → MayAsk kind own f → IsPlainTag k kind own l → IsPlainTag k kind own (k.machine.after l f None)
-  plain_after kind own l f may p = record {
-    steady = λ fs all s. p.steady (f ∷ fs) (may, all) s;
-    same = λ fs all. p.same (f ∷ fs) (may, all) ∙ sym (p.same (f ∷ []) (may, tt));
-    dark = λ fs all. p.dark (f ∷ fs) (may, all) ∙ sym (p.same (f ∷ []) (may, tt));
-  }
-
-  pub plain_heard : (kind : TagKind) (own : List ℕ) (l : L) (f : Signal) → MayAsk kind own f → IsPlainTag k kind own l → (n : ℕ) → IsPlainTag k kind own (heard_times k l f n)
-  plain_heard kind own l f may p zero = p
-  plain_heard kind own l f may p (suc n) = plain_after kind own (heard_times k l f n) f may (plain_heard kind own l f may p n)
-
   -- the listener that a wait left: the tag once it has heard the command, and in the dark where the field was lost
   abbrev pub IsLeft : L → Signal → ℕ → L → Type 0
   IsLeft tag f heard left = (left ≡ heard_times k tag f heard) ⊎ (left ≡ k.machine.darkened (heard_times k tag f heard))
 
   pub heard_same : Laws k → (l : L) (f : Signal) (n : ℕ) → (k.machine.tech (heard_times k l f n) ≡ k.machine.tech l) × (k.identifier (heard_times k l f n) ≡ k.identifier l)
   heard_same laws l f zero = (refl, refl)
-  heard_same laws l f (suc n) = ((laws.step_keeps (heard_times k l f n) f None).0 ∙ (heard_same laws l f n).0, (laws.step_keeps (heard_times k l f n) f None).1 ∙ (heard_same laws l f n).1)
+  heard_same laws l f (suc n) = ((laws.step_keeps (heard_times k l f n) f None).tech' ∙ (heard_same laws l f n).0, (laws.step_keeps (heard_times k l f n) f None).identifier' ∙ (heard_same laws l f n).1)
 
   -- what a link shows after a wait
   pub record Shown (a b : PlainSeen L) (f : Signal) (tag : L) (turns heard : ℕ) (done : List Signal) (events : List Event) : Type 0 where
@@ -80,7 +58,7 @@ module _ {L : Type 0} (k : Ghosts L) where
     pub least : length (plain_view k b).obeyed ≡ length (plain_view k a).obeyed + heard
     pub step : (plain_view k a).step (plain_view k a).state f ≡ tag_step k tag f
     pub after : (n : ℕ) → heard ≡ suc n → (plain_view k b).state ≡ ((plain_view k a).step (plain_view k a).state f).after
-    pub either : ((plain_view k b).state ≡ (plain_view k a).state) ⊎ ((plain_view k b).state ≡ ((plain_view k a).step (plain_view k a).state f).after)
+    pub either : ((plain_view k b).state.store ≡ (plain_view k a).state.store) ⊎ ((plain_view k b).state.store ≡ ((plain_view k a).step (plain_view k a).state f).after.store)
     pub answered : (plain_view k b).answered ≡ (plain_view k a).answered ++ done
     pub noise : (plain_view k b).noise ≡ (plain_view k a).noise + noise events
     pub long : length b.air.trace ≤ length a.air.trace + 2 * turns
@@ -89,18 +67,19 @@ module _ {L : Type 0} (k : Ghosts L) where
 
   module _ (laws : Laws k) (old : Air L) (place : ℕ) (f : Signal) (t : HasPlainTag k old place) (may : MayTell k t.tag f) (steady : IsSteady k t.tag f) where
     commands_heard : (n : ℕ) → k.commands (heard_times k t.tag f n) ≡ k.commands t.tag
-    commands_heard n = ap k.commands (sym (reached_times t.tag f n)) ∙ t.plain.same (times f n) (all_times (MayTell k t.tag) f may n)
+    commands_heard zero = refl
+    commands_heard (suc n) = (laws.step_keeps (heard_times k t.tag f n) f None).commands' ∙ commands_heard n
 
     commands_dark : (n : ℕ) → k.commands (k.machine.darkened (heard_times k t.tag f n)) ≡ k.commands t.tag
-    commands_dark n = ap (λ l. k.commands (k.machine.darkened l)) (sym (reached_times t.tag f n)) ∙ t.plain.dark (times f n) (all_times (MayTell k t.tag) f may n)
+    commands_dark n = (laws.dark_keeps (heard_times k t.tag f n)).0.commands' ∙ commands_heard n
 
     left_tech : (n : ℕ) (left : L) → IsLeft t.tag f n left → k.machine.tech left ≡ k.machine.tech t.tag
     left_tech n left (inl e) = ap k.machine.tech e ∙ (heard_same laws t.tag f n).0
-    left_tech n left (inr e) = ap k.machine.tech e ∙ (laws.dark_keeps (heard_times k t.tag f n)).0 ∙ (heard_same laws t.tag f n).0
+    left_tech n left (inr e) = ap k.machine.tech e ∙ (laws.dark_keeps (heard_times k t.tag f n)).0.tech' ∙ (heard_same laws t.tag f n).0
 
     left_identifier : (n : ℕ) (left : L) → IsLeft t.tag f n left → k.identifier left ≡ k.identifier t.tag
     left_identifier n left (inl e) = ap k.identifier e ∙ (heard_same laws t.tag f n).1
-    left_identifier n left (inr e) = ap k.identifier e ∙ (laws.dark_keeps (heard_times k t.tag f n)).1 ∙ (heard_same laws t.tag f n).1
+    left_identifier n left (inr e) = ap k.identifier e ∙ (laws.dark_keeps (heard_times k t.tag f n)).0.identifier' ∙ (heard_same laws t.tag f n).1
 
     left_commands : (n : ℕ) (left : L) → IsLeft t.tag f n left → k.commands left ≡ k.commands t.tag
     left_commands n left (inl e) = ap k.commands e ∙ commands_heard n
@@ -108,10 +87,10 @@ module _ {L : Type 0} (k : Ghosts L) where
 
     left_store : (n : ℕ) (left : L) → IsLeft t.tag f n left → plain_state (k.store left) ≡ after_all (k.commands t.tag) (plain_state (k.store t.tag)) (times f n)
     left_store n left (inl e) = ap (λ l. plain_state (k.store l)) e ∙ store_heard k t.tag f steady n
-    left_store n left (inr e) = ap (λ l. plain_state (k.store l)) e ∙ ap plain_state (laws.dark_keeps (heard_times k t.tag f n)).2 ∙ store_heard k t.tag f steady n
+    left_store n left (inr e) = ap (λ l. plain_state (k.store l)) e ∙ ap plain_state (laws.dark_keeps (heard_times k t.tag f n)).1 ∙ store_heard k t.tag f steady n
 
-    module _ (new : Air L) (turns heard : ℕ) (s : Standing) (left : L) (done : List Signal) (w : Waits k old new place f t.tag turns heard s left done) (is : IsLeft t.tag f heard left)
-        (start : ℕ) (last last' : Option Signal) (over over' : Option AskFault) (begun : start ≤ length old.trace) where
+    module _ (new : Air L) (turns heard : ℕ) (s : Standing) (left : L) (done : List Signal) (w : Waited k old new place f t.tag turns heard s left done) (is : IsLeft t.tag f heard left)
+        (start : ℕ) (last last' : Option Signal) (over over' : Option AskFault) (begun : start ≤ length old.trace) (none : over ≡ None) where
       abbrev before : PlainSeen L
       before = record { air = old; place = place; start = start; last = last; over = over }
 
@@ -164,7 +143,9 @@ module _ {L : Type 0} (k : Ghosts L) where
         identifier = now k.identifier [] ∙ left_identifier heard left is ∙ sym (was k.identifier []);
         step = same_step;
         obeyed = shown_obeyed;
-        state = shown_state;
+        store = ap (λ s. s.store) shown_state;
+        state = λ h. shown_state;
+        ended = λ e h. absurd (let before : over ≡ None = none in cc);
       }
 
       abbrev obeys : Obeys (plain_view k before) (plain_view k behind) f
@@ -183,10 +164,10 @@ module _ {L : Type 0} (k : Ghosts L) where
           shown_state ∙ ap (λ n. after_all (plain_view k before).step (plain_view k before).state (times f n)) e
           ∙ after_times (plain_view k before).step (plain_view k before).state f shown_again n
 
-      -- the tag is what it was before the command or after it
-      either_state : (n : ℕ) → heard ≡ n → ((plain_view k behind).state ≡ (plain_view k before).state) ⊎ ((plain_view k behind).state ≡ ((plain_view k before).step (plain_view k before).state f).after)
-      either_state zero e = inl (shown_state ∙ ap (λ n. after_all (plain_view k before).step (plain_view k before).state (times f n)) e)
-      either_state (suc n) e = inr (after_heard n e)
+      -- the tag holds what it held before the command or after it
+      either_store : (n : ℕ) → heard ≡ n → ((plain_view k behind).state.store ≡ (plain_view k before).state.store) ⊎ ((plain_view k behind).state.store ≡ ((plain_view k before).step (plain_view k before).state f).after.store)
+      either_store zero e = inl (ap (λ s. s.store) (shown_state ∙ ap (λ n. after_all (plain_view k before).step (plain_view k before).state (times f n)) e))
+      either_store (suc n) e = inr (ap (λ s. s.store) (after_heard n e))
 
       shown_answered : (plain_view k behind).answered ≡ (plain_view k before).answered ++ done
       shown_answered = ap answered_in since_new ∙ answered_append (drop start old.trace) w.events w.fresh ∙ ap (λ xs. answered_in (drop start old.trace) ++ xs) w.answered
@@ -218,7 +199,7 @@ module _ {L : Type 0} (k : Ghosts L) where
         least = shown_least;
         step = shown_step;
         after = after_heard;
-        either = either_state heard refl;
+        either = either_store heard refl;
         answered = shown_answered;
         noise = shown_noise;
         long = omega (arith, length_new, w.most);

@@ -5,13 +5,13 @@ use Rattle.std.specs.List.{filter_map, cons_option}
 use Rattle.nfc_base.specs.Signal.{Signal}
 use Rattle.nfc_base.specs.Far.{FarUse, Untouched, Hands, FarDid}
 use Rattle.nfc_base.specs.Trace.{heard_by}
-use Rattle.nfc_base.specs.declared.event.Event.TheVariants.{Reset, Request}
+use Rattle.nfc_base.specs.declared.event.Event.TheVariants.{Request}
 use Rattle.nfc_base.specs.declared.event.Event.{Event}
 use Rattle.nfc_base.specs.declared.event.Fate.{Fate}
 use Rattle.nfc_base.specs.declared.event.Fate.TheVariants.{Pass, Damage, Lose, Break}
 use Rattle.nfc_base.specs.declared.event.Heard.{Heard}
 use Rattle.air_core.specs.Joint.{Joint, Nothing, Single, Clashing, joint}
-use Rattle.air_core.specs.World.{Machine, World, hands_over, answered_by, stepped_by, stepped, answers, reset_by, hears, quiet_air}
+use Rattle.air_core.specs.World.{Machine, World, hands_over, answered_by, stepped_by, stepped, answers, hears, quiet_air}
 use Rattle.air_core.specs.Conversation.{first_fate, later_fates, queue_after, joint_events, joint_back, replay, turn_events, turn_heard, Moment, TurnsTo}
 use Rattle.air_core.specs.Turn.{Air, world, after_event, brought, Meets, HearAll, HearSome, Passes, TurnBy, TurnIs, Transmits, moment}
 use Rattle.air_core.specs.declared.fault.AirFault.{AirFault}
@@ -40,9 +40,6 @@ module _ {L : Type 0} (m : Machine L) where
         heard = t.told;
       }
 
-  pub quiet_reset : (old new : Air L) → new ≡ after_event old Reset old.fates (reset_by m (world old)) → QuietReset m old new
-  quiet_reset old new e = record { after = ap world e; fates = ap (λ a. a.fates) e; trace = ap (λ a. a.trace) e }
-
   -- what is brought back are the events of the joint answer
   brought_world : (a : Air L) (j : Joint) (y : Fate) → world (brought m a j y) ≡ replay (quiet_air m) (world a) (joint_events j y)
   brought_world a Nothing y = refl
@@ -69,15 +66,13 @@ module _ {L : Type 0} (m : Machine L) where
         (did.0, step.says ∙ ap (answered_by m l f) did.1, step.left ∙ ap (stepped_by m l f) did.1)
 
     hear_quiet : (f : Signal) (ls : List L) (far : A) (said : List Signal) (ls' : List L) (far' : A) → EachQuiet m f ls → HearAll m restarts steps f ls far said ls' far' → HeardQuietly f ls far said ls' far'
-    hear_quiet f [] far said [] far' q h = record { says = h.0; left = refl; same = h.1 }
-    hear_quiet f [] far said (l' ∷ ls') far' q h = absurd h
-    hear_quiet f (l ∷ ls) far said [] far' q h = absurd h
-    hear_quiet f (l ∷ ls) far said (l' ∷ ls') far' q h =
-        let one : (h.2 ≡ far) × (h.0 ≡ answered_by m l f None) × (l' ≡ stepped_by m l f None) = hear_alone f l far h.0 l' h.2 q.0 h.3 in
-        let rest : HeardQuietly f ls h.2 h.1 ls' far' = hear_quiet f ls h.2 h.1 ls' far' q.1 h.4 in
+    hear_quiet f [] far said ls' far' q h = record { says = h.0; left = h.1; same = h.2 }
+    hear_quiet f (l ∷ ls) far said ls' far' q h =
+        let one : (h.3 ≡ far) × (h.0 ≡ answered_by m l f None) × (h.2 ≡ stepped_by m l f None) = hear_alone f l far h.0 h.2 h.3 q.0 h.5 in
+        let rest : HeardQuietly f ls h.3 h.1 h.4 far' = hear_quiet f ls h.3 h.1 h.4 far' q.1 h.6 in
         record {
-          says = h.5 ∙ ap (λ o. cons_option o h.1) one.1 ∙ ap (cons_option (answered_by m l f None)) rest.says;
-          left = ap (λ x. x ∷ ls') one.2 ∙ ap (λ xs. stepped_by m l f None ∷ xs) rest.left;
+          says = h.7 ∙ ap (λ o. cons_option o h.1) one.1 ∙ ap (cons_option (answered_by m l f None)) rest.says;
+          left = h.8 ∙ ap (λ x. x ∷ h.4) one.2 ∙ ap (λ xs. stepped_by m l f None ∷ xs) rest.left;
           same = rest.same ∙ one.0;
         }
 
@@ -128,19 +123,17 @@ module _ {L : Type 0} (m : Machine L) where
       -- quiet listeners never meet a far end that stops
       pub quiet_goes_on : (f : Signal) (ls : List L) (far : A) (ls' : List L) (far' : A) → EachQuiet m f ls → HearSome m restarts steps stops is_stuck f ls far ls' far' → ⊥
       quiet_goes_on f [] far ls' far' q h = h
-      quiet_goes_on f (l ∷ ls) far [] far' q h = h
-      quiet_goes_on f (l ∷ ls) far (l' ∷ ls') far' q (inl here) = let s = here.0 in untouched s.payload (sym q.0 ∙ s.handed)
+      quiet_goes_on f (l ∷ ls) far ls' far' q (l', later, e, inl here) = let s = here.0 in untouched s.payload (sym q.0 ∙ s.handed)
         where
           untouched : (payload : List ℕ) → Untouched ≡ Hands payload → ⊥
           untouched payload e = absurd cc
-      quiet_goes_on f (l ∷ ls) far (l' ∷ ls') far' q (inr later) = quiet_goes_on f ls later.1 ls' far' q.1 later.3
+      quiet_goes_on f (l ∷ ls) far ls' far' q (l', later, e, inr on) = quiet_goes_on f ls on.1 later far' q.1 on.3
 
       -- a far end that never stops breaks no turn off
       pub endless_goes_on : ((a : A) (payload : List ℕ) (b : A) → stops a payload b → ⊥) → (f : Signal) (ls : List L) (far : A) (ls' : List L) (far' : A) → HearSome m restarts steps stops is_stuck f ls far ls' far' → ⊥
       endless_goes_on never f [] far ls' far' h = h
-      endless_goes_on never f (l ∷ ls) far [] far' h = h
-      endless_goes_on never f (l ∷ ls) far (l' ∷ ls') far' (inl here) = let s = here.0 in never far s.payload far' s.far
-      endless_goes_on never f (l ∷ ls) far (l' ∷ ls') far' (inr later) = endless_goes_on never f ls later.1 ls' far' later.3
+      endless_goes_on never f (l ∷ ls) far ls' far' (l', later, e, inl here) = let s = here.0 in never far s.payload far' s.far
+      endless_goes_on never f (l ∷ ls) far ls' far' (l', later, e, inr on) = endless_goes_on never f ls on.1 later far' on.3
 
       -- what `transmit` answers over quiet listeners
       pub quiet_transmits : (old : Air L) (f : Signal) (far : A) (r : Result Heard AirFault) (new : Air L) (far' : A) → EachQuiet m f old.listeners

@@ -1,7 +1,7 @@
 -- A turn from its parts.
-use Rattle.std.proofs.Common.{◌≡◌, ℕ, List, [], ◌∷◌, ◌++◌, Bool, true, false, Option, Some, None, Result, Ok, Err, refl, sym, ◌∙◌, ap, subst, inl, inr, append_assoc, append-nil}
+use Rattle.std.proofs.Common.{◌≡◌, ℕ, List, [], ◌∷◌, ◌++◌, Bool, true, Option, Some, None, Result, Ok, Err, refl, sym, ◌∙◌, ap, subst, inr, append_assoc, append-nil}
 use Rattle.nfc_base.specs.Signal.{Signal}
-use Rattle.nfc_base.specs.Trace.{heard_by, heard_answer, heard_clash}
+use Rattle.nfc_base.specs.Trace.{heard_by, heard_at}
 use Rattle.nfc_base.specs.declared.event.Event.{Event}
 use Rattle.nfc_base.specs.declared.event.Event.TheVariants.{Request, Answer, Clash}
 use Rattle.nfc_base.specs.declared.event.Fate.{Fate}
@@ -14,7 +14,7 @@ use Rattle.air_core.specs.Conversation.{first_fate, later_fates, joint_back, joi
 use Rattle.air_core.specs.Settling.{settled}
 use Rattle.air_core.specs.Turn.{Air, world, after_event, brought, HearAll, HearSome, Passes, TurnBy, TurnIs, Transmits}
 use Rattle.air_core.specs.declared.fault.AirFault.{AirFault}
-use Rattle.air_core.specs.declared.fault.AirFault.TheVariants.{FieldLost, Memory}
+use Rattle.air_core.specs.declared.fault.AirFault.TheVariants.{Memory}
 
 air_of : {L : Type 0} (new : Air L) (w : World L) (fates : List Fate) (trace : List Event) → world new ≡ w → new.fates ≡ fates → new.trace ≡ trace
     → new ≡ record { lit = w.lit; listeners = w.listeners; fates = fates; trace = trace }
@@ -76,7 +76,7 @@ module _ {L A : Type 0} (m : Machine L) (restarts : A → List ℕ → A → Typ
       → new.trace ≡ (old.trace ++ Request f Pass ∷ []) ++ Answer g y ∷ [] → Transmits m restarts steps stops is_stuck old f far r new far'
   transmits_answer begin new far' answers ls r g y lit pass from all joins fate is w q t =
       let left : new ≡ brought m (passed old f ls) (Single g) y = air_of new (came_back m (record { lit = true; listeners = ls }) y) (later_fates (later_fates old.fates)) ((old.trace ++ Request f Pass ∷ []) ++ Answer g y ∷ []) w q t in
-      settles new far' r (Whole g) y (heard_answer g) refl refl refl refl is (λ heard e. turn_passes new far' answers ls (Single g) y heard lit pass (hears begin far' answers ls from all) joins fate e left)
+      settles new far' r (Whole g) y (λ z. heard_at z (Whole g)) refl refl refl refl is (λ heard e. turn_passes new far' answers ls (Single g) y heard lit pass (hears begin far' answers ls from all) joins fate e left)
 
   -- different ones
   pub transmits_clash : (begin : List L) (new : Air L) (far' : A) (answers : List Signal) (ls : List L) (r : Result Heard AirFault) (g : Signal) (y : Fate)
@@ -85,7 +85,7 @@ module _ {L A : Type 0} (m : Machine L) (restarts : A → List ℕ → A → Typ
       → new.trace ≡ (old.trace ++ Request f Pass ∷ []) ++ Clash g y ∷ [] → Transmits m restarts steps stops is_stuck old f far r new far'
   transmits_clash begin new far' answers ls r g y lit pass from all joins fate is w q t =
       let left : new ≡ brought m (passed old f ls) (Clashing g) y = air_of new (came_back m (record { lit = true; listeners = ls }) y) (later_fates (later_fates old.fates)) ((old.trace ++ Request f Pass ∷ []) ++ Clash g y ∷ []) w q t in
-      settles new far' r (Collided g) y (heard_clash g) refl refl refl refl is (λ heard e. turn_passes new far' answers ls (Clashing g) y heard lit pass (hears begin far' answers ls from all) joins fate e left)
+      settles new far' r (Collided g) y (λ z. heard_at z (Collided g)) refl refl refl refl is (λ heard e. turn_passes new far' answers ls (Clashing g) y heard lit pass (hears begin far' answers ls from all) joins fate e left)
 
   -- a far end that stopped
   pub transmits_stop : (begin : List L) (new : Air L) (far' : A) (ls : List L)
@@ -96,14 +96,6 @@ module _ {L A : Type 0} (m : Machine L) (restarts : A → List ℕ → A → Typ
       (lit, inr (record { fate = pass; listeners = ls; some = subst P from some; left = left }))
 
 module _ {L A : Type 0} (m : Machine L) (restarts : A → List ℕ → A → Type 0) (steps : A → List ℕ → List ℕ → A → Type 0) (stops : A → List ℕ → A → Type 0) (is_stuck : A → Bool) (old : Air L) (f : Signal) (far : A) where
-  -- in the dark nothing happens
-  pub transmits_dark : (r : Result Heard AirFault) (new : Air L) (far' : A) → old.lit ≡ false → Transmits m restarts steps stops is_stuck old f far r new far'
-      → (r ≡ Err FieldLost) × (new ≡ old) × (far' ≡ far)
-  transmits_dark (Ok h) new far' dark t = let lit : old.lit ≡ true = t.lit in absurd cc
-  transmits_dark (Err FieldLost) new far' dark (inl same) = (refl, same.1, same.2)
-  transmits_dark (Err FieldLost) new far' dark (inr t) = let lit : old.lit ≡ true = t.lit in absurd cc
-  transmits_dark (Err Memory) new far' dark (lit, t) = absurd cc
-
   turn_appends : (x : Fate) (heard : Option Heard) (new : Air L) (far' : A) → TurnBy m restarts steps x old f far heard new far' → (more : List Event) × (new.trace ≡ old.trace ++ more)
   turn_appends Pass heard new far' p =
       let y : Fate = first_fate (later_fates old.fates) in (
@@ -113,11 +105,3 @@ module _ {L A : Type 0} (m : Machine L) (restarts : A → List ℕ → A → Typ
   turn_appends Damage heard new far' p = (Request f Damage ∷ [], ap (λ a. a.trace) p.left)
   turn_appends Lose heard new far' p = (Request f Lose ∷ [], ap (λ a. a.trace) p.left)
   turn_appends Break heard new far' p = (Request f Break ∷ [], ap (λ a. a.trace) p.left)
-
-  -- the trace only grows
-  pub transmits_appends : (r : Result Heard AirFault) (new : Air L) (far' : A) → Transmits m restarts steps stops is_stuck old f far r new far' → (more : List Event) × (new.trace ≡ old.trace ++ more)
-  transmits_appends (Ok h) new far' t = turn_appends (first_fate old.fates) (Some h) new far' t.by
-  transmits_appends (Err FieldLost) new far' (inl same) = ([], ap (λ a. a.trace) same.1 ∙ sym (append-nil old.trace))
-  transmits_appends (Err FieldLost) new far' (inr t) = turn_appends (first_fate old.fates) None new far' t.by
-  transmits_appends (Err Memory) new far' (lit, inl same) = ([], ap (λ a. a.trace) same.0 ∙ sym (append-nil old.trace))
-  transmits_appends (Err Memory) new far' (lit, inr s) = (Request f Pass ∷ [], ap (λ a. a.trace) s.left)

@@ -3,12 +3,12 @@
 -- are this project's own.)
 use Rattle.std.specs.Prelude.{◌≡◌, List, [], ◌∷◌, ◌++◌, Bool, true, if◌then◌else◌, Option, Some, None}
 use Rattle.nfc_base.specs.Signal.{Signal}
-use Rattle.nfc_base.specs.Trace.{Back, back_of, heard_by}
+use Rattle.nfc_base.specs.Trace.{Back, by_fate, back_of, heard_by}
 use Rattle.nfc_base.specs.Trace as backs
 use Rattle.nfc_base.specs.declared.event.Event.{Event}
 use Rattle.nfc_base.specs.declared.event.Event.TheVariants.{Reset, Request, Answer, Clash}
 use Rattle.nfc_base.specs.declared.event.Fate.{Fate}
-use Rattle.nfc_base.specs.declared.event.Fate.TheVariants.{Pass, Damage, Lose, Break}
+use Rattle.nfc_base.specs.declared.event.Fate.TheVariants.{Pass}
 use Rattle.nfc_base.specs.declared.event.Heard.{Heard}
 use Rattle.air_core.specs.Joint.{Joint, Nothing, Single, Clashing}
 
@@ -94,10 +94,7 @@ module _ {W : Type 0} (m : AirModel W) where
 
   -- the events of one turn, by the fate of its request and that of its answer
   abbrev pub turn_events : W → Signal → Fate → Fate → List Event
-  turn_events w f Pass y = Request f Pass ∷ joint_events (m.joint w f) y
-  turn_events w f Damage y = Request f Damage ∷ []
-  turn_events w f Lose y = Request f Lose ∷ []
-  turn_events w f Break y = Request f Break ∷ []
+  turn_events w f x y = Request f x ∷ by_fate x (joint_events (m.joint w f) y) [] []
 
   -- what was heard of it; none where the field was lost
   abbrev pub turn_heard : W → Signal → Fate → Fate → Option Heard

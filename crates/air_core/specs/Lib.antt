@@ -16,3 +16,5 @@ pub mod PlainLinks
 pub mod PlainWaits
 pub mod Following
 pub mod PlainMoving
+pub mod OneAir
+pub mod PlainByLight

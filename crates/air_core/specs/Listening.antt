@@ -2,7 +2,8 @@
 use Rattle.std.specs.Prelude.{◌≡◌, ℕ, List, Bool, true, Option, None}
 use Rattle.nfc_base.specs.Signal.{Signal}
 use Rattle.nfc_base.specs.Far.{FarUse, Hands, FarDid}
-pub use Rattle.nfc_base.specs.TagLinks.{addressed as addressed_to}
+use Rattle.nfc_base.specs.declared.frame.Tech.{Tech}
+use Rattle.nfc_base.specs.TagLinks.{TagState, TagStep}
 
 -- The far end did what was asked of it. The answer, and what the listener is after, are these functions of the reply.
 pub record Step {L A : Type 0} (restarts : A → List ℕ → A → Type 0) (steps : A → List ℕ → List ℕ → A → Type 0) (asked : FarUse) (answers : Option (List ℕ) → Option Signal) (leaves : Option (List ℕ) → L) (old : A) (answer : Option Signal) (after : L) (new : A) : Type 0 where
@@ -18,3 +19,10 @@ pub record Stop {L A : Type 0} (stops : A → List ℕ → A → Type 0) (is_stu
   pub far : stops old payload new
   pub stuck : is_stuck new ≡ true
   pub left : after ≡ leaves None
+
+-- What nothing on the air changes of a device: its technology, its identifier, and of a tag its step on commands.
+pub record StaysSame {L : Type 0} (tech : L → Tech) (identifier : L → List ℕ) (commands : L → TagState → Signal → TagStep)
+    (old new : L) : Type 0 where
+  pub tech' : tech new ≡ tech old
+  pub identifier' : identifier new ≡ identifier old
+  pub commands' : commands new ≡ commands old

@@ -1,20 +1,18 @@
 -- What contracts see of a link that sends each command as it is, over a field that it borrows. What the tag obeyed and
 -- what was answered is read off the field's trace.
-use Rattle.std.specs.Prelude.{◌≡◌, ◌⊎◌, ℕ, zero, suc, ◌+◌, ◌*◌, ◌≤◌, List, [], ◌∷◌, ◌++◌, length, drop, Bool, not, if◌then◌else◌, Option, Some, None, false}
+use Rattle.std.specs.Prelude.{◌≡◌, ◌⊎◌, ℕ, zero, suc, ◌+◌, ◌*◌, ◌≤◌, List, [], ◌∷◌, ◌++◌, length, drop, map, Bool, true, not, Option, Some, None, Result, IfOk, IfErr, false}
+use Rattle.std.specs.List.{filter}
 use Rattle.nfc_base.specs.declared.frame.Tech.{Tech}
 use Rattle.nfc_base.specs.declared.frame.Tech.TheVariants.{A}
 use Rattle.nfc_base.specs.declared.event.Event.{Event}
-use Rattle.nfc_base.specs.declared.event.Event.TheVariants.{Reset, Request, Answer, Clash}
-use Rattle.nfc_base.specs.declared.event.Fate.{Fate}
-use Rattle.nfc_base.specs.declared.event.Fate.TheVariants.{Pass, Damage, Lose, Break}
 use Rattle.nfc_base.specs.declared.event.Heard.{Heard}
 use Rattle.nfc_base.specs.declared.event.Heard.TheVariants.{Whole, Collided, Damaged, Silent}
 use Rattle.nfc_base.specs.declared.tag_link.AskFault.{AskFault}
 use Rattle.nfc_base.specs.declared.tag_link.AskFault.TheVariants.{FieldLost, SixBad, Memory, Protocol}
 use Rattle.nfc_base.specs.Signal.{Signal}
-use Rattle.nfc_base.specs.Trace.{back_of, heard_by, noise}
+use Rattle.nfc_base.specs.Trace.{Turn, by_fate, turns, heard, noise}
 use Rattle.nfc_base.specs.Links.{Counts}
-use Rattle.nfc_base.specs.TagLinks.{LinkView, plain_state, MayAsk, passed, Leads}
+use Rattle.nfc_base.specs.TagLinks.{LinkView, plain_state, MayAsk, passed, Leads, IsAnswer, IsFault}
 use Rattle.air_core.specs.Joint.{same_tech}
 use Rattle.air_core.specs.World.{World, happens, quiet_air}
 use Rattle.air_core.specs.Turn.{Air, world, moment}
@@ -23,36 +21,25 @@ use Rattle.air_core.specs.Waits.{Standing, Asking, Broken, stand, waits_next}
 use Rattle.air_core.specs.PlainTags.{plain_kind, HasPlainTag}
 use Rattle.air_core.specs.declared.listener.Listener.{Ghosts}
 
--- the frame, where the request passed and the tag is of its technology
-abbrev pub obeyed_of : Tech → Signal → Fate → List Signal
-obeyed_of t f Pass = if same_tech f.tech t then f ∷ [] else []
-obeyed_of t f Damage = []
-obeyed_of t f Lose = []
-obeyed_of t f Break = []
+-- the request of a turn reached a tag of this technology
+abbrev pub has_reached : Tech → Turn → Bool
+has_reached t u = by_fate u.fate (same_tech u.request.tech t) false false
+
+-- a whole frame was heard
+abbrev pub is_whole : Option Heard → Bool
+is_whole None = false
+is_whole (Some (Whole g)) = true
+is_whole (Some (Collided g)) = false
+is_whole (Some Damaged) = false
+is_whole (Some Silent) = false
 
 -- the requests that reached a tag of this technology
 abbrev pub obeyed_in : Tech → List Event → List Signal
-obeyed_in t [] = []
-obeyed_in t (Reset ∷ es) = obeyed_in t es
-obeyed_in t (Request f x ∷ es) = obeyed_of t f x ++ obeyed_in t es
-obeyed_in t (Answer g x ∷ es) = obeyed_in t es
-obeyed_in t (Clash g x ∷ es) = obeyed_in t es
-
--- the request, where a whole frame was heard of its turn
-abbrev pub answered_of : Signal → Option Heard → List Signal
-answered_of f None = []
-answered_of f (Some (Whole g)) = f ∷ []
-answered_of f (Some (Collided g)) = []
-answered_of f (Some Damaged) = []
-answered_of f (Some Silent) = []
+obeyed_in t es = map (λ u. u.request) (filter (has_reached t) (turns es))
 
 -- the commands whose wait ended by a whole answer
 abbrev pub answered_in : List Event → List Signal
-answered_in [] = []
-answered_in (Reset ∷ es) = answered_in es
-answered_in (Request f x ∷ es) = answered_of f (heard_by x (back_of es)) ++ answered_in es
-answered_in (Answer g x ∷ es) = answered_in es
-answered_in (Clash g x ∷ es) = answered_in es
+answered_in es = map (λ u. u.request) (filter (λ u. is_whole (heard u)) (turns es))
 
 -- 1 where the link is over by the cause that is counted
 abbrev pub counts_of : Option AskFault → Counts
@@ -93,6 +80,9 @@ pub record PlainSeen (L : Type 0) : Type 0 where
   pub last : Option Signal
   pub over : Option AskFault
 
+abbrev pub plain_seen : {L : Type 0} → Air L → ℕ → ℕ → Option Signal → Option AskFault → PlainSeen L
+plain_seen air place start last over = record { air = air; place = place; start = start; last = last; over = over }
+
 -- the command that was left without an answer, where the link is over
 abbrev pub unanswered : Option AskFault → Option Signal → List Signal
 unanswered None last = []
@@ -100,12 +90,13 @@ unanswered (Some e) None = []
 unanswered (Some e) (Some c) = c ∷ []
 
 -- Where the waits stand of a link that is over, or isn't: all commands were answered, or the last one ended the link. After
--- a lost field it is dark; it was lost in a turn, or was dark before the last command was sent.
+-- a lost field it is dark; it was lost in a turn, or was dark before the last command was sent. Six bad receptions and want
+-- of memory are told in the light only.
 abbrev pub StandsAt : Option AskFault → Bool → Standing → Type 0
 StandsAt None lit s = s ≡ Asking 0 []
 StandsAt (Some FieldLost) lit s = (lit ≡ false) × (c : Signal) × ((s ≡ Broken FieldLost (c ∷ [])) ⊎ (s ≡ Asking 0 (c ∷ [])))
-StandsAt (Some SixBad) lit s = (c : Signal) × (s ≡ Broken SixBad (c ∷ []))
-StandsAt (Some Memory) lit s = (c : Signal) × (bad : ℕ) × (s ≡ Asking bad (c ∷ []))
+StandsAt (Some SixBad) lit s = (lit ≡ true) × (c : Signal) × (s ≡ Broken SixBad (c ∷ []))
+StandsAt (Some Memory) lit s = (lit ≡ true) × (c : Signal) × (bad : ℕ) × (s ≡ Asking bad (c ∷ []))
 StandsAt (Some Protocol) lit s = ⊥
 
 module _ {L : Type 0} (k : Ghosts L) where
@@ -114,6 +105,10 @@ module _ {L : Type 0} (k : Ghosts L) where
 
   abbrev pub answered_by_link : PlainSeen L → List Signal
   answered_by_link p = answered_in (since p)
+
+  -- the commands that were asked on a link: those that were answered, and the one that ended it
+  abbrev pub asked_on : PlainSeen L → List Signal
+  asked_on p = answered_by_link p ++ unanswered p.over p.last
 
   abbrev pub plain_view : PlainSeen L → LinkView
   plain_view p = record {
@@ -139,18 +134,31 @@ module _ {L : Type 0} (k : Ghosts L) where
   abbrev pub between : PlainSeen L → PlainSeen L → List Event
   between a b = drop (length a.air.trace) b.air.trace
 
-  -- Commands were asked, each in its wait, and nothing else happened to the field. What the link answered, and the
-  -- command that it ended with, are these commands. Each took at most twelve transmissions. The stores that the tag
-  -- passed by its steps are those that it had after the events, in their order.
-  pub record PlainMoves (a b : PlainSeen L) : Type 0 where
-    pub asked : List Signal
+  -- Commands were asked, each in its wait and by at most twelve transmissions, and nothing else happened to the field.
+  pub record PlainAsked (a b : PlainSeen L) : Type 0 where
+    pub commands : List Signal
     pub notes : List Note
-    pub going : Going (quiet_air k.machine) (waits_next asked) (moment a.air) (moment b.air) notes
+    pub going : Going (quiet_air k.machine) (waits_next commands) (moment a.air) (moment b.air) notes
+    pub stands : a.over ≡ None → StandsAt b.over b.air.lit (stand 0 commands notes)
+    pub told : asked_on b ≡ asked_on a ++ commands
+    pub most : length b.air.trace ≤ length a.air.trace + 12 * length commands
+
+  -- The tag obeyed commands. The stores that it passed by its steps are those that it had after the events, in their order.
+  pub record PlainObeyed (a b : PlainSeen L) : Type 0 where
+    pub commands : List Signal
+    pub leads : Leads (plain_view a) (plain_view b) commands
+    pub images : Follows (plain_view a).state.store (stores_after k a.place (world a.air) (between a b))
+        (passed (plain_view a).step (plain_view a).state commands)
+
+  -- What calls do to a link: what was asked in them, and what the tag obeyed. One that is over stays as it is.
+  pub record PlainMoves (a b : PlainSeen L) : Type 0 where
     pub same : (b.place ≡ a.place) × (b.start ≡ a.start)
-    pub stands : a.over ≡ None → StandsAt b.over b.air.lit (stand 0 asked notes)
-    pub told : a.over ≡ None → answered_by_link b ++ unanswered b.over b.last ≡ answered_by_link a ++ asked
-    pub most : length b.air.trace ≤ length a.air.trace + 12 * length asked
-    pub ended : (e : AskFault) → a.over ≡ Some e → (b ≡ a) × (asked ≡ [])
-    pub obeyed : List Signal
-    pub leads : Leads (plain_view a) (plain_view b) obeyed
-    pub images : Follows (plain_view a).state.store (stores_after k a.place (world a.air) (between a b)) (passed (plain_view a).step (plain_view a).state obeyed)
+    pub ended : (e : AskFault) → a.over ≡ Some e → b ≡ a
+    pub asked : PlainAsked a b
+    pub obeyed : PlainObeyed a b
+
+  -- An `ask` that ends so is that of one command, at most: six turns, of a request and an answer each.
+  abbrev pub FewSent : PlainSeen L → PlainSeen L → Signal → Result Signal AskFault → Type 0
+  FewSent a b c result =
+      PlainMoves a b → IfOk result (IsAnswer (plain_view a) (plain_view b) c) → IfErr result (IsFault (plain_view a) (plain_view b) c)
+      → length b.air.trace ≤ length a.air.trace + 12

@@ -1,12 +1,12 @@
 -- Tags that take commands as they are sent, alone in a field (NFC Forum Type 2 and Type 5 Tag; who hears what is this
 -- project's own).
-use Rattle.std.specs.Prelude.{◌≡◌, ℕ, zero, suc, List, [], ◌∷◌, ◌++◌, length, true, false, Some, None}
+use Rattle.std.specs.Prelude.{◌≡◌, ℕ, zero, suc, List, [], ◌∷◌, ◌++◌, length, Bool, true, false, Some, None}
 use Rattle.std.specs.List.{AllByRecursion}
 use Rattle.nfc_base.specs.declared.frame.Tech.{Tech}
 use Rattle.nfc_base.specs.declared.frame.Tech.TheVariants.{A, V}
 use Rattle.nfc_base.specs.Signal.{Signal}
 use Rattle.nfc_base.specs.Far.{Untouched}
-use Rattle.nfc_base.specs.TagLinks.{TagKind, Type2, Type5, TagStep, plain_state, MayAsk}
+use Rattle.nfc_base.specs.TagLinks.{TagKind, Type2, Type5, TagStep, plain_state, MayAsk, IsNamedIn}
 use Rattle.air_core.specs.Turn.{Air}
 use Rattle.air_core.specs.declared.listener.Listener.{Ghosts}
 
@@ -29,22 +29,31 @@ module _ {L : Type 0} (k : Ghosts L) where
   abbrev pub tag_step : L → Signal → TagStep
   tag_step l f = k.commands l (plain_state (k.store l)) f
 
-  -- However often the frame is heard in a row: nothing is asked of a far end, the answer is that of the tag's step, the
-  -- store is that of its step and stays so, and a tag that answers stays selected.
-  pub record IsSteady (l : L) (f : Signal) : Type 0 where
-    pub quiet : (n : ℕ) → k.machine.handed (heard_times l f n) f ≡ Untouched
-    pub answer : (n : ℕ) → k.machine.answer (heard_times l f n) f None ≡ (tag_step l f).answer
-    pub after : (n : ℕ) → plain_state (k.store (heard_times l f (suc n))) ≡ (tag_step l f).after
-    pub again : (k.commands l (tag_step l f).after f).after ≡ (tag_step l f).after
-    pub selected : (g : Signal) → (tag_step l f).answer ≡ Some g → (n : ℕ) → k.is_selected (heard_times l f (suc n)) ≡ true
+  -- A selected tag takes a command: it asks nothing of a far end, what it answers and what it then holds is its step,
+  -- which the command heard again repeats, and a tag that answers stays selected.
+  pub record Takes (l : L) (f : Signal) : Type 0 where
+    pub quiet : k.machine.handed l f ≡ Untouched
+    pub answer : k.machine.answer l f None ≡ (tag_step l f).answer
+    pub after : plain_state (k.store (k.machine.after l f None)) ≡ (tag_step l f).after
+    pub again : k.commands l (tag_step l f).after f ≡ tag_step l f
+    pub selected : (g : Signal) → (tag_step l f).answer ≡ Some g → k.is_selected (k.machine.after l f None) ≡ true
 
-  -- By frames that a tag of this kind and identifier may be asked, a listener only comes to where it is steady while it
-  -- is selected. Its step on commands stays, also in the dark.
+  -- A tag that isn't selected passes a command over, and holds what it held.
+  pub record PassesOver (l : L) (f : Signal) : Type 0 where
+    pub quiet : k.machine.handed l f ≡ Untouched
+    pub silent : k.machine.answer l f None ≡ None
+    pub store : k.store (k.machine.after l f None) ≡ k.store l
+    pub rests : k.is_selected (k.machine.after l f None) ≡ false
+
+  -- A tag of this kind and identifier that takes commands as they are sent: something holds of it, which each frame keeps
+  -- that such a tag may be asked; where it holds, the tag takes these frames while it is selected, and passes them over
+  -- while it isn't.
   pub record IsPlainTag (kind : TagKind) (identifier : List ℕ) (l : L) : Type 0 where
-    pub steady : (fs : List Signal) → AllByRecursion (MayAsk kind identifier) fs → k.is_selected (reached l fs) ≡ true →
-        (f : Signal) → MayAsk kind identifier f → IsSteady (reached l fs) f
-    pub same : (fs : List Signal) → AllByRecursion (MayAsk kind identifier) fs → k.commands (reached l fs) ≡ k.commands l
-    pub dark : (fs : List Signal) → AllByRecursion (MayAsk kind identifier) fs → k.commands (k.machine.darkened (reached l fs)) ≡ k.commands l
+    pub holds : L → Bool
+    pub now : holds l ≡ true
+    pub kept : (m : L) (f : Signal) → MayAsk kind identifier f → holds m ≡ true → holds (k.machine.after m f None) ≡ true
+    pub takes : (m : L) (f : Signal) → MayAsk kind identifier f → holds m ≡ true → k.is_selected m ≡ true → Takes m f
+    pub passes : (m : L) (f : Signal) → MayAsk kind identifier f → holds m ≡ true → k.is_selected m ≡ false → PassesOver m f
 
   -- Another listener of the field: no NFC-A device that is ready or selected, and of another identifier.
   pub record IsAside (identifier : List ℕ) (l : L) : Type 0 where
@@ -60,13 +69,12 @@ module _ {L : Type 0} (k : Ghosts L) where
     pub first : AllByRecursion (IsAside identifier) before
     pub later : AllByRecursion (IsAside identifier) behind
 
-  -- At this place of a field a tag stands that is selected, alone, and takes commands as they are sent. An NFC-V device
-  -- has eight bytes of identifier.
+  -- At this place of a field a tag stands that is selected, alone, and takes commands as they are sent.
   pub record HasPlainTag (air : Air L) (place : ℕ) : Type 0 where
     pub tag : L
     pub selected : k.is_selected tag ≡ true
     pub alone : IsAlone (k.identifier tag) air.listeners place tag
-    pub eight : k.machine.tech tag ≡ V → length (k.identifier tag) ≡ 8
+    pub named : IsNamedIn (k.machine.tech tag) (k.identifier tag)
     pub plain : IsPlainTag (plain_kind (k.machine.tech tag)) (k.identifier tag) tag
 
   -- the tag may be asked this

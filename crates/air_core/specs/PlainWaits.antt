@@ -29,7 +29,7 @@ times f (suc n) = f ∷ times f n
 module _ {L : Type 0} (k : Ghosts L) where
   -- Of a wait so many turns were made, and the tag heard the command in so many of them. This is what it then is, and
   -- what was answered.
-  pub record Waits (old new : Air L) (place : ℕ) (f : Signal) (tag : L) (turns heard : ℕ) (s : Standing) (left : L) (done : List Signal) : Type 0 where
+  pub record Waited (old new : Air L) (place : ℕ) (f : Signal) (tag : L) (turns heard : ℕ) (s : Standing) (left : L) (done : List Signal) : Type 0 where
     pub alone : IsAlone k (k.identifier tag) new.listeners place left
     pub notes : List Note
     pub going : Going (quiet_air k.machine) (waits_next (f ∷ [])) (moment old) (moment new) notes
@@ -46,7 +46,7 @@ module _ {L : Type 0} (k : Ghosts L) where
   -- didn't pass.
   pub record GoesOn (old new : Air L) (place : ℕ) (f : Signal) (tag : L) (bad : ℕ) : Type 0 where
     pub heard : ℕ
-    pub waits : Waits old new place f tag bad heard (after_bad f bad) (heard_times k tag f heard) []
+    pub waits : Waited old new place f tag bad heard (after_bad f bad) (heard_times k tag f heard) []
     pub lit : new.lit ≡ old.lit
     pub begun : 0 < bad → old.lit ≡ true
     pub calm : 0 < bad → ((tag_step k tag f).answer ≡ None) ⊎ (0 < noise waits.events)
@@ -59,7 +59,7 @@ module _ {L : Type 0} (k : Ghosts L) where
   pub record Answered (old new : Air L) (place : ℕ) (f : Signal) (tag : L) (g : Signal) : Type 0 where
     pub turns : ℕ
     pub heard : ℕ
-    pub waits : Waits old new place f tag turns (suc heard) (Asking 0 []) (heard_times k tag f (suc heard)) (f ∷ [])
+    pub waits : Waited old new place f tag turns (suc heard) (Asking 0 []) (heard_times k tag f (suc heard)) (f ∷ [])
     pub bound : turns ≤ 6
     pub lit : new.lit ≡ true
     pub says : (tag_step k tag f).answer ≡ Some g
@@ -68,13 +68,14 @@ module _ {L : Type 0} (k : Ghosts L) where
   pub record Darkened (old new : Air L) (place : ℕ) (f : Signal) (tag : L) : Type 0 where
     pub turns : ℕ
     pub heard : ℕ
-    pub waits : Waits old new place f tag turns heard (Broken FieldLost (f ∷ [])) (k.machine.darkened (heard_times k tag f heard)) []
+    pub waits : Waited old new place f tag turns heard (Broken FieldLost (f ∷ [])) (k.machine.darkened (heard_times k tag f heard)) []
     pub bound : turns ≤ 6
     pub noisy : 0 < noise waits.events
     pub dim : new.lit ≡ false
 
-  -- Nothing more could be noted.
+  -- Nothing more could be noted, in the light.
   pub record Stopped (old new : Air L) (place : ℕ) (f : Signal) (tag : L) : Type 0 where
+    pub lit : new.lit ≡ true
     pub bad : ℕ
     pub bound : bad < 6
     pub goes : GoesOn old new place f tag bad

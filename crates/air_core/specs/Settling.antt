@@ -1,15 +1,15 @@
 -- What the reader hears of a transmission back, by its fate.
-use Rattle.std.specs.Prelude.{Result, Ok, Err}
+use Rattle.std.specs.Prelude.{Option, Some, None, Result, Ok, Err}
+use Rattle.nfc_base.specs.Trace.{heard_at}
 use Rattle.nfc_base.specs.declared.event.Fate.{Fate}
-use Rattle.nfc_base.specs.declared.event.Fate.TheVariants.{Pass, Damage, Lose, Break}
 use Rattle.nfc_base.specs.declared.event.Heard.{Heard}
-use Rattle.nfc_base.specs.declared.event.Heard.TheVariants.{Damaged, Silent}
 use Rattle.air_core.specs.declared.fault.AirFault.{AirFault}
 use Rattle.air_core.specs.declared.fault.AirFault.TheVariants.{FieldLost}
 
--- what passes is heard, and a Break loses the field
+-- what was heard, as an answer of `transmit`
+abbrev pub answer_of : Option Heard → Result Heard AirFault
+answer_of (Some h) = Ok h
+answer_of None = Err FieldLost
+
 abbrev pub settled : Heard → Fate → Result Heard AirFault
-settled h Pass = Ok h
-settled h Damage = Ok Damaged
-settled h Lose = Ok Silent
-settled h Break = Err FieldLost
+settled h x = answer_of (heard_at x h)

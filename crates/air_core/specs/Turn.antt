@@ -48,11 +48,10 @@ module _ {L A : Type 0} (m : Machine L) (restarts : A → List ℕ → A → Typ
 
   -- Each listener meets the frame, in order, and these are their answers.
   abbrev pub HearAll : Signal → List L → A → List Signal → List L → A → Type 0
-  HearAll f [] far answers [] far' = (answers ≡ []) × (far' ≡ far)
-  HearAll f (l ∷ ls) far answers (l' ∷ ls') far' =
-      (answer : Option Signal) × (others : List Signal) × (mid : A) × Meets f l far answer l' mid × HearAll f ls mid others ls' far' × (answers ≡ cons_option answer others)
-  HearAll f [] far answers (l' ∷ ls') far' = ⊥
-  HearAll f (l ∷ ls) far answers [] far' = ⊥
+  HearAll f [] far answers ls' far' = (answers ≡ []) × (ls' ≡ []) × (far' ≡ far)
+  HearAll f (l ∷ ls) far answers ls' far' =
+      (answer : Option Signal) × (others : List Signal) × (l' : L) × (mid : A) × (later : List L) × Meets f l far answer l' mid
+      × HearAll f ls mid others later far' × (answers ≡ cons_option answer others) × (ls' ≡ l' ∷ later)
 
   -- The request passed. What comes back of it has the fate behind its own.
   pub record Passes (old : Air L) (f : Signal) (far : A) (heard : Option Heard) (new : Air L) (far' : A) : Type 0 where
@@ -83,11 +82,11 @@ module _ {L A : Type 0} (m : Machine L) (restarts : A → List ℕ → A → Typ
   module _ (stops : A → List ℕ → A → Type 0) (is_stuck : A → Bool) where
     -- Each listener meets the frame, in order, up to one that hands over what stops the far end. Those behind it don't.
     abbrev pub HearSome : Signal → List L → A → List L → A → Type 0
-    HearSome f (l ∷ ls) far (l' ∷ ls') far' =
-        (Stop stops is_stuck (hands_over m l f) (stepped_by m l f) far l' far' × (ls' ≡ ls))
-        ⊎ ((answer : Option Signal) × (mid : A) × Meets f l far answer l' mid × HearSome f ls mid ls' far')
     HearSome f [] far ls' far' = ⊥
-    HearSome f (l ∷ ls) far [] far' = ⊥
+    HearSome f (l ∷ ls) far ls' far' =
+        (l' : L) × (later : List L) × (ls' ≡ l' ∷ later)
+        × ((Stop stops is_stuck (hands_over m l f) (stepped_by m l f) far l' far' × (later ≡ ls))
+        ⊎ ((answer : Option Signal) × (mid : A) × Meets f l far answer l' mid × HearSome f ls mid later far'))
 
     -- A turn that a far end broke off for want of memory: the request has passed, and nothing has come back.
     pub record Stops (old : Air L) (f : Signal) (far : A) (new : Air L) (far' : A) : Type 0 where

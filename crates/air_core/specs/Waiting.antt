@@ -5,7 +5,7 @@ use Rattle.nfc_base.specs.Trace.{is_bad_in_wait}
 use Rattle.nfc_base.specs.declared.tag_link.AskFault.TheVariants.{SixBad}
 use Rattle.air_core.specs.Conversation.{AirModel, Moment, Note, Lit, Got, Lost, Next, Over, IsDemand, Going}
 use Rattle.air_core.specs.Waits.{Asking, Broken, stand, due_at, waits_from, waits_next}
-use Rattle.air_core.specs.Turning.{due_weaker, going_then}
+use Rattle.air_core.specs.Turning.{going_then}
 
 stand_kinds : (bad : ℕ) (c : Signal) (cs : List Signal) (hs : List Note) (b : ℕ) (left ys : List Signal) (ns : List Note) (v w : Bool)
     → (stand 0 cs hs ≡ Asking b left → stand 0 (cs ++ ys) (hs ++ ns) ≡ stand b (left ++ ys) ns)
@@ -58,15 +58,3 @@ module _ {W : Type 0} (m : AirModel W) where
   waits_then a b c xs ys hs ks done g k =
       going_then m (waits_next (xs ++ ys)) (waits_next xs) (waits_next ys) a b c hs ks (λ ns n e d. front_due 0 xs ys ns n e d)
       (λ ns. ap due_at (stand_on 0 xs hs 0 [] done ys ns)) g k
-
-  -- Commands that are the first of a list, however far they came.
-  pub waits_front : (a b : Moment W) (xs ys : List Signal) (hs : List Note) → Going m (waits_next xs) a b hs → Going m (waits_next (xs ++ ys)) a b hs
-  waits_front a b xs ys hs g = record {
-    events = g.events;
-    moment = g.moment;
-    turns = g.turns;
-    each = due_weaker (waits_next (xs ++ ys)) (waits_next xs) (λ ns n e d. front_due 0 xs ys ns n e d) [] g.events g.each;
-    fates = g.fates;
-    fresh = g.fresh;
-    known = g.known;
-  }

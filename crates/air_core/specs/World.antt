@@ -5,8 +5,8 @@ use Rattle.nfc_base.specs.declared.frame.Tech.{Tech}
 use Rattle.nfc_base.specs.declared.event.Event.{Event}
 use Rattle.nfc_base.specs.declared.event.Event.TheVariants.{Reset, Request, Answer, Clash}
 use Rattle.nfc_base.specs.declared.event.Fate.{Fate}
-use Rattle.nfc_base.specs.declared.event.Fate.TheVariants.{Pass, Damage, Lose, Break}
 use Rattle.nfc_base.specs.Signal.{Signal}
+use Rattle.nfc_base.specs.Trace.{by_fate}
 use Rattle.nfc_base.specs.Far.{FarUse, Untouched}
 use Rattle.air_core.specs.Joint.{joint, same_tech}
 use Rattle.air_core.specs.Conversation.{AirModel}
@@ -57,16 +57,10 @@ module _ {L : Type 0} (m : Machine L) where
   answers w f = filter_map (λ l. answered_by l f None) w.listeners
 
   abbrev pub requested : World L → Signal → Fate → World L
-  requested w f Pass = stepped w f
-  requested w f Damage = w
-  requested w f Lose = w
-  requested w f Break = dark w
+  requested w f x = by_fate x (stepped w f) w (dark w)
 
   abbrev pub came_back : World L → Fate → World L
-  came_back w Pass = w
-  came_back w Damage = w
-  came_back w Lose = w
-  came_back w Break = dark w
+  came_back w x = by_fate x w w (dark w)
 
   -- what one event changes
   abbrev pub happens : World L → Event → World L

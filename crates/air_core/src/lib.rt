@@ -15,13 +15,14 @@ mod fates;
 mod fault;
 mod field;
 mod hearing;
+pub mod law;
 mod listener;
 mod plain_link;
 
 pub use fault::AirFault;
 pub use field::Field;
 pub use listener::Listener;
-pub use plain_link::PlainLink;
+pub use plain_link::{BAD_RECEPTIONS, PlainLink};
 
 #[cfg(test)]
 mod tests;

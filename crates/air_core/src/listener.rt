@@ -1,12 +1,12 @@
 //! What a device is to the air.
 
-ghost use Rattle.std.specs.Prelude.{◌≡◌, ℕ, ◌≤◌, List, length, Bool, false, Option, None, IfOk, OnErr};
+ghost use Rattle.std.specs.Prelude.{◌≡◌, ℕ, ◌≤◌, List, length, Bool, true, false, Option, Some, None, IfOk, OnErr};
 ghost use Rattle.nfc_base.specs.Signal.{Signal, whole_a};
 ghost use Rattle.nfc_base.specs.Far.{Untouched, Hands};
-ghost use Rattle.nfc_base.specs.TagLinks.{TagState, TagStep};
+ghost use Rattle.nfc_base.specs.TagLinks.{TagState, TagStep, IsAddressedIn};
 ghost use Rattle.nfc_base.specs.declared.frame.Tech.TheVariants as techs;
 ghost use Rattle.air_core.specs.World.{Machine};
-ghost use Rattle.air_core.specs.Listening.{Step, Stop, addressed_to};
+ghost use Rattle.air_core.specs.Listening.{Step, Stop, StaysSame};
 
 use nfc_base::{Answerer, Frame, Tech};
 use std::alloc::{AllocError, Global};
@@ -52,17 +52,28 @@ pub trait Listener {
         far: &mut A,
     ) -> Result<Option<Frame>, AllocError>
         ensures ok { IfOk result (λ o. Step A.restarts A.steps (machine.handed self.old frame.now) (machine.answer self.old frame.now) (machine.after self.old frame.now) far.old o self.new far.new) }
-        ensures err { OnErr result (Stop A.stops A.is_stuck (machine.handed self.old frame.now) (machine.after self.old frame.now) far.old self.new far.new) }
-        ensures bound { (payload : List ℕ) → machine.handed self.old frame.now ≡ Hands payload → length payload ≤ 2178 };
+        ensures err { OnErr result (Stop A.stops A.is_stuck (machine.handed self.old frame.now) (machine.after self.old frame.now) far.old self.new far.new) };
 
-    /// A step changes neither technology nor identifier.
-    ghost step_keeps: { (l : Self) (f : Signal) (reply : Option (List ℕ)) → (machine.tech (machine.after l f reply) ≡ machine.tech l) × (identifier (machine.after l f reply) ≡ identifier l) };
+    /// What is handed over has at most 2,178 bytes.
+    ghost bounded: { (l : Self) (f : Signal) (payload : List ℕ) → machine.handed l f ≡ Hands payload → length payload ≤ 2178 };
+
+    /// An answer is of its technology.
+    ghost own_tech: { (l : Self) (f g : Signal) (reply : Option (List ℕ)) → machine.answer l f reply ≡ Some g → g.tech ≡ machine.tech l };
+
+    /// A step changes neither technology nor identifier, nor its step on commands: no frame locks a block.
+    ghost step_keeps: { (l : Self) (f : Signal) (reply : Option (List ℕ)) → StaysSame machine.tech identifier commands l (machine.after l f reply) };
 
     /// Nor does light, which keeps the store too.
-    ghost light_keeps: { (l : Self) → (machine.tech (machine.woken l) ≡ machine.tech l) × (identifier (machine.woken l) ≡ identifier l) × (store (machine.woken l) ≡ store l) };
+    ghost light_keeps: { (l : Self) → StaysSame machine.tech identifier commands l (machine.woken l) × (store (machine.woken l) ≡ store l) };
 
     /// Nor does dark.
-    ghost dark_keeps: { (l : Self) → (machine.tech (machine.darkened l) ≡ machine.tech l) × (identifier (machine.darkened l) ≡ identifier l) × (store (machine.darkened l) ≡ store l) };
+    ghost dark_keeps: { (l : Self) → StaysSame machine.tech identifier commands l (machine.darkened l) × (store (machine.darkened l) ≡ store l) };
+
+    /// A device of another technology than NFC-A is selected by light.
+    ghost light_selects: { (l : Self) → (machine.tech l ≡ techs.A → ⊥) → is_selected (machine.woken l) ≡ true };
+
+    /// It stays so at each frame.
+    ghost stays_selected: { (l : Self) (f : Signal) (reply : Option (List ℕ)) → (machine.tech l ≡ techs.A → ⊥) → is_selected l ≡ true → is_selected (machine.after l f reply) ≡ true };
 
     /// In the dark it is neither ready nor selected.
     ghost dark_rests: { (l : Self) → (is_ready (machine.darkened l) ≡ false) × (is_selected (machine.darkened l) ≡ false) };
@@ -71,6 +82,6 @@ pub trait Listener {
     /// and stays neither.
     ghost rests: { (l : Self) (bytes : List ℕ) → machine.tech l ≡ techs.A → is_ready l ≡ false → is_selected l ≡ false → (machine.handed l (whole_a bytes) ≡ Untouched) × (machine.answer l (whole_a bytes) None ≡ None) × (is_ready (machine.after l (whole_a bytes) None) ≡ false) × (is_selected (machine.after l (whole_a bytes) None) ≡ false) };
 
-    /// An NFC-V device is silent at a frame that is addressed to another identifier, and hands nothing over.
-    ghost ignores: { (l : Self) (other : List ℕ) (code : ℕ) (rest : List ℕ) → machine.tech l ≡ techs.V → length other ≡ 8 → (other ≡ identifier l → ⊥) → (machine.handed l (addressed_to other code rest) ≡ Untouched) × (machine.answer l (addressed_to other code rest) None ≡ None) };
+    /// At a frame that its technology addresses to another identifier a device is silent, and hands nothing over.
+    ghost ignores: { (l : Self) (other : List ℕ) (f : Signal) → IsAddressedIn (machine.tech l) other f → (other ≡ identifier l → ⊥) → (machine.handed l f ≡ Untouched) × (machine.answer l f None ≡ None) };
 }

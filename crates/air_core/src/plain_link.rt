@@ -12,7 +12,7 @@ use nfc_base::{AskFault, Frame, Heard, Mute, TagLink};
 use std::alloc::Global;
 
 /// How many bad receptions end a wait (this project's own).
-const BAD_RECEPTIONS: u8 = 6;
+pub const BAD_RECEPTIONS: u8 = 6;
 
 /// A link to one Type 2 or Type 5 tag, which is selected and alone in the field. A command is sent again after each bad
 /// reception (NFC Forum Digital Protocol). The far end of its turns is mute, since such a tag asks nothing of one.
@@ -69,16 +69,16 @@ fn wait<L: Listener>(field: &mut Field<L>, place: usize, command: &Frame) -> Res
 
 impl<'a, L: Listener> TagLink for PlainLink<'a, L> {
     ghost use Rattle.std.specs.Prelude.{◌≡◌, [], ◌∷◌, None};
-    ghost use Rattle.air_core.specs.PlainLinks.{PlainSeen, plain_view, IsPlainReady, PlainMoves};
+    ghost use Rattle.air_core.specs.PlainLinks.{plain_seen, plain_view, IsPlainReady, PlainMoves};
     ghost use Rattle.air_core.specs.PlainMoving.{moves_again, moves_on};
 
-    ghost seen = { λ p. plain_view L.Listener (record { air = p.field.now; place = p.place; start = p.start; last = p.last; over = p.over }) };
+    ghost seen = { λ p. plain_view L.Listener (plain_seen p.field.now p.place p.start p.last p.over) };
 
     ghost lenders = { λ p. p.field.ghost_name ∷ [] };
 
-    ghost ready = { λ p. p.over ≡ None → IsPlainReady L.Listener (record { air = p.field.now; place = p.place; start = p.start; last = p.last; over = p.over }) };
+    ghost ready = { λ p. p.over ≡ None → IsPlainReady L.Listener (plain_seen p.field.now p.place p.start p.last p.over) };
 
-    ghost moves = { λ a b. PlainMoves L.Listener (record { air = a.field.now; place = a.place; start = a.start; last = a.last; over = a.over }) (record { air = b.field.now; place = b.place; start = b.start; last = b.last; over = b.over }) };
+    ghost moves = { λ a b. PlainMoves L.Listener (plain_seen a.field.now a.place a.start a.last a.over) (plain_seen b.field.now b.place b.start b.last b.over) };
 
     fn ask(&mut self, _alloc: Global, command: &Frame) -> Result<Frame, AskFault> {
         if let Some(fault) = self.over {

@@ -1,29 +1,32 @@
 //! A field of two devices that answer at once, and a link to a tag.
 
-ghost use Rattle.std.specs.Prelude.{◌≡◌, length, IfOk};
+ghost use Rattle.std.specs.Prelude.{◌≡◌, ◌≤◌, ◌+◌, length, IfOk};
 ghost use Rattle.nfc_base.specs.TagLinks.{Type2};
 ghost use Rattle.air_core.specs.PlainTags.{HasPlainTag, plain_kind};
+ghost use Rattle.air_core.specs.PlainLinks.{MayAskAt};
 
+use crate::law::few_sent;
 use crate::{AirFault, Field, Listener, PlainLink};
 use nfc_base::{Answerer, AskFault, Event, Fate, Frame, Heard, Mute, TagLink, Tech};
 use std::alloc::{AllocError, Global};
 use std::test::Fail;
 
-/// A device that says one frame, whatever it is asked.
+/// A device that says one byte, whatever it is asked.
 #[derive(Drop)]
 struct Beacon {
     lit: bool,
     obeyed: bool,
-    says: Frame,
+    says: u8,
 }
 
 impl Listener for Beacon {
-    ghost use Rattle.std.specs.Prelude.{[], true, false, Some, None, if◌then◌else◌};
+    ghost use Rattle.std.specs.Prelude.{[], ◌∷◌, true, false, Some, None, if◌then◌else◌};
     ghost use Rattle.std.proofs.Common.{rules};
+    ghost use Rattle.nfc_base.specs.Signal.{whole_a};
     ghost use Rattle.nfc_base.specs.Far.{Untouched};
     ghost use Rattle.nfc_base.specs.declared.frame.Tech.TheVariants as techs;
 
-    ghost machine = { record { tech = λ l. techs.A; handed = λ l f. Untouched; answer = λ l f reply. if l.lit then Some l.says else None; after = λ l f reply. if l.lit then record l { obeyed = true } else l; woken = λ l. record l { lit = true }; darkened = λ l. record l { lit = false } } };
+    ghost machine = { record { tech = λ l. techs.A; handed = λ l f. Untouched; answer = λ l f reply. if l.lit then Some (whole_a (l.says ∷ [])) else None; after = λ l f reply. if l.lit then record l { obeyed = true } else l; woken = λ l. record l { lit = true }; darkened = λ l. record l { lit = false } } };
 
     ghost identifier = { λ l. [] };
 
@@ -55,14 +58,22 @@ impl Listener for Beacon {
             return Ok(None);
         }
         self.obeyed = true;
-        Ok(Some(self.says.copy()))
+        Ok(Some(Frame::whole(Tech::A, &[self.says]).unwrap()))
     }
+
+    ghost bounded = { Prim.search rules };
+
+    ghost own_tech = { Prim.search rules };
 
     ghost step_keeps = { Prim.search rules };
 
     ghost light_keeps = { Prim.search rules };
 
     ghost dark_keeps = { Prim.search rules };
+
+    ghost light_selects = { Prim.search rules };
+
+    ghost stays_selected = { Prim.search rules };
 
     ghost dark_rests = { Prim.search rules };
 
@@ -71,12 +82,12 @@ impl Listener for Beacon {
     ghost ignores = { Prim.search rules };
 }
 
-fn saying(byte: u8) -> Result<Beacon, Fail> {
-    Ok(Beacon {
+fn saying(byte: u8) -> Beacon {
+    Beacon {
         lit: true,
         obeyed: false,
-        says: Frame::whole(Tech::A, &[byte])?,
-    })
+        says: byte,
+    }
 }
 
 /// A lit field of two beacons, with these fates to come.
@@ -84,8 +95,8 @@ fn field_of(alloc: Global, says: [u8; 2], fates: &[Fate]) -> Result<Field<Beacon
     ensures { IfOk result (λ f. length f.listeners ≡ 2) }
 {
     let mut field = Field::new(alloc);
-    field.put_in(saying(says[0])?)?;
-    field.put_in(saying(says[1])?)?;
+    field.put_in(saying(says[0]))?;
+    field.put_in(saying(says[1]))?;
     field.add_fates(fates)?;
     field.reset()?;
     Ok(field)
@@ -195,7 +206,7 @@ fn places(rt: HostRuntime) -> Result<(), Fail> {
     let mut field = field_of(rt.alloc(), [0x0F, 0x1F], &[])?;
     let other = Frame::whole(Tech::V, &[0x26, 0x01])?;
     assert!(rt; field.transmit(&other, &mut Mute) == Ok(Heard::Silent));
-    let place = field.put_in(saying(0x1F)?)?;
+    let place = field.put_in(saying(0x1F))?;
     assert!(rt; place == 2);
     assert!(rt; !field.listener(2).lit);
     let first = field.take_out(0);
@@ -265,11 +276,19 @@ impl Listener for Notepad {
         Ok(Some(Frame::part(Tech::A, &[ACK], 4).unwrap()))
     }
 
+    ghost bounded = { Prim.search rules };
+
+    ghost own_tech = { Prim.search rules };
+
     ghost step_keeps = { Prim.search rules };
 
     ghost light_keeps = { Prim.search rules };
 
     ghost dark_keeps = { Prim.search rules };
+
+    ghost light_selects = { Prim.search rules };
+
+    ghost stays_selected = { Prim.search rules };
 
     ghost dark_rests = { Prim.search rules };
 
@@ -307,6 +326,17 @@ fn asked_twice(alloc: Global, fates: &[Fate]) -> Result<(u8, u8, u8, usize, bool
         _ => 0xFF,
     };
     Ok((one, two, kept, events, field.is_lit()))
+}
+
+/// One command to whatever plain tag stands at a place. A caller knows how few transmissions it took by the law.
+fn asked_once<L: Listener>(alloc: Global, field: &mut Field<L>, place: usize, command: &Frame)
+    requires tag { HasPlainTag L.Listener field.old place }
+    requires fits { MayAskAt L.Listener field.old place command.now }
+    ensures few { length field.new.trace ≤ length field.old.trace + 12 }
+{
+    few_sent::<L>();
+    let mut link = PlainLink::on(field, place);
+    let _ = link.ask(alloc, command);
 }
 
 fn told(answer: Result<Frame, AskFault>) -> Result<u8, Fail> {
@@ -347,5 +377,14 @@ fn waits_of_a_link(rt: HostRuntime) -> Result<(), Fail> {
         let got = asked_twice(rt.alloc(), fates)?;
         assert!(rt; got == wanted, "{fates:?}: {got:?}");
     }
+    Ok(())
+}
+
+#[test]
+fn six_turns_at_most(rt: HostRuntime) -> Result<(), Fail> {
+    let mut field = notepad_field(rt.alloc(), &[Fate::Lose; 12])?;
+    let command = Frame::whole(Tech::A, &[0x51, 0x52])?;
+    asked_once(rt.alloc(), &mut field, 0, &command);
+    assert!(rt; field.trace().len() == 7);
     Ok(())
 }

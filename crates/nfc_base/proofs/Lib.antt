@@ -4,3 +4,4 @@ pub mod BitsOfBytes
 pub mod Leading
 pub mod ExactlyOnce
 pub mod LinkTurns
+pub mod Locking

@@ -26,7 +26,7 @@ back_append (Answer g x ∷ xs) ys h = refl
 back_append (Clash g x ∷ xs) ys h = refl
 
 -- bad receptions of turns one behind another
-bads_append : (xs ys : List Event) → back_of ys ≡ backs.Nothing → bad_receptions (xs ++ ys) ≡ bad_receptions xs + bad_receptions ys
+pub bads_append : (xs ys : List Event) → back_of ys ≡ backs.Nothing → bad_receptions (xs ++ ys) ≡ bad_receptions xs + bad_receptions ys
 bads_append [] ys h = omega arith
 bads_append (Reset ∷ xs) ys h = bads_append xs ys h
 bads_append (Request f x ∷ xs) ys h =

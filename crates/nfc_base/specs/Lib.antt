@@ -3,6 +3,7 @@ pub mod Bits
 pub mod Numbers
 pub mod Trace
 pub mod Blocks
+pub mod Words
 pub mod Far
 pub mod Links
 pub mod TagLinks

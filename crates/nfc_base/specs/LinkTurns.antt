@@ -2,7 +2,7 @@
 -- and what a trace tells of an exchange (NFC Forum Digital Protocol; the air is this project's own).
 use Rattle.std.specs.Prelude.{◌≡◌, ℕ, ◌+◌, List, [], ◌∷◌, ◌++◌, if◌then◌else◌, Option, Some, None}
 use Rattle.nfc_base.specs.Signal.{Signal}
-use Rattle.nfc_base.specs.Trace.{back_of, heard_by, is_bad_in_wait}
+use Rattle.nfc_base.specs.Trace.{by_fate, back_of, heard_by, is_bad_in_wait}
 use Rattle.nfc_base.specs.StopAndWait.{Does, Quiet, Reply, Deliver, Hears, Whole, Damaged, Silent, StopAndWait}
 use Rattle.nfc_base.specs.declared.event.Event.{Event}
 use Rattle.nfc_base.specs.declared.event.Event.TheVariants.{Reset, Request, Answer, Clash}
@@ -17,16 +17,20 @@ heard_of (Whole f) = heards.Whole f
 heard_of Damaged = heards.Damaged
 heard_of Silent = heards.Silent
 
+-- what an asking end hears of an answer, by its fate; none where the field was lost
+abbrev pub hears_at : Fate → Signal → Option (Hears Signal)
+hears_at Pass a = Some (Whole a)
+hears_at Damage a = Some Damaged
+hears_at Lose a = Some Silent
+hears_at Break a = None
+
 -- what was heard of a turn; none where the field was lost
 abbrev pub heard_in : Option (Hears Signal) → Option Heard
 heard_in None = None
 heard_in (Some h) = Some (heard_of h)
 
 abbrev pub with_arrived : Signal → Fate → List Signal → List Signal
-with_arrived f Pass fs = f ∷ fs
-with_arrived f Damage fs = fs
-with_arrived f Lose fs = fs
-with_arrived f Break fs = fs
+with_arrived f x fs = by_fate x (f ∷ fs) fs fs
 
 -- the requests of a trace that arrived
 abbrev pub arrived : List Event → List Signal
@@ -82,10 +86,8 @@ module _ {I T : Type 0} (L : StopAndWait I T Signal) where
 
   -- an answer comes back
   abbrev pub sent_back : T → Option (List ℕ) → Signal → Signal → Fate → Turned T
-  sent_back t asked f a Pass = record { answering = t; heard = Some (Whole a); asked = asked; events = Request f Pass ∷ Answer a Pass ∷ [] }
-  sent_back t asked f a Damage = record { answering = t; heard = Some Damaged; asked = asked; events = Request f Pass ∷ Answer a Damage ∷ [] }
-  sent_back t asked f a Lose = record { answering = t; heard = Some Silent; asked = asked; events = Request f Pass ∷ Answer a Lose ∷ [] }
-  sent_back t asked f a Break = record { answering = L.dark t; heard = None; asked = asked; events = Request f Pass ∷ Answer a Break ∷ [] }
+  sent_back t asked f a y =
+      record { answering = by_fate y t t (L.dark t); heard = hears_at y a; asked = asked; events = Request f Pass ∷ Answer a y ∷ [] }
 
   abbrev pub answered : T → Option (List ℕ) → Signal → Option Signal → Fate → Turned T
   answered t asked f None y = record { answering = t; heard = Some Silent; asked = asked; events = Request f Pass ∷ [] }
@@ -93,10 +95,10 @@ module _ {I T : Type 0} (L : StopAndWait I T Signal) where
 
   -- One turn, with the reply r where one is asked: the request has fate x, and an answer fate y.
   abbrev pub turned : List ℕ → T → Signal → Fate → Fate → Turned T
-  turned r t f Pass y = answered (step r t f).state (step r t f).asked f (step r t f).answer y
-  turned r t f Damage y = record { answering = t; heard = Some Silent; asked = None; events = Request f Damage ∷ [] }
-  turned r t f Lose y = record { answering = t; heard = Some Silent; asked = None; events = Request f Lose ∷ [] }
-  turned r t f Break y = record { answering = L.dark t; heard = None; asked = None; events = Request f Break ∷ [] }
+  turned r t f x y =
+      by_fate x (answered (step r t f).state (step r t f).asked f (step r t f).answer y)
+      (record { answering = t; heard = Some Silent; asked = None; events = Request f x ∷ [] })
+      (record { answering = L.dark t; heard = None; asked = None; events = Request f x ∷ [] })
 
   -- From an answering end, a trace and a far end to others a turn was made, of which that was heard. Its reply keeps Fits.
   pub record IsTurn (E : Type 0) (Fits : List ℕ → Type 0) (steps : E → List ℕ → List ℕ → E → Type 0) (t : T) (es : List Event) (far : E) (f : Signal)

@@ -1,5 +1,5 @@
 -- What a frame is on the air: a technology and some bits, packed into bytes (NFC Forum Digital Protocol; ISO/IEC 14443-3).
-use Rattle.std.specs.Prelude.{◌≡◌, ℕ, ◌-◌, ◌<◌, ◌≤◌, ◌^◌, ◌⊎◌, List, length, slice_index}
+use Rattle.std.specs.Prelude.{◌≡◌, ℕ, ◌-◌, ◌<◌, ◌≤◌, ◌^◌, ◌⊎◌, List, length, slice_index, Bool, true, false}
 use Rattle.nfc_base.specs.declared.frame.Tech.{Tech}
 use Rattle.nfc_base.specs.declared.frame.Tech.TheVariants.{A, V}
 
@@ -23,6 +23,10 @@ part_a bytes tail = signal A bytes tail
 -- an NFC-V frame of whole bytes
 abbrev pub whole_v : List ℕ → Signal
 whole_v bytes = signal V bytes 0
+
+abbrev pub is_nfc_a : Tech → Bool
+is_nfc_a A = true
+is_nfc_a V = false
 
 -- the last byte, 0 where there is none
 abbrev pub last_byte : List ℕ → ℕ

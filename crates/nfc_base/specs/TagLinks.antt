@@ -2,6 +2,8 @@
 -- counts and causes are this project's own.
 use Rattle.std.specs.Prelude.{◌≡◌, ℕ, ◌<◌, ◌≤◌, ◌⊎◌, List, [], ◌∷◌, ◌++◌, length, reverse, Bool, true, false, Option, Some, None, Result, Err}
 use Rattle.std.specs.List.{AllByRecursion}
+use Rattle.nfc_base.specs.declared.frame.Tech.{Tech}
+use Rattle.nfc_base.specs.declared.frame.Tech.TheVariants.{A, V}
 use Rattle.nfc_base.specs.declared.tag_link.AskFault.{AskFault}
 use Rattle.nfc_base.specs.declared.tag_link.AskFault.TheVariants.{FieldLost, SixBad, Memory, Protocol}
 use Rattle.nfc_base.specs.Signal.{Signal, whole_a, whole_v}
@@ -55,15 +57,29 @@ pub record LinkView : Type 0 where
   pub counts : Counts
   pub noise : ℕ
 
--- a request of NFC-V to the device of this identifier, high byte first: flags for high data rate and address, a code,
--- the identifier low byte first, and what the code needs (ISO/IEC 15693-3)
+-- the flags of a request of NFC-V that is addressed: high data rate, and address (ISO/IEC 15693-3)
+abbrev pub address_flags : ℕ
+address_flags = 0x22
+
+-- a request of NFC-V to the device of this identifier, high byte first: its flags, a code, the identifier low byte first,
+-- and what the code needs (ISO/IEC 15693-3)
 abbrev pub addressed : List ℕ → ℕ → List ℕ → Signal
-addressed identifier code rest = whole_v (34 ∷ code ∷ (reverse identifier ++ rest))
+addressed identifier code rest = whole_v (address_flags ∷ code ∷ (reverse identifier ++ rest))
 
 pub record IsAddressed (identifier : List ℕ) (c : Signal) : Type 0 where
   pub code : ℕ
   pub rest : List ℕ
   pub frame : c ≡ addressed identifier code rest
+
+-- What a technology addresses to the device of one identifier: in NFC-A nothing, in NFC-V what is addressed to its eight
+-- bytes. A further technology is a case more.
+abbrev pub IsNamedIn : Tech → List ℕ → Type 0
+IsNamedIn A identifier = Unit {0}
+IsNamedIn V identifier = length identifier ≡ 8
+
+abbrev pub IsAddressedIn : Tech → List ℕ → Signal → Type 0
+IsAddressedIn A identifier f = ⊥
+IsAddressedIn V identifier f = IsNamedIn V identifier × IsAddressed identifier f
 
 -- What a tag of a kind may be asked: a frame of whole bytes of its technology; of a Type 4 tag at most 264 bytes, of a
 -- Type 5 tag what is addressed to it.
@@ -81,13 +97,16 @@ abbrev pub passed : (TagState → Signal → TagStep) → TagState → List Sign
 passed step s [] = []
 passed step s (c ∷ cs) = (step s c).after.store ∷ passed step (step s c).after cs
 
--- Calls led from one view of a link to another, and the tag obeyed `more` in them.
+-- Calls led from one view of a link to another, and the tag obeyed `more` in them. A link that is over stays over by its
+-- fault, and nothing is obeyed on it. What a Type 4 tag has selected isn't said of a link that is over: the dark clears it.
 pub record Leads (a b : LinkView) (more : List Signal) : Type 0 where
   pub kind : b.kind ≡ a.kind
   pub identifier : b.identifier ≡ a.identifier
   pub step : b.step ≡ a.step
   pub obeyed : b.obeyed ≡ a.obeyed ++ more
-  pub state : b.state ≡ after_all a.step a.state more
+  pub store : b.state.store ≡ (after_all a.step a.state more).store
+  pub state : b.over ≡ None → b.state ≡ after_all a.step a.state more
+  pub ended : (e : AskFault) → a.over ≡ Some e → (b.over ≡ Some e) × (more ≡ [])
 
 -- The images of calls: the store at their start, and the store after each command that the tag obeyed in them.
 abbrev pub images : LinkView → List Signal → List (List ℕ)
@@ -122,10 +141,10 @@ pub record IsAnswer (a b : LinkView) (c reply : Signal) : Type 0 where
   pub least : length a.obeyed < length b.obeyed
   pub once : a.kind ≡ Type4 → b.obeyed ≡ a.obeyed ++ c ∷ []
 
--- A fault: the link is over by it, and the tag is what it was before the command or after it.
+-- A fault: the link is over by it, and the tag's store is what it was before the command or after it.
 pub record IsFault (a b : LinkView) (c : Signal) (e : AskFault) : Type 0 where
   pub over : b.over ≡ Some e
-  pub after : (b.state ≡ a.state) ⊎ (b.state ≡ (a.step a.state c).after)
+  pub store : (b.state.store ≡ a.state.store) ⊎ (b.state.store ≡ (a.step a.state c).after.store)
   pub answered : b.answered ≡ a.answered
 
 -- the count of this cause rose, or the field was dark before; want of memory needs no count

@@ -37,40 +37,34 @@ turns (Request f x ∷ es) = record { request = f; fate = x; back = back_of es }
 turns (Answer g x ∷ es) = turns es
 turns (Clash g x ∷ es) = turns es
 
-abbrev pub heard_answer : Signal → Fate → Option Heard
-heard_answer g Pass = Some (Whole g)
-heard_answer g Damage = Some Damaged
-heard_answer g Lose = Some Silent
-heard_answer g Break = None
+-- What a fate does to a transmission: what there is where it reaches its hearers, where it doesn't, and where the field
+-- goes dark. What the events of a turn are, what they change and what is heard of it stand on this table and the next.
+abbrev pub by_fate : {X : Type 0} → Fate → X → X → X → X
+by_fate Pass reached missed dark = reached
+by_fate Damage reached missed dark = missed
+by_fate Lose reached missed dark = missed
+by_fate Break reached missed dark = dark
 
-abbrev pub heard_clash : Signal → Fate → Option Heard
-heard_clash g Pass = Some (Collided g)
-heard_clash g Damage = Some Damaged
-heard_clash g Lose = Some Silent
-heard_clash g Break = None
+-- what the reader hears of what comes back, which is this where it passes; none where the field was lost
+abbrev pub heard_at : Fate → Heard → Option Heard
+heard_at Pass h = Some h
+heard_at Damage h = Some Damaged
+heard_at Lose h = Some Silent
+heard_at Break h = None
 
 abbrev pub heard_back : Back → Option Heard
 heard_back Nothing = Some Silent
-heard_back (Single g x) = heard_answer g x
-heard_back (Clashing g x) = heard_clash g x
+heard_back (Single g x) = heard_at x (Whole g)
+heard_back (Clashing g x) = heard_at x (Collided g)
 
--- What was heard of a turn, by the fate of its request and what came back; none where the field was lost.
+-- What was heard of a turn, by the fate of its request and what came back. Of a request that reaches nobody it is
+-- silence.
 abbrev pub heard_by : Fate → Back → Option Heard
-heard_by Pass b = heard_back b
-heard_by Damage b = Some Silent
-heard_by Lose b = Some Silent
-heard_by Break b = None
+heard_by x b = by_fate x (heard_back b) (Some Silent) None
 
 -- what was heard of a turn
 abbrev pub heard : Turn → Option Heard
 heard t = heard_by t.fate t.back
-
--- a bad reception
-abbrev pub is_bad : Heard → Bool
-is_bad (Whole g) = false
-is_bad (Collided g) = false
-is_bad Damaged = true
-is_bad Silent = true
 
 -- inside a wait a collided reception counts as damaged
 abbrev pub is_bad_in_wait : Heard → Bool
@@ -80,16 +74,10 @@ is_bad_in_wait Damaged = true
 is_bad_in_wait Silent = true
 
 abbrev pub other_than_pass : Fate → ℕ
-other_than_pass Pass = 0
-other_than_pass Damage = 1
-other_than_pass Lose = 1
-other_than_pass Break = 1
+other_than_pass x = by_fate x 0 1 1
 
 abbrev pub of_break : Fate → ℕ
-of_break Pass = 0
-of_break Damage = 0
-of_break Lose = 0
-of_break Break = 1
+of_break x = by_fate x 0 0 1
 
 -- how many transmissions have a fate for which this counts
 abbrev pub transmissions : (Fate → ℕ) → List Event → ℕ

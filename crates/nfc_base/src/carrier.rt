@@ -1,8 +1,8 @@
 //! The link that carries payloads to a far end.
 
-ghost use Rattle.std.specs.Prelude.{◌≡◌, ℕ, ◌≤◌, List, length, vec_len, IfOk, IfErr, OnOk, Option, Some, None, Err, false};
+ghost use Rattle.std.specs.Prelude.{◌≡◌, ℕ, ◌≤◌, List, [], ◌∷◌, ◌++◌, length, vec_len, IfOk, IfErr, Option, Some, None, Err, false};
 ghost use Rattle.std.specs.Borrow.{GName};
-ghost use Rattle.nfc_base.specs.Links.{CarrierView, SwapDone, SwapFailed};
+ghost use Rattle.nfc_base.specs.Links.{CarrierView, SwapDone, SwapFailed, IsEnded, FarStep, Stepped, Swapped, AskedBy, IsMemory};
 ghost use Rattle.nfc_base.specs.Numbers.{end_cause_number};
 ghost use Rattle.nfc_base.specs.declared.carrier.EndCause.{EndCause};
 
@@ -49,11 +49,11 @@ pub trait Carrier {
     /// What it borrows.
     ghost lenders: { Self → List GName };
 
-    /// What its swap needs of what it borrows; it stands again after each `Ok`.
+    /// What its swap needs of what it borrows; it stands again after each call, also after a fault.
     ghost ready: { Self → Type 0 };
 
-    /// What may happen to what it borrows in calls of `swap`.
-    ghost moves: { Self → Self → Type 0 };
+    /// What may happen to what it borrows in calls of `swap`, in which the far end makes these steps.
+    ghost moves: { Self → List FarStep → Self → Type 0 };
 
     /// Hands `out`, of at most 2,178 bytes, to the far end, and gives its reply, which has at most as many.
     fn swap<A: Answerer>(
@@ -66,13 +66,16 @@ pub trait Carrier {
         requires bound { length out.now ≤ 2178 }
         ensures ok { IfOk result (λ r. SwapDone A.steps (seen self.old) (seen self.new) out.now r.items far.old far.new) }
         ensures bound { IfOk result (λ r. vec_len r ≤ 2178) }
-        ensures err { (seen self.old).over ≡ None → IfErr result (λ e. SwapFailed A.steps A.stops (seen self.old) (seen self.new) out.now e.cause e.answered far.old far.new) }
-        ensures ended { (c : EndCause) → (seen self.old).over ≡ Some c → (result ≡ Err (record { cause = c; answered = false })) × (seen self.new ≡ seen self.old) × (far.new ≡ far.old) }
-        ensures ready { OnOk result (ready self.new) }
+        ensures err { (seen self.old).over ≡ None → IfErr result (λ e. SwapFailed A.steps A.stops (seen self.old) (seen self.new) out.now e far.old far.new) }
+        ensures ended { (c : EndCause) → (seen self.old).over ≡ Some c → IsEnded (seen self.old) (seen self.new) c far.old far.new result × moves self.old [] self.new }
+        // Where all transmissions pass, a payload is answered.
+        ensures calm { (seen self.old).over ≡ None → (seen self.old).dark ≡ false → (seen self.new).noise ≡ (seen self.old).noise → IfErr result IsMemory }
+        ensures ready { ready self.new }
         ensures same { lenders self.new ≡ lenders self.old }
-        ensures moves { moves self.old self.new };
+        ensures swapped { IfOk result (λ r. Swapped moves A.steps A.stops self.old out.now far.old self.new far.new (λ did. did ≡ Stepped out.now r.items ∷ [])) }
+        ensures failed { IfErr result (λ e. Swapped moves A.steps A.stops self.old out.now far.old self.new far.new (AskedBy e.answered e.cause out.now)) };
 
-    ghost stays: { (a : Self) → moves a a };
+    ghost stays: { (a : Self) → moves a [] a };
 
-    ghost goes_on: { (a b c : Self) → moves a b → moves b c → moves a c };
+    ghost goes_on: { (a b c : Self) (xs ys : List FarStep) → moves a xs b → moves b ys c → moves a (xs ++ ys) c };
 }

@@ -1,6 +1,6 @@
 //! The far end above a link.
 
-ghost use Rattle.std.specs.Prelude.{◌≡◌, ℕ, ◌≤◌, List, [], length, vec_len, OnOk, OnErr, IsOk, IsErr, Bool, true, false};
+ghost use Rattle.std.specs.Prelude.{◌≡◌, ℕ, ◌≤◌, List, [], length, OnOk, OnErr, IsOk, IsErr, Bool, true, false};
 
 use std::alloc::{AllocError, Global};
 
@@ -32,10 +32,12 @@ pub trait Answerer {
         reply: &mut Vec<u8>,
     ) -> Result<(), AllocError>
         requires { length payload.now ≤ 2178 }
-        ensures ok { OnOk result (steps self.old payload.now reply.new.items self.new) }
-        ensures bound { OnOk result (vec_len reply.new ≤ 2178) }
+        ensures ok { OnOk result (steps self.old payload.now reply.new.items self.new × (is_stuck self.new ≡ false)) }
         ensures err { OnErr result (stops self.old payload.now self.new × (is_stuck self.new ≡ true)) }
         ensures stuck { is_stuck self.old ≡ true → IsErr result };
+
+    /// A reply has at most 2,178 bytes.
+    ghost fits: { (a : Self) (payload reply : List ℕ) (b : Self) → steps a payload reply b → length reply ≤ 2178 };
 }
 
 /// A far end with no state that gives an empty reply, without taking memory. It stands above fields without a peer.
@@ -62,6 +64,10 @@ impl Answerer for Mute {
         reply.clear();
         Ok(())
     }
+
+    ghost use Rattle.nfc_base.specs.Far.{empty_fits};
+
+    ghost fits = { λ a payload reply b did. empty_fits reply did.1 };
 }
 
 #[cfg(test)]

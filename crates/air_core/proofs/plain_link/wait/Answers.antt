@@ -38,7 +38,7 @@ loop-bad-init g c = record { goes = begins g.L.Listener c.args.field.now c.args.
 pub returns-in-Whole : goal.returns-in-Whole
 returns-in-Whole g c =
     let goes = c.loop-bad.invariant.goes in
-    let out = goes_turn g.L.Listener (laws g) {F = Mute} restarts steps stops is_stuck c.args.field.now c.loop-bad.field c.args.place c.args.command.now c.loop-bad.bad c.loop-bad-test.true goes c.requires.fits
+    let out = goes_turn g.L.Listener (laws g) {F = Mute} restarts steps stops is_stuck c.args.field.now c.loop-bad.field c.args.place c.args.command.now c.loop-bad.bad (omega (arith, c.loop-bad-test.true)) goes c.requires.fits
     c.transmit.new.self c.loop-bad.far c.transmit.new.far (Some c.in-Ok.heard) c.in-Ok.ensures.turn in
     let P : Heard → Type 0 = λ h. Outcome g.L.Listener c.args.field.now c.transmit.new.self c.args.place c.args.command.now goes.tag.tag c.loop-bad.bad (Some h) in
     record { tag = goes.tag; ends = subst P c.in-Whole.is out }
@@ -46,7 +46,7 @@ returns-in-Whole g c =
 pub loop-bad-preserved : goal.loop-bad-preserved
 loop-bad-preserved g c =
     let goes = c.loop-bad.invariant.goes in
-    let out = goes_turn g.L.Listener (laws g) {F = Mute} restarts steps stops is_stuck c.args.field.now c.loop-bad.field c.args.place c.args.command.now c.loop-bad.bad c.loop-bad-test.true goes c.requires.fits
+    let out = goes_turn g.L.Listener (laws g) {F = Mute} restarts steps stops is_stuck c.args.field.now c.loop-bad.field c.args.place c.args.command.now c.loop-bad.bad (omega (arith, c.loop-bad-test.true)) goes c.requires.fits
     c.transmit.new.self c.loop-bad.far c.transmit.new.far (Some c.in-Ok.heard) c.in-Ok.ensures.turn in
     let next = outcome_bad g.L.Listener c.args.field.now c.transmit.new.self c.args.place c.args.command.now goes.tag.tag c.loop-bad.bad c.in-Ok.heard c.in_default.not-Whole out in
     let Q : ℕ → Type 0 = λ n. GoesOn g.L.Listener c.args.field.now c.transmit.new.self c.args.place c.args.command.now goes.tag.tag n in
@@ -56,13 +56,13 @@ loop-bad-preserved g c =
 pub returns-in-Err-FieldLost : goal.returns-in-Err-FieldLost
 returns-in-Err-FieldLost g c =
     let P : AirFault → Type 0 = λ e. Transmits g.L.Listener.machine restarts steps stops is_stuck c.loop-bad.field c.args.command.now c.loop-bad.far (Err e) c.transmit.new.self c.transmit.new.far in
-    goes_lost g.L.Listener (laws g) {F = Mute} restarts steps stops is_stuck c.args.field.now c.loop-bad.field c.args.place c.args.command.now c.loop-bad.bad c.loop-bad-test.true c.loop-bad.invariant.goes c.requires.fits
+    goes_lost g.L.Listener (laws g) {F = Mute} restarts steps stops is_stuck c.args.field.now c.loop-bad.field c.args.place c.args.command.now c.loop-bad.bad (omega (arith, c.loop-bad-test.true)) c.loop-bad.invariant.goes c.requires.fits
     c.transmit.new.self c.loop-bad.far c.transmit.new.far (subst P c.in-Err-FieldLost.field-0-is c.in-Err-FieldLost.ensures.turn)
 
 pub returns-in-Err-Memory : goal.returns-in-Err-Memory
 returns-in-Err-Memory g c =
     let P : AirFault → Type 0 = λ e. Transmits g.L.Listener.machine restarts steps stops is_stuck c.loop-bad.field c.args.command.now c.loop-bad.far (Err e) c.transmit.new.self c.transmit.new.far in
-    goes_stops g.L.Listener (laws g) {F = Mute} restarts steps stops is_stuck c.args.field.now c.loop-bad.field c.args.place c.args.command.now c.loop-bad.bad c.loop-bad-test.true c.loop-bad.invariant.goes c.requires.fits
+    goes_stops g.L.Listener (laws g) {F = Mute} restarts steps stops is_stuck c.args.field.now c.loop-bad.field c.args.place c.args.command.now c.loop-bad.bad (omega (arith, c.loop-bad-test.true)) c.loop-bad.invariant.goes c.requires.fits
     c.transmit.new.self c.loop-bad.far c.transmit.new.far (subst P c.in-Err-Memory.field-0-is c.in-Err-Memory.ensures.turn)
 
 pub returns : goal.returns

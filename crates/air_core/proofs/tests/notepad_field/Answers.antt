@@ -1,27 +1,32 @@
 use Rattle.std.proofs.Common.{◌≡◌, [], ◌∷◌, Bool, true, if◌then◌else◌, Some, None, refl, ◌∙◌, ap, arith, slice_index}
 use Rattle.std.proofs.lemmas.Grind.{common_steps}
 use Rattle.nfc_base.specs.Signal.{Signal, part_a}
-use Rattle.nfc_base.specs.TagLinks.{Type2, plain_state}
-use Rattle.air_core.specs.PlainTags.{IsSteady}
+use Rattle.nfc_base.specs.TagLinks.{plain_state}
+use Rattle.air_core.specs.PlainTags.{Takes, PassesOver}
 use Rattle.air_core.specs.declared.tests.Notepad.{Notepad}
 use Rattle.air_core.specs.contracts.tests.NotepadListener.TheImpl.{ghosts}
-use Rattle.air_core.proofs.PlainTagging.{DoesAgain, steady_by, plain_by}
 use Rattle.air_core.proofs.tests.notepad_field.Goals as goal
 
-steady : (m : Notepad) (f : Signal) → m.lit ≡ true → IsSteady ghosts m f
-steady m f lit = steady_by ghosts (λ x. x.lit ≡ true) m f lit does refl
-  where
-    does : (x : Notepad) → x.lit ≡ true → DoesAgain ghosts (λ y. y.lit ≡ true) m f x
-    does x bright =
-        let T : Bool → Notepad = λ v. if v then record { lit = x.lit; kept = slice_index f.bytes 0 } else x in
-        let after : T x.lit ≡ record { lit = x.lit; kept = slice_index f.bytes 0 } = ap T bright in
-        record {
-          quiet = refl;
-          answer = ap (λ v. if v then Some (part_a (10 ∷ []) 4) else None) bright;
-          after = ap (λ n. plain_state (n.kept ∷ [])) after;
-          selected = λ g e. ap (λ n. n.lit) after ∙ bright;
-          stays = ap (λ n. n.lit) after ∙ bright;
-        }
+-- a notepad at a frame, lit or not
+abbrev after : Notepad → Signal → Bool → Notepad
+after m f v = if v then record { lit = m.lit; kept = slice_index f.bytes 0 } else m
+
+takes : (m : Notepad) (f : Signal) → m.lit ≡ true → Takes ghosts m f
+takes m f lit = record {
+  quiet = refl;
+  answer = ap (λ v. if v then Some (part_a (10 ∷ []) 4) else None) lit;
+  after = ap (λ v. plain_state ((after m f v).kept ∷ [])) lit;
+  again = refl;
+  selected = λ g says. ap (λ v. (after m f v).lit) lit ∙ lit;
+}
+
+passes : (m : Notepad) (f : Signal) → m.lit ≡ Bool.false → PassesOver ghosts m f
+passes m f dim = record {
+  quiet = refl;
+  silent = ap (λ v. if v then Some (part_a (10 ∷ []) 4) else None) dim;
+  store = ap (λ v. (after m f v).kept ∷ []) dim;
+  rests = ap (λ v. (after m f v).lit) dim ∙ dim;
+}
 
 pub returns : goal.returns
 returns c =
@@ -31,6 +36,6 @@ returns c =
       tag = l;
       selected = refl;
       alone = record { before = []; behind = []; split = listeners; stands = refl; first = tt; later = tt };
-      eight = λ e. absurd cc;
-      plain = plain_by ghosts Type2 (1 ∷ []) (λ m. Unit {0}) l tt (λ m f may s. tt) (λ m f may s lit. steady m f lit) (λ m s. refl) (λ m s. refl);
+      named = tt;
+      plain = record { holds = λ m. true; now = refl; kept = λ m f may h. refl; takes = λ m f may h lit. takes m f lit; passes = λ m f may h dim. passes m f dim };
     }
