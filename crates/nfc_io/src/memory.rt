@@ -51,6 +51,7 @@ impl Source for MemSource {
         ensures ok { IfOk result (λ n. self.old.left ≡ take n buf.new ++ self.new.left) }
         ensures step { OnOk result (self.new.plan ≡ after_call self.old.plan) }
         ensures err { OnErr result (self.new ≡ record self.old { plan = after_fault self.old.plan }) }
+        ensures untouched { OnErr result (buf.new ≡ buf.old) }
         ensures count { self.old.plan.faults ≤ self.new.plan.faults }
     {
         if self.plan.call() {

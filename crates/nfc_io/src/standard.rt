@@ -1,5 +1,5 @@
 //! Ends over the readers and writers of std.
-ghost use Rattle.std.specs.Prelude.{◌≡◌, ◌<◌, ◌≤◌, length, None, OnOk, OnErr, IfOk};
+ghost use Rattle.std.specs.Prelude.{◌≡◌, ◌<◌, ◌≤◌, length, None, Ok, IsErr, OnOk, OnErr, IfOk};
 ghost use Rattle.std.specs.Io.KnownBytes.{ReadConsumes, WriteAppends};
 ghost use Rattle.nfc_io.specs.Counts.{count_up};
 ghost use Rattle.nfc_io.specs.Standard.{OverStd};
@@ -7,8 +7,24 @@ ghost use Rattle.nfc_io.specs.Standard.{OverStd};
 use crate::failed::Failed;
 use crate::sink::Sink;
 use crate::source::Source;
-use std::io::{Read, Write};
+use std::io;
+use std::io::{ErrorKind, Read, Write};
 use std::marker::Model;
+
+/// What a call of a reader or a writer comes to: its count, or one fault more.
+fn counted(outcome: io::Result<usize>, faults: &mut u64) -> Result<usize, Failed>
+    ensures ok { IfOk outcome (λ n. (result ≡ Ok n) × (faults.new ≡ faults.old)) }
+    ensures err { OnErr outcome (IsErr result × (faults.new ≡ count_up faults.old)) }
+    ensures count { faults.old ≤ faults.new }
+{
+    match outcome {
+        Ok(n) => Ok(n),
+        Err(_) => {
+            *faults = faults.saturating_add(1);
+            Err(Failed)
+        }
+    }
+}
 
 /// Any reader. It tells nothing of its content. Contracts see the reader and the count of faults.
 #[derive(Debug, Drop)]
@@ -44,13 +60,7 @@ impl<R: Read> Source for StdSource<R> {
         ensures err { OnErr result (self.new.faults ≡ count_up self.old.faults) }
         ensures count { self.old.faults ≤ self.new.faults }
     {
-        match self.inner.read(buf) {
-            Ok(n) => Ok(n),
-            Err(_) => {
-                self.faults = self.faults.saturating_add(1);
-                Err(Failed)
-            }
-        }
+        counted(self.inner.read(buf), &mut self.faults)
     }
 }
 
@@ -90,13 +100,11 @@ impl<W: Write> Sink for StdSink<W> {
         ensures err { OnErr result (self.new.faults ≡ count_up self.old.faults) }
         ensures count { self.old.faults ≤ self.new.faults }
     {
-        match self.inner.write(bytes) {
-            Ok(n) if n > 0 || bytes.is_empty() => Ok(n),
-            _ => {
-                self.faults = self.faults.saturating_add(1);
-                Err(Failed)
-            }
-        }
+        let outcome = match self.inner.write(bytes) {
+            Ok(0) if !bytes.is_empty() => Err(ErrorKind::WriteZero.into()),
+            outcome => outcome,
+        };
+        counted(outcome, &mut self.faults)
     }
 }
 
@@ -104,8 +112,6 @@ impl<W: Write> Sink for StdSink<W> {
 mod tests {
     use super::*;
     use crate::sink::write_all;
-    use std::io;
-    use std::io::ErrorKind;
 
     /// Fails in its first read, then reads one `x` at a time, three in all.
     #[derive(Drop)]
