@@ -1,12 +1,11 @@
 -- What general bytes say, parameter after parameter.
-use Rattle.std.proofs.Common.{◌≡◌, ℕ, List, length, Option, Some, None, unwrap_or, Result, Ok, Err, refl, sym, ◌∙◌, ap}
+use Rattle.std.proofs.Common.{◌≡◌, ℕ, List, Option, Some, None, unwrap_or, Result, Ok, Err, refl, sym, ◌∙◌, ap}
 use Rattle.llcp_pdu.specs.declared.fault.Refusal.{Refusal}
 use Rattle.llcp_pdu.specs.declared.general.Spoken.{Spoken}
 use Rattle.llcp_pdu.specs.declared.param.Param.{Param}
 use Rattle.llcp_pdu.specs.Wire.{least_miu, magic_length}
 use Rattle.llcp_pdu.specs.Params.{params, kept, later, last_of, version_in, miux_in, wks_in}
-use Rattle.llcp_pdu.specs.General.{miu_by, spoken, said, unmasked, said_behind, general, heard, finished}
-use Rattle.llcp_pdu.proofs.ParamLaws.{params_none}
+use Rattle.llcp_pdu.specs.General.{miu_by, said, unmasked, said_behind, general, heard, finished}
 
 later_none : {A : Type 0} (o : Option A) → later o None ≡ o
 later_none None = refl
@@ -36,16 +35,9 @@ finished_more s (Some p) (Err r) = refl
 finished_more s (Some p) (Ok ps) =
     rw (later_joins (last_of version_in ps) (version_in p) s.version, miu_joins s.miu (last_of miux_in ps) (miux_in p), or_joins s.wks (last_of wks_in ps) (wks_in p)) refl
 
--- nothing more
-pub finished_last : (s : Spoken) (xs : List ℕ) (at : ℕ) → length xs ≡ 0 → finished s (params xs 0 at) ≡ spoken s.version s.miu s.wks
-finished_last s xs at h = ap (finished s) (params_none xs at h)
-
 -- the parameters behind the magic
 pub general_behind : (b rest : List ℕ) → Some rest ≡ unmasked b → general b ≡ finished (record { version = None; miu = least_miu; wks = 0 }) (params rest 0 magic_length)
 general_behind b rest e = ap said_behind (sym e) ∙ finished_first (params rest 0 magic_length)
-
-pub general_without : (b : List ℕ) → None ≡ unmasked b → general b ≡ said_behind None
-general_without b e = ap said_behind (sym e)
 
 -- a parameter that is heard
 pub general_more : (b xs tail : List ℕ) (s : Spoken) (o : Option Param) (place next : ℕ) → general b ≡ finished s (params xs 0 place) → params xs 0 place ≡ kept o (params tail 0 next)

@@ -1,12 +1,12 @@
 -- Parameters that are spelled are read, and what is read is spelled.
-use Rattle.std.proofs.Common.{◌≡◌, ◌≤◌, ℕ, zero, suc, ◌+◌, ◌==◌, ◌||◌, not, nat_lt, Bool, true, false, List, [], ◌∷◌, ◌++◌, length, take, drop, Option, Some, None, is_some, Result, Ok, Err, refl, sym, ◌∙◌, ap, subst, arith, length-append, length-take, slice_index_or, option_to_list}
+use Rattle.std.proofs.Common.{◌≡◌, ◌≤◌, ℕ, zero, suc, ◌+◌, ◌||◌, not, nat_lt, Bool, true, false, List, [], ◌∷◌, ◌++◌, length, take, drop, Option, Some, None, is_some, Result, Ok, Err, refl, sym, ◌∙◌, ap, subst, arith, length-append, length-take, slice_index_or, option_to_list}
 use Rattle.std.proofs.lemmas.Bool.Decides.{nat_tests}
 use Rattle.std.proofs.lemmas.List.{take-append-drop}
 use Rattle.llcp_pdu.specs.declared.fault.PduKind.TheVariants.{Parameter}
 use Rattle.llcp_pdu.specs.declared.fault.Refusal.{Refusal}
 use Rattle.llcp_pdu.specs.declared.param.Param.{Param}
 use Rattle.llcp_pdu.specs.Reading.{refused, onto, before}
-use Rattle.llcp_pdu.specs.Params.{one, two, begun, param, is_known, kept, taken, params, Tlv, tlv, printed, is_sized, AllSized, known_first, known, ParamsSpelling}
+use Rattle.llcp_pdu.specs.Params.{param, is_known, kept, taken, params, Tlv, tlv, printed, is_sized, AllSized, known_first, known, ParamsSpelling}
 
 pub not_lt : (m n : ℕ) → n ≤ m → nat_lt m n ≡ false
 not_lt m n h = grind (arith, nat_tests)
@@ -90,22 +90,6 @@ params_found [] (suc m) at ps h e = absurd (omega arith)
 params_found (k ∷ []) zero at ps h e = cc
 params_found (k ∷ n ∷ rest) zero at ps h e = one_found k n rest at ps (λ m i qs l f. params_found rest m i qs l f) e
 params_found (k ∷ rest) (suc m) at ps h e = params_found rest m (at + 1) ps (omega arith) e
-
--- the sizes that known types have
-pub one_sized : (f : ℕ → Param) (v : List ℕ) → is_some (one f v) ≡ (length v == 1)
-one_sized f [] = refl
-one_sized f (x ∷ []) = refl
-one_sized f (x ∷ y ∷ v) = let n : (length (x ∷ y ∷ v) == 1) ≡ false = grind (arith, nat_tests) in sym n
-
-pub two_sized : (f : ℕ → ℕ → Param) (v : List ℕ) → is_some (two f v) ≡ (length v == 2)
-two_sized f [] = refl
-two_sized f (x ∷ []) = refl
-two_sized f (x ∷ y ∷ []) = refl
-two_sized f (x ∷ y ∷ z ∷ v) = let n : (length (x ∷ y ∷ z ∷ v) == 2) ≡ false = grind (arith, nat_tests) in sym n
-
-pub begun_sized : (f : ℕ → List ℕ → Param) (v : List ℕ) → is_some (begun f v) ≡ nat_lt 0 (length v)
-begun_sized f [] = refl
-begun_sized f (x ∷ v) = let n : nat_lt 0 (length (x ∷ v)) ≡ true = grind (arith, nat_tests) in sym n
 
 pub params_behind : (n : ℕ) (xs : List ℕ) (at : ℕ) → n ≤ length xs → params xs n at ≡ params (drop n xs) 0 (at + n)
 params_behind n xs at h =

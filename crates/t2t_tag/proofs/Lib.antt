@@ -1,4 +1,3 @@
 pub mod Spellings
 pub mod Memory
 pub mod Steps
-pub mod Locking

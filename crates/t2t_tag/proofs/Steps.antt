@@ -1,15 +1,13 @@
 -- What the steps of a tag give its reader.
-use Rattle.std.proofs.Common.{◌≡◌, ℕ, ◌+◌, ◌*◌, ◌%◌, ◌<◌, ◌≤◌, nat_lt, List, ◌++◌, length, take, drop, Bool, true, false, if◌then◌else◌, Some, refl, sym, ◌∙◌, ap, arith}
+use Rattle.std.proofs.Common.{◌≡◌, ℕ, ◌+◌, ◌*◌, ◌%◌, ◌<◌, ◌≤◌, nat_lt, List, length, take, drop, true, Some, refl, sym, ◌∙◌, ap, arith}
 use Rattle.std.proofs.lemmas.List.{drop-drop, length-drop, length-take-le, length-append}
-use Rattle.std.proofs.Math.Seq.{take-add}
 use Rattle.std.proofs.Math.Nat.{mod-lt, mod-eq_of_lt}
 use Rattle.nfc_base.specs.Blocks.{block_of}
-use Rattle.t2t_tag.specs.declared.command.T2Command.{T2Command}
-use Rattle.t2t_tag.specs.declared.command.T2Command.TheVariants.{Read, Write}
-use Rattle.t2t_tag.specs.declared.answer.T2Answer.TheVariants.{Content, Done, Refused}
-use Rattle.t2t_tag.specs.Spelling.{command_frame, answer_frame, T2AnswerSpelling}
-use Rattle.t2t_tag.specs.Store.{IsT2Store, T2Memory, block_count}
-use Rattle.t2t_tag.specs.Step.{rolled, four_blocks, is_writable, t2_reply, t2_answer, t2_after}
+use Rattle.t2t_tag.specs.declared.command.T2Command.TheVariants.{Read}
+use Rattle.t2t_tag.specs.declared.answer.T2Answer.TheVariants.{Content}
+use Rattle.t2t_tag.specs.Spelling.{command_frame, answer_frame}
+use Rattle.t2t_tag.specs.Store.{T2Memory, block_count}
+use Rattle.t2t_tag.specs.Step.{rolled, four_blocks, t2_answer, t2_after}
 
 length-block : (store : List ℕ) (block : ℕ) → block < block_count store → length (block_of 4 store block) ≡ 4
 length-block store block within =
@@ -27,19 +25,6 @@ length-four_blocks store block some =
     let d : length (rolled store (block + 3)) ≡ 4 = length-rolled store (block + 3) some in
     simp length-append (omega (arith, a, b, c, d))
 
--- each answer of a tag is spelled by its frame
-pub reply_spelled : (m : T2Memory) (c : T2Command) → IsT2Store m.store → T2AnswerSpelling (t2_reply m c) (answer_frame (t2_reply m c))
-reply_spelled m (Read block) is = read_spelled (nat_lt block (block_count m.store))
-  where
-    read_spelled : (v : Bool) → T2AnswerSpelling (if v then Content (four_blocks m.store block) else Refused) (answer_frame (if v then Content (four_blocks m.store block) else Refused))
-    read_spelled true = (length-four_blocks m.store block (omega (arith, is.least)), refl)
-    read_spelled false = refl
-reply_spelled m (Write block content) is = write_spelled (is_writable m block)
-  where
-    write_spelled : (v : Bool) → T2AnswerSpelling (if v then Done else Refused) (answer_frame (if v then Done else Refused))
-    write_spelled true = refl
-    write_spelled false = refl
-
 -- a READ changes nothing
 pub read_keeps : (m : T2Memory) (block : ℕ) → t2_after m (command_frame (Read block)) ≡ m
 read_keeps m block = refl
@@ -54,20 +39,3 @@ inside_block store block i within =
     ap (λ k. block_of 4 store k) (mod-eq_of_lt within)
     ∙ ap (λ k. take 4 (drop k store)) (let e : 4 * (block + i) ≡ 4 * block + 4 * i = omega arith in e)
     ∙ ap (λ xs. take 4 xs) (sym (drop-drop (4 * i) (4 * block) store))
-
--- four blocks that don't reach past the last are sixteen bytes in a row
-pub four_inside : (store : List ℕ) (block : ℕ) → block + 4 ≤ block_count store → four_blocks store block ≡ take 16 (drop (4 * block) store)
-four_inside store block within =
-    let rest : List ℕ = drop (4 * block) store in
-    let a : rolled store block ≡ take 4 rest =
-    ap (λ k. rolled store k) (let e : block ≡ block + 0 = omega arith in e) ∙ inside_block store block 0 (omega arith) in
-    let b : rolled store (block + 1) ≡ take 4 (drop 4 rest) = inside_block store block 1 (omega arith) in
-    let c : rolled store (block + 2) ≡ take 4 (drop 8 rest) = inside_block store block 2 (omega arith) in
-    let d : rolled store (block + 3) ≡ take 4 (drop 12 rest) = inside_block store block 3 (omega arith) in
-    ap (λ x. x ++ rolled store (block + 1) ++ rolled store (block + 2) ++ rolled store (block + 3)) a
-    ∙ ap (λ x. take 4 rest ++ x ++ rolled store (block + 2) ++ rolled store (block + 3)) b
-    ∙ ap (λ x. take 4 rest ++ take 4 (drop 4 rest) ++ x ++ rolled store (block + 3)) c
-    ∙ ap (λ x. take 4 rest ++ take 4 (drop 4 rest) ++ take 4 (drop 8 rest) ++ x) d
-    ∙ sym (ap (λ x. x ++ take 4 (drop 8 rest) ++ take 4 (drop 12 rest)) (take-add 4 4 rest))
-    ∙ sym (ap (λ x. x ++ take 4 (drop 12 rest)) (take-add 8 4 rest))
-    ∙ sym (take-add 12 4 rest)

@@ -1,8 +1,6 @@
 -- How the commands of a reader and the answers of a tag stand in frames (NFC Forum Type 2 Tag).
-use Rattle.std.specs.Prelude.{◌≡◌, ℕ, List, [], ◌∷◌, length, Bool, true, false, ◌==◌, ◌&&◌, if◌then◌else◌, Option, Some, None}
-use Rattle.nfc_base.specs.declared.frame.Tech.{Tech}
-use Rattle.nfc_base.specs.declared.frame.Tech.TheVariants.{A, V}
-use Rattle.nfc_base.specs.Signal.{Signal, whole_a, part_a}
+use Rattle.std.specs.Prelude.{◌≡◌, ℕ, List, [], ◌∷◌, length, ◌==◌, ◌&&◌, if◌then◌else◌, Option, Some, None}
+use Rattle.nfc_base.specs.Signal.{Signal, whole_a, part_a, is_nfc_a}
 use Rattle.t2t_tag.specs.declared.command.T2Command.{T2Command}
 use Rattle.t2t_tag.specs.declared.command.T2Command.TheVariants.{Read, Write}
 use Rattle.t2t_tag.specs.declared.answer.T2Answer.{T2Answer}
@@ -48,10 +46,6 @@ abbrev pub command_of : List ℕ → Option T2Command
 command_of (code ∷ block ∷ []) = if code == read_code then Some (Read block) else None
 command_of (code ∷ block ∷ a ∷ b ∷ c ∷ d ∷ []) = if code == write_code then Some (Write block (a ∷ b ∷ c ∷ d ∷ [])) else None
 command_of bytes = None
-
-abbrev pub is_nfc_a : Tech → Bool
-is_nfc_a A = true
-is_nfc_a V = false
 
 -- the command that a frame spells, where it spells one: an NFC-A frame of whole bytes
 abbrev pub spelled_command : Signal → Option T2Command

@@ -20,6 +20,15 @@ pub record T2Memory : Type 0 where
   pub store : List ℕ
   pub locked : List Bool
 
+-- how many block numbers there are
+abbrev pub lock_count : ℕ
+lock_count = 256
+
+-- what a tag can be
+pub record IsT2Memory (m : T2Memory) : Type 0 where
+  pub store : IsT2Store m.store
+  pub locks : length m.locked ≡ lock_count
+
 abbrev pub is_locked : T2Memory → ℕ → Bool
 is_locked m block = get_or m.locked block false
 
@@ -29,7 +38,7 @@ locked_too m block = record m { locked = set m.locked block true }
 
 -- a tag that holds a store and has no locked block
 abbrev pub unlocked : List ℕ → T2Memory
-unlocked store = record { store = store; locked = replicate 256 false }
+unlocked store = record { store = store; locked = replicate lock_count false }
 
 abbrev pub store_fault_number : StoreFault → ℕ
 store_fault_number BadStore = 1

@@ -2,19 +2,21 @@
 
 ghost use Rattle.std.specs.Prelude.{◌≡◌, ◌<◌, ◌↔◌, length, IfOk, IsOk};
 ghost use Rattle.nfc_base.specs.Blocks.{block_of};
-ghost use Rattle.t2t_tag.specs.Store.{IsT2Store, block_count, unlocked, locked_too, store_fault_number};
+ghost use Rattle.t2t_tag.specs.Store.{IsT2Store, IsT2Memory, block_count, unlocked, locked_too, store_fault_number};
 ghost use Rattle.t2t_tag.specs.Step.{four_blocks, t2_reply, t2_obeyed, t2_answer, t2_after};
 
 use crate::answer::T2Answer;
 use crate::command::T2Command;
-use crate::locks::Locks;
 use arrayvec::ArrayVec;
-use nfc_base::Frame;
+use nfc_base::{Frame, Locks};
 use std::marker::Model;
 use thiserror::Error;
 
 /// How many bytes a block has.
 const BLOCK: usize = 4;
+
+/// How many bytes tell of 256 blocks whether they are locked.
+const LOCK_BYTES: usize = 32;
 
 /// The magic number of a capability container, and the largest area of a tag of one sector in eights of bytes.
 const MAGIC: u8 = 0xE1;
@@ -42,17 +44,17 @@ impl StoreFault {
 #[derive(Debug, Drop)]
 pub struct T2Tag {
     store: Vec<u8>,
-    locks: Locks,
+    locks: Locks<LOCK_BYTES>,
 }
 
 impl Model for T2Tag {
-    ghost use Rattle.t2t_tag.specs.Store.{T2Memory, IsT2Store};
+    ghost use Rattle.t2t_tag.specs.Store.{T2Memory, IsT2Memory};
 
     ghost Value = { T2Memory };
 
     ghost view = { λ t. record { store = t.store.items; locked = t.locks } };
 
-    ghost invariant = { λ t. IsT2Store t.store.items };
+    ghost invariant = { λ t. IsT2Memory (record { store = t.store.items; locked = t.locks }) };
 }
 
 impl T2Tag {
@@ -78,7 +80,7 @@ impl T2Tag {
     /// All bytes that it holds.
     pub fn store(&self) -> &[u8]
         ensures store { result.now ≡ self.now.store }
-        ensures shape { IsT2Store self.now.store }
+        ensures shape { IsT2Memory self.now }
     {
         self.store.as_slice()
     }
@@ -95,7 +97,7 @@ impl T2Tag {
         requires { block < block_count self.old.store }
         ensures { self.new ≡ locked_too self.old block }
     {
-        self.locks.add(block as u8);
+        self.locks.add(block);
     }
 
     /// One step: it answers a command and is silent to every other frame. It takes no memory.
@@ -147,7 +149,7 @@ impl T2Tag {
         if block < 4 || block as usize >= self.store.len() / BLOCK {
             return T2Answer::Refused;
         }
-        if self.locks.has(block) {
+        if self.locks.has(block as u16) {
             return T2Answer::Refused;
         }
         let start = BLOCK * block as usize;

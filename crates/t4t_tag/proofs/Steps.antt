@@ -1,7 +1,6 @@
 -- What the steps of a tag answer, and what they leave.
 use Rattle.std.proofs.Common.{◌≡◌, ◌≢◌, ℕ, ◌+◌, ◌-◌, ◌<◌, ◌≤◌, min, List, ◌++◌, length, take, drop, slice_index, Bool, ◌==◌, if◌then◌else◌, refl, ◌∙◌, ap, arith}
 use Rattle.std.proofs.lemmas.List.{length-append, length-take, length-drop, length-take-le}
-use Rattle.t4t_tag.specs.declared.current.CurrentFile.TheVariants.{Ndef}
 use Rattle.t4t_tag.specs.Store.{IsT4State, T4State, IsSameTag}
 use Rattle.t4t_tag.specs.Step.{done, overwritten, asked_count, t4_answer, t4_after}
 use Rattle.t4t_tag.proofs.Turns.{content_of, on_step}
@@ -54,16 +53,6 @@ refusal_keeps t c = on_step t (λ r. r.answer ≢ done → r.after ≡ t) c (rec
   picked = λ file on not_done. absurd (not_done refl);
   read = λ bytes offset not_done. refl;
   written = λ offset content here within not_done. absurd (not_done refl);
-})
-
--- A command changes the file only where the NDEF file is the current one.
-pub closed_keeps : (t : T4State) (c : List ℕ) → t.current ≢ Ndef → (t4_after t c).file ≡ t.file
-closed_keeps t c closed = on_step t (λ r. r.after.file ≡ t.file) c (record {
-  refused = λ status two. refl;
-  opened = refl;
-  picked = λ file on. refl;
-  read = λ bytes offset. refl;
-  written = λ offset content here within. absurd (closed here);
 })
 
 length_content : (bytes : List ℕ) (offset count : ℕ) → length (content_of bytes offset count) ≡ min count (length (drop offset bytes)) + 2

@@ -1,13 +1,10 @@
 -- What a Type 4 tag holds, and what it remembers while it is in the field (NFC Forum Type 4 Tag).
-use Rattle.std.specs.Prelude.{◌≡◌, ◌≢◌, ℕ, ◌+◌, ◌*◌, ◌≤◌, List, ◌++◌, length, slice_index, Bool, false}
+use Rattle.std.specs.Prelude.{◌≡◌, ◌≢◌, ℕ, ◌≤◌, List, ◌++◌, length, slice_index, Bool, false}
+use Rattle.nfc_base.specs.Words.{word}
 use Rattle.t4t_tag.specs.declared.tag.StoreFault.{StoreFault}
 use Rattle.t4t_tag.specs.declared.tag.StoreFault.TheVariants.{BadStore}
 use Rattle.t4t_tag.specs.declared.current.CurrentFile.{CurrentFile}
 use Rattle.t4t_tag.specs.declared.current.CurrentFile.TheVariants.{NoFile}
-
--- two bytes from one on, high first
-abbrev pub word : List ℕ → ℕ → ℕ
-word bytes at = slice_index bytes at * 256 + slice_index bytes (at + 1)
 
 -- What the capability container says: the most bytes that one read asks for (MLe) and that one update brings (MLc), the
 -- identifier and the size of the NDEF file, and who may read and write that file, with 00h for everyone.
@@ -36,11 +33,19 @@ everyone = 0x00
 abbrev pub container_id : ℕ
 container_id = 0xE103
 
+-- the fewest bytes of a capability container
+abbrev pub least_container : ℕ
+least_container = 15
+
+-- the largest code of a length of frames (ISO/IEC 14443-4)
+abbrev pub most_code : ℕ
+most_code = 8
+
 -- Of which code, container and NDEF file a tag may be made. The code says how long the frames are that the tag takes.
 -- The container names another file than itself, which is there with all its bytes.
 pub record IsT4Store (code : ℕ) (container file : List ℕ) : Type 0 where
-  pub coded : code ≤ 8
-  pub least : 15 ≤ length container
+  pub coded : code ≤ most_code
+  pub least : least_container ≤ length container
   pub most : length container ≤ 64
   pub other : file_id container ≢ container_id
   pub size : file_size container ≤ 0x7FFF

@@ -11,7 +11,7 @@ mod tag;
 
 pub use command::T4Command;
 pub use current::CurrentFile;
-pub use tag::{StoreFault, T4Tag};
+pub use tag::{CONTAINER_ID, MOST_CODE, StoreFault, T4Tag, named_size};
 
 #[cfg(test)]
 mod tests;

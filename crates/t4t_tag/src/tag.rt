@@ -1,7 +1,8 @@
 //! A Type 4 tag.
 
-ghost use Rattle.std.specs.Prelude.{◌≡◌, ◌≢◌, ◌+◌, ◌<◌, ◌≤◌, ◌↔◌, length, IfOk, IsOk};
-ghost use Rattle.t4t_tag.specs.Store.{T4State, IsT4Store, IsT4State, IsSameTag, word, fresh, darkened, store_fault_number};
+ghost use Rattle.std.specs.Prelude.{◌≡◌, ◌≢◌, ◌+◌, ◌<◌, ◌≤◌, ◌↔◌, length, IfOk, IsOk, MatchOption};
+ghost use Rattle.t4t_tag.specs.Store.{T4State, IsT4Store, IsT4State, IsSameTag, least_container, file_size, fresh, darkened, store_fault_number};
+ghost use Rattle.nfc_base.specs.Words.{word};
 ghost use Rattle.t4t_tag.specs.Step.{done, select_application, select_file, select_known, select_turn, read_bytes, read_file, read_turn, update_file, update_turn, t4_answer, t4_after};
 ghost use Rattle.t4t_tag.specs.declared.current.CurrentFile.{CurrentFile};
 
@@ -16,13 +17,14 @@ const LEAST_CONTAINER: usize = 15;
 
 const MOST_CONTAINER: usize = 64;
 
-/// The largest code of a length of frames, and the largest NDEF file.
-const MOST_CODE: u8 = 8;
+/// The largest code of a length of frames (ISO/IEC 14443-4).
+pub const MOST_CODE: u8 = 8;
 
+/// The largest NDEF file.
 const MOST_FILE: u16 = 0x7FFF;
 
 /// The identifier of the capability container file.
-const CONTAINER_ID: u16 = 0xE103;
+pub const CONTAINER_ID: u16 = 0xE103;
 
 /// Where the container says how many bytes one read and one update may carry, which file it names and how long that is,
 /// and who may read and write it.
@@ -339,6 +341,16 @@ fn bytes_from(bytes: &[u8], offset: usize, count: usize) -> ArrayVec<u8, 258>
         .unwrap();
     answer.try_extend_from_slice(&DONE).unwrap();
     answer
+}
+
+/// How many bytes the NDEF file has that a capability container names, where it is long enough to.
+pub fn named_size(container: &[u8]) -> Option<u16>
+    ensures { MatchOption result (length container.now < least_container) (λ n. n ≡ file_size container.now) }
+{
+    if container.len() < LEAST_CONTAINER {
+        return None;
+    }
+    Some(word_at(container, FILE_SIZE))
 }
 
 /// Two bytes from one on, high first.

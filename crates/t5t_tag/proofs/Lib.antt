@@ -7,5 +7,4 @@ pub mod Turns
 pub mod Steps
 pub mod Again
 pub mod Inventories
-pub mod Locking
 pub mod Hushed

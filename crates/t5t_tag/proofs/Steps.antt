@@ -13,7 +13,7 @@ use Rattle.t5t_tag.specs.Store.{T5State, IsT5State, id_size, block_count}
 use Rattle.t5t_tag.specs.Mask.{low_first}
 use Rattle.t5t_tag.specs.Spelling.{quiet_code, read_code, write_code, head, command_frame, answer_frame, IsT5Answer, T5AnswerSpelling}
 use Rattle.t5t_tag.specs.Step.{T5Turn, silent, tells, refuses, no_block, read_turn, write_turn, obeyed, names, t5_turn, sent, t5_answer, t5_after}
-use Rattle.t5t_tag.proofs.Bytes.{equal_bytes, bytes_self, is_at_most}
+use Rattle.t5t_tag.proofs.Bytes.{equal_bytes, bytes_self}
 use Rattle.t5t_tag.proofs.Stores.{length_block, length_with_block, still_store, size_of_block}
 use Rattle.t5t_tag.proofs.Turns.{hushes, on_turn}
 
@@ -93,10 +93,6 @@ spelled_of : (o : Option T5Answer) (g : Signal) → IsTold o → sent o ≡ Some
 spelled_of None g is e = absurd cc
 spelled_of (Some a) g is e = (a, (refl, record { range = is; frame = (let d : g ≡ answer_frame a = cc in d) }))
 
--- each answer of a tag is spelled by its frame
-pub answer_spelled : (t : T5State) → IsT5State t → (f g : Signal) → t5_answer t f ≡ Some g → (a : T5Answer) × (((t5_turn t f).answer ≡ Some a) × T5AnswerSpelling a g)
-answer_spelled t is f g e = spelled_of (t5_turn t f).answer g (told_in_range t is f) e
-
 tech_of : (a : T5Answer) → (answer_frame a).tech ≡ V
 tech_of (Present id) = refl
 tech_of (Content content) = refl
@@ -148,13 +144,6 @@ pub read_gives : (t : T5State) → IsT5State t → (block : ℕ) → block < blo
 read_gives t is block within =
     ap (λ (r : T5Turn). sent r.answer) (read_turns t is block)
     ∙ ap (λ v. sent (if v then refuses t no_block else tells t (Content (record { items = block_of t.size t.store block }))).answer) (is_less (block_count t) block within)
-
--- a block that isn't there
-pub read_past : (t : T5State) → IsT5State t → (block : ℕ) → block_count t ≤ block
-    → t5_answer t (command_frame (Read (Some t.id) block)) ≡ Some (answer_frame (Error no_block))
-read_past t is block beyond =
-    ap (λ (r : T5Turn). sent r.answer) (read_turns t is block)
-    ∙ ap (λ v. sent (if v then refuses t no_block else tells t (Content (record { items = block_of t.size t.store block }))).answer) (is_at_most (block_count t) block beyond)
 
 pub read_leaves : (t : T5State) (block : ℕ) → (read_turn t block).after ≡ t
 read_leaves t block = by_value (nat_le (block_count t) block)

@@ -27,6 +27,10 @@ pub record T5State : Type 0 where
   pub locked : List Bool
   pub quiet : Bool
 
+-- how many block numbers there are
+abbrev pub lock_count : ℕ
+lock_count = 256
+
 -- how many bytes an identifier has
 abbrev pub id_size : ℕ
 id_size = 8
@@ -50,7 +54,7 @@ locked_too t block = record t { locked = set t.locked block true }
 
 -- a tag that holds a store, has no locked block and isn't quiet
 abbrev pub fresh : List ℕ → ℕ → List ℕ → T5State
-fresh id size store = record { id = id; size = size; store = store; locked = replicate 256 false; quiet = false }
+fresh id size store = record { id = id; size = size; store = store; locked = replicate lock_count false; quiet = false }
 
 -- the tag behind the dark: it isn't quiet
 abbrev pub darkened : T5State → T5State

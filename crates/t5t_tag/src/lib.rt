@@ -1,19 +1,18 @@
 //! The Type 5 tag (NFC Forum Type 5 Tag; ISO/IEC 15693-3): what a reader asks of it, what it answers, and the tag itself.
 //!
 //! `command` and `answer` read and write the frames of both sides; `tag` is a store of blocks of one size that obeys one
-//! frame at a time; `identifier` compares identifiers with what a frame says of them; `locks` is the table of locked
-//! blocks. Only the store takes memory, and its maker does.
+//! frame at a time; `identifier` compares identifiers with what a frame says of them. Only the store takes memory, and
+//! its maker does.
 #![tactic(auto)]
 
 mod answer;
 mod command;
 mod identifier;
-mod locks;
 mod tag;
 
 pub use answer::T5Answer;
 pub use command::T5Command;
-pub use tag::{StoreFault, T5Tag};
+pub use tag::{NO_BLOCK, StoreFault, T5Tag};
 
 #[cfg(test)]
 mod tests;

@@ -1,25 +1,29 @@
 //! A Type 5 tag.
 
-ghost use Rattle.std.specs.Prelude.{◌≡◌, ◌<◌, ◌↔◌, ◌∷◌, not, nat_le, IfOk, IsOk, Some};
+ghost use Rattle.std.specs.Prelude.{◌≡◌, ◌<◌, ◌↔◌, ◌∷◌, length, not, nat_le, IfOk, IsOk, Some};
 ghost use Rattle.t5t_tag.specs.Spelling.{inventory_code};
-ghost use Rattle.t5t_tag.specs.Store.{IsT5Store, IsT5State, block_count, fresh, darkened, locked_too, store_fault_number};
+ghost use Rattle.t5t_tag.specs.Store.{IsT5Store, IsT5State, lock_count, block_count, fresh, darkened, locked_too, store_fault_number};
 ghost use Rattle.t5t_tag.specs.Step.{read_turn, write_turn, obeyed, addressed, plain, inventory, bytes_turn, t5_answer, t5_after};
 
 use crate::answer::T5Answer;
 use crate::command::{ADDRESSED, INVENTORY, ONE_SLOT, PLAIN, QUIET, READ, WRITE};
 use crate::identifier::{asks_for, turned};
-use crate::locks::Locks;
 use arrayvec::ArrayVec;
-use nfc_base::{Frame, Tech};
+use nfc_base::{Frame, Locks, Tech};
 use std::marker::Model;
 use thiserror::Error;
 
-/// The error codes: a command that isn't supported or has another length, a block that isn't there, a locked block.
+/// The error codes, this project's own: of a command that isn't supported or has another length.
 const NOT_SUPPORTED: u8 = 0x0F;
 
-const NO_BLOCK: u8 = 0x10;
+/// Of a block that isn't there.
+pub const NO_BLOCK: u8 = 0x10;
 
+/// Of a locked block.
 const LOCKED: u8 = 0x12;
+
+/// How many bytes tell of 256 blocks whether they are locked.
+const LOCK_BYTES: usize = 32;
 
 /// Why some bytes are no store of a tag.
 #[derive(Clone, Copy, Debug, PartialEq, Eq, Error)]
@@ -44,18 +48,19 @@ pub struct T5Tag {
     id: [u8; 8],
     block: u8,
     store: Vec<u8>,
-    locks: Locks,
+    locks: Locks<LOCK_BYTES>,
     quiet: bool,
 }
 
 impl Model for T5Tag {
-    ghost use Rattle.t5t_tag.specs.Store.{T5State, IsT5State};
+    ghost use Rattle.std.specs.Prelude.{◌≡◌, length};
+    ghost use Rattle.t5t_tag.specs.Store.{T5State, IsT5State, lock_count};
 
     ghost Value = { T5State };
 
     ghost view = { λ t. record { id = t.id; size = t.block; store = t.store.items; locked = t.locks; quiet = t.quiet } };
 
-    ghost invariant = { λ t. IsT5State (record { id = t.id; size = t.block; store = t.store.items; locked = t.locks; quiet = t.quiet }) };
+    ghost invariant = { λ t. IsT5State (record { id = t.id; size = t.block; store = t.store.items; locked = t.locks; quiet = t.quiet }) × (length t.locks ≡ lock_count) };
 }
 
 impl T5Tag {
@@ -92,6 +97,7 @@ impl T5Tag {
     pub fn store(&self) -> &[u8]
         ensures store { result.now ≡ self.now.store }
         ensures shape { IsT5State self.now }
+        ensures locks { length self.now.locked ≡ lock_count }
     {
         self.store.as_slice()
     }
@@ -108,7 +114,7 @@ impl T5Tag {
         requires { block < block_count self.old }
         ensures { self.new ≡ locked_too self.old block }
     {
-        self.locks.add(block as u8);
+        self.locks.add(block);
     }
 
     /// The field is gone, and with it the quiet state.
@@ -220,7 +226,7 @@ impl T5Tag {
         if content.len() != size {
             return T5Answer::Error(NOT_SUPPORTED);
         }
-        if self.locks.has(block) {
+        if self.locks.has(block as u16) {
             return T5Answer::Error(LOCKED);
         }
         let start = size * block as usize;

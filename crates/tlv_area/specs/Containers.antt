@@ -1,6 +1,7 @@
 -- Capability containers (NFC Forum Type 2, Type 4 and Type 5 Tag): which condition refuses one, and the area or the file
 -- that it names. The order in which the conditions are tried is this project's own.
 use Rattle.std.specs.Prelude.{ℕ, ◌+◌, ◌*◌, ◌/◌, ◌%◌, Bool, not, ◌||◌, ◌&&◌, ◌==◌, nat_lt, true, false, if◌then◌else◌, List, [], ◌∷◌, slice_index, Option, Some, None, Result, Ok, Err}
+use Rattle.nfc_base.specs.Words.{word}
 use Rattle.tlv_area.specs.declared.space.Space.{Space}
 use Rattle.tlv_area.specs.declared.container.FileMap.{FileMap}
 use Rattle.tlv_area.specs.declared.container.ContainerFault.{ContainerFault}
@@ -22,10 +23,6 @@ high_nibble b = b / 16
 
 abbrev pub low_nibble : ℕ → ℕ
 low_nibble b = b % 16
-
--- two bytes from one on, high first
-abbrev pub word : List ℕ → ℕ → ℕ
-word bytes i = slice_index bytes i * 256 + slice_index bytes (i + 1)
 
 -- Type 2, block 3: the magic number E1h, version and access in the two nibbles of bytes 1 and 3, the size in byte 2
 abbrev pub t2_faults : List ℕ → List (Bool × ContainerFault)

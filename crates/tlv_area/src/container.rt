@@ -3,7 +3,8 @@
 ghost use Rattle.std.specs.Prelude.{◌≡◌, ◌<◌, ◌↔◌, Err, Some, IfOk};
 ghost use Rattle.tlv_area.specs.declared.container.ContainerFault.{ContainerFault};
 ghost use Rattle.tlv_area.specs.Layout.{IsArea};
-ghost use Rattle.tlv_area.specs.Containers.{first_fault, t2_faults, t2_container, t5_faults, t5_container, t4_faults, t4_container, word, container_fault_number};
+ghost use Rattle.tlv_area.specs.Containers.{first_fault, t2_faults, t2_container, t5_faults, t5_container, t4_faults, t4_container, container_fault_number};
+ghost use Rattle.nfc_base.specs.Words.{word};
 
 use crate::space::Space;
 use thiserror::Error;
