@@ -19,9 +19,10 @@ use Rattle.nfca_poll.specs.Levels.{levels}
 use Rattle.nfca_poll.specs.Calls.{Call, Calls, Reading, Sens, Sdd, Sel, call_of}
 use Rattle.nfca_poll.specs.Front.{Front, Off, Idle, Sleep, Ready, Active, is_ready, is_active}
 use Rattle.nfca_poll.specs.Poll.{Seek, Calling, Asking, Selecting, Ended, Outcome, Disturbed, Found, seek_step}
-use Rattle.nfca_poll.specs.Muted.{Asks}
+use Rattle.nfca_poll.specs.Muted.{AskEnds}
 use Rattle.nfca_poll.specs.Seeking.{resolution, seek_of, request_of, outcome, levels_of}
-use Rattle.nfca_poll.specs.Crowd.{Card, Each, with_front, is_rest, IsFirst, StepsByFront, AreOurs, cards}
+use Rattle.nfca_poll.specs.Crowd.{Card, Each, with_front, is_rest, StepsByFront, AreOurs, cards}
+use Rattle.nfca_poll.proofs.CrowdParts.{IsFirst}
 use Rattle.nfca_poll.specs.AnyStart.{StaysActive, YieldsToCalls, HaveOwnIdents, Pairs, Keeps, EndsFromAny, PicksFromAny}
 use Rattle.nfca_poll.proofs.Clashes.{wrong, wrong_back}
 use Rattle.nfca_poll.proofs.Eaches.{each_map, each_has, each_front, each_back, has_middle}
@@ -33,7 +34,7 @@ use Rattle.nfca_poll.proofs.Fitting.{card_next, card_at}
 use Rattle.nfca_poll.proofs.Choosing.{hears, Seeks, IsCard}
 use Rattle.nfca_poll.proofs.Selects.{quiet_turn, identifier_of, few_done}
 use Rattle.nfca_poll.proofs.Crowding.{events_of}
-use Rattle.nfca_poll.proofs.FirstPicked.{rest_inactive, at_inactive, each_mapped, request_a}
+use Rattle.nfca_poll.proofs.CardsAtRest.{rest_inactive, at_inactive, each_mapped, request_a}
 use Rattle.nfca_poll.proofs.ThroughNoise.{is_calling, asking_on, selecting_on, noise_so_far}
 use Rattle.nfca_poll.proofs.Moves.{Moves, YieldsAt, TurnOf, passed, unheard, damaged, lost, turn_of}
 use Rattle.nfca_poll.proofs.Twins.{pairs_map, pairs_with, each_onward, kept_start, kept_turn, asks_ready, ready_polls, Twin, twins_say, twins_move, twins_wake}
@@ -270,7 +271,7 @@ module _ {L : Type 0} (m : Machine L) (identifier' : L → List ℕ) where
   -- a turn of any listeners that yield at it
   pub mixed_turn : (may : Bool) (ours : AreOurs m identifier') (w : List Card) (old now new : Air L) (q : Seeking) (f : Signal) (h : Heard) → HaveOwnIdents w
       → Mixed may w (seek_of q) (cards ours now.listeners) (noise (drop (length old.trace) now.trace)) → Each (YieldsAt ours may f) now.listeners
-      → Reached resolution m old now (seek_of q) → f ≡ request_of q → Asks m now f (Ok h) new
+      → Reached resolution m old now (seek_of q) → f ≡ request_of q → AskEnds m now f (Ok h) new
       → Mixed may w (seek_step (seek_of q) h) (cards ours new.listeners) (noise (drop (length old.trace) new.trace))
   mixed_turn may ours w old now new q f h own k yields r e t =
       let n : ℕ = noise (drop (length old.trace) now.trace) in
@@ -288,7 +289,7 @@ module _ {L : Type 0} (m : Machine L) (identifier' : L → List ℕ) where
   pub mixes_start : (old : Air L) → Mixes old old (Calling 0)
   mixes_start old ours yields own = mixed_start true ours old
 
-  pub mixes_turn : (old now new : Air L) (q : Seeking) (f : Signal) (h : Heard) → Mixes old now (seek_of q) → Reached resolution m old now (seek_of q) → f ≡ request_of q → Asks m now f (Ok h) new
+  pub mixes_turn : (old now new : Air L) (q : Seeking) (f : Signal) (h : Heard) → Mixes old now (seek_of q) → Reached resolution m old now (seek_of q) → f ≡ request_of q → AskEnds m now f (Ok h) new
       → Mixes old new (seek_step (seek_of q) h)
   mixes_turn old now new q f h mixes r e t ours yields own =
       let w : List Card = cards ours old.listeners in
@@ -310,7 +311,7 @@ module _ {L : Type 0} (m : Machine L) (identifier' : L → List ℕ) where
       let R : Result Picked PollFault → Type 0 = λ x. EndsFromAny w x (cards ours new.listeners) n in
       subst R (sym end) k.0
 
-  pub mixes_err : (old now new : Air L) (q : Seeking) (f : Signal) (fault : PollFault) → Mixes old now (seek_of q) → Asks m now f (Err fault) new → (ours : AreOurs m identifier') → YieldsToCalls ours
+  pub mixes_err : (old now new : Air L) (q : Seeking) (f : Signal) (fault : PollFault) → Mixes old now (seek_of q) → AskEnds m now f (Err fault) new → (ours : AreOurs m identifier') → YieldsToCalls ours
       → PicksFromAny ours old (Err fault) new
   mixes_err old now new q f faults.Nobody k t ours yields own = absurd t
   mixes_err old now new q f faults.Disturbed k t ours yields own = absurd t

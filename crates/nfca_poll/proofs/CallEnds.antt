@@ -52,11 +52,11 @@ module _ {X : Type 0} (aim : Aim X) (f : PollFault) (a : faults.Disturbed ≡ f 
   spares_met k found p false true = tt
   spares_met k found p false false = spares_bad
 
-  spares_taken : (k : ℕ) (found : List Picked) (p : Picked) (o : Option X) → Spares (met_or_taken k found p o)
+  spares_taken : (k : ℕ) (found : List Picked) (p : Picked) (o : Option X) → Spares (met_or_taken aim next_round k found p o)
   spares_taken k found p (Some x) = λ q. cc
   spares_taken k found p None = spares_met k found p (has_found found p.id) (nat_lt (length found) most_found)
 
-  spares_sought : (k : ℕ) (found : List Picked) (t : Seek) → Spares (sought aim k found t)
+  spares_sought : (k : ℕ) (found : List Picked) (t : Seek) → Spares (sought aim next_round k found t)
   spares_sought k found (Calling n) = tt
   spares_sought k found (Asking done known) = tt
   spares_sought k found (Selecting done l) = tt
@@ -71,7 +71,7 @@ module _ {X : Type 0} (aim : Aim X) (f : PollFault) (a : faults.Disturbed ≡ f 
   spares_lit (Sends k found) g = tt
   spares_lit (Told r) g = g
 
-  spares_step : (s : Search X) (h : Heard) → Spares s → Spares (search_step aim s h)
+  spares_step : (s : Search X) (h : Heard) → Spares s → Spares (search_step aim next_round s h)
   spares_step (Begins k) h g = tt
   spares_step (Seeks k found t) h g = spares_sought k found (seek_step t h)
   spares_step (Sends k found) h g = tt
@@ -140,11 +140,11 @@ module _ {X : Type 0} (aim : Aim X) where
   met_left k found p false true = omega arith
   met_left k found p false false = omega arith
 
-  taken_left : (k : ℕ) (found : List Picked) (p : Picked) (o : Option X) → left (met_or_taken k found p o) ≤ 4 - k
+  taken_left : (k : ℕ) (found : List Picked) (p : Picked) (o : Option X) → left (met_or_taken aim next_round k found p o) ≤ 4 - k
   taken_left k found p (Some x) = omega arith
   taken_left k found p None = met_left k found p (has_found found p.id) (nat_lt (length found) most_found)
 
-  sought_left : (k : ℕ) (found : List Picked) (t : Seek) → left (sought aim k found t) ≤ 4 - k
+  sought_left : (k : ℕ) (found : List Picked) (t : Seek) → left (sought aim next_round k found t) ≤ 4 - k
   sought_left k found (Calling n) = omega arith
   sought_left k found (Asking done known) = omega arith
   sought_left k found (Selecting done l) = omega arith
@@ -153,7 +153,7 @@ module _ {X : Type 0} (aim : Aim X) where
   sought_left k found (Ended BadAnswer) = omega arith
   sought_left k found (Ended (Found ls kind)) = let p : Picked = record { id = identifier ls; kind = kind } in taken_left k found p (aim.takes p)
 
-  step_left : (s : Search X) (h : Heard) → left (search_step aim s h) ≤ left s
+  step_left : (s : Search X) (h : Heard) → left (search_step aim next_round s h) ≤ left s
   step_left (Begins k) h = omega arith
   step_left (Seeks k found t) h = sought_left k found (seek_step t h)
   step_left (Sends k found) h = omega arith

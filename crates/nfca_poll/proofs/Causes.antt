@@ -1,13 +1,8 @@
--- A crowd at rest has a first device that is idle, or none; and why a resolution over one picks none.
-use Rattle.std.proofs.Common.{◌≡◌, ◌≢◌, ℕ, List, [], ◌∷◌, ◌++◌, length, drop, Bool, true, false, inl, inr, refl, sym, ◌∙◌, subst, Result, Ok, Err}
-use Rattle.nfc_base.specs.Trace.{noise}
-use Rattle.air_core.specs.World.{Machine}
-use Rattle.air_core.specs.Turn.{Air}
-use Rattle.nfca_poll.specs.declared.fault.Picked.{Picked}
-use Rattle.nfca_poll.specs.declared.fault.PollFault.{PollFault}
-use Rattle.nfca_poll.specs.declared.fault.PollFault.TheVariants as faults
+-- A crowd at rest has a first device that is idle, or none.
+use Rattle.std.proofs.Common.{◌≡◌, ◌≢◌, List, [], ◌∷◌, ◌++◌, Bool, true, false, refl, sym, ◌∙◌}
 use Rattle.nfca_poll.specs.Front.{Front, Off, Idle, Sleep, Ready, Active}
-use Rattle.nfca_poll.specs.Crowd.{Card, Each, ahead, crowd_bits, is_idle, IsFirst, AreOurs, cards, AreDistinct, IsCrowd, EndsThroughNoise, PicksThroughNoise, EndsAlone, FindsNobody, HasCause}
+use Rattle.nfca_poll.specs.Crowd.{Card, Each, ahead, crowd_bits, is_idle, AreDistinct}
+use Rattle.nfca_poll.proofs.CrowdParts.{IsFirst}
 use Rattle.nfca_poll.proofs.Clashes.{wrong, wrong_back}
 use Rattle.nfca_poll.proofs.Eaches.{each_map, each_has, has_middle}
 use Rattle.nfca_poll.proofs.Choosing.{IsCard}
@@ -94,35 +89,3 @@ lead_more c _ i cs d (some a m b F) = by_front (is_idle c.front) refl (ahead (cr
 pub leads : (w : List Card) → Each IsCard w → AreDistinct w → Leads w
 leads [] e d = none [] tt
 leads (c ∷ w) e d = lead_more c w e.0 e.1 d.0 (leads w e.1 d.1)
-
-alone_cause : (w : List Card) (r : Result Picked PollFault) (v : List Card) (n : ℕ) → Each Sleeps w → EndsAlone w r v → HasCause w r n
-alone_cause w (Ok p) v n s e = tt
-alone_cause w (Err faults.Nobody) v n s e = inl (each_map Sleeps (λ c. is_idle c.front ≡ false) (λ c h. h.1) w s)
-alone_cause w (Err faults.Disturbed) v n s e = absurd e
-alone_cause w (Err faults.FieldLost) v n s e = tt
-alone_cause w (Err faults.Memory) v n s e = tt
-alone_cause w (Err faults.NotFound) v n s e = absurd e
-alone_cause w (Err faults.BadAnswer) v n s e = absurd e
-
-noise_cause : (a : List Card) (m : Card) (b : List Card) (r : Result Picked PollFault) (v : List Card) (n : ℕ) → EndsThroughNoise a m b r v n → HasCause (a ++ m ∷ b) r n
-noise_cause a m b (Ok p) v n e = tt
-noise_cause a m b (Err faults.Nobody) v n e = inr e
-noise_cause a m b (Err faults.Disturbed) v n e = e
-noise_cause a m b (Err faults.FieldLost) v n e = tt
-noise_cause a m b (Err faults.Memory) v n e = tt
-noise_cause a m b (Err faults.NotFound) v n e = absurd e
-noise_cause a m b (Err faults.BadAnswer) v n e = absurd e
-
-pub has_cause : {L : Type 0} (m : Machine L) (identifier' : L → List ℕ) (ours : AreOurs m identifier') (old new : Air L) (r : Result Picked PollFault) → PicksThroughNoise ours old r new → FindsNobody ours old r new
-    → IsCrowd (cards ours old.listeners) → HasCause (cards ours old.listeners) r (noise (drop (length old.trace) new.trace))
-has_cause m identifier' ours old new r picks finds crowd = by_lead (cards ours old.listeners) refl (leads (cards ours old.listeners) crowd.cards crowd.distinct)
-  where
-    n : ℕ
-    n = noise (drop (length old.trace) new.trace)
-
-    by_lead : (w : List Card) → cards ours old.listeners ≡ w → Leads w → HasCause w r (noise (drop (length old.trace) new.trace))
-    by_lead _ e (none w s) =
-        let S : List Card → Type 0 = λ x. Each Sleeps x in
-        let P : List Card → Type 0 = λ x. EndsAlone x r (cards ours new.listeners) in
-        alone_cause w r (cards ours new.listeners) (noise (drop (length old.trace) new.trace)) s (subst P e (finds (subst S (sym e) s)))
-    by_lead _ e (some a c b F) = noise_cause a c b r (cards ours new.listeners) (noise (drop (length old.trace) new.trace)) (picks a c b e F)

@@ -15,7 +15,8 @@ use Rattle.nfca_poll.specs.Levels.{levels, bcc}
 use Rattle.nfca_poll.specs.Calls.{Reading, Calls, Sens}
 use Rattle.nfca_poll.specs.Front.{Front, Off, Idle, Sleep, Ready, Active, begins, sens_res}
 use Rattle.nfca_poll.specs.Poll.{Seek, Calling, Asking, Selecting, Ended, Found, BadAnswer, seek_step, completed, narrowed}
-use Rattle.nfca_poll.specs.Crowd.{Card, Each, with_front, is_idle, is_rest, ahead, crowd_bits, IsFirst}
+use Rattle.nfca_poll.specs.Crowd.{Card, Each, with_front, is_idle, is_rest, ahead, crowd_bits}
+use Rattle.nfca_poll.proofs.CrowdParts.{IsFirst}
 use Rattle.nfca_poll.proofs.Clashes.{wrong, wrong_back, and_both, and_make, Has, all_same, begins-append, begins_same, begins_first, begins_each, each_same, clash, same_bits, same_self}
 use Rattle.nfca_poll.proofs.Eaches.{each_map, each_with, each_has, has_middle, map_same, map_twice, IfSaid, said_map, said_same, said_each, each_said, said_has}
 use Rattle.nfca_poll.proofs.HeardBits.{bits_back, heard_of, heard_bits, joint_bits}

@@ -9,7 +9,7 @@ use Rattle.nfca_poll.specs.Ident.{IsIdent}
 use Rattle.nfca_poll.specs.Levels.{levels, identifier}
 use Rattle.nfca_poll.specs.Crowd.{Card, Each, ahead, crowd_bits, level_bits_of, AreDistinct}
 use Rattle.nfca_poll.specs.Rounds.{is_same, has_found}
-use Rattle.nfca_poll.specs.RoundEnds.{told_of, put_by, crowd}
+use Rattle.nfca_poll.specs.Crowd.{told_of, put_by, crowd}
 use Rattle.nfca_poll.proofs.Clashes.{wrong, Has}
 use Rattle.nfca_poll.proofs.Eaches.{each_map, each_has}
 use Rattle.nfca_poll.proofs.HeardBits.{pointwise_same, pointwise_path}
@@ -177,7 +177,7 @@ cards_unlike [] u = tt
 cards_unlike (c ∷ cs) u = (each_unmapped told_of (λ q. q.id ≢ c.id) cs u.0, cards_unlike cs u.1)
 
 -- the bits tell identifiers apart
-ahead_both : (x y : List Bool) → ahead x y ≡ true → ahead y x ≡ true → x ≡ y
+pub ahead_both : (x y : List Bool) → ahead x y ≡ true → ahead y x ≡ true → x ≡ y
 ahead_both [] [] h k = refl
 ahead_both [] (b ∷ y) h k = wrong h
 ahead_both (a ∷ x) [] h k = wrong k
@@ -204,7 +204,7 @@ flat_same (x ∷ xs) (y ∷ ys) a b e =
     sym (drop-front (bits_of x) (level_bits_of xs)) ∙ ap (drop (length (bits_of x))) e ∙ ap (λ n. drop n (bits_of y ++ level_bits_of ys)) k ∙ drop-front (bits_of y) (level_bits_of ys) in
     ap (λ t. t ∷ xs) (level_by_bits x y a.0 b.0 one) ∙ ap (λ t. y ∷ t) (flat_same xs ys a.1 b.1 rest)
 
-ids_same : (x y : List ℕ) → IsIdent x → IsIdent y → crowd_bits x ≡ crowd_bits y → x ≡ y
+pub ids_same : (x y : List ℕ) → IsIdent x → IsIdent y → crowd_bits x ≡ crowd_bits y → x ≡ y
 ids_same x y i j e =
     let a : IsLevels (levels x) = levels_are x i in
     let b : IsLevels (levels y) = levels_are y j in

@@ -18,10 +18,10 @@ use Rattle.nfca_poll.specs.Poll.{Seek, Calling, Asking, Selecting, Ended, seek_s
 use Rattle.nfca_poll.specs.Muted.{muted, mute_air}
 use Rattle.nfca_poll.specs.Counting.{is_sens_req}
 use Rattle.nfca_poll.specs.Crowd.{Card, Each, with_front, cards}
-use Rattle.nfca_poll.specs.Rounds.{Aim, Search, Begins, Seeks, Sends, Told, sought, search_step, search_lit, search_next, searching}
+use Rattle.nfca_poll.specs.Rounds.{Aim, Search, Begins, Seeks, Sends, Told, next_round, sought, search_step, search_lit, search_next, searching}
 use Rattle.nfca_poll.specs.AnyStart.{AreUnlinked, HaveOwnIdents}
 use Rattle.nfca_poll.specs.Polled.{ArePolled}
-use Rattle.nfca_poll.specs.RoundEnds.{told_of, crowd}
+use Rattle.nfca_poll.specs.Crowd.{told_of, crowd}
 use Rattle.nfca_poll.proofs.Eaches.{map_twice}
 use Rattle.nfca_poll.proofs.Crowding.{noise-append}
 use Rattle.nfca_poll.proofs.NoisyTurns.{TurnWas, passed, unheard, damaged, lost, by_fates}
@@ -147,7 +147,7 @@ module _ {L : Type 0} (m : Machine L) {identifier' : L → List ℕ} (polled : A
 
     seek_turn : (round : ℕ) (found : List Picked) (s : Seek) (c : Call) → f.tech ≡ A → call_of f ≡ Calls c → (k : InSeek m polled aim w field round found s a es)
         → (TurnWas (Calls c) (of a) (of b) h (noise te) → SoughtFrom k.start (seek_step s h) (of b) (k.ts ++ calls te) (noise k.now + noise te))
-        → At (sought aim round found (seek_step s h)) b (es ++ te)
+        → At (sought aim next_round round found (seek_step s h)) b (es ++ te)
     seek_turn round found s c tech call k step =
         let t = was c tech call k.common.unlinked in
         let N : ℕ → Type 0 = λ n. SoughtFrom k.start (seek_step s h) (of b) (k.ts ++ calls te) n in
@@ -159,7 +159,7 @@ module _ {L : Type 0} (m : Machine L) {identifier' : L → List ℕ} (polled : A
     stand : (round : ℕ) (found : List Picked) (s : Seek) (k : InSeek m polled aim w field round found s a es) → Each Stands k.start
     stand round found s k = fits_stand (noise k.now) found k.start (same_idents m polled aim w field k.start k.resolves.same) k.resolves.fits
 
-    calling : (round : ℕ) (found : List Picked) (n : ℕ) → InSeek m polled aim w field round found (Calling n) a es → call_frame Sens ≡ f → At (sought aim round found (seek_step (Calling n) h)) b (es ++ te)
+    calling : (round : ℕ) (found : List Picked) (n : ℕ) → InSeek m polled aim w field round found (Calling n) a es → call_frame Sens ≡ f → At (sought aim next_round round found (seek_step (Calling n) h)) b (es ++ te)
     calling round found n k e =
         let sens : is_sens_req f ≡ true = ap is_sens_req (sym e) in
         let one = sens_turn (mute_air m) a f x y sens in
@@ -169,13 +169,13 @@ module _ {L : Type 0} (m : Machine L) {identifier' : L → List ℕ} (polled : A
         (count-append k.ts (calls te) ∙ ap (λ i. noisy_count k.ts + i) (one.1 ∙ was_small (Calls Sens) (of a) (of b) h (noise te) t)) t)
 
     asking : (round : ℕ) (found : List Picked) (done : List (List ℕ)) (known : List Bool) → InSeek m polled aim w field round found (Asking done known) a es → call_frame (Sdd (length done + 1) known) ≡ f
-        → At (sought aim round found (seek_step (Asking done known) h)) b (es ++ te)
+        → At (sought aim next_round round found (seek_step (Asking done known) h)) b (es ++ te)
     asking round found done known k e =
         seek_turn round found (Asking done known) (Sdd (length done + 1) known) (ap (λ (g : Signal). g.tech) (sym e)) (ap call_of (sym e) ∙ sdd_is_read k.start done known (of a) k.sought) k
         (λ t. sdd_step k.start (stand round found (Asking done known) k) (same_distinct m polled aim w field k.start k.resolves.same) done known (of a) (of b) h (noise te) (k.ts ++ calls te) (noise k.now) k.sought t)
 
     selecting : (round : ℕ) (found : List Picked) (done : List (List ℕ)) (l : List ℕ) → InSeek m polled aim w field round found (Selecting done l) a es → call_frame (Sel (length done + 1) l) ≡ f
-        → At (sought aim round found (seek_step (Selecting done l) h)) b (es ++ te)
+        → At (sought aim next_round round found (seek_step (Selecting done l) h)) b (es ++ te)
     selecting round found done l k e =
         seek_turn round found (Selecting done l) (Sel (length done + 1) l) (ap (λ (g : Signal). g.tech) (sym e)) (ap call_of (sym e) ∙ sel_is_read k.start done l (of a) k.sought) k
         (λ t. sel_step k.start (stand round found (Selecting done l) k) (same_distinct m polled aim w field k.start k.resolves.same) done l (of a) (of b) h (noise te) (k.ts ++ calls te) (noise k.now) k.sought t)
@@ -201,7 +201,7 @@ module _ {L : Type 0} (m : Machine L) {identifier' : L → List ℕ} (polled : A
           sought = (refl, omega arith, none (inr (omega arith)));
         }
 
-    asks : (s : Search X) → At s a es → search_next aim s ≡ air.Asks f → At (search_step aim s h) b (es ++ te)
+    asks : (s : Search X) → At s a es → search_next aim s ≡ air.Asks f → At (search_step aim next_round s h) b (es ++ te)
     asks (Begins round) k d = absurd (light_asks f d)
     asks (Seeks round found (Calling n)) k d = calling round found n k (asks_same (call_frame Sens) f d)
     asks (Seeks round found (Asking done known)) k d = asking round found done known k (asks_same (call_frame (Sdd (length done + 1) known)) f d)

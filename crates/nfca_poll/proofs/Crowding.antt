@@ -4,25 +4,21 @@ use Rattle.std.specs.List.{cons_option}
 use Rattle.nfc_base.specs.declared.frame.Tech.{Tech}
 use Rattle.nfc_base.specs.declared.frame.Tech.TheVariants.{A, V}
 use Rattle.nfc_base.specs.Signal.{Signal}
-use Rattle.nfc_base.specs.Trace.{heard_by, noise, other_than_pass}
+use Rattle.nfc_base.specs.Trace.{noise, other_than_pass}
 use Rattle.nfc_base.specs.declared.event.Event.{Event}
 use Rattle.nfc_base.specs.declared.event.Event.TheVariants.{Reset, Request, Answer, Clash}
-use Rattle.nfc_base.specs.declared.event.Fate.{Fate}
-use Rattle.nfc_base.specs.declared.event.Fate.TheVariants.{Pass, Damage, Lose, Break}
 use Rattle.nfc_base.specs.declared.event.Heard.{Heard}
-use Rattle.air_core.specs.Joint.{Joint, Nothing, Single, Clashing, joint, same_tech}
-use Rattle.air_core.specs.World.{Machine, World, stepped, answers, stepped_by, answered_by}
+use Rattle.air_core.specs.Joint.{same_tech}
+use Rattle.air_core.specs.World.{Machine, World, stepped_by, answered_by}
 use Rattle.air_core.specs.Turn.{Air, moment}
-use Rattle.air_core.specs.Conversation.{Moment, TurnsTo, first_fate, later_fates, replay, turn_events, turn_heard, joint_events, joint_back}
+use Rattle.air_core.specs.Conversation.{Moment, TurnsTo, first_fate, later_fates, turn_events}
 use Rattle.nfca_poll.specs.declared.kind.Kind.{Kind}
 use Rattle.nfca_poll.specs.Calls.{call_of}
 use Rattle.nfca_poll.specs.Front.{Front, is_active}
 use Rattle.nfca_poll.specs.Muted.{mute_reply, muted, mute_air}
 use Rattle.nfca_poll.specs.Crowd.{Card, Each, StepsByFront, AreOurs, card_of, card_if, cards}
 use Rattle.nfca_poll.proofs.Eaches.{IfSaid, onto_back}
-use Rattle.nfca_poll.proofs.HeardBits.{heard_of}
 use Rattle.nfca_poll.proofs.Fitting.{card_next, card_says}
-use Rattle.nfca_poll.proofs.Choosing.{hears}
 
 -- noise of some events and then others
 pub noise-append : (a b : List Event) → noise (a ++ b) ≡ noise a + noise b
@@ -36,66 +32,13 @@ pub drop-front : {X : Type 0} (a b : List X) → drop (length a) (a ++ b) ≡ b
 drop-front [] b = refl
 drop-front (x ∷ a) b = drop-front a b
 
-heard_in : (h k : Heard) → Some h ≡ Some k → h ≡ k
-heard_in h k e = cc
-
-none_heard : (h : Heard) → None ≡ Some h → ⊥
-none_heard h e = cc
-
 module _ {L : Type 0} (m : Machine L) where
-  by_joint : (w : World L) (j : Joint) (y : Fate) (h : Heard) → noise (joint_events j y) ≡ 0 → Some h ≡ heard_by Pass (joint_back j y)
-      → (replay (mute_air m) w (joint_events j y) ≡ w) × (h ≡ heard_of j)
-  by_joint w Nothing y h n e = (refl, heard_in h _ e)
-  by_joint w (Single g) Pass h n e = (refl, heard_in h _ e)
-  by_joint w (Single g) Damage h n e = absurd (omega (arith, n))
-  by_joint w (Single g) Lose h n e = absurd (omega (arith, n))
-  by_joint w (Single g) Break h n e = absurd (omega (arith, n))
-  by_joint w (Clashing g) Pass h n e = (refl, heard_in h _ e)
-  by_joint w (Clashing g) Damage h n e = absurd (omega (arith, n))
-  by_joint w (Clashing g) Lose h n e = absurd (omega (arith, n))
-  by_joint w (Clashing g) Break h n e = absurd (omega (arith, n))
-
-  by_fates : (w : World L) (f : Signal) (x y : Fate) (h : Heard) → noise (turn_events (mute_air m) w f x y) ≡ 0 → Some h ≡ turn_heard (mute_air m) w f x y
-      → (replay (mute_air m) w (turn_events (mute_air m) w f x y) ≡ stepped (muted m) w f) × (h ≡ heard_of (joint (answers (muted m) w f)))
-  by_fates w f Pass y h n e = by_joint (stepped (muted m) w f) ((mute_air m).joint w f) y h (omega (arith, n)) e
-  by_fates w f Damage y h n e = absurd (omega (arith, n))
-  by_fates w f Lose y h n e = absurd (omega (arith, n))
-  by_fates w f Break y h n e = absurd (omega (arith, n))
-
-  -- a turn by which the field was lost has noise
-  lost_joint : (j : Joint) (y : Fate) → noise (joint_events j y) ≡ 0 → heard_by Pass (joint_back j y) ≡ None → ⊥
-  lost_joint Nothing y n e = cc
-  lost_joint (Single g) Pass n e = cc
-  lost_joint (Single g) Damage n e = omega (arith, n)
-  lost_joint (Single g) Lose n e = omega (arith, n)
-  lost_joint (Single g) Break n e = omega (arith, n)
-  lost_joint (Clashing g) Pass n e = cc
-  lost_joint (Clashing g) Damage n e = omega (arith, n)
-  lost_joint (Clashing g) Lose n e = omega (arith, n)
-  lost_joint (Clashing g) Break n e = omega (arith, n)
-
-  lost_fates : (w : World L) (f : Signal) (x y : Fate) → noise (turn_events (mute_air m) w f x y) ≡ 0 → turn_heard (mute_air m) w f x y ≡ None → ⊥
-  lost_fates w f Pass y n e = lost_joint ((mute_air m).joint w f) y (omega (arith, n)) e
-  lost_fates w f Damage y n e = omega (arith, n)
-  lost_fates w f Lose y n e = omega (arith, n)
-  lost_fates w f Break y n e = omega (arith, n)
-
   -- the events of a turn
   abbrev pub events_of : Air L → Signal → List Event
   events_of a f = turn_events (mute_air m) (moment a).world f (first_fate a.fates) (first_fate (later_fates a.fates))
 
   pub turn_trace : (old new : Air L) (f : Signal) (h : Option Heard) → TurnsTo (mute_air m) (moment old) (moment new) f h → new.trace ≡ old.trace ++ events_of old f
   turn_trace old new f h t = let M : Moment (World L) → List Event = λ x. x.trace in ap M t.moment
-
-  pub lost_noise : (old new : Air L) (f : Signal) → TurnsTo (mute_air m) (moment old) (moment new) f None → noise (events_of old f) ≡ 0 → ⊥
-  lost_noise old new f t n = lost_fates (moment old).world f (first_fate old.fates) (first_fate (later_fates old.fates)) n (sym t.heard)
-
-  pub quiet_world : (old new : Air L) (f : Signal) (h : Heard) → TurnsTo (mute_air m) (moment old) (moment new) f (Some h) → noise (events_of old f) ≡ 0
-      → (new.listeners ≡ map (λ l. stepped_by (muted m) l f None) old.listeners) × (h ≡ heard_of (joint (filter_map (λ l. answered_by (muted m) l f None) old.listeners)))
-  quiet_world old new f h t n =
-      let q = by_fates (moment old).world f (first_fate old.fates) (first_fate (later_fates old.fates)) h n t.heard in
-      let M : Moment (World L) → List L = λ x. x.world.listeners in
-      (ap M t.moment ∙ ap (λ (w : World L). w.listeners) q.0, q.1)
 
   module _ {identifier : L → List ℕ} (ours : AreOurs m identifier) (f : Signal) (request : f.tech ≡ A) where
     abbrev pub step : L → L
@@ -176,11 +119,3 @@ module _ {L : Type 0} (m : Machine L) where
           ap (λ o. cons_option o (cards ours (map step ls))) one.0 ∙ ap (cons_option (mapped (card_next (call_of f)) (card_if ours l))) rest.0 ∙ cons_mapped (card_next (call_of f)) (card_if ours l) (cards ours ls),
           ap (λ o. cons_option o (filter_map says ls)) one.1 ∙ ap (cons_option (said_by (card_says (call_of f)) (card_if ours l))) rest.1 ∙ cons_said (card_says (call_of f)) (card_if ours l) (cards ours ls),
         )
-
-    -- the cards behind a turn without noise, and what was heard
-    pub quiet_cards : (old new : Air L) (h : Heard) → TurnsTo (mute_air m) (moment old) (moment new) f (Some h) → noise (events_of old f) ≡ 0 → Each (λ c. is_active c.front ≡ false) (cards ours old.listeners)
-        → (cards ours new.listeners ≡ map (card_next (call_of f)) (cards ours old.listeners)) × (h ≡ hears (call_of f) (cards ours old.listeners))
-    quiet_cards old new h t n i =
-        let w = quiet_world old new f h t n in
-        let s = cards_step old.listeners i in
-        (ap (cards ours) w.0 ∙ s.0, w.1 ∙ ap (λ x. heard_of (joint x)) s.1)

@@ -14,7 +14,7 @@ use Rattle.nfca_poll.specs.declared.fault.PollFault.TheVariants.{Nobody, Disturb
 use Rattle.nfca_poll.specs.declared.seeking.Seeking.{Seeking}
 use Rattle.nfca_poll.specs.declared.seeking.Seeking.TheVariants as seeks
 use Rattle.nfca_poll.specs.Poll.{Seek, Ended, Outcome, seek_next}
-use Rattle.nfca_poll.specs.Muted.{mute_air, Asks}
+use Rattle.nfca_poll.specs.Muted.{mute_air, AskEnds}
 use Rattle.nfca_poll.specs.Enquiry.{Enquiry, Progress, Reaches, Loses, progress, due_of, enquiring, or_memory, answer_of, Enquires}
 use Rattle.nfca_poll.specs.Seeking.{seek_of, request_of, seek_ended, outcome}
 
@@ -71,7 +71,7 @@ module _ {S X : Type 0} (e : Enquiry S X) where
     pub reached_start : (a : Air L) → Reached a a e.start
     reached_start a = record { notes = []; going = going_start (mute_air m) (enquiring e) (moment a); at = refl }
 
-    pub reached_turn : (old now new : Air L) (s : S) (f : Signal) (h : Heard) → Reached old now s → e.next s ≡ air.Asks f → Asks m now f (Ok h) new → Reached old new (e.step s h)
+    pub reached_turn : (old now new : Air L) (s : S) (f : Signal) (h : Heard) → Reached old now s → e.next s ≡ air.Asks f → AskEnds m now f (Ok h) new → Reached old new (e.step s h)
     reached_turn old now new s f h r due t = record {
       notes = r.notes ++ Got h ∷ [];
       going = going_turn (mute_air m) (enquiring e) (moment old) (moment now) (moment new) f (Some h) r.notes r.going (ap (due_of e) r.at ∙ due) t.0;
@@ -91,7 +91,7 @@ module _ {S X : Type 0} (e : Enquiry S X) where
         record { notes = r.notes; going = subst G (sym same) r.going; comes = sym (ap (answer_of e) r.at ∙ ap or_memory more) }
 
     -- a turn that came to nothing ends the enquiry
-    pub enquires_err : (old now new : Air L) (s : S) (f : Signal) (fault : PollFault) → Reached old now s → e.next s ≡ air.Asks f → e.ended s ≡ None → Asks m now f (Err fault) new
+    pub enquires_err : (old now new : Air L) (s : S) (f : Signal) (fault : PollFault) → Reached old now s → e.next s ≡ air.Asks f → e.ended s ≡ None → AskEnds m now f (Err fault) new
         → Enquires e m old (Err fault) new
     enquires_err old now new s f Nobody r due more t = absurd t
     enquires_err old now new s f Disturbed r due more t = absurd t

@@ -24,7 +24,7 @@ use Rattle.nfca_poll.specs.Levels.{bcc, cascades}
 use Rattle.nfca_poll.specs.Calls.{Sdd, call_frame, sel_cmd, sel_par, all_known, is_short, is_sdd, is_sel, is_sel_cmd, is_sdd_par, cmd_level, known_count}
 use Rattle.nfca_poll.specs.Poll.{Seek, Calling, Asking, Selecting, Ended, Found, Nobody, BadAnswer, seek_step, selected, goes_on, kind_of, has_bit, is_one_byte, level_bits, collision_bits}
 use Rattle.nfca_poll.specs.Seeking.{resolution, seek_of, request_of, levels_of}
-use Rattle.nfca_poll.specs.Muted.{mute_air, Asks}
+use Rattle.nfca_poll.specs.Muted.{mute_air, AskEnds}
 use Rattle.nfca_poll.specs.Counting.{requests_that, is_sens_req, is_sdd_req, is_sel_req, AsksFew}
 use Rattle.nfca_poll.proofs.KnownPacks.{two_bytes}
 use Rattle.nfca_poll.proofs.Enquiring.{Reached}
@@ -333,7 +333,7 @@ module _ {L : Type 0} (m : Machine L) where
       here : (p : Signal → Bool) (n : ℕ) → one_if (p (request_of q)) ≤ n → one_if (p f) ≤ n
       here p n i = let P : Signal → Type 0 = λ x. one_if (p x) ≤ n in subst P (sym e) i
 
-  pub counted_turn : (old now new : Air L) (q : Seeking) (f : Signal) (h : Heard) → Counted old now (seek_of q) → Reached resolution m old now (seek_of q) → f ≡ request_of q → Asks m now f (Ok h) new
+  pub counted_turn : (old now new : Air L) (q : Seeking) (f : Signal) (h : Heard) → Counted old now (seek_of q) → Reached resolution m old now (seek_of q) → f ≡ request_of q → AskEnds m now f (Ok h) new
       → Counted old new (seek_step (seek_of q) h)
   counted_turn old now new q f h k r e t = counted_by old now new q f (Some h) h k r e t.0
 
@@ -351,7 +351,7 @@ module _ {L : Type 0} (m : Machine L) where
     sel = λ k. omega (arith, none_asked (is_sel_req k) old);
   }
 
-  pub few_err : (old now new : Air L) (q : Seeking) (f : Signal) (fault : PollFault) → Counted old now (seek_of q) → Reached resolution m old now (seek_of q) → f ≡ request_of q → Asks m now f (Err fault) new
+  pub few_err : (old now new : Air L) (q : Seeking) (f : Signal) (fault : PollFault) → Counted old now (seek_of q) → Reached resolution m old now (seek_of q) → f ≡ request_of q → AskEnds m now f (Err fault) new
       → AsksFew (drop (length old.trace) new.trace)
   few_err old now new q f faults.Nobody k r e t = absurd t
   few_err old now new q f faults.Disturbed k r e t = absurd t

@@ -13,7 +13,8 @@ use Rattle.nfca_poll.specs.Crowd.{Card, Each, cards}
 use Rattle.nfca_poll.specs.Rounds.{is_same, Aim, Search, Begins, Seeks, Sends, Told, search_ended, searching, all_devices, device_of, finding, picking}
 use Rattle.nfca_poll.specs.AnyStart.{HaveOwnIdents}
 use Rattle.nfca_poll.specs.Polled.{ArePolled, AreTidy}
-use Rattle.nfca_poll.specs.RoundEnds.{told_of, crowd, FindEnds, LeavesActive, PickEnds, FindsCrowd, SelectsAlone}
+use Rattle.nfca_poll.specs.RoundEnds.{FindEnds, LeavesActive, PickEnds, FindsCrowd, SelectsAlone}
+use Rattle.nfca_poll.specs.Crowd.{told_of, crowd}
 use Rattle.nfca_poll.proofs.Clashes.{Has}
 use Rattle.nfca_poll.proofs.Eaches.{each_has}
 use Rattle.nfca_poll.proofs.HeardBits.{pointwise_same, pointwise_path}

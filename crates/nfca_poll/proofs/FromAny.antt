@@ -13,7 +13,8 @@ use Rattle.nfca_poll.specs.Calls.{Calls, Sens}
 use Rattle.nfca_poll.specs.Front.{Front, Off, Idle, Sleep, Ready, Active, home, front_next, is_active}
 use Rattle.nfca_poll.specs.Poll.{Seek, Calling, Asking, Selecting, Ended, Nobody, seek_step}
 use Rattle.nfca_poll.specs.Seeking.{outcome}
-use Rattle.nfca_poll.specs.Crowd.{Card, Each, ahead, crowd_bits, is_idle, IsFirst}
+use Rattle.nfca_poll.specs.Crowd.{Card, Each, ahead, crowd_bits, is_idle}
+use Rattle.nfca_poll.proofs.CrowdParts.{IsFirst}
 use Rattle.nfca_poll.specs.AnyStart.{HaveOwnIdents, Pairs, home_of, Keeps, IsAhead, IsWaiting, EndsFromAny}
 use Rattle.nfca_poll.proofs.Clashes.{wrong, wrong_back, Has}
 use Rattle.nfca_poll.proofs.Eaches.{each_map, none_in}

@@ -1,3 +1,4 @@
+pub mod CrowdParts
 pub mod OneLevel
 pub mod Calling
 pub mod Spans
@@ -13,6 +14,10 @@ pub mod EnquiryLaws
 pub mod Embedding
 pub mod RoundSteps
 pub mod EnquiryEnds
+pub mod TurnWalks
+pub mod TellingInventory
+pub mod TellingResolution
+pub mod TellingRounds
 pub mod RoundCalls
 pub mod CallEnds
 pub mod Inventories
@@ -25,7 +30,7 @@ pub mod Fitting
 pub mod Choosing
 pub mod Selects
 pub mod Crowding
-pub mod FirstPicked
+pub mod CardsAtRest
 pub mod NobodyIdle
 pub mod FewAsked
 pub mod LostField
@@ -41,6 +46,8 @@ pub mod Steady
 pub mod PolledTurns
 pub mod RoundParts
 pub mod CrowdOrder
+pub mod FirstIdle
+pub mod PlainPlaces
 pub mod Standing
 pub mod SoughtFrom
 pub mod PickedFrom

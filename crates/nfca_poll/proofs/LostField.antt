@@ -12,7 +12,7 @@ use Rattle.air_core.specs.Turn.{Air, moment}
 use Rattle.air_core.specs.Conversation.{Moment, TurnsTo, first_fate, later_fates, turn_events, turn_heard, joint_events, joint_back}
 use Rattle.nfca_poll.specs.declared.fault.PollFault.{PollFault}
 use Rattle.nfca_poll.specs.declared.fault.PollFault.TheVariants.{Nobody, Disturbed, FieldLost, Memory, NotFound, BadAnswer}
-use Rattle.nfca_poll.specs.Muted.{mute_air, Asks}
+use Rattle.nfca_poll.specs.Muted.{mute_air, AskEnds}
 use Rattle.nfca_poll.specs.Enquiry.{Enquiry, LosesByBreak}
 use Rattle.nfca_poll.specs.Poll as poll
 use Rattle.nfca_poll.specs.Poll.{Outcome}
@@ -63,7 +63,7 @@ module _ {L : Type 0} (m : Machine L) where
         let sum : breaks (drop (length old.trace) new.trace) ≡ breaks es + breaks ts = ap breaks left ∙ breaks-append es ts in
         omega (arith, some, sum)
 
-    pub lost_err : (old now new : Air L) (s : S) (f : Signal) (fault : PollFault) → Reached e m old now s → Asks m now f (Err fault) new → LosesByBreak {X = X} old (Err fault) new
+    pub lost_err : (old now new : Air L) (s : S) (f : Signal) (fault : PollFault) → Reached e m old now s → AskEnds m now f (Err fault) new → LosesByBreak {X = X} old (Err fault) new
     lost_err old now new s f Nobody r t q = absurd t
     lost_err old now new s f Disturbed r t q = absurd t
     lost_err old now new s f FieldLost r t q = inr (lost_breaks old now new s f r t)

@@ -16,7 +16,7 @@ use Rattle.air_core.specs.Turn.{Air, moment, after_event, brought, HearAll, Pass
 use Rattle.air_core.specs.declared.fault.AirFault.TheVariants.{FieldLost, Memory}
 use Rattle.air_core.proofs.Quiet.{quiet_always, quiet_turn, quiet_turns_to, endless_goes_on}
 use Rattle.nfca_poll.specs.declared.fault.PollFault.TheVariants as faults
-use Rattle.nfca_poll.specs.Muted.{mute_reply, muted, mute_air, Asks}
+use Rattle.nfca_poll.specs.Muted.{mute_reply, muted, mute_air, AskEnds}
 
 -- what a mute far end does
 abbrev pub restarts_mute : Mute → List ℕ → Mute → Type 0
@@ -31,7 +31,7 @@ stops_mute old payload new = ⊥
 mute_did : (u : FarUse) (old new : Mute) (reply : Option (List ℕ)) → FarDid restarts_mute steps_mute u old reply new → (new ≡ old) × (reply ≡ mute_reply u)
 mute_did Untouched old new reply d = d
 mute_did (Restarts general) old new reply d = d
-mute_did (Hands payload) old new reply d = (d.1.0, d.2 ∙ ap Some d.1.1)
+mute_did (Hands payload) old new reply d = (d.1.0, d.3 ∙ ap Some d.1.1)
 
 module _ {L : Type 0} (m : Machine L) where
   meets_muted : (f : Signal) (l : L) (far far' : Mute) (answer : Option Signal) (l' : L) (v : Bool) → hears m l f ≡ v
@@ -44,11 +44,9 @@ module _ {L : Type 0} (m : Machine L) where
 
   hear_muted : (f : Signal) (ls : List L) (far : Mute) (said : List Signal) (ls' : List L) (far' : Mute)
       → HearAll m restarts_mute steps_mute f ls far said ls' far' → HearAll (muted m) restarts_mute steps_mute f ls far said ls' far'
-  hear_muted f [] far said [] far' h = h
-  hear_muted f [] far said (l' ∷ ls') far' h = absurd h
-  hear_muted f (l ∷ ls) far said [] far' h = absurd h
-  hear_muted f (l ∷ ls) far said (l' ∷ ls') far' h =
-      (h.0, h.1, h.2, meets_muted f l far h.2 h.0 l' (hears m l f) refl h.3, hear_muted f ls h.2 h.1 ls' far' h.4, h.5)
+  hear_muted f [] far said ls' far' h = h
+  hear_muted f (l ∷ ls) far said ls' far' h =
+      (h.0, h.1, h.2, h.3, h.4, meets_muted f l far h.3 h.0 h.2 (hears m l f) refl h.5, hear_muted f ls h.3 h.1 h.4 far' h.6, h.7, h.8)
 
   brought_muted : (a : Air L) (j : Joint) (y : Fate) → brought m a j y ≡ brought (muted m) a j y
   brought_muted a Nothing y = refl
@@ -115,16 +113,16 @@ module _ {L : Type 0} (m : Machine L) where
   dark_lit a d l = cc
 
   pub ask_heard : (is_stuck : Mute → Bool) (old : Air L) (f : Signal) (far : Mute) (h : Heard) (new : Air L) (far' : Mute)
-      → Transmits m restarts_mute steps_mute stops_mute is_stuck old f far (Ok h) new far' → Asks m old f (Ok h) new
+      → Transmits m restarts_mute steps_mute stops_mute is_stuck old f far (Ok h) new far' → AskEnds m old f (Ok h) new
   ask_heard is_stuck old f far h new far' t = let q : TurnsTo (mute_air m) (moment old) (moment new) f (Some h) = turn_muted old f far (Some h) new far' t in (q, turn_lit old new f h q)
 
   pub ask_lost : (is_stuck : Mute → Bool) (old : Air L) (f : Signal) (far : Mute) (new : Air L) (far' : Mute) → old.lit ≡ true
-      → Transmits m restarts_mute steps_mute stops_mute is_stuck old f far (Err FieldLost) new far' → Asks m old f (Err faults.FieldLost) new
+      → Transmits m restarts_mute steps_mute stops_mute is_stuck old f far (Err FieldLost) new far' → AskEnds m old f (Err faults.FieldLost) new
   ask_lost is_stuck old f far new far' l (inl dark) = absurd (dark_lit old dark.0 l)
   ask_lost is_stuck old f far new far' l (inr t) = turn_muted old f far None new far' t
 
   pub ask_memory : (is_stuck : Mute → Bool) (old : Air L) (f : Signal) (far : Mute) (new : Air L) (far' : Mute)
-      → Transmits m restarts_mute steps_mute stops_mute is_stuck old f far (Err Memory) new far' → Asks m old f (Err faults.Memory) new
+      → Transmits m restarts_mute steps_mute stops_mute is_stuck old f far (Err Memory) new far' → AskEnds m old f (Err faults.Memory) new
   ask_memory is_stuck old f far new far' (lit, inl same) = same.0
   ask_memory is_stuck old f far new far' (lit, inr s) =
       absurd (endless_goes_on m restarts_mute steps_mute stops_mute is_stuck (λ a payload b e. e) f old.listeners far s.listeners far' s.some)

@@ -18,15 +18,16 @@ use Rattle.nfca_poll.specs.Calls.{Calls, Sens, call_of}
 use Rattle.nfca_poll.specs.Front.{Front, Off, Idle, Sleep, Ready, Active, is_active}
 use Rattle.nfca_poll.specs.Poll as poll
 use Rattle.nfca_poll.specs.Poll.{Seek, Calling, Asking, Selecting, Ended, Outcome, seek_step}
-use Rattle.nfca_poll.specs.Muted.{Asks}
+use Rattle.nfca_poll.specs.Muted.{AskEnds}
 use Rattle.nfca_poll.specs.Seeking.{seek_of, request_of, outcome}
-use Rattle.nfca_poll.specs.Crowd.{Card, Each, is_idle, is_rest, AreOurs, cards, EndsAlone, FindsNobody}
+use Rattle.nfca_poll.specs.Crowd.{Card, Each, is_idle, is_rest, AreOurs, cards}
+use Rattle.nfca_poll.proofs.CrowdParts.{EndsAlone, FindsNobody}
 use Rattle.nfca_poll.proofs.Clashes.{wrong, wrong_back, Has}
 use Rattle.nfca_poll.proofs.Eaches.{each_map, map_none, said_none}
 use Rattle.nfca_poll.proofs.HeardBits.{heard_of}
 use Rattle.nfca_poll.proofs.Fitting.{card_next, card_says}
 use Rattle.nfca_poll.proofs.Choosing.{hears}
-use Rattle.nfca_poll.proofs.FirstPicked.{rest_inactive, request_a}
+use Rattle.nfca_poll.proofs.CardsAtRest.{rest_inactive, request_a}
 use Rattle.nfca_poll.proofs.NoisyTurns.{TurnWas, passed, unheard, damaged, lost, turn_was}
 use Rattle.nfca_poll.proofs.Crowding.{events_of}
 
@@ -94,7 +95,7 @@ module _ {L : Type 0} (m : Machine L) (identifier' : L → List ℕ) where
   pub sleepers_start : (old : Air L) → Sleepers old old (Calling 0)
   sleepers_start old ours s = refl
 
-  pub sleepers_turn : (old now new : Air L) (q : Seeking) (f : Signal) (h : Heard) → Sleepers old now (seek_of q) → f ≡ request_of q → Asks m now f (Ok h) new → Sleepers old new (seek_step (seek_of q) h)
+  pub sleepers_turn : (old now new : Air L) (q : Seeking) (f : Signal) (h : Heard) → Sleepers old now (seek_of q) → f ≡ request_of q → AskEnds m now f (Ok h) new → Sleepers old new (seek_step (seek_of q) h)
   sleepers_turn old now new q f h waits e t ours s =
       let w : List Card = cards ours old.listeners in
       let k : Waits w (seek_of q) (cards ours now.listeners) = waits ours s in
@@ -110,7 +111,7 @@ module _ {L : Type 0} (m : Machine L) (identifier' : L → List ℕ) where
       let R : Result Picked PollFault → Type 0 = λ x. EndsAlone (cards ours old.listeners) x (cards ours new.listeners) in
       subst R (sym (end ∙ ap outcome k.0)) k.1
 
-  pub sleepers_err : (old now new : Air L) (f : Signal) (fault : PollFault) → Asks m now f (Err fault) new → (ours : AreOurs m identifier') → FindsNobody ours old (Err fault) new
+  pub sleepers_err : (old now new : Air L) (f : Signal) (fault : PollFault) → AskEnds m now f (Err fault) new → (ours : AreOurs m identifier') → FindsNobody ours old (Err fault) new
   sleepers_err old now new f Nobody t ours s = absurd t
   sleepers_err old now new f Disturbed t ours s = absurd t
   sleepers_err old now new f FieldLost t ours s = tt

@@ -5,7 +5,8 @@ use Rattle.nfca_poll.specs.Ident.{IsIdent}
 use Rattle.nfca_poll.specs.Levels.{levels}
 use Rattle.nfca_poll.specs.Front.{Front, Idle, Sleep, Active}
 use Rattle.nfca_poll.specs.Poll.{Ended, Outcome, Found}
-use Rattle.nfca_poll.specs.Crowd.{Card, Each, with_front, is_idle, is_rest, ahead, crowd_bits, IsFirst}
+use Rattle.nfca_poll.specs.Crowd.{Card, Each, with_front, is_idle, is_rest, ahead, crowd_bits}
+use Rattle.nfca_poll.proofs.CrowdParts.{IsFirst}
 use Rattle.nfca_poll.proofs.Eaches.{each_back}
 use Rattle.nfca_poll.proofs.CrowdOrder.{each_unmapped}
 use Rattle.nfca_poll.proofs.Standing.{part_of, cast, Shade, Shades, part_rests}

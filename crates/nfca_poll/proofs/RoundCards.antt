@@ -8,7 +8,7 @@ use Rattle.nfca_poll.specs.Levels.{levels}
 use Rattle.nfca_poll.specs.Calls.{Reading, Calls, Slp}
 use Rattle.nfca_poll.specs.Front.{Front, Off, Idle, Sleep, Ready, Active, front_next, is_active}
 use Rattle.nfca_poll.specs.Crowd.{Card, Each, with_front, is_idle, ahead, crowd_bits}
-use Rattle.nfca_poll.specs.RoundEnds.{told_of}
+use Rattle.nfca_poll.specs.Crowd.{told_of}
 use Rattle.nfca_poll.proofs.Clashes.{wrong, Has}
 use Rattle.nfca_poll.proofs.Eaches.{each_map, each_has, each_front, each_back, map_twice}
 use Rattle.nfca_poll.proofs.Fitting.{card_next}

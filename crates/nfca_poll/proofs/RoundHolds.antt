@@ -16,7 +16,8 @@ use Rattle.nfca_poll.specs.Rounds.{most_rounds, most_found, Aim, Search, Begins,
 use Rattle.nfca_poll.specs.RoundTrace.{rounds, is_noisy, last_four, AreNoisy, MissesEnd, Misses, GivesUp}
 use Rattle.nfca_poll.specs.AnyStart.{AreUnlinked, HaveOwnIdents}
 use Rattle.nfca_poll.specs.Polled.{ArePolled, AreTidy}
-use Rattle.nfca_poll.specs.RoundEnds.{told_of, crowd, LeavesActive}
+use Rattle.nfca_poll.specs.RoundEnds.{LeavesActive}
+use Rattle.nfca_poll.specs.Crowd.{told_of, crowd}
 use Rattle.nfca_poll.specs.RoundEnds as ends
 use Rattle.nfca_poll.proofs.Clashes.{wrong, Has}
 use Rattle.nfca_poll.proofs.Eaches.{each_has, has_middle}
@@ -31,7 +32,7 @@ use Rattle.nfca_poll.proofs.RoundCards.{FitsRound, picked_again, picked_sends, p
 -- How a call by rounds ends: it took a device, found nobody more, gave all rounds up, or found too many.
 pub data CallEnds {X : Type 0} (aim : Aim X) (w : List Card) (v : List Card) (es : List Event) : Result X PollFault → Type 0 where
   taken : (p : Picked) (x : X) → aim.takes p ≡ Some x → LeavesActive p.id p.kind w v → CallEnds aim w v es (Ok x)
-  nobody : (found : List Picked) → Each (λ p. aim.takes p ≡ None) found → ends.Begins found (crowd w) → (found ≡ crowd w) ⊎ Misses es → CallEnds aim w v es (aim.nobody found)
+  nobody : (found : List Picked) → Each (λ p. aim.takes p ≡ None) found → ends.IsFrontOf found (crowd w) → (found ≡ crowd w) ⊎ Misses es → CallEnds aim w v es (aim.nobody found)
   gave_up : GivesUp es → CallEnds aim w v es (Err faults.Disturbed)
   too_many : most_found < length w → CallEnds aim w v es (Err faults.BadAnswer)
 
@@ -243,7 +244,7 @@ module _ {L : Type 0} (m : Machine L) {identifier' : L → List ℕ} (polled : A
           fits = picked_sends (noise now) found start ls kind (cards_of a) r.fits k new;
         }
 
-    meets : aim.takes (told_of k.picked) ≡ None → Holds (met round found (told_of k.picked)) a es
+    meets : aim.takes (told_of k.picked) ≡ None → Holds (met aim next_round round found (told_of k.picked)) a es
     meets e = by_found (has_found found (told_of k.picked).id) refl
       where
         by_room : (Has (told_of k.picked) found → ⊥) → (v : Bool) → nat_lt (length found) most_found ≡ v
@@ -256,13 +257,13 @@ module _ {L : Type 0} (m : Machine L) {identifier' : L → List ℕ} (polled : A
         by_found true q = gives_round_up round found now a es c (twice q)
         by_found false q = by_room (once q) (nat_lt (length found) most_found) refl
 
-    pub lands_found : Holds (met_or_taken round found p (aim.takes p)) a es
+    pub lands_found : Holds (met_or_taken aim next_round round found p (aim.takes p)) a es
     lands_found = by_aim (aim.takes p) refl
       where
-        by_aim : (o : Option X) → aim.takes p ≡ o → Holds (met_or_taken round found p o) a es
+        by_aim : (o : Option X) → aim.takes p ≡ o → Holds (met_or_taken aim next_round round found p o) a es
         by_aim (Some x) q = takes x q
         by_aim None q =
-            let P : Picked → Type 0 = λ t. Holds (met round found t) a es in
+            let P : Picked → Type 0 = λ t. Holds (met aim next_round round found t) a es in
             let N : Picked → Type 0 = λ t. aim.takes t ≡ None in
             subst P (sym is_it) (meets (subst N is_it q))
 
@@ -295,7 +296,7 @@ module _ {L : Type 0} (m : Machine L) {identifier' : L → List ℕ} (polled : A
   found_nobody ls kind e = cc
 
   lands_end : (o : Outcome) (round : ℕ) (found : List Picked) (now : List Event) (a : World L) (es : List Event) (start : List Card) (ts : List Turn) → Rounds round found now a es → Resolves w found start ts now
-      → EndsWith start o (cards_of a) ts (noise now) → Holds (sought aim round found (Ended o)) a es
+      → EndsWith start o (cards_of a) ts (noise now) → Holds (sought aim next_round round found (Ended o)) a es
   lands_end Nobody round found now a es start ts c r (inl p) = absurd (no_found Nobody _ _ p.seeks.0)
   lands_end Nobody round found now a es start ts c r (inr (inl e)) = absurd (nobody_disturbed e.0)
   lands_end Nobody round found now a es start ts c r (inr (inr e)) = lands_nobody round found now a es start ts c r e.1
@@ -310,7 +311,7 @@ module _ {L : Type 0} (m : Machine L) {identifier' : L → List ℕ} (polled : A
   lands_end (Found ls kind) round found now a es start ts c r (inr (inr e)) = absurd (found_nobody ls kind e.0)
 
   pub lands : (s : Seek) (round : ℕ) (found : List Picked) (now : List Event) (a : World L) (es : List Event) (start : List Card) (ts : List Turn) → Rounds round found now a es → Resolves w found start ts now
-      → SoughtFrom start s (cards_of a) ts (noise now) → Holds (sought aim round found s) a es
+      → SoughtFrom start s (cards_of a) ts (noise now) → Holds (sought aim next_round round found s) a es
   lands (Calling n) round found now a es start ts c r q = record { now = now; common = c; start = start; ts = ts; resolves = r; sought = q }
   lands (Asking done known) round found now a es start ts c r q = record { now = now; common = c; start = start; ts = ts; resolves = r; sought = q }
   lands (Selecting done l) round found now a es start ts c r q = record { now = now; common = c; start = start; ts = ts; resolves = r; sought = q }

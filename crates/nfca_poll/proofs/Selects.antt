@@ -19,7 +19,8 @@ use Rattle.nfca_poll.specs.Calls.{Reading, call_of}
 use Rattle.nfca_poll.specs.Front.{Front, Off, Idle, Sleep, Ready, Active, more_levels, sel_res}
 use Rattle.nfca_poll.specs.Poll.{Seek, Asking, Selecting, Ended, Found, BadAnswer, seek_step, goes_on}
 use Rattle.nfca_poll.specs.Seeking.{levels_of, seek_of, request_of}
-use Rattle.nfca_poll.specs.Crowd.{Card, Each, with_front, is_idle, is_rest, IsFirst}
+use Rattle.nfca_poll.specs.Crowd.{Card, Each, with_front, is_idle, is_rest}
+use Rattle.nfca_poll.proofs.CrowdParts.{IsFirst}
 use Rattle.nfca_poll.proofs.Clashes.{wrong, and_both, and_make, Has}
 use Rattle.nfca_poll.proofs.Eaches.{each_map, each_with, each_has, each_front, each_back, has_middle, map_twice, map_none, IfSaid, said_map, said_each, said_has, said_none}
 use Rattle.nfca_poll.proofs.HeardBits.{heard_of, signal_self}

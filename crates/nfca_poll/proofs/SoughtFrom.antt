@@ -11,7 +11,8 @@ use Rattle.nfca_poll.specs.Levels.{levels}
 use Rattle.nfca_poll.specs.Calls.{Reading, Calls, Sens, Sdd, Sel, call_of, call_frame}
 use Rattle.nfca_poll.specs.Front.{Front, Off, Idle, Sleep, Ready, Active, sens_res}
 use Rattle.nfca_poll.specs.Poll.{Seek, Calling, Asking, Selecting, Ended, Outcome, Nobody, Disturbed, seek_step}
-use Rattle.nfca_poll.specs.Crowd.{Card, Each, is_idle, is_rest, IsFirst, AreDistinct}
+use Rattle.nfca_poll.specs.Crowd.{Card, Each, is_idle, is_rest, AreDistinct}
+use Rattle.nfca_poll.proofs.CrowdParts.{IsFirst}
 use Rattle.nfca_poll.proofs.Clashes.{wrong, wrong_back, Has}
 use Rattle.nfca_poll.proofs.Eaches.{each_map, each_has, has_middle, said_none, said_has}
 use Rattle.nfca_poll.proofs.HeardBits.{heard_of}

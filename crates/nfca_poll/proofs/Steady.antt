@@ -1,21 +1,22 @@
--- Inventories among NFC-V listeners that stay as they are.
-use Rattle.std.proofs.Common.{◌≡◌, ◌⊎◌, ℕ, ◌+◌, ◌≤◌, List, [], ◌∷◌, ◌++◌, length, drop, map, filter_map, Bool, true, false, if◌then◌else◌, inl, inr, refl, sym, ◌∙◌, ap, subst, append_assoc, arith, Option, Some, None}
+-- Inventories among NFC-V listeners that answer the same however often they are asked.
+use Rattle.std.proofs.Common.{◌≡◌, ◌⊎◌, ℕ, zero, suc, ◌+◌, ◌≤◌, List, [], ◌∷◌, ◌++◌, length, drop, map, filter_map, Bool, true, false, if◌then◌else◌, inl, inr, refl, sym, ◌∙◌, ap, subst, append_assoc, arith, Option, Some, None}
 use Rattle.std.specs.List.{cons_option}
 use Rattle.nfc_base.specs.declared.frame.Tech.{Tech}
 use Rattle.nfc_base.specs.declared.frame.Tech.TheVariants.{A, V}
 use Rattle.nfc_base.specs.declared.event.Event.{Event}
 use Rattle.nfc_base.specs.declared.event.Heard.{Heard}
-use Rattle.nfc_base.specs.declared.event.Heard.TheVariants.{Damaged, Silent}
+use Rattle.nfc_base.specs.declared.event.Heard.TheVariants.{Whole, Damaged, Silent}
+use Rattle.nfc_base.specs.Far.{Untouched}
 use Rattle.nfc_base.specs.Signal.{Signal}
 use Rattle.nfc_base.specs.Bits.{bits, of_bits}
 use Rattle.nfc_base.specs.Trace.{noise}
 use Rattle.air_core.specs.Joint.{Single, Clashing, joint, all_same, common_all, same_tech}
-use Rattle.air_core.specs.World.{Machine, World, stepped_by, answered_by}
+use Rattle.air_core.specs.World.{Machine, World, hears, hands_over, stepped_by, answered_by}
 use Rattle.air_core.specs.Turn.{Air, moment}
 use Rattle.air_core.specs.Conversation.{Moment, TurnsTo}
 use Rattle.nfca_poll.specs.Muted.{mute_reply, muted, mute_air}
 use Rattle.nfca_poll.specs.Enquiry.{Enquiry}
-use Rattle.nfca_poll.specs.Inventory.{IsSteady, NoneAnswers}
+use Rattle.nfca_poll.specs.Inventory.{heard_again, is_present, IsSteady, NoneAnswers, AnswersWell}
 use Rattle.nfca_poll.specs.Crowd.{Each}
 use Rattle.nfca_poll.proofs.Clashes.{Has}
 use Rattle.nfca_poll.proofs.Eaches.{none_in}
@@ -49,71 +50,128 @@ module _ {L : Type 0} (m : Machine L) (f : Signal) (request : f.tech ≡ V) wher
   abbrev pub answer_of : L → Option Signal
   answer_of l = answered_by m l f None
 
-  steady_one : (l : L) → IsSteady m f l → (step l ≡ l) × (says l ≡ answer_of l)
-  steady_one l s = by_tech (m.tech l) refl
-    where
-      by_tech : (t : Tech) → m.tech l ≡ t → (step l ≡ l) × (says l ≡ answer_of l)
-      by_tech A t =
-          let deaf : same_tech (m.tech l) f.tech ≡ false = ap (λ u. same_tech u f.tech) t ∙ ap (same_tech A) request in (
-            ap (λ v. if v then m.after l f (mute_reply (m.handed l f)) else l) deaf,
-            ap (λ v. if v then m.answer l f (mute_reply (m.handed l f)) else None) deaf ∙ sym (ap (λ v. if v then m.answer l f None else None) deaf),
-          )
-      by_tech V t =
-          let hears : same_tech (m.tech l) f.tech ≡ true = ap (λ u. same_tech u f.tech) t ∙ ap (same_tech V) request in
-          let q = s t in
-          let none : mute_reply (m.handed l f) ≡ None = ap mute_reply q.0 in (
-            ap (λ v. if v then m.after l f (mute_reply (m.handed l f)) else l) hears ∙ ap (m.after l f) none ∙ q.1,
-            ap (λ v. if v then m.answer l f (mute_reply (m.handed l f)) else None) hears ∙ ap (m.answer l f) none ∙ sym (ap (λ v. if v then m.answer l f None else None) hears),
-          )
+  abbrev again : ℕ → L → L
+  again n l = heard_again m f l n
 
-  steady_all : (ls : List L) → Each (IsSteady m f) ls → (map step ls ≡ ls) × (filter_map says ls ≡ filter_map answer_of ls)
-  steady_all [] s = (refl, refl)
-  steady_all (l ∷ ls) s =
-      let one = steady_one l s.0 in
-      let rest = steady_all ls s.1 in (
-        ap (λ x. x ∷ map step ls) one.0 ∙ ap (λ xs. l ∷ xs) rest.0,
-        ap (λ o. cons_option o (filter_map says ls)) one.1 ∙ ap (cons_option (answer_of l)) rest.1,
+  -- what hands nothing over does the same under a mute far end
+  mute_same : (l : L) (v : Bool) → hears m l f ≡ v → hands_over m l f ≡ Untouched → (step l ≡ stepped_by m l f None) × (says l ≡ answer_of l)
+  mute_same l true h u =
+      let none : mute_reply (m.handed l f) ≡ None = ap mute_reply (ap (λ v. if v then m.handed l f else Untouched) (sym h) ∙ u) in (
+        ap (λ v. if v then m.after l f (mute_reply (m.handed l f)) else l) h ∙ ap (m.after l f) none ∙ ap (λ v. if v then m.after l f None else l) (sym h),
+        ap (λ v. if v then m.answer l f (mute_reply (m.handed l f)) else None) h ∙ ap (m.answer l f) none ∙ ap (λ v. if v then m.answer l f None else None) (sym h),
+      )
+  mute_same l false h u = (
+    ap (λ v. if v then m.after l f (mute_reply (m.handed l f)) else l) h ∙ ap (λ v. if v then m.after l f None else l) (sym h),
+    ap (λ v. if v then m.answer l f (mute_reply (m.handed l f)) else None) h ∙ ap (λ v. if v then m.answer l f None else None) (sym h),
+  )
+
+  -- what doesn't hear it stays
+  deaf : (l : L) → hears m l f ≡ false → (n : ℕ) → again n l ≡ l
+  deaf l h zero = refl
+  deaf l h (suc n) = ap (λ x. stepped_by m x f None) (deaf l h n) ∙ ap (λ v. if v then m.after l f None else l) h
+
+  only_v : (t : Tech) → same_tech t V ≡ true → t ≡ V
+  only_v A e = absurd cc
+  only_v V e = refl
+
+  -- whether it hears it or not, a steady listener hands nothing over and answers the same
+  holds_still : (l : L) → IsSteady m f l → (n : ℕ) (v : Bool) → hears m l f ≡ v → (hands_over m (again n l) f ≡ Untouched) × (answer_of (again n l) ≡ answer_of l)
+  holds_still l s n true h = s (only_v (m.tech l) (ap (same_tech (m.tech l)) (sym request) ∙ h)) n
+  holds_still l s n false h = (ap (λ x. hands_over m x f) (deaf l h n) ∙ ap (λ v. if v then m.handed l f else Untouched) h, ap answer_of (deaf l h n))
+
+  steady_one : (l : L) → IsSteady m f l → (n : ℕ) → (step (again n l) ≡ again (suc n) l) × (says (again n l) ≡ answer_of l)
+  steady_one l s n =
+      let k = holds_still l s n (hears m l f) refl in
+      let q = mute_same (again n l) (hears m (again n l) f) refl k.0 in (q.0, q.1 ∙ k.1)
+
+  steady_all : (ls : List L) → Each (IsSteady m f) ls → (n : ℕ) → (map step (map (again n) ls) ≡ map (again (suc n)) ls) × (filter_map says (map (again n) ls) ≡ filter_map answer_of ls)
+  steady_all [] s n = (refl, refl)
+  steady_all (l ∷ ls) s n =
+      let one = steady_one l s.0 n in
+      let rest = steady_all ls s.1 n in (
+        ap (λ x. x ∷ map step (map (again n) ls)) one.0 ∙ ap (λ xs. again (suc n) l ∷ xs) rest.0,
+        ap (λ o. cons_option o (filter_map says (map (again n) ls))) one.1 ∙ ap (cons_option (answer_of l)) rest.1,
       )
 
+  all_zero : (ls : List L) → map (again 0) ls ≡ ls
+  all_zero [] = refl
+  all_zero (l ∷ ls) = ap (λ xs. l ∷ xs) (all_zero ls)
+
+  -- each has heard it so many times
+  abbrev pub Again : List L → List L → Type 0
+  Again ls ws = (j : ℕ) × (ws ≡ map (again j) ls)
+
+  heard_all : (ls ws : List L) → Each (IsSteady m f) ls → Again ls ws → (Again ls (map step ws)) × (filter_map says ws ≡ filter_map answer_of ls)
+  heard_all ls ws s (j, e) =
+      let all = steady_all ls s j in ((suc j, ap (map step) e ∙ all.0), ap (filter_map says) e ∙ all.1)
+
   -- a try that was in vain
-  one_vain : (gs : List Signal) (w v : World L) (h : Heard) (t n k : ℕ) (d e : Bool) → Each (IsSteady m f) w.listeners → filter_map answer_of w.listeners ≡ gs → WorldWas m w f v h t
-      → ((h ≡ Silent) × (e ≡ d)) ⊎ ((h ≡ Damaged) × (e ≡ true)) → Vain gs n d k → (v.listeners ≡ w.listeners) × Vain gs (n + 1) e (k + t)
-  one_vain gs w _ h _ n k d e s q passed i a =
-      let all = steady_all w.listeners s in (all.0, still gs i (ap (λ x. heard_of (joint x)) (all.1 ∙ q)) a)
+  one_vain : (gs : List Signal) (ls : List L) (w v : World L) (h : Heard) (t n k : ℕ) (d e : Bool) → Each (IsSteady m f) ls → Again ls w.listeners → filter_map answer_of ls ≡ gs → WorldWas m w f v h t
+      → ((h ≡ Silent) × (e ≡ d)) ⊎ ((h ≡ Damaged) × (e ≡ true)) → Vain gs n d k → Again ls v.listeners × Vain gs (n + 1) e (k + t)
+  one_vain gs ls w _ h _ n k d e s j q passed i a =
+      let all = heard_all ls w.listeners s j in (all.0, still gs i (ap (λ x. heard_of (joint x)) (all.1 ∙ q)) a)
     where
       still : (xs : List Signal) → ((h ≡ Silent) × (e ≡ d)) ⊎ ((h ≡ Damaged) × (e ≡ true)) → h ≡ heard_of (joint xs) → Vain xs n d k → Vain xs (n + 1) e (k + 0)
       still [] (inl j) z b = j.1 ∙ b
       still [] (inr j) z b = absurd cc
       still (g ∷ xs) (inl j) z b = absurd (heard_some g xs h z (inl j.0))
       still (g ∷ xs) (inr j) z b = absurd (heard_some g xs h z (inr j.0))
-  one_vain gs w _ _ _ n k d e s q unheard i a = (refl, more gs i a)
+  one_vain gs ls w _ _ _ n k d e s j q unheard i a = (j, more gs i a)
     where
       more : (xs : List Signal) → ((Silent ≡ Silent) × (e ≡ d)) ⊎ ((Silent ≡ Damaged) × (e ≡ true)) → Vain xs n d k → Vain xs (n + 1) e (k + 1)
       more [] (inl j) b = j.1 ∙ b
       more [] (inr j) b = absurd cc
       more (g ∷ xs) j b = omega (arith, b)
-  one_vain gs w _ _ _ n k d e s q (damaged g h) i a = let all = steady_all w.listeners s in (all.0, met gs (let H : List Signal → Type 0 = λ x. Has g x in subst H (all.1 ∙ q) h) a)
+  one_vain gs ls w _ _ _ n k d e s j q (damaged g h) i a = let all = heard_all ls w.listeners s j in (all.0, met gs (let H : List Signal → Type 0 = λ x. Has g x in subst H (all.1 ∙ q) h) a)
     where
       met : (xs : List Signal) → Has g xs → Vain xs n d k → Vain xs (n + 1) e (k + 1)
       met [] z b = absurd z
       met (x ∷ xs) z b = omega (arith, b)
-  one_vain gs w _ _ _ n k d e s q (lost g h) i a = let all = steady_all w.listeners s in (all.0, met gs (let H : List Signal → Type 0 = λ x. Has g x in subst H (all.1 ∙ q) h) a)
+  one_vain gs ls w _ _ _ n k d e s j q (lost g h) i a = let all = heard_all ls w.listeners s j in (all.0, met gs (let H : List Signal → Type 0 = λ x. Has g x in subst H (all.1 ∙ q) h) a)
     where
       met : (xs : List Signal) → Has g xs → Vain xs n d k → Vain xs (n + 1) e (k + 1)
       met [] z b = absurd z
       met (x ∷ xs) z b = omega (arith, b)
 
-  -- so many tries were in vain, and the listeners are as they were
+  -- a whole answer is one of theirs
+  joint_in : (g : Signal) (gs : List Signal) → Whole g ≡ heard_of (joint gs) → Has g gs
+  joint_in g [] e = absurd cc
+  joint_in g (x ∷ gs) e = by_same (all_same x gs) e
+    where
+      by_same : (v : Bool) → Whole g ≡ heard_of (if v then Single x else Clashing (of_bits x.tech (common_all (bits x) (map bits gs)))) → Has g (x ∷ gs)
+      by_same true q = inl (whole_same g x q)
+        where
+          whole_same : (a b : Signal) → Whole a ≡ Whole b → a ≡ b
+          whole_same a b z = cc
+      by_same false q = absurd cc
+
+  well_in : (g : Signal) (ls : List L) → Each (AnswersWell m f) ls → Has g (filter_map answer_of ls) → is_present g ≡ true
+  well_in g [] w h = absurd h
+  well_in g (l ∷ ls) w h = by_one (λ k. well_in g ls w.1 k) (answer_of l) refl h
+    where
+      by_one : (Has g (filter_map answer_of ls) → is_present g ≡ true) → (o : Option Signal) → answer_of l ≡ o → Has g (cons_option o (filter_map answer_of ls)) → is_present g ≡ true
+      by_one rest None q k = rest k
+      by_one rest (Some x) q (inl k) = w.0 g (q ∙ ap Some (sym k))
+      by_one rest (Some x) q (inr k) = rest k
+
+  well_was : (g : Signal) (ls : List L) (w v : World L) (h : Heard) (t : ℕ) → Each (IsSteady m f) ls → Again ls w.listeners → Each (AnswersWell m f) ls → WorldWas m w f v h t → h ≡ Whole g → is_present g ≡ true
+  well_was g ls w _ h _ s j well passed e =
+      let all = heard_all ls w.listeners s j in well_in g ls well (joint_in g (filter_map answer_of ls) (sym e ∙ ap (λ x. heard_of (joint x)) all.1))
+  well_was g ls w _ _ _ s j well unheard e = absurd cc
+  well_was g ls w _ _ _ s j well (damaged x h) e = absurd cc
+  well_was g ls w _ _ _ s j well (lost x h) e = absurd cc
+
+  -- so many tries were in vain, and the listeners have heard each that passed
   abbrev pub InVain : Air L → Air L → ℕ → Bool → Type 0
   InVain old now n d =
-      Each (IsSteady m f) old.listeners → (now.listeners ≡ old.listeners) × Vain (filter_map answer_of old.listeners) n d (noise (drop (length old.trace) now.trace))
+      Each (IsSteady m f) old.listeners → Again old.listeners now.listeners × Vain (filter_map answer_of old.listeners) n d (noise (drop (length old.trace) now.trace))
 
   start_vain : (gs : List Signal) (k : ℕ) → Vain gs 0 false k
   start_vain [] k = refl
   start_vain (g ∷ gs) k = omega arith
 
   pub vain_start : (old : Air L) → InVain old old 0 false
-  vain_start old s = (refl, start_vain (filter_map answer_of old.listeners) (noise (drop (length old.trace) old.trace)))
+  vain_start old s = ((0, sym (all_zero old.listeners)), start_vain (filter_map answer_of old.listeners) (noise (drop (length old.trace) old.trace)))
 
   module _ {S X : Type 0} (e : Enquiry S X) where
     noise_so_far : (old now new : Air L) (s : S) (h : Heard) → Reached e m old now s → TurnsTo (mute_air m) (moment now) (moment new) f (Some h)
@@ -132,12 +190,16 @@ module _ {L : Type 0} (m : Machine L) (f : Signal) (request : f.tech ≡ V) wher
         → ((h ≡ Silent) × (d' ≡ d)) ⊎ ((h ≡ Damaged) × (d' ≡ true)) → InVain old new (n + 1) d'
     vain_turn old now new st n d d' h vain r t i s =
         let k = vain s in
-        let E : List L → Type 0 = λ ls. Each (IsSteady m f) ls in
         let gs : List Signal = filter_map answer_of old.listeners in
-        let one = one_vain gs (moment now).world (moment new).world h (noise (events_of m now f)) n (noise (drop (length old.trace) now.trace)) d d' (subst E (sym k.0) s)
-        (ap (filter_map answer_of) k.0) (world_was m now new f h t) i k.1 in
+        let one = one_vain gs old.listeners (moment now).world (moment new).world h (noise (events_of m now f)) n (noise (drop (length old.trace) now.trace)) d d' s k.0 refl (world_was m now new f h t) i k.1 in
         let N : ℕ → Type 0 = λ x. Vain gs (n + 1) d' x in
-        (one.0 ∙ k.0, subst N (noise_so_far old now new st h r t) one.1)
+        (one.0, subst N (noise_so_far old now new st h r t) one.1)
+
+    -- where each answers well, so does what is heard whole
+    pub well_heard : (old now new : Air L) (n : ℕ) (d : Bool) (h : Heard) (g : Signal) → InVain old now n d → TurnsTo (mute_air m) (moment now) (moment new) f (Some h) → h ≡ Whole g
+        → Each (IsSteady m f) old.listeners → Each (AnswersWell m f) old.listeners → is_present g ≡ true
+    well_heard old now new n d h g vain t whole s well =
+        well_was g old.listeners (moment now).world (moment new).world h (noise (events_of m now f)) s (vain s).0 well (world_was m now new f h t) whole
 
   missed : (gs : List Signal) (ls : List L) (n k : ℕ) (d : Bool) → filter_map answer_of ls ≡ gs → Vain gs n d k → NoneAnswers m f ls ⊎ (n ≤ k)
   missed [] ls n k d e v = inl (none_in answer_of ls e)

@@ -22,9 +22,10 @@ use Rattle.nfca_poll.specs.Levels.{levels, bcc}
 use Rattle.nfca_poll.specs.Calls.{Reading, Calls, Sens, call_of}
 use Rattle.nfca_poll.specs.Front.{Front, Off, Idle, Sleep, Ready, Active, sens_res, is_active}
 use Rattle.nfca_poll.specs.Poll.{Seek, Calling, Asking, Selecting, Ended, Outcome, Nobody, Disturbed, BadAnswer, Found, seek_step, selected, goes_on, kind_of, has_bit, is_one_byte, level_bits, collision_bits}
-use Rattle.nfca_poll.specs.Muted.{mute_air, Asks}
+use Rattle.nfca_poll.specs.Muted.{mute_air, AskEnds}
 use Rattle.nfca_poll.specs.Seeking.{resolution, seek_of, request_of, outcome, levels_of}
-use Rattle.nfca_poll.specs.Crowd.{Card, Each, with_front, is_rest, IsFirst, AreOurs, cards, EndsThroughNoise, PicksThroughNoise}
+use Rattle.nfca_poll.specs.Crowd.{Card, Each, with_front, is_rest, AreOurs, cards}
+use Rattle.nfca_poll.proofs.CrowdParts.{IsFirst, EndsThroughNoise, PicksThroughNoise}
 use Rattle.nfca_poll.proofs.Clashes.{wrong, wrong_back, Has}
 use Rattle.nfca_poll.proofs.Eaches.{each_map, each_has, has_middle, map_same, map_twice, map_none, said_map, said_none, said_has}
 use Rattle.nfca_poll.proofs.HeardBits.{heard_of}
@@ -33,7 +34,7 @@ use Rattle.nfca_poll.proofs.Fitting.{card_next, card_says, card_at, asked_if}
 use Rattle.nfca_poll.proofs.Choosing.{hears, Seeks, IsCard, has_levels, heard_some, woken_by, calls_idle, some_levels}
 use Rattle.nfca_poll.proofs.Selects.{quiet_turn, identifier_of}
 use Rattle.nfca_poll.proofs.Crowding.{noise-append, drop-front, events_of, turn_trace}
-use Rattle.nfca_poll.proofs.FirstPicked.{request_a, none_active, each_mapped, at_inactive}
+use Rattle.nfca_poll.proofs.CardsAtRest.{request_a, none_active, each_mapped, at_inactive}
 use Rattle.nfca_poll.proofs.NoisyTurns.{TurnWas, passed, unheard, damaged, lost, turn_was}
 
 -- how it ends, by how much noise it met
@@ -228,7 +229,7 @@ module _ {L : Type 0} (m : Machine L) (identifier' : L → List ℕ) where
       let first : drop (length old.trace) now.trace ≡ es = ap (drop (length old.trace)) before ∙ drop-front old.trace es in
       ap (λ x. noise x + noise ts) first ∙ sym (ap noise left ∙ noise-append es ts)
 
-  pub holds_turn : (old now new : Air L) (q : Seeking) (f : Signal) (h : Heard) → Holds old now (seek_of q) → Reached resolution m old now (seek_of q) → f ≡ request_of q → Asks m now f (Ok h) new
+  pub holds_turn : (old now new : Air L) (q : Seeking) (f : Signal) (h : Heard) → Holds old now (seek_of q) → Reached resolution m old now (seek_of q) → f ≡ request_of q → AskEnds m now f (Ok h) new
       → Holds old new (seek_step (seek_of q) h)
   holds_turn old now new q f h holds r e t ours a c b start F =
       let k = holds ours a c b start F in
@@ -256,7 +257,7 @@ module _ {L : Type 0} (m : Machine L) (identifier' : L → List ℕ) where
       let R : Result Picked PollFault → Type 0 = λ x. EndsThroughNoise a c b x (cards ours new.listeners) n in
       subst R (sym end) (ends a c b o (cards ours new.listeners) n own k)
 
-  pub holds_err : (old now new : Air L) (f : Signal) (fault : PollFault) → Asks m now f (Err fault) new → (ours : AreOurs m identifier') → PicksThroughNoise ours old (Err fault) new
+  pub holds_err : (old now new : Air L) (f : Signal) (fault : PollFault) → AskEnds m now f (Err fault) new → (ours : AreOurs m identifier') → PicksThroughNoise ours old (Err fault) new
   holds_err old now new f faults.Nobody t ours a c b start F = absurd t
   holds_err old now new f faults.Disturbed t ours a c b start F = absurd t
   holds_err old now new f faults.FieldLost t ours a c b start F = tt

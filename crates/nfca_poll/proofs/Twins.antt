@@ -8,7 +8,8 @@ use Rattle.nfca_poll.specs.Ident.{IsIdent}
 use Rattle.nfca_poll.specs.Levels.{levels}
 use Rattle.nfca_poll.specs.Calls.{Reading, Calls, Other, Sens, All, Slp, Sdd, Sel}
 use Rattle.nfca_poll.specs.Front.{Front, Off, Idle, Sleep, Ready, Active, home, is_asked, is_taken, is_ready, is_active, front_next, front_says}
-use Rattle.nfca_poll.specs.Crowd.{Card, Each, with_front, is_idle, is_rest, IsFirst, AreDistinct}
+use Rattle.nfca_poll.specs.Crowd.{Card, Each, with_front, is_idle, is_rest, AreDistinct}
+use Rattle.nfca_poll.proofs.CrowdParts.{IsFirst}
 use Rattle.nfca_poll.specs.AnyStart.{Pairs, Keeps, home_of}
 use Rattle.nfca_poll.proofs.Clashes.{wrong, wrong_back, Has}
 use Rattle.nfca_poll.proofs.Fitting.{card_next, card_says, card_at, asked_if}

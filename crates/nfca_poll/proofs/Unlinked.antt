@@ -14,14 +14,14 @@ use Rattle.nfca_poll.specs.declared.seeking.Seeking.{Seeking}
 use Rattle.nfca_poll.specs.Calls.{Call, Calls, call_of}
 use Rattle.nfca_poll.specs.Front.{is_active}
 use Rattle.nfca_poll.specs.Poll.{Seek, Calling, Ended, Outcome, seek_step}
-use Rattle.nfca_poll.specs.Muted.{Asks, mute_reply}
+use Rattle.nfca_poll.specs.Muted.{AskEnds, mute_reply}
 use Rattle.nfca_poll.specs.Seeking.{resolution, seek_of, request_of, outcome}
 use Rattle.nfca_poll.specs.Crowd.{Card, Each, StepsByFront, AreOurs, cards}
 use Rattle.nfca_poll.specs.AnyStart.{HaveOwnIdents, EndsFromAny, LeavesAtCalls, AreUnlinked, PicksAlone}
 use Rattle.nfca_poll.proofs.Eaches.{each_map}
 use Rattle.nfca_poll.proofs.Enquiring.{Reached}
 use Rattle.nfca_poll.proofs.Crowding.{events_of, step, heard_by_it, not_heard}
-use Rattle.nfca_poll.proofs.FirstPicked.{request_a}
+use Rattle.nfca_poll.proofs.CardsAtRest.{request_a}
 use Rattle.nfca_poll.proofs.NoisyTurns.{WorldWas, passed, unheard, damaged, lost, world_was}
 use Rattle.nfca_poll.proofs.Moves.{YieldsAt}
 use Rattle.nfca_poll.proofs.FromAny.{IsAlone, Mixed}
@@ -73,7 +73,7 @@ module _ {L : Type 0} (m : Machine L) (identifier' : L → List ℕ) where
   pub frees_start : (old : Air L) → Frees old old (Calling 0)
   frees_start old ours unlinked leaves own u = (u, mixed_start m identifier' false ours old)
 
-  pub frees_turn : (old now new : Air L) (q : Seeking) (f : Signal) (h : Heard) → Frees old now (seek_of q) → Reached resolution m old now (seek_of q) → f ≡ request_of q → Asks m now f (Ok h) new
+  pub frees_turn : (old now new : Air L) (q : Seeking) (f : Signal) (h : Heard) → Frees old now (seek_of q) → Reached resolution m old now (seek_of q) → f ≡ request_of q → AskEnds m now f (Ok h) new
       → Frees old new (seek_step (seek_of q) h)
   frees_turn old now new q f h frees r e t ours unlinked leaves own u =
       let w : List Card = cards ours old.listeners in
@@ -96,7 +96,7 @@ module _ {L : Type 0} (m : Machine L) (identifier' : L → List ℕ) where
       let a : EndsFromAny w (outcome o) (cards ours new.listeners) n × (false ≡ false → IsAlone (outcome o) (cards ours new.listeners)) = subst P e k.1 in
       (inr k.0, (λ p i. a.1 refl p (sym end ∙ i)))
 
-  pub frees_err : (old now new : Air L) (q : Seeking) (f : Signal) (fault : PollFault) → Frees old now (seek_of q) → Asks m now f (Err fault) new → (ours : AreOurs m identifier') (unlinked : L → Bool) → LeavesAtCalls ours unlinked
+  pub frees_err : (old now new : Air L) (q : Seeking) (f : Signal) (fault : PollFault) → Frees old now (seek_of q) → AskEnds m now f (Err fault) new → (ours : AreOurs m identifier') (unlinked : L → Bool) → LeavesAtCalls ours unlinked
       → PicksAlone ours unlinked old (Err fault) new
   frees_err old now new q f faults.Nobody k t ours unlinked leaves own u = absurd t
   frees_err old now new q f faults.Disturbed k t ours unlinked leaves own u = absurd t

@@ -1,6 +1,6 @@
 -- The crowd: the NFC-A devices of a field as a reader can tell them apart, and their order (ISO/IEC 14443-3; the order
 -- is this project's own).
-use Rattle.std.specs.Prelude.{◌≡◌, ◌≢◌, ◌⊎◌, ℕ, ◌<◌, ◌≤◌, List, [], ◌∷◌, ◌++◌, length, drop, filter_map, Bool, true, false, if◌then◌else◌, Option, Some, None, Result, Ok, Err}
+use Rattle.std.specs.Prelude.{◌≡◌, ◌≢◌, ◌⊎◌, ℕ, ◌<◌, ◌≤◌, List, [], ◌∷◌, ◌++◌, length, drop, filter, map, filter_map, Bool, true, false, if◌then◌else◌, Option, Some, None, Result, Ok, Err}
 use Rattle.nfc_base.specs.declared.frame.Tech.TheVariants.{A}
 use Rattle.nfc_base.specs.Signal.{Signal}
 use Rattle.nfc_base.specs.Bits.{bits_of}
@@ -16,6 +16,7 @@ use Rattle.nfca_poll.specs.declared.fault.PollFault.TheVariants.{Nobody, Disturb
 use Rattle.nfca_poll.specs.Ident.{IsIdent}
 use Rattle.nfca_poll.specs.Levels.{levels}
 use Rattle.nfca_poll.specs.Calls.{call_of}
+use Rattle.nfca_poll.specs.Rounds.{is_same}
 use Rattle.nfca_poll.specs.Front.{Front, Off, Idle, Sleep, Ready, Active, front_says, front_next, is_active}
 
 abbrev pub Each : {X : Type 0} → (X → Type 0) → List X → Type 0
@@ -64,15 +65,6 @@ is_rest Sleep = true
 is_rest (Ready k starred) = false
 is_rest (Active starred) = false
 
--- m, between these others, is the first in crowd order of those that are idle. No other one has its identifier, and
--- none is ready or active.
-pub record IsFirst (a : List Card) (m : Card) (b : List Card) : Type 0 where
-  pub cards : Each (λ c. IsIdent c.id × (is_rest c.front ≡ true)) (a ++ m ∷ b)
-  pub idle : m.front ≡ Idle
-  pub first : Each (λ c. is_idle c.front ≡ true → ahead (crowd_bits m.id) (crowd_bits c.id) ≡ true) (a ++ m ∷ b)
-  pub distinct_before : Each (λ c. c.id ≢ m.id) a
-  pub distinct_after : Each (λ c. c.id ≢ m.id) b
-
 -- What an NFC-A listener of this project does at a frame, unless it is active: it hands nothing over, and its front
 -- steps by the table.
 pub record StepsByFront {L : Type 0} (m : Machine L) (identifier : L → List ℕ) (kind : L → Kind) (front : L → Front) (l : L) (f : Signal) : Type 0 where
@@ -100,44 +92,6 @@ module _ {L : Type 0} {m : Machine L} {identifier : L → List ℕ} (ours : AreO
   abbrev pub cards : List L → List Card
   cards ls = filter_map card_if ls
 
-  -- A call that met neither noise nor want of memory picked the first of the crowd that was idle, and left it active and
-  -- all others as they were.
-  abbrev pub PicksFirst : Air L → Result Picked PollFault → Air L → Type 0
-  PicksFirst old r new =
-      (a : List Card) (c : Card) (b : List Card) → cards old.listeners ≡ a ++ c ∷ b → IsFirst a c b → noise (drop (length old.trace) new.trace) ≡ 0
-      → (r ≡ Err Memory) ⊎ ((r ≡ Ok (record { id = c.id; kind = c.kind })) × (cards new.listeners ≡ a ++ with_front c (Active false) ∷ b))
-
--- How a resolution ends whose field has m as the first of its idle devices, between these others, by how many of its
--- transmissions had noise.
-abbrev pub EndsThroughNoise : List Card → Card → List Card → Result Picked PollFault → List Card → ℕ → Type 0
-EndsThroughNoise a m b (Ok p) v n = (p ≡ record { id = m.id; kind = m.kind }) × (v ≡ a ++ with_front m (Active false) ∷ b)
-EndsThroughNoise a m b (Err Nobody) v n = 2 ≤ n
-EndsThroughNoise a m b (Err Disturbed) v n = 0 < n
-EndsThroughNoise a m b (Err FieldLost) v n = Unit {0}
-EndsThroughNoise a m b (Err Memory) v n = Unit {0}
-EndsThroughNoise a m b (Err NotFound) v n = ⊥
-EndsThroughNoise a m b (Err BadAnswer) v n = ⊥
-
--- Whatever noise it meets, a resolution picks the first, or none.
-abbrev pub PicksThroughNoise : {L : Type 0} {m : Machine L} {identifier : L → List ℕ} → AreOurs m identifier → Air L → Result Picked PollFault → Air L → Type 0
-PicksThroughNoise ours old r new =
-    (a : List Card) (c : Card) (b : List Card) → cards ours old.listeners ≡ a ++ c ∷ b → IsFirst a c b
-    → EndsThroughNoise a c b r (cards ours new.listeners) (noise (drop (length old.trace) new.trace))
-
--- Where none was idle, ready or active, it finds nobody and leaves all as they were, whatever noise it meets.
-abbrev pub EndsAlone : List Card → Result Picked PollFault → List Card → Type 0
-EndsAlone w (Ok p) v = ⊥
-EndsAlone w (Err Nobody) v = v ≡ w
-EndsAlone w (Err Disturbed) v = ⊥
-EndsAlone w (Err FieldLost) v = Unit {0}
-EndsAlone w (Err Memory) v = Unit {0}
-EndsAlone w (Err NotFound) v = ⊥
-EndsAlone w (Err BadAnswer) v = ⊥
-
-abbrev pub FindsNobody : {L : Type 0} {m : Machine L} {identifier : L → List ℕ} → AreOurs m identifier → Air L → Result Picked PollFault → Air L → Type 0
-FindsNobody ours old r new =
-    Each (λ c. (is_rest c.front ≡ true) × (is_idle c.front ≡ false)) (cards ours old.listeners) → EndsAlone (cards ours old.listeners) r (cards ours new.listeners)
-
 -- no two of these have one identifier
 abbrev pub AreDistinct : List Card → Type 0
 AreDistinct [] = Unit {0}
@@ -148,13 +102,55 @@ pub record IsCrowd (w : List Card) : Type 0 where
   pub cards : Each (λ c. IsIdent c.id × (is_rest c.front ≡ true)) w
   pub distinct : AreDistinct w
 
--- Why a resolution over a crowd at rest picks none: it is disturbed only by noise, finds nobody only where none is idle or
--- two transmissions had noise, and hears no bad answer.
-abbrev pub HasCause : List Card → Result Picked PollFault → ℕ → Type 0
-HasCause w (Ok p) n = Unit {0}
-HasCause w (Err Nobody) n = Each (λ c. is_idle c.front ≡ false) w ⊎ (2 ≤ n)
-HasCause w (Err Disturbed) n = 0 < n
-HasCause w (Err FieldLost) n = Unit {0}
-HasCause w (Err Memory) n = Unit {0}
-HasCause w (Err NotFound) n = ⊥
-HasCause w (Err BadAnswer) n = ⊥
+-- what a reader can tell of a device
+abbrev pub told_of : Card → Picked
+told_of c = record { id = c.id; kind = c.kind }
+
+-- a device at its place in crowd order
+abbrev pub put_by : Picked → List Picked → List Picked
+put_by p [] = p ∷ []
+put_by p (q ∷ qs) = if ahead (crowd_bits p.id) (crowd_bits q.id) then p ∷ q ∷ qs else q ∷ put_by p qs
+
+-- the crowd: the devices in crowd order
+abbrev pub crowd : List Card → List Picked
+crowd [] = []
+crowd (c ∷ cs) = put_by (told_of c) (crowd cs)
+
+-- The first of the crowd of those that are idle, or nobody.
+abbrev pub first_of : List Picked → Result Picked PollFault
+first_of [] = Err Nobody
+first_of (p ∷ ps) = Ok p
+
+abbrev pub first_idle : List Card → Result Picked PollFault
+first_idle w = first_of (crowd (filter (λ c. is_idle c.front) w))
+
+-- the devices once this one is active, all others being as they were
+abbrev pub with_active : List ℕ → List Card → List Card
+with_active id w = map (λ c. if is_same c.id id then with_front c (Active false) else c) w
+
+abbrev pub left_by : Result Picked PollFault → List Card → List Card
+left_by (Ok p) w = with_active p.id w
+left_by (Err f) w = w
+
+-- How a resolution ends among devices at rest, which are v afterwards, by how many of its transmissions had noise: it picks the
+-- first that is idle, and nobody where none is; it misses that one only by noise, and it hears no bad answer.
+abbrev pub EndsByFirst : List Card → Result Picked PollFault → List Card → ℕ → Type 0
+EndsByFirst w (Ok p) v n = (first_idle w ≡ Ok p) × (v ≡ with_active p.id w)
+EndsByFirst w (Err Nobody) v n = ((first_idle w ≡ Err Nobody) × (v ≡ w)) ⊎ (2 ≤ n)
+EndsByFirst w (Err Disturbed) v n = (first_idle w ≢ Err Nobody) × (0 < n)
+EndsByFirst w (Err FieldLost) v n = Unit {0}
+EndsByFirst w (Err Memory) v n = Unit {0}
+EndsByFirst w (Err NotFound) v n = ⊥
+EndsByFirst w (Err BadAnswer) v n = ⊥
+
+module _ {L : Type 0} {m : Machine L} {identifier : L → List ℕ} (ours : AreOurs m identifier) where
+  -- Where no noise was met and memory wasn't wanting, the first that was idle is picked, or nobody is there.
+  abbrev pub PicksFirst : Air L → Result Picked PollFault → Air L → Type 0
+  PicksFirst old r new =
+      IsCrowd (cards ours old.listeners) → noise (drop (length old.trace) new.trace) ≡ 0
+      → (r ≡ Err Memory) ⊎ ((r ≡ first_idle (cards ours old.listeners)) × (cards ours new.listeners ≡ left_by r (cards ours old.listeners)))
+
+  -- whatever noise it meets
+  abbrev pub PicksFromRest : Air L → Result Picked PollFault → Air L → Type 0
+  PicksFromRest old r new =
+      IsCrowd (cards ours old.listeners) → EndsByFirst (cards ours old.listeners) r (cards ours new.listeners) (noise (drop (length old.trace) new.trace))

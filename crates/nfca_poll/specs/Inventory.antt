@@ -1,13 +1,13 @@
 -- Finding NFC-V devices: inventory of one slot (NFC Forum Digital Protocol; ISO/IEC 15693-3). Four tries are this
 -- project's own.
-use Rattle.std.specs.Prelude.{◌≡◌, ◌⊎◌, ◌≤◌, ℕ, ◌+◌, List, [], ◌∷◌, length, drop, reverse, Bool, true, false, ◌==◌, ◌&&◌, nat_lt, if◌then◌else◌, Option, Some, None, Result, Ok, Err}
+use Rattle.std.specs.Prelude.{◌≡◌, ◌⊎◌, ◌≤◌, ℕ, zero, suc, ◌+◌, List, [], ◌∷◌, length, drop, reverse, Bool, true, false, ◌==◌, ◌&&◌, nat_lt, if◌then◌else◌, Option, Some, None, Result, Ok, Err}
 use Rattle.nfc_base.specs.Signal.{Signal, whole_v}
 use Rattle.nfc_base.specs.declared.event.Heard.{Heard}
 use Rattle.nfc_base.specs.declared.event.Heard.TheVariants.{Whole, Collided, Damaged, Silent}
 use Rattle.nfc_base.specs.declared.frame.Tech.TheVariants.{V}
 use Rattle.nfc_base.specs.Far.{Untouched}
 use Rattle.nfc_base.specs.Trace.{noise}
-use Rattle.air_core.specs.World.{Machine, answered_by}
+use Rattle.air_core.specs.World.{Machine, hands_over, answered_by, stepped_by}
 use Rattle.air_core.specs.Turn.{Air}
 use Rattle.air_core.specs.Conversation.{Next, Over, Asks}
 use Rattle.nfca_poll.specs.Crowd.{Each}
@@ -75,25 +75,43 @@ inventory = record { start = Tries 0 false; light = λ s. s; step = one_step; ne
 abbrev pub picking_v : List ℕ → Enquiry (Inventory (Unit {0})) (Unit {0})
 picking_v id = record { start = Tries 0 false; light = λ s. s; step = pick_step; next = asks_for (inventory_of id); ended = pick_ended }
 
--- An NFC-V listener that hands nothing over at this request, and stays as it is.
+-- a listener that has heard a frame so many times in a row, where no far end replies
+abbrev pub heard_again : {L : Type 0} → Machine L → Signal → L → ℕ → L
+heard_again m f l zero = l
+heard_again m f l (suc n) = stepped_by m (heard_again m f l n) f None
+
+-- An NFC-V listener that hands nothing over at this request, and answers the same however often it hears it in a row.
 abbrev pub IsSteady : {L : Type 0} → Machine L → Signal → L → Type 0
-IsSteady m f l = m.tech l ≡ V → (m.handed l f ≡ Untouched) × (m.after l f None ≡ l)
+IsSteady m f l =
+    m.tech l ≡ V → (n : ℕ) → (hands_over m (heard_again m f l n) f ≡ Untouched) × (answered_by m (heard_again m f l n) f None ≡ answered_by m l f None)
 
 -- nobody answers this request
 abbrev pub NoneAnswers : {L : Type 0} → Machine L → Signal → List L → Type 0
 NoneAnswers m f ls = Each (λ l. answered_by m l f None ≡ None) ls
 
+-- a listener whose answer to this request, if it gives one, has ten bytes
+abbrev pub AnswersWell : {L : Type 0} → Machine L → Signal → L → Type 0
+AnswersWell m f l = (g : Signal) → answered_by m l f None ≡ Some g → is_present g ≡ true
+
 -- What was sought isn't there, or each of the tries met noise.
 abbrev pub IsMissed : {L : Type 0} → Machine L → Signal → Air L → Air L → Type 0
 IsMissed m f old new = NoneAnswers m f old.listeners ⊎ (tries ≤ noise (drop (length old.trace) new.trace))
 
--- Where the NFC-V listeners are steady, inventory of one is disturbed only where each of its tries met noise, and finds
--- nobody only where nobody answers or each did.
-abbrev pub HasCauseV : {L : Type 0} → Machine L → Air L → Result Vcrowd PollFault → Air L → Type 0
-HasCauseV m old r new =
-    Each (IsSteady m inventory_all) old.listeners
-    → (r ≡ Err faults.Disturbed → tries ≤ noise (drop (length old.trace) new.trace)) × (r ≡ Ok Nobody → IsMissed m inventory_all old new)
+-- Why an inventory over steady listeners tells something else than one device or several: it is disturbed only where each of
+-- its tries met noise, finds nobody only where nobody answers or each did, and meets no bad answer where each answers well.
+pub record HasCauseV {L : Type 0} (m : Machine L) (old : Air L) (r : Result Vcrowd PollFault) (new : Air L) : Type 0 where
+  pub disturbed : r ≡ Err faults.Disturbed → tries ≤ noise (drop (length old.trace) new.trace)
+  pub nobody : r ≡ Ok Nobody → IsMissed m inventory_all old new
+  pub bad : r ≡ Err faults.BadAnswer → Each (AnswersWell m inventory_all) old.listeners → ⊥
 
--- Selection by an identifier finds nothing only where nobody answers, or each of its tries met noise.
-abbrev pub MissesV : {L : Type 0} → Machine L → List ℕ → Air L → Result (Unit {0}) PollFault → Air L → Type 0
-MissesV m id old r new = Each (IsSteady m (inventory_of id)) old.listeners → r ≡ Err faults.NotFound → IsMissed m (inventory_of id) old new
+-- Selection by an identifier finds nothing only where nobody answers, or each of its tries met noise; and it meets no bad answer.
+pub record MissesV {L : Type 0} (m : Machine L) (id : List ℕ) (old : Air L) (r : Result (Unit {0}) PollFault) (new : Air L) : Type 0 where
+  pub not_found : r ≡ Err faults.NotFound → IsMissed m (inventory_of id) old new
+  pub bad : r ≡ Err faults.BadAnswer → Each (AnswersWell m (inventory_of id)) old.listeners → ⊥
+
+-- What each call tells in a lit field, over steady listeners.
+abbrev pub TellsWhy : {L : Type 0} → Machine L → Air L → Result Vcrowd PollFault → Air L → Type 0
+TellsWhy m old r new = old.lit ≡ true → Each (IsSteady m inventory_all) old.listeners → HasCauseV m old r new
+
+abbrev pub TellsMiss : {L : Type 0} → Machine L → List ℕ → Air L → Result (Unit {0}) PollFault → Air L → Type 0
+TellsMiss m id old r new = old.lit ≡ true → Each (IsSteady m (inventory_of id)) old.listeners → MissesV m id old r new

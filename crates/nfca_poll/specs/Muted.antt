@@ -31,11 +31,11 @@ module _ {L : Type 0} (m : Machine L) where
   mute_air = quiet_air muted
 
 -- What a turn in a lit field answers then. Where memory is wanting, nothing happens.
-abbrev pub Asks : {L : Type 0} → Machine L → Air L → Signal → Result Heard PollFault → Air L → Type 0
-Asks m old f (Ok h) new = TurnsTo (mute_air m) (moment old) (moment new) f (Some h) × (new.lit ≡ true)
-Asks m old f (Err Nobody) new = ⊥
-Asks m old f (Err Disturbed) new = ⊥
-Asks m old f (Err FieldLost) new = TurnsTo (mute_air m) (moment old) (moment new) f None
-Asks m old f (Err Memory) new = new ≡ old
-Asks m old f (Err NotFound) new = ⊥
-Asks m old f (Err BadAnswer) new = ⊥
+abbrev pub AskEnds : {L : Type 0} → Machine L → Air L → Signal → Result Heard PollFault → Air L → Type 0
+AskEnds m old f (Ok h) new = TurnsTo (mute_air m) (moment old) (moment new) f (Some h) × (new.lit ≡ true)
+AskEnds m old f (Err Nobody) new = ⊥
+AskEnds m old f (Err Disturbed) new = ⊥
+AskEnds m old f (Err FieldLost) new = TurnsTo (mute_air m) (moment old) (moment new) f None
+AskEnds m old f (Err Memory) new = new ≡ old
+AskEnds m old f (Err NotFound) new = ⊥
+AskEnds m old f (Err BadAnswer) new = ⊥

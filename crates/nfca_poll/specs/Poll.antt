@@ -33,10 +33,13 @@ level_bits = 40
 abbrev pub collision_bits : ℕ
 collision_bits = 32
 
--- a whole answer completes the level, whose check byte is right
+-- so many bits, of which the last eight are the check byte of the others
+abbrev pub is_level : List Bool → Bool
+is_level known = (length known == level_bits) && (slice_index (packed known) 4 == bcc (packed known))
+
+-- a whole answer completes the level
 abbrev pub completed : List (List ℕ) → List Bool → Seek
-completed done known =
-    if (length known == level_bits) && (slice_index (packed known) 4 == bcc (packed known)) then Selecting done (packed known) else Ended BadAnswer
+completed done known = if is_level known then Selecting done (packed known) else Ended BadAnswer
 
 -- at a collision one bit 1 is known more than the common bits
 abbrev pub narrowed : List (List ℕ) → List Bool → Seek

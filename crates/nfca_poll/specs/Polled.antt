@@ -6,7 +6,7 @@ use Rattle.air_core.specs.World.{Machine}
 use Rattle.nfca_poll.specs.declared.kind.Kind.{Kind}
 use Rattle.nfca_poll.specs.Front.{Front, Idle, is_active}
 use Rattle.nfca_poll.specs.Crowd.{Each, AreOurs}
-use Rattle.nfca_poll.specs.AnyStart.{LeavesAtCalls}
+use Rattle.nfca_poll.specs.AnyStart.{YieldsToCalls, LeavesAtCalls}
 
 -- a reset makes a listener idle and takes its link, and changes nothing else of it that polling can tell
 pub record WakesIdle {L : Type 0} (m : Machine L) (identifier : L → List ℕ) (kind : L → Kind) (front : L → Front) (unlinked : L → Bool) (l : L) : Type 0 where
@@ -19,10 +19,11 @@ pub record WakesIdle {L : Type 0} (m : Machine L) (identifier : L → List ℕ) 
 abbrev pub IsTidy : {L : Type 0} → (L → Front) → (L → Bool) → L → Type 0
 IsTidy front unlinked l = (is_active (front l) ≡ true) ⊎ (unlinked l ≡ true)
 
--- The NFC-A listeners, of which those without a link have a mark: such a one steps by its front at each call, and a reset
--- wakes a tidy one.
+-- Listeners of this project under polling. At each call an active one leaves the state Active or stays in it. Those without a
+-- link have a mark: such a one steps by its front at each call, and a reset wakes a tidy one.
 pub record ArePolled {L : Type 0} (m : Machine L) (identifier : L → List ℕ) : Type 0 where
   pub ours : AreOurs m identifier
+  pub yields : YieldsToCalls ours
   pub unlinked : L → Bool
   pub leaves : LeavesAtCalls ours unlinked
   pub same_tech : (l : L) → m.tech (m.woken (m.darkened l)) ≡ m.tech l

@@ -1,6 +1,6 @@
 -- How polling by rounds ends over this project's listeners, whatever noise it meets (ISO/IEC 14443-3; the crowd's order,
 -- rounds and their number are this project's own).
-use Rattle.std.specs.Prelude.{◌≡◌, ◌≢◌, ◌⊎◌, ℕ, ◌<◌, List, [], ◌∷◌, ◌++◌, map, drop, length, true, false, if◌then◌else◌, Result, Ok, Err}
+use Rattle.std.specs.Prelude.{◌≡◌, ◌≢◌, ◌⊎◌, ℕ, ◌<◌, List, ◌∷◌, ◌++◌, map, drop, length, true, false, Result, Ok, Err}
 use Rattle.nfc_base.specs.declared.event.Event.{Event}
 use Rattle.air_core.specs.World.{Machine}
 use Rattle.air_core.specs.Turn.{Air}
@@ -9,34 +9,20 @@ use Rattle.nfca_poll.specs.declared.fault.Picked.{Picked}
 use Rattle.nfca_poll.specs.declared.fault.PollFault.{PollFault}
 use Rattle.nfca_poll.specs.declared.fault.PollFault.TheVariants.{Nobody, Disturbed, FieldLost, Memory, NotFound, BadAnswer}
 use Rattle.nfca_poll.specs.Front.{Active}
-use Rattle.nfca_poll.specs.Crowd.{Each, Card, crowd_bits, ahead, is_rest, cards}
+use Rattle.nfca_poll.specs.Crowd.{Each, Card, told_of, crowd, is_rest, cards}
 use Rattle.nfca_poll.specs.Rounds.{most_found}
 use Rattle.nfca_poll.specs.AnyStart.{HaveOwnIdents}
 use Rattle.nfca_poll.specs.Polled.{ArePolled, AreTidy}
 use Rattle.nfca_poll.specs.RoundTrace.{Misses, GivesUp}
 
--- what a reader can tell of a device
-abbrev pub told_of : Card → Picked
-told_of c = record { id = c.id; kind = c.kind }
-
--- a device at its place in crowd order
-abbrev pub put_by : Picked → List Picked → List Picked
-put_by p [] = p ∷ []
-put_by p (q ∷ qs) = if ahead (crowd_bits p.id) (crowd_bits q.id) then p ∷ q ∷ qs else q ∷ put_by p qs
-
--- the crowd: the devices in crowd order
-abbrev pub crowd : List Card → List Picked
-crowd [] = []
-crowd (c ∷ cs) = put_by (told_of c) (crowd cs)
-
 -- the first list begins the second
-abbrev pub Begins : List Picked → List Picked → Type 0
-Begins xs ys = (zs : List Picked) × (ys ≡ xs ++ zs)
+abbrev pub IsFrontOf : List Picked → List Picked → Type 0
+IsFrontOf xs ys = (zs : List Picked) × (ys ≡ xs ++ zs)
 
 -- How a search for all devices ends over these ones: it found the first of the crowd, and left others out only at a missed
 -- end; it was disturbed only where each of its rounds had noise; a bad answer is one device too many in a round.
 abbrev pub FindEnds : List Card → Result (List Picked) PollFault → List Event → Type 0
-FindEnds w (Ok found) es = Begins found (crowd w) × ((found ≡ crowd w) ⊎ Misses es)
+FindEnds w (Ok found) es = IsFrontOf found (crowd w) × ((found ≡ crowd w) ⊎ Misses es)
 FindEnds w (Err Nobody) es = ⊥
 FindEnds w (Err Disturbed) es = GivesUp es
 FindEnds w (Err FieldLost) es = Unit {0}

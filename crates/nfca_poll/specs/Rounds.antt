@@ -36,10 +36,6 @@ pub data Search (X : Type 0) : Type 0 where
   Sends : ℕ → List Picked → Search X
   Told : Result X PollFault → Search X
 
--- a round that is disturbed is given up; the last one ends the call
-abbrev pub next_round : {X : Type 0} → ℕ → Search X
-next_round round = if nat_lt round most_rounds then Begins (round + 1) else Told (Err faults.Disturbed)
-
 abbrev pub is_same : List ℕ → List ℕ → Bool
 is_same a b = pointwise nat_eq a b
 
@@ -47,38 +43,40 @@ is_same a b = pointwise nat_eq a b
 abbrev pub has_found : List Picked → List ℕ → Bool
 has_found found id = list_any (λ p. is_same p.id id) found
 
--- A device that isn't the one the call is after: where it was found before in this round, the round is disturbed; else it is
--- put to sleep.
-abbrev pub met : {X : Type 0} → ℕ → List Picked → Picked → Search X
-met round found p =
-    if has_found found p.id then next_round round
-    else if nat_lt (length found) most_found then Sends round (found ++ p ∷ [])
-    else Told (Err faults.BadAnswer)
+-- What a round does, for an aim and what becomes of a round that is disturbed.
+module _ {X : Type 0} (aim : Aim X) (given_up : ℕ → Search X) where
+  -- A device that isn't the one the call is after: where it was found before in this round, the round is disturbed; else it
+  -- is put to sleep.
+  abbrev pub met : ℕ → List Picked → Picked → Search X
+  met round found p =
+      if has_found found p.id then given_up round
+      else if nat_lt (length found) most_found then Sends round (found ++ p ∷ [])
+      else Told (Err faults.BadAnswer)
 
-abbrev pub met_or_taken : {X : Type 0} → ℕ → List Picked → Picked → Option X → Search X
-met_or_taken round found p (Some x) = Told (Ok x)
-met_or_taken round found p None = met round found p
+  abbrev pub met_or_taken : ℕ → List Picked → Picked → Option X → Search X
+  met_or_taken round found p (Some x) = Told (Ok x)
+  met_or_taken round found p None = met round found p
 
-module _ {X : Type 0} (aim : Aim X) where
   -- what a resolution has come to
   abbrev pub sought : ℕ → List Picked → Seek → Search X
   sought round found (Calling n) = Seeks round found (Calling n)
   sought round found (Asking done known) = Seeks round found (Asking done known)
   sought round found (Selecting done l) = Seeks round found (Selecting done l)
   sought round found (Ended Nobody) = Told (aim.nobody found)
-  sought round found (Ended Disturbed) = next_round round
+  sought round found (Ended Disturbed) = given_up round
   sought round found (Ended BadAnswer) = Told (Err faults.BadAnswer)
   sought round found (Ended (Found ls kind)) =
       let p : Picked = record { id = identifier ls; kind = kind } in
       met_or_taken round found p (aim.takes p)
 
-  -- A call goes on by what was heard. What is heard of SLP_REQ is ignored.
+  -- A round goes on by what was heard. What is heard of SLP_REQ is ignored.
   abbrev pub search_step : Search X → Heard → Search X
   search_step (Begins round) h = Begins round
   search_step (Seeks round found s) h = sought round found (seek_step s h)
   search_step (Sends round found) h = Seeks round found (Calling 0)
   search_step (Told r) h = Told r
 
+module _ {X : Type 0} (aim : Aim X) where
   -- a reset begins a round
   abbrev pub search_lit : Search X → Search X
   search_lit (Begins round) = Seeks round [] (Calling 0)
@@ -98,8 +96,21 @@ module _ {X : Type 0} (aim : Aim X) where
   search_ended (Sends round found) = None
   search_ended (Told r) = Some r
 
-  abbrev pub searching : Enquiry (Search X) X
-  searching = record { start = Begins 1; light = search_lit; step = search_step; next = search_next; ended = search_ended }
+  abbrev pub by_rounds : (ℕ → Search X) → Enquiry (Search X) X
+  by_rounds given_up = record {
+    start = Begins 1;
+    light = search_lit;
+    step = search_step aim given_up;
+    next = search_next;
+    ended = search_ended;
+  }
+
+-- A call by rounds: a round that is disturbed is given up, and the last one ends the call.
+abbrev pub next_round : {X : Type 0} → ℕ → Search X
+next_round round = if nat_lt round most_rounds then Begins (round + 1) else Told (Err faults.Disturbed)
+
+abbrev pub searching : {X : Type 0} → Aim X → Enquiry (Search X) X
+searching aim = by_rounds aim next_round
 
 -- all devices, in the order in which they are found
 abbrev pub all_devices : Aim (List Picked)

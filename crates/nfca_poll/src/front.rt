@@ -119,7 +119,7 @@ impl<U: Upper> Front<U> {
 impl<U: Upper> Listener for Front<U> {
     ghost use Rattle.nfca_poll.specs.Fronted.{fronts};
     ghost use Rattle.nfca_poll.specs.Front.{is_ready, is_active};
-    ghost use Rattle.nfca_poll.specs.FrontLaws.{step_keeps, light_keeps, dark_keeps, dark_rests, at_rest, ignores};
+    ghost use Rattle.nfca_poll.specs.FrontLaws.{bounded, own_tech, step_keeps, light_keeps, dark_keeps, light_selects, stays_selected, dark_rests, at_rest, ignores};
 
     ghost machine = { fronts U.machine };
 
@@ -130,6 +130,8 @@ impl<U: Upper> Listener for Front<U> {
     ghost is_ready = { λ d. is_ready d.front };
 
     ghost is_selected = { λ d. is_active d.front };
+
+    ghost commands = { λ d. U.commands d.upper };
 
     fn tech(&self) -> Tech {
         Tech::A
@@ -169,11 +171,19 @@ impl<U: Upper> Listener for Front<U> {
         }
     }
 
-    ghost step_keeps = { step_keeps U.machine };
+    ghost bounded = { bounded U.laws };
 
-    ghost light_keeps = { light_keeps U.machine U.store U.keeps };
+    ghost own_tech = { own_tech U.laws };
 
-    ghost dark_keeps = { dark_keeps U.machine U.store U.keeps };
+    ghost step_keeps = { step_keeps U.laws };
+
+    ghost light_keeps = { light_keeps U.laws };
+
+    ghost dark_keeps = { dark_keeps U.laws };
+
+    ghost light_selects = { light_selects U.machine };
+
+    ghost stays_selected = { stays_selected U.machine };
 
     ghost dark_rests = { dark_rests U.machine };
 

@@ -3,7 +3,8 @@
 ghost use Rattle.std.specs.Prelude.{◌≡◌, ◌↔◌, Bool, Err, IfSome, IsSome};
 ghost use Rattle.nfca_poll.specs.declared.fault.PollFault.TheVariants.{FieldLost};
 ghost use Rattle.nfca_poll.specs.Enquiry.{Enquires, LosesByBreak};
-ghost use Rattle.nfca_poll.specs.Inventory.{inventory_all, inventory_of, inventory, picking_v, is_present, answered_id, HasCauseV, MissesV};
+ghost use Rattle.nfca_poll.specs.Inventory.{inventory_all, inventory_of, inventory, picking_v, is_present, answered_id, TellsWhy, TellsMiss};
+ghost use Rattle.nfca_poll.specs.ByHeard.{turns_since, TellsInventory};
 
 use crate::fault::PollFault;
 use crate::requests::ask;
@@ -61,7 +62,8 @@ fn present_id(answer: &Frame) -> Option<[u8; 8]>
 pub fn inventory_one<L: Listener>(field: &mut Field<L>) -> Result<Vcrowd, PollFault>
     ensures dark { field.old.lit ≡ Bool.false → (result ≡ Err FieldLost) × (field.new ≡ field.old) }
     ensures lost { LosesByBreak field.old result field.new }
-    ensures cause { field.old.lit ≡ Bool.true → HasCauseV L.machine field.old result field.new }
+    ensures cause { TellsWhy L.machine field.old result field.new }
+    ensures told { field.old.lit ≡ Bool.true → TellsInventory (turns_since field.old field.new) result }
     ensures turns { field.old.lit ≡ Bool.true → Enquires inventory L.machine field.old result field.new }
 {
     if !field.is_lit() {
@@ -92,7 +94,7 @@ pub fn inventory_one<L: Listener>(field: &mut Field<L>) -> Result<Vcrowd, PollFa
 pub fn pick_v<L: Listener>(field: &mut Field<L>, id: [u8; 8]) -> Result<(), PollFault>
     ensures dark { field.old.lit ≡ Bool.false → (result ≡ Err FieldLost) × (field.new ≡ field.old) }
     ensures lost { LosesByBreak field.old result field.new }
-    ensures cause { field.old.lit ≡ Bool.true → MissesV L.machine id field.old result field.new }
+    ensures cause { TellsMiss L.machine id field.old result field.new }
     ensures turns { field.old.lit ≡ Bool.true → Enquires (picking_v id) L.machine field.old result field.new }
 {
     if !field.is_lit() {

@@ -2,7 +2,7 @@
 
 ghost use Rattle.std.specs.Prelude.{◌≡◌, ◌≤◌, true, length};
 ghost use Rattle.nfca_poll.specs.Calls.{Sens, Slp, Sdd, Sel, call_frame};
-ghost use Rattle.nfca_poll.specs.Muted.{Asks};
+ghost use Rattle.nfca_poll.specs.Muted.{AskEnds};
 
 use crate::fault::PollFault;
 use crate::known::KnownBits;
@@ -60,7 +60,7 @@ pub fn sel_req(level: u8, bytes: &Level) -> Frame
 /// One turn of a reader that polls. No far end stands above the listeners.
 pub fn ask<L: Listener>(field: &mut Field<L>, request: &Frame) -> Result<Heard, PollFault>
     requires { field.old.lit ≡ true }
-    ensures { Asks L.machine field.old request.now result field.new }
+    ensures { AskEnds L.machine field.old request.now result field.new }
 {
     match field.transmit(request, &mut Mute) {
         Ok(heard) => Ok(heard),

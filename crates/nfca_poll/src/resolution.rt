@@ -1,11 +1,10 @@
 //! One resolution: which device of a field is the first in crowd order, bit by bit.
 
 ghost use Rattle.std.specs.Prelude.{◌≡◌, ◌⊎◌, length, drop, Bool, Err};
-ghost use Rattle.nfc_base.specs.Trace.{noise};
-ghost use Rattle.nfca_poll.specs.Crowd.{AreOurs, IsCrowd, cards, PicksFirst, PicksThroughNoise, FindsNobody, HasCause};
-ghost use Rattle.nfca_poll.specs.AnyStart.{YieldsToCalls, PicksFromAny, LeavesAtCalls, PicksAlone};
+ghost use Rattle.nfca_poll.specs.Resolving.{ResolvesFirst, ResolvesFromRest, ResolvesFromAny, ResolvesAlone};
 ghost use Rattle.nfca_poll.specs.Enquiry.{Enquires, LosesByBreak};
 ghost use Rattle.nfca_poll.specs.Counting.{AsksFew};
+ghost use Rattle.nfca_poll.specs.ByHeard.{turns_since, TellsResolution};
 ghost use Rattle.nfca_poll.specs.Seeking.{resolution};
 ghost use Rattle.nfca_poll.specs.declared.fault.PollFault.TheVariants.{FieldLost};
 
@@ -23,12 +22,11 @@ pub fn resolve<L: Listener>(field: &mut Field<L>) -> Result<Picked, PollFault>
     ensures lit { (result ≡ Err FieldLost) ⊎ (field.new.lit ≡ Bool.true) }
     ensures few { AsksFew (drop (length field.old.trace) field.new.trace) }
     ensures lost { LosesByBreak field.old result field.new }
-    ensures first { field.old.lit ≡ Bool.true → (ours : AreOurs L.machine L.identifier) → PicksFirst ours field.old result field.new }
-    ensures noisy { field.old.lit ≡ Bool.true → (ours : AreOurs L.machine L.identifier) → PicksThroughNoise ours field.old result field.new }
-    ensures cause { field.old.lit ≡ Bool.true → (ours : AreOurs L.machine L.identifier) → IsCrowd (cards ours field.old.listeners) → HasCause (cards ours field.old.listeners) result (noise (drop (length field.old.trace) field.new.trace)) }
-    ensures nobody { field.old.lit ≡ Bool.true → (ours : AreOurs L.machine L.identifier) → FindsNobody ours field.old result field.new }
-    ensures any { field.old.lit ≡ Bool.true → (ours : AreOurs L.machine L.identifier) → YieldsToCalls ours → PicksFromAny ours field.old result field.new }
-    ensures alone { field.old.lit ≡ Bool.true → (ours : AreOurs L.machine L.identifier) (unlinked : L → Bool) → LeavesAtCalls ours unlinked → PicksAlone ours unlinked field.old result field.new }
+    ensures first { ResolvesFirst L.machine L.identifier field.old result field.new }
+    ensures crowd { ResolvesFromRest L.machine L.identifier field.old result field.new }
+    ensures any { ResolvesFromAny L.machine L.identifier field.old result field.new }
+    ensures alone { ResolvesAlone L.machine L.identifier field.old result field.new }
+    ensures told { field.old.lit ≡ Bool.true → TellsResolution (turns_since field.old field.new) result }
     ensures turns { field.old.lit ≡ Bool.true → Enquires resolution L.machine field.old result field.new }
 {
     if !field.is_lit() {

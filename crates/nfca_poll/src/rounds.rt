@@ -7,6 +7,7 @@ ghost use Rattle.nfca_poll.specs.Enquiry.{Enquires};
 ghost use Rattle.nfca_poll.specs.Rounds.{finding, picking, listed, has_found, most_rounds, LeavesLit};
 ghost use Rattle.nfca_poll.specs.OneRound.{one_round, is_wanted};
 ghost use Rattle.nfca_poll.specs.RoundTrace.{rounds};
+ghost use Rattle.nfca_poll.specs.ByHeard.{turns_since, TellsFound, TellsPicked};
 ghost use Rattle.nfca_poll.specs.RoundEnds.{FindsCrowd, SelectsAlone};
 ghost use Rattle.nfca_poll.specs.declared.fault.PollFault.TheVariants.{Nobody, FieldLost, NotFound, Memory};
 
@@ -140,6 +141,7 @@ fn round<L: Listener>(
 /// puts each to sleep, until nobody else is there. A round that is disturbed is given up.
 pub fn find_all<L: Listener>(alloc: Global, field: &mut Field<L>) -> Result<Vec<Picked>, PollFault>
     ensures turns { Enquires finding L.machine field.old (listed result) field.new }
+    ensures told { TellsFound (turns_since field.old field.new) (listed result) }
     ensures crowd { FindsCrowd L.machine L.identifier field.old (listed result) field.new }
     ensures lit { LeavesLit (listed result) field.new }
     ensures lost { listed result ≡ Err FieldLost → 0 < breaks (drop (length field.old.trace) field.new.trace) }
@@ -158,6 +160,7 @@ pub fn find_all<L: Listener>(alloc: Global, field: &mut Field<L>) -> Result<Vec<
 /// before it are put to sleep, it itself is not.
 pub fn pick<L: Listener>(alloc: Global, field: &mut Field<L>, id: &Ident) -> Result<Kind, PollFault>
     ensures turns { Enquires (picking id.now) L.machine field.old result field.new }
+    ensures told { TellsPicked (turns_since field.old field.new) result }
     ensures crowd { SelectsAlone L.machine L.identifier id.now field.old result field.new }
     ensures lit { LeavesLit result field.new }
     ensures lost { result ≡ Err FieldLost → 0 < breaks (drop (length field.old.trace) field.new.trace) }

@@ -1,11 +1,10 @@
 //! The machine above a listener front.
 
-ghost use Rattle.std.specs.Prelude.{◌≡◌, ℕ, ◌≤◌, List, length, Option, None, IfOk, OnErr};
+ghost use Rattle.std.specs.Prelude.{◌≡◌, ℕ, List, Bool, false, Option, None, IfOk, OnErr};
 ghost use Rattle.nfc_base.specs.Signal.{Signal};
-ghost use Rattle.nfc_base.specs.Far.{Untouched, Hands};
+ghost use Rattle.nfc_base.specs.TagLinks.{TagState, TagStep};
 ghost use Rattle.air_core.specs.Listening.{Stop};
-ghost use Rattle.nfca_poll.specs.Upper.{UpperMachine, UpperStep};
-ghost use Rattle.nfca_poll.specs.declared.upper.UpStep.TheVariants as steps;
+ghost use Rattle.nfca_poll.specs.Upper.{UpperMachine, UpperStep, IsUpper};
 
 use crate::kind::Kind;
 use nfc_base::{Answerer, Frame};
@@ -32,6 +31,15 @@ pub trait Upper {
     /// Its memory, in order; the empty list for a peer.
     ghost store: { Self → List ℕ };
 
+    /// Of a tag: its step on commands, by what it holds. What is no tag has the one that stands here.
+    ghost commands: { Self → TagState → Signal → TagStep } = { λ _ s _. record { answer = None; after = s } };
+
+    /// Whether its link is open: of a Type 4 tag since RATS, of a peer since ATR_REQ. A Type 2 tag has none.
+    ghost is_open: { Self → Bool } = { λ _. false };
+
+    /// Of a peer: whether a frame is a well-formed ATR_REQ.
+    ghost attributes: { Signal → Bool } = { λ _. false };
+
     /// What it tells by SEL_RES.
     fn kind(&self) -> Kind
         ensures { result ≡ machine.kind self.now };
@@ -48,15 +56,8 @@ pub trait Upper {
         far: &mut A,
     ) -> Result<UpStep, AllocError>
         ensures ok { IfOk result (λ s. UpperStep A.restarts A.steps (machine.handed self.old frame.now) (machine.says self.old frame.now) (machine.after self.old frame.now) far.old s self.new far.new) }
-        ensures err { OnErr result (Stop A.stops A.is_stuck (machine.handed self.old frame.now) (machine.after self.old frame.now) far.old self.new far.new) }
-        ensures bound { (payload : List ℕ) → machine.handed self.old frame.now ≡ Hands payload → length payload ≤ 2178 };
+        ensures err { OnErr result (Stop A.stops A.is_stuck (machine.handed self.old frame.now) (machine.after self.old frame.now) far.old self.new far.new) };
 
-    /// A foreign frame asks nothing of the far end, and changes nothing.
-    ghost foreign: { (u : Self) (f : Signal) (reply : Option (List ℕ)) → machine.says u f reply ≡ steps.Foreign → (machine.handed u f ≡ Untouched) × (machine.after u f reply ≡ u) };
-
-    /// Where a payload was handed over and no reply came, it says nothing.
-    ghost waits: { (u : Self) (f : Signal) (payload : List ℕ) → machine.handed u f ≡ Hands payload → machine.says u f None ≡ steps.Quiet };
-
-    /// What is given up isn't of its memory.
-    ghost keeps: { (u : Self) → store (machine.cleared u) ≡ store u };
+    /// It takes exactly the frames that its kind has as its own, with all that `IsUpper` lists.
+    ghost laws: { IsUpper machine store commands is_open attributes };
 }

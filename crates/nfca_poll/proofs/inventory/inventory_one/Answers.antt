@@ -1,8 +1,9 @@
-use Rattle.std.proofs.Common.{◌≡◌, ℕ, ◌<◌, ◌+◌, true, false, Result, Ok, Err, refl, sym, ◌∙◌, ap, subst, arith, ◌⊎◌, ◌≤◌, Bool, Some, inl, inr, length, drop}
+use Rattle.std.proofs.Common.{◌≡◌, ℕ, ◌<◌, ◌+◌, true, false, Result, Ok, Err, refl, sym, ◌∙◌, ap, subst, arith, ◌⊎◌, ◌≤◌, Bool, if◌then◌else◌, Some, inl, inr, length, drop}
 use Rattle.std.proofs.lemmas.Grind.{common_steps}
 use Rattle.nfca_poll.specs.declared.fault.PollFault.{PollFault}
+use Rattle.nfca_poll.specs.declared.fault.PollFault.TheVariants as faults
 use Rattle.nfca_poll.specs.declared.inventory.Vcrowd.{Vcrowd}
-use Rattle.nfca_poll.specs.declared.inventory.Vcrowd.TheVariants.{Crowd}
+use Rattle.nfca_poll.specs.declared.inventory.Vcrowd.TheVariants.{Nobody, Crowd}
 use Rattle.nfca_poll.specs.Enquiry.{Enquires, LosesByBreak}
 use Rattle.nfca_poll.specs.Inventory.{Inventory, inventory, inventory_all, Tries, is_present, one_step, one_ended}
 use Rattle.nfc_base.specs.Signal.{Signal}
@@ -11,10 +12,11 @@ use Rattle.air_core.specs.Turn.{moment}
 use Rattle.air_core.specs.Conversation.{TurnsTo}
 use Rattle.nfc_base.specs.declared.event.Heard.TheVariants.{Damaged, Silent}
 use Rattle.nfca_poll.specs.Muted.{mute_air}
-use Rattle.nfca_poll.proofs.Steady.{InVain, vain_start, vain_turn, vain_noisy, far_missed}
+use Rattle.nfca_poll.proofs.Steady.{InVain, vain_start, vain_turn, vain_noisy, well_heard, far_missed}
 use Rattle.nfca_poll.proofs.Enquiring.{Reached, reached_start, reached_turn, enquires_err, enquires_end}
 use Rattle.nfca_poll.proofs.LostField.{lost_err}
-use Rattle.nfca_poll.proofs.Inventories.{asks_again, one_again, one_present, one_strange, not_true}
+use Rattle.nfca_poll.proofs.TellingInventory.{tells_inventory}
+use Rattle.nfca_poll.proofs.Inventories.{asks_again, one_again, one_present, one_strange, one_over, not_true}
 use Rattle.nfca_poll.proofs.inventory.inventory_one.Goals as goal
 use Rattle.nfca_poll.proofs.inventory.inventory_one.Goals.{in-Damaged, in-Silent}
 
@@ -102,11 +104,56 @@ returns-then-damaged-clause-cause g c lit s =
     let yes : c.loop.damaged ≡ true = grind (arith, common_steps) in
     let D : Bool → Type 0 = λ v. InVain m inventory_all refl c.args.field.now c.loop.field n v in
     let k : n ≤ noise (drop (length c.args.field.now.trace) c.loop.field.trace) = vain_noisy m inventory_all refl c.args.field.now c.loop.field n (subst D yes c.loop.invariant.vain) s in
-    (λ e. omega (arith, all, k), λ e. absurd cc)
+    record { disturbed = λ e. omega (arith, all, k); nobody = λ e. absurd cc; bad = λ e. absurd cc }
 
 pub returns-clause-cause : goal.returns-clause-cause
 returns-clause-cause g c lit s =
     let m = g.L.Listener.machine in
     let n : ℕ = c.loop.counter in
     let all : 4 ≤ n = omega arith in
-    (λ e. absurd cc, λ e. far_missed m inventory_all refl c.args.field.now c.loop.field n c.loop.damaged all c.loop.invariant.vain s)
+    record { disturbed = λ e. absurd cc; nobody = λ e. far_missed m inventory_all refl c.args.field.now c.loop.field n c.loop.damaged all c.loop.invariant.vain s; bad = λ e. absurd cc }
+
+pub returns-in-None-clause-cause : goal.returns-in-None-clause-cause
+returns-in-None-clause-cause g c lit s =
+    let m = g.L.Listener.machine in
+    let strange : is_present c.in-Whole.answer ≡ false = not_true (is_present c.in-Whole.answer) (λ e. absurd (let f : false ≡ true = c.in-None.ensures.exact.1 e in cc)) in
+    let T : Signal → Type 0 = λ x. TurnsTo (mute_air m) (moment c.loop.field) (moment c.ask.new.field) x (Some c.in_ok-answer.field-0) in
+    record {
+      disturbed = λ e. absurd cc;
+      nobody = λ e. absurd cc;
+      bad = λ e well.
+          let yes : is_present c.in-Whole.answer ≡ true =
+          well_heard m inventory_all refl inventory c.args.field.now c.loop.field c.ask.new.field c.loop.counter c.loop.damaged c.in_ok-answer.field-0 c.in-Whole.answer c.loop.invariant.vain
+          (subst T c.inventory_req-request.ensures c.in_ok-answer.ensures.0) c.in-Whole.is s well in
+          cc;
+    }
+
+pub returns-in_err-answer-clause-told : goal.returns-in_err-answer-clause-told
+returns-in_err-answer-clause-told g c lit = tells_inventory g.L.Listener.machine c.args.field.now c.ask.new.field _ (returns-in_err-answer-clause-turns g c lit)
+
+pub returns-in-Some-clause-told : goal.returns-in-Some-clause-told
+returns-in-Some-clause-told g c lit = tells_inventory g.L.Listener.machine c.args.field.now c.ask.new.field _ (returns-in-Some-clause-turns g c lit)
+
+pub returns-in-None-clause-told : goal.returns-in-None-clause-told
+returns-in-None-clause-told g c lit = tells_inventory g.L.Listener.machine c.args.field.now c.ask.new.field _ (returns-in-None-clause-turns g c lit)
+
+pub returns-in-Collided-clause-told : goal.returns-in-Collided-clause-told
+returns-in-Collided-clause-told g c lit = tells_inventory g.L.Listener.machine c.args.field.now c.ask.new.field _ (returns-in-Collided-clause-turns g c lit)
+
+pub returns-then-damaged-clause-turns : goal.returns-then-damaged-clause-turns
+returns-then-damaged-clause-turns g c lit =
+    let yes : c.loop.damaged ≡ true = grind (arith, common_steps) in
+    enquires_end inventory g.L.Listener.machine c.args.field.now c.loop.field (Tries c.loop.counter c.loop.damaged) (Err faults.Disturbed) c.loop.invariant.so_far
+    (one_over c.loop.counter c.loop.damaged (omega arith) ∙ ap (λ v. Some (if v then Err faults.Disturbed else Ok Nobody)) yes)
+
+pub returns-then-damaged-clause-told : goal.returns-then-damaged-clause-told
+returns-then-damaged-clause-told g c lit = tells_inventory g.L.Listener.machine c.args.field.now c.loop.field _ (returns-then-damaged-clause-turns g c lit)
+
+pub returns-clause-turns : goal.returns-clause-turns
+returns-clause-turns g c lit =
+    let no : c.loop.damaged ≡ false = grind (arith, common_steps) in
+    enquires_end inventory g.L.Listener.machine c.args.field.now c.loop.field (Tries c.loop.counter c.loop.damaged) (Ok Nobody) c.loop.invariant.so_far
+    (one_over c.loop.counter c.loop.damaged (omega arith) ∙ ap (λ v. Some (if v then Err faults.Disturbed else Ok Nobody)) no)
+
+pub returns-clause-told : goal.returns-clause-told
+returns-clause-told g c lit = tells_inventory g.L.Listener.machine c.args.field.now c.loop.field _ (returns-clause-turns g c lit)

@@ -7,7 +7,7 @@ use Rattle.nfc_base.specs.Signal.{Signal}
 use Rattle.air_core.specs.Turn.{moment}
 use Rattle.air_core.specs.Conversation.{TurnsTo}
 use Rattle.nfca_poll.specs.Muted.{mute_air}
-use Rattle.nfca_poll.proofs.Steady.{vain_start, vain_turn, far_missed}
+use Rattle.nfca_poll.proofs.Steady.{well_heard, vain_start, vain_turn, far_missed}
 use Rattle.nfca_poll.proofs.Enquiring.{Reached, reached_start, reached_turn, enquires_err, enquires_end}
 use Rattle.nfca_poll.proofs.LostField.{lost_err}
 use Rattle.nfca_poll.proofs.Inventories.{asks_again, pick_again, pick_present, pick_strange, not_true}
@@ -88,8 +88,22 @@ loop-init g c = record {
 }
 
 pub returns-clause-cause : goal.returns-clause-cause
-returns-clause-cause g c lit s e =
+returns-clause-cause g c lit s =
     let m = g.L.Listener.machine in
     let n : ℕ = c.loop.counter in
     let all : 4 ≤ n = omega arith in
-    far_missed m (inventory_of c.args.id) refl c.args.field.now c.loop.field n false all c.loop.invariant.vain s
+    record { not_found = λ e. far_missed m (inventory_of c.args.id) refl c.args.field.now c.loop.field n false all c.loop.invariant.vain s; bad = λ e. absurd cc }
+
+pub returns-in-None-clause-cause : goal.returns-in-None-clause-cause
+returns-in-None-clause-cause g c lit s =
+    let m = g.L.Listener.machine in
+    let strange : is_present c.in-Whole.answer ≡ false = not_true (is_present c.in-Whole.answer) (λ e. absurd (let f : false ≡ true = c.in-None.ensures.exact.1 e in cc)) in
+    let T : Signal → Type 0 = λ x. TurnsTo (mute_air m) (moment c.loop.field) (moment c.ask.new.field) x (Some c.in_ok-answer.field-0) in
+    record {
+      not_found = λ e. absurd cc;
+      bad = λ e well.
+          let yes : is_present c.in-Whole.answer ≡ true =
+          well_heard m (inventory_of c.args.id) refl (picking_v c.args.id) c.args.field.now c.loop.field c.ask.new.field c.loop.counter false c.in_ok-answer.field-0 c.in-Whole.answer c.loop.invariant.vain
+          (subst T c.inventory_req_of-request.ensures c.in_ok-answer.ensures.0) c.in-Whole.is s well in
+          cc;
+    }

@@ -3,7 +3,6 @@ use Rattle.nfca_poll.specs.Seeking.{resolution, seek_of}
 use Rattle.nfca_poll.proofs.SeekSteps.{potential}
 use Rattle.nfca_poll.proofs.Enquiring.{Reached}
 use Rattle.nfca_poll.proofs.FewAsked.{Counted}
-use Rattle.nfca_poll.proofs.FirstPicked.{Follows}
 use Rattle.nfca_poll.proofs.ThroughNoise.{Holds}
 use Rattle.nfca_poll.proofs.NobodyIdle.{Sleepers}
 use Rattle.nfca_poll.proofs.AnyTurns.{Mixes}
@@ -15,7 +14,6 @@ invariant-loop-heard g l = record {
   lit : l.field.lit ≡ true;
   so_far : Reached resolution g.L.Listener.machine l.fn.field l.field (seek_of l.seeking);
   count : Counted g.L.Listener.machine l.fn.field l.field (seek_of l.seeking);
-  first : Follows g.L.Listener.machine g.L.Listener.identifier l.fn.field l.field (seek_of l.seeking);
   noisy : Holds g.L.Listener.machine g.L.Listener.identifier l.fn.field l.field (seek_of l.seeking);
   nobody : Sleepers g.L.Listener.machine g.L.Listener.identifier l.fn.field l.field (seek_of l.seeking);
   any : Mixes g.L.Listener.machine g.L.Listener.identifier l.fn.field l.field (seek_of l.seeking);

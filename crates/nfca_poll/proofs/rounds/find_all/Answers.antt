@@ -10,6 +10,7 @@ use Rattle.nfca_poll.specs.OneRound.{one_round}
 use Rattle.nfca_poll.specs.Rounds.{Search, Told, all_devices, finding, next_round, listed}
 use Rattle.nfca_poll.proofs.Enquiring.{Reached, reached_start, enquires_end}
 use Rattle.nfca_poll.proofs.RoundCalls.{round_begins, round_came, round_failed, given_up}
+use Rattle.nfca_poll.proofs.TellingRounds.{tells_found}
 use Rattle.nfca_poll.proofs.FoundCrowd.{finds_crowd}
 use Rattle.nfca_poll.proofs.CallEnds.{find_lit, find_lost, find_rounds, find_other}
 use Rattle.nfca_poll.proofs.rounds.find_all.Goals as goal
@@ -91,3 +92,12 @@ returns-clause-rounds g c = find_rounds g.L.Listener.machine c.args.field.now c.
 
 pub returns-clause-crowd : goal.returns-clause-crowd
 returns-clause-crowd g c = finds_crowd g.L.Listener.machine g.L.Listener.identifier c.args.field.now c.loop.field (Err faults.Disturbed) (returns-clause-turns g c)
+
+pub returns-in_err-found-clause-told : goal.returns-in_err-found-clause-told
+returns-in_err-found-clause-told g c = tells_found g.L.Listener.machine c.args.field.now c.round.new.field (listed c.from_residual.result) (returns-in_err-found-clause-turns g c)
+
+pub returns-in-Nobody-clause-told : goal.returns-in-Nobody-clause-told
+returns-in-Nobody-clause-told g c = tells_found g.L.Listener.machine c.args.field.now c.round.new.field (Ok c.into_vec.result.items) (returns-in-Nobody-clause-turns g c)
+
+pub returns-clause-told : goal.returns-clause-told
+returns-clause-told g c = tells_found g.L.Listener.machine c.args.field.now c.loop.field (Err faults.Disturbed) (returns-clause-turns g c)

@@ -10,6 +10,7 @@ use Rattle.nfca_poll.specs.OneRound.{one_round}
 use Rattle.nfca_poll.specs.Rounds.{Search, Told, device_of, picking, next_round}
 use Rattle.nfca_poll.proofs.Enquiring.{Reached, reached_start, enquires_end}
 use Rattle.nfca_poll.proofs.RoundCalls.{round_begins, round_came, round_failed}
+use Rattle.nfca_poll.proofs.TellingRounds.{tells_picked}
 use Rattle.nfca_poll.proofs.FoundCrowd.{selects_alone}
 use Rattle.nfca_poll.proofs.CallEnds.{pick_lit, pick_lost, pick_rounds, pick_other}
 use Rattle.nfca_poll.proofs.rounds.pick.Goals as goal
@@ -115,3 +116,15 @@ returns-clause-rounds g c = pick_rounds c.args.id.now g.L.Listener.machine c.arg
 
 pub returns-clause-crowd : goal.returns-clause-crowd
 returns-clause-crowd g c = selects_alone g.L.Listener.machine g.L.Listener.identifier c.args.id.now c.args.field.now c.loop.field (Err faults.Disturbed) (returns-clause-turns g c)
+
+pub returns-in_err-round-clause-told : goal.returns-in_err-round-clause-told
+returns-in_err-round-clause-told g c = tells_picked g.L.Listener.machine c.args.id.now c.args.field.now c.round.new.field c.from_residual.result (returns-in_err-round-clause-turns g c)
+
+pub returns-in-Nobody-clause-told : goal.returns-in-Nobody-clause-told
+returns-in-Nobody-clause-told g c = tells_picked g.L.Listener.machine c.args.id.now c.args.field.now c.round.new.field (Err faults.NotFound) (returns-in-Nobody-clause-turns g c)
+
+pub returns-in-Selected-clause-told : goal.returns-in-Selected-clause-told
+returns-in-Selected-clause-told g c = tells_picked g.L.Listener.machine c.args.id.now c.args.field.now c.round.new.field (Ok c.in-Selected.kind) (returns-in-Selected-clause-turns g c)
+
+pub returns-clause-told : goal.returns-clause-told
+returns-clause-told g c = tells_picked g.L.Listener.machine c.args.id.now c.args.field.now c.loop.field (Err faults.Disturbed) (returns-clause-turns g c)

@@ -1,0 +1,150 @@
+-- What the calls of polling answer, by what was heard of their turns (NFC Forum Digital Protocol; ISO/IEC 14443-3; ISO/IEC
+-- 15693-3; four presence requests and four tries are this project's own).
+use Rattle.std.specs.Prelude.{◌≡◌, ◌↔◌, ◌⊎◌, ◌≤◌, ◌<◌, ℕ, ◌+◌, List, ◌++◌, length, drop, filter, slice_index, Bool, true, false, not, ◌&&◌, ◌||◌, nat_lt, nat_le, Option, Some, None, Result, Ok, Err}
+use Rattle.std.specs.List.{list_any}
+use Rattle.nfc_base.specs.Bits.{bits}
+use Rattle.nfc_base.specs.Trace.{Turn, turns, heard}
+use Rattle.nfc_base.specs.declared.event.Heard.{Heard}
+use Rattle.nfc_base.specs.declared.event.Heard.TheVariants.{Whole, Collided, Damaged, Silent}
+use Rattle.air_core.specs.Joint.{same_bit}
+use Rattle.air_core.specs.Turn.{Air}
+use Rattle.nfca_poll.specs.declared.kind.Kind.{Kind}
+use Rattle.nfca_poll.specs.declared.fault.Picked.{Picked}
+use Rattle.nfca_poll.specs.declared.fault.PollFault.{PollFault}
+use Rattle.nfca_poll.specs.declared.fault.PollFault.TheVariants as faults
+use Rattle.nfca_poll.specs.declared.inventory.Vcrowd.{Vcrowd}
+use Rattle.nfca_poll.specs.declared.inventory.Vcrowd.TheVariants.{Nobody, Crowd}
+use Rattle.nfca_poll.specs.Levels.{cascades}
+use Rattle.nfca_poll.specs.Calls.{Reading, Calls, Other, Sens, All, Slp, Sdd, Sel, call_of, is_slp}
+use Rattle.nfca_poll.specs.Poll.{is_level, collision_bits, has_bit, is_one_byte}
+use Rattle.nfca_poll.specs.Counting.{is_sens_req}
+use Rattle.nfca_poll.specs.Rounds.{most_found}
+use Rattle.nfca_poll.specs.Inventory.{is_present, tries}
+
+-- the turns of a call, from one field to the next
+abbrev pub turns_since : {L : Type 0} → Air L → Air L → List Turn
+turns_since old new = turns (drop (length old.trace) new.trace)
+
+-- what was heard of a turn: silence, damage, a clash, or a whole answer to an inventory that hasn't ten bytes
+abbrev pub is_silence : Option Heard → Bool
+is_silence None = false
+is_silence (Some (Whole g)) = false
+is_silence (Some (Collided g)) = false
+is_silence (Some Damaged) = false
+is_silence (Some Silent) = true
+
+abbrev pub is_damage : Option Heard → Bool
+is_damage None = false
+is_damage (Some (Whole g)) = false
+is_damage (Some (Collided g)) = false
+is_damage (Some Damaged) = true
+is_damage (Some Silent) = false
+
+abbrev pub is_clash : Option Heard → Bool
+is_clash None = false
+is_clash (Some (Whole g)) = false
+is_clash (Some (Collided g)) = true
+is_clash (Some Damaged) = false
+is_clash (Some Silent) = false
+
+abbrev pub is_strange : Option Heard → Bool
+is_strange None = false
+is_strange (Some (Whole g)) = not (is_present g)
+is_strange (Some (Collided g)) = false
+is_strange (Some Damaged) = false
+is_strange (Some Silent) = false
+
+-- how many turns were silent, and how many damaged; whether there was a clash, or such an answer
+abbrev pub silences : List Turn → ℕ
+silences ts = length (filter (λ t. is_silence (heard t)) ts)
+
+abbrev pub damages : List Turn → ℕ
+damages ts = length (filter (λ t. is_damage (heard t)) ts)
+
+abbrev pub has_clash : List Turn → Bool
+has_clash ts = list_any (λ t. is_clash (heard t)) ts
+
+abbrev pub has_strange : List Turn → Bool
+has_strange ts = list_any (λ t. is_strange (heard t)) ts
+
+-- the turns that ask by SENS_REQ
+abbrev pub presence_turns : List Turn → List Turn
+presence_turns ts = filter (λ t. is_sens_req t.request) ts
+
+-- What no device answers to SDD_REQ, whose known bits go before what was heard: a level of another length or with a wrong
+-- check byte, or a clash behind its first 32 bits.
+abbrev pub is_wrong_level : List Bool → Option Heard → Bool
+is_wrong_level known None = false
+is_wrong_level known (Some (Whole g)) = not (is_level (known ++ bits g))
+is_wrong_level known (Some (Collided g)) = nat_le collision_bits (length (known ++ bits g))
+is_wrong_level known (Some Damaged) = false
+is_wrong_level known (Some Silent) = false
+
+-- What none answers to SEL_REQ of a level: anything but one byte, which says that another level follows exactly where this one
+-- says so; the third never does. Nor do two devices answer differently.
+abbrev pub is_wrong_res : ℕ → List ℕ → Option Heard → Bool
+is_wrong_res k l None = false
+is_wrong_res k l (Some (Whole g)) = not (is_one_byte g && same_bit (has_bit (slice_index g.bytes 0) 0x04) (nat_lt k 3 && cascades l))
+is_wrong_res k l (Some (Collided g)) = true
+is_wrong_res k l (Some Damaged) = false
+is_wrong_res k l (Some Silent) = false
+
+abbrev pub is_wrong : Reading → Option Heard → Bool
+is_wrong (Calls Sens) h = false
+is_wrong (Calls All) h = false
+is_wrong (Calls Slp) h = false
+is_wrong (Calls (Sdd k known)) h = is_wrong_level known h
+is_wrong (Calls (Sel k l)) h = is_wrong_res k l h
+is_wrong Other h = false
+
+-- a bad reception of SDD_REQ or SEL_REQ: a device had shown that it is there
+abbrev pub is_missed : Reading → Option Heard → Bool
+is_missed (Calls Sens) h = false
+is_missed (Calls All) h = false
+is_missed (Calls Slp) h = false
+is_missed (Calls (Sdd k known)) h = is_silence h || is_damage h
+is_missed (Calls (Sel k l)) h = is_silence h || is_damage h
+is_missed Other h = false
+
+abbrev pub has_wrong : List Turn → Bool
+has_wrong ts = list_any (λ t. is_wrong (call_of t.request) (heard t)) ts
+
+abbrev pub has_missed : List Turn → Bool
+has_missed ts = list_any (λ t. is_missed (call_of t.request) (heard t)) ts
+
+-- What a resolution answers, by its turns.
+pub record TellsResolution (ts : List Turn) (r : Result Picked PollFault) : Type 0 where
+  -- nobody exactly where four SENS_REQ were heard as silence
+  pub nobody : r ≡ Err faults.Nobody ↔ silences (presence_turns ts) ≡ 4
+  -- that it is disturbed exactly where a reception was bad once presence was shown
+  pub disturbed : r ≡ Err faults.Disturbed ↔ has_missed ts ≡ true
+  -- a bad answer exactly where one was heard that no device gives
+  pub bad : r ≡ Err faults.BadAnswer ↔ has_wrong ts ≡ true
+
+-- What an inventory answers, by its turns.
+pub record TellsInventory (ts : List Turn) (r : Result Vcrowd PollFault) : Type 0 where
+  -- nobody exactly where four turns were silent, and several devices exactly where a clash was heard
+  pub nobody : r ≡ Ok Nobody ↔ silences ts ≡ tries
+  pub crowd : r ≡ Ok Crowd ↔ has_clash ts ≡ true
+  -- that it is disturbed exactly where four turns were silent or damaged, and not all of them silent
+  pub disturbed : r ≡ Err faults.Disturbed ↔ (silences ts + damages ts ≡ tries) × (0 < damages ts)
+  -- a bad answer exactly where a whole answer hadn't ten bytes
+  pub bad : r ≡ Err faults.BadAnswer ↔ has_strange ts ≡ true
+
+-- how many SLP_REQ were sent
+abbrev pub sleeps : List Turn → ℕ
+sleeps ts = length (filter (λ t. is_slp t.request) ts)
+
+-- a bad answer of a call by rounds: one was heard that no device gives, or as many devices were put to sleep as a round finds
+abbrev pub IsBadRound : List Turn → Type 0
+IsBadRound ts = (has_wrong ts ≡ true) ⊎ (most_found ≤ sleeps ts)
+
+-- What a search for all devices answers, by its turns: it ends only behind four SENS_REQ that were heard as silence.
+pub record TellsFound (ts : List Turn) (r : Result (List Picked) PollFault) : Type 0 where
+  pub found : (devices : List Picked) → r ≡ Ok devices → 4 ≤ silences (presence_turns ts)
+  pub bad : r ≡ Err faults.BadAnswer → IsBadRound ts
+
+-- What a search for one device answers: that it isn't there only behind four such.
+pub record TellsPicked (ts : List Turn) (r : Result Kind PollFault) : Type 0 where
+  pub not_found : r ≡ Err faults.NotFound → 4 ≤ silences (presence_turns ts)
+  pub bad : r ≡ Err faults.BadAnswer → IsBadRound ts
