@@ -9,7 +9,7 @@ use Rattle.nfc_base.specs.declared.event.Heard.TheVariants.{Whole, Collided, Dam
 use Rattle.nfc_base.specs.declared.tag_link.AskFault.TheVariants as ask
 use Rattle.nfc_base.specs.Signal.{Signal}
 use Rattle.nfc_base.specs.Far.{Untouched}
-use Rattle.nfc_base.specs.TagLinks.{TagState}
+use Rattle.nfc_base.specs.TagLinks.{TagState, plain_state}
 use Rattle.air_core.specs.declared.fault.AirFault.TheVariants as air
 use Rattle.air_core.specs.Joint.{joint, same_tech}
 use Rattle.air_core.specs.World.{World, hears, answered_by, stepped_by, quiet_air}
@@ -32,7 +32,7 @@ use Rattle.isodep_link.specs.Reader.{waiting}
 use Rattle.isodep_link.specs.Exchange.{InStep, IsCut}
 use Rattle.isodep_link.specs.Activating.{reader_code, rats, ats_code, HasFreshTag, IsActivated, RatsSent, RatsEnds}
 use Rattle.isodep_link.proofs.Session.{ready_first}
-use Rattle.isodep_link.proofs.CardTurns.{left_by, alone_after}
+use Rattle.isodep_link.proofs.CardTurns.{Holds, left_by, alone_after}
 
 -- ATS is read as the code that it tells
 ats_read : (code : ℕ) → code ≤ most_code → ats_code (ats_frame code) ≡ Some code
@@ -47,7 +47,7 @@ module _ {L : Type 0} (k : Ghosts L) (card : L → CardState) (tag : L → TagSt
     pub dim : mid.lit ≡ false → mid ≡ old
     pub sent : RatsSent k card tag old mid (after_bad rats bad)
 
-module _ {L : Type 0} (k : Ghosts L) (laws : Laws k) (card : L → CardState) (tag : L → TagState) (old : Air L) (place : ℕ) (t : HasFreshTag k card tag old place) where
+module _ {L : Type 0} (k : Ghosts L) (laws : Laws k) (card : L → CardState) (tag : L → TagState) (holds : Holds k tag) (old : Air L) (place : ℕ) (t : HasFreshTag k card tag old place) where
   abbrev l : L
   l = t.listener
 
@@ -77,7 +77,7 @@ module _ {L : Type 0} (k : Ghosts L) (laws : Laws k) (card : L → CardState) (t
   After new bad (Some Silent) = On new (suc bad)
 
   rats_aside : (own : List ℕ) (x : L) → IsAside k own x → IsUnmoved k laws own rats x
-  rats_aside own x s = aside_silent k laws own A rats refl (λ e. absurd cc) x s
+  rats_aside own x s = aside_silent k laws own A rats refl tt x s
 
   module _ (mid : Air L) (bad : ℕ) (bound : bad < 6) (o : On mid bad) where
     abbrev now : L
@@ -89,7 +89,7 @@ module _ {L : Type 0} (k : Ghosts L) (laws : Laws k) (card : L → CardState) (t
     quiet_rats : EachQuiet k.machine rats mid.listeners
     quiet_rats =
         alone_quiet k laws (k.identifier l) rats (rats_aside (k.identifier l)) mid.listeners place now o.alone
-        (ap (λ v. if v then k.machine.handed now rats else Untouched) hears_rats ∙ t.takes.quiet o.heard)
+        (ap (λ v. if v then k.machine.handed now rats else Untouched) hears_rats ∙ (t.takes.steps o.heard).quiet)
 
     module _ {F : Type 0} (far far' : F) (new : Air L) where
       sent_on : (h : Option Heard) → QuietTurn k.machine mid rats far h new far' → (s : Standing) → stand bad (rats ∷ []) (note h ∷ []) ≡ s → RatsSent k card tag old new s
@@ -113,7 +113,7 @@ module _ {L : Type 0} (k : Ghosts L) (laws : Laws k) (card : L → CardState) (t
 
       finish : (x y : Fate) → QuietTurn k.machine mid rats far (tag_heard x y (Some ats)) new far'
           → new.lit ≡ (replay (quiet_air k.machine) (world mid) (tag_events rats x y (Some ats))).lit
-          → IsAlone k (k.identifier l) new.listeners place (left_by k laws card tag now rats x y (Some ats)) → After new bad (tag_heard x y (Some ats))
+          → IsAlone k (k.identifier l) new.listeners place (left_by k laws card tag holds now rats x y (Some ats)) → After new bad (tag_heard x y (Some ats))
       unfolding sent_on
       finish Pass Pass q lit alone = (o.heard, refl, sent_on (Some (Whole ats)) q (Asking 0 []) refl, lit ∙ q.lit, alone, o.sent.notes, refl)
       finish Pass Damage q lit alone = bad_on (Some Damaged) q refl (suc o.heard) alone (lit ∙ q.lit)
@@ -127,17 +127,17 @@ module _ {L : Type 0} (k : Ghosts L) (laws : Laws k) (card : L → CardState) (t
       rats_turn h q =
           let x : Fate = first_fate mid.fates in
           let y : Fate = first_fate (later_fates mid.fates) in
-          let says : answered_by k.machine now rats None ≡ Some ats = ap (λ v. if v then k.machine.answer now rats None else None) hears_rats ∙ t.takes.answer o.heard in
+          let says : answered_by k.machine now rats None ≡ Some ats = ap (λ v. if v then k.machine.answer now rats None else None) hears_rats ∙ (t.takes.steps o.heard).answer in
           let steps : stepped_by k.machine now rats None ≡ k.machine.after now rats None = ap (λ v. if v then k.machine.after now rats None else now) hears_rats in
           let joins : joint (filter_map (λ z. answered_by k.machine z rats None) mid.listeners) ≡ one (Some ats) =
           ap joint (alone_says k laws (k.identifier l) rats (rats_aside (k.identifier l)) mid.listeners place now o.alone) ∙ ap (λ z. joint (cons_option z [])) says ∙ joint_one (Some ats) in
           let events : turn_events (quiet_air k.machine) (world mid) rats x y ≡ tag_events rats x y (Some ats) = turn_events_as k (world mid) rats x y (Some ats) joins in
           let after : world new ≡ replay (quiet_air k.machine) (world mid) (tag_events rats x y (Some ats)) = q.after ∙ ap (replay (quiet_air k.machine) (world mid)) events in
           let told : h ≡ tag_heard x y (Some ats) = heard_as k (world mid) rats x y (Some ats) h joins q.told in
-          let P : World L → Type 0 = λ w. IsAlone k (k.identifier l) w.listeners place (left_by k laws card tag now rats x y (Some ats)) in
+          let P : World L → Type 0 = λ w. IsAlone k (k.identifier l) w.listeners place (left_by k laws card tag holds now rats x y (Some ats)) in
           subst (λ (z : Option Heard). After new bad z) (sym told)
           (finish x y (subst (λ (z : Option Heard). QuietTurn k.machine mid rats far z new far') told q) (ap (λ (w : World L). w.lit) after)
-          (subst P (sym after) (alone_after k laws card tag (k.identifier l) rats (rats_aside (k.identifier l)) (world mid) place now o.alone steps x y (Some ats))))
+          (subst P (sym after) (alone_after k laws card tag holds (k.identifier l) rats (rats_aside (k.identifier l)) (world mid) place now o.alone steps x y (Some ats))))
 
     module _ {F : Type 0} (restarts : F → List ℕ → F → Type 0) (steps : F → List ℕ → List ℕ → F → Type 0) (far far' : F) (new : Air L) where
       pub after_rats : (h : Heard) → TurnIs k.machine restarts steps mid rats far (Some h) new far' → After new bad (Some h)
@@ -175,16 +175,14 @@ module _ {L : Type 0} (k : Ghosts L) (laws : Laws k) (card : L → CardState) (t
       let ready : IsActivated k card tag new place (waiting t.takes.code) = record {
         has = record {
           listener = x;
-          selected = t.takes.selected n;
+          selected = (t.takes.steps n).selected;
           alone = subst (λ (i : List ℕ). IsAlone k i new.listeners place x) (sym own) alone;
-          is = t.takes.is n;
-          step = subst P (sym (t.takes.card_is n)) (ready_first t.takes.code reader_code).0;
-          cut = subst Q (sym (t.takes.card_is n)) refl;
+          is = (t.takes.steps n).is;
+          step = subst P (sym ((t.takes.steps n).card_is)) (ready_first t.takes.code reader_code).0;
+          cut = subst Q (sym ((t.takes.steps n).card_is)) refl;
         };
-        own = ap (λ (y : CardState). piece_size y.code) (sym (t.takes.card_is n));
-        origin = k.store l;
-        holds = t.takes.tag_is n;
-        replays = t.takes.replays n;
+        own = ap (λ (y : CardState). piece_size y.code) (sym ((t.takes.steps n).card_is));
+        plain = (t.takes.steps n).tag_is ∙ ap plain_state (ap (λ (s : TagState). s.store) (sym ((t.takes.steps n).tag_is)) ∙ holds x);
       } in
       (sent, lit, subst (λ (z : ℕ). IsActivated k card tag new place (waiting z)) (sym same) ready, (before, g, last, q))
 

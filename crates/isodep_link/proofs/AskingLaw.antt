@@ -29,6 +29,7 @@ use Rattle.air_core.specs.Turn.{Air, world, moment, TurnIs, Transmits}
 use Rattle.air_core.specs.Turning.{going_start, going_turn}
 use Rattle.air_core.specs.Conversation.{Note, note, Going, Asks, Moment, replay}
 use Rattle.air_core.specs.Quiet.{EachQuiet, QuietTurn}
+use Rattle.air_core.specs.Listening.{StaysSame}
 use Rattle.air_core.specs.PlainTags.{reached, IsAlone}
 use Rattle.air_core.specs.declared.listener.Listener.{Ghosts}
 use Rattle.air_core.proofs.PlainAside.{Laws}
@@ -42,16 +43,16 @@ use Rattle.isodep_link.specs.declared.reader.ReaderStep.TheVariants as step
 use Rattle.isodep_link.specs.Reader.{Core, ReaderState, ReaderTurn, reader_table, request, begun}
 use Rattle.isodep_link.specs.Commands.{iso_commands}
 use Rattle.isodep_link.specs.Exchange.{iso_dep, blocks_of, pieces, reader_does, beginning, InStep, IsCut}
-use Rattle.isodep_link.specs.CardTags.{IsAsked, IsAskedBlock, Obeys, IsShort, StepsByCard, IsCardTag}
-use Rattle.isodep_link.specs.Asking.{Standing, Waits, Rests, Broken, asks, goes_by, noted, stand, due_at, iso_next, HasCardTag, IsAfter, Asked, EndsBy}
+use Rattle.isodep_link.specs.CardTags.{IsAskedFrame, IsAskedBlock, TagDoes, IsShort, StepsByCard, IsCardTag}
+use Rattle.isodep_link.specs.Asking.{IsoStanding, Waits, Rests, Broken, asks, goes_by, noted, stand, due_at, iso_next, HasCardTag, IsAfter, CommandTurns, EndsBy}
 use Rattle.isodep_link.proofs.Wire.{is_piece}
 use Rattle.isodep_link.proofs.Standing as law
 use Rattle.isodep_link.proofs.Obeyed.{keeps, asking_first}
 use Rattle.isodep_link.proofs.Images.{arrived_append, after_it, Stores, images_grow, commands_grow, given_stays}
-use Rattle.isodep_link.proofs.CardTurns.{Shows, CardTurn, card_turn, quiet_asked}
+use Rattle.isodep_link.proofs.CardTurns.{Holds, Shows, CardTurn, card_turn, quiet_asked}
 
 -- what is noted behind some notes
-stand_on : (s : Standing) (ns : List Note) (n : Note) → stand s (ns ++ n ∷ []) ≡ noted (stand s ns) n
+pub stand_on : (s : IsoStanding) (ns : List Note) (n : Note) → stand s (ns ++ n ∷ []) ≡ noted (stand s ns) n
 stand_on s [] n = refl
 stand_on s (m ∷ ns) n = stand_on (noted s m) ns n
 
@@ -60,7 +61,7 @@ abbrev pub HasBytes : Signal → Type 0
 HasBytes f = (i : ℕ) → slice_index f.bytes i < 256
 
 -- what the reader sends is a block that a reader sends
-request_asked : (c : Core) (f : Signal) → f ≡ block_frame (request c) → HasBytes f → c.number < 2 → c.most ≤ 253 → IsAsked f
+request_asked : (c : Core) (f : Signal) → f ≡ block_frame (request c) → HasBytes f → c.number < 2 → c.most ≤ 253 → IsAskedFrame f
 request_asked c f e bytes p q = record { block = request c; asked = go c.drawing refl; bytes = bytes; frame = e }
   where
     go : (d : Bool) → c.drawing ≡ d → IsAskedBlock (request c)
@@ -71,7 +72,7 @@ held_number : (m : ℕ) (out : List ℕ) (c : Core) (t : CardState) (g : Option 
 held_number m out c t g n (law.of_chain h l) = (h.number, h.bounds.fits)
 held_number m out c t g n (law.of_answer bytes h l) = (h.number, h.bounds.fits)
 
-asked_frame : (m : ℕ) (out : List ℕ) (i : ReaderState) (t : CardState) (g : Option (List ℕ)) (f : Signal) → HasBytes f → (n : ℕ) → law.Ask m out i t g f n → IsAsked f
+asked_frame : (m : ℕ) (out : List ℕ) (i : ReaderState) (t : CardState) (g : Option (List ℕ)) (f : Signal) → HasBytes f → (n : ℕ) → law.Ask m out i t g f n → IsAskedFrame f
 asked_frame m out i t g f bytes n (law.asks p e h b) = request_asked i.core f e bytes h.number h.bounds.fits
 asked_frame m out i t g f bytes n (law.draws p e h b) = request_asked i.core f e bytes h.number h.bounds.fits
 asked_frame m out i t g f bytes n (law.draws_again p e d h) = let x = held_number m out i.core t g n h in request_asked i.core f e bytes x.0 x.1
@@ -108,13 +109,13 @@ module _ {L : Type 0} (k : Ghosts L) (card : L → CardState) (tag : L → TagSt
   -- how the exchange stands
   abbrev pub StandsBy : List Event → ReaderState → CardState → List Event → TagState → Stage Signal → Type 0
   StandsBy es0 i t es held stage =
-      Along iso_dep commands command (keeps (card begin).most command) (2 * pieces i0.core.most command) TagState (Obeys (k.commands begin)) arrived es0 (tag begin) i t es held stage
+      Along iso_dep commands command (keeps (card begin).most command) (2 * pieces i0.core.most command) TagState (TagDoes (k.commands begin)) arrived es0 (tag begin) i t es held stage
 
   -- Where the reader stands in a field that is as lit as it was: the listener heard these frames, the exchange keeps its law,
   -- each request was due, and no turn was made in the dark.
-  pub record OnTag (old mid : Air L) (place : ℕ) (i : ReaderState) (stage : Stage Signal) (s : Standing) : Type 0 where
+  pub record OnTag (old mid : Air L) (place : ℕ) (i : ReaderState) (stage : Stage Signal) (s : IsoStanding) : Type 0 where
     pub frames : List Signal
-    pub asked : AllByRecursion IsAsked frames
+    pub asked : AllByRecursion IsAskedFrame frames
     pub alone : IsAlone k (k.identifier begin) mid.listeners place (reached k begin frames)
     pub selected : k.is_selected (reached k begin frames) ≡ true
     pub lit : mid.lit ≡ old.lit
@@ -130,7 +131,7 @@ module _ {L : Type 0} (k : Ghosts L) (card : L → CardState) (tag : L → TagSt
   -- a turn that lost the field
   pub record LostTag (old new : Air L) (place : ℕ) : Type 0 where
     pub frames : List Signal
-    pub asked : AllByRecursion IsAsked frames
+    pub asked : AllByRecursion IsAskedFrame frames
     pub left : L
     pub alone : IsAlone k (k.identifier begin) new.listeners place left
     pub darkened : left ≡ k.machine.darkened (reached k begin frames)
@@ -149,25 +150,22 @@ module _ {L : Type 0} (k : Ghosts L) (laws : Laws k) where
   reached_twice l [] gs = refl
   reached_twice l (f ∷ fs) gs = reached_twice (k.machine.after l f None) fs gs
 
-  pub reached_same : (l : L) (fs : List Signal) → (k.machine.tech (reached k l fs) ≡ k.machine.tech l) × (k.identifier (reached k l fs) ≡ k.identifier l)
-  reached_same l [] = (refl, refl)
+  pub reached_same : (l : L) (fs : List Signal) → StaysSame k.machine.tech k.identifier k.commands l (reached k l fs)
+  reached_same l [] = record { tech' = refl; identifier' = refl; commands' = refl }
   reached_same l (f ∷ fs) =
       let e = reached_same (k.machine.after l f None) fs in
       let d = laws.step_keeps l f None in
-      (e.0 ∙ d.0, e.1 ∙ d.1)
+      record { tech' = e.tech' ∙ d.tech'; identifier' = e.identifier' ∙ d.identifier'; commands' = e.commands' ∙ d.commands' }
 
-  module _ (card : L → CardState) (tag : L → TagState) where
+  module _ (card : L → CardState) (tag : L → TagState) (holds : Holds k tag) where
     -- a tag stays one by frames that are asked of it
-    pub stays_card_tag : (l : L) (fs : List Signal) → AllByRecursion IsAsked fs → IsCardTag k card tag l → IsCardTag k card tag (reached k l fs)
+    pub stays_card_tag : (l : L) (fs : List Signal) → AllByRecursion IsAskedFrame fs → IsCardTag k card tag l → IsCardTag k card tag (reached k l fs)
     stays_card_tag l fs a c =
         record {
-          tech = (reached_same l fs).0 ∙ c.tech;
-          steps = λ gs b f q. subst (λ (x : L). StepsByCard k card tag x f) (sym (reached_twice l fs gs)) (c.steps (fs ++ gs) (all_append IsAsked fs gs a b) f q);
-          same = λ gs b. ap k.commands (reached_twice l fs gs) ∙ c.same (fs ++ gs) (all_append IsAsked fs gs a b) ∙ sym (c.same fs a);
-          dark = λ gs b. ap (λ x. k.commands (k.machine.darkened x)) (reached_twice l fs gs) ∙ c.dark (fs ++ gs) (all_append IsAsked fs gs a b) ∙ sym (c.same fs a);
-          holds = λ gs b. let P : L → Type 0 = λ x. k.store x ≡ (tag x).store in subst P (sym (reached_twice l fs gs)) (c.holds (fs ++ gs) (all_append IsAsked fs gs a b));
+          tech = (reached_same l fs).tech' ∙ c.tech;
+          steps = λ gs b f q. subst (λ (x : L). StepsByCard k card tag x f) (sym (reached_twice l fs gs)) (c.steps (fs ++ gs) (all_append IsAskedFrame fs gs a b) f q);
           cleared = λ gs b.
-              subst (λ (x : L). card (k.machine.darkened x) ≡ dark_of (card x)) (sym (reached_twice l fs gs)) (c.cleared (fs ++ gs) (all_append IsAsked fs gs a b));
+              subst (λ (x : L). card (k.machine.darkened x) ≡ dark_of (card x)) (sym (reached_twice l fs gs)) (c.cleared (fs ++ gs) (all_append IsAskedFrame fs gs a b));
         }
       where
         dark_of : CardState → CardState
@@ -177,7 +175,7 @@ module _ {L : Type 0} (k : Ghosts L) (laws : Laws k) where
       abbrev pub Stands : List Event → ReaderState → CardState → List Event → TagState → Stage Signal → Type 0
       Stands es0 i t es held stage = StandsBy k card tag begin i0 commands arrived command es0 i t es held stage
 
-      abbrev pub On : Air L → Air L → ℕ → ReaderState → Stage Signal → Standing → Type 0
+      abbrev pub On : Air L → Air L → ℕ → ReaderState → Stage Signal → IsoStanding → Type 0
       On old mid place i stage s = OnTag k card tag begin i0 commands arrived command old mid place i stage s
 
       abbrev pub Lost : Air L → Air L → ℕ → Type 0
@@ -221,7 +219,7 @@ module _ {L : Type 0} (k : Ghosts L) (laws : Laws k) where
           }
 
       -- the frame that is sent is one that a reader sends
-      frame_asked : (es0 es : List Event) (i : ReaderState) (t : CardState) (held : TagState) (f : Signal) → HasBytes f → Stands es0 i t es held (Requests f) → IsAsked f
+      frame_asked : (es0 es : List Event) (i : ReaderState) (t : CardState) (held : TagState) (f : Signal) → HasBytes f → Stands es0 i t es held (Requests f) → IsAskedFrame f
       frame_asked es0 es i t held f bytes a =
           let j = subst (λ (x : Stage Signal). J iso_dep commands command (keeps (card begin).most command) (2 * pieces i0.core.most command) a.world x) a.stage_is a.inv in
           asked_frame (card begin).most command a.world.asking a.world.answering a.world.given f bytes j.0 j.1
@@ -230,40 +228,40 @@ module _ {L : Type 0} (k : Ghosts L) (laws : Laws k) where
         abbrev last : L
         last = reached k begin o.frames
 
-        is_asked : IsAsked f
+        is_asked : IsAskedFrame f
         is_asked = frame_asked old.trace mid.trace i (card last) (tag last) f bytes o.along
 
         last_tag : IsCardTag k card tag last
         last_tag = stays_card_tag begin o.frames o.asked c
 
         own_same : k.identifier last ≡ k.identifier begin
-        own_same = (reached_same begin o.frames).1
+        own_same = (reached_same begin o.frames).identifier'
 
         last_alone : IsAlone k (k.identifier last) mid.listeners place last
         last_alone = subst (λ (own : List ℕ). IsAlone k own mid.listeners place last) (sym own_same) o.alone
 
         -- nobody asks anything of a far end
         pub quiet_on : EachQuiet k.machine f mid.listeners
-        quiet_on = quiet_asked k laws card tag mid place last f last_alone last_tag is_asked
+        quiet_on = quiet_asked k laws card tag holds mid place last f last_alone last_tag is_asked
 
         due : iso_next i0 (command ∷ []) o.notes ≡ Asks f
         due = ap due_at o.stands
 
         module _ {F : Type 0} (far far' : F) (new : Air L) (h : Option Heard) (q : QuietTurn k.machine mid f far h new far') where
-          turn : CardTurn k laws card tag mid new place last f h
-          turn = card_turn k laws card tag mid place last f last_alone last_tag is_asked far far' new h q
+          turn : CardTurn k laws card tag holds mid new place last f h
+          turn = card_turn k laws card tag holds mid place last f last_alone last_tag is_asked far far' new h q
 
-          onward : Onward iso_dep commands command (keeps (card begin).most command) (2 * pieces i0.core.most command) TagState (Obeys (k.commands begin)) arrived old.trace (tag begin) i h (card turn.left) new.trace turn.held
+          onward : Onward iso_dep commands command (keeps (card begin).most command) (2 * pieces i0.core.most command) TagState (TagDoes (k.commands begin)) arrived old.trace (tag begin) i h (card turn.left) new.trace turn.held
           onward =
-              goes_along iso_dep commands command (keeps (card begin).most command) (2 * pieces i0.core.most command) TagState (Obeys (k.commands begin)) arrived old.trace (tag begin)
+              goes_along iso_dep commands command (keeps (card begin).most command) (2 * pieces i0.core.most command) TagState (TagDoes (k.commands begin)) arrived old.trace (tag begin)
               i (card last) (card turn.left) mid.trace new.trace (tag last) turn.held f h o.along
-              (subst (λ (g : TagState → Signal → TagStep). IsTurn iso_dep TagState IsShort (Obeys g) (card last) mid.trace (tag last) f h (card turn.left) new.trace turn.held) (c.same o.frames o.asked) turn.turn)
+              (subst (λ (g : TagState → Signal → TagStep). IsTurn iso_dep TagState IsShort (TagDoes g) (card last) mid.trace (tag last) f h (card turn.left) new.trace turn.held) (reached_same begin o.frames).commands' turn.turn)
 
           going_on : Going (quiet_air k.machine) (iso_next i0 (command ∷ [])) (moment old) (moment new) (o.notes ++ note h ∷ [])
           going_on = going_turn (quiet_air k.machine) (iso_next i0 (command ∷ [])) (moment old) (moment mid) (moment new) f h o.notes o.going due (quiet_turns_to k.machine mid new f far far' h q)
 
           stands_then : stand (asks i0 (command ∷ [])) (o.notes ++ note h ∷ []) ≡ noted (Waits i f []) (note h)
-          stands_then = stand_on (asks i0 (command ∷ [])) o.notes (note h) ∙ ap (λ (s : Standing). noted s (note h)) o.stands
+          stands_then = stand_on (asks i0 (command ∷ [])) o.notes (note h) ∙ ap (λ (s : IsoStanding). noted s (note h)) o.stands
 
           -- the card says something
           speaks : k.machine.answer last f None ≡ None → ⊥
@@ -320,7 +318,7 @@ module _ {L : Type 0} (k : Ghosts L) (laws : Laws k) where
           kept_once iso_dep commands command (keeps (card begin).most command) (λ g. Unit {0}) (pieces i0.core.most command) (pieces (card begin).most) (λ r. refl) a.world a.inv
 
       -- the stores that the tag shows in one turn more
-      module _ (old mid new : Air L) (place : ℕ) (i : ReaderState) (stage0 : Stage Signal) (s0 : Standing) (o : On old mid place i stage0 s0) (more : List Event) (trace : new.trace ≡ mid.trace ++ more)
+      module _ (old mid new : Air L) (place : ℕ) (i : ReaderState) (stage0 : Stage Signal) (s0 : IsoStanding) (o : On old mid place i stage0 s0) (more : List Event) (trace : new.trace ≡ mid.trace ++ more)
           (i' : ReaderState) (t' : CardState) (held : TagState) (stage : Stage Signal) (b : Stands old.trace i' t' new.trace held stage) (shown : Shows held.store (stores_after k place (world mid) more)) where
         abbrev first : L
         first = reached k begin o.frames
@@ -346,15 +344,15 @@ module _ {L : Type 0} (k : Ghosts L) (laws : Laws k) where
             r p q
 
         first_store : (tag begin).store ≡ k.store begin
-        first_store = sym (c.holds [] tt)
+        first_store = holds begin
 
         stores_by : (g h : Option (List ℕ)) → o.along.world.given ≡ g → b.world.given ≡ h → Stores (k.store begin) g (tag first).store h held.store
         stores_by None None p q =
-            ap (λ (x : TagState). x.store) (subst (λ (x : Option (List ℕ)). GivenBy (Obeys (k.commands begin)) (tag begin) command x held) q b.given) ∙ first_store
+            ap (λ (x : TagState). x.store) (subst (λ (x : Option (List ℕ)). GivenBy (TagDoes (k.commands begin)) (tag begin) command x held) q b.given) ∙ first_store
         stores_by None (Some y) p q = tt
         stores_by (Some x) (Some y) p q =
-            let was = subst (λ (z : Option (List ℕ)). GivenBy (Obeys (k.commands begin)) (tag begin) command z (tag first)) p o.along.given in
-            let now = subst (λ (z : Option (List ℕ)). GivenBy (Obeys (k.commands begin)) (tag begin) command z held) q b.given in
+            let was = subst (λ (z : Option (List ℕ)). GivenBy (TagDoes (k.commands begin)) (tag begin) command z (tag first)) p o.along.given in
+            let now = subst (λ (z : Option (List ℕ)). GivenBy (TagDoes (k.commands begin)) (tag begin) command z held) q b.given in
             ap (λ (z : TagState). z.store) (was.1 ∙ sym now.1)
         stores_by (Some x) None p q = never_less x p q
 
@@ -377,8 +375,8 @@ module _ {L : Type 0} (k : Ghosts L) (laws : Laws k) where
         abbrev more_frames : List Signal
         more_frames = o.frames ++ f ∷ []
 
-        more_asked : AllByRecursion IsAsked more_frames
-        more_asked = all_append IsAsked o.frames (f ∷ []) o.asked (is_asked old mid place i f bytes o, tt)
+        more_asked : AllByRecursion IsAskedFrame more_frames
+        more_asked = all_append IsAskedFrame o.frames (f ∷ []) o.asked (is_asked old mid place i f bytes o, tt)
 
         reached_more : k.machine.after (reached k begin o.frames) f None ≡ reached k begin more_frames
         reached_more = reached_twice begin o.frames (f ∷ [])
@@ -389,16 +387,16 @@ module _ {L : Type 0} (k : Ghosts L) (laws : Laws k) where
 
         -- a turn of which something was heard
         module _ (h : Heard) (q : QuietTurn k.machine mid f far (Some h) new far') where
-          abbrev t : CardTurn k laws card tag mid new place (reached k begin o.frames) f (Some h)
+          abbrev t : CardTurn k laws card tag holds mid new place (reached k begin o.frames) f (Some h)
           t = turn old mid place i f bytes o far far' new (Some h) q
 
-          n : Onward iso_dep commands command (keeps (card begin).most command) (2 * pieces i0.core.most command) TagState (Obeys (k.commands begin)) arrived old.trace (tag begin) i (Some h) (card t.left) new.trace t.held
+          n : Onward iso_dep commands command (keeps (card begin).most command) (2 * pieces i0.core.most command) TagState (TagDoes (k.commands begin)) arrived old.trace (tag begin) i (Some h) (card t.left) new.trace t.held
           n = onward old mid place i f bytes o far far' new (Some h) q
 
           abbrev Next_on : Type 0
           Next_on = On old new place (reader_table i h).state (stage_of (reader_does (reader_table i h).does)) (goes_by (reader_table i h).state (reader_table i h).does [])
 
-          on_left : (fs : List Signal) → AllByRecursion IsAsked fs → t.left ≡ reached k begin fs → k.is_selected (reached k begin fs) ≡ true → tag t.left ≡ t.held → new.lit ≡ true → Next_on
+          on_left : (fs : List Signal) → AllByRecursion IsAskedFrame fs → t.left ≡ reached k begin fs → k.is_selected (reached k begin fs) ≡ true → tag t.left ≡ t.held → new.lit ≡ true → Next_on
           on_left fs a e s held lit =
               let b = heard_next old.trace new.trace i (card t.left) t.held h n.hears n.heard_is n.along in
               let al : Stands old.trace (reader_table i h).state (card (reached k begin fs)) new.trace (tag (reached k begin fs)) (stage_of (reader_does (reader_table i h).does)) =
@@ -431,13 +429,13 @@ module _ {L : Type 0} (k : Ghosts L) (laws : Laws k) where
 
         -- a turn that lost the field
         module _ (q : QuietTurn k.machine mid f far None new far') where
-          abbrev t0 : CardTurn k laws card tag mid new place (reached k begin o.frames) f None
+          abbrev t0 : CardTurn k laws card tag holds mid new place (reached k begin o.frames) f None
           t0 = turn old mid place i f bytes o far far' new None q
 
-          n0 : Onward iso_dep commands command (keeps (card begin).most command) (2 * pieces i0.core.most command) TagState (Obeys (k.commands begin)) arrived old.trace (tag begin) i None (card t0.left) new.trace t0.held
+          n0 : Onward iso_dep commands command (keeps (card begin).most command) (2 * pieces i0.core.most command) TagState (TagDoes (k.commands begin)) arrived old.trace (tag begin) i None (card t0.left) new.trace t0.held
           n0 = onward old mid place i f bytes o far far' new None q
 
-          lost_left : (was : L) (fs : List Signal) → AllByRecursion IsAsked fs → was ≡ reached k begin fs → t0.left ≡ k.machine.darkened was → tag was ≡ t0.held → new.lit ≡ false → Lost old new place
+          lost_left : (was : L) (fs : List Signal) → AllByRecursion IsAskedFrame fs → was ≡ reached k begin fs → t0.left ≡ k.machine.darkened was → tag was ≡ t0.held → new.lit ≡ false → Lost old new place
           lost_left was fs a e d held lit =
               let b = heard_nothing old.trace new.trace i (card t0.left) t0.held n0.hears n0.heard_is n0.along in
               let al : Stands old.trace i (card t0.left) new.trace (tag (reached k begin fs)) Dark =
@@ -469,7 +467,7 @@ module _ {L : Type 0} (k : Ghosts L) (laws : Laws k) where
           turn_lost = lost_by t0.is.0 t0.is.2 t0.is.1 t0.is.3 t0.is.4
 
       -- the stores that the command passes
-      pub passed_by : (g : Option (List ℕ)) (held : TagState) → GivenBy (Obeys (k.commands begin)) (tag begin) command g held
+      pub passed_by : (g : Option (List ℕ)) (held : TagState) → GivenBy (TagDoes (k.commands begin)) (tag begin) command g held
           → after_it g held.store ≡ passed (k.commands begin) (tag begin) (map whole_a (delivered_of command g))
       passed_by None held h = refl
       passed_by (Some r) held h = ap (λ (x : TagState). x.store ∷ []) h.1
@@ -477,14 +475,14 @@ module _ {L : Type 0} (k : Ghosts L) (laws : Laws k) where
       abbrev pub asked_by : (old new : Air L) (place : ℕ) (i : ReaderState) (t : CardState) (held : TagState) (stage : Stage Signal) (a : Stands old.trace i t new.trace held stage)
           → (seen : List Event) → new.trace ≡ old.trace ++ seen → Follows (k.store begin) (stores_after k place (world old) seen) (after_it a.world.given held.store)
           → (g : Option (List ℕ)) → a.world.given ≡ g → IsAfter k card tag new place begin held → (notes : List Note)
-          → Going (quiet_air k.machine) (iso_next i0 (command ∷ [])) (moment old) (moment new) notes → (s : Standing) → stand (asks i0 (command ∷ [])) notes ≡ s
-          → Asked k card tag old new place begin i0 commands arrived command g s
+          → Going (quiet_air k.machine) (iso_next i0 (command ∷ [])) (moment old) (moment new) notes → (s : IsoStanding) → stand (asks i0 (command ∷ [])) notes ≡ s
+          → CommandTurns k card tag old new place begin i0 commands arrived command g s
       asked_by old new place i t held stage a seen seen_is images g e after notes going s stands =
           let o : OnceAlong a.world = once_along old.trace new.trace i t held stage a in
           record {
             held = held;
             after = after;
-            given_by = subst (λ (x : Option (List ℕ)). GivenBy (Obeys (k.commands begin)) (tag begin) command x held) e a.given;
+            given_by = subst (λ (x : Option (List ℕ)). GivenBy (TagDoes (k.commands begin)) (tag begin) command x held) e a.given;
             events = a.added;
             trace = a.events;
             obeyed = ap (λ (fs : List Signal). iso_commands (blocks_of fs)) a.arrives ∙ o.brings ∙ o.once ∙ ap (λ (x : Option (List ℕ)). commands ++ delivered_of command x) e;
@@ -497,24 +495,24 @@ module _ {L : Type 0} (k : Ghosts L) (laws : Laws k) where
             stands = stands;
             images =
                 (let same : seen ≡ a.added = append_cancel_left old.trace seen a.added (sym seen_is ∙ a.events) in
-                let given : GivenBy (Obeys (k.commands begin)) (tag begin) command g held = subst (λ (x : Option (List ℕ)). GivenBy (Obeys (k.commands begin)) (tag begin) command x held) e a.given in
+                let given : GivenBy (TagDoes (k.commands begin)) (tag begin) command g held = subst (λ (x : Option (List ℕ)). GivenBy (TagDoes (k.commands begin)) (tag begin) command x held) e a.given in
                 subst (λ (es : List Event). Follows (k.store begin) (stores_after k place (world old) es) (passed (k.commands begin) (tag begin) (map whole_a (delivered_of command g)))) same
                 (subst (λ (xs : List (List ℕ)). Follows (k.store begin) (stores_after k place (world old) seen) xs) (passed_by g held given)
                 (subst (λ (x : Option (List ℕ)). Follows (k.store begin) (stores_after k place (world old) seen) (after_it x held.store)) e images)));
           }
 
-      pub after_on : (old mid : Air L) (place : ℕ) (i : ReaderState) (stage : Stage Signal) (s : Standing) (o : On old mid place i stage s) → mid.lit ≡ true
+      pub after_on : (old mid : Air L) (place : ℕ) (i : ReaderState) (stage : Stage Signal) (s : IsoStanding) (o : On old mid place i stage s) → mid.lit ≡ true
           → IsAfter k card tag mid place begin (tag (reached k begin o.frames))
       after_on old mid place i stage s o lit =
           record { frames = o.frames; asked = o.asked; left = reached k begin o.frames; alone = o.alone; holds = refl; is = inl (lit, refl) }
 
       -- the command is under way in a lit field, or was broken off there
-      abbrev pub on_asked : (old mid : Air L) (place : ℕ) (i : ReaderState) (stage : Stage Signal) (s : Standing) (o : On old mid place i stage s) → mid.lit ≡ true
-          → Asked k card tag old mid place begin i0 commands arrived command o.along.world.given s
+      abbrev pub on_asked : (old mid : Air L) (place : ℕ) (i : ReaderState) (stage : Stage Signal) (s : IsoStanding) (o : On old mid place i stage s) → mid.lit ≡ true
+          → CommandTurns k card tag old mid place begin i0 commands arrived command o.along.world.given s
       on_asked old mid place i stage s o lit =
           asked_by old mid place i (card (reached k begin o.frames)) (tag (reached k begin o.frames)) stage o.along o.seen o.seen_is o.images o.along.world.given refl (after_on old mid place i stage s o lit) o.notes o.going s o.stands
 
-      abbrev pub lost_asked : (old new : Air L) (place : ℕ) (o : Lost old new place) → Asked k card tag old new place begin i0 commands arrived command o.along.world.given (Broken FieldLost)
+      abbrev pub lost_asked : (old new : Air L) (place : ℕ) (o : Lost old new place) → CommandTurns k card tag old new place begin i0 commands arrived command o.along.world.given (Broken FieldLost)
       lost_asked old new place o =
           asked_by old new place o.reader (card o.left) (tag (reached k begin o.frames)) Dark o.along o.seen o.seen_is o.images o.along.world.given refl
           (record { frames = o.frames; asked = o.asked; left = o.left; alone = o.alone; holds = refl; is = inr (o.dark, o.darkened) }) o.notes o.going (Broken FieldLost) o.stands
@@ -525,12 +523,12 @@ module _ {L : Type 0} (k : Ghosts L) (laws : Laws k) where
       ending_along es0 es i t held stage a =
           subst (λ (s : Stage Signal). IsEnding (IsReady iso_dep command (keeps (card begin).most command)) a.world s) a.stage_is (once_along es0 es i t held stage a).ending
 
-      pub never_protocol : (old mid : Air L) (place : ℕ) (i : ReaderState) (s : Standing) → On old mid place i (Over Protocol) s → ⊥
+      pub never_protocol : (old mid : Air L) (place : ℕ) (i : ReaderState) (s : IsoStanding) → On old mid place i (Over Protocol) s → ⊥
       never_protocol old mid place i s o = ending_along old.trace mid.trace i (card (reached k begin o.frames)) (tag (reached k begin o.frames)) (Over Protocol) o.along
 
       -- the whole answer was heard
-      pub answered_asked : (old new : Air L) (place : ℕ) (i : ReaderState) (r : List ℕ) (s : Standing) (o : On old new place i (Over (Finished r)) s) → new.lit ≡ true
-          → (a : Asked k card tag old new place begin i0 commands arrived command (Some r) s) × HasCardTag k card tag new place i (commands ++ command ∷ []) (arrived ++ turns.arrived a.events)
+      pub answered_asked : (old new : Air L) (place : ℕ) (i : ReaderState) (r : List ℕ) (s : IsoStanding) (o : On old new place i (Over (Finished r)) s) → new.lit ≡ true
+          → (a : CommandTurns k card tag old new place begin i0 commands arrived command (Some r) s) × HasCardTag k card tag new place i (commands ++ command ∷ []) (arrived ++ turns.arrived a.events)
       answered_asked old new place i r s o lit =
           let l : L = reached k begin o.frames in
           let e = ending_along old.trace new.trace i (card l) (tag l) (Over (Finished r)) o.along in
@@ -542,7 +540,7 @@ module _ {L : Type 0} (k : Ghosts L) (laws : Laws k) where
             record {
               listener = l;
               selected = o.selected;
-              alone = subst (λ (own : List ℕ). IsAlone k own new.listeners place l) (sym (reached_same begin o.frames).1) o.alone;
+              alone = subst (λ (own : List ℕ). IsAlone k own new.listeners place l) (sym (reached_same begin o.frames).identifier') o.alone;
               is = stays_card_tag begin o.frames o.asked c;
               step = subst (λ (x : ReaderState). P x (card l)) o.along.asking (subst (λ (y : CardState). P o.along.world.asking y) o.along.answering e.1.0);
               cut =
@@ -553,9 +551,9 @@ module _ {L : Type 0} (k : Ghosts L) (laws : Laws k) where
           )
 
 -- one command, from the reader's first block to its end
-module _ {L : Type 0} (k : Ghosts L) (laws : Laws k) (card : L → CardState) (tag : L → TagState) (old : Air L) (place : ℕ) (i0 : ReaderState) (command : List ℕ) (commands : List (List ℕ)) (arrived : List Signal)
+module _ {L : Type 0} (k : Ghosts L) (laws : Laws k) (card : L → CardState) (tag : L → TagState) (holds : Holds k tag) (old : Air L) (place : ℕ) (i0 : ReaderState) (command : List ℕ) (commands : List (List ℕ)) (arrived : List Signal)
     (t : HasCardTag k card tag old place i0 commands arrived) where
-  abbrev pub Here : Air L → ReaderState → Stage Signal → Standing → Type 0
+  abbrev pub Here : Air L → ReaderState → Stage Signal → IsoStanding → Type 0
   Here mid i stage s = OnTag k card tag t.listener i0 commands arrived command old mid place i stage s
 
   pub first_here : length command ≤ limit → (i : ReaderState) (f : Signal) → i ≡ begun i0 command → f ≡ block_frame (request (begun i0 command).core)
@@ -564,19 +562,19 @@ module _ {L : Type 0} (k : Ghosts L) (laws : Laws k) (card : L → CardState) (t
       let b : ReaderState = begun i0 command in
       subst (λ (x : ReaderState). Here old x (Requests f) (Waits x f [])) (sym e)
       (subst (λ (g : Signal). Here old b (Requests g) (Waits b g [])) (sym d)
-      (begins_on k laws card tag t.listener t.is i0 commands arrived command old place t.selected t.alone short t.step t.cut))
+      (begins_on k laws card tag holds t.listener t.is i0 commands arrived command old place t.selected t.alone short t.step t.cut))
 
   module _ (mid : Air L) (i : ReaderState) (f : Signal) (bytes : HasBytes f) (o : Here mid i (Requests f) (Waits i f []))
       {F : Type 0} (restarts : F → List ℕ → F → Type 0) (steps : F → List ℕ → List ℕ → F → Type 0) (far far' : F) (new : Air L) where
     quiet_here : EachQuiet k.machine f mid.listeners
-    quiet_here = quiet_on k laws card tag t.listener t.is i0 commands arrived command old mid place i f bytes o
+    quiet_here = quiet_on k laws card tag holds t.listener t.is i0 commands arrived command old mid place i f bytes o
 
     -- the reader goes on by what it heard
     pub next_here : (h : Heard) → TurnIs k.machine restarts steps mid f far (Some h) new far' → (i' : ReaderState) (d : ReaderStep)
         → (let x : ReaderTurn = record { state = i'; does = d } in x) ≡ reader_table i h → Here new i' (stage_of (reader_does d)) (goes_by i' d [])
     next_here h turn i' d e =
         subst (λ (x : ReaderTurn). Here new x.state (stage_of (reader_does x.does)) (goes_by x.state x.does [])) (sym e)
-        (turn_on k laws card tag t.listener t.is i0 commands arrived command old mid place i f bytes o far far' new h (quiet_turn k.machine restarts steps mid f far (Some h) new far' quiet_here turn))
+        (turn_on k laws card tag holds t.listener t.is i0 commands arrived command old mid place i f bytes o far far' new h (quiet_turn k.machine restarts steps mid f far (Some h) new far' quiet_here turn))
 
     lit_here : (h : Heard) → TurnIs k.machine restarts steps mid f far (Some h) new far' → new.lit ≡ old.lit → new.lit ≡ true
     lit_here h turn e = e ∙ sym o.lit ∙ turn.lit
@@ -584,15 +582,15 @@ module _ {L : Type 0} (k : Ghosts L) (laws : Laws k) (card : L → CardState) (t
     six_noisy : (h : Heard) → TurnIs k.machine restarts steps mid f far (Some h) new far' → (i' : ReaderState)
         → (let x : ReaderTurn = record { state = i'; does = step.SixBad } in x) ≡ reader_table i h → (zs : List Event) → new.trace ≡ old.trace ++ zs → 0 < noise zs
     six_noisy h turn i' e zs z =
-        noisy k laws card tag t.listener t.is i0 commands arrived command old mid place i f bytes o far far' new (Some h) (quiet_turn k.machine restarts steps mid f far (Some h) new far' quiet_here turn)
+        noisy k laws card tag holds t.listener t.is i0 commands arrived command old mid place i f bytes o far far' new (Some h) (quiet_turn k.machine restarts steps mid f far (Some h) new far' quiet_here turn)
         (λ g q. let w : h ≡ heards.Whole g = cc in
-        whole_not_six i g (live k laws card tag t.listener t.is i0 commands arrived command old mid place i f bytes o far far' new (Some h) (quiet_turn k.machine restarts steps mid f far (Some h) new far' quiet_here turn))
+        whole_not_six i g (live k laws card tag holds t.listener t.is i0 commands arrived command old mid place i f bytes o far far' new (Some h) (quiet_turn k.machine restarts steps mid f far (Some h) new far' quiet_here turn))
         (ap (λ x. (reader_table i x).does) (sym w) ∙ sym (ap (λ (x : ReaderTurn). x.does) e)))
         zs z
 
     lost_noisy : TurnIs k.machine restarts steps mid f far None new far' → (zs : List Event) → new.trace ≡ old.trace ++ zs → 0 < noise zs
     lost_noisy turn zs z =
-        noisy k laws card tag t.listener t.is i0 commands arrived command old mid place i f bytes o far far' new None (quiet_turn k.machine restarts steps mid f far None new far' quiet_here turn)
+        noisy k laws card tag holds t.listener t.is i0 commands arrived command old mid place i f bytes o far far' new None (quiet_turn k.machine restarts steps mid f far None new far' quiet_here turn)
         (λ g q. absurd (cc)) zs z
 
     -- the answer came
@@ -602,7 +600,7 @@ module _ {L : Type 0} (k : Ghosts L) (laws : Laws k) (card : L → CardState) (t
     ends_answered h turn i' r e answer w =
         let n = next_here h turn i' (step.Finished (record { items = r })) e in
         let lit = lit_here h turn n.lit in
-        let a = answered_asked k laws card tag t.listener t.is i0 commands arrived command old new place i' r (Rests i') n lit in
+        let a = answered_asked k laws card tag holds t.listener t.is i0 commands arrived command old new place i' r (Rests i') n lit in
         (r, a.0, w, lit, a.1)
 
     pub ends_six : (h : Heard) → TurnIs k.machine restarts steps mid f far (Some h) new far' → (i' : ReaderState)
@@ -610,12 +608,12 @@ module _ {L : Type 0} (k : Ghosts L) (laws : Laws k) (card : L → CardState) (t
     ends_six h turn i' e =
         let n = next_here h turn i' step.SixBad e in
         let lit = lit_here h turn n.lit in
-        (n.along.world.given, Broken ask.SixBad, on_asked k laws card tag t.listener t.is i0 commands arrived command old new place i' (Over SixBad) (Broken ask.SixBad) n lit, (refl, lit, six_noisy h turn i' e n.along.added n.along.events))
+        (n.along.world.given, Broken ask.SixBad, on_asked k laws card tag holds t.listener t.is i0 commands arrived command old new place i' (Over SixBad) (Broken ask.SixBad) n lit, (refl, lit, six_noisy h turn i' e n.along.added n.along.events))
 
     pub ends_never : (h : Heard) → TurnIs k.machine restarts steps mid f far (Some h) new far' → (i' : ReaderState)
         → (let x : ReaderTurn = record { state = i'; does = step.Protocol } in x) ≡ reader_table i h → ⊥
     ends_never h turn i' e =
-        never_protocol k laws card tag t.listener t.is i0 commands arrived command old new place i' (Broken ask.Protocol) (next_here h turn i' step.Protocol e)
+        never_protocol k laws card tag holds t.listener t.is i0 commands arrived command old new place i' (Broken ask.Protocol) (next_here h turn i' step.Protocol e)
 
     module _ (stops : F → List ℕ → F → Type 0) (is_stuck : F → Bool) where
       -- the field was dark, or was lost
@@ -623,8 +621,8 @@ module _ {L : Type 0} (k : Ghosts L) (laws : Laws k) (card : L → CardState) (t
           → EndsBy k card tag old new place t.listener i0 i' commands arrived command (Err ask.FieldLost)
       ends_lost i' (inl d) = inl (sym o.lit ∙ d.0, d.1 ∙ o.dim d.0)
       ends_lost i' (inr turn) =
-          let l = turn_lost k laws card tag t.listener t.is i0 commands arrived command old mid place i f bytes o far far' new (quiet_turn k.machine restarts steps mid f far None new far' quiet_here turn) in
-          inr (l.along.world.given, Broken ask.FieldLost, lost_asked k laws card tag t.listener t.is i0 commands arrived command old new place l, (refl, l.dark, lost_noisy turn l.along.added l.along.events))
+          let l = turn_lost k laws card tag holds t.listener t.is i0 commands arrived command old mid place i f bytes o far far' new (quiet_turn k.machine restarts steps mid f far None new far' quiet_here turn) in
+          inr (l.along.world.given, Broken ask.FieldLost, lost_asked k laws card tag holds t.listener t.is i0 commands arrived command old new place l, (refl, l.dark, lost_noisy turn l.along.added l.along.events))
 
       -- nothing more could be noted
       pub ends_stopped : Transmits k.machine restarts steps stops is_stuck mid f far (Err air.Memory) new far'
@@ -633,4 +631,4 @@ module _ {L : Type 0} (k : Ghosts L) (laws : Laws k) (card : L → CardState) (t
           let q = quiet_transmits k.machine restarts steps stops is_stuck mid f far (Err air.Memory) new far' quiet_here turn in
           let P : Air L → Type 0 = λ a. EndsBy k card tag old a place t.listener i0 i commands arrived command (Err ask.Memory) in
           subst P (sym q.1)
-          (o.along.world.given, Waits i f [], on_asked k laws card tag t.listener t.is i0 commands arrived command old mid place i (Requests f) (Waits i f []) o q.0, (f, refl, o.lit))
+          (o.along.world.given, Waits i f [], on_asked k laws card tag holds t.listener t.is i0 commands arrived command old mid place i (Requests f) (Waits i f []) o q.0, (f, refl, o.lit))

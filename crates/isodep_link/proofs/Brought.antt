@@ -4,7 +4,7 @@ use Rattle.isodep_link.specs.declared.block.Block.{Block}
 use Rattle.isodep_link.specs.declared.block.Block.TheVariants.{Info, Ack, Nak, Deselect}
 use Rattle.isodep_link.specs.Sizes.{limit}
 use Rattle.isodep_link.specs.Card.{CardState, CardMove, Does, Stays, Answers, Delivers, Sleeps, stays, again, grown, block_table, fresh}
-use Rattle.isodep_link.specs.Commands.{Cut, taken, joined, cut_by, iso_commands, Obeying, heard_by, settled, with_delivered, moved, obeying}
+use Rattle.isodep_link.specs.Commands.{Cut, taken, joined, cut_by, Obeying, heard_by, settled, with_delivered, moved, obeying, DeliversCommands}
 
 -- the cut at which a card stands that delivered these commands
 abbrev cut_of : CardState → List (List ℕ) → Cut
@@ -75,6 +75,5 @@ obeys far o (b ∷ bs) h =
     obeys far (moved far o m) bs h ∙ ap (λ c. (cut_by c bs).commands) (settled_cut far m.state m.does (with_delivered o.delivered m.does) ∙ sym cut)
 
 -- A card from its beginning delivers the commands of the blocks that it hears, whatever its owner answers.
-pub obeys_commands : (far : List ℕ → List ℕ) (code : ℕ) (bs : List Block) → (obeying far (record { state = fresh code; delivered = [] }) bs).state.mute ≡ false
-    → (obeying far (record { state = fresh code; delivered = [] }) bs).delivered ≡ iso_commands bs
+pub obeys_commands : DeliversCommands
 obeys_commands far code bs h = obeys far (record { state = fresh code; delivered = [] }) bs h

@@ -26,14 +26,18 @@ use Rattle.air_core.proofs.PlainAside.{Laws, IsUnmoved, aside_silent, alone_dark
 use Rattle.air_core.proofs.PlainTurns.{one, joint_one, tag_events, tag_heard, turn_events_as, heard_as}
 use Rattle.isodep_link.specs.Card.{CardState, fresh}
 use Rattle.isodep_link.specs.Exchange.{iso_dep}
-use Rattle.isodep_link.specs.CardTags.{IsAsked, Obeys, IsShort, StepsByCard, IsCardTag}
+use Rattle.isodep_link.specs.CardTags.{IsAskedFrame, TagDoes, IsShort, StepsByCard, IsCardTag}
+
+-- The store of a listener is what its tag holds.
+abbrev pub Holds : {L : Type 0} → Ghosts L → (L → TagState) → Type 0
+Holds {L} k tag = (l : L) → (tag l).store ≡ k.store l
 
 -- some stores, all of them this one
 abbrev pub Shows : List ℕ → List (List ℕ) → Type 0
 Shows z [] = ⊥
 Shows z (x ∷ xs) = (x ≡ z) × AllByRecursion (λ s. s ≡ z) xs
 
-module _ {L : Type 0} (k : Ghosts L) (laws : Laws k) (card : L → CardState) (tag : L → TagState) where
+module _ {L : Type 0} (k : Ghosts L) (laws : Laws k) (card : L → CardState) (tag : L → TagState) (holds : Holds k tag) where
   -- what the listener is after a turn
   abbrev pub back_left : L → Fate → L
   back_left l Pass = l
@@ -83,7 +87,7 @@ module _ {L : Type 0} (k : Ghosts L) (laws : Laws k) (card : L → CardState) (t
       stays q = place_is k k.store [] own w.listeners place l a ∙ q
 
       dims : k.store l ≡ z → at_place k.store [] (map k.machine.darkened w.listeners) place ≡ z
-      dims q = place_is k k.store [] own (map k.machine.darkened w.listeners) place (k.machine.darkened l) (alone_dark k laws own w.listeners place l a) ∙ (laws.dark_keeps l).2 ∙ q
+      dims q = place_is k k.store [] own (map k.machine.darkened w.listeners) place (k.machine.darkened l) (alone_dark k laws own w.listeners place l a) ∙ (laws.dark_keeps l).1 ∙ q
 
       abbrev stepped_on : List L
       stepped_on = map (λ x. stepped_by k.machine x f None) w.listeners
@@ -94,7 +98,7 @@ module _ {L : Type 0} (k : Ghosts L) (laws : Laws k) (card : L → CardState) (t
       steps_dim : k.store (k.machine.after l f None) ≡ z → at_place k.store [] (map k.machine.darkened stepped_on) place ≡ z
       steps_dim q =
           place_is k k.store [] own (map k.machine.darkened stepped_on) place (k.machine.darkened (k.machine.after l f None)) (alone_dark k laws own stepped_on place (k.machine.after l f None) stepped_alone)
-          ∙ (laws.dark_keeps (k.machine.after l f None)).2 ∙ q
+          ∙ (laws.dark_keeps (k.machine.after l f None)).1 ∙ q
 
       shows_store : (x y : Fate) (o : Option Signal) → k.store (met_by l f x) ≡ z → Shows z (stores_after k place w (tag_events f x y o))
       shows_store Damage y o q = (stays q, tt)
@@ -159,10 +163,10 @@ module _ {L : Type 0} (k : Ghosts L) (laws : Laws k) (card : L → CardState) (t
   answered_asked t asked f (Some a) Break = refl
 
   same_moved : (l : L) (f : Signal) (h : StepsByCard k card tag l f) (x y : Fate)
-      → MovedBy (Obeys (k.commands l)) (tag l) (turned iso_dep h.reply (card l) f x y).asked h.reply (met l f x)
+      → MovedBy (TagDoes (k.commands l)) (tag l) (turned iso_dep h.reply (card l) f x y).asked h.reply (met l f x)
   same_moved l f h Pass y =
       let s : Step iso_dep = step iso_dep h.reply (card l) f in
-      subst (λ (o : Option (List ℕ)). MovedBy (Obeys (k.commands l)) (tag l) o h.reply (tag (k.machine.after l f None))) (sym (answered_asked s.state s.asked f s.answer y)) h.moved
+      subst (λ (o : Option (List ℕ)). MovedBy (TagDoes (k.commands l)) (tag l) o h.reply (tag (k.machine.after l f None))) (sym (answered_asked s.state s.asked f s.answer y)) h.moved
   same_moved l f h Damage y = refl
   same_moved l f h Lose y = refl
   same_moved l f h Break y = refl
@@ -178,7 +182,7 @@ module _ {L : Type 0} (k : Ghosts L) (laws : Laws k) (card : L → CardState) (t
     pub left : L
     pub alone : IsAlone k (k.identifier l) new.listeners place left
     pub held : TagState
-    pub turn : IsTurn iso_dep TagState IsShort (Obeys (k.commands l)) (card l) old.trace (tag l) f h (card left) new.trace held
+    pub turn : IsTurn iso_dep TagState IsShort (TagDoes (k.commands l)) (card l) old.trace (tag l) f h (card left) new.trace held
     pub is : IsLeft l f held new.lit h left
     pub added : List Event
     pub trace : new.trace ≡ old.trace ++ added
@@ -207,11 +211,11 @@ module _ {L : Type 0} (k : Ghosts L) (laws : Laws k) (card : L → CardState) (t
   calm_events f Lose y q e = absurd (omega (arith, e))
   calm_events f Break y q e = absurd (omega (arith, e))
 
-  met_holds : (l : L) (f : Signal) (x : Fate) → k.store l ≡ (tag l).store → k.store (k.machine.after l f None) ≡ (tag (k.machine.after l f None)).store → k.store (met_by l f x) ≡ (met l f x).store
-  met_holds l f Pass p q = q
-  met_holds l f Damage p q = p
-  met_holds l f Lose p q = p
-  met_holds l f Break p q = p
+  met_holds : (l : L) (f : Signal) (x : Fate) → k.store (met_by l f x) ≡ (met l f x).store
+  met_holds l f Pass = sym (holds (k.machine.after l f None))
+  met_holds l f Damage = sym (holds l)
+  met_holds l f Lose = sym (holds l)
+  met_holds l f Break = sym (holds l)
 
   calm_is : (a : Option Signal) (x y : Fate) (o : Option Signal) (h : Option Heard) → a ≡ o → h ≡ tag_heard x y o → (o ≡ None) ⊎ ((g : Signal) × (tag_heard x y o ≡ Some (heards.Whole g)))
       → (a ≡ None) ⊎ ((g : Signal) × (h ≡ Some (heards.Whole g)))
@@ -219,16 +223,16 @@ module _ {L : Type 0} (k : Ghosts L) (laws : Laws k) (card : L → CardState) (t
   calm_is a x y o h e t (inr (g, n)) = inr (g, t ∙ n)
 
   -- the reader's frame is an NFC-A frame of whole bytes
-  whole_asked : (f : Signal) → IsAsked f → f ≡ whole_a f.bytes
+  whole_asked : (f : Signal) → IsAskedFrame f → f ≡ whole_a f.bytes
   whole_asked f a = a.frame ∙ ap (λ (z : Signal). whole_a z.bytes) (sym a.frame)
 
-  asked_aside : (own : List ℕ) (f : Signal) → IsAsked f → (l : L) → IsAside k own l → IsUnmoved k laws own f l
-  asked_aside own f a l s = aside_silent k laws own A f (whole_asked f a) (λ e. absurd cc) l s
+  asked_aside : (own : List ℕ) (f : Signal) → IsAskedFrame f → (l : L) → IsAside k own l → IsUnmoved k laws own f l
+  asked_aside own f a l s = aside_silent k laws own A f (whole_asked f a) tt l s
 
-  hears_asked : (l : L) (f : Signal) → IsAsked f → k.machine.tech l ≡ A → hears k.machine l f ≡ true
+  hears_asked : (l : L) (f : Signal) → IsAskedFrame f → k.machine.tech l ≡ A → hears k.machine l f ≡ true
   hears_asked l f a e = ap (λ t. same_tech t f.tech) e ∙ ap (λ (z : Signal). same_tech A z.tech) a.frame
 
-  module _ (old : Air L) (place : ℕ) (l : L) (f : Signal) (alone : IsAlone k (k.identifier l) old.listeners place l) (c : IsCardTag k card tag l) (a : IsAsked f) where
+  module _ (old : Air L) (place : ℕ) (l : L) (f : Signal) (alone : IsAlone k (k.identifier l) old.listeners place l) (c : IsCardTag k card tag l) (a : IsAskedFrame f) where
     s : StepsByCard k card tag l f
     s = c.steps [] tt f a
 
@@ -277,5 +281,5 @@ module _ {L : Type 0} (k : Ghosts L) (laws : Laws k) (card : L → CardState) (t
           calm = λ z. calm_is (k.machine.answer l f None) x y o h s.answer told (calm_events f x y o z);
           stores =
               shows_store (k.identifier l) f (asked_aside (k.identifier l) f a) (world old) place l alone steps (met l f x).store x y o
-              (met_holds l f x (c.holds [] tt) (c.holds (f ∷ []) (a, tt)));
+              (met_holds l f x);
         }

@@ -22,9 +22,10 @@ use Rattle.isodep_link.specs.Card as cards
 use Rattle.isodep_link.specs.Card.{CardState, CardMove, card_table, block_table, grown, again, heeded, stays}
 use Rattle.isodep_link.specs.Reader.{ReaderState, ReaderMove, Reception, Hears, Odd, Bad, reception, reader_table, most_bads, bad, received, more_follows, is_refused, acked, missed, brought, answered, waited, unasked, in_phase}
 use Rattle.isodep_link.specs.Exchange.{iso_dep}
-use Rattle.isodep_link.specs.CardTags.{IsAskedBlock, IsAsked, IsCardTag}
-use Rattle.isodep_link.specs.Asking.{Standing, Waits, Rests, Broken, Astray, asks, goes_by, noted, stand}
+use Rattle.isodep_link.specs.CardTags.{IsAskedBlock, IsAskedFrame, IsCardTag}
+use Rattle.isodep_link.specs.Asking.{IsoStanding, Waits, Rests, Broken, Astray, asks, goes_by, noted, stand}
 use Rattle.isodep_link.proofs.Wire.{card_heeds}
+use Rattle.isodep_link.proofs.CardTurns.{Holds}
 use Rattle.isodep_link.proofs.AskingLaw.{stays_card_tag}
 
 -- a reader's move after which it cuts to the same size
@@ -84,7 +85,7 @@ reader_keeps : (i : ReaderState) (h : Heard) → (reader_table i h).state.core.m
 reader_keeps i h = keeps_in i i.phase (reception h)
 
 -- where a reader stands that cuts to this size
-abbrev CutsTo : ℕ → Standing → Type 0
+abbrev CutsTo : ℕ → IsoStanding → Type 0
 CutsTo n (Waits i f cs) = i.core.most ≡ n
 CutsTo n (Rests i) = i.core.most ≡ n
 CutsTo n (Broken e) = Unit {0}
@@ -101,7 +102,7 @@ goes_cuts n i (steps.Finished answer) cs e = asks_cuts n i cs e
 goes_cuts n i steps.SixBad cs e = tt
 goes_cuts n i steps.Protocol cs e = tt
 
-noted_cuts : (n : ℕ) (s : Standing) (x : Note) → CutsTo n s → CutsTo n (noted s x)
+noted_cuts : (n : ℕ) (s : IsoStanding) (x : Note) → CutsTo n s → CutsTo n (noted s x)
 noted_cuts n (Waits i f cs) Lit e = tt
 noted_cuts n (Waits i f cs) Lost e = tt
 noted_cuts n (Waits i f cs) (Got h) e = goes_cuts n (reader_table i h).state (reader_table i h).does cs (reader_keeps i h ∙ e)
@@ -109,13 +110,13 @@ noted_cuts n (Rests i) x e = tt
 noted_cuts n (Broken f) x e = tt
 noted_cuts n Astray x e = tt
 
-stand_cuts : (n : ℕ) (s : Standing) (ns : List Note) → CutsTo n s → CutsTo n (stand s ns)
+stand_cuts : (n : ℕ) (s : IsoStanding) (ns : List Note) → CutsTo n s → CutsTo n (stand s ns)
 stand_cuts n s [] e = e
 stand_cuts n s (x ∷ ns) e = stand_cuts n (noted s x) ns (noted_cuts n s x e)
 
 -- a reader whose commands were all answered cuts to the same size as before
 pub rests_cut : (i j : ReaderState) (cs : List (List ℕ)) (ns : List Note) → stand (asks i cs) ns ≡ Rests j → j.core.most ≡ i.core.most
-rests_cut i j cs ns e = let P : Standing → Type 0 = CutsTo i.core.most in subst P e (stand_cuts i.core.most (asks i cs) ns (asks_cuts i.core.most i cs refl))
+rests_cut i j cs ns e = let P : IsoStanding → Type 0 = CutsTo i.core.most in subst P e (stand_cuts i.core.most (asks i cs) ns (asks_cuts i.core.most i cs refl))
 
 -- a card's move after which it cuts to the same size
 abbrev CardKeeps : CardState → CardMove → Type 0
@@ -148,7 +149,7 @@ in_range (Nak n) a = a
 in_range Deselect a = absurd a
 
 -- at a frame that a reader sends the card cuts to the same size, also once its owner answered
-table_keeps : (t : CardState) (f : Signal) → IsAsked f → (v : Bool) → t.mute ≡ v → (card_table t f).state.most ≡ t.most
+table_keeps : (t : CardState) (f : Signal) → IsAskedFrame f → (v : Bool) → t.mute ≡ v → (card_table t f).state.most ≡ t.most
 table_keeps t f a true e = ap (λ v. (if v then cards.framed (stays t) else heeded t (rats_code f) (spelled_block f)).state.most) e
 table_keeps t f a false e =
     ap (λ (z : Signal). (card_table t z).state.most) a.frame ∙ ap (λ m. m.state.most) (card_heeds t a.block e (in_range a.block a.asked)) ∙ card_keeps t a.block
@@ -158,14 +159,14 @@ settled_keeps r t Quiet = refl
 settled_keeps r t (Reply a) = refl
 settled_keeps r t (Deliver p) = refl
 
-step_keeps : (r : List ℕ) (t : CardState) (f : Signal) → IsAsked f → (step iso_dep r t f).state.most ≡ t.most
+step_keeps : (r : List ℕ) (t : CardState) (f : Signal) → IsAskedFrame f → (step iso_dep r t f).state.most ≡ t.most
 step_keeps r t f a = settled_keeps r (iso_dep.heard t f) (iso_dep.does t f) ∙ table_keeps t f a t.mute refl
 
 -- a tag that heard blocks cuts to the same size as before
-pub reached_cuts : {L : Type 0} (k : Ghosts L) (laws : Laws k) (card : L → CardState) (tag : L → TagState) (l : L) (fs : List Signal) → AllByRecursion IsAsked fs → IsCardTag k card tag l
+pub reached_cuts : {L : Type 0} (k : Ghosts L) (laws : Laws k) (card : L → CardState) (tag : L → TagState) (holds : Holds k tag) (l : L) (fs : List Signal) → AllByRecursion IsAskedFrame fs → IsCardTag k card tag l
     → (card (reached k l fs)).most ≡ (card l).most
-reached_cuts k laws card tag l [] a c = refl
-reached_cuts k laws card tag l (f ∷ fs) a c =
+reached_cuts k laws card tag holds l [] a c = refl
+reached_cuts k laws card tag holds l (f ∷ fs) a c =
     let s = c.steps [] tt f a.0 in
     let here : (card (k.machine.after l f None)).most ≡ (card l).most = ap (λ (t : CardState). t.most) s.card_is ∙ step_keeps s.reply (card l) f a.0 in
-    reached_cuts k laws card tag (k.machine.after l f None) fs a.1 (stays_card_tag k laws card tag l (f ∷ []) (a.0, tt) c) ∙ here
+    reached_cuts k laws card tag holds (k.machine.after l f None) fs a.1 (stays_card_tag k laws card tag holds l (f ∷ []) (a.0, tt) c) ∙ here

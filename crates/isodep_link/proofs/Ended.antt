@@ -8,7 +8,7 @@ use Rattle.nfc_base.specs.Signal.{Signal}
 use Rattle.nfc_base.specs.declared.event.Heard.TheVariants as heard
 use Rattle.isodep_link.specs.declared.reader.ReaderStep.TheVariants as steps
 use Rattle.isodep_link.specs.Blocks.{spelled_block}
-use Rattle.isodep_link.specs.Reader.{framed_next, Next, Asks, Gives, whole_reception, reader_table, Core, ReaderState, ReaderMove, Reception, Hears, Odd, Bad, GivesUp, Refuses, sends, refuses, most_bads, bad, received, more_follows, is_refused, acked, missed, brought, answered, waited, unasked, in_phase, block_next}
+use Rattle.isodep_link.specs.Reader.{framed, framed_next, reception, FaultsStay, ReaderDoes, Asks, Gives, whole_reception, reader_table, Core, ReaderState, ReaderMove, Reception, Hears, Odd, Bad, GivesUp, Refuses, sends, refuses, most_bads, bad, received, more_follows, is_refused, acked, missed, brought, answered, waited, unasked, in_phase, block_next}
 
 -- a move that ends by a fault keeps which it was
 pub record Keeps (m : ReaderMove) : Type 0 where
@@ -70,12 +70,12 @@ keeps_in i EndedSixBad e h = record { gave_up = λ d. e; refused = λ d. cc }
 keeps_in i EndedProtocol e h = record { gave_up = λ d. cc; refused = λ d. e }
 
 -- After six bad receptions of a wait each later step gives up again, and changes nothing.
-pub gives_up_again : (i : ReaderState) (h k : Reception) → (block_next i h).does ≡ GivesUp
+gives_up_again : (i : ReaderState) (h k : Reception) → (block_next i h).does ≡ GivesUp
     → block_next (block_next i h).state k ≡ record { state = (block_next i h).state; does = GivesUp }
 gives_up_again i h k e = ap (λ p. in_phase (block_next i h).state p k) ((keeps_in i i.phase refl h).gave_up e)
 
 -- After a whole frame that isn't allowed each later step refuses again, and changes nothing.
-pub refuses_again : (i : ReaderState) (h k : Reception) → (block_next i h).does ≡ Refuses
+refuses_again : (i : ReaderState) (h k : Reception) → (block_next i h).does ≡ Refuses
     → block_next (block_next i h).state k ≡ record { state = (block_next i h).state; does = Refuses }
 refuses_again i h k e = ap (λ p. in_phase (block_next i h).state p k) ((keeps_in i i.phase refl h).refused e)
 
@@ -110,7 +110,7 @@ not_six_whole : (i : ReaderState) (o : Option Block) → IsNotSix (waited i (who
 not_six_whole i None = λ e. absurd cc
 not_six_whole i (Some b) = not_six_answered i b
 
-six_framed : (x : Next) → framed_next x ≡ steps.SixBad → x ≡ GivesUp
+six_framed : (x : ReaderDoes) → framed_next x ≡ steps.SixBad → x ≡ GivesUp
 six_framed (Asks b) e = absurd cc
 six_framed (Gives xs) e = absurd cc
 six_framed GivesUp e = refl
@@ -121,3 +121,16 @@ whole_not_six i g (inl p) e =
     not_six_whole i (spelled_block g) (sym (ap (λ q. (in_phase i q (whole_reception (spelled_block g))).does) p) ∙ six_framed _ e)
 whole_not_six i g (inr p) e =
     not_six_whole i (spelled_block g) (sym (ap (λ q. (in_phase i q (whole_reception (spelled_block g))).does) p) ∙ six_framed _ e)
+
+-- a move that refuses
+tells_protocol : (d : ReaderDoes) → framed_next d ≡ steps.Protocol → d ≡ Refuses
+tells_protocol (Asks b) e = absurd cc
+tells_protocol (Gives xs) e = absurd cc
+tells_protocol GivesUp e = absurd cc
+tells_protocol Refuses e = refl
+
+pub faults_stay : FaultsStay
+faults_stay i h later = (
+  λ e. ap framed (gives_up_again i (reception h) (reception later) (six_framed (block_next i (reception h)).does e)),
+  λ e. ap framed (refuses_again i (reception h) (reception later) (tells_protocol (block_next i (reception h)).does e)),
+)

@@ -9,7 +9,7 @@ use Rattle.isodep_link.specs.declared.reader.ReaderStep.TheVariants as steps
 use Rattle.nfc_base.specs.Signal.{Signal}
 use Rattle.nfc_base.specs.declared.event.Heard.{Heard}
 use Rattle.isodep_link.specs.Sizes.{limit}
-use Rattle.isodep_link.specs.Reader.{Core, ReaderState, ReaderMove, ReaderTurn, Reception, Hears, Odd, Bad, Asks, Gives, GivesUp, Refuses, Next, framed_next, reception, reader_table, refuses, most_bads, bad, after_bad, received, more_follows, is_refused, acked, missed, brought, answered, waited, unasked, in_phase, block_next}
+use Rattle.isodep_link.specs.Reader.{Core, ReaderState, ReaderMove, ReaderTurn, Reception, Hears, Odd, Bad, Asks, Gives, GivesUp, Refuses, ReaderDoes, framed_next, reception, reader_table, refuses, most_bads, bad, after_bad, received, more_follows, is_refused, acked, missed, brought, answered, waited, unasked, in_phase, block_next}
 use Rattle.isodep_link.specs.Falling.{after_nak, left_to_do}
 use Rattle.isodep_link.proofs.Standing.{le_from_not}
 
@@ -17,7 +17,7 @@ use Rattle.isodep_link.proofs.Standing.{le_from_not}
 abbrev Falls : ReaderState → ReaderMove → Type 0
 Falls i m = (b : Block) → m.does ≡ Asks b → left_to_do m.state < left_to_do i
 
-falls_not : (i : ReaderState) (m : ReaderMove) (x : Next) → m.does ≡ x → ((b : Block) → x ≡ Asks b → ⊥) → Falls i m
+falls_not : (i : ReaderState) (m : ReaderMove) (x : ReaderDoes) → m.does ≡ x → ((b : Block) → x ≡ Asks b → ⊥) → Falls i m
 falls_not i m x e n = λ b d. absurd (n b (sym e ∙ d))
 
 falls_refuses : (i : ReaderState) → Falls i (refuses i)
@@ -115,7 +115,7 @@ falls_in i EndedSixBad h p = λ b e. absurd (cc)
 falls_in i EndedProtocol h p = λ b e. absurd (cc)
 
 -- what a reader sends, it sends as the block of a move
-sent_block : (x : Next) (f : Signal) → framed_next x ≡ steps.Send f → (b : Block) × (x ≡ Asks b)
+sent_block : (x : ReaderDoes) (f : Signal) → framed_next x ≡ steps.Send f → (b : Block) × (x ≡ Asks b)
 sent_block (Asks b) f e = (b, refl)
 sent_block (Gives xs) f e = absurd (cc)
 sent_block GivesUp f e = absurd (cc)

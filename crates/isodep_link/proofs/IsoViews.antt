@@ -6,10 +6,10 @@ use Rattle.nfc_base.specs.Signal.{Signal, whole_a}
 use Rattle.nfc_base.specs.Trace.{noise}
 use Rattle.nfc_base.specs.StopAndWait.{delivered_of, pieces_back}
 use Rattle.nfc_base.specs.LinkTurns.{arrived, GivenBy, bad_receptions}
-use Rattle.nfc_base.specs.TagLinks.{TagState, TagStep, plain_state, after_all, passed, Leads, Obeys}
+use Rattle.nfc_base.specs.TagLinks.{TagState, TagStep, after_all, passed, Leads, Obeys}
 use Rattle.nfc_base.specs.declared.event.Event.{Event}
 use Rattle.nfc_base.specs.declared.tag_link.AskFault.{AskFault}
-use Rattle.nfc_base.proofs.Leading.{after_append}
+use Rattle.air_core.specs.World.{Machine}
 use Rattle.air_core.specs.Turn.{Air, world}
 use Rattle.air_core.specs.PlainTags.{reached}
 use Rattle.air_core.specs.PlainLinks.{at_place, Follows, stores_after}
@@ -23,11 +23,12 @@ use Rattle.isodep_link.specs.Card.{CardState}
 use Rattle.isodep_link.specs.Reader.{ReaderState, waiting}
 use Rattle.isodep_link.specs.Commands.{iso_commands}
 use Rattle.isodep_link.specs.Exchange.{blocks_of, pieces, IsCut}
-use Rattle.isodep_link.specs.Activating.{first_link, IsActivated, RatsEnds, IsActivatedLink}
+use Rattle.isodep_link.specs.Activating.{first_link, AsksRats, Opens, IsActivated, RatsEnds, IsActivatedLink}
 use Rattle.isodep_link.specs.CardTags as tags
-use Rattle.isodep_link.specs.Asking.{Standing, iso_next, Asked}
-use Rattle.isodep_link.specs.IsoLinks.{IsoSeen, commands_of, obeyed_in, opened_by, answer_pieces, most_sent, since, store_of, card_most, iso_view, IsIsoReady}
+use Rattle.isodep_link.specs.Asking.{IsoStanding, iso_next, CommandTurns}
+use Rattle.isodep_link.specs.IsoLinks.{IsoSeen, commands_of, obeyed_in, answer_pieces, most_sent, since, card_most, iso_view, IsIsoReady}
 use Rattle.isodep_link.proofs.Images.{arrived_append}
+use Rattle.isodep_link.proofs.CardTurns.{Holds}
 use Rattle.isodep_link.proofs.AskingLaw.{reached_same}
 
 -- the command, where something was given
@@ -43,7 +44,7 @@ some_pieces n (Some f) = one_more ((length f.bytes - 1) / n)
     one_more m = omega arith
 
 -- what was given takes as many pieces as the answer of the tag's step, or none was given
-given_pieces : (n : ℕ) (step : TagState → Signal → TagStep) (s held : TagState) (c : List ℕ) (o : Option (List ℕ)) → GivenBy (tags.Obeys step) s c o held
+given_pieces : (n : ℕ) (step : TagState → Signal → TagStep) (s held : TagState) (c : List ℕ) (o : Option (List ℕ)) → GivenBy (tags.TagDoes step) s c o held
     → pieces_back (pieces n) o ≤ answer_pieces n (step s (whole_a c)).answer
 given_pieces n step s held c None h = some_pieces n (step s (whole_a c)).answer
 given_pieces n step s held c (Some r) h = let P : Option Signal → Type 0 = λ x. pieces n r ≤ answer_pieces n x in subst P (sym h.0) (omega arith)
@@ -52,7 +53,7 @@ given_pieces n step s held c (Some r) h = let P : Option Signal → Type 0 = λ 
 more_back : (n x p q b : ℕ) → n ≤ 2 * (x + p - 1) + 4 * b → p ≤ q → n ≤ 2 * (x + q - 1) + 0 + 4 * b
 more_back n x p q b h l = omega (arith, h, l)
 
-module _ {L : Type 0} (k : Ghosts L) (laws : Laws k) (card : L → CardState) (tag : L → TagState) (old : Air L) (place start told : ℕ) (i : ReaderState) (last : Option Signal) (over : Option AskFault) where
+module _ {L : Type 0} (k : Ghosts L) (laws : Laws k) (card : L → CardState) (tag : L → TagState) (holds : Holds k tag) (old : Air L) (place start told : ℕ) (i : ReaderState) (last : Option Signal) (over : Option AskFault) where
   abbrev pub before : IsoSeen L
   before = record { air = old; place = place; start = start; told = told; reader = i; last = last; over = over }
 
@@ -63,20 +64,12 @@ module _ {L : Type 0} (k : Ghosts L) (laws : Laws k) (card : L → CardState) (t
     was : {B : Type 0} (g : L → B) (d : B) → at_place g d old.listeners place ≡ g l
     was g d = place_is k g d (k.identifier l) old.listeners place l r.has.alone
 
-    -- what the tag holds, as the link shows it
-    opened : TagState
-    opened = after_all (k.commands l) (plain_state r.origin) (obeyed_in (since k card tag before))
-
     shown_state : (iso_view k card tag before).state ≡ tag l
-    shown_state =
-        let cs : List Signal = obeyed_in (since k card tag before) in
-        let S : (TagState → Signal → TagStep) → TagState = λ g. opened_by g (store_of k card tag before) (plain_state (store_of k card tag before)) cs in
-        let T : List ℕ → TagState = λ s. opened_by (k.commands l) s (plain_state s) cs in
-        ap S (was k.commands _) ∙ ap T (was k.store [] ∙ r.has.is.holds [] tt ∙ ap (λ (s : TagState). s.store) r.holds) ∙ r.replays cs ∙ sym r.holds
+    shown_state = was tag _
 
     -- a command was asked
-    module _ (new : Air L) (told' : ℕ) (i' : ReaderState) (last' : Option Signal) (over' : Option AskFault) (c : Signal) (may : c ≡ whole_a c.bytes) (g : Option (List ℕ)) (s : Standing)
-        (w : Asked k card tag old new place l i (commands_of (since k card tag before)) (arrived (since k card tag before)) c.bytes g s) where
+    module _ (new : Air L) (told' : ℕ) (i' : ReaderState) (last' : Option Signal) (over' : Option AskFault) (c : Signal) (may : c ≡ whole_a c.bytes) (g : Option (List ℕ)) (s : IsoStanding)
+        (w : CommandTurns k card tag old new place l i (commands_of (since k card tag before)) (arrived (since k card tag before)) c.bytes g s) where
       abbrev pub behind : IsoSeen L
       behind = record { air = new; place = place; start = start; told = told'; reader = i'; last = last'; over = over' }
 
@@ -90,19 +83,19 @@ module _ {L : Type 0} (k : Ghosts L) (laws : Laws k) (card : L → CardState) (t
       IsLeft = ((new.lit ≡ true) × (left ≡ reached k l w.after.frames)) ⊎ ((new.lit ≡ false) × (left ≡ k.machine.darkened (reached k l w.after.frames)))
 
       left_commands : IsLeft → k.commands left ≡ k.commands l
-      left_commands (inl e) = ap k.commands e.1 ∙ r.has.is.same w.after.frames w.after.asked
-      left_commands (inr e) = ap k.commands e.1 ∙ r.has.is.dark w.after.frames w.after.asked
+      left_commands (inl e) = ap k.commands e.1 ∙ (reached_same k laws l w.after.frames).commands'
+      left_commands (inr e) = ap k.commands e.1 ∙ (laws.dark_keeps (reached k l w.after.frames)).0.commands' ∙ (reached_same k laws l w.after.frames).commands'
 
       left_identifier : IsLeft → k.identifier left ≡ k.identifier l
-      left_identifier (inl e) = ap k.identifier e.1 ∙ (reached_same k laws l w.after.frames).1
-      left_identifier (inr e) = ap k.identifier e.1 ∙ (laws.dark_keeps (reached k l w.after.frames)).1 ∙ (reached_same k laws l w.after.frames).1
+      left_identifier (inl e) = ap k.identifier e.1 ∙ (reached_same k laws l w.after.frames).identifier'
+      left_identifier (inr e) = ap k.identifier e.1 ∙ (laws.dark_keeps (reached k l w.after.frames)).0.identifier' ∙ (reached_same k laws l w.after.frames).identifier'
 
       reached_store : k.store (reached k l w.after.frames) ≡ w.held.store
-      reached_store = r.has.is.holds w.after.frames w.after.asked ∙ ap (λ (t : TagState). t.store) w.after.holds
+      reached_store = sym (holds (reached k l w.after.frames)) ∙ ap (λ (t : TagState). t.store) w.after.holds
 
       left_store : IsLeft → k.store left ≡ w.held.store
       left_store (inl e) = ap k.store e.1 ∙ reached_store
-      left_store (inr e) = ap k.store e.1 ∙ (laws.dark_keeps (reached k l w.after.frames)).2 ∙ reached_store
+      left_store (inr e) = ap k.store e.1 ∙ (laws.dark_keeps (reached k l w.after.frames)).1 ∙ reached_store
 
       same_step : (iso_view k card tag behind).step ≡ (iso_view k card tag before).step
       same_step = now k.commands _ ∙ left_commands w.after.is ∙ sym (was k.commands _)
@@ -116,36 +109,41 @@ module _ {L : Type 0} (k : Ghosts L) (laws : Laws k) (card : L → CardState) (t
           ∙ map-append whole_a (commands_of (drop start old.trace)) (delivered_of c.bytes g)
 
       -- the step of the command where something was given
-      after_given : (o : Option (List ℕ)) (held : TagState) → GivenBy (tags.Obeys (k.commands l)) (tag l) c.bytes o held → held ≡ after_all (k.commands l) (tag l) (handed c o)
+      after_given : (o : Option (List ℕ)) (held : TagState) → GivenBy (tags.TagDoes (k.commands l)) (tag l) c.bytes o held → held ≡ after_all (k.commands l) (tag l) (handed c o)
       after_given None held h = h
       after_given (Some x) held h = h.1
 
       pub held_after : w.held ≡ after_all (k.commands l) (tag l) (handed c g)
       held_after = after_given g w.held w.given_by
 
-      pub held_all : w.held ≡ after_all (k.commands l) (plain_state r.origin) (obeyed_in (since k card tag before) ++ handed c g)
-      held_all =
-          held_after ∙ ap (λ (t : TagState). after_all (k.commands l) t (handed c g)) r.holds
-          ∙ sym (after_append (k.commands l) (plain_state r.origin) (obeyed_in (since k card tag before)) (handed c g))
+      -- where the field is lit, the link shows what the tag holds; in the dark its store alone
+      pub shown_held : new.lit ≡ true → (iso_view k card tag behind).state ≡ w.held
+      shown_held lit = now tag _ ∙ by_light w.after.is
+        where
+          by_light : IsLeft → tag left ≡ w.held
+          by_light (inl e) = ap tag e.1 ∙ w.after.holds
+          by_light (inr e) = absurd (let dim : new.lit ≡ false = e.0 in cc)
 
-      pub shown_held : (iso_view k card tag behind).state ≡ w.held
-      shown_held =
-          let cs : List Signal = obeyed_in (since k card tag before) ++ handed c g in
-          let S : (TagState → Signal → TagStep) → TagState = λ z. opened_by z (store_of k card tag behind) (plain_state (store_of k card tag behind)) (obeyed_in (since k card tag behind)) in
-          let T : List ℕ → TagState = λ z. opened_by (k.commands l) z (plain_state z) (obeyed_in (since k card tag behind)) in
-          let Z : List ℕ = (after_all (k.commands l) (plain_state r.origin) cs).store in
-          let U : List Signal → TagState = λ z. opened_by (k.commands l) Z (plain_state Z) z in
-          ap S (now k.commands _ ∙ left_commands w.after.is) ∙ ap T (now k.store [] ∙ left_store w.after.is ∙ ap (λ (t : TagState). t.store) held_all) ∙ ap U shown_obeyed ∙ r.replays cs ∙ sym held_all
+      pub shown_store : (iso_view k card tag behind).state.store ≡ w.held.store
+      shown_store = ap (λ (t : TagState). t.store) (now tag _) ∙ holds left ∙ left_store w.after.is
 
-      pub leads : Leads (iso_view k card tag before) (iso_view k card tag behind) (handed c g)
-      leads = record {
+      held_by : (o : Option (List ℕ)) → o ≡ g → w.held ≡ after_all (k.commands l) (tag l) (handed c o)
+      held_by o e = held_after ∙ ap (λ (z : Option (List ℕ)). after_all (k.commands l) (tag l) (handed c z)) (sym e)
+
+      after_shown : after_all (k.commands l) (tag l) (handed c g) ≡ after_all (iso_view k card tag before).step (iso_view k card tag before).state (handed c g)
+      after_shown =
+          ap (λ (t : TagState). after_all (k.commands l) t (handed c g)) (sym shown_state)
+          ∙ ap (λ (z : TagState → Signal → TagStep). after_all z (iso_view k card tag before).state (handed c g)) (sym (was k.commands _))
+
+      pub leads : over ≡ None → (over' ≡ None → new.lit ≡ true) → Leads (iso_view k card tag before) (iso_view k card tag behind) (handed c g)
+      leads begun_ stays_lit = record {
         kind = refl;
         identifier = now k.identifier [] ∙ left_identifier w.after.is ∙ sym (was k.identifier []);
         step = same_step;
         obeyed = shown_obeyed;
-        state =
-            shown_held ∙ held_after ∙ ap (λ (t : TagState). after_all (k.commands l) t (handed c g)) (sym shown_state)
-            ∙ ap (λ (z : TagState → Signal → TagStep). after_all z (iso_view k card tag before).state (handed c g)) (sym (was k.commands _));
+        store = shown_store ∙ ap (λ (t : TagState). t.store) (held_after ∙ after_shown);
+        state = λ e. shown_held (stays_lit e) ∙ held_after ∙ after_shown;
+        ended = λ e h. absurd (let none : over ≡ None = begun_ in cc);
       }
 
       only_handed : (o : Option (List ℕ)) → AllByRecursion (λ d. d ≡ c) (handed c o)
@@ -160,10 +158,10 @@ module _ {L : Type 0} (k : Ghosts L) (laws : Laws k) (card : L → CardState) (t
       most_handed None = omega arith
       most_handed (Some x) = omega arith
 
-      pub obeys : Obeys (iso_view k card tag before) (iso_view k card tag behind) c
-      obeys = record {
+      pub obeys : over ≡ None → (over' ≡ None → new.lit ≡ true) → Obeys (iso_view k card tag before) (iso_view k card tag behind) c
+      obeys begun_ stays_lit = record {
         more = handed c g;
-        leads = leads;
+        leads = leads begun_ stays_lit;
         steady = record {
           only = only_handed g;
           same = same_handed g (iso_view k card tag before).step (iso_view k card tag before).state;
@@ -175,7 +173,7 @@ module _ {L : Type 0} (k : Ghosts L) (laws : Laws k) (card : L → CardState) (t
       pub shown_images : Follows (iso_view k card tag before).state.store (stores_after k place (world old) (drop (length old.trace) new.trace))
           (passed (iso_view k card tag before).step (iso_view k card tag before).state (handed c g))
       shown_images =
-          let now_is : (iso_view k card tag before).state.store ≡ k.store l = ap (λ (t : TagState). t.store) shown_state ∙ sym (r.has.is.holds [] tt) in
+          let now_is : (iso_view k card tag before).state.store ≡ k.store l = ap (λ (t : TagState). t.store) shown_state ∙ holds l in
           let es : drop (length old.trace) new.trace ≡ w.events = ap (drop (length old.trace)) w.trace ∙ drop-append_seam old.trace w.events in
           let P : List Event → Type 0 = λ xs. Follows (iso_view k card tag before).state.store (stores_after k place (world old) xs) (passed (iso_view k card tag before).step (iso_view k card tag before).state (handed c g)) in
           let Q : List ℕ → Type 0 = λ z. Follows z (stores_after k place (world old) w.events) (passed (iso_view k card tag before).step (iso_view k card tag before).state (handed c g)) in
@@ -206,12 +204,13 @@ module _ {L : Type 0} (k : Ghosts L) (laws : Laws k) (card : L → CardState) (t
           let R : List Event → Type 0 = λ xs. length xs ≤ 2 * (pieces i.core.most c.bytes + pieces_back (pieces (card l).most) g - 1) + 4 * bad_receptions xs in
           more_back _ _ _ _ _ (subst R es w.within) back
 
-      -- the tag is what it was before the command or after it
-      pub either_state : (o : Option (List ℕ)) → o ≡ g
-          → ((iso_view k card tag behind).state ≡ (iso_view k card tag before).state) ⊎ ((iso_view k card tag behind).state ≡ ((iso_view k card tag before).step (iso_view k card tag before).state c).after)
-      either_state None e = inl (shown_held ∙ held_after ∙ ap (λ (z : Option (List ℕ)). after_all (k.commands l) (tag l) (handed c z)) (sym e) ∙ sym shown_state)
-      either_state (Some x) e =
-          inr (shown_held ∙ held_after ∙ ap (λ (z : Option (List ℕ)). after_all (k.commands l) (tag l) (handed c z)) (sym e) ∙ sym (ap (λ (z : TagStep). z.after) shown_step))
+      -- the tag holds what it held before the command or what it holds after it
+      pub either_store : (o : Option (List ℕ)) → o ≡ g
+          → ((iso_view k card tag behind).state.store ≡ (iso_view k card tag before).state.store)
+          ⊎ ((iso_view k card tag behind).state.store ≡ ((iso_view k card tag before).step (iso_view k card tag before).state c).after.store)
+      either_store None e = inl (shown_store ∙ ap (λ (t : TagState). t.store) (held_by None e ∙ sym shown_state))
+      either_store (Some x) e =
+          inr (shown_store ∙ ap (λ (t : TagState). t.store) (held_by (Some x) e ∙ sym (ap (λ (z : TagStep). z.after) shown_step)))
 
       -- what was answered before stays answered
       pub still_answered : told ≤ length old.trace → obeyed_in (drop start (take told new.trace)) ≡ (iso_view k card tag before).answered
@@ -245,10 +244,13 @@ ready_on k card tag air place i a =
         step = a.has.step;
         cut = subst Q (sym none) a.has.cut;
       };
-      origin = a.origin;
-      holds = a.holds ∙ ap (λ (es : List Event). after_all (k.commands a.has.listener) (plain_state a.origin) (obeyed_in es)) (sym none);
-      replays = a.replays;
     }
+
+-- the first link to what answered RATS
+pub opens : {L : Type 0} (m : Machine L) (old new : Air L) (place code : ℕ) (p : IsoSeen L) → p ≡ first_link new place code → AsksRats m old new (Ok code) → Opens m old place p
+opens m old new place code p e asks =
+    let P : IsoSeen _ → Type 0 = λ q. Opens m old place q in
+    subst P (sym e) (record { code = code; asks = asks; first = refl })
 
 -- the first link to a tag whose answer to RATS came is one to a tag that was activated
 pub activated_link : {L : Type 0} (k : Ghosts L) (card : L → CardState) (tag : L → TagState) (old new : Air L) (place code : ℕ) (p : IsoSeen L) → p ≡ first_link new place code

@@ -8,10 +8,12 @@ pub mod Landing
 pub mod Hearing
 pub mod Obeyed
 pub mod Session
+pub mod Speaking
 pub mod CardTurns
 pub mod CutSizes
 pub mod Images
 pub mod AskingLaw
+pub mod AnyTag
 pub mod Falls
 pub mod IsoViews
 pub mod IsoAnswers

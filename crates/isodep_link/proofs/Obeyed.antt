@@ -1,13 +1,11 @@
 -- Over every air a card obeys the command of an exchange at most once, and exactly once where the reader has the answer.
 use Rattle.std.proofs.Common.{ℕ, ◌*◌, ◌≤◌, List, length, None, refl, sym, ap, arith, append-nil}
-use Rattle.nfc_base.specs.Signal.{Signal}
-use Rattle.nfc_base.specs.StopAndWait.{run, IsReplyTo}
-use Rattle.nfc_base.specs.declared.event.Fate.{Fate}
+use Rattle.nfc_base.specs.StopAndWait.{IsReplyTo}
 use Rattle.nfc_base.proofs.ExactlyOnce.{Keeps, exactly_once}
 use Rattle.isodep_link.specs.Sizes.{limit}
 use Rattle.isodep_link.specs.Card.{CardState}
 use Rattle.isodep_link.specs.Reader.{ReaderState, begun}
-use Rattle.isodep_link.specs.Exchange.{iso_dep, pieces, InStep, IsCut, beginning, ObeyedOnce}
+use Rattle.isodep_link.specs.Exchange.{iso_dep, pieces, InStep, IsCut, beginning, ObeysOnce}
 use Rattle.isodep_link.proofs.Standing.{Asking, Ask, asks, Wait, more, Fits}
 use Rattle.isodep_link.proofs.Landing.{lands_at}
 use Rattle.isodep_link.proofs.Hearing.{unheard_at, lost_at, damaged_at, answered_at, ask_left}
@@ -47,9 +45,7 @@ asking_first i t command short s =
 -- obeyed at most once, and exactly once where the exchange ends with the answer, which is the owner's answer to it. It never ends by
 -- a frame that isn't allowed; and it takes at most 2 (k1 + k2 - 1) + 4 b transmissions, for k1 blocks out, k2 blocks back and
 -- b bad receptions.
-pub obeyed_once : (far : List ℕ → List ℕ) (i : ReaderState) (t : CardState) (commands : List (List ℕ)) (arrived : List Signal) (command : List ℕ) (fates : List Fate)
-    → ((xs : List ℕ) → length (far xs) ≤ limit) → length command ≤ limit → InStep i t → IsCut t commands arrived
-    → ObeyedOnce far i t commands command (run iso_dep far (beginning i t commands arrived command) fates)
+pub obeyed_once : ObeysOnce
 obeyed_once far i t commands arrived command fates fits short s c =
     exactly_once iso_dep commands command (keeps t.most command) (IsReplyTo far command) (pieces i.core.most command) (pieces t.most) (λ r. refl)
     far fits refl (beginning i t commands arrived command) fates (

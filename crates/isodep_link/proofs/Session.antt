@@ -1,7 +1,6 @@
 -- In exchanges one after another, over every air, a card obeys each command once and in order; only the last, where it isn't
 -- answered, may be missing.
 use Rattle.std.proofs.Common.{◌≡◌, inl, inr, ℕ, ◌<◌, ◌≤◌, ◌==◌, Bool, true, false, if◌then◌else◌, List, [], ◌∷◌, ◌++◌, Option, Some, None, refl, sym, ◌∙◌, ap, append_assoc, append-nil, arith}
-use Rattle.std.specs.List.{AllByRecursion}
 use Rattle.nfc_base.specs.Signal.{Signal}
 use Rattle.nfc_base.specs.StopAndWait.{Finished, SixBad, Protocol, Stage, Requests, Answers, Over, Dark, IsEnding, delivered_of}
 use Rattle.isodep_link.specs.Sizes.{block_size, piece_size}
@@ -9,11 +8,11 @@ use Rattle.isodep_link.specs.Card.{CardState}
 use Rattle.isodep_link.specs.Reader.{ReaderState}
 use Rattle.isodep_link.specs.Commands.{iso_commands}
 use Rattle.isodep_link.specs.Exchange.{Exchange, IsReady, ObeyedOnce, blocks_of}
-use Rattle.isodep_link.specs.Sessions.{Asked, Fits, is_answered, exchanged, session, asked_in, ObeysAll, activated_link}
+use Rattle.isodep_link.specs.Sessions.{Attempt, Fits, is_answered, exchanged, session, asked_in, ObeysAll, activated_link, SessionObeys, SessionBrings, ActivatedObeys}
 use Rattle.isodep_link.proofs.Obeyed.{obeyed_once}
 
 -- one exchange from where the next may begin
-one_obeyed : (w : Exchange) (q : Asked) → IsReady w → Fits q → ObeyedOnce q.far w.asking w.answering w.delivered q.command (exchanged w q)
+one_obeyed : (w : Exchange) (q : Attempt) → IsReady w → Fits q → ObeyedOnce q.far w.asking w.answering w.delivered q.command (exchanged w q)
 one_obeyed w q r f = obeyed_once q.far w.asking w.answering w.delivered w.arrived q.command q.fates f.answers f.command r.0 r.1
 
 -- where it was answered the next may begin, and the card obeyed the command
@@ -38,7 +37,7 @@ behind : (before : List (List ℕ)) (c : List ℕ) (mid : List (List ℕ)) (aske
 behind before c mid asked w e (inl h) = inl (h ∙ ap (λ (ps : List (List ℕ)). ps ++ asked) e ∙ append_assoc before (c ∷ []) asked)
 behind before c mid asked w e (inr (last, h, n)) = inr (last, h ∙ ap (λ (ps : List (List ℕ)). ps ++ asked) e ∙ append_assoc before (c ∷ []) asked, n)
 
-pub session_obeys : (w : Exchange) (qs : List Asked) → IsReady w → AllByRecursion Fits qs → ObeysAll w.delivered (asked_in w qs) (session w qs)
+pub session_obeys : SessionObeys
 session_obeys w [] r f = inl (sym (append-nil w.delivered))
 session_obeys w (q ∷ qs) r f = go (is_answered (exchanged w q).stage) refl (λ y. session_obeys (exchanged w q) qs y f.1)
   where
@@ -54,7 +53,7 @@ session_obeys w (q ∷ qs) r f = go (is_answered (exchanged w q).stage) refl (λ
     go false e next = obeyed_or_not w.delivered q.command (exchanged w q).given (exchanged w q) refl o.once e
 
 -- what the card obeyed is what the I-blocks that arrived bring
-pub session_brings : (w : Exchange) (qs : List Asked) → IsReady w → AllByRecursion Fits qs → iso_commands (blocks_of (session w qs).arrived) ≡ (session w qs).delivered
+pub session_brings : SessionBrings
 session_brings w [] r f = ap (λ c. c.commands) r.1
 session_brings w (q ∷ qs) r f = go (is_answered (exchanged w q).stage) refl (λ y. session_brings (exchanged w q) qs y f.1)
   where
@@ -93,6 +92,5 @@ ready_first card_code reader_code = (
 
 -- Over every air: what a card obeys from its activation on are the commands asked, each once and in order, of which only the last
 -- may be missing, where it wasn't answered.
-pub obeys_from_activation : (card_code reader_code : ℕ) (qs : List Asked) → AllByRecursion Fits qs
-    → ObeysAll [] (asked_in (activated_link card_code reader_code) qs) (session (activated_link card_code reader_code) qs)
+pub obeys_from_activation : ActivatedObeys
 obeys_from_activation card_code reader_code qs f = session_obeys (activated_link card_code reader_code) qs (ready_first card_code reader_code) f

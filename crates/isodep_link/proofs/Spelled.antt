@@ -1,11 +1,11 @@
 -- What a block is written as spells a block, and each frame spells the block that is read from it.
-use Rattle.std.proofs.Common.{◌≡◌, ℕ, ◌+◌, ◌-◌, ◌%◌, ◌<◌, ◌≤◌, ◌==◌, ◌↔◌, nat_lt, if◌then◌else◌, zero, suc, List, [], ◌∷◌, length, Bool, true, false, Some, None, refl, sym, ◌∙◌, ap, subst, arith}
+use Rattle.std.proofs.Common.{◌≡◌, ℕ, ◌+◌, ◌-◌, ◌%◌, ◌<◌, ◌≤◌, ◌==◌, nat_lt, if◌then◌else◌, zero, suc, List, [], ◌∷◌, length, Bool, true, false, Some, None, refl, sym, ◌∙◌, ap, subst, arith}
 use Rattle.nfc_base.specs.Signal.{Signal, signal, whole_a}
 use Rattle.nfc_base.specs.declared.frame.Tech.{Tech}
 use Rattle.nfc_base.specs.declared.frame.Tech.TheVariants.{A, V}
 use Rattle.isodep_link.specs.declared.block.Block.{Block}
 use Rattle.isodep_link.specs.declared.block.Block.TheVariants.{Info, Ack, Nak, Deselect}
-use Rattle.isodep_link.specs.Blocks.{info_sort, chained_sort, ack_sort, nak_sort, deselect_byte, info_block, short_block, sort_block, block_of, pcb, block_frame, IsBlock, BlockSpelling, IsSpelled, spelled_block}
+use Rattle.isodep_link.specs.Blocks.{ReadsBlocks, SpellsOne, info_sort, chained_sort, ack_sort, nak_sort, deselect_byte, info_block, short_block, sort_block, block_of, pcb, block_frame, IsBlock, BlockSpelling, IsSpelled, spelled_block}
 
 small : (n : ℕ) → n % 2 < 2
 small n = omega arith
@@ -59,7 +59,7 @@ pub reads_back : (b : Block) (f : Signal) → BlockSpelling b f → spelled_bloc
 reads_back b f s = ap spelled_block s.frame ∙ written_read b s.range
 
 -- no frame spells two blocks
-pub one_block : (a b : Block) (f : Signal) → BlockSpelling a f → BlockSpelling b f → a ≡ b
+pub one_block : SpellsOne
 one_block a b f p q =
     let x : spelled_block f ≡ Some a = reads_back a f p in
     let y : spelled_block f ≡ Some b = reads_back b f q in
@@ -126,5 +126,5 @@ frame_spells A bytes tail l b e = whole_spells bytes tail (tail == 0) refl l b e
 frame_spells V bytes tail l b e = cc
 
 -- What is read from a frame is exactly what it spells.
-pub exact : (f : Signal) → length f.bytes ≤ 288 → (b : Block) → (spelled_block f ≡ Some b) ↔ BlockSpelling b f
+pub exact : ReadsBlocks
 exact f l b = (frame_spells f.tech f.bytes f.tail l b, reads_back b f)

@@ -1,16 +1,16 @@
 -- How a reader activates a Type 4 tag by RATS (ISO/IEC 14443-4; NFC Forum Digital Protocol).
-use Rattle.std.specs.Prelude.{◌≡◌, ◌⊎◌, ℕ, suc, ◌%◌, ◌≤◌, ◌==◌, ◌&&◌, nat_lt, List, [], ◌∷◌, ◌++◌, length, slice_index, true, false, if◌then◌else◌, Option, Some, None, Result, Ok, Err}
+use Rattle.std.specs.Prelude.{◌≡◌, ◌⊎◌, ℕ, Bool, ◌%◌, ◌≤◌, ◌==◌, ◌&&◌, nat_lt, List, [], ◌∷◌, ◌++◌, length, slice_index, true, false, if◌then◌else◌, Option, Some, None, Result, Ok, Err}
 use Rattle.nfc_base.specs.declared.frame.Tech.TheVariants.{A}
 use Rattle.nfc_base.specs.Signal.{Signal, whole_a}
 use Rattle.nfc_base.specs.Far.{Untouched}
 use Rattle.nfc_base.specs.TagLinks.{TagState, plain_state}
 use Rattle.nfc_base.specs.declared.tag_link.AskFault.{AskFault}
 use Rattle.nfc_base.specs.declared.tag_link.AskFault.TheVariants.{FieldLost, SixBad, Memory, Protocol}
-use Rattle.air_core.specs.World.{quiet_air}
+use Rattle.air_core.specs.World.{Machine, quiet_air}
 use Rattle.air_core.specs.Turn.{Air, moment}
 use Rattle.nfc_base.specs.declared.event.Heard.TheVariants.{Whole}
 use Rattle.air_core.specs.Conversation.{Note, Got, Going}
-use Rattle.air_core.specs.Waits.{Standing, Asking, Broken, stand, waits_next}
+use Rattle.air_core.specs.Waits.{Standing, Asking, Broken, Astray, stand, waits_next}
 use Rattle.air_core.specs.PlainTags.{heard_times, IsAlone}
 use Rattle.air_core.specs.declared.listener.Listener.{Ghosts}
 use Rattle.isodep_link.specs.Blocks.{is_whole_a}
@@ -18,8 +18,9 @@ use Rattle.isodep_link.specs.Sizes.{rats_byte, piece_size, most_code, ats_frame}
 use Rattle.isodep_link.specs.Card.{CardState, fresh, activated}
 use Rattle.isodep_link.specs.Reader.{ReaderState, waiting}
 use Rattle.isodep_link.specs.CardTags.{IsCardTag}
+use Rattle.isodep_link.specs.Speaking.{Speaks, IsStopped}
 use Rattle.isodep_link.specs.Asking.{HasCardTag}
-use Rattle.isodep_link.specs.IsoLinks.{IsoSeen, Replays, IsIsoReady}
+use Rattle.isodep_link.specs.IsoLinks.{IsoSeen, IsIsoReady}
 
 -- the reader's size code, the largest, and its RATS
 abbrev pub reader_code : ℕ
@@ -39,6 +40,26 @@ ats_code f =
     then Some (if length f.bytes == 1 then default_code else slice_index f.bytes 1 % 16)
     else None
 
+abbrev pub told_code : Option ℕ → Result ℕ AskFault
+told_code None = Err Protocol
+told_code (Some code) = Ok code
+
+-- How a wait of RATS ends: by the first whole frame, which is an answer to RATS and tells a size code or isn't one; at the sixth
+-- bad reception; or as the field is lost. Nothing else ends it but want of memory.
+abbrev pub AnswersRats : Bool → List Note → Standing → Result ℕ AskFault → Type 0
+AnswersRats lit ns (Asking bad []) result =
+    (before : List Note) × (f : Signal) × (ns ≡ before ++ Got (Whole f) ∷ []) × (result ≡ told_code (ats_code f))
+AnswersRats lit ns (Asking bad (c ∷ cs)) result = IsStopped lit ns result
+AnswersRats lit ns (Broken fault cs) result = result ≡ Err fault
+AnswersRats lit ns Astray result = ⊥
+
+-- From one field to another, with listeners of any kind: RATS was sent again after each bad reception, as long as it was due, and
+-- this is told by what was heard.
+pub record AsksRats {L : Type 0} (m : Machine L) (old new : Air L) (result : Result ℕ AskFault) : Type 0 where
+  pub notes : List Note
+  pub speaks : Speaks m (waits_next (rats ∷ [])) old new notes
+  pub answers : AnswersRats old.lit notes (stand 0 (rats ∷ []) notes) result
+
 -- the last that was heard is an answer to RATS that tells this code
 abbrev pub TellsCode : List Note → ℕ → Type 0
 TellsCode ns code = (before : List Note) × (f : Signal) × (ns ≡ before ++ Got (Whole f) ∷ []) × (ats_code f ≡ Some code)
@@ -47,20 +68,29 @@ TellsCode ns code = (before : List Note) × (f : Signal) × (ns ≡ before ++ Go
 abbrev pub first_link : {L : Type 0} → Air L → ℕ → ℕ → IsoSeen L
 first_link air place code = record { air = air; place = place; start = length air.trace; told = length air.trace; reader = waiting code; last = None; over = None }
 
+-- RATS was answered by what tells a size code: this is a link that cuts to it, and of which nothing was asked yet.
+pub record Opens {L : Type 0} (m : Machine L) (old : Air L) (place : ℕ) (p : IsoSeen L) : Type 0 where
+  pub code : ℕ
+  pub asks : AsksRats m old p.air (Ok code)
+  pub first : p ≡ first_link p.air place code
+
 module _ {L : Type 0} (k : Ghosts L) (card : L → CardState) (tag : L → TagState) where
-  -- A selected listener is a Type 4 tag that nothing was asked of: however often it hears RATS in a row it answers ATS of its
-  -- size code, stays selected, and is then a tag of which nothing is selected.
+  -- At RATS a listener hands nothing over, answers ATS of this size code and stays selected; it is then a Type 4 tag that was
+  -- activated, with this store, and nothing is selected of it.
+  pub record StepsByRats (l : L) (code : ℕ) (store : List ℕ) : Type 0 where
+    pub quiet : k.machine.handed l rats ≡ Untouched
+    pub answer : k.machine.answer l rats None ≡ Some (ats_frame code)
+    pub selected : k.is_selected (k.machine.after l rats None) ≡ true
+    pub is : IsCardTag k card tag (k.machine.after l rats None)
+    pub card_is : card (k.machine.after l rats None) ≡ (activated (fresh code) reader_code).state
+    pub tag_is : tag (k.machine.after l rats None) ≡ plain_state store
+
+  -- A selected listener is a Type 4 tag that nothing was asked of: it takes RATS, however often it hears it in a row.
   pub record TakesRats (l : L) : Type 0 where
     pub tech : k.machine.tech l ≡ A
     pub code : ℕ
     pub small : code ≤ most_code
-    pub quiet : (n : ℕ) → k.machine.handed (heard_times k l rats n) rats ≡ Untouched
-    pub answer : (n : ℕ) → k.machine.answer (heard_times k l rats n) rats None ≡ Some (ats_frame code)
-    pub selected : (n : ℕ) → k.is_selected (heard_times k l rats (suc n)) ≡ true
-    pub is : (n : ℕ) → IsCardTag k card tag (heard_times k l rats (suc n))
-    pub card_is : (n : ℕ) → card (heard_times k l rats (suc n)) ≡ (activated (fresh code) reader_code).state
-    pub tag_is : (n : ℕ) → tag (heard_times k l rats (suc n)) ≡ plain_state (k.store l)
-    pub replays : (n : ℕ) → Replays (k.commands (heard_times k l rats (suc n))) (k.store l)
+    pub steps : (n : ℕ) → StepsByRats (heard_times k l rats n) code (k.store l)
 
   -- at this place of a field such a tag stands, and is alone
   pub record HasFreshTag (air : Air L) (place : ℕ) : Type 0 where
@@ -73,9 +103,7 @@ module _ {L : Type 0} (k : Ghosts L) (card : L → CardState) (tag : L → TagSt
   pub record IsActivated (air : Air L) (place : ℕ) (i : ReaderState) : Type 0 where
     pub has : HasCardTag k card tag air place i [] []
     pub own : i.core.most ≡ piece_size (card has.listener).code
-    pub origin : List ℕ
-    pub holds : tag has.listener ≡ plain_state origin
-    pub replays : Replays (k.commands has.listener) origin
+    pub plain : tag has.listener ≡ plain_state (k.store has.listener)
 
   -- from one moment to another RATS was sent again and again, and this is where its wait stands then
   pub record RatsSent (old new : Air L) (s : Standing) : Type 0 where
@@ -106,3 +134,7 @@ module _ {L : Type 0} (k : Ghosts L) (card : L → CardState) (tag : L → TagSt
     pub activated : IsActivated p.air p.place (waiting code)
     pub reader : p.reader ≡ waiting code
     pub ready : IsIsoReady k card tag p
+
+  -- what a reader gives that activates the tag at a place
+  abbrev pub ActivatesLink : Air L → ℕ → IsoSeen L → Type 0
+  ActivatesLink old place p = HasFreshTag old place → IsActivatedLink old p

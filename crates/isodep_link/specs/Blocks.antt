@@ -1,9 +1,7 @@
 -- The blocks of ISO-DEP and how they stand in frames (ISO/IEC 14443-4; NFC Forum Digital Protocol): a block, a printer of
 -- its bytes, and a fact that says which blocks are in range.
-use Rattle.std.specs.Prelude.{◌≡◌, ℕ, ◌+◌, ◌-◌, ◌%◌, ◌<◌, ◌≤◌, ◌==◌, ◌&&◌, nat_lt, List, [], ◌∷◌, length, take, drop, slice_index, Bool, true, false, if◌then◌else◌, Option, Some, None}
-use Rattle.nfc_base.specs.declared.frame.Tech.{Tech}
-use Rattle.nfc_base.specs.declared.frame.Tech.TheVariants.{A, V}
-use Rattle.nfc_base.specs.Signal.{Signal, whole_a}
+use Rattle.std.specs.Prelude.{◌↔◌, ◌≡◌, ℕ, ◌+◌, ◌-◌, ◌%◌, ◌<◌, ◌≤◌, ◌==◌, ◌&&◌, nat_lt, List, [], ◌∷◌, length, take, drop, slice_index, Bool, true, false, if◌then◌else◌, Option, Some, None}
+use Rattle.nfc_base.specs.Signal.{Signal, whole_a, is_nfc_a}
 use Rattle.isodep_link.specs.declared.block.Block.{Block}
 use Rattle.isodep_link.specs.declared.block.Block.TheVariants.{Info, Ack, Nak, Deselect}
 
@@ -87,10 +85,6 @@ number_of bytes = slice_index bytes 0 % modulus
 abbrev pub block_of : List ℕ → Option Block
 block_of bytes = if nat_lt 0 (length bytes) then sort_block (slice_index bytes 0 - number_of bytes) (number_of bytes) bytes else None
 
-abbrev pub is_nfc_a : Tech → Bool
-is_nfc_a A = true
-is_nfc_a V = false
-
 abbrev pub is_whole_a : Signal → Bool
 is_whole_a f = is_nfc_a f.tech && (f.tail == 0)
 
@@ -101,3 +95,11 @@ spelled_block f = if is_whole_a f then block_of f.bytes else None
 -- the I-block with the first piece of some bytes, of at most so many; where more are left it says so
 abbrev pub piece : ℕ → ℕ → List ℕ → Block
 piece most n xs = info_block (nat_lt most (length xs)) n (take most xs)
+
+-- What is read from a frame is exactly the block that it spells.
+abbrev pub ReadsBlocks : Type 0
+ReadsBlocks = (f : Signal) → length f.bytes ≤ 288 → (b : Block) → (spelled_block f ≡ Some b) ↔ BlockSpelling b f
+
+-- No frame spells two blocks.
+abbrev pub SpellsOne : Type 0
+SpellsOne = (a b : Block) (f : Signal) → BlockSpelling a f → BlockSpelling b f → a ≡ b

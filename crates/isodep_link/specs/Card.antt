@@ -1,6 +1,6 @@
 -- The card's end of ISO-DEP (ISO/IEC 14443-4; NFC Forum Digital Protocol): what it does at each frame. Its silence after a
 -- chain above 264 bytes is this project's own.
-use Rattle.std.specs.Prelude.{ℕ, ◌⊎◌, ◌==◌, nat_lt, Bool, true, false, List, [], ◌++◌, length, drop, Option, Some, None, if◌then◌else◌}
+use Rattle.std.specs.Prelude.{◌≡◌, ℕ, ◌⊎◌, ◌==◌, nat_lt, Bool, true, false, List, [], ◌++◌, length, drop, Option, Some, None, if◌then◌else◌}
 use Rattle.nfc_base.specs.Signal.{Signal}
 use Rattle.isodep_link.specs.declared.block.Block.{Block}
 use Rattle.isodep_link.specs.declared.block.Block.TheVariants.{Info, Ack, Nak, Deselect}
@@ -121,3 +121,7 @@ IsSaid code steps.Quiet = Unit {0}
 IsSaid code (steps.Reply f) = IsSpelled f ⊎ IsAts code f
 IsSaid code (steps.Deliver command) = Unit {0}
 IsSaid code (steps.Asleep f) = IsSpelled f
+
+-- Where a card delivers a command its number toggles: nothing that asks for a block again delivers.
+abbrev pub DeliversAnew : Type 0
+DeliversAnew = (t : CardState) (f : Signal) (xs : List ℕ) → (card_table t f).does ≡ steps.Deliver (record { items = xs }) → (card_table t f).state.number ≡ toggled t.number

@@ -24,15 +24,15 @@ IsAskedBlock (Nak n) = IsBlock (Nak n)
 IsAskedBlock Deselect = ⊥
 
 -- the frame of such a block, whose items are bytes
-pub record IsAsked (f : Signal) : Type 0 where
+pub record IsAskedFrame (f : Signal) : Type 0 where
   pub block : Block
   pub asked : IsAskedBlock block
   pub bytes : (i : ℕ) → slice_index f.bytes i < 256
   pub frame : f ≡ block_frame block
 
 -- the tag's step on the bytes of a command: the bytes of its answer, and what the tag is then
-abbrev pub Obeys : (TagState → Signal → TagStep) → TagState → List ℕ → List ℕ → TagState → Type 0
-Obeys step s command answer after = ((step s (whole_a command)).answer ≡ Some (whole_a answer)) × (after ≡ (step s (whole_a command)).after)
+abbrev pub TagDoes : (TagState → Signal → TagStep) → TagState → List ℕ → List ℕ → TagState → Type 0
+TagDoes step s command answer after = ((step s (whole_a command)).answer ≡ Some (whole_a answer)) × (after ≡ (step s (whole_a command)).after)
 
 abbrev pub IsShort : List ℕ → Type 0
 IsShort xs = length xs ≤ limit
@@ -45,15 +45,12 @@ module _ {L : Type 0} (k : Ghosts L) (card : L → CardState) (tag : L → TagSt
     pub short : IsShort reply
     pub answer : k.machine.answer l f None ≡ (step iso_dep reply (card l) f).answer
     pub card_is : card (k.machine.after l f None) ≡ (step iso_dep reply (card l) f).state
-    pub moved : MovedBy (Obeys (k.commands l)) (tag l) (step iso_dep reply (card l) f).asked reply (tag (k.machine.after l f None))
+    pub moved : MovedBy (TagDoes (k.commands l)) (tag l) (step iso_dep reply (card l) f).asked reply (tag (k.machine.after l f None))
     pub selected : k.is_selected (k.machine.after l f None) ≡ true
 
   -- A selected listener is a Type 4 tag that was activated: by the reader's blocks it only comes to where it does so again.
-  -- Its step on commands stays, also in the dark; its store is what the tag holds; the dark clears its card's end.
+  -- The dark clears its card's end.
   pub record IsCardTag (l : L) : Type 0 where
     pub tech : k.machine.tech l ≡ A
-    pub steps : (fs : List Signal) → AllByRecursion IsAsked fs → (f : Signal) → IsAsked f → StepsByCard (reached k l fs) f
-    pub same : (fs : List Signal) → AllByRecursion IsAsked fs → k.commands (reached k l fs) ≡ k.commands l
-    pub dark : (fs : List Signal) → AllByRecursion IsAsked fs → k.commands (k.machine.darkened (reached k l fs)) ≡ k.commands l
-    pub holds : (fs : List Signal) → AllByRecursion IsAsked fs → k.store (reached k l fs) ≡ (tag (reached k l fs)).store
-    pub cleared : (fs : List Signal) → AllByRecursion IsAsked fs → card (k.machine.darkened (reached k l fs)) ≡ fresh (card (reached k l fs)).code
+    pub steps : (fs : List Signal) → AllByRecursion IsAskedFrame fs → (f : Signal) → IsAskedFrame f → StepsByCard (reached k l fs) f
+    pub cleared : (fs : List Signal) → AllByRecursion IsAskedFrame fs → card (k.machine.darkened (reached k l fs)) ≡ fresh (card (reached k l fs)).code

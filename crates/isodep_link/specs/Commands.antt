@@ -1,9 +1,9 @@
 -- The commands that blocks bring to a card (ISO/IEC 14443-4; NFC Forum Digital Protocol): the contents of its I-blocks,
 -- joined over chaining, whatever their numbers; and what a card hands to its owner at some blocks.
-use Rattle.std.specs.Prelude.{ℕ, Bool, true, false, List, [], ◌∷◌, ◌++◌, if◌then◌else◌}
+use Rattle.std.specs.Prelude.{◌≡◌, ℕ, Bool, true, false, List, [], ◌∷◌, ◌++◌, if◌then◌else◌}
 use Rattle.isodep_link.specs.declared.block.Block.{Block}
 use Rattle.isodep_link.specs.declared.block.Block.TheVariants.{Info, Ack, Nak, Deselect}
-use Rattle.isodep_link.specs.Card.{CardState, CardMove, Does, Stays, Answers, Delivers, Sleeps, stays, block_table, replied}
+use Rattle.isodep_link.specs.Card.{fresh, CardState, CardMove, Does, Stays, Answers, Delivers, Sleeps, stays, block_table, replied}
 
 -- the chain so far, and the whole commands before it
 pub record Cut : Type 0 where
@@ -57,3 +57,10 @@ moved far o m = record { state = settled far m.state m.does; delivered = with_de
 abbrev pub obeying : (List ℕ → List ℕ) → Obeying → List Block → Obeying
 obeying far o [] = o
 obeying far o (b ∷ bs) = obeying far (moved far o (heard_by o.state.mute o.state b)) bs
+
+-- What a card from its beginning delivers are the commands of the blocks that it heard, each once and in order, unless a chain grew
+-- too long.
+abbrev pub DeliversCommands : Type 0
+DeliversCommands =
+    (far : List ℕ → List ℕ) (code : ℕ) (bs : List Block) → (obeying far (record { state = fresh code; delivered = [] }) bs).state.mute ≡ false
+    → (obeying far (record { state = fresh code; delivered = [] }) bs).delivered ≡ iso_commands bs

@@ -2,7 +2,7 @@
 -- how one exchange begins, and in how many blocks its command and its answer are sent.
 use Rattle.std.specs.Prelude.{◌≡◌, ℕ, ◌+◌, ◌-◌, ◌/◌, ◌<◌, ◌≤◌, false, List, [], ◌∷◌, length, Option, Some, None}
 use Rattle.nfc_base.specs.Signal.{Signal}
-use Rattle.nfc_base.specs.StopAndWait.{Does, Quiet, Reply, Deliver, Finished, SixBad, Protocol, Next, Send, Ends, StopAndWait, Requests, World, Once, IsReplyTo}
+use Rattle.nfc_base.specs.StopAndWait.{Does, Quiet, Reply, Deliver, Finished, SixBad, Protocol, Next, Send, Ends, StopAndWait, Requests, World, Once, IsReplyTo, run}
 use Rattle.nfc_base.specs.LinkTurns.{heard_of}
 use Rattle.isodep_link.specs.declared.block.Block.{Block}
 use Rattle.isodep_link.specs.declared.card.CardStep.{CardStep}
@@ -12,6 +12,8 @@ use Rattle.isodep_link.specs.declared.reader.ReaderStep.TheVariants as reader
 use Rattle.isodep_link.specs.Blocks.{toggled, block_frame, spelled_block}
 use Rattle.isodep_link.specs.Card.{CardState, card_table, replied, reply_block, fresh}
 use Rattle.isodep_link.specs.Reader.{ReaderState, reader_table, begun, request}
+use Rattle.nfc_base.specs.declared.event.Fate.{Fate}
+use Rattle.isodep_link.specs.Sizes.{limit}
 use Rattle.isodep_link.specs.Commands.{cut_by, iso_commands}
 
 -- the steps of both ends, in the words of such a link
@@ -94,3 +96,10 @@ beginning i t commands arrived command =
 abbrev pub ObeyedOnce : (far : List ℕ → List ℕ) (i : ReaderState) (t : CardState) (commands : List (List ℕ)) (command : List ℕ) → Exchange → Type 0
 ObeyedOnce far i t commands command w =
     Once iso_dep IsReady (IsReplyTo far command) commands command (pieces i.core.most command) (pieces t.most) w
+
+-- Over every list of fates, and whatever the card's owner answers, an exchange between ends in step keeps that law.
+abbrev pub ObeysOnce : Type 0
+ObeysOnce =
+    (far : List ℕ → List ℕ) (i : ReaderState) (t : CardState) (commands : List (List ℕ)) (arrived : List Signal) (command : List ℕ) (fates : List Fate)
+    → ((xs : List ℕ) → length (far xs) ≤ limit) → length command ≤ limit → InStep i t → IsCut t commands arrived
+    → ObeyedOnce far i t commands command (run iso_dep far (beginning i t commands arrived command) fates)

@@ -1,6 +1,6 @@
 -- The reader's end of ISO-DEP (ISO/IEC 14443-4; NFC Forum Digital Protocol): what it sends next, or how the exchange
 -- ends, by what it sent last and what it heard. The six receptions and the 264 bytes are this project's own.
-use Rattle.std.specs.Prelude.{ℕ, ◌+◌, ◌==◌, nat_lt, Bool, true, false, not, List, [], ◌++◌, length, drop, Option, Some, None, if◌then◌else◌}
+use Rattle.std.specs.Prelude.{◌≡◌, ℕ, ◌+◌, ◌==◌, nat_lt, Bool, true, false, not, List, [], ◌++◌, length, drop, Option, Some, None, if◌then◌else◌}
 use Rattle.nfc_base.specs.declared.event.Heard.{Heard}
 use Rattle.nfc_base.specs.declared.event.Heard.TheVariants.{Whole, Collided, Damaged, Silent}
 use Rattle.isodep_link.specs.declared.block.Block.{Block}
@@ -34,15 +34,15 @@ pub data Reception : Type 0 where
   Bad : Reception
 
 -- what it does then
-pub data Next : Type 0 where
-  Asks : Block → Next
-  Gives : List ℕ → Next
-  GivesUp : Next
-  Refuses : Next
+pub data ReaderDoes : Type 0 where
+  Asks : Block → ReaderDoes
+  Gives : List ℕ → ReaderDoes
+  GivesUp : ReaderDoes
+  Refuses : ReaderDoes
 
 pub record ReaderMove : Type 0 where
   pub state : ReaderState
-  pub does : Next
+  pub does : ReaderDoes
 
 pub record ReaderTurn : Type 0 where
   pub state : ReaderState
@@ -137,7 +137,7 @@ in_phase i EndedProtocol h = record { state = i; does = Refuses }
 abbrev pub block_next : ReaderState → Reception → ReaderMove
 block_next i h = in_phase i i.phase h
 
-abbrev pub framed_next : Next → ReaderStep
+abbrev pub framed_next : ReaderDoes → ReaderStep
 framed_next (Asks b) = steps.Send (block_frame b)
 framed_next (Gives xs) = steps.Finished (record { items = xs })
 framed_next GivesUp = steps.SixBad
@@ -172,8 +172,15 @@ waiting code =
     record { core = record { number = 0; most = piece_size code; rest = []; drawing = false; got = [] }; phase = Free; bads = 0 }
 
 -- Whatever a reader sends spells a block.
-abbrev pub IsAsked : ReaderStep → Type 0
-IsAsked (steps.Send f) = IsSpelled f
-IsAsked (steps.Finished answer) = Unit {0}
-IsAsked steps.SixBad = Unit {0}
-IsAsked steps.Protocol = Unit {0}
+abbrev pub SpellsSent : ReaderStep → Type 0
+SpellsSent (steps.Send f) = IsSpelled f
+SpellsSent (steps.Finished answer) = Unit {0}
+SpellsSent steps.SixBad = Unit {0}
+SpellsSent steps.Protocol = Unit {0}
+
+-- After six bad receptions of a wait, and after a whole frame that isn't allowed, each later step tells the same and changes nothing.
+abbrev pub FaultsStay : Type 0
+FaultsStay =
+    (i : ReaderState) (h later : Heard)
+    → ((reader_table i h).does ≡ steps.SixBad → reader_table (reader_table i h).state later ≡ record { state = (reader_table i h).state; does = steps.SixBad })
+    × ((reader_table i h).does ≡ steps.Protocol → reader_table (reader_table i h).state later ≡ record { state = (reader_table i h).state; does = steps.Protocol })

@@ -6,16 +6,18 @@ use Rattle.nfc_base.specs.declared.event.Fate.{Fate}
 use Rattle.isodep_link.specs.Sizes.{limit}
 use Rattle.isodep_link.specs.Card.{fresh, activated}
 use Rattle.isodep_link.specs.Reader.{waiting}
-use Rattle.isodep_link.specs.Exchange.{iso_dep, Exchange, beginning}
+use Rattle.std.specs.List.{AllByRecursion}
+use Rattle.isodep_link.specs.Commands.{iso_commands}
+use Rattle.isodep_link.specs.Exchange.{iso_dep, Exchange, IsReady, blocks_of, beginning}
 
 -- a command, how the card's owner answers then, and what becomes of the transmissions
-pub record Asked : Type 0 where
+pub record Attempt : Type 0 where
   pub command : List ℕ
   pub far : List ℕ → List ℕ
   pub fates : List Fate
 
 -- A command and every answer of the owner have at most 264 bytes.
-pub record Fits (q : Asked) : Type 0 where
+pub record Fits (q : Attempt) : Type 0 where
   pub command : length q.command ≤ limit
   pub answers : (xs : List ℕ) → length (q.far xs) ≤ limit
 
@@ -29,16 +31,16 @@ is_answered (Over Protocol) = false
 is_answered Dark = false
 
 -- the exchange of this command, from where the one before it ended
-abbrev pub exchanged : Exchange → Asked → Exchange
+abbrev pub exchanged : Exchange → Attempt → Exchange
 exchanged w q = run iso_dep q.far (beginning w.asking w.answering w.delivered w.arrived q.command) q.fates
 
 -- The exchanges of some commands; the first one that isn't answered is the last.
-abbrev pub session : Exchange → List Asked → Exchange
+abbrev pub session : Exchange → List Attempt → Exchange
 session w [] = w
 session w (q ∷ qs) = if is_answered (exchanged w q).stage then session (exchanged w q) qs else exchanged w q
 
 -- the commands that are asked in them
-abbrev pub asked_in : Exchange → List Asked → List (List ℕ)
+abbrev pub asked_in : Exchange → List Attempt → List (List ℕ)
 asked_in w [] = []
 asked_in w (q ∷ qs) = q.command ∷ (if is_answered (exchanged w q).stage then asked_in (exchanged w q) qs else [])
 
@@ -60,3 +62,17 @@ activated_link card_code reader_code =
       sent = 0;
       bads = 0;
     }
+
+-- In exchanges one after another a card obeys what was asked.
+abbrev pub SessionObeys : Type 0
+SessionObeys = (w : Exchange) (qs : List Attempt) → IsReady w → AllByRecursion Fits qs → ObeysAll w.delivered (asked_in w qs) (session w qs)
+
+-- And what it obeyed is what the I-blocks that arrived bring.
+abbrev pub SessionBrings : Type 0
+SessionBrings = (w : Exchange) (qs : List Attempt) → IsReady w → AllByRecursion Fits qs → iso_commands (blocks_of (session w qs).arrived) ≡ (session w qs).delivered
+
+-- So it is from the activation of a card on.
+abbrev pub ActivatedObeys : Type 0
+ActivatedObeys =
+    (card_code reader_code : ℕ) (qs : List Attempt) → AllByRecursion Fits qs
+    → ObeysAll [] (asked_in (activated_link card_code reader_code) qs) (session (activated_link card_code reader_code) qs)

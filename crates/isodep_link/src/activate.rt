@@ -1,10 +1,10 @@
 //! The activation of a Type 4 tag by RATS.
 
 ghost use Rattle.std.specs.Prelude.{◌≡◌};
-ghost use Rattle.isodep_link.specs.Activating.{rats, ats_code, Activates};
+ghost use Rattle.isodep_link.specs.Activating.{rats, ats_code, AsksRats, Activates};
 
 use crate::listener::CardListener;
-use air_core::{AirFault, Field};
+use air_core::{AirFault, BAD_RECEPTIONS, Field};
 use nfc_base::{AskFault, Frame, Heard, Mute, Tech};
 
 /// RATS of this reader: its size code, the largest, in the high nibble of the second byte.
@@ -12,9 +12,6 @@ const RATS: [u8; 2] = [0xE0, 0x80];
 
 /// The card's size code where its answer has one byte alone.
 const DEFAULT_CODE: u8 = 2;
-
-/// How many bad receptions end a wait (this project's own).
-const BAD_RECEPTIONS: u8 = 6;
 
 fn rats() -> Frame
     ensures { result ≡ rats }
@@ -44,7 +41,8 @@ pub(crate) fn activate_card<L: CardListener>(
     field: &mut Field<L>,
     place: usize,
 ) -> Result<u8, AskFault>
-    ensures { Activates L.Listener L.card L.tag field.old field.new place result }
+    ensures turns { AsksRats L.machine field.old field.new result }
+    ensures ends { Activates L.Listener L.card L.tag field.old field.new place result }
 {
     let mut far = Mute;
     let request = rats();

@@ -1,7 +1,7 @@
 //! One command of a Type 4 tag in a field.
 
 ghost use Rattle.std.specs.Prelude.{◌≤◌, length};
-ghost use Rattle.isodep_link.specs.Asking.{Exchanges};
+ghost use Rattle.isodep_link.specs.Asking.{AsksCommand, Exchanges};
 
 use crate::listener::CardListener;
 use crate::reader::{ReaderEnd, ReaderStep};
@@ -17,7 +17,8 @@ pub(crate) fn ask_card<L: CardListener>(
     command: &Frame,
 ) -> Result<Frame, AskFault>
     requires fits { length command.now.bytes ≤ 264 }
-    ensures { Exchanges L.Listener L.card L.tag field.old field.new place reader.old reader.new command.now.bytes result }
+    ensures turns { AsksCommand L.machine field.old field.new reader.old reader.new command.now.bytes result }
+    ensures ends { Exchanges L.Listener L.card L.tag field.old field.new place reader.old reader.new command.now.bytes result }
 {
     let mut far = Mute;
     let mut frame = reader.begin(command.view());

@@ -3,13 +3,14 @@
 //!
 //! `block` reads and writes blocks, `size` says how long they are, `card` and `reader` are the ends, one step of their
 //! tables a call; none of these takes memory. `listener` says what a Type 4 tag is in a field, `activate` and `exchange`
-//! are the reader's turns with one, and `link` is the link to it.
+//! are the reader's turns with one, and `link` is the link to it. `law` has what both tables keep together.
 #![tactic(auto)]
 
 mod activate;
 mod block;
 mod card;
 mod exchange;
+mod law;
 mod link;
 mod listener;
 mod reader;
@@ -18,6 +19,7 @@ mod size;
 mod tests;
 
 pub use card::{CardEnd, CardStep};
+pub use law::{blocks_read, delivered_once, faults_stay, obeyed_once};
 pub use link::IsoLink;
 pub use listener::CardListener;
 pub use reader::{ReaderEnd, ReaderStep};

@@ -1,7 +1,9 @@
 //! A link to a Type 4 tag.
 
-ghost use Rattle.std.specs.Prelude.{◌≡◌, length, None, IfOk};
-ghost use Rattle.isodep_link.specs.Activating.{first_link, HasFreshTag, IsActivatedLink};
+ghost use Rattle.std.specs.Prelude.{◌≡◌, ◌≤◌, length, Some, None, Err, IfOk};
+ghost use Rattle.nfc_base.specs.declared.tag_link.AskFault.{AskFault};
+ghost use Rattle.isodep_link.specs.IsoLinks.{seen_link, Exchanged, ObeysOnLink};
+ghost use Rattle.isodep_link.specs.Activating.{first_link, Opens, ActivatesLink};
 
 use crate::activate::activate_card;
 use crate::exchange::ask_card;
@@ -28,12 +30,12 @@ impl<'a, L: CardListener> IsoLink<'a, L> {
     ghost use Rattle.std.specs.Borrow.{sem};
     ghost use Rattle.isodep_link.specs.Lends.{rests_if_refused};
 
-    /// Sends RATS to the tag at a place, again after each bad reception, and gives the link to it.
+    /// Sends RATS to the tag at a place, again after each bad reception, and gives the link to it. Any listener may stand there.
     pub fn activate(field: &'a mut Field<L>, place: usize) -> Result<IsoLink<'a, L>, AskFault>
         ensures* rests { sem 𝓛 (rests_if_refused L.row L.Listener L.card L.tag field.entry place result) }
         ensures same { IfOk result (λ l. l.field.ghost_name ≡ field.entry.ghost_name) }
-        ensures fresh { IfOk result (λ l. (l.place ≡ place) × (l.start ≡ length l.field.now.trace) × (l.told ≡ length l.field.now.trace) × (l.last ≡ None) × (l.over ≡ None)) }
-        ensures ok { IfOk result (λ l. HasFreshTag L.Listener L.card L.tag field.old place → IsActivatedLink L.Listener L.card L.tag field.old (record { air = l.field.now; place = l.place; start = l.start; told = l.told; reader = l.reader; last = l.last; over = l.over })) }
+        ensures turns { IfOk result (λ l. Opens L.machine field.old place (seen_link l)) }
+        ensures ok { IfOk result (λ l. ActivatesLink L.Listener L.card L.tag field.old place (seen_link l)) }
     {
         match activate_card(field, place) {
             Ok(code) => Ok(IsoLink::first(field, place, code)),
@@ -44,9 +46,7 @@ impl<'a, L: CardListener> IsoLink<'a, L> {
     /// The link to the tag at a place that told this size code, before anything is asked.
     fn first(field: &'a mut Field<L>, place: usize, code: u8) -> IsoLink<'a, L>
         ensures same { result.field.ghost_name ≡ field.entry.ghost_name }
-        ensures field { result.field.now ≡ field.old }
-        ensures fresh { (result.place ≡ place) × (result.start ≡ length result.field.now.trace) × (result.told ≡ length result.field.now.trace) × (result.last ≡ None) × (result.over ≡ None) }
-        ensures first { record { air = result.field.now; place = result.place; start = result.start; told = result.told; reader = result.reader; last = result.last; over = result.over } ≡ first_link field.old place code }
+        ensures first { seen_link result ≡ first_link field.old place code }
     {
         let start = field.trace().len();
         IsoLink {
@@ -59,22 +59,16 @@ impl<'a, L: CardListener> IsoLink<'a, L> {
             over: None,
         }
     }
-}
 
-impl<'a, L: CardListener> TagLink for IsoLink<'a, L> {
-    ghost use Rattle.std.specs.Prelude.{◌≡◌, [], ◌∷◌, None};
-    ghost use Rattle.isodep_link.specs.IsoLinks.{IsoSeen, iso_view, IsIsoReady, IsoMoves};
-    ghost use Rattle.isodep_link.specs.IsoMoving.{moves_again, moves_on};
-
-    ghost seen = { λ p. iso_view L.Listener L.card L.tag (record { air = p.field.now; place = p.place; start = p.start; told = p.told; reader = p.reader; last = p.last; over = p.over }) };
-
-    ghost lenders = { λ p. p.field.ghost_name ∷ [] };
-
-    ghost ready = { λ p. p.over ≡ None → IsIsoReady L.Listener L.card L.tag (record { air = p.field.now; place = p.place; start = p.start; told = p.told; reader = p.reader; last = p.last; over = p.over }) };
-
-    ghost moves = { λ a b. IsoMoves L.Listener L.card L.tag (record { air = a.field.now; place = a.place; start = a.start; told = a.told; reader = a.reader; last = a.last; over = a.over }) (record { air = b.field.now; place = b.place; start = b.start; told = b.told; reader = b.reader; last = b.last; over = b.over }) };
-
-    fn ask(&mut self, _alloc: Global, command: &Frame) -> Result<Frame, AskFault> {
+    /// Asks one command of whatever stands at the place: turns by the reader's table, up to the answer or a fault, by which the
+    /// link is then over. `ask` is this with a tag that keeps to the card's table.
+    pub fn exchange(&mut self, command: &Frame) -> Result<Frame, AskFault>
+        requires fits { length command.now.bytes ≤ 264 }
+        ensures turns { self.old.over ≡ None → Exchanged L.machine (seen_link self.old) (seen_link self.new) command.now result }
+        ensures tag { self.old.over ≡ None → ObeysOnLink L.Listener L.card L.tag (seen_link self.old) (seen_link self.new) command.now result }
+        ensures ended { (e : AskFault) → self.old.over ≡ Some e → (result ≡ Err e) × (seen_link self.new ≡ seen_link self.old) }
+        ensures same { self.new.field.ghost_name ≡ self.old.field.ghost_name }
+    {
         if let Some(fault) = self.over {
             return Err(fault);
         }
@@ -89,6 +83,24 @@ impl<'a, L: CardListener> TagLink for IsoLink<'a, L> {
                 Err(fault)
             }
         }
+    }
+}
+
+impl<'a, L: CardListener> TagLink for IsoLink<'a, L> {
+    ghost use Rattle.std.specs.Prelude.{◌≡◌, [], ◌∷◌, None};
+    ghost use Rattle.isodep_link.specs.IsoLinks.{seen_link, iso_view, IsIsoReady, IsoMoves};
+    ghost use Rattle.isodep_link.specs.IsoMoving.{moves_again, moves_on};
+
+    ghost seen = { λ p. iso_view L.Listener L.card L.tag (seen_link p) };
+
+    ghost lenders = { λ p. p.field.ghost_name ∷ [] };
+
+    ghost ready = { λ p. p.over ≡ None → IsIsoReady L.Listener L.card L.tag (seen_link p) };
+
+    ghost moves = { λ a b. IsoMoves L.Listener L.card L.tag (seen_link a) (seen_link b) };
+
+    fn ask(&mut self, _alloc: Global, command: &Frame) -> Result<Frame, AskFault> {
+        self.exchange(command)
     }
 
     ghost stays = { λ a. moves_again _ _ _ _ };

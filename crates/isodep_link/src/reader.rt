@@ -2,7 +2,7 @@
 
 ghost use Rattle.std.specs.Prelude.{◌≡◌, ◌<◌, ◌≤◌, length};
 ghost use Rattle.isodep_link.specs.Blocks.{block_frame, spelled_block, IsSpelled};
-ghost use Rattle.isodep_link.specs.Reader.{ReaderTurn, reader_table, framed, sent, sends, refuses, bad, acked, missed, brought, answered, waited, whole_reception, request, more_follows, begun, waiting, IsAsked};
+ghost use Rattle.isodep_link.specs.Reader.{ReaderTurn, reader_table, framed, sent, sends, refuses, bad, acked, missed, brought, answered, waited, whole_reception, request, more_follows, begun, waiting, SpellsSent};
 
 use crate::block::{Block, piece, toggled};
 use crate::size::piece_size;
@@ -108,7 +108,7 @@ impl ReaderEnd {
     /// One step: what was heard of the frame that was sent last. A fault stays until `begin`.
     pub fn next(&mut self, heard: &Heard) -> ReaderStep
         ensures step { record { state = self.new; does = result } ≡ reader_table self.old heard.now }
-        ensures spelled { IsAsked result }
+        ensures spelled { SpellsSent result }
         ensures some { 0 < self.old.core.most }
     {
         match (self.phase, heard) {
@@ -138,7 +138,7 @@ impl ReaderEnd {
     /// Sends what belongs to the phase.
     fn send(&mut self, phase: Phase) -> ReaderStep
         ensures step { record { state = self.new; does = result } ≡ framed (sends self.old.core phase self.old.bads) }
-        ensures spelled { IsAsked result }
+        ensures spelled { SpellsSent result }
     {
         self.phase = phase;
         let block = match phase {
@@ -153,7 +153,7 @@ impl ReaderEnd {
     /// A whole frame that isn't allowed.
     fn refuse(&mut self) -> ReaderStep
         ensures step { record { state = self.new; does = result } ≡ framed (refuses self.old) }
-        ensures spelled { IsAsked result }
+        ensures spelled { SpellsSent result }
     {
         self.phase = Phase::EndedProtocol;
         ReaderStep::Protocol
@@ -162,7 +162,7 @@ impl ReaderEnd {
     /// A bad reception.
     fn bad(&mut self) -> ReaderStep
         ensures step { record { state = self.new; does = result } ≡ framed (bad self.old) }
-        ensures spelled { IsAsked result }
+        ensures spelled { SpellsSent result }
     {
         if self.bads == MOST_BADS {
             self.phase = Phase::EndedSixBad;
@@ -184,7 +184,7 @@ impl ReaderEnd {
     /// A whole frame while a command is under way.
     fn whole(&mut self, frame: &Frame) -> ReaderStep
         ensures step { record { state = self.new; does = result } ≡ framed (waited self.old (whole_reception (spelled_block frame.now))) }
-        ensures spelled { IsAsked result }
+        ensures spelled { SpellsSent result }
     {
         match Block::read_from(frame) {
             Some(block) => self.answered(&block),
@@ -194,7 +194,7 @@ impl ReaderEnd {
 
     fn answered(&mut self, block: &Block) -> ReaderStep
         ensures step { record { state = self.new; does = result } ≡ framed (answered self.old block.now) }
-        ensures spelled { IsAsked result }
+        ensures spelled { SpellsSent result }
     {
         match block {
             Block::Info {
@@ -229,7 +229,7 @@ impl ReaderEnd {
     /// The card took a piece of the command.
     fn go_on(&mut self) -> ReaderStep
         ensures step { record { state = self.new; does = result } ≡ framed (acked self.old) }
-        ensures spelled { IsAsked result }
+        ensures spelled { SpellsSent result }
     {
         if !self.more_follows() {
             return self.refuse();
@@ -243,7 +243,7 @@ impl ReaderEnd {
     /// The card didn't hear the last I-block.
     fn ask_again(&mut self) -> ReaderStep
         ensures step { record { state = self.new; does = result } ≡ framed (missed self.old self.old.phase) }
-        ensures spelled { IsAsked result }
+        ensures spelled { SpellsSent result }
     {
         match self.phase {
             Phase::Nacked => self.send(Phase::Asked),
@@ -254,7 +254,7 @@ impl ReaderEnd {
     /// A piece of the answer.
     fn take(&mut self, more: bool, content: &[u8]) -> ReaderStep
         ensures step { record { state = self.new; does = result } ≡ framed (brought self.old more content.now) }
-        ensures spelled { IsAsked result }
+        ensures spelled { SpellsSent result }
     {
         if more && content.is_empty() {
             return self.refuse();

@@ -1,10 +1,11 @@
-use Rattle.std.proofs.Common.{◌≡◌, ℕ, length, Some, None, sym, ap, subst}
-use Rattle.nfc_base.specs.LinkTurns.{arrived}
-use Rattle.nfc_base.specs.TagLinks.{Obeys, Rises, IsAnswer}
+use Rattle.std.proofs.Common.{◌≡◌, Some, None, Result, Err}
+use Rattle.nfc_base.specs.Signal.{Signal, whole_a}
+use Rattle.nfc_base.specs.declared.tag_link.AskFault.{AskFault}
 use Rattle.air_core.proofs.PlainAside.{Laws}
-use Rattle.isodep_link.specs.IsoLinks.{IsoSeen, commands_of, since, iso_view, IsIsoReady, IsoMoves}
-use Rattle.isodep_link.specs.IsoMoving.{moves_again}
-use Rattle.isodep_link.proofs.IsoAnswers.{none_here, ok_obeys, ok_rises, ok_answer, ok_ready, ok_moves, err_obeys, err_rises, err_fault, err_calm, err_moves}
+use Rattle.isodep_link.specs.declared.link.IsoLink.{IsoLink}
+use Rattle.isodep_link.specs.Asking.{Exchanges}
+use Rattle.isodep_link.specs.IsoLinks.{seen_link, IsIsoReady, Exchanged}
+use Rattle.isodep_link.proofs.IsoAnswers.{Answers, all_answers}
 use Rattle.isodep_link.proofs.link.IsoLinkTagLink.ask.Given as given
 use Rattle.isodep_link.proofs.link.IsoLinkTagLink.ask.Goals as goal
 
@@ -17,85 +18,40 @@ laws g = record {
   ignores = g.met.L.Listener.ignores;
 }
 
-pub returns-in-Some-clause-moves : goal.returns-in-Some-clause-moves
-returns-in-Some-clause-moves g c = moves_again _ _ _ _
+-- what an exchange answers, as the link shows it
+answers : (g : given.Over) (a b : IsoLink g.row.L.Denot) (command : Signal) (r : Result Signal AskFault)
+    → (a.over ≡ None → IsIsoReady g.L.Listener g.L.CardListener.card g.L.CardListener.tag (seen_link a)) → command ≡ whole_a command.bytes
+    → (a.over ≡ None → Exchanged g.L.Listener.machine (seen_link a) (seen_link b) command r)
+    → (a.over ≡ None → Exchanges g.L.Listener g.L.CardListener.card g.L.CardListener.tag a.field.now b.field.now a.place a.reader b.reader command.bytes r)
+    → ((e : AskFault) → a.over ≡ Some e → (r ≡ Err e) × (seen_link b ≡ seen_link a))
+    → Answers g.L.Listener g.L.CardListener.card g.L.CardListener.tag (seen_link a) (seen_link b) command r
+answers g a b command r ready may turns tag ended =
+    all_answers g.L.Listener (laws g) g.L.CardListener.card g.L.CardListener.tag g.met.L.CardListener.holds a.field.now a.place a.start a.told a.reader a.last a.over command ready may (seen_link b) r turns tag ended
 
-pub returns-in-Ok-clause-obeys : goal.returns-in-Ok-clause-obeys
-returns-in-Ok-clause-obeys g c =
-    let P : ℕ → Type 0 = λ n. Obeys (iso_view g.L.Listener g.L.CardListener.card g.L.CardListener.tag (let s : IsoSeen g.row.L.Denot = record { air = c.args.self.now.field.now; place = c.args.self.now.place; start = c.args.self.now.start; told = c.args.self.now.told; reader = c.args.self.now.reader; last = c.args.self.now.last; over = c.args.self.now.over } in s)) (iso_view g.L.Listener g.L.CardListener.card g.L.CardListener.tag (let s : IsoSeen g.row.L.Denot = record { air = c.ask_card.new.field; place = c.args.self.now.place; start = c.args.self.now.start; told = n; reader = c.ask_card.new.reader; last = Some c.copy.result; over = c.args.self.now.over } in s)) c.args.command.now in
-    subst P (sym (ap length c.trace.ensures))
-    (ok_obeys g.L.Listener (laws g) g.L.CardListener.card g.L.CardListener.tag c.args.self.now.field.now c.args.self.now.place c.args.self.now.start c.args.self.now.told c.args.self.now.reader c.args.self.now.last c.args.self.now.over c.args.command.now c.copy.result
-    (none_here c.args.self.now.over c.in_default.not-Some) c.requires.ready c.requires.fits.0 c.copy.ensures c.ask_card.new.field c.ask_card.new.reader c.in-Ok.answer
-    (let s : IsoSeen g.row.L.Denot = record { air = c.args.self.now.field.now; place = c.args.self.now.place; start = c.args.self.now.start; told = c.args.self.now.told; reader = c.args.self.now.reader; last = c.args.self.now.last; over = c.args.self.now.over } in
-    c.in-Ok.ensures (commands_of (since g.L.Listener g.L.CardListener.card g.L.CardListener.tag s)) (arrived (since g.L.Listener g.L.CardListener.card g.L.CardListener.tag s)) (c.requires.ready (none_here c.args.self.now.over c.in_default.not-Some)).has))
+pub returns-clause-obeys : goal.returns-clause-obeys
+returns-clause-obeys g c =
+    (answers g c.args.self.now c.exchange.new.self c.args.command.now c.exchange.result c.requires.ready c.requires.fits.0 c.exchange.ensures.turns c.exchange.ensures.tag c.exchange.ensures.ended).obeys
 
-pub returns-in-Ok-clause-rises : goal.returns-in-Ok-clause-rises
-returns-in-Ok-clause-rises g c =
-    let P : ℕ → Type 0 = λ n. Rises (iso_view g.L.Listener g.L.CardListener.card g.L.CardListener.tag (let s : IsoSeen g.row.L.Denot = record { air = c.args.self.now.field.now; place = c.args.self.now.place; start = c.args.self.now.start; told = c.args.self.now.told; reader = c.args.self.now.reader; last = c.args.self.now.last; over = c.args.self.now.over } in s)) (iso_view g.L.Listener g.L.CardListener.card g.L.CardListener.tag (let s : IsoSeen g.row.L.Denot = record { air = c.ask_card.new.field; place = c.args.self.now.place; start = c.args.self.now.start; told = n; reader = c.ask_card.new.reader; last = Some c.copy.result; over = c.args.self.now.over } in s)) in
-    subst P (sym (ap length c.trace.ensures))
-    (ok_rises g.L.Listener (laws g) g.L.CardListener.card g.L.CardListener.tag c.args.self.now.field.now c.args.self.now.place c.args.self.now.start c.args.self.now.told c.args.self.now.reader c.args.self.now.last c.args.self.now.over c.args.command.now c.copy.result
-    (none_here c.args.self.now.over c.in_default.not-Some) c.requires.ready c.requires.fits.0 c.copy.ensures c.ask_card.new.field c.ask_card.new.reader c.in-Ok.answer
-    (let s : IsoSeen g.row.L.Denot = record { air = c.args.self.now.field.now; place = c.args.self.now.place; start = c.args.self.now.start; told = c.args.self.now.told; reader = c.args.self.now.reader; last = c.args.self.now.last; over = c.args.self.now.over } in
-    c.in-Ok.ensures (commands_of (since g.L.Listener g.L.CardListener.card g.L.CardListener.tag s)) (arrived (since g.L.Listener g.L.CardListener.card g.L.CardListener.tag s)) (c.requires.ready (none_here c.args.self.now.over c.in_default.not-Some)).has))
+pub returns-clause-rises : goal.returns-clause-rises
+returns-clause-rises g c =
+    (answers g c.args.self.now c.exchange.new.self c.args.command.now c.exchange.result c.requires.ready c.requires.fits.0 c.exchange.ensures.turns c.exchange.ensures.tag c.exchange.ensures.ended).rises
 
-pub returns-in-Ok-clause-ok : goal.returns-in-Ok-clause-ok
-returns-in-Ok-clause-ok g c =
-    let P : ℕ → Type 0 = λ n. IsAnswer (iso_view g.L.Listener g.L.CardListener.card g.L.CardListener.tag (let s : IsoSeen g.row.L.Denot = record { air = c.args.self.now.field.now; place = c.args.self.now.place; start = c.args.self.now.start; told = c.args.self.now.told; reader = c.args.self.now.reader; last = c.args.self.now.last; over = c.args.self.now.over } in s)) (iso_view g.L.Listener g.L.CardListener.card g.L.CardListener.tag (let s : IsoSeen g.row.L.Denot = record { air = c.ask_card.new.field; place = c.args.self.now.place; start = c.args.self.now.start; told = n; reader = c.ask_card.new.reader; last = Some c.copy.result; over = c.args.self.now.over } in s)) c.args.command.now c.in-Ok.answer in
-    subst P (sym (ap length c.trace.ensures))
-    (ok_answer g.L.Listener (laws g) g.L.CardListener.card g.L.CardListener.tag c.args.self.now.field.now c.args.self.now.place c.args.self.now.start c.args.self.now.told c.args.self.now.reader c.args.self.now.last c.args.self.now.over c.args.command.now c.copy.result
-    (none_here c.args.self.now.over c.in_default.not-Some) c.requires.ready c.requires.fits.0 c.copy.ensures c.ask_card.new.field c.ask_card.new.reader c.in-Ok.answer
-    (let s : IsoSeen g.row.L.Denot = record { air = c.args.self.now.field.now; place = c.args.self.now.place; start = c.args.self.now.start; told = c.args.self.now.told; reader = c.args.self.now.reader; last = c.args.self.now.last; over = c.args.self.now.over } in
-    c.in-Ok.ensures (commands_of (since g.L.Listener g.L.CardListener.card g.L.CardListener.tag s)) (arrived (since g.L.Listener g.L.CardListener.card g.L.CardListener.tag s)) (c.requires.ready (none_here c.args.self.now.over c.in_default.not-Some)).has))
+pub returns-clause-ok : goal.returns-clause-ok
+returns-clause-ok g c =
+    (answers g c.args.self.now c.exchange.new.self c.args.command.now c.exchange.result c.requires.ready c.requires.fits.0 c.exchange.ensures.turns c.exchange.ensures.tag c.exchange.ensures.ended).ok
 
-pub returns-in-Ok-clause-ready : goal.returns-in-Ok-clause-ready
-returns-in-Ok-clause-ready g c =
-    let P : ℕ → Type 0 = λ n. c.args.self.now.over ≡ None → IsIsoReady g.L.Listener g.L.CardListener.card g.L.CardListener.tag (let s : IsoSeen g.row.L.Denot = record { air = c.ask_card.new.field; place = c.args.self.now.place; start = c.args.self.now.start; told = n; reader = c.ask_card.new.reader; last = Some c.copy.result; over = c.args.self.now.over } in s) in
-    subst P (sym (ap length c.trace.ensures))
-    (ok_ready g.L.Listener (laws g) g.L.CardListener.card g.L.CardListener.tag c.args.self.now.field.now c.args.self.now.place c.args.self.now.start c.args.self.now.told c.args.self.now.reader c.args.self.now.last c.args.self.now.over c.args.command.now c.copy.result
-    (none_here c.args.self.now.over c.in_default.not-Some) c.requires.ready c.requires.fits.0 c.copy.ensures c.ask_card.new.field c.ask_card.new.reader c.in-Ok.answer
-    (let s : IsoSeen g.row.L.Denot = record { air = c.args.self.now.field.now; place = c.args.self.now.place; start = c.args.self.now.start; told = c.args.self.now.told; reader = c.args.self.now.reader; last = c.args.self.now.last; over = c.args.self.now.over } in
-    c.in-Ok.ensures (commands_of (since g.L.Listener g.L.CardListener.card g.L.CardListener.tag s)) (arrived (since g.L.Listener g.L.CardListener.card g.L.CardListener.tag s)) (c.requires.ready (none_here c.args.self.now.over c.in_default.not-Some)).has))
+pub returns-clause-err : goal.returns-clause-err
+returns-clause-err g c =
+    (answers g c.args.self.now c.exchange.new.self c.args.command.now c.exchange.result c.requires.ready c.requires.fits.0 c.exchange.ensures.turns c.exchange.ensures.tag c.exchange.ensures.ended).err
 
-pub returns-in-Ok-clause-moves : goal.returns-in-Ok-clause-moves
-returns-in-Ok-clause-moves g c =
-    let P : ℕ → Type 0 = λ n. IsoMoves g.L.Listener g.L.CardListener.card g.L.CardListener.tag (let s : IsoSeen g.row.L.Denot = record { air = c.args.self.now.field.now; place = c.args.self.now.place; start = c.args.self.now.start; told = c.args.self.now.told; reader = c.args.self.now.reader; last = c.args.self.now.last; over = c.args.self.now.over } in s) (let s : IsoSeen g.row.L.Denot = record { air = c.ask_card.new.field; place = c.args.self.now.place; start = c.args.self.now.start; told = n; reader = c.ask_card.new.reader; last = Some c.copy.result; over = c.args.self.now.over } in s) in
-    subst P (sym (ap length c.trace.ensures))
-    (ok_moves g.L.Listener (laws g) g.L.CardListener.card g.L.CardListener.tag c.args.self.now.field.now c.args.self.now.place c.args.self.now.start c.args.self.now.told c.args.self.now.reader c.args.self.now.last c.args.self.now.over c.args.command.now c.copy.result
-    (none_here c.args.self.now.over c.in_default.not-Some) c.requires.ready c.requires.fits.0 c.copy.ensures c.ask_card.new.field c.ask_card.new.reader c.in-Ok.answer
-    (let s : IsoSeen g.row.L.Denot = record { air = c.args.self.now.field.now; place = c.args.self.now.place; start = c.args.self.now.start; told = c.args.self.now.told; reader = c.args.self.now.reader; last = c.args.self.now.last; over = c.args.self.now.over } in
-    c.in-Ok.ensures (commands_of (since g.L.Listener g.L.CardListener.card g.L.CardListener.tag s)) (arrived (since g.L.Listener g.L.CardListener.card g.L.CardListener.tag s)) (c.requires.ready (none_here c.args.self.now.over c.in_default.not-Some)).has))
+pub returns-clause-calm : goal.returns-clause-calm
+returns-clause-calm g c =
+    λ none lit quiet says. (answers g c.args.self.now c.exchange.new.self c.args.command.now c.exchange.result c.requires.ready c.requires.fits.0 c.exchange.ensures.turns c.exchange.ensures.tag c.exchange.ensures.ended).calm none lit quiet
 
-pub returns-in-Err-clause-obeys : goal.returns-in-Err-clause-obeys
-returns-in-Err-clause-obeys g c =
-    err_obeys g.L.Listener (laws g) g.L.CardListener.card g.L.CardListener.tag c.args.self.now.field.now c.args.self.now.place c.args.self.now.start c.args.self.now.told c.args.self.now.reader c.args.self.now.last c.args.self.now.over c.args.command.now c.copy.result
-    (none_here c.args.self.now.over c.in_default.not-Some) c.requires.ready c.requires.fits.0 c.copy.ensures c.ask_card.new.field c.ask_card.new.reader c.in-Err.fault
-    (let s : IsoSeen g.row.L.Denot = record { air = c.args.self.now.field.now; place = c.args.self.now.place; start = c.args.self.now.start; told = c.args.self.now.told; reader = c.args.self.now.reader; last = c.args.self.now.last; over = c.args.self.now.over } in
-    c.in-Err.ensures (commands_of (since g.L.Listener g.L.CardListener.card g.L.CardListener.tag s)) (arrived (since g.L.Listener g.L.CardListener.card g.L.CardListener.tag s)) (c.requires.ready (none_here c.args.self.now.over c.in_default.not-Some)).has)
+pub returns-clause-ready : goal.returns-clause-ready
+returns-clause-ready g c =
+    (answers g c.args.self.now c.exchange.new.self c.args.command.now c.exchange.result c.requires.ready c.requires.fits.0 c.exchange.ensures.turns c.exchange.ensures.tag c.exchange.ensures.ended).ready
 
-pub returns-in-Err-clause-rises : goal.returns-in-Err-clause-rises
-returns-in-Err-clause-rises g c =
-    err_rises g.L.Listener (laws g) g.L.CardListener.card g.L.CardListener.tag c.args.self.now.field.now c.args.self.now.place c.args.self.now.start c.args.self.now.told c.args.self.now.reader c.args.self.now.last c.args.self.now.over c.args.command.now c.copy.result
-    (none_here c.args.self.now.over c.in_default.not-Some) c.requires.ready c.requires.fits.0 c.copy.ensures c.ask_card.new.field c.ask_card.new.reader c.in-Err.fault
-    (let s : IsoSeen g.row.L.Denot = record { air = c.args.self.now.field.now; place = c.args.self.now.place; start = c.args.self.now.start; told = c.args.self.now.told; reader = c.args.self.now.reader; last = c.args.self.now.last; over = c.args.self.now.over } in
-    c.in-Err.ensures (commands_of (since g.L.Listener g.L.CardListener.card g.L.CardListener.tag s)) (arrived (since g.L.Listener g.L.CardListener.card g.L.CardListener.tag s)) (c.requires.ready (none_here c.args.self.now.over c.in_default.not-Some)).has)
-
-pub returns-in-Err-clause-err : goal.returns-in-Err-clause-err
-returns-in-Err-clause-err g c =
-    err_fault g.L.Listener (laws g) g.L.CardListener.card g.L.CardListener.tag c.args.self.now.field.now c.args.self.now.place c.args.self.now.start c.args.self.now.told c.args.self.now.reader c.args.self.now.last c.args.self.now.over c.args.command.now c.copy.result
-    (none_here c.args.self.now.over c.in_default.not-Some) c.requires.ready c.requires.fits.0 c.copy.ensures c.ask_card.new.field c.ask_card.new.reader c.in-Err.fault
-    (let s : IsoSeen g.row.L.Denot = record { air = c.args.self.now.field.now; place = c.args.self.now.place; start = c.args.self.now.start; told = c.args.self.now.told; reader = c.args.self.now.reader; last = c.args.self.now.last; over = c.args.self.now.over } in
-    c.in-Err.ensures (commands_of (since g.L.Listener g.L.CardListener.card g.L.CardListener.tag s)) (arrived (since g.L.Listener g.L.CardListener.card g.L.CardListener.tag s)) (c.requires.ready (none_here c.args.self.now.over c.in_default.not-Some)).has)
-
-pub returns-in-Err-clause-moves : goal.returns-in-Err-clause-moves
-returns-in-Err-clause-moves g c =
-    err_moves g.L.Listener (laws g) g.L.CardListener.card g.L.CardListener.tag c.args.self.now.field.now c.args.self.now.place c.args.self.now.start c.args.self.now.told c.args.self.now.reader c.args.self.now.last c.args.self.now.over c.args.command.now c.copy.result
-    (none_here c.args.self.now.over c.in_default.not-Some) c.requires.ready c.requires.fits.0 c.copy.ensures c.ask_card.new.field c.ask_card.new.reader c.in-Err.fault
-    (let s : IsoSeen g.row.L.Denot = record { air = c.args.self.now.field.now; place = c.args.self.now.place; start = c.args.self.now.start; told = c.args.self.now.told; reader = c.args.self.now.reader; last = c.args.self.now.last; over = c.args.self.now.over } in
-    c.in-Err.ensures (commands_of (since g.L.Listener g.L.CardListener.card g.L.CardListener.tag s)) (arrived (since g.L.Listener g.L.CardListener.card g.L.CardListener.tag s)) (c.requires.ready (none_here c.args.self.now.over c.in_default.not-Some)).has)
-
-pub returns-in-Err-clause-calm : goal.returns-in-Err-clause-calm
-returns-in-Err-clause-calm g c = λ none lit quiet says.
-    err_calm g.L.Listener (laws g) g.L.CardListener.card g.L.CardListener.tag c.args.self.now.field.now c.args.self.now.place c.args.self.now.start c.args.self.now.told c.args.self.now.reader c.args.self.now.last c.args.self.now.over c.args.command.now c.copy.result
-    (none_here c.args.self.now.over c.in_default.not-Some) c.requires.ready c.requires.fits.0 c.copy.ensures c.ask_card.new.field c.ask_card.new.reader c.in-Err.fault
-    (let s : IsoSeen g.row.L.Denot = record { air = c.args.self.now.field.now; place = c.args.self.now.place; start = c.args.self.now.start; told = c.args.self.now.told; reader = c.args.self.now.reader; last = c.args.self.now.last; over = c.args.self.now.over } in
-    c.in-Err.ensures (commands_of (since g.L.Listener g.L.CardListener.card g.L.CardListener.tag s)) (arrived (since g.L.Listener g.L.CardListener.card g.L.CardListener.tag s)) (c.requires.ready (none_here c.args.self.now.over c.in_default.not-Some)).has) lit quiet
+pub returns-clause-moves : goal.returns-clause-moves
+returns-clause-moves g c =
+    (answers g c.args.self.now c.exchange.new.self c.args.command.now c.exchange.result c.requires.ready c.requires.fits.0 c.exchange.ensures.turns c.exchange.ensures.tag c.exchange.ensures.ended).moves
