@@ -194,17 +194,17 @@ fault_on a b c e stays over lit (inr by) = inr (by.0, by.1, (by.2.0, by_link by.
     by_link (inr cause) = inr (cause_on a b c by.0 stays.rises lit cause)
 
 link_fault : (how : How) (store : List ℕ) (a b : LinkView) (e : ReadFault) → IsLinkFault a b e → IsReadFault how store a b e
-link_fault how store a b e (inl memory) = subst (λ x. IsReadFault how store a b x) (sym memory) tt
+link_fault how store a b e (inl memory) = subst (λ x. IsReadFault how store a b x) (sym memory.0) (inl memory.1)
 link_fault how store a b e (inr by) = subst (λ x. IsReadFault how store a b x) (sym by.1) (go by.0 by.2)
   where
     go : (f : AskFault) → ByLink a b f → IsReadFault how store a b (of_link f)
     go ask.FieldLost is = is
     go ask.SixBad is = is
-    go ask.Memory is = tt
+    go ask.Memory is = inr is
     go ask.Protocol is = is
 
 link_untold : (a b : LinkView) (e : ReadFault) → IsLinkFault a b e → is_told e ≡ false
-link_untold a b e (inl memory) = ap is_told memory
+link_untold a b e (inl memory) = ap is_told memory.0
 link_untold a b e (inr by) = ap is_told by.1 ∙ go by.0
   where
     go : (f : AskFault) → is_told (of_link f) ≡ false
@@ -326,7 +326,7 @@ ends_at how size a b known space n is walks m end =
     }
 
 -- the form of a store that ends before its area
-cut_form : (id : List ℕ) (size : ℕ) (store : List ℕ) (space : Space) (f : form.Form) → area_of (T5 id) size store ≡ Ok space → length store < space.end →
+pub cut_form : (id : List ℕ) (size : ℕ) (store : List ℕ) (space : Space) (f : form.Form) → area_of (T5 id) size store ≡ Ok space → length store < space.end →
     form.IsForm (record space { end = length store }) store f → IsStoreForm (T5 id) store f
 cut_form id size store space f has short is =
     let names = t5_cut (four_bytes store 0) (256 * size) space has in

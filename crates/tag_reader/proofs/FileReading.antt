@@ -138,7 +138,7 @@ under_lost size n a b u = record {
   asked = has_asked size (suc n) a b u.reached;
   whole = λ told. absurd (let clash : false ≡ true = told in cc);
   goes_on = λ told. absurd (let clash : false ≡ true = told in cc);
-  tells = tt;
+  tells = inl u.reached.goes_on.over;
   calm = λ begun lit quiet. inr refl;
 }
 

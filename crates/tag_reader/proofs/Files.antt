@@ -2,6 +2,7 @@
 use Rattle.std.proofs.Common.{◌≡◌, ℕ, zero, suc, ◌+◌, ◌*◌, ◌<◌, ◌≤◌, Bool, true, false, not, ◌==◌, ◌||◌, nat_lt, List, [], ◌∷◌, ◌++◌, length, take, drop, slice_index, Some, refl, ◌∙◌, ap, arith}
 use Rattle.std.specs.Prelude.{Ok}
 use Rattle.std.proofs.lemmas.List.{take-append-drop, length-take}
+use Rattle.nfc_base.specs.Words.{word}
 use Rattle.nfc_base.specs.Signal.{whole_a}
 use Rattle.nfc_base.specs.TagLinks.{TagState, TagStep, TagFile, NoFile, ContainerFile, NdefFile}
 use Rattle.t4t_tag.specs.declared.command.T4Command.{T4Command}
@@ -14,7 +15,7 @@ use Rattle.t4t_tag.proofs.Turns.{content_of}
 use Rattle.t4t_tag.proofs.Commands.{select_opens, select_container, select_ndef, read_container, read_ndef}
 use Rattle.tlv_area.specs.declared.container.FileMap.{FileMap}
 use Rattle.tlv_area.specs.declared.container.ContainerFault.TheVariants as container
-use Rattle.tlv_area.specs.Containers.{first_fault, unless, word, t4_file, t4_container}
+use Rattle.tlv_area.specs.Containers.{first_fault, unless, t4_file, t4_container}
 use Rattle.tag_reader.specs.Files.{container_end, container_in, file_in, most_asked, piece_size, file_command, file_frame, HasPiece, IsFileDue, t4_memory, t4_link_step, shown}
 use Rattle.tag_reader.specs.FileSteps.{state_at, content_at}
 
@@ -43,6 +44,7 @@ pub record Named (c : List ℕ) (map' : FileMap) : Type 0 where
   pub free : slice_index c 13 ≡ 0
   pub most : 15 ≤ word c 3
   pub least : 2 ≤ word c 11
+  pub high : word c 11 ≤ 0x7FFF
 
 no_row : (free size : Bool) (map' : FileMap) (c : List ℕ) → (magic version : Bool) →
     unless (first_fault ((magic, container.NotNdef) ∷ (version, container.Version) ∷ (free, container.NoRead) ∷ (size, container.BadSize) ∷ [])) (t4_file c) ≡ Ok map' →
@@ -56,14 +58,14 @@ no_row false false map' c false false h = (refl, refl, cc)
 is_zero : (n : ℕ) → not (n == 0) ≡ false → n ≡ 0
 is_zero n h = grind (arith, h)
 
-sized : (a b c : ℕ) → (nat_lt a 15 || nat_lt b 15 || nat_lt c 2 || nat_lt 0x7FFF c) ≡ false → (15 ≤ b) × (2 ≤ c)
-sized a b c h = (grind (arith, h), grind (arith, h))
+sized : (a b c : ℕ) → (nat_lt a 15 || nat_lt b 15 || nat_lt c 2 || nat_lt 0x7FFF c) ≡ false → (15 ≤ b) × (2 ≤ c) × (c ≤ 0x7FFF)
+sized a b c h = (grind (arith, h), grind (arith, h), grind (arith, h))
 
 pub named : (c : List ℕ) (map' : FileMap) → t4_container c ≡ Ok map' → Named c map'
 named c map' has =
     let rows = no_row (not (slice_index c 13 == 0)) (nat_lt (word c 0) 15 || nat_lt (word c 3) 15 || nat_lt (word c 11) 2 || nat_lt 0x7FFF (word c 11)) map' c _ _ has in
     let fits = sized (word c 0) (word c 3) (word c 11) rows.1 in
-    record { file = rows.2; free = is_zero (slice_index c 13) rows.0; most = fits.0; least = fits.1 }
+    record { file = rows.2; free = is_zero (slice_index c 13) rows.0; most = fits.0; least = fits.1; high = fits.2 }
 
 -- the two files are the store
 pub whole_store : (store : List ℕ) → container_in store ++ file_in store ≡ store

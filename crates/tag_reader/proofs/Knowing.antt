@@ -40,7 +40,7 @@ pub stays_on : (a b c : LinkView) → Stays a b → Stays b c → Stays a c
 stays_on a b c p q = record {
   more = p.more ++ q.more;
   leads = leads_on a b c p.more q.more p.leads q.leads;
-  images = all_on (λ s. s ≡ a.state.store) a b p.more q.more p.leads p.images
+  images = all_on (λ s. s ≡ a.state.store) a b c p.more q.more p.leads q.leads p.images
       (all_map (λ s. s ≡ b.state.store) (λ s. s ≡ a.state.store) _ (λ s e. e ∙ p.store) q.images);
   store = q.store ∙ p.store;
   rises = rises_on a b c p.rises q.rises;

@@ -1,6 +1,11 @@
 pub mod Bytes
 pub mod Areas
 pub mod Links
+pub mod Bringing
+pub mod Pieces
+pub mod Looking
+pub mod Exact
+pub mod OneForm
 pub mod Replies
 pub mod Contents
 pub mod Knowing
@@ -10,5 +15,6 @@ pub mod Lists
 pub mod SomeList
 pub mod Files
 pub mod FileReading
+pub mod Filing
 pub mod FileAsked
 pub mod Cards

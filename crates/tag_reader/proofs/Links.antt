@@ -50,14 +50,14 @@ ask_answers a b c r s after k obeys rises last answer = record {
 
 -- an answer that found no memory
 pub answer_lost : (c : Signal) (a b : LinkView) → Answers c a b → Fails c a b fault.Memory
-answer_lost c a b answer = record { stays = answer.stays; fault' = inl refl; asked = inr (answer.answered, answer.last, answer.goes_on.over ∙ sym answer.before); calm = λ begun lit quiet. refl }
+answer_lost c a b answer = record { stays = answer.stays; fault' = inl (refl, answer.goes_on.over); asked = inr (answer.answered, answer.last, answer.goes_on.over ∙ sym answer.before); calm = λ begun lit quiet. refl }
 
 -- what a call that fails says of the link: it wasn't over before, or the call changed nothing
 pub data Began (a b : LinkView) (e : AskFault) : Type 0 where
   Open : a.over ≡ None → Began a b e
   Over : a.over ≡ Some e → b ≡ a → Began a b e
 
-began : (a b : LinkView) (e : AskFault) (result : Result Signal AskFault) → result ≡ Err e →
+pub began : (a b : LinkView) (e : AskFault) (result : Result Signal AskFault) → result ≡ Err e →
     ((f : AskFault) → a.over ≡ Some f → IsEnded a b f result) → Began a b e
 began a b e result is ended = by_over a.over refl
   where
@@ -68,7 +68,7 @@ began a b e result is ended = by_over a.over refl
         let same : f ≡ e = let clash : Err f ≡ Err e = sym end.fault ∙ is in cc in
         Over (was ∙ ap (λ g. Some g) same) end.same
 
-began_by : (a b : LinkView) (e : AskFault) → b.over ≡ Some e → (a.over ≡ None → AskCause a b e) → Began a b e → ByLink a b e
+pub began_by : (a b : LinkView) (e : AskFault) → b.over ≡ Some e → (a.over ≡ None → AskCause a b e) → Began a b e → ByLink a b e
 began_by a b e over cause (Open was) = (over, inr (cause was))
 began_by a b e over cause (Over was same) = (over, inl was)
 
@@ -85,9 +85,9 @@ ask_fails : (a b : LinkView) (c r : Signal) (after : TagState) (e : AskFault) �
 ask_fails a b c r after e k obeys rises last fails cause ended calm =
     let start = began a b e (Err e) refl ended in
     record {
-      stays = ask_stays a b c r after k obeys rises (elim fails.after [
-        | inl same ↦ ap (λ t. t.store) same
-        | inr done ↦ ap (λ t. t.store) (done ∙ after_is a c r after k) ∙ k.store
+      stays = ask_stays a b c r after k obeys rises (elim fails.store [
+        | inl same ↦ same
+        | inr done ↦ done ∙ ap (λ t. t.store) (after_is a c r after k) ∙ k.store
       ]);
       fault' = inr (e, refl, began_by a b e fails.over cause start);
       asked = inl (fails.answered, began_last a b e c last start);

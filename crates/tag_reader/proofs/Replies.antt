@@ -13,19 +13,21 @@ use Rattle.t5t_tag.specs.declared.answer.T5Answer.TheVariants as t5_says
 use Rattle.t5t_tag.proofs.Steps.{read_turns, read_keeps}
 use Rattle.tag_reader.specs.declared.how.How.{How}
 use Rattle.tag_reader.specs.declared.how.How.TheVariants.{T2, T4, T5}
-use Rattle.tag_reader.specs.Kinds.{IsTag, kind_of, command, reply, t2_step, t5_memory, t5_step}
+use Rattle.tag_reader.specs.Heard.{IsOf}
+use Rattle.tag_reader.specs.Kinds.{IsTag, kind_of, IsNamed, command, reply, t2_step, t5_memory, t5_step}
 use Rattle.tag_reader.specs.Steps.{IsOfBlocks, IsBlockTag, IsInReach}
 use Rattle.tag_reader.proofs.Links.{Keeps}
 
-named_command : (how : How) (size : ℕ) (v : LinkView) (store : List ℕ) (k : ℕ) → IsBlockTag how size v → MayAsk (kind_of how) v.identifier (command how store k)
-named_command T2 size v store k is = refl
-named_command T4 size v store k is = absurd is.store
-named_command (T5 id) size v store k is =
-    subst (λ i. MayAsk Type5 i (command (T5 id) store k)) (sym is.named.0) (record { code = 32; rest = k ∷ []; frame = refl })
+named_command : (how : How) (v : LinkView) (store : List ℕ) (k : ℕ) → IsOfBlocks how → IsNamed how v.identifier → MayAsk (kind_of how) v.identifier (command how store k)
+named_command T2 v store k blocks named = refl
+named_command T4 v store k blocks named = absurd blocks
+named_command (T5 id) v store k blocks named =
+    subst (λ i. MayAsk Type5 i (command (T5 id) store k)) (sym named.0) (record { code = 32; rest = k ∷ []; frame = refl })
 
 -- a READ is what the tag may be asked
-pub may_ask : (how : How) (size : ℕ) (v : LinkView) (store : List ℕ) (k : ℕ) → IsBlockTag how size v → MayAsk v.kind v.identifier (command how store k)
-may_ask how size v store k is = subst (λ kind. MayAsk kind v.identifier (command how store k)) (sym is.kind) (named_command how size v store k is)
+pub may_ask : (how : How) (v : LinkView) (store : List ℕ) (k : ℕ) → IsOfBlocks how → IsOf how v → MayAsk v.kind v.identifier (command how store k)
+may_ask how v store k blocks of =
+    subst (λ kind. MayAsk kind v.identifier (command how store k)) (sym of.kind) (named_command how v store k blocks of.named)
 
 -- the tag's answer, after which it is what it was
 abbrev pub Replies : TagState → Signal → TagStep

@@ -1,7 +1,7 @@
 -- The turns of a reading: the first READ, the walk over what is known, and the next READ.
-use Rattle.std.proofs.Common.{◌≡◌, ℕ, ◌+◌, ◌*◌, ◌<◌, inl, inr, Bool, true, false, List, [], ◌++◌, length, take, refl, sym, ◌∙◌, ap, subst, arith}
+use Rattle.std.proofs.Common.{◌≡◌, ℕ, ◌+◌, ◌*◌, ◌<◌, ◌≤◌, inl, inr, Bool, true, false, List, [], ◌++◌, length, take, refl, sym, ◌∙◌, ap, subst, arith}
 use Rattle.std.specs.Prelude.{Ok, Err}
-use Rattle.std.proofs.lemmas.List.{length-take-le, take-append-le}
+use Rattle.std.proofs.lemmas.List.{length-append, length-take-le, take-append-le}
 use Rattle.nfc_base.specs.TagLinks.{LinkView}
 use Rattle.tlv_area.specs.declared.space.Space.{Space}
 use Rattle.tlv_area.specs.declared.space.AreaMap.{AreaMap}
@@ -152,3 +152,12 @@ ended how size a b c known known' slice space n more e is walks due asks goes sa
     let end : length a.state.store ≡ size * (n + 1) = sym (ap length walks.knows.stays.store) ∙ (here.1).0 in
     subst (λ xs. Reads how size a c xs (Err e)) (sym (here.1).1)
     (ends_cut how size a b c known space n e is walks due.due here.0 end (subst (λ xs. IsCutFault space xs e) (same ∙ (here.1).1) cut'))
+
+-- how many bytes are known
+pub none_long : (known : List ℕ) (size : ℕ) → known ≡ [] → length known ≡ size * 0
+none_long known size none = let zero' : size * 0 ≡ 0 = omega arith in ap length none ∙ sym zero'
+
+pub known_long : (how : How) (size : ℕ) (a b : LinkView) (known : List ℕ) (space : Space) (n : ℕ) → Walks how size a b known space n → Next how size a b n → length known ≡ size * (n + 1)
+known_long how size a b known space n walks due =
+    let within : size * (n + 1) ≤ length a.state.store = due.due.within in
+    ap length walks.knows.bytes ∙ length-take-le (size * (n + 1)) (rolling a.state.store) (omega (arith, length-append a.state.store a.state.store, within))

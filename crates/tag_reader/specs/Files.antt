@@ -1,9 +1,10 @@
 -- The Type 4 tag behind a link (NFC Forum Type 4 Tag; ISO/IEC 7816-4): its two files in the store that a link shows, what the
 -- store holds, and which commands ask for its message, in their order.
 use Rattle.std.specs.Prelude.{◌≡◌, ℕ, zero, suc, ◌+◌, ◌-◌, ◌*◌, ◌<◌, ◌≤◌, min, nat_lt, if◌then◌else◌, List, length, take, drop, Result, Some, Ok, Err}
+use Rattle.nfc_base.specs.Words.{word}
 use Rattle.nfc_base.specs.Signal.{Signal, whole_a}
 use Rattle.nfc_base.specs.TagLinks.{TagFile, NoFile, ContainerFile, NdefFile, TagState, TagStep}
-use Rattle.t4t_tag.specs.Store.{IsT4Store, T4State, store_of, word, most_read, file_id, file_size, container_id}
+use Rattle.t4t_tag.specs.Store.{IsT4Store, T4State, store_of, most_read, file_id, file_size, container_id}
 use Rattle.t4t_tag.specs.Spelling.{command_bytes}
 use Rattle.t4t_tag.specs.Step.{t4_answer, t4_after}
 use Rattle.t4t_tag.specs.declared.command.T4Command.{T4Command}

@@ -6,3 +6,5 @@ pub mod Reading
 pub mod Numbers
 pub mod Steps
 pub mod FileSteps
+pub mod Heard
+pub mod HeardSteps

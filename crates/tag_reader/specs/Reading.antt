@@ -36,7 +36,8 @@ pub record IsFound (how : How) (size : ℕ) (store : List ℕ) (found : Found) :
   pub held : IsStoreForm how store (Message found.message)
   pub site : IsSite how size store found.site found.writable
 
--- Each fault: of the store's form, or of the link. A tag of these kinds refuses no command that is asked.
+-- Each fault: of the store's form, or of the link. A tag of these kinds refuses no command that is asked. Want of memory is the
+-- reader's own, and then the link isn't over, or it is that by which the link is over.
 abbrev pub IsReadFault : How → List ℕ → LinkView → LinkView → ReadFault → Type 0
 IsReadFault how store a b fault.NotNdef = IsStoreForm how store (Faulty container.NotNdef)
 IsReadFault how store a b fault.Version = IsStoreForm how store (Faulty container.Version)
@@ -49,7 +50,7 @@ IsReadFault how store a b (fault.Refused code) = ⊥
 IsReadFault how store a b fault.FieldLost = ByLink a b ask.FieldLost
 IsReadFault how store a b fault.SixBad = ByLink a b ask.SixBad
 IsReadFault how store a b fault.Protocol = ByLink a b ask.Protocol
-IsReadFault how store a b fault.Memory = Unit {0}
+IsReadFault how store a b fault.Memory = (b.over ≡ None) ⊎ ByLink a b ask.Memory
 
 -- whether a reading ended by what the store holds, and not by the link or for want of memory
 abbrev pub is_told : ReadFault → Bool

@@ -80,19 +80,15 @@ HasNumber (T5 id) k = k < 256
 abbrev pub rolling : List ℕ → List ℕ
 rolling store = store ++ store
 
--- the status bytes of an answer that refuses: any but 9000h
-abbrev pub IsRefusal : ℕ → ℕ → Type 0
-IsRefusal high low = ((high ≡ 0x90) × (low ≡ 0x00)) → ⊥
-
 -- what the answer to the k-th READ tells
 abbrev pub TellsNext : ℕ → List ℕ → ℕ → Result Told ReadFault → Type 0
 TellsNext size store k (Ok (Bytes bytes)) = (size * k < length store) × (bytes.items ≡ take size (drop (size * k) (rolling store)))
 TellsNext size store k (Ok Ended) = length store ≡ size * k
 TellsNext size store k (Err e) = ⊥
 
--- want of memory, or a fault of the link with its cause
+-- want of memory of a reader whose link goes on, or a fault of the link with its cause
 abbrev pub IsLinkFault : LinkView → LinkView → ReadFault → Type 0
-IsLinkFault a b e = (e ≡ fault.Memory) ⊎ ((f : AskFault) × (e ≡ of_link f) × ByLink a b f)
+IsLinkFault a b e = ((e ≡ fault.Memory) × (b.over ≡ None)) ⊎ ((f : AskFault) × (e ≡ of_link f) × ByLink a b f)
 
 -- A command was answered.
 pub record Answers (c : Signal) (a b : LinkView) : Type 0 where

@@ -1,11 +1,14 @@
 //! The file of a Type 4 tag (NFC Forum Type 4 Tag; ISO/IEC 7816-4).
 
-ghost use Rattle.std.specs.Prelude.{◌≡◌, ℕ, suc, length};
+ghost use Rattle.std.specs.Prelude.{◌≡◌, ◌↔◌, ℕ, suc, ◌≤◌, min, List, [], ◌∷◌, ◌++◌, length, true, IfOk};
 ghost use Rattle.nfc_base.specs.TagLinks.{LinkView};
 ghost use Rattle.tlv_area.specs.declared.container.FileMap.{FileMap as Map};
 ghost use Rattle.tlv_area.specs.Containers.{t4_container};
 ghost use Rattle.tag_reader.specs.declared.how.How.TheVariants as hows;
 ghost use Rattle.tag_reader.specs.Files.{file_command, message_length, most_asked, IsFileDue};
+ghost use Rattle.t4t_tag.specs.Spelling.{IsT4Command};
+ghost use Rattle.tag_reader.specs.Heard.{IsOf, HasSize, IsToldBy, file_next};
+ghost use Rattle.tag_reader.specs.HeardSteps.{Under, OrFault, HasSelected, Opened, Measured, ReadAll};
 ghost use Rattle.tag_reader.specs.Kinds.{IsTag};
 ghost use Rattle.tag_reader.specs.Steps.{IsRead};
 ghost use Rattle.tag_reader.specs.FileSteps.{content_at, IsUnder, OrEnds, IsOpen, IsMeasured, IsWhole};
@@ -18,12 +21,10 @@ use crate::told::told_t4;
 use arrayvec::ArrayVec;
 use nfc_base::{Frame, Items, TagLink, Tech};
 use std::alloc::Global;
-use t4t_tag::T4Command;
+use t4t_tag::{CONTAINER_ID, T4Command};
 use tlv_area::{ContainerFault, FileMap, container_t4};
 
-/// The identifier of the capability container file, and how many of its bytes are read.
-const CONTAINER_ID: u16 = 0xE103;
-
+/// How many bytes of the capability container are read.
 const CONTAINER_SIZE: usize = 15;
 
 /// How many bytes say how long the message is; the message stands behind them.
@@ -35,7 +36,9 @@ const MOST_ASKED: u16 = 255;
 /// Reads the message of a Type 4 tag.
 pub fn read_file<T: TagLink>(alloc: Global, link: &mut T) -> Result<Found, ReadFault>
     requires ready { T.ready link.old }
-    requires tag { (size : ℕ) × IsTag hows.T4 size (T.seen link.old) }
+    requires of { IsOf hows.T4 (T.seen link.old) }
+    // whatever the tag does
+    ensures told { IsToldBy hows.T4 (T.seen link.old) (T.seen link.new) result }
     ensures reads { (size : ℕ) → IsTag hows.T4 size (T.seen link.old) → IsRead hows.T4 size (T.seen link.old) (T.seen link.new) result }
     ensures ready { T.ready link.new }
     ensures same { T.lenders link.new ≡ T.lenders link.old }
@@ -51,6 +54,22 @@ pub fn read_file<T: TagLink>(alloc: Global, link: &mut T) -> Result<Found, ReadF
     })
 }
 
+/// Whether an answer brings as many bytes as its command needs. SELECT of the application may bring any that the tag likes.
+fn has_size(command: &T4Command, bytes: &[u8]) -> bool
+    requires { length bytes.now ≤ 256 }
+    ensures { (result ≡ true) ↔ HasSize command.now bytes.now }
+{
+    match command {
+        T4Command::SelectApplication => true,
+        T4Command::SelectFile { id: _ } => bytes.is_empty(),
+        T4Command::ReadBinary { offset: _, count } => bytes.len() == *count as usize,
+        T4Command::UpdateBinary {
+            offset: _,
+            content: _,
+        } => bytes.is_empty(),
+    }
+}
+
 /// Asks the next command of a reading, and gives the bytes that its answer brings.
 fn ask_file<T: TagLink>(
     alloc: Global,
@@ -58,7 +77,11 @@ fn ask_file<T: TagLink>(
     command: &T4Command,
 ) -> Result<ArrayVec<u8, 256>, ReadFault>
     requires ready { T.ready link.old }
-    requires due { (size : ℕ) × (n : ℕ) × (a : LinkView) × IsUnder size a (T.seen link.old) n × IsFileDue a.state.store n × (command.now ≡ file_command a.state.store n) }
+    requires of { IsOf hows.T4 (T.seen link.old) }
+    requires range { IsT4Command command.now }
+    ensures size { IfOk result (λ bytes. HasSize command.now bytes.items) }
+    // whatever the tag does
+    ensures brings { (a : LinkView) (ps : List (List ℕ)) → Under hows.T4 a (T.seen link.old) ps → command.now ≡ file_next ps → OrFault (λ bytes. Under hows.T4 a (T.seen link.new) (ps ++ bytes.items ∷ [])) hows.T4 a (T.seen link.new) result }
     ensures next { (size n : ℕ) (a : LinkView) → IsUnder size a (T.seen link.old) n → IsFileDue a.state.store n → command.now ≡ file_command a.state.store n → OrEnds (λ bytes. IsUnder size a (T.seen link.new) (suc n) × (bytes.items ≡ content_at a.state.store n)) size a (T.seen link.new) result }
     ensures ready { T.ready link.new }
     ensures same { T.lenders link.new ≡ T.lenders link.old }
@@ -68,7 +91,16 @@ fn ask_file<T: TagLink>(
     let frame = Frame::whole(Tech::A, bytes.as_slice()).unwrap();
     match link.ask(alloc, &frame) {
         Err(fault) => Err(of_link(fault)),
-        Ok(answer) => told_t4(&answer),
+        Ok(answer) => match told_t4(&answer) {
+            Err(fault) => Err(fault),
+            Ok(bytes) => {
+                if has_size(command, bytes.as_slice()) {
+                    Ok(bytes)
+                } else {
+                    Err(ReadFault::Protocol)
+                }
+            }
+        },
     }
 }
 
@@ -85,7 +117,8 @@ fn file_named(bytes: &[u8]) -> Result<FileMap, ContainerFault>
 /// Selects the application, and the container in it.
 fn select_container<T: TagLink>(alloc: Global, link: &mut T) -> Result<(), ReadFault>
     requires ready { T.ready link.old }
-    requires tag { (size : ℕ) × IsTag hows.T4 size (T.seen link.old) }
+    requires of { IsOf hows.T4 (T.seen link.old) }
+    ensures brings { OrFault (λ done. HasSelected (T.seen link.old) (T.seen link.new)) hows.T4 (T.seen link.old) (T.seen link.new) result }
     ensures selects { (size : ℕ) → IsTag hows.T4 size (T.seen link.old) → OrEnds (λ done. IsUnder size (T.seen link.old) (T.seen link.new) 2) size (T.seen link.old) (T.seen link.new) result }
     ensures ready { T.ready link.new }
     ensures same { T.lenders link.new ≡ T.lenders link.old }
@@ -99,7 +132,8 @@ fn select_container<T: TagLink>(alloc: Global, link: &mut T) -> Result<(), ReadF
 /// Selects the application and the container, and reads what the container says.
 fn read_container<T: TagLink>(alloc: Global, link: &mut T) -> Result<FileMap, ReadFault>
     requires ready { T.ready link.old }
-    requires tag { (size : ℕ) × IsTag hows.T4 size (T.seen link.old) }
+    requires of { IsOf hows.T4 (T.seen link.old) }
+    ensures brings { OrFault (Opened (T.seen link.old) (T.seen link.new)) hows.T4 (T.seen link.old) (T.seen link.new) result }
     ensures opens { (size : ℕ) → IsTag hows.T4 size (T.seen link.old) → OrEnds (IsOpen size (T.seen link.old) (T.seen link.new)) size (T.seen link.old) (T.seen link.new) result }
     ensures ready { T.ready link.new }
     ensures same { T.lenders link.new ≡ T.lenders link.old }
@@ -128,7 +162,9 @@ fn number_of(bytes: &[u8]) -> u16
 /// Selects the NDEF file, and reads how long its message is.
 fn read_length<T: TagLink>(alloc: Global, link: &mut T, map: FileMap) -> Result<u16, ReadFault>
     requires ready { T.ready link.old }
-    requires opened { (size : ℕ) × (a : LinkView) × IsOpen size a (T.seen link.old) map }
+    requires of { IsOf hows.T4 (T.seen link.old) }
+    requires opened { (a : LinkView) × Opened a (T.seen link.old) map }
+    ensures brings { (a : LinkView) → Opened a (T.seen link.old) map → OrFault (Measured a (T.seen link.new) map) hows.T4 a (T.seen link.new) result }
     ensures measures { (size : ℕ) (a : LinkView) → IsOpen size a (T.seen link.old) map → OrEnds (IsMeasured size a (T.seen link.new) map) size a (T.seen link.new) result }
     ensures ready { T.ready link.new }
     ensures same { T.lenders link.new ≡ T.lenders link.old }
@@ -155,7 +191,9 @@ fn read_message<T: TagLink>(
     length: u16,
 ) -> Result<Vec<u8>, ReadFault>
     requires ready { T.ready link.old }
-    requires measured { (size : ℕ) × (a : LinkView) × (m : Map) × IsMeasured size a (T.seen link.old) m length × (most ≡ most_asked a.state.store) }
+    requires of { IsOf hows.T4 (T.seen link.old) }
+    requires measured { (a : LinkView) × (m : Map) × Measured a (T.seen link.old) m length × (most ≡ min m.mle 255) }
+    ensures brings { (a : LinkView) (m : Map) → Measured a (T.seen link.old) m length → most ≡ min m.mle 255 → OrFault (λ message. ReadAll a (T.seen link.new) m length message.items) hows.T4 a (T.seen link.new) result }
     ensures whole { (size : ℕ) (a : LinkView) (m : Map) → IsMeasured size a (T.seen link.old) m length → most ≡ most_asked a.state.store → OrEnds (λ message. IsWhole size a (T.seen link.new) message.items) size a (T.seen link.new) result }
     ensures ready { T.ready link.new }
     ensures same { T.lenders link.new ≡ T.lenders link.old }

@@ -5,14 +5,16 @@ ghost use Rattle.tlv_area.specs.declared.container.ContainerFault.{ContainerFaul
 ghost use Rattle.tlv_area.specs.Form.{NeedsMore};
 ghost use Rattle.tlv_area.specs.Layout.{IsArea};
 ghost use Rattle.tag_reader.specs.Kinds.{area_of};
-ghost use Rattle.tag_reader.specs.Steps.{of_container, IsBlockTag, HoldsContainer, IsCutFault, Reads};
+ghost use Rattle.tag_reader.specs.Heard.{IsOf};
+ghost use Rattle.tag_reader.specs.HeardSteps.{Sees, OrFault};
+ghost use Rattle.tag_reader.specs.Steps.{of_container, IsOfBlocks, IsBlockTag, HoldsContainer, IsCutFault, Reads};
 
 use crate::asking::ask_next;
 use crate::fault::ReadFault;
 use crate::how::How;
-use crate::told::NO_BLOCK;
 use nfc_base::TagLink;
 use std::alloc::Global;
+use t5t_tag::NO_BLOCK;
 use tlv_area::{AreaMap, ContainerFault, Space, Walk, container_t2, container_t5, find_message};
 
 /// How many blocks the numbers of one byte can name.
@@ -86,8 +88,11 @@ pub fn find_map<T: TagLink>(
     known: &mut Vec<u8>,
 ) -> Result<AreaMap, ReadFault>
     requires ready { T.ready link.old }
-    requires tag { (size : ℕ) × IsBlockTag how size (T.seen link.old) }
+    requires of { IsOf how (T.seen link.old) }
+    requires kind { IsOfBlocks how }
     requires begun { known.old.items ≡ [] }
+    // whatever the tag does
+    ensures sees { OrFault (Sees how (T.seen link.old) (T.seen link.new) known.new.items) how (T.seen link.old) (T.seen link.new) result }
     ensures reads { (size : ℕ) → IsBlockTag how size (T.seen link.old) → Reads how size (T.seen link.old) (T.seen link.new) known.new.items result }
     ensures ready { T.ready link.new }
     ensures same { T.lenders link.new ≡ T.lenders link.old }

@@ -6,7 +6,7 @@ ghost use Rattle.nfc_base.specs.TagLinks.{TagKind, Type2, Type4, Type5, TagState
 ghost use Rattle.t5t_tag.specs.Store.{IsT5State};
 ghost use Rattle.t2t_tag.specs.Store.{IsT2Store};
 ghost use Rattle.tag_reader.specs.Files.{shown, t4_link_step};
-ghost use Rattle.tag_reader.specs.Kinds.{t2_step, t5_step, IsTag};
+ghost use Rattle.tag_reader.specs.Kinds.{t2_step, t5_step, kind_of, IsNamed};
 
 use crate::{Found, How, ReadFault, Site, one_asked, read};
 use nfc_base::{AskFault, Frame, TagLink, Tech};
@@ -85,6 +85,27 @@ impl Card for Awake {
         let answer = self.tag.obey(command);
         self.tag.dark();
         answer
+    }
+}
+
+/// A tag that gives one answer to whatever it is asked.
+#[derive(Drop)]
+struct Odd<C> {
+    card: C,
+    answer: Frame,
+}
+
+impl<C: Card> Card for Odd<C> {
+    ghost kind = { λ o. C.kind o.card };
+
+    ghost identifier = { λ o. C.identifier o.card };
+
+    ghost state = { λ o. C.state o.card };
+
+    ghost step = { λ o s _. record { answer = Some o.answer; after = s } };
+
+    fn hear(&mut self, _command: &Frame) -> Option<Frame> {
+        Some(self.answer.copy())
     }
 }
 
@@ -230,6 +251,22 @@ fn read_t5(alloc: Global, id: [u8; 8], tag: T5Tag) -> (Result<Found, ReadFault>,
     let _shape = tag.store();
     let mut link = MemLink::new(alloc, Awake { tag }, 1000);
     let outcome = read(alloc, &mut link, How::T5(id));
+    (outcome, link.answered.len())
+}
+
+fn read_odd<C: Card>(
+    alloc: Global,
+    card: C,
+    how: How,
+    answer: Frame,
+) -> (Result<Found, ReadFault>, usize)
+where
+    C: Drop,
+    requires kind { C.kind card ≡ kind_of how }
+    requires named { IsNamed how (C.identifier card) }
+{
+    let mut link = MemLink::new(alloc, Odd { card, answer }, 1000);
+    let outcome = read(alloc, &mut link, how);
     (outcome, link.answered.len())
 }
 
@@ -494,5 +531,100 @@ fn a_tag_tells_the_same_to_another_reader(rt: HostRuntime) -> Result<(), Fail> {
     }
     let (outcome, asks) = read_t4(rt.alloc(), tag, 1000);
     assert!(rt; is_told(&holds(0, 0, &head, &MESSAGE, 6), &outcome, asks));
+    Ok(())
+}
+
+/// An answer of so many bits of the last byte, 0 for all of them, the fault that a reading tells then, and after how many
+/// commands.
+#[derive(Drop)]
+struct OddRow<'a> {
+    answer: &'a [u8],
+    tail: u8,
+    fault: ReadFault,
+    asks: usize,
+}
+
+fn gives<'a>(answer: &'a [u8], tail: u8, fault: ReadFault, asks: usize) -> OddRow<'a> {
+    OddRow {
+        answer,
+        tail,
+        fault,
+        asks,
+    }
+}
+
+fn is_odd(row: &OddRow, outcome: &Result<Found, ReadFault>, asks: usize) -> bool {
+    let fault = match outcome {
+        Err(fault) => *fault == row.fault,
+        Ok(_) => false,
+    };
+    fault && asks == row.asks
+}
+
+#[test]
+fn tells_what_other_tags_answer(rt: HostRuntime) -> Result<(), Fail> {
+    let zeros = [0; 33];
+    let type_2 = [
+        gives(&[0x0], 4, ReadFault::Refused(0), 1),
+        gives(&[0xA], 4, ReadFault::Protocol, 1),
+        gives(&zeros[..15], 0, ReadFault::Protocol, 1),
+        gives(&zeros[..17], 0, ReadFault::Protocol, 1),
+        gives(&zeros[..16], 0, ReadFault::NotNdef, 1),
+    ];
+    for row in &type_2 {
+        let store = store_of(rt.alloc(), &lacks(12, 64, &[], 1, 1))?;
+        let answer = Frame::part(Tech::A, row.answer, row.tail)?;
+        let (outcome, asks) = read_odd(rt.alloc(), T2Tag::new(store)?, How::T2, answer);
+        assert!(rt;
+            is_odd(row, &outcome, asks),
+            "at {:?}: {outcome:?}",
+            row.answer
+        );
+    }
+    let type_4 = [
+        gives(&[0x6A, 0x82], 0, ReadFault::Refused(0x6A82), 1),
+        gives(&[0x90], 0, ReadFault::Protocol, 1),
+        // SELECT of the application may bring bytes, SELECT of a file none, a read as many as it asks for
+        gives(&[0x6F, 0x90, 0x00], 0, ReadFault::Protocol, 2),
+        gives(&[0x90, 0x00], 0, ReadFault::Protocol, 3),
+        gives(&[0x90, 0x00], 5, ReadFault::Protocol, 1),
+    ];
+    for row in &type_4 {
+        let tag = tag_t4(rt.alloc(), &CONTAINER, &[])?;
+        let answer = Frame::part(Tech::A, row.answer, row.tail)?;
+        let (outcome, asks) = read_odd(rt.alloc(), tag, How::T4, answer);
+        assert!(rt;
+            is_odd(row, &outcome, asks),
+            "at {:?}: {outcome:?}",
+            row.answer
+        );
+    }
+    Ok(())
+}
+
+#[test]
+fn tells_what_other_type_5_tags_answer(rt: HostRuntime) -> Result<(), Fail> {
+    let id = [0xE0, 4, 1, 2, 3, 4, 5, 6];
+    let zeros = [0; 9];
+    let rows = [
+        gives(&[0x01, 0x0F], 0, ReadFault::Refused(0x0F), 1),
+        gives(&[0x01, 0x10], 0, ReadFault::Refused(0x10), 1),
+        // no block, and one too short for the container
+        gives(&zeros[..1], 0, ReadFault::Protocol, 1),
+        gives(&zeros[..4], 0, ReadFault::Protocol, 1),
+        gives(&zeros[..5], 0, ReadFault::NotNdef, 1),
+    ];
+    for row in &rows {
+        let store = store_of(rt.alloc(), &lacks(0, 16, &[], 1, 1))?;
+        let answer = Frame::part(Tech::V, row.answer, row.tail)?;
+        let tag = T5Tag::new(id, store, 4)?;
+        let _shape = tag.store();
+        let (outcome, asks) = read_odd(rt.alloc(), Awake { tag }, How::T5(id), answer);
+        assert!(rt;
+            is_odd(row, &outcome, asks),
+            "at {:?}: {outcome:?}",
+            row.answer
+        );
+    }
     Ok(())
 }

@@ -1,7 +1,11 @@
-use Rattle.std.proofs.Common.{rules, length, refl, sym, ◌∙◌, ap, subst}
+use Rattle.std.proofs.Common.{rules, [], ◌∷◌, length, refl, sym, ◌∙◌, ap, subst}
 use Rattle.nfc_base.specs.TagLinks.{LinkView}
 use Rattle.tag_reader.specs.FileSteps.{EndsBy}
-use Rattle.tag_reader.proofs.FileReading.{opens_file, container_long, no_file_by}
+use Rattle.tag_reader.proofs.FileReading.{opens_file, no_file_by}
+use Rattle.tag_reader.specs.declared.how.How.TheVariants.{T4}
+use Rattle.tag_reader.specs.Heard.{IsFaultBy}
+use Rattle.tag_reader.proofs.Looking.{of_under}
+use Rattle.tag_reader.proofs.Filing.{opens, no_file}
 use Rattle.tag_reader.proofs.file.read_container.Goals as goal
 
 pub returns-in_err-select_container-clause-opens : goal.returns-in_err-select_container-clause-opens
@@ -9,22 +13,11 @@ returns-in_err-select_container-clause-opens g c size is =
     let h : EndsBy size (g.T.TagLink.seen c.args.link.now) (g.T.TagLink.seen c.select_container.new.link) c.in_err-select_container.field-0.0 = c.in_err-select_container.ensures.selects size is in
     search rules
 
-pub ask_file-requires-clause-due : goal.ask_file-requires-clause-due
-ask_file-requires-clause-due g c =
-    (c.requires.tag.0, 2, g.T.TagLink.seen c.args.link.now, c.in_ok-select_container.ensures.selects c.requires.tag.0 c.requires.tag.1, tt, refl)
-
 pub returns-in_err-bytes-clause-opens : goal.returns-in_err-bytes-clause-opens
 returns-in_err-bytes-clause-opens g c size is =
     let h : EndsBy size (g.T.TagLink.seen c.args.link.now) (g.T.TagLink.seen c.ask_file.new.link) c.in_err-bytes.field-0.0 =
     c.in_err-bytes.ensures.next size 2 (g.T.TagLink.seen c.args.link.now) (c.in_ok-select_container.ensures.selects size is) tt refl in
     search rules
-
-pub file_named-requires : goal.file_named-requires
-file_named-requires g c =
-    let a : LinkView = g.T.TagLink.seen c.args.link.now in
-    let size = c.requires.tag.0 in
-    let next = c.in_ok-bytes.ensures.next size 2 a (c.in_ok-select_container.ensures.selects size c.requires.tag.1) tt refl in
-    ap length c.as_slice.ensures.value ∙ container_long size a c.requires.tag.1 c.in_ok-bytes.bytes.items next.1
 
 pub returns-in-Err-clause-opens : goal.returns-in-Err-clause-opens
 returns-in-Err-clause-opens g c size is =
@@ -38,3 +31,38 @@ returns-in-Ok-clause-opens g c size is =
     let a : LinkView = g.T.TagLink.seen c.args.link.now in
     let next = c.in_ok-bytes.ensures.next size 2 a (c.in_ok-select_container.ensures.selects size is) tt refl in
     opens_file size a _ c.as_slice.result.now c.in-Ok.map next.0 (c.as_slice.ensures.value ∙ next.1) c.in-Ok.ensures
+
+pub ask_file-requires-clause-of : goal.ask_file-requires-clause-of
+ask_file-requires-clause-of g c =
+    let a : LinkView = g.T.TagLink.seen c.args.link.now in
+    let sel = c.in_ok-select_container.ensures.brings in
+    of_under T4 a (g.T.TagLink.seen c.select_container.new.link) (sel.application ∷ sel.container ∷ []) c.requires.of sel.under
+
+pub file_named-requires : goal.file_named-requires
+file_named-requires g c = ap length c.as_slice.ensures.value ∙ c.in_ok-bytes.ensures.size
+
+pub returns-in_err-select_container-clause-brings : goal.returns-in_err-select_container-clause-brings
+returns-in_err-select_container-clause-brings g c =
+    let h : IsFaultBy T4 (g.T.TagLink.seen c.args.link.now) (g.T.TagLink.seen c.select_container.new.link) c.in_err-select_container.field-0.0 = c.in_err-select_container.ensures.brings in
+    search rules
+
+pub returns-in_err-bytes-clause-brings : goal.returns-in_err-bytes-clause-brings
+returns-in_err-bytes-clause-brings g c =
+    let a : LinkView = g.T.TagLink.seen c.args.link.now in
+    let sel = c.in_ok-select_container.ensures.brings in
+    let h : IsFaultBy T4 a (g.T.TagLink.seen c.ask_file.new.link) c.in_err-bytes.field-0.0 = c.in_err-bytes.ensures.brings a (sel.application ∷ sel.container ∷ []) sel.under refl in
+    search rules
+
+pub returns-in-Err-clause-brings : goal.returns-in-Err-clause-brings
+returns-in-Err-clause-brings g c =
+    let a : LinkView = g.T.TagLink.seen c.args.link.now in
+    let sel = c.in_ok-select_container.ensures.brings in
+    no_file a (g.T.TagLink.seen c.ask_file.new.link) sel.application sel.container c.in_ok-bytes.bytes.items c.as_slice.result.now c.in-Err.fault c.of_container.result
+    (c.in_ok-bytes.ensures.brings a (sel.application ∷ sel.container ∷ []) sel.under refl) c.as_slice.ensures.value c.in-Err.ensures c.of_container.ensures
+
+pub returns-in-Ok-clause-brings : goal.returns-in-Ok-clause-brings
+returns-in-Ok-clause-brings g c =
+    let a : LinkView = g.T.TagLink.seen c.args.link.now in
+    let sel = c.in_ok-select_container.ensures.brings in
+    opens a (g.T.TagLink.seen c.ask_file.new.link) sel.application sel.container c.in_ok-bytes.bytes.items c.as_slice.result.now c.in-Ok.map
+    (c.in_ok-bytes.ensures.brings a (sel.application ∷ sel.container ∷ []) sel.under refl) c.as_slice.ensures.value c.in-Ok.ensures

@@ -1,7 +1,11 @@
-use Rattle.std.proofs.Common.{rules, refl}
+use Rattle.std.proofs.Common.{rules, [], ◌∷◌, refl}
 use Rattle.nfc_base.specs.TagLinks.{LinkView}
 use Rattle.tag_reader.specs.FileSteps.{EndsBy}
 use Rattle.tag_reader.proofs.FileReading.{begins}
+use Rattle.tag_reader.specs.declared.how.How.TheVariants.{T4}
+use Rattle.tag_reader.specs.Heard.{IsFaultBy}
+use Rattle.tag_reader.proofs.Bringing.{under_none}
+use Rattle.tag_reader.proofs.Looking.{of_under}
 use Rattle.tag_reader.proofs.file.select_container.Goals as goal
 
 pub returns-in_err-ask_file-clause-selects : goal.returns-in_err-ask_file-clause-selects
@@ -9,13 +13,6 @@ returns-in_err-ask_file-clause-selects g c size is =
     let a : LinkView = g.T.TagLink.seen c.args.link.now in
     let h : EndsBy size a (g.T.TagLink.seen c.ask_file.new.link) c.in_err-ask_file.field-0.0 = c.in_err-ask_file.ensures.next size 0 a (begins size a is) tt refl in
     search rules
-
-pub ask_file-requires-2-clause-due : goal.ask_file-requires-2-clause-due
-ask_file-requires-2-clause-due g c =
-    let a : LinkView = g.T.TagLink.seen c.args.link.now in
-    let size = c.requires.tag.0 in
-    let next = c.in_ok-ask_file.ensures.next size 0 a (begins size a c.requires.tag.1) tt refl in
-    (size, 1, a, next.0, tt, refl)
 
 pub returns-in_err-ask_file-2-clause-selects : goal.returns-in_err-ask_file-2-clause-selects
 returns-in_err-ask_file-2-clause-selects g c size is =
@@ -29,3 +26,32 @@ returns-clause-selects g c size is =
     let a : LinkView = g.T.TagLink.seen c.args.link.now in
     let next = c.in_ok-ask_file.ensures.next size 0 a (begins size a is) tt refl in
     (c.in_ok-ask_file-2.ensures.next size 1 a next.0 tt refl).0
+
+pub ask_file-requires-2-clause-of : goal.ask_file-requires-2-clause-of
+ask_file-requires-2-clause-of g c =
+    let a : LinkView = g.T.TagLink.seen c.args.link.now in
+    let first = c.in_ok-ask_file.ensures.brings a [] (under_none T4 a) refl in
+    of_under T4 a (g.T.TagLink.seen c.ask_file.new.link) (c.in_ok-ask_file.field-0.items ∷ []) c.requires.of first
+
+pub returns-in_err-ask_file-clause-brings : goal.returns-in_err-ask_file-clause-brings
+returns-in_err-ask_file-clause-brings g c =
+    let a : LinkView = g.T.TagLink.seen c.args.link.now in
+    let h : IsFaultBy T4 a (g.T.TagLink.seen c.ask_file.new.link) c.in_err-ask_file.field-0.0 = c.in_err-ask_file.ensures.brings a [] (under_none T4 a) refl in
+    search rules
+
+pub returns-in_err-ask_file-2-clause-brings : goal.returns-in_err-ask_file-2-clause-brings
+returns-in_err-ask_file-2-clause-brings g c =
+    let a : LinkView = g.T.TagLink.seen c.args.link.now in
+    let first = c.in_ok-ask_file.ensures.brings a [] (under_none T4 a) refl in
+    let h : IsFaultBy T4 a (g.T.TagLink.seen c.ask_file-2.new.link) c.in_err-ask_file-2.field-0.0 = c.in_err-ask_file-2.ensures.brings a (c.in_ok-ask_file.field-0.items ∷ []) first refl in
+    search rules
+
+pub returns-clause-brings : goal.returns-clause-brings
+returns-clause-brings g c =
+    let a : LinkView = g.T.TagLink.seen c.args.link.now in
+    let first = c.in_ok-ask_file.ensures.brings a [] (under_none T4 a) refl in
+    record {
+      application = c.in_ok-ask_file.field-0.items;
+      container = c.in_ok-ask_file-2.field-0.items;
+      under = c.in_ok-ask_file-2.ensures.brings a (c.in_ok-ask_file.field-0.items ∷ []) first refl;
+    }

@@ -1,22 +1,26 @@
-use Rattle.std.proofs.Common.{rules, ◌≡◌, ◌+◌, take, inl, inr, refl, ◌∙◌, ap, arith, Err}
+use Rattle.std.proofs.Common.{rules, ◌≡◌, ◌+◌, [], take, inl, inr, refl, ◌∙◌, ap, arith, Ok, Err}
 use Rattle.tag_reader.specs.Steps.{Reads}
+use Rattle.tag_reader.specs.Heard.{IsFaultBy}
+use Rattle.tag_reader.specs.HeardSteps.{GainsOr}
+use Rattle.tag_reader.proofs.Bringing.{under_none}
+use Rattle.tag_reader.proofs.Looking.{number_first, of_under, first_gains, first_holds, first_looks, first_faulty, first_ended, looks_none, looks_bad, looks_held, numbered, looks_more, ran_out, looks_cut}
 use Rattle.tag_reader.proofs.Areas.{due_reach, needs_next}
 use Rattle.tag_reader.proofs.Endings.{ends_first, ends_later}
-use Rattle.tag_reader.proofs.Turns.{begun, first_fault, first_walk, held, none, bad, next, goes_on, stopped, ended}
+use Rattle.tag_reader.proofs.Turns.{begun, first_fault, first_walk, held, none, bad, next, goes_on, ended, none_long, known_long}
 use Rattle.tag_reader.proofs.finding.find_map.Goals as goal
 
 pub returns-in_err-begins-clause-reads : goal.returns-in_err-begins-clause-reads
 returns-in_err-begins-clause-reads g c size is =
     let low = due_reach c.args.how size (g.T.TagLink.seen c.args.link.now).state.store 0 is.store (inl refl) in
     let h : Reads c.args.how size (g.T.TagLink.seen c.args.link.now) (g.T.TagLink.seen c.ask_next.new.link) c.ask_next.new.known.items (Err c.in_err-begins.field-0.0) =
-    ends_first c.args.how size (g.T.TagLink.seen c.args.link.now) (g.T.TagLink.seen c.ask_next.new.link) c.ask_next.new.known.items c.in_err-begins.field-0.0 (c.in_err-begins.ensures.next size is low) in
+    ends_first c.args.how size (g.T.TagLink.seen c.args.link.now) (g.T.TagLink.seen c.ask_next.new.link) c.ask_next.new.known.items c.in_err-begins.field-0.0 (c.in_err-begins.ensures.next size is low (none_long c.args.known.now.items size c.requires.begun)) in
     search rules
 
 pub returns-in-Err-clause-reads : goal.returns-in-Err-clause-reads
 returns-in-Err-clause-reads g c size is =
     let low = due_reach c.args.how size (g.T.TagLink.seen c.args.link.now).state.store 0 is.store (inl refl) in
     let knows = begun c.args.how size (g.T.TagLink.seen c.args.link.now) (g.T.TagLink.seen c.ask_next.new.link) c.args.known.now.items c.ask_next.new.known.items c.in_ok-begins.begins is
-    (c.in_ok-begins.ensures.next size is low) c.if-not-begins.false c.requires.begun in
+    (c.in_ok-begins.ensures.next size is low (none_long c.args.known.now.items size c.requires.begun)) c.if-not-begins.false c.requires.begun in
     first_fault c.args.how size (g.T.TagLink.seen c.args.link.now) (g.T.TagLink.seen c.ask_next.new.link) c.ask_next.new.known.items c.as_slice.result.now c.in-Err.fault c.of_container.result is.store knows
     c.as_slice.ensures.value c.in-Err.ensures.exact c.of_container.ensures
 
@@ -25,9 +29,13 @@ walk-init g c = record {
   walks = λ size is.
       (let low = due_reach c.args.how size (g.T.TagLink.seen c.args.link.now).state.store 0 is.store (inl refl) in
       let knows = begun c.args.how size (g.T.TagLink.seen c.args.link.now) (g.T.TagLink.seen c.ask_next.new.link) c.args.known.now.items c.ask_next.new.known.items c.in_ok-begins.begins is
-      (c.in_ok-begins.ensures.next size is low) c.if-not-begins.false c.requires.begun in
+      (c.in_ok-begins.ensures.next size is low (none_long c.args.known.now.items size c.requires.begun)) c.if-not-begins.false c.requires.begun in
       first_walk c.args.how size (g.T.TagLink.seen c.args.link.now) (g.T.TagLink.seen c.ask_next.new.link) c.ask_next.new.known.items c.as_slice.result.now c.in-Ok.space is.store knows
       c.as_slice.ensures.value c.in-Ok.ensures.exact);
+  looks =
+      (let gains = first_gains c.args.how (g.T.TagLink.seen c.args.link.now) (g.T.TagLink.seen c.ask_next.new.link) c.args.known.now.items c.ask_next.new.known.items c.in_ok-begins.begins
+      (c.in_ok-begins.ensures.gains (g.T.TagLink.seen c.args.link.now) [] (under_none c.args.how (g.T.TagLink.seen c.args.link.now)) refl c.requires.begun) c.if-not-begins.false c.requires.begun in
+      first_looks c.args.how (g.T.TagLink.seen c.args.link.now) (g.T.TagLink.seen c.ask_next.new.link) c.ask_next.new.known.items c.as_slice.result.now c.in-Ok.space c.requires.kind gains c.as_slice.ensures.value c.in-Ok.ensures.exact);
   ready = c.in_ok-begins.ensures.ready;
   same = c.in_ok-begins.ensures.same;
   moves = c.in_ok-begins.ensures.moves;
@@ -51,20 +59,6 @@ returns-in-BadTlv-clause-reads g c size is =
     bad c.args.how size (g.T.TagLink.seen c.args.link.now) (g.T.TagLink.seen c.walk.link) c.walk.known.items c.front.result.now c.in-Ok.space c.walk.index is.store
     (c.walk.invariant.walks size is) e (λ more. c.in-BadTlv.ensures.front more tt)
 
-pub overflow_add-index : goal.overflow_add-index
-overflow_add-index g c =
-    let e : c.front.result.now ≡ take c.in-Ok.space.end c.walk.known.items = c.front.ensures ∙ ap (λ k. take c.in-Ok.space.end k) c.as_slice-in-walk.ensures.value in
-    let due = next c.args.how c.requires.tag.0 (g.T.TagLink.seen c.args.link.now) (g.T.TagLink.seen c.walk.link) c.walk.known.items c.front.result.now c.in-Ok.space c.walk.index c.requires.tag.1.store
-    (c.walk.invariant.walks c.requires.tag.0 c.requires.tag.1) e (c.in-More.ensures.short refl) (c.in-More.ensures.more.0 refl) in
-    omega (arith, due.below)
-
-pub ask_next-requires-in-More-clause-tag : goal.ask_next-requires-in-More-clause-tag
-ask_next-requires-in-More-clause-tag g c =
-    let e : c.front.result.now ≡ take c.in-Ok.space.end c.walk.known.items = c.front.ensures ∙ ap (λ k. take c.in-Ok.space.end k) c.as_slice-in-walk.ensures.value in
-    let due = next c.args.how c.requires.tag.0 (g.T.TagLink.seen c.args.link.now) (g.T.TagLink.seen c.walk.link) c.walk.known.items c.front.result.now c.in-Ok.space c.walk.index c.requires.tag.1.store
-    (c.walk.invariant.walks c.requires.tag.0 c.requires.tag.1) e (c.in-More.ensures.short refl) (c.in-More.ensures.more.0 refl) in
-    (c.requires.tag.0, due.tag, due.reach)
-
 pub returns-in_err-goes_on-in-More-clause-reads : goal.returns-in_err-goes_on-in-More-clause-reads
 returns-in_err-goes_on-in-More-clause-reads g c size is =
     let e : c.front.result.now ≡ take c.in-Ok.space.end c.walk.known.items = c.front.ensures ∙ ap (λ k. take c.in-Ok.space.end k) c.as_slice-in-walk.ensures.value in
@@ -73,38 +67,8 @@ returns-in_err-goes_on-in-More-clause-reads g c size is =
     walks e (c.in-More.ensures.short refl) (c.in-More.ensures.more.0 refl) in
     let h : Reads c.args.how size (g.T.TagLink.seen c.args.link.now) (g.T.TagLink.seen c.ask_next-in-More.new.link) c.ask_next-in-More.new.known.items (Err c.in_err-goes_on-in-More.field-0.0) =
     ends_later c.args.how size (g.T.TagLink.seen c.args.link.now) (g.T.TagLink.seen c.walk.link) (g.T.TagLink.seen c.ask_next-in-More.new.link) c.walk.known.items c.ask_next-in-More.new.known.items c.walk.index
-    c.in_err-goes_on-in-More.field-0.0 walks.knows (inr (needs_next c.args.how size (g.T.TagLink.seen c.args.link.now).state.store (c.walk.index + 1) is.store due.due)) (c.in_err-goes_on-in-More.ensures.next size due.tag due.reach) in
+    c.in_err-goes_on-in-More.field-0.0 walks.knows (inr (needs_next c.args.how size (g.T.TagLink.seen c.args.link.now).state.store (c.walk.index + 1) is.store due.due)) (c.in_err-goes_on-in-More.ensures.next size due.tag due.reach (known_long c.args.how size (g.T.TagLink.seen c.args.link.now) (g.T.TagLink.seen c.walk.link) c.walk.known.items c.in-Ok.space c.walk.index walks due)) in
     search rules
-
-pub cut_fault-requires-clause-begins : goal.cut_fault-requires-clause-begins
-cut_fault-requires-clause-begins g c =
-    let e : c.front.result.now ≡ take c.in-Ok.space.end c.walk.known.items = c.front.ensures ∙ ap (λ k. take c.in-Ok.space.end k) c.as_slice-in-walk.ensures.value in
-    let walks = c.walk.invariant.walks c.requires.tag.0 c.requires.tag.1 in
-    let due = next c.args.how c.requires.tag.0 (g.T.TagLink.seen c.args.link.now) (g.T.TagLink.seen c.walk.link) c.walk.known.items c.front.result.now c.in-Ok.space c.walk.index c.requires.tag.1.store
-    walks e (c.in-More.ensures.short refl) (c.in-More.ensures.more.0 refl) in
-    (stopped c.args.how c.requires.tag.0 (g.T.TagLink.seen c.args.link.now) (g.T.TagLink.seen c.walk.link) (g.T.TagLink.seen c.ask_next-in-More.new.link) c.walk.known.items c.ask_next-in-More.new.known.items
-    c.as_slice-then-not-goes_on.result.now c.in-Ok.space c.walk.index c.in_ok-goes_on-in-More.goes_on c.requires.tag.1.store walks due (c.in_ok-goes_on-in-More.ensures.next c.requires.tag.0 due.tag due.reach)
-    c.if-not-goes_on.true c.as_slice-then-not-goes_on.ensures.value).begins
-
-pub cut_fault-requires-clause-more : goal.cut_fault-requires-clause-more
-cut_fault-requires-clause-more g c =
-    let e : c.front.result.now ≡ take c.in-Ok.space.end c.walk.known.items = c.front.ensures ∙ ap (λ k. take c.in-Ok.space.end k) c.as_slice-in-walk.ensures.value in
-    let walks = c.walk.invariant.walks c.requires.tag.0 c.requires.tag.1 in
-    let due = next c.args.how c.requires.tag.0 (g.T.TagLink.seen c.args.link.now) (g.T.TagLink.seen c.walk.link) c.walk.known.items c.front.result.now c.in-Ok.space c.walk.index c.requires.tag.1.store
-    walks e (c.in-More.ensures.short refl) (c.in-More.ensures.more.0 refl) in
-    (stopped c.args.how c.requires.tag.0 (g.T.TagLink.seen c.args.link.now) (g.T.TagLink.seen c.walk.link) (g.T.TagLink.seen c.ask_next-in-More.new.link) c.walk.known.items c.ask_next-in-More.new.known.items
-    c.as_slice-then-not-goes_on.result.now c.in-Ok.space c.walk.index c.in_ok-goes_on-in-More.goes_on c.requires.tag.1.store walks due (c.in_ok-goes_on-in-More.ensures.next c.requires.tag.0 due.tag due.reach)
-    c.if-not-goes_on.true c.as_slice-then-not-goes_on.ensures.value).more
-
-pub cut_fault-requires-clause-short : goal.cut_fault-requires-clause-short
-cut_fault-requires-clause-short g c =
-    let e : c.front.result.now ≡ take c.in-Ok.space.end c.walk.known.items = c.front.ensures ∙ ap (λ k. take c.in-Ok.space.end k) c.as_slice-in-walk.ensures.value in
-    let walks = c.walk.invariant.walks c.requires.tag.0 c.requires.tag.1 in
-    let due = next c.args.how c.requires.tag.0 (g.T.TagLink.seen c.args.link.now) (g.T.TagLink.seen c.walk.link) c.walk.known.items c.front.result.now c.in-Ok.space c.walk.index c.requires.tag.1.store
-    walks e (c.in-More.ensures.short refl) (c.in-More.ensures.more.0 refl) in
-    (stopped c.args.how c.requires.tag.0 (g.T.TagLink.seen c.args.link.now) (g.T.TagLink.seen c.walk.link) (g.T.TagLink.seen c.ask_next-in-More.new.link) c.walk.known.items c.ask_next-in-More.new.known.items
-    c.as_slice-then-not-goes_on.result.now c.in-Ok.space c.walk.index c.in_ok-goes_on-in-More.goes_on c.requires.tag.1.store walks due (c.in_ok-goes_on-in-More.ensures.next c.requires.tag.0 due.tag due.reach)
-    c.if-not-goes_on.true c.as_slice-then-not-goes_on.ensures.value).short
 
 pub returns-then-not-goes_on-clause-reads : goal.returns-then-not-goes_on-clause-reads
 returns-then-not-goes_on-clause-reads g c size is =
@@ -113,7 +77,7 @@ returns-then-not-goes_on-clause-reads g c size is =
     let due = next c.args.how size (g.T.TagLink.seen c.args.link.now) (g.T.TagLink.seen c.walk.link) c.walk.known.items c.front.result.now c.in-Ok.space c.walk.index is.store
     walks e (c.in-More.ensures.short refl) (c.in-More.ensures.more.0 refl) in
     ended c.args.how size (g.T.TagLink.seen c.args.link.now) (g.T.TagLink.seen c.walk.link) (g.T.TagLink.seen c.ask_next-in-More.new.link) c.walk.known.items c.ask_next-in-More.new.known.items
-    c.as_slice-then-not-goes_on.result.now c.in-Ok.space c.walk.index c.in_ok-goes_on-in-More.goes_on c.cut_fault.result is.store walks due (c.in_ok-goes_on-in-More.ensures.next size due.tag due.reach)
+    c.as_slice-then-not-goes_on.result.now c.in-Ok.space c.walk.index c.in_ok-goes_on-in-More.goes_on c.cut_fault.result is.store walks due (c.in_ok-goes_on-in-More.ensures.next size due.tag due.reach (known_long c.args.how size (g.T.TagLink.seen c.args.link.now) (g.T.TagLink.seen c.walk.link) c.walk.known.items c.in-Ok.space c.walk.index walks due))
     c.if-not-goes_on.true c.as_slice-then-not-goes_on.ensures.value c.cut_fault.ensures
 
 pub walk-preserved : goal.walk-preserved
@@ -125,8 +89,114 @@ walk-preserved g c =
           let due = next c.args.how size (g.T.TagLink.seen c.args.link.now) (g.T.TagLink.seen c.walk.link) c.walk.known.items c.front.result.now c.in-Ok.space c.walk.index is.store
           walks e (c.in-More.ensures.short refl) (c.in-More.ensures.more.0 refl) in
           goes_on c.args.how size (g.T.TagLink.seen c.args.link.now) (g.T.TagLink.seen c.walk.link) (g.T.TagLink.seen c.ask_next-in-More.new.link) c.walk.known.items c.ask_next-in-More.new.known.items
-          c.in-Ok.space c.walk.index c.in_ok-goes_on-in-More.goes_on is.store walks due (c.in_ok-goes_on-in-More.ensures.next size due.tag due.reach) c.if-not-goes_on.false);
+          c.in-Ok.space c.walk.index c.in_ok-goes_on-in-More.goes_on is.store walks due (c.in_ok-goes_on-in-More.ensures.next size due.tag due.reach (known_long c.args.how size (g.T.TagLink.seen c.args.link.now) (g.T.TagLink.seen c.walk.link) c.walk.known.items c.in-Ok.space c.walk.index walks due)) c.if-not-goes_on.false);
+      looks = looks_more c.args.how (g.T.TagLink.seen c.args.link.now) (g.T.TagLink.seen c.walk.link) (g.T.TagLink.seen c.ask_next-in-More.new.link) c.walk.known.items c.ask_next-in-More.new.known.items c.in-Ok.space c.walk.index c.in_ok-goes_on-in-More.goes_on c.requires.kind c.walk.invariant.looks
+          (c.in_ok-goes_on-in-More.ensures.gains (g.T.TagLink.seen c.args.link.now) c.walk.invariant.looks.ps c.walk.invariant.looks.under c.walk.invariant.looks.count c.walk.invariant.looks.known') c.if-not-goes_on.false;
       ready = c.in_ok-goes_on-in-More.ensures.ready;
       same = c.in_ok-goes_on-in-More.ensures.same ∙ c.walk.invariant.same;
       moves = g.met.T.TagLink.goes_on c.args.link.now c.walk.link c.ask_next-in-More.new.link c.walk.invariant.moves c.in_ok-goes_on-in-More.ensures.moves;
     }
+
+pub ask_next-requires-clause-kind : goal.ask_next-requires-clause-kind
+ask_next-requires-clause-kind g c =
+    (c.requires.kind, number_first c.args.how c.requires.kind)
+
+pub returns-in_err-begins-clause-sees : goal.returns-in_err-begins-clause-sees
+returns-in_err-begins-clause-sees g c =
+    let h : IsFaultBy c.args.how (g.T.TagLink.seen c.args.link.now) (g.T.TagLink.seen c.ask_next.new.link) c.in_err-begins.field-0.0 = c.in_err-begins.ensures.gains (g.T.TagLink.seen c.args.link.now) [] (under_none c.args.how (g.T.TagLink.seen c.args.link.now)) refl c.requires.begun in
+    search rules
+
+pub returns-then-not-begins-clause-sees : goal.returns-then-not-begins-clause-sees
+returns-then-not-begins-clause-sees g c =
+    first_ended c.args.how (g.T.TagLink.seen c.args.link.now) (g.T.TagLink.seen c.ask_next.new.link) c.args.known.now.items c.ask_next.new.known.items c.in_ok-begins.begins
+    (c.in_ok-begins.ensures.gains (g.T.TagLink.seen c.args.link.now) [] (under_none c.args.how (g.T.TagLink.seen c.args.link.now)) refl c.requires.begun) c.if-not-begins.true
+
+pub space_of-requires : goal.space_of-requires
+space_of-requires g c =
+    let gains = first_gains c.args.how (g.T.TagLink.seen c.args.link.now) (g.T.TagLink.seen c.ask_next.new.link) c.args.known.now.items c.ask_next.new.known.items c.in_ok-begins.begins
+    (c.in_ok-begins.ensures.gains (g.T.TagLink.seen c.args.link.now) [] (under_none c.args.how (g.T.TagLink.seen c.args.link.now)) refl c.requires.begun) c.if-not-begins.false c.requires.begun in
+    first_holds c.args.how (g.T.TagLink.seen c.args.link.now) (g.T.TagLink.seen c.ask_next.new.link) c.ask_next.new.known.items c.as_slice.result.now c.requires.kind gains c.as_slice.ensures.value
+
+pub returns-in-Err-clause-sees : goal.returns-in-Err-clause-sees
+returns-in-Err-clause-sees g c =
+    let gains = first_gains c.args.how (g.T.TagLink.seen c.args.link.now) (g.T.TagLink.seen c.ask_next.new.link) c.args.known.now.items c.ask_next.new.known.items c.in_ok-begins.begins
+    (c.in_ok-begins.ensures.gains (g.T.TagLink.seen c.args.link.now) [] (under_none c.args.how (g.T.TagLink.seen c.args.link.now)) refl c.requires.begun) c.if-not-begins.false c.requires.begun in
+    first_faulty c.args.how (g.T.TagLink.seen c.args.link.now) (g.T.TagLink.seen c.ask_next.new.link) c.ask_next.new.known.items c.as_slice.result.now c.in-Err.fault c.of_container.result c.requires.kind gains c.as_slice.ensures.value c.in-Err.ensures.exact
+    c.of_container.ensures
+
+pub returns-in-Held-clause-sees : goal.returns-in-Held-clause-sees
+returns-in-Held-clause-sees g c =
+    let e : c.front.result.now ≡ take c.in-Ok.space.end c.walk.known.items = c.front.ensures ∙ ap (λ k. take c.in-Ok.space.end k) c.as_slice-in-walk.ensures.value in
+    looks_held c.args.how (g.T.TagLink.seen c.args.link.now) (g.T.TagLink.seen c.walk.link) c.walk.known.items c.front.result.now c.in-Ok.space c.walk.index c.in-Held.map c.walk.invariant.looks e (λ more. c.in-Held.ensures.front more tt)
+    (λ more. c.in-Held.ensures.settled more tt) c.in-Held.ensures.places
+
+pub returns-in-NoMessageTlv-clause-sees : goal.returns-in-NoMessageTlv-clause-sees
+returns-in-NoMessageTlv-clause-sees g c =
+    let e : c.front.result.now ≡ take c.in-Ok.space.end c.walk.known.items = c.front.ensures ∙ ap (λ k. take c.in-Ok.space.end k) c.as_slice-in-walk.ensures.value in
+    looks_none c.args.how (g.T.TagLink.seen c.args.link.now) (g.T.TagLink.seen c.walk.link) c.walk.known.items c.front.result.now c.in-Ok.space c.walk.index c.requires.kind c.walk.invariant.looks e (λ more. c.in-NoMessageTlv.ensures.settled more tt)
+
+pub returns-in-BadTlv-clause-sees : goal.returns-in-BadTlv-clause-sees
+returns-in-BadTlv-clause-sees g c =
+    let e : c.front.result.now ≡ take c.in-Ok.space.end c.walk.known.items = c.front.ensures ∙ ap (λ k. take c.in-Ok.space.end k) c.as_slice-in-walk.ensures.value in
+    looks_bad c.args.how (g.T.TagLink.seen c.args.link.now) (g.T.TagLink.seen c.walk.link) c.walk.known.items c.front.result.now c.in-Ok.space c.walk.index c.requires.kind c.walk.invariant.looks e (λ more. c.in-BadTlv.ensures.settled more tt)
+
+pub overflow_add-index : goal.overflow_add-index
+overflow_add-index g c =
+    let e : c.front.result.now ≡ take c.in-Ok.space.end c.walk.known.items = c.front.ensures ∙ ap (λ k. take c.in-Ok.space.end k) c.as_slice-in-walk.ensures.value in
+    let l = c.walk.invariant.looks in
+    let n = numbered c.args.how (g.T.TagLink.seen c.args.link.now) (g.T.TagLink.seen c.walk.link) c.walk.known.items c.front.result.now c.in-Ok.space c.walk.index c.requires.kind l c.in-Ok.ensures.area e (c.in-More.ensures.short refl) in
+    omega (arith, n.below)
+
+pub ask_next-requires-in-More-clause-of : goal.ask_next-requires-in-More-clause-of
+ask_next-requires-in-More-clause-of g c =
+    of_under c.args.how (g.T.TagLink.seen c.args.link.now) (g.T.TagLink.seen c.walk.link) c.walk.invariant.looks.ps c.requires.of c.walk.invariant.looks.under
+
+pub ask_next-requires-in-More-clause-kind : goal.ask_next-requires-in-More-clause-kind
+ask_next-requires-in-More-clause-kind g c =
+    let e : c.front.result.now ≡ take c.in-Ok.space.end c.walk.known.items = c.front.ensures ∙ ap (λ k. take c.in-Ok.space.end k) c.as_slice-in-walk.ensures.value in
+    let l = c.walk.invariant.looks in
+    let n = numbered c.args.how (g.T.TagLink.seen c.args.link.now) (g.T.TagLink.seen c.walk.link) c.walk.known.items c.front.result.now c.in-Ok.space c.walk.index c.requires.kind l c.in-Ok.ensures.area e (c.in-More.ensures.short refl) in
+    (c.requires.kind, n.number)
+
+pub returns-in_err-goes_on-in-More-clause-sees : goal.returns-in_err-goes_on-in-More-clause-sees
+returns-in_err-goes_on-in-More-clause-sees g c =
+    let l = c.walk.invariant.looks in
+    let h : IsFaultBy c.args.how (g.T.TagLink.seen c.args.link.now) (g.T.TagLink.seen c.ask_next-in-More.new.link) c.in_err-goes_on-in-More.field-0.0 = c.in_err-goes_on-in-More.ensures.gains (g.T.TagLink.seen c.args.link.now) l.ps l.under l.count l.known' in
+    search rules
+
+pub cut_fault-requires-clause-begins : goal.cut_fault-requires-clause-begins
+cut_fault-requires-clause-begins g c =
+    let e : c.front.result.now ≡ take c.in-Ok.space.end c.walk.known.items = c.front.ensures ∙ ap (λ k. take c.in-Ok.space.end k) c.as_slice-in-walk.ensures.value in
+    let l = c.walk.invariant.looks in
+    let asked : GainsOr c.args.how (g.T.TagLink.seen c.args.link.now) (g.T.TagLink.seen c.ask_next-in-More.new.link) l.ps c.walk.known.items c.ask_next-in-More.new.known.items (Ok c.in_ok-goes_on-in-More.goes_on) = c.in_ok-goes_on-in-More.ensures.gains (g.T.TagLink.seen c.args.link.now) l.ps l.under l.count l.known' in
+    let out = ran_out c.args.how (g.T.TagLink.seen c.args.link.now) (g.T.TagLink.seen c.walk.link) (g.T.TagLink.seen c.ask_next-in-More.new.link) c.walk.known.items c.ask_next-in-More.new.known.items c.front.result.now c.as_slice-then-not-goes_on.result.now c.in-Ok.space c.walk.index
+    c.in_ok-goes_on-in-More.goes_on c.requires.kind l asked c.if-not-goes_on.true c.as_slice-then-not-goes_on.ensures.value e (c.in-More.ensures.short refl) (c.in-More.ensures.more.0 refl) in
+    out.begins
+
+pub cut_fault-requires-clause-more : goal.cut_fault-requires-clause-more
+cut_fault-requires-clause-more g c =
+    let e : c.front.result.now ≡ take c.in-Ok.space.end c.walk.known.items = c.front.ensures ∙ ap (λ k. take c.in-Ok.space.end k) c.as_slice-in-walk.ensures.value in
+    let l = c.walk.invariant.looks in
+    let asked : GainsOr c.args.how (g.T.TagLink.seen c.args.link.now) (g.T.TagLink.seen c.ask_next-in-More.new.link) l.ps c.walk.known.items c.ask_next-in-More.new.known.items (Ok c.in_ok-goes_on-in-More.goes_on) = c.in_ok-goes_on-in-More.ensures.gains (g.T.TagLink.seen c.args.link.now) l.ps l.under l.count l.known' in
+    let out = ran_out c.args.how (g.T.TagLink.seen c.args.link.now) (g.T.TagLink.seen c.walk.link) (g.T.TagLink.seen c.ask_next-in-More.new.link) c.walk.known.items c.ask_next-in-More.new.known.items c.front.result.now c.as_slice-then-not-goes_on.result.now c.in-Ok.space c.walk.index
+    c.in_ok-goes_on-in-More.goes_on c.requires.kind l asked c.if-not-goes_on.true c.as_slice-then-not-goes_on.ensures.value e (c.in-More.ensures.short refl) (c.in-More.ensures.more.0 refl) in
+    out.more
+
+pub cut_fault-requires-clause-short : goal.cut_fault-requires-clause-short
+cut_fault-requires-clause-short g c =
+    let e : c.front.result.now ≡ take c.in-Ok.space.end c.walk.known.items = c.front.ensures ∙ ap (λ k. take c.in-Ok.space.end k) c.as_slice-in-walk.ensures.value in
+    let l = c.walk.invariant.looks in
+    let asked : GainsOr c.args.how (g.T.TagLink.seen c.args.link.now) (g.T.TagLink.seen c.ask_next-in-More.new.link) l.ps c.walk.known.items c.ask_next-in-More.new.known.items (Ok c.in_ok-goes_on-in-More.goes_on) = c.in_ok-goes_on-in-More.ensures.gains (g.T.TagLink.seen c.args.link.now) l.ps l.under l.count l.known' in
+    let out = ran_out c.args.how (g.T.TagLink.seen c.args.link.now) (g.T.TagLink.seen c.walk.link) (g.T.TagLink.seen c.ask_next-in-More.new.link) c.walk.known.items c.ask_next-in-More.new.known.items c.front.result.now c.as_slice-then-not-goes_on.result.now c.in-Ok.space c.walk.index
+    c.in_ok-goes_on-in-More.goes_on c.requires.kind l asked c.if-not-goes_on.true c.as_slice-then-not-goes_on.ensures.value e (c.in-More.ensures.short refl) (c.in-More.ensures.more.0 refl) in
+    out.short
+
+pub returns-then-not-goes_on-clause-sees : goal.returns-then-not-goes_on-clause-sees
+returns-then-not-goes_on-clause-sees g c =
+    let e : c.front.result.now ≡ take c.in-Ok.space.end c.walk.known.items = c.front.ensures ∙ ap (λ k. take c.in-Ok.space.end k) c.as_slice-in-walk.ensures.value in
+    let l = c.walk.invariant.looks in
+    let asked : GainsOr c.args.how (g.T.TagLink.seen c.args.link.now) (g.T.TagLink.seen c.ask_next-in-More.new.link) l.ps c.walk.known.items c.ask_next-in-More.new.known.items (Ok c.in_ok-goes_on-in-More.goes_on) = c.in_ok-goes_on-in-More.ensures.gains (g.T.TagLink.seen c.args.link.now) l.ps l.under l.count l.known' in
+    let out = ran_out c.args.how (g.T.TagLink.seen c.args.link.now) (g.T.TagLink.seen c.walk.link) (g.T.TagLink.seen c.ask_next-in-More.new.link) c.walk.known.items c.ask_next-in-More.new.known.items c.front.result.now c.as_slice-then-not-goes_on.result.now c.in-Ok.space c.walk.index
+    c.in_ok-goes_on-in-More.goes_on c.requires.kind l asked c.if-not-goes_on.true c.as_slice-then-not-goes_on.ensures.value e (c.in-More.ensures.short refl) (c.in-More.ensures.more.0 refl) in
+    looks_cut c.args.how (g.T.TagLink.seen c.args.link.now) (g.T.TagLink.seen c.walk.link) (g.T.TagLink.seen c.ask_next-in-More.new.link) c.walk.known.items c.ask_next-in-More.new.known.items c.front.result.now c.as_slice-then-not-goes_on.result.now c.in-Ok.space c.walk.index
+    c.in_ok-goes_on-in-More.goes_on c.cut_fault.result c.requires.kind l asked c.if-not-goes_on.true c.as_slice-then-not-goes_on.ensures.value out c.cut_fault.ensures

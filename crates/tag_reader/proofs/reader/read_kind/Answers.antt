@@ -1,29 +1,31 @@
 use Rattle.std.proofs.Common.{sym, subst}
 use Rattle.tag_reader.specs.Kinds.{IsTag}
 use Rattle.tag_reader.specs.Steps.{IsOfBlocks, IsRead}
+use Rattle.tag_reader.specs.Heard.{IsOf, IsToldBy}
 use Rattle.tag_reader.proofs.Replies.{block_tag}
 use Rattle.tag_reader.proofs.reader.read_kind.Goals as goal
 
-pub read_area-requires-clause-tag : goal.read_area-requires-clause-tag
-read_area-requires-clause-tag g c =
-    (c.requires.tag.0, block_tag c.args.how c.requires.tag.0 (g.T.TagLink.seen c.args.link.now) (subst IsOfBlocks (sym c.in-T2.is) tt) c.requires.tag.1)
+pub read_area-requires-clause-kind : goal.read_area-requires-clause-kind
+read_area-requires-clause-kind g c = subst IsOfBlocks (sym c.in-T2.is) tt
 
 pub returns-in-T2-clause-reads : goal.returns-in-T2-clause-reads
 returns-in-T2-clause-reads g c size is =
     c.read_area.ensures.reads size (block_tag c.args.how size (g.T.TagLink.seen c.args.link.now) (subst IsOfBlocks (sym c.in-T2.is) tt) is)
 
-pub read_file-requires-clause-tag : goal.read_file-requires-clause-tag
-read_file-requires-clause-tag g c =
-    (c.requires.tag.0, subst (λ h. IsTag h c.requires.tag.0 (g.T.TagLink.seen c.args.link.now)) c.in-T4.is c.requires.tag.1)
+pub read_file-requires-clause-of : goal.read_file-requires-clause-of
+read_file-requires-clause-of g c = subst (λ h. IsOf h (g.T.TagLink.seen c.args.link.now)) c.in-T4.is c.requires.of
+
+pub returns-in-T4-clause-told : goal.returns-in-T4-clause-told
+returns-in-T4-clause-told g c =
+    subst (λ h. IsToldBy h (g.T.TagLink.seen c.args.link.now) (g.T.TagLink.seen c.read_file.new.link) c.read_file.result) (sym c.in-T4.is) c.read_file.ensures.told
 
 pub returns-in-T4-clause-reads : goal.returns-in-T4-clause-reads
 returns-in-T4-clause-reads g c size is =
     subst (λ h. IsRead h size (g.T.TagLink.seen c.args.link.now) (g.T.TagLink.seen c.read_file.new.link) c.read_file.result) (sym c.in-T4.is)
     (c.read_file.ensures.reads size (subst (λ h. IsTag h size (g.T.TagLink.seen c.args.link.now)) c.in-T4.is is))
 
-pub read_area-requires-in-T5-clause-tag : goal.read_area-requires-in-T5-clause-tag
-read_area-requires-in-T5-clause-tag g c =
-    (c.requires.tag.0, block_tag c.args.how c.requires.tag.0 (g.T.TagLink.seen c.args.link.now) (subst IsOfBlocks (sym c.in-T5.is) tt) c.requires.tag.1)
+pub read_area-requires-in-T5-clause-kind : goal.read_area-requires-in-T5-clause-kind
+read_area-requires-in-T5-clause-kind g c = subst IsOfBlocks (sym c.in-T5.is) tt
 
 pub returns-in-T5-clause-reads : goal.returns-in-T5-clause-reads
 returns-in-T5-clause-reads g c size is =

@@ -1,10 +1,13 @@
-use Rattle.std.proofs.Common.{refl, ap}
+use Rattle.std.proofs.Common.{refl, ap, subst}
 use Rattle.tag_reader.specs.declared.tests.Awake.{Awake}
-use Rattle.tag_reader.specs.Kinds.{t5_step}
-use Rattle.tag_reader.proofs.Cards.{t5_tag}
+use Rattle.tag_reader.specs.declared.how.How.TheVariants.{T5}
+use Rattle.tag_reader.specs.Kinds.{IsNamed}
 use Rattle.tag_reader.proofs.tests.read_t5.Goals as goal
 
-pub read-outcome-requires-clause-tag : goal.read-outcome-requires-clause-tag
-read-outcome-requires-clause-tag c =
-    t5_tag c.args.id _ c.args.tag c.requires.named refl c.store-shape.ensures.shape (ap (λ (a : Awake). a.tag.id) c.new-link.ensures) (ap (λ (a : Awake). a.tag.store) c.new-link.ensures)
-    (ap (λ (a : Awake). t5_step a.tag.id a.tag.size a.tag.locked a.tag.quiet) c.new-link.ensures)
+pub read-outcome-requires-clause-of : goal.read-outcome-requires-clause-of
+read-outcome-requires-clause-of c =
+    let is = c.store-shape.ensures.shape in
+    record {
+      kind = refl;
+      named = subst (λ i. IsNamed (T5 i) c.new-link.result.card.tag.id) c.requires.named (ap (λ (a : Awake). a.tag.id) c.new-link.ensures, is.id, is.bytes);
+    }

@@ -1,0 +1,166 @@
+-- The pieces that a tag brings, whatever it does, and how a reading of it ends.
+use Rattle.std.proofs.Common.{◌≡◌, ℕ, ◌<◌, inl, inr, List, [], ◌∷◌, ◌++◌, length, drop, None, Some, Err, refl, sym, ◌∙◌, ap, subst, append_assoc, append-nil, arith}
+use Rattle.std.proofs.lemmas.List.{append_cancel_right, length-append}
+use Rattle.std.proofs.Math.Seq.{drop-append_seam}
+use Rattle.nfc_base.specs.Signal.{Signal}
+use Rattle.nfc_base.specs.declared.tag_link.AskFault.{AskFault}
+use Rattle.nfc_base.specs.declared.tag_link.AskFault.TheVariants as ask
+use Rattle.nfc_base.specs.TagLinks.{TagState, TagStep, LinkView, after_all, Obeys, Rises, IsAnswer, IsFault, AskCause, IsEnded}
+use Rattle.nfc_base.proofs.Leading.{after_append, rises_on, cause_on}
+use Rattle.t4t_tag.specs.Step.{done}
+use Rattle.tag_reader.specs.declared.how.How.{How}
+use Rattle.tag_reader.specs.declared.how.How.TheVariants.{T2, T4, T5}
+use Rattle.tag_reader.specs.declared.fault.ReadFault.TheVariants as fault
+use Rattle.tag_reader.specs.Calls.{ByLink}
+use Rattle.tag_reader.specs.Steps.{of_link}
+use Rattle.tag_reader.specs.Heard.{next_command, asked_for, HasContent, IsPiece, Brings, Refuses, IsOdd, IsBroughtBy, tag_after, IsBrought, IsStopped, IsFaultBy}
+use Rattle.tag_reader.specs.HeardSteps.{HasNoForm, Went, Under}
+use Rattle.tag_reader.proofs.Links.{began, began_by}
+
+-- one piece more
+pub before_more : (before : List (List ℕ)) (q : List ℕ) (qs : List (List ℕ)) → (before ++ q ∷ []) ++ qs ≡ before ++ (q ∷ qs)
+before_more before q qs = append_assoc before (q ∷ []) qs
+
+asked_more : (how : How) (before ps : List (List ℕ)) (p : List ℕ) → asked_for how before (ps ++ p ∷ []) ≡ asked_for how before ps ++ next_command how (before ++ ps) ∷ []
+asked_more how before [] p = ap (λ b. next_command how b ∷ []) (sym (append-nil before))
+asked_more how before (q ∷ qs) p =
+    ap (λ xs. next_command how before ∷ xs) (asked_more how (before ++ q ∷ []) qs p
+    ∙ ap (λ b. asked_for how (before ++ q ∷ []) qs ++ next_command how b ∷ []) (before_more before q qs))
+
+brought_more : (how : How) (step : TagState → Signal → TagStep) (s : TagState) (before ps : List (List ℕ)) (p : List ℕ) (r : Signal) → IsBroughtBy how step s before ps →
+    (step (after_all step s (asked_for how before ps)) (next_command how (before ++ ps))).answer ≡ Some r → Brings how (before ++ ps) r p →
+    IsBroughtBy how step s before (ps ++ p ∷ [])
+brought_more how step s before [] p r is answer brings =
+    let e : before ++ [] ≡ before = append-nil before in
+    (r, subst (λ b. (step s (next_command how b)).answer ≡ Some r) e answer, subst (λ b. Brings how b r p) e brings, tt)
+brought_more how step s before (q ∷ qs) p r is answer brings =
+    let e : before ++ (q ∷ qs) ≡ (before ++ q ∷ []) ++ qs = sym (before_more before q qs) in
+    let t : TagState = (step s (next_command how before)).after in (
+      is.0,
+      is.1,
+      is.2,
+      brought_more how step t (before ++ q ∷ []) qs p r is.3
+          (subst (λ b. (step (after_all step t (asked_for how (before ++ q ∷ []) qs)) (next_command how b)).answer ≡ Some r) e answer)
+          (subst (λ b. Brings how b r p) e brings),
+    )
+
+-- the tag's step at the next command
+step_is : (how : How) (a b : LinkView) (ps : List (List ℕ)) (f : Signal) → Under how a b ps → f ≡ next_command how ps →
+    b.step b.state f ≡ a.step (tag_after how a ps) (next_command how ps)
+step_is how a b ps f u e =
+    ap (λ st. st b.state f) u.step ∙ ap (λ s. a.step s f) u.state ∙ ap (λ g. a.step (tag_after how a ps) g) e
+
+answered_is : (how : How) (a b c : LinkView) (ps : List (List ℕ)) (f : Signal) → Under how a b ps → f ≡ next_command how ps → c.answered ≡ b.answered ++ f ∷ [] →
+    c.answered ≡ a.answered ++ (asked_for how [] ps ++ next_command how ps ∷ [])
+answered_is how a b c ps f u e is =
+    is ∙ ap (λ g. b.answered ++ g ∷ []) e ∙ ap (λ xs. xs ++ next_command how ps ∷ []) u.brought.answered
+    ∙ append_assoc a.answered (asked_for how [] ps) (next_command how ps ∷ [])
+
+went_on : (how : How) (a b c : LinkView) (ps : List (List ℕ)) (f r : Signal) → Under how a b ps → Rises b c → IsAnswer b c f r → Went a c
+went_on how a b c ps f r u rises answer = elim u.link [
+  | inl same ↦ record { over = answer.stays; lit = answer.lit; rises = subst (λ v. Rises v c) same.1 rises }
+  | inr went ↦ record { over = answer.stays; lit = answer.lit; rises = rises_on a b c went.rises rises }
+]
+
+pub under_brings : (how : How) (a b c : LinkView) (ps : List (List ℕ)) (p : List ℕ) (f r : Signal) → Under how a b ps → f ≡ next_command how ps → Obeys b c f → Rises b c →
+    IsAnswer b c f r → Brings how ps r p → Under how a c (ps ++ p ∷ [])
+under_brings how a b c ps p f r u e obeys rises answer brings =
+    let here = step_is how a b ps f u e in
+    let more = asked_more how [] ps p in
+    record {
+      kind = obeys.leads.kind ∙ u.kind;
+      identifier = obeys.leads.identifier ∙ u.identifier;
+      step = obeys.leads.step ∙ u.step;
+      state = answer.after ∙ ap (λ t. t.after) here
+          ∙ sym (after_append a.step a.state (asked_for how [] ps) (next_command how ps ∷ [])) ∙ ap (λ cs. after_all a.step a.state cs) (sym more);
+      brought = record {
+        pieces = brought_more how a.step a.state [] ps p r u.brought.pieces (sym (ap (λ t. t.answer) here) ∙ answer.answer) brings;
+        answered = answered_is how a b c ps f u e answer.answered ∙ ap (λ cs. a.answered ++ cs) (sym more);
+      };
+      link = inr (went_on how a b c ps f r u rises answer);
+    }
+
+-- the last answer
+pub under_stops : (how : How) (a b c : LinkView) (ps : List (List ℕ)) (f r : Signal) → Under how a b ps → f ≡ next_command how ps → IsAnswer b c f r → IsStopped how a c ps r
+under_stops how a b c ps f r u e answer = record {
+  pieces = u.brought.pieces;
+  answer = sym (ap (λ t. t.answer) (step_is how a b ps f u e)) ∙ answer.answer;
+  answered = answered_is how a b c ps f u e answer.answered;
+  over = answer.stays;
+}
+
+-- no answer
+by_link_on : (how : How) (a b c : LinkView) (ps : List (List ℕ)) (e : AskFault) → Under how a b ps → ByLink b c e → ByLink a c e
+by_link_on how a b c ps e u by = elim u.link [
+  | inl same ↦ subst (λ v. ByLink v c e) same.1 by
+  | inr went ↦ (
+    by.0,
+    elim by.1 [
+      | inl was ↦ (let clash : None ≡ Some e = sym went.over ∙ was in absurd (cc))
+      | inr cause ↦ inr (cause_on a b c e went.rises went.lit cause)
+    ],
+  )
+]
+
+link_ends : (how : How) (a b : LinkView) (ps : List (List ℕ)) (e : AskFault) → IsBrought how a b ps → ByLink a b e → IsFaultBy how a b (of_link e)
+link_ends how a b ps ask.FieldLost is by = record { ps = ps; brought = is; ends' = by }
+link_ends how a b ps ask.SixBad is by = record { ps = ps; brought = is; ends' = by }
+link_ends how a b ps ask.Memory is by = record { ps = ps; brought = is; ends' = inr by }
+link_ends how a b ps ask.Protocol is by = inr (record { ps = ps; brought = is; ends' = by })
+
+pub under_fault : (how : How) (a b c : LinkView) (ps : List (List ℕ)) (f : Signal) (e : AskFault) → Under how a b ps → IsFault b c f e → (b.over ≡ None → AskCause b c e) →
+    ((g : AskFault) → b.over ≡ Some g → IsEnded b c g (Err e)) → IsFaultBy how a c (of_link e)
+under_fault how a b c ps f e u fails cause ended =
+    link_ends how a c ps e (record { pieces = u.brought.pieces; answered = fails.answered ∙ u.brought.answered })
+    (by_link_on how a b c ps e u (began_by b c e fails.over cause (began b c e (Err e) refl ended)))
+
+-- own want of memory
+pub memory_ends : (how : How) (a b : LinkView) (ps : List (List ℕ)) → IsBrought how a b ps → b.over ≡ None → IsFaultBy how a b fault.Memory
+memory_ends how a b ps is over = record { ps = ps; brought = is; ends' = inl over }
+
+pub went_of : (how : How) (a b : LinkView) (ps : List (List ℕ)) → Under how a b ps → 0 < length ps → Went a b
+went_of how a b ps u some = elim u.link [
+  | inl none ↦ absurd (let low : 0 < length {A = List ℕ} [] = subst (λ xs. 0 < length xs) none.0 some in omega (arith, low))
+  | inr went ↦ went
+]
+
+-- nothing is brought yet
+pub under_none : (how : How) (a : LinkView) → Under how a a []
+under_none how a = record {
+  kind = refl;
+  identifier = refl;
+  step = refl;
+  state = refl;
+  brought = record { pieces = tt; answered = sym (append-nil a.answered) };
+  link = inl (refl, refl);
+}
+
+-- an answer has one content, and none that has content refuses
+pub front_cut : (p q xs ys : List ℕ) → p ++ xs ≡ q ++ ys → length xs ≡ length ys → xs ≡ ys
+front_cut p q xs ys e same =
+    let long : length p ≡ length q = omega (arith, ap length e, length-append p xs, length-append q ys, same) in
+    sym (drop-append_seam p xs) ∙ ap (λ zs. drop (length p) zs) e ∙ ap (λ n. drop n (q ++ ys)) long ∙ drop-append_seam q ys
+
+pub content_one : (how : How) (r : Signal) (p q : List ℕ) → HasContent how r p → HasContent how r q → q ≡ p
+content_one T2 r p q is other = ap (λ f. f.bytes) (sym other.1 ∙ is.1)
+content_one T4 r p q is other = append_cancel_right q p done (ap (λ f. f.bytes) (sym other.0 ∙ is.0))
+content_one (T5 id) r p q is other = ap (λ f. drop 1 f.bytes) (sym other.frame ∙ is.frame)
+
+pub content_free : (how : How) (r : Signal) (p : List ℕ) (code : ℕ) → HasContent how r p → Refuses how r code → ⊥
+content_free T2 r p code is refuses = (let clash : 0 ≡ 4 = ap (λ f. f.tail) (sym is.1 ∙ refuses.0) in omega (arith, clash))
+content_free T4 r p code is refuses =
+    let both : p ++ done ≡ refuses.0 ++ refuses.1 ∷ refuses.2 ∷ [] = ap (λ f. f.bytes) (sym is.0 ∙ refuses.3) in
+    let last : done ≡ refuses.1 ∷ refuses.2 ∷ [] = front_cut p refuses.0 done (refuses.1 ∷ refuses.2 ∷ []) both refl in
+    refuses.4 (cc, cc)
+content_free (T5 id) r p code is refuses =
+    (let clash : 0 ∷ p ≡ 1 ∷ code ∷ [] = ap (λ f. f.bytes) (sym is.frame ∙ refuses) in cc)
+
+-- an answer that is no piece
+pub no_piece : (how : How) (ps : List (List ℕ)) (r : Signal) (p : List ℕ) → HasContent how r p → (IsPiece how ps p → ⊥) → IsOdd how ps r
+no_piece how ps r p is none = record {
+  no_piece = λ q brings. none (subst (λ x. IsPiece how ps x) (sym (content_one how r q p brings.content is) ∙ refl) brings.piece);
+  no_refusal = λ code refuses. content_free how r p code is refuses;
+}
+
+pub no_form : (how : How) (ps : List (List ℕ)) (r : Signal) → HasNoForm how r → IsOdd how ps r
+no_form how ps r is = record { no_piece = λ p brings. is.no_content p brings.content; no_refusal = is.no_refusal }

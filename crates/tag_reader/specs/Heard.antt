@@ -1,0 +1,281 @@
+-- What the answers of a tag tell a reader, whatever the tag does (NFC Forum Type 2, Type 4 and Type 5 Tag): the pieces that
+-- they bring, one a command, which command follows them, and what they say of the message.
+use Rattle.std.specs.Prelude.{◌≡◌, ℕ, ◌+◌, ◌-◌, ◌*◌, ◌<◌, ◌≤◌, ◌⊎◌, ◌↔◌, min, List, [], ◌∷◌, ◌++◌, length, Bool, Some, None, Result, Ok, Err, IsErrOf, IsOkAnd}
+use Rattle.std.specs.List.{flat_map}
+use Rattle.nfc_base.specs.Signal.{Signal, whole_a}
+use Rattle.nfc_base.specs.TagLinks.{TagState, TagStep, LinkView, after_all}
+use Rattle.nfc_base.specs.declared.tag_link.AskFault.TheVariants as ask
+use Rattle.t2t_tag.specs.Spelling as t2
+use Rattle.t2t_tag.specs.declared.command.T2Command.TheVariants as t2_command
+use Rattle.t2t_tag.specs.declared.answer.T2Answer.TheVariants as t2_says
+use Rattle.t4t_tag.specs.Store.{most_read, file_id, container_id}
+use Rattle.t4t_tag.specs.Step.{done}
+use Rattle.t4t_tag.specs.declared.command.T4Command.{T4Command}
+use Rattle.t4t_tag.specs.declared.command.T4Command.TheVariants.{SelectApplication, SelectFile, ReadBinary, UpdateBinary}
+use Rattle.t5t_tag.specs.Spelling as t5
+use Rattle.t5t_tag.specs.Step.{no_block}
+use Rattle.t5t_tag.specs.declared.command.T5Command.TheVariants as t5_command
+use Rattle.t5t_tag.specs.declared.answer.T5Answer.TheVariants as t5_says
+use Rattle.tlv_area.specs.declared.container.ContainerFault.TheVariants as container
+use Rattle.tlv_area.specs.declared.container.FileMap.{FileMap}
+use Rattle.tlv_area.specs.Containers.{t4_container}
+use Rattle.tlv_area.specs.Form.{Form, Faulty, Message, NoMessageTlv, BadTlv}
+use Rattle.tlv_area.specs.Stores.{IsFormBy, IsT5Form}
+use Rattle.tag_reader.specs.declared.how.How.{How}
+use Rattle.tag_reader.specs.declared.how.How.TheVariants.{T2, T4, T5}
+use Rattle.tag_reader.specs.declared.fault.ReadFault.{ReadFault}
+use Rattle.tag_reader.specs.declared.fault.ReadFault.TheVariants as fault
+use Rattle.tag_reader.specs.declared.found.Site.{Site}
+use Rattle.tag_reader.specs.declared.found.Site.TheVariants.{File}
+use Rattle.tag_reader.specs.declared.found.Found.{Found}
+use Rattle.tag_reader.specs.Files.{message_length, file_frame}
+use Rattle.tag_reader.specs.Kinds.{area_of, kind_of, IsNamed}
+use Rattle.tag_reader.specs.Calls.{ByLink}
+use Rattle.tag_reader.specs.Reading.{IsSite}
+
+-- a link of this kind, to the tag with this identifier
+pub record IsOf (how : How) (v : LinkView) : Type 0 where
+  pub kind : v.kind ≡ kind_of how
+  pub named : IsNamed how v.identifier
+
+-- The command of a Type 4 tag that follows some pieces: SELECT of the application and of the container, a read of the
+-- container, SELECT of the NDEF file that it names, a read of the message's length, and then reads of the message, each of
+-- as many bytes as the container allows (MLe), but at most 255, or of those that are left.
+abbrev pub most_of : List ℕ → ℕ
+most_of head = min (most_read head) 255
+
+abbrev pub file_next : List (List ℕ) → T4Command
+file_next [] = SelectApplication
+file_next (a ∷ []) = SelectFile container_id
+file_next (a ∷ b ∷ []) = ReadBinary 0 15
+file_next (a ∷ b ∷ head ∷ []) = SelectFile (file_id head)
+file_next (a ∷ b ∷ head ∷ d ∷ []) = ReadBinary 0 2
+file_next (a ∷ b ∷ head ∷ d ∷ size ∷ parts) =
+    ReadBinary (2 + most_of head * length parts) (min (most_of head) (message_length size - most_of head * length parts))
+
+-- The command that follows some pieces: of a tag of blocks the READ of the next ones.
+abbrev pub next_command : How → List (List ℕ) → Signal
+next_command T2 ps = t2.command_frame (t2_command.Read (4 * length ps))
+next_command T4 ps = file_frame (file_next ps)
+next_command (T5 id) ps = t5.command_frame (t5_command.Read (Some id) (length ps))
+
+-- the commands that these pieces answer, where those before them are there
+abbrev pub asked_for : How → List (List ℕ) → List (List ℕ) → List Signal
+asked_for how before [] = []
+asked_for how before (p ∷ ps) = next_command how before ∷ asked_for how (before ++ p ∷ []) ps
+
+-- A READ BINARY brings as many bytes as it asks for, SELECT of a file none, SELECT of the application what the tag likes.
+abbrev pub HasSize : T4Command → List ℕ → Type 0
+HasSize SelectApplication p = length p ≤ 256
+HasSize (SelectFile id) p = length p ≡ 0
+HasSize (ReadBinary offset count) p = length p ≡ count
+HasSize (UpdateBinary offset content) p = length p ≡ 0
+
+-- The first block of a Type 5 tag has room for the container, and each other one is as long as the first.
+abbrev pub IsBlock : List (List ℕ) → List ℕ → Type 0
+IsBlock [] p = 4 ≤ length p
+IsBlock (q ∷ qs) p = length p ≡ length q
+
+-- an answer has the form of content, with these bytes
+abbrev pub HasContent : How → Signal → List ℕ → Type 0
+HasContent T2 r p = t2.T2AnswerSpelling (t2_says.Content p) r
+HasContent T4 r p = (r ≡ whole_a (p ++ done)) × (length p ≤ 256)
+HasContent (T5 id) r p = t5.T5AnswerSpelling (t5_says.Content (record { items = p })) r
+
+-- and it is as long as the command needs it
+abbrev pub IsPiece : How → List (List ℕ) → List ℕ → Type 0
+IsPiece T2 ps p = Unit {0}
+IsPiece T4 ps p = HasSize (file_next ps) p
+IsPiece (T5 id) ps p = IsBlock ps p
+
+-- the answer to the command that follows some pieces brings this one
+pub record Brings (how : How) (ps : List (List ℕ)) (r : Signal) (p : List ℕ) : Type 0 where
+  pub content : HasContent how r p
+  pub piece : IsPiece how ps p
+
+-- the status bytes of an answer that refuses: any but 9000h
+abbrev pub IsRefusal : ℕ → ℕ → Type 0
+IsRefusal high low = ((high ≡ 0x90) × (low ≡ 0x00)) → ⊥
+
+-- An answer refuses its command with this code: 0 for the four bits 0h of a Type 2 tag, the code of an error of a Type 5 tag,
+-- the status bytes of a Type 4 tag.
+abbrev pub Refuses : How → Signal → ℕ → Type 0
+Refuses T2 r code = (r ≡ t2.answer_frame t2_says.Refused) × (code ≡ 0)
+Refuses T4 r code = (content : List ℕ) × (high : ℕ) × (low : ℕ) × (r ≡ whole_a (content ++ high ∷ low ∷ [])) × IsRefusal high low × (code ≡ high * 256 + low)
+Refuses (T5 id) r code = r ≡ t5.answer_frame (t5_says.Error code)
+
+-- the error of a block that isn't there, behind the first block: the tag has ended, and refuses nothing
+abbrev pub EndsTag : How → List (List ℕ) → Signal → Type 0
+EndsTag T2 ps r = ⊥
+EndsTag T4 ps r = ⊥
+EndsTag (T5 id) [] r = ⊥
+EndsTag (T5 id) (p ∷ ps) r = r ≡ t5.answer_frame (t5_says.Error no_block)
+
+-- an answer that may not follow these pieces
+pub record IsOdd (how : How) (ps : List (List ℕ)) (r : Signal) : Type 0 where
+  pub no_piece : (p : List ℕ) → ¬ Brings how ps r p
+  pub no_refusal : (code : ℕ) → ¬ Refuses how r code
+
+-- A tag with this step, in this state, brings these pieces behind those before them.
+abbrev pub IsBroughtBy : How → (TagState → Signal → TagStep) → TagState → List (List ℕ) → List (List ℕ) → Type 0
+IsBroughtBy how step s before [] = Unit {0}
+IsBroughtBy how step s before (p ∷ ps) =
+    (r : Signal) × ((step s (next_command how before)).answer ≡ Some r) × Brings how before r p
+    × IsBroughtBy how step (step s (next_command how before)).after (before ++ p ∷ []) ps
+
+-- the tag as it is once it brought these pieces
+abbrev pub tag_after : How → LinkView → List (List ℕ) → TagState
+tag_after how a ps = after_all a.step a.state (asked_for how [] ps)
+
+-- All that was answered between two views of a link brought these pieces.
+pub record IsBrought (how : How) (a b : LinkView) (ps : List (List ℕ)) : Type 0 where
+  pub pieces : IsBroughtBy how a.step a.state [] ps
+  pub answered : b.answered ≡ a.answered ++ asked_for how [] ps
+
+-- All but the last, whose answer was this; the link isn't over.
+pub record IsStopped (how : How) (a b : LinkView) (ps : List (List ℕ)) (r : Signal) : Type 0 where
+  pub pieces : IsBroughtBy how a.step a.state [] ps
+  pub answer : (a.step (tag_after how a ps) (next_command how ps)).answer ≡ Some r
+  pub answered : b.answered ≡ a.answered ++ (asked_for how [] ps ++ next_command how ps ∷ [])
+  pub over : b.over ≡ None
+
+-- the bytes of the pieces, and how many the first has
+abbrev pub joined : List (List ℕ) → List ℕ
+joined ps = flat_map (λ p. p) ps
+
+abbrev pub first_size : List (List ℕ) → ℕ
+first_size [] = 0
+first_size (p ∷ ps) = length p
+
+-- The pieces of a Type 4 tag whose container is whole, and those of one whose container names a file with a message of n
+-- bytes; the parts are of the message.
+pub record HasHead (ps : List (List ℕ)) (head : List ℕ) : Type 0 where
+  pub application : List ℕ
+  pub container : List ℕ
+  pub pieces : ps ≡ application ∷ container ∷ head ∷ []
+
+pub record HasFile (ps : List (List ℕ)) (map' : FileMap) (n : ℕ) (parts : List (List ℕ)) : Type 0 where
+  pub application : List ℕ
+  pub container : List ℕ
+  pub head : List ℕ
+  pub file : List ℕ
+  pub size : List ℕ
+  pub pieces : ps ≡ application ∷ container ∷ head ∷ file ∷ size ∷ parts
+  pub names : t4_container head ≡ Ok map'
+  pub length' : n ≡ message_length size
+
+-- a message of n bytes in these parts
+pub record IsWhole (n : ℕ) (parts : List (List ℕ)) (message : List ℕ) : Type 0 where
+  pub bytes : message ≡ joined parts
+  pub size : length message ≡ n
+
+abbrev pub FileSays : List (List ℕ) → Form → Type 0
+FileSays ps (Faulty f) = (head : List ℕ) × HasHead ps head × (t4_container head ≡ Err f)
+FileSays ps (Message m) = (map' : FileMap) × (n : ℕ) × (parts : List (List ℕ)) × HasFile ps map' n parts × (n ≤ map'.size - 2) × IsWhole n parts m
+FileSays ps NoMessageTlv = ⊥
+FileSays ps BadTlv = (map' : FileMap) × (n : ℕ) × HasFile ps map' n [] × (map'.size - 2 < n)
+
+-- the area that the pieces name, which may go on behind them, has this form by their bytes
+pub record AreaSays (how : How) (ps : List (List ℕ)) (f : Form) : Type 0 where
+  pub some : 0 < length ps
+  pub form : IsFormBy (area_of how (first_size ps) (joined ps)) (joined ps) f
+
+-- what the pieces say
+abbrev pub Says : How → List (List ℕ) → Form → Type 0
+Says T2 ps f = AreaSays T2 ps f
+Says T4 ps f = FileSays ps f
+Says (T5 id) ps f = AreaSays (T5 id) ps f
+
+-- where the message lies
+abbrev pub SaysSite : How → List (List ℕ) → Site → Bool → Type 0
+SaysSite T2 ps site writable = IsSite T2 (first_size ps) (joined ps) site writable
+SaysSite T4 ps site writable = (map' : FileMap) × (n : ℕ) × (parts : List (List ℕ)) × HasFile ps map' n parts × (site ≡ File map') × (writable ≡ map'.writable)
+SaysSite (T5 id) ps site writable = IsSite (T5 id) (first_size ps) (joined ps) site writable
+
+-- A reading found this message: all that was answered brought pieces, and they say it.
+pub record IsFoundBy (how : How) (a b : LinkView) (found : Found) : Type 0 where
+  pub ps : List (List ℕ)
+  pub brought : IsBrought how a b ps
+  pub over : b.over ≡ None
+  pub held : Says how ps (Message found.message)
+  pub site : SaysSite how ps found.site found.writable
+
+-- All that was answered brought pieces, and they say this form.
+pub record IsSaid (how : How) (a b : LinkView) (f : Form) : Type 0 where
+  pub ps : List (List ℕ)
+  pub brought : IsBrought how a b ps
+  pub over : b.over ≡ None
+  pub says : Says how ps f
+
+-- The tag has ended, and the pieces are all that it has: they say this form.
+pub record IsCutOff (how : How) (a b : LinkView) (f : Form) : Type 0 where
+  pub ps : List (List ℕ)
+  pub r : Signal
+  pub stopped : IsStopped how a b ps r
+  pub ends : EndsTag how ps r
+  pub form : IsT5Form (joined ps) f
+
+-- what a reading says that found none
+abbrev pub IsNone : How → LinkView → LinkView → Form → Type 0
+IsNone how a b f = IsSaid how a b f ⊎ IsCutOff how a b f
+
+pub record IsRefused (how : How) (a b : LinkView) (code : ℕ) : Type 0 where
+  pub ps : List (List ℕ)
+  pub r : Signal
+  pub stopped : IsStopped how a b ps r
+  pub refuses : Refuses how r code
+  pub ends : ¬ EndsTag how ps r
+
+pub record IsOddly (how : How) (a b : LinkView) : Type 0 where
+  pub ps : List (List ℕ)
+  pub r : Signal
+  pub stopped : IsStopped how a b ps r
+  pub odd : IsOdd how ps r
+
+-- The link ended it, or the reader's own want of memory: all that was answered brought pieces.
+pub record IsEndedBy (how : How) (a b : LinkView) (ends : Type 0) : Type 0 where
+  pub ps : List (List ℕ)
+  pub brought : IsBrought how a b ps
+  pub ends' : ends
+
+-- Each fault, whatever the tag: of the tag's last answer, of what its pieces say, or of the link.
+abbrev pub IsFaultBy : How → LinkView → LinkView → ReadFault → Type 0
+IsFaultBy how a b fault.NotNdef = IsNone how a b (Faulty container.NotNdef)
+IsFaultBy how a b fault.Version = IsNone how a b (Faulty container.Version)
+IsFaultBy how a b fault.NoRead = IsNone how a b (Faulty container.NoRead)
+IsFaultBy how a b fault.Sectors = IsNone how a b (Faulty container.Sectors)
+IsFaultBy how a b fault.BadSize = IsNone how a b (Faulty container.BadSize)
+IsFaultBy how a b fault.NoMessageTlv = IsNone how a b NoMessageTlv
+IsFaultBy how a b fault.BadTlv = IsNone how a b BadTlv
+IsFaultBy how a b (fault.Refused code) = IsRefused how a b code
+IsFaultBy how a b fault.Protocol = IsOddly how a b ⊎ IsEndedBy how a b (ByLink a b ask.Protocol)
+IsFaultBy how a b fault.FieldLost = IsEndedBy how a b (ByLink a b ask.FieldLost)
+IsFaultBy how a b fault.SixBad = IsEndedBy how a b (ByLink a b ask.SixBad)
+IsFaultBy how a b fault.Memory = IsEndedBy how a b ((b.over ≡ None) ⊎ ByLink a b ask.Memory)
+
+-- what a reading tells, whatever the tag
+abbrev pub IsToldBy : How → LinkView → LinkView → Result Found ReadFault → Type 0
+IsToldBy how a b (Ok found) = IsFoundBy how a b found
+IsToldBy how a b (Err e) = IsFaultBy how a b e
+
+-- a reading tells this fault exactly where it stands in the tag's answers or in the link
+abbrev pub TellsExactly : How → LinkView → LinkView → Result Found ReadFault → ReadFault → Type 0
+TellsExactly how a b result e = IsErrOf result e ↔ IsFaultBy how a b e
+
+-- it tells this form: its message, or its fault
+abbrev pub IsFormTold : Form → Result Found ReadFault → Type 0
+IsFormTold (Faulty container.NotNdef) result = IsErrOf result fault.NotNdef
+IsFormTold (Faulty container.Version) result = IsErrOf result fault.Version
+IsFormTold (Faulty container.NoRead) result = IsErrOf result fault.NoRead
+IsFormTold (Faulty container.Sectors) result = IsErrOf result fault.Sectors
+IsFormTold (Faulty container.BadSize) result = IsErrOf result fault.BadSize
+IsFormTold (Message m) result = IsOkAnd result (λ found. found.message ≡ m)
+IsFormTold NoMessageTlv result = IsErrOf result fault.NoMessageTlv
+IsFormTold BadTlv result = IsErrOf result fault.BadTlv
+
+-- What the pieces say is told, or the reader's own memory fails; of a tag that has ended nothing else is told.
+abbrev pub TellsSaid : How → LinkView → LinkView → Result Found ReadFault → Type 0
+TellsSaid how a b result = (f : Form) → IsSaid how a b f → IsFormTold f result ⊎ IsErrOf result fault.Memory
+
+abbrev pub TellsCutOff : How → LinkView → LinkView → Result Found ReadFault → Type 0
+TellsCutOff how a b result = (f : Form) → IsCutOff how a b f → IsFormTold f result
