@@ -32,6 +32,7 @@ use Rattle.isodep_link.specs.Blocks.{spelled_block}
 use Rattle.isodep_link.specs.Sizes.{is_rats, rats_code, piece_size, ats_frame}
 use Rattle.isodep_link.specs.Card.{CardState, CardTurn, card_table, framed, stays, heeded}
 use Rattle.isodep_link.specs.Card as ends
+use Rattle.nfc_bench.specs.Uppers.{t4_upper}
 use Rattle.nfc_bench.specs.Cards.{T4Near}
 use Rattle.nfc_bench.specs.declared.device.Device.{Device}
 use Rattle.nfc_bench.specs.declared.device.Device.TheVariants.{T2, T4, T5}
@@ -117,7 +118,7 @@ pub four_keeps : (d : Fronted T4Near) (f : Signal) → DeliversNone f → kept (
 four_keeps d f none =
     let P : T4State → Type 0 = λ t. tagged d.id t ≡ tagged d.id d.upper.tag in
     let new : Fronted T4Near = after_by t4_machine d.front d f None in
-    ap (λ id. tagged id new.upper.tag) (fronted.step_keeps t4_machine d f None).1
+    ap (λ id. tagged id new.upper.tag) (fronted.step_keeps t4_upper d f None).identifier'
     ∙ step_holds P (λ t h. h) d.front d f refl (ap (tagged d.id) (did_none d.upper f none d.upper.link))
 
 rats_two : (id : List ℕ) (front : Front) (u : T2Memory) → kept (devices.after (T2 (record { id = id; front = front; upper = u })) rats None) ≡ kept (T2 (record { id = id; front = front; upper = u }))
@@ -172,11 +173,11 @@ bare d = bare_of (kept d)
 
 -- a whole frame of NFC-A leaves it
 bare_step : (d : Device) (bytes : List ℕ) → bare (stepped_by devices d (whole_a bytes) None) ≡ bare d
-bare_step (T2 d) bytes = ap (λ id. record { id = id; how = hows.T2; size = 16; store = []; code = 0; container = [] }) (step_keeps (T2 d) (whole_a bytes) None).1
+bare_step (T2 d) bytes = ap (λ id. record { id = id; how = hows.T2; size = 16; store = []; code = 0; container = [] }) (step_keeps (T2 d) (whole_a bytes) None).identifier'
 bare_step (T4 d) bytes =
     let same = four_same d (whole_a bytes) in
     let new : Fronted T4Near = after_by t4_machine d.front d (whole_a bytes) None in
-    ap (λ id. record { id = id; how = hows.T4; size = 0; store = []; code = new.upper.tag.code; container = new.upper.tag.container }) (fronted.step_keeps t4_machine d (whole_a bytes) None).1
+    ap (λ id. record { id = id; how = hows.T4; size = 0; store = []; code = new.upper.tag.code; container = new.upper.tag.container }) (fronted.step_keeps t4_upper d (whole_a bytes) None).identifier'
     ∙ ap (λ code. record { id = d.id; how = hows.T4; size = 0; store = []; code = code; container = new.upper.tag.container }) same.code
     ∙ ap (λ container. record { id = d.id; how = hows.T4; size = 0; store = []; code = d.upper.tag.code; container = container }) same.container
 bare_step (T5 p) bytes = refl

@@ -1,5 +1,5 @@
 -- What a read of a Type 4 tag does: RATS activates it, and then its commands are asked over a link.
-use Rattle.std.proofs.Common.{◌≡◌, ◌↔◌, inl, inr, ℕ, zero, suc, ◌+◌, ◌<◌, List, [], ◌∷◌, ◌++◌, true, false, Some, None, refl, sym, ◌∙◌, ap, subst, arith, IfOk}
+use Rattle.std.proofs.Common.{◌≡◌, ◌↔◌, inl, inr, ℕ, zero, suc, ◌+◌, ◌<◌, List, [], ◌∷◌, ◌++◌, length, true, false, Some, None, refl, sym, ◌∙◌, ap, subst, arith, IfOk}
 use Rattle.std.specs.declared.alloc.AllocError.{AllocError}
 use Rattle.std.specs.Prelude.{map, Result, Ok, Err}
 use Rattle.std.specs.Result.{IfErr, OnErr}
@@ -16,10 +16,10 @@ use Rattle.air_core.specs.Waits as waits
 use Rattle.air_core.specs.Waits.{waits_next}
 use Rattle.air_core.specs.PlainLinks.{at_place}
 use Rattle.air_core.proofs.PlainStores.{place_is}
-use Rattle.isodep_link.specs.Activating.{rats, TellsCode, HasFreshTag, IsActivated, RatsSent, RatsEnds, Activates, IsActivatedLink}
+use Rattle.isodep_link.specs.Activating.{rats, TellsCode, AsksRats, Opens, HasFreshTag, IsActivated, RatsSent, RatsEnds, Activates, IsActivatedLink}
 use Rattle.isodep_link.specs.Asking as exchange
 use Rattle.isodep_link.specs.Asking.{asks, stand, iso_next}
-use Rattle.isodep_link.specs.IsoLinks.{IsoSeen, bytes_of}
+use Rattle.isodep_link.specs.IsoLinks.{seen_link, bytes_of}
 use Rattle.isodep_link.specs.Reader.{waiting}
 use Rattle.isodep_link.specs.declared.link.IsoLink.{IsoLink}
 use Rattle.tag_reader.specs.declared.how.How.TheVariants as hows
@@ -224,9 +224,13 @@ rats_may_fail old new place asking.SixBad ends = inl refl
 rats_may_fail old new place asking.Memory ends = inr refl
 rats_may_fail old new place asking.Protocol ends = absurd ends
 
--- what is seen of a link
-abbrev pub seen_of : IsoLink Device → IsoSeen Device
-seen_of l = record { air = l.field.now; place = l.place; start = l.start; told = l.told; reader = l.reader; last = l.last; over = l.over }
+-- A link that was given is at its place, and nothing was asked over it yet.
+pub opened_at : (old : Air Device) (place : ℕ) (l : IsoLink Device) → Opens devices old place (seen_link l) → l.place ≡ place
+opened_at old place l o = ap (λ p. p.place) o.first
+
+pub opened_fresh : (old : Air Device) (place : ℕ) (l : IsoLink Device) → Opens devices old place (seen_link l)
+    → (l.start ≡ length l.field.now.trace) × (l.told ≡ length l.field.now.trace) × (l.last ≡ None) × (l.over ≡ None)
+opened_fresh old place l o = (ap (λ p. p.start) o.first, ap (λ p. p.told) o.first, ap (λ p. p.last) o.first, ap (λ p. p.over) o.first)
 
 -- The link that was given to the tag, and what was asked over it, or why none was given.
 module _ (old : Air Device) (place : ℕ) (one : (e : Device) × Stands (moment old) place e × (how_of e ≡ hows.T4)) where
@@ -238,8 +242,8 @@ module _ (old : Air Device) (place : ℕ) (one : (e : Device) × Stands (moment 
   fresh_tag : HasFreshTag ghosts device_card device_tag old place
   fresh_tag = has_fresh old place one.0 one.1 one.2
 
-  module _ (l : IsoLink Device) (there : l.place ≡ place) (given : HasFreshTag ghosts device_card device_tag old place → IsActivatedLink ghosts device_card device_tag old (seen_of l)) where
-    made : IsActivatedLink ghosts device_card device_tag old (seen_of l)
+  module _ (l : IsoLink Device) (there : l.place ≡ place) (given : HasFreshTag ghosts device_card device_tag old place → IsActivatedLink ghosts device_card device_tag old (seen_link l)) where
+    made : IsActivatedLink ghosts device_card device_tag old (seen_link l)
     made = given fresh_tag
 
     -- the tag at the other end of the link is the one that was selected
@@ -266,9 +270,9 @@ module _ (old : Air Device) (place : ℕ) (one : (e : Device) × Stands (moment 
 
   -- No link was given.
   module _ {R : Type 0} (new : Air Device) (given : Result R AskFault) (fault : AskFault) (failed : given ≡ Err fault)
-      (rests : OnErr given (IfErr given (λ e. Activates ghosts device_card device_tag old new place (Err e)))) where
+      (rests : OnErr given (IfErr given (λ e. AsksRats devices old new (Err e) × Activates ghosts device_card device_tag old new place (Err e)))) where
     refused : RatsEnds ghosts device_card device_tag old new place (Err fault)
-    refused = subst (λ r. OnErr r (IfErr r (λ e. Activates ghosts device_card device_tag old new place (Err e)))) failed rests fresh_tag
+    refused = (subst (λ r. OnErr r (IfErr r (λ e. AsksRats devices old new (Err e) × Activates ghosts device_card device_tag old new place (Err e)))) failed rests).1 fresh_tag
 
     pub may_fail : MayFail fault
     may_fail = rats_may_fail old new place fault refused

@@ -1,5 +1,5 @@
 -- What a read of a Type 4 tag answers over its link, by what the link did.
-use Rattle.std.proofs.Common.{◌≡◌, inl, inr, ◌⊎◌, ℕ, suc, ◌+◌, ◌<◌, List, [], ◌∷◌, ◌++◌, length, take, drop, Bool, true, false, Some, None, refl, sym, ◌∙◌, ap, subst, arith, append-nil}
+use Rattle.std.proofs.Common.{◌≡◌, inl, inr, ◌⊎◌, ℕ, zero, suc, ◌+◌, ◌<◌, List, [], ◌∷◌, ◌++◌, length, take, drop, Bool, true, false, Some, None, refl, sym, ◌∙◌, ap, subst, arith, append-nil}
 use Rattle.std.specs.Prelude.{map}
 use Rattle.std.proofs.lemmas.List.{map-append, take_all}
 use Rattle.std.proofs.lemmas.Bool.{cases_lt}
@@ -10,7 +10,7 @@ use Rattle.nfc_base.specs.declared.tag_link.AskFault.TheVariants as asking
 use Rattle.nfc_base.specs.Signal.{Signal, whole_a}
 use Rattle.nfc_base.specs.Trace.{breaks}
 use Rattle.nfc_base.specs.LinkTurns.{arrived}
-use Rattle.nfc_base.specs.TagLinks.{Type4, TagState, TagStep, LinkView, plain_state, after_all}
+use Rattle.nfc_base.specs.TagLinks.{Type4, LinkView, plain_state}
 use Rattle.air_core.specs.World.{World}
 use Rattle.air_core.specs.Turn.{world, moment}
 use Rattle.air_core.specs.Conversation.{Moment, Note, Lit, Got, Lost, Over, Asks, EachDue, replay}
@@ -19,18 +19,16 @@ use Rattle.air_core.specs.PlainLinks.{at_place, unanswered}
 use Rattle.air_core.proofs.PlainStores.{place_is}
 use Rattle.nfca_poll.specs.Fronted.{Fronted}
 use Rattle.t4t_tag.specs.Store.{T4State, IsT4Store, IsT4State}
-use Rattle.t4t_tag.specs.Store as t4
-use Rattle.isodep_link.specs.Reader.{ReaderState, block_next, reception, framed_next}
+use Rattle.isodep_link.specs.Reader.{ReaderState, ReaderDoes, block_next, reception, framed_next}
 use Rattle.isodep_link.specs.Reader as reader
-use Rattle.isodep_link.specs.Asking.{Standing, Waits, Rests, Broken, Astray, asks, goes_by, noted, stand, due_at, iso_next, HasCardTag}
-use Rattle.isodep_link.specs.IsoLinks.{IsoSeen, commands_of, obeyed_in, opened_by, Replays, bytes_of, StandsAt, since, step_of, store_of, iso_view, IsIsoReady, IsoMoves}
+use Rattle.isodep_link.specs.Asking.{IsoStanding, Waits, Rests, Broken, Astray, asks, goes_by, noted, stand, due_at, iso_next, HasCardTag}
+use Rattle.isodep_link.specs.IsoLinks.{IsoSeen, commands_of, obeyed_in, bytes_of, IsoStandsAt, since, iso_view, IsIsoReady, IsoMoves}
 use Rattle.tag_reader.specs.declared.fault.ReadFault.{ReadFault}
 use Rattle.tag_reader.specs.declared.fault.ReadFault.TheVariants as faults
 use Rattle.tag_reader.specs.declared.found.Found.{Found}
 use Rattle.tag_reader.specs.declared.found.Site.{Site}
 use Rattle.tag_reader.specs.declared.found.Site.TheVariants.{Area, File}
 use Rattle.tag_reader.specs.declared.how.How.TheVariants as hows
-use Rattle.tag_reader.specs.Files.{shown}
 use Rattle.tag_reader.specs.Kinds.{IsTag, command, first}
 use Rattle.tag_reader.specs.Asked.{IsAsked, IsDue, AreDue}
 use Rattle.tag_reader.specs.Calls.{HasAsked, HasAskedAll, GoesOn, last_of}
@@ -45,6 +43,7 @@ use Rattle.nfc_bench.specs.declared.device.Device.TheVariants.{T2, T4, T5}
 use Rattle.nfc_bench.specs.declared.entry.Answer.{Answer}
 use Rattle.nfc_bench.specs.declared.entry.Answer.TheVariants as answers
 use Rattle.nfc_bench.specs.Device.{devices, device_id, device_store, device_commands, device_card, device_tag, how_of, size_of}
+use Rattle.nfc_bench.specs.Standing.{tag_holds}
 use Rattle.nfc_bench.specs.Answering.{TellsExchange}
 use Rattle.nfc_bench.specs.Legal.{air}
 use Rattle.nfc_bench.specs.Reading.{IsAccess, Tells, TellsOf}
@@ -59,7 +58,7 @@ none_behind [] = refl
 none_behind (x ∷ xs) = none_behind xs
 
 -- Each frame that is due while commands are asked is a whole one of NFC-A.
-abbrev IsWholeAt : Standing → Type 0
+abbrev IsWholeAt : IsoStanding → Type 0
 IsWholeAt (Waits i f cs) = f ≡ whole_a f.bytes
 IsWholeAt (Rests i) = Unit {0}
 IsWholeAt (Broken e) = Unit {0}
@@ -69,13 +68,13 @@ asks_whole : (i : ReaderState) (cs : List (List ℕ)) → IsWholeAt (asks i cs)
 asks_whole i [] = tt
 asks_whole i (c ∷ cs) = refl
 
-goes_whole : (i : ReaderState) (does : reader.Next) (cs : List (List ℕ)) → IsWholeAt (goes_by i (framed_next does) cs)
+goes_whole : (i : ReaderState) (does : ReaderDoes) (cs : List (List ℕ)) → IsWholeAt (goes_by i (framed_next does) cs)
 goes_whole i (reader.Asks b) cs = refl
 goes_whole i (reader.Gives xs) cs = asks_whole i cs
 goes_whole i reader.GivesUp cs = tt
 goes_whole i reader.Refuses cs = tt
 
-noted_whole : (s : Standing) (n : Note) → IsWholeAt (noted s n)
+noted_whole : (s : IsoStanding) (n : Note) → IsWholeAt (noted s n)
 noted_whole (Waits i f cs) Lit = tt
 noted_whole (Waits i f cs) Lost = tt
 noted_whole (Waits i f cs) (Got h) = goes_whole (block_next i (reception h)).state (block_next i (reception h)).does cs
@@ -83,11 +82,11 @@ noted_whole (Rests i) n = tt
 noted_whole (Broken e) n = tt
 noted_whole Astray n = tt
 
-stand_whole : (s : Standing) (ns : List Note) → IsWholeAt s → IsWholeAt (stand s ns)
+stand_whole : (s : IsoStanding) (ns : List Note) → IsWholeAt s → IsWholeAt (stand s ns)
 stand_whole s [] whole = whole
 stand_whole s (n ∷ ns) whole = stand_whole (noted s n) ns (noted_whole s n)
 
-due_whole : (s : Standing) (f : Signal) → IsWholeAt s → due_at s ≡ Asks f → f ≡ whole_a f.bytes
+due_whole : (s : IsoStanding) (f : Signal) → IsWholeAt s → due_at s ≡ Asks f → f ≡ whole_a f.bytes
 due_whole (Waits i g cs) f whole e = (let same : g ≡ f = cc in subst (λ h. h ≡ whole_a h.bytes) same whole)
 due_whole (Rests i) f whole e = absurd cc
 due_whole (Broken x) f whole e = absurd cc
@@ -100,23 +99,22 @@ sound_tag y is =
     let same : is.1 ≡ t.file = sym (drop-append_seam t.container is.1) ∙ ap (drop (length t.container)) (sym is.2) ∙ drop-append_seam t.container t.file in
     subst (IsT4Store t.code t.container) same is.3
 
--- a view that shows such a tag, of which nothing is selected
-shows_four : (v : LinkView) (y : Device) (origin : List ℕ) → how_of y ≡ hows.T4 → IsSound (kept y) → v.kind ≡ Type4 → v.state ≡ plain_state (device_store y)
-    → v.step ≡ device_commands y → device_tag y ≡ plain_state origin → (size : ℕ) × IsTag hows.T4 size v
-shows_four v (T2 y) origin how is kind state step holds = absurd cc
-shows_four v (T4 y) origin how is kind state step holds =
-    let open' : plain_state (t4.store_of y.upper.tag) ≡ shown y.upper.tag = ap (λ (s : TagState). plain_state s.store) holds ∙ sym holds in
-    t4_tag v y.upper.tag kind (sound_tag y is) (state ∙ open') step
-shows_four v (T5 p) origin how is kind state step holds = absurd cc
+-- a view that shows such a tag
+shows_four : (v : LinkView) (y : Device) → how_of y ≡ hows.T4 → IsSound (kept y) → v.kind ≡ Type4 → v.state ≡ device_tag y → v.step ≡ device_commands y
+    → (size : ℕ) × IsTag hows.T4 size v
+shows_four v (T2 y) how is kind state step = absurd cc
+shows_four v (T4 y) how is kind state step = t4_tag v y.upper.tag kind (sound_tag y is) state step
+shows_four v (T5 p) how is kind state step = absurd cc
 
 -- how many bytes a READ asks for says nothing of it
 resized : (size more : ℕ) (v : LinkView) → IsTag hows.T4 size v → IsTag hows.T4 more v
 resized size more v is = record { kind = is.kind; named = is.named; store = is.store; steps = is.steps }
 
--- the store of a view is what the tag holds now
-opened_store : (step : TagState → Signal → TagStep) (store : List ℕ) (s : TagState) (cs : List Signal) → s.store ≡ store → (opened_by step store s cs).store ≡ store
-opened_store step store s [] e = e
-opened_store step store s (c ∷ cs) e = opened_store step store (record (step s c).after { store = store }) cs refl
+-- the store of a device at a place is what a view of it shows
+held_there : (ds : List Device) (n : ℕ) → at_place device_store [] ds n ≡ (at_place device_tag (plain_state []) ds n).store
+held_there [] n = refl
+held_there (d ∷ ds) zero = sym (tag_holds d)
+held_there (d ∷ ds) (suc n) = held_there ds n
 
 -- a found message is what the answer tells
 found_access : (size : ℕ) (store : List ℕ) (site : Site) (writable : Bool) → IsSite hows.T4 size store site writable → IsAccess hows.T4 size store writable
@@ -146,23 +144,17 @@ module _ (p : IsoSeen Device) (is : IsNewLink p) (d : Device) (l : Linked d p.ai
   abbrev pub from : LinkView
   from = iso_view ghosts device_card device_tag p
 
-  abbrev first_step : TagState → Signal → TagStep
-  first_step = step_of ghosts device_card device_tag p
-
-  abbrev first_store : List ℕ
-  first_store = store_of ghosts device_card device_tag p
-
   seen : {B : Type 0} (f : Device → B) (o : B) → at_place f o p.air.listeners p.place ≡ f x
   seen f o = place_is ghosts f o (device_id x) p.air.listeners p.place x l.activated.has.alone
 
   none_since : since ghosts device_card device_tag p ≡ []
   none_since = ap (λ n. drop n p.air.trace) is.start ∙ none_behind p.air.trace
 
-  from_state : from.state ≡ plain_state first_store
-  from_state = ap (λ es. opened_by first_step first_store (plain_state first_store) (obeyed_in es)) none_since
+  from_state : from.state ≡ device_tag x
+  from_state = seen device_tag (plain_state [])
 
   from_store : from.state.store ≡ device_store x
-  from_store = ap (λ s. s.store) from_state ∙ seen device_store []
+  from_store = ap (λ s. s.store) from_state ∙ tag_holds x
 
   store_here : from.state.store ≡ device_store d
   store_here = from_store ∙ ap (λ k. k.store) l.same
@@ -173,21 +165,15 @@ module _ (p : IsoSeen Device) (is : IsNewLink p) (d : Device) (l : Linked d p.ai
       ∙ ap obeyed_in none_since
 
   -- the link is ready
-  abbrev IsReadySince : List Event → Type 0
-  IsReadySince es =
-      (has : HasCardTag ghosts device_card device_tag p.air p.place p.reader (commands_of es) (arrived es)) × (origin : List ℕ)
-      × (device_tag has.listener ≡ after_all (device_commands has.listener) (plain_state origin) (obeyed_in es)) × Replays (device_commands has.listener) origin
+  abbrev HasTagSince : List Event → Type 0
+  HasTagSince es = HasCardTag ghosts device_card device_tag p.air p.place p.reader (commands_of es) (arrived es)
 
   pub new_ready : IsIsoReady ghosts device_card device_tag p
-  new_ready =
-      let parts : IsReadySince (since ghosts device_card device_tag p) =
-      subst IsReadySince (sym none_since) (l.activated.has, l.activated.origin, l.activated.holds, l.activated.replays) in
-      record { start = omega (arith, is.start); told = is.told; has = parts.0; origin = parts.1; holds = parts.2; replays = parts.3 }
+  new_ready = record { start = omega (arith, is.start); told = is.told; has = subst HasTagSince (sym none_since) l.activated.has }
 
   pub new_tag : IsTag hows.T4 (size_of d) from
   new_tag =
-      let tag = shows_four from x l.activated.origin (ap (λ k. k.how) l.same ∙ l.card) (subst IsSound (sym l.same) l.sound) refl
-      (from_state ∙ ap plain_state (seen device_store [])) (seen device_commands _) l.activated.holds in
+      let tag = shows_four from x (ap (λ k. k.how) l.same ∙ l.card) (subst IsSound (sym l.same) l.sound) refl from_state (seen device_commands _) in
       resized tag.0 (size_of d) from tag.1
 
   module _ (q : IsoSeen Device) (m : IsoMoves ghosts device_card device_tag p q) where
@@ -209,15 +195,15 @@ module _ (p : IsoSeen Device) (is : IsNewLink p) (d : Device) (l : Linked d p.ai
     abbrev ReadsSo : Answer → Type 0
     ReadsSo answer = ReadsOn (moment p.air) (moment q.air) d p.reader answer
 
-    abbrev end : Standing
-    end = stand (asks p.reader (bytes_of m.asked)) m.notes
+    abbrev end : IsoStanding
+    end = stand (asks p.reader (bytes_of m.asks.asked)) m.asks.notes
 
-    ends_so : StandsAt q.over q.air.lit q.reader end
-    ends_so = m.stands is.over
+    ends_so : IsoStandsAt q.over q.air.lit q.reader end
+    ends_so = m.asks.stands is.over
 
     -- what was asked, by the link and by the reader
-    asked_told : to.answered ++ unanswered q.over q.last ≡ m.asked
-    asked_told = m.told is.over ∙ ap (λ xs. xs ++ m.asked) none_before
+    asked_told : to.answered ++ unanswered q.over q.last ≡ m.asks.asked
+    asked_told = m.asks.told is.over ∙ ap (λ xs. xs ++ m.asks.asked) none_before
 
     due_here : (n : ℕ) → AreDue hows.T4 (size_of d) from.state.store n → AreDue hows.T4 (size_of d) (device_store d) n
     due_here n each = subst (λ xs. AreDue hows.T4 (size_of d) xs n) store_here each
@@ -226,12 +212,12 @@ module _ (p : IsoSeen Device) (is : IsNewLink p) (d : Device) (l : Linked d p.ai
     first_here n = ap (λ xs. first hows.T4 xs n) store_here
 
     -- the command that the link ended with is the next that is asked
-    asked_more : (h : HasAskedOf) (e : AskFault) → q.over ≡ Some e → AskedSome (size_of d) (device_store d) m.asked
+    asked_more : (h : HasAskedOf) (e : AskFault) → q.over ≡ Some e → AskedSome (size_of d) (device_store d) m.asks.asked
     asked_more h e over = by_last h.last
       where
         by_last : ((q.last ≡ last_of hows.T4 from.state.store from h.count) × (q.over ≡ p.over))
             ⊎ ((q.last ≡ Some (command hows.T4 from.state.store h.count)) × IsDue hows.T4 (size_of d) from.state.store h.count)
-            → AskedSome (size_of d) (device_store d) m.asked
+            → AskedSome (size_of d) (device_store d) m.asks.asked
         by_last (inl (last, open')) = absurd (let clash : None ≡ Some e = sym is.over ∙ sym open' ∙ over in cc)
         by_last (inr (last, due)) =
             let c : Signal = command hows.T4 from.state.store h.count in
@@ -247,7 +233,7 @@ module _ (p : IsoSeen Device) (is : IsNewLink p) (d : Device) (l : Linked d p.ai
             }
 
     -- where the link isn't over, what was asked was answered
-    asked_whole : (all : HasAskedAllOf) → q.over ≡ None → m.asked ≡ all.commands
+    asked_whole : (all : HasAskedAllOf) → q.over ≡ None → m.asks.asked ≡ all.commands
     asked_whole all open' =
         sym asked_told ∙ ap (λ o. to.answered ++ unanswered o q.last) open' ∙ append-nil to.answered ∙ all.answered ∙ ap (λ xs. xs ++ all.commands) none_before
 
@@ -255,52 +241,49 @@ module _ (p : IsoSeen Device) (is : IsNewLink p) (d : Device) (l : Linked d p.ai
     same_devices : to.state.store ≡ from.state.store → map kept q.air.listeners ≡ map kept p.air.listeners
     same_devices stays =
         let alone = l.activated.has.alone in
-        let shown_store : to.state.store ≡ store_of ghosts device_card device_tag q =
-        opened_store (step_of ghosts device_card device_tag q) (store_of ghosts device_card device_tag q)
-        (plain_state (store_of ghosts device_card device_tag q)) (obeyed_in (since ghosts device_card device_tag q)) refl in
         let holds : at_place device_store [] q.air.listeners p.place ≡ device_store x =
-        ap (at_place device_store [] q.air.listeners) (sym m.same.0) ∙ sym shown_store ∙ stays ∙ from_store in
-        exchange_keeps (iso_next p.reader (bytes_of m.asked)) (moment p.air) (moment q.air) m.notes p.place alone.before x alone.behind m.going
-        (λ ks f due. due_whole (stand (asks p.reader (bytes_of m.asked)) ks) f (stand_whole (asks p.reader (bytes_of m.asked)) ks (asks_whole p.reader (bytes_of m.asked))) due)
+        ap (at_place device_store [] q.air.listeners) (sym m.asks.same.0) ∙ held_there q.air.listeners q.place ∙ stays ∙ from_store in
+        exchange_keeps (iso_next p.reader (bytes_of m.asks.asked)) (moment p.air) (moment q.air) m.asks.notes p.place alone.before x alone.behind m.asks.going
+        (λ ks f due. due_whole (stand (asks p.reader (bytes_of m.asks.asked)) ks) f (stand_whole (asks p.reader (bytes_of m.asks.asked)) ks (asks_whole p.reader (bytes_of m.asks.asked))) due)
         alone.split alone.stands alone.first alone.later holds
 
     -- the field was lost exactly where the exchanges ended so
-    broken_by : 0 < breaks m.going.events → end ≡ Broken asking.FieldLost
-    broken_by some = exchange_lost devices p.reader (bytes_of m.asked) (moment p.air) (moment q.air) m.notes m.going some
+    broken_by : 0 < breaks m.asks.going.events → end ≡ Broken asking.FieldLost
+    broken_by some = exchange_lost devices p.reader (bytes_of m.asks.asked) (moment p.air) (moment q.air) m.asks.notes m.asks.going some
 
-    some_break : q.air.lit ≡ false → 0 < breaks m.going.events
-    some_break dim = elim (cases_lt 0 (breaks m.going.events)) [
+    some_break : q.air.lit ≡ false → 0 < breaks m.asks.going.events
+    some_break dim = elim (cases_lt 0 (breaks m.asks.going.events)) [
       | inl some ↦ some
       | inr none ↦ absurd (
-          let lit : (replay air (world p.air) m.going.events).lit ≡ true = stays_lit devices (world p.air) m.going.events l.lit (omega (arith, none)) in
-          let last : q.air.lit ≡ (replay air (world p.air) m.going.events).lit = ap (λ (t : Moment (World Device)). t.world.lit) m.going.moment in
+          let lit : (replay air (world p.air) m.asks.going.events).lit ≡ true = stays_lit devices (world p.air) m.asks.going.events l.lit (omega (arith, none)) in
+          let last : q.air.lit ≡ (replay air (world p.air) m.asks.going.events).lit = ap (λ (t : Moment (World Device)). t.world.lit) m.asks.going.moment in
           let clash : true ≡ false = sym lit ∙ sym last ∙ dim in
           cc)
     ]
 
     -- What a read did, where its exchanges stand so at the end.
-    reads_by : (answer : Answer) → to.state.store ≡ from.state.store → (rest : List Signal) → IsAskedOf (m.asked ++ rest)
-        → (s : Standing) → stand (asks p.reader (bytes_of m.asked ++ bytes_of rest)) m.notes ≡ s → due_at s ≡ Over → TellsExchange (TellsOf d) s answer
-        → (answer ≡ answers.FieldLost → 0 < breaks m.going.events) → (0 < breaks m.going.events → answer ≡ answers.FieldLost) → ReadsSo answer
+    reads_by : (answer : Answer) → to.state.store ≡ from.state.store → (rest : List Signal) → IsAskedOf (m.asks.asked ++ rest)
+        → (s : IsoStanding) → stand (asks p.reader (bytes_of m.asks.asked ++ bytes_of rest)) m.asks.notes ≡ s → due_at s ≡ Over → TellsExchange (TellsOf d) s answer
+        → (answer ≡ answers.FieldLost → 0 < breaks m.asks.going.events) → (0 < breaks m.asks.going.events → answer ≡ answers.FieldLost) → ReadsSo answer
     reads_by answer stays rest asked s stands over tells lost by_break =
-        let sum : bytes_of (m.asked ++ rest) ≡ bytes_of m.asked ++ bytes_of rest = map-append (λ (f : Signal). f.bytes) m.asked rest in
-        let front : EachDue (iso_next p.reader (bytes_of m.asked ++ bytes_of rest)) [] m.going.events =
-        due_weaker (iso_next p.reader (bytes_of m.asked ++ bytes_of rest)) (iso_next p.reader (bytes_of m.asked)) (λ ns n e due. due_front p.reader (bytes_of m.asked) (bytes_of rest) ns n e due)
-        [] m.going.events m.going.each in
-        let there : stand (asks p.reader (bytes_of (m.asked ++ rest))) m.notes ≡ s = ap (λ cs. stand (asks p.reader cs) m.notes) sum ∙ stands in
+        let sum : bytes_of (m.asks.asked ++ rest) ≡ bytes_of m.asks.asked ++ bytes_of rest = map-append (λ (f : Signal). f.bytes) m.asks.asked rest in
+        let front : EachDue (iso_next p.reader (bytes_of m.asks.asked ++ bytes_of rest)) [] m.asks.going.events =
+        due_weaker (iso_next p.reader (bytes_of m.asks.asked ++ bytes_of rest)) (iso_next p.reader (bytes_of m.asks.asked)) (λ ns n e due. due_front p.reader (bytes_of m.asks.asked) (bytes_of rest) ns n e due)
+        [] m.asks.going.events m.asks.going.each in
+        let there : stand (asks p.reader (bytes_of (m.asks.asked ++ rest))) m.asks.notes ≡ s = ap (λ cs. stand (asks p.reader cs) m.asks.notes) sum ∙ stands in
         record {
-          commands = m.asked ++ rest;
-          asks = subst (λ h. IsAsked h (size_of d) (device_store d) (m.asked ++ rest)) (sym l.card) asked;
+          commands = m.asks.asked ++ rest;
+          asks = subst (λ h. IsAsked h (size_of d) (device_store d) (m.asks.asked ++ rest)) (sym l.card) asked;
           asked = record {
-            notes = m.notes;
+            notes = m.asks.notes;
             going = record {
-              events = m.going.events;
-              moment = m.going.moment;
-              turns = m.going.turns;
-              each = subst (λ cs. EachDue (iso_next p.reader cs) [] m.going.events) (sym sum) front;
-              fates = m.going.fates;
-              fresh = m.going.fresh;
-              known = m.going.known;
+              events = m.asks.going.events;
+              moment = m.asks.going.moment;
+              turns = m.asks.going.turns;
+              each = subst (λ cs. EachDue (iso_next p.reader cs) [] m.asks.going.events) (sym sum) front;
+              fates = m.asks.going.fates;
+              fresh = m.asks.going.fresh;
+              known = m.asks.going.known;
             };
             over = ap due_at there ∙ over;
             same = same_devices stays;
@@ -315,38 +298,38 @@ module _ (p : IsoSeen Device) (is : IsNewLink p) (d : Device) (l : Linked d p.ai
     -- all was answered
     read_told : (answer : Answer) → to.state.store ≡ from.state.store → HasAskedAllOf → GoesOn from to → TellsFour answer → ReadsSo answer
     read_told answer stays all goes tells =
-        let whole : m.asked ≡ all.commands = asked_whole all goes.over in
+        let whole : m.asks.asked ≡ all.commands = asked_whole all goes.over in
         let here : IsAskedOf all.commands = subst (λ xs. IsAsked hows.T4 (size_of d) xs all.commands) store_here all.all in
-        let done : end ≡ Rests q.reader = subst (λ o. StandsAt o q.air.lit q.reader end) goes.over ends_so in
-        reads_by answer stays [] (subst IsAskedOf (sym (append-nil m.asked ∙ whole)) here)
-        (Rests q.reader) (ap (λ cs. stand (asks p.reader cs) m.notes) (append-nil (bytes_of m.asked)) ∙ done) refl (tells_here answer tells)
+        let done : end ≡ Rests q.reader = subst (λ o. IsoStandsAt o q.air.lit q.reader end) goes.over ends_so in
+        reads_by answer stays [] (subst IsAskedOf (sym (append-nil m.asks.asked ∙ whole)) here)
+        (Rests q.reader) (ap (λ cs. stand (asks p.reader cs) m.asks.notes) (append-nil (bytes_of m.asks.asked)) ∙ done) refl (tells_here answer tells)
         (λ e. absurd (subst TellsFour e tells))
         (λ some. absurd (let clash : Rests q.reader ≡ Broken asking.FieldLost = sym done ∙ broken_by some in cc))
 
     -- an exchange ended by a fault
     read_broken : (answer : Answer) → to.state.store ≡ from.state.store → HasAskedOf → (e : AskFault) → q.over ≡ Some e → end ≡ Broken e → TellsExchange (TellsOf d) (Broken e) answer
-        → (answer ≡ answers.FieldLost → 0 < breaks m.going.events) → (0 < breaks m.going.events → answer ≡ answers.FieldLost) → ReadsSo answer
+        → (answer ≡ answers.FieldLost → 0 < breaks m.asks.going.events) → (0 < breaks m.asks.going.events → answer ≡ answers.FieldLost) → ReadsSo answer
     read_broken answer stays h e over stands tells lost by_break =
         let some = asked_more h e over in
         let whole = file_asked (size_of d) (device_store d) in
         let front = asked_front hows.T4 (size_of d) (device_store d) some.count whole.0 some.each whole.1 in
         reads_by answer stays front.0 (subst IsAskedOf (front.1 ∙ ap (λ xs. xs ++ front.0) (sym some.list)) whole.1)
-        (Broken e) (broken_more p.reader (bytes_of m.asked) (bytes_of front.0) m.notes e stands) refl tells lost by_break
+        (Broken e) (broken_more p.reader (bytes_of m.asks.asked) (bytes_of front.0) m.asks.notes e stands) refl tells lost by_break
 
     read_lost : to.state.store ≡ from.state.store → HasAskedOf → q.over ≡ Some asking.FieldLost → ReadsSo answers.FieldLost
     read_lost stays h over =
-        let ends = subst (λ o. StandsAt o q.air.lit q.reader end) over ends_so in
-        let some : 0 < breaks m.going.events = some_break ends.0 in
+        let ends = subst (λ o. IsoStandsAt o q.air.lit q.reader end) over ends_so in
+        let some : 0 < breaks m.asks.going.events = some_break ends.0 in
         read_broken answers.FieldLost stays h asking.FieldLost over (broken_by some) refl (λ e. some) (λ b. refl)
 
     read_six : to.state.store ≡ from.state.store → HasAskedOf → q.over ≡ Some asking.SixBad → ReadsSo answers.SixBad
     read_six stays h over =
-        let ends : end ≡ Broken asking.SixBad = subst (λ o. StandsAt o q.air.lit q.reader end) over ends_so in
+        let ends : end ≡ Broken asking.SixBad = subst (λ o. IsoStandsAt o q.air.lit q.reader end) over ends_so in
         read_broken answers.SixBad stays h asking.SixBad over ends refl (λ e. absurd cc)
         (λ some. absurd (let clash : Broken asking.SixBad ≡ Broken asking.FieldLost = sym ends ∙ broken_by some in cc))
 
     never_odd : q.over ≡ Some asking.Protocol → ⊥
-    never_odd over = subst (λ o. StandsAt o q.air.lit q.reader end) over ends_so
+    never_odd over = subst (λ o. IsoStandsAt o q.air.lit q.reader end) over ends_so
 
     -- a fault of the store, a fault of the link, or want of memory
     pub ends_may : (store : List ℕ) (fault : ReadFault) → IsReadFault hows.T4 store from to fault → MayEnd fault

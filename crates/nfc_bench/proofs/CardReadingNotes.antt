@@ -15,7 +15,7 @@ use Rattle.air_core.specs.Conversation.{AirModel, Note, Lit, Got, Lost, note, Ne
 use Rattle.air_core.specs.Turning.{receptions-append}
 use Rattle.air_core.specs.Waits as waits
 use Rattle.air_core.specs.Waits.{waits_from}
-use Rattle.isodep_link.specs.Asking.{Standing, Waits, Rests, Broken, Astray, asks, noted, stand, due_at, iso_next}
+use Rattle.isodep_link.specs.Asking.{IsoStanding, Waits, Rests, Broken, Astray, asks, noted, stand, due_at, iso_next}
 use Rattle.isodep_link.specs.IsoMoving.{more, asks_more, noted_more, astray_stays, front_due}
 use Rattle.isodep_link.specs.IsoLinks.{bytes_of}
 use Rattle.isodep_link.specs.Reader.{ReaderState, waiting}
@@ -99,7 +99,7 @@ module _ (commands : List (List ℕ)) where
   driven_at next s same ns q = driven_on next s same [] ns q
 
   -- while commands are asked it stands as an exchange does
-  pub exchanges_stand : (s : Standing) (ns : List Note) → card_stand commands (Exchanges s) ns ≡ Exchanges (stand s ns)
+  pub exchanges_stand : (s : IsoStanding) (ns : List Note) → card_stand commands (Exchanges s) ns ≡ Exchanges (stand s ns)
   exchanges_stand s [] = refl
   exchanges_stand s (n ∷ ns) = exchanges_stand (noted s n) ns
 
@@ -222,22 +222,22 @@ lost_wait bad (c ∷ cs) (Got h ∷ ns) left e =
 none_astray : (ns : List Note) (e : AskFault) → stand Astray ns ≡ Broken e → ⊥
 none_astray ns e is = (let clash : Astray ≡ Broken e = sym (astray_stays ns) ∙ is in cc)
 
-broken_on : (s : Standing) (ys : List (List ℕ)) (ns : List Note) (e : AskFault) → stand s ns ≡ Broken e → stand (more ys s) ns ≡ Broken e
+broken_on : (s : IsoStanding) (ys : List (List ℕ)) (ns : List Note) (e : AskFault) → stand s ns ≡ Broken e → stand (more ys s) ns ≡ Broken e
 broken_on (Waits i f cs) ys [] e is = absurd cc
 broken_on (Rests i) ys [] e is = absurd cc
 broken_on (Broken x) ys [] e is = is
 broken_on Astray ys [] e is = absurd cc
-broken_on (Waits i f cs) ys (n ∷ ns) e is = ap (λ (s : Standing). stand s ns) (noted_more i f cs ys n) ∙ broken_on (noted (Waits i f cs) n) ys ns e is
+broken_on (Waits i f cs) ys (n ∷ ns) e is = ap (λ (s : IsoStanding). stand s ns) (noted_more i f cs ys n) ∙ broken_on (noted (Waits i f cs) n) ys ns e is
 broken_on (Rests i) ys (n ∷ ns) e is = absurd (none_astray ns e is)
 broken_on (Broken x) ys (n ∷ ns) e is = absurd (none_astray ns e is)
 broken_on Astray ys (n ∷ ns) e is = absurd (none_astray ns e is)
 
 pub broken_more : (i : ReaderState) (xs ys : List (List ℕ)) (ns : List Note) (e : AskFault) → stand (asks i xs) ns ≡ Broken e → stand (asks i (xs ++ ys)) ns ≡ Broken e
-broken_more i xs ys ns e is = ap (λ (s : Standing). stand s ns) (asks_more i xs ys) ∙ broken_on (asks i xs) ys ns e is
+broken_more i xs ys ns e is = ap (λ (s : IsoStanding). stand s ns) (asks_more i xs ys) ∙ broken_on (asks i xs) ys ns e is
 
 -- what is due for some commands is due with more of them behind
 pub due_front : (i : ReaderState) (xs ys : List (List ℕ)) (ns : List Note) (n : Next) → iso_next i xs ns ≡ n → IsDemand n → iso_next i (xs ++ ys) ns ≡ n
-due_front i xs ys ns n e d = ap (λ (s : Standing). due_at (stand s ns)) (asks_more i xs ys) ∙ front_due (asks i xs) ys ns n e d
+due_front i xs ys ns n e d = ap (λ (s : IsoStanding). due_at (stand s ns)) (asks_more i xs ys) ∙ front_due (asks i xs) ys ns n e d
 
 -- A Break ends the exchanges as the loss of the field.
 pub exchange_lost : {L : Type 0} (m : Machine L) (i : ReaderState) (cs : List (List ℕ)) (a b : Moment (World L)) (ns : List Note) (g : Going (quiet_air m) (iso_next i cs) a b ns)

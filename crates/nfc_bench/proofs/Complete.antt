@@ -72,7 +72,7 @@ module _ (id : DeviceId) (ds : List Device) (d : Device) (placed : device_with (
     standing (Broken asking.Protocol cs) t = absurd t
     standing Astray t = absurd t
 
-    exchanged : (s : exchange.Standing) → TellsExchange PlacedTells s answer → TellsOf d answer
+    exchanged : (s : exchange.IsoStanding) → TellsExchange PlacedTells s answer → TellsOf d answer
     exchanged (exchange.Waits i f cs) t = absurd t
     exchanged (exchange.Rests i) t = of_placed t
     exchanged (exchange.Broken asking.FieldLost) t = absurd (lit t)

@@ -2,7 +2,7 @@
 use Rattle.std.proofs.Common.{◌≡◌, ℕ, ◌+◌, ◌≤◌, List, [], ◌∷◌, ◌++◌, length, Bool, Option, Some, None, Result, Ok, Err, refl, sym, ◌∙◌, ap, subst, arith, inl, inr}
 use Rattle.std.specs.Prelude.{IfSome, OnOk, OnErr}
 use Rattle.std.specs.List.{All}
-use Rattle.std.proofs.lemmas.List.{append-nil, length-append}
+use Rattle.std.proofs.lemmas.List.{length-append}
 use Rattle.nfc_io.specs.Counts.{HasRisen}
 use Rattle.nfc_io.specs.Moves.{with_front, with_end, GainsFront}
 use Rattle.nfc_io.proofs.Counts.{rises_at_last}
@@ -15,8 +15,8 @@ use Rattle.nfc_bench.specs.declared.top.lines.Stop.TheVariants.{Refused, ReadFau
 use Rattle.nfc_bench.specs.Lines.{lines_of}
 use Rattle.nfc_bench.specs.Limits.{most_lines, longest_line}
 use Rattle.nfc_bench.specs.Report.{report_text}
-use Rattle.nfc_bench.specs.Run.{FrontIsObeyed, FirstRefused, AllTaken, RefusesLine, ObeysFront, AddsFault, line_fault, memory_fault, read_fault, EndsDone, EndsRefused, EndsUnread, EndsUnwritten, EndsMemory}
-use Rattle.nfc_bench.specs.Stops.{ReadingEnds, MayFollow, TextDone, TextRefused, TextUnread, TextUnwritten, TextLost, TextStops, RunRefused, RunUnread, RunLost, RunStops}
+use Rattle.nfc_bench.specs.Run.{FrontIsObeyed, FirstRefused, AllTaken, RefusesLine, ObeysFront, AddsFault, line_fault, read_fault, EndsRefused, EndsUnread, EndsUnwritten}
+use Rattle.nfc_bench.specs.Stops.{ReadingEnds, MayFollow, TextRefused, TextUnread, TextUnwritten, TextLost, TextStops, RunRefused, RunUnread, RunLost, RunStops}
 use Rattle.nfc_bench.proofs.Limits.{all_at, IsShort}
 use Rattle.nfc_bench.proofs.Progress.{obeyed_none}
 use Rattle.nfc_bench.proofs.Journals.{written_none}
@@ -48,19 +48,6 @@ goes_on_by left (Some rest) text ending read ended = record {
   follows = ended;
   told = let P : Option (List ℕ) → Type 0 = λ o. IfSome o (λ bytes. text ++ rest ≡ bytes) in subst P (sym read) refl;
 }
-
-pub ends_done : (quiet : Bool) (left left' t t' : Option (List ℕ)) (text : List ℕ) (ending : Ending) (j : List Entry) (r r' : ℕ)
-    → left ≡ with_front text left' → ReadingEnds left' ending r r' → TextDone quiet text ending j t t' → EndsDone quiet left left' t t' j
-ends_done quiet left left' t t' text ending j r r' read ends s = record {
-  lines = record { input = text; told = whole left left' text read (ended_of left' ending r r' ends s.ended); obeyed = s.obeyed };
-  written = s.written;
-}
-  where
-    whole : (left left' : Option (List ℕ)) (text : List ℕ) → left ≡ with_front text left' → IfSome left' (λ rest. rest ≡ []) → IfSome left (λ bytes. (text ≡ bytes) × (left' ≡ Some []))
-    whole left None text read none = let P : Option (List ℕ) → Type 0 = λ o. IfSome o (λ bytes. (text ≡ bytes) × (let n : Option (List ℕ) = None in n ≡ Some [])) in subst P (sym read) tt
-    whole left (Some rest) text read none =
-        let P : Option (List ℕ) → Type 0 = λ o. IfSome o (λ bytes. (text ≡ bytes) × (Some rest ≡ Some [])) in
-        subst P (sym read) (sym (append-nil text) ∙ ap (λ x. text ++ x) (sym none), ap (λ x. let o : Option (List ℕ) = Some x in o) none)
 
 pub run_refused : (quiet : Bool) (left left' t t' : Option (List ℕ)) (text : List ℕ) (ending : Ending) (j : List Entry) (n r r' : ℕ)
     → left ≡ with_front text left' → ReadingEnds left' ending r r' → TextRefused quiet text ending j n t t' → RunRefused quiet left t t' j n
@@ -141,11 +128,6 @@ pub ends_unread : (quiet : Bool) (left left' t t1 t2 : Option (List ℕ)) (r r' 
     → RunUnread quiet left left' t t1 r r' j → w ≤ w1 → AddsFault [] read_fault t1 t2 w1 w2 → EndsUnread quiet left left' t t2 r r' w w2 j
 ends_unread quiet left left' t t1 t2 r r' w w1 w2 j s count added =
     record { risen = s.risen; lines = s.lines; written = fault_behind t t1 t2 w w1 w2 (report_text quiet j) read_fault s.written count added }
-
-pub ends_memory : (quiet : Bool) (left t t1 t2 : Option (List ℕ)) (w w1 w2 : ℕ) (j : List Entry)
-    → RunLost quiet left t t1 j → w ≤ w1 → AddsFault [] memory_fault t1 t2 w1 w2 → EndsMemory quiet left t t2 w w2 j
-ends_memory quiet left t t1 t2 w w1 w2 j s count added =
-    record { lines = s.lines; entries = s.most.entries; most = s.most.most; written = fault_behind t t1 t2 w w1 w2 (report_text quiet s.most.entries) memory_fault s.most.written count added }
 
 -- where every line is taken, none is the first that is refused
 pub none_refused : (lines : List (List ℕ)) (j : List Entry) (n : ℕ) → AllTaken lines j → FirstRefused lines j n → ⊥

@@ -19,7 +19,8 @@ use Rattle.nfca_poll.specs.Inventory.{Tries, tries, inventory, inventory_all, Is
 use Rattle.nfca_poll.specs.Rounds.{Begins as Starts, all_devices, finding}
 use Rattle.nfca_poll.specs.RoundTrace.{Misses}
 use Rattle.nfca_poll.specs.RoundEnds as rounds
-use Rattle.nfca_poll.specs.RoundEnds.{crowd, FindsCrowd}
+use Rattle.nfca_poll.specs.Crowd.{Each, crowd}
+use Rattle.nfca_poll.specs.RoundEnds.{FindsCrowd}
 use Rattle.nfca_poll.proofs.Crowding.{drop-front}
 use Rattle.tag_reader.specs.declared.how.How.{How}
 use Rattle.tag_reader.specs.declared.how.How.TheVariants as hows
@@ -218,10 +219,10 @@ module _ (old mid : Air Device) (found : Result (List Picked) PollFault) (tame :
 
   -- it ended well, and the inventory followed
   module _ (cards : List Picked) (well : found ≡ Ok cards) where
-    well_ends : rounds.Begins cards (crowd_of old.listeners) × ((cards ≡ crowd_of old.listeners) ⊎ Misses first)
+    well_ends : rounds.IsFrontOf cards (crowd_of old.listeners) × ((cards ≡ crowd_of old.listeners) ⊎ Misses first)
     well_ends =
         let P : Result (List Picked) PollFault → Type 0 = λ x. rounds.FindEnds (cards_of old.listeners) x first in
-        let Q : List Picked → Type 0 = λ c. rounds.Begins cards c × ((cards ≡ c) ⊎ Misses first) in
+        let Q : List Picked → Type 0 = λ c. rounds.IsFrontOf cards c × ((cards ≡ c) ⊎ Misses first) in
         subst Q (ap crowd (same_cards old.listeners)) (subst P well ends)
 
     told_well : follows finding turns.notes ≡ followed.Told (Ok cards) []
@@ -240,7 +241,7 @@ module _ (old mid : Air Device) (found : Result (List Picked) PollFault) (tame :
         let at : mid.listeners ≡ _ = ap (λ (m : Moment (World Device)). m.world.listeners) turns.going.moment in
         subst (AllByRecursion IsAwake) (sym at) (awake_behind first (moment old).world turns.going.each turns.going.fresh unbroken asked_some)
 
-    module _ (new : Air Device) (r : Result Vcrowd PollFault) (more : Enquires inventory devices mid r new) (cause : HasCauseV devices mid r new) (lost_more : LosesByBreak mid r new) (lit : mid.lit ≡ true) where
+    module _ (new : Air Device) (r : Result Vcrowd PollFault) (more : Enquires inventory devices mid r new) (cause : Each (IsSteady devices inventory_all) mid.listeners → HasCauseV devices mid r new) (lost_more : LosesByBreak mid r new) (lit : mid.lit ≡ true) where
       abbrev rest : List Event
       rest = more.going.events
 
@@ -267,7 +268,7 @@ module _ (old mid : Air Device) (found : Result (List Picked) PollFault) (tame :
           subst C (same_others mid.listeners old.listeners first_kept)
           (subst (Comes (inventory_of (filter_map v_if mid.listeners))) (sym more.comes) (inventory_comes (moment mid) (moment new) more.notes more.going awake sound))
 
-      abbrev causes : (r ≡ Err faults.Disturbed → tries ≤ noise (drop (length mid.trace) new.trace)) × (r ≡ Ok Nobody → NoneAnswers devices inventory_all mid.listeners ⊎ (tries ≤ noise (drop (length mid.trace) new.trace)))
+      abbrev causes : HasCauseV devices mid r new
       causes = cause (all_of (IsSteady devices inventory_all) steady_at_all mid.listeners)
 
       noisy : tries ≤ noise (drop (length mid.trace) new.trace) → tries ≤ noise rest
@@ -287,7 +288,7 @@ module _ (old mid : Air Device) (found : Result (List Picked) PollFault) (tame :
 
       are_others : (others : Vcrowd) → r ≡ Ok others → (others ≡ others_of old.listeners) ⊎ (others ≡ Nobody) → AreOthers old.listeners others rest
       are_others others e (inl same) = inl same
-      are_others others e (inr nobody) = by_miss (causes.1 (e ∙ ap Ok nobody))
+      are_others others e (inr nobody) = by_miss (causes.nobody (e ∙ ap Ok nobody))
         where
           by_miss : NoneAnswers devices inventory_all mid.listeners ⊎ (tries ≤ noise (drop (length mid.trace) new.trace)) → AreOthers old.listeners others rest
           by_miss (inl none) = inl (nobody ∙ sym (none_told mid.listeners awake none) ∙ same_others mid.listeners old.listeners first_kept)
@@ -296,7 +297,7 @@ module _ (old mid : Air Device) (found : Result (List Picked) PollFault) (tame :
       ends_with : (q : Result Vcrowd PollFault) (answer : Answer) → r ≡ q → Comes (others_of old.listeners) q → TellsOthers cards q answer → InventoryEnds old.listeners cards q rest answer
       ends_with (Ok others) answer e c t = (are_others others e c, t)
       ends_with (Err faults.Nobody) answer e c t = absurd c
-      ends_with (Err faults.Disturbed) answer e c t = (same_answer answers.Disturbed answer t, noisy (causes.0 e))
+      ends_with (Err faults.Disturbed) answer e c t = (same_answer answers.Disturbed answer t, noisy (causes.disturbed e))
       ends_with (Err faults.FieldLost) answer e c t = same_answer answers.FieldLost answer t
       ends_with (Err faults.Memory) answer e c t = absurd (no_answer answer t)
       ends_with (Err faults.NotFound) answer e c t = absurd c

@@ -33,7 +33,7 @@ use Rattle.nfc_bench.specs.Device.{devices}
 use Rattle.nfc_bench.specs.Crowded.{v_if, inventory_of}
 use Rattle.nfc_bench.specs.Legal.{air}
 use Rattle.nfc_bench.specs.Phases.{Kept, kept, IsApart, AreSound}
-use Rattle.nfc_bench.proofs.Ours.{steady_at_all}
+use Rattle.nfc_bench.proofs.Ours.{stays_at_all}
 use Rattle.nfc_bench.proofs.Following.{HasEnded, Closes, same_asked, light_is_no_request, over_is_no_request, over_is_no_light}
 use Rattle.nfc_bench.proofs.Unmoved.{OnlyAsks, AllHeard, all_heard}
 use Rattle.nfc_bench.proofs.SelectingKept.{IsHarmless}
@@ -229,7 +229,7 @@ only_due before (Clash g x ∷ es) q = only_due (before ++ Clash g x ∷ []) es 
 harmless : IsHarmless inventory_all
 harmless (T2 d) = refl
 harmless (T4 d) = refl
-harmless (T5 p) = ap kept (steady_at_all (T5 p) refl).1
+harmless (T5 p) = ap kept (stays_at_all p)
 
 pub inventory_harmless : (ns : List Note) (f : Signal) → enquiring inventory ns ≡ Asks f → IsHarmless f
 inventory_harmless ns f e = subst IsHarmless (sym (due_only (progress inventory (Tries 0 false) ns) f e)) harmless
@@ -237,7 +237,7 @@ inventory_harmless ns f e = subst IsHarmless (sym (due_only (progress inventory 
 stays_at : (d : Device) → stepped_by devices d inventory_all None ≡ d
 stays_at (T2 d) = refl
 stays_at (T4 d) = refl
-stays_at (T5 p) = (steady_at_all (T5 p) refl).1
+stays_at (T5 p) = stays_at_all p
 
 pub all_of : (P : Device → Type 0) → ((d : Device) → P d) → (ds : List Device) → Each P ds
 all_of P h [] = tt

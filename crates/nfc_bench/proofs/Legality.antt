@@ -206,7 +206,7 @@ tells_as P Q (Broken asking.Memory cs) answer says tells = absurd tells
 tells_as P Q (Broken asking.Protocol cs) answer says tells = absurd tells
 tells_as P Q Astray answer says tells = absurd tells
 
-exchange_tells_as : (P Q : Answer → Type 0) (x : exchange.Standing) (answer : Answer) → (P answer → Q answer) → TellsExchange P x answer → TellsExchange Q x answer
+exchange_tells_as : (P Q : Answer → Type 0) (x : exchange.IsoStanding) (answer : Answer) → (P answer → Q answer) → TellsExchange P x answer → TellsExchange Q x answer
 exchange_tells_as P Q (exchange.Waits i f cs) answer says tells = absurd tells
 exchange_tells_as P Q (exchange.Rests i) answer says tells = says tells
 exchange_tells_as P Q (exchange.Broken asking.FieldLost) answer says tells = tells

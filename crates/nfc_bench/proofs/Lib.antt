@@ -7,7 +7,6 @@ pub mod Removing
 pub mod Locking
 pub mod Ours
 pub mod Tidy
-pub mod LinkCalls
 pub mod Following
 pub mod SelectingCards
 pub mod SelectingAir
@@ -48,6 +47,5 @@ pub mod OneCut
 pub mod OneForm
 pub mod OneAnswer
 pub mod OneJournal
-pub mod Replaying
 pub mod TagFourSteps
 pub mod TagFour

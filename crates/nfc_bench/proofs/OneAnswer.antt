@@ -42,7 +42,7 @@ one_standing Tells one (Broken asking.Protocol cs) a b p q = absurd p
 one_standing Tells one Astray a b p q = absurd p
 
 -- and of a Type 4 tag, by where its activation and its exchanges stand
-one_exchange : (Tells : Answer → Type 0) → AtMostOne Tells → (s : exchange.Standing) → AtMostOne (TellsExchange Tells s)
+one_exchange : (Tells : Answer → Type 0) → AtMostOne Tells → (s : exchange.IsoStanding) → AtMostOne (TellsExchange Tells s)
 one_exchange Tells one (exchange.Waits i f cs) a b p q = absurd p
 one_exchange Tells one (exchange.Rests i) a b p q = one a b p q
 one_exchange Tells one (exchange.Broken asking.FieldLost) a b p q = p ∙ sym q

@@ -3,14 +3,13 @@ use Rattle.std.proofs.Common.{◌≡◌, ℕ, ◌*◌, ◌<◌, List, [], ◌∷
 use Rattle.std.proofs.lemmas.List.{length-map}
 use Rattle.std.specs.List.{AllByRecursion}
 use Rattle.nfc_base.specs.declared.event.Event.{Event}
-use Rattle.nfc_base.specs.declared.event.Fate.{Fate}
 use Rattle.air_core.specs.Turn.{Air}
 use Rattle.air_core.specs.Conversation.{Over}
 use Rattle.nfca_poll.specs.Ident.{IsIdent}
 use Rattle.t4t_tag.specs.Store.{file_size}
 use Rattle.t5t_tag.specs.Store.{id_size}
 use Rattle.nfc_bench.specs.declared.command.Command.{Command}
-use Rattle.nfc_bench.specs.declared.command.Command.TheVariants.{Fates, PlaceT2, PlaceT4, PlaceT5}
+use Rattle.nfc_bench.specs.declared.command.Command.TheVariants.{PlaceT2, PlaceT4, PlaceT5}
 use Rattle.nfc_bench.specs.declared.device.Device.{Device}
 use Rattle.nfc_bench.specs.declared.entry.Answer.{Answer}
 use Rattle.nfc_bench.specs.declared.entry.Answer.TheVariants.{Done}
@@ -38,14 +37,6 @@ still_obeyed old new c answer idle accepted changes trace asks over law tame tid
     let quiet : new.trace ≡ [] = trace ∙ idle.quiet in
     let step : L [] = record { accepted = accepted; turns = record { moves = []; made = refl }; fates = tt; asked = []; asks = asks; each = tt; over = over; answered = law } in
     record { step = subst L (sym quiet) step; state = changes ∙ ap (state_after st c) (sym quiet); tame = tame; tidy = tidy }
-
--- fates were appended
-pub fates_obeyed : (old new : Air Device) (fates : List Fate) → IsIdle old → new ≡ record { lit = old.lit; listeners = old.listeners; fates = old.fates ++ fates; trace = old.trace }
-    → Obeyed old new (Fates fates) Done
-fates_obeyed old new fates idle is =
-    let O : Air Device → Type 0 = λ a. Obeyed old a (Fates fates) Done in
-    let more : Air Device = record { lit = old.lit; listeners = old.listeners; fates = old.fates ++ fates; trace = old.trace } in
-    subst O (sym is) (still_obeyed old more (Fates fates) Done idle tt refl refl refl refl refl idle.tame idle.tidy)
 
 -- a command that places a device
 place_obeyed : (old : Air Device) (c : Command) (d : Device) → IsIdle old → IsAccepted (state_at old) c → changed (state_at old) c ≡ with_device (state_at old) d

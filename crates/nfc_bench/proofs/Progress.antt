@@ -284,13 +284,6 @@ line_stops quiet text rest first ending j new n t t1 t2 w w1 w2 (Refused m) p ne
 line_stops quiet text rest first ending j new n t t1 t2 w w1 w2 WriteFault p next fits few count s = written_line quiet text rest first ending j new n t t1 t2 w w1 w2 p next fits few count s
 line_stops quiet text rest first ending j new n t t1 t2 w w1 w2 Memory p next fits few count s = lost_line quiet text rest first ending j new n t t1 t2 p next fits few s
 
--- all lines are done
-pub done_at_end : (quiet : Bool) (text rest : List ℕ) (ending : Ending) (j : List Entry) (n : ℕ) (t t' : Option (List ℕ)) → Progress quiet text rest j n t t' → rest ≡ [] → ending ≡ End → TextDone quiet text ending j t t'
-done_at_end quiet text rest ending j n t t' p none end =
-    let L : List (List ℕ) → Type 0 = λ ls. AreObeyed ls j in
-    let all : lines_of text ≡ p.done = ap lines_of (sym (append-nil text)) ∙ p.lines [] ∙ ap (λ x. p.done ++ lines_of (x ++ [])) none ∙ append-nil p.done in
-    record { ended = end; obeyed = subst L (sym all) p.obeyed; written = p.written }
-
 pub done_at_last : (quiet : Bool) (text rest : List ℕ) (ending : Ending) (j new : List Entry) (n : ℕ) (t t1 t2 : Option (List ℕ))
     → Progress quiet text rest j n t t1 → NoLf rest → 0 < length rest → length rest ≤ longest_line → n ≤ most_lines → ending ≡ End → LineDone quiet j new n rest t1 t2 → TextDone quiet text ending new t t2
 done_at_last quiet text rest ending j new n t t1 t2 p none some fits few end line =

@@ -102,8 +102,8 @@ module _ (a : Air Device) (place : ℕ) (d : Device) (s : Stands (moment a) plac
   none_before = ap answered_in (none_behind a.trace)
 
   -- what was asked, by the link and by the reader
-  asked_told : to.answered ++ unanswered q.over q.last ≡ m.asked
-  asked_told = m.told refl ∙ ap (λ xs. xs ++ m.asked) none_before
+  asked_told : to.answered ++ unanswered q.over q.last ≡ m.asked.commands
+  asked_told = m.asked.told ∙ ap (λ xs. (xs ++ []) ++ m.asked.commands) none_before
 
   due_here : (n : ℕ) → AreDue (how_of d) (size_of d) from.state.store n → AreDue (how_of d) (size_of d) (device_store d) n
   due_here n each = subst (λ xs. AreDue (how_of d) (size_of d) xs n) (shows_store a place d s) each
@@ -112,10 +112,10 @@ module _ (a : Air Device) (place : ℕ) (d : Device) (s : Stands (moment a) plac
   first_here n = ap (λ xs. first (how_of d) xs n) (shows_store a place d s)
 
   -- the command that the link ended with is the next that is asked
-  asked_more : (h : HasAskedOf) (e : AskFault) → q.over ≡ Some e → AskedSome d m.asked
+  asked_more : (h : HasAskedOf) (e : AskFault) → q.over ≡ Some e → AskedSome d m.asked.commands
   asked_more h e over = by_last h.last
     where
-      by_last : ((q.last ≡ last_of (how_of d) from.state.store from h.count) × (q.over ≡ None)) ⊎ ((q.last ≡ Some (command (how_of d) from.state.store h.count)) × IsDue (how_of d) (size_of d) from.state.store h.count) → AskedSome d m.asked
+      by_last : ((q.last ≡ last_of (how_of d) from.state.store from h.count) × (q.over ≡ None)) ⊎ ((q.last ≡ Some (command (how_of d) from.state.store h.count)) × IsDue (how_of d) (size_of d) from.state.store h.count) → AskedSome d m.asked.commands
       by_last (inl (last, open')) = absurd (let clash : None ≡ Some e = sym open' ∙ over in cc)
       by_last (inr (last, due)) =
           let c : Signal = command (how_of d) from.state.store h.count in
@@ -131,51 +131,51 @@ module _ (a : Air Device) (place : ℕ) (d : Device) (s : Stands (moment a) plac
           }
 
   -- where the link isn't over, what was asked was answered
-  asked_whole : (all : HasAskedAllOf) → q.over ≡ None → m.asked ≡ all.commands
+  asked_whole : (all : HasAskedAllOf) → q.over ≡ None → m.asked.commands ≡ all.commands
   asked_whole all open' =
       sym asked_told ∙ ap (λ o. to.answered ++ unanswered o q.last) open' ∙ append-nil to.answered ∙ all.answered ∙ ap (λ xs. xs ++ all.commands) none_before
 
-  all_reads_of : (n : ℕ) → m.asked ≡ first (how_of d) (device_store d) n → AllByRecursion (IsRead d) m.asked
+  all_reads_of : (n : ℕ) → m.asked.commands ≡ first (how_of d) (device_store d) n → AllByRecursion (IsRead d) m.asked.commands
   all_reads_of n list = subst (AllByRecursion (IsRead d)) (sym list) (all_reads d (device_store d) n)
 
-  same_devices : (n : ℕ) → m.asked ≡ first (how_of d) (device_store d) n → map kept q.air.listeners ≡ map kept a.listeners
-  same_devices n list = going_keeps (waits_next m.asked) (moment a) (moment q.air) m.notes (reads_harmless d plain m.asked (all_reads_of n list)) m.going
+  same_devices : (n : ℕ) → m.asked.commands ≡ first (how_of d) (device_store d) n → map kept q.air.listeners ≡ map kept a.listeners
+  same_devices n list = going_keeps (waits_next m.asked.commands) (moment a) (moment q.air) m.asked.notes (reads_harmless d plain m.asked.commands (all_reads_of n list)) m.asked.going
 
   -- the field was lost exactly where the waits ended so
-  broken_by : 0 < breaks m.going.events → EndsLost m.asked m.notes
-  broken_by some = lost_ends air m.asked (moment a) (moment q.air) m.notes m.going (going_lost devices (waits_next m.asked) (moment a) (moment q.air) m.notes m.going some)
+  broken_by : 0 < breaks m.asked.going.events → EndsLost m.asked.commands m.asked.notes
+  broken_by some = lost_ends air m.asked.commands (moment a) (moment q.air) m.asked.notes m.asked.going (going_lost devices (waits_next m.asked.commands) (moment a) (moment q.air) m.asked.notes m.asked.going some)
 
-  some_break : q.air.lit ≡ false → 0 < breaks m.going.events
-  some_break dim = elim (cases_lt 0 (breaks m.going.events)) [
+  some_break : q.air.lit ≡ false → 0 < breaks m.asked.going.events
+  some_break dim = elim (cases_lt 0 (breaks m.asked.going.events)) [
     | inl some ↦ some
     | inr none ↦ absurd (
-        let lit : (replay air (world a) m.going.events).lit ≡ true = stays_lit devices (world a) m.going.events (ap (λ (w : World Device). w.lit) s.world) (omega arith) in
-        let end : q.air.lit ≡ (replay air (world a) m.going.events).lit = ap (λ (t : Moment (World Device)). t.world.lit) m.going.moment in
+        let lit : (replay air (world a) m.asked.going.events).lit ≡ true = stays_lit devices (world a) m.asked.going.events (ap (λ (w : World Device). w.lit) s.world) (omega arith) in
+        let end : q.air.lit ≡ (replay air (world a) m.asked.going.events).lit = ap (λ (t : Moment (World Device)). t.world.lit) m.asked.going.moment in
         let clash : true ≡ false = sym lit ∙ sym end ∙ dim in
         cc)
   ]
 
   -- what was asked is the first of what is asked
-  abbrev asked_front_of : (rest : List Signal) → Going air (waits_next (m.asked ++ rest)) (moment a) (moment q.air) m.notes
+  abbrev asked_front_of : (rest : List Signal) → Going air (waits_next (m.asked.commands ++ rest)) (moment a) (moment q.air) m.asked.notes
   asked_front_of rest = record {
-    events = m.going.events;
-    moment = m.going.moment;
-    turns = m.going.turns;
-    each = due_weaker (waits_next (m.asked ++ rest)) (waits_next m.asked) (λ ns n e due. front_due 0 m.asked rest ns n e due) [] m.going.events m.going.each;
-    fates = m.going.fates;
-    fresh = m.going.fresh;
-    known = m.going.known;
+    events = m.asked.going.events;
+    moment = m.asked.going.moment;
+    turns = m.asked.going.turns;
+    each = due_weaker (waits_next (m.asked.commands ++ rest)) (waits_next m.asked.commands) (λ ns n e due. front_due 0 m.asked.commands rest ns n e due) [] m.asked.going.events m.asked.going.each;
+    fates = m.asked.going.fates;
+    fresh = m.asked.going.fresh;
+    known = m.asked.going.known;
   }
 
   -- What a read did, where its waits stand so at the end.
-  reads_by : (answer : Answer) (n : ℕ) → m.asked ≡ first (how_of d) (device_store d) n → (rest : List Signal) → AsksOf d (m.asked ++ rest)
-      → (x : Standing) → stand 0 (m.asked ++ rest) m.notes ≡ x → due_at x ≡ Over → TellsStanding (TellsOf d) x answer
-      → (answer ≡ answers.FieldLost → 0 < breaks m.going.events) → (0 < breaks m.going.events → answer ≡ answers.FieldLost) → ReadsSo answer
+  reads_by : (answer : Answer) (n : ℕ) → m.asked.commands ≡ first (how_of d) (device_store d) n → (rest : List Signal) → AsksOf d (m.asked.commands ++ rest)
+      → (x : Standing) → stand 0 (m.asked.commands ++ rest) m.asked.notes ≡ x → due_at x ≡ Over → TellsStanding (TellsOf d) x answer
+      → (answer ≡ answers.FieldLost → 0 < breaks m.asked.going.events) → (0 < breaks m.asked.going.events → answer ≡ answers.FieldLost) → ReadsSo answer
   reads_by answer n list rest asks x stands over tells lost by_break = record {
-    commands = m.asked ++ rest;
+    commands = m.asked.commands ++ rest;
     asks = asks;
     asked = record {
-      notes = m.notes;
+      notes = m.asked.notes;
       going = asked_front_of rest;
       over = ap due_at stands ∙ over;
       same = same_devices n list;
@@ -187,40 +187,40 @@ module _ (a : Air Device) (place : ℕ) (d : Device) (s : Stands (moment a) plac
   -- all was answered
   pub read_told : (answer : Answer) → HasAskedAllOf → GoesOn from to → TellsOf d answer → ReadsSo answer
   read_told answer all goes tells =
-      let whole : m.asked ≡ all.commands = asked_whole all goes.over in
+      let whole : m.asked.commands ≡ all.commands = asked_whole all goes.over in
       let here : AsksOf d all.commands = subst (λ xs. IsAsked (how_of d) (size_of d) xs all.commands) (shows_store a place d s) all.all in
-      let done : stand 0 m.asked m.notes ≡ Asking 0 [] = subst (λ o. StandsAt o q.air.lit (stand 0 m.asked m.notes)) goes.over (m.stands refl) in
-      reads_by answer all.all.count (whole ∙ all.all.list ∙ first_here all.all.count) [] (subst (AsksOf d) (sym (append-nil m.asked ∙ whole)) here)
-      (Asking 0 []) (ap (λ cs. stand 0 cs m.notes) (append-nil m.asked) ∙ done) refl tells
+      let done : stand 0 m.asked.commands m.asked.notes ≡ Asking 0 [] = subst (λ o. StandsAt o q.air.lit (stand 0 m.asked.commands m.asked.notes)) goes.over (m.asked.stands refl) in
+      reads_by answer all.all.count (whole ∙ all.all.list ∙ first_here all.all.count) [] (subst (AsksOf d) (sym (append-nil m.asked.commands ∙ whole)) here)
+      (Asking 0 []) (ap (λ cs. stand 0 cs m.asked.notes) (append-nil m.asked.commands) ∙ done) refl tells
       (λ e. absurd (subst (TellsOf d) e tells))
       (λ some. absurd (let on = broken_by some in let clash : Asking 0 [] ≡ Broken FieldLost on.0 = sym done ∙ on.1 in cc))
 
   -- a wait ended by a fault
-  read_broken : (h : HasAskedOf) (answer : Answer) (e : AskFault) (left : List Signal) → q.over ≡ Some e → stand 0 m.asked m.notes ≡ Broken e left
+  read_broken : (h : HasAskedOf) (answer : Answer) (e : AskFault) (left : List Signal) → q.over ≡ Some e → stand 0 m.asked.commands m.asked.notes ≡ Broken e left
       → ((cs : List Signal) → TellsStanding (TellsOf d) (Broken e cs) answer)
-      → (answer ≡ answers.FieldLost → 0 < breaks m.going.events) → (0 < breaks m.going.events → answer ≡ answers.FieldLost) → ReadsSo answer
+      → (answer ≡ answers.FieldLost → 0 < breaks m.asked.going.events) → (0 < breaks m.asked.going.events → answer ≡ answers.FieldLost) → ReadsSo answer
   read_broken h answer e left over stands tells lost by_break =
       let some = asked_more h e over in
       let whole = some_asked d s.sound plain in
       let front = asked_front (how_of d) (size_of d) (device_store d) some.count whole.0 some.each whole.1 in
       reads_by answer some.count some.list front.0 (subst (AsksOf d) (front.1 ∙ ap (λ xs. xs ++ front.0) (sym some.list)) whole.1)
-      (Broken e (left ++ front.0)) (broken_front 0 m.asked m.notes e left front.0 stands) refl (tells (left ++ front.0)) lost by_break
+      (Broken e (left ++ front.0)) (broken_front 0 m.asked.commands m.asked.notes e left front.0 stands) refl (tells (left ++ front.0)) lost by_break
 
   pub read_lost : HasAskedOf → q.over ≡ Some FieldLost → ReadsSo answers.FieldLost
   read_lost h over =
-      let ends = subst (λ o. StandsAt o q.air.lit (stand 0 m.asked m.notes)) over (m.stands refl) in
-      let some : 0 < breaks m.going.events = some_break ends.0 in
+      let ends = subst (λ o. StandsAt o q.air.lit (stand 0 m.asked.commands m.asked.notes)) over (m.asked.stands refl) in
+      let some : 0 < breaks m.asked.going.events = some_break ends.0 in
       let on = broken_by some in
       read_broken h answers.FieldLost FieldLost on.0 over on.1 (λ cs. refl) (λ e. some) (λ b. refl)
 
   pub read_six : HasAskedOf → q.over ≡ Some SixBad → ReadsSo answers.SixBad
   read_six h over =
-      let ends = subst (λ o. StandsAt o q.air.lit (stand 0 m.asked m.notes)) over (m.stands refl) in
-      read_broken h answers.SixBad SixBad (ends.0 ∷ []) over ends.1 (λ cs. refl) (λ e. absurd cc)
-      (λ some. absurd (let on = broken_by some in let clash : Broken SixBad (ends.0 ∷ []) ≡ Broken FieldLost on.0 = sym ends.1 ∙ on.1 in cc))
+      let ends = subst (λ o. StandsAt o q.air.lit (stand 0 m.asked.commands m.asked.notes)) over (m.asked.stands refl) in
+      read_broken h answers.SixBad SixBad (ends.1 ∷ []) over ends.2 (λ cs. refl) (λ e. absurd cc)
+      (λ some. absurd (let on = broken_by some in let clash : Broken SixBad (ends.1 ∷ []) ≡ Broken FieldLost on.0 = sym ends.2 ∙ on.1 in cc))
 
   never_odd : q.over ≡ Some Protocol → ⊥
-  never_odd over = subst (λ o. StandsAt o q.air.lit (stand 0 m.asked m.notes)) over (m.stands refl)
+  never_odd over = subst (λ o. StandsAt o q.air.lit (stand 0 m.asked.commands m.asked.notes)) over (m.asked.stands refl)
 
   -- a fault of the store, a fault of the link, or want of memory
   pub may_end : (how : How) (store : List ℕ) (fault : ReadFault) → IsReadFault how store from to fault → MayEnd fault

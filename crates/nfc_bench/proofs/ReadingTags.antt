@@ -1,8 +1,8 @@
 -- The selected tag of a read, as a link sees it.
-use Rattle.std.proofs.Common.{◌≡◌, ℕ, List, [], length, false, Some, None, refl, sym, ◌∙◌, ap, subst}
-use Rattle.nfc_base.specs.declared.frame.Tech.TheVariants.{A, V}
+use Rattle.std.proofs.Common.{◌≡◌, ℕ, List, [], length, true, false, Some, None, refl, sym, ◌∙◌, ap, subst}
+use Rattle.nfc_base.specs.declared.frame.Tech.TheVariants.{A}
 use Rattle.nfc_base.specs.Signal.{Signal}
-use Rattle.nfc_base.specs.TagLinks.{TagState, LinkView, plain_state}
+use Rattle.nfc_base.specs.TagLinks.{TagState, LinkView, plain_state, IsNamedIn}
 use Rattle.air_core.specs.Turn.{Air, moment}
 use Rattle.air_core.specs.PlainTags.{plain_kind, IsPlainTag, HasPlainTag, IsAlone}
 use Rattle.air_core.specs.PlainLinks.{PlainSeen, at_place, plain_view}
@@ -14,22 +14,22 @@ use Rattle.tag_reader.specs.Steps.{IsBlockStore}
 use Rattle.tag_reader.proofs.SomeList.{some_list}
 use Rattle.nfc_bench.specs.declared.device.Device.{Device}
 use Rattle.nfc_bench.specs.declared.device.Device.TheVariants.{T2, T4, T5}
-use Rattle.nfc_bench.specs.Device.{device_tech, device_id, device_store, device_commands, how_of, size_of}
+use Rattle.nfc_bench.specs.Device.{device_tech, device_id, device_store, device_commands, device_selected, how_of, size_of}
 use Rattle.nfc_bench.specs.Linking.{IsPlainHow}
 use Rattle.nfc_bench.specs.Phases.{ghosts, kept, IsSound, Stands}
 use Rattle.nfc_bench.specs.Reading.{AsksOf}
 use Rattle.nfc_bench.proofs.TagTwo.{plain_two}
 use Rattle.nfc_bench.proofs.TagFive.{plain_five}
 
-plain_device : (d : Device) → IsPlainHow (how_of d) → IsPlainTag ghosts (plain_kind (device_tech d)) (device_id d) d
-plain_device (T2 d) is = plain_two d
-plain_device (T4 d) is = absurd is
-plain_device (T5 p) is = plain_five p
+plain_device : (d : Device) → device_selected d ≡ true → IsPlainHow (how_of d) → IsPlainTag ghosts (plain_kind (device_tech d)) (device_id d) d
+plain_device (T2 d) s is = plain_two d s
+plain_device (T4 d) s is = absurd is
+plain_device (T5 p) s is = plain_five p
 
-eight_bytes : (d : Device) → IsSound (kept d) → device_tech d ≡ V → length (device_id d) ≡ 8
-eight_bytes (T2 d) is e = absurd cc
-eight_bytes (T4 d) is e = absurd cc
-eight_bytes (T5 p) is e = is.1
+eight_bytes : (d : Device) → IsSound (kept d) → IsNamedIn (device_tech d) (device_id d)
+eight_bytes (T2 d) is = tt
+eight_bytes (T4 d) is = tt
+eight_bytes (T5 p) is = is.1
 
 pub stands_alone : (a : Air Device) (place : ℕ) (d : Device) → Stands (moment a) place d → IsAlone ghosts (device_id d) a.listeners place d
 stands_alone a place d s = record {
@@ -46,8 +46,8 @@ has_tag a place d s is = record {
   tag = d;
   selected = s.selected;
   alone = stands_alone a place d s;
-  eight = eight_bytes d s.sound;
-  plain = plain_device d is;
+  named = eight_bytes d s.sound;
+  plain = plain_device d s.selected is;
 }
 
 -- a view that shows a device shows a tag of its kind

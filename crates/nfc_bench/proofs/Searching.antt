@@ -19,7 +19,7 @@ use Rattle.nfca_poll.specs.Enquiry.{Progress, Reaches, Loses, progress, due_of, 
 use Rattle.nfca_poll.specs.Rounds.{Search, Begins, Seeks, Sends, Told, Aim, most_rounds, most_found, next_round, has_found, met_or_taken, sought, search_next, search_lit, search_step, search_ended, searching}
 use Rattle.nfc_bench.proofs.Following.{HasEnded, Closes, same_asked, light_is_no_request, over_is_no_request}
 use Rattle.nfc_bench.proofs.SelectingAir.{lit_by, stays_lit}
-use Rattle.nfc_bench.proofs.LinkCalls.{BeginsAsCalls}
+use Rattle.nfc_bench.specs.LinkCalls.{BeginsAsCalls}
 use Rattle.nfc_bench.proofs.SelectingKept.{IsHarmless, harmless_call}
 
 -- a request of polling: a frame of NFC-A that begins as calls do
@@ -125,13 +125,13 @@ module _ {X : Type 0} (aim : Aim X) where
   few_next : (round : ℕ) → KnowsFew (next_round round)
   few_next round = few_of (nat_lt round most_rounds) (Begins (round + 1)) (Told (Err faults.Disturbed)) tt tt
 
-  few_met : (round : ℕ) (found : List Picked) (p : Picked) (o : Option X) → KnowsFew (met_or_taken round found p o)
+  few_met : (round : ℕ) (found : List Picked) (p : Picked) (o : Option X) → KnowsFew (met_or_taken aim next_round round found p o)
   few_met round found p (Some x) = tt
   few_met round found p None =
       let sleeps : Search X = if nat_lt (length found) most_found then Sends round (found ++ p ∷ []) else Told (Err faults.BadAnswer) in
       few_of (has_found found p.id) (next_round round) sleeps (few_next round) (few_of (nat_lt (length found) most_found) (Sends round (found ++ p ∷ [])) (Told (Err faults.BadAnswer)) tt tt)
 
-  few_sought : (round : ℕ) (found : List Picked) (s : Seek) → IsFew s → KnowsFew (sought aim round found s)
+  few_sought : (round : ℕ) (found : List Picked) (s : Seek) → IsFew s → KnowsFew (sought aim next_round round found s)
   few_sought round found (Calling n) k = tt
   few_sought round found (Asking done known) k = k
   few_sought round found (Selecting done l) k = k
@@ -142,7 +142,7 @@ module _ {X : Type 0} (aim : Aim X) where
       let p : Picked = record { id = identifier ls; kind = kind } in
       few_met round found p (aim.takes p)
 
-  few_heard : (s : Search X) (h : Heard) → KnowsFew s → KnowsFew (search_step aim s h)
+  few_heard : (s : Search X) (h : Heard) → KnowsFew s → KnowsFew (search_step aim next_round s h)
   few_heard (Begins round) h k = tt
   few_heard (Seeks round found s) h k = few_sought round found (seek_step s h) (few_step s h k)
   few_heard (Sends round found) h k = tt
@@ -163,7 +163,7 @@ module _ {X : Type 0} (aim : Aim X) where
   calls_from : (s : Search X) (ns : List Note) (f : Signal) → KnowsFew s → due_of (searching aim) (progress (searching aim) s ns) ≡ Asks f → IsCall f
   calls_from s [] f k e = search_asked s f k e
   calls_from s (Lit ∷ ns) f k e = calls_from (search_lit aim s) ns f (few_lit s k) e
-  calls_from s (Got h ∷ ns) f k e = calls_from (search_step aim s h) ns f (few_heard s h k) e
+  calls_from s (Got h ∷ ns) f k e = calls_from (search_step aim next_round s h) ns f (few_heard s h k) e
   calls_from s (Lost ∷ ns) f k e = absurd (over_is_no_request f e)
 
   pub asks_calls : (ns : List Note) (f : Signal) → enquiring (searching aim) ns ≡ Asks f → IsCall f
@@ -184,7 +184,7 @@ module _ {X : Type 0} (aim : Aim X) where
   stays_lit_over (Sends round found) h = absurd h
   stays_lit_over (Told r) h = tt
 
-  stays_over : (s : Search X) (g : Heard) → HasEnded (search_ended aim s) → HasEnded (search_ended aim (search_step aim s g))
+  stays_over : (s : Search X) (g : Heard) → HasEnded (search_ended aim s) → HasEnded (search_ended aim (search_step aim next_round s g))
   stays_over (Begins round) g h = absurd h
   stays_over (Seeks round found s) g h = absurd h
   stays_over (Sends round found) g h = absurd h

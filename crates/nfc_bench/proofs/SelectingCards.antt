@@ -1,6 +1,6 @@
 -- The bench's devices as a crowd of cards: at a call each steps by its front and keeps what it holds, and no two have one
 -- identifier.
-use Rattle.std.proofs.Common.{◌≡◌, ◌≢◌, ◌⊎◌, ℕ, suc, ◌≤◌, ◌<◌, List, [], ◌∷◌, length, map, filter_map, Bool, true, false, if◌then◌else◌, not, ◌&&◌, is_none, Option, Some, None, inl, inr, refl, ◌∙◌, ap, arith}
+use Rattle.std.proofs.Common.{◌≡◌, ◌≢◌, ◌⊎◌, ℕ, suc, ◌≤◌, ◌<◌, List, [], ◌∷◌, length, map, filter_map, Bool, true, false, if◌then◌else◌, not, ◌&&◌, is_none, Option, Some, None, inl, inr, refl, sym, ◌∙◌, ap, arith}
 use Rattle.std.specs.List.{AllByRecursion, cons_option}
 use Rattle.nfc_base.specs.declared.frame.Tech.TheVariants.{A}
 use Rattle.nfc_base.specs.Signal.{Signal}
@@ -11,7 +11,7 @@ use Rattle.nfca_poll.specs.Calls.{call_of}
 use Rattle.nfca_poll.specs.Front.{Front, Off, Idle, Sleep, Ready, Active, front_says, front_next, is_active}
 use Rattle.nfca_poll.specs.Fronted.{Fronted, left_at, answer_by, after_by, active_answer, active_after}
 use Rattle.nfca_poll.specs.Crowd.{Card, Each, AreDistinct, AreOurs, StepsByFront, card_if, cards}
-use Rattle.nfca_poll.specs.AnyStart.{HaveOwnIdents, LeavesAtCalls}
+use Rattle.nfca_poll.specs.AnyStart.{HaveOwnIdents, StaysActive, YieldsToCalls, LeavesAtCalls}
 use Rattle.nfca_poll.specs.Rounds.{most_found}
 use Rattle.nfca_poll.specs.Polled.{ArePolled, AreTidy, WakesIdle, IsTidy as Tidy}
 use Rattle.nfca_poll.specs.declared.upper.UpStep.TheVariants as ups
@@ -29,7 +29,7 @@ use Rattle.nfc_bench.specs.Phases as bench
 use Rattle.nfc_bench.specs.Phases.{Kept, kept, IsApart, AreSound, AreTame, IsTidy}
 use Rattle.nfc_bench.proofs.Ours.{device_kind, device_front, steps}
 use Rattle.nfc_bench.proofs.Tidy.{left_tidy}
-use Rattle.nfc_bench.proofs.LinkCalls.{BeginsAsCalls, call_begins, no_command, did_at_call}
+use Rattle.nfc_bench.specs.LinkCalls.{BeginsAsCalls, call_begins, no_command, did_at_call}
 
 left_stays : (starred : Bool) (next : Front) (u : T2Memory) → left_at t2_machine (Active starred) next u ≡ u
 left_stays starred Off u = refl
@@ -168,8 +168,40 @@ wakes_idle (T2 d) t h = record { idle = refl; no_link = refl; same_id = refl; sa
 wakes_idle (T4 d) t h = record { idle = refl; no_link = reset_unlinked (T4 d) h; same_id = refl; same_kind = refl }
 wakes_idle (T5 p) t h = absurd cc
 
+-- at a call an active device leaves the state Active, but for a Type 4 tag with a link, which stays in it
+silent_near : (id : List ℕ) (starred : Bool) (u : T4Near) (link : Option CardState) (f : Signal) → BeginsAsCalls f → u.link ≡ link
+    → StepsByFront devices device_id device_kind device_front (T4 (near id (Active starred) u)) f ⊎ StaysActive devices device_id device_kind device_front (T4 (near id (Active starred) u)) f
+silent_near id starred u None f h e =
+    inl (card_steps (Active starred) id u f (ap (λ k. t4_did (record { tag = u.tag; link = k }) k f) e ∙ did_at_call u.tag None f h ∙ ap (λ k. record { says = ups.Foreign; after = record { tag = u.tag; link = k } }) (sym e)))
+silent_near id starred u (Some t) f h e =
+    let d : Fronted T4Near = near id (Active starred) u in
+    let did : t4_did u u.link f ≡ record { says = ups.Quiet; after = u } =
+    ap (λ k. t4_did (record { tag = u.tag; link = k }) k f) e ∙ did_at_call u.tag (Some t) f h ∙ ap (λ k. record { says = ups.Quiet; after = record { tag = u.tag; link = k } }) (sym e) in
+    let after : T4Did → Fronted T4Near = λ x. active_after t4_machine x.says x.after d f in
+    inr (record {
+      untouched = refl;
+      silent = ap (λ (x : T4Did). active_answer t4_machine x.says d f) did;
+      same_front = ap (λ x. (after x).front) did;
+      same_tech = refl;
+      same_id = ap (λ x. (after x).id) did;
+      same_kind = refl;
+    })
+
+yields_near : (front : Front) (id : List ℕ) (u : T4Near) (f : Signal) → BeginsAsCalls f → is_active front ≡ true
+    → StepsByFront devices device_id device_kind device_front (T4 (near id front u)) f ⊎ StaysActive devices device_id device_kind device_front (T4 (near id front u)) f
+yields_near Off id u f h a = absurd cc
+yields_near Idle id u f h a = absurd cc
+yields_near Sleep id u f h a = absurd cc
+yields_near (Ready k starred) id u f h a = absurd cc
+yields_near (Active starred) id u f h a = silent_near id starred u u.link f h refl
+
+pub yields : YieldsToCalls ours
+yields (T2 d) f c t a e = inl (step_at_call d f (no_command f (call_begins f c e)))
+yields (T4 d) f c t a e = yields_near d.front d.id d.upper f (call_begins f c e) a
+yields (T5 p) f c t a e = absurd cc
+
 abbrev pub polled : ArePolled devices device_id
-polled = record { ours = ours; unlinked = device_unlinked; leaves = leaves; same_tech = same_tech_woken; wakes = wakes_idle }
+polled = record { ours = ours; yields = yields; unlinked = device_unlinked; leaves = leaves; same_tech = same_tech_woken; wakes = wakes_idle }
 
 pub tidy : (ds : List Device) → bench.AreTidy ds → AreTidy polled ds
 tidy [] h = tt

@@ -21,7 +21,7 @@ use Rattle.nfc_bench.specs.Cards.{T4Near}
 use Rattle.nfc_bench.specs.Device.{devices, t2_machine, t4_machine, T4Did}
 use Rattle.nfc_bench.specs.Legal.{air}
 use Rattle.nfc_bench.specs.Phases.{Kept, kept}
-use Rattle.nfc_bench.proofs.LinkCalls.{BeginsAsCalls, no_command, says_at, did_at_call}
+use Rattle.nfc_bench.specs.LinkCalls.{BeginsAsCalls, no_command, says_at, did_at_call}
 use Rattle.nfc_bench.proofs.SelectingCards.{carded, near, call_goes}
 
 -- a frame that changes no device but in its state

@@ -19,7 +19,7 @@ use Rattle.nfc_bench.specs.Device.{devices}
 use Rattle.nfc_bench.specs.Legal.{air}
 use Rattle.nfc_bench.specs.Phases.{IsTidy, AreTidy, IsUnasked}
 use Rattle.nfc_bench.proofs.Following.{light_is_no_request}
-use Rattle.nfc_bench.proofs.LinkCalls.{BeginsAsCalls}
+use Rattle.nfc_bench.specs.LinkCalls.{BeginsAsCalls}
 use Rattle.nfc_bench.proofs.Searching.{IsCall, asks_calls}
 use Rattle.nfc_bench.proofs.SelectingCards.{device_unlinked, left_unlinked, stays_unlinked, reset_unlinked}
 use Rattle.nfc_bench.proofs.SelectingKept.{EachAsked, due_asked}

@@ -41,7 +41,7 @@ use Rattle.nfc_bench.specs.Choosing.{StandsAt}
 use Rattle.nfc_bench.specs.Phases.{ghosts, kept, IsSound, AreSound, AreTame, IsUnasked, Asked, Selects, SelectsAt}
 use Rattle.nfc_bench.specs.Polling as followed
 use Rattle.nfc_bench.specs.Polling.{Followed, follows, kind_by, pick_v, selecting, asks}
-use Rattle.nfc_bench.proofs.Ours.{steady_at, answers_own}
+use Rattle.nfc_bench.proofs.Ours.{steady_at, stays_at_own, answers_own}
 use Rattle.nfc_bench.proofs.Inventoried.{fewer, whole_silent, collided_silent, damaged_silent, is_whole, tries_ask, tries_light, all_of}
 use Rattle.nfc_bench.proofs.Following.{HasEnded, Closes, light_is_no_request, over_is_no_request, over_is_no_light, seen_by, kind_told, kind_asks, seen_lost, asks_same, told_same}
 use Rattle.nfc_bench.proofs.Unmoved.{OnlyAsks, AllHeard, AllStay, all_stay, all_heard}
@@ -148,7 +148,7 @@ module _ (id : List ℕ) where
   harmless : IsHarmless inventory
   harmless (T2 d) = refl
   harmless (T4 d) = refl
-  harmless (T5 p) = ap kept (steady_at id (T5 p) refl).1
+  harmless (T5 p) = ap kept (stays_at_own id p)
 
   abbrev next : List Note → Next
   next ns = asks (selecting (ids.V id) ns)
@@ -281,7 +281,7 @@ module _ (id : List ℕ) where
 stays_at : (id : List ℕ) (d : Device) → stepped_by devices d (inventory_of id) None ≡ d
 stays_at id (T2 d) = refl
 stays_at id (T4 d) = refl
-stays_at id (T5 p) = (steady_at id (T5 p) refl).1
+stays_at id (T5 p) = stays_at_own id p
 
 -- a device as a reset leaves it
 abbrev IsRelit : Device → Type 0
@@ -384,7 +384,7 @@ module _ (id : List ℕ) (eight : length id ≡ 8) (old mid new : Air Device) (r
   may : MayCome r
   may = subst MayCome (sym turns.comes) (tries_may id heard_joint (presented id old.listeners eight tame.sound) notes 0 false heard)
 
-  module _ (lost : LosesByBreak mid r new) (misses : MissesV devices id mid r new) where
+  module _ (lost : LosesByBreak mid r new) (misses : Each (IsSteady devices (inventory_of id)) mid.listeners → MissesV devices id mid r new) where
     dark_lit : mid.lit ≡ false → ⊥
     dark_lit d = let l : mid.lit ≡ true = mid_lit in cc
 
@@ -401,7 +401,7 @@ module _ (id : List ℕ) (eight : length id ≡ 8) (old mid new : Air Device) (r
     lost_back h = broken (subst (λ es. 0 < breaks es) whole_is h)
 
     missed_by : r ≡ Err faults.NotFound → MissedBy (ids.V id) old.listeners whole.events
-    missed_by e = by_miss (misses (all_of (IsSteady devices (inventory_of id)) (steady_at id) mid.listeners) e)
+    missed_by e = by_miss ((misses (all_of (IsSteady devices (inventory_of id)) (steady_at id) mid.listeners)).not_found e)
       where
         by_miss : NoneAnswers devices (inventory_of id) mid.listeners ⊎ (tries ≤ noise (drop (length mid.trace) new.trace)) → MissedBy (ids.V id) old.listeners whole.events
         by_miss (inl n) = inl (silence_tells id old.listeners eight tame.sound (subst (NoneAnswers devices (inventory_of id)) relit_at n))

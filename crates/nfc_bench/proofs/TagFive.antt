@@ -3,8 +3,7 @@ use Rattle.std.proofs.Common.{◌≡◌, inl, inr, ◌⊎◌, ℕ, ◌/◌, List
 use Rattle.std.specs.Prelude.{reverse, get_or}
 use Rattle.nfc_base.specs.Signal.{Signal}
 use Rattle.nfc_base.specs.TagLinks.{Type5, plain_state, MayAsk, addressed as addressed_to}
-use Rattle.air_core.specs.PlainTags.{tag_step, IsSteady, IsPlainTag}
-use Rattle.air_core.proofs.PlainTagging.{DoesAgain, steady_by, plain_by}
+use Rattle.air_core.specs.PlainTags.{Takes, PassesOver, IsPlainTag}
 use Rattle.t5t_tag.specs.declared.answer.T5Answer.{T5Answer}
 use Rattle.t5t_tag.specs.declared.answer.T5Answer.TheVariants.{Content, Error}
 use Rattle.t5t_tag.specs.Store.{T5State, id_size, block_count, is_locked}
@@ -15,11 +14,10 @@ use Rattle.t5t_tag.proofs.Stores.{length_with_block}
 use Rattle.t5t_tag.proofs.Steps.{IsSameTag, same_tag, read_leaves}
 use Rattle.t5t_tag.proofs.Again.{heard_again}
 use Rattle.t5t_tag.proofs.Hushed.{with_quiet, IsAlike, addressed_alike}
-use Rattle.tag_reader.specs.Kinds.{t5_step}
 use Rattle.nfc_bench.specs.Powered.{Powered}
 use Rattle.nfc_bench.specs.declared.device.Device.{Device}
 use Rattle.nfc_bench.specs.declared.device.Device.TheVariants.{T2, T4, T5}
-use Rattle.nfc_bench.specs.Device.{device_after, device_store, device_commands, device_darkened, device_selected}
+use Rattle.nfc_bench.specs.Device.{device_after, device_store, device_selected}
 use Rattle.nfc_bench.specs.Phases.{ghosts}
 
 -- a step whose second time answers what its first did
@@ -168,15 +166,15 @@ module _ (t : T5State) (own : List ℕ) (code : ℕ) (rest : List ℕ) where
       let same : IsSameTag u (t5_after u frame) = same_tag u frame in
       record { id = same.id ∙ is.id; size = same.size ∙ is.size; locked = same.locked ∙ is.locked; store = inr (heard_holds u is) }
 
--- a lit device whose tag has heard a command, or hasn't
-abbrev IsLitBy : T5State → Signal → Device → Type 0
-IsLitBy t f (T2 d) = ⊥
-IsLitBy t f (T4 d) = ⊥
-IsLitBy t f (T5 p) = (p.lit ≡ true) × HasHeard t f p.tag
-
 -- the tag as its step sees it
 abbrev unhushed : T5State → T5State
 unhushed t = with_quiet false t
+
+-- a Type 5 tag, and no other device
+abbrev is_five : Device → Bool
+is_five (T2 d) = false
+is_five (T4 d) = false
+is_five (T5 p) = true
 
 module _ (p : Powered) (own : List ℕ) (code : ℕ) (rest : List ℕ) where
   abbrev t : T5State
@@ -185,60 +183,59 @@ module _ (p : Powered) (own : List ℕ) (code : ℕ) (rest : List ℕ) where
   abbrev f : Signal
   f = addressed_to own code rest
 
-  does : (m : Device) → IsLitBy t f m → DoesAgain ghosts (IsLitBy t f) (T5 p) f m
-  does (T2 d) is = absurd is
-  does (T4 d) is = absurd is
-  does (T5 q) is =
-      let goes : device_after (T5 q) f ≡ T5 (record { tag = t5_after q.tag f; lit = true }) =
-      ap (λ v. if v then T5 (record { tag = t5_after q.tag f; lit = true }) else T5 q) is.0 in
+  -- the tag as its step left it
+  abbrev left : T5State
+  left = record { id = t.id; size = t.size; store = (t5_after t f).store; locked = t.locked; quiet = false }
+
+  left_heard : HasHeard t f left
+  left_heard = record { id = refl; size = refl; locked = refl; store = inr refl }
+
+  now_heard : HasHeard t f p.tag
+  now_heard = record { id = refl; size = refl; locked = refl; store = inl refl }
+
+  takes_five : p.lit ≡ true → Takes ghosts (T5 p) f
+  takes_five lit =
+      let goes : device_after (T5 p) f ≡ T5 (record { tag = t5_after p.tag f; lit = true }) =
+      ap (λ v. if v then T5 (record { tag = t5_after p.tag f; lit = true }) else T5 p) lit in
       record {
         quiet = refl;
-        answer = ap (λ v. if v then t5_answer q.tag f else None) is.0 ∙ heard_says t own code rest q.tag is.1;
-        after = ap (λ m. plain_state (device_store m)) goes ∙ ap plain_state (heard_holds t own code rest q.tag is.1);
+        answer = ap (λ v. if v then t5_answer p.tag f else None) lit ∙ heard_says t own code rest p.tag now_heard;
+        after = ap (λ m. plain_state (device_store m)) goes ∙ ap plain_state (heard_holds t own code rest p.tag now_heard);
+        again =
+            ap (λ o. record { answer = o; after = plain_state (t5_after left f).store }) (heard_says t own code rest left left_heard)
+            ∙ ap (λ s. record { answer = t5_answer t f; after = plain_state s }) (heard_holds t own code rest left left_heard);
         selected = λ g says. ap device_selected goes;
-        stays = subst (IsLitBy t f) (sym goes) (refl, heard_stays t own code rest q.tag is.1);
       }
 
-  again : (device_commands (T5 p) (tag_step ghosts (T5 p) f).after f).after ≡ (tag_step ghosts (T5 p) f).after
-  again = ap plain_state (heard_holds t own code rest (record { id = t.id; size = t.size; store = (t5_after t f).store; locked = t.locked; quiet = false })
-      (record { id = refl; size = refl; locked = refl; store = inr refl }))
-
-  steady_five : p.lit ≡ true → IsSteady ghosts (T5 p) f
-  steady_five lit = steady_by ghosts (IsLitBy t f) (T5 p) f (lit, record { id = refl; size = refl; locked = refl; store = inl refl }) does again
-
--- a Type 5 tag of this identifier, size and locked blocks
-abbrev IsTagAs : T5State → Device → Type 0
-IsTagAs t (T2 d) = ⊥
-IsTagAs t (T4 d) = ⊥
-IsTagAs t (T5 p) = (p.tag.id ≡ t.id) × (p.tag.size ≡ t.size) × (p.tag.locked ≡ t.locked)
+passes_five : (p : Powered) (f : Signal) (lit : Bool) → p.lit ≡ lit → lit ≡ false → PassesOver ghosts (T5 p) f
+passes_five p f true e h = absurd cc
+passes_five p f false e h =
+    let goes : device_after (T5 p) f ≡ T5 p = ap (λ v. if v then T5 (record { tag = t5_after p.tag f; lit = true }) else T5 p) e in
+    record {
+      quiet = refl;
+      silent = ap (λ v. if v then t5_answer p.tag f else None) e;
+      store = ap device_store goes;
+      rests = ap device_selected goes ∙ e;
+    }
 
 pub plain_five : (p : Powered) → IsPlainTag ghosts Type5 p.tag.id (T5 p)
-plain_five p = plain_by ghosts Type5 p.tag.id (IsTagAs p.tag) (T5 p) (refl, refl, refl) goes_on steady same dark
+plain_five p = record { holds = is_five; now = refl; kept = kept; takes = takes; passes = passes }
   where
-    goes_on : (m : Device) (f : Signal) → MayAsk Type5 p.tag.id f → IsTagAs p.tag m → IsTagAs p.tag (device_after m f)
-    goes_on (T2 d) f may is = absurd is
-    goes_on (T4 d) f may is = absurd is
-    goes_on (T5 q) f may is = by_light q.lit
-      where
-        by_light : (v : Bool) → IsTagAs p.tag (if v then T5 (record { tag = t5_after q.tag f; lit = true }) else T5 q)
-        by_light true = (let same : IsSameTag q.tag (t5_after q.tag f) = same_tag q.tag f in (same.id ∙ is.0, same.size ∙ is.1, same.locked ∙ is.2))
-        by_light false = is
+    by_light : (v : Bool) (q : Powered) (f : Signal) → is_five (if v then T5 (record { tag = t5_after q.tag f; lit = true }) else T5 q) ≡ true
+    by_light true q f = refl
+    by_light false q f = refl
 
-    steady : (m : Device) (f : Signal) → MayAsk Type5 p.tag.id f → IsTagAs p.tag m → device_selected m ≡ true → IsSteady ghosts m f
-    steady (T2 d) f may is s = absurd is
-    steady (T4 d) f may is s = absurd is
-    steady (T5 q) f may is s = subst (IsSteady ghosts (T5 q)) (sym may.frame) (steady_five q p.tag.id may.code may.rest s)
+    kept : (m : Device) (f : Signal) → MayAsk Type5 p.tag.id f → is_five m ≡ true → is_five (device_after m f) ≡ true
+    kept (T2 d) f may h = absurd cc
+    kept (T4 d) f may h = absurd cc
+    kept (T5 q) f may h = by_light q.lit q f
 
-    steps_as : (t : T5State) → t.id ≡ p.tag.id → t.size ≡ p.tag.size → t.locked ≡ p.tag.locked → t5_step t.id t.size t.locked false ≡ t5_step p.tag.id p.tag.size p.tag.locked false
-    steps_as t a b c =
-        ap (λ x. t5_step x t.size t.locked false) a ∙ ap (λ x. t5_step p.tag.id x t.locked false) b ∙ ap (λ x. t5_step p.tag.id p.tag.size x false) c
+    takes : (m : Device) (f : Signal) → MayAsk Type5 p.tag.id f → is_five m ≡ true → device_selected m ≡ true → Takes ghosts m f
+    takes (T2 d) f may h s = absurd cc
+    takes (T4 d) f may h s = absurd cc
+    takes (T5 q) f may h s = subst (Takes ghosts (T5 q)) (sym may.frame) (takes_five q p.tag.id may.code may.rest s)
 
-    same : (m : Device) → IsTagAs p.tag m → device_commands m ≡ device_commands (T5 p)
-    same (T2 d) is = absurd is
-    same (T4 d) is = absurd is
-    same (T5 q) is = steps_as q.tag is.0 is.1 is.2
-
-    dark : (m : Device) → IsTagAs p.tag m → device_commands (device_darkened m) ≡ device_commands (T5 p)
-    dark (T2 d) is = absurd is
-    dark (T4 d) is = absurd is
-    dark (T5 q) is = steps_as q.tag is.0 is.1 is.2
+    passes : (m : Device) (f : Signal) → MayAsk Type5 p.tag.id f → is_five m ≡ true → device_selected m ≡ false → PassesOver ghosts m f
+    passes (T2 d) f may h s = absurd cc
+    passes (T4 d) f may h s = absurd cc
+    passes (T5 q) f may h s = passes_five q f q.lit refl s

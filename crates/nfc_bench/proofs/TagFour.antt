@@ -13,14 +13,12 @@ use Rattle.tag_reader.specs.Files.{shown_file}
 use Rattle.isodep_link.specs.Sizes.{ats_frame}
 use Rattle.isodep_link.specs.Card.{CardState, fresh, activated}
 use Rattle.isodep_link.specs.CardTags.{IsCardTag}
-use Rattle.isodep_link.specs.IsoLinks.{Replays}
 use Rattle.isodep_link.specs.Activating.{reader_code, rats, TakesRats}
 use Rattle.nfc_bench.specs.Cards.{T4Near}
 use Rattle.nfc_bench.specs.declared.device.Device.{Device}
 use Rattle.nfc_bench.specs.declared.device.Device.TheVariants.{T4}
-use Rattle.nfc_bench.specs.Device.{device_answer, device_after, device_selected, device_commands, device_card, device_tag, is_no_file, is_unlinked}
+use Rattle.nfc_bench.specs.Device.{device_answer, device_after, device_selected, device_card, device_tag, is_no_file, is_unlinked}
 use Rattle.nfc_bench.specs.Phases.{ghosts, kept, IsSound}
-use Rattle.nfc_bench.proofs.Replaying.{replays}
 use Rattle.nfc_bench.proofs.TagFourSteps.{no_bytes, linked_device, IsLinked, card_tag}
 
 -- a selected device with this tag, and what RATS makes of it
@@ -76,13 +74,14 @@ module _ (id : List ℕ) (starred : Bool) (tag : T4State) where
     tech = refl;
     code = tag.code;
     small = is.coded;
-    quiet = λ n. refl;
-    answer = rats_answered;
-    selected = λ n. ap device_selected (rats_again n);
-    is = λ n. subst (IsCardTag ghosts device_card device_tag) (sym (rats_again n)) (card_tag tag.code (first_device id starred tag) (first_linked is));
-    card_is = λ n. ap device_card (rats_again n);
-    tag_is = λ n. ap device_tag (rats_again n) ∙ shown_plain (store_of tag) tag.selected tag.current plain;
-    replays = λ n. subst (λ m. Replays (device_commands m) (store_of tag)) (sym (rats_again n)) (replays tag is);
+    steps = λ n. record {
+      quiet = refl;
+      answer = rats_answered n;
+      selected = ap device_selected (rats_again n);
+      is = subst (IsCardTag ghosts device_card device_tag) (sym (rats_again n)) (card_tag tag.code (first_device id starred tag) (first_linked is));
+      card_is = ap device_card (rats_again n);
+      tag_is = ap device_tag (rats_again n) ∙ shown_plain (store_of tag) tag.selected tag.current plain;
+    };
   }
 
 -- and no other is selected, and has no link

@@ -19,12 +19,12 @@ use Rattle.isodep_link.specs.Blocks.{IsBlock, block_bytes, spelled_block}
 use Rattle.isodep_link.specs.Sizes.{limit, rats_code}
 use Rattle.isodep_link.specs.Card.{CardState, CardMove, CardTurn, stays, again, grown, drawn, block_table, framed, heeded, card_table, fresh}
 use Rattle.isodep_link.specs.Exchange.{iso_dep, card_does}
-use Rattle.isodep_link.specs.CardTags.{IsAskedBlock, IsAsked, Obeys, IsShort, StepsByCard, IsCardTag}
+use Rattle.isodep_link.specs.CardTags.{IsAskedBlock, IsAskedFrame, TagDoes, IsShort, StepsByCard, IsCardTag}
 use Rattle.isodep_link.proofs.Wire.{card_heeds}
 use Rattle.nfc_bench.specs.Cards.{T4Near}
 use Rattle.nfc_bench.specs.declared.device.Device.{Device}
 use Rattle.nfc_bench.specs.declared.device.Device.TheVariants.{T4}
-use Rattle.nfc_bench.specs.Device.{t4_machine, by_card, device_tech, device_after, device_store, device_commands, device_darkened, device_selected, device_card, device_tag}
+use Rattle.nfc_bench.specs.Device.{t4_machine, by_card, device_tech, device_after, device_darkened, device_selected, device_card, device_tag}
 use Rattle.nfc_bench.specs.Phases.{ghosts}
 
 -- all items are bytes
@@ -95,7 +95,7 @@ module _ (code : ℕ) where
     heeds_block Deselect a p = absurd a
 
     -- and at the frame of one, whether or not it is mute
-    heeds_by : (f : Signal) → IsAsked f → (mute : Bool) → t.mute ≡ mute → Heeds code (card_table t f)
+    heeds_by : (f : Signal) → IsAskedFrame f → (mute : Bool) → t.mute ≡ mute → Heeds code (card_table t f)
     heeds_by f a true m =
         subst (Heeds code) (sym (ap (λ v. if v then framed (stays t) else heeded t (rats_code f) (spelled_block f)) m)) (record { own = e; chain = c; awake = tt })
     heeds_by f a false m =
@@ -123,7 +123,7 @@ module _ (id : List ℕ) (starred : Bool) (tag : T4State) (t : CardState) (f : S
     pub card_then : CardState
     pub after : active_after t4_machine (by_card tag turn.state turn.does).says (by_card tag turn.state turn.does).after front f ≡ linked_front id starred tag_then card_then
     pub card_is : card_then ≡ (settled iso_dep reply turn.state (card_does turn.does)).state
-    pub moved : MovedBy (Obeys (t4_link_step tag.code)) (shown tag) (settled iso_dep reply turn.state (card_does turn.does)).asked reply (shown tag_then)
+    pub moved : MovedBy (TagDoes (t4_link_step tag.code)) (shown tag) (settled iso_dep reply turn.state (card_does turn.does)).asked reply (shown tag_then)
     pub sound : IsT4State tag_then
     pub code : tag_then.code ≡ tag.code
     pub own : card_then.code ≡ tag.code
@@ -200,7 +200,7 @@ record Turns (code : ℕ) (m : Device) (f : Signal) : Type 0 where
 
 module _ (code : ℕ) where
   -- A linked tag does at an asked block what the card's table says, and stays linked.
-  turns : (m : Device) → IsLinked code m → (f : Signal) → IsAsked f → Turns code m f
+  turns : (m : Device) → IsLinked code m → (f : Signal) → IsAskedFrame f → Turns code m f
   turns m l f a = subst (λ x. Turns code x f) (sym l.is) (record { steps = stepped; stays = stays_linked })
     where
       does : Does l.id l.starred l.tag l.card f (card_table l.card f)
@@ -221,7 +221,7 @@ module _ (code : ℕ) where
         short = does.short;
         answer = does.answer;
         card_is = ap device_card after ∙ does.card_is;
-        moved = subst (λ x. MovedBy (Obeys (t4_link_step l.tag.code)) (shown l.tag) asked does.reply (device_tag x)) (sym after) does.moved;
+        moved = subst (λ x. MovedBy (TagDoes (t4_link_step l.tag.code)) (shown l.tag) asked does.reply (device_tag x)) (sym after) does.moved;
         selected = ap device_selected after;
       }
 
@@ -239,20 +239,9 @@ module _ (code : ℕ) where
       }
 
   -- by asked blocks it stays a linked tag of this code
-  stays_on : (fs : List Signal) (m : Device) → IsLinked code m → AllByRecursion IsAsked fs → IsLinked code (reached ghosts m fs)
+  stays_on : (fs : List Signal) (m : Device) → IsLinked code m → AllByRecursion IsAskedFrame fs → IsLinked code (reached ghosts m fs)
   stays_on [] m l all = l
   stays_on (f ∷ fs) m l all = stays_on fs (device_after m f) (turns m l f all.0).stays all.1
-
-  -- its step on commands is that of its code, also in the dark
-  commands_are : (m : Device) → IsLinked code m → device_commands m ≡ t4_link_step code
-  commands_are m l = ap device_commands l.is ∙ ap t4_link_step l.coded
-
-  dark_commands_are : (m : Device) → IsLinked code m → device_commands (device_darkened m) ≡ t4_link_step code
-  dark_commands_are m l = ap (λ x. device_commands (device_darkened x)) l.is ∙ ap t4_link_step l.coded
-
-  -- its store is what the tag holds
-  store_shown : (m : Device) → IsLinked code m → device_store m ≡ (device_tag m).store
-  store_shown m l = ap device_store l.is ∙ ap (λ x. (device_tag x).store) (sym l.is)
 
   -- the dark clears its card's end
   dark_card : (m : Device) → IsLinked code m → device_card (device_darkened m) ≡ fresh (device_card m).code
@@ -264,8 +253,5 @@ module _ (code : ℕ) where
   card_tag m l = record {
     tech = ap device_tech l.is;
     steps = λ fs all f a. (turns (reached ghosts m fs) (stays_on fs m l all) f a).steps;
-    same = λ fs all. commands_are (reached ghosts m fs) (stays_on fs m l all) ∙ sym (commands_are m l);
-    dark = λ fs all. dark_commands_are (reached ghosts m fs) (stays_on fs m l all) ∙ sym (commands_are m l);
-    holds = λ fs all. store_shown (reached ghosts m fs) (stays_on fs m l all);
     cleared = λ fs all. dark_card (reached ghosts m fs) (stays_on fs m l all);
   }

@@ -15,7 +15,7 @@ use Rattle.nfca_poll.specs.declared.inventory.Vcrowd.TheVariants.{Nobody}
 use Rattle.nfca_poll.specs.Inventory.{tries, inventory}
 use Rattle.nfca_poll.specs.Rounds.{finding}
 use Rattle.nfca_poll.specs.RoundTrace.{Misses, GivesUp}
-use Rattle.nfca_poll.specs.RoundEnds.{Begins}
+use Rattle.nfca_poll.specs.RoundEnds.{IsFrontOf}
 use Rattle.nfc_bench.specs.declared.command.DeviceId.{DeviceId}
 use Rattle.nfc_bench.specs.declared.command.DeviceId.TheVariants.{A, V}
 use Rattle.nfc_bench.specs.declared.device.Device.{Device}
@@ -72,7 +72,7 @@ TellsStanding Tells (Broken asking.Protocol cs) answer = ⊥
 TellsStanding Tells Astray answer = ⊥
 
 -- Likewise of a Type 4 tag, whose activation is a wait too.
-abbrev pub TellsExchange : (Answer → Type 0) → exchange.Standing → Answer → Type 0
+abbrev pub TellsExchange : (Answer → Type 0) → exchange.IsoStanding → Answer → Type 0
 TellsExchange Tells (exchange.Waits i f cs) answer = ⊥
 TellsExchange Tells (exchange.Rests i) answer = Tells answer
 TellsExchange Tells (exchange.Broken asking.FieldLost) answer = answer ≡ answers.FieldLost
@@ -129,7 +129,7 @@ InventoryEnds ds cards (Err faults.BadAnswer) es answer = ⊥
 -- missed its end. It was disturbed only where each of four rounds had noise.
 abbrev pub FindEnds : List Device → Result (List Picked) PollFault → List Event → List Event → Answer → Type 0
 FindEnds ds (Ok cards) es rest answer =
-    Begins cards (crowd_of ds) × ((cards ≡ crowd_of ds) ⊎ Misses es)
+    IsFrontOf cards (crowd_of ds) × ((cards ≡ crowd_of ds) ⊎ Misses es)
     × (others : Result Vcrowd PollFault) × (follows inventory (receptions rest) ≡ Told others []) × InventoryEnds ds cards others rest answer
 FindEnds ds (Err faults.Nobody) es rest answer = ⊥
 FindEnds ds (Err faults.Disturbed) es rest answer = (rest ≡ []) × (answer ≡ answers.Disturbed) × GivesUp es

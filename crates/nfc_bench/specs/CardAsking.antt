@@ -17,7 +17,7 @@ use Rattle.nfc_bench.specs.declared.entry.SeenKind.TheVariants as seen
 -- Where a reader stands with a Type 4 tag: RATS is sent, after so many bad receptions; or the commands are asked.
 pub data CardStanding : Type 0 where
   Activates : ℕ → CardStanding
-  Exchanges : exchange.Standing → CardStanding
+  Exchanges : exchange.IsoStanding → CardStanding
 
 -- The commands are asked once the tag told its size code.
 abbrev pub told_code : List (List ℕ) → Option ℕ → CardStanding

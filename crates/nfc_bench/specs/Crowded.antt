@@ -5,8 +5,7 @@ use Rattle.nfca_poll.specs.declared.kind.Kind.TheVariants as kinds
 use Rattle.nfca_poll.specs.declared.fault.Picked.{Picked}
 use Rattle.nfca_poll.specs.declared.inventory.Vcrowd.{Vcrowd}
 use Rattle.nfca_poll.specs.declared.inventory.Vcrowd.TheVariants as inventories
-use Rattle.nfca_poll.specs.Crowd.{Card}
-use Rattle.nfca_poll.specs.RoundEnds.{crowd}
+use Rattle.nfca_poll.specs.Crowd.{Card, crowd}
 use Rattle.nfc_bench.specs.declared.command.DeviceId.TheVariants as ids
 use Rattle.nfc_bench.specs.declared.device.Device.{Device}
 use Rattle.nfc_bench.specs.declared.device.Device.TheVariants.{T2, T4, T5}

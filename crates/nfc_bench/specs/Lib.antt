@@ -1,6 +1,8 @@
 pub mod Powered
 pub mod Cards
 pub mod Device
+pub mod LinkCalls
+pub mod Uppers
 pub mod Standing
 pub mod Reading
 pub mod Polling

@@ -2,10 +2,6 @@
 use Rattle.std.specs.Prelude.{ℕ, ◌+◌, ◌*◌, ◌≤◌, List, length}
 use Rattle.std.specs.List.{All}
 
--- the fewest bytes of the capability container of a Type 4 tag
-abbrev pub least_container : ℕ
-least_container = 15
-
 -- how many lines it may have, and how many bytes a line, without its LF
 abbrev pub most_lines : ℕ
 most_lines = 1000

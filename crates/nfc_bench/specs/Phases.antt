@@ -18,7 +18,6 @@ use Rattle.tag_reader.specs.declared.fault.ReadFault.TheVariants as faults
 use Rattle.tag_reader.specs.declared.how.How.{How}
 use Rattle.tag_reader.specs.declared.how.How.TheVariants.{T2, T4, T5}
 use Rattle.nfc_bench.specs.declared.command.DeviceId.{DeviceId}
-use Rattle.nfc_bench.specs.declared.command.DeviceId.TheVariants as ids
 use Rattle.nfc_bench.specs.declared.device.Device.{Device}
 use Rattle.nfc_bench.specs.declared.entry.Answer.{Answer}
 use Rattle.nfc_bench.specs.declared.entry.Answer.TheVariants as answers
@@ -103,11 +102,6 @@ abbrev pub IsUnasked : Device → Type 0
 IsUnasked (placed.T2 d) = Unit {0}
 IsUnasked (placed.T4 d) = is_unlinked d.upper ≡ true
 IsUnasked (placed.T5 p) = Unit {0}
-
--- what an identifier is
-abbrev pub IsId : DeviceId → Type 0
-IsId (ids.A id) = IsIdent id
-IsId (ids.V id) = length id ≡ id_size
 
 -- In a lit field a device stands at a place. It is selected, and all others are aside of it.
 pub record Stands (a : Moment (World Device)) (place : ℕ) (d : Device) : Type 0 where

@@ -2,6 +2,7 @@
 use Rattle.std.specs.Prelude.{◌≡◌, ℕ, ◌^◌, ◌<◌, ◌≤◌, ◌⊎◌, List, [], ◌∷◌, map, Bool, true, codes, length, ◌==◌, if◌then◌else◌, Ok}
 use Rattle.std.specs.Fmt.{decimal}
 use Rattle.hex.specs.Hex.{decode_of}
+use Rattle.t4t_tag.specs.Store.{most_code}
 use Rattle.nfc_base.specs.declared.event.Fate.{Fate}
 use Rattle.nfc_base.specs.declared.event.Fate.TheVariants.{Pass, Damage, Lose, Break}
 use Rattle.nfca_poll.specs.Ident.{IsIdent}
@@ -61,9 +62,6 @@ abbrev pub SpellsSize : List ℕ → ℕ → Type 0
 SpellsSize word n = (word ≡ decimal n) × IsBlockSize n
 
 -- CODE: how long the frames are that a Type 4 tag takes
-abbrev pub most_code : ℕ
-most_code = 8
-
 abbrev pub SpellsCode : List ℕ → ℕ → Type 0
 SpellsCode word n = (word ≡ decimal n) × (n ≤ most_code)
 

@@ -6,8 +6,6 @@ ghost use Rattle.nfc_base.specs.declared.frame.Tech.TheVariants as techs;
 ghost use Rattle.nfc_bench.specs.Device.{device_tech};
 ghost use Rattle.nfc_bench.specs.Legal.{IsAccepted, most_devices, memory_of, state_of};
 ghost use Rattle.nfc_bench.specs.Placed.{device_with};
-ghost use Rattle.t4t_tag.specs.Store.{file_size as named_size};
-ghost use Rattle.nfc_bench.specs.Limits.{least_container};
 ghost use Rattle.nfc_bench.specs.Obeying.{Obeys, IsIdle, Obeyed, state_at, obey_fault_number};
 
 use crate::command::{Command, DeviceId};
@@ -22,7 +20,7 @@ use nfca_poll::{Front, Ident};
 use std::alloc::{AllocError, Global};
 use std::marker::Model;
 use t2t_tag::T2Tag;
-use t4t_tag::T4Tag;
+use t4t_tag::{T4Tag, named_size};
 use t5t_tag::T5Tag;
 use thiserror::Error;
 
@@ -46,12 +44,6 @@ impl ObeyFault {
 
 /// How many devices may stand in the field at once (this project's limit).
 const MOST_DEVICES: usize = 16;
-
-/// The fewest bytes of a capability container of a Type 4 tag, and where it says how long its NDEF file is (NFC Forum Type 4
-/// Tag).
-const LEAST_CONTAINER: usize = 15;
-
-const FILE_SIZE: usize = 11;
 
 /// The memory of a new tag of so many bytes.
 fn memory(alloc: Global, size: usize, head: &[u8]) -> Result<Vec<u8>, AllocError>
@@ -112,16 +104,6 @@ fn place_t2(
     }
 }
 
-/// How many bytes the NDEF file has that a capability container names, where it is long enough to.
-fn file_size(container: &[u8]) -> Option<usize>
-    ensures { MatchOption result (length container.now < least_container) (λ n. (n ≡ named_size container.now) × (n ≤ 65535)) }
-{
-    if container.len() < LEAST_CONTAINER {
-        return None;
-    }
-    Some(container[FILE_SIZE] as usize * 256 + container[FILE_SIZE + 1] as usize)
-}
-
 /// Puts a Type 4 tag into the field.
 fn place_t4(
     alloc: Global,
@@ -136,9 +118,10 @@ fn place_t4(
     ensures refused { IsErrOf result ObeyFault.Refused → (field.new ≡ field.old) }
     ensures cause { IsErrOf result ObeyFault.Refused → IsAccepted (state_at field.old) (Command.PlaceT4 id.now code container.now head.now) → ⊥ }
 {
-    let Some(size) = file_size(container) else {
+    let Some(size) = named_size(container) else {
         return Err(ObeyFault::Refused);
     };
+    let size = size as usize;
     if !is_free(field.listeners(), id.view()) || head.len() > size {
         return Err(ObeyFault::Refused);
     }

@@ -54,9 +54,11 @@ impl T2Upper {
 
 impl Upper for T2Upper {
     ghost use Rattle.nfc_bench.specs.Device.{t2_machine};
-    ghost use Rattle.nfc_bench.specs.Standing.{foreign_keeps, never_waits, clear_keeps};
+    ghost use Rattle.nfc_bench.specs.Uppers.{t2_commands, t2_upper};
 
     ghost machine = { t2_machine };
+
+    ghost commands = { t2_commands };
 
     ghost store = { λ u. u.store };
 
@@ -78,11 +80,7 @@ impl Upper for T2Upper {
         }
     }
 
-    ghost foreign = { foreign_keeps };
-
-    ghost waits = { never_waits };
-
-    ghost keeps = { clear_keeps };
+    ghost laws = { t2_upper };
 }
 
 /// A Type 4 tag as the machine above a listener front. RATS opens a link to it, whose end takes every frame from then on and
@@ -131,9 +129,13 @@ impl T4Upper {
 impl Upper for T4Upper {
     ghost use Rattle.t4t_tag.specs.Store.{store_of};
     ghost use Rattle.nfc_bench.specs.Device.{t4_machine};
-    ghost use Rattle.nfc_bench.specs.Standing.{foreign_card, card_never_waits, clear_card_keeps};
+    ghost use Rattle.nfc_bench.specs.Uppers.{t4_commands, is_linked, t4_upper};
 
     ghost machine = { t4_machine };
+
+    ghost commands = { t4_commands };
+
+    ghost is_open = { is_linked };
 
     ghost store = { λ u. store_of u.tag };
 
@@ -164,11 +166,7 @@ impl Upper for T4Upper {
         }
     }
 
-    ghost foreign = { foreign_card };
-
-    ghost waits = { card_never_waits };
-
-    ghost keeps = { clear_card_keeps };
+    ghost laws = { t4_upper };
 }
 
 /// A Type 5 tag in the field. It is off until the field is lit.
@@ -219,7 +217,7 @@ pub enum Device {
 
 impl Listener for Device {
     ghost use Rattle.nfc_bench.specs.Device.{devices, device_id, device_store, device_ready, device_selected, device_commands};
-    ghost use Rattle.nfc_bench.specs.Standing.{step_keeps, light_keeps, dark_keeps, dark_rests, at_rest, ignores};
+    ghost use Rattle.nfc_bench.specs.Standing.{bounded, own_tech, step_keeps, light_keeps, dark_keeps, light_selects, stays_selected, dark_rests, at_rest, ignores};
 
     ghost machine = { devices };
 
@@ -273,11 +271,19 @@ impl Listener for Device {
         }
     }
 
+    ghost bounded = { bounded };
+
+    ghost own_tech = { own_tech };
+
     ghost step_keeps = { step_keeps };
 
     ghost light_keeps = { light_keeps };
 
     ghost dark_keeps = { dark_keeps };
+
+    ghost light_selects = { light_selects };
+
+    ghost stays_selected = { stays_selected };
 
     ghost dark_rests = { dark_rests };
 
@@ -288,10 +294,13 @@ impl Listener for Device {
 
 impl CardListener for Device {
     ghost use Rattle.nfc_bench.specs.Device.{device_card, device_tag};
+    ghost use Rattle.nfc_bench.specs.Standing.{tag_holds};
 
     ghost card = { device_card };
 
     ghost tag = { device_tag };
+
+    ghost holds = { tag_holds };
 }
 
 impl Device {

@@ -41,6 +41,7 @@ pub fn run_bench<S: Source, K: Sink>(
     ensures status { (result ≡ 0) ⊎ ((2 ≤ result) × (result ≤ 6)) }
 
     ensures done { result ≡ 0 → EndsDone (is_quiet (map string_bytes words.now)) (S.left source.old) (S.left source.new) (K.taken sink.old) (K.taken sink.new) bench.new.journal }
+    ensures still { result ≡ 0 → (S.faults source.new ≡ S.faults source.old) × (K.faults sink.new ≡ K.faults sink.old) }
     ensures refused { result ≡ 2 → EndsRefused (is_quiet (map string_bytes words.now)) (S.left source.old) (K.taken sink.old) (K.taken sink.new) (K.faults sink.old) (K.faults sink.new) bench.new.journal }
     ensures unread { result ≡ 3 → EndsUnread (is_quiet (map string_bytes words.now)) (S.left source.old) (S.left source.new) (K.taken sink.old) (K.taken sink.new) (S.faults source.old) (S.faults source.new) (K.faults sink.old) (K.faults sink.new) bench.new.journal }
     ensures unwritten { result ≡ 4 → EndsUnwritten (is_quiet (map string_bytes words.now)) (S.left source.old) (K.taken sink.old) (K.taken sink.new) (K.faults sink.old) (K.faults sink.new) bench.new.journal }
@@ -101,6 +102,7 @@ fn run_script<S: Source, K: Sink>(
 ) -> Result<(), Stop>
     requires { bench.old.journal ≡ [] }
     ensures ok { OnOk result (EndsDone quiet (S.left source.old) (S.left source.new) (K.taken sink.old) (K.taken sink.new) bench.new.journal) }
+    ensures still { OnOk result ((S.faults source.new ≡ S.faults source.old) × (K.faults sink.new ≡ K.faults sink.old)) }
     ensures err { IfErr result (λ s. RunStops quiet (S.left source.old) (S.left source.new) (K.taken sink.old) (K.taken sink.new) (S.faults source.old) (S.faults source.new) (K.faults sink.old) (K.faults sink.new) bench.new.journal s) }
     ensures stop { ReadsInTime (S.left source.old) (S.left source.new) }
     ensures bound { ReadsAtMost most_read (S.left source.old) (S.left source.new) }

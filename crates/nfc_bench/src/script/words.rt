@@ -14,15 +14,13 @@ use hex::FromHexError;
 use nfc_base::{Fate, Items};
 use nfca_poll::Ident;
 use std::alloc::{AllocError, Global};
+use t4t_tag::MOST_CODE;
 
 /// How many fates a line may have (this project's limit).
 const MOST_FATES: usize = 4000;
 
 /// The most blocks of a tag (this project's limit): a read names a block in one byte.
 const MOST_BLOCKS: u16 = 256;
-
-/// The largest size code of a Type 4 tag (ISO/IEC 14443-4).
-const MOST_CODE: u16 = 8;
 
 /// The first word of a line of several words.
 #[derive(Clone, Copy, Debug, PartialEq, Eq)]
@@ -219,7 +217,7 @@ pub fn code_word(alloc: Global, word: &[u8]) -> Result<Option<u8>, AllocError>
     ensures { IfOk result (λ o. MatchOption o ((n : ℕ) → SpellsCode word.now n → ⊥) (λ n. SpellsCode word.now n)) }
 {
     match number_word(alloc, word)? {
-        Some(n) if n <= MOST_CODE => Ok(Some(n as u8)),
+        Some(n) if n <= MOST_CODE as u16 => Ok(Some(n as u8)),
         _ => Ok(None),
     }
 }

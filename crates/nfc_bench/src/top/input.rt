@@ -1,6 +1,6 @@
 //! Reading a script.
 
-ghost use Rattle.std.specs.Prelude.{◌≡◌, ◌≤◌, ◌++◌, ℕ, List, Option, MatchOption, IfOk};
+ghost use Rattle.std.specs.Prelude.{◌≡◌, ◌≢◌, ◌≤◌, ◌++◌, ℕ, List, Option, MatchOption, IfOk, OnErr};
 ghost use Rattle.nfc_io.specs.Moves.{with_front};
 ghost use Rattle.nfc_bench.specs.Run.{ReadsInTime};
 ghost use Rattle.nfc_bench.specs.Stops.{EndsAt, ReadIs, ReadingEnds};
@@ -39,6 +39,8 @@ pub fn read_script<S: Source>(alloc: Global, source: &mut S) -> Result<Script, A
     ensures ok { IfOk result (λ s. S.left source.old ≡ with_front s.text.items (S.left source.new)) }
     ensures lines { IfOk result (λ s. ReadIs s.text.items s.lengths.items s.ending) }
     ensures cause { IfOk result (λ s. ReadingEnds (S.left source.new) s.ending (S.faults source.old) (S.faults source.new)) }
+    ensures still { IfOk result (λ s. s.ending ≢ Ending.Fault → S.faults source.new ≡ S.faults source.old) }
+    ensures memory { OnErr result (S.faults source.new ≡ S.faults source.old) }
     ensures stop { ReadsInTime (S.left source.old) (S.left source.new) }
     ensures count { S.faults source.old ≤ S.faults source.new }
 {

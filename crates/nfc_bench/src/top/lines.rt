@@ -40,6 +40,7 @@ fn obey_line<K: Sink>(
 ) -> Result<(), Stop>
     ensures ok { OnOk result (LineDone quiet bench.old.journal bench.new.journal line text.now (K.taken sink.old) (K.taken sink.new)) }
     ensures err { IfErr result (λ s. LineStops quiet bench.old.journal bench.new.journal line text.now (K.taken sink.old) (K.taken sink.new) (K.faults sink.old) (K.faults sink.new) s) }
+    ensures still { OnOk result (K.faults sink.new ≡ K.faults sink.old) }
     ensures count { K.faults sink.old ≤ K.faults sink.new }
 {
     let command = match parse_line(alloc, text) {
@@ -76,6 +77,7 @@ pub fn obey_lines<K: Sink>(
     requires lines { ReadIs script.now.text.items script.now.lengths.items script.now.ending }
     ensures ok { OnOk result (TextDone quiet script.now.text.items script.now.ending bench.new.journal (K.taken sink.old) (K.taken sink.new)) }
     ensures err { IfErr result (λ s. TextStops quiet script.now.text.items script.now.ending bench.new.journal (K.taken sink.old) (K.taken sink.new) (K.faults sink.old) (K.faults sink.new) s) }
+    ensures still { OnOk result (K.faults sink.new ≡ K.faults sink.old) }
     ensures count { K.faults sink.old ≤ K.faults sink.new }
 {
     let mut rest = script.text.as_slice();

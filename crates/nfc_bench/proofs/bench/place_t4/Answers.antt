@@ -17,7 +17,7 @@ returns-in-Ok-put_in-clause-ok c =
     let old : Air Device = c.args.field.now in
     let container : List ℕ = c.args.container.now in
     let file : List ℕ = memory_of (file_size container) c.args.head.now in
-    let held : c.in-Ok-memory.file.items ≡ file = c.in-Ok-memory.ensures ∙ ap (λ n. memory_of n c.args.head.now) c.in-Some.ensures.0 in
+    let held : c.in-Ok-memory.file.items ≡ file = c.in-Ok-memory.ensures ∙ ap (λ n. memory_of n c.args.head.now) c.in-Some.ensures in
     let tag : c.in-Ok-new.tag ≡ fresh c.args.code container file =
     c.in-Ok-new.ensures.ok ∙ ap (λ x. fresh c.args.code x c.in-Ok-memory.file.items) c.in-Ok.ensures.items ∙ ap (fresh c.args.code container) held in
     let near : c.new-2.result ≡ record { tag = fresh c.args.code container file; link = None } = c.new-2.ensures ∙ ap (λ (t : T4State). record { tag = t; link = None }) tag in

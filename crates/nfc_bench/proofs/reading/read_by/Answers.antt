@@ -17,24 +17,28 @@ read-requires-clause-ready c over =
     let new : IsNew (seen c.args.link.now) = record { start = c.requires.fresh.0; last = c.requires.fresh.1; over = c.requires.fresh.2 } in
     new_ready (seen c.args.link.now) new c.args.how c.requires.tag
 
-pub read-requires-clause-tag : goal.read-requires-clause-tag
-read-requires-clause-tag c =
+pub read-requires-clause-of : goal.read-requires-clause-of
+read-requires-clause-of c =
     let new : IsNew (seen c.args.link.now) = record { start = c.requires.fresh.0; last = c.requires.fresh.1; over = c.requires.fresh.2 } in
-    new_is_tag (seen c.args.link.now) new c.args.how c.requires.tag
+    let tag = new_is_tag (seen c.args.link.now) new c.args.how c.requires.tag in
+    record { kind = tag.1.kind; named = tag.1.named }
 
 pub told-requires : goal.told-requires
 told-requires c =
     let new : IsNew (seen c.args.link.now) = record { start = c.requires.fresh.0; last = c.requires.fresh.1; over = c.requires.fresh.2 } in
-    ends_may (seen c.args.link.now) new c.args.how c.requires.tag (seen c.read.new.link) c.in-Err.ensures.moves c.in-Err.fault c.in-Err.ensures.err
+    let tag = new_is_tag (seen c.args.link.now) new c.args.how c.requires.tag in
+    ends_may (seen c.args.link.now) new c.args.how c.requires.tag (seen c.read.new.link) c.in-Err.ensures.moves c.in-Err.fault (c.in-Err.ensures.err tag.0 tag.1)
 
 pub returns-in-Ok-clause-tells : goal.returns-in-Ok-clause-tells
 returns-in-Ok-clause-tells c =
     let new : IsNew (seen c.args.link.now) = record { start = c.requires.fresh.0; last = c.requires.fresh.1; over = c.requires.fresh.2 } in
+    let tag = new_is_tag (seen c.args.link.now) new c.args.how c.requires.tag in
     let P : Answer → Type 0 = λ a. (d : Device) → Stands (moment c.args.link.now.field.now) c.args.link.now.place d → Reads (moment c.args.link.now.field.now) (moment c.read.new.link.field.now) d a in
     subst P (sym c.message.ensures)
-    (ends_found (seen c.args.link.now) new c.args.how c.requires.tag (seen c.read.new.link) c.in-Ok.ensures.moves c.in-Ok.found c.in-Ok.ensures.whole c.in-Ok.ensures.goes_on c.in-Ok.ensures.ok)
+    (ends_found (seen c.args.link.now) new c.args.how c.requires.tag (seen c.read.new.link) c.in-Ok.ensures.moves c.in-Ok.found c.in-Ok.ensures.whole (c.in-Ok.ensures.goes_on tag.0 tag.1) c.in-Ok.ensures.ok)
 
 pub returns-in-Err-clause-tells : goal.returns-in-Err-clause-tells
 returns-in-Err-clause-tells c =
     let new : IsNew (seen c.args.link.now) = record { start = c.requires.fresh.0; last = c.requires.fresh.1; over = c.requires.fresh.2 } in
-    ends_told (seen c.args.link.now) new c.args.how c.requires.tag (seen c.read.new.link) c.in-Err.ensures.moves c.in-Err.fault c.told.result c.told.ensures c.in-Err.ensures.asked c.in-Err.ensures.whole c.in-Err.ensures.goes_on c.in-Err.ensures.err
+    let tag = new_is_tag (seen c.args.link.now) new c.args.how c.requires.tag in
+    ends_told (seen c.args.link.now) new c.args.how c.requires.tag (seen c.read.new.link) c.in-Err.ensures.moves c.in-Err.fault c.told.result c.told.ensures c.in-Err.ensures.asked c.in-Err.ensures.whole (c.in-Err.ensures.goes_on tag.0 tag.1) (c.in-Err.ensures.err tag.0 tag.1)

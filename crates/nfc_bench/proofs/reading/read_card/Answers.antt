@@ -1,9 +1,12 @@
 use Rattle.std.proofs.Common.{rules}
-use Rattle.nfc_bench.proofs.CardReading.{link_is, ends_linked, may_fail, ends_unanswered}
+use Rattle.nfc_bench.proofs.CardReading.{opened_at, opened_fresh, link_is, ends_linked, may_fail, ends_unanswered}
 use Rattle.nfc_bench.proofs.reading.read_card.Goals as goal
 
 pub read_linked-requires-clause-tag : goal.read_linked-requires-clause-tag
-read_linked-requires-clause-tag c = (c.requires.0, link_is c.args.field.now c.args.place c.requires c.in-Ok.link c.in-Ok.ensures.fresh.0 c.in-Ok.ensures.ok)
+read_linked-requires-clause-tag c = (c.requires.0, link_is c.args.field.now c.args.place c.requires c.in-Ok.link (opened_at c.args.field.now c.args.place c.in-Ok.link c.in-Ok.ensures.turns) c.in-Ok.ensures.ok)
+
+pub read_linked-requires-clause-fresh : goal.read_linked-requires-clause-fresh
+read_linked-requires-clause-fresh c = opened_fresh c.args.field.now c.args.place c.in-Ok.link c.in-Ok.ensures.turns
 
 pub unanswered-requires : goal.unanswered-requires
 unanswered-requires c =
@@ -11,7 +14,7 @@ unanswered-requires c =
 
 pub returns-in-Ok : goal.returns-in-Ok
 returns-in-Ok c =
-    ends_linked c.args.field.now c.args.place c.requires c.in-Ok.link c.in-Ok.ensures.fresh.0 c.in-Ok.ensures.ok
+    ends_linked c.args.field.now c.args.place c.requires c.in-Ok.link (opened_at c.args.field.now c.args.place c.in-Ok.link c.in-Ok.ensures.turns) c.in-Ok.ensures.ok
     c.read_linked.new.link.field.now _ (search rules) c.read_linked.result c.read_linked.ensures.tells
 
 pub returns-in-Err : goal.returns-in-Err

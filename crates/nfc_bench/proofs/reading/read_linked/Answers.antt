@@ -21,24 +21,27 @@ read-requires-clause-ready c over =
     let new : IsNewLink (seen c.args.link.now) = record { start = c.requires.fresh.0; told = c.requires.fresh.1; last = c.requires.fresh.2; over = c.requires.fresh.3 } in
     new_ready (seen c.args.link.now) new c.requires.tag.0 c.requires.tag.1
 
-pub read-requires-clause-tag : goal.read-requires-clause-tag
-read-requires-clause-tag c =
+pub read-requires-clause-of : goal.read-requires-clause-of
+read-requires-clause-of c =
     let new : IsNewLink (seen c.args.link.now) = record { start = c.requires.fresh.0; told = c.requires.fresh.1; last = c.requires.fresh.2; over = c.requires.fresh.3 } in
-    (size_of c.requires.tag.0, new_tag (seen c.args.link.now) new c.requires.tag.0 c.requires.tag.1)
+    let tag = new_tag (seen c.args.link.now) new c.requires.tag.0 c.requires.tag.1 in
+    record { kind = tag.kind; named = tag.named }
 
 pub told-requires : goal.told-requires
 told-requires c =
     let new : IsNewLink (seen c.args.link.now) = record { start = c.requires.fresh.0; told = c.requires.fresh.1; last = c.requires.fresh.2; over = c.requires.fresh.3 } in
+    let tag = new_tag (seen c.args.link.now) new c.requires.tag.0 c.requires.tag.1 in
     ends_may (seen c.args.link.now) new c.requires.tag.0 c.requires.tag.1 (seen c.read.new.link) c.in-Err.ensures.moves
-    (from (seen c.args.link.now) new c.requires.tag.0 c.requires.tag.1).state.store c.in-Err.fault c.in-Err.ensures.err
+    (from (seen c.args.link.now) new c.requires.tag.0 c.requires.tag.1).state.store c.in-Err.fault (c.in-Err.ensures.err (size_of c.requires.tag.0) tag)
 
 pub returns-in-Ok-clause-tells : goal.returns-in-Ok-clause-tells
 returns-in-Ok-clause-tells c d linked =
     let new : IsNewLink (seen c.args.link.now) = record { start = c.requires.fresh.0; told = c.requires.fresh.1; last = c.requires.fresh.2; over = c.requires.fresh.3 } in
+    let tag = new_tag (seen c.args.link.now) new d linked in
     let P : Answer → Type 0 = λ a. ReadsOn (moment c.args.link.now.field.now) (moment c.read.new.link.field.now) d c.args.link.now.reader a in
     subst P (sym c.message.ensures)
-    (ends_found (seen c.args.link.now) new d linked (seen c.read.new.link) c.in-Ok.ensures.moves c.in-Ok.found c.in-Ok.ensures.stays.store
-    c.in-Ok.ensures.whole c.in-Ok.ensures.goes_on c.in-Ok.ensures.ok)
+    (ends_found (seen c.args.link.now) new d linked (seen c.read.new.link) c.in-Ok.ensures.moves c.in-Ok.found (c.in-Ok.ensures.stays (size_of d) tag).store
+    c.in-Ok.ensures.whole (c.in-Ok.ensures.goes_on (size_of d) tag) c.in-Ok.ensures.ok)
 
 pub returns-in-Err-clause-tells : goal.returns-in-Err-clause-tells
 returns-in-Err-clause-tells c = by_answer c.told.result c.told.ensures
@@ -49,5 +52,6 @@ returns-in-Err-clause-tells c = by_answer c.told.result c.told.ensures
     by_answer (Err e) told = tt
     by_answer (Ok answer) told = λ d linked.
         (let new : IsNewLink (seen c.args.link.now) = record { start = c.requires.fresh.0; told = c.requires.fresh.1; last = c.requires.fresh.2; over = c.requires.fresh.3 } in
-        ends_told (seen c.args.link.now) new d linked (seen c.read.new.link) c.in-Err.ensures.moves c.in-Err.fault answer told c.in-Err.ensures.stays.store
-        c.in-Err.ensures.asked c.in-Err.ensures.whole c.in-Err.ensures.goes_on c.in-Err.ensures.err)
+        let tag = new_tag (seen c.args.link.now) new d linked in
+        ends_told (seen c.args.link.now) new d linked (seen c.read.new.link) c.in-Err.ensures.moves c.in-Err.fault answer told (c.in-Err.ensures.stays (size_of d) tag).store
+        c.in-Err.ensures.asked c.in-Err.ensures.whole (c.in-Err.ensures.goes_on (size_of d) tag) (c.in-Err.ensures.err (size_of d) tag))

@@ -1,4 +1,4 @@
-use Rattle.std.proofs.Common.{◌≤◌, ℕ, List, [], ◌++◌, Option, Some, length, take, sym, ◌∙◌, ap, subst, arith}
+use Rattle.std.proofs.Common.{◌≤◌, ℕ, List, [], ◌++◌, Option, Some, length, take, refl, sym, ◌∙◌, ap, subst, arith}
 use Rattle.std.proofs.lemmas.Grind.{common_steps}
 use Rattle.nfc_io.specs.Moves.{with_front}
 use Rattle.nfc_io.proofs.Moves.{with_front-nil}
@@ -18,7 +18,7 @@ reading-init g c =
       read = sym (with_front-nil o) ∙ ap (λ t. with_front t o) (sym c.new-text.ensures.items);
       size = grind (arith, common_steps);
       place = subst E (sym c.new-text.ensures.items) (subst L (sym c.new-lengths.ensures.items) ends_at_start);
-      count = omega arith;
+      still = refl;
     }
 
 pub returns-in_err-extend_from_slice-in-Ok-clause-stop : goal.returns-in_err-extend_from_slice-in-Ok-clause-stop

@@ -33,7 +33,7 @@ returns-in-Skip-clause-ok g c =
 pub returns-in_default-last_text : goal.returns-in_default-last_text
 returns-in_default-last_text g c =
     let it = asked c.args.bench.now.journal c.obey.new.self.journal c.args.line c.args.text.now c.in-Ok.command c.in-Ok.ensures.ok c.in-Ok-obey.ensures.ok c.in_default.not-Skip in
-    record { ok = tt; err = record { journal = inr (it.1, it.0.entry, it.2); same = refl }; count = omega arith }
+    record { ok = tt; err = record { journal = inr (it.1, it.0.entry, it.2); same = refl }; still = tt; count = omega arith }
 
 pub returns-in-Ok-write_all : goal.returns-in-Ok-write_all
 returns-in-Ok-write_all g c =
@@ -45,6 +45,7 @@ returns-in-Ok-write_all g c =
         written = c.in-Ok-write_all.ensures.ok ∙ ap (with_end (g.K.Sink.taken c.args.sink.now)) (text ∙ sym (report_one c.args.quiet it.1.entries it.0.entry it.2));
       };
       err = tt;
+      still = c.in-Ok-write_all.ensures.still;
       count = c.write_all.ensures.count;
     }
 
@@ -62,5 +63,6 @@ returns g c =
         written = subst G text c.in-Err.ensures.err;
         risen = c.in-Err.ensures.cause;
       };
+      still = tt;
       count = c.write_all.ensures.count;
     }

@@ -14,7 +14,7 @@ lines-init g c =
       progress = subst P (sym c.as_slice-rest.ensures.value) (progress_start c.args.quiet c.args.script.now.text.items c.args.bench.now.journal (g.K.Sink.taken c.args.sink.now) c.requires.empty);
       left = subst L (sym c.as_slice-rest.ensures.value) (left_start c.args.script.now.text.items c.args.script.now.lengths.items c.args.script.now.ending c.requires.lines);
       number = refl;
-      count = omega arith;
+      still = refl;
     }
 
 pub split_at-requires : goal.split_at-requires
@@ -42,7 +42,7 @@ returns-in-Err-clause-err g c =
     let number : c.lines.line ≡ suc k = omega (arith, c.lines.invariant.number) in
     line_stops c.args.quiet c.args.script.now.text.items rest c.split_at.result.0.now c.args.script.now.ending c.lines.bench.journal c.obey_line.new.bench.journal c.lines.line t t1 t2
     (g.K.Sink.faults c.args.sink.now) (g.K.Sink.faults c.lines.sink) (g.K.Sink.faults c.obey_line.new.sink) c.in-Err.stop
-    c.lines.invariant.progress (is_next_by_lf rest c.split_at.result.0.now (drop 1 (drop (get_or lengths k 0) rest)) c.args.script.now.ending first.cut) first.short (omega (arith, first.room)) c.lines.invariant.count c.in-Err.ensures.err
+    c.lines.invariant.progress (is_next_by_lf rest c.split_at.result.0.now (drop 1 (drop (get_or lengths k 0) rest)) c.args.script.now.ending first.cut) first.short (omega (arith, first.room)) (omega (arith, c.lines.invariant.still)) c.in-Err.ensures.err
 
 pub split_at-requires-in-lines : goal.split_at-requires-in-lines
 split_at-requires-in-lines g c =
@@ -79,7 +79,7 @@ lines-preserved g c =
           c.lines.invariant.progress first.cut first.short (omega (arith, first.room, c.lines.invariant.number)) c.in-Ok.ensures.ok);
       left = subst L (sym left) (subst D (let e : suc k ≡ k + 1 = omega arith in e) cut.left);
       number = omega (arith, c.lines.invariant.number);
-      count = omega (arith, c.lines.invariant.count, c.obey_line.ensures.count);
+      still = omega (arith, c.lines.invariant.still, c.in-Ok.ensures.still);
     }
 
 pub returns-in-End-2-clause-ok : goal.returns-in-End-2-clause-ok
@@ -116,7 +116,7 @@ returns-in-End-2-clause-err g c =
     (λ s. LineStops c.args.quiet c.lines.bench.journal c.obey_line-in-End-2.new.bench.journal c.lines.line rest t1 t2 (g.K.Sink.faults c.lines.sink) (g.K.Sink.faults c.obey_line-in-End-2.new.sink) s)
     (λ s. TextStops c.args.quiet c.args.script.now.text.items c.args.script.now.ending c.obey_line-in-End-2.new.bench.journal t t2 (g.K.Sink.faults c.args.sink.now) (g.K.Sink.faults c.obey_line-in-End-2.new.sink) s)
     (λ s stops. line_stops c.args.quiet c.args.script.now.text.items rest rest c.args.script.now.ending c.lines.bench.journal c.obey_line-in-End-2.new.bench.journal c.lines.line t t1 t2
-    (g.K.Sink.faults c.args.sink.now) (g.K.Sink.faults c.lines.sink) (g.K.Sink.faults c.obey_line-in-End-2.new.sink) s c.lines.invariant.progress (is_next_by_end rest c.args.script.now.ending left.none some c.in-End-2.is) left.fits (omega (arith, room, c.lines.invariant.number)) c.lines.invariant.count stops)
+    (g.K.Sink.faults c.args.sink.now) (g.K.Sink.faults c.lines.sink) (g.K.Sink.faults c.obey_line-in-End-2.new.sink) s c.lines.invariant.progress (is_next_by_end rest c.args.script.now.ending left.none some c.in-End-2.is) left.fits (omega (arith, room, c.lines.invariant.number)) (omega (arith, c.lines.invariant.still)) stops)
     c.obey_line-in-End-2.ensures.err
 
 pub returns-in-Fault-clause-err : goal.returns-in-Fault-clause-err

@@ -1,18 +1,17 @@
 -- What a reader calls devices with while it polls is no frame for a tag: it spells no command of a Type 2 tag, isn't RATS, and
 -- spells no block of a link.
 use Rattle.std.proofs.Common.{◌≡◌, ℕ, ◌+◌, ◌-◌, ◌/◌, ◌%◌, ◌≤◌, List, [], ◌∷◌, length, drop, slice_index, Bool, true, false, ◌==◌, ◌&&◌, if◌then◌else◌, nat_lt, nat_le, Option, Some, None, refl, ◌∙◌, ap, arith}
-use Rattle.nfc_base.specs.Signal.{Signal}
+use Rattle.nfc_base.specs.Signal.{Signal, is_nfc_a}
 use Rattle.nfca_poll.specs.Calls.{Call, Calls, Other, Sens, All, Slp, Sdd, Sel, call_of, is_short, is_slp, is_sdd, is_sel, is_sel_cmd, is_sdd_par, known_count, known_bits, cmd_level, named_level, all_known}
 use Rattle.nfca_poll.specs.declared.upper.UpStep.{UpStep}
 use Rattle.nfca_poll.specs.declared.upper.UpStep.TheVariants as steps
 use Rattle.nfc_base.specs.Bits.{bit_count}
 use Rattle.t2t_tag.specs.declared.command.T2Command.TheVariants.{Read, Write}
-use Rattle.t2t_tag.specs.Spelling as t2
 use Rattle.t2t_tag.specs.Spelling.{command_of, spelled_command}
 use Rattle.t4t_tag.specs.Store.{T4State}
 use Rattle.isodep_link.specs.declared.block.Block.{Block}
 use Rattle.isodep_link.specs.declared.block.Block.TheVariants.{Ack, Nak, Deselect}
-use Rattle.isodep_link.specs.Blocks.{block_of, sort_block, short_block, spelled_block, is_nfc_a, info_block}
+use Rattle.isodep_link.specs.Blocks.{block_of, sort_block, short_block, spelled_block, info_block}
 use Rattle.isodep_link.specs.Sizes.{is_rats}
 use Rattle.isodep_link.specs.Card.{CardState, CardTurn, card_table, framed, stays, heeded, fresh}
 use Rattle.nfc_bench.specs.Device.{by_card, linked, t4_did}
@@ -57,7 +56,7 @@ none_whole false true bytes h = refl
 none_whole false false bytes h = refl
 
 pub no_command : (f : Signal) → BeginsAsCalls f → spelled_command f ≡ None
-no_command f h = none_whole (f.tail == 0) (t2.is_nfc_a f.tech) f.bytes (λ t. h (is_zero f.tail t))
+no_command f h = none_whole (f.tail == 0) (is_nfc_a f.tech) f.bytes (λ t. h (is_zero f.tail t))
 
 -- nor does RATS
 pub no_rats : (f : Signal) → BeginsAsCalls f → is_rats f ≡ false
