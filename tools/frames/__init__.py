@@ -1,0 +1,1 @@
+"""What the frames of a report are, one module for each protocol."""
