@@ -37,7 +37,12 @@ impl<L> Model for Field<L> {
 
     ghost Value = { Air L };
 
-    ghost view = { λ f. record { lit = f.lit; listeners = f.listeners.items; fates = f.fates.items; trace = f.trace.items } };
+    ghost view = { λ f. record {
+      lit = f.lit;
+      listeners = f.listeners.items;
+      fates = f.fates.items;
+      trace = f.trace.items;
+    } };
 }
 
 impl<L: Listener> Field<L> {
@@ -58,7 +63,8 @@ impl<L: Listener> Field<L> {
     pub fn put_in(&mut self, listener: L) -> Result<usize, AirFault>
     where
         L: Drop,
-        ensures ok { IfOk result (λ place. (place ≡ length self.old.listeners) × (self.new ≡ record self.old { listeners = self.old.listeners ++ L.machine.darkened listener ∷ [] })) }
+        ensures ok { IfOk result (λ place. (place ≡ length self.old.listeners)
+            × (self.new ≡ record self.old { listeners = self.old.listeners ++ L.machine.darkened listener ∷ [] })) }
         ensures err { OnErr result ((self.new ≡ self.old) × (result ≡ Err Memory)) }
     {
         let place = self.listeners.len();
@@ -131,7 +137,8 @@ impl<L: Listener> Field<L> {
 
     /// Darkens and lights the field. It uses no fate.
     pub fn reset(&mut self) -> Result<(), AirFault>
-        ensures ok { OnOk result (self.new ≡ after_event self.old Reset self.old.fates (reset_by L.machine (world self.old))) }
+        ensures ok { OnOk result (self.new
+            ≡ after_event self.old Reset self.old.fates (reset_by L.machine (world self.old))) }
         ensures err { OnErr result ((self.new ≡ self.old) × (result ≡ Err Memory)) }
     {
         if self.trace.push(Event::Reset).is_err() {
@@ -145,7 +152,8 @@ impl<L: Listener> Field<L> {
     /// What a transmission with this fate comes to, where `heard` is what passes. At a Break the field goes dark.
     fn settle(&mut self, heard: Heard, fate: Fate) -> Result<Heard, AirFault>
         ensures result { result ≡ settled heard fate }
-        ensures left { (self.new.trace ≡ self.old.trace) × (self.new.fates ≡ self.old.fates) × (world self.new ≡ came_back L.machine (world self.old) fate) }
+        ensures left { (self.new.trace ≡ self.old.trace) × (self.new.fates ≡ self.old.fates)
+            × (world self.new ≡ came_back L.machine (world self.old) fate) }
         ensures places { length self.new.listeners ≡ length self.old.listeners }
     {
         match fate {
@@ -163,7 +171,8 @@ impl<L: Listener> Field<L> {
     /// One turn: a request, and what the listeners and the far end above them make of it. In the dark nothing
     /// happens. `Memory` comes before anything happens, or where the far end has stopped for want of memory.
     pub fn transmit<A: Answerer>(&mut self, request: &Frame, far: &mut A) -> Result<Heard, AirFault>
-        ensures turn { Transmits L.machine A.restarts A.steps A.stops A.is_stuck self.old request.now far.old result self.new far.new }
+        ensures turn { Transmits L.machine A.restarts A.steps A.stops A.is_stuck
+            self.old request.now far.old result self.new far.new }
         ensures places { length self.new.listeners ≡ length self.old.listeners }
     {
         if !self.lit {

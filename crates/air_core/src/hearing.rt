@@ -20,8 +20,11 @@ fn meet<L: Listener, A: Answerer>(
     frame: &Frame,
     far: &mut A,
 ) -> Result<Option<Frame>, AllocError>
-    ensures ok { IfOk result (λ o. Meets L.machine A.restarts A.steps frame.now listener.old far.old o listener.new far.new) }
-    ensures err { OnErr result (Stop A.stops A.is_stuck (hands_over L.machine listener.old frame.now) (stepped_by L.machine listener.old frame.now) far.old listener.new far.new) }
+    ensures ok { IfOk result (λ o. Meets L.machine A.restarts A.steps
+        frame.now listener.old far.old o listener.new far.new) }
+    ensures err { OnErr result
+        (Stop A.stops A.is_stuck (hands_over L.machine listener.old frame.now)
+        (stepped_by L.machine listener.old frame.now) far.old listener.new far.new) }
 {
     if listener.tech() == frame.tech() {
         listener.hear(alloc, frame, far)
@@ -37,9 +40,12 @@ pub fn hear_all<L: Listener, A: Answerer>(
     frame: &Frame,
     far: &mut A,
 ) -> Result<Answers, AllocError>
-    ensures ok { IfOk result (λ a. (answers : List Signal) × HearAll L.machine A.restarts A.steps frame.now listeners.old far.old answers listeners.new far.new × (joint_with a [] ≡ joint answers)) }
+    ensures ok { IfOk result (λ a. (answers : List Signal)
+        × HearAll L.machine A.restarts A.steps frame.now listeners.old far.old answers listeners.new far.new
+        × (joint_with a [] ≡ joint answers)) }
     ensures fits { IfOk result IsJoined }
-    ensures err { OnErr result (HearSome L.machine A.restarts A.steps A.stops A.is_stuck frame.now listeners.old far.old listeners.new far.new) }
+    ensures err { OnErr result (HearSome L.machine A.restarts A.steps A.stops A.is_stuck
+        frame.now listeners.old far.old listeners.new far.new) }
 {
     let mut answers = Answers::Nothing;
     for listener in listeners.iter_mut() {

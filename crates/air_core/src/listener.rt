@@ -51,37 +51,51 @@ pub trait Listener {
         frame: &Frame,
         far: &mut A,
     ) -> Result<Option<Frame>, AllocError>
-        ensures ok { IfOk result (λ o. Step A.restarts A.steps (machine.handed self.old frame.now) (machine.answer self.old frame.now) (machine.after self.old frame.now) far.old o self.new far.new) }
-        ensures err { OnErr result (Stop A.stops A.is_stuck (machine.handed self.old frame.now) (machine.after self.old frame.now) far.old self.new far.new) };
+        ensures ok { IfOk result (λ o. Step A.restarts A.steps (machine.handed self.old frame.now)
+            (machine.answer self.old frame.now) (machine.after self.old frame.now) far.old o self.new far.new) }
+        ensures err { OnErr result
+            (Stop A.stops A.is_stuck (machine.handed self.old frame.now)
+            (machine.after self.old frame.now) far.old self.new far.new) };
 
     /// What is handed over has at most 2,178 bytes.
-    ghost bounded: { (l : Self) (f : Signal) (payload : List ℕ) → machine.handed l f ≡ Hands payload → length payload ≤ 2178 };
+    ghost bounded: { (l : Self) (f : Signal) (payload : List ℕ) → machine.handed l f ≡ Hands payload
+        → length payload ≤ 2178 };
 
     /// An answer is of its technology.
-    ghost own_tech: { (l : Self) (f g : Signal) (reply : Option (List ℕ)) → machine.answer l f reply ≡ Some g → g.tech ≡ machine.tech l };
+    ghost own_tech: { (l : Self) (f g : Signal) (reply : Option (List ℕ)) → machine.answer l f reply ≡ Some g
+        → g.tech ≡ machine.tech l };
 
     /// A step changes neither technology nor identifier, nor its step on commands: no frame locks a block.
-    ghost step_keeps: { (l : Self) (f : Signal) (reply : Option (List ℕ)) → StaysSame machine.tech identifier commands l (machine.after l f reply) };
+    ghost step_keeps: { (l : Self) (f : Signal) (reply : Option (List ℕ))
+        → StaysSame machine.tech identifier commands l (machine.after l f reply) };
 
     /// Nor does light, which keeps the store too.
-    ghost light_keeps: { (l : Self) → StaysSame machine.tech identifier commands l (machine.woken l) × (store (machine.woken l) ≡ store l) };
+    ghost light_keeps: { (l : Self) → StaysSame machine.tech identifier commands l (machine.woken l)
+        × (store (machine.woken l) ≡ store l) };
 
     /// Nor does dark.
-    ghost dark_keeps: { (l : Self) → StaysSame machine.tech identifier commands l (machine.darkened l) × (store (machine.darkened l) ≡ store l) };
+    ghost dark_keeps: { (l : Self) → StaysSame machine.tech identifier commands l (machine.darkened l)
+        × (store (machine.darkened l) ≡ store l) };
 
     /// A device of another technology than NFC-A is selected by light.
     ghost light_selects: { (l : Self) → (machine.tech l ≡ techs.A → ⊥) → is_selected (machine.woken l) ≡ true };
 
     /// It stays so at each frame.
-    ghost stays_selected: { (l : Self) (f : Signal) (reply : Option (List ℕ)) → (machine.tech l ≡ techs.A → ⊥) → is_selected l ≡ true → is_selected (machine.after l f reply) ≡ true };
+    ghost stays_selected: { (l : Self) (f : Signal) (reply : Option (List ℕ)) → (machine.tech l ≡ techs.A → ⊥)
+        → is_selected l ≡ true → is_selected (machine.after l f reply) ≡ true };
 
     /// In the dark it is neither ready nor selected.
-    ghost dark_rests: { (l : Self) → (is_ready (machine.darkened l) ≡ false) × (is_selected (machine.darkened l) ≡ false) };
+    ghost dark_rests: { (l : Self) → (is_ready (machine.darkened l) ≡ false)
+        × (is_selected (machine.darkened l) ≡ false) };
 
     /// An NFC-A device that is neither ready nor selected is silent at each frame of whole bytes, hands nothing over
     /// and stays neither.
-    ghost rests: { (l : Self) (bytes : List ℕ) → machine.tech l ≡ techs.A → is_ready l ≡ false → is_selected l ≡ false → (machine.handed l (whole_a bytes) ≡ Untouched) × (machine.answer l (whole_a bytes) None ≡ None) × (is_ready (machine.after l (whole_a bytes) None) ≡ false) × (is_selected (machine.after l (whole_a bytes) None) ≡ false) };
+    ghost rests: { (l : Self) (bytes : List ℕ) → machine.tech l ≡ techs.A → is_ready l ≡ false
+        → is_selected l ≡ false → (machine.handed l (whole_a bytes) ≡ Untouched)
+        × (machine.answer l (whole_a bytes) None ≡ None) × (is_ready (machine.after l (whole_a bytes) None) ≡ false)
+        × (is_selected (machine.after l (whole_a bytes) None) ≡ false) };
 
     /// At a frame that its technology addresses to another identifier a device is silent, and hands nothing over.
-    ghost ignores: { (l : Self) (other : List ℕ) (f : Signal) → IsAddressedIn (machine.tech l) other f → (other ≡ identifier l → ⊥) → (machine.handed l f ≡ Untouched) × (machine.answer l f None ≡ None) };
+    ghost ignores: { (l : Self) (other : List ℕ) (f : Signal) → IsAddressedIn (machine.tech l) other f
+        → (other ≡ identifier l → ⊥) → (machine.handed l f ≡ Untouched) × (machine.answer l f None ≡ None) };
 }

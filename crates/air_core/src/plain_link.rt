@@ -31,7 +31,8 @@ impl<'a, L: Listener> PlainLink<'a, L> {
         requires tag { HasPlainTag L.Listener field.old place }
         ensures same { result.field.ghost_name ≡ field.entry.ghost_name }
         ensures field { result.field.now ≡ field.old }
-        ensures fresh { (result.place ≡ place) × (result.start ≡ length field.old.trace) × (result.last ≡ None) × (result.over ≡ None) }
+        ensures fresh { (result.place ≡ place) × (result.start ≡ length field.old.trace) × (result.last ≡ None)
+            × (result.over ≡ None) }
     {
         let start = field.trace().len();
         PlainLink {
@@ -76,9 +77,11 @@ impl<'a, L: Listener> TagLink for PlainLink<'a, L> {
 
     ghost lenders = { λ p. p.field.ghost_name ∷ [] };
 
-    ghost ready = { λ p. p.over ≡ None → IsPlainReady L.Listener (plain_seen p.field.now p.place p.start p.last p.over) };
+    ghost ready = { λ p. p.over ≡ None
+        → IsPlainReady L.Listener (plain_seen p.field.now p.place p.start p.last p.over) };
 
-    ghost moves = { λ a b. PlainMoves L.Listener (plain_seen a.field.now a.place a.start a.last a.over) (plain_seen b.field.now b.place b.start b.last b.over) };
+    ghost moves = { λ a b. PlainMoves L.Listener (plain_seen a.field.now a.place a.start a.last a.over)
+        (plain_seen b.field.now b.place b.start b.last b.over) };
 
     fn ask(&mut self, _alloc: Global, command: &Frame) -> Result<Frame, AskFault> {
         if let Some(fault) = self.over {

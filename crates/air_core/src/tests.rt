@@ -26,7 +26,14 @@ impl Listener for Beacon {
     ghost use Rattle.nfc_base.specs.Far.{Untouched};
     ghost use Rattle.nfc_base.specs.declared.frame.Tech.TheVariants as techs;
 
-    ghost machine = { record { tech = λ l. techs.A; handed = λ l f. Untouched; answer = λ l f reply. if l.lit then Some (whole_a (l.says ∷ [])) else None; after = λ l f reply. if l.lit then record l { obeyed = true } else l; woken = λ l. record l { lit = true }; darkened = λ l. record l { lit = false } } };
+    ghost machine = { record {
+      tech = λ l. techs.A;
+      handed = λ l f. Untouched;
+      answer = λ l f reply. if l.lit then Some (whole_a (l.says ∷ [])) else None;
+      after = λ l f reply. if l.lit then record l { obeyed = true } else l;
+      woken = λ l. record l { lit = true };
+      darkened = λ l. record l { lit = false };
+    } };
 
     ghost identifier = { λ l. [] };
 
@@ -238,7 +245,14 @@ impl Listener for Notepad {
     ghost use Rattle.nfc_base.specs.Far.{Untouched};
     ghost use Rattle.nfc_base.specs.declared.frame.Tech.TheVariants as techs;
 
-    ghost machine = { record { tech = λ l. techs.A; handed = λ l f. Untouched; answer = λ l f reply. if l.lit then Some (part_a (10 ∷ []) 4) else None; after = λ l f reply. if l.lit then record l { kept = slice_index f.bytes 0 } else l; woken = λ l. record l { lit = true }; darkened = λ l. record l { lit = false } } };
+    ghost machine = { record {
+      tech = λ l. techs.A;
+      handed = λ l f. Untouched;
+      answer = λ l f reply. if l.lit then Some (part_a (10 ∷ []) 4) else None;
+      after = λ l f reply. if l.lit then record l { kept = slice_index f.bytes 0 } else l;
+      woken = λ l. record l { lit = true };
+      darkened = λ l. record l { lit = false };
+    } };
 
     ghost identifier = { λ l. 1 ∷ [] };
 
@@ -248,7 +262,10 @@ impl Listener for Notepad {
 
     ghost is_selected = { λ l. l.lit };
 
-    ghost commands = { λ l s f. record { answer = Some (part_a (10 ∷ []) 4); after = plain_state (slice_index f.bytes 0 ∷ []) } };
+    ghost commands = { λ l s f. record {
+      answer = Some (part_a (10 ∷ []) 4);
+      after = plain_state (slice_index f.bytes 0 ∷ []);
+    } };
 
     fn tech(&self) -> Tech {
         Tech::A

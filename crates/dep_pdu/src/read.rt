@@ -41,7 +41,8 @@ fn is_begun(bytes: &[u8]) -> bool
 
 /// LEN is there, and is the number of bytes after F0h.
 fn is_counted(bytes: &[u8]) -> bool
-    ensures count { result ≡ not (nat_lt (length bytes.now) 2 || not (slice_index bytes.now len_place + 1 == length bytes.now)) }
+    ensures count { result ≡ not
+        (nat_lt (length bytes.now) 2 || not (slice_index bytes.now len_place + 1 == length bytes.now)) }
     ensures bound { IsTrue result → length bytes.now ≤ 256 }
 {
     bytes.len() > LEN_PLACE && bytes[LEN_PLACE] as usize + 1 == bytes.len()
@@ -68,7 +69,9 @@ fn read_named(bytes: &[u8]) -> Result<DepFrame, DepRefusal>
 
 /// The refusal of a direction and a command byte that name no frame.
 fn unnamed(direction: u8) -> Result<DepFrame, DepRefusal>
-    ensures { (o : Option DepFrame) → Tells result (fault (not (is_direction direction)) direction_place Direction ∷ fault true command_place Command ∷ []) o }
+    ensures { (o : Option DepFrame)
+        → Tells result
+        (fault (not (is_direction direction)) direction_place Direction ∷ fault true command_place Command ∷ []) o }
 {
     if direction != REQUEST && direction != ANSWER {
         return Err(DepRefusal::at(DIRECTION_PLACE, DepKind::Direction));

@@ -18,3 +18,4 @@ pub mod Falls
 pub mod IsoViews
 pub mod IsoAnswers
 pub mod ActivateLaw
+pub mod Heeding

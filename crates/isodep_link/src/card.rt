@@ -53,7 +53,8 @@ impl Model for CardEnd {
       mute = t.mute;
     } };
 
-    ghost invariant = { λ t. (t.code ≤ 8) × (0 < t.most) × (t.most ≤ 253) × (t.number < 2) × (t.at ≤ length t.answer.items) × (length t.answer.items ≤ 264) };
+    ghost invariant = { λ t. (t.code ≤ 8) × (0 < t.most) × (t.most ≤ 253) × (t.number < 2)
+        × (t.at ≤ length t.answer.items) × (length t.answer.items ≤ 264) };
 }
 
 impl CardEnd {
@@ -175,7 +176,8 @@ impl CardEnd {
 
     /// A piece of a command.
     fn gather(&mut self, more: bool, content: &[u8]) -> CardStep
-        ensures step { record { state = self.new; does = result } ≡ framed (gathered self.old more (self.old.chain ++ content.now)) }
+        ensures step { record { state = self.new; does = result }
+            ≡ framed (gathered self.old more (self.old.chain ++ content.now)) }
         ensures spelled { IsSaid self.old.code result }
     {
         self.begun = true;

@@ -18,7 +18,8 @@ pub(crate) fn ask_card<L: CardListener>(
 ) -> Result<Frame, AskFault>
     requires fits { length command.now.bytes ≤ 264 }
     ensures turns { AsksCommand L.machine field.old field.new reader.old reader.new command.now.bytes result }
-    ensures ends { Exchanges L.Listener L.card L.tag field.old field.new place reader.old reader.new command.now.bytes result }
+    ensures ends { Exchanges L.Listener L.card L.tag
+        field.old field.new place reader.old reader.new command.now.bytes result }
 {
     let mut far = Mute;
     let mut frame = reader.begin(command.view());

@@ -64,9 +64,12 @@ impl<'a, L: CardListener> IsoLink<'a, L> {
     /// link is then over. `ask` is this with a tag that keeps to the card's table.
     pub fn exchange(&mut self, command: &Frame) -> Result<Frame, AskFault>
         requires fits { length command.now.bytes ≤ 264 }
-        ensures turns { self.old.over ≡ None → Exchanged L.machine (seen_link self.old) (seen_link self.new) command.now result }
-        ensures tag { self.old.over ≡ None → ObeysOnLink L.Listener L.card L.tag (seen_link self.old) (seen_link self.new) command.now result }
-        ensures ended { (e : AskFault) → self.old.over ≡ Some e → (result ≡ Err e) × (seen_link self.new ≡ seen_link self.old) }
+        ensures turns { self.old.over ≡ None
+            → Exchanged L.machine (seen_link self.old) (seen_link self.new) command.now result }
+        ensures tag { self.old.over ≡ None
+            → ObeysOnLink L.Listener L.card L.tag (seen_link self.old) (seen_link self.new) command.now result }
+        ensures ended { (e : AskFault) → self.old.over ≡ Some e → (result ≡ Err e)
+            × (seen_link self.new ≡ seen_link self.old) }
         ensures same { self.new.field.ghost_name ≡ self.old.field.ghost_name }
     {
         if let Some(fault) = self.over {

@@ -67,7 +67,8 @@ impl Model for ReaderEnd {
       bads = i.bads;
     } };
 
-    ghost invariant = { λ i. (i.number < 2) × (0 < i.most) × (i.most ≤ 253) × (i.at ≤ length i.command.items) × (length i.command.items ≤ 264) × (i.bads ≤ 5) };
+    ghost invariant = { λ i. (i.number < 2) × (0 < i.most) × (i.most ≤ 253) × (i.at ≤ length i.command.items)
+        × (length i.command.items ≤ 264) × (i.bads ≤ 5) };
 }
 
 impl ReaderEnd {
@@ -183,7 +184,8 @@ impl ReaderEnd {
 
     /// A whole frame while a command is under way.
     fn whole(&mut self, frame: &Frame) -> ReaderStep
-        ensures step { record { state = self.new; does = result } ≡ framed (waited self.old (whole_reception (spelled_block frame.now))) }
+        ensures step { record { state = self.new; does = result }
+            ≡ framed (waited self.old (whole_reception (spelled_block frame.now))) }
         ensures spelled { SpellsSent result }
     {
         match Block::read_from(frame) {

@@ -489,7 +489,14 @@ impl Listener for Beacon {
     ghost use Rattle.nfc_base.specs.Far.{Untouched};
     ghost use Rattle.nfc_base.specs.declared.frame.Tech.TheVariants as techs;
 
-    ghost machine = { record { tech = λ l. techs.A; handed = λ l f. Untouched; answer = λ l f reply. if l.lit then Some (whole_a l.says.items) else None; after = λ l f reply. l; woken = λ l. record l { lit = true }; darkened = λ l. record l { lit = false } } };
+    ghost machine = { record {
+      tech = λ l. techs.A;
+      handed = λ l f. Untouched;
+      answer = λ l f reply. if l.lit then Some (whole_a l.says.items) else None;
+      after = λ l f reply. l;
+      woken = λ l. record l { lit = true };
+      darkened = λ l. record l { lit = false };
+    } };
 
     ghost identifier = { λ l. [] };
 

@@ -64,16 +64,23 @@ pub trait Carrier {
     ) -> Result<Vec<u8>, LinkEnd>
         requires ready { ready self.old }
         requires bound { length out.now ≤ 2178 }
-        ensures ok { IfOk result (λ r. SwapDone A.steps (seen self.old) (seen self.new) out.now r.items far.old far.new) }
+        ensures ok { IfOk result (λ r. SwapDone A.steps (seen self.old)
+            (seen self.new) out.now r.items far.old far.new) }
         ensures bound { IfOk result (λ r. vec_len r ≤ 2178) }
-        ensures err { (seen self.old).over ≡ None → IfErr result (λ e. SwapFailed A.steps A.stops (seen self.old) (seen self.new) out.now e far.old far.new) }
-        ensures ended { (c : EndCause) → (seen self.old).over ≡ Some c → IsEnded (seen self.old) (seen self.new) c far.old far.new result × moves self.old [] self.new }
+        ensures err { (seen self.old).over ≡ None
+            → IfErr result (λ e. SwapFailed A.steps A.stops (seen self.old) (seen self.new) out.now e far.old far.new) }
+        ensures ended { (c : EndCause) → (seen self.old).over ≡ Some c
+            → IsEnded (seen self.old) (seen self.new) c far.old far.new result × moves self.old [] self.new }
         // Where all transmissions pass, a payload is answered.
-        ensures calm { (seen self.old).over ≡ None → (seen self.old).dark ≡ false → (seen self.new).noise ≡ (seen self.old).noise → IfErr result IsMemory }
+        ensures calm { (seen self.old).over ≡ None → (seen self.old).dark ≡ false
+            → (seen self.new).noise ≡ (seen self.old).noise → IfErr result IsMemory }
         ensures ready { ready self.new }
         ensures same { lenders self.new ≡ lenders self.old }
-        ensures swapped { IfOk result (λ r. Swapped moves A.steps A.stops self.old out.now far.old self.new far.new (λ did. did ≡ Stepped out.now r.items ∷ [])) }
-        ensures failed { IfErr result (λ e. Swapped moves A.steps A.stops self.old out.now far.old self.new far.new (AskedBy e.answered e.cause out.now)) };
+        ensures swapped { IfOk result (λ r. Swapped moves A.steps A.stops self.old out.now far.old self.new far.new
+            (λ did. did ≡ Stepped out.now r.items ∷ [])) }
+        ensures failed { IfErr result
+            (λ e. Swapped moves A.steps A.stops self.old out.now far.old self.new far.new
+            (AskedBy e.answered e.cause out.now)) };
 
     ghost stays: { (a : Self) → moves a [] a };
 

@@ -47,7 +47,7 @@ impl Items<u8> {
         ensures { IfOk result (λ a. a ≡ bytes.now) }
     {
         Ok(Items {
-            owned: bytes.to_vec(alloc)?,
+            owned: Vec::from_slice(alloc, bytes)?,
         })
     }
 }

@@ -60,9 +60,12 @@ pub trait TagLink {
         ensures ok { IfOk result (λ reply. IsAnswer (seen self.old) (seen self.new) command.now reply) }
         ensures err { IfErr result (λ e. IsFault (seen self.old) (seen self.new) command.now e) }
         ensures cause { (seen self.old).over ≡ None → IfErr result (λ e. AskCause (seen self.old) (seen self.new) e) }
-        ensures ended { (e : AskFault) → (seen self.old).over ≡ Some e → IsEnded (seen self.old) (seen self.new) e result }
+        ensures ended { (e : AskFault) → (seen self.old).over ≡ Some e
+            → IsEnded (seen self.old) (seen self.new) e result }
         // Where all transmissions pass, a command that the tag answers is answered.
-        ensures calm { (seen self.old).over ≡ None → (seen self.old).dark ≡ false → (seen self.new).noise ≡ (seen self.old).noise → ((seen self.old).step (seen self.old).state command.now).answer ≢ None → IfErr result (λ e. e ≡ Memory) }
+        ensures calm { (seen self.old).over ≡ None → (seen self.old).dark ≡ false
+            → (seen self.new).noise ≡ (seen self.old).noise
+            → ((seen self.old).step (seen self.old).state command.now).answer ≢ None → IfErr result (λ e. e ≡ Memory) }
         ensures ready { ready self.new }
         ensures same { lenders self.new ≡ lenders self.old }
         ensures moves { moves self.old self.new };

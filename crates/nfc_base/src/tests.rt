@@ -34,7 +34,14 @@ impl Carrier for Straight {
     ghost use Rattle.std.specs.Prelude.{[], false, ⊤};
     ghost use Rattle.std.specs.Option.{option_map};
 
-    ghost seen = { λ c. record { over = c.over; dark = false; counts = record { breaks = 0; six_bad = 0; odd = 0 }; noise = 0; handed = c.handed.items; last = option_map (λ l. l.items) c.last } };
+    ghost seen = { λ c. record {
+      over = c.over;
+      dark = false;
+      counts = record { breaks = 0; six_bad = 0; odd = 0 };
+      noise = 0;
+      handed = c.handed.items;
+      last = option_map (λ l. l.items) c.last;
+    } };
 
     ghost lenders = { λ _. [] };
 

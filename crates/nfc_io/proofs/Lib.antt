@@ -1,3 +1,4 @@
 pub mod Counts
 pub mod Moves
 pub mod Pieces
+pub mod Lines

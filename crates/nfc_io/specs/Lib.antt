@@ -2,3 +2,4 @@ pub mod Counts
 pub mod Moves
 pub mod Memory
 pub mod Standard
+pub mod Lines

@@ -112,9 +112,11 @@ impl Sink for MemSink {
     ghost faults = { λ s. s.plan.faults };
 
     fn write(&mut self, bytes: &[u8]) -> Result<usize, Failed>
-        ensures cause { IsErr result ↔ (FailsNext self.old.plan ⊎ (self.old.limit < length self.old.taken + length bytes.now)) }
+        ensures cause { IsErr result
+            ↔ (FailsNext self.old.plan ⊎ (self.old.limit < length self.old.taken + length bytes.now)) }
         ensures size { IfOk result (λ n. n ≡ length bytes.now) }
-        ensures step { OnOk result (self.new ≡ record self.old { taken = self.old.taken ++ bytes.now; plan = after_call self.old.plan }) }
+        ensures step { OnOk result (self.new
+            ≡ record self.old { taken = self.old.taken ++ bytes.now; plan = after_call self.old.plan }) }
         ensures err { OnErr result (self.new ≡ record self.old { plan = after_fault self.old.plan }) }
         ensures count { self.old.plan.faults ≤ self.new.plan.faults }
     {

@@ -211,7 +211,10 @@ impl Step {
 
     /// A device answers SENS_REQ or ALL_REQ.
     fn wakes(id: &Ident, starred: bool) -> Step
-        ensures { result ≡ record { state = FrontState.Ready 1 starred; answer = Some (sens_res (length (levels id.now))) } }
+        ensures { result ≡ record {
+          state = FrontState.Ready 1 starred;
+          answer = Some (sens_res (length (levels id.now)));
+        } }
     {
         let first = SENS_RES[Level::count(id) as usize - 1];
         Step {
@@ -260,8 +263,10 @@ fn step_at_sdd(id: &Ident, kind: Kind, level: u8, starred: bool, asked: u8, fram
     requires sdd { is_sdd frame.now ≡ Bool.true }
     requires low { 1 ≤ level }
     requires high { level ≤ length (levels id.now) }
-    ensures state { front_of result.state ≡ front_next (levels id.now) (Ready level starred) (Calls (Sdd asked (known_bits frame.now))) }
-    ensures answer { result.answer ≡ front_says (levels id.now) kind (Ready level starred) (Calls (Sdd asked (known_bits frame.now))) }
+    ensures state { front_of result.state
+        ≡ front_next (levels id.now) (Ready level starred) (Calls (Sdd asked (known_bits frame.now))) }
+    ensures answer { result.answer
+        ≡ front_says (levels id.now) kind (Ready level starred) (Calls (Sdd asked (known_bits frame.now))) }
     ensures level { HasLevel (length (levels id.now)) (front_of result.state) }
 {
     let own = Level::of(id, level);
@@ -279,8 +284,10 @@ fn step_at_sel(id: &Ident, kind: Kind, level: u8, starred: bool, asked: u8, fram
     requires sel { is_sel frame.now ≡ Bool.true }
     requires low { 1 ≤ level }
     requires high { level ≤ length (levels id.now) }
-    ensures state { front_of result.state ≡ front_next (levels id.now) (Ready level starred) (Calls (Sel asked (named_level frame.now))) }
-    ensures answer { result.answer ≡ front_says (levels id.now) kind (Ready level starred) (Calls (Sel asked (named_level frame.now))) }
+    ensures state { front_of result.state
+        ≡ front_next (levels id.now) (Ready level starred) (Calls (Sel asked (named_level frame.now))) }
+    ensures answer { result.answer
+        ≡ front_says (levels id.now) kind (Ready level starred) (Calls (Sel asked (named_level frame.now))) }
     ensures level { HasLevel (length (levels id.now)) (front_of result.state) }
 {
     if asked != level || !Level::of(id, level).is_named_by(frame) {

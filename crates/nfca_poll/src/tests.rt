@@ -41,7 +41,15 @@ impl Upper for Card {
     ghost use Rattle.nfca_poll.specs.declared.kind.Kind.TheVariants.{T4};
     ghost use Rattle.nfca_poll.specs.declared.upper.UpStep.TheVariants as steps;
 
-    ghost machine = { record { kind = λ u. T4; handed = λ u f. Untouched; says = λ u f reply. if u.linked then (if is_headed 2 0x30 f then steps.Sleep (whole_a (170 ∷ [])) else steps.Quiet) else (if is_rats f then steps.Reply (whole_a (170 ∷ [])) else steps.Foreign); after = λ u f reply. record { linked = u.linked || is_rats f }; cleared = λ u. record { linked = false } } };
+    ghost machine = { record {
+      kind = λ u. T4;
+      handed = λ u f. Untouched;
+      says = λ u f reply. if u.linked then
+          (if is_headed 2 0x30 f then steps.Sleep (whole_a (170 ∷ [])) else steps.Quiet) else
+          (if is_rats f then steps.Reply (whole_a (170 ∷ [])) else steps.Foreign);
+      after = λ u f reply. record { linked = u.linked || is_rats f };
+      cleared = λ u. record { linked = false };
+    } };
 
     ghost store = { λ u. [] };
 
@@ -75,7 +83,25 @@ impl Upper for Card {
         Ok(UpStep::Foreign)
     }
 
-    ghost laws = { record { takes = Prim.search rules; foreign = Prim.search rules; opens = Prim.search rules; closes = Prim.search rules; no_call = Prim.search rules; silent = λ u f c o e. (refl, ap (λ v. if v then (if is_headed 2 0x30 f then steps.Sleep (whole_a (170 ∷ [])) else steps.Quiet) else (if is_rats f then steps.Reply (whole_a (170 ∷ [])) else steps.Foreign)) o ∙ ap (λ v. if v then steps.Sleep (whole_a (170 ∷ [])) else steps.Quiet) (no_headed 2 0x30 f c refl refl e)); waits = Prim.search rules; bounded = Prim.search rules; own_tech = Prim.search rules; step_keeps = Prim.search rules; clear_keeps = Prim.search rules } };
+    ghost laws = { record {
+      takes = Prim.search rules;
+      foreign = Prim.search rules;
+      opens = Prim.search rules;
+      closes = Prim.search rules;
+      no_call = Prim.search rules;
+      silent = λ u f c o e. (
+        refl,
+        ap
+            (λ v. if v then (if is_headed 2 0x30 f then steps.Sleep (whole_a (170 ∷ [])) else steps.Quiet) else
+            (if is_rats f then steps.Reply (whole_a (170 ∷ [])) else steps.Foreign)) o ∙ ap
+            (λ v. if v then steps.Sleep (whole_a (170 ∷ [])) else steps.Quiet) (no_headed 2 0x30 f c refl refl e),
+      );
+      waits = Prim.search rules;
+      bounded = Prim.search rules;
+      own_tech = Prim.search rules;
+      step_keeps = Prim.search rules;
+      clear_keeps = Prim.search rules;
+    } };
 }
 
 fn front_of(id: &[u8]) -> Result<Front<Card>, Fail> {
@@ -485,11 +511,20 @@ impl Upper for Pad {
     ghost use Rattle.nfca_poll.specs.declared.kind.Kind.TheVariants.{T2};
     ghost use Rattle.nfca_poll.specs.declared.upper.UpStep.TheVariants as steps;
 
-    ghost machine = { record { kind = λ u. T2; handed = λ u f. Untouched; says = λ u f reply. if is_t2_frame f then steps.Reply (whole_a (u.ack ∷ [])) else steps.Foreign; after = λ u f reply. u; cleared = λ u. u } };
+    ghost machine = { record {
+      kind = λ u. T2;
+      handed = λ u f. Untouched;
+      says = λ u f reply. if is_t2_frame f then steps.Reply (whole_a (u.ack ∷ [])) else steps.Foreign;
+      after = λ u f reply. u;
+      cleared = λ u. u;
+    } };
 
     ghost store = { λ u. [] };
 
-    ghost commands = { λ u s f. record { answer = if is_t2_frame f then Some (whole_a (u.ack ∷ [])) else None; after = s } };
+    ghost commands = { λ u s f. record {
+      answer = if is_t2_frame f then Some (whole_a (u.ack ∷ [])) else None;
+      after = s;
+    } };
 
     fn kind(&self) -> Kind {
         Kind::T2
@@ -558,7 +593,16 @@ impl Listener for Vicinity {
     ghost use Rattle.nfc_base.specs.Far.{Untouched};
     ghost use Rattle.nfc_base.specs.declared.frame.Tech.TheVariants as techs;
 
-    ghost machine = { record { tech = λ l. techs.V; handed = λ l f. Untouched; answer = λ l f reply. if get_or f.bytes 0 0 == 0x26 then Some (whole_v (if l.short then 0 ∷ 0 ∷ l.low ∷ [] else 0 ∷ 0 ∷ l.low ∷ 5 ∷ 4 ∷ 3 ∷ 2 ∷ 1 ∷ 4 ∷ 0xE0 ∷ [])) else None; after = λ l f reply. l; woken = λ l. record l { lit = true }; darkened = λ l. record l { lit = false } } };
+    ghost machine = { record {
+      tech = λ l. techs.V;
+      handed = λ l f. Untouched;
+      answer = λ l f reply. if get_or f.bytes 0 0 == 0x26
+          then Some (whole_v (if l.short then 0 ∷ 0 ∷ l.low ∷ [] else 0 ∷ 0 ∷ l.low ∷ 5 ∷ 4 ∷ 3 ∷ 2 ∷ 1 ∷ 4 ∷ 0xE0 ∷ []))
+          else None;
+      after = λ l f reply. l;
+      woken = λ l. record l { lit = true };
+      darkened = λ l. record l { lit = false };
+    } };
 
     ghost identifier = { λ l. [] };
 
@@ -615,7 +659,12 @@ impl Listener for Vicinity {
 
     ghost rests = { Prim.search rules };
 
-    ghost ignores = { λ l other f to own. (refl, ap (λ x. if get_or x.bytes 0 0 == 0x26 then Some (whole_v (if l.short then 0 ∷ 0 ∷ l.low ∷ [] else 0 ∷ 0 ∷ l.low ∷ 5 ∷ 4 ∷ 3 ∷ 2 ∷ 1 ∷ 4 ∷ 0xE0 ∷ [])) else None) to.1.frame) };
+    ghost ignores = { λ l other f to own. (
+      refl,
+      ap (λ x. if get_or x.bytes 0 0 == 0x26
+          then Some (whole_v (if l.short then 0 ∷ 0 ∷ l.low ∷ [] else 0 ∷ 0 ∷ l.low ∷ 5 ∷ 4 ∷ 3 ∷ 2 ∷ 1 ∷ 4 ∷ 0xE0 ∷ []))
+          else None) to.1.frame,
+    ) };
 }
 
 /// A lit field of NFC-V devices with these low bytes, of which 0 answers too short, and these fates to come.

@@ -55,8 +55,11 @@ pub trait Upper {
         frame: &Frame,
         far: &mut A,
     ) -> Result<UpStep, AllocError>
-        ensures ok { IfOk result (λ s. UpperStep A.restarts A.steps (machine.handed self.old frame.now) (machine.says self.old frame.now) (machine.after self.old frame.now) far.old s self.new far.new) }
-        ensures err { OnErr result (Stop A.stops A.is_stuck (machine.handed self.old frame.now) (machine.after self.old frame.now) far.old self.new far.new) };
+        ensures ok { IfOk result (λ s. UpperStep A.restarts A.steps (machine.handed self.old frame.now)
+            (machine.says self.old frame.now) (machine.after self.old frame.now) far.old s self.new far.new) }
+        ensures err { OnErr result
+            (Stop A.stops A.is_stuck (machine.handed self.old frame.now)
+            (machine.after self.old frame.now) far.old self.new far.new) };
 
     /// It takes exactly the frames that its kind has as its own, with all that `IsUpper` lists.
     ghost laws: { IsUpper machine store commands is_open attributes };

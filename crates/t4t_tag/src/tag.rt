@@ -93,7 +93,13 @@ impl Model for T4Tag {
 
     ghost Value = { T4State };
 
-    ghost view = { λ t. record { code = t.code; container = t.container.items; file = t.file.items; selected = t.selected; current = t.current } };
+    ghost view = { λ t. record {
+      code = t.code;
+      container = t.container.items;
+      file = t.file.items;
+      selected = t.selected;
+      current = t.current;
+    } };
 
     ghost invariant = { λ t. IsT4Store t.code t.container.items t.file.items };
 }

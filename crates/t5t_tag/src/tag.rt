@@ -58,9 +58,17 @@ impl Model for T5Tag {
 
     ghost Value = { T5State };
 
-    ghost view = { λ t. record { id = t.id; size = t.block; store = t.store.items; locked = t.locks; quiet = t.quiet } };
+    ghost view = { λ t. record {
+      id = t.id;
+      size = t.block;
+      store = t.store.items;
+      locked = t.locks;
+      quiet = t.quiet;
+    } };
 
-    ghost invariant = { λ t. IsT5State (record { id = t.id; size = t.block; store = t.store.items; locked = t.locks; quiet = t.quiet }) × (length t.locks ≡ lock_count) };
+    ghost invariant = { λ t. IsT5State
+        (record { id = t.id; size = t.block; store = t.store.items; locked = t.locks; quiet = t.quiet })
+        × (length t.locks ≡ lock_count) };
 }
 
 impl T5Tag {
