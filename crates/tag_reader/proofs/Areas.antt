@@ -16,7 +16,7 @@ use Rattle.tag_reader.specs.declared.how.How.{How}
 use Rattle.tag_reader.specs.declared.how.How.TheVariants.{T2, T4, T5}
 use Rattle.tag_reader.specs.Kinds.{IsStore, area_of}
 use Rattle.tag_reader.specs.Asked.{NeedsMore, IsNext, IsDue}
-use Rattle.tag_reader.specs.Steps.{IsBlockStore, IsOfBlocks, IsInReach, HasNumber, HoldsContainer}
+use Rattle.tag_reader.specs.Steps.{IsBlockStore, IsOfBlocks, IsInReach, HoldsContainer}
 
 -- what a Type 5 store is, in numbers
 pub record Sizes (size : ℕ) (store : List ℕ) : Type 0 where
@@ -158,11 +158,6 @@ pub due_reach : (how : How) (size : ℕ) (store : List ℕ) (n : ℕ) → IsBloc
 due_reach how size store n is (inl e) = first_reach how size store n is e
 due_reach how size store n is (inr next) = needs_reach how size store n is (next_needs how size store n is next)
 
-pub reach_number : (how : How) (size : ℕ) (store : List ℕ) (n : ℕ) → IsBlockStore how size store → IsInReach how size store n → HasNumber how n
-reach_number T2 size store n is low = let most = is.1.most in omega arith
-reach_number T4 size store n is low = absurd is
-reach_number (T5 id) size store n is low = low.0
-
 -- block numbers end behind the last that is due
 pub due_below : (how : How) (size : ℕ) (store : List ℕ) (n : ℕ) → IsBlockStore how size store → IsInReach how size store n → n < 256
 due_below T2 size store n is low = let most = is.1.most in omega arith
@@ -196,11 +191,6 @@ pub holds_container : (how : How) (size : ℕ) (store bytes : List ℕ) → IsBl
 holds_container T2 size store bytes is e = omega (arith, is.0)
 holds_container T4 size store bytes is e = absurd is
 holds_container (T5 id) size store bytes is e = let facts = sizes size store is in (omega (arith, facts.least), omega (arith, facts.most))
-
-pub of_blocks : (how : How) (size : ℕ) (store : List ℕ) → IsBlockStore how size store → IsOfBlocks how
-of_blocks T2 size store is = tt
-of_blocks T4 size store is = is
-of_blocks (T5 id) size store is = tt
 
 pub block_store : (how : How) (size : ℕ) (store : List ℕ) → IsOfBlocks how → IsStore how size store → IsBlockStore how size store
 block_store T2 size store blocks is = is

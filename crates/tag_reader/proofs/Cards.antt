@@ -3,21 +3,21 @@ use Rattle.std.proofs.Common.{◌≡◌, ℕ, ◌≤◌, Bool, true, false, List
 use Rattle.std.specs.Prelude.{if◌then◌else◌, Option, Some, None}
 use Rattle.std.proofs.lemmas.List.{length-append, get_or_append_left}
 use Rattle.nfc_base.specs.Signal.{Signal}
-use Rattle.nfc_base.specs.TagLinks.{LinkView, Type2, Type4, Type5}
-use Rattle.t2t_tag.specs.Store.{IsT2Store, T2Memory}
+use Rattle.nfc_base.specs.TagLinks.{LinkView, Type4}
+use Rattle.t2t_tag.specs.Store.{T2Memory}
 use Rattle.t2t_tag.specs.Step.{t2_after, held_after, is_writable}
 use Rattle.t2t_tag.specs.Spelling.{spelled_command}
 use Rattle.t2t_tag.specs.declared.command.T2Command.{T2Command}
 use Rattle.t2t_tag.specs.declared.command.T2Command.TheVariants.{Read, Write}
 use Rattle.nfc_base.specs.Blocks.{with_block}
-use Rattle.t5t_tag.specs.Store.{IsT5Store, T5State, IsT5State, darkened}
+use Rattle.t5t_tag.specs.Store.{T5State, darkened}
 use Rattle.t5t_tag.specs.Step.{t5_after}
 use Rattle.t5t_tag.proofs.Steps.{same_tag}
 use Rattle.t4t_tag.specs.Store.{T4State, IsT4State, store_of, file_size}
 use Rattle.t4t_tag.specs.declared.current.CurrentFile.{CurrentFile}
 use Rattle.t4t_tag.specs.declared.current.CurrentFile.TheVariants as current
 use Rattle.t4t_tag.proofs.Stores.{container_in_store, file_in_store}
-use Rattle.tag_reader.specs.declared.how.How.TheVariants.{T2, T4, T5}
+use Rattle.tag_reader.specs.declared.how.How.TheVariants.{T4}
 use Rattle.tag_reader.specs.Files.{container_end, container_in, file_in, IsFileStore, current_file, shown_file, t4_memory, shown, t4_link_step}
 use Rattle.tag_reader.specs.Kinds.{IsTag, t2_step, t5_step}
 
@@ -40,29 +40,6 @@ t5_same t f awake =
     let same = same_tag t f in
     ap (λ id. t5_step id (t5_after t f).size (t5_after t f).locked false) same.id ∙ ap (λ size. t5_step t.id size (t5_after t f).locked false) same.size
     ∙ ap (λ locked. t5_step t.id t.size locked false) same.locked ∙ ap (λ quiet. t5_step t.id t.size t.locked quiet) (sym awake)
-
-pub t2_tag : (v : LinkView) (m : T2Memory) → v.kind ≡ Type2 → IsT2Store m.store → v.state.store ≡ m.store → v.step ≡ t2_step m.locked → (size : ℕ) × IsTag T2 size v
-t2_tag v m kind is store step = (
-  16,
-  record {
-    kind = kind;
-    named = tt;
-    store = (refl, subst IsT2Store (sym store) is);
-    steps = (m.locked, λ s c is' may. ap (λ st. st s c) step);
-  },
-)
-
-pub t5_tag : (id : List ℕ) (v : LinkView) (t : T5State) → t.id ≡ id → v.kind ≡ Type5 → IsT5State t → v.identifier ≡ t.id → v.state.store ≡ t.store →
-    v.step ≡ t5_step t.id t.size t.locked t.quiet → (size : ℕ) × IsTag (T5 id) size v
-t5_tag id v t named kind is identifier store step = subst (λ i. (size : ℕ) × IsTag (T5 i) size v) named (
-  t.size,
-  record {
-    kind = kind;
-    named = (identifier, is.id, is.bytes);
-    store = subst (λ s. IsT5Store t.size s) (sym store) is.store;
-    steps = (t.locked, t.quiet, λ s c is' may. ap (λ st. st s c) step);
-  },
-)
 
 -- a Type 4 tag is what its link shows of it
 word_front : (c f : List ℕ) → 15 ≤ length c → file_size (c ++ f) ≡ file_size c

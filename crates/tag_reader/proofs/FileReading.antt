@@ -40,9 +40,6 @@ leads_to size (suc n) a b asks = (asks.stays.leads.step, asks.stays.leads.kind)
 pub under_kind : (size n : ℕ) (a b : LinkView) → IsUnder size a b n → b.kind ≡ Type4
 under_kind size n a b u = (leads_to size n a b u.reached).1 ∙ u.tag.kind
 
-pub may_bring : (size n : ℕ) (a b : LinkView) (bytes : List ℕ) → IsUnder size a b n → length bytes ≤ 264 → MayAsk b.kind b.identifier (whole_a bytes)
-may_bring size n a b bytes u short = subst (λ k. MayAsk k b.identifier (whole_a bytes)) (sym (under_kind size n a b u)) (refl, short)
-
 -- a tag's code is one that a tag may have
 pub tag_store : (size : ℕ) (a : LinkView) (is : IsTag T4 size a) → IsT4Store is.steps.0 (container_in a.state.store) (file_in a.state.store)
 tag_store size a is = record {
@@ -167,9 +164,6 @@ no_file size a b f u has =
 named_by : (a : LinkView) (head : List ℕ) (r : Result FileMap ContainerFault) → head ≡ content_at a.state.store 2 → r ≡ t4_container head → t4_container (container_in a.state.store) ≡ r
 named_by a head r brought is = sym (is ∙ ap (λ b. t4_container b) brought ∙ t4_front (container_in a.state.store))
 
-pub container_long : (size : ℕ) (a : LinkView) (is : IsTag T4 size a) (bytes : List ℕ) → bytes ≡ content_at a.state.store 2 → length bytes ≡ 15
-container_long size a is bytes brought = ap length brought ∙ length-take-le 15 (container_in a.state.store) is.store.1.least
-
 pub no_file_by : (size : ℕ) (a b : LinkView) (head : List ℕ) (f : ContainerFault) → IsUnder size a b 3 → head ≡ content_at a.state.store 2 → Err f ≡ t4_container head →
     EndsBy size a b (of_container f)
 no_file_by size a b head f u brought is = no_file size a b f u (named_by a head (Err f) brought is)
@@ -287,13 +281,6 @@ piece_due size a b map' n most q k is same count low =
 pub piece_command : (size : ℕ) (a b : LinkView) (map' : FileMap) (n most k count : ℕ) → IsMeasured size a b map' n → most ≡ most_asked a.state.store → count ≡ min most (n - most * k) →
     ReadBinary (2 + most * k) count ≡ file_command a.state.store (piece_at k)
 piece_command size a b map' n most k count is same here = rw (here, is.length', same) refl
-
--- and they are small
-pub piece_low : (size : ℕ) (a b : LinkView) (map' : FileMap) (n most k : ℕ) → IsMeasured size a b map' n → most ≡ most_asked a.state.store → HasPiece a.state.store k → (most * k < n) × (n ≤ 0x7FFD)
-piece_low size a b map' n most k is same p =
-    let room = file_room size a is.under.tag map' is.names in
-    let left : most * k < message_length (file_in a.state.store) = rw same p.left in
-    (omega (arith, left, is.length'), omega (arith, is.fits, room.2, room.1))
 
 -- the next piece
 pub pieces_more : (size : ℕ) (a b c : LinkView) (message piece : List ℕ) (k : ℕ) → HasPieces size a b message k → HasPiece a.state.store k → IsUnder size a c (piece_at (suc k)) →

@@ -9,7 +9,7 @@ use Rattle.t4t_tag.specs.declared.command.T4Command.{T4Command}
 use Rattle.t4t_tag.specs.declared.command.T4Command.TheVariants.{SelectApplication, SelectFile, ReadBinary}
 use Rattle.t4t_tag.specs.declared.current.CurrentFile.TheVariants as current
 use Rattle.t4t_tag.specs.Store.{T4State, IsT4Store, most_read, file_id, container_id}
-use Rattle.t4t_tag.specs.Spelling.{IsT4Command, command_bytes}
+use Rattle.t4t_tag.specs.Spelling.{command_bytes}
 use Rattle.t4t_tag.specs.Step.{T4Turn, done, opens, picks, tells, t4_step}
 use Rattle.t4t_tag.proofs.Turns.{content_of}
 use Rattle.t4t_tag.proofs.Commands.{select_opens, select_container, select_ndef, read_container, read_ndef}
@@ -90,14 +90,6 @@ in_file code store k is p =
       within = omega (arith, p.left, p.fits, size, is.whole, facts.least);
       low = omega (arith, is.whole, is.size);
     }
-
-pub command_range : (code : ℕ) (store : List ℕ) (n : ℕ) → IsT4Store code (container_in store) (file_in store) → IsFileDue store n → IsT4Command (file_command store n)
-command_range code store zero is due = tt
-command_range code store (suc zero) is due = tt
-command_range code store (suc (suc zero)) is due = (omega arith, omega arith)
-command_range code store (suc (suc (suc zero))) is due = tt
-command_range code store (suc (suc (suc (suc zero)))) is due = (omega arith, omega arith)
-command_range code store (suc (suc (suc (suc (suc k))))) is due = let f = in_file code store k is due in (omega (arith, f.within, f.low), f.some)
 
 -- no answer brings more than 255 bytes
 pub content_small : (code : ℕ) (store : List ℕ) (n : ℕ) → IsT4Store code (container_in store) (file_in store) → IsFileDue store n → length (content_at store n) ≤ 255

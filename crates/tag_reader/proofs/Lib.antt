@@ -1,3 +1,4 @@
+pub mod Walking
 pub mod Bytes
 pub mod Areas
 pub mod Links

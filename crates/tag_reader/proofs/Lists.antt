@@ -8,11 +8,10 @@ use Rattle.tlv_area.specs.declared.container.ContainerFault.{ContainerFault}
 use Rattle.tlv_area.specs.declared.space.Space.{Space}
 use Rattle.tlv_area.specs.Form as form
 use Rattle.tag_reader.specs.declared.how.How.{How}
-use Rattle.tag_reader.specs.declared.how.How.TheVariants.{T2, T4, T5}
 use Rattle.tag_reader.specs.Kinds.{area_of, command, first}
 use Rattle.tag_reader.specs.Asked.{IsDue, AreDue, IsAsked}
-use Rattle.tag_reader.specs.Steps.{IsBlockStore, HoldsContainer}
-use Rattle.tag_reader.proofs.Areas.{sizes, next_needs, needs_next, first_within, front_area, holds_container}
+use Rattle.tag_reader.specs.Steps.{IsBlockStore}
+use Rattle.tag_reader.proofs.Areas.{next_needs, needs_next, first_within, front_area}
 
 pub one_list : (how : How) (size : ℕ) (store : List ℕ) (xs ys : List Signal) → IsAsked how size store xs → IsAsked how size store ys → xs ≡ ys
 one_list how size store xs ys one other = elim (cases_lt one.count other.count) [
@@ -49,11 +48,6 @@ asked_all how size store n each no_more = (first how store n, record { count = n
 pub one_due : (how : How) (size : ℕ) (store : List ℕ) → AreDue how size store 1
 one_due how size store k low = inl (omega arith)
 
--- the container in the first bytes
-pub front_container : (how : How) (size : ℕ) (store bytes : List ℕ) → IsBlockStore how size store → bytes ≡ take size store → HoldsContainer how bytes
-front_container how size store bytes is same =
-    holds_container how size store bytes is (ap length same ∙ length-take-le size store (first_within how size store is))
-
 pub front_named : (how : How) (size : ℕ) (store bytes : List ℕ) → IsBlockStore how size store → bytes ≡ take size store → area_of how (length bytes) bytes ≡ area_of how size store
 front_named how size store bytes is same =
     ap (λ xs. area_of how (length xs) xs) same ∙ ap (λ n. area_of how n (take size store)) (length-take-le size store (first_within how size store is)) ∙ front_area how size store is
@@ -83,9 +77,3 @@ walk_ends how size store bytes space n is some has same ends (inr next) =
 pub tag_ends : (how : How) (size : ℕ) (store : List ℕ) (n : ℕ) → IsBlockStore how size store → 0 < n → length store < size * n → IsDue how size store n → ⊥
 tag_ends how size store n is some short (inl e) = omega arith
 tag_ends how size store n is some short (inr next) = let m = next_needs how size store n is next in let within = m.within in omega arith
-
--- how large stores are
-pub small_store : (how : How) (size : ℕ) (store : List ℕ) → IsBlockStore how size store → (0 < size) × (size ≤ 32) × (length store ≤ 8192)
-small_store T2 size store is = let most = is.1.most in let whole = is.1.whole in (omega (arith, is.0), omega (arith, is.0), omega arith)
-small_store T4 size store is = absurd is
-small_store (T5 id) size store is = let facts = sizes size store is in (omega (arith, facts.least), facts.most, omega (arith, facts.most, facts.all))

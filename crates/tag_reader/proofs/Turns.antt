@@ -14,8 +14,8 @@ use Rattle.tag_reader.specs.declared.fault.ReadFault.{ReadFault}
 use Rattle.tag_reader.specs.declared.fault.ReadFault.TheVariants as fault
 use Rattle.tag_reader.specs.Kinds.{area_of}
 use Rattle.tag_reader.specs.Asked.{NeedsMore}
-use Rattle.tag_reader.specs.Steps.{IsBlockTag, IsBlockStore, rolling, AsksNext, Knows, Walks, IsInReach, HoldsContainer, Reads, IsCutFault, of_container}
-use Rattle.tag_reader.proofs.Areas.{needs_next, first_within, some_size, front_area, holds_container, due_reach, due_below}
+use Rattle.tag_reader.specs.Steps.{IsBlockTag, IsBlockStore, rolling, AsksNext, Knows, Walks, IsInReach, Reads, IsCutFault, of_container}
+use Rattle.tag_reader.proofs.Areas.{needs_next, first_within, some_size, front_area, due_reach, due_below}
 use Rattle.tag_reader.proofs.Knowing.{knows_first, knows_more, walks_at}
 use Rattle.tag_reader.proofs.Endings.{Ends, knows_asked, settles, settled_all, map_found, ends_container, due_next, ends_at, ends_cut}
 
@@ -27,15 +27,6 @@ begun how size a b before known more is next goes none =
     subst (λ xs. AsksNext how size 0 a b xs known (Ok true)) none (subst (λ m. AsksNext how size 0 a b before known (Ok m)) goes next) in
     knows_first how size a b known is here.0 here.1
 
--- it can't be that it didn't
-pub begun_empty : (how : How) (size : ℕ) (a b : LinkView) (before known : List ℕ) (more : Bool) → IsBlockTag how size a → AsksNext how size 0 a b before known (Ok more) →
-    more ≡ false → ⊥
-begun_empty how size a b before known more is next goes =
-    let here : AsksNext how size 0 a b before known (Ok false) = subst (λ m. AsksNext how size 0 a b before known (Ok m)) goes next in
-    let some = some_size how size a.state.store is.store in
-    let within = first_within how size a.state.store is.store in
-    omega (arith, (here.1).0)
-
 -- what it gave
 first_bytes : (how : How) (size : ℕ) (a b : LinkView) (known : List ℕ) → IsBlockStore how size a.state.store → Knows how size a b known 0 → known ≡ take size a.state.store
 first_bytes how size a b known is k =
@@ -45,11 +36,6 @@ first_bytes how size a b known is k =
 first_size : (how : How) (size : ℕ) (a b : LinkView) (known : List ℕ) → IsBlockStore how size a.state.store → Knows how size a b known 0 → length known ≡ size
 first_size how size a b known is k =
     ap length (first_bytes how size a b known is k) ∙ length-take-le size a.state.store (first_within how size a.state.store is)
-
-pub first_container : (how : How) (size : ℕ) (a b : LinkView) (known slice : List ℕ) → IsBlockStore how size a.state.store → Knows how size a b known 0 → slice ≡ known →
-    HoldsContainer how slice
-first_container how size a b known slice is k same =
-    holds_container how size a.state.store slice is (ap length same ∙ first_size how size a b known is k)
 
 pub first_area : (how : How) (size : ℕ) (a b : LinkView) (known slice : List ℕ) → IsBlockStore how size a.state.store → Knows how size a b known 0 → slice ≡ known →
     area_of how (length slice) slice ≡ area_of how size a.state.store

@@ -37,6 +37,10 @@ pub record IsUnder (size : ℕ) (a b : LinkView) (n : ℕ) : Type 0 where
   pub reached : Reached size a b n
   pub state : b.state ≡ state_at a.state n
 
+-- the n-th command brought these bytes
+abbrev pub BringsNext : ℕ → LinkView → LinkView → ℕ → List ℕ → Type 0
+BringsNext size a b n bytes = IsUnder size a b (suc n) × (bytes ≡ content_at a.state.store n)
+
 -- the end of a reading by a fault
 abbrev pub EndsBy : ℕ → LinkView → LinkView → ReadFault → Type 0
 EndsBy size a b e = Reads T4 size a b [] (Err e)

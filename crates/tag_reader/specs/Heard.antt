@@ -262,6 +262,9 @@ IsToldBy how a b (Err e) = IsFaultBy how a b e
 abbrev pub TellsExactly : How → LinkView → LinkView → Result Found ReadFault → ReadFault → Type 0
 TellsExactly how a b result e = IsErrOf result e ↔ IsFaultBy how a b e
 
+abbrev pub TellsRefusals : How → LinkView → LinkView → Result Found ReadFault → Type 0
+TellsRefusals how a b result = (code : ℕ) → TellsExactly how a b result (fault.Refused code)
+
 -- it tells this form: its message, or its fault
 abbrev pub IsFormTold : Form → Result Found ReadFault → Type 0
 IsFormTold (Faulty container.NotNdef) result = IsErrOf result fault.NotNdef

@@ -105,6 +105,9 @@ pub record Sees (how : How) (a b : LinkView) (known : List ℕ) (map' : AreaMap)
   pub placed : IsPlacedIn known map'
   pub held : IsForm map'.space known (Message (bytes_at known (message_cells map')))
 
+abbrev pub SeesMap : How → LinkView → LinkView → List ℕ → Result AreaMap ReadFault → Type 0
+SeesMap how a b known result = OrFault (Sees how a b known) how a b result
+
 -- the application and the container of a Type 4 tag are selected
 pub record HasSelected (a b : LinkView) : Type 0 where
   pub application : List ℕ

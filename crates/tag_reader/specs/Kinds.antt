@@ -115,3 +115,7 @@ pub record IsTag (how : How) (size : ℕ) (v : LinkView) : Type 0 where
   pub named : IsNamed how v.identifier
   pub store : IsStore how size v.state.store
   pub steps : Steps how size v
+
+-- where the link led to a tag of this kind: what holds for the number of bytes that its READs ask for
+abbrev pub OfTag : How → LinkView → (ℕ → Type 0) → Type 0
+OfTag how a P = (size : ℕ) → IsTag how size a → P size

@@ -1,5 +1,5 @@
 -- What a reading answers.
-use Rattle.std.specs.Prelude.{◌≡◌, ℕ, ◌⊎◌, List, Bool, true, false, None, Result, Ok, Err}
+use Rattle.std.specs.Prelude.{◌≡◌, ℕ, ◌⊎◌, List, Bool, true, false, None, Result, Ok, Err, IfOk, IfErr}
 use Rattle.nfc_base.specs.TagLinks.{LinkView}
 use Rattle.nfc_base.specs.declared.tag_link.AskFault.TheVariants as ask
 use Rattle.tlv_area.specs.declared.container.ContainerFault.TheVariants as container
@@ -15,8 +15,8 @@ use Rattle.tag_reader.specs.declared.found.Site.{Site}
 use Rattle.tag_reader.specs.declared.found.Site.TheVariants.{Area, File}
 use Rattle.tag_reader.specs.declared.found.Found.{Found}
 use Rattle.tag_reader.specs.Files.{NamesFile}
-use Rattle.tag_reader.specs.Kinds.{area_of, IsStoreForm}
-use Rattle.tag_reader.specs.Calls.{ByLink}
+use Rattle.tag_reader.specs.Kinds.{area_of, IsStoreForm, OfTag}
+use Rattle.tag_reader.specs.Calls.{Stays, HasAsked, HasAskedAll, GoesOn, ByLink}
 
 -- a Type 4 tag's container names this file
 abbrev pub IsFileOf : How → List ℕ → FileMap → Type 0
@@ -72,3 +72,27 @@ pub record IsCalm (a b : LinkView) : Type 0 where
 abbrev pub OnTold : {A : Type 0} → Result A ReadFault → Type 0 → Type 0
 OnTold (Ok a) P = P
 OnTold (Err e) P = is_told e ≡ true → P
+
+-- A reading of a tag of this kind, from one view of the link to another. The store stays, in each image.
+abbrev pub KeepsStore : How → LinkView → LinkView → Type 0
+KeepsStore how a b = OfTag how a (λ size. Stays a b)
+
+-- What was answered is the first of what is asked, and all of it where it tells what the store holds; then the link goes on.
+abbrev pub AsksInOrder : How → LinkView → LinkView → Type 0
+AsksInOrder how a b = OfTag how a (λ size. HasAsked how size a.state.store a b)
+
+abbrev pub AsksAll : How → LinkView → LinkView → Result Found ReadFault → Type 0
+AsksAll how a b result = OfTag how a (λ size. OnTold result (HasAskedAll how size a.state.store a b))
+
+abbrev pub LeavesLink : How → LinkView → LinkView → Result Found ReadFault → Type 0
+LeavesLink how a b result = OfTag how a (λ size. OnTold result (GoesOn a b))
+
+-- It tells the message that the store holds, or a fault with its cause; in calm the link is no cause.
+abbrev pub TellsMessage : How → LinkView → Result Found ReadFault → Type 0
+TellsMessage how a result = OfTag how a (λ size. IfOk result (IsFound how size a.state.store))
+
+abbrev pub TellsCause : How → LinkView → LinkView → Result Found ReadFault → Type 0
+TellsCause how a b result = OfTag how a (λ size. IfErr result (IsReadFault how a.state.store a b))
+
+abbrev pub TellsInCalm : How → LinkView → LinkView → Result Found ReadFault → Type 0
+TellsInCalm how a b result = OfTag how a (λ size. IsCalm a b → IfErr result IsToldOrMemory)

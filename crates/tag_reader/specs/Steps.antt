@@ -21,7 +21,7 @@ use Rattle.tag_reader.specs.declared.fault.ReadFault.TheVariants as fault
 use Rattle.tag_reader.specs.declared.found.Found.{Found}
 use Rattle.tag_reader.specs.declared.told.Told.{Told}
 use Rattle.tag_reader.specs.declared.told.Told.TheVariants.{Bytes, Ended}
-use Rattle.tag_reader.specs.Kinds.{area_of, command, first, kind_of, IsNamed, IsStoreForm, Steps}
+use Rattle.tag_reader.specs.Kinds.{area_of, command, first, kind_of, IsNamed, IsStoreForm, OfTag, Steps}
 use Rattle.tag_reader.specs.Asked.{AreDue}
 use Rattle.tag_reader.specs.Calls.{Stays, last_of, HasAsked, HasAskedAll, GoesOn, ByLink}
 use Rattle.tag_reader.specs.Reading.{IsFound, IsReadFault, IsCalm, IsToldOrMemory, OnTold}
@@ -51,6 +51,10 @@ pub record IsBlockTag (how : How) (size : ℕ) (v : LinkView) : Type 0 where
   pub named : IsNamed how v.identifier
   pub store : IsBlockStore how size v.state.store
   pub steps : Steps how size v
+
+-- where the link led to a tag of this kind of blocks: what holds for the number of bytes that its READs ask for
+abbrev pub OfBlockTag : How → LinkView → (ℕ → Type 0) → Type 0
+OfBlockTag how a P = (size : ℕ) → IsBlockTag how size a → P size
 
 -- a kind of tags of blocks
 abbrev pub IsOfBlocks : How → Type 0
@@ -114,6 +118,11 @@ pub record Fails (c : Signal) (a b : LinkView) (e : ReadFault) : Type 0 where
 abbrev pub AsksNext : How → ℕ → ℕ → LinkView → LinkView → List ℕ → List ℕ → Result Bool ReadFault → Type 0
 AsksNext how size k a b known known' (Ok more) = Answers (command how a.state.store k) a b × Learns size a.state.store k known known' more
 AsksNext how size k a b known known' (Err e) = Fails (command how a.state.store k) a b e
+
+-- the same, where the first k READs gave all that is known
+abbrev pub AsksNextOf : How → ℕ → LinkView → LinkView → List ℕ → List ℕ → Result Bool ReadFault → Type 0
+AsksNextOf how k a b known known' result = OfBlockTag how a (λ size. IsInReach how size a.state.store k → length known ≡ size * k →
+    AsksNext how size k a b known known' result)
 
 -- A reading under way, of a tag of whatever kind: the first n commands are answered, n not 0.
 pub record Asks (how : How) (size : ℕ) (a b : LinkView) (n : ℕ) : Type 0 where
@@ -182,6 +191,15 @@ pub record IsRead (how : How) (size : ℕ) (a b : LinkView) (result : Result Fou
   pub ok : IfOk result (IsFound how size a.state.store)
   pub err : IfErr result (IsReadFault how a.state.store a b)
   pub calm : IsCalm a b → IfErr result IsToldOrMemory
+
+abbrev pub ReadsTag : How → LinkView → LinkView → Result Found ReadFault → Type 0
+ReadsTag how a b result = OfTag how a (λ size. IsRead how size a b result)
+
+abbrev pub ReadsBlocks : How → LinkView → LinkView → Result Found ReadFault → Type 0
+ReadsBlocks how a b result = OfBlockTag how a (λ size. IsRead how size a b result)
+
+abbrev pub ReadsMap : How → LinkView → LinkView → List ℕ → Result AreaMap ReadFault → Type 0
+ReadsMap how a b known result = OfBlockTag how a (λ size. Reads how size a b known result)
 
 -- the fault of an area that ends where the memory does
 abbrev pub IsCutFault : Space → List ℕ → ReadFault → Type 0

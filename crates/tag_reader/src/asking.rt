@@ -1,11 +1,11 @@
 //! One READ of a reading.
 
-ghost use Rattle.std.specs.Prelude.{◌≡◌, ℕ, ◌≤◌, ◌*◌, List, length};
+ghost use Rattle.std.specs.Prelude.{◌≡◌, ℕ, ◌≤◌, List, length};
 ghost use Rattle.nfc_base.specs.TagLinks.{LinkView};
 ghost use Rattle.nfc_base.specs.declared.tag_link.AskFault.{AskFault};
 ghost use Rattle.tag_reader.specs.Heard.{IsOf, joined};
 ghost use Rattle.tag_reader.specs.HeardSteps.{Under, GainsOr, is_next};
-ghost use Rattle.tag_reader.specs.Steps.{of_link, IsOfBlocks, HasNumber, IsBlockTag, IsInReach, AsksNext};
+ghost use Rattle.tag_reader.specs.Steps.{of_link, IsOfBlocks, HasNumber, AsksNextOf};
 
 use crate::fault::ReadFault;
 use crate::how::{How, command};
@@ -50,9 +50,10 @@ pub fn ask_next<T: TagLink>(
     requires ready { T.ready link.old }
     requires of { IsOf how (T.seen link.old) }
     requires kind { IsOfBlocks how × HasNumber how index }
-    ensures next { (size : ℕ) → IsBlockTag how size (T.seen link.old) → IsInReach how size (T.seen link.old).state.store index → length known.old.items ≡ size * index → AsksNext how size index (T.seen link.old) (T.seen link.new) known.old.items known.new.items result }
+    ensures next { AsksNextOf how index (T.seen link.old) (T.seen link.new) known.old.items known.new.items result }
     // whatever the tag does
-    ensures gains { (a : LinkView) (ps : List (List ℕ)) → Under how a (T.seen link.old) ps → length ps ≡ index → known.old.items ≡ joined ps → GainsOr how a (T.seen link.new) ps known.old.items known.new.items result }
+    ensures gains { (a : LinkView) (ps : List (List ℕ)) → Under how a (T.seen link.old) ps → length ps ≡ index →
+        known.old.items ≡ joined ps → GainsOr how a (T.seen link.new) ps known.old.items known.new.items result }
     ensures ready { T.ready link.new }
     ensures same { T.lenders link.new ≡ T.lenders link.old }
     ensures moves { T.moves link.old link.new }

@@ -9,15 +9,15 @@ ghost use Rattle.tag_reader.specs.Files.{file_command, message_length, most_aske
 ghost use Rattle.t4t_tag.specs.Spelling.{IsT4Command};
 ghost use Rattle.tag_reader.specs.Heard.{IsOf, HasSize, IsToldBy, file_next};
 ghost use Rattle.tag_reader.specs.HeardSteps.{Under, OrFault, HasSelected, Opened, Measured, ReadAll};
-ghost use Rattle.tag_reader.specs.Kinds.{IsTag};
-ghost use Rattle.tag_reader.specs.Steps.{IsRead};
-ghost use Rattle.tag_reader.specs.FileSteps.{content_at, IsUnder, OrEnds, IsOpen, IsMeasured, IsWhole};
+ghost use Rattle.tag_reader.specs.Kinds.{OfTag};
+ghost use Rattle.tag_reader.specs.Steps.{ReadsTag};
+ghost use Rattle.tag_reader.specs.FileSteps.{IsUnder, BringsNext, OrEnds, IsOpen, IsMeasured, IsWhole};
 
 use crate::asking::of_link;
 use crate::fault::ReadFault;
 use crate::finding::of_container;
 use crate::found::{Found, Site};
-use crate::told::told_t4;
+use crate::told::tell_t4;
 use arrayvec::ArrayVec;
 use nfc_base::{Frame, Items, TagLink, Tech};
 use std::alloc::Global;
@@ -39,7 +39,7 @@ pub fn read_file<T: TagLink>(alloc: Global, link: &mut T) -> Result<Found, ReadF
     requires of { IsOf hows.T4 (T.seen link.old) }
     // whatever the tag does
     ensures told { IsToldBy hows.T4 (T.seen link.old) (T.seen link.new) result }
-    ensures reads { (size : ℕ) → IsTag hows.T4 size (T.seen link.old) → IsRead hows.T4 size (T.seen link.old) (T.seen link.new) result }
+    ensures reads { ReadsTag hows.T4 (T.seen link.old) (T.seen link.new) result }
     ensures ready { T.ready link.new }
     ensures same { T.lenders link.new ≡ T.lenders link.old }
     ensures moves { T.moves link.old link.new }
@@ -81,8 +81,13 @@ fn ask_file<T: TagLink>(
     requires range { IsT4Command command.now }
     ensures size { IfOk result (λ bytes. HasSize command.now bytes.items) }
     // whatever the tag does
-    ensures brings { (a : LinkView) (ps : List (List ℕ)) → Under hows.T4 a (T.seen link.old) ps → command.now ≡ file_next ps → OrFault (λ bytes. Under hows.T4 a (T.seen link.new) (ps ++ bytes.items ∷ [])) hows.T4 a (T.seen link.new) result }
-    ensures next { (size n : ℕ) (a : LinkView) → IsUnder size a (T.seen link.old) n → IsFileDue a.state.store n → command.now ≡ file_command a.state.store n → OrEnds (λ bytes. IsUnder size a (T.seen link.new) (suc n) × (bytes.items ≡ content_at a.state.store n)) size a (T.seen link.new) result }
+    ensures brings { (a : LinkView) (ps : List (List ℕ)) → Under hows.T4 a (T.seen link.old) ps →
+        command.now ≡ file_next ps →
+        OrFault (λ bytes. Under hows.T4 a (T.seen link.new) (ps ++ bytes.items ∷ []))
+        hows.T4 a (T.seen link.new) result }
+    ensures next { (size n : ℕ) (a : LinkView) → IsUnder size a (T.seen link.old) n → IsFileDue a.state.store n →
+        command.now ≡ file_command a.state.store n →
+        OrEnds (λ bytes. BringsNext size a (T.seen link.new) n bytes.items) size a (T.seen link.new) result }
     ensures ready { T.ready link.new }
     ensures same { T.lenders link.new ≡ T.lenders link.old }
     ensures moves { T.moves link.old link.new }
@@ -91,7 +96,7 @@ fn ask_file<T: TagLink>(
     let frame = Frame::whole(Tech::A, bytes.as_slice()).unwrap();
     match link.ask(alloc, &frame) {
         Err(fault) => Err(of_link(fault)),
-        Ok(answer) => match told_t4(&answer) {
+        Ok(answer) => match tell_t4(&answer) {
             Err(fault) => Err(fault),
             Ok(bytes) => {
                 if has_size(command, bytes.as_slice()) {
@@ -118,8 +123,11 @@ fn file_named(bytes: &[u8]) -> Result<FileMap, ContainerFault>
 fn select_container<T: TagLink>(alloc: Global, link: &mut T) -> Result<(), ReadFault>
     requires ready { T.ready link.old }
     requires of { IsOf hows.T4 (T.seen link.old) }
-    ensures brings { OrFault (λ done. HasSelected (T.seen link.old) (T.seen link.new)) hows.T4 (T.seen link.old) (T.seen link.new) result }
-    ensures selects { (size : ℕ) → IsTag hows.T4 size (T.seen link.old) → OrEnds (λ done. IsUnder size (T.seen link.old) (T.seen link.new) 2) size (T.seen link.old) (T.seen link.new) result }
+    ensures brings { OrFault (λ done. HasSelected (T.seen link.old) (T.seen link.new))
+        hows.T4 (T.seen link.old) (T.seen link.new) result }
+    ensures selects { OfTag hows.T4 (T.seen link.old) (λ size.
+        OrEnds (λ done. IsUnder size (T.seen link.old) (T.seen link.new) 2)
+        size (T.seen link.old) (T.seen link.new) result) }
     ensures ready { T.ready link.new }
     ensures same { T.lenders link.new ≡ T.lenders link.old }
     ensures moves { T.moves link.old link.new }
@@ -133,8 +141,10 @@ fn select_container<T: TagLink>(alloc: Global, link: &mut T) -> Result<(), ReadF
 fn read_container<T: TagLink>(alloc: Global, link: &mut T) -> Result<FileMap, ReadFault>
     requires ready { T.ready link.old }
     requires of { IsOf hows.T4 (T.seen link.old) }
-    ensures brings { OrFault (Opened (T.seen link.old) (T.seen link.new)) hows.T4 (T.seen link.old) (T.seen link.new) result }
-    ensures opens { (size : ℕ) → IsTag hows.T4 size (T.seen link.old) → OrEnds (IsOpen size (T.seen link.old) (T.seen link.new)) size (T.seen link.old) (T.seen link.new) result }
+    ensures brings { OrFault (Opened (T.seen link.old) (T.seen link.new))
+        hows.T4 (T.seen link.old) (T.seen link.new) result }
+    ensures opens { OfTag hows.T4 (T.seen link.old) (λ size.
+        OrEnds (IsOpen size (T.seen link.old) (T.seen link.new)) size (T.seen link.old) (T.seen link.new) result) }
     ensures ready { T.ready link.new }
     ensures same { T.lenders link.new ≡ T.lenders link.old }
     ensures moves { T.moves link.old link.new }
@@ -164,8 +174,10 @@ fn read_length<T: TagLink>(alloc: Global, link: &mut T, map: FileMap) -> Result<
     requires ready { T.ready link.old }
     requires of { IsOf hows.T4 (T.seen link.old) }
     requires opened { (a : LinkView) × Opened a (T.seen link.old) map }
-    ensures brings { (a : LinkView) → Opened a (T.seen link.old) map → OrFault (Measured a (T.seen link.new) map) hows.T4 a (T.seen link.new) result }
-    ensures measures { (size : ℕ) (a : LinkView) → IsOpen size a (T.seen link.old) map → OrEnds (IsMeasured size a (T.seen link.new) map) size a (T.seen link.new) result }
+    ensures brings { (a : LinkView) → Opened a (T.seen link.old) map →
+        OrFault (Measured a (T.seen link.new) map) hows.T4 a (T.seen link.new) result }
+    ensures measures { (size : ℕ) (a : LinkView) → IsOpen size a (T.seen link.old) map →
+        OrEnds (IsMeasured size a (T.seen link.new) map) size a (T.seen link.new) result }
     ensures ready { T.ready link.new }
     ensures same { T.lenders link.new ≡ T.lenders link.old }
     ensures moves { T.moves link.old link.new }
@@ -193,8 +205,11 @@ fn read_message<T: TagLink>(
     requires ready { T.ready link.old }
     requires of { IsOf hows.T4 (T.seen link.old) }
     requires measured { (a : LinkView) × (m : Map) × Measured a (T.seen link.old) m length × (most ≡ min m.mle 255) }
-    ensures brings { (a : LinkView) (m : Map) → Measured a (T.seen link.old) m length → most ≡ min m.mle 255 → OrFault (λ message. ReadAll a (T.seen link.new) m length message.items) hows.T4 a (T.seen link.new) result }
-    ensures whole { (size : ℕ) (a : LinkView) (m : Map) → IsMeasured size a (T.seen link.old) m length → most ≡ most_asked a.state.store → OrEnds (λ message. IsWhole size a (T.seen link.new) message.items) size a (T.seen link.new) result }
+    ensures brings { (a : LinkView) (m : Map) → Measured a (T.seen link.old) m length → most ≡ min m.mle 255 →
+        OrFault (λ message. ReadAll a (T.seen link.new) m length message.items) hows.T4 a (T.seen link.new) result }
+    ensures whole { (size : ℕ) (a : LinkView) (m : Map) → IsMeasured size a (T.seen link.old) m length →
+        most ≡ most_asked a.state.store →
+        OrEnds (λ message. IsWhole size a (T.seen link.new) message.items) size a (T.seen link.new) result }
     ensures ready { T.ready link.new }
     ensures same { T.lenders link.new ≡ T.lenders link.old }
     ensures moves { T.moves link.old link.new }

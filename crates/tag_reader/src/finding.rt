@@ -6,8 +6,8 @@ ghost use Rattle.tlv_area.specs.Form.{NeedsMore};
 ghost use Rattle.tlv_area.specs.Layout.{IsArea};
 ghost use Rattle.tag_reader.specs.Kinds.{area_of};
 ghost use Rattle.tag_reader.specs.Heard.{IsOf};
-ghost use Rattle.tag_reader.specs.HeardSteps.{Sees, OrFault};
-ghost use Rattle.tag_reader.specs.Steps.{of_container, IsOfBlocks, IsBlockTag, HoldsContainer, IsCutFault, Reads};
+ghost use Rattle.tag_reader.specs.HeardSteps.{SeesMap};
+ghost use Rattle.tag_reader.specs.Steps.{of_container, IsOfBlocks, HoldsContainer, IsCutFault, ReadsMap};
 
 use crate::asking::ask_next;
 use crate::fault::ReadFault;
@@ -15,7 +15,9 @@ use crate::how::How;
 use nfc_base::TagLink;
 use std::alloc::Global;
 use t5t_tag::NO_BLOCK;
-use tlv_area::{AreaMap, ContainerFault, Space, Walk, container_t2, container_t5, find_message};
+use tlv_area::{
+    AreaMap, ContainerFault, Space, Walk, Walker, container_t2, container_t5, find_message,
+};
 
 /// How many blocks the numbers of one byte can name.
 const NAMED_BLOCKS: u32 = 256;
@@ -92,8 +94,8 @@ pub fn find_map<T: TagLink>(
     requires kind { IsOfBlocks how }
     requires begun { known.old.items ≡ [] }
     // whatever the tag does
-    ensures sees { OrFault (Sees how (T.seen link.old) (T.seen link.new) known.new.items) how (T.seen link.old) (T.seen link.new) result }
-    ensures reads { (size : ℕ) → IsBlockTag how size (T.seen link.old) → Reads how size (T.seen link.old) (T.seen link.new) known.new.items result }
+    ensures sees { SeesMap how (T.seen link.old) (T.seen link.new) known.new.items result }
+    ensures reads { ReadsMap how (T.seen link.old) (T.seen link.new) known.new.items result }
     ensures ready { T.ready link.new }
     ensures same { T.lenders link.new ≡ T.lenders link.old }
     ensures moves { T.moves link.old link.new }
@@ -106,19 +108,20 @@ pub fn find_map<T: TagLink>(
         Ok(space) => space,
         Err(fault) => return Err(of_container(fault)),
     };
+    // the walk goes on where it stopped: what was asked before isn't gone over again
+    let mut walker = Walker::new(&space);
     let mut index: u8 = 0;
-    'walk: loop {
-        match find_message(&space, front(known.as_slice(), space.end)) {
-            Walk::Held { map } => return Ok(map),
-            Walk::NoMessageTlv => return Err(ReadFault::NoMessageTlv),
-            Walk::BadTlv => return Err(ReadFault::BadTlv),
-            Walk::More => {
-                index += 1;
-                let goes_on = ask_next(alloc, link, how, index, known)?;
-                if !goes_on {
-                    return Err(cut_fault(space, known.as_slice()));
-                }
-            }
+    'walk: while walker.needs_more(front(known.as_slice(), space.end)) {
+        index += 1;
+        let goes_on = ask_next(alloc, link, how, index, known)?;
+        if !goes_on {
+            return Err(cut_fault(space, known.as_slice()));
         }
+    }
+    match walker.find_message(front(known.as_slice(), space.end)) {
+        Walk::Held { map } => Ok(map),
+        Walk::NoMessageTlv => Err(ReadFault::NoMessageTlv),
+        Walk::BadTlv => Err(ReadFault::BadTlv),
+        Walk::More => unreachable!(),
     }
 }

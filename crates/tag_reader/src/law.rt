@@ -35,7 +35,8 @@ pub fn one_asked(how: How, size: usize, store: &[u8])
     requires { IsStore how size store.now }
     ensures some { (commands : List Signal) × IsAsked how size store.now commands }
     ensures one { (xs ys : List Signal) → IsAsked how size store.now xs → IsAsked how size store.now ys → xs ≡ ys }
-    ensures front { (n : ℕ) (xs : List Signal) → AreDue how size store.now n → IsAsked how size store.now xs → IsFront (first how store.now n) xs }
+    ensures front { (n : ℕ) (xs : List Signal) → AreDue how size store.now n → IsAsked how size store.now xs →
+        IsFront (first how store.now n) xs }
 {
     match how {
         How::T2 => {

@@ -1,9 +1,9 @@
 //! Reads the message of a tag over any link (NFC Forum Type 2, Type 4 and Type 5 Tag).
 //!
 //! `read` is the one call. Of a Type 2 or Type 5 tag it asks for the bytes from the first on (`asking`), in the READs of the
-//! tag's kind (`how`), and after each looks whether they tell where the message lies (`finding`), so that it asks for nothing
-//! that it doesn't need; `message` copies the message. Of a Type 4 tag it opens the file that the container names, and reads
-//! its message (`file`). `told` reads the answers. `law` says that each store has one list of what is asked.
+//! tag's kind (`how`), and after each looks whether they tell where the message lies (`finding`), so that it asks for
+//! nothing that it doesn't need. Of a Type 4 tag it opens the file that the container names, and reads its message
+//! (`file`). `told` reads the answers. `law` says that each store has one list of what is asked.
 #![tactic(auto)]
 
 mod asking;
@@ -13,7 +13,6 @@ mod finding;
 mod found;
 mod how;
 mod law;
-mod message;
 mod reader;
 mod told;
 

@@ -1,21 +1,19 @@
 //! The reading of a tag.
 
-ghost use Rattle.std.specs.Prelude.{◌≡◌, ℕ, IfOk, IfErr, IsErrOf, Some};
+ghost use Rattle.std.specs.Prelude.{◌≡◌, IsErrOf, Some};
 ghost use Rattle.nfc_base.specs.declared.tag_link.AskFault.{AskFault};
-ghost use Rattle.tag_reader.specs.Kinds.{IsTag};
-ghost use Rattle.tag_reader.specs.Calls.{Stays, HasAsked, HasAskedAll, GoesOn};
-ghost use Rattle.tag_reader.specs.Reading.{IsFound, IsReadFault, IsCalm, IsToldOrMemory, OnTold};
-ghost use Rattle.tag_reader.specs.Heard.{IsOf, IsToldBy, TellsExactly, TellsSaid, TellsCutOff};
-ghost use Rattle.tag_reader.specs.Steps.{IsOfBlocks, IsBlockTag, IsRead, of_link};
+ghost use Rattle.tag_reader.specs.Reading.{KeepsStore, AsksInOrder, AsksAll, LeavesLink, TellsMessage, TellsCause, TellsInCalm};
+ghost use Rattle.tag_reader.specs.Heard.{IsOf, IsToldBy, TellsExactly, TellsRefusals, TellsSaid, TellsCutOff};
+ghost use Rattle.tag_reader.specs.Steps.{IsOfBlocks, ReadsTag, ReadsBlocks, of_link};
 
 use crate::fault::ReadFault;
 use crate::file::read_file;
 use crate::finding::find_map;
 use crate::found::{Found, Site};
 use crate::how::How;
-use crate::message::copy_message;
 use nfc_base::{Items, TagLink};
 use std::alloc::Global;
+use tlv_area::copy_message;
 
 /// Reads the message of the tag behind a link, which is of the kind that `how` names (NFC Forum Type 2 Tag, Type 4 Tag and
 /// Type 5 Tag). It writes nothing, and asks for no more than it needs.
@@ -23,27 +21,27 @@ pub fn read<T: TagLink>(alloc: Global, link: &mut T, how: How) -> Result<Found, 
     requires ready { T.ready link.old }
     // it leads to a tag of that kind, with that identifier
     requires of { IsOf how (T.seen link.old) }
-    // whatever the tag does: what it tells stands in the tag's answers, and each fault in the last of them, in what they
-    // brought, or in the link
+    // whatever the tag does: what it tells stands in the tag's answers, and each fault in the last of them, in what
+    // they brought, or in the link
     ensures told { IsToldBy how (T.seen link.old) (T.seen link.new) result }
     // exactly where the last answer refuses with this code, or may not come, or the link is over by this fault
-    ensures refused { (code : ℕ) → TellsExactly how (T.seen link.old) (T.seen link.new) result (ReadFault.Refused code) }
+    ensures refused { TellsRefusals how (T.seen link.old) (T.seen link.new) result }
     ensures protocol { TellsExactly how (T.seen link.old) (T.seen link.new) result ReadFault.Protocol }
     ensures over { (e : AskFault) → (T.seen link.new).over ≡ Some e → IsErrOf result (of_link e) }
     // where what the tag brought says a message or a fault, it tells this, or its own memory fails
     ensures said { TellsSaid how (T.seen link.old) (T.seen link.new) result }
     ensures cut_off { TellsCutOff how (T.seen link.old) (T.seen link.new) result }
     // where it is a tag of that kind: the store stays, in each image
-    ensures stays { (size : ℕ) → IsTag how size (T.seen link.old) → Stays (T.seen link.old) (T.seen link.new) }
+    ensures stays { KeepsStore how (T.seen link.old) (T.seen link.new) }
     // what was answered is the first of what is asked, and all of it unless the link or memory failed
-    ensures asked { (size : ℕ) → IsTag how size (T.seen link.old) → HasAsked how size (T.seen link.old).state.store (T.seen link.old) (T.seen link.new) }
-    ensures whole { (size : ℕ) → IsTag how size (T.seen link.old) → OnTold result (HasAskedAll how size (T.seen link.old).state.store (T.seen link.old) (T.seen link.new)) }
+    ensures asked { AsksInOrder how (T.seen link.old) (T.seen link.new) }
+    ensures whole { AsksAll how (T.seen link.old) (T.seen link.new) result }
     // by what it then tells the link doesn't end
-    ensures goes_on { (size : ℕ) → IsTag how size (T.seen link.old) → OnTold result (GoesOn (T.seen link.old) (T.seen link.new)) }
-    ensures ok { (size : ℕ) → IsTag how size (T.seen link.old) → IfOk result (IsFound how size (T.seen link.old).state.store) }
-    ensures err { (size : ℕ) → IsTag how size (T.seen link.old) → IfErr result (IsReadFault how (T.seen link.old).state.store (T.seen link.old) (T.seen link.new)) }
+    ensures goes_on { LeavesLink how (T.seen link.old) (T.seen link.new) result }
+    ensures ok { TellsMessage how (T.seen link.old) result }
+    ensures err { TellsCause how (T.seen link.old) (T.seen link.new) result }
     // where all passes, or each wait is answered, it tells what the store holds or finds no memory
-    ensures calm { (size : ℕ) → IsTag how size (T.seen link.old) → IsCalm (T.seen link.old) (T.seen link.new) → IfErr result IsToldOrMemory }
+    ensures calm { TellsInCalm how (T.seen link.old) (T.seen link.new) result }
     ensures ready { T.ready link.new }
     ensures same { T.lenders link.new ≡ T.lenders link.old }
     ensures moves { T.moves link.old link.new }
@@ -55,7 +53,7 @@ fn read_kind<T: TagLink>(alloc: Global, link: &mut T, how: How) -> Result<Found,
     requires ready { T.ready link.old }
     requires of { IsOf how (T.seen link.old) }
     ensures told { IsToldBy how (T.seen link.old) (T.seen link.new) result }
-    ensures reads { (size : ℕ) → IsTag how size (T.seen link.old) → IsRead how size (T.seen link.old) (T.seen link.new) result }
+    ensures reads { ReadsTag how (T.seen link.old) (T.seen link.new) result }
     ensures ready { T.ready link.new }
     ensures same { T.lenders link.new ≡ T.lenders link.old }
     ensures moves { T.moves link.old link.new }
@@ -74,7 +72,7 @@ fn read_area<T: TagLink>(alloc: Global, link: &mut T, how: How) -> Result<Found,
     requires kind { IsOfBlocks how }
     // whatever the tag does
     ensures told { IsToldBy how (T.seen link.old) (T.seen link.new) result }
-    ensures reads { (size : ℕ) → IsBlockTag how size (T.seen link.old) → IsRead how size (T.seen link.old) (T.seen link.new) result }
+    ensures reads { ReadsBlocks how (T.seen link.old) (T.seen link.new) result }
     ensures ready { T.ready link.new }
     ensures same { T.lenders link.new ≡ T.lenders link.old }
     ensures moves { T.moves link.old link.new }

@@ -123,7 +123,19 @@ struct MemLink<C> {
 }
 
 impl<C: Card> TagLink for MemLink<C> {
-    ghost seen = { λ l. record { kind = C.kind l.card; identifier = C.identifier l.card; step = C.step l.card; state = C.state l.card; obeyed = l.obeyed.items; answered = l.answered.items; last = l.last; over = l.over; dark = false; counts = record { breaks = l.breaks; six_bad = l.six_bad; odd = 0 }; noise = l.breaks } };
+    ghost seen = { λ l. record {
+      kind = C.kind l.card;
+      identifier = C.identifier l.card;
+      step = C.step l.card;
+      state = C.state l.card;
+      obeyed = l.obeyed.items;
+      answered = l.answered.items;
+      last = l.last;
+      over = l.over;
+      dark = false;
+      counts = record { breaks = l.breaks; six_bad = l.six_bad; odd = 0 };
+      noise = l.breaks;
+    } };
 
     ghost lenders = { λ _. [] };
 

@@ -41,10 +41,12 @@ fn four_blocks(content: &[u8; 16]) -> ArrayVec<u8, 256>
 }
 
 /// What the answer of a Type 2 tag tells: content, that the command is refused, or no more than that no such tag sends it.
-fn told_t2(answer: &Frame) -> Result<Told, ReadFault>
+fn tell_t2(answer: &Frame) -> Result<Told, ReadFault>
     ensures tells { TellsOf hows.T2 answer.now result }
     ensures refused { answer.now ≡ t2.answer_frame T2Answer.Refused → result ≡ Err (ReadFault.Refused 0) }
-    ensures content { (content : List ℕ) → length content ≡ 16 → answer.now ≡ t2.answer_frame (T2Answer.Content content) → result ≡ Ok (Told.Bytes (record { items = content })) }
+    ensures content { (content : List ℕ) → length content ≡ 16 →
+        answer.now ≡ t2.answer_frame (T2Answer.Content content) →
+        result ≡ Ok (Told.Bytes (record { items = content })) }
 {
     match T2Answer::read_from(answer) {
         Some(T2Answer::Content(content)) => Ok(Told::Bytes(four_blocks(&content))),
@@ -55,10 +57,13 @@ fn told_t2(answer: &Frame) -> Result<Told, ReadFault>
 }
 
 /// The same of a Type 5 tag. An error of a block that isn't there tells that the tag has ended.
-fn told_t5(answer: &Frame) -> Result<Told, ReadFault>
+fn tell_t5(answer: &Frame) -> Result<Told, ReadFault>
     ensures tells { (id : List ℕ) → TellsOf (hows.T5 id) answer.now result }
-    ensures refused { (code : ℕ) → answer.now ≡ t5.answer_frame (T5Answer.Error code) → (code ≡ NO_BLOCK → ⊥) → result ≡ Err (ReadFault.Refused code) }
-    ensures content { (content : List ℕ) → length content ≤ 256 → length content % 4 ≡ 0 → answer.now ≡ t5.answer_frame (T5Answer.Content (record { items = content })) → result ≡ Ok (Told.Bytes (record { items = content })) }
+    ensures refused { (code : ℕ) → answer.now ≡ t5.answer_frame (T5Answer.Error code) → (code ≡ NO_BLOCK → ⊥) →
+        result ≡ Err (ReadFault.Refused code) }
+    ensures content { (content : List ℕ) → length content ≤ 256 → length content % 4 ≡ 0 →
+        answer.now ≡ t5.answer_frame (T5Answer.Content (record { items = content })) →
+        result ≡ Ok (Told.Bytes (record { items = content })) }
     ensures ended { answer.now ≡ t5.answer_frame (T5Answer.Error NO_BLOCK) → result ≡ Ok Told.Ended }
 {
     match T5Answer::read_from(answer) {
@@ -71,11 +76,13 @@ fn told_t5(answer: &Frame) -> Result<Told, ReadFault>
 }
 
 /// What the answer of a Type 4 tag tells: the bytes that it brings, where its status bytes tell that the command was obeyed.
-pub fn told_t4(answer: &Frame) -> Result<ArrayVec<u8, 256>, ReadFault>
+pub fn tell_t4(answer: &Frame) -> Result<ArrayVec<u8, 256>, ReadFault>
     ensures tells { IfOk result (λ content. HasContent hows.T4 answer.now content.items) }
     ensures fault { IfErr result (TellsFault hows.T4 answer.now) }
-    ensures content { (content : List ℕ) → length content ≤ 256 → answer.now ≡ whole_a (content ++ done) → result ≡ Ok (record { items = content }) }
-    ensures refused { (content : List ℕ) (high low : ℕ) → answer.now ≡ whole_a (content ++ high ∷ low ∷ []) → IsRefusal high low → result ≡ Err (ReadFault.Refused (high * 256 + low)) }
+    ensures content { (content : List ℕ) → length content ≤ 256 → answer.now ≡ whole_a (content ++ done) →
+        result ≡ Ok (record { items = content }) }
+    ensures refused { (content : List ℕ) (high low : ℕ) → answer.now ≡ whole_a (content ++ high ∷ low ∷ []) →
+        IsRefusal high low → result ≡ Err (ReadFault.Refused (high * 256 + low)) }
 {
     if answer.tech() != Tech::A || answer.tail() != 0 {
         return Err(ReadFault::Protocol);
@@ -97,11 +104,12 @@ pub fn told_t4(answer: &Frame) -> Result<ArrayVec<u8, 256>, ReadFault>
 pub fn tell(how: How, answer: &Frame) -> Result<Told, ReadFault>
     requires { IsOfBlocks how }
     ensures tells { TellsOf how answer.now result }
-    ensures store { (size k : ℕ) (store : List ℕ) → IsBlockStore how size store → IsInReach how size store k → answer.now ≡ reply how size store k → TellsNext size store k result }
+    ensures store { (size k : ℕ) (store : List ℕ) → IsBlockStore how size store → IsInReach how size store k →
+        answer.now ≡ reply how size store k → TellsNext size store k result }
 {
     match how {
-        How::T2 => told_t2(answer),
+        How::T2 => tell_t2(answer),
         How::T4 => unreachable!(),
-        How::T5(_) => told_t5(answer),
+        How::T5(_) => tell_t5(answer),
     }
 }

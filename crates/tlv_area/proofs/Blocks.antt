@@ -1,14 +1,17 @@
 -- Blocks of a memory.
-use Rattle.std.proofs.Common.{◌≡◌, ℕ, suc, zero, ◌+◌, ◌-◌, ◌*◌, ◌/◌, ◌<◌, ◌≤◌, Bool, true, false, cond, List, [], ◌∷◌, ◌++◌, not, refl, ◌∙◌, ap, arith, inl, inr, eqb}
-use Rattle.std.specs.Prelude.{◌||◌, ◌&&◌, ◌==◌, filter}
+use Rattle.std.proofs.Common.{◌≡◌, ℕ, suc, zero, ◌+◌, ◌-◌, ◌*◌, ◌/◌, ◌<◌, ◌≤◌, Bool, true, false, cond, List, [], ◌∷◌, ◌++◌, not, length, min, max, Option, Some, None, refl, sym, ◌∙◌, ap, arith, inl, inr, eqb}
+use Rattle.std.specs.Prelude.{◌||◌, ◌&&◌, ◌==◌, filter, IfSome, IfNone}
+use Rattle.std.specs.Option.{is_some}
 use Rattle.std.specs.List.{range_with_len}
 use Rattle.std.proofs.Math.Nat.{lt-div-mul-add, mul-le-mul_left}
 use Rattle.std.proofs.lemmas.Nat.{div-mul-add, div-add-mod', le-div}
+use Rattle.std.proofs.lemmas.List.{length-append}
 use Rattle.std.proofs.lemmas.List.Folds.{list_any-append}
 use Rattle.std.proofs.lemmas.Bool.{cases_Bool, ne_eqb, eq-eqb}
 use Rattle.tlv_area.specs.Layout.{free}
+use Rattle.tlv_area.specs.Reading.{IsPast}
 use Rattle.tlv_area.specs.Writing.{touches, blocks_touched, blocks_below}
-use Rattle.tlv_area.proofs.Free.{free_split, free_at, range-add}
+use Rattle.tlv_area.proofs.Free.{free_split, free_at, range-add, length-free_open}
 use Rattle.std.proofs.lemmas.List.Elements.{filter-append}
 
 -- the addresses of a block are in that block
@@ -23,7 +26,7 @@ pub block_bounds : (size a : ℕ) → 0 < size → (a / size * size ≤ a) × (a
 block_bounds size a some = (omega (arith, div-add-mod' a size), lt-div-mul-add some)
 
 -- a block with a free address is touched
-pub touched_at : (r : ℕ → Bool) (from to a size k : ℕ) → from ≤ a → a < to → r a ≡ false → a / size ≡ k → touches size (free r from to) k ≡ true
+touched_at : (r : ℕ → Bool) (from to a size k : ℕ) → from ≤ a → a < to → r a ≡ false → a / size ≡ k → touches size (free r from to) k ≡ true
 touched_at r from to a size k low high open_cell block =
     let one : free r a (a + 1) ≡ a ∷ [] = free_at r a ∙ ap (λ b. cond (not b) (a ∷ []) []) open_cell in
     let here : touches size (free r a (a + 1)) k ≡ true = ap (λ c. touches size c k) one ∙ ap (λ v. v || false) (eq-eqb (a / size) k block) in
@@ -48,9 +51,39 @@ untouched_range r a (suc n) size k none =
       | inr open_cell ↦ (let other : eqb (a / size) k ≡ false = ne_eqb (a / size) k (none a (omega arith) (omega arith) open_cell) in rw (open_cell, other) rest)
     ]
 
-pub untouched : (r : ℕ → Bool) (from to size k : ℕ) → ((b : ℕ) → from ≤ b → b < to → r b ≡ false → b / size ≡ k → ⊥) →
+untouched : (r : ℕ → Bool) (from to size k : ℕ) → ((b : ℕ) → from ≤ b → b < to → r b ≡ false → b / size ≡ k → ⊥) →
     touches size (free r from to) k ≡ false
 untouched r from to size k none = untouched_range r from (to - from) size k (λ b low high. none b low (omega arith))
+
+-- an address that is free is one of those between two
+free_some : (r : ℕ → Bool) (first behind b : ℕ) → first ≤ b → b < behind → r b ≡ false → 0 < length (free r first behind)
+free_some r first behind b low high open_cell =
+    let front = length-free_open r first b low open_cell in
+    let whole = ap length (free_split r first (b + 1) behind (omega arith) (omega arith)) ∙ length-append (free r first (b + 1)) (free r (b + 1) behind) in
+    omega (arith, front, whole)
+
+module _ (r : ℕ → Bool) (from to size k first behind : ℕ) (some : 0 < size)
+    (is_first : first ≡ max from (k * size)) (is_behind : behind ≡ min to (k * size + size)) where
+  -- an address of a block that lies between two lies where the block does
+  in_block : (b : ℕ) → from ≤ b → b < to → b / size ≡ k → (first ≤ b) × (b < behind)
+  in_block b low high block =
+      let bounds = block_bounds size b some in
+      let base : b / size * size ≡ k * size = ap (λ n. n * size) block in
+      (omega (arith, bounds.0, base), omega (arith, bounds.1, base))
+
+  pub untouched_block : behind < first → touches size (free r from to) k ≡ false
+  untouched_block none = untouched r from to size k (λ b low high _ block. let there = in_block b low high block in omega (arith, there.0, there.1))
+
+  -- a block is touched where a first free address lies there
+  pub touched_block : (o : Option ℕ) → IfSome o (λ p. IsPast r first behind 1 p) → IfNone o (length (free r first behind) < 1) →
+      is_some o ≡ touches size (free r from to) k
+  touched_block (Some p) is none =
+      sym (touched_at r from to (p - 1) size k (omega (arith, is.above)) (omega (arith, is.above, is.below)) (is.last (omega arith))
+      (block_is size k (p - 1) (omega (arith, is.above)) (omega (arith, is.above, is.below))))
+  touched_block None is none =
+      sym (untouched r from to size k (λ b low high open_cell block.
+      let there = in_block b low high block in
+      omega (arith, none, free_some r first behind b there.0 there.1 open_cell)))
 
 -- one block more
 pub blocks_more : (size : ℕ) (cells : List ℕ) (h n : ℕ) →

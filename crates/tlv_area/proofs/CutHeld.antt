@@ -26,6 +26,7 @@ cut_not_held space memory m low high unknown is =
       layout = record { addresses = addresses; lie = layout.lie; plain = layout.plain };
       lies = is.4.lies;
       message = is.4.message;
+      ordered = is.4.ordered;
       ranges = λ a. is.4.ranges a ∙ ap (λ c. reserved_by c is.1 a) control;
       place = is.4.place;
       long' = is.4.long';

@@ -1,11 +1,10 @@
 -- Free addresses.
-use Rattle.std.proofs.Common.{◌≡◌, ℕ, suc, zero, ◌+◌, ◌-◌, ◌≤◌, Bool, true, false, cond, List, [], ◌∷◌, ◌++◌, length, not, refl, ◌∙◌, ap, arith}
+use Rattle.std.proofs.Common.{◌≡◌, ℕ, suc, zero, ◌+◌, ◌-◌, ◌≤◌, Bool, false, cond, [], ◌∷◌, ◌++◌, length, not, refl, ◌∙◌, ap, arith}
 use Rattle.std.specs.Prelude.{filter}
 use Rattle.std.specs.List.{range_with_len}
 use Rattle.std.proofs.lemmas.List.{length-append}
 use Rattle.std.proofs.lemmas.List.Elements.{filter-append}
 use Rattle.tlv_area.specs.Layout.{free}
-use Rattle.tlv_area.specs.Map.{in_ranges}
 
 pub range-add : (a m n : ℕ) → range_with_len a (m + n) ≡ range_with_len a m ++ range_with_len (a + m) n
 range-add a zero n = grind arith
@@ -34,24 +33,7 @@ pub length-free_more : (r : ℕ → Bool) (at m : ℕ) → at ≤ m →
 length-free_more r at m low = let within : m ≤ m + 1 = omega arith in
     ap length (free_split r at m (m + 1) low within) ∙ length-append (free r at m) (free r m (m + 1))
 
-pub length-free_taken : (r : ℕ → Bool) (at m : ℕ) → at ≤ m → r m ≡ true → length (free r at (m + 1)) ≡ length (free r at m)
-length-free_taken r at m low taken =
-    let one : length (free r m (m + 1)) ≡ 0 = ap length (free_at r m) ∙ ap (λ b. length (cond (not b) (m ∷ []) [])) taken in
-    omega (arith, length-free_more r at m low)
-
 pub length-free_open : (r : ℕ → Bool) (at m : ℕ) → at ≤ m → r m ≡ false → length (free r at (m + 1)) ≡ length (free r at m) + 1
 length-free_open r at m low taken =
     let one : length (free r m (m + 1)) ≡ 1 = ap length (free_at r m) ∙ ap (λ b. length (cond (not b) (m ∷ []) [])) taken in
     omega (arith, length-free_more r at m low)
-
--- where nothing is reserved
-pub nothing_reserved : (rs : List (ℕ × ℕ)) → length rs ≡ 0 → (a : ℕ) → in_ranges rs a ≡ false
-nothing_reserved [] e a = refl
-nothing_reserved (r ∷ rs) e a = absurd (omega arith)
-
-range_open : (r : ℕ → Bool) (a n : ℕ) → ((b : ℕ) → r b ≡ false) → length (filter (λ b. not (r b)) (range_with_len a n)) ≡ n
-range_open r a zero none = refl
-range_open r a (suc n) none = rw (none a) (ap suc (range_open r (a + 1) n none))
-
-pub length-free_all : (r : ℕ → Bool) (at end : ℕ) → ((b : ℕ) → r b ≡ false) → length (free r at end) ≡ end - at
-length-free_all r at end none = range_open r at (end - at) none

@@ -104,7 +104,7 @@ module _ (memory more : List ℕ) where
     bytes = byte_all t.at lies.known ∙ lies.bytes;
   }
 
-  all_grow : (ts : List Tlv) → AllByRecursion (LiesIn memory) ts → AllByRecursion (LiesIn (memory ++ more)) ts
+  pub all_grow : (ts : List Tlv) → AllByRecursion (LiesIn memory) ts → AllByRecursion (LiesIn (memory ++ more)) ts
   all_grow [] each = tt
   all_grow (t ∷ ts) each = (lies_grows t each.0, all_grow ts each.1)
 
@@ -131,6 +131,7 @@ fronts_settle space memory more (walk.Held map') settled is = (
     lies = lies_grows memory more is.2 is.4.lies;
     message = is.4.message;
     ranges = is.4.ranges;
+    ordered = is.4.ordered;
     place = is.4.place;
     long' = is.4.long';
     size = is.4.size;

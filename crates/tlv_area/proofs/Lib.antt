@@ -1,4 +1,5 @@
 pub mod Free
+pub mod Runs
 pub mod Steps
 pub mod Trails
 pub mod OneForm
@@ -13,3 +14,4 @@ pub mod Holding
 pub mod Putting
 pub mod Stepping
 pub mod Images
+pub mod Walks

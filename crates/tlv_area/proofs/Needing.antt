@@ -6,7 +6,7 @@ use Rattle.std.proofs.lemmas.Bool.{cases_lt, cases_eq, cases_Bool}
 use Rattle.tlv_area.specs.declared.space.Space.{Space}
 use Rattle.tlv_area.specs.Layout.{free, is_known, bytes_at, spelling, Tlv, IsTlv, LiesIn, length_limit, reserved_by, reserves}
 use Rattle.tlv_area.specs.Form.{Next, End, Fault, Unknown, Item, next, length_next, long_next, value_next, NeedsMore}
-use Rattle.tlv_area.specs.Reading.{Trail}
+use Rattle.tlv_area.specs.Walking.{Trail}
 use Rattle.tlv_area.proofs.Free.{free_split}
 use Rattle.tlv_area.proofs.Trails.{chosen, trail_layout, trail_none, trail_more}
 use Rattle.tlv_area.proofs.OneForm.{Steps, nonempty, split, next_there, layout_steps, same_past}

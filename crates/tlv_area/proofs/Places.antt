@@ -102,7 +102,7 @@ module _ (m : AreaMap) (memory : List ℕ) (ts : List Tlv) (t : Tlv) (after : Li
 
   pub message_placed : m.space.start ≤ m.space.end → IsPlacedIn memory m
   message_placed order = record {
-    placed = record { order = order; fits = message_fits };
+    placed = record { order = order; ordered = is.ordered; fits = message_fits };
     below = λ i low. (
         let known : is_known memory (drop (cond m.long 4 2) t.at) ≡ true = known_drop memory (cond m.long 4 2) t.at is.lies.known in
         let here : slice_index (message_cells m) i ≡ slice_index (drop (cond m.long 4 2) t.at) i = ap (λ c. slice_index c i) message_cells_at in

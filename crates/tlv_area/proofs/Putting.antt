@@ -1,65 +1,85 @@
--- Writing bytes at free addresses.
-use Rattle.std.proofs.Common.{◌≡◌, ℕ, ◌+◌, ◌<◌, ◌≤◌, Bool, true, false, cond, List, [], ◌∷◌, ◌++◌, length, not, refl, sym, ◌∙◌, ap, arith, subst, eqb, take, set}
-use Rattle.std.specs.Prelude.{◌||◌, ◌==◌, nat_lt, slice_index}
-use Rattle.std.specs.List.{list_all}
-use Rattle.std.proofs.lemmas.List.{length-set, map-append, take_at, take_all, take_more, get_or-set_same, get_or-set_other, append-nil}
+-- Writing bytes at free addresses, a run at a time.
+use Rattle.std.proofs.Common.{◌≡◌, ℕ, suc, zero, ◌+◌, ◌-◌, ◌<◌, ◌≤◌, Bool, true, false, List, ◌++◌, length, refl, sym, ◌∙◌, ap, arith, rules, take, drop, inl, inr, ◌⊎◌}
+use Rattle.std.specs.Prelude.{◌||◌, ◌==◌, slice_index}
+use Rattle.std.specs.List.{range_with_len}
+use Rattle.std.proofs.lemmas.List.{map-append, places}
 use Rattle.std.proofs.lemmas.List.Folds.{list_any-append}
-use Rattle.std.proofs.lemmas.Bool.{eqb-false}
+use Rattle.std.proofs.lemmas.Slice.{between-put_mid}
+use Rattle.std.proofs.lemmas.Bool.{cases_lt, cases_eq, eq-eqb, ne_eqb}
+use borrow.Rule.Slice.PartMut.{put_mid}
 use Rattle.tlv_area.specs.Layout.{free, bytes_at}
 use Rattle.tlv_area.specs.Writing.{is_in, IsPut}
-use Rattle.tlv_area.proofs.Free.{free_split, free_at}
-use Rattle.tlv_area.proofs.Steps.{free_below}
-use Rattle.tlv_area.proofs.Holding.{all_bytes_same, in_below}
+use Rattle.tlv_area.proofs.Runs.{row_bytes}
+use Rattle.tlv_area.proofs.Holding.{in_above}
+use Rattle.tlv_area.proofs.OneForm.{range_above}
 
 or_false : (x y : Bool) → (x || y) ≡ false → (x ≡ false) × (y ≡ false)
 or_false true y e = cc
 or_false false y e = (refl, e)
 
-one_more : (r : ℕ → Bool) (at a : ℕ) → at ≤ a → r a ≡ false → free r at (a + 1) ≡ free r at a ++ a ∷ []
-one_more r at a low open_cell = free_split r at a (a + 1) low (omega arith)
-    ∙ ap (λ cells. free r at a ++ cells) (free_at r a ∙ ap (λ b. cond (not b) (a ∷ []) []) open_cell)
+-- addresses in a row
+in_row : (at k a : ℕ) → at ≤ a → a < at + k → is_in (range_with_len at k) a ≡ true
+in_row at zero a low high = absurd (omega arith)
+in_row at (suc k) a low high = elim (cases_eq at a) [
+  | inl e ↦ ap (λ b. b || is_in (range_with_len (at + 1) k) a) (eq-eqb at a e)
+  | inr e ↦ ap (λ b. b || is_in (range_with_len (at + 1) k) a) (ne_eqb at a e) ∙ in_row (at + 1) k a (omega arith) (omega arith)
+]
 
-one_taken_more : (r : ℕ → Bool) (at a : ℕ) → at ≤ a → r a ≡ true → free r at (a + 1) ≡ free r at a
-one_taken_more r at a low taken = free_split r at a (a + 1) low (omega arith)
-    ∙ ap (λ cells. free r at a ++ cells) (free_at r a ∙ ap (λ b. cond (not b) (a ∷ []) []) taken) ∙ append-nil (free r at a)
+out_of_row : (at k a : ℕ) → is_in (range_with_len at k) a ≡ false → (a < at) ⊎ (at + k ≤ a)
+out_of_row at k a away = elim (cases_lt a at) [
+  | inl h ↦ inl h
+  | inr h ↦ elim (cases_lt a (at + k)) [
+    | inl l ↦ (let there = in_row at k a h l in cc)
+    | inr l ↦ inr l
+  ]
+]
 
--- one byte more at the next free address
-pub put_more : (r : ℕ → Bool) (at a i : ℕ) (old mem bytes : List ℕ) → at ≤ a → r a ≡ false → a < length mem → i < length bytes →
-    IsPut (free r at a) old mem (take i bytes) → IsPut (free r at (a + 1)) old (set mem a (slice_index bytes i)) (take (i + 1) bytes)
-put_more r at a i old mem bytes low open_cell within more so_far =
-    let v : ℕ = slice_index bytes i in
-    let cells : free r at (a + 1) ≡ free r at a ++ a ∷ [] = one_more r at a low open_cell in
-    let below : list_all (λ b. nat_lt b a) (free r at a) ≡ true = free_below r at a a low (omega arith) in
-    let before : bytes_at (set mem a v) (free r at a) ≡ bytes_at mem (free r at a) =
-    all_bytes_same mem (set mem a v) (free r at a) (λ b there.
-    let less : b < a = in_below (free r at a) a b below there in
-    get_or-set_other mem a b v 0 (λ e. omega arith)) in
-    record {
-      outside = record {
-        size = length-set mem a v ∙ so_far.outside.size;
-        same = λ b away.
-            let parts = or_false (is_in (free r at a) b) (eqb a b || false)
-            (sym (list_any-append (λ x. x == b) (free r at a) (a ∷ [])) ∙ sym (ap (λ c. is_in c b) cells) ∙ away) in
-            let other = or_false (eqb a b) false parts.1 in
-            let ne : a ≡ b → ⊥ = eqb-false a b other.0 in
-            get_or-set_other mem a b v 0 (λ e. ne (sym e)) ∙ so_far.outside.same b parts.0;
-      };
-      inside = ap (λ c. bytes_at (set mem a v) c) cells ∙ map-append (λ x. slice_index (set mem a v) x) (free r at a) (a ∷ [])
-          ∙ ap (λ bs. bs ++ slice_index (set mem a v) a ∷ []) (before ∙ so_far.inside)
-          ∙ ap (λ b. take i bytes ++ b ∷ []) (get_or-set_same mem a v 0 within)
-          ∙ sym (take_more bytes i 0 more);
-    }
+row_same : (old new : List ℕ) (at k : ℕ) → ((a : ℕ) → at ≤ a → a < at + k → slice_index new a ≡ slice_index old a) →
+    bytes_at new (range_with_len at k) ≡ bytes_at old (range_with_len at k)
+row_same old new at zero same = refl
+row_same old new at (suc k) same =
+    let rest = row_same old new (at + 1) k (λ a low high. same a (omega arith) (omega arith)) in
+    rw (same at (omega arith) (omega arith), rest) refl
 
--- a reserved address is passed over
-pub put_skip : (r : ℕ → Bool) (at a : ℕ) (old mem bytes : List ℕ) → at ≤ a → r a ≡ true →
-    IsPut (free r at a) old mem bytes → IsPut (free r at (a + 1)) old mem bytes
-put_skip r at a old mem bytes low taken so_far = subst (λ c. IsPut c old mem bytes) (sym (one_taken_more r at a low taken)) so_far
+module _ (mem row : List ℕ) (at k : ℕ) (sized : length row ≡ k) (within : at + k ≤ length mem) where
+  abbrev there : List ℕ
+  there = put_mid at k mem row
 
--- all bytes are put
-pub put_done : (r : ℕ → Bool) (at a end i : ℕ) (old mem bytes : List ℕ) → at ≤ a → a ≤ end → i ≡ length bytes → i ≡ length (free r at a) →
-    IsPut (free r at a) old mem (take i bytes) → IsPut (take (length bytes) (free r at end)) old mem bytes
-put_done r at a end i old mem bytes low high all_of count so_far =
-    let cells : take (length bytes) (free r at end) ≡ free r at a =
-    ap (λ c. take (length bytes) c) (free_split r at a end low high) ∙ take_at (free r at a) (free r a end) (length bytes) (sym count ∙ all_of) in
-    let whole : take i bytes ≡ bytes = take_all i bytes (omega arith) in
-    subst (λ c. IsPut c old mem bytes) (sym cells) (subst (λ bs. IsPut (free r at a) old mem bs) whole so_far)
+  pub length-row : length there ≡ length mem
+  length-row = search (rules, places)
+
+  before : (a : ℕ) → a < at → slice_index there a ≡ slice_index mem a
+  before a low = search (rules, places)
+
+  behind : (a : ℕ) → at + k ≤ a → slice_index there a ≡ slice_index mem a
+  behind a high = search (rules, places)
+
+  inside : bytes_at there (range_with_len at k) ≡ row
+  inside =
+      let size : at + k - at ≡ k = omega arith in
+      row_bytes there at k (omega (arith, length-row)) ∙ ap (λ n. take n (drop at there)) (sym size)
+      ∙ between-put_mid at k mem row (at + k) (omega arith) (sized ∙ sym size)
+
+  outside : (a : ℕ) → is_in (range_with_len at k) a ≡ false → slice_index there a ≡ slice_index mem a
+  outside a away = elim (out_of_row at k a away) [ inl h ↦ before a h | inr h ↦ behind a h ]
+
+  -- a row, and what is put behind it
+  pub put_row : (r : ℕ → Bool) (next to : ℕ) (new later : List ℕ) → at + k ≤ next →
+      IsPut (free r next to) there new later → IsPut (range_with_len at k ++ free r next to) mem new (row ++ later)
+  put_row r next to new later low is = record {
+    outside = record {
+      size = is.outside.size ∙ length-row;
+      same = λ a away.
+          let parts = or_false (is_in (range_with_len at k) a) (is_in (free r next to) a)
+          (sym (list_any-append (λ x. x == a) (range_with_len at k) (free r next to)) ∙ away) in
+          is.outside.same a parts.1 ∙ outside a parts.0;
+    };
+    inside = map-append (λ x. slice_index new x) (range_with_len at k) (free r next to)
+        ∙ ap (λ bs. bs ++ bytes_at new (free r next to))
+        (row_same there new at k (λ a _ high. is.outside.same a (in_above (free r next to) next a (range_above r next next (to - next) (omega arith)) (omega arith))) ∙ inside)
+        ∙ ap (λ bs. row ++ bs) is.inside;
+  }
+
+  -- the last row
+  pub put_last : IsPut (range_with_len at k) mem there row
+  put_last = record { outside = record { size = length-row; same = outside }; inside = inside }

@@ -8,7 +8,8 @@ use Rattle.std.proofs.lemmas.Bool.{lt-ltb, le-ltb, ltb-false, eqb-false, eqb-tru
 use Rattle.tlv_area.specs.declared.space.Space.{Space}
 use Rattle.tlv_area.specs.Layout.{free, is_known, bytes_at, Tlv, LiesIn, Layout, length_bytes, after_kind, reserved_by, reserves, range_has}
 use Rattle.tlv_area.specs.Form.{next, length_next, long_next, value_next, End, Fault, Unknown, Item}
-use Rattle.tlv_area.specs.Reading.{Trail, IsFound, HasThree, Reserves, tlv_size}
+use Rattle.tlv_area.specs.Reading.{IsFound, HasThree, Reserves, tlv_size}
+use Rattle.tlv_area.specs.Walking.{Trail}
 use Rattle.tlv_area.specs.declared.ahead.Found.{Found}
 use Rattle.tlv_area.proofs.Free.{free_split, free_none}
 use Rattle.tlv_area.proofs.Steps.{free_below, free_past}

@@ -6,3 +6,4 @@ pub mod Map
 pub mod Tail
 pub mod Writing
 pub mod Reading
+pub mod Walking

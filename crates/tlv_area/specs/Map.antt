@@ -1,6 +1,7 @@
 -- The map of an area: where its message lies, by what a walk over a front of the memory tells.
 use Rattle.std.specs.Prelude.{◌≡◌, ℕ, ◌+◌, ◌<◌, ◌≤◌, Bool, ◌&&◌, nat_lt, nat_le, if◌then◌else◌, List, ◌++◌, length, slice_index, take, drop}
 use Rattle.std.specs.List.{list_any, flat_map}
+use Rattle.std.specs.List.Sorted.{IsNonDecreasingBy}
 use Rattle.tlv_area.specs.declared.space.Space.{Space}
 use Rattle.tlv_area.specs.declared.space.AreaMap.{AreaMap}
 use Rattle.tlv_area.specs.declared.walk.Walk.{Walk}
@@ -12,12 +13,17 @@ use Rattle.tlv_area.specs.Form.{Comes, End, Fault, Unknown, IsForm, Message, NoM
 abbrev pub in_ranges : List (ℕ × ℕ) → ℕ → Bool
 in_ranges rs a = list_any (λ r. nat_le r.0 a && nat_lt a r.1) rs
 
+-- each range begins where the one before it does, or behind that
+abbrev pub IsOrdered : List (ℕ × ℕ) → Type 0
+IsOrdered rs = IsNonDecreasingBy (λ r. r.0) rs
+
 -- The map of an area whose TLVs before the message are ts, the message's TLV being t and `after` the addresses behind it.
 pub record IsMap (memory : List ℕ) (map' : AreaMap) (ts : List Tlv) (t : Tlv) (after : List ℕ) : Type 0 where
   pub layout : Layout map'.space memory ts (t.at ++ after)
   pub lies : LiesIn memory t
   pub message : t.kind ≡ ndef_message
   pub ranges : (a : ℕ) → in_ranges map'.reserved.items a ≡ reserved_by map'.space.control ts a
+  pub ordered : IsOrdered map'.reserved.items
   pub place : map'.tlv ≡ length (flat_map (λ u. u.at) ts)
   pub long' : map'.long ≡ t.long
   pub size : map'.length ≡ length t.value
@@ -38,9 +44,10 @@ message_place m = m.tlv + header_size m.long
 abbrev pub message_cells : AreaMap → List ℕ
 message_cells m = take m.length (drop (message_place m) (map_cells m))
 
--- the message's TLV lies in the area
+-- the message's TLV lies in the area, and the ranges stand in ascending order
 pub record IsPlaced (m : AreaMap) : Type 0 where
   pub order : m.space.start ≤ m.space.end
+  pub ordered : IsOrdered m.reserved.items
   pub fits : message_place m + m.length ≤ length (map_cells m)
 
 -- the message lies in the area and in the memory

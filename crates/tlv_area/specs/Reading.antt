@@ -1,13 +1,12 @@
 -- What the parts of the walk say. No public contract speaks of these.
-use Rattle.std.specs.Prelude.{◌≡◌, ◌≢◌, ℕ, ◌+◌, ◌-◌, ◌<◌, ◌≤◌, Bool, false, not, ◌&&◌, ◌||◌, ◌==◌, nat_lt, nat_le, if◌then◌else◌, List, ◌∷◌, length, ◌++◌, Option, MatchOption, slice_index, []}
-use Rattle.std.specs.List.{list_all, flat_map, AllByRecursion}
-use Rattle.tlv_area.specs.declared.space.Space.{Space}
+use Rattle.std.specs.Prelude.{◌≡◌, ℕ, ◌+◌, ◌-◌, ◌<◌, ◌≤◌, Bool, false, not, ◌&&◌, ◌||◌, ◌==◌, nat_lt, nat_le, if◌then◌else◌, List, ◌∷◌, length, ◌++◌, Option, MatchOption, slice_index, []}
+use Rattle.std.specs.List.{list_all}
 use Rattle.tlv_area.specs.declared.ahead.Ahead.{Ahead}
 use Rattle.tlv_area.specs.declared.ahead.Ahead.TheVariants as ahead
 use Rattle.tlv_area.specs.declared.ahead.LengthAhead.{LengthAhead}
 use Rattle.tlv_area.specs.declared.ahead.LengthAhead.TheVariants as of_length
 use Rattle.tlv_area.specs.declared.ahead.Found.{Found}
-use Rattle.tlv_area.specs.Layout.{free, reserved_by, reserves, LiesIn, Tlv, bytes_at, ndef_message}
+use Rattle.tlv_area.specs.Layout.{free, reserves, Tlv, bytes_at}
 use Rattle.tlv_area.specs.Form.{End, Fault, Unknown, Item, next, length_next, value_next}
 
 -- p is just past the first n free addresses from `at` on
@@ -88,13 +87,6 @@ IsValueAhead is_reserved memory from end kind long n ahead.Unknown =
     (header : List ℕ) → value_next memory kind long header n (free is_reserved from end) ≡ Unknown
 IsValueAhead is_reserved memory from end kind long n (ahead.Item found) =
     IsValue is_reserved memory from end kind long n found
-
--- A walk has come to `at`: the TLVs take each address before it that isn't reserved, and r tells which are.
-pub record Trail (space : Space) (memory : List ℕ) (ts : List Tlv) (at : ℕ) (r : ℕ → Bool) : Type 0 where
-  pub joined : flat_map (λ t. t.at) ts ≡ free r space.start at
-  pub same : (a : ℕ) → r a ≡ reserved_by space.control ts a
-  pub lie : AllByRecursion (LiesIn memory) ts
-  pub plain : AllByRecursion (λ t. t.kind ≢ ndef_message) ts
 
 -- a TLV that was read: its kind, its length, its bytes where it has three, and the addresses past its own
 pub record IsRead (memory : List ℕ) (found : Found) (t : Tlv) : Type 0 where

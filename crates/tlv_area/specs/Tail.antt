@@ -29,8 +29,12 @@ is_long message = nat_lt 254 (length message)
 abbrev pub new_tail : List ℕ → List ℕ
 new_tail message = length_bytes (is_long message) (length message) ++ message
 
+-- what stands behind these bytes
+abbrev pub end_mark : ℕ → List ℕ → List ℕ
+end_mark room bytes = if nat_lt (length bytes) room then terminator ∷ [] else []
+
 abbrev pub written : ℕ → List ℕ → List ℕ
-written room message = new_tail message ++ (if nat_lt (length (new_tail message)) room then terminator ∷ [] else [])
+written room message = new_tail message ++ end_mark room (new_tail message)
 
 -- the addresses that it takes of a tail
 abbrev pub span : List ℕ → List ℕ → List ℕ

@@ -1,7 +1,7 @@
 //! One TLV: its type, its length, and where its value lies.
 
 ghost use Rattle.std.specs.Prelude.{◌≤◌, length};
-ghost use Rattle.tlv_area.specs.Map.{in_ranges};
+ghost use Rattle.tlv_area.specs.Map.{in_ranges, IsOrdered};
 ghost use Rattle.tlv_area.specs.Reading.{IsAhead, IsLengthAhead, IsValueAhead};
 
 use crate::ranges::past;
@@ -59,6 +59,7 @@ fn three_ahead(
     long: bool,
     from: u32,
 ) -> Ahead
+    requires ranges { IsOrdered reserved.now }
     requires below { from ≤ end }
     requires front { from ≤ length known.now }
     ensures { IsValueAhead (in_ranges reserved.now) known.now from end kind long 3 result }
@@ -96,6 +97,7 @@ fn value_ahead(
     from: u32,
     size: u32,
 ) -> Ahead
+    requires ranges { IsOrdered reserved.now }
     requires below { from ≤ end }
     requires front { from ≤ length known.now }
     ensures { IsValueAhead (in_ranges reserved.now) known.now from end kind long size result }
@@ -125,6 +127,7 @@ fn value_ahead(
 
 /// Where the length that stands from `at` on leads.
 fn length_ahead(reserved: &[(u32, u32)], at: u32, end: u32, known: &[u8]) -> LengthAhead
+    requires ranges { IsOrdered reserved.now }
     requires below { at ≤ end }
     ensures { IsLengthAhead (in_ranges reserved.now) known.now at end result }
 {
@@ -166,6 +169,7 @@ fn length_ahead(reserved: &[(u32, u32)], at: u32, end: u32, known: &[u8]) -> Len
 
 /// What stands next from `at` on.
 pub fn look_ahead(reserved: &[(u32, u32)], at: u32, end: u32, known: &[u8]) -> Ahead
+    requires ranges { IsOrdered reserved.now }
     requires below { at ≤ end }
     ensures { IsAhead (in_ranges reserved.now) known.now at end result }
 {

@@ -4,11 +4,11 @@ ghost use Rattle.std.specs.Prelude.{◌≡◌, ◌+◌, ◌*◌, ◌^◌, ◌<�
 ghost use Rattle.tlv_area.specs.declared.planning.PlanFault.{PlanFault};
 ghost use Rattle.tlv_area.specs.declared.planning.PlanFault.TheVariants.{TooLong, Memory};
 ghost use Rattle.tlv_area.specs.Layout.{free};
-ghost use Rattle.tlv_area.specs.Map.{in_ranges, IsPlaced};
+ghost use Rattle.tlv_area.specs.Map.{in_ranges, IsOrdered, IsPlaced};
 ghost use Rattle.tlv_area.specs.Tail.{map_room, capacity_of};
 ghost use Rattle.tlv_area.specs.Writing.{HasBlocks, blocks_below, touches, blocks_touched, write_of, block_in, GivesPlan, KeepsPlan, plan_fault_number};
 
-use crate::ranges::{count_free, is_reserved};
+use crate::ranges::{count_free, past};
 use crate::room::capacity;
 use crate::space::AreaMap;
 use crate::step::{Plan, Step, block_step, closing_step};
@@ -43,23 +43,25 @@ impl From<AllocError> for PlanFault {
     }
 }
 
-/// Whether a block has a free address between two.
+/// Whether a block has a free address from `from` on to before `to`.
 fn is_touched(reserved: &[(u32, u32)], from: u32, to: u32, block: u32, size: u32) -> bool
+    requires ordered { IsOrdered reserved.now }
     requires some { 0 < size }
     requires order { from ≤ to }
     requires fits { block * size + size < 2 ^ 32 }
     ensures { result ≡ touches size (free (in_ranges reserved.now) from to) block }
 {
-    for address in block * size..block * size + size {
-        if from <= address && address < to && !is_reserved(reserved, address) {
-            return true;
-        }
+    let first = from.max(block * size);
+    let behind = to.min(block * size + size);
+    if behind < first {
+        return false;
     }
-    false
+    past(reserved, first, behind, 1).is_some()
 }
 
-/// Whether a block other than `home` has a free address between two.
+/// The same of a block other than `home`.
 fn is_filled(reserved: &[(u32, u32)], from: u32, to: u32, home: u32, block: u32, size: u32) -> bool
+    requires ordered { IsOrdered reserved.now }
     requires some { 0 < size }
     requires order { from ≤ to }
     requires fits { block * size + size < 2 ^ 32 }
@@ -68,7 +70,7 @@ fn is_filled(reserved: &[(u32, u32)], from: u32, to: u32, home: u32, block: u32,
     block != home && is_touched(reserved, from, to, block, size)
 }
 
-/// The blocks other than `home` with a free address between two, as a store has them, ascending.
+/// The steps of `fill`: each block but `home` that has a free address from `from` on to before `to`, as a store has it.
 fn fill_steps(
     alloc: Global,
     map: &AreaMap,
@@ -78,6 +80,7 @@ fn fill_steps(
     home: u32,
     size: u32,
 ) -> Result<Vec<Step>, AllocError>
+    requires ordered { IsOrdered map.now.reserved.items }
     requires order { from ≤ to }
     requires some { 0 < size }
     requires small { size ≤ 32 }
@@ -85,7 +88,8 @@ fn fill_steps(
     requires within { size * blocks_below size map.now.space.end ≤ length store.now }
     ensures { IfOk result (λ v. list_map write_of v.items
         ≡ list_map (λ k. block_in size store.now k)
-        (blocks_touched size (free (in_ranges map.now.reserved.items) from to) home (blocks_below size map.now.space.end))) }
+        (blocks_touched size (free (in_ranges map.now.reserved.items) from to)
+        home (blocks_below size map.now.space.end))) }
 {
     let count = (map.space.end as u64 + size as u64 - 1) / size as u64;
     let mut fill = Vec::new(alloc);
@@ -97,7 +101,7 @@ fn fill_steps(
     Ok(fill)
 }
 
-/// The plan, over a store with so many whole blocks.
+/// The plan. The store has each block of the area whole.
 fn plan_steps(
     alloc: Global,
     map: &AreaMap,
@@ -121,8 +125,8 @@ fn plan_steps(
     let room = count_free(map.reserved.as_slice(), tail, map.space.end);
     let owned = new_bytes(alloc, message, room)?;
     let bytes = owned.as_slice();
-    let new = new_store(alloc, map, store, tail, bytes)?;
     let to = span_end(map, tail, bytes.len() as u32);
+    let new = new_store(alloc, map, store, tail, to, bytes)?;
     let place = length_place(map, tail);
     let home = place / block;
     let fill = fill_steps(alloc, map, new.as_slice(), tail, to, home, block)?;
@@ -133,7 +137,7 @@ fn plan_steps(
     })
 }
 
-/// The plan of a message in the place of the one that is there, over blocks of a size of 4, 8, 16 or 32 bytes.
+/// Plans the blocks that are written to put a message in the place of the one that is there. A block has 4, 8, 16 or 32 bytes.
 pub fn plan(
     alloc: Global,
     map: &AreaMap,
@@ -147,7 +151,7 @@ pub fn plan(
     requires end { map.now.space.end ≤ 65536 * block }
     requires within { HasBlocks block map.now.space store.now }
     ensures plan { IfOk result (λ p. GivesPlan block map.now store.now message.now p) }
-    // of a store with this map: each step but the last leaves the empty message, the last the new one, and all else stays
+    // of a store with this map: each step but the last leaves the empty message, the last the new one; all else stays
     ensures keeps { IfOk result (λ p. KeepsPlan block map.now store.now message.now p) }
     ensures too_long { IsErrOf result TooLong ↔ (capacity_of (map_room map.now) < length message.now) }
 {

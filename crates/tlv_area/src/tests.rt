@@ -4,8 +4,8 @@ ghost use Rattle.std.specs.Prelude.{◌≡◌, ◌≤◌, length};
 ghost use Rattle.tlv_area.specs.Layout.{IsArea};
 
 use crate::{
-    ContainerFault, Space, Walk, container_t2, container_t4, container_t5, find_message,
-    message_byte, one_form, one_form_t2, one_form_t5,
+    ContainerFault, Space, Walk, Walker, container_t2, container_t4, container_t5, copy_message,
+    find_message, message_byte, one_form, one_form_t2, one_form_t5,
 };
 use std::test::Fail;
 
@@ -31,10 +31,7 @@ fn area_holds(rt: &HostRuntime, space: &Space, memory: &[u8]) -> Result<Holds, F
 {
     match find_message(space, memory) {
         Walk::Held { map } => {
-            let mut message = Vec::new(rt.alloc());
-            for index in 0..map.length {
-                message.push(memory[message_byte(&map, index) as usize])?;
-            }
+            let message = copy_message(rt.alloc(), &map, memory)?;
             Ok(Holds::Message(message))
         }
         Walk::NoMessageTlv => Ok(Holds::Fault(6)),
@@ -59,7 +56,7 @@ fn t2_holds(rt: &HostRuntime, store: &[u8]) -> Result<Holds, Fail>
 
 #[test]
 fn type_2_messages(rt: HostRuntime) -> Result<(), Fail> {
-    let rows: [(usize, &[u8], &[u8]); 11] = [
+    let rows: [(usize, &[u8], &[u8]); 12] = [
         // as delivered, an NTAG203: lock bits behind the area
         (
             45,
@@ -118,6 +115,19 @@ fn type_2_messages(rt: HostRuntime) -> Result<(), Fail> {
             16,
             &[0xE1, 0x10, 6, 0, 2, 3, 0x10, 6, 4, 0xAA, 3, 1, 0x55, 0xFE],
             &[0x55],
+        ),
+        // two ranges, the later one named first: addresses 56 to 59 and 44 to 47
+        (
+            20,
+            &[
+                0xE1, 0x10, 8, 0, 2, 3, 0x38, 4, 4, 2, 3, 0x2C, 4, 4, 3, 24, 1, 2, 3, 4, 5, 6, 7,
+                8, 9, 10, 11, 12, 13, 14, 15, 16, 0xAA, 0xAA, 0xAA, 0xAA, 17, 18, 19, 20, 21, 22,
+                23, 24, 0xBB, 0xBB, 0xBB, 0xBB, 0xFE,
+            ],
+            &[
+                1, 2, 3, 4, 5, 6, 7, 8, 9, 10, 11, 12, 13, 14, 15, 16, 17, 18, 19, 20, 21, 22, 23,
+                24,
+            ],
         ),
         // the first message counts, and what stands behind it is not read
         (
@@ -270,6 +280,60 @@ fn fronts_settle_by_one_byte(rt: HostRuntime) -> Result<(), Fail> {
         }
     }
     Ok(())
+}
+
+/// The walk over a front of a memory, and then over all of it.
+fn walk_twice(space: &Space, memory: &[u8], front: usize) -> Walk
+    requires area { IsArea space.now }
+    requires front { front ≤ length memory.now }
+{
+    let mut walker = Walker::new(space);
+    if walker.needs_more(&memory[..front]) {
+        walker.find_message(memory)
+    } else {
+        walker.find_message(&memory[..front])
+    }
+}
+
+/// A walk that goes on finds what one over the whole memory finds.
+#[test]
+fn walks_go_on(rt: HostRuntime) -> Result<(), Fail> {
+    let rows: [&[u8]; 3] = [
+        &[
+            0, 2, 3, 0x28, 4, 4, 7, 2, 0xAA, 0xAA, 3, 12, 1, 2, 3, 4, 5, 6, 7, 8, 9, 10, 11, 12,
+        ],
+        &[2, 3, 0x1C, 4, 4, 0, 0, 0xFE],
+        &[3, 0xFF, 0xFF, 0xFF],
+    ];
+    let space = Space {
+        start: 16,
+        end: 64,
+        control: true,
+        writable: true,
+    };
+    for area in rows {
+        let store = store(&rt, 64, 16, area)?;
+        let whole = find_message(&space, &store);
+        for (front, _) in store.iter().enumerate() {
+            let again = walk_twice(&space, &store, front);
+            assert_eq!(rt;
+                place_of(&again),
+                place_of(&whole),
+                "at {area:?} with {front}"
+            );
+        }
+    }
+    Ok(())
+}
+
+/// Where the message lies that a walk tells, by its ranges, its place and its length; or which other answer it is.
+fn place_of(walk: &Walk) -> (usize, u32, u32) {
+    match walk {
+        Walk::Held { map } => (map.reserved.len(), map.tlv, map.length),
+        Walk::NoMessageTlv => (0, 0, 1),
+        Walk::BadTlv => (0, 0, 2),
+        Walk::More => (0, 0, 3),
+    }
 }
 
 #[test]

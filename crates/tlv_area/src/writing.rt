@@ -1,12 +1,12 @@
 //! The store that has a message in the place of another.
 
-ghost use Rattle.std.specs.Prelude.{◌≡◌, ◌<◌, ◌≤◌, ◌++◌, [], ◌∷◌, length, nat_lt, if◌then◌else◌, take, slice_index, IfOk, OnOk};
-ghost use Rattle.tlv_area.specs.Layout.{free, length_bytes, terminator};
-ghost use Rattle.tlv_area.specs.Map.{in_ranges, IsPlaced};
-ghost use Rattle.tlv_area.specs.Tail.{map_tail, written};
+ghost use Rattle.std.specs.Prelude.{◌≡◌, ◌<◌, ◌≤◌, ◌++◌, length, nat_lt, take, slice_index, IfOk, OnOk};
+ghost use Rattle.tlv_area.specs.Layout.{free, length_bytes};
+ghost use Rattle.tlv_area.specs.Map.{in_ranges, IsOrdered, IsPlaced};
+ghost use Rattle.tlv_area.specs.Tail.{map_tail, end_mark, written};
 ghost use Rattle.tlv_area.specs.Writing.{IsPut};
 
-use crate::ranges::{is_reserved, past};
+use crate::ranges::{past, run_before};
 use crate::room::LONGEST_SHORT;
 use crate::space::AreaMap;
 use std::alloc::{AllocError, Global};
@@ -34,7 +34,7 @@ fn push_length(bytes: &mut Vec<u8>, length: usize) -> Result<(), AllocError>
 
 /// Adds a terminator where a byte is left.
 fn push_terminator(bytes: &mut Vec<u8>, room: u32) -> Result<(), AllocError>
-    ensures { OnOk result (bytes.new.items ≡ bytes.old.items ++ (if nat_lt (length bytes.old.items) room then terminator ∷ [] else [])) }
+    ensures { OnOk result (bytes.new.items ≡ bytes.old.items ++ end_mark room bytes.old.items) }
 {
     if bytes.len() < room as usize {
         bytes.push(TERMINATOR)?;
@@ -70,7 +70,8 @@ pub fn tail_start(map: &AreaMap) -> u32
 
 /// The address just past the first `count` free ones of a tail, or the area's end where it hasn't that many.
 pub fn span_end(map: &AreaMap, tail: u32, count: u32) -> u32
-    requires { tail ≤ map.now.space.end }
+    requires ordered { IsOrdered map.now.reserved.items }
+    requires order { tail ≤ map.now.space.end }
     ensures span { free (in_ranges map.now.reserved.items) tail result
         ≡ take count (free (in_ranges map.now.reserved.items) tail map.now.space.end) }
     ensures low { tail ≤ result }
@@ -98,46 +99,42 @@ pub fn length_place(map: &AreaMap, tail: u32) -> u32
     }
 }
 
-/// Writes bytes at the free addresses from `at` on.
-fn put(memory: &mut [u8], reserved: &[(u32, u32)], at: u32, end: u32, bytes: &[u8])
-    requires order { at ≤ end }
-    requires within { end ≤ length memory.old }
-    requires fits { length bytes.now ≤ length (free (in_ranges reserved.now) at end) }
-    ensures { IsPut (take (length bytes.now) (free (in_ranges reserved.now) at end)) memory.old memory.new bytes.now }
+/// Writes bytes at the free addresses between two, a run at a time.
+fn put(memory: &mut [u8], reserved: &[(u32, u32)], from: u32, to: u32, bytes: &[u8])
+    requires ordered { IsOrdered reserved.now }
+    requires order { from ≤ to }
+    requires within { to ≤ length memory.old }
+    requires fits { length bytes.now ≡ length (free (in_ranges reserved.now) from to) }
+    ensures { IsPut (free (in_ranges reserved.now) from to) memory.old memory.new bytes.now }
 {
-    let mut index = 0;
-    for address in at..end {
-        if index == bytes.len() {
-            return;
-        }
-        if !is_reserved(reserved, address) {
-            memory[address as usize] = bytes[index];
-            index += 1;
-        }
+    let mut at = from;
+    let mut left = bytes;
+    for range in reserved {
+        let run = run_before(range, at, to);
+        let (row, later) = left.split_at((run.to - at) as usize);
+        memory[at as usize..run.to as usize].copy_from_slice(row);
+        left = later;
+        at = run.next;
     }
+    memory[at as usize..to as usize].copy_from_slice(left);
 }
 
-/// The store with bytes written at the free addresses from `at` on.
+/// The store with bytes written at the free addresses between two.
 pub fn new_store(
     alloc: Global,
     map: &AreaMap,
     store: &[u8],
-    at: u32,
+    from: u32,
+    to: u32,
     bytes: &[u8],
 ) -> Result<Vec<u8>, AllocError>
-    requires order { at ≤ map.now.space.end }
-    requires within { map.now.space.end ≤ length store.now }
-    requires fits { length bytes.now ≤ length (free (in_ranges map.now.reserved.items) at map.now.space.end) }
-    ensures { IfOk result (λ v. IsPut (take (length bytes.now) (free (in_ranges map.now.reserved.items) at map.now.space.end))
-        store.now v.items bytes.now) }
+    requires ordered { IsOrdered map.now.reserved.items }
+    requires order { from ≤ to }
+    requires within { to ≤ length store.now }
+    requires fits { length bytes.now ≡ length (free (in_ranges map.now.reserved.items) from to) }
+    ensures { IfOk result (λ v. IsPut (free (in_ranges map.now.reserved.items) from to) store.now v.items bytes.now) }
 {
     let mut new = Vec::from_slice(alloc, store)?;
-    put(
-        new.as_mut_slice(),
-        map.reserved.as_slice(),
-        at,
-        map.space.end,
-        bytes,
-    );
+    put(new.as_mut_slice(), map.reserved.as_slice(), from, to, bytes);
     Ok(new)
 }

@@ -27,8 +27,8 @@ returns-in-Err-clause-next g c size n a u due same =
     c.in-Err.ensures.rises c.in-Err.ensures.obeys c.in-Err.ensures.last c.in-Err.ensures.err c.in-Err.ensures.cause c.in-Err.ensures.ended c.in-Err.ensures.calm in
     subst (λ e. EndsBy size a new e) (sym c.of_link.ensures) (under_fails size n a old new _ u due fails)
 
-pub returns-in-Err-told_t4-clause-next : goal.returns-in-Err-told_t4-clause-next
-returns-in-Err-told_t4-clause-next g c size n a u due same =
+pub returns-in-Err-tell_t4-clause-next : goal.returns-in-Err-tell_t4-clause-next
+returns-in-Err-tell_t4-clause-next g c size n a u due same =
     let old : LinkView = g.T.TagLink.seen c.args.link.now in
     let new : LinkView = g.T.TagLink.seen c.ask.new.self in
     let command : Signal = file_frame (file_command a.state.store n) in
@@ -38,7 +38,7 @@ returns-in-Err-told_t4-clause-next g c size n a u due same =
     let told = asked_ok old new command reply c.in-Ok.answer c.unwrap-frame.result (state_at a.state (suc n)) (frame ∙ ap file_frame same) (keeps_at size n a old u due)
     c.in-Ok.ensures.rises c.in-Ok.ensures.obeys c.in-Ok.ensures.last c.in-Ok.ensures.ok in
     let small = content_small u.tag.steps.0 a.state.store n (tag_store size a u.tag) due in
-    absurd (fault_brings c.in-Err-told_t4.fault (record { items = content_at a.state.store n }) (c.in-Err-told_t4.ensures.content (content_at a.state.store n) (omega (arith, small)) told.1))
+    absurd (fault_brings c.in-Err-tell_t4.fault (record { items = content_at a.state.store n }) (c.in-Err-tell_t4.ensures.content (content_at a.state.store n) (omega (arith, small)) told.1))
 
 pub returns-then-has_size-clause-next : goal.returns-then-has_size-clause-next
 returns-then-has_size-clause-next g c size n a u due same =
@@ -51,7 +51,7 @@ returns-then-has_size-clause-next g c size n a u due same =
     let told = asked_ok old new command reply c.in-Ok.answer c.unwrap-frame.result (state_at a.state (suc n)) (frame ∙ ap file_frame same) (keeps_at size n a old u due)
     c.in-Ok.ensures.rises c.in-Ok.ensures.obeys c.in-Ok.ensures.last c.in-Ok.ensures.ok in
     let small = content_small u.tag.steps.0 a.state.store n (tag_store size a u.tag) due in
-    let brings : Ok c.in-Ok-told_t4.bytes ≡ Ok (record { items = content_at a.state.store n }) = c.in-Ok-told_t4.ensures.content (content_at a.state.store n) (omega (arith, small)) told.1 in
+    let brings : Ok c.in-Ok-tell_t4.bytes ≡ Ok (record { items = content_at a.state.store n }) = c.in-Ok-tell_t4.ensures.content (content_at a.state.store n) (omega (arith, small)) told.1 in
     (under_next size n a old new u due told.0 told.2, cc)
 
 pub returns-else-has_size-clause-next : goal.returns-else-has_size-clause-next
@@ -65,12 +65,12 @@ returns-else-has_size-clause-next g c size n a u due same =
     let told = asked_ok old new command reply c.in-Ok.answer c.unwrap-frame.result (state_at a.state (suc n)) (frame ∙ ap file_frame same) (keeps_at size n a old u due)
     c.in-Ok.ensures.rises c.in-Ok.ensures.obeys c.in-Ok.ensures.last c.in-Ok.ensures.ok in
     let small = content_small u.tag.steps.0 a.state.store n (tag_store size a u.tag) due in
-    let brings : Ok c.in-Ok-told_t4.bytes ≡ Ok (record { items = content_at a.state.store n }) = c.in-Ok-told_t4.ensures.content (content_at a.state.store n) (omega (arith, small)) told.1 in
-    let bytes : c.in-Ok-told_t4.bytes.items ≡ content_at a.state.store n = cc in
+    let brings : Ok c.in-Ok-tell_t4.bytes ≡ Ok (record { items = content_at a.state.store n }) = c.in-Ok-tell_t4.ensures.content (content_at a.state.store n) (omega (arith, small)) told.1 in
+    let bytes : c.in-Ok-tell_t4.bytes.items ≡ content_at a.state.store n = cc in
     let fits = content_fits u.tag.steps.0 a.state.store n (tag_store size a u.tag) due in
-    let has : HasSize c.args.command.now c.as_slice-in-Ok-told_t4.result.now =
-    subst (λ k. HasSize k c.as_slice-in-Ok-told_t4.result.now) (sym same)
-    (subst (λ xs. HasSize (file_command a.state.store n) xs) (sym (c.as_slice-in-Ok-told_t4.ensures.value ∙ bytes)) fits) in
+    let has : HasSize c.args.command.now c.as_slice-in-Ok-tell_t4.result.now =
+    subst (λ k. HasSize k c.as_slice-in-Ok-tell_t4.result.now) (sym same)
+    (subst (λ xs. HasSize (file_command a.state.store n) xs) (sym (c.as_slice-in-Ok-tell_t4.ensures.value ∙ bytes)) fits) in
     let clash : true ≡ false = sym (c.has_size.ensures.1 has) ∙ c.if-has_size.false in
     absurd (cc)
 
@@ -81,11 +81,11 @@ returns-then-has_size-clause-brings g c a ps u same =
     let frame : c.unwrap-frame.result ≡ whole_a (command_bytes c.args.command.now) =
     (rw c.unwrap-frame.ensures at c.whole.ensures.ok) ∙ ap (λ xs. whole_a xs) (c.as_slice.ensures.value ∙ c.to_bytes-bytes.ensures) in
     let due : c.unwrap-frame.result ≡ next_command T4 ps = frame ∙ ap file_frame same in
-    let has : HasSize (file_next ps) c.in-Ok-told_t4.bytes.items =
-    subst (λ k. HasSize k c.in-Ok-told_t4.bytes.items) same
-    (subst (λ xs. HasSize c.args.command.now xs) c.as_slice-in-Ok-told_t4.ensures.value (c.has_size.ensures.0 c.if-has_size.true)) in
-    under_brings T4 a old new ps c.in-Ok-told_t4.bytes.items c.unwrap-frame.result c.in-Ok.answer u due c.in-Ok.ensures.obeys c.in-Ok.ensures.rises c.in-Ok.ensures.ok
-    (record { content = c.in-Ok-told_t4.ensures.tells; piece = has })
+    let has : HasSize (file_next ps) c.in-Ok-tell_t4.bytes.items =
+    subst (λ k. HasSize k c.in-Ok-tell_t4.bytes.items) same
+    (subst (λ xs. HasSize c.args.command.now xs) c.as_slice-in-Ok-tell_t4.ensures.value (c.has_size.ensures.0 c.if-has_size.true)) in
+    under_brings T4 a old new ps c.in-Ok-tell_t4.bytes.items c.unwrap-frame.result c.in-Ok.answer u due c.in-Ok.ensures.obeys c.in-Ok.ensures.rises c.in-Ok.ensures.ok
+    (record { content = c.in-Ok-tell_t4.ensures.tells; piece = has })
 
 pub returns-else-has_size-clause-brings : goal.returns-else-has_size-clause-brings
 returns-else-has_size-clause-brings g c a ps u same =
@@ -94,17 +94,17 @@ returns-else-has_size-clause-brings g c a ps u same =
     let frame : c.unwrap-frame.result ≡ whole_a (command_bytes c.args.command.now) =
     (rw c.unwrap-frame.ensures at c.whole.ensures.ok) ∙ ap (λ xs. whole_a xs) (c.as_slice.ensures.value ∙ c.to_bytes-bytes.ensures) in
     let due : c.unwrap-frame.result ≡ next_command T4 ps = frame ∙ ap file_frame same in
-    let none : HasSize (file_next ps) c.in-Ok-told_t4.bytes.items → ⊥ = λ has.
-    (let here : HasSize c.args.command.now c.as_slice-in-Ok-told_t4.result.now =
-    subst (λ k. HasSize k c.as_slice-in-Ok-told_t4.result.now) (sym same)
-    (subst (λ xs. HasSize (file_next ps) xs) (sym c.as_slice-in-Ok-told_t4.ensures.value) has) in
+    let none : HasSize (file_next ps) c.in-Ok-tell_t4.bytes.items → ⊥ = λ has.
+    (let here : HasSize c.args.command.now c.as_slice-in-Ok-tell_t4.result.now =
+    subst (λ k. HasSize k c.as_slice-in-Ok-tell_t4.result.now) (sym same)
+    (subst (λ xs. HasSize (file_next ps) xs) (sym c.as_slice-in-Ok-tell_t4.ensures.value) has) in
     let clash : true ≡ false = sym (c.has_size.ensures.1 here) ∙ c.if-has_size.false in
     cc) in
     inl (record {
       ps = ps;
       r = c.in-Ok.answer;
       stopped = under_stops T4 a old new ps c.unwrap-frame.result c.in-Ok.answer u due c.in-Ok.ensures.ok;
-      odd = no_piece T4 ps c.in-Ok.answer c.in-Ok-told_t4.bytes.items c.in-Ok-told_t4.ensures.tells none;
+      odd = no_piece T4 ps c.in-Ok.answer c.in-Ok-tell_t4.bytes.items c.in-Ok-tell_t4.ensures.tells none;
     })
 
 pub returns-in-Err-clause-brings : goal.returns-in-Err-clause-brings
@@ -114,11 +114,11 @@ returns-in-Err-clause-brings g c a ps u same =
     subst (λ e. IsFaultBy T4 a new e) (sym c.of_link.ensures)
     (under_fault T4 a old new ps c.unwrap-frame.result c.in-Err.fault u c.in-Err.ensures.err c.in-Err.ensures.cause c.in-Err.ensures.ended)
 
-pub returns-in-Err-told_t4-clause-brings : goal.returns-in-Err-told_t4-clause-brings
-returns-in-Err-told_t4-clause-brings g c a ps u same =
+pub returns-in-Err-tell_t4-clause-brings : goal.returns-in-Err-tell_t4-clause-brings
+returns-in-Err-tell_t4-clause-brings g c a ps u same =
     let old : LinkView = g.T.TagLink.seen c.args.link.now in
     let new : LinkView = g.T.TagLink.seen c.ask.new.self in
     let frame : c.unwrap-frame.result ≡ whole_a (command_bytes c.args.command.now) =
     (rw c.unwrap-frame.ensures at c.whole.ensures.ok) ∙ ap (λ xs. whole_a xs) (c.as_slice.ensures.value ∙ c.to_bytes-bytes.ensures) in
     let due : c.unwrap-frame.result ≡ next_command T4 ps = frame ∙ ap file_frame same in
-    told_fault T4 a old new ps c.unwrap-frame.result c.in-Ok.answer c.in-Err-told_t4.fault u due c.in-Ok.ensures.ok c.in-Err-told_t4.ensures.fault
+    told_fault T4 a old new ps c.unwrap-frame.result c.in-Ok.answer c.in-Err-tell_t4.fault u due c.in-Ok.ensures.ok c.in-Err-tell_t4.ensures.fault

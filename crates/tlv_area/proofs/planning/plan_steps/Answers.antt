@@ -31,14 +31,14 @@ returns-clause-plan c =
     let counted = rw c.as_slice.ensures.value at c.count_free-room.ensures.count in
     let room_is : c.count_free-room.result ≡ length tail = counted ∙ ap length tail_is in
     let bytes_is : c.in_ok-owned.owned.items ≡ written (length tail) c.args.message.now = c.in_ok-owned.ensures ∙ ap (λ n. written n c.args.message.now) room_is in
-    let put_there = rw c.as_slice-bytes.ensures.value at c.in_ok-new.ensures in
-    let put_bytes : IsPut (take (length (written (length tail) c.args.message.now)) tail) old new (written (length tail) c.args.message.now) =
-    subst (λ cells. IsPut (take (length (written (length tail) c.args.message.now)) cells) old new (written (length tail) c.args.message.now)) tail_is
-    (subst (λ bs. IsPut (take (length bs) (free r c.tail_start-tail.result m.space.end)) old new bs) bytes_is put_there) in
     let cells : free r c.tail_start-tail.result c.span_end-to.result ≡ span tail c.args.message.now =
     c.span_end-to.ensures.span ∙ ap (λ bs. take (length bs) (free r c.tail_start-tail.result m.space.end)) c.as_slice-bytes.ensures.value
     ∙ ap (λ bs. take (length bs) (free r c.tail_start-tail.result m.space.end)) bytes_is
     ∙ ap (λ cs. take (length (written (length tail) c.args.message.now)) cs) tail_is in
+    let put_there = rw c.as_slice-bytes.ensures.value at c.in_ok-new.ensures in
+    let put_bytes : IsPut (span tail c.args.message.now) old new (written (length tail) c.args.message.now) =
+    subst (λ cs. IsPut cs old new (written (length tail) c.args.message.now)) cells
+    (subst (λ bs. IsPut (free r c.tail_start-tail.result c.span_end-to.result) old new bs) bytes_is put_there) in
     let place : c.length_place-place.result ≡ slice_index tail 0 = c.length_place-place.ensures.place in
     let filled = rw c.as_slice-2.ensures.value at c.in_ok-fill.ensures in
     let last = rw c.as_slice-3.ensures.value at c.block_step.ensures in (

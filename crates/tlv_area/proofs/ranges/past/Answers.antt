@@ -1,54 +1,29 @@
-use Rattle.std.proofs.Common.{◌≡◌, ℕ, ◌+◌, ◌-◌, ◌≤◌, Bool, true, false, arith, sym, ◌∙◌, length}
-use Rattle.std.proofs.lemmas.Bool.{eqb-true}
-use Rattle.tlv_area.specs.Map.{in_ranges}
-use Rattle.tlv_area.proofs.Free.{length-free_taken, length-free_open, length-free_all, nothing_reserved}
+use Rattle.std.proofs.Common.{arith}
+use Rattle.tlv_area.proofs.Runs.{past_in_run, past_behind_run, length-run_at, past_behind, length-run_behind}
 use Rattle.tlv_area.proofs.ranges.past.Goals as goal
-use Rattle.tlv_area.proofs.ranges.past.Goals.{then-not-is_reserved, else-not-is_reserved}
 
-one_back : (r : ℕ → Bool) (m : ℕ) (b : Bool) → r m ≡ b → r (m + 1 - 1) ≡ b
-one_back r m b e = let same : m + 1 - 1 ≡ m = omega arith in rw same e
+pub returns-then-left-run-clause-some : goal.returns-then-left-run-clause-some
+returns-then-left-run-clause-some c =
+    c.loop-range.invariant.some _
+    (past_in_run c.args.reserved.now c.requires.ranges c.loop-range.range-index c.loop-range-test.true c.loop-range.address c.args.end c.run_before-run.result.to
+    c.run_before-run.result.next c.loop-range.invariant.high c.run_before-run.ensures.to c.loop-range.left c.if-left-run.true)
 
-pub loop-left-preserved : goal.loop-left-preserved
-loop-left-preserved c =
-    elim c.if-not-is_reserved.branch [
-      | then-not-is_reserved w ↦
-          (let open_cell : in_ranges c.args.reserved.now c.loop-left.address ≡ false = sym c.is_reserved.ensures ∙ w.if-not-is_reserved.true in
-          let low : c.args.at ≤ c.loop-left.address = omega arith in
-          let more = length-free_open (in_ranges c.args.reserved.now) c.args.at c.loop-left.address low open_cell in
-          record {
-            none = λ e. absurd (omega arith);
-            above = omega arith;
-            below = omega arith;
-            some = omega arith;
-            count = omega (arith, more);
-            last = λ _ _. one_back (in_ranges c.args.reserved.now) c.loop-left.address false open_cell;
-          })
-      | else-not-is_reserved w ↦
-          (let taken : in_ranges c.args.reserved.now c.loop-left.address ≡ true = sym c.is_reserved.ensures ∙ w.if-not-is_reserved.false in
-          let low : c.args.at ≤ c.loop-left.address = omega arith in
-          let more = length-free_taken (in_ranges c.args.reserved.now) c.args.at c.loop-left.address low taken in
-          record {
-            none = λ e. absurd (omega arith);
-            above = omega arith;
-            below = omega arith;
-            some = omega arith;
-            count = omega (arith, more);
-            last = λ _ none. absurd (omega arith);
-          })
-    ]
+pub loop-range-preserved : goal.loop-range-preserved
+loop-range-preserved c = record {
+  low = omega (arith, c.loop-range.invariant.low, c.run_before-run.ensures.to, c.run_before-run.ensures.next);
+  high = omega (arith, c.loop-range.invariant.high, c.run_before-run.ensures.to, c.run_before-run.ensures.next);
+  some = λ p is. c.loop-range.invariant.some p
+      (past_behind_run c.args.reserved.now c.requires.ranges c.loop-range.range-index c.loop-range-test.true c.loop-range.address c.args.end c.run_before-run.result.to
+      c.run_before-run.result.next c.loop-range.invariant.high c.run_before-run.ensures.to c.run_before-run.ensures.next c.loop-range.left p c.if-left-run.false is);
+  none = λ short. c.loop-range.invariant.none
+      (let sizes = length-run_at c.args.reserved.now c.requires.ranges c.loop-range.range-index c.loop-range-test.true c.loop-range.address c.args.end c.run_before-run.result.to
+      c.run_before-run.result.next c.loop-range.invariant.high c.run_before-run.ensures.to c.run_before-run.ensures.next in omega (arith, sizes, c.if-left-run.false));
+}
 
-pub returns-then-count-end-clause-none : goal.returns-then-count-end-clause-none
-returns-then-count-end-clause-none c =
-    let none : length c.args.reserved.now ≡ 0 = eqb-true (length c.args.reserved.now) 0 (sym c.is_empty.ensures ∙ c.if-is_empty.true) in
-    omega (arith, length-free_all (in_ranges c.args.reserved.now) c.args.at c.args.end (nothing_reserved c.args.reserved.now none))
+pub returns-then-left-end-clause-none : goal.returns-then-left-end-clause-none
+returns-then-left-end-clause-none c = c.loop-range.invariant.none
+    (omega (arith, length-run_behind c.args.reserved.now c.loop-range.range-index c.loop-range-test.false c.loop-range.address c.args.end))
 
-pub returns-then-is_empty-clause-some : goal.returns-then-is_empty-clause-some
-returns-then-is_empty-clause-some c =
-    let none : length c.args.reserved.now ≡ 0 = eqb-true (length c.args.reserved.now) 0 (sym c.is_empty.ensures ∙ c.if-is_empty.true) in
-    record {
-      above = omega arith;
-      below = omega (arith, c.requires);
-      count = length-free_all (in_ranges c.args.reserved.now) c.args.at (c.args.at + c.args.count) (nothing_reserved c.args.reserved.now none) ∙ omega arith;
-      last = λ _. nothing_reserved c.args.reserved.now none (c.args.at + c.args.count - 1);
-      none = λ e. omega arith;
-    }
+pub returns-clause-some : goal.returns-clause-some
+returns-clause-some c = c.loop-range.invariant.some _
+    (past_behind c.args.reserved.now c.loop-range.range-index c.loop-range-test.false c.loop-range.address c.args.end c.loop-range.left c.loop-range.invariant.high c.if-left-end.false)

@@ -1,12 +1,15 @@
-use Rattle.std.proofs.Common.{◌≡◌, ◌≤◌, length, take}
+use Rattle.std.proofs.Common.{◌≡◌, ◌≤◌, ℕ, List, length, drop}
 use Rattle.tlv_area.specs.Layout.{free}
 use Rattle.tlv_area.specs.Map.{in_ranges}
 use Rattle.tlv_area.specs.Writing.{IsPut}
 use Rattle.tlv_area.proofs.writing.put.Given as goal
 
-abbrev pub invariant-loop-address : goal.invariant-loop-address
-invariant-loop-address l = record {
-  count : l.index ≡ length (free (in_ranges l.reserved) l.at l.address);
-  low : l.index ≤ length l.bytes;
-  so_far : IsPut (free (in_ranges l.reserved) l.at l.address) l.initial.memory l.memory (take l.index l.bytes);
+abbrev pub invariant-loop-range : goal.invariant-loop-range
+invariant-loop-range l = record {
+  low : l.fn.from ≤ l.at;
+  high : l.at ≤ l.to;
+  room : length l.memory ≡ length l.initial.memory;
+  fits : length l.left ≡ length (free (in_ranges (drop l.range-index l.reserved)) l.at l.to);
+  rest : (new : List ℕ) → IsPut (free (in_ranges (drop l.range-index l.reserved)) l.at l.to) l.memory new l.left →
+      IsPut (free (in_ranges l.reserved) l.fn.from l.to) l.initial.memory new l.bytes;
 }

@@ -1,7 +1,7 @@
 use Rattle.std.proofs.Common.{◌≡◌, None, Some, Ok, refl, ◌∙◌, ap}
 use Rattle.t2t_tag.specs.declared.answer.T2Answer.TheVariants.{Content, Refused}
 use Rattle.tag_reader.specs.declared.told.Told.TheVariants.{Bytes}
-use Rattle.tag_reader.proofs.told.told_t2.Goals as goal
+use Rattle.tag_reader.proofs.told.tell_t2.Goals as goal
 
 pub returns-in-Some-Content-clause-content : goal.returns-in-Some-Content-clause-content
 returns-in-Some-Content-clause-content c content size is =
