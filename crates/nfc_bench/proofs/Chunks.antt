@@ -2,7 +2,7 @@
 use Rattle.std.proofs.Common.{◌≡◌, ◌≢◌, ℕ, suc, ◌+◌, ◌<◌, ◌≤◌, List, [], ◌∷◌, ◌++◌, length, get_or, take, drop, sym, ◌∙◌, ap, subst, append_assoc}
 use Rattle.std.proofs.Math.Seq.{drop-cons}
 use Rattle.std.proofs.lemmas.List.{take-append-drop, take_more}
-use Rattle.nfc_bench.specs.Limits.{most_lines, longest_line}
+use Rattle.bench_script.specs.Limits.{most_lines, longest_line}
 use Rattle.nfc_bench.specs.declared.top.input.Ending.TheVariants.{Enough}
 use Rattle.nfc_bench.specs.Stops.{EndsAt, ReadIs}
 use Rattle.nfc_bench.proofs.Limits.{passes_by_number, passes_by_length, ends_line, ends_later}

@@ -7,14 +7,14 @@ use Rattle.nfc_io.specs.Counts.{HasRisen}
 use Rattle.nfc_io.specs.Moves.{with_front, with_end, GainsFront}
 use Rattle.nfc_io.proofs.Counts.{rises_at_last}
 use Rattle.nfc_io.proofs.Moves.{with_end-append, with_end-nil}
-use Rattle.nfc_bench.specs.declared.entry.Entry.{Entry}
+use Rattle.bench_world.specs.declared.entry.Entry.{Entry}
 use Rattle.nfc_bench.specs.declared.top.input.Ending.{Ending}
 use Rattle.nfc_bench.specs.declared.top.input.Ending.TheVariants.{End, Fault, Enough}
 use Rattle.nfc_bench.specs.declared.top.lines.Stop.{Stop}
 use Rattle.nfc_bench.specs.declared.top.lines.Stop.TheVariants.{Refused, ReadFault, WriteFault, Memory}
-use Rattle.nfc_bench.specs.Lines.{lines_of}
-use Rattle.nfc_bench.specs.Limits.{most_lines, longest_line}
-use Rattle.nfc_bench.specs.Report.{report_text}
+use Rattle.nfc_io.specs.Lines.{lines_of}
+use Rattle.bench_script.specs.Limits.{most_lines, longest_line}
+use Rattle.bench_world.specs.Report.{report_text}
 use Rattle.nfc_bench.specs.Run.{FrontIsObeyed, FirstRefused, AllTaken, RefusesLine, ObeysFront, AddsFault, line_fault, read_fault, EndsRefused, EndsUnread, EndsUnwritten}
 use Rattle.nfc_bench.specs.Stops.{ReadingEnds, MayFollow, TextRefused, TextUnread, TextUnwritten, TextLost, TextStops, RunRefused, RunUnread, RunLost, RunStops}
 use Rattle.nfc_bench.proofs.Limits.{all_at, IsShort}

@@ -4,16 +4,16 @@ use Rattle.std.proofs.lemmas.List.{append-nil}
 use Rattle.std.proofs.lemmas.Grind.{flat_map-append}
 use Rattle.nfc_io.specs.Moves.{with_end}
 use Rattle.nfc_io.proofs.Moves.{write_on, with_end-nil}
-use Rattle.nfc_bench.specs.declared.command.Command.{Command}
-use Rattle.nfc_bench.specs.declared.command.Command.TheVariants.{Skip}
-use Rattle.nfc_bench.specs.declared.entry.Entry.{Entry}
-use Rattle.nfc_bench.specs.Script.{words_of, is_skipped, SpelledBy, Spells}
-use Rattle.nfc_bench.specs.Legal.{State, LegalStep, EachLegal, first_state, state_from, state_after, state_of}
-use Rattle.nfc_bench.specs.Journal.{NumberedLine, asking_lines, AreEntriesOf, Numbered, Legal}
-use Rattle.nfc_bench.specs.Obeying.{Adds, Obeys}
-use Rattle.nfc_bench.specs.Report.{entry_text, report_text}
+use Rattle.bench_script.specs.declared.command.Command.{Command}
+use Rattle.bench_script.specs.declared.command.Command.TheVariants.{Skip}
+use Rattle.bench_world.specs.declared.entry.Entry.{Entry}
+use Rattle.bench_script.specs.Script.{words_of, is_skipped, SpelledBy, Spells}
+use Rattle.bench_world.specs.Legal.{State, LegalStep, EachLegal, first_state, state_from, state_after, state_of}
+use Rattle.bench_world.specs.Journal.{NumberedLine, asking_lines, AreEntriesOf, Numbered, Legal}
+use Rattle.bench_world.specs.Obeying.{Adds, Obeys}
+use Rattle.bench_world.specs.Report.{entry_text, report_text}
 use Rattle.nfc_bench.specs.Stops.{Follows}
-use Rattle.nfc_bench.proofs.Spelling.{skipped_names_none}
+use Rattle.bench_script.proofs.Spelling.{skipped_names_none}
 
 -- each entry is legal, and so are some more
 pub each_more : (s : State) (es ds : List Entry) → EachLegal s es → EachLegal (state_from s es) ds → EachLegal s (es ++ ds)

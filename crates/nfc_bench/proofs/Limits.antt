@@ -4,12 +4,13 @@ use Rattle.std.specs.Prelude.{if◌then◌else◌}
 use Rattle.std.specs.List.{All, AllByRecursion}
 use Rattle.std.proofs.lemmas.List.{append-nil, length-append, length-map, map-append}
 use Rattle.std.proofs.lemmas.List.Elements.{All-append}
-use Rattle.nfc_bench.specs.Script.{onto_first}
-use Rattle.nfc_bench.specs.Lines.{lines_of, whole_lines, NoLf}
-use Rattle.nfc_bench.specs.Limits.{most_lines, longest_line, longest_script, AreWithinLimits}
+use Rattle.std.specs.List.{onto_first}
+use Rattle.nfc_io.specs.Lines.{lines_of, NoLf, joined}
+use Rattle.bench_script.specs.Limits.{most_lines, longest_line, AreWithinLimits}
+use Rattle.nfc_bench.specs.Limits.{longest_script}
 use Rattle.nfc_bench.specs.declared.top.input.Ending.TheVariants.{Enough}
-use Rattle.nfc_bench.specs.Stops.{joined, Parted, EndsAt, ReadIs}
-use Rattle.nfc_bench.proofs.Lines.{lines_front, whole_front, lines_last}
+use Rattle.nfc_bench.specs.Stops.{Parted, EndsAt, ReadIs}
+use Rattle.nfc_io.proofs.Lines.{lines_last, lines_joined, joined_more, clean_more, no_lf_more}
 
 -- a line isn't too long
 abbrev pub IsShort : List ℕ → Type 0
@@ -37,12 +38,6 @@ limits_more lines l limits room short = record {
 pub no_limits : AreWithinLimits []
 no_limits = record { few = omega arith; short = λ k d small. absurd (omega arith) }
 
-pub no_lf_more : (l : List ℕ) (b : ℕ) → NoLf l → b ≢ 10 → NoLf (l ++ b ∷ [])
-no_lf_more [] b none other zero small = other
-no_lf_more [] b none other (suc k) small = absurd (omega arith)
-no_lf_more (x ∷ l) b none other zero small = none 0 (omega arith)
-no_lf_more (x ∷ l) b none other (suc k) small = no_lf_more l b (λ j less. none (suc j) (omega arith)) other k (omega arith)
-
 -- a text of no bytes
 pub ends_at_start : EndsAt [] [] 0
 ends_at_start = record {
@@ -51,25 +46,6 @@ ends_at_start = record {
   unfinished = record { none = λ k small. absurd (omega arith); fits = omega arith; full = λ e. refl };
   size = refl;
 }
-
--- the lines of a text go on with those of its rest
-pub lines_joined : (ls : List (List ℕ)) (rest : List ℕ) → AllByRecursion NoLf ls → lines_of (joined ls ++ rest) ≡ ls ++ lines_of rest
-lines_joined [] rest clean = refl
-lines_joined (l ∷ ls) rest clean =
-    ap lines_of (append_assoc l (10 ∷ joined ls) rest) ∙ lines_front l (joined ls ++ rest) clean.0 ∙ ap (λ x. l ∷ x) (lines_joined ls rest clean.1)
-
-pub whole_joined : (ls : List (List ℕ)) (rest : List ℕ) → AllByRecursion NoLf ls → whole_lines (joined ls ++ rest) ≡ ls ++ whole_lines rest
-whole_joined [] rest clean = refl
-whole_joined (l ∷ ls) rest clean =
-    ap whole_lines (append_assoc l (10 ∷ joined ls) rest) ∙ whole_front l (joined ls ++ rest) clean.0 ∙ ap (λ x. l ∷ x) (whole_joined ls rest clean.1)
-
-joined_more : (ls : List (List ℕ)) (l : List ℕ) → joined (ls ++ l ∷ []) ≡ joined ls ++ (l ++ 10 ∷ [])
-joined_more [] l = refl
-joined_more (k ∷ ls) l = ap (λ x. k ++ 10 ∷ x) (joined_more ls l) ∙ sym (append_assoc k (10 ∷ joined ls) (l ++ 10 ∷ []))
-
-clean_more : (ls : List (List ℕ)) (l : List ℕ) → AllByRecursion NoLf ls → NoLf l → AllByRecursion NoLf (ls ++ l ∷ [])
-clean_more [] l clean none = (none, tt)
-clean_more (k ∷ ls) l clean none = (clean.0, clean_more ls l clean.1 none)
 
 pub length_sizes : (lengths : List ℕ) (ls : List (List ℕ)) → lengths ≡ map length ls → length lengths ≡ length ls
 length_sizes lengths ls sizes = ap length sizes ∙ length-map ls length

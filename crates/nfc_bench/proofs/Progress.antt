@@ -6,20 +6,20 @@ use Rattle.std.proofs.Math.ListN.{drop_of_length-le}
 use Rattle.std.proofs.Math.Seq.{take-append_seam, drop-append_seam, drop-cons}
 use Rattle.nfc_io.specs.Moves.{GainsFront}
 use Rattle.nfc_io.proofs.Counts.{rises_at_last}
-use Rattle.nfc_bench.specs.declared.entry.Entry.{Entry}
+use Rattle.bench_world.specs.declared.entry.Entry.{Entry}
 use Rattle.nfc_bench.specs.declared.top.input.Ending.{Ending}
 use Rattle.nfc_bench.specs.declared.top.input.Ending.TheVariants.{End, Fault, Enough}
 use Rattle.nfc_bench.specs.declared.top.lines.Stop.{Stop}
 use Rattle.nfc_bench.specs.declared.top.lines.Stop.TheVariants.{Refused, ReadFault, WriteFault, Memory}
-use Rattle.nfc_bench.specs.Lines.{lines_of, whole_lines, CutsLine, NoLf}
-use Rattle.nfc_bench.specs.Journal.{Legal}
-use Rattle.nfc_bench.specs.Limits.{most_lines, longest_line, AreWithinLimits}
-use Rattle.nfc_bench.specs.Report.{entry_text}
+use Rattle.nfc_io.specs.Lines.{lines_of, whole_lines, CutsLine, NoLf, joined}
+use Rattle.bench_world.specs.Journal.{Legal}
+use Rattle.bench_script.specs.Limits.{most_lines, longest_line, AreWithinLimits}
+use Rattle.bench_world.specs.Report.{entry_text}
 use Rattle.nfc_bench.specs.Run.{AreObeyed, FrontIsObeyed}
-use Rattle.nfc_bench.specs.Stops.{joined, Parted, ReadIs, RestIs, IsUnfinished, IsTooMuch, AreLeft, MayFollow, Follows, LineDone, LineRefused, LineCut, LineLost, LineStops, Progress, TextDone, TextRefused, TextUnread, TextUnwritten, TextLost, TextStops}
-use Rattle.nfc_bench.proofs.Lines.{lines_front, whole_front, whole_last, lines_last, lines_longer, some_line, GoesOn}
+use Rattle.nfc_bench.specs.Stops.{Parted, ReadIs, RestIs, IsUnfinished, IsTooMuch, AreLeft, MayFollow, Follows, LineDone, LineRefused, LineCut, LineLost, LineStops, Progress, TextDone, TextRefused, TextUnread, TextUnwritten, TextLost, TextStops}
+use Rattle.nfc_io.proofs.Lines.{lines_front, whole_front, whole_last, lines_last, lines_longer, some_line, GoesOn}
 use Rattle.nfc_bench.proofs.Limits.{limits_more, no_limits, all_by_recursion, length_sizes, not_full}
-use Rattle.nfc_bench.proofs.OneJournal.{one_legal}
+use Rattle.bench_world.proofs.OneJournal.{one_legal}
 use Rattle.nfc_bench.proofs.Journals.{legal_more, legal_none, written_more, written_none}
 
 -- a legal journal of some lines is the only one of them

@@ -1,13 +1,6 @@
--- The limits of a script; this project's own.
-use Rattle.std.specs.Prelude.{ℕ, ◌+◌, ◌*◌, ◌≤◌, List, length}
-use Rattle.std.specs.List.{All}
-
--- how many lines it may have, and how many bytes a line, without its LF
-abbrev pub most_lines : ℕ
-most_lines = 1000
-
-abbrev pub longest_line : ℕ
-longest_line = 4096
+-- The limits of what a run reads; this project's own.
+use Rattle.std.specs.Prelude.{ℕ, ◌+◌, ◌*◌}
+use Rattle.bench_script.specs.Limits.{most_lines, longest_line}
 
 -- how many bytes one call of the source asks for
 abbrev pub chunk_size : ℕ
@@ -19,8 +12,3 @@ longest_script = most_lines * (longest_line + 1)
 
 abbrev pub most_read : ℕ
 most_read = longest_script + chunk_size
-
--- Neither the number of the lines is above its limit nor the length of one of them.
-pub record AreWithinLimits (lines : List (List ℕ)) : Type 0 where
-  pub few : length lines ≤ most_lines
-  pub short : All (λ l. length l ≤ longest_line) lines

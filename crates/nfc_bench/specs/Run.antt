@@ -3,14 +3,15 @@ use Rattle.std.specs.Prelude.{◌≡◌, ℕ, ◌+◌, ◌<◌, ◌≤◌, ◌�
 use Rattle.std.specs.Fmt.{decimal}
 use Rattle.nfc_io.specs.Counts.{HasRisen}
 use Rattle.nfc_io.specs.Moves.{with_front, with_end, GainsFront}
-use Rattle.nfc_bench.specs.declared.command.Command.{Command}
-use Rattle.nfc_bench.specs.declared.entry.Entry.{Entry}
-use Rattle.nfc_bench.specs.Script.{Spells}
-use Rattle.nfc_bench.specs.Lines.{lines_of, whole_lines}
-use Rattle.nfc_bench.specs.Limits.{most_lines, longest_line, chunk_size, AreWithinLimits}
-use Rattle.nfc_bench.specs.Legal.{IsAccepted, state_of}
-use Rattle.nfc_bench.specs.Journal.{Legal}
-use Rattle.nfc_bench.specs.Report.{entry_text, report_text}
+use Rattle.bench_script.specs.declared.command.Command.{Command}
+use Rattle.bench_world.specs.declared.entry.Entry.{Entry}
+use Rattle.bench_script.specs.Script.{Spells}
+use Rattle.nfc_io.specs.Lines.{lines_of, whole_lines}
+use Rattle.bench_script.specs.Limits.{most_lines, longest_line, AreWithinLimits}
+use Rattle.nfc_bench.specs.Limits.{chunk_size}
+use Rattle.bench_world.specs.Legal.{IsAccepted, state_of}
+use Rattle.bench_world.specs.Journal.{Legal}
+use Rattle.bench_world.specs.Report.{entry_text, report_text}
 
 -- the words of a run
 abbrev pub IsRun : List (List ℕ) → Type 0

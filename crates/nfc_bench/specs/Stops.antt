@@ -3,22 +3,17 @@ use Rattle.std.specs.Prelude.{◌≡◌, ℕ, ◌+◌, ◌<◌, ◌≤◌, ◌�
 use Rattle.std.specs.List.{AllByRecursion}
 use Rattle.nfc_io.specs.Counts.{HasRisen}
 use Rattle.nfc_io.specs.Moves.{with_end, GainsFront}
-use Rattle.nfc_bench.specs.declared.entry.Entry.{Entry}
+use Rattle.bench_world.specs.declared.entry.Entry.{Entry}
 use Rattle.nfc_bench.specs.declared.top.input.Ending.{Ending}
 use Rattle.nfc_bench.specs.declared.top.input.Ending.TheVariants.{End, Fault, Enough}
 use Rattle.nfc_bench.specs.declared.top.lines.Stop.{Stop}
 use Rattle.nfc_bench.specs.declared.top.lines.Stop.TheVariants.{Refused, ReadFault, WriteFault, Memory}
-use Rattle.nfc_bench.specs.Lines.{lines_of, whole_lines, NoLf}
-use Rattle.nfc_bench.specs.Limits.{most_lines, longest_line, AreWithinLimits}
-use Rattle.nfc_bench.specs.Legal.{EachLegal, state_of}
-use Rattle.nfc_bench.specs.Journal.{Numbered}
-use Rattle.nfc_bench.specs.Report.{entry_text, report_text}
+use Rattle.nfc_io.specs.Lines.{lines_of, whole_lines, NoLf, joined}
+use Rattle.bench_script.specs.Limits.{most_lines, longest_line, AreWithinLimits}
+use Rattle.bench_world.specs.Legal.{EachLegal, state_of}
+use Rattle.bench_world.specs.Journal.{Numbered}
+use Rattle.bench_world.specs.Report.{entry_text, report_text}
 use Rattle.nfc_bench.specs.Run.{IsTaken, AreObeyed, FrontIsObeyed, FirstRefused, ObeysFront, RefusesLine, ObeysWhole, EndsUnwritten}
-
--- the bytes of some lines, each with its LF
-abbrev pub joined : List (List ℕ) → List ℕ
-joined [] = []
-joined (l ∷ ls) = l ++ 10 ∷ joined ls
 
 -- A text is whole lines of these lengths, within the limits, and a rest.
 pub record Parted (text lengths rest : List ℕ) : Type 0 where

@@ -1,18 +1,9 @@
 //! A bench of NFC devices: a script of commands on a simulated air, and a report of what happened.
 #![tactic(auto)]
 
-mod bench;
-mod command;
-mod device;
-mod entry;
-mod polling;
-mod reading;
-mod report;
-mod script;
-mod sweeping;
 mod top;
 
-use bench::Bench;
+use bench_world::Bench;
 use nfc_io::{StdSink, StdSource, write_all};
 use std::env;
 use std::io::ErrorKind;

@@ -3,7 +3,7 @@
 ghost use Rattle.std.specs.Prelude.{map, string_bytes, codes, IsTrue, IfSome, None, ⊤, ◌⊎◌, ◌≡◌, ◌+◌, ◌<◌, ◌≤◌, ◌↔◌, ◌++◌, [], ℕ, List, length, Option, Some, false, OnOk, IfErr};
 ghost use Rattle.std.specs.Fmt.{decimal};
 ghost use Rattle.nfc_io.specs.Counts.{HasRisen};
-ghost use Rattle.nfc_bench.specs.Lines.{lines_of};
+ghost use Rattle.nfc_io.specs.Lines.{lines_of};
 ghost use Rattle.nfc_bench.specs.Limits.{most_read};
 ghost use Rattle.nfc_bench.specs.Run.{IsRun, is_quiet, words_fault, line_fault, AllTaken, AddsFault, EndsDone, EndsRefused, EndsUnread, EndsUnwritten, EndsMemory, ReadsInTime, ReadsAtMost};
 ghost use Rattle.nfc_bench.specs.Stops.{RunStops};
@@ -20,9 +20,11 @@ mod store_tests;
 mod tags_tests;
 #[cfg(test)]
 mod tests;
+#[cfg(test)]
+mod world_tests;
 
-use crate::bench::Bench;
 use arrayvec::ArrayVec;
+use bench_world::Bench;
 use input::read_script;
 use lines::{Stop, obey_lines};
 use nfc_io::{Sink, Source, write_all};
@@ -40,18 +42,27 @@ pub fn run_bench<S: Source, K: Sink>(
     requires { bench.old ≡ record { journal = []; spoiled = false } }
     ensures status { (result ≡ 0) ⊎ ((2 ≤ result) × (result ≤ 6)) }
 
-    ensures done { result ≡ 0 → EndsDone (is_quiet (map string_bytes words.now)) (S.left source.old) (S.left source.new) (K.taken sink.old) (K.taken sink.new) bench.new.journal }
+    ensures done { result ≡ 0 → EndsDone (is_quiet (map string_bytes words.now)) (S.left source.old)
+        (S.left source.new) (K.taken sink.old) (K.taken sink.new) bench.new.journal }
     ensures still { result ≡ 0 → (S.faults source.new ≡ S.faults source.old) × (K.faults sink.new ≡ K.faults sink.old) }
-    ensures refused { result ≡ 2 → EndsRefused (is_quiet (map string_bytes words.now)) (S.left source.old) (K.taken sink.old) (K.taken sink.new) (K.faults sink.old) (K.faults sink.new) bench.new.journal }
-    ensures unread { result ≡ 3 → EndsUnread (is_quiet (map string_bytes words.now)) (S.left source.old) (S.left source.new) (K.taken sink.old) (K.taken sink.new) (S.faults source.old) (S.faults source.new) (K.faults sink.old) (K.faults sink.new) bench.new.journal }
-    ensures unwritten { result ≡ 4 → EndsUnwritten (is_quiet (map string_bytes words.now)) (S.left source.old) (K.taken sink.old) (K.taken sink.new) (K.faults sink.old) (K.faults sink.new) bench.new.journal }
-    ensures memory { result ≡ 5 → EndsMemory (is_quiet (map string_bytes words.now)) (S.left source.old) (K.taken sink.old) (K.taken sink.new) (K.faults sink.old) (K.faults sink.new) bench.new.journal }
+    ensures refused { result ≡ 2 → EndsRefused (is_quiet (map string_bytes words.now)) (S.left source.old)
+        (K.taken sink.old) (K.taken sink.new) (K.faults sink.old) (K.faults sink.new) bench.new.journal }
+    ensures unread { result ≡ 3 → EndsUnread (is_quiet (map string_bytes words.now)) (S.left source.old)
+        (S.left source.new) (K.taken sink.old) (K.taken sink.new) (S.faults source.old) (S.faults source.new)
+        (K.faults sink.old) (K.faults sink.new) bench.new.journal }
+    ensures unwritten { result ≡ 4 → EndsUnwritten (is_quiet (map string_bytes words.now)) (S.left source.old)
+        (K.taken sink.old) (K.taken sink.new) (K.faults sink.old) (K.faults sink.new) bench.new.journal }
+    ensures memory { result ≡ 5 → EndsMemory (is_quiet (map string_bytes words.now)) (S.left source.old)
+        (K.taken sink.old) (K.taken sink.new) (K.faults sink.old) (K.faults sink.new) bench.new.journal }
     ensures words { (result ≡ 6) ↔ (IsRun (map string_bytes words.now) → ⊥) }
     ensures same { result ≡ 6 → (source.new ≡ source.old) × (bench.new ≡ bench.old) }
-    ensures told { result ≡ 6 → AddsFault [] words_fault (K.taken sink.old) (K.taken sink.new) (K.faults sink.old) (K.faults sink.new) }
+    ensures told { result ≡ 6 → AddsFault [] words_fault (K.taken sink.old) (K.taken sink.new) (K.faults sink.old)
+        (K.faults sink.new) }
 
     // Where every line is taken and neither count rose, memory alone may be wanting.
-    ensures complete { IsRun (map string_bytes words.now) → (bytes : List ℕ) → S.left source.old ≡ Some bytes → AllTaken (lines_of bytes) bench.new.journal → (HasRisen (S.faults source.old) (S.faults source.new) → ⊥) → (HasRisen (K.faults sink.old) (K.faults sink.new) → ⊥) → (result ≡ 0) ⊎ (result ≡ 5) }
+    ensures complete { IsRun (map string_bytes words.now) → (bytes : List ℕ) → S.left source.old ≡ Some bytes
+        → AllTaken (lines_of bytes) bench.new.journal → (HasRisen (S.faults source.old) (S.faults source.new) → ⊥)
+        → (HasRisen (K.faults sink.old) (K.faults sink.new) → ⊥) → (result ≡ 0) ⊎ (result ≡ 5) }
 
     ensures stop { ReadsInTime (S.left source.old) (S.left source.new) }
     ensures bound { ReadsAtMost most_read (S.left source.old) (S.left source.new) }
@@ -82,7 +93,8 @@ pub fn run_bench<S: Source, K: Sink>(
 
 /// Whether a run is to report answers alone; none where the words are no form that is known.
 fn form_of(words: &[String]) -> Option<bool>
-    ensures some { IfSome result (λ quiet. IsRun (map string_bytes words.now) × (quiet ≡ is_quiet (map string_bytes words.now))) }
+    ensures some { IfSome result
+        (λ quiet. IsRun (map string_bytes words.now) × (quiet ≡ is_quiet (map string_bytes words.now))) }
     ensures none { result ≡ None → IsRun (map string_bytes words.now) → ⊥ }
 {
     match words {
@@ -101,9 +113,13 @@ fn run_script<S: Source, K: Sink>(
     bench: &mut Bench,
 ) -> Result<(), Stop>
     requires { bench.old.journal ≡ [] }
-    ensures ok { OnOk result (EndsDone quiet (S.left source.old) (S.left source.new) (K.taken sink.old) (K.taken sink.new) bench.new.journal) }
-    ensures still { OnOk result ((S.faults source.new ≡ S.faults source.old) × (K.faults sink.new ≡ K.faults sink.old)) }
-    ensures err { IfErr result (λ s. RunStops quiet (S.left source.old) (S.left source.new) (K.taken sink.old) (K.taken sink.new) (S.faults source.old) (S.faults source.new) (K.faults sink.old) (K.faults sink.new) bench.new.journal s) }
+    ensures ok { OnOk result (EndsDone quiet (S.left source.old) (S.left source.new) (K.taken sink.old)
+        (K.taken sink.new) bench.new.journal) }
+    ensures still { OnOk result ((S.faults source.new ≡ S.faults source.old)
+        × (K.faults sink.new ≡ K.faults sink.old)) }
+    ensures err { IfErr result
+        (λ s. RunStops quiet (S.left source.old) (S.left source.new) (K.taken sink.old) (K.taken sink.new)
+        (S.faults source.old) (S.faults source.new) (K.faults sink.old) (K.faults sink.new) bench.new.journal s) }
     ensures stop { ReadsInTime (S.left source.old) (S.left source.new) }
     ensures bound { ReadsAtMost most_read (S.left source.old) (S.left source.new) }
     ensures reads { S.faults source.old ≤ S.faults source.new }

@@ -38,7 +38,8 @@ pub struct Script {
 pub fn read_script<S: Source>(alloc: Global, source: &mut S) -> Result<Script, AllocError>
     ensures ok { IfOk result (λ s. S.left source.old ≡ with_front s.text.items (S.left source.new)) }
     ensures lines { IfOk result (λ s. ReadIs s.text.items s.lengths.items s.ending) }
-    ensures cause { IfOk result (λ s. ReadingEnds (S.left source.new) s.ending (S.faults source.old) (S.faults source.new)) }
+    ensures cause { IfOk result (λ s. ReadingEnds (S.left source.new) s.ending (S.faults source.old)
+        (S.faults source.new)) }
     ensures still { IfOk result (λ s. s.ending ≢ Ending.Fault → S.faults source.new ≡ S.faults source.old) }
     ensures memory { OnErr result (S.faults source.new ≡ S.faults source.old) }
     ensures stop { ReadsInTime (S.left source.old) (S.left source.new) }
@@ -78,7 +79,10 @@ fn note_lines(
     begun: usize,
     chunk: &[u8],
 ) -> Result<Option<usize>, AllocError>
-    ensures { (text : List ℕ) → EndsAt text lengths.old.items begun → IfOk result (λ o. MatchOption o (ReadIs (text ++ chunk.now) lengths.new.items Ending.Enough) (λ b. EndsAt (text ++ chunk.now) lengths.new.items b)) }
+    ensures { (text : List ℕ) → EndsAt text lengths.old.items begun
+        → IfOk result
+        (λ o. MatchOption o (ReadIs (text ++ chunk.now) lengths.new.items Ending.Enough)
+        (λ b. EndsAt (text ++ chunk.now) lengths.new.items b)) }
 {
     let mut bytes = begun;
     'each_byte: for byte in chunk {

@@ -4,10 +4,8 @@ ghost use Rattle.std.specs.Prelude.{◌≡◌, ◌<◌, ◌≤◌, [], length, O
 ghost use Rattle.nfc_bench.specs.Stops.{IsLastText, ReadIs, LineDone, LineStops, TextDone, TextStops};
 
 use super::input::{Ending, Script};
-use crate::bench::{Bench, ObeyFault};
-use crate::command::Command;
-use crate::report::render;
-use crate::script::{LineFault, parse_line};
+use bench_script::{Command, LineFault, parse_line};
+use bench_world::{Bench, ObeyFault, render};
 use nfc_io::{Sink, write_all};
 use std::alloc::{AllocError, Global};
 
@@ -38,8 +36,11 @@ fn obey_line<K: Sink>(
     sink: &mut K,
     bench: &mut Bench,
 ) -> Result<(), Stop>
-    ensures ok { OnOk result (LineDone quiet bench.old.journal bench.new.journal line text.now (K.taken sink.old) (K.taken sink.new)) }
-    ensures err { IfErr result (λ s. LineStops quiet bench.old.journal bench.new.journal line text.now (K.taken sink.old) (K.taken sink.new) (K.faults sink.old) (K.faults sink.new) s) }
+    ensures ok { OnOk result (LineDone quiet bench.old.journal bench.new.journal line text.now (K.taken sink.old)
+        (K.taken sink.new)) }
+    ensures err { IfErr result
+        (λ s. LineStops quiet bench.old.journal bench.new.journal line text.now (K.taken sink.old) (K.taken sink.new)
+        (K.faults sink.old) (K.faults sink.new) s) }
     ensures still { OnOk result (K.faults sink.new ≡ K.faults sink.old) }
     ensures count { K.faults sink.old ≤ K.faults sink.new }
 {
@@ -75,8 +76,11 @@ pub fn obey_lines<K: Sink>(
 ) -> Result<(), Stop>
     requires empty { bench.old.journal ≡ [] }
     requires lines { ReadIs script.now.text.items script.now.lengths.items script.now.ending }
-    ensures ok { OnOk result (TextDone quiet script.now.text.items script.now.ending bench.new.journal (K.taken sink.old) (K.taken sink.new)) }
-    ensures err { IfErr result (λ s. TextStops quiet script.now.text.items script.now.ending bench.new.journal (K.taken sink.old) (K.taken sink.new) (K.faults sink.old) (K.faults sink.new) s) }
+    ensures ok { OnOk result (TextDone quiet script.now.text.items script.now.ending bench.new.journal
+        (K.taken sink.old) (K.taken sink.new)) }
+    ensures err { IfErr result
+        (λ s. TextStops quiet script.now.text.items script.now.ending bench.new.journal (K.taken sink.old)
+        (K.taken sink.new) (K.faults sink.old) (K.faults sink.new) s) }
     ensures still { OnOk result (K.faults sink.new ≡ K.faults sink.old) }
     ensures count { K.faults sink.old ≤ K.faults sink.new }
 {

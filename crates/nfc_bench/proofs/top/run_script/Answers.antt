@@ -1,6 +1,6 @@
 use Rattle.std.proofs.Common.{ℕ, List, Bool, Option}
 use Rattle.nfc_bench.specs.Stops.{TextStops, RunStops}
-use Rattle.nfc_bench.proofs.Outcomes.{if_err}
+use Rattle.bench_world.proofs.Outcomes.{if_err}
 use Rattle.nfc_bench.proofs.ScriptText.{reads_at_most}
 use Rattle.nfc_bench.proofs.Endings.{lost_at_once, run_stops}
 use Rattle.nfc_bench.proofs.top.run_script.Goals as goal

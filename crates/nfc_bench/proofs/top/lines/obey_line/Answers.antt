@@ -1,12 +1,12 @@
 use Rattle.std.proofs.Common.{◌≡◌, ℕ, List, [], ◌∷◌, Option, refl, sym, ap, ◌∙◌, subst, arith, inr}
 use Rattle.nfc_io.specs.Moves.{with_end, GainsFront}
 use Rattle.nfc_io.proofs.Moves.{with_end-nil}
-use Rattle.nfc_bench.specs.declared.command.Command.{Command}
-use Rattle.nfc_bench.specs.declared.command.Command.TheVariants.{Skip}
-use Rattle.nfc_bench.specs.declared.entry.Entry.{Entry}
-use Rattle.nfc_bench.specs.Report.{report_text}
-use Rattle.nfc_bench.specs.Script.{Spells}
-use Rattle.nfc_bench.specs.Obeying.{Adds, Obeys}
+use Rattle.bench_script.specs.declared.command.Command.{Command}
+use Rattle.bench_script.specs.declared.command.Command.TheVariants.{Skip}
+use Rattle.bench_world.specs.declared.entry.Entry.{Entry}
+use Rattle.bench_world.specs.Report.{report_text}
+use Rattle.bench_script.specs.Script.{Spells}
+use Rattle.bench_world.specs.Obeying.{Adds, Obeys}
 use Rattle.nfc_bench.specs.Stops.{Follows}
 use Rattle.nfc_bench.proofs.Journals.{follows_skipped, follows_entry, asks_something, adds_of, report_one}
 use Rattle.nfc_bench.proofs.top.lines.obey_line.Goals as goal

@@ -1,8 +1,8 @@
 use Rattle.std.proofs.Common.{◌≡◌, ◌≤◌, ◌<◌, ◌+◌, ℕ, suc, List, length, take, drop, get_or, Option, refl, sym, ◌∙◌, ap, subst, arith, inl, inr}
 use Rattle.std.proofs.lemmas.Grind.{common_steps}
-use Rattle.nfc_bench.specs.Limits.{most_lines}
+use Rattle.bench_script.specs.Limits.{most_lines}
 use Rattle.nfc_bench.specs.Stops.{AreLeft, IsUnfinished, Progress, LineDone, LineStops, TextDone, TextStops}
-use Rattle.nfc_bench.proofs.Outcomes.{on_ok, if_err}
+use Rattle.bench_world.proofs.Outcomes.{on_ok, if_err}
 use Rattle.nfc_bench.proofs.Progress.{FirstCut, cut_at, rest_at, left_start, progress_start, progress_more, line_stops, is_next_by_lf, is_next_by_end, done_at_last, reading_stops, refused_by_size, unfinished_at, too_much_at, room_for, few_left}
 use Rattle.nfc_bench.proofs.top.lines.obey_lines.Goals as goal
 

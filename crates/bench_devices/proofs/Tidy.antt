@@ -1,0 +1,105 @@
+-- Whatever happens to the field, a Type 4 tag has a link at most while it is active.
+use Rattle.std.proofs.Common.{◌≡◌, ◌⊎◌, inl, inr, ℕ, List, [], ◌∷◌, map, Bool, true, false, if◌then◌else◌, None, refl, sym, subst}
+use Rattle.nfc_base.specs.declared.event.Event.{Event}
+use Rattle.nfc_base.specs.declared.event.Event.TheVariants.{Reset, Request, Answer, Clash}
+use Rattle.nfc_base.specs.declared.event.Fate.{Fate}
+use Rattle.nfc_base.specs.declared.event.Fate.TheVariants.{Pass, Damage, Lose, Break}
+use Rattle.nfc_base.specs.Signal.{Signal}
+use Rattle.air_core.specs.World.{World, hears, stepped_by, requested, came_back}
+use Rattle.air_core.specs.Conversation.{Note, Next, Moment, Going, replay}
+use Rattle.nfca_poll.specs.declared.upper.UpStep.{UpStep}
+use Rattle.nfca_poll.specs.declared.upper.UpStep.TheVariants as steps
+use Rattle.nfca_poll.specs.Levels.{levels}
+use Rattle.nfca_poll.specs.Calls.{call_of}
+use Rattle.nfca_poll.specs.Front.{Front, Off, Idle, Sleep, Ready, Active, front_next, is_active}
+use Rattle.nfca_poll.specs.Fronted.{left_at, active_after, after_by}
+use Rattle.t5t_tag.specs.Step.{t5_after}
+use Rattle.bench_devices.specs.Cards.{T4Near}
+use Rattle.bench_devices.specs.declared.device.Device.{Device}
+use Rattle.bench_devices.specs.declared.device.Device.TheVariants.{T2, T4, T5}
+use Rattle.bench_devices.specs.Device.{devices, t4_machine, is_unlinked}
+use Rattle.bench_devices.specs.Device.{air}
+use Rattle.bench_devices.specs.Phases.{IsTidy, AreTidy}
+
+-- a front in a state, under which the machine of a Type 4 tag is tidy
+abbrev pub IsTidyAt : Front → T4Near → Type 0
+IsTidyAt front u = (is_active front ≡ true) ⊎ (is_unlinked u ≡ true)
+
+-- where a front leaves Active the link is given up
+pub left_tidy : (front next : Front) (u : T4Near) → IsTidyAt front u → IsTidyAt next (left_at t4_machine front next u)
+left_tidy Off next u (inl a) = absurd cc
+left_tidy Off next u (inr n) = inr n
+left_tidy Idle next u (inl a) = absurd cc
+left_tidy Idle next u (inr n) = inr n
+left_tidy Sleep next u (inl a) = absurd cc
+left_tidy Sleep next u (inr n) = inr n
+left_tidy (Ready k starred) next u (inl a) = absurd cc
+left_tidy (Ready k starred) next u (inr n) = inr n
+left_tidy (Active starred) Off u t = inr refl
+left_tidy (Active starred) Idle u t = inr refl
+left_tidy (Active starred) Sleep u t = inr refl
+left_tidy (Active starred) (Ready k other) u t = inr refl
+left_tidy (Active starred) (Active other) u t = inl refl
+
+-- so a device is tidy after each step of it
+active_tidy : (s : UpStep) (starred : Bool) (id : List ℕ) (u v : T4Near) (f : Signal) → IsTidy (T4 (active_after t4_machine s v (record { id = id; front = Active starred; upper = u }) f))
+active_tidy steps.Foreign starred id u v f = left_tidy (Active starred) (front_next (levels id) (Active starred) (call_of f)) u (inl refl)
+active_tidy steps.Quiet starred id u v f = inl refl
+active_tidy (steps.Reply g) starred id u v f = inl refl
+active_tidy (steps.Sleep g) starred id u v f = inr refl
+active_tidy (steps.Idle g) starred id u v f = inr refl
+
+card_after : (front : Front) (id : List ℕ) (u : T4Near) (f : Signal) → IsTidyAt front u → IsTidy (T4 (after_by t4_machine front (record { id = id; front = front; upper = u }) f None))
+card_after Off id u f t = left_tidy Off (front_next (levels id) Off (call_of f)) u t
+card_after Idle id u f t = left_tidy Idle (front_next (levels id) Idle (call_of f)) u t
+card_after Sleep id u f t = left_tidy Sleep (front_next (levels id) Sleep (call_of f)) u t
+card_after (Ready k starred) id u f t = left_tidy (Ready k starred) (front_next (levels id) (Ready k starred) (call_of f)) u t
+card_after (Active starred) id u f t = active_tidy (t4_machine.says u f None) starred id u (t4_machine.after u f None) f
+
+either_tidy : (v : Bool) (a b : Device) → IsTidy a → IsTidy b → IsTidy (if v then a else b)
+either_tidy true a b t u = t
+either_tidy false a b t u = u
+
+pub stepped_tidy : (f : Signal) (d : Device) → IsTidy d → IsTidy (stepped_by devices d f None)
+stepped_tidy f (T2 d) t = either_tidy (hears devices (T2 d) f) (devices.after (T2 d) f None) (T2 d) tt tt
+stepped_tidy f (T4 d) t = either_tidy (hears devices (T4 d) f) (devices.after (T4 d) f None) (T4 d) (card_after d.front d.id d.upper f t) t
+stepped_tidy f (T5 p) t =
+    either_tidy (hears devices (T5 p) f) (devices.after (T5 p) f None) (T5 p) (either_tidy p.lit (T5 (record { tag = t5_after p.tag f; lit = true })) (T5 p) tt tt) tt
+
+-- and where light comes and goes
+pub dark_tidy : (d : Device) → IsTidy d → IsTidy (devices.darkened d)
+dark_tidy (T2 d) t = tt
+dark_tidy (T4 d) t = left_tidy d.front Off d.upper t
+dark_tidy (T5 p) t = tt
+
+pub woken_tidy : (d : Device) → IsTidy d → IsTidy (devices.woken d)
+woken_tidy (T2 d) t = tt
+woken_tidy (T4 d) t = left_tidy d.front Idle d.upper t
+woken_tidy (T5 p) t = tt
+
+all_tidy : (g : Device → Device) → ((d : Device) → IsTidy d → IsTidy (g d)) → (ds : List Device) → AreTidy ds → AreTidy (map g ds)
+all_tidy g h [] t = tt
+all_tidy g h (d ∷ ds) t = (h d t.0, all_tidy g h ds t.1)
+
+requested_tidy : (w : World Device) (f : Signal) (x : Fate) → AreTidy w.listeners → AreTidy (requested devices w f x).listeners
+requested_tidy w f Pass t = all_tidy (λ l. stepped_by devices l f None) (stepped_tidy f) w.listeners t
+requested_tidy w f Damage t = t
+requested_tidy w f Lose t = t
+requested_tidy w f Break t = all_tidy devices.darkened dark_tidy w.listeners t
+
+back_tidy : (w : World Device) (x : Fate) → AreTidy w.listeners → AreTidy (came_back devices w x).listeners
+back_tidy w Pass t = t
+back_tidy w Damage t = t
+back_tidy w Lose t = t
+back_tidy w Break t = all_tidy devices.darkened dark_tidy w.listeners t
+
+pub events_tidy : (es : List Event) (w : World Device) → AreTidy w.listeners → AreTidy (replay air w es).listeners
+events_tidy [] w t = t
+events_tidy (Reset ∷ es) w t = events_tidy es (air.happens w Reset) (all_tidy (λ l. devices.woken (devices.darkened l)) (λ d u. woken_tidy (devices.darkened d) (dark_tidy d u)) w.listeners t)
+events_tidy (Request f x ∷ es) w t = events_tidy es (requested devices w f x) (requested_tidy w f x t)
+events_tidy (Answer g x ∷ es) w t = events_tidy es (came_back devices w x) (back_tidy w x t)
+events_tidy (Clash g x ∷ es) w t = events_tidy es (came_back devices w x) (back_tidy w x t)
+
+-- whatever was due
+pub going_tidy : (next : List Note → Next) (a b : Moment (World Device)) (ns : List Note) → Going air next a b ns → AreTidy a.world.listeners → AreTidy b.world.listeners
+going_tidy next a b ns g t = subst (λ (m : Moment (World Device)). AreTidy m.world.listeners) (sym g.moment) (events_tidy g.events a.world t)

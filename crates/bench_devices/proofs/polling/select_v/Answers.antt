@@ -1,0 +1,39 @@
+use Rattle.std.proofs.Common.{◌≡◌, List, length, Result, true, sym, ◌∙◌, ap, subst, IsSome, arith}
+use Rattle.air_core.specs.Turn.{moment}
+use Rattle.air_core.specs.World.{World}
+use Rattle.air_core.specs.Conversation.{Moment}
+use Rattle.nfca_poll.specs.declared.fault.PollFault.{PollFault}
+use Rattle.bench_script.specs.declared.command.DeviceId.TheVariants as ids
+use Rattle.bench_devices.specs.declared.device.Device.{Device}
+use Rattle.bench_devices.specs.Placed.{device_with}
+use Rattle.bench_devices.specs.Choosing.{StandsAt}
+use Rattle.bench_devices.specs.Phases.{Selects, SelectsTo}
+use Rattle.bench_devices.proofs.SelectingV.{five, reset_done, placed, selects, selects_at}
+use Rattle.bench_devices.proofs.Selections.{if_missed, not_starved}
+use Rattle.bench_devices.proofs.polling.select_v.Goals as goal
+
+pub place_of-requires : goal.place_of-requires
+place_of-requires c =
+    let reset = reset_done c.args.field.now c.reset.new.self c.reset.result c.reset.ensures.ok (sym c.is_err.ensures.value ∙ c.if-is_err.false) in
+    let lit : c.reset.new.self.lit ≡ true = ap (λ (m : Moment (World Device)). m.world.lit) reset in
+    let p = placed c.args.id (omega (arith, c.well_formed)) c.args.field.now c.reset.new.self c.pick_v.new.field c.pick_v.result c.requires.idle.tame reset (c.pick_v.ensures.turns lit) c.pick_v.ensures.lost (c.pick_v.ensures.cause lit) c.in-Ok.is in
+    subst (λ ds. IsSome (device_with c.args.id ds)) (sym c.listeners.ensures) p
+
+pub returns-in-Ok : goal.returns-in-Ok
+returns-in-Ok c =
+    let reset = reset_done c.args.field.now c.reset.new.self c.reset.result c.reset.ensures.ok (sym c.is_err.ensures.value ∙ c.if-is_err.false) in
+    let lit : c.reset.new.self.lit ≡ true = ap (λ (m : Moment (World Device)). m.world.lit) reset in
+    let Q : List Device → Type 0 = λ ds. StandsAt c.args.id ds c.place_of.result in
+    selects_at c.args.id (omega (arith, c.well_formed)) c.args.field.now c.reset.new.self c.pick_v.new.field c.pick_v.result c.requires.idle.tame reset (c.pick_v.ensures.turns lit) c.pick_v.ensures.lost (c.pick_v.ensures.cause lit) c.in-Ok.is
+    c.place_of.result (subst Q c.listeners.ensures c.place_of.ensures)
+
+pub returns-in-Err : goal.returns-in-Err
+returns-in-Err c =
+    let reset = reset_done c.args.field.now c.reset.new.self c.reset.result c.reset.ensures.ok (sym c.is_err.ensures.value ∙ c.if-is_err.false) in
+    let lit : c.reset.new.self.lit ≡ true = ap (λ (m : Moment (World Device)). m.world.lit) reset in
+    let eight : length c.args.id ≡ 8 = omega (arith, c.well_formed) in
+    let P : Result (Unit {0}) PollFault → Type 0 = λ r. Selects (ids.V c.args.id) (five r) (moment c.args.field.now) (moment c.pick_v.new.field) in
+    if_missed c.none_selected.result c.in-Err.fault (λ s. SelectsTo (ids.V c.args.id) s (moment c.args.field.now) (moment c.pick_v.new.field)) c.none_selected.ensures (λ m.
+    subst P c.in-Err.is
+    (selects c.args.id eight c.args.field.now c.reset.new.self c.pick_v.new.field c.pick_v.result c.requires.idle.tame reset (c.pick_v.ensures.turns lit) c.pick_v.ensures.lost (c.pick_v.ensures.cause lit)
+    (not_starved c.pick_v.result c.in-Err.fault c.in-Err.is m)))

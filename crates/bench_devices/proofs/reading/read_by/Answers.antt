@@ -1,0 +1,17 @@
+use Rattle.bench_devices.specs.Linking.{seen_plain}
+use Rattle.bench_devices.proofs.ReadingEnds.{new_ready, new_is_tag, ends_read}
+use Rattle.bench_devices.proofs.reading.read_by.Goals as goal
+
+pub read-requires-clause-ready : goal.read-requires-clause-ready
+read-requires-clause-ready c over = new_ready (seen_plain c.args.link.now) c.requires.fresh c.args.how c.requires.tag
+
+pub read-requires-clause-of : goal.read-requires-clause-of
+read-requires-clause-of c =
+    let tag = new_is_tag (seen_plain c.args.link.now) c.requires.fresh c.args.how c.requires.tag in
+    record { kind = tag.1.kind; named = tag.1.named }
+
+pub returns-clause-tells : goal.returns-clause-tells
+returns-clause-tells c =
+    let tag = new_is_tag (seen_plain c.args.link.now) c.requires.fresh c.args.how c.requires.tag in
+    ends_read (seen_plain c.args.link.now) c.requires.fresh c.args.how c.requires.tag (seen_plain c.read.new.link) c.read.ensures.moves c.read.result (c.read.ensures.asked tag.0 tag.1)
+    (c.read.ensures.whole tag.0 tag.1) (c.read.ensures.goes_on tag.0 tag.1) (c.read.ensures.ok tag.0 tag.1) (c.read.ensures.err tag.0 tag.1)

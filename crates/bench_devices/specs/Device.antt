@@ -1,0 +1,233 @@
+-- The devices of the bench: a Type 2 or Type 4 tag under the listener front of its identifier, and a Type 5 tag (NFC Forum
+-- Digital Protocol; NFC Forum Type 2 Tag, Type 4 Tag and Type 5 Tag).
+use Rattle.std.specs.Prelude.{ℕ, List, Bool, true, false, not, ◌&&◌, is_none, if◌then◌else◌, Option, Some, None}
+use Rattle.nfc_base.specs.declared.frame.Tech.{Tech}
+use Rattle.nfc_base.specs.declared.frame.Tech.TheVariants.{A, V}
+use Rattle.nfc_base.specs.Signal.{Signal}
+use Rattle.nfc_base.specs.Far.{Untouched}
+use Rattle.nfc_base.specs.TagLinks.{TagState, TagStep, plain_state}
+use Rattle.air_core.specs.World.{Machine, World, quiet_air}
+use Rattle.air_core.specs.Conversation.{AirModel}
+use Rattle.nfca_poll.specs.declared.kind.Kind.TheVariants as kinds
+use Rattle.nfca_poll.specs.declared.upper.UpStep.{UpStep}
+use Rattle.nfca_poll.specs.declared.upper.UpStep.TheVariants as steps
+use Rattle.nfca_poll.specs.Front.{Off, Idle, is_ready, is_active}
+use Rattle.nfca_poll.specs.Fronted.{answer_by, after_by, moved}
+use Rattle.nfca_poll.specs.Upper.{UpperMachine}
+use Rattle.t2t_tag.specs.Store as t2
+use Rattle.t2t_tag.specs.Store.{T2Memory, unlocked}
+use Rattle.t2t_tag.specs.Step.{t2_answer, t2_after}
+use Rattle.t4t_tag.specs.declared.current.CurrentFile.{CurrentFile}
+use Rattle.t4t_tag.specs.declared.current.CurrentFile.TheVariants as current
+use Rattle.t4t_tag.specs.Store as t4
+use Rattle.t4t_tag.specs.Store.{T4State}
+use Rattle.t4t_tag.specs.Step.{t4_answer, t4_after}
+use Rattle.t5t_tag.specs.Store.{fresh, darkened, block_count, locked_too}
+use Rattle.t5t_tag.specs.Step.{t5_answer, t5_after}
+use Rattle.tag_reader.specs.declared.how.How.{How}
+use Rattle.tag_reader.specs.declared.how.How.TheVariants as hows
+use Rattle.tag_reader.specs.Kinds.{t2_step, t5_step}
+use Rattle.tag_reader.specs.Files.{t4_link_step, shown}
+use Rattle.isodep_link.specs.declared.card.CardStep.{CardStep}
+use Rattle.isodep_link.specs.declared.card.CardStep.TheVariants as card
+use Rattle.isodep_link.specs.Blocks.{block_frame}
+use Rattle.isodep_link.specs.Sizes.{is_rats}
+use Rattle.isodep_link.specs.Card as ends
+use Rattle.isodep_link.specs.Card.{CardState, card_table, replied, reply_block}
+use Rattle.bench_devices.specs.declared.device.Device.{Device}
+use Rattle.bench_devices.specs.declared.device.Device.TheVariants.{T2, T4, T5}
+use Rattle.bench_devices.specs.declared.polling.SeenKind.{SeenKind}
+use Rattle.bench_devices.specs.declared.polling.SeenKind.TheVariants as seen
+use Rattle.bench_devices.specs.Cards.{T4Near}
+
+-- A Type 2 tag as the machine above a front: it takes the frames that spell a command, and answers each.
+abbrev pub says_of : Option Signal → UpStep
+says_of None = steps.Foreign
+says_of (Some g) = steps.Reply g
+
+abbrev pub t2_machine : UpperMachine T2Memory
+t2_machine = record {
+  kind = λ u. kinds.T2;
+  handed = λ u f. Untouched;
+  says = λ u f reply. says_of (t2_answer u f);
+  after = λ u f reply. t2_after u f;
+  cleared = λ u. u;
+}
+
+-- What a Type 4 tag says at a frame, and what it is then.
+pub record T4Did : Type 0 where
+  pub says : UpStep
+  pub after : T4Near
+
+-- it said this, and stands so with a link
+abbrev pub said : UpStep → T4State → CardState → T4Did
+said says tag card = record { says = says; after = record { tag = tag; link = Some card } }
+
+-- It does what the card's table says; a command is delivered to the tag, and its answer is sent back.
+abbrev pub by_card : T4State → CardState → CardStep → T4Did
+by_card tag t card.Quiet = record { says = steps.Quiet; after = record { tag = tag; link = Some t } }
+by_card tag t (card.Reply f) = record { says = steps.Reply f; after = record { tag = tag; link = Some t } }
+by_card tag t (card.Deliver command) = record {
+  says = steps.Reply (block_frame (reply_block t (t4_answer tag command.items)));
+  after = record { tag = t4_after tag command.items; link = Some (replied t (t4_answer tag command.items)) };
+}
+by_card tag t (card.Asleep f) = record { says = steps.Sleep f; after = record { tag = tag; link = Some t } }
+
+abbrev pub linked : T4State → CardState → Signal → T4Did
+linked tag t f = by_card tag (card_table t f).state (card_table t f).does
+
+-- Without a link it takes RATS alone, which opens one; from then on the link takes every frame.
+abbrev pub t4_did : T4Near → Option CardState → Signal → T4Did
+t4_did u None f = if is_rats f then linked u.tag (ends.fresh u.tag.code) f else record { says = steps.Foreign; after = u }
+t4_did u (Some t) f = linked u.tag t f
+
+abbrev pub t4_machine : UpperMachine T4Near
+t4_machine = record {
+  kind = λ u. kinds.T4;
+  handed = λ u f. Untouched;
+  says = λ u f reply. (t4_did u u.link f).says;
+  after = λ u f reply. (t4_did u u.link f).after;
+  cleared = λ u. record { tag = t4.darkened u.tag; link = None };
+}
+
+abbrev pub is_no_file : CurrentFile → Bool
+is_no_file current.NoFile = true
+is_no_file current.Container = false
+is_no_file current.Ndef = false
+
+-- It has no link, and nothing of it is selected.
+abbrev pub is_unlinked : T4Near → Bool
+is_unlinked u = is_none u.link && not u.tag.selected && is_no_file u.tag.current
+
+abbrev pub device_tech : Device → Tech
+device_tech (T2 d) = A
+device_tech (T4 d) = A
+device_tech (T5 p) = V
+
+-- a Type 5 tag hears nothing in the dark
+abbrev pub device_answer : Device → Signal → Option Signal
+device_answer (T2 d) f = answer_by t2_machine d.front d f None
+device_answer (T4 d) f = answer_by t4_machine d.front d f None
+device_answer (T5 p) f = if p.lit then t5_answer p.tag f else None
+
+abbrev pub device_after : Device → Signal → Device
+device_after (T2 d) f = T2 (after_by t2_machine d.front d f None)
+device_after (T4 d) f = T4 (after_by t4_machine d.front d f None)
+device_after (T5 p) f = if p.lit then T5 (record { tag = t5_after p.tag f; lit = true }) else T5 p
+
+-- light and dark: a front comes on idle, and what a tag holds stays
+abbrev pub device_woken : Device → Device
+device_woken (T2 d) = T2 (moved t2_machine d Idle)
+device_woken (T4 d) = T4 (moved t4_machine d Idle)
+device_woken (T5 p) = T5 (record { tag = p.tag; lit = true })
+
+abbrev pub device_darkened : Device → Device
+device_darkened (T2 d) = T2 (moved t2_machine d Off)
+device_darkened (T4 d) = T4 (moved t4_machine d Off)
+device_darkened (T5 p) = T5 (record { tag = darkened p.tag; lit = false })
+
+abbrev pub device_id : Device → List ℕ
+device_id (T2 d) = d.id
+device_id (T4 d) = d.id
+device_id (T5 p) = p.tag.id
+
+abbrev pub device_store : Device → List ℕ
+device_store (T2 d) = d.upper.store
+device_store (T4 d) = t4.store_of d.upper.tag
+device_store (T5 p) = p.tag.store
+
+abbrev pub device_ready : Device → Bool
+device_ready (T2 d) = is_ready d.front
+device_ready (T4 d) = is_ready d.front
+device_ready (T5 p) = false
+
+-- a tag of NFC-V is selected in a lit field
+abbrev pub device_selected : Device → Bool
+device_selected (T2 d) = is_active d.front
+device_selected (T4 d) = is_active d.front
+device_selected (T5 p) = p.lit
+
+-- The step on commands. That a Type 5 tag was told to stay quiet makes no difference to those that name it.
+abbrev pub device_commands : Device → TagState → Signal → TagStep
+device_commands (T2 d) = t2_step d.upper.locked
+device_commands (T4 d) = t4_link_step d.upper.tag.code
+device_commands (T5 p) = t5_step p.tag.id p.tag.size p.tag.locked false
+
+-- Of a Type 4 tag, its card's end, and what it holds and what is selected of it. A card without a link heard nothing.
+abbrev pub card_in : ℕ → Option CardState → CardState
+card_in code None = ends.fresh code
+card_in code (Some t) = t
+
+abbrev pub device_card : Device → CardState
+device_card (T2 d) = ends.fresh 0
+device_card (T4 d) = card_in d.upper.tag.code d.upper.link
+device_card (T5 p) = ends.fresh 0
+
+abbrev pub device_tag : Device → TagState
+device_tag (T2 d) = plain_state d.upper.store
+device_tag (T4 d) = shown d.upper.tag
+device_tag (T5 p) = plain_state p.tag.store
+
+-- what the devices of the bench do; tags ask nothing of a far end
+abbrev pub devices : Machine Device
+devices = record {
+  tech = device_tech;
+  handed = λ d f. Untouched;
+  answer = λ d f reply. device_answer d f;
+  after = λ d f reply. device_after d f;
+  woken = device_woken;
+  darkened = device_darkened;
+}
+
+-- the air of the bench's devices
+abbrev pub air : AirModel (World Device)
+air = quiet_air devices
+
+-- how many devices may stand in the field at once; this project's own
+abbrev pub most_devices : ℕ
+most_devices = 16
+
+-- a tag that is newly placed: in the dark, with no block locked
+abbrev pub new_t2 : List ℕ → List ℕ → Device
+new_t2 id store = T2 (record { id = id; front = Off; upper = unlocked store })
+
+abbrev pub new_t4 : List ℕ → ℕ → List ℕ → List ℕ → Device
+new_t4 id code container file = T4 (record { id = id; front = Off; upper = record { tag = t4.fresh code container file; link = None } })
+
+abbrev pub new_t5 : List ℕ → ℕ → List ℕ → Device
+new_t5 id size store = T5 (record { tag = fresh id size store; lit = false })
+
+-- how a tag is read, and how many bytes one READ asks for, which says nothing of a Type 4 tag
+abbrev pub how_of : Device → How
+how_of (T2 d) = hows.T2
+how_of (T4 d) = hows.T4
+how_of (T5 p) = hows.T5 p.tag.id
+
+abbrev pub size_of : Device → ℕ
+size_of (T2 d) = 16
+size_of (T4 d) = 0
+size_of (T5 p) = p.tag.size
+
+-- what a reader sees that it is
+abbrev pub seen_of : Device → SeenKind
+seen_of (T2 d) = seen.T2
+seen_of (T4 d) = seen.T4
+seen_of (T5 p) = seen.T5
+
+-- how many blocks it has that can be locked: a Type 4 tag has none
+abbrev pub blocks_of : Device → ℕ
+blocks_of (T2 d) = t2.block_count d.upper.store
+blocks_of (T4 d) = 0
+blocks_of (T5 p) = block_count p.tag
+
+-- the device with one block more locked
+abbrev pub device_locked : ℕ → Device → Device
+device_locked block (T2 d) = T2 (record { id = d.id; front = d.front; upper = t2.locked_too d.upper block })
+device_locked block (T4 d) = T4 d
+device_locked block (T5 p) = T5 (record { tag = locked_too p.tag block; lit = p.lit })
+
+-- what a dump of it shows: all its memory, and of a Type 4 tag the NDEF file alone
+abbrev pub memory_in : Device → List ℕ
+memory_in (T2 d) = d.upper.store
+memory_in (T4 d) = d.upper.tag.file
+memory_in (T5 p) = p.tag.store

@@ -1,0 +1,15 @@
+pub mod Powered
+pub mod Cards
+pub mod Device
+pub mod LinkCalls
+pub mod Uppers
+pub mod Standing
+pub mod Polling
+pub mod Placed
+pub mod CardAsking
+pub mod Reading
+pub mod Crowded
+pub mod Answering
+pub mod Phases
+pub mod Linking
+pub mod Choosing

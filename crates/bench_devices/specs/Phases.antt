@@ -1,0 +1,184 @@
+-- What the parts of a command that polls say of the field: selecting a device, reading it, searching for all.
+use Rattle.std.specs.Prelude.{◌≡◌, ◌↔◌, ◌⊎◌, ℕ, List, [], ◌∷◌, ◌++◌, map, length, slice_index, ◌<◌, ◌≤◌, true, Result, Ok, Err}
+use Rattle.std.specs.List.{AllByRecursion}
+use Rattle.nfc_base.specs.Signal.{Signal}
+use Rattle.nfc_base.specs.declared.tag_link.AskFault.{AskFault}
+use Rattle.nfc_base.specs.declared.tag_link.AskFault.TheVariants as asking
+use Rattle.air_core.specs.Turn.{Air}
+use Rattle.air_core.specs.declared.listener.Listener.{Ghosts}
+use Rattle.air_core.specs.World.{World}
+use Rattle.air_core.specs.Conversation.{Moment, Note, Next, Over, Going}
+use Rattle.air_core.specs.PlainTags.{IsAside}
+use Rattle.nfc_base.specs.Trace.{breaks}
+use Rattle.nfca_poll.specs.declared.fault.PollFault.{PollFault}
+use Rattle.nfca_poll.specs.declared.fault.PollFault.TheVariants as polling
+use Rattle.nfca_poll.specs.Ident.{IsIdent}
+use Rattle.t2t_tag.specs.Store.{IsT2Store}
+use Rattle.t4t_tag.specs.Store.{IsT4Store}
+use Rattle.t5t_tag.specs.Store.{IsT5Store, id_size}
+use Rattle.tag_reader.specs.declared.fault.ReadFault.{ReadFault}
+use Rattle.tag_reader.specs.declared.fault.ReadFault.TheVariants as faults
+use Rattle.tag_reader.specs.declared.found.Found.{Found}
+use Rattle.tag_reader.specs.declared.how.How.{How}
+use Rattle.tag_reader.specs.declared.how.How.TheVariants.{T2, T4, T5}
+use Rattle.bench_script.specs.declared.command.DeviceId.{DeviceId}
+use Rattle.bench_devices.specs.declared.device.Device.{Device}
+use Rattle.nfca_poll.specs.Front.{is_active}
+use Rattle.bench_devices.specs.declared.device.Device.TheVariants as placed
+use Rattle.bench_devices.specs.declared.polling.SeenKind.{SeenKind}
+use Rattle.bench_devices.specs.declared.sweeping.Everybody.{Everybody}
+use Rattle.bench_devices.specs.Device.{devices, device_id, device_store, device_ready, device_selected, device_commands, how_of, size_of, seen_of, is_unlinked}
+use Rattle.bench_devices.specs.CardAsking.{tag_next}
+use Rattle.bench_devices.specs.declared.polling.Selection.{Selection}
+use Rattle.bench_devices.specs.declared.polling.Selection.TheVariants.{Place, Missed}
+use Rattle.bench_script.specs.DeviceIds.{bytes_of}
+use Rattle.bench_devices.specs.Polling.{Told, asks, selecting, finding_all}
+use Rattle.bench_devices.specs.Answering.{HasPollCause, FindTells, TellsBy}
+use Rattle.bench_devices.specs.Reading.{AsksOf, ShowsOf}
+use Rattle.bench_devices.specs.Device.{air, most_devices}
+
+-- the meanings of the bench's devices as listeners
+abbrev pub ghosts : Ghosts Device
+ghosts = record {
+  machine = devices;
+  identifier = device_id;
+  store = device_store;
+  is_ready = device_ready;
+  is_selected = device_selected;
+  commands = device_commands;
+}
+
+-- What stays of a device through a read, whatever state it is in; of a Type 4 tag also its code and its container.
+pub record Kept : Type 0 where
+  pub id : List ℕ
+  pub how : How
+  pub size : ℕ
+  pub store : List ℕ
+  pub code : ℕ
+  pub container : List ℕ
+
+abbrev pub code_of : Device → ℕ
+code_of (placed.T2 d) = 0
+code_of (placed.T4 d) = d.upper.tag.code
+code_of (placed.T5 p) = 0
+
+abbrev pub container_of : Device → List ℕ
+container_of (placed.T2 d) = []
+container_of (placed.T4 d) = d.upper.tag.container
+container_of (placed.T5 p) = []
+
+abbrev pub kept : Device → Kept
+kept d = record { id = device_id d; how = how_of d; size = size_of d; store = device_store d; code = code_of d; container = container_of d }
+
+-- a device that may be placed
+abbrev pub IsSoundAs : How → Kept → Type 0
+IsSoundAs T2 k = IsIdent k.id × (k.size ≡ 16) × IsT2Store k.store
+IsSoundAs T4 k = IsIdent k.id × (file : List ℕ) × (k.store ≡ k.container ++ file) × IsT4Store k.code k.container file
+IsSoundAs (T5 id) k = (id ≡ k.id) × (length k.id ≡ id_size) × ((i : ℕ) → slice_index k.id i < 256) × IsT5Store k.size k.store
+
+abbrev pub IsSound : Kept → Type 0
+IsSound k = IsSoundAs k.how k
+
+-- another device beside this one: of another identifier
+abbrev pub IsApart : Kept → Kept → Type 0
+IsApart k l = l.id ≡ k.id → ⊥
+
+-- Devices as they may stand in the field: each may be placed, with an identifier of its own, and there are few.
+abbrev pub AreSound : List Kept → Type 0
+AreSound [] = Unit {0}
+AreSound (k ∷ ks) = IsSound k × AllByRecursion (IsApart k) ks × AreSound ks
+
+pub record AreTame (ks : List Kept) : Type 0 where
+  pub sound : AreSound ks
+  pub few : length ks ≤ most_devices
+
+-- A Type 4 tag has a link at most while it is active.
+abbrev pub IsTidy : Device → Type 0
+IsTidy (placed.T2 d) = Unit {0}
+IsTidy (placed.T4 d) = (is_active d.front ≡ true) ⊎ (is_unlinked d.upper ≡ true)
+IsTidy (placed.T5 p) = Unit {0}
+
+abbrev pub AreTidy : List Device → Type 0
+AreTidy ds = AllByRecursion IsTidy ds
+
+-- Between two commands nothing is in the trace.
+pub record IsIdle (a : Air Device) : Type 0 where
+  pub quiet : a.trace ≡ []
+  pub tame : AreTame (map kept a.listeners)
+  pub tidy : AreTidy a.listeners
+
+-- Nothing was asked of it since it was selected.
+abbrev pub IsUnasked : Device → Type 0
+IsUnasked (placed.T2 d) = Unit {0}
+IsUnasked (placed.T4 d) = is_unlinked d.upper ≡ true
+IsUnasked (placed.T5 p) = Unit {0}
+
+-- In a lit field a device stands at a place. It is selected, and all others are aside of it.
+pub record Stands (a : Moment (World Device)) (place : ℕ) (d : Device) : Type 0 where
+  pub before : List Device
+  pub behind : List Device
+  pub world : a.world ≡ record { lit = true; listeners = before ++ d ∷ behind }
+  pub at : length before ≡ place
+  pub sound : IsSound (kept d)
+  pub selected : device_selected d ≡ true
+  pub unasked : IsUnasked d
+  pub first : AllByRecursion (IsAside ghosts (device_id d)) before
+  pub later : AllByRecursion (IsAside ghosts (device_id d)) behind
+
+-- Something was asked of the field, each request being due, and this is known of it. No device changed but in its state.
+pub record Asked (due : List Note → Next) (old new : Moment (World Device)) : Type 0 where
+  pub notes : List Note
+  pub going : Going air due old new notes
+  pub over : due notes ≡ Over
+  pub same : map kept new.world.listeners ≡ map kept old.world.listeners
+
+-- Selecting a device ended so, and the field is lost exactly where a Break was used.
+pub record Selects (id : DeviceId) (r : Result SeenKind PollFault) (old new : Moment (World Device)) : Type 0 where
+  pub asked : Asked (λ ns. asks (selecting id ns)) old new
+  pub told : selecting id asked.notes ≡ Told r []
+  pub cause : HasPollCause id old.world.listeners r asked.going.events
+  pub lost : (r ≡ Err polling.FieldLost) ↔ (0 < breaks asked.going.events)
+
+-- The device with this identifier is selected, and stands at this place.
+pub record SelectsAt (id : DeviceId) (place : ℕ) (old new : Moment (World Device)) : Type 0 where
+  pub device : Device
+  pub selects : Selects id (Ok (seen_of device)) old new
+  pub named : device_id device ≡ bytes_of id
+  pub stands : Stands new place device
+
+-- what selecting a device came to
+abbrev pub SelectsTo : DeviceId → Selection → Moment (World Device) → Moment (World Device) → Type 0
+SelectsTo id (Place place) old new = SelectsAt id place old new
+SelectsTo id (Missed e) old new = Selects id (Err e) old new
+
+-- a read failed by the fault of a wait; the others end none
+abbrev pub FailsRead : AskFault → Result Found ReadFault → Type 0
+FailsRead asking.FieldLost r = r ≡ Err faults.FieldLost
+FailsRead asking.SixBad r = r ≡ Err faults.SixBad
+FailsRead asking.Memory r = ⊥
+FailsRead asking.Protocol r = ⊥
+
+-- Reading asked what it asks of a device, up to a break or the sixth bad reception of a wait, and tells what came of it.
+pub record Reads (old new : Moment (World Device)) (d : Device) (r : Result Found ReadFault) : Type 0 where
+  pub commands : List Signal
+  pub asks : AsksOf d commands
+  pub asked : Asked (tag_next (seen_of d) commands) old new
+  pub ends : TellsBy (seen_of d) (ShowsOf d) FailsRead commands asked.notes r
+  pub lost : (r ≡ Err faults.FieldLost) ↔ (0 < breaks asked.going.events)
+
+-- So the device that stands at a place was read, unless memory was wanting.
+abbrev pub ReadsAt : Moment (World Device) → Moment (World Device) → ℕ → Result Found ReadFault → Type 0
+ReadsAt old new place r = (r ≡ Err faults.Memory → ⊥) → (d : Device) → Stands old place d → Reads old new d r
+
+-- a search is told by what it has come to
+abbrev pub IsEnd : Result Everybody PollFault → Result Everybody PollFault → Type 0
+IsEnd end r = r ≡ end
+
+-- A search asked what was due, and tells of all devices.
+pub record Searches (old new : Moment (World Device)) (r : Result Everybody PollFault) : Type 0 where
+  pub asked : Asked (λ ns. asks (finding_all ns)) old new
+  pub tells : FindTells IsEnd old.world.listeners asked.going.events r
+
+-- So the field was searched, unless memory was wanting.
+abbrev pub SearchesField : Moment (World Device) → Moment (World Device) → Result Everybody PollFault → Type 0
+SearchesField old new r = (r ≡ Err polling.Memory → ⊥) → Searches old new r

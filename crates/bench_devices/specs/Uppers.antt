@@ -1,0 +1,262 @@
+-- The bench's Type 2 and Type 4 tags are machines above a listener front: which frames are their own, and what stays.
+use Rattle.std.proofs.Common.{◌≡◌, ◌≤◌, ℕ, List, [], ◌∷◌, length, slice_index, Bool, true, false, ◌==◌, ◌&&◌, ◌||◌, is_some, if◌then◌else◌, Option, Some, None, refl, sym, ◌∙◌, ap, arith}
+use Rattle.nfc_base.specs.declared.frame.Tech.{Tech}
+use Rattle.nfc_base.specs.declared.frame.Tech.TheVariants.{A, V}
+use Rattle.nfc_base.specs.Signal.{Signal}
+use Rattle.nfc_base.specs.TagLinks.{TagState, TagStep}
+use Rattle.nfca_poll.specs.Calls.{Call, Calls, call_of}
+use Rattle.nfca_poll.specs.declared.upper.UpStep.{UpStep}
+use Rattle.nfca_poll.specs.declared.upper.UpStep.TheVariants as steps
+use Rattle.nfca_poll.specs.Upper.{is_taken, answer_in, is_t2_frame, IsUpper}
+use Rattle.nfca_poll.specs.Upper as upper
+use Rattle.t2t_tag.specs.declared.command.T2Command.{T2Command}
+use Rattle.t2t_tag.specs.declared.command.T2Command.TheVariants.{Read, Write}
+use Rattle.t2t_tag.specs.declared.answer.T2Answer.{T2Answer}
+use Rattle.t2t_tag.specs.declared.answer.T2Answer.TheVariants.{Content, Done, Refused}
+use Rattle.t2t_tag.specs.Spelling.{answer_frame, command_of, spelled_command}
+use Rattle.t2t_tag.specs.Store.{T2Memory}
+use Rattle.t2t_tag.specs.Step.{is_writable, t2_reply, reply_frame, held_after}
+use Rattle.t4t_tag.specs.Store as t4
+use Rattle.t4t_tag.proofs.Steps.{same_tag}
+use Rattle.tag_reader.specs.Kinds.{t2_step}
+use Rattle.tag_reader.specs.Files.{t4_link_step}
+use Rattle.isodep_link.specs.declared.card.CardStep.{CardStep}
+use Rattle.isodep_link.specs.declared.card.CardStep.TheVariants as card
+use Rattle.isodep_link.specs.Sizes.{is_rats, rats_code, piece_size, ats_frame}
+use Rattle.isodep_link.specs.Blocks.{spelled_block}
+use Rattle.isodep_link.specs.declared.block.Block.{Block}
+use Rattle.isodep_link.specs.Card.{CardState, CardTurn, Does, Stays, Answers, Delivers, Sleeps, framed_does, framed, stays, obeyed, block_table, heeded, card_table}
+use Rattle.isodep_link.specs.Card as ends
+use Rattle.bench_devices.specs.Cards.{T4Near}
+use Rattle.bench_devices.specs.Device.{says_of, t2_machine, by_card, linked, t4_did, t4_machine}
+use Rattle.bench_devices.specs.LinkCalls.{call_begins, did_at_call}
+
+-- the steps on commands
+abbrev pub t2_commands : T2Memory → TagState → Signal → TagStep
+t2_commands u = t2_step u.locked
+
+abbrev pub t4_commands : T4Near → TagState → Signal → TagStep
+t4_commands u = t4_link_step u.tag.code
+
+-- only a Type 4 tag has a link, and none of them is a peer
+abbrev pub never_open : {U : Type 0} → U → Bool
+never_open u = false
+
+abbrev pub no_attributes : Signal → Bool
+no_attributes f = false
+
+abbrev pub is_linked : T4Near → Bool
+is_linked u = is_some u.link
+
+-- READ and WRITE are what spells a command
+some_if : {C : Type 0} (v : Bool) (c : C) → is_some (if v then Some c else None) ≡ v
+some_if true c = refl
+some_if false c = refl
+
+or_false : (v : Bool) → v ≡ (v || false)
+or_false true = refl
+or_false false = refl
+
+too_long : (n k : ℕ) → 7 ≤ n → k ≤ 6 → (n == k) ≡ false
+too_long n k h l = grind arith
+
+neither : (v w x y : Bool) → v ≡ false → x ≡ false → false ≡ (v && w || x && y)
+neither true w x y h k = absurd cc
+neither false w true y h k = absurd cc
+neither false w false y h k = refl
+
+own_bytes : (bytes : List ℕ) → is_some (command_of bytes) ≡ ((length bytes == 2) && (slice_index bytes 0 == 0x30) || (length bytes == 6) && (slice_index bytes 0 == 0xA2))
+own_bytes [] = refl
+own_bytes (code ∷ []) = refl
+own_bytes (code ∷ block ∷ []) = some_if (code == 0x30) (Read block) ∙ or_false (code == 0x30)
+own_bytes (code ∷ block ∷ a ∷ []) = refl
+own_bytes (code ∷ block ∷ a ∷ b ∷ []) = refl
+own_bytes (code ∷ block ∷ a ∷ b ∷ c ∷ []) = refl
+own_bytes (code ∷ block ∷ a ∷ b ∷ c ∷ d ∷ []) = some_if (code == 0xA2) (Write block (a ∷ b ∷ c ∷ d ∷ []))
+own_bytes (code ∷ block ∷ a ∷ b ∷ c ∷ d ∷ e ∷ more) =
+    let n : ℕ = length (code ∷ block ∷ a ∷ b ∷ c ∷ d ∷ e ∷ more) in
+    neither (n == 2) (code == 0x30) (n == 6) (code == 0xA2) (too_long n 2 (omega arith) (omega arith)) (too_long n 6 (omega arith) (omega arith))
+
+own_frame : (f : Signal) → (t : Tech) → f.tech ≡ t → (v : Bool) → (f.tail == 0) ≡ v → is_some (spelled_command f) ≡ is_t2_frame f
+own_frame f A t true v = rw (t, v) (own_bytes f.bytes)
+own_frame f A t false v = rw (t, v) refl
+own_frame f V t x v = rw t refl
+
+taken_t2 : (u : T2Memory) (c : Option T2Command) → is_taken (says_of (reply_frame u c)) ≡ is_some c
+taken_t2 u None = refl
+taken_t2 u (Some c) = refl
+
+-- a frame that spells no command changes nothing
+foreign_command : (u : T2Memory) (c : Option T2Command) → says_of (reply_frame u c) ≡ steps.Foreign → held_after u c ≡ u
+foreign_command u None h = refl
+foreign_command u (Some c) h = absurd cc
+
+answer_tech : (a : T2Answer) → (answer_frame a).tech ≡ A
+answer_tech (Content content) = refl
+answer_tech Done = refl
+answer_tech Refused = refl
+
+tech_in : (g h : Signal) → h.tech ≡ A → Some h ≡ Some g → g.tech ≡ A
+tech_in g h t e = let same : h ≡ g = cc in ap (λ f. f.tech) (sym same) ∙ t
+
+t2_tech : (u : T2Memory) (c : Option T2Command) (g : Signal) → answer_in (says_of (reply_frame u c)) ≡ Some g → g.tech ≡ A
+t2_tech u None g e = absurd cc
+t2_tech u (Some c) g e = tech_in g (answer_frame (t2_reply u c)) (answer_tech (t2_reply u c)) e
+
+written_locks : (u : T2Memory) (v : Bool) (store : List ℕ) → (if v then record u { store = store } else u).locked ≡ u.locked
+written_locks u true store = refl
+written_locks u false store = refl
+
+locks_stay : (u : T2Memory) (c : Option T2Command) → (held_after u c).locked ≡ u.locked
+locks_stay u None = refl
+locks_stay u (Some (Read block)) = refl
+locks_stay u (Some (Write block content)) = written_locks u (is_writable u block) _
+
+pub t2_upper : IsUpper t2_machine (λ u. u.store) t2_commands never_open no_attributes
+t2_upper = record {
+  takes = λ u f reply. taken_t2 u (spelled_command f) ∙ own_frame f f.tech refl (f.tail == 0) refl;
+  foreign = λ u f reply h. (refl, foreign_command u (spelled_command f) h);
+  opens = λ u f reply k h. absurd (k refl);
+  closes = λ u. refl;
+  no_call = λ f c e. refl;
+  silent = λ u f c o e. absurd cc;
+  waits = λ u f payload h. absurd cc;
+  bounded = λ u f payload h. absurd cc;
+  own_tech = λ u f g reply e. t2_tech u (spelled_command f) g e;
+  step_keeps = λ u f reply. record { kind' = refl; commands' = ap t2_step (locks_stay u (spelled_command f)) };
+  clear_keeps = λ u. (record { kind' = refl; commands' = refl }, refl);
+}
+
+-- A link takes every frame; without one, a Type 4 tag takes RATS alone.
+link_takes : (tag : t4.T4State) (t : CardState) (does : CardStep) → is_taken (by_card tag t does).says ≡ true
+link_takes tag t card.Quiet = refl
+link_takes tag t (card.Reply f) = refl
+link_takes tag t (card.Deliver command) = refl
+link_takes tag t (card.Asleep f) = refl
+
+link_stays : (tag : t4.T4State) (t : CardState) (does : CardStep) → is_linked (by_card tag t does).after ≡ true
+link_stays tag t card.Quiet = refl
+link_stays tag t (card.Reply f) = refl
+link_stays tag t (card.Deliver command) = refl
+link_stays tag t (card.Asleep f) = refl
+
+same_rats : (f : Signal) (t : Tech) → f.tech ≡ t → is_rats f ≡ upper.is_rats f
+same_rats f A t = rw t refl
+same_rats f V t = rw t refl
+
+unlinked_takes : (u : T4Near) (f : Signal) (v : Bool) → is_taken (if v then linked u.tag (ends.fresh u.tag.code) f else record { says = steps.Foreign; after = u }).says ≡ v
+unlinked_takes u f true = link_takes u.tag (card_table (ends.fresh u.tag.code) f).state (card_table (ends.fresh u.tag.code) f).does
+unlinked_takes u f false = refl
+
+takes_t4 : (u : T4Near) (f : Signal) (link : Option CardState) → is_taken (t4_did u link f).says ≡ (is_some link || upper.is_rats f)
+takes_t4 u f None = unlinked_takes u f (is_rats f) ∙ same_rats f f.tech refl
+takes_t4 u f (Some t) = link_takes u.tag (card_table t f).state (card_table t f).does
+
+not_foreign : (s : UpStep) → is_taken s ≡ true → s ≡ steps.Foreign → ⊥
+not_foreign steps.Foreign t h = cc
+not_foreign steps.Quiet t h = cc
+not_foreign (steps.Reply g) t h = cc
+not_foreign (steps.Sleep g) t h = cc
+not_foreign (steps.Idle g) t h = cc
+
+unlinked_foreign : (u : T4Near) (f : Signal) (v : Bool) → (if v then linked u.tag (ends.fresh u.tag.code) f else record { says = steps.Foreign; after = u }).says ≡ steps.Foreign
+    → (if v then linked u.tag (ends.fresh u.tag.code) f else record { says = steps.Foreign; after = u }).after ≡ u
+unlinked_foreign u f true h = absurd (not_foreign (linked u.tag (ends.fresh u.tag.code) f).says (unlinked_takes u f true) h)
+unlinked_foreign u f false h = refl
+
+foreign_near : (u : T4Near) (f : Signal) (link : Option CardState) → (t4_did u link f).says ≡ steps.Foreign → (t4_did u link f).after ≡ u
+foreign_near u f None h = unlinked_foreign u f (is_rats f) h
+foreign_near u f (Some t) h = absurd (not_foreign (linked u.tag t f).says (takes_t4 u f (Some t)) h)
+
+unlinked_opens : (u : T4Near) (f : Signal) (v : Bool) → is_taken (if v then linked u.tag (ends.fresh u.tag.code) f else record { says = steps.Foreign; after = u }).says ≡ true
+    → is_linked (if v then linked u.tag (ends.fresh u.tag.code) f else record { says = steps.Foreign; after = u }).after ≡ true
+unlinked_opens u f true h = link_stays u.tag (card_table (ends.fresh u.tag.code) f).state (card_table (ends.fresh u.tag.code) f).does
+unlinked_opens u f false h = absurd cc
+
+opens_t4 : (u : T4Near) (f : Signal) (link : Option CardState) → is_taken (t4_did u link f).says ≡ true → is_linked (t4_did u link f).after ≡ true
+opens_t4 u f None h = unlinked_opens u f (is_rats f) h
+opens_t4 u f (Some t) h = link_stays u.tag (card_table t f).state (card_table t f).does
+
+silent_t4 : (u : T4Near) (link : Option CardState) (f : Signal) (c : Call) → u.link ≡ link → is_some link ≡ true → call_of f ≡ Calls c → (t4_did u u.link f).says ≡ steps.Quiet
+silent_t4 u None f c l o e = absurd cc
+silent_t4 u (Some t) f c l o e =
+    ap (λ k. (t4_did u k f).says) l ∙ ap (λ d. d.says) (did_at_call u.tag (Some t) f (call_begins f c e))
+
+-- what the card's end says is a block or ATS, an NFC-A frame
+abbrev tech_of_step : CardStep → Tech
+tech_of_step card.Quiet = A
+tech_of_step (card.Reply f) = f.tech
+tech_of_step (card.Deliver command) = A
+tech_of_step (card.Asleep f) = f.tech
+
+framed_tech : (does : Does) → tech_of_step (framed_does does) ≡ A
+framed_tech Stays = refl
+framed_tech (Answers b) = refl
+framed_tech (Delivers xs) = refl
+framed_tech (Sleeps b) = refl
+
+begun_tech : (t : CardState) (code : ℕ) (v : Bool) → tech_of_step (if v then framed (stays t) else record { state = record t { most = piece_size code }; does = card.Reply (ats_frame t.code) }).does ≡ A
+begun_tech t code true = refl
+begun_tech t code false = refl
+
+obeyed_tech : (t : CardState) (b : Option Block) → tech_of_step (obeyed t b).does ≡ A
+obeyed_tech t None = refl
+obeyed_tech t (Some b) = framed_tech (block_table t b).does
+
+heeded_tech : (t : CardState) (code : Option ℕ) (b : Option Block) → tech_of_step (heeded t code b).does ≡ A
+heeded_tech t (Some code) b = begun_tech t code t.begun
+heeded_tech t None b = obeyed_tech t b
+
+muted_tech : (t : CardState) (turn : CardTurn) (v : Bool) → tech_of_step turn.does ≡ A → tech_of_step (if v then framed (stays t) else turn).does ≡ A
+muted_tech t turn true h = refl
+muted_tech t turn false h = h
+
+table_tech : (t : CardState) (f : Signal) → tech_of_step (card_table t f).does ≡ A
+table_tech t f = muted_tech t (heeded t (rats_code f) (spelled_block f)) t.mute (heeded_tech t (rats_code f) (spelled_block f))
+
+card_tech : (tag : t4.T4State) (t : CardState) (does : CardStep) (g : Signal) → tech_of_step does ≡ A → answer_in (by_card tag t does).says ≡ Some g → g.tech ≡ A
+card_tech tag t card.Quiet g h e = absurd cc
+card_tech tag t (card.Reply f) g h e = tech_in g f h e
+card_tech tag t (card.Deliver command) g h e = tech_in g _ refl e
+card_tech tag t (card.Asleep f) g h e = tech_in g f h e
+
+linked_tech : (tag : t4.T4State) (t : CardState) (f g : Signal) → answer_in (linked tag t f).says ≡ Some g → g.tech ≡ A
+linked_tech tag t f g e = card_tech tag (card_table t f).state (card_table t f).does g (table_tech t f) e
+
+unlinked_tech : (u : T4Near) (f g : Signal) (v : Bool) → answer_in (if v then linked u.tag (ends.fresh u.tag.code) f else record { says = steps.Foreign; after = u }).says ≡ Some g → g.tech ≡ A
+unlinked_tech u f g true e = linked_tech u.tag (ends.fresh u.tag.code) f g e
+unlinked_tech u f g false e = absurd cc
+
+tech_t4 : (u : T4Near) (f g : Signal) (link : Option CardState) → answer_in (t4_did u link f).says ≡ Some g → g.tech ≡ A
+tech_t4 u f g None e = unlinked_tech u f g (is_rats f) e
+tech_t4 u f g (Some t) e = linked_tech u.tag t f g e
+
+-- the code of a tag stays, and with it its step on commands
+card_code : (tag : t4.T4State) (t : CardState) (does : CardStep) → (by_card tag t does).after.tag.code ≡ tag.code
+card_code tag t card.Quiet = refl
+card_code tag t (card.Reply f) = refl
+card_code tag t (card.Deliver command) = (same_tag tag command.items).code
+card_code tag t (card.Asleep f) = refl
+
+unlinked_code : (u : T4Near) (f : Signal) (v : Bool) → (if v then linked u.tag (ends.fresh u.tag.code) f else record { says = steps.Foreign; after = u }).after.tag.code ≡ u.tag.code
+unlinked_code u f true = card_code u.tag (card_table (ends.fresh u.tag.code) f).state (card_table (ends.fresh u.tag.code) f).does
+unlinked_code u f false = refl
+
+code_t4 : (u : T4Near) (f : Signal) (link : Option CardState) → (t4_did u link f).after.tag.code ≡ u.tag.code
+code_t4 u f None = unlinked_code u f (is_rats f)
+code_t4 u f (Some t) = card_code u.tag (card_table t f).state (card_table t f).does
+
+pub t4_upper : IsUpper t4_machine (λ u. t4.store_of u.tag) t4_commands is_linked no_attributes
+t4_upper = record {
+  takes = λ u f reply. takes_t4 u f u.link;
+  foreign = λ u f reply h. (refl, foreign_near u f u.link h);
+  opens = λ u f reply k h. opens_t4 u f u.link h;
+  closes = λ u. refl;
+  no_call = λ f c e. refl;
+  silent = λ u f c o e. (refl, silent_t4 u u.link f c refl o e);
+  waits = λ u f payload h. absurd cc;
+  bounded = λ u f payload h. absurd cc;
+  own_tech = λ u f g reply e. tech_t4 u f g u.link e;
+  step_keeps = λ u f reply. record { kind' = refl; commands' = ap t4_link_step (code_t4 u f u.link) };
+  clear_keeps = λ u. (record { kind' = refl; commands' = refl }, refl);
+}

@@ -1,0 +1,513 @@
+//! The devices of the bench.
+
+ghost use Rattle.std.specs.Prelude.{◌≡◌, ◌<◌, false, Some, None};
+ghost use Rattle.t2t_tag.specs.Store as t2;
+ghost use Rattle.t5t_tag.specs.Store as t5;
+ghost use Rattle.bench_devices.specs.Device.{said, linked, how_of, blocks_of, device_locked, memory_in};
+
+use air_core::Listener;
+use isodep_link::{CardEnd, CardListener, CardStep, is_rats};
+use nfc_base::{Answerer, Frame, Tech};
+use nfca_poll::{Front, Ident, Kind, UpStep, Upper};
+use std::alloc::{AllocError, Global};
+use std::marker::Model;
+use t2t_tag::T2Tag;
+use t4t_tag::T4Tag;
+use t5t_tag::T5Tag;
+use tag_reader::How;
+
+/// A Type 2 tag as the machine above a listener front: it takes READ and WRITE, and all other frames are the front's.
+#[derive(Debug, Drop)]
+pub struct T2Upper {
+    tag: T2Tag,
+}
+
+impl Model for T2Upper {
+    ghost use Rattle.t2t_tag.specs.Store.{T2Memory};
+
+    ghost Value = { T2Memory };
+
+    ghost view = { λ u. u.tag };
+}
+
+impl T2Upper {
+    pub fn new(tag: T2Tag) -> T2Upper
+        ensures { result ≡ tag }
+    {
+        T2Upper { tag }
+    }
+
+    pub fn tag(&self) -> &T2Tag
+        ensures { result.now ≡ self.now }
+    {
+        &self.tag
+    }
+
+    /// Locks a block of the tag.
+    pub fn lock(&mut self, block: u16)
+        requires { block < t2.block_count self.old.store }
+        ensures { self.new ≡ t2.locked_too self.old block }
+    {
+        self.tag.lock(block);
+    }
+}
+
+impl Upper for T2Upper {
+    ghost use Rattle.bench_devices.specs.Device.{t2_machine};
+    ghost use Rattle.bench_devices.specs.Uppers.{t2_commands, t2_upper};
+
+    ghost machine = { t2_machine };
+
+    ghost commands = { t2_commands };
+
+    ghost store = { λ u. u.store };
+
+    fn kind(&self) -> Kind {
+        Kind::T2
+    }
+
+    fn clear(&mut self) {}
+
+    fn hear<A: Answerer>(
+        &mut self,
+        _alloc: Global,
+        frame: &Frame,
+        _far: &mut A,
+    ) -> Result<UpStep, AllocError> {
+        match self.tag.obey(frame) {
+            Some(answer) => Ok(UpStep::Reply(answer)),
+            None => Ok(UpStep::Foreign),
+        }
+    }
+
+    ghost laws = { t2_upper };
+}
+
+/// A Type 4 tag as the machine above a listener front. RATS opens a link to it, whose end takes every frame from then on and
+/// hands commands to the tag.
+#[derive(Debug, Drop)]
+pub struct T4Upper {
+    tag: T4Tag,
+    card: Option<CardEnd>,
+}
+
+impl Model for T4Upper {
+    ghost use Rattle.bench_devices.specs.Cards.{T4Near};
+
+    ghost Value = { T4Near };
+
+    ghost view = { λ u. record { tag = u.tag; link = u.card } };
+}
+
+impl T4Upper {
+    /// A tag without a link.
+    pub fn new(tag: T4Tag) -> T4Upper
+        ensures { result ≡ record { tag = tag; link = None } }
+    {
+        T4Upper { tag, card: None }
+    }
+
+    pub fn tag(&self) -> &T4Tag
+        ensures { result.now ≡ self.now.tag }
+    {
+        &self.tag
+    }
+
+    /// A frame of the link to the tag.
+    fn take(tag: &mut T4Tag, card: &mut CardEnd, frame: &Frame) -> UpStep
+        ensures { said result tag.new card.new ≡ linked tag.old card.old frame.now }
+    {
+        match card.hear(frame) {
+            CardStep::Quiet => UpStep::Quiet,
+            CardStep::Reply(answer) => UpStep::Reply(answer),
+            CardStep::Deliver(command) => UpStep::Reply(card.reply(&tag.obey(&command))),
+            CardStep::Asleep(answer) => UpStep::Sleep(answer),
+        }
+    }
+}
+
+impl Upper for T4Upper {
+    ghost use Rattle.t4t_tag.specs.Store.{store_of};
+    ghost use Rattle.bench_devices.specs.Device.{t4_machine};
+    ghost use Rattle.bench_devices.specs.Uppers.{t4_commands, is_linked, t4_upper};
+
+    ghost machine = { t4_machine };
+
+    ghost commands = { t4_commands };
+
+    ghost is_open = { is_linked };
+
+    ghost store = { λ u. store_of u.tag };
+
+    fn kind(&self) -> Kind {
+        Kind::T4
+    }
+
+    fn clear(&mut self) {
+        self.card = None;
+        self.tag.dark();
+    }
+
+    fn hear<A: Answerer>(
+        &mut self,
+        _alloc: Global,
+        frame: &Frame,
+        _far: &mut A,
+    ) -> Result<UpStep, AllocError> {
+        match &mut self.card {
+            Some(card) => Ok(T4Upper::take(&mut self.tag, card, frame)),
+            None if is_rats(frame) => {
+                let mut card = CardEnd::new(self.tag.code());
+                let step = T4Upper::take(&mut self.tag, &mut card, frame);
+                self.card = Some(card);
+                Ok(step)
+            }
+            None => Ok(UpStep::Foreign),
+        }
+    }
+
+    ghost laws = { t4_upper };
+}
+
+/// A Type 5 tag in the field. It is off until the field is lit.
+#[derive(Debug, Drop)]
+pub struct PoweredTag {
+    tag: T5Tag,
+    lit: bool,
+}
+
+impl Model for PoweredTag {
+    ghost use Rattle.bench_devices.specs.Powered.{Powered};
+
+    ghost Value = { Powered };
+
+    ghost view = { λ p. record { tag = p.tag; lit = p.lit } };
+}
+
+impl PoweredTag {
+    /// A tag in the dark.
+    pub fn new(tag: T5Tag) -> PoweredTag
+        ensures { result ≡ record { tag = tag; lit = false } }
+    {
+        PoweredTag { tag, lit: false }
+    }
+
+    pub fn tag(&self) -> &T5Tag
+        ensures { result.now ≡ self.now.tag }
+    {
+        &self.tag
+    }
+
+    /// Locks a block of the tag.
+    pub fn lock(&mut self, block: u16)
+        requires { block < t5.block_count self.old.tag }
+        ensures { self.new ≡ record { tag = t5.locked_too self.old.tag block; lit = self.old.lit } }
+    {
+        self.tag.lock(block);
+    }
+}
+
+/// A device in the field.
+#[derive(Debug, Drop)]
+pub enum Device {
+    T2(Front<T2Upper>),
+    T4(Front<T4Upper>),
+    T5(PoweredTag),
+}
+
+impl Listener for Device {
+    ghost use Rattle.bench_devices.specs.Device.{devices, device_id, device_store, device_ready, device_selected, device_commands};
+    ghost use Rattle.bench_devices.specs.Standing.{bounded, own_tech, step_keeps, light_keeps, dark_keeps, light_selects, stays_selected, dark_rests, at_rest, ignores};
+
+    ghost machine = { devices };
+
+    ghost identifier = { device_id };
+
+    ghost store = { device_store };
+
+    ghost is_ready = { device_ready };
+
+    ghost is_selected = { device_selected };
+
+    ghost commands = { device_commands };
+
+    fn tech(&self) -> Tech {
+        match self {
+            Device::T2(_) | Device::T4(_) => Tech::A,
+            Device::T5(_) => Tech::V,
+        }
+    }
+
+    fn light(&mut self) {
+        match self {
+            Device::T2(front) => front.light(),
+            Device::T4(front) => front.light(),
+            Device::T5(powered) => powered.lit = true,
+        }
+    }
+
+    fn dark(&mut self) {
+        match self {
+            Device::T2(front) => front.dark(),
+            Device::T4(front) => front.dark(),
+            Device::T5(powered) => {
+                powered.tag.dark();
+                powered.lit = false;
+            }
+        }
+    }
+
+    fn hear<A: Answerer>(
+        &mut self,
+        alloc: Global,
+        frame: &Frame,
+        far: &mut A,
+    ) -> Result<Option<Frame>, AllocError> {
+        match self {
+            Device::T2(front) => front.hear(alloc, frame, far),
+            Device::T4(front) => front.hear(alloc, frame, far),
+            Device::T5(powered) if powered.lit => Ok(powered.tag.obey(frame)),
+            Device::T5(_) => Ok(None),
+        }
+    }
+
+    ghost bounded = { bounded };
+
+    ghost own_tech = { own_tech };
+
+    ghost step_keeps = { step_keeps };
+
+    ghost light_keeps = { light_keeps };
+
+    ghost dark_keeps = { dark_keeps };
+
+    ghost light_selects = { light_selects };
+
+    ghost stays_selected = { stays_selected };
+
+    ghost dark_rests = { dark_rests };
+
+    ghost rests = { at_rest };
+
+    ghost ignores = { ignores };
+}
+
+impl CardListener for Device {
+    ghost use Rattle.bench_devices.specs.Device.{device_card, device_tag};
+    ghost use Rattle.bench_devices.specs.Standing.{tag_holds};
+
+    ghost card = { device_card };
+
+    ghost tag = { device_tag };
+
+    ghost holds = { tag_holds };
+}
+
+impl Device {
+    /// How a tag of its kind is read.
+    pub fn how(&self) -> How
+        ensures { result ≡ how_of self.now }
+    {
+        match self {
+            Device::T2(_) => How::T2,
+            Device::T4(_) => How::T4,
+            Device::T5(powered) => How::T5(powered.tag().id()),
+        }
+    }
+
+    /// What it holds: of a Type 4 tag its NDEF file alone.
+    pub fn memory(&self) -> &[u8]
+        ensures { result.now ≡ memory_in self.now }
+    {
+        match self {
+            Device::T2(front) => front.as_upper().tag().store(),
+            Device::T4(front) => front.as_upper().tag().file(),
+            Device::T5(powered) => powered.tag().store(),
+        }
+    }
+
+    /// How many blocks it has that can be locked.
+    pub fn blocks(&self) -> u16
+        ensures { result ≡ blocks_of self.now }
+    {
+        match self {
+            Device::T2(front) => front.as_upper().tag().blocks(),
+            Device::T4(_) => 0,
+            Device::T5(powered) => powered.tag().blocks(),
+        }
+    }
+
+    /// Locks one of its blocks against writing, for good. It takes no memory.
+    pub fn lock(&mut self, block: u16)
+        requires { block < blocks_of self.old }
+        ensures { self.new ≡ device_locked block self.old }
+    {
+        match self {
+            Device::T2(front) => front.upper().lock(block),
+            Device::T4(_) => unreachable!(),
+            Device::T5(powered) => powered.lock(block),
+        }
+    }
+}
+
+#[cfg(test)]
+mod tests {
+    use super::*;
+    use nfc_base::Mute;
+    use std::process::Abort;
+    use std::test::Fail;
+
+    /// The bytes of a request and its tail, and the bytes of the answer, which is whole: none where it is silent.
+    type Row<'a> = (&'a [u8], u8, &'a [u8]);
+
+    fn walk<R: Abort>(
+        rt: &R,
+        alloc: Global,
+        device: &mut Device,
+        rows: &[Row],
+    ) -> Result<(), Fail> {
+        let tech = device.tech();
+        for (request, tail, answer) in rows {
+            let wanted = if answer.is_empty() {
+                None
+            } else {
+                Some(Frame::whole(tech, answer)?)
+            };
+            let frame = Frame::part(tech, request, *tail)?;
+            assert_eq!(rt;
+                device.hear(alloc, &frame, &mut Mute),
+                Ok(wanted),
+                "at {request:?}"
+            );
+        }
+        Ok(())
+    }
+
+    const INVENTORY: [u8; 3] = [0x26, 0x01, 0x00];
+
+    const PRESENT: [u8; 10] = [0, 0, 0x06, 0x05, 0x04, 0x03, 0x02, 0x01, 0x04, 0xE0];
+
+    const QUIET: [u8; 10] = [0x22, 0x02, 0x06, 0x05, 0x04, 0x03, 0x02, 0x01, 0x04, 0xE0];
+
+    #[test]
+    fn type_5_tag_has_power_in_the_light(rt: HostRuntime) -> Result<(), Fail> {
+        let alloc = rt.alloc();
+        let id = [0xE0, 0x04, 0x01, 0x02, 0x03, 0x04, 0x05, 0x06];
+        let tag = T5Tag::new(id, vec![in alloc; 0u8; 16]?, 4)?;
+        let mut device = Device::T5(PoweredTag::new(tag));
+        walk(&rt, alloc, &mut device, &[(&INVENTORY, 0, &[])])?;
+        device.light();
+        walk(
+            &rt,
+            alloc,
+            &mut device,
+            &[
+                (&INVENTORY, 0, &PRESENT),
+                (&QUIET, 0, &[]),
+                (&INVENTORY, 0, &[]),
+            ],
+        )?;
+        device.light();
+        walk(&rt, alloc, &mut device, &[(&INVENTORY, 0, &[])])?;
+        device.dark();
+        walk(&rt, alloc, &mut device, &[(&INVENTORY, 0, &[])])?;
+        device.light();
+        walk(&rt, alloc, &mut device, &[(&INVENTORY, 0, &PRESENT)])
+    }
+
+    #[test]
+    fn type_2_tag_is_read_once_it_is_selected(rt: HostRuntime) -> Result<(), Fail> {
+        let alloc = rt.alloc();
+        let store = [
+            1, 2, 3, 4, 5, 6, 7, 8, 9, 10, 11, 12, 13, 14, 15, 16, 17, 18, 19, 20,
+        ];
+        let tag = T2Tag::new(store.to_vec(alloc)?)?;
+        let id = Ident::new(&[1, 2, 3, 4])?;
+        let mut device = Device::T2(Front::new(id, T2Upper::new(tag)));
+        walk(&rt, alloc, &mut device, &[(&[0x26], 7, &[])])?;
+        device.light();
+        let content = [5, 6, 7, 8, 9, 10, 11, 12, 13, 14, 15, 16, 17, 18, 19, 20];
+        let rows: [Row; 8] = [
+            (&[0x30, 1], 0, &[]),
+            (&[0x26], 7, &[0x04, 0]),
+            (&[0x93, 0x20], 0, &[1, 2, 3, 4, 4]),
+            (&[0x93, 0x70, 1, 2, 3, 4, 4], 0, &[0]),
+            (&[0x30, 1], 0, &content),
+            (&[0x50, 0], 0, &[]),
+            (&[0x30, 1], 0, &[]),
+            (&[0x26], 7, &[]),
+        ];
+        walk(&rt, alloc, &mut device, &rows)?;
+        device.dark();
+        walk(&rt, alloc, &mut device, &[(&[0x52], 7, &[])])
+    }
+
+    /// A call of all devices, and the selection of this one.
+    const SELECTION: [Row; 3] = [
+        (&[0x52], 7, &[0x04, 0]),
+        (&[0x93, 0x20], 0, &[1, 2, 3, 4, 4]),
+        (&[0x93, 0x70, 1, 2, 3, 4, 4], 0, &[0x20]),
+    ];
+
+    const RATS: Row = (&[0xE0, 0x80], 0, &[0x02, 0x00]);
+
+    /// SLP_REQ, and a call of those that don't sleep, which are silent.
+    const SLP_REQ: Row = (&[0x50, 0], 0, &[]);
+
+    const SENS_REQ: Row = (&[0x26], 7, &[]);
+
+    const DESELECT: Row = (&[0xC2], 0, &[0xC2]);
+
+    /// SELECT of the NDEF application in a block, which is done.
+    const SELECT: Row = (
+        &[
+            0x02, 0x00, 0xA4, 0x04, 0x00, 0x07, 0xD2, 0x76, 0x00, 0x00, 0x85, 0x01, 0x01,
+        ],
+        0,
+        &[0x02, 0x90, 0x00],
+    );
+
+    fn type_4_tag(alloc: Global) -> Result<Device, Fail> {
+        let container = [
+            0x00, 0x0F, 0x20, 0x00, 0x3B, 0x00, 0x0D, 0x04, 0x06, 0xE1, 0x04, 0x00, 0x02, 0x00,
+            0x00,
+        ];
+        let tag = T4Tag::new(0, container.to_vec(alloc)?, vec![in alloc; 0u8; 2]?)?;
+        let id = Ident::new(&[1, 2, 3, 4])?;
+        Ok(Device::T4(Front::new(id, T4Upper::new(tag))))
+    }
+
+    #[test]
+    fn type_4_tag_sleeps_without_a_link(rt: HostRuntime) -> Result<(), Fail> {
+        let alloc = rt.alloc();
+        let mut device = type_4_tag(alloc)?;
+        device.light();
+        walk(&rt, alloc, &mut device, &SELECTION)?;
+        walk(&rt, alloc, &mut device, &[SLP_REQ, SENS_REQ])
+    }
+
+    #[test]
+    fn link_to_a_type_4_tag_takes_every_frame(rt: HostRuntime) -> Result<(), Fail> {
+        let alloc = rt.alloc();
+        let mut device = type_4_tag(alloc)?;
+        walk(&rt, alloc, &mut device, &[(&[0x52], 7, &[])])?;
+        device.light();
+        walk(&rt, alloc, &mut device, &[(&[0xE0, 0x80], 0, &[])])?;
+        walk(&rt, alloc, &mut device, &SELECTION)?;
+        walk(
+            &rt,
+            alloc,
+            &mut device,
+            &[RATS, SLP_REQ, SELECT, DESELECT, SENS_REQ],
+        )?;
+        walk(&rt, alloc, &mut device, &SELECTION)?;
+        walk(
+            &rt,
+            alloc,
+            &mut device,
+            &[(&[0xE0, 0x51], 0, &[0x02, 0x00]), SELECT],
+        )?;
+        device.dark();
+        walk(&rt, alloc, &mut device, &[(&[0x52], 7, &[])])
+    }
+}

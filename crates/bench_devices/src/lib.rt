@@ -1,0 +1,17 @@
+//! The devices of a bench, and what is done with them on a field.
+//!
+//! `device` holds Type 2 and Type 4 tags under a listener front, and Type 5 tags, as listeners. `polling` selects the one
+//! with an identifier, `reading` reads the message of the one that is selected, `sweeping` searches for all.
+//! `specs/Polling.antt` and `specs/CardAsking.antt` say which request is due in each of these, `specs/Answering.antt` how
+//! each may end and why, `specs/Phases.antt` what each does to the field. Nothing here knows of commands or answers.
+#![tactic(auto)]
+
+mod device;
+mod polling;
+mod reading;
+mod sweeping;
+
+pub use device::{Device, PoweredTag, T2Upper, T4Upper};
+pub use polling::{SeenKind, Selection, is_named, place_of, select};
+pub use reading::read;
+pub use sweeping::{Everybody, sweep_field};

@@ -1,0 +1,291 @@
+-- A canonical spelling is read as its command, and no spelling is shorter.
+use Rattle.std.proofs.Common.{◌≡◌, ℕ, suc, ◌<◌, ◌^◌, inl, inr, List, [], ◌∷◌, map, length, get_or, Bool, true, false, ◌==◌, ◌/◌, ◌%◌, ◌≤◌, Ok, refl, sym, ◌∙◌, ap, subst, arith}
+use Rattle.std.specs.Prelude.{codes, if◌then◌else◌, ◌&&◌, ltb, ◌≢◌, slice_index_or}
+use Rattle.std.specs.List.{All, onto_first, slice_split, join_with_byte}
+use Rattle.std.specs.Fmt.{decimal}
+use Rattle.std.proofs.lemmas.Fmt.{decimal_is_IsNumeral}
+use Rattle.std.proofs.lemmas.Str.Parse.{digit_at}
+use Rattle.std.proofs.lemmas.List.Elements.{All-cons, All-nil, All-append, All-map, All-from_get_or, All-weaker}
+use Rattle.std.proofs.lemmas.List.{length-append}
+use Rattle.std.proofs.lemmas.List.Splits.{slice_split_none, slice_split_at, join_with_byte-slice_split}
+use Rattle.hex.specs.Hex.{encode_with, encode_upper, upper_digits, decode_of, IsBytes}
+use Rattle.hex.proofs.HexLemmas.{length-encode_with, decode_of-encode_upper, decode_of-ok}
+use Rattle.nfc_base.specs.declared.event.Fate.{Fate}
+use Rattle.nfc_base.specs.declared.event.Fate.TheVariants.{Pass, Damage, Lose, Break}
+use Rattle.bench_script.specs.declared.command.Command.{Command}
+use Rattle.bench_script.specs.declared.command.Command.TheVariants.{Skip, Fates, PlaceT2, PlaceT4, PlaceT5, Lock, Remove, Dump, Find, Read}
+use Rattle.bench_script.specs.declared.command.DeviceId.{DeviceId}
+use Rattle.bench_script.specs.declared.command.DeviceId.TheVariants.{A, V}
+use Rattle.bench_script.specs.Script.{words_of, SpelledBy, Spells, SpellsHex, SpellsIdent, SpellsIdV, SpellsId, SpellsFates, fate_letter}
+use Rattle.std.proofs.lemmas.Bool.{ne_eqb}
+use Rattle.bench_script.proofs.Spelling.{size_small, spells_words, spells_one}
+use Rattle.bench_script.specs.Canonical.{hex_text, id_text, fates_text, canonical_words, canonical, IsReadAs}
+
+-- words are parts between spaces
+words_split : (line : List ℕ) → words_of line ≡ slice_split (λ b. b == 32) line
+words_split [] = refl
+words_split (b ∷ bs) = ap (λ ws. if b == 32 then [] ∷ ws else onto_first b ws) (words_split bs)
+
+line_joined : (line : List ℕ) → join_with_byte 32 (words_of line) ≡ line
+line_joined line = ap (join_with_byte 32) (words_split line) ∙ join_with_byte-slice_split 32 line
+
+-- A word has visible characters alone, so no space and no LF.
+abbrev IsWord : List ℕ → Type 0
+IsWord w = All (λ b. 32 < b) w
+
+abbrev AreWords : List (List ℕ) → Type 0
+AreWords [] = ⊥
+AreWords (w ∷ []) = IsWord w
+AreWords (w ∷ v ∷ ws) = IsWord w × AreWords (v ∷ ws)
+
+no_space : (w : List ℕ) → IsWord w → All (λ b. (b == 32) ≡ false) w
+no_space w is = All-weaker (λ b. 32 < b) (λ b. (b == 32) ≡ false) (λ b more. grind arith) w is
+
+-- words that are joined part again
+parted : (ws : List (List ℕ)) → AreWords ws → words_of (join_with_byte 32 ws) ≡ ws
+parted [] are = absurd are
+parted (w ∷ []) are = words_split w ∙ slice_split_none (λ b. b == 32) w (no_space w are)
+parted (w ∷ v ∷ ws) are =
+    words_split (join_with_byte 32 (w ∷ v ∷ ws))
+    ∙ slice_split_at (λ b. b == 32) w 32 (join_with_byte 32 (v ∷ ws)) (no_space w are.0) refl
+    ∙ ap (λ t. w ∷ t) (sym (words_split (join_with_byte 32 (v ∷ ws))) ∙ parted (v ∷ ws) are.1)
+
+-- ... and stand in one line
+no_lf : (w : List ℕ) → IsWord w → All (λ b. b ≢ 10) w
+no_lf w is = All-weaker (λ b. 32 < b) (λ b. b ≢ 10) (λ b more e. omega arith) w is
+
+one_line : (ws : List (List ℕ)) → AreWords ws → All (λ b. b ≢ 10) (join_with_byte 32 ws)
+one_line [] are = absurd are
+one_line (w ∷ []) are = no_lf w are
+one_line (w ∷ v ∷ ws) are =
+    All-append (λ b. b ≢ 10) w (32 ∷ join_with_byte 32 (v ∷ ws)) (no_lf w are.0)
+    (All-cons (λ b. b ≢ 10) 32 (join_with_byte 32 (v ∷ ws)) (λ e. omega arith) (one_line (v ∷ ws) are.1))
+
+-- a text whose characters pass a test is a word
+abbrev all_visible : List ℕ → Bool
+all_visible [] = true
+all_visible (b ∷ bs) = ltb 32 b && all_visible bs
+
+literal : (w : List ℕ) → all_visible w ≡ true → IsWord w
+literal [] e = All-nil (λ b. 32 < b)
+literal (b ∷ bs) e = All-cons (λ b. 32 < b) b bs (grind arith) (literal bs (grind arith))
+
+digit_visible : (d : ℕ) → d < 16 → 32 < get_or upper_digits d 0
+digit_visible d small = literal upper_digits refl d 0 (omega arith)
+
+upper_word : (bytes : List ℕ) → IsBytes bytes → IsWord (encode_upper bytes)
+unfolding encode_with
+upper_word [] small = All-nil (λ b. 32 < b)
+upper_word (b ∷ bs) small =
+    let byte : b < 256 = small 0 in
+    let more : IsBytes bs = λ k. small (suc k) in
+    let high : ℕ = get_or upper_digits (b / 16) 0 in
+    let low : ℕ = get_or upper_digits (b % 16) 0 in
+    All-cons (λ b. 32 < b) high (low ∷ encode_upper bs) (digit_visible (b / 16) (omega arith))
+    (All-cons (λ b. 32 < b) low (encode_upper bs) (digit_visible (b % 16) (omega arith)) (upper_word bs more))
+
+decimal_word : (n : ℕ) → n < 2 ^ 16 → IsWord (decimal n)
+decimal_word n small =
+    let digits = (decimal_is_IsNumeral n (omega arith)).0.1 in
+    All-from_get_or (λ b. 32 < b) (decimal n) 0 (λ i within. let at = digit_at (decimal n) i digits within in omega arith)
+
+-- One word spells a value; this text does too, is as long, and is a word.
+record SpellsToo (Spelling : List ℕ → Type 0) (word text : List ℕ) : Type 0 where
+  pub spells : Spelling text
+  pub size : length word ≡ length text
+  pub is : IsWord text
+
+upper_too : (word bytes : List ℕ) → decode_of word ≡ Ok bytes → SpellsToo (λ t. decode_of t ≡ Ok bytes) word (encode_upper bytes)
+upper_too word bytes read =
+    let known = decode_of-ok word bytes read in
+    record {
+      spells = decode_of-encode_upper bytes known.3;
+      size = known.2 ∙ sym (length-encode_with upper_digits bytes);
+      is = upper_word bytes known.3;
+    }
+
+ident_too : (word id : List ℕ) → SpellsIdent word id → SpellsToo (λ t. SpellsIdent t id) word (encode_upper id)
+ident_too word id s =
+    let upper = upper_too word id s.0 in
+    record { spells = (upper.spells, s.1); size = upper.size; is = upper.is }
+
+ident_v_too : (word id : List ℕ) → SpellsIdV word id → SpellsToo (λ t. SpellsIdV t id) word (encode_upper id)
+ident_v_too word id s =
+    let upper = upper_too word id s.0 in
+    record { spells = (upper.spells, s.1); size = upper.size; is = upper.is }
+
+id_too : (word : List ℕ) (id : DeviceId) → SpellsId word id → SpellsToo (λ t. SpellsId t id) word (id_text id)
+id_too word (A id) s = ident_too word id s
+id_too word (V id) s = ident_v_too word id s
+
+hex_some : (b : ℕ) (bs : List ℕ) → hex_text (b ∷ bs) ≡ encode_upper (b ∷ bs)
+hex_some b bs =
+    ap (λ none. if none then codes "-" else encode_upper (b ∷ bs)) (ne_eqb (length (b ∷ bs)) 0 (λ e. omega arith))
+
+hex_too : (word bytes : List ℕ) → SpellsHex word bytes → SpellsToo (λ t. SpellsHex t bytes) word (hex_text bytes)
+hex_too word [] (inl s) = record { spells = inl (refl, refl); size = ap length s.0; is = literal (codes "-") refl }
+hex_too word (b ∷ bs) (inl s) = absurd (let none : b ∷ bs ≡ [] = s.1 in cc)
+hex_too word [] (inr s) = absurd (let known = decode_of-ok word [] s.1 in omega (arith, s.0, known.2))
+hex_too word (b ∷ bs) (inr s) =
+    let upper = upper_too word (b ∷ bs) s.1 in
+    let some : 0 < length (encode_upper (b ∷ bs)) = omega (arith, s.0, upper.size) in
+    subst (SpellsToo (λ t. SpellsHex t (b ∷ bs)) word) (sym (hex_some b bs))
+    (record { spells = inr (some, upper.spells); size = upper.size; is = upper.is })
+
+number_is : (word : List ℕ) (n : ℕ) → n < 2 ^ 16 → word ≡ decimal n → SpellsToo (λ t. t ≡ decimal n) word (decimal n)
+number_is word n small is = record { spells = refl; size = ap length is; is = decimal_word n small }
+
+letter_visible : (f : Fate) → 32 < fate_letter f
+letter_visible Pass = omega arith
+letter_visible Damage = omega arith
+letter_visible Lose = omega arith
+letter_visible Break = omega arith
+
+fates_too : (word : List ℕ) (fates : List Fate) → SpellsFates word fates
+    → SpellsToo (λ t. SpellsFates t fates) word (fates_text fates)
+fates_too word fates s = record {
+  spells = record { letters = refl; some = s.some; few = s.few };
+  size = ap length s.letters;
+  is = All-map (λ b. 32 < b) fate_letter fates (λ k d within. letter_visible (slice_index_or fates k d));
+}
+
+-- Words that are joined are as long as others of the same lengths.
+joined_size : (vs ws : List (List ℕ)) → map length vs ≡ map length ws
+    → length (join_with_byte 32 vs) ≡ length (join_with_byte 32 ws)
+joined_size [] [] e = refl
+joined_size (v ∷ []) (w ∷ []) e = cc
+joined_size (v ∷ v' ∷ vs) (w ∷ w' ∷ ws) e =
+    let first : length v ≡ length w = cc in
+    let more : map length (v' ∷ vs) ≡ map length (w' ∷ ws) = cc in
+    let front = length-append v (32 ∷ join_with_byte 32 (v' ∷ vs)) in
+    let front' = length-append w (32 ∷ join_with_byte 32 (w' ∷ ws)) in
+    omega (arith, first, joined_size (v' ∷ vs) (w' ∷ ws) more, front, front')
+joined_size vs ws e = absurd cc
+
+-- Words spell a command; these do too, are as long, and are words.
+record AllToo (c : Command) (vs ws : List (List ℕ)) : Type 0 where
+  pub spells : SpelledBy ws c
+  pub sizes : map length vs ≡ map length ws
+  pub are : AreWords ws
+
+t2_too : (id : List ℕ) (n : ℕ) (head : List ℕ) (ws : List (List ℕ)) → SpelledBy ws (PlaceT2 id n head)
+    → AllToo (PlaceT2 id n head) ws (canonical_words (PlaceT2 id n head))
+t2_too id n head ws (i, b, h, e, p, q, r) =
+    let x = ident_too i id p in
+    let y = number_is b n (let most : n ≤ 256 = q.2 in omega arith) q.0 in
+    let z = hex_too h head r in
+    let first : length i ≡ length (encode_upper id) = x.size in
+    let second : length b ≡ length (decimal n) = y.size in
+    let third : length h ≡ length (hex_text head) = z.size in
+    record {
+      spells = (encode_upper id, decimal n, hex_text head, refl, x.spells, (refl, q.1, q.2), z.spells);
+      sizes = cc;
+      are = (literal (codes "place") refl, (literal (codes "t2") refl, (x.is, (y.is, z.is))));
+    }
+
+t4_too : (id : List ℕ) (n : ℕ) (container head : List ℕ) (ws : List (List ℕ)) → SpelledBy ws (PlaceT4 id n container head)
+    → AllToo (PlaceT4 id n container head) ws (canonical_words (PlaceT4 id n container head))
+t4_too id n container head ws (i, b, k, h, e, p, q, t, r) =
+    let x = ident_too i id p in
+    let y = number_is b n (let most : n ≤ 8 = q.1 in omega arith) q.0 in
+    let u = hex_too k container t in
+    let z = hex_too h head r in
+    let first : length i ≡ length (encode_upper id) = x.size in
+    let second : length b ≡ length (decimal n) = y.size in
+    let third : length k ≡ length (hex_text container) = u.size in
+    let fourth : length h ≡ length (hex_text head) = z.size in
+    record {
+      spells =
+          (encode_upper id, decimal n, hex_text container, hex_text head, refl, x.spells, (refl, q.1), u.spells, z.spells);
+      sizes = cc;
+      are = (literal (codes "place") refl, (literal (codes "t4") refl, (x.is, (y.is, (u.is, z.is)))));
+    }
+
+t5_too : (id : List ℕ) (n size : ℕ) (head : List ℕ) (ws : List (List ℕ)) → SpelledBy ws (PlaceT5 id n size head)
+    → AllToo (PlaceT5 id n size head) ws (canonical_words (PlaceT5 id n size head))
+t5_too id n size head ws (i, b, k, h, e, p, q, t, r) =
+    let x = ident_v_too i id p in
+    let y = number_is b n (let most : n ≤ 256 = q.2 in omega arith) q.0 in
+    let u = number_is k size (let most : size ≤ 32 = size_small size t.1 in omega arith) t.0 in
+    let z = hex_too h head r in
+    let first : length i ≡ length (encode_upper id) = x.size in
+    let second : length b ≡ length (decimal n) = y.size in
+    let third : length k ≡ length (decimal size) = u.size in
+    let fourth : length h ≡ length (hex_text head) = z.size in
+    record {
+      spells =
+          (encode_upper id, decimal n, decimal size, hex_text head, refl, x.spells, (refl, q.1, q.2), (refl, t.1), z.spells);
+      sizes = cc;
+      are = (literal (codes "place") refl, (literal (codes "t5") refl, (x.is, (y.is, (u.is, z.is)))));
+    }
+
+-- a name and an ID
+named_sizes : (ws : List (List ℕ)) (name i : List ℕ) (id : DeviceId) → ws ≡ name ∷ i ∷ [] → length i ≡ length (id_text id)
+    → map length ws ≡ map length (name ∷ id_text id ∷ [])
+named_sizes ws name i id e same = ap (map length) e ∙ ap (λ n. length name ∷ n ∷ []) same
+
+all_too : (c : Command) (ws : List (List ℕ)) → SpelledBy ws c → AllToo c ws (canonical_words c)
+all_too Skip ws s = absurd s
+all_too (Fates fates) ws (f, e, p) =
+    let x = fates_too f fates p in
+    record {
+      spells = (fates_text fates, refl, x.spells);
+      sizes = ap (map length) e ∙ ap (λ n. 5 ∷ n ∷ []) x.size;
+      are = (literal (codes "fates") refl, x.is);
+    }
+all_too (PlaceT2 id n head) ws s = t2_too id n head ws s
+all_too (PlaceT4 id n container head) ws s = t4_too id n container head ws s
+all_too (PlaceT5 id n size head) ws s = t5_too id n size head ws s
+all_too (Lock id block) ws (i, b, e, p, q) =
+    let x = id_too i id p in
+    let y = number_is b block q.1 q.0 in
+    let first : length i ≡ length (id_text id) = x.size in
+    let second : length b ≡ length (decimal block) = y.size in
+    record {
+      spells = (id_text id, decimal block, refl, x.spells, (refl, q.1));
+      sizes = cc;
+      are = (literal (codes "lock") refl, (x.is, y.is));
+    }
+all_too (Remove id) ws (i, e, p) =
+    let x = id_too i id p in
+    record {
+      spells = (id_text id, refl, x.spells);
+      sizes = named_sizes ws (codes "remove") i id e x.size;
+      are = (literal (codes "remove") refl, x.is);
+    }
+all_too (Dump id) ws (i, e, p) =
+    let x = id_too i id p in
+    record {
+      spells = (id_text id, refl, x.spells);
+      sizes = named_sizes ws (codes "dump") i id e x.size;
+      are = (literal (codes "dump") refl, x.is);
+    }
+all_too Find ws e = record { spells = refl; sizes = ap (map length) e; are = literal (codes "find") refl }
+all_too (Read id) ws (i, e, p) =
+    let x = id_too i id p in
+    record {
+      spells = (id_text id, refl, x.spells);
+      sizes = named_sizes ws (codes "read") i id e x.size;
+      are = (literal (codes "read") refl, x.is);
+    }
+
+spells_canonical : (line : List ℕ) (c : Command) → Spells line c → Spells (canonical c) c
+spells_canonical line Skip s = refl
+spells_canonical line c s =
+    let too = all_too c (words_of line) s in
+    spells_words (canonical c) c (subst (λ ws. SpelledBy ws c) (sym (parted (canonical_words c) too.are)) too.spells)
+
+in_one_line : (line : List ℕ) (c : Command) → Spells line c → All (λ b. b ≢ 10) (canonical c)
+in_one_line line Skip s = All-nil (λ b. b ≢ 10)
+in_one_line line c s = one_line (canonical_words c) (all_too c (words_of line) s).are
+
+pub read_back : (line : List ℕ) (c : Command) → Spells line c → IsReadAs (canonical c) c
+read_back line c s =
+    let is : Spells (canonical c) c = spells_canonical line c s in
+    record { spells = is; alone = λ d other. spells_one (canonical c) d c other is; whole = in_one_line line c s }
+
+pub none_shorter : (line : List ℕ) (c : Command) → Spells line c → length (canonical c) ≤ length line
+none_shorter line Skip s = omega arith
+none_shorter line c s =
+    let same = joined_size (words_of line) (canonical_words c) (all_too c (words_of line) s).sizes in
+    omega (arith, same, ap length (line_joined line))

@@ -1,0 +1,268 @@
+-- No line spells two commands.
+use Rattle.std.proofs.Common.{◌≡◌, ◌≢◌, ℕ, zero, suc, ◌<◌, ◌≤◌, inl, inr, List, [], ◌∷◌, map, length, get_or, true, false, if◌then◌else◌, Ok, refl, sym, ◌∙◌, ap, subst, arith}
+use Rattle.std.specs.List.{onto_first}
+use Rattle.std.specs.Prelude.{codes}
+use Rattle.std.proofs.lemmas.Fmt.{decimal_injective}
+use Rattle.nfc_base.specs.declared.event.Fate.{Fate}
+use Rattle.nfc_base.specs.declared.event.Fate.TheVariants.{Pass, Damage, Lose, Break}
+use Rattle.hex.specs.Hex.{decode_of}
+use Rattle.hex.proofs.HexLemmas.{decode_of-same}
+use Rattle.bench_script.specs.declared.command.Command.{Command}
+use Rattle.bench_script.specs.declared.command.Command.TheVariants.{Skip, Fates, PlaceT2, PlaceT4, PlaceT5, Lock, Remove, Dump, Find, Read}
+use Rattle.bench_script.specs.declared.command.DeviceId.{DeviceId}
+use Rattle.bench_script.specs.declared.command.DeviceId.TheVariants.{A, V}
+use Rattle.bench_script.specs.declared.script.words.CommandName.{CommandName}
+use Rattle.bench_script.specs.declared.script.words.CommandName.TheVariants as names
+use Rattle.bench_script.specs.Words.{name_text}
+use Rattle.bench_script.specs.Script.{words_of, is_skipped, SpellsHex, SpellsIdent, SpellsIdV, SpellsId, SpellsBlocks, SpellsSize, SpellsCode, SpellsBlock, fate_letter, SpellsFates, SpelledBy, Spells, least_blocks, least_blocks_v}
+use Rattle.nfca_poll.specs.Ident.{IsIdent}
+use Rattle.t5t_tag.specs.Store.{IsBlockSize}
+use Rattle.std.proofs.lemmas.Bool.{ne_eqb}
+
+-- a word spells one identifier
+pub ident_one : (w i j : List ℕ) → SpellsIdent w i → SpellsIdent w j → i ≡ j
+ident_one w i j p q = decode_of-same w i j p.0 q.0
+
+-- no identifier of NFC-A has eight bytes
+eight_differs : (i : List ℕ) → IsIdent i → length i ≡ 8 → ⊥
+eight_differs i is eight = elim is.size [ inl four ↦ omega (arith, four, eight) | inr more ↦ (elim more [ inl seven ↦ omega (arith, seven, eight) | inr ten ↦ omega (arith, ten, eight) ]) ]
+
+one_kind : (w i j : List ℕ) → SpellsIdent w i → SpellsIdV w j → ⊥
+one_kind w i j p q = eight_differs i p.1 (ap length (decode_of-same w i j p.0 q.0) ∙ q.1)
+
+pub id_one : (w : List ℕ) (i j : DeviceId) → SpellsId w i → SpellsId w j → i ≡ j
+id_one w (A i) (A j) p q = ap A (ident_one w i j p q)
+id_one w (A i) (V j) p q = absurd (one_kind w i j p q)
+id_one w (V i) (A j) p q = absurd (one_kind w j i q p)
+id_one w (V i) (V j) p q = ap V (decode_of-same w i j p.0 q.0)
+
+-- `-` isn't an even number of digits
+pub dash_odd : (w b : List ℕ) → w ≡ codes "-" → decode_of w ≡ Ok b → ⊥
+dash_odd w b e d = let h : decode_of (codes "-") ≡ Ok b = (let P : List ℕ → Type 0 = λ t. decode_of t ≡ Ok b in subst P e d) in cc
+
+-- a word spells one list of bytes
+pub hex_one : (w a b : List ℕ) → SpellsHex w a → SpellsHex w b → a ≡ b
+hex_one w a b (inl p) (inl q) = p.1 ∙ sym q.1
+hex_one w a b (inl p) (inr q) = absurd (dash_odd w b p.0 q.1)
+hex_one w a b (inr p) (inl q) = absurd (dash_odd w a q.0 p.1)
+hex_one w a b (inr p) (inr q) = decode_of-same w a b p.1 q.1
+
+-- a word spells one number of blocks
+pub blocks_one : (least : ℕ) (w : List ℕ) (m n : ℕ) → SpellsBlocks least w m → SpellsBlocks least w n → m ≡ n
+blocks_one least w m n p q = decimal_injective m n (let h : m ≤ 256 = p.2 in omega arith) (let h : n ≤ 256 = q.2 in omega arith) (sym p.0 ∙ q.0)
+
+pub size_small : (n : ℕ) → IsBlockSize n → n ≤ 32
+size_small n (inl e) = omega arith
+size_small n (inr (inl e)) = omega arith
+size_small n (inr (inr (inl e))) = omega arith
+size_small n (inr (inr (inr e))) = omega arith
+
+pub size_one : (w : List ℕ) (m n : ℕ) → SpellsSize w m → SpellsSize w n → m ≡ n
+size_one w m n p q = decimal_injective m n (let h : m ≤ 32 = size_small m p.1 in omega arith) (let h : n ≤ 32 = size_small n q.1 in omega arith) (sym p.0 ∙ q.0)
+
+pub code_one : (w : List ℕ) (m n : ℕ) → SpellsCode w m → SpellsCode w n → m ≡ n
+code_one w m n p q = decimal_injective m n (let h : m ≤ 8 = p.1 in omega arith) (let h : n ≤ 8 = q.1 in omega arith) (sym p.0 ∙ q.0)
+
+pub block_one : (w : List ℕ) (m n : ℕ) → SpellsBlock w m → SpellsBlock w n → m ≡ n
+block_one w m n p q = decimal_injective m n (let h : m < 65536 = p.1 in omega arith) (let h : n < 65536 = q.1 in omega arith) (sym p.0 ∙ q.0)
+
+-- no two fates have one letter
+letter_one : (a b : Fate) → fate_letter a ≡ fate_letter b → a ≡ b
+letter_one Pass Pass e = refl
+letter_one Damage Damage e = refl
+letter_one Lose Lose e = refl
+letter_one Break Break e = refl
+letter_one a b e = absurd (omega (arith, e))
+
+letters_one : (a b : List Fate) → map fate_letter a ≡ map fate_letter b → a ≡ b
+letters_one [] [] e = refl
+letters_one (x ∷ a) (y ∷ b) e =
+    let one : x ≡ y = letter_one x y (let h : fate_letter x ≡ fate_letter y = cc in h) in
+    let more : a ≡ b = letters_one a b (let h : map fate_letter a ≡ map fate_letter b = cc in h) in
+    cc
+letters_one a b e = absurd cc
+
+-- a word spells one list of fates
+pub fates_one : (w : List ℕ) (a b : List Fate) → SpellsFates w a → SpellsFates w b → a ≡ b
+fates_one w a b p q = letters_one a b (sym p.letters ∙ q.letters)
+
+-- each letter of a list of fates is one of a fate
+pub letter_at : (fates : List Fate) (i d : ℕ) → i < length (map fate_letter fates) → (f : Fate) × (get_or (map fate_letter fates) i d ≡ fate_letter f)
+letter_at [] i d h = absurd (omega (arith, h))
+letter_at (f ∷ fs) zero d h = (f, refl)
+letter_at (f ∷ fs) (suc i) d h = letter_at fs i d (omega (arith, h))
+
+-- the second byte of the second word
+abbrev kind_byte : List (List ℕ) → ℕ
+kind_byte (w ∷ (a ∷ b ∷ bs) ∷ ws) = b
+kind_byte ws = 0
+
+-- `t4` isn't `t5`
+four_differs : (ws xs ys : List (List ℕ)) → ws ≡ codes "place" ∷ codes "t4" ∷ xs → ws ≡ codes "place" ∷ codes "t5" ∷ ys → ⊥
+four_differs ws xs ys p q = let h : 52 ≡ 53 = ap kind_byte (sym p ∙ q) in omega (arith, h)
+
+-- the first byte of the first word
+first_byte : List (List ℕ) → ℕ
+first_byte [] = 0
+first_byte ([] ∷ ws) = 0
+first_byte ((b ∷ bs) ∷ ws) = b
+
+-- `dump` isn't `read`
+dump_differs : (ws xs ys : List (List ℕ)) → ws ≡ codes "dump" ∷ xs → ws ≡ codes "read" ∷ ys → ⊥
+unfolding first_byte
+dump_differs ws xs ys p q = let h : 100 ≡ 114 = ap first_byte (sym p ∙ q) in omega (arith, h)
+
+-- where the first words are alike, so are the values; words that differ spell no two commands
+pub spelled_one : (ws : List (List ℕ)) (c d : Command) → SpelledBy ws c → SpelledBy ws d → c ≡ d
+spelled_one ws (Fates a) (Fates b) (v, e, p) (w, f, q) =
+    let same : v ≡ w = cc in
+    ap (λ x. let c : Command = Fates x in c) (fates_one w a b (let P : List ℕ → Type 0 = λ t. SpellsFates t a in subst P same p) q)
+spelled_one ws (Remove i) (Remove j) (v, e, p) (w, f, q) =
+    let same : v ≡ w = cc in
+    ap (λ x. let c : Command = Remove x in c) (id_one w i j (let P : List ℕ → Type 0 = λ t. SpellsId t i in subst P same p) q)
+spelled_one ws (Lock i m) (Lock j n) (u, v, e, p, r) (u', v', e', p', r') =
+    let first : u ≡ u' = cc in
+    let second : v ≡ v' = cc in
+    let ids : i ≡ j = id_one u' i j (let P : List ℕ → Type 0 = λ t. SpellsId t i in subst P first p) p' in
+    let numbers : m ≡ n = block_one v' m n (let P : List ℕ → Type 0 = λ t. SpellsBlock t m in subst P second r) r' in
+    cc
+spelled_one ws (Dump i) (Dump j) (v, e, p) (w, f, q) =
+    let same : v ≡ w = cc in
+    ap (λ x. let c : Command = Dump x in c) (id_one w i j (let P : List ℕ → Type 0 = λ t. SpellsId t i in subst P same p) q)
+spelled_one ws Find Find p q = refl
+spelled_one ws (Read i) (Read j) (v, e, p) (w, f, q) =
+    let same : v ≡ w = cc in
+    ap (λ x. let c : Command = Read x in c) (id_one w i j (let P : List ℕ → Type 0 = λ t. SpellsId t i in subst P same p) q)
+spelled_one ws (PlaceT2 i m g) (PlaceT2 j n h) (u, v, w, e, p, r, s) (u', v', w', e', p', r', s') =
+    let first : u ≡ u' = cc in
+    let second : v ≡ v' = cc in
+    let third : w ≡ w' = cc in
+    let ids : i ≡ j = ident_one u' i j (let P : List ℕ → Type 0 = λ t. SpellsIdent t i in subst P first p) p' in
+    let numbers : m ≡ n = blocks_one least_blocks v' m n (let P : List ℕ → Type 0 = λ t. SpellsBlocks least_blocks t m in subst P second r) r' in
+    let heads : g ≡ h = hex_one w' g h (let P : List ℕ → Type 0 = λ t. SpellsHex t g in subst P third s) s' in
+    cc
+spelled_one ws (PlaceT4 i m k g) (PlaceT4 j n l h) (u, v, w, x, e, p, r, t, s) (u', v', w', x', e', p', r', t', s') =
+    let first : u ≡ u' = cc in
+    let second : v ≡ v' = cc in
+    let third : w ≡ w' = cc in
+    let fourth : x ≡ x' = cc in
+    let ids : i ≡ j = ident_one u' i j (let P : List ℕ → Type 0 = λ t. SpellsIdent t i in subst P first p) p' in
+    let numbers : m ≡ n = code_one v' m n (let P : List ℕ → Type 0 = λ t. SpellsCode t m in subst P second r) r' in
+    let containers : k ≡ l = hex_one w' k l (let P : List ℕ → Type 0 = λ t. SpellsHex t k in subst P third t) t' in
+    let heads : g ≡ h = hex_one x' g h (let P : List ℕ → Type 0 = λ t. SpellsHex t g in subst P fourth s) s' in
+    cc
+spelled_one ws (PlaceT5 i m k g) (PlaceT5 j n l h) (u, v, w, x, e, p, r, t, s) (u', v', w', x', e', p', r', t', s') =
+    let first : u ≡ u' = cc in
+    let second : v ≡ v' = cc in
+    let third : w ≡ w' = cc in
+    let fourth : x ≡ x' = cc in
+    let ids : i ≡ j = decode_of-same u' i j (let P : List ℕ → Type 0 = λ t. SpellsIdV t i in subst P first p).0 p'.0 in
+    let numbers : m ≡ n = blocks_one least_blocks_v v' m n (let P : List ℕ → Type 0 = λ t. SpellsBlocks least_blocks_v t m in subst P second r) r' in
+    let sizes : k ≡ l = size_one w' k l (let P : List ℕ → Type 0 = λ t. SpellsSize t k in subst P third t) t' in
+    let heads : g ≡ h = hex_one x' g h (let P : List ℕ → Type 0 = λ t. SpellsHex t g in subst P fourth s) s' in
+    cc
+spelled_one ws (PlaceT4 i m k g) (PlaceT5 j n l h) (u, v, w, x, e, p, r, t, s) (u', v', w', x', e', p', r', t', s') = absurd (four_differs ws (u ∷ v ∷ w ∷ x ∷ []) (u' ∷ v' ∷ w' ∷ x' ∷ []) e e')
+spelled_one ws (PlaceT5 i m k g) (PlaceT4 j n l h) (u, v, w, x, e, p, r, t, s) (u', v', w', x', e', p', r', t', s') = absurd (four_differs ws (u' ∷ v' ∷ w' ∷ x' ∷ []) (u ∷ v ∷ w ∷ x ∷ []) e' e)
+spelled_one ws (Dump i) (Read j) (v, e, p) (w, f, q) = absurd (dump_differs ws (v ∷ []) (w ∷ []) e f)
+spelled_one ws (Read i) (Dump j) (v, e, p) (w, f, q) = absurd (dump_differs ws (w ∷ []) (v ∷ []) f e)
+spelled_one ws Skip d p q = absurd p
+spelled_one ws c Skip p q = absurd q
+spelled_one ws c d p q = absurd cc
+
+-- a line of several words that begins with no name spells nothing
+pub nameless : (w : List ℕ) (ws : List (List ℕ)) → ((n : CommandName) → w ≢ name_text n) → ws ≢ [] → (c : Command) → SpelledBy (w ∷ ws) c → ⊥
+nameless w ws none some Skip p = p
+nameless w ws none some (Fates fates) (f, e, p) = none names.Fates (let h : w ≡ codes "fates" = cc in h)
+nameless w ws none some (PlaceT2 id n head) (i, b, d, e, p, q, r) = none names.Place (let h : w ≡ codes "place" = cc in h)
+nameless w ws none some (PlaceT4 id n k head) (i, b, s, d, e, p, q, t, r) = none names.Place (let h : w ≡ codes "place" = cc in h)
+nameless w ws none some (PlaceT5 id n k head) (i, b, s, d, e, p, q, t, r) = none names.Place (let h : w ≡ codes "place" = cc in h)
+nameless w ws none some (Lock id block) (i, b, e, p, q) = none names.Lock (let h : w ≡ codes "lock" = cc in h)
+nameless w ws none some (Dump id) (i, e, p) = none names.Dump (let h : w ≡ codes "dump" = cc in h)
+nameless w ws none some (Remove id) (i, e, p) = none names.Remove (let h : w ≡ codes "remove" = cc in h)
+nameless w ws none some Find e = some (let h : ws ≡ [] = cc in h)
+nameless w ws none some (Read id) (i, e, p) = none names.Read (let h : w ≡ codes "read" = cc in h)
+
+-- three words of which the last is no HEX place no tag
+pub head_refused : (ws : List (List ℕ)) (i b h : List ℕ) → ws ≡ i ∷ b ∷ h ∷ [] → ((bytes : List ℕ) → SpellsHex h bytes → ⊥)
+    → (c : Command) → SpelledBy (codes "place" ∷ codes "t2" ∷ ws) c → ⊥
+head_refused ws i b h e none (PlaceT2 id n head) (i', b', h', e', p, q, r) =
+    let same : h' ≡ h = cc in
+    none head (let P : List ℕ → Type 0 = λ t. SpellsHex t head in subst P same r)
+head_refused ws i b h e none Skip p = p
+head_refused ws i b h e none c p = cc
+
+-- nor do four of which the last is none
+pub four_refused : (ws : List (List ℕ)) (i b s h : List ℕ) → ws ≡ i ∷ b ∷ s ∷ h ∷ [] → ((bytes : List ℕ) → SpellsHex h bytes → ⊥)
+    → (c : Command) → SpelledBy (codes "place" ∷ codes "t5" ∷ ws) c → ⊥
+four_refused ws i b s h e none (PlaceT5 id n k head) (i', b', s', h', e', p, q, t, r) =
+    let same : h' ≡ h = cc in
+    none head (let P : List ℕ → Type 0 = λ t. SpellsHex t head in subst P same r)
+four_refused ws i b s h e none (PlaceT4 id n k head) (i', b', s', h', e', p, q, t, r) = four_differs (codes "place" ∷ codes "t5" ∷ ws) (i' ∷ b' ∷ s' ∷ h' ∷ []) ws e' refl
+four_refused ws i b s h e none Skip p = p
+four_refused ws i b s h e none c p = cc
+
+-- and so for a Type 4 tag, of whose words the last two are HEX
+pub container_refused : (ws : List (List ℕ)) (i b s h : List ℕ) → ws ≡ i ∷ b ∷ s ∷ h ∷ [] → ((bytes : List ℕ) → SpellsHex s bytes → ⊥)
+    → (c : Command) → SpelledBy (codes "place" ∷ codes "t4" ∷ ws) c → ⊥
+container_refused ws i b s h e none (PlaceT4 id n k head) (i', b', s', h', e', p, q, t, r) =
+    let same : s' ≡ s = cc in
+    none k (let P : List ℕ → Type 0 = λ t. SpellsHex t k in subst P same t)
+container_refused ws i b s h e none (PlaceT5 id n k head) (i', b', s', h', e', p, q, t, r) =
+    four_differs (codes "place" ∷ codes "t4" ∷ ws) ws (i' ∷ b' ∷ s' ∷ h' ∷ []) refl e'
+container_refused ws i b s h e none Skip p = p
+container_refused ws i b s h e none c p = cc
+
+pub heads_refused : (ws : List (List ℕ)) (i b s h : List ℕ) → ws ≡ i ∷ b ∷ s ∷ h ∷ [] → ((bytes : List ℕ) → SpellsHex h bytes → ⊥)
+    → (c : Command) → SpelledBy (codes "place" ∷ codes "t4" ∷ ws) c → ⊥
+heads_refused ws i b s h e none (PlaceT4 id n k head) (i', b', s', h', e', p, q, t, r) =
+    let same : h' ≡ h = cc in
+    none head (let P : List ℕ → Type 0 = λ t. SpellsHex t head in subst P same r)
+heads_refused ws i b s h e none (PlaceT5 id n k head) (i', b', s', h', e', p, q, t, r) = four_differs (codes "place" ∷ codes "t4" ∷ ws) ws (i' ∷ b' ∷ s' ∷ h' ∷ []) refl e'
+heads_refused ws i b s h e none Skip p = p
+heads_refused ws i b s h e none c p = cc
+
+-- a line that is skipped spells nothing else
+onto_begins : (b : ℕ) (ws : List (List ℕ)) → first_byte (onto_first b ws) ≡ b
+unfolding first_byte
+onto_begins b [] = refl
+onto_begins b (w ∷ ws) = refl
+
+hash_begins_none : (ws : List (List ℕ)) (c : Command) → SpelledBy ws c → first_byte ws ≢ 35
+unfolding first_byte
+hash_begins_none ws Skip p h = p
+hash_begins_none ws (Fates fates) (f, e, p) h = omega (arith, h, ap first_byte e)
+hash_begins_none ws (PlaceT2 id n head) (i, b, d, e, p, q, r) h = omega (arith, h, ap first_byte e)
+hash_begins_none ws (PlaceT4 id n k head) (i, b, s, d, e, p, q, t, r) h = omega (arith, h, ap first_byte e)
+hash_begins_none ws (PlaceT5 id n k head) (i, b, s, d, e, p, q, t, r) h = omega (arith, h, ap first_byte e)
+hash_begins_none ws (Lock id block) (i, b, e, p, q) h = omega (arith, h, ap first_byte e)
+hash_begins_none ws (Dump id) (i, e, p) h = omega (arith, h, ap first_byte e)
+hash_begins_none ws (Remove id) (i, e, p) h = omega (arith, h, ap first_byte e)
+hash_begins_none ws Find e h = omega (arith, h, ap first_byte e)
+hash_begins_none ws (Read id) (i, e, p) h = omega (arith, h, ap first_byte e)
+
+words_begin : (b : ℕ) (bs : List ℕ) → b ≡ 35 → first_byte (words_of (b ∷ bs)) ≡ 35
+words_begin b bs hash =
+    let other : b ≢ 32 = λ e. omega arith in
+    ap (λ v. first_byte (if v then [] ∷ words_of bs else onto_first b (words_of bs))) (ne_eqb b 32 other) ∙ onto_begins b (words_of bs) ∙ hash
+
+pub skipped_names_none : (line : List ℕ) (c : Command) → is_skipped line ≡ true → SpelledBy (words_of line) c → ⊥
+unfolding first_byte
+skipped_names_none [] Skip h p = p
+skipped_names_none [] c h p = cc
+skipped_names_none (b ∷ bs) c h p = hash_begins_none (words_of (b ∷ bs)) c p (words_begin b bs (grind arith))
+
+-- any other spells what its words do
+pub spells_words : (line : List ℕ) (c : Command) → SpelledBy (words_of line) c → Spells line c
+spells_words line Skip p = absurd p
+spells_words line c p = p
+
+pub words_spell : (line : List ℕ) (c : Command) → is_skipped line ≡ false → Spells line c → SpelledBy (words_of line) c
+words_spell line Skip h p = cc
+words_spell line c h p = p
+
+-- no line spells two commands
+pub spells_one : (line : List ℕ) (c d : Command) → Spells line c → Spells line d → c ≡ d
+spells_one line Skip Skip p q = refl
+spells_one line Skip d p q = absurd (skipped_names_none line d p q)
+spells_one line c Skip p q = absurd (skipped_names_none line c q p)
+spells_one line c d p q = spelled_one (words_of line) c d p q

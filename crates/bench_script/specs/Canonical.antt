@@ -1,0 +1,53 @@
+-- The canonical spelling of a command: of those that spell it, the one with upper-case digits, and the empty line of those
+-- that ask for nothing.
+use Rattle.std.specs.Prelude.{◌≡◌, ◌≢◌, ℕ, List, [], ◌∷◌, map, codes, length, ◌==◌, if◌then◌else◌}
+use Rattle.std.specs.List.{All, join_with_byte}
+use Rattle.std.specs.Fmt.{decimal}
+use Rattle.hex.specs.Hex.{encode_upper}
+use Rattle.nfc_base.specs.declared.event.Fate.{Fate}
+use Rattle.bench_script.specs.declared.command.Command.{Command}
+use Rattle.bench_script.specs.declared.command.Command.TheVariants.{Skip, Fates, PlaceT2, PlaceT4, PlaceT5, Lock, Remove, Dump, Find, Read}
+use Rattle.bench_script.specs.declared.command.DeviceId.{DeviceId}
+use Rattle.bench_script.specs.DeviceIds.{bytes_of}
+use Rattle.bench_script.specs.Script.{fate_letter, Spells}
+
+-- HEX: upper-case digits, two a byte; `-` for no bytes
+abbrev pub hex_text : List ℕ → List ℕ
+hex_text bytes = if length bytes == 0 then codes "-" else encode_upper bytes
+
+-- FATES
+abbrev pub fates_text : List Fate → List ℕ
+fates_text fates = map fate_letter fates
+
+-- ID
+abbrev pub id_text : DeviceId → List ℕ
+id_text id = encode_upper (bytes_of id)
+
+-- `place`, a kind, an ID and a number
+abbrev pub place_text : List ℕ → List ℕ → ℕ → List ℕ
+place_text kind id n = join_with_byte 32 (codes "place" ∷ kind ∷ encode_upper id ∷ decimal n ∷ [])
+
+-- its words
+abbrev pub canonical_words : Command → List (List ℕ)
+canonical_words Skip = []
+canonical_words (Fates fates) = codes "fates" ∷ fates_text fates ∷ []
+canonical_words (PlaceT2 id blocks head) = codes "place" ∷ codes "t2" ∷ encode_upper id ∷ decimal blocks ∷ hex_text head ∷ []
+canonical_words (PlaceT4 id code container head) =
+    codes "place" ∷ codes "t4" ∷ encode_upper id ∷ decimal code ∷ hex_text container ∷ hex_text head ∷ []
+canonical_words (PlaceT5 id blocks size head) =
+    codes "place" ∷ codes "t5" ∷ encode_upper id ∷ decimal blocks ∷ decimal size ∷ hex_text head ∷ []
+canonical_words (Lock id block) = codes "lock" ∷ id_text id ∷ decimal block ∷ []
+canonical_words (Remove id) = codes "remove" ∷ id_text id ∷ []
+canonical_words (Dump id) = codes "dump" ∷ id_text id ∷ []
+canonical_words Find = codes "find" ∷ []
+canonical_words (Read id) = codes "read" ∷ id_text id ∷ []
+
+-- the words, parted by one space each
+abbrev pub canonical : Command → List ℕ
+canonical c = join_with_byte 32 (canonical_words c)
+
+-- The line spells this command and no other one; no LF is in it, so it stands in a script as it is.
+pub record IsReadAs (line : List ℕ) (c : Command) : Type 0 where
+  pub spells : Spells line c
+  pub alone : (d : Command) → Spells line d → d ≡ c
+  pub whole : All (λ b. b ≢ 10) line

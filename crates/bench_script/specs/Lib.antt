@@ -1,0 +1,5 @@
+pub mod DeviceIds
+pub mod Canonical
+pub mod Limits
+pub mod Script
+pub mod Words

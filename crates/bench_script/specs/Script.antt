@@ -1,0 +1,118 @@
+-- How a script is written; the language is this project's own.
+use Rattle.std.specs.Prelude.{◌≡◌, ℕ, ◌^◌, ◌<◌, ◌≤◌, ◌⊎◌, List, [], ◌∷◌, map, Bool, true, codes, length, ◌==◌, if◌then◌else◌, Ok}
+use Rattle.std.specs.List.{onto_first}
+use Rattle.std.specs.Fmt.{decimal}
+use Rattle.hex.specs.Hex.{decode_of}
+use Rattle.t4t_tag.specs.Store.{most_code}
+use Rattle.nfc_base.specs.declared.event.Fate.{Fate}
+use Rattle.nfc_base.specs.declared.event.Fate.TheVariants.{Pass, Damage, Lose, Break}
+use Rattle.nfca_poll.specs.Ident.{IsIdent}
+use Rattle.t5t_tag.specs.Store.{IsBlockSize}
+use Rattle.bench_script.specs.declared.command.Command.{Command}
+use Rattle.bench_script.specs.declared.command.Command.TheVariants.{Skip, Fates, PlaceT2, PlaceT4, PlaceT5, Lock, Remove, Dump, Find, Read}
+use Rattle.bench_script.specs.declared.command.DeviceId.{DeviceId}
+use Rattle.bench_script.specs.declared.command.DeviceId.TheVariants.{A, V}
+use Rattle.bench_script.specs.declared.script.LineFault.{LineFault}
+use Rattle.bench_script.specs.declared.script.LineFault.TheVariants.{Refused, Memory}
+
+-- The words of a line, parted by one space each. Two spaces in a row, and one at an end, make an empty word, which
+-- no command has.
+abbrev pub words_of : List ℕ → List (List ℕ)
+words_of [] = [] ∷ []
+words_of (b ∷ bs) = if b == 32 then [] ∷ words_of bs else onto_first b (words_of bs)
+
+-- HEX: `-` for no bytes, else two digits of either case a byte
+abbrev pub SpellsHex : List ℕ → List ℕ → Type 0
+SpellsHex word bytes = ((word ≡ codes "-") × (bytes ≡ [])) ⊎ ((0 < length word) × (decode_of word ≡ Ok bytes))
+
+-- ID of an NFC-A device: two digits of either case a byte
+abbrev pub SpellsIdent : List ℕ → List ℕ → Type 0
+SpellsIdent word id = (decode_of word ≡ Ok id) × IsIdent id
+
+-- ID of a Type 5 tag: two digits of either case a byte, high byte first
+abbrev pub SpellsIdV : List ℕ → List ℕ → Type 0
+SpellsIdV word id = (decode_of word ≡ Ok id) × (length id ≡ 8)
+
+-- ID of a device
+abbrev pub SpellsId : List ℕ → DeviceId → Type 0
+SpellsId word (A id) = SpellsIdent word id
+SpellsId word (V id) = SpellsIdV word id
+
+-- the fewest blocks of a Type 2 tag that may be placed, and the most
+abbrev pub least_blocks : ℕ
+least_blocks = 4
+
+abbrev pub most_blocks : ℕ
+most_blocks = 256
+
+-- the fewest blocks of a Type 5 tag; it may have as many as a Type 2 tag
+abbrev pub least_blocks_v : ℕ
+least_blocks_v = 1
+
+-- BLOCKS: a decimal number without leading zeros, from this limit on
+abbrev pub SpellsBlocks : ℕ → List ℕ → ℕ → Type 0
+SpellsBlocks least word n = (word ≡ decimal n) × (least ≤ n) × (n ≤ most_blocks)
+
+-- SIZE: how many bytes a block of a Type 5 tag has
+abbrev pub SpellsSize : List ℕ → ℕ → Type 0
+SpellsSize word n = (word ≡ decimal n) × IsBlockSize n
+
+-- CODE: how long the frames are that a Type 4 tag takes
+abbrev pub SpellsCode : List ℕ → ℕ → Type 0
+SpellsCode word n = (word ≡ decimal n) × (n ≤ most_code)
+
+-- BLOCK: the number of a block, of which a device may have fewer
+abbrev pub SpellsBlock : List ℕ → ℕ → Type 0
+SpellsBlock word n = (word ≡ decimal n) × (n < 2 ^ 16)
+
+-- the letter of a fate, in upper case alone: P, D, L or B
+abbrev pub fate_letter : Fate → ℕ
+fate_letter Pass = 80
+fate_letter Damage = 68
+fate_letter Lose = 76
+fate_letter Break = 66
+
+-- how many fates a line may have
+abbrev pub most_fates : ℕ
+most_fates = 4000
+
+-- FATES: a letter for each fate, and at least one
+pub record SpellsFates (word : List ℕ) (fates : List Fate) : Type 0 where
+  pub letters : word ≡ map fate_letter fates
+  pub some : 0 < length fates
+  pub few : length fates ≤ most_fates
+
+-- an empty line, and one that begins with `#`, whatever bytes follow, asks for nothing
+abbrev pub is_skipped : List ℕ → Bool
+is_skipped [] = true
+is_skipped (b ∷ bs) = b == 35
+
+-- `fates FATES`, `place t2 ID BLOCKS HEX`, `place t4 ID CODE HEX HEX`, `place t5 ID BLOCKS SIZE HEX`, `lock ID BLOCK`,
+-- `remove ID`, `dump ID`, `find` and `read ID`
+abbrev pub SpelledBy : List (List ℕ) → Command → Type 0
+SpelledBy ws Skip = ⊥
+SpelledBy ws (Fates fates) = (f : List ℕ) × (ws ≡ codes "fates" ∷ f ∷ []) × SpellsFates f fates
+SpelledBy ws (PlaceT2 id blocks head) =
+    (i b h : List ℕ) × (ws ≡ codes "place" ∷ codes "t2" ∷ i ∷ b ∷ h ∷ [])
+    × SpellsIdent i id × SpellsBlocks least_blocks b blocks × SpellsHex h head
+SpelledBy ws (PlaceT4 id code container head) =
+    (i c k h : List ℕ) × (ws ≡ codes "place" ∷ codes "t4" ∷ i ∷ c ∷ k ∷ h ∷ [])
+    × SpellsIdent i id × SpellsCode c code × SpellsHex k container × SpellsHex h head
+SpelledBy ws (PlaceT5 id blocks size head) =
+    (i b s h : List ℕ) × (ws ≡ codes "place" ∷ codes "t5" ∷ i ∷ b ∷ s ∷ h ∷ [])
+    × SpellsIdV i id × SpellsBlocks least_blocks_v b blocks × SpellsSize s size × SpellsHex h head
+SpelledBy ws (Lock id block) = (i b : List ℕ) × (ws ≡ codes "lock" ∷ i ∷ b ∷ []) × SpellsId i id × SpellsBlock b block
+SpelledBy ws (Remove id) = (i : List ℕ) × (ws ≡ codes "remove" ∷ i ∷ []) × SpellsId i id
+SpelledBy ws (Dump id) = (i : List ℕ) × (ws ≡ codes "dump" ∷ i ∷ []) × SpellsId i id
+SpelledBy ws Find = ws ≡ codes "find" ∷ []
+SpelledBy ws (Read id) = (i : List ℕ) × (ws ≡ codes "read" ∷ i ∷ []) × SpellsId i id
+
+-- the line spells the command
+abbrev pub Spells : List ℕ → Command → Type 0
+Spells line Skip = is_skipped line ≡ true
+Spells line c = SpelledBy (words_of line) c
+
+-- the numbers of the errors
+abbrev pub line_fault_number : LineFault → ℕ
+line_fault_number Refused = 1
+line_fault_number Memory = 2

@@ -1,0 +1,52 @@
+-- Words cut off the front of a text.
+use Rattle.std.specs.Prelude.{◌≡◌, ℕ, List, [], ◌∷◌, codes, Option, Some, None, MatchOption}
+use Rattle.bench_script.specs.declared.script.words.CommandName.{CommandName}
+use Rattle.bench_script.specs.declared.script.words.CommandName.TheVariants as names
+use Rattle.std.specs.Borrow.{Bor}
+use Rattle.bench_script.specs.declared.command.Command.{Command}
+use Rattle.bench_script.specs.Script.{words_of, SpelledBy}
+
+-- the first word, and the text behind its space, where there is one
+abbrev pub CutsWord : List ℕ → List ℕ → Option (List ℕ) → Type 0
+CutsWord text word None = words_of text ≡ word ∷ []
+CutsWord text word (Some rest) = words_of text ≡ word ∷ words_of rest
+
+-- what is found is one of which P holds; where nothing is, P holds of none
+abbrev pub Finds : {T : Type 0} → (T → Type 0) → Option T → Type 0
+Finds {T} P o = MatchOption o ((x : T) → P x → ⊥) P
+
+-- the words spell no command
+abbrev pub SpellsNone : List (List ℕ) → Type 0
+SpellsNone ws = (c : Command) → SpelledBy ws c → ⊥
+
+-- these are its words
+abbrev pub AreThree : List (List ℕ) → Bor (List ℕ) × Bor (List ℕ) × Bor (List ℕ) → Type 0
+AreThree ws x = ws ≡ x.0.now ∷ x.1.now ∷ x.2.now ∷ []
+
+abbrev pub AreFour : List (List ℕ) → Bor (List ℕ) × Bor (List ℕ) × Bor (List ℕ) × Bor (List ℕ) → Type 0
+AreFour ws x = ws ≡ x.0.now ∷ x.1.now ∷ x.2.now ∷ x.3.now ∷ []
+
+-- it isn't one word
+abbrev pub NotOne : List (List ℕ) → Type 0
+NotOne ws = (a : List ℕ) → ws ≡ a ∷ [] → ⊥
+
+-- ... or two
+abbrev pub NotTwo : List (List ℕ) → Type 0
+NotTwo ws = (a b : List ℕ) → ws ≡ a ∷ b ∷ [] → ⊥
+
+-- ... or three
+abbrev pub NotThree : List (List ℕ) → Type 0
+NotThree ws = (a b c : List ℕ) → ws ≡ a ∷ b ∷ c ∷ [] → ⊥
+
+-- ... or four
+abbrev pub NotFour : List (List ℕ) → Type 0
+NotFour ws = (a b c d : List ℕ) → ws ≡ a ∷ b ∷ c ∷ d ∷ [] → ⊥
+
+-- the first word of a line of several words
+abbrev pub name_text : CommandName → List ℕ
+name_text names.Fates = codes "fates"
+name_text names.Place = codes "place"
+name_text names.Lock = codes "lock"
+name_text names.Remove = codes "remove"
+name_text names.Dump = codes "dump"
+name_text names.Read = codes "read"

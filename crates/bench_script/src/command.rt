@@ -1,0 +1,135 @@
+//! What a line of a script asks for.
+
+ghost use Rattle.std.specs.Prelude.{◌≡◌, IfOk};
+ghost use Rattle.bench_script.specs.DeviceIds.{bytes_of};
+
+use nfc_base::{Fate, Items};
+use nfca_poll::Ident;
+use std::alloc::{AllocError, Global};
+
+/// The identifier of a device: of NFC-A, or of Type 5, whose 8 bytes stand high byte first.
+#[derive(Debug, Drop, PartialEq)]
+pub enum DeviceId {
+    A(Ident),
+    V([u8; 8]),
+}
+
+impl DeviceId {
+    pub fn bytes(&self) -> &[u8]
+        ensures { result.now ≡ bytes_of self.now }
+    {
+        match self {
+            DeviceId::A(id) => id.view(),
+            DeviceId::V(id) => id.as_slice(),
+        }
+    }
+
+    /// The same identifier again. It takes no memory.
+    pub fn copy(&self) -> DeviceId
+        ensures { result ≡ self.now }
+    {
+        match self {
+            DeviceId::A(id) => DeviceId::A(id.copy()),
+            DeviceId::V(id) => DeviceId::V(*id),
+        }
+    }
+}
+
+/// A command of a script (this project's own), with the values of its line's words in their order.
+#[derive(Debug, Drop, PartialEq)]
+pub enum Command {
+    /// An empty line or a comment: it asks for nothing.
+    Skip,
+    /// Appends the fates of transmissions to come.
+    Fates(Items<Fate>),
+    /// Puts a Type 2 tag of so many blocks into the field; its memory begins with `head`, and the rest is 0.
+    PlaceT2 {
+        id: Ident,
+        blocks: u16,
+        head: Items<u8>,
+    },
+    /// Puts a Type 4 tag into the field, which takes frames of this size code (ISO/IEC 14443-4). It has this capability
+    /// container; its NDEF file is as long as the container says, begins with `head`, and the rest is 0.
+    PlaceT4 {
+        id: Ident,
+        code: u8,
+        container: Items<u8>,
+        head: Items<u8>,
+    },
+    /// Puts a Type 5 tag of so many blocks of `size` bytes into the field; its identifier stands high byte first.
+    PlaceT5 {
+        id: [u8; 8],
+        blocks: u16,
+        size: u8,
+        head: Items<u8>,
+    },
+    /// Locks a block of a Type 2 or Type 5 tag against writing.
+    Lock {
+        id: DeviceId,
+        block: u16,
+    },
+    /// Takes a device away.
+    Remove {
+        id: DeviceId,
+    },
+    /// Shows what a tag holds.
+    Dump {
+        id: DeviceId,
+    },
+    /// Finds all devices.
+    Find,
+    /// Reads the NDEF message of a tag.
+    Read {
+        id: DeviceId,
+    },
+}
+
+impl Command {
+    /// The same command again.
+    pub fn copy(&self, alloc: Global) -> Result<Command, AllocError>
+        ensures { IfOk result (λ c. c ≡ self.now) }
+    {
+        match self {
+            Command::Skip => Ok(Command::Skip),
+            Command::Fates(fates) => {
+                let copy = Vec::from_slice(alloc, fates.as_slice())?;
+                Ok(Command::Fates(Items::new(copy)))
+            }
+            Command::PlaceT2 { id, blocks, head } => Ok(Command::PlaceT2 {
+                id: id.copy(),
+                blocks: *blocks,
+                head: Items::from_bytes(alloc, head.as_slice())?,
+            }),
+            Command::PlaceT4 {
+                id,
+                code,
+                container,
+                head,
+            } => Ok(Command::PlaceT4 {
+                id: id.copy(),
+                code: *code,
+                container: Items::from_bytes(alloc, container.as_slice())?,
+                head: Items::from_bytes(alloc, head.as_slice())?,
+            }),
+            Command::PlaceT5 {
+                id,
+                blocks,
+                size,
+                head,
+            } => Ok(Command::PlaceT5 {
+                id: *id,
+                blocks: *blocks,
+                size: *size,
+                head: Items::from_bytes(alloc, head.as_slice())?,
+            }),
+            Command::Lock { id, block } => Ok(Command::Lock {
+                id: id.copy(),
+                block: *block,
+            }),
+            Command::Remove { id } => Ok(Command::Remove { id: id.copy() }),
+            Command::Dump { id } => Ok(Command::Dump { id: id.copy() }),
+            Command::Find => Ok(Command::Find),
+            Command::Read { id } => Ok(Command::Read { id: id.copy() }),
+        }
+    }
+}

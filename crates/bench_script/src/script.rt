@@ -1,0 +1,463 @@
+//! Reading the lines of a script.
+
+ghost use Rattle.std.specs.Prelude.{◌≡◌, [], ◌∷◌, IfOk, IsErrOf, codes};
+ghost use Rattle.bench_script.specs.Words.{SpellsNone};
+ghost use Rattle.bench_script.specs.Script.{words_of, is_skipped, SpelledBy, Spells, line_fault_number};
+ghost use Rattle.bench_script.specs.declared.command.Command.{Command};
+ghost use Rattle.bench_script.specs.declared.script.LineFault.TheVariants.{Memory};
+
+mod words;
+
+use crate::command::Command;
+use std::alloc::{AllocError, Global};
+use thiserror::Error;
+use words::{
+    CommandName, block_word, blocks_word, code_word, cut_word, device_word, fates_word, four_words,
+    hex_word, ident_word, ident_word_v, name_of, only_word, size_word, three_words, two_words,
+};
+
+/// The fewest blocks of a tag that may be placed (this project's limits): the header of a Type 2 tag has four, a Type 5
+/// tag has one.
+const LEAST_BLOCKS: u16 = 4;
+
+const LEAST_BLOCKS_V: u16 = 1;
+
+/// Why a line gives no command.
+#[derive(Clone, Copy, Debug, PartialEq, Eq, Error)]
+pub enum LineFault {
+    #[error("the line is no command")]
+    Refused = 1,
+    #[error("out of memory")]
+    Memory = 2,
+}
+
+impl LineFault {
+    /// Its number in reports and tests.
+    pub fn number(&self) -> u8
+        ensures { result ≡ line_fault_number self.now }
+    {
+        *self as u8
+    }
+}
+
+impl From<AllocError> for LineFault {
+    ghost from_gives = { λ _ e. e ≡ Memory };
+
+    fn from(_e: AllocError) -> LineFault {
+        LineFault::Memory
+    }
+}
+
+/// The command that a line spells, without its LF. The grammar is this project's own.
+pub fn parse_line(alloc: Global, line: &[u8]) -> Result<Command, LineFault>
+    ensures ok { IfOk result (λ c. Spells line.now c) }
+    ensures alone { IfOk result (λ c. (d : Command) → Spells line.now d → d ≡ c) }
+    ensures refused { IsErrOf result LineFault.Refused → (c : Command) → Spells line.now c → ⊥ }
+{
+    if is_skipped(line) {
+        return Ok(Command::Skip);
+    }
+    command_line(alloc, line)
+}
+
+/// Whether a line asks for nothing: it is empty, or a comment.
+fn is_skipped(line: &[u8]) -> bool
+    ensures { result ≡ is_skipped line.now }
+{
+    matches!(line.first(), None | Some(b'#'))
+}
+
+/// A line that isn't skipped.
+#[tactic(auto, using(crate::proofs::Spelling::nameless, crate::proofs::Words::words_not_nil))]
+fn command_line(alloc: Global, line: &[u8]) -> Result<Command, LineFault>
+    ensures ok { IfOk result (λ c. SpelledBy (words_of line.now) c) }
+    ensures refused { IsErrOf result LineFault.Refused → SpellsNone (words_of line.now) }
+{
+    let (name, rest) = cut_word(line);
+    let Some(rest) = rest else {
+        return lone_word(name);
+    };
+    match name_of(name) {
+        Some(CommandName::Fates) => fates_line(alloc, rest),
+        Some(CommandName::Place) => place_line(alloc, rest),
+        Some(CommandName::Lock) => lock_line(alloc, rest),
+        Some(CommandName::Remove) => remove_line(alloc, rest),
+        Some(CommandName::Dump) => dump_line(alloc, rest),
+        Some(CommandName::Read) => read_line(alloc, rest),
+        None => Err(LineFault::Refused),
+    }
+}
+
+/// A line of one word.
+fn lone_word(name: &[u8]) -> Result<Command, LineFault>
+    ensures ok { IfOk result (λ c. SpelledBy (name.now ∷ []) c) }
+    ensures refused { IsErrOf result LineFault.Refused → SpellsNone (name.now ∷ []) }
+{
+    match name {
+        b"find" => Ok(Command::Find),
+        _ => Err(LineFault::Refused),
+    }
+}
+
+/// `fates FATES`, behind its first word.
+fn fates_line(alloc: Global, rest: &[u8]) -> Result<Command, LineFault>
+    ensures ok { IfOk result (λ c. SpelledBy (codes "fates" ∷ words_of rest.now) c) }
+    ensures refused { IsErrOf result LineFault.Refused → SpellsNone (codes "fates" ∷ words_of rest.now) }
+{
+    let Some(word) = only_word(rest) else {
+        return Err(LineFault::Refused);
+    };
+    match fates_word(alloc, word)? {
+        Some(fates) => Ok(Command::Fates(fates)),
+        None => Err(LineFault::Refused),
+    }
+}
+
+/// `lock ID BLOCK`, behind its first word.
+fn lock_line(alloc: Global, rest: &[u8]) -> Result<Command, LineFault>
+    ensures ok { IfOk result (λ c. SpelledBy (codes "lock" ∷ words_of rest.now) c) }
+    ensures refused { IsErrOf result LineFault.Refused → SpellsNone (codes "lock" ∷ words_of rest.now) }
+{
+    let Some((id_text, block_text)) = two_words(rest) else {
+        return Err(LineFault::Refused);
+    };
+    let Some(id) = device_word(alloc, id_text)? else {
+        return Err(LineFault::Refused);
+    };
+    match block_word(alloc, block_text)? {
+        Some(block) => Ok(Command::Lock { id, block }),
+        None => Err(LineFault::Refused),
+    }
+}
+
+/// `remove ID`, behind its first word.
+fn remove_line(alloc: Global, rest: &[u8]) -> Result<Command, LineFault>
+    ensures ok { IfOk result (λ c. SpelledBy (codes "remove" ∷ words_of rest.now) c) }
+    ensures refused { IsErrOf result LineFault.Refused → SpellsNone (codes "remove" ∷ words_of rest.now) }
+{
+    let Some(word) = only_word(rest) else {
+        return Err(LineFault::Refused);
+    };
+    match device_word(alloc, word)? {
+        Some(id) => Ok(Command::Remove { id }),
+        None => Err(LineFault::Refused),
+    }
+}
+
+/// `dump ID`, behind its first word.
+fn dump_line(alloc: Global, rest: &[u8]) -> Result<Command, LineFault>
+    ensures ok { IfOk result (λ c. SpelledBy (codes "dump" ∷ words_of rest.now) c) }
+    ensures refused { IsErrOf result LineFault.Refused → SpellsNone (codes "dump" ∷ words_of rest.now) }
+{
+    let Some(word) = only_word(rest) else {
+        return Err(LineFault::Refused);
+    };
+    match device_word(alloc, word)? {
+        Some(id) => Ok(Command::Dump { id }),
+        None => Err(LineFault::Refused),
+    }
+}
+
+/// `read ID`, behind its first word.
+fn read_line(alloc: Global, rest: &[u8]) -> Result<Command, LineFault>
+    ensures ok { IfOk result (λ c. SpelledBy (codes "read" ∷ words_of rest.now) c) }
+    ensures refused { IsErrOf result LineFault.Refused → SpellsNone (codes "read" ∷ words_of rest.now) }
+{
+    let Some(word) = only_word(rest) else {
+        return Err(LineFault::Refused);
+    };
+    match device_word(alloc, word)? {
+        Some(id) => Ok(Command::Read { id }),
+        None => Err(LineFault::Refused),
+    }
+}
+
+/// `place KIND ..`, behind its first word.
+fn place_line(alloc: Global, rest: &[u8]) -> Result<Command, LineFault>
+    ensures ok { IfOk result (λ c. SpelledBy (codes "place" ∷ words_of rest.now) c) }
+    ensures refused { IsErrOf result LineFault.Refused → SpellsNone (codes "place" ∷ words_of rest.now) }
+{
+    let (kind, more) = cut_word(rest);
+    let Some(more) = more else {
+        return Err(LineFault::Refused);
+    };
+    match kind {
+        b"t2" => place_t2(alloc, more),
+        b"t4" => place_t4(alloc, more),
+        b"t5" => place_t5(alloc, more),
+        _ => Err(LineFault::Refused),
+    }
+}
+
+/// `place t2 ID BLOCKS HEX`, behind its second word.
+#[tactic(auto, using(crate::proofs::Spelling::head_refused))]
+fn place_t2(alloc: Global, rest: &[u8]) -> Result<Command, LineFault>
+    ensures ok { IfOk result (λ c. SpelledBy (codes "place" ∷ codes "t2" ∷ words_of rest.now) c) }
+    ensures refused { IsErrOf result LineFault.Refused → SpellsNone (codes "place" ∷ codes "t2" ∷ words_of rest.now) }
+{
+    let Some((id_text, blocks_text, head_text)) = three_words(rest) else {
+        return Err(LineFault::Refused);
+    };
+    let Some(id) = ident_word(alloc, id_text)? else {
+        return Err(LineFault::Refused);
+    };
+    let Some(blocks) = blocks_word(alloc, blocks_text, LEAST_BLOCKS)? else {
+        return Err(LineFault::Refused);
+    };
+    match hex_word(alloc, head_text)? {
+        Some(head) => Ok(Command::PlaceT2 { id, blocks, head }),
+        None => Err(LineFault::Refused),
+    }
+}
+
+/// `place t4 ID CODE HEX HEX`, behind its second word.
+#[tactic(auto, using(crate::proofs::Spelling::container_refused, crate::proofs::Spelling::heads_refused))]
+fn place_t4(alloc: Global, rest: &[u8]) -> Result<Command, LineFault>
+    ensures ok { IfOk result (λ c. SpelledBy (codes "place" ∷ codes "t4" ∷ words_of rest.now) c) }
+    ensures refused { IsErrOf result LineFault.Refused → SpellsNone (codes "place" ∷ codes "t4" ∷ words_of rest.now) }
+{
+    let Some((id_text, code_text, container_text, head_text)) = four_words(rest) else {
+        return Err(LineFault::Refused);
+    };
+    let Some(id) = ident_word(alloc, id_text)? else {
+        return Err(LineFault::Refused);
+    };
+    let Some(code) = code_word(alloc, code_text)? else {
+        return Err(LineFault::Refused);
+    };
+    let Some(container) = hex_word(alloc, container_text)? else {
+        return Err(LineFault::Refused);
+    };
+    match hex_word(alloc, head_text)? {
+        Some(head) => Ok(Command::PlaceT4 {
+            id,
+            code,
+            container,
+            head,
+        }),
+        None => Err(LineFault::Refused),
+    }
+}
+
+/// `place t5 ID BLOCKS SIZE HEX`, behind its second word.
+#[tactic(auto, using(crate::proofs::Spelling::four_refused))]
+fn place_t5(alloc: Global, rest: &[u8]) -> Result<Command, LineFault>
+    ensures ok { IfOk result (λ c. SpelledBy (codes "place" ∷ codes "t5" ∷ words_of rest.now) c) }
+    ensures refused { IsErrOf result LineFault.Refused → SpellsNone (codes "place" ∷ codes "t5" ∷ words_of rest.now) }
+{
+    let Some((id_text, blocks_text, size_text, head_text)) = four_words(rest) else {
+        return Err(LineFault::Refused);
+    };
+    let Some(id) = ident_word_v(alloc, id_text)? else {
+        return Err(LineFault::Refused);
+    };
+    let Some(blocks) = blocks_word(alloc, blocks_text, LEAST_BLOCKS_V)? else {
+        return Err(LineFault::Refused);
+    };
+    let Some(size) = size_word(alloc, size_text)? else {
+        return Err(LineFault::Refused);
+    };
+    match hex_word(alloc, head_text)? {
+        Some(head) => Ok(Command::PlaceT5 {
+            id,
+            blocks,
+            size,
+            head,
+        }),
+        None => Err(LineFault::Refused),
+    }
+}
+
+#[cfg(test)]
+mod tests {
+    use super::*;
+    use crate::command::DeviceId;
+    use nfc_base::{Fate, Items};
+    use nfca_poll::Ident;
+    use std::test::Fail;
+
+    #[test]
+    fn lines(rt: HostRuntime) {
+        let rows = [
+            ("read 01020304", 0),
+            ("read 0a0B0c0D0e0F10", 0),
+            ("read 00010203040506070809", 0),
+            ("place t2 01020304 4 -", 0),
+            ("place t2 01020304 256 00E1", 0),
+            ("", 0),
+            ("#", 0),
+            ("# a comment\r \u{7f}", 0),
+            (" #", 1),
+            (" ", 1),
+            ("read", 1),
+            ("read ", 1),
+            ("read -", 1),
+            ("read  01020304", 1),
+            (" read 01020304", 1),
+            ("read 01020304 ", 1),
+            ("read 01020304\r", 1),
+            ("read 0102030", 1),
+            ("read 0102030G", 1),
+            ("read 0102030405", 1),
+            ("read 0102030405060708", 0),
+            ("read E00401020304050", 1),
+            ("read E0040102030405060", 1),
+            ("place t5 E004010203040506 1 4 -", 0),
+            ("place t5 e004010203040506 256 32 00", 0),
+            ("place t5 E004010203040506 0 4 -", 1),
+            ("place t5 E004010203040506 257 4 -", 1),
+            ("place t5 E004010203040506 4 5 -", 1),
+            ("place t5 E004010203040506 4 04 -", 1),
+            ("place t5 E004010203040506 4 260 -", 1),
+            ("place t5 E0040102030405 4 4 -", 1),
+            ("place t5 E004010203040506 4 4", 1),
+            ("place t5 E004010203040506 4 4 - -", 1),
+            ("place t2 E004010203040506 16 -", 1),
+            ("read 88020304", 1),
+            ("read 01020388050607", 1),
+            ("place t2 01020304 3 -", 1),
+            ("place t2 01020304 257 -", 1),
+            ("place t2 01020304 65540 -", 1),
+            ("place t2 01020304 016 -", 1),
+            ("place t2 01020304 +16 -", 1),
+            ("place t2 01020304 16", 1),
+            ("place t2 01020304 16 ", 1),
+            ("place t2 01020304 16 000", 1),
+            ("place t2 01020304 16 - -", 1),
+            ("place t4 01020304 0 - -", 0),
+            ("place t4 01020304 8 000F20003B000D0406E10400200000 -", 0),
+            ("place t4 04112233445566 8 00 0003D00000", 0),
+            ("place t4 01020304 9 - -", 1),
+            ("place t4 01020304 264 - -", 1),
+            ("place t4 01020304 08 - -", 1),
+            ("place t4 01020304 - - -", 1),
+            ("place t4 01020304 8 0 -", 1),
+            ("place t4 01020304 8 - 0", 1),
+            ("place t4 E004010203040506 8 - -", 1),
+            ("place t4 01020304 8 -", 1),
+            ("place t4 01020304 8 - - -", 1),
+            ("place t4 01020304 16 -", 1),
+            ("place t3 01020304 8 - -", 1),
+            ("fates P", 0),
+            ("fates PDLBBLDP", 0),
+            ("fates", 1),
+            ("fates ", 1),
+            ("fates -", 1),
+            ("fates p", 1),
+            ("fates PPl", 1),
+            ("fates PXP", 1),
+            ("fates P P", 1),
+            ("fates P ", 1),
+            ("Fates P", 1),
+            ("remove 01020304", 0),
+            ("remove 04112233445566", 0),
+            ("remove 00010203040506070809", 0),
+            ("remove e004010203040506", 0),
+            ("remove", 1),
+            ("remove ", 1),
+            ("remove -", 1),
+            ("remove 0102030405", 1),
+            ("remove 88020304", 1),
+            ("remove 0102030G", 1),
+            ("remove t2 01020304", 1),
+            ("lock 01020304 0", 0),
+            ("lock 04112233445566 65535", 0),
+            ("lock e004010203040506 255", 0),
+            ("lock 01020304 65536", 1),
+            ("lock 01020304 04", 1),
+            ("lock 01020304 +4", 1),
+            ("lock 01020304 -", 1),
+            ("lock 01020304 ", 1),
+            ("lock 01020304", 1),
+            ("lock 0102030405 4", 1),
+            ("lock 4 01020304", 1),
+            ("lock 01020304 4 4", 1),
+            ("dump 01020304", 0),
+            ("dump E004010203040506", 0),
+            ("dump", 1),
+            ("dump ", 1),
+            ("dump -", 1),
+            ("dump 0102030405", 1),
+            ("dump 01020304 4", 1),
+            ("find", 0),
+            ("find ", 1),
+            (" find", 1),
+            ("find 01020304", 1),
+            ("Find", 1),
+        ];
+        for (line, wanted) in rows {
+            let fault = match parse_line(rt.alloc(), line.as_bytes()) {
+                Ok(_) => 0,
+                Err(fault) => fault.number(),
+            };
+            assert_eq!(rt; fault, wanted, "{line}");
+        }
+    }
+
+    #[test]
+    fn values(rt: HostRuntime) -> Result<(), Fail> {
+        let alloc = rt.alloc();
+        let letters = [Fate::Pass, Fate::Damage, Fate::Lose, Fate::Break];
+        let fates = Items::new(Vec::from_slice(alloc, letters.as_slice())?);
+        let ident = Ident::new(&[4, 17, 34, 51, 68, 85, 102])?;
+        let tag = [0xE0, 4, 1, 2, 3, 4, 5, 0xFF];
+        let rows = [
+            ("fates PDLB", Command::Fates(fates)),
+            (
+                "place t4 04112233445566 8 0aFF -",
+                Command::PlaceT4 {
+                    id: ident.copy(),
+                    code: 8,
+                    container: Items::new(Vec::from_slice(alloc, &[10, 255])?),
+                    head: Items::new(Vec::new(alloc)),
+                },
+            ),
+            (
+                "lock 04112233445566 12",
+                Command::Lock {
+                    id: DeviceId::A(ident.copy()),
+                    block: 12,
+                },
+            ),
+            (
+                "dump E0040102030405fF",
+                Command::Dump {
+                    id: DeviceId::V(tag),
+                },
+            ),
+            (
+                "remove 04112233445566",
+                Command::Remove {
+                    id: DeviceId::A(ident),
+                },
+            ),
+            (
+                "remove E0040102030405fF",
+                Command::Remove {
+                    id: DeviceId::V(tag),
+                },
+            ),
+            ("find", Command::Find),
+            ("#find", Command::Skip),
+        ];
+        for (line, wanted) in rows {
+            let command = parse_line(alloc, line.as_bytes())?;
+            assert!(rt; command == wanted, "{line}");
+            assert!(rt; command.copy(alloc)? == wanted, "{line}");
+        }
+        Ok(())
+    }
+
+    #[test]
+    fn numbers_of_fates(rt: HostRuntime) -> Result<(), Fail> {
+        let alloc = rt.alloc();
+        let mut line = String::from_str(alloc, "fates ")?;
+        for _ in 0..4000 {
+            line.push_str("P")?;
+        }
+        assert!(rt; parse_line(alloc, line.as_bytes()).is_ok());
+        line.push_str("P")?;
+        assert!(rt; parse_line(alloc, line.as_bytes()).is_err());
+        Ok(())
+    }
+}

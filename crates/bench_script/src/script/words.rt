@@ -1,0 +1,254 @@
+//! The words of a line.
+
+ghost use Rattle.std.specs.Prelude.{◌≡◌, ◌≢◌, ◌<◌, ◌^◌, ℕ, [], ◌∷◌, List, MatchOption, IfOk};
+ghost use Rattle.nfc_base.specs.declared.event.Fate.{Fate as Becomes};
+ghost use Rattle.std.specs.Option.{option_copied};
+ghost use Rattle.std.specs.Fmt.{decimal};
+ghost use Rattle.bench_script.specs.Script.{words_of, SpellsHex, SpellsIdent, SpellsIdV, SpellsId, SpellsBlocks, SpellsSize, SpellsCode, SpellsBlock, fate_letter, SpellsFates};
+ghost use Rattle.bench_script.specs.declared.command.DeviceId.{DeviceId as Named};
+ghost use Rattle.bench_script.specs.declared.script.words.CommandName.{CommandName as Names};
+ghost use Rattle.bench_script.specs.Words.{CutsWord, Finds, AreThree, AreFour, NotOne, NotTwo, NotThree, NotFour, name_text};
+
+use crate::command::DeviceId;
+use hex::FromHexError;
+use nfc_base::{Fate, Items};
+use nfca_poll::Ident;
+use std::alloc::{AllocError, Global};
+use t4t_tag::MOST_CODE;
+
+/// How many fates a line may have (this project's limit).
+const MOST_FATES: usize = 4000;
+
+/// The most blocks of a tag (this project's limit): a read names a block in one byte.
+const MOST_BLOCKS: u16 = 256;
+
+/// The first word of a line of several words.
+#[derive(Clone, Copy, Debug, PartialEq, Eq)]
+pub enum CommandName {
+    Fates,
+    Place,
+    Lock,
+    Remove,
+    Dump,
+    Read,
+}
+
+/// The name that a word is.
+pub fn name_of(word: &[u8]) -> Option<CommandName>
+    ensures { MatchOption result ((n : Names) → word.now ≢ name_text n) (λ n. word.now ≡ name_text n) }
+{
+    match word {
+        b"fates" => Some(CommandName::Fates),
+        b"place" => Some(CommandName::Place),
+        b"lock" => Some(CommandName::Lock),
+        b"remove" => Some(CommandName::Remove),
+        b"dump" => Some(CommandName::Dump),
+        b"read" => Some(CommandName::Read),
+        _ => None,
+    }
+}
+
+/// The first word, and what stands behind its space.
+#[tactic(auto, using(crate::proofs::Words::words_cut, crate::proofs::Words::words_end))]
+pub fn cut_word(text: &[u8]) -> (&[u8], Option<&[u8]>)
+    ensures { CutsWord text.now result.0.now (option_copied result.1) }
+{
+    for (i, b) in text.iter().enumerate() {
+        if *b == b' ' {
+            return (&text[..i], Some(&text[i + 1..]));
+        }
+    }
+    (text, None)
+}
+
+/// The word of a text of one.
+#[tactic(auto, using(crate::proofs::Words::words_not_nil))]
+pub fn only_word(text: &[u8]) -> Option<&[u8]>
+    ensures { MatchOption result (NotOne (words_of text.now)) (λ w. words_of text.now ≡ w.now ∷ []) }
+{
+    let (word, rest) = cut_word(text);
+    match rest {
+        None => Some(word),
+        Some(_) => None,
+    }
+}
+
+/// The words of a text of two.
+#[tactic(auto, using(crate::proofs::Words::words_not_nil))]
+pub fn two_words(text: &[u8]) -> Option<(&[u8], &[u8])>
+    ensures { MatchOption result (NotTwo (words_of text.now)) (λ x. words_of text.now ≡ x.0.now ∷ x.1.now ∷ []) }
+{
+    let (first, rest) = cut_word(text);
+    Some((first, only_word(rest?)?))
+}
+
+/// The words of a text of four.
+#[tactic(auto, using(crate::proofs::Words::words_not_nil))]
+pub fn four_words(text: &[u8]) -> Option<(&[u8], &[u8], &[u8], &[u8])>
+    ensures { MatchOption result (NotFour (words_of text.now)) (AreFour (words_of text.now)) }
+{
+    let (first, rest) = cut_word(text);
+    let (second, third, fourth) = three_words(rest?)?;
+    Some((first, second, third, fourth))
+}
+
+/// The words of a text of three.
+#[tactic(auto, using(crate::proofs::Words::words_not_nil))]
+pub fn three_words(text: &[u8]) -> Option<(&[u8], &[u8], &[u8])>
+    ensures { MatchOption result (NotThree (words_of text.now)) (AreThree (words_of text.now)) }
+{
+    let (first, rest) = cut_word(text);
+    let (second, rest) = cut_word(rest?);
+    let (third, rest) = cut_word(rest?);
+    match rest {
+        None => Some((first, second, third)),
+        Some(_) => None,
+    }
+}
+
+/// The identifier that a word spells, if it does.
+pub fn ident_word(alloc: Global, word: &[u8]) -> Result<Option<Ident>, AllocError>
+    ensures { IfOk result (Finds (SpellsIdent word.now)) }
+{
+    match hex::decode(alloc, word) {
+        Ok(bytes) => match Ident::new(&bytes) {
+            Ok(id) => Ok(Some(id)),
+            Err(_) => Ok(None),
+        },
+        Err(FromHexError::OutOfMemory) => Err(AllocError),
+        Err(_) => Ok(None),
+    }
+}
+
+/// The identifier of a Type 5 tag that a word spells, if it does.
+pub fn ident_word_v(alloc: Global, word: &[u8]) -> Result<Option<[u8; 8]>, AllocError>
+    ensures { IfOk result (Finds (SpellsIdV word.now)) }
+{
+    match hex::decode(alloc, word) {
+        Ok(bytes) => match bytes.as_slice().try_into() {
+            Ok(id) => Ok(Some(id)),
+            Err(_) => Ok(None),
+        },
+        Err(FromHexError::OutOfMemory) => Err(AllocError),
+        Err(_) => Ok(None),
+    }
+}
+
+/// The identifier of a device that a word spells, if it does.
+pub fn device_word(alloc: Global, word: &[u8]) -> Result<Option<DeviceId>, AllocError>
+    ensures { IfOk result (Finds (SpellsId word.now)) }
+{
+    if let Some(id) = ident_word(alloc, word)? {
+        return Ok(Some(DeviceId::A(id)));
+    }
+    match ident_word_v(alloc, word)? {
+        Some(id) => Ok(Some(DeviceId::V(id))),
+        None => Ok(None),
+    }
+}
+
+/// The bytes that a word spells, if it does.
+pub fn hex_word(alloc: Global, word: &[u8]) -> Result<Option<Items<u8>>, AllocError>
+    ensures { IfOk result (Finds (SpellsHex word.now)) }
+{
+    if word == b"-".as_slice() {
+        return Ok(Some(Items::new(Vec::new(alloc))));
+    }
+    if word.is_empty() {
+        return Ok(None);
+    }
+    match hex::decode(alloc, word) {
+        Ok(bytes) => Ok(Some(Items::new(bytes))),
+        Err(FromHexError::OutOfMemory) => Err(AllocError),
+        Err(_) => Ok(None),
+    }
+}
+
+/// The number below 65,536 that a word spells, if it does.
+pub fn number_word(alloc: Global, word: &[u8]) -> Result<Option<u16>, AllocError>
+    ensures { IfOk result (λ o. MatchOption o ((n : ℕ) → n < 2 ^ 16 → word.now ≢ decimal n)
+        (λ n. word.now ≡ decimal n)) }
+{
+    let Ok(digits) = str::from_utf8(word) else {
+        return Ok(None);
+    };
+    let Ok(n) = digits.parse::<u16>() else {
+        return Ok(None);
+    };
+    let written = n.to_string(alloc)?;
+    if written.as_bytes() == word {
+        Ok(Some(n))
+    } else {
+        Ok(None)
+    }
+}
+
+/// The number of a block that a word spells, if it does.
+pub fn block_word(alloc: Global, word: &[u8]) -> Result<Option<u16>, AllocError>
+    ensures { IfOk result (Finds (SpellsBlock word.now)) }
+{
+    number_word(alloc, word)
+}
+
+/// The number of blocks that a word spells, from a limit on, if it does.
+#[tactic(auto, using(std::proofs::lemmas::Fmt::decimal_injective))]
+pub fn blocks_word(alloc: Global, word: &[u8], least: u16) -> Result<Option<u16>, AllocError>
+    ensures { IfOk result (Finds (SpellsBlocks least word.now)) }
+{
+    match number_word(alloc, word)? {
+        Some(n) if least <= n && n <= MOST_BLOCKS => Ok(Some(n)),
+        _ => Ok(None),
+    }
+}
+
+/// The size of a Type 5 tag's blocks that a word spells, if it does.
+#[tactic(auto, using(std::proofs::lemmas::Fmt::decimal_injective))]
+pub fn size_word(alloc: Global, word: &[u8]) -> Result<Option<u8>, AllocError>
+    ensures { IfOk result (Finds (SpellsSize word.now)) }
+{
+    match number_word(alloc, word)? {
+        Some(n @ (4 | 8 | 16 | 32)) => Ok(Some(n as u8)),
+        _ => Ok(None),
+    }
+}
+
+/// The size code of a Type 4 tag that a word spells, if it does.
+#[tactic(auto, using(std::proofs::lemmas::Fmt::decimal_injective))]
+pub fn code_word(alloc: Global, word: &[u8]) -> Result<Option<u8>, AllocError>
+    ensures { IfOk result (Finds (SpellsCode word.now)) }
+{
+    match number_word(alloc, word)? {
+        Some(n) if n <= MOST_CODE as u16 => Ok(Some(n as u8)),
+        _ => Ok(None),
+    }
+}
+
+/// The fate of a letter.
+fn fate_of(letter: u8) -> Option<Fate>
+    ensures { MatchOption result ((f : Becomes) → letter ≢ fate_letter f) (λ f. letter ≡ fate_letter f) }
+{
+    match letter {
+        b'P' => Some(Fate::Pass),
+        b'D' => Some(Fate::Damage),
+        b'L' => Some(Fate::Lose),
+        b'B' => Some(Fate::Break),
+        _ => None,
+    }
+}
+
+/// The fates that a word spells, if it does.
+pub fn fates_word(alloc: Global, word: &[u8]) -> Result<Option<Items<Fate>>, AllocError>
+    ensures { IfOk result (Finds (SpellsFates word.now)) }
+{
+    if word.is_empty() || word.len() > MOST_FATES {
+        return Ok(None);
+    }
+    let mut fates = Vec::new(alloc);
+    for letter in word {
+        match fate_of(*letter) {
+            Some(fate) => fates.push(fate)?,
+            None => return Ok(None),
+        }
+    }
+    Ok(Some(Items::new(fates)))
+}

@@ -1,0 +1,199 @@
+//! Writing a command as a line.
+
+ghost use Rattle.std.specs.Prelude.{◌≡◌, ◌≤◌, ◌++◌, ◌∷◌, ℕ, List, length, codes, OnOk, OnErr};
+ghost use Rattle.std.specs.Fmt.{decimal};
+ghost use Rattle.hex.specs.Hex.{encode_upper};
+ghost use Rattle.bench_script.specs.Script.{fate_letter, Spells};
+ghost use Rattle.bench_script.specs.Canonical.{hex_text, id_text, fates_text, place_text, canonical, IsReadAs};
+
+use crate::command::{Command, DeviceId};
+use nfc_base::Fate;
+use std::alloc::AllocError;
+
+impl Command {
+    /// Adds the command's canonical spelling to `target`: its digits are in upper case, and no LF ends it. It is written
+    /// into memory of its own first.
+    #[tactic(auto, using(crate::proofs::Canonical::read_back, crate::proofs::Canonical::none_shorter))]
+    pub fn write_to(&self, target: &mut Vec<u8>) -> Result<(), AllocError>
+        ensures ok { OnOk result (target.new.items ≡ target.old.items ++ canonical self.now) }
+        ensures err { OnErr result (target.new.items ≡ target.old.items) }
+        ensures back { (line : List ℕ) → Spells line self.now → IsReadAs (canonical self.now) self.now }
+        ensures short { (line : List ℕ) → Spells line self.now → length (canonical self.now) ≤ length line }
+    {
+        let mut line = Vec::new(*target.allocator());
+        self.append_to(&mut line)?;
+        target.extend_from_slice(&line)
+    }
+
+    /// Adds its canonical spelling.
+    fn append_to(&self, line: &mut Vec<u8>) -> Result<(), AllocError>
+        ensures { OnOk result (line.new.items ≡ line.old.items ++ canonical self.now) }
+    {
+        match self {
+            Command::Skip => Ok(()),
+            Command::Fates(fates) => add_fates(line, fates.as_slice()),
+            Command::PlaceT2 { id, blocks, head } => {
+                add_place(line, b"t2", id.view(), *blocks)?;
+                add_hex(line, head.as_slice())
+            }
+            Command::PlaceT4 {
+                id,
+                code,
+                container,
+                head,
+            } => {
+                add_place(line, b"t4", id.view(), *code as u16)?;
+                add_hex(line, container.as_slice())?;
+                add_hex(line, head.as_slice())
+            }
+            Command::PlaceT5 {
+                id,
+                blocks,
+                size,
+                head,
+            } => {
+                add_place(line, b"t5", id.as_slice(), *blocks)?;
+                add_number(line, *size as u16)?;
+                add_hex(line, head.as_slice())
+            }
+            Command::Lock { id, block } => {
+                add_named(line, b"lock", id)?;
+                add_number(line, *block)
+            }
+            Command::Remove { id } => add_named(line, b"remove", id),
+            Command::Dump { id } => add_named(line, b"dump", id),
+            Command::Find => line.extend_from_slice(b"find"),
+            Command::Read { id } => add_named(line, b"read", id),
+        }
+    }
+}
+
+/// Adds `place`, a kind, an identifier and a number.
+fn add_place(line: &mut Vec<u8>, kind: &[u8], id: &[u8], number: u16) -> Result<(), AllocError>
+    ensures { OnOk result (line.new.items ≡ line.old.items ++ codes "place " ++ kind.now ++ 32 ∷ encode_upper id.now
+        ++ 32 ∷ decimal number) }
+{
+    line.extend_from_slice(b"place ")?;
+    line.extend_from_slice(kind)?;
+    add_digits(line, id)?;
+    add_number(line, number)
+}
+
+/// Adds a command's name and an identifier.
+fn add_named(line: &mut Vec<u8>, name: &[u8], id: &DeviceId) -> Result<(), AllocError>
+    ensures { OnOk result (line.new.items ≡ line.old.items ++ name.now ++ 32 ∷ id_text id.now) }
+{
+    line.extend_from_slice(name)?;
+    add_digits(line, id.bytes())
+}
+
+/// Adds a space, and two digits a byte.
+fn add_digits(line: &mut Vec<u8>, bytes: &[u8]) -> Result<(), AllocError>
+    ensures { OnOk result (line.new.items ≡ line.old.items ++ 32 ∷ encode_upper bytes.now) }
+{
+    let digits = hex::encode_upper(*line.allocator(), bytes)?;
+    line.push(b' ')?;
+    line.extend_from_slice(digits.as_bytes())
+}
+
+/// Adds a space, and some bytes, or `-` for none.
+fn add_hex(line: &mut Vec<u8>, bytes: &[u8]) -> Result<(), AllocError>
+    ensures { OnOk result (line.new.items ≡ line.old.items ++ 32 ∷ hex_text bytes.now) }
+{
+    if bytes.is_empty() {
+        line.extend_from_slice(b" -")
+    } else {
+        add_digits(line, bytes)
+    }
+}
+
+/// Adds a space, and a number.
+fn add_number(line: &mut Vec<u8>, number: u16) -> Result<(), AllocError>
+    ensures { OnOk result (line.new.items ≡ line.old.items ++ 32 ∷ decimal number) }
+{
+    let digits = number.to_string(*line.allocator())?;
+    line.push(b' ')?;
+    line.extend_from_slice(digits.as_bytes())
+}
+
+/// Adds `fates`, and a letter for each.
+fn add_fates(line: &mut Vec<u8>, fates: &[Fate]) -> Result<(), AllocError>
+    ensures { OnOk result (line.new.items ≡ line.old.items ++ codes "fates " ++ fates_text fates.now) }
+{
+    line.extend_from_slice(b"fates ")?;
+    for fate in fates {
+        line.push(letter_of(*fate))?;
+    }
+    Ok(())
+}
+
+/// The letter of a fate.
+fn letter_of(fate: Fate) -> u8
+    ensures { result ≡ fate_letter fate }
+{
+    match fate {
+        Fate::Pass => b'P',
+        Fate::Damage => b'D',
+        Fate::Lose => b'L',
+        Fate::Break => b'B',
+    }
+}
+
+#[cfg(test)]
+mod tests {
+    use super::*;
+    use crate::script::parse_line;
+    use std::alloc::Global;
+    use std::test::Fail;
+
+    /// What is written of a line's command behind a front, and that front with a text.
+    fn written(alloc: Global, line: &str, text: &str) -> Result<(Vec<u8>, Vec<u8>), Fail> {
+        let mut target = vec![in alloc; b'>']?;
+        parse_line(alloc, line.as_bytes())?.write_to(&mut target)?;
+        let mut wanted = vec![in alloc; b'>']?;
+        wanted.extend_from_slice(text.as_bytes())?;
+        Ok((target, wanted))
+    }
+
+    #[test]
+    fn digits_of_either_case_are_written_in_upper_case(rt: HostRuntime) -> Result<(), Fail> {
+        let rows = [
+            ("# find", ""),
+            ("fates P", "fates P"),
+            ("fates PDLBBLDP", "fates PDLBBLDP"),
+            ("place t2 0a0b0c0d 16 00e110", "place t2 0A0B0C0D 16 00E110"),
+            (
+                "place t2 04a12233b45566 256 -",
+                "place t2 04A12233B45566 256 -",
+            ),
+            (
+                "place t4 0a010203 8 000f20003b000d0406e10400200000 0003d00000",
+                "place t4 0A010203 8 000F20003B000D0406E10400200000 0003D00000",
+            ),
+            (
+                "place t4 0102030405060708090a 0 - -",
+                "place t4 0102030405060708090A 0 - -",
+            ),
+            (
+                "place t5 e00401020304050f 1 32 e1400f00",
+                "place t5 E00401020304050F 1 32 E1400F00",
+            ),
+            ("lock 0a010203 65535", "lock 0A010203 65535"),
+            ("lock e00401020304050f 0", "lock E00401020304050F 0"),
+            ("remove 0a010203", "remove 0A010203"),
+            ("dump e00401020304050f", "dump E00401020304050F"),
+            ("find", "find"),
+            ("read 0a010203", "read 0A010203"),
+        ];
+        let alloc = rt.alloc();
+        for (lower, upper) in rows {
+            for line in [lower, upper] {
+                let (target, wanted) = written(alloc, line, upper)?;
+                assert_eq!(rt; target.as_slice(), wanted.as_slice(), "{line}");
+            }
+            let command = parse_line(alloc, lower.as_bytes())?;
+            assert!(rt; parse_line(alloc, upper.as_bytes())? == command, "{lower}");
+        }
+        Ok(())
+    }
+}

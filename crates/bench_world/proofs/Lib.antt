@@ -1,0 +1,12 @@
+pub mod Placing
+pub mod Placed
+pub mod Removing
+pub mod Locking
+pub mod Telling
+pub mod Legality
+pub mod Outcomes
+pub mod Complete
+pub mod OneCut
+pub mod OneForm
+pub mod OneAnswer
+pub mod OneJournal

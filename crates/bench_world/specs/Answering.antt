@@ -1,0 +1,92 @@
+-- What a command answers that polls, and the cause of each answer.
+use Rattle.std.specs.Prelude.{◌≡◌, ◌↔◌, ◌<◌, List, [], ◌++◌, Option, Some, None, IsSome, ◌⊎◌, Result, Ok, Err}
+use Rattle.nfc_base.specs.Signal.{Signal}
+use Rattle.nfc_base.specs.Trace.{breaks, back_of}
+use Rattle.nfc_base.specs.Trace as backs
+use Rattle.nfc_base.specs.declared.event.Event.{Event}
+use Rattle.nfc_base.specs.declared.tag_link.AskFault.{AskFault}
+use Rattle.nfc_base.specs.declared.tag_link.AskFault.TheVariants as asking
+use Rattle.air_core.specs.Conversation.{receptions}
+use Rattle.nfca_poll.specs.declared.fault.PollFault.{PollFault}
+use Rattle.nfca_poll.specs.declared.fault.PollFault.TheVariants as faults
+use Rattle.tag_reader.specs.declared.fault.ReadFault.{ReadFault}
+use Rattle.tag_reader.specs.declared.fault.ReadFault.TheVariants as reading
+use Rattle.tag_reader.specs.declared.found.Found.{Found}
+use Rattle.bench_script.specs.declared.command.DeviceId.{DeviceId}
+use Rattle.bench_script.specs.DeviceIds.{bytes_of}
+use Rattle.bench_devices.specs.declared.device.Device.{Device}
+use Rattle.bench_devices.specs.declared.polling.SeenKind.{SeenKind}
+use Rattle.bench_devices.specs.declared.sweeping.Everybody.{Everybody}
+use Rattle.bench_devices.specs.Polling.{Told, selecting}
+use Rattle.bench_devices.specs.Placed.{device_with, OfPlaced}
+use Rattle.bench_devices.specs.Answering.{HasPollCause, TellsBy}
+use Rattle.bench_world.specs.declared.entry.Answer.{Answer}
+use Rattle.bench_world.specs.declared.entry.Answer.TheVariants as answers
+use Rattle.bench_world.specs.Crowded.{seen_all, is_crowd}
+use Rattle.bench_world.specs.Reading.{TellsOf}
+
+-- The answer that tells of a fault of polling. The others never end a command of the bench.
+abbrev pub poll_answer : PollFault → Option Answer
+poll_answer faults.Nobody = None
+poll_answer faults.Disturbed = Some answers.Disturbed
+poll_answer faults.FieldLost = Some answers.FieldLost
+poll_answer faults.Memory = None
+poll_answer faults.NotFound = Some answers.NotFound
+poll_answer faults.BadAnswer = None
+
+-- The answer that tells what a read came to. The other faults never end one on the bench.
+abbrev pub told_by : Result Found ReadFault → Option Answer
+told_by (Ok found) = Some (answers.Message found.message found.writable)
+told_by (Err reading.NotNdef) = Some answers.NotNdef
+told_by (Err reading.Version) = Some answers.Version
+told_by (Err reading.NoRead) = Some answers.NoRead
+told_by (Err reading.Sectors) = Some answers.Sectors
+told_by (Err reading.BadSize) = Some answers.BadSize
+told_by (Err reading.NoMessageTlv) = Some answers.NoMessageTlv
+told_by (Err reading.BadTlv) = Some answers.BadTlv
+told_by (Err (reading.Refused code)) = None
+told_by (Err reading.FieldLost) = Some answers.FieldLost
+told_by (Err reading.SixBad) = Some answers.SixBad
+told_by (Err reading.Memory) = None
+told_by (Err reading.Protocol) = None
+
+-- a read that an answer tells of, or want of memory
+abbrev pub MayEnd : Result Found ReadFault → Type 0
+MayEnd r = IsSome (told_by r) ⊎ (r ≡ Err reading.Memory)
+
+-- What a read answers once its tag is selected, where a wait of it ended by a fault: the field was lost in it, or it had six bad
+-- receptions.
+abbrev pub TellsFault : AskFault → Answer → Type 0
+TellsFault asking.FieldLost answer = answer ≡ answers.FieldLost
+TellsFault asking.SixBad answer = answer ≡ answers.SixBad
+TellsFault asking.Memory answer = ⊥
+TellsFault asking.Protocol answer = ⊥
+
+-- What a read answers, by how selecting its tag ended and what happened since.
+abbrev pub ReadEnds : DeviceId → List Device → List Signal → Result SeenKind PollFault → List Event → Answer → Type 0
+ReadEnds id ds asked (Ok kind) es answer =
+    TellsBy kind (λ a. OfPlaced (λ d. TellsOf d a) (device_with (bytes_of id) ds)) TellsFault asked (receptions es) answer
+ReadEnds id ds asked (Err e) es answer = (es ≡ []) × (poll_answer e ≡ Some answer)
+
+-- The law of a read, over the devices that are placed: first it selects, then it asks what it asks of the tag. No request is
+-- cut from what came back of it. The field is lost exactly where a Break was used.
+pub record ReadTells (id : DeviceId) (ds : List Device) (asked : List Signal) (events : List Event) (answer : Answer) : Type 0 where
+  pub first : List Event
+  pub rest : List Event
+  pub parts : events ≡ first ++ rest
+  pub cut : back_of rest ≡ backs.Nothing
+  pub polled : Result SeenKind PollFault
+  pub selected : selecting id (receptions first) ≡ Told polled []
+  pub cause : HasPollCause id ds polled first
+  pub ends : ReadEnds id ds asked polled rest answer
+  pub lost : (answer ≡ answers.FieldLost) ↔ (0 < breaks events)
+
+-- What a search answers, by what it has come to. The other faults never end one on the bench.
+abbrev pub TellsFound : Result Everybody PollFault → Answer → Type 0
+TellsFound (Ok e) answer = answer ≡ answers.Found (seen_all e) (is_crowd e.others)
+TellsFound (Err faults.Nobody) answer = ⊥
+TellsFound (Err faults.Disturbed) answer = answer ≡ answers.Disturbed
+TellsFound (Err faults.FieldLost) answer = answer ≡ answers.FieldLost
+TellsFound (Err faults.Memory) answer = ⊥
+TellsFound (Err faults.NotFound) answer = ⊥
+TellsFound (Err faults.BadAnswer) answer = ⊥

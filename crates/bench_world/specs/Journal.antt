@@ -1,0 +1,32 @@
+-- Which journals are legal for the lines of a script.
+use Rattle.std.specs.Prelude.{◌≡◌, ℕ, ◌+◌, List, [], ◌∷◌, if◌then◌else◌}
+use Rattle.bench_world.specs.declared.entry.Entry.{Entry}
+use Rattle.bench_world.specs.Legal.{EachLegal, first_state}
+use Rattle.bench_script.specs.Script.{Spells, is_skipped}
+
+-- a line with its number
+pub record NumberedLine : Type 0 where
+  pub number : ℕ
+  pub text : List ℕ
+
+-- the lines that ask for something, numbered from this number on; a line that asks for nothing counts too
+abbrev pub asking_lines : ℕ → List (List ℕ) → List NumberedLine
+asking_lines n [] = []
+asking_lines n (l ∷ ls) = if is_skipped l then asking_lines (n + 1) ls else record { number = n; text = l } ∷ asking_lines (n + 1) ls
+
+-- an entry for each line, in order, with its number and the command that it spells
+abbrev pub AreEntriesOf : List NumberedLine → List Entry → Type 0
+AreEntriesOf [] [] = Unit {0}
+AreEntriesOf (l ∷ ls) (e ∷ es) = (e.line ≡ l.number) × Spells l.text e.command × AreEntriesOf ls es
+AreEntriesOf [] (e ∷ es) = ⊥
+AreEntriesOf (l ∷ ls) [] = ⊥
+
+-- the entries of these lines, of which the first has this number
+abbrev pub Numbered : ℕ → List (List ℕ) → List Entry → Type 0
+Numbered n lines entries = AreEntriesOf (asking_lines n lines) entries
+
+-- The journal is one that these lines may have: an entry for each that asks for something, and each entry legal behind
+-- those before it.
+pub record Legal (lines : List (List ℕ)) (journal : List Entry) : Type 0 where
+  pub numbered : Numbered 1 lines journal
+  pub steps : EachLegal first_state journal

@@ -1,0 +1,182 @@
+-- Which entries a bench may have: what it accepts, what each command changes, which request is due, and what it
+-- answers. A later command adds a case to each definition.
+use Rattle.std.specs.Prelude.{◌≡◌, ℕ, ◌*◌, ◌-◌, ◌<◌, ◌≤◌, List, [], ◌∷◌, ◌++◌, map, length, replicate, None, IsSome, Ok, Err, false}
+use Rattle.nfc_base.specs.declared.event.Event.{Event}
+use Rattle.nfc_base.specs.declared.event.Fate.{Fate}
+use Rattle.nfc_base.specs.Signal.{Signal}
+use Rattle.air_core.specs.World.{World}
+use Rattle.air_core.specs.Conversation.{Note, Next, Over, receptions, replay, queue_after, AreTurns, FatesFrom, EachDue}
+use Rattle.t2t_tag.specs.Store.{IsT2Store}
+use Rattle.t4t_tag.specs.Store.{IsT4Store, file_size}
+use Rattle.t5t_tag.specs.Store.{IsT5Store}
+use Rattle.bench_script.specs.declared.command.Command.{Command}
+use Rattle.bench_script.specs.declared.command.Command.TheVariants.{Skip, Fates, PlaceT2, PlaceT4, PlaceT5, Lock, Remove, Dump, Find, Read}
+use Rattle.bench_script.specs.declared.command.DeviceId.{DeviceId}
+use Rattle.bench_devices.specs.declared.device.Device.{Device}
+use Rattle.bench_world.specs.declared.entry.Answer.{Answer}
+use Rattle.bench_world.specs.declared.entry.Answer.TheVariants as answers
+use Rattle.bench_world.specs.declared.entry.Entry.{Entry}
+use Rattle.bench_devices.specs.Device.{air, most_devices, device_store, new_t2, new_t4, new_t5, blocks_of, device_locked, memory_in}
+use Rattle.bench_devices.specs.declared.polling.SeenKind.{SeenKind}
+use Rattle.bench_devices.specs.CardAsking.{tag_next}
+use Rattle.bench_script.specs.DeviceIds.{bytes_of}
+use Rattle.bench_devices.specs.Polling.{Followed, Asks, Told, asks, selecting, finding_all}
+use Rattle.bench_devices.specs.Placed.{device_with, without, with_changed, OfPlaced, IfPlaced}
+use Rattle.bench_devices.specs.Reading.{AsksOf}
+use Rattle.bench_world.specs.Answering.{ReadTells, TellsFound}
+use Rattle.bench_devices.specs.Answering.{FindTells}
+
+-- what stands between two commands: the world, and the fates that are left
+pub record State : Type 0 where
+  pub world : World Device
+  pub queue : List Fate
+
+-- before the first command: no device, dark, and no fate
+abbrev pub first_state : State
+first_state = record { world = record { lit = false; listeners = [] }; queue = [] }
+
+-- the memory of a new tag of so many bytes: the given ones, then zeros
+abbrev pub memory_of : ℕ → List ℕ → List ℕ
+memory_of size head = head ++ replicate (size - length head) 0
+
+-- There is room for one more device, and none has this identifier.
+pub record IsFree (s : State) (id : List ℕ) : Type 0 where
+  pub room : length s.world.listeners < most_devices
+  pub fresh : device_with id s.world.listeners ≡ None
+
+-- A Type 2 tag may be placed: the given bytes fit, and its store is one of a tag.
+pub record MayPlaceT2 (s : State) (id : List ℕ) (blocks : ℕ) (head : List ℕ) : Type 0 where
+  pub free : IsFree s id
+  pub fits : length head ≤ 4 * blocks
+  pub store : IsT2Store (memory_of (4 * blocks) head)
+
+-- A Type 4 tag may be placed: the given bytes fit into the NDEF file, which is as long as the container says, and its store
+-- is one of a tag.
+pub record MayPlaceT4 (s : State) (id : List ℕ) (code : ℕ) (container head : List ℕ) : Type 0 where
+  pub free : IsFree s id
+  pub fits : length head ≤ file_size container
+  pub store : IsT4Store code container (memory_of (file_size container) head)
+
+-- A Type 5 tag may be placed: likewise.
+pub record MayPlaceT5 (s : State) (id : List ℕ) (blocks size : ℕ) (head : List ℕ) : Type 0 where
+  pub free : IsFree s id
+  pub fits : length head ≤ size * blocks
+  pub store : IsT5Store size (memory_of (size * blocks) head)
+
+-- a device with this identifier is placed
+abbrev pub IsPlaced : State → DeviceId → Type 0
+IsPlaced s id = IsSome (device_with (bytes_of id) s.world.listeners)
+
+-- The device with this identifier has this block. Only a Type 2 or Type 5 tag has one that can be locked.
+abbrev pub HasBlock : State → DeviceId → ℕ → Type 0
+HasBlock s id block = OfPlaced (λ d. block < blocks_of d) (device_with (bytes_of id) s.world.listeners)
+
+-- The conditions of a command beside its grammar. Only what is placed can be taken away, or shows what it holds.
+abbrev pub IsAccepted : State → Command → Type 0
+IsAccepted s Skip = Unit {0}
+IsAccepted s (Fates fates) = Unit {0}
+IsAccepted s (PlaceT2 id blocks head) = MayPlaceT2 s id blocks head
+IsAccepted s (PlaceT4 id code container head) = MayPlaceT4 s id code container head
+IsAccepted s (PlaceT5 id blocks size head) = MayPlaceT5 s id blocks size head
+IsAccepted s (Lock id block) = HasBlock s id block
+IsAccepted s (Remove id) = IsPlaced s id
+IsAccepted s (Dump id) = IsPlaced s id
+IsAccepted s Find = Unit {0}
+IsAccepted s (Read id) = Unit {0}
+
+-- the state with one more device
+abbrev pub with_device : State → Device → State
+with_device s d = record { world = record { lit = s.world.lit; listeners = s.world.listeners ++ d ∷ [] }; queue = s.queue }
+
+-- the state with the device that has an identifier taken away
+abbrev pub without_device : State → DeviceId → State
+without_device s id = record { world = record { lit = s.world.lit; listeners = without (bytes_of id) s.world.listeners }; queue = s.queue }
+
+-- the state in which the device with an identifier has one block more locked
+abbrev pub with_locked : State → DeviceId → ℕ → State
+with_locked s id block = record { world = record { lit = s.world.lit; listeners = with_changed (device_locked block) (bytes_of id) s.world.listeners }; queue = s.queue }
+
+-- What a command itself changes, before anything is sent: fates are appended, devices are placed and taken away, and a block is
+-- locked.
+abbrev pub changed : State → Command → State
+changed s (Fates fates) = record { world = s.world; queue = s.queue ++ fates }
+changed s (PlaceT2 id blocks head) = with_device s (new_t2 id (memory_of (4 * blocks) head))
+changed s (PlaceT4 id code container head) = with_device s (new_t4 id code container (memory_of (file_size container) head))
+changed s (PlaceT5 id blocks size head) = with_device s (new_t5 id size (memory_of (size * blocks) head))
+changed s (Lock id block) = with_locked s id block
+changed s (Remove id) = without_device s id
+changed s c = s
+
+-- What a command asks of its tag, from the first command of the tag to the last. Only a read of a placed one asks anything.
+abbrev pub IsAskedBy : State → Command → List Signal → Type 0
+IsAskedBy s (Read id) asked = IfPlaced (λ d. AsksOf d asked) (asked ≡ []) (device_with (bytes_of id) s.world.listeners)
+IsAskedBy s c asked = asked ≡ []
+
+-- a command that selects a tag, and then asks these commands of it, by the kind that it is seen to be of
+abbrev pub then_asks : List Signal → Followed SeenKind → Next
+then_asks asked (Asks n) = n
+then_asks asked (Told (Ok kind) ns) = tag_next kind asked ns
+then_asks asked (Told (Err e) ns) = Over
+
+-- What is due in a command, by what the reader knows. Nothing is sent but in a read and in a search.
+abbrev pub due : List Signal → Command → List Note → Next
+due asked Find ns = asks (finding_all ns)
+due asked (Read id) ns = then_asks asked (selecting id ns)
+due asked c ns = Over
+
+-- what stays of the devices when the field goes dark
+abbrev pub stable : World Device → List (List ℕ)
+stable w = map device_store w.listeners
+
+-- A search and a read change no store.
+pub record ReadLaw (s : State) (id : DeviceId) (asked : List Signal) (events : List Event) (answer : Answer) : Type 0 where
+  pub tells : ReadTells id s.world.listeners asked events answer
+  pub stays : stable (replay air s.world events) ≡ stable s.world
+
+pub record FindLaw (s : State) (events : List Event) (answer : Answer) : Type 0 where
+  pub tells : FindTells TellsFound s.world.listeners events answer
+  pub stays : stable (replay air s.world events) ≡ stable s.world
+
+-- A dump tells what the device with this identifier holds.
+abbrev pub DumpLaw : State → DeviceId → Answer → Type 0
+DumpLaw s id answer = OfPlaced (λ d. answer ≡ answers.Store (memory_in d)) (device_with (bytes_of id) s.world.listeners)
+
+-- the law of the answers; a line that asks for nothing has none
+abbrev pub AnswerLaw : State → Command → List Signal → List Event → Answer → Type 0
+AnswerLaw s Skip asked events answer = ⊥
+AnswerLaw s (Fates fates) asked events answer = answer ≡ answers.Done
+AnswerLaw s (PlaceT2 id blocks head) asked events answer = answer ≡ answers.Done
+AnswerLaw s (PlaceT4 id code container head) asked events answer = answer ≡ answers.Done
+AnswerLaw s (PlaceT5 id blocks size head) asked events answer = answer ≡ answers.Done
+AnswerLaw s (Lock id block) asked events answer = answer ≡ answers.Done
+AnswerLaw s (Remove id) asked events answer = answer ≡ answers.Done
+AnswerLaw s (Dump id) asked events answer = DumpLaw s id answer
+AnswerLaw s Find asked events answer = FindLaw s events answer
+AnswerLaw s (Read id) asked events answer = ReadLaw s id asked events answer
+
+-- From this state a command may be obeyed so.
+pub record LegalStep (s : State) (c : Command) (events : List Event) (answer : Answer) : Type 0 where
+  pub accepted : IsAccepted s c
+  pub turns : AreTurns air (changed s c).world events
+  pub fates : FatesFrom (changed s c).queue events
+  pub asked : List Signal
+  pub asks : IsAskedBy s c asked
+  pub each : EachDue (due asked c) [] events
+  pub over : due asked c (receptions events) ≡ Over
+  pub answered : AnswerLaw s c asked events answer
+
+-- the state after a command, after an entry, and after a journal
+abbrev pub state_after : State → Command → List Event → State
+state_after s c events = record { world = replay air (changed s c).world events; queue = queue_after (changed s c).queue events }
+
+abbrev pub state_from : State → List Entry → State
+state_from s [] = s
+state_from s (e ∷ es) = state_from (state_after s e.command e.events) es
+
+abbrev pub state_of : List Entry → State
+state_of journal = state_from first_state journal
+
+-- each entry is legal behind those before it
+abbrev pub EachLegal : State → List Entry → Type 0
+EachLegal s [] = Unit {0}
+EachLegal s (e ∷ es) = LegalStep s e.command e.events e.answer × EachLegal (state_after s e.command e.events) es

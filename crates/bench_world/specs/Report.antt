@@ -1,0 +1,97 @@
+-- The report: the text of an entry, by the entry alone. Its form is this project's own.
+use Rattle.std.specs.Prelude.{ℕ, List, [], ◌++◌, codes, length, ◌==◌, if◌then◌else◌, Bool, true, false}
+use Rattle.std.specs.List.{flat_map}
+use Rattle.std.specs.Fmt.{decimal}
+use Rattle.nfc_base.specs.Signal.{Signal}
+use Rattle.nfc_base.specs.declared.event.Event.{Event}
+use Rattle.nfc_base.specs.declared.event.Event.TheVariants.{Reset, Request, Answer, Clash}
+use Rattle.nfc_base.specs.declared.event.Fate.{Fate}
+use Rattle.nfc_base.specs.declared.event.Fate.TheVariants.{Pass, Damage, Lose, Break}
+use Rattle.bench_world.specs.declared.entry.Answer.{Answer as Said}
+use Rattle.bench_world.specs.declared.entry.Answer.TheVariants.{Done, Store, Found, Message, NotNdef, Version, NoRead, Sectors, BadSize, NoMessageTlv, BadTlv, Disturbed, FieldLost, NotFound, SixBad}
+use Rattle.bench_world.specs.declared.entry.Entry.{Entry}
+use Rattle.bench_world.specs.declared.entry.Seen.{Seen}
+use Rattle.bench_devices.specs.declared.polling.SeenKind.{SeenKind}
+use Rattle.bench_devices.specs.declared.polling.SeenKind.TheVariants as kinds
+use Rattle.bench_script.specs.DeviceIds.{bytes_of}
+use Rattle.bench_script.specs.Canonical.{hex_text}
+
+-- how many bits of the last byte are sent, where not all are
+abbrev pub tail_text : ℕ → List ℕ
+tail_text tail = if tail == 0 then [] else codes "/" ++ decimal tail
+
+-- FRAME
+abbrev pub frame_text : Signal → List ℕ
+frame_text f = hex_text f.bytes ++ tail_text f.tail
+
+-- FATE
+abbrev pub fate_text : Fate → List ℕ
+fate_text Pass = codes "pass"
+fate_text Damage = codes "damage"
+fate_text Lose = codes "lose"
+fate_text Break = codes "break"
+
+-- a transmission: FRAME FATE
+abbrev pub sent_text : Signal → Fate → List ℕ
+sent_text f x = frame_text f ++ codes " " ++ fate_text x
+
+-- an event
+abbrev pub event_text : Event → List ℕ
+event_text Reset = codes "! reset"
+event_text (Request f x) = codes "> " ++ sent_text f x
+event_text (Answer f x) = codes "< " ++ sent_text f x
+event_text (Clash f x) = codes "* " ++ sent_text f x
+
+-- whether the message may be written
+abbrev pub access_text : Bool → List ℕ
+access_text true = codes "writable"
+access_text false = codes "readonly"
+
+-- KIND
+abbrev pub kind_text : SeenKind → List ℕ
+kind_text kinds.T2 = codes "t2"
+kind_text kinds.T4 = codes "t4"
+kind_text kinds.T5 = codes "t5"
+kind_text kinds.Peer = codes "peer"
+
+-- a device that was found: a space, then ID:KIND
+abbrev pub seen_text : Seen → List ℕ
+seen_text s = codes " " ++ hex_text (bytes_of s.id) ++ codes ":" ++ kind_text s.kind
+
+-- how many devices were found, and which
+abbrev pub found_text : List Seen → Bool → List ℕ
+found_text devices crowd = codes "found " ++ decimal (length devices) ++ flat_map seen_text devices ++ (if crowd then codes " crowd" else [])
+
+-- ANSWER
+abbrev pub answer_text : Said → List ℕ
+answer_text Done = codes "ok"
+answer_text NotNdef = codes "not ndef"
+answer_text Version = codes "version"
+answer_text NoRead = codes "no read"
+answer_text Sectors = codes "sectors"
+answer_text BadSize = codes "bad size"
+answer_text NoMessageTlv = codes "no message tlv"
+answer_text BadTlv = codes "bad tlv"
+answer_text Disturbed = codes "disturbed"
+answer_text FieldLost = codes "field lost"
+answer_text NotFound = codes "not found"
+answer_text SixBad = codes "six bad"
+answer_text (Store bytes) = codes "store " ++ hex_text bytes
+answer_text (Found devices crowd) = found_text devices crowd
+answer_text (Message message writable) = codes "message " ++ hex_text message ++ codes " " ++ access_text writable
+
+-- a line of the report, for line n of the script
+abbrev pub line_text : ℕ → List ℕ → List ℕ
+line_text n body = decimal n ++ codes " " ++ body ++ codes "\n"
+
+-- a line for each event
+abbrev pub events_text : ℕ → List Event → List ℕ
+events_text n es = flat_map (λ e. line_text n (event_text e)) es
+
+-- the text of an entry: its events, unless quiet, and its answer
+abbrev pub entry_text : Bool → Entry → List ℕ
+entry_text quiet e = (if quiet then [] else events_text e.line e.events) ++ line_text e.line (answer_text e.answer)
+
+-- the text of some entries
+abbrev pub report_text : Bool → List Entry → List ℕ
+report_text quiet es = flat_map (entry_text quiet) es

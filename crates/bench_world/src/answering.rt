@@ -1,0 +1,126 @@
+//! Which answers tell what selecting, reading and searching came to.
+
+ghost use Rattle.std.specs.Prelude.{◌≡◌, ◌⊎◌, Some, IfOk, IsSome};
+ghost use Rattle.nfca_poll.specs.declared.fault.PollFault.TheVariants as faults;
+ghost use Rattle.bench_world.specs.Answering.{poll_answer, told_by, MayEnd};
+ghost use Rattle.bench_world.specs.Crowded.{seen_card, seen_all, is_crowd};
+
+use crate::entry::{Answer, Seen};
+use bench_devices::{Everybody, SeenKind};
+use bench_script::DeviceId;
+use nfc_base::Items;
+use nfca_poll::{Kind, Picked, PollFault, Vcrowd};
+use std::alloc::{AllocError, Global};
+use tag_reader::{Found, ReadFault};
+
+/// The answer that tells of a fault of polling.
+pub fn missed(fault: PollFault) -> Result<Answer, AllocError>
+    requires { IsSome (poll_answer fault) ⊎ (fault ≡ faults.Memory) }
+    ensures { IfOk result (λ answer. poll_answer fault ≡ Some answer) }
+{
+    match fault {
+        PollFault::Disturbed => Ok(Answer::Disturbed),
+        PollFault::FieldLost => Ok(Answer::FieldLost),
+        PollFault::NotFound => Ok(Answer::NotFound),
+        PollFault::Memory => Err(AllocError),
+        PollFault::Nobody | PollFault::BadAnswer => unreachable!(),
+    }
+}
+
+/// The answer that tells what a read came to. A tag of the bench refuses no READ that is asked, and answers as it may.
+pub fn told(read: Result<Found, ReadFault>) -> Result<Answer, AllocError>
+    requires { MayEnd read }
+    ensures { IfOk result (λ answer. told_by read ≡ Some answer) }
+{
+    match read {
+        Ok(found) => Ok(message(found)),
+        Err(fault) => unread(fault),
+    }
+}
+
+/// The answer that tells of a message.
+fn message(found: Found) -> Answer
+    ensures { result ≡ Answer.Message found.message found.writable }
+{
+    let Found {
+        message,
+        site: _,
+        writable,
+    } = found;
+    Answer::Message { message, writable }
+}
+
+/// The answer that tells why there is no message.
+fn unread(fault: ReadFault) -> Result<Answer, AllocError>
+    requires { MayEnd (Err fault) }
+    ensures { IfOk result (λ answer. told_by (Err fault) ≡ Some answer) }
+{
+    match fault {
+        ReadFault::NotNdef => Ok(Answer::NotNdef),
+        ReadFault::Version => Ok(Answer::Version),
+        ReadFault::NoRead => Ok(Answer::NoRead),
+        ReadFault::Sectors => Ok(Answer::Sectors),
+        ReadFault::BadSize => Ok(Answer::BadSize),
+        ReadFault::NoMessageTlv => Ok(Answer::NoMessageTlv),
+        ReadFault::BadTlv => Ok(Answer::BadTlv),
+        ReadFault::FieldLost => Ok(Answer::FieldLost),
+        ReadFault::SixBad => Ok(Answer::SixBad),
+        ReadFault::Memory => Err(AllocError),
+        ReadFault::Refused(_) | ReadFault::Protocol => unreachable!(),
+    }
+}
+
+/// What a search tells of an NFC-A device.
+fn seen(picked: Picked) -> Seen
+    ensures { result ≡ seen_card picked }
+{
+    let Picked { id, kind } = picked;
+    let kind = match kind {
+        Kind::T2 => SeenKind::T2,
+        Kind::T4 => SeenKind::T4,
+        Kind::Peer => SeenKind::Peer,
+    };
+    Seen {
+        id: DeviceId::A(id),
+        kind,
+    }
+}
+
+/// The devices that a search lists: those of NFC-A, and behind them the only Type 5 tag.
+fn listed(alloc: Global, picked: Vec<Picked>, others: Vcrowd) -> Result<Items<Seen>, AllocError>
+    ensures { IfOk result (λ devices. devices ≡ seen_all (record { cards = picked.items; others = others })) }
+{
+    let mut devices = Vec::new(alloc);
+    devices.reserve(picked.len() + 1)?;
+    for device in picked {
+        devices.push(seen(device))?;
+    }
+    if let Vcrowd::One(id) = others {
+        devices.push(Seen {
+            id: DeviceId::V(id),
+            kind: SeenKind::T5,
+        })?;
+    }
+    Ok(Items::new(devices))
+}
+
+/// Whether there are several NFC-V devices.
+fn is_crowd(others: Vcrowd) -> bool
+    ensures { result ≡ is_crowd others }
+{
+    match others {
+        Vcrowd::Nobody | Vcrowd::One(_) => false,
+        Vcrowd::Crowd => true,
+    }
+}
+
+/// The answer that tells of the devices that were found.
+pub fn found(alloc: Global, everybody: Everybody) -> Result<Answer, AllocError>
+    ensures { IfOk result (λ a. a ≡ Answer.Found (seen_all everybody) (is_crowd everybody.others)) }
+{
+    let Everybody { cards, others } = everybody;
+    Ok(Answer::Found {
+        devices: listed(alloc, cards.into_vec(), others)?,
+        crowd: is_crowd(others),
+    })
+}

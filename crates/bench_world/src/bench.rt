@@ -1,0 +1,425 @@
+//! The bench: the field, and the journal of what was obeyed.
+
+ghost use Rattle.std.specs.Prelude.{◌≡◌, ◌≢◌, ◌↔◌, ◌+◌, ◌*◌, ◌≤◌, ◌<◌, ◌++◌, List, [], ◌∷◌, Bool, false, is_some, None, MatchOption, IsTrue, IfOk, OnOk, OnErr, IsErrOf, vec_len, vec_capacity, length};
+ghost use Rattle.std.specs.List.{AllByRecursion};
+ghost use Rattle.nfc_base.specs.declared.frame.Tech.TheVariants as techs;
+ghost use Rattle.bench_devices.specs.Device.{device_tech};
+ghost use Rattle.bench_world.specs.Legal.{IsAccepted, memory_of, state_of};
+ghost use Rattle.bench_devices.specs.Device.{most_devices};
+ghost use Rattle.bench_devices.specs.Placed.{device_with};
+ghost use Rattle.bench_world.specs.Obeying.{Obeys, Obeyed, RefusedOnly, obey_fault_number};
+ghost use Rattle.bench_devices.specs.Phases.{IsIdle};
+
+use crate::answering::{found, missed, told};
+use crate::entry::{Answer, Entry};
+use air_core::Field;
+use bench_devices::{
+    Device, PoweredTag, Selection, T2Upper, T4Upper, is_named, place_of, read, select, sweep_field,
+};
+use bench_script::{Command, DeviceId};
+use nfc_base::{Fate, Items};
+use nfca_poll::{Front, Ident};
+use std::alloc::{AllocError, Global};
+use std::marker::Model;
+use t2t_tag::T2Tag;
+use t4t_tag::{T4Tag, named_size};
+use t5t_tag::T5Tag;
+use thiserror::Error;
+
+/// Why a bench obeys no command.
+#[derive(Clone, Copy, Debug, PartialEq, Eq, Error)]
+pub enum ObeyFault {
+    #[error("the bench is in no state for this command")]
+    Refused = 1,
+    #[error("out of memory")]
+    Memory = 2,
+}
+
+impl ObeyFault {
+    /// Its number in reports and tests.
+    pub fn number(&self) -> u8
+        ensures { result ≡ obey_fault_number self.now }
+    {
+        *self as u8
+    }
+}
+
+/// How many devices may stand in the field at once (this project's limit).
+const MOST_DEVICES: usize = 16;
+
+/// The memory of a new tag of so many bytes.
+fn memory(alloc: Global, size: usize, head: &[u8]) -> Result<Vec<u8>, AllocError>
+    requires { length head.now ≤ size }
+    ensures { IfOk result (λ v. v.items ≡ memory_of size head.now) }
+{
+    let mut bytes = Vec::from_slice(alloc, head)?;
+    bytes.resize(size, 0)?;
+    Ok(bytes)
+}
+
+/// Whether a device with this identifier is placed.
+fn is_placed(devices: &[Device], id: &[u8]) -> bool
+    ensures { result ≡ is_some (device_with id.now devices.now) }
+{
+    for device in devices {
+        if is_named(device, id) {
+            return true;
+        }
+    }
+    false
+}
+
+/// Whether there is room for a device, and none has its identifier.
+fn is_free(devices: &[Device], id: &[u8]) -> bool
+    ensures { IsTrue result ↔ ((length devices.now < most_devices) × (device_with id.now devices.now ≡ None)) }
+{
+    devices.len() < MOST_DEVICES && !is_placed(devices, id)
+}
+
+/// Puts a Type 2 tag into the field.
+fn place_t2(
+    alloc: Global,
+    field: &mut Field<Device>,
+    id: &Ident,
+    blocks: u16,
+    head: &[u8],
+) -> Result<Answer, ObeyFault>
+    requires { IsIdle field.old }
+    ensures ok { IfOk result (λ a. Obeyed field.old field.new (Command.PlaceT2 id.now blocks head.now) a) }
+    ensures refused { IsErrOf result ObeyFault.Refused → (field.new ≡ field.old) }
+    ensures cause { RefusedOnly result field.old (Command.PlaceT2 id.now blocks head.now) }
+{
+    let size = 4 * blocks as usize;
+    let devices = field.listeners();
+    if !is_free(devices, id.view()) || head.len() > size {
+        return Err(ObeyFault::Refused);
+    }
+    let Ok(bytes) = memory(alloc, size, head) else {
+        return Err(ObeyFault::Memory);
+    };
+    let Ok(tag) = T2Tag::new(bytes) else {
+        return Err(ObeyFault::Refused);
+    };
+    match field.put_in(Device::T2(Front::new(id.copy(), T2Upper::new(tag)))) {
+        Ok(_) => Ok(Answer::Done),
+        Err(_) => Err(ObeyFault::Memory),
+    }
+}
+
+/// Puts a Type 4 tag into the field.
+fn place_t4(
+    alloc: Global,
+    field: &mut Field<Device>,
+    id: &Ident,
+    code: u8,
+    container: &[u8],
+    head: &[u8],
+) -> Result<Answer, ObeyFault>
+    requires { IsIdle field.old }
+    ensures ok { IfOk result (λ a. Obeyed field.old field.new (Command.PlaceT4 id.now code container.now head.now) a) }
+    ensures refused { IsErrOf result ObeyFault.Refused → (field.new ≡ field.old) }
+    ensures cause { RefusedOnly result field.old (Command.PlaceT4 id.now code container.now head.now) }
+{
+    let Some(size) = named_size(container) else {
+        return Err(ObeyFault::Refused);
+    };
+    let size = size as usize;
+    if !is_free(field.listeners(), id.view()) || head.len() > size {
+        return Err(ObeyFault::Refused);
+    }
+    let Ok(files) = Vec::from_slice(alloc, container) else {
+        return Err(ObeyFault::Memory);
+    };
+    let Ok(file) = memory(alloc, size, head) else {
+        return Err(ObeyFault::Memory);
+    };
+    let Ok(tag) = T4Tag::new(code, files, file) else {
+        return Err(ObeyFault::Refused);
+    };
+    match field.put_in(Device::T4(Front::new(id.copy(), T4Upper::new(tag)))) {
+        Ok(_) => Ok(Answer::Done),
+        Err(_) => Err(ObeyFault::Memory),
+    }
+}
+
+/// Puts a Type 5 tag into the field.
+fn place_t5(
+    alloc: Global,
+    field: &mut Field<Device>,
+    id: [u8; 8],
+    blocks: u16,
+    size: u8,
+    head: &[u8],
+) -> Result<Answer, ObeyFault>
+    requires { IsIdle field.old }
+    ensures ok { IfOk result (λ a. Obeyed field.old field.new (Command.PlaceT5 id blocks size head.now) a) }
+    ensures refused { IsErrOf result ObeyFault.Refused → (field.new ≡ field.old) }
+    ensures cause { RefusedOnly result field.old (Command.PlaceT5 id blocks size head.now) }
+{
+    let bytes = size as usize * blocks as usize;
+    if !is_free(field.listeners(), &id) || head.len() > bytes {
+        return Err(ObeyFault::Refused);
+    }
+    let Ok(store) = memory(alloc, bytes, head) else {
+        return Err(ObeyFault::Memory);
+    };
+    let Ok(tag) = T5Tag::new(id, store, size) else {
+        return Err(ObeyFault::Refused);
+    };
+    match field.put_in(Device::T5(PoweredTag::new(tag))) {
+        Ok(_) => Ok(Answer::Done),
+        Err(_) => Err(ObeyFault::Memory),
+    }
+}
+
+/// Takes a device away.
+fn remove_device(field: &mut Field<Device>, id: &DeviceId) -> Result<Answer, ObeyFault>
+    requires { IsIdle field.old }
+    ensures ok { IfOk result (λ a. Obeyed field.old field.new (Command.Remove id.now) a) }
+    ensures refused { IsErrOf result ObeyFault.Refused → (field.new ≡ field.old) }
+    ensures cause { RefusedOnly result field.old (Command.Remove id.now) }
+{
+    let bytes = id.bytes();
+    if !is_placed(field.listeners(), bytes) {
+        return Err(ObeyFault::Refused);
+    }
+    let place = place_of(field.listeners(), bytes);
+    let _ = field.take_out(place);
+    Ok(Answer::Done)
+}
+
+/// Locks a block of a tag.
+fn lock_block(field: &mut Field<Device>, id: &DeviceId, block: u16) -> Result<Answer, ObeyFault>
+    requires { IsIdle field.old }
+    ensures ok { IfOk result (λ a. Obeyed field.old field.new (Command.Lock id.now block) a) }
+    ensures refused { IsErrOf result ObeyFault.Refused → (field.new ≡ field.old) }
+    ensures cause { RefusedOnly result field.old (Command.Lock id.now block) }
+{
+    let bytes = id.bytes();
+    let devices = field.listeners();
+    if !is_placed(devices, bytes) {
+        return Err(ObeyFault::Refused);
+    }
+    let place = place_of(devices, bytes);
+    if block >= devices[place].blocks() {
+        return Err(ObeyFault::Refused);
+    }
+    field.listener(place).lock(block);
+    Ok(Answer::Done)
+}
+
+/// Tells what a tag holds.
+fn dump_store(alloc: Global, field: &Field<Device>, id: &DeviceId) -> Result<Answer, ObeyFault>
+    requires { IsIdle field.now }
+    ensures ok { IfOk result (λ a. Obeyed field.now field.now (Command.Dump id.now) a) }
+    ensures cause { RefusedOnly result field.now (Command.Dump id.now) }
+{
+    let bytes = id.bytes();
+    let devices = field.listeners();
+    if !is_placed(devices, bytes) {
+        return Err(ObeyFault::Refused);
+    }
+    let place = place_of(devices, bytes);
+    match Items::from_bytes(alloc, devices[place].memory()) {
+        Ok(store) => Ok(Answer::Store(store)),
+        Err(_) => Err(ObeyFault::Memory),
+    }
+}
+
+/// Appends fates for transmissions to come.
+fn add_fates(field: &mut Field<Device>, fates: &[Fate]) -> Result<Answer, ObeyFault>
+    requires { IsIdle field.old }
+    ensures ok { IfOk result (λ a. Obeyed field.old field.new (Command.Fates fates.now) a) }
+    ensures never { IsErrOf result ObeyFault.Refused → ⊥ }
+{
+    match field.add_fates(fates) {
+        Ok(()) => Ok(Answer::Done),
+        Err(_) => Err(ObeyFault::Memory),
+    }
+}
+
+/// Selects a tag and reads it.
+fn select_and_read(
+    alloc: Global,
+    field: &mut Field<Device>,
+    id: &DeviceId,
+) -> Result<Answer, AllocError>
+    requires { IsIdle field.old }
+    ensures { IfOk result (λ a. Obeyed field.old field.new (Command.Read id.now) a) }
+{
+    match select(alloc, field, id)? {
+        Selection::Place(place) => told(read(alloc, field, place)),
+        Selection::Missed(fault) => missed(fault),
+    }
+}
+
+/// Reads a tag, from a reset on.
+fn read_tag(alloc: Global, field: &mut Field<Device>, id: &DeviceId) -> Result<Answer, ObeyFault>
+    requires { IsIdle field.old }
+    ensures ok { IfOk result (λ a. Obeyed field.old field.new (Command.Read id.now) a) }
+    ensures never { IsErrOf result ObeyFault.Refused → ⊥ }
+{
+    match select_and_read(alloc, field, id) {
+        Ok(answer) => Ok(answer),
+        Err(_) => Err(ObeyFault::Memory),
+    }
+}
+
+/// Searches for all devices, and tells which were found.
+fn search(alloc: Global, field: &mut Field<Device>) -> Result<Answer, AllocError>
+    requires { IsIdle field.old }
+    ensures { IfOk result (λ a. Obeyed field.old field.new Command.Find a) }
+{
+    match sweep_field(alloc, field) {
+        Ok(everybody) => found(alloc, everybody),
+        Err(fault) => missed(fault),
+    }
+}
+
+/// Finds all devices.
+fn find(alloc: Global, field: &mut Field<Device>) -> Result<Answer, ObeyFault>
+    requires { IsIdle field.old }
+    ensures ok { IfOk result (λ a. Obeyed field.old field.new Command.Find a) }
+    ensures never { IsErrOf result ObeyFault.Refused → ⊥ }
+{
+    match search(alloc, field) {
+        Ok(answer) => Ok(answer),
+        Err(_) => Err(ObeyFault::Memory),
+    }
+}
+
+/// Does what a command asks.
+fn run_command(
+    alloc: Global,
+    field: &mut Field<Device>,
+    command: &Command,
+) -> Result<Answer, ObeyFault>
+    requires idle { IsIdle field.old }
+    requires asks { command.now ≢ Command.Skip }
+    ensures ok { IfOk result (λ a. Obeyed field.old field.new command.now a) }
+    ensures refused { IsErrOf result ObeyFault.Refused → (field.new ≡ field.old) }
+    ensures cause { RefusedOnly result field.old command.now }
+{
+    match command {
+        Command::Skip => unreachable!(),
+        Command::Fates(fates) => add_fates(field, fates.as_slice()),
+        Command::PlaceT2 { id, blocks, head } => {
+            place_t2(alloc, field, id, *blocks, head.as_slice())
+        }
+        Command::PlaceT4 {
+            id,
+            code,
+            container,
+            head,
+        } => place_t4(
+            alloc,
+            field,
+            id,
+            *code,
+            container.as_slice(),
+            head.as_slice(),
+        ),
+        Command::PlaceT5 {
+            id,
+            blocks,
+            size,
+            head,
+        } => place_t5(alloc, field, *id, *blocks, *size, head.as_slice()),
+        Command::Lock { id, block } => lock_block(field, id, *block),
+        Command::Remove { id } => remove_device(field, id),
+        Command::Dump { id } => dump_store(alloc, field, id),
+        Command::Find => find(alloc, field),
+        Command::Read { id } => read_tag(alloc, field, id),
+    }
+}
+
+/// A field, the devices in it, and the journal of the commands that were obeyed. Once want of memory has cut a command
+/// off it obeys none.
+#[derive(Drop)]
+pub struct Bench {
+    alloc: Global,
+    field: Field<Device>,
+    journal: Vec<Entry>,
+    spoiled: bool,
+}
+
+impl Model for Bench {
+    ghost use Rattle.std.specs.Prelude.{◌≡◌, false};
+    ghost use Rattle.bench_world.specs.Obeying.{Benched, IsReady};
+
+    ghost Value = { Benched };
+
+    ghost view = { λ b. record { journal = b.journal.items; spoiled = b.spoiled } };
+
+    ghost invariant = { λ b. b.spoiled ≡ false → IsReady b.field b.journal.items };
+}
+
+/// Adds an entry where there is room.
+fn record_entry(journal: &mut Vec<Entry>, entry: Entry)
+    requires { vec_len journal.old < vec_capacity journal.old }
+    ensures { journal.new.items ≡ journal.old.items ++ entry ∷ [] }
+{
+    let _ = journal.push(entry);
+}
+
+impl Bench {
+    /// A bench with no device and an empty journal.
+    pub fn new(alloc: Global) -> Bench
+        ensures { result ≡ record { journal = []; spoiled = false } }
+    {
+        Bench {
+            alloc,
+            field: Field::new(alloc),
+            journal: Vec::new(alloc),
+            spoiled: false,
+        }
+    }
+
+    /// What was obeyed so far.
+    pub fn journal(&self) -> &[Entry]
+        ensures { result.now ≡ self.now.journal }
+    {
+        self.journal.as_slice()
+    }
+
+    /// Obeys the command of a line, and adds its entry to the journal, none for a line that asks for nothing.
+    pub fn obey(&mut self, line: u32, command: &Command) -> Result<(), ObeyFault>
+        ensures ok { OnOk result (Obeys self.old.journal self.new.journal line command.now) }
+        ensures refused { IsErrOf result ObeyFault.Refused → (self.new ≡ self.old) }
+        ensures cause { IsErrOf result ObeyFault.Refused → IsAccepted (state_of self.old.journal) command.now → ⊥ }
+        ensures err { OnErr result (self.new.journal ≡ self.old.journal) }
+    {
+        if let Command::Skip = command {
+            return Ok(());
+        }
+        if self.spoiled {
+            return Err(ObeyFault::Memory);
+        }
+        let Ok(copy) = command.copy(self.alloc) else {
+            return Err(ObeyFault::Memory);
+        };
+        if self.journal.reserve(1).is_err() {
+            return Err(ObeyFault::Memory);
+        }
+        match run_command(self.alloc, &mut self.field, command) {
+            Ok(answer) => {
+                let events = Items::new(self.field.take_trace());
+                record_entry(
+                    &mut self.journal,
+                    Entry {
+                        line,
+                        command: copy,
+                        events,
+                        answer,
+                    },
+                );
+                Ok(())
+            }
+            Err(ObeyFault::Refused) => Err(ObeyFault::Refused),
+            Err(ObeyFault::Memory) => {
+                self.spoiled = true;
+                Err(ObeyFault::Memory)
+            }
+        }
+    }
+}

@@ -1,6 +1,0 @@
-use Rattle.std.proofs.Common.{◌≡◌, ◌++◌, drop}
-use Rattle.nfc_bench.specs.Report.{events_text}
-use Rattle.nfc_bench.proofs.report.push_events.Given as goal
-
-abbrev pub invariant-events : goal.invariant-events
-invariant-events l = l.text.items ++ events_text l.line (drop l.event-index l.events) ≡ l.fn.text.items ++ events_text l.line l.events

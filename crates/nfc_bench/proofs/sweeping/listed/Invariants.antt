@@ -1,6 +1,0 @@
-use Rattle.std.proofs.Common.{◌≡◌, ◌++◌, map}
-use Rattle.nfc_bench.specs.Crowded.{seen_card}
-use Rattle.nfc_bench.proofs.sweeping.listed.Given as goal
-
-abbrev pub invariant-loop-device : goal.invariant-loop-device
-invariant-loop-device l = l.devices.items ++ map seen_card l.device-iterator.rest.items ≡ map seen_card l.fn.picked.items
