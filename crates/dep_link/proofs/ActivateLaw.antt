@@ -1,0 +1,326 @@
+-- The wait of ATR_REQ at a target, turn by turn.
+use Rattle.std.proofs.Common.{◌≡◌, ℕ, zero, suc, ◌+◌, ◌<◌, ◌≤◌, inl, inr, List, [], ◌∷◌, ◌++◌, length, Bool, true, false, if◌then◌else◌, Option, Some, None, Err, refl, sym, ◌∙◌, ap, subst, arith, append_assoc, append-nil, length-append}
+use Rattle.std.specs.List.{AllByRecursion, filter_map, cons_option}
+use Rattle.nfc_base.specs.declared.frame.Tech.TheVariants.{A}
+use Rattle.nfc_base.specs.declared.event.Event.{Event}
+use Rattle.nfc_base.specs.declared.event.Fate.{Fate}
+use Rattle.nfc_base.specs.declared.event.Fate.TheVariants.{Pass, Damage, Lose, Break}
+use Rattle.nfc_base.specs.declared.event.Heard.{Heard}
+use Rattle.nfc_base.specs.declared.event.Heard.TheVariants.{Whole, Collided, Damaged, Silent}
+use Rattle.nfc_base.specs.declared.tag_link.AskFault.TheVariants as faults
+use Rattle.nfc_base.specs.declared.carrier.EndCause.TheVariants as cause
+use Rattle.nfc_base.specs.Signal.{Signal}
+use Rattle.nfc_base.specs.Far.{FarUse, Untouched, Restarts, Hands}
+use Rattle.nfc_base.specs.LinkTurns.{arrived}
+use Rattle.air_core.specs.declared.fault.AirFault.TheVariants as air
+use Rattle.air_core.specs.Joint.{joint, same_tech}
+use Rattle.air_core.specs.World.{World, hears, hands_over, answered_by, stepped_by, quiet_air}
+use Rattle.air_core.specs.Conversation.{note, replay, turn_events, first_fate, later_fates}
+use Rattle.air_core.specs.Turn.{Air, world, moment, TurnIs, HearSome, Transmits}
+use Rattle.air_core.specs.Turning.{going_start, going_turn}
+use Rattle.air_core.specs.Quiet.{EachQuiet, QuietTurn}
+use Rattle.air_core.specs.Waits.{Standing, Asking, Broken, stand, due_at, waits_next}
+use Rattle.air_core.specs.Waiting.{stand_on}
+use Rattle.air_core.specs.PlainTags.{IsAside, IsAlone}
+use Rattle.air_core.specs.PlainWaits.{after_bad}
+use Rattle.air_core.specs.declared.listener.Listener.{Ghosts}
+use Rattle.air_core.proofs.Quiet.{quiet_turns_to}
+use Rattle.air_core.proofs.PlainAside.{Laws, IsUnmoved, aside_silent, alone_says}
+use Rattle.air_core.proofs.PlainTurns.{one, joint_one, tag_events, tag_heard, turn_events_as, heard_as, asking_bad}
+use Rattle.arrayvec.specs.ArrayVec.{ArrayVec}
+use Rattle.dep_link.specs.Sizes.{initiator_lr}
+use Rattle.dep_link.specs.Frames.{air_frame, spelled}
+use Rattle.dep_link.specs.Target.{TargetState, TargetTurn, target_table, framed, heeded, restarted, atr_res}
+use Rattle.dep_link.specs.Initiator.{waiting}
+use Rattle.dep_link.specs.Exchange.{InStep, IsCut}
+use Rattle.dep_link.specs.Answering.{reply_for, payload_of, answering, answering_air}
+use Rattle.dep_link.specs.Peers.{target_use, answered_with, left_with, heard_with}
+use Rattle.dep_link.specs.Asking.{HasPeer}
+use Rattle.dep_link.specs.Activating.{atr_req, atr_frame, told_atr, RestartedTimes, sent_times, HasTarget, AtrSent, IsActivated, AtrFails}
+use Rattle.dep_link.proofs.Wire.{written_read, target_heeds}
+use Rattle.dep_link.proofs.Begun.{in_step_first}
+use Rattle.dep_link.proofs.Carrying.{arrived_append}
+use Rattle.dep_link.proofs.Answered.{Told, HandsNothing, DidBy, AnsweredTurn, answered_turn, stopped_at}
+use Rattle.dep_link.proofs.PeerTurns.{told, told_laws, alone_told, alone_back, left_by, alone_after}
+
+-- how many frames arrive in a turn whose request has this fate
+abbrev arrivals : Fate → ℕ
+arrivals Pass = 1
+arrivals Damage = 0
+arrivals Lose = 0
+arrivals Break = 0
+
+arrived_one : (f : Signal) (x y : Fate) (o : Option Signal) → length (arrived (tag_events f x y o)) ≡ arrivals x
+arrived_one f Pass y None = refl
+arrived_one f Pass Pass (Some g) = refl
+arrived_one f Pass Damage (Some g) = refl
+arrived_one f Pass Lose (Some g) = refl
+arrived_one f Pass Break (Some g) = refl
+arrived_one f Damage y o = refl
+arrived_one f Lose y o = refl
+arrived_one f Break y o = refl
+
+module _ {F : Type 0} (restarts : F → List ℕ → F → Type 0) (steps : F → List ℕ → List ℕ → F → Type 0) (general : List ℕ) where
+  none_more : (far far' : F) → far' ≡ far → (far0 : F) (n : ℕ) → RestartedTimes restarts general n far0 far → RestartedTimes restarts general (n + 0) far0 far'
+  none_more far far' d far0 n t =
+      let same : n ≡ n + 0 = omega arith in
+      subst (λ (m : ℕ). RestartedTimes restarts general m far0 far') same (subst (λ (y : F). RestartedTimes restarts general n far0 y) (sym d) t)
+
+  -- the far end was restarted once more where the frame arrived
+  once_more : (x : Fate) (r : List ℕ) (u : FarUse) (far far' : F) → u ≡ Restarts general → DidBy restarts steps x u r far far' → (far0 : F) (n : ℕ) → RestartedTimes restarts general n far0 far
+      → RestartedTimes restarts general (n + arrivals x) far0 far'
+  once_more Pass r Untouched far far' e d far0 n t = absurd (cc)
+  once_more Pass r (Hands payload) far far' e d far0 n t = absurd (cc)
+  once_more Pass r (Restarts g) far far' e d far0 n t =
+      let same : g ≡ general = cc in
+      let one : suc n ≡ n + 1 = omega arith in
+      subst (λ (m : ℕ). RestartedTimes restarts general m far0 far') one (far, t, subst (λ (z : List ℕ). restarts far z far') same d.0)
+  once_more Damage r u far far' e d far0 n t = none_more far far' d far0 n t
+  once_more Lose r u far far' e d far0 n t = none_more far far' d far0 n t
+  once_more Break r u far far' e d far0 n t = none_more far far' d far0 n t
+
+module _ {L F : Type 0} (k : Ghosts L) (target : L → TargetState) (restarts : F → List ℕ → F → Type 0) (old : Air L) (general : List ℕ) (t : HasTarget k target old general) (far0 : F) where
+  -- Where the wait stands after so many bad receptions.
+  pub record AtrOn (mid : Air L) (far : F) (bad : ℕ) : Type 0 where
+    pub heard : ℕ
+    pub alone : IsAlone k (k.identifier t.listener) mid.listeners t.place (sent_times k target t.listener (atr_frame general) heard)
+    pub lit : mid.lit ≡ old.lit
+    pub dim : mid.lit ≡ false → (mid ≡ old) × (far ≡ far0)
+    pub sent : AtrSent k target restarts old mid general far0 far (after_bad (atr_frame general) bad)
+
+module _ {L F : Type 0} (k : Ghosts L) (laws : Laws k) (target : L → TargetState) (restarts : F → List ℕ → F → Type 0) (steps : F → List ℕ → List ℕ → F → Type 0) (old : Air L) (general : List ℕ)
+    (short : length general ≤ 48) (t : HasTarget k target old general) (far0 : F) where
+  abbrev pub f : Signal
+  f = atr_frame general
+
+  abbrev pub l : L
+  l = t.listener
+
+  abbrev pub own : TargetState
+  own = target l
+
+  abbrev pub answer : Signal
+  answer = air_frame (atr_res own)
+
+  abbrev pub Sent : Air L → F → Standing → Type 0
+  Sent new far s = AtrSent k target restarts old new general far0 far s
+
+  -- what the target does at ATR_REQ
+  at_atr : (u : TargetState) → target_table u f ≡ framed (heeded u (atr_req general))
+  at_atr u = target_heeds u (atr_req general) (refl, omega arith, short)
+
+  same_id : (n : ℕ) → k.identifier (sent_times k target l f n) ≡ k.identifier l
+  same_id zero = refl
+  same_id (suc n) = (laws.step_keeps (sent_times k target l f n) f _).identifier' ∙ same_id n
+
+  same_tech_is : (n : ℕ) → k.machine.tech (sent_times k target l f n) ≡ k.machine.tech l
+  same_tech_is zero = refl
+  same_tech_is (suc n) = (laws.step_keeps (sent_times k target l f n) f _).tech' ∙ same_tech_is n
+
+  target_after : (n : ℕ) → target (sent_times k target l f (suc n)) ≡ restarted (target (sent_times k target l f n)) initiator_lr
+  target_after n = (t.takes.steps n).target_is ∙ ap (λ (z : TargetTurn). left_with z.state [] z.does) (at_atr (target (sent_times k target l f n)))
+
+  target_own : (n : ℕ) → target (sent_times k target l f (suc n)) ≡ restarted own initiator_lr
+  target_own zero = target_after zero
+  target_own (suc n) = target_after (suc n) ∙ ap (λ (u : TargetState). restarted u initiator_lr) (target_own n)
+
+  atr_same : (n : ℕ) → atr_res (target (sent_times k target l f n)) ≡ atr_res own
+  atr_same zero = refl
+  atr_same (suc n) = ap atr_res (target_after n) ∙ atr_same n
+
+  asks_far : (n : ℕ) → k.machine.handed (sent_times k target l f n) f ≡ Restarts general
+  asks_far n = (t.takes.steps n).asks ∙ ap (λ (z : TargetTurn). target_use z.does) (at_atr (target (sent_times k target l f n)))
+
+  says_own : (n : ℕ) → k.machine.answer (sent_times k target l f n) f (reply_for [] (k.machine.handed (sent_times k target l f n) f)) ≡ Some answer
+  says_own n =
+      (t.takes.steps n).answer ∙ ap (λ (z : TargetTurn). answered_with z.state [] z.does) (at_atr (target (sent_times k target l f n)))
+      ∙ ap (λ v. Some (air_frame v)) (atr_same n)
+
+  -- others are silent, and hand nothing over
+  aside_in : (m : Ghosts L) (ml : Laws m) (x : L) → IsAside m (k.identifier l) x → IsUnmoved m ml (k.identifier l) f x
+  aside_in m ml x s = aside_silent m ml (k.identifier l) A f refl tt x s
+
+  all_quiet : (ls : List L) → AllByRecursion (IsAside k (k.identifier l)) ls → EachQuiet k.machine f ls
+  all_quiet [] s = tt
+  all_quiet (x ∷ ls) s = ((aside_in k laws x s.0).quiet, all_quiet ls s.1)
+
+  abbrev pub On : Air L → F → ℕ → Type 0
+  On mid far bad = AtrOn k target restarts old general t far0 mid far bad
+
+  pub first_atr : On old far0 0
+  first_atr = record {
+    heard = 0;
+    alone = t.alone;
+    lit = refl;
+    dim = λ e. (refl, refl);
+    sent = record {
+      notes = [];
+      going = λ r. going_start (answering_air k.machine r) (waits_next (f ∷ [])) (moment old);
+      stands = refl;
+      events = [];
+      trace = sym (append-nil old.trace);
+      times = 0;
+      arrived = refl;
+      restarted = refl;
+    };
+  }
+
+  -- what a turn comes to, by what was heard
+  abbrev pub After : Air L → F → ℕ → Option Heard → Type 0
+  After new far bad None = Sent new far (Broken faults.FieldLost (f ∷ [])) × (new.lit ≡ false)
+  After new far bad (Some (Whole g)) =
+      (n : ℕ) × (g ≡ answer) × (sent : Sent new far (Asking 0 [])) × (0 < sent.times) × (new.lit ≡ true) × IsAlone k (k.identifier l) new.listeners t.place (sent_times k target l f (suc n))
+  After new far bad (Some (Collided g)) = On new far (suc bad)
+  After new far bad (Some Damaged) = On new far (suc bad)
+  After new far bad (Some Silent) = On new far (suc bad)
+
+  nothing_in : (x : Fate) (u : FarUse) → u ≡ Restarts general → HandsNothing x u
+  nothing_in Pass u e = ap payload_of e
+  nothing_in Damage u e = tt
+  nothing_in Lose u e = tt
+  nothing_in Break u e = tt
+
+  module _ (mid : Air L) (far : F) (bad : ℕ) (bound : bad < 6) (o : On mid far bad) where
+    abbrev now : L
+    now = sent_times k target l f o.heard
+
+    hears_atr : hears k.machine now f ≡ true
+    hears_atr = ap (λ u. same_tech u A) (same_tech_is o.heard ∙ t.takes.tech)
+
+    uses : hands_over k.machine now f ≡ Restarts general
+    uses = ap (λ v. if v then k.machine.handed now f else Untouched) hears_atr ∙ asks_far o.heard
+
+    asking : stand 0 (f ∷ []) o.sent.notes ≡ Asking bad (f ∷ [])
+    asking = o.sent.stands ∙ asking_bad f bad bound
+
+    module _ (new : Air L) (far' : F) where
+      -- what is known of the wait then, with the arrivals of this turn
+      abbrev SentOn : Fate → Option Heard → Type 0
+      SentOn x h = (s : Standing) → stand bad (f ∷ []) (note h ∷ []) ≡ s → (sent : Sent new far' s) × (sent.times ≡ o.sent.times + arrivals x)
+
+      on_bad : (x : Fate) (h : Option Heard) → SentOn x h → stand bad (f ∷ []) (note h ∷ []) ≡ after_bad f (suc bad) → mid.lit ≡ true → (n : ℕ) → IsAlone k (k.identifier l) new.listeners t.place (sent_times k target l f n)
+          → new.lit ≡ true → On new far' (suc bad)
+      on_bad x h s e m n alone lit = record { heard = n; alone = alone; lit = lit ∙ sym m ∙ o.lit; dim = λ d. absurd (cc); sent = (s (after_bad f (suc bad)) e).0 }
+
+      finish : (x y : Fate) → SentOn x (tag_heard x y (Some answer)) → mid.lit ≡ true
+          → new.lit ≡ (replay (quiet_air (told k laws []).machine) (world mid) (tag_events f x y (Some answer))).lit
+          → IsAlone k (k.identifier l) new.listeners t.place (left_by k laws [] now f x y (Some answer)) → After new far' bad (tag_heard x y (Some answer))
+      finish Pass Pass s m lit alone = let z = s (Asking 0 []) refl in (o.heard, refl, z.0, (let e = z.1 in omega (arith, e)), lit ∙ m, alone)
+      finish Pass Damage s m lit alone = on_bad Pass (Some Damaged) s refl m (suc o.heard) alone (lit ∙ m)
+      finish Pass Lose s m lit alone = on_bad Pass (Some Silent) s refl m (suc o.heard) alone (lit ∙ m)
+      finish Pass Break s m lit alone = ((s (Broken faults.FieldLost (f ∷ [])) refl).0, lit)
+      finish Damage y s m lit alone = on_bad Damage (Some Silent) s refl m o.heard alone (lit ∙ m)
+      finish Lose y s m lit alone = on_bad Lose (Some Silent) s refl m o.heard alone (lit ∙ m)
+      finish Break y s m lit alone = ((s (Broken faults.FieldLost (f ∷ [])) refl).0, lit)
+
+      pub atr_turn : (h : Option Heard) → TurnIs k.machine restarts steps mid f far h new far' → After new far' bad h
+      atr_turn h turn =
+          let x : Fate = first_fate mid.fates in
+          let y : Fate = first_fate (later_fates mid.fates) in
+          let a : AnsweredTurn k.machine restarts steps f (hands_over k.machine now f) mid far h new far' =
+          answered_turn k.machine restarts steps f o.alone.before now o.alone.behind (all_quiet o.alone.before o.alone.first) (all_quiet o.alone.behind o.alone.later) mid far h new far' o.alone.split turn in
+          let q : (r : List ℕ) → QuietTurn {A = Told} (answering k.machine r) mid f tt h new tt = λ r. a.any (nothing_in x (hands_over k.machine now f) uses) r in
+          let m : Ghosts L = told k laws [] in
+          let ml : Laws m = told_laws k laws [] in
+          let lone : IsAlone m (k.identifier l) mid.listeners t.place now = alone_told k laws [] (k.identifier l) mid.listeners t.place now o.alone in
+          let says : answered_by m.machine now f None ≡ Some answer = ap (λ v. if v then m.machine.answer now f None else None) hears_atr ∙ says_own o.heard in
+          let moves : stepped_by m.machine now f None ≡ heard_with k now f [] = ap (λ v. if v then m.machine.after now f None else now) hears_atr in
+          let joins : joint (filter_map (λ z. answered_by m.machine z f None) mid.listeners) ≡ one (Some answer) =
+          ap joint (alone_says m ml (k.identifier l) f (aside_in m ml) mid.listeners t.place now lone) ∙ ap (λ z. joint (cons_option z [])) says ∙ joint_one (Some answer) in
+          let events : turn_events (quiet_air m.machine) (world mid) f x y ≡ tag_events f x y (Some answer) = turn_events_as m (world mid) f x y (Some answer) joins in
+          let after : world new ≡ replay (quiet_air m.machine) (world mid) (tag_events f x y (Some answer)) = (q []).after ∙ ap (replay (quiet_air m.machine) (world mid)) events in
+          let heard : h ≡ tag_heard x y (Some answer) = heard_as m (world mid) f x y (Some answer) h joins (q []).told in
+          let sent : SentOn x h = λ s e. (
+            record {
+              notes = o.sent.notes ++ note h ∷ [];
+              going = λ r.
+                  going_turn (answering_air k.machine r) (waits_next (f ∷ [])) (moment old) (moment mid) (moment new) f h o.sent.notes (o.sent.going r) (ap due_at asking)
+                  (quiet_turns_to (answering k.machine r) mid new f tt tt h (q r));
+              stands = stand_on 0 (f ∷ []) o.sent.notes bad (f ∷ []) asking [] (note h ∷ []) ∙ e;
+              events = o.sent.events ++ tag_events f x y (Some answer);
+              trace =
+                  (q []).trace ∙ ap (λ (es : List Event). mid.trace ++ es) events ∙ ap (λ (es : List Event). es ++ tag_events f x y (Some answer)) o.sent.trace
+                  ∙ append_assoc old.trace o.sent.events (tag_events f x y (Some answer));
+              times = o.sent.times + arrivals x;
+              arrived =
+                  (let a1 = ap length (arrived_append o.sent.events (tag_events f x y (Some answer))) in
+                  let a2 = length-append (arrived o.sent.events) (arrived (tag_events f x y (Some answer))) in
+                  let a3 = arrived_one f x y (Some answer) in
+                  let a4 = o.sent.arrived in omega (arith, a1, a2, a3, a4));
+              restarted = once_more restarts steps general x a.reply (hands_over k.machine now f) far far' uses a.moved far0 o.sent.times o.sent.restarted;
+            },
+            refl,
+          ) in
+          let P : World L → Type 0 = λ w. IsAlone m (k.identifier l) w.listeners t.place (left_by k laws [] now f x y (Some answer)) in
+          subst (λ (z : Option Heard). After new far' bad z) (sym heard)
+          (finish x y (subst (λ (z : Option Heard). SentOn x z) heard sent) turn.lit (ap (λ (w : World L). w.lit) after)
+          (alone_back k laws [] (k.identifier l) new.listeners t.place (left_by k laws [] now f x y (Some answer))
+          (subst P (sym after) (alone_after k laws [] (k.identifier l) f (aside_in m ml) (world mid) t.place now lone moves x y (Some answer)))))
+
+      module _ (stops : F → List ℕ → F → Type 0) (is_stuck : F → Bool) where
+        pub atr_lost : Transmits k.machine restarts steps stops is_stuck mid f far (Err air.FieldLost) new far' → AtrFails k target restarts old new general far0 far' cause.FieldLost
+        atr_lost (inl d) = let z = o.dim d.0 in inl (sym o.lit ∙ d.0, d.1 ∙ z.0, d.2 ∙ z.1)
+        atr_lost (inr turn) = inr (atr_turn None turn)
+
+        pub atr_memory : Transmits k.machine restarts steps stops is_stuck mid f far (Err air.Memory) new far' → AtrFails k target restarts old new general far0 far' cause.Memory
+        atr_memory (lit, inl same) =
+            let P : Air L → Type 0 = λ a. AtrFails k target restarts old a general far0 far' cause.Memory in
+            let Q : F → Type 0 = λ y. AtrFails k target restarts old mid general far0 y cause.Memory in
+            subst P (sym same.0) (subst Q (sym same.1) (bad, subst (λ (s : Standing). Sent mid far s) (asking_bad f bad bound) o.sent))
+        atr_memory (lit, inr s) =
+            let stop =
+            stopped_at k.machine restarts steps f stops is_stuck o.alone.before now o.alone.behind far far' s.listeners (all_quiet o.alone.before o.alone.first) (all_quiet o.alone.behind o.alone.later)
+            (subst (λ (ls : List L). HearSome k.machine restarts steps stops is_stuck f ls far s.listeners far') o.alone.split s.some) in
+            absurd (never stop.0 (sym uses ∙ stop.1))
+          where
+            never : (p : List ℕ) → Restarts general ≡ Hands p → ⊥
+            never p e = absurd (cc)
+
+  -- a bad reception
+  pub atr_more : (new : Air L) (far : F) (bad : ℕ) (h : Heard) → ((g : Signal) → h ≡ Whole g → ⊥) → After new far bad (Some h) → On new far (suc bad)
+  atr_more new far bad (Whole g) never a = absurd (never g refl)
+  atr_more new far bad (Collided g) never a = a
+  atr_more new far bad Damaged never a = a
+  atr_more new far bad Silent never a = a
+
+  pub atr_six : (new : Air L) (far : F) (bad : ℕ) → bad ≡ 6 → On new far bad → AtrFails k target restarts old new general far0 far cause.SixBad
+  atr_six new far bad e o = subst (λ (n : ℕ). Sent new far (after_bad f n)) e o.sent
+
+  -- the answer is read as the target's ATR_RES
+  reads : (g : Signal) → g ≡ answer → spelled g ≡ Some (atr_res own)
+  reads g e = ap spelled e ∙ written_read (atr_res own) t.takes.says
+
+  told_own : (g : Signal) → g ≡ answer → told_atr (spelled g) ≡ Some (own.lr, record { items = own.general })
+  told_own g e = ap told_atr (reads g e)
+
+  pub atr_never : (new : Air L) (far : F) (bad : ℕ) (g : Signal) → After new far bad (Some (Whole g)) → told_atr (spelled g) ≡ None → ⊥
+  atr_never new far bad g a q = let z = told_own g a.1 in absurd (cc)
+
+  -- ATR_RES came: the peer is activated
+  pub atr_done : (new : Air L) (far : F) (bad : ℕ) (g : Signal) → After new far bad (Some (Whole g)) → (told : ℕ × ArrayVec ℕ) → told_atr (spelled g) ≡ Some told
+      → (sent : Sent new far (Asking 0 [])) × (0 < sent.times) × IsActivated k target new own (waiting told.0) told.1.items
+  atr_done new far bad g (n, e, sent, some, lit, alone) told q =
+      let z : Some told ≡ Some (own.lr, record { items = own.general }) = sym q ∙ told_own g e in
+      let same : told ≡ (own.lr, record { items = own.general }) = cc in
+      let code : told.0 ≡ own.lr = ap (λ (p : ℕ × ArrayVec ℕ). p.0) same in
+      let x : L = sent_times k target l f (suc n) in
+      let P : TargetState → Type 0 = λ u. InStep (waiting own.lr) u in
+      let Q : TargetState → Type 0 = λ u. IsCut 0 u [] [] in
+      let peer : HasPeer k target new (waiting own.lr) 0 [] [] = record {
+        place = t.place;
+        listener = x;
+        selected = (t.takes.steps n).selected;
+        alone = subst (λ (i : List ℕ). IsAlone k i new.listeners t.place x) (sym (same_id (suc n))) alone;
+        is = t.takes.is n;
+        step = subst P (sym (target_own n)) (in_step_first own initiator_lr general t.takes.busy);
+        cut = subst Q (sym (target_own n)) refl;
+      } in (
+        sent,
+        some,
+        record {
+          lit = lit;
+          initiator = ap waiting code;
+          told_own = ap (λ (p : ℕ × ArrayVec ℕ). p.1.items) same;
+          peer = subst (λ (c : ℕ). HasPeer k target new (waiting c) 0 [] []) (sym code) peer;
+        },
+      )

@@ -1,0 +1,21 @@
+pub mod Wire
+pub mod Standing
+pub mod Landing
+pub mod Hearing
+pub mod Handed
+pub mod Begun
+pub mod Falls
+pub mod Session
+pub mod Ended
+mod Anew
+pub mod Answered
+pub mod PeerTurns
+pub mod Unbegun
+pub mod Swapping
+pub mod SwapEnds
+pub mod Brings
+pub mod Carrying
+pub mod Swapped
+mod Replies
+pub mod ActivateLaw
+pub mod Released

@@ -1,0 +1,305 @@
+-- One turn with a peer that is alone in its field is a turn of the two tables, in which the far end does what the target asks of it.
+use Rattle.std.proofs.Common.{◌≡◌, ◌⊎◌, inl, inr, arith, ℕ, List, [], ◌∷◌, ◌++◌, Bool, true, false, if◌then◌else◌, Option, Some, None, refl, sym, ◌∙◌, ap, subst}
+use Rattle.std.specs.Prelude.{map}
+use Rattle.std.specs.List.{AllByRecursion, filter_map, cons_option}
+use Rattle.nfc_base.specs.declared.frame.Tech.TheVariants.{A}
+use Rattle.nfc_base.specs.declared.event.Event.{Event}
+use Rattle.nfc_base.specs.declared.event.Fate.{Fate}
+use Rattle.nfc_base.specs.declared.event.Fate.TheVariants.{Pass, Damage, Lose, Break}
+use Rattle.nfc_base.specs.declared.event.Heard.{Heard}
+use Rattle.nfc_base.specs.declared.event.Heard.TheVariants as heards
+use Rattle.nfc_base.specs.Trace.{noise}
+use Rattle.nfc_base.specs.Signal.{Signal, whole_a}
+use Rattle.nfc_base.specs.Far.{FarUse, Untouched, Restarts}
+use Rattle.nfc_base.specs.LinkTurns.{heard_in, MovedBy, settled, step, answered, turned, IsTurn}
+use Rattle.air_core.specs.Joint.{joint, same_tech}
+use Rattle.air_core.specs.World.{World, hears, hands_over, answered_by, stepped_by, quiet_air}
+use Rattle.air_core.specs.Conversation.{replay, turn_events, first_fate, later_fates}
+use Rattle.air_core.specs.Turn.{Air, world, TurnIs}
+use Rattle.air_core.specs.Quiet.{EachQuiet, QuietTurn}
+use Rattle.air_core.specs.PlainTags.{IsAside, IsAlone}
+use Rattle.air_core.specs.declared.listener.Listener.{Ghosts}
+use Rattle.air_core.proofs.PlainAside.{Laws, IsUnmoved, aside_silent, alone_dark, alone_says, alone_steps}
+use Rattle.air_core.proofs.PlainTurns.{one, joint_one, tag_events, tag_heard, turn_events_as, heard_as}
+use Rattle.dep_link.specs.declared.target.TargetStep.{TargetStep}
+use Rattle.dep_link.specs.declared.target.TargetStep.TheVariants as steps
+use Rattle.dep_link.specs.Target.{TargetState, target_table, darkened}
+use Rattle.dep_link.specs.Exchange.{nfc_dep, target_does}
+use Rattle.dep_link.specs.Answering.{reply_for, payload_of, answering}
+use Rattle.dep_link.specs.Peers.{target_use, answered_with, left_with, IsAsked, IsShort, heard_with, StepsByTarget, IsPeer}
+use Rattle.dep_link.proofs.Answered.{handed_by, moved_by, hands_nothing, AnsweredTurn, answered_turn, Told}
+
+module _ {L : Type 0} (k : Ghosts L) (laws : Laws k) (r : List ℕ) where
+  -- the listeners under a far end that replies r
+  abbrev pub told : Ghosts L
+  told = record k { machine = answering k.machine r }
+
+  reply_none : (u : FarUse) → u ≡ Untouched → reply_for r u ≡ None
+  reply_none u e = ap (reply_for r) e
+
+  pub told_laws : Laws told
+  told_laws = record {
+    step_keeps = λ l f reply. laws.step_keeps l f (reply_for r (k.machine.handed l f));
+    dark_keeps = laws.dark_keeps;
+    dark_rests = laws.dark_rests;
+    rests = λ l bytes t a b.
+        let q = laws.rests l bytes t a b in
+        let e = reply_none (k.machine.handed l (whole_a bytes)) q.0 in (
+          refl,
+          ap (k.machine.answer l (whole_a bytes)) e ∙ q.1,
+          ap (λ x. k.is_ready (k.machine.after l (whole_a bytes) x)) e ∙ q.2,
+          ap (λ x. k.is_selected (k.machine.after l (whole_a bytes) x)) e ∙ q.3,
+        );
+    ignores = λ l other f t o.
+        let q = laws.ignores l other f t o in (refl, ap (k.machine.answer l f) (reply_none (k.machine.handed l f) q.0) ∙ q.1);
+  }
+
+  aside_told : (own : List ℕ) (ls : List L) → AllByRecursion (IsAside k own) ls → AllByRecursion (IsAside told own) ls
+  aside_told own [] a = tt
+  aside_told own (l ∷ ls) a = (record { rests = a.0.rests; other = a.0.other }, aside_told own ls a.1)
+
+  aside_back : (own : List ℕ) (ls : List L) → AllByRecursion (IsAside told own) ls → AllByRecursion (IsAside k own) ls
+  aside_back own [] a = tt
+  aside_back own (l ∷ ls) a = (record { rests = a.0.rests; other = a.0.other }, aside_back own ls a.1)
+
+  pub alone_told : (own : List ℕ) (ls : List L) (place : ℕ) (l : L) → IsAlone k own ls place l → IsAlone told own ls place l
+  alone_told own ls place l a =
+      record { before = a.before; behind = a.behind; split = a.split; stands = a.stands; first = aside_told own a.before a.first; later = aside_told own a.behind a.later }
+
+  pub alone_back : (own : List ℕ) (ls : List L) (place : ℕ) (l : L) → IsAlone told own ls place l → IsAlone k own ls place l
+  alone_back own ls place l a =
+      record { before = a.before; behind = a.behind; split = a.split; stands = a.stands; first = aside_back own a.before a.first; later = aside_back own a.behind a.later }
+
+  -- what the listener is after a turn
+  abbrev pub back_left : L → Fate → L
+  back_left l Pass = l
+  back_left l Damage = l
+  back_left l Lose = l
+  back_left l Break = k.machine.darkened l
+
+  abbrev pub left_by : L → Signal → Fate → Fate → Option Signal → L
+  left_by l f Pass y None = heard_with k l f r
+  left_by l f Pass y (Some g) = back_left (heard_with k l f r) y
+  left_by l f Damage y o = l
+  left_by l f Lose y o = l
+  left_by l f Break y o = k.machine.darkened l
+
+  -- which listener is left where something was heard, and whether the field is lit
+  abbrev pub IsLeft : L → Signal → Bool → Option Heard → L → Type 0
+  IsLeft l f lit (Some h) left = ((left ≡ l) ⊎ (left ≡ heard_with k l f r)) × (lit ≡ true)
+  IsLeft l f lit None left = lit ≡ false
+
+  pub left_is : (l : L) (f : Signal) (x y : Fate) (q : Option Signal) (w : World L) → w.lit ≡ true
+      → IsLeft l f (replay (quiet_air told.machine) w (tag_events f x y q)).lit (tag_heard x y q) (left_by l f x y q)
+  left_is l f Pass y None w e = (inr refl, e)
+  left_is l f Pass Pass (Some g) w e = (inr refl, e)
+  left_is l f Pass Damage (Some g) w e = (inr refl, e)
+  left_is l f Pass Lose (Some g) w e = (inr refl, e)
+  left_is l f Pass Break (Some g) w e = refl
+  left_is l f Damage y q w e = (inl refl, e)
+  left_is l f Lose y q w e = (inl refl, e)
+  left_is l f Break y q w e = refl
+
+  module _ (own : List ℕ) (f : Signal) (all : (l : L) → IsAside told own l → IsUnmoved told told_laws own f l) (w : World L) (place : ℕ) (l : L) (a : IsAlone told own w.listeners place l)
+      (e : stepped_by told.machine l f None ≡ heard_with k l f r) where
+    stepped_alone : IsAlone told own (map (λ x. stepped_by told.machine x f None) w.listeners) place (heard_with k l f r)
+    stepped_alone = let P : L → Type 0 = IsAlone told own (map (λ x. stepped_by told.machine x f None) w.listeners) place in subst P e (alone_steps told told_laws own f all w.listeners place l a)
+
+    pub alone_after : (x y : Fate) (o : Option Signal) → IsAlone told own (replay (quiet_air told.machine) w (tag_events f x y o)).listeners place (left_by l f x y o)
+    alone_after Pass y None = stepped_alone
+    alone_after Pass Pass (Some g) = stepped_alone
+    alone_after Pass Damage (Some g) = stepped_alone
+    alone_after Pass Lose (Some g) = stepped_alone
+    alone_after Pass Break (Some g) = alone_dark told told_laws own (map (λ x. stepped_by told.machine x f None) w.listeners) place (heard_with k l f r) stepped_alone
+    alone_after Damage y o = a
+    alone_after Lose y o = a
+    alone_after Break y o = alone_dark told told_laws own w.listeners place l a
+
+-- where all passes, nothing is said or that is heard
+calm_events : (f : Signal) (x y : Fate) (q : Option Signal) → noise (tag_events f x y q) ≡ 0 → (q ≡ None) ⊎ ((g : Signal) × (tag_heard x y q ≡ Some (heards.Whole g)))
+calm_events f Pass y None e = inl refl
+calm_events f Pass Pass (Some g) e = inr (g, refl)
+calm_events f Pass Damage (Some g) e = absurd (omega (arith, e))
+calm_events f Pass Lose (Some g) e = absurd (omega (arith, e))
+calm_events f Pass Break (Some g) e = absurd (omega (arith, e))
+calm_events f Damage y q e = absurd (omega (arith, e))
+calm_events f Lose y q e = absurd (omega (arith, e))
+calm_events f Break y q e = absurd (omega (arith, e))
+
+-- a turn of the two tables has the same events, and the same is heard of it
+answered_events : (first : ℕ) (t : TargetState) (asked : Option (List ℕ)) (f : Signal) (q : Option Signal) (y : Fate) → (answered (nfc_dep first) t asked f q y).events ≡ tag_events f Pass y q
+answered_events first t asked f None y = refl
+answered_events first t asked f (Some a) Pass = refl
+answered_events first t asked f (Some a) Damage = refl
+answered_events first t asked f (Some a) Lose = refl
+answered_events first t asked f (Some a) Break = refl
+
+pub same_events : (first : ℕ) (r : List ℕ) (t : TargetState) (f : Signal) (x y : Fate) → (turned (nfc_dep first) r t f x y).events ≡ tag_events f x y (step (nfc_dep first) r t f).answer
+same_events first r t f Pass y = answered_events first (step (nfc_dep first) r t f).state (step (nfc_dep first) r t f).asked f (step (nfc_dep first) r t f).answer y
+same_events first r t f Damage y = refl
+same_events first r t f Lose y = refl
+same_events first r t f Break y = refl
+
+answered_heard : (first : ℕ) (t : TargetState) (asked : Option (List ℕ)) (f : Signal) (q : Option Signal) (y : Fate) → heard_in (answered (nfc_dep first) t asked f q y).heard ≡ tag_heard Pass y q
+answered_heard first t asked f None y = refl
+answered_heard first t asked f (Some a) Pass = refl
+answered_heard first t asked f (Some a) Damage = refl
+answered_heard first t asked f (Some a) Lose = refl
+answered_heard first t asked f (Some a) Break = refl
+
+pub same_heard : (first : ℕ) (r : List ℕ) (t : TargetState) (f : Signal) (x y : Fate) → heard_in (turned (nfc_dep first) r t f x y).heard ≡ tag_heard x y (step (nfc_dep first) r t f).answer
+same_heard first r t f Pass y = answered_heard first (step (nfc_dep first) r t f).state (step (nfc_dep first) r t f).asked f (step (nfc_dep first) r t f).answer y
+same_heard first r t f Damage y = refl
+same_heard first r t f Lose y = refl
+same_heard first r t f Break y = refl
+
+-- a step of the table is that of the listener
+settled_answer : (first : ℕ) (r : List ℕ) (t : TargetState) (d : TargetStep) → (settled (nfc_dep first) r t (target_does d)).answer ≡ answered_with t r d
+settled_answer first r t steps.Quiet = refl
+settled_answer first r t (steps.Reply f) = refl
+settled_answer first r t (steps.Restart general f) = refl
+settled_answer first r t (steps.Deliver payload) = refl
+settled_answer first r t (steps.Asleep f) = refl
+settled_answer first r t (steps.Released f) = refl
+
+settled_state : (first : ℕ) (r : List ℕ) (t : TargetState) (d : TargetStep) → (settled (nfc_dep first) r t (target_does d)).state ≡ left_with t r d
+settled_state first r t steps.Quiet = refl
+settled_state first r t (steps.Reply f) = refl
+settled_state first r t (steps.Restart general f) = refl
+settled_state first r t (steps.Deliver payload) = refl
+settled_state first r t (steps.Asleep f) = refl
+settled_state first r t (steps.Released f) = refl
+
+-- what the target asks of the far end is what was handed over
+settled_asks : (first : ℕ) (r : List ℕ) (t : TargetState) (d : TargetStep) → (settled (nfc_dep first) r t (target_does d)).asked ≡ payload_of (target_use d)
+settled_asks first r t steps.Quiet = refl
+settled_asks first r t (steps.Reply f) = refl
+settled_asks first r t (steps.Restart general f) = refl
+settled_asks first r t (steps.Deliver payload) = refl
+settled_asks first r t (steps.Asleep f) = refl
+settled_asks first r t (steps.Released f) = refl
+
+answered_asked : (first : ℕ) (t : TargetState) (asked : Option (List ℕ)) (f : Signal) (q : Option Signal) (y : Fate) → (answered (nfc_dep first) t asked f q y).asked ≡ asked
+answered_asked first t asked f None y = refl
+answered_asked first t asked f (Some a) Pass = refl
+answered_asked first t asked f (Some a) Damage = refl
+answered_asked first t asked f (Some a) Lose = refl
+answered_asked first t asked f (Some a) Break = refl
+
+pub same_asked : (first : ℕ) (r : List ℕ) (t : TargetState) (f : Signal) (x y : Fate) → (turned (nfc_dep first) r t f x y).asked ≡ handed_by x (target_use (target_table t f).does)
+same_asked first r t f Pass y =
+    answered_asked first (step (nfc_dep first) r t f).state (step (nfc_dep first) r t f).asked f (step (nfc_dep first) r t f).answer y
+    ∙ settled_asks first r (target_table t f).state (target_table t f).does
+same_asked first r t f Damage y = refl
+same_asked first r t f Lose y = refl
+same_asked first r t f Break y = refl
+
+module _ {L : Type 0} (k : Ghosts L) (laws : Laws k) (target : L → TargetState) where
+  -- the target's end is what that turn leaves
+  answered_target : (first : ℕ) (r : List ℕ) (l : L) (f : Signal) (t : TargetState) (asked : Option (List ℕ)) (q : Option Signal) (y : Fate)
+      → target (heard_with k l f r) ≡ t → target (k.machine.darkened (heard_with k l f r)) ≡ darkened (target (heard_with k l f r))
+      → target (left_by k laws r l f Pass y q) ≡ (answered (nfc_dep first) t asked f q y).answering
+  answered_target first r l f t asked None y e d = e
+  answered_target first r l f t asked (Some a) Pass e d = e
+  answered_target first r l f t asked (Some a) Damage e d = e
+  answered_target first r l f t asked (Some a) Lose e d = e
+  answered_target first r l f t asked (Some a) Break e d = d ∙ ap darkened e
+
+  same_target : (first : ℕ) (l : L) (f : Signal) (r : List ℕ) (x y : Fate)
+      → target (heard_with k l f r) ≡ (step (nfc_dep first) r (target l) f).state → target (k.machine.darkened (heard_with k l f r)) ≡ darkened (target (heard_with k l f r))
+      → target (k.machine.darkened l) ≡ darkened (target l) → target (left_by k laws r l f x y (step (nfc_dep first) r (target l) f).answer) ≡ (turned (nfc_dep first) r (target l) f x y).answering
+  same_target first l f r Pass y e d c = answered_target first r l f (step (nfc_dep first) r (target l) f).state (step (nfc_dep first) r (target l) f).asked (step (nfc_dep first) r (target l) f).answer y e d
+  same_target first l f r Damage y e d c = refl
+  same_target first l f r Lose y e d c = refl
+  same_target first l f r Break y e d c = c
+
+  -- A turn with this listener, which is alone, as a turn of the two tables and of the air of its reply.
+  pub record PeerTurn {F : Type 0} (steps : F → List ℕ → List ℕ → F → Type 0) (first : ℕ) (old new : Air L) (place : ℕ) (l : L) (f : Signal) (h : Option Heard) (far far' : F) : Type 0 where
+    pub reply : List ℕ
+    pub left : L
+    pub alone : IsAlone k (k.identifier l) new.listeners place left
+    pub turn : IsTurn (nfc_dep first) F IsShort steps (target l) old.trace far f h (target left) new.trace far'
+    pub quiet : QuietTurn {A = Told} (answering k.machine reply) old f tt h new tt
+    -- where nothing was handed over any reply would do
+    pub any : (turned (nfc_dep first) turn.reply (target l) f turn.first turn.second).asked ≡ None → (r : List ℕ) → QuietTurn {A = Told} (answering k.machine r) old f tt h new tt
+    pub same : turn.reply ≡ reply
+    pub is : IsLeft k laws turn.reply l f new.lit h left
+    -- where all passes, a target that says something is heard
+    pub calm : noise (turned (nfc_dep first) turn.reply (target l) f turn.first turn.second).events ≡ 0
+        → ((step (nfc_dep first) turn.reply (target l) f).answer ≡ None) ⊎ ((g : Signal) × (h ≡ Some (heards.Whole g)))
+
+  calm_is : (first : ℕ) (r : List ℕ) (t : TargetState) (f : Signal) (x y : Fate) (h : Option Heard) → h ≡ tag_heard x y (step (nfc_dep first) r t f).answer
+      → noise (turned (nfc_dep first) r t f x y).events ≡ 0 → ((step (nfc_dep first) r t f).answer ≡ None) ⊎ ((g : Signal) × (h ≡ Some (heards.Whole g)))
+  calm_is first r t f x y h e n = go (calm_events f x y (step (nfc_dep first) r t f).answer (sym (ap noise (same_events first r t f x y)) ∙ n))
+    where
+      go : ((step (nfc_dep first) r t f).answer ≡ None) ⊎ ((g : Signal) × (tag_heard x y (step (nfc_dep first) r t f).answer ≡ Some (heards.Whole g)))
+          → ((step (nfc_dep first) r t f).answer ≡ None) ⊎ ((g : Signal) × (h ≡ Some (heards.Whole g)))
+      go (inl q) = inl q
+      go (inr (g, q)) = inr (g, e ∙ q)
+
+  whole_asked : (f : Signal) → IsAsked f → f ≡ whole_a f.bytes
+  whole_asked f a = a.frame ∙ ap (λ (z : Signal). whole_a z.bytes) (sym a.frame)
+
+  asked_aside : (k : Ghosts L) (laws : Laws k) (own : List ℕ) (f : Signal) → IsAsked f → (l : L) → IsAside k own l → IsUnmoved k laws own f l
+  asked_aside k laws own f a l s = aside_silent k laws own A f (whole_asked f a) tt l s
+
+  pub hears_asked : (l : L) (f : Signal) → IsAsked f → k.machine.tech l ≡ A → hears k.machine l f ≡ true
+  hears_asked l f a e = ap (λ t. same_tech t f.tech) e ∙ ap (λ (z : Signal). same_tech A z.tech) a.frame
+
+  pub each_quiet : (own : List ℕ) (f : Signal) → IsAsked f → (ls : List L) → AllByRecursion (IsAside k own) ls → EachQuiet k.machine f ls
+  each_quiet own f a [] s = tt
+  each_quiet own f a (l ∷ ls) s = ((asked_aside k laws own f a l s.0).quiet, each_quiet own f a ls s.1)
+
+  module _ {F : Type 0} (restarts : F → List ℕ → F → Type 0) (steps : F → List ℕ → List ℕ → F → Type 0) where
+    pub peer_turn : (first : ℕ) (old : Air L) (place : ℕ) (l : L) (f : Signal) (alone : IsAlone k (k.identifier l) old.listeners place l) (c : IsPeer k target l) (a : IsAsked f)
+        → ((general : List ℕ) → target_use (target_table (target l) f).does ≡ Restarts general → ⊥)
+        → (far far' : F) (new : Air L) (h : Option Heard) → TurnIs k.machine restarts steps old f far h new far' → PeerTurn steps first old new place l f h far far'
+    peer_turn first old place l f alone c a never far far' new h turn =
+        let own : List ℕ = k.identifier l in
+        let x : Fate = first_fate old.fates in
+        let y : Fate = first_fate (later_fates old.fates) in
+        let s0 : StepsByTarget k target l f [] = c.steps_on [] tt f a [] (omega arith) in
+        let heard : hears k.machine l f ≡ true = hears_asked l f a c.tech in
+        let uses : hands_over k.machine l f ≡ target_use (target_table (target l) f).does = ap (λ v. if v then k.machine.handed l f else Untouched) heard ∙ s0.asks in
+        let t : AnsweredTurn k.machine restarts steps f (hands_over k.machine l f) old far h new far' =
+        answered_turn k.machine restarts steps f alone.before l alone.behind (each_quiet own f a alone.before alone.first) (each_quiet own f a alone.behind alone.later) old far h new far' alone.split turn in
+        let r : List ℕ = t.reply in
+        let s : StepsByTarget k target l f r = c.steps_on [] tt f a r t.short in
+        let o : Option Signal = (step (nfc_dep first) r (target l) f).answer in
+        let m : Ghosts L = told k laws r in
+        let ml : Laws m = told_laws k laws r in
+        let lone : IsAlone m own old.listeners place l = alone_told k laws r own old.listeners place l alone in
+        let all : (z : L) → IsAside m own z → IsUnmoved m ml own f z = asked_aside m ml own f a in
+        let says : answered_by m.machine l f None ≡ o = ap (λ v. if v then m.machine.answer l f None else None) heard ∙ s.answer ∙ sym (settled_answer first r (target_table (target l) f).state (target_table (target l) f).does) in
+        let moves : stepped_by m.machine l f None ≡ heard_with k l f r = ap (λ v. if v then m.machine.after l f None else l) heard in
+        let joins : joint (filter_map (λ z. answered_by m.machine z f None) old.listeners) ≡ one o =
+        ap joint (alone_says m ml own f all old.listeners place l lone) ∙ ap (λ z. joint (cons_option z [])) says ∙ joint_one o in
+        let events : turn_events (quiet_air m.machine) (world old) f x y ≡ tag_events f x y o = turn_events_as m (world old) f x y o joins in
+        let after : world new ≡ replay (quiet_air m.machine) (world old) (tag_events f x y o) = t.quiet.after ∙ ap (replay (quiet_air m.machine) (world old)) events in
+        let says_so : h ≡ tag_heard x y o = heard_as m (world old) f x y o h joins t.quiet.told in
+        record {
+          reply = r;
+          left = left_by k laws r l f x y o;
+          alone = alone_back k laws r own new.listeners place (left_by k laws r l f x y o)
+              (let P : World L → Type 0 = λ w. IsAlone m own w.listeners place (left_by k laws r l f x y o) in
+              subst P (sym after) (alone_after k laws r own f all (world old) place l lone moves x y o));
+          turn = record {
+            reply = r;
+            first = x;
+            second = y;
+            fits = t.short;
+            answering = same_target first l f r x y (s.target_is ∙ sym (settled_state first r (target_table (target l) f).state (target_table (target l) f).does)) (subst (λ (z : L). target (k.machine.darkened z) ≡ darkened (target z)) refl (c.cleared (record { frame = f; reply = r } ∷ []) (record { asked = a; short = t.short }, tt))) (c.cleared [] tt);
+            heard_is = says_so ∙ sym (same_heard first r (target l) f x y);
+            events = t.quiet.trace ∙ ap (λ (es : List Event). old.trace ++ es) (events ∙ sym (same_events first r (target l) f x y));
+            moved = subst (λ (p : Option (List ℕ)). MovedBy steps far p r far') (sym (same_asked first r (target l) f x y ∙ ap (handed_by x) (sym uses)))
+                (moved_by restarts steps x (hands_over k.machine l f) far far' r (λ general e. never general (sym uses ∙ e)) t.moved);
+          };
+          quiet = t.quiet;
+          any = λ e z. t.any (hands_nothing x (hands_over k.machine l f) (ap (handed_by x) uses ∙ sym (same_asked first r (target l) f x y) ∙ e)) z;
+          same = refl;
+          is =
+              (let P : Bool → Type 0 = λ b. IsLeft k laws r l f b h (left_by k laws r l f x y o) in
+              let Q : Option Heard → Type 0 = λ z. IsLeft k laws r l f (replay (quiet_air m.machine) (world old) (tag_events f x y o)).lit z (left_by k laws r l f x y o) in
+              subst P (sym (ap (λ (w : World L). w.lit) after)) (subst Q (sym says_so) (left_is k laws r l f x y o (world old) turn.lit)));
+          calm = calm_is first r (target l) f x y h says_so;
+        }

@@ -1,0 +1,51 @@
+//! One exchange with a peer in a field.
+
+ghost use Rattle.std.specs.Prelude.{◌≡◌};
+ghost use Rattle.dep_link.specs.Asking.{Exchanges};
+
+use crate::initiator::{InitStep, Initiator};
+use crate::listener::PeerListener;
+use air_core::{AirFault, Field};
+use arrayvec::ArrayVec;
+use nfc_base::{Answerer, EndCause, Frame};
+
+/// Why an exchange brought no reply.
+#[derive(Clone, Copy, Debug)]
+pub(crate) enum Unanswered {
+    Ended(EndCause),
+    /// The far end was handed the payload, and stopped for want of memory.
+    Stopped,
+}
+
+/// Carries a payload with which the initiator began, in this request: turns by its table, up to the reply or a fault.
+pub(crate) fn ask_peer<L: PeerListener, A: Answerer>(
+    field: &mut Field<L>,
+    initiator: &mut Initiator,
+    request: Frame,
+    far: &mut A,
+) -> Result<ArrayVec<u8, 2178>, Unanswered>
+    ensures out { initiator.new.out ≡ initiator.old.out }
+    ensures ends { Exchanges L.Listener L.target A.steps A.stops
+        field.old field.new initiator.old request initiator.new far.old far.new result }
+{
+    let mut frame = request;
+    loop {
+        let before = field.trace().len();
+        let heard = match field.transmit(&frame, far) {
+            Ok(heard) => heard,
+            Err(AirFault::FieldLost) => return Err(Unanswered::Ended(EndCause::FieldLost)),
+            Err(AirFault::Memory) => {
+                if field.trace().len() == before {
+                    return Err(Unanswered::Ended(EndCause::Memory));
+                }
+                return Err(Unanswered::Stopped);
+            }
+        };
+        match initiator.next(&heard) {
+            InitStep::Send(next) => frame = next,
+            InitStep::Finished(reply) => return Ok(reply),
+            InitStep::SixBad => return Err(Unanswered::Ended(EndCause::SixBad)),
+            InitStep::Protocol => return Err(Unanswered::Ended(EndCause::Protocol)),
+        }
+    }
+}

@@ -1,0 +1,323 @@
+//! A peer in a field: activated, swapped with, and let go.
+
+ghost use Rattle.std.specs.Prelude.{◌≡◌, ◌≤◌, ℕ, List, length, true, IfOk};
+ghost use Rattle.dep_link.specs.Activating.{HasTarget};
+
+use crate::{DepPair, PeerListener, Target, TargetStep, activate, release};
+use air_core::{Field, Listener};
+use arrayvec::ArrayVec;
+use nfc_base::{Answerer, Carrier, EndCause, Event, Fate, Frame, LinkEnd, Tech};
+use std::alloc::{AllocError, Global};
+use std::process::Abort;
+use std::test::Fail;
+
+/// A device that is selected from light on, with a target under a far end.
+#[derive(Drop)]
+struct Phone {
+    lit: bool,
+    target: Target,
+}
+
+impl Listener for Phone {
+    ghost use Rattle.std.specs.Prelude.{[], true, false};
+    ghost use Rattle.std.proofs.Common.{rules};
+    ghost use Rattle.nfc_base.specs.declared.frame.Tech.TheVariants as techs;
+    ghost use Rattle.dep_link.specs.Target.{darkened};
+    ghost use Rattle.dep_link.specs.Delivering.{asked_in, answered_in, left_in, asked_short, told_tech};
+
+    ghost machine = { record {
+      tech = λ l. techs.A;
+      handed = λ l f. asked_in l.lit l.target f;
+      answer = λ l f reply. answered_in l.lit l.target f reply;
+      after = λ l f reply. record l { target = left_in l.lit l.target f reply };
+      woken = λ l. record l { lit = true };
+      darkened = λ l. record { lit = false; target = darkened l.target };
+    } };
+
+    ghost identifier = { λ l. [] };
+
+    ghost store = { λ l. [] };
+
+    ghost is_ready = { λ l. false };
+
+    ghost is_selected = { λ l. l.lit };
+
+    fn tech(&self) -> Tech {
+        Tech::A
+    }
+
+    fn light(&mut self) {
+        self.lit = true;
+    }
+
+    fn dark(&mut self) {
+        self.lit = false;
+        self.target.dark();
+    }
+
+    fn hear<A: Answerer>(
+        &mut self,
+        alloc: Global,
+        frame: &Frame,
+        far: &mut A,
+    ) -> Result<Option<Frame>, AllocError> {
+        if !self.lit {
+            return Ok(None);
+        }
+        match self.target.hear(frame) {
+            TargetStep::Quiet => Ok(None),
+            TargetStep::Reply(answer) => Ok(Some(answer)),
+            TargetStep::Asleep(answer) => Ok(Some(answer)),
+            TargetStep::Released(answer) => Ok(Some(answer)),
+            TargetStep::Restart { general, reply } => {
+                far.restart(&general);
+                Ok(Some(reply))
+            }
+            TargetStep::Deliver(payload) => {
+                let mut reply = Vec::new(alloc);
+                if far.answer(alloc, &payload, &mut reply).is_err() {
+                    self.target.reply(&[]);
+                    return Err(AllocError);
+                }
+                Ok(Some(self.target.reply(&reply)))
+            }
+        }
+    }
+
+    ghost bounded = { λ l f payload e. asked_short l.lit l.target f payload e };
+
+    ghost own_tech = { λ l f g reply e. told_tech l.lit l.target f reply g e };
+
+    ghost step_keeps = { Prim.search rules };
+
+    ghost light_keeps = { Prim.search rules };
+
+    ghost dark_keeps = { Prim.search rules };
+
+    ghost light_selects = { Prim.search rules };
+
+    ghost stays_selected = { Prim.search rules };
+
+    ghost dark_rests = { Prim.search rules };
+
+    ghost rests = { Prim.search rules };
+
+    ghost ignores = { Prim.search rules };
+}
+
+impl PeerListener for Phone {
+    ghost target = { λ l. l.target };
+}
+
+/// A lit field in which such a device stands alone, with this NFCID3 and these general bytes, and these fates to come.
+fn phone_field(
+    alloc: Global,
+    id: [u8; 10],
+    general: ArrayVec<u8, 47>,
+    fates: &[Fate],
+) -> Result<Field<Phone>, Fail>
+    ensures lit { IfOk result (λ f. f.lit ≡ true) }
+    ensures stands { IfOk result (λ f. (bytes : List ℕ) → HasTarget ⟦<Phone as Listener>⟧ (λ l. l.target) f bytes) }
+{
+    let target = Target::new(id, 3, general);
+    let mut field = Field::new(alloc);
+    field.put_in(Phone { lit: false, target })?;
+    field.add_fates(fates)?;
+    field.reset()?;
+    Ok(field)
+}
+
+/// A far end that answers a CONNECT by a CC, a put by its success, and gives up at a byte FFh.
+#[derive(Drop)]
+struct Desk {
+    links: u32,
+    swaps: u32,
+    stuck: bool,
+}
+
+const CONNECT: [u8; 2] = [0x11, 0x20];
+
+const CC: [u8; 2] = [0x81, 0x84];
+
+const PUT: [u8; 12] = [0x13, 0x20, 0x00, 0x10, 0x02, 0, 0, 0, 3, 0xD0, 0, 0];
+
+const DONE: [u8; 9] = [0x83, 0x04, 0x01, 0x10, 0x81, 0, 0, 0, 0];
+
+impl Answerer for Desk {
+    ghost use Rattle.std.specs.Prelude.{◌≤◌, length, ⊤};
+    ghost use Rattle.std.proofs.Common.{rules};
+
+    ghost is_stuck = { λ d. d.stuck };
+
+    ghost restarts = { λ old general new. ⊤ };
+
+    ghost steps = { λ old payload reply new. length reply ≤ 2178 };
+
+    ghost stops = { λ old payload new. ⊤ };
+
+    fn restart(&mut self, _general: &[u8]) {
+        self.links = self.links.wrapping_add(1);
+        self.stuck = false;
+    }
+
+    fn answer(
+        &mut self,
+        _alloc: Global,
+        payload: &[u8],
+        reply: &mut Vec<u8>,
+    ) -> Result<(), AllocError> {
+        let says: &[u8] = match payload {
+            [0x11, ..] => &CC,
+            [0x13, ..] => &DONE,
+            _ => &[],
+        };
+        reply.clear();
+        if self.stuck || payload.first() == Some(&0xFF) || reply.extend_from_slice(says).is_err() {
+            self.stuck = true;
+            return Err(AllocError);
+        }
+        self.swaps = self.swaps.wrapping_add(1);
+        Ok(())
+    }
+
+    ghost fits = { Prim.search rules };
+}
+
+fn new_desk() -> Desk {
+    Desk {
+        links: 0,
+        swaps: 0,
+        stuck: false,
+    }
+}
+
+const ID: [u8; 10] = [8, 1, 2, 3, 0, 0, 0, 0, 0, 0];
+
+const OWN: &[u8] = b"Ffm\x01\x01\x13\x03\x02\x00\x03";
+
+const PHONES: &[u8] = b"Ffm\x01\x01\x13\x03\x02\x00\x13";
+
+/// A field in which a phone can be activated, with these fates behind the two of its activation.
+fn met(alloc: Global, fates: &[Fate]) -> Result<Field<Phone>, Fail>
+    ensures lit { IfOk result (λ f. f.lit ≡ true) }
+    ensures stands { IfOk result (λ f. (bytes : List ℕ) → HasTarget ⟦<Phone as Listener>⟧ (λ l. l.target) f bytes) }
+{
+    let mut general = ArrayVec::new();
+    general.try_extend_from_slice(PHONES)?;
+    let mut all = Vec::from_slice(alloc, &[Fate::Pass, Fate::Pass])?;
+    all.extend_from_slice(fates)?;
+    phone_field(alloc, ID, general, &all)
+}
+
+/// These bytes went over the air, behind a reset, as requests and answers.
+fn went(rt: &impl Abort, field: &Field<Phone>, frames: &[&[u8]]) {
+    let events = field.trace();
+    assert_eq!(rt; events.len(), frames.len() + 1);
+    for (event, expected) in events.iter().skip(1).zip(frames) {
+        match event {
+            Event::Request { frame, .. } => assert_eq!(rt; frame.view(), *expected),
+            Event::Answer { frame, .. } => assert_eq!(rt; frame.view(), *expected),
+            _ => assert!(rt; false, "another event"),
+        }
+    }
+}
+
+#[test]
+fn payloads_come_through_noise(rt: HostRuntime) -> Result<(), Fail> {
+    let alloc = rt.alloc();
+    let mut far = new_desk();
+    let fates = [
+        Fate::Lose,
+        Fate::Pass,
+        Fate::Pass,
+        Fate::Pass,
+        Fate::Pass,
+        Fate::Pass,
+        Fate::Damage,
+    ];
+    let mut field = met(alloc, &fates)?;
+    let (mut initiator, general) = activate(&mut field, OWN, &mut far)?;
+    assert_eq!(rt; general.as_slice(), PHONES);
+    let mut pair = DepPair::on(&mut field, &mut initiator);
+    let connected = pair.swap(alloc, &CONNECT, &mut far)?;
+    assert_eq!(rt; connected.as_slice(), CC.as_slice());
+    let put = pair.swap(alloc, &PUT, &mut far)?;
+    assert_eq!(rt; put.as_slice(), DONE.as_slice());
+    release(pair, &mut far)?;
+    assert_eq!(rt; (far.links, far.swaps), (1, 2));
+    let frames: [&[u8]; 13] = [
+        b"\xF0\x1B\xD4\x00\x00\x01\x02\x03\x04\x05\x06\x07\x08\x09\x00\x00\x00\x32Ffm\x01\x01\x13\x03\x02\x00\x03",
+        b"\xF0\x1C\xD5\x01\x08\x01\x02\x03\x00\x00\x00\x00\x00\x00\x00\x00\x00\x08\x32Ffm\x01\x01\x13\x03\x02\x00\x13",
+        &[0xF0, 0x06, 0xD4, 0x06, 0x00, 0x11, 0x20],
+        &[0xF0, 0x04, 0xD4, 0x06, 0x80],
+        &[0xF0, 0x04, 0xD5, 0x07, 0x80],
+        &[0xF0, 0x06, 0xD4, 0x06, 0x00, 0x11, 0x20],
+        &[0xF0, 0x06, 0xD5, 0x07, 0x00, 0x81, 0x84],
+        b"\xF0\x10\xD4\x06\x01\x13\x20\x00\x10\x02\x00\x00\x00\x03\xD0\x00\x00",
+        b"\xF0\x0D\xD5\x07\x01\x83\x04\x01\x10\x81\x00\x00\x00\x00",
+        &[0xF0, 0x04, 0xD4, 0x06, 0x51],
+        b"\xF0\x0D\xD5\x07\x01\x83\x04\x01\x10\x81\x00\x00\x00\x00",
+        &[0xF0, 0x03, 0xD4, 0x0A],
+        &[0xF0, 0x03, 0xD5, 0x0B],
+    ];
+    went(&rt, &field, &frames);
+    Ok(())
+}
+
+/// How a swap ends that breaks, and how one on the link that is made anew over the same initiator.
+fn ends(
+    alloc: Global,
+    fates: &[Fate],
+    payload: &[u8],
+) -> Result<(Result<usize, LinkEnd>, Result<usize, LinkEnd>, u32), Fail>
+    requires { length payload.now ≤ 2178 }
+{
+    let mut far = new_desk();
+    let mut field = met(alloc, fates)?;
+    let (mut initiator, _) = activate(&mut field, OWN, &mut far)?;
+    let mut pair = DepPair::on(&mut field, &mut initiator);
+    let first = pair.swap(alloc, payload, &mut far).map(|reply| reply.len());
+    let again = pair.swap(alloc, payload, &mut far).map(|reply| reply.len());
+    Ok((first, again, far.swaps))
+}
+
+#[test]
+fn a_link_that_is_over_tells_why(rt: HostRuntime) -> Result<(), Fail> {
+    let alloc = rt.alloc();
+    let lost = [Fate::Lose; 6];
+    let damaged = [
+        Fate::Pass,
+        Fate::Damage,
+        Fate::Pass,
+        Fate::Damage,
+        Fate::Pass,
+        Fate::Damage,
+        Fate::Pass,
+        Fate::Damage,
+        Fate::Pass,
+        Fate::Damage,
+        Fate::Pass,
+        Fate::Damage,
+    ];
+    let rows: [(&[Fate], &[u8], EndCause, bool, u32); 5] = [
+        (&[Fate::Break], &CONNECT, EndCause::FieldLost, false, 0),
+        (
+            &[Fate::Pass, Fate::Break],
+            &CONNECT,
+            EndCause::FieldLost,
+            true,
+            1,
+        ),
+        (&lost, &CONNECT, EndCause::SixBad, false, 0),
+        (&damaged, &CONNECT, EndCause::SixBad, true, 1),
+        (&[], &[0xFF], EndCause::Memory, false, 0),
+    ];
+    for (fates, payload, cause, answered, swaps) in rows {
+        let (first, again, stepped) = ends(alloc, fates, payload)?;
+        assert_eq!(rt; first, Err(LinkEnd { cause, answered }), "at {fates:?}");
+        let answered = false;
+        assert_eq!(rt; again, Err(LinkEnd { cause, answered }), "at {fates:?}");
+        assert_eq!(rt; stepped, swaps, "at {fates:?}");
+    }
+    Ok(())
+}
