@@ -1,19 +1,20 @@
 -- What general bytes say, parameter after parameter.
 use Rattle.std.proofs.Common.{◌≡◌, ℕ, List, Option, Some, None, unwrap_or, Result, Ok, Err, refl, sym, ◌∙◌, ap}
 use Rattle.llcp_pdu.specs.declared.fault.Refusal.{Refusal}
+use Rattle.llcp_pdu.specs.declared.general.GeneralFault.{GeneralFault}
+use Rattle.llcp_pdu.specs.declared.general.GeneralFault.TheVariants.{Malformed}
+use Rattle.llcp_pdu.specs.declared.general.LinkParams.{LinkParams}
 use Rattle.llcp_pdu.specs.declared.general.Spoken.{Spoken}
 use Rattle.llcp_pdu.specs.declared.param.Param.{Param}
 use Rattle.llcp_pdu.specs.Wire.{least_miu, magic_length}
 use Rattle.llcp_pdu.specs.Params.{params, kept, later, last_of, version_in, miux_in, wks_in}
-use Rattle.llcp_pdu.specs.General.{miu_by, said, unmasked, said_behind, general, heard, finished}
+use Rattle.llcp_pdu.specs.General.{miu_by, said, unmasked, said_behind, general, heard, spoken}
+use Rattle.llcp_pdu.proofs.Latest.{later_none, later_joins}
 
-later_none : {A : Type 0} (o : Option A) → later o None ≡ o
-later_none None = refl
-later_none (Some x) = refl
-
-later_joins : {A : Type 0} (a b c : Option A) → later a (later b c) ≡ later (later a b) c
-later_joins None b c = refl
-later_joins (Some x) b c = refl
+-- what is said in all, where that was said so far
+abbrev pub finished : Spoken → Result (List Param) Refusal → Result LinkParams GeneralFault
+finished s (Err r) = Err Malformed
+finished s (Ok ps) = spoken (later (last_of version_in ps) s.version) (miu_by s.miu (last_of miux_in ps)) (unwrap_or (last_of wks_in ps) s.wks)
 
 miu_joins : (miu : ℕ) (a b : Option ℕ) → miu_by (miu_by miu b) a ≡ miu_by miu (later a b)
 miu_joins miu None b = refl

@@ -1,6 +1,8 @@
 pub mod ParamLaws
 pub mod Outcomes
+pub mod Latest
 pub mod GeneralLaws
+pub mod Places
 pub mod PduLaws
 pub mod PartSpellings
 pub mod PduSpellings

@@ -5,7 +5,7 @@ use Rattle.std.proofs.lemmas.List.{take-append-drop}
 use Rattle.llcp_pdu.specs.declared.fault.PduKind.TheVariants.{Parameter}
 use Rattle.llcp_pdu.specs.declared.fault.Refusal.{Refusal}
 use Rattle.llcp_pdu.specs.declared.param.Param.{Param}
-use Rattle.llcp_pdu.specs.Reading.{refused, onto, before}
+use Rattle.llcp_pdu.specs.Reading.{refused, onto}
 use Rattle.llcp_pdu.specs.Params.{param, is_known, kept, taken, params, Tlv, tlv, printed, is_sized, AllSized, known_first, known, ParamsSpelling}
 
 pub not_lt : (m n : ℕ) → n ≤ m → nat_lt m n ≡ false
@@ -110,6 +110,11 @@ params_split (k ∷ n ∷ rest) value tail at h fits v t s =
     rw (l, ← v)
     (taken_sized (param k value) (is_known k) at (params rest n (at + 2)) s
     ∙ ap (kept (param k value)) (params_behind n rest (at + 2) fits ∙ rw (← t, m) refl))
+
+-- items in front of those that are read behind them
+abbrev pub before : {A : Type 0} → List A → Result (List A) Refusal → Result (List A) Refusal
+before [] behind = behind
+before (x ∷ xs) behind = onto x (before xs behind)
 
 -- the parameters in front of those that are still to be read
 pub before_end : {A : Type 0} (ps : List A) → before ps (Ok []) ≡ Ok ps

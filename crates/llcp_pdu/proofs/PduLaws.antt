@@ -3,7 +3,7 @@ use Rattle.std.proofs.Common.{◌≡◌, ◌≤◌, ℕ, ◌+◌, ◌*◌, nat_l
 use Rattle.std.proofs.lemmas.List.{take-append-drop}
 use Rattle.llcp_pdu.specs.declared.fault.Refusal.{Refusal}
 use Rattle.llcp_pdu.specs.declared.part.Part.{Part}
-use Rattle.llcp_pdu.specs.Reading.{before}
+use Rattle.llcp_pdu.proofs.ParamLaws.{before}
 use Rattle.llcp_pdu.specs.Parts.{part}
 use Rattle.llcp_pdu.specs.Pdus.{joined, inner}
 use Rattle.llcp_pdu.proofs.ParamLaws.{not_lt, before_more, before_err}

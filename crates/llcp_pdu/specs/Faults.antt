@@ -1,20 +1,15 @@
 -- What becomes of a reading in a call that takes memory.
-use Rattle.std.specs.Prelude.{◌≡◌, min, Result, Ok, Err}
+use Rattle.std.specs.Prelude.{◌≡◌, ◌↔◌, is_ok, true, Result, Ok, Err}
 use Rattle.llcp_pdu.specs.declared.fault.PduFault.{PduFault}
 use Rattle.llcp_pdu.specs.declared.fault.PduFault.TheVariants.{Refused, Memory}
-use Rattle.llcp_pdu.specs.declared.fault.Refusal.{Refusal}
-use Rattle.llcp_pdu.specs.Wire.{last_place}
+use Rattle.llcp_pdu.specs.declared.fault.PduRefusal.{PduRefusal}
 
--- places behind the last one that is told are told as it
-abbrev pub told : Refusal → PduFault
-told r = Refused (min r.place last_place) r.kind
+-- The answer is what was read, or its fault. Memory can be wanting only where there is something to copy.
+abbrev pub Answers : {A : Type 0} → Result A PduFault → Result A PduRefusal → Type 0
+Answers (Ok x) r = r ≡ Ok x
+Answers (Err Memory) r = is_ok r ≡ true
+Answers (Err (Refused place kind)) r = r ≡ Err (record { place = place; kind = kind })
 
-abbrev pub outcome : {A : Type 0} → Result A Refusal → Result A PduFault
-outcome (Ok x) = Ok x
-outcome (Err r) = Err (told r)
-
--- The answer is what was read, or that memory ran out.
-abbrev pub Answers : {A : Type 0} → Result A PduFault → Result A Refusal → Type 0
-Answers (Ok x) r = Ok x ≡ outcome r
-Answers (Err Memory) r = Unit {0}
-Answers (Err (Refused place kind)) r = Err (Refused place kind) ≡ outcome r
+-- Unless memory ran out, the answer is a value exactly where that is spelled.
+abbrev pub UnlessMemory : {A : Type 0} → Result A PduFault → (A → Type 0) → Type 0
+UnlessMemory {A} result Spelled = (v : A) → (result ≡ Err Memory → ⊥) → (result ≡ Ok v) ↔ Spelled v

@@ -67,8 +67,3 @@ heard s o = record {
   miu = miu_by s.miu (in_one miux_in o);
   wks = unwrap_or (in_one wks_in o) s.wks;
 }
-
--- what is said in all, where that was said so far
-abbrev pub finished : Spoken → Result (List Param) Refusal → Result LinkParams GeneralFault
-finished s (Err r) = Err Malformed
-finished s (Ok ps) = spoken (later (last_of version_in ps) s.version) (miu_by s.miu (last_of miux_in ps)) (unwrap_or (last_of wks_in ps) s.wks)

@@ -8,4 +8,5 @@ pub mod Writing
 pub mod Ranges
 pub mod General
 pub mod Faults
+pub mod Views
 pub mod Numbers

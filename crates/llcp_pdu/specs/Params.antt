@@ -57,6 +57,10 @@ params (k ∷ n ∷ rest) zero at =
     else taken (param k (take n rest)) (is_known k) at (params rest n (at + 2))
 params (k ∷ rest) (suc m) at = params rest m (at + 1)
 
+-- a parameter at that place, and then those in the bytes behind it
+abbrev pub params_first : ℕ → List ℕ → List ℕ → ℕ → Result (List Param) Refusal
+params_first k v tail at = kept (param k v) (params tail 0 (at + 2 + length v))
+
 -- a parameter as it stands in bytes, of a known type or not
 pub record Tlv : Type 0 where
   pub kind : ℕ

@@ -26,6 +26,10 @@ inner (h ∷ l ∷ rest) zero at =
     else joined (part (take (256 * h + l) rest) (at + 2)) (inner rest (256 * h + l) (at + 2))
 inner (x ∷ rest) (suc m) at = inner rest m (at + 1)
 
+-- a PDU behind its length at that place, and then those in the bytes behind it
+abbrev pub inner_first : List ℕ → List ℕ → ℕ → Result (List Part) Refusal
+inner_first one tail at = joined (part one (at + 2)) (inner tail 0 (at + 2 + length one))
+
 abbrev pub is_agf : Ptype → Bool
 is_agf AgfType = true
 is_agf _ = false

@@ -22,11 +22,6 @@ abbrev pub onto : {A : Type 0} → A → Result (List A) Refusal → Result (Lis
 onto x (Ok xs) = Ok (x ∷ xs)
 onto x (Err r) = Err r
 
--- items in front of those that are read behind them
-abbrev pub before : {A : Type 0} → List A → Result (List A) Refusal → Result (List A) Refusal
-before [] behind = behind
-before (x ∷ xs) behind = onto x (before xs behind)
-
 -- nothing may follow
 abbrev pub ended : {A : Type 0} → List ℕ → ℕ → A → Result A Refusal
 ended [] at v = Ok v

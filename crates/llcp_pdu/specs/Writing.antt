@@ -46,9 +46,13 @@ part_bytes (Info d s ns nr info) = head d info_type s ++ (16 * ns + nr) ∷ info
 part_bytes (Rr d s nr) = head d rr_type s ++ nr ∷ []
 part_bytes (Rnr d s nr) = head d rnr_type s ++ nr ∷ []
 
+-- a PDU in an AGF, behind its length
+abbrev pub inner_bytes : Part → List ℕ
+inner_bytes p = two_bytes (length (part_bytes p)) ++ part_bytes p
+
 abbrev pub parts_bytes : List Part → List ℕ
 parts_bytes [] = []
-parts_bytes (p ∷ ps) = two_bytes (length (part_bytes p)) ++ part_bytes p ++ parts_bytes ps
+parts_bytes (p ∷ ps) = inner_bytes p ++ parts_bytes ps
 
 abbrev pub pdu_bytes : Pdu → List ℕ
 pdu_bytes (One p) = part_bytes p

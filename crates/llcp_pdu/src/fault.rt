@@ -1,31 +1,36 @@
 //! What is wrong with bytes that are no PDU.
 
 ghost use Rattle.std.specs.Prelude.{◌≡◌};
-ghost use Rattle.llcp_pdu.specs.Faults.{told};
+ghost use Rattle.llcp_pdu.specs.Views.{told};
 ghost use Rattle.llcp_pdu.specs.Numbers.{pdu_kind_number, pdu_fault_number};
-ghost use Rattle.llcp_pdu.specs.declared.fault.PduFault.TheVariants.{Memory};
+ghost use Rattle.llcp_pdu.specs.declared.fault.PduFault.TheVariants.{Refused, Memory};
 
-use std::alloc::{AllocError, AllocFailed};
+use std::alloc::AllocError;
 use thiserror::Error;
 
 /// The last place that is told as it is.
 const LAST_PLACE: usize = 65535;
 
 /// What is wrong. What is refused, and at which place, is this project's own.
-#[derive(Clone, Copy, Debug, PartialEq, Eq)]
+#[derive(Clone, Copy, Debug, PartialEq, Eq, Error)]
 pub enum PduKind {
-    /// A byte is missing, told at the end.
+    /// Told at the end.
+    #[error("a byte is missing")]
     Short = 1,
-    /// No PDU has this PTYPE, told at the PDU's first byte.
+    /// Told at the PDU's first byte.
+    #[error("no PDU has this PTYPE")]
     Ptype = 2,
-    /// No PDU of this PTYPE has these SAPs, told at the PDU's first byte.
+    /// Told at the PDU's first byte.
+    #[error("no PDU of this PTYPE has these SAPs")]
     Sap = 3,
-    /// A parameter without its length, longer than what is left, or of another length than its type has; told at
-    /// its type.
+    /// It lacks its length, is longer than what is left, or of another length than its type has; told at its type.
+    #[error("a malformed parameter")]
     Parameter = 4,
-    /// An AGF in an AGF, told at its length.
+    /// Told at its length.
+    #[error("an AGF in an AGF")]
     Nested = 5,
-    /// Something behind the last byte, told at its first byte.
+    /// Told at its first byte.
+    #[error("something behind the last byte")]
     Trailing = 6,
 }
 
@@ -45,10 +50,18 @@ pub(crate) struct Refusal {
     pub(crate) kind: PduKind,
 }
 
+/// Why some bytes are no PDU: the first fault. Places count from 0; those behind 65,535 are told as it.
+#[derive(Clone, Copy, Debug, PartialEq, Eq, Error)]
+#[error("no LLCP PDU: {kind} at byte {place}")]
+pub struct PduRefusal {
+    pub place: u16,
+    pub kind: PduKind,
+}
+
 /// Why some bytes weren't read. Places count from 0; those behind 65,535 are told as it.
 #[derive(Clone, Copy, Debug, PartialEq, Eq, Error)]
 pub enum PduFault {
-    #[error("no LLCP PDU: {kind:?} at byte {place}")]
+    #[error("no LLCP PDU: {kind} at byte {place}")]
     Refused { place: u16, kind: PduKind },
     #[error("no memory")]
     Memory,
@@ -74,12 +87,23 @@ impl Refusal {
     }
 }
 
-impl From<Refusal> for PduFault {
+impl From<Refusal> for PduRefusal {
     ghost from_gives = { λ r f. f ≡ told r };
 
-    fn from(refusal: Refusal) -> PduFault {
-        PduFault::Refused {
+    fn from(refusal: Refusal) -> PduRefusal {
+        PduRefusal {
             place: refusal.place.min(LAST_PLACE) as u16,
+            kind: refusal.kind,
+        }
+    }
+}
+
+impl From<PduRefusal> for PduFault {
+    ghost from_gives = { λ r f. f ≡ Refused r.place r.kind };
+
+    fn from(refusal: PduRefusal) -> PduFault {
+        PduFault::Refused {
+            place: refusal.place,
             kind: refusal.kind,
         }
     }
@@ -89,14 +113,6 @@ impl From<AllocError> for PduFault {
     ghost from_gives = { λ _ f. f ≡ Memory };
 
     fn from(_error: AllocError) -> PduFault {
-        PduFault::Memory
-    }
-}
-
-impl<T: Drop> From<AllocFailed<T>> for PduFault {
-    ghost from_gives = { λ _ f. f ≡ Memory };
-
-    fn from(_error: AllocFailed<T>) -> PduFault {
         PduFault::Memory
     }
 }

@@ -8,7 +8,7 @@ ghost use Rattle.llcp_pdu.specs.Params.{param};
 ghost use Rattle.llcp_pdu.specs.Wire.{least_miu};
 ghost use Rattle.llcp_pdu.specs.Writing.{params_bytes};
 
-use crate::param::{one, split_param, two, word};
+use crate::param_walk::{one, split_param, two, word};
 use crate::wire::{MIUX, MIUX_END, VERSION, WKS};
 use arrayvec::ArrayVec;
 use thiserror::Error;

@@ -1,20 +1,17 @@
 //! A PDU that holds no other.
 
-ghost use Rattle.std.specs.Prelude.{◌≡◌, ◌+◌, ◌<◌, ◌^◌, ◌++◌, length, Ok, OnOk};
+ghost use Rattle.std.specs.Prelude.{◌≡◌, ◌<◌, ◌++◌, IfOk, OnOk};
 ghost use Rattle.llcp_pdu.specs.Ranges.{IsPart};
 ghost use Rattle.llcp_pdu.specs.Spelling.{head, IsReport, report_bytes};
+ghost use Rattle.llcp_pdu.specs.Views.{IsChecked, IsOne, shown};
 ghost use Rattle.llcp_pdu.specs.Wire.{ptype_number};
 ghost use Rattle.llcp_pdu.specs.Writing.{part_bytes};
-ghost use Rattle.llcp_pdu.specs.Faults.{Answers};
-ghost use Rattle.llcp_pdu.specs.Parts.{body, part};
-ghost use Rattle.llcp_pdu.specs.declared.part.Part.{Part};
-ghost use Rattle.llcp_pdu.specs.declared.header.Ptype.TheVariants.{Symm as SymmType, Connect as ConnectType, Disc as DiscType, Cc as CcType, Dm as DmType, Frmr as FrmrType, Snl as SnlType, Info as InfoType, Rr as RrType, Rnr as RnrType};
+ghost use Rattle.llcp_pdu.specs.declared.pdu.Pdu.TheVariants.{One};
 
-use crate::fault::{PduFault, PduKind, Refusal};
 use crate::header::{Header, Ptype};
-use crate::param::{Param, append_params, read_params};
-use crate::reading::{byte, ended, report};
-use crate::wire::{DISCOVERY, HEADER, INNER_LENGTH};
+use crate::param::{Param, append_params, copy_params};
+use crate::pdu_view::PduView;
+use crate::wire::DISCOVERY;
 use nfc_base::Items;
 use std::alloc::{AllocError, Global};
 
@@ -85,39 +82,50 @@ pub enum Part {
 }
 
 impl Part {
-    /// A PDU that begins at that place.
-    pub(crate) fn read_from(alloc: Global, bytes: &[u8], at: usize) -> Result<Part, PduFault>
-        requires { at + length bytes.now < 2 ^ 64 }
-        ensures { Answers result (part bytes.now at) }
+    /// The PDU that a view shows, in memory of its own.
+    pub(crate) fn from_view(alloc: Global, view: PduView<'_>) -> Result<Part, AllocError>
+        requires checked { IsChecked view }
+        requires one { IsOne view }
+        ensures { IfOk result (λ p. shown view.entry ≡ One p) }
     {
-        let header = Header::read_from(bytes, at)?;
-        Part::read_body(alloc, header, bytes.split_at(HEADER).1, at)
-    }
-
-    /// What follows the header of a PDU that begins at that place.
-    pub(crate) fn read_body(
-        alloc: Global,
-        header: Header,
-        rest: &[u8],
-        at: usize,
-    ) -> Result<Part, PduFault>
-        requires { at + 2 + length rest.now < 2 ^ 64 }
-        ensures { Answers result (body header.ptype header.dsap header.ssap rest.now at) }
-    {
-        match header.ptype {
-            Ptype::Ui => read_ui(alloc, header, rest),
-            Ptype::Connect => read_connect(alloc, header, rest, at),
-            Ptype::Cc => read_cc(alloc, header, rest, at),
-            Ptype::Snl => read_snl(alloc, header, rest, at),
-            Ptype::Info => read_info(alloc, header, rest, at),
-            Ptype::Symm => Ok(read_symm(header, rest, at)?),
-            Ptype::Agf => Err(Refusal::at(at.saturating_sub(INNER_LENGTH), PduKind::Nested).into()),
-            Ptype::Disc => Ok(read_disc(header, rest, at)?),
-            Ptype::Dm => Ok(read_dm(header, rest, at)?),
-            Ptype::Frmr => Ok(read_frmr(header, rest, at)?),
-            Ptype::Rr => Ok(read_rr(header, rest, at)?),
-            Ptype::Rnr => Ok(read_rnr(header, rest, at)?),
-        }
+        Ok(match view {
+            PduView::Symm => Part::Symm,
+            PduView::Agf(_) => unreachable!(),
+            PduView::Ui { dsap, ssap, info } => Part::Ui {
+                dsap,
+                ssap,
+                info: Items::from_bytes(alloc, info)?,
+            },
+            PduView::Connect { dsap, ssap, params } => Part::Connect {
+                dsap,
+                ssap,
+                params: copy_params(alloc, params)?,
+            },
+            PduView::Disc { dsap, ssap } => Part::Disc { dsap, ssap },
+            PduView::Cc { dsap, ssap, params } => Part::Cc {
+                dsap,
+                ssap,
+                params: copy_params(alloc, params)?,
+            },
+            PduView::Dm { dsap, ssap, reason } => Part::Dm { dsap, ssap, reason },
+            PduView::Frmr { dsap, ssap, report } => Part::Frmr { dsap, ssap, report },
+            PduView::Snl(params) => Part::Snl(copy_params(alloc, params)?),
+            PduView::Info {
+                dsap,
+                ssap,
+                ns,
+                nr,
+                info,
+            } => Part::Info {
+                dsap,
+                ssap,
+                ns,
+                nr,
+                info: Items::from_bytes(alloc, info)?,
+            },
+            PduView::Rr { dsap, ssap, nr } => Part::Rr { dsap, ssap, nr },
+            PduView::Rnr { dsap, ssap, nr } => Part::Rnr { dsap, ssap, nr },
+        })
     }
 
     /// Adds its bytes.
@@ -203,127 +211,4 @@ pub(crate) fn append_head(
 {
     let header = Header { dsap, ptype, ssap };
     target.extend_from_slice(&header.to_bytes())
-}
-
-fn read_symm(header: Header, rest: &[u8], at: usize) -> Result<Part, Refusal>
-    requires { at + 2 + length rest.now < 2 ^ 64 }
-    ensures { result ≡ body SymmType header.dsap header.ssap rest.now at }
-{
-    if !header.is_between(0) {
-        return Err(Refusal::at(at, PduKind::Sap));
-    }
-    ended(rest, at + HEADER, Part::Symm)
-}
-
-fn read_ui(alloc: Global, header: Header, rest: &[u8]) -> Result<Part, PduFault>
-    ensures { Answers result (Ok (Part.Ui header.dsap header.ssap rest.now)) }
-{
-    Ok(Part::Ui {
-        dsap: header.dsap,
-        ssap: header.ssap,
-        info: Items::from_bytes(alloc, rest)?,
-    })
-}
-
-fn read_connect(alloc: Global, header: Header, rest: &[u8], at: usize) -> Result<Part, PduFault>
-    requires { at + 2 + length rest.now < 2 ^ 64 }
-    ensures { Answers result (body ConnectType header.dsap header.ssap rest.now at) }
-{
-    Ok(Part::Connect {
-        dsap: header.dsap,
-        ssap: header.ssap,
-        params: read_params(alloc, rest, at + HEADER)?,
-    })
-}
-
-fn read_disc(header: Header, rest: &[u8], at: usize) -> Result<Part, Refusal>
-    requires { at + 2 + length rest.now < 2 ^ 64 }
-    ensures { result ≡ body DiscType header.dsap header.ssap rest.now at }
-{
-    let disc = Part::Disc {
-        dsap: header.dsap,
-        ssap: header.ssap,
-    };
-    ended(rest, at + HEADER, disc)
-}
-
-fn read_cc(alloc: Global, header: Header, rest: &[u8], at: usize) -> Result<Part, PduFault>
-    requires { at + 2 + length rest.now < 2 ^ 64 }
-    ensures { Answers result (body CcType header.dsap header.ssap rest.now at) }
-{
-    Ok(Part::Cc {
-        dsap: header.dsap,
-        ssap: header.ssap,
-        params: read_params(alloc, rest, at + HEADER)?,
-    })
-}
-
-fn read_dm(header: Header, rest: &[u8], at: usize) -> Result<Part, Refusal>
-    requires { at + 2 + length rest.now < 2 ^ 64 }
-    ensures { result ≡ body DmType header.dsap header.ssap rest.now at }
-{
-    Ok(Part::Dm {
-        dsap: header.dsap,
-        ssap: header.ssap,
-        reason: byte(rest, at + HEADER)?,
-    })
-}
-
-fn read_frmr(header: Header, rest: &[u8], at: usize) -> Result<Part, Refusal>
-    requires { at + 2 + length rest.now < 2 ^ 64 }
-    ensures { result ≡ body FrmrType header.dsap header.ssap rest.now at }
-{
-    Ok(Part::Frmr {
-        dsap: header.dsap,
-        ssap: header.ssap,
-        report: report(rest, at + HEADER)?,
-    })
-}
-
-fn read_snl(alloc: Global, header: Header, rest: &[u8], at: usize) -> Result<Part, PduFault>
-    requires { at + 2 + length rest.now < 2 ^ 64 }
-    ensures { Answers result (body SnlType header.dsap header.ssap rest.now at) }
-{
-    if !header.is_between(DISCOVERY) {
-        return Err(Refusal::at(at, PduKind::Sap).into());
-    }
-    Ok(Part::Snl(read_params(alloc, rest, at + HEADER)?))
-}
-
-fn read_info(alloc: Global, header: Header, rest: &[u8], at: usize) -> Result<Part, PduFault>
-    requires { at + 2 + length rest.now < 2 ^ 64 }
-    ensures { Answers result (body InfoType header.dsap header.ssap rest.now at) }
-{
-    let Some((sequence, info)) = rest.split_first() else {
-        return Err(Refusal::at(at + HEADER, PduKind::Short).into());
-    };
-    Ok(Part::Info {
-        dsap: header.dsap,
-        ssap: header.ssap,
-        ns: *sequence / 16,
-        nr: *sequence % 16,
-        info: Items::from_bytes(alloc, info)?,
-    })
-}
-
-fn read_rr(header: Header, rest: &[u8], at: usize) -> Result<Part, Refusal>
-    requires { at + 2 + length rest.now < 2 ^ 64 }
-    ensures { result ≡ body RrType header.dsap header.ssap rest.now at }
-{
-    Ok(Part::Rr {
-        dsap: header.dsap,
-        ssap: header.ssap,
-        nr: byte(rest, at + HEADER)? % 16,
-    })
-}
-
-fn read_rnr(header: Header, rest: &[u8], at: usize) -> Result<Part, Refusal>
-    requires { at + 2 + length rest.now < 2 ^ 64 }
-    ensures { result ≡ body RnrType header.dsap header.ssap rest.now at }
-{
-    Ok(Part::Rnr {
-        dsap: header.dsap,
-        ssap: header.ssap,
-        nr: byte(rest, at + HEADER)? % 16,
-    })
 }

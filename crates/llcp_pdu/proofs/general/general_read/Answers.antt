@@ -1,6 +1,6 @@
 use Rattle.std.proofs.Common.{rules, arith, ◌+◌, ◌∙◌, ap, length}
 use Rattle.llcp_pdu.specs.Params.{param, params}
-use Rattle.llcp_pdu.specs.General.{finished}
+use Rattle.llcp_pdu.proofs.GeneralLaws.{finished}
 use Rattle.llcp_pdu.specs.Wire.{magic_length}
 use Rattle.llcp_pdu.proofs.GeneralLaws.{general_behind, general_more}
 use Rattle.llcp_pdu.proofs.general.general_read.Goals as goal

@@ -1,6 +1,7 @@
 use Rattle.std.proofs.Common.{ℕ, length, ◌≡◌}
 use Rattle.llcp_pdu.specs.Params.{params}
-use Rattle.llcp_pdu.specs.General.{general, finished, IsMiu}
+use Rattle.llcp_pdu.specs.General.{general, IsMiu}
+use Rattle.llcp_pdu.proofs.GeneralLaws.{finished}
 use Rattle.llcp_pdu.proofs.general.general_read.Given as goal
 
 abbrev pub invariant-params : goal.invariant-params

@@ -1,6 +1,6 @@
 use Rattle.std.proofs.Common.{rules, arith}
 use Rattle.llcp_pdu.proofs.ParamLaws.{params_split}
-use Rattle.llcp_pdu.proofs.param.split_param.Goals as goal
+use Rattle.llcp_pdu.proofs.param_walk.split_param.Goals as goal
 
 pub returns-clause-some : goal.returns-clause-some
 returns-clause-some c =

@@ -1,6 +1,6 @@
 use Rattle.std.proofs.Common.{rules, arith, ◌+◌, ◌*◌, slice_index_or}
 use Rattle.llcp_pdu.proofs.PduLaws.{inner_split}
-use Rattle.llcp_pdu.proofs.pdu.split_inner.Goals as goal
+use Rattle.llcp_pdu.proofs.inner_walk.split_inner.Goals as goal
 
 pub returns-clause-ok : goal.returns-clause-ok
 returns-clause-ok c =
