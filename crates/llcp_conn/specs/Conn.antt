@@ -6,7 +6,7 @@ use Rattle.llcp_pdu.specs.declared.part.Part.TheVariants.{Symm, Ui, Connect, Dis
 use Rattle.llcp_pdu.specs.declared.part.FrmrReport.{FrmrReport}
 use Rattle.llcp_pdu.specs.declared.pdu_view.PduView.{PduView}
 use Rattle.llcp_pdu.specs.declared.pdu_view.PduView.TheVariants as view
-use Rattle.llcp_pdu.specs.Wire.{info_type, rr_type, rnr_type, least_miu, miux_end}
+use Rattle.llcp_pdu.specs.Wire.{info_type, rr_type, rnr_type}
 use Rattle.llcp_conn.specs.declared.conn.Taken.{Taken}
 use Rattle.llcp_conn.specs.declared.conn.Taken.TheVariants as taken
 use Rattle.llcp_conn.specs.declared.conn.ConnNumbers.{ConnNumbers}
@@ -58,12 +58,9 @@ numbers c = record { vs = vs c; vr = c.vr; vsa = c.vsa; vra = c.vra }
 abbrev pub has_room : ConnState → Bool
 has_room c = nat_lt (length c.flight + length c.queue) c.window
 
--- SAPs of six bits; MIUs of 128 to 2,175; windows of 1 to 15
+-- SAPs of six bits; windows of 1 to 15
 abbrev pub IsSap : ℕ → Type 0
 IsSap sap = sap < 64
-
-abbrev pub IsMiu : ℕ → Type 0
-IsMiu miu = (least_miu ≤ miu) × (miu < least_miu + miux_end)
 
 abbrev pub IsWindow : ℕ → Type 0
 IsWindow rw = (1 ≤ rw) × (rw ≤ most_window)

@@ -2,7 +2,8 @@
 
 ghost use Rattle.std.specs.Prelude.{◌≡◌, ◌<◌, ◌≤◌, ◌⊎◌, length, drop, true, false, option_map, option_copied, Some, None, IfOk, IfErr, OnOk, OnErr};
 ghost use Rattle.circular_buffer.specs.Buffer.{buffer};
-ghost use Rattle.llcp_conn.specs.Conn.{fresh, refusal, refusal_of, shared, queued, Queues, took, takes, takes_view, takes_unit, takes_nr, gave, gives, gives_from, gives_ack, first, closes, numbers, has_room, due, acks, is_outside, acknowledged, IsOfConn, IsViewOfConn, IsSap, IsMiu, IsWindow};
+ghost use Rattle.llcp_pdu.specs.General.{IsMiu};
+ghost use Rattle.llcp_conn.specs.Conn.{fresh, refusal, refusal_of, shared, queued, Queues, took, takes, takes_view, takes_unit, takes_nr, gave, gives, gives_from, gives_ack, first, closes, numbers, has_room, due, acks, is_outside, acknowledged, IsOfConn, IsViewOfConn, IsSap, IsWindow};
 ghost use Rattle.llcp_conn.specs.declared.fault.ConnFault.{ConnFault};
 
 use crate::fault::{ConnFault, SharedCause, SharedRefused};
