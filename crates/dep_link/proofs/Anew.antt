@@ -1,12 +1,10 @@
 -- Where a target delivers a payload, it expects the next PNI then.
-use Rattle.std.proofs.Common.{◌≡◌, ◌==◌, nat_lt, ℕ, ◌++◌, List, [], length, Bool, true, false, if◌then◌else◌, Option, Some, None, refl, ap, subst}
+use Rattle.std.proofs.Common.{◌≡◌, ℕ, List, [], Bool, true, false, Option, Some, None, refl, ap, subst}
 use Rattle.dep_pdu.specs.declared.frame.DepFrame.{DepFrame}
-use Rattle.dep_pdu.specs.declared.frame.DepFrame.TheVariants.{AtrReq, AtrRes, Info, Ack, Nack, Attention, Extend, DslReq, DslRes, RlsReq, RlsRes}
 use Rattle.dep_link.specs.declared.target.TargetStep.{TargetStep}
 use Rattle.dep_link.specs.declared.target.TargetStep.TheVariants as steps
-use Rattle.dep_link.specs.Sizes.{limit}
 use Rattle.dep_link.specs.Frames.{spelled, after}
-use Rattle.dep_link.specs.Target.{TargetState, TargetMove, Does, Stays, Answers, Begins, Delivers, Sleeps, Frees, stays, again, repeated, grown, gathered, drawn, extended, heeded, obeyed, framed_does, DeliversAnew}
+use Rattle.dep_link.specs.Target.{TargetState, TargetMove, Does, Stays, Answers, Begins, Delivers, Sleeps, Frees, grown, heeded, obeyed, framed_does, DeliversAnew}
 use Rattle.dep_link.specs.Moves.{IsKept, SameSelf, of_heeded}
 
 -- a move of a target that delivers moves its PNI on

@@ -86,10 +86,6 @@ cut_then : (c : Cut) (vs ws : List DepFrame) → cut_by c (vs ++ ws) ≡ cut_by 
 cut_then c [] ws = refl
 cut_then c (v ∷ vs) ws = cut_then (taken c v) vs ws
 
--- whether a payload was delivered, by what was given
-is_delivered : (out : List ℕ) (given : Option (List ℕ)) → Bool
-is_delivered out given = is_some (delivered_of out given)
-
 module _ {L F : Type 0} (k : Ghosts L) (target : L → TargetState) (steps : F → List ℕ → List ℕ → F → Type 0) (stops : F → List ℕ → F → Type 0) (a : DepSeen L) (open_link : a.over ≡ None) (r : IsDepReady k target a)
     (out : List ℕ) (far far' : F) where
   -- where the link stands then

@@ -13,7 +13,7 @@ use Rattle.dep_link.specs.Sizes.{limit}
 use Rattle.dep_link.specs.Frames.{spelled}
 use Rattle.dep_link.specs.Initiator.{Core, InitState, InitMove, InitTurn, Next, Asks, Gives, GivesUp, Refuses, refuses, most_bads, bad, received, more_follows, may_extend, extended, most_extensions, longest_extension, is_refused, acked, brought, answered, attended, waited, attending, whole, damaged, silent, heard_next, framed_next, init_table}
 use Rattle.dep_link.specs.Falling.{after_attention, left_to_do}
-use Rattle.dep_link.proofs.Standing.{le_from_not}
+use Rattle.dep_link.specs.Moves.{le_from_not}
 
 -- what is left falls by a move that sends a frame
 abbrev Falls : InitState → InitMove → Type 0

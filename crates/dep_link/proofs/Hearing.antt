@@ -17,7 +17,8 @@ use Rattle.dep_link.specs.Target.{TargetState}
 use Rattle.dep_link.specs.Initiator.{Core, InitState, InitMove, InitTurn, Gives, sent, sends, most_bads, most_extensions, longest_extension, bad, turned, more_follows, is_refused, answered, waited, whole, damaged, silent, framed, framed_next, init_table}
 use Rattle.dep_link.specs.Exchange.{nfc_dep, initiator_does, pieces, InStep}
 use Rattle.dep_link.proofs.Wire.{written_read, is_piece}
-use Rattle.dep_link.proofs.Standing.{same, after_small, not_lt, le_from_not, pieces_drop, chain_fits, Asking, Drawing, Acked, Answered, Extending, Held, of_chain, of_reply, of_time, Stands, asking, drawing, granting, held, granted, Ask, asks, nacks, attends, HasAsked, Wait, has, stays_up}
+use Rattle.dep_link.specs.Moves.{le_from_not}
+use Rattle.dep_link.proofs.Standing.{same, after_small, not_lt, pieces_drop, chain_fits, Asking, Drawing, Acked, Answered, Extending, Held, of_chain, of_reply, of_time, Stands, asking, drawing, granting, held, granted, Ask, asks, nacks, attends, HasAsked, Wait, has, stays_up}
 
 module _ (first m k : ℕ) (out : List ℕ) where
   -- a bad reception: the initiator sends something, of which two transmissions more are left, or gives up

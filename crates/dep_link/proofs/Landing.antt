@@ -18,7 +18,8 @@ use Rattle.dep_link.specs.Initiator.{Core, InitState, asked, request, most_bads}
 use Rattle.dep_link.specs.Payloads.{taken}
 use Rattle.dep_link.specs.Exchange.{nfc_dep, target_does, pieces, IsCut}
 use Rattle.dep_link.proofs.Wire.{target_heeds, is_piece, cut_of, cuts_on, cuts_same}
-use Rattle.dep_link.proofs.Standing.{same, not_after, before_after, not_lt, le_from_not, chain_fits, Asking, Drawing, Acked, Answered, Extending, Held, of_chain, of_reply, of_time, Stands, asking, drawing, granting, held, granted, HasAsked, Ask, asks, nacks, attends, Wait, has, stays_up, more, Fits}
+use Rattle.dep_link.specs.Moves.{le_from_not}
+use Rattle.dep_link.proofs.Standing.{same, not_after, before_after, not_lt, chain_fits, Asking, Drawing, Acked, Answered, Extending, Held, of_chain, of_reply, of_time, Stands, asking, drawing, granting, held, granted, HasAsked, Ask, asks, nacks, attends, Wait, has, stays_up, more, Fits}
 
 module _ (first m k : ℕ) (out : List ℕ) where
   -- the initiator's frame f lands, at which the target makes that move

@@ -29,9 +29,6 @@ after_small p = omega arith
 pub not_lt : (m n : ℕ) → n ≤ m → nat_lt m n ≡ false
 not_lt m n h = grind (arith, nat_tests)
 
-pub le_from_not : (m n : ℕ) → nat_lt m n ≡ false → n ≤ m
-le_from_not m n h = grind (arith, nat_tests)
-
 -- one piece less is left of bytes that take more than one
 pub pieces_drop : (n : ℕ) (xs : List ℕ) → 0 < n → n < length xs → pieces n xs ≡ 1 + pieces n (drop n xs)
 pieces_drop n xs p h =

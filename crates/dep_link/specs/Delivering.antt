@@ -1,10 +1,10 @@
 -- What a listener with a target does in light, by the target's table; in the dark it does nothing. What is handed over has at most
 -- 2,178 bytes, and each answer is an NFC-A frame.
-use Rattle.std.proofs.Common.{◌≡◌, ◌≤◌, ℕ, nat_lt, List, [], length, drop, Bool, true, false, if◌then◌else◌, Option, Some, None, unwrap_or, refl, sym, ◌∙◌, ap, subst}
+use Rattle.std.proofs.Common.{◌≡◌, ◌≤◌, ℕ, nat_lt, List, [], length, drop, Bool, true, false, if◌then◌else◌, Option, Some, None, unwrap_or, refl, sym, ap, subst}
 use Rattle.nfc_base.specs.Signal.{Signal}
 use Rattle.nfc_base.specs.declared.frame.Tech.{Tech}
 use Rattle.nfc_base.specs.declared.frame.Tech.TheVariants.{A}
-use Rattle.nfc_base.specs.Far.{FarUse, Untouched, Restarts, Hands, FarDid}
+use Rattle.nfc_base.specs.Far.{FarUse, Untouched, Hands, FarDid}
 use Rattle.arrayvec.specs.ArrayVec.{ArrayVec}
 use Rattle.dep_pdu.specs.declared.frame.DepFrame.{DepFrame}
 use Rattle.dep_pdu.specs.declared.frame.DepFrame.TheVariants.{Extend}

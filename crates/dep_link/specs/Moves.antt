@@ -1,5 +1,5 @@
 -- What holds of each move of a target's table.
-use Rattle.std.proofs.Common.{◌≡◌, ◌==◌, ◌≤◌, nat_lt, ℕ, ◌++◌, List, [], length, Bool, true, false, if◌then◌else◌, Option, Some, None, refl, arith}
+use Rattle.std.proofs.Common.{◌≡◌, ◌==◌, ◌≤◌, nat_lt, ℕ, ◌++◌, List, length, Bool, true, false, if◌then◌else◌, Option, Some, None, refl, arith}
 use Rattle.std.proofs.lemmas.Bool.Decides.{nat_tests}
 use Rattle.dep_pdu.specs.declared.frame.DepFrame.{DepFrame}
 use Rattle.dep_pdu.specs.declared.frame.DepFrame.TheVariants.{AtrReq, AtrRes, Info, Ack, Nack, Attention, Extend, DslReq, DslRes, RlsReq, RlsRes}
@@ -7,7 +7,7 @@ use Rattle.dep_link.specs.Sizes.{limit}
 use Rattle.dep_link.specs.Frames.{after}
 use Rattle.dep_link.specs.Target.{TargetState, TargetMove, Does, Stays, Answers, Begins, Delivers, Sleeps, Frees, stays, again, repeated, grown, gathered, drawn, extended, heeded}
 
-le_from_not : (m n : ℕ) → nat_lt m n ≡ false → n ≤ m
+pub le_from_not : (m n : ℕ) → nat_lt m n ≡ false → n ≤ m
 le_from_not m n h = grind (arith, nat_tests)
 
 -- nothing is delivered

@@ -1,5 +1,5 @@
 -- How a link to a peer is ended by RLS_REQ (NFCIP-1, ISO/IEC 18092), whatever is heard of it.
-use Rattle.std.specs.Prelude.{◌≡◌, ℕ, List, [], Bool, false, Some, Result, Ok, Err}
+use Rattle.std.specs.Prelude.{◌≡◌, ℕ, List, Bool, false, Some, Result, Ok, Err}
 use Rattle.nfc_base.specs.Signal.{Signal}
 use Rattle.nfc_base.specs.declared.event.Heard.{Heard}
 use Rattle.nfc_base.specs.declared.carrier.EndCause.{EndCause}
