@@ -1,5 +1,5 @@
 -- One turn with a tag that is alone in its field.
-use Rattle.std.proofs.Common.{◌≡◌, ℕ, zero, suc, ◌+◌, ◌<◌, ◌≤◌, List, [], ◌∷◌, ◌++◌, length, Bool, true, false, nat_lt, if◌then◌else◌, Option, Some, None, refl, sym, ◌∙◌, ap, subst, append_assoc, arith}
+use Rattle.std.proofs.Common.{◌≡◌, ℕ, zero, suc, ◌+◌, ◌<◌, ◌≤◌, List, [], ◌∷◌, ◌++◌, length, Bool, true, false, nat_lt, if◌then◌else◌, Option, Some, None, inl, inr, ◌⊎◌, refl, sym, ◌∙◌, ap, subst, append_assoc, arith}
 use Rattle.std.specs.Prelude.{map}
 use Rattle.std.specs.List.{filter, filter_map, cons_option}
 use Rattle.std.proofs.lemmas.List.{length-append, append_cancel_left}
@@ -9,9 +9,10 @@ use Rattle.nfc_base.specs.declared.event.Event.TheVariants.{Reset, Request, Answ
 use Rattle.nfc_base.specs.declared.event.Fate.{Fate}
 use Rattle.nfc_base.specs.declared.event.Fate.TheVariants.{Pass, Damage, Lose, Break}
 use Rattle.nfc_base.specs.declared.event.Heard.{Heard}
+use Rattle.nfc_base.specs.declared.event.Heard.TheVariants as heards
 use Rattle.nfc_base.specs.declared.tag_link.AskFault.TheVariants.{SixBad}
 use Rattle.nfc_base.specs.Signal.{Signal}
-use Rattle.nfc_base.specs.Trace.{Back, Turn, by_fate, back_of, turns, heard, heard_by, noise}
+use Rattle.nfc_base.specs.Trace.{Back, Turn, by_fate, back_of, turns, heard, heard_by, is_whole, noise}
 use Rattle.nfc_base.specs.Trace as backs
 use Rattle.air_core.specs.Joint.{Joint, Nothing, Single, joint, same_tech}
 use Rattle.air_core.specs.World.{World, answered_by, quiet_air}
@@ -23,7 +24,7 @@ use Rattle.air_core.specs.Turning.{going_turn, back_of-append}
 use Rattle.air_core.specs.Waits.{Standing, Asking, Broken, stand, due_at, waits_next}
 use Rattle.air_core.specs.Waiting.{stand_on}
 use Rattle.air_core.specs.PlainTags.{IsAlone}
-use Rattle.air_core.specs.PlainLinks.{has_reached, is_whole, obeyed_in, answered_in, Follows, stores_after}
+use Rattle.air_core.specs.PlainLinks.{has_reached, obeyed_in, answered_in, Follows, stores_after}
 use Rattle.air_core.specs.PlainWaits.{after_bad, times, Waited}
 use Rattle.air_core.specs.declared.listener.Listener.{Ghosts}
 
@@ -42,6 +43,17 @@ tag_events f x y o = Request f x ∷ by_fate x (joint_events (one o) y) [] []
 
 abbrev pub tag_heard : Fate → Fate → Option Signal → Option Heard
 tag_heard x y o = heard_by x (joint_back (one o) y)
+
+-- where all passes, nothing is said or that is heard
+pub calm_events : (f : Signal) (x y : Fate) (q : Option Signal) → noise (tag_events f x y q) ≡ 0 → (q ≡ None) ⊎ ((g : Signal) × (tag_heard x y q ≡ Some (heards.Whole g)))
+calm_events f Pass y None e = inl refl
+calm_events f Pass Pass (Some g) e = inr (g, refl)
+calm_events f Pass Damage (Some g) e = absurd (omega (arith, e))
+calm_events f Pass Lose (Some g) e = absurd (omega (arith, e))
+calm_events f Pass Break (Some g) e = absurd (omega (arith, e))
+calm_events f Damage y q e = absurd (omega (arith, e))
+calm_events f Lose y q e = absurd (omega (arith, e))
+calm_events f Break y q e = absurd (omega (arith, e))
 
 -- the events that a turn appends are those
 events_as : {W : Type 0} (w : World W) (k : Ghosts W) (f : Signal) (x y : Fate) (o : Option Signal) → joint (filter_map (λ l. answered_by k.machine l f None) w.listeners) ≡ one o

@@ -11,6 +11,7 @@ pub mod Quiet
 pub mod Turning
 pub mod Waits
 pub mod Waiting
+pub mod Speaking
 pub mod PlainTags
 pub mod PlainLinks
 pub mod PlainWaits

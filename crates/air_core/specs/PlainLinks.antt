@@ -5,12 +5,10 @@ use Rattle.std.specs.List.{filter}
 use Rattle.nfc_base.specs.declared.frame.Tech.{Tech}
 use Rattle.nfc_base.specs.declared.frame.Tech.TheVariants.{A}
 use Rattle.nfc_base.specs.declared.event.Event.{Event}
-use Rattle.nfc_base.specs.declared.event.Heard.{Heard}
-use Rattle.nfc_base.specs.declared.event.Heard.TheVariants.{Whole, Collided, Damaged, Silent}
 use Rattle.nfc_base.specs.declared.tag_link.AskFault.{AskFault}
 use Rattle.nfc_base.specs.declared.tag_link.AskFault.TheVariants.{FieldLost, SixBad, Memory, Protocol}
 use Rattle.nfc_base.specs.Signal.{Signal}
-use Rattle.nfc_base.specs.Trace.{Turn, by_fate, turns, heard, noise}
+use Rattle.nfc_base.specs.Trace.{Turn, by_fate, turns, heard, is_whole, noise}
 use Rattle.nfc_base.specs.Links.{Counts}
 use Rattle.nfc_base.specs.TagLinks.{LinkView, plain_state, MayAsk, passed, Leads, IsAnswer, IsFault}
 use Rattle.air_core.specs.Joint.{same_tech}
@@ -24,14 +22,6 @@ use Rattle.air_core.specs.declared.listener.Listener.{Ghosts}
 -- the request of a turn reached a tag of this technology
 abbrev pub has_reached : Tech → Turn → Bool
 has_reached t u = by_fate u.fate (same_tech u.request.tech t) false false
-
--- a whole frame was heard
-abbrev pub is_whole : Option Heard → Bool
-is_whole None = false
-is_whole (Some (Whole g)) = true
-is_whole (Some (Collided g)) = false
-is_whole (Some Damaged) = false
-is_whole (Some Silent) = false
 
 -- the requests that reached a tag of this technology
 abbrev pub obeyed_in : Tech → List Event → List Signal

@@ -42,7 +42,8 @@ with_append f Damage xs ys zs e = e
 with_append f Lose xs ys zs e = e
 with_append f Break xs ys zs e = e
 
-arrived_append : (xs ys : List Event) → arrived (xs ++ ys) ≡ arrived xs ++ arrived ys
+-- the requests of one trace behind another that arrived
+pub arrived_append : (xs ys : List Event) → arrived (xs ++ ys) ≡ arrived xs ++ arrived ys
 arrived_append [] ys = refl
 arrived_append (Reset ∷ xs) ys = arrived_append xs ys
 arrived_append (Request f x ∷ xs) ys = with_append f x (arrived (xs ++ ys)) (arrived xs) (arrived ys) (arrived_append xs ys)

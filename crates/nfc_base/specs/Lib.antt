@@ -1,4 +1,5 @@
 pub mod Signal
+pub mod Headed
 pub mod Bits
 pub mod Numbers
 pub mod Trace

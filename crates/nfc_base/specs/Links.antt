@@ -68,7 +68,7 @@ pub record SwapFailed {A : Type 0} (steps : A → List ℕ → List ℕ → A �
   pub left : FarLeft steps stops e.answered e.cause old.handed new.handed out far after
 
 -- A swap on a link that was over: the same cause, the far end makes no step, and nothing changes.
-pub record IsEnded {A V : Type 0} (old new : CarrierView) (c : EndCause) (far after : A) (result : Result V LinkEnd) : Type 0 where
+pub record SwapRefused {A V : Type 0} (old new : CarrierView) (c : EndCause) (far after : A) (result : Result V LinkEnd) : Type 0 where
   pub fault : result ≡ Err (record { cause = c; answered = false })
   pub same : new ≡ old
   pub rests : after ≡ far

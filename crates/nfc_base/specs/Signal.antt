@@ -1,5 +1,5 @@
 -- What a frame is on the air: a technology and some bits, packed into bytes (NFC Forum Digital Protocol; ISO/IEC 14443-3).
-use Rattle.std.specs.Prelude.{◌≡◌, ℕ, ◌-◌, ◌<◌, ◌≤◌, ◌^◌, ◌⊎◌, List, length, slice_index, Bool, true, false}
+use Rattle.std.specs.Prelude.{◌≡◌, ℕ, ◌-◌, ◌<◌, ◌≤◌, ◌^◌, ◌⊎◌, List, length, slice_index, Bool, true, false, ◌==◌, ◌&&◌}
 use Rattle.nfc_base.specs.declared.frame.Tech.{Tech}
 use Rattle.nfc_base.specs.declared.frame.Tech.TheVariants.{A, V}
 
@@ -27,6 +27,10 @@ whole_v bytes = signal V bytes 0
 abbrev pub is_nfc_a : Tech → Bool
 is_nfc_a A = true
 is_nfc_a V = false
+
+-- a frame is NFC-A, and of whole bytes
+abbrev pub is_whole_a : Signal → Bool
+is_whole_a f = is_nfc_a f.tech && (f.tail == 0)
 
 -- the last byte, 0 where there is none
 abbrev pub last_byte : List ℕ → ℕ

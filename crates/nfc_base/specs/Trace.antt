@@ -66,6 +66,28 @@ heard_by x b = by_fate x (heard_back b) (Some Silent) None
 abbrev pub heard : Turn → Option Heard
 heard t = heard_by t.fate t.back
 
+-- What was heard of a turn, sorted: a whole frame, the first bits of a clash, damage, silence, or a loss of the field. What is
+-- told by what was heard of turns stands on this table.
+abbrev pub by_heard : {X : Type 0} → Option Heard → (Signal → X) → (Signal → X) → X → X → X → X
+by_heard (Some (Whole g)) whole clash damage silence lost = whole g
+by_heard (Some (Collided g)) whole clash damage silence lost = clash g
+by_heard (Some Damaged) whole clash damage silence lost = damage
+by_heard (Some Silent) whole clash damage silence lost = silence
+by_heard None whole clash damage silence lost = lost
+
+-- what was heard of it is a whole frame; the first bits of a clash; damage; silence
+abbrev pub is_whole : Option Heard → Bool
+is_whole o = by_heard o (λ g. true) (λ g. false) false false false
+
+abbrev pub is_clash : Option Heard → Bool
+is_clash o = by_heard o (λ g. false) (λ g. true) false false false
+
+abbrev pub is_damage : Option Heard → Bool
+is_damage o = by_heard o (λ g. false) (λ g. false) true false false
+
+abbrev pub is_silence : Option Heard → Bool
+is_silence o = by_heard o (λ g. false) (λ g. false) false true false
+
 -- inside a wait a collided reception counts as damaged
 abbrev pub is_bad_in_wait : Heard → Bool
 is_bad_in_wait (Whole g) = false

@@ -2,7 +2,7 @@
 
 ghost use Rattle.std.specs.Prelude.{◌≡◌, ℕ, ◌≤◌, List, [], ◌∷◌, ◌++◌, length, vec_len, IfOk, IfErr, Option, Some, None, Err, false};
 ghost use Rattle.std.specs.Borrow.{GName};
-ghost use Rattle.nfc_base.specs.Links.{CarrierView, SwapDone, SwapFailed, IsEnded, FarStep, Stepped, Swapped, AskedBy, IsMemory};
+ghost use Rattle.nfc_base.specs.Links.{CarrierView, SwapDone, SwapFailed, SwapRefused, FarStep, Stepped, Swapped, AskedBy, IsMemory};
 ghost use Rattle.nfc_base.specs.Numbers.{end_cause_number};
 ghost use Rattle.nfc_base.specs.declared.carrier.EndCause.{EndCause};
 
@@ -70,7 +70,7 @@ pub trait Carrier {
         ensures err { (seen self.old).over ≡ None
             → IfErr result (λ e. SwapFailed A.steps A.stops (seen self.old) (seen self.new) out.now e far.old far.new) }
         ensures ended { (c : EndCause) → (seen self.old).over ≡ Some c
-            → IsEnded (seen self.old) (seen self.new) c far.old far.new result × moves self.old [] self.new }
+            → SwapRefused (seen self.old) (seen self.new) c far.old far.new result × moves self.old [] self.new }
         // Where all transmissions pass, a payload is answered.
         ensures calm { (seen self.old).over ≡ None → (seen self.old).dark ≡ false
             → (seen self.new).noise ≡ (seen self.old).noise → IfErr result IsMemory }

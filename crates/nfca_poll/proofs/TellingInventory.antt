@@ -4,7 +4,7 @@ use Rattle.std.specs.List.{list_any}
 use Rattle.std.proofs.lemmas.List.{length-append}
 use Rattle.std.proofs.lemmas.List.Elements.{filter-append}
 use Rattle.std.proofs.lemmas.List.Folds.{list_any-append}
-use Rattle.nfc_base.specs.Trace.{Turn, heard}
+use Rattle.nfc_base.specs.Trace.{Turn, heard, is_clash, is_damage, is_silence}
 use Rattle.nfc_base.specs.declared.event.Heard.{Heard}
 use Rattle.nfc_base.specs.declared.event.Heard.TheVariants.{Whole, Collided, Damaged, Silent}
 use Rattle.air_core.specs.Conversation.{Over, LightUp, Asks, note}
@@ -16,7 +16,7 @@ use Rattle.nfca_poll.specs.declared.inventory.Vcrowd.{Vcrowd}
 use Rattle.nfca_poll.specs.declared.inventory.Vcrowd.TheVariants.{Nobody, One, Crowd}
 use Rattle.nfca_poll.specs.Enquiry.{Progress, Reaches, Loses, progress, or_memory, answer_of, Enquires}
 use Rattle.nfca_poll.specs.Inventory.{Inventory, Tries, Told, tries, inventory, is_present, answered_id}
-use Rattle.nfca_poll.specs.ByHeard.{is_silence, is_damage, is_clash, is_strange, silences, damages, has_clash, has_strange, TellsInventory, turns_since}
+use Rattle.nfca_poll.specs.ByHeard.{is_no_present, silences, damages, has_clash, has_no_present, TellsInventory, turns_since}
 use Rattle.nfca_poll.proofs.EnquiryWalks.{after}
 use Rattle.nfca_poll.proofs.TurnWalks.{turns_hold}
 
@@ -57,7 +57,7 @@ not_both false e f = cc
 -- an inventory so far: no clash, no strange answer, and each turn silent or damaged
 record Vain (n : ℕ) (d : Bool) (ts : List Turn) : Type 0 where
   clash : has_clash ts ≡ false
-  strange : has_strange ts ≡ false
+  strange : has_no_present ts ≡ false
   sum : silences ts + damages ts ≡ n
   some : d ≡ true → 0 < damages ts
   none : d ≡ false → damages ts ≡ 0
@@ -83,8 +83,8 @@ record Adds (ts us : List Turn) (o : Option Heard) : Type 0 where
   damage : damages us ≡ damages ts + one_if (is_damage o)
   clash : is_clash o ≡ false → has_clash us ≡ has_clash ts
   clashed : is_clash o ≡ true → has_clash us ≡ true
-  strange : is_strange o ≡ false → has_strange us ≡ has_strange ts
-  stranger : is_strange o ≡ true → has_strange us ≡ true
+  strange : is_no_present o ≡ false → has_no_present us ≡ has_no_present ts
+  stranger : is_no_present o ≡ true → has_no_present us ≡ true
 
 adds : (ts : List Turn) (t : Turn) → Adds ts (ts ++ t ∷ []) (heard t)
 adds ts t = record {
@@ -92,20 +92,20 @@ adds ts t = record {
   damage = count_more (λ u. is_damage (heard u)) ts t;
   clash = any_none (λ u. is_clash (heard u)) ts t;
   clashed = any_one (λ u. is_clash (heard u)) ts t;
-  strange = any_none (λ u. is_strange (heard u)) ts t;
-  stranger = any_one (λ u. is_strange (heard u)) ts t;
+  strange = any_none (λ u. is_no_present (heard u)) ts t;
+  stranger = any_one (λ u. is_no_present (heard u)) ts t;
 }
 
 -- the call is told one of these
-tells_crowd : (us : List Turn) (n : ℕ) → n < 4 → silences us + damages us ≡ n → has_clash us ≡ true → has_strange us ≡ false → TellsInventory us (Ok Crowd)
+tells_crowd : (us : List Turn) (n : ℕ) → n < 4 → silences us + damages us ≡ n → has_clash us ≡ true → has_no_present us ≡ false → TellsInventory us (Ok Crowd)
 tells_crowd us n few sum clash strange = record {
   nobody = (λ e. absurd cc, λ e. absurd (omega (arith, few, sum, e)));
   crowd = (λ e. clash, λ e. refl);
   disturbed = (λ e. absurd cc, λ e. absurd (omega (arith, few, sum, e.0)));
-  bad = (λ e. absurd cc, λ e. absurd (not_both (has_strange us) strange e));
+  bad = (λ e. absurd cc, λ e. absurd (not_both (has_no_present us) strange e));
 }
 
-tells_bad : (us : List Turn) (n : ℕ) → n < 4 → silences us + damages us ≡ n → has_clash us ≡ false → has_strange us ≡ true → TellsInventory us (Err faults.BadAnswer)
+tells_bad : (us : List Turn) (n : ℕ) → n < 4 → silences us + damages us ≡ n → has_clash us ≡ false → has_no_present us ≡ true → TellsInventory us (Err faults.BadAnswer)
 tells_bad us n few sum clash strange = record {
   nobody = (λ e. absurd cc, λ e. absurd (omega (arith, few, sum, e)));
   crowd = (λ e. absurd cc, λ e. absurd (not_both (has_clash us) clash e));
@@ -114,16 +114,16 @@ tells_bad us n few sum clash strange = record {
 }
 
 -- any other answer that is no end of the tries
-tells_other : (us : List Turn) (n : ℕ) (r : Result Vcrowd PollFault) → n < 4 → silences us + damages us ≡ n → has_clash us ≡ false → has_strange us ≡ false
+tells_other : (us : List Turn) (n : ℕ) (r : Result Vcrowd PollFault) → n < 4 → silences us + damages us ≡ n → has_clash us ≡ false → has_no_present us ≡ false
     → (r ≡ Ok Nobody → ⊥) → (r ≡ Ok Crowd → ⊥) → (r ≡ Err faults.Disturbed → ⊥) → (r ≡ Err faults.BadAnswer → ⊥) → TellsInventory us r
 tells_other us n r few sum clash strange a b c d = record {
   nobody = (λ e. absurd (a e), λ e. absurd (omega (arith, few, sum, e)));
   crowd = (λ e. absurd (b e), λ e. absurd (not_both (has_clash us) clash e));
   disturbed = (λ e. absurd (c e), λ e. absurd (omega (arith, few, sum, e.0)));
-  bad = (λ e. absurd (d e), λ e. absurd (not_both (has_strange us) strange e));
+  bad = (λ e. absurd (d e), λ e. absurd (not_both (has_no_present us) strange e));
 }
 
-whole_tells : (v : Bool) (g : _) (us : List Turn) (n : ℕ) → n < 4 → silences us + damages us ≡ n → has_clash us ≡ false → (not v ≡ false → has_strange us ≡ false) → (not v ≡ true → has_strange us ≡ true)
+whole_tells : (v : Bool) (g : _) (us : List Turn) (n : ℕ) → n < 4 → silences us + damages us ≡ n → has_clash us ≡ false → (not v ≡ false → has_no_present us ≡ false) → (not v ≡ true → has_no_present us ≡ true)
     → At (Reaches (if v then Told (Ok (One (answered_id g))) else Told (Err faults.BadAnswer))) us
 whole_tells true g us n few sum clash well ill = tells_other us n (Ok (One (answered_id g))) few sum clash (well refl) (λ e. cc) (λ e. cc) (λ e. cc) (λ e. cc)
 whole_tells false g us n few sum clash well ill = tells_bad us n few sum clash (ill refl)
@@ -156,13 +156,13 @@ tried n true ts v most false h = record {
   nobody = (λ e. absurd cc, λ e. absurd (omega (arith, v.sum, v.some refl, most, e)));
   crowd = (λ e. absurd cc, λ e. absurd (not_both (has_clash ts) v.clash e));
   disturbed = (λ e. (omega (arith, v.sum, most, far_of n 4 h), v.some refl), λ e. refl);
-  bad = (λ e. absurd cc, λ e. absurd (not_both (has_strange ts) v.strange e));
+  bad = (λ e. absurd cc, λ e. absurd (not_both (has_no_present ts) v.strange e));
 }
 tried n false ts v most false h = record {
   nobody = (λ e. omega (arith, v.sum, v.none refl, most, far_of n 4 h), λ e. refl);
   crowd = (λ e. absurd cc, λ e. absurd (not_both (has_clash ts) v.clash e));
   disturbed = (λ e. absurd cc, λ e. absurd (omega (arith, e.1, v.none refl)));
-  bad = (λ e. absurd cc, λ e. absurd (not_both (has_strange ts) v.strange e));
+  bad = (λ e. absurd cc, λ e. absurd (not_both (has_no_present ts) v.strange e));
 }
 
 ends : (p : Progress (Inventory Vcrowd)) (ts : List Turn) → At p ts → TellsInventory ts (answer_of inventory p)

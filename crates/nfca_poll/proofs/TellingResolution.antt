@@ -4,7 +4,7 @@ use Rattle.std.proofs.lemmas.List.{length-append}
 use Rattle.std.proofs.lemmas.List.Elements.{filter-append}
 use Rattle.nfc_base.specs.Signal.{Signal}
 use Rattle.nfc_base.specs.Bits.{bits, packed}
-use Rattle.nfc_base.specs.Trace.{Turn, heard}
+use Rattle.nfc_base.specs.Trace.{Turn, heard, is_silence}
 use Rattle.nfc_base.specs.declared.event.Heard.{Heard}
 use Rattle.nfc_base.specs.declared.event.Heard.TheVariants.{Whole, Collided, Damaged, Silent}
 use Rattle.air_core.specs.Joint.{same_bit}
@@ -20,7 +20,7 @@ use Rattle.nfca_poll.specs.Counting.{is_sens_req}
 use Rattle.nfca_poll.specs.Enquiry.{Progress, Reaches, Loses, progress, answer_of, Enquires}
 use Rattle.nfca_poll.specs.Poll.{Seek, Calling, Asking, Selecting, Ended, Nobody, BadAnswer, Found, seek_next, selected, goes_on, kind_of, has_bit, is_one_byte, is_level, level_bits, collision_bits}
 use Rattle.nfca_poll.specs.Seeking.{resolution, outcome}
-use Rattle.nfca_poll.specs.ByHeard.{is_silence, silences, presence_turns, is_wrong, is_missed, has_wrong, has_missed, TellsResolution, turns_since}
+use Rattle.nfca_poll.specs.ByHeard.{silences, presence_turns, is_wrong, is_missed, has_wrong, has_missed, TellsResolution, turns_since}
 use Rattle.nfca_poll.proofs.CallsRead.{sdd_read, sel_read}
 use Rattle.nfca_poll.proofs.SeekSteps.{packed_forty}
 use Rattle.nfca_poll.proofs.EnquiryWalks.{after}

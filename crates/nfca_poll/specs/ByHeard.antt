@@ -1,11 +1,10 @@
 -- What the calls of polling answer, by what was heard of their turns (NFC Forum Digital Protocol; ISO/IEC 14443-3; ISO/IEC
 -- 15693-3; four presence requests and four tries are this project's own).
-use Rattle.std.specs.Prelude.{◌≡◌, ◌↔◌, ◌⊎◌, ◌≤◌, ◌<◌, ℕ, ◌+◌, List, ◌++◌, length, drop, filter, slice_index, Bool, true, false, not, ◌&&◌, ◌||◌, nat_lt, nat_le, Option, Some, None, Result, Ok, Err}
+use Rattle.std.specs.Prelude.{◌≡◌, ◌↔◌, ◌⊎◌, ◌≤◌, ◌<◌, ℕ, ◌+◌, List, ◌++◌, length, drop, filter, slice_index, Bool, true, false, not, ◌&&◌, ◌||◌, nat_lt, nat_le, Option, Result, Ok, Err}
 use Rattle.std.specs.List.{list_any}
 use Rattle.nfc_base.specs.Bits.{bits}
-use Rattle.nfc_base.specs.Trace.{Turn, turns, heard}
+use Rattle.nfc_base.specs.Trace.{Turn, turns, heard, by_heard, is_clash, is_damage, is_silence}
 use Rattle.nfc_base.specs.declared.event.Heard.{Heard}
-use Rattle.nfc_base.specs.declared.event.Heard.TheVariants.{Whole, Collided, Damaged, Silent}
 use Rattle.air_core.specs.Joint.{same_bit}
 use Rattle.air_core.specs.Turn.{Air}
 use Rattle.nfca_poll.specs.declared.kind.Kind.{Kind}
@@ -25,36 +24,11 @@ use Rattle.nfca_poll.specs.Inventory.{is_present, tries}
 abbrev pub turns_since : {L : Type 0} → Air L → Air L → List Turn
 turns_since old new = turns (drop (length old.trace) new.trace)
 
--- what was heard of a turn: silence, damage, a clash, or a whole answer to an inventory that hasn't ten bytes
-abbrev pub is_silence : Option Heard → Bool
-is_silence None = false
-is_silence (Some (Whole g)) = false
-is_silence (Some (Collided g)) = false
-is_silence (Some Damaged) = false
-is_silence (Some Silent) = true
+-- a whole frame was heard that is no answer to an inventory, which has ten bytes
+abbrev pub is_no_present : Option Heard → Bool
+is_no_present o = by_heard o (λ g. not (is_present g)) (λ g. false) false false false
 
-abbrev pub is_damage : Option Heard → Bool
-is_damage None = false
-is_damage (Some (Whole g)) = false
-is_damage (Some (Collided g)) = false
-is_damage (Some Damaged) = true
-is_damage (Some Silent) = false
-
-abbrev pub is_clash : Option Heard → Bool
-is_clash None = false
-is_clash (Some (Whole g)) = false
-is_clash (Some (Collided g)) = true
-is_clash (Some Damaged) = false
-is_clash (Some Silent) = false
-
-abbrev pub is_strange : Option Heard → Bool
-is_strange None = false
-is_strange (Some (Whole g)) = not (is_present g)
-is_strange (Some (Collided g)) = false
-is_strange (Some Damaged) = false
-is_strange (Some Silent) = false
-
--- how many turns were silent, and how many damaged; whether there was a clash, or such an answer
+-- how many turns were silent, and how many damaged; whether there was a clash, or a frame that is no answer
 abbrev pub silences : List Turn → ℕ
 silences ts = length (filter (λ t. is_silence (heard t)) ts)
 
@@ -64,8 +38,8 @@ damages ts = length (filter (λ t. is_damage (heard t)) ts)
 abbrev pub has_clash : List Turn → Bool
 has_clash ts = list_any (λ t. is_clash (heard t)) ts
 
-abbrev pub has_strange : List Turn → Bool
-has_strange ts = list_any (λ t. is_strange (heard t)) ts
+abbrev pub has_no_present : List Turn → Bool
+has_no_present ts = list_any (λ t. is_no_present (heard t)) ts
 
 -- the turns that ask by SENS_REQ
 abbrev pub presence_turns : List Turn → List Turn
@@ -74,20 +48,12 @@ presence_turns ts = filter (λ t. is_sens_req t.request) ts
 -- What no device answers to SDD_REQ, whose known bits go before what was heard: a level of another length or with a wrong
 -- check byte, or a clash behind its first 32 bits.
 abbrev pub is_wrong_level : List Bool → Option Heard → Bool
-is_wrong_level known None = false
-is_wrong_level known (Some (Whole g)) = not (is_level (known ++ bits g))
-is_wrong_level known (Some (Collided g)) = nat_le collision_bits (length (known ++ bits g))
-is_wrong_level known (Some Damaged) = false
-is_wrong_level known (Some Silent) = false
+is_wrong_level known o = by_heard o (λ g. not (is_level (known ++ bits g))) (λ g. nat_le collision_bits (length (known ++ bits g))) false false false
 
 -- What none answers to SEL_REQ of a level: anything but one byte, which says that another level follows exactly where this one
 -- says so; the third never does. Nor do two devices answer differently.
 abbrev pub is_wrong_res : ℕ → List ℕ → Option Heard → Bool
-is_wrong_res k l None = false
-is_wrong_res k l (Some (Whole g)) = not (is_one_byte g && same_bit (has_bit (slice_index g.bytes 0) 0x04) (nat_lt k 3 && cascades l))
-is_wrong_res k l (Some (Collided g)) = true
-is_wrong_res k l (Some Damaged) = false
-is_wrong_res k l (Some Silent) = false
+is_wrong_res k l o = by_heard o (λ g. not (is_one_byte g && same_bit (has_bit (slice_index g.bytes 0) 0x04) (nat_lt k 3 && cascades l))) (λ g. true) false false false
 
 abbrev pub is_wrong : Reading → Option Heard → Bool
 is_wrong (Calls Sens) h = false
@@ -129,7 +95,7 @@ pub record TellsInventory (ts : List Turn) (r : Result Vcrowd PollFault) : Type 
   -- that it is disturbed exactly where four turns were silent or damaged, and not all of them silent
   pub disturbed : r ≡ Err faults.Disturbed ↔ (silences ts + damages ts ≡ tries) × (0 < damages ts)
   -- a bad answer exactly where a whole answer hadn't ten bytes
-  pub bad : r ≡ Err faults.BadAnswer ↔ has_strange ts ≡ true
+  pub bad : r ≡ Err faults.BadAnswer ↔ has_no_present ts ≡ true
 
 -- how many SLP_REQ were sent
 abbrev pub sleeps : List Turn → ℕ

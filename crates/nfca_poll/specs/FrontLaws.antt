@@ -74,10 +74,10 @@ module _ {U : Type 0} {m : UpperMachine U} {store : U → List ℕ} {commands : 
   left_kind Idle next u = refl
   left_kind Sleep next u = refl
   left_kind (Ready k starred) next u = refl
-  left_kind (Active starred) Off u = (laws.clear_keeps u).0.kind'
-  left_kind (Active starred) Idle u = (laws.clear_keeps u).0.kind'
-  left_kind (Active starred) Sleep u = (laws.clear_keeps u).0.kind'
-  left_kind (Active starred) (Ready k other) u = (laws.clear_keeps u).0.kind'
+  left_kind (Active starred) Off u = (laws.clear_keeps u).0.same_kind
+  left_kind (Active starred) Idle u = (laws.clear_keeps u).0.same_kind
+  left_kind (Active starred) Sleep u = (laws.clear_keeps u).0.same_kind
+  left_kind (Active starred) (Ready k other) u = (laws.clear_keeps u).0.same_kind
   left_kind (Active starred) (Active other) u = refl
 
   left_commands : (front next : Front) (u : U) → commands (left_at m front next u) ≡ commands u
@@ -85,10 +85,10 @@ module _ {U : Type 0} {m : UpperMachine U} {store : U → List ℕ} {commands : 
   left_commands Idle next u = refl
   left_commands Sleep next u = refl
   left_commands (Ready k starred) next u = refl
-  left_commands (Active starred) Off u = (laws.clear_keeps u).0.commands'
-  left_commands (Active starred) Idle u = (laws.clear_keeps u).0.commands'
-  left_commands (Active starred) Sleep u = (laws.clear_keeps u).0.commands'
-  left_commands (Active starred) (Ready k other) u = (laws.clear_keeps u).0.commands'
+  left_commands (Active starred) Off u = (laws.clear_keeps u).0.same_commands
+  left_commands (Active starred) Idle u = (laws.clear_keeps u).0.same_commands
+  left_commands (Active starred) Sleep u = (laws.clear_keeps u).0.same_commands
+  left_commands (Active starred) (Ready k other) u = (laws.clear_keeps u).0.same_commands
   left_commands (Active starred) (Active other) u = refl
 
   pub left_store : (front next : Front) (u : U) → store (left_at m front next u) ≡ store u
@@ -106,8 +106,8 @@ module _ {U : Type 0} {m : UpperMachine U} {store : U → List ℕ} {commands : 
   active_keeps steps.Foreign u d f c = record { tech' = refl; identifier' = refl; commands' = left_commands d.front _ d.upper }
   active_keeps steps.Quiet u d f c = record { tech' = refl; identifier' = refl; commands' = c }
   active_keeps (steps.Reply g) u d f c = record { tech' = refl; identifier' = refl; commands' = c }
-  active_keeps (steps.Sleep g) u d f c = record { tech' = refl; identifier' = refl; commands' = (laws.clear_keeps u).0.commands' ∙ c }
-  active_keeps (steps.Idle g) u d f c = record { tech' = refl; identifier' = refl; commands' = (laws.clear_keeps u).0.commands' ∙ c }
+  active_keeps (steps.Sleep g) u d f c = record { tech' = refl; identifier' = refl; commands' = (laws.clear_keeps u).0.same_commands ∙ c }
+  active_keeps (steps.Idle g) u d f c = record { tech' = refl; identifier' = refl; commands' = (laws.clear_keeps u).0.same_commands ∙ c }
 
   plain_keeps : (d : Fronted U) (f : Signal) → Same d (plain_after m d f)
   plain_keeps d f = record { tech' = refl; identifier' = refl; commands' = left_commands d.front (front_next (levels d.id) d.front (call_of f)) d.upper }
@@ -117,7 +117,7 @@ module _ {U : Type 0} {m : UpperMachine U} {store : U → List ℕ} {commands : 
   keeps_by Idle d f reply = plain_keeps d f
   keeps_by Sleep d f reply = plain_keeps d f
   keeps_by (Ready k starred) d f reply = plain_keeps d f
-  keeps_by (Active starred) d f reply = active_keeps (m.says d.upper f reply) (m.after d.upper f reply) d f (laws.step_keeps d.upper f reply).commands'
+  keeps_by (Active starred) d f reply = active_keeps (m.says d.upper f reply) (m.after d.upper f reply) d f (laws.step_keeps d.upper f reply).same_commands
 
   pub step_keeps : (d : Fronted U) (f : Signal) (reply : Option (List ℕ)) → Same d ((fronts m).after d f reply)
   step_keeps d f reply = keeps_by d.front d f reply

@@ -10,7 +10,7 @@ use Rattle.nfca_poll.specs.Levels.{levels}
 use Rattle.nfca_poll.specs.Calls.{Call, Calls, call_of}
 use Rattle.nfca_poll.specs.Front.{Front, Off, Idle, Sleep, Ready, Active, front_next, is_active}
 use Rattle.nfca_poll.specs.Upper.{UpperMachine, is_taken, IsUpper}
-use Rattle.nfca_poll.specs.OwnFrames.{own_no_call}
+use Rattle.nfca_poll.specs.OwnFrames.{call_begins, own_no_call}
 use Rattle.nfca_poll.specs.FrontLaws.{left_kind}
 use Rattle.nfca_poll.specs.Fronted.{Fronted, fronts, left_at, active_answer, active_after}
 use Rattle.nfca_poll.specs.Crowd.{StepsByFront, AreOurs}
@@ -76,12 +76,12 @@ module _ {U : Type 0} {m : UpperMachine U} {store : U → List ℕ} {commands : 
         same_front = ap (λ x. (after x).front) s;
         same_tech = refl;
         same_id = ap (λ x. (after x).id) s;
-        same_kind = ap (λ x. m.kind (after x).upper) s ∙ (laws.step_keeps u f None).kind';
+        same_kind = ap (λ x. m.kind (after x).upper) s ∙ (laws.step_keeps u f None).same_kind;
       }
 
   -- a call is foreign to a machine whose link isn't open
   foreign_call : (u : U) (f : Signal) (c : Call) → call_of f ≡ Calls c → is_open u ≡ false → m.says u f None ≡ steps.Foreign
-  foreign_call u f c e n = not_taken (m.says u f None) (laws.takes u f None ∙ own_no_call (m.kind u) (is_open u) (attributes f) f c e n (laws.no_call f c e))
+  foreign_call u f c e n = not_taken (m.says u f None) (laws.takes u f None ∙ own_no_call (m.kind u) (is_open u) (attributes f) f (call_begins f c e) n (laws.no_call f c e))
 
   abbrev Yields : Front → List ℕ → U → Signal → Type 0
   Yields front id u f =

@@ -92,8 +92,8 @@ module _ {U : Type 0} {m : UpperMachine U} {store : U → List ℕ} {commands : 
       ap (λ k. is_t2 k && not (is_ready next)) (left_kind laws (Active starred) next u) ∙ ap (λ w. is_t2 (m.kind u) && not w) (active_unready (levels id) starred (call_of f)) ∙ ap (λ w. w && true) h
   active_kept steps.Quiet v starred id u f e h = ap (λ k. is_t2 k && true) e ∙ ap (λ w. w && true) h
   active_kept (steps.Reply g) v starred id u f e h = ap (λ k. is_t2 k && true) e ∙ ap (λ w. w && true) h
-  active_kept (steps.Sleep g) v starred id u f e h = ap (λ k. is_t2 k && true) ((laws.clear_keeps v).0.kind' ∙ e) ∙ ap (λ w. w && true) h
-  active_kept (steps.Idle g) v starred id u f e h = ap (λ k. is_t2 k && true) ((laws.clear_keeps v).0.kind' ∙ e) ∙ ap (λ w. w && true) h
+  active_kept (steps.Sleep g) v starred id u f e h = ap (λ k. is_t2 k && true) ((laws.clear_keeps v).0.same_kind ∙ e) ∙ ap (λ w. w && true) h
+  active_kept (steps.Idle g) v starred id u f e h = ap (λ k. is_t2 k && true) ((laws.clear_keeps v).0.same_kind ∙ e) ∙ ap (λ w. w && true) h
 
   kept_by : (front : Front) (id : List ℕ) (u : U) (f : Signal) → wakes (call_of f) ≡ false → is_plain (record { id = id; front = front; upper = u }) ≡ true
       → is_plain ((fronts m).after (record { id = id; front = front; upper = u }) f None) ≡ true
@@ -107,7 +107,7 @@ module _ {U : Type 0} {m : UpperMachine U} {store : U → List ℕ} {commands : 
       no_ready T4 e = cc
       no_ready Peer e = cc
   kept_by (Active starred) id u f w h =
-      active_kept (m.says u f None) (m.after u f None) starred id u f (laws.step_keeps u f None).kind' (both (is_t2 (m.kind u)) true h).0
+      active_kept (m.says u f None) (m.after u f None) starred id u f (laws.step_keeps u f None).same_kind (both (is_t2 (m.kind u)) true h).0
 
   -- while it is active it takes a command
   active_says : (s : UpStep) (starred : Bool) (id : List ℕ) (u : U) (f : Signal) → active_answer m s (record { id = id; front = Active starred; upper = u }) f ≡ answer_in s

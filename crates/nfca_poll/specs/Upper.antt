@@ -1,11 +1,11 @@
 -- The machine above a listener front, which takes the frames of a selected device, and which frames are its own (NFC Forum
 -- Digital Protocol; NFC Forum Type 2 Tag).
-use Rattle.std.specs.Prelude.{◌≡◌, ℕ, ◌≤◌, List, length, slice_index, Bool, true, false, ◌==◌, ◌&&◌, ◌||◌, Option, Some, None}
+use Rattle.std.specs.Prelude.{◌≡◌, ℕ, ◌≤◌, List, length, Bool, true, false, ◌||◌, Option, Some, None}
 use Rattle.nfc_base.specs.declared.frame.Tech.TheVariants.{A}
 use Rattle.nfc_base.specs.Signal.{Signal}
+use Rattle.nfc_base.specs.Headed.{is_t2_frame, is_rats}
 use Rattle.nfc_base.specs.Far.{FarUse, Untouched, Hands, FarDid}
 use Rattle.nfc_base.specs.TagLinks.{TagState, TagStep}
-use Rattle.air_core.specs.Joint.{same_tech}
 use Rattle.nfca_poll.specs.Calls.{Call, Calls, call_of}
 use Rattle.nfca_poll.specs.declared.kind.Kind.{Kind}
 use Rattle.nfca_poll.specs.declared.kind.Kind.TheVariants.{T2, T4, Peer}
@@ -43,17 +43,6 @@ answer_in (steps.Reply g) = Some g
 answer_in (steps.Sleep g) = Some g
 answer_in (steps.Idle g) = Some g
 
--- an NFC-A frame of so many whole bytes that begins with this one
-abbrev pub is_headed : ℕ → ℕ → Signal → Bool
-is_headed size head f = same_tech f.tech A && (f.tail == 0) && (length f.bytes == size) && (slice_index f.bytes 0 == head)
-
--- READ and WRITE of a Type 2 tag, and RATS
-abbrev pub is_t2_frame : Signal → Bool
-is_t2_frame f = is_headed 2 0x30 f || is_headed 6 0xA2 f
-
-abbrev pub is_rats : Signal → Bool
-is_rats f = is_headed 2 0xE0 f
-
 -- Which frames are the machine's, by its kind. A Type 2 tag takes READ and WRITE. A Type 4 tag takes RATS, a peer a
 -- well-formed ATR_REQ; either opens a link, which takes every frame.
 abbrev pub is_own : Kind → Bool → Bool → Signal → Bool
@@ -63,8 +52,8 @@ is_own Peer is_open attributes f = is_open || attributes
 
 -- What no frame changes of a machine: its kind, and of a tag its step on commands.
 pub record StaysOneKind {U : Type 0} (kind : U → Kind) (commands : U → TagState → Signal → TagStep) (old new : U) : Type 0 where
-  pub kind' : kind new ≡ kind old
-  pub commands' : commands new ≡ commands old
+  pub same_kind : kind new ≡ kind old
+  pub same_commands : commands new ≡ commands old
 
 -- What machines above a front keep to. Of a peer, `attributes` says which frame is a well-formed ATR_REQ.
 pub record IsUpper {U : Type 0} (m : UpperMachine U) (store : U → List ℕ) (commands : U → TagState → Signal → TagStep)

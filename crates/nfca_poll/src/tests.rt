@@ -2,7 +2,7 @@
 
 ghost use Rattle.std.specs.Prelude.{◌≡◌, ◌<◌, IfOk, IfSome};
 ghost use Rattle.air_core.specs.PlainTags.{HasPlainTag};
-ghost use Rattle.nfca_poll.specs.Upper.{is_headed};
+ghost use Rattle.nfc_base.specs.Headed.{is_headed};
 
 use crate::{
     Front, Ident, Kind, Picked, PollFault, UpStep, Upper, Vcrowd, find_all, inventory_one, pick,
@@ -36,8 +36,8 @@ impl Upper for Card {
     ghost use Rattle.std.proofs.Common.{rules, refl, ap, ◌∙◌};
     ghost use Rattle.nfc_base.specs.Signal.{whole_a};
     ghost use Rattle.nfc_base.specs.Far.{Untouched};
-    ghost use Rattle.nfca_poll.specs.Upper.{is_rats, is_headed};
-    ghost use Rattle.nfca_poll.specs.OwnFrames.{no_headed};
+    ghost use Rattle.nfc_base.specs.Headed.{is_rats, is_headed};
+    ghost use Rattle.nfca_poll.specs.OwnFrames.{call_begins, no_read};
     ghost use Rattle.nfca_poll.specs.declared.kind.Kind.TheVariants.{T4};
     ghost use Rattle.nfca_poll.specs.declared.upper.UpStep.TheVariants as steps;
 
@@ -94,7 +94,7 @@ impl Upper for Card {
         ap
             (λ v. if v then (if is_headed 2 0x30 f then steps.Sleep (whole_a (170 ∷ [])) else steps.Quiet) else
             (if is_rats f then steps.Reply (whole_a (170 ∷ [])) else steps.Foreign)) o ∙ ap
-            (λ v. if v then steps.Sleep (whole_a (170 ∷ [])) else steps.Quiet) (no_headed 2 0x30 f c refl refl e),
+            (λ v. if v then steps.Sleep (whole_a (170 ∷ [])) else steps.Quiet) (no_read f (call_begins f c e)),
       );
       waits = Prim.search rules;
       bounded = Prim.search rules;
@@ -507,7 +507,7 @@ impl Upper for Pad {
     ghost use Rattle.std.proofs.Common.{rules};
     ghost use Rattle.nfc_base.specs.Signal.{whole_a};
     ghost use Rattle.nfc_base.specs.Far.{Untouched};
-    ghost use Rattle.nfca_poll.specs.Upper.{is_t2_frame};
+    ghost use Rattle.nfc_base.specs.Headed.{is_t2_frame};
     ghost use Rattle.nfca_poll.specs.declared.kind.Kind.TheVariants.{T2};
     ghost use Rattle.nfca_poll.specs.declared.upper.UpStep.TheVariants as steps;
 

@@ -1,54 +1,94 @@
 -- A frame spells at most one command, and that is the one read from it.
-use Rattle.std.proofs.Common.{◌≡◌, ℕ, List, [], ◌∷◌, length, Bool, true, false, ◌==◌, if◌then◌else◌, Option, Some, None, IsNone, ◌↔◌, refl, sym, ◌∙◌, ap, subst, arith}
+use Rattle.std.proofs.Common.{◌≡◌, ℕ, List, [], ◌∷◌, length, drop, slice_index, slice_index_or, Bool, true, false, ◌==◌, ◌&&◌, if◌then◌else◌, Option, Some, None, IsNone, ◌↔◌, refl, sym, ◌∙◌, ap, subst, arith}
 use Rattle.nfc_base.specs.declared.frame.Tech.{Tech}
 use Rattle.nfc_base.specs.declared.frame.Tech.TheVariants.{A, V}
-use Rattle.nfc_base.specs.Signal.{Signal, signal, whole_a, last_byte}
+use Rattle.nfc_base.specs.Signal.{Signal, signal, whole_a, is_nfc_a, last_byte}
+use Rattle.nfc_base.specs.Headed.{is_headed, t2_read_code, t2_write_code}
 use Rattle.t2t_tag.specs.declared.command.T2Command.{T2Command}
 use Rattle.t2t_tag.specs.declared.command.T2Command.TheVariants.{Read, Write}
 use Rattle.t2t_tag.specs.declared.answer.T2Answer.{T2Answer}
 use Rattle.t2t_tag.specs.declared.answer.T2Answer.TheVariants.{Content, Done, Refused}
-use Rattle.t2t_tag.specs.Spelling.{read_code, write_code, ack, nak, command_of, spelled_command, T2Spelling, T2AnswerSpelling}
+use Rattle.t2t_tag.specs.Spelling.{ack, nak, spelled_command, T2Spelling, T2AnswerSpelling}
 
 -- Something is spelled, so it isn't so that nothing is.
 pub not_none : {X : Type 0} (Spells : X → Type 0) (x : X) → Spells x → IsNone (Some x) ↔ ((y : X) → ¬ Spells y)
 not_none Spells x is = ((λ n. cc), (λ none. absurd (none x is)))
 
-read_two : (code block : ℕ) (v : Bool) → (code == read_code) ≡ v → (c : T2Command) → (if v then Some (Read block) else None) ≡ Some c → T2Spelling c (whole_a (code ∷ block ∷ []))
-read_two code block true is c e =
-    let P : T2Command → Type 0 = λ c. T2Spelling c (whole_a (code ∷ block ∷ [])) in
-    let n : code ≡ read_code = grind arith in
-    subst P (let d : Read block ≡ c = cc in d) (ap (λ x. whole_a (x ∷ block ∷ [])) n)
-read_two code block false is c e = cc
+-- a list of so many bytes
+two_bytes : (bytes : List ℕ) → length bytes ≡ 2 → bytes ≡ slice_index bytes 0 ∷ slice_index bytes 1 ∷ []
+two_bytes [] h = absurd (omega (arith, h))
+two_bytes (a ∷ []) h = absurd (omega (arith, h))
+two_bytes (a ∷ b ∷ []) h = refl
+two_bytes (a ∷ b ∷ c ∷ rest) h = absurd (omega (arith, h))
 
-read_six : (code block w x y z : ℕ) (v : Bool) → (code == write_code) ≡ v → (c : T2Command) → (if v then Some (Write block (w ∷ x ∷ y ∷ z ∷ [])) else None) ≡ Some c → T2Spelling c (whole_a (code ∷ block ∷ w ∷ x ∷ y ∷ z ∷ []))
-read_six code block w x y z true is c e =
-    let bytes : List ℕ = w ∷ x ∷ y ∷ z ∷ [] in
-    let P : T2Command → Type 0 = λ c. T2Spelling c (whole_a (code ∷ block ∷ bytes)) in
-    let n : code ≡ write_code = grind arith in
-    subst P (let d : Write block bytes ≡ c = cc in d) (refl, ap (λ x. whole_a (x ∷ block ∷ bytes)) n)
-read_six code block w x y z false is c e = cc
+more_bytes : (bytes : List ℕ) → length bytes ≡ 6 → (bytes ≡ slice_index bytes 0 ∷ slice_index bytes 1 ∷ drop 2 bytes) × (length (drop 2 bytes) ≡ 4)
+more_bytes [] h = absurd (omega (arith, h))
+more_bytes (a ∷ []) h = absurd (omega (arith, h))
+more_bytes (a ∷ b ∷ rest) h = (refl, omega (arith, h))
 
-read_bytes : (bytes : List ℕ) (c : T2Command) → command_of bytes ≡ Some c → T2Spelling c (whole_a bytes)
-read_bytes [] c e = cc
-read_bytes (a ∷ []) c e = cc
-read_bytes (code ∷ block ∷ []) c e = read_two code block (code == read_code) refl c e
-read_bytes (a ∷ b ∷ d ∷ []) c e = cc
-read_bytes (a ∷ b ∷ d ∷ f ∷ []) c e = cc
-read_bytes (a ∷ b ∷ d ∷ f ∷ g ∷ []) c e = cc
-read_bytes (code ∷ block ∷ w ∷ x ∷ y ∷ z ∷ []) c e = read_six code block w x y z (code == write_code) refl c e
-read_bytes (a ∷ b ∷ d ∷ f ∷ g ∷ h ∷ i ∷ rest) c e = cc
+-- what a frame is that is known by its head
+is_begun : (v : Bool) (t n i size head : ℕ) → ((v && (t == 0)) && (n == size) && (i == head)) ≡ true → (v ≡ true) × (t ≡ 0) × (n ≡ size) × (i ≡ head)
+is_begun v t n i size head h = (grind (arith, h), grind (arith, h), grind (arith, h), grind (arith, h))
 
-read_whole : (bytes : List ℕ) (tail : ℕ) (v : Bool) → (tail == 0) ≡ v → (c : T2Command) → (if v then command_of bytes else None) ≡ Some c → T2Spelling c (signal A bytes tail)
-read_whole bytes tail true is c e =
-    let P : ℕ → Type 0 = λ t. T2Spelling c (signal A bytes t) in
-    subst P (let n : 0 ≡ tail = grind arith in n) (read_bytes bytes c e)
-read_whole bytes tail false is c e = cc
+of_nfc_a : (t : Tech) → is_nfc_a t ≡ true → t ≡ A
+of_nfc_a A h = refl
+of_nfc_a V h = absurd cc
 
-read_frame : (tech : Tech) (bytes : List ℕ) (tail : ℕ) (c : T2Command) → spelled_command (signal tech bytes tail) ≡ Some c → T2Spelling c (signal tech bytes tail)
-read_frame A bytes tail c e = read_whole bytes tail (tail == 0) refl c e
-read_frame V bytes tail c e = cc
+whole_frame : (f : Signal) (bytes : List ℕ) → f.tech ≡ A → f.tail ≡ 0 → f.bytes ≡ bytes → f ≡ whole_a bytes
+whole_frame f bytes t z b = ap (λ x. signal x f.bytes f.tail) t ∙ ap (λ n. signal A f.bytes n) z ∙ ap whole_a b
 
-write_read : (block : ℕ) (content : List ℕ) → length content ≡ 4 → command_of (write_code ∷ block ∷ content) ≡ Some (Write block content)
+headed_read : (f : Signal) → is_headed 2 t2_read_code f ≡ true → f ≡ whole_a (t2_read_code ∷ slice_index f.bytes 1 ∷ [])
+headed_read f h =
+    let k = is_begun (is_nfc_a f.tech) f.tail (length f.bytes) (slice_index f.bytes 0) 2 t2_read_code h in
+    whole_frame f (t2_read_code ∷ slice_index f.bytes 1 ∷ []) (of_nfc_a f.tech k.0) k.1 (two_bytes f.bytes k.2 ∙ ap (λ x. x ∷ slice_index f.bytes 1 ∷ []) k.3)
+
+headed_write : (f : Signal) → is_headed 6 t2_write_code f ≡ true → (length (drop 2 f.bytes) ≡ 4) × (f ≡ whole_a (t2_write_code ∷ slice_index f.bytes 1 ∷ drop 2 f.bytes))
+headed_write f h =
+    let k = is_begun (is_nfc_a f.tech) f.tail (length f.bytes) (slice_index f.bytes 0) 6 t2_write_code h in
+    let m = more_bytes f.bytes k.2 in
+    (m.1, whole_frame f (t2_write_code ∷ slice_index f.bytes 1 ∷ drop 2 f.bytes) (of_nfc_a f.tech k.0) k.1 (m.0 ∙ ap (λ x. x ∷ slice_index f.bytes 1 ∷ drop 2 f.bytes) k.3))
+
+-- what is spelled by six bytes with the code of WRITE
+six_bytes : (bytes : List ℕ) → length bytes ≡ 6 → drop 2 bytes ≡ slice_index_or bytes 2 0 ∷ slice_index_or bytes 3 0 ∷ slice_index_or bytes 4 0 ∷ slice_index_or bytes 5 0 ∷ []
+six_bytes [] h = absurd (omega (arith, h))
+six_bytes (a ∷ []) h = absurd (omega (arith, h))
+six_bytes (a ∷ b ∷ []) h = absurd (omega (arith, h))
+six_bytes (a ∷ b ∷ c ∷ []) h = absurd (omega (arith, h))
+six_bytes (a ∷ b ∷ c ∷ d ∷ []) h = absurd (omega (arith, h))
+six_bytes (a ∷ b ∷ c ∷ d ∷ e ∷ []) h = absurd (omega (arith, h))
+six_bytes (a ∷ b ∷ c ∷ d ∷ e ∷ f ∷ []) h = refl
+six_bytes (a ∷ b ∷ c ∷ d ∷ e ∷ f ∷ g ∷ rest) h = absurd (omega (arith, h))
+
+by_heads : (f : Signal) (v w : Bool) → is_headed 2 t2_read_code f ≡ v → is_headed 6 t2_write_code f ≡ w → v ≡ false → w ≡ true → spelled_command f ≡ Some (Write (slice_index f.bytes 1) (drop 2 f.bytes))
+by_heads f true w r s v t = absurd cc
+by_heads f false false r s v t = absurd cc
+by_heads f false true r s v t = rw r (rw s refl)
+
+begun_so : (v : Bool) (t n i size head : ℕ) → v ≡ true → t ≡ 0 → n ≡ size → i ≡ head → ((v && (t == 0)) && (n == size) && (i == head)) ≡ true
+begun_so v t n i size head a b c d = grind (arith, a, b, c, d)
+
+begun_longer : (v : Bool) (t n i head : ℕ) → n ≡ 6 → ((v && (t == 0)) && (n == 2) && (i == head)) ≡ false
+begun_longer v t n i head c = grind (arith, c)
+
+pub spells_write : (f : Signal) (bytes : List ℕ) → bytes ≡ f.bytes → f.tech ≡ A → f.tail ≡ 0 → length bytes ≡ 6 → slice_index_or bytes 0 0 ≡ t2_write_code
+    → Some (Write (slice_index_or bytes 1 0) (slice_index_or bytes 2 0 ∷ slice_index_or bytes 3 0 ∷ slice_index_or bytes 4 0 ∷ slice_index_or bytes 5 0 ∷ [])) ≡ spelled_command f
+spells_write f bytes same t z n i =
+    let P : List ℕ → Type 0 = λ xs. length xs ≡ 6 → slice_index_or xs 0 0 ≡ t2_write_code
+    → Some (Write (slice_index_or xs 1 0) (slice_index_or xs 2 0 ∷ slice_index_or xs 3 0 ∷ slice_index_or xs 4 0 ∷ slice_index_or xs 5 0 ∷ [])) ≡ spelled_command f in
+    let of_frame : P f.bytes = λ m j.
+    ap (λ xs. Some (Write (slice_index_or f.bytes 1 0) xs)) (sym (six_bytes f.bytes m))
+    ∙ sym (by_heads f (is_headed 2 t2_read_code f) (is_headed 6 t2_write_code f) refl refl
+    (begun_longer (is_nfc_a f.tech) f.tail (length f.bytes) (slice_index f.bytes 0) t2_read_code m)
+    (begun_so (is_nfc_a f.tech) f.tail (length f.bytes) (slice_index f.bytes 0) 6 t2_write_code (ap is_nfc_a t) z m j)) in
+    subst P (sym same) of_frame n i
+
+read_frame : (f : Signal) (v w : Bool) → is_headed 2 t2_read_code f ≡ v → is_headed 6 t2_write_code f ≡ w → (c : T2Command)
+    → (if v then Some (Read (slice_index f.bytes 1)) else (if w then Some (Write (slice_index f.bytes 1) (drop 2 f.bytes)) else None)) ≡ Some c → T2Spelling c f
+read_frame f true w r s c e = subst (λ c. T2Spelling c f) (let d : Read (slice_index f.bytes 1) ≡ c = cc in d) (headed_read f r)
+read_frame f false true r s c e = subst (λ c. T2Spelling c f) (let d : Write (slice_index f.bytes 1) (drop 2 f.bytes) ≡ c = cc in d) (headed_write f s)
+read_frame f false false r s c e = absurd cc
+
+write_read : (block : ℕ) (content : List ℕ) → length content ≡ 4 → spelled_command (whole_a (t2_write_code ∷ block ∷ content)) ≡ Some (Write block content)
 write_read block [] h = absurd (omega (arith, h))
 write_read block (w ∷ []) h = absurd (omega (arith, h))
 write_read block (w ∷ x ∷ []) h = absurd (omega (arith, h))
@@ -63,7 +103,7 @@ reads_back f (Write block content) is = ap spelled_command is.1 ∙ write_read b
 
 -- what is read from a frame is exactly what it spells
 pub exact_by : (f : Signal) (o : Option T2Command) → o ≡ spelled_command f → (c : T2Command) → (o ≡ Some c) ↔ T2Spelling c f
-exact_by f o is c = ((λ e. read_frame f.tech f.bytes f.tail c (sym is ∙ e)), (λ s. is ∙ reads_back f c s))
+exact_by f o is c = ((λ e. read_frame f (is_headed 2 t2_read_code f) (is_headed 6 t2_write_code f) refl refl c (sym is ∙ e)), (λ s. is ∙ reads_back f c s))
 
 -- no frame spells two commands
 pub one_command : (f : Signal) (c d : T2Command) → T2Spelling c f → T2Spelling d f → c ≡ d

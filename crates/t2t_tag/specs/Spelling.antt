@@ -1,16 +1,11 @@
 -- How the commands of a reader and the answers of a tag stand in frames (NFC Forum Type 2 Tag).
-use Rattle.std.specs.Prelude.{◌≡◌, ℕ, List, [], ◌∷◌, length, ◌==◌, ◌&&◌, if◌then◌else◌, Option, Some, None}
-use Rattle.nfc_base.specs.Signal.{Signal, whole_a, part_a, is_nfc_a}
+use Rattle.std.specs.Prelude.{◌≡◌, ℕ, [], ◌∷◌, length, drop, slice_index, if◌then◌else◌, Option, Some, None}
+use Rattle.nfc_base.specs.Signal.{Signal, whole_a, part_a}
+use Rattle.nfc_base.specs.Headed.{is_headed, t2_read_code, t2_write_code}
 use Rattle.t2t_tag.specs.declared.command.T2Command.{T2Command}
 use Rattle.t2t_tag.specs.declared.command.T2Command.TheVariants.{Read, Write}
 use Rattle.t2t_tag.specs.declared.answer.T2Answer.{T2Answer}
 use Rattle.t2t_tag.specs.declared.answer.T2Answer.TheVariants.{Content, Done, Refused}
-
-abbrev pub read_code : ℕ
-read_code = 0x30
-
-abbrev pub write_code : ℕ
-write_code = 0xA2
 
 -- the four bits of an acknowledgement, and those of a refusal
 abbrev pub ack : ℕ
@@ -21,8 +16,8 @@ nak = 0
 
 -- READ is its code and a block, WRITE is its code, a block and the block's new content.
 abbrev pub command_frame : T2Command → Signal
-command_frame (Read block) = whole_a (read_code ∷ block ∷ [])
-command_frame (Write block content) = whole_a (write_code ∷ block ∷ content)
+command_frame (Read block) = whole_a (t2_read_code ∷ block ∷ [])
+command_frame (Write block content) = whole_a (t2_write_code ∷ block ∷ content)
 
 -- the frame spells the command; the content of a block is four bytes
 abbrev pub T2Spelling : T2Command → Signal → Type 0
@@ -41,12 +36,8 @@ T2AnswerSpelling (Content content) f = (length content ≡ 16) × (f ≡ answer_
 T2AnswerSpelling Done f = f ≡ answer_frame Done
 T2AnswerSpelling Refused f = f ≡ answer_frame Refused
 
--- the command that some bytes spell, where they spell one
-abbrev pub command_of : List ℕ → Option T2Command
-command_of (code ∷ block ∷ []) = if code == read_code then Some (Read block) else None
-command_of (code ∷ block ∷ a ∷ b ∷ c ∷ d ∷ []) = if code == write_code then Some (Write block (a ∷ b ∷ c ∷ d ∷ [])) else None
-command_of bytes = None
-
--- the command that a frame spells, where it spells one: an NFC-A frame of whole bytes
+-- the command that a frame spells, where it spells one
 abbrev pub spelled_command : Signal → Option T2Command
-spelled_command f = if is_nfc_a f.tech && (f.tail == 0) then command_of f.bytes else None
+spelled_command f =
+    if is_headed 2 t2_read_code f then Some (Read (slice_index f.bytes 1))
+    else (if is_headed 6 t2_write_code f then Some (Write (slice_index f.bytes 1) (drop 2 f.bytes)) else None)

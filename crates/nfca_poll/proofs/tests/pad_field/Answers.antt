@@ -12,7 +12,8 @@ use Rattle.nfca_poll.specs.Crowd.{Card, cards, AreDistinct}
 use Rattle.nfca_poll.specs.AnyStart.{HaveOwnIdents}
 use Rattle.nfca_poll.specs.Polled.{AreTidy}
 use Rattle.nfca_poll.specs.RoundEnds.{LeavesActive}
-use Rattle.nfca_poll.specs.Upper.{answer_in, IsUpper, is_t2_frame}
+use Rattle.nfc_base.specs.Headed.{is_t2_frame}
+use Rattle.nfca_poll.specs.Upper.{answer_in, IsUpper}
 use Rattle.nfca_poll.specs.Ours.{fronts_are_ours, fronts_are_polled}
 use Rattle.nfca_poll.specs.PlainFronts.{is_last, ObeysStep, IsPlainUpper}
 use Rattle.nfca_poll.specs.contracts.tests.PadUpper.TheImpl.{ghosts}

@@ -3,15 +3,19 @@ use Rattle.std.proofs.lemmas.Grind.{common_steps}
 use Rattle.t2t_tag.specs.Spelling.{T2Spelling}
 use Rattle.t2t_tag.specs.declared.command.T2Command.{T2Command}
 use Rattle.t2t_tag.specs.declared.command.T2Command.TheVariants.{Read, Write}
-use Rattle.t2t_tag.proofs.Spellings.{exact_by, not_none}
+use Rattle.t2t_tag.proofs.Spellings.{exact_by, not_none, spells_write}
 use Rattle.t2t_tag.proofs.command.T2Command.read_from.Goals as goal
 
 pub returns-in-48-clause-none : goal.returns-in-48-clause-none
 returns-in-48-clause-none c =
     not_none (λ d. T2Spelling d c.args.frame.now) (Read (slice_index_or c.view.result.now 1 0)) (grind (arith, common_steps))
 
+pub returns-in-162-clause-reads : goal.returns-in-162-clause-reads
+returns-in-162-clause-reads c =
+    spells_write c.args.frame.now c.view.result.now (search rules) (search rules) (search rules) (search rules) (search rules)
+
 pub returns-in-162-clause-exact : goal.returns-in-162-clause-exact
-returns-in-162-clause-exact c = exact_by c.args.frame.now _ (search rules)
+returns-in-162-clause-exact c = exact_by c.args.frame.now _ (returns-in-162-clause-reads c)
 
 pub returns-in-162-clause-none : goal.returns-in-162-clause-none
 returns-in-162-clause-none c =
