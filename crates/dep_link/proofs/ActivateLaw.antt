@@ -39,7 +39,7 @@ use Rattle.dep_link.specs.Asking.{HasPeer}
 use Rattle.dep_link.specs.Activating.{atr_req, atr_frame, told_atr, RestartedTimes, sent_times, HasTarget, AtrSent, IsActivated, AtrFails}
 use Rattle.dep_link.proofs.Wire.{written_read, target_heeds}
 use Rattle.dep_link.proofs.Begun.{in_step_first}
-use Rattle.dep_link.proofs.Carrying.{arrived_append}
+use Rattle.nfc_base.proofs.LinkTurns.{arrived_append}
 use Rattle.dep_link.proofs.Answered.{Told, HandsNothing, DidBy, AnsweredTurn, answered_turn, stopped_at}
 use Rattle.dep_link.proofs.PeerTurns.{told, told_laws, alone_told, alone_back, left_by, alone_after}
 

@@ -7,11 +7,11 @@ use Rattle.nfc_base.specs.Signal.{Signal}
 use Rattle.nfc_base.specs.Trace.{noise}
 use Rattle.nfc_base.specs.StopAndWait.{delivered_of}
 use Rattle.nfc_base.specs.Links.{Stepped, Stopped}
-use Rattle.nfc_base.specs.LinkTurns.{GivenBy, with_arrived, arrived}
+use Rattle.nfc_base.specs.LinkTurns.{GivenBy, arrived}
+use Rattle.nfc_base.proofs.LinkTurns.{arrived_append}
 use Rattle.nfc_base.specs.declared.event.Event.{Event}
-use Rattle.nfc_base.specs.declared.event.Event.TheVariants.{Reset, Request, Answer, Clash}
-use Rattle.nfc_base.specs.declared.event.Fate.{Fate}
-use Rattle.nfc_base.specs.declared.event.Fate.TheVariants.{Pass, Damage, Lose, Break}
+use Rattle.nfc_base.specs.declared.event.Event.TheVariants.{Request}
+use Rattle.nfc_base.specs.declared.event.Fate.TheVariants.{Pass}
 use Rattle.nfc_base.specs.declared.carrier.EndCause.{EndCause}
 use Rattle.nfc_base.specs.declared.carrier.EndCause.TheVariants.{FieldLost, SixBad, Protocol, Memory}
 use Rattle.air_core.specs.Turn.{Air, moment}
@@ -31,20 +31,6 @@ use Rattle.dep_link.specs.Answering.{answering_air}
 use Rattle.dep_link.specs.Asking.{Standing, Rests, asks, dep_next, HasPeer, ExchangeTurns, EndsBy}
 use Rattle.dep_link.specs.DepLinks.{DepSeen, since, brought, told_end, StandsAt, IsDepReady, Exchanged, Carries}
 use Rattle.dep_link.proofs.Wire.{frames_append}
-
--- what arrived in some events and in others behind them
-with_append : (f : Signal) (x : Fate) (xs ys zs : List Signal) → xs ≡ ys ++ zs → with_arrived f x xs ≡ with_arrived f x ys ++ zs
-with_append f Pass xs ys zs e = ap (λ fs. f ∷ fs) e
-with_append f Damage xs ys zs e = e
-with_append f Lose xs ys zs e = e
-with_append f Break xs ys zs e = e
-
-pub arrived_append : (xs ys : List Event) → arrived (xs ++ ys) ≡ arrived xs ++ arrived ys
-arrived_append [] ys = refl
-arrived_append (Reset ∷ xs) ys = arrived_append xs ys
-arrived_append (Request f x ∷ xs) ys = with_append f x (arrived (xs ++ ys)) (arrived xs) (arrived ys) (arrived_append xs ys)
-arrived_append (Answer g x ∷ xs) ys = arrived_append xs ys
-arrived_append (Clash g x ∷ xs) ys = arrived_append xs ys
 
 abbrev cut : ℕ → List ℕ → List (List ℕ) → Cut
 cut n chain ps = record { next = n; chain = chain; payloads = ps }

@@ -18,4 +18,5 @@ pub mod Carrying
 pub mod Swapped
 mod Replies
 pub mod ActivateLaw
+pub mod AnyTarget
 pub mod Released

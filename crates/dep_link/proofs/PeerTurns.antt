@@ -20,7 +20,7 @@ use Rattle.air_core.specs.Quiet.{EachQuiet, QuietTurn}
 use Rattle.air_core.specs.PlainTags.{IsAside, IsAlone}
 use Rattle.air_core.specs.declared.listener.Listener.{Ghosts}
 use Rattle.air_core.proofs.PlainAside.{Laws, IsUnmoved, aside_silent, alone_dark, alone_says, alone_steps}
-use Rattle.air_core.proofs.PlainTurns.{one, joint_one, tag_events, tag_heard, turn_events_as, heard_as}
+use Rattle.air_core.proofs.PlainTurns.{one, joint_one, tag_events, tag_heard, calm_events, turn_events_as, heard_as}
 use Rattle.dep_link.specs.declared.target.TargetStep.{TargetStep}
 use Rattle.dep_link.specs.declared.target.TargetStep.TheVariants as steps
 use Rattle.dep_link.specs.Target.{TargetState, target_table, darkened}
@@ -114,17 +114,6 @@ module _ {L : Type 0} (k : Ghosts L) (laws : Laws k) (r : List ℕ) where
     alone_after Damage y o = a
     alone_after Lose y o = a
     alone_after Break y o = alone_dark told told_laws own w.listeners place l a
-
--- where all passes, nothing is said or that is heard
-calm_events : (f : Signal) (x y : Fate) (q : Option Signal) → noise (tag_events f x y q) ≡ 0 → (q ≡ None) ⊎ ((g : Signal) × (tag_heard x y q ≡ Some (heards.Whole g)))
-calm_events f Pass y None e = inl refl
-calm_events f Pass Pass (Some g) e = inr (g, refl)
-calm_events f Pass Damage (Some g) e = absurd (omega (arith, e))
-calm_events f Pass Lose (Some g) e = absurd (omega (arith, e))
-calm_events f Pass Break (Some g) e = absurd (omega (arith, e))
-calm_events f Damage y q e = absurd (omega (arith, e))
-calm_events f Lose y q e = absurd (omega (arith, e))
-calm_events f Break y q e = absurd (omega (arith, e))
 
 -- a turn of the two tables has the same events, and the same is heard of it
 answered_events : (first : ℕ) (t : TargetState) (asked : Option (List ℕ)) (f : Signal) (q : Option Signal) (y : Fate) → (answered (nfc_dep first) t asked f q y).events ≡ tag_events f Pass y q

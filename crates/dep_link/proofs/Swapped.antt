@@ -21,7 +21,7 @@ use Rattle.dep_link.specs.Exchange.{frames_of}
 use Rattle.dep_link.specs.Initiator.{InitState}
 use Rattle.dep_link.specs.Asking.{Standing}
 use Rattle.dep_link.specs.DepLinks.{DepSeen, StandsAt, counts_of, since, brought, dep_view, PeerOf, IsDepReady, ExchangedAs, Exchanged, DepMoves, Carried, Carries}
-use Rattle.dep_link.proofs.Carrying.{arrived_append}
+use Rattle.nfc_base.proofs.LinkTurns.{arrived_append}
 
 -- the payloads that were handed over in a swap
 abbrev pub handed_of : List ℕ → List FarStep → List (List ℕ)

@@ -1,6 +1,6 @@
 -- Frames of NFC-DEP on the air, and pieces of payloads (NFCIP-1, ISO/IEC 18092; NFC Forum Digital Protocol).
-use Rattle.std.specs.Prelude.{◌≡◌, ℕ, ◌+◌, ◌%◌, ◌≤◌, ◌==◌, ◌&&◌, nat_lt, List, length, take, Bool, if◌then◌else◌, Option, None}
-use Rattle.nfc_base.specs.Signal.{Signal, whole_a, is_nfc_a}
+use Rattle.std.specs.Prelude.{◌≡◌, ℕ, ◌+◌, ◌%◌, ◌≤◌, nat_lt, List, length, take, Bool, if◌then◌else◌, Option, None}
+use Rattle.nfc_base.specs.Signal.{Signal, whole_a, is_whole_a}
 use Rattle.dep_pdu.specs.declared.frame.DepFrame.{DepFrame}
 use Rattle.dep_pdu.specs.declared.frame.DepFrame.TheVariants.{Info}
 use Rattle.dep_pdu.specs.Spelling.{IsDepFrame, written}
@@ -9,10 +9,6 @@ use Rattle.dep_pdu.specs.Reading.{spelled_frame}
 -- An NFC-A frame of whole bytes carries it.
 abbrev pub air_frame : DepFrame → Signal
 air_frame v = whole_a (written v)
-
--- an NFC-A frame of whole bytes
-abbrev pub is_whole_a : Signal → Bool
-is_whole_a f = is_nfc_a f.tech && (f.tail == 0)
 
 -- the frame of NFC-DEP that one on the air spells, none where it spells none
 abbrev pub spelled : Signal → Option DepFrame

@@ -14,6 +14,7 @@ pub mod Taking
 pub mod DepMoving
 pub mod Replies
 pub mod Activating
+pub mod AnyTarget
 pub mod Releasing
 pub mod Moves
 pub mod Delivering

@@ -2,6 +2,7 @@
 
 ghost use Rattle.std.specs.Prelude.{◌≡◌, ◌≤◌, ◌<◌, length, IfSome, IfErr};
 ghost use Rattle.dep_link.specs.Frames.{spelled};
+ghost use Rattle.dep_link.specs.AnyTarget.{AsksAtr};
 ghost use Rattle.dep_link.specs.Activating.{atr_frame, told_atr, Activates, by_cause, IsUnanswered};
 
 use crate::frames::{INITIATOR_LR, air_frame, spelled};
@@ -47,6 +48,8 @@ fn ask_atr<L: PeerListener, A: Answerer>(
     far: &mut A,
 ) -> Result<(Initiator, ArrayVec<u8, 47>), EndCause>
     requires { length general.now ≤ 48 }
+    ensures turns { AsksAtr L.machine A.restarts A.steps A.stops A.is_stuck
+        field.old far.old field.new far.new general.now result }
     ensures ends { Activates L.Listener L.target A.restarts field.old field.new general.now far.old far.new result }
 {
     let request = atr_frame(general);
@@ -69,14 +72,16 @@ fn ask_atr<L: PeerListener, A: Answerer>(
     Err(EndCause::SixBad)
 }
 
-/// Activates the target that is selected and alone in a field, with general bytes of at most 48, and gives an initiator for it
-/// and its general bytes.
+/// Activates the target that is selected in a field, with general bytes of at most 48, and gives an initiator for it and its general
+/// bytes. Whatever stands there, `turns` says what is sent and told by what was heard; `ends` says more of a target that is alone.
 pub fn activate<L: PeerListener, A: Answerer>(
     field: &mut Field<L>,
     general: &[u8],
     far: &mut A,
 ) -> Result<(Initiator, ArrayVec<u8, 47>), LinkEnd>
     requires { length general.now ≤ 48 }
+    ensures turns { AsksAtr L.machine A.restarts A.steps A.stops A.is_stuck
+        field.old far.old field.new far.new general.now (by_cause result) }
     ensures ends { Activates L.Listener L.target A.restarts field.old field.new general.now far.old far.new
         (by_cause result) }
     ensures unanswered { IfErr result IsUnanswered }

@@ -3,10 +3,10 @@
 ghost use Rattle.std.specs.Prelude.{◌≡◌, ◌≤◌, ℕ, List, length, true, IfOk};
 ghost use Rattle.dep_link.specs.Activating.{HasTarget};
 
-use crate::{DepPair, PeerListener, Target, TargetStep, activate, release};
+use crate::{DepPair, Initiator, PeerListener, Target, TargetStep, activate, release};
 use air_core::{Field, Listener};
 use arrayvec::ArrayVec;
-use nfc_base::{Answerer, Carrier, EndCause, Event, Fate, Frame, LinkEnd, Tech};
+use nfc_base::{Answerer, Carrier, EndCause, Event, Fate, Frame, Heard, LinkEnd, Tech};
 use std::alloc::{AllocError, Global};
 use std::process::Abort;
 use std::test::Fail;
@@ -127,7 +127,8 @@ fn phone_field(
     Ok(field)
 }
 
-/// A far end that answers a CONNECT by a CC, a put by its success, and gives up at a byte FFh.
+/// A far end that answers a CONNECT by a CC, a put by its success, what begins with 00h by itself and all else by nothing, and gives
+/// up at a byte FFh.
 #[derive(Drop)]
 struct Desk {
     links: u32,
@@ -169,6 +170,7 @@ impl Answerer for Desk {
         let says: &[u8] = match payload {
             [0x11, ..] => &CC,
             [0x13, ..] => &DONE,
+            [0, ..] => payload,
             _ => &[],
         };
         reply.clear();
@@ -190,6 +192,13 @@ fn new_desk() -> Desk {
         stuck: false,
     }
 }
+
+/// ATR_REQ and ATR_RES of an activation with `OWN` and `PHONES`.
+const ATR_REQ: &[u8] =
+    b"\xF0\x1B\xD4\x00\x00\x01\x02\x03\x04\x05\x06\x07\x08\x09\x00\x00\x00\x32Ffm\x01\x01\x13\x03\x02\x00\x03";
+
+const ATR_RES: &[u8] =
+    b"\xF0\x1C\xD5\x01\x08\x01\x02\x03\x00\x00\x00\x00\x00\x00\x00\x00\x00\x08\x32Ffm\x01\x01\x13\x03\x02\x00\x13";
 
 const ID: [u8; 10] = [8, 1, 2, 3, 0, 0, 0, 0, 0, 0];
 
@@ -246,8 +255,8 @@ fn payloads_come_through_noise(rt: HostRuntime) -> Result<(), Fail> {
     release(pair, &mut far)?;
     assert_eq!(rt; (far.links, far.swaps), (1, 2));
     let frames: [&[u8]; 13] = [
-        b"\xF0\x1B\xD4\x00\x00\x01\x02\x03\x04\x05\x06\x07\x08\x09\x00\x00\x00\x32Ffm\x01\x01\x13\x03\x02\x00\x03",
-        b"\xF0\x1C\xD5\x01\x08\x01\x02\x03\x00\x00\x00\x00\x00\x00\x00\x00\x00\x08\x32Ffm\x01\x01\x13\x03\x02\x00\x13",
+        ATR_REQ,
+        ATR_RES,
         &[0xF0, 0x06, 0xD4, 0x06, 0x00, 0x11, 0x20],
         &[0xF0, 0x04, 0xD4, 0x06, 0x80],
         &[0xF0, 0x04, 0xD5, 0x07, 0x80],
@@ -259,6 +268,28 @@ fn payloads_come_through_noise(rt: HostRuntime) -> Result<(), Fail> {
         b"\xF0\x0D\xD5\x07\x01\x83\x04\x01\x10\x81\x00\x00\x00\x00",
         &[0xF0, 0x03, 0xD4, 0x0A],
         &[0xF0, 0x03, 0xD5, 0x0B],
+    ];
+    went(&rt, &field, &frames);
+    Ok(())
+}
+
+#[test]
+fn a_lost_request_is_asked_after(rt: HostRuntime) -> Result<(), Fail> {
+    let alloc = rt.alloc();
+    let mut far = new_desk();
+    let mut field = met(alloc, &[Fate::Lose])?;
+    let (mut initiator, _) = activate(&mut field, OWN, &mut far)?;
+    let mut pair = DepPair::on(&mut field, &mut initiator);
+    let reply = pair.swap(alloc, &[0, 0], &mut far)?;
+    assert_eq!(rt; reply.as_slice(), [0, 0].as_slice());
+    let frames: [&[u8]; 7] = [
+        ATR_REQ,
+        ATR_RES,
+        &[0xF0, 0x06, 0xD4, 0x06, 0x00, 0x00, 0x00],
+        &[0xF0, 0x04, 0xD4, 0x06, 0x80],
+        &[0xF0, 0x04, 0xD5, 0x07, 0x80],
+        &[0xF0, 0x06, 0xD4, 0x06, 0x00, 0x00, 0x00],
+        &[0xF0, 0x06, 0xD5, 0x07, 0x00, 0x00, 0x00],
     ];
     went(&rt, &field, &frames);
     Ok(())
@@ -319,5 +350,84 @@ fn a_link_that_is_over_tells_why(rt: HostRuntime) -> Result<(), Fail> {
         assert_eq!(rt; again, Err(LinkEnd { cause, answered }), "at {fates:?}");
         assert_eq!(rt; stepped, swaps, "at {fates:?}");
     }
+    Ok(())
+}
+
+/// Two pieces go out and two come back: six transmissions. The payload is handed over as its second piece arrives, which is the third.
+#[test]
+fn the_field_lost_at_each_transmission(rt: HostRuntime) -> Result<(), Fail> {
+    let alloc = rt.alloc();
+    let payload = [0; 300];
+    let mut fates = [Fate::Pass; 7];
+    for at in 0..7usize {
+        fates[at] = Fate::Break;
+        let (first, again, swaps) = ends(alloc, &fates, &payload)?;
+        let answered = at > 2;
+        let lost = LinkEnd {
+            cause: EndCause::FieldLost,
+            answered,
+        };
+        let expected = if at == 6 { Ok(300) } else { Err(lost) };
+        assert_eq!(rt; first, expected, "at {at}");
+        let answered = false;
+        let over = LinkEnd {
+            cause: EndCause::FieldLost,
+            answered,
+        };
+        assert_eq!(rt; again, Err(over), "at {at}");
+        assert_eq!(rt; swaps, if at > 2 { 1 } else { 0 }, "at {at}");
+        fates[at] = Fate::Pass;
+    }
+    Ok(())
+}
+
+/// What a swap answers on a link that is made over this field with an initiator that is new, or that refused a frame, and how many
+/// events there are then.
+fn swapped_on(
+    alloc: Global,
+    field: &mut Field<Phone>,
+    refused: &Frame,
+) -> Result<(Result<usize, LinkEnd>, usize), Fail> {
+    let mut far = new_desk();
+    let mut initiator = Initiator::new(3);
+    let _ = initiator.next(&Heard::Whole(refused.copy()));
+    let mut pair = DepPair::on(field, &mut initiator);
+    let reply = pair
+        .swap(alloc, &CONNECT, &mut far)
+        .map(|reply| reply.len());
+    Ok((reply, field.trace().len()))
+}
+
+#[test]
+fn a_new_pair_over_an_ended_initiator(rt: HostRuntime) -> Result<(), Fail> {
+    let alloc = rt.alloc();
+    let over = Err(LinkEnd {
+        cause: EndCause::Protocol,
+        answered: false,
+    });
+    let refused = Frame::whole(Tech::A, &[0xAA])?;
+    let mut lit = met(alloc, &[])?;
+    assert_eq!(rt; swapped_on(alloc, &mut lit, &refused)?, (over, 1));
+    let mut dark: Field<Phone> = Field::new(alloc);
+    assert_eq!(rt; swapped_on(alloc, &mut dark, &refused)?, (over, 0));
+    Ok(())
+}
+
+#[test]
+fn a_new_pair_over_a_dark_field(rt: HostRuntime) -> Result<(), Fail> {
+    let alloc = rt.alloc();
+    let mut far = new_desk();
+    let mut field: Field<Phone> = Field::new(alloc);
+    let mut initiator = Initiator::new(3);
+    let mut pair = DepPair::on(&mut field, &mut initiator);
+    let reply = pair
+        .swap(alloc, &CONNECT, &mut far)
+        .map(|reply| reply.len());
+    let over = LinkEnd {
+        cause: EndCause::FieldLost,
+        answered: false,
+    };
+    assert_eq!(rt; reply, Err(over));
+    assert!(rt; field.trace().is_empty());
     Ok(())
 }
