@@ -13,32 +13,34 @@ use Rattle.air_core.specs.Waits.{Asking, waits_next}
 use Rattle.air_core.specs.Waiting as waiting
 use Rattle.air_core.specs.PlainWaits.{after_bad}
 use Rattle.air_core.specs.declared.fault.AirFault.TheVariants as air
+use Rattle.air_core.specs.Speaking.{Speaks}
 use Rattle.air_core.proofs.PlainTurns.{asking_bad}
+use Rattle.air_core.proofs.Speaking.{SpeaksOn, on_start, on_turn, on_lost, on_dark, on_resting}
 use Rattle.isodep_link.specs.declared.reader.ReaderStep.{ReaderStep}
 use Rattle.isodep_link.specs.declared.reader.ReaderStep.TheVariants as step
 use Rattle.isodep_link.specs.Reader.{ReaderState, ReaderTurn, reader_table}
 use Rattle.nfc_base.specs.declared.far.Mute.{Mute}
-use Rattle.isodep_link.specs.Speaking.{mute_restarts, mute_steps, Speaks}
+use Rattle.isodep_link.specs.Muted.{mute_restarts, mute_steps}
 use Rattle.isodep_link.specs.Activating.{rats, ats_code, told_code, AnswersRats, AsksRats}
 use Rattle.isodep_link.specs.Asking.{IsoStanding, Waits, Rests, Broken, asks, goes_by, noted, stand, due_at, iso_next, Finishes, AnswersCommand, AsksCommand}
-use Rattle.isodep_link.proofs.Speaking.{SpeaksOn, on_start, on_turn, on_lost, on_dark, on_stopped}
 use Rattle.isodep_link.proofs.AskingLaw.{stand_on}
 
 -- after so many bad receptions of RATS
-pub record RatsSaid {L : Type 0} (m : Machine L) (old mid : Air L) (bad : ℕ) : Type 0 where
+pub record RatsSaid {L : Type 0} (m : Machine L) (old mid : Air L) (half : Mute) (bad : ℕ) : Type 0 where
+  pub first : Mute
   pub notes : List Note
-  pub on : SpeaksOn m (waits_next (rats ∷ [])) old mid notes
+  pub on : SpeaksOn m mute_restarts mute_steps (waits_next (rats ∷ [])) old first mid half notes
   pub stands : waits.stand 0 (rats ∷ []) notes ≡ after_bad rats bad
 
-pub rats_said : {L : Type 0} (m : Machine L) (old : Air L) → RatsSaid m old old 0
-rats_said m old = record { notes = []; on = on_start m (waits_next (rats ∷ [])) old; stands = refl }
+pub rats_said : {L : Type 0} (m : Machine L) (old : Air L) (far : Mute) → RatsSaid m old old far 0
+rats_said m old far = record { first = far; notes = []; on = on_start m mute_restarts mute_steps (waits_next (rats ∷ [])) old far; stands = refl }
 
 -- what a wait of RATS answers where it stands so
-rats_told : {L : Type 0} (m : Machine L) (old new : Air L) (ns : List Note) (s : waits.Standing) (r : Result ℕ AskFault) → Speaks m (waits_next (rats ∷ [])) old new ns → waits.stand 0 (rats ∷ []) ns ≡ s
+rats_told : {L : Type 0} (m : Machine L) (old new : Air L) (ns : List Note) (s : waits.Standing) (r : Result ℕ AskFault) (far after : Mute) → Speaks m mute_restarts mute_steps (waits_next (rats ∷ [])) old far new after ns → waits.stand 0 (rats ∷ []) ns ≡ s
     → AnswersRats old.lit ns s r → AsksRats m old new r
-rats_told m old new ns s r speaks e a = record { notes = ns; speaks = speaks; answers = subst (λ (x : waits.Standing). AnswersRats old.lit ns x r) (sym e) a }
+rats_told m old new ns s r far after speaks e a = record { notes = ns; speaks = record { far = far; after = after; speaks = speaks }; answers = subst (λ (x : waits.Standing). AnswersRats old.lit ns x r) (sym e) a }
 
-module _ {L : Type 0} (m : Machine L) (far far' : Mute) (old mid new : Air L) (bad : ℕ) (bound : bad < 6) (o : RatsSaid m old mid bad) where
+module _ {L : Type 0} (m : Machine L) (far far' : Mute) (old mid new : Air L) (bad : ℕ) (bound : bad < 6) (o : RatsSaid m old mid far bad) where
   rats_stand : waits.stand 0 (rats ∷ []) o.notes ≡ Asking bad (rats ∷ [])
   rats_stand = o.stands ∙ asking_bad rats bad bound
 
@@ -48,12 +50,12 @@ module _ {L : Type 0} (m : Machine L) (far far' : Mute) (old mid new : Air L) (b
   rats_then : (n : Note) → waits.stand 0 (rats ∷ []) (o.notes ++ n ∷ []) ≡ waits.stand bad (rats ∷ []) (n ∷ [])
   rats_then n = waiting.stand_on 0 (rats ∷ []) o.notes bad (rats ∷ []) rats_stand [] (n ∷ [])
 
-  rats_on : (h : Heard) → TurnIs m mute_restarts mute_steps mid rats far (Some h) new far' → SpeaksOn m (waits_next (rats ∷ [])) old new (o.notes ++ Got h ∷ [])
-  rats_on h t = on_turn m (waits_next (rats ∷ [])) old far far' mid new o.notes rats o.on h rats_due t
+  rats_on : (h : Heard) → TurnIs m mute_restarts mute_steps mid rats far (Some h) new far' → SpeaksOn m mute_restarts mute_steps (waits_next (rats ∷ [])) old o.first new far' (o.notes ++ Got h ∷ [])
+  rats_on h t = on_turn m mute_restarts mute_steps (waits_next (rats ∷ [])) old o.first mid new far far' o.notes rats o.on h rats_due t
 
   -- a bad reception
-  pub rats_again : (h : Heard) → ((g : Signal) → h ≡ Whole g → ⊥) → TurnIs m mute_restarts mute_steps mid rats far (Some h) new far' → RatsSaid m old new (suc bad)
-  rats_again h never t = record { notes = o.notes ++ Got h ∷ []; on = rats_on h t; stands = rats_then (Got h) ∙ by_heard h never }
+  pub rats_again : (h : Heard) → ((g : Signal) → h ≡ Whole g → ⊥) → TurnIs m mute_restarts mute_steps mid rats far (Some h) new far' → RatsSaid m old new far' (suc bad)
+  rats_again h never t = record { first = o.first; notes = o.notes ++ Got h ∷ []; on = rats_on h t; stands = rats_then (Got h) ∙ by_heard h never }
     where
       by_heard : (k : Heard) → ((g : Signal) → k ≡ Whole g → ⊥) → waits.stand bad (rats ∷ []) (Got k ∷ []) ≡ after_bad rats (suc bad)
       by_heard (Whole g) other = absurd (other g refl)
@@ -64,43 +66,44 @@ module _ {L : Type 0} (m : Machine L) (far far' : Mute) (old mid new : Air L) (b
   -- a whole frame
   pub rats_whole : (g : Signal) → TurnIs m mute_restarts mute_steps mid rats far (Some (Whole g)) new far' → AsksRats m old new (told_code (ats_code g))
   rats_whole g t =
-      rats_told m old new (o.notes ++ Got (Whole g) ∷ []) (Asking 0 []) (told_code (ats_code g)) (rats_on (Whole g) t).speaks (rats_then (Got (Whole g))) (o.notes, g, refl, refl)
+      rats_told m old new (o.notes ++ Got (Whole g) ∷ []) (Asking 0 []) (told_code (ats_code g)) o.first far' (rats_on (Whole g) t).speaks (rats_then (Got (Whole g))) (o.notes, g, refl, refl)
 
   module _ (stops : Mute → List ℕ → Mute → Type 0) (is_stuck : Mute → Bool) where
     pub rats_lost_any : Transmits m mute_restarts mute_steps stops is_stuck mid rats far (Err air.FieldLost) new far' → AsksRats m old new (Err ask.FieldLost)
     rats_lost_any (inl d) =
-        let s = on_dark m (waits_next (rats ∷ [])) old far far' mid new o.notes rats o.on ℕ d.0 d.1 in
-        rats_told m old new o.notes (Asking bad (rats ∷ [])) (Err ask.FieldLost) s.0 rats_stand s.1
+        let s = on_dark m mute_restarts mute_steps (waits_next (rats ∷ [])) old o.first mid new far far' o.notes rats o.on {R = Result ℕ AskFault} (Err ask.FieldLost) (Err ask.Memory) d.0 d.1 d.2 in
+        rats_told m old new o.notes (Asking bad (rats ∷ [])) (Err ask.FieldLost) o.first far' s.0 rats_stand s.1
     rats_lost_any (inr t) =
-        rats_told m old new (o.notes ++ Lost ∷ []) (waits.Broken ask.FieldLost (rats ∷ [])) (Err ask.FieldLost)
-        (on_lost m (waits_next (rats ∷ [])) old far far' mid new o.notes rats o.on rats_due t) (rats_then Lost) refl
+        rats_told m old new (o.notes ++ Lost ∷ []) (waits.Broken ask.FieldLost (rats ∷ [])) (Err ask.FieldLost) o.first far'
+        (on_lost m mute_restarts mute_steps (waits_next (rats ∷ [])) old o.first mid new far far' o.notes rats o.on rats_due t) (rats_then Lost) refl
 
     pub rats_stopped_any : ((a b : Mute) (p : List ℕ) → stops a p b → ⊥) → Transmits m mute_restarts mute_steps stops is_stuck mid rats far (Err air.Memory) new far' → AsksRats m old new (Err ask.Memory)
     rats_stopped_any never t =
-        let s = on_stopped m (waits_next (rats ∷ [])) old far far' mid new o.notes rats o.on ℕ stops is_stuck never t in
-        rats_told m old new o.notes (Asking bad (rats ∷ [])) (Err ask.Memory) s.0 rats_stand s.1
+        let s = on_resting m mute_restarts mute_steps (waits_next (rats ∷ [])) old o.first mid new far far' o.notes rats o.on {R = Result ℕ AskFault} (Err ask.FieldLost) (Err ask.Memory) stops is_stuck never t in
+        rats_told m old new o.notes (Asking bad (rats ∷ [])) (Err ask.Memory) o.first far' s.0 rats_stand s.1
 
 -- the sixth
-pub rats_six_any : {L : Type 0} (m : Machine L) (old mid : Air L) (bad : ℕ) → bad ≡ 6 → RatsSaid m old mid bad → AsksRats m old mid (Err ask.SixBad)
-rats_six_any m old mid bad e o =
-    rats_told m old mid o.notes (waits.Broken ask.SixBad (rats ∷ [])) (Err ask.SixBad) o.on.speaks (o.stands ∙ ap (after_bad rats) e) refl
+pub rats_six_any : {L : Type 0} (m : Machine L) (old mid : Air L) (half : Mute) (bad : ℕ) → bad ≡ 6 → RatsSaid m old mid half bad → AsksRats m old mid (Err ask.SixBad)
+rats_six_any m old mid half bad e o =
+    rats_told m old mid o.notes (waits.Broken ask.SixBad (rats ∷ [])) (Err ask.SixBad) o.first half o.on.speaks (o.stands ∙ ap (after_bad rats) e) refl
 
 -- a command is under way: this was sent last
-pub record CommandSaid {L : Type 0} (m : Machine L) (old mid : Air L) (i0 : ReaderState) (command : List ℕ) (i : ReaderState) (f : Signal) : Type 0 where
+pub record CommandSaid {L : Type 0} (m : Machine L) (old mid : Air L) (i0 : ReaderState) (command : List ℕ) (half : Mute) (i : ReaderState) (f : Signal) : Type 0 where
+  pub first : Mute
   pub notes : List Note
-  pub on : SpeaksOn m (iso_next i0 (command ∷ [])) old mid notes
+  pub on : SpeaksOn m mute_restarts mute_steps (iso_next i0 (command ∷ [])) old first mid half notes
   pub stands : stand (asks i0 (command ∷ [])) notes ≡ Waits i f []
 
 module _ {L : Type 0} (m : Machine L) (old : Air L) (i0 : ReaderState) (command : List ℕ) where
-  pub command_said : (i : ReaderState) (f : Signal) → asks i0 (command ∷ []) ≡ Waits i f [] → CommandSaid m old old i0 command i f
-  command_said i f e = record { notes = []; on = on_start m (iso_next i0 (command ∷ [])) old; stands = e }
+  pub command_said : (far : Mute) (i : ReaderState) (f : Signal) → asks i0 (command ∷ []) ≡ Waits i f [] → CommandSaid m old old i0 command far i f
+  command_said far i f e = record { first = far; notes = []; on = on_start m mute_restarts mute_steps (iso_next i0 (command ∷ [])) old far; stands = e }
 
-  command_told : (new : Air L) (ns : List Note) (s : IsoStanding) (i' : ReaderState) (r : Result Signal AskFault) → Speaks m (iso_next i0 (command ∷ [])) old new ns
+  command_told : (new : Air L) (ns : List Note) (s : IsoStanding) (i' : ReaderState) (r : Result Signal AskFault) (far after : Mute) → Speaks m mute_restarts mute_steps (iso_next i0 (command ∷ [])) old far new after ns
       → stand (asks i0 (command ∷ [])) ns ≡ s → AnswersCommand old.lit i0 command ns s i' r → AsksCommand m old new i0 i' command r
-  command_told new ns s i' r speaks e a =
-      record { notes = ns; speaks = speaks; answers = subst (λ (x : IsoStanding). AnswersCommand old.lit i0 command ns x i' r) (sym e) a }
+  command_told new ns s i' r far after speaks e a =
+      record { notes = ns; speaks = record { far = far; after = after; speaks = speaks }; answers = subst (λ (x : IsoStanding). AnswersCommand old.lit i0 command ns x i' r) (sym e) a }
 
-  module _ (far far' : Mute) (mid new : Air L) (i : ReaderState) (f : Signal) (o : CommandSaid m old mid i0 command i f) where
+  module _ (far far' : Mute) (mid new : Air L) (i : ReaderState) (f : Signal) (o : CommandSaid m old mid i0 command far i f) where
     abbrev next : List Note → Next
     next = iso_next i0 (command ∷ [])
 
@@ -110,8 +113,8 @@ module _ {L : Type 0} (m : Machine L) (old : Air L) (i0 : ReaderState) (command 
     command_then : (n : Note) → stand (asks i0 (command ∷ [])) (o.notes ++ n ∷ []) ≡ noted (Waits i f []) n
     command_then n = stand_on (asks i0 (command ∷ [])) o.notes n ∙ ap (λ (s : IsoStanding). noted s n) o.stands
 
-    command_on : (h : Heard) → TurnIs m mute_restarts mute_steps mid f far (Some h) new far' → SpeaksOn m next old new (o.notes ++ Got h ∷ [])
-    command_on h t = on_turn m next old far far' mid new o.notes f o.on h command_due t
+    command_on : (h : Heard) → TurnIs m mute_restarts mute_steps mid f far (Some h) new far' → SpeaksOn m mute_restarts mute_steps next old o.first new far' (o.notes ++ Got h ∷ [])
+    command_on h t = on_turn m mute_restarts mute_steps next old o.first mid new far far' o.notes f o.on h command_due t
 
     goes : (h : Heard) (i' : ReaderState) (d : ReaderStep) → (let x : ReaderTurn = record { state = i'; does = d } in x) ≡ reader_table i h
         → stand (asks i0 (command ∷ [])) (o.notes ++ Got h ∷ []) ≡ goes_by i' d []
@@ -119,8 +122,8 @@ module _ {L : Type 0} (m : Machine L) (old : Air L) (i0 : ReaderState) (command 
 
     -- the table sends on
     pub command_sends : (h : Heard) → TurnIs m mute_restarts mute_steps mid f far (Some h) new far' → (i' : ReaderState) (g : Signal)
-        → (let x : ReaderTurn = record { state = i'; does = step.Send g } in x) ≡ reader_table i h → CommandSaid m old new i0 command i' g
-    command_sends h t i' g e = record { notes = o.notes ++ Got h ∷ []; on = command_on h t; stands = goes h i' (step.Send g) e }
+        → (let x : ReaderTurn = record { state = i'; does = step.Send g } in x) ≡ reader_table i h → CommandSaid m old new i0 command far' i' g
+    command_sends h t i' g e = record { first = o.first; notes = o.notes ++ Got h ∷ []; on = command_on h t; stands = goes h i' (step.Send g) e }
 
     -- it has the answer
     pub command_answered : (h : Heard) → TurnIs m mute_restarts mute_steps mid f far (Some h) new far' → (i' : ReaderState) (r : List ℕ)
@@ -129,27 +132,27 @@ module _ {L : Type 0} (m : Machine L) (old : Air L) (i0 : ReaderState) (command 
     command_answered h t i' r e answer w =
         let finishes : Finishes i0 command (o.notes ++ Got h ∷ []) i' (Ok answer) =
         record { before = o.notes; last = h; noted = refl; reader = i; sent = f; stands = o.stands; answer = r; table = sym e; told = ap (λ (x : Signal). Ok x) w } in
-        command_told new (o.notes ++ Got h ∷ []) (Rests i') i' (Ok answer) (command_on h t).speaks (goes h i' (step.Finished (record { items = r })) e) (refl, finishes)
+        command_told new (o.notes ++ Got h ∷ []) (Rests i') i' (Ok answer) o.first far' (command_on h t).speaks (goes h i' (step.Finished (record { items = r })) e) (refl, finishes)
 
     -- it gives up, or refuses what it heard
     pub command_six : (h : Heard) → TurnIs m mute_restarts mute_steps mid f far (Some h) new far' → (i' : ReaderState)
         → (let x : ReaderTurn = record { state = i'; does = step.SixBad } in x) ≡ reader_table i h → AsksCommand m old new i0 i' command (Err ask.SixBad)
-    command_six h t i' e = command_told new (o.notes ++ Got h ∷ []) (Broken ask.SixBad) i' (Err ask.SixBad) (command_on h t).speaks (goes h i' step.SixBad e) refl
+    command_six h t i' e = command_told new (o.notes ++ Got h ∷ []) (Broken ask.SixBad) i' (Err ask.SixBad) o.first far' (command_on h t).speaks (goes h i' step.SixBad e) refl
 
     pub command_refused : (h : Heard) → TurnIs m mute_restarts mute_steps mid f far (Some h) new far' → (i' : ReaderState)
         → (let x : ReaderTurn = record { state = i'; does = step.Protocol } in x) ≡ reader_table i h → AsksCommand m old new i0 i' command (Err ask.Protocol)
-    command_refused h t i' e = command_told new (o.notes ++ Got h ∷ []) (Broken ask.Protocol) i' (Err ask.Protocol) (command_on h t).speaks (goes h i' step.Protocol e) refl
+    command_refused h t i' e = command_told new (o.notes ++ Got h ∷ []) (Broken ask.Protocol) i' (Err ask.Protocol) o.first far' (command_on h t).speaks (goes h i' step.Protocol e) refl
 
     module _ (stops : Mute → List ℕ → Mute → Type 0) (is_stuck : Mute → Bool) where
       pub command_lost : Transmits m mute_restarts mute_steps stops is_stuck mid f far (Err air.FieldLost) new far' → AsksCommand m old new i0 i command (Err ask.FieldLost)
       command_lost (inl d) =
-          let s = on_dark m next old far far' mid new o.notes f o.on Signal d.0 d.1 in
-          command_told new o.notes (Waits i f []) i (Err ask.FieldLost) s.0 o.stands (refl, s.1)
+          let s = on_dark m mute_restarts mute_steps next old o.first mid new far far' o.notes f o.on {R = Result Signal AskFault} (Err ask.FieldLost) (Err ask.Memory) d.0 d.1 d.2 in
+          command_told new o.notes (Waits i f []) i (Err ask.FieldLost) o.first far' s.0 o.stands (refl, s.1)
       command_lost (inr t) =
-          command_told new (o.notes ++ Lost ∷ []) (Broken ask.FieldLost) i (Err ask.FieldLost)
-          (on_lost m next old far far' mid new o.notes f o.on command_due t) (command_then Lost) refl
+          command_told new (o.notes ++ Lost ∷ []) (Broken ask.FieldLost) i (Err ask.FieldLost) o.first far'
+          (on_lost m mute_restarts mute_steps next old o.first mid new far far' o.notes f o.on command_due t) (command_then Lost) refl
 
       pub command_stopped : ((a b : Mute) (p : List ℕ) → stops a p b → ⊥) → Transmits m mute_restarts mute_steps stops is_stuck mid f far (Err air.Memory) new far' → AsksCommand m old new i0 i command (Err ask.Memory)
       command_stopped never t =
-          let s = on_stopped m next old far far' mid new o.notes f o.on Signal stops is_stuck never t in
-          command_told new o.notes (Waits i f []) i (Err ask.Memory) s.0 o.stands (refl, s.1)
+          let s = on_resting m mute_restarts mute_steps next old o.first mid new far far' o.notes f o.on {R = Result Signal AskFault} (Err ask.FieldLost) (Err ask.Memory) stops is_stuck never t in
+          command_told new o.notes (Waits i f []) i (Err ask.Memory) o.first far' s.0 o.stands (refl, s.1)

@@ -14,13 +14,13 @@ use Rattle.nfc_base.specs.declared.event.Heard.TheVariants as heards
 use Rattle.std.proofs.lemmas.List.{append_cancel_left}
 use Rattle.air_core.proofs.PlainTurns.{noise_append}
 use Rattle.isodep_link.specs.declared.reader.Phase.TheVariants as phases
-use Rattle.isodep_link.proofs.Landing.{speaks_at}
+use Rattle.isodep_link.proofs.Landing.{speaks_at, is_extension}
 use Rattle.isodep_link.proofs.Ended.{whole_not_six}
 use Rattle.nfc_base.specs.declared.tag_link.AskFault.TheVariants.{FieldLost}
 use Rattle.nfc_base.specs.declared.tag_link.AskFault.TheVariants as ask
 use Rattle.air_core.specs.declared.fault.AirFault.TheVariants as air
 use Rattle.nfc_base.proofs.Leading.{all_append}
-use Rattle.nfc_base.proofs.LinkTurns.{J, Along, Onward, goes_along, next_asking, next_stage}
+use Rattle.nfc_base.proofs.LinkTurns.{arrived_append, J, Along, Onward, goes_along, next_asking, next_stage}
 use Rattle.air_core.specs.World.{quiet_air}
 use Rattle.air_core.specs.World as worlds
 use Rattle.air_core.specs.PlainLinks.{Follows, stores_after}
@@ -34,7 +34,7 @@ use Rattle.air_core.specs.PlainTags.{reached, IsAlone}
 use Rattle.air_core.specs.declared.listener.Listener.{Ghosts}
 use Rattle.air_core.proofs.PlainAside.{Laws}
 use Rattle.air_core.proofs.Quiet.{quiet_turns_to, quiet_turn, quiet_transmits}
-use Rattle.isodep_link.specs.declared.block.Block.TheVariants.{Nak}
+use Rattle.isodep_link.specs.declared.block.Block.TheVariants.{Nak, Extend}
 use Rattle.isodep_link.specs.Blocks.{block_frame}
 use Rattle.isodep_link.specs.Sizes.{limit}
 use Rattle.isodep_link.specs.Card.{CardState}
@@ -42,13 +42,13 @@ use Rattle.isodep_link.specs.declared.reader.ReaderStep.{ReaderStep}
 use Rattle.isodep_link.specs.declared.reader.ReaderStep.TheVariants as step
 use Rattle.isodep_link.specs.Reader.{Core, ReaderState, ReaderTurn, reader_table, request, begun}
 use Rattle.isodep_link.specs.Commands.{iso_commands}
-use Rattle.isodep_link.specs.Exchange.{iso_dep, blocks_of, pieces, reader_does, beginning, InStep, IsCut}
+use Rattle.isodep_link.specs.Exchange.{iso_dep, blocks_of, pieces, blocks_back, reader_does, beginning, InStep, IsCut}
 use Rattle.isodep_link.specs.CardTags.{IsAskedFrame, IsAskedBlock, TagDoes, IsShort, StepsByCard, IsCardTag}
 use Rattle.isodep_link.specs.Asking.{IsoStanding, Waits, Rests, Broken, asks, goes_by, noted, stand, due_at, iso_next, HasCardTag, IsAfter, CommandTurns, EndsBy}
 use Rattle.isodep_link.proofs.Wire.{is_piece}
 use Rattle.isodep_link.proofs.Standing as law
 use Rattle.isodep_link.proofs.Obeyed.{keeps, asking_first}
-use Rattle.isodep_link.proofs.Images.{arrived_append, after_it, Stores, images_grow, commands_grow, given_stays}
+use Rattle.isodep_link.proofs.Images.{after_it, Stores, images_grow, commands_grow, given_stays}
 use Rattle.isodep_link.proofs.CardTurns.{Holds, Shows, CardTurn, card_turn, quiet_asked}
 
 -- what is noted behind some notes
@@ -61,30 +61,33 @@ abbrev pub HasBytes : Signal → Type 0
 HasBytes f = (i : ℕ) → slice_index f.bytes i < 256
 
 -- what the reader sends is a block that a reader sends
-request_asked : (c : Core) (f : Signal) → f ≡ block_frame (request c) → HasBytes f → c.number < 2 → c.most ≤ 253 → IsAskedFrame f
-request_asked c f e bytes p q = record { block = request c; asked = go c.drawing refl; bytes = bytes; frame = e }
+request_asked : (c : Core) (f : Signal) → c.extension ≡ None → f ≡ block_frame (request c) → HasBytes f → c.number < 2 → c.most ≤ 253 → IsAskedFrame f
+request_asked c f z e bytes p q = record { block = request c; asked = go c.drawing refl; bytes = bytes; frame = e }
   where
     go : (d : Bool) → c.drawing ≡ d → IsAskedBlock (request c)
-    go true e = rw e p
-    go false e = rw e (is_piece c.most c.number c.rest p q)
+    go true e = rw (z, e) p
+    go false e = rw (z, e) (is_piece c.most c.number c.rest p q)
 
-held_number : (m : ℕ) (out : List ℕ) (c : Core) (t : CardState) (g : Option (List ℕ)) (n : ℕ) → law.Held m out c t g n → (c.number < 2) × (c.most ≤ 253)
-held_number m out c t g n (law.of_chain h l) = (h.number, h.bounds.fits)
-held_number m out c t g n (law.of_answer bytes h l) = (h.number, h.bounds.fits)
+held_number : (m j : ℕ) (out : List ℕ) (c : Core) (t : CardState) (g : Option (List ℕ)) (n bads : ℕ) → law.Held m j out c t g n bads → (c.number < 2) × (c.most ≤ 253)
+held_number m j out c t g n bads (law.of_chain h l) = (h.number, h.bounds.fits)
+held_number m j out c t g n bads (law.of_answer bytes h l) = (h.number, h.bounds.fits)
+held_number m j out c t g n bads (law.of_time z h l) = (h.number, h.bounds.fits)
 
-asked_frame : (m : ℕ) (out : List ℕ) (i : ReaderState) (t : CardState) (g : Option (List ℕ)) (f : Signal) → HasBytes f → (n : ℕ) → law.Ask m out i t g f n → IsAskedFrame f
-asked_frame m out i t g f bytes n (law.asks p e h b) = request_asked i.core f e bytes h.number h.bounds.fits
-asked_frame m out i t g f bytes n (law.draws p e h b) = request_asked i.core f e bytes h.number h.bounds.fits
-asked_frame m out i t g f bytes n (law.draws_again p e d h) = let x = held_number m out i.core t g n h in request_asked i.core f e bytes x.0 x.1
-asked_frame m out i t g f bytes n (law.naks p e h b) = record { block = Nak i.core.number; asked = h.number; bytes = bytes; frame = e }
-asked_frame m out i t g f bytes n (law.naks_held p e d h) = record { block = Nak i.core.number; asked = (held_number m out i.core t g n h).0; bytes = bytes; frame = e }
+asked_frame : (m j : ℕ) (out : List ℕ) (i : ReaderState) (t : CardState) (g : Option (List ℕ)) (f : Signal) → HasBytes f → (n : ℕ) → law.Ask m j out i t g f n → IsAskedFrame f
+asked_frame m j out i t g f bytes n (law.asks p e z h b) = request_asked i.core f h.plain e bytes h.number h.bounds.fits
+asked_frame m j out i t g f bytes n (law.draws p e h b) = request_asked i.core f h.plain e bytes h.number h.bounds.fits
+asked_frame m j out i t g f bytes n (law.draws_again p e d w h) = let x = held_number m j out i.core t g n i.bads h in request_asked i.core f w e bytes x.0 x.1
+asked_frame m j out i t g f bytes n (law.naks p e z h b) = record { block = Nak i.core.number; asked = h.number; bytes = bytes; frame = e }
+asked_frame m j out i t g f bytes n (law.naks_held p e d h) = record { block = Nak i.core.number; asked = (held_number m j out i.core t g n i.bads h).0; bytes = bytes; frame = e }
+asked_frame m j out i t g f bytes n (law.grants p e w z h b) = record { block = Extend t.times; asked = tt; bytes = bytes; frame = is_extension m j out i.core t f w e }
 
-live_of : (m : ℕ) (out : List ℕ) (i : ReaderState) (t : CardState) (g : Option (List ℕ)) (f : Signal) (n : ℕ) → law.Ask m out i t g f n → (i.phase ≡ phases.Asked) ⊎ (i.phase ≡ phases.Nacked)
-live_of m out i t g f n (law.asks p e h b) = inl p
-live_of m out i t g f n (law.draws p e h b) = inl p
-live_of m out i t g f n (law.draws_again p e d h) = inl p
-live_of m out i t g f n (law.naks p e h b) = inr p
-live_of m out i t g f n (law.naks_held p e d h) = inr p
+live_of : (m j : ℕ) (out : List ℕ) (i : ReaderState) (t : CardState) (g : Option (List ℕ)) (f : Signal) (n : ℕ) → law.Ask m j out i t g f n → (i.phase ≡ phases.Asked) ⊎ (i.phase ≡ phases.Nacked)
+live_of m j out i t g f n (law.asks p e z h b) = inl p
+live_of m j out i t g f n (law.draws p e h b) = inl p
+live_of m j out i t g f n (law.draws_again p e d w h) = inl p
+live_of m j out i t g f n (law.naks p e z h b) = inr p
+live_of m j out i t g f n (law.naks_held p e d h) = inr p
+live_of m j out i t g f n (law.grants p e w z h b) = inl p
 
 -- an answering end that isn't quiet says something
 says_some : (r : List ℕ) (t : CardState) (d : Does Signal) → (settled iso_dep r t d).answer ≡ None → d ≡ Quiet
@@ -109,7 +112,7 @@ module _ {L : Type 0} (k : Ghosts L) (card : L → CardState) (tag : L → TagSt
   -- how the exchange stands
   abbrev pub StandsBy : List Event → ReaderState → CardState → List Event → TagState → Stage Signal → Type 0
   StandsBy es0 i t es held stage =
-      Along iso_dep commands command (keeps (card begin).most command) (2 * pieces i0.core.most command) TagState (TagDoes (k.commands begin)) arrived es0 (tag begin) i t es held stage
+      Along iso_dep commands command (keeps (card begin).most (card begin).busy command) (2 * pieces i0.core.most command) TagState (TagDoes (k.commands begin)) arrived es0 (tag begin) i t es held stage
 
   -- Where the reader stands in a field that is as lit as it was: the listener heard these frames, the exchange keeps its law,
   -- each request was due, and no turn was made in the dark.
@@ -200,7 +203,7 @@ module _ {L : Type 0} (k : Ghosts L) (laws : Laws k) where
               stage_is = refl;
               inv = (
                 2 * pieces i0.core.most command,
-                law.asks refl refl (asking_first i0 (card begin) command short s) (omega arith),
+                law.asks refl refl (omega arith) (asking_first i0 (card begin) command short s) (omega arith),
                 record { once = sym (append-nil commands); reply = tt; stood = cut; bound = omega arith },
               );
               added = [];
@@ -221,8 +224,8 @@ module _ {L : Type 0} (k : Ghosts L) (laws : Laws k) where
       -- the frame that is sent is one that a reader sends
       frame_asked : (es0 es : List Event) (i : ReaderState) (t : CardState) (held : TagState) (f : Signal) → HasBytes f → Stands es0 i t es held (Requests f) → IsAskedFrame f
       frame_asked es0 es i t held f bytes a =
-          let j = subst (λ (x : Stage Signal). J iso_dep commands command (keeps (card begin).most command) (2 * pieces i0.core.most command) a.world x) a.stage_is a.inv in
-          asked_frame (card begin).most command a.world.asking a.world.answering a.world.given f bytes j.0 j.1
+          let j = subst (λ (x : Stage Signal). J iso_dep commands command (keeps (card begin).most (card begin).busy command) (2 * pieces i0.core.most command) a.world x) a.stage_is a.inv in
+          asked_frame (card begin).most (card begin).busy command a.world.asking a.world.answering a.world.given f bytes j.0 j.1
 
       module _ (old mid : Air L) (place : ℕ) (i : ReaderState) (f : Signal) (bytes : HasBytes f) (o : On old mid place i (Requests f) (Waits i f [])) where
         abbrev last : L
@@ -251,9 +254,9 @@ module _ {L : Type 0} (k : Ghosts L) (laws : Laws k) where
           turn : CardTurn k laws card tag holds mid new place last f h
           turn = card_turn k laws card tag holds mid place last f last_alone last_tag is_asked far far' new h q
 
-          onward : Onward iso_dep commands command (keeps (card begin).most command) (2 * pieces i0.core.most command) TagState (TagDoes (k.commands begin)) arrived old.trace (tag begin) i h (card turn.left) new.trace turn.held
+          onward : Onward iso_dep commands command (keeps (card begin).most (card begin).busy command) (2 * pieces i0.core.most command) TagState (TagDoes (k.commands begin)) arrived old.trace (tag begin) i h (card turn.left) new.trace turn.held
           onward =
-              goes_along iso_dep commands command (keeps (card begin).most command) (2 * pieces i0.core.most command) TagState (TagDoes (k.commands begin)) arrived old.trace (tag begin)
+              goes_along iso_dep commands command (keeps (card begin).most (card begin).busy command) (2 * pieces i0.core.most command) TagState (TagDoes (k.commands begin)) arrived old.trace (tag begin)
               i (card last) (card turn.left) mid.trace new.trace (tag last) turn.held f h o.along
               (subst (λ (g : TagState → Signal → TagStep). IsTurn iso_dep TagState IsShort (TagDoes g) (card last) mid.trace (tag last) f h (card turn.left) new.trace turn.held) (reached_same begin o.frames).commands' turn.turn)
 
@@ -266,16 +269,16 @@ module _ {L : Type 0} (k : Ghosts L) (laws : Laws k) where
           -- the card says something
           speaks : k.machine.answer last f None ≡ None → ⊥
           speaks e =
-              let j = subst (λ (x : Stage Signal). J iso_dep commands command (keeps (card begin).most command) (2 * pieces i0.core.most command) o.along.world x) o.along.stage_is o.along.inv in
+              let j = subst (λ (x : Stage Signal). J iso_dep commands command (keeps (card begin).most (card begin).busy command) (2 * pieces i0.core.most command) o.along.world x) o.along.stage_is o.along.inv in
               let s : StepsByCard k card tag last f = last_tag.steps [] tt f is_asked in
               let d : iso_dep.does (card last) f ≡ Quiet = says_some s.reply (iso_dep.heard (card last) f) (iso_dep.does (card last) f) (sym s.answer ∙ e) in
-              speaks_at (card begin).most command o.along.world.asking o.along.world.answering o.along.world.given f j.0 j.1 (subst (λ (x : CardState). iso_dep.does x f ≡ Quiet) (sym o.along.answering) d)
+              speaks_at (card begin).most (card begin).busy command o.along.world.asking o.along.world.answering o.along.world.given f j.0 j.1 (subst (λ (x : CardState). iso_dep.does x f ≡ Quiet) (sym o.along.answering) d)
 
           live : (i.phase ≡ phases.Asked) ⊎ (i.phase ≡ phases.Nacked)
           live =
-              let j = subst (λ (x : Stage Signal). J iso_dep commands command (keeps (card begin).most command) (2 * pieces i0.core.most command) o.along.world x) o.along.stage_is o.along.inv in
+              let j = subst (λ (x : Stage Signal). J iso_dep commands command (keeps (card begin).most (card begin).busy command) (2 * pieces i0.core.most command) o.along.world x) o.along.stage_is o.along.inv in
               subst (λ (x : ReaderState). (x.phase ≡ phases.Asked) ⊎ (x.phase ≡ phases.Nacked)) o.along.asking
-              (live_of (card begin).most command o.along.world.asking o.along.world.answering o.along.world.given f j.0 j.1)
+              (live_of (card begin).most (card begin).busy command o.along.world.asking o.along.world.answering o.along.world.given f j.0 j.1)
 
           calm_or : (noise turn.added ≡ 0 → (k.machine.answer last f None ≡ None) ⊎ ((g : Signal) × (h ≡ Some (heards.Whole g)))) → ((g : Signal) → h ≡ Some (heards.Whole g) → ⊥) → 0 < noise turn.added
           calm_or calm never = positive (noise turn.added) (λ z. go (calm z))
@@ -293,8 +296,8 @@ module _ {L : Type 0} (k : Ghosts L) (laws : Laws k) where
 
       -- what the asking end heard is what was heard
       heard_next : (es0 es : List Event) (i : ReaderState) (t : CardState) (held : TagState) (h : Heard) (z : Option (Hears Signal)) → Some h ≡ heard_in z
-          → Stands es0 (next_asking iso_dep commands command (keeps (card begin).most command) (2 * pieces i0.core.most command) i z) t es held
-          (next_stage iso_dep commands command (keeps (card begin).most command) (2 * pieces i0.core.most command) i z)
+          → Stands es0 (next_asking iso_dep commands command (keeps (card begin).most (card begin).busy command) (2 * pieces i0.core.most command) i z) t es held
+          (next_stage iso_dep commands command (keeps (card begin).most (card begin).busy command) (2 * pieces i0.core.most command) i z)
           → Stands es0 (reader_table i h).state t es held (stage_of (reader_does (reader_table i h).does))
       heard_next es0 es i t held h None e a = absurd (cc)
       heard_next es0 es i t held h (Some z) e a =
@@ -302,8 +305,8 @@ module _ {L : Type 0} (k : Ghosts L) (laws : Laws k) where
           subst (λ (x : Heard). Stands es0 (reader_table i x).state t es held (stage_of (reader_does (reader_table i x).does))) q a
 
       heard_nothing : (es0 es : List Event) (i : ReaderState) (t : CardState) (held : TagState) (z : Option (Hears Signal)) → None ≡ heard_in z
-          → Stands es0 (next_asking iso_dep commands command (keeps (card begin).most command) (2 * pieces i0.core.most command) i z) t es held
-          (next_stage iso_dep commands command (keeps (card begin).most command) (2 * pieces i0.core.most command) i z)
+          → Stands es0 (next_asking iso_dep commands command (keeps (card begin).most (card begin).busy command) (2 * pieces i0.core.most command) i z) t es held
+          (next_stage iso_dep commands command (keeps (card begin).most (card begin).busy command) (2 * pieces i0.core.most command) i z)
           → Stands es0 i t es held Dark
       heard_nothing es0 es i t held None e a = a
       heard_nothing es0 es i t held (Some z) e a = absurd (cc)
@@ -311,11 +314,11 @@ module _ {L : Type 0} (k : Ghosts L) (laws : Laws k) where
       -- what is known of the exchange, wherever the loop stands
       abbrev pub OnceAlong : World ReaderState CardState Signal → Type 0
       OnceAlong w =
-          Once iso_dep (IsReady iso_dep command (keeps (card begin).most command)) (λ g. Unit {0}) commands command (pieces i0.core.most command) (pieces (card begin).most) w
+          Once iso_dep (IsReady iso_dep command (keeps (card begin).most (card begin).busy command)) (λ g. Unit {0}) commands command (pieces i0.core.most command) (blocks_back (card begin)) w
 
       pub once_along : (es0 es : List Event) (i : ReaderState) (t : CardState) (held : TagState) (stage : Stage Signal) (a : Stands es0 i t es held stage) → OnceAlong a.world
       once_along es0 es i t held stage a =
-          kept_once iso_dep commands command (keeps (card begin).most command) (λ g. Unit {0}) (pieces i0.core.most command) (pieces (card begin).most) (λ r. refl) a.world a.inv
+          kept_once iso_dep commands command (keeps (card begin).most (card begin).busy command) (λ g. Unit {0}) (pieces i0.core.most command) (blocks_back (card begin)) (λ r. omega arith) a.world a.inv
 
       -- the stores that the tag shows in one turn more
       module _ (old mid new : Air L) (place : ℕ) (i : ReaderState) (stage0 : Stage Signal) (s0 : IsoStanding) (o : On old mid place i stage0 s0) (more : List Event) (trace : new.trace ≡ mid.trace ++ more)
@@ -390,7 +393,7 @@ module _ {L : Type 0} (k : Ghosts L) (laws : Laws k) where
           abbrev t : CardTurn k laws card tag holds mid new place (reached k begin o.frames) f (Some h)
           t = turn old mid place i f bytes o far far' new (Some h) q
 
-          n : Onward iso_dep commands command (keeps (card begin).most command) (2 * pieces i0.core.most command) TagState (TagDoes (k.commands begin)) arrived old.trace (tag begin) i (Some h) (card t.left) new.trace t.held
+          n : Onward iso_dep commands command (keeps (card begin).most (card begin).busy command) (2 * pieces i0.core.most command) TagState (TagDoes (k.commands begin)) arrived old.trace (tag begin) i (Some h) (card t.left) new.trace t.held
           n = onward old mid place i f bytes o far far' new (Some h) q
 
           abbrev Next_on : Type 0
@@ -432,7 +435,7 @@ module _ {L : Type 0} (k : Ghosts L) (laws : Laws k) where
           abbrev t0 : CardTurn k laws card tag holds mid new place (reached k begin o.frames) f None
           t0 = turn old mid place i f bytes o far far' new None q
 
-          n0 : Onward iso_dep commands command (keeps (card begin).most command) (2 * pieces i0.core.most command) TagState (TagDoes (k.commands begin)) arrived old.trace (tag begin) i None (card t0.left) new.trace t0.held
+          n0 : Onward iso_dep commands command (keeps (card begin).most (card begin).busy command) (2 * pieces i0.core.most command) TagState (TagDoes (k.commands begin)) arrived old.trace (tag begin) i None (card t0.left) new.trace t0.held
           n0 = onward old mid place i f bytes o far far' new None q
 
           lost_left : (was : L) (fs : List Signal) → AllByRecursion IsAskedFrame fs → was ≡ reached k begin fs → t0.left ≡ k.machine.darkened was → tag was ≡ t0.held → new.lit ≡ false → Lost old new place
@@ -487,8 +490,8 @@ module _ {L : Type 0} (k : Ghosts L) (laws : Laws k) where
             trace = a.events;
             obeyed = ap (λ (fs : List Signal). iso_commands (blocks_of fs)) a.arrives ∙ o.brings ∙ o.once ∙ ap (λ (x : Option (List ℕ)). commands ++ delivered_of command x) e;
             within =
-                (let w : a.world.sent ≤ 2 * (pieces i0.core.most command + pieces_back (pieces (card begin).most) g - 1) + 4 * a.world.bads =
-                subst (λ (x : Option (List ℕ)). a.world.sent ≤ 2 * (pieces i0.core.most command + pieces_back (pieces (card begin).most) x - 1) + 4 * a.world.bads) e o.within in
+                (let w : a.world.sent ≤ 2 * (pieces i0.core.most command + pieces_back (blocks_back (card begin)) g - 1) + 4 * a.world.bads =
+                subst (λ (x : Option (List ℕ)). a.world.sent ≤ 2 * (pieces i0.core.most command + pieces_back (blocks_back (card begin)) x - 1) + 4 * a.world.bads) e o.within in
                 rw (a.sent, a.bads) w);
             notes = notes;
             going = going;
@@ -519,9 +522,9 @@ module _ {L : Type 0} (k : Ghosts L) (laws : Laws k) where
 
       -- an exchange that ended, by what its end tells
       ending_along : (es0 es : List Event) (i : ReaderState) (t : CardState) (held : TagState) (stage : Stage Signal) (a : Stands es0 i t es held stage)
-          → IsEnding (IsReady iso_dep command (keeps (card begin).most command)) a.world stage
+          → IsEnding (IsReady iso_dep command (keeps (card begin).most (card begin).busy command)) a.world stage
       ending_along es0 es i t held stage a =
-          subst (λ (s : Stage Signal). IsEnding (IsReady iso_dep command (keeps (card begin).most command)) a.world s) a.stage_is (once_along es0 es i t held stage a).ending
+          subst (λ (s : Stage Signal). IsEnding (IsReady iso_dep command (keeps (card begin).most (card begin).busy command)) a.world s) a.stage_is (once_along es0 es i t held stage a).ending
 
       pub never_protocol : (old mid : Air L) (place : ℕ) (i : ReaderState) (s : IsoStanding) → On old mid place i (Over Protocol) s → ⊥
       never_protocol old mid place i s o = ending_along old.trace mid.trace i (card (reached k begin o.frames)) (tag (reached k begin o.frames)) (Over Protocol) o.along

@@ -1,7 +1,7 @@
 -- What a card delivers are the commands of the blocks that it heard, each once and in order, unless a chain grew too long.
 use Rattle.std.proofs.Common.{◌≡◌, ℕ, ◌==◌, nat_lt, List, [], ◌∷◌, ◌++◌, length, Bool, true, false, Option, Some, None, if◌then◌else◌, refl, sym, ◌∙◌, ap}
 use Rattle.isodep_link.specs.declared.block.Block.{Block}
-use Rattle.isodep_link.specs.declared.block.Block.TheVariants.{Info, Ack, Nak, Deselect}
+use Rattle.isodep_link.specs.declared.block.Block.TheVariants.{Info, Ack, Nak, Deselect, Extend}
 use Rattle.isodep_link.specs.Sizes.{limit}
 use Rattle.isodep_link.specs.Card.{CardState, CardMove, Does, Stays, Answers, Delivers, Sleeps, stays, again, grown, block_table, fresh}
 use Rattle.isodep_link.specs.Commands.{Cut, taken, joined, cut_by, Obeying, heard_by, settled, with_delivered, moved, obeying, DeliversCommands}
@@ -31,21 +31,27 @@ if_follows c hs false m n p q = q
 follows : (t : CardState) (hs : List (List ℕ)) (b : Block) → Follows (taken (cut_of t hs) b) hs (block_table t b)
 follows t hs (Info more n c) = gathered_follows t hs more (t.chain ++ c.items) (nat_lt limit (length (t.chain ++ c.items)))
 follows t hs (Ack n) =
-    if_follows _ hs (n == t.number) _ _ (again_follows t hs t.last) (if_follows _ hs (nat_lt 0 (length t.left)) _ _ (λ e. refl) (λ e. refl))
+    if_follows _ hs (n == t.number) _ _ (again_follows t hs t.last) (if_follows _ hs (if nat_lt 0 t.due then false else nat_lt 0 (length t.left)) _ _ (λ e. refl) (λ e. refl))
 follows t hs (Nak n) = if_follows _ hs (n == t.number) _ _ (again_follows t hs t.last) (λ e. refl)
 follows t hs Deselect = λ e. refl
+follows t hs (Extend times) =
+    if_follows _ hs (if nat_lt 0 t.due then times == t.times else false) _ _ (if_follows _ hs (nat_lt 1 t.due) _ _ (λ e. refl) (λ e. refl)) (λ e. refl)
 
 -- the owner's answer changes neither the chain nor whether the card is mute
+by_either : {X : Type 0} (P : X → Type 0) (v : Bool) (x y : X) → P x → P y → P (if v then x else y)
+by_either P true x y p q = p
+by_either P false x y p q = q
+
 settled_mute : (far : List ℕ → List ℕ) (t : CardState) (d : Does) → (settled far t d).mute ≡ t.mute
 settled_mute far t Stays = refl
 settled_mute far t (Answers b) = refl
-settled_mute far t (Delivers xs) = refl
+settled_mute far t (Delivers xs) = by_either (λ (u : CardState). u.mute ≡ t.mute) (nat_lt 0 t.busy) _ _ refl refl
 settled_mute far t (Sleeps b) = refl
 
 settled_cut : (far : List ℕ → List ℕ) (t : CardState) (d : Does) (hs : List (List ℕ)) → cut_of (settled far t d) hs ≡ cut_of t hs
 settled_cut far t Stays hs = refl
 settled_cut far t (Answers b) hs = refl
-settled_cut far t (Delivers xs) hs = refl
+settled_cut far t (Delivers xs) hs = by_either (λ (u : CardState). cut_of u hs ≡ cut_of t hs) (nat_lt 0 t.busy) _ _ refl refl
 settled_cut far t (Sleeps b) hs = refl
 
 -- a mute card stays mute

@@ -1,5 +1,5 @@
 -- One turn with a Type 4 tag that is alone in its field is a turn of reader and card.
-use Rattle.std.proofs.Common.{◌≡◌, ℕ, ◌⊎◌, inl, inr, List, [], ◌∷◌, ◌++◌, Bool, true, false, if◌then◌else◌, Option, Some, None, refl, sym, ◌∙◌, ap, subst, arith}
+use Rattle.std.proofs.Common.{◌≡◌, ℕ, ◌⊎◌, inl, inr, List, [], ◌∷◌, ◌++◌, Bool, true, false, if◌then◌else◌, Option, Some, None, refl, sym, ◌∙◌, ap, subst}
 use Rattle.std.specs.Prelude.{map}
 use Rattle.std.specs.List.{AllByRecursion, filter_map, cons_option}
 use Rattle.nfc_base.specs.declared.frame.Tech.TheVariants.{A}
@@ -23,8 +23,8 @@ use Rattle.air_core.specs.PlainLinks.{at_place, stores_after}
 use Rattle.air_core.proofs.PlainStores.{place_is}
 use Rattle.air_core.specs.declared.listener.Listener.{Ghosts}
 use Rattle.air_core.proofs.PlainAside.{Laws, IsUnmoved, aside_silent, alone_dark, alone_quiet, alone_says, alone_steps}
-use Rattle.air_core.proofs.PlainTurns.{one, joint_one, tag_events, tag_heard, turn_events_as, heard_as}
-use Rattle.isodep_link.specs.Card.{CardState, fresh}
+use Rattle.air_core.proofs.PlainTurns.{one, joint_one, tag_events, tag_heard, calm_events, turn_events_as, heard_as}
+use Rattle.isodep_link.specs.Card.{CardState, darkened}
 use Rattle.isodep_link.specs.Exchange.{iso_dep}
 use Rattle.isodep_link.specs.CardTags.{IsAskedFrame, TagDoes, IsShort, StepsByCard, IsCardTag}
 
@@ -139,17 +139,17 @@ module _ {L : Type 0} (k : Ghosts L) (laws : Laws k) (card : L → CardState) (t
 
   -- the card's end is what that turn leaves
   answered_card : (l : L) (f : Signal) (t : CardState) (asked : Option (List ℕ)) (q : Option Signal) (y : Fate)
-      → card (k.machine.after l f None) ≡ t → card (k.machine.darkened (k.machine.after l f None)) ≡ fresh (card (k.machine.after l f None)).code
+      → card (k.machine.after l f None) ≡ t → card (k.machine.darkened (k.machine.after l f None)) ≡ darkened (card (k.machine.after l f None))
       → card (left_by l f Pass y q) ≡ (answered iso_dep t asked f q y).answering
   answered_card l f t asked None y e d = e
   answered_card l f t asked (Some a) Pass e d = e
   answered_card l f t asked (Some a) Damage e d = e
   answered_card l f t asked (Some a) Lose e d = e
-  answered_card l f t asked (Some a) Break e d = d ∙ ap (λ (z : CardState). fresh z.code) e
+  answered_card l f t asked (Some a) Break e d = d ∙ ap darkened e
 
   same_card : (l : L) (f : Signal) (r : List ℕ) (x y : Fate)
-      → card (k.machine.after l f None) ≡ (step iso_dep r (card l) f).state → card (k.machine.darkened (k.machine.after l f None)) ≡ fresh (card (k.machine.after l f None)).code
-      → card (k.machine.darkened l) ≡ fresh (card l).code → card (left_by l f x y (step iso_dep r (card l) f).answer) ≡ (turned iso_dep r (card l) f x y).answering
+      → card (k.machine.after l f None) ≡ (step iso_dep r (card l) f).state → card (k.machine.darkened (k.machine.after l f None)) ≡ darkened (card (k.machine.after l f None))
+      → card (k.machine.darkened l) ≡ darkened (card l) → card (left_by l f x y (step iso_dep r (card l) f).answer) ≡ (turned iso_dep r (card l) f x y).answering
   same_card l f r Pass y e d c = answered_card l f (step iso_dep r (card l) f).state (step iso_dep r (card l) f).asked (step iso_dep r (card l) f).answer y e d
   same_card l f r Damage y e d c = refl
   same_card l f r Lose y e d c = refl
@@ -199,17 +199,6 @@ module _ {L : Type 0} (k : Ghosts L) (laws : Laws k) (card : L → CardState) (t
   left_is l f lit Damage y q e w i = (inl refl, refl, i ∙ e)
   left_is l f lit Lose y q e w i = (inl refl, refl, i ∙ e)
   left_is l f lit Break y q e w i = (l, refl, inl refl, refl, refl)
-
-  -- where all passes, nothing is said or that is heard
-  calm_events : (f : Signal) (x y : Fate) (q : Option Signal) → noise (tag_events f x y q) ≡ 0 → (q ≡ None) ⊎ ((g : Signal) × (tag_heard x y q ≡ Some (heards.Whole g)))
-  calm_events f Pass y None e = inl refl
-  calm_events f Pass Pass (Some g) e = inr (g, refl)
-  calm_events f Pass Damage (Some g) e = absurd (omega (arith, e))
-  calm_events f Pass Lose (Some g) e = absurd (omega (arith, e))
-  calm_events f Pass Break (Some g) e = absurd (omega (arith, e))
-  calm_events f Damage y q e = absurd (omega (arith, e))
-  calm_events f Lose y q e = absurd (omega (arith, e))
-  calm_events f Break y q e = absurd (omega (arith, e))
 
   met_holds : (l : L) (f : Signal) (x : Fate) → k.store (met_by l f x) ≡ (met l f x).store
   met_holds l f Pass = sym (holds (k.machine.after l f None))

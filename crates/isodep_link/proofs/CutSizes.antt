@@ -1,5 +1,5 @@
 -- While commands are asked, reader and card cut what they send into pieces of the same size as before.
-use Rattle.std.proofs.Common.{◌≡◌, ℕ, ◌==◌, nat_lt, List, [], ◌∷◌, ◌++◌, length, Bool, true, false, if◌then◌else◌, Option, Some, None, refl, ◌∙◌, ap, subst}
+use Rattle.std.proofs.Common.{drop, ◌≡◌, ℕ, ◌==◌, nat_lt, List, [], ◌∷◌, ◌++◌, length, Bool, true, false, if◌then◌else◌, Option, Some, None, refl, ◌∙◌, ap, subst}
 use Rattle.std.specs.List.{AllByRecursion}
 use Rattle.nfc_base.specs.Signal.{Signal}
 use Rattle.nfc_base.specs.StopAndWait.{Does, Quiet, Reply, Deliver}
@@ -11,17 +11,17 @@ use Rattle.air_core.specs.PlainTags.{reached}
 use Rattle.air_core.specs.declared.listener.Listener.{Ghosts}
 use Rattle.air_core.proofs.PlainAside.{Laws}
 use Rattle.isodep_link.specs.declared.block.Block.{Block}
-use Rattle.isodep_link.specs.declared.block.Block.TheVariants.{Info, Ack, Nak, Deselect}
+use Rattle.isodep_link.specs.declared.block.Block.TheVariants.{Info, Ack, Nak, Deselect, Extend}
 use Rattle.isodep_link.specs.declared.reader.Phase.{Phase}
 use Rattle.isodep_link.specs.declared.reader.Phase.TheVariants.{Asked, Nacked, Free, EndedSixBad, EndedProtocol}
 use Rattle.isodep_link.specs.declared.reader.ReaderStep.{ReaderStep}
 use Rattle.isodep_link.specs.declared.reader.ReaderStep.TheVariants as steps
-use Rattle.isodep_link.specs.Blocks.{IsBlock, spelled_block}
+use Rattle.isodep_link.specs.Blocks.{piece, IsBlock, spelled_block}
 use Rattle.isodep_link.specs.Sizes.{limit, rats_code}
 use Rattle.isodep_link.specs.Card as cards
 use Rattle.isodep_link.specs.Card.{CardState, CardMove, card_table, block_table, grown, again, heeded, stays}
-use Rattle.isodep_link.specs.Reader.{ReaderState, ReaderMove, Reception, Hears, Odd, Bad, reception, reader_table, most_bads, bad, received, more_follows, is_refused, acked, missed, brought, answered, waited, unasked, in_phase}
-use Rattle.isodep_link.specs.Exchange.{iso_dep}
+use Rattle.isodep_link.specs.Reader.{may_extend, ReaderState, ReaderMove, Reception, Hears, Odd, Bad, reception, reader_table, most_bads, bad, received, more_follows, is_refused, acked, missed, brought, answered, waited, unasked, in_phase}
+use Rattle.isodep_link.specs.Exchange.{iso_dep, backs_of}
 use Rattle.isodep_link.specs.CardTags.{IsAskedBlock, IsAskedFrame, IsCardTag}
 use Rattle.isodep_link.specs.Asking.{IsoStanding, Waits, Rests, Broken, Astray, asks, goes_by, noted, stand}
 use Rattle.isodep_link.proofs.Wire.{card_heeds}
@@ -62,6 +62,7 @@ keeps_answered i (Info more n c) = keeps_if i (if more_follows i.core then false
 keeps_answered i (Ack n) = keeps_if i (n == i.core.number) _ _ (keeps_acked i) (keeps_missed i i.phase)
 keeps_answered i (Nak n) = refl
 keeps_answered i Deselect = refl
+keeps_answered i (Extend times) = keeps_if i (may_extend i.core times) _ _ refl refl
 
 keeps_waited : (i : ReaderState) (h : Reception) → Keeps i (waited i h)
 keeps_waited i (Hears b) = keeps_answered i b
@@ -120,7 +121,7 @@ rests_cut i j cs ns e = let P : IsoStanding → Type 0 = CutsTo i.core.most in s
 
 -- a card's move after which it cuts to the same size
 abbrev CardKeeps : CardState → CardMove → Type 0
-CardKeeps t m = m.state.most ≡ t.most
+CardKeeps t m = backs_of m.state ≡ backs_of t
 
 -- each of the card's moves is one
 card_keeps_if : (t : CardState) (v : Bool) (m n : CardMove) → CardKeeps t m → CardKeeps t n → CardKeeps t (if v then m else n)
@@ -137,9 +138,10 @@ keeps_again t (Some b) = refl
 
 card_keeps : (t : CardState) (b : Block) → CardKeeps t (block_table t b)
 card_keeps t (Info more n c) = card_keeps_if t (nat_lt limit (length (t.chain ++ c.items))) _ _ refl (keeps_grown t more (t.chain ++ c.items))
-card_keeps t (Ack n) = card_keeps_if t (n == t.number) _ _ (keeps_again t t.last) (card_keeps_if t (nat_lt 0 (length t.left)) _ _ refl refl)
+card_keeps t (Ack n) = card_keeps_if t (n == t.number) _ _ (keeps_again t t.last) (card_keeps_if t (if nat_lt 0 t.due then false else nat_lt 0 (length t.left)) _ _ refl refl)
 card_keeps t (Nak n) = card_keeps_if t (n == t.number) _ _ (keeps_again t t.last) refl
 card_keeps t Deselect = refl
+card_keeps t (Extend times) = card_keeps_if t (if nat_lt 0 t.due then times == t.times else false) _ _ (card_keeps_if t (nat_lt 1 t.due) _ _ refl refl) refl
 
 -- a block that a reader sends is in range
 in_range : (b : Block) → IsAskedBlock b → IsBlock b
@@ -147,26 +149,31 @@ in_range (Info more n c) a = a
 in_range (Ack n) a = a
 in_range (Nak n) a = a
 in_range Deselect a = absurd a
+in_range (Extend times) a = a
 
 -- at a frame that a reader sends the card cuts to the same size, also once its owner answered
-table_keeps : (t : CardState) (f : Signal) → IsAskedFrame f → (v : Bool) → t.mute ≡ v → (card_table t f).state.most ≡ t.most
-table_keeps t f a true e = ap (λ v. (if v then cards.framed (stays t) else heeded t (rats_code f) (spelled_block f)).state.most) e
+table_keeps : (t : CardState) (f : Signal) → IsAskedFrame f → (v : Bool) → t.mute ≡ v → backs_of (card_table t f).state ≡ backs_of t
+table_keeps t f a true e = ap (λ v. backs_of (if v then cards.framed (stays t) else heeded t (rats_code f) (spelled_block f)).state) e
 table_keeps t f a false e =
-    ap (λ (z : Signal). (card_table t z).state.most) a.frame ∙ ap (λ m. m.state.most) (card_heeds t a.block e (in_range a.block a.asked)) ∙ card_keeps t a.block
+    ap (λ (z : Signal). backs_of (card_table t z).state) a.frame ∙ ap (λ m. backs_of m.state) (card_heeds t a.block e (in_range a.block a.asked)) ∙ card_keeps t a.block
 
-settled_keeps : (r : List ℕ) (t : CardState) (d : Does Signal) → (settled iso_dep r t d).state.most ≡ t.most
+settled_keeps : (r : List ℕ) (t : CardState) (d : Does Signal) → backs_of (settled iso_dep r t d).state ≡ backs_of t
 settled_keeps r t Quiet = refl
 settled_keeps r t (Reply a) = refl
-settled_keeps r t (Deliver p) = refl
+settled_keeps r t (Deliver p) = go (nat_lt 0 t.busy)
+  where
+    go : (v : Bool) → backs_of (if v then record t { last = Some (Extend t.times); left = r; due = t.busy } else record t { last = Some (piece t.most t.number r); left = drop t.most r; due = 0 }) ≡ backs_of t
+    go true = refl
+    go false = refl
 
-step_keeps : (r : List ℕ) (t : CardState) (f : Signal) → IsAskedFrame f → (step iso_dep r t f).state.most ≡ t.most
+step_keeps : (r : List ℕ) (t : CardState) (f : Signal) → IsAskedFrame f → backs_of (step iso_dep r t f).state ≡ backs_of t
 step_keeps r t f a = settled_keeps r (iso_dep.heard t f) (iso_dep.does t f) ∙ table_keeps t f a t.mute refl
 
 -- a tag that heard blocks cuts to the same size as before
 pub reached_cuts : {L : Type 0} (k : Ghosts L) (laws : Laws k) (card : L → CardState) (tag : L → TagState) (holds : Holds k tag) (l : L) (fs : List Signal) → AllByRecursion IsAskedFrame fs → IsCardTag k card tag l
-    → (card (reached k l fs)).most ≡ (card l).most
+    → backs_of (card (reached k l fs)) ≡ backs_of (card l)
 reached_cuts k laws card tag holds l [] a c = refl
 reached_cuts k laws card tag holds l (f ∷ fs) a c =
     let s = c.steps [] tt f a.0 in
-    let here : (card (k.machine.after l f None)).most ≡ (card l).most = ap (λ (t : CardState). t.most) s.card_is ∙ step_keeps s.reply (card l) f a.0 in
+    let here : backs_of (card (k.machine.after l f None)) ≡ backs_of (card l) = ap backs_of s.card_is ∙ step_keeps s.reply (card l) f a.0 in
     reached_cuts k laws card tag holds (k.machine.after l f None) fs a.1 (stays_card_tag k laws card tag holds l (f ∷ []) (a.0, tt) c) ∙ here

@@ -1,14 +1,14 @@
 -- A reader whose exchange ended by a fault gives the same fault at every later reception.
 use Rattle.std.proofs.Common.{◌≡◌, ℕ, ◌==◌, nat_lt, List, ◌++◌, Bool, true, false, if◌then◌else◌, Option, Some, None, ◌⊎◌, inl, inr, refl, sym, ◌∙◌, ap}
 use Rattle.isodep_link.specs.declared.block.Block.{Block}
-use Rattle.isodep_link.specs.declared.block.Block.TheVariants.{Info, Ack, Nak, Deselect}
+use Rattle.isodep_link.specs.declared.block.Block.TheVariants.{Info, Ack, Nak, Deselect, Extend}
 use Rattle.isodep_link.specs.declared.reader.Phase.{Phase}
 use Rattle.isodep_link.specs.declared.reader.Phase.TheVariants.{Asked, Nacked, Free, EndedSixBad, EndedProtocol}
 use Rattle.nfc_base.specs.Signal.{Signal}
 use Rattle.nfc_base.specs.declared.event.Heard.TheVariants as heard
 use Rattle.isodep_link.specs.declared.reader.ReaderStep.TheVariants as steps
 use Rattle.isodep_link.specs.Blocks.{spelled_block}
-use Rattle.isodep_link.specs.Reader.{framed, framed_next, reception, FaultsStay, ReaderDoes, Asks, Gives, whole_reception, reader_table, Core, ReaderState, ReaderMove, Reception, Hears, Odd, Bad, GivesUp, Refuses, sends, refuses, most_bads, bad, received, more_follows, is_refused, acked, missed, brought, answered, waited, unasked, in_phase, block_next}
+use Rattle.isodep_link.specs.Reader.{may_extend, framed, framed_next, reception, FaultsStay, ReaderDoes, Asks, Gives, whole_reception, reader_table, Core, ReaderState, ReaderMove, Reception, Hears, Odd, Bad, GivesUp, Refuses, sends, refuses, most_bads, bad, received, more_follows, is_refused, acked, missed, brought, answered, waited, unasked, in_phase, block_next}
 
 -- a move that ends by a fault keeps which it was
 pub record Keeps (m : ReaderMove) : Type 0 where
@@ -51,6 +51,7 @@ keeps_answered i (Info more n c) =
 keeps_answered i (Ack n) = keeps_if (n == i.core.number) _ _ (keeps_acked i) (keeps_missed i i.phase)
 keeps_answered i (Nak n) = keeps_refuses i
 keeps_answered i Deselect = keeps_refuses i
+keeps_answered i (Extend times) = keeps_if (may_extend i.core times) _ _ (keeps_sends _ _ _) (keeps_refuses i)
 
 keeps_waited : (i : ReaderState) (h : Reception) → Keeps (waited i h)
 keeps_waited i (Hears b) = keeps_answered i b
@@ -105,6 +106,7 @@ not_six_answered i (Info more n c) =
 not_six_answered i (Ack n) = not_six_if (n == i.core.number) _ _ (not_six_if (more_follows i.core) _ _ (λ e. absurd cc) (λ e. absurd cc)) (not_six_missed i i.phase)
 not_six_answered i (Nak n) = λ e. absurd cc
 not_six_answered i Deselect = λ e. absurd cc
+not_six_answered i (Extend times) = not_six_if (may_extend i.core times) _ _ (λ e. absurd cc) (λ e. absurd cc)
 
 not_six_whole : (i : ReaderState) (o : Option Block) → IsNotSix (waited i (whole_reception o))
 not_six_whole i None = λ e. absurd cc

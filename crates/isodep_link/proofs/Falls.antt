@@ -2,14 +2,14 @@
 use Rattle.std.proofs.Common.{◌≡◌, ℕ, ◌<◌, ◌≤◌, ◌==◌, nat_lt, Bool, true, false, not, if◌then◌else◌, List, ◌++◌, length, refl, sym, ◌∙◌, ap, subst, arith, length-append, length-drop}
 use Rattle.std.proofs.lemmas.Bool.{ltb-true}
 use Rattle.isodep_link.specs.declared.block.Block.{Block}
-use Rattle.isodep_link.specs.declared.block.Block.TheVariants.{Info, Ack, Nak, Deselect}
+use Rattle.isodep_link.specs.declared.block.Block.TheVariants.{Info, Ack, Nak, Deselect, Extend}
 use Rattle.isodep_link.specs.declared.reader.Phase.{Phase}
 use Rattle.isodep_link.specs.declared.reader.Phase.TheVariants.{Asked, Nacked, Free, EndedSixBad, EndedProtocol}
 use Rattle.isodep_link.specs.declared.reader.ReaderStep.TheVariants as steps
 use Rattle.nfc_base.specs.Signal.{Signal}
 use Rattle.nfc_base.specs.declared.event.Heard.{Heard}
 use Rattle.isodep_link.specs.Sizes.{limit}
-use Rattle.isodep_link.specs.Reader.{Core, ReaderState, ReaderMove, ReaderTurn, Reception, Hears, Odd, Bad, Asks, Gives, GivesUp, Refuses, ReaderDoes, framed_next, reception, reader_table, refuses, most_bads, bad, after_bad, received, more_follows, is_refused, acked, missed, brought, answered, waited, unasked, in_phase, block_next}
+use Rattle.isodep_link.specs.Reader.{may_extend, extended, most_extensions, longest_extension, Core, ReaderState, ReaderMove, ReaderTurn, Reception, Hears, Odd, Bad, Asks, Gives, GivesUp, Refuses, ReaderDoes, framed_next, reception, reader_table, refuses, most_bads, bad, after_bad, received, more_follows, is_refused, acked, missed, brought, answered, waited, unasked, in_phase, block_next}
 use Rattle.isodep_link.specs.Falling.{after_nak, left_to_do}
 use Rattle.isodep_link.proofs.Standing.{le_from_not}
 
@@ -90,12 +90,32 @@ falls_missed i Free e = falls_refuses i
 falls_missed i EndedSixBad e = falls_refuses i
 falls_missed i EndedProtocol e = falls_refuses i
 
+-- time is granted at most so often
+few_granted : (c : Core) (times : ℕ) → may_extend c times ≡ true → c.granted < most_extensions
+few_granted c times e = go c.drawing (more_follows c) (nat_lt 0 times) (nat_lt longest_extension times) (nat_lt c.granted most_extensions) refl e
+  where
+    go : (a b d f v : Bool) → nat_lt c.granted most_extensions ≡ v → (if a then false else (if b then false else (if d then (if f then false else v) else false))) ≡ true
+        → c.granted < most_extensions
+    go true b d f v w e = absurd (cc)
+    go false true d f v w e = absurd (cc)
+    go false false false f v w e = absurd (cc)
+    go false false true true v w e = absurd (cc)
+    go false false true false true w e = ltb-true c.granted most_extensions w
+    go false false true false false w e = absurd (cc)
+
+falls_extended : (i : ReaderState) (times : ℕ) → Falls i (extended i times)
+falls_extended i times =
+    falls_if i (may_extend i.core times) _ _
+    (λ b v e. let l = few_granted i.core times b in omega (arith, l))
+    (λ b. falls_refuses i)
+
 falls_answered : (i : ReaderState) (b : Block) → 0 < i.core.most → Falls i (answered i b)
 falls_answered i (Info more n x) p =
     falls_if i (if more_follows i.core then false else n == i.core.number) _ _ (λ v. falls_brought i more x.items) (λ v. falls_refuses i)
 falls_answered i (Ack n) p = falls_if i (n == i.core.number) _ _ (λ v. falls_acked i p) (λ v. falls_missed i i.phase refl)
 falls_answered i (Nak n) p = falls_refuses i
 falls_answered i Deselect p = falls_refuses i
+falls_answered i (Extend times) p = falls_extended i times
 
 falls_waited : (i : ReaderState) (h : Reception) → 0 < i.core.most → Falls i (waited i h)
 falls_waited i (Hears b) p = falls_answered i b p

@@ -3,34 +3,15 @@ use Rattle.std.proofs.Common.{◌≡◌, ℕ, ◌+◌, inr, List, [], ◌∷◌,
 use Rattle.std.proofs.lemmas.List.{length-append}
 use Rattle.std.specs.List.{AllByRecursion}
 use Rattle.nfc_base.specs.Signal.{Signal}
-use Rattle.nfc_base.specs.LinkTurns.{with_arrived, arrived}
-use Rattle.nfc_base.specs.declared.event.Event.{Event}
-use Rattle.nfc_base.specs.declared.event.Event.TheVariants.{Reset, Request, Answer, Clash}
-use Rattle.nfc_base.specs.declared.event.Fate.{Fate}
-use Rattle.nfc_base.specs.declared.event.Fate.TheVariants.{Pass, Damage, Lose, Break}
 use Rattle.nfc_base.specs.StopAndWait.{delivered_of}
 use Rattle.air_core.specs.PlainLinks.{Follows}
 use Rattle.air_core.specs.Following.{follows_on}
 use Rattle.isodep_link.specs.declared.block.Block.{Block}
-use Rattle.isodep_link.specs.declared.block.Block.TheVariants.{Info, Ack, Nak, Deselect}
+use Rattle.isodep_link.specs.declared.block.Block.TheVariants.{Info, Ack, Nak, Deselect, Extend}
 use Rattle.isodep_link.specs.Commands.{Cut, taken, cut_by, iso_commands}
 use Rattle.isodep_link.specs.Exchange.{blocks_of}
 use Rattle.isodep_link.proofs.Wire.{blocks_append}
 use Rattle.isodep_link.proofs.CardTurns.{Shows}
-
--- what arrived in some events and in others behind them
-with_append : (f : Signal) (x : Fate) (xs ys zs : List Signal) → xs ≡ ys ++ zs → with_arrived f x xs ≡ with_arrived f x ys ++ zs
-with_append f Pass xs ys zs e = ap (λ fs. f ∷ fs) e
-with_append f Damage xs ys zs e = e
-with_append f Lose xs ys zs e = e
-with_append f Break xs ys zs e = e
-
-pub arrived_append : (xs ys : List Event) → arrived (xs ++ ys) ≡ arrived xs ++ arrived ys
-arrived_append [] ys = refl
-arrived_append (Reset ∷ xs) ys = arrived_append xs ys
-arrived_append (Request f x ∷ xs) ys = with_append f x (arrived (xs ++ ys)) (arrived xs) (arrived ys) (arrived_append xs ys)
-arrived_append (Answer g x ∷ xs) ys = arrived_append xs ys
-arrived_append (Clash g x ∷ xs) ys = arrived_append xs ys
 
 -- the store after the command, where it was obeyed
 abbrev pub after_it : Option (List ℕ) → List ℕ → List (List ℕ)
@@ -73,6 +54,7 @@ taken_grows c (Info false n x) = ((c.chain ++ x.items) ∷ [], refl)
 taken_grows c (Ack n) = ([], sym (append-nil c.commands))
 taken_grows c (Nak n) = ([], sym (append-nil c.commands))
 taken_grows c Deselect = ([], sym (append-nil c.commands))
+taken_grows c (Extend times) = ([], sym (append-nil c.commands))
 
 cut_grows : (c : Cut) (bs : List Block) → (zs : List (List ℕ)) × ((cut_by c bs).commands ≡ c.commands ++ zs)
 cut_grows c [] = ([], sym (append-nil c.commands))

@@ -23,14 +23,14 @@ use Rattle.isodep_link.specs.Blocks.{block_frame}
 use Rattle.isodep_link.specs.Card.{CardState}
 use Rattle.isodep_link.specs.Reader.{ReaderState, request, begun}
 use Rattle.isodep_link.specs.Commands.{iso_commands}
-use Rattle.isodep_link.specs.Exchange.{blocks_of, IsCut}
+use Rattle.isodep_link.specs.Exchange.{blocks_of, IsCut, backs_of}
 use Rattle.isodep_link.specs.Asking.{IsoStanding, Rests, asks, stand, iso_next, HasCardTag, CommandTurns, EndsBy, Exchanges}
-use Rattle.isodep_link.specs.IsoLinks.{IsoSeen, commands_of, IsoStandsAt, most_sent, since, card_most, iso_view, IsIsoReady, EachOnce, IsoAsks, IsoObeys, IsoMoves, link_after, Exchanged}
+use Rattle.isodep_link.specs.IsoLinks.{IsoSeen, commands_of, IsoStandsAt, most_sent, since, card_backs, iso_view, IsIsoReady, EachOnce, IsoAsks, IsoObeys, IsoMoves, link_after, Exchanged}
 use Rattle.isodep_link.specs.IsoMoving.{none_between, moves_again}
 use Rattle.nfc_base.proofs.Leading.{leads_again, rises_again}
 use Rattle.isodep_link.proofs.CardTurns.{Holds}
 use Rattle.isodep_link.proofs.CutSizes.{rests_cut, reached_cuts}
-use Rattle.isodep_link.proofs.Images.{arrived_append}
+use Rattle.nfc_base.proofs.LinkTurns.{arrived_append}
 use Rattle.isodep_link.proofs.IsoViews.{handed, leads, shown_images, no_more, before, shown_obeyed, shown_held, obeys, shown_noise, shown_step, shown_within, either_store, still_answered, all_answered, answered_before, since_new}
 
 pub none_here : (o : Option AskFault) → ((x : AskFault) → o ≡ Some x → ⊥) → o ≡ None
@@ -140,12 +140,12 @@ module _ {L : Type 0} (k : Ghosts L) (laws : Laws k) (card : L → CardState) (t
         }
 
     -- the tag cuts its answers as before
-    same_card_most : card_most k card tag after_ok ≡ card_most k card tag was
-    same_card_most =
-        place_is k (λ (x : L). (card x).most) 0 (k.identifier l) new.listeners place w.after.left w.after.alone
-        ∙ ap (λ (x : L). (card x).most) (left_lit w.after.is)
+    same_card_backs : card_backs k card tag after_ok ≡ card_backs k card tag was
+    same_card_backs =
+        place_is k (λ (x : L). backs_of (card x)) (record { most = 0; busy = 0 }) (k.identifier l) new.listeners place w.after.left w.after.alone
+        ∙ ap (λ (x : L). backs_of (card x)) (left_lit w.after.is)
         ∙ reached_cuts k laws card tag holds l w.after.frames w.after.asked r.has.is
-        ∙ sym (place_is k (λ (x : L). (card x).most) 0 (k.identifier l) old.listeners place l r.has.alone)
+        ∙ sym (place_is k (λ (x : L). backs_of (card x)) (record { most = 0; busy = 0 }) (k.identifier l) old.listeners place l r.has.alone)
 
     stands_ok : (o : Option AskFault) → o ≡ None → IsoStandsAt o new.lit i' (stand (asks i (c.bytes ∷ [])) w.notes)
     stands_ok None e = w.stands
@@ -167,7 +167,7 @@ module _ {L : Type 0} (k : Ghosts L) (laws : Laws k) (card : L → CardState) (t
     ok_obeyed = record {
       obeyed = handed c (Some h.0);
       once = inl (ap (λ (d : Signal). d ∷ []) (sym may));
-      cuts = λ e. (rests_cut i i' (c.bytes ∷ []) w.notes w.stands, same_card_most);
+      cuts = λ e. (rests_cut i i' (c.bytes ∷ []) w.notes w.stands, same_card_backs);
       leads = leads k laws card tag holds old place start told i last over r new (length new.trace) i' (Some c) over c may (Some h.0) (Rests i') w begun_ (λ e. h.3);
       images = shown_images k laws card tag holds old place start told i last over r new (length new.trace) i' (Some c) over c may (Some h.0) (Rests i') w;
     }
@@ -193,7 +193,7 @@ module _ {L : Type 0} (k : Ghosts L) (laws : Laws k) (card : L → CardState) (t
     pub notes : List Note
     pub going : Going (quiet_air k.machine) (iso_next i (c.bytes ∷ [])) (moment old) (moment new) notes
     pub stands : IsoStandsAt (Some o) new.lit i' (stand (asks i (c.bytes ∷ [])) notes)
-    pub within : length going.events ≤ most_sent i.core.most (card_most k card tag was) (iso_view k card tag was).step (iso_view k card tag was).state (c ∷ []) + 4 * bad_receptions going.events
+    pub within : length going.events ≤ most_sent i.core.most (card_backs k card tag was) (iso_view k card tag was).step (iso_view k card tag was).state (c ∷ []) + 4 * bad_receptions going.events
 
   -- nothing was sent, since the field was dark
   dark_leads : (i' : ReaderState) → Leads (iso_view k card tag was) (iso_view k card tag (after_err old i' FieldLost)) []

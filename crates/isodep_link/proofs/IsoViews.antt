@@ -22,12 +22,12 @@ use Rattle.air_core.proofs.PlainTurns.{noise_append}
 use Rattle.isodep_link.specs.Card.{CardState}
 use Rattle.isodep_link.specs.Reader.{ReaderState, waiting}
 use Rattle.isodep_link.specs.Commands.{iso_commands}
-use Rattle.isodep_link.specs.Exchange.{blocks_of, pieces, IsCut}
+use Rattle.isodep_link.specs.Exchange.{blocks_of, pieces, IsCut, Backs, backs_of, blocks_back}
 use Rattle.isodep_link.specs.Activating.{first_link, AsksRats, Opens, IsActivated, RatsEnds, IsActivatedLink}
 use Rattle.isodep_link.specs.CardTags as tags
 use Rattle.isodep_link.specs.Asking.{IsoStanding, iso_next, CommandTurns}
-use Rattle.isodep_link.specs.IsoLinks.{IsoSeen, commands_of, obeyed_in, answer_pieces, most_sent, since, card_most, iso_view, IsIsoReady}
-use Rattle.isodep_link.proofs.Images.{arrived_append}
+use Rattle.isodep_link.specs.IsoLinks.{IsoSeen, commands_of, obeyed_in, answer_pieces, most_sent, since, card_backs, iso_view, IsIsoReady}
+use Rattle.nfc_base.proofs.LinkTurns.{arrived_append}
 use Rattle.isodep_link.proofs.CardTurns.{Holds}
 use Rattle.isodep_link.proofs.AskingLaw.{reached_same}
 
@@ -36,18 +36,18 @@ abbrev pub handed : Signal → Option (List ℕ) → List Signal
 handed c g = map whole_a (delivered_of c.bytes g)
 
 -- an answer takes a piece at least
-some_pieces : (n : ℕ) (o : Option Signal) → 1 ≤ answer_pieces n o
+some_pieces : (n : Backs) (o : Option Signal) → 1 ≤ answer_pieces n o
 some_pieces n None = omega arith
-some_pieces n (Some f) = one_more ((length f.bytes - 1) / n)
+some_pieces n (Some f) = one_more n.busy ((length f.bytes - 1) / n.most)
   where
-    one_more : (m : ℕ) → 1 ≤ 1 + m
-    one_more m = omega arith
+    one_more : (b m : ℕ) → 1 ≤ b + (1 + m)
+    one_more b m = omega arith
 
 -- what was given takes as many pieces as the answer of the tag's step, or none was given
-given_pieces : (n : ℕ) (step : TagState → Signal → TagStep) (s held : TagState) (c : List ℕ) (o : Option (List ℕ)) → GivenBy (tags.TagDoes step) s c o held
-    → pieces_back (pieces n) o ≤ answer_pieces n (step s (whole_a c)).answer
+given_pieces : (n : Backs) (step : TagState → Signal → TagStep) (s held : TagState) (c : List ℕ) (o : Option (List ℕ)) → GivenBy (tags.TagDoes step) s c o held
+    → pieces_back (λ r. n.busy + pieces n.most r) o ≤ answer_pieces n (step s (whole_a c)).answer
 given_pieces n step s held c None h = some_pieces n (step s (whole_a c)).answer
-given_pieces n step s held c (Some r) h = let P : Option Signal → Type 0 = λ x. pieces n r ≤ answer_pieces n x in subst P (sym h.0) (omega arith)
+given_pieces n step s held c (Some r) h = let P : Option Signal → Type 0 = λ x. n.busy + pieces n.most r ≤ answer_pieces n x in subst P (sym h.0) (omega arith)
 
 -- a bound by fewer blocks back is one by more
 more_back : (n x p q b : ℕ) → n ≤ 2 * (x + p - 1) + 4 * b → p ≤ q → n ≤ 2 * (x + q - 1) + 0 + 4 * b
@@ -193,15 +193,15 @@ module _ {L : Type 0} (k : Ghosts L) (laws : Laws k) (card : L → CardState) (t
 
       -- how many transmissions the command took at most, as the link shows it
       pub shown_within : length w.going.events
-          ≤ most_sent i.core.most (card_most k card tag before) (iso_view k card tag before).step (iso_view k card tag before).state (c ∷ []) + 4 * bad_receptions w.going.events
+          ≤ most_sent i.core.most (card_backs k card tag before) (iso_view k card tag before).step (iso_view k card tag before).state (c ∷ []) + 4 * bad_receptions w.going.events
       shown_within =
           let e = (events_between k old new (iso_next i (c.bytes ∷ [])) w.notes w.going).0 in
           let es : w.events ≡ w.going.events = sym (drop-append_seam old.trace w.events) ∙ sym (ap (drop (length old.trace)) w.trace) ∙ e in
-          let P : TagStep → Type 0 = λ x. pieces_back (pieces (card l).most) g ≤ answer_pieces (card l).most x.answer in
-          let Q : ℕ → Type 0 = λ n. pieces_back (pieces (card l).most) g ≤ answer_pieces n ((iso_view k card tag before).step (iso_view k card tag before).state c).answer in
-          let back : Q (card_most k card tag before) =
-          subst Q (sym (was (λ (x : L). (card x).most) 0)) (subst P (sym shown_step) (given_pieces (card l).most (k.commands l) (tag l) w.held c.bytes g w.given_by)) in
-          let R : List Event → Type 0 = λ xs. length xs ≤ 2 * (pieces i.core.most c.bytes + pieces_back (pieces (card l).most) g - 1) + 4 * bad_receptions xs in
+          let P : TagStep → Type 0 = λ x. pieces_back (blocks_back (card l)) g ≤ answer_pieces (backs_of (card l)) x.answer in
+          let Q : Backs → Type 0 = λ n. pieces_back (blocks_back (card l)) g ≤ answer_pieces n ((iso_view k card tag before).step (iso_view k card tag before).state c).answer in
+          let back : Q (card_backs k card tag before) =
+          subst Q (sym (was (λ (x : L). backs_of (card x)) (record { most = 0; busy = 0 }))) (subst P (sym shown_step) (given_pieces (backs_of (card l)) (k.commands l) (tag l) w.held c.bytes g w.given_by)) in
+          let R : List Event → Type 0 = λ xs. length xs ≤ 2 * (pieces i.core.most c.bytes + pieces_back (blocks_back (card l)) g - 1) + 4 * bad_receptions xs in
           more_back _ _ _ _ _ (subst R es w.within) back
 
       -- the tag holds what it held before the command or what it holds after it

@@ -8,7 +8,6 @@ pub mod Landing
 pub mod Hearing
 pub mod Obeyed
 pub mod Session
-pub mod Speaking
 pub mod CardTurns
 pub mod CutSizes
 pub mod Images

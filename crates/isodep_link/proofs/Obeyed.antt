@@ -5,35 +5,37 @@ use Rattle.nfc_base.proofs.ExactlyOnce.{Keeps, exactly_once}
 use Rattle.isodep_link.specs.Sizes.{limit}
 use Rattle.isodep_link.specs.Card.{CardState}
 use Rattle.isodep_link.specs.Reader.{ReaderState, begun}
-use Rattle.isodep_link.specs.Exchange.{iso_dep, pieces, InStep, IsCut, beginning, ObeysOnce}
+use Rattle.isodep_link.specs.Exchange.{iso_dep, pieces, blocks_back, InStep, IsCut, beginning, ObeysOnce}
 use Rattle.isodep_link.proofs.Standing.{Asking, Ask, asks, Wait, more, Fits}
 use Rattle.isodep_link.proofs.Landing.{lands_at}
 use Rattle.isodep_link.proofs.Hearing.{unheard_at, lost_at, damaged_at, answered_at, ask_left}
 
 -- What two ends of such a link owe for one step, the ends of ISO-DEP keep.
-abbrev pub keeps : (m : ℕ) (out : List ℕ) → Keeps iso_dep out
-keeps m out = record {
-  Ask = Ask m out;
-  Wait = Wait m out;
+abbrev pub keeps : (m k : ℕ) (out : List ℕ) → Keeps iso_dep out
+keeps m k out = record {
+  Ask = Ask m k out;
+  Wait = Wait m k out;
   Done = InStep;
-  more = more m out;
-  Fits = Fits m out;
+  more = more m k out;
+  Fits = Fits m k out;
   Stood = IsCut;
   stood = λ t commands arrived s. ap (λ c. c.commands) s;
-  some_left = ask_left m out;
-  lands = lands_at m out;
-  unheard = unheard_at m out;
-  lost = lost_at m out;
-  damaged = damaged_at m out;
-  answered = answered_at m out;
+  some_left = ask_left m k out;
+  lands = lands_at m k out;
+  unheard = unheard_at m k out;
+  lost = lost_at m k out;
+  damaged = damaged_at m k out;
+  answered = answered_at m k out;
 }
 
 -- an exchange begins so
-pub asking_first : (i : ReaderState) (t : CardState) (command : List ℕ) → length command ≤ limit → InStep i t → Asking t.most command (begun i command).core t None
+pub asking_first : (i : ReaderState) (t : CardState) (command : List ℕ) → length command ≤ limit → InStep i t → Asking t.most t.busy command (begun i command).core t None
 asking_first i t command short s =
     record {
-      bounds = record { heeds = s.heeds; short = short; some = s.asks.0; fits = s.asks.1; sizes = refl; some_back = s.answers.0; fits_back = s.answers.1 };
+      bounds = record { heeds = s.heeds; short = short; some = s.asks.0; fits = s.asks.1; sizes = refl; some_back = s.answers.0; fits_back = s.answers.1; asks = refl; few = s.busy; long = s.times.0; longest = s.times.1 };
       number = s.number;
+      plain = refl;
+      none_yet = refl;
       sending = refl;
       empty = refl;
       other = s.other;
@@ -43,13 +45,13 @@ asking_first i t command short s =
 
 -- For every list of fates, and whatever the card's owner answers: between ends in step, a command of at most 264 bytes is
 -- obeyed at most once, and exactly once where the exchange ends with the answer, which is the owner's answer to it. It never ends by
--- a frame that isn't allowed; and it takes at most 2 (k1 + k2 - 1) + 4 b transmissions, for k1 blocks out, k2 blocks back and
+-- a frame that isn't allowed; and it takes at most 2 (k1 + k2 - 1) + 2 K + 4 b transmissions, for k1 blocks out, k2 blocks back and
 -- b bad receptions.
 pub obeyed_once : ObeysOnce
 obeyed_once far i t commands arrived command fates fits short s c =
-    exactly_once iso_dep commands command (keeps t.most command) (IsReplyTo far command) (pieces i.core.most command) (pieces t.most) (λ r. refl)
+    exactly_once iso_dep commands command (keeps t.most t.busy command) (IsReplyTo far command) (pieces i.core.most command) (blocks_back t) (λ r. omega arith)
     far fits refl (beginning i t commands arrived command) fates (
       2 * pieces i.core.most command,
-      asks refl refl (asking_first i t command short s) (omega arith),
+      asks refl refl (omega arith) (asking_first i t command short s) (omega arith),
       record { once = sym (append-nil commands); reply = tt; stood = c; bound = omega arith },
     )

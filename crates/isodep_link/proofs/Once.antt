@@ -1,8 +1,8 @@
 -- A card delivers only at an I-block, by which its number toggles: nothing that asks for a block again delivers.
-use Rattle.std.proofs.Common.{◌≡◌, ℕ, ◌==◌, nat_lt, List, ◌++◌, length, Bool, true, false, Option, Some, None, if◌then◌else◌, refl, sym, ◌∙◌, ap}
+use Rattle.std.proofs.Common.{drop, ◌-◌, ◌≡◌, ℕ, ◌==◌, nat_lt, List, ◌++◌, length, Bool, true, false, Option, Some, None, if◌then◌else◌, refl, sym, ◌∙◌, ap}
 use Rattle.isodep_link.specs.declared.block.Block.{Block}
-use Rattle.isodep_link.specs.declared.block.Block.TheVariants.{Info, Ack, Nak, Deselect}
-use Rattle.isodep_link.specs.Blocks.{toggled, spelled_block}
+use Rattle.isodep_link.specs.declared.block.Block.TheVariants.{Info, Ack, Nak, Deselect, Extend}
+use Rattle.isodep_link.specs.Blocks.{piece, toggled, spelled_block}
 use Rattle.isodep_link.specs.Sizes.{limit, piece_size, rats_code, ats_frame}
 use Rattle.isodep_link.specs.declared.card.CardStep.TheVariants as steps
 use Rattle.isodep_link.specs.Card.{CardState, CardMove, CardTurn, Does, Stays, Answers, Delivers, Sleeps, stays, again, grown, drawn, block_table, framed, framed_does, obeyed, activated, heeded, card_table, DeliversAnew}
@@ -26,7 +26,7 @@ drawn_by t false m h = λ xs e. cc
 
 ack_never : (t : CardState) (same : Bool) → MovesAnew t (if same then again t t.last else drawn t)
 ack_never t true = again_never t t.last
-ack_never t false = drawn_by t (nat_lt 0 (length t.left)) _ (λ xs e. cc)
+ack_never t false = drawn_by t (if nat_lt 0 t.due then false else nat_lt 0 (length t.left)) _ (λ xs e. cc)
 
 nak_never : (t : CardState) (same : Bool) → MovesAnew t (if same then again t t.last else record { state = t; does = Answers (Ack t.number) })
 nak_never t true = again_never t t.last
@@ -37,6 +37,11 @@ block_anew t (Info more n c) = gathered_once t more (t.chain ++ c.items) (nat_lt
 block_anew t (Ack n) = ack_never t (n == t.number)
 block_anew t (Nak n) = nak_never t (n == t.number)
 block_anew t Deselect = λ xs e. cc
+block_anew t (Extend times) = drawn_by t (if nat_lt 0 t.due then times == t.times else false) _ (granted_never (nat_lt 1 t.due))
+  where
+    granted_never : (v : Bool) → MovesAnew t (if v then record { state = record t { due = t.due - 1 }; does = Answers (Extend t.times) } else record { state = record t { due = 0; last = Some (piece t.most t.number t.left); left = drop t.most t.left }; does = Answers (piece t.most t.number t.left) })
+    granted_never true = λ xs e. cc
+    granted_never false = λ xs e. cc
 
 -- at a frame as at its block
 framed_anew : (t : CardState) (m : CardMove) → MovesAnew t m → (xs : List ℕ) → (framed m).does ≡ steps.Deliver (record { items = xs }) → (framed m).state.number ≡ toggled t.number

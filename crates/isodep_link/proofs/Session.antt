@@ -86,7 +86,7 @@ piece_fits code = (let s = is_size code in (omega (arith, s.0), omega (arith, s.
 -- the ends are in step once the card was activated
 pub ready_first : (card_code reader_code : ℕ) → IsReady (activated_link card_code reader_code)
 ready_first card_code reader_code = (
-  record { heeds = refl; number = omega arith; other = refl; no_chain = refl; asks = piece_fits card_code; answers = piece_fits reader_code },
+  record { heeds = refl; number = omega arith; other = refl; no_chain = refl; asks = piece_fits card_code; answers = piece_fits reader_code; busy = omega arith; times = (omega arith, omega arith) },
   refl,
 )
 

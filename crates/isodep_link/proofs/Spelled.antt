@@ -1,11 +1,11 @@
 -- What a block is written as spells a block, and each frame spells the block that is read from it.
-use Rattle.std.proofs.Common.{◌≡◌, ℕ, ◌+◌, ◌-◌, ◌%◌, ◌<◌, ◌≤◌, ◌==◌, nat_lt, if◌then◌else◌, zero, suc, List, [], ◌∷◌, length, Bool, true, false, Some, None, refl, sym, ◌∙◌, ap, subst, arith}
+use Rattle.std.proofs.Common.{◌≡◌, ℕ, ◌+◌, ◌-◌, ◌%◌, ◌<◌, ◌≤◌, ◌==◌, nat_lt, if◌then◌else◌, zero, suc, List, [], ◌∷◌, length, slice_index, Bool, true, false, Some, None, refl, sym, ◌∙◌, ap, subst, arith}
 use Rattle.nfc_base.specs.Signal.{Signal, signal, whole_a}
 use Rattle.nfc_base.specs.declared.frame.Tech.{Tech}
 use Rattle.nfc_base.specs.declared.frame.Tech.TheVariants.{A, V}
 use Rattle.isodep_link.specs.declared.block.Block.{Block}
-use Rattle.isodep_link.specs.declared.block.Block.TheVariants.{Info, Ack, Nak, Deselect}
-use Rattle.isodep_link.specs.Blocks.{ReadsBlocks, SpellsOne, info_sort, chained_sort, ack_sort, nak_sort, deselect_byte, info_block, short_block, sort_block, block_of, pcb, block_frame, IsBlock, BlockSpelling, IsSpelled, spelled_block}
+use Rattle.isodep_link.specs.declared.block.Block.TheVariants.{Info, Ack, Nak, Deselect, Extend}
+use Rattle.isodep_link.specs.Blocks.{ReadsBlocks, SpellsOne, info_sort, chained_sort, ack_sort, nak_sort, deselect_byte, extend_byte, info_block, short_block, long_block, sort_block, block_of, pcb, block_frame, IsBlock, BlockSpelling, IsSpelled, spelled_block}
 
 small : (n : ℕ) → n % 2 < 2
 small n = omega arith
@@ -34,6 +34,7 @@ spelled_by (Ack n) f e h =
 spelled_by (Nak n) f e h =
     record { block = Nak (n % 2); spells = record { range = small n; frame = e ∙ ap (λ x. whole_a (x ∷ [])) (same_pcb 0xB2 n) }; fits = h }
 spelled_by Deselect f e h = record { block = Deselect; spells = record { range = tt; frame = e }; fits = h }
+spelled_by (Extend times) f e h = record { block = Extend times; spells = record { range = tt; frame = e }; fits = h }
 
 held : (xs : List ℕ) → nat_lt 0 (suc (length xs)) ≡ true
 held xs = grind arith
@@ -53,6 +54,7 @@ written_read (Nak zero) r = refl
 written_read (Nak (suc zero)) r = refl
 written_read (Nak (suc (suc n))) r = absurd (omega (arith, r))
 written_read Deselect r = refl
+written_read (Extend times) r = refl
 
 -- the block that a frame spells is read from it
 pub reads_back : (b : Block) (f : Signal) → BlockSpelling b f → spelled_block f ≡ Some b
@@ -84,14 +86,28 @@ short_spells s n false false true h a k d b e =
     subst P (let q : Deselect ≡ b = cc in q) (record { range = tt; frame = ap (λ x. whole_a (x ∷ [])) is })
 short_spells s n false false false h a k d b e = cc
 
+long_spells : (s n times : ℕ) (extend : Bool) → (s + n == extend_byte) ≡ extend → (b : Block) → (if extend then Some (Extend times) else None) ≡ Some b → BlockSpelling b (whole_a ((s + n) ∷ times ∷ []))
+long_spells s n times true d b e =
+    let P : Block → Type 0 = λ x. BlockSpelling x (whole_a ((s + n) ∷ times ∷ [])) in
+    let is : s + n ≡ extend_byte = grind arith in
+    subst P (let q : Extend times ≡ b = cc in q) (record { range = tt; frame = ap (λ x. whole_a (x ∷ times ∷ [])) is })
+long_spells s n times false d b e = cc
+
+two_spells : (s n : ℕ) (xs : List ℕ) (two : Bool) → (length ((s + n) ∷ xs) == 2) ≡ two
+    → (b : Block) → (if two then long_block s n (slice_index ((s + n) ∷ xs) 1) else None) ≡ Some b → BlockSpelling b (whole_a ((s + n) ∷ xs))
+two_spells s n [] true l b e = absurd cc
+two_spells s n (x ∷ []) true l b e = long_spells s n x (s + n == extend_byte) refl b e
+two_spells s n (x ∷ y ∷ xs) true l b e = absurd (let q : suc (suc (suc (length xs))) ≡ 2 = grind arith in omega (arith, q))
+two_spells s n xs false l b e = cc
+
 one_spells : (s n : ℕ) (xs : List ℕ) (one : Bool) → n < 2 → (length ((s + n) ∷ xs) == 1) ≡ one
-    → (b : Block) → (if one then short_block s n else None) ≡ Some b → BlockSpelling b (whole_a ((s + n) ∷ xs))
+    → (b : Block) → (if one then short_block s n else (if length ((s + n) ∷ xs) == 2 then long_block s n (slice_index ((s + n) ∷ xs) 1) else None)) ≡ Some b → BlockSpelling b (whole_a ((s + n) ∷ xs))
 one_spells s n [] true h l b e = short_spells s n (s == ack_sort) (s == nak_sort) (s + n == deselect_byte) h refl refl refl b e
 one_spells s n (x ∷ xs) true h l b e = absurd (let q : suc (suc (length xs)) ≡ 1 = grind arith in omega (arith, q))
-one_spells s n xs false h l b e = cc
+one_spells s n xs false h l b e = two_spells s n xs (length ((s + n) ∷ xs) == 2) refl b e
 
 sort_spells : (s n : ℕ) (xs : List ℕ) (info chained : Bool) → n < 2 → length xs ≤ 287 → (s == info_sort) ≡ info → (s == chained_sort) ≡ chained
-    → (b : Block) → (if info then Some (info_block false n xs) else (if chained then Some (info_block true n xs) else (if length ((s + n) ∷ xs) == 1 then short_block s n else None))) ≡ Some b
+    → (b : Block) → (if info then Some (info_block false n xs) else (if chained then Some (info_block true n xs) else (if length ((s + n) ∷ xs) == 1 then short_block s n else (if length ((s + n) ∷ xs) == 2 then long_block s n (slice_index ((s + n) ∷ xs) 1) else None)))) ≡ Some b
     → BlockSpelling b (whole_a ((s + n) ∷ xs))
 sort_spells s n xs true chained h l i k b e =
     let P : Block → Type 0 = λ x. BlockSpelling x (whole_a ((s + n) ∷ xs)) in
@@ -111,7 +127,8 @@ parts x = omega arith
 -- the frame is one byte and others; the byte is a sort and a number
 first_spells : (x : ℕ) (xs : List ℕ) → length xs ≤ 287 → (b : Block) → sort_block (x - x % 2) (x % 2) (x ∷ xs) ≡ Some b → BlockSpelling b (whole_a (x ∷ xs))
 first_spells x xs l b e =
-    subst (λ y. BlockSpelling b (whole_a (y ∷ xs))) (parts x) (sort_spells (x - x % 2) (x % 2) xs _ _ (small x) l refl refl b e)
+    let same : sort_block (x - x % 2) (x % 2) ((x - x % 2 + x % 2) ∷ xs) ≡ sort_block (x - x % 2) (x % 2) (x ∷ xs) = ap (λ y. sort_block (x - x % 2) (x % 2) (y ∷ xs)) (parts x) in
+    subst (λ y. BlockSpelling b (whole_a (y ∷ xs))) (parts x) (sort_spells (x - x % 2) (x % 2) xs _ _ (small x) l refl refl b (same ∙ e))
 
 bytes_spell : (bytes : List ℕ) → length bytes ≤ 288 → (b : Block) → block_of bytes ≡ Some b → BlockSpelling b (whole_a bytes)
 bytes_spell [] l b e = cc

@@ -6,13 +6,13 @@ use Rattle.std.proofs.lemmas.List.{take-append-drop}
 use Rattle.std.proofs.Math.Nat.{add-div_left}
 use Rattle.nfc_base.specs.Signal.{Signal}
 use Rattle.isodep_link.specs.declared.block.Block.{Block}
-use Rattle.isodep_link.specs.declared.block.Block.TheVariants.{Ack, Nak}
+use Rattle.isodep_link.specs.declared.block.Block.TheVariants.{Ack, Nak, Extend}
 use Rattle.isodep_link.specs.declared.reader.Phase.{Phase}
 use Rattle.isodep_link.specs.declared.reader.Phase.TheVariants.{Asked, Nacked}
 use Rattle.isodep_link.specs.Blocks.{toggled, block_frame, piece}
 use Rattle.isodep_link.specs.Sizes.{limit}
-use Rattle.isodep_link.specs.Card.{CardState}
-use Rattle.isodep_link.specs.Reader.{Core, ReaderState, request, more_follows}
+use Rattle.isodep_link.specs.Card.{CardState, most_busy}
+use Rattle.isodep_link.specs.Reader.{Core, ReaderState, request, more_follows, most_bads, longest_extension}
 use Rattle.isodep_link.specs.Exchange.{pieces}
 
 pub same : (p : ℕ) → (p == p) ≡ true
@@ -52,10 +52,10 @@ chain_fits chain rest out n e h =
     let k : length (take n rest ++ drop n rest) ≡ length rest = ap length (take-append-drop n rest) in
     omega (arith, length-append {A = ℕ})
 
--- the command out, and the most content m of the card's blocks
-module _ (m : ℕ) (out : List ℕ) where
-  -- what stays, of the reader's most content, and of whether the card is mute and its most content
-  pub record Bounds (cuts : ℕ) (mute : Bool) (answers : ℕ) : Type 0 where
+-- the command out, the most content m of the card's blocks, and how often the card asks for more time
+module _ (m k : ℕ) (out : List ℕ) where
+  -- what stays, of the reader's most content, and of whether the card is mute, its most content, and the time it asks for
+  pub record Bounds (cuts : ℕ) (mute : Bool) (answers busy times : ℕ) : Type 0 where
     pub heeds : mute ≡ false
     pub short : length out ≤ limit
     pub some : 0 < cuts
@@ -63,11 +63,20 @@ module _ (m : ℕ) (out : List ℕ) where
     pub sizes : answers ≡ m
     pub some_back : 0 < answers
     pub fits_back : answers ≤ 253
+    pub asks : busy ≡ k
+    pub few : k ≤ most_busy
+    pub long : 1 ≤ times
+    pub longest : times ≤ longest_extension
+
+  abbrev pub BoundsOf : Core → CardState → Type 0
+  BoundsOf c t = Bounds c.most t.mute t.most t.busy t.times
 
   -- the card doesn't have the piece that the reader sends
   pub record Asking (c : Core) (t : CardState) (given : Option (List ℕ)) : Type 0 where
-    pub bounds : Bounds c.most t.mute t.most
+    pub bounds : BoundsOf c t
     pub number : c.number < 2
+    pub plain : c.extension ≡ None
+    pub none_yet : c.granted ≡ 0
     pub sending : c.drawing ≡ false
     pub empty : c.got ≡ []
     pub other : t.number ≡ toggled c.number
@@ -76,8 +85,10 @@ module _ (m : ℕ) (out : List ℕ) where
 
   -- the card didn't hear R(ACK) of the answer's last piece
   pub record Drawing (c : Core) (t : CardState) (given : Option (List ℕ)) : Type 0 where
-    pub bounds : Bounds c.most t.mute t.most
+    pub bounds : BoundsOf c t
     pub number : c.number < 2
+    pub plain : c.extension ≡ None
+    pub none_due : t.due ≡ 0
     pub receiving : c.drawing ≡ true
     pub other : t.number ≡ toggled c.number
     pub no_chain : t.chain ≡ []
@@ -87,7 +98,7 @@ module _ (m : ℕ) (out : List ℕ) where
 
   -- the card has the piece, and answers R(ACK)
   pub record Acked (c : Core) (t : CardState) (given : Option (List ℕ)) : Type 0 where
-    pub bounds : Bounds c.most t.mute t.most
+    pub bounds : BoundsOf c t
     pub number : c.number < 2
     pub sending : c.drawing ≡ false
     pub empty : c.got ≡ []
@@ -99,8 +110,10 @@ module _ (m : ℕ) (out : List ℕ) where
 
   -- the card answers by the first piece of these bytes, which are what is left of the answer
   pub record Answered (c : Core) (t : CardState) (given : Option (List ℕ)) (bytes : List ℕ) : Type 0 where
-    pub bounds : Bounds c.most t.mute t.most
+    pub bounds : BoundsOf c t
     pub number : c.number < 2
+    pub plain : c.drawing ≡ true → c.extension ≡ None
+    pub none_due : t.due ≡ 0
     pub no_more : more_follows c ≡ false
     pub same_number : t.number ≡ c.number
     pub no_chain : t.chain ≡ []
@@ -109,18 +122,36 @@ module _ (m : ℕ) (out : List ℕ) where
     pub reply : given ≡ Some (c.got ++ bytes)
     pub short_back : length (c.got ++ bytes) ≤ limit
 
+  -- The card asks for more time. Each bad reception may bring one extension a second time.
+  pub record Extending (c : Core) (t : CardState) (given : Option (List ℕ)) (bads : ℕ) : Type 0 where
+    pub bounds : BoundsOf c t
+    pub number : c.number < 2
+    pub sending : c.drawing ≡ false
+    pub empty : c.got ≡ []
+    pub no_more : more_follows c ≡ false
+    pub same_number : t.number ≡ c.number
+    pub no_chain : t.chain ≡ []
+    pub last : t.last ≡ Some (Extend t.times)
+    pub due : 0 < t.due
+    pub reply : given ≡ Some t.left
+    pub short_back : length t.left ≤ limit
+    pub count : c.granted + t.due ≤ k + bads
+
   -- the card has what the reader asks
-  pub data Held (c : Core) (t : CardState) (given : Option (List ℕ)) (n : ℕ) : Type 0 where
-    of_chain : Acked c t given → 2 * pieces c.most c.rest ≤ n → Held c t given n
-    of_answer : (bytes : List ℕ) → Answered c t given bytes → 2 * pieces t.most bytes ≤ n → Held c t given n
+  pub data Held (c : Core) (t : CardState) (given : Option (List ℕ)) (n bads : ℕ) : Type 0 where
+    of_chain : Acked c t given → 2 * pieces c.most c.rest ≤ n → Held c t given n bads
+    of_answer : (bytes : List ℕ) → Answered c t given bytes → 2 * pieces t.most bytes ≤ n → Held c t given n bads
+    of_time : bads ≤ most_bads → Extending c t given bads → 2 * (t.due + pieces t.most t.left) ≤ n → Held c t given n bads
 
   -- the reader sends f next
   pub data Ask (i : ReaderState) (t : CardState) (given : Option (List ℕ)) (f : Signal) (n : ℕ) : Type 0 where
-    asks : i.phase ≡ Asked → f ≡ block_frame (request i.core) → Asking i.core t given → 2 * pieces i.core.most i.core.rest ≤ n → Ask i t given f n
+    asks : i.phase ≡ Asked → f ≡ block_frame (request i.core) → i.bads ≤ most_bads → Asking i.core t given → 2 * pieces i.core.most i.core.rest ≤ n → Ask i t given f n
     draws : i.phase ≡ Asked → f ≡ block_frame (request i.core) → Drawing i.core t given → 2 * pieces t.most t.left ≤ n → Ask i t given f n
-    draws_again : i.phase ≡ Asked → f ≡ block_frame (request i.core) → i.core.drawing ≡ true → Held i.core t given n → Ask i t given f n
-    naks : i.phase ≡ Nacked → f ≡ block_frame (Nak i.core.number) → Asking i.core t given → 2 * pieces i.core.most i.core.rest + 2 ≤ n → Ask i t given f n
-    naks_held : i.phase ≡ Nacked → f ≡ block_frame (Nak i.core.number) → i.core.drawing ≡ false → Held i.core t given n → Ask i t given f n
+    draws_again : i.phase ≡ Asked → f ≡ block_frame (request i.core) → i.core.drawing ≡ true → i.core.extension ≡ None → Held i.core t given n i.bads → Ask i t given f n
+    naks : i.phase ≡ Nacked → f ≡ block_frame (Nak i.core.number) → i.bads ≤ most_bads → Asking i.core t given → 2 * pieces i.core.most i.core.rest + 2 ≤ n → Ask i t given f n
+    naks_held : i.phase ≡ Nacked → f ≡ block_frame (Nak i.core.number) → i.core.drawing ≡ false → Held i.core t given n i.bads → Ask i t given f n
+    grants : i.phase ≡ Asked → f ≡ block_frame (request i.core) → i.core.extension ≡ Some t.times → i.bads ≤ most_bads → Extending i.core t given (i.bads + 1)
+        → 2 * (t.due + pieces t.most t.left) ≤ n + 2 → Ask i t given f n
 
   -- a wait is under way
   abbrev pub IsLive : Phase → Type 0
@@ -128,12 +159,12 @@ module _ (m : ℕ) (out : List ℕ) where
 
   -- the card sends a next: what it has, or R(ACK) with its number where it doesn't have the piece
   pub data Wait (i : ReaderState) (t : CardState) (given : Option (List ℕ)) (a : Signal) (n : ℕ) : Type 0 where
-    has : IsLive i.phase → (b : Block) → a ≡ block_frame b → t.last ≡ Some b → Held i.core t given n → Wait i t given a n
-    misses : i.phase ≡ Nacked → a ≡ block_frame (Ack t.number) → Asking i.core t given → 2 * pieces i.core.most i.core.rest + 2 ≤ n → Wait i t given a n
+    has : IsLive i.phase → (b : Block) → a ≡ block_frame b → t.last ≡ Some b → Held i.core t given n i.bads → Wait i t given a n
+    misses : i.phase ≡ Nacked → a ≡ block_frame (Ack t.number) → i.bads ≤ most_bads → Asking i.core t given → 2 * pieces i.core.most i.core.rest + 2 ≤ n → Wait i t given a n
 
-  -- the pieces of an answer behind its first
+  -- the blocks of an answer behind its first: time extensions and pieces
   abbrev pub more : List ℕ → ℕ
-  more r = (length r - 1) / m
+  more r = k + (length r - 1) / m
 
   abbrev pub Fits : List ℕ → Type 0
   Fits r = length r ≤ limit

@@ -6,7 +6,7 @@ use Rattle.nfc_base.specs.Signal.{Signal}
 use Rattle.nfc_base.specs.declared.event.Heard.TheVariants as heard
 use Rattle.nfc_base.proofs.ExactlyOnce.{Tallies}
 use Rattle.isodep_link.specs.declared.block.Block.{Block}
-use Rattle.isodep_link.specs.declared.block.Block.TheVariants.{Info, Ack, Nak, Deselect}
+use Rattle.isodep_link.specs.declared.block.Block.TheVariants.{Info, Ack, Nak, Deselect, Extend}
 use Rattle.isodep_link.specs.Blocks.{IsBlock, block_frame, spelled_block, piece}
 use Rattle.isodep_link.specs.Sizes.{rats_code}
 use Rattle.isodep_link.specs.Card as card
@@ -35,6 +35,7 @@ no_rats (Info false (suc (suc n)) c) r = absurd (omega (arith, r.0))
 no_rats (Ack n) r = refl
 no_rats (Nak n) r = refl
 no_rats Deselect r = refl
+no_rats (Extend times) r = refl
 
 -- a card that heeds frames does at the frame of a block what its table says
 pub card_heeds : (t : CardState) (b : Block) → t.mute ≡ false → IsBlock b → card_table t (block_frame b) ≡ card.framed (block_table t b)

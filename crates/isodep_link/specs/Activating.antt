@@ -1,7 +1,8 @@
 -- How a reader activates a Type 4 tag by RATS (ISO/IEC 14443-4; NFC Forum Digital Protocol).
 use Rattle.std.specs.Prelude.{◌≡◌, ◌⊎◌, ℕ, Bool, ◌%◌, ◌≤◌, ◌==◌, ◌&&◌, nat_lt, List, [], ◌∷◌, ◌++◌, length, slice_index, true, false, if◌then◌else◌, Option, Some, None, Result, Ok, Err}
 use Rattle.nfc_base.specs.declared.frame.Tech.TheVariants.{A}
-use Rattle.nfc_base.specs.Signal.{Signal, whole_a}
+use Rattle.nfc_base.specs.Signal.{Signal, whole_a, is_whole_a}
+use Rattle.nfc_base.specs.Headed.{rats_byte}
 use Rattle.nfc_base.specs.Far.{Untouched}
 use Rattle.nfc_base.specs.TagLinks.{TagState, plain_state}
 use Rattle.nfc_base.specs.declared.tag_link.AskFault.{AskFault}
@@ -13,12 +14,11 @@ use Rattle.air_core.specs.Conversation.{Note, Got, Going}
 use Rattle.air_core.specs.Waits.{Standing, Asking, Broken, Astray, stand, waits_next}
 use Rattle.air_core.specs.PlainTags.{heard_times, IsAlone}
 use Rattle.air_core.specs.declared.listener.Listener.{Ghosts}
-use Rattle.isodep_link.specs.Blocks.{is_whole_a}
-use Rattle.isodep_link.specs.Sizes.{rats_byte, piece_size, most_code, ats_frame}
+use Rattle.isodep_link.specs.Sizes.{piece_size, most_code, ats_frame}
 use Rattle.isodep_link.specs.Card.{CardState, fresh, activated}
 use Rattle.isodep_link.specs.Reader.{ReaderState, waiting}
 use Rattle.isodep_link.specs.CardTags.{IsCardTag}
-use Rattle.isodep_link.specs.Speaking.{Speaks, IsStopped}
+use Rattle.isodep_link.specs.Muted.{SpeaksMute, IsStopped}
 use Rattle.isodep_link.specs.Asking.{HasCardTag}
 use Rattle.isodep_link.specs.IsoLinks.{IsoSeen, IsIsoReady}
 
@@ -57,7 +57,7 @@ AnswersRats lit ns Astray result = ⊥
 -- this is told by what was heard.
 pub record AsksRats {L : Type 0} (m : Machine L) (old new : Air L) (result : Result ℕ AskFault) : Type 0 where
   pub notes : List Note
-  pub speaks : Speaks m (waits_next (rats ∷ [])) old new notes
+  pub speaks : SpeaksMute m (waits_next (rats ∷ [])) old new notes
   pub answers : AnswersRats old.lit notes (stand 0 (rats ∷ []) notes) result
 
 -- the last that was heard is an answer to RATS that tells this code

@@ -23,8 +23,8 @@ use Rattle.isodep_link.specs.Blocks.{block_frame}
 use Rattle.isodep_link.specs.Card.{CardState}
 use Rattle.isodep_link.specs.Reader.{ReaderState, reader_table, request, begun}
 use Rattle.isodep_link.specs.Commands.{iso_commands}
-use Rattle.isodep_link.specs.Exchange.{blocks_of, pieces, InStep, IsCut}
-use Rattle.isodep_link.specs.Speaking.{Speaks, IsStopped}
+use Rattle.isodep_link.specs.Exchange.{blocks_of, pieces, InStep, IsCut, blocks_back}
+use Rattle.isodep_link.specs.Muted.{SpeaksMute, IsStopped}
 use Rattle.isodep_link.specs.CardTags.{IsAskedFrame, TagDoes, IsCardTag}
 
 -- Where a reader stands that asks commands: this frame was sent, and these commands follow; all were answered; it ended by a
@@ -93,7 +93,7 @@ AnswersCommand lit i command ns Astray i' result = ⊥
 -- due, and this is told by what was heard.
 pub record AsksCommand {L : Type 0} (m : Machine L) (old new : Air L) (i i' : ReaderState) (command : List ℕ) (result : Result Signal AskFault) : Type 0 where
   pub notes : List Note
-  pub speaks : Speaks m (iso_next i (command ∷ [])) old new notes
+  pub speaks : SpeaksMute m (iso_next i (command ∷ [])) old new notes
   pub answers : AnswersCommand old.lit i command notes (stand (asks i (command ∷ [])) notes) i' result
 
 module _ {L : Type 0} (k : Ghosts L) (card : L → CardState) (tag : L → TagState) where
@@ -126,7 +126,7 @@ module _ {L : Type 0} (k : Ghosts L) (card : L → CardState) (tag : L → TagSt
     pub events : List Event
     pub trace : new.trace ≡ old.trace ++ events
     pub obeyed : iso_commands (blocks_of (arrived ++ turns.arrived events)) ≡ commands ++ delivered_of command given
-    pub within : length events ≤ 2 * (pieces i.core.most command + pieces_back (pieces (card begin).most) given - 1) + 4 * bad_receptions events
+    pub within : length events ≤ 2 * (pieces i.core.most command + pieces_back (blocks_back (card begin)) given - 1) + 4 * bad_receptions events
     pub notes : List Note
     pub going : Going (quiet_air k.machine) (iso_next i (command ∷ [])) (moment old) (moment new) notes
     pub stands : stand (asks i (command ∷ [])) notes ≡ s

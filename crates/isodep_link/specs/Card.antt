@@ -1,9 +1,9 @@
 -- The card's end of ISO-DEP (ISO/IEC 14443-4; NFC Forum Digital Protocol): what it does at each frame. Its silence after a
 -- chain above 264 bytes is this project's own.
-use Rattle.std.specs.Prelude.{◌≡◌, ℕ, ◌⊎◌, ◌==◌, nat_lt, Bool, true, false, List, [], ◌++◌, length, drop, Option, Some, None, if◌then◌else◌}
+use Rattle.std.specs.Prelude.{◌≡◌, ℕ, ◌-◌, ◌⊎◌, ◌==◌, nat_lt, Bool, true, false, List, [], ◌++◌, length, drop, Option, Some, None, if◌then◌else◌}
 use Rattle.nfc_base.specs.Signal.{Signal}
 use Rattle.isodep_link.specs.declared.block.Block.{Block}
-use Rattle.isodep_link.specs.declared.block.Block.TheVariants.{Info, Ack, Nak, Deselect}
+use Rattle.isodep_link.specs.declared.block.Block.TheVariants.{Info, Ack, Nak, Deselect, Extend}
 use Rattle.isodep_link.specs.declared.card.CardStep.{CardStep}
 use Rattle.isodep_link.specs.declared.card.CardStep.TheVariants as steps
 use Rattle.isodep_link.specs.Blocks.{toggled, piece, block_frame, spelled_block, IsSpelled}
@@ -11,7 +11,8 @@ use Rattle.isodep_link.specs.Sizes.{piece_size, least_code, limit, rats_code, at
 
 -- A card: its own size code, the most content of a block that the reader takes, its number, the last block that it sent
 -- other than an answer to R(NAK) with another number, the chain so far, the bytes of its answer that aren't sent, whether
--- an I-block was heard, and whether a chain grew too long.
+-- an I-block was heard, and whether a chain grew too long; how often it asks for more time before an answer, and by which value; how
+-- often it is still to be granted.
 pub record CardState : Type 0 where
   pub code : ℕ
   pub most : ℕ
@@ -21,6 +22,9 @@ pub record CardState : Type 0 where
   pub left : List ℕ
   pub begun : Bool
   pub mute : Bool
+  pub busy : ℕ
+  pub times : ℕ
+  pub due : ℕ
 
 -- what a card does at a block
 pub data Does : Type 0 where
@@ -46,28 +50,39 @@ abbrev pub again : CardState → Option Block → CardMove
 again t None = stays t
 again t (Some b) = record { state = t; does = Answers b }
 
--- an I-block was taken, with which the chain is xs: R(ACK) where it goes on, else the command is delivered
+-- an I-block was taken, with which the chain is xs: R(ACK) where it goes on, else the command is delivered; no more time is due
 abbrev pub grown : CardState → Bool → List ℕ → CardMove
 grown t true xs =
     record {
-      state = record t { number = toggled t.number; last = Some (Ack (toggled t.number)); chain = xs; begun = true };
+      state = record t { number = toggled t.number; last = Some (Ack (toggled t.number)); chain = xs; begun = true; due = 0 };
       does = Answers (Ack (toggled t.number));
     }
-grown t false xs = record { state = record t { number = toggled t.number; chain = []; begun = true }; does = Delivers xs }
+grown t false xs = record { state = record t { number = toggled t.number; chain = []; begun = true; due = 0 }; does = Delivers xs }
 
 -- an I-block, with which the chain is xs
 abbrev pub gathered : CardState → Bool → List ℕ → CardMove
 gathered t more xs = if nat_lt limit (length xs) then stays (record t { begun = true; mute = true }) else grown t more xs
 
--- the next piece of the answer
+-- the next piece of the answer, unless more time is due
 abbrev pub drawn : CardState → CardMove
 drawn t =
-    if nat_lt 0 (length t.left)
+    if (if nat_lt 0 t.due then false else nat_lt 0 (length t.left))
     then record {
       state = record t { number = toggled t.number; last = Some (piece t.most (toggled t.number) t.left); left = drop t.most t.left };
       does = Answers (piece t.most (toggled t.number) t.left);
     }
     else stays t
+
+-- the time was granted that was due: it asks again, or has its answer
+abbrev pub granted : CardState → CardMove
+granted t =
+    if nat_lt 1 t.due
+    then record { state = record t { due = t.due - 1 }; does = Answers (Extend t.times) }
+    else record { state = record t { due = 0; last = Some (piece t.most t.number t.left); left = drop t.most t.left }; does = Answers (piece t.most t.number t.left) }
+
+-- S(WTX) by this value
+abbrev pub extended : CardState → ℕ → CardMove
+extended t times = if (if nat_lt 0 t.due then times == t.times else false) then granted t else stays t
 
 -- the table of a card that isn't mute
 abbrev pub block_table : CardState → Block → CardMove
@@ -75,6 +90,7 @@ block_table t (Info more n content) = gathered t more (t.chain ++ content.items)
 block_table t (Ack n) = if n == t.number then again t t.last else drawn t
 block_table t (Nak n) = if n == t.number then again t t.last else record { state = t; does = Answers (Ack t.number) }
 block_table t Deselect = record { state = t; does = Sleeps Deselect }
+block_table t (Extend times) = extended t times
 
 abbrev pub framed_does : Does → CardStep
 framed_does Stays = steps.Quiet
@@ -103,17 +119,44 @@ heeded t None b = obeyed t b
 abbrev pub card_table : CardState → Signal → CardTurn
 card_table t f = if t.mute then framed (stays t) else heeded t (rats_code f) (spelled_block f)
 
--- the card once its owner answered what was delivered
+-- The card once its owner answered what was delivered: it asks for more time first, where it does so, else sends the first piece.
 abbrev pub replied : CardState → List ℕ → CardState
-replied t r = record t { last = Some (piece t.most t.number r); left = drop t.most r }
+replied t r =
+    if nat_lt 0 t.busy
+    then record t { last = Some (Extend t.times); left = r; due = t.busy }
+    else record t { last = Some (piece t.most t.number r); left = drop t.most r; due = 0 }
 
 abbrev pub reply_block : CardState → List ℕ → Block
-reply_block t r = piece t.most t.number r
+reply_block t r = if nat_lt 0 t.busy then Extend t.times else piece t.most t.number r
 
--- a card of this size code that heard nothing
+-- a card of this size code that heard nothing, and asks for no more time
 abbrev pub fresh : ℕ → CardState
 fresh code =
-    record { code = code; most = piece_size least_code; number = 1; last = None; chain = []; left = []; begun = false; mute = false }
+    record {
+      code = code;
+      most = piece_size least_code;
+      number = 1;
+      last = None;
+      chain = [];
+      left = [];
+      begun = false;
+      mute = false;
+      busy = 0;
+      times = 1;
+      due = 0;
+    }
+
+-- It becomes as it was made; how much more time it asks for stays.
+abbrev pub darkened : CardState → CardState
+darkened t = record (fresh t.code) { busy = t.busy; times = t.times }
+
+-- from now on it asks so often for more time before each answer, by this value
+abbrev pub made_busy : CardState → ℕ → ℕ → CardState
+made_busy t count times = record t { busy = count; times = times }
+
+-- the most often that a card asks for more time before an answer
+abbrev pub most_busy : ℕ
+most_busy = 5
 
 -- Whatever a card with this size code answers spells a block, or is its ATS.
 abbrev pub IsSaid : ℕ → CardStep → Type 0

@@ -10,10 +10,10 @@ use Rattle.nfc_base.specs.LinkTurns.{MovedBy, step}
 use Rattle.air_core.specs.PlainTags.{reached}
 use Rattle.air_core.specs.declared.listener.Listener.{Ghosts}
 use Rattle.isodep_link.specs.declared.block.Block.{Block}
-use Rattle.isodep_link.specs.declared.block.Block.TheVariants.{Info, Ack, Nak, Deselect}
+use Rattle.isodep_link.specs.declared.block.Block.TheVariants.{Info, Ack, Nak, Deselect, Extend}
 use Rattle.isodep_link.specs.Blocks.{IsBlock, block_frame}
 use Rattle.isodep_link.specs.Sizes.{limit}
-use Rattle.isodep_link.specs.Card.{CardState, fresh}
+use Rattle.isodep_link.specs.Card.{CardState, darkened}
 use Rattle.isodep_link.specs.Exchange.{iso_dep}
 
 -- a block that a reader sends while it asks commands
@@ -22,6 +22,7 @@ IsAskedBlock (Info more n content) = IsBlock (Info more n content)
 IsAskedBlock (Ack n) = IsBlock (Ack n)
 IsAskedBlock (Nak n) = IsBlock (Nak n)
 IsAskedBlock Deselect = ⊥
+IsAskedBlock (Extend times) = IsBlock (Extend times)
 
 -- the frame of such a block, whose items are bytes
 pub record IsAskedFrame (f : Signal) : Type 0 where
@@ -53,4 +54,4 @@ module _ {L : Type 0} (k : Ghosts L) (card : L → CardState) (tag : L → TagSt
   pub record IsCardTag (l : L) : Type 0 where
     pub tech : k.machine.tech l ≡ A
     pub steps : (fs : List Signal) → AllByRecursion IsAskedFrame fs → (f : Signal) → IsAskedFrame f → StepsByCard (reached k l fs) f
-    pub cleared : (fs : List Signal) → AllByRecursion IsAskedFrame fs → card (k.machine.darkened (reached k l fs)) ≡ fresh (card (reached k l fs)).code
+    pub cleared : (fs : List Signal) → AllByRecursion IsAskedFrame fs → card (k.machine.darkened (reached k l fs)) ≡ darkened (card (reached k l fs))

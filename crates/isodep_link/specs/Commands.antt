@@ -2,7 +2,7 @@
 -- joined over chaining, whatever their numbers; and what a card hands to its owner at some blocks.
 use Rattle.std.specs.Prelude.{◌≡◌, ℕ, Bool, true, false, List, [], ◌∷◌, ◌++◌, if◌then◌else◌}
 use Rattle.isodep_link.specs.declared.block.Block.{Block}
-use Rattle.isodep_link.specs.declared.block.Block.TheVariants.{Info, Ack, Nak, Deselect}
+use Rattle.isodep_link.specs.declared.block.Block.TheVariants.{Info, Ack, Nak, Deselect, Extend}
 use Rattle.isodep_link.specs.Card.{fresh, CardState, CardMove, Does, Stays, Answers, Delivers, Sleeps, stays, block_table, replied}
 
 -- the chain so far, and the whole commands before it
@@ -20,6 +20,7 @@ taken c (Info more n content) = joined c more (c.chain ++ content.items)
 taken c (Ack n) = c
 taken c (Nak n) = c
 taken c Deselect = c
+taken c (Extend times) = c
 
 abbrev pub cut_by : Cut → List Block → Cut
 cut_by c [] = c

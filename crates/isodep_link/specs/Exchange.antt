@@ -10,8 +10,8 @@ use Rattle.isodep_link.specs.declared.card.CardStep.TheVariants as card
 use Rattle.isodep_link.specs.declared.reader.ReaderStep.{ReaderStep}
 use Rattle.isodep_link.specs.declared.reader.ReaderStep.TheVariants as reader
 use Rattle.isodep_link.specs.Blocks.{toggled, block_frame, spelled_block}
-use Rattle.isodep_link.specs.Card.{CardState, card_table, replied, reply_block, fresh}
-use Rattle.isodep_link.specs.Reader.{ReaderState, reader_table, begun, request}
+use Rattle.isodep_link.specs.Card.{CardState, card_table, replied, reply_block, darkened, most_busy}
+use Rattle.isodep_link.specs.Reader.{ReaderState, reader_table, begun, request, longest_extension}
 use Rattle.nfc_base.specs.declared.event.Fate.{Fate}
 use Rattle.isodep_link.specs.Sizes.{limit}
 use Rattle.isodep_link.specs.Commands.{cut_by, iso_commands}
@@ -45,7 +45,7 @@ iso_dep = record {
   does = λ t f. card_does (card_table t f).does;
   replied = replied;
   answer = λ t r. block_frame (reply_block t r);
-  dark = λ t. fresh t.code;
+  dark = darkened;
   next = λ i h. (reader_table i (heard_of h)).state;
   acts = λ i h. reader_does (reader_table i (heard_of h)).does;
   payloads = λ fs. iso_commands (blocks_of fs);
@@ -59,6 +59,18 @@ Exchange = World ReaderState CardState Signal
 abbrev pub pieces : ℕ → List ℕ → ℕ
 pieces most xs = 1 + (length xs - 1) / most
 
+-- What a card's answers take: the most content of a block that it sends, and how often it asks for more time first.
+pub record Backs : Type 0 where
+  pub most : ℕ
+  pub busy : ℕ
+
+abbrev pub backs_of : CardState → Backs
+backs_of t = record { most = t.most; busy = t.busy }
+
+-- how many blocks an answer takes: time extensions, and its pieces
+abbrev pub blocks_back : CardState → List ℕ → ℕ
+blocks_back t r = t.busy + pieces t.most r
+
 -- Between two exchanges reader and card are in step: the card has the other number and no piece of a command, and each
 -- cuts what it sends into pieces that a frame holds.
 pub record InStep (i : ReaderState) (t : CardState) : Type 0 where
@@ -68,6 +80,8 @@ pub record InStep (i : ReaderState) (t : CardState) : Type 0 where
   pub no_chain : t.chain ≡ []
   pub asks : (0 < i.core.most) × (i.core.most ≤ 253)
   pub answers : (0 < t.most) × (t.most ≤ 253)
+  pub busy : t.busy ≤ most_busy
+  pub times : (1 ≤ t.times) × (t.times ≤ longest_extension)
 
 -- By the blocks that arrived, the card obeyed these commands, and this much of another one came.
 abbrev pub IsCut : CardState → List (List ℕ) → List Signal → Type 0
@@ -92,10 +106,10 @@ beginning i t commands arrived command =
     }
 
 -- The law of an exchange between a reader with this state and a card with that one, whose owner answers by the function far:
--- at any moment the command was obeyed at most once, as Once says, with at most 2 (k1 + k2 - 1) + 4 b transmissions.
+-- at any moment the command was obeyed at most once, as Once says, with at most 2 (k1 + k2 - 1) + 2 K + 4 b transmissions.
 abbrev pub ObeyedOnce : (far : List ℕ → List ℕ) (i : ReaderState) (t : CardState) (commands : List (List ℕ)) (command : List ℕ) → Exchange → Type 0
 ObeyedOnce far i t commands command w =
-    Once iso_dep IsReady (IsReplyTo far command) commands command (pieces i.core.most command) (pieces t.most) w
+    Once iso_dep IsReady (IsReplyTo far command) commands command (pieces i.core.most command) (blocks_back t) w
 
 -- Over every list of fates, and whatever the card's owner answers, an exchange between ends in step keeps that law.
 abbrev pub ObeysOnce : Type 0

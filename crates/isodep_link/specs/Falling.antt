@@ -3,13 +3,13 @@ use Rattle.std.specs.Prelude.{ℕ, ◌+◌, ◌-◌, ◌*◌, length}
 use Rattle.isodep_link.specs.declared.reader.Phase.{Phase}
 use Rattle.isodep_link.specs.declared.reader.Phase.TheVariants.{Nacked}
 use Rattle.isodep_link.specs.Sizes.{limit}
-use Rattle.isodep_link.specs.Reader.{ReaderState, most_bads}
+use Rattle.isodep_link.specs.Reader.{ReaderState, most_bads, most_extensions}
 
 abbrev pub after_nak : Phase → ℕ
 after_nak Nacked = 1
 after_nak _ = 0
 
 -- Each block that a reader sends lowers this: a wait that ends takes a byte off what is to be sent or is missing of the answer, a
--- bad reception counts in its wait, and R(NAK) is followed by its block once.
+-- time extension and a bad reception count in their wait, and R(NAK) is followed by its block once.
 abbrev pub left_to_do : ReaderState → ℕ
-left_to_do i = 14 * (length i.core.rest + (limit - length i.core.got)) + 2 * (most_bads - i.bads) + after_nak i.phase
+left_to_do i = 28 * (length i.core.rest + (limit - length i.core.got)) + (most_extensions - i.core.granted) + 2 * (most_bads - i.bads) + after_nak i.phase

@@ -16,7 +16,7 @@ use Rattle.air_core.specs.declared.listener.Listener.{Ghosts}
 use Rattle.isodep_link.specs.Card.{CardState}
 use Rattle.isodep_link.specs.Reader.{ReaderState}
 use Rattle.isodep_link.specs.Commands.{iso_commands}
-use Rattle.isodep_link.specs.Exchange.{blocks_of, pieces}
+use Rattle.isodep_link.specs.Exchange.{blocks_of, pieces, Backs, backs_of}
 use Rattle.isodep_link.specs.declared.link.IsoLink.{IsoLink}
 use Rattle.isodep_link.specs.Asking.{IsoStanding, Waits, Rests, Broken, asks, stand, iso_next, AsksCommand, HasCardTag, Exchanges}
 
@@ -55,14 +55,14 @@ obeyed_in es = map whole_a (commands_of es)
 abbrev pub bytes_of : List Signal → List (List ℕ)
 bytes_of fs = map (λ f. f.bytes) fs
 
--- in how many blocks an answer comes, by the most content of each; where there is none it counts as one
-abbrev pub answer_pieces : ℕ → Option Signal → ℕ
-answer_pieces most None = 1
-answer_pieces most (Some f) = pieces most f.bytes
+-- in how many blocks an answer comes, with the time extensions before it; where there is none it counts as one
+abbrev pub answer_pieces : Backs → Option Signal → ℕ
+answer_pieces back None = 1
+answer_pieces back (Some f) = back.busy + pieces back.most f.bytes
 
--- The most transmissions that commands take without a bad reception: of each 2 (k1 + k2 - 1), for its k1 blocks out and the k2
--- blocks back of its answer, which the tag's step gives where the commands before it left the tag.
-abbrev pub most_sent : ℕ → ℕ → (TagState → Signal → TagStep) → TagState → List Signal → ℕ
+-- The most transmissions that commands take without a bad reception: of each 2 (k1 + k2 - 1) + 2 K, for its k1 blocks out, the k2
+-- blocks back of its answer, which the tag's step gives where the commands before it left the tag, and the K extensions before them.
+abbrev pub most_sent : ℕ → Backs → (TagState → Signal → TagStep) → TagState → List Signal → ℕ
 most_sent out back step s [] = 0
 most_sent out back step s (c ∷ cs) = 2 * (pieces out c.bytes + answer_pieces back (step s c).answer - 1) + most_sent out back step (step s c).after cs
 
@@ -86,9 +86,9 @@ module _ {L : Type 0} (k : Ghosts L) (card : L → CardState) (tag : L → TagSt
   abbrev pub step_of : IsoSeen L → TagState → Signal → TagStep
   step_of p = at_place k.commands (λ s f. record { answer = None; after = s }) p.air.listeners p.place
 
-  -- the most content of a block that the tag sends
-  abbrev pub card_most : IsoSeen L → ℕ
-  card_most p = at_place (λ l. (card l).most) 0 p.air.listeners p.place
+  -- what the tag's answers take
+  abbrev pub card_backs : IsoSeen L → Backs
+  card_backs p = at_place (λ l. backs_of (card l)) (record { most = 0; busy = 0 }) p.air.listeners p.place
 
   -- The state is the tag's own: the dark clears what is selected of it.
   abbrev pub iso_view : IsoSeen L → LinkView
@@ -125,7 +125,7 @@ module _ {L : Type 0} (k : Ghosts L) (card : L → CardState) (tag : L → TagSt
     pub same : (b.place ≡ a.place) × (b.start ≡ a.start)
     pub stands : a.over ≡ None → IsoStandsAt b.over b.air.lit b.reader (stand (asks a.reader (bytes_of asked)) notes)
     pub told : a.over ≡ None → (iso_view b).answered ++ unanswered b.over b.last ≡ (iso_view a).answered ++ asked
-    pub within : length going.events ≤ most_sent a.reader.core.most (card_most a) (iso_view a).step (iso_view a).state asked + 4 * bad_receptions going.events
+    pub within : length going.events ≤ most_sent a.reader.core.most (card_backs a) (iso_view a).step (iso_view a).state asked + 4 * bad_receptions going.events
     pub ended : (e : AskFault) → a.over ≡ Some e → (b ≡ a) × (asked ≡ [])
 
   -- The tag obeyed these commands, each once. Both ends cut to the same sizes as before, unless the link is over. The stores that
@@ -133,7 +133,7 @@ module _ {L : Type 0} (k : Ghosts L) (card : L → CardState) (tag : L → TagSt
   pub record IsoObeys (a b : IsoSeen L) (asked : List Signal) : Type 0 where
     pub obeyed : List Signal
     pub once : EachOnce b.over asked obeyed
-    pub cuts : b.over ≡ None → (b.reader.core.most ≡ a.reader.core.most) × (card_most b ≡ card_most a)
+    pub cuts : b.over ≡ None → (b.reader.core.most ≡ a.reader.core.most) × (card_backs b ≡ card_backs a)
     pub leads : Leads (iso_view a) (iso_view b) obeyed
     pub images : Follows (iso_view a).state.store (stores_after k a.place (world a.air) (drop (length a.air.trace) b.air.trace)) (passed (iso_view a).step (iso_view a).state obeyed)
 

@@ -22,8 +22,8 @@ use Rattle.isodep_link.specs.declared.reader.ReaderStep.TheVariants as steps
 use Rattle.isodep_link.specs.Card.{CardState}
 use Rattle.isodep_link.specs.Reader.{ReaderState, reader_table}
 use Rattle.isodep_link.specs.Asking.{IsoStanding, Waits, Rests, Broken, Astray, asks, goes_by, noted, stand, due_at, iso_next}
-use Rattle.isodep_link.specs.Exchange.{pieces}
-use Rattle.isodep_link.specs.IsoLinks.{IsoSeen, bytes_of, answer_pieces, most_sent, IsoStandsAt, card_most, iso_view, EachOnce, IsoAsks, IsoMoves}
+use Rattle.isodep_link.specs.Exchange.{pieces, Backs}
+use Rattle.isodep_link.specs.IsoLinks.{IsoSeen, bytes_of, answer_pieces, most_sent, IsoStandsAt, card_backs, iso_view, EachOnce, IsoAsks, IsoMoves}
 use Rattle.nfc_base.specs.TagLinks.{TagState}
 
 -- more commands behind those that are asked
@@ -91,7 +91,7 @@ module _ {W : Type 0} (m : AirModel W) where
       (λ ns. ap due_at (stand_all i j xs ys hs ns done)) g k
 
 -- what commands take one behind another
-sent_append : (out back : ℕ) (step : TagState → Signal → TagStep) (s : TagState) (xs ys : List Signal)
+sent_append : (out : ℕ) (back : Backs) (step : TagState → Signal → TagStep) (s : TagState) (xs ys : List Signal)
     → most_sent out back step s (xs ++ ys) ≡ most_sent out back step s xs + most_sent out back step (after_all step s xs) ys
 sent_append out back step s [] ys = omega arith
 sent_append out back step s (c ∷ cs) ys =
@@ -169,26 +169,26 @@ module _ {L : Type 0} (k : Ghosts L) (card : L → CardState) (tag : L → TagSt
 
   -- what both stretches take, by what the first left
   sent_on : (a b c : IsoSeen L) → b.over ≡ None → (p : IsoMoves k card tag a b) (q : IsoMoves k card tag b c)
-      → most_sent a.reader.core.most (card_most k card tag a) (iso_view k card tag a).step (iso_view k card tag a).state (p.asks.asked ++ q.asks.asked)
-      ≡ most_sent a.reader.core.most (card_most k card tag a) (iso_view k card tag a).step (iso_view k card tag a).state p.asks.asked
-      + most_sent b.reader.core.most (card_most k card tag b) (iso_view k card tag b).step (iso_view k card tag b).state q.asks.asked
+      → most_sent a.reader.core.most (card_backs k card tag a) (iso_view k card tag a).step (iso_view k card tag a).state (p.asks.asked ++ q.asks.asked)
+      ≡ most_sent a.reader.core.most (card_backs k card tag a) (iso_view k card tag a).step (iso_view k card tag a).state p.asks.asked
+      + most_sent b.reader.core.most (card_backs k card tag b) (iso_view k card tag b).step (iso_view k card tag b).state q.asks.asked
   sent_on a b c hb p q =
       let size = p.obeys.cuts hb in
       let out : ℕ = a.reader.core.most in
-      let back : ℕ = card_most k card tag a in
+      let back : Backs = card_backs k card tag a in
       let step = (iso_view k card tag a).step in
       let state = (iso_view k card tag a).state in
       let held : (iso_view k card tag b).state ≡ after_all step state p.asks.asked = p.obeys.leads.state hb ∙ ap (λ (cs : List Signal). after_all step state cs) (all_obeyed b.over p.asks.asked p.obeys.obeyed hb p.obeys.once) in
-      let same : most_sent b.reader.core.most (card_most k card tag b) (iso_view k card tag b).step (iso_view k card tag b).state q.asks.asked ≡ most_sent out back step (after_all step state p.asks.asked) q.asks.asked =
-      ap (λ (n : ℕ). most_sent n (card_most k card tag b) (iso_view k card tag b).step (iso_view k card tag b).state q.asks.asked) size.0
-      ∙ ap (λ (n : ℕ). most_sent out n (iso_view k card tag b).step (iso_view k card tag b).state q.asks.asked) size.1
+      let same : most_sent b.reader.core.most (card_backs k card tag b) (iso_view k card tag b).step (iso_view k card tag b).state q.asks.asked ≡ most_sent out back step (after_all step state p.asks.asked) q.asks.asked =
+      ap (λ (n : ℕ). most_sent n (card_backs k card tag b) (iso_view k card tag b).step (iso_view k card tag b).state q.asks.asked) size.0
+      ∙ ap (λ (n : Backs). most_sent out n (iso_view k card tag b).step (iso_view k card tag b).state q.asks.asked) size.1
       ∙ ap (λ (z : TagState → Signal → TagStep). most_sent out back z (iso_view k card tag b).state q.asks.asked) p.obeys.leads.step
       ∙ ap (λ (z : TagState). most_sent out back step z q.asks.asked) held in
       sent_append out back step state p.asks.asked q.asks.asked ∙ ap (λ (n : ℕ). most_sent out back step state p.asks.asked + n) (sym same)
 
   -- the transmissions of two stretches
   within_on : (a b c : IsoSeen L) → b.over ≡ None → (p : IsoMoves k card tag a b) (q : IsoMoves k card tag b c) (es : List Event) → drop (length a.air.trace) c.air.trace ≡ es
-      → length es ≤ most_sent a.reader.core.most (card_most k card tag a) (iso_view k card tag a).step (iso_view k card tag a).state (p.asks.asked ++ q.asks.asked) + 4 * bad_receptions es
+      → length es ≤ most_sent a.reader.core.most (card_backs k card tag a) (iso_view k card tag a).step (iso_view k card tag a).state (p.asks.asked ++ q.asks.asked) + 4 * bad_receptions es
   within_on a b c hb p q es e =
       let both : es ≡ p.asks.going.events ++ q.asks.going.events = sym e ∙ between_both a b c p q in
       sums _ _ _ _ _ _ _ _ _ (ap length both ∙ length-append p.asks.going.events q.asks.going.events) (sent_on a b c hb p q)

@@ -6,7 +6,7 @@ pub mod Reader
 pub mod Exchange
 pub mod Sessions
 pub mod CardTags
-pub mod Speaking
+pub mod Muted
 pub mod Asking
 pub mod Falling
 pub mod IsoLinks

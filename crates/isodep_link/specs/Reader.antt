@@ -4,7 +4,7 @@ use Rattle.std.specs.Prelude.{◌≡◌, ℕ, ◌+◌, ◌==◌, nat_lt, Bool, t
 use Rattle.nfc_base.specs.declared.event.Heard.{Heard}
 use Rattle.nfc_base.specs.declared.event.Heard.TheVariants.{Whole, Collided, Damaged, Silent}
 use Rattle.isodep_link.specs.declared.block.Block.{Block}
-use Rattle.isodep_link.specs.declared.block.Block.TheVariants.{Info, Ack, Nak, Deselect}
+use Rattle.isodep_link.specs.declared.block.Block.TheVariants.{Info, Ack, Nak, Deselect, Extend}
 use Rattle.isodep_link.specs.declared.reader.Phase.{Phase}
 use Rattle.isodep_link.specs.declared.reader.Phase.TheVariants.{Asked, Nacked, Free, EndedSixBad, EndedProtocol}
 use Rattle.isodep_link.specs.declared.reader.ReaderStep.{ReaderStep}
@@ -13,13 +13,16 @@ use Rattle.isodep_link.specs.Blocks.{toggled, piece, block_frame, spelled_block,
 use Rattle.isodep_link.specs.Sizes.{piece_size, limit}
 
 -- Where an exchange stands: the number, the most content of a block that the card takes, the bytes of the command that
--- aren't acknowledged, whether the answer is coming in a chain, and the answer so far.
+-- aren't acknowledged, whether the answer is coming in a chain, the answer so far, the time extension that is being granted, and how
+-- many were granted in this wait.
 pub record Core : Type 0 where
   pub number : ℕ
   pub most : ℕ
   pub rest : List ℕ
   pub drawing : Bool
   pub got : List ℕ
+  pub extension : Option ℕ
+  pub granted : ℕ
 
 -- A reader: that, what it sent last or how its exchange ended, and the bad receptions of this wait.
 pub record ReaderState : Type 0 where
@@ -48,9 +51,20 @@ pub record ReaderTurn : Type 0 where
   pub state : ReaderState
   pub does : ReaderStep
 
--- the block of a wait
+-- the most time extensions that are granted in a wait, and the longest
+abbrev pub most_extensions : ℕ
+most_extensions = 16
+
+abbrev pub longest_extension : ℕ
+longest_extension = 59
+
+-- the block of a wait, or the time extension that is granted in it
+abbrev pub asked : Core → Option ℕ → Block
+asked c None = if c.drawing then Ack c.number else piece c.most c.number c.rest
+asked c (Some times) = Extend times
+
 abbrev pub request : Core → Block
-request c = if c.drawing then Ack c.number else piece c.most c.number c.rest
+request c = asked c c.extension
 
 -- the block last sent
 abbrev pub sent : Phase → Core → Block
@@ -79,9 +93,9 @@ bad i =
     then sends i.core (after_bad i.phase i.core) (i.bads + 1)
     else record { state = record i { phase = EndedSixBad }; does = GivesUp }
 
--- a core whose wait ended: the number toggles
+-- a core whose wait ended: the number toggles, and no time was granted yet
 abbrev pub turned : Core → List ℕ → Bool → List ℕ → Core
-turned c rest drawing got = record c { number = toggled c.number; rest = rest; drawing = drawing; got = got }
+turned c rest drawing got = record c { number = toggled c.number; rest = rest; drawing = drawing; got = got; extension = None; granted = 0 }
 
 -- a piece of the answer was taken, with which it is xs
 abbrev pub received : ReaderState → Bool → List ℕ → ReaderMove
@@ -100,13 +114,24 @@ is_refused more xs all = if nat_lt limit (length all) then true else (if more th
 abbrev pub acked : ReaderState → ReaderMove
 acked i = if more_follows i.core then sends (turned i.core (drop i.core.most i.core.rest) false i.core.got) Asked 0 else refuses i
 
--- R(ACK) with the other number
+-- R(ACK) with the other number: the card didn't hear the last I-block
 abbrev pub missed : ReaderState → Phase → ReaderMove
-missed i Nacked = sends i.core Asked i.bads
+missed i Nacked = sends (record i.core { extension = None }) Asked i.bads
 missed i _ = refuses i
 
 abbrev pub brought : ReaderState → Bool → List ℕ → ReaderMove
 brought i more xs = if is_refused more xs (i.core.got ++ xs) then refuses i else received i more (i.core.got ++ xs)
+
+-- Whether a card may ask for so much more time: where its answer is due and no piece of it came, so long, and so often in a wait.
+abbrev pub may_extend : Core → ℕ → Bool
+may_extend c times =
+    if c.drawing then false
+    else (if more_follows c then false
+    else (if nat_lt 0 times then (if nat_lt longest_extension times then false else nat_lt c.granted most_extensions) else false))
+
+abbrev pub extended : ReaderState → ℕ → ReaderMove
+extended i times =
+    if may_extend i.core times then sends (record i.core { extension = Some times; granted = i.core.granted + 1 }) Asked i.bads else refuses i
 
 -- a block, while a wait is under way
 abbrev pub answered : ReaderState → Block → ReaderMove
@@ -114,6 +139,7 @@ answered i (Info more n content) = if (if more_follows i.core then false else n 
 answered i (Ack n) = if n == i.core.number then acked i else missed i i.phase
 answered i (Nak n) = refuses i
 answered i Deselect = refuses i
+answered i (Extend times) = extended i times
 
 -- any reception, while a wait is under way
 abbrev pub waited : ReaderState → Reception → ReaderMove
@@ -164,12 +190,12 @@ reader_table i h = framed (block_next i (reception h))
 -- a reader that begins with a command
 abbrev pub begun : ReaderState → List ℕ → ReaderState
 begun i command =
-    record { core = record i.core { rest = command; drawing = false; got = [] }; phase = Asked; bads = 0 }
+    record { core = record i.core { rest = command; drawing = false; got = []; extension = None; granted = 0 }; phase = Asked; bads = 0 }
 
 -- a reader that knows a card's size code, and asked nothing
 abbrev pub waiting : ℕ → ReaderState
 waiting code =
-    record { core = record { number = 0; most = piece_size code; rest = []; drawing = false; got = [] }; phase = Free; bads = 0 }
+    record { core = record { number = 0; most = piece_size code; rest = []; drawing = false; got = []; extension = None; granted = 0 }; phase = Free; bads = 0 }
 
 -- Whatever a reader sends spells a block.
 abbrev pub SpellsSent : ReaderStep → Type 0

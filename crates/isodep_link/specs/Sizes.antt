@@ -1,8 +1,8 @@
 -- How long the blocks of ISO-DEP are, and the two frames by which the ends tell it (ISO/IEC 14443-4; NFC Forum Digital
 -- Protocol). That this card answers RATS by two bytes is this project's own.
-use Rattle.std.specs.Prelude.{◌≡◌, ℕ, ◌-◌, ◌≤◌, ◌/◌, ◌==◌, ◌&&◌, [], ◌∷◌, length, slice_index, Bool, if◌then◌else◌, Option, Some, None}
+use Rattle.std.specs.Prelude.{◌≡◌, ℕ, ◌-◌, ◌≤◌, ◌/◌, ◌==◌, [], ◌∷◌, slice_index, if◌then◌else◌, Option, Some, None}
 use Rattle.nfc_base.specs.Signal.{Signal, whole_a}
-use Rattle.isodep_link.specs.Blocks.{is_whole_a}
+use Rattle.nfc_base.specs.Headed.{is_rats}
 
 -- how many bytes a block has at most, with the two check bytes behind it, by a size code; codes above 8 count as 8
 abbrev pub block_size : ℕ → ℕ
@@ -27,13 +27,6 @@ least_code = 0
 -- the most bytes of a command, and of an answer
 abbrev pub limit : ℕ
 limit = 264
-
-abbrev pub rats_byte : ℕ
-rats_byte = 0xE0
-
--- RATS is its byte and one that has the reader's size code in its high nibble.
-abbrev pub is_rats : Signal → Bool
-is_rats f = is_whole_a f && (length f.bytes == 2) && (slice_index f.bytes 0 == rats_byte)
 
 -- the reader's size code, where a frame is RATS
 abbrev pub rats_code : Signal → Option ℕ

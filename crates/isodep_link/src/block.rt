@@ -2,7 +2,7 @@
 
 ghost use Rattle.std.specs.Prelude.{◌≡◌, ◌≤◌, ◌<◌, length, ◌∷◌};
 ghost use Rattle.nfc_base.specs.Signal.{whole_a};
-ghost use Rattle.isodep_link.specs.Blocks.{spelled_block, short_block, info_block, block_frame, pcb, toggled, piece, IsSpelled};
+ghost use Rattle.isodep_link.specs.Blocks.{spelled_block, short_block, long_block, info_block, block_frame, pcb, toggled, piece, IsSpelled};
 
 use arrayvec::ArrayVec;
 use nfc_base::{Frame, Tech};
@@ -18,7 +18,9 @@ const NAK: u8 = 0xB2;
 
 const DESELECT: u8 = 0xC2;
 
-/// A block (ISO/IEC 14443-4). A number is 0 or 1. The block by which a card asks for more time isn't read yet.
+const EXTEND: u8 = 0xF2;
+
+/// A block (ISO/IEC 14443-4). A number is 0 or 1.
 #[derive(Debug, Drop)]
 pub enum Block {
     /// A piece of a command or an answer; `more` pieces follow it.
@@ -34,6 +36,10 @@ pub enum Block {
         number: u8,
     },
     Deselect,
+    /// S(WTX): a card asks for so many times more time, or a reader grants it.
+    Extend {
+        times: u8,
+    },
 }
 
 impl Block {
@@ -52,13 +58,11 @@ impl Block {
         match bytes[0] - number {
             INFO => Some(info(false, number, &bytes[1..])),
             CHAINED => Some(info(true, number, &bytes[1..])),
-            sort => {
-                if bytes.len() == 1 {
-                    short(sort, number)
-                } else {
-                    None
-                }
-            }
+            sort => match bytes.len() {
+                1 => short(sort, number),
+                2 => long(sort, number, bytes[1]),
+                _ => None,
+            },
         }
     }
 
@@ -83,6 +87,7 @@ impl Block {
             Block::Ack { number } => info_frame(pcb(ACK, *number), &[]),
             Block::Nak { number } => info_frame(pcb(NAK, *number), &[]),
             Block::Deselect => info_frame(DESELECT, &[]),
+            Block::Extend { times } => info_frame(EXTEND, &[*times]),
         }
     }
 }
@@ -116,6 +121,19 @@ fn short(sort: u8, number: u8) -> Option<Block>
                 None
             }
         }
+    }
+}
+
+/// A block of two bytes that is no I-block.
+fn long(sort: u8, number: u8, times: u8) -> Option<Block>
+    requires number { number < 2 }
+    requires sort { sort ≤ 254 }
+    ensures { result ≡ long_block sort number times }
+{
+    if sort + number == EXTEND {
+        Some(Block::Extend { times })
+    } else {
+        None
     }
 }
 

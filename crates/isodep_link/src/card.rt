@@ -1,8 +1,8 @@
 //! The card's end.
 
-ghost use Rattle.std.specs.Prelude.{◌≡◌, ◌≤◌, ◌++◌, length};
-ghost use Rattle.isodep_link.specs.Blocks.{block_frame, IsSpelled};
-ghost use Rattle.isodep_link.specs.Card.{CardTurn, card_table, activated, framed, block_table, again, gathered, drawn, replied, reply_block, fresh, IsSaid};
+ghost use Rattle.std.specs.Prelude.{◌≡◌, ◌≤◌, ◌<◌, ◌++◌, length, drop};
+ghost use Rattle.isodep_link.specs.Blocks.{block_frame, piece, IsSpelled};
+ghost use Rattle.isodep_link.specs.Card.{CardTurn, card_table, activated, framed, block_table, again, gathered, drawn, extended, granted, replied, reply_block, fresh, darkened, made_busy, IsSaid};
 
 use crate::block::{Block, piece, toggled};
 use crate::size::{LEAST_CODE, ats_frame, piece_size, rats_code};
@@ -34,6 +34,9 @@ pub struct CardEnd {
     at: usize,
     begun: bool,
     mute: bool,
+    busy: u8,
+    times: u8,
+    due: u8,
 }
 
 impl Model for CardEnd {
@@ -51,10 +54,14 @@ impl Model for CardEnd {
       left = drop t.at t.answer.items;
       begun = t.begun;
       mute = t.mute;
+      busy = t.busy;
+      times = t.times;
+      due = t.due;
     } };
 
     ghost invariant = { λ t. (t.code ≤ 8) × (0 < t.most) × (t.most ≤ 253) × (t.number < 2)
-        × (t.at ≤ length t.answer.items) × (length t.answer.items ≤ 264) };
+        × (t.at ≤ length t.answer.items) × (length t.answer.items ≤ 264)
+        × (t.busy ≤ 5) × (1 ≤ t.times) × (t.times ≤ 59) };
 }
 
 impl CardEnd {
@@ -73,12 +80,25 @@ impl CardEnd {
             at: 0,
             begun: false,
             mute: false,
+            busy: 0,
+            times: 1,
+            due: 0,
         }
     }
 
-    /// It becomes as `new` gave it.
+    /// From now on it asks for more time before each answer: `count` extensions, each by `times`.
+    pub fn set_busy(&mut self, count: u8, times: u8)
+        requires count { count ≤ 5 }
+        requires times { (1 ≤ times) × (times ≤ 59) }
+        ensures { self.new ≡ made_busy self.old count times }
+    {
+        self.busy = count;
+        self.times = times;
+    }
+
+    /// It becomes as `new` gave it, but for the time that it asks for.
     pub fn dark(&mut self)
-        ensures { self.new ≡ fresh self.old.code }
+        ensures { self.new ≡ darkened self.old }
     {
         self.most = piece_size(LEAST_CODE);
         self.number = 1;
@@ -88,6 +108,7 @@ impl CardEnd {
         self.at = 0;
         self.begun = false;
         self.mute = false;
+        self.due = 0;
     }
 
     /// One step at a frame of the reader. After `Deliver` the owner calls `reply`.
@@ -107,7 +128,7 @@ impl CardEnd {
         }
     }
 
-    /// The first piece of the answer to what was delivered.
+    /// The answer to what was delivered: a time extension, where it asks for one first, else the first piece.
     pub fn reply(&mut self, content: &[u8]) -> Frame
         requires { length content.now ≤ 264 }
         ensures step { self.new ≡ replied self.old content.now }
@@ -117,11 +138,27 @@ impl CardEnd {
         let mut answer = ArrayVec::new();
         answer.try_extend_from_slice(content).unwrap();
         self.answer = answer;
-        self.at = content.len().min(self.most);
-        let block = piece(self.most, self.number, content);
+        self.at = 0;
+        self.due = self.busy;
+        let block = if self.busy > 0 {
+            Block::Extend { times: self.times }
+        } else {
+            self.first_piece()
+        };
         let frame = block.to_frame();
         self.last = Some(block);
         frame
+    }
+
+    /// The first piece of its answer, which is sent with it.
+    fn first_piece(&mut self) -> Block
+        ensures value { result ≡ piece self.old.most self.old.number self.old.left }
+        ensures step { self.new ≡ record self.old { left = drop self.old.most self.old.left } }
+    {
+        let left = &self.answer.as_slice()[self.at..];
+        let block = piece(self.most, self.number, left);
+        self.at += left.len().min(self.most);
+        block
     }
 
     /// RATS with this size code.
@@ -160,6 +197,7 @@ impl CardEnd {
                 }
             }
             Block::Deselect => CardStep::Asleep(Block::Deselect.to_frame()),
+            Block::Extend { times } => self.extend(*times),
         }
     }
 
@@ -186,6 +224,7 @@ impl CardEnd {
             return CardStep::Quiet;
         }
         self.number = toggled(self.number);
+        self.due = 0;
         if more {
             let ack = Block::Ack {
                 number: self.number,
@@ -204,12 +243,42 @@ impl CardEnd {
         ensures spelled { IsSaid self.old.code result }
     {
         let left = &self.answer.as_slice()[self.at..];
-        if left.is_empty() {
+        if self.due > 0 || left.is_empty() {
             return CardStep::Quiet;
         }
         self.number = toggled(self.number);
         let block = piece(self.most, self.number, left);
         self.at += left.len().min(self.most);
+        let frame = block.to_frame();
+        self.last = Some(block);
+        CardStep::Reply(frame)
+    }
+
+    /// S(WTX) by this value.
+    fn extend(&mut self, times: u8) -> CardStep
+        ensures step { record { state = self.new; does = result } ≡ framed (extended self.old times) }
+        ensures spelled { IsSaid self.old.code result }
+    {
+        if self.due > 0 && times == self.times {
+            self.grant()
+        } else {
+            CardStep::Quiet
+        }
+    }
+
+    /// The time that it asked for was granted.
+    fn grant(&mut self) -> CardStep
+        requires { 0 < self.old.due }
+        ensures step { record { state = self.new; does = result } ≡ framed (granted self.old) }
+        ensures spelled { IsSaid self.old.code result }
+    {
+        if self.due > 1 {
+            self.due -= 1;
+            let block = Block::Extend { times: self.times };
+            return CardStep::Reply(block.to_frame());
+        }
+        self.due = 0;
+        let block = self.first_piece();
         let frame = block.to_frame();
         self.last = Some(block);
         CardStep::Reply(frame)

@@ -1,8 +1,8 @@
 //! The reader's end.
 
-ghost use Rattle.std.specs.Prelude.{◌≡◌, ◌<◌, ◌≤◌, length};
+ghost use Rattle.std.specs.Prelude.{◌≡◌, ◌<◌, ◌≤◌, length, None};
 ghost use Rattle.isodep_link.specs.Blocks.{block_frame, spelled_block, IsSpelled};
-ghost use Rattle.isodep_link.specs.Reader.{ReaderTurn, reader_table, framed, sent, sends, refuses, bad, acked, missed, brought, answered, waited, whole_reception, request, more_follows, begun, waiting, SpellsSent};
+ghost use Rattle.isodep_link.specs.Reader.{ReaderTurn, reader_table, framed, sent, sends, refuses, bad, acked, missed, brought, answered, waited, whole_reception, request, more_follows, may_extend, extended, begun, waiting, SpellsSent};
 
 use crate::block::{Block, piece, toggled};
 use crate::size::piece_size;
@@ -12,6 +12,11 @@ use std::marker::Model;
 
 /// The most bad receptions of a wait that goes on.
 const MOST_BADS: u8 = 5;
+
+/// The most time extensions that are granted in a wait, and the longest of one (the number is this project's own).
+const MOST_EXTENSIONS: u8 = 16;
+
+const LONGEST_EXTENSION: u8 = 59;
 
 /// What a reader does at a reception.
 #[derive(Debug, Drop)]
@@ -45,6 +50,8 @@ pub struct ReaderEnd {
     at: usize,
     drawing: bool,
     got: ArrayVec<u8, 264>,
+    extension: Option<u8>,
+    granted: u8,
     phase: Phase,
     bads: u8,
 }
@@ -62,13 +69,15 @@ impl Model for ReaderEnd {
         rest = drop i.at i.command.items;
         drawing = i.drawing;
         got = i.got.items;
+        extension = i.extension;
+        granted = i.granted;
       };
       phase = i.phase;
       bads = i.bads;
     } };
 
     ghost invariant = { λ i. (i.number < 2) × (0 < i.most) × (i.most ≤ 253) × (i.at ≤ length i.command.items)
-        × (length i.command.items ≤ 264) × (i.bads ≤ 5) };
+        × (length i.command.items ≤ 264) × (i.bads ≤ 5) × (i.granted ≤ 16) };
 }
 
 impl ReaderEnd {
@@ -83,6 +92,8 @@ impl ReaderEnd {
             at: 0,
             drawing: false,
             got: ArrayVec::new(),
+            extension: None,
+            granted: 0,
             phase: Phase::Free,
             bads: 0,
         }
@@ -102,7 +113,7 @@ impl ReaderEnd {
         self.drawing = false;
         self.got = ArrayVec::new();
         self.phase = Phase::Asked;
-        self.bads = 0;
+        self.turn();
         self.request().to_frame()
     }
 
@@ -123,11 +134,25 @@ impl ReaderEnd {
         }
     }
 
-    /// The block of this wait.
+    /// A wait begins.
+    fn turn(&mut self)
+        ensures { self.new ≡ record self.old {
+          core = record self.old.core { extension = None; granted = 0 };
+          bads = 0;
+        } }
+    {
+        self.extension = None;
+        self.granted = 0;
+        self.bads = 0;
+    }
+
+    /// The block of this wait, or the time extension that is granted.
     fn request(&self) -> Block
         ensures { result ≡ request self.now.core }
     {
-        if self.drawing {
+        if let Some(times) = self.extension {
+            Block::Extend { times }
+        } else if self.drawing {
             Block::Ack {
                 number: self.number,
             }
@@ -217,6 +242,7 @@ impl ReaderEnd {
                     self.ask_again()
                 }
             }
+            Block::Extend { times } => self.extend(*times),
             _ => self.refuse(),
         }
     }
@@ -238,7 +264,7 @@ impl ReaderEnd {
         }
         self.at += self.most;
         self.number = toggled(self.number);
-        self.bads = 0;
+        self.turn();
         self.send(Phase::Asked)
     }
 
@@ -248,7 +274,10 @@ impl ReaderEnd {
         ensures spelled { SpellsSent result }
     {
         match self.phase {
-            Phase::Nacked => self.send(Phase::Asked),
+            Phase::Nacked => {
+                self.extension = None;
+                self.send(Phase::Asked)
+            }
             _ => self.refuse(),
         }
     }
@@ -266,7 +295,7 @@ impl ReaderEnd {
         }
         self.at = self.command.len();
         self.number = toggled(self.number);
-        self.bads = 0;
+        self.turn();
         self.drawing = more;
         if more {
             self.send(Phase::Asked)
@@ -274,5 +303,26 @@ impl ReaderEnd {
             self.phase = Phase::Free;
             ReaderStep::Finished(std::mem::replace(&mut self.got, ArrayVec::new()))
         }
+    }
+
+    /// Whether the card may ask for so much more time.
+    fn may_extend(&self, times: u8) -> bool
+        ensures { result ≡ may_extend self.now.core times }
+    {
+        let awaits_answer = !self.drawing && !self.more_follows();
+        awaits_answer && (1..=LONGEST_EXTENSION).contains(&times) && self.granted < MOST_EXTENSIONS
+    }
+
+    /// The card asks for more time.
+    fn extend(&mut self, times: u8) -> ReaderStep
+        ensures step { record { state = self.new; does = result } ≡ framed (extended self.old times) }
+        ensures spelled { SpellsSent result }
+    {
+        if !self.may_extend(times) {
+            return self.refuse();
+        }
+        self.extension = Some(times);
+        self.granted += 1;
+        self.send(Phase::Asked)
     }
 }

@@ -1,7 +1,8 @@
 //! How long blocks are, and RATS and ATS, by which the ends tell it.
 
 ghost use Rattle.std.specs.Prelude.{◌≡◌, ◌<◌, ◌≤◌};
-ghost use Rattle.isodep_link.specs.Sizes.{piece_size, is_rats, rats_code, ats_frame};
+ghost use Rattle.nfc_base.specs.Headed.{is_rats};
+ghost use Rattle.isodep_link.specs.Sizes.{piece_size, rats_code, ats_frame};
 
 use nfc_base::{Frame, Tech};
 

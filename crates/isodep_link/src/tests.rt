@@ -129,6 +129,50 @@ fn reader_rows(rt: HostRuntime) -> Result<(), Fail> {
     walk_reader(&rt, &mut reader, &[(&[2], b'f', &[])])
 }
 
+#[test]
+fn a_busy_card_asks_for_more_time(rt: HostRuntime) -> Result<(), Fail> {
+    let mut card = CardEnd::new(8);
+    card.set_busy(2, 5);
+    let more: [u8; 2] = [0xF2, 5];
+    walk_card(&rt, &mut card, &[(&[2, 0, 0xA4], b'd', &[0, 0xA4])])?;
+    assert_eq!(rt; card.reply(&[0x90, 0]).view(), &more[..]);
+    let rows: [Row; 8] = [
+        (&[0xB2], b'r', &more),
+        (&[0xF2, 4], b'q', &[]),
+        (&more, b'r', &more),
+        (&[0xA3], b'q', &[]),
+        (&more, b'r', &[2, 0x90, 0]),
+        (&more, b'q', &[]),
+        (&[0xB2], b'r', &[2, 0x90, 0]),
+        (&[3], b'd', &[]),
+    ];
+    walk_card(&rt, &mut card, &rows)?;
+    card.dark();
+    walk_card(&rt, &mut card, &[(&[2], b'd', &[])])?;
+    assert_eq!(rt; card.reply(&[]).view(), &more[..]);
+    Ok(())
+}
+
+#[test]
+fn a_reader_grants_more_time(rt: HostRuntime) -> Result<(), Fail> {
+    let mut reader = ReaderEnd::new(8);
+    let more: [u8; 2] = [0xF2, 5];
+    assert_eq!(rt; reader.begin(&[1]).view(), &[2, 1][..]);
+    let rows: [Row; 5] = [
+        (&more, b's', &more),
+        (&[], b's', &[0xB2]),
+        (&more, b's', &more),
+        (&[], b's', &[0xB2]),
+        (&[2, 0x90, 0], b'f', &[0x90, 0]),
+    ];
+    walk_reader(&rt, &mut reader, &rows)?;
+    assert_eq!(rt; reader.begin(&[1]).view(), &[3, 1][..]);
+    for _ in 0..16u8 {
+        walk_reader(&rt, &mut reader, &[(&more, b's', &more)])?;
+    }
+    walk_reader(&rt, &mut reader, &[(&more, b'p', &[]), (&[], b'p', &[])])
+}
+
 /// What a reader doesn't take after one I-block with number 0, in one piece or with more behind it.
 fn refused<R: Abort>(rt: &R, size: usize, frame: &[u8]) -> Result<(), Fail> {
     let command = counted();
@@ -152,7 +196,9 @@ fn whole_frames_that_are_not_allowed(rt: HostRuntime) -> Result<(), Fail> {
     refused(&rt, 1, &[0xA3])?;
     refused(&rt, 1, &[0xB2])?;
     refused(&rt, 1, &[0xC2])?;
-    refused(&rt, 1, &[0xF2, 1])?;
+    refused(&rt, 1, &[0xF2, 0])?;
+    refused(&rt, 1, &[0xF2, 60])?;
+    refused(&rt, 14, &[0xF2, 1])?;
     refused(&rt, 1, &[0x12])?;
     refused(&rt, 1, &[0x6A])?;
     refused(&rt, 14, &[0xA3])?;

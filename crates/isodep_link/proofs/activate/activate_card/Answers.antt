@@ -40,7 +40,7 @@ laws g = record {
 pub loop-bad-init : goal.loop-bad-init
 loop-bad-init g c = record {
   goes = λ t. first_rats g.L.Listener (laws g) g.L.CardListener.card g.L.CardListener.tag g.met.L.CardListener.holds c.args.field.now c.args.place t;
-  said = rats_said g.L.Listener.machine c.args.field.now;
+  said = rats_said g.L.Listener.machine c.args.field.now _;
   most = omega arith;
 }
 
@@ -56,7 +56,7 @@ loop-bad-preserved g c =
           (after_rats g.L.Listener (laws g) g.L.CardListener.card g.L.CardListener.tag g.met.L.CardListener.holds c.args.field.now c.args.place t c.loop-bad.field c.loop-bad.bad c.loop-bad-test.true (c.loop-bad.invariant.goes t)
           {F = Mute} restarts steps c.loop-bad.far c.transmit.new.far c.transmit.new.self c.in-Ok.heard (subst T c.rats-request.ensures c.in-Ok.ensures.turn)));
       said =
-          (let Q : ℕ → Type 0 = λ n. RatsSaid g.L.Listener.machine c.args.field.now c.transmit.new.self n in
+          (let Q : ℕ → Type 0 = λ n. RatsSaid g.L.Listener.machine c.args.field.now c.transmit.new.self c.transmit.new.far n in
           subst Q one
           (rats_again g.L.Listener.machine c.loop-bad.far c.transmit.new.far c.args.field.now c.loop-bad.field c.transmit.new.self c.loop-bad.bad c.loop-bad-test.true c.loop-bad.invariant.said
           c.in-Ok.heard c.in_default.not-Whole (subst T c.rats-request.ensures c.in-Ok.ensures.turn)));
@@ -140,4 +140,4 @@ returns-in-Err-Memory-clause-turns g c =
 pub returns-clause-turns : goal.returns-clause-turns
 returns-clause-turns g c =
     let six : c.loop-bad.bad ≡ 6 = omega (arith, c.loop-bad-test.false, c.loop-bad.invariant.most) in
-    rats_six_any g.L.Listener.machine c.args.field.now c.loop-bad.field c.loop-bad.bad six c.loop-bad.invariant.said
+    rats_six_any g.L.Listener.machine c.args.field.now c.loop-bad.field c.loop-bad.far c.loop-bad.bad six c.loop-bad.invariant.said

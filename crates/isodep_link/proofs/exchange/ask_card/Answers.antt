@@ -51,7 +51,7 @@ pub loop-heard-init : goal.loop-heard-init
 loop-heard-init g c = record {
   bytes = search rules;
   said =
-      command_said g.L.Listener.machine c.args.field.now c.args.reader.now c.args.command.now.bytes c.begin-frame.new.self c.begin-frame.result
+      command_said g.L.Listener.machine c.args.field.now c.args.reader.now c.args.command.now.bytes _ c.begin-frame.new.self c.begin-frame.result
       (begins (begun c.args.reader.now c.args.command.now.bytes) c.begin-frame.new.self (block_frame (request (begun c.args.reader.now c.args.command.now.bytes).core)) c.begin-frame.result
       (c.begin-frame.ensures.step ∙ ap (λ xs. begun c.args.reader.now xs) c.view.ensures.bytes)
       (c.begin-frame.ensures.request ∙ ap (λ xs. block_frame (request (begun c.args.reader.now xs).core)) c.view.ensures.bytes));
