@@ -205,7 +205,7 @@ t5_too : (id : List ℕ) (n size : ℕ) (head : List ℕ) (ws : List (List ℕ))
     → AllToo (PlaceT5 id n size head) ws (canonical_words (PlaceT5 id n size head))
 t5_too id n size head ws (i, b, k, h, e, p, q, t, r) =
     let x = ident_v_too i id p in
-    let y = number_is b n (let most : n ≤ 256 = q.2 in omega arith) q.0 in
+    let y = number_is b n (let most : n ≤ 16384 = q.2 in omega arith) q.0 in
     let u = number_is k size (let most : size ≤ 32 = size_small size t.1 in omega arith) t.0 in
     let z = hex_too h head r in
     let first : length i ≡ length (encode_upper id) = x.size in

@@ -14,7 +14,7 @@ use Rattle.bench_script.specs.declared.command.DeviceId.TheVariants.{A, V}
 use Rattle.bench_script.specs.declared.script.words.CommandName.{CommandName}
 use Rattle.bench_script.specs.declared.script.words.CommandName.TheVariants as names
 use Rattle.bench_script.specs.Words.{name_text}
-use Rattle.bench_script.specs.Script.{words_of, is_skipped, SpellsHex, SpellsIdent, SpellsIdV, SpellsId, SpellsBlocks, SpellsSize, SpellsCode, SpellsBlock, fate_letter, SpellsFates, SpelledBy, Spells, least_blocks, least_blocks_v}
+use Rattle.bench_script.specs.Script.{words_of, is_skipped, SpellsHex, SpellsIdent, SpellsIdV, SpellsId, SpellsBlocks, SpellsSize, SpellsCode, SpellsBlock, fate_letter, SpellsFates, SpelledBy, Spells, least_blocks, most_blocks, least_blocks_v, most_blocks_v}
 use Rattle.nfca_poll.specs.Ident.{IsIdent}
 use Rattle.t5t_tag.specs.Store.{IsBlockSize}
 use Rattle.std.proofs.lemmas.Bool.{ne_eqb}
@@ -48,8 +48,9 @@ hex_one w a b (inr p) (inl q) = absurd (dash_odd w a q.0 p.1)
 hex_one w a b (inr p) (inr q) = decode_of-same w a b p.1 q.1
 
 -- a word spells one number of blocks
-pub blocks_one : (least : ℕ) (w : List ℕ) (m n : ℕ) → SpellsBlocks least w m → SpellsBlocks least w n → m ≡ n
-blocks_one least w m n p q = decimal_injective m n (let h : m ≤ 256 = p.2 in omega arith) (let h : n ≤ 256 = q.2 in omega arith) (sym p.0 ∙ q.0)
+pub blocks_one : (least most : ℕ) → most < 65536 → (w : List ℕ) (m n : ℕ) → SpellsBlocks least most w m → SpellsBlocks least most w n → m ≡ n
+blocks_one least most few w m n p q =
+    decimal_injective m n (let h : m ≤ most = p.2 in omega (arith, few, h)) (let h : n ≤ most = q.2 in omega (arith, few, h)) (sym p.0 ∙ q.0)
 
 pub size_small : (n : ℕ) → IsBlockSize n → n ≤ 32
 size_small n (inl e) = omega arith
@@ -138,7 +139,7 @@ spelled_one ws (PlaceT2 i m g) (PlaceT2 j n h) (u, v, w, e, p, r, s) (u', v', w'
     let second : v ≡ v' = cc in
     let third : w ≡ w' = cc in
     let ids : i ≡ j = ident_one u' i j (let P : List ℕ → Type 0 = λ t. SpellsIdent t i in subst P first p) p' in
-    let numbers : m ≡ n = blocks_one least_blocks v' m n (let P : List ℕ → Type 0 = λ t. SpellsBlocks least_blocks t m in subst P second r) r' in
+    let numbers : m ≡ n = blocks_one least_blocks most_blocks (omega arith) v' m n (let P : List ℕ → Type 0 = λ t. SpellsBlocks least_blocks most_blocks t m in subst P second r) r' in
     let heads : g ≡ h = hex_one w' g h (let P : List ℕ → Type 0 = λ t. SpellsHex t g in subst P third s) s' in
     cc
 spelled_one ws (PlaceT4 i m k g) (PlaceT4 j n l h) (u, v, w, x, e, p, r, t, s) (u', v', w', x', e', p', r', t', s') =
@@ -157,7 +158,7 @@ spelled_one ws (PlaceT5 i m k g) (PlaceT5 j n l h) (u, v, w, x, e, p, r, t, s) (
     let third : w ≡ w' = cc in
     let fourth : x ≡ x' = cc in
     let ids : i ≡ j = decode_of-same u' i j (let P : List ℕ → Type 0 = λ t. SpellsIdV t i in subst P first p).0 p'.0 in
-    let numbers : m ≡ n = blocks_one least_blocks_v v' m n (let P : List ℕ → Type 0 = λ t. SpellsBlocks least_blocks_v t m in subst P second r) r' in
+    let numbers : m ≡ n = blocks_one least_blocks_v most_blocks_v (omega arith) v' m n (let P : List ℕ → Type 0 = λ t. SpellsBlocks least_blocks_v most_blocks_v t m in subst P second r) r' in
     let sizes : k ≡ l = size_one w' k l (let P : List ℕ → Type 0 = λ t. SpellsSize t k in subst P third t) t' in
     let heads : g ≡ h = hex_one x' g h (let P : List ℕ → Type 0 = λ t. SpellsHex t g in subst P fourth s) s' in
     cc

@@ -45,13 +45,16 @@ least_blocks = 4
 abbrev pub most_blocks : ℕ
 most_blocks = 256
 
--- the fewest blocks of a Type 5 tag; it may have as many as a Type 2 tag
+-- the same of a Type 5 tag
 abbrev pub least_blocks_v : ℕ
 least_blocks_v = 1
 
--- BLOCKS: a decimal number without leading zeros, from this limit on
-abbrev pub SpellsBlocks : ℕ → List ℕ → ℕ → Type 0
-SpellsBlocks least word n = (word ≡ decimal n) × (least ≤ n) × (n ≤ most_blocks)
+abbrev pub most_blocks_v : ℕ
+most_blocks_v = 16384
+
+-- BLOCKS: a decimal number without leading zeros, from the first of these limits to the second
+abbrev pub SpellsBlocks : ℕ → ℕ → List ℕ → ℕ → Type 0
+SpellsBlocks least most word n = (word ≡ decimal n) × (least ≤ n) × (n ≤ most)
 
 -- SIZE: how many bytes a block of a Type 5 tag has
 abbrev pub SpellsSize : List ℕ → ℕ → Type 0
@@ -94,13 +97,13 @@ SpelledBy ws Skip = ⊥
 SpelledBy ws (Fates fates) = (f : List ℕ) × (ws ≡ codes "fates" ∷ f ∷ []) × SpellsFates f fates
 SpelledBy ws (PlaceT2 id blocks head) =
     (i b h : List ℕ) × (ws ≡ codes "place" ∷ codes "t2" ∷ i ∷ b ∷ h ∷ [])
-    × SpellsIdent i id × SpellsBlocks least_blocks b blocks × SpellsHex h head
+    × SpellsIdent i id × SpellsBlocks least_blocks most_blocks b blocks × SpellsHex h head
 SpelledBy ws (PlaceT4 id code container head) =
     (i c k h : List ℕ) × (ws ≡ codes "place" ∷ codes "t4" ∷ i ∷ c ∷ k ∷ h ∷ [])
     × SpellsIdent i id × SpellsCode c code × SpellsHex k container × SpellsHex h head
 SpelledBy ws (PlaceT5 id blocks size head) =
     (i b s h : List ℕ) × (ws ≡ codes "place" ∷ codes "t5" ∷ i ∷ b ∷ s ∷ h ∷ [])
-    × SpellsIdV i id × SpellsBlocks least_blocks_v b blocks × SpellsSize s size × SpellsHex h head
+    × SpellsIdV i id × SpellsBlocks least_blocks_v most_blocks_v b blocks × SpellsSize s size × SpellsHex h head
 SpelledBy ws (Lock id block) = (i b : List ℕ) × (ws ≡ codes "lock" ∷ i ∷ b ∷ []) × SpellsId i id × SpellsBlock b block
 SpelledBy ws (Remove id) = (i : List ℕ) × (ws ≡ codes "remove" ∷ i ∷ []) × SpellsId i id
 SpelledBy ws (Dump id) = (i : List ℕ) × (ws ≡ codes "dump" ∷ i ∷ []) × SpellsId i id

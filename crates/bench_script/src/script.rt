@@ -16,11 +16,16 @@ use words::{
     hex_word, ident_word, ident_word_v, name_of, only_word, size_word, three_words, two_words,
 };
 
-/// The fewest blocks of a tag that may be placed (this project's limits): the header of a Type 2 tag has four, a Type 5
-/// tag has one.
+/// How many blocks a Type 2 tag that may be placed has at least, which are its header, and at most, since a read names a
+/// block in one byte (this project's limits).
 const LEAST_BLOCKS: u16 = 4;
 
+const MOST_BLOCKS: u16 = 256;
+
+/// The same of a Type 5 tag: a full store in blocks of four bytes has as many.
 const LEAST_BLOCKS_V: u16 = 1;
+
+const MOST_BLOCKS_V: u16 = 16384;
 
 /// Why a line gives no command.
 #[derive(Clone, Copy, Debug, PartialEq, Eq, Error)]
@@ -201,7 +206,7 @@ fn place_t2(alloc: Global, rest: &[u8]) -> Result<Command, LineFault>
     let Some(id) = ident_word(alloc, id_text)? else {
         return Err(LineFault::Refused);
     };
-    let Some(blocks) = blocks_word(alloc, blocks_text, LEAST_BLOCKS)? else {
+    let Some(blocks) = blocks_word(alloc, blocks_text, LEAST_BLOCKS, MOST_BLOCKS)? else {
         return Err(LineFault::Refused);
     };
     match hex_word(alloc, head_text)? {
@@ -251,7 +256,7 @@ fn place_t5(alloc: Global, rest: &[u8]) -> Result<Command, LineFault>
     let Some(id) = ident_word_v(alloc, id_text)? else {
         return Err(LineFault::Refused);
     };
-    let Some(blocks) = blocks_word(alloc, blocks_text, LEAST_BLOCKS_V)? else {
+    let Some(blocks) = blocks_word(alloc, blocks_text, LEAST_BLOCKS_V, MOST_BLOCKS_V)? else {
         return Err(LineFault::Refused);
     };
     let Some(size) = size_word(alloc, size_text)? else {
@@ -305,7 +310,8 @@ mod tests {
             ("place t5 E004010203040506 1 4 -", 0),
             ("place t5 e004010203040506 256 32 00", 0),
             ("place t5 E004010203040506 0 4 -", 1),
-            ("place t5 E004010203040506 257 4 -", 1),
+            ("place t5 E004010203040506 16384 4 -", 0),
+            ("place t5 E004010203040506 16385 4 -", 1),
             ("place t5 E004010203040506 4 5 -", 1),
             ("place t5 E004010203040506 4 04 -", 1),
             ("place t5 E004010203040506 4 260 -", 1),

@@ -4,19 +4,19 @@ use Rattle.nfc_base.specs.Signal.{Signal}
 use Rattle.t5t_tag.specs.declared.answer.T5Answer.TheVariants.{Present}
 use Rattle.t5t_tag.specs.Store.{T5State, id_size, block_count, is_locked}
 use Rattle.t5t_tag.specs.Mask.{asks_for}
-use Rattle.t5t_tag.specs.Spelling.{addressed_flags, plain_flags, inventory_flags, inventory_code, quiet_code, read_code, write_code}
-use Rattle.t5t_tag.specs.Step.{T5Turn, silent, tells, refuses, not_supported, no_block, block_locked, read_turn, write_turn, obeyed, names, addressed, plain, inventory, bytes_turn, is_nfc_v, t5_after}
+use Rattle.t5t_tag.specs.Spelling.{addressed_flags, plain_flags, inventory_flags, inventory_code, quiet_code}
+use Rattle.t5t_tag.specs.Step.{T5Turn, silent, tells, refuses, not_supported, no_block, block_locked, read_turn, read_many_turn, write_turn, Asked, Reads, ReadsMany, Writes, Unknown, asked, asked_turn, obeyed, names, addressed, plain, inventory, bytes_turn, is_nfc_v, t5_after}
 use Rattle.t5t_tag.proofs.Stores.{length_with_block, with_block_again}
 use Rattle.t5t_tag.proofs.Turns.{writes, hushes, by_test, less_of, same_of, on_write, on_obeyed}
-use Rattle.t5t_tag.proofs.Steps.{read_leaves}
+use Rattle.t5t_tag.proofs.Steps.{read_leaves, read_many_leaves}
 
 -- a step whose second time leaves the store of its first
 abbrev pub IsOnce : (T5State → T5Turn) → T5State → Type 0
 IsOnce step t = (step (step t).after).after.store ≡ (step t).after.store
 
--- a step that changes nothing
-once_kept : (step : T5State → T5Turn) (t : T5State) → (step t).after ≡ t → IsOnce step t
-once_kept step t kept = ap (λ s. (step s).after.store) kept
+-- a step that never changes the store
+once_kept : (step : T5State → T5Turn) (t : T5State) → ((s : T5State) → (step s).after.store ≡ s.store) → IsOnce step t
+once_kept step t kept = kept (step t).after
 
 -- a choice between two steps by a test that the step doesn't change
 once_by : (t : T5State) (test : T5State → Bool) (x y : T5State → T5Turn) → test (if test t then x t else y t).after ≡ test t
@@ -63,6 +63,7 @@ write_once t block content =
     (on_write t (λ r. nat_le (block_count r.after) block ≡ nat_le (block_count t) block) (record {
       error = λ code. refl;
       read = λ b within. refl;
+      many = λ f m within few. refl;
       written = λ b bytes within long. ap (λ n. nat_le (n / t.size) block) (length_with_block t.size t.store b bytes within long);
     }) block content)
     (λ h. refl)
@@ -79,21 +80,21 @@ once_of : (t : T5State) (v : Bool) (x y : T5State → T5Turn) → IsOnce x t →
 once_of t true x y p q = p
 once_of t false x y p q = q
 
+asked_once : (t : T5State) (what : Asked) → IsOnce (λ s. asked_turn s what) t
+asked_once t (Reads block) = once_kept (λ s. read_turn s block) t (λ s. (read_leaves s block).store)
+asked_once t (ReadsMany first more) = once_kept (λ s. read_many_turn s first more) t (λ s. (read_many_leaves s first more).store)
+asked_once t (Writes block content) = write_once t block content
+asked_once t Unknown = refl
+
 obeyed_once : (t : T5State) (code : ℕ) (rest : List ℕ) → IsOnce (λ s. obeyed s code rest) t
-obeyed_once t code [] = refl
-obeyed_once t code (block ∷ rest) =
-    let other : T5State → T5Turn = λ s. if (code == read_code) && (length rest == 0) then read_turn s block else refuses s not_supported in
-    once_of t (code == write_code) (λ s. write_turn s block rest) other
-    (write_once t block rest)
-    (once_of t ((code == read_code) && (length rest == 0)) (λ s. read_turn s block) (λ s. refuses s not_supported)
-    (once_kept (λ s. read_turn s block) t (read_leaves t block))
-    refl)
+obeyed_once t code rest = asked_once t (asked code rest)
 
 -- a command changes neither the identifier nor whether the tag is quiet
 obeyed_keeps : (t : T5State) (code : ℕ) (rest : List ℕ) → ((obeyed t code rest).after.id ≡ t.id) × ((obeyed t code rest).after.quiet ≡ t.quiet)
 obeyed_keeps t code rest = on_obeyed t (λ r. (r.after.id ≡ t.id) × (r.after.quiet ≡ t.quiet)) (record {
   error = λ c. (refl, refl);
   read = λ b within. (refl, refl);
+  many = λ f m within few. (refl, refl);
   written = λ b bytes within long. (refl, refl);
 }) code rest
 
@@ -124,11 +125,11 @@ plain_once t (code ∷ rest) =
     (λ h. refl)
     (λ h. obeyed_once t code rest)
 
-inventory_keeps : (t : T5State) (rest : List ℕ) → (inventory t rest).after ≡ t
+inventory_keeps : (t : T5State) (rest : List ℕ) → (inventory t rest).after.store ≡ t.store
 inventory_keeps t [] = refl
 inventory_keeps t (code ∷ []) = refl
 inventory_keeps t (code ∷ bits ∷ mask) =
-    by_test (λ r. r.after ≡ t) ((code == inventory_code) && not t.quiet && asks_for t.id bits mask) (tells t (Present t.id)) (silent t) (λ h. refl) (λ h. refl)
+    by_test (λ r. r.after.store ≡ t.store) ((code == inventory_code) && not t.quiet && asks_for t.id bits mask) (tells t (Present t.id)) (silent t) (λ h. refl) (λ h. refl)
 
 bytes_once : (t : T5State) (bytes : List ℕ) → IsOnce (λ s. bytes_turn s bytes) t
 bytes_once t [] = refl
@@ -140,7 +141,7 @@ bytes_once t (flags ∷ rest) =
     (once_of t (flags == plain_flags) (λ s. plain s rest) third
     (plain_once t rest)
     (once_of t (flags == inventory_flags) (λ s. inventory s rest) silent
-    (once_kept (λ s. inventory s rest) t (inventory_keeps t rest))
+    (once_kept (λ s. inventory s rest) t (λ s. inventory_keeps s rest))
     refl))
 
 pub heard_again : (t : T5State) (f : Signal) → (t5_after (t5_after t f) f).store ≡ (t5_after t f).store

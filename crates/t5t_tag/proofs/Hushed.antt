@@ -1,11 +1,11 @@
 -- Whether a tag is quiet changes nothing of what it does at an addressed command.
-use Rattle.std.proofs.Common.{◌≡◌, ℕ, List, [], ◌∷◌, length, drop, Bool, true, false, not, nat_le, ◌==◌, ◌&&◌, if◌then◌else◌, refl}
+use Rattle.std.proofs.Common.{◌≡◌, ℕ, ◌+◌, ◌*◌, List, [], ◌∷◌, length, drop, Bool, true, false, not, nat_le, ◌==◌, ◌&&◌, if◌then◌else◌, refl}
 use Rattle.nfc_base.specs.Blocks.{block_of}
 use Rattle.nfc_base.specs.Signal.{whole_v}
 use Rattle.t5t_tag.specs.declared.answer.T5Answer.TheVariants.{Content}
 use Rattle.t5t_tag.specs.Store.{T5State, id_size, block_count, is_locked}
-use Rattle.t5t_tag.specs.Spelling.{addressed_flags, quiet_code, read_code, write_code}
-use Rattle.t5t_tag.specs.Step.{T5Turn, silent, tells, refuses, not_supported, no_block, block_locked, read_turn, write_turn, obeyed, names, t5_turn}
+use Rattle.t5t_tag.specs.Spelling.{addressed_flags, quiet_code, most_content}
+use Rattle.t5t_tag.specs.Step.{T5Turn, silent, tells, refuses, not_supported, no_block, block_locked, blocks_of, read_turn, read_many_turn, write_turn, Asked, Reads, ReadsMany, Writes, Unknown, asked, asked_turn, obeyed, names, t5_turn}
 use Rattle.t5t_tag.proofs.Turns.{writes, hushes}
 
 -- a tag that may be quiet
@@ -21,28 +21,50 @@ by_both : (v : Bool) (r s r' s' : T5Turn) → IsAlike r r' → IsAlike s s' → 
 by_both true r s r' s' p q = p
 by_both false r s r' s' p q = q
 
-obeyed_alike : (t : T5State) (q : Bool) (code : ℕ) (rest : List ℕ) → IsAlike (obeyed (with_quiet q t) code rest) (obeyed t code rest)
-obeyed_alike t q code [] = record { answer = refl; store = refl }
-obeyed_alike t q code (block ∷ rest) =
-    let u : T5State = with_quiet q t in
+error_alike : (t : T5State) (q : Bool) (code : ℕ) → IsAlike (refuses (with_quiet q t) code) (refuses t code)
+error_alike t q code = record { answer = refl; store = refl }
+
+read_alike : (t : T5State) (q : Bool) (block : ℕ) → IsAlike (read_turn (with_quiet q t) block) (read_turn t block)
+read_alike t q block =
     let told : T5State → T5Turn = λ s. tells s (Content (record { items = block_of s.size s.store block })) in
-    let locked : T5State → T5Turn = λ s. if is_locked s block then refuses s block_locked else writes s block rest in
-    let sized : T5State → T5Turn = λ s. if not (length rest == s.size) then refuses s not_supported else locked s in
-    let read : T5State → T5Turn = λ s. if (code == read_code) && (length rest == 0) then read_turn s block else refuses s not_supported in
-    let error : (c : ℕ) → IsAlike (refuses u c) (refuses t c) = λ c. record { answer = refl; store = refl } in
-    by_both (code == write_code) (write_turn u block rest) (read u) (write_turn t block rest) (read t)
-    (by_both (nat_le (block_count t) block) (refuses u no_block) (sized u) (refuses t no_block) (sized t)
-    (error no_block)
-    (by_both (not (length rest == t.size)) (refuses u not_supported) (locked u) (refuses t not_supported) (locked t)
-    (error not_supported)
-    (by_both (is_locked t block) (refuses u block_locked) (writes u block rest) (refuses t block_locked) (writes t block rest)
-    (error block_locked)
-    (record { answer = refl; store = refl }))))
-    (by_both ((code == read_code) && (length rest == 0)) (read_turn u block) (refuses u not_supported) (read_turn t block) (refuses t not_supported)
-    (by_both (nat_le (block_count t) block) (refuses u no_block) (told u) (refuses t no_block) (told t)
-    (error no_block)
+    let u : T5State = with_quiet q t in
+    by_both (nat_le (block_count t) block) (refuses u no_block) (told u) (refuses t no_block) (told t)
+    (error_alike t q no_block)
+    (record { answer = refl; store = refl })
+
+read_many_alike : (t : T5State) (q : Bool) (first more : ℕ) → IsAlike (read_many_turn (with_quiet q t) first more) (read_many_turn t first more)
+read_many_alike t q first more =
+    let told : T5State → T5Turn = λ s. tells s (Content (record { items = blocks_of s.size s.store first (more + 1) })) in
+    let large : Bool = not (nat_le (t.size * (more + 1)) most_content) in
+    let few : T5State → T5Turn = λ s. if large then refuses s not_supported else told s in
+    let u : T5State = with_quiet q t in
+    by_both (nat_le (block_count t) (first + more)) (refuses u no_block) (few u) (refuses t no_block) (few t)
+    (error_alike t q no_block)
+    (by_both large (refuses u not_supported) (told u) (refuses t not_supported) (told t)
+    (error_alike t q not_supported)
     (record { answer = refl; store = refl }))
-    (error not_supported))
+
+write_alike : (t : T5State) (q : Bool) (block : ℕ) (content : List ℕ) → IsAlike (write_turn (with_quiet q t) block content) (write_turn t block content)
+write_alike t q block content =
+    let locked : T5State → T5Turn = λ s. if is_locked s block then refuses s block_locked else writes s block content in
+    let sized : T5State → T5Turn = λ s. if not (length content == s.size) then refuses s not_supported else locked s in
+    let u : T5State = with_quiet q t in
+    by_both (nat_le (block_count t) block) (refuses u no_block) (sized u) (refuses t no_block) (sized t)
+    (error_alike t q no_block)
+    (by_both (not (length content == t.size)) (refuses u not_supported) (locked u) (refuses t not_supported) (locked t)
+    (error_alike t q not_supported)
+    (by_both (is_locked t block) (refuses u block_locked) (writes u block content) (refuses t block_locked) (writes t block content)
+    (error_alike t q block_locked)
+    (record { answer = refl; store = refl })))
+
+asked_alike : (t : T5State) (q : Bool) (what : Asked) → IsAlike (asked_turn (with_quiet q t) what) (asked_turn t what)
+asked_alike t q (Reads block) = read_alike t q block
+asked_alike t q (ReadsMany first more) = read_many_alike t q first more
+asked_alike t q (Writes block content) = write_alike t q block content
+asked_alike t q Unknown = error_alike t q not_supported
+
+obeyed_alike : (t : T5State) (q : Bool) (code : ℕ) (rest : List ℕ) → IsAlike (obeyed (with_quiet q t) code rest) (obeyed t code rest)
+obeyed_alike t q code rest = asked_alike t q (asked code rest)
 
 pub addressed_alike : (t : T5State) (q : Bool) (rest : List ℕ) → IsAlike (t5_turn (with_quiet q t) (whole_v (addressed_flags ∷ rest))) (t5_turn t (whole_v (addressed_flags ∷ rest)))
 addressed_alike t q [] = record { answer = refl; store = refl }

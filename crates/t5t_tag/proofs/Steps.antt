@@ -1,21 +1,23 @@
 -- What the steps of a tag give its reader, and what they leave.
-use Rattle.std.proofs.Common.{◌≡◌, ◌≢◌, ℕ, ◌+◌, ◌%◌, ◌<◌, ◌≤◌, List, [], ◌∷◌, ◌++◌, length, take, drop, Bool, true, false, not, nat_eq, nat_le, ◌==◌, ◌&&◌, if◌then◌else◌, Option, Some, None, refl, sym, ◌∙◌, ap, arith}
+use Rattle.std.proofs.Common.{◌≡◌, ◌≢◌, ℕ, ◌+◌, ◌*◌, ◌/◌, ◌%◌, ◌<◌, ◌≤◌, List, [], ◌∷◌, ◌++◌, length, take, drop, Bool, true, false, not, nat_eq, nat_le, ◌==◌, ◌&&◌, if◌then◌else◌, Option, Some, None, refl, sym, ◌∙◌, ap, subst, arith}
 use Rattle.std.specs.Cmp.Lexicographic.{pointwise}
 use Rattle.std.proofs.lemmas.List.{length-append, length-reverse, reverse-reverse}
+use Rattle.std.proofs.lemmas.Nat.{mul-mod_first}
+use Rattle.std.proofs.Math.Nat.{zero-mul}
 use Rattle.std.proofs.Math.Seq.{take-append_seam, drop-append_seam}
 use Rattle.nfc_base.specs.declared.frame.Tech.TheVariants.{V}
 use Rattle.nfc_base.specs.Signal.{Signal, whole_v}
 use Rattle.nfc_base.specs.Blocks.{with_block, block_of}
-use Rattle.t5t_tag.specs.declared.command.T5Command.TheVariants.{Read, Write}
+use Rattle.t5t_tag.specs.declared.command.T5Command.TheVariants.{Read, Write, ReadMany, ReadWide, WriteWide}
 use Rattle.t5t_tag.specs.declared.answer.T5Answer.{T5Answer}
 use Rattle.t5t_tag.specs.declared.answer.T5Answer.TheVariants.{Present, Content, Error}
 use Rattle.t5t_tag.specs.Store.{T5State, IsT5State, id_size, block_count}
 use Rattle.t5t_tag.specs.Mask.{low_first}
-use Rattle.t5t_tag.specs.Spelling.{quiet_code, read_code, write_code, head, command_frame, answer_frame, IsT5Answer, T5AnswerSpelling}
-use Rattle.t5t_tag.specs.Step.{T5Turn, silent, tells, refuses, no_block, read_turn, write_turn, obeyed, names, t5_turn, sent, t5_answer, t5_after}
+use Rattle.t5t_tag.specs.Spelling.{quiet_code, read_code, write_code, read_many_code, read_wide_code, write_wide_code, most_content, wide, head, command_frame, answer_frame, IsT5Answer, T5AnswerSpelling}
+use Rattle.t5t_tag.specs.Step.{T5Turn, silent, tells, refuses, not_supported, no_block, blocks_of, read_turn, read_many_turn, write_turn, wide_number, Writes, asked, asked_turn, obeyed, names, t5_turn, sent, t5_answer, t5_after}
 use Rattle.t5t_tag.proofs.Bytes.{equal_bytes, bytes_self}
-use Rattle.t5t_tag.proofs.Stores.{length_block, length_with_block, still_store, size_of_block}
-use Rattle.t5t_tag.proofs.Turns.{hushes, on_turn}
+use Rattle.t5t_tag.proofs.Stores.{length_block, length_blocks, length_with_block, still_store, size_of_block}
+use Rattle.t5t_tag.proofs.Turns.{hushes, by_test, on_turn}
 
 -- A tag stays one that can be: its store is still one that a tag may have.
 pub stays_tag : (t : T5State) → IsT5State t → (f : Signal) → IsT5State (t5_after t f)
@@ -23,6 +25,7 @@ stays_tag t is = on_turn t (λ r. IsT5State r.after) (record {
   commands = record {
     error = λ code. is;
     read = λ block within. is;
+    many = λ first more within few. is;
     written = λ block content within long. record {
       id = is.id;
       bytes = is.bytes;
@@ -49,12 +52,17 @@ same_tag t = on_turn t (λ r. IsSameTag t r.after) (record {
   commands = record {
     error = λ code. itself t;
     read = λ block within. itself t;
+    many = λ first more within few. itself t;
     written = λ block content within long. record { id = refl; size = refl; locked = refl; length = length_with_block t.size t.store block content within long };
   };
   none = itself t;
   hushed = record { id = refl; size = refl; locked = refl; length = refl };
   present = itself t;
 })
+
+-- a multiple of a multiple of four is one
+fours : (m n : ℕ) → m % 4 ≡ 0 → (m * n) % 4 ≡ 0
+fours m n h = sym (mul-mod_first m n 4) ∙ ap (λ k. (k * n) % 4) h ∙ ap (λ k. k % 4) (zero-mul n)
 
 -- the answer of a turn, where there is one, is in range
 abbrev pub IsTold : Option T5Answer → Type 0
@@ -69,6 +77,10 @@ told_in_range t is = on_turn t (λ r. IsTold r.answer) (record {
         let long : length (block_of t.size t.store block) ≡ t.size = length_block t.size t.store block within in
         let sized : (t.size ≤ 32) × (t.size % 4 ≡ 0) × (4 ≤ t.size) = size_of_block t.size is.store.sized in
         (omega (arith, long, sized.0), ap (λ n. n % 4) long ∙ sized.1);
+    many = λ first more within few.
+        let long : length (blocks_of t.size t.store first (more + 1)) ≡ t.size * (more + 1) = length_blocks t.size t.store first (more + 1) (omega (arith, within)) in
+        let sized : (t.size ≤ 32) × (t.size % 4 ≡ 0) × (4 ≤ t.size) = size_of_block t.size is.store.sized in
+        (omega (arith, long, few), ap (λ n. n % 4) long ∙ fours t.size (more + 1) sized.1);
     written = λ block content within long. (omega arith, refl);
   };
   none = tt;
@@ -76,17 +88,29 @@ told_in_range t is = on_turn t (λ r. IsTold r.answer) (record {
   present = is.id;
 })
 
--- a refusal changes nothing
-pub refusal_keeps : (t : T5State) (f : Signal) (code : ℕ) → (t5_turn t f).answer ≡ Some (Error code) → t5_after t f ≡ t
-refusal_keeps t f code = on_turn t (λ r. r.answer ≡ Some (Error code) → r.after ≡ t) (record {
+-- What a frame leaves that writes nothing and quiets nobody.
+pub record IsUntouched (t u : T5State) : Type 0 where
+  pub id : u.id ≡ t.id
+  pub size : u.size ≡ t.size
+  pub store : u.store ≡ t.store
+  pub locked : u.locked ≡ t.locked
+  pub quiet : u.quiet ≡ t.quiet
+
+untouched : (t : T5State) → IsUntouched t t
+untouched t = record { id = refl; size = refl; store = refl; locked = refl; quiet = refl }
+
+-- a refusal leaves that
+pub refusal_keeps : (t : T5State) (f : Signal) (code : ℕ) → (t5_turn t f).answer ≡ Some (Error code) → IsUntouched t (t5_after t f)
+refusal_keeps t f code = on_turn t (λ r. r.answer ≡ Some (Error code) → IsUntouched t r.after) (record {
   commands = record {
-    error = λ c e. refl;
-    read = λ block within e. refl;
+    error = λ c e. untouched t;
+    read = λ block within e. untouched t;
+    many = λ first more within few e. untouched t;
     written = λ block content within long e. absurd cc;
   };
-  none = λ e. refl;
+  none = λ e. untouched t;
   hushed = λ e. absurd cc;
-  present = λ e. refl;
+  present = λ e. untouched t;
 }) f
 
 spelled_of : (o : Option T5Answer) (g : Signal) → IsTold o → sent o ≡ Some g → (a : T5Answer) × ((o ≡ Some a) × T5AnswerSpelling a g)
@@ -132,8 +156,25 @@ addressed_turn t is code rest =
 pub read_turns : (t : T5State) → IsT5State t → (block : ℕ) → t5_turn t (command_frame (Read (Some t.id) block)) ≡ read_turn t block
 read_turns t is block = addressed_turn t is read_code (block ∷ [])
 
+asked_write : (block : ℕ) (content : List ℕ) → asked write_code (block ∷ content) ≡ Writes block content
+asked_write block [] = refl
+asked_write block (byte ∷ content) = refl
+
 pub write_turns : (t : T5State) → IsT5State t → (block : ℕ) (content : List ℕ) → t5_turn t (command_frame (Write (Some t.id) block (record { items = content }))) ≡ write_turn t block content
-write_turns t is block content = addressed_turn t is write_code (block ∷ content)
+write_turns t is block content = addressed_turn t is write_code (block ∷ content) ∙ ap (asked_turn t) (asked_write block content)
+
+-- READ MULTIPLE BLOCKS, and both with a block number of two bytes
+pub read_many_turns : (t : T5State) → IsT5State t → (first more : ℕ) → t5_turn t (command_frame (ReadMany (Some t.id) first more)) ≡ read_many_turn t first more
+read_many_turns t is first more = addressed_turn t is read_many_code (first ∷ more ∷ [])
+
+number_of_wide : (block : ℕ) → wide_number (block % 256) (block / 256) ≡ block
+number_of_wide block = omega arith
+
+pub read_wide_turns : (t : T5State) → IsT5State t → (block : ℕ) → t5_turn t (command_frame (ReadWide (Some t.id) block)) ≡ read_turn t block
+read_wide_turns t is block = addressed_turn t is read_wide_code (wide block) ∙ ap (λ n. read_turn t n) (number_of_wide block)
+
+pub write_wide_turns : (t : T5State) → IsT5State t → (block : ℕ) (content : List ℕ) → t5_turn t (command_frame (WriteWide (Some t.id) block (record { items = content }))) ≡ write_turn t block content
+write_wide_turns t is block content = addressed_turn t is write_wide_code (wide block ++ content) ∙ ap (λ n. write_turn t n content) (number_of_wide block)
 
 is_less : (m n : ℕ) → n < m → nat_le m n ≡ false
 is_less m n h = grind arith
@@ -145,16 +186,23 @@ read_gives t is block within =
     ap (λ (r : T5Turn). sent r.answer) (read_turns t is block)
     ∙ ap (λ v. sent (if v then refuses t no_block else tells t (Content (record { items = block_of t.size t.store block }))).answer) (is_less (block_count t) block within)
 
-pub read_leaves : (t : T5State) (block : ℕ) → (read_turn t block).after ≡ t
-read_leaves t block = by_value (nat_le (block_count t) block)
-  where
-    by_value : (v : Bool) → (if v then refuses t no_block else tells t (Content (record { items = block_of t.size t.store block }))).after ≡ t
-    by_value true = refl
-    by_value false = refl
+-- a read leaves the tag untouched
+pub read_leaves : (t : T5State) (block : ℕ) → IsUntouched t (read_turn t block).after
+read_leaves t block =
+    by_test (λ r. IsUntouched t r.after) (nat_le (block_count t) block) (refuses t no_block) (tells t (Content (record { items = block_of t.size t.store block })))
+    (λ h. untouched t)
+    (λ h. untouched t)
 
--- a read changes nothing
-pub read_keeps : (t : T5State) → IsT5State t → (block : ℕ) → t5_after t (command_frame (Read (Some t.id) block)) ≡ t
-read_keeps t is block = ap (λ (r : T5Turn). r.after) (read_turns t is block) ∙ read_leaves t block
+pub read_many_leaves : (t : T5State) (first more : ℕ) → IsUntouched t (read_many_turn t first more).after
+read_many_leaves t first more =
+    let told : T5Turn = tells t (Content (record { items = blocks_of t.size t.store first (more + 1) })) in
+    let large : Bool = not (nat_le (t.size * (more + 1)) most_content) in
+    by_test (λ r. IsUntouched t r.after) (nat_le (block_count t) (first + more)) (refuses t no_block) (if large then refuses t not_supported else told)
+    (λ h. untouched t)
+    (λ h. by_test (λ r. IsUntouched t r.after) large (refuses t not_supported) told (λ k. untouched t) (λ k. untouched t))
+
+pub read_keeps : (t : T5State) → IsT5State t → (block : ℕ) → IsUntouched t (t5_after t (command_frame (Read (Some t.id) block)))
+read_keeps t is block = subst (λ r. IsUntouched t r.after) (sym (read_turns t is block)) (read_leaves t block)
 
 -- A frame for another identifier is silent and changes nothing.
 pub other_silent : (t : T5State) (id : List ℕ) → length id ≡ id_size → id ≢ t.id → (code : ℕ) (rest : List ℕ) → t5_turn t (whole_v (head (Some id) code ++ rest)) ≡ silent t

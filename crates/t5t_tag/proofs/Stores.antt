@@ -5,6 +5,7 @@ use Rattle.std.proofs.Math.Nat.{div-add-mod, mul-le-mul_left}
 use Rattle.std.proofs.Math.Seq.{take-append_seam, drop-append_seam}
 use Rattle.nfc_base.specs.Blocks.{with_block, block_of}
 use Rattle.t5t_tag.specs.Store.{blocks_in, IsBlockSize, IsT5Store}
+use Rattle.t5t_tag.specs.Step.{blocks_of}
 
 -- a block that the store has lies in it whole
 pub block_room : (size : ℕ) (store : List ℕ) (block : ℕ) → block < blocks_in size store → size * block + size ≤ length store
@@ -19,6 +20,20 @@ length_block size store block within =
     let room : size * block + size ≤ length store = block_room size store block within in
     let long : length (drop (size * block) store) ≡ length store - size * block = length-drop (size * block) store in
     length-take-le size (drop (size * block) store) (omega (arith, room, long))
+
+-- so do several, one after the other
+pub blocks_room : (size : ℕ) (store : List ℕ) (first count : ℕ) → first + count ≤ blocks_in size store → size * first + size * count ≤ length store
+blocks_room size store first count within =
+    let parts : size * (length store / size) + length store % size ≡ length store = div-add-mod (length store) size in
+    let less : size * (first + count) ≤ size * (length store / size) = mul-le-mul_left size within in
+    let sum : size * (first + count) ≡ size * first + size * count = grind arith in
+    omega (arith, parts, less, sum)
+
+pub length_blocks : (size : ℕ) (store : List ℕ) (first count : ℕ) → first + count ≤ blocks_in size store → length (blocks_of size store first count) ≡ size * count
+length_blocks size store first count within =
+    let room : size * first + size * count ≤ length store = blocks_room size store first count within in
+    let long : length (drop (size * first) store) ≡ length store - size * first = length-drop (size * first) store in
+    length-take-le (size * count) (drop (size * first) store) (omega (arith, room, long))
 
 front_long : (size : ℕ) (store : List ℕ) (block : ℕ) → block < blocks_in size store → length (take (size * block) store) ≡ size * block
 front_long size store block within =
@@ -69,5 +84,5 @@ still_store size old new same is = record {
   sized = is.sized;
   whole = ap (λ n. n % size) same ∙ is.whole;
   least = let e : blocks_in size new ≡ blocks_in size old = ap (λ n. n / size) same in omega (arith, e, is.least);
-  most = let e : blocks_in size new ≡ blocks_in size old = ap (λ n. n / size) same in omega (arith, e, is.most);
+  most = omega (arith, same, is.most);
 }

@@ -1,12 +1,12 @@
 -- What holds of each kind of turn holds of the turn of every frame.
-use Rattle.std.proofs.Common.{◌≡◌, ℕ, ◌<◌, List, [], ◌∷◌, length, drop, Bool, true, false, not, nat_le, ◌==◌, ◌&&◌, if◌then◌else◌, Some, None, refl, arith}
+use Rattle.std.proofs.Common.{◌≡◌, ℕ, ◌+◌, ◌*◌, ◌<◌, ◌≤◌, List, [], ◌∷◌, length, drop, Bool, true, false, not, nat_le, ◌==◌, ◌&&◌, if◌then◌else◌, Some, None, refl, arith}
 use Rattle.nfc_base.specs.Signal.{Signal}
 use Rattle.nfc_base.specs.Blocks.{block_of}
 use Rattle.t5t_tag.specs.declared.answer.T5Answer.TheVariants.{Present, Content}
 use Rattle.t5t_tag.specs.Store.{T5State, id_size, block_count, is_locked}
 use Rattle.t5t_tag.specs.Mask.{asks_for}
-use Rattle.t5t_tag.specs.Spelling.{addressed_flags, plain_flags, inventory_flags, inventory_code, quiet_code, read_code, write_code}
-use Rattle.t5t_tag.specs.Step.{T5Turn, silent, tells, refuses, not_supported, no_block, block_locked, read_turn, write_turn, rewritten, obeyed, names, addressed, plain, inventory, bytes_turn, is_nfc_v, t5_turn}
+use Rattle.t5t_tag.specs.Spelling.{addressed_flags, plain_flags, inventory_flags, inventory_code, quiet_code, most_content}
+use Rattle.t5t_tag.specs.Step.{T5Turn, silent, tells, refuses, not_supported, no_block, block_locked, blocks_of, read_turn, read_many_turn, write_turn, rewritten, Asked, Reads, ReadsMany, Writes, Unknown, asked, asked_turn, obeyed, names, addressed, plain, inventory, bytes_turn, is_nfc_v, t5_turn}
 
 -- a turn in which a block was written, and one that made the tag quiet
 abbrev pub writes : T5State → ℕ → List ℕ → T5Turn
@@ -19,6 +19,8 @@ hushes t = record { answer = None; after = record t { quiet = true } }
 pub record OnCommands (t : T5State) (P : T5Turn → Type 0) : Type 0 where
   pub error : (code : ℕ) → P (refuses t code)
   pub read : (block : ℕ) → block < block_count t → P (tells t (Content (record { items = block_of t.size t.store block })))
+  pub many : (first more : ℕ) → first + more < block_count t → t.size * (more + 1) ≤ most_content
+      → P (tells t (Content (record { items = blocks_of t.size t.store first (more + 1) })))
   pub written : (block : ℕ) (content : List ℕ) → block < block_count t → length content ≡ t.size → P (writes t block content)
 
 -- a fact holds of each kind of turn
@@ -44,6 +46,19 @@ on_read t P on block =
     (λ h. on.error no_block)
     (λ h. on.read block (less_of (block_count t) block h))
 
+pub few_of : (m n : ℕ) → not (nat_le m n) ≡ false → m ≤ n
+few_of m n h = grind arith
+
+on_read_many : (t : T5State) (P : T5Turn → Type 0) → OnCommands t P → (first more : ℕ) → P (read_many_turn t first more)
+on_read_many t P on first more =
+    let told : T5Turn = tells t (Content (record { items = blocks_of t.size t.store first (more + 1) })) in
+    let few : Bool = not (nat_le (t.size * (more + 1)) most_content) in
+    by_test P (nat_le (block_count t) (first + more)) (refuses t no_block) (if few then refuses t not_supported else told)
+    (λ h. on.error no_block)
+    (λ h. by_test P few (refuses t not_supported) told
+    (λ k. on.error not_supported)
+    (λ k. on.many first more (less_of (block_count t) (first + more) h) (few_of (t.size * (more + 1)) most_content k)))
+
 pub on_write : (t : T5State) (P : T5Turn → Type 0) → OnCommands t P → (block : ℕ) (content : List ℕ) → P (write_turn t block content)
 on_write t P on block content =
     let locked : T5Turn = if is_locked t block then refuses t block_locked else writes t block content in
@@ -56,15 +71,14 @@ on_write t P on block content =
     (λ l. on.error block_locked)
     (λ l. on.written block content (less_of (block_count t) block h) (same_of (length content) t.size k))))
 
+on_asked : (t : T5State) (P : T5Turn → Type 0) → OnCommands t P → (what : Asked) → P (asked_turn t what)
+on_asked t P on (Reads block) = on_read t P on block
+on_asked t P on (ReadsMany first more) = on_read_many t P on first more
+on_asked t P on (Writes block content) = on_write t P on block content
+on_asked t P on Unknown = on.error not_supported
+
 pub on_obeyed : (t : T5State) (P : T5Turn → Type 0) → OnCommands t P → (code : ℕ) (rest : List ℕ) → P (obeyed t code rest)
-on_obeyed t P on code [] = on.error not_supported
-on_obeyed t P on code (block ∷ rest) =
-    let other : T5Turn = if (code == read_code) && (length rest == 0) then read_turn t block else refuses t not_supported in
-    by_test P (code == write_code) (write_turn t block rest) other
-    (λ h. on_write t P on block rest)
-    (λ h. by_test P ((code == read_code) && (length rest == 0)) (read_turn t block) (refuses t not_supported)
-    (λ k. on_read t P on block)
-    (λ k. on.error not_supported))
+on_obeyed t P on code rest = on_asked t P on (asked code rest)
 
 on_addressed : (t : T5State) (P : T5Turn → Type 0) → OnTurns t P → (rest : List ℕ) → P (addressed t rest)
 on_addressed t P on [] = on.none

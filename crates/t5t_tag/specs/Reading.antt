@@ -1,15 +1,15 @@
 -- What a frame is read as, as a function: the command or the answer that it spells, where it spells one.
-use Rattle.std.specs.Prelude.{ℕ, ◌-◌, ◌%◌, List, [], ◌∷◌, ◌++◌, length, take, drop, replicate, ◌==◌, ◌&&◌, nat_eq, nat_le, if◌then◌else◌, Option, Some, None}
+use Rattle.std.specs.Prelude.{ℕ, ◌+◌, ◌-◌, ◌*◌, ◌%◌, List, [], ◌∷◌, ◌++◌, length, take, drop, replicate, ◌==◌, ◌&&◌, nat_eq, nat_le, if◌then◌else◌, Option, Some, None}
 use Rattle.std.specs.Cmp.Lexicographic.{pointwise}
 use Rattle.nfc_base.specs.Signal.{Signal}
 use Rattle.t5t_tag.specs.declared.command.T5Command.{T5Command}
-use Rattle.t5t_tag.specs.declared.command.T5Command.TheVariants.{Inventory, Quiet, Read, Write, ReadMany}
+use Rattle.t5t_tag.specs.declared.command.T5Command.TheVariants.{Inventory, Quiet, Read, Write, ReadMany, ReadWide, WriteWide}
 use Rattle.t5t_tag.specs.declared.answer.T5Answer.{T5Answer}
 use Rattle.t5t_tag.specs.declared.answer.T5Answer.TheVariants.{Present, Content, Error}
 use Rattle.t5t_tag.specs.Store.{id_size}
 use Rattle.t5t_tag.specs.Mask.{low_first, most_bits, mask_size, kept}
-use Rattle.t5t_tag.specs.Spelling.{addressed_flags, plain_flags, inventory_flags, inventory_code, quiet_code, read_code, write_code, read_many_code, most_written, most_content, no_error, no_dsfid, error}
-use Rattle.t5t_tag.specs.Step.{is_nfc_v}
+use Rattle.t5t_tag.specs.Spelling.{addressed_flags, plain_flags, inventory_flags, inventory_code, quiet_code, read_code, write_code, read_many_code, read_wide_code, write_wide_code, most_written, most_content, no_error, no_dsfid, error}
+use Rattle.t5t_tag.specs.Step.{is_nfc_v, wide_number}
 
 -- a mask as it is sent, filled up with 0 to eight bytes
 abbrev pub filled : List ℕ → List ℕ
@@ -29,6 +29,16 @@ read_quiet (Some id) = Some (Quiet id)
 abbrev pub read_write : Option (List ℕ) → ℕ → List ℕ → Option T5Command
 read_write id block rest = if nat_le (length rest) most_written then Some (Write id block (record { items = rest })) else None
 
+abbrev pub read_write_wide : Option (List ℕ) → ℕ → List ℕ → Option T5Command
+read_write_wide id block rest = if nat_le (length rest) most_written then Some (WriteWide id block (record { items = rest })) else None
+
+-- the command with a code and two bytes behind it
+abbrev pub read_pair : Option (List ℕ) → ℕ → ℕ → ℕ → Option T5Command
+read_pair id code a b =
+    if code == read_many_code then Some (ReadMany id a b)
+    else if code == read_wide_code then Some (ReadWide id (wide_number a b))
+    else None
+
 -- the command with a code and what follows it, of which an identifier was taken away
 abbrev pub read_command : Option (List ℕ) → ℕ → List ℕ → Option T5Command
 read_command id code [] = if code == quiet_code then read_quiet id else None
@@ -36,9 +46,10 @@ read_command id code (block ∷ []) =
     if code == read_code then Some (Read id block)
     else if code == write_code then read_write id block []
     else None
-read_command id code (block ∷ more ∷ rest) =
-    if code == write_code then read_write id block (more ∷ rest)
-    else if (code == read_many_code) && (length rest == 0) then Some (ReadMany id block more)
+read_command id code (a ∷ b ∷ rest) =
+    if code == write_code then read_write id a (b ∷ rest)
+    else if code == write_wide_code then read_write_wide id (wide_number a b) rest
+    else if length rest == 0 then read_pair id code a b
     else None
 
 abbrev pub read_addressed : ℕ → List ℕ → Option T5Command

@@ -1,8 +1,8 @@
 -- How the commands of a reader and the answers of a tag stand in frames (NFC Forum Type 5 Tag; ISO/IEC 15693-3).
-use Rattle.std.specs.Prelude.{◌≡◌, ◌≤◌, ℕ, ◌%◌, List, [], ◌∷◌, ◌++◌, length, take, Option, Some, None}
+use Rattle.std.specs.Prelude.{◌≡◌, ◌≤◌, ℕ, ◌/◌, ◌%◌, List, [], ◌∷◌, ◌++◌, length, take, Option, Some, None}
 use Rattle.nfc_base.specs.Signal.{Signal, whole_v}
 use Rattle.t5t_tag.specs.declared.command.T5Command.{T5Command}
-use Rattle.t5t_tag.specs.declared.command.T5Command.TheVariants.{Inventory, Quiet, Read, Write, ReadMany}
+use Rattle.t5t_tag.specs.declared.command.T5Command.TheVariants.{Inventory, Quiet, Read, Write, ReadMany, ReadWide, WriteWide}
 use Rattle.t5t_tag.specs.declared.answer.T5Answer.{T5Answer}
 use Rattle.t5t_tag.specs.declared.answer.T5Answer.TheVariants.{Present, Content, Error}
 use Rattle.t5t_tag.specs.Store.{id_size}
@@ -35,6 +35,17 @@ write_code = 0x21
 abbrev pub read_many_code : ℕ
 read_many_code = 0x23
 
+-- the codes of READ SINGLE BLOCK and WRITE SINGLE BLOCK with a block number of two bytes
+abbrev pub read_wide_code : ℕ
+read_wide_code = 0x30
+
+abbrev pub write_wide_code : ℕ
+write_wide_code = 0x31
+
+-- a block number of two bytes, low byte first
+abbrev pub wide : ℕ → List ℕ
+wide block = block % 256 ∷ block / 256 ∷ []
+
 -- how many bytes of a block a command holds at most, and an answer
 abbrev pub most_written : ℕ
 most_written = 32
@@ -54,6 +65,8 @@ command_frame (Quiet id) = whole_v (head (Some id) quiet_code)
 command_frame (Read id block) = whole_v (head id read_code ++ block ∷ [])
 command_frame (Write id block content) = whole_v (head id write_code ++ block ∷ content.items)
 command_frame (ReadMany id first more) = whole_v (head id read_many_code ++ first ∷ more ∷ [])
+command_frame (ReadWide id block) = whole_v (head id read_wide_code ++ wide block)
+command_frame (WriteWide id block content) = whole_v (head id write_wide_code ++ (wide block ++ content.items))
 
 -- an identifier, where there is one, is eight bytes
 abbrev pub IsAddress : Option (List ℕ) → Type 0
@@ -67,6 +80,8 @@ IsT5Command (Quiet id) = length id ≡ id_size
 IsT5Command (Read id block) = IsAddress id
 IsT5Command (Write id block content) = IsAddress id × (length content.items ≤ most_written)
 IsT5Command (ReadMany id first more) = IsAddress id
+IsT5Command (ReadWide id block) = IsAddress id
+IsT5Command (WriteWide id block content) = IsAddress id × (length content.items ≤ most_written)
 
 -- the frame spells the command
 pub record T5Spelling (c : T5Command) (f : Signal) : Type 0 where

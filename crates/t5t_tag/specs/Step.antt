@@ -1,6 +1,6 @@
 -- The step of a Type 5 tag on a frame (NFC Forum Type 5 Tag; ISO/IEC 15693-3). Which error a tag tells for which
 -- condition, and to which frames it is silent, is this project's own.
-use Rattle.std.specs.Prelude.{ℕ, List, [], ◌∷◌, length, take, drop, Bool, true, false, ◌==◌, ◌&&◌, not, nat_eq, nat_le, if◌then◌else◌, Option, Some, None}
+use Rattle.std.specs.Prelude.{ℕ, ◌+◌, ◌*◌, List, [], ◌∷◌, length, take, drop, Bool, true, false, ◌==◌, ◌&&◌, not, nat_eq, nat_le, if◌then◌else◌, Option, Some, None}
 use Rattle.std.specs.Cmp.Lexicographic.{pointwise}
 use Rattle.nfc_base.specs.declared.frame.Tech.{Tech}
 use Rattle.nfc_base.specs.declared.frame.Tech.TheVariants.{A, V}
@@ -10,7 +10,7 @@ use Rattle.t5t_tag.specs.declared.answer.T5Answer.{T5Answer}
 use Rattle.t5t_tag.specs.declared.answer.T5Answer.TheVariants.{Present, Content, Error}
 use Rattle.t5t_tag.specs.Store.{T5State, id_size, block_count, is_locked}
 use Rattle.t5t_tag.specs.Mask.{low_first, asks_for}
-use Rattle.t5t_tag.specs.Spelling.{addressed_flags, plain_flags, inventory_flags, inventory_code, quiet_code, read_code, write_code, answer_frame}
+use Rattle.t5t_tag.specs.Spelling.{addressed_flags, plain_flags, inventory_flags, inventory_code, quiet_code, read_code, write_code, read_many_code, read_wide_code, write_wide_code, most_content, answer_frame}
 
 -- the error codes: a command that isn't supported or has another length, a block that isn't there, a locked block
 abbrev pub not_supported : ℕ
@@ -38,6 +38,10 @@ tells t a = record { answer = Some a; after = t }
 abbrev pub refuses : T5State → ℕ → T5Turn
 refuses t code = tells t (Error code)
 
+-- the content of so many blocks from one on
+abbrev pub blocks_of : ℕ → List ℕ → ℕ → ℕ → List ℕ
+blocks_of size store first count = take (size * count) (drop (size * first) store)
+
 -- READ SINGLE BLOCK
 abbrev pub read_turn : T5State → ℕ → T5Turn
 read_turn t block =
@@ -56,13 +60,54 @@ write_turn t block content =
     else if is_locked t block then refuses t block_locked
     else record { answer = Some (Content (record { items = [] })); after = rewritten t block content }
 
--- A command that this tag obeys: its code, and what follows. READ MULTIPLE BLOCKS isn't supported.
+-- READ MULTIPLE BLOCKS: the first block and as many more, of at most 256 bytes together
+abbrev pub read_many_turn : T5State → ℕ → ℕ → T5Turn
+read_many_turn t first more =
+    if nat_le (block_count t) (first + more) then refuses t no_block
+    else if not (nat_le (t.size * (more + 1)) most_content) then refuses t not_supported
+    else tells t (Content (record { items = blocks_of t.size t.store first (more + 1) }))
+
+-- what is asked of a tag: a block, a block and as many more, the content of a block, or nothing that it supports
+pub data Asked : Type 0 where
+  Reads : ℕ → Asked
+  ReadsMany : ℕ → ℕ → Asked
+  Writes : ℕ → List ℕ → Asked
+  Unknown : Asked
+
+-- the block number that two bytes stand for, low byte first
+abbrev pub wide_number : ℕ → ℕ → ℕ
+wide_number low high = high * 256 + low
+
+-- what a code with two bytes behind it asks
+abbrev pub asked_by_pair : ℕ → ℕ → ℕ → Asked
+asked_by_pair code a b =
+    if code == read_many_code then ReadsMany a b
+    else if code == read_wide_code then Reads (wide_number a b)
+    else Unknown
+
+-- What a code and what follows it ask: READ and WRITE SINGLE BLOCK with a block number of one byte or of two, and READ
+-- MULTIPLE BLOCKS. Any other code or length asks nothing that is supported.
+abbrev pub asked : ℕ → List ℕ → Asked
+asked code [] = Unknown
+asked code (block ∷ []) =
+    if code == read_code then Reads block
+    else if code == write_code then Writes block []
+    else Unknown
+asked code (a ∷ b ∷ rest) =
+    if code == write_code then Writes a (b ∷ rest)
+    else if code == write_wide_code then Writes (wide_number a b) rest
+    else if length rest == 0 then asked_by_pair code a b
+    else Unknown
+
+abbrev pub asked_turn : T5State → Asked → T5Turn
+asked_turn t (Reads block) = read_turn t block
+asked_turn t (ReadsMany first more) = read_many_turn t first more
+asked_turn t (Writes block content) = write_turn t block content
+asked_turn t Unknown = refuses t not_supported
+
+-- a command that this tag obeys: its code, and what follows
 abbrev pub obeyed : T5State → ℕ → List ℕ → T5Turn
-obeyed t code [] = refuses t not_supported
-obeyed t code (block ∷ rest) =
-    if code == write_code then write_turn t block rest
-    else if (code == read_code) && (length rest == 0) then read_turn t block
-    else refuses t not_supported
+obeyed t code rest = asked_turn t (asked code rest)
 
 -- an identifier stands there, low byte first, and it is this tag's
 abbrev pub names : T5State → List ℕ → Bool

@@ -11,12 +11,16 @@ blocks_in size store = length store / size
 abbrev pub IsBlockSize : ℕ → Type 0
 IsBlockSize size = (size ≡ 4) ⊎ ((size ≡ 8) ⊎ ((size ≡ 16) ⊎ (size ≡ 32)))
 
--- A store is 1 to 256 whole blocks of 4, 8, 16 or 32 bytes.
+-- how many bytes a store has at most
+abbrev pub most_stored : ℕ
+most_stored = 65536
+
+-- A store is whole blocks of 4, 8, 16 or 32 bytes: at least one, and together at most 65,536 bytes.
 pub record IsT5Store (size : ℕ) (store : List ℕ) : Type 0 where
   pub sized : IsBlockSize size
   pub whole : length store % size ≡ 0
   pub least : 1 ≤ blocks_in size store
-  pub most : blocks_in size store ≤ 256
+  pub most : length store ≤ most_stored
 
 -- A tag: its identifier, high byte first, the size of its blocks, its store, of each block number whether that block
 -- is locked, and whether it was told to stay quiet.
@@ -27,9 +31,9 @@ pub record T5State : Type 0 where
   pub locked : List Bool
   pub quiet : Bool
 
--- how many block numbers there are
+-- how many block numbers a tag can have: those of a full store in blocks of four bytes
 abbrev pub lock_count : ℕ
-lock_count = 256
+lock_count = 16384
 
 -- how many bytes an identifier has
 abbrev pub id_size : ℕ

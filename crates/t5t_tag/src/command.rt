@@ -3,7 +3,7 @@
 ghost use Rattle.std.specs.Prelude.{◌≡◌, ◌↔◌, ◌≤◌, ◌++◌, length, Some, IsNone};
 ghost use Rattle.nfc_base.specs.Signal.{whole_v};
 ghost use Rattle.t5t_tag.specs.Spelling.{head, command_frame, IsT5Command, T5Spelling};
-ghost use Rattle.t5t_tag.specs.Reading.{filled, read_inventory, read_write, read_command, read_addressed, command_of, spelled_command};
+ghost use Rattle.t5t_tag.specs.Reading.{filled, read_inventory, read_write, read_write_wide, read_command, read_addressed, command_of, spelled_command};
 ghost use Rattle.t5t_tag.specs.declared.command.T5Command.{T5Command};
 
 use crate::identifier::{MOST_BITS, kept, mask_size, turned};
@@ -26,7 +26,11 @@ pub(crate) const READ: u8 = 0x20;
 
 pub(crate) const WRITE: u8 = 0x21;
 
-const READ_MANY: u8 = 0x23;
+pub(crate) const READ_MANY: u8 = 0x23;
+
+pub(crate) const READ_WIDE: u8 = 0x30;
+
+pub(crate) const WRITE_WIDE: u8 = 0x31;
 
 /// A command (NFC Forum Type 5 Tag; ISO/IEC 15693-3). Identifiers have their high byte first; a command with one is
 /// addressed to that tag alone.
@@ -56,6 +60,17 @@ pub enum T5Command {
         id: Option<[u8; 8]>,
         first: u8,
         more: u8,
+    },
+    /// Reads a block, also one whose number doesn't fit a byte. The number is sent low byte first (this project's own).
+    ReadWide {
+        id: Option<[u8; 8]>,
+        block: u16,
+    },
+    /// Writes a block, its number sent as that of `ReadWide`.
+    WriteWide {
+        id: Option<[u8; 8]>,
+        block: u16,
+        content: ArrayVec<u8, 32>,
     },
 }
 
@@ -88,6 +103,13 @@ impl T5Command {
                 frame_of(*id, WRITE, &bytes)
             }
             T5Command::ReadMany { id, first, more } => frame_of(*id, READ_MANY, &[*first, *more]),
+            T5Command::ReadWide { id, block } => frame_of(*id, READ_WIDE, &block.to_le_bytes()),
+            T5Command::WriteWide { id, block, content } => {
+                let mut bytes: ArrayVec<u8, 34> = ArrayVec::new();
+                bytes.try_extend_from_slice(&block.to_le_bytes()).unwrap();
+                bytes.try_extend_from_slice(content).unwrap();
+                frame_of(*id, WRITE_WIDE, &bytes)
+            }
         }
     }
 }
@@ -119,10 +141,19 @@ fn read_command(id: Option<[u8; 8]>, code: u8, rest: &[u8]) -> Option<T5Command>
         (QUIET, []) => Some(T5Command::Quiet { id: id? }),
         (READ, [block]) => Some(T5Command::Read { id, block: *block }),
         (WRITE, [block, content @ ..]) => read_write(id, *block, content),
+        (WRITE_WIDE, [low, high, content @ ..]) => read_write_wide(
+            id,
+            u16::from_le_bytes([*low, *high]),
+            content,
+        ),
         (READ_MANY, [first, more]) => Some(T5Command::ReadMany {
             id,
             first: *first,
             more: *more,
+        }),
+        (READ_WIDE, [low, high]) => Some(T5Command::ReadWide {
+            id,
+            block: u16::from_le_bytes([*low, *high]),
         }),
         _ => None,
     }
@@ -134,6 +165,14 @@ fn read_write(id: Option<[u8; 8]>, block: u8, rest: &[u8]) -> Option<T5Command>
     let mut content = ArrayVec::new();
     content.try_extend_from_slice(rest).ok()?;
     Some(T5Command::Write { id, block, content })
+}
+
+fn read_write_wide(id: Option<[u8; 8]>, block: u16, rest: &[u8]) -> Option<T5Command>
+    ensures { result ≡ read_write_wide id block rest.now }
+{
+    let mut content = ArrayVec::new();
+    content.try_extend_from_slice(rest).ok()?;
+    Some(T5Command::WriteWide { id, block, content })
 }
 
 fn read_inventory(bits: u8, mask: &[u8]) -> Option<T5Command>
@@ -175,10 +214,10 @@ fn inventory_frame(bits: u8, mask: [u8; 8]) -> Frame
 
 /// The frame of a command with this code, and this behind it or behind the identifier.
 fn frame_of(id: Option<[u8; 8]>, code: u8, rest: &[u8]) -> Frame
-    requires { length rest.now ≤ 33 }
+    requires { length rest.now ≤ 34 }
     ensures { result ≡ whole_v (head id code ++ rest.now) }
 {
-    let mut bytes: ArrayVec<u8, 43> = ArrayVec::new();
+    let mut bytes: ArrayVec<u8, 44> = ArrayVec::new();
     match id {
         None => bytes.try_extend_from_slice(&[PLAIN, code]).unwrap(),
         Some(id) => {

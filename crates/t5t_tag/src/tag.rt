@@ -1,12 +1,15 @@
 //! A Type 5 tag.
 
-ghost use Rattle.std.specs.Prelude.{◌≡◌, ◌<◌, ◌↔◌, ◌∷◌, length, not, nat_le, IfOk, IsOk, Some};
+ghost use Rattle.std.specs.Prelude.{◌≡◌, ◌<◌, ◌≤◌, ◌+◌, ◌*◌, ◌↔◌, ◌∷◌, length, not, nat_le, IfOk, IsOk, Some};
 ghost use Rattle.t5t_tag.specs.Spelling.{inventory_code};
 ghost use Rattle.t5t_tag.specs.Store.{IsT5Store, IsT5State, lock_count, block_count, fresh, darkened, locked_too, store_fault_number};
-ghost use Rattle.t5t_tag.specs.Step.{read_turn, write_turn, obeyed, addressed, plain, inventory, bytes_turn, t5_answer, t5_after};
+ghost use Rattle.t5t_tag.specs.Step.{blocks_of, read_turn, read_many_turn, write_turn, obeyed, addressed, plain, inventory, bytes_turn, t5_answer, t5_after};
+ghost use Rattle.t5t_tag.specs.declared.answer.T5Answer.TheVariants.{Content};
 
 use crate::answer::T5Answer;
-use crate::command::{ADDRESSED, INVENTORY, ONE_SLOT, PLAIN, QUIET, READ, WRITE};
+use crate::command::{
+    ADDRESSED, INVENTORY, ONE_SLOT, PLAIN, QUIET, READ, READ_MANY, READ_WIDE, WRITE, WRITE_WIDE,
+};
 use crate::identifier::{asks_for, turned};
 use arrayvec::ArrayVec;
 use nfc_base::{Frame, Locks, Tech};
@@ -22,13 +25,19 @@ pub const NO_BLOCK: u8 = 0x10;
 /// Of a locked block.
 const LOCKED: u8 = 0x12;
 
-/// How many bytes tell of 256 blocks whether they are locked.
-const LOCK_BYTES: usize = 32;
+/// How many bytes a store has at most.
+const MOST_STORED: usize = 65536;
+
+/// How many bytes an answer brings at most.
+const MOST_CONTENT: usize = 256;
+
+/// How many bytes tell of 16,384 blocks whether they are locked.
+const LOCK_BYTES: usize = 2048;
 
 /// Why some bytes are no store of a tag.
 #[derive(Clone, Copy, Debug, PartialEq, Eq, Error)]
 pub enum StoreFault {
-    #[error("a tag has 1 to 256 whole blocks of 4, 8, 16 or 32 bytes")]
+    #[error("a tag has whole blocks of 4, 8, 16 or 32 bytes, at least one and at most 65536 bytes")]
     BadStore = 1,
 }
 
@@ -41,8 +50,8 @@ impl StoreFault {
     }
 }
 
-/// A tag of 1 to 256 blocks of one size (NFC Forum Type 5 Tag; ISO/IEC 15693-3). Which error it tells for which
-/// condition is this project's own.
+/// A tag of blocks of one size, of at most 65,536 bytes (NFC Forum Type 5 Tag; ISO/IEC 15693-3). Which error it tells for
+/// which condition is this project's own.
 #[derive(Debug, Drop)]
 pub struct T5Tag {
     id: [u8; 8],
@@ -80,9 +89,7 @@ impl T5Tag {
         if !matches!(block, 4 | 8 | 16 | 32) {
             return Err(StoreFault::BadStore);
         }
-        let size = block as usize;
-        let blocks = store.len() / size;
-        if store.len() % size != 0 || blocks < 1 || blocks > 256 {
+        if store.is_empty() || store.len() % block as usize != 0 || store.len() > MOST_STORED {
             return Err(StoreFault::BadStore);
         }
         Ok(T5Tag {
@@ -196,19 +203,25 @@ impl T5Tag {
         ensures step { self.new ≡ (obeyed self.old code rest.now).after }
     {
         match (code, rest) {
-            (WRITE, [block, content @ ..]) => self.write(*block, content),
-            (READ, [block]) => self.read(*block),
+            (WRITE, [block, content @ ..]) => self.write(*block as u16, content),
+            (READ, [block]) => self.read(*block as u16),
+            (WRITE_WIDE, [low, high, content @ ..]) => self.write(
+                u16::from_le_bytes([*low, *high]),
+                content,
+            ),
+            (READ_MANY, [first, more]) => self.read_many(*first, *more),
+            (READ_WIDE, [low, high]) => self.read(u16::from_le_bytes([*low, *high])),
             _ => T5Answer::Error(NOT_SUPPORTED),
         }
     }
 
-    fn has(&self, block: u8) -> bool
+    fn has(&self, block: u16) -> bool
         ensures { result ≡ not (nat_le (block_count self.now) block) }
     {
         (block as usize) < self.store.len() / self.block as usize
     }
 
-    fn read(&self, block: u8) -> T5Answer
+    fn read(&self, block: u16) -> T5Answer
         ensures { Some result ≡ (read_turn self.now block).answer }
     {
         if !self.has(block) {
@@ -223,7 +236,36 @@ impl T5Tag {
         T5Answer::Content(content)
     }
 
-    fn write(&mut self, block: u8, content: &[u8]) -> T5Answer
+    fn read_many(&self, first: u8, more: u8) -> T5Answer
+        ensures { Some result ≡ (read_many_turn self.now first more).answer }
+    {
+        let last = first as u16 + more as u16;
+        if !self.has(last) {
+            return T5Answer::Error(NO_BLOCK);
+        }
+        let count = more as usize + 1;
+        if self.block as usize * count > MOST_CONTENT {
+            return T5Answer::Error(NOT_SUPPORTED);
+        }
+        self.content(first as u16, count)
+    }
+
+    /// So many blocks from one on.
+    fn content(&self, first: u16, count: usize) -> T5Answer
+        requires there { first + count ≤ block_count self.now }
+        requires fits { self.now.size * count ≤ 256 }
+        ensures { result ≡ Content (record { items = blocks_of self.now.size self.now.store first count }) }
+    {
+        let size = self.block as usize;
+        let start = size * first as usize;
+        let mut content = ArrayVec::new();
+        content
+            .try_extend_from_slice(&self.store[start..start + size * count])
+            .unwrap();
+        T5Answer::Content(content)
+    }
+
+    fn write(&mut self, block: u16, content: &[u8]) -> T5Answer
         ensures answer { Some result ≡ (write_turn self.old block content.now).answer }
         ensures step { self.new ≡ (write_turn self.old block content.now).after }
     {
@@ -234,7 +276,7 @@ impl T5Tag {
         if content.len() != size {
             return T5Answer::Error(NOT_SUPPORTED);
         }
-        if self.locks.has(block as u16) {
+        if self.locks.has(block) {
             return T5Answer::Error(LOCKED);
         }
         let start = size * block as usize;

@@ -41,7 +41,7 @@ fn told(tag: &mut T5Tag, request: &Frame) -> ArrayVec<u8, 288> {
 fn obeys_addressed_commands(rt: HostRuntime) -> Result<(), Fail> {
     let head = [0xE1, 0x40, 0x06, 0, 3, 3, 0xD0, 0, 0, 0xFE];
     let mut tag = T5Tag::new(ID, store(&rt, 16, &head)?, 4)?;
-    let rows: [(u8, &[u8], &[u8]); 20] = [
+    let rows: [(u8, &[u8], &[u8]); 29] = [
         (0x20, &[0], &[0, 0xE1, 0x40, 0x06, 0]),
         (0x20, &[1], &[0, 3, 3, 0xD0, 0]),
         (0x20, &[3], &[0, 0, 0, 0, 0]),
@@ -57,8 +57,17 @@ fn obeys_addressed_commands(rt: HostRuntime) -> Result<(), Fail> {
         (0x21, &[0, 1, 2, 3, 4, 5], &[1, 0x0F]),
         (0x21, &[0], &[1, 0x0F]),
         (0x21, &[], &[1, 0x0F]),
-        (0x23, &[0, 1], &[1, 0x0F]),
-        (0x23, &[9, 1], &[1, 0x0F]),
+        (0x23, &[0, 0], &[0, 0xE1, 0x40, 0x06, 0]),
+        (0x23, &[0, 1], &[0, 0xE1, 0x40, 0x06, 0, 3, 3, 0xD0, 0]),
+        (0x23, &[2, 1], &[0, 1, 2, 3, 4, 0, 0, 0, 0]),
+        (0x23, &[2, 2], &[1, 0x10]),
+        (0x23, &[255, 255], &[1, 0x10]),
+        (0x23, &[0], &[1, 0x0F]),
+        (0x23, &[0, 1, 0], &[1, 0x0F]),
+        (0x30, &[2, 0], &[0, 1, 2, 3, 4]),
+        (0x30, &[0, 2], &[1, 0x10]),
+        (0x30, &[2], &[1, 0x0F]),
+        (0x31, &[2], &[1, 0x0F]),
         (0x2B, &[], &[1, 0x0F]),
         (0x02, &[0], &[1, 0x0F]),
         (0x20, &[0], &[0, 0xE1, 0x40, 0x06, 0]),
@@ -175,12 +184,16 @@ fn takes_whole_blocks(rt: HostRuntime) -> Result<(), Fail> {
         (4, 0, false),
         (4, 6, false),
         (4, 1024, true),
-        (4, 1028, false),
+        (4, 1028, true),
+        (4, 65536, true),
+        (4, 65540, false),
         (8, 8, true),
         (8, 12, false),
-        (16, 4096, true),
-        (16, 4112, false),
-        (32, 8192, true),
+        (16, 4112, true),
+        (16, 65552, false),
+        (32, 8224, true),
+        (32, 65536, true),
+        (32, 65568, false),
         (32, 16, false),
         (12, 24, false),
         (0, 4, false),
@@ -209,10 +222,50 @@ fn reads_and_writes_large_blocks(rt: HostRuntime) -> Result<(), Fail> {
 }
 
 #[test]
+fn reads_many_blocks_of_at_most_256_bytes(rt: HostRuntime) -> Result<(), Fail> {
+    let mut tag = T5Tag::new(ID, store(&rt, 8224, &[0xE1, 0x40, 0x0F])?, 32)?;
+    let eight = addressed(0x23, &[249, 7])?;
+    let nine = addressed(0x23, &[0, 8])?;
+    let past = addressed(0x23, &[2, 255])?;
+    assert_eq!(rt; told(&mut tag, &eight).len(), 257);
+    assert_eq!(rt; told(&mut tag, &nine).as_slice(), [1u8, 0x0F].as_slice());
+    assert_eq!(rt; told(&mut tag, &past).as_slice(), [1u8, 0x10].as_slice());
+    Ok(())
+}
+
+#[test]
+fn blocks_past_255_are_named_by_two_bytes(rt: HostRuntime) -> Result<(), Fail> {
+    let mut tag = T5Tag::new(ID, store(&rt, 65536, &[])?, 4)?;
+    if let Some(last) = tag.blocks().checked_sub(1) {
+        tag.lock(last);
+    }
+    let rows: [(u8, &[u8], &[u8]); 9] = [
+        (0x31, &[0, 1, 1, 2, 3, 4], &[0]),
+        (0x30, &[0, 1], &[0, 1, 2, 3, 4]),
+        (0x20, &[1], &[0, 0, 0, 0, 0]),
+        (0x31, &[0xFE, 0x3F, 5, 6, 7, 8], &[0]),
+        (0x30, &[0xFE, 0x3F], &[0, 5, 6, 7, 8]),
+        (0x31, &[0xFF, 0x3F, 5, 6, 7, 8], &[1, 0x12]),
+        (0x31, &[0xFF, 0x3F, 5, 6, 7], &[1, 0x0F]),
+        (0x31, &[0, 0x40, 5, 6, 7], &[1, 0x10]),
+        (0x23, &[255, 1], &[0, 0, 0, 0, 0, 1, 2, 3, 4]),
+    ];
+    for (code, rest, answer) in rows {
+        let request = addressed(code, rest)?;
+        assert_eq!(rt;
+            told(&mut tag, &request).as_slice(),
+            answer,
+            "at {code} {rest:?}"
+        );
+    }
+    Ok(())
+}
+
+#[test]
 fn commands_come_back(rt: HostRuntime) -> Result<(), Fail> {
     let mut content = ArrayVec::new();
     content.try_extend_from_slice(&[1, 2, 3, 4])?;
-    let rows: [(&[u8], T5Command); 6] = [
+    let rows: [(&[u8], T5Command); 8] = [
         (
             &[0x26, 1, 10, 6, 1],
             T5Command::Inventory {
@@ -237,6 +290,21 @@ fn commands_come_back(rt: HostRuntime) -> Result<(), Fail> {
             T5Command::Write {
                 id: None,
                 block: 9,
+                content: content.clone()?,
+            },
+        ),
+        (
+            &[0x22, 0x30, 6, 5, 4, 3, 2, 1, 4, 0xE0, 1, 2],
+            T5Command::ReadWide {
+                id: Some(ID),
+                block: 513,
+            },
+        ),
+        (
+            &[2, 0x31, 0xFF, 0x3F, 1, 2, 3, 4],
+            T5Command::WriteWide {
+                id: None,
+                block: 16383,
                 content,
             },
         ),
@@ -259,7 +327,7 @@ fn commands_come_back(rt: HostRuntime) -> Result<(), Fail> {
 
 #[test]
 fn other_frames_spell_no_command(rt: HostRuntime) -> Result<(), Fail> {
-    let rows: [&[u8]; 10] = [
+    let rows: [&[u8]; 15] = [
         &[],
         &[2],
         &[2, 2],
@@ -267,6 +335,11 @@ fn other_frames_spell_no_command(rt: HostRuntime) -> Result<(), Fail> {
         &[2, 0x20, 0, 0],
         &[2, 0x21],
         &[2, 0x23, 0],
+        &[2, 0x23, 0, 1, 0],
+        &[2, 0x30, 0],
+        &[2, 0x30, 0, 0, 0],
+        &[2, 0x31, 0],
+        &[2, 0x33, 0, 0],
         &[0x22, 0x20, 6, 5, 4, 3, 2, 1, 4],
         &[0x26, 1, 3, 14],
         &[0x26, 1, 8, 6, 5],

@@ -19,9 +19,6 @@ use t4t_tag::MOST_CODE;
 /// How many fates a line may have (this project's limit).
 const MOST_FATES: usize = 4000;
 
-/// The most blocks of a tag (this project's limit): a read names a block in one byte.
-const MOST_BLOCKS: u16 = 256;
-
 /// The first word of a line of several words.
 #[derive(Clone, Copy, Debug, PartialEq, Eq)]
 pub enum CommandName {
@@ -190,13 +187,18 @@ pub fn block_word(alloc: Global, word: &[u8]) -> Result<Option<u16>, AllocError>
     number_word(alloc, word)
 }
 
-/// The number of blocks that a word spells, from a limit on, if it does.
+/// The number of blocks that a word spells, between two limits, if it does.
 #[tactic(auto, using(std::proofs::lemmas::Fmt::decimal_injective))]
-pub fn blocks_word(alloc: Global, word: &[u8], least: u16) -> Result<Option<u16>, AllocError>
-    ensures { IfOk result (Finds (SpellsBlocks least word.now)) }
+pub fn blocks_word(
+    alloc: Global,
+    word: &[u8],
+    least: u16,
+    most: u16,
+) -> Result<Option<u16>, AllocError>
+    ensures { IfOk result (Finds (SpellsBlocks least most word.now)) }
 {
     match number_word(alloc, word)? {
-        Some(n) if least <= n && n <= MOST_BLOCKS => Ok(Some(n)),
+        Some(n) if least <= n && n <= most => Ok(Some(n)),
         _ => Ok(None),
     }
 }

@@ -6,9 +6,9 @@ use Rattle.t5t_tag.proofs.SpelledCommands.{exact_command}
 use Rattle.t5t_tag.proofs.command.T5Command.read_from.Goals as goal
 
 pub returns-clause-exact : goal.returns-clause-exact
-returns-clause-exact c = exact_command c.args.frame.now _ (search rules)
+returns-clause-exact c = exact_command c.args.frame.now _ (search rules) (search rules)
 
 pub returns-clause-none : goal.returns-clause-none
 returns-clause-none c =
     let reads : c.read_bytes.result ≡ spelled_command c.args.frame.now = search rules in
-    none_by (λ d. T5Spelling d c.args.frame.now) c.read_bytes.result (exact_command c.args.frame.now c.read_bytes.result reads)
+    none_by (λ d. T5Spelling d c.args.frame.now) c.read_bytes.result (exact_command c.args.frame.now c.read_bytes.result (search rules) reads)
