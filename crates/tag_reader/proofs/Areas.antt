@@ -1,52 +1,19 @@
 -- The area that a store's container names, and which READs it is due to ask for.
 use Rattle.std.proofs.Common.{◌≡◌, ℕ, ◌+◌, ◌*◌, ◌<◌, ◌≤◌, inl, inr, List, length, take, refl, ap, subst, arith}
-use Rattle.std.specs.Prelude.{◌/◌, ◌%◌, ◌==◌, nat_lt, slice_index, Ok, Option, Some, None}
+use Rattle.std.specs.Prelude.{◌==◌, nat_lt, slice_index, Ok}
 use Rattle.std.proofs.lemmas.Bool.{cases_lt, cases_Bool, ltb-false, eqb-true, eqb-false}
 use Rattle.std.proofs.lemmas.List.{length-take-le, get_or-take}
-use Rattle.std.proofs.Math.Nat.{div-add-mod, mul-le-mul_left, lt_of_mul-lt-mul_left}
 use Rattle.t2t_tag.specs.Store.{IsT2Store}
-use Rattle.t5t_tag.specs.Store.{IsT5Store, IsBlockSize}
 use Rattle.tlv_area.specs.declared.space.Space.{Space}
-use Rattle.tlv_area.specs.declared.container.ContainerFault.{ContainerFault}
 use Rattle.tlv_area.specs.Layout.{IsArea}
-use Rattle.tlv_area.specs.Containers.{first_fault, unless, t2_space, t2_container, t5_faults, t5_space, t5_container, high_nibble}
-use Rattle.tlv_area.specs.Stores.{four_bytes, cut, cut_by}
+use Rattle.tlv_area.specs.Containers.{t2_space, t2_container, high_nibble}
+use Rattle.tlv_area.specs.Stores.{four_bytes}
 use Rattle.tlv_area.proofs.Cuts.{none_unknown}
 use Rattle.tag_reader.specs.declared.how.How.{How}
 use Rattle.tag_reader.specs.declared.how.How.TheVariants.{T2, T4, T5}
 use Rattle.tag_reader.specs.Kinds.{IsStore, area_of}
 use Rattle.tag_reader.specs.Asked.{NeedsMore, IsNext, IsDue}
 use Rattle.tag_reader.specs.Steps.{IsBlockStore, IsOfBlocks, IsInReach, HoldsContainer}
-
--- what a Type 5 store is, in numbers
-pub record Sizes (size : ℕ) (store : List ℕ) : Type 0 where
-  pub least : 4 ≤ size
-  pub most : size ≤ 32
-  pub multiple : size % 4 ≡ 0
-  pub one : size ≤ length store
-  pub all : length store ≤ 256 * size
-  pub blocks : length store ≡ size * (length store / size)
-
-small_sizes : (size : ℕ) → IsBlockSize size → (4 ≤ size) × (size ≤ 32) × (size % 4 ≡ 0)
-small_sizes size (inl e) = (omega arith, omega arith, omega arith)
-small_sizes size (inr (inl e)) = (omega arith, omega arith, omega arith)
-small_sizes size (inr (inr (inl e))) = (omega arith, omega arith, omega arith)
-small_sizes size (inr (inr (inr e))) = (omega arith, omega arith, omega arith)
-
-pub sizes : (size : ℕ) (store : List ℕ) → IsT5Store size store → Sizes size store
-sizes size store is =
-    let small = small_sizes size is.sized in
-    let blocks : size * (length store / size) + length store % size ≡ length store = div-add-mod (length store) size in
-    let low = mul-le-mul_left size is.least in
-    let high = mul-le-mul_left size is.most in
-    record {
-      least = small.0;
-      most = small.1;
-      multiple = small.2;
-      one = omega (arith, is.whole, low, blocks);
-      all = omega (arith, is.whole, high, blocks);
-      blocks = omega (arith, is.whole, blocks);
-    }
 
 -- the area of a Type 2 tag
 pub record T2Area (store : List ℕ) (space : Space) : Type 0 where
@@ -79,16 +46,6 @@ t2_area store space is has =
       ])
     ]
 
--- what a container names is what its bytes say, cut where block numbers end
-pub t5_cut : (bytes : List ℕ) (end : ℕ) (space : Space) → cut_by (t5_container bytes) end ≡ Ok space →
-    (cut (t5_space bytes) end ≡ space) × (t5_container bytes ≡ Ok (t5_space bytes))
-t5_cut bytes end space = by_fault (first_fault (t5_faults bytes))
-  where
-    by_fault : (f : Option ContainerFault) → cut_by (unless f (t5_space bytes)) end ≡ Ok space →
-        (cut (t5_space bytes) end ≡ space) × (unless f (t5_space bytes) ≡ Ok (t5_space bytes))
-    by_fault None has = (cc, refl)
-    by_fault (Some f) has = (absurd (cc), absurd (cc))
-
 -- what is known of an area
 pub record Named (size : ℕ) (store : List ℕ) (space : Space) : Type 0 where
   pub area : IsArea space
@@ -105,14 +62,7 @@ named T2 size store space is has =
       ends = omega (arith, is.0, fits.most);
     }
 named T4 size store space is has = absurd is
-named (T5 id) size store space is has =
-    let facts = sizes size store is in
-    let b : List ℕ = four_bytes store 0 in
-    subst (λ x. Named size store x) (t5_cut b (256 * size) space has).0 (record {
-      area = record { order = omega (arith, facts.least); small = λ control. absurd (cc) };
-      begins = omega (arith, facts.least, facts.one);
-      ends = omega arith;
-    })
+named (T5 id) size store space is has = absurd is
 
 -- where more is needed, less is known than the area
 pub needs_short : (how : How) (size : ℕ) (store : List ℕ) (n : ℕ) → IsBlockStore how size store → (m : NeedsMore how size store n) → size * n < m.space.end
@@ -131,27 +81,23 @@ needs_reach T2 size store n is m =
     let same : size * n ≡ 16 * n = ap (λ s. s * n) is.0 in
     omega (arith, fits.within)
 needs_reach T4 size store n is m = absurd is
-needs_reach (T5 id) size store n is m =
-    let short = needs_short (T5 id) size store n is m in
-    let area = named (T5 id) size store m.space is m.area in
-    let below : size * n < size * 256 = omega (arith, area.ends) in
-    (lt_of_mul-lt-mul_left size below, m.within)
+needs_reach (T5 id) size store n is m = absurd is
 
 first_reach : (how : How) (size : ℕ) (store : List ℕ) (n : ℕ) → IsBlockStore how size store → n ≡ 0 → IsInReach how size store n
 first_reach T2 size store n is e = let least = is.1.least in omega arith
 first_reach T4 size store n is e = absurd is
-first_reach (T5 id) size store n is e = (omega arith, rw e (omega arith))
+first_reach (T5 id) size store n is e = absurd is
 
 -- behind the first READ a READ of blocks is asked where the walk needs more
 pub next_needs : (how : How) (size : ℕ) (store : List ℕ) (n : ℕ) → IsBlockStore how size store → IsNext how size store n → NeedsMore how size store n
 next_needs T2 size store n is next = next
 next_needs T4 size store n is next = absurd is
-next_needs (T5 id) size store n is next = next
+next_needs (T5 id) size store n is next = absurd is
 
 pub needs_next : (how : How) (size : ℕ) (store : List ℕ) (n : ℕ) → IsBlockStore how size store → NeedsMore how size store n → IsNext how size store n
 needs_next T2 size store n is needs = needs
 needs_next T4 size store n is needs = absurd is
-needs_next (T5 id) size store n is needs = needs
+needs_next (T5 id) size store n is needs = absurd is
 
 -- a READ that is due is in reach
 pub due_reach : (how : How) (size : ℕ) (store : List ℕ) (n : ℕ) → IsBlockStore how size store → IsDue how size store n → IsInReach how size store n
@@ -162,7 +108,7 @@ due_reach how size store n is (inr next) = needs_reach how size store n is (next
 pub due_below : (how : How) (size : ℕ) (store : List ℕ) (n : ℕ) → IsBlockStore how size store → IsInReach how size store n → n < 256
 due_below T2 size store n is low = let most = is.1.most in omega arith
 due_below T4 size store n is low = absurd is
-due_below (T5 id) size store n is low = low.0
+due_below (T5 id) size store n is low = absurd is
 
 -- the first bytes have the container
 four_front : (bytes : List ℕ) (n i : ℕ) → i + 3 < n → four_bytes (take n bytes) i ≡ four_bytes bytes i
@@ -172,27 +118,25 @@ four_front bytes n i low =
 pub front_area : (how : How) (size : ℕ) (store : List ℕ) → IsBlockStore how size store → area_of how size (take size store) ≡ area_of how size store
 front_area T2 size store is = ap (λ b. t2_container b) (four_front store size 12 (omega (arith, is.0)))
 front_area T4 size store is = absurd is
-front_area (T5 id) size store is =
-    let facts = sizes size store is in
-    ap (λ b. cut_by (t5_container b) (256 * size)) (four_front store size 0 (omega (arith, facts.least)))
+front_area (T5 id) size store is = absurd is
 
 -- how many bytes the first READ gives
 pub first_within : (how : How) (size : ℕ) (store : List ℕ) → IsBlockStore how size store → size ≤ length store
 first_within T2 size store is = let least = is.1.least in omega (arith, is.0)
 first_within T4 size store is = absurd is
-first_within (T5 id) size store is = (sizes size store is).one
+first_within (T5 id) size store is = absurd is
 
 pub some_size : (how : How) (size : ℕ) (store : List ℕ) → IsBlockStore how size store → 0 < size
 some_size T2 size store is = omega (arith, is.0)
 some_size T4 size store is = absurd is
-some_size (T5 id) size store is = let least = (sizes size store is).least in omega arith
+some_size (T5 id) size store is = absurd is
 
 pub holds_container : (how : How) (size : ℕ) (store bytes : List ℕ) → IsBlockStore how size store → length bytes ≡ size → HoldsContainer how bytes
 holds_container T2 size store bytes is e = omega (arith, is.0)
 holds_container T4 size store bytes is e = absurd is
-holds_container (T5 id) size store bytes is e = let facts = sizes size store is in (omega (arith, facts.least), omega (arith, facts.most))
+holds_container (T5 id) size store bytes is e = absurd is
 
 pub block_store : (how : How) (size : ℕ) (store : List ℕ) → IsOfBlocks how → IsStore how size store → IsBlockStore how size store
 block_store T2 size store blocks is = is
 block_store T4 size store blocks is = absurd blocks
-block_store (T5 id) size store blocks is = is
+block_store (T5 id) size store blocks is = absurd blocks

@@ -13,7 +13,11 @@ use Rattle.tag_reader.specs.declared.how.How.TheVariants.{T2, T4, T5}
 use Rattle.tag_reader.specs.declared.fault.ReadFault.TheVariants as fault
 use Rattle.tag_reader.specs.Calls.{ByLink}
 use Rattle.tag_reader.specs.Steps.{of_link}
-use Rattle.tag_reader.specs.Heard.{next_command, asked_for, HasContent, IsPiece, Brings, Refuses, IsOdd, IsBroughtBy, tag_after, IsBrought, IsStopped, IsFaultBy}
+use Rattle.t5t_tag.specs.Step.{no_block}
+use Rattle.tag_reader.specs.declared.ask.Ask.{Ask}
+use Rattle.tag_reader.specs.declared.ask.Ask.TheVariants.{One, Many}
+use Rattle.tag_reader.specs.Blocks.{IsOne, IsMany}
+use Rattle.tag_reader.specs.Heard.{ask_behind, BringsPiece, EndsTag, IsLast, next_command, asked_for, HasContent, IsPiece, Brings, Refuses, IsOdd, IsBroughtBy, tag_after, IsBrought, IsStopped, IsFaultBy}
 use Rattle.tag_reader.specs.HeardSteps.{HasNoForm, Went, Under}
 use Rattle.tag_reader.proofs.Links.{began, began_by}
 
@@ -157,10 +161,52 @@ content_free (T5 id) r p code is refuses =
 
 -- an answer that is no piece
 pub no_piece : (how : How) (ps : List (List ℕ)) (r : Signal) (p : List ℕ) → HasContent how r p → (IsPiece how ps p → ⊥) → IsOdd how ps r
-no_piece how ps r p is none = record {
-  no_piece = λ q brings. none (subst (λ x. IsPiece how ps x) (sym (content_one how r q p brings.content is) ∙ refl) brings.piece);
-  no_refusal = λ code refuses. content_free how r p code is refuses;
-}
+no_piece how ps r p is none = record { no_piece = λ q brings. by_kind how is none q brings; no_refusal = λ code refuses. content_free how r p code is refuses }
+  where
+    other : (h : How) → HasContent h r p → (IsPiece h ps p → ⊥) → (q : List ℕ) → BringsPiece h ps r q → ⊥
+    other h has free q brings = free (subst (λ x. IsPiece h ps x) (sym (content_one h r q p brings.content has)) brings.piece)
+
+    by_kind : (h : How) → HasContent h r p → (IsPiece h ps p → ⊥) → (q : List ℕ) → Brings h ps r q → ⊥
+    by_kind T2 has free q brings = other T2 has free q brings
+    by_kind T4 has free q brings = other T4 has free q brings
+    by_kind (T5 id) has free q (inl brings) = other (T5 id) has free q brings
+    by_kind (T5 id) has free q (inr falls) = content_free (T5 id) r p falls.code has falls.error
 
 pub no_form : (how : How) (ps : List (List ℕ)) (r : Signal) → HasNoForm how r → IsOdd how ps r
-no_form how ps r is = record { no_piece = λ p brings. is.no_content p brings.content; no_refusal = is.no_refusal }
+no_form how ps r is = record { no_piece = λ p brings. by_kind how is p brings; no_refusal = is.no_refusal }
+  where
+    by_kind : (h : How) → HasNoForm h r → (q : List ℕ) → Brings h ps r q → ⊥
+    by_kind T2 none q brings = none.no_content q brings.content
+    by_kind T4 none q brings = none.no_content q brings.content
+    by_kind (T5 id) none q (inl brings) = none.no_content q brings.content
+    by_kind (T5 id) none q (inr falls) = none.no_refusal falls.code falls.error
+
+pub piece_brings : (how : How) (ps : List (List ℕ)) (r : Signal) (p : List ℕ) → HasContent how r p → IsPiece how ps p → Brings how ps r p
+piece_brings T2 ps r p content piece = record { content = content; piece = piece }
+piece_brings T4 ps r p content piece = record { content = content; piece = piece }
+piece_brings (T5 id) ps r p content piece = inl (record { content = content; piece = piece })
+
+-- an answer brings one piece, and none that does refuses the last command or ends the tag
+pub brings_one : (how : How) (ps : List (List ℕ)) (r : Signal) (p q : List ℕ) → Brings how ps r p → Brings how ps r q → q ≡ p
+brings_one T2 ps r p q is other = content_one T2 r p q is.content other.content
+brings_one T4 ps r p q is other = content_one T4 r p q is.content other.content
+brings_one (T5 id) ps r p q (inl is) (inl other) = content_one (T5 id) r p q is.content other.content
+brings_one (T5 id) ps r p q (inl is) (inr other) = absurd (content_free (T5 id) r p other.code is.content other.error)
+brings_one (T5 id) ps r p q (inr is) (inl other) = absurd (content_free (T5 id) r q is.code other.content is.error)
+brings_one (T5 id) ps r p q (inr is) (inr other) = other.none ∙ sym is.none
+
+not_both : (a : Ask) → IsOne a → IsMany a → ⊥
+not_both (One block) one many = many
+not_both (Many block more) one many = one
+
+pub brings_free : (how : How) (ps : List (List ℕ)) (r : Signal) (p : List ℕ) (code : ℕ) → Brings how ps r p → IsLast how ps → Refuses how r code → ⊥
+brings_free T2 ps r p code is last refuses = content_free T2 r p code is.content refuses
+brings_free T4 ps r p code is last refuses = content_free T4 r p code is.content refuses
+brings_free (T5 id) ps r p code (inl is) last refuses = content_free (T5 id) r p code is.content refuses
+brings_free (T5 id) ps r p code (inr is) last refuses = not_both (ask_behind ps) last is.many
+
+pub brings_ends : (how : How) (ps : List (List ℕ)) (r : Signal) (p : List ℕ) → Brings how ps r p → EndsTag how ps r → ⊥
+brings_ends T2 ps r p is ends = ends
+brings_ends T4 ps r p is ends = ends
+brings_ends (T5 id) ps r p (inl is) ends = content_free (T5 id) r p no_block is.content ends.2
+brings_ends (T5 id) ps r p (inr is) ends = not_both (ask_behind ps) ends.1 is.many

@@ -1,6 +1,6 @@
 -- How a reading ends.
 use Rattle.std.proofs.Common.{◌≡◌, ℕ, suc, ◌+◌, ◌*◌, ◌<◌, ◌≤◌, inl, inr, ◌⊎◌, true, false, List, [], ◌∷◌, ◌++◌, length, take, drop, refl, sym, ◌∙◌, ap, subst, append-nil, arith}
-use Rattle.std.specs.Prelude.{min, slice_index, Some, None, Result, Ok, Err}
+use Rattle.std.specs.Prelude.{min, slice_index, Some, None, Ok, Err}
 use Rattle.std.proofs.lemmas.List.{length-append, length-take-le, take_all, length-take, get_or_append_left}
 use Rattle.std.proofs.Math.Seq.{take-append_seam}
 use Rattle.nfc_base.specs.TagLinks.{LinkView, AskCause}
@@ -15,10 +15,10 @@ use Rattle.tlv_area.specs.declared.walk.Walk.{Walk}
 use Rattle.tlv_area.specs.declared.walk.Walk.TheVariants as walk
 use Rattle.tlv_area.specs.Layout.{bytes_at}
 use Rattle.tlv_area.specs.Form as form
-use Rattle.tlv_area.specs.Containers.{t2_container, t5_container, t5_space}
-use Rattle.tlv_area.specs.Stores.{four_bytes, cut, cut_by, IsFormBy}
+use Rattle.tlv_area.specs.Containers.{t2_container}
+use Rattle.tlv_area.specs.Stores.{four_bytes, IsFormBy}
 use Rattle.tlv_area.specs.Map.{IsWalk, IsSettled, TellsForm, IsPlacedIn, message_cells, message_place, map_cells}
-use Rattle.tlv_area.proofs.Cuts.{settled_form, cuts_settle}
+use Rattle.tlv_area.proofs.Cuts.{settled_form}
 use Rattle.tlv_area.proofs.OneNext.{needs_more}
 use Rattle.tag_reader.specs.declared.how.How.{How}
 use Rattle.tag_reader.specs.declared.how.How.TheVariants.{T2, T4, T5}
@@ -29,62 +29,41 @@ use Rattle.tag_reader.specs.Asked.{IsDue, NeedsMore}
 use Rattle.tag_reader.specs.Calls.{Stays, HasAsked, HasAskedAll, GoesOn, ByLink}
 use Rattle.tag_reader.specs.Reading.{IsReadFault, is_told, IsToldOrMemory, IsCalm}
 use Rattle.tag_reader.specs.Steps.{IsBlockStore, Answers, Fails, Asks, Knows, Walks, IsLinkFault, IsInReach, IsMapFound, IsRead, Reads, IsCutFault, of_link, of_container}
-use Rattle.tag_reader.proofs.Areas.{sizes, t5_cut, next_needs, needs_next, named, some_size, needs_short, due_reach}
+use Rattle.tag_reader.proofs.Areas.{next_needs, needs_next, some_size, needs_short, due_reach}
 use Rattle.tag_reader.proofs.Knowing.{last_more, due_more, answered_more, stays_on, goes_on_on, walk_front, store_goes_on, read_goes_on}
 
 -- what a settled walk over a store tells of it
-abbrev pub TellsStore : How → List ℕ → Walk → Type 0
-TellsStore how store (walk.Held m) = IsStoreForm how store (form.Message (bytes_at store (message_cells m)))
-TellsStore how store walk.NoMessageTlv = IsStoreForm how store form.NoMessageTlv
-TellsStore how store walk.BadTlv = IsStoreForm how store form.BadTlv
-TellsStore how store walk.More = ⊥
+abbrev pub TellsStore : How → ℕ → List ℕ → Walk → Type 0
+TellsStore how size store (walk.Held m) = IsStoreForm how size store (form.Message (bytes_at store (message_cells m)))
+TellsStore how size store walk.NoMessageTlv = IsStoreForm how size store form.NoMessageTlv
+TellsStore how size store walk.BadTlv = IsStoreForm how size store form.BadTlv
+TellsStore how size store walk.More = ⊥
 
 -- the form of an area is that of the store whose container names it
-named_two : (store : List ℕ) (space : Space) (w : Walk) → t2_container (four_bytes store 12) ≡ Ok space → TellsForm space store w → TellsStore T2 store w
+named_two : (store : List ℕ) (space : Space) (w : Walk) → t2_container (four_bytes store 12) ≡ Ok space → TellsForm space store w → TellsStore T2 16 store w
 named_two store space (walk.Held m) has is = subst (λ r. IsFormBy r store (form.Message (bytes_at store (message_cells m)))) (sym has) is
 named_two store space walk.NoMessageTlv has is = subst (λ r. IsFormBy r store form.NoMessageTlv) (sym has) is
 named_two store space walk.BadTlv has is = subst (λ r. IsFormBy r store form.BadTlv) (sym has) is
 named_two store space walk.More has is = is
 
-named_five : (id store : List ℕ) (space : Space) (w : Walk) → t5_container (four_bytes store 0) ≡ Ok space → TellsForm (cut space (length store)) store w → TellsStore (T5 id) store w
-named_five id store space (walk.Held m) has is = subst (λ r. IsFormBy (cut_by r (length store)) store (form.Message (bytes_at store (message_cells m)))) (sym has) is
-named_five id store space walk.NoMessageTlv has is = subst (λ r. IsFormBy (cut_by r (length store)) store form.NoMessageTlv) (sym has) is
-named_five id store space walk.BadTlv has is = subst (λ r. IsFormBy (cut_by r (length store)) store form.BadTlv) (sym has) is
-named_five id store space walk.More has is = is
-
--- an area that is cut twice is cut where the nearer end is
-cut_twice : (space : Space) (far near : ℕ) → near ≤ far → cut (cut space far) near ≡ cut space near
-cut_twice space far near low = let e : min (min space.end far) near ≡ min space.end near = omega arith in ap (λ n. record space { end = n }) e
-
 pub tells_store : (how : How) (size : ℕ) (store : List ℕ) (space : Space) (w : Walk) → IsBlockStore how size store → area_of how size store ≡ Ok space → IsSettled w →
-    IsWalk space store w → TellsStore how store w
+    IsWalk space store w → TellsStore how size store w
 tells_store T2 size store space w is has settled walks = named_two store space w has (settled_form space store w settled walks)
 tells_store T4 size store space w is has settled walks = absurd is
-tells_store (T5 id) size store space w is has settled walks =
-    let facts = sizes size store is in
-    let area = named (T5 id) size store space is has in
-    let names = t5_cut (four_bytes store 0) (256 * size) space has in
-    let whole : Space = t5_space (four_bytes store 0) in
-    let ends : cut space (length store) ≡ cut whole (length store) =
-    ap (λ s. cut s (length store)) (sym names.0) ∙ cut_twice whole (256 * size) (length store) facts.all in
-    named_five id store whole w names.1 (subst (λ s. TellsForm s store w) ends (cuts_settle space store w area.begins settled walks))
+tells_store (T5 id) size store space w is has settled walks = absurd is
 
 -- a container's fault is the store's
-pub container_form : (how : How) (size : ℕ) (store : List ℕ) (f : ContainerFault) → IsBlockStore how size store → area_of how size store ≡ Err f → IsStoreForm how store (form.Faulty f)
+pub container_form : (how : How) (size : ℕ) (store : List ℕ) (f : ContainerFault) → IsBlockStore how size store → area_of how size store ≡ Err f → IsStoreForm how size store (form.Faulty f)
 container_form T2 size store f is has = subst (λ r. IsFormBy r store (form.Faulty f)) (sym has) refl
 container_form T4 size store f is has = absurd is
-container_form (T5 id) size store f is has = by_container (t5_container (four_bytes store 0)) has
-  where
-    by_container : (r : Result Space ContainerFault) → cut_by r (256 * size) ≡ Err f → IsFormBy (cut_by r (length store)) store (form.Faulty f)
-    by_container (Ok space) e = absurd (cc)
-    by_container (Err g) e = (let same : form.Faulty f ≡ form.Faulty g = cc in same)
+container_form (T5 id) size store f is has = absurd is
 
-pub container_fault : (how : How) (store : List ℕ) (a b : LinkView) (f : ContainerFault) → IsStoreForm how store (form.Faulty f) → IsReadFault how store a b (of_container f)
-container_fault how store a b container.NotNdef is = is
-container_fault how store a b container.Version is = is
-container_fault how store a b container.NoRead is = is
-container_fault how store a b container.Sectors is = is
-container_fault how store a b container.BadSize is = is
+pub container_fault : (how : How) (size : ℕ) (store : List ℕ) (a b : LinkView) (f : ContainerFault) → IsStoreForm how size store (form.Faulty f) → IsReadFault how size store a b (of_container f)
+container_fault how size store a b container.NotNdef is = is
+container_fault how size store a b container.Version is = is
+container_fault how size store a b container.NoRead is = is
+container_fault how size store a b container.Sectors is = is
+container_fault how size store a b container.BadSize is = is
 
 pub container_told : (f : ContainerFault) → is_told (of_container f) ≡ true
 container_told container.NotNdef = refl
@@ -95,12 +74,12 @@ container_told container.BadSize = refl
 
 -- what was asked, where all of it was answered
 pub knows_asked : (how : How) (size : ℕ) (a b : LinkView) (known : List ℕ) (n : ℕ) → Knows how size a b known n → HasAsked how size a.state.store a b
-knows_asked how size a b known n k = record { count = n + 1; each = k.each; answered = k.answered; last = inl (k.last ∙ sym (last_more how a.state.store a n), k.goes_on.over ∙ sym k.before) }
+knows_asked how size a b known n k = record { count = n + 1; each = k.each; answered = k.answered; last = inl (k.last ∙ sym (last_more how size a.state.store a n), k.goes_on.over ∙ sym k.before) }
 
 knows_all : (how : How) (size : ℕ) (a b : LinkView) (known : List ℕ) (n : ℕ) → Knows how size a b known n → (IsDue how size a.state.store (n + 1) → ⊥) →
     HasAskedAll how size a.state.store a b
 knows_all how size a b known n k ends = record {
-  commands = first how a.state.store (n + 1);
+  commands = first how size a.state.store (n + 1);
   all = record { count = n + 1; list = refl; each = k.each; no_more = ends };
   answered = k.answered;
 }
@@ -113,7 +92,7 @@ ends_container how size a b known f is k has = record {
   asked = knows_asked how size a b known 0 k;
   whole = λ told. knows_all how size a b known 0 k none;
   goes_on = λ told. k.goes_on;
-  tells = container_fault how a.state.store a b f (container_form how size a.state.store f is has);
+  tells = container_fault how size a.state.store a b f (container_form how size a.state.store f is has);
   calm = λ begun lit quiet. inl (container_told f);
 }
   where
@@ -140,7 +119,7 @@ module _ (how : How) (size : ℕ) (a b : LinkView) (known front : List ℕ) (spa
       let more = subst (λ s. form.NeedsMore s (take (size * (n + 1)) a.state.store)) same m.more in
       subst IsSettled (needs_more space (take (size * (n + 1)) a.state.store) w walks.fits.order at_read more) settled
 
-  pub settles : TellsStore how a.state.store w
+  pub settles : TellsStore how size a.state.store w
   settles = tells_store how size a.state.store space w is walks.area settled at_store
 
   pub settled_walk : IsWalk space a.state.store w
@@ -150,14 +129,14 @@ module _ (how : How) (size : ℕ) (a b : LinkView) (known front : List ℕ) (spa
   settled_all = knows_all how size a b known n walks.knows no_more
 
 -- bytes that lie in a front
-bytes_front : (front more cells : List ℕ) → ((i : ℕ) → i < length cells → slice_index cells i < length front) → bytes_at (front ++ more) cells ≡ bytes_at front cells
+pub bytes_front : (front more cells : List ℕ) → ((i : ℕ) → i < length cells → slice_index cells i < length front) → bytes_at (front ++ more) cells ≡ bytes_at front cells
 bytes_front front more [] below = refl
 bytes_front front more (c ∷ cells) below =
     let here : slice_index (front ++ more) c ≡ slice_index front c = get_or_append_left front more 0 c (below 0 (omega arith)) in
     let rest = bytes_front front more cells (λ i low. below (suc i) (omega arith)) in
     ap (λ b. b ∷ bytes_at (front ++ more) cells) here ∙ ap (λ bs. slice_index front c ∷ bs) rest
 
-cells_below : (front : List ℕ) (m : AreaMap) → IsPlacedIn front m → (i : ℕ) → i < length (message_cells m) → slice_index (message_cells m) i < length front
+pub cells_below : (front : List ℕ) (m : AreaMap) → IsPlacedIn front m → (i : ℕ) → i < length (message_cells m) → slice_index (message_cells m) i < length front
 cells_below front m places i low = places.below i (omega (arith, length-take m.length (drop (message_place m) (map_cells m))))
 
 -- a message is found
@@ -181,7 +160,7 @@ map_found how size a b known front space n m is walks e there places =
       area = walks.area ∙ ap (λ s. Ok s) (sym walked.0);
       found = (refl, walked.1, walked.2, walked.3, walked.4);
       placed = record { placed = places.placed; below = λ i low. omega (arith, places.below i low, longer) };
-      held = subst (λ bs. IsStoreForm how store (form.Message bs)) bytes form';
+      held = subst (λ bs. IsStoreForm how size store (form.Message bs)) bytes form';
     }
 
 -- a fault of the link
@@ -193,11 +172,11 @@ fault_on a b c e stays over lit (inr by) = inr (by.0, by.1, (by.2.0, by_link by.
     by_link (inl was) = (let clash : None ≡ Some by.0 = sym over ∙ was in absurd (cc))
     by_link (inr cause) = inr (cause_on a b c by.0 stays.rises lit cause)
 
-link_fault : (how : How) (store : List ℕ) (a b : LinkView) (e : ReadFault) → IsLinkFault a b e → IsReadFault how store a b e
-link_fault how store a b e (inl memory) = subst (λ x. IsReadFault how store a b x) (sym memory.0) (inl memory.1)
-link_fault how store a b e (inr by) = subst (λ x. IsReadFault how store a b x) (sym by.1) (go by.0 by.2)
+link_fault : (how : How) (size : ℕ) (store : List ℕ) (a b : LinkView) (e : ReadFault) → IsLinkFault a b e → IsReadFault how size store a b e
+link_fault how size store a b e (inl memory) = subst (λ x. IsReadFault how size store a b x) (sym memory.0) (inl memory.1)
+link_fault how size store a b e (inr by) = subst (λ x. IsReadFault how size store a b x) (sym by.1) (go by.0 by.2)
   where
-    go : (f : AskFault) → ByLink a b f → IsReadFault how store a b (of_link f)
+    go : (f : AskFault) → ByLink a b f → IsReadFault how size store a b (of_link f)
     go ask.FieldLost is = is
     go ask.SixBad is = is
     go ask.Memory is = inr is
@@ -217,7 +196,7 @@ untold : (e : ReadFault) (P : Type 0) → is_told e ≡ false → is_told e ≡ 
 untold e P not_told is = (let clash : false ≡ true = sym not_told ∙ is in absurd (cc))
 
 -- the first READ isn't answered, or its answer finds no memory
-pub ends_first : (how : How) (size : ℕ) (a b : LinkView) (known : List ℕ) (e : ReadFault) → Fails (command how a.state.store 0) a b e → Reads how size a b known (Err e)
+pub ends_first : (how : How) (size : ℕ) (a b : LinkView) (known : List ℕ) (e : ReadFault) → Fails (command how size a.state.store 0) a b e → Reads how size a b known (Err e)
 ends_first how size a b known e f = record {
   stays = f.stays;
   asked = elim f.asked [
@@ -231,7 +210,7 @@ ends_first how size a b known e f = record {
   ];
   whole = untold e (HasAskedAll how size a.state.store a b) (link_untold a b e f.fault');
   goes_on = untold e (GoesOn a b) (link_untold a b e f.fault');
-  tells = link_fault how a.state.store a b e f.fault';
+  tells = link_fault how size a.state.store a b e f.fault';
   calm = λ begun lit quiet. inr (f.calm begun lit quiet);
 }
 
@@ -243,12 +222,12 @@ knows_asks how size a b known n k = record {
   goes_on = k.goes_on;
   each = k.each;
   answered = k.answered;
-  last = k.last ∙ sym (last_more how a.state.store a n);
+  last = k.last ∙ sym (last_more how size a.state.store a n);
 }
 
 -- a later one
 pub ends_asks : (how : How) (size : ℕ) (a b c : LinkView) (known : List ℕ) (n : ℕ) (e : ReadFault) → Asks how size a b n →
-    IsDue how size a.state.store n → Fails (command how a.state.store n) b c e → Reads how size a c known (Err e)
+    IsDue how size a.state.store n → Fails (command how size a.state.store n) b c e → Reads how size a c known (Err e)
 ends_asks how size a b c known n e k due f =
     let fault' = fault_on a b c e k.stays k.goes_on.over k.goes_on.lit f.fault' in
     let open' : b.over ≡ a.over = k.goes_on.over ∙ sym k.before in
@@ -264,20 +243,20 @@ ends_asks how size a b c known n e k due f =
         | inr one ↦ record {
           count = n + 1;
           each = due_more how size a.state.store n k.each due;
-          answered = answered_more how a.state.store a.answered b.answered c.answered n k.answered one.0;
-          last = inl (one.1 ∙ sym (last_more how a.state.store a n), one.2 ∙ open');
+          answered = answered_more how size a.state.store a.answered b.answered c.answered n k.answered one.0;
+          last = inl (one.1 ∙ sym (last_more how size a.state.store a n), one.2 ∙ open');
         }
       ];
       whole = untold e (HasAskedAll how size a.state.store a c) (link_untold a c e fault');
       goes_on = untold e (GoesOn a c) (link_untold a c e fault');
-      tells = link_fault how a.state.store a c e fault';
+      tells = link_fault how size a.state.store a c e fault';
       calm = λ begun lit quiet. inr (f.calm k.goes_on.over k.goes_on.lit (omega (arith, quiet, k.stays.rises.noise, f.stays.rises.noise)));
     }
 
 pub ends_later : (how : How) (size : ℕ) (a b c : LinkView) (known known' : List ℕ) (n : ℕ) (e : ReadFault) → Knows how size a b known n →
-    IsDue how size a.state.store (n + 1) → Fails (command how b.state.store (n + 1)) b c e → Reads how size a c known' (Err e)
+    IsDue how size a.state.store (n + 1) → Fails (command how size b.state.store (n + 1)) b c e → Reads how size a c known' (Err e)
 ends_later how size a b c known known' n e k due f =
-    ends_asks how size a b c known' (n + 1) e (knows_asks how size a b known n k) due (subst (λ s. Fails (command how s (n + 1)) b c e) k.stays.store f)
+    ends_asks how size a b c known' (n + 1) e (knows_asks how size a b known n k) due (subst (λ s. Fails (command how size s (n + 1)) b c e) k.stays.store f)
 
 -- the walk over what is known needs more
 pub due_next : (how : How) (size : ℕ) (a b : LinkView) (known front : List ℕ) (space : Space) (n : ℕ) → Walks how size a b known space n → front ≡ take space.end known →
@@ -325,38 +304,20 @@ ends_at how size a b known space n is walks m end =
       short = omega (arith, ap (λ s. s.end) area);
     }
 
--- the form of a store that ends before its area
-pub cut_form : (id : List ℕ) (size : ℕ) (store : List ℕ) (space : Space) (f : form.Form) → area_of (T5 id) size store ≡ Ok space → length store < space.end →
-    form.IsForm (record space { end = length store }) store f → IsStoreForm (T5 id) store f
-cut_form id size store space f has short is =
-    let names = t5_cut (four_bytes store 0) (256 * size) space has in
-    let whole : Space = t5_space (four_bytes store 0) in
-    let ends : min whole.end (256 * size) ≡ space.end = ap (λ s. s.end) names.0 in
-    let least : length store ≡ min whole.end (length store) = omega arith in
-    let same : record space { end = length store } ≡ cut whole (length store) =
-    ap {B = Space} (λ (s : Space). record s { end = length store }) (sym names.0) ∙ ap {B = Space} (λ (p : ℕ). record whole { end = p }) least in
-    subst (λ r. IsFormBy (cut_by r (length store)) store f) (sym names.1) (subst (λ s. form.IsForm s store f) same is)
-
 cut_told : (how : How) (size : ℕ) (a b : LinkView) (known : List ℕ) (space : Space) (e : ReadFault) (n : ℕ) → IsBlockStore how size a.state.store →
     IsInReach how size a.state.store n → length a.state.store ≡ size * n → area_of how size a.state.store ≡ Ok space → Ends space a.state.store known →
-    IsCutFault space known e → IsReadFault how a.state.store a b e
+    IsCutFault space known e → IsReadFault how size a.state.store a b e
 cut_told T2 size a b known space e n is low end has ends cut' = (let same : size * n ≡ 16 * n = ap (λ s. s * n) is.0 in absurd (omega arith))
 cut_told T4 size a b known space e n is low end has ends cut' = absurd is
-cut_told (T5 id) size a b known space e n is low end has ends cut' =
-    let store : List ℕ = a.state.store in
-    let short : length store < space.end = subst (λ xs. length xs < space.end) ends.same ends.short in
-    elim (subst (λ xs. IsCutFault space xs e) ends.same cut') [
-      | inl none ↦ subst (λ x. IsReadFault (T5 id) store a b x) (sym none.0) (cut_form id size store space form.NoMessageTlv has short none.1)
-      | inr bad ↦ subst (λ x. IsReadFault (T5 id) store a b x) (sym bad.0) (cut_form id size store space form.BadTlv has short bad.1)
-    ]
+cut_told (T5 id) size a b known space e n is low end has ends cut' = absurd is
 
-cut_is_told : (space : Space) (known : List ℕ) (e : ReadFault) → IsCutFault space known e → is_told e ≡ true
+pub cut_is_told : (space : Space) (known : List ℕ) (e : ReadFault) → IsCutFault space known e → is_told e ≡ true
 cut_is_told space known e (inl none) = ap is_told none.0
 cut_is_told space known e (inr bad) = ap is_told bad.0
 
 -- the tag ends before its area
 pub ends_cut : (how : How) (size : ℕ) (a b c : LinkView) (known : List ℕ) (space : Space) (n : ℕ) (e : ReadFault) → IsBlockStore how size a.state.store →
-    Walks how size a b known space n → NeedsMore how size a.state.store (n + 1) → Answers (command how b.state.store (n + 1)) b c → length a.state.store ≡ size * (n + 1) →
+    Walks how size a b known space n → NeedsMore how size a.state.store (n + 1) → Answers (command how size b.state.store (n + 1)) b c → length a.state.store ≡ size * (n + 1) →
     IsCutFault space known e → Reads how size a c known (Err e)
 ends_cut how size a b c known space n e is walks m answers end cut' =
     let k = walks.knows in
@@ -364,18 +325,18 @@ ends_cut how size a b c known space n e is walks m answers end cut' =
     let due = inr (needs_next how size a.state.store (n + 1) is m) in
     let each = due_more how size a.state.store (n + 1) k.each due in
     let same : b.state.store ≡ a.state.store = k.stays.store in
-    let answered = answered_more how a.state.store a.answered b.answered c.answered (n + 1) k.answered
-    (answers.answered ∙ ap (λ s. b.answered ++ command how s (n + 1) ∷ []) same) in
+    let answered = answered_more how size a.state.store a.answered b.answered c.answered (n + 1) k.answered
+    (answers.answered ∙ ap (λ s. b.answered ++ command how size s (n + 1) ∷ []) same) in
     record {
       stays = stays_on a b c k.stays answers.stays;
       asked = record {
         count = n + 1 + 1;
         each = each;
         answered = answered;
-        last = inl (answers.last ∙ ap (λ s. Some (command how s (n + 1))) same ∙ sym (last_more how a.state.store a (n + 1)), answers.goes_on.over ∙ sym k.before);
+        last = inl (answers.last ∙ ap (λ s. Some (command how size s (n + 1))) same ∙ sym (last_more how size a.state.store a (n + 1)), answers.goes_on.over ∙ sym k.before);
       };
       whole = λ told. record {
-        commands = first how a.state.store (n + 1 + 1);
+        commands = first how size a.state.store (n + 1 + 1);
         all = record { count = n + 1 + 1; list = refl; each = each; no_more = none };
         answered = answered;
       };
@@ -391,29 +352,29 @@ ends_cut how size a b c known space n e is walks m answers end cut' =
         omega (arith, more.within))
 
 -- where no count rose, the link didn't end by one
-pub counts_calm : (how : How) (store : List ℕ) (a b : LinkView) (e : ReadFault) → a.over ≡ None → a.dark ≡ false → b.counts ≡ a.counts → IsReadFault how store a b e →
+pub counts_calm : (how : How) (size : ℕ) (store : List ℕ) (a b : LinkView) (e : ReadFault) → a.over ≡ None → a.dark ≡ false → b.counts ≡ a.counts → IsReadFault how size store a b e →
     IsToldOrMemory e
-counts_calm how store a b fault.NotNdef begun lit same is = inl refl
-counts_calm how store a b fault.Version begun lit same is = inl refl
-counts_calm how store a b fault.NoRead begun lit same is = inl refl
-counts_calm how store a b fault.Sectors begun lit same is = inl refl
-counts_calm how store a b fault.BadSize begun lit same is = inl refl
-counts_calm how store a b fault.NoMessageTlv begun lit same is = inl refl
-counts_calm how store a b fault.BadTlv begun lit same is = inl refl
-counts_calm how store a b (fault.Refused code) begun lit same is = inl refl
-counts_calm how store a b fault.Memory begun lit same is = inr refl
-counts_calm how store a b fault.FieldLost begun lit same is = absurd (by_link is.1)
+counts_calm how size store a b fault.NotNdef begun lit same is = inl refl
+counts_calm how size store a b fault.Version begun lit same is = inl refl
+counts_calm how size store a b fault.NoRead begun lit same is = inl refl
+counts_calm how size store a b fault.Sectors begun lit same is = inl refl
+counts_calm how size store a b fault.BadSize begun lit same is = inl refl
+counts_calm how size store a b fault.NoMessageTlv begun lit same is = inl refl
+counts_calm how size store a b fault.BadTlv begun lit same is = inl refl
+counts_calm how size store a b (fault.Refused code) begun lit same is = inl refl
+counts_calm how size store a b fault.Memory begun lit same is = inr refl
+counts_calm how size store a b fault.FieldLost begun lit same is = absurd (by_link is.1)
   where
     by_link : (a.over ≡ Some ask.FieldLost) ⊎ AskCause a b ask.FieldLost → ⊥
     by_link (inl was) = (let clash : None ≡ Some ask.FieldLost = sym begun ∙ was in cc)
     by_link (inr (inl rose)) = omega (arith, ap (λ n. n.breaks) same)
     by_link (inr (inr dark)) = (let clash : false ≡ true = sym lit ∙ dark in cc)
-counts_calm how store a b fault.SixBad begun lit same is = absurd (by_link is.1)
+counts_calm how size store a b fault.SixBad begun lit same is = absurd (by_link is.1)
   where
     by_link : (a.over ≡ Some ask.SixBad) ⊎ AskCause a b ask.SixBad → ⊥
     by_link (inl was) = (let clash : None ≡ Some ask.SixBad = sym begun ∙ was in cc)
     by_link (inr rose) = omega (arith, ap (λ n. n.six_bad) same)
-counts_calm how store a b fault.Protocol begun lit same is = absurd (by_link is.1)
+counts_calm how size store a b fault.Protocol begun lit same is = absurd (by_link is.1)
   where
     by_link : (a.over ≡ Some ask.Protocol) ⊎ AskCause a b ask.Protocol → ⊥
     by_link (inl was) = (let clash : None ≡ Some ask.Protocol = sym begun ∙ was in cc)
@@ -423,7 +384,7 @@ counts_calm how store a b fault.Protocol begun lit same is = absurd (by_link is.
 pub calm_end : (how : How) (size : ℕ) (a b : LinkView) (known : List ℕ) (e : ReadFault) → Reads how size a b known (Err e) → IsCalm a b → IsToldOrMemory e
 calm_end how size a b known e reads is = elim is.calm [
   | inl quiet ↦ reads.calm is.begun is.lit quiet
-  | inr same ↦ counts_calm how a.state.store a b e is.begun is.lit same reads.tells
+  | inr same ↦ counts_calm how size a.state.store a b e is.begun is.lit same reads.tells
 ]
 
 -- a reading that a fault ended

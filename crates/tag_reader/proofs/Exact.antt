@@ -15,7 +15,7 @@ use Rattle.tag_reader.specs.declared.fault.ReadFault.TheVariants as fault
 use Rattle.tag_reader.specs.declared.found.Found.{Found}
 use Rattle.tag_reader.specs.Steps.{of_link}
 use Rattle.tag_reader.specs.Heard.{next_command, asked_for, Brings, Refuses, EndsTag, IsOdd, IsBroughtBy, IsBrought, IsStopped, IsNone, IsRefused, IsOddly, IsToldBy, TellsExactly}
-use Rattle.tag_reader.proofs.Bringing.{before_more, front_cut, content_one, content_free}
+use Rattle.tag_reader.proofs.Bringing.{before_more, front_cut, brings_one, brings_free}
 
 -- an answer is one
 some_one : (o : Option Signal) (r q : Signal) → o ≡ Some r → o ≡ Some q → q ≡ r
@@ -24,7 +24,7 @@ some_one o r q one two = (let both : Some q ≡ Some r = sym two ∙ one in cc)
 -- and so is its piece
 one_piece : (how : How) (before : List (List ℕ)) (o : Option Signal) (r t : Signal) (p q : List ℕ) → o ≡ Some r → o ≡ Some t → Brings how before r p → Brings how before t q → p ≡ q
 one_piece how before o r t p q one two is other =
-    content_one how t q p other.content (subst (λ x. Brings how before x p) (some_one o t r two one) is).content
+    brings_one how before t q p other (subst (λ x. Brings how before x p) (some_one o t r two one) is)
 
 -- as many pieces of one tag are the same
 same_pieces : (how : How) (step : TagState → Signal → TagStep) (s : TagState) (before ps qs : List (List ℕ)) → IsBroughtBy how step s before ps → IsBroughtBy how step s before qs →
@@ -103,8 +103,7 @@ one_code (T5 id) r c d is other = (let both : 1 ∷ c ∷ [] ≡ 1 ∷ d ∷ [] 
 pub ends_code : (how : How) (ps : List (List ℕ)) (r : Signal) → EndsTag how ps r → (code : ℕ) × Refuses how r code
 ends_code T2 ps r ends = absurd ends
 ends_code T4 ps r ends = absurd ends
-ends_code (T5 id) [] r ends = absurd ends
-ends_code (T5 id) (p ∷ ps) r ends = (no_block, ends)
+ends_code (T5 id) ps r ends = (no_block, ends.2)
 
 -- what a reading told where the last answer brings no piece
 abbrev Last : How → List (List ℕ) → Signal → Result Found ReadFault → Type 0
@@ -145,7 +144,7 @@ told_last how a b ps r (Err fault.Memory) stopped none told = (let more = brough
 -- the last answer refuses
 pub exactly_refused : (how : How) (a b : LinkView) (code : ℕ) (result : Result Found ReadFault) → IsToldBy how a b result → IsRefused how a b code → result ≡ Err (fault.Refused code)
 exactly_refused how a b code result told is =
-    elim (told_last how a b is.ps is.r result is.stopped (λ p brings. content_free how is.r p code brings.content is.refuses) told) [
+    elim (told_last how a b is.ps is.r result is.stopped (λ p brings. brings_free how is.ps is.r p code brings is.last is.refuses) told) [
       | inl other ↦ other.1 ∙ ap (λ c. Err (fault.Refused c)) (one_code how is.r other.0 code other.2 is.refuses)
       | inr rest ↦ elim rest [ inl odd ↦ absurd (odd.1.no_refusal code is.refuses) | inr ends ↦ absurd (is.ends ends) ]
     ]

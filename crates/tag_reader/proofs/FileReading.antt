@@ -83,7 +83,7 @@ begins size a is = record { tag = is; reached = refl; state = refl }
 due_after : (size n : ℕ) (store : List ℕ) → AreDue T4 size store n → IsDue T4 size store n → AreDue T4 size store (suc n)
 due_after size n store before here = (let e : n + 1 ≡ suc n = omega arith in subst (λ m. AreDue T4 size store m) e (due_more T4 size store n before here))
 
-asks_first : (size : ℕ) (a c : LinkView) → Answers (command T4 a.state.store 0) a c → Asks T4 size a c 1
+asks_first : (size : ℕ) (a c : LinkView) → Answers (command T4 size a.state.store 0) a c → Asks T4 size a c 1
 asks_first size a c answer = record {
   stays = answer.stays;
   before = answer.before;
@@ -93,14 +93,14 @@ asks_first size a c answer = record {
   last = answer.last;
 }
 
-asks_more : (size n : ℕ) (a b c : LinkView) → Asks T4 size a b n → IsDue T4 size a.state.store n → Answers (command T4 a.state.store n) b c → Asks T4 size a c (suc n)
+asks_more : (size n : ℕ) (a b c : LinkView) → Asks T4 size a b n → IsDue T4 size a.state.store n → Answers (command T4 size a.state.store n) b c → Asks T4 size a c (suc n)
 asks_more size n a b c asks due answer = record {
   stays = stays_on a b c asks.stays answer.stays;
   before = asks.before;
   goes_on = goes_on_on a b c asks.goes_on answer.goes_on;
   each = due_after size n a.state.store asks.each due;
-  answered = answer.answered ∙ ap (λ xs. xs ++ command T4 a.state.store n ∷ []) asks.answered
-      ∙ append_assoc a.answered (first T4 a.state.store n) (command T4 a.state.store n ∷ []);
+  answered = answer.answered ∙ ap (λ xs. xs ++ command T4 size a.state.store n ∷ []) asks.answered
+      ∙ append_assoc a.answered (first T4 size a.state.store n) (command T4 size a.state.store n ∷ []);
   last = answer.last;
 }
 
@@ -108,14 +108,14 @@ asks_more size n a b c asks due answer = record {
 pub under_next : (size n : ℕ) (a b c : LinkView) → IsUnder size a b n → IsFileDue a.state.store n → Answers (file_frame (file_command a.state.store n)) b c →
     c.state ≡ state_at a.state (suc n) → IsUnder size a c (suc n)
 under_next size zero a b c u due answer state =
-    record { tag = u.tag; reached = asks_first size a c (subst (λ v. Answers (command T4 a.state.store 0) v c) u.reached answer); state = state }
+    record { tag = u.tag; reached = asks_first size a c (subst (λ v. Answers (command T4 size a.state.store 0) v c) u.reached answer); state = state }
 under_next size (suc n) a b c u due answer state =
     record { tag = u.tag; reached = asks_more size (suc n) a b c u.reached (inr due) answer; state = state }
 
 -- it wasn't
 pub under_fails : (size n : ℕ) (a b c : LinkView) (e : ReadFault) → IsUnder size a b n → IsFileDue a.state.store n → Fails (file_frame (file_command a.state.store n)) b c e →
     EndsBy size a c e
-under_fails size zero a b c e u due f = ends_first T4 size a c [] e (subst (λ v. Fails (command T4 a.state.store 0) v c e) u.reached f)
+under_fails size zero a b c e u due f = ends_first T4 size a c [] e (subst (λ v. Fails (command T4 size a.state.store 0) v c e) u.reached f)
 under_fails size (suc n) a b c e u due f = ends_asks T4 size a b c [] (suc n) e u.reached (inr due) f
 
 has_asked : (size n : ℕ) (a b : LinkView) → Asks T4 size a b n → HasAsked T4 size a.state.store a b
@@ -123,7 +123,7 @@ has_asked size n a b asks = record { count = n; each = asks.each; answered = ask
 
 has_all : (size n : ℕ) (a b : LinkView) → Asks T4 size a b n → (IsDue T4 size a.state.store n → ⊥) → HasAskedAll T4 size a.state.store a b
 has_all size n a b asks no_more = record {
-  commands = first T4 a.state.store n;
+  commands = first T4 size a.state.store n;
   all = record { count = n; list = refl; each = asks.each; no_more = no_more };
   answered = asks.answered;
 }
@@ -141,7 +141,7 @@ under_lost size n a b u = record {
 
 -- the store has a fault
 under_told : (size n : ℕ) (a b : LinkView) (e : ReadFault) → IsUnder size a b (suc n) → (IsDue T4 size a.state.store (suc n) → ⊥) → is_told e ≡ true →
-    IsReadFault T4 a.state.store a b e → EndsBy size a b e
+    IsReadFault T4 size a.state.store a b e → EndsBy size a b e
 under_told size n a b e u no_more told is = record {
   stays = u.reached.stays;
   asked = has_asked size (suc n) a b u.reached;
@@ -154,7 +154,7 @@ under_told size n a b e u no_more told is = record {
 pub no_file : (size : ℕ) (a b : LinkView) (f : ContainerFault) → IsUnder size a b 3 → t4_container (container_in a.state.store) ≡ Err f → EndsBy size a b (of_container f)
 no_file size a b f u has =
     under_told size 2 a b (of_container f) u none (container_told f)
-    (container_fault T4 a.state.store a b f (sym (ap (λ r. file_form r (file_in a.state.store)) has)))
+    (container_fault T4 size a.state.store a b f (sym (ap (λ r. file_form r (file_in a.state.store)) has)))
   where
     none : IsDue T4 size a.state.store 3 → ⊥
     none (inl e) = (omega arith)

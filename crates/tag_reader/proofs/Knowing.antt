@@ -3,7 +3,6 @@ use Rattle.std.proofs.Common.{◌≡◌, ℕ, suc, ◌+◌, ◌*◌, ◌<◌, �
 use Rattle.std.specs.Prelude.{min, Some, Ok}
 use Rattle.std.proofs.lemmas.Bool.{cases_lt}
 use Rattle.std.proofs.lemmas.List.{take-append-drop, take-take}
-use Rattle.std.proofs.Math.Nat.{lt_of_mul-lt-mul_left, mul-le-mul_left}
 use Rattle.nfc_base.specs.Signal.{Signal}
 use Rattle.nfc_base.specs.TagLinks.{LinkView, TagState, MayAsk}
 use Rattle.nfc_base.proofs.Leading.{all_map, leads_on, all_on, rises_on}
@@ -15,14 +14,14 @@ use Rattle.tag_reader.specs.Asked.{IsDue, AreDue}
 use Rattle.tag_reader.specs.Calls.{Stays, GoesOn, last_of}
 use Rattle.tag_reader.specs.Steps.{IsBlockTag, IsBlockStore, rolling, Answers, Learns, Knows, Walks}
 use Rattle.tag_reader.proofs.Bytes.{front_is, more_known}
-use Rattle.tag_reader.proofs.Areas.{sizes, t2_area, named}
+use Rattle.tag_reader.proofs.Areas.{t2_area, named}
 
 -- one more
-pub first_more : (how : How) (store : List ℕ) (n : ℕ) → first how store (n + 1) ≡ first how store n ++ command how store n ∷ []
-first_more how store n = let e : n + 1 ≡ suc n = omega arith in ap (λ m. first how store m) e
+pub first_more : (how : How) (size : ℕ) (store : List ℕ) (n : ℕ) → first how size store (n + 1) ≡ first how size store n ++ command how size store n ∷ []
+first_more how size store n = let e : n + 1 ≡ suc n = omega arith in ap (λ m. first how size store m) e
 
-pub last_more : (how : How) (store : List ℕ) (a : LinkView) (n : ℕ) → last_of how store a (n + 1) ≡ Some (command how store n)
-last_more how store a n = let e : n + 1 ≡ suc n = omega arith in ap (λ m. last_of how store a m) e
+pub last_more : (how : How) (size : ℕ) (store : List ℕ) (a : LinkView) (n : ℕ) → last_of how size store a (n + 1) ≡ Some (command how size store n)
+last_more how size store a n = let e : n + 1 ≡ suc n = omega arith in ap (λ m. last_of how size store a m) e
 
 pub due_more : (how : How) (size : ℕ) (store : List ℕ) (n : ℕ) → AreDue how size store n → IsDue how size store n → AreDue how size store (n + 1)
 due_more how size store n before here k low = elim (cases_lt k n) [
@@ -30,11 +29,11 @@ due_more how size store n before here k low = elim (cases_lt k n) [
   | inr last ↦ (let same : n ≡ k = omega arith in subst (λ m. IsDue how size store m) same here)
 ]
 
-pub answered_more : (how : How) (store : List ℕ) (front xs ys : List Signal) (n : ℕ) → xs ≡ front ++ first how store n → ys ≡ xs ++ command how store n ∷ [] →
-    ys ≡ front ++ first how store (n + 1)
-answered_more how store front xs ys n before here =
-    here ∙ ap (λ zs. zs ++ command how store n ∷ []) before ∙ append_assoc front (first how store n) (command how store n ∷ [])
-    ∙ ap (λ zs. front ++ zs) (sym (first_more how store n))
+pub answered_more : (how : How) (size : ℕ) (store : List ℕ) (front xs ys : List Signal) (n : ℕ) → xs ≡ front ++ first how size store n → ys ≡ xs ++ command how size store n ∷ [] →
+    ys ≡ front ++ first how size store (n + 1)
+answered_more how size store front xs ys n before here =
+    here ∙ ap (λ zs. zs ++ command how size store n ∷ []) before ∙ append_assoc front (first how size store n) (command how size store n ∷ [])
+    ∙ ap (λ zs. front ++ zs) (sym (first_more how size store n))
 
 pub stays_on : (a b c : LinkView) → Stays a b → Stays b c → Stays a c
 stays_on a b c p q = record {
@@ -63,7 +62,7 @@ tag_stays how size a b is s = record {
     by_kind T4 steps = (steps.0, steps.1, λ t c store may. ap (λ st. st t c) s.leads.step ∙ steps.2 t c store (subst (λ i. MayAsk Rattle.nfc_base.specs.TagLinks.Type4 i c) s.leads.identifier may))
     by_kind (T5 id) steps = (steps.0, steps.1, λ t c store may. ap (λ st. st t c) s.leads.step ∙ steps.2 t c store may)
 
-pub knows_first : (how : How) (size : ℕ) (a b : LinkView) (known : List ℕ) → IsBlockTag how size a → Answers (command how a.state.store 0) a b → Learns size a.state.store 0 [] known true →
+pub knows_first : (how : How) (size : ℕ) (a b : LinkView) (known : List ℕ) → IsBlockTag how size a → Answers (command how size a.state.store 0) a b → Learns size a.state.store 0 [] known true →
     Knows how size a b known 0
 knows_first how size a b known is answers learns =
     let none : size * 0 ≡ 0 = omega arith in
@@ -80,7 +79,7 @@ knows_first how size a b known is answers learns =
     }
 
 pub knows_more : (how : How) (size : ℕ) (a b c : LinkView) (known known' : List ℕ) (n : ℕ) → Knows how size a b known n → IsDue how size a.state.store (n + 1) →
-    Answers (command how b.state.store (n + 1)) b c → Learns size b.state.store (n + 1) known known' true → Knows how size a c known' (n + 1)
+    Answers (command how size b.state.store (n + 1)) b c → Learns size b.state.store (n + 1) known known' true → Knows how size a c known' (n + 1)
 knows_more how size a b c known known' n k due answers learns =
     let stays = stays_on a b c k.stays answers.stays in
     let store : b.state.store ≡ a.state.store = k.stays.store in
@@ -89,9 +88,9 @@ knows_more how size a b c known known' n k due answers learns =
       before = k.before;
       goes_on = goes_on_on a b c k.goes_on answers.goes_on;
       each = due_more how size a.state.store (n + 1) k.each due;
-      answered = answered_more how a.state.store a.answered b.answered c.answered (n + 1) k.answered
-          (answers.answered ∙ ap (λ s. b.answered ++ command how s (n + 1) ∷ []) store);
-      last = answers.last ∙ ap (λ s. Some (command how s (n + 1))) store;
+      answered = answered_more how size a.state.store a.answered b.answered c.answered (n + 1) k.answered
+          (answers.answered ∙ ap (λ s. b.answered ++ command how size s (n + 1) ∷ []) store);
+      last = answers.last ∙ ap (λ s. Some (command how size s (n + 1))) store;
       bytes = learns.1 ∙ ap (λ s. known ++ take size (drop (size * (n + 1)) (rolling s))) store
           ∙ ap (λ xs. xs ++ take size (drop (size * (n + 1)) (rolling a.state.store))) k.bytes ∙ more_known a.state.store size (n + 1);
       tag = tag_stays how size b c k.tag answers.stays;
@@ -102,11 +101,7 @@ walk_within : (how : How) (size : ℕ) (store : List ℕ) (space : Space) (n : �
     size * n < length store → (space.end ≤ length store) ⊎ (size * (n + 1) ≤ length store)
 walk_within T2 size store space n is has low = inl (t2_area store space is.1 has).within
 walk_within T4 size store space n is has low = absurd is
-walk_within (T5 id) size store space n is has low =
-    let facts = sizes size store is in
-    let below = lt_of_mul-lt-mul_left size (subst (λ m. size * n < m) facts.blocks low) in
-    let next = mul-le-mul_left size below in
-    inr (omega (arith, facts.blocks, next))
+walk_within (T5 id) size store space n is has low = absurd is
 
 pub walks_at : (how : How) (size : ℕ) (a b : LinkView) (known : List ℕ) (space : Space) (n : ℕ) → IsBlockStore how size a.state.store → Knows how size a b known n →
     area_of how size a.state.store ≡ Ok space → size * n < length a.state.store → Walks how size a b known space n

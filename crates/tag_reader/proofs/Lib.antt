@@ -19,3 +19,8 @@ pub mod FileReading
 pub mod Filing
 pub mod FileAsked
 pub mod Cards
+pub mod BlockLists
+pub mod BlockAsking
+pub mod BlockTurns
+pub mod BlockEndings
+pub mod BlockCounts

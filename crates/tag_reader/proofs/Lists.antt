@@ -18,32 +18,32 @@ one_list how size store xs ys one other = elim (cases_lt one.count other.count) 
   | inl less ↦ absurd (one.no_more (other.each one.count less))
   | inr more ↦ elim (cases_lt other.count one.count) [
     | inl less ↦ absurd (other.no_more (one.each other.count less))
-    | inr rest ↦ (let same : one.count ≡ other.count = omega arith in one.list ∙ ap (λ n. first how store n) same ∙ sym other.list)
+    | inr rest ↦ (let same : one.count ≡ other.count = omega arith in one.list ∙ ap (λ n. first how size store n) same ∙ sym other.list)
   ]
 ]
 
-first_split : (how : How) (store : List ℕ) (n m : ℕ) → (rest : List Signal) × (first how store (n + m) ≡ first how store n ++ rest)
-first_split how store n zero = let e : n + 0 ≡ n = omega arith in ([], ap (λ k. first how store k) e ∙ sym (append-nil (first how store n)))
-first_split how store n (suc m) =
+first_split : (how : How) (size : ℕ) (store : List ℕ) (n m : ℕ) → (rest : List Signal) × (first how size store (n + m) ≡ first how size store n ++ rest)
+first_split how size store n zero = let e : n + 0 ≡ n = omega arith in ([], ap (λ k. first how size store k) e ∙ sym (append-nil (first how size store n)))
+first_split how size store n (suc m) =
     let e : n + suc m ≡ suc (n + m) = omega arith in
-    let part = first_split how store n m in (
-      part.0 ++ command how store (n + m) ∷ [],
-      ap (λ k. first how store k) e ∙ ap (λ xs. xs ++ command how store (n + m) ∷ []) part.1 ∙ append_assoc (first how store n) part.0 (command how store (n + m) ∷ []),
+    let part = first_split how size store n m in (
+      part.0 ++ command how size store (n + m) ∷ [],
+      ap (λ k. first how size store k) e ∙ ap (λ xs. xs ++ command how size store (n + m) ∷ []) part.1 ∙ append_assoc (first how size store n) part.0 (command how size store (n + m) ∷ []),
     )
 
 -- what is asked so far
 pub asked_front : (how : How) (size : ℕ) (store : List ℕ) (n : ℕ) (xs : List Signal) → AreDue how size store n → IsAsked how size store xs →
-    (rest : List Signal) × (xs ≡ first how store n ++ rest)
+    (rest : List Signal) × (xs ≡ first how size store n ++ rest)
 asked_front how size store n xs each all = elim (cases_lt all.count n) [
   | inl past ↦ absurd (all.no_more (each all.count past))
-  | inr within ↦ (let parts = first_split how store n (all.count - n) in
+  | inr within ↦ (let parts = first_split how size store n (all.count - n) in
       let e : n + (all.count - n) ≡ all.count = omega arith in
-      (parts.0, all.list ∙ ap (λ k. first how store k) (sym e) ∙ parts.1))
+      (parts.0, all.list ∙ ap (λ k. first how size store k) (sym e) ∙ parts.1))
 ]
 
 -- a list up to where no more is due
 pub asked_all : (how : How) (size : ℕ) (store : List ℕ) (n : ℕ) → AreDue how size store n → (IsDue how size store n → ⊥) → (xs : List Signal) × IsAsked how size store xs
-asked_all how size store n each no_more = (first how store n, record { count = n; list = refl; each = each; no_more = no_more })
+asked_all how size store n each no_more = (first how size store n, record { count = n; list = refl; each = each; no_more = no_more })
 
 pub one_due : (how : How) (size : ℕ) (store : List ℕ) → AreDue how size store 1
 one_due how size store k low = inl (omega arith)

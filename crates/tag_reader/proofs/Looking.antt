@@ -4,10 +4,8 @@ use Rattle.std.specs.Prelude.{Ok, Err, Option, Some, None}
 use Rattle.std.proofs.lemmas.Bool.{cases_lt}
 use Rattle.std.proofs.lemmas.List.{length-append, length-take-le, take_all, get_or_append_left}
 use Rattle.std.proofs.lemmas.Grind.{flat_map-append}
-use Rattle.std.proofs.Math.Nat.{lt_of_mul-lt-mul_left}
 use Rattle.nfc_base.specs.Signal.{Signal}
 use Rattle.nfc_base.specs.TagLinks.{LinkView}
-use Rattle.t5t_tag.specs.Step.{no_block}
 use Rattle.tlv_area.specs.declared.space.Space.{Space}
 use Rattle.tlv_area.specs.declared.space.AreaMap.{AreaMap}
 use Rattle.tlv_area.specs.declared.container.ContainerFault.{ContainerFault}
@@ -15,8 +13,8 @@ use Rattle.tlv_area.specs.declared.container.ContainerFault.TheVariants as conta
 use Rattle.tlv_area.specs.declared.walk.Walk.TheVariants as walk
 use Rattle.tlv_area.specs.Layout.{IsArea}
 use Rattle.tlv_area.specs.Form as form
-use Rattle.tlv_area.specs.Containers.{first_fault, unless, t2_faults, t2_space, t2_container, t5_container}
-use Rattle.tlv_area.specs.Stores.{four_bytes, cut_by, IsFormBy, IsT5Form}
+use Rattle.tlv_area.specs.Containers.{first_fault, unless, t2_faults, t2_space, t2_container}
+use Rattle.tlv_area.specs.Stores.{four_bytes, IsFormBy}
 use Rattle.tlv_area.specs.Map.{IsWalk, TellsForm, IsPlacedIn}
 use Rattle.tag_reader.specs.declared.how.How.{How}
 use Rattle.tag_reader.specs.declared.how.How.TheVariants.{T2, T4, T5}
@@ -24,18 +22,16 @@ use Rattle.tag_reader.specs.declared.fault.ReadFault.{ReadFault}
 use Rattle.tag_reader.specs.declared.fault.ReadFault.TheVariants as fault
 use Rattle.tag_reader.specs.Kinds.{IsNamed, area_of}
 use Rattle.tag_reader.specs.Steps.{IsOfBlocks, HasNumber, HoldsContainer, IsCutFault, of_container}
-use Rattle.tag_reader.specs.Heard.{IsOf, Brings, Refuses, EndsTag, IsBroughtBy, AreaSays, Says, IsNone, IsFaultBy, joined, first_size}
+use Rattle.tag_reader.specs.Heard.{IsOf, Brings, EndsTag, IsBroughtBy, AreaSays, Says, HasContainer, IsLast, IsNone, IsFaultBy, joined, first_size}
 use Rattle.tag_reader.specs.HeardSteps.{Under, GainsOr, Gains, RunsOut, Looks, Sees}
-use Rattle.tag_reader.proofs.Areas.{t5_cut}
 use Rattle.tag_reader.proofs.Knowing.{store_goes_on}
-use Rattle.tag_reader.proofs.Endings.{cut_form}
 use Rattle.tag_reader.proofs.Bringing.{went_of}
 use Rattle.tag_reader.proofs.Pieces.{whole_sizes}
 
 pub number_first : (how : How) → IsOfBlocks how → HasNumber how 0
 number_first T2 blocks = omega arith
 number_first T4 blocks = blocks
-number_first (T5 id) blocks = omega arith
+number_first (T5 id) blocks = blocks
 
 -- the link stays one of its kind
 pub of_under : (how : How) (a b : LinkView) (ps : List (List ℕ)) → IsOf how a → Under how a b ps → IsOf how b
@@ -58,12 +54,12 @@ first_brings how a b known f = (f.under.brought.pieces.0, f.under.brought.pieces
 least_piece : (how : How) (r : Signal) (p : List ℕ) → IsOfBlocks how → Brings how [] r p → 4 ≤ length p
 least_piece T2 r p blocks brings = omega (arith, brings.content.0)
 least_piece T4 r p blocks brings = absurd blocks
-least_piece (T5 id) r p blocks brings = brings.piece
+least_piece (T5 id) r p blocks brings = absurd blocks
 
 holds_piece : (how : How) (r : Signal) (p : List ℕ) → IsOfBlocks how → Brings how [] r p → HoldsContainer how p
 holds_piece T2 r p blocks brings = brings.content.0
 holds_piece T4 r p blocks brings = blocks
-holds_piece (T5 id) r p blocks brings = (brings.piece, brings.content.range.0)
+holds_piece (T5 id) r p blocks brings = blocks
 
 pub first_holds : (how : How) (a b : LinkView) (known slice : List ℕ) → IsOfBlocks how → First how a b known → slice ≡ known → HoldsContainer how slice
 first_holds how a b known slice blocks f same =
@@ -88,7 +84,12 @@ first_looks how a b known slice space blocks f same has =
 says_area : (how : How) (ps : List (List ℕ)) (f : form.Form) → IsOfBlocks how → AreaSays how ps f → Says how ps f
 says_area T2 ps f blocks is = is
 says_area T4 ps f blocks is = absurd blocks
-says_area (T5 id) ps f blocks is = is
+says_area (T5 id) ps f blocks is = absurd blocks
+
+has_container : (how : How) (bytes : List ℕ) → IsOfBlocks how → HasContainer how bytes
+has_container T2 bytes blocks = tt
+has_container T4 bytes blocks = absurd blocks
+has_container (T5 id) bytes blocks = absurd blocks
 
 lacks : (how : How) (a b : LinkView) (ps : List (List ℕ)) (f : form.Form) → IsOfBlocks how → Under how a b ps → AreaSays how ps f → IsNone how a b f
 lacks how a b ps f blocks u is = inl (record { ps = ps; brought = u.brought; over = (went_of how a b ps u is.some).over; says = says_area how ps f blocks is })
@@ -109,6 +110,7 @@ first_faulty how a b known slice f e blocks first same has told =
     subst (λ x. IsFaultBy how a b x) (sym told)
     (container_none how a b f (lacks how a b (first.piece ∷ []) (form.Faulty f) blocks first.under (record {
       some = omega arith;
+      whole = has_container how (joined (first.piece ∷ [])) blocks;
       form = subst (λ r. IsFormBy r (joined (first.piece ∷ [])) (form.Faulty f)) (sym area) refl;
     })))
 
@@ -116,39 +118,45 @@ first_faulty how a b known slice f e blocks first same has told =
 pub first_ended : (how : How) (a b : LinkView) (before known : List ℕ) (more : Bool) → GainsOr how a b [] before known (Ok more) → more ≡ false → IsFaultBy how a b (fault.Refused 16)
 first_ended how a b before known more is goes =
     let here : RunsOut how a b [] before known = subst (λ m. GainsOr how a b [] before known (Ok m)) goes is in
-    record { ps = []; r = here.r; stopped = here.stopped; refuses = here.ends; ends = no_end how here.r }
+    record { ps = []; r = here.r; stopped = here.stopped; refuses = here.ends; last = last_here how; ends = no_end how here.r }
   where
     no_end : (h : How) (r : Signal) → EndsTag h [] r → ⊥
     no_end T2 r ends = ends
     no_end T4 r ends = ends
-    no_end (T5 id) r ends = ends
+    no_end (T5 id) r ends = omega (arith, ends.0)
+
+    last_here : (h : How) → IsLast h []
+    last_here T2 = tt
+    last_here T4 = tt
+    last_here (T5 id) = tt
 
 -- what a walk over what is known settles
 some_pieces : (how : How) (a b : LinkView) (known : List ℕ) (space : Space) (n : ℕ) → (l : Looks how a b known space n) → 0 < length l.ps
 some_pieces how a b known space n l = omega (arith, l.count)
 
-known_form : (how : How) (a b : LinkView) (known front : List ℕ) (space : Space) (n : ℕ) (f : form.Form) → (l : Looks how a b known space n) → front ≡ take space.end known →
+known_form : (how : How) (a b : LinkView) (known front : List ℕ) (space : Space) (n : ℕ) (f : form.Form) → IsOfBlocks how → (l : Looks how a b known space n) → front ≡ take space.end known →
     ((more : List ℕ) → form.IsForm space (front ++ more) f) → AreaSays how l.ps f
-known_form how a b known front space n f l e settled =
+known_form how a b known front space n f blocks l e settled =
     let here : form.IsForm space known f = subst (λ xs. form.IsForm space xs f) (sym (store_goes_on known front space.end e)) (settled (drop space.end known)) in
     let area : area_of how (first_size l.ps) (joined l.ps) ≡ Ok space = ap (λ xs. area_of how (first_size l.ps) xs) (sym l.known') ∙ l.area in
     record {
       some = some_pieces how a b known space n l;
+      whole = has_container how (joined l.ps) blocks;
       form = subst (λ r. IsFormBy r (joined l.ps) f) (sym area) (subst (λ xs. form.IsForm space xs f) l.known' here);
     }
 
 pub looks_none : (how : How) (a b : LinkView) (known front : List ℕ) (space : Space) (n : ℕ) → IsOfBlocks how → Looks how a b known space n → front ≡ take space.end known →
     ((more : List ℕ) → TellsForm space (front ++ more) walk.NoMessageTlv) → IsFaultBy how a b fault.NoMessageTlv
-looks_none how a b known front space n blocks l e settled = lacks how a b l.ps form.NoMessageTlv blocks l.under (known_form how a b known front space n form.NoMessageTlv l e settled)
+looks_none how a b known front space n blocks l e settled = lacks how a b l.ps form.NoMessageTlv blocks l.under (known_form how a b known front space n form.NoMessageTlv blocks l e settled)
 
 pub looks_bad : (how : How) (a b : LinkView) (known front : List ℕ) (space : Space) (n : ℕ) → IsOfBlocks how → Looks how a b known space n → front ≡ take space.end known →
     ((more : List ℕ) → TellsForm space (front ++ more) walk.BadTlv) → IsFaultBy how a b fault.BadTlv
-looks_bad how a b known front space n blocks l e settled = lacks how a b l.ps form.BadTlv blocks l.under (known_form how a b known front space n form.BadTlv l e settled)
+looks_bad how a b known front space n blocks l e settled = lacks how a b l.ps form.BadTlv blocks l.under (known_form how a b known front space n form.BadTlv blocks l e settled)
 
-pub looks_held : (how : How) (a b : LinkView) (known front : List ℕ) (space : Space) (n : ℕ) (m : AreaMap) → Looks how a b known space n → front ≡ take space.end known →
+pub looks_held : (how : How) (a b : LinkView) (known front : List ℕ) (space : Space) (n : ℕ) (m : AreaMap) → IsOfBlocks how → Looks how a b known space n → front ≡ take space.end known →
     ((more : List ℕ) → IsWalk space (front ++ more) (walk.Held m)) → ((more : List ℕ) → TellsForm space (front ++ more) (walk.Held m)) → IsPlacedIn front m →
     Sees how a b known m
-looks_held how a b known front space n m l e there settled places =
+looks_held how a b known front space n m blocks l e there settled places =
     let read : known ≡ front ++ drop space.end known = store_goes_on known front space.end e in
     let walked : IsWalk space known (walk.Held m) = subst (λ xs. IsWalk space xs (walk.Held m)) (sym read) (there (drop space.end known)) in
     let told : TellsForm space known (walk.Held m) = subst (λ xs. TellsForm space xs (walk.Held m)) (sym read) (settled (drop space.end known)) in
@@ -160,6 +168,7 @@ looks_held how a b known front space n m l e there settled places =
       known' = l.known';
       some = some_pieces how a b known space n l;
       area = l.area ∙ ap (λ s. Ok s) (sym walked.0);
+      whole = has_container how known blocks;
       walk = (refl, walked.1, walked.2, walked.3, walked.4);
       placed = record { placed = places.placed; below = λ i low. omega (arith, places.below i low, longer) };
       held = subst (λ s. TellsForm s known (walk.Held m)) (sym walked.0) told;
@@ -200,14 +209,7 @@ numbered_by T2 a b known space n blocks l area short =
     two_size [] some is = absurd (omega (arith, some))
     two_size (p ∷ ps) some is = is.2.content.0
 numbered_by T4 a b known space n blocks l area short = absurd blocks
-numbered_by (T5 id) a b known space n blocks l area short =
-    let size : ℕ = first_size l.ps in
-    let names = t5_cut (four_bytes known 0) (256 * size) space l.area in
-    let end : space.end ≤ 256 * size = omega (arith, ap (λ s. s.end) names.0) in
-    let all : length known ≡ size * (n + 1) = l.whole ∙ ap (λ m. size * m) l.count in
-    let low : size * (n + 1) < size * 256 = omega (arith, end, all, short) in
-    let below : n + 1 < 256 = lt_of_mul-lt-mul_left size low in
-    record { number = below; below = below }
+numbered_by (T5 id) a b known space n blocks l area short = absurd blocks
 
 pub numbered : (how : How) (a b : LinkView) (known front : List ℕ) (space : Space) (n : ℕ) → IsOfBlocks how → Looks how a b known space n → IsArea space → front ≡ take space.end known →
     length front < space.end → Numbered how n
@@ -233,10 +235,7 @@ area_more T2 a b known p space n blocks l = ap (λ x. t2_container x) (four_more
     long [] is count whole = absurd (omega (arith, count))
     long (q ∷ qs) is count whole = (let all : length known ≡ 16 * (n + 1) = whole ∙ ap (λ s. s * length (q ∷ qs)) is.2.content.0 ∙ ap (λ m. 16 * m) count in omega (arith, all))
 area_more T4 a b known p space n blocks l = absurd blocks
-area_more (T5 id) a b known p space n blocks l =
-    let all : length known ≡ first_size l.ps * (n + 1) = l.whole ∙ ap (λ m. first_size l.ps * m) l.count in
-    let next : first_size l.ps * (n + 1) ≡ first_size l.ps * n + first_size l.ps = omega arith in
-    ap (λ x. cut_by (t5_container x) (256 * first_size l.ps)) (four_more known p 0 (omega (arith, all, next, l.least)))
+area_more (T5 id) a b known p space n blocks l = absurd blocks
 
 pub looks_more : (how : How) (a b c : LinkView) (known known' : List ℕ) (space : Space) (n : ℕ) (more : Bool) → IsOfBlocks how → (l : Looks how a b known space n) →
     GainsOr how a c l.ps known known' (Ok more) → more ≡ true → Looks how a c known' space (n + 1)
@@ -266,7 +265,7 @@ pub record RanOut (space : Space) (known slice : List ℕ) : Type 0 where
 space_start : (how : How) (size : ℕ) (known : List ℕ) (space : Space) → IsOfBlocks how → area_of how size known ≡ Ok space → space.start ≤ 16
 space_start T2 size known space blocks has = (let is = ok_is (first_fault (t2_faults (four_bytes known 12))) (t2_space (four_bytes known 12)) space has in omega (arith, ap (λ s. s.start) is))
 space_start T4 size known space blocks has = absurd blocks
-space_start (T5 id) size known space blocks has = (let names = t5_cut (four_bytes known 0) (256 * size) space has in omega (arith, ap (λ s. s.start) names.0))
+space_start (T5 id) size known space blocks has = absurd blocks
 
 begins_in : (how : How) (a b : LinkView) (known : List ℕ) (space : Space) (n : ℕ) → IsOfBlocks how → (l : Looks how a b known space n) → space.start ≤ length known
 begins_in T2 a b known space n blocks l = by_size l.ps l.under.brought.pieces l.count l.whole
@@ -277,11 +276,7 @@ begins_in T2 a b known space n blocks l = by_size l.ps l.under.brought.pieces l.
         (let all : length known ≡ 16 * (n + 1) = whole ∙ ap (λ s. s * length (q ∷ qs)) is.2.content.0 ∙ ap (λ m. 16 * m) count in
         omega (arith, all, space_start T2 (first_size l.ps) known space tt l.area))
 begins_in T4 a b known space n blocks l = absurd blocks
-begins_in (T5 id) a b known space n blocks l =
-    let all : length known ≡ first_size l.ps * (n + 1) = l.whole ∙ ap (λ m. first_size l.ps * m) l.count in
-    let next : first_size l.ps * (n + 1) ≡ first_size l.ps * n + first_size l.ps = omega arith in
-    let names = t5_cut (four_bytes known 0) (256 * first_size l.ps) space l.area in
-    omega (arith, all, next, l.least, ap (λ s. s.start) names.0)
+begins_in (T5 id) a b known space n blocks l = absurd blocks
 
 runs_out : (how : How) (a b c : LinkView) (known known' : List ℕ) (space : Space) (n : ℕ) (more : Bool) → (l : Looks how a b known space n) →
     GainsOr how a c l.ps known known' (Ok more) → more ≡ false → RunsOut how a c l.ps known known'
@@ -305,17 +300,7 @@ cut_none : (how : How) (a b c : LinkView) (known : List ℕ) (space : Space) (n 
     length known < space.end → form.IsForm (record space { end = length known }) known f → IsNone how a c f
 cut_none T2 a b c known space n f blocks l out short is = (let clash : 16 ≡ 0 = out.ends.1 in absurd (omega (arith, clash)))
 cut_none T4 a b c known space n f blocks l out short is = absurd blocks
-cut_none (T5 id) a b c known space n f blocks l out short is = inr (record {
-  ps = l.ps;
-  r = out.r;
-  stopped = out.stopped;
-  ends = ends_by l.ps (some_pieces (T5 id) a b known space n l) out.ends;
-  form = subst (λ xs. IsT5Form xs f) l.known' (cut_form id (first_size l.ps) known space f l.area short is);
-})
-  where
-    ends_by : (ps : List (List ℕ)) → 0 < length ps → Refuses (T5 id) out.r no_block → EndsTag (T5 id) ps out.r
-    ends_by [] some refuses = absurd (omega (arith, some))
-    ends_by (p ∷ ps) some refuses = refuses
+cut_none (T5 id) a b c known space n f blocks l out short is = absurd blocks
 
 pub looks_cut : (how : How) (a b c : LinkView) (known known' front slice : List ℕ) (space : Space) (n : ℕ) (more : Bool) (e : ReadFault) → IsOfBlocks how → (l : Looks how a b known space n) →
     GainsOr how a c l.ps known known' (Ok more) → more ≡ false → slice ≡ known' → RanOut space known slice → IsCutFault space slice e → IsFaultBy how a c e

@@ -1,8 +1,7 @@
 -- The pieces that a tag brought say one form, so a reading that finds memory tells it.
-use Rattle.std.proofs.Common.{◌≡◌, ℕ, ◌*◌, ◌<◌, ◌≤◌, ◌⊎◌, inl, inr, List, [], ◌∷◌, length, Bool, true, false, refl, sym, ◌∙◌, ap, subst, arith}
+use Rattle.std.proofs.Common.{◌≡◌, ℕ, ◌<◌, ◌≤◌, ◌⊎◌, inl, inr, List, [], ◌∷◌, length, Bool, true, false, refl, sym, ◌∙◌, ap, subst, arith}
 use Rattle.std.specs.Prelude.{nat_lt, slice_index, if◌then◌else◌, not, ◌==◌, Option, Some, None, Result, Ok, Err, IfOk}
 use Rattle.std.proofs.lemmas.Bool.{cases_Bool, ltb-false}
-use Rattle.std.proofs.lemmas.List.{length-append}
 use Rattle.nfc_base.specs.Signal.{Signal}
 use Rattle.nfc_base.specs.declared.tag_link.AskFault.TheVariants as ask
 use Rattle.nfc_base.specs.TagLinks.{TagState, TagStep, LinkView}
@@ -11,9 +10,10 @@ use Rattle.tlv_area.specs.declared.container.ContainerFault.TheVariants as conta
 use Rattle.tlv_area.specs.declared.container.FileMap.{FileMap}
 use Rattle.tlv_area.specs.Layout.{IsArea}
 use Rattle.tlv_area.specs.Form as form
-use Rattle.tlv_area.specs.Containers.{first_fault, unless, high_nibble, t2_faults, t2_space, t2_container, t4_container, t5_container}
-use Rattle.tlv_area.specs.Stores.{four_bytes, cut_by, IsT5Form}
-use Rattle.tlv_area.proofs.OneNext.{one_form_by, t5_area}
+use Rattle.tlv_area.specs.Containers.{first_fault, unless, high_nibble, t2_faults, t2_space, t2_container, t4_container}
+use Rattle.tlv_area.specs.Stores.{four_bytes, cut_by, t5_area, IsT5Form}
+use Rattle.tlv_area.proofs.OneNext.{one_form_by}
+use Rattle.tlv_area.proofs.FrontContainers.{area_in_reach, area_of_five}
 use Rattle.tag_reader.specs.declared.how.How.{How}
 use Rattle.tag_reader.specs.declared.how.How.TheVariants.{T2, T4, T5}
 use Rattle.tag_reader.specs.declared.fault.ReadFault.{ReadFault}
@@ -21,8 +21,8 @@ use Rattle.tag_reader.specs.declared.fault.ReadFault.TheVariants as fault
 use Rattle.tag_reader.specs.declared.found.Found.{Found}
 use Rattle.tag_reader.specs.Kinds.{area_of}
 use Rattle.tag_reader.specs.Files.{message_length}
-use Rattle.tag_reader.specs.Heard.{EndsTag, IsBroughtBy, IsBrought, HasHead, HasFile, FileSays, Says, IsSaid, IsCutOff, IsNone, IsRefused, IsOddly, IsToldBy, IsFormTold, joined, first_size}
-use Rattle.tag_reader.proofs.Bringing.{content_free}
+use Rattle.tag_reader.specs.Heard.{Brings, EndsTag, IsBroughtBy, IsBrought, HasHead, HasFile, FileSays, Says, IsSaid, IsCutOff, IsNone, IsRefused, IsOddly, IsToldBy, IsFormTold, joined, first_size}
+use Rattle.tag_reader.proofs.Bringing.{brings_free, brings_ends}
 use Rattle.tag_reader.proofs.Exact.{two_brought, brought_stopped, two_stopped, ends_code, over_cut}
 
 -- the area of a Type 2 tag ends behind its start
@@ -43,12 +43,13 @@ t2_is_area b = elim (cases_Bool (nat_lt 0x7E (slice_index b 2))) [
     by_fault (Some f) low = tt
 
 -- the first block of a Type 5 tag has room for the container
-five_least : (id : List ℕ) (step : TagState → Signal → TagStep) (s : TagState) (ps : List (List ℕ)) → IsBroughtBy (T5 id) step s [] ps → 0 < length ps → 4 ≤ first_size ps
-five_least id step s [] is some = absurd (omega (arith, some))
-five_least id step s (p ∷ ps) is some = is.2.piece
+pub first_block : {id : List ℕ} {r : Signal} (p : List ℕ) → Brings (T5 id) [] r p → 4 ≤ length p
+first_block p (inl is) = is.piece
+first_block p (inr falls) = absurd falls.many
 
-joined_least : (p : List ℕ) (ps : List (List ℕ)) → 4 ≤ length p → 4 ≤ length (joined (p ∷ ps))
-joined_least p ps least = omega (arith, least, length-append p (joined ps))
+pub five_least : (id : List ℕ) (step : TagState → Signal → TagStep) (s : TagState) (ps : List (List ℕ)) → IsBroughtBy (T5 id) step s [] ps → 0 < length ps → 4 ≤ first_size ps
+five_least id step s [] is some = absurd (omega (arith, some))
+five_least id step s (p ∷ ps) is some = first_block p is.2
 
 -- the pieces of a Type 4 tag
 two_heads : (ps : List (List ℕ)) (head head' : List ℕ) → HasHead ps head → HasHead ps head' → head ≡ head'
@@ -104,20 +105,20 @@ one_says T2 step s ps f g brought is other =
 one_says T4 step s ps f g brought is other = file_one ps f g is other
 one_says (T5 id) step s ps f g brought is other =
     let least : 4 ≤ first_size ps = five_least id step s ps brought is.some in
-    one_form_by (area_of (T5 id) (first_size ps) (joined ps)) (joined ps) (t5_area (four_bytes (joined ps) 0) (256 * first_size ps) (omega (arith, least))) f g is.form other.form
+    one_form_by (area_of (T5 id) (first_size ps) (joined ps)) (joined ps) (area_in_reach (first_size ps) (joined ps) (omega (arith, least))) f g is.form other.form
 
-cut_least : (how : How) (step : TagState → Signal → TagStep) (s : TagState) (ps : List (List ℕ)) (r : Signal) → IsBroughtBy how step s [] ps → EndsTag how ps r → 4 ≤ length (joined ps)
+cut_least : (how : How) (step : TagState → Signal → TagStep) (s : TagState) (ps : List (List ℕ)) (r : Signal) → IsBroughtBy how step s [] ps → EndsTag how ps r → 1 ≤ first_size ps
 cut_least T2 step s ps r brought ends = absurd ends
 cut_least T4 step s ps r brought ends = absurd ends
-cut_least (T5 id) step s [] r brought ends = absurd ends
-cut_least (T5 id) step s (p ∷ ps) r brought ends = joined_least p ps brought.2.piece
+cut_least (T5 id) step s ps r brought ends = (let least = five_least id step s ps brought ends.0 in omega (arith, least))
 
 cut_one : (how : How) (a b : LinkView) (f g : form.Form) → IsCutOff how a b f → IsCutOff how a b g → f ≡ g
 cut_one how a b f g is other =
     let same = two_stopped how a b is.ps other.ps is.r other.r is.stopped other.stopped in
     let least = cut_least how a.step a.state other.ps other.r other.stopped.pieces other.ends in
-    one_form_by (cut_by (t5_container (four_bytes (joined other.ps) 0)) (length (joined other.ps))) (joined other.ps)
-    (t5_area (four_bytes (joined other.ps) 0) (length (joined other.ps)) least) f g (subst (λ x. IsT5Form (joined x) f) same.0 is.form) other.form
+    one_form_by (cut_by (t5_area (first_size other.ps) (joined other.ps)) (length (joined other.ps))) (joined other.ps)
+    (area_of_five (first_size other.ps) (length (joined other.ps)) (joined other.ps) least (omega arith)) f g
+    (subst (λ x. IsT5Form (first_size x) (joined x) f) same.0 is.form) other.form
 
 said_one : (how : How) (a b : LinkView) (f g : form.Form) → IsSaid how a b f → IsSaid how a b g → f ≡ g
 said_one how a b f g is other =
@@ -126,8 +127,7 @@ said_one how a b f g is other =
 brought_cut : (how : How) (a b : LinkView) (ps : List (List ℕ)) (f : form.Form) → IsBrought how a b ps → IsCutOff how a b f → ⊥
 brought_cut how a b ps f is other =
     let more = brought_stopped how a b ps other.ps other.r is other.stopped in
-    let code = ends_code how other.ps other.r other.ends in
-    content_free how other.r more.0 code.0 more.1.content code.1
+    brings_ends how other.ps other.r more.0 more.1 other.ends
 
 one_none : (how : How) (a b : LinkView) (f g : form.Form) → IsNone how a b f → IsNone how a b g → f ≡ g
 one_none how a b f g (inl is) (inl other) = said_one how a b f g is other
@@ -139,7 +139,7 @@ one_none how a b f g (inr is) (inr other) = cut_one how a b f g is other
 none_refused : (how : How) (a b : LinkView) (f : form.Form) (code : ℕ) → IsNone how a b f → IsRefused how a b code → ⊥
 none_refused how a b f code (inl is) other =
     let more = brought_stopped how a b is.ps other.ps other.r is.brought other.stopped in
-    content_free how other.r more.0 code more.1.content other.refuses
+    brings_free how other.ps other.r more.0 code more.1 other.last other.refuses
 none_refused how a b f code (inr is) other =
     let same = two_stopped how a b is.ps other.ps is.r other.r is.stopped other.stopped in
     other.ends (subst (λ x. EndsTag how x other.r) same.0 (subst (λ x. EndsTag how is.ps x) same.1 is.ends))

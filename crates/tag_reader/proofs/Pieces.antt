@@ -1,43 +1,42 @@
 -- The sizes of pieces, and what one answer tells of the next.
-use Rattle.std.proofs.Common.{◌≡◌, ℕ, zero, suc, ◌+◌, ◌*◌, ◌<◌, ◌≤◌, inl, inr, List, [], ◌∷◌, ◌++◌, length, take, drop, true, false, refl, sym, ◌∙◌, ap, subst, arith}
+use Rattle.std.proofs.Common.{◌≡◌, ℕ, zero, suc, ◌+◌, ◌*◌, ◌<◌, ◌≤◌, inl, List, [], ◌∷◌, ◌++◌, length, take, drop, true, false, refl, sym, ◌∙◌, ap, subst, arith}
 use Rattle.std.specs.Prelude.{◌==◌}
-use Rattle.std.proofs.lemmas.Bool.{cases_lt, eqb-true, leb-true}
+use Rattle.std.proofs.lemmas.Bool.{eqb-true, leb-true}
 use Rattle.std.proofs.lemmas.List.{length-append, length-take-le, length-drop}
-use Rattle.std.proofs.Math.Nat.{mul-le-mul_left}
 use Rattle.nfc_base.specs.Signal.{Signal}
 use Rattle.nfc_base.specs.TagLinks.{TagState, TagStep, LinkView, IsAnswer}
-use Rattle.t5t_tag.specs.Step.{no_block}
 use Rattle.tag_reader.specs.declared.how.How.{How}
 use Rattle.tag_reader.specs.declared.how.How.TheVariants.{T2, T4, T5}
 use Rattle.tag_reader.specs.declared.fault.ReadFault.{ReadFault}
 use Rattle.tag_reader.specs.declared.fault.ReadFault.TheVariants as fault
 use Rattle.tag_reader.specs.Kinds.{command}
 use Rattle.tag_reader.specs.Steps.{IsOfBlocks, IsBlockStore, rolling}
-use Rattle.tag_reader.specs.Heard.{next_command, HasContent, IsPiece, Refuses, EndsTag, IsBroughtBy, IsFaultBy, joined, first_size}
+use Rattle.tag_reader.specs.Heard.{next_command, HasContent, IsPiece, Refuses, EndsTag, IsLast, IsBroughtBy, IsFaultBy, joined, first_size}
 use Rattle.tag_reader.specs.HeardSteps.{IsNoEnd, TellsFault, Under, is_next}
-use Rattle.tag_reader.proofs.Areas.{first_within, sizes}
+use Rattle.tag_reader.proofs.Areas.{first_within}
 use Rattle.tag_reader.proofs.Bringing.{under_stops, no_form}
 
 -- the READ that is the next
-pub next_is : (how : How) (ps : List (List ℕ)) (k : ℕ) (f : Signal) → IsOfBlocks how → length ps ≡ k → ((store : List ℕ) → f ≡ command how store k) → f ≡ next_command how ps
-next_is T2 ps k f blocks same is = is [] ∙ ap (λ n. command T2 [] n) (sym same)
+pub next_is : (how : How) (ps : List (List ℕ)) (k : ℕ) (f : Signal) → IsOfBlocks how → length ps ≡ k → ((size : ℕ) (store : List ℕ) → f ≡ command how size store k) → f ≡ next_command how ps
+next_is T2 ps k f blocks same is = is 16 [] ∙ ap (λ n. command T2 16 [] n) (sym same)
 next_is T4 ps k f blocks same is = absurd blocks
-next_is (T5 id) ps k f blocks same is = is [] ∙ ap (λ n. command (T5 id) [] n) (sym same)
+next_is (T5 id) ps k f blocks same is = absurd blocks
 
 -- an error that tells of no end refuses
 no_end : (how : How) (ps : List (List ℕ)) (r : Signal) (code : ℕ) → Refuses how r code → IsNoEnd how code → EndsTag how ps r → ⊥
 no_end T2 ps r code refuses free ends = ends
 no_end T4 ps r code refuses free ends = ends
-no_end (T5 id) [] r code refuses free ends = ends
-no_end (T5 id) (p ∷ ps) r code refuses free ends =
-    (let both : 1 ∷ code ∷ [] ≡ 1 ∷ no_block ∷ [] = ap (λ f. f.bytes) (sym refuses ∙ ends) in
-    let same : code ≡ no_block = cc in
-    free same)
+no_end (T5 id) ps r code refuses free ends = free
+
+last_kind : (how : How) (ps : List (List ℕ)) (code : ℕ) → IsNoEnd how code → IsLast how ps
+last_kind T2 ps code free = tt
+last_kind T4 ps code free = tt
+last_kind (T5 id) ps code free = absurd free
 
 pub told_fault : (how : How) (a b c : LinkView) (ps : List (List ℕ)) (f r : Signal) (e : ReadFault) → Under how a b ps → f ≡ next_command how ps → IsAnswer b c f r →
     TellsFault how r e → IsFaultBy how a c e
 told_fault how a b c ps f r (fault.Refused code) u is answer tells =
-    record { ps = ps; r = r; stopped = under_stops how a b c ps f r u is answer; refuses = tells.0; ends = no_end how ps r code tells.0 tells.1 }
+    record { ps = ps; r = r; stopped = under_stops how a b c ps f r u is answer; refuses = tells.0; last = last_kind how ps code tells.1; ends = no_end how ps r code tells.0 tells.1 }
 told_fault how a b c ps f r fault.Protocol u is answer tells = inl (record { ps = ps; r = r; stopped = under_stops how a b c ps f r u is answer; odd = no_form how ps r tells })
 told_fault how a b c ps f r fault.NotNdef u is answer tells = absurd tells
 told_fault how a b c ps f r fault.Version u is answer tells = absurd tells
@@ -60,26 +59,12 @@ two_sizes : (step : TagState → Signal → TagStep) (s : TagState) (before ps :
 two_sizes step s before [] is = refl
 two_sizes step s before (p ∷ ps) is = joined_more p ps 16 is.2.content.0 (two_sizes step (step s (next_command T2 before)).after (before ++ p ∷ []) ps is.3)
 
-five_sizes : (id q : List ℕ) (step : TagState → Signal → TagStep) (s : TagState) (before ps : List (List ℕ)) → IsBroughtBy (T5 id) step s (q ∷ before) ps →
-    length (joined ps) ≡ length q * length ps
-five_sizes id q step s before [] is = omega arith
-five_sizes id q step s before (p ∷ ps) is = joined_more p ps (length q) is.2.piece (five_sizes id q step (step s (next_command (T5 id) (q ∷ before))).after (before ++ p ∷ []) ps is.3)
-
 pub whole_sizes : (how : How) (step : TagState → Signal → TagStep) (s : TagState) (ps : List (List ℕ)) → IsOfBlocks how → IsBroughtBy how step s [] ps →
     length (joined ps) ≡ first_size ps * length ps
 whole_sizes how step s [] blocks is = refl
 whole_sizes T2 step s (p ∷ ps) blocks is = two_sizes step s [] (p ∷ ps) is ∙ ap (λ n. n * length (p ∷ ps)) (sym is.2.content.0)
 whole_sizes T4 step s (p ∷ ps) blocks is = absurd blocks
-whole_sizes (T5 id) step s (p ∷ ps) blocks is = joined_more p ps (length p) refl (five_sizes id p step (step s (next_command (T5 id) [])).after [] ps is.3)
-
-same_factor : (n a b : ℕ) → 0 < n → a * n ≡ b * n → a ≡ b
-same_factor n a b some same = elim (cases_lt a b) [
-  | inl less ↦ (let more : n * (a + 1) ≤ n * b = mul-le-mul_left n (omega (arith, less)) in let next : n * (a + 1) ≡ a * n + n = omega arith in absurd (omega (arith, more, next, same, some)))
-  | inr rest ↦ elim (cases_lt b a) [
-    | inl less ↦ (let more : n * (b + 1) ≤ n * a = mul-le-mul_left n (omega (arith, less)) in let next : n * (b + 1) ≡ b * n + n = omega arith in absurd (omega (arith, more, next, same, some)))
-    | inr other ↦ omega (arith, rest, other)
-  ]
-]
+whole_sizes (T5 id) step s (p ∷ ps) blocks is = absurd blocks
 
 -- a piece is next where it is as long as the others
 first_piece : (size known : ℕ) → is_next 0 known size ≡ true → 4 ≤ size
@@ -92,10 +77,7 @@ pub piece_true : (how : How) (step : TagState → Signal → TagStep) (s : TagSt
     length ps ≡ k → known ≡ length (joined ps) → is_next k known (length p) ≡ true → IsPiece how ps p
 piece_true T2 step s ps p k known blocks is same long next = tt
 piece_true T4 step s ps p k known blocks is same long next = absurd blocks
-piece_true (T5 id) step s [] p k known blocks is same long next = first_piece (length p) known (subst (λ n. is_next n known (length p) ≡ true) (sym same) next)
-piece_true (T5 id) step s (q ∷ qs) p k known blocks is same long next =
-    let all = later_piece (length qs) known (length p) (subst (λ n. is_next n known (length p) ≡ true) (sym same) next) in
-    same_factor (suc (length qs)) (length p) (length q) (omega arith) (all ∙ long ∙ whole_sizes (T5 id) step s (q ∷ qs) tt is)
+piece_true (T5 id) step s ps p k known blocks is same long next = absurd blocks
 
 is_next_first : (size known : ℕ) → 4 ≤ size → is_next 0 known size ≡ true
 is_next_first size known least = grind (arith, least)
@@ -117,15 +99,13 @@ piece_false how step s ps r p k known blocks is same long content next piece = c
     by_kind T2 [] ok is' long' content' piece' = is_next_first (length p) known (omega (arith, content'.0))
     by_kind T2 (q ∷ qs) ok is' long' content' piece' =
         is_next_later (length qs) known (length p) (ap (λ n. n * suc (length qs)) content'.0 ∙ sym (long' ∙ two_sizes step s [] (q ∷ qs) is'))
-    by_kind (T5 id) [] ok is' long' content' piece' = is_next_first (length p) known piece'
-    by_kind (T5 id) (q ∷ qs) ok is' long' content' piece' =
-        is_next_later (length qs) known (length p) (ap (λ n. n * suc (length qs)) piece' ∙ sym (long' ∙ whole_sizes (T5 id) step s (q ∷ qs) tt is'))
+    by_kind (T5 id) qs ok is' long' content' piece' = absurd ok
 
 -- what a tag of these kinds brings is next
 least_size : (how : How) (size : ℕ) (store : List ℕ) → IsBlockStore how size store → 4 ≤ size
 least_size T2 size store is = omega (arith, is.0)
 least_size T4 size store is = absurd is
-least_size (T5 id) size store is = (sizes size store is).least
+least_size (T5 id) size store is = absurd is
 
 pub next_fits : (how : How) (size : ℕ) (store known bytes : List ℕ) (k : ℕ) → IsBlockStore how size store → size * k < length store → length known ≡ size * k →
     bytes ≡ take size (drop (size * k) (rolling store)) → is_next k (length known) (length bytes) ≡ true

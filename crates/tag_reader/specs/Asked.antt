@@ -5,10 +5,11 @@ use Rattle.tlv_area.specs.declared.space.Space.{Space}
 use Rattle.tlv_area.specs.Form as form
 use Rattle.tag_reader.specs.declared.how.How.{How}
 use Rattle.tag_reader.specs.declared.how.How.TheVariants.{T2, T4, T5}
+use Rattle.tag_reader.specs.Blocks.{IsBlockDue}
 use Rattle.tag_reader.specs.Files.{IsFileDue}
 use Rattle.tag_reader.specs.Kinds.{area_of, first}
 
--- With the answers to the first n READs the tag hasn't ended, and the walk over the area needs a byte past them.
+-- With the answers to the first n READs of a Type 2 tag the walk over the area needs a byte past them.
 pub record NeedsMore (how : How) (size : ℕ) (store : List ℕ) (n : ℕ) : Type 0 where
   pub space : Space
   pub area : area_of how size store ≡ Ok space
@@ -19,7 +20,7 @@ pub record NeedsMore (how : How) (size : ℕ) (store : List ℕ) (n : ℕ) : Typ
 abbrev pub IsNext : How → ℕ → List ℕ → ℕ → Type 0
 IsNext T2 size store n = NeedsMore T2 size store n
 IsNext T4 size store n = IsFileDue store n
-IsNext (T5 id) size store n = NeedsMore (T5 id) size store n
+IsNext (T5 id) size store n = IsBlockDue size store n
 
 -- The n-th command, counted from 0, is asked.
 abbrev pub IsDue : How → ℕ → List ℕ → ℕ → Type 0
@@ -32,7 +33,7 @@ AreDue how size store n = (k : ℕ) → k < n → IsDue how size store k
 -- The whole list of what is asked: each command of it is, and no further one.
 pub record IsAsked (how : How) (size : ℕ) (store : List ℕ) (commands : List Signal) : Type 0 where
   pub count : ℕ
-  pub list : commands ≡ first how store count
+  pub list : commands ≡ first how size store count
   pub each : AreDue how size store count
   pub no_more : IsDue how size store count → ⊥
 

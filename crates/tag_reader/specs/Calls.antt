@@ -17,17 +17,17 @@ pub record Stays (a b : LinkView) : Type 0 where
   pub rises : Rises a b
 
 -- The last command is the last of the n that were answered or, where none was, the one before.
-abbrev pub last_of : How → List ℕ → LinkView → ℕ → Option Signal
-last_of how store a zero = a.last
-last_of how store a (suc n) = Some (command how store n)
+abbrev pub last_of : How → ℕ → List ℕ → LinkView → ℕ → Option Signal
+last_of how size store a zero = a.last
+last_of how size store a (suc n) = Some (command how size store n)
 
 -- The commands answered between two views are the first `count` of what is asked. The last one that was asked is the last of
 -- them, and then the link is over only where it was before; or it is the next that is asked.
 pub record HasAsked (how : How) (size : ℕ) (store : List ℕ) (a b : LinkView) : Type 0 where
   pub count : ℕ
   pub each : AreDue how size store count
-  pub answered : b.answered ≡ a.answered ++ first how store count
-  pub last : ((b.last ≡ last_of how store a count) × (b.over ≡ a.over)) ⊎ ((b.last ≡ Some (command how store count)) × IsDue how size store count)
+  pub answered : b.answered ≡ a.answered ++ first how size store count
+  pub last : ((b.last ≡ last_of how size store a count) × (b.over ≡ a.over)) ⊎ ((b.last ≡ Some (command how size store count)) × IsDue how size store count)
 
 -- All that is asked was answered between two views.
 pub record HasAskedAll (how : How) (size : ℕ) (store : List ℕ) (a b : LinkView) : Type 0 where

@@ -1,7 +1,7 @@
 -- What the answers of a tag tell a reader, whatever the tag does (NFC Forum Type 2, Type 4 and Type 5 Tag): the pieces that
 -- they bring, one a command, which command follows them, and what they say of the message.
-use Rattle.std.specs.Prelude.{◌≡◌, ℕ, ◌+◌, ◌-◌, ◌*◌, ◌<◌, ◌≤◌, ◌⊎◌, ◌↔◌, min, List, [], ◌∷◌, ◌++◌, length, Bool, Some, None, Result, Ok, Err, IsErrOf, IsOkAnd}
-use Rattle.std.specs.List.{flat_map}
+use Rattle.std.specs.Prelude.{◌≡◌, ℕ, zero, suc, ◌+◌, ◌-◌, ◌*◌, ◌<◌, ◌≤◌, ◌⊎◌, ◌↔◌, ◌==◌, min, false, List, [], ◌∷◌, ◌++◌, length, Bool, Some, None, Result, Ok, Err, IsErrOf, IsOkAnd}
+use Rattle.std.specs.List.{flat_map, list_any}
 use Rattle.nfc_base.specs.Signal.{Signal, whole_a}
 use Rattle.nfc_base.specs.TagLinks.{TagState, TagStep, LinkView, after_all}
 use Rattle.nfc_base.specs.declared.tag_link.AskFault.TheVariants as ask
@@ -14,11 +14,10 @@ use Rattle.t4t_tag.specs.declared.command.T4Command.{T4Command}
 use Rattle.t4t_tag.specs.declared.command.T4Command.TheVariants.{SelectApplication, SelectFile, ReadBinary, UpdateBinary}
 use Rattle.t5t_tag.specs.Spelling as t5
 use Rattle.t5t_tag.specs.Step.{no_block}
-use Rattle.t5t_tag.specs.declared.command.T5Command.TheVariants as t5_command
 use Rattle.t5t_tag.specs.declared.answer.T5Answer.TheVariants as t5_says
 use Rattle.tlv_area.specs.declared.container.ContainerFault.TheVariants as container
 use Rattle.tlv_area.specs.declared.container.FileMap.{FileMap}
-use Rattle.tlv_area.specs.Containers.{t4_container}
+use Rattle.tlv_area.specs.Containers.{t4_container, t5_is_open}
 use Rattle.tlv_area.specs.Form.{Form, Faulty, Message, NoMessageTlv, BadTlv}
 use Rattle.tlv_area.specs.Stores.{IsFormBy, IsT5Form}
 use Rattle.tag_reader.specs.declared.how.How.{How}
@@ -28,6 +27,8 @@ use Rattle.tag_reader.specs.declared.fault.ReadFault.TheVariants as fault
 use Rattle.tag_reader.specs.declared.found.Site.{Site}
 use Rattle.tag_reader.specs.declared.found.Site.TheVariants.{File}
 use Rattle.tag_reader.specs.declared.found.Found.{Found}
+use Rattle.tag_reader.specs.declared.ask.Ask.{Ask}
+use Rattle.tag_reader.specs.Blocks.{ask_frame, ask_count, next_ask, IsOne, IsMany}
 use Rattle.tag_reader.specs.Files.{message_length, file_frame}
 use Rattle.tag_reader.specs.Kinds.{area_of, kind_of, IsNamed}
 use Rattle.tag_reader.specs.Calls.{ByLink}
@@ -53,11 +54,27 @@ file_next (a ∷ b ∷ head ∷ d ∷ []) = ReadBinary 0 2
 file_next (a ∷ b ∷ head ∷ d ∷ size ∷ parts) =
     ReadBinary (2 + most_of head * length parts) (min (most_of head) (message_length size - most_of head * length parts))
 
+-- the bytes of the pieces, and how many the first has
+abbrev pub joined : List (List ℕ) → List ℕ
+joined ps = flat_map (λ p. p) ps
+
+abbrev pub first_size : List (List ℕ) → ℕ
+first_size [] = 0
+first_size (p ∷ ps) = length p
+
+-- A refusal of several blocks at once brings a piece of no bytes.
+abbrev pub is_single : List (List ℕ) → Bool
+is_single ps = list_any (λ p. length p == 0) ps
+
+-- what is asked of a Type 5 tag behind some pieces
+abbrev pub ask_behind : List (List ℕ) → Ask
+ask_behind ps = next_ask (first_size ps) (is_single ps) (joined ps)
+
 -- The command that follows some pieces: of a tag of blocks the READ of the next ones.
 abbrev pub next_command : How → List (List ℕ) → Signal
 next_command T2 ps = t2.command_frame (t2_command.Read (4 * length ps))
 next_command T4 ps = file_frame (file_next ps)
-next_command (T5 id) ps = t5.command_frame (t5_command.Read (Some id) (length ps))
+next_command (T5 id) ps = ask_frame id (ask_behind ps)
 
 -- the commands that these pieces answer, where those before them are there
 abbrev pub asked_for : How → List (List ℕ) → List (List ℕ) → List Signal
@@ -71,10 +88,10 @@ HasSize (SelectFile id) p = length p ≡ 0
 HasSize (ReadBinary offset count) p = length p ≡ count
 HasSize (UpdateBinary offset content) p = length p ≡ 0
 
--- The first block of a Type 5 tag has room for the container, and each other one is as long as the first.
-abbrev pub IsBlock : List (List ℕ) → List ℕ → Type 0
-IsBlock [] p = 4 ≤ length p
-IsBlock (q ∷ qs) p = length p ≡ length q
+-- The first block of a Type 5 tag has room for a container of four bytes, and each other one is as long as the first.
+abbrev pub IsBlocks : ℕ → Ask → List ℕ → Type 0
+IsBlocks zero ask p = 4 ≤ length p
+IsBlocks (suc size) ask p = length p ≡ suc size * ask_count ask
 
 -- an answer has the form of content, with these bytes
 abbrev pub HasContent : How → Signal → List ℕ → Type 0
@@ -86,12 +103,26 @@ HasContent (T5 id) r p = t5.T5AnswerSpelling (t5_says.Content (record { items = 
 abbrev pub IsPiece : How → List (List ℕ) → List ℕ → Type 0
 IsPiece T2 ps p = Unit {0}
 IsPiece T4 ps p = HasSize (file_next ps) p
-IsPiece (T5 id) ps p = IsBlock ps p
+IsPiece (T5 id) ps p = IsBlocks (first_size ps) (ask_behind ps) p
 
--- the answer to the command that follows some pieces brings this one
-pub record Brings (how : How) (ps : List (List ℕ)) (r : Signal) (p : List ℕ) : Type 0 where
+-- the answer to the command that follows some pieces has this one
+pub record BringsPiece (how : How) (ps : List (List ℕ)) (r : Signal) (p : List ℕ) : Type 0 where
   pub content : HasContent how r p
   pub piece : IsPiece how ps p
+
+-- Whatever the error by which a Type 5 tag refuses several blocks at once, it is no end of a reading: each block is then asked
+-- for alone.
+pub record FallsBack (ps : List (List ℕ)) (r : Signal) (p : List ℕ) : Type 0 where
+  pub many : IsMany (ask_behind ps)
+  pub code : ℕ
+  pub error : r ≡ t5.answer_frame (t5_says.Error code)
+  pub none : p ≡ []
+
+-- the answer brings it
+abbrev pub Brings : How → List (List ℕ) → Signal → List ℕ → Type 0
+Brings T2 ps r p = BringsPiece T2 ps r p
+Brings T4 ps r p = BringsPiece T4 ps r p
+Brings (T5 id) ps r p = BringsPiece (T5 id) ps r p ⊎ FallsBack ps r p
 
 -- the status bytes of an answer that refuses: any but 9000h
 abbrev pub IsRefusal : ℕ → ℕ → Type 0
@@ -108,8 +139,13 @@ Refuses (T5 id) r code = r ≡ t5.answer_frame (t5_says.Error code)
 abbrev pub EndsTag : How → List (List ℕ) → Signal → Type 0
 EndsTag T2 ps r = ⊥
 EndsTag T4 ps r = ⊥
-EndsTag (T5 id) [] r = ⊥
-EndsTag (T5 id) (p ∷ ps) r = r ≡ t5.answer_frame (t5_says.Error no_block)
+EndsTag (T5 id) ps r = (0 < length ps) × IsOne (ask_behind ps) × (r ≡ t5.answer_frame (t5_says.Error no_block))
+
+-- the command behind some pieces, if it is refused, ends the reading
+abbrev pub IsLast : How → List (List ℕ) → Type 0
+IsLast T2 ps = Unit {0}
+IsLast T4 ps = Unit {0}
+IsLast (T5 id) ps = IsOne (ask_behind ps)
 
 -- an answer that may not follow these pieces
 pub record IsOdd (how : How) (ps : List (List ℕ)) (r : Signal) : Type 0 where
@@ -139,14 +175,6 @@ pub record IsStopped (how : How) (a b : LinkView) (ps : List (List ℕ)) (r : Si
   pub answered : b.answered ≡ a.answered ++ (asked_for how [] ps ++ next_command how ps ∷ [])
   pub over : b.over ≡ None
 
--- the bytes of the pieces, and how many the first has
-abbrev pub joined : List (List ℕ) → List ℕ
-joined ps = flat_map (λ p. p) ps
-
-abbrev pub first_size : List (List ℕ) → ℕ
-first_size [] = 0
-first_size (p ∷ ps) = length p
-
 -- The pieces of a Type 4 tag whose container is whole, and those of one whose container names a file with a message of n
 -- bytes; the parts are of the message.
 pub record HasHead (ps : List (List ℕ)) (head : List ℕ) : Type 0 where
@@ -165,19 +193,26 @@ pub record HasFile (ps : List (List ℕ)) (map' : FileMap) (n : ℕ) (parts : Li
   pub length' : n ≡ message_length size
 
 -- a message of n bytes in these parts
-pub record IsWhole (n : ℕ) (parts : List (List ℕ)) (message : List ℕ) : Type 0 where
+pub record IsMessage (n : ℕ) (parts : List (List ℕ)) (message : List ℕ) : Type 0 where
   pub bytes : message ≡ joined parts
   pub size : length message ≡ n
 
 abbrev pub FileSays : List (List ℕ) → Form → Type 0
 FileSays ps (Faulty f) = (head : List ℕ) × HasHead ps head × (t4_container head ≡ Err f)
-FileSays ps (Message m) = (map' : FileMap) × (n : ℕ) × (parts : List (List ℕ)) × HasFile ps map' n parts × (n ≤ map'.size - 2) × IsWhole n parts m
+FileSays ps (Message m) = (map' : FileMap) × (n : ℕ) × (parts : List (List ℕ)) × HasFile ps map' n parts × (n ≤ map'.size - 2) × IsMessage n parts m
 FileSays ps NoMessageTlv = ⊥
 FileSays ps BadTlv = (map' : FileMap) × (n : ℕ) × HasFile ps map' n [] × (map'.size - 2 < n)
+
+-- the bytes have the container of the tag whole
+abbrev pub HasContainer : How → List ℕ → Type 0
+HasContainer T2 bytes = Unit {0}
+HasContainer T4 bytes = Unit {0}
+HasContainer (T5 id) bytes = t5_is_open bytes ≡ false
 
 -- the area that the pieces name, which may go on behind them, has this form by their bytes
 pub record AreaSays (how : How) (ps : List (List ℕ)) (f : Form) : Type 0 where
   pub some : 0 < length ps
+  pub whole : HasContainer how (joined ps)
   pub form : IsFormBy (area_of how (first_size ps) (joined ps)) (joined ps) f
 
 -- what the pieces say
@@ -213,7 +248,7 @@ pub record IsCutOff (how : How) (a b : LinkView) (f : Form) : Type 0 where
   pub r : Signal
   pub stopped : IsStopped how a b ps r
   pub ends : EndsTag how ps r
-  pub form : IsT5Form (joined ps) f
+  pub form : IsT5Form (first_size ps) (joined ps) f
 
 -- what a reading says that found none
 abbrev pub IsNone : How → LinkView → LinkView → Form → Type 0
@@ -224,6 +259,7 @@ pub record IsRefused (how : How) (a b : LinkView) (code : ℕ) : Type 0 where
   pub r : Signal
   pub stopped : IsStopped how a b ps r
   pub refuses : Refuses how r code
+  pub last : IsLast how ps
   pub ends : ¬ EndsTag how ps r
 
 pub record IsOddly (how : How) (a b : LinkView) : Type 0 where

@@ -18,7 +18,7 @@ use Rattle.tag_reader.specs.declared.fault.ReadFault.TheVariants as fault
 use Rattle.tag_reader.specs.declared.told.Told.{Told}
 use Rattle.tag_reader.specs.declared.told.Told.TheVariants.{Bytes, Ended}
 use Rattle.tag_reader.specs.Kinds.{area_of}
-use Rattle.tag_reader.specs.Heard.{HasContent, Refuses, IsBrought, IsStopped, IsFaultBy, IsWhole, HasHead, HasFile, tag_after, joined, first_size}
+use Rattle.tag_reader.specs.Heard.{HasContent, Refuses, IsBrought, IsStopped, IsFaultBy, IsMessage, HasContainer, HasHead, HasFile, tag_after, joined, first_size}
 
 -- an answer of no form that a command is answered by
 pub record HasNoForm (how : How) (r : Signal) : Type 0 where
@@ -29,7 +29,7 @@ pub record HasNoForm (how : How) (r : Signal) : Type 0 where
 abbrev pub IsNoEnd : How → ℕ → Type 0
 IsNoEnd T2 code = Unit {0}
 IsNoEnd T4 code = Unit {0}
-IsNoEnd (T5 id) code = code ≡ no_block → ⊥
+IsNoEnd (T5 id) code = ⊥
 
 -- what one answer tells
 abbrev pub TellsFault : How → Signal → ReadFault → Type 0
@@ -101,6 +101,7 @@ pub record Sees (how : How) (a b : LinkView) (known : List ℕ) (map' : AreaMap)
   pub known' : known ≡ joined ps
   pub some : 0 < length ps
   pub area : area_of how (first_size ps) known ≡ Ok map'.space
+  pub whole : HasContainer how known
   pub walk : IsWalk map'.space known (walk.Held map')
   pub placed : IsPlacedIn known map'
   pub held : IsForm map'.space known (Message (bytes_at known (message_cells map')))
@@ -144,4 +145,4 @@ pub record HasRead (a b : LinkView) (map' : FileMap) (n most : ℕ) (message : L
 pub record ReadAll (a b : LinkView) (map' : FileMap) (n : ℕ) (message : List ℕ) : Type 0 where
   pub parts : List (List ℕ)
   pub has : HasParts a b map' n parts
-  pub whole : IsWhole n parts message
+  pub whole : IsMessage n parts message

@@ -1,73 +1,63 @@
 -- The kinds of tags that a reader knows (NFC Forum Type 2, Type 4 and Type 5 Tag): which stores they have, which area a store
 -- names and what it holds, and which commands ask for its bytes in their order. Files.antt says it of a Type 4 tag.
-use Rattle.std.specs.Prelude.{◌≡◌, ℕ, zero, suc, ◌*◌, List, [], ◌∷◌, ◌++◌, length, Bool, nat_le, if◌then◌else◌, Result, Err, Some, ◌<◌, ◌≤◌, slice_index}
+use Rattle.std.specs.Prelude.{◌≡◌, ℕ, zero, suc, ◌*◌, List, [], ◌∷◌, ◌++◌, length, Bool, Result, Err, ◌<◌, ◌≤◌, slice_index}
 use Rattle.nfc_base.specs.Signal.{Signal, whole_a}
-use Rattle.nfc_base.specs.Blocks.{block_of}
 use Rattle.nfc_base.specs.TagLinks.{TagKind, Type2, Type4, Type5, TagState, TagStep, LinkView, MayAsk}
 use Rattle.t2t_tag.specs.Store.{IsT2Store, T2Memory}
 use Rattle.t2t_tag.specs.Step.{four_blocks, t2_answer, t2_after}
 use Rattle.t2t_tag.specs.Spelling as t2
 use Rattle.t2t_tag.specs.declared.command.T2Command.TheVariants as t2_command
 use Rattle.t2t_tag.specs.declared.answer.T2Answer.TheVariants as t2_says
-use Rattle.t5t_tag.specs.Store.{IsT5Store, T5State, id_size, blocks_in}
-use Rattle.t5t_tag.specs.Step.{no_block, t5_answer, t5_after}
-use Rattle.t5t_tag.specs.Spelling as t5
-use Rattle.t5t_tag.specs.declared.command.T5Command.TheVariants as t5_command
-use Rattle.t5t_tag.specs.declared.answer.T5Answer.{T5Answer}
-use Rattle.t5t_tag.specs.declared.answer.T5Answer.TheVariants as t5_says
+use Rattle.t5t_tag.specs.Store.{IsT5Store, T5State, id_size}
+use Rattle.t5t_tag.specs.Step.{t5_answer, t5_after}
 use Rattle.tlv_area.specs.declared.space.Space.{Space}
 use Rattle.tlv_area.specs.declared.container.ContainerFault.{ContainerFault}
 use Rattle.tlv_area.specs.declared.container.ContainerFault.TheVariants.{NotNdef}
-use Rattle.tlv_area.specs.Containers.{t2_container, t5_container}
+use Rattle.tlv_area.specs.Containers.{t2_container}
 use Rattle.tlv_area.specs.Form.{Form}
-use Rattle.tlv_area.specs.Stores.{four_bytes, cut_by, IsT2Form, IsT5Form}
+use Rattle.tlv_area.specs.Stores.{four_bytes, t5_area, IsT2Form, IsT5Form}
 use Rattle.tag_reader.specs.declared.how.How.{How}
 use Rattle.tag_reader.specs.declared.how.How.TheVariants.{T2, T4, T5}
+use Rattle.tag_reader.specs.Blocks.{ask_frame, ask_at, progress_at}
 use Rattle.tag_reader.specs.Files.{IsFileStore, t4_form, file_command, file_frame, t4_link_step}
 
--- A store that a tag has, and how many bytes of it one READ asks for: 16 of a Type 2 tag, a block of a Type 5 tag. The number
--- says nothing of a Type 4 tag, whose container says how many bytes a read may ask for.
+-- A store that a tag has, and how many bytes are read at once: 16 of a Type 2 tag, a block of a Type 5 tag. The number says
+-- nothing of a Type 4 tag, whose container says how many bytes a read may ask for.
 abbrev pub IsStore : How → ℕ → List ℕ → Type 0
 IsStore T2 size store = (size ≡ 16) × IsT2Store store
 IsStore T4 size store = IsFileStore store
 IsStore (T5 id) size store = IsT5Store size store
 
--- The area that a store's container names. A block number is one byte, so that of a Type 5 tag ends at the end of block
--- 255 at the latest. A Type 4 tag has a file in the place of an area, and none is named.
+-- The area that a store's container names. That of a Type 5 tag ends where block numbers do at the latest. A Type 4 tag has a
+-- file in the place of an area, and none is named.
 abbrev pub area_of : How → ℕ → List ℕ → Result Space ContainerFault
 area_of T2 size store = t2_container (four_bytes store 12)
 area_of T4 size store = Err NotNdef
-area_of (T5 id) size store = cut_by (t5_container (four_bytes store 0)) (256 * size)
+area_of (T5 id) size store = t5_area size store
 
 -- the form of a store
-abbrev pub IsStoreForm : How → List ℕ → Form → Type 0
-IsStoreForm T2 store f = IsT2Form store f
-IsStoreForm T4 store f = f ≡ t4_form store
-IsStoreForm (T5 id) store f = IsT5Form store f
+abbrev pub IsStoreForm : How → ℕ → List ℕ → Form → Type 0
+IsStoreForm T2 size store f = IsT2Form store f
+IsStoreForm T4 size store f = f ≡ t4_form store
+IsStoreForm (T5 id) size store f = IsT5Form size store f
 
 -- The command that is the k-th, counted from 0, of those that ask for what a store holds: a READ of four blocks of a Type 2
--- tag or of one block of a Type 5 tag, or a command of a Type 4 tag.
-abbrev pub command : How → List ℕ → ℕ → Signal
-command T2 store k = t2.command_frame (t2_command.Read (4 * k))
-command T4 store k = file_frame (file_command store k)
-command (T5 id) store k = t5.command_frame (t5_command.Read (Some id) k)
+-- tag, of one block or of several of a Type 5 tag, or a command of a Type 4 tag.
+abbrev pub command : How → ℕ → List ℕ → ℕ → Signal
+command T2 size store k = t2.command_frame (t2_command.Read (4 * k))
+command T4 size store k = file_frame (file_command store k)
+command (T5 id) size store k = ask_frame id (ask_at size store (progress_at size store k))
 
 -- the first so many of them
-abbrev pub first : How → List ℕ → ℕ → List Signal
-first how store zero = []
-first how store (suc n) = first how store n ++ command how store n ∷ []
+abbrev pub first : How → ℕ → List ℕ → ℕ → List Signal
+first how size store zero = []
+first how size store (suc n) = first how size store n ++ command how size store n ∷ []
 
--- what a Type 5 tag answers to the READ of a block
-abbrev pub block_answer : ℕ → List ℕ → ℕ → T5Answer
-block_answer size store k =
-    if nat_le (blocks_in size store) k then t5_says.Error no_block
-    else t5_says.Content (record { items = block_of size store k })
-
--- what a tag answers to the k-th READ of blocks; a Type 4 tag has none
+-- what a tag answers to the k-th READ of four blocks, which a Type 2 tag alone has
 abbrev pub reply : How → ℕ → List ℕ → ℕ → Signal
 reply T2 size store k = t2.answer_frame (t2_says.Content (four_blocks store (4 * k)))
 reply T4 size store k = whole_a []
-reply (T5 id) size store k = t5.answer_frame (block_answer size store k)
+reply (T5 id) size store k = whole_a []
 
 -- The tag behind a link, of which the link's state shows the store.
 abbrev pub t2_memory : List Bool → TagState → T2Memory
@@ -116,6 +106,6 @@ pub record IsTag (how : How) (size : ℕ) (v : LinkView) : Type 0 where
   pub store : IsStore how size v.state.store
   pub steps : Steps how size v
 
--- where the link led to a tag of this kind: what holds for the number of bytes that its READs ask for
+-- where the link led to a tag of this kind: what holds for the number of bytes that are read at once
 abbrev pub OfTag : How → LinkView → (ℕ → Type 0) → Type 0
 OfTag how a P = (size : ℕ) → IsTag how size a → P size

@@ -1,10 +1,13 @@
 pub mod Files
+pub mod Blocks
 pub mod Kinds
 pub mod Asked
 pub mod Calls
+pub mod Counts
 pub mod Reading
 pub mod Numbers
 pub mod Steps
 pub mod FileSteps
 pub mod Heard
 pub mod HeardSteps
+pub mod BlockSteps

@@ -33,24 +33,24 @@ IsSite how size store (File map') writable = IsFileOf how store map' × (writabl
 
 -- The message that a store holds, where it lies, and whether writing is free.
 pub record IsFound (how : How) (size : ℕ) (store : List ℕ) (found : Found) : Type 0 where
-  pub held : IsStoreForm how store (Message found.message)
+  pub held : IsStoreForm how size store (Message found.message)
   pub site : IsSite how size store found.site found.writable
 
 -- Each fault: of the store's form, or of the link. A tag of these kinds refuses no command that is asked. Want of memory is the
 -- reader's own, and then the link isn't over, or it is that by which the link is over.
-abbrev pub IsReadFault : How → List ℕ → LinkView → LinkView → ReadFault → Type 0
-IsReadFault how store a b fault.NotNdef = IsStoreForm how store (Faulty container.NotNdef)
-IsReadFault how store a b fault.Version = IsStoreForm how store (Faulty container.Version)
-IsReadFault how store a b fault.NoRead = IsStoreForm how store (Faulty container.NoRead)
-IsReadFault how store a b fault.Sectors = IsStoreForm how store (Faulty container.Sectors)
-IsReadFault how store a b fault.BadSize = IsStoreForm how store (Faulty container.BadSize)
-IsReadFault how store a b fault.NoMessageTlv = IsStoreForm how store NoMessageTlv
-IsReadFault how store a b fault.BadTlv = IsStoreForm how store BadTlv
-IsReadFault how store a b (fault.Refused code) = ⊥
-IsReadFault how store a b fault.FieldLost = ByLink a b ask.FieldLost
-IsReadFault how store a b fault.SixBad = ByLink a b ask.SixBad
-IsReadFault how store a b fault.Protocol = ByLink a b ask.Protocol
-IsReadFault how store a b fault.Memory = (b.over ≡ None) ⊎ ByLink a b ask.Memory
+abbrev pub IsReadFault : How → ℕ → List ℕ → LinkView → LinkView → ReadFault → Type 0
+IsReadFault how size store a b fault.NotNdef = IsStoreForm how size store (Faulty container.NotNdef)
+IsReadFault how size store a b fault.Version = IsStoreForm how size store (Faulty container.Version)
+IsReadFault how size store a b fault.NoRead = IsStoreForm how size store (Faulty container.NoRead)
+IsReadFault how size store a b fault.Sectors = IsStoreForm how size store (Faulty container.Sectors)
+IsReadFault how size store a b fault.BadSize = IsStoreForm how size store (Faulty container.BadSize)
+IsReadFault how size store a b fault.NoMessageTlv = IsStoreForm how size store NoMessageTlv
+IsReadFault how size store a b fault.BadTlv = IsStoreForm how size store BadTlv
+IsReadFault how size store a b (fault.Refused code) = ⊥
+IsReadFault how size store a b fault.FieldLost = ByLink a b ask.FieldLost
+IsReadFault how size store a b fault.SixBad = ByLink a b ask.SixBad
+IsReadFault how size store a b fault.Protocol = ByLink a b ask.Protocol
+IsReadFault how size store a b fault.Memory = (b.over ≡ None) ⊎ ByLink a b ask.Memory
 
 -- whether a reading ended by what the store holds, and not by the link or for want of memory
 abbrev pub is_told : ReadFault → Bool
@@ -92,7 +92,7 @@ abbrev pub TellsMessage : How → LinkView → Result Found ReadFault → Type 0
 TellsMessage how a result = OfTag how a (λ size. IfOk result (IsFound how size a.state.store))
 
 abbrev pub TellsCause : How → LinkView → LinkView → Result Found ReadFault → Type 0
-TellsCause how a b result = OfTag how a (λ size. IfErr result (IsReadFault how a.state.store a b))
+TellsCause how a b result = OfTag how a (λ size. IfErr result (IsReadFault how size a.state.store a b))
 
 abbrev pub TellsInCalm : How → LinkView → LinkView → Result Found ReadFault → Type 0
 TellsInCalm how a b result = OfTag how a (λ size. IsCalm a b → IfErr result IsToldOrMemory)

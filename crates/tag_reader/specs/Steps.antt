@@ -5,7 +5,6 @@ use Rattle.nfc_base.specs.TagLinks.{LinkView}
 use Rattle.nfc_base.specs.declared.tag_link.AskFault.{AskFault}
 use Rattle.nfc_base.specs.declared.tag_link.AskFault.TheVariants as ask
 use Rattle.t2t_tag.specs.Store.{IsT2Store}
-use Rattle.t5t_tag.specs.Store.{IsT5Store}
 use Rattle.tlv_area.specs.declared.space.Space.{Space}
 use Rattle.tlv_area.specs.declared.space.AreaMap.{AreaMap}
 use Rattle.tlv_area.specs.declared.container.ContainerFault.{ContainerFault}
@@ -40,11 +39,11 @@ of_container container.NoRead = fault.NoRead
 of_container container.Sectors = fault.Sectors
 of_container container.BadSize = fault.BadSize
 
--- a store of blocks, and a tag with one
+-- A store that READs of four blocks bring, which a Type 2 tag alone has, and a tag with one.
 abbrev pub IsBlockStore : How → ℕ → List ℕ → Type 0
 IsBlockStore T2 size store = (size ≡ 16) × IsT2Store store
 IsBlockStore T4 size store = ⊥
-IsBlockStore (T5 id) size store = IsT5Store size store
+IsBlockStore (T5 id) size store = ⊥
 
 pub record IsBlockTag (how : How) (size : ℕ) (v : LinkView) : Type 0 where
   pub kind : v.kind ≡ kind_of how
@@ -56,29 +55,29 @@ pub record IsBlockTag (how : How) (size : ℕ) (v : LinkView) : Type 0 where
 abbrev pub OfBlockTag : How → LinkView → (ℕ → Type 0) → Type 0
 OfBlockTag how a P = (size : ℕ) → IsBlockTag how size a → P size
 
--- a kind of tags of blocks
+-- a kind of tags of such blocks
 abbrev pub IsOfBlocks : How → Type 0
 IsOfBlocks T2 = Unit {0}
 IsOfBlocks T4 = ⊥
-IsOfBlocks (T5 id) = Unit {0}
+IsOfBlocks (T5 id) = ⊥
 
 -- the k-th READ asks for a block that its number can name, and not past the one behind the tag's last
 abbrev pub IsInReach : How → ℕ → List ℕ → ℕ → Type 0
 IsInReach T2 size store k = 16 * k < length store
 IsInReach T4 size store k = ⊥
-IsInReach (T5 id) size store k = (k < 256) × (size * k ≤ length store)
+IsInReach (T5 id) size store k = ⊥
 
 -- the first READ's answer has the container
 abbrev pub HoldsContainer : How → List ℕ → Type 0
 HoldsContainer T2 bytes = length bytes ≡ 16
 HoldsContainer T4 bytes = ⊥
-HoldsContainer (T5 id) bytes = (4 ≤ length bytes) × (length bytes ≤ 256)
+HoldsContainer (T5 id) bytes = ⊥
 
 -- its number is one byte
 abbrev pub HasNumber : How → ℕ → Type 0
 HasNumber T2 k = 4 * k < 256
 HasNumber T4 k = ⊥
-HasNumber (T5 id) k = k < 256
+HasNumber (T5 id) k = ⊥
 
 -- What READs give goes on with the store's first bytes behind its last, as a Type 2 tag's does.
 abbrev pub rolling : List ℕ → List ℕ
@@ -116,8 +115,8 @@ pub record Fails (c : Signal) (a b : LinkView) (e : ReadFault) : Type 0 where
   pub calm : a.over ≡ None → a.dark ≡ false → b.noise ≡ a.noise → e ≡ fault.Memory
 
 abbrev pub AsksNext : How → ℕ → ℕ → LinkView → LinkView → List ℕ → List ℕ → Result Bool ReadFault → Type 0
-AsksNext how size k a b known known' (Ok more) = Answers (command how a.state.store k) a b × Learns size a.state.store k known known' more
-AsksNext how size k a b known known' (Err e) = Fails (command how a.state.store k) a b e
+AsksNext how size k a b known known' (Ok more) = Answers (command how size a.state.store k) a b × Learns size a.state.store k known known' more
+AsksNext how size k a b known known' (Err e) = Fails (command how size a.state.store k) a b e
 
 -- the same, where the first k READs gave all that is known
 abbrev pub AsksNextOf : How → ℕ → LinkView → LinkView → List ℕ → List ℕ → Result Bool ReadFault → Type 0
@@ -130,8 +129,8 @@ pub record Asks (how : How) (size : ℕ) (a b : LinkView) (n : ℕ) : Type 0 whe
   pub before : a.over ≡ None
   pub goes_on : GoesOn a b
   pub each : AreDue how size a.state.store n
-  pub answered : b.answered ≡ a.answered ++ first how a.state.store n
-  pub last : b.last ≡ last_of how a.state.store a n
+  pub answered : b.answered ≡ a.answered ++ first how size a.state.store n
+  pub last : b.last ≡ last_of how size a.state.store a n
 
 -- A reading of blocks under way: the first n + 1 READs are answered, and gave these bytes.
 pub record Knows (how : How) (size : ℕ) (a b : LinkView) (known : List ℕ) (n : ℕ) : Type 0 where
@@ -139,8 +138,8 @@ pub record Knows (how : How) (size : ℕ) (a b : LinkView) (known : List ℕ) (n
   pub before : a.over ≡ None
   pub goes_on : GoesOn a b
   pub each : AreDue how size a.state.store (n + 1)
-  pub answered : b.answered ≡ a.answered ++ first how a.state.store (n + 1)
-  pub last : b.last ≡ Some (command how a.state.store n)
+  pub answered : b.answered ≡ a.answered ++ first how size a.state.store (n + 1)
+  pub last : b.last ≡ Some (command how size a.state.store n)
   pub bytes : known ≡ take (size * (n + 1)) (rolling a.state.store)
   pub tag : IsBlockTag how size b
 
@@ -162,11 +161,11 @@ pub record IsMapFound (how : How) (size : ℕ) (store known : List ℕ) (map' : 
   pub area : area_of how size store ≡ Ok map'.space
   pub found : IsWalk map'.space store (walk.Held map')
   pub placed : IsPlacedIn known map'
-  pub held : IsStoreForm how store (Message (bytes_at known (message_cells map')))
+  pub held : IsStoreForm how size store (Message (bytes_at known (message_cells map')))
 
 abbrev pub Tells : How → ℕ → List ℕ → LinkView → LinkView → List ℕ → Result AreaMap ReadFault → Type 0
 Tells how size store a b known (Ok map') = IsMapFound how size store known map'
-Tells how size store a b known (Err e) = IsReadFault how store a b e
+Tells how size store a b known (Err e) = IsReadFault how size store a b e
 
 -- Where all transmissions pass, a reading tells what the store holds, or finds no memory.
 abbrev pub Calms : LinkView → LinkView → Result AreaMap ReadFault → Type 0
@@ -189,7 +188,7 @@ pub record IsRead (how : How) (size : ℕ) (a b : LinkView) (result : Result Fou
   pub whole : OnTold result (HasAskedAll how size a.state.store a b)
   pub goes_on : OnTold result (GoesOn a b)
   pub ok : IfOk result (IsFound how size a.state.store)
-  pub err : IfErr result (IsReadFault how a.state.store a b)
+  pub err : IfErr result (IsReadFault how size a.state.store a b)
   pub calm : IsCalm a b → IfErr result IsToldOrMemory
 
 abbrev pub ReadsTag : How → LinkView → LinkView → Result Found ReadFault → Type 0

@@ -1,4 +1,4 @@
-//! One READ of a reading.
+//! One READ of a Type 2 tag.
 
 ghost use Rattle.std.specs.Prelude.{◌≡◌, ℕ, ◌≤◌, List, length};
 ghost use Rattle.nfc_base.specs.TagLinks.{LinkView};

@@ -1,4 +1,4 @@
-//! Where the message lies, by as many READs as it takes to tell.
+//! Where the message of a Type 2 tag lies, by as many READs as it takes to tell.
 
 ghost use Rattle.std.specs.Prelude.{◌≡◌, ℕ, ◌<◌, ◌≤◌, length, take, [], IfOk, IfErr, Ok, Err};
 ghost use Rattle.tlv_area.specs.declared.container.ContainerFault.{ContainerFault};
@@ -15,12 +15,7 @@ use crate::how::How;
 use nfc_base::TagLink;
 use std::alloc::Global;
 use t5t_tag::NO_BLOCK;
-use tlv_area::{
-    AreaMap, ContainerFault, Space, Walk, Walker, container_t2, container_t5, find_message,
-};
-
-/// How many blocks the numbers of one byte can name.
-const NAMED_BLOCKS: u32 = 256;
+use tlv_area::{AreaMap, ContainerFault, Space, Walk, Walker, container_t2, find_message};
 
 pub fn of_container(fault: ContainerFault) -> ReadFault
     ensures { result ≡ of_container fault }
@@ -43,16 +38,12 @@ pub fn space_of(how: How, first: &[u8]) -> Result<Space, ContainerFault>
     match how {
         How::T2 => container_t2(&[first[12], first[13], first[14], first[15]]),
         How::T4 => unreachable!(),
-        How::T5(_) => {
-            let space = container_t5(&[first[0], first[1], first[2], first[3]])?;
-            let end = space.end.min(NAMED_BLOCKS * first.len() as u32);
-            Ok(Space { end, ..space })
-        }
+        How::T5(_) => unreachable!(),
     }
 }
 
 /// The known bytes up to an address.
-fn front(known: &[u8], end: u32) -> &[u8]
+pub fn front(known: &[u8], end: u32) -> &[u8]
     ensures { result.now ≡ take end known.now }
 {
     if known.len() > end as usize {
@@ -63,7 +54,7 @@ fn front(known: &[u8], end: u32) -> &[u8]
 }
 
 /// What is wrong with an area that the tag ends before, where the walk needs a byte behind the tag's end.
-fn cut_fault(space: Space, known: &[u8]) -> ReadFault
+pub fn cut_fault(space: Space, known: &[u8]) -> ReadFault
     requires area { IsArea space }
     requires begins { space.start ≤ length known.now }
     requires more { NeedsMore space known.now }

@@ -6,7 +6,6 @@ ghost use Rattle.tag_reader.specs.Steps.{HasNumber};
 
 use nfc_base::Frame;
 use t2t_tag::T2Command;
-use t5t_tag::T5Command;
 
 /// The kind of the tag behind a link. A Type 5 tag is named by its identifier, high byte first.
 #[derive(Clone, Copy, Debug, PartialEq, Eq)]
@@ -16,18 +15,14 @@ pub enum How {
     T5([u8; 8]),
 }
 
-/// The READ that is the `index`-th, counted from 0: four blocks of a Type 2 tag, or one block of a Type 5 tag.
+/// The READ that is the `index`-th, counted from 0: four blocks of a Type 2 tag.
 pub fn command(how: How, index: u8) -> Frame
     requires { HasNumber how index }
-    ensures { (store : List ℕ) → result ≡ command how store index }
+    ensures { (size : ℕ) (store : List ℕ) → result ≡ command how size store index }
 {
     match how {
         How::T2 => T2Command::Read { block: 4 * index }.to_frame(),
         How::T4 => unreachable!(),
-        How::T5(id) => T5Command::Read {
-            id: Some(id),
-            block: index,
-        }
-        .to_frame(),
+        How::T5(_) => unreachable!(),
     }
 }

@@ -36,15 +36,13 @@ pub fn one_asked(how: How, size: usize, store: &[u8])
     ensures some { (commands : List Signal) × IsAsked how size store.now commands }
     ensures one { (xs ys : List Signal) → IsAsked how size store.now xs → IsAsked how size store.now ys → xs ≡ ys }
     ensures front { (n : ℕ) (xs : List Signal) → AreDue how size store.now n → IsAsked how size store.now xs →
-        IsFront (first how store.now n) xs }
+        IsFront (first how size store.now n) xs }
 {
     match how {
         How::T2 => {
             count_blocks(how, size, store);
         }
         How::T4 => {}
-        How::T5(_) => {
-            count_blocks(how, size, store);
-        }
+        How::T5(_) => {}
     }
 }

@@ -2,15 +2,19 @@
 
 ghost use Rattle.std.specs.Prelude.{◌≡◌, IsErrOf, Some};
 ghost use Rattle.nfc_base.specs.declared.tag_link.AskFault.{AskFault};
+ghost use Rattle.tag_reader.specs.declared.how.How.TheVariants as hows;
 ghost use Rattle.tag_reader.specs.Reading.{KeepsStore, AsksInOrder, AsksAll, LeavesLink, TellsMessage, TellsCause, TellsInCalm};
+ghost use Rattle.tag_reader.specs.Counts.{AsksFew};
 ghost use Rattle.tag_reader.specs.Heard.{IsOf, IsToldBy, TellsExactly, TellsRefusals, TellsSaid, TellsCutOff};
 ghost use Rattle.tag_reader.specs.Steps.{IsOfBlocks, ReadsTag, ReadsBlocks, of_link};
 
+use crate::block_finding::find_in_blocks;
 use crate::fault::ReadFault;
 use crate::file::read_file;
 use crate::finding::find_map;
 use crate::found::{Found, Site};
 use crate::how::How;
+use crate::known::Known;
 use nfc_base::{Items, TagLink};
 use std::alloc::Global;
 use tlv_area::copy_message;
@@ -36,6 +40,8 @@ pub fn read<T: TagLink>(alloc: Global, link: &mut T, how: How) -> Result<Found, 
     // what was answered is the first of what is asked, and all of it unless the link or memory failed
     ensures asked { AsksInOrder how (T.seen link.old) (T.seen link.new) }
     ensures whole { AsksAll how (T.seen link.old) (T.seen link.new) result }
+    // and that is few
+    ensures few { AsksFew how (T.seen link.old) }
     // by what it then tells the link doesn't end
     ensures goes_on { LeavesLink how (T.seen link.old) (T.seen link.new) result }
     ensures ok { TellsMessage how (T.seen link.old) result }
@@ -61,11 +67,11 @@ fn read_kind<T: TagLink>(alloc: Global, link: &mut T, how: How) -> Result<Found,
     match how {
         How::T2 => read_area(alloc, link, how),
         How::T4 => read_file(alloc, link),
-        How::T5(_) => read_area(alloc, link, how),
+        How::T5(id) => read_blocks(alloc, link, id),
     }
 }
 
-/// Reads the message of a tag that has an area of TLVs.
+/// Reads the message of a Type 2 tag.
 fn read_area<T: TagLink>(alloc: Global, link: &mut T, how: How) -> Result<Found, ReadFault>
     requires ready { T.ready link.old }
     requires of { IsOf how (T.seen link.old) }
@@ -80,6 +86,32 @@ fn read_area<T: TagLink>(alloc: Global, link: &mut T, how: How) -> Result<Found,
     let mut known = Vec::new(alloc);
     let map = find_map(alloc, link, how, &mut known)?;
     match copy_message(alloc, &map, known.as_slice()) {
+        Err(_) => Err(ReadFault::Memory),
+        Ok(message) => {
+            let writable = map.space.writable;
+            Ok(Found {
+                message: Items::new(message),
+                site: Site::Area(map),
+                writable,
+            })
+        }
+    }
+}
+
+/// Reads the message of the Type 5 tag with this identifier.
+fn read_blocks<T: TagLink>(alloc: Global, link: &mut T, id: [u8; 8]) -> Result<Found, ReadFault>
+    requires ready { T.ready link.old }
+    requires of { IsOf (hows.T5 id) (T.seen link.old) }
+    // whatever the tag does
+    ensures told { IsToldBy (hows.T5 id) (T.seen link.old) (T.seen link.new) result }
+    ensures reads { ReadsTag (hows.T5 id) (T.seen link.old) (T.seen link.new) result }
+    ensures ready { T.ready link.new }
+    ensures same { T.lenders link.new ≡ T.lenders link.old }
+    ensures moves { T.moves link.old link.new }
+{
+    let mut known = Known::new(alloc);
+    let map = find_in_blocks(alloc, link, id, &mut known)?;
+    match copy_message(alloc, &map, known.bytes.as_slice()) {
         Err(_) => Err(ReadFault::Memory),
         Ok(message) => {
             let writable = map.space.writable;

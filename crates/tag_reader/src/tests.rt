@@ -366,6 +366,19 @@ fn reads_type_5_tags(rt: HostRuntime) -> Result<(), Fail> {
     let message = [0xD0, 0, 0];
     let plain = [0xE1, 0x40, 0x0F, 0, 3, 3, 0xD0, 0, 0, 0xFE];
     let cut = [0xE1, 0x40, 6, 0, 3, 3, 0xD0, 0, 0, 0xFE];
+    // containers that allow READ MULTIPLE BLOCKS: of an area that the tag has whole, and of one that it cuts
+    let many = [0xE1, 0x40, 7, 1, 3, 3, 0xD0, 0, 0, 0xFE];
+    let refused = [0xE1, 0x40, 0x0F, 1, 3, 3, 0xD0, 0, 0, 0xFE];
+    // containers of eight bytes
+    let wide = [0xE2, 0x40, 0, 0, 0, 0, 0, 0xFF, 3, 3, 0xD0, 0, 0, 0xFE];
+    let short = [0xE1, 0x40, 0, 0, 0, 0, 0, 0xFF, 3, 3, 0xD0, 0, 0, 0xFE];
+    // messages that go on past block 255
+    let far = [0xE2, 0x40, 0, 0, 0, 0, 0, 0xFF, 3, 0xFF, 4, 0];
+    let far_many = [0xE2, 0x40, 0, 1, 0, 0, 0, 0xFF, 3, 0xFF, 4, 0];
+    let near = [0xE1, 0x40, 0, 1, 0, 0, 0, 0xFF, 3, 0xFF, 4, 0];
+    let zeros = [0; 1024];
+    // the largest tag
+    let large = [0xE2, 0x40, 0, 1, 0, 0, 0x1F, 0xFF, 3, 0xFF, 0xFF, 0xFE];
     // the size of a block, and the row
     let rows = [
         (4, holds(0, 128, &plain, &message, 3)),
@@ -374,13 +387,33 @@ fn reads_type_5_tags(rt: HostRuntime) -> Result<(), Fail> {
         (4, lacks(0, 16, &[0, 0, 0, 0], 1, 1)),
         (4, lacks(0, 16, &[0xE1, 0x80, 6, 0], 2, 1)),
         (4, lacks(0, 16, &[0xE1, 0x4C, 6, 0], 3, 1)),
-        (4, lacks(0, 16, &[0xE1, 0x40, 0, 0], 5, 1)),
+        (4, lacks(0, 16, &[0xE1, 0x40, 0, 0], 5, 2)),
         // the tag ends before its area, where nothing was found or a value goes on
         (4, lacks(0, 16, &[0xE1, 0x40, 6, 0], 6, 5)),
         (4, lacks(0, 16, &[0xE1, 0x40, 6, 0, 3, 0x20], 7, 5)),
         (4, lacks(0, 16, &[0xE1, 0x40, 6, 0, 3, 0x30], 7, 2)),
         // the numbers of blocks end before the area
         (4, lacks(0, 1024, &[0xE1, 0x40, 0xFF, 0], 6, 256)),
+        // several blocks at once, and a refusal of that: each is asked for alone then
+        (4, holds(0, 64, &many, &message, 2)),
+        (4, holds(0, 64, &refused, &message, 4)),
+        (8, holds(0, 64, &many, &message, 2)),
+        (16, holds(0, 64, &many, &message, 1)),
+        // the container is read by single blocks until it is whole, or until the tag ends
+        (4, holds(0, 2048, &wide, &message, 4)),
+        (4, holds(0, 2048, &short, &message, 4)),
+        (8, holds(0, 2048, &wide, &message, 2)),
+        (4, lacks(0, 4, &[0xE1, 0x40, 0, 0], 5, 2)),
+        (4, lacks(0, 8, &[0xE2, 0x40, 0, 0], 5, 2)),
+        // blocks from 256 on, by numbers of two bytes; a container with E1h names no such blocks
+        (4, holds(0, 2048, &far, &zeros, 259)),
+        (4, holds(0, 2048, &far_many, &zeros, 9)),
+        (4, lacks(0, 2048, &near, 7, 3)),
+        (
+            4,
+            lacks(0, 1028, &[0xE2, 0x40, 0, 0, 0, 0, 0, 0x81], 6, 258),
+        ),
+        (32, lacks(0, 65536, &large, 7, 1)),
     ];
     for (block, row) in &rows {
         let tag = T5Tag::new(id, store_of(rt.alloc(), row)?, *block)?;

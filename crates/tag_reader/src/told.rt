@@ -1,7 +1,7 @@
 //! What the answers to READs tell.
 
-ghost use Rattle.std.specs.Prelude.{◌≡◌, ℕ, ◌+◌, ◌*◌, ◌%◌, ◌≤◌, List, [], ◌∷◌, ◌++◌, length, Ok, Err, IfOk, IfErr};
-ghost use Rattle.nfc_base.specs.Signal.{whole_a};
+ghost use Rattle.std.specs.Prelude.{◌≡◌, ℕ, ◌+◌, ◌*◌, ◌%◌, ◌≤◌, List, [], ◌∷◌, ◌++◌, length, true, ◌↔◌, Ok, Err, IfOk, IfErr};
+ghost use Rattle.nfc_base.specs.Signal.{Signal, whole_a};
 ghost use Rattle.t2t_tag.specs.Spelling as t2;
 ghost use Rattle.t2t_tag.specs.declared.answer.T2Answer.{T2Answer};
 ghost use Rattle.t4t_tag.specs.Step.{done};
@@ -10,10 +10,12 @@ ghost use Rattle.t5t_tag.specs.declared.answer.T5Answer.{T5Answer};
 ghost use Rattle.tag_reader.specs.declared.fault.ReadFault.{ReadFault};
 ghost use Rattle.tag_reader.specs.declared.how.How.TheVariants as hows;
 ghost use Rattle.tag_reader.specs.Kinds.{reply};
-ghost use Rattle.tag_reader.specs.Heard.{HasContent, IsRefusal};
+ghost use Rattle.tag_reader.specs.Heard.{HasContent, IsRefusal, IsBlocks};
+ghost use Rattle.tag_reader.specs.BlockSteps.{TellsBlocks};
 ghost use Rattle.tag_reader.specs.HeardSteps.{TellsOf, TellsFault};
 ghost use Rattle.tag_reader.specs.Steps.{IsBlockStore, IsOfBlocks, IsInReach, TellsNext};
 
+use crate::ask::Ask;
 use crate::fault::ReadFault;
 use crate::how::How;
 use arrayvec::ArrayVec;
@@ -23,6 +25,9 @@ use t5t_tag::{NO_BLOCK, T5Answer};
 
 /// The status bytes of a Type 4 tag that obeyed a command (ISO/IEC 7816-4).
 const DONE: [u8; 2] = [0x90, 0x00];
+
+/// How many bytes a block has at least, so that a container of four bytes lies in the first.
+const CONTAINER_SIZE: usize = 4;
 
 /// What the answer to a READ tells: some bytes of the store, or that the tag ends before them.
 #[derive(Drop)]
@@ -56,20 +61,60 @@ fn tell_t2(answer: &Frame) -> Result<Told, ReadFault>
     }
 }
 
-/// The same of a Type 5 tag. An error of a block that isn't there tells that the tag has ended.
-fn tell_t5(answer: &Frame) -> Result<Told, ReadFault>
-    ensures tells { (id : List ℕ) → TellsOf (hows.T5 id) answer.now result }
-    ensures refused { (code : ℕ) → answer.now ≡ t5.answer_frame (T5Answer.Error code) → (code ≡ NO_BLOCK → ⊥) →
-        result ≡ Err (ReadFault.Refused code) }
-    ensures content { (content : List ℕ) → length content ≤ 256 → length content % 4 ≡ 0 →
-        answer.now ≡ t5.answer_frame (T5Answer.Content (record { items = content })) →
-        result ≡ Ok (Told.Bytes (record { items = content })) }
-    ensures ended { answer.now ≡ t5.answer_frame (T5Answer.Error NO_BLOCK) → result ≡ Ok Told.Ended }
+/// What the answer of a Type 5 tag tells: blocks, that it doesn't give several at once, or that it has ended.
+#[derive(Drop)]
+pub enum BlocksTold {
+    Bytes(ArrayVec<u8, 256>),
+    Single,
+    Ended,
+}
+
+/// Whether content is as long as it was asked for, where blocks are so long, 0 of the first one. That has room for a container
+/// of four bytes.
+fn is_blocks(ask: &Ask, size: usize, content: usize) -> bool
+    requires { size ≤ 256 }
+    ensures { (bytes : List ℕ) → length bytes ≡ content → (result ≡ true) ↔ IsBlocks size ask.now bytes }
+{
+    if size == 0 {
+        return CONTAINER_SIZE <= content;
+    }
+    match ask {
+        Ask::One { block: _ } => content == size,
+        Ask::Many { block: _, more } => content == size * (*more as usize + 1),
+    }
+}
+
+/// An error of a Type 5 tag. Whatever it is, several blocks are then asked for one by one. Of a block that isn't there behind
+/// the first it tells that the tag has ended.
+fn tell_error(ask: &Ask, size: usize, code: u8) -> Result<BlocksTold, ReadFault>
+    ensures tells { (id : List ℕ) (r : Signal) → r ≡ t5.answer_frame (T5Answer.Error code) → TellsBlocks id ask.now size r result }
+{
+    match ask {
+        Ask::Many { block: _, more: _ } => Ok(BlocksTold::Single),
+        Ask::One { block: _ } => {
+            if code == NO_BLOCK && size != 0 {
+                Ok(BlocksTold::Ended)
+            } else {
+                Err(ReadFault::Refused(code as u16))
+            }
+        }
+    }
+}
+
+/// What the answer of a Type 5 tag tells that was asked for these blocks, which are so long, 0 before the first is known.
+pub fn tell_blocks(ask: &Ask, size: usize, answer: &Frame) -> Result<BlocksTold, ReadFault>
+    requires { size ≤ 256 }
+    ensures tells { (id : List ℕ) → TellsBlocks id ask.now size answer.now result }
 {
     match T5Answer::read_from(answer) {
-        Some(T5Answer::Content(content)) => Ok(Told::Bytes(content)),
-        Some(T5Answer::Error(NO_BLOCK)) => Ok(Told::Ended),
-        Some(T5Answer::Error(code)) => Err(ReadFault::Refused(code as u16)),
+        Some(T5Answer::Content(content)) => {
+            if is_blocks(ask, size, content.len()) {
+                Ok(BlocksTold::Bytes(content))
+            } else {
+                Err(ReadFault::Protocol)
+            }
+        }
+        Some(T5Answer::Error(code)) => tell_error(ask, size, code),
         Some(T5Answer::Present { id: _ }) => Err(ReadFault::Protocol),
         None => Err(ReadFault::Protocol),
     }
@@ -110,6 +155,6 @@ pub fn tell(how: How, answer: &Frame) -> Result<Told, ReadFault>
     match how {
         How::T2 => tell_t2(answer),
         How::T4 => unreachable!(),
-        How::T5(_) => tell_t5(answer),
+        How::T5(_) => unreachable!(),
     }
 }

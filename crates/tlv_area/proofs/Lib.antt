@@ -3,6 +3,7 @@ pub mod Runs
 pub mod Steps
 pub mod Trails
 pub mod OneForm
+pub mod FrontContainers
 pub mod OneNext
 pub mod Needing
 pub mod Fronts

@@ -1,14 +1,13 @@
 -- What follows a layout is one thing, so a memory has one form.
-use Rattle.std.proofs.Common.{◌≡◌, ℕ, ◌≤◌, arith, List, ◌++◌, refl, sym, ◌∙◌, ap, subst}
-use Rattle.std.specs.Prelude.{Result, Ok, Err, IfOk, Option, Some, None}
+use Rattle.std.proofs.Common.{◌≡◌, ℕ, ◌≤◌, List, ◌++◌, refl, sym, ◌∙◌, ap, subst}
+use Rattle.std.specs.Prelude.{Result, Ok, Err, IfOk}
 use Rattle.tlv_area.specs.declared.space.Space.{Space}
 use Rattle.tlv_area.specs.declared.walk.Walk.{Walk}
 use Rattle.tlv_area.specs.declared.walk.Walk.TheVariants as walk
 use Rattle.tlv_area.specs.Layout.{Tlv, Layout, IsArea}
 use Rattle.tlv_area.specs.Form.{Comes, Holds, Faulty, Message, NoMessageTlv, BadTlv, IsForm, Next, End, Fault, Unknown, Item, Stops, next}
 use Rattle.tlv_area.specs.declared.container.ContainerFault.{ContainerFault}
-use Rattle.tlv_area.specs.Stores.{IsFormBy, IsOneForm, cut_by}
-use Rattle.tlv_area.specs.Containers.{first_fault, unless, t5_faults, t5_space, t5_container}
+use Rattle.tlv_area.specs.Stores.{IsFormBy, IsOneForm}
 use Rattle.tlv_area.specs.Map.{IsWalk}
 use Rattle.tlv_area.proofs.OneForm.{next_there, one_layout}
 
@@ -70,11 +69,3 @@ needs_more space memory (walk.Held m) order is needs =
 pub one_form_by : (container : Result Space ContainerFault) (store : List ℕ) → IfOk container IsArea → IsOneForm (IsFormBy container store)
 one_form_by (Err fault) store area f g one two = one ∙ sym two
 one_form_by (Ok space) store area f g one two = one_form space store area.order f g one two
-
--- a Type 5 tag's area is one, also where the tag ends before it
-pub t5_area : (container : List ℕ) (end : ℕ) → 4 ≤ end → IfOk (cut_by (t5_container container) end) IsArea
-t5_area container end low = by_fault (first_fault (t5_faults container))
-  where
-    by_fault : (fault : Option ContainerFault) → IfOk (cut_by (unless fault (t5_space container)) end) IsArea
-    by_fault None = record { order = omega arith; small = λ e. absurd (cc) }
-    by_fault (Some f) = tt

@@ -1,8 +1,11 @@
 -- The form of a tag's store: its container and, where that isn't faulty, its area.
-use Rattle.std.specs.Prelude.{◌≡◌, ℕ, ◌+◌, min, List, [], ◌∷◌, length, slice_index, Result, Ok, Err}
+use Rattle.std.specs.Prelude.{◌≡◌, ℕ, ◌+◌, ◌*◌, min, if◌then◌else◌, Bool, List, [], ◌∷◌, length, slice_index, Result, Ok, Err}
 use Rattle.tlv_area.specs.declared.space.Space.{Space}
 use Rattle.tlv_area.specs.declared.container.ContainerFault.{ContainerFault}
-use Rattle.tlv_area.specs.Containers.{t2_container, t5_container}
+use Rattle.tlv_area.specs.declared.container.T5Container.{T5Container}
+use Rattle.tlv_area.specs.declared.container.T5Container.TheVariants.{Ready, More}
+use Rattle.tlv_area.specs.Layout.{IsArea}
+use Rattle.tlv_area.specs.Containers.{t2_container, T5Area, t5_container}
 use Rattle.tlv_area.specs.Form.{Form, Faulty, IsForm}
 
 -- four bytes from one on
@@ -26,9 +29,29 @@ cut_by (Ok space) end = Ok (cut space end)
 abbrev pub IsT2Form : List ℕ → Form → Type 0
 IsT2Form store f = IsFormBy (t2_container (four_bytes store 12)) store f
 
+-- How many blocks the numbers of a Type 5 tag can name: they have one byte, or two where the container begins with E2h.
+abbrev pub named_blocks : Bool → ℕ
+named_blocks wide = if wide then 65536 else 256
+
+-- The area that the container of a Type 5 store of blocks of so many bytes names. It ends where block numbers do at the latest.
+abbrev pub t5_reach : ℕ → T5Area → Space
+t5_reach size area = cut area.space (named_blocks area.wide * size)
+
+abbrev pub t5_area_by : ℕ → Result T5Area ContainerFault → Result Space ContainerFault
+t5_area_by size (Err fault) = Err fault
+t5_area_by size (Ok area) = Ok (t5_reach size area)
+
+abbrev pub t5_area : ℕ → List ℕ → Result Space ContainerFault
+t5_area size store = t5_area_by size (t5_container store)
+
+-- a container that is whole names an area
+abbrev pub IsReadyArea : T5Container → Type 0
+IsReadyArea (Ready space wide many) = IsArea space
+IsReadyArea More = Unit {0}
+
 -- A Type 5 store begins with its container, and its area ends at the tag's end at the latest.
-abbrev pub IsT5Form : List ℕ → Form → Type 0
-IsT5Form store f = IsFormBy (cut_by (t5_container (four_bytes store 0)) (length store)) store f
+abbrev pub IsT5Form : ℕ → List ℕ → Form → Type 0
+IsT5Form size store f = IsFormBy (cut_by (t5_area size store) (length store)) store f
 
 -- a store has no two forms
 abbrev pub IsOneForm : (Form → Type 0) → Type 0

@@ -1,16 +1,25 @@
 //! The capability container of a tag: the area or the file that it names.
 
-ghost use Rattle.std.specs.Prelude.{◌≡◌, ◌<◌, ◌↔◌, Err, Some, IfOk};
+ghost use Rattle.std.specs.Prelude.{◌≡◌, ◌≢◌, ℕ, ◌+◌, ◌*◌, ◌%◌, ◌<◌, ◌≤◌, ◌==◌, ◌↔◌, ◌++◌, List, length, slice_index, false, Ok, Err, Some, IfOk};
 ghost use Rattle.tlv_area.specs.declared.container.ContainerFault.{ContainerFault};
 ghost use Rattle.tlv_area.specs.Layout.{IsArea};
-ghost use Rattle.tlv_area.specs.Containers.{first_fault, t2_faults, t2_container, t5_faults, t5_container, t4_faults, t4_container, container_fault_number};
+ghost use Rattle.tlv_area.specs.Stores.{IsReadyArea};
+ghost use Rattle.tlv_area.specs.Containers.{first_fault, t2_faults, t2_container, t5_head_faults, t5_faults, t5_is_open, t5_front, t4_faults, t4_container, container_fault_number};
 ghost use Rattle.nfc_base.specs.Words.{word};
 
 use crate::space::Space;
 use thiserror::Error;
 
-/// The magic number of a container whose area is counted in one byte.
+/// The magic number of a container of a tag whose blocks have numbers of one byte.
 const MAGIC: u8 = 0xE1;
+
+/// The magic number of a Type 5 container of a tag whose blocks have numbers of two bytes.
+const WIDE_MAGIC: u8 = 0xE2;
+
+/// How many bytes a Type 5 container has, and one that counts its area in two bytes.
+const SHORT: usize = 4;
+
+const LONG: usize = 8;
 
 /// The largest area of a Type 2 tag of one sector, in eights of bytes.
 const LARGEST: u8 = 0x7E;
@@ -89,32 +98,88 @@ pub fn container_t2(bytes: &[u8; 4]) -> Result<Space, ContainerFault>
     })
 }
 
-/// The container of a Type 5 tag, which is its bytes 0 to 3 (NFC Forum Type 5 Tag). The area ends where the
-/// container says, also where the tag ends before. It takes no memory.
-pub fn container_t5(bytes: &[u8; 4]) -> Result<Space, ContainerFault>
-    ensures exact { result ≡ t5_container bytes.now }
-    ensures cause { (f : ContainerFault) → (result ≡ Err f) ↔ (first_fault (t5_faults bytes.now) ≡ Some f) }
-    ensures area { IfOk result IsArea }
+/// What a front of a Type 5 tag's memory tells of its container (NFC Forum Type 5 Tag).
+#[derive(Clone, Copy, Debug, PartialEq, Eq)]
+pub enum T5Container {
+    /// The area, whether its blocks have numbers of two bytes, and whether one command may read many blocks.
+    Ready {
+        space: Space,
+        wide: bool,
+        many: bool,
+    },
+    /// The container goes on behind what is known.
+    More,
+}
+
+/// The fault that the first two bytes of a Type 5 container tell.
+fn fault_t5(magic: u8, access: u8) -> Option<ContainerFault>
+    ensures { (known : List ℕ) → slice_index known 0 ≡ magic → slice_index known 1 ≡ access →
+        result ≡ first_fault (t5_head_faults known) }
 {
-    let [magic, access, size, _] = *bytes;
-    if magic != MAGIC {
-        return Err(ContainerFault::NotNdef);
+    if magic != MAGIC && magic != WIDE_MAGIC {
+        return Some(ContainerFault::NotNdef);
     }
     if access / 64 != 1 {
-        return Err(ContainerFault::Version);
+        return Some(ContainerFault::Version);
     }
     if access / 4 % 4 != 0 {
-        return Err(ContainerFault::NoRead);
+        return Some(ContainerFault::NoRead);
     }
+    None
+}
+
+/// A Type 5 container that has no fault: its area begins there, and has eight times so many bytes.
+fn ready_t5(known: &[u8], start: u32, size: u32) -> T5Container
+    requires whole { 4 ≤ length known.now }
+    requires small { start ≤ 8 }
+    requires sized { size < 65536 }
+    ensures { result ≡ T5Container.Ready (record {
+      start = start;
+      end = start + 8 * size;
+      control = false;
+      writable = slice_index known.now 1 % 4 == 0;
+    }) (slice_index known.now 0 == 0xE2) (slice_index known.now 3 % 2 == 1) }
+{
+    T5Container::Ready {
+        space: Space {
+            start,
+            end: start + 8 * size,
+            control: false,
+            writable: known[1] % 4 == 0,
+        },
+        wide: known[0] == WIDE_MAGIC,
+        many: known[3] % 2 == 1,
+    }
+}
+
+/// The container of a Type 5 tag, which is its first four bytes, or its first eight (NFC Forum Type 5 Tag): `known` is the
+/// memory from address 0. The area ends where the container says, also where the tag ends before, or its block numbers do.
+/// It takes no memory.
+pub fn container_t5(known: &[u8]) -> Result<T5Container, ContainerFault>
+    ensures exact { result ≡ t5_front known.now }
+    // what isn't open stays so in each memory that begins with it
+    ensures front { (more : List ℕ) → result ≢ Ok T5Container.More → t5_front (known.now ++ more) ≡ result }
+    ensures cause { (f : ContainerFault) → (result ≡ Err f) ↔
+        ((t5_is_open known.now ≡ false) × (first_fault (t5_faults known.now) ≡ Some f)) }
+    ensures area { IfOk result IsReadyArea }
+{
+    if known.len() < SHORT {
+        return Ok(T5Container::More);
+    }
+    if let Some(fault) = fault_t5(known[0], known[1]) {
+        return Err(fault);
+    }
+    if known[2] != 0 {
+        return Ok(ready_t5(known, SHORT as u32, known[2] as u32));
+    }
+    if known.len() < LONG {
+        return Ok(T5Container::More);
+    }
+    let size = known[6] as u32 * 256 + known[7] as u32;
     if size == 0 {
         return Err(ContainerFault::BadSize);
     }
-    Ok(Space {
-        start: 4,
-        end: 4 + 8 * size as u32,
-        control: false,
-        writable: access % 4 == 0,
-    })
+    Ok(ready_t5(known, LONG as u32, size))
 }
 
 /// Two bytes from one on, high first.

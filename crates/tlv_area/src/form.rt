@@ -1,14 +1,19 @@
 //! That each store has exactly one form. The calls do nothing: they stand for these laws.
 
-ghost use Rattle.std.specs.Prelude.{◌≡◌, ℕ, ◌≤◌, length, IfOk};
+ghost use Rattle.std.specs.Prelude.{◌≡◌, ℕ, ◌≤◌, Bool, length, IfOk};
 ghost use Rattle.tlv_area.specs.Containers.{t2_container};
 ghost use Rattle.tlv_area.specs.Layout.{IsArea};
 ghost use Rattle.tlv_area.specs.Form.{Form, IsForm, OneLayout};
-ghost use Rattle.tlv_area.specs.Stores.{four_bytes, cut, IsT2Form, IsT5Form, IsOneForm};
+ghost use Rattle.tlv_area.specs.Stores.{four_bytes, cut, t5_reach, IsT2Form, IsT5Form, IsOneForm};
 
-use crate::container::{container_t2, container_t5};
+use crate::container::{T5Container, container_t2, container_t5};
 use crate::space::Space;
 use crate::walk::find_message;
+
+/// How many blocks numbers of one byte can name, and of two.
+const NAMED_BY_ONE: usize = 256;
+
+const NAMED_BY_TWO: usize = 65536;
 
 /// An area that a memory has whole: it has exactly one form, and up to where a walk stops exactly one layout.
 pub fn one_form(space: &Space, memory: &[u8])
@@ -49,15 +54,30 @@ fn cut_at(space: &Space, length: usize) -> Space
     }
 }
 
-/// A Type 5 store.
-pub fn one_form_t5(store: &[u8])
-    requires { 4 ≤ length store.now }
-    ensures some { (f : Form) × IsT5Form store.now f }
-    ensures one { IsOneForm (IsT5Form store.now) }
+/// The area that a Type 5 tag of blocks of so many bytes can name by its block numbers.
+fn reach(space: &Space, wide: bool, block: u8) -> Space
+    ensures { (many : Bool) → result ≡ t5_reach block (record { space = space.now; wide = wide; many = many }) }
 {
-    let container = [store[0], store[1], store[2], store[3]];
-    match container_t5(&container) {
-        Ok(space) => one_form(&cut_at(&space, store.len()), store),
+    let named = if wide { NAMED_BY_TWO } else { NAMED_BY_ONE };
+    cut_at(space, named * block as usize)
+}
+
+/// A Type 5 store of blocks of so many bytes.
+pub fn one_form_t5(store: &[u8], block: u8)
+    requires some { 1 ≤ block }
+    requires container { 4 ≤ length store.now }
+    ensures some { (f : Form) × IsT5Form block store.now f }
+    ensures one { IsOneForm (IsT5Form block store.now) }
+{
+    match container_t5(store) {
+        Ok(
+            T5Container::Ready {
+                space,
+                wide,
+                many: _,
+            },
+        ) => one_form(&cut_at(&reach(&space, wide, block), store.len()), store),
+        Ok(T5Container::More) => {}
         Err(_fault) => {}
     }
 }

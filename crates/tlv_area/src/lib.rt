@@ -24,7 +24,9 @@ mod step;
 mod walk;
 mod writing;
 
-pub use container::{ContainerFault, FileMap, container_t2, container_t4, container_t5};
+pub use container::{
+    ContainerFault, FileMap, T5Container, container_t2, container_t4, container_t5,
+};
 pub use form::{one_form, one_form_t2, one_form_t5};
 pub use message::{copy_message, message_byte};
 pub use planning::{PlanFault, plan};

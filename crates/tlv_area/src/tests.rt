@@ -4,8 +4,8 @@ ghost use Rattle.std.specs.Prelude.{◌≡◌, ◌≤◌, length};
 ghost use Rattle.tlv_area.specs.Layout.{IsArea};
 
 use crate::{
-    ContainerFault, Space, Walk, Walker, container_t2, container_t4, container_t5, copy_message,
-    find_message, message_byte, one_form, one_form_t2, one_form_t5,
+    ContainerFault, Space, T5Container, Walk, Walker, container_t2, container_t4, container_t5,
+    copy_message, find_message, message_byte, one_form, one_form_t2, one_form_t5,
 };
 use std::test::Fail;
 
@@ -193,7 +193,7 @@ fn type_2_faults(rt: HostRuntime) -> Result<(), Fail> {
 
 #[test]
 fn type_5_areas(rt: HostRuntime) -> Result<(), Fail> {
-    let rows: [(usize, &[u8], Holds); 6] = [
+    let rows: [(usize, &[u8], Holds); 11] = [
         // a tag that ends before its area
         (
             16,
@@ -213,19 +213,81 @@ fn type_5_areas(rt: HostRuntime) -> Result<(), Fail> {
         ),
         (16, &[0xE1, 0x40, 6, 0, 7, 12], Holds::Fault(8)),
         (16, &[0xE1, 0x80, 6, 0], Holds::Fault(2)),
-        (16, &[0xE2, 0x40, 0, 0], Holds::Fault(1)),
+        (16, &[0xE3, 0x40, 6, 0], Holds::Fault(1)),
+        // containers of eight bytes: their area begins behind them, and is counted in bytes 6 and 7
+        (
+            16,
+            &[0xE2, 0x40, 0, 0, 0, 0, 0, 1, 3, 3, 0xD0, 0, 0, 0xFE],
+            Holds::Message(Vec::from_slice(rt.alloc(), &[0xD0, 0, 0])?),
+        ),
+        (
+            16,
+            &[0xE1, 0x40, 0, 0, 0xFF, 0xFF, 0, 1, 3, 3, 0xD0, 0, 0, 0xFE],
+            Holds::Message(Vec::from_slice(rt.alloc(), &[0xD0, 0, 0])?),
+        ),
+        (16, &[0xE2, 0x40, 0, 0, 0, 1, 0, 0], Holds::Fault(5)),
+        (16, &[0xE2, 0x4C, 0, 0], Holds::Fault(3)),
+        (4, &[0xE1, 0x40, 0, 0], Holds::Fault(8)),
     ];
     for (size, bytes, held) in rows {
         let store = store(&rt, size, 0, bytes)?;
         assert!(rt; store.len() >= 4);
-        let told = match container_t5(&[store[0], store[1], store[2], store[3]]) {
-            Ok(space) => area_holds(&rt, &space, &store)?,
+        let told = match container_t5(&store) {
+            Ok(
+                T5Container::Ready {
+                    space,
+                    wide,
+                    many: _,
+                },
+            ) => {
+                assert_eq!(rt; wide, store[0] == 0xE2);
+                area_holds(&rt, &space, &store)?
+            }
+            Ok(T5Container::More) => Holds::Fault(8),
             Err(fault) => Holds::Fault(fault.number()),
         };
         assert_eq!(rt; told, held, "at {bytes:?}");
-        one_form_t5(&store);
+        one_form_t5(&store, 4);
     }
     Ok(())
+}
+
+/// What is open until its last byte, and where the area lies then.
+#[test]
+fn type_5_containers(rt: HostRuntime) {
+    let largest = [0xE2, 0x43, 0, 3, 0, 0, 0xFF, 0xFF];
+    for known in 0..8 {
+        assert_eq!(rt;
+            container_t5(&largest[..known]),
+            Ok(T5Container::More),
+            "at {known}"
+        );
+    }
+    let space = Space {
+        start: 8,
+        end: 524_288,
+        control: false,
+        writable: false,
+    };
+    let (wide, many) = (true, true);
+    assert_eq!(rt;
+        container_t5(&largest),
+        Ok(T5Container::Ready { space, wide, many })
+    );
+    let short = [0xE1, 0x40, 6, 2, 0, 0];
+    let space = Space {
+        start: 4,
+        end: 52,
+        control: false,
+        writable: true,
+    };
+    let (wide, many) = (false, false);
+    for known in 4..6 {
+        assert_eq!(rt;
+            container_t5(&short[..known]),
+            Ok(T5Container::Ready { space, wide, many })
+        );
+    }
 }
 
 #[test]

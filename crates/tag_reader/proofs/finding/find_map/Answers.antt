@@ -155,7 +155,7 @@ pub returns-in-Held-clause-sees : goal.returns-in-Held-clause-sees
 returns-in-Held-clause-sees g c =
     let finds = finds_in c.needs_more.new.self c.in-Ok.space c.front-2.result.now (walk.Held c.in-Held.map) (c.needs_more.ensures.space ∙ c.walk.invariant.space) c.in-Held.ensures.finds in
     let e : c.front-2.result.now ≡ take c.in-Ok.space.end c.walk.known.items = c.front-2.ensures ∙ ap (λ k. take c.in-Ok.space.end k) c.as_slice-2.ensures.value in
-    looks_held c.args.how (g.T.TagLink.seen c.args.link.now) (g.T.TagLink.seen c.walk.link) c.walk.known.items c.front-2.result.now c.in-Ok.space c.walk.index c.in-Held.map c.walk.invariant.looks e (λ more. finds.front more tt)
+    looks_held c.args.how (g.T.TagLink.seen c.args.link.now) (g.T.TagLink.seen c.walk.link) c.walk.known.items c.front-2.result.now c.in-Ok.space c.walk.index c.in-Held.map c.requires.kind c.walk.invariant.looks e (λ more. finds.front more tt)
     (λ more. finds.settled more tt) finds.places
 
 pub returns-in-NoMessageTlv-clause-sees : goal.returns-in-NoMessageTlv-clause-sees

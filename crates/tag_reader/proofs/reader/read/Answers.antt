@@ -1,4 +1,5 @@
 use Rattle.tag_reader.proofs.Exact.{tells_refused, tells_protocol, exactly_over}
+use Rattle.tag_reader.proofs.BlockCounts.{few_of}
 use Rattle.tag_reader.proofs.OneForm.{said_told, cut_told}
 use Rattle.tag_reader.proofs.reader.read.Goals as goal
 
@@ -37,3 +38,6 @@ returns-clause-err g c size is = (c.read_kind.ensures.reads size is).err
 
 pub returns-clause-calm : goal.returns-clause-calm
 returns-clause-calm g c size is = (c.read_kind.ensures.reads size is).calm
+
+pub returns-clause-few : goal.returns-clause-few
+returns-clause-few g c = few_of c.args.how (g.T.TagLink.seen c.args.link.now)

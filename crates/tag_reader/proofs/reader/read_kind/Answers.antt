@@ -24,9 +24,14 @@ returns-in-T4-clause-reads g c size is =
     subst (λ h. IsRead h size (g.T.TagLink.seen c.args.link.now) (g.T.TagLink.seen c.read_file.new.link) c.read_file.result) (sym c.in-T4.is)
     (c.read_file.ensures.reads size (subst (λ h. IsTag h size (g.T.TagLink.seen c.args.link.now)) c.in-T4.is is))
 
-pub read_area-requires-in-T5-clause-kind : goal.read_area-requires-in-T5-clause-kind
-read_area-requires-in-T5-clause-kind g c = subst IsOfBlocks (sym c.in-T5.is) tt
+pub read_blocks-requires-clause-of : goal.read_blocks-requires-clause-of
+read_blocks-requires-clause-of g c = subst (λ h. IsOf h (g.T.TagLink.seen c.args.link.now)) c.in-T5.is c.requires.of
+
+pub returns-in-T5-clause-told : goal.returns-in-T5-clause-told
+returns-in-T5-clause-told g c =
+    subst (λ h. IsToldBy h (g.T.TagLink.seen c.args.link.now) (g.T.TagLink.seen c.read_blocks.new.link) c.read_blocks.result) (sym c.in-T5.is) c.read_blocks.ensures.told
 
 pub returns-in-T5-clause-reads : goal.returns-in-T5-clause-reads
 returns-in-T5-clause-reads g c size is =
-    c.read_area-in-T5.ensures.reads size (block_tag c.args.how size (g.T.TagLink.seen c.args.link.now) (subst IsOfBlocks (sym c.in-T5.is) tt) is)
+    subst (λ h. IsRead h size (g.T.TagLink.seen c.args.link.now) (g.T.TagLink.seen c.read_blocks.new.link) c.read_blocks.result) (sym c.in-T5.is)
+    (c.read_blocks.ensures.reads size (subst (λ h. IsTag h size (g.T.TagLink.seen c.args.link.now)) c.in-T5.is is))

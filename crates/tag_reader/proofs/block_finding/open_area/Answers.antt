@@ -1,0 +1,87 @@
+use Rattle.std.proofs.Common.{◌≡◌, suc, [], ◌∷◌, ◌++◌, true, false, Ok, Err, sym, ◌∙◌, ap, subst}
+use Rattle.nfc_base.specs.TagLinks.{LinkView}
+use Rattle.tlv_area.specs.Containers.{t5_is_open, t5_front}
+use Rattle.tag_reader.specs.declared.how.How.TheVariants.{T5}
+use Rattle.tag_reader.specs.Heard.{IsFaultBy}
+use Rattle.tag_reader.specs.Steps.{Reads}
+use Rattle.tag_reader.specs.BlockSteps.{LooksBlocks, SeesBlocks, NextBlocks, GainsBlocks, EndsBlocks, HasRunOut}
+use Rattle.tag_reader.proofs.BlockEndings.{known_size, closed_sized, some_known, open_due, names_ready, names_area, later, short_blocks, reads_short, faulty_blocks, reads_faulty}
+use Rattle.tag_reader.proofs.block_finding.open_area.Goals as goal
+
+pub returns-then-not-goes_on-clause-sees : goal.returns-then-not-goes_on-clause-sees
+returns-then-not-goes_on-clause-sees g c =
+    let a : LinkView = g.T.TagLink.seen c.args.link.now in
+    let new : LinkView = g.T.TagLink.seen c.ask_blocks.new.link in
+    let looks : LooksBlocks c.args.id a (g.T.TagLink.seen c.open.link) c.open.known = c.open.invariant.looks in
+    let open' : t5_is_open c.open.known.bytes.items ≡ true = sym (c.is_open.ensures ∙ ap t5_is_open c.as_slice.ensures.value) ∙ c.open-test.true in
+    let ends : EndsBlocks c.args.id a new looks.ps c.open.known c.ask_blocks.new.known =
+    subst (λ m. SeesBlocks c.args.id a new looks.ps c.open.known c.ask_blocks.new.known (Ok m)) c.if-not-goes_on.true (c.in_ok-goes_on.ensures.sees a looks.ps looks.under looks.known') in
+    short_blocks c.args.id a new looks.ps c.open.known c.ask_blocks.new.known looks.known' open' ends
+
+pub returns-then-not-goes_on-clause-opens : goal.returns-then-not-goes_on-clause-opens
+returns-then-not-goes_on-clause-opens g c size is =
+    let a : LinkView = g.T.TagLink.seen c.args.link.now in
+    let new : LinkView = g.T.TagLink.seen c.ask_blocks.new.link in
+    let open' : t5_is_open c.open.known.bytes.items ≡ true = sym (c.is_open.ensures ∙ ap t5_is_open c.as_slice.ensures.value) ∙ c.open-test.true in
+    let r = c.open.invariant.reading size is in
+    let due = open_due c.args.id size r.0 a (g.T.TagLink.seen c.open.link) c.open.known r.1 open' in
+    let ends : HasRunOut c.args.id size a new c.open.known c.ask_blocks.new.known r.0 =
+    subst (λ m. NextBlocks c.args.id size a new c.open.known c.ask_blocks.new.known r.0 (Ok m)) c.if-not-goes_on.true (c.in_ok-goes_on.ensures.next size r.0 a r.1 due) in
+    reads_short c.args.id size r.0 a (g.T.TagLink.seen c.open.link) new c.open.known c.ask_blocks.new.known r.1 open' ends
+
+pub open-preserved : goal.open-preserved
+open-preserved g c =
+    let a : LinkView = g.T.TagLink.seen c.args.link.now in
+    let new : LinkView = g.T.TagLink.seen c.ask_blocks.new.link in
+    let looks : LooksBlocks c.args.id a (g.T.TagLink.seen c.open.link) c.open.known = c.open.invariant.looks in
+    let open' : t5_is_open c.open.known.bytes.items ≡ true = sym (c.is_open.ensures ∙ ap t5_is_open c.as_slice.ensures.value) ∙ c.open-test.true in
+    let gains : GainsBlocks c.args.id a new looks.ps c.ask_blocks.new.known =
+    subst (λ m. SeesBlocks c.args.id a new looks.ps c.open.known c.ask_blocks.new.known (Ok m)) c.if-not-goes_on.false (c.in_ok-goes_on.ensures.sees a looks.ps looks.under looks.known') in
+    record {
+      looks = record { ps = looks.ps ++ gains.piece ∷ []; under = gains.under; known' = gains.known' };
+      reading = λ size is.
+          (let r = c.open.invariant.reading size is in
+          let due = open_due c.args.id size r.0 a (g.T.TagLink.seen c.open.link) c.open.known r.1 open' in
+          (suc r.0, subst (λ m. NextBlocks c.args.id size a new c.open.known c.ask_blocks.new.known r.0 (Ok m)) c.if-not-goes_on.false (c.in_ok-goes_on.ensures.next size r.0 a r.1 due)));
+      ready = c.in_ok-goes_on.ensures.ready;
+      same = c.in_ok-goes_on.ensures.same ∙ c.open.invariant.same;
+      moves = g.met.T.TagLink.goes_on c.args.link.now c.open.link c.ask_blocks.new.link c.open.invariant.moves c.in_ok-goes_on.ensures.moves;
+    }
+
+pub returns-in-Ok-Ready-clause-names : goal.returns-in-Ok-Ready-clause-names
+returns-in-Ok-Ready-clause-names g c =
+    let looks = c.open.invariant.looks in
+    let closed : t5_is_open c.open.known.bytes.items ≡ false = sym (c.is_open.ensures ∙ ap t5_is_open c.as_slice.ensures.value) ∙ c.open-test.false in
+    names_ready c.open.known c.as_slice-2.result.now c.in-Ok-Ready.space c.reach.result c.in-Ok-Ready.wide c.in-Ok-Ready.field-0-2
+    (known_size c.args.id (g.T.TagLink.seen c.args.link.now) (g.T.TagLink.seen c.open.link) looks.ps c.open.known looks.under looks.known') closed c.as_slice-2.ensures.value
+    (λ more. c.in-Ok-Ready.ensures.front more (λ e. let f = c.in-Ok-Ready.field-0-is in cc) ∙ ap (λ f. Ok f) c.in-Ok-Ready.field-0-is) (c.reach.ensures c.in-Ok-Ready.field-0-2)
+
+pub returns-in-Ok-Ready-clause-area : goal.returns-in-Ok-Ready-clause-area
+returns-in-Ok-Ready-clause-area g c = names_area c.open.known c.reach.result (returns-in-Ok-Ready-clause-names g c)
+
+pub returns-in-Ok-Ready-clause-opens : goal.returns-in-Ok-Ready-clause-opens
+returns-in-Ok-Ready-clause-opens g c size is =
+    let closed : t5_is_open c.open.known.bytes.items ≡ false = sym (c.is_open.ensures ∙ ap t5_is_open c.as_slice.ensures.value) ∙ c.open-test.false in
+    let r = c.open.invariant.reading size is in
+    later c.args.id size r.0 (g.T.TagLink.seen c.args.link.now) (g.T.TagLink.seen c.open.link) c.open.known r.1 closed
+
+pub returns-in-Err-clause-sees : goal.returns-in-Err-clause-sees
+returns-in-Err-clause-sees g c =
+    let a : LinkView = g.T.TagLink.seen c.args.link.now in
+    let b : LinkView = g.T.TagLink.seen c.open.link in
+    let looks = c.open.invariant.looks in
+    let closed : t5_is_open c.open.known.bytes.items ≡ false = sym (c.is_open.ensures ∙ ap t5_is_open c.as_slice.ensures.value) ∙ c.open-test.false in
+    let sized = closed_sized c.open.known (known_size c.args.id a b looks.ps c.open.known looks.under looks.known') closed in
+    let front : t5_front c.open.known.bytes.items ≡ Err c.in-Err.fault = ap t5_front (sym c.as_slice-2.ensures.value) ∙ sym c.in-Err.ensures.exact in
+    subst (λ e. IsFaultBy (T5 c.args.id) a b e) (sym c.of_container.ensures)
+    (faulty_blocks c.args.id a b looks.ps c.open.known c.in-Err.fault looks.under looks.known' (some_known looks.ps c.open.known looks.known' sized.0) closed front)
+
+pub returns-in-Err-clause-opens : goal.returns-in-Err-clause-opens
+returns-in-Err-clause-opens g c size is =
+    let a : LinkView = g.T.TagLink.seen c.args.link.now in
+    let b : LinkView = g.T.TagLink.seen c.open.link in
+    let closed : t5_is_open c.open.known.bytes.items ≡ false = sym (c.is_open.ensures ∙ ap t5_is_open c.as_slice.ensures.value) ∙ c.open-test.false in
+    let r = c.open.invariant.reading size is in
+    let l = later c.args.id size r.0 a b c.open.known r.1 closed in
+    subst (λ e. Reads (T5 c.args.id) size a b [] (Err e)) (sym c.of_container.ensures)
+    (reads_faulty c.args.id size l.0 a b c.open.known c.in-Err.fault l.1 (λ more. ap (λ xs. t5_front (xs ++ more)) (sym c.as_slice-2.ensures.value) ∙ c.in-Err.ensures.front more (λ e. cc)))

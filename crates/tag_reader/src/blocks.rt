@@ -1,0 +1,57 @@
+//! How a Type 5 tag is asked for its blocks (NFC Forum Type 5 Tag).
+
+ghost use Rattle.std.specs.Prelude.{◌≡◌, ℕ, List, true, false, [], IfOk};
+ghost use Rattle.nfc_base.specs.TagLinks.{LinkView};
+ghost use Rattle.tag_reader.specs.declared.how.How.TheVariants as hows;
+ghost use Rattle.tag_reader.specs.Asked.{IsDue};
+ghost use Rattle.tag_reader.specs.Heard.{IsOf};
+ghost use Rattle.tag_reader.specs.HeardSteps.{Under, OrFault};
+ghost use Rattle.tag_reader.specs.BlockSteps.{CanAsk, Grows, IsKnown, SeesBlocks, IsReading, NextBlocks};
+
+use crate::ask::next_ask;
+use crate::asking::of_link;
+use crate::fault::ReadFault;
+use crate::known::Known;
+use crate::told::{BlocksTold, tell_blocks};
+use nfc_base::TagLink;
+use std::alloc::Global;
+
+/// Asks for the next blocks, and adds what they bring to what is known. It tells whether the tag goes on so far.
+pub fn ask_blocks<T: TagLink>(
+    alloc: Global,
+    link: &mut T,
+    id: [u8; 8],
+    known: &mut Known,
+) -> Result<bool, ReadFault>
+    requires ready { T.ready link.old }
+    requires of { IsOf (hows.T5 id) (T.seen link.old) }
+    requires asks { CanAsk known.old }
+    ensures grows { IfOk result (λ more. more ≡ true → Grows known.old known.new) }
+    // whatever the tag does
+    ensures sees { (a : LinkView) (ps : List (List ℕ)) → Under (hows.T5 id) a (T.seen link.old) ps → IsKnown ps known.old →
+        SeesBlocks id a (T.seen link.new) ps known.old known.new result }
+    ensures next { (size n : ℕ) (a : LinkView) → IsReading id size a (T.seen link.old) known.old n →
+        IsDue (hows.T5 id) size a.state.store n →
+        NextBlocks id size a (T.seen link.new) known.old known.new n result }
+    ensures ready { T.ready link.new }
+    ensures same { T.lenders link.new ≡ T.lenders link.old }
+    ensures moves { T.moves link.old link.new }
+{
+    let ask = next_ask(known);
+    let command = ask.frame(id);
+    match link.ask(alloc, &command) {
+        Err(fault) => Err(of_link(fault)),
+        Ok(answer) => match tell_blocks(&ask, known.size, &answer) {
+            Err(fault) => Err(fault),
+            Ok(BlocksTold::Ended) => Ok(false),
+            Ok(BlocksTold::Single) => {
+                known.single = true;
+                Ok(true)
+            }
+            Ok(BlocksTold::Bytes(content)) => match known.learn(&content) {
+                Err(_) => Err(ReadFault::Memory),
+                Ok(()) => Ok(true),
+            },
+        },
+    }
+}
