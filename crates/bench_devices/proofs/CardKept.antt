@@ -21,6 +21,11 @@ use Rattle.nfca_poll.specs.Front.{Front, Off, Idle, Sleep, Ready, Active, is_rea
 use Rattle.nfca_poll.specs.Fronted.{Fronted, left_at, moved, active_after, after_by}
 use Rattle.nfca_poll.specs.FrontLaws as fronted
 use Rattle.nfca_poll.specs.Levels.{levels}
+use Rattle.nfc_base.specs.Blocks.{with_block}
+use Rattle.t2t_tag.specs.declared.command.T2Command.{T2Command}
+use Rattle.t2t_tag.specs.declared.command.T2Command.TheVariants.{Read, Write}
+use Rattle.t2t_tag.specs.Spelling.{spelled_command}
+use Rattle.t2t_tag.specs.Step.{is_writable, t2_obeyed, reply_frame, held_after}
 use Rattle.t2t_tag.specs.Store.{T2Memory}
 use Rattle.t4t_tag.specs.Store.{T4State, IsSameTag, store_of, darkened}
 use Rattle.t4t_tag.proofs.Steps.{same_tag}
@@ -29,14 +34,15 @@ use Rattle.isodep_link.specs.declared.card.CardStep.{CardStep}
 use Rattle.isodep_link.specs.declared.card.CardStep.TheVariants as card
 use Rattle.isodep_link.specs.Activating.{rats}
 use Rattle.isodep_link.specs.Blocks.{spelled_block}
-use Rattle.isodep_link.specs.Sizes.{is_rats, rats_code, piece_size, ats_frame}
+use Rattle.nfc_base.specs.Headed.{is_rats}
+use Rattle.isodep_link.specs.Sizes.{rats_code, piece_size, ats_frame}
 use Rattle.isodep_link.specs.Card.{CardState, CardTurn, card_table, framed, stays, heeded}
 use Rattle.isodep_link.specs.Card as ends
 use Rattle.bench_devices.specs.Uppers.{t4_upper}
 use Rattle.bench_devices.specs.Cards.{T4Near}
 use Rattle.bench_devices.specs.declared.device.Device.{Device}
 use Rattle.bench_devices.specs.declared.device.Device.TheVariants.{T2, T4, T5}
-use Rattle.bench_devices.specs.Device.{devices, device_id, device_store, device_ready, device_selected, by_card, linked, t4_did, t4_machine}
+use Rattle.bench_devices.specs.Device.{devices, device_id, device_store, device_ready, device_selected, device_locks, by_card, linked, says_of, t2_machine, t4_did, t4_machine}
 use Rattle.bench_devices.specs.Device.{air}
 use Rattle.bench_devices.specs.Phases.{Kept, kept, ghosts}
 use Rattle.bench_devices.specs.Standing.{at_rest, step_keeps}
@@ -111,7 +117,7 @@ did_none u f none None = by_rats (is_rats f)
 
 -- what stays of a Type 4 tag
 abbrev tagged : List ℕ → T4State → Kept
-tagged id t = record { id = id; how = hows.T4; size = 0; store = store_of t; code = t.code; container = t.container }
+tagged id t = record { id = id; how = hows.T4; size = 0; store = store_of t; locked = []; code = t.code; container = t.container }
 
 -- such a frame changes no Type 4 tag but in its state
 pub four_keeps : (d : Fronted T4Near) (f : Signal) → DeliversNone f → kept (T4 (after_by t4_machine d.front d f None)) ≡ kept (T4 d)
@@ -164,6 +170,37 @@ four_same d f =
     let P : T4State → Type 0 = λ t. IsSameTag d.upper.tag t in
     step_holds P (λ t h. record { code = h.code; container = h.container; length = h.length }) d.front d f (itself d.upper.tag) (did_same d.upper f d.upper.link)
 
+-- No frame changes which blocks of a Type 2 tag are locked.
+locks_left : (front next : Front) (u : T2Memory) → (left_at t2_machine front next u).locked ≡ u.locked
+locks_left Off next u = refl
+locks_left Idle next u = refl
+locks_left Sleep next u = refl
+locks_left (Ready k starred) next u = refl
+locks_left (Active starred) Off u = refl
+locks_left (Active starred) Idle u = refl
+locks_left (Active starred) Sleep u = refl
+locks_left (Active starred) (Ready k other) u = refl
+locks_left (Active starred) (Active other) u = refl
+
+obeyed_locks : (u : T2Memory) (c : T2Command) → (t2_obeyed u c).locked ≡ u.locked
+obeyed_locks u (Read block) = refl
+obeyed_locks u (Write block content) = by_free (is_writable u block)
+  where
+    by_free : (v : Bool) → (if v then record u { store = with_block 4 u.store block content } else u).locked ≡ u.locked
+    by_free true = refl
+    by_free false = refl
+
+active_locks : (d : Fronted T2Memory) (f : Signal) (o : Option T2Command) → (active_after t2_machine (says_of (reply_frame d.upper o)) (held_after d.upper o) d f).upper.locked ≡ d.upper.locked
+active_locks d f None = locks_left d.front (front_next (levels d.id) d.front (call_of f)) d.upper
+active_locks d f (Some c) = obeyed_locks d.upper c
+
+two_locks : (front : Front) (d : Fronted T2Memory) (f : Signal) → (after_by t2_machine front d f None).upper.locked ≡ d.upper.locked
+two_locks Off d f = locks_left d.front (front_next (levels d.id) d.front (call_of f)) d.upper
+two_locks Idle d f = locks_left d.front (front_next (levels d.id) d.front (call_of f)) d.upper
+two_locks Sleep d f = locks_left d.front (front_next (levels d.id) d.front (call_of f)) d.upper
+two_locks (Ready level starred) d f = locks_left d.front (front_next (levels d.id) d.front (call_of f)) d.upper
+two_locks (Active starred) d f = active_locks d f (spelled_command f)
+
 -- what stays of a device other than its store
 abbrev bare_of : Kept → Kept
 bare_of k = record k { store = [] }
@@ -173,13 +210,16 @@ bare d = bare_of (kept d)
 
 -- a whole frame of NFC-A leaves it
 bare_step : (d : Device) (bytes : List ℕ) → bare (stepped_by devices d (whole_a bytes) None) ≡ bare d
-bare_step (T2 d) bytes = ap (λ id. record { id = id; how = hows.T2; size = 16; store = []; code = 0; container = [] }) (step_keeps (T2 d) (whole_a bytes) None).identifier'
+bare_step (T2 d) bytes =
+    ap (λ id. record { id = id; how = hows.T2; size = 16; store = []; locked = device_locks (devices.after (T2 d) (whole_a bytes) None); code = 0; container = [] })
+    (step_keeps (T2 d) (whole_a bytes) None).identifier'
+    ∙ ap (λ locks. record { id = d.id; how = hows.T2; size = 16; store = []; locked = locks; code = 0; container = [] }) (two_locks d.front d (whole_a bytes))
 bare_step (T4 d) bytes =
     let same = four_same d (whole_a bytes) in
     let new : Fronted T4Near = after_by t4_machine d.front d (whole_a bytes) None in
-    ap (λ id. record { id = id; how = hows.T4; size = 0; store = []; code = new.upper.tag.code; container = new.upper.tag.container }) (fronted.step_keeps t4_upper d (whole_a bytes) None).identifier'
-    ∙ ap (λ code. record { id = d.id; how = hows.T4; size = 0; store = []; code = code; container = new.upper.tag.container }) same.code
-    ∙ ap (λ container. record { id = d.id; how = hows.T4; size = 0; store = []; code = d.upper.tag.code; container = container }) same.container
+    ap (λ id. record { id = id; how = hows.T4; size = 0; store = []; locked = []; code = new.upper.tag.code; container = new.upper.tag.container }) (fronted.step_keeps t4_upper d (whole_a bytes) None).identifier'
+    ∙ ap (λ code. record { id = d.id; how = hows.T4; size = 0; store = []; locked = []; code = code; container = new.upper.tag.container }) same.code
+    ∙ ap (λ container. record { id = d.id; how = hows.T4; size = 0; store = []; locked = []; code = d.upper.tag.code; container = container }) same.container
 bare_step (T5 p) bytes = refl
 
 -- no device of NFC-A that is ready or selected

@@ -1,5 +1,5 @@
 -- What a read of a Type 4 tag does: RATS activates it, and then its commands are asked over a link.
-use Rattle.std.proofs.Common.{◌≡◌, ◌↔◌, inl, inr, ℕ, zero, suc, ◌+◌, ◌<◌, List, [], ◌∷◌, ◌++◌, length, true, false, Some, None, refl, sym, ◌∙◌, ap, subst, arith}
+use Rattle.std.proofs.Common.{◌≡◌, ◌↔◌, inl, inr, ℕ, zero, suc, ◌+◌, ◌<◌, List, [], ◌∷◌, ◌++◌, true, false, Some, None, refl, sym, ◌∙◌, ap, subst, arith}
 use Rattle.std.specs.Prelude.{map, Result, Err}
 use Rattle.std.specs.Result.{IfErr, OnErr}
 use Rattle.std.proofs.lemmas.Bool.{cases_lt}
@@ -9,7 +9,7 @@ use Rattle.nfc_base.specs.Signal.{Signal}
 use Rattle.nfc_base.specs.Trace.{breaks}
 use Rattle.air_core.specs.World.{World}
 use Rattle.air_core.specs.Turn.{Air, world, moment}
-use Rattle.air_core.specs.Conversation.{Moment, Going, replay, with_events}
+use Rattle.air_core.specs.Conversation.{Moment, Note, Going, replay, with_events}
 use Rattle.air_core.specs.Turning.{due_weaker, going_then, events-append}
 use Rattle.air_core.specs.Waits as waits
 use Rattle.air_core.specs.Waits.{waits_next}
@@ -34,8 +34,8 @@ use Rattle.bench_devices.specs.Device.{devices, device_id, device_store, device_
 use Rattle.bench_devices.specs.Answering.{TellsExchange, TellsCard}
 use Rattle.bench_devices.specs.CardAsking.{Exchanges, card_due, card_stands, card_next}
 use Rattle.bench_devices.specs.Device.{air}
-use Rattle.bench_devices.specs.Linking.{Linked, ReadsOn, ReadsLinked, IsNewLink}
-use Rattle.bench_devices.specs.Phases.{Kept, ghosts, kept, Asked, Stands, FailsRead, Reads, ReadsAt}
+use Rattle.bench_devices.specs.Linking.{Linked, ReadsOn, ReadsLinked, IsNewLink, ReadsSomeOn, CutLinked}
+use Rattle.bench_devices.specs.Phases.{Kept, ghosts, kept, Asked, AskedPart, Stands, FailsRead, Reads, ReadsAt, ReadsSome, CutAt}
 use Rattle.bench_devices.specs.Reading.{AsksOf, ShowsOf}
 use Rattle.air_core.proofs.BrokenWaits.{stays_lit}
 use Rattle.bench_devices.proofs.CardKept.{rats_harmless}
@@ -59,6 +59,17 @@ pub record ReadsCard (old new : Moment (World Device)) (d : Device) (r : Result 
   pub asked : Asked (card_next commands) old new
   pub ends : TellsCard (ShowsOf d) FailsRead (card_stands commands asked.notes) r
   pub lost : (r ≡ Err faults.FieldLost) ↔ (0 < breaks asked.going.events)
+
+-- so far a read of a Type 4 tag went
+record CardCut (old new : Moment (World Device)) (d : Device) : Type 0 where
+  pub commands : List Signal
+  pub asks : AsksOf d commands
+  pub asked : AskedPart (card_next commands) old new
+
+as_cut : (old new : Moment (World Device)) (d : Device) → how_of d ≡ hows.T4 → CardCut old new d → ReadsSome old new d
+as_cut old new (T2 d) four s = absurd cc
+as_cut old new (T4 d) four s = record { commands = s.commands; asks = s.asks; asked = s.asked }
+as_cut old new (T5 p) four s = absurd cc
 
 as_reads : (old new : Moment (World Device)) (d : Device) (r : Result Found ReadFault) → how_of d ≡ hows.T4 → ReadsCard old new d r → Reads old new d r
 as_reads old new (T2 d) r four s = absurd cc
@@ -133,6 +144,16 @@ module _ (old mid : Air Device) (place : ℕ) (d : Device) (s : Stands (moment o
           cc)
     ]
 
+  -- want of memory ended it while RATS was sent
+  rats_cut : (st : waits.Standing) → RatsSent ghosts device_card device_tag old mid st → CardCut (moment old) (moment mid) d
+  rats_cut st sent =
+      let whole = file_asked (size_of d) (device_store d) in
+      record {
+        commands = whole.0;
+        asks = asks_list st sent whole.0 whole.1;
+        asked = record { notes = sent.notes; going = as_reading st sent whole.0; same = rats_keep st sent };
+      }
+
   -- the field was lost while RATS was sent
   rats_lost : (left : List Signal) → RatsSent ghosts device_card device_tag old mid (waits.Broken asking.FieldLost left) → mid.lit ≡ false
       → ReadsCard (moment old) (moment mid) d (Err faults.FieldLost)
@@ -171,13 +192,31 @@ module _ (old mid : Air Device) (place : ℕ) (d : Device) (s : Stands (moment o
       → Reads (moment old) (moment mid) d (Err (of_link fault))
   reads_unanswered fault fed ends = as_reads (moment old) (moment mid) d (Err (of_link fault)) four (unanswered_reads fault fed ends)
 
-  -- The tag was activated, and read over its link: both are one reading.
+  -- The tag was activated, and commands were asked over its link: both are one reading.
+  both_parts : (new : Air Device) (code : ℕ) (sent : RatsSent ghosts device_card device_tag old mid (waits.Asking 0 [])) → TellsCode sent.notes code
+      → (commands : List Signal) (ns : List Note) → Going air (iso_next (waiting code) (bytes_of commands)) (moment mid) (moment new) ns → Going air (card_next commands) (moment old) (moment new) (sent.notes ++ ns)
+  both_parts new code sent tells commands ns going =
+      going_then air (card_next commands) (waits_next (rats ∷ [])) (iso_next (waiting code) (bytes_of commands)) (moment old) (moment mid) (moment new) sent.notes ns
+      (λ ns n e due. rats_due (bytes_of commands) 0 ns n e due) (λ ns. ap card_due (rats_told (bytes_of commands) sent.notes ns code sent.stands tells)) sent.going going
+
+  linked_cut : (new : Air Device) (code : ℕ) (sent : RatsSent ghosts device_card device_tag old mid (waits.Asking 0 [])) → TellsCode sent.notes code
+      → ReadsSomeOn (moment mid) (moment new) d (waiting code) → ReadsSome (moment old) (moment new) d
+  linked_cut new code sent tells o =
+      as_cut (moment old) (moment new) d four (record {
+        commands = o.commands;
+        asks = o.asks;
+        asked = record {
+          notes = sent.notes ++ o.asked.notes;
+          going = both_parts new code sent tells o.commands o.asked.notes o.asked.going;
+          same = o.asked.same ∙ rats_keep (waits.Asking 0 []) sent;
+        };
+      })
+
+  -- So was a whole read.
   module _ (new : Air Device) (code : ℕ) (sent : RatsSent ghosts device_card device_tag old mid (waits.Asking 0 [])) (tells : TellsCode sent.notes code)
       (r : Result Found ReadFault) (o : ReadsOn (moment mid) (moment new) d (waiting code) r) where
     both : Going air (card_next o.commands) (moment old) (moment new) (sent.notes ++ o.asked.notes)
-    both =
-        going_then air (card_next o.commands) (waits_next (rats ∷ [])) (iso_next (waiting code) (bytes_of o.commands)) (moment old) (moment mid) (moment new) sent.notes o.asked.notes
-        (λ ns n e due. rats_due (bytes_of o.commands) 0 ns n e due) (λ ns. ap card_due (rats_told (bytes_of o.commands) sent.notes ns code sent.stands tells)) sent.going o.asked.going
+    both = both_parts new code sent tells o.commands o.asked.notes o.asked.going
 
     events_both : both.events ≡ sent.going.events ++ o.asked.going.events
     events_both =
@@ -263,6 +302,16 @@ module _ (old : Air Device) (place : ℕ) (one : (e : Device) × Stands (moment 
         let reads : Reads (moment old) (moment left) one.0 r = linked_ends left r (told fed one.0 link_is) in
         of_any new r (subst (λ a. Reads (moment old) (moment a) one.0 r) back reads)
 
+    cut_ends : (new : Air Device) → ReadsSomeOn (moment l.field.now) (moment new) one.0 l.reader → ReadsSome (moment old) (moment new) one.0
+    cut_ends new on =
+        linked_cut old l.field.now place one.0 one.1 one.2 new made.code made.sent made.tells
+        (subst (λ i. ReadsSomeOn (moment l.field.now) (moment new) one.0 i) made.reader on)
+
+    pub ends_cut : (left new : Air Device) → left ≡ new → (r : Result Found ReadFault) → CutLinked l.field.now l.place l.reader (moment left) r → CutAt (moment old) (moment new) place r
+    ends_cut left new back r cut starved e stands =
+        let reads : ReadsSome (moment old) (moment left) one.0 = cut_ends left (cut starved one.0 link_is) in
+        subst (λ x. ReadsSome (moment old) (moment new) x) (sym (stands_one old place one.0 one.1 e stands)) (subst (λ a. ReadsSome (moment old) (moment a) one.0) back reads)
+
   -- No link was given.
   module _ {R : Type 0} (new : Air Device) (given : Result R AskFault) (fault : AskFault) (failed : given ≡ Err fault)
       (rests : OnErr given (IfErr given (λ e. AsksRats devices old new (Err e) × Activates ghosts device_card device_tag old new place (Err e)))) where
@@ -273,3 +322,16 @@ module _ (old : Air Device) (place : ℕ) (one : (e : Device) × Stands (moment 
     ends_unanswered e is fed =
         let starved : fault ≡ asking.Memory → ⊥ = λ m. fed (ap Err (is ∙ ap of_link m)) in
         of_any new (Err e) (subst (λ x. Reads (moment old) (moment new) one.0 (Err x)) (sym is) (reads_unanswered old new place one.0 one.1 one.2 fault starved refused))
+
+    starved_of : (e : AskFault) → of_link e ≡ faults.Memory → e ≡ asking.Memory
+    starved_of asking.FieldLost m = absurd cc
+    starved_of asking.SixBad m = absurd cc
+    starved_of asking.Memory m = refl
+    starved_of asking.Protocol m = absurd cc
+
+    pub cut_unanswered : (e : ReadFault) → e ≡ of_link fault → CutAt (moment old) (moment new) place (Err e)
+    cut_unanswered e is starved x stands =
+        let want : fault ≡ asking.Memory = starved_of fault (sym is ∙ (let same : e ≡ faults.Memory = cc in same)) in
+        let ends : RatsEnds ghosts device_card device_tag old new place (Err asking.Memory) = subst (λ f. RatsEnds ghosts device_card device_tag old new place (Err f)) want refused in
+        subst (λ y. ReadsSome (moment old) (moment new) y) (sym (stands_one old place one.0 one.1 x stands))
+        (as_cut (moment old) (moment new) one.0 one.2 (rats_cut old new place one.0 one.1 one.2 (waits.Asking ends.0 (rats ∷ [])) ends.1))

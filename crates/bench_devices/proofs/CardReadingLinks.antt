@@ -1,5 +1,5 @@
 -- What a read of a Type 4 tag comes to over its link, by what the link did.
-use Rattle.std.proofs.Common.{◌≡◌, inl, inr, ◌⊎◌, ℕ, zero, suc, ◌+◌, ◌<◌, List, [], ◌∷◌, ◌++◌, length, take, drop, true, false, Some, None, refl, sym, ◌∙◌, ap, subst, arith, append-nil}
+use Rattle.std.proofs.Common.{Option, ◌≡◌, inl, inr, ◌⊎◌, ℕ, zero, suc, ◌+◌, ◌<◌, List, [], ◌∷◌, ◌++◌, length, take, drop, true, false, Some, None, refl, sym, ◌∙◌, ap, subst, arith, append-nil}
 use Rattle.std.specs.Prelude.{map, Result, Ok, Err, IfOk, IfErr}
 use Rattle.std.proofs.lemmas.List.{map-append, take_all}
 use Rattle.std.proofs.lemmas.Bool.{cases_lt}
@@ -13,7 +13,7 @@ use Rattle.nfc_base.specs.LinkTurns.{arrived}
 use Rattle.nfc_base.specs.TagLinks.{Type4, LinkView, plain_state}
 use Rattle.air_core.specs.World.{World}
 use Rattle.air_core.specs.Turn.{world, moment}
-use Rattle.air_core.specs.Conversation.{Moment, Note, Lit, Got, Lost, Over, Asks, EachDue, replay}
+use Rattle.air_core.specs.Conversation.{Moment, Note, Going, Lit, Got, Lost, Over, Asks, EachDue, replay}
 use Rattle.air_core.specs.Turning.{due_weaker}
 use Rattle.air_core.specs.PlainLinks.{at_place, unanswered}
 use Rattle.air_core.proofs.PlainStores.{place_is}
@@ -43,7 +43,7 @@ use Rattle.bench_devices.specs.Standing.{tag_holds}
 use Rattle.bench_devices.specs.Answering.{TellsExchange}
 use Rattle.bench_devices.specs.Device.{air}
 use Rattle.bench_devices.specs.Reading.{Shows, ShowsOf}
-use Rattle.bench_devices.specs.Linking.{Linked, ReadsOn, IsNewLink}
+use Rattle.bench_devices.specs.Linking.{Linked, ReadsOn, IsNewLink, ReadsSomeOn}
 use Rattle.bench_devices.specs.Phases.{ghosts, kept, IsSound, FailsRead}
 use Rattle.air_core.proofs.BrokenWaits.{stays_lit}
 use Rattle.bench_devices.proofs.CardKept.{exchange_keeps}
@@ -115,7 +115,7 @@ held_there (d ∷ ds) (suc n) = held_there ds n
 -- What was asked, where each of the first so many commands is.
 record AskedSome (size : ℕ) (store : List ℕ) (asked : List Signal) : Type 0 where
   pub count : ℕ
-  pub list : asked ≡ first hows.T4 store count
+  pub list : asked ≡ first hows.T4 size store count
   pub each : AreDue hows.T4 size store count
 
 module _ (p : IsoSeen Device) (is : IsNewLink p) (d : Device) (l : Linked d p.air p.place p.reader) where
@@ -189,29 +189,42 @@ module _ (p : IsoSeen Device) (is : IsNewLink p) (d : Device) (l : Linked d p.ai
     due_here : (n : ℕ) → AreDue hows.T4 (size_of d) from.state.store n → AreDue hows.T4 (size_of d) (device_store d) n
     due_here n each = subst (λ xs. AreDue hows.T4 (size_of d) xs n) store_here each
 
-    first_here : (n : ℕ) → first hows.T4 from.state.store n ≡ first hows.T4 (device_store d) n
-    first_here n = ap (λ xs. first hows.T4 xs n) store_here
+    first_here : (n : ℕ) → first hows.T4 (size_of d) from.state.store n ≡ first hows.T4 (size_of d) (device_store d) n
+    first_here n = ap (λ xs. first hows.T4 (size_of d) xs n) store_here
 
     -- the command that the link ended with is the next that is asked
     asked_more : (h : HasAskedOf) (e : AskFault) → q.over ≡ Some e → AskedSome (size_of d) (device_store d) m.asks.asked
     asked_more h e over = by_last h.last
       where
-        by_last : ((q.last ≡ last_of hows.T4 from.state.store from h.count) × (q.over ≡ p.over))
-            ⊎ ((q.last ≡ Some (command hows.T4 from.state.store h.count)) × IsDue hows.T4 (size_of d) from.state.store h.count)
+        by_last : ((q.last ≡ last_of hows.T4 (size_of d) from.state.store from h.count) × (q.over ≡ p.over))
+            ⊎ ((q.last ≡ Some (command hows.T4 (size_of d) from.state.store h.count)) × IsDue hows.T4 (size_of d) from.state.store h.count)
             → AskedSome (size_of d) (device_store d) m.asks.asked
         by_last (inl (last, open')) = absurd (let clash : None ≡ Some e = sym is.over ∙ sym open' ∙ over in cc)
         by_last (inr (last, due)) =
-            let c : Signal = command hows.T4 from.state.store h.count in
+            let c : Signal = command hows.T4 (size_of d) from.state.store h.count in
             let left : unanswered q.over q.last ≡ c ∷ [] = ap (λ o. unanswered o q.last) over ∙ ap (unanswered (Some e)) last in
             let one : h.count + 1 ≡ suc h.count = omega arith in
             record {
               count = suc h.count;
               list = sym asked_told ∙ ap (λ xs. to.answered ++ xs) left
-                  ∙ ap (λ xs. xs ++ c ∷ []) (h.answered ∙ ap (λ xs. xs ++ first hows.T4 from.state.store h.count) none_before)
+                  ∙ ap (λ xs. xs ++ c ∷ []) (h.answered ∙ ap (λ xs. xs ++ first hows.T4 (size_of d) from.state.store h.count) none_before)
                   ∙ first_here (suc h.count);
               each = subst (AreDue hows.T4 (size_of d) (device_store d)) one
                   (due_here (h.count + 1) (due_more hows.T4 (size_of d) from.state.store h.count h.each due));
             }
+
+    -- however it ended, what was asked is the first of what is asked
+    asked_first : HasAskedOf → AskedSome (size_of d) (device_store d) m.asks.asked
+    asked_first h = by_over q.over refl
+      where
+        by_over : (o : Option AskFault) → q.over ≡ o → AskedSome (size_of d) (device_store d) m.asks.asked
+        by_over (Some e) over = asked_more h e over
+        by_over None open' = record {
+          count = h.count;
+          list = sym asked_told ∙ ap (λ o. to.answered ++ unanswered o q.last) open' ∙ append-nil to.answered ∙ h.answered
+              ∙ ap (λ xs. xs ++ first hows.T4 (size_of d) from.state.store h.count) none_before ∙ first_here h.count;
+          each = due_here h.count h.each;
+        }
 
     -- where the link isn't over, what was asked was answered
     asked_whole : (all : HasAskedAllOf) → q.over ≡ None → m.asks.asked ≡ all.commands
@@ -242,30 +255,51 @@ module _ (p : IsoSeen Device) (is : IsNewLink p) (d : Device) (l : Linked d p.ai
           cc)
     ]
 
+    -- all that is asked is written in blocks
+    in_blocks : (rest : List Signal) → bytes_of (m.asks.asked ++ rest) ≡ bytes_of m.asks.asked ++ bytes_of rest
+    in_blocks rest = map-append (λ (f : Signal). f.bytes) m.asks.asked rest
+
+    -- what was asked is the first of what is asked
+    abbrev asked_front_of : (rest : List Signal) → Going air (iso_next p.reader (bytes_of (m.asks.asked ++ rest))) (moment p.air) (moment q.air) m.asks.notes
+    asked_front_of rest =
+        let front : EachDue (iso_next p.reader (bytes_of m.asks.asked ++ bytes_of rest)) [] m.asks.going.events =
+        due_weaker (iso_next p.reader (bytes_of m.asks.asked ++ bytes_of rest)) (iso_next p.reader (bytes_of m.asks.asked)) (λ ns n e due. due_front p.reader (bytes_of m.asks.asked) (bytes_of rest) ns n e due)
+        [] m.asks.going.events m.asks.going.each in
+        record {
+          events = m.asks.going.events;
+          moment = m.asks.going.moment;
+          turns = m.asks.going.turns;
+          each = subst (λ cs. EachDue (iso_next p.reader cs) [] m.asks.going.events) (sym (in_blocks rest)) front;
+          fates = m.asks.going.fates;
+          fresh = m.asks.going.fresh;
+          known = m.asks.going.known;
+        }
+
+    -- Reading was cut off.
+    pub cut_read : to.state.store ≡ from.state.store → HasAskedOf → ReadsSomeOn (moment p.air) (moment q.air) d p.reader
+    cut_read stays h =
+        let some = asked_first h in
+        let whole = file_asked (size_of d) (device_store d) in
+        let front = asked_front hows.T4 (size_of d) (device_store d) some.count whole.0 some.each whole.1 in
+        record {
+          commands = m.asks.asked ++ front.0;
+          asks = subst (λ k. IsAsked k (size_of d) (device_store d) (m.asks.asked ++ front.0)) (sym l.card)
+              (subst IsAskedOf (front.1 ∙ ap (λ xs. xs ++ front.0) (sym some.list)) whole.1);
+          asked = record { notes = m.asks.notes; going = asked_front_of front.0; same = same_devices stays };
+        }
+
     -- What a read did, where its exchanges stand so at the end.
     reads_by : (r : Result Found ReadFault) → to.state.store ≡ from.state.store → (rest : List Signal) → IsAskedOf (m.asks.asked ++ rest)
         → (s : IsoStanding) → stand (asks p.reader (bytes_of m.asks.asked ++ bytes_of rest)) m.asks.notes ≡ s → due_at s ≡ Over → TellsExchange (ShowsOf d) FailsRead s r
         → (r ≡ Err faults.FieldLost → 0 < breaks m.asks.going.events) → (0 < breaks m.asks.going.events → r ≡ Err faults.FieldLost) → ReadsSo r
     reads_by r stays rest asked s stands over tells lost by_break =
-        let sum : bytes_of (m.asks.asked ++ rest) ≡ bytes_of m.asks.asked ++ bytes_of rest = map-append (λ (f : Signal). f.bytes) m.asks.asked rest in
-        let front : EachDue (iso_next p.reader (bytes_of m.asks.asked ++ bytes_of rest)) [] m.asks.going.events =
-        due_weaker (iso_next p.reader (bytes_of m.asks.asked ++ bytes_of rest)) (iso_next p.reader (bytes_of m.asks.asked)) (λ ns n e due. due_front p.reader (bytes_of m.asks.asked) (bytes_of rest) ns n e due)
-        [] m.asks.going.events m.asks.going.each in
-        let there : stand (asks p.reader (bytes_of (m.asks.asked ++ rest))) m.asks.notes ≡ s = ap (λ cs. stand (asks p.reader cs) m.asks.notes) sum ∙ stands in
+        let there : stand (asks p.reader (bytes_of (m.asks.asked ++ rest))) m.asks.notes ≡ s = ap (λ cs. stand (asks p.reader cs) m.asks.notes) (in_blocks rest) ∙ stands in
         record {
           commands = m.asks.asked ++ rest;
           asks = subst (λ h. IsAsked h (size_of d) (device_store d) (m.asks.asked ++ rest)) (sym l.card) asked;
           asked = record {
             notes = m.asks.notes;
-            going = record {
-              events = m.asks.going.events;
-              moment = m.asks.going.moment;
-              turns = m.asks.going.turns;
-              each = subst (λ cs. EachDue (iso_next p.reader cs) [] m.asks.going.events) (sym sum) front;
-              fates = m.asks.going.fates;
-              fresh = m.asks.going.fresh;
-              known = m.asks.going.known;
-            };
+            going = asked_front_of rest;
             over = ap due_at there ∙ over;
             same = same_devices stays;
           };
@@ -314,7 +348,7 @@ module _ (p : IsoSeen Device) (is : IsNewLink p) (d : Device) (l : Linked d p.ai
 
     -- a fault ended it: of the store, or of the link
     read_fault : (fault : ReadFault) → (fault ≡ faults.Memory → ⊥) → to.state.store ≡ from.state.store → HasAskedOf → (is_told fault ≡ true → HasAskedAllOf)
-        → (is_told fault ≡ true → GoesOn from to) → IsReadFault hows.T4 (device_store d) from to fault → ReadsSo (Err fault)
+        → (is_told fault ≡ true → GoesOn from to) → IsReadFault hows.T4 (size_of d) (device_store d) from to fault → ReadsSo (Err fault)
     read_fault faults.NotNdef fed stays h all goes err = read_told (Err faults.NotNdef) stays (all refl) (goes refl) err
     read_fault faults.Version fed stays h all goes err = read_told (Err faults.Version) stays (all refl) (goes refl) err
     read_fault faults.NoRead fed stays h all goes err = read_told (Err faults.NoRead) stays (all refl) (goes refl) err
@@ -330,9 +364,9 @@ module _ (p : IsoSeen Device) (is : IsNewLink p) (d : Device) (l : Linked d p.ai
 
     -- whatever the reading came to
     pub ends_read : (r : Result Found ReadFault) → to.state.store ≡ from.state.store → HasAskedOf → OnTold r HasAskedAllOf → OnTold r (GoesOn from to)
-        → IfOk r (IsFound hows.T4 (size_of d) from.state.store) → IfErr r (IsReadFault hows.T4 from.state.store from to) → (r ≡ Err faults.Memory → ⊥) → ReadsSo r
+        → IfOk r (IsFound hows.T4 (size_of d) from.state.store) → IfErr r (IsReadFault hows.T4 (size_of d) from.state.store from to) → (r ≡ Err faults.Memory → ⊥) → ReadsSo r
     ends_read (Ok found) stays some whole goes ok err fed =
         let held : IsFound hows.T4 (size_of d) (device_store d) found = subst (λ xs. IsFound hows.T4 (size_of d) xs found) store_here ok in
         read_told (Ok found) stays whole goes held
     ends_read (Err fault) stays some whole goes ok err fed =
-        read_fault fault (λ m. fed (ap Err m)) stays some whole goes (subst (λ xs. IsReadFault hows.T4 xs from to fault) store_here err)
+        read_fault fault (λ m. fed (ap Err m)) stays some whole goes (subst (λ xs. IsReadFault hows.T4 (size_of d) xs from to fault) store_here err)

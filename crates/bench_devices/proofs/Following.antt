@@ -162,7 +162,7 @@ ToldOn (polls.Asks n) ks p = Unit {0}
 ToldOn (Told r ns) ks p = p ≡ Told r (ns ++ ks)
 
 module _ {S X : Type 0} (e : Enquiry S X) where
-  told_on : (s : S) (o : Option (Result X PollFault)) (ns ks : List Note) → ToldOn (followed e s o ns) ks (followed e s o (ns ++ ks))
+  pub told_on : (s : S) (o : Option (Result X PollFault)) (ns ks : List Note) → ToldOn (followed e s o ns) ks (followed e s o (ns ++ ks))
   told_on s (Some r) ns ks = refl
   told_on s None [] ks = tt
   told_on s None (Lit ∷ ns) ks = told_on (e.light s) (e.ended (e.light s)) ns ks

@@ -1,8 +1,8 @@
 -- A search for all devices: what its two calls of polling asked, and what they came to.
 use Rattle.std.proofs.Common.{◌≡◌, ◌⊎◌, inl, inr, ℕ, zero, suc, ◌+◌, ◌<◌, ◌≤◌, List, [], ◌∷◌, ◌++◌, map, length, drop, filter_map, true, false, Option, Some, None, Result, Ok, Err, refl, sym, ◌∙◌, ap, subst, append_assoc, arith}
-use Rattle.std.proofs.lemmas.List.{append-nil}
 use Rattle.std.specs.List.{AllByRecursion}
 use Rattle.nfc_base.specs.declared.event.Event.{Event}
+use Rattle.air_core.specs.Joint.{same_signal}
 use Rattle.nfc_base.specs.Trace.{breaks, noise}
 use Rattle.air_core.specs.Turn.{Air, moment}
 use Rattle.air_core.specs.World.{World}
@@ -30,19 +30,22 @@ use Rattle.bench_devices.specs.Device.{devices, device_id}
 use Rattle.bench_devices.specs.Crowded.{card_if, v_if, crowd_of, inventory_of, others_of}
 use Rattle.bench_devices.specs.Device.{air}
 use Rattle.bench_devices.specs.Answering.{AreOthers, InventoryEnds, FindEnds}
-use Rattle.bench_devices.specs.Phases.{Kept, kept, AreSound, AreTame, AreTidy, IsEnd, Searches}
+use Rattle.bench_devices.specs.Noise.{is_call, noisy_tries, MissedRound}
+use Rattle.bench_devices.specs.Phases.{Kept, kept, AreSound, AreTame, AreTidy, AskedPart, IsEnd, Searches}
 use Rattle.bench_devices.specs.Polling as followed
 use Rattle.bench_devices.specs.Polling.{Followed, follows, finding_all, then_inventory, then_others, asks}
 use Rattle.bench_devices.specs.declared.sweeping.Everybody.{Everybody}
 use Rattle.bench_devices.proofs.Ours.{steady_at_all}
 use Rattle.bench_devices.proofs.Following.{asks_same, told_same, follows_on}
 use Rattle.air_core.proofs.Following.{no_demand}
-use Rattle.bench_devices.proofs.Searching.{asks_harmless, search_closes}
+use Rattle.bench_devices.proofs.NoisyTurns.{missed_calls, gave_up_calls, tries_same, only_up_to, only_no_round, only_no_sens, noisy_then, at_least, missed_then}
+use Rattle.bench_devices.proofs.Unmoved.{OnlyAsks}
+use Rattle.bench_devices.proofs.Searching.{IsCall, asks_calls, asks_harmless, search_closes}
 use Rattle.bench_devices.proofs.SelectingAir.{events_are, loses}
 use Rattle.air_core.proofs.LostField.{breaks-append, HasLost, going_lost}
 use Rattle.bench_devices.proofs.SelectingCards.{polled, tidy, cards_of, own_idents, few_cards}
-use Rattle.bench_devices.proofs.SelectingKept.{going_keeps}
-use Rattle.bench_devices.proofs.Inventoried.{IsAwake, none_told, all_of, Comes, inventory_closes, inventory_harmless, inventory_comes}
+use Rattle.bench_devices.proofs.SelectingKept.{EachAsked, due_asked, going_keeps}
+use Rattle.bench_devices.proofs.Inventoried.{IsAwake, only_due, none_told, all_of, Comes, inventory_closes, inventory_harmless, inventory_comes}
 use Rattle.bench_devices.proofs.Awake.{awake_behind}
 
 abbrev next : List Note → Next
@@ -123,20 +126,39 @@ module _ (old mid : Air Device) (found : Result (List Picked) PollFault) (tame :
   told : (found ≡ Err faults.Memory → ⊥) → follows finding turns.notes ≡ followed.Told found []
   told starved = told_same finding (search_closes all_devices) air (moment old) (moment mid) turns.notes found turns.going turns.comes starved
 
+  calls : EachAsked (λ f. is_call f ≡ true) first
+  calls = due_asked (λ f. is_call f ≡ true) (enquiring finding) (λ ns f e. let is : IsCall f = asks_calls all_devices ns f e in is.called) [] first turns.going.each
+
   broken : 0 < breaks first → found ≡ Err faults.FieldLost
   broken h =
       let gone : HasLost turns.notes = going_lost devices (enquiring finding) (moment old) (moment mid) turns.notes turns.going h in
       turns.comes ∙ ap (answer_of finding) (loses finding (Starts 1) turns.notes gone)
+
+  -- what was asked of NFC-A is the first part of a search
+  abbrev alone : Going air next (moment old) (moment mid) turns.notes
+  alone = record {
+    events = first;
+    moment = turns.going.moment;
+    turns = turns.going.turns;
+    each = due_weaker next (enquiring finding) first_asks [] first turns.going.each;
+    fates = turns.going.fates;
+    fresh = turns.going.fresh;
+    known = turns.going.known;
+  }
+
+  -- want of memory cut it off
+  pub cut_one : AskedPart next (moment old) (moment mid)
+  cut_one = record { notes = turns.notes; going = alone; same = first_kept }
 
   -- the search of NFC-A ended by a fault
   module _ (e : PollFault) (bad : found ≡ Err e) where
     bad_ends : rounds.FindEnds (cards_of old.listeners) (Err e) first
     bad_ends = let P : Result (List Picked) PollFault → Type 0 = λ x. rounds.FindEnds (cards_of old.listeners) x first in subst P bad ends
 
-    ends_by : (q : PollFault) → (q ≡ faults.Memory → ⊥) → rounds.FindEnds (cards_of old.listeners) (Err q) first → FindEnds IsEnd old.listeners (Err q) first [] (Err q)
+    ends_by : (q : PollFault) → (q ≡ faults.Memory → ⊥) → rounds.FindEnds (cards_of old.listeners) (Err q) first → FindEnds IsEnd old.listeners (Err q) [] first (Err q)
     ends_by faults.Nobody fed h = absurd h
-    ends_by faults.Disturbed fed h = (refl, refl, h)
-    ends_by faults.FieldLost fed h = (refl, refl)
+    ends_by faults.Disturbed fed h = (refl, gave_up_calls air (moment old).world first turns.going.turns calls h)
+    ends_by faults.FieldLost fed h = refl
     ends_by faults.Memory fed h = absurd (fed refl)
     ends_by faults.NotFound fed h = absurd h
     ends_by faults.BadAnswer fed h = absurd (few_cards old.listeners tame h)
@@ -144,17 +166,6 @@ module _ (old mid : Air Device) (found : Result (List Picked) PollFault) (tame :
     module _ (fed : e ≡ faults.Memory → ⊥) where
       told_bad : follows finding turns.notes ≡ followed.Told (Err e) []
       told_bad = told (λ m. fed (err_of e faults.Memory (sym bad ∙ m))) ∙ ap (λ x. followed.Told x []) bad
-
-      abbrev alone : Going air next (moment old) (moment mid) turns.notes
-      alone = record {
-        events = first;
-        moment = turns.going.moment;
-        turns = turns.going.turns;
-        each = due_weaker next (enquiring finding) first_asks [] first turns.going.each;
-        fates = turns.going.fates;
-        fresh = turns.going.fresh;
-        known = turns.going.known;
-      }
 
       lost_one : ◌≡◌ {A = Result Everybody PollFault} (Err e) (Err faults.FieldLost) → 0 < breaks first
       lost_one l = subst (λ es. 0 < breaks es) first_is (lost (bad ∙ ap Err (err_of e faults.FieldLost l)))
@@ -167,11 +178,8 @@ module _ (old mid : Air Device) (found : Result (List Picked) PollFault) (tame :
       searches_one = record {
         asked = record { notes = turns.notes; going = alone; over = ap (λ p. asks (then_inventory p)) told_bad; same = first_kept };
         tells = record {
-          first = first;
-          rest = [];
-          parts = sym (append-nil first);
-          cut = refl;
           found = Err e;
+          behind = [];
           searched = ap (follows finding) turns.going.known ∙ told_bad;
           ends = ends_by e fed bad_ends;
           lost = (lost_one, lost_back);
@@ -232,18 +240,37 @@ module _ (old mid : Air Device) (found : Result (List Picked) PollFault) (tame :
       abbrev causes : HasCauseV devices mid r new
       causes = cause (all_of (IsSteady devices inventory_all) steady_at_all mid.listeners)
 
-      noisy : tries ≤ noise (drop (length mid.trace) new.trace) → tries ≤ noise rest
-      noisy h = subst (λ es. tries ≤ noise es) rest_is h
+      -- the inventory asks one thing
+      only : OnlyAsks inventory_all rest
+      only = only_due [] rest more.going.each
 
-      are_others : (others : Vcrowd) → r ≡ Ok others → (others ≡ others_of old.listeners) ⊎ (others ≡ Nobody) → AreOthers old.listeners others rest
+      noisy : tries ≤ noise (drop (length mid.trace) new.trace) → tries ≤ noisy_tries inventory_all whole.events
+      noisy h =
+          let L : List Event → Type 0 = λ es. tries ≤ noise es in
+          let same : noise rest ≡ noisy_tries inventory_all rest = tries_same air (moment mid).world inventory_all rest refl more.going.turns only in
+          subst (λ es. tries ≤ noisy_tries inventory_all es) (sym whole_is)
+          (at_least (noisy_tries inventory_all (first ++ rest)) (noisy_tries inventory_all first) (noisy_tries inventory_all rest) tries
+          (noisy_then (λ g. same_signal inventory_all g) first rest more.going.fresh) (subst (λ k. tries ≤ k) same (subst L rest_is h)))
+
+      missed : Misses first → MissedRound whole.events
+      missed h =
+          subst MissedRound (sym whole_is)
+          (missed_then rest more.going.fresh (only_up_to inventory_all rest only) (only_no_round inventory_all rest only) (only_no_sens inventory_all rest refl only) first
+          (missed_calls air (moment old).world first turns.going.turns calls h))
+
+      all_or : (cards ≡ crowd_of old.listeners) ⊎ Misses first → (cards ≡ crowd_of old.listeners) ⊎ MissedRound whole.events
+      all_or (inl h) = inl h
+      all_or (inr h) = inr (missed h)
+
+      are_others : (others : Vcrowd) → r ≡ Ok others → (others ≡ others_of old.listeners) ⊎ (others ≡ Nobody) → AreOthers old.listeners others whole.events
       are_others others e (inl same) = inl same
       are_others others e (inr nobody) = by_miss (causes.nobody (e ∙ ap Ok nobody))
         where
-          by_miss : NoneAnswers devices inventory_all mid.listeners ⊎ (tries ≤ noise (drop (length mid.trace) new.trace)) → AreOthers old.listeners others rest
+          by_miss : NoneAnswers devices inventory_all mid.listeners ⊎ (tries ≤ noise (drop (length mid.trace) new.trace)) → AreOthers old.listeners others whole.events
           by_miss (inl none) = inl (nobody ∙ sym (none_told mid.listeners awake none) ∙ same_others mid.listeners old.listeners first_kept)
           by_miss (inr n) = inr (nobody, noisy n)
 
-      ends_with : (q : Result Vcrowd PollFault) → (q ≡ Err faults.Memory → ⊥) → r ≡ q → Comes (others_of old.listeners) q → InventoryEnds IsEnd old.listeners cards q rest (together cards q)
+      ends_with : (q : Result Vcrowd PollFault) → (q ≡ Err faults.Memory → ⊥) → r ≡ q → Comes (others_of old.listeners) q → InventoryEnds IsEnd old.listeners cards q whole.events (together cards q)
       ends_with (Ok others) fed e c = (are_others others e c, refl)
       ends_with (Err faults.Nobody) fed e c = absurd c
       ends_with (Err faults.Disturbed) fed e c = (refl, noisy (causes.disturbed e))
@@ -269,6 +296,13 @@ module _ (old mid : Air Device) (found : Result (List Picked) PollFault) (tame :
       lost_again (Ok others) e l = absurd (ok_no_err others faults.FieldLost (sym e ∙ l))
       lost_again (Err f) e l = ap Err (err_of f faults.FieldLost (sym e ∙ l))
 
+      whole_kept : map kept new.listeners ≡ map kept old.listeners
+      whole_kept = going_keeps (enquiring inventory) (moment mid) (moment new) more.notes inventory_harmless more.going ∙ first_kept
+
+      -- want of memory cut off the inventory
+      pub cut_both : AskedPart next (moment old) (moment new)
+      cut_both = record { notes = turns.notes ++ more.notes; going = whole; same = whole_kept }
+
       -- it was over, and both are one search
       pub searches_both : (r ≡ Err faults.Memory → ⊥) → Searches (moment old) (moment new) (together cards r)
       searches_both fed =
@@ -279,16 +313,13 @@ module _ (old mid : Air Device) (found : Result (List Picked) PollFault) (tame :
               notes = turns.notes ++ more.notes;
               going = whole;
               over = then_asks cards turns.notes told_well more.notes ∙ sym (asks_same inventory inventory_closes more.notes) ∙ ap asks told_others;
-              same = going_keeps (enquiring inventory) (moment mid) (moment new) more.notes inventory_harmless more.going ∙ first_kept;
+              same = whole_kept;
             };
             tells = record {
-              first = first;
-              rest = rest;
-              parts = whole_is;
-              cut = more.going.fresh;
               found = Ok cards;
-              searched = ap (follows finding) turns.going.known ∙ told_well;
-              ends = (well_ends.0, well_ends.1, r, ap (follows inventory) more.going.known ∙ told_others, ends_with r fed refl comes);
+              behind = more.notes;
+              searched = ap (follows finding) whole.known ∙ follows_on finding turns.notes more.notes (Ok cards) told_well;
+              ends = (well_ends.0, all_or well_ends.1, r, told_others, ends_with r fed refl comes);
               lost = (
                 (λ l. subst (λ n. 0 < n) (sym breaks_whole) (lost_with r refl l)),
                 (λ h. lost_again r refl (broken_more (subst (λ n. 0 < n) breaks_whole h))),

@@ -220,7 +220,7 @@ never_lit (Reaches (Tries n d)) e = tries_light inventory_all (nat_lt n tries) e
 never_lit (Reaches (Told r)) e = over_is_no_light e
 never_lit Loses e = over_is_no_light e
 
-only_due : (before es : List Event) → EachDue (enquiring inventory) before es → OnlyAsks inventory_all es
+pub only_due : (before es : List Event) → EachDue (enquiring inventory) before es → OnlyAsks inventory_all es
 only_due before [] q = tt
 only_due before (Reset ∷ es) q = absurd (never_lit (progress inventory (Tries 0 false) (receptions before)) q.0)
 only_due before (Request f x ∷ es) q = (due_only (progress inventory (Tries 0 false) (receptions before)) f q.0, only_due (before ++ Request f x ∷ []) es q.1)

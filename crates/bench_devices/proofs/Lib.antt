@@ -5,6 +5,7 @@ pub mod SelectingCards
 pub mod SelectingAir
 pub mod SelectingKept
 pub mod Searching
+pub mod NoisyTurns
 pub mod SelectingLinks
 pub mod Unmoved
 pub mod TagTwo

@@ -1,5 +1,5 @@
 -- What the frames of a read change of the devices: nothing that stays.
-use Rattle.std.proofs.Common.{◌≡◌, ℕ, zero, suc, List, [], ◌∷◌, ◌++◌, length, drop, Bool, true, false, ◌==◌, not, if◌then◌else◌, None, refl, ◌∙◌, ap}
+use Rattle.std.proofs.Common.{◌≡◌, ℕ, zero, suc, ◌+◌, ◌*◌, List, [], ◌∷◌, ◌++◌, length, drop, Bool, true, false, ◌==◌, ◌&&◌, nat_le, nat_lt, not, if◌then◌else◌, Some, None, refl, ◌∙◌, ap}
 use Rattle.std.specs.List.{AllByRecursion}
 use Rattle.nfc_base.specs.Signal.{Signal}
 use Rattle.air_core.specs.World.{stepped_by}
@@ -7,77 +7,136 @@ use Rattle.air_core.specs.Conversation.{Note, Asks}
 use Rattle.air_core.specs.Waits.{waits_next}
 use Rattle.nfca_poll.specs.Front.{Front, Off, Idle, Sleep, Ready, Active}
 use Rattle.t2t_tag.specs.Store.{T2Memory}
-use Rattle.t5t_tag.specs.Store.{T5State, id_size}
-use Rattle.t5t_tag.specs.Spelling.{read_code}
-use Rattle.t5t_tag.specs.Step.{silent, refuses, not_supported, read_turn, obeyed, names, addressed, t5_after}
-use Rattle.t5t_tag.proofs.Steps.{read_leaves}
+use Rattle.nfc_base.specs.Blocks.{block_of}
+use Rattle.t5t_tag.specs.Store.{T5State, id_size, block_count}
+use Rattle.t5t_tag.specs.Spelling as t5
+use Rattle.t5t_tag.specs.Spelling.{quiet_code, read_code, read_many_code, read_wide_code}
+use Rattle.t5t_tag.specs.Mask as t5_mask
+use Rattle.t5t_tag.specs.declared.command.T5Command.TheVariants as t5_command
+use Rattle.t5t_tag.specs.declared.answer.T5Answer.TheVariants.{Content}
+use Rattle.t5t_tag.specs.Step.{silent, tells, refuses, not_supported, no_block, blocks_of, read_turn, read_many_turn, wide_number, Asked, Reads, ReadsMany, Unknown, asked_turn, obeyed, names, addressed, t5_after}
+use Rattle.tag_reader.specs.declared.ask.Ask.{Ask}
+use Rattle.tag_reader.specs.declared.ask.Ask.TheVariants.{One, Many}
+use Rattle.tag_reader.specs.Blocks.{ask_frame, ask_at, progress_at}
 use Rattle.tag_reader.specs.declared.how.How.TheVariants as hows
 use Rattle.tag_reader.specs.Kinds.{command, first}
 use Rattle.bench_devices.specs.Powered.{Powered}
 use Rattle.bench_devices.specs.declared.device.Device.{Device}
 use Rattle.bench_devices.specs.declared.device.Device.TheVariants.{T2, T4, T5}
-use Rattle.bench_devices.specs.Device.{devices, device_after, how_of}
+use Rattle.nfc_base.specs.declared.frame.Tech.TheVariants.{A}
+use Rattle.bench_devices.specs.Device.{devices, device_tech, device_after, how_of}
 use Rattle.bench_devices.specs.Linking.{IsPlainHow}
 use Rattle.bench_devices.specs.Phases.{kept}
 use Rattle.bench_devices.proofs.CardKept.{four_keeps, spells_none}
 use Rattle.air_core.proofs.DueWaits.{due_all}
 use Rattle.bench_devices.proofs.SelectingKept.{IsHarmless}
 
--- a READ leaves a Type 5 tag as it is
-obeyed_leaves : (t : T5State) (rest : List ℕ) → (obeyed t read_code rest).after ≡ t
-obeyed_leaves t [] = refl
-obeyed_leaves t (block ∷ rest) = by_length (length rest == 0)
+-- what is read leaves a Type 5 tag as it is
+read_leaves_it : (t : T5State) (block : ℕ) → (read_turn t block).after ≡ t
+read_leaves_it t block = by_end (nat_le (block_count t) block)
   where
-    by_length : (v : Bool) → (if v then read_turn t block else refuses t not_supported).after ≡ t
-    by_length true = read_leaves t block
-    by_length false = refl
+    by_end : (v : Bool) → (if v then refuses t no_block else tells t (Content (record { items = block_of t.size t.store block }))).after ≡ t
+    by_end true = refl
+    by_end false = refl
 
-read_addressed : (t : T5State) (rest : List ℕ) → (addressed t (read_code ∷ rest)).after ≡ t
-read_addressed t rest = by_names (names t rest)
+many_leaves_it : (t : T5State) (block more : ℕ) → (read_many_turn t block more).after ≡ t
+many_leaves_it t block more = by_end (nat_le (block_count t) (block + more)) (not (nat_le (t.size * (more + 1)) 256))
   where
-    by_names : (v : Bool) → (if not v then silent t else obeyed t read_code (drop id_size rest)).after ≡ t
-    by_names true = obeyed_leaves t (drop id_size rest)
+    by_end : (v w : Bool) → (if v then refuses t no_block else if w then refuses t not_supported else tells t (Content (record { items = blocks_of t.size t.store block (more + 1) }))).after ≡ t
+    by_end true w = refl
+    by_end false true = refl
+    by_end false false = refl
+
+leaves_pair : (t : T5State) (b : Bool) (what : Asked) → (asked_turn t what).after ≡ t → (asked_turn t (if b then what else Unknown)).after ≡ t
+leaves_pair t true what leaves = leaves
+leaves_pair t false what leaves = refl
+
+-- the codes of a reader
+single_leaves : (t : T5State) (rest : List ℕ) → (obeyed t read_code rest).after ≡ t
+single_leaves t [] = refl
+single_leaves t (block ∷ []) = read_leaves_it t block
+single_leaves t (a ∷ b ∷ rest) = leaves_pair t (length rest == 0) Unknown refl
+
+many_leaves : (t : T5State) (rest : List ℕ) → (obeyed t read_many_code rest).after ≡ t
+many_leaves t [] = refl
+many_leaves t (block ∷ []) = refl
+many_leaves t (a ∷ b ∷ rest) = leaves_pair t (length rest == 0) (ReadsMany a b) (many_leaves_it t a b)
+
+wide_leaves : (t : T5State) (rest : List ℕ) → (obeyed t read_wide_code rest).after ≡ t
+wide_leaves t [] = refl
+wide_leaves t (block ∷ []) = refl
+wide_leaves t (a ∷ b ∷ rest) = leaves_pair t (length rest == 0) (Reads (wide_number a b)) (read_leaves_it t (wide_number a b))
+
+read_addressed : (t : T5State) (code : ℕ) (rest : List ℕ) → (code == quiet_code) ≡ false → ((xs : List ℕ) → (obeyed t code xs).after ≡ t) → (addressed t (code ∷ rest)).after ≡ t
+read_addressed t code rest other leaves = by_names (names t rest)
+  where
+    by_names : (v : Bool) → (if not v then silent t else if (code == quiet_code) && (length rest == id_size) then record { answer = None; after = record t { quiet = true } } else obeyed t code (drop id_size rest)).after ≡ t
+    by_names true = rw other (leaves (drop id_size rest))
     by_names false = refl
 
--- so does one of each kind of device, whichever it hears
-read_two : (id : List ℕ) (front : Front) (u : T2Memory) (store : List ℕ) (k : ℕ)
-    → kept (device_after (T2 (record { id = id; front = front; upper = u })) (command hows.T2 store k)) ≡ kept (T2 (record { id = id; front = front; upper = u }))
-read_two id Off u store k = refl
-read_two id Idle u store k = refl
-read_two id Sleep u store k = refl
-read_two id (Ready level starred) u store k = refl
-read_two id (Active starred) u store k = refl
+number_leaves : (t : T5State) (id : List ℕ) (block : ℕ) (v : Bool) → t5_after t (t5.command_frame (if v then t5_command.Read (Some id) block else t5_command.ReadWide (Some id) block)) ≡ t
+number_leaves t id block true = read_addressed t read_code (t5_mask.low_first id ++ block ∷ []) refl (single_leaves t)
+number_leaves t id block false = read_addressed t read_wide_code (t5_mask.low_first id ++ t5.wide block) refl (wide_leaves t)
 
-read_five : (id : List ℕ) (p : Powered) (store : List ℕ) (k : ℕ) → kept (device_after (T5 p) (command (hows.T5 id) store k)) ≡ kept (T5 p)
-read_five id p store k = by_light p.lit
+several_leave : (t : T5State) (id : List ℕ) (block more : ℕ) → t5_after t (t5.command_frame (t5_command.ReadMany (Some id) block more)) ≡ t
+several_leave t id block more = read_addressed t read_many_code (t5_mask.low_first id ++ block ∷ more ∷ []) refl (many_leaves t)
+
+-- so does one of each kind of device, whichever it hears
+read_two : (id : List ℕ) (front : Front) (u : T2Memory) (size : ℕ) (store : List ℕ) (k : ℕ)
+    → kept (device_after (T2 (record { id = id; front = front; upper = u })) (command hows.T2 size store k)) ≡ kept (T2 (record { id = id; front = front; upper = u }))
+read_two id Off u size store k = refl
+read_two id Idle u size store k = refl
+read_two id Sleep u size store k = refl
+read_two id (Ready level starred) u size store k = refl
+read_two id (Active starred) u size store k = refl
+
+five_keeps : (p : Powered) (f : Signal) → t5_after p.tag f ≡ p.tag → kept (device_after (T5 p) f) ≡ kept (T5 p)
+five_keeps p f leaves = by_light p.lit
   where
-    by_light : (v : Bool) → kept (if v then T5 (record { tag = t5_after p.tag (command (hows.T5 id) store k); lit = true }) else T5 p) ≡ kept (T5 p)
-    by_light true = ap (λ t. kept (T5 (record { tag = t; lit = true }))) (read_addressed p.tag _)
+    by_light : (v : Bool) → kept (if v then T5 (record { tag = t5_after p.tag f; lit = true }) else T5 p) ≡ kept (T5 p)
+    by_light true = ap (λ t. kept (T5 (record { tag = t; lit = true }))) leaves
     by_light false = refl
 
-read_keeps : (e : Device) → IsPlainHow (how_of e) → (store : List ℕ) (k : ℕ) (d : Device) → kept (stepped_by devices d (command (how_of e) store k) None) ≡ kept d
-read_keeps (T2 e) is store k (T2 d) = read_two d.id d.front d.upper store k
-read_keeps (T2 e) is store k (T4 d) = four_keeps d (command hows.T2 store k) (spells_none (command hows.T2 store k) refl refl)
-read_keeps (T2 e) is store k (T5 p) = refl
-read_keeps (T4 e) is store k d = absurd is
-read_keeps (T5 e) is store k (T2 d) = refl
-read_keeps (T5 e) is store k (T4 d) = refl
-read_keeps (T5 e) is store k (T5 p) = read_five e.tag.id p store k
+read_five : (p : Powered) (id : List ℕ) (a : Ask) → kept (stepped_by devices (T5 p) (ask_frame id a) None) ≡ kept (T5 p)
+read_five p id (One block) = by_number (nat_lt block 256)
+  where
+    by_number : (v : Bool) → kept (stepped_by devices (T5 p) (t5.command_frame (if v then t5_command.Read (Some id) block else t5_command.ReadWide (Some id) block)) None) ≡ kept (T5 p)
+    by_number true = five_keeps p (t5.command_frame (t5_command.Read (Some id) block)) (number_leaves p.tag id block true)
+    by_number false = five_keeps p (t5.command_frame (t5_command.ReadWide (Some id) block)) (number_leaves p.tag id block false)
+read_five p id (Many block more) = five_keeps p (t5.command_frame (t5_command.ReadMany (Some id) block more)) (several_leave p.tag id block more)
+
+-- a device of NFC-A doesn't hear what is asked of a Type 5 tag
+unheard : (d : Device) (a : Ask) (id : List ℕ) → device_tech d ≡ A → kept (stepped_by devices d (ask_frame id a) None) ≡ kept d
+unheard d (One block) id is = by_number (nat_lt block 256)
+  where
+    by_number : (v : Bool) → kept (stepped_by devices d (t5.command_frame (if v then t5_command.Read (Some id) block else t5_command.ReadWide (Some id) block)) None) ≡ kept d
+    by_number true = rw is refl
+    by_number false = rw is refl
+unheard d (Many block more) id is = rw is refl
+
+read_keeps : (e : Device) → IsPlainHow (how_of e) → (size : ℕ) (store : List ℕ) (k : ℕ) (d : Device) → kept (stepped_by devices d (command (how_of e) size store k) None) ≡ kept d
+read_keeps (T2 e) is size store k (T2 d) = read_two d.id d.front d.upper size store k
+read_keeps (T2 e) is size store k (T4 d) = four_keeps d (command hows.T2 size store k) (spells_none (command hows.T2 size store k) refl refl)
+read_keeps (T2 e) is size store k (T5 p) = refl
+read_keeps (T4 e) is size store k d = absurd is
+read_keeps (T5 e) is size store k (T2 d) = unheard (T2 d) (ask_at size store (progress_at size store k)) e.tag.id refl
+read_keeps (T5 e) is size store k (T4 d) = unheard (T4 d) (ask_at size store (progress_at size store k)) e.tag.id refl
+read_keeps (T5 e) is size store k (T5 p) = read_five p e.tag.id (ask_at size store (progress_at size store k))
 
 -- a frame that asks a device for bytes
 abbrev pub IsRead : Device → Signal → Type 0
-IsRead e f = (store : List ℕ) × (k : ℕ) × (f ≡ command (how_of e) store k)
+IsRead e f = (size : ℕ) × (store : List ℕ) × (k : ℕ) × (f ≡ command (how_of e) size store k)
 
 all_more : (P : Signal → Type 0) (xs : List Signal) (y : Signal) → AllByRecursion P xs → P y → AllByRecursion P (xs ++ y ∷ [])
 all_more P [] y all here = (here, tt)
 all_more P (x ∷ xs) y all here = (all.0, all_more P xs y all.1 here)
 
-pub all_reads : (e : Device) (store : List ℕ) (n : ℕ) → AllByRecursion (IsRead e) (first (how_of e) store n)
-all_reads e store zero = tt
-all_reads e store (suc n) = all_more (IsRead e) (first (how_of e) store n) (command (how_of e) store n) (all_reads e store n) (store, n, refl)
+pub all_reads : (e : Device) (size : ℕ) (store : List ℕ) (n : ℕ) → AllByRecursion (IsRead e) (first (how_of e) size store n)
+all_reads e size store zero = tt
+all_reads e size store (suc n) = all_more (IsRead e) (first (how_of e) size store n) (command (how_of e) size store n) (all_reads e size store n) (size, store, n, refl)
 
 -- what is due while READs are asked changes no device but in its state
 pub reads_harmless : (e : Device) → IsPlainHow (how_of e) → (cs : List Signal) → AllByRecursion (IsRead e) cs → (ns : List Note) (f : Signal) → waits_next cs ns ≡ Asks f → IsHarmless f
 reads_harmless e plain cs all ns f due d =
     let is : IsRead e f = due_all (IsRead e) cs all ns f due in
-    ap (λ g. kept (stepped_by devices d g None)) is.2 ∙ read_keeps e plain is.0 is.1 d
+    ap (λ g. kept (stepped_by devices d g None)) is.3 ∙ read_keeps e plain is.0 is.1 is.2 d

@@ -34,7 +34,7 @@ use Rattle.bench_devices.specs.Answering.{TellsStanding}
 use Rattle.bench_devices.specs.Device.{air}
 use Rattle.bench_devices.specs.Reading.{AsksOf, ShowsOf}
 use Rattle.bench_devices.specs.Linking.{IsPlainHow, IsNew}
-use Rattle.bench_devices.specs.Phases.{ghosts, kept, Stands, Asked, FailsRead, Reads, ReadsAt}
+use Rattle.bench_devices.specs.Phases.{ghosts, kept, Stands, Asked, AskedPart, FailsRead, Reads, ReadsAt, ReadsSome, CutAt}
 use Rattle.air_core.proofs.LostField.{going_lost}
 use Rattle.bench_devices.proofs.SelectingKept.{going_keeps}
 use Rattle.air_core.proofs.BrokenWaits.{EndsLost, lost_ends, broken_front, stays_lit}
@@ -49,7 +49,7 @@ none_behind (x ∷ xs) = none_behind xs
 -- that the link ended with.
 record AskedSome (d : Device) (asked : List Signal) : Type 0 where
   pub count : ℕ
-  pub list : asked ≡ first (how_of d) (device_store d) count
+  pub list : asked ≡ first (how_of d) (size_of d) (device_store d) count
   pub each : AreDue (how_of d) (size_of d) (device_store d) count
 
 -- what a read of a plain tag did
@@ -59,6 +59,17 @@ pub record ReadsPlain (old new : Moment (World Device)) (d : Device) (r : Result
   pub asked : Asked (waits_next commands) old new
   pub ends : TellsStanding (ShowsOf d) FailsRead (stand 0 commands asked.notes) r
   pub lost : (r ≡ Err faults.FieldLost) ↔ (0 < breaks asked.going.events)
+
+-- so far a read of a plain tag went
+pub record CutPlain (old new : Moment (World Device)) (d : Device) : Type 0 where
+  pub commands : List Signal
+  pub asks : AsksOf d commands
+  pub asked : AskedPart (waits_next commands) old new
+
+as_cut : (old new : Moment (World Device)) (d : Device) → IsPlainHow (how_of d) → CutPlain old new d → ReadsSome old new d
+as_cut old new (T2 d) plain s = record { commands = s.commands; asks = s.asks; asked = s.asked }
+as_cut old new (T4 d) plain s = absurd plain
+as_cut old new (T5 p) plain s = record { commands = s.commands; asks = s.asks; asked = s.asked }
 
 as_reads : (old new : Moment (World Device)) (d : Device) (r : Result Found ReadFault) → IsPlainHow (how_of d) → ReadsPlain old new d r → Reads old new d r
 as_reads old new (T2 d) r plain s = record { commands = s.commands; asks = s.asks; asked = s.asked; ends = s.ends; lost = s.lost }
@@ -91,37 +102,50 @@ module _ (a : Air Device) (place : ℕ) (d : Device) (s : Stands (moment a) plac
   due_here : (n : ℕ) → AreDue (how_of d) (size_of d) from.state.store n → AreDue (how_of d) (size_of d) (device_store d) n
   due_here n each = subst (λ xs. AreDue (how_of d) (size_of d) xs n) (shows_store a place d s) each
 
-  first_here : (n : ℕ) → first (how_of d) from.state.store n ≡ first (how_of d) (device_store d) n
-  first_here n = ap (λ xs. first (how_of d) xs n) (shows_store a place d s)
+  first_here : (n : ℕ) → first (how_of d) (size_of d) from.state.store n ≡ first (how_of d) (size_of d) (device_store d) n
+  first_here n = ap (λ xs. first (how_of d) (size_of d) xs n) (shows_store a place d s)
 
   -- the command that the link ended with is the next that is asked
   asked_more : (h : HasAskedOf) (e : AskFault) → q.over ≡ Some e → AskedSome d m.asked.commands
   asked_more h e over = by_last h.last
     where
-      by_last : ((q.last ≡ last_of (how_of d) from.state.store from h.count) × (q.over ≡ None)) ⊎ ((q.last ≡ Some (command (how_of d) from.state.store h.count)) × IsDue (how_of d) (size_of d) from.state.store h.count) → AskedSome d m.asked.commands
+      by_last : ((q.last ≡ last_of (how_of d) (size_of d) from.state.store from h.count) × (q.over ≡ None)) ⊎ ((q.last ≡ Some (command (how_of d) (size_of d) from.state.store h.count)) × IsDue (how_of d) (size_of d) from.state.store h.count) → AskedSome d m.asked.commands
       by_last (inl (last, open')) = absurd (let clash : None ≡ Some e = sym open' ∙ over in cc)
       by_last (inr (last, due)) =
-          let c : Signal = command (how_of d) from.state.store h.count in
+          let c : Signal = command (how_of d) (size_of d) from.state.store h.count in
           let left : unanswered q.over q.last ≡ c ∷ [] = ap (λ o. unanswered o q.last) over ∙ ap (unanswered (Some e)) last in
           let one : h.count + 1 ≡ suc h.count = omega arith in
           record {
             count = suc h.count;
             list = sym asked_told ∙ ap (λ xs. to.answered ++ xs) left
-                ∙ ap (λ xs. xs ++ c ∷ []) (h.answered ∙ ap (λ xs. xs ++ first (how_of d) from.state.store h.count) none_before)
+                ∙ ap (λ xs. xs ++ c ∷ []) (h.answered ∙ ap (λ xs. xs ++ first (how_of d) (size_of d) from.state.store h.count) none_before)
                 ∙ first_here (suc h.count);
             each = subst (AreDue (how_of d) (size_of d) (device_store d)) one
                 (due_here (h.count + 1) (due_more (how_of d) (size_of d) from.state.store h.count h.each due));
           }
+
+  -- however it ended, what was asked is the first of what is asked
+  asked_first : HasAskedOf → AskedSome d m.asked.commands
+  asked_first h = by_over q.over refl
+    where
+      by_over : (o : Option AskFault) → q.over ≡ o → AskedSome d m.asked.commands
+      by_over (Some e) over = asked_more h e over
+      by_over None open' = record {
+        count = h.count;
+        list = sym asked_told ∙ ap (λ o. to.answered ++ unanswered o q.last) open' ∙ append-nil to.answered ∙ h.answered
+            ∙ ap (λ xs. xs ++ first (how_of d) (size_of d) from.state.store h.count) none_before ∙ first_here h.count;
+        each = due_here h.count h.each;
+      }
 
   -- where the link isn't over, what was asked was answered
   asked_whole : (all : HasAskedAllOf) → q.over ≡ None → m.asked.commands ≡ all.commands
   asked_whole all open' =
       sym asked_told ∙ ap (λ o. to.answered ++ unanswered o q.last) open' ∙ append-nil to.answered ∙ all.answered ∙ ap (λ xs. xs ++ all.commands) none_before
 
-  all_reads_of : (n : ℕ) → m.asked.commands ≡ first (how_of d) (device_store d) n → AllByRecursion (IsRead d) m.asked.commands
-  all_reads_of n list = subst (AllByRecursion (IsRead d)) (sym list) (all_reads d (device_store d) n)
+  all_reads_of : (n : ℕ) → m.asked.commands ≡ first (how_of d) (size_of d) (device_store d) n → AllByRecursion (IsRead d) m.asked.commands
+  all_reads_of n list = subst (AllByRecursion (IsRead d)) (sym list) (all_reads d (size_of d) (device_store d) n)
 
-  same_devices : (n : ℕ) → m.asked.commands ≡ first (how_of d) (device_store d) n → map kept q.air.listeners ≡ map kept a.listeners
+  same_devices : (n : ℕ) → m.asked.commands ≡ first (how_of d) (size_of d) (device_store d) n → map kept q.air.listeners ≡ map kept a.listeners
   same_devices n list = going_keeps (waits_next m.asked.commands) (moment a) (moment q.air) m.asked.notes (reads_harmless d plain m.asked.commands (all_reads_of n list)) m.asked.going
 
   -- the field was lost exactly where the waits ended so
@@ -150,8 +174,20 @@ module _ (a : Air Device) (place : ℕ) (d : Device) (s : Stands (moment a) plac
     known = m.asked.going.known;
   }
 
+  -- Reading was cut off.
+  pub read_cut : HasAskedOf → CutPlain (moment a) (moment q.air) d
+  read_cut h =
+      let some = asked_first h in
+      let whole = some_asked d s.sound plain in
+      let front = asked_front (how_of d) (size_of d) (device_store d) some.count whole.0 some.each whole.1 in
+      record {
+        commands = m.asked.commands ++ front.0;
+        asks = subst (AsksOf d) (front.1 ∙ ap (λ xs. xs ++ front.0) (sym some.list)) whole.1;
+        asked = record { notes = m.asked.notes; going = asked_front_of front.0; same = same_devices some.count some.list };
+      }
+
   -- What a read did, where its waits stand so at the end.
-  reads_by : (r : Result Found ReadFault) (n : ℕ) → m.asked.commands ≡ first (how_of d) (device_store d) n → (rest : List Signal) → AsksOf d (m.asked.commands ++ rest)
+  reads_by : (r : Result Found ReadFault) (n : ℕ) → m.asked.commands ≡ first (how_of d) (size_of d) (device_store d) n → (rest : List Signal) → AsksOf d (m.asked.commands ++ rest)
       → (x : Standing) → stand 0 (m.asked.commands ++ rest) m.asked.notes ≡ x → due_at x ≡ Over → TellsStanding (ShowsOf d) FailsRead x r
       → (r ≡ Err faults.FieldLost → 0 < breaks m.asked.going.events) → (0 < breaks m.asked.going.events → r ≡ Err faults.FieldLost) → ReadsSo r
   reads_by r n list rest asks x stands over tells lost by_break = record {
@@ -207,7 +243,7 @@ module _ (a : Air Device) (place : ℕ) (d : Device) (s : Stands (moment a) plac
 
   -- a fault ended it: of the store, or of the link
   pub read_fault : (fault : ReadFault) → (fault ≡ faults.Memory → ⊥) → HasAskedOf → (is_told fault ≡ true → HasAskedAllOf) → (is_told fault ≡ true → GoesOn from to)
-      → IsReadFault (how_of d) (device_store d) from to fault → ReadsSo (Err fault)
+      → IsReadFault (how_of d) (size_of d) (device_store d) from to fault → ReadsSo (Err fault)
   read_fault faults.NotNdef fed h all goes is = read_told (Err faults.NotNdef) (all refl) (goes refl) is
   read_fault faults.Version fed h all goes is = read_told (Err faults.Version) (all refl) (goes refl) is
   read_fault faults.NoRead fed h all goes is = read_told (Err faults.NoRead) (all refl) (goes refl) is
@@ -272,6 +308,12 @@ module _ (p : PlainSeen Device) (is : IsNew p) (how : How) (one : (e : Device) �
         subst (λ e. Reads (moment p.air) (moment q.air) e r) (sym (stands_one p.air p.place one.0 one.1 d stands))
         (as_reads (moment p.air) (moment q.air) one.0 r plain_one reads)
 
+    -- reading was cut off
+    pub ends_cut : (r : Result Found ReadFault) → HasAskedSome how (size_of one.0) p → CutAt (moment p.air) (moment q.air) p.place r
+    ends_cut r some starved d stands =
+        subst (λ e. ReadsSome (moment p.air) (moment q.air) e) (sym (stands_one p.air p.place one.0 one.1 d stands))
+        (as_cut (moment p.air) (moment q.air) one.0 plain_one (read_cut p.air p.place one.0 one.1 plain_one q from_new (some_here some)))
+
     ends_found : (found : Found) → HasAskedEach how (size_of one.0) p → GoesOn (plain_view ghosts p) (plain_view ghosts q)
         → IsFound how (size_of one.0) (plain_view ghosts p).state.store found → ReadsPlain (moment p.air) (moment q.air) one.0 (Ok found)
     ends_found found whole goes ok =
@@ -282,18 +324,18 @@ module _ (p : PlainSeen Device) (is : IsNew p) (how : How) (one : (e : Device) �
 
     ends_told : (fault : ReadFault) → (fault ≡ faults.Memory → ⊥) → HasAskedSome how (size_of one.0) p → (is_told fault ≡ true → HasAskedEach how (size_of one.0) p)
         → (is_told fault ≡ true → GoesOn (plain_view ghosts p) (plain_view ghosts q))
-        → IsReadFault how (plain_view ghosts p).state.store (plain_view ghosts p) (plain_view ghosts q) fault → ReadsPlain (moment p.air) (moment q.air) one.0 (Err fault)
+        → IsReadFault how (size_of one.0) (plain_view ghosts p).state.store (plain_view ghosts p) (plain_view ghosts q) fault → ReadsPlain (moment p.air) (moment q.air) one.0 (Err fault)
     ends_told fault fed some whole goes err =
-        let here : IsReadFault (how_of one.0) (device_store one.0) (plain_view ghosts (begun p.air p.place)) (plain_view ghosts q) fault =
-        subst (λ x. IsReadFault (how_of one.0) (device_store one.0) (plain_view ghosts x) (plain_view ghosts q) fault) (sym (new_is p is))
-        (subst (λ xs. IsReadFault (how_of one.0) xs (plain_view ghosts p) (plain_view ghosts q) fault) new_store
-        (subst (λ h. IsReadFault h (plain_view ghosts p).state.store (plain_view ghosts p) (plain_view ghosts q) fault) one.2 err)) in
+        let here : IsReadFault (how_of one.0) (size_of one.0) (device_store one.0) (plain_view ghosts (begun p.air p.place)) (plain_view ghosts q) fault =
+        subst (λ x. IsReadFault (how_of one.0) (size_of one.0) (device_store one.0) (plain_view ghosts x) (plain_view ghosts q) fault) (sym (new_is p is))
+        (subst (λ xs. IsReadFault (how_of one.0) (size_of one.0) xs (plain_view ghosts p) (plain_view ghosts q) fault) new_store
+        (subst (λ h. IsReadFault h (size_of one.0) (plain_view ghosts p).state.store (plain_view ghosts p) (plain_view ghosts q) fault) one.2 err)) in
         read_fault p.air p.place one.0 one.1 plain_one q from_new fault fed (some_here some) (λ told. each_here (whole told)) (λ told. goes_here (goes told)) here
 
     -- whatever the reading came to
     pub ends_read : (r : Result Found ReadFault) → HasAskedSome how (size_of one.0) p → OnTold r (HasAskedEach how (size_of one.0) p)
         → OnTold r (GoesOn (plain_view ghosts p) (plain_view ghosts q)) → IfOk r (IsFound how (size_of one.0) (plain_view ghosts p).state.store)
-        → IfErr r (IsReadFault how (plain_view ghosts p).state.store (plain_view ghosts p) (plain_view ghosts q))
+        → IfErr r (IsReadFault how (size_of one.0) (plain_view ghosts p).state.store (plain_view ghosts p) (plain_view ghosts q))
         → ReadsAt (moment p.air) (moment q.air) p.place r
     ends_read (Ok found) some whole goes ok err fed = of_any (Ok found) (ends_found found whole goes ok)
     ends_read (Err fault) some whole goes ok err fed = of_any (Err fault) (ends_told fault (λ m. fed (ap Err m)) some whole goes err)

@@ -10,7 +10,8 @@ use Rattle.air_core.proofs.PlainStores.{place_is}
 use Rattle.t2t_tag.specs.Store.{IsT2Store}
 use Rattle.t5t_tag.specs.Store.{IsT5Store}
 use Rattle.tag_reader.specs.Kinds.{IsTag}
-use Rattle.tag_reader.specs.Steps.{IsBlockStore}
+use Rattle.tag_reader.specs.declared.how.How.TheVariants as hows
+use Rattle.tag_reader.proofs.BlockLists.{blocks_asked}
 use Rattle.tag_reader.proofs.SomeList.{some_list}
 use Rattle.bench_devices.specs.declared.device.Device.{Device}
 use Rattle.bench_devices.specs.declared.device.Device.TheVariants.{T2, T4, T5}
@@ -67,14 +68,11 @@ tag_by v (T5 p) kind named step state is plain = record {
   steps = (p.tag.locked, false, λ s c h may. ap (λ st. st s c) step);
 }
 
-sound_store : (d : Device) → IsSound (kept d) → IsPlainHow (how_of d) → IsBlockStore (how_of d) (size_of d) (device_store d)
-sound_store (T2 d) is plain = (refl, is.2)
-sound_store (T4 d) is plain = absurd plain
-sound_store (T5 p) is plain = is.3
-
 -- each such device has a list of what a read asks of it
 pub some_asked : (d : Device) → IsSound (kept d) → IsPlainHow (how_of d) → (commands : List Signal) × AsksOf d commands
-some_asked d is plain = some_list (how_of d) (size_of d) (device_store d) (sound_store d is plain)
+some_asked (T2 d) is plain = some_list hows.T2 (size_of (T2 d)) (device_store (T2 d)) (refl, is.2)
+some_asked (T4 d) is plain = absurd plain
+some_asked (T5 p) is plain = blocks_asked p.tag.id (size_of (T5 p)) (device_store (T5 p)) is.3
 
 -- the link when it is made
 abbrev pub begun : Air Device → ℕ → PlainSeen Device

@@ -21,13 +21,17 @@ use Rattle.bench_devices.proofs.Following.{HasEnded, Closes}
 use Rattle.air_core.proofs.Following.{same_asked, light_is_no_request, over_is_no_request}
 use Rattle.bench_devices.proofs.SelectingAir.{stays_lit}
 use Rattle.air_core.proofs.LostField.{lit_by}
-use Rattle.bench_devices.specs.LinkCalls.{BeginsAsCalls}
+use Rattle.nfca_poll.specs.OwnFrames.{BeginsAsCalls}
+use Rattle.nfca_poll.proofs.CallsRead.{sdd_read, sel_read}
+use Rattle.nfca_poll.proofs.SeekSteps.{packed_forty}
+use Rattle.bench_devices.specs.Noise.{is_call, is_polling}
 use Rattle.bench_devices.proofs.SelectingKept.{IsHarmless, harmless_call}
 
--- a request of polling: a frame of NFC-A that begins as calls do
+-- a request of polling: a frame of NFC-A that is read as a call, and begins as calls do
 pub record IsCall (f : Signal) : Type 0 where
   pub of_a : f.tech ≡ NfcA
   pub begins : BeginsAsCalls f
+  pub called : is_call f ≡ true
 
 pub call_harmless : (f : Signal) → IsCall f → IsHarmless f
 call_harmless f is = harmless_call f is.of_a is.begins
@@ -43,53 +47,66 @@ in_range k n e h = (omega (arith, e), omega (arith, e, h))
 small_code : (k : ℕ) → k ≤ 3 → sel_cmd k < 256
 small_code k h = omega (arith, h)
 
-sdd_call : (k : ℕ) (known : List Bool) → k ≤ 3 → IsCall (call_frame (Sdd k known))
-sdd_call k known h =
+sdd_call : (k : ℕ) (known : List Bool) → 1 ≤ k → k ≤ 3 → length known ≤ 39 → IsCall (call_frame (Sdd k known))
+sdd_call k known l h few =
     let first : slice_index (call_frame (Sdd k known)).bytes 0 ≡ sel_cmd k =
     ap (λ bytes. slice_index bytes 0) (sdd_bytes (sel_cmd k) (sel_par (length known)) known) ∙ number_of_low_bits 8 (sel_cmd k) (small_code k h) in
-    record { of_a = refl; begins = λ t. in_range k (slice_index (call_frame (Sdd k known)).bytes 0) first h }
+    record { of_a = refl; begins = λ t. in_range k (slice_index (call_frame (Sdd k known)).bytes 0) first h; called = ap is_polling (sdd_read k known l h few) }
 
-sel_call : (k : ℕ) (l : List ℕ) → k ≤ 3 → IsCall (call_frame (Sel k l))
-sel_call k l h = record { of_a = refl; begins = λ t. in_range k (sel_cmd k) refl h }
+sel_call : (k : ℕ) (l : List ℕ) → 1 ≤ k → k ≤ 3 → length l ≡ 5 → IsCall (call_frame (Sel k l))
+sel_call k l one h five = record { of_a = refl; begins = λ t. in_range k (sel_cmd k) refl h; called = ap is_polling (sel_read k l one h five) }
 
 sens_call : IsCall (call_frame Sens)
-sens_call = record { of_a = refl; begins = λ t. absurd cc }
+sens_call = record { of_a = refl; begins = λ t. absurd cc; called = refl }
 
 slp_call : IsCall (call_frame Slp)
-slp_call = record { of_a = refl; begins = λ t. (omega arith, omega arith) }
+slp_call = record { of_a = refl; begins = λ t. (omega arith, omega arith); called = refl }
 
 call_asked : (c : Call) (f : Signal) → IsCall (call_frame c) → Asks (call_frame c) ≡ Asks f → IsCall f
 call_asked c f is e = subst IsCall (same_asked (call_frame c) f e) is
 
--- A resolution knows two levels at most before the one that it asks.
+-- A resolution knows two levels at most before the one that it asks, and not all of this one.
 abbrev IsFew : Seek → Type 0
 IsFew (Calling n) = Unit {0}
-IsFew (Asking done known) = length done ≤ 2
-IsFew (Selecting done l) = length done ≤ 2
+IsFew (Asking done known) = (length done ≤ 2) × (length known ≤ 39)
+IsFew (Selecting done l) = (length done ≤ 2) × (length l ≡ 5)
 IsFew (Ended o) = Unit {0}
 
 few_either : (v : Bool) (s t : Seek) → IsFew s → IsFew t → IsFew (if v then s else t)
 few_either true s t h k = h
 few_either false s t h k = k
 
+few_if : (v : Bool) (s t : Seek) → (v ≡ true → IsFew s) → (v ≡ false → IsFew t) → IsFew (if v then s else t)
+few_if true s t h k = h refl
+few_if false s t h k = k refl
+
+-- a level that is known whole has five bytes
+whole_level : (n : ℕ) (v : Bool) → ((n == level_bits) && v) ≡ true → n ≡ 40
+whole_level n v h = grind arith
+
+few_known : (n m : ℕ) → nat_le collision_bits n ≡ false → m ≡ n + 1 → m ≤ 39
+few_known n m h e = grind arith
+
 few_more : (done : List (List ℕ)) (l : List ℕ) (v : Bool) → goes_on done l ≡ v → IsFew (if v then Asking (done ++ l ∷ []) [] else Ended BadAnswer)
-few_more done l true e = one_more (length done) (length (done ++ l ∷ [])) (cascades l) e (length-append done (l ∷ []))
+few_more done l true e = (one_more (length done) (length (done ++ l ∷ [])) (cascades l) e (length-append done (l ∷ [])), omega arith)
   where
     one_more : (n m : ℕ) (w : Bool) → (nat_lt n 2 && w) ≡ true → m ≡ n + 1 → m ≤ 2
     one_more n m w h k = grind arith
 few_more done l false e = tt
 
 few_step : (s : Seek) (h : Heard) → IsFew s → IsFew (seek_step s h)
-few_step (Calling n) (Whole g) k = omega arith
-few_step (Calling n) (Collided g) k = omega arith
-few_step (Calling n) Damaged k = omega arith
+few_step (Calling n) (Whole g) k = (omega arith, omega arith)
+few_step (Calling n) (Collided g) k = (omega arith, omega arith)
+few_step (Calling n) Damaged k = (omega arith, omega arith)
 few_step (Calling n) Silent k = few_either (nat_lt n 3) (Calling (n + 1)) (Ended Nobody) tt tt
 few_step (Asking done known) (Whole g) k =
     let heard : List Bool = known ++ bits g in
-    few_either ((length heard == level_bits) && (slice_index (packed heard) 4 == bcc (packed heard))) (Selecting done (packed heard)) (Ended BadAnswer) k tt
+    few_if ((length heard == level_bits) && (slice_index (packed heard) 4 == bcc (packed heard))) (Selecting done (packed heard)) (Ended BadAnswer)
+    (λ whole. (k.0, packed_forty heard (whole_level (length heard) (slice_index (packed heard) 4 == bcc (packed heard)) whole))) (λ other. tt)
 few_step (Asking done known) (Collided g) k =
     let heard : List Bool = known ++ bits g in
-    few_either (nat_le collision_bits (length heard)) (Ended BadAnswer) (Asking done (heard ++ true ∷ [])) tt k
+    few_if (nat_le collision_bits (length heard)) (Ended BadAnswer) (Asking done (heard ++ true ∷ [])) (λ many. tt)
+    (λ few. (k.0, few_known (length heard) (length (heard ++ true ∷ [])) few (length-append heard (true ∷ []))))
 few_step (Asking done known) Damaged k = tt
 few_step (Asking done known) Silent k = tt
 few_step (Selecting done l) (Whole g) k =
@@ -106,10 +123,13 @@ few_step (Ended o) h k = tt
 third : (n : ℕ) → n ≤ 2 → n + 1 ≤ 3
 third n h = omega (arith, h)
 
+from_one : (n : ℕ) → 1 ≤ n + 1
+from_one n = omega arith
+
 seek_asked : (s : Seek) (f : Signal) → IsFew s → seek_next s ≡ Asks f → IsCall f
 seek_asked (Calling n) f k e = call_asked Sens f sens_call e
-seek_asked (Asking done known) f k e = call_asked (Sdd (length done + 1) known) f (sdd_call (length done + 1) known (third (length done) k)) e
-seek_asked (Selecting done l) f k e = call_asked (Sel (length done + 1) l) f (sel_call (length done + 1) l (third (length done) k)) e
+seek_asked (Asking done known) f k e = call_asked (Sdd (length done + 1) known) f (sdd_call (length done + 1) known (from_one (length done)) (third (length done) k.0) k.1) e
+seek_asked (Selecting done l) f k e = call_asked (Sel (length done + 1) l) f (sel_call (length done + 1) l (from_one (length done)) (third (length done) k.0) k.1) e
 seek_asked (Ended o) f k e = absurd (over_is_no_request f e)
 
 -- What is asked in a search by rounds are calls, and once it is over nothing is.

@@ -25,31 +25,34 @@ use Rattle.bench_devices.specs.declared.polling.SeenKind.{SeenKind}
 use Rattle.bench_devices.specs.Device.{devices, device_id, device_selected, seen_of}
 use Rattle.bench_devices.specs.Device.{air}
 use Rattle.bench_devices.specs.Placed.{device_with}
-use Rattle.bench_devices.specs.Answering.{HasPollCause, MissedBy}
+use Rattle.bench_devices.specs.Answering.{HasPollCause, MissedBy, IsAbsent}
+use Rattle.bench_devices.specs.Noise.{is_call}
+use Rattle.nfc_base.specs.declared.frame.Tech.TheVariants as techs
 use Rattle.bench_devices.specs.Choosing.{StandsAt}
-use Rattle.bench_devices.specs.Phases.{ghosts, kept, AreSound, AreTame, AreTidy, Stands, Asked, Selects, SelectsAt}
+use Rattle.bench_devices.specs.Phases.{ghosts, kept, AreSound, AreTame, AreTidy, Stands, Asked, Selects, SelectsAt, SelectionCut}
 use Rattle.bench_devices.specs.Polling as followed
 use Rattle.bench_devices.specs.Polling.{follows, kind_by, seen_kind, selecting, asks}
 use Rattle.bench_devices.proofs.Following.{seen_by, kind_told, kind_asks, seen_lost, asks_same, told_same}
 use Rattle.air_core.proofs.Following.{going_as}
-use Rattle.bench_devices.proofs.Searching.{asks_harmless, search_closes, ends_lit}
+use Rattle.bench_devices.proofs.NoisyTurns.{missed_calls, gave_up_calls}
+use Rattle.bench_devices.proofs.Searching.{IsCall, asks_calls, asks_harmless, search_closes, ends_lit}
 use Rattle.bench_devices.proofs.SelectingAir.{events_are, loses}
 use Rattle.air_core.proofs.LostField.{HasLost, going_lit, going_lost}
 use Rattle.bench_devices.proofs.SelectingCards.{ours, polled, tidy, cards_of, own_idents, few_cards}
-use Rattle.bench_devices.proofs.SelectingKept.{going_keeps}
+use Rattle.bench_devices.proofs.SelectingKept.{EachAsked, due_asked, going_keeps}
 use Rattle.bench_devices.proofs.SelectingLinks.{AreUnlinked, unasked, unlinked_amid, unlinked_behind}
-use Rattle.bench_devices.proofs.SelectingPlaces.{not_eight, some_named, none_with, sound_amid, others_before, others_behind, same_place}
+use Rattle.bench_devices.proofs.SelectingPlaces.{some_named, sound_amid, others_before, others_behind, same_place}
 
 -- what is seen of the device, by the kind that was told
 abbrev pub any : Result Kind PollFault → Result SeenKind PollFault
 any r = seen_by seen_kind r
 
 -- no card has an identifier: no device has it
-other_ids : (id : List ℕ) (ds : List Device) → IsIdent id → AreSound (map kept ds) → Each (λ c. c.id ≢ id) (cards_of ds) → AllByRecursion (λ l. id ≡ device_id l → ⊥) ds
-other_ids id [] ident s h = tt
-other_ids id (T2 d ∷ ds) ident s h = ((λ e. h.0 (sym e)), other_ids id ds ident s.2 h.1)
-other_ids id (T4 d ∷ ds) ident s h = ((λ e. h.0 (sym e)), other_ids id ds ident s.2 h.1)
-other_ids id (T5 p ∷ ds) ident s h = ((λ e. not_eight (length id) ident.size (ap length e ∙ s.0.1)), other_ids id ds ident s.2 h)
+other_ids : (id : List ℕ) (ds : List Device) → Each (λ c. c.id ≢ id) (cards_of ds) → IsAbsent (ids.A id) ds
+other_ids id [] h = tt
+other_ids id (T2 d ∷ ds) h = ((λ e. h.0 e.1), other_ids id ds h.1)
+other_ids id (T4 d ∷ ds) h = ((λ e. h.0 e.1), other_ids id ds h.1)
+other_ids id (T5 p ∷ ds) h = ((λ e. absurd (let k : techs.V ≡ techs.A = e.0 in cc)), other_ids id ds h)
 
 -- the device that has a card
 record CardAt (ds : List Device) (a : List Card) (c : Card) (b : List Card) : Type 0 where
@@ -158,6 +161,10 @@ module _ (id : List ℕ) (old new : Air Device) (r : Result Kind PollFault) (ide
     same = same_kept;
   }
 
+  -- however it ended, so much was asked
+  pub cut : SelectionCut (ids.A id) (moment old) (moment new)
+  cut = record { notes = turns.notes; going = going_as air next (enquiring (picking id)) (moment old) (moment new) turns.notes next_same going; same = same_kept }
+
   lost_back : 0 < breaks events → any r ≡ Err faults.FieldLost
   lost_back h =
       let lost : HasLost turns.notes = going_lost devices (enquiring (picking id)) (moment old) (moment new) turns.notes going h in
@@ -167,14 +174,17 @@ module _ (id : List ℕ) (old new : Air Device) (r : Result Kind PollFault) (ide
     ends : PickEnds id (cards_of old.listeners) r (cards_of new.listeners) events
     ends = let P : List Event → Type 0 = λ es. PickEnds id (cards_of old.listeners) r (cards_of new.listeners) es in subst P trace_is (crowd polled (tidy old.listeners calm) (own_idents old.listeners tame))
 
+    calls : EachAsked (λ f. is_call f ≡ true) events
+    calls = due_asked (λ f. is_call f ≡ true) (enquiring (picking id)) (λ ns f e. let is : IsCall f = asks_calls (device_of id) ns f e in is.called) [] events turns.going.each
+
     missing : Each (λ c. c.id ≢ id) (cards_of old.listeners) ⊎ Misses events → MissedBy (ids.A id) old.listeners events
-    missing (inl h) = inl (none_with id old.listeners (other_ids id old.listeners ident tame.sound h))
-    missing (inr h) = inr h
+    missing (inl h) = inl (other_ids id old.listeners h)
+    missing (inr h) = inr (missed_calls air (moment old).world events turns.going.turns calls h)
 
     cause : (q : Result Kind PollFault) → PickEnds id (cards_of old.listeners) q (cards_of new.listeners) events → (q ≡ Err faults.Memory → ⊥) → HasPollCause (ids.A id) old.listeners (any q) events
     cause (Ok kind) h m = tt
     cause (Err faults.Nobody) h m = h
-    cause (Err faults.Disturbed) h m = h
+    cause (Err faults.Disturbed) h m = gave_up_calls air (moment old).world events turns.going.turns calls h
     cause (Err faults.FieldLost) h m = tt
     cause (Err faults.Memory) h m = absurd (m refl)
     cause (Err faults.NotFound) h m = missing h

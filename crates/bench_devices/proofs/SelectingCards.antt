@@ -29,7 +29,8 @@ use Rattle.bench_devices.specs.Phases as bench
 use Rattle.bench_devices.specs.Phases.{Kept, kept, IsApart, AreSound, AreTame, IsTidy}
 use Rattle.bench_devices.proofs.Ours.{device_kind, device_front, steps}
 use Rattle.bench_devices.proofs.Tidy.{left_tidy}
-use Rattle.bench_devices.specs.LinkCalls.{BeginsAsCalls, call_begins, no_command, did_at_call}
+use Rattle.nfca_poll.specs.OwnFrames.{BeginsAsCalls, call_begins}
+use Rattle.bench_devices.specs.LinkCalls.{no_command, did_at_call}
 
 left_stays : (starred : Bool) (next : Front) (u : T2Memory) → left_at t2_machine (Active starred) next u ≡ u
 left_stays starred Off u = refl

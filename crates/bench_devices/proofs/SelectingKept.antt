@@ -21,7 +21,8 @@ use Rattle.bench_devices.specs.Cards.{T4Near}
 use Rattle.bench_devices.specs.Device.{devices, t2_machine, t4_machine, T4Did}
 use Rattle.bench_devices.specs.Device.{air}
 use Rattle.bench_devices.specs.Phases.{Kept, kept}
-use Rattle.bench_devices.specs.LinkCalls.{BeginsAsCalls, no_command, says_at, did_at_call}
+use Rattle.nfca_poll.specs.OwnFrames.{BeginsAsCalls}
+use Rattle.bench_devices.specs.LinkCalls.{no_command, says_at, did_at_call}
 use Rattle.bench_devices.proofs.SelectingCards.{carded, near, call_goes}
 
 -- a frame that changes no device but in its state

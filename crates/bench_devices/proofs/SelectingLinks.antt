@@ -19,7 +19,7 @@ use Rattle.bench_devices.specs.Device.{devices}
 use Rattle.bench_devices.specs.Device.{air}
 use Rattle.bench_devices.specs.Phases.{IsTidy, AreTidy, IsUnasked}
 use Rattle.air_core.proofs.Following.{light_is_no_request}
-use Rattle.bench_devices.specs.LinkCalls.{BeginsAsCalls}
+use Rattle.nfca_poll.specs.OwnFrames.{BeginsAsCalls}
 use Rattle.bench_devices.proofs.Searching.{IsCall, asks_calls}
 use Rattle.bench_devices.proofs.SelectingCards.{device_unlinked, left_unlinked, stays_unlinked, reset_unlinked}
 use Rattle.bench_devices.proofs.SelectingKept.{EachAsked, due_asked}

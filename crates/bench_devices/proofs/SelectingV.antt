@@ -1,6 +1,8 @@
 -- Selecting a Type 5 tag: a reset, and inventories of its identifier, which it alone answers.
-use Rattle.std.proofs.Common.{◌≡◌, ◌⊎◌, inl, inr, ℕ, zero, suc, ◌+◌, ◌<◌, ◌≤◌, nat_lt, List, [], ◌∷◌, ◌++◌, map, length, drop, filter_map, Bool, true, false, if◌then◌else◌, Option, Some, None, IsSome, Result, Ok, Err, refl, sym, ◌∙◌, ap, subst, append_assoc, arith}
+use Rattle.std.proofs.Common.{◌≡◌, ◌⊎◌, inl, inr, ℕ, zero, suc, ◌+◌, ◌<◌, ◌≤◌, nat_lt, nat_eq, List, [], ◌∷◌, ◌++◌, map, length, drop, filter_map, Bool, true, false, if◌then◌else◌, Option, Some, None, IsSome, Result, Ok, Err, refl, sym, ◌∙◌, ap, subst, append_assoc, arith}
 use Rattle.std.specs.List.{AllByRecursion, cons_option}
+use Rattle.std.specs.Cmp.Lexicographic.{pointwise}
+use Rattle.nfca_poll.proofs.OneLevel.{pointwise_self}
 use Rattle.std.specs.Result.{OnOk, is_err}
 use Rattle.nfc_base.specs.declared.event.Event.{Event}
 use Rattle.nfc_base.specs.declared.event.Event.TheVariants.{Reset, Request, Answer, Clash}
@@ -36,9 +38,10 @@ use Rattle.bench_devices.specs.Powered.{Powered}
 use Rattle.bench_devices.specs.Device.{devices, device_id, device_selected, seen_of}
 use Rattle.bench_devices.specs.Device.{air}
 use Rattle.bench_devices.specs.Placed.{device_with}
-use Rattle.bench_devices.specs.Answering.{HasPollCause, MissedBy}
+use Rattle.bench_devices.specs.Answering.{HasPollCause, MissedBy, IsAbsent}
+use Rattle.bench_devices.specs.Noise.{noisy_tries}
 use Rattle.bench_devices.specs.Choosing.{StandsAt}
-use Rattle.bench_devices.specs.Phases.{ghosts, kept, IsSound, AreSound, AreTame, IsUnasked, Asked, Selects, SelectsAt}
+use Rattle.bench_devices.specs.Phases.{ghosts, kept, IsSound, AreSound, AreTame, IsUnasked, Asked, Selects, SelectsAt, SelectionCut}
 use Rattle.bench_devices.specs.Polling as followed
 use Rattle.bench_devices.specs.Polling.{Followed, follows, kind_by, pick_v, selecting, asks}
 use Rattle.bench_devices.proofs.Ours.{steady_at, stays_at_own, answers_own}
@@ -46,6 +49,7 @@ use Rattle.bench_devices.proofs.Inventoried.{fewer, whole_silent, collided_silen
 use Rattle.bench_devices.proofs.Following.{HasEnded, Closes, seen_by, kind_told, kind_asks, seen_lost, asks_same, told_same}
 use Rattle.air_core.proofs.Following.{light_is_no_request, over_is_no_request, over_is_no_light}
 use Rattle.bench_devices.proofs.Unmoved.{OnlyAsks, AllHeard, AllStay, all_stay, all_heard}
+use Rattle.bench_devices.proofs.NoisyTurns.{tries_same}
 use Rattle.bench_devices.proofs.SelectingAir.{events_are, loses, stays_lit}
 use Rattle.air_core.proofs.LostField.{lit_by, HasLost, going_lit, going_lost}
 use Rattle.bench_devices.proofs.SelectingKept.{IsHarmless, going_keeps}
@@ -279,6 +283,15 @@ module _ (id : List ℕ) where
       by_one (inl none) = none
       by_one (inr a) = let r : Answered ls = amid_answers ls eight s a in absurd (no_answers r.answer (sym r.one ∙ said_none says (map relit ls) n))
 
+-- no device has the identifier
+none_named : (id : List ℕ) (ds : List Device) → device_with id ds ≡ None → IsAbsent (ids.V id) ds
+none_named id [] none = tt
+none_named id (d ∷ ds) none = by_name (pointwise nat_eq (device_id d) id) refl none (λ more. none_named id ds more)
+  where
+    by_name : (v : Bool) → pointwise nat_eq (device_id d) id ≡ v → (if v then Some d else device_with id ds) ≡ None → (device_with id ds ≡ None → IsAbsent (ids.V id) ds) → IsAbsent (ids.V id) (d ∷ ds)
+    by_name true is e more = absurd cc
+    by_name false is e more = ((λ h. (let k : true ≡ false = sym (pointwise_self id) ∙ ap (λ x. pointwise nat_eq x id) (sym h.1) ∙ is in cc)), more e)
+
 -- a device of either kind stays as it is at an inventory
 stays_at : (id : List ℕ) (d : Device) → stepped_by devices d (inventory_of id) None ≡ d
 stays_at id (T2 d) = refl
@@ -326,6 +339,12 @@ pub reset_done : {T E : Type 0} (old new : Air Device) (r : Result T E) → OnOk
 reset_done old new (Ok x) h e = ap moment h
 reset_done old new (Err x) h e = absurd cc
 
+-- a field of which nothing was asked
+pub uncut : (id : List ℕ) (old new : Air Device) → new ≡ old → SelectionCut (ids.V id) (moment old) (moment new)
+uncut id old new same =
+    let P : Air Device → Type 0 = λ a. SelectionCut (ids.V id) (moment old) (moment a) in
+    subst P (sym same) (record { notes = []; going = going_start air (next id) (moment old); same = refl })
+
 module _ (id : List ℕ) (eight : length id ≡ 8) (old mid new : Air Device) (r : Result (Unit {0}) PollFault) (tame : AreTame (map kept old.listeners))
     (reset : moment mid ≡ with_events air (moment old) (Reset ∷ [])) (turns : Enquires (picking_v id) devices mid r new) where
   part : Going air (enquiring (picking_v id)) (moment mid) (moment new) turns.notes
@@ -367,6 +386,10 @@ module _ (id : List ℕ) (eight : length id ≡ 8) (old mid new : Air Device) (r
   abbrev asked : (r ≡ Err faults.Memory → ⊥) → Asked (next id) (moment old) (moment new)
   asked starved = record { notes = Lit ∷ notes; going = whole; over = ap asks (told starved); same = same_kept }
 
+  -- however it ended, so much was asked
+  pub cut : SelectionCut (ids.V id) (moment old) (moment new)
+  cut = record { notes = Lit ∷ notes; going = whole; same = same_kept }
+
   only : OnlyAsks (inventory_of id) later
   only = only_due id [] later turns.going.each
 
@@ -406,8 +429,11 @@ module _ (id : List ℕ) (eight : length id ≡ 8) (old mid new : Air Device) (r
     missed_by e = by_miss ((misses (all_of (IsSteady devices (inventory_of id)) (steady_at id) mid.listeners)).not_found e)
       where
         by_miss : NoneAnswers devices (inventory_of id) mid.listeners ⊎ (tries ≤ noise (drop (length mid.trace) new.trace)) → MissedBy (ids.V id) old.listeners whole.events
-        by_miss (inl n) = inl (silence_tells id old.listeners eight tame.sound (subst (NoneAnswers devices (inventory_of id)) relit_at n))
-        by_miss (inr n) = inr (subst (λ es. tries ≤ noise es) (sym whole_is) (subst (λ es. tries ≤ noise es) later_is n))
+        by_miss (inl n) = inl (none_named id old.listeners (silence_tells id old.listeners eight tame.sound (subst (NoneAnswers devices (inventory_of id)) relit_at n)))
+        by_miss (inr n) =
+            let L : List Event → Type 0 = λ es. tries ≤ noise es in
+            let same : noise later ≡ noisy_tries (inventory_of id) later = tries_same air (moment mid).world (inventory_of id) later refl turns.going.turns only in
+            inr (subst (λ es. tries ≤ noisy_tries (inventory_of id) es) (sym whole_is) (subst (λ k. tries ≤ k) same (subst L later_is n)))
 
     cause : (q : Result (Unit {0}) PollFault) → r ≡ q → MayCome q → (q ≡ Err faults.Memory → ⊥) → HasPollCause (ids.V id) old.listeners (five q) whole.events
     cause (Ok x) e m n = tt

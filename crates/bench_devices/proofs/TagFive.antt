@@ -1,17 +1,18 @@
 -- A Type 5 tag of the bench takes commands as they are sent.
-use Rattle.std.proofs.Common.{◌≡◌, inl, inr, ◌⊎◌, ℕ, ◌/◌, List, [], ◌∷◌, ◌++◌, length, drop, Bool, true, false, not, nat_le, ◌==◌, ◌&&◌, if◌then◌else◌, Option, Some, None, refl, sym, ◌∙◌, ap, subst}
+use Rattle.std.proofs.Common.{◌≡◌, inl, inr, ◌⊎◌, ℕ, ◌+◌, ◌*◌, ◌/◌, List, [], ◌∷◌, ◌++◌, length, drop, Bool, true, false, not, nat_le, ◌==◌, ◌&&◌, if◌then◌else◌, Option, Some, None, refl, sym, ◌∙◌, ap, subst}
 use Rattle.std.specs.Prelude.{reverse, get_or}
+use Rattle.nfc_base.specs.Blocks.{block_of}
 use Rattle.nfc_base.specs.Signal.{Signal}
 use Rattle.nfc_base.specs.TagLinks.{Type5, plain_state, MayAsk, addressed as addressed_to}
 use Rattle.air_core.specs.PlainTags.{Takes, PassesOver, IsPlainTag}
 use Rattle.t5t_tag.specs.declared.answer.T5Answer.{T5Answer}
 use Rattle.t5t_tag.specs.declared.answer.T5Answer.TheVariants.{Content, Error}
-use Rattle.t5t_tag.specs.Store.{T5State, id_size, block_count, is_locked}
-use Rattle.t5t_tag.specs.Spelling.{quiet_code, read_code, write_code}
-use Rattle.t5t_tag.specs.Step.{T5Turn, silent, refuses, not_supported, no_block, block_locked, read_turn, write_turn, obeyed, names, addressed, t5_turn, sent, t5_answer, t5_after}
+use Rattle.t5t_tag.specs.Store.{T5State, id_size, blocks_in, block_count, is_locked}
+use Rattle.t5t_tag.specs.Spelling.{quiet_code, most_content}
+use Rattle.t5t_tag.specs.Step.{T5Turn, silent, tells, refuses, not_supported, no_block, block_locked, blocks_of, read_turn, read_many_turn, write_turn, Asked, Reads, ReadsMany, Writes, Unknown, asked, asked_turn, obeyed, names, addressed, t5_turn, sent, t5_answer, t5_after}
 use Rattle.t5t_tag.proofs.Turns.{writes, hushes, on_obeyed}
 use Rattle.t5t_tag.proofs.Stores.{length_with_block}
-use Rattle.t5t_tag.proofs.Steps.{IsSameTag, same_tag, read_leaves}
+use Rattle.t5t_tag.proofs.Steps.{IsSameTag, same_tag, IsUntouched, read_leaves, read_many_leaves}
 use Rattle.t5t_tag.proofs.Again.{heard_again}
 use Rattle.t5t_tag.proofs.Hushed.{with_quiet, IsAlike, addressed_alike}
 use Rattle.bench_devices.specs.Powered.{Powered}
@@ -60,6 +61,7 @@ obeyed_like : (t : T5State) (code : ℕ) (rest : List ℕ) → IsLike t (obeyed 
 obeyed_like t code rest = on_obeyed t (λ r. IsLike t r.after) (record {
   error = λ c. record { id = refl; size = refl; locked = refl; count = refl };
   read = λ b within. record { id = refl; size = refl; locked = refl; count = refl };
+  many = λ f m within few. record { id = refl; size = refl; locked = refl; count = refl };
   written = λ b bytes within long. record { id = refl; size = refl; locked = refl; count = ap (λ n. n / t.size) (length_with_block t.size t.store b bytes within long) };
 }) code rest
 
@@ -72,18 +74,56 @@ write_said t block content like =
     ∙ ap (λ l. write_answer t.size (block_count t) l block content) like.locked
     ∙ sym (write_says t block content)
 
-obeyed_said : (t : T5State) (code : ℕ) (rest : List ℕ) → IsSaid (λ s. obeyed s code rest) t
-obeyed_said t code [] = refl
-obeyed_said t code (block ∷ rest) = by_code (code == write_code) (obeyed_like t code (block ∷ rest))
-  where
-    other : T5State → T5Turn
-    other s = if (code == read_code) && (length rest == 0) then read_turn s block else refuses s not_supported
+-- the answers to reads, by what no read changes
+abbrev read_answer : ℕ → ℕ → List ℕ → Option T5Answer
+read_answer block size store =
+    if nat_le (blocks_in size store) block then Some (Error no_block)
+    else Some (Content (record { items = block_of size store block }))
 
-    by_code : (v : Bool) → IsLike t (if v then write_turn t block rest else other t).after → IsSaid (λ s. if v then write_turn s block rest else other s) t
-    by_code true like = write_said t block rest like
-    by_code false like =
-        said_of t ((code == read_code) && (length rest == 0)) (λ s. read_turn s block) (λ s. refuses s not_supported)
-        (said_kept (λ s. read_turn s block) t (read_leaves t block)) refl
+abbrev read_many_answer : ℕ → ℕ → ℕ → List ℕ → Option T5Answer
+read_many_answer first more size store =
+    if nat_le (blocks_in size store) (first + more) then Some (Error no_block)
+    else if not (nat_le (size * (more + 1)) most_content) then Some (Error not_supported)
+    else Some (Content (record { items = blocks_of size store first (more + 1) }))
+
+read_says : (t : T5State) (block : ℕ) → (read_turn t block).answer ≡ read_answer block t.size t.store
+read_says t block = by_value (nat_le (block_count t) block)
+  where
+    told : T5Answer
+    told = Content (record { items = block_of t.size t.store block })
+
+    by_value : (v : Bool) → (if v then refuses t no_block else tells t told).answer ≡ (if v then Some (Error no_block) else Some told)
+    by_value true = refl
+    by_value false = refl
+
+read_many_says : (t : T5State) (first more : ℕ) → (read_many_turn t first more).answer ≡ read_many_answer first more t.size t.store
+read_many_says t first more = by_two (nat_le (block_count t) (first + more)) (not (nat_le (t.size * (more + 1)) most_content))
+  where
+    told : T5Answer
+    told = Content (record { items = blocks_of t.size t.store first (more + 1) })
+
+    by_two : (x y : Bool) → (if x then refuses t no_block else if y then refuses t not_supported else tells t told).answer
+        ≡ (if x then Some (Error no_block) else if y then Some (Error not_supported) else Some told)
+    by_two true y = refl
+    by_two false true = refl
+    by_two false false = refl
+
+-- the same of a tag that a read left
+said_untouched : (F : ℕ → List ℕ → Option T5Answer) (step : T5State → T5Turn) → ((t : T5State) → (step t).answer ≡ F t.size t.store)
+    → (t : T5State) → IsUntouched t (step t).after → IsSaid step t
+said_untouched F step says t is =
+    let u : T5State = (step t).after in
+    says u ∙ ap (λ n. F n u.store) is.size ∙ ap (F t.size) is.store ∙ sym (says t)
+
+asked_said : (t : T5State) (what : Asked) → IsLike t (asked_turn t what).after → IsSaid (λ s. asked_turn s what) t
+asked_said t (Reads block) like = said_untouched (read_answer block) (λ s. read_turn s block) (λ s. read_says s block) t (read_leaves t block)
+asked_said t (ReadsMany first more) like =
+    said_untouched (read_many_answer first more) (λ s. read_many_turn s first more) (λ s. read_many_says s first more) t (read_many_leaves t first more)
+asked_said t (Writes block content) like = write_said t block content like
+asked_said t Unknown like = refl
+
+obeyed_said : (t : T5State) (code : ℕ) (rest : List ℕ) → IsSaid (λ s. obeyed s code rest) t
+obeyed_said t code rest = asked_said t (asked code rest) (obeyed_like t code rest)
 
 addressed_said : (t : T5State) (rest : List ℕ) → IsSaid (λ s. addressed s rest) t
 addressed_said t [] = refl

@@ -67,6 +67,7 @@ module _ (id : List ℕ) (starred : Bool) (tag : T4State) where
     coded = refl;
     own = refl;
     chain = no_bytes;
+    plain = refl;
   }
 
   -- a selected device without a link takes RATS

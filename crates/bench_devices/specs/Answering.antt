@@ -1,9 +1,10 @@
 -- How selecting a device, a search and a read end, and the cause of each end. What tells of an end is the caller's: a read and a
 -- search are told by their results, and a bench by its answers.
-use Rattle.std.specs.Prelude.{◌≡◌, ◌↔◌, ◌⊎◌, ◌<◌, ◌≤◌, List, [], ◌∷◌, ◌++◌, None, Result, Ok, Err}
+use Rattle.std.specs.Prelude.{◌≡◌, ◌↔◌, ◌⊎◌, ◌<◌, ◌≤◌, List, [], ◌∷◌, Result, Ok, Err}
+use Rattle.std.specs.List.{AllByRecursion}
 use Rattle.nfc_base.specs.Signal.{Signal}
-use Rattle.nfc_base.specs.Trace.{noise, breaks, back_of}
-use Rattle.nfc_base.specs.Trace as backs
+use Rattle.nfc_base.specs.Trace.{breaks}
+use Rattle.nfc_base.specs.declared.frame.Tech.TheVariants as techs
 use Rattle.nfc_base.specs.declared.event.Event.{Event}
 use Rattle.nfc_base.specs.declared.tag_link.AskFault.{AskFault}
 use Rattle.air_core.specs.Conversation.{Note, receptions}
@@ -13,9 +14,8 @@ use Rattle.nfca_poll.specs.declared.fault.PollFault.{PollFault}
 use Rattle.nfca_poll.specs.declared.fault.PollFault.TheVariants as faults
 use Rattle.nfca_poll.specs.declared.inventory.Vcrowd.{Vcrowd}
 use Rattle.nfca_poll.specs.declared.inventory.Vcrowd.TheVariants.{Nobody}
-use Rattle.nfca_poll.specs.Inventory.{tries, inventory}
+use Rattle.nfca_poll.specs.Inventory.{tries, inventory, inventory_all, inventory_of}
 use Rattle.nfca_poll.specs.Rounds.{finding}
-use Rattle.nfca_poll.specs.RoundTrace.{Misses, GivesUp}
 use Rattle.nfca_poll.specs.RoundEnds.{IsFrontOf}
 use Rattle.isodep_link.specs.Asking as exchange
 use Rattle.bench_script.specs.declared.command.DeviceId.{DeviceId}
@@ -27,20 +27,30 @@ use Rattle.bench_devices.specs.declared.sweeping.Everybody.{Everybody}
 use Rattle.bench_devices.specs.CardAsking.{CardStanding, Activates, Exchanges, card_stands}
 use Rattle.bench_devices.specs.Polling.{Told, follows}
 use Rattle.bench_devices.specs.Crowded.{crowd_of, others_of}
-use Rattle.bench_devices.specs.Placed.{device_with}
+use Rattle.bench_devices.specs.Device.{device_id, device_tech}
+use Rattle.bench_devices.specs.Noise.{noisy_tries, MissedRound, GaveUp}
 
--- Nothing was found of an identifier: the device isn't placed, or the last round missed its end; for NFC-V four
--- transmissions had noise.
+-- a device of this identifier, which is NFC-A or NFC-V by its length
+abbrev pub IsNamed : DeviceId → Device → Type 0
+IsNamed (A id) d = (device_tech d ≡ techs.A) × (device_id d ≡ id)
+IsNamed (V id) d = (device_tech d ≡ techs.V) × (device_id d ≡ id)
+
+-- none of these devices has this identifier
+abbrev pub IsAbsent : DeviceId → List Device → Type 0
+IsAbsent id ds = AllByRecursion (λ d. IsNamed id d → ⊥) ds
+
+-- Nothing was found of an identifier: no NFC-A, or no NFC-V device has it, or the last round missed its end; for NFC-V four tries
+-- had noise.
 abbrev pub MissedBy : DeviceId → List Device → List Event → Type 0
-MissedBy (A id) ds es = (device_with id ds ≡ None) ⊎ Misses es
-MissedBy (V id) ds es = (device_with id ds ≡ None) ⊎ (tries ≤ noise es)
+MissedBy (A id) ds es = IsAbsent (A id) ds ⊎ MissedRound es
+MissedBy (V id) ds es = IsAbsent (V id) ds ⊎ (tries ≤ noisy_tries (inventory_of id) es)
 
 -- rounds are of NFC-A alone
 abbrev pub IsGivenUp : DeviceId → List Event → Type 0
-IsGivenUp (A id) es = GivesUp es
+IsGivenUp (A id) es = GaveUp es
 IsGivenUp (V id) es = ⊥
 
--- why selecting a device ended so, by the devices that are placed and the events of it
+-- why selecting a device ended so, by the devices that are placed and what happened
 abbrev pub HasPollCause : DeviceId → List Device → Result SeenKind PollFault → List Event → Type 0
 HasPollCause id ds (Ok x) es = Unit {0}
 HasPollCause id ds (Err faults.Nobody) es = ⊥
@@ -78,39 +88,36 @@ TellsBy seen.Peer Tells Fails asked ns x = ⊥
 
 -- what the inventory told is so, or each of its four tries had noise
 abbrev pub AreOthers : List Device → Vcrowd → List Event → Type 0
-AreOthers ds others es = (others ≡ others_of ds) ⊎ ((others ≡ Nobody) × (tries ≤ noise es))
+AreOthers ds others es = (others ≡ others_of ds) ⊎ ((others ≡ Nobody) × (tries ≤ noisy_tries inventory_all es))
 
--- how the inventory behind a search ended, by what the search found
+-- how the inventory of a search ended, by what the search found
 abbrev pub InventoryEnds : {X : Type 0} → (Result Everybody PollFault → X → Type 0) → List Device → List Picked → Result Vcrowd PollFault → List Event → X → Type 0
 InventoryEnds Tells ds cards (Ok others) es x = AreOthers ds others es × Tells (Ok (record { cards = cards; others = others })) x
 InventoryEnds Tells ds cards (Err faults.Nobody) es x = ⊥
-InventoryEnds Tells ds cards (Err faults.Disturbed) es x = Tells (Err faults.Disturbed) x × (tries ≤ noise es)
+InventoryEnds Tells ds cards (Err faults.Disturbed) es x = Tells (Err faults.Disturbed) x × (tries ≤ noisy_tries inventory_all es)
 InventoryEnds Tells ds cards (Err faults.FieldLost) es x = Tells (Err faults.FieldLost) x
 InventoryEnds Tells ds cards (Err faults.Memory) es x = ⊥
 InventoryEnds Tells ds cards (Err faults.NotFound) es x = ⊥
 InventoryEnds Tells ds cards (Err faults.BadAnswer) es x = ⊥
 
 -- An inventory follows where the search for NFC-A devices ended well: it found the first of the crowd, and all of it unless it
--- missed its end. It was disturbed only where each of four rounds had noise.
-abbrev pub FindEnds : {X : Type 0} → (Result Everybody PollFault → X → Type 0) → List Device → Result (List Picked) PollFault → List Event → List Event → X → Type 0
-FindEnds Tells ds (Ok cards) es rest x =
-    IsFrontOf cards (crowd_of ds) × ((cards ≡ crowd_of ds) ⊎ Misses es)
-    × (others : Result Vcrowd PollFault) × (follows inventory (receptions rest) ≡ Told others []) × InventoryEnds Tells ds cards others rest x
-FindEnds Tells ds (Err faults.Nobody) es rest x = ⊥
-FindEnds Tells ds (Err faults.Disturbed) es rest x = (rest ≡ []) × Tells (Err faults.Disturbed) x × GivesUp es
-FindEnds Tells ds (Err faults.FieldLost) es rest x = (rest ≡ []) × Tells (Err faults.FieldLost) x
-FindEnds Tells ds (Err faults.Memory) es rest x = ⊥
-FindEnds Tells ds (Err faults.NotFound) es rest x = ⊥
-FindEnds Tells ds (Err faults.BadAnswer) es rest x = ⊥
+-- missed its end. It was disturbed only where each of four rounds had noise. What was heard behind it is the inventory's.
+abbrev pub FindEnds : {X : Type 0} → (Result Everybody PollFault → X → Type 0) → List Device → Result (List Picked) PollFault → List Note → List Event → X → Type 0
+FindEnds Tells ds (Ok cards) behind es x =
+    IsFrontOf cards (crowd_of ds) × ((cards ≡ crowd_of ds) ⊎ MissedRound es)
+    × (others : Result Vcrowd PollFault) × (follows inventory behind ≡ Told others []) × InventoryEnds Tells ds cards others es x
+FindEnds Tells ds (Err faults.Nobody) behind es x = ⊥
+FindEnds Tells ds (Err faults.Disturbed) behind es x = Tells (Err faults.Disturbed) x × GaveUp es
+FindEnds Tells ds (Err faults.FieldLost) behind es x = Tells (Err faults.FieldLost) x
+FindEnds Tells ds (Err faults.Memory) behind es x = ⊥
+FindEnds Tells ds (Err faults.NotFound) behind es x = ⊥
+FindEnds Tells ds (Err faults.BadAnswer) behind es x = ⊥
 
--- The law of a search for all devices: first it finds those of NFC-A, then the inventory follows. No request is cut from what
--- came back of it. The field is lost exactly where a Break was used.
+-- The law of a search for all devices: first it finds those of NFC-A, then the inventory follows. The field is lost exactly
+-- where a Break was used.
 pub record FindTells {X : Type 0} (Tells : Result Everybody PollFault → X → Type 0) (ds : List Device) (events : List Event) (x : X) : Type 0 where
-  pub first : List Event
-  pub rest : List Event
-  pub parts : events ≡ first ++ rest
-  pub cut : back_of rest ≡ backs.Nothing
   pub found : Result (List Picked) PollFault
-  pub searched : follows finding (receptions first) ≡ Told found []
-  pub ends : FindEnds Tells ds found first rest x
+  pub behind : List Note
+  pub searched : follows finding (receptions events) ≡ Told found behind
+  pub ends : FindEnds Tells ds found behind events x
   pub lost : Tells (Err faults.FieldLost) x ↔ (0 < breaks events)

@@ -1,6 +1,6 @@
 -- The devices of the bench: a Type 2 or Type 4 tag under the listener front of its identifier, and a Type 5 tag (NFC Forum
 -- Digital Protocol; NFC Forum Type 2 Tag, Type 4 Tag and Type 5 Tag).
-use Rattle.std.specs.Prelude.{ℕ, List, Bool, true, false, not, ◌&&◌, is_none, if◌then◌else◌, Option, Some, None}
+use Rattle.std.specs.Prelude.{ℕ, List, [], Bool, true, false, not, ◌&&◌, is_none, if◌then◌else◌, Option, Some, None}
 use Rattle.nfc_base.specs.declared.frame.Tech.{Tech}
 use Rattle.nfc_base.specs.declared.frame.Tech.TheVariants.{A, V}
 use Rattle.nfc_base.specs.Signal.{Signal}
@@ -31,7 +31,7 @@ use Rattle.tag_reader.specs.Files.{t4_link_step, shown}
 use Rattle.isodep_link.specs.declared.card.CardStep.{CardStep}
 use Rattle.isodep_link.specs.declared.card.CardStep.TheVariants as card
 use Rattle.isodep_link.specs.Blocks.{block_frame}
-use Rattle.isodep_link.specs.Sizes.{is_rats}
+use Rattle.nfc_base.specs.Headed.{is_rats}
 use Rattle.isodep_link.specs.Card as ends
 use Rattle.isodep_link.specs.Card.{CardState, card_table, replied, reply_block}
 use Rattle.bench_devices.specs.declared.device.Device.{Device}
@@ -136,6 +136,20 @@ device_store (T2 d) = d.upper.store
 device_store (T4 d) = t4.store_of d.upper.tag
 device_store (T5 p) = p.tag.store
 
+-- which of its blocks are locked; a Type 4 tag has none that can be
+abbrev pub device_locks : Device → List Bool
+device_locks (T2 d) = d.upper.locked
+device_locks (T4 d) = []
+device_locks (T5 p) = p.tag.locked
+
+-- what stays of a device in the dark
+pub record StablePart : Type 0 where
+  pub store : List ℕ
+  pub locked : List Bool
+
+abbrev pub stable_of : Device → StablePart
+stable_of d = record { store = device_store d; locked = device_locks d }
+
 abbrev pub device_ready : Device → Bool
 device_ready (T2 d) = is_ready d.front
 device_ready (T4 d) = is_ready d.front
@@ -179,8 +193,11 @@ devices = record {
   darkened = device_darkened;
 }
 
--- the air of the bench's devices
-abbrev pub air : AirModel (World Device)
+-- the bench's world, and its air
+abbrev pub BenchWorld : Type 0
+BenchWorld = World Device
+
+abbrev pub air : AirModel BenchWorld
 air = quiet_air devices
 
 -- how many devices may stand in the field at once; this project's own

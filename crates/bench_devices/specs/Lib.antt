@@ -7,8 +7,10 @@ pub mod Standing
 pub mod Polling
 pub mod Placed
 pub mod CardAsking
+pub mod TagAsking
 pub mod Reading
 pub mod Crowded
+pub mod Noise
 pub mod Answering
 pub mod Phases
 pub mod Linking

@@ -21,7 +21,7 @@ use Rattle.bench_devices.specs.declared.device.Device.{Device}
 use Rattle.bench_devices.specs.Device.{how_of, device_card, device_tag}
 use Rattle.bench_devices.specs.Answering.{TellsExchange}
 use Rattle.bench_devices.specs.Reading.{AsksOf, ShowsOf}
-use Rattle.bench_devices.specs.Phases.{ghosts, kept, IsSound, Stands, Asked, FailsRead}
+use Rattle.bench_devices.specs.Phases.{ghosts, kept, IsSound, Stands, Asked, AskedPart, FailsRead}
 
 -- a tag that takes commands as they are sent
 abbrev pub IsPlainHow : How → Type 0
@@ -66,6 +66,16 @@ pub record ReadsOn (old new : Moment (World Device)) (d : Device) (reader : Read
   pub asked : Asked (iso_next reader (bytes_of commands)) old new
   pub ends : TellsExchange (ShowsOf d) FailsRead (stand (exchange.asks reader (bytes_of commands)) asked.notes) r
   pub lost : (r ≡ Err faults.FieldLost) ↔ (0 < breaks asked.going.events)
+
+-- Reading was cut off by want of memory.
+pub record ReadsSomeOn (old new : Moment (World Device)) (d : Device) (reader : ReaderState) : Type 0 where
+  pub commands : List Signal
+  pub asks : AsksOf d commands
+  pub asked : AskedPart (iso_next reader (bytes_of commands)) old new
+
+abbrev pub CutLinked : Air Device → ℕ → ReaderState → Moment (World Device) → Result Found ReadFault → Type 0
+CutLinked air place reader new r =
+    r ≡ Err faults.Memory → (d : Device) → Linked d air place reader → ReadsSomeOn (moment air) new d reader
 
 -- So the tag behind a new link was read, unless memory was wanting.
 abbrev pub ReadsLinked : Air Device → ℕ → ReaderState → Moment (World Device) → Result Found ReadFault → Type 0

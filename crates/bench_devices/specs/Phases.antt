@@ -1,5 +1,5 @@
 -- What the parts of a command that polls say of the field: selecting a device, reading it, searching for all.
-use Rattle.std.specs.Prelude.{◌≡◌, ◌↔◌, ◌⊎◌, ℕ, List, [], ◌∷◌, ◌++◌, map, length, slice_index, ◌<◌, ◌≤◌, true, Result, Ok, Err}
+use Rattle.std.specs.Prelude.{◌≡◌, ◌↔◌, ◌⊎◌, ℕ, List, [], ◌∷◌, ◌++◌, map, length, slice_index, ◌<◌, ◌≤◌, Bool, true, Result, Ok, Err}
 use Rattle.std.specs.List.{AllByRecursion}
 use Rattle.nfc_base.specs.Signal.{Signal}
 use Rattle.nfc_base.specs.declared.tag_link.AskFault.{AskFault}
@@ -27,7 +27,7 @@ use Rattle.nfca_poll.specs.Front.{is_active}
 use Rattle.bench_devices.specs.declared.device.Device.TheVariants as placed
 use Rattle.bench_devices.specs.declared.polling.SeenKind.{SeenKind}
 use Rattle.bench_devices.specs.declared.sweeping.Everybody.{Everybody}
-use Rattle.bench_devices.specs.Device.{devices, device_id, device_store, device_ready, device_selected, device_commands, how_of, size_of, seen_of, is_unlinked}
+use Rattle.bench_devices.specs.Device.{devices, device_id, device_store, device_locks, device_ready, device_selected, device_commands, how_of, size_of, seen_of, is_unlinked}
 use Rattle.bench_devices.specs.CardAsking.{tag_next}
 use Rattle.bench_devices.specs.declared.polling.Selection.{Selection}
 use Rattle.bench_devices.specs.declared.polling.Selection.TheVariants.{Place, Missed}
@@ -54,6 +54,7 @@ pub record Kept : Type 0 where
   pub how : How
   pub size : ℕ
   pub store : List ℕ
+  pub locked : List Bool
   pub code : ℕ
   pub container : List ℕ
 
@@ -68,7 +69,7 @@ container_of (placed.T4 d) = d.upper.tag.container
 container_of (placed.T5 p) = []
 
 abbrev pub kept : Device → Kept
-kept d = record { id = device_id d; how = how_of d; size = size_of d; store = device_store d; code = code_of d; container = container_of d }
+kept d = record { id = device_id d; how = how_of d; size = size_of d; store = device_store d; locked = device_locks d; code = code_of d; container = container_of d }
 
 -- a device that may be placed
 abbrev pub IsSoundAs : How → Kept → Type 0
@@ -126,6 +127,13 @@ pub record Stands (a : Moment (World Device)) (place : ℕ) (d : Device) : Type 
   pub later : AllByRecursion (IsAside ghosts (device_id d)) behind
 
 -- Something was asked of the field, each request being due, and this is known of it. No device changed but in its state.
+-- Want of memory may have cut it off between two turns.
+pub record AskedPart (due : List Note → Next) (old new : Moment (World Device)) : Type 0 where
+  pub notes : List Note
+  pub going : Going air due old new notes
+  pub same : map kept new.world.listeners ≡ map kept old.world.listeners
+
+-- So was all that is due.
 pub record Asked (due : List Note → Next) (old new : Moment (World Device)) : Type 0 where
   pub notes : List Note
   pub going : Going air due old new notes
@@ -151,6 +159,10 @@ abbrev pub SelectsTo : DeviceId → Selection → Moment (World Device) → Mome
 SelectsTo id (Place place) old new = SelectsAt id place old new
 SelectsTo id (Missed e) old new = Selects id (Err e) old new
 
+-- selecting a device was cut off by want of memory
+abbrev pub SelectionCut : DeviceId → Moment (World Device) → Moment (World Device) → Type 0
+SelectionCut id old new = AskedPart (λ ns. asks (selecting id ns)) old new
+
 -- a read failed by the fault of a wait; the others end none
 abbrev pub FailsRead : AskFault → Result Found ReadFault → Type 0
 FailsRead asking.FieldLost r = r ≡ Err faults.FieldLost
@@ -166,6 +178,16 @@ pub record Reads (old new : Moment (World Device)) (d : Device) (r : Result Foun
   pub ends : TellsBy (seen_of d) (ShowsOf d) FailsRead commands asked.notes r
   pub lost : (r ≡ Err faults.FieldLost) ↔ (0 < breaks asked.going.events)
 
+-- Reading was cut off by want of memory.
+pub record ReadsSome (old new : Moment (World Device)) (d : Device) : Type 0 where
+  pub commands : List Signal
+  pub asks : AsksOf d commands
+  pub asked : AskedPart (tag_next (seen_of d) commands) old new
+
+-- So the device that stands at a place was read as far as memory reached.
+abbrev pub CutAt : Moment (World Device) → Moment (World Device) → ℕ → Result Found ReadFault → Type 0
+CutAt old new place r = r ≡ Err faults.Memory → (d : Device) → Stands old place d → ReadsSome old new d
+
 -- So the device that stands at a place was read, unless memory was wanting.
 abbrev pub ReadsAt : Moment (World Device) → Moment (World Device) → ℕ → Result Found ReadFault → Type 0
 ReadsAt old new place r = (r ≡ Err faults.Memory → ⊥) → (d : Device) → Stands old place d → Reads old new d r
@@ -178,6 +200,10 @@ IsEnd end r = r ≡ end
 pub record Searches (old new : Moment (World Device)) (r : Result Everybody PollFault) : Type 0 where
   pub asked : Asked (λ ns. asks (finding_all ns)) old new
   pub tells : FindTells IsEnd old.world.listeners asked.going.events r
+
+-- A search was cut off by want of memory.
+abbrev pub SearchCut : Moment (World Device) → Moment (World Device) → Result Everybody PollFault → Type 0
+SearchCut old new r = r ≡ Err polling.Memory → AskedPart (λ ns. asks (finding_all ns)) old new
 
 -- So the field was searched, unless memory was wanting.
 abbrev pub SearchesField : Moment (World Device) → Moment (World Device) → Result Everybody PollFault → Type 0

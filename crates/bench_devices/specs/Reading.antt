@@ -20,13 +20,13 @@ AsksOf d commands = IsAsked (how_of d) (size_of d) (device_store d) commands
 -- What a read finds, by the form of the store: its message, or a fault of the store. The other faults show nothing of it.
 abbrev pub Shows : How → ℕ → List ℕ → Result Found ReadFault → Type 0
 Shows how size store (Ok found) = IsFound how size store found
-Shows how size store (Err faults.NotNdef) = IsStoreForm how store (Faulty container.NotNdef)
-Shows how size store (Err faults.Version) = IsStoreForm how store (Faulty container.Version)
-Shows how size store (Err faults.NoRead) = IsStoreForm how store (Faulty container.NoRead)
-Shows how size store (Err faults.Sectors) = IsStoreForm how store (Faulty container.Sectors)
-Shows how size store (Err faults.BadSize) = IsStoreForm how store (Faulty container.BadSize)
-Shows how size store (Err faults.NoMessageTlv) = IsStoreForm how store NoMessageTlv
-Shows how size store (Err faults.BadTlv) = IsStoreForm how store BadTlv
+Shows how size store (Err faults.NotNdef) = IsStoreForm how size store (Faulty container.NotNdef)
+Shows how size store (Err faults.Version) = IsStoreForm how size store (Faulty container.Version)
+Shows how size store (Err faults.NoRead) = IsStoreForm how size store (Faulty container.NoRead)
+Shows how size store (Err faults.Sectors) = IsStoreForm how size store (Faulty container.Sectors)
+Shows how size store (Err faults.BadSize) = IsStoreForm how size store (Faulty container.BadSize)
+Shows how size store (Err faults.NoMessageTlv) = IsStoreForm how size store NoMessageTlv
+Shows how size store (Err faults.BadTlv) = IsStoreForm how size store BadTlv
 Shows how size store (Err e) = ⊥
 
 abbrev pub ShowsOf : Device → Result Found ReadFault → Type 0

@@ -1,19 +1,20 @@
 -- The bench's Type 2 and Type 4 tags are machines above a listener front: which frames are their own, and what stays.
-use Rattle.std.proofs.Common.{◌≡◌, ◌≤◌, ℕ, List, [], ◌∷◌, length, slice_index, Bool, true, false, ◌==◌, ◌&&◌, ◌||◌, is_some, if◌then◌else◌, Option, Some, None, refl, sym, ◌∙◌, ap, arith}
+use Rattle.std.proofs.Common.{◌≡◌, ℕ, List, drop, slice_index, Bool, true, false, ◌||◌, is_some, if◌then◌else◌, Option, Some, None, refl, sym, ◌∙◌, ap}
 use Rattle.nfc_base.specs.declared.frame.Tech.{Tech}
-use Rattle.nfc_base.specs.declared.frame.Tech.TheVariants.{A, V}
+use Rattle.nfc_base.specs.declared.frame.Tech.TheVariants.{A}
 use Rattle.nfc_base.specs.Signal.{Signal}
+use Rattle.nfc_base.specs.Headed.{is_headed, is_t2_frame, is_rats}
 use Rattle.nfc_base.specs.TagLinks.{TagState, TagStep}
 use Rattle.nfca_poll.specs.Calls.{Call, Calls, call_of}
 use Rattle.nfca_poll.specs.declared.upper.UpStep.{UpStep}
 use Rattle.nfca_poll.specs.declared.upper.UpStep.TheVariants as steps
-use Rattle.nfca_poll.specs.Upper.{is_taken, answer_in, is_t2_frame, IsUpper}
-use Rattle.nfca_poll.specs.Upper as upper
+use Rattle.nfca_poll.specs.Upper.{is_taken, answer_in, IsUpper}
+use Rattle.nfca_poll.specs.OwnFrames.{call_begins}
 use Rattle.t2t_tag.specs.declared.command.T2Command.{T2Command}
 use Rattle.t2t_tag.specs.declared.command.T2Command.TheVariants.{Read, Write}
 use Rattle.t2t_tag.specs.declared.answer.T2Answer.{T2Answer}
 use Rattle.t2t_tag.specs.declared.answer.T2Answer.TheVariants.{Content, Done, Refused}
-use Rattle.t2t_tag.specs.Spelling.{answer_frame, command_of, spelled_command}
+use Rattle.t2t_tag.specs.Spelling.{answer_frame, spelled_command}
 use Rattle.t2t_tag.specs.Store.{T2Memory}
 use Rattle.t2t_tag.specs.Step.{is_writable, t2_reply, reply_frame, held_after}
 use Rattle.t4t_tag.specs.Store as t4
@@ -22,14 +23,14 @@ use Rattle.tag_reader.specs.Kinds.{t2_step}
 use Rattle.tag_reader.specs.Files.{t4_link_step}
 use Rattle.isodep_link.specs.declared.card.CardStep.{CardStep}
 use Rattle.isodep_link.specs.declared.card.CardStep.TheVariants as card
-use Rattle.isodep_link.specs.Sizes.{is_rats, rats_code, piece_size, ats_frame}
+use Rattle.isodep_link.specs.Sizes.{rats_code, piece_size, ats_frame}
 use Rattle.isodep_link.specs.Blocks.{spelled_block}
 use Rattle.isodep_link.specs.declared.block.Block.{Block}
 use Rattle.isodep_link.specs.Card.{CardState, CardTurn, Does, Stays, Answers, Delivers, Sleeps, framed_does, framed, stays, obeyed, block_table, heeded, card_table}
 use Rattle.isodep_link.specs.Card as ends
 use Rattle.bench_devices.specs.Cards.{T4Near}
 use Rattle.bench_devices.specs.Device.{says_of, t2_machine, by_card, linked, t4_did, t4_machine}
-use Rattle.bench_devices.specs.LinkCalls.{call_begins, did_at_call}
+use Rattle.bench_devices.specs.LinkCalls.{did_at_call}
 
 -- the steps on commands
 abbrev pub t2_commands : T2Memory → TagState → Signal → TagStep
@@ -49,38 +50,13 @@ abbrev pub is_linked : T4Near → Bool
 is_linked u = is_some u.link
 
 -- READ and WRITE are what spells a command
-some_if : {C : Type 0} (v : Bool) (c : C) → is_some (if v then Some c else None) ≡ v
-some_if true c = refl
-some_if false c = refl
+own_heads : (v w : Bool) (c d : T2Command) → is_some (if v then Some c else (if w then Some d else None)) ≡ (v || w)
+own_heads true w c d = refl
+own_heads false true c d = refl
+own_heads false false c d = refl
 
-or_false : (v : Bool) → v ≡ (v || false)
-or_false true = refl
-or_false false = refl
-
-too_long : (n k : ℕ) → 7 ≤ n → k ≤ 6 → (n == k) ≡ false
-too_long n k h l = grind arith
-
-neither : (v w x y : Bool) → v ≡ false → x ≡ false → false ≡ (v && w || x && y)
-neither true w x y h k = absurd cc
-neither false w true y h k = absurd cc
-neither false w false y h k = refl
-
-own_bytes : (bytes : List ℕ) → is_some (command_of bytes) ≡ ((length bytes == 2) && (slice_index bytes 0 == 0x30) || (length bytes == 6) && (slice_index bytes 0 == 0xA2))
-own_bytes [] = refl
-own_bytes (code ∷ []) = refl
-own_bytes (code ∷ block ∷ []) = some_if (code == 0x30) (Read block) ∙ or_false (code == 0x30)
-own_bytes (code ∷ block ∷ a ∷ []) = refl
-own_bytes (code ∷ block ∷ a ∷ b ∷ []) = refl
-own_bytes (code ∷ block ∷ a ∷ b ∷ c ∷ []) = refl
-own_bytes (code ∷ block ∷ a ∷ b ∷ c ∷ d ∷ []) = some_if (code == 0xA2) (Write block (a ∷ b ∷ c ∷ d ∷ []))
-own_bytes (code ∷ block ∷ a ∷ b ∷ c ∷ d ∷ e ∷ more) =
-    let n : ℕ = length (code ∷ block ∷ a ∷ b ∷ c ∷ d ∷ e ∷ more) in
-    neither (n == 2) (code == 0x30) (n == 6) (code == 0xA2) (too_long n 2 (omega arith) (omega arith)) (too_long n 6 (omega arith) (omega arith))
-
-own_frame : (f : Signal) → (t : Tech) → f.tech ≡ t → (v : Bool) → (f.tail == 0) ≡ v → is_some (spelled_command f) ≡ is_t2_frame f
-own_frame f A t true v = rw (t, v) (own_bytes f.bytes)
-own_frame f A t false v = rw (t, v) refl
-own_frame f V t x v = rw t refl
+own_frame : (f : Signal) → is_some (spelled_command f) ≡ is_t2_frame f
+own_frame f = own_heads (is_headed 2 0x30 f) (is_headed 6 0xA2 f) (Read (slice_index f.bytes 1)) (Write (slice_index f.bytes 1) (drop 2 f.bytes))
 
 taken_t2 : (u : T2Memory) (c : Option T2Command) → is_taken (says_of (reply_frame u c)) ≡ is_some c
 taken_t2 u None = refl
@@ -114,7 +90,7 @@ locks_stay u (Some (Write block content)) = written_locks u (is_writable u block
 
 pub t2_upper : IsUpper t2_machine (λ u. u.store) t2_commands never_open no_attributes
 t2_upper = record {
-  takes = λ u f reply. taken_t2 u (spelled_command f) ∙ own_frame f f.tech refl (f.tail == 0) refl;
+  takes = λ u f reply. taken_t2 u (spelled_command f) ∙ own_frame f;
   foreign = λ u f reply h. (refl, foreign_command u (spelled_command f) h);
   opens = λ u f reply k h. absurd (k refl);
   closes = λ u. refl;
@@ -123,8 +99,8 @@ t2_upper = record {
   waits = λ u f payload h. absurd cc;
   bounded = λ u f payload h. absurd cc;
   own_tech = λ u f g reply e. t2_tech u (spelled_command f) g e;
-  step_keeps = λ u f reply. record { kind' = refl; commands' = ap t2_step (locks_stay u (spelled_command f)) };
-  clear_keeps = λ u. (record { kind' = refl; commands' = refl }, refl);
+  step_keeps = λ u f reply. record { same_kind = refl; same_commands = ap t2_step (locks_stay u (spelled_command f)) };
+  clear_keeps = λ u. (record { same_kind = refl; same_commands = refl }, refl);
 }
 
 -- A link takes every frame; without one, a Type 4 tag takes RATS alone.
@@ -140,16 +116,12 @@ link_stays tag t (card.Reply f) = refl
 link_stays tag t (card.Deliver command) = refl
 link_stays tag t (card.Asleep f) = refl
 
-same_rats : (f : Signal) (t : Tech) → f.tech ≡ t → is_rats f ≡ upper.is_rats f
-same_rats f A t = rw t refl
-same_rats f V t = rw t refl
-
 unlinked_takes : (u : T4Near) (f : Signal) (v : Bool) → is_taken (if v then linked u.tag (ends.fresh u.tag.code) f else record { says = steps.Foreign; after = u }).says ≡ v
 unlinked_takes u f true = link_takes u.tag (card_table (ends.fresh u.tag.code) f).state (card_table (ends.fresh u.tag.code) f).does
 unlinked_takes u f false = refl
 
-takes_t4 : (u : T4Near) (f : Signal) (link : Option CardState) → is_taken (t4_did u link f).says ≡ (is_some link || upper.is_rats f)
-takes_t4 u f None = unlinked_takes u f (is_rats f) ∙ same_rats f f.tech refl
+takes_t4 : (u : T4Near) (f : Signal) (link : Option CardState) → is_taken (t4_did u link f).says ≡ (is_some link || is_rats f)
+takes_t4 u f None = unlinked_takes u f (is_rats f)
 takes_t4 u f (Some t) = link_takes u.tag (card_table t f).state (card_table t f).does
 
 not_foreign : (s : UpStep) → is_taken s ≡ true → s ≡ steps.Foreign → ⊥
@@ -257,6 +229,6 @@ t4_upper = record {
   waits = λ u f payload h. absurd cc;
   bounded = λ u f payload h. absurd cc;
   own_tech = λ u f g reply e. tech_t4 u f g u.link e;
-  step_keeps = λ u f reply. record { kind' = refl; commands' = ap t4_link_step (code_t4 u f u.link) };
-  clear_keeps = λ u. (record { kind' = refl; commands' = refl }, refl);
+  step_keeps = λ u f reply. record { same_kind = refl; same_commands = ap t4_link_step (code_t4 u f u.link) };
+  clear_keeps = λ u. (record { same_kind = refl; same_commands = refl }, refl);
 }

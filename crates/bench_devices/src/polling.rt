@@ -1,13 +1,13 @@
 //! Finding a tag in the field.
 
-ghost use Rattle.std.specs.Prelude.{◌≡◌, ◌⊎◌, Some, IfOk, IsSome, nat_eq};
+ghost use Rattle.std.specs.Prelude.{◌≡◌, ◌⊎◌, Some, IfOk, OnErr, IsSome, nat_eq};
 ghost use Rattle.std.specs.Cmp.Lexicographic.{pointwise};
 ghost use Rattle.air_core.specs.Turn.{moment};
 ghost use Rattle.bench_devices.specs.Device.{device_id};
 ghost use Rattle.bench_devices.specs.Placed.{device_with};
 ghost use Rattle.bench_devices.specs.Phases.{IsIdle};
 ghost use Rattle.nfca_poll.specs.declared.fault.PollFault.TheVariants as faults;
-ghost use Rattle.bench_devices.specs.Phases.{SelectsTo};
+ghost use Rattle.bench_devices.specs.Phases.{SelectsTo, SelectionCut};
 ghost use Rattle.bench_devices.specs.Choosing.{StandsAt};
 ghost use Rattle.bench_devices.specs.declared.polling.Selection.TheVariants.{Missed};
 
@@ -69,7 +69,8 @@ fn none_selected(fault: PollFault) -> Result<Selection, AllocError>
 /// Selects the NFC-A device with this identifier.
 fn select_a(alloc: Global, field: &mut Field<Device>, id: &Ident) -> Result<Selection, AllocError>
     requires idle { IsIdle field.old }
-    ensures { IfOk result (λ s. SelectsTo (DeviceId.A id.now) s (moment field.old) (moment field.new)) }
+    ensures ok { IfOk result (λ s. SelectsTo (DeviceId.A id.now) s (moment field.old) (moment field.new)) }
+    ensures cut { OnErr result (SelectionCut (DeviceId.A id.now) (moment field.old) (moment field.new)) }
 {
     let wanted = id.view();
     match pick(alloc, field, id) {
@@ -81,7 +82,8 @@ fn select_a(alloc: Global, field: &mut Field<Device>, id: &Ident) -> Result<Sele
 /// Selects the Type 5 tag with this identifier, high byte first.
 fn select_v(field: &mut Field<Device>, id: [u8; 8]) -> Result<Selection, AllocError>
     requires idle { IsIdle field.old }
-    ensures { IfOk result (λ s. SelectsTo (DeviceId.V id) s (moment field.old) (moment field.new)) }
+    ensures ok { IfOk result (λ s. SelectsTo (DeviceId.V id) s (moment field.old) (moment field.new)) }
+    ensures cut { OnErr result (SelectionCut (DeviceId.V id) (moment field.old) (moment field.new)) }
 {
     if field.reset().is_err() {
         return Err(AllocError);
@@ -99,7 +101,8 @@ pub fn select(
     id: &DeviceId,
 ) -> Result<Selection, AllocError>
     requires idle { IsIdle field.old }
-    ensures { IfOk result (λ s. SelectsTo id.now s (moment field.old) (moment field.new)) }
+    ensures ok { IfOk result (λ s. SelectsTo id.now s (moment field.old) (moment field.new)) }
+    ensures cut { OnErr result (SelectionCut id.now (moment field.old) (moment field.new)) }
 {
     match id {
         DeviceId::A(id) => select_a(alloc, field, id),

@@ -5,9 +5,9 @@ ghost use Rattle.air_core.specs.Turn.{moment};
 ghost use Rattle.tag_reader.specs.Steps.{of_link};
 ghost use Rattle.bench_devices.specs.declared.device.Device.{Device as Placed};
 ghost use Rattle.bench_devices.specs.Device.{how_of};
-ghost use Rattle.bench_devices.specs.Phases.{Stands, ReadsAt};
+ghost use Rattle.bench_devices.specs.Phases.{Stands, ReadsAt, CutAt};
 ghost use Rattle.isodep_link.specs.IsoLinks.{seen_link};
-ghost use Rattle.bench_devices.specs.Linking.{seen_plain, StandsPlain, IsNew, IsNewLink, Linked, ReadsLinked};
+ghost use Rattle.bench_devices.specs.Linking.{seen_plain, StandsPlain, IsNew, IsNewLink, Linked, ReadsLinked, CutLinked};
 
 use crate::device::Device;
 use air_core::{Field, PlainLink};
@@ -19,7 +19,8 @@ use tag_reader::{Found, How, ReadFault};
 /// What the selected tag at a place holds, or why the reading of it ended.
 pub fn read(alloc: Global, field: &mut Field<Device>, place: usize) -> Result<Found, ReadFault>
     requires { (d : Placed) × Stands (moment field.old) place d }
-    ensures { ReadsAt (moment field.old) (moment field.new) place result }
+    ensures tells { ReadsAt (moment field.old) (moment field.new) place result }
+    ensures cut { CutAt (moment field.old) (moment field.new) place result }
 {
     match field.listeners()[place].how() {
         How::T4 => read_card(alloc, field, place),
@@ -35,7 +36,8 @@ fn read_plain(
     how: How,
 ) -> Result<Found, ReadFault>
     requires { StandsPlain (moment field.old) place how }
-    ensures { ReadsAt (moment field.old) (moment field.new) place result }
+    ensures tells { ReadsAt (moment field.old) (moment field.new) place result }
+    ensures cut { CutAt (moment field.old) (moment field.new) place result }
 {
     let mut link = PlainLink::on(field, place);
     read_by(alloc, &mut link, how)
@@ -47,6 +49,7 @@ fn read_by(alloc: Global, link: &mut PlainLink<Device>, how: How) -> Result<Foun
     requires fresh { IsNew (seen_plain link.old) }
     ensures same { link.new.field.ghost_name ≡ link.old.field.ghost_name }
     ensures tells { ReadsAt (moment link.old.field.now) (moment link.new.field.now) link.old.place result }
+    ensures cut { CutAt (moment link.old.field.now) (moment link.new.field.now) link.old.place result }
 {
     tag_reader::read(alloc, link, how)
 }
@@ -54,7 +57,8 @@ fn read_by(alloc: Global, link: &mut PlainLink<Device>, how: How) -> Result<Foun
 /// What a Type 4 tag holds, which RATS activates first.
 fn read_card(alloc: Global, field: &mut Field<Device>, place: usize) -> Result<Found, ReadFault>
     requires { (d : Placed) × Stands (moment field.old) place d × (how_of d ≡ How.T4) }
-    ensures { ReadsAt (moment field.old) (moment field.new) place result }
+    ensures tells { ReadsAt (moment field.old) (moment field.new) place result }
+    ensures cut { CutAt (moment field.old) (moment field.new) place result }
 {
     match IsoLink::activate(field, place) {
         Ok(mut link) => read_linked(alloc, &mut link),
@@ -68,6 +72,7 @@ fn read_linked(alloc: Global, link: &mut IsoLink<Device>) -> Result<Found, ReadF
     requires fresh { IsNewLink (seen_link link.old) }
     ensures same { link.new.field.ghost_name ≡ link.old.field.ghost_name }
     ensures tells { ReadsLinked link.old.field.now link.old.place link.old.reader (moment link.new.field.now) result }
+    ensures cut { CutLinked link.old.field.now link.old.place link.old.reader (moment link.new.field.now) result }
 {
     tag_reader::read(alloc, link, How::T4)
 }

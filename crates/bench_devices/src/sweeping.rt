@@ -1,7 +1,7 @@
 //! Finding all devices of the field.
 
 ghost use Rattle.air_core.specs.Turn.{moment};
-ghost use Rattle.bench_devices.specs.Phases.{IsIdle, SearchesField};
+ghost use Rattle.bench_devices.specs.Phases.{IsIdle, SearchesField, SearchCut};
 
 use crate::device::Device;
 use air_core::Field;
@@ -20,7 +20,8 @@ pub struct Everybody {
 /// Finds all devices, from a reset on: those of NFC-A, and then those of NFC-V in the field that is lit.
 pub fn sweep_field(alloc: Global, field: &mut Field<Device>) -> Result<Everybody, PollFault>
     requires idle { IsIdle field.old }
-    ensures { SearchesField (moment field.old) (moment field.new) result }
+    ensures tells { SearchesField (moment field.old) (moment field.new) result }
+    ensures cut { SearchCut (moment field.old) (moment field.new) result }
 {
     let cards = Items::new(find_all(alloc, field)?);
     let others = inventory_one(field)?;

@@ -24,68 +24,58 @@ use Rattle.bench_devices.specs.declared.device.Device.{Device}
 use Rattle.bench_devices.specs.declared.device.Device.TheVariants.{T2, T4, T5}
 use Rattle.bench_world.specs.declared.entry.Answer.{Answer}
 use Rattle.bench_world.specs.declared.entry.Answer.TheVariants as answers
-use Rattle.bench_world.specs.declared.entry.Entry.{Entry}
 use Rattle.bench_devices.specs.declared.polling.SeenKind.{SeenKind}
 use Rattle.bench_devices.specs.declared.polling.SeenKind.TheVariants as seen
 use Rattle.bench_devices.specs.CardAsking.{tag_next}
-use Rattle.bench_world.specs.Answering.{ReadTells, TellsFault, TellsFound, poll_answer, told_by}
-use Rattle.bench_devices.specs.Answering.{TellsBy}
-use Rattle.bench_devices.specs.Device.{air, device_store, how_of, size_of, seen_of}
+use Rattle.bench_world.specs.Answering.{TagTells, TellsFault, TellsFound, poll_answer, told_by}
+use Rattle.bench_devices.specs.TagAsking.{then_asks, tag_due}
+use Rattle.bench_devices.specs.Device.{air, StablePart, stable_of, device_store, how_of, size_of, seen_of}
 use Rattle.bench_script.specs.DeviceIds.{bytes_of}
-use Rattle.bench_devices.specs.Polling.{Followed, Asks as Requests, Told, followed, follows, kind_by, seen_kind, pick_v, asks, selecting}
+use Rattle.bench_devices.specs.Polling.{Followed, Asks as Requests, Told, followed, follows, kind_by, seen_kind, pick_v, asks, selecting, finding_all}
 use Rattle.bench_world.specs.Reading.{Tells, TellsOf}
 use Rattle.bench_devices.specs.Reading.{AsksOf, ShowsOf}
-use Rattle.bench_world.specs.Legal.{State, LegalStep, IsAccepted, IsAskedBy, AnswerLaw, changed, due, then_asks, stable, state_after, state_from, state_of, first_state}
+use Rattle.bench_world.specs.Legal.{State, Given, Accepts, IsAskedBy, AnswerLaw, FrontOf, changed, due, stable}
 use Rattle.bench_devices.specs.Placed.{OfPlaced, IfPlaced, device_with}
-use Rattle.bench_devices.specs.Phases.{FailsRead, Kept, kept, IsSound, IsIdle, AreTame, AreTidy, Selects, SelectsAt, Reads, Searches}
-use Rattle.bench_world.specs.Obeying.{state_at, IsReady, Obeyed}
+use Rattle.bench_devices.specs.Phases.{AskedPart, SelectionCut, ReadsSome, FailsRead, Kept, kept, IsSound, IsIdle, AreTame, Selects, SelectsAt, Stands, Reads, ReadsAt, CutAt, Searches, SearchesField, SearchCut}
+use Rattle.bench_world.specs.Obeying.{state_at, Obeyed, IsCutOff}
 use Rattle.tag_reader.specs.Asked.{IsAsked}
 use Rattle.tag_reader.specs.declared.fault.ReadFault.{ReadFault}
+use Rattle.tag_reader.specs.declared.fault.ReadFault.TheVariants as reading
 use Rattle.tag_reader.specs.declared.found.Found.{Found}
 use Rattle.bench_devices.specs.declared.sweeping.Everybody.{Everybody}
 use Rattle.bench_world.proofs.Telling.{tells_as, shows_tells, fails_tells, lost_told, found_told}
 use Rattle.tag_reader.proofs.FileAsked.{file_asked}
 use Rattle.bench_world.proofs.Placing.{map-over, IsWith, is_with, with_sound}
+use Rattle.bench_devices.proofs.Following.{ToldOn, told_on}
 use Rattle.bench_devices.proofs.ReadingTags.{some_asked}
 use Rattle.air_core.proofs.LostField.{breaks-append}
 use Rattle.bench_devices.proofs.Tidy.{going_tidy}
 
--- what one has told, the other tells too, with more that is known since
-abbrev StaysTold : {X : Type 0} → Followed X → Followed X → List Note → Type 0
-StaysTold (Requests n) q ns = Unit {0}
-StaysTold (Told r rest) q ns = q ≡ Told r (rest ++ ns)
-
-followed_more : {S X : Type 0} (e : Enquiry S X) (s : S) (o : Option (Result X PollFault)) (hs ns : List Note) → StaysTold (followed e s o hs) (followed e s o (hs ++ ns)) ns
-followed_more e s (Some r) hs ns = refl
-followed_more e s None [] ns = tt
-followed_more e s None (Lit ∷ hs) ns = followed_more e (e.light s) (e.ended (e.light s)) hs ns
-followed_more e s None (Got h ∷ hs) ns = followed_more e (e.step s h) (e.ended (e.step s h)) hs ns
-followed_more e s None (Lost ∷ hs) ns = refl
-
-kind_more : {X : Type 0} (kind : X → SeenKind) (p q : Followed X) (ns : List Note) → StaysTold p q ns → StaysTold (kind_by kind p) (kind_by kind q) ns
+-- What one has told, the other tells too, with more that is known since.
+kind_more : {X : Type 0} (kind : X → SeenKind) (p q : Followed X) (ns : List Note) → ToldOn p ns q → ToldOn (kind_by kind p) ns (kind_by kind q)
 kind_more kind (Requests n) q ns h = tt
 kind_more kind (Told (Ok x) rest) q ns h = ap (kind_by kind) h
 kind_more kind (Told (Err e) rest) q ns h = ap (kind_by kind) h
 
-follows_more : {S X : Type 0} (e : Enquiry S X) (kind : X → SeenKind) (hs ns : List Note) → StaysTold (kind_by kind (follows e hs)) (kind_by kind (follows e (hs ++ ns))) ns
-follows_more e kind hs ns = kind_more kind (follows e hs) (follows e (hs ++ ns)) ns (followed_more e e.start (e.ended e.start) hs ns)
+follows_more : {S X : Type 0} (e : Enquiry S X) (kind : X → SeenKind) (hs ns : List Note) → ToldOn (kind_by kind (follows e hs)) ns (kind_by kind (follows e (hs ++ ns)))
+follows_more e kind hs ns = kind_more kind (follows e hs) (follows e (hs ++ ns)) ns (told_on e e.start (e.ended e.start) hs ns)
 
-pick_v_more : (id : List ℕ) (hs ns : List Note) → StaysTold (pick_v id hs) (pick_v id (hs ++ ns)) ns
+pick_v_more : (id : List ℕ) (hs ns : List Note) → ToldOn (pick_v id hs) ns (pick_v id (hs ++ ns))
 pick_v_more id [] ns = tt
 pick_v_more id (Lit ∷ hs) ns = follows_more (picking_v id) (λ x. seen.T5) hs ns
 pick_v_more id (Got h ∷ hs) ns = pick_v_more id hs ns
 pick_v_more id (Lost ∷ hs) ns = refl
 
-selecting_stays : (id : DeviceId) (hs ns : List Note) → StaysTold (selecting id hs) (selecting id (hs ++ ns)) ns
+selecting_stays : (id : DeviceId) (hs ns : List Note) → ToldOn (selecting id hs) ns (selecting id (hs ++ ns))
 selecting_stays (A id) hs ns = follows_more (picking id) seen_kind hs ns
 selecting_stays (V id) hs ns = pick_v_more id hs ns
 
 -- a device that was selected stays so, whatever is known since
 pub selecting_more : (id : DeviceId) (hs ns : List Note) (r : Result SeenKind PollFault) → selecting id hs ≡ Told r [] → selecting id (hs ++ ns) ≡ Told r ns
-selecting_more id hs ns r told = let P : Followed SeenKind → Type 0 = λ p. StaysTold p (selecting id (hs ++ ns)) ns in subst P told (selecting_stays id hs ns)
+selecting_more id hs ns r told = let P : Followed SeenKind → Type 0 = λ p. ToldOn p ns (selecting id (hs ++ ns)) in subst P told (selecting_stays id hs ns)
 
 -- behind it the commands are asked, as its kind takes them
-then_tag : (id : DeviceId) (kind : SeenKind) (asked : List Signal) (hs ns : List Note) → selecting id hs ≡ Told (Ok kind) [] → due asked (Read id) (hs ++ ns) ≡ tag_next kind asked ns
+then_tag : (id : DeviceId) (kind : SeenKind) (asked : List Signal) (hs ns : List Note) → selecting id hs ≡ Told (Ok kind) [] → tag_due id asked (hs ++ ns) ≡ tag_next kind asked ns
 then_tag id kind asked hs ns told = ap (then_asks asked) (selecting_more id hs ns (Ok kind) told)
 
 -- what polling asks, the command asks
@@ -95,47 +85,66 @@ polls_first asked (Told r ns) Over h d = absurd d
 polls_first asked (Told r ns) LightUp h d = absurd cc
 polls_first asked (Told r ns) (Asks f) h d = absurd cc
 
--- the stores of devices that are kept
-stores_kept : (ls : List Device) → map device_store ls ≡ map (λ (k : Kept). k.store) (map kept ls)
-stores_kept [] = refl
-stores_kept (d ∷ ls) = ap (λ xs. device_store d ∷ xs) (stores_kept ls)
+-- what stays of devices that are kept
+abbrev stable_in : Kept → StablePart
+stable_in k = record { store = k.store; locked = k.locked }
 
--- no store changed
+stores_kept : (ls : List Device) → map stable_of ls ≡ map stable_in (map kept ls)
+stores_kept [] = refl
+stores_kept (d ∷ ls) = ap (λ xs. stable_of d ∷ xs) (stores_kept ls)
+
+-- nothing that stays changed
 stores_stay : (old new : Air Device) (es : List Event) → (moment new).world ≡ replay air (moment old).world es → map kept new.listeners ≡ map kept old.listeners
     → stable (replay air (state_at old).world es) ≡ stable (state_at old).world
 stores_stay old new es world same =
-    ap stable (sym world) ∙ stores_kept new.listeners ∙ ap (map (λ (k : Kept). k.store)) same ∙ sym (stores_kept old.listeners)
+    ap stable (sym world) ∙ stores_kept new.listeners ∙ ap (map stable_in) same ∙ sym (stores_kept old.listeners)
 
--- a command that asks, and changes nothing itself
-asks_obeyed : (old new : Air Device) (c : Command) (asked : List Signal) (ns : List Note) (answer : Answer) → IsIdle old → IsAccepted (state_at old) c → changed (state_at old) c ≡ state_at old
-    → (g : Going air (due asked c) (moment old) (moment new) ns) → due asked c ns ≡ Over → IsAskedBy (state_at old) c asked → AnswerLaw (state_at old) c asked g.events answer
-    → map kept new.listeners ≡ map kept old.listeners → Obeyed old new c answer
-asks_obeyed old new c asked ns answer idle accepted still g over asked_by law same =
+-- a step whose command asks these
+abbrev pub asks_for : List Signal → Given
+asks_for asked = record { asked = asked }
+
+-- the trace of an idle field is what happened since
+trace_is : (old new : Air Device) (next : List Note → Next) (ns : List Note) (g : Going air next (moment old) (moment new) ns) → IsIdle old → new.trace ≡ g.events
+trace_is old new next ns g idle = ap (λ (t : Moment (World Device)). t.trace) g.moment ∙ ap (λ t. t ++ g.events) idle.quiet
+
+-- what was asked is a front of the command's step
+pub front_of : (old new : Air Device) (c : Command) (asked : List Signal) (ns : List Note) → IsIdle old → Accepts (state_at old) c → changed (state_at old) c ≡ state_at old
+    → Going air (due (state_at old) (asks_for asked) c) (moment old) (moment new) ns → IsAskedBy (state_at old) c asked → FrontOf (state_at old) (asks_for asked) c new.trace (state_at new)
+front_of old new c asked ns idle accepted still g asked_by =
     let st : State = state_at old in
     let es : List Event = g.events in
-    let trace : new.trace ≡ es = ap (λ (t : Moment (World Device)). t.trace) g.moment ∙ ap (λ t. t ++ es) idle.quiet in
+    let trace : new.trace ≡ es = trace_is old new (due st (asks_for asked) c) ns g idle in
     let world : (moment new).world ≡ replay air st.world es = ap (λ (t : Moment (World Device)). t.world) g.moment in
     let queue : new.fates ≡ queue_after old.fates es = ap (λ (t : Moment (World Device)). t.queue) g.moment in
     let T : State → Type 0 = λ s. AreTurns air s.world es in
     let F : State → Type 0 = λ s. FatesFrom s.queue es in
-    let step : LegalStep st c es answer = record {
+    let S : World Device → List Fate → State = λ w q. record { world = w; queue = q } in
+    let P : List Event → Type 0 = λ t. FrontOf st (asks_for asked) c t (state_at new) in
+    let front : P es = record {
       accepted = accepted;
+      asks = asked_by;
       turns = subst T (sym still) g.turns;
       fates = subst F (sym still) g.fates;
-      asked = asked;
-      asks = asked_by;
       each = g.each;
-      over = ap (due asked c) g.known ∙ over;
-      answered = law;
+      after = ap (λ w. S w new.fates) world ∙ ap (S (replay air st.world es)) queue ∙ ap (λ (s : State). S (replay air s.world es) (queue_after s.queue es)) (sym still);
     } in
-    let L : List Event → Type 0 = λ t. LegalStep st c t answer in
-    let S : World Device → List Fate → State = λ w q. record { world = w; queue = q } in
+    subst P (sym trace) front
+
+-- a command that asks, and changes nothing itself
+asks_obeyed : (old new : Air Device) (c : Command) (asked : List Signal) (ns : List Note) (answer : Answer) → IsIdle old → Accepts (state_at old) c → changed (state_at old) c ≡ state_at old
+    → (g : Going air (due (state_at old) (asks_for asked) c) (moment old) (moment new) ns) → due (state_at old) (asks_for asked) c ns ≡ Over → IsAskedBy (state_at old) c asked
+    → AnswerLaw (state_at old) (asks_for asked) c g.events answer
+    → map kept new.listeners ≡ map kept old.listeners → Obeyed old new c answer
+asks_obeyed old new c asked ns answer idle accepted still g over asked_by law same =
+    let st : State = state_at old in
+    let trace : new.trace ≡ g.events = trace_is old new (due st (asks_for asked) c) ns g idle in
     record {
-      step = subst L (sym trace) step;
-      state = ap (λ w. S w new.fates) world ∙ ap (S (replay air st.world es)) queue ∙ ap (λ (s : State). S (replay air s.world es) (queue_after s.queue es)) (sym still)
-          ∙ ap (state_after st c) (sym trace);
+      given = asks_for asked;
+      front = front_of old new c asked ns idle accepted still g asked_by;
+      over = ap (λ es. due st (asks_for asked) c (receptions es)) trace ∙ ap (due st (asks_for asked) c) g.known ∙ over;
+      answered = subst (λ es. AnswerLaw st (asks_for asked) c es answer) (sym trace) law;
       tame = subst (λ ks. AreTame ks) (sym same) idle.tame;
-      tidy = going_tidy (due asked c) (moment old) (moment new) ns g idle.tidy;
+      tidy = going_tidy (due st (asks_for asked) c) (moment old) (moment new) ns g idle.tidy;
     }
 
 -- all devices were searched for
@@ -171,30 +180,31 @@ told_lost faults.BadAnswer answer is lost = absurd cc
 poll_lost : (e : PollFault) (answer : Answer) → poll_answer e ≡ Some answer → ◌≡◌ {A = Result SeenKind PollFault} (Err e) (Err faults.FieldLost) → answer ≡ answers.FieldLost
 poll_lost e answer is lost = (let same : e ≡ faults.FieldLost = cc in let told : Some answer ≡ Some answers.FieldLost = sym is ∙ ap poll_answer same in cc)
 
+-- what selecting asks, a command of the tag asks
+abbrev polled_of : (id : DeviceId) (asked : List Signal) (a b : Moment (World Device)) (ns : List Note) → Going air (λ ks. asks (selecting id ks)) a b ns → Going air (tag_due id asked) a b ns
+polled_of id asked a b ns g = record {
+  events = g.events;
+  moment = g.moment;
+  turns = g.turns;
+  each = due_weaker (tag_due id asked) (λ ks. asks (selecting id ks)) (λ ks n h d. polls_first asked (selecting id ks) n h d) [] g.events g.each;
+  fates = g.fates;
+  fresh = g.fresh;
+  known = g.known;
+}
+
 -- no tag was selected
 pub missed_obeyed : (old new : Air Device) (id : DeviceId) (e : PollFault) (answer : Answer) → IsIdle old → Selects id (Err e) (moment old) (moment new) → poll_answer e ≡ Some answer → Obeyed old new (Read id) answer
 missed_obeyed old new id e answer idle s is =
     let some = asked_by old id idle in
     let g : Going air (λ ns. asks (selecting id ns)) (moment old) (moment new) s.asked.notes = s.asked.going in
-    let going : Going air (due some.0 (Read id)) (moment old) (moment new) s.asked.notes = record {
-      events = g.events;
-      moment = g.moment;
-      turns = g.turns;
-      each = due_weaker (due some.0 (Read id)) (λ ns. asks (selecting id ns)) (λ ns n h d. polls_first some.0 (selecting id ns) n h d) [] g.events g.each;
-      fates = g.fates;
-      fresh = g.fresh;
-      known = g.known;
-    } in
+    let going : Going air (tag_due id some.0) (moment old) (moment new) s.asked.notes = polled_of id some.0 (moment old) (moment new) s.asked.notes g in
     let world : (moment new).world ≡ replay air (moment old).world g.events = ap (λ (t : Moment (World Device)). t.world) g.moment in
-    let tells : ReadTells id old.listeners some.0 g.events answer = record {
-      first = g.events;
-      rest = [];
-      parts = sym (append-nil g.events);
-      cut = refl;
+    let tells : TagTells TellsOf id old.listeners some.0 g.events answer = record {
       polled = Err e;
+      behind = [];
       selected = ap (selecting id) g.known ∙ s.told;
       cause = s.cause;
-      ends = (refl, is);
+      ends = is;
       lost = (λ lost. s.lost.0 (told_lost e answer is lost), λ broken. poll_lost e answer is (s.lost.1 broken));
     } in
     asks_obeyed old new (Read id) some.0 s.asked.notes answer idle tt refl going (ap (then_asks some.0) s.told) some.1
@@ -203,16 +213,16 @@ missed_obeyed old new id e answer idle s is =
 -- A tag was selected, and commands were asked behind that: both are one command.
 module _ (id : DeviceId) (kind : SeenKind) (asked : List Signal) (a b c : Moment (World Device)) (hs ks : List Note) (told : selecting id hs ≡ Told (Ok kind) [])
     (g : Going air (λ ns. asks (selecting id ns)) a b hs) (k : Going air (tag_next kind asked) b c ks) where
-  asks_behind : (t : List Event) → back_of t ≡ backs.Nothing → due asked (Read id) (receptions (g.events ++ t)) ≡ tag_next kind asked (receptions t)
+  asks_behind : (t : List Event) → back_of t ≡ backs.Nothing → tag_due id asked (receptions (g.events ++ t)) ≡ tag_next kind asked (receptions t)
   asks_behind t fresh =
-      ap (due asked (Read id)) (receptions-append g.events t fresh ∙ ap (λ r. r ++ receptions t) g.known) ∙ then_tag id kind asked hs (receptions t) told
+      ap (tag_due id asked) (receptions-append g.events t fresh ∙ ap (λ r. r ++ receptions t) g.known) ∙ then_tag id kind asked hs (receptions t) told
 
-  each_of_both : EachDue (due asked (Read id)) [] (g.events ++ k.events)
+  each_of_both : EachDue (tag_due id asked) [] (g.events ++ k.events)
   each_of_both =
-      let D : List Event → Type 0 = λ t. EachDue (due asked (Read id)) t k.events in
-      due-append (due asked (Read id)) [] g.events k.events
-      (due_weaker (due asked (Read id)) (λ ns. asks (selecting id ns)) (λ ns n h d. polls_first asked (selecting id ns) n h d) [] g.events g.each)
-      (subst D (append-nil g.events) (due_shift (due asked (Read id)) (tag_next kind asked) g.events asks_behind [] k.events k.fresh k.each))
+      let D : List Event → Type 0 = λ t. EachDue (tag_due id asked) t k.events in
+      due-append (tag_due id asked) [] g.events k.events
+      (due_weaker (tag_due id asked) (λ ns. asks (selecting id ns)) (λ ns n h d. polls_first asked (selecting id ns) n h d) [] g.events g.each)
+      (subst D (append-nil g.events) (due_shift (tag_due id asked) (tag_next kind asked) g.events asks_behind [] k.events k.fresh k.each))
 
   turns_of_both : AreTurns air a.world (g.events ++ k.events)
   turns_of_both =
@@ -224,7 +234,7 @@ module _ (id : DeviceId) (kind : SeenKind) (asked : List Signal) (a b c : Moment
       let F : List Fate → Type 0 = λ q. FatesFrom q k.events in
       fates-append a.queue g.events k.events g.fates (subst F (ap (λ (t : Moment (World Device)). t.queue) g.moment) k.fates)
 
-  abbrev both : Going air (due asked (Read id)) a c (hs ++ ks)
+  abbrev both : Going air (tag_due id asked) a c (hs ++ ks)
   both = record {
     events = g.events ++ k.events;
     moment = k.moment ∙ ap (λ t. with_events air t k.events) g.moment ∙ events-append air a g.events k.events;
@@ -247,14 +257,34 @@ lost_behind answer first rest none lost =
       )
     ]
 
--- a tag was selected and read
-module _ (old mid new : Air Device) (id : DeviceId) (place : ℕ) (read : Result Found ReadFault) (answer : Answer) (told : told_by read ≡ Some answer) (idle : IsIdle old)
-    (s : SelectsAt id place (moment old) (moment mid)) (r : Reads (moment mid) (moment new) s.device read) where
+-- a tag was selected, and so much was asked of it
+module _ (old mid : Air Device) (id : DeviceId) (place : ℕ) (idle : IsIdle old) (s : SelectsAt id place (moment old) (moment mid)) where
   selected_with : IsWith old.listeners (bytes_of id) (kept s.device)
   selected_with =
       let split : map kept old.listeners ≡ map kept s.stands.before ++ kept s.device ∷ map kept s.stands.behind =
       sym s.selects.asked.same ∙ ap (λ (w : World Device). map kept w.listeners) s.stands.world ∙ map-over kept s.stands.before (s.device ∷ s.stands.behind) in
       is_with old.listeners (map kept s.stands.before) (kept s.device) (map kept s.stands.behind) (bytes_of id) idle.tame.sound split s.named
+
+  placed_asked : (commands : List Signal) → AsksOf s.device commands → IsAskedBy (state_at old) (Read id) commands
+  placed_asked commands asks =
+      let P : Kept → Type 0 = λ k. IsAsked k.how k.size k.store commands in
+      subst (λ o. IfPlaced (λ d. AsksOf d commands) (commands ≡ []) o) (sym selected_with.found) (subst P (sym selected_with.same) asks)
+
+  -- reading was cut off
+  pub read_cut : (new : Air Device) → ReadsSome (moment mid) (moment new) s.device → IsCutOff old new (Read id)
+  read_cut new r =
+      inr (
+        asks_for r.commands,
+        front_of old new (Read id) r.commands (s.selects.asked.notes ++ r.asked.notes) idle tt refl
+            (both id (seen_of s.device) r.commands (moment old) (moment mid) (moment new) s.selects.asked.notes r.asked.notes s.selects.told s.selects.asked.going r.asked.going)
+            (placed_asked r.commands r.asks),
+      )
+
+-- a tag was selected and read
+module _ (old mid new : Air Device) (id : DeviceId) (place : ℕ) (read : Result Found ReadFault) (answer : Answer) (told : told_by read ≡ Some answer) (idle : IsIdle old)
+    (s : SelectsAt id place (moment old) (moment mid)) (r : Reads (moment mid) (moment new) s.device read) where
+  abbrev with_id : IsWith old.listeners (bytes_of id) (kept s.device)
+  with_id = selected_with old mid id place idle s
 
   abbrev PlacedTells : Answer → Type 0
   PlacedTells told = OfPlaced (λ d. TellsOf d told) (device_with (bytes_of id) old.listeners)
@@ -263,24 +293,21 @@ module _ (old mid new : Air Device) (id : DeviceId) (place : ℕ) (read : Result
   placed_tells shows =
       let tells : TellsOf s.device answer = shows_tells (how_of s.device) (size_of s.device) (device_store s.device) read answer told shows in
       let P : Kept → Type 0 = λ k. Tells k.how k.size k.store answer in
-      subst (λ o. OfPlaced (λ d. TellsOf d answer) o) (sym selected_with.found) (subst P (sym selected_with.same) tells)
+      subst (λ o. OfPlaced (λ d. TellsOf d answer) o) (sym with_id.found) (subst P (sym with_id.same) tells)
 
-  placed_asked : IsAskedBy (state_at old) (Read id) r.commands
-  placed_asked =
-      let P : Kept → Type 0 = λ k. IsAsked k.how k.size k.store r.commands in
-      subst (λ o. IfPlaced (λ d. AsksOf d r.commands) (r.commands ≡ []) o) (sym selected_with.found) (subst P (sym selected_with.same) r.asks)
+  -- what is known of both parts
+  both_known : receptions (s.selects.asked.going.events ++ r.asked.going.events) ≡ s.selects.asked.notes ++ r.asked.notes
+  both_known =
+      receptions-append s.selects.asked.going.events r.asked.going.events r.asked.going.fresh ∙ ap (λ t. t ++ receptions r.asked.going.events) s.selects.asked.going.known
+      ∙ ap (λ t. s.selects.asked.notes ++ t) r.asked.going.known
 
-  read_tells : ReadTells id old.listeners r.commands (s.selects.asked.going.events ++ r.asked.going.events) answer
+  read_tells : TagTells TellsOf id old.listeners r.commands (s.selects.asked.going.events ++ r.asked.going.events) answer
   read_tells = record {
-    first = s.selects.asked.going.events;
-    rest = r.asked.going.events;
-    parts = refl;
-    cut = r.asked.going.fresh;
     polled = Ok (seen_of s.device);
-    selected = ap (selecting id) s.selects.asked.going.known ∙ s.selects.told;
+    behind = r.asked.notes;
+    selected = ap (selecting id) both_known ∙ selecting_more id s.selects.asked.notes r.asked.notes (Ok (seen_of s.device)) s.selects.told;
     cause = tt;
-    ends = tells_as (ShowsOf s.device) FailsRead PlacedTells TellsFault read answer placed_tells (fails_tells read answer told) (seen_of s.device) r.commands (receptions r.asked.going.events)
-        (subst (λ ns. TellsBy (seen_of s.device) (ShowsOf s.device) FailsRead r.commands ns read) (sym r.asked.going.known) r.ends);
+    ends = tells_as (ShowsOf s.device) FailsRead PlacedTells TellsFault read answer placed_tells (fails_tells read answer told) (seen_of s.device) r.commands r.asked.notes r.ends;
     lost = lost_behind answer s.selects.asked.going.events r.asked.going.events
         (λ some. let is : ◌≡◌ {A = Result SeenKind PollFault} (Ok (seen_of s.device)) (Err faults.FieldLost) = s.selects.lost.1 some in cc)
         (lost_told read answer told (breaks r.asked.going.events) r.lost);
@@ -290,29 +317,53 @@ module _ (old mid new : Air Device) (id : DeviceId) (place : ℕ) (read : Result
   read_obeyed =
       let hs : List Note = s.selects.asked.notes in
       let ks : List Note = r.asked.notes in
-      let g : Going air (due r.commands (Read id)) (moment old) (moment new) (hs ++ ks) =
+      let g : Going air (tag_due id r.commands) (moment old) (moment new) (hs ++ ks) =
       both id (seen_of s.device) r.commands (moment old) (moment mid) (moment new) hs ks s.selects.told s.selects.asked.going r.asked.going in
       let world : (moment new).world ≡ replay air (moment old).world (s.selects.asked.going.events ++ r.asked.going.events) = ap (λ (t : Moment (World Device)). t.world) g.moment in
       let same : map kept new.listeners ≡ map kept old.listeners = r.asked.same ∙ s.selects.asked.same in
-      asks_obeyed old new (Read id) r.commands (hs ++ ks) answer idle tt refl g (then_tag id (seen_of s.device) r.commands hs ks s.selects.told ∙ r.asked.over) placed_asked
+      asks_obeyed old new (Read id) r.commands (hs ++ ks) answer idle tt refl g (then_tag id (seen_of s.device) r.commands hs ks s.selects.told ∙ r.asked.over) (placed_asked old mid id place idle s r.commands r.asks)
       (record { tells = read_tells; stays = stores_stay old new (s.selects.asked.going.events ++ r.asked.going.events) world same }) same
 
-pub state_from-append : (s : State) (es fs : List Entry) → state_from s (es ++ fs) ≡ state_from (state_from s es) fs
-state_from-append s [] fs = refl
-state_from-append s (e ∷ es) fs = state_from-append (state_after s e.command e.events) es fs
+-- A command that was cut off: nothing was done ...
+pub untouched : (old new : Air Device) (c : Command) → IsIdle old → new ≡ old → IsCutOff old new c
+untouched old new c idle same = inl (ap (λ (a : Air Device). a.trace) same ∙ idle.quiet, ap state_at same)
 
--- a bench that obeyed a command is ready for the next one
-pub ready_again : (a b k : Air Device) (js : List Entry) (c : Command) (answer : Answer) (e : Entry) → IsReady a js → Obeyed a b c answer
-    → k ≡ record { lit = b.lit; listeners = b.listeners; fates = b.fates; trace = [] } → e.command ≡ c → e.events ≡ b.trace → IsReady k (js ++ e ∷ [])
-ready_again a b k js c answer e ready o is command events =
-    let T : List Device → Type 0 = λ ls. AreTame (map kept ls) in
-    record {
-      idle = record {
-        quiet = ap (λ (x : Air Device). x.trace) is;
-        tame = subst T (sym (ap (λ (x : Air Device). x.listeners) is)) o.tame;
-        tidy = subst (λ ls. AreTidy ls) (sym (ap (λ (x : Air Device). x.listeners) is)) o.tidy;
-      };
-      state = ap state_at is ∙ o.state ∙ ap (λ s. state_after s c b.trace) ready.state
-          ∙ ap (λ x. state_after (state_of js) x b.trace) (sym command) ∙ ap (state_after (state_of js) e.command) (sym events)
-          ∙ sym (state_from-append first_state js (e ∷ []));
-    }
+-- ... or so much was asked, in a search, in selecting a tag, and in reading it.
+pub search_cut : (old new : Air Device) → IsIdle old → AskedPart (λ ns. asks (finding_all ns)) (moment old) (moment new) → IsCutOff old new Find
+search_cut old new idle part = inr (asks_for [], front_of old new Find [] part.notes idle tt refl part.going refl)
+
+pub selection_cut : (old new : Air Device) (id : DeviceId) → IsIdle old → SelectionCut id (moment old) (moment new) → IsCutOff old new (Read id)
+selection_cut old new id idle part =
+    let some = asked_by old id idle in
+    inr (asks_for some.0, front_of old new (Read id) some.0 part.notes idle tt refl (polled_of id some.0 (moment old) (moment new) part.notes part.going) some.1)
+
+-- What was asked in a search, however it ended, and in a read.
+pub search_part : (old new : Moment (World Device)) (r : Result Everybody PollFault) → SearchesField old new r → SearchCut old new r → AskedPart (λ ns. asks (finding_all ns)) old new
+search_part old new (Ok e) told cut = let a = (told (λ k. cc)).asked in record { notes = a.notes; going = a.going; same = a.same }
+search_part old new (Err faults.Nobody) told cut = let a = (told (λ k. cc)).asked in record { notes = a.notes; going = a.going; same = a.same }
+search_part old new (Err faults.Disturbed) told cut = let a = (told (λ k. cc)).asked in record { notes = a.notes; going = a.going; same = a.same }
+search_part old new (Err faults.FieldLost) told cut = let a = (told (λ k. cc)).asked in record { notes = a.notes; going = a.going; same = a.same }
+search_part old new (Err faults.Memory) told cut = cut refl
+search_part old new (Err faults.NotFound) told cut = let a = (told (λ k. cc)).asked in record { notes = a.notes; going = a.going; same = a.same }
+search_part old new (Err faults.BadAnswer) told cut = let a = (told (λ k. cc)).asked in record { notes = a.notes; going = a.going; same = a.same }
+
+some_of : (old new : Moment (World Device)) (d : Device) (r : Result Found ReadFault) → Reads old new d r → ReadsSome old new d
+some_of old new d r s = record { commands = s.commands; asks = s.asks; asked = record { notes = s.asked.notes; going = s.asked.going; same = s.asked.same } }
+
+pub read_part : (old new : Moment (World Device)) (place : ℕ) (d : Device) (r : Result Found ReadFault) → Stands old place d → ReadsAt old new place r → CutAt old new place r → ReadsSome old new d
+read_part old new place d (Err reading.Memory) stands told cut = cut refl d stands
+read_part old new place d (Ok found) stands told cut = some_of old new d (Ok found) (told (λ k. cc) d stands)
+read_part old new place d (Err reading.NotNdef) stands told cut = some_of old new d (Err reading.NotNdef) (told (λ k. cc) d stands)
+read_part old new place d (Err reading.Version) stands told cut = some_of old new d (Err reading.Version) (told (λ k. cc) d stands)
+read_part old new place d (Err reading.NoRead) stands told cut = some_of old new d (Err reading.NoRead) (told (λ k. cc) d stands)
+read_part old new place d (Err reading.Sectors) stands told cut = some_of old new d (Err reading.Sectors) (told (λ k. cc) d stands)
+read_part old new place d (Err reading.BadSize) stands told cut = some_of old new d (Err reading.BadSize) (told (λ k. cc) d stands)
+read_part old new place d (Err reading.NoMessageTlv) stands told cut = some_of old new d (Err reading.NoMessageTlv) (told (λ k. cc) d stands)
+read_part old new place d (Err reading.BadTlv) stands told cut = some_of old new d (Err reading.BadTlv) (told (λ k. cc) d stands)
+read_part old new place d (Err (reading.Refused code)) stands told cut = some_of old new d (Err (reading.Refused code)) (told (λ k. cc) d stands)
+read_part old new place d (Err reading.FieldLost) stands told cut = some_of old new d (Err reading.FieldLost) (told (λ k. cc) d stands)
+read_part old new place d (Err reading.SixBad) stands told cut = some_of old new d (Err reading.SixBad) (told (λ k. cc) d stands)
+read_part old new place d (Err reading.Protocol) stands told cut = some_of old new d (Err reading.Protocol) (told (λ k. cc) d stands)
+
+pub missed_part : (old new : Moment (World Device)) (id : DeviceId) (e : PollFault) → Selects id (Err e) old new → SelectionCut id old new
+missed_part old new id e s = record { notes = s.asked.notes; going = s.asked.going; same = s.asked.same }

@@ -5,8 +5,8 @@ pub mod Locking
 pub mod Telling
 pub mod Legality
 pub mod Outcomes
+pub mod Benches
 pub mod Complete
-pub mod OneCut
 pub mod OneForm
 pub mod OneAnswer
 pub mod OneJournal

@@ -1,5 +1,5 @@
 -- A block of a tag is locked, and what a tag holds is told.
-use Rattle.std.proofs.Common.{◌≡◌, ℕ, ◌<◌, List, [], ◌∷◌, ◌++◌, map, nat_eq, if◌then◌else◌, Some, refl, sym, ◌∙◌, ap, subst}
+use Rattle.std.proofs.Common.{◌≡◌, ℕ, suc, ◌<◌, ◌≤◌, List, [], ◌∷◌, ◌++◌, length, map, nat_eq, if◌then◌else◌, Some, refl, sym, ◌∙◌, ap, subst}
 use Rattle.std.specs.Prelude.{slice_set, slice_index_or}
 use Rattle.std.proofs.Math.Seq.{set-append_seam, get_or-append_seam}
 use Rattle.std.specs.Cmp.Lexicographic.{pointwise}
@@ -11,12 +11,13 @@ use Rattle.bench_devices.specs.declared.device.Device.{Device}
 use Rattle.bench_devices.specs.declared.device.Device.TheVariants.{T2, T4, T5}
 use Rattle.bench_world.specs.declared.entry.Answer.TheVariants.{Done, Store}
 use Rattle.bench_devices.specs.Choosing.{StandsAt}
-use Rattle.bench_devices.specs.Device.{device_id, blocks_of, device_locked, memory_in}
+use Rattle.std.specs.List.{AllByRecursion}
+use Rattle.bench_devices.specs.Device.{device_id, most_devices, blocks_of, device_locked, memory_in}
 use Rattle.bench_world.specs.Legal.{IsPlaced}
 use Rattle.bench_devices.specs.Placed.{device_with, with_changed, OfPlaced}
 use Rattle.bench_world.specs.Obeying.{state_at, Obeyed}
 use Rattle.bench_devices.specs.Phases.{IsIdle}
-use Rattle.bench_devices.specs.Phases.{kept, AreSound, AreTame, IsTidy, AreTidy}
+use Rattle.bench_devices.specs.Phases.{Kept, kept, IsSound, IsApart, AreSound, AreTame, IsTidy, AreTidy}
 use Rattle.bench_script.specs.DeviceIds.{bytes_of}
 use Rattle.bench_world.proofs.Placed.{still_obeyed}
 use Rattle.bench_world.proofs.Removing.{is_other}
@@ -36,15 +37,37 @@ changed_behind change (b ∷ before) d behind id named sound =
     ap (λ v. if v then change b ∷ (before ++ d ∷ behind) else b ∷ with_changed change id (before ++ d ∷ behind)) (is_other b before d behind id named sound.1)
     ∙ ap (λ ds. b ∷ ds) (changed_behind change before d behind id named sound.2)
 
--- a lock changes nothing that stays through a read
-kept_locked : (block : ℕ) (d : Device) → kept (device_locked block d) ≡ kept d
-kept_locked block (T2 d) = refl
-kept_locked block (T4 d) = refl
-kept_locked block (T5 p) = refl
+-- A device with one block more locked may be placed, too, and has the same identifier.
+sound_locked : (block : ℕ) (d : Device) → IsSound (kept d) → IsSound (kept (device_locked block d))
+sound_locked block (T2 d) s = s
+sound_locked block (T4 d) s = s
+sound_locked block (T5 p) s = s
 
-all_kept : (block : ℕ) (before : List Device) (d : Device) (behind : List Device) → map kept (before ++ device_locked block d ∷ behind) ≡ map kept (before ++ d ∷ behind)
-all_kept block [] d behind = ap (λ k. k ∷ map kept behind) (kept_locked block d)
-all_kept block (b ∷ before) d behind = ap (λ ks. kept b ∷ ks) (all_kept block before d behind)
+apart_locked : (block : ℕ) (d : Device) (ks : List Kept) → AllByRecursion (IsApart (kept d)) ks → AllByRecursion (IsApart (kept (device_locked block d))) ks
+apart_locked block (T2 d) ks h = h
+apart_locked block (T4 d) ks h = h
+apart_locked block (T5 p) ks h = h
+
+from_locked : (block : ℕ) (k : Kept) (d : Device) → IsApart k (kept d) → IsApart k (kept (device_locked block d))
+from_locked block k (T2 d) h = h
+from_locked block k (T4 d) h = h
+from_locked block k (T5 p) h = h
+
+all_apart : (block : ℕ) (k : Kept) (before : List Device) (d : Device) (behind : List Device) → AllByRecursion (IsApart k) (map kept (before ++ d ∷ behind))
+    → AllByRecursion (IsApart k) (map kept (before ++ device_locked block d ∷ behind))
+all_apart block k [] d behind h = (from_locked block k d h.0, h.1)
+all_apart block k (b ∷ before) d behind h = (h.0, all_apart block k before d behind h.1)
+
+all_sound : (block : ℕ) (before : List Device) (d : Device) (behind : List Device) → AreSound (map kept (before ++ d ∷ behind)) → AreSound (map kept (before ++ device_locked block d ∷ behind))
+all_sound block [] d behind s = (sound_locked block d s.0, apart_locked block d (map kept behind) s.1, s.2)
+all_sound block (b ∷ before) d behind s = (s.0, all_apart block (kept b) before d behind s.1, all_sound block before d behind s.2)
+
+as_many : (block : ℕ) (before : List Device) (d : Device) (behind : List Device) → length (map kept (before ++ device_locked block d ∷ behind)) ≡ length (map kept (before ++ d ∷ behind))
+as_many block [] d behind = refl
+as_many block (b ∷ before) d behind = ap suc (as_many block before d behind)
+
+all_tame : (block : ℕ) (before : List Device) (d : Device) (behind : List Device) → AreTame (map kept (before ++ d ∷ behind)) → AreTame (map kept (before ++ device_locked block d ∷ behind))
+all_tame block before d behind t = record { sound = all_sound block before d behind t.sound; few = subst (λ n. n ≤ most_devices) (sym (as_many block before d behind)) t.few }
 
 tidy_locked : (block : ℕ) (d : Device) → IsTidy d → IsTidy (device_locked block d)
 tidy_locked block (T2 d) tidy = tidy
@@ -94,10 +117,9 @@ module _ (old : Air Device) (id : DeviceId) (place : ℕ) (idle : IsIdle old) (s
       ∙ set-append_seam s.before s.device s.behind (change s.device) in
       let same : with_changed change (bytes_of id) old.listeners ≡ s.before ++ change s.device ∷ s.behind =
       ap (with_changed change (bytes_of id)) s.split ∙ changed_behind change s.before s.device s.behind (bytes_of id) s.named sound in
-      let stays : map kept (s.before ++ change s.device ∷ s.behind) ≡ map kept old.listeners = all_kept block s.before s.device s.behind ∙ ap (map kept) (sym s.split) in
       subst O (sym (is ∙ ap F left))
       (still_obeyed old (F (s.before ++ change s.device ∷ s.behind)) (Lock id block) Done idle (of_placed (λ d. block < blocks_of d) within) (ap (λ ls. state_at (F ls)) (sym same)) refl refl refl refl
-      (subst AreTame (sym stays) idle.tame) (all_tidy block s.before s.device s.behind (subst AreTidy s.split idle.tidy)))
+      (all_tame block s.before s.device s.behind (subst (λ ls. AreTame (map kept ls)) s.split idle.tame)) (all_tidy block s.before s.device s.behind (subst AreTidy s.split idle.tidy)))
 
   -- what it holds was told
   pub memory_told : IsPlaced (state_at old) id → Obeyed old old (Dump id) (Store (memory_in s.device))

@@ -3,30 +3,26 @@ use Rattle.std.proofs.Common.{◌≡◌, List, [], ◌∷◌, Option, Some, None
 use Rattle.nfc_base.specs.Signal.{Signal}
 use Rattle.nfc_base.specs.declared.event.Event.{Event}
 use Rattle.nfc_base.specs.declared.tag_link.AskFault.TheVariants as asking
-use Rattle.air_core.specs.Conversation.{Note, receptions}
+use Rattle.air_core.specs.Conversation.{Note}
 use Rattle.air_core.specs.Waits.{Standing, Asking, Broken, Astray, stand}
 use Rattle.nfca_poll.specs.declared.fault.Picked.{Picked}
 use Rattle.nfca_poll.specs.declared.fault.PollFault.{PollFault}
 use Rattle.nfca_poll.specs.declared.fault.PollFault.TheVariants as faults
 use Rattle.nfca_poll.specs.declared.inventory.Vcrowd.{Vcrowd}
-use Rattle.nfca_poll.specs.Rounds.{finding}
 use Rattle.bench_script.specs.declared.command.DeviceId.{DeviceId}
 use Rattle.bench_devices.specs.declared.device.Device.{Device}
 use Rattle.bench_world.specs.declared.entry.Answer.{Answer}
 use Rattle.bench_devices.specs.Device.{device_store, how_of, size_of}
 use Rattle.bench_script.specs.DeviceIds.{bytes_of}
-use Rattle.bench_devices.specs.Polling.{follows, selecting}
+use Rattle.bench_devices.specs.Polling.{Told}
 use Rattle.bench_devices.specs.Placed.{device_with, OfPlaced}
 use Rattle.bench_world.specs.Reading.{TellsOf}
 use Rattle.isodep_link.specs.Asking as exchange
 use Rattle.bench_devices.specs.declared.polling.SeenKind.{SeenKind}
 use Rattle.bench_devices.specs.declared.polling.SeenKind.TheVariants as seen
 use Rattle.bench_devices.specs.CardAsking.{CardStanding, Activates, Exchanges, card_stands}
-use Rattle.bench_world.specs.Answering.{TellsFault, ReadEnds, ReadTells, TellsFound}
+use Rattle.bench_world.specs.Answering.{TellsFault, TagEnds, TagTells, TellsFound}
 use Rattle.bench_devices.specs.Answering.{TellsStanding, TellsExchange, TellsCard, TellsBy, InventoryEnds, FindEnds, FindTells}
-use Rattle.bench_devices.proofs.Following.{follows_on}
-use Rattle.bench_world.proofs.Legality.{selecting_more}
-use Rattle.bench_world.proofs.OneCut.{SameCut, one_end, one_cut}
 use Rattle.bench_world.proofs.OneForm.{one_telling}
 
 -- at most one answer is so
@@ -63,28 +59,37 @@ one_told seen.T4 Tells one asked ns a b p q = one_card Tells one (card_stands as
 one_told seen.T5 Tells one asked ns a b p q = one_standing Tells one (stand 0 asked ns) a b p q
 one_told seen.Peer Tells one asked ns a b p q = absurd p
 
-one_placed : (o : Option Device) → AtMostOne (λ answer. OfPlaced (λ d. TellsOf d answer) o)
-one_placed None a b p q = absurd p
-one_placed (Some d) a b p q = one_telling (how_of d) (size_of d) (device_store d) a b p q
-
 same_some : (a b : Answer) → ◌≡◌ {A = Option Answer} (Some a) (Some b) → a ≡ b
 same_some a b e = cc
 
--- A read has one answer.
-module _ (id : DeviceId) (ds : List Device) (asked : List Signal) where
-  one_read_end : (r : Result SeenKind PollFault) (es : List Event) → AtMostOne (ReadEnds id ds asked r es)
-  one_read_end (Ok kind) es a b p q =
-      one_told kind (λ answer. OfPlaced (λ d. TellsOf d answer) (device_with (bytes_of id) ds)) (one_placed (device_with (bytes_of id) ds)) asked (receptions es) a b p q
-  one_read_end (Err e) es a b p q = same_some a b (sym p.1 ∙ q.1)
+-- what was told is one thing
+one_end : {X : Type 0} (r q : Result X PollFault) (ns ks : List Note) → Told r ns ≡ Told q ks → (r ≡ q) × (ns ≡ ks)
+one_end r q ns ks e = (cc, cc)
 
-  pub one_read : (events : List Event) (a b : Answer) → ReadTells id ds asked events a → ReadTells id ds asked events b → a ≡ b
-  one_read events a b p q =
-      let same : SameCut (selecting id) (selecting_more id) p.first p.rest q.first q.rest p.polled q.polled =
-      one_cut (selecting id) (selecting_more id) events p.first p.rest q.first q.rest p.polled q.polled
-      (record { parts = p.parts; cut = p.cut; told = p.selected }) (record { parts = q.parts; cut = q.cut; told = q.selected }) in
-      let ends : ReadEnds id ds asked p.polled p.rest b =
-      subst (λ t. ReadEnds id ds asked p.polled t b) (sym same.back) (subst (λ r. ReadEnds id ds asked r q.rest b) (sym same.end) q.ends) in
-      one_read_end p.polled p.rest a b p.ends ends
+-- A command of a tag has one answer, where what it tells of a device is one thing.
+module _ (Tells : Device → Answer → Type 0) (one : (d : Device) → AtMostOne (Tells d)) (id : DeviceId) (ds : List Device) (asked : List Signal) where
+  one_placed : (o : Option Device) → AtMostOne (λ answer. OfPlaced (λ d. Tells d answer) o)
+  one_placed None a b p q = absurd p
+  one_placed (Some d) a b p q = one d a b p q
+
+  one_tag_end : (r : Result SeenKind PollFault) (behind : List Note) → AtMostOne (TagEnds Tells id ds asked r behind)
+  one_tag_end (Ok kind) behind a b p q =
+      one_told kind (λ answer. OfPlaced (λ d. Tells d answer) (device_with (bytes_of id) ds)) (one_placed (device_with (bytes_of id) ds)) asked behind a b p q
+  one_tag_end (Err e) behind a b p q = same_some a b (sym p ∙ q)
+
+  pub one_tag : (events : List Event) (a b : Answer) → TagTells Tells id ds asked events a → TagTells Tells id ds asked events b → a ≡ b
+  one_tag events a b p q =
+      let same = one_end q.polled p.polled q.behind p.behind (sym q.selected ∙ p.selected) in
+      let ends : TagEnds Tells id ds asked p.polled p.behind b =
+      subst (λ ns. TagEnds Tells id ds asked p.polled ns b) same.1 (subst (λ r. TagEnds Tells id ds asked r q.behind b) same.0 q.ends) in
+      one_tag_end p.polled p.behind a b p.ends ends
+
+-- A read has one answer.
+one_telling_of : (d : Device) → AtMostOne (TellsOf d)
+one_telling_of d a b p q = one_telling (how_of d) (size_of d) (device_store d) a b p q
+
+pub one_read : (id : DeviceId) (ds : List Device) (asked : List Signal) (events : List Event) (a b : Answer) → TagTells TellsOf id ds asked events a → TagTells TellsOf id ds asked events b → a ≡ b
+one_read id ds asked events a b p q = one_tag TellsOf one_telling_of id ds asked events a b p q
 
 -- A search has one answer.
 module _ (ds : List Device) where
@@ -97,23 +102,20 @@ module _ (ds : List Device) where
   one_inventory_end cards (Err faults.NotFound) es a b p q = absurd p
   one_inventory_end cards (Err faults.BadAnswer) es a b p q = absurd p
 
-  one_find_end : (found : Result (List Picked) PollFault) (first rest : List Event) → AtMostOne (FindEnds TellsFound ds found first rest)
-  one_find_end (Ok cards) first rest a b p q =
-      let same : q.2 ≡ p.2 = (one_end q.2 p.2 [] (sym q.3 ∙ p.3)).0 in
-      one_inventory_end cards p.2 rest a b p.4 (subst (λ o. InventoryEnds TellsFound ds cards o rest b) same q.4)
-  one_find_end (Err faults.Nobody) first rest a b p q = absurd p
-  one_find_end (Err faults.Disturbed) first rest a b p q = p.1 ∙ sym q.1
-  one_find_end (Err faults.FieldLost) first rest a b p q = p.1 ∙ sym q.1
-  one_find_end (Err faults.Memory) first rest a b p q = absurd p
-  one_find_end (Err faults.NotFound) first rest a b p q = absurd p
-  one_find_end (Err faults.BadAnswer) first rest a b p q = absurd p
+  one_find_end : (found : Result (List Picked) PollFault) (behind : List Note) (es : List Event) → AtMostOne (FindEnds TellsFound ds found behind es)
+  one_find_end (Ok cards) behind es a b p q =
+      let same : q.2 ≡ p.2 = (one_end q.2 p.2 [] [] (sym q.3 ∙ p.3)).0 in
+      one_inventory_end cards p.2 es a b p.4 (subst (λ o. InventoryEnds TellsFound ds cards o es b) same q.4)
+  one_find_end (Err faults.Nobody) behind es a b p q = absurd p
+  one_find_end (Err faults.Disturbed) behind es a b p q = p.0 ∙ sym q.0
+  one_find_end (Err faults.FieldLost) behind es a b p q = p ∙ sym q
+  one_find_end (Err faults.Memory) behind es a b p q = absurd p
+  one_find_end (Err faults.NotFound) behind es a b p q = absurd p
+  one_find_end (Err faults.BadAnswer) behind es a b p q = absurd p
 
   pub one_find : (events : List Event) (a b : Answer) → FindTells TellsFound ds events a → FindTells TellsFound ds events b → a ≡ b
   one_find events a b p q =
-      let same : SameCut (follows finding) (follows_on finding) p.first p.rest q.first q.rest p.found q.found =
-      one_cut (follows finding) (follows_on finding) events p.first p.rest q.first q.rest p.found q.found
-      (record { parts = p.parts; cut = p.cut; told = p.searched }) (record { parts = q.parts; cut = q.cut; told = q.searched }) in
-      let E : Result (List Picked) PollFault → List Event → List Event → Type 0 = λ found first rest. FindEnds TellsFound ds found first rest b in
-      let ends : E p.found p.first p.rest =
-      subst (λ found. E found p.first p.rest) (sym same.end) (subst (λ t. E q.found t p.rest) (sym same.front) (subst (E q.found q.first) (sym same.back) q.ends)) in
-      one_find_end p.found p.first p.rest a b p.ends ends
+      let same = one_end q.found p.found q.behind p.behind (sym q.searched ∙ p.searched) in
+      let ends : FindEnds TellsFound ds p.found p.behind events b =
+      subst (λ ns. FindEnds TellsFound ds p.found ns events b) same.1 (subst (λ r. FindEnds TellsFound ds r q.behind events b) same.0 q.ends) in
+      one_find_end p.found p.behind events a b p.ends ends

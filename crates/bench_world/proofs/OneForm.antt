@@ -6,10 +6,10 @@ use Rattle.tlv_area.specs.declared.space.Space.{Space}
 use Rattle.tlv_area.specs.declared.container.ContainerFault.{ContainerFault}
 use Rattle.tlv_area.specs.declared.container.FileMap.{FileMap}
 use Rattle.tlv_area.specs.declared.container.ContainerFault.TheVariants as container
-use Rattle.tlv_area.specs.Containers.{t2_container, t5_container}
+use Rattle.tlv_area.specs.Containers.{t2_container}
 use Rattle.tlv_area.specs.Layout.{Tlv, Layout, free, reserved_by}
 use Rattle.tlv_area.specs.Form.{Form, Faulty, Message, NoMessageTlv, BadTlv, Next, End, Fault, Comes, Holds, IsForm, next}
-use Rattle.tlv_area.specs.Stores.{four_bytes, cut_by, IsFormBy, IsOneForm}
+use Rattle.tlv_area.specs.Stores.{four_bytes, cut_by, t5_area, IsFormBy, IsOneForm}
 use Rattle.tlv_area.proofs.OneForm.{nonempty}
 use Rattle.tlv_area.proofs.OneNext.{one_form}
 use Rattle.tag_reader.specs.declared.how.How.{How}
@@ -59,10 +59,10 @@ one_form_by (Err fault) store f g one two = one ∙ sym two
 one_form_by (Ok space) store f g one two = one_area_form space store f g one two
 
 -- a store has one form
-pub one_store_form : (how : How) (store : List ℕ) → IsOneForm (IsStoreForm how store)
-one_store_form T2 store f g one two = one_form_by (t2_container (four_bytes store 12)) store f g one two
-one_store_form T4 store f g one two = one ∙ sym two
-one_store_form (T5 id) store f g one two = one_form_by (cut_by (t5_container (four_bytes store 0)) (length store)) store f g one two
+pub one_store_form : (how : How) (size : ℕ) (store : List ℕ) → IsOneForm (IsStoreForm how size store)
+one_store_form T2 size store f g one two = one_form_by (t2_container (four_bytes store 12)) store f g one two
+one_store_form T4 size store f g one two = one ∙ sym two
+one_store_form (T5 id) size store f g one two = one_form_by (cut_by (t5_area size store) (length store)) store f g one two
 
 -- the answer that tells of a form, and of whether writing is free
 abbrev answer_by : Form → Bool → Answer
@@ -112,11 +112,11 @@ module _ (how : How) (size : ℕ) (store : List ℕ) where
   record TellsForm (answer : Answer) : Type 0 where
     pub form : Form
     pub writable : Bool
-    pub is : IsStoreForm how store form
+    pub is : IsStoreForm how size store form
     pub access : AccessIf form writable
     pub same : answer ≡ answer_by form writable
 
-  tells_fault : (fault : ContainerFault) → IsStoreForm how store (Faulty fault) → TellsForm (answer_by (Faulty fault) false)
+  tells_fault : (fault : ContainerFault) → IsStoreForm how size store (Faulty fault) → TellsForm (answer_by (Faulty fault) false)
   tells_fault fault is = record { form = Faulty fault; writable = false; is = is; access = tt; same = refl }
 
   tells_form : (answer : Answer) → Tells how size store answer → TellsForm answer
@@ -141,6 +141,6 @@ module _ (how : How) (size : ℕ) (store : List ℕ) where
   one_telling a b p q =
       let one = tells_form a p in
       let two = tells_form b q in
-      let same : two.form ≡ one.form = one_store_form how store two.form one.form two.is one.is in
+      let same : two.form ≡ one.form = one_store_form how size store two.form one.form two.is one.is in
       let access : AccessIf one.form two.writable = subst (λ f. AccessIf f two.writable) same two.access in
       one.same ∙ same_answer one.form one.writable two.writable one.access access ∙ sym (ap (λ f. answer_by f two.writable) same) ∙ sym two.same

@@ -13,7 +13,7 @@ use Rattle.bench_devices.specs.Device.{device_store, how_of, size_of, memory_in}
 use Rattle.bench_script.specs.DeviceIds.{bytes_of}
 use Rattle.bench_devices.specs.Placed.{device_with, OfPlaced, IfPlaced}
 use Rattle.bench_devices.specs.Reading.{AsksOf}
-use Rattle.bench_world.specs.Legal.{State, IsAskedBy, AnswerLaw, LegalStep, EachLegal, changed, due, state_after, first_state}
+use Rattle.bench_world.specs.Legal.{State, Given, IsAskedBy, AnswerLaw, FrontOf, EachLegal, changed, due, state_after, first_state}
 use Rattle.bench_devices.specs.Device.{air}
 use Rattle.bench_world.specs.Journal.{NumberedLine, AreEntriesOf, asking_lines, Legal}
 use Rattle.bench_world.specs.SameCommands.{SameCommands}
@@ -37,33 +37,36 @@ one_dump None a b p q = absurd p
 one_dump (Some d) a b p q = p ∙ sym q
 
 -- what happened decides what it answers
-one_answer : (s : State) (c : Command) (asked : List Signal) (events : List Event) (a b : Answer) → AnswerLaw s c asked events a → AnswerLaw s c asked events b → a ≡ b
-one_answer s Skip asked events a b p q = absurd p
-one_answer s (Fates fates) asked events a b p q = p ∙ sym q
-one_answer s (PlaceT2 id blocks head) asked events a b p q = p ∙ sym q
-one_answer s (PlaceT4 id code container head) asked events a b p q = p ∙ sym q
-one_answer s (PlaceT5 id blocks size head) asked events a b p q = p ∙ sym q
-one_answer s (Lock id block) asked events a b p q = p ∙ sym q
-one_answer s (Remove id) asked events a b p q = p ∙ sym q
-one_answer s (Dump id) asked events a b p q = one_dump (device_with (bytes_of id) s.world.listeners) a b p q
-one_answer s Find asked events a b p q = one_find s.world.listeners events a b p.tells q.tells
-one_answer s (Read id) asked events a b p q = one_read id s.world.listeners asked events a b p.tells q.tells
+one_answer : (s : State) (g : Given) (c : Command) (events : List Event) (a b : Answer) → AnswerLaw s g c events a → AnswerLaw s g c events b → a ≡ b
+one_answer s g Skip events a b p q = absurd p
+one_answer s g (Fates fates) events a b p q = p ∙ sym q
+one_answer s g (PlaceT2 id blocks head) events a b p q = p ∙ sym q
+one_answer s g (PlaceT4 id code container head) events a b p q = p ∙ sym q
+one_answer s g (PlaceT5 id blocks size head) events a b p q = p ∙ sym q
+one_answer s g (Lock id block) events a b p q = p ∙ sym q
+one_answer s g (Remove id) events a b p q = p ∙ sym q
+one_answer s g (Dump id) events a b p q = one_dump (device_with (bytes_of id) s.world.listeners) a b p q
+one_answer s g Find events a b p q = one_find s.world.listeners events a b p.tells q.tells
+one_answer s g (Read id) events a b p q = one_read id s.world.listeners g.asked events a b p.tells q.tells
 
 -- From a state a command is obeyed in one way.
-module _ (s : State) (c : Command) (es fs : List Event) (a b : Answer) (p : LegalStep s c es a) (q : LegalStep s c fs b) where
-  same_asked : q.asked ≡ p.asked
-  same_asked = one_asked_by s c q.asked p.asked q.asks p.asks
+same_given : (s : State) (c : Command) (g h : Given) → IsAskedBy s c g.asked → IsAskedBy s c h.asked → h ≡ g
+same_given s c g h p q = ap (λ asked. record { asked = asked }) (one_asked_by s c h.asked g.asked q p)
+
+module _ (s : State) (c : Command) (g h : Given) (es fs : List Event) (t u : State) (p : FrontOf s g c es t) (q : FrontOf s h c fs u) (done : due s g c (receptions es) ≡ Over) (over : due s h c (receptions fs) ≡ Over) where
+  abbrev as_given : h ≡ g
+  as_given = same_given s c g h p.asks q.asks
 
   pub same_events : es ≡ fs
   same_events =
-      let each : EachDue (due p.asked c) [] fs = subst (λ asked. EachDue (due asked c) [] fs) same_asked q.each in
-      let over : due p.asked c (receptions fs) ≡ Over = subst (λ asked. due asked c (receptions fs) ≡ Over) same_asked q.over in
-      one_course air (due p.asked c) (changed s c).world (changed s c).queue es fs p.turns q.turns p.fates q.fates p.each each p.over over
+      let each : EachDue (due s g c) [] fs = subst (λ k. EachDue (due s k c) [] fs) as_given q.each in
+      let at_end : due s g c (receptions fs) ≡ Over = subst (λ k. due s k c (receptions fs) ≡ Over) as_given over in
+      one_course air (due s g c) (changed s c).world (changed s c).queue es fs p.turns q.turns p.fates q.fates p.each each done at_end
 
-  pub same_answers : a ≡ b
-  same_answers =
-      let law : AnswerLaw s c p.asked es b = subst (λ t. AnswerLaw s c p.asked t b) (sym same_events) (subst (λ asked. AnswerLaw s c asked fs b) same_asked q.answered) in
-      one_answer s c p.asked es a b p.answered law
+  pub same_answers : (a b : Answer) → AnswerLaw s g c es a → AnswerLaw s h c fs b → a ≡ b
+  same_answers a b x y =
+      let law : AnswerLaw s g c es b = subst (λ k. AnswerLaw s g c k b) (sym same_events) (subst (λ k. AnswerLaw s k c fs b) as_given y) in
+      one_answer s g c es a b x law
 
 -- entries of the same parts
 same_entry : (j k : Entry) → j.line ≡ k.line → j.command ≡ k.command → j.events ≡ k.events → j.answer ≡ k.answer → j ≡ k
@@ -73,19 +76,25 @@ same_entry j k line command events answer =
     ∙ ap (λ es. E k.line k.command es j.answer) events ∙ ap (E k.line k.command k.events) answer
 
 -- From one state on, two legal journals of the same lines and commands are the same.
-pub one_journal : (s : State) (js ks : List Entry) → SameCommands js ks → EachLegal s js → EachLegal s ks → js ≡ ks
-one_journal s [] [] same p q = refl
-one_journal s [] (k ∷ ks) same p q = absurd same
-one_journal s (j ∷ js) [] same p q = absurd same
-one_journal s (j ∷ js) (k ∷ ks) same p q =
-    let L : Command → Type 0 = λ c. LegalStep s c k.events k.answer in
-    let step : LegalStep s j.command k.events k.answer = subst L (sym same.1) q.0 in
-    let events : j.events ≡ k.events = same_events s j.command j.events k.events j.answer k.answer p.0 step in
-    let answer : j.answer ≡ k.answer = same_answers s j.command j.events k.events j.answer k.answer p.0 step in
-    let after : state_after s k.command k.events ≡ state_after s j.command j.events =
-    ap (λ c. state_after s c k.events) (sym same.1) ∙ ap (state_after s j.command) (sym events) in
+pub one_journal : (s t u : State) (gs hs : List Given) (js ks : List Entry) → SameCommands js ks → EachLegal s gs js t → EachLegal s hs ks u → js ≡ ks
+one_journal s t u [] [] [] [] same p q = refl
+one_journal s t u (g ∷ gs) hs [] ks same p q = absurd p
+one_journal s t u [] (h ∷ hs) [] [] same p q = absurd q
+one_journal s t u [] hs [] (k ∷ ks) same p q = absurd same
+one_journal s t u [] hs (j ∷ js) ks same p q = absurd p
+one_journal s t u (g ∷ gs) hs (j ∷ js) [] same p q = absurd same
+one_journal s t u (g ∷ gs) [] (j ∷ js) (k ∷ ks) same p q = absurd q
+one_journal s t u (g ∷ gs) (h ∷ hs) (j ∷ js) (k ∷ ks) same p q =
+    let c : Command = j.command in
+    let F : Command → Type 0 = λ x. FrontOf s h x k.events q.0 in
+    let front : F c = subst F (sym same.1) q.1.front in
+    let over : due s h c (receptions k.events) ≡ Over = subst (λ x. due s h x (receptions k.events) ≡ Over) (sym same.1) q.1.over in
+    let law : AnswerLaw s h c k.events k.answer = subst (λ x. AnswerLaw s h x k.events k.answer) (sym same.1) q.1.answered in
+    let events : j.events ≡ k.events = same_events s c g h j.events k.events p.0 q.0 p.1.front front p.1.over over in
+    let answer : j.answer ≡ k.answer = same_answers s c g h j.events k.events p.0 q.0 p.1.front front p.1.over over j.answer k.answer p.1.answered law in
+    let mid : q.0 ≡ p.0 = front.after ∙ ap (state_after s c) (sym events) ∙ sym p.1.front.after in
     ap (λ e. e ∷ js) (same_entry j k same.0 same.1 events answer)
-    ∙ ap (λ es. k ∷ es) (one_journal (state_after s j.command j.events) js ks same.2 p.1 (subst (λ t. EachLegal t ks) after q.1))
+    ∙ ap (λ es. k ∷ es) (one_journal p.0 t u gs hs js ks same.2 p.2 (subst (λ x. EachLegal x hs ks u) mid q.2))
 
 -- entries of the same lines have the same commands
 same_commands : (lines : List NumberedLine) (js ks : List Entry) → AreEntriesOf lines js → AreEntriesOf lines ks → SameCommands js ks
@@ -98,4 +107,5 @@ same_commands (l ∷ ls) (j ∷ js) (k ∷ ks) p q = (p.0 ∙ sym q.0, spells_on
 
 -- The lines of a script have at most one legal journal.
 pub one_legal : (lines : List (List ℕ)) (js ks : List Entry) → Legal lines js → Legal lines ks → js ≡ ks
-one_legal lines js ks p q = one_journal first_state js ks (same_commands (asking_lines 1 lines) js ks p.numbered q.numbered) p.steps q.steps
+one_legal lines js ks p q =
+    one_journal first_state p.0 q.0 p.1.given q.1.given js ks (same_commands (asking_lines 1 lines) js ks p.1.numbered q.1.numbered) p.1.steps q.1.steps

@@ -3,18 +3,19 @@ use Rattle.std.proofs.Common.{◌≡◌, ℕ, ◌*◌, ◌<◌, List, [], ◌∷
 use Rattle.std.proofs.lemmas.List.{length-map}
 use Rattle.std.specs.List.{AllByRecursion}
 use Rattle.nfc_base.specs.declared.event.Event.{Event}
+use Rattle.nfc_base.specs.declared.event.Fate.{Fate}
 use Rattle.air_core.specs.Turn.{Air}
-use Rattle.air_core.specs.Conversation.{Over}
+use Rattle.air_core.specs.Conversation.{Over, receptions}
 use Rattle.nfca_poll.specs.Ident.{IsIdent}
 use Rattle.t4t_tag.specs.Store.{file_size}
 use Rattle.t5t_tag.specs.Store.{id_size}
 use Rattle.bench_script.specs.declared.command.Command.{Command}
-use Rattle.bench_script.specs.declared.command.Command.TheVariants.{PlaceT2, PlaceT4, PlaceT5}
+use Rattle.bench_script.specs.declared.command.Command.TheVariants.{Fates, PlaceT2, PlaceT4, PlaceT5}
 use Rattle.bench_devices.specs.declared.device.Device.{Device}
 use Rattle.bench_world.specs.declared.entry.Answer.{Answer}
 use Rattle.bench_world.specs.declared.entry.Answer.TheVariants.{Done}
 use Rattle.bench_devices.specs.Device.{device_id, new_t2, new_t4, new_t5}
-use Rattle.bench_world.specs.Legal.{State, LegalStep, IsAccepted, IsAskedBy, IsFree, MayPlaceT2, MayPlaceT4, MayPlaceT5, AnswerLaw, with_device, changed, due, memory_of, state_after}
+use Rattle.bench_world.specs.Legal.{State, Given, FrontOf, Accepts, IsAskedBy, IsFree, MayPlaceT2, MayPlaceT4, MayPlaceT5, AnswerLaw, with_device, changed, due, memory_of}
 use Rattle.bench_devices.specs.Device.{most_devices}
 use Rattle.bench_devices.specs.Phases.{Kept, kept, IsSound, IsApart, AreTame, IsTidy, AreTidy}
 use Rattle.bench_world.specs.Obeying.{state_at, Obeyed}
@@ -30,19 +31,37 @@ apart_all (e ∷ ls) d none = ((λ same. none.0 (sym same)), apart_all ls d none
 abbrev pub more_by : Air Device → Device → Air Device
 more_by a d = record { lit = a.lit; listeners = a.listeners ++ d ∷ []; fates = a.fates; trace = a.trace }
 
+-- a command that asks nothing
+abbrev pub nothing : Given
+nothing = record { asked = [] }
+
 -- a command that changes the field as it says, and sends nothing
-pub still_obeyed : (old new : Air Device) (c : Command) (answer : Answer) → IsIdle old → IsAccepted (state_at old) c → state_at new ≡ changed (state_at old) c → new.trace ≡ old.trace
-    → IsAskedBy (state_at old) c [] → due [] c [] ≡ Over → AnswerLaw (state_at old) c [] [] answer → AreTame (map kept new.listeners) → AreTidy new.listeners → Obeyed old new c answer
+pub still_obeyed : (old new : Air Device) (c : Command) (answer : Answer) → IsIdle old → Accepts (state_at old) c → state_at new ≡ changed (state_at old) c → new.trace ≡ old.trace
+    → IsAskedBy (state_at old) c [] → due (state_at old) nothing c [] ≡ Over → AnswerLaw (state_at old) nothing c [] answer → AreTame (map kept new.listeners) → AreTidy new.listeners → Obeyed old new c answer
 still_obeyed old new c answer idle accepted changes trace asks over law tame tidy =
     let st : State = state_at old in
-    let L : List Event → Type 0 = λ es. LegalStep st c es answer in
     let quiet : new.trace ≡ [] = trace ∙ idle.quiet in
-    let step : L [] = record { accepted = accepted; turns = record { moves = []; made = refl }; fates = tt; asked = []; asks = asks; each = tt; over = over; answered = law } in
-    record { step = subst L (sym quiet) step; state = changes ∙ ap (state_after st c) (sym quiet); tame = tame; tidy = tidy }
+    let F : List Event → Type 0 = λ es. FrontOf st nothing c es (state_at new) in
+    let front : F [] = record { accepted = accepted; asks = asks; turns = record { moves = []; made = refl }; fates = tt; each = tt; after = changes } in
+    record {
+      given = nothing;
+      front = subst F (sym quiet) front;
+      over = ap (λ es. due st nothing c (receptions es)) quiet ∙ over;
+      answered = subst (λ es. AnswerLaw st nothing c es answer) (sym quiet) law;
+      tame = tame;
+      tidy = tidy;
+    }
+
+-- fates were appended
+pub fates_added : (old new : Air Device) (fates : List Fate) → IsIdle old → new ≡ record { lit = old.lit; listeners = old.listeners; fates = old.fates ++ fates; trace = old.trace } → Obeyed old new (Fates fates) Done
+fates_added old new fates idle is =
+    let a : Air Device = record { lit = old.lit; listeners = old.listeners; fates = old.fates ++ fates; trace = old.trace } in
+    let O : Air Device → Type 0 = λ x. Obeyed old x (Fates fates) Done in
+    subst O (sym is) (still_obeyed old a (Fates fates) Done idle tt refl refl refl refl refl idle.tame idle.tidy)
 
 -- a command that places a device
-place_obeyed : (old : Air Device) (c : Command) (d : Device) → IsIdle old → IsAccepted (state_at old) c → changed (state_at old) c ≡ with_device (state_at old) d
-    → IsAskedBy (state_at old) c [] → due [] c [] ≡ Over → AnswerLaw (state_at old) c [] [] Done
+place_obeyed : (old : Air Device) (c : Command) (d : Device) → IsIdle old → Accepts (state_at old) c → changed (state_at old) c ≡ with_device (state_at old) d
+    → IsAskedBy (state_at old) c [] → due (state_at old) nothing c [] ≡ Over → AnswerLaw (state_at old) nothing c [] Done
     → IsSound (kept d) → IsTidy d → IsFree (state_at old) (device_id d) → Obeyed old (more_by old d) c Done
 place_obeyed old c d idle accepted changes asks over law sound tidy free =
     let T : List Kept → Type 0 = AreTame in

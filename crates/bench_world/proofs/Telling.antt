@@ -209,14 +209,14 @@ module _ (r : Result Everybody PollFault) (answer : Answer) (told : TellsFound r
   inventory_told ds cards (Err faults.NotFound) es h = absurd h
   inventory_told ds cards (Err faults.BadAnswer) es h = absurd h
 
-  find_told : (ds : List Device) (found : Result (List Picked) PollFault) (es rest : List Event) → FindEnds IsEnd ds found es rest r → FindEnds TellsFound ds found es rest answer
-  find_told ds (Ok cards) es rest h = (h.0, h.1, h.2, h.3, inventory_told ds cards h.2 rest h.4)
-  find_told ds (Err faults.Nobody) es rest h = absurd h
-  find_told ds (Err faults.Disturbed) es rest h = (h.0, told_end (Err faults.Disturbed) h.1, h.2)
-  find_told ds (Err faults.FieldLost) es rest h = (h.0, told_end (Err faults.FieldLost) h.1)
-  find_told ds (Err faults.Memory) es rest h = absurd h
-  find_told ds (Err faults.NotFound) es rest h = absurd h
-  find_told ds (Err faults.BadAnswer) es rest h = absurd h
+  find_told : (ds : List Device) (found : Result (List Picked) PollFault) (behind : List Note) (es : List Event) → FindEnds IsEnd ds found behind es r → FindEnds TellsFound ds found behind es answer
+  find_told ds (Ok cards) behind es h = (h.0, h.1, h.2, h.3, inventory_told ds cards h.2 es h.4)
+  find_told ds (Err faults.Nobody) behind es h = absurd h
+  find_told ds (Err faults.Disturbed) behind es h = (told_end (Err faults.Disturbed) h.0, h.1)
+  find_told ds (Err faults.FieldLost) behind es h = told_end (Err faults.FieldLost) h
+  find_told ds (Err faults.Memory) behind es h = absurd h
+  find_told ds (Err faults.NotFound) behind es h = absurd h
+  find_told ds (Err faults.BadAnswer) behind es h = absurd h
 
   lost_found : (x : Result Everybody PollFault) → TellsFound x answer → answer ≡ answers.FieldLost → x ≡ Err faults.FieldLost
   lost_found (Ok e) t is = absurd (let k : answers.Found (seen_all e) (is_crowd e.others) ≡ answers.FieldLost = sym t ∙ is in cc)
@@ -229,13 +229,10 @@ module _ (r : Result Everybody PollFault) (answer : Answer) (told : TellsFound r
 
   pub found_told : (ds : List Device) (es : List Event) → FindTells IsEnd ds es r → FindTells TellsFound ds es answer
   found_told ds es t = record {
-    first = t.first;
-    rest = t.rest;
-    parts = t.parts;
-    cut = t.cut;
     found = t.found;
+    behind = t.behind;
     searched = t.searched;
-    ends = find_told ds t.found t.first t.rest t.ends;
+    ends = find_told ds t.found t.behind es t.ends;
     lost = (λ is. t.lost.0 (lost_found r told is), λ some. told_end (Err faults.FieldLost) (t.lost.1 some));
   }
 
@@ -253,14 +250,14 @@ module _ (ds : List Device) (e : PollFault) where
   inventory_fault cards (Err faults.NotFound) es h = absurd h
   inventory_fault cards (Err faults.BadAnswer) es h = absurd h
 
-  find_fault : (found : Result (List Picked) PollFault) (es rest : List Event) → FindEnds IsEnd ds found es rest (Err e) → IsSearchFault e
-  find_fault (Ok cards) es rest h = inventory_fault cards h.2 rest h.4
-  find_fault (Err faults.Nobody) es rest h = absurd h
-  find_fault (Err faults.Disturbed) es rest h = inl (same_fault e faults.Disturbed h.1)
-  find_fault (Err faults.FieldLost) es rest h = inr (same_fault e faults.FieldLost h.1)
-  find_fault (Err faults.Memory) es rest h = absurd h
-  find_fault (Err faults.NotFound) es rest h = absurd h
-  find_fault (Err faults.BadAnswer) es rest h = absurd h
+  find_fault : (found : Result (List Picked) PollFault) (behind : List Note) (es : List Event) → FindEnds IsEnd ds found behind es (Err e) → IsSearchFault e
+  find_fault (Ok cards) behind es h = inventory_fault cards h.2 es h.4
+  find_fault (Err faults.Nobody) behind es h = absurd h
+  find_fault (Err faults.Disturbed) behind es h = inl (same_fault e faults.Disturbed h.0)
+  find_fault (Err faults.FieldLost) behind es h = inr (same_fault e faults.FieldLost h)
+  find_fault (Err faults.Memory) behind es h = absurd h
+  find_fault (Err faults.NotFound) behind es h = absurd h
+  find_fault (Err faults.BadAnswer) behind es h = absurd h
 
 -- so an answer tells of it
 pub may_search : (old new : Moment (World Device)) (e : PollFault) → SearchesField old new (Err e) → IsSome (poll_answer e) ⊎ (e ≡ faults.Memory)
@@ -285,7 +282,7 @@ fault_found old new faults.Nobody answer s told = absurd cc
 fault_found old new faults.Disturbed answer s told = told_once answer answers.Disturbed (sym told)
 fault_found old new faults.FieldLost answer s told = told_once answer answers.FieldLost (sym told)
 fault_found old new faults.Memory answer s told = absurd cc
-fault_found old new faults.NotFound answer s told = by_fault (find_fault old.world.listeners faults.NotFound s.tells.found s.tells.first s.tells.rest s.tells.ends)
+fault_found old new faults.NotFound answer s told = by_fault (find_fault old.world.listeners faults.NotFound s.tells.found s.tells.behind s.asked.going.events s.tells.ends)
   where
     by_fault : IsSearchFault faults.NotFound → ⊥
     by_fault (inl k) = cc

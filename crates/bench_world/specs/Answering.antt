@@ -1,12 +1,11 @@
 -- What a command answers that polls, and the cause of each answer.
-use Rattle.std.specs.Prelude.{◌≡◌, ◌↔◌, ◌<◌, List, [], ◌++◌, Option, Some, None, IsSome, ◌⊎◌, Result, Ok, Err}
+use Rattle.std.specs.Prelude.{◌≡◌, ◌↔◌, ◌<◌, List, Option, Some, None, IsSome, ◌⊎◌, Result, Ok, Err}
 use Rattle.nfc_base.specs.Signal.{Signal}
-use Rattle.nfc_base.specs.Trace.{breaks, back_of}
-use Rattle.nfc_base.specs.Trace as backs
+use Rattle.nfc_base.specs.Trace.{breaks}
 use Rattle.nfc_base.specs.declared.event.Event.{Event}
 use Rattle.nfc_base.specs.declared.tag_link.AskFault.{AskFault}
 use Rattle.nfc_base.specs.declared.tag_link.AskFault.TheVariants as asking
-use Rattle.air_core.specs.Conversation.{receptions}
+use Rattle.air_core.specs.Conversation.{Note, receptions}
 use Rattle.nfca_poll.specs.declared.fault.PollFault.{PollFault}
 use Rattle.nfca_poll.specs.declared.fault.PollFault.TheVariants as faults
 use Rattle.tag_reader.specs.declared.fault.ReadFault.{ReadFault}
@@ -23,7 +22,6 @@ use Rattle.bench_devices.specs.Answering.{HasPollCause, TellsBy}
 use Rattle.bench_world.specs.declared.entry.Answer.{Answer}
 use Rattle.bench_world.specs.declared.entry.Answer.TheVariants as answers
 use Rattle.bench_world.specs.Crowded.{seen_all, is_crowd}
-use Rattle.bench_world.specs.Reading.{TellsOf}
 
 -- The answer that tells of a fault of polling. The others never end a command of the bench.
 abbrev pub poll_answer : PollFault → Option Answer
@@ -62,23 +60,21 @@ TellsFault asking.SixBad answer = answer ≡ answers.SixBad
 TellsFault asking.Memory answer = ⊥
 TellsFault asking.Protocol answer = ⊥
 
--- What a read answers, by how selecting its tag ended and what happened since.
-abbrev pub ReadEnds : DeviceId → List Device → List Signal → Result SeenKind PollFault → List Event → Answer → Type 0
-ReadEnds id ds asked (Ok kind) es answer =
-    TellsBy kind (λ a. OfPlaced (λ d. TellsOf d a) (device_with (bytes_of id) ds)) TellsFault asked (receptions es) answer
-ReadEnds id ds asked (Err e) es answer = (es ≡ []) × (poll_answer e ≡ Some answer)
+-- What a command answers that selects a tag, by how that ended and what was heard behind it. Where all that is asked of the tag
+-- was answered, the answer tells of the device.
+abbrev pub TagEnds : (Device → Answer → Type 0) → DeviceId → List Device → List Signal → Result SeenKind PollFault → List Note → Answer → Type 0
+TagEnds Tells id ds asked (Ok kind) behind answer =
+    TellsBy kind (λ a. OfPlaced (λ d. Tells d a) (device_with (bytes_of id) ds)) TellsFault asked behind answer
+TagEnds Tells id ds asked (Err e) behind answer = poll_answer e ≡ Some answer
 
--- The law of a read, over the devices that are placed: first it selects, then it asks what it asks of the tag. No request is
--- cut from what came back of it. The field is lost exactly where a Break was used.
-pub record ReadTells (id : DeviceId) (ds : List Device) (asked : List Signal) (events : List Event) (answer : Answer) : Type 0 where
-  pub first : List Event
-  pub rest : List Event
-  pub parts : events ≡ first ++ rest
-  pub cut : back_of rest ≡ backs.Nothing
+-- The law of a command of a tag, over the devices that are placed: first it selects, then it asks what it asks of the tag. The
+-- field is lost exactly where a Break was used.
+pub record TagTells (Tells : Device → Answer → Type 0) (id : DeviceId) (ds : List Device) (asked : List Signal) (events : List Event) (answer : Answer) : Type 0 where
   pub polled : Result SeenKind PollFault
-  pub selected : selecting id (receptions first) ≡ Told polled []
-  pub cause : HasPollCause id ds polled first
-  pub ends : ReadEnds id ds asked polled rest answer
+  pub behind : List Note
+  pub selected : selecting id (receptions events) ≡ Told polled behind
+  pub cause : HasPollCause id ds polled events
+  pub ends : TagEnds Tells id ds asked polled behind answer
   pub lost : (answer ≡ answers.FieldLost) ↔ (0 < breaks events)
 
 -- What a search answers, by what it has come to. The other faults never end one on the bench.

@@ -1,7 +1,7 @@
 -- Which journals are legal for the lines of a script.
 use Rattle.std.specs.Prelude.{◌≡◌, ℕ, ◌+◌, List, [], ◌∷◌, if◌then◌else◌}
 use Rattle.bench_world.specs.declared.entry.Entry.{Entry}
-use Rattle.bench_world.specs.Legal.{EachLegal, first_state}
+use Rattle.bench_world.specs.Legal.{State, Given, EachLegal, first_state}
 use Rattle.bench_script.specs.Script.{Spells, is_skipped}
 
 -- a line with its number
@@ -26,7 +26,11 @@ abbrev pub Numbered : ℕ → List (List ℕ) → List Entry → Type 0
 Numbered n lines entries = AreEntriesOf (asking_lines n lines) entries
 
 -- The journal is one that these lines may have: an entry for each that asks for something, and each entry legal behind
--- those before it.
-pub record Legal (lines : List (List ℕ)) (journal : List Entry) : Type 0 where
+-- those before it; so it leads to this state.
+pub record LeadsTo (lines : List (List ℕ)) (journal : List Entry) (last : State) : Type 0 where
+  pub given : List Given
   pub numbered : Numbered 1 lines journal
-  pub steps : EachLegal first_state journal
+  pub steps : EachLegal first_state given journal last
+
+abbrev pub Legal : List (List ℕ) → List Entry → Type 0
+Legal lines journal = (last : State) × LeadsTo lines journal last

@@ -1,10 +1,9 @@
 -- Which entries a bench may have: what it accepts, what each command changes, which request is due, and what it
 -- answers. A later command adds a case to each definition.
-use Rattle.std.specs.Prelude.{◌≡◌, ℕ, ◌*◌, ◌-◌, ◌<◌, ◌≤◌, List, [], ◌∷◌, ◌++◌, map, length, replicate, None, IsSome, Ok, Err, false}
+use Rattle.std.specs.Prelude.{◌≡◌, ◌⊎◌, ℕ, ◌*◌, ◌-◌, ◌<◌, ◌≤◌, List, [], ◌∷◌, ◌++◌, map, length, replicate, None, IsSome, false}
 use Rattle.nfc_base.specs.declared.event.Event.{Event}
 use Rattle.nfc_base.specs.declared.event.Fate.{Fate}
 use Rattle.nfc_base.specs.Signal.{Signal}
-use Rattle.air_core.specs.World.{World}
 use Rattle.air_core.specs.Conversation.{Note, Next, Over, receptions, replay, queue_after, AreTurns, FatesFrom, EachDue}
 use Rattle.t2t_tag.specs.Store.{IsT2Store}
 use Rattle.t4t_tag.specs.Store.{IsT4Store, file_size}
@@ -16,20 +15,24 @@ use Rattle.bench_devices.specs.declared.device.Device.{Device}
 use Rattle.bench_world.specs.declared.entry.Answer.{Answer}
 use Rattle.bench_world.specs.declared.entry.Answer.TheVariants as answers
 use Rattle.bench_world.specs.declared.entry.Entry.{Entry}
-use Rattle.bench_devices.specs.Device.{air, most_devices, device_store, new_t2, new_t4, new_t5, blocks_of, device_locked, memory_in}
-use Rattle.bench_devices.specs.declared.polling.SeenKind.{SeenKind}
-use Rattle.bench_devices.specs.CardAsking.{tag_next}
+use Rattle.bench_devices.specs.Device.{BenchWorld, air, most_devices, StablePart, stable_of, new_t2, new_t4, new_t5, blocks_of, device_locked, memory_in}
+use Rattle.bench_devices.specs.TagAsking.{tag_due}
 use Rattle.bench_script.specs.DeviceIds.{bytes_of}
-use Rattle.bench_devices.specs.Polling.{Followed, Asks, Told, asks, selecting, finding_all}
+use Rattle.bench_devices.specs.Polling.{asks, finding_all}
 use Rattle.bench_devices.specs.Placed.{device_with, without, with_changed, OfPlaced, IfPlaced}
 use Rattle.bench_devices.specs.Reading.{AsksOf}
-use Rattle.bench_world.specs.Answering.{ReadTells, TellsFound}
+use Rattle.bench_world.specs.Answering.{TagTells, TellsFound}
+use Rattle.bench_world.specs.Reading.{TellsOf}
 use Rattle.bench_devices.specs.Answering.{FindTells}
 
--- what stands between two commands: the world, and the fates that are left
+-- what stands between two commands: the bench's world, and the fates that are left
 pub record State : Type 0 where
-  pub world : World Device
+  pub world : BenchWorld
   pub queue : List Fate
+
+-- What a step is said for: what its command asks of its tag.
+pub record Given : Type 0 where
+  pub asked : List Signal
 
 -- before the first command: no device, dark, and no fate
 abbrev pub first_state : State
@@ -71,18 +74,18 @@ IsPlaced s id = IsSome (device_with (bytes_of id) s.world.listeners)
 abbrev pub HasBlock : State → DeviceId → ℕ → Type 0
 HasBlock s id block = OfPlaced (λ d. block < blocks_of d) (device_with (bytes_of id) s.world.listeners)
 
--- The conditions of a command beside its grammar. Only what is placed can be taken away, or shows what it holds.
-abbrev pub IsAccepted : State → Command → Type 0
-IsAccepted s Skip = Unit {0}
-IsAccepted s (Fates fates) = Unit {0}
-IsAccepted s (PlaceT2 id blocks head) = MayPlaceT2 s id blocks head
-IsAccepted s (PlaceT4 id code container head) = MayPlaceT4 s id code container head
-IsAccepted s (PlaceT5 id blocks size head) = MayPlaceT5 s id blocks size head
-IsAccepted s (Lock id block) = HasBlock s id block
-IsAccepted s (Remove id) = IsPlaced s id
-IsAccepted s (Dump id) = IsPlaced s id
-IsAccepted s Find = Unit {0}
-IsAccepted s (Read id) = Unit {0}
+-- The conditions of a command beside its grammar, in a state. Only what is placed can be taken away, or shows what it holds.
+abbrev pub Accepts : State → Command → Type 0
+Accepts s Skip = Unit {0}
+Accepts s (Fates fates) = Unit {0}
+Accepts s (PlaceT2 id blocks head) = MayPlaceT2 s id blocks head
+Accepts s (PlaceT4 id code container head) = MayPlaceT4 s id code container head
+Accepts s (PlaceT5 id blocks size head) = MayPlaceT5 s id blocks size head
+Accepts s (Lock id block) = HasBlock s id block
+Accepts s (Remove id) = IsPlaced s id
+Accepts s (Dump id) = IsPlaced s id
+Accepts s Find = Unit {0}
+Accepts s (Read id) = Unit {0}
 
 -- the state with one more device
 abbrev pub with_device : State → Device → State
@@ -112,25 +115,19 @@ abbrev pub IsAskedBy : State → Command → List Signal → Type 0
 IsAskedBy s (Read id) asked = IfPlaced (λ d. AsksOf d asked) (asked ≡ []) (device_with (bytes_of id) s.world.listeners)
 IsAskedBy s c asked = asked ≡ []
 
--- a command that selects a tag, and then asks these commands of it, by the kind that it is seen to be of
-abbrev pub then_asks : List Signal → Followed SeenKind → Next
-then_asks asked (Asks n) = n
-then_asks asked (Told (Ok kind) ns) = tag_next kind asked ns
-then_asks asked (Told (Err e) ns) = Over
-
 -- What is due in a command, by what the reader knows. Nothing is sent but in a read and in a search.
-abbrev pub due : List Signal → Command → List Note → Next
-due asked Find ns = asks (finding_all ns)
-due asked (Read id) ns = then_asks asked (selecting id ns)
-due asked c ns = Over
+abbrev pub due : State → Given → Command → List Note → Next
+due s g Find ns = asks (finding_all ns)
+due s g (Read id) ns = tag_due id g.asked ns
+due s g c ns = Over
 
 -- what stays of the devices when the field goes dark
-abbrev pub stable : World Device → List (List ℕ)
-stable w = map device_store w.listeners
+abbrev pub stable : BenchWorld → List StablePart
+stable w = map stable_of w.listeners
 
--- A search and a read change no store.
+-- A search and a read change nothing that stays.
 pub record ReadLaw (s : State) (id : DeviceId) (asked : List Signal) (events : List Event) (answer : Answer) : Type 0 where
-  pub tells : ReadTells id s.world.listeners asked events answer
+  pub tells : TagTells TellsOf id s.world.listeners asked events answer
   pub stays : stable (replay air s.world events) ≡ stable s.world
 
 pub record FindLaw (s : State) (events : List Event) (answer : Answer) : Type 0 where
@@ -142,41 +139,45 @@ abbrev pub DumpLaw : State → DeviceId → Answer → Type 0
 DumpLaw s id answer = OfPlaced (λ d. answer ≡ answers.Store (memory_in d)) (device_with (bytes_of id) s.world.listeners)
 
 -- the law of the answers; a line that asks for nothing has none
-abbrev pub AnswerLaw : State → Command → List Signal → List Event → Answer → Type 0
-AnswerLaw s Skip asked events answer = ⊥
-AnswerLaw s (Fates fates) asked events answer = answer ≡ answers.Done
-AnswerLaw s (PlaceT2 id blocks head) asked events answer = answer ≡ answers.Done
-AnswerLaw s (PlaceT4 id code container head) asked events answer = answer ≡ answers.Done
-AnswerLaw s (PlaceT5 id blocks size head) asked events answer = answer ≡ answers.Done
-AnswerLaw s (Lock id block) asked events answer = answer ≡ answers.Done
-AnswerLaw s (Remove id) asked events answer = answer ≡ answers.Done
-AnswerLaw s (Dump id) asked events answer = DumpLaw s id answer
-AnswerLaw s Find asked events answer = FindLaw s events answer
-AnswerLaw s (Read id) asked events answer = ReadLaw s id asked events answer
+abbrev pub AnswerLaw : State → Given → Command → List Event → Answer → Type 0
+AnswerLaw s g Skip events answer = ⊥
+AnswerLaw s g (Fates fates) events answer = answer ≡ answers.Done
+AnswerLaw s g (PlaceT2 id blocks head) events answer = answer ≡ answers.Done
+AnswerLaw s g (PlaceT4 id code container head) events answer = answer ≡ answers.Done
+AnswerLaw s g (PlaceT5 id blocks size head) events answer = answer ≡ answers.Done
+AnswerLaw s g (Lock id block) events answer = answer ≡ answers.Done
+AnswerLaw s g (Remove id) events answer = answer ≡ answers.Done
+AnswerLaw s g (Dump id) events answer = DumpLaw s id answer
+AnswerLaw s g Find events answer = FindLaw s events answer
+AnswerLaw s g (Read id) events answer = ReadLaw s id g.asked events answer
 
--- From this state a command may be obeyed so.
-pub record LegalStep (s : State) (c : Command) (events : List Event) (answer : Answer) : Type 0 where
-  pub accepted : IsAccepted s c
-  pub turns : AreTurns air (changed s c).world events
-  pub fates : FatesFrom (changed s c).queue events
-  pub asked : List Signal
-  pub asks : IsAskedBy s c asked
-  pub each : EachDue (due asked c) [] events
-  pub over : due asked c (receptions events) ≡ Over
-  pub answered : AnswerLaw s c asked events answer
-
--- the state after a command, after an entry, and after a journal
+-- the state after a command and what happened in it
 abbrev pub state_after : State → Command → List Event → State
 state_after s c events = record { world = replay air (changed s c).world events; queue = queue_after (changed s c).queue events }
 
-abbrev pub state_from : State → List Entry → State
-state_from s [] = s
-state_from s (e ∷ es) = state_from (state_after s e.command e.events) es
+-- A front of a step: from this state the command is accepted, and turns were made, each due, by the first fates; they lead to that
+-- state. An entry is a front that is over and answered; a command that was cut off leaves one.
+pub record FrontOf (s : State) (g : Given) (c : Command) (events : List Event) (t : State) : Type 0 where
+  pub accepted : Accepts s c
+  pub asks : IsAskedBy s c g.asked
+  pub turns : AreTurns air (changed s c).world events
+  pub fates : FatesFrom (changed s c).queue events
+  pub each : EachDue (due s g c) [] events
+  pub after : t ≡ state_after s c events
 
-abbrev pub state_of : List Entry → State
-state_of journal = state_from first_state journal
+-- An entry leads from one state to another.
+pub record LegalStep (s : State) (g : Given) (e : Entry) (t : State) : Type 0 where
+  pub front : FrontOf s g e.command e.events t
+  pub over : due s g e.command (receptions e.events) ≡ Over
+  pub answered : AnswerLaw s g e.command e.events e.answer
 
--- each entry is legal behind those before it
-abbrev pub EachLegal : State → List Entry → Type 0
-EachLegal s [] = Unit {0}
-EachLegal s (e ∷ es) = LegalStep s e.command e.events e.answer × EachLegal (state_after s e.command e.events) es
+-- What want of memory leaves of a command: nothing was done, or there is a front of its step.
+abbrev pub CutOff : State → Command → List Event → State → Type 0
+CutOff s c cut t = ((cut ≡ []) × (t ≡ s)) ⊎ ((g : Given) × FrontOf s g c cut t)
+
+-- The entries lead from one state to another, each behind those before it, and each has what its step is said for.
+abbrev pub EachLegal : State → List Given → List Entry → State → Type 0
+EachLegal s [] [] t = t ≡ s
+EachLegal s (g ∷ gs) (e ∷ es) t = (mid : State) × LegalStep s g e mid × EachLegal mid gs es t
+EachLegal s [] (e ∷ es) t = ⊥
+EachLegal s (g ∷ gs) [] t = ⊥

@@ -3,6 +3,7 @@ pub mod Crowded
 pub mod Answering
 pub mod Legal
 pub mod Obeying
+pub mod Completing
 pub mod Journal
 pub mod SameCommands
 pub mod Report

@@ -24,14 +24,14 @@ IsAccess (hows.T5 id) size store writable = IsAreaAccess (hows.T5 id) size store
 
 -- What a read answers, by the form of the store. The other answers tell of none.
 abbrev pub Tells : How → ℕ → List ℕ → Answer → Type 0
-Tells how size store (answers.Message message writable) = IsStoreForm how store (Message message) × IsAccess how size store writable
-Tells how size store answers.NotNdef = IsStoreForm how store (Faulty container.NotNdef)
-Tells how size store answers.Version = IsStoreForm how store (Faulty container.Version)
-Tells how size store answers.NoRead = IsStoreForm how store (Faulty container.NoRead)
-Tells how size store answers.Sectors = IsStoreForm how store (Faulty container.Sectors)
-Tells how size store answers.BadSize = IsStoreForm how store (Faulty container.BadSize)
-Tells how size store answers.NoMessageTlv = IsStoreForm how store NoMessageTlv
-Tells how size store answers.BadTlv = IsStoreForm how store BadTlv
+Tells how size store (answers.Message message writable) = IsStoreForm how size store (Message message) × IsAccess how size store writable
+Tells how size store answers.NotNdef = IsStoreForm how size store (Faulty container.NotNdef)
+Tells how size store answers.Version = IsStoreForm how size store (Faulty container.Version)
+Tells how size store answers.NoRead = IsStoreForm how size store (Faulty container.NoRead)
+Tells how size store answers.Sectors = IsStoreForm how size store (Faulty container.Sectors)
+Tells how size store answers.BadSize = IsStoreForm how size store (Faulty container.BadSize)
+Tells how size store answers.NoMessageTlv = IsStoreForm how size store NoMessageTlv
+Tells how size store answers.BadTlv = IsStoreForm how size store BadTlv
 Tells how size store answer = ⊥
 
 abbrev pub TellsOf : Device → Answer → Type 0

@@ -1,13 +1,13 @@
 //! The bench: the field, and the journal of what was obeyed.
 
-ghost use Rattle.std.specs.Prelude.{◌≡◌, ◌≢◌, ◌↔◌, ◌+◌, ◌*◌, ◌≤◌, ◌<◌, ◌++◌, List, [], ◌∷◌, Bool, false, is_some, None, MatchOption, IsTrue, IfOk, OnOk, OnErr, IsErrOf, vec_len, vec_capacity, length};
+ghost use Rattle.std.specs.Prelude.{◌≡◌, ◌≢◌, ◌↔◌, ◌+◌, ◌*◌, ◌≤◌, ◌<◌, ◌++◌, List, [], ◌∷◌, Bool, true, is_some, None, MatchOption, IsTrue, IfOk, OnOk, OnErr, IsErrOf, vec_len, vec_capacity, length};
 ghost use Rattle.std.specs.List.{AllByRecursion};
 ghost use Rattle.nfc_base.specs.declared.frame.Tech.TheVariants as techs;
 ghost use Rattle.bench_devices.specs.Device.{device_tech};
-ghost use Rattle.bench_world.specs.Legal.{IsAccepted, memory_of, state_of};
+ghost use Rattle.bench_world.specs.Legal.{Accepts, memory_of};
 ghost use Rattle.bench_devices.specs.Device.{most_devices};
 ghost use Rattle.bench_devices.specs.Placed.{device_with};
-ghost use Rattle.bench_world.specs.Obeying.{Obeys, Obeyed, RefusedOnly, obey_fault_number};
+ghost use Rattle.bench_world.specs.Obeying.{Obeys, Obeyed, IsCutOff, RefusedOnly, LacksMemory, Benched, new_bench, state_at, obey_fault_number};
 ghost use Rattle.bench_devices.specs.Phases.{IsIdle};
 
 use crate::answering::{found, missed, told};
@@ -86,7 +86,7 @@ fn place_t2(
 ) -> Result<Answer, ObeyFault>
     requires { IsIdle field.old }
     ensures ok { IfOk result (λ a. Obeyed field.old field.new (Command.PlaceT2 id.now blocks head.now) a) }
-    ensures refused { IsErrOf result ObeyFault.Refused → (field.new ≡ field.old) }
+    ensures err { OnErr result (field.new ≡ field.old) }
     ensures cause { RefusedOnly result field.old (Command.PlaceT2 id.now blocks head.now) }
 {
     let size = 4 * blocks as usize;
@@ -117,7 +117,7 @@ fn place_t4(
 ) -> Result<Answer, ObeyFault>
     requires { IsIdle field.old }
     ensures ok { IfOk result (λ a. Obeyed field.old field.new (Command.PlaceT4 id.now code container.now head.now) a) }
-    ensures refused { IsErrOf result ObeyFault.Refused → (field.new ≡ field.old) }
+    ensures err { OnErr result (field.new ≡ field.old) }
     ensures cause { RefusedOnly result field.old (Command.PlaceT4 id.now code container.now head.now) }
 {
     let Some(size) = named_size(container) else {
@@ -153,7 +153,7 @@ fn place_t5(
 ) -> Result<Answer, ObeyFault>
     requires { IsIdle field.old }
     ensures ok { IfOk result (λ a. Obeyed field.old field.new (Command.PlaceT5 id blocks size head.now) a) }
-    ensures refused { IsErrOf result ObeyFault.Refused → (field.new ≡ field.old) }
+    ensures err { OnErr result (field.new ≡ field.old) }
     ensures cause { RefusedOnly result field.old (Command.PlaceT5 id blocks size head.now) }
 {
     let bytes = size as usize * blocks as usize;
@@ -176,7 +176,7 @@ fn place_t5(
 fn remove_device(field: &mut Field<Device>, id: &DeviceId) -> Result<Answer, ObeyFault>
     requires { IsIdle field.old }
     ensures ok { IfOk result (λ a. Obeyed field.old field.new (Command.Remove id.now) a) }
-    ensures refused { IsErrOf result ObeyFault.Refused → (field.new ≡ field.old) }
+    ensures err { OnErr result (field.new ≡ field.old) }
     ensures cause { RefusedOnly result field.old (Command.Remove id.now) }
 {
     let bytes = id.bytes();
@@ -192,7 +192,7 @@ fn remove_device(field: &mut Field<Device>, id: &DeviceId) -> Result<Answer, Obe
 fn lock_block(field: &mut Field<Device>, id: &DeviceId, block: u16) -> Result<Answer, ObeyFault>
     requires { IsIdle field.old }
     ensures ok { IfOk result (λ a. Obeyed field.old field.new (Command.Lock id.now block) a) }
-    ensures refused { IsErrOf result ObeyFault.Refused → (field.new ≡ field.old) }
+    ensures err { OnErr result (field.new ≡ field.old) }
     ensures cause { RefusedOnly result field.old (Command.Lock id.now block) }
 {
     let bytes = id.bytes();
@@ -230,6 +230,7 @@ fn dump_store(alloc: Global, field: &Field<Device>, id: &DeviceId) -> Result<Ans
 fn add_fates(field: &mut Field<Device>, fates: &[Fate]) -> Result<Answer, ObeyFault>
     requires { IsIdle field.old }
     ensures ok { IfOk result (λ a. Obeyed field.old field.new (Command.Fates fates.now) a) }
+    ensures err { OnErr result (field.new ≡ field.old) }
     ensures never { IsErrOf result ObeyFault.Refused → ⊥ }
 {
     match field.add_fates(fates) {
@@ -245,7 +246,8 @@ fn select_and_read(
     id: &DeviceId,
 ) -> Result<Answer, AllocError>
     requires { IsIdle field.old }
-    ensures { IfOk result (λ a. Obeyed field.old field.new (Command.Read id.now) a) }
+    ensures ok { IfOk result (λ a. Obeyed field.old field.new (Command.Read id.now) a) }
+    ensures cut { OnErr result (IsCutOff field.old field.new (Command.Read id.now)) }
 {
     match select(alloc, field, id)? {
         Selection::Place(place) => told(read(alloc, field, place)),
@@ -257,6 +259,7 @@ fn select_and_read(
 fn read_tag(alloc: Global, field: &mut Field<Device>, id: &DeviceId) -> Result<Answer, ObeyFault>
     requires { IsIdle field.old }
     ensures ok { IfOk result (λ a. Obeyed field.old field.new (Command.Read id.now) a) }
+    ensures cut { OnErr result (IsCutOff field.old field.new (Command.Read id.now)) }
     ensures never { IsErrOf result ObeyFault.Refused → ⊥ }
 {
     match select_and_read(alloc, field, id) {
@@ -268,7 +271,8 @@ fn read_tag(alloc: Global, field: &mut Field<Device>, id: &DeviceId) -> Result<A
 /// Searches for all devices, and tells which were found.
 fn search(alloc: Global, field: &mut Field<Device>) -> Result<Answer, AllocError>
     requires { IsIdle field.old }
-    ensures { IfOk result (λ a. Obeyed field.old field.new Command.Find a) }
+    ensures ok { IfOk result (λ a. Obeyed field.old field.new Command.Find a) }
+    ensures cut { OnErr result (IsCutOff field.old field.new Command.Find) }
 {
     match sweep_field(alloc, field) {
         Ok(everybody) => found(alloc, everybody),
@@ -280,6 +284,7 @@ fn search(alloc: Global, field: &mut Field<Device>) -> Result<Answer, AllocError
 fn find(alloc: Global, field: &mut Field<Device>) -> Result<Answer, ObeyFault>
     requires { IsIdle field.old }
     ensures ok { IfOk result (λ a. Obeyed field.old field.new Command.Find a) }
+    ensures cut { OnErr result (IsCutOff field.old field.new Command.Find) }
     ensures never { IsErrOf result ObeyFault.Refused → ⊥ }
 {
     match search(alloc, field) {
@@ -299,6 +304,7 @@ fn run_command(
     ensures ok { IfOk result (λ a. Obeyed field.old field.new command.now a) }
     ensures refused { IsErrOf result ObeyFault.Refused → (field.new ≡ field.old) }
     ensures cause { RefusedOnly result field.old command.now }
+    ensures cut { IsErrOf result ObeyFault.Memory → IsCutOff field.old field.new command.now }
 {
     match command {
         Command::Skip => unreachable!(),
@@ -345,13 +351,19 @@ pub struct Bench {
 
 impl Model for Bench {
     ghost use Rattle.std.specs.Prelude.{◌≡◌, false};
-    ghost use Rattle.bench_world.specs.Obeying.{Benched, IsReady};
+    ghost use Rattle.bench_devices.specs.Phases.{IsIdle};
+    ghost use Rattle.bench_world.specs.Obeying.{Benched, state_at};
 
     ghost Value = { Benched };
 
-    ghost view = { λ b. record { journal = b.journal.items; spoiled = b.spoiled } };
+    ghost view = { λ b. record {
+      journal = b.journal.items;
+      state = state_at b.field;
+      cut = b.field.trace;
+      spoiled = b.spoiled;
+    } };
 
-    ghost invariant = { λ b. b.spoiled ≡ false → IsReady b.field b.journal.items };
+    ghost invariant = { λ b. b.spoiled ≡ false → IsIdle b.field };
 }
 
 /// Adds an entry where there is room.
@@ -365,7 +377,7 @@ fn record_entry(journal: &mut Vec<Entry>, entry: Entry)
 impl Bench {
     /// A bench with no device and an empty journal.
     pub fn new(alloc: Global) -> Bench
-        ensures { result ≡ record { journal = []; spoiled = false } }
+        ensures { result ≡ new_bench }
     {
         Bench {
             alloc,
@@ -382,23 +394,34 @@ impl Bench {
         self.journal.as_slice()
     }
 
+    /// The field and the machines in it; its trace is what happened in a command that want of memory cut off.
+    pub fn field(&self) -> &Field<Device>
+        ensures state { state_at result.now ≡ self.now.state }
+        ensures cut { result.now.trace ≡ self.now.cut }
+    {
+        &self.field
+    }
+
     /// Obeys the command of a line, and adds its entry to the journal, none for a line that asks for nothing.
     pub fn obey(&mut self, line: u32, command: &Command) -> Result<(), ObeyFault>
-        ensures ok { OnOk result (Obeys self.old.journal self.new.journal line command.now) }
+        ensures ok { OnOk result (Obeys self.old self.new line command.now) }
         ensures refused { IsErrOf result ObeyFault.Refused → (self.new ≡ self.old) }
-        ensures cause { IsErrOf result ObeyFault.Refused → IsAccepted (state_of self.old.journal) command.now → ⊥ }
-        ensures err { OnErr result (self.new.journal ≡ self.old.journal) }
+        ensures cause { IsErrOf result ObeyFault.Refused → Accepts self.old.state command.now → ⊥ }
+        ensures memory { IsErrOf result ObeyFault.Memory → LacksMemory self.old self.new command.now }
+        ensures spoiled { self.old.spoiled ≡ true → IsErrOf result ObeyFault.Memory }
     {
-        if let Command::Skip = command {
-            return Ok(());
-        }
         if self.spoiled {
             return Err(ObeyFault::Memory);
         }
+        if let Command::Skip = command {
+            return Ok(());
+        }
         let Ok(copy) = command.copy(self.alloc) else {
+            self.spoiled = true;
             return Err(ObeyFault::Memory);
         };
         if self.journal.reserve(1).is_err() {
+            self.spoiled = true;
             return Err(ObeyFault::Memory);
         }
         match run_command(self.alloc, &mut self.field, command) {

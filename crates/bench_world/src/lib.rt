@@ -3,15 +3,18 @@
 //! `bench` obeys commands; `entry` is what the journal keeps of one, `answering` makes its answer of what selecting,
 //! reading and searching came to, and `report` turns an entry to text. `specs/Legal.antt` says which entries a bench may
 //! have, `specs/Journal.antt` which journals the lines of a script may have, `specs/Answering.antt` and
-//! `specs/Reading.antt` what each answer tells, `specs/Report.antt` how it is written.
+//! `specs/Reading.antt` what each answer tells, `specs/Report.antt` how it is written; `law` says when noise keeps no command
+//! from its answer.
 #![tactic(auto)]
 
 mod answering;
 mod bench;
 mod entry;
+mod law;
 mod report;
 
 pub use bench::{Bench, ObeyFault};
 pub use bench_devices::{Device, SeenKind};
 pub use entry::{Answer, Entry, Seen};
+pub use law::{finds_complete, reads_complete};
 pub use report::render;

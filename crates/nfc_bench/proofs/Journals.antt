@@ -8,17 +8,19 @@ use Rattle.bench_script.specs.declared.command.Command.{Command}
 use Rattle.bench_script.specs.declared.command.Command.TheVariants.{Skip}
 use Rattle.bench_world.specs.declared.entry.Entry.{Entry}
 use Rattle.bench_script.specs.Script.{words_of, is_skipped, SpelledBy, Spells}
-use Rattle.bench_world.specs.Legal.{State, LegalStep, EachLegal, first_state, state_from, state_after, state_of}
-use Rattle.bench_world.specs.Journal.{NumberedLine, asking_lines, AreEntriesOf, Numbered, Legal}
-use Rattle.bench_world.specs.Obeying.{Adds, Obeys}
+use Rattle.bench_world.specs.Legal.{State, Given, EachLegal, first_state}
+use Rattle.bench_world.specs.Journal.{NumberedLine, asking_lines, AreEntriesOf, Numbered, LeadsTo}
+use Rattle.bench_world.specs.Obeying.{Benched, Adds, Obeys}
 use Rattle.bench_world.specs.Report.{entry_text, report_text}
 use Rattle.nfc_bench.specs.Stops.{Follows}
 use Rattle.bench_script.proofs.Spelling.{skipped_names_none}
 
 -- each entry is legal, and so are some more
-pub each_more : (s : State) (es ds : List Entry) → EachLegal s es → EachLegal (state_from s es) ds → EachLegal s (es ++ ds)
-each_more s [] ds p q = q
-each_more s (e ∷ es) ds p q = (p.0, each_more (state_after s e.command e.events) es ds p.1 q)
+pub each_more : (s m t : State) (gs hs : List Given) (es ds : List Entry) → EachLegal s gs es m → EachLegal m hs ds t → EachLegal s (gs ++ hs) (es ++ ds) t
+each_more s m t [] hs [] ds p q = subst (λ x. EachLegal x hs ds t) p q
+each_more s m t [] hs (e ∷ es) ds p q = absurd p
+each_more s m t (g ∷ gs) hs [] ds p q = absurd p
+each_more s m t (g ∷ gs) hs (e ∷ es) ds p q = (p.0, p.1, each_more p.0 m t gs hs es ds p.2 q)
 
 -- the lines that ask for something, of two texts one after the other
 pub asking_more : (n : ℕ) (ls ks : List (List ℕ)) → asking_lines n (ls ++ ks) ≡ asking_lines n ls ++ asking_lines (n + length ls) ks
@@ -43,44 +45,48 @@ numbered_more n ls ks es ds p q =
     subst A (sym (asking_more n ls ks)) (entries_more (asking_lines n ls) (asking_lines (n + length ls) ks) es ds p q)
 
 -- one more line is obeyed
-pub legal_more : (ls : List (List ℕ)) (old new : List Entry) (l : List ℕ) (n : ℕ) → Legal ls old → Follows old new n l → n ≡ 1 + length ls → Legal (ls ++ l ∷ []) new
+pub legal_more : (ls : List (List ℕ)) (old new : Benched) (l : List ℕ) (n : ℕ) → LeadsTo ls old.journal old.state → Follows old new n l → n ≡ 1 + length ls → LeadsTo (ls ++ l ∷ []) new.journal new.state
 legal_more ls old new l n legal more at =
-    let P : List Entry → Type 0 = λ js. Legal (ls ++ l ∷ []) js in
+    let P : List Entry → Type 0 = λ js. LeadsTo (ls ++ l ∷ []) js new.state in
     let N : ℕ → Type 0 = λ m. Numbered m (l ∷ []) more.entries in
-    let it : P (old ++ more.entries) = record {
-      numbered = numbered_more 1 ls (l ∷ []) old more.entries legal.numbered (subst N at more.numbered);
-      steps = each_more first_state old more.entries legal.steps more.steps;
+    let it : P (old.journal ++ more.entries) = record {
+      given = legal.given ++ more.given;
+      numbered = numbered_more 1 ls (l ∷ []) old.journal more.entries legal.numbered (subst N at more.numbered);
+      steps = each_more first_state old.state new.state legal.given more.given old.journal more.entries legal.steps more.steps;
     } in
     subst P (sym more.added) it
 
 -- the empty journal
-pub legal_none : Legal [] []
-legal_none = record { numbered = tt; steps = tt }
+pub legal_none : LeadsTo [] [] first_state
+legal_none = record { given = []; numbered = tt; steps = refl }
 
 -- a line that asks for nothing is obeyed by doing nothing
-pub follows_skipped : (old new : List Entry) (n : ℕ) (l : List ℕ) → is_skipped l ≡ true → new ≡ old → (follows : Follows old new n l) × (follows.entries ≡ [])
-follows_skipped old new n l skipped same =
+pub follows_skipped : (old new : Benched) (n : ℕ) (l : List ℕ) → is_skipped l ≡ true → old.spoiled ≡ false → new ≡ old → (follows : Follows old new n l) × (follows.entries ≡ [])
+follows_skipped old new n l skipped sound same =
     let A : List NumberedLine → Type 0 = λ x. AreEntriesOf x [] in (
       record {
         entries = [];
-        added = same ∙ sym (append-nil old);
+        given = [];
+        added = ap (λ (b : Benched). b.journal) same ∙ sym (append-nil old.journal);
         numbered = subst A (sym (ap (λ v. if v then asking_lines (n + 1) [] else record { number = n; text = l } ∷ asking_lines (n + 1) []) skipped)) tt;
-        steps = tt;
+        steps = ap (λ (b : Benched). b.state) same;
+        sound = ap (λ (b : Benched). b.spoiled) same ∙ sound;
       },
       refl,
     )
 
 -- any other by its entry
-pub follows_entry : (old new : List Entry) (n : ℕ) (l : List ℕ) (c : Command) → is_skipped l ≡ false → Spells l c → (adds : Adds old new n c) → (follows : Follows old new n l) × (follows.entries ≡ adds.entry ∷ [])
+pub follows_entry : (old new : Benched) (n : ℕ) (l : List ℕ) (c : Command) → is_skipped l ≡ false → Spells l c → (adds : Adds old new n c) → (follows : Follows old new n l) × (follows.entries ≡ adds.entry ∷ [])
 follows_entry old new n l c asks spelled adds =
     let S : Command → Type 0 = λ x. Spells l x in
-    let T : Command → Type 0 = λ x. LegalStep (state_of old) x adds.entry.events adds.entry.answer in
     let A : List NumberedLine → Type 0 = λ x. AreEntriesOf x (adds.entry ∷ []) in (
       record {
         entries = adds.entry ∷ [];
-        added = adds.added;
+        given = adds.given ∷ [];
+        added = ap (λ (b : Benched). b.journal) adds.is;
         numbered = subst A (sym (ap (λ v. if v then asking_lines (n + 1) [] else record { number = n; text = l } ∷ asking_lines (n + 1) []) asks)) (adds.numbered, subst S (sym adds.asked) spelled, tt);
-        steps = (subst T (sym adds.asked) adds.legal, tt);
+        steps = (adds.state, adds.legal, ap (λ (b : Benched). b.state) adds.is);
+        sound = ap (λ (b : Benched). b.spoiled) adds.is ∙ adds.sound;
       },
       refl,
     )
@@ -95,7 +101,7 @@ asks_something l Skip spelled other = absurd (other refl)
 asks_something l c spelled other = not_skipped l c spelled (is_skipped l) refl
 
 -- what obeying adds, where it asks for something
-pub adds_of : (old new : List Entry) (n : ℕ) (c : Command) → Obeys old new n c → (c ≡ Skip → ⊥) → Adds old new n c
+pub adds_of : (old new : Benched) (n : ℕ) (c : Command) → Obeys old new n c → (c ≡ Skip → ⊥) → Adds old new n c
 adds_of old new n Skip p other = absurd (other refl)
 adds_of old new n c p other = p
 

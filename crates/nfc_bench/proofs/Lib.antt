@@ -4,3 +4,4 @@ pub mod ScriptText
 pub mod Journals
 pub mod Progress
 pub mod Endings
+pub mod Forms

@@ -1,5 +1,5 @@
 -- The lines of a text are obeyed one by one.
-use Rattle.std.proofs.Common.{◌≡◌, ℕ, suc, ◌+◌, ◌<◌, ◌≤◌, ◌⊎◌, List, [], ◌∷◌, ◌++◌, length, get_or, take, drop, map, Bool, Option, Some, refl, sym, ◌∙◌, ap, subst, append_assoc, arith, inl, inr}
+use Rattle.std.proofs.Common.{◌≡◌, ℕ, suc, ◌+◌, ◌<◌, ◌≤◌, ◌⊎◌, List, [], ◌∷◌, ◌++◌, length, get_or, take, drop, map, Bool, false, Option, Some, refl, sym, ◌∙◌, ap, subst, append_assoc, arith, inl, inr}
 use Rattle.std.specs.List.{AllByRecursion}
 use Rattle.std.proofs.lemmas.List.{append-nil, length-append}
 use Rattle.std.proofs.Math.ListN.{drop_of_length-le}
@@ -12,36 +12,54 @@ use Rattle.nfc_bench.specs.declared.top.input.Ending.TheVariants.{End, Fault, En
 use Rattle.nfc_bench.specs.declared.top.lines.Stop.{Stop}
 use Rattle.nfc_bench.specs.declared.top.lines.Stop.TheVariants.{Refused, ReadFault, WriteFault, Memory}
 use Rattle.nfc_io.specs.Lines.{lines_of, whole_lines, CutsLine, NoLf, joined}
-use Rattle.bench_world.specs.Journal.{Legal}
+use Rattle.bench_world.specs.Journal.{LeadsTo}
+use Rattle.bench_world.specs.Legal.{State, first_state}
+use Rattle.bench_world.specs.Obeying.{Benched, new_bench}
+use Rattle.std.specs.Prelude.{Result, Ok, Err, OnOk, IfErr}
 use Rattle.bench_script.specs.Limits.{most_lines, longest_line, AreWithinLimits}
 use Rattle.bench_world.specs.Report.{entry_text}
-use Rattle.nfc_bench.specs.Run.{AreObeyed, FrontIsObeyed}
-use Rattle.nfc_bench.specs.Stops.{Parted, ReadIs, RestIs, IsUnfinished, IsTooMuch, AreLeft, MayFollow, Follows, LineDone, LineRefused, LineCut, LineLost, LineStops, Progress, TextDone, TextRefused, TextUnread, TextUnwritten, TextLost, TextStops}
+use Rattle.nfc_bench.specs.Run.{AreObeyed, FrontIsObeyed, IsTaken, Leaves}
+use Rattle.nfc_bench.specs.Stops.{Parted, ReadIs, RestIs, IsUnfinished, IsTooMuch, AreLeft, MayFollow, Follows, LineDone, LineRefused, LineCut, LineLost, LineStops, ObeyedBy, LeavesUnless, Progress, TextDone, TextRefused, TextUnread, TextUnwritten, TextLost, TextStops}
 use Rattle.nfc_io.proofs.Lines.{lines_front, whole_front, whole_last, lines_last, lines_longer, some_line, GoesOn}
 use Rattle.nfc_bench.proofs.Limits.{limits_more, no_limits, all_by_recursion, length_sizes, not_full}
 use Rattle.bench_world.proofs.OneJournal.{one_legal}
 use Rattle.nfc_bench.proofs.Journals.{legal_more, legal_none, written_more, written_none}
 
 -- a legal journal of some lines is the only one of them
-is_obeyed : (lines : List (List ℕ)) (journal : List Entry) → Legal lines journal → AreWithinLimits lines → AreObeyed lines journal
-is_obeyed lines journal legal limits = record { legal = legal; only = λ other is. one_legal lines other journal is legal; limits = limits }
+is_obeyed : (lines : List (List ℕ)) (journal : List Entry) (last : State) → LeadsTo lines journal last → AreWithinLimits lines → AreObeyed lines journal
+is_obeyed lines journal last leads limits = record { legal = (last, leads); only = λ other is. one_legal lines other journal is (last, leads); limits = limits }
 
 pub obeyed_none : AreObeyed [] []
-obeyed_none = is_obeyed [] [] legal_none no_limits
+obeyed_none = is_obeyed [] [] first_state legal_none no_limits
+
+-- where lines lead a bench to its state, it obeyed them
+obeyed_by : (lines : List (List ℕ)) (b : Benched) → LeadsTo lines b.journal b.state → AreWithinLimits lines → b.spoiled ≡ false → ObeyedBy lines b
+obeyed_by lines b leads limits sound = record {
+  obeyed = record { legal = (b.state, leads); only = λ other is. one_legal lines other b.journal is (b.state, leads); limits = limits };
+  machines = refl;
+  sound = sound;
+}
+
+-- and the other way
+pub leads_to : (lines : List (List ℕ)) (b : Benched) → ObeyedBy lines b → LeadsTo lines b.journal b.state
+leads_to lines b o = subst (LeadsTo lines b.journal) o.machines o.obeyed.legal.1
+
+pub leaves_by : (lines : List (List ℕ)) (b : Benched) → ObeyedBy lines b → Leaves b
+leaves_by lines b o = let leads = leads_to lines b o in record { given = leads.given; steps = leads.steps; sound = o.sound }
 
 -- one more line is obeyed
-pub obeyed_more : (ls : List (List ℕ)) (old new : List Entry) (l : List ℕ) (n : ℕ) → AreObeyed ls old → Follows old new n l → n ≡ 1 + length ls → n ≤ most_lines → length l ≤ longest_line → AreObeyed (ls ++ l ∷ []) new
+pub obeyed_more : (ls : List (List ℕ)) (old new : Benched) (l : List ℕ) (n : ℕ) → ObeyedBy ls old → Follows old new n l → n ≡ 1 + length ls → n ≤ most_lines → length l ≤ longest_line → ObeyedBy (ls ++ l ∷ []) new
 obeyed_more ls old new l n obeyed follows at few fits =
-    is_obeyed (ls ++ l ∷ []) new (legal_more ls old new l n obeyed.legal follows at) (limits_more ls l obeyed.limits (omega arith) fits)
+    obeyed_by (ls ++ l ∷ []) new (legal_more ls old new l n (leads_to ls old obeyed) follows at) (limits_more ls l obeyed.obeyed.limits (omega arith) fits) follows.sound
 
-pub progress_start : (quiet : Bool) (text : List ℕ) (j : List Entry) (t : Option (List ℕ)) → j ≡ [] → Progress quiet text text j 1 t t
-progress_start quiet text j t none =
-    let P : List Entry → Type 0 = λ js. Progress quiet text text js 1 t t in
-    let it : P [] = record {
+pub progress_start : (quiet : Bool) (text : List ℕ) (b : Benched) (t : Option (List ℕ)) → b ≡ new_bench → Progress quiet text text b 1 t t
+progress_start quiet text b t none =
+    let P : Benched → Type 0 = λ x. Progress quiet text text x 1 t t in
+    let it : P new_bench = record {
       done = [];
       lines = λ more. refl;
       whole = refl;
-      obeyed = obeyed_none;
+      obeyed = obeyed_by [] new_bench legal_none no_limits refl;
       number = refl;
       written = written_none quiet t;
     } in
@@ -145,7 +163,7 @@ pub cut_before : (rest first left more : List ℕ) → CutsLine rest first (Some
 cut_before rest first left more cut = ap (λ x. x ++ more) cut.0 ∙ append_assoc first (10 ∷ left) more
 
 -- one more line is done
-pub progress_more : (quiet : Bool) (text rest first left : List ℕ) (j new : List Entry) (n : ℕ) (t t1 t2 : Option (List ℕ))
+pub progress_more : (quiet : Bool) (text rest first left : List ℕ) (j new : Benched) (n : ℕ) (t t1 t2 : Option (List ℕ))
     → Progress quiet text rest j n t t1 → CutsLine rest first (Some left) → length first ≤ longest_line → n ≤ most_lines → LineDone quiet j new n first t1 t2 → Progress quiet text left new (n + 1) t t2
 progress_more quiet text rest first left j new n t t1 t2 p cut fits few line =
     let number : n ≡ 1 + length p.done = p.number in
@@ -155,7 +173,7 @@ progress_more quiet text rest first left j new n t t1 t2 p cut fits few line =
       whole = p.whole ∙ ap (λ x. p.done ++ whole_lines x) cut.0 ∙ ap (λ x. p.done ++ x) (whole_front first left cut.1) ∙ sym (append_assoc p.done (first ∷ []) (whole_lines left));
       obeyed = obeyed_more p.done j new first n p.obeyed line.follows p.number few fits;
       number = omega (arith, length-append p.done (first ∷ []));
-      written = written_more quiet t t1 t2 j new line.follows.entries p.written line.written line.follows.added;
+      written = written_more quiet t t1 t2 j.journal new.journal line.follows.entries p.written line.written line.follows.added;
     }
 
 -- the line that is next, whatever follows
@@ -166,8 +184,8 @@ next_line rest more some (b ∷ front) behind parts none =
     subst P (sym (ap (λ x. x ++ more) parts ∙ append_assoc (b ∷ front) behind more)) (lines_longer (b ∷ front) (behind ++ more) none (omega arith))
 
 -- a line is refused for its number or its length
-pub refused_by_size : (quiet : Bool) (text rest : List ℕ) (ending : Ending) (j : List Entry) (n : ℕ) (t t' : Option (List ℕ)) (lines : ℕ)
-    → Progress quiet text rest j n t t' → n ≡ 1 + lines → IsTooMuch lines rest → TextRefused quiet text ending j n t t'
+pub refused_by_size : (quiet : Bool) (text rest : List ℕ) (ending : Ending) (j : Benched) (n : ℕ) (t t' : Option (List ℕ)) (lines : ℕ)
+    → Progress quiet text rest j n t t' → n ≡ 1 + lines → IsTooMuch lines rest → TextRefused quiet text ending j.journal n t t'
 refused_by_size quiet text rest ending j n t t' lines p at much = elim much.why [
   | inl many ↦ record {
     first = λ more follows.
@@ -177,7 +195,7 @@ refused_by_size quiet text rest ending j n t t' lines p at much = elim much.why 
           line = next.line;
           after = next.rest;
           parts = p.lines more ∙ ap (λ x. p.done ++ x) next.parts;
-          obeyed = p.obeyed;
+          obeyed = p.obeyed.obeyed;
           number = p.number;
           refused = inl (omega arith);
         };
@@ -193,7 +211,7 @@ refused_by_size quiet text rest ending j n t t' lines p at much = elim much.why 
           line = next.line;
           after = next.rest;
           parts = p.lines more ∙ ap (λ x. p.done ++ x) next.parts;
-          obeyed = p.obeyed;
+          obeyed = p.obeyed.obeyed;
           number = p.number;
           refused = inr (inl (omega arith));
         };
@@ -214,22 +232,22 @@ is_next_by_end rest ending none some end more follows =
     ([], ap (λ x. lines_of (rest ++ x)) (follows end) ∙ ap lines_of (append-nil rest) ∙ lines_last rest none some)
 
 -- the line before was obeyed too
-pub front_with : (quiet : Bool) (text rest first : List ℕ) (ending : Ending) (j new : List Entry) (n : ℕ) (t t1 : Option (List ℕ))
+pub front_with : (quiet : Bool) (text rest first : List ℕ) (ending : Ending) (j new : Benched) (n : ℕ) (t t1 : Option (List ℕ))
     → Progress quiet text rest j n t t1 → IsNext rest first ending → length first ≤ longest_line → n ≤ most_lines → Follows j new n first
-    → (more : List ℕ) → MayFollow ending more → FrontIsObeyed (lines_of (text ++ more)) new
+    → (more : List ℕ) → MayFollow ending more → FrontIsObeyed (lines_of (text ++ more)) new.journal
 front_with quiet text rest first ending j new n t t1 p next fits few line more follows =
     let at = next more follows in
     record {
       front = p.done ++ first ∷ [];
       rest = at.0;
       parts = p.lines more ∙ ap (λ x. p.done ++ x) at.1 ∙ sym (append_assoc p.done (first ∷ []) at.0);
-      obeyed = obeyed_more p.done j new first n p.obeyed line p.number few fits;
+      obeyed = (obeyed_more p.done j new first n p.obeyed line p.number few fits).obeyed;
     }
 
-pub refused_line : (quiet : Bool) (text rest first : List ℕ) (ending : Ending) (j new : List Entry) (n m : ℕ) (t t1 t2 : Option (List ℕ))
-    → Progress quiet text rest j n t t1 → IsNext rest first ending → LineRefused j new n m first t1 t2 → TextRefused quiet text ending new m t t2
+pub refused_line : (quiet : Bool) (text rest first : List ℕ) (ending : Ending) (j new : Benched) (n m : ℕ) (t t1 t2 : Option (List ℕ))
+    → Progress quiet text rest j n t t1 → IsNext rest first ending → LineRefused j new n m first t1 t2 → TextRefused quiet text ending new.journal m t t2
 refused_line quiet text rest first ending j new n m t t1 t2 p next s =
-    let P : List Entry → Type 0 = λ js. TextRefused quiet text ending js m t t2 in
+    let P : Benched → Type 0 = λ x. TextRefused quiet text ending x.journal m t t2 in
     let it : P j = record {
       first = λ more follows.
           let at = next more follows in
@@ -238,68 +256,68 @@ refused_line quiet text rest first ending j new n m t t1 t2 p next s =
             line = first;
             after = at.0;
             parts = p.lines more ∙ ap (λ x. p.done ++ x) at.1;
-            obeyed = p.obeyed;
+            obeyed = p.obeyed.obeyed;
             number = s.number ∙ p.number;
-            refused = inr (inr s.refused);
+            refused = inr (inr (subst (λ x. IsTaken x first → ⊥) (sym p.obeyed.machines) s.refused));
           };
       written = s.same ∙ p.written;
     } in
-    subst P (sym s.journal) it
+    subst P (sym s.stays) it
 
-pub written_line : (quiet : Bool) (text rest first : List ℕ) (ending : Ending) (j new : List Entry) (n : ℕ) (t t1 t2 : Option (List ℕ)) (w w1 w2 : ℕ)
-    → Progress quiet text rest j n t t1 → IsNext rest first ending → length first ≤ longest_line → n ≤ most_lines → w ≤ w1 → LineCut quiet j new n first t1 t2 w1 w2 → TextUnwritten quiet text ending new t t2 w w2
+pub written_line : (quiet : Bool) (text rest first : List ℕ) (ending : Ending) (j new : Benched) (n : ℕ) (t t1 t2 : Option (List ℕ)) (w w1 w2 : ℕ)
+    → Progress quiet text rest j n t t1 → IsNext rest first ending → length first ≤ longest_line → n ≤ most_lines → w ≤ w1 → LineCut quiet j new n first t1 t2 w1 w2 → TextUnwritten quiet text ending new.journal t t2 w w2
 written_line quiet text rest first ending j new n t t1 t2 w w1 w2 p next fits few count s =
     let G : Option (List ℕ) → Type 0 = λ o. GainsFront o t2 (entry_text quiet s.entry) in
     record {
       risen = rises_at_last w w1 w2 count s.risen;
       front = front_with quiet text rest first ending j new n t t1 p next fits few s.follows;
-      before = j;
+      before = j.journal;
       last = s.entry;
-      entries = s.follows.added ∙ ap (λ es. j ++ es) s.one;
+      entries = s.follows.added ∙ ap (λ es. j.journal ++ es) s.one;
       written = subst G p.written s.written;
     }
 
-pub lost_line : (quiet : Bool) (text rest first : List ℕ) (ending : Ending) (j new : List Entry) (n : ℕ) (t t1 t2 : Option (List ℕ))
-    → Progress quiet text rest j n t t1 → IsNext rest first ending → length first ≤ longest_line → n ≤ most_lines → LineLost j new n first t1 t2 → TextLost quiet text ending new t t2
+pub lost_line : (quiet : Bool) (text rest first : List ℕ) (ending : Ending) (j new : Benched) (n : ℕ) (t t1 t2 : Option (List ℕ))
+    → Progress quiet text rest j n t t1 → IsNext rest first ending → length first ≤ longest_line → n ≤ most_lines → LineLost j new n first t1 t2 → TextLost quiet text ending new.journal t t2
 lost_line quiet text rest first ending j new n t t1 t2 p next fits few s =
-    let L : List ℕ → Type 0 = λ more. MayFollow ending more → FrontIsObeyed (lines_of (text ++ more)) new in
+    let L : List ℕ → Type 0 = λ more. MayFollow ending more → FrontIsObeyed (lines_of (text ++ more)) new.journal in
     let O : List Entry → Type 0 = λ js. AreObeyed p.done js in
     record {
       front = λ more. elim s.journal as (λ _. L more) [
-        | inl same ↦ λ follows. record { front = p.done; rest = lines_of (rest ++ more); parts = p.lines more; obeyed = subst O (sym same) p.obeyed }
+        | inl same ↦ λ follows. record { front = p.done; rest = lines_of (rest ++ more); parts = p.lines more; obeyed = subst O (sym same) p.obeyed.obeyed }
         | inr made ↦ front_with quiet text rest first ending j new n t t1 p next fits few made.0 more
       ];
       most = record {
-        entries = j;
-        most = elim s.journal as (λ _. (new ≡ j) ⊎ ((e : Entry) × (new ≡ j ++ e ∷ []))) [ inl same ↦ inl same | inr made ↦ inr (made.1, made.0.added ∙ ap (λ es. j ++ es) made.2) ];
+        entries = j.journal;
+        most = elim s.journal as (λ _. (new.journal ≡ j.journal) ⊎ ((e : Entry) × (new.journal ≡ j.journal ++ e ∷ []))) [ inl same ↦ inl same | inr made ↦ inr (made.1, made.0.added ∙ ap (λ es. j.journal ++ es) made.2) ];
         written = s.same ∙ p.written;
       };
     }
 
 -- a line that was tried ended the run
-pub line_stops : (quiet : Bool) (text rest first : List ℕ) (ending : Ending) (j new : List Entry) (n : ℕ) (t t1 t2 : Option (List ℕ)) (w w1 w2 : ℕ) (stop : Stop)
-    → Progress quiet text rest j n t t1 → IsNext rest first ending → length first ≤ longest_line → n ≤ most_lines → w ≤ w1 → LineStops quiet j new n first t1 t2 w1 w2 stop → TextStops quiet text ending new t t2 w w2 stop
+pub line_stops : (quiet : Bool) (text rest first : List ℕ) (ending : Ending) (j new : Benched) (n : ℕ) (t t1 t2 : Option (List ℕ)) (w w1 w2 : ℕ) (stop : Stop)
+    → Progress quiet text rest j n t t1 → IsNext rest first ending → length first ≤ longest_line → n ≤ most_lines → w ≤ w1 → LineStops quiet j new n first t1 t2 w1 w2 stop → TextStops quiet text ending new.journal t t2 w w2 stop
 line_stops quiet text rest first ending j new n t t1 t2 w w1 w2 ReadFault p next fits few count s = absurd s
 line_stops quiet text rest first ending j new n t t1 t2 w w1 w2 (Refused m) p next fits few count s = refused_line quiet text rest first ending j new n m t t1 t2 p next s
 line_stops quiet text rest first ending j new n t t1 t2 w w1 w2 WriteFault p next fits few count s = written_line quiet text rest first ending j new n t t1 t2 w w1 w2 p next fits few count s
 line_stops quiet text rest first ending j new n t t1 t2 w w1 w2 Memory p next fits few count s = lost_line quiet text rest first ending j new n t t1 t2 p next fits few s
 
-pub done_at_last : (quiet : Bool) (text rest : List ℕ) (ending : Ending) (j new : List Entry) (n : ℕ) (t t1 t2 : Option (List ℕ))
-    → Progress quiet text rest j n t t1 → NoLf rest → 0 < length rest → length rest ≤ longest_line → n ≤ most_lines → ending ≡ End → LineDone quiet j new n rest t1 t2 → TextDone quiet text ending new t t2
+pub done_at_last : (quiet : Bool) (text rest : List ℕ) (ending : Ending) (j new : Benched) (n : ℕ) (t t1 t2 : Option (List ℕ))
+    → Progress quiet text rest j n t t1 → NoLf rest → 0 < length rest → length rest ≤ longest_line → n ≤ most_lines → ending ≡ End → LineDone quiet j new n rest t1 t2 → TextDone quiet text ending new.journal t t2
 done_at_last quiet text rest ending j new n t t1 t2 p none some fits few end line =
-    let L : List (List ℕ) → Type 0 = λ ls. AreObeyed ls new in
+    let L : List (List ℕ) → Type 0 = λ ls. AreObeyed ls new.journal in
     let all : lines_of text ≡ p.done ++ rest ∷ [] =
     ap lines_of (sym (append-nil text)) ∙ p.lines [] ∙ ap (λ x. p.done ++ lines_of x) (append-nil rest) ∙ ap (λ x. p.done ++ x) (lines_last rest none some) in
     record {
       ended = end;
-      obeyed = subst L (sym all) (obeyed_more p.done j new rest n p.obeyed line.follows p.number few fits);
-      written = written_more quiet t t1 t2 j new line.follows.entries p.written line.written line.follows.added;
+      obeyed = subst L (sym all) (obeyed_more p.done j new rest n p.obeyed line.follows p.number few fits).obeyed;
+      written = written_more quiet t t1 t2 j.journal new.journal line.follows.entries p.written line.written line.follows.added;
     }
 
-pub reading_stops : (quiet : Bool) (text rest : List ℕ) (ending : Ending) (j : List Entry) (n : ℕ) (t t' : Option (List ℕ)) → Progress quiet text rest j n t t' → NoLf rest → ending ≡ Fault → TextUnread quiet text ending j t t'
+pub reading_stops : (quiet : Bool) (text rest : List ℕ) (ending : Ending) (j : Benched) (n : ℕ) (t t' : Option (List ℕ)) → Progress quiet text rest j n t t' → NoLf rest → ending ≡ Fault → TextUnread quiet text ending j.journal t t'
 reading_stops quiet text rest ending j n t t' p none fault =
-    let L : List (List ℕ) → Type 0 = λ ls. AreObeyed ls j in
-    record { fault = fault; obeyed = subst L (sym (p.whole ∙ ap (λ x. p.done ++ x) (whole_last rest none) ∙ append-nil p.done)) p.obeyed; written = p.written }
+    let L : List (List ℕ) → Type 0 = λ ls. AreObeyed ls j.journal in
+    record { fault = fault; obeyed = subst L (sym (p.whole ∙ ap (λ x. p.done ++ x) (whole_last rest none) ∙ append-nil p.done)) p.obeyed.obeyed; written = p.written }
 
 -- what is left behind the last whole line, by the ending
 pub unfinished_at : (ending : Ending) (n : ℕ) (rest : List ℕ) → RestIs ending n rest → (ending ≡ End) ⊎ (ending ≡ Fault) → IsUnfinished n rest
@@ -319,3 +337,12 @@ few_left ending obeyed text lengths a = let few : obeyed + length a.lines ≤ mo
 
 pub room_for : (n : ℕ) (rest : List ℕ) → IsUnfinished n rest → 0 < length rest → n ≤ most_lines → n < most_lines
 room_for n rest u some few = not_full n (length rest) few u.full some
+
+-- A line was tried: where memory isn't wanting, the machines are in the state that the journal leaves.
+pub line_leaves : (quiet : Bool) (done : List (List ℕ)) (old new : Benched) (n : ℕ) (l : List ℕ) (t t' : Option (List ℕ)) (w w' : ℕ) (r : Result (Unit {0}) Stop)
+    → ObeyedBy done old → n ≡ 1 + length done → n ≤ most_lines → length l ≤ longest_line → OnOk r (LineDone quiet old new n l t t') → IfErr r (λ s. LineStops quiet old new n l t t' w w' s) → LeavesUnless r new
+line_leaves quiet done old new n l t t' w w' (Ok x) o at few fits line err fed = leaves_by (done ++ l ∷ []) new (obeyed_more done old new l n o line.follows at few fits)
+line_leaves quiet done old new n l t t' w w' (Err (Refused m)) o at few fits ok s fed = subst Leaves (sym s.stays) (leaves_by done old o)
+line_leaves quiet done old new n l t t' w w' (Err ReadFault) o at few fits ok s fed = absurd s
+line_leaves quiet done old new n l t t' w w' (Err WriteFault) o at few fits ok s fed = leaves_by (done ++ l ∷ []) new (obeyed_more done old new l n o s.follows at few fits)
+line_leaves quiet done old new n l t t' w w' (Err Memory) o at few fits ok s fed = absurd (fed refl)

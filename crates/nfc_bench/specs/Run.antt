@@ -1,6 +1,8 @@
 -- What a run does, by the status that it ends with.
-use Rattle.std.specs.Prelude.{◌≡◌, ℕ, ◌+◌, ◌<◌, ◌≤◌, ◌⊎◌, List, [], ◌∷◌, ◌++◌, length, codes, Bool, ◌==◌, Option, Some, IfSome}
+use Rattle.std.specs.Prelude.{◌≡◌, ℕ, ◌+◌, ◌<◌, ◌≤◌, ◌⊎◌, List, [], ◌∷◌, ◌++◌, length, codes, Bool, true, false, Option, Some, IfSome}
 use Rattle.std.specs.Fmt.{decimal}
+use Rattle.nfc_io.specs.declared.source.Source as sources
+use Rattle.nfc_io.specs.declared.sink.Sink as sinks
 use Rattle.nfc_io.specs.Counts.{HasRisen}
 use Rattle.nfc_io.specs.Moves.{with_front, with_end, GainsFront}
 use Rattle.bench_script.specs.declared.command.Command.{Command}
@@ -9,17 +11,30 @@ use Rattle.bench_script.specs.Script.{Spells}
 use Rattle.nfc_io.specs.Lines.{lines_of, whole_lines}
 use Rattle.bench_script.specs.Limits.{most_lines, longest_line, AreWithinLimits}
 use Rattle.nfc_bench.specs.Limits.{chunk_size}
-use Rattle.bench_world.specs.Legal.{IsAccepted, state_of}
+use Rattle.bench_world.specs.Legal.{State, Given, Accepts, EachLegal, first_state}
+use Rattle.bench_world.specs.Obeying.{Benched}
 use Rattle.bench_world.specs.Journal.{Legal}
 use Rattle.bench_world.specs.Report.{entry_text, report_text}
 
--- the words of a run
-abbrev pub IsRun : List (List ℕ) → Type 0
-IsRun words = (words ≡ codes "run" ∷ []) ⊎ (words ≡ codes "run" ∷ codes "quiet" ∷ [])
+-- the forms of words: a run, which reports answers alone or events too
+pub data Form : Type 0 where
+  Run : Bool → Form
 
--- a run with a second word reports answers alone
-abbrev pub is_quiet : List (List ℕ) → Bool
-is_quiet words = length words == 2
+-- these words are of this form
+abbrev pub FormOf : List (List ℕ) → Form → Type 0
+FormOf words (Run false) = words ≡ codes "run" ∷ []
+FormOf words (Run true) = words ≡ codes "run" ∷ codes "quiet" ∷ []
+
+-- What a run sees: what the source has left and the sink has taken, where they tell it, how often each failed, and the bench.
+pub record Seen : Type 0 where
+  pub left : Option (List ℕ)
+  pub taken : Option (List ℕ)
+  pub reads : ℕ
+  pub writes : ℕ
+  pub bench : Benched
+
+abbrev pub sees : {S K : Type 0} → sources.Ghosts S → sinks.Ghosts K → S → K → Benched → Seen
+sees s k source sink bench = record { left = s.left source; taken = k.taken sink; reads = s.faults source; writes = k.faults sink; bench = bench }
 
 -- the fault lines
 abbrev pub words_fault : List ℕ
@@ -47,13 +62,19 @@ pub record FrontIsObeyed (lines : List (List ℕ)) (journal : List Entry) : Type
   pub parts : lines ≡ front ++ rest
   pub obeyed : AreObeyed front journal
 
--- behind this journal, a line spells a command that is accepted
-abbrev pub IsTaken : List Entry → List ℕ → Type 0
-IsTaken journal line = (c : Command) × Spells line c × IsAccepted (state_of journal) c
+-- The machines are in the state that the journal leaves.
+pub record Leaves (b : Benched) : Type 0 where
+  pub given : List Given
+  pub steps : EachLegal first_state given b.journal b.state
+  pub sound : b.spoiled ≡ false
 
--- Line n is refused behind this journal: for its number, for its length, or as it stands.
-abbrev pub IsRefused : List Entry → ℕ → List ℕ → Type 0
-IsRefused journal n line = (most_lines < n) ⊎ ((longest_line < length line) ⊎ (IsTaken journal line → ⊥))
+-- in this state, a line spells a command that is accepted
+abbrev pub IsTaken : State → List ℕ → Type 0
+IsTaken s line = (c : Command) × Spells line c × Accepts s c
+
+-- Line n is refused in this state: for its number, for its length, or as it stands.
+abbrev pub IsRefused : State → ℕ → List ℕ → Type 0
+IsRefused s n line = (most_lines < n) ⊎ ((longest_line < length line) ⊎ (IsTaken s line → ⊥))
 
 -- Line n is the first of these lines that is refused. The lines before it were obeyed, and this is their journal.
 pub record FirstRefused (lines : List (List ℕ)) (journal : List Entry) (n : ℕ) : Type 0 where
@@ -63,12 +84,12 @@ pub record FirstRefused (lines : List (List ℕ)) (journal : List Entry) (n : �
   pub parts : lines ≡ before ++ line ∷ after
   pub obeyed : AreObeyed before journal
   pub number : n ≡ 1 + length before
-  pub refused : IsRefused journal n line
+  pub refused : IsRefused obeyed.legal.0 n line
 
--- The lines are within the limits, and where the lines before one of them have this journal, it is taken behind that.
+-- The lines are within the limits, and where the lines before one of them have this journal, it is taken in the state behind that.
 pub record AllTaken (lines : List (List ℕ)) (journal : List Entry) : Type 0 where
   pub limits : AreWithinLimits lines
-  pub taken : (before : List (List ℕ)) (line : List ℕ) (after : List (List ℕ)) → lines ≡ before ++ line ∷ after → Legal before journal → IsTaken journal line
+  pub taken : (before : List (List ℕ)) (line : List ℕ) (after : List (List ℕ)) → lines ≡ before ++ line ∷ after → (legal : Legal before journal) → IsTaken legal.0 line
 
 -- Which lines count. There is an input; it is the source's, where the source tells its bytes.
 
@@ -133,6 +154,31 @@ pub record EndsMemory (quiet : Bool) (left taken taken' : Option (List ℕ)) (wr
   pub entries : List Entry
   pub most : (journal ≡ entries) ⊎ ((last : Entry) × (journal ≡ entries ++ last ∷ []))
   pub written : AddsFault (report_text quiet entries) memory_fault taken taken' writes writes'
+
+-- How a run of a form ends, by its status: from what it saw at first to what it saw at last.
+abbrev pub HasStatus : Form → ℕ → Type 0
+HasStatus (Run quiet) n = (n ≡ 0) ⊎ ((2 ≤ n) × (n ≤ 5))
+
+abbrev pub Done : Form → Seen → Seen → Type 0
+Done (Run quiet) old new = EndsDone quiet old.left new.left old.taken new.taken new.bench.journal
+
+abbrev pub RefusesOne : Form → Seen → Seen → Type 0
+RefusesOne (Run quiet) old new = EndsRefused quiet old.left old.taken new.taken old.writes new.writes new.bench.journal
+
+abbrev pub FailsToRead : Form → Seen → Seen → Type 0
+FailsToRead (Run quiet) old new = EndsUnread quiet old.left new.left old.taken new.taken old.reads new.reads old.writes new.writes new.bench.journal
+
+abbrev pub FailsToWrite : Form → Seen → Seen → Type 0
+FailsToWrite (Run quiet) old new = EndsUnwritten quiet old.left old.taken new.taken old.writes new.writes new.bench.journal
+
+abbrev pub WantsMemory : Form → Seen → Seen → Type 0
+WantsMemory (Run quiet) old new = EndsMemory quiet old.left old.taken new.taken old.writes new.writes new.bench.journal
+
+-- Where every line is taken and neither count rose, memory alone may be wanting.
+abbrev pub Completes : Form → Seen → Seen → ℕ → Type 0
+Completes (Run quiet) old new n =
+    (bytes : List ℕ) → old.left ≡ Some bytes → AllTaken (lines_of bytes) new.bench.journal → (HasRisen old.reads new.reads → ⊥)
+    → (HasRisen old.writes new.writes → ⊥) → (n ≡ 0) ⊎ (n ≡ 5)
 
 -- So much was read: some bytes in which no line is refused for its number or its length, and behind them at most those
 -- of one call.

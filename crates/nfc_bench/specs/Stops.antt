@@ -1,5 +1,5 @@
 -- Why the parts of a run stop.
-use Rattle.std.specs.Prelude.{◌≡◌, ℕ, ◌+◌, ◌<◌, ◌≤◌, ◌⊎◌, List, [], ◌∷◌, ◌++◌, map, length, Bool, Option, IfSome}
+use Rattle.std.specs.Prelude.{◌≡◌, ℕ, ◌+◌, ◌<◌, ◌≤◌, ◌⊎◌, List, [], ◌∷◌, ◌++◌, map, length, codes, ◌==◌, Bool, false, Option, IfSome, Result, Err}
 use Rattle.std.specs.List.{AllByRecursion}
 use Rattle.nfc_io.specs.Counts.{HasRisen}
 use Rattle.nfc_io.specs.Moves.{with_end, GainsFront}
@@ -10,10 +10,18 @@ use Rattle.nfc_bench.specs.declared.top.lines.Stop.{Stop}
 use Rattle.nfc_bench.specs.declared.top.lines.Stop.TheVariants.{Refused, ReadFault, WriteFault, Memory}
 use Rattle.nfc_io.specs.Lines.{lines_of, whole_lines, NoLf, joined}
 use Rattle.bench_script.specs.Limits.{most_lines, longest_line, AreWithinLimits}
-use Rattle.bench_world.specs.Legal.{EachLegal, state_of}
+use Rattle.bench_world.specs.Legal.{Given, EachLegal}
+use Rattle.bench_world.specs.Obeying.{Benched}
 use Rattle.bench_world.specs.Journal.{Numbered}
 use Rattle.bench_world.specs.Report.{entry_text, report_text}
-use Rattle.nfc_bench.specs.Run.{IsTaken, AreObeyed, FrontIsObeyed, FirstRefused, ObeysFront, RefusesLine, ObeysWhole, EndsUnwritten}
+use Rattle.nfc_bench.specs.Run.{Leaves, IsTaken, AreObeyed, FrontIsObeyed, FirstRefused, ObeysFront, RefusesLine, ObeysWhole, EndsUnwritten}
+
+-- the words of a run, and whether a second one follows
+abbrev pub IsRun : List (List ℕ) → Type 0
+IsRun words = (words ≡ codes "run" ∷ []) ⊎ (words ≡ codes "run" ∷ codes "quiet" ∷ [])
+
+abbrev pub is_quiet : List (List ℕ) → Bool
+is_quiet words = length words == 2
 
 -- A text is whole lines of these lengths, within the limits, and a rest.
 pub record Parted (text lengths rest : List ℕ) : Type 0 where
@@ -71,57 +79,69 @@ ReadingEnds left' Enough reads reads' = Unit {0}
 abbrev pub MayFollow : Ending → List ℕ → Type 0
 MayFollow ending more = ending ≡ End → more ≡ []
 
--- A line was obeyed: the journal gained its entry, if it asks for something.
-pub record Follows (old new : List Entry) (n : ℕ) (l : List ℕ) : Type 0 where
+-- A line was obeyed: the journal gained its entry, if it asks for something, and the machines are in the state behind that.
+pub record Follows (old new : Benched) (n : ℕ) (l : List ℕ) : Type 0 where
   pub entries : List Entry
-  pub added : new ≡ old ++ entries
+  pub given : List Given
+  pub added : new.journal ≡ old.journal ++ entries
   pub numbered : Numbered n (l ∷ []) entries
-  pub steps : EachLegal (state_of old) entries
+  pub steps : EachLegal old.state given entries new.state
+  pub sound : new.spoiled ≡ false
 
 -- A line was obeyed, and its entry written, if it has one.
-pub record LineDone (quiet : Bool) (old new : List Entry) (n : ℕ) (l : List ℕ) (taken taken' : Option (List ℕ)) : Type 0 where
+pub record LineDone (quiet : Bool) (old new : Benched) (n : ℕ) (l : List ℕ) (taken taken' : Option (List ℕ)) : Type 0 where
   pub follows : Follows old new n l
   pub written : taken' ≡ with_end taken (report_text quiet follows.entries)
 
 -- It was refused, and nothing was done.
-pub record LineRefused (old new : List Entry) (n m : ℕ) (l : List ℕ) (taken taken' : Option (List ℕ)) : Type 0 where
+pub record LineRefused (old new : Benched) (n m : ℕ) (l : List ℕ) (taken taken' : Option (List ℕ)) : Type 0 where
   pub number : m ≡ n
-  pub journal : new ≡ old
+  pub stays : new ≡ old
   pub same : taken' ≡ taken
-  pub refused : IsTaken old l → ⊥
+  pub refused : IsTaken old.state l → ⊥
 
 -- It was obeyed, and a front of its entry was written.
-pub record LineCut (quiet : Bool) (old new : List Entry) (n : ℕ) (l : List ℕ) (taken taken' : Option (List ℕ)) (writes writes' : ℕ) : Type 0 where
+pub record LineCut (quiet : Bool) (old new : Benched) (n : ℕ) (l : List ℕ) (taken taken' : Option (List ℕ)) (writes writes' : ℕ) : Type 0 where
   pub follows : Follows old new n l
   pub entry : Entry
   pub one : follows.entries ≡ entry ∷ []
   pub written : GainsFront taken taken' (entry_text quiet entry)
   pub risen : HasRisen writes writes'
 
--- Memory was wanting: it was obeyed, or nothing was done; and nothing was written.
-pub record LineLost (old new : List Entry) (n : ℕ) (l : List ℕ) (taken taken' : Option (List ℕ)) : Type 0 where
-  pub journal : (new ≡ old) ⊎ ((follows : Follows old new n l) × (entry : Entry) × (follows.entries ≡ entry ∷ []))
+-- Memory was wanting: it was obeyed, or the journal stays; and nothing was written.
+pub record LineLost (old new : Benched) (n : ℕ) (l : List ℕ) (taken taken' : Option (List ℕ)) : Type 0 where
+  pub journal : (new.journal ≡ old.journal) ⊎ ((follows : Follows old new n l) × (entry : Entry) × (follows.entries ≡ entry ∷ []))
   pub same : taken' ≡ taken
 
 -- why a line ended the run
-abbrev pub LineStops : Bool → List Entry → List Entry → ℕ → List ℕ → Option (List ℕ) → Option (List ℕ) → ℕ → ℕ → Stop → Type 0
+abbrev pub LineStops : Bool → Benched → Benched → ℕ → List ℕ → Option (List ℕ) → Option (List ℕ) → ℕ → ℕ → Stop → Type 0
 LineStops quiet old new n l t t' w w' (Refused m) = LineRefused old new n m l t t'
 LineStops quiet old new n l t t' w w' ReadFault = ⊥
 LineStops quiet old new n l t t' w w' WriteFault = LineCut quiet old new n l t t' w w'
 LineStops quiet old new n l t t' w w' Memory = LineLost old new n l t t'
+
+-- These lines were obeyed by a bench, whose machines are in the state that its journal leaves.
+pub record ObeyedBy (lines : List (List ℕ)) (b : Benched) : Type 0 where
+  pub obeyed : AreObeyed lines b.journal
+  pub machines : obeyed.legal.0 ≡ b.state
+  pub sound : b.spoiled ≡ false
+
+-- a run that isn't short of memory leaves the machines so
+abbrev pub LeavesUnless : Result (Unit {0}) Stop → Benched → Type 0
+LeavesUnless r b = (r ≡ Err Memory → ⊥) → Leaves b
 
 -- the text of the last entry
 abbrev pub IsLastText : Bool → List Entry → List ℕ → Type 0
 IsLastText quiet journal text = (js : List Entry) (e : Entry) → journal ≡ js ++ e ∷ [] → text ≡ entry_text quiet e
 
 -- The lines of a text are obeyed up to its rest, and their entries written; the next line has this number.
-pub record Progress (quiet : Bool) (text rest : List ℕ) (journal : List Entry) (n : ℕ) (taken taken' : Option (List ℕ)) : Type 0 where
+pub record Progress (quiet : Bool) (text rest : List ℕ) (bench : Benched) (n : ℕ) (taken taken' : Option (List ℕ)) : Type 0 where
   pub done : List (List ℕ)
   pub lines : (more : List ℕ) → lines_of (text ++ more) ≡ done ++ lines_of (rest ++ more)
   pub whole : whole_lines text ≡ done ++ whole_lines rest
-  pub obeyed : AreObeyed done journal
+  pub obeyed : ObeyedBy done bench
   pub number : n ≡ 1 + length done
-  pub written : taken' ≡ with_end taken (report_text quiet journal)
+  pub written : taken' ≡ with_end taken (report_text quiet bench.journal)
 
 -- Behind so many lines that are obeyed, whole lines of these lengths are left, and a rest by the ending.
 pub record AreLeft (ending : Ending) (obeyed : ℕ) (text lengths : List ℕ) : Type 0 where

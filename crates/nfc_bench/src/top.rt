@@ -5,8 +5,9 @@ ghost use Rattle.std.specs.Fmt.{decimal};
 ghost use Rattle.nfc_io.specs.Counts.{HasRisen};
 ghost use Rattle.nfc_io.specs.Lines.{lines_of};
 ghost use Rattle.nfc_bench.specs.Limits.{most_read};
-ghost use Rattle.nfc_bench.specs.Run.{IsRun, is_quiet, words_fault, line_fault, AllTaken, AddsFault, EndsDone, EndsRefused, EndsUnread, EndsUnwritten, EndsMemory, ReadsInTime, ReadsAtMost};
-ghost use Rattle.nfc_bench.specs.Stops.{RunStops};
+ghost use Rattle.nfc_bench.specs.Run.{Form, FormOf, HasStatus, Done, RefusesOne, FailsToRead, FailsToWrite, WantsMemory, Completes, sees, words_fault, line_fault, AllTaken, AddsFault, Leaves, EndsDone, EndsRefused, EndsUnread, EndsUnwritten, EndsMemory, ReadsInTime, ReadsAtMost};
+ghost use Rattle.nfc_bench.specs.Stops.{IsRun, is_quiet, RunStops, LeavesUnless};
+ghost use Rattle.bench_world.specs.Obeying.{new_bench};
 
 #[cfg(test)]
 mod card_tests;
@@ -39,30 +40,35 @@ pub fn run_bench<S: Source, K: Sink>(
     sink: &mut K,
     bench: &mut Bench,
 ) -> u8
-    requires { bench.old ≡ record { journal = []; spoiled = false } }
-    ensures status { (result ≡ 0) ⊎ ((2 ≤ result) × (result ≤ 6)) }
+    requires { bench.old ≡ new_bench }
+    ensures status { (f : Form) → FormOf (map string_bytes words.now) f → HasStatus f result }
 
-    ensures done { result ≡ 0 → EndsDone (is_quiet (map string_bytes words.now)) (S.left source.old)
-        (S.left source.new) (K.taken sink.old) (K.taken sink.new) bench.new.journal }
+    ensures done { (f : Form) → FormOf (map string_bytes words.now) f → result ≡ 0
+        → Done f (sees S.Source K.Sink source.old sink.old bench.old) (sees S.Source K.Sink source.new
+        sink.new bench.new) }
     ensures still { result ≡ 0 → (S.faults source.new ≡ S.faults source.old) × (K.faults sink.new ≡ K.faults sink.old) }
-    ensures refused { result ≡ 2 → EndsRefused (is_quiet (map string_bytes words.now)) (S.left source.old)
-        (K.taken sink.old) (K.taken sink.new) (K.faults sink.old) (K.faults sink.new) bench.new.journal }
-    ensures unread { result ≡ 3 → EndsUnread (is_quiet (map string_bytes words.now)) (S.left source.old)
-        (S.left source.new) (K.taken sink.old) (K.taken sink.new) (S.faults source.old) (S.faults source.new)
-        (K.faults sink.old) (K.faults sink.new) bench.new.journal }
-    ensures unwritten { result ≡ 4 → EndsUnwritten (is_quiet (map string_bytes words.now)) (S.left source.old)
-        (K.taken sink.old) (K.taken sink.new) (K.faults sink.old) (K.faults sink.new) bench.new.journal }
-    ensures memory { result ≡ 5 → EndsMemory (is_quiet (map string_bytes words.now)) (S.left source.old)
-        (K.taken sink.old) (K.taken sink.new) (K.faults sink.old) (K.faults sink.new) bench.new.journal }
-    ensures words { (result ≡ 6) ↔ (IsRun (map string_bytes words.now) → ⊥) }
+    ensures refused { (f : Form) → FormOf (map string_bytes words.now) f → result ≡ 2
+        → RefusesOne f (sees S.Source K.Sink source.old sink.old bench.old) (sees S.Source K.Sink source.new
+        sink.new bench.new) }
+    ensures unread { (f : Form) → FormOf (map string_bytes words.now) f → result ≡ 3
+        → FailsToRead f (sees S.Source K.Sink source.old sink.old bench.old) (sees S.Source K.Sink source.new
+        sink.new bench.new) }
+    ensures unwritten { (f : Form) → FormOf (map string_bytes words.now) f → result ≡ 4
+        → FailsToWrite f (sees S.Source K.Sink source.old sink.old bench.old) (sees S.Source K.Sink source.new
+        sink.new bench.new) }
+    ensures memory { (f : Form) → FormOf (map string_bytes words.now) f → result ≡ 5
+        → WantsMemory f (sees S.Source K.Sink source.old sink.old bench.old) (sees S.Source K.Sink source.new
+        sink.new bench.new) }
+    ensures words { (result ≡ 6) ↔ ((f : Form) → FormOf (map string_bytes words.now) f → ⊥) }
     ensures same { result ≡ 6 → (source.new ≡ source.old) × (bench.new ≡ bench.old) }
     ensures told { result ≡ 6 → AddsFault [] words_fault (K.taken sink.old) (K.taken sink.new) (K.faults sink.old)
         (K.faults sink.new) }
+    ensures complete { (f : Form) → FormOf (map string_bytes words.now) f
+        → Completes f (sees S.Source K.Sink source.old sink.old bench.old) (sees S.Source K.Sink source.new
+        sink.new bench.new) result }
 
-    // Where every line is taken and neither count rose, memory alone may be wanting.
-    ensures complete { IsRun (map string_bytes words.now) → (bytes : List ℕ) → S.left source.old ≡ Some bytes
-        → AllTaken (lines_of bytes) bench.new.journal → (HasRisen (S.faults source.old) (S.faults source.new) → ⊥)
-        → (HasRisen (K.faults sink.old) (K.faults sink.new) → ⊥) → (result ≡ 0) ⊎ (result ≡ 5) }
+    // Unless memory was wanting, the machines are in the state that the journal leaves.
+    ensures machines { (result ≡ 5 → ⊥) → Leaves bench.new }
 
     ensures stop { ReadsInTime (S.left source.old) (S.left source.new) }
     ensures bound { ReadsAtMost most_read (S.left source.old) (S.left source.new) }
@@ -73,6 +79,43 @@ pub fn run_bench<S: Source, K: Sink>(
         write_fault(sink, b"fault 6 words\n");
         return 6;
     };
+    run_form(alloc, quiet, source, sink, bench)
+}
+
+/// A run over a script, that reports answers alone or events too.
+fn run_form<S: Source, K: Sink>(
+    alloc: Global,
+    quiet: bool,
+    source: &mut S,
+    sink: &mut K,
+    bench: &mut Bench,
+) -> u8
+    requires { bench.old ≡ new_bench }
+    ensures status { (result ≡ 0) ⊎ ((2 ≤ result) × (result ≤ 5)) }
+
+    ensures done { result ≡ 0 → EndsDone quiet (S.left source.old)
+        (S.left source.new) (K.taken sink.old) (K.taken sink.new) bench.new.journal }
+    ensures still { result ≡ 0 → (S.faults source.new ≡ S.faults source.old) × (K.faults sink.new ≡ K.faults sink.old) }
+    ensures refused { result ≡ 2 → EndsRefused quiet (S.left source.old)
+        (K.taken sink.old) (K.taken sink.new) (K.faults sink.old) (K.faults sink.new) bench.new.journal }
+    ensures unread { result ≡ 3 → EndsUnread quiet (S.left source.old)
+        (S.left source.new) (K.taken sink.old) (K.taken sink.new) (S.faults source.old) (S.faults source.new)
+        (K.faults sink.old) (K.faults sink.new) bench.new.journal }
+    ensures unwritten { result ≡ 4 → EndsUnwritten quiet (S.left source.old)
+        (K.taken sink.old) (K.taken sink.new) (K.faults sink.old) (K.faults sink.new) bench.new.journal }
+    ensures memory { result ≡ 5 → EndsMemory quiet (S.left source.old)
+        (K.taken sink.old) (K.taken sink.new) (K.faults sink.old) (K.faults sink.new) bench.new.journal }
+    ensures complete { (bytes : List ℕ) → S.left source.old ≡ Some bytes
+        → AllTaken (lines_of bytes) bench.new.journal → (HasRisen (S.faults source.old) (S.faults source.new) → ⊥)
+        → (HasRisen (K.faults sink.old) (K.faults sink.new) → ⊥) → (result ≡ 0) ⊎ (result ≡ 5) }
+
+    ensures machines { (result ≡ 5 → ⊥) → Leaves bench.new }
+
+    ensures stop { ReadsInTime (S.left source.old) (S.left source.new) }
+    ensures bound { ReadsAtMost most_read (S.left source.old) (S.left source.new) }
+    ensures reads { S.faults source.old ≤ S.faults source.new }
+    ensures writes { K.faults sink.old ≤ K.faults sink.new }
+{
     match run_script(alloc, quiet, source, sink, bench) {
         Ok(()) => 0,
         Err(Stop::Refused(n)) => {
@@ -112,7 +155,7 @@ fn run_script<S: Source, K: Sink>(
     sink: &mut K,
     bench: &mut Bench,
 ) -> Result<(), Stop>
-    requires { bench.old.journal ≡ [] }
+    requires { bench.old ≡ new_bench }
     ensures ok { OnOk result (EndsDone quiet (S.left source.old) (S.left source.new) (K.taken sink.old)
         (K.taken sink.new) bench.new.journal) }
     ensures still { OnOk result ((S.faults source.new ≡ S.faults source.old)
@@ -120,6 +163,7 @@ fn run_script<S: Source, K: Sink>(
     ensures err { IfErr result
         (λ s. RunStops quiet (S.left source.old) (S.left source.new) (K.taken sink.old) (K.taken sink.new)
         (S.faults source.old) (S.faults source.new) (K.faults sink.old) (K.faults sink.new) bench.new.journal s) }
+    ensures machines { LeavesUnless result bench.new }
     ensures stop { ReadsInTime (S.left source.old) (S.left source.new) }
     ensures bound { ReadsAtMost most_read (S.left source.old) (S.left source.new) }
     ensures reads { S.faults source.old ≤ S.faults source.new }

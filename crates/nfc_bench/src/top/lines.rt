@@ -1,7 +1,8 @@
 //! Obeying the lines of a script.
 
 ghost use Rattle.std.specs.Prelude.{◌≡◌, ◌<◌, ◌≤◌, [], length, OnOk, IfOk, IfErr};
-ghost use Rattle.nfc_bench.specs.Stops.{IsLastText, ReadIs, LineDone, LineStops, TextDone, TextStops};
+ghost use Rattle.nfc_bench.specs.Stops.{IsLastText, ReadIs, LineDone, LineStops, TextDone, TextStops, LeavesUnless};
+ghost use Rattle.bench_world.specs.Obeying.{new_bench};
 
 use super::input::{Ending, Script};
 use bench_script::{Command, LineFault, parse_line};
@@ -36,10 +37,10 @@ fn obey_line<K: Sink>(
     sink: &mut K,
     bench: &mut Bench,
 ) -> Result<(), Stop>
-    ensures ok { OnOk result (LineDone quiet bench.old.journal bench.new.journal line text.now (K.taken sink.old)
+    ensures ok { OnOk result (LineDone quiet bench.old bench.new line text.now (K.taken sink.old)
         (K.taken sink.new)) }
     ensures err { IfErr result
-        (λ s. LineStops quiet bench.old.journal bench.new.journal line text.now (K.taken sink.old) (K.taken sink.new)
+        (λ s. LineStops quiet bench.old bench.new line text.now (K.taken sink.old) (K.taken sink.new)
         (K.faults sink.old) (K.faults sink.new) s) }
     ensures still { OnOk result (K.faults sink.new ≡ K.faults sink.old) }
     ensures count { K.faults sink.old ≤ K.faults sink.new }
@@ -74,13 +75,14 @@ pub fn obey_lines<K: Sink>(
     sink: &mut K,
     bench: &mut Bench,
 ) -> Result<(), Stop>
-    requires empty { bench.old.journal ≡ [] }
+    requires empty { bench.old ≡ new_bench }
     requires lines { ReadIs script.now.text.items script.now.lengths.items script.now.ending }
     ensures ok { OnOk result (TextDone quiet script.now.text.items script.now.ending bench.new.journal
         (K.taken sink.old) (K.taken sink.new)) }
     ensures err { IfErr result
         (λ s. TextStops quiet script.now.text.items script.now.ending bench.new.journal (K.taken sink.old)
         (K.taken sink.new) (K.faults sink.old) (K.faults sink.new) s) }
+    ensures machines { LeavesUnless result bench.new }
     ensures still { OnOk result (K.faults sink.new ≡ K.faults sink.old) }
     ensures count { K.faults sink.old ≤ K.faults sink.new }
 {

@@ -1,5 +1,5 @@
 use Rattle.bench_devices.specs.Linking.{seen_plain}
-use Rattle.bench_devices.proofs.ReadingEnds.{new_ready, new_is_tag, ends_read}
+use Rattle.bench_devices.proofs.ReadingEnds.{new_ready, new_is_tag, ends_read, ends_cut}
 use Rattle.bench_devices.proofs.reading.read_by.Goals as goal
 
 pub read-requires-clause-ready : goal.read-requires-clause-ready
@@ -15,3 +15,8 @@ returns-clause-tells c =
     let tag = new_is_tag (seen_plain c.args.link.now) c.requires.fresh c.args.how c.requires.tag in
     ends_read (seen_plain c.args.link.now) c.requires.fresh c.args.how c.requires.tag (seen_plain c.read.new.link) c.read.ensures.moves c.read.result (c.read.ensures.asked tag.0 tag.1)
     (c.read.ensures.whole tag.0 tag.1) (c.read.ensures.goes_on tag.0 tag.1) (c.read.ensures.ok tag.0 tag.1) (c.read.ensures.err tag.0 tag.1)
+
+pub returns-clause-cut : goal.returns-clause-cut
+returns-clause-cut c =
+    let tag = new_is_tag (seen_plain c.args.link.now) c.requires.fresh c.args.how c.requires.tag in
+    ends_cut (seen_plain c.args.link.now) c.requires.fresh c.args.how c.requires.tag (seen_plain c.read.new.link) c.read.ensures.moves c.read.result (c.read.ensures.asked tag.0 tag.1)

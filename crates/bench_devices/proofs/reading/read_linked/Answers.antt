@@ -1,6 +1,6 @@
 use Rattle.isodep_link.specs.IsoLinks.{seen_link}
 use Rattle.bench_devices.specs.Device.{size_of}
-use Rattle.bench_devices.proofs.CardReadingLinks.{new_ready, new_tag, ends_read}
+use Rattle.bench_devices.proofs.CardReadingLinks.{new_ready, new_tag, ends_read, cut_read}
 use Rattle.bench_devices.proofs.reading.read_linked.Goals as goal
 
 pub read-requires-clause-ready : goal.read-requires-clause-ready
@@ -17,3 +17,8 @@ returns-clause-tells c fed d linked =
     ends_read (seen_link c.args.link.now) c.requires.fresh d linked (seen_link c.read.new.link) c.read.ensures.moves c.read.result (c.read.ensures.stays (size_of d) tag).store
     (c.read.ensures.asked (size_of d) tag) (c.read.ensures.whole (size_of d) tag) (c.read.ensures.goes_on (size_of d) tag) (c.read.ensures.ok (size_of d) tag)
     (c.read.ensures.err (size_of d) tag) fed
+
+pub returns-clause-cut : goal.returns-clause-cut
+returns-clause-cut c starved d linked =
+    let tag = new_tag (seen_link c.args.link.now) c.requires.fresh d linked in
+    cut_read (seen_link c.args.link.now) c.requires.fresh d linked (seen_link c.read.new.link) c.read.ensures.moves (c.read.ensures.stays (size_of d) tag).store (c.read.ensures.asked (size_of d) tag)

@@ -1,52 +1,33 @@
-use Rattle.std.proofs.Common.{ℕ, List, Bool, Option, refl, ◌∙◌, subst}
-use Rattle.nfc_bench.specs.declared.top.lines.Stop.{Stop}
-use Rattle.nfc_bench.specs.declared.top.lines.Stop.TheVariants.{Refused, ReadFault}
-use Rattle.nfc_bench.specs.Run.{EndsRefused, EndsUnread}
-use Rattle.nfc_bench.specs.Stops.{RunStops}
+use Rattle.std.proofs.Common.{refl, string_bytes, map}
+use Rattle.nfc_bench.specs.Run.{HasStatus, Done, RefusesOne, FailsToRead, FailsToWrite, WantsMemory, Completes, sees}
 use Rattle.nfc_bench.proofs.ScriptText.{stops_at_once}
-use Rattle.nfc_bench.proofs.Endings.{ends_refused, ends_unread, taken_not_refused}
+use Rattle.nfc_bench.proofs.Forms.{by_form, some_form, not_six}
 use Rattle.nfc_bench.proofs.top.run_bench.Goals as goal
 
 pub returns-in_default-clause-stop : goal.returns-in_default-clause-stop
 returns-in_default-clause-stop g c = stops_at_once (g.S.Source.left c.args.source.now) (g.S.Source.left c.args.source.now) refl
 
-pub returns-in-Err-Refused-clause-refused : goal.returns-in-Err-Refused-clause-refused
-returns-in-Err-Refused-clause-refused g c = λ _.
-    let left : Option (List ℕ) = g.S.Source.left c.args.source.now in
-    let t : Option (List ℕ) = g.K.Sink.taken c.args.sink.now in
-    let t1 : Option (List ℕ) = g.K.Sink.taken c.run_script.new.sink in
-    let w : ℕ = g.K.Sink.faults c.args.sink.now in
-    let w1 : ℕ = g.K.Sink.faults c.run_script.new.sink in
-    let P : Stop → Type 0 = λ s. RunStops c.in-Some.quiet left (g.S.Source.left c.run_script.new.source) t t1 (g.S.Source.faults c.args.source.now) (g.S.Source.faults c.run_script.new.source) w w1 c.run_script.new.bench.journal s in
-    let s : P (Refused c.in-Err-Refused.n) = subst P c.in-Err-Refused.field-0-is c.in-Err-Refused.ensures.err in
-    let Q : Bool → Type 0 = λ q. EndsRefused q left t (g.K.Sink.taken c.write_fault-in-Err-Refused.new.sink) w (g.K.Sink.faults c.write_fault-in-Err-Refused.new.sink) c.run_script.new.bench.journal in
-    subst Q c.in-Some.ensures.some.1 (ends_refused c.in-Some.quiet left t t1 (g.K.Sink.taken c.write_fault-in-Err-Refused.new.sink) w w1 (g.K.Sink.faults c.write_fault-in-Err-Refused.new.sink) c.run_script.new.bench.journal c.in-Err-Refused.n c.deref.result.now
-    s (c.deref.ensures.0 ∙ c.refusal.ensures) c.run_script.ensures.writes c.write_fault-in-Err-Refused.ensures.told)
+pub returns-clause-status : goal.returns-clause-status
+returns-clause-status g c = by_form (map string_bytes c.args.words.now) c.in-Some.quiet c.in-Some.ensures.some.1 (λ f. HasStatus f c.run_form.result) c.run_form.ensures.status
 
-pub returns-in-Err-Refused-clause-complete : goal.returns-in-Err-Refused-clause-complete
-returns-in-Err-Refused-clause-complete g c = λ words bytes told all reads writes.
-    let left : Option (List ℕ) = g.S.Source.left c.args.source.now in
-    let t : Option (List ℕ) = g.K.Sink.taken c.args.sink.now in
-    let t1 : Option (List ℕ) = g.K.Sink.taken c.run_script.new.sink in
-    let w : ℕ = g.K.Sink.faults c.args.sink.now in
-    let w1 : ℕ = g.K.Sink.faults c.run_script.new.sink in
-    let P : Stop → Type 0 = λ s. RunStops c.in-Some.quiet left (g.S.Source.left c.run_script.new.source) t t1 (g.S.Source.faults c.args.source.now) (g.S.Source.faults c.run_script.new.source) w w1 c.run_script.new.bench.journal s in
-    let s : P (Refused c.in-Err-Refused.n) = subst P c.in-Err-Refused.field-0-is c.in-Err-Refused.ensures.err in
-    absurd (taken_not_refused left bytes c.run_script.new.bench.journal c.in-Err-Refused.n told all s.lines)
+pub returns-clause-done : goal.returns-clause-done
+returns-clause-done g c = λ f w e. by_form (map string_bytes c.args.words.now) c.in-Some.quiet c.in-Some.ensures.some.1 (λ x. Done x (sees g.S.Source g.K.Sink c.args.source.now c.args.sink.now c.args.bench.now) (sees g.S.Source g.K.Sink c.run_form.new.source c.run_form.new.sink c.run_form.new.bench)) (c.run_form.ensures.done e) f w
 
-pub returns-in-Err-ReadFault-clause-unread : goal.returns-in-Err-ReadFault-clause-unread
-returns-in-Err-ReadFault-clause-unread g c = λ _.
-    let left : Option (List ℕ) = g.S.Source.left c.args.source.now in
-    let left' : Option (List ℕ) = g.S.Source.left c.run_script.new.source in
-    let t : Option (List ℕ) = g.K.Sink.taken c.args.sink.now in
-    let t1 : Option (List ℕ) = g.K.Sink.taken c.run_script.new.sink in
-    let t2 : Option (List ℕ) = g.K.Sink.taken c.write_fault-in-Err-ReadFault.new.sink in
-    let w : ℕ = g.K.Sink.faults c.args.sink.now in
-    let w1 : ℕ = g.K.Sink.faults c.run_script.new.sink in
-    let w2 : ℕ = g.K.Sink.faults c.write_fault-in-Err-ReadFault.new.sink in
-    let r : ℕ = g.S.Source.faults c.args.source.now in
-    let r' : ℕ = g.S.Source.faults c.run_script.new.source in
-    let P : Stop → Type 0 = λ s. RunStops c.in-Some.quiet left left' t t1 r r' w w1 c.run_script.new.bench.journal s in
-    let s : P ReadFault = subst P c.in-Err-ReadFault.field-0-is c.in-Err-ReadFault.ensures.err in
-    let Q : Bool → Type 0 = λ q. EndsUnread q left left' t t2 r r' w w2 c.run_script.new.bench.journal in
-    subst Q c.in-Some.ensures.some.1 (ends_unread c.in-Some.quiet left left' t t1 t2 r r' w w1 w2 c.run_script.new.bench.journal s c.run_script.ensures.writes c.write_fault-in-Err-ReadFault.ensures.told)
+pub returns-clause-refused : goal.returns-clause-refused
+returns-clause-refused g c = λ f w e. by_form (map string_bytes c.args.words.now) c.in-Some.quiet c.in-Some.ensures.some.1 (λ x. RefusesOne x (sees g.S.Source g.K.Sink c.args.source.now c.args.sink.now c.args.bench.now) (sees g.S.Source g.K.Sink c.run_form.new.source c.run_form.new.sink c.run_form.new.bench)) (c.run_form.ensures.refused e) f w
+
+pub returns-clause-unread : goal.returns-clause-unread
+returns-clause-unread g c = λ f w e. by_form (map string_bytes c.args.words.now) c.in-Some.quiet c.in-Some.ensures.some.1 (λ x. FailsToRead x (sees g.S.Source g.K.Sink c.args.source.now c.args.sink.now c.args.bench.now) (sees g.S.Source g.K.Sink c.run_form.new.source c.run_form.new.sink c.run_form.new.bench)) (c.run_form.ensures.unread e) f w
+
+pub returns-clause-unwritten : goal.returns-clause-unwritten
+returns-clause-unwritten g c = λ f w e. by_form (map string_bytes c.args.words.now) c.in-Some.quiet c.in-Some.ensures.some.1 (λ x. FailsToWrite x (sees g.S.Source g.K.Sink c.args.source.now c.args.sink.now c.args.bench.now) (sees g.S.Source g.K.Sink c.run_form.new.source c.run_form.new.sink c.run_form.new.bench)) (c.run_form.ensures.unwritten e) f w
+
+pub returns-clause-memory : goal.returns-clause-memory
+returns-clause-memory g c = λ f w e. by_form (map string_bytes c.args.words.now) c.in-Some.quiet c.in-Some.ensures.some.1 (λ x. WantsMemory x (sees g.S.Source g.K.Sink c.args.source.now c.args.sink.now c.args.bench.now) (sees g.S.Source g.K.Sink c.run_form.new.source c.run_form.new.sink c.run_form.new.bench)) (c.run_form.ensures.memory e) f w
+
+pub returns-clause-complete : goal.returns-clause-complete
+returns-clause-complete g c = by_form (map string_bytes c.args.words.now) c.in-Some.quiet c.in-Some.ensures.some.1 (λ x. Completes x (sees g.S.Source g.K.Sink c.args.source.now c.args.sink.now c.args.bench.now) (sees g.S.Source g.K.Sink c.run_form.new.source c.run_form.new.sink c.run_form.new.bench) c.run_form.result) c.run_form.ensures.complete
+
+pub returns-clause-words : goal.returns-clause-words
+returns-clause-words g c =
+    (λ six. absurd (not_six c.run_form.result c.run_form.ensures.status six), λ none. absurd (some_form (map string_bytes c.args.words.now) c.in-Some.ensures.some.0 none))

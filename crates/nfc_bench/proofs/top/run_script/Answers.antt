@@ -1,4 +1,5 @@
-use Rattle.std.proofs.Common.{ℕ, List, Bool, Option}
+use Rattle.std.proofs.Common.{ℕ, List, Bool, Option, ap}
+use Rattle.bench_world.specs.Obeying.{Benched}
 use Rattle.nfc_bench.specs.Stops.{TextStops, RunStops}
 use Rattle.bench_world.proofs.Outcomes.{if_err}
 use Rattle.nfc_bench.proofs.ScriptText.{reads_at_most}
@@ -6,7 +7,7 @@ use Rattle.nfc_bench.proofs.Endings.{lost_at_once, run_stops}
 use Rattle.nfc_bench.proofs.top.run_script.Goals as goal
 
 pub returns-in_default-clause-err : goal.returns-in_default-clause-err
-returns-in_default-clause-err g c = lost_at_once c.args.quiet (g.S.Source.left c.args.source.now) (g.K.Sink.taken c.args.sink.now) c.args.bench.now.journal c.requires
+returns-in_default-clause-err g c = lost_at_once c.args.quiet (g.S.Source.left c.args.source.now) (g.K.Sink.taken c.args.sink.now) c.args.bench.now.journal (ap (λ (b : Benched). b.journal) c.requires)
 
 pub returns-in_default-clause-bound : goal.returns-in_default-clause-bound
 returns-in_default-clause-bound g c = reads_at_most (g.S.Source.left c.args.source.now) (g.S.Source.left c.read_script.new.source) c.read_script.ensures.stop

@@ -1,0 +1,62 @@
+-- A bench behind a command: spoiled by want of memory, or with an entry more.
+use Rattle.std.proofs.Common.{◌≡◌, ℕ, List, [], ◌∷◌, ◌++◌, Bool, true, false, refl, sym, ◌∙◌, ap, subst}
+use Rattle.nfc_base.specs.declared.event.Event.{Event}
+use Rattle.air_core.specs.Turn.{Air}
+use Rattle.air_core.specs.Conversation.{Over, receptions}
+use Rattle.bench_script.specs.declared.command.Command.{Command}
+use Rattle.bench_script.specs.declared.command.Command.TheVariants.{Skip}
+use Rattle.bench_devices.specs.declared.device.Device.{Device}
+use Rattle.bench_devices.specs.Phases.{IsIdle}
+use Rattle.bench_world.specs.declared.entry.Answer.{Answer}
+use Rattle.bench_world.specs.declared.entry.Entry.{Entry}
+use Rattle.bench_world.specs.Legal.{State, AnswerLaw, FrontOf, LegalStep, due}
+use Rattle.bench_world.specs.Obeying.{state_at, Obeyed, IsCutOff, Benched, Adds, Obeys, Spoils, LacksMemory}
+
+-- what contracts see of a bench with this journal and field
+abbrev pub seen : List Entry → Air Device → Bool → Benched
+seen js a spoiled = record { journal = js; state = state_at a; cut = a.trace; spoiled = spoiled }
+
+-- a bench that isn't spoiled isn't a spoiled one
+pub both_ways : (b : Benched) → b.spoiled ≡ false → b.spoiled ≡ true → ⊥
+both_ways b sound bad = (let clash : false ≡ true = sym sound ∙ bad in cc)
+
+-- want of memory cut a command off
+pub spoils : (old : Benched) (a b : Air Device) (js ks : List Entry) (c : Command) → old ≡ seen js a false → ks ≡ js → IsCutOff a b c → LacksMemory old (seen ks b true) c
+spoils old a b js ks c is same cut =
+    let S : List Entry → Benched → Type 0 = λ xs o. Spoils o (seen xs b true) c in
+    let it : S js (seen js a false) = record { state = state_at b; cut = b.trace; is = refl; front = cut } in
+    (λ _. subst (λ xs. S xs old) (sym same) (subst (S js) (sym is) it), λ bad. absurd (both_ways old (ap (λ o. o.spoiled) is) bad))
+
+as_obeys : (old new : Benched) (line : ℕ) (c : Command) → (c ≡ Skip → ⊥) → Adds old new line c → Obeys old new line c
+as_obeys old new line Skip other adds = absurd (other refl)
+as_obeys old new line c other adds = adds
+
+-- a command was obeyed, and its entry added
+pub adds_entry : (old : Benched) (a b k : Air Device) (js ks : List Entry) (c : Command) (answer : Answer) (e : Entry) → (c ≡ Skip → ⊥) → old ≡ seen js a false → IsIdle a → Obeyed a b c answer
+    → k ≡ record { lit = b.lit; listeners = b.listeners; fates = b.fates; trace = [] } → ks ≡ js ++ e ∷ [] → e.command ≡ c → e.events ≡ b.trace → e.answer ≡ answer → Obeys old (seen ks k false) e.line c
+adds_entry old a b k js ks c answer e other is idle o left added command events told =
+    let to : state_at k ≡ state_at b = ap state_at left in
+    let F : List Event → State → Type 0 = λ es t. FrontOf (state_at a) o.given c es t in
+    let front : F e.events (state_at k) = subst (λ es. F es (state_at k)) (sym events) (subst (F b.trace) (sym to) o.front) in
+    let over : due (state_at a) o.given c (receptions e.events) ≡ Over = ap (λ es. due (state_at a) o.given c (receptions es)) events ∙ o.over in
+    let law : AnswerLaw (state_at a) o.given c e.events e.answer =
+    subst (λ es. AnswerLaw (state_at a) o.given c es e.answer) (sym events) (subst (AnswerLaw (state_at a) o.given c b.trace) (sym told) o.answered) in
+    let C : Command → Type 0 = λ x. FrontOf (state_at a) o.given x e.events (state_at k) in
+    let step : LegalStep (state_at a) o.given e (state_at k) = record {
+      front = subst C (sym command) front;
+      over = ap (λ x. due (state_at a) o.given x (receptions e.events)) command ∙ over;
+      answered = subst (λ x. AnswerLaw (state_at a) o.given x e.events e.answer) (sym command) law;
+    } in
+    let B : List Entry → List Event → Benched = λ xs cut. record { journal = xs; state = state_at k; cut = cut; spoiled = false } in
+    let A : Benched → Type 0 = λ x. Adds x (seen ks k false) e.line c in
+    let it : A (seen js a false) = record {
+      sound = refl;
+      entry = e;
+      state = state_at k;
+      given = o.given;
+      is = ap (λ xs. B xs k.trace) added ∙ ap (B (js ++ e ∷ [])) (ap (λ (x : Air Device). x.trace) left ∙ sym idle.quiet);
+      numbered = refl;
+      asked = command;
+      legal = step;
+    } in
+    as_obeys old (seen ks k false) e.line c other (subst A (sym is) it)

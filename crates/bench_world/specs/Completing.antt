@@ -1,0 +1,64 @@
+-- What a read and a search answer where noise doesn't keep them from it: no Break was used, no wait had six bad receptions, and
+-- polling had one round, of a Type 5 tag one try, without noise (rounds, tries and six receptions are this project's own).
+use Rattle.std.specs.Prelude.{◌≡◌, ◌<◌, List, Some, Ok}
+use Rattle.nfc_base.specs.Signal.{Signal}
+use Rattle.nfc_base.specs.Trace.{breaks}
+use Rattle.nfc_base.specs.declared.event.Event.{Event}
+use Rattle.nfc_base.specs.declared.tag_link.AskFault.TheVariants.{SixBad}
+use Rattle.air_core.specs.Conversation.{Note, receptions}
+use Rattle.air_core.specs.Waits.{Broken, stand}
+use Rattle.nfca_poll.specs.Inventory.{tries, inventory_all, inventory_of}
+use Rattle.nfca_poll.specs.RoundTrace.{rounds}
+use Rattle.isodep_link.specs.Asking as exchange
+use Rattle.bench_script.specs.declared.command.Command.TheVariants.{Find, Read}
+use Rattle.bench_script.specs.declared.command.DeviceId.{DeviceId}
+use Rattle.bench_script.specs.declared.command.DeviceId.TheVariants.{A, V}
+use Rattle.bench_script.specs.DeviceIds.{bytes_of}
+use Rattle.bench_devices.specs.declared.device.Device.{Device}
+use Rattle.bench_devices.specs.declared.polling.SeenKind.{SeenKind}
+use Rattle.bench_devices.specs.declared.polling.SeenKind.TheVariants as seen
+use Rattle.bench_devices.specs.Answering.{IsNamed}
+use Rattle.bench_devices.specs.CardAsking.{Exchanges, card_stands}
+use Rattle.bench_devices.specs.Crowded.{crowd_of, others_of}
+use Rattle.bench_devices.specs.Noise.{noisy_tries, AreDisturbed}
+use Rattle.bench_devices.specs.Placed.{device_with}
+use Rattle.bench_devices.specs.Polling.{Told, selecting}
+use Rattle.bench_world.specs.declared.entry.Answer.{Answer}
+use Rattle.bench_world.specs.declared.entry.Answer.TheVariants as answers
+use Rattle.bench_world.specs.declared.entry.Entry.{Entry}
+use Rattle.bench_world.specs.Crowded.{seen_all, is_crowd}
+use Rattle.bench_world.specs.Legal.{State, Given, LegalStep}
+use Rattle.bench_world.specs.Reading.{TellsOf}
+
+-- One round of polling had no noise; of the four tries for a Type 5 tag, one had none.
+abbrev pub IsQuietOnce : DeviceId → List Event → Type 0
+IsQuietOnce (A id) es = AreDisturbed (rounds es) → ⊥
+IsQuietOnce (V id) es = noisy_tries (inventory_of id) es < tries
+
+-- A wait of what is asked of a tag that is seen to be of this kind had six bad receptions.
+abbrev pub HadSixBad : SeenKind → List Signal → List Note → Type 0
+HadSixBad seen.T2 asked ns = (left : List Signal) × (stand 0 asked ns ≡ Broken SixBad left)
+HadSixBad seen.T4 asked ns = card_stands asked ns ≡ Exchanges (exchange.Broken SixBad)
+HadSixBad seen.T5 asked ns = (left : List Signal) × (stand 0 asked ns ≡ Broken SixBad left)
+HadSixBad seen.Peer asked ns = ⊥
+
+-- Nothing kept the command of a tag, which asks this, from its answer.
+pub record IsUndisturbed (id : DeviceId) (asked : List Signal) (es : List Event) : Type 0 where
+  pub lit : breaks es ≡ 0
+  pub round : IsQuietOnce id es
+  pub waits : (kind : SeenKind) (behind : List Note) → selecting id (receptions es) ≡ Told (Ok kind) behind → HadSixBad kind asked behind → ⊥
+
+-- So a read of a placed tag tells what its store holds: the message, or the fault that the store has.
+abbrev pub ReadsComplete : Type 0
+ReadsComplete =
+    (s t : State) (g : Given) (e : Entry) (id : DeviceId) (d : Device) → LegalStep s g e t → e.command ≡ Read id → device_with (bytes_of id) s.world.listeners ≡ Some d
+    → IsNamed id d → IsUndisturbed id g.asked e.events → TellsOf d e.answer
+
+-- A search lists the whole field: all NFC-A devices in crowd order, and the true Type 5 result.
+abbrev pub whole_field : List Device → Answer
+whole_field ds = answers.Found (seen_all (record { cards = crowd_of ds; others = others_of ds })) (is_crowd (others_of ds))
+
+abbrev pub FindsComplete : Type 0
+FindsComplete =
+    (s t : State) (g : Given) (e : Entry) → LegalStep s g e t → e.command ≡ Find → breaks e.events ≡ 0 → (AreDisturbed (rounds e.events) → ⊥)
+    → noisy_tries inventory_all e.events < tries → e.answer ≡ whole_field s.world.listeners

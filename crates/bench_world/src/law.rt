@@ -1,0 +1,15 @@
+//! That a command answers what it is asked for where noise doesn't keep it from that. The calls do nothing: they stand for
+//! these laws.
+
+ghost use Rattle.bench_world.specs.Completing.{ReadsComplete, FindsComplete};
+
+/// A legal read of a placed tag, without a Break, without a wait of six bad receptions and with one round (of a Type 5 tag one
+/// try) of polling without noise, tells what the tag's store holds.
+pub fn reads_complete()
+    ensures { ReadsComplete }
+{}
+
+/// A legal search, without a Break and with a round and a try without noise, lists the whole field.
+pub fn finds_complete()
+    ensures { FindsComplete }
+{}
