@@ -144,6 +144,41 @@ impl Conn {
         !self.units.is_full()
     }
 
+    /// The SAP of this end.
+    pub fn here(&self) -> u8
+        ensures { result ≡ self.now.here }
+    {
+        self.here
+    }
+
+    /// The SAP of the other end.
+    pub fn there(&self) -> u8
+        ensures { result ≡ self.now.there }
+    {
+        self.there
+    }
+
+    /// The MIU of the other end.
+    pub fn far_miu(&self) -> u16
+        ensures { result ≡ self.now.far_miu }
+    {
+        self.far_miu
+    }
+
+    /// An RNR was taken after the last RR.
+    pub fn held(&self) -> bool
+        ensures { result ≡ self.now.held }
+    {
+        self.held
+    }
+
+    /// An acknowledgement is owed: a unit was taken since N(R) was last given.
+    pub fn owed(&self) -> bool
+        ensures { result ≡ self.now.owed }
+    {
+        self.owed
+    }
+
     /// How many units were acknowledged, modulo 2^32.
     pub fn acked(&self) -> u32
         ensures { result ≡ self.now.acked }
@@ -256,8 +291,8 @@ impl Conn {
         }))
     }
 
-    /// An acknowledgement that is owed.
-    fn give_ack(&mut self) -> Option<Part>
+    /// An acknowledgement that is owed, and no unit.
+    pub fn give_ack(&mut self) -> Option<Part>
         ensures { gave self.new result ≡ gives_ack self.old }
     {
         if !self.owed {

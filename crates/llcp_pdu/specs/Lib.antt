@@ -3,6 +3,7 @@ pub mod Reading
 pub mod Params
 pub mod Parts
 pub mod Pdus
+pub mod Raw
 pub mod Spelling
 pub mod Writing
 pub mod Ranges

@@ -1,8 +1,9 @@
 //! The first two bytes of each PDU.
 
-ghost use Rattle.std.specs.Prelude.{◌≡◌, ◌+◌, ◌<◌, ◌^◌, ◌&&◌, ◌==◌, ◌≤◌, length, OnOk};
+ghost use Rattle.std.specs.Prelude.{◌≡◌, ◌+◌, ◌<◌, ◌^◌, ◌&&◌, ◌==◌, ◌≤◌, length, IfSome, OnOk};
 ghost use Rattle.llcp_pdu.specs.Parts.{header, ptype_of};
 ghost use Rattle.llcp_pdu.specs.Pdus.{is_agf as is_agf_type};
+ghost use Rattle.llcp_pdu.specs.Raw.{raw, IsRaw};
 ghost use Rattle.llcp_pdu.specs.Spelling.{head};
 ghost use Rattle.llcp_pdu.specs.Wire.{ptype_number};
 
@@ -119,4 +120,30 @@ impl Header {
         let number = self.ptype.number();
         [4 * self.dsap + number / 4, 64 * (number % 4) + self.ssap]
     }
+}
+
+/// The first bytes of a payload, which may be no PDU: the SAPs, the number of the type, and the byte behind them. Of a
+/// malformed I, RR or RNR a FRMR reports these.
+#[derive(Clone, Copy, Debug, PartialEq, Eq)]
+pub struct RawHeader {
+    pub dsap: u8,
+    pub ptype: u8,
+    pub ssap: u8,
+    pub third: Option<u8>,
+}
+
+/// The first bytes of a payload of at least two bytes. It takes no memory.
+pub fn raw_header(bytes: &[u8]) -> Option<RawHeader>
+    ensures reads { result ≡ raw bytes.now }
+    ensures range { IfSome result IsRaw }
+{
+    let [first, second, rest @ ..] = bytes else {
+        return None;
+    };
+    Some(RawHeader {
+        dsap: *first / 4,
+        ptype: *first % 4 * 4 + *second / 64,
+        ssap: *second % 64,
+        third: rest.first().copied(),
+    })
 }

@@ -23,6 +23,7 @@ mod wire;
 pub use connect::ConnectParams;
 pub use fault::{PduFault, PduKind, PduRefusal};
 pub use general::{GeneralFault, LinkParams, general_read, general_write};
+pub use header::{RawHeader, raw_header};
 pub use inner_walk::InnerWalk;
 pub use param::Param;
 pub use param_walk::{ParamView, ParamWalk};
