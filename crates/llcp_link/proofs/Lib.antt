@@ -1,0 +1,12 @@
+pub mod Lists
+pub mod Places
+pub mod Held
+pub mod SdAnswers
+pub mod Ranges
+pub mod StepsSoFar
+pub mod GivesNext
+pub mod SendsOn
+pub mod Circle
+pub mod JoinsOn
+pub mod GivesAll
+pub mod Fronts

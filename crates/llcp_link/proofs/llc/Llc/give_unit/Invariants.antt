@@ -1,0 +1,12 @@
+use Rattle.std.proofs.Common.{◌≡◌, ◌-◌}
+use Rattle.llcp_conn.specs.Conn.{IsSap}
+use Rattle.llcp_link.specs.Giving.{informs, first_from, first_of_all}
+use Rattle.llcp_link.specs.State.{sap_count}
+use Rattle.llcp_link.proofs.llc.Llc.give_unit.Given as goal
+
+abbrev pub invariant-clients : goal.invariant-clients
+invariant-clients g l = record {
+  client : IsSap l.client;
+  same : l.self ≡ l.fn.self;
+  left : first_of_all l.fn.self.last (informs g.S.Service.serving l.fn.self) ≡ first_from (sap_count - l.counter) l.client (informs g.S.Service.serving l.fn.self);
+}

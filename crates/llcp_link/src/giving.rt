@@ -1,0 +1,181 @@
+//! What an end gives next.
+
+ghost use Rattle.std.specs.Prelude.{◌≡◌, ◌≤◌, IfOk, OnErr};
+ghost use Rattle.llcp_conn.specs.Conn.{IsSap};
+ghost use Rattle.llcp_link.specs.Giving.{acknowledges, circle_start as start_of, first_of_all, gave, informs, sap_after as after};
+ghost use Rattle.llcp_link.specs.Halting.{IsSame};
+ghost use Rattle.llcp_link.specs.Offering.{BoundsNext, LeavesNext, Tried, queued_first};
+
+use crate::lengths::part_len;
+use crate::llc::Llc;
+use crate::queue::Queued;
+use crate::sending::{acknowledge, ower, send, sender};
+use crate::service::Service;
+use llcp_pdu::Part;
+use std::alloc::AllocError;
+
+/// How many SAPs there are.
+const SAP_COUNT: u8 = 64;
+
+/// The bytes in an AGF of an I PDU without its information, and of a RR: a length, a header and the numbers.
+const NUMBERED: usize = 5;
+
+/// The PDU that is given next, where it is within what is left.
+#[derive(Debug, Drop)]
+pub(crate) enum Next {
+    Given(Part),
+    /// None is due.
+    Nothing,
+    /// It may be longer than what is left.
+    TooLong,
+}
+
+/// The SAP after another one, in a circle of all.
+pub(crate) fn sap_after(sap: u8) -> u8
+    requires { IsSap sap }
+    ensures after { result ≡ after sap }
+    ensures range { IsSap result }
+{
+    (sap + 1) % SAP_COUNT
+}
+
+impl<S: Service> Llc<S> {
+    /// The SAP from which the circle of clients begins.
+    fn circle_start(&self) -> u8
+        ensures start { result ≡ start_of self.now.last }
+        ensures range { IsSap result }
+    {
+        match self.last {
+            None => 0,
+            Some(sap) => sap_after(sap),
+        }
+    }
+
+    /// The oldest PDU that waits.
+    fn give_queued(&mut self, room: usize) -> Next
+        ensures next { Tried room (queued_first self.old self.old.queue) self.old self.new result }
+        ensures same { IsSame self.old self.new }
+        ensures service { self.new.service ≡ self.old.service }
+    {
+        match self.queue.first() {
+            None => return Next::Nothing,
+            Some(queued) => {
+                if part_len(&queued.part) + 2 > room {
+                    return Next::TooLong;
+                }
+            }
+        }
+        let Queued { own: _, part } = self.queue.remove(0);
+        Next::Given(part)
+    }
+
+    /// The most bytes that a client's next unit has: those that the service tells, and where it tells nothing the
+    /// client's MIU.
+    fn most_next(&self, client: u8, miu: u16) -> usize
+        requires { IsSap client }
+        ensures told { BoundsNext (S.serving.due self.now.service client miu) miu result }
+        ensures most { result ≤ miu }
+    {
+        match self.service.next_len(client, miu) {
+            None => miu as usize,
+            Some(told) => told.min(miu as usize),
+        }
+    }
+
+    /// The next unit for a client, as an I PDU.
+    fn give_unit_at(&mut self, client: u8, room: usize) -> Result<Next, AllocError>
+        requires { IsSap client }
+        ensures next { IfOk result (Tried room (informs S.serving self.old client) self.old self.new) }
+        ensures same { IsSame self.old self.new }
+        ensures err { OnErr result
+            (LeavesNext S.serving (informs S.serving self.old client) self.old.service self.new.service) }
+    {
+        let Some((place, miu)) = sender(&self.served, client) else {
+            return Ok(Next::Nothing);
+        };
+        if self.most_next(client, miu) + NUMBERED > room {
+            return Ok(Next::TooLong);
+        }
+        let Some(unit) = self.service.next(self.alloc, client, miu)? else {
+            return Ok(Next::Nothing);
+        };
+        let part = send(&mut self.served, client, place, miu, unit.as_slice())?;
+        self.last = Some(client);
+        Ok(Next::Given(part))
+    }
+
+    /// An acknowledgement that is owed to a client.
+    fn give_ack_at(&mut self, client: u8, room: usize) -> Next
+        requires { IsSap client }
+        ensures next { Tried room (acknowledges self.old client) self.old self.new result }
+        ensures same { IsSame self.old self.new }
+        ensures service { self.new.service ≡ self.old.service }
+    {
+        let Some(place) = ower(&self.served, client) else {
+            return Next::Nothing;
+        };
+        if NUMBERED > room {
+            return Next::TooLong;
+        }
+        let part = acknowledge(&mut self.served, client, place);
+        self.last = Some(client);
+        Next::Given(part)
+    }
+
+    /// In cyclic order of the clients, the next unit of the first whose window allows one.
+    fn give_unit(&mut self, room: usize) -> Result<Next, AllocError>
+        ensures next { IfOk result
+            (Tried room (first_of_all self.old.last (informs S.serving self.old)) self.old self.new) }
+        ensures same { IsSame self.old self.new }
+        ensures err { OnErr result
+            (LeavesNext S.serving (first_of_all self.old.last (informs S.serving self.old))
+            self.old.service self.new.service) }
+    {
+        let mut client = self.circle_start();
+        'clients: for _ in 0..SAP_COUNT {
+            match self.give_unit_at(client, room) {
+                Err(_) => return Err(AllocError),
+                Ok(Next::Nothing) => client = sap_after(client),
+                Ok(Next::TooLong) => return Ok(Next::TooLong),
+                Ok(Next::Given(part)) => return Ok(Next::Given(part)),
+            }
+        }
+        Ok(Next::Nothing)
+    }
+
+    /// In the same order, an acknowledgement of the first that owes one.
+    fn give_ack(&mut self, room: usize) -> Next
+        ensures next { Tried room (first_of_all self.old.last (acknowledges self.old)) self.old self.new result }
+        ensures same { IsSame self.old self.new }
+        ensures service { self.new.service ≡ self.old.service }
+    {
+        let mut client = self.circle_start();
+        'clients: for _ in 0..SAP_COUNT {
+            match self.give_ack_at(client, room) {
+                Next::Nothing => client = sap_after(client),
+                Next::TooLong => return Next::TooLong,
+                Next::Given(part) => return Next::Given(part),
+            }
+        }
+        Next::Nothing
+    }
+
+    /// The PDU that is due next, where it is within what is left.
+    pub(crate) fn give_next(&mut self, room: usize) -> Result<Next, AllocError>
+        ensures next { IfOk result (Tried room (gave S.serving self.old) self.old self.new) }
+        ensures same { IsSame self.old self.new }
+        ensures err { OnErr result (LeavesNext S.serving (gave S.serving self.old) self.old.service self.new.service) }
+    {
+        match self.give_queued(room) {
+            Next::Nothing => {}
+            Next::TooLong => return Ok(Next::TooLong),
+            Next::Given(part) => return Ok(Next::Given(part)),
+        }
+        match self.give_unit(room) {
+            Err(_) => Err(AllocError),
+            Ok(Next::Nothing) => Ok(self.give_ack(room)),
+            Ok(Next::TooLong) => Ok(Next::TooLong),
+            Ok(Next::Given(part)) => Ok(Next::Given(part)),
+        }
+    }
+}

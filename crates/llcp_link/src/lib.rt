@@ -1,0 +1,35 @@
+//! One end of a link of LLCP (NFC Forum LLCP 1.3): what it does with each PDU that comes, and what it gives.
+//!
+//! `llc` is an end, `service` what stands above it, `names` the names that are bound. `link` takes payloads: `payload` takes
+//! one apart, `connecting`, `taking` and `discovery` do what its PDUs ask. `writing` gives them: `giving` chooses the PDU
+//! that is due, `joining` those behind it in an AGF. `answering` is an end as the far end of a link. `served` keeps the
+//! connections that the other end asked for, `sending` is what they give, `queue` the answers that wait; `parts`, `params`
+//! and `lengths` are about single PDUs. `fault` says why a call is refused.
+#![tactic(auto)]
+
+mod answering;
+mod connecting;
+mod discovery;
+mod fault;
+mod giving;
+mod joining;
+mod lengths;
+mod link;
+mod llc;
+mod names;
+mod params;
+mod parts;
+mod payload;
+mod queue;
+mod sending;
+mod served;
+mod service;
+mod taking;
+mod writing;
+
+pub use fault::LlcFault;
+pub use llc::Llc;
+pub use service::Service;
+
+#[cfg(test)]
+mod tests;

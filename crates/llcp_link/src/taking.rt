@@ -1,0 +1,130 @@
+//! What an end does with one PDU.
+
+ghost use Rattle.std.specs.Prelude.{◌≡◌, ◌<◌, [], OnOk, OnErr};
+ghost use Rattle.llcp_conn.specs.Conn.{IsSap, takes_view};
+ghost use Rattle.llcp_link.specs.Halting.{IsSame, Leaves};
+ghost use Rattle.llcp_link.specs.Kept.{IsSent};
+ghost use Rattle.llcp_link.specs.Places.{IsNumbered};
+ghost use Rattle.llcp_link.specs.State.{holder};
+ghost use Rattle.llcp_link.specs.Taking.{answered, breaks, ends, is_full as has_all_answers, leaves, numbered};
+
+use crate::llc::Llc;
+use crate::parts::{DISCONNECTED, NOT_CONNECTED, dm, frmr};
+use crate::queue::{answers_in, push};
+use crate::served::{close, take_view};
+use crate::service::Service;
+use llcp_conn::Taken;
+use llcp_pdu::{FrmrReport, Part, PduView};
+use std::alloc::AllocError;
+
+/// The most answers that wait.
+const MOST_ANSWERS: usize = 16;
+
+/// The flag of a FRMR for a malformed PDU.
+const MALFORMED: u8 = 0x80;
+
+impl<S: Service> Llc<S> {
+    /// As many answers wait as may.
+    pub(crate) fn is_full(&self) -> bool
+        ensures { result ≡ has_all_answers self.now }
+    {
+        answers_in(&self.queue) >= MOST_ANSWERS
+    }
+
+    /// An answer waits, unless too many do.
+    pub(crate) fn answer_with(&mut self, part: Part) -> Result<(), AllocError>
+        requires { IsSent part }
+        ensures ok { OnOk result (self.new ≡ answered self.old part) }
+        ensures err { OnErr result (self.new ≡ self.old) }
+    {
+        if self.is_full() {
+            return Ok(());
+        }
+        push(&mut self.queue, false, part)
+    }
+
+    /// This end asked for no connection, and looked nothing up.
+    pub(crate) fn has_asked(&self) -> bool
+        ensures own { self.now.own ≡ [] }
+        ensures lookups { self.now.lookups ≡ [] }
+    {
+        self.stuck && false
+    }
+
+    /// A DISC.
+    pub(crate) fn take_disc(&mut self, dsap: u8, ssap: u8) -> Result<(), AllocError>
+        requires dsap { IsSap dsap }
+        requires ssap { IsSap ssap }
+        ensures ok { OnOk result (self.new ≡ leaves self.old dsap ssap (holder self.old dsap ssap)) }
+        ensures same { IsSame self.old self.new }
+        ensures service { self.new.service ≡ self.old.service }
+    {
+        match close(&mut self.served, dsap, ssap) {
+            None => self.answer_with(dm(ssap, dsap, NOT_CONNECTED)),
+            Some(_) => self.answer_with(dm(ssap, dsap, DISCONNECTED)),
+        }
+    }
+
+    /// A FRMR.
+    pub(crate) fn take_frmr(&mut self, dsap: u8, ssap: u8)
+        ensures ok { self.new ≡ ends self.old (holder self.old dsap ssap) }
+        ensures same { IsSame self.old self.new }
+        ensures service { self.new.service ≡ self.old.service }
+    {
+        let _ = close(&mut self.served, dsap, ssap);
+    }
+
+    /// A malformed PDU of this type and sequence byte.
+    pub(crate) fn break_off(
+        &mut self,
+        dsap: u8,
+        ssap: u8,
+        ptype: u8,
+        sequence: u8,
+    ) -> Result<(), AllocError>
+        requires dsap { IsSap dsap }
+        requires ssap { IsSap ssap }
+        requires ptype { ptype < 16 }
+        ensures ok { OnOk result (self.new ≡ breaks self.old ptype sequence (holder self.old dsap ssap)) }
+        ensures same { IsSame self.old self.new }
+        ensures service { self.new.service ≡ self.old.service }
+    {
+        let Some(numbers) = close(&mut self.served, dsap, ssap) else {
+            return Ok(());
+        };
+        let report = FrmrReport {
+            flags: MALFORMED,
+            ptype,
+            sequence,
+            vs: numbers.vs,
+            vr: numbers.vr,
+            vsa: numbers.vsa,
+            vra: numbers.vra,
+        };
+        self.answer_with(frmr(ssap, dsap, report))
+    }
+
+    /// An I, RR or RNR.
+    pub(crate) fn take_numbered(
+        &mut self,
+        pdu: &PduView<'_>,
+        dsap: u8,
+        ssap: u8,
+    ) -> Result<(), AllocError>
+        requires dsap { IsSap dsap }
+        requires ssap { IsSap ssap }
+        requires pdu { IsNumbered dsap ssap pdu.now }
+        ensures ok { OnOk result (self.new ≡
+            numbered S.serving self.old (λ c. takes_view c pdu.now) dsap ssap (holder self.old dsap ssap)) }
+        ensures same { IsSame self.old self.new }
+        ensures err { OnErr result (Leaves S.serving self.old.service self.new.service) }
+    {
+        match take_view(&mut self.served, dsap, ssap, pdu) {
+            Err(_) => Err(AllocError),
+            Ok(None) => self.answer_with(dm(ssap, dsap, NOT_CONNECTED)),
+            Ok(Some(Taken::Nothing)) => Ok(()),
+            Ok(Some(Taken::Unit(unit))) => self.service.unit(self.alloc, ssap, unit.as_slice()),
+            Ok(Some(Taken::Closed(report))) => self.answer_with(frmr(ssap, dsap, report)),
+        }
+    }
+}

@@ -1,0 +1,386 @@
+//! An end, payload by payload.
+
+ghost use Rattle.std.specs.Prelude.{[], ◌∷◌, ◌++◌, ◌≡◌, ◌==◌, ◌-◌, if◌then◌else◌, None, Some};
+
+use crate::{Llc, LlcFault, Service};
+use llcp_pdu::{LinkParams, Param, Part};
+use nfc_base::{Answerer, Items};
+use std::alloc::{AllocError, Global};
+use std::marker::Model;
+use std::process::Abort;
+use std::test::Fail;
+
+const SNEP: &str = "urn:nfc:sn:snep";
+
+/// General bytes of an end of MIU 128.
+const GENERAL: [u8; 10] = [0x46, 0x66, 0x6D, 0x01, 0x01, 0x13, 0x02, 0x02, 0x00, 0x00];
+
+/// A service that notes each unit behind its client's SAP, and sends none.
+#[derive(Drop)]
+struct Notes {
+    alloc: Global,
+    units: Vec<u8>,
+}
+
+impl Model for Notes {
+    ghost use Rattle.std.specs.Prelude.{ℕ, List};
+
+    ghost Value = { List ℕ };
+
+    ghost view = { λ n. n.units.items };
+}
+
+impl Service for Notes {
+    ghost serving = { record {
+      begun = λ s _. s;
+      brought = λ s ssap unit. s ++ (ssap ∷ unit);
+      due = λ _ _ _. None;
+      sent = λ s _ _. s;
+      renewed = λ s. s;
+      keeps = λ a b. b ≡ a;
+    } };
+
+    fn restart(&mut self) {}
+
+    fn begin(&mut self, _ssap: u8) {}
+
+    fn unit(&mut self, _alloc: Global, ssap: u8, unit: &[u8]) -> Result<(), AllocError> {
+        let mut note = Vec::from_slice(self.alloc, &[ssap])?;
+        note.extend_from_slice(unit)?;
+        self.units.extend_from_slice(&note)
+    }
+
+    fn next(
+        &mut self,
+        _alloc: Global,
+        _ssap: u8,
+        _miu: u16,
+    ) -> Result<Option<Items<u8>>, AllocError> {
+        Ok(None)
+    }
+}
+
+/// A server at SAP 4, with MIU 128 and window 1.
+fn server(rt: &impl Abort, alloc: Global) -> Result<Llc<Notes>, Fail> {
+    let params = LinkParams {
+        version: 0x13,
+        miu: 128,
+        wks: 0x13,
+    };
+    let service = Notes {
+        alloc,
+        units: Vec::new(alloc),
+    };
+    let mut llc = Llc::new(alloc, params, 1, service);
+    assert_eq!(rt; llc.listen(SNEP, 4), Ok(()));
+    Ok(llc)
+}
+
+/// What waits: of a CC, a DM, a FRMR and an SNL a letter, the SAPs, and a DM's reason, a FRMR's flags and sequence byte,
+/// the answers of an SNL.
+fn waiting(alloc: Global, llc: &Llc<Notes>) -> Result<Vec<u8>, AllocError> {
+    let mut told = Vec::new(alloc);
+    for queued in llc.queue.iter() {
+        match &queued.part {
+            Part::Cc { dsap, ssap, .. } => told.extend_from_slice(&[b'C', *dsap, *ssap])?,
+            Part::Dm { dsap, ssap, reason } => {
+                told.extend_from_slice(&[b'D', *dsap, *ssap, *reason])?
+            }
+            Part::Frmr { dsap, ssap, report } => {
+                told.extend_from_slice(&[b'F', *dsap, *ssap, report.flags, report.sequence])?
+            }
+            Part::Snl(params) => {
+                told.push(b'S')?;
+                for param in params.as_slice() {
+                    if let Param::SdRes { tid, sap } = param {
+                        told.extend_from_slice(&[*tid, *sap])?;
+                    }
+                }
+            }
+            _ => told.push(b'?')?,
+        }
+    }
+    Ok(told)
+}
+
+/// It takes payloads one after the other.
+fn takes(rt: &impl Abort, llc: &mut Llc<Notes>, payloads: &[&[u8]]) -> Result<(), Fail> {
+    for payload in payloads {
+        assert_eq!(rt; llc.take(payload), Ok(()));
+    }
+    Ok(())
+}
+
+/// What waits and what was noted once a server took these payloads.
+fn brings(
+    rt: &impl Abort,
+    alloc: Global,
+    payloads: &[&[u8]],
+    answers: &[u8],
+    units: &[u8],
+) -> Result<(), Fail> {
+    let mut llc = server(rt, alloc)?;
+    llc.restart(&GENERAL);
+    takes(rt, &mut llc, payloads)?;
+    assert_eq!(rt; waiting(alloc, &llc)?.as_slice(), answers);
+    assert_eq!(rt; llc.service().units.as_slice(), units);
+    Ok(())
+}
+
+#[test]
+fn connections(rt: HostRuntime) -> Result<(), Fail> {
+    let alloc = rt.alloc();
+    let connect: &[u8] = &[0x11, 0x20];
+    brings(&rt, alloc, &[connect], b"C\x20\x04", &[])?;
+    let unit: &[u8] = &[0x13, 0x20, 0x00, 0xAA];
+    brings(&rt, alloc, &[connect, unit], b"C\x20\x04", &[32, 0xAA])?;
+    brings(&rt, alloc, &[unit], b"D\x20\x04\x01", &[])?;
+    let wrong: &[u8] = &[0x13, 0x20, 0x10, 0xAA];
+    brings(
+        &rt,
+        alloc,
+        &[connect, wrong],
+        b"C\x20\x04F\x20\x04\x10\x10",
+        &[],
+    )?;
+    let short: &[u8] = &[0x13, 0x60];
+    brings(
+        &rt,
+        alloc,
+        &[connect, short],
+        b"C\x20\x04F\x20\x04\x80\x00",
+        &[],
+    )?;
+    brings(
+        &rt,
+        alloc,
+        &[connect, connect],
+        b"C\x20\x04D\x20\x04\x20",
+        &[],
+    )?;
+    let linux: &[u8] = &[0x11, 0x20, 0x02, 0x02, 0x07, 0xFF, 0x05, 0x01, 0x0F];
+    brings(&rt, alloc, &[linux, unit], b"C\x20\x04", &[32, 0xAA])?;
+    let rnr: &[u8] = &[0x13, 0xA0, 0x00];
+    brings(&rt, alloc, &[connect, rnr, unit], b"C\x20\x04", &[32, 0xAA])?;
+    let two: &[u8] = &[0x00, 0x80, 0x00, 0x02, 0x11, 0x20, 0x00, 0x02, 0x11, 0x21];
+    brings(&rt, alloc, &[two], b"C\x20\x04C\x21\x04", &[])
+}
+
+#[test]
+fn refusals_and_names(rt: HostRuntime) -> Result<(), Fail> {
+    let alloc = rt.alloc();
+    let named: &[u8] = b"\x05\x20\x06\x0Furn:nfc:sn:snep";
+    brings(&rt, alloc, &[named], b"C\x20\x04", &[])?;
+    let no_window: &[u8] = &[0x11, 0x20, 0x05, 0x01, 0x10];
+    brings(&rt, alloc, &[no_window], b"D\x20\x04\x03", &[])?;
+    let unbound: &[u8] = &[0x15, 0x20];
+    brings(&rt, alloc, &[unbound], b"D\x20\x05\x02", &[])?;
+    let lookups: &[u8] = b"\x06\x41\x08\x10\x00urn:nfc:sn:snep\x08\x02\x01x";
+    brings(&rt, alloc, &[lookups], b"S\x00\x04\x01\x00", &[])?;
+    let malformed: &[u8] = &[0x11, 0x20, 0x05];
+    brings(&rt, alloc, &[malformed, &[0x11]], b"", &[])
+}
+
+#[test]
+fn nine_clients_and_seventeen_answers(rt: HostRuntime) -> Result<(), Fail> {
+    let alloc = rt.alloc();
+    let mut llc = server(&rt, alloc)?;
+    for client in 32..41u8 {
+        assert_eq!(rt; llc.take(&[0x11, client]), Ok(()));
+    }
+    assert_eq!(rt; (llc.queue.len(), llc.served.len()), (9, 8));
+    llc.restart(&GENERAL);
+    for _ in 0..17 {
+        assert_eq!(rt; llc.take(&[0x13, 0x60, 0x00]), Ok(()));
+    }
+    assert_eq!(rt; llc.queue.len(), 16);
+    llc.restart(&[0x46, 0x66, 0x6D]);
+    assert_eq!(rt; llc.take(&[0x11, 0x20]), Ok(()));
+    assert_eq!(rt; (llc.queue.len(), llc.served.len()), (0, 0));
+    Ok(())
+}
+
+/// The reply to a payload.
+fn answers<S: Service>(
+    rt: &impl Abort,
+    alloc: Global,
+    llc: &mut Llc<S>,
+    payload: &[u8],
+    reply: &[u8],
+) -> Result<(), Fail> {
+    let mut got = Vec::new(alloc);
+    assert!(rt; payload.len() < 64);
+    assert_eq!(rt; llc.answer(alloc, payload, &mut got), Ok(()));
+    assert_eq!(rt; got.as_slice(), reply);
+    Ok(())
+}
+
+#[test]
+fn replies(rt: HostRuntime) -> Result<(), Fail> {
+    let alloc = rt.alloc();
+    let mut llc = server(&rt, alloc)?;
+    answers(&rt, alloc, &mut llc, &[0x11, 0x20, 0x05], &[0, 0])?;
+    answers(&rt, alloc, &mut llc, &[0x11], &[0, 0])?;
+    let two = [0x00, 0x80, 0x00, 0x02, 0x11, 0x20, 0x00, 0x02, 0x11, 0x21];
+    let joined = [0x00, 0x80, 0x00, 0x02, 0x81, 0x84, 0x00, 0x02, 0x85, 0x84];
+    answers(&rt, alloc, &mut llc, &two, &joined)?;
+    answers(&rt, alloc, &mut llc, &[0, 0], &[0, 0])?;
+    answers(
+        &rt,
+        alloc,
+        &mut llc,
+        &[0x13, 0x20, 0x00, 0xAA],
+        &[0x83, 0x44, 0x01],
+    )?;
+    answers(
+        &rt,
+        alloc,
+        &mut llc,
+        &[0x13, 0x20, 0x00, 0xAA],
+        &[0x82, 0x04, 0x1C, 0x00, 0x01, 0x01],
+    )?;
+    answers(
+        &rt,
+        alloc,
+        &mut llc,
+        &[0x13, 0x21, 0x00, 0xBB],
+        &[0x87, 0x44, 0x01],
+    )?;
+    answers(
+        &rt,
+        alloc,
+        &mut llc,
+        &[0x13, 0x60, 0x01],
+        &[0x81, 0xC4, 0x01],
+    )?;
+    llc.restart(&[0x46, 0x66, 0x6D]);
+    answers(&rt, alloc, &mut llc, &[0x11, 0x20], &[])?;
+    answers(&rt, alloc, &mut llc, &[0x00, 0x00], &[])?;
+    answers(&rt, alloc, &mut llc, &[0x11], &[])
+}
+
+/// A service that sends so many units, each its client's SAP.
+#[derive(Drop)]
+struct Units {
+    left: u8,
+}
+
+impl Model for Units {
+    ghost use Rattle.std.specs.Prelude.{ℕ};
+
+    ghost Value = { ℕ };
+
+    ghost view = { λ s. s.left };
+}
+
+impl Service for Units {
+    ghost serving = { record {
+      begun = λ s _. s;
+      brought = λ s _ _. s;
+      due = λ s ssap miu. if s == 0 then None else (if miu == 0 then None else Some (ssap ∷ []));
+      sent = λ s _ _. s - 1;
+      renewed = λ s. s;
+      keeps = λ a b. b ≡ a;
+    } };
+
+    fn restart(&mut self) {}
+
+    fn begin(&mut self, _ssap: u8) {}
+
+    fn unit(&mut self, _alloc: Global, _ssap: u8, _unit: &[u8]) -> Result<(), AllocError> {
+        Ok(())
+    }
+
+    fn next(&mut self, alloc: Global, ssap: u8, miu: u16) -> Result<Option<Items<u8>>, AllocError> {
+        if self.left == 0 {
+            return Ok(None);
+        }
+        if miu == 0 {
+            return Ok(None);
+        }
+        let unit = Items::from_bytes(alloc, &[ssap])?;
+        self.left -= 1;
+        Ok(Some(unit))
+    }
+
+    fn next_len(&self, _ssap: u8, miu: u16) -> Option<usize> {
+        if self.left == 0 {
+            return None;
+        }
+        if miu == 0 {
+            return None;
+        }
+        Some(1)
+    }
+}
+
+/// An end over a service that sends so many units, as `server`.
+fn sending_server(rt: &impl Abort, alloc: Global, left: u8) -> Result<Llc<Units>, Fail> {
+    let params = LinkParams {
+        version: 0x13,
+        miu: 128,
+        wks: 0x13,
+    };
+    let mut llc = Llc::new(alloc, params, 1, Units { left });
+    assert_eq!(rt; llc.listen(SNEP, 4), Ok(()));
+    Ok(llc)
+}
+
+#[test]
+fn units_of_three_clients_and_their_windows(rt: HostRuntime) -> Result<(), Fail> {
+    let alloc = rt.alloc();
+    let mut llc = sending_server(&rt, alloc, 5)?;
+    let connects = [
+        0x00, 0x80, 0x00, 0x02, 0x11, 0x20, 0x00, 0x02, 0x11, 0x21, 0x00, 0x02, 0x11, 0x22,
+    ];
+    let accepted = [
+        0x00, 0x80, 0x00, 0x02, 0x81, 0x84, 0x00, 0x02, 0x85, 0x84, 0x00, 0x02, 0x89, 0x84, 0x00,
+        0x04, 0x83, 0x04, 0x00, 0x20, 0x00, 0x04, 0x87, 0x04, 0x00, 0x21, 0x00, 0x04, 0x8B, 0x04,
+        0x00, 0x22,
+    ];
+    answers(&rt, alloc, &mut llc, &connects, &accepted)?;
+    // the first isn't ready, the second acknowledges, and the third brings a unit
+    let said = [
+        0x00, 0x80, 0x00, 0x03, 0x13, 0xA0, 0x01, 0x00, 0x03, 0x13, 0x61, 0x01, 0x00, 0x04, 0x13,
+        0x22, 0x01, 0xAA,
+    ];
+    let units = [
+        0x00, 0x80, 0x00, 0x04, 0x87, 0x04, 0x10, 0x21, 0x00, 0x04, 0x8B, 0x04, 0x11, 0x22,
+    ];
+    answers(&rt, alloc, &mut llc, &said, &units)?;
+    // the service has no unit left: an acknowledgement is owed
+    answers(
+        &rt,
+        alloc,
+        &mut llc,
+        &[0x13, 0x20, 0x01, 0xAA],
+        &[0x83, 0x44, 0x01],
+    )
+}
+
+#[test]
+fn sixteen_answers_joined(rt: HostRuntime) -> Result<(), Fail> {
+    let alloc = rt.alloc();
+    let mut llc = server(&rt, alloc)?;
+    let mut acks = Vec::new(alloc);
+    acks.extend_from_slice(&[0x00, 0x80])?;
+    for _ in 0..17 {
+        acks.extend_from_slice(&[0x00, 0x03, 0x13, 0x60, 0x01])?;
+    }
+    let mut got = Vec::new(alloc);
+    assert_eq!(rt; llc.take(&acks), Ok(()));
+    assert_eq!(rt; llc.give(&mut got), Ok(()));
+    assert_eq!(rt; got.len(), 82);
+    answers(&rt, alloc, &mut llc, &[0x00, 0x00], &[0x00, 0x00])
+}
+
+#[test]
+fn names(rt: HostRuntime) -> Result<(), Fail> {
+    let mut llc = server(&rt, rt.alloc())?;
+    assert_eq!(rt; llc.listen(SNEP, 4), Err(LlcFault::NameTaken));
+    assert_eq!(rt; llc.listen("urn:nfc:sn:sdp", 5), Err(LlcFault::NameTaken));
+    assert_eq!(rt; llc.listen("x", 4), Err(LlcFault::SapTaken));
+    assert_eq!(rt; llc.listen("x", 1), Err(LlcFault::SapTaken));
+    assert_eq!(rt; llc.listen("x", 5), Ok(()));
+    Ok(())
+}
