@@ -1,0 +1,5 @@
+use Rattle.snep_core.proofs.Cuts.{fronts_put}
+use Rattle.snep_core.proofs.law.fronts.Goals as goal
+
+pub returns : goal.returns
+returns c = fronts_put

@@ -1,0 +1,5 @@
+use Rattle.snep_core.proofs.Cuts.{puts_one}
+use Rattle.snep_core.proofs.law.one_list.Goals as goal
+
+pub returns : goal.returns
+returns c = puts_one

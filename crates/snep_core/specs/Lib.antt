@@ -1,0 +1,6 @@
+pub mod Message
+pub mod First
+pub mod Session
+pub mod Server
+pub mod Puts
+pub mod Cuts

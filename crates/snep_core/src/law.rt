@@ -1,0 +1,19 @@
+//! What the units of a connection put, whatever a server does with them.
+
+ghost use Rattle.snep_core.specs.Puts.{PutsOne};
+ghost use Rattle.snep_core.specs.Cuts.{FrontsPut, LastPut};
+
+/// The units of a connection put one list of messages.
+pub fn one_list()
+    ensures { PutsOne }
+{}
+
+/// Whichever first units of a client's puts came: they put a front of its messages that are within the limit.
+pub fn fronts()
+    ensures { FrontsPut }
+{}
+
+/// The message of the last put was put exactly where all its units came and it is within the limit; those before it are whole.
+pub fn last_put()
+    ensures { LastPut }
+{}

@@ -1,0 +1,19 @@
+//! SNEP (NFC Forum SNEP 1.0): the server, which takes messages and answers requests for values, as the service of an end of
+//! a link.
+//!
+//! `message` has the codes and writes messages; `first` reads the first unit of a request; `session` is one connection: what
+//! is gathered, what is to be sent, what waits for a continue; `server` has the table for get, what was accepted, and a
+//! session for each client's SAP; `law` says what the units of a client's messages put.
+#![tactic(auto)]
+
+mod first;
+mod law;
+mod message;
+mod server;
+mod session;
+
+pub use law::{fronts, last_put, one_list};
+pub use server::Server;
+
+#[cfg(test)]
+mod tests;
