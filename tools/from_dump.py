@@ -54,8 +54,9 @@ from typing import NamedTuple, Optional
 LONGEST_LINE = 4096
 T2_BLOCK_SIZE = 4
 FEWEST_T2_BLOCKS = 4
-MOST_BLOCKS = 256
+MOST_T2_BLOCKS = 256
 T5_BLOCK_SIZES = (4, 8, 16, 32)
+LARGEST_T5_STORE = 65536
 MOST_CODE = 8
 CONTAINER_LENGTHS = range(15, 65)
 CONTAINER_FILE_ID = 0xE103
@@ -282,11 +283,11 @@ def check_whole(memory, size):
         raise DumpError(f"{len(memory)} bytes aren't whole blocks of {size}")
 
 
-def check_count(count, fewest):
+def check_count(count, fewest, most):
     if count < fewest:
         raise DumpError(f"blocks are missing: the dump has {count}, and the tag needs {fewest}")
-    if count > MOST_BLOCKS:
-        raise DumpError(f"too large for the bench: {count} blocks, and {MOST_BLOCKS} is the most")
+    if count > most:
+        raise DumpError(f"too large for the bench: {count} blocks, and {most} is the most")
 
 
 def t2_words(memory, ident):
@@ -298,7 +299,7 @@ def t2_words(memory, ident):
     else:
         fewest = FEWEST_T2_BLOCKS
     count = len(memory) // T2_BLOCK_SIZE
-    check_count(count, fewest)
+    check_count(count, fewest, MOST_T2_BLOCKS)
     return [shown(nfca_ident(ident or t2_ident(memory))), count, shown(without_zeros(memory))]
 
 
@@ -385,7 +386,7 @@ def t5_words(dump, ident, block_size):
         raise DumpError(f"the bench has blocks of 4, 8, 16 or 32 bytes, not of {size}")
     check_whole(dump.memory, size)
     count = len(dump.memory) // size
-    check_count(count, 1)
+    check_count(count, 1, LARGEST_T5_STORE // size)
     return [shown(t5_ident(ident)), count, size, shown(without_zeros(dump.memory))]
 
 

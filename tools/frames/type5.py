@@ -7,6 +7,7 @@ from frames.words import code, counted, hexadecimal
 
 INVENTORY, STAY_QUIET = 0x01, 0x02
 READ_SINGLE, WRITE_SINGLE, LOCK_SINGLE, READ_MULTIPLE = 0x20, 0x21, 0x22, 0x23
+READ_WIDE, WRITE_WIDE = 0x30, 0x31
 SELECT, RESET_TO_READY, SYSTEM_INFORMATION = 0x25, 0x26, 0x2B
 NAMES = {
     STAY_QUIET: "STAY QUIET",
@@ -14,6 +15,8 @@ NAMES = {
     WRITE_SINGLE: "WRITE SINGLE BLOCK",
     LOCK_SINGLE: "LOCK SINGLE BLOCK",
     READ_MULTIPLE: "READ MULTIPLE BLOCKS",
+    READ_WIDE: "READ SINGLE BLOCK",
+    WRITE_WIDE: "WRITE SINGLE BLOCK",
     SELECT: "SELECT",
     RESET_TO_READY: "RESET TO READY",
     SYSTEM_INFORMATION: "GET SYSTEM INFORMATION",
@@ -86,7 +89,7 @@ class Type5:
             if len(content) != 1 + IDENTIFIER_LENGTH:
                 return None
             return f"present: {identifier(content[1:])}"
-        if self.asked in (READ_SINGLE, READ_MULTIPLE):
+        if self.asked in (READ_SINGLE, READ_MULTIPLE, READ_WIDE):
             return f"{self.what}, {counted(len(content), 'byte')}" if content else None
         if self.asked == SYSTEM_INFORMATION:
             return f"system information, {counted(len(content), 'byte')}" if content else None
@@ -102,6 +105,10 @@ def command_text(number: int, rest: bytes) -> str | None:
         return f"{NAMES[number]} {rest[0]}"
     if number == WRITE_SINGLE and len(rest) > 1:
         return f"{NAMES[number]} {rest[0]}: {hexadecimal(rest[1:])}"
+    if number == READ_WIDE and len(rest) == 2:
+        return f"{NAMES[number]} {wide_number(rest)} by two bytes"
+    if number == WRITE_WIDE and len(rest) > 2:
+        return f"{NAMES[number]} {wide_number(rest)} by two bytes: {hexadecimal(rest[2:])}"
     if number == READ_MULTIPLE and len(rest) == 2:
         return f"{NAMES[number]} {rest[0]} to {rest[0] + rest[1]}"
     if number in (STAY_QUIET, SELECT, RESET_TO_READY, SYSTEM_INFORMATION) and not rest:
@@ -113,9 +120,16 @@ def block_range(number: int, rest: bytes) -> str:
     """Which blocks the answer brings."""
     if number == READ_SINGLE:
         return f"block {rest[0]}"
+    if number == READ_WIDE:
+        return f"block {wide_number(rest)}"
     if number == READ_MULTIPLE:
         return f"blocks {rest[0]} to {rest[0] + rest[1]}"
     return ""
+
+
+def wide_number(rest: bytes) -> int:
+    """A block number of two bytes; its low byte comes first."""
+    return int.from_bytes(rest[:2], "little")
 
 
 def identifier(low_first: bytes) -> str:

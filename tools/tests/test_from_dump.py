@@ -110,7 +110,7 @@ def is_accepted(line):
         return is_nfca(bytes_of(found[1])) and int(found[2]) <= 8 and is_container and is_file
     if found := re.fullmatch(f"place t5 {content} {number} {number} {content}", line):
         blocks, size = int(found[2]), int(found[3])
-        is_memory = 1 <= blocks <= 256 and size in (4, 8, 16, 32) and len(bytes_of(found[4])) <= blocks * size
+        is_memory = 1 <= blocks <= 16384 and size in (4, 8, 16, 32) and len(bytes_of(found[4])) <= blocks * size <= 65536
         return len(bytes_of(found[1])) == 8 and is_memory
     return False
 
@@ -408,7 +408,7 @@ class UnplaceableTags(DumpCase):
 
     def test_a_type_5_tag_with_too_many_blocks(self):
         words = ("--type", "t5", "--id", "E004010203040506")
-        self.refuses("too large for the bench: 512 blocks, and 256 is the most", bytes(2048), *words)
+        self.refuses("too large for the bench: 16385 blocks, and 16384 is the most", bytes(65540), *words)
 
     def test_a_type_5_tag_without_blocks(self):
         fields = flipper_t5(Block_Count="0", Data_Content="")

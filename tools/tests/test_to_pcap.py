@@ -132,7 +132,7 @@ class Examples(unittest.TestCase):
 
     def test_what_is_left_out_is_counted(self):
         for name, left_out in (
-            ("large-type5", "26 NFC-V frames (ISO 15693 isn't ISO 14443)"),
+            ("large-type5", "30 NFC-V frames (ISO 15693 isn't ISO 14443)"),
             ("three-tags-collide", "4 NFC-V frames (ISO 15693 isn't ISO 14443); 10 clashes"),
             ("one-tag", None),
         ):
