@@ -1,11 +1,11 @@
 -- A reading of a Type 5 tag takes few commands.
-use Rattle.std.proofs.Common.{◌≡◌, ℕ, zero, suc, ◌+◌, ◌-◌, ◌*◌, ◌/◌, ◌%◌, ◌<◌, ◌≤◌, inl, inr, ◌⊎◌, List, [], length, take, Bool, true, false, nat_le, nat_lt, ◌==◌, if◌then◌else◌, refl, sym, ◌∙◌, ap, subst, arith}
+use Rattle.std.proofs.Common.{◌≡◌, ℕ, zero, suc, ◌*◌, ◌/◌, ◌%◌, ◌<◌, ◌≤◌, inl, inr, ◌⊎◌, List, [], length, take, Bool, true, false, nat_lt, ◌==◌, refl, sym, ◌∙◌, ap, subst, arith}
 use Rattle.std.specs.Prelude.{slice_index, Result, Ok, Err}
-use Rattle.std.proofs.lemmas.Bool.{cases_lt, cases_Bool, le-leb, ltb-false}
+use Rattle.std.proofs.lemmas.Bool.{cases_lt, cases_Bool, ltb-false}
 use Rattle.std.proofs.lemmas.List.{length-take-le, get_or-take}
 use Rattle.std.proofs.Math.Nat.{mul-div_cancel_left}
 use Rattle.nfc_base.specs.TagLinks.{LinkView}
-use Rattle.t5t_tag.specs.Store.{IsT5Store, blocks_in}
+use Rattle.t5t_tag.specs.Store.{IsT5Store}
 use Rattle.tlv_area.specs.declared.container.ContainerFault.{ContainerFault}
 use Rattle.tlv_area.specs.declared.container.T5Container.{T5Container}
 use Rattle.tlv_area.specs.declared.container.T5Container.TheVariants.{Ready, More}
@@ -13,59 +13,12 @@ use Rattle.tlv_area.specs.Containers.{t5_front, t5_is_open, t5_ready, t5_contain
 use Rattle.tlv_area.proofs.FrontContainers.{front_ready, is_named}
 use Rattle.tag_reader.specs.declared.how.How.{How}
 use Rattle.tag_reader.specs.declared.how.How.TheVariants.{T2, T4, T5}
-use Rattle.tag_reader.specs.declared.ask.Ask.{Ask}
-use Rattle.tag_reader.specs.declared.ask.Ask.TheVariants.{One, Many}
-use Rattle.tag_reader.specs.Blocks.{IsOne, IsMany, Progress, ask_by, known_at, ask_at, progress_behind, progress_at, NeedsBlocks}
+use Rattle.tag_reader.specs.Blocks.{IsOne, Progress, ask_by, known_at, ask_at, progress_at, NeedsBlocks}
 use Rattle.tag_reader.specs.Asked.{IsDue, AreDue}
-use Rattle.tag_reader.specs.Counts.{IsRefused, IsRefusedAt, IsFew, AsksFew}
-use Rattle.tag_reader.proofs.BlockLists.{sizes, many_single}
-
--- once several blocks were refused, each is asked for alone
-behind_single : (size : ℕ) (store : List ℕ) (p : Progress) (a : Ask) → p.single ≡ true → (progress_behind size store p a).single ≡ true
-behind_single size store p (One block) is = is
-behind_single size store p (Many block more) is = by_end (nat_le (blocks_in size store) (block + more))
-  where
-    by_end : (v : Bool) → (if v then record p { single = true } else record p { blocks = p.blocks + (more + 1) }).single ≡ true
-    by_end true = refl
-    by_end false = is
-
-single_stays : (size : ℕ) (store : List ℕ) (j m : ℕ) → (progress_at size store j).single ≡ true → (progress_at size store (m + j)).single ≡ true
-single_stays size store j zero is = let e : 0 + j ≡ j = omega arith in subst (λ k. (progress_at size store k).single ≡ true) (sym e) is
-single_stays size store j (suc m) is =
-    let e : suc m + j ≡ suc (m + j) = omega arith in
-    subst (λ k. (progress_at size store k).single ≡ true) (sym e)
-    (behind_single size store (progress_at size store (m + j)) (ask_at size store (progress_at size store (m + j))) (single_stays size store j m is))
-
-refused_single : (size : ℕ) (store : List ℕ) (p : Progress) (a : Ask) → IsRefused size store a → (progress_behind size store p a).single ≡ true
-refused_single size store p (One block) is = absurd is
-refused_single size store p (Many block more) is = (let past : nat_le (blocks_in size store) (block + more) ≡ true = le-leb (blocks_in size store) (block + more) is in rw past refl)
-
-refused_many : (size : ℕ) (store : List ℕ) (a : Ask) → IsRefused size store a → IsMany a
-refused_many size store (One block) is = is
-refused_many size store (Many block more) is = tt
-
-once : (size : ℕ) (store : List ℕ) (j k : ℕ) → j < k → IsRefusedAt size store j → IsRefusedAt size store k → ⊥
-once size store j k low one two =
-    let p : Progress = progress_at size store k in
-    let first : (progress_at size store (suc j)).single ≡ true = refused_single size store (progress_at size store j) (ask_at size store (progress_at size store j)) one in
-    let e : (k - suc j) + suc j ≡ k = omega (arith, low) in
-    let after : p.single ≡ true = subst (λ i. (progress_at size store i).single ≡ true) e (single_stays size store (suc j) (k - suc j) first) in
-    let before : p.single ≡ false = many_single size p.single (known_at size store p) (refused_many size store (ask_at size store p) two) in
-    let clash : true ≡ false = sym after ∙ before in
-    cc
-
--- where none was refused, several may be asked for
-behind_none : (size : ℕ) (store : List ℕ) (p : Progress) (a : Ask) → (IsRefused size store a → ⊥) → p.single ≡ false → (progress_behind size store p a).single ≡ false
-behind_none size store p (One block) none is = is
-behind_none size store p (Many block more) none is = elim (cases_Bool (nat_le (blocks_in size store) (block + more))) [
-  | inl past ↦ absurd (none (Rattle.std.proofs.lemmas.Bool.leb-true (blocks_in size store) (block + more) past))
-  | inr low ↦ rw low is
-]
-
-none_single : (size : ℕ) (store : List ℕ) (n : ℕ) → ((k : ℕ) → k < n → IsRefusedAt size store k → ⊥) → (progress_at size store n).single ≡ false
-none_single size store zero none = refl
-none_single size store (suc n) none =
-    behind_none size store (progress_at size store n) (ask_at size store (progress_at size store n)) (none n (omega arith)) (none_single size store n (λ k low. none k (omega (arith, low))))
+use Rattle.tag_reader.specs.Counts.{IsFew, AsksFew}
+use Rattle.tag_reader.proofs.BlockLists.{sizes}
+use Rattle.tag_reader.proofs.BlockSingles.{once, none_single}
+use Rattle.tag_reader.proofs.BlockSeldom.{asks_listed, asked_once, asked_seldom}
 
 -- what is asked for alone then
 alone : (size block : ℕ) (r : Result T5Container ContainerFault) → IsOne (ask_by size false block r) → ((f : ContainerFault) → r ≡ Err f → ⊥) → ((space : _) (wide many : Bool) → r ≡ Ok (Ready space wide many) → many ≡ true) →
@@ -87,8 +40,9 @@ front_open bytes is = elim (cases_Bool (t5_is_open bytes)) [
     never (Ok area) e = cc
     never (Err f) e = cc
 
-pub is_few : (id : List ℕ) (size : ℕ) (store : List ℕ) (n : ℕ) → IsT5Store size store → AreDue (T5 id) size store n → IsFew size store n
+pub is_few : (id : List ℕ) (size : ℕ) (store : List ℕ) (n : ℕ) → IsT5Store size store → AreDue (T5 id) size store n → IsFew id size store n
 is_few id size store n is each = record {
+  list = asks_listed id size store n;
   refused = λ j k low low' one two. elim (cases_lt j k) [
     | inl less ↦ absurd (once size store j k less one two)
     | inr more ↦ elim (cases_lt k j) [
@@ -96,6 +50,8 @@ is_few id size store n is each = record {
       | inr rest ↦ omega (arith, more, rest)
     ]
   ];
+  once = asked_once size store n;
+  seldom = asked_seldom id size store n is each;
   singles = λ allows none k low one. here allows k (none_single size store k (λ i less. none i (omega (arith, less, low)))) (each k low) one;
 }
   where

@@ -23,4 +23,6 @@ pub mod BlockLists
 pub mod BlockAsking
 pub mod BlockTurns
 pub mod BlockEndings
+pub mod BlockSingles
+pub mod BlockSeldom
 pub mod BlockCounts

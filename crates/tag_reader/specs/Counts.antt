@@ -1,5 +1,7 @@
 -- How few commands a reading of a Type 5 tag takes.
-use Rattle.std.specs.Prelude.{◌≡◌, ℕ, ◌+◌, ◌<◌, ◌≤◌, ◌%◌, ◌⊎◌, true, List, slice_index}
+use Rattle.std.specs.Prelude.{◌≡◌, ℕ, zero, suc, ◌+◌, ◌<◌, ◌≤◌, ◌/◌, ◌%◌, ◌⊎◌, Bool, true, false, List, [], ◌∷◌, ◌++◌, length, map, filter, slice_index}
+use Rattle.std.specs.List.{sum_by}
+use Rattle.std.specs.Int.{div_ceil}
 use Rattle.nfc_base.specs.TagLinks.{LinkView}
 use Rattle.t5t_tag.specs.Store.{blocks_in}
 use Rattle.tlv_area.specs.Containers.{t5_is_open}
@@ -7,8 +9,8 @@ use Rattle.tag_reader.specs.declared.how.How.{How}
 use Rattle.tag_reader.specs.declared.how.How.TheVariants.{T2, T4, T5}
 use Rattle.tag_reader.specs.declared.ask.Ask.{Ask}
 use Rattle.tag_reader.specs.declared.ask.Ask.TheVariants.{One, Many}
-use Rattle.tag_reader.specs.Blocks.{IsOne, known_at, ask_at, progress_at}
-use Rattle.tag_reader.specs.Kinds.{OfTag}
+use Rattle.tag_reader.specs.Blocks.{IsOne, ask_frame, ask_count, known_at, ask_at, progress_at}
+use Rattle.tag_reader.specs.Kinds.{OfTag, first}
 use Rattle.tag_reader.specs.Asked.{AreDue}
 
 -- several blocks of which a store doesn't have the last
@@ -20,18 +22,39 @@ IsRefused size store (Many block more) = blocks_in size store ≤ block + more
 abbrev pub IsRefusedAt : ℕ → List ℕ → ℕ → Type 0
 IsRefusedAt size store k = IsRefused size store (ask_at size store (progress_at size store k))
 
--- Of the first n commands of a reading at most one is refused. Where none is, and bit 0 of byte 3 allows several blocks at once, blocks
--- are asked for alone only until the container is whole, and from block 256 on.
-pub record IsFew (size : ℕ) (store : List ℕ) (n : ℕ) : Type 0 where
+-- what the first n commands of a reading ask for
+abbrev pub first_asks : ℕ → List ℕ → ℕ → List Ask
+first_asks size store zero = []
+first_asks size store (suc n) = first_asks size store n ++ ask_at size store (progress_at size store n) ∷ []
+
+-- those for several blocks at once (READ MULTIPLE BLOCKS), and how many blocks some ask for
+abbrev pub is_many : Ask → Bool
+is_many (One block) = false
+is_many (Many block more) = true
+
+abbrev pub several : List Ask → List Ask
+several asks = filter is_many asks
+
+abbrev pub blocks_asked : List Ask → ℕ
+blocks_asked asks = sum_by ask_count asks
+
+-- Of the first n commands of a reading, which ask for these blocks, at most one is refused. Where none is, each block is asked
+-- for once; and where bit 0 of byte 3 allows several at once too, blocks are asked for alone only until the container is whole,
+-- and from block 256 on. Besides, several at once are asked for at most once for each 256 bytes, rounded up, of the blocks that
+-- are asked for so.
+pub record IsFew (id : List ℕ) (size : ℕ) (store : List ℕ) (n : ℕ) : Type 0 where
+  pub list : first (T5 id) size store n ≡ map (λ a. ask_frame id a) (first_asks size store n)
   pub refused : (j k : ℕ) → j < n → k < n → IsRefusedAt size store j → IsRefusedAt size store k → j ≡ k
+  pub once : ((k : ℕ) → k < n → IsRefusedAt size store k → ⊥) → blocks_asked (first_asks size store n) ≡ (progress_at size store n).blocks
   pub singles : slice_index store 3 % 2 ≡ 1 → ((k : ℕ) → k < n → IsRefusedAt size store k → ⊥) →
       (k : ℕ) → k < n → IsOne (ask_at size store (progress_at size store k)) →
       (t5_is_open (known_at size store (progress_at size store k)) ≡ true) ⊎ (256 ≤ (progress_at size store k).blocks)
+  pub seldom : length (several (first_asks size store n)) ≤ div_ceil (blocks_asked (several (first_asks size store n))) (256 / size)
 
 abbrev pub IsFewOf : How → ℕ → List ℕ → ℕ → Type 0
 IsFewOf T2 size store n = Unit {0}
 IsFewOf T4 size store n = Unit {0}
-IsFewOf (T5 id) size store n = IsFew size store n
+IsFewOf (T5 id) size store n = IsFew id size store n
 
 -- whatever the number of commands that are answered
 abbrev pub AsksFew : How → LinkView → Type 0

@@ -28,7 +28,8 @@ pub fn ask_blocks<T: TagLink>(
     requires asks { CanAsk known.old }
     ensures grows { IfOk result (λ more. more ≡ true → Grows known.old known.new) }
     // whatever the tag does
-    ensures sees { (a : LinkView) (ps : List (List ℕ)) → Under (hows.T5 id) a (T.seen link.old) ps → IsKnown ps known.old →
+    ensures sees { (a : LinkView) (ps : List (List ℕ)) → Under (hows.T5 id) a (T.seen link.old) ps →
+        IsKnown ps known.old →
         SeesBlocks id a (T.seen link.new) ps known.old known.new result }
     ensures next { (size n : ℕ) (a : LinkView) → IsReading id size a (T.seen link.old) known.old n →
         IsDue (hows.T5 id) size a.state.store n →

@@ -29,7 +29,8 @@ impl Known {
 
     /// Adds the content of blocks. The first one tells how long each is.
     pub fn learn(&mut self, content: &[u8]) -> Result<(), AllocError>
-        ensures size { OnOk result (self.new.size ≡ (if self.old.size == 0 then length content.now else self.old.size)) }
+        ensures size { OnOk result (self.new.size ≡
+            (if self.old.size == 0 then length content.now else self.old.size)) }
         ensures single { OnOk result (self.new.single ≡ self.old.single) }
         ensures bytes { OnOk result (self.new.bytes.items ≡ self.old.bytes.items ++ content.now) }
     {

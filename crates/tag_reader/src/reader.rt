@@ -3,6 +3,7 @@
 ghost use Rattle.std.specs.Prelude.{◌≡◌, IsErrOf, Some};
 ghost use Rattle.nfc_base.specs.declared.tag_link.AskFault.{AskFault};
 ghost use Rattle.tag_reader.specs.declared.how.How.TheVariants as hows;
+ghost use Rattle.tag_reader.specs.declared.found.Site.{Site};
 ghost use Rattle.tag_reader.specs.Reading.{KeepsStore, AsksInOrder, AsksAll, LeavesLink, TellsMessage, TellsCause, TellsInCalm};
 ghost use Rattle.tag_reader.specs.Counts.{AsksFew};
 ghost use Rattle.tag_reader.specs.Heard.{IsOf, IsToldBy, TellsExactly, TellsRefusals, TellsSaid, TellsCutOff};
@@ -17,7 +18,7 @@ use crate::how::How;
 use crate::known::Known;
 use nfc_base::{Items, TagLink};
 use std::alloc::Global;
-use tlv_area::copy_message;
+use tlv_area::{AreaMap, copy_message};
 
 /// Reads the message of the tag behind a link, which is of the kind that `how` names (NFC Forum Type 2 Tag, Type 4 Tag and
 /// Type 5 Tag). It writes nothing, and asks for no more than it needs.
@@ -87,14 +88,7 @@ fn read_area<T: TagLink>(alloc: Global, link: &mut T, how: How) -> Result<Found,
     let map = find_map(alloc, link, how, &mut known)?;
     match copy_message(alloc, &map, known.as_slice()) {
         Err(_) => Err(ReadFault::Memory),
-        Ok(message) => {
-            let writable = map.space.writable;
-            Ok(Found {
-                message: Items::new(message),
-                site: Site::Area(map),
-                writable,
-            })
-        }
+        Ok(message) => Ok(found_in(map, message)),
     }
 }
 
@@ -113,13 +107,18 @@ fn read_blocks<T: TagLink>(alloc: Global, link: &mut T, id: [u8; 8]) -> Result<F
     let map = find_in_blocks(alloc, link, id, &mut known)?;
     match copy_message(alloc, &map, known.bytes.as_slice()) {
         Err(_) => Err(ReadFault::Memory),
-        Ok(message) => {
-            let writable = map.space.writable;
-            Ok(Found {
-                message: Items::new(message),
-                site: Site::Area(map),
-                writable,
-            })
-        }
+        Ok(message) => Ok(found_in(map, message)),
+    }
+}
+
+/// A message that lies in an area.
+fn found_in(map: AreaMap, message: Vec<u8>) -> Found
+    ensures { result ≡ record { message = message.items; site = Site.Area map; writable = map.space.writable } }
+{
+    let writable = map.space.writable;
+    Found {
+        message: Items::new(message),
+        site: Site::Area(map),
+        writable,
     }
 }

@@ -87,7 +87,8 @@ fn is_blocks(ask: &Ask, size: usize, content: usize) -> bool
 /// An error of a Type 5 tag. Whatever it is, several blocks are then asked for one by one. Of a block that isn't there behind
 /// the first it tells that the tag has ended.
 fn tell_error(ask: &Ask, size: usize, code: u8) -> Result<BlocksTold, ReadFault>
-    ensures tells { (id : List ℕ) (r : Signal) → r ≡ t5.answer_frame (T5Answer.Error code) → TellsBlocks id ask.now size r result }
+    ensures tells { (id : List ℕ) (r : Signal) → r ≡ t5.answer_frame (T5Answer.Error code) →
+        TellsBlocks id ask.now size r result }
 {
     match ask {
         Ask::Many { block: _, more: _ } => Ok(BlocksTold::Single),

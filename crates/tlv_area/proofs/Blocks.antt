@@ -3,14 +3,14 @@ use Rattle.std.proofs.Common.{◌≡◌, ℕ, suc, zero, ◌+◌, ◌-◌, ◌*�
 use Rattle.std.specs.Prelude.{◌||◌, ◌&&◌, ◌==◌, filter, IfSome, IfNone}
 use Rattle.std.specs.Option.{is_some}
 use Rattle.std.specs.List.{range_with_len}
-use Rattle.std.proofs.Math.Nat.{lt-div-mul-add, mul-le-mul_left}
+use Rattle.std.proofs.Math.Nat.{lt-div-mul-add, mul-le-mul_left, mul-le-mul_right}
 use Rattle.std.proofs.lemmas.Nat.{div-mul-add, div-add-mod', le-div}
 use Rattle.std.proofs.lemmas.List.{length-append}
 use Rattle.std.proofs.lemmas.List.Folds.{list_any-append}
-use Rattle.std.proofs.lemmas.Bool.{cases_Bool, ne_eqb, eq-eqb}
+use Rattle.std.proofs.lemmas.Bool.{cases_Bool, cases_lt, ne_eqb, eq-eqb}
 use Rattle.tlv_area.specs.Layout.{free}
 use Rattle.tlv_area.specs.Reading.{IsPast}
-use Rattle.tlv_area.specs.Writing.{touches, blocks_touched, blocks_below}
+use Rattle.tlv_area.specs.Writing.{touches, changes, blocks_changed, blocks_below}
 use Rattle.tlv_area.proofs.Free.{free_split, free_at, range-add, length-free_open}
 use Rattle.std.proofs.lemmas.List.Elements.{filter-append}
 
@@ -86,13 +86,15 @@ module _ (r : ℕ → Bool) (from to size k first behind : ℕ) (some : 0 < size
       omega (arith, none, free_some r first behind b there.0 there.1 open_cell)))
 
 -- one block more
-pub blocks_more : (size : ℕ) (cells : List ℕ) (h n : ℕ) →
-    blocks_touched size cells h (n + 1) ≡ blocks_touched size cells h n ++ cond (not (n == h) && touches size cells n) (n ∷ []) []
-blocks_more size cells h n =
+pub blocks_more : (size : ℕ) (cells : List ℕ) (h : ℕ) (old new : List ℕ) (n : ℕ) →
+    blocks_changed size cells h old new (n + 1)
+    ≡ blocks_changed size cells h old new n ++ cond ((not (n == h) && touches size cells n) && changes size old new n) (n ∷ []) []
+blocks_more size cells h old new n =
     let base : 0 + n ≡ n = omega arith in
     let last : range_with_len (0 + n) 1 ≡ n ∷ [] = ap (λ b. range_with_len b 1) base in
-    ap (λ c. filter (λ k. not (k == h) && touches size cells k) c) (range-add 0 n 1 ∙ ap (λ c. range_with_len 0 n ++ c) last)
-    ∙ filter-append (λ k. not (k == h) && touches size cells k) (range_with_len 0 n) (n ∷ [])
+    ap (λ c. filter (λ k. (not (k == h) && touches size cells k) && changes size old new k) c)
+    (range-add 0 n 1 ∙ ap (λ c. range_with_len 0 n ++ c) last)
+    ∙ filter-append (λ k. (not (k == h) && touches size cells k) && changes size old new k) (range_with_len 0 n) (n ∷ [])
 
 -- the block of an address before the end is whole among the blocks up to the end
 pub block_within : (a end size : ℕ) → 0 < size → a < end → size * (a / size) + size ≤ size * blocks_below size end
@@ -104,6 +106,13 @@ block_within a end size some below =
     let more : q + 1 ≤ (end + size - 1) / size = le-div (q + 1) (end + size - 1) size some inside in
     let turned : size * (q + 1) ≡ size * q + size = omega arith in
     omega (arith, turned, mul-le-mul_left size more)
+
+-- the number of the block of an address below an end that so many blocks reach
+pub block_number : (a end size n : ℕ) → 0 < size → a < end → end ≤ n * size → a / size < n
+block_number a end size n some below reach = elim (cases_lt (a / size) n) [
+  | inl less ↦ less
+  | inr more ↦ absurd (omega (arith, (block_bounds size a some).0, mul-le-mul_right size more, below, reach))
+]
 
 -- the blocks up to the end are whole where that of the last address is
 pub blocks_within : (end size room : ℕ) → 0 < size → 0 < end → size * ((end - 1) / size) + size ≤ room → size * blocks_below size end ≤ room

@@ -1,13 +1,15 @@
 -- What a plan's steps leave.
-use Rattle.std.proofs.Common.{◌≡◌, ℕ, suc, zero, ◌+◌, ◌-◌, ◌*◌, ◌/◌, ◌%◌, ◌<◌, ◌≤◌, Bool, true, false, cond, List, [], ◌∷◌, ◌++◌, length, not, refl, sym, ◌∙◌, ap, arith, subst, take, drop, map, inl, inr, eqb, ltb, leb, set}
-use Rattle.std.specs.Prelude.{slice_index, ◌||◌, ◌&&◌, ◌==◌, nat_lt, nat_le, filter, min}
+use Rattle.std.proofs.Common.{◌≡◌, ℕ, suc, zero, ◌+◌, ◌-◌, ◌*◌, ◌/◌, ◌%◌, ◌<◌, ◌≤◌, Bool, true, false, cond, List, [], ◌∷◌, ◌++◌, length, not, refl, sym, ◌∙◌, ap, arith, subst, take, drop, map, inl, inr, eqb, ltb, leb}
+use Rattle.std.specs.Prelude.{◌≢◌, slice_index, ◌||◌, ◌&&◌, ◌==◌, nat_lt, nat_le, filter, min}
 use Rattle.std.specs.List.{range_with_len, list_any, list_all, flat_map, AllByRecursion}
 use Rattle.std.proofs.Math.Nat.{mul-le-mul_right, min-le_left, min-le_right}
-use Rattle.std.proofs.lemmas.List.{length-append, length-drop, length-set, get_or-set_same, get_or-set_other, take-append-drop, take-map, take-take, take_at, ext_get_or}
+use Rattle.std.proofs.lemmas.List.{length-append, length-drop, length-set, get_or-set_same, get_or-set_other, append_assoc, append-nil, take-append-drop, take-map, take-take, take_at, ext_get_or}
 use Rattle.std.proofs.lemmas.List.Folds.{list_any-append, list_all-append}
-use Rattle.std.proofs.lemmas.Bool.{cases_Bool, cases_eq, eqb-true, ne_eqb, eq-eqb, ltb-true, ltb-false, leb-true, leb-false, lt-ltb, le-ltb, and_parts}
+use Rattle.std.proofs.lemmas.Bool.{cases_Bool, cases_eq, eqb-true, ne_eqb, eq-eqb, ltb-true, ltb-false, leb-true, leb-false, le-ltb, and_parts}
 use Rattle.std.proofs.lemmas.Nat.{div-add-mod', le-div}
-use Rattle.nfc_base.specs.Blocks.{block_of}
+use Rattle.std.specs.Str.{bytes_eq}
+use Rattle.std.proofs.lemmas.Slice.Eq.{bytes_eq-Decides}
+use Rattle.nfc_base.specs.Blocks.{with_block, block_of}
 use Rattle.tlv_area.specs.declared.space.AreaMap.{AreaMap}
 use Rattle.tlv_area.specs.declared.step.Step.{Step}
 use Rattle.tlv_area.specs.declared.step.Plan.{Plan}
@@ -15,16 +17,18 @@ use Rattle.tlv_area.specs.Layout.{Tlv, bytes_at, reserved_by}
 use Rattle.tlv_area.specs.Form.{Holds}
 use Rattle.tlv_area.specs.Map.{IsMap, map_cells, in_ranges}
 use Rattle.tlv_area.specs.Tail.{map_tail, message_tail, new_tail, written, span, map_room, capacity_of}
-use Rattle.tlv_area.specs.Writing.{is_in, SameOutside, IsNew, blocks_below, fill_blocks, home, touches, write_of, block_in, IsPlan, IsWhole, PlanKeeps, after_step, after_steps, steps_of}
+use Rattle.tlv_area.specs.Writing.{is_in, SameOutside, IsNew, blocks_below, fill_blocks, home, touches, changes, closed_block, IsStepTo, write_of, block_in, IsPlan, IsWhole, PlanKeeps, EachChanges, writes_of, after_steps, made, steps_of, image}
 use Rattle.tlv_area.proofs.Steps.{free_below}
 use Rattle.tlv_area.proofs.Places.{message_fits, map_parts, tail_same}
 use Rattle.tlv_area.proofs.Holding.{tail_holds, apart}
 use Rattle.tlv_area.proofs.OneForm.{range_above}
-use Rattle.tlv_area.proofs.Blocks.{block_bounds, block_within}
+use Rattle.tlv_area.proofs.Blocks.{block_is, block_bounds, block_within}
+use Rattle.tlv_area.proofs.Filters.{filter_below, filter_has, filter_all, filter_each, Distinct, filter_distinct}
+use Rattle.tlv_area.proofs.Changing.{block_same, made_leaves, made_changes, made_whole, each_append, AreOther, others_kept, fills_change, writes-append, writes_made, writes_none, writes_absent, writes_once}
 use Rattle.tlv_area.proofs.Stepping.{Writes, written_block, steps_write, After, steps_leave, after_append, or_false, length-with_block, block_inside, block_other, block_of-at, block_of-size}
 
 -- what each of a list passes, each of a part passes
-all_drop : (p : ℕ → Bool) (n : ℕ) (xs : List ℕ) → list_all p xs ≡ true → list_all p (drop n xs) ≡ true
+pub all_drop : (p : ℕ → Bool) (n : ℕ) (xs : List ℕ) → list_all p xs ≡ true → list_all p (drop n xs) ≡ true
 all_drop p n xs all_of = (and_parts (list_all p (take n xs)) (list_all p (drop n xs))
     (sym (list_all-append p (take n xs) (drop n xs)) ∙ ap (λ c. list_all p c) (take-append-drop n xs) ∙ all_of)).1
 
@@ -32,7 +36,7 @@ all_take : (p : ℕ → Bool) (n : ℕ) (xs : List ℕ) → list_all p xs ≡ tr
 all_take p n xs all_of = (and_parts (list_all p (take n xs)) (list_all p (drop n xs))
     (sym (list_all-append p (take n xs) (drop n xs)) ∙ ap (λ c. list_all p c) (take-append-drop n xs) ∙ all_of)).0
 
-any_take : (p : ℕ → Bool) (n : ℕ) (xs : List ℕ) → list_any p xs ≡ false → list_any p (take n xs) ≡ false
+pub any_take : (p : ℕ → Bool) (n : ℕ) (xs : List ℕ) → list_any p xs ≡ false → list_any p (take n xs) ≡ false
 any_take p n xs none = (or_false (list_any p (take n xs)) (list_any p (drop n xs))
     (sym (list_any-append p (take n xs) (drop n xs)) ∙ ap (λ c. list_any p c) (take-append-drop n xs) ∙ none)).0
 
@@ -49,34 +53,17 @@ all_in p (x ∷ xs) a all_of there =
       | inr e ↦ (let rest : is_in xs a ≡ true = rw e at there in all_in p xs a parts.1 rest)
     ]
 
--- numbers of a range stay below its end
-filter_below : (p : ℕ → Bool) (a n top : ℕ) → a + n ≤ top → list_all (λ k. nat_lt k top) (filter p (range_with_len a n)) ≡ true
-filter_below p a zero top high = refl
-filter_below p a (suc n) top high =
-    let rest = filter_below p (a + 1) n top (omega arith) in
-    let here : ltb a top ≡ true = lt-ltb a top (omega arith) in
-    elim (p a) as (λ v. list_all (λ k. nat_lt k top) (cond v (a ∷ filter p (range_with_len (a + 1) n)) (filter p (range_with_len (a + 1) n))) ≡ true)
-    [ true ↦ rw here rest | false ↦ rest ]
-
--- a number that passes is among those that pass
-filter_has : (p : ℕ → Bool) (a n k : ℕ) → a ≤ k → k < a + n → p k ≡ true → is_in (filter p (range_with_len a n)) k ≡ true
-filter_has p a zero k low high passes = absurd (omega arith)
-filter_has p a (suc n) k low high passes = elim (cases_eq a k) [
-  | inl e ↦ (let here : p a ≡ true = ap p e ∙ passes in rw (here, eq-eqb a k e) refl)
-  | inr e ↦
-      (let rest = filter_has p (a + 1) n k (omega arith) (omega arith) passes in
-      let other : eqb a k ≡ false = ne_eqb a k e in
-      elim (cases_Bool (p a)) [ inl t ↦ rw (t, other) rest | inr f ↦ rw f rest ])
-]
-
 -- the one that is left out isn't
-filter_lacks : (q : ℕ → Bool) (h : ℕ) (xs : List ℕ) → is_in (filter (λ k. not (k == h) && q k) xs) h ≡ false
-filter_lacks q h [] = refl
-filter_lacks q h (x ∷ xs) =
-    let rest = filter_lacks q h xs in
+filter_lacks : (q c : ℕ → Bool) (h : ℕ) (xs : List ℕ) → is_in (filter (λ k. (not (k == h) && q k) && c k) xs) h ≡ false
+filter_lacks q c h [] = refl
+filter_lacks q c h (x ∷ xs) =
+    let rest = filter_lacks q c h xs in
     elim (cases_Bool (eqb x h)) [
       | inl e ↦ rw e rest
-      | inr e ↦ elim (cases_Bool (q x)) [ inl t ↦ rw (e, t, e) rest | inr f ↦ rw (e, f) rest ]
+      | inr e ↦ elim (cases_Bool (q x)) [
+        | inl t ↦ elim (cases_Bool (c x)) [ inl d ↦ rw (e, t, d, e) rest | inr d ↦ rw (e, t, d) rest ]
+        | inr f ↦ rw (e, f) rest
+      ]
     ]
 
 -- the block of an address is touched by it
@@ -91,14 +78,6 @@ touched_by size (x ∷ xs) a there = elim (cases_Bool (eqb x a)) [
     or_right : (x y : Bool) → y ≡ true → (x || y) ≡ true
     or_right true y e = refl
     or_right false y e = e
-
--- what a filter leaves, passes
-filter_all : (p : ℕ → Bool) (xs : List ℕ) → list_all p (filter p xs) ≡ true
-filter_all p [] = refl
-filter_all p (x ∷ xs) = elim (cases_Bool (p x)) [
-  | inl t ↦ rw (t, t) (filter_all p xs)
-  | inr f ↦ rw f (filter_all p xs)
-]
 
 -- whole blocks, of steps that write blocks as a new store has them
 all_whole : (size n : ℕ) (old new : List ℕ) (ss us : List Step) → n * size ≤ length old → length new ≡ length old →
@@ -154,19 +133,13 @@ module _ (size : ℕ) (m : AreaMap) (old message new : List ℕ) (plan' : Plan) 
   count = blocks_below size m.space.end
 
   abbrev blocks : List ℕ
-  blocks = fill_blocks size m.space.end (map_tail m) message
+  blocks = fill_blocks size m.space.end (map_tail m) old message new
 
-  close_block : plan'.close.block ≡ home size (map_tail m)
-  close_block = ap (λ (p : ℕ × List ℕ). p.0) plan_is.close
+  abbrev is_filled : ℕ → Bool
+  is_filled k = (not (k == home size (map_tail m)) && touches size (span (map_tail m) message) k) && changes size old new k
 
-  close_content : plan'.close.content.items ≡ set (block_of size old (home size (map_tail m))) (slice_index (map_tail m) 0 % size) 0
-  close_content = ap (λ (p : ℕ × List ℕ). p.1) plan_is.close
-
-  last_block : plan'.last.block ≡ home size (map_tail m)
-  last_block = ap (λ (p : ℕ × List ℕ). p.0) plan_is.last
-
-  last_content : Writes size new plan'.last
-  last_content = ap (λ (p : ℕ × List ℕ). p.1) plan_is.last ∙ ap (λ k. block_of size new k) (sym last_block)
+  abbrev closing : List ℕ
+  closing = closed_block size (map_tail m) old
 
   fill_all : (map written_block plan'.fill ≡ blocks) × AllByRecursion (Writes size new) plan'.fill
   fill_all = steps_write size new plan'.fill blocks plan_is.fill
@@ -220,35 +193,29 @@ module _ (size : ℕ) (m : AreaMap) (old message new : List ℕ) (plan' : Plan) 
   home_within = let turned : size * (f / size) ≡ f / size * size = omega arith in omega (arith, block_within f m.space.end size some f_below, room, turned)
 
   abbrev closed : List ℕ
-  closed = after_step size old plan'.close
+  closed = with_block size old (f / size) closing
 
-  close_size : length plan'.close.content.items ≡ size
-  close_size = ap length close_content ∙ length-set (block_of size old (f / size)) (f % size) 0 ∙ block_of-size size old (f / size) home_within
-
-  close_within : plan'.close.block * size + size ≤ length old
-  close_within = subst (λ k. k * size + size ≤ length old) (sym close_block) home_within
+  close_size : length closing ≡ size
+  close_size = length-set (block_of size old (f / size)) (f % size) 0 ∙ block_of-size size old (f / size) home_within
 
   closed_size : length closed ≡ length old
-  closed_size = length-with_block size old plan'.close.block plan'.close.content.items close_size close_within
+  closed_size = length-with_block size old (f / size) closing close_size home_within
+
+  close_leaves : after_steps size old (made plan'.close) ≡ closed
+  close_leaves = made_leaves size old (f / size) closing plan'.close plan_is.close
 
   -- inside the home block, by its place there
-  close_inside : (a : ℕ) → a / size ≡ f / size →
-      slice_index closed a ≡ slice_index (set (block_of size old (f / size)) (f % size) 0) (a - f / size * size)
+  close_inside : (a : ℕ) → a / size ≡ f / size → slice_index closed a ≡ slice_index closing (a - f / size * size)
   close_inside a e =
       let bounds = block_bounds size a some in
       let base : a / size * size ≡ f / size * size = ap (λ j. j * size) e in
-      let home_is : plan'.close.block * size ≡ f / size * size = ap (λ k. k * size) close_block in
-      let low : plan'.close.block * size ≤ a = omega (arith, bounds.0, base, home_is) in
-      let high : a < plan'.close.block * size + size = omega (arith, bounds.1, base, home_is) in
-      block_inside size old plan'.close.block plan'.close.content.items close_size close_within a low high
-      ∙ ap (λ c. slice_index c (a - plan'.close.block * size)) close_content
-      ∙ ap (λ n. slice_index (set (block_of size old (f / size)) (f % size) 0) (a - n)) home_is
+      block_inside size old (f / size) closing close_size home_within a (omega (arith, bounds.0, base)) (omega (arith, bounds.1, base))
 
   closed_first : slice_index closed f ≡ 0
   closed_first =
       let place : f - f / size * size ≡ f % size = omega (arith, div-add-mod' f size) in
       let inside : f % size < length (block_of size old (f / size)) = omega (arith, block_of-size size old (f / size) home_within, block_bounds size f some, div-add-mod' f size) in
-      close_inside f refl ∙ ap (λ n. slice_index (set (block_of size old (f / size)) (f % size) 0) n) place
+      close_inside f refl ∙ ap (λ n. slice_index closing n) place
       ∙ get_or-set_same (block_of size old (f / size)) (f % size) 0 0 inside
 
   closed_other : (a : ℕ) → (a ≡ f → ⊥) → slice_index closed a ≡ slice_index old a
@@ -260,17 +227,20 @@ module _ (size : ℕ) (m : AreaMap) (old message new : List ℕ) (plan' : Plan) 
         let ne : a - f / size * size ≡ f % size → ⊥ = λ x. other (omega (arith, bounds.0, base, places)) in
         close_inside a e ∙ get_or-set_other (block_of size old (f / size)) (f % size) (a - f / size * size) 0 0 ne
         ∙ block_of-at size old (f / size) a (omega (arith, bounds.0, base)) (omega (arith, bounds.1, base)))
-    | inr e ↦ block_other size old plan'.close.block plan'.close.content.items close_size close_within a some (λ x. e (x ∙ close_block))
+    | inr e ↦ block_other size old (f / size) closing close_size home_within a some e
   ]
 
   abbrev image_at : ℕ → List ℕ
   image_at n = after_steps size closed (take n plan'.fill)
 
   count_above : list_all (λ k. nat_lt k count) blocks ≡ true
-  count_above = filter_below (λ k. not (k == home size (map_tail m)) && touches size (span (map_tail m) message) k) 0 count count (omega arith)
+  count_above = filter_below is_filled 0 count count (omega arith)
 
   blocks_lack : is_in blocks (f / size) ≡ false
-  blocks_lack = filter_lacks (λ k. touches size (span (map_tail m) message) k) (f / size) (range_with_len 0 count)
+  blocks_lack = filter_lacks (λ k. touches size (span (map_tail m) message) k) (changes size old new) (f / size) (range_with_len 0 count)
+
+  image_leaves : (n : ℕ) → image size old plan' n ≡ image_at n
+  image_leaves n = after_append size old (made plan'.close) (take n plan'.fill) ∙ ap (λ s. after_steps size s (take n plan'.fill)) close_leaves
 
   image_is : (n : ℕ) → After size closed new (take n plan'.fill) (image_at n)
   image_is n = steps_leave size count closed new (take n plan'.fill) some (omega (arith, closed_size, room_turned)) (sizes ∙ sym closed_size)
@@ -344,9 +314,6 @@ module _ (size : ℕ) (m : AreaMap) (old message new : List ℕ) (plan' : Plan) 
       (record { size = sizes; same = λ a away. new_is.outside.same a (span_in_tail a away) })
       parts.0 (omega (arith, parts.1, tail_length)) (ap (λ c. bytes_at new c) (sym cells) ∙ inside)
 
-  last_size : length plan'.last.content.items ≡ size
-  last_size = ap length last_content ∙ block_of-size size new plan'.last.block (subst (λ k. k * size + size ≤ length new) (sym last_block) (omega (arith, home_within, sizes)))
-
   abbrev filled : List ℕ
   filled = after_steps size closed plan'.fill
 
@@ -355,63 +322,102 @@ module _ (size : ℕ) (m : AreaMap) (old message new : List ℕ) (plan' : Plan) 
       fill_all.1
       (ap (λ bs. list_all (λ k. nat_lt k count) bs) fill_all.0 ∙ count_above)
 
-  last_within : plan'.last.block * size + size ≤ length filled
-  last_within = subst (λ k. k * size + size ≤ length filled) (sym last_block) (omega (arith, home_within, filled_is.same_size, closed_size))
+  filled_size : length filled ≡ length old
+  filled_size = filled_is.same_size ∙ closed_size
 
-  full_at : (a : ℕ) → slice_index (after_step size filled plan'.last) a ≡ slice_index new a
-  full_at a = elim (cases_eq (a / size) plan'.last.block) [
-    | inl e ↦
-        (let bounds = block_bounds size a some in
-        let base : a / size * size ≡ plan'.last.block * size = ap (λ j. j * size) e in
-        let low : plan'.last.block * size ≤ a = omega (arith, bounds.0, base) in
-        let high : a < plan'.last.block * size + size = omega (arith, bounds.1, base) in
-        block_inside size filled plan'.last.block plan'.last.content.items last_size last_within a low high
-        ∙ ap (λ c. slice_index c (a - plan'.last.block * size)) last_content ∙ block_of-at size new plan'.last.block a low high)
-    | inr e ↦
-        block_other size filled plan'.last.block plan'.last.content.items last_size last_within a some e
-        ∙ elim (cases_Bool (is_in (map written_block plan'.fill) (a / size))) [
-          | inl in' ↦ filled_is.filled a in'
-          | inr out ↦ filled_is.kept a out ∙ closed_other a (λ x. e (ap (λ n. n / size) x ∙ sym last_block))
-              ∙ sym (new_is.outside.same a (not_in_span a (λ x. e (x ∙ sym last_block)) (sym (ap (λ bs. is_in bs (a / size)) fill_all.0) ∙ out)))
-        ]
+  filled_within : f / size * size + size ≤ length filled
+  filled_within = omega (arith, home_within, filled_size)
+
+  filled_home : block_of size filled (f / size) ≡ closing
+  filled_home = block_same size (f / size) filled closed filled_within (omega (arith, home_within, closed_size))
+      (λ a low high. filled_is.kept a (ap (λ bs. is_in bs (a / size)) fill_all.0 ∙ ap (λ k. is_in blocks k) (block_is size (f / size) a low high) ∙ blocks_lack))
+      ∙ ext_get_or 0 (block_of size closed (f / size)) closing (closed_home_size ∙ sym close_size)
+      (λ i low.
+      let a : ℕ = f / size * size + i in
+      let place : a - f / size * size ≡ i = omega arith in
+      let high : a < f / size * size + size = omega (arith, closed_home_size, low) in
+      sym (ap (λ n. slice_index (block_of size closed (f / size)) n) place) ∙ block_of-at size closed (f / size) a (omega arith) high
+      ∙ close_inside a (block_is size (f / size) a (omega arith) high) ∙ ap (λ n. slice_index closing n) place)
+    where
+      closed_home_size : length (block_of size closed (f / size)) ≡ size
+      closed_home_size = block_of-size size closed (f / size) (omega (arith, home_within, closed_size))
+
+  abbrev shown : List ℕ
+  shown = block_of size new (f / size)
+
+  shown_size : length shown ≡ size
+  shown_size = block_of-size size new (f / size) (omega (arith, home_within, sizes))
+
+  last_is : IsStepTo (f / size) (block_of size filled (f / size)) shown plan'.last
+  last_is = subst (λ c. IsStepTo (f / size) c shown plan'.last) (sym filled_home) plan_is.last
+
+  abbrev full : List ℕ
+  full = with_block size filled (f / size) shown
+
+  last_leaves : after_steps size filled (made plan'.last) ≡ full
+  last_leaves = made_leaves size filled (f / size) shown plan'.last last_is
+
+  -- a block that has no step of fill, and isn't the home block, is the old one's in the new store
+  unchanged : (a : ℕ) → (a / size ≡ f / size → ⊥) → is_in blocks (a / size) ≡ false → slice_index new a ≡ slice_index old a
+  unchanged a other out = elim (cases_Bool (is_in (span (map_tail m) message) a)) [
+    | inr absent ↦ new_is.outside.same a absent
+    | inl there ↦ elim (cases_Bool (bytes_eq (block_of size old (a / size)) (block_of size new (a / size)))) [
+      | inl same ↦
+          (let bounds = block_bounds size a some in
+          let one : block_of size old (a / size) ≡ block_of size new (a / size) =
+          (bytes_eq-Decides (block_of size old (a / size)) (block_of size new (a / size))).0 same in
+          sym (block_of-at size new (a / size) a bounds.0 bounds.1) ∙ ap (λ c. slice_index c (a - a / size * size)) (sym one)
+          ∙ block_of-at size old (a / size) a bounds.0 bounds.1)
+      | inr differs ↦
+          (let below : a < m.space.end = tail_below a (from_take a there) in
+          let less : a / size < count = block_less a below in
+          let not_home : eqb (a / size) (f / size) ≡ false = ne_eqb (a / size) (f / size) other in
+          let touched : touches size (span (map_tail m) message) (a / size) ≡ true = touched_by size (span (map_tail m) message) a there in
+          let passes : is_filled (a / size) ≡ true = rw (not_home, touched, differs) refl in
+          let has = filter_has is_filled 0 count (a / size) (omega arith) (omega arith) passes in
+          let clash : true ≡ false = sym has ∙ out in cc)
+    ]
   ]
     where
-      not_in_span : (a : ℕ) → (a / size ≡ f / size → ⊥) → is_in blocks (a / size) ≡ false → is_in (span (map_tail m) message) a ≡ false
-      not_in_span a other out = elim (cases_Bool (is_in (span (map_tail m) message) a)) [
-        | inr absent ↦ absent
-        | inl there ↦
-            (let in_tail : is_in (map_tail m) a ≡ true = from_take a there in
-            let below : a < m.space.end = tail_below a in_tail in
-            let within = block_within a m.space.end size some below in
-            let bounds = block_bounds size a some in
-            let less : a / size < count = block_less a below in
-            let not_home : eqb (a / size) (f / size) ≡ false = ne_eqb (a / size) (f / size) other in
-            let touched : touches size (span (map_tail m) message) (a / size) ≡ true = touched_by size (span (map_tail m) message) a there in
-            let passes : (not (eqb (a / size) (f / size)) && touches size (span (map_tail m) message) (a / size)) ≡ true = rw (not_home, touched) refl in
-            let has = filter_has (λ k. not (k == home size (map_tail m)) && touches size (span (map_tail m) message) k) 0 count (a / size) (omega arith) (omega arith) passes in
-            let clash : true ≡ false = sym has ∙ out in cc)
+      from_take : (a : ℕ) → is_in (span (map_tail m) message) a ≡ true → is_in (map_tail m) a ≡ true
+      from_take a there = elim (cases_Bool (is_in (map_tail m) a)) [
+        | inl e ↦ e
+        | inr e ↦ (let clash : true ≡ false = sym there ∙ span_in_tail a e in cc)
       ]
-        where
-          from_take : (a : ℕ) → is_in (span (map_tail m) message) a ≡ true → is_in (map_tail m) a ≡ true
-          from_take a there = elim (cases_Bool (is_in (map_tail m) a)) [
-            | inl e ↦ e
-            | inr e ↦ (let clash : true ≡ false = sym there ∙ span_in_tail a e in cc)
-          ]
 
-          block_less : (a : ℕ) → a < m.space.end → a / size < count
-          block_less a below =
-              let bounds = block_bounds size a some in
-              let product : (a / size + 1) * size ≡ a / size * size + size = omega arith in
-              let more : a / size + 1 ≤ count = le-div (a / size + 1) (m.space.end + size - 1) size some (omega (arith, bounds.0, product)) in
-              omega arith
+      block_less : (a : ℕ) → a < m.space.end → a / size < count
+      block_less a below =
+          let bounds = block_bounds size a some in
+          let product : (a / size + 1) * size ≡ a / size * size + size = omega arith in
+          let more : a / size + 1 ≤ count = le-div (a / size + 1) (m.space.end + size - 1) size some (omega (arith, bounds.0, product)) in
+          omega arith
 
-  full_is : after_step size filled plan'.last ≡ new
-  full_is = ext_get_or 0 (after_step size filled plan'.last) new
-      (length-with_block size filled plan'.last.block plan'.last.content.items last_size last_within ∙ filled_is.same_size ∙ closed_size ∙ sym sizes)
-      (λ a _. full_at a)
+  full_at : (a : ℕ) → slice_index full a ≡ slice_index new a
+  full_at a = elim (cases_eq (a / size) (f / size)) [
+    | inl e ↦
+        (let bounds = block_bounds size a some in
+        let base : a / size * size ≡ f / size * size = ap (λ j. j * size) e in
+        let low : f / size * size ≤ a = omega (arith, bounds.0, base) in
+        let high : a < f / size * size + size = omega (arith, bounds.1, base) in
+        block_inside size filled (f / size) shown shown_size filled_within a low high ∙ block_of-at size new (f / size) a low high)
+    | inr e ↦
+        block_other size filled (f / size) shown shown_size filled_within a some e
+        ∙ elim (cases_Bool (is_in (map written_block plan'.fill) (a / size))) [
+          | inl in' ↦ filled_is.filled a in'
+          | inr out ↦ filled_is.kept a out ∙ closed_other a (λ x. e (ap (λ n. n / size) x))
+              ∙ sym (unchanged a e (sym (ap (λ bs. is_in bs (a / size)) fill_all.0) ∙ out))
+        ]
+  ]
+
+  full_is : full ≡ new
+  full_is = ext_get_or 0 full new (length-with_block size filled (f / size) shown shown_size filled_within ∙ filled_size ∙ sym sizes) (λ a _. full_at a)
+
+  fill_leaves : after_steps size old (made plan'.close ++ plan'.fill) ≡ filled
+  fill_leaves = after_append size old (made plan'.close) plan'.fill ∙ ap (λ s. after_steps size s plan'.fill) close_leaves
 
   all_is : after_steps size old (steps_of plan') ≡ new
-  all_is = after_append size old (plan'.close ∷ plan'.fill) (plan'.last ∷ []) ∙ full_is
+  all_is = after_append size old (made plan'.close ++ plan'.fill) (made plan'.last) ∙ ap (λ s. after_steps size s (made plan'.last)) fill_leaves
+      ∙ last_leaves ∙ full_is
 
   cells_free : (a : ℕ) → is_in (map_tail m) a ≡ true → in_ranges m.reserved.items a ≡ false
   cells_free a there = not_true (in_ranges m.reserved.items a)
@@ -448,23 +454,68 @@ module _ (size : ℕ) (m : AreaMap) (old message new : List ℕ) (plan' : Plan) 
 
   all_steps : AllByRecursion (IsWhole size old) (steps_of plan')
   all_steps =
-      let turned : (k : ℕ) → size * k ≡ k * size = λ k. omega arith in (
-        record { content = close_size; room = omega (arith, turned plan'.close.block, close_within) },
-        all_whole size count old new plan'.fill (plan'.last ∷ []) room_turned sizes fill_all.1
-            (ap (λ bs. list_all (λ k. nat_lt k count) bs) fill_all.0 ∙ count_above)
-            (record { content = last_size; room = omega (arith, turned plan'.last.block, last_within, filled_is.same_size, closed_size) }, tt),
-      )
+      let turned : size * (f / size) ≡ f / size * size = omega arith in
+      let last_one : AllByRecursion (IsWhole size old) (made plan'.last ++ []) =
+      made_whole size old (f / size) closing shown plan'.last plan_is.last shown_size (omega (arith, turned, home_within)) [] tt in
+      let last_whole : AllByRecursion (IsWhole size old) (made plan'.last) = subst (λ ss. AllByRecursion (IsWhole size old) ss) (append-nil (made plan'.last)) last_one in
+      subst (λ ss. AllByRecursion (IsWhole size old) ss) (sym (append_assoc (made plan'.close) plan'.fill (made plan'.last)))
+      (made_whole size old (f / size) (block_of size old (f / size)) closing plan'.close plan_is.close close_size (omega (arith, turned, home_within)) (plan'.fill ++ made plan'.last)
+      (all_whole size count old new plan'.fill (made plan'.last) room_turned sizes fill_all.1 (ap (λ bs. list_all (λ k. nat_lt k count) bs) fill_all.0 ∙ count_above) last_whole))
+
+  -- the blocks of fill have other contents, also behind close
+  blocks_other : AreOther size count closed new (map written_block plan'.fill)
+  blocks_other = subst (λ ks. AreOther size count closed new ks) (sym fill_all.0)
+      (others_kept size count old (f / size) closing close_size home_within room_turned new blocks blocks_lack
+      (filter_each is_filled (λ k. (k < count) × (block_of size old k ≢ block_of size new k)) 0 count
+      (λ k low high passes. (omega arith, differ k (and_parts (not (eqb k (f / size)) && touches size (span (map_tail m) message) k) (changes size old new k) passes).1))))
+    where
+      differ : (k : ℕ) → changes size old new k ≡ true → block_of size old k ≢ block_of size new k
+      differ k changed e =
+          let same : bytes_eq (block_of size old k) (block_of size new k) ≡ true = (bytes_eq-Decides (block_of size old k) (block_of size new k)).1 e in
+          let none : changes size old new k ≡ false = ap (λ b. not b) same in
+          let clash : true ≡ false = sym changed ∙ none in cc
+
+  fill_distinct : Distinct (map written_block plan'.fill)
+  fill_distinct = subst Distinct (sym fill_all.0) (filter_distinct is_filled 0 count)
+
+  all_change : EachChanges size old (steps_of plan')
+  all_change = each_append size old (made plan'.close ++ plan'.fill) (made plan'.last)
+      (each_append size old (made plan'.close) plan'.fill (made_changes size old (f / size) closing plan'.close plan_is.close)
+      (subst (λ s. EachChanges size s plan'.fill) (sym close_leaves)
+      (fills_change size count closed new plan'.fill (omega (arith, closed_size, room_turned)) (sizes ∙ sym closed_size) fill_all.1 fill_distinct blocks_other)))
+      (subst (λ s. EachChanges size s (made plan'.last)) (sym fill_leaves) (made_changes size filled (f / size) shown plan'.last last_is))
+
+  count_parts : (k : ℕ) → writes_of k (steps_of plan') ≡ writes_of k (made plan'.close) + writes_of k plan'.fill + writes_of k (made plan'.last)
+  count_parts k = writes-append k (made plan'.close ++ plan'.fill) (made plan'.last)
+      ∙ ap (λ n. n + writes_of k (made plan'.last)) (writes-append k (made plan'.close) plan'.fill)
+
+  home_twice : writes_of (home size (map_tail m)) (steps_of plan') ≤ 2
+  home_twice =
+      let first = writes_made (f / size) (block_of size old (f / size)) closing plan'.close plan_is.close in
+      let second = writes_made (f / size) closing shown plan'.last plan_is.last in
+      let none = writes_absent (f / size) plan'.fill (ap (λ bs. is_in bs (f / size)) fill_all.0 ∙ blocks_lack) in
+      omega (arith, count_parts (f / size), first, second, none)
+
+  others_once : (k : ℕ) → k ≢ home size (map_tail m) → writes_of k (steps_of plan') ≤ 1
+  others_once k other =
+      let first = writes_none (f / size) k (block_of size old (f / size)) closing plan'.close plan_is.close other in
+      let second = writes_none (f / size) k closing shown plan'.last plan_is.last other in
+      let one = writes_once k plan'.fill fill_distinct in
+      omega (arith, count_parts k, first, second, one)
 
   kept : PlanKeeps size m.space ts (map_tail m) old message plan'
   kept = record {
-    empty = empty_holds;
+    empty = λ n. subst (λ s. Holds m.space s []) (sym (image_leaves n)) (empty_holds n);
     new = subst (λ s. IsNew (map_tail m) old message s) (sym all_is) new_is;
     holds = subst (λ s. Holds m.space s message) (sym all_is) new_holds;
-    outside = outside_span;
+    outside = λ n. subst (λ s. SameOutside (span (map_tail m) message) old s) (sym (image_leaves n)) (outside_span n);
     inside = span_in_area;
     reserved = reserved_apart;
     others = others_apart;
     whole = all_steps;
+    changed = all_change;
+    twice = home_twice;
+    once = others_once;
   }
 
   -- a plan of a store with this map keeps what the layout of that store has

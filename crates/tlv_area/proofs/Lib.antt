@@ -4,6 +4,7 @@ pub mod Steps
 pub mod Trails
 pub mod OneForm
 pub mod FrontContainers
+pub mod FrontGrown
 pub mod OneNext
 pub mod Needing
 pub mod Fronts
@@ -12,7 +13,11 @@ pub mod Cuts
 pub mod CutHeld
 pub mod Blocks
 pub mod Holding
+pub mod Filters
 pub mod Putting
 pub mod Stepping
+pub mod Changing
 pub mod Images
+pub mod Grown
+pub mod StoreForms
 pub mod Walks

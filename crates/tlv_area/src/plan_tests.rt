@@ -5,7 +5,7 @@ ghost use Rattle.tlv_area.specs.Layout.{IsArea};
 ghost use Rattle.tlv_area.specs.Writing.{HasBlocks};
 
 use crate::tests::store;
-use crate::{Plan, Space, Walk, capacity, find_message, plan};
+use crate::{Plan, Space, Step, Walk, capacity, find_message, plan};
 use std::test::Fail;
 
 /// What a plan comes to: its steps, each the number of a block and what is written there; or the number of its fault and
@@ -17,13 +17,21 @@ enum Outcome {
     NoMessage,
 }
 
+fn written(rt: &HostRuntime, step: &Step) -> Result<(u16, Vec<u8>), Fail> {
+    Ok((step.block, step.content.to_vec(rt.alloc())?))
+}
+
 fn steps(rt: &HostRuntime, plan: &Plan) -> Result<Vec<(u16, Vec<u8>)>, Fail> {
     let mut steps = Vec::new(rt.alloc());
-    steps.push((plan.close.block, plan.close.content.to_vec(rt.alloc())?))?;
-    for step in plan.fill.as_slice() {
-        steps.push((step.block, step.content.to_vec(rt.alloc())?))?;
+    if let Some(step) = &plan.close {
+        steps.push(written(rt, step)?)?;
     }
-    steps.push((plan.last.block, plan.last.content.to_vec(rt.alloc())?))?;
+    for step in plan.fill.as_slice() {
+        steps.push(written(rt, step)?)?;
+    }
+    if let Some(step) = &plan.last {
+        steps.push(written(rt, step)?)?;
+    }
     Ok(steps)
 }
 
@@ -84,7 +92,7 @@ fn t2_space(end: u32) -> Space
     }
 }
 
-/// The longest message leaves no room for a terminator.
+/// The longest message leaves no room for a terminator. The old one was empty, so nothing has to be closed.
 #[test]
 fn the_longest_message(rt: HostRuntime) -> Result<(), Fail> {
     let store = store(&rt, 64, 12, &[0xE1, 0x10, 6, 0, 3, 0, 0xFE])?;
@@ -93,11 +101,10 @@ fn the_longest_message(rt: HostRuntime) -> Result<(), Fail> {
         let Outcome::Steps(steps) = planned(&rt, &space, &store, 4, 46, 0)? else {
             panic!(rt; "no plan");
         };
-        assert_eq!(rt; steps.len(), 13);
-        assert!(rt; is_step(&steps, 0, 4, &[3, 0, 0xFE, 0]));
-        assert!(rt; is_step(&steps, 1, 5, &[2, 3, 4, 5]));
-        assert!(rt; is_step(&steps, 11, 15, &[42, 43, 44, 45]));
-        assert!(rt; is_step(&steps, 12, 4, &[3, 46, 0, 1]));
+        assert_eq!(rt; steps.len(), 12);
+        assert!(rt; is_step(&steps, 0, 5, &[2, 3, 4, 5]));
+        assert!(rt; is_step(&steps, 10, 15, &[42, 43, 44, 45]));
+        assert!(rt; is_step(&steps, 11, 4, &[3, 46, 0, 1]));
         let long = planned(&rt, &space, &store, 4, 47, 0)?;
         assert_eq!(rt; long, Outcome::Fault(1, 46));
     }
@@ -133,6 +140,38 @@ fn a_length_over_two_blocks(rt: HostRuntime) -> Result<(), Fail> {
     Ok(())
 }
 
+/// What a block has already isn't written. An empty message in the place of three bytes is closed, and then its
+/// terminator is written; where both stand there is nothing to write. Of a message with one byte more in its last block
+/// that block is written, and the block of the length before it and behind it.
+#[test]
+fn unchanged_blocks_stay(rt: HostRuntime) -> Result<(), Fail> {
+    let space = t2_space(64);
+    let held = store(&rt, 64, 12, &[0xE1, 0x10, 6, 0, 3, 3, 0xD0, 0, 0, 0xFE])?;
+    if held.len() == 64 {
+        let rows: [(u16, &[u8]); 2] = [(4, &[3, 0, 0xD0, 0]), (4, &[3, 0, 0xFE, 0])];
+        assert_eq!(rt; planned(&rt, &space, &held, 4, 0, 0)?, blocks(&rt, &rows)?);
+    }
+    let empty = store(&rt, 64, 12, &[0xE1, 0x10, 6, 0, 3, 0, 0xFE])?;
+    if empty.len() == 64 {
+        assert_eq!(rt; planned(&rt, &space, &empty, 4, 0, 0)?, blocks(&rt, &[])?);
+    }
+    let near = store(
+        &rt,
+        64,
+        12,
+        &[0xE1, 0x10, 6, 0, 3, 9, 1, 2, 3, 4, 5, 6, 7, 8, 0xAA, 0xFE],
+    )?;
+    if near.len() == 64 {
+        let rows: [(u16, &[u8]); 3] = [
+            (4, &[3, 0, 1, 2]),
+            (6, &[7, 8, 9, 0xFE]),
+            (4, &[3, 9, 1, 2]),
+        ];
+        assert_eq!(rt; planned(&rt, &space, &near, 4, 9, 1)?, blocks(&rt, &rows)?);
+    }
+    Ok(())
+}
+
 /// A memory control TLV reserves the addresses 32 to 35: block 8 is left alone.
 #[test]
 fn reserved_addresses_stay(rt: HostRuntime) -> Result<(), Fail> {
@@ -147,8 +186,7 @@ fn reserved_addresses_stay(rt: HostRuntime) -> Result<(), Fail> {
     )?;
     let space = t2_space(64);
     if store.len() == 64 {
-        let rows: [(u16, &[u8]); 5] = [
-            (5, &[4, 3, 0, 0xFE]),
+        let rows: [(u16, &[u8]); 4] = [
             (6, &[2, 3, 4, 5]),
             (7, &[6, 7, 8, 9]),
             (9, &[10, 11, 12, 0xFE]),

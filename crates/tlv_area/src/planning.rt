@@ -1,17 +1,17 @@
 //! The plan of a message: which blocks are written for it, in which order.
 
-ghost use Rattle.std.specs.Prelude.{◌≡◌, ◌+◌, ◌*◌, ◌^◌, ◌<◌, ◌≤◌, ◌↔◌, ◌&&◌, ◌==◌, not, length, map as list_map, IfOk, OnOk, IsErrOf};
+ghost use Rattle.std.specs.Prelude.{◌≡◌, ◌+◌, ◌*◌, ◌^◌, ◌<◌, ◌≤◌, ◌↔◌, ◌&&◌, ◌==◌, ◌++◌, List, ℕ, not, length, map as list_map, IfOk, OnOk, IsErrOf};
 ghost use Rattle.tlv_area.specs.declared.planning.PlanFault.{PlanFault};
 ghost use Rattle.tlv_area.specs.declared.planning.PlanFault.TheVariants.{TooLong, Memory};
 ghost use Rattle.tlv_area.specs.Layout.{free};
 ghost use Rattle.tlv_area.specs.Map.{in_ranges, IsOrdered, IsPlaced};
 ghost use Rattle.tlv_area.specs.Tail.{map_room, capacity_of};
-ghost use Rattle.tlv_area.specs.Writing.{HasBlocks, blocks_below, touches, blocks_touched, write_of, block_in, GivesPlan, KeepsPlan, plan_fault_number};
+ghost use Rattle.tlv_area.specs.Writing.{HasBlocks, blocks_below, touches, blocks_changed, write_of, block_in, GivesPlan, KeepsPlan, KeepsKinds, plan_fault_number};
 
 use crate::ranges::{count_free, past};
 use crate::room::capacity;
 use crate::space::AreaMap;
-use crate::step::{Plan, Step, block_step, closing_step};
+use crate::step::{Plan, Step, block_bytes, closed_block, step_to};
 use crate::writing::{length_place, new_bytes, new_store, span_end, tail_start};
 use nfc_base::Items;
 use std::alloc::{AllocError, Global};
@@ -70,11 +70,13 @@ fn is_filled(reserved: &[(u32, u32)], from: u32, to: u32, home: u32, block: u32,
     block != home && is_touched(reserved, from, to, block, size)
 }
 
-/// The steps of `fill`: each block but `home` that has a free address from `from` on to before `to`, as a store has it.
+/// The steps of `fill`: each block but `home` that has a free address from `from` on to before `to`, where its content
+/// in the new store is another than in the old one.
 fn fill_steps(
     alloc: Global,
     map: &AreaMap,
-    store: &[u8],
+    old: &[u8],
+    new: &[u8],
     from: u32,
     to: u32,
     home: u32,
@@ -85,17 +87,21 @@ fn fill_steps(
     requires some { 0 < size }
     requires small { size ≤ 32 }
     requires end { map.now.space.end ≤ 65536 * size }
-    requires within { size * blocks_below size map.now.space.end ≤ length store.now }
+    requires within { size * blocks_below size map.now.space.end ≤ length old.now }
+    requires same { length new.now ≡ length old.now }
     ensures { IfOk result (λ v. list_map write_of v.items
-        ≡ list_map (λ k. block_in size store.now k)
-        (blocks_touched size (free (in_ranges map.now.reserved.items) from to)
-        home (blocks_below size map.now.space.end))) }
+        ≡ list_map (λ k. block_in size new.now k)
+        (blocks_changed size (free (in_ranges map.now.reserved.items) from to)
+        home old.now new.now (blocks_below size map.now.space.end))) }
 {
     let count = (map.space.end as u64 + size as u64 - 1) / size as u64;
     let mut fill = Vec::new(alloc);
     for block in 0..count as u32 {
         if is_filled(map.reserved.as_slice(), from, to, home, block, size) {
-            fill.push(block_step(store, block, size))?;
+            let now = block_bytes(old, block, size);
+            if let Some(step) = step_to(block, now, block_bytes(new, block, size)) {
+                fill.push(step)?;
+            }
         }
     }
     Ok(fill)
@@ -127,17 +133,20 @@ fn plan_steps(
     let bytes = owned.as_slice();
     let to = span_end(map, tail, bytes.len() as u32);
     let new = new_store(alloc, map, store, tail, to, bytes)?;
+    let new = new.as_slice();
     let place = length_place(map, tail);
     let home = place / block;
-    let fill = fill_steps(alloc, map, new.as_slice(), tail, to, home, block)?;
+    let closed = closed_block(store, place, block);
+    let fill = fill_steps(alloc, map, store, new, tail, to, home, block)?;
     Ok(Plan {
-        close: closing_step(store, place, block),
+        close: step_to(home, block_bytes(store, home, block), closed.as_slice()),
         fill: Items::new(fill),
-        last: block_step(new.as_slice(), home, block),
+        last: step_to(home, closed.as_slice(), block_bytes(new, home, block)),
     })
 }
 
-/// Plans the blocks that are written to put a message in the place of the one that is there. A block has 4, 8, 16 or 32 bytes.
+/// Plans the blocks that are written to put a message in the place of the one that is there. A block that has its
+/// content isn't written. A block has 4, 8, 16 or 32 bytes.
 pub fn plan(
     alloc: Global,
     map: &AreaMap,
@@ -151,8 +160,14 @@ pub fn plan(
     requires end { map.now.space.end ≤ 65536 * block }
     requires within { HasBlocks block map.now.space store.now }
     ensures plan { IfOk result (λ p. GivesPlan block map.now store.now message.now p) }
-    // of a store with this map: each step but the last leaves the empty message, the last the new one; all else stays
+    // of a store with this map: close and each step of fill, made or left out, leave the empty message, last the new
+    // one; all else stays, and no step writes what its block has
     ensures keeps { IfOk result (λ p. KeepsPlan block map.now store.now message.now p) }
+    // both of each memory that begins with the store
+    ensures front { (more : List ℕ) → IfOk result (λ p. GivesPlan block map.now (store.now ++ more) message.now p
+        × KeepsPlan block map.now (store.now ++ more) message.now p) }
+    // and where it is a tag's whole store with this area, those messages are the tag's
+    ensures form { (more : List ℕ) → IfOk result (λ p. KeepsKinds block map.now (store.now ++ more) message.now p) }
     ensures too_long { IsErrOf result TooLong ↔ (capacity_of (map_room map.now) < length message.now) }
 {
     plan_steps(alloc, map, store, block, message)

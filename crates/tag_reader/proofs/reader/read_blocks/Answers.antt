@@ -5,6 +5,7 @@ use Rattle.tlv_area.specs.Map.{message_cells}
 use Rattle.tlv_area.specs.Form.{Message}
 use Rattle.tag_reader.specs.Kinds.{IsStoreForm}
 use Rattle.tag_reader.specs.declared.how.How.TheVariants.{T5}
+use Rattle.tag_reader.specs.Reading.{IsFound}
 use Rattle.tag_reader.specs.Steps.{IsRead}
 use Rattle.tag_reader.proofs.Endings.{read_ended}
 use Rattle.tag_reader.proofs.reader.read_blocks.Goals as goal
@@ -19,14 +20,17 @@ pub returns-clause-reads : goal.returns-clause-reads
 returns-clause-reads g c size is =
     let a : LinkView = g.T.TagLink.seen c.args.link.now in
     let r = c.in_ok-map.ensures.reads size is in
-    let bytes : c.new.result ≡ bytes_at c.find_in_blocks.new.known.bytes.items (message_cells c.in_ok-map.map) =
-    c.new.ensures ∙ c.in-Ok.ensures.bytes ∙ ap (λ xs. bytes_at xs (message_cells c.in_ok-map.map)) c.as_slice.ensures.value in
+    let bytes : c.in-Ok.message.items ≡ bytes_at c.find_in_blocks.new.known.bytes.items (message_cells c.in_ok-map.map) =
+    c.in-Ok.ensures.bytes ∙ ap (λ xs. bytes_at xs (message_cells c.in_ok-map.map)) c.as_slice.ensures.value in
     record {
       stays = r.stays;
       asked = r.asked;
       whole = r.whole;
       goes_on = r.goes_on;
-      ok = record { held = subst (λ m. IsStoreForm (T5 c.args.id) size a.state.store (Message m)) (sym bytes) r.tells.held; site = (r.tells.area, r.tells.found, refl) };
+      ok = subst (λ f. IsFound (T5 c.args.id) size a.state.store f) (sym c.found_in.ensures) (record {
+        held = subst (λ m. IsStoreForm (T5 c.args.id) size a.state.store (Message m)) (sym bytes) r.tells.held;
+        site = (r.tells.area, r.tells.found, refl);
+      });
       err = tt;
       calm = λ quiet. tt;
     }
