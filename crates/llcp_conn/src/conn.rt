@@ -199,7 +199,8 @@ impl Conn {
     /// Takes in a unit, unless it is refused.
     pub fn submit(&mut self, unit: &[u8]) -> Result<(), ConnFault>
         ensures ok { OnOk result (Queues self.old unit.now self.new) }
-        ensures err { IfErr result (λ e. (e ≡ ConnFault.Memory) ⊎ (refusal self.old unit.now ≡ Some e)) }
+        ensures err { IfErr result (λ e.
+            ((e ≡ ConnFault.Memory) × (refusal self.old unit.now ≡ None)) ⊎ (refusal self.old unit.now ≡ Some e)) }
         ensures same { OnErr result (self.new ≡ self.old) }
     {
         if let Some(cause) = self.refusal(unit.len()) {

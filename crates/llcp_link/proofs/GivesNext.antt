@@ -3,8 +3,8 @@ use Rattle.std.proofs.Common.{◌≡◌, ℕ, ◌&&◌, not, Bool, true, false, 
 use Rattle.llcp_pdu.specs.declared.part.Part.TheVariants.{Rr}
 use Rattle.llcp_conn.specs.Conn.{ConnState, Gave as Gives, gives, gives_from, gives_ack, queued, has_room}
 use Rattle.llcp_link.specs.Serving.{Serving}
-use Rattle.llcp_link.specs.State.{LlcState, conn_from, with_conn, own_from}
-use Rattle.llcp_link.specs.Giving.{Gave, or_else, may_send, gave_conn, sends, informs_served, informs_own, informs, acknowledges_served, acknowledges_own, acknowledges}
+use Rattle.llcp_link.specs.State.{LlcState, conn_from, with_conn}
+use Rattle.llcp_link.specs.Giving.{Gave, may_send, gave_conn, sends, informs_served, acknowledges_served}
 use Rattle.llcp_link.specs.Kept.{IsServed}
 use Rattle.llcp_link.specs.Offering.{LeftBy, allowed, owing, sent_on, info_of, acked_on}
 
@@ -33,45 +33,36 @@ none_of : (b : Bool) (c : ConnState) → (if b then Some c else None) ≡ None �
 none_of true c e = cc
 none_of false c e = refl
 
-else_none : {A : Type 0} (a b : Option A) → a ≡ None → b ≡ None → or_else a b ≡ None
-else_none a b e i = ap (λ x. or_else x b) e ∙ i
-
-module _ {S : Type 0} (m : Serving S) (l : LlcState S) (s : ℕ) (own : l.own ≡ []) where
-  no_own : informs_own l (own_from s l.own) ≡ None
-  no_own = ap (λ os. informs_own l (own_from s os)) own
-
-  no_own_ack : acknowledges_own l (own_from s l.own) ≡ None
-  no_own_ack = ap (λ os. acknowledges_own l (own_from s os)) own
-
+module _ {S : Type 0} (m : Serving S) (l : LlcState S) (s : ℕ) where
   refused : (o : Option ConnState) → allowed o ≡ None → informs_served m l o ≡ None
   refused None e = refl
   refused (Some c) e = ap (λ b. if b then sends m l c (m.due l.service c.there c.far_miu) else None) (none_of (may_send c) c e)
 
   -- no connection may send
-  pub informs_none : allowed (conn_from s l.served) ≡ None → informs m l s ≡ None
-  informs_none e = else_none (informs_served m l (conn_from s l.served)) (informs_own l (own_from s l.own)) (refused (conn_from s l.served) e) no_own
+  pub informs_none : allowed (conn_from s l.served) ≡ None → informs_served m l (conn_from s l.served) ≡ None
+  informs_none e = refused (conn_from s l.served) e
 
   served_by : (c : ConnState) → conn_from s l.served ≡ Some c → may_send c ≡ true → informs_served m l (conn_from s l.served) ≡ sends m l c (m.due l.service c.there c.far_miu)
   served_by c f e = ap (informs_served m l) f ∙ ap (λ b. if b then sends m l c (m.due l.service c.there c.far_miu) else None) e
 
   -- the service has nothing for it
-  pub informs_nothing : (c : ConnState) (most : ℕ) → conn_from s l.served ≡ Some c → may_send c ≡ true → c.there ≡ s → c.far_miu ≡ most → m.due l.service s most ≡ None → informs m l s ≡ None
+  pub informs_nothing : (c : ConnState) (most : ℕ) → conn_from s l.served ≡ Some c → may_send c ≡ true → c.there ≡ s → c.far_miu ≡ most → m.due l.service s most ≡ None
+      → informs_served m l (conn_from s l.served) ≡ None
   informs_nothing c most f e t q d =
       let k : m.due l.service c.there c.far_miu ≡ None = ap (λ x. m.due l.service x c.far_miu) t ∙ ap (m.due l.service s) q ∙ d in
-      else_none (informs_served m l (conn_from s l.served)) (informs_own l (own_from s l.own)) (served_by c f e ∙ ap (sends m l c) k) no_own
+      served_by c f e ∙ ap (sends m l c) k
 
   -- its unit goes out
   pub informs_unit : (c : ConnState) (most : ℕ) (u : List ℕ) → conn_from s l.served ≡ Some c → may_send c ≡ true → c.there ≡ s → c.far_miu ≡ most → IsServed c
       → m.due l.service s most ≡ Some u
-      → informs m l s
+      → informs_served m l (conn_from s l.served)
       ≡ Some (record { llc = record l { service = m.sent l.service s most; served = with_conn (sent_on c u) l.served; last = Some s }; part = info_of c u })
   informs_unit c most u f e t q h d =
       let k : m.due l.service c.there c.far_miu ≡ Some u = ap (λ x. m.due l.service x c.far_miu) t ∙ ap (m.due l.service s) q ∙ d in
-      ap (λ o. or_else o (informs_own l (own_from s l.own)))
-      (served_by c f e ∙ ap (sends m l c) k
+      served_by c f e ∙ ap (sends m l c) k
       ∙ ap (λ g. gave_conn (record l { service = m.sent l.service c.there c.far_miu }) g.conn g.pdu) (gives_sent c u h e)
       ∙ ap (λ x. Some (record { llc = record l { service = m.sent l.service x c.far_miu; served = with_conn (sent_on c u) l.served; last = Some x }; part = info_of c u })) t
-      ∙ ap (λ x. Some (record { llc = record l { service = m.sent l.service s x; served = with_conn (sent_on c u) l.served; last = Some s }; part = info_of c u })) q)
+      ∙ ap (λ x. Some (record { llc = record l { service = m.sent l.service s x; served = with_conn (sent_on c u) l.served; last = Some s }; part = info_of c u })) q
 
   unowed : (o : Option ConnState) → owing o ≡ None → acknowledges_served l o ≡ None
   unowed None e = refl
@@ -80,15 +71,14 @@ module _ {S : Type 0} (m : Serving S) (l : LlcState S) (s : ℕ) (own : l.own �
       ap (λ b. if b then record { conn = acked_on c; pdu = Some (Rr c.there c.here c.vr) } else record { conn = c; pdu = None }) (none_of c.owed c e) in
       ap {A = Gives} (λ g. gave_conn l g.conn g.pdu) k
 
-  pub acknowledges_none : owing (conn_from s l.served) ≡ None → acknowledges l s ≡ None
-  acknowledges_none e = else_none (acknowledges_served l (conn_from s l.served)) (acknowledges_own l (own_from s l.own)) (unowed (conn_from s l.served) e) no_own_ack
+  pub acknowledges_none : owing (conn_from s l.served) ≡ None → acknowledges_served l (conn_from s l.served) ≡ None
+  acknowledges_none e = unowed (conn_from s l.served) e
 
   pub acknowledges_one : (c : ConnState) → conn_from s l.served ≡ Some c → c.owed ≡ true → c.there ≡ s
-      → acknowledges l s ≡ Some (record { llc = record l { served = with_conn (acked_on c) l.served; last = Some s }; part = Rr c.there c.here c.vr })
+      → acknowledges_served l (conn_from s l.served) ≡ Some (record { llc = record l { served = with_conn (acked_on c) l.served; last = Some s }; part = Rr c.there c.here c.vr })
   acknowledges_one c f e t =
-      ap (λ o. or_else o (acknowledges_own l (own_from s l.own)))
-      (ap (acknowledges_served l) f ∙ ap (λ g. gave_conn l g.conn g.pdu) (gives_owed c e)
-      ∙ ap (λ x. Some (record { llc = record l { served = with_conn (acked_on c) l.served; last = Some x }; part = Rr c.there c.here c.vr })) t)
+      ap (acknowledges_served l) f ∙ ap (λ g. gave_conn l g.conn g.pdu) (gives_owed c e)
+      ∙ ap (λ x. Some (record { llc = record l { served = with_conn (acked_on c) l.served; last = Some x }; part = Rr c.there c.here c.vr })) t
 
 pub left_by : {S : Type 0} (due : Option (Gave S)) (g : Gave S) (s : S) → due ≡ Some g → s ≡ g.llc.service → LeftBy due s
 left_by due g s e i = subst (λ o. LeftBy o s) (sym e) i

@@ -4,12 +4,11 @@ use Rattle.std.specs.List.{cons_option}
 use Rattle.std.proofs.lemmas.Bool.Decides.{nat_tests}
 use Rattle.std.proofs.lemmas.List.{append_assoc}
 use Rattle.llcp_pdu.specs.declared.param.Param.{Param}
-use Rattle.llcp_pdu.specs.declared.param.Param.TheVariants.{Version, Miux, Wks, Lto, Rw, Sn, Opt, SdReq, SdRes}
 use Rattle.llcp_pdu.specs.declared.part.Part.TheVariants.{Snl}
 use Rattle.llcp_pdu.specs.Ranges.{IsParam, AreParams}
 use Rattle.llcp_pdu.specs.Writing.{tlv_of, params_bytes}
 use Rattle.llcp_link.specs.State.{LlcState}
-use Rattle.llcp_link.specs.Names.{answers_to, told_by, told_all}
+use Rattle.llcp_link.specs.Names.{answers_to, told_all}
 use Rattle.llcp_link.specs.Taking.{answered, tells, discovers}
 use Rattle.llcp_link.specs.Answers.{IsAnswer, AreAnswers, put_one}
 
@@ -35,33 +34,15 @@ one_more most ps p h all e =
       size = (let s = all.size in let z = h.1 in omega arith);
     }
 
-told_one_none : (p : Param) → told_by p [] ≡ []
-told_one_none (SdRes tid sap) = refl
-told_one_none (Version x) = refl
-told_one_none (Miux x) = refl
-told_one_none (Wks x) = refl
-told_one_none (Lto x) = refl
-told_one_none (Rw x) = refl
-told_one_none (Sn x) = refl
-told_one_none (Opt x) = refl
-told_one_none (SdReq x y) = refl
+pub discovers_none : {S : Type 0} (l : LlcState S) (ps answers : List Param) → answers ≡ answers_to l.bound (l.far_miu / 4) ps → length answers ≡ 0
+    → record l { lookups = told_all ps l.lookups } ≡ discovers l ps
+discovers_none l ps [] is n = ap (tells (record l { lookups = told_all ps l.lookups })) is
+discovers_none l ps (a ∷ more) is n = absurd (let m : suc (length more) ≡ 0 = n in omega arith)
 
--- where nothing was asked, nothing is told
-told_none : (ps : List Param) → told_all ps [] ≡ []
-told_none [] = refl
-told_none (p ∷ ps) = ap (told_all ps) (told_one_none p) ∙ told_none ps
-
-unasked : {S : Type 0} (l : LlcState S) (ps : List Param) → l.lookups ≡ [] → discovers l ps ≡ tells l (answers_to l.bound (l.far_miu / 4) ps)
-unasked l ps e =
-    ap (λ xs. tells (record l { lookups = xs }) (answers_to l.bound (l.far_miu / 4) ps)) (ap (told_all ps) e ∙ told_none ps ∙ sym e)
-
-pub discovers_none : {S : Type 0} (l : LlcState S) (ps answers : List Param) → l.lookups ≡ [] → answers ≡ answers_to l.bound (l.far_miu / 4) ps → length answers ≡ 0 → l ≡ discovers l ps
-discovers_none l ps [] e is n = ap (tells l) is ∙ sym (unasked l ps e)
-discovers_none l ps (a ∷ more) e is n = absurd (let m : suc (length more) ≡ 0 = n in omega arith)
-
-pub discovers_some : {S : Type 0} (l : LlcState S) (ps answers : List Param) → l.lookups ≡ [] → answers ≡ answers_to l.bound (l.far_miu / 4) ps → (length answers ≡ 0 → ⊥) → answered l (Snl answers) ≡ discovers l ps
-discovers_some l ps [] e is n = absurd (n refl)
-discovers_some l ps (a ∷ more) e is n = ap (tells l) is ∙ sym (unasked l ps e)
+pub discovers_some : {S : Type 0} (l : LlcState S) (ps answers : List Param) → answers ≡ answers_to l.bound (l.far_miu / 4) ps → (length answers ≡ 0 → ⊥)
+    → answered (record l { lookups = told_all ps l.lookups }) (Snl answers) ≡ discovers l ps
+discovers_some l ps [] is n = absurd (n refl)
+discovers_some l ps (a ∷ more) is n = ap (tells (record l { lookups = told_all ps l.lookups })) is
 
 module _ (f : Param → Option Param) where
   take_none : (n m : ℕ) (xs : List Param) → n ≡ m → take (m - n) xs ≡ []

@@ -22,7 +22,7 @@ pub record HaltsGiving {S : Type 0} (m : Serving S) (old : LlcState S) (s : S) :
   pub is_front : (front ≡ old) ⊎ ((n : ℕ) × IsAllowed m old n × (front ≡ (given_parts m n old).llc))
   pub service : LeavesNext m (gave m front) front.service s
 
--- Memory was wanting as PDUs were given: until a restart no call on the link does anything. What no PDU changes is as it was.
+-- Memory was wanting as PDUs were given: until a restart payloads are neither taken nor given. What no PDU changes is as it was.
 pub record IsStuckGiving {S : Type 0} (m : Serving S) (old new : LlcState S) : Type 0 where
   pub stuck : new.stuck ≡ true
   pub miu : new.miu ≡ old.miu

@@ -24,7 +24,7 @@ pub record Halts {S : Type 0} (m : Serving S) (old : LlcState S) (items : List I
   pub split : items ≡ front ++ behind
   pub service : Leaves m (steps m old front).service new.service
 
--- Memory was wanting: until a restart no call that takes memory on the link does anything. What no payload changes is as it was,
+-- Memory was wanting: until a restart payloads are neither taken nor given. What no payload changes is as it was,
 -- and the service is as some first of the PDUs leave it.
 pub record IsStuck {S : Type 0} (m : Serving S) (old : LlcState S) (items : List Item) (new : LlcState S) : Type 0 where
   pub stuck : new.stuck ≡ true

@@ -5,7 +5,7 @@ use Rattle.llcp_pdu.specs.General.{IsMiu}
 use Rattle.llcp_pdu.specs.Ranges.{IsPart}
 use Rattle.llcp_pdu.specs.Writing.{part_bytes}
 use Rattle.llcp_conn.specs.Conn.{ConnState, IsSap, IsWindow, modulus}
-use Rattle.llcp_link.specs.State.{Bound, Queued}
+use Rattle.llcp_link.specs.State.{Bound, Queued, OwnIs, Open}
 
 -- the most bytes of a payload
 abbrev pub most_payload : ℕ
@@ -34,6 +34,32 @@ pub record IsServed (c : ConnState) : Type 0 where
 abbrev pub AllServed : List ConnState → Type 0
 AllServed [] = Unit {0}
 AllServed (c ∷ cs) = IsServed c × AllServed cs
+
+-- units that are within the other end's MIU
+abbrev pub AllWithin : ℕ → List (List ℕ) → Type 0
+AllWithin miu [] = Unit {0}
+AllWithin miu (u ∷ us) = (length u ≤ miu) × AllWithin miu us
+
+-- an open connection that this end asked for
+pub record IsAsked (here there : ℕ) (c : ConnState) : Type 0 where
+  pub here_is : c.here ≡ here
+  pub there_is : c.there ≡ there
+  pub far_miu : IsMiu c.far_miu
+  pub vr : c.vr < modulus
+  pub vsa : c.vsa < modulus
+  pub vra : c.vra < modulus
+  pub live : c.live ≡ true
+  pub queue : AllWithin c.far_miu c.queue
+
+abbrev pub IsAskedSo : ℕ → ℕ → OwnIs → Type 0
+IsAskedSo here there (Open c) = IsAsked here there c
+IsAskedSo here there _ = Unit {0}
+
+-- a connection that this end asked for, by its SAPs and how it stands
+pub record IsOwn (from to : ℕ) (how : OwnIs) : Type 0 where
+  pub here : IsSap from
+  pub there : IsSap to
+  pub conn : IsAskedSo from to how
 
 abbrev pub AllBound : List Bound → Type 0
 AllBound [] = Unit {0}

@@ -4,6 +4,7 @@ pub mod Names
 pub mod Taking
 pub mod Giving
 pub mod Units
+pub mod Running
 pub mod Binding
 pub mod Kept
 pub mod Places
@@ -16,3 +17,8 @@ pub mod Numbers
 pub mod Joining
 pub mod Fronts
 pub mod Answering
+pub mod Asking
+pub mod Owning
+pub mod OwnGiving
+pub mod Owns
+pub mod Closing

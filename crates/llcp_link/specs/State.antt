@@ -6,6 +6,8 @@ use Rattle.llcp_pdu.specs.declared.general.LinkParams.{LinkParams}
 use Rattle.llcp_pdu.specs.General.{general}
 use Rattle.llcp_pdu.specs.Wire.{least_miu}
 use Rattle.llcp_conn.specs.Conn.{ConnState}
+pub use Rattle.llcp_link.specs.declared.own.OwnIs.{OwnIs}
+pub use Rattle.llcp_link.specs.declared.own.OwnIs.TheVariants.{Asking, Open, Refused, Leaving, Closed}
 use Rattle.llcp_link.specs.Serving.{Serving}
 
 -- the most answers that wait
@@ -33,16 +35,8 @@ pub record Queued : Type 0 where
 abbrev pub answer : Part → Queued
 answer p = record { own = false; part = p }
 
--- a connection that this end asked for: a CC is awaited; it is open; it was refused; it was given up, and a DM is awaited; it is
--- closed
-pub data OwnIs : Type 0 where
-  Asking : OwnIs
-  Open : ConnState → OwnIs
-  Refused : OwnIs
-  Leaving : OwnIs
-  Closed : OwnIs
-
--- such a connection from one SAP to another; and the units that were handed up on it and not yet taken away
+-- A connection that this end asked for from one SAP to another: a CC is awaited; it is open; it was refused; it was given up, and a
+-- DM is awaited; or it is closed. And the units that were handed up on it and not yet taken away.
 pub record OwnState : Type 0 where
   pub here : ℕ
   pub there : ℕ
@@ -56,7 +50,7 @@ pub record Lookup : Type 0 where
 
 -- An end: its MIU and receive window, and the names that are bound; whether the other end's general bytes could be read, and the
 -- MIU that they say; the PDUs that wait; the connections that the other end asked for, each named by its client's SAP, and those
--- that this end asked for, each by its own; its lookups, and how many there were; the client's SAP that last gave an I or RR;
+-- that this end asked for, each by its own; its lookups, and how many there were, modulo 256; the client's SAP that last gave an I or RR;
 -- whether want of memory ended a call on this link; and its service.
 pub record LlcState (S : Type 0) : Type 0 where
   pub miu : ℕ

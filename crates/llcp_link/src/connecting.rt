@@ -1,4 +1,4 @@
-//! What an end does with a CONNECT.
+//! What an end does with a CONNECT, and with a CC that it awaits.
 
 ghost use Rattle.std.specs.Prelude.{◌≡◌, OnOk, OnErr};
 ghost use Rattle.llcp_pdu.specs.General.{IsMiu};
@@ -6,15 +6,16 @@ ghost use Rattle.llcp_pdu.specs.Ranges.{AreParams};
 ghost use Rattle.llcp_pdu.specs.Views.{HoldsParams, params_in};
 ghost use Rattle.llcp_conn.specs.Conn.{IsSap, IsWindow};
 ghost use Rattle.llcp_link.specs.Halting.{IsSame};
-ghost use Rattle.llcp_link.specs.Taking.{connects, opens, is_free as has_room_for};
+ghost use Rattle.llcp_link.specs.State.{own_from};
+ghost use Rattle.llcp_link.specs.Taking.{awaited, connects, heard_cc, opens, is_free as has_room_for};
 
 use crate::llc::Llc;
 use crate::names::reached;
 use crate::params::{miu_said, own_params, window_said};
 use crate::parts::{BUSY, NO_SERVICE, NOT_TAKEN, dm};
-use crate::queue;
 use crate::served::{self, is_new};
 use crate::service::Service;
+use crate::{owns, queue};
 use llcp_conn::Conn;
 use llcp_pdu::{ConnectParams, Part};
 use std::alloc::AllocError;
@@ -58,6 +59,25 @@ impl<S: Service> Llc<S> {
                 }
             }
         }
+    }
+
+    /// A CC.
+    #[tactic(auto, using(crate::proofs::Ranges::miux_below, crate::proofs::Ranges::rw_below, crate::proofs::Awaited::cc_awaited, crate::proofs::Awaited::cc_other))]
+    pub(crate) fn take_cc(&mut self, dsap: u8, ssap: u8, params: &[u8]) -> Result<(), AllocError>
+        requires holds { HoldsParams params.now }
+        requires range { AreParams (params_in params.now) }
+        ensures ok { OnOk result (self.new ≡ awaited self.old ssap
+            (λ o. heard_cc self.old o (params_in params.now) o.is) (own_from dsap self.old.own)) }
+        ensures same { IsSame self.old self.new }
+        ensures service { self.new.service ≡ self.old.service }
+    {
+        let Some(place) = owns::awaiting(&self.own, dsap, ssap) else {
+            return Ok(());
+        };
+        let said = ConnectParams::new(params);
+        let far_miu = miu_said(said.miux);
+        let rw = window_said(said.rw);
+        self.own[place].hear_cc(self.alloc, self.miu, self.window, far_miu, rw)
     }
 
     /// The client has no connection here, and there are fewer than may be.

@@ -10,6 +10,7 @@ ghost use Rattle.llcp_link.specs.Answers.{IsAnswer, AreAnswers, put_one};
 ghost use Rattle.llcp_link.specs.Taking.{discovers};
 
 use crate::llc::Llc;
+use crate::lookups;
 use crate::names::{Bound, found};
 use crate::service::Service;
 use llcp_pdu::{Param, ParamView, ParamWalk, Part};
@@ -69,7 +70,7 @@ fn answers_to(
 }
 
 impl<S: Service> Llc<S> {
-    /// An SNL: what was asked is answered in one.
+    /// An SNL: what was asked is answered in one, and what is told is kept.
     #[tactic(auto, using(crate::proofs::SdAnswers::discovers_none, crate::proofs::SdAnswers::discovers_some))]
     pub(crate) fn take_snl(&mut self, params: &[u8]) -> Result<(), AllocError>
         requires { HoldsParams params.now }
@@ -79,9 +80,13 @@ impl<S: Service> Llc<S> {
     {
         let most = self.far_miu as usize / 4;
         let answers = answers_to(self.alloc, &self.bound, params, most)?;
+        lookups::hear(&mut self.lookups, params);
         if answers.as_slice().is_empty() {
             return Ok(());
         }
-        self.answer_with(Part::Snl(answers))
+        match self.answer_with(Part::Snl(answers)) {
+            Err(_) => Err(AllocError),
+            Ok(()) => Ok(()),
+        }
     }
 }

@@ -2,12 +2,14 @@
 
 ghost use Rattle.std.specs.Prelude.{◌≡◌, ◌≤◌, IfOk, OnErr};
 ghost use Rattle.llcp_conn.specs.Conn.{IsSap};
-ghost use Rattle.llcp_link.specs.Giving.{acknowledges, circle_start as start_of, first_of_all, gave, informs, sap_after as after};
+ghost use Rattle.llcp_link.specs.Giving.{acknowledges, acknowledges_own, acknowledges_served, circle_start as start_of, first_of_all, gave, informs, informs_own, informs_served, sap_after as after};
 ghost use Rattle.llcp_link.specs.Halting.{IsSame};
 ghost use Rattle.llcp_link.specs.Offering.{BoundsNext, LeavesNext, Tried, queued_first};
+ghost use Rattle.llcp_link.specs.State.{conn_from, own_from};
 
 use crate::lengths::part_len;
 use crate::llc::Llc;
+use crate::own_giving;
 use crate::queue::Queued;
 use crate::sending::{acknowledge, ower, send, sender};
 use crate::service::Service;
@@ -18,7 +20,7 @@ use std::alloc::AllocError;
 const SAP_COUNT: u8 = 64;
 
 /// The bytes in an AGF of an I PDU without its information, and of a RR: a length, a header and the numbers.
-const NUMBERED: usize = 5;
+pub(crate) const NUMBERED: usize = 5;
 
 /// The PDU that is given next, where it is within what is left.
 #[derive(Debug, Drop)]
@@ -82,13 +84,14 @@ impl<S: Service> Llc<S> {
         }
     }
 
-    /// The next unit for a client, as an I PDU.
-    fn give_unit_at(&mut self, client: u8, room: usize) -> Result<Next, AllocError>
+    /// The next unit for a client of the service, as an I PDU.
+    fn give_served_unit(&mut self, client: u8, room: usize) -> Result<Next, AllocError>
         requires { IsSap client }
-        ensures next { IfOk result (Tried room (informs S.serving self.old client) self.old self.new) }
+        ensures next { IfOk result
+            (Tried room (informs_served S.serving self.old (conn_from client self.old.served)) self.old self.new) }
         ensures same { IsSame self.old self.new }
-        ensures err { OnErr result
-            (LeavesNext S.serving (informs S.serving self.old client) self.old.service self.new.service) }
+        ensures err { OnErr result (LeavesNext S.serving
+            (informs_served S.serving self.old (conn_from client self.old.served)) self.old.service self.new.service) }
     {
         let Some((place, miu)) = sender(&self.served, client) else {
             return Ok(Next::Nothing);
@@ -104,10 +107,51 @@ impl<S: Service> Llc<S> {
         Ok(Next::Given(part))
     }
 
-    /// An acknowledgement that is owed to a client.
-    fn give_ack_at(&mut self, client: u8, room: usize) -> Next
+    /// The next unit that was submitted on the connection that this end asked for from a SAP.
+    #[tactic(auto, using(crate::proofs::OwnGiven::unit_given))]
+    fn give_own_unit(&mut self, here: u8, room: usize) -> Result<Next, AllocError>
+        requires { IsSap here }
+        ensures next { IfOk result
+            (Tried room (informs_own self.old (own_from here self.old.own)) self.old self.new) }
+        ensures same { IsSame self.old self.new }
+        ensures service { self.new.service ≡ self.old.service }
+    {
+        match own_giving::give_unit(&mut self.own, here, room) {
+            Err(_) => Err(AllocError),
+            Ok(Next::Nothing) => Ok(Next::Nothing),
+            Ok(Next::TooLong) => Ok(Next::TooLong),
+            Ok(Next::Given(part)) => {
+                self.last = Some(here);
+                Ok(Next::Given(part))
+            }
+        }
+    }
+
+    /// The next unit of a SAP; the connection that was asked of this end comes first.
+    #[tactic(auto, using(crate::proofs::OwnGiven::first_given, crate::proofs::OwnGiven::first_long, crate::proofs::OwnGiven::second_tried))]
+    fn give_unit_at(&mut self, client: u8, room: usize) -> Result<Next, AllocError>
         requires { IsSap client }
-        ensures next { Tried room (acknowledges self.old client) self.old self.new result }
+        ensures next { IfOk result (Tried room (informs S.serving self.old client) self.old self.new) }
+        ensures same { IsSame self.old self.new }
+        ensures err { OnErr result
+            (LeavesNext S.serving (informs S.serving self.old client) self.old.service self.new.service) }
+    {
+        match self.give_served_unit(client, room) {
+            Err(_) => Err(AllocError),
+            Ok(Next::TooLong) => Ok(Next::TooLong),
+            Ok(Next::Given(part)) => Ok(Next::Given(part)),
+            Ok(Next::Nothing) => match self.give_own_unit(client, room) {
+                Err(_) => Err(AllocError),
+                Ok(next) => Ok(next),
+            },
+        }
+    }
+
+    /// An acknowledgement that is owed to a client of the service.
+    fn give_served_ack(&mut self, client: u8, room: usize) -> Next
+        requires { IsSap client }
+        ensures next { Tried room (acknowledges_served self.old (conn_from client self.old.served))
+            self.old self.new result }
         ensures same { IsSame self.old self.new }
         ensures service { self.new.service ≡ self.old.service }
     {
@@ -120,6 +164,40 @@ impl<S: Service> Llc<S> {
         let part = acknowledge(&mut self.served, client, place);
         self.last = Some(client);
         Next::Given(part)
+    }
+
+    /// An acknowledgement that is owed on the connection that this end asked for from a SAP.
+    #[tactic(auto, using(crate::proofs::OwnGiven::ack_given))]
+    fn give_own_ack(&mut self, here: u8, room: usize) -> Next
+        requires { IsSap here }
+        ensures next { Tried room (acknowledges_own self.old (own_from here self.old.own))
+            self.old self.new result }
+        ensures same { IsSame self.old self.new }
+        ensures service { self.new.service ≡ self.old.service }
+    {
+        match own_giving::give_ack(&mut self.own, here, room) {
+            Next::Nothing => Next::Nothing,
+            Next::TooLong => Next::TooLong,
+            Next::Given(part) => {
+                self.last = Some(here);
+                Next::Given(part)
+            }
+        }
+    }
+
+    /// An acknowledgement of a SAP; the connection that was asked of this end comes first.
+    #[tactic(auto, using(crate::proofs::OwnGiven::first_given, crate::proofs::OwnGiven::first_long, crate::proofs::OwnGiven::second_tried))]
+    fn give_ack_at(&mut self, client: u8, room: usize) -> Next
+        requires { IsSap client }
+        ensures next { Tried room (acknowledges self.old client) self.old self.new result }
+        ensures same { IsSame self.old self.new }
+        ensures service { self.new.service ≡ self.old.service }
+    {
+        match self.give_served_ack(client, room) {
+            Next::TooLong => Next::TooLong,
+            Next::Given(part) => Next::Given(part),
+            Next::Nothing => self.give_own_ack(client, room),
+        }
     }
 
     /// In cyclic order of the clients, the next unit of the first whose window allows one.

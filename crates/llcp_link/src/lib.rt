@@ -2,21 +2,29 @@
 //!
 //! `llc` is an end, `service` what stands above it, `names` the names that are bound. `link` takes payloads: `payload` takes
 //! one apart, `connecting`, `taking` and `discovery` do what its PDUs ask. `writing` gives them: `giving` chooses the PDU
-//! that is due, `joining` those behind it in an AGF. `answering` is an end as the far end of a link. `served` keeps the
-//! connections that the other end asked for, `sending` is what they give, `queue` the answers that wait; `parts`, `params`
-//! and `lengths` are about single PDUs. `fault` says why a call is refused.
+//! that is due, `joining` those behind it in an AGF. `answering` is an end as the far end of a link. `asking` is what an end
+//! asks of the other: connections, of which `standing` tells how they stand, and lookups. `served` keeps the connections that
+//! the other end asked for, `sending` is what they give; `own`, `owns` and `own_giving` are the same of those that this end
+//! asked for, `lookups` what it looked up. `queue` are the PDUs that wait; `parts`, `params` and `lengths` are about single
+//! PDUs. `fault` says why a call is refused.
 #![tactic(auto)]
 
 mod answering;
+mod asking;
 mod connecting;
 mod discovery;
 mod fault;
 mod giving;
 mod joining;
+mod law;
 mod lengths;
 mod link;
 mod llc;
+mod lookups;
 mod names;
+mod own;
+mod own_giving;
+mod owns;
 mod params;
 mod parts;
 mod payload;
@@ -24,12 +32,17 @@ mod queue;
 mod sending;
 mod served;
 mod service;
+mod standing;
 mod taking;
 mod writing;
 
 pub use fault::LlcFault;
+pub use law::units;
 pub use llc::Llc;
 pub use service::Service;
+pub use standing::Standing;
 
+#[cfg(test)]
+mod own_tests;
 #[cfg(test)]
 mod tests;

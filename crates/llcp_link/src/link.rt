@@ -27,6 +27,9 @@ impl<S: Service> Llc<S> {
         }
         self.queue.clear();
         self.served.clear();
+        self.own.clear();
+        self.lookups.clear();
+        self.asked = 0;
         self.last = None;
         self.stuck = false;
         self.service.restart();

@@ -10,7 +10,9 @@ ghost use Rattle.llcp_link.specs.State.{fresh_end};
 ghost use Rattle.llcp_link.specs.declared.fault.LlcFault.{LlcFault};
 
 use crate::fault::LlcFault;
+use crate::lookups::Lookup;
 use crate::names::{Bound, DISCOVERY_NAME, bind, is_bound, sap_named};
+use crate::own::Own;
 use crate::queue::Queued;
 use llcp_conn::Conn;
 use llcp_pdu::LinkParams;
@@ -32,13 +34,15 @@ pub struct Llc<S> {
     pub(crate) far_miu: u16,
     pub(crate) queue: Vec<Queued>,
     pub(crate) served: Vec<Conn>,
+    pub(crate) own: Vec<Own>,
+    pub(crate) lookups: Vec<Lookup>,
+    pub(crate) asked: u8,
     pub(crate) last: Option<u8>,
     pub(crate) stuck: bool,
     pub(crate) service: S,
 }
 
 impl<S> Model for Llc<S> {
-    ghost use Rattle.std.specs.Prelude.{[]};
     ghost use Rattle.llcp_link.specs.State.{LlcState};
     ghost use Rattle.llcp_link.specs.Kept.{IsEnd};
 
@@ -52,9 +56,9 @@ impl<S> Model for Llc<S> {
       far_miu = l.far_miu;
       queue = l.queue.items;
       served = l.served.items;
-      own = [];
-      lookups = [];
-      asked = 0;
+      own = l.own.items;
+      lookups = l.lookups.items;
+      asked = l.asked;
       last = l.last;
       stuck = l.stuck;
       service = l.service;
@@ -79,6 +83,9 @@ impl<S> Llc<S> {
             far_miu: LEAST_MIU,
             queue: Vec::new(alloc),
             served: Vec::new(alloc),
+            own: Vec::new(alloc),
+            lookups: Vec::new(alloc),
+            asked: 0,
             last: None,
             stuck: false,
             service,

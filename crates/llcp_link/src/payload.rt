@@ -63,8 +63,9 @@ impl<S: Service> Llc<S> {
     {
         match pdu {
             PduView::Connect { dsap, ssap, params } => self.take_connect(dsap, ssap, params),
-            PduView::Cc { .. } | PduView::Dm { .. } => {
-                self.has_asked();
+            PduView::Cc { dsap, ssap, params } => self.take_cc(dsap, ssap, params),
+            PduView::Dm { dsap, ssap, .. } => {
+                self.take_dm(dsap, ssap);
                 Ok(())
             }
             PduView::Disc { dsap, ssap } => self.take_disc(dsap, ssap),

@@ -1,6 +1,6 @@
 //! The PDUs that wait to be given.
 
-ghost use Rattle.std.specs.Prelude.{◌≡◌, [], ◌∷◌, ◌++◌, OnOk, OnErr};
+ghost use Rattle.std.specs.Prelude.{◌≡◌, ◌<◌, true, vec_len, vec_capacity, [], ◌∷◌, ◌++◌, OnOk, OnErr};
 ghost use Rattle.llcp_link.specs.Kept.{AllSent, IsSent};
 ghost use Rattle.llcp_link.specs.Taking.{answers_in as count_answers};
 
@@ -49,4 +49,16 @@ pub(crate) fn push(queue: &mut Vec<Queued>, own: bool, part: Part) -> Result<(),
         Ok(()) => Ok(()),
         Err(_) => Err(AllocError),
     }
+}
+
+/// One of this end's own requests waits, for which there is room.
+#[tactic(auto, using(crate::proofs::Lists::all_sent_more))]
+pub(crate) fn push_own(queue: &mut Vec<Queued>, part: Part)
+    requires sent { IsSent part }
+    requires all { AllSent queue.old.items }
+    requires room { vec_len queue.old < vec_capacity queue.old }
+    ensures ok { queue.new.items ≡ queue.old.items ++ record { own = true; part = part } ∷ [] }
+    ensures all { AllSent queue.new.items }
+{
+    queue.push(Queued { own: true, part }).unwrap();
 }

@@ -1,19 +1,21 @@
 //! What an end does with one PDU.
 
-ghost use Rattle.std.specs.Prelude.{◌≡◌, ◌<◌, [], OnOk, OnErr};
+ghost use Rattle.std.specs.Prelude.{◌≡◌, ◌<◌, OnOk, OnErr};
 ghost use Rattle.llcp_conn.specs.Conn.{IsSap, takes_view};
 ghost use Rattle.llcp_link.specs.Halting.{IsSame, Leaves};
 ghost use Rattle.llcp_link.specs.Kept.{IsSent};
 ghost use Rattle.llcp_link.specs.Places.{IsNumbered};
-ghost use Rattle.llcp_link.specs.State.{holder};
-ghost use Rattle.llcp_link.specs.Taking.{answered, breaks, ends, is_full as has_all_answers, leaves, numbered};
+ghost use Rattle.llcp_link.specs.Closing.{ClosesHeld};
+ghost use Rattle.llcp_link.specs.State.{holder, own_from, own_holder};
+ghost use Rattle.llcp_link.specs.Taking.{answered, awaited, breaks, ends, heard_dm, is_full as has_all_answers, leaves, numbered};
 
 use crate::llc::Llc;
+use crate::own::Heard;
 use crate::parts::{DISCONNECTED, NOT_CONNECTED, dm, frmr};
 use crate::queue::{answers_in, push};
-use crate::served::{close, take_view};
 use crate::service::Service;
-use llcp_conn::Taken;
+use crate::{owns, served};
+use llcp_conn::{ConnNumbers, Taken};
 use llcp_pdu::{FrmrReport, Part, PduView};
 use std::alloc::AllocError;
 
@@ -43,15 +45,21 @@ impl<S: Service> Llc<S> {
         push(&mut self.queue, false, part)
     }
 
-    /// This end asked for no connection, and looked nothing up.
-    pub(crate) fn has_asked(&self) -> bool
-        ensures own { self.now.own ≡ [] }
-        ensures lookups { self.now.lookups ≡ [] }
+    /// Closes the connection between a SAP of this end and one of the other, and tells its numbers.
+    #[tactic(auto, using(crate::proofs::Closes::closes_served, crate::proofs::Closes::closes_asked))]
+    fn close_between(&mut self, here: u8, there: u8) -> Option<ConnNumbers>
+        ensures closed { ClosesHeld self.old here there result self.new }
+        ensures same { IsSame self.old self.new }
+        ensures service { self.new.service ≡ self.old.service }
     {
-        self.stuck && false
+        match served::close(&mut self.served, here, there) {
+            Some(numbers) => Some(numbers),
+            None => owns::close(&mut self.own, here, there),
+        }
     }
 
     /// A DISC.
+    #[tactic(auto, using(crate::proofs::Closes::leaves_nobody, crate::proofs::Closes::leaves_held))]
     pub(crate) fn take_disc(&mut self, dsap: u8, ssap: u8) -> Result<(), AllocError>
         requires dsap { IsSap dsap }
         requires ssap { IsSap ssap }
@@ -59,22 +67,34 @@ impl<S: Service> Llc<S> {
         ensures same { IsSame self.old self.new }
         ensures service { self.new.service ≡ self.old.service }
     {
-        match close(&mut self.served, dsap, ssap) {
+        match self.close_between(dsap, ssap) {
             None => self.answer_with(dm(ssap, dsap, NOT_CONNECTED)),
             Some(_) => self.answer_with(dm(ssap, dsap, DISCONNECTED)),
         }
     }
 
     /// A FRMR.
+    #[tactic(auto, using(crate::proofs::Closes::ends_so))]
     pub(crate) fn take_frmr(&mut self, dsap: u8, ssap: u8)
         ensures ok { self.new ≡ ends self.old (holder self.old dsap ssap) }
         ensures same { IsSame self.old self.new }
         ensures service { self.new.service ≡ self.old.service }
     {
-        let _ = close(&mut self.served, dsap, ssap);
+        let _ = self.close_between(dsap, ssap);
+    }
+
+    /// A DM.
+    #[tactic(auto, using(crate::proofs::Awaited::dm_awaited))]
+    pub(crate) fn take_dm(&mut self, dsap: u8, ssap: u8)
+        ensures ok { self.new ≡ awaited self.old ssap (λ o. heard_dm self.old o o.is) (own_from dsap self.old.own) }
+        ensures same { IsSame self.old self.new }
+        ensures service { self.new.service ≡ self.old.service }
+    {
+        owns::hear_dm(&mut self.own, dsap, ssap);
     }
 
     /// A malformed PDU of this type and sequence byte.
+    #[tactic(auto, using(crate::proofs::Closes::breaks_nobody, crate::proofs::Closes::breaks_held))]
     pub(crate) fn break_off(
         &mut self,
         dsap: u8,
@@ -89,7 +109,7 @@ impl<S: Service> Llc<S> {
         ensures same { IsSame self.old self.new }
         ensures service { self.new.service ≡ self.old.service }
     {
-        let Some(numbers) = close(&mut self.served, dsap, ssap) else {
+        let Some(numbers) = self.close_between(dsap, ssap) else {
             return Ok(());
         };
         let report = FrmrReport {
@@ -119,12 +139,30 @@ impl<S: Service> Llc<S> {
         ensures same { IsSame self.old self.new }
         ensures err { OnErr result (Leaves S.serving self.old.service self.new.service) }
     {
-        match take_view(&mut self.served, dsap, ssap, pdu) {
+        match served::take_view(&mut self.served, dsap, ssap, pdu) {
             Err(_) => Err(AllocError),
-            Ok(None) => self.answer_with(dm(ssap, dsap, NOT_CONNECTED)),
+            Ok(None) => self.take_asked(pdu, dsap, ssap),
             Ok(Some(Taken::Nothing)) => Ok(()),
             Ok(Some(Taken::Unit(unit))) => self.service.unit(self.alloc, ssap, unit.as_slice()),
             Ok(Some(Taken::Closed(report))) => self.answer_with(frmr(ssap, dsap, report)),
+        }
+    }
+    /// An I, RR or RNR of no connection that was asked of this end.
+    #[tactic(auto, using(crate::proofs::Closes::asked_kept, crate::proofs::Closes::asked_closed, crate::proofs::Closes::asked_none))]
+    fn take_asked(&mut self, pdu: &PduView<'_>, dsap: u8, ssap: u8) -> Result<(), AllocError>
+        requires dsap { IsSap dsap }
+        requires ssap { IsSap ssap }
+        requires pdu { IsNumbered dsap ssap pdu.now }
+        ensures ok { OnOk result (self.new ≡ numbered S.serving self.old (λ c. takes_view c pdu.now) dsap ssap
+            (own_holder ssap (own_from dsap self.old.own))) }
+        ensures same { IsSame self.old self.new }
+        ensures service { self.new.service ≡ self.old.service }
+    {
+        match owns::take_view(&mut self.own, dsap, ssap, pdu) {
+            Err(_) => Err(AllocError),
+            Ok(Heard::Nothing) => self.answer_with(dm(ssap, dsap, NOT_CONNECTED)),
+            Ok(Heard::Taken) => Ok(()),
+            Ok(Heard::Closed(report)) => self.answer_with(frmr(ssap, dsap, report)),
         }
     }
 }

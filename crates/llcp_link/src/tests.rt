@@ -10,16 +10,16 @@ use std::marker::Model;
 use std::process::Abort;
 use std::test::Fail;
 
-const SNEP: &str = "urn:nfc:sn:snep";
+pub(crate) const SNEP: &str = "urn:nfc:sn:snep";
 
 /// General bytes of an end of MIU 128.
 const GENERAL: [u8; 10] = [0x46, 0x66, 0x6D, 0x01, 0x01, 0x13, 0x02, 0x02, 0x00, 0x00];
 
 /// A service that notes each unit behind its client's SAP, and sends none.
 #[derive(Drop)]
-struct Notes {
+pub(crate) struct Notes {
     alloc: Global,
-    units: Vec<u8>,
+    pub(crate) units: Vec<u8>,
 }
 
 impl Model for Notes {
@@ -61,7 +61,7 @@ impl Service for Notes {
 }
 
 /// A server at SAP 4, with MIU 128 and window 1.
-fn server(rt: &impl Abort, alloc: Global) -> Result<Llc<Notes>, Fail> {
+pub(crate) fn server(rt: &impl Abort, alloc: Global) -> Result<Llc<Notes>, Fail> {
     let params = LinkParams {
         version: 0x13,
         miu: 128,
@@ -201,7 +201,7 @@ fn nine_clients_and_seventeen_answers(rt: HostRuntime) -> Result<(), Fail> {
 }
 
 /// The reply to a payload.
-fn answers<S: Service>(
+pub(crate) fn answers<S: Service>(
     rt: &impl Abort,
     alloc: Global,
     llc: &mut Llc<S>,
