@@ -4,3 +4,7 @@ pub mod Sessions
 pub mod Offers
 pub mod Serving
 pub mod Cuts
+pub mod FirstUnits
+pub mod UnitPuts
+pub mod SourcesTold
+pub mod PayloadLaw

@@ -4,3 +4,4 @@ pub mod Session
 pub mod Server
 pub mod Puts
 pub mod Cuts
+pub mod Payloads

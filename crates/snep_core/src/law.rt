@@ -1,7 +1,8 @@
-//! What the units of a connection put, whatever a server does with them.
+//! What the units of a connection put, whatever a server does with them; and what a server accepts, by the payloads alone.
 
 ghost use Rattle.snep_core.specs.Puts.{PutsOne};
 ghost use Rattle.snep_core.specs.Cuts.{FrontsPut, LastPut};
+ghost use Rattle.snep_core.specs.Payloads.{AcceptedInOrder, PayloadsAccepted};
 
 /// The units of a connection put one list of messages.
 pub fn one_list()
@@ -16,4 +17,14 @@ pub fn fronts()
 /// The message of the last put was put exactly where all its units came and it is within the limit; those before it are whole.
 pub fn last_put()
     ensures { LastPut }
+{}
+
+/// Whatever payloads come after a restart: what a server accepts from a client's SAP is what the units of its connections put.
+pub fn payloads()
+    ensures { PayloadsAccepted }
+{}
+
+/// Messages are accepted in the order in which the units that complete them stand in the payloads.
+pub fn in_order()
+    ensures { AcceptedInOrder }
 {}

@@ -3,7 +3,7 @@
 //!
 //! `message` has the codes and writes messages; `first` reads the first unit of a request; `session` is one connection: what
 //! is gathered, what is to be sent, what waits for a continue; `server` has the table for get, what was accepted, and a
-//! session for each client's SAP; `law` says what the units of a client's messages put.
+//! session for each client's SAP; `law` says what the units of a client's messages put, and that a server accepts just that.
 #![tactic(auto)]
 
 mod first;
@@ -12,7 +12,7 @@ mod message;
 mod server;
 mod session;
 
-pub use law::{fronts, last_put, one_list};
+pub use law::{fronts, in_order, last_put, one_list, payloads};
 pub use server::Server;
 
 #[cfg(test)]

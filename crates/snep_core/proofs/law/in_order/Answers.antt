@@ -1,0 +1,5 @@
+use Rattle.snep_core.proofs.PayloadLaw.{accepted_in_order}
+use Rattle.snep_core.proofs.law.in_order.Goals as goal
+
+pub returns : goal.returns
+returns c = accepted_in_order

@@ -1,0 +1,5 @@
+use Rattle.snep_core.proofs.PayloadLaw.{payloads_accepted}
+use Rattle.snep_core.proofs.law.payloads.Goals as goal
+
+pub returns : goal.returns
+returns c = payloads_accepted

@@ -1,0 +1,75 @@
+-- What a server accepts on a link, by the payloads alone.
+use Rattle.std.specs.Prelude.{◌≡◌, ◌<◌, ℕ, ◌==◌, List, [], ◌∷◌, ◌++◌, None, if◌then◌else◌}
+use Rattle.llcp_link.specs.State.{LlcState, restarted}
+use Rattle.llcp_link.specs.Taking.{Item, brought, steps}
+use Rattle.llcp_link.specs.Units.{Mark, marks, units}
+use Rattle.llcp_link.specs.Running.{Acted, AreBytes, IsRun, end_of, marks_of}
+use Rattle.snep_core.specs.Puts.{Puts}
+use Rattle.snep_core.specs.Server.{Received, ServerState, sap_count, serving}
+use Rattle.snep_core.specs.Session.{Offer}
+
+-- the units of connections, one after the other, put these messages
+abbrev pub AllPut : ℕ → List (List (List ℕ)) → List (List ℕ) → Type 0
+AllPut limit [] all = all ≡ []
+AllPut limit (us ∷ more) all =
+    (ms : List (List ℕ)) × (rest : List (List ℕ)) × (all ≡ ms ++ rest) × Puts limit us ms × AllPut limit more rest
+
+-- what was accepted from a client's SAP
+abbrev pub accepted_from : ℕ → List Received → List (List ℕ)
+accepted_from c [] = []
+accepted_from c (r ∷ rs) = if r.source == c then r.message ∷ accepted_from c rs else accepted_from c rs
+
+-- the server's table for get may be another
+abbrev pub OffersElse : ServerState → ServerState → Type 0
+OffersElse old new = (table : List Offer) × (new ≡ record old { table = table })
+
+-- an end with a server did this, its table for get being another at any time
+abbrev pub IsServerRun : LlcState ServerState → List (Acted ServerState) → Type 0
+IsServerRun l run = IsRun serving OffersElse l run
+
+-- What a server accepts from a client's SAP is what the units of its connections put, joined in order.
+pub record AcceptsPuts (c limit miu : ℕ) (ms : List Mark) (old new : List Received) : Type 0 where
+  pub all : List (List ℕ)
+  pub accepted : accepted_from c new ≡ accepted_from c old ++ all
+  pub put : AllPut limit (units c miu None ms) all
+
+-- Whatever payloads come after a restart, with any table for get at each and any number of PDUs in each reply: of each client's
+-- SAP, what is accepted is what the payloads put.
+abbrev pub PayloadsAccepted : Type 0
+PayloadsAccepted =
+    (old : LlcState ServerState) (general : List ℕ) (run : List (Acted ServerState))
+    → IsServerRun (restarted serving old general) run → (c : ℕ) → c < sap_count
+    → AcceptsPuts c old.service.limit old.miu (marks_of serving c (restarted serving old general) run) old.service.accepted
+    (end_of (restarted serving old general) run).service.accepted
+
+-- A place in what an end does: some acts, and some first of the PDUs of a payload behind them.
+pub record Place (begin : LlcState ServerState) : Type 0 where
+  pub before : List (Acted ServerState)
+  pub run : IsServerRun begin before
+  pub payload : List ℕ
+  pub bytes : AreBytes payload
+  pub came : List Item
+  pub behind : List Item
+  pub split : brought (end_of begin before) payload ≡ came ++ behind
+
+-- the end there, and the PDUs that came until there
+abbrev pub end_there : (begin : LlcState ServerState) → Place begin → LlcState ServerState
+end_there begin p = steps serving (end_of begin p.before) p.came
+
+abbrev pub marks_there : ℕ → (begin : LlcState ServerState) → Place begin → List Mark
+marks_there c begin p = marks_of serving c begin p.before ++ marks serving c (end_of begin p.before) p.came
+
+-- these are the first of those
+abbrev pub IsFront : List Received → List Received → Type 0
+IsFront front all = (rest : List Received) × (all ≡ front ++ rest)
+
+-- At each PDU of the payloads, what is accepted until there is what the PDUs until there put, and the first of what is accepted
+-- until the payload's end and whatever is done then. So messages are accepted in the order in which the units stand that complete them.
+pub record AcceptsThere (old : LlcState ServerState) (begin : LlcState ServerState) (p : Place begin) : Type 0 where
+  pub puts : (c : ℕ) → c < sap_count → AcceptsPuts c old.service.limit old.miu (marks_there c begin p) old.service.accepted (end_there begin p).service.accepted
+  pub front : (more : List (Acted ServerState)) → IsServerRun (steps serving (end_there begin p) p.behind) more
+      → IsFront (end_there begin p).service.accepted (end_of (steps serving (end_there begin p) p.behind) more).service.accepted
+
+abbrev pub AcceptedInOrder : Type 0
+AcceptedInOrder =
+    (old : LlcState ServerState) (general : List ℕ) (p : Place (restarted serving old general)) → AcceptsThere old (restarted serving old general) p
