@@ -1,6 +1,6 @@
 -- What frames leave of the devices where a Type 4 tag is activated and asked: nothing that stays of them changes but the store
 -- of the tag that is asked.
-use Rattle.std.proofs.Common.{◌≡◌, ℕ, List, [], ◌∷◌, ◌++◌, length, map, Bool, true, false, if◌then◌else◌, Option, Some, None, refl, sym, ◌∙◌, ap, subst}
+use Rattle.std.proofs.Common.{◌≡◌, ℕ, List, [], ◌∷◌, ◌++◌, length, map, Bool, true, false, ◌||◌, if◌then◌else◌, Option, Some, None, refl, sym, ◌∙◌, ap, subst}
 use Rattle.std.specs.List.{AllByRecursion}
 use Rattle.std.proofs.lemmas.List.{map-append, length-map}
 use Rattle.nfc_base.specs.declared.frame.Tech.TheVariants.{A}
@@ -27,7 +27,8 @@ use Rattle.t2t_tag.specs.declared.command.T2Command.TheVariants.{Read, Write}
 use Rattle.t2t_tag.specs.Spelling.{spelled_command}
 use Rattle.t2t_tag.specs.Step.{is_writable, t2_obeyed, reply_frame, held_after}
 use Rattle.t2t_tag.specs.Store.{T2Memory}
-use Rattle.t4t_tag.specs.Store.{T4State, IsSameTag, store_of, darkened}
+use Rattle.t4t_tag.specs.Store.{T4State, IsSameTag, store_of}
+use Rattle.t4t_tag.specs.Step.{t4_answer}
 use Rattle.t4t_tag.proofs.Steps.{same_tag}
 use Rattle.tag_reader.specs.declared.how.How.TheVariants as hows
 use Rattle.isodep_link.specs.declared.card.CardStep.{CardStep}
@@ -38,51 +39,52 @@ use Rattle.nfc_base.specs.Headed.{is_rats}
 use Rattle.isodep_link.specs.Sizes.{rats_code, piece_size, ats_frame}
 use Rattle.isodep_link.specs.Card.{CardState, CardTurn, card_table, framed, stays, heeded}
 use Rattle.isodep_link.specs.Card as ends
+use Rattle.isodep_link.proofs.Made.{stays_made, replied_made}
 use Rattle.bench_devices.specs.Uppers.{t4_upper}
-use Rattle.bench_devices.specs.Cards.{T4Near}
+use Rattle.bench_devices.specs.Cards.{T4Near, card_now}
 use Rattle.bench_devices.specs.declared.device.Device.{Device}
 use Rattle.bench_devices.specs.declared.device.Device.TheVariants.{T2, T4, T5}
-use Rattle.bench_devices.specs.Device.{devices, device_id, device_store, device_ready, device_selected, device_locks, by_card, linked, says_of, t2_machine, t4_did, t4_machine}
+use Rattle.bench_devices.specs.Device.{devices, device_id, device_store, device_ready, device_selected, device_locks, by_card, on_link, did_if, says_of, t2_machine, t4_did, t4_machine}
 use Rattle.bench_devices.specs.Device.{air}
 use Rattle.bench_devices.specs.Phases.{Kept, kept, ghosts}
 use Rattle.bench_devices.specs.Standing.{at_rest, step_keeps}
 use Rattle.air_core.proofs.DueWaits.{due_all}
 use Rattle.bench_devices.proofs.SelectingKept.{IsHarmless, EachAsked, due_asked, kept_dark, kept_lit}
 
--- What holds of the tag of a Type 4 device, in and out of the field, holds of it behind a frame where it holds of what its
--- machine leaves.
-module _ (P : T4State → Type 0) (clears : (t : T4State) → P t → P (darkened t)) where
-  left_holds : (front next : Front) (u : T4Near) → P u.tag → P (left_at t4_machine front next u).tag
+-- What holds of the machine of a Type 4 device, with and without a link, holds of it behind a frame where it holds of what the
+-- frame leaves.
+module _ (P : T4Near → Type 0) (clears : (u : T4Near) → P u → P (t4_machine.cleared u)) where
+  left_holds : (front next : Front) (u : T4Near) → P u → P (left_at t4_machine front next u)
   left_holds Off next u h = h
   left_holds Idle next u h = h
   left_holds Sleep next u h = h
   left_holds (Ready k starred) next u h = h
-  left_holds (Active starred) Off u h = clears u.tag h
-  left_holds (Active starred) Idle u h = clears u.tag h
-  left_holds (Active starred) Sleep u h = clears u.tag h
-  left_holds (Active starred) (Ready k other) u h = clears u.tag h
+  left_holds (Active starred) Off u h = clears u h
+  left_holds (Active starred) Idle u h = clears u h
+  left_holds (Active starred) Sleep u h = clears u h
+  left_holds (Active starred) (Ready k other) u h = clears u h
   left_holds (Active starred) (Active other) u h = h
 
-  plain_holds : (d : Fronted T4Near) (f : Signal) → P d.upper.tag → P (moved t4_machine d (front_next (levels d.id) d.front (call_of f))).upper.tag
+  plain_holds : (d : Fronted T4Near) (f : Signal) → P d.upper → P (moved t4_machine d (front_next (levels d.id) d.front (call_of f))).upper
   plain_holds d f h = left_holds d.front (front_next (levels d.id) d.front (call_of f)) d.upper h
 
-  active_holds : (s : UpStep) (v : T4Near) (d : Fronted T4Near) (f : Signal) → P d.upper.tag → P v.tag → P (active_after t4_machine s v d f).upper.tag
+  active_holds : (s : UpStep) (v : T4Near) (d : Fronted T4Near) (f : Signal) → P d.upper → P v → P (active_after t4_machine s v d f).upper
   active_holds steps.Foreign v d f h k = plain_holds d f h
   active_holds steps.Quiet v d f h k = k
   active_holds (steps.Reply g) v d f h k = k
-  active_holds (steps.Sleep g) v d f h k = clears v.tag k
-  active_holds (steps.Idle g) v d f h k = clears v.tag k
+  active_holds (steps.Sleep g) v d f h k = clears v k
+  active_holds (steps.Idle g) v d f h k = clears v k
 
-  step_holds : (front : Front) (d : Fronted T4Near) (f : Signal) → P d.upper.tag → P (t4_did d.upper d.upper.link f).after.tag → P (after_by t4_machine front d f None).upper.tag
+  step_holds : (front : Front) (d : Fronted T4Near) (f : Signal) → P d.upper → P (t4_did d.upper f).after → P (after_by t4_machine front d f None).upper
   step_holds Off d f h k = plain_holds d f h
   step_holds Idle d f h k = plain_holds d f h
   step_holds Sleep d f h k = plain_holds d f h
   step_holds (Ready level starred) d f h k = plain_holds d f h
-  step_holds (Active starred) d f h k = active_holds (t4_did d.upper d.upper.link f).says (t4_did d.upper d.upper.link f).after d f h k
+  step_holds (Active starred) d f h k = active_holds (t4_did d.upper f).says (t4_did d.upper f).after d f h k
 
 -- a frame at which no card delivers a command
 abbrev pub DeliversNone : Signal → Type 0
-DeliversNone f = (tag : T4State) (t : CardState) → (linked tag t f).after.tag ≡ tag
+DeliversNone f = (tag : T4State) (t : CardState) → (on_link tag t f).after.tag ≡ tag
 
 -- the tag that a card's turn leaves
 abbrev left_by : T4State → CardTurn → T4State
@@ -107,25 +109,42 @@ spells_none f no_rats no_block tag t =
     by_mute true = refl
     by_mute false = refl
 
-did_none : (u : T4Near) (f : Signal) → DeliversNone f → (link : Option CardState) → (t4_did u link f).after.tag ≡ u.tag
-did_none u f none (Some t) = none u.tag t
-did_none u f none None = by_rats (is_rats f)
+-- a card's end stays what it was made as, whatever its tag answers
+by_card_made : (tag : T4State) (t : CardState) (does : CardStep) → ends.darkened (by_card tag t does).after.card ≡ ends.darkened t
+by_card_made tag t card.Quiet = refl
+by_card_made tag t (card.Reply f) = refl
+by_card_made tag t (card.Deliver command) = replied_made t (t4_answer tag command.items)
+by_card_made tag t (card.Asleep f) = refl
+
+now_made : (u : T4Near) → ends.darkened (card_now u) ≡ ends.darkened u.card
+now_made u = by_link u.linked
   where
-    by_rats : (v : Bool) → (if v then linked u.tag (ends.fresh u.tag.code) f else record { says = steps.Foreign; after = u }).after.tag ≡ u.tag
-    by_rats true = none u.tag (ends.fresh u.tag.code)
-    by_rats false = refl
+    by_link : (v : Bool) → ends.darkened (if v then u.card else ends.darkened u.card) ≡ ends.darkened u.card
+    by_link true = refl
+    by_link false = refl
+
+did_made : (u : T4Near) (f : Signal) (v : Bool) → ends.darkened (did_if v u f).after.card ≡ ends.darkened u.card
+did_made u f true = let t : CardState = card_now u in by_card_made u.tag (card_table t f).state (card_table t f).does ∙ stays_made t f ∙ now_made u
+did_made u f false = refl
+
+did_none : (u : T4Near) (f : Signal) → DeliversNone f → (v : Bool) → (did_if v u f).after.tag ≡ u.tag
+did_none u f none true = none u.tag (card_now u)
+did_none u f none false = refl
 
 -- what stays of a Type 4 tag
-abbrev tagged : List ℕ → T4State → Kept
-tagged id t = record { id = id; how = hows.T4; size = 0; store = store_of t; locked = []; code = t.code; container = t.container }
+abbrev tagged : List ℕ → T4State → CardState → Kept
+tagged id t made = record { id = id; how = hows.T4; size = 0; store = store_of t; locked = []; code = t.code; container = t.container; made = made }
 
 -- such a frame changes no Type 4 tag but in its state
 pub four_keeps : (d : Fronted T4Near) (f : Signal) → DeliversNone f → kept (T4 (after_by t4_machine d.front d f None)) ≡ kept (T4 d)
 four_keeps d f none =
-    let P : T4State → Type 0 = λ t. tagged d.id t ≡ tagged d.id d.upper.tag in
+    let P : T4Near → Type 0 = λ u. tagged d.id u.tag (ends.darkened u.card) ≡ tagged d.id d.upper.tag (ends.darkened d.upper.card) in
     let new : Fronted T4Near = after_by t4_machine d.front d f None in
-    ap (λ id. tagged id new.upper.tag) (fronted.step_keeps t4_upper d f None).identifier'
-    ∙ step_holds P (λ t h. h) d.front d f refl (ap (tagged d.id) (did_none d.upper f none d.upper.link))
+    let taken : Bool = d.upper.linked || is_rats f in
+    let did : T4Near = (did_if taken d.upper f).after in
+    ap (λ id. tagged id new.upper.tag (ends.darkened new.upper.card)) (fronted.step_keeps t4_upper d f None).identifier'
+    ∙ step_holds P (λ u h. h) d.front d f refl
+    (ap (λ t. tagged d.id t (ends.darkened did.card)) (did_none d.upper f none taken) ∙ ap (tagged d.id d.upper.tag) (did_made d.upper f taken))
 
 rats_two : (id : List ℕ) (front : Front) (u : T2Memory) → kept (devices.after (T2 (record { id = id; front = front; upper = u })) rats None) ≡ kept (T2 (record { id = id; front = front; upper = u }))
 rats_two id Off u = refl
@@ -154,21 +173,19 @@ by_card_same tag t (card.Reply f) = itself tag
 by_card_same tag t (card.Deliver command) = same_tag tag command.items
 by_card_same tag t (card.Asleep f) = itself tag
 
-linked_same : (tag : T4State) (t : CardState) (f : Signal) → IsSameTag tag (linked tag t f).after.tag
-linked_same tag t f = by_card_same tag (card_table t f).state (card_table t f).does
-
-did_same : (u : T4Near) (f : Signal) (link : Option CardState) → IsSameTag u.tag (t4_did u link f).after.tag
-did_same u f (Some t) = linked_same u.tag t f
-did_same u f None = by_rats (is_rats f)
-  where
-    by_rats : (v : Bool) → IsSameTag u.tag (if v then linked u.tag (ends.fresh u.tag.code) f else record { says = steps.Foreign; after = u }).after.tag
-    by_rats true = linked_same u.tag (ends.fresh u.tag.code) f
-    by_rats false = itself u.tag
+did_same : (u : T4Near) (f : Signal) (v : Bool) → IsSameTag u.tag (did_if v u f).after.tag
+did_same u f true = by_card_same u.tag (card_table (card_now u) f).state (card_table (card_now u) f).does
+did_same u f false = itself u.tag
 
 four_same : (d : Fronted T4Near) (f : Signal) → IsSameTag d.upper.tag (after_by t4_machine d.front d f None).upper.tag
 four_same d f =
-    let P : T4State → Type 0 = λ t. IsSameTag d.upper.tag t in
-    step_holds P (λ t h. record { code = h.code; container = h.container; length = h.length }) d.front d f (itself d.upper.tag) (did_same d.upper f d.upper.link)
+    let P : T4Near → Type 0 = λ u. IsSameTag d.upper.tag u.tag in
+    step_holds P (λ u h. record { code = h.code; container = h.container; length = h.length }) d.front d f (itself d.upper.tag) (did_same d.upper f (d.upper.linked || is_rats f))
+
+four_made : (d : Fronted T4Near) (f : Signal) → ends.darkened (after_by t4_machine d.front d f None).upper.card ≡ ends.darkened d.upper.card
+four_made d f =
+    let P : T4Near → Type 0 = λ u. ends.darkened u.card ≡ ends.darkened d.upper.card in
+    step_holds P (λ u h. h) d.front d f refl (did_made d.upper f (d.upper.linked || is_rats f))
 
 -- No frame changes which blocks of a Type 2 tag are locked.
 locks_left : (front next : Front) (u : T2Memory) → (left_at t2_machine front next u).locked ≡ u.locked
@@ -208,18 +225,24 @@ bare_of k = record k { store = [] }
 abbrev pub bare : Device → Kept
 bare d = bare_of (kept d)
 
+abbrev bare_two : List ℕ → List Bool → Kept
+bare_two id locked = record { id = id; how = hows.T2; size = 16; store = []; locked = locked; code = 0; container = []; made = ends.fresh 0 }
+
+abbrev bare_four : List ℕ → ℕ → List ℕ → CardState → Kept
+bare_four id code container made = record { id = id; how = hows.T4; size = 0; store = []; locked = []; code = code; container = container; made = made }
+
 -- a whole frame of NFC-A leaves it
 bare_step : (d : Device) (bytes : List ℕ) → bare (stepped_by devices d (whole_a bytes) None) ≡ bare d
 bare_step (T2 d) bytes =
-    ap (λ id. record { id = id; how = hows.T2; size = 16; store = []; locked = device_locks (devices.after (T2 d) (whole_a bytes) None); code = 0; container = [] })
-    (step_keeps (T2 d) (whole_a bytes) None).identifier'
-    ∙ ap (λ locks. record { id = d.id; how = hows.T2; size = 16; store = []; locked = locks; code = 0; container = [] }) (two_locks d.front d (whole_a bytes))
+    ap (λ id. bare_two id (device_locks (devices.after (T2 d) (whole_a bytes) None))) (step_keeps (T2 d) (whole_a bytes) None).identifier'
+    ∙ ap (bare_two d.id) (two_locks d.front d (whole_a bytes))
 bare_step (T4 d) bytes =
     let same = four_same d (whole_a bytes) in
-    let new : Fronted T4Near = after_by t4_machine d.front d (whole_a bytes) None in
-    ap (λ id. record { id = id; how = hows.T4; size = 0; store = []; locked = []; code = new.upper.tag.code; container = new.upper.tag.container }) (fronted.step_keeps t4_upper d (whole_a bytes) None).identifier'
-    ∙ ap (λ code. record { id = d.id; how = hows.T4; size = 0; store = []; locked = []; code = code; container = new.upper.tag.container }) same.code
-    ∙ ap (λ container. record { id = d.id; how = hows.T4; size = 0; store = []; locked = []; code = d.upper.tag.code; container = container }) same.container
+    let new : T4Near = (after_by t4_machine d.front d (whole_a bytes) None).upper in
+    ap (λ id. bare_four id new.tag.code new.tag.container (ends.darkened new.card)) (fronted.step_keeps t4_upper d (whole_a bytes) None).identifier'
+    ∙ ap (λ code. bare_four d.id code new.tag.container (ends.darkened new.card)) same.code
+    ∙ ap (λ container. bare_four d.id d.upper.tag.code container (ends.darkened new.card)) same.container
+    ∙ ap (bare_four d.id d.upper.tag.code d.upper.tag.container) (four_made d (whole_a bytes))
 bare_step (T5 p) bytes = refl
 
 -- no device of NFC-A that is ready or selected

@@ -1,6 +1,6 @@
 -- The bench's devices as a crowd of cards: at a call each steps by its front and keeps what it holds, and no two have one
 -- identifier.
-use Rattle.std.proofs.Common.{◌≡◌, ◌≢◌, ◌⊎◌, ℕ, suc, ◌≤◌, ◌<◌, List, [], ◌∷◌, length, map, filter_map, Bool, true, false, if◌then◌else◌, not, ◌&&◌, is_none, Option, Some, None, inl, inr, refl, sym, ◌∙◌, ap, arith}
+use Rattle.std.proofs.Common.{◌≡◌, ◌≢◌, ◌⊎◌, ℕ, suc, ◌≤◌, ◌<◌, List, [], ◌∷◌, length, map, filter_map, Bool, true, false, if◌then◌else◌, not, ◌&&◌, Option, Some, None, inl, inr, refl, sym, ◌∙◌, ap, arith}
 use Rattle.std.specs.List.{AllByRecursion, cons_option}
 use Rattle.nfc_base.specs.declared.frame.Tech.TheVariants.{A}
 use Rattle.nfc_base.specs.Signal.{Signal}
@@ -20,9 +20,7 @@ use Rattle.t2t_tag.specs.Store.{T2Memory}
 use Rattle.t2t_tag.specs.Step.{reply_frame, t2_after}
 use Rattle.bench_devices.specs.declared.device.Device.{Device}
 use Rattle.bench_devices.specs.declared.device.Device.TheVariants.{T2, T4, T5}
-use Rattle.t4t_tag.specs.Store.{T4State}
 use Rattle.t5t_tag.specs.Step.{t5_after}
-use Rattle.isodep_link.specs.Card.{CardState}
 use Rattle.bench_devices.specs.Cards.{T4Near}
 use Rattle.bench_devices.specs.Device.{devices, device_id, says_of, t2_machine, T4Did, t4_did, t4_machine, is_unlinked, is_no_file}
 use Rattle.bench_devices.specs.Phases as bench
@@ -30,7 +28,7 @@ use Rattle.bench_devices.specs.Phases.{Kept, kept, IsApart, AreSound, AreTame, I
 use Rattle.bench_devices.proofs.Ours.{device_kind, device_front, steps}
 use Rattle.bench_devices.proofs.Tidy.{left_tidy}
 use Rattle.nfca_poll.specs.OwnFrames.{BeginsAsCalls, call_begins}
-use Rattle.bench_devices.specs.LinkCalls.{no_command, did_at_call}
+use Rattle.bench_devices.specs.LinkCalls.{no_command, says_at, did_at_call}
 
 left_stays : (starred : Bool) (next : Front) (u : T2Memory) → left_at t2_machine (Active starred) next u ≡ u
 left_stays starred Off u = refl
@@ -85,19 +83,18 @@ device_unlinked (T4 d) = is_unlinked d.upper
 device_unlinked (T5 p) = true
 
 -- to a Type 4 tag without a link each call is foreign
-foreign_at : (tag : T4State) (link : Option CardState) (f : Signal) → BeginsAsCalls f → (v w : Bool) → (is_none link && v && w) ≡ true
-    → t4_did (record { tag = tag; link = link }) link f ≡ record { says = ups.Foreign; after = record { tag = tag; link = link } }
-foreign_at tag None f h v w n = did_at_call tag None f h
-foreign_at tag (Some t) f h v w n = absurd cc
+says_foreign : (linked v w : Bool) → (not linked && v && w) ≡ true → says_at linked ≡ ups.Foreign
+says_foreign false v w n = refl
+says_foreign true v w n = absurd cc
 
-foreign_to : (u : T4Near) (f : Signal) → BeginsAsCalls f → is_unlinked u ≡ true → t4_did u u.link f ≡ record { says = ups.Foreign; after = u }
-foreign_to u f h n = foreign_at u.tag u.link f h (not u.tag.selected) (is_no_file u.tag.current) n
+foreign_to : (u : T4Near) (f : Signal) → BeginsAsCalls f → is_unlinked u ≡ true → t4_did u f ≡ record { says = ups.Foreign; after = u }
+foreign_to u f h n = did_at_call u f h ∙ ap (λ s. record { says = s; after = u }) (says_foreign u.linked (not u.tag.selected) (is_no_file u.tag.current) n)
 
 abbrev pub near : List ℕ → Front → T4Near → Fronted T4Near
 near id front u = record { id = id; front = front; upper = u }
 
 -- so it steps by its front, and has no link afterwards
-card_steps : (front : Front) (id : List ℕ) (u : T4Near) (f : Signal) → t4_did u u.link f ≡ record { says = ups.Foreign; after = u }
+card_steps : (front : Front) (id : List ℕ) (u : T4Near) (f : Signal) → t4_did u f ≡ record { says = ups.Foreign; after = u }
     → StepsByFront devices device_id device_kind device_front (T4 (near id front u)) f
 card_steps Off id u f e = steps (T4 (near id Off u)) f refl refl
 card_steps Idle id u f e = steps (T4 (near id Idle u)) f refl refl
@@ -170,14 +167,12 @@ wakes_idle (T4 d) t h = record { idle = refl; no_link = reset_unlinked (T4 d) h;
 wakes_idle (T5 p) t h = absurd cc
 
 -- at a call an active device leaves the state Active, but for a Type 4 tag with a link, which stays in it
-silent_near : (id : List ℕ) (starred : Bool) (u : T4Near) (link : Option CardState) (f : Signal) → BeginsAsCalls f → u.link ≡ link
+silent_near : (id : List ℕ) (starred : Bool) (u : T4Near) (linked : Bool) (f : Signal) → BeginsAsCalls f → u.linked ≡ linked
     → StepsByFront devices device_id device_kind device_front (T4 (near id (Active starred) u)) f ⊎ StaysActive devices device_id device_kind device_front (T4 (near id (Active starred) u)) f
-silent_near id starred u None f h e =
-    inl (card_steps (Active starred) id u f (ap (λ k. t4_did (record { tag = u.tag; link = k }) k f) e ∙ did_at_call u.tag None f h ∙ ap (λ k. record { says = ups.Foreign; after = record { tag = u.tag; link = k } }) (sym e)))
-silent_near id starred u (Some t) f h e =
+silent_near id starred u false f h e = inl (card_steps (Active starred) id u f (did_at_call u f h ∙ ap (λ k. record { says = says_at k; after = u }) e))
+silent_near id starred u true f h e =
     let d : Fronted T4Near = near id (Active starred) u in
-    let did : t4_did u u.link f ≡ record { says = ups.Quiet; after = u } =
-    ap (λ k. t4_did (record { tag = u.tag; link = k }) k f) e ∙ did_at_call u.tag (Some t) f h ∙ ap (λ k. record { says = ups.Quiet; after = record { tag = u.tag; link = k } }) (sym e) in
+    let did : t4_did u f ≡ record { says = ups.Quiet; after = u } = did_at_call u f h ∙ ap (λ k. record { says = says_at k; after = u }) e in
     let after : T4Did → Fronted T4Near = λ x. active_after t4_machine x.says x.after d f in
     inr (record {
       untouched = refl;
@@ -194,7 +189,7 @@ yields_near Off id u f h a = absurd cc
 yields_near Idle id u f h a = absurd cc
 yields_near Sleep id u f h a = absurd cc
 yields_near (Ready k starred) id u f h a = absurd cc
-yields_near (Active starred) id u f h a = silent_near id starred u u.link f h refl
+yields_near (Active starred) id u f h a = silent_near id starred u u.linked f h refl
 
 pub yields : YieldsToCalls ours
 yields (T2 d) f c t a e = inl (step_at_call d f (no_command f (call_begins f c e)))

@@ -1,5 +1,5 @@
 -- What stays of the devices while a reader polls: resets, calls, inventories and the dark change no device but in its state.
-use Rattle.std.proofs.Common.{◌≡◌, ℕ, List, [], ◌∷◌, ◌++◌, map, Bool, if◌then◌else◌, Option, Some, None, refl, ◌∙◌, ap}
+use Rattle.std.proofs.Common.{◌≡◌, ℕ, List, [], ◌∷◌, ◌++◌, map, Bool, true, false, if◌then◌else◌, Option, Some, None, refl, ◌∙◌, ap}
 use Rattle.nfc_base.specs.declared.frame.Tech.TheVariants.{A, V}
 use Rattle.nfc_base.specs.declared.event.Event.{Event}
 use Rattle.nfc_base.specs.declared.event.Event.TheVariants.{Reset, Request, Answer, Clash}
@@ -16,7 +16,6 @@ use Rattle.nfca_poll.specs.Fronted.{left_at, active_after, after_by}
 use Rattle.t2t_tag.specs.Store.{T2Memory}
 use Rattle.bench_devices.specs.declared.device.Device.{Device}
 use Rattle.bench_devices.specs.declared.device.Device.TheVariants.{T2, T4, T5}
-use Rattle.isodep_link.specs.Card.{CardState}
 use Rattle.bench_devices.specs.Cards.{T4Near}
 use Rattle.bench_devices.specs.Device.{devices, t2_machine, t4_machine, T4Did}
 use Rattle.bench_devices.specs.Device.{air}
@@ -41,10 +40,10 @@ kept_left (Active starred) Sleep at id u = refl
 kept_left (Active starred) (Ready k other) at id u = refl
 kept_left (Active starred) (Active other) at id u = refl
 
-kept_said : (link : Option CardState) (starred : Bool) (id : List ℕ) (u : T4Near) (f : Signal)
-    → kept (T4 (active_after t4_machine (says_at link) u (near id (Active starred) u) f)) ≡ kept (T4 (near id (Active starred) u))
-kept_said None starred id u f = let next : Front = front_next (levels id) (Active starred) (call_of f) in kept_left (Active starred) next next id u
-kept_said (Some t) starred id u f = refl
+kept_said : (linked : Bool) (starred : Bool) (id : List ℕ) (u : T4Near) (f : Signal)
+    → kept (T4 (active_after t4_machine (says_at linked) u (near id (Active starred) u) f)) ≡ kept (T4 (near id (Active starred) u))
+kept_said false starred id u f = let next : Front = front_next (levels id) (Active starred) (call_of f) in kept_left (Active starred) next next id u
+kept_said true starred id u f = refl
 
 kept_card : (front : Front) (id : List ℕ) (u : T4Near) (f : Signal) → BeginsAsCalls f → kept (T4 (after_by t4_machine front (near id front u) f None)) ≡ kept (T4 (near id front u))
 kept_card Off id u f h = refl
@@ -52,7 +51,7 @@ kept_card Idle id u f h = refl
 kept_card Sleep id u f h = refl
 kept_card (Ready k starred) id u f h = refl
 kept_card (Active starred) id u f h =
-    ap (λ (x : T4Did). kept (T4 (active_after t4_machine x.says x.after (near id (Active starred) u) f))) (did_at_call u.tag u.link f h) ∙ kept_said u.link starred id u f
+    ap (λ (x : T4Did). kept (T4 (active_after t4_machine x.says x.after (near id (Active starred) u) f))) (did_at_call u f h) ∙ kept_said u.linked starred id u f
 
 pub harmless_call : (f : Signal) → f.tech ≡ A → BeginsAsCalls f → IsHarmless f
 harmless_call f a h (T2 d) =

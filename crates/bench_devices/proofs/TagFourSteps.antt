@@ -13,12 +13,12 @@ use Rattle.tag_reader.specs.Files.{shown, t4_link_step}
 use Rattle.tag_reader.proofs.Cards.{memory_is}
 use Rattle.isodep_link.specs.declared.card.CardStep.{CardStep}
 use Rattle.isodep_link.specs.declared.card.CardStep.TheVariants as steps
-use Rattle.isodep_link.specs.Card.{CardState, CardTurn, card_table, fresh, darkened}
+use Rattle.isodep_link.specs.Card.{CardState, CardTurn, card_table, darkened}
 use Rattle.isodep_link.specs.Blocks.{piece}
 use Rattle.isodep_link.specs.declared.block.Block.TheVariants.{Extend}
 use Rattle.isodep_link.specs.Exchange.{iso_dep, card_does}
 use Rattle.isodep_link.specs.CardTags.{IsAskedFrame, TagDoes, IsShort, StepsByCard, IsCardTag}
-use Rattle.isodep_link.proofs.Heeding.{AreBytes, IsPlain, Heeds, heeds_by}
+use Rattle.isodep_link.proofs.Heeding.{AreBytes, Heeds, heeds_by}
 use Rattle.bench_devices.specs.Cards.{T4Near}
 use Rattle.bench_devices.specs.declared.device.Device.{Device}
 use Rattle.bench_devices.specs.declared.device.Device.TheVariants.{T4}
@@ -27,7 +27,7 @@ use Rattle.bench_devices.specs.Phases.{ghosts}
 
 -- the front of a selected device with this tag and this card's end, and the device
 abbrev pub linked_front : List ℕ → Bool → T4State → CardState → Fronted T4Near
-linked_front id starred tag t = record { id = id; front = Active starred; upper = record { tag = tag; link = Some t } }
+linked_front id starred tag t = record { id = id; front = Active starred; upper = record { tag = tag; card = t; linked = true } }
 
 abbrev pub linked_device : List ℕ → Bool → T4State → CardState → Device
 linked_device id starred tag t = T4 (linked_front id starred tag t)
@@ -59,7 +59,6 @@ module _ (id : List ℕ) (starred : Bool) (tag : T4State) (t : CardState) (f : S
     pub code : tag_then.code ≡ tag.code
     pub own : card_then.code ≡ tag.code
     pub chain : AreBytes card_then.chain
-    pub plain : IsPlain card_then
 
   -- The device does so at whatever a card that heeds blocks does.
   does_turn : IsT4State tag → (s : CardState) (w : CardStep) → Heeds tag.code (record { state = s; does = w }) → Does (record { state = s; does = w })
@@ -76,7 +75,6 @@ module _ (id : List ℕ) (starred : Bool) (tag : T4State) (t : CardState) (f : S
     code = refl;
     own = h.own;
     chain = h.chain;
-    plain = h.plain;
   }
   does_turn is s (steps.Reply g) h = record {
     reply = [];
@@ -91,7 +89,6 @@ module _ (id : List ℕ) (starred : Bool) (tag : T4State) (t : CardState) (f : S
     code = refl;
     own = h.own;
     chain = h.chain;
-    plain = h.plain;
   }
   does_turn is s (steps.Deliver command) h =
       let reply : List ℕ = t4_answer tag command.items in
@@ -112,7 +109,6 @@ module _ (id : List ℕ) (starred : Bool) (tag : T4State) (t : CardState) (f : S
         code = (same_tag tag command.items).code;
         own = answered_state s reply (λ x. x.code ≡ tag.code) h.own h.own;
         chain = answered_state s reply (λ x. AreBytes x.chain) h.chain h.chain;
-        plain = answered_state s reply IsPlain h.plain h.plain;
       }
   does_turn is s (steps.Asleep g) h = absurd h.awake
 
@@ -127,7 +123,6 @@ pub record IsLinked (code : ℕ) (m : Device) : Type 0 where
   pub coded : tag.code ≡ code
   pub own : card.code ≡ tag.code
   pub chain : AreBytes card.chain
-  pub plain : IsPlain card
 
 -- what it does at an asked block, and that it stays one
 record Turns (code : ℕ) (m : Device) (f : Signal) : Type 0 where
@@ -142,7 +137,7 @@ module _ (code : ℕ) where
       does : Does l.id l.starred l.tag l.card f (card_table l.card f)
       does =
           does_turn l.id l.starred l.tag l.card f l.sound (card_table l.card f).state (card_table l.card f).does
-          (heeds_by l.tag.code l.card l.own l.chain l.plain f a l.card.mute refl)
+          (heeds_by l.tag.code l.card l.own l.chain f a l.card.mute refl)
 
       asked : Option (List ℕ)
       asked = (settled iso_dep does.reply (card_table l.card f).state (card_does (card_table l.card f).does)).asked
@@ -172,7 +167,6 @@ module _ (code : ℕ) where
         coded = does.code ∙ l.coded;
         own = does.own ∙ sym does.code;
         chain = does.chain;
-        plain = does.plain;
       }
 
   -- by asked blocks it stays a linked tag of this code
@@ -182,8 +176,7 @@ module _ (code : ℕ) where
 
   -- the dark clears its card's end
   dark_card : (m : Device) → IsLinked code m → device_card (device_darkened m) ≡ darkened (device_card m)
-  dark_card m l =
-      ap (λ x. device_card (device_darkened x)) l.is ∙ ap fresh (sym l.own) ∙ sym l.plain ∙ ap (λ x. darkened (device_card x)) (sym l.is)
+  dark_card m l = ap (λ x. device_card (device_darkened x)) l.is ∙ ap (λ x. darkened (device_card x)) (sym l.is)
 
   -- It is a card tag.
   pub card_tag : (m : Device) → IsLinked code m → IsCardTag ghosts device_card device_tag m

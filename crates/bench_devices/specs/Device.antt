@@ -1,6 +1,6 @@
 -- The devices of the bench: a Type 2 or Type 4 tag under the listener front of its identifier, and a Type 5 tag (NFC Forum
 -- Digital Protocol; NFC Forum Type 2 Tag, Type 4 Tag and Type 5 Tag).
-use Rattle.std.specs.Prelude.{ℕ, List, [], Bool, true, false, not, ◌&&◌, is_none, if◌then◌else◌, Option, Some, None}
+use Rattle.std.specs.Prelude.{ℕ, List, [], Bool, true, false, not, ◌&&◌, ◌||◌, if◌then◌else◌, Option, Some, None}
 use Rattle.nfc_base.specs.declared.frame.Tech.{Tech}
 use Rattle.nfc_base.specs.declared.frame.Tech.TheVariants.{A, V}
 use Rattle.nfc_base.specs.Signal.{Signal}
@@ -38,7 +38,7 @@ use Rattle.bench_devices.specs.declared.device.Device.{Device}
 use Rattle.bench_devices.specs.declared.device.Device.TheVariants.{T2, T4, T5}
 use Rattle.bench_devices.specs.declared.polling.SeenKind.{SeenKind}
 use Rattle.bench_devices.specs.declared.polling.SeenKind.TheVariants as seen
-use Rattle.bench_devices.specs.Cards.{T4Near}
+use Rattle.bench_devices.specs.Cards.{T4Near, card_now}
 
 -- A Type 2 tag as the machine above a front: it takes the frames that spell a command, and answers each.
 abbrev pub says_of : Option Signal → UpStep
@@ -61,33 +61,34 @@ pub record T4Did : Type 0 where
 
 -- it said this, and stands so with a link
 abbrev pub said : UpStep → T4State → CardState → T4Did
-said says tag card = record { says = says; after = record { tag = tag; link = Some card } }
+said says tag card = record { says = says; after = record { tag = tag; card = card; linked = true } }
 
 -- It does what the card's table says; a command is delivered to the tag, and its answer is sent back.
 abbrev pub by_card : T4State → CardState → CardStep → T4Did
-by_card tag t card.Quiet = record { says = steps.Quiet; after = record { tag = tag; link = Some t } }
-by_card tag t (card.Reply f) = record { says = steps.Reply f; after = record { tag = tag; link = Some t } }
-by_card tag t (card.Deliver command) = record {
-  says = steps.Reply (block_frame (reply_block t (t4_answer tag command.items)));
-  after = record { tag = t4_after tag command.items; link = Some (replied t (t4_answer tag command.items)) };
-}
-by_card tag t (card.Asleep f) = record { says = steps.Sleep f; after = record { tag = tag; link = Some t } }
+by_card tag t card.Quiet = said steps.Quiet tag t
+by_card tag t (card.Reply f) = said (steps.Reply f) tag t
+by_card tag t (card.Deliver command) =
+    said (steps.Reply (block_frame (reply_block t (t4_answer tag command.items)))) (t4_after tag command.items) (replied t (t4_answer tag command.items))
+by_card tag t (card.Asleep f) = said (steps.Sleep f) tag t
 
-abbrev pub linked : T4State → CardState → Signal → T4Did
-linked tag t f = by_card tag (card_table t f).state (card_table t f).does
+abbrev pub on_link : T4State → CardState → Signal → T4Did
+on_link tag t f = by_card tag (card_table t f).state (card_table t f).does
+
+-- it takes this frame, or it is none of its own
+abbrev pub did_if : Bool → T4Near → Signal → T4Did
+did_if taken u f = if taken then on_link u.tag (card_now u) f else record { says = steps.Foreign; after = u }
 
 -- Without a link it takes RATS alone, which opens one; from then on the link takes every frame.
-abbrev pub t4_did : T4Near → Option CardState → Signal → T4Did
-t4_did u None f = if is_rats f then linked u.tag (ends.fresh u.tag.code) f else record { says = steps.Foreign; after = u }
-t4_did u (Some t) f = linked u.tag t f
+abbrev pub t4_did : T4Near → Signal → T4Did
+t4_did u f = did_if (u.linked || is_rats f) u f
 
 abbrev pub t4_machine : UpperMachine T4Near
 t4_machine = record {
   kind = λ u. kinds.T4;
   handed = λ u f. Untouched;
-  says = λ u f reply. (t4_did u u.link f).says;
-  after = λ u f reply. (t4_did u u.link f).after;
-  cleared = λ u. record { tag = t4.darkened u.tag; link = None };
+  says = λ u f reply. (t4_did u f).says;
+  after = λ u f reply. (t4_did u f).after;
+  cleared = λ u. record { tag = t4.darkened u.tag; card = u.card; linked = false };
 }
 
 abbrev pub is_no_file : CurrentFile → Bool
@@ -97,7 +98,7 @@ is_no_file current.Ndef = false
 
 -- It has no link, and nothing of it is selected.
 abbrev pub is_unlinked : T4Near → Bool
-is_unlinked u = is_none u.link && not u.tag.selected && is_no_file u.tag.current
+is_unlinked u = not u.linked && not u.tag.selected && is_no_file u.tag.current
 
 abbrev pub device_tech : Device → Tech
 device_tech (T2 d) = A
@@ -142,13 +143,20 @@ device_locks (T2 d) = d.upper.locked
 device_locks (T4 d) = []
 device_locks (T5 p) = p.tag.locked
 
+-- its card's end as it was made: how often it asks for more time before an answer, and by which value; no other device has one
+abbrev pub device_made : Device → CardState
+device_made (T2 d) = ends.fresh 0
+device_made (T4 d) = ends.darkened d.upper.card
+device_made (T5 p) = ends.fresh 0
+
 -- what stays of a device in the dark
 pub record StablePart : Type 0 where
   pub store : List ℕ
   pub locked : List Bool
+  pub made : CardState
 
 abbrev pub stable_of : Device → StablePart
-stable_of d = record { store = device_store d; locked = device_locks d }
+stable_of d = record { store = device_store d; locked = device_locks d; made = device_made d }
 
 abbrev pub device_ready : Device → Bool
 device_ready (T2 d) = is_ready d.front
@@ -167,14 +175,10 @@ device_commands (T2 d) = t2_step d.upper.locked
 device_commands (T4 d) = t4_link_step d.upper.tag.code
 device_commands (T5 p) = t5_step p.tag.id p.tag.size p.tag.locked false
 
--- Of a Type 4 tag, its card's end, and what it holds and what is selected of it. A card without a link heard nothing.
-abbrev pub card_in : ℕ → Option CardState → CardState
-card_in code None = ends.fresh code
-card_in code (Some t) = t
-
+-- of a Type 4 tag, its card's end, and what it holds and what is selected of it
 abbrev pub device_card : Device → CardState
 device_card (T2 d) = ends.fresh 0
-device_card (T4 d) = card_in d.upper.tag.code d.upper.link
+device_card (T4 d) = card_now d.upper
 device_card (T5 p) = ends.fresh 0
 
 abbrev pub device_tag : Device → TagState
@@ -209,7 +213,7 @@ abbrev pub new_t2 : List ℕ → List ℕ → Device
 new_t2 id store = T2 (record { id = id; front = Off; upper = unlocked store })
 
 abbrev pub new_t4 : List ℕ → ℕ → List ℕ → List ℕ → Device
-new_t4 id code container file = T4 (record { id = id; front = Off; upper = record { tag = t4.fresh code container file; link = None } })
+new_t4 id code container file = T4 (record { id = id; front = Off; upper = record { tag = t4.fresh code container file; card = ends.fresh code; linked = false } })
 
 abbrev pub new_t5 : List ℕ → ℕ → List ℕ → Device
 new_t5 id size store = T5 (record { tag = fresh id size store; lit = false })
@@ -242,6 +246,19 @@ abbrev pub device_locked : ℕ → Device → Device
 device_locked block (T2 d) = T2 (record { id = d.id; front = d.front; upper = t2.locked_too d.upper block })
 device_locked block (T4 d) = T4 d
 device_locked block (T5 p) = T5 (record { tag = locked_too p.tag block; lit = p.lit })
+
+-- whether it can ask for more time: a Type 4 tag alone can
+abbrev pub may_be_busy : Device → Bool
+may_be_busy (T2 d) = false
+may_be_busy (T4 d) = true
+may_be_busy (T5 p) = false
+
+-- the device that asks so often for more time before each answer, by this value
+abbrev pub device_busy : ℕ → ℕ → Device → Device
+device_busy count times (T2 d) = T2 d
+device_busy count times (T4 d) =
+    T4 (record { id = d.id; front = d.front; upper = record { tag = d.upper.tag; card = ends.made_busy d.upper.card count times; linked = d.upper.linked } })
+device_busy count times (T5 p) = T5 p
 
 -- what a dump of it shows: all its memory, and of a Type 4 tag the NDEF file alone
 abbrev pub memory_in : Device → List ℕ

@@ -13,8 +13,9 @@ use Rattle.t4t_tag.specs.Store.{T4State}
 use Rattle.isodep_link.specs.declared.block.Block.{Block}
 use Rattle.isodep_link.specs.declared.block.Block.TheVariants.{Ack, Nak, Deselect, Extend}
 use Rattle.isodep_link.specs.Blocks.{block_of, sort_block, short_block, long_block, spelled_block, info_block}
-use Rattle.isodep_link.specs.Card.{CardState, CardTurn, card_table, framed, stays, heeded, fresh}
-use Rattle.bench_devices.specs.Device.{by_card, linked, t4_did}
+use Rattle.isodep_link.specs.Card.{CardState, CardTurn, card_table, framed, stays, heeded}
+use Rattle.bench_devices.specs.Cards.{T4Near}
+use Rattle.bench_devices.specs.Device.{by_card, did_if, t4_did}
 
 -- no command of a Type 2 tag begins so
 either_none : (v w : Bool) (c d : T2Command) → v ≡ false → w ≡ false → (if v then Some c else (if w then Some d else None)) ≡ None
@@ -83,10 +84,13 @@ silent t f r b =
     ap (λ v. if t.mute then framed (stays t) else heeded t (if v then Some (slice_index f.bytes 1 / 16) else None) (spelled_block f)) r
     ∙ ap (λ o. if t.mute then framed (stays t) else heeded t None o) b ∙ same_either t.mute (framed (stays t))
 
-abbrev pub says_at : Option CardState → UpStep
-says_at None = steps.Foreign
-says_at (Some t) = steps.Quiet
+abbrev pub says_at : Bool → UpStep
+says_at linked = if linked then steps.Quiet else steps.Foreign
 
-pub did_at_call : (tag : T4State) (link : Option CardState) (f : Signal) → BeginsAsCalls f → t4_did (record { tag = tag; link = link }) link f ≡ record { says = says_at link; after = record { tag = tag; link = link } }
-did_at_call tag None f h = ap (λ v. if v then linked tag (fresh tag.code) f else record { says = steps.Foreign; after = record { tag = tag; link = None } }) (no_rats f h)
-did_at_call tag (Some t) f h = ap (λ (x : CardTurn). by_card tag x.state x.does) (silent t f (no_rats f h) (no_block f h))
+did_where : (tag : T4State) (t : CardState) (linked : Bool) (f : Signal) → BeginsAsCalls f
+    → t4_did (record { tag = tag; card = t; linked = linked }) f ≡ record { says = says_at linked; after = record { tag = tag; card = t; linked = linked } }
+did_where tag t false f h = ap (λ v. did_if v (record { tag = tag; card = t; linked = false }) f) (no_rats f h)
+did_where tag t true f h = ap (λ (x : CardTurn). by_card tag x.state x.does) (silent t f (no_rats f h) (no_block f h))
+
+pub did_at_call : (u : T4Near) (f : Signal) → BeginsAsCalls f → t4_did u f ≡ record { says = says_at u.linked; after = u }
+did_at_call u f h = did_where u.tag u.card u.linked f h

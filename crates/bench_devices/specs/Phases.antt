@@ -27,7 +27,9 @@ use Rattle.nfca_poll.specs.Front.{is_active}
 use Rattle.bench_devices.specs.declared.device.Device.TheVariants as placed
 use Rattle.bench_devices.specs.declared.polling.SeenKind.{SeenKind}
 use Rattle.bench_devices.specs.declared.sweeping.Everybody.{Everybody}
-use Rattle.bench_devices.specs.Device.{devices, device_id, device_store, device_locks, device_ready, device_selected, device_commands, how_of, size_of, seen_of, is_unlinked}
+use Rattle.bench_devices.specs.Device.{devices, device_id, device_store, device_locks, device_made, device_ready, device_selected, device_commands, how_of, size_of, seen_of, is_unlinked}
+use Rattle.isodep_link.specs.Card.{CardState}
+use Rattle.isodep_link.specs.Exchange.{IsMade}
 use Rattle.bench_devices.specs.CardAsking.{tag_next}
 use Rattle.bench_devices.specs.declared.polling.Selection.{Selection}
 use Rattle.bench_devices.specs.declared.polling.Selection.TheVariants.{Place, Missed}
@@ -48,7 +50,8 @@ ghosts = record {
   commands = device_commands;
 }
 
--- What stays of a device through a read, whatever state it is in; of a Type 4 tag also its code and its container.
+-- What stays of a device through a read, whatever state it is in; of a Type 4 tag also its code, its container, and its card's end as
+-- it was made.
 pub record Kept : Type 0 where
   pub id : List ℕ
   pub how : How
@@ -57,6 +60,7 @@ pub record Kept : Type 0 where
   pub locked : List Bool
   pub code : ℕ
   pub container : List ℕ
+  pub made : CardState
 
 abbrev pub code_of : Device → ℕ
 code_of (placed.T2 d) = 0
@@ -69,12 +73,21 @@ container_of (placed.T4 d) = d.upper.tag.container
 container_of (placed.T5 p) = []
 
 abbrev pub kept : Device → Kept
-kept d = record { id = device_id d; how = how_of d; size = size_of d; store = device_store d; locked = device_locks d; code = code_of d; container = container_of d }
+kept d = record {
+  id = device_id d;
+  how = how_of d;
+  size = size_of d;
+  store = device_store d;
+  locked = device_locks d;
+  code = code_of d;
+  container = container_of d;
+  made = device_made d;
+}
 
 -- a device that may be placed
 abbrev pub IsSoundAs : How → Kept → Type 0
 IsSoundAs T2 k = IsIdent k.id × (k.size ≡ 16) × IsT2Store k.store
-IsSoundAs T4 k = IsIdent k.id × (file : List ℕ) × (k.store ≡ k.container ++ file) × IsT4Store k.code k.container file
+IsSoundAs T4 k = IsIdent k.id × (file : List ℕ) × (k.store ≡ k.container ++ file) × IsT4Store k.code k.container file × (k.made.code ≡ k.code) × IsMade k.made
 IsSoundAs (T5 id) k = (id ≡ k.id) × (length k.id ≡ id_size) × ((i : ℕ) → slice_index k.id i < 256) × IsT5Store k.size k.store
 
 abbrev pub IsSound : Kept → Type 0

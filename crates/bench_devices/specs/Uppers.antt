@@ -27,10 +27,9 @@ use Rattle.isodep_link.specs.Sizes.{rats_code, piece_size, ats_frame}
 use Rattle.isodep_link.specs.Blocks.{spelled_block}
 use Rattle.isodep_link.specs.declared.block.Block.{Block}
 use Rattle.isodep_link.specs.Card.{CardState, CardTurn, Does, Stays, Answers, Delivers, Sleeps, framed_does, framed, stays, obeyed, block_table, heeded, card_table}
-use Rattle.isodep_link.specs.Card as ends
-use Rattle.bench_devices.specs.Cards.{T4Near}
-use Rattle.bench_devices.specs.Device.{says_of, t2_machine, by_card, linked, t4_did, t4_machine}
-use Rattle.bench_devices.specs.LinkCalls.{did_at_call}
+use Rattle.bench_devices.specs.Cards.{T4Near, card_now}
+use Rattle.bench_devices.specs.Device.{says_of, t2_machine, by_card, on_link, did_if, t4_did, t4_machine}
+use Rattle.bench_devices.specs.LinkCalls.{says_at, did_at_call}
 
 -- the steps on commands
 abbrev pub t2_commands : T2Memory → TagState → Signal → TagStep
@@ -47,7 +46,7 @@ abbrev pub no_attributes : Signal → Bool
 no_attributes f = false
 
 abbrev pub is_linked : T4Near → Bool
-is_linked u = is_some u.link
+is_linked u = u.linked
 
 -- READ and WRITE are what spells a command
 own_heads : (v w : Bool) (c d : T2Command) → is_some (if v then Some c else (if w then Some d else None)) ≡ (v || w)
@@ -116,13 +115,9 @@ link_stays tag t (card.Reply f) = refl
 link_stays tag t (card.Deliver command) = refl
 link_stays tag t (card.Asleep f) = refl
 
-unlinked_takes : (u : T4Near) (f : Signal) (v : Bool) → is_taken (if v then linked u.tag (ends.fresh u.tag.code) f else record { says = steps.Foreign; after = u }).says ≡ v
-unlinked_takes u f true = link_takes u.tag (card_table (ends.fresh u.tag.code) f).state (card_table (ends.fresh u.tag.code) f).does
-unlinked_takes u f false = refl
-
-takes_t4 : (u : T4Near) (f : Signal) (link : Option CardState) → is_taken (t4_did u link f).says ≡ (is_some link || is_rats f)
-takes_t4 u f None = unlinked_takes u f (is_rats f)
-takes_t4 u f (Some t) = link_takes u.tag (card_table t f).state (card_table t f).does
+takes_if : (u : T4Near) (f : Signal) (v : Bool) → is_taken (did_if v u f).says ≡ v
+takes_if u f true = link_takes u.tag (card_table (card_now u) f).state (card_table (card_now u) f).does
+takes_if u f false = refl
 
 not_foreign : (s : UpStep) → is_taken s ≡ true → s ≡ steps.Foreign → ⊥
 not_foreign steps.Foreign t h = cc
@@ -131,28 +126,16 @@ not_foreign (steps.Reply g) t h = cc
 not_foreign (steps.Sleep g) t h = cc
 not_foreign (steps.Idle g) t h = cc
 
-unlinked_foreign : (u : T4Near) (f : Signal) (v : Bool) → (if v then linked u.tag (ends.fresh u.tag.code) f else record { says = steps.Foreign; after = u }).says ≡ steps.Foreign
-    → (if v then linked u.tag (ends.fresh u.tag.code) f else record { says = steps.Foreign; after = u }).after ≡ u
-unlinked_foreign u f true h = absurd (not_foreign (linked u.tag (ends.fresh u.tag.code) f).says (unlinked_takes u f true) h)
-unlinked_foreign u f false h = refl
+foreign_if : (u : T4Near) (f : Signal) (v : Bool) → (did_if v u f).says ≡ steps.Foreign → (did_if v u f).after ≡ u
+foreign_if u f true h = absurd (not_foreign (on_link u.tag (card_now u) f).says (takes_if u f true) h)
+foreign_if u f false h = refl
 
-foreign_near : (u : T4Near) (f : Signal) (link : Option CardState) → (t4_did u link f).says ≡ steps.Foreign → (t4_did u link f).after ≡ u
-foreign_near u f None h = unlinked_foreign u f (is_rats f) h
-foreign_near u f (Some t) h = absurd (not_foreign (linked u.tag t f).says (takes_t4 u f (Some t)) h)
+opens_if : (u : T4Near) (f : Signal) (v : Bool) → is_taken (did_if v u f).says ≡ true → is_linked (did_if v u f).after ≡ true
+opens_if u f true h = link_stays u.tag (card_table (card_now u) f).state (card_table (card_now u) f).does
+opens_if u f false h = absurd cc
 
-unlinked_opens : (u : T4Near) (f : Signal) (v : Bool) → is_taken (if v then linked u.tag (ends.fresh u.tag.code) f else record { says = steps.Foreign; after = u }).says ≡ true
-    → is_linked (if v then linked u.tag (ends.fresh u.tag.code) f else record { says = steps.Foreign; after = u }).after ≡ true
-unlinked_opens u f true h = link_stays u.tag (card_table (ends.fresh u.tag.code) f).state (card_table (ends.fresh u.tag.code) f).does
-unlinked_opens u f false h = absurd cc
-
-opens_t4 : (u : T4Near) (f : Signal) (link : Option CardState) → is_taken (t4_did u link f).says ≡ true → is_linked (t4_did u link f).after ≡ true
-opens_t4 u f None h = unlinked_opens u f (is_rats f) h
-opens_t4 u f (Some t) h = link_stays u.tag (card_table t f).state (card_table t f).does
-
-silent_t4 : (u : T4Near) (link : Option CardState) (f : Signal) (c : Call) → u.link ≡ link → is_some link ≡ true → call_of f ≡ Calls c → (t4_did u u.link f).says ≡ steps.Quiet
-silent_t4 u None f c l o e = absurd cc
-silent_t4 u (Some t) f c l o e =
-    ap (λ k. (t4_did u k f).says) l ∙ ap (λ d. d.says) (did_at_call u.tag (Some t) f (call_begins f c e))
+silent_t4 : (u : T4Near) (f : Signal) (c : Call) → u.linked ≡ true → call_of f ≡ Calls c → (t4_did u f).says ≡ steps.Quiet
+silent_t4 u f c o e = ap (λ d. d.says) (did_at_call u f (call_begins f c e)) ∙ ap says_at o
 
 -- what the card's end says is a block or ATS, an NFC-A frame
 abbrev tech_of_step : CardStep → Tech
@@ -192,16 +175,9 @@ card_tech tag t (card.Reply f) g h e = tech_in g f h e
 card_tech tag t (card.Deliver command) g h e = tech_in g _ refl e
 card_tech tag t (card.Asleep f) g h e = tech_in g f h e
 
-linked_tech : (tag : t4.T4State) (t : CardState) (f g : Signal) → answer_in (linked tag t f).says ≡ Some g → g.tech ≡ A
-linked_tech tag t f g e = card_tech tag (card_table t f).state (card_table t f).does g (table_tech t f) e
-
-unlinked_tech : (u : T4Near) (f g : Signal) (v : Bool) → answer_in (if v then linked u.tag (ends.fresh u.tag.code) f else record { says = steps.Foreign; after = u }).says ≡ Some g → g.tech ≡ A
-unlinked_tech u f g true e = linked_tech u.tag (ends.fresh u.tag.code) f g e
-unlinked_tech u f g false e = absurd cc
-
-tech_t4 : (u : T4Near) (f g : Signal) (link : Option CardState) → answer_in (t4_did u link f).says ≡ Some g → g.tech ≡ A
-tech_t4 u f g None e = unlinked_tech u f g (is_rats f) e
-tech_t4 u f g (Some t) e = linked_tech u.tag t f g e
+tech_if : (u : T4Near) (f g : Signal) (v : Bool) → answer_in (did_if v u f).says ≡ Some g → g.tech ≡ A
+tech_if u f g true e = card_tech u.tag (card_table (card_now u) f).state (card_table (card_now u) f).does g (table_tech (card_now u) f) e
+tech_if u f g false e = absurd cc
 
 -- the code of a tag stays, and with it its step on commands
 card_code : (tag : t4.T4State) (t : CardState) (does : CardStep) → (by_card tag t does).after.tag.code ≡ tag.code
@@ -210,25 +186,21 @@ card_code tag t (card.Reply f) = refl
 card_code tag t (card.Deliver command) = (same_tag tag command.items).code
 card_code tag t (card.Asleep f) = refl
 
-unlinked_code : (u : T4Near) (f : Signal) (v : Bool) → (if v then linked u.tag (ends.fresh u.tag.code) f else record { says = steps.Foreign; after = u }).after.tag.code ≡ u.tag.code
-unlinked_code u f true = card_code u.tag (card_table (ends.fresh u.tag.code) f).state (card_table (ends.fresh u.tag.code) f).does
-unlinked_code u f false = refl
-
-code_t4 : (u : T4Near) (f : Signal) (link : Option CardState) → (t4_did u link f).after.tag.code ≡ u.tag.code
-code_t4 u f None = unlinked_code u f (is_rats f)
-code_t4 u f (Some t) = card_code u.tag (card_table t f).state (card_table t f).does
+code_if : (u : T4Near) (f : Signal) (v : Bool) → (did_if v u f).after.tag.code ≡ u.tag.code
+code_if u f true = card_code u.tag (card_table (card_now u) f).state (card_table (card_now u) f).does
+code_if u f false = refl
 
 pub t4_upper : IsUpper t4_machine (λ u. t4.store_of u.tag) t4_commands is_linked no_attributes
 t4_upper = record {
-  takes = λ u f reply. takes_t4 u f u.link;
-  foreign = λ u f reply h. (refl, foreign_near u f u.link h);
-  opens = λ u f reply k h. opens_t4 u f u.link h;
+  takes = λ u f reply. takes_if u f (u.linked || is_rats f);
+  foreign = λ u f reply h. (refl, foreign_if u f (u.linked || is_rats f) h);
+  opens = λ u f reply k h. opens_if u f (u.linked || is_rats f) h;
   closes = λ u. refl;
   no_call = λ f c e. refl;
-  silent = λ u f c o e. (refl, silent_t4 u u.link f c refl o e);
+  silent = λ u f c o e. (refl, silent_t4 u f c o e);
   waits = λ u f payload h. absurd cc;
   bounded = λ u f payload h. absurd cc;
-  own_tech = λ u f g reply e. tech_t4 u f g u.link e;
-  step_keeps = λ u f reply. record { same_kind = refl; same_commands = ap t4_link_step (code_t4 u f u.link) };
+  own_tech = λ u f g reply e. tech_if u f g (u.linked || is_rats f) e;
+  step_keeps = λ u f reply. record { same_kind = refl; same_commands = ap t4_link_step (code_if u f (u.linked || is_rats f)) };
   clear_keeps = λ u. (record { same_kind = refl; same_commands = refl }, refl);
 }

@@ -1,9 +1,13 @@
 //! The devices of the bench.
 
-ghost use Rattle.std.specs.Prelude.{◌≡◌, ◌<◌, false, Some, None};
+ghost use Rattle.std.specs.Prelude.{◌≡◌, ◌<◌, ◌≤◌, true, false};
 ghost use Rattle.t2t_tag.specs.Store as t2;
 ghost use Rattle.t5t_tag.specs.Store as t5;
-ghost use Rattle.bench_devices.specs.Device.{said, linked, how_of, blocks_of, device_locked, memory_in};
+ghost use Rattle.isodep_link.specs.Card as ends;
+ghost use Rattle.isodep_link.specs.Card.{most_busy};
+ghost use Rattle.isodep_link.specs.Reader.{longest_extension};
+ghost use Rattle.bench_devices.specs.Cards.{card_now};
+ghost use Rattle.bench_devices.specs.Device.{said, on_link, how_of, blocks_of, device_locked, may_be_busy, device_busy, memory_in};
 
 use air_core::Listener;
 use isodep_link::{CardEnd, CardListener, CardStep, is_rats};
@@ -88,7 +92,8 @@ impl Upper for T2Upper {
 #[derive(Debug, Drop)]
 pub struct T4Upper {
     tag: T4Tag,
-    card: Option<CardEnd>,
+    card: CardEnd,
+    linked: bool,
 }
 
 impl Model for T4Upper {
@@ -96,15 +101,19 @@ impl Model for T4Upper {
 
     ghost Value = { T4Near };
 
-    ghost view = { λ u. record { tag = u.tag; link = u.card } };
+    ghost view = { λ u. record { tag = u.tag; card = u.card; linked = u.linked } };
 }
 
 impl T4Upper {
     /// A tag without a link.
     pub fn new(tag: T4Tag) -> T4Upper
-        ensures { result ≡ record { tag = tag; link = None } }
+        ensures { result ≡ record { tag = tag; card = ends.fresh tag.code; linked = false } }
     {
-        T4Upper { tag, card: None }
+        T4Upper {
+            card: CardEnd::new(tag.code()),
+            tag,
+            linked: false,
+        }
     }
 
     pub fn tag(&self) -> &T4Tag
@@ -113,9 +122,32 @@ impl T4Upper {
         &self.tag
     }
 
+    /// From now on it asks for more time before each answer: `count` extensions, each by `times`.
+    pub fn set_busy(&mut self, count: u8, times: u8)
+        requires count { count ≤ most_busy }
+        requires times { (1 ≤ times) × (times ≤ longest_extension) }
+        ensures { self.new ≡ record {
+          tag = self.old.tag;
+          card = ends.made_busy self.old.card count times;
+          linked = self.old.linked;
+        } }
+    {
+        self.card.set_busy(count, times);
+    }
+
+    /// From now on there is a link. Where there was none its end begins anew.
+    fn open_link(&mut self)
+        ensures { self.new ≡ record { tag = self.old.tag; card = card_now self.old; linked = true } }
+    {
+        if !self.linked {
+            self.card.dark();
+            self.linked = true;
+        }
+    }
+
     /// A frame of the link to the tag.
     fn take(tag: &mut T4Tag, card: &mut CardEnd, frame: &Frame) -> UpStep
-        ensures { said result tag.new card.new ≡ linked tag.old card.old frame.now }
+        ensures { said result tag.new card.new ≡ on_link tag.old card.old frame.now }
     {
         match card.hear(frame) {
             CardStep::Quiet => UpStep::Quiet,
@@ -144,7 +176,7 @@ impl Upper for T4Upper {
     }
 
     fn clear(&mut self) {
-        self.card = None;
+        self.linked = false;
         self.tag.dark();
     }
 
@@ -154,16 +186,11 @@ impl Upper for T4Upper {
         frame: &Frame,
         _far: &mut A,
     ) -> Result<UpStep, AllocError> {
-        match &mut self.card {
-            Some(card) => Ok(T4Upper::take(&mut self.tag, card, frame)),
-            None if is_rats(frame) => {
-                let mut card = CardEnd::new(self.tag.code());
-                let step = T4Upper::take(&mut self.tag, &mut card, frame);
-                self.card = Some(card);
-                Ok(step)
-            }
-            None => Ok(UpStep::Foreign),
+        if !self.linked && !is_rats(frame) {
+            return Ok(UpStep::Foreign);
         }
+        self.open_link();
+        Ok(T4Upper::take(&mut self.tag, &mut self.card, frame))
     }
 
     ghost laws = { t4_upper };
@@ -346,6 +373,26 @@ impl Device {
             Device::T2(front) => front.upper().lock(block),
             Device::T4(_) => unreachable!(),
             Device::T5(powered) => powered.lock(block),
+        }
+    }
+
+    /// It can ask for more time.
+    pub fn may_be_busy(&self) -> bool
+        ensures { result ≡ may_be_busy self.now }
+    {
+        matches!(self, Device::T4(_))
+    }
+
+    /// From now on it asks for more time before each answer: `count` extensions, each by `times`. It takes no memory.
+    pub fn set_busy(&mut self, count: u8, times: u8)
+        requires device { may_be_busy self.old ≡ true }
+        requires count { count ≤ most_busy }
+        requires times { (1 ≤ times) × (times ≤ longest_extension) }
+        ensures { self.new ≡ device_busy count times self.old }
+    {
+        match self {
+            Device::T4(front) => front.upper().set_busy(count, times),
+            Device::T2(_) | Device::T5(_) => unreachable!(),
         }
     }
 }

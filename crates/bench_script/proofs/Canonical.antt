@@ -13,7 +13,7 @@ use Rattle.hex.proofs.HexLemmas.{length-encode_with, decode_of-encode_upper, dec
 use Rattle.nfc_base.specs.declared.event.Fate.{Fate}
 use Rattle.nfc_base.specs.declared.event.Fate.TheVariants.{Pass, Damage, Lose, Break}
 use Rattle.bench_script.specs.declared.command.Command.{Command}
-use Rattle.bench_script.specs.declared.command.Command.TheVariants.{Skip, Fates, PlaceT2, PlaceT4, PlaceT5, Lock, Remove, Dump, Find, Read}
+use Rattle.bench_script.specs.declared.command.Command.TheVariants.{Skip, Fates, PlaceT2, PlaceT4, PlaceT5, Lock, Busy, Remove, Dump, Find, Read}
 use Rattle.bench_script.specs.declared.command.DeviceId.{DeviceId}
 use Rattle.bench_script.specs.declared.command.DeviceId.TheVariants.{A, V}
 use Rattle.bench_script.specs.Script.{words_of, SpelledBy, Spells, SpellsHex, SpellsIdent, SpellsIdV, SpellsId, SpellsFates, fate_letter}
@@ -245,6 +245,18 @@ all_too (Lock id block) ws (i, b, e, p, q) =
       spells = (id_text id, decimal block, refl, x.spells, (refl, q.1));
       sizes = cc;
       are = (literal (codes "lock") refl, (x.is, y.is));
+    }
+all_too (Busy id count times) ws (i, k, w, e, p, q, r) =
+    let x = id_too i id p in
+    let y = number_is k count (let most : count ≤ 5 = q.2 in omega arith) q.0 in
+    let z = number_is w times (let most : times ≤ 59 = r.2 in omega arith) r.0 in
+    let first : length i ≡ length (id_text id) = x.size in
+    let second : length k ≡ length (decimal count) = y.size in
+    let third : length w ≡ length (decimal times) = z.size in
+    record {
+      spells = (id_text id, decimal count, decimal times, refl, x.spells, (refl, q.1, q.2), (refl, r.1, r.2));
+      sizes = cc;
+      are = (literal (codes "busy") refl, (x.is, (y.is, z.is)));
     }
 all_too (Remove id) ws (i, e, p) =
     let x = id_too i id p in

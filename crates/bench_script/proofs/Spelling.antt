@@ -8,13 +8,13 @@ use Rattle.nfc_base.specs.declared.event.Fate.TheVariants.{Pass, Damage, Lose, B
 use Rattle.hex.specs.Hex.{decode_of}
 use Rattle.hex.proofs.HexLemmas.{decode_of-same}
 use Rattle.bench_script.specs.declared.command.Command.{Command}
-use Rattle.bench_script.specs.declared.command.Command.TheVariants.{Skip, Fates, PlaceT2, PlaceT4, PlaceT5, Lock, Remove, Dump, Find, Read}
+use Rattle.bench_script.specs.declared.command.Command.TheVariants.{Skip, Fates, PlaceT2, PlaceT4, PlaceT5, Lock, Busy, Remove, Dump, Find, Read}
 use Rattle.bench_script.specs.declared.command.DeviceId.{DeviceId}
 use Rattle.bench_script.specs.declared.command.DeviceId.TheVariants.{A, V}
 use Rattle.bench_script.specs.declared.script.words.CommandName.{CommandName}
 use Rattle.bench_script.specs.declared.script.words.CommandName.TheVariants as names
 use Rattle.bench_script.specs.Words.{name_text}
-use Rattle.bench_script.specs.Script.{words_of, is_skipped, SpellsHex, SpellsIdent, SpellsIdV, SpellsId, SpellsBlocks, SpellsSize, SpellsCode, SpellsBlock, fate_letter, SpellsFates, SpelledBy, Spells, least_blocks, most_blocks, least_blocks_v, most_blocks_v}
+use Rattle.bench_script.specs.Script.{words_of, is_skipped, SpellsHex, SpellsIdent, SpellsIdV, SpellsId, SpellsWithin, SpellsSize, SpellsCode, SpellsBlock, fate_letter, SpellsFates, SpelledBy, Spells, least_blocks, most_blocks, least_blocks_v, most_blocks_v, least_busy, most_busy, least_times, most_times}
 use Rattle.nfca_poll.specs.Ident.{IsIdent}
 use Rattle.t5t_tag.specs.Store.{IsBlockSize}
 use Rattle.std.proofs.lemmas.Bool.{ne_eqb}
@@ -47,9 +47,9 @@ hex_one w a b (inl p) (inr q) = absurd (dash_odd w b p.0 q.1)
 hex_one w a b (inr p) (inl q) = absurd (dash_odd w a q.0 p.1)
 hex_one w a b (inr p) (inr q) = decode_of-same w a b p.1 q.1
 
--- a word spells one number of blocks
-pub blocks_one : (least most : ℕ) → most < 65536 → (w : List ℕ) (m n : ℕ) → SpellsBlocks least most w m → SpellsBlocks least most w n → m ≡ n
-blocks_one least most few w m n p q =
+-- a word spells one number within limits
+pub within_one : (least most : ℕ) → most < 65536 → (w : List ℕ) (m n : ℕ) → SpellsWithin least most w m → SpellsWithin least most w n → m ≡ n
+within_one least most few w m n p q =
     decimal_injective m n (let h : m ≤ most = p.2 in omega (arith, few, h)) (let h : n ≤ most = q.2 in omega (arith, few, h)) (sym p.0 ∙ q.0)
 
 pub size_small : (n : ℕ) → IsBlockSize n → n ≤ 32
@@ -127,6 +127,14 @@ spelled_one ws (Lock i m) (Lock j n) (u, v, e, p, r) (u', v', e', p', r') =
     let ids : i ≡ j = id_one u' i j (let P : List ℕ → Type 0 = λ t. SpellsId t i in subst P first p) p' in
     let numbers : m ≡ n = block_one v' m n (let P : List ℕ → Type 0 = λ t. SpellsBlock t m in subst P second r) r' in
     cc
+spelled_one ws (Busy i m k) (Busy j n l) (u, v, w, e, p, r, s) (u', v', w', e', p', r', s') =
+    let first : u ≡ u' = cc in
+    let second : v ≡ v' = cc in
+    let third : w ≡ w' = cc in
+    let ids : i ≡ j = id_one u' i j (let P : List ℕ → Type 0 = λ t. SpellsId t i in subst P first p) p' in
+    let counts : m ≡ n = within_one least_busy most_busy (omega arith) v' m n (let P : List ℕ → Type 0 = λ t. SpellsWithin least_busy most_busy t m in subst P second r) r' in
+    let times : k ≡ l = within_one least_times most_times (omega arith) w' k l (let P : List ℕ → Type 0 = λ t. SpellsWithin least_times most_times t k in subst P third s) s' in
+    cc
 spelled_one ws (Dump i) (Dump j) (v, e, p) (w, f, q) =
     let same : v ≡ w = cc in
     ap (λ x. let c : Command = Dump x in c) (id_one w i j (let P : List ℕ → Type 0 = λ t. SpellsId t i in subst P same p) q)
@@ -139,7 +147,7 @@ spelled_one ws (PlaceT2 i m g) (PlaceT2 j n h) (u, v, w, e, p, r, s) (u', v', w'
     let second : v ≡ v' = cc in
     let third : w ≡ w' = cc in
     let ids : i ≡ j = ident_one u' i j (let P : List ℕ → Type 0 = λ t. SpellsIdent t i in subst P first p) p' in
-    let numbers : m ≡ n = blocks_one least_blocks most_blocks (omega arith) v' m n (let P : List ℕ → Type 0 = λ t. SpellsBlocks least_blocks most_blocks t m in subst P second r) r' in
+    let numbers : m ≡ n = within_one least_blocks most_blocks (omega arith) v' m n (let P : List ℕ → Type 0 = λ t. SpellsWithin least_blocks most_blocks t m in subst P second r) r' in
     let heads : g ≡ h = hex_one w' g h (let P : List ℕ → Type 0 = λ t. SpellsHex t g in subst P third s) s' in
     cc
 spelled_one ws (PlaceT4 i m k g) (PlaceT4 j n l h) (u, v, w, x, e, p, r, t, s) (u', v', w', x', e', p', r', t', s') =
@@ -158,7 +166,7 @@ spelled_one ws (PlaceT5 i m k g) (PlaceT5 j n l h) (u, v, w, x, e, p, r, t, s) (
     let third : w ≡ w' = cc in
     let fourth : x ≡ x' = cc in
     let ids : i ≡ j = decode_of-same u' i j (let P : List ℕ → Type 0 = λ t. SpellsIdV t i in subst P first p).0 p'.0 in
-    let numbers : m ≡ n = blocks_one least_blocks_v most_blocks_v (omega arith) v' m n (let P : List ℕ → Type 0 = λ t. SpellsBlocks least_blocks_v most_blocks_v t m in subst P second r) r' in
+    let numbers : m ≡ n = within_one least_blocks_v most_blocks_v (omega arith) v' m n (let P : List ℕ → Type 0 = λ t. SpellsWithin least_blocks_v most_blocks_v t m in subst P second r) r' in
     let sizes : k ≡ l = size_one w' k l (let P : List ℕ → Type 0 = λ t. SpellsSize t k in subst P third t) t' in
     let heads : g ≡ h = hex_one x' g h (let P : List ℕ → Type 0 = λ t. SpellsHex t g in subst P fourth s) s' in
     cc
@@ -178,6 +186,7 @@ nameless w ws none some (PlaceT2 id n head) (i, b, d, e, p, q, r) = none names.P
 nameless w ws none some (PlaceT4 id n k head) (i, b, s, d, e, p, q, t, r) = none names.Place (let h : w ≡ codes "place" = cc in h)
 nameless w ws none some (PlaceT5 id n k head) (i, b, s, d, e, p, q, t, r) = none names.Place (let h : w ≡ codes "place" = cc in h)
 nameless w ws none some (Lock id block) (i, b, e, p, q) = none names.Lock (let h : w ≡ codes "lock" = cc in h)
+nameless w ws none some (Busy id count times) (i, k, d, e, p, q, r) = none names.Busy (let h : w ≡ codes "busy" = cc in h)
 nameless w ws none some (Dump id) (i, e, p) = none names.Dump (let h : w ≡ codes "dump" = cc in h)
 nameless w ws none some (Remove id) (i, e, p) = none names.Remove (let h : w ≡ codes "remove" = cc in h)
 nameless w ws none some Find e = some (let h : ws ≡ [] = cc in h)
@@ -236,6 +245,7 @@ hash_begins_none ws (PlaceT2 id n head) (i, b, d, e, p, q, r) h = omega (arith, 
 hash_begins_none ws (PlaceT4 id n k head) (i, b, s, d, e, p, q, t, r) h = omega (arith, h, ap first_byte e)
 hash_begins_none ws (PlaceT5 id n k head) (i, b, s, d, e, p, q, t, r) h = omega (arith, h, ap first_byte e)
 hash_begins_none ws (Lock id block) (i, b, e, p, q) h = omega (arith, h, ap first_byte e)
+hash_begins_none ws (Busy id count times) (i, k, w, e, p, q, r) h = omega (arith, h, ap first_byte e)
 hash_begins_none ws (Dump id) (i, e, p) h = omega (arith, h, ap first_byte e)
 hash_begins_none ws (Remove id) (i, e, p) h = omega (arith, h, ap first_byte e)
 hash_begins_none ws Find e h = omega (arith, h, ap first_byte e)

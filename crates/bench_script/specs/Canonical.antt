@@ -6,7 +6,7 @@ use Rattle.std.specs.Fmt.{decimal}
 use Rattle.hex.specs.Hex.{encode_upper}
 use Rattle.nfc_base.specs.declared.event.Fate.{Fate}
 use Rattle.bench_script.specs.declared.command.Command.{Command}
-use Rattle.bench_script.specs.declared.command.Command.TheVariants.{Skip, Fates, PlaceT2, PlaceT4, PlaceT5, Lock, Remove, Dump, Find, Read}
+use Rattle.bench_script.specs.declared.command.Command.TheVariants.{Skip, Fates, PlaceT2, PlaceT4, PlaceT5, Lock, Busy, Remove, Dump, Find, Read}
 use Rattle.bench_script.specs.declared.command.DeviceId.{DeviceId}
 use Rattle.bench_script.specs.DeviceIds.{bytes_of}
 use Rattle.bench_script.specs.Script.{fate_letter, Spells}
@@ -37,6 +37,7 @@ canonical_words (PlaceT4 id code container head) =
 canonical_words (PlaceT5 id blocks size head) =
     codes "place" ∷ codes "t5" ∷ encode_upper id ∷ decimal blocks ∷ decimal size ∷ hex_text head ∷ []
 canonical_words (Lock id block) = codes "lock" ∷ id_text id ∷ decimal block ∷ []
+canonical_words (Busy id count times) = codes "busy" ∷ id_text id ∷ decimal count ∷ decimal times ∷ []
 canonical_words (Remove id) = codes "remove" ∷ id_text id ∷ []
 canonical_words (Dump id) = codes "dump" ∷ id_text id ∷ []
 canonical_words Find = codes "find" ∷ []

@@ -9,7 +9,7 @@ use Rattle.nfc_base.specs.declared.event.Fate.TheVariants.{Pass, Damage, Lose, B
 use Rattle.nfca_poll.specs.Ident.{IsIdent}
 use Rattle.t5t_tag.specs.Store.{IsBlockSize}
 use Rattle.bench_script.specs.declared.command.Command.{Command}
-use Rattle.bench_script.specs.declared.command.Command.TheVariants.{Skip, Fates, PlaceT2, PlaceT4, PlaceT5, Lock, Remove, Dump, Find, Read}
+use Rattle.bench_script.specs.declared.command.Command.TheVariants.{Skip, Fates, PlaceT2, PlaceT4, PlaceT5, Lock, Busy, Remove, Dump, Find, Read}
 use Rattle.bench_script.specs.declared.command.DeviceId.{DeviceId}
 use Rattle.bench_script.specs.declared.command.DeviceId.TheVariants.{A, V}
 use Rattle.bench_script.specs.declared.script.LineFault.{LineFault}
@@ -38,6 +38,10 @@ abbrev pub SpellsId : List ℕ → DeviceId → Type 0
 SpellsId word (A id) = SpellsIdent word id
 SpellsId word (V id) = SpellsIdV word id
 
+-- BLOCKS, COUNT, TIMES: a decimal number without leading zeros, from the first of these limits to the second
+abbrev pub SpellsWithin : ℕ → ℕ → List ℕ → ℕ → Type 0
+SpellsWithin least most word n = (word ≡ decimal n) × (least ≤ n) × (n ≤ most)
+
 -- the fewest blocks of a Type 2 tag that may be placed, and the most
 abbrev pub least_blocks : ℕ
 least_blocks = 4
@@ -52,10 +56,6 @@ least_blocks_v = 1
 abbrev pub most_blocks_v : ℕ
 most_blocks_v = 16384
 
--- BLOCKS: a decimal number without leading zeros, from the first of these limits to the second
-abbrev pub SpellsBlocks : ℕ → ℕ → List ℕ → ℕ → Type 0
-SpellsBlocks least most word n = (word ≡ decimal n) × (least ≤ n) × (n ≤ most)
-
 -- SIZE: how many bytes a block of a Type 5 tag has
 abbrev pub SpellsSize : List ℕ → ℕ → Type 0
 SpellsSize word n = (word ≡ decimal n) × IsBlockSize n
@@ -67,6 +67,19 @@ SpellsCode word n = (word ≡ decimal n) × (n ≤ most_code)
 -- BLOCK: the number of a block, of which a device may have fewer
 abbrev pub SpellsBlock : List ℕ → ℕ → Type 0
 SpellsBlock word n = (word ≡ decimal n) × (n < 2 ^ 16)
+
+-- how often a device may ask for more time before an answer, and by which value
+abbrev pub least_busy : ℕ
+least_busy = 0
+
+abbrev pub most_busy : ℕ
+most_busy = 5
+
+abbrev pub least_times : ℕ
+least_times = 1
+
+abbrev pub most_times : ℕ
+most_times = 59
 
 -- the letter of a fate, in upper case alone: P, D, L or B
 abbrev pub fate_letter : Fate → ℕ
@@ -91,20 +104,23 @@ is_skipped [] = true
 is_skipped (b ∷ bs) = b == 35
 
 -- `fates FATES`, `place t2 ID BLOCKS HEX`, `place t4 ID CODE HEX HEX`, `place t5 ID BLOCKS SIZE HEX`, `lock ID BLOCK`,
--- `remove ID`, `dump ID`, `find` and `read ID`
+-- `busy ID COUNT TIMES`, `remove ID`, `dump ID`, `find` and `read ID`
 abbrev pub SpelledBy : List (List ℕ) → Command → Type 0
 SpelledBy ws Skip = ⊥
 SpelledBy ws (Fates fates) = (f : List ℕ) × (ws ≡ codes "fates" ∷ f ∷ []) × SpellsFates f fates
 SpelledBy ws (PlaceT2 id blocks head) =
     (i b h : List ℕ) × (ws ≡ codes "place" ∷ codes "t2" ∷ i ∷ b ∷ h ∷ [])
-    × SpellsIdent i id × SpellsBlocks least_blocks most_blocks b blocks × SpellsHex h head
+    × SpellsIdent i id × SpellsWithin least_blocks most_blocks b blocks × SpellsHex h head
 SpelledBy ws (PlaceT4 id code container head) =
     (i c k h : List ℕ) × (ws ≡ codes "place" ∷ codes "t4" ∷ i ∷ c ∷ k ∷ h ∷ [])
     × SpellsIdent i id × SpellsCode c code × SpellsHex k container × SpellsHex h head
 SpelledBy ws (PlaceT5 id blocks size head) =
     (i b s h : List ℕ) × (ws ≡ codes "place" ∷ codes "t5" ∷ i ∷ b ∷ s ∷ h ∷ [])
-    × SpellsIdV i id × SpellsBlocks least_blocks_v most_blocks_v b blocks × SpellsSize s size × SpellsHex h head
+    × SpellsIdV i id × SpellsWithin least_blocks_v most_blocks_v b blocks × SpellsSize s size × SpellsHex h head
 SpelledBy ws (Lock id block) = (i b : List ℕ) × (ws ≡ codes "lock" ∷ i ∷ b ∷ []) × SpellsId i id × SpellsBlock b block
+SpelledBy ws (Busy id count times) =
+    (i k w : List ℕ) × (ws ≡ codes "busy" ∷ i ∷ k ∷ w ∷ [])
+    × SpellsId i id × SpellsWithin least_busy most_busy k count × SpellsWithin least_times most_times w times
 SpelledBy ws (Remove id) = (i : List ℕ) × (ws ≡ codes "remove" ∷ i ∷ []) × SpellsId i id
 SpelledBy ws (Dump id) = (i : List ℕ) × (ws ≡ codes "dump" ∷ i ∷ []) × SpellsId i id
 SpelledBy ws Find = ws ≡ codes "find" ∷ []

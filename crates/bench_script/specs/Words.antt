@@ -47,6 +47,7 @@ abbrev pub name_text : CommandName → List ℕ
 name_text names.Fates = codes "fates"
 name_text names.Place = codes "place"
 name_text names.Lock = codes "lock"
+name_text names.Busy = codes "busy"
 name_text names.Remove = codes "remove"
 name_text names.Dump = codes "dump"
 name_text names.Read = codes "read"

@@ -68,6 +68,12 @@ pub enum Command {
         id: DeviceId,
         block: u16,
     },
+    /// From now on a device asks for more time before each answer: `count` extensions, each by `times`.
+    Busy {
+        id: DeviceId,
+        count: u8,
+        times: u8,
+    },
     /// Takes a device away.
     Remove {
         id: DeviceId,
@@ -125,6 +131,11 @@ impl Command {
             Command::Lock { id, block } => Ok(Command::Lock {
                 id: id.copy(),
                 block: *block,
+            }),
+            Command::Busy { id, count, times } => Ok(Command::Busy {
+                id: id.copy(),
+                count: *count,
+                times: *times,
             }),
             Command::Remove { id } => Ok(Command::Remove { id: id.copy() }),
             Command::Dump { id } => Ok(Command::Dump { id: id.copy() }),

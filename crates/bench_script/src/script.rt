@@ -12,8 +12,9 @@ use crate::command::Command;
 use std::alloc::{AllocError, Global};
 use thiserror::Error;
 use words::{
-    CommandName, block_word, blocks_word, code_word, cut_word, device_word, fates_word, four_words,
-    hex_word, ident_word, ident_word_v, name_of, only_word, size_word, three_words, two_words,
+    CommandName, block_word, code_word, cut_word, device_word, fates_word, four_words, hex_word,
+    ident_word, ident_word_v, name_of, only_word, size_word, small_word, three_words, two_words,
+    within_word,
 };
 
 /// How many blocks a Type 2 tag that may be placed has at least, which are its header, and at most, since a read names a
@@ -26,6 +27,15 @@ const MOST_BLOCKS: u16 = 256;
 const LEAST_BLOCKS_V: u16 = 1;
 
 const MOST_BLOCKS_V: u16 = 16384;
+
+/// How often a device may ask for more time before an answer, and by which value.
+const LEAST_BUSY: u8 = 0;
+
+const MOST_BUSY: u8 = 5;
+
+const LEAST_TIMES: u8 = 1;
+
+const MOST_TIMES: u8 = 59;
 
 /// Why a line gives no command.
 #[derive(Clone, Copy, Debug, PartialEq, Eq, Error)]
@@ -86,6 +96,7 @@ fn command_line(alloc: Global, line: &[u8]) -> Result<Command, LineFault>
         Some(CommandName::Fates) => fates_line(alloc, rest),
         Some(CommandName::Place) => place_line(alloc, rest),
         Some(CommandName::Lock) => lock_line(alloc, rest),
+        Some(CommandName::Busy) => busy_line(alloc, rest),
         Some(CommandName::Remove) => remove_line(alloc, rest),
         Some(CommandName::Dump) => dump_line(alloc, rest),
         Some(CommandName::Read) => read_line(alloc, rest),
@@ -131,6 +142,26 @@ fn lock_line(alloc: Global, rest: &[u8]) -> Result<Command, LineFault>
     };
     match block_word(alloc, block_text)? {
         Some(block) => Ok(Command::Lock { id, block }),
+        None => Err(LineFault::Refused),
+    }
+}
+
+/// `busy ID COUNT TIMES`, behind its first word.
+fn busy_line(alloc: Global, rest: &[u8]) -> Result<Command, LineFault>
+    ensures ok { IfOk result (λ c. SpelledBy (codes "busy" ∷ words_of rest.now) c) }
+    ensures refused { IsErrOf result LineFault.Refused → SpellsNone (codes "busy" ∷ words_of rest.now) }
+{
+    let Some((id_text, count_text, times_text)) = three_words(rest) else {
+        return Err(LineFault::Refused);
+    };
+    let Some(id) = device_word(alloc, id_text)? else {
+        return Err(LineFault::Refused);
+    };
+    let Some(count) = small_word(alloc, count_text, LEAST_BUSY, MOST_BUSY)? else {
+        return Err(LineFault::Refused);
+    };
+    match small_word(alloc, times_text, LEAST_TIMES, MOST_TIMES)? {
+        Some(times) => Ok(Command::Busy { id, count, times }),
         None => Err(LineFault::Refused),
     }
 }
@@ -206,7 +237,7 @@ fn place_t2(alloc: Global, rest: &[u8]) -> Result<Command, LineFault>
     let Some(id) = ident_word(alloc, id_text)? else {
         return Err(LineFault::Refused);
     };
-    let Some(blocks) = blocks_word(alloc, blocks_text, LEAST_BLOCKS, MOST_BLOCKS)? else {
+    let Some(blocks) = within_word(alloc, blocks_text, LEAST_BLOCKS, MOST_BLOCKS)? else {
         return Err(LineFault::Refused);
     };
     match hex_word(alloc, head_text)? {
@@ -256,7 +287,7 @@ fn place_t5(alloc: Global, rest: &[u8]) -> Result<Command, LineFault>
     let Some(id) = ident_word_v(alloc, id_text)? else {
         return Err(LineFault::Refused);
     };
-    let Some(blocks) = blocks_word(alloc, blocks_text, LEAST_BLOCKS_V, MOST_BLOCKS_V)? else {
+    let Some(blocks) = within_word(alloc, blocks_text, LEAST_BLOCKS_V, MOST_BLOCKS_V)? else {
         return Err(LineFault::Refused);
     };
     let Some(size) = size_word(alloc, size_text)? else {
@@ -378,6 +409,21 @@ mod tests {
             ("lock 0102030405 4", 1),
             ("lock 4 01020304", 1),
             ("lock 01020304 4 4", 1),
+            ("busy 01020304 0 1", 0),
+            ("busy e004010203040506 5 59", 0),
+            ("busy 01020304 6 1", 1),
+            ("busy 01020304 5 0", 1),
+            ("busy 01020304 5 60", 1),
+            ("busy 01020304 256 1", 1),
+            ("busy 01020304 5 257", 1),
+            ("busy 01020304 05 1", 1),
+            ("busy 01020304 5 01", 1),
+            ("busy 01020304 - 1", 1),
+            ("busy 01020304 5", 1),
+            ("busy 01020304 5 1 1", 1),
+            ("busy 0102030405 5 1", 1),
+            ("busy 5 1 01020304", 1),
+            ("busy", 1),
             ("dump 01020304", 0),
             ("dump E004010203040506", 0),
             ("dump", 1),
@@ -423,6 +469,14 @@ mod tests {
                 Command::Lock {
                     id: DeviceId::A(ident.copy()),
                     block: 12,
+                },
+            ),
+            (
+                "busy 04112233445566 5 12",
+                Command::Busy {
+                    id: DeviceId::A(ident.copy()),
+                    count: 5,
+                    times: 12,
                 },
             ),
             (

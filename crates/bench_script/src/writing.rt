@@ -60,6 +60,11 @@ impl Command {
                 add_named(line, b"lock", id)?;
                 add_number(line, *block)
             }
+            Command::Busy { id, count, times } => {
+                add_named(line, b"busy", id)?;
+                add_number(line, *count as u16)?;
+                add_number(line, *times as u16)
+            }
             Command::Remove { id } => add_named(line, b"remove", id),
             Command::Dump { id } => add_named(line, b"dump", id),
             Command::Find => line.extend_from_slice(b"find"),
@@ -180,6 +185,7 @@ mod tests {
             ),
             ("lock 0a010203 65535", "lock 0A010203 65535"),
             ("lock e00401020304050f 0", "lock E00401020304050F 0"),
+            ("busy 0a010203 0 59", "busy 0A010203 0 59"),
             ("remove 0a010203", "remove 0A010203"),
             ("dump e00401020304050f", "dump E00401020304050F"),
             ("find", "find"),

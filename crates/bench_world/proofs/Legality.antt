@@ -87,7 +87,7 @@ polls_first asked (Told r ns) (Asks f) h d = absurd cc
 
 -- what stays of devices that are kept
 abbrev stable_in : Kept → StablePart
-stable_in k = record { store = k.store; locked = k.locked }
+stable_in k = record { store = k.store; locked = k.locked; made = k.made }
 
 stores_kept : (ls : List Device) → map stable_of ls ≡ map stable_in (map kept ls)
 stores_kept [] = refl

@@ -1,19 +1,23 @@
--- A block of a tag is locked, and what a tag holds is told.
-use Rattle.std.proofs.Common.{◌≡◌, ℕ, suc, ◌<◌, ◌≤◌, List, [], ◌∷◌, ◌++◌, length, map, nat_eq, if◌then◌else◌, Some, refl, sym, ◌∙◌, ap, subst}
+-- A block of a tag is locked, a tag asks for more time from now on, and what a tag holds is told.
+use Rattle.std.proofs.Common.{◌≡◌, ℕ, suc, ◌<◌, ◌≤◌, List, [], ◌∷◌, ◌++◌, length, map, nat_eq, true, if◌then◌else◌, Some, refl, sym, ◌∙◌, ap, subst}
 use Rattle.std.specs.Prelude.{slice_set, slice_index_or}
 use Rattle.std.proofs.Math.Seq.{set-append_seam, get_or-append_seam}
 use Rattle.std.specs.Cmp.Lexicographic.{pointwise}
 use Rattle.air_core.specs.Turn.{Air}
 use Rattle.nfca_poll.proofs.OneLevel.{pointwise_self}
-use Rattle.bench_script.specs.declared.command.Command.TheVariants.{Lock, Dump}
+use Rattle.bench_script.specs.declared.command.Command.{Command}
+use Rattle.bench_script.specs.declared.command.Command.TheVariants.{Lock, Busy, Dump}
 use Rattle.bench_script.specs.declared.command.DeviceId.{DeviceId}
 use Rattle.bench_devices.specs.declared.device.Device.{Device}
 use Rattle.bench_devices.specs.declared.device.Device.TheVariants.{T2, T4, T5}
 use Rattle.bench_world.specs.declared.entry.Answer.TheVariants.{Done, Store}
 use Rattle.bench_devices.specs.Choosing.{StandsAt}
 use Rattle.std.specs.List.{AllByRecursion}
-use Rattle.bench_devices.specs.Device.{device_id, most_devices, blocks_of, device_locked, memory_in}
-use Rattle.bench_world.specs.Legal.{IsPlaced}
+use Rattle.bench_devices.specs.Device.{device_id, most_devices, blocks_of, device_locked, may_be_busy, device_busy, memory_in}
+use Rattle.isodep_link.specs.Card.{most_busy}
+use Rattle.isodep_link.specs.Reader.{longest_extension}
+use Rattle.air_core.specs.Conversation.{Over}
+use Rattle.bench_world.specs.Legal.{IsPlaced, MayBeBusy, Accepts, IsAskedBy, AnswerLaw, changed, due}
 use Rattle.bench_devices.specs.Placed.{device_with, with_changed, OfPlaced}
 use Rattle.bench_world.specs.Obeying.{state_at, Obeyed}
 use Rattle.bench_devices.specs.Phases.{IsIdle}
@@ -37,46 +41,49 @@ changed_behind change (b ∷ before) d behind id named sound =
     ap (λ v. if v then change b ∷ (before ++ d ∷ behind) else b ∷ with_changed change id (before ++ d ∷ behind)) (is_other b before d behind id named sound.1)
     ∙ ap (λ ds. b ∷ ds) (changed_behind change before d behind id named sound.2)
 
--- A device with one block more locked may be placed, too, and has the same identifier.
-sound_locked : (block : ℕ) (d : Device) → IsSound (kept d) → IsSound (kept (device_locked block d))
-sound_locked block (T2 d) s = s
-sound_locked block (T4 d) s = s
-sound_locked block (T5 p) s = s
+-- A device that is changed so may be placed, too, and has the same identifier.
+record StaysPlaced (change : Device → Device) (d : Device) : Type 0 where
+  pub same_id : device_id (change d) ≡ device_id d
+  pub sound : IsSound (kept d) → IsSound (kept (change d))
+  pub tidy : IsTidy d → IsTidy (change d)
 
-apart_locked : (block : ℕ) (d : Device) (ks : List Kept) → AllByRecursion (IsApart (kept d)) ks → AllByRecursion (IsApart (kept (device_locked block d))) ks
-apart_locked block (T2 d) ks h = h
-apart_locked block (T4 d) ks h = h
-apart_locked block (T5 p) ks h = h
+-- one with one block more locked
+locked_stays : (block : ℕ) (d : Device) → StaysPlaced (device_locked block) d
+locked_stays block (T2 d) = record { same_id = refl; sound = λ s. s; tidy = λ t. t }
+locked_stays block (T4 d) = record { same_id = refl; sound = λ s. s; tidy = λ t. t }
+locked_stays block (T5 p) = record { same_id = refl; sound = λ s. s; tidy = λ t. t }
 
-from_locked : (block : ℕ) (k : Kept) (d : Device) → IsApart k (kept d) → IsApart k (kept (device_locked block d))
-from_locked block k (T2 d) h = h
-from_locked block k (T4 d) h = h
-from_locked block k (T5 p) h = h
+-- one that asks for more time, no more often and by no greater value than it may
+busy_stays : (count times : ℕ) (d : Device) → count ≤ most_busy → (1 ≤ times) × (times ≤ longest_extension) → StaysPlaced (device_busy count times) d
+busy_stays count times (T2 d) few long = record { same_id = refl; sound = λ s. s; tidy = λ t. t }
+busy_stays count times (T4 d) few long = record {
+  same_id = refl;
+  sound = λ s. (s.0, s.1, s.2, s.3, s.4, record { made = refl; busy = few; times = long });
+  tidy = λ t. t;
+}
+busy_stays count times (T5 p) few long = record { same_id = refl; sound = λ s. s; tidy = λ t. t }
 
-all_apart : (block : ℕ) (k : Kept) (before : List Device) (d : Device) (behind : List Device) → AllByRecursion (IsApart k) (map kept (before ++ d ∷ behind))
-    → AllByRecursion (IsApart k) (map kept (before ++ device_locked block d ∷ behind))
-all_apart block k [] d behind h = (from_locked block k d h.0, h.1)
-all_apart block k (b ∷ before) d behind h = (h.0, all_apart block k before d behind h.1)
+module _ (change : Device → Device) (d : Device) (stays : StaysPlaced change d) (behind : List Device) where
+  all_apart : (k : Kept) (before : List Device) → AllByRecursion (IsApart k) (map kept (before ++ d ∷ behind)) → AllByRecursion (IsApart k) (map kept (before ++ change d ∷ behind))
+  all_apart k [] h = ((λ e. h.0 (sym stays.same_id ∙ e)), h.1)
+  all_apart k (b ∷ before) h = (h.0, all_apart k before h.1)
 
-all_sound : (block : ℕ) (before : List Device) (d : Device) (behind : List Device) → AreSound (map kept (before ++ d ∷ behind)) → AreSound (map kept (before ++ device_locked block d ∷ behind))
-all_sound block [] d behind s = (sound_locked block d s.0, apart_locked block d (map kept behind) s.1, s.2)
-all_sound block (b ∷ before) d behind s = (s.0, all_apart block (kept b) before d behind s.1, all_sound block before d behind s.2)
+  all_sound : (before : List Device) → AreSound (map kept (before ++ d ∷ behind)) → AreSound (map kept (before ++ change d ∷ behind))
+  all_sound [] s =
+      let P : List ℕ → Type 0 = λ id. AllByRecursion (λ l. l.id ≡ id → ⊥) (map kept behind) in
+      (stays.sound s.0, subst P (sym stays.same_id) s.1, s.2)
+  all_sound (b ∷ before) s = (s.0, all_apart (kept b) before s.1, all_sound before s.2)
 
-as_many : (block : ℕ) (before : List Device) (d : Device) (behind : List Device) → length (map kept (before ++ device_locked block d ∷ behind)) ≡ length (map kept (before ++ d ∷ behind))
-as_many block [] d behind = refl
-as_many block (b ∷ before) d behind = ap suc (as_many block before d behind)
+  as_many : (before : List Device) → length (map kept (before ++ change d ∷ behind)) ≡ length (map kept (before ++ d ∷ behind))
+  as_many [] = refl
+  as_many (b ∷ before) = ap suc (as_many before)
 
-all_tame : (block : ℕ) (before : List Device) (d : Device) (behind : List Device) → AreTame (map kept (before ++ d ∷ behind)) → AreTame (map kept (before ++ device_locked block d ∷ behind))
-all_tame block before d behind t = record { sound = all_sound block before d behind t.sound; few = subst (λ n. n ≤ most_devices) (sym (as_many block before d behind)) t.few }
+  all_tame : (before : List Device) → AreTame (map kept (before ++ d ∷ behind)) → AreTame (map kept (before ++ change d ∷ behind))
+  all_tame before t = record { sound = all_sound before t.sound; few = subst (λ n. n ≤ most_devices) (sym (as_many before)) t.few }
 
-tidy_locked : (block : ℕ) (d : Device) → IsTidy d → IsTidy (device_locked block d)
-tidy_locked block (T2 d) tidy = tidy
-tidy_locked block (T4 d) tidy = tidy
-tidy_locked block (T5 p) tidy = tidy
-
-all_tidy : (block : ℕ) (before : List Device) (d : Device) (behind : List Device) → AreTidy (before ++ d ∷ behind) → AreTidy (before ++ device_locked block d ∷ behind)
-all_tidy block [] d behind tidy = (tidy_locked block d tidy.0, tidy.1)
-all_tidy block (b ∷ before) d behind tidy = (tidy.0, all_tidy block before d behind tidy.1)
+  all_tidy : (before : List Device) → AreTidy (before ++ d ∷ behind) → AreTidy (before ++ change d ∷ behind)
+  all_tidy [] tidy = (stays.tidy tidy.0, tidy.1)
+  all_tidy (b ∷ before) tidy = (tidy.0, all_tidy before tidy.1)
 
 -- a device of these identifier bytes stands at a place
 pub stands_there : (old : Air Device) (id : DeviceId) (bytes : List ℕ) (ls : List Device) (place : ℕ) → bytes ≡ bytes_of id → ls ≡ old.listeners → StandsAt bytes ls place → StandsAt (bytes_of id) old.listeners place
@@ -105,21 +112,37 @@ module _ (old : Air Device) (id : DeviceId) (place : ℕ) (idle : IsIdle old) (s
   pub of_device : (P : Device → Type 0) → OfPlaced P (device_with (bytes_of id) old.listeners) → P s.device
   of_device P holds = subst (OfPlaced P) has_id holds
 
-  -- a block of it was locked
-  pub block_locked : (new : Air Device) (block : ℕ) → block < blocks_of s.device
-      → new ≡ record { lit = old.lit; listeners = slice_set old.listeners place (device_locked block s.device); fates = old.fates; trace = old.trace } → Obeyed old new (Lock id block) Done
-  block_locked new block within is =
-      let O : Air Device → Type 0 = λ a. Obeyed old a (Lock id block) Done in
+  -- it was changed so by a command that is done
+  device_changed : (new : Air Device) (c : Command) (change : Device → Device) → StaysPlaced change s.device → Accepts (state_at old) c
+      → changed (state_at old) c ≡ record { world = record { lit = old.lit; listeners = with_changed change (bytes_of id) old.listeners }; queue = old.fates }
+      → IsAskedBy (state_at old) c [] → due (state_at old) (record { asked = [] }) c [] ≡ Over
+      → AnswerLaw (state_at old) (record { asked = [] }) c [] Done
+      → new ≡ record { lit = old.lit; listeners = slice_set old.listeners place (change s.device); fates = old.fates; trace = old.trace } → Obeyed old new c Done
+  device_changed new c change stays accepted changes asks over answered is =
+      let O : Air Device → Type 0 = λ a. Obeyed old a c Done in
       let F : List Device → Air Device = λ ls. record { lit = old.lit; listeners = ls; fates = old.fates; trace = old.trace } in
-      let change : Device → Device = device_locked block in
       let left : slice_set old.listeners place (change s.device) ≡ s.before ++ change s.device ∷ s.behind =
       ap (λ ls. slice_set ls place (change s.device)) s.split ∙ ap (λ i. slice_set (s.before ++ s.device ∷ s.behind) i (change s.device)) (sym s.at)
       ∙ set-append_seam s.before s.device s.behind (change s.device) in
       let same : with_changed change (bytes_of id) old.listeners ≡ s.before ++ change s.device ∷ s.behind =
       ap (with_changed change (bytes_of id)) s.split ∙ changed_behind change s.before s.device s.behind (bytes_of id) s.named sound in
       subst O (sym (is ∙ ap F left))
-      (still_obeyed old (F (s.before ++ change s.device ∷ s.behind)) (Lock id block) Done idle (of_placed (λ d. block < blocks_of d) within) (ap (λ ls. state_at (F ls)) (sym same)) refl refl refl refl
-      (all_tame block s.before s.device s.behind (subst (λ ls. AreTame (map kept ls)) s.split idle.tame)) (all_tidy block s.before s.device s.behind (subst AreTidy s.split idle.tidy)))
+      (still_obeyed old (F (s.before ++ change s.device ∷ s.behind)) c Done idle accepted (ap (λ ls. state_at (F ls)) (sym same) ∙ sym changes) refl asks over answered
+      (all_tame change s.device stays s.behind s.before (subst (λ ls. AreTame (map kept ls)) s.split idle.tame))
+      (all_tidy change s.device stays s.behind s.before (subst AreTidy s.split idle.tidy)))
+
+  -- a block of it was locked
+  pub block_locked : (new : Air Device) (block : ℕ) → block < blocks_of s.device
+      → new ≡ record { lit = old.lit; listeners = slice_set old.listeners place (device_locked block s.device); fates = old.fates; trace = old.trace } → Obeyed old new (Lock id block) Done
+  block_locked new block within is =
+      device_changed new (Lock id block) (device_locked block) (locked_stays block s.device) (of_placed (λ d. block < blocks_of d) within) refl refl refl refl is
+
+  -- it asks for more time from now on
+  pub made_busy : (new : Air Device) (count times : ℕ) → may_be_busy s.device ≡ true → count ≤ most_busy → (1 ≤ times) × (times ≤ longest_extension)
+      → new ≡ record { lit = old.lit; listeners = slice_set old.listeners place (device_busy count times s.device); fates = old.fates; trace = old.trace } → Obeyed old new (Busy id count times) Done
+  made_busy new count times may few long is =
+      let accepted : MayBeBusy (state_at old) id count times = record { device = of_placed (λ d. may_be_busy d ≡ true) may; few = few; long = long } in
+      device_changed new (Busy id count times) (device_busy count times) (busy_stays count times s.device few long) accepted refl refl refl refl is
 
   -- what it holds was told
   pub memory_told : IsPlaced (state_at old) id → Obeyed old old (Dump id) (Store (memory_in s.device))

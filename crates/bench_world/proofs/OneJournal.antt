@@ -4,7 +4,7 @@ use Rattle.nfc_base.specs.Signal.{Signal}
 use Rattle.nfc_base.specs.declared.event.Event.{Event}
 use Rattle.air_core.specs.Conversation.{Over, EachDue, receptions}
 use Rattle.bench_script.specs.declared.command.Command.{Command}
-use Rattle.bench_script.specs.declared.command.Command.TheVariants.{Skip, Fates, PlaceT2, PlaceT4, PlaceT5, Lock, Remove, Dump, Find, Read}
+use Rattle.bench_script.specs.declared.command.Command.TheVariants.{Skip, Fates, PlaceT2, PlaceT4, PlaceT5, Lock, Busy, Remove, Dump, Find, Read}
 use Rattle.bench_devices.specs.declared.device.Device.{Device}
 use Rattle.bench_world.specs.declared.entry.Answer.{Answer}
 use Rattle.bench_world.specs.declared.entry.Answer.TheVariants.{Store}
@@ -44,6 +44,7 @@ one_answer s g (PlaceT2 id blocks head) events a b p q = p ∙ sym q
 one_answer s g (PlaceT4 id code container head) events a b p q = p ∙ sym q
 one_answer s g (PlaceT5 id blocks size head) events a b p q = p ∙ sym q
 one_answer s g (Lock id block) events a b p q = p ∙ sym q
+one_answer s g (Busy id count times) events a b p q = p ∙ sym q
 one_answer s g (Remove id) events a b p q = p ∙ sym q
 one_answer s g (Dump id) events a b p q = one_dump (device_with (bytes_of id) s.world.listeners) a b p q
 one_answer s g Find events a b p q = one_find s.world.listeners events a b p.tells q.tells

@@ -84,7 +84,7 @@ t4_placed old new id code container head idle ident may is =
     let file : List ℕ = memory_of (file_size container) head in
     let d : Device = new_t4 id code container file in
     let O : Air Device → Type 0 = λ a. Obeyed old a (PlaceT4 id code container head) Done in
-    subst O (sym is) (place_obeyed old (PlaceT4 id code container head) d idle may refl refl refl refl (ident, file, refl, may.store) (inr refl) may.free)
+    subst O (sym is) (place_obeyed old (PlaceT4 id code container head) d idle may refl refl refl refl (ident, file, refl, may.store, refl, record { made = refl; busy = omega arith; times = (omega arith, omega arith) }) (inr refl) may.free)
 
 pub t5_placed : (old new : Air Device) (id : List ℕ) (blocks size : ℕ) (head : List ℕ) → IsIdle old → length id ≡ id_size → ((i : ℕ) → slice_index id i < 256) → MayPlaceT5 (state_at old) id blocks size head
     → new ≡ more_by old (new_t5 id size (memory_of (size * blocks) head)) → Obeyed old new (PlaceT5 id blocks size head) Done

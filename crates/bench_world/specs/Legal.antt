@@ -1,6 +1,6 @@
 -- Which entries a bench may have: what it accepts, what each command changes, which request is due, and what it
 -- answers. A later command adds a case to each definition.
-use Rattle.std.specs.Prelude.{◌≡◌, ◌⊎◌, ℕ, ◌*◌, ◌-◌, ◌<◌, ◌≤◌, List, [], ◌∷◌, ◌++◌, map, length, replicate, None, IsSome, false}
+use Rattle.std.specs.Prelude.{◌≡◌, ◌⊎◌, ℕ, ◌*◌, ◌-◌, ◌<◌, ◌≤◌, List, [], ◌∷◌, ◌++◌, map, length, replicate, None, IsSome, true, false}
 use Rattle.nfc_base.specs.declared.event.Event.{Event}
 use Rattle.nfc_base.specs.declared.event.Fate.{Fate}
 use Rattle.nfc_base.specs.Signal.{Signal}
@@ -9,13 +9,15 @@ use Rattle.t2t_tag.specs.Store.{IsT2Store}
 use Rattle.t4t_tag.specs.Store.{IsT4Store, file_size}
 use Rattle.t5t_tag.specs.Store.{IsT5Store}
 use Rattle.bench_script.specs.declared.command.Command.{Command}
-use Rattle.bench_script.specs.declared.command.Command.TheVariants.{Skip, Fates, PlaceT2, PlaceT4, PlaceT5, Lock, Remove, Dump, Find, Read}
+use Rattle.bench_script.specs.declared.command.Command.TheVariants.{Skip, Fates, PlaceT2, PlaceT4, PlaceT5, Lock, Busy, Remove, Dump, Find, Read}
 use Rattle.bench_script.specs.declared.command.DeviceId.{DeviceId}
 use Rattle.bench_devices.specs.declared.device.Device.{Device}
 use Rattle.bench_world.specs.declared.entry.Answer.{Answer}
 use Rattle.bench_world.specs.declared.entry.Answer.TheVariants as answers
 use Rattle.bench_world.specs.declared.entry.Entry.{Entry}
-use Rattle.bench_devices.specs.Device.{BenchWorld, air, most_devices, StablePart, stable_of, new_t2, new_t4, new_t5, blocks_of, device_locked, memory_in}
+use Rattle.bench_devices.specs.Device.{BenchWorld, air, most_devices, StablePart, stable_of, new_t2, new_t4, new_t5, blocks_of, device_locked, may_be_busy, device_busy, memory_in}
+use Rattle.isodep_link.specs.Card.{most_busy}
+use Rattle.isodep_link.specs.Reader.{longest_extension}
 use Rattle.bench_devices.specs.TagAsking.{tag_due}
 use Rattle.bench_script.specs.DeviceIds.{bytes_of}
 use Rattle.bench_devices.specs.Polling.{asks, finding_all}
@@ -74,6 +76,12 @@ IsPlaced s id = IsSome (device_with (bytes_of id) s.world.listeners)
 abbrev pub HasBlock : State → DeviceId → ℕ → Type 0
 HasBlock s id block = OfPlaced (λ d. block < blocks_of d) (device_with (bytes_of id) s.world.listeners)
 
+-- The device with this identifier is a Type 4 tag, and may ask for more time so often before an answer, and by this value.
+pub record MayBeBusy (s : State) (id : DeviceId) (count times : ℕ) : Type 0 where
+  pub device : OfPlaced (λ d. may_be_busy d ≡ true) (device_with (bytes_of id) s.world.listeners)
+  pub few : count ≤ most_busy
+  pub long : (1 ≤ times) × (times ≤ longest_extension)
+
 -- The conditions of a command beside its grammar, in a state. Only what is placed can be taken away, or shows what it holds.
 abbrev pub Accepts : State → Command → Type 0
 Accepts s Skip = Unit {0}
@@ -82,6 +90,7 @@ Accepts s (PlaceT2 id blocks head) = MayPlaceT2 s id blocks head
 Accepts s (PlaceT4 id code container head) = MayPlaceT4 s id code container head
 Accepts s (PlaceT5 id blocks size head) = MayPlaceT5 s id blocks size head
 Accepts s (Lock id block) = HasBlock s id block
+Accepts s (Busy id count times) = MayBeBusy s id count times
 Accepts s (Remove id) = IsPlaced s id
 Accepts s (Dump id) = IsPlaced s id
 Accepts s Find = Unit {0}
@@ -99,14 +108,19 @@ without_device s id = record { world = record { lit = s.world.lit; listeners = w
 abbrev pub with_locked : State → DeviceId → ℕ → State
 with_locked s id block = record { world = record { lit = s.world.lit; listeners = with_changed (device_locked block) (bytes_of id) s.world.listeners }; queue = s.queue }
 
--- What a command itself changes, before anything is sent: fates are appended, devices are placed and taken away, and a block is
--- locked.
+-- the state in which the device with an identifier asks for more time so often before each answer, by this value
+abbrev pub with_busy : State → DeviceId → ℕ → ℕ → State
+with_busy s id count times = record { world = record { lit = s.world.lit; listeners = with_changed (device_busy count times) (bytes_of id) s.world.listeners }; queue = s.queue }
+
+-- What a command itself changes, before anything is sent: fates are appended, devices are placed and taken away, a block is
+-- locked, and a device asks for more time from now on.
 abbrev pub changed : State → Command → State
 changed s (Fates fates) = record { world = s.world; queue = s.queue ++ fates }
 changed s (PlaceT2 id blocks head) = with_device s (new_t2 id (memory_of (4 * blocks) head))
 changed s (PlaceT4 id code container head) = with_device s (new_t4 id code container (memory_of (file_size container) head))
 changed s (PlaceT5 id blocks size head) = with_device s (new_t5 id size (memory_of (size * blocks) head))
 changed s (Lock id block) = with_locked s id block
+changed s (Busy id count times) = with_busy s id count times
 changed s (Remove id) = without_device s id
 changed s c = s
 
@@ -146,6 +160,7 @@ AnswerLaw s g (PlaceT2 id blocks head) events answer = answer ≡ answers.Done
 AnswerLaw s g (PlaceT4 id code container head) events answer = answer ≡ answers.Done
 AnswerLaw s g (PlaceT5 id blocks size head) events answer = answer ≡ answers.Done
 AnswerLaw s g (Lock id block) events answer = answer ≡ answers.Done
+AnswerLaw s g (Busy id count times) events answer = answer ≡ answers.Done
 AnswerLaw s g (Remove id) events answer = answer ≡ answers.Done
 AnswerLaw s g (Dump id) events answer = DumpLaw s id answer
 AnswerLaw s g Find events answer = FindLaw s events answer

@@ -47,6 +47,11 @@ impl ObeyFault {
 /// How many devices may stand in the field at once (this project's limit).
 const MOST_DEVICES: usize = 16;
 
+/// How often a device may ask for more time before an answer, and by which value.
+const MOST_BUSY: u8 = 5;
+
+const LONGEST_EXTENSION: u8 = 59;
+
 /// The memory of a new tag of so many bytes.
 fn memory(alloc: Global, size: usize, head: &[u8]) -> Result<Vec<u8>, AllocError>
     requires { length head.now ≤ size }
@@ -208,6 +213,34 @@ fn lock_block(field: &mut Field<Device>, id: &DeviceId, block: u16) -> Result<An
     Ok(Answer::Done)
 }
 
+/// From now on a tag asks for more time before each answer.
+fn set_busy(
+    field: &mut Field<Device>,
+    id: &DeviceId,
+    count: u8,
+    times: u8,
+) -> Result<Answer, ObeyFault>
+    requires { IsIdle field.old }
+    ensures ok { IfOk result (λ a. Obeyed field.old field.new (Command.Busy id.now count times) a) }
+    ensures err { OnErr result (field.new ≡ field.old) }
+    ensures cause { RefusedOnly result field.old (Command.Busy id.now count times) }
+{
+    let bytes = id.bytes();
+    let devices = field.listeners();
+    if count > MOST_BUSY || times < 1 || times > LONGEST_EXTENSION {
+        return Err(ObeyFault::Refused);
+    }
+    if !is_placed(devices, bytes) {
+        return Err(ObeyFault::Refused);
+    }
+    let place = place_of(devices, bytes);
+    if !devices[place].may_be_busy() {
+        return Err(ObeyFault::Refused);
+    }
+    field.listener(place).set_busy(count, times);
+    Ok(Answer::Done)
+}
+
 /// Tells what a tag holds.
 fn dump_store(alloc: Global, field: &Field<Device>, id: &DeviceId) -> Result<Answer, ObeyFault>
     requires { IsIdle field.now }
@@ -332,6 +365,7 @@ fn run_command(
             head,
         } => place_t5(alloc, field, *id, *blocks, *size, head.as_slice()),
         Command::Lock { id, block } => lock_block(field, id, *block),
+        Command::Busy { id, count, times } => set_busy(field, id, *count, *times),
         Command::Remove { id } => remove_device(field, id),
         Command::Dump { id } => dump_store(alloc, field, id),
         Command::Find => find(alloc, field),

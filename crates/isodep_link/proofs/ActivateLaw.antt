@@ -27,7 +27,7 @@ use Rattle.air_core.proofs.PlainAside.{Laws, IsUnmoved, aside_silent, alone_quie
 use Rattle.air_core.proofs.PlainTurns.{one, joint_one, tag_events, tag_heard, turn_events_as, heard_as, asking_bad}
 use Rattle.air_core.proofs.PlainViews.{heard_same}
 use Rattle.isodep_link.specs.Sizes.{piece_size, ats_frame, most_code}
-use Rattle.isodep_link.specs.Card.{CardState}
+use Rattle.isodep_link.specs.Card.{CardState, activated}
 use Rattle.isodep_link.specs.Reader.{waiting}
 use Rattle.isodep_link.specs.Exchange.{InStep, IsCut}
 use Rattle.isodep_link.specs.Activating.{reader_code, rats, ats_code, HasFreshTag, IsActivated, RatsSent, RatsEnds}
@@ -52,7 +52,7 @@ module _ {L : Type 0} (k : Ghosts L) (laws : Laws k) (card : L → CardState) (t
   l = t.listener
 
   abbrev ats : Signal
-  ats = ats_frame t.takes.code
+  ats = ats_frame t.takes.made.code
 
   abbrev pub On : Air L → ℕ → Type 0
   On mid bad = RatsOn k card tag old place t mid bad
@@ -168,24 +168,24 @@ module _ {L : Type 0} (k : Ghosts L) (laws : Laws k) (card : L → CardState) (t
   pub rats_done : (new : Air L) (bad : ℕ) (g : Signal) → After new bad (Some (Whole g)) → (c : ℕ) → ats_code g ≡ Some c → RatsEnds k card tag old new place (Ok c)
   rats_done new bad g (n, e, sent, lit, alone, before, last) c q =
       let x : L = heard_times k l rats (suc n) in
-      let same : c ≡ t.takes.code = (let z : Some c ≡ Some t.takes.code = sym q ∙ ap ats_code e ∙ ats_read t.takes.code t.takes.small in cc) in
+      let same : c ≡ t.takes.made.code = (let z : Some c ≡ Some t.takes.made.code = sym q ∙ ap ats_code e ∙ ats_read t.takes.made.code t.takes.small in cc) in
       let own : k.identifier x ≡ k.identifier l = (heard_same k laws l rats (suc n)).1 in
-      let P : CardState → Type 0 = λ y. InStep (waiting t.takes.code) y in
+      let P : CardState → Type 0 = λ y. InStep (waiting t.takes.made.code) y in
       let Q : CardState → Type 0 = λ y. IsCut y [] [] in
-      let ready : IsActivated k card tag new place (waiting t.takes.code) = record {
+      let ready : IsActivated k card tag new place (waiting t.takes.made.code) = record {
         has = record {
           listener = x;
           selected = (t.takes.steps n).selected;
           alone = subst (λ (i : List ℕ). IsAlone k i new.listeners place x) (sym own) alone;
           is = (t.takes.steps n).is;
-          step = subst P (sym ((t.takes.steps n).card_is)) (ready_first t.takes.code reader_code).0;
-          cut = subst Q (sym ((t.takes.steps n).card_is)) refl;
+          step = subst P (sym ((t.takes.steps n).card_is)) (ready_first t.takes.made reader_code t.takes.is_made).0;
+          cut = subst Q (sym ((t.takes.steps n).card_is)) (ready_first t.takes.made reader_code t.takes.is_made).1;
         };
-        own = ap (λ (y : CardState). piece_size y.code) (sym ((t.takes.steps n).card_is));
+        own = ap (λ (y : CardState). piece_size y.code) (sym ((t.takes.steps n).card_is ∙ ap (λ (y : CardState). (activated y reader_code).state) t.takes.is_made.made));
         plain = (t.takes.steps n).tag_is ∙ ap plain_state (ap (λ (s : TagState). s.store) (sym ((t.takes.steps n).tag_is)) ∙ holds x);
       } in
       (sent, lit, subst (λ (z : ℕ). IsActivated k card tag new place (waiting z)) (sym same) ready, (before, g, last, q))
 
   -- own cards never answer RATS otherwise
   pub rats_never : (new : Air L) (bad : ℕ) (g : Signal) → After new bad (Some (Whole g)) → ats_code g ≡ None → ⊥
-  rats_never new bad g (n, e, sent, lit, alone, before, last) q = let z : None ≡ Some t.takes.code = sym q ∙ ap ats_code e ∙ ats_read t.takes.code t.takes.small in absurd (cc)
+  rats_never new bad g (n, e, sent, lit, alone, before, last) q = let z : None ≡ Some t.takes.made.code = sym q ∙ ap ats_code e ∙ ats_read t.takes.made.code t.takes.small in absurd (cc)

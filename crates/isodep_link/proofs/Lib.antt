@@ -5,6 +5,7 @@ pub mod Brought
 pub mod Wire
 pub mod Standing
 pub mod Landing
+pub mod Made
 pub mod Hearing
 pub mod Obeyed
 pub mod Session

@@ -1,13 +1,13 @@
 -- In exchanges one after another, over every air, a card obeys each command once and in order; only the last, where it isn't
 -- answered, may be missing.
-use Rattle.std.proofs.Common.{◌≡◌, inl, inr, ℕ, ◌<◌, ◌≤◌, ◌==◌, Bool, true, false, if◌then◌else◌, List, [], ◌∷◌, ◌++◌, Option, Some, None, refl, sym, ◌∙◌, ap, append_assoc, append-nil, arith}
+use Rattle.std.proofs.Common.{◌≡◌, inl, inr, ℕ, ◌<◌, ◌≤◌, ◌==◌, Bool, true, false, if◌then◌else◌, List, [], ◌∷◌, ◌++◌, Option, Some, None, refl, sym, ◌∙◌, ap, subst, append_assoc, append-nil, arith}
 use Rattle.nfc_base.specs.Signal.{Signal}
 use Rattle.nfc_base.specs.StopAndWait.{Finished, SixBad, Protocol, Stage, Requests, Answers, Over, Dark, IsEnding, delivered_of}
 use Rattle.isodep_link.specs.Sizes.{block_size, piece_size}
 use Rattle.isodep_link.specs.Card.{CardState}
 use Rattle.isodep_link.specs.Reader.{ReaderState}
 use Rattle.isodep_link.specs.Commands.{iso_commands}
-use Rattle.isodep_link.specs.Exchange.{Exchange, IsReady, ObeyedOnce, blocks_of}
+use Rattle.isodep_link.specs.Exchange.{Exchange, IsReady, IsMade, ObeyedOnce, blocks_of}
 use Rattle.isodep_link.specs.Sessions.{Attempt, Fits, is_answered, exchanged, session, asked_in, ObeysAll, activated_link, SessionObeys, SessionBrings, ActivatedObeys}
 use Rattle.isodep_link.proofs.Obeyed.{obeyed_once}
 
@@ -84,13 +84,13 @@ piece_fits : (code : ℕ) → (0 < piece_size code) × (piece_size code ≤ 253)
 piece_fits code = (let s = is_size code in (omega (arith, s.0), omega (arith, s.1)))
 
 -- the ends are in step once the card was activated
-pub ready_first : (card_code reader_code : ℕ) → IsReady (activated_link card_code reader_code)
-ready_first card_code reader_code = (
-  record { heeds = refl; number = omega arith; other = refl; no_chain = refl; asks = piece_fits card_code; answers = piece_fits reader_code; busy = omega arith; times = (omega arith, omega arith) },
+pub ready_first : (t : CardState) (reader_code : ℕ) → IsMade t → IsReady (activated_link t reader_code)
+ready_first t reader_code m = subst (λ s. IsReady (activated_link s reader_code)) (sym m.made) (
+  record { heeds = refl; number = omega arith; other = refl; no_chain = refl; asks = piece_fits t.code; answers = piece_fits reader_code; busy = m.busy; times = m.times },
   refl,
 )
 
 -- Over every air: what a card obeys from its activation on are the commands asked, each once and in order, of which only the last
 -- may be missing, where it wasn't answered.
 pub obeys_from_activation : ActivatedObeys
-obeys_from_activation card_code reader_code qs f = session_obeys (activated_link card_code reader_code) qs (ready_first card_code reader_code) f
+obeys_from_activation t reader_code qs m f = session_obeys (activated_link t reader_code) qs (ready_first t reader_code m) f

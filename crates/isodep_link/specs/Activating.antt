@@ -15,7 +15,8 @@ use Rattle.air_core.specs.Waits.{Standing, Asking, Broken, Astray, stand, waits_
 use Rattle.air_core.specs.PlainTags.{heard_times, IsAlone}
 use Rattle.air_core.specs.declared.listener.Listener.{Ghosts}
 use Rattle.isodep_link.specs.Sizes.{piece_size, most_code, ats_frame}
-use Rattle.isodep_link.specs.Card.{CardState, fresh, activated}
+use Rattle.isodep_link.specs.Card.{CardState, activated}
+use Rattle.isodep_link.specs.Exchange.{IsMade}
 use Rattle.isodep_link.specs.Reader.{ReaderState, waiting}
 use Rattle.isodep_link.specs.CardTags.{IsCardTag}
 use Rattle.isodep_link.specs.Muted.{SpeaksMute, IsStopped}
@@ -75,22 +76,23 @@ pub record Opens {L : Type 0} (m : Machine L) (old : Air L) (place : ℕ) (p : I
   pub first : p ≡ first_link p.air place code
 
 module _ {L : Type 0} (k : Ghosts L) (card : L → CardState) (tag : L → TagState) where
-  -- At RATS a listener hands nothing over, answers ATS of this size code and stays selected; it is then a Type 4 tag that was
-  -- activated, with this store, and nothing is selected of it.
-  pub record StepsByRats (l : L) (code : ℕ) (store : List ℕ) : Type 0 where
+  -- At RATS a listener hands nothing over, answers ATS of its card's size code and stays selected; it is then a Type 4 tag whose
+  -- card's end, made like this, was activated, with this store, and nothing is selected of it.
+  pub record StepsByRats (l : L) (made : CardState) (store : List ℕ) : Type 0 where
     pub quiet : k.machine.handed l rats ≡ Untouched
-    pub answer : k.machine.answer l rats None ≡ Some (ats_frame code)
+    pub answer : k.machine.answer l rats None ≡ Some (ats_frame made.code)
     pub selected : k.is_selected (k.machine.after l rats None) ≡ true
     pub is : IsCardTag k card tag (k.machine.after l rats None)
-    pub card_is : card (k.machine.after l rats None) ≡ (activated (fresh code) reader_code).state
+    pub card_is : card (k.machine.after l rats None) ≡ (activated made reader_code).state
     pub tag_is : tag (k.machine.after l rats None) ≡ plain_state store
 
   -- A selected listener is a Type 4 tag that nothing was asked of: it takes RATS, however often it hears it in a row.
   pub record TakesRats (l : L) : Type 0 where
     pub tech : k.machine.tech l ≡ A
-    pub code : ℕ
-    pub small : code ≤ most_code
-    pub steps : (n : ℕ) → StepsByRats (heard_times k l rats n) code (k.store l)
+    pub made : CardState
+    pub is_made : IsMade made
+    pub small : made.code ≤ most_code
+    pub steps : (n : ℕ) → StepsByRats (heard_times k l rats n) made (k.store l)
 
   -- at this place of a field such a tag stands, and is alone
   pub record HasFreshTag (air : Air L) (place : ℕ) : Type 0 where

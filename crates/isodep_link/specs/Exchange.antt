@@ -83,6 +83,12 @@ pub record InStep (i : ReaderState) (t : CardState) : Type 0 where
   pub busy : t.busy ≤ most_busy
   pub times : (1 ≤ t.times) × (t.times ≤ longest_extension)
 
+-- A card that heard nothing, and asks for no more time than it may.
+pub record IsMade (t : CardState) : Type 0 where
+  pub made : t ≡ darkened t
+  pub busy : t.busy ≤ most_busy
+  pub times : (1 ≤ t.times) × (t.times ≤ longest_extension)
+
 -- By the blocks that arrived, the card obeyed these commands, and this much of another one came.
 abbrev pub IsCut : CardState → List (List ℕ) → List Signal → Type 0
 IsCut t commands arrived = cut_by (record { chain = []; commands = [] }) (blocks_of arrived) ≡ record { chain = t.chain; commands = commands }

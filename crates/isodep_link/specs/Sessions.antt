@@ -4,11 +4,11 @@ use Rattle.nfc_base.specs.Signal.{Signal}
 use Rattle.nfc_base.specs.StopAndWait.{Finished, SixBad, Protocol, Stage, Requests, Answers, Over, Dark, run}
 use Rattle.nfc_base.specs.declared.event.Fate.{Fate}
 use Rattle.isodep_link.specs.Sizes.{limit}
-use Rattle.isodep_link.specs.Card.{fresh, activated}
+use Rattle.isodep_link.specs.Card.{CardState, activated}
 use Rattle.isodep_link.specs.Reader.{waiting}
 use Rattle.std.specs.List.{AllByRecursion}
 use Rattle.isodep_link.specs.Commands.{iso_commands}
-use Rattle.isodep_link.specs.Exchange.{iso_dep, Exchange, IsReady, blocks_of, beginning}
+use Rattle.isodep_link.specs.Exchange.{iso_dep, Exchange, IsReady, IsMade, blocks_of, beginning}
 
 -- a command, how the card's owner answers then, and what becomes of the transmissions
 pub record Attempt : Type 0 where
@@ -49,12 +49,12 @@ abbrev pub ObeysAll : List (List ℕ) → List (List ℕ) → Exchange → Type 
 ObeysAll before asked w =
     (w.delivered ≡ before ++ asked) ⊎ ((last : List ℕ) × (w.delivered ++ last ∷ [] ≡ before ++ asked) × (is_answered w.stage ≡ false))
 
--- A card of this size code has answered RATS of a reader with the other one, and was asked nothing yet.
-abbrev pub activated_link : ℕ → ℕ → Exchange
-activated_link card_code reader_code =
+-- A card that heard nothing else has answered RATS of a reader with this size code, and was asked nothing yet.
+abbrev pub activated_link : CardState → ℕ → Exchange
+activated_link t reader_code =
     record {
-      asking = waiting card_code;
-      answering = (activated (fresh card_code) reader_code).state;
+      asking = waiting t.code;
+      answering = (activated t reader_code).state;
       stage = Over (Finished []);
       given = None;
       delivered = [];
@@ -71,8 +71,8 @@ SessionObeys = (w : Exchange) (qs : List Attempt) → IsReady w → AllByRecursi
 abbrev pub SessionBrings : Type 0
 SessionBrings = (w : Exchange) (qs : List Attempt) → IsReady w → AllByRecursion Fits qs → iso_commands (blocks_of (session w qs).arrived) ≡ (session w qs).delivered
 
--- So it is from the activation of a card on.
+-- So it is from the activation of a card on, however much more time it asks for.
 abbrev pub ActivatedObeys : Type 0
 ActivatedObeys =
-    (card_code reader_code : ℕ) (qs : List Attempt) → AllByRecursion Fits qs
-    → ObeysAll [] (asked_in (activated_link card_code reader_code) qs) (session (activated_link card_code reader_code) qs)
+    (t : CardState) (reader_code : ℕ) (qs : List Attempt) → IsMade t → AllByRecursion Fits qs
+    → ObeysAll [] (asked_in (activated_link t reader_code) qs) (session (activated_link t reader_code) qs)

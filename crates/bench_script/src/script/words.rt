@@ -4,7 +4,7 @@ ghost use Rattle.std.specs.Prelude.{◌≡◌, ◌≢◌, ◌<◌, ◌^◌, ℕ,
 ghost use Rattle.nfc_base.specs.declared.event.Fate.{Fate as Becomes};
 ghost use Rattle.std.specs.Option.{option_copied};
 ghost use Rattle.std.specs.Fmt.{decimal};
-ghost use Rattle.bench_script.specs.Script.{words_of, SpellsHex, SpellsIdent, SpellsIdV, SpellsId, SpellsBlocks, SpellsSize, SpellsCode, SpellsBlock, fate_letter, SpellsFates};
+ghost use Rattle.bench_script.specs.Script.{words_of, SpellsHex, SpellsIdent, SpellsIdV, SpellsId, SpellsWithin, SpellsSize, SpellsCode, SpellsBlock, fate_letter, SpellsFates};
 ghost use Rattle.bench_script.specs.declared.command.DeviceId.{DeviceId as Named};
 ghost use Rattle.bench_script.specs.declared.script.words.CommandName.{CommandName as Names};
 ghost use Rattle.bench_script.specs.Words.{CutsWord, Finds, AreThree, AreFour, NotOne, NotTwo, NotThree, NotFour, name_text};
@@ -25,6 +25,7 @@ pub enum CommandName {
     Fates,
     Place,
     Lock,
+    Busy,
     Remove,
     Dump,
     Read,
@@ -38,6 +39,7 @@ pub fn name_of(word: &[u8]) -> Option<CommandName>
         b"fates" => Some(CommandName::Fates),
         b"place" => Some(CommandName::Place),
         b"lock" => Some(CommandName::Lock),
+        b"busy" => Some(CommandName::Busy),
         b"remove" => Some(CommandName::Remove),
         b"dump" => Some(CommandName::Dump),
         b"read" => Some(CommandName::Read),
@@ -187,19 +189,29 @@ pub fn block_word(alloc: Global, word: &[u8]) -> Result<Option<u16>, AllocError>
     number_word(alloc, word)
 }
 
-/// The number of blocks that a word spells, between two limits, if it does.
+/// The number between two limits that a word spells, if it does.
 #[tactic(auto, using(std::proofs::lemmas::Fmt::decimal_injective))]
-pub fn blocks_word(
+pub fn within_word(
     alloc: Global,
     word: &[u8],
     least: u16,
     most: u16,
 ) -> Result<Option<u16>, AllocError>
-    ensures { IfOk result (Finds (SpellsBlocks least most word.now)) }
+    ensures { IfOk result (Finds (SpellsWithin least most word.now)) }
 {
     match number_word(alloc, word)? {
         Some(n) if least <= n && n <= most => Ok(Some(n)),
         _ => Ok(None),
+    }
+}
+
+/// Likewise a number of one byte.
+pub fn small_word(alloc: Global, word: &[u8], least: u8, most: u8) -> Result<Option<u8>, AllocError>
+    ensures { IfOk result (Finds (SpellsWithin least most word.now)) }
+{
+    match within_word(alloc, word, least as u16, most as u16)? {
+        Some(n) => Ok(Some(n as u8)),
+        None => Ok(None),
     }
 }
 

@@ -34,6 +34,49 @@ fn frames_of_a_reading(rt: HostRuntime) -> Result<(), Fail> {
     Ok(())
 }
 
+/// The same tag, which asks once for more time before each answer.
+const BUSY: &str =
+    "place t4 02030405 8 000F20003B000D0406E10402000000 0003D00000\nbusy 02030405 1 3\nread 02030405";
+
+/// The frames of its reading behind its selection.
+const BUSY_FRAMES: &str = "3 > E080 pass
+3 < 0208 pass
+3 > 0200A4040007D276000085010100 pass
+3 < F203 pass
+3 > F203 pass
+3 < 029000 pass
+3 > 0300A4000C02E103 pass
+3 < F203 pass
+3 > F203 pass
+3 < 039000 pass
+3 > 0200B000000F pass
+3 < F203 pass
+3 > F203 pass
+3 < 02000F20003B000D0406E104020000009000 pass
+3 > 0300A4000C02E104 pass
+3 < F203 pass
+3 > F203 pass
+3 < 039000 pass
+3 > 0200B0000002 pass
+3 < F203 pass
+3 > F203 pass
+3 < 0200039000 pass
+3 > 0300B0000203 pass
+3 < F203 pass
+3 > F203 pass
+3 < 03D000009000 pass
+3 message D00000 writable
+";
+
+#[test]
+fn frames_of_a_busy_tag(rt: HostRuntime) -> Result<(), Fail> {
+    let (status, written) = report(rt.alloc(), "run", BUSY)?;
+    let text = str::from_utf8(&written)?;
+    assert!(rt; text.ends_with(BUSY_FRAMES), "{text}");
+    assert_eq!(rt; status, 0);
+    Ok(())
+}
+
 /// A capability container, how the NDEF file begins, and the answer of a read.
 const READS: [(&str, &str, &str); 8] = [
     (
@@ -74,7 +117,7 @@ fn what_type_4_tags_hold(rt: HostRuntime) -> Result<(), Fail> {
 }
 
 /// What a script shows, its lines, and its answers.
-const ANSWERS: [(&str, &str, &str); 6] = [
+const ANSWERS: [(&str, &str, &str); 7] = [
     (
         "a message that fills its file, in reads of 15, 15, 15 and 12 bytes",
         "place t4 02030405 8 000F20000F000D0406E104003B0000 0039D0\nread 02030405",
@@ -99,6 +142,11 @@ const ANSWERS: [(&str, &str, &str); 6] = [
         "a block that is lost is asked for again, and a field that breaks is told",
         "place t4 02030405 8 000F20003B000D0406E10400020000 0000\nfates PPPPPPPPPLPPPPPPPB\nread 02030405\nread 02030405",
         "1 ok\n2 ok\n3 field lost\n4 message - writable\n",
+    ),
+    (
+        "busy twice, then no more, and busy still after the field was lost",
+        "place t4 02030405 8 000F20003B000D0406E10402000000 0003D00000\nbusy 02030405 5 59\nbusy 02030405 2 1\nread 02030405\nbusy 02030405 0 1\nread 02030405\nbusy 02030405 5 59\nfates PPPPPPPPPPPPPPPB\nread 02030405\nread 02030405",
+        "1 ok\n2 ok\n3 ok\n4 message D00000 writable\n5 ok\n6 message D00000 writable\n7 ok\n8 ok\n9 field lost\n10 message D00000 writable\n",
     ),
     (
         "six bad receptions of one wait",

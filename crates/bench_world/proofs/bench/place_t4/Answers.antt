@@ -1,8 +1,9 @@
-use Rattle.std.proofs.Common.{◌≡◌, ℕ, List, rules, None, ◌∙◌, ap}
+use Rattle.std.proofs.Common.{◌≡◌, ℕ, List, rules, false, ◌∙◌, ap}
 use Rattle.air_core.specs.Turn.{Air}
 use Rattle.nfca_poll.specs.Ident.{IsIdent}
 use Rattle.nfca_poll.specs.Front.{Off}
 use Rattle.t4t_tag.specs.Store.{T4State, file_size, fresh}
+use Rattle.isodep_link.specs.Card as ends
 use Rattle.bench_devices.specs.Cards.{T4Near}
 use Rattle.bench_devices.specs.declared.device.Device.{Device}
 use Rattle.bench_devices.specs.declared.device.Device.TheVariants.{T4}
@@ -20,8 +21,9 @@ returns-in-Ok-put_in-clause-ok c =
     let held : c.in-Ok-memory.file.items ≡ file = c.in-Ok-memory.ensures ∙ ap (λ n. memory_of n c.args.head.now) c.in-Some.ensures in
     let tag : c.in-Ok-new.tag ≡ fresh c.args.code container file =
     c.in-Ok-new.ensures.ok ∙ ap (λ x. fresh c.args.code x c.in-Ok-memory.file.items) c.in-Ok.ensures.items ∙ ap (fresh c.args.code container) held in
-    let near : c.new-2.result ≡ record { tag = fresh c.args.code container file; link = None } = c.new-2.ensures ∙ ap (λ (t : T4State). record { tag = t; link = None }) tag in
-    let front : c.new-3.result ≡ record { id = c.args.id.now; front = Off; upper = record { tag = fresh c.args.code container file; link = None } } =
+    let upper : T4State → T4Near = λ t. record { tag = t; card = ends.fresh t.code; linked = false } in
+    let near : c.new-2.result ≡ upper (fresh c.args.code container file) = c.new-2.ensures ∙ ap upper tag in
+    let front : c.new-3.result ≡ record { id = c.args.id.now; front = Off; upper = upper (fresh c.args.code container file) } =
     c.new-3.ensures ∙ ap (λ i. record { id = i; front = Off; upper = c.new-2.result }) c.copy.ensures ∙ ap (λ (u : T4Near). record { id = c.args.id.now; front = Off; upper = u }) near in
     let may : MayPlaceT4 (state_at old) c.args.id.now c.args.code container c.args.head.now = record {
       free = record { room = search rules; fresh = search rules };
