@@ -204,11 +204,12 @@ enum End {
     FieldLost,
 }
 
-/// How often the payload of an exchange was handed over, how many transmissions and bad receptions it took, and the fates
-/// that are left, two bits each.
+/// How often the payload of an exchange was handed over, how often the target was heard to ask for more time, how many
+/// transmissions and bad receptions the exchange took, and the fates that are left, two bits each.
 #[derive(Debug, Drop)]
 struct Course {
     handed: u32,
+    waits: u32,
     sent: u32,
     bads: u32,
     fates: u32,
@@ -263,6 +264,11 @@ fn turn<R: Abort>(
     })
 }
 
+/// Whether a target's frame is a time extension: a supervisory PDU, of which four bits are 1001.
+fn asks_for_time(frame: &Frame) -> bool {
+    frame.view().get(4).is_some_and(|kind| kind & 0xF0 == 0x90)
+}
+
 /// One exchange, up to its end.
 fn exchange<R: Abort>(
     rt: &R,
@@ -281,8 +287,12 @@ fn exchange<R: Abort>(
             Some(heard) => heard,
             None => return Ok(End::FieldLost),
         };
-        if !matches!(heard, Heard::Whole(_)) {
-            course.bads = course.bads.saturating_add(1);
+        match &heard {
+            Heard::Whole(block) if asks_for_time(block) => {
+                course.waits = course.waits.saturating_add(1)
+            }
+            Heard::Whole(_) => {}
+            _ => course.bads = course.bads.saturating_add(1),
         }
         match initiator.next(&heard) {
             InitStep::Send(next) => frame = next,
@@ -304,23 +314,24 @@ type Sizes = (usize, usize, u32, u32, u8);
 
 /// Whether an exchange went as the law has it: the payload was handed over at most once, and exactly once where its reply
 /// came; with so many pieces out and back, K extensions and b bad receptions, at most 2 (out + back - 1) + 2 K + 4 b
-/// transmissions.
+/// transmissions; and no more is asked for time than K times and once for each bad reception.
 fn is_lawful(course: &Course, end: End, sizes: &Sizes) -> bool {
     let once = match end {
         End::Replied => course.handed == 1,
         End::SixBad => course.handed <= 1 && course.bads >= 6,
         End::FieldLost => course.handed <= 1,
     };
+    let busy = sizes.4 as u32;
     let back = if course.handed == 0 {
         1
     } else {
-        sizes.3.saturating_add(sizes.4 as u32)
+        sizes.3.saturating_add(busy)
     };
     let rounds = sizes.2.saturating_add(back).saturating_sub(1);
     let most = rounds
         .saturating_mul(2)
         .saturating_add(course.bads.saturating_mul(4));
-    once && course.sent <= most
+    once && course.sent <= most && course.waits <= busy.saturating_add(course.bads)
 }
 
 /// As many bytes as the longest payload has.
@@ -345,6 +356,7 @@ fn over_fates<R: Abort>(
     let reply = &bytes[..sizes.1.min(2178)];
     let mut course = Course {
         handed: 0,
+        waits: 0,
         sent: 0,
         bads: 0,
         fates,
@@ -387,6 +399,44 @@ fn all_lists_of_six_fates(rt: HostRuntime) -> Result<(), Fail> {
         }
     }
     Ok(())
+}
+
+#[test]
+fn a_busy_target_over_all_lists_of_eight_fates(rt: HostRuntime) -> Result<(), Fail> {
+    let rows: [Sizes; 2] = [(1, 2, 1, 1, 2), (61, 62, 1, 2, 5)];
+    let mut ends = [0u32; 3];
+    for sizes in &rows {
+        for fates in (0..65536u32).filter(|fates| ends_at_its_break(*fates)) {
+            let mut target = small_target(&rt, sizes.4)?;
+            let mut initiator = Initiator::new(0);
+            let end = over_fates(&rt, &mut initiator, &mut target, sizes, fates)?;
+            count(&mut ends, end);
+        }
+    }
+    assert!(rt; ends[0] > 100 && ends[1] > 100 && ends[2] > 100, "{ends:?}");
+    Ok(())
+}
+
+/// Whether a list of eight fates has only passes behind its first Break, where nothing is sent any more.
+fn ends_at_its_break(fates: u32) -> bool {
+    let mut rest = fates;
+    for _ in 0..8 {
+        if rest % 4 == 3 {
+            return rest == 3;
+        }
+        rest /= 4;
+    }
+    true
+}
+
+/// Counts one end more of its kind.
+fn count(ends: &mut [u32; 3], end: End) {
+    let at = match end {
+        End::Replied => 0,
+        End::SixBad => 1,
+        End::FieldLost => 2,
+    };
+    ends[at] = ends[at].saturating_add(1);
 }
 
 #[test]

@@ -265,11 +265,12 @@ enum End {
     FieldLost,
 }
 
-/// How often the card obeyed the command of an exchange, how many transmissions and bad receptions it took, and the
-/// fates that are left, two bits each.
+/// How often the card obeyed the command of an exchange, how often it was heard to ask for more time, how many
+/// transmissions and bad receptions the exchange took, and the fates that are left, two bits each.
 #[derive(Debug, Drop)]
 struct Course {
     obeyed: u32,
+    waits: u32,
     sent: u32,
     bads: u32,
     fates: u32,
@@ -340,8 +341,12 @@ fn exchange<R: Abort>(
             Some(heard) => heard,
             None => return Ok(End::FieldLost),
         };
-        if !matches!(heard, Heard::Whole(_)) {
-            course.bads = course.bads.saturating_add(1);
+        match &heard {
+            Heard::Whole(block) if block.view().first() == Some(&0xF2) => {
+                course.waits = course.waits.saturating_add(1)
+            }
+            Heard::Whole(_) => {}
+            _ => course.bads = course.bads.saturating_add(1),
         }
         match reader.next(&heard) {
             ReaderStep::Send(next) => frame = next,
@@ -357,24 +362,31 @@ fn exchange<R: Abort>(
     Ok(End::FieldLost)
 }
 
+/// A command and an answer of these sizes, the blocks of at most 13 bytes that they take, and how often the card asks for
+/// more time.
+type Sizes = (usize, usize, u32, u32, u8);
+
 /// Whether an exchange went as the law has it: the card obeyed at most once, and exactly once where it was answered; with
-/// so many blocks out and back, and b bad receptions, at most 2 (out + back - 1) + 4 b transmissions.
-fn is_lawful(course: &Course, end: End, out: u32, back: u32) -> bool {
+/// so many blocks out and back, K extensions and b bad receptions, at most 2 (out + back - 1) + 2 K + 4 b transmissions;
+/// and no more is asked for time than K times and once for each bad reception.
+fn is_lawful(course: &Course, end: End, sizes: &Sizes) -> bool {
     let once = match end {
         End::Answered => course.obeyed == 1,
         End::SixBad => course.obeyed <= 1 && course.bads >= 6,
         End::FieldLost => course.obeyed <= 1,
     };
-    let back = if course.obeyed == 0 { 1 } else { back };
-    let rounds = out.saturating_add(back).saturating_sub(1);
+    let busy = sizes.4 as u32;
+    let back = if course.obeyed == 0 {
+        1
+    } else {
+        sizes.3.saturating_add(busy)
+    };
+    let rounds = sizes.2.saturating_add(back).saturating_sub(1);
     let most = rounds
         .saturating_mul(2)
         .saturating_add(course.bads.saturating_mul(4));
-    once && course.sent <= most
+    once && course.sent <= most && course.waits <= busy.saturating_add(course.bads)
 }
-
-/// A command and an answer of these sizes, and the blocks of at most 13 bytes that they take.
-type Sizes = (usize, usize, u32, u32);
 
 /// One exchange over these fates. Where it is answered the next one, over air in which all pass, takes as few
 /// transmissions as it can.
@@ -390,31 +402,37 @@ fn over_fates<R: Abort>(
     let answer = &bytes[..sizes.1.min(264)];
     let mut course = Course {
         obeyed: 0,
+        waits: 0,
         sent: 0,
         bads: 0,
         fates,
     };
     let end = exchange(rt, reader, card, command, answer, &mut course)?;
-    assert!(rt; is_lawful(&course, end, sizes.2, sizes.3), "over {fates:x}");
+    assert!(rt; is_lawful(&course, end, sizes), "over {fates:x}");
     Ok(end)
 }
 
-/// A card that heard RATS.
-fn lit_card(rats: &Frame, code: u8) -> CardEnd
-    requires { code ≤ 8 }
-{
-    let mut card = CardEnd::new(code);
+/// A card that heard RATS, and asks so often for more time.
+fn lit_card(rats: &Frame, times: u8) -> CardEnd {
+    let mut card = CardEnd::new(0);
     let _ = card.hear(rats);
+    card.set_busy(times.min(5), 7);
     card
 }
 
 #[test]
 fn all_lists_of_five_fates(rt: HostRuntime) -> Result<(), Fail> {
     let rats = Frame::whole(Tech::A, &[0xE0, 0])?;
-    let rows: [Sizes; 4] = [(1, 2, 1, 1), (14, 13, 2, 1), (13, 14, 1, 2), (27, 40, 3, 4)];
+    let rows: [Sizes; 5] = [
+        (1, 2, 1, 1, 0),
+        (14, 13, 2, 1, 0),
+        (13, 14, 1, 2, 0),
+        (27, 40, 3, 4, 0),
+        (27, 40, 3, 4, 3),
+    ];
     for sizes in &rows {
         for fates in 0..1024u32 {
-            let mut card = lit_card(&rats, 0);
+            let mut card = lit_card(&rats, sizes.4);
             let mut reader = ReaderEnd::new(0);
             let end = over_fates(&rt, &mut reader, &mut card, sizes, fates)?;
             if end == End::Answered {
@@ -426,6 +444,45 @@ fn all_lists_of_five_fates(rt: HostRuntime) -> Result<(), Fail> {
     Ok(())
 }
 
+/// Whether a list of eight fates has only passes behind its first Break, where nothing is sent any more.
+fn ends_at_its_break(fates: u32) -> bool {
+    let mut rest = fates;
+    for _ in 0..8 {
+        if rest % 4 == 3 {
+            return rest == 3;
+        }
+        rest /= 4;
+    }
+    true
+}
+
+/// Counts one end more of its kind.
+fn count(ends: &mut [u32; 3], end: End) {
+    let at = match end {
+        End::Answered => 0,
+        End::SixBad => 1,
+        End::FieldLost => 2,
+    };
+    ends[at] = ends[at].saturating_add(1);
+}
+
+#[test]
+fn a_busy_card_over_all_lists_of_eight_fates(rt: HostRuntime) -> Result<(), Fail> {
+    let rats = Frame::whole(Tech::A, &[0xE0, 0])?;
+    let rows: [Sizes; 2] = [(1, 2, 1, 1, 2), (13, 14, 1, 2, 5)];
+    let mut ends = [0u32; 3];
+    for sizes in &rows {
+        for fates in (0..65536u32).filter(|fates| ends_at_its_break(*fates)) {
+            let mut card = lit_card(&rats, sizes.4);
+            let mut reader = ReaderEnd::new(0);
+            let end = over_fates(&rt, &mut reader, &mut card, sizes, fates)?;
+            count(&mut ends, end);
+        }
+    }
+    assert!(rt; ends[0] > 100 && ends[1] > 100 && ends[2] > 100, "{ends:?}");
+    Ok(())
+}
+
 /// The number after one in a long row of numbers.
 fn shuffled(number: u32) -> u32 {
     number.wrapping_mul(1_664_525).wrapping_add(1_013_904_223)
@@ -434,7 +491,7 @@ fn shuffled(number: u32) -> u32 {
 #[test]
 fn lists_of_twelve_fates(rt: HostRuntime) -> Result<(), Fail> {
     let rats = Frame::whole(Tech::A, &[0xE0, 0])?;
-    let sizes: Sizes = (27, 40, 3, 4);
+    let sizes: Sizes = (27, 40, 3, 4, 0);
     let mut card = lit_card(&rats, 0);
     let mut reader = ReaderEnd::new(0);
     let mut number = 1u32;
@@ -446,12 +503,7 @@ fn lists_of_twelve_fates(rt: HostRuntime) -> Result<(), Fail> {
             fates &= !((fates & (fates >> 1) & 0x55_5555) << 1);
         }
         let end = over_fates(&rt, &mut reader, &mut card, &sizes, fates)?;
-        let at = match end {
-            End::Answered => 0,
-            End::SixBad => 1,
-            End::FieldLost => 2,
-        };
-        ends[at] = ends[at].saturating_add(1);
+        count(&mut ends, end);
         if end != End::Answered {
             card = lit_card(&rats, 0);
             reader = ReaderEnd::new(0);
@@ -466,7 +518,7 @@ fn longest_chains_both_ways(rt: HostRuntime) -> Result<(), Fail> {
     let rats = Frame::whole(Tech::A, &[0xE0, 0])?;
     let mut card = lit_card(&rats, 0);
     let mut reader = ReaderEnd::new(0);
-    let end = over_fates(&rt, &mut reader, &mut card, &(264, 264, 21, 21), 0)?;
+    let end = over_fates(&rt, &mut reader, &mut card, &(264, 264, 21, 21, 0), 0)?;
     assert_eq!(rt; end, End::Answered);
     Ok(())
 }
