@@ -1,9 +1,14 @@
 -- One step of a listener: what it asks of the far end above it, and what follows from the reply.
-use Rattle.std.specs.Prelude.{◌≡◌, ℕ, List, Bool, true, Option, None}
+use Rattle.std.specs.Prelude.{◌≡◌, ℕ, List, Bool, true, false, Option, Some, None}
 use Rattle.nfc_base.specs.Signal.{Signal}
 use Rattle.nfc_base.specs.Far.{FarUse, Hands, FarDid}
 use Rattle.nfc_base.specs.declared.frame.Tech.{Tech}
 use Rattle.nfc_base.specs.TagLinks.{TagState, TagStep}
+
+-- What a listener says that was given a place for its answer: the frame that stands there then, or nothing.
+abbrev pub said_at : Bool → Signal → Option Signal
+said_at true place = Some place
+said_at false place = None
 
 -- The far end did what was asked of it. The answer, and what the listener is after, are these functions of the reply.
 pub record Step {L A : Type 0} (restarts : A → List ℕ → A → Type 0) (steps : A → List ℕ → List ℕ → A → Type 0) (asked : FarUse) (answers : Option (List ℕ) → Option Signal) (leaves : Option (List ℕ) → L) (old : A) (answer : Option Signal) (after : L) (new : A) : Type 0 where

@@ -9,7 +9,7 @@ ghost use Rattle.air_core.specs.Lends.{lends_listener};
 ghost use Rattle.air_core.specs.Settling.{settled};
 ghost use Rattle.air_core.specs.declared.fault.AirFault.TheVariants.{FieldLost, Memory};
 
-use crate::answers::Answers;
+use crate::answers::{Answers, Joined};
 use crate::bits::first_bits;
 use crate::fates::{next_fate, note, push_all};
 use crate::fault::AirFault;
@@ -189,18 +189,20 @@ impl<L: Listener> Field<L> {
             Fate::Break => return self.settle(Heard::Silent, fate),
             Fate::Pass => {}
         }
-        let Ok(answers) = hear_all(self.alloc, &mut self.listeners, request, far) else {
+        let mut answers = Answers::none();
+        let Ok(()) = hear_all(self.alloc, &mut self.listeners, request, far, &mut answers) else {
             return Err(AirFault::Memory);
         };
-        match answers {
-            Answers::Nothing => Ok(Heard::Silent),
-            Answers::Alike(answer) => {
+        let Answers { joined, first, .. } = answers;
+        match joined {
+            Joined::Nothing => Ok(Heard::Silent),
+            Joined::Alike => {
                 let fate = next_fate(&mut self.fates);
-                let frame = answer.copy();
+                let frame = first.copy();
                 note(&mut self.trace, Event::Answer { frame, fate });
-                self.settle(Heard::Whole(answer), fate)
+                self.settle(Heard::Whole(first), fate)
             }
-            Answers::Differing { first, shared } => {
+            Joined::Differing { shared } => {
                 let fate = next_fate(&mut self.fates);
                 let clash = first_bits(&first, shared);
                 let frame = clash.copy();

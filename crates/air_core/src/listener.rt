@@ -6,7 +6,7 @@ ghost use Rattle.nfc_base.specs.Far.{Untouched, Hands};
 ghost use Rattle.nfc_base.specs.TagLinks.{TagState, TagStep, IsAddressedIn};
 ghost use Rattle.nfc_base.specs.declared.frame.Tech.TheVariants as techs;
 ghost use Rattle.air_core.specs.World.{Machine};
-ghost use Rattle.air_core.specs.Listening.{Step, Stop, StaysSame};
+ghost use Rattle.air_core.specs.Listening.{Step, Stop, StaysSame, said_at};
 
 use nfc_base::{Answerer, Frame, Tech};
 use std::alloc::{AllocError, Global};
@@ -56,6 +56,31 @@ pub trait Listener {
         ensures err { OnErr result
             (Stop A.stops A.is_stuck (machine.handed self.old frame.now)
             (machine.after self.old frame.now) far.old self.new far.new) };
+
+    /// The same step, whose answer is put into a place of the caller's: `true` where there is one. The field calls it for
+    /// every listener at every request, and most are silent: so a frame is moved only where there is one.
+    fn hear_into<A: Answerer>(
+        &mut self,
+        alloc: Global,
+        frame: &Frame,
+        far: &mut A,
+        answer: &mut Frame,
+    ) -> Result<bool, AllocError>
+        ensures ok { IfOk result (λ said. Step A.restarts A.steps (machine.handed self.old frame.now)
+            (machine.answer self.old frame.now) (machine.after self.old frame.now) far.old
+            (said_at said answer.new) self.new far.new) }
+        ensures err { OnErr result
+            (Stop A.stops A.is_stuck (machine.handed self.old frame.now)
+            (machine.after self.old frame.now) far.old self.new far.new) }
+    {
+        match self.hear(alloc, frame, far)? {
+            None => Ok(false),
+            Some(said) => {
+                *answer = said;
+                Ok(true)
+            }
+        }
+    }
 
     /// What is handed over has at most 2,178 bytes.
     ghost bounded: { (l : Self) (f : Signal) (payload : List ℕ) → machine.handed l f ≡ Hands payload

@@ -11,6 +11,8 @@ use Rattle.nfca_poll.specs.declared.kind.Kind.{Kind}
 use Rattle.nfca_poll.specs.declared.kind.Kind.TheVariants.{T2, T4, Peer}
 use Rattle.nfca_poll.specs.declared.upper.UpStep.{UpStep}
 use Rattle.nfca_poll.specs.declared.upper.UpStep.TheVariants as steps
+use Rattle.nfca_poll.specs.declared.upper.UpKind.{UpKind}
+use Rattle.nfca_poll.specs.declared.upper.UpKind.TheVariants as kinds
 
 -- What machines of one type do. At a frame a machine may hand something to the far end; what it says and what it is
 -- after are functions of the machine, the frame and the far end's reply, if there was one.
@@ -42,6 +44,14 @@ answer_in steps.Quiet = None
 answer_in (steps.Reply g) = Some g
 answer_in (steps.Sleep g) = Some g
 answer_in (steps.Idle g) = Some g
+
+-- what a machine says that was given a place for its answer
+abbrev pub step_at : UpKind → Signal → UpStep
+step_at kinds.Foreign place = steps.Foreign
+step_at kinds.Quiet place = steps.Quiet
+step_at kinds.Reply place = steps.Reply place
+step_at kinds.Sleep place = steps.Sleep place
+step_at kinds.Idle place = steps.Idle place
 
 -- Which frames are the machine's, by its kind. A Type 2 tag takes READ and WRITE. A Type 4 tag takes RATS, a peer a
 -- well-formed ATR_REQ; either opens a link, which takes every frame.

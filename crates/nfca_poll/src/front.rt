@@ -1,6 +1,7 @@
 //! The listener front of an NFC-A device.
 
 ghost use Rattle.std.specs.Prelude.{◌≡◌, ◌≤◌, length, Bool};
+ghost use Rattle.air_core.specs.Listening.{said_at};
 ghost use Rattle.nfca_poll.specs.Levels.{levels};
 ghost use Rattle.nfca_poll.specs.Calls.{Calls, Sdd, Sel, call_of, is_sdd, is_sel, known_bits, named_level};
 ghost use Rattle.nfca_poll.specs.Front.{Off, Ready, sens_res, sel_res, home, front_says, front_next};
@@ -10,7 +11,7 @@ use crate::call::CallKind;
 use crate::ident::Ident;
 use crate::kind::Kind;
 use crate::level::Level;
-use crate::upper::{UpStep, Upper};
+use crate::upper::{UpKind, Upper};
 use air_core::Listener;
 use nfc_base::{Answerer, Frame, Tech};
 use std::alloc::{AllocError, Global};
@@ -106,13 +107,13 @@ impl<U: Upper> Front<U> {
     }
 
     /// A frame that isn't of the machine above.
-    fn take(&mut self, frame: &Frame) -> Option<Frame>
-        ensures answer { result ≡ plain_answer U.machine self.old frame.now }
+    fn take(&mut self, frame: &Frame, answer: &mut Frame) -> bool
+        ensures answer { said_at result answer.new ≡ plain_answer U.machine self.old frame.now }
         ensures step { self.new ≡ plain_after U.machine self.old frame.now }
     {
-        let step = step_at(&self.id, self.upper.kind(), self.state, frame);
+        let step = step_at(&self.id, self.upper.kind(), self.state, frame, answer);
         self.go(step.state);
-        step.answer
+        step.said
     }
 }
 
@@ -151,22 +152,37 @@ impl<U: Upper> Listener for Front<U> {
         frame: &Frame,
         far: &mut A,
     ) -> Result<Option<Frame>, AllocError> {
+        let mut answer = Frame::whole(Tech::A, &[]).unwrap();
+        if self.hear_into(alloc, frame, far, &mut answer)? {
+            Ok(Some(answer))
+        } else {
+            Ok(None)
+        }
+    }
+
+    fn hear_into<A: Answerer>(
+        &mut self,
+        alloc: Global,
+        frame: &Frame,
+        far: &mut A,
+        answer: &mut Frame,
+    ) -> Result<bool, AllocError> {
         match self.state {
             FrontState::Active { .. } => {}
             FrontState::Off | FrontState::Idle | FrontState::Sleep | FrontState::Ready { .. } =>
-                return Ok(self.take(frame)),
+                return Ok(self.take(frame, answer)),
         }
-        match self.upper.hear(alloc, frame, far)? {
-            UpStep::Foreign => Ok(self.take(frame)),
-            UpStep::Quiet => Ok(None),
-            UpStep::Reply(answer) => Ok(Some(answer)),
-            UpStep::Sleep(answer) => {
+        match self.upper.hear_into(alloc, frame, far, answer)? {
+            UpKind::Foreign => Ok(self.take(frame, answer)),
+            UpKind::Quiet => Ok(false),
+            UpKind::Reply => Ok(true),
+            UpKind::Sleep => {
                 self.go(FrontState::Sleep);
-                Ok(Some(answer))
+                Ok(true)
             }
-            UpStep::Idle(answer) => {
+            UpKind::Idle => {
                 self.go(FrontState::Idle);
-                Ok(Some(answer))
+                Ok(true)
             }
         }
     }
@@ -192,62 +208,65 @@ impl<U: Upper> Listener for Front<U> {
     ghost ignores = { ignores U.machine };
 }
 
-/// What a step of a front comes to.
-#[derive(Debug, Drop)]
+/// What a step of a front comes to: its state, and whether its answer stands in the place that it was given.
+#[derive(Clone, Copy, Debug)]
 struct Step {
     state: FrontState,
-    answer: Option<Frame>,
+    said: bool,
 }
 
 impl Step {
     fn silent(state: FrontState) -> Step
-        ensures { result ≡ record { state = state; answer = None } }
+        ensures { result ≡ record { state = state; said = Bool.false } }
     {
-        Step {
-            state,
-            answer: None,
-        }
+        Step { state, said: false }
+    }
+
+    /// A device says this, and goes to this state.
+    fn says(state: FrontState, said: Frame, answer: &mut Frame) -> Step
+        ensures step { result ≡ record { state = state; said = Bool.true } }
+        ensures answer { answer.new ≡ said }
+    {
+        *answer = said;
+        Step { state, said: true }
     }
 
     /// A device answers SENS_REQ or ALL_REQ.
-    fn wakes(id: &Ident, starred: bool) -> Step
-        ensures { result ≡ record {
-          state = FrontState.Ready 1 starred;
-          answer = Some (sens_res (length (levels id.now)));
-        } }
+    fn wakes(id: &Ident, starred: bool, answer: &mut Frame) -> Step
+        ensures step { result ≡ record { state = FrontState.Ready 1 starred; said = Bool.true } }
+        ensures answer { answer.new ≡ sens_res (length (levels id.now)) }
     {
         let first = SENS_RES[Level::count(id) as usize - 1];
-        Step {
-            state: FrontState::Ready { level: 1, starred },
-            answer: Some(Frame::whole(Tech::A, &[first, 0]).unwrap()),
-        }
+        let said = Frame::whole(Tech::A, &[first, 0]).unwrap();
+        Step::says(FrontState::Ready { level: 1, starred }, said, answer)
     }
 }
 
 /// The step of a front at a frame that isn't of the machine above it.
-fn step_at(id: &Ident, kind: Kind, state: FrontState, frame: &Frame) -> Step
+fn step_at(id: &Ident, kind: Kind, state: FrontState, frame: &Frame, answer: &mut Frame) -> Step
     requires { HasLevel (length (levels id.now)) (front_of state) }
     ensures state { front_of result.state ≡ front_next (levels id.now) (front_of state) (call_of frame.now) }
-    ensures answer { result.answer ≡ front_says (levels id.now) kind (front_of state) (call_of frame.now) }
+    ensures answer { said_at result.said answer.new
+        ≡ front_says (levels id.now) kind (front_of state) (call_of frame.now) }
     ensures level { HasLevel (length (levels id.now)) (front_of result.state) }
 {
     let call = CallKind::read_from(frame);
     match state {
         FrontState::Off => Step::silent(FrontState::Off),
         FrontState::Idle => match call {
-            Some(CallKind::Sens | CallKind::All) => Step::wakes(id, false),
+            Some(CallKind::Sens | CallKind::All) => Step::wakes(id, false, answer),
             _ => Step::silent(FrontState::Idle),
         },
         FrontState::Sleep => match call {
-            Some(CallKind::All) => Step::wakes(id, true),
+            Some(CallKind::All) => Step::wakes(id, true, answer),
             _ => Step::silent(FrontState::Sleep),
         },
         FrontState::Ready { level, starred } => match call {
-            Some(CallKind::Sdd { level: asked }) => {
-                step_at_sdd(id, kind, level, starred, asked, frame)
+            Some(CallKind::Sdd { level: asked }) if asked == level => {
+                step_at_sdd(id, kind, level, starred, frame, answer)
             }
-            Some(CallKind::Sel { level: asked }) => {
-                step_at_sel(id, kind, level, starred, asked, frame)
+            Some(CallKind::Sel { level: asked }) if asked == level => {
+                step_at_sel(id, kind, level, starred, frame, answer)
             }
             _ => Step::silent(home(starred)),
         },
@@ -258,54 +277,65 @@ fn step_at(id: &Ident, kind: Kind, state: FrontState, frame: &Frame) -> Step
     }
 }
 
-/// A device that is ready hears SDD_REQ of some level.
-fn step_at_sdd(id: &Ident, kind: Kind, level: u8, starred: bool, asked: u8, frame: &Frame) -> Step
+/// A device that is ready hears SDD_REQ of its level.
+fn step_at_sdd(
+    id: &Ident,
+    kind: Kind,
+    level: u8,
+    starred: bool,
+    frame: &Frame,
+    answer: &mut Frame,
+) -> Step
     requires sdd { is_sdd frame.now ≡ Bool.true }
     requires low { 1 ≤ level }
     requires high { level ≤ length (levels id.now) }
     ensures state { front_of result.state
-        ≡ front_next (levels id.now) (Ready level starred) (Calls (Sdd asked (known_bits frame.now))) }
-    ensures answer { result.answer
-        ≡ front_says (levels id.now) kind (Ready level starred) (Calls (Sdd asked (known_bits frame.now))) }
+        ≡ front_next (levels id.now) (Ready level starred) (Calls (Sdd level (known_bits frame.now))) }
+    ensures answer { said_at result.said answer.new
+        ≡ front_says (levels id.now) kind (Ready level starred) (Calls (Sdd level (known_bits frame.now))) }
     ensures level { HasLevel (length (levels id.now)) (front_of result.state) }
 {
     let own = Level::of(id, level);
-    if asked != level || !own.begins_with(frame) {
+    if !own.begins_with(frame) {
         return Step::silent(home(starred));
     }
-    Step {
-        state: FrontState::Ready { level, starred },
-        answer: Some(own.rest(frame)),
-    }
+    Step::says(
+        FrontState::Ready { level, starred },
+        own.rest(frame),
+        answer,
+    )
 }
 
-/// A device that is ready hears SEL_REQ of some level.
-fn step_at_sel(id: &Ident, kind: Kind, level: u8, starred: bool, asked: u8, frame: &Frame) -> Step
+/// A device that is ready hears SEL_REQ of its level.
+fn step_at_sel(
+    id: &Ident,
+    kind: Kind,
+    level: u8,
+    starred: bool,
+    frame: &Frame,
+    answer: &mut Frame,
+) -> Step
     requires sel { is_sel frame.now ≡ Bool.true }
     requires low { 1 ≤ level }
     requires high { level ≤ length (levels id.now) }
     ensures state { front_of result.state
-        ≡ front_next (levels id.now) (Ready level starred) (Calls (Sel asked (named_level frame.now))) }
-    ensures answer { result.answer
-        ≡ front_says (levels id.now) kind (Ready level starred) (Calls (Sel asked (named_level frame.now))) }
+        ≡ front_next (levels id.now) (Ready level starred) (Calls (Sel level (named_level frame.now))) }
+    ensures answer { said_at result.said answer.new
+        ≡ front_says (levels id.now) kind (Ready level starred) (Calls (Sel level (named_level frame.now))) }
     ensures level { HasLevel (length (levels id.now)) (front_of result.state) }
 {
-    if asked != level || !Level::of(id, level).is_named_by(frame) {
+    if !Level::of(id, level).is_named_by(frame) {
         return Step::silent(home(starred));
     }
     if level < Level::count(id) {
-        return Step {
-            state: FrontState::Ready {
-                level: level + 1,
-                starred,
-            },
-            answer: Some(Frame::whole(Tech::A, &[MORE_LEVELS]).unwrap()),
+        let next = FrontState::Ready {
+            level: level + 1,
+            starred,
         };
+        let said = Frame::whole(Tech::A, &[MORE_LEVELS]).unwrap();
+        return Step::says(next, said, answer);
     }
-    Step {
-        state: FrontState::Active { starred },
-        answer: Some(sel_res(kind)),
-    }
+    Step::says(FrontState::Active { starred }, sel_res(kind), answer)
 }
 
 /// SEL_RES of a device that is selected (NFC Forum Digital Protocol).

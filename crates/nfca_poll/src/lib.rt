@@ -31,7 +31,7 @@ pub use kind::Kind;
 pub use level::Level;
 pub use resolution::resolve;
 pub use rounds::{find_all, pick};
-pub use upper::{UpStep, Upper};
+pub use upper::{UpKind, UpStep, Upper};
 
 #[cfg(test)]
 mod tests;

@@ -4,7 +4,7 @@ ghost use Rattle.std.specs.Prelude.{◌≡◌, ℕ, List, Bool, false, Option, N
 ghost use Rattle.nfc_base.specs.Signal.{Signal};
 ghost use Rattle.nfc_base.specs.TagLinks.{TagState, TagStep};
 ghost use Rattle.air_core.specs.Listening.{Stop};
-ghost use Rattle.nfca_poll.specs.Upper.{UpperMachine, UpperStep, IsUpper};
+ghost use Rattle.nfca_poll.specs.Upper.{UpperMachine, UpperStep, IsUpper, step_at};
 
 use crate::kind::Kind;
 use nfc_base::{Answerer, Frame};
@@ -20,6 +20,16 @@ pub enum UpStep {
     Reply(Frame),
     Sleep(Frame),
     Idle(Frame),
+}
+
+/// The same, of a machine that was given a place for its answer.
+#[derive(Clone, Copy, Debug)]
+pub enum UpKind {
+    Foreign,
+    Quiet,
+    Reply,
+    Sleep,
+    Idle,
 }
 
 /// What a device is once it is selected: a tag, or the near end of a link. `Front` hands it frames in the state
@@ -60,6 +70,32 @@ pub trait Upper {
         ensures err { OnErr result
             (Stop A.stops A.is_stuck (machine.handed self.old frame.now)
             (machine.after self.old frame.now) far.old self.new far.new) };
+
+    /// The same step, whose answer is put into a place of the caller's, which the front calls.
+    fn hear_into<A: Answerer>(
+        &mut self,
+        alloc: Global,
+        frame: &Frame,
+        far: &mut A,
+        answer: &mut Frame,
+    ) -> Result<UpKind, AllocError>
+        ensures ok { IfOk result (λ k. UpperStep A.restarts A.steps (machine.handed self.old frame.now)
+            (machine.says self.old frame.now) (machine.after self.old frame.now) far.old
+            (step_at k answer.new) self.new far.new) }
+        ensures err { OnErr result
+            (Stop A.stops A.is_stuck (machine.handed self.old frame.now)
+            (machine.after self.old frame.now) far.old self.new far.new) }
+    {
+        let (kind, said) = match self.hear(alloc, frame, far)? {
+            UpStep::Foreign => return Ok(UpKind::Foreign),
+            UpStep::Quiet => return Ok(UpKind::Quiet),
+            UpStep::Reply(said) => (UpKind::Reply, said),
+            UpStep::Sleep(said) => (UpKind::Sleep, said),
+            UpStep::Idle(said) => (UpKind::Idle, said),
+        };
+        *answer = said;
+        Ok(kind)
+    }
 
     /// It takes exactly the frames that its kind has as its own, with all that `IsUpper` lists.
     ghost laws: { IsUpper machine store commands is_open attributes };

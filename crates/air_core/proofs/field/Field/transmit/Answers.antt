@@ -6,11 +6,11 @@ use Rattle.nfc_base.specs.declared.event.Heard.TheVariants.{Whole, Collided}
 use Rattle.nfc_base.specs.Bits.{bits_of, of_bits}
 use Rattle.air_core.specs.Conversation.{first_fate, later_fates}
 use Rattle.air_core.specs.Joint.{Joint, joint, Nothing, Single, Clashing}
-use Rattle.air_core.specs.Joining.{joint_with}
+use Rattle.air_core.specs.Joining.{joined_with}
 use Rattle.air_core.specs.Settling.{settled}
 use Rattle.air_core.specs.World.{came_back}
 use Rattle.air_core.specs.Turn.{world}
-use Rattle.air_core.specs.Joining.{IsJoined}
+use Rattle.air_core.specs.Joining.{AreOf}
 use Rattle.nfc_base.specs.Signal.{Signal}
 use Rattle.air_core.proofs.FirstBits.{first_of}
 use Rattle.air_core.proofs.Transmitting.{transmits_silence, transmits_answer, transmits_clash, transmits_stop}
@@ -30,7 +30,7 @@ returns-in-Nothing-clause-turn g c =
     let pass : first_fate c.args.self.now.fates ≡ Pass = grind (arith, common_steps) in
     let from : c.deref_mut.result.now ≡ c.args.self.now.listeners = grind (arith, common_steps) in
     let told = c.in-Ok.ensures.ok in
-    let joins : Nothing ≡ joint told.0 = sym (ap (λ a. joint_with a []) c.in-Nothing.is) ∙ told.2 in
+    let joins : Nothing ≡ joint told.0 = sym (ap (λ j. joined_with j c.hear_all.new.answers.first []) c.in-Nothing.is) ∙ told.2 in
     transmits_silence g.L.Listener.machine g.A.Answerer.restarts g.A.Answerer.steps g.A.Answerer.stops g.A.Answerer.is_stuck c.args.self.now c.args.request.now c.args.far.now
     c.deref_mut.result.now _ c.hear_all.new.far told.0 c.hear_all.new.listeners lit pass from told.1 joins (grind (arith, common_steps))
 
@@ -40,14 +40,14 @@ returns-in-Alike-clause-turn g c =
     let pass : first_fate c.args.self.now.fates ≡ Pass = grind (arith, common_steps) in
     let from : c.deref_mut.result.now ≡ c.args.self.now.listeners = grind (arith, common_steps) in
     let told = c.in-Ok.ensures.ok in
-    let joins : Single c.in-Alike.answer ≡ joint told.0 = sym (ap (λ a. joint_with a []) c.in-Alike.is) ∙ told.2 in
+    let joins : Single c.hear_all.new.answers.first ≡ joint told.0 = sym (ap (λ j. joined_with j c.hear_all.new.answers.first []) c.in-Alike.is) ∙ told.2 in
     let fate : c.next_fate-fate-in-Alike.result ≡ first_fate (later_fates c.args.self.now.fates) = grind (arith, common_steps) in
-    let is : c.settle-in-Alike.result ≡ settled (Whole c.in-Alike.answer) c.next_fate-fate-in-Alike.result = c.settle-in-Alike.ensures.result in
+    let is : c.settle-in-Alike.result ≡ settled (Whole c.hear_all.new.answers.first) c.next_fate-fate-in-Alike.result = c.settle-in-Alike.ensures.result in
     let left : world c.settle-in-Alike.new.self ≡ came_back g.L.Listener.machine (record { lit = true; listeners = c.hear_all.new.listeners }) c.next_fate-fate-in-Alike.result = grind (arith, common_steps) in
     let fates : c.settle-in-Alike.new.self.fates ≡ later_fates (later_fates c.args.self.now.fates) = grind (arith, common_steps) in
-    let trace : c.settle-in-Alike.new.self.trace ≡ (c.args.self.now.trace ++ Request c.args.request.now Pass ∷ []) ++ Answer c.in-Alike.answer c.next_fate-fate-in-Alike.result ∷ [] = grind (arith, common_steps) in
+    let trace : c.settle-in-Alike.new.self.trace ≡ (c.args.self.now.trace ++ Request c.args.request.now Pass ∷ []) ++ Answer c.hear_all.new.answers.first c.next_fate-fate-in-Alike.result ∷ [] = grind (arith, common_steps) in
     transmits_answer g.L.Listener.machine g.A.Answerer.restarts g.A.Answerer.steps g.A.Answerer.stops g.A.Answerer.is_stuck c.args.self.now c.args.request.now c.args.far.now
-    c.deref_mut.result.now c.settle-in-Alike.new.self c.hear_all.new.far told.0 c.hear_all.new.listeners c.settle-in-Alike.result c.in-Alike.answer c.next_fate-fate-in-Alike.result
+    c.deref_mut.result.now c.settle-in-Alike.new.self c.hear_all.new.far told.0 c.hear_all.new.listeners c.settle-in-Alike.result c.hear_all.new.answers.first c.next_fate-fate-in-Alike.result
     lit pass from told.1 joins fate is left fates trace
 
 pub returns-in-Differing-clause-turn : goal.returns-in-Differing-clause-turn
@@ -56,12 +56,12 @@ returns-in-Differing-clause-turn g c =
     let pass : first_fate c.args.self.now.fates ≡ Pass = grind (arith, common_steps) in
     let from : c.deref_mut.result.now ≡ c.args.self.now.listeners = grind (arith, common_steps) in
     let told = c.in-Ok.ensures.ok in
-    let fits : c.in-Differing.shared ≤ 8 * length c.in-Differing.first.bytes = subst IsJoined c.in-Differing.is c.in-Ok.ensures.fits in
+    let fits : c.in-Differing.shared ≤ 8 * length c.hear_all.new.answers.first.bytes = subst (λ j. AreOf j c.hear_all.new.answers.first) c.in-Differing.is c.in-Ok.ensures.fits in
     let clash : Signal = c.first_bits-clash.result in
-    let cut : clash ≡ of_bits c.in-Differing.first.tech (take c.in-Differing.shared (bits_of c.in-Differing.first.bytes)) =
-    first_of c.in-Differing.first clash c.in-Differing.shared fits c.first_bits-clash.ensures.tech c.first_bits-clash.ensures.bytes c.first_bits-clash.ensures.tail in
+    let cut : clash ≡ of_bits c.hear_all.new.answers.first.tech (take c.in-Differing.shared (bits_of c.hear_all.new.answers.first.bytes)) =
+    first_of c.hear_all.new.answers.first clash c.in-Differing.shared fits c.first_bits-clash.ensures.tech c.first_bits-clash.ensures.bytes c.first_bits-clash.ensures.tail in
     let C : Signal → Joint = λ x. Clashing x in
-    let joins : Clashing clash ≡ joint told.0 = ap C cut ∙ sym (ap (λ a. joint_with a []) c.in-Differing.is) ∙ told.2 in
+    let joins : Clashing clash ≡ joint told.0 = ap C cut ∙ sym (ap (λ j. joined_with j c.hear_all.new.answers.first []) c.in-Differing.is) ∙ told.2 in
     let fate : c.next_fate-fate-in-Differing.result ≡ first_fate (later_fates c.args.self.now.fates) = grind (arith, common_steps) in
     let is : c.settle-in-Differing.result ≡ settled (Collided clash) c.next_fate-fate-in-Differing.result = c.settle-in-Differing.ensures.result in
     let left : world c.settle-in-Differing.new.self ≡ came_back g.L.Listener.machine (record { lit = true; listeners = c.hear_all.new.listeners }) c.next_fate-fate-in-Differing.result = grind (arith, common_steps) in
