@@ -1,8 +1,10 @@
 //! The devices of the bench.
 
-ghost use Rattle.std.specs.Prelude.{◌≡◌, ◌<◌, ◌≤◌, true, false};
+ghost use Rattle.std.specs.Prelude.{◌≡◌, ◌<◌, ◌≤◌, true, false, if◌then◌else◌, None};
+ghost use Rattle.air_core.specs.Listening.{said_at};
 ghost use Rattle.t2t_tag.specs.Store as t2;
 ghost use Rattle.t5t_tag.specs.Store as t5;
+ghost use Rattle.t5t_tag.specs.Step.{t5_answer, t5_after};
 ghost use Rattle.isodep_link.specs.Card as ends;
 ghost use Rattle.isodep_link.specs.Card.{most_busy};
 ghost use Rattle.isodep_link.specs.Reader.{longest_extension};
@@ -12,7 +14,7 @@ ghost use Rattle.bench_devices.specs.Device.{said, on_link, how_of, blocks_of, d
 use air_core::Listener;
 use isodep_link::{CardEnd, CardListener, CardStep, is_rats};
 use nfc_base::{Answerer, Frame, Tech};
-use nfca_poll::{Front, Ident, Kind, UpStep, Upper};
+use nfca_poll::{Front, Ident, Kind, UpKind, UpStep, Upper};
 use std::alloc::{AllocError, Global};
 use std::marker::Model;
 use t2t_tag::T2Tag;
@@ -81,6 +83,22 @@ impl Upper for T2Upper {
         match self.tag.obey(frame) {
             Some(answer) => Ok(UpStep::Reply(answer)),
             None => Ok(UpStep::Foreign),
+        }
+    }
+
+    fn hear_into<A: Answerer>(
+        &mut self,
+        _alloc: Global,
+        frame: &Frame,
+        _far: &mut A,
+        answer: &mut Frame,
+    ) -> Result<UpKind, AllocError> {
+        match self.tag.obey(frame) {
+            Some(said) => {
+                *answer = said;
+                Ok(UpKind::Reply)
+            }
+            None => Ok(UpKind::Foreign),
         }
     }
 
@@ -232,6 +250,24 @@ impl PoweredTag {
     {
         self.tag.lock(block);
     }
+
+    /// One step, whose answer is put into a place of the caller's: `true` where there is one.
+    fn hear_into(&mut self, frame: &Frame, answer: &mut Frame) -> bool
+        ensures answer { said_at result answer.new ≡ (if self.old.lit then t5_answer self.old.tag frame.now else None) }
+        ensures step { self.new
+            ≡ (if self.old.lit then record { tag = t5_after self.old.tag frame.now; lit = true } else self.old) }
+    {
+        if !self.lit {
+            return false;
+        }
+        match self.tag.obey(frame) {
+            Some(said) => {
+                *answer = said;
+                true
+            }
+            None => false,
+        }
+    }
 }
 
 /// A device in the field.
@@ -295,6 +331,20 @@ impl Listener for Device {
             Device::T4(front) => front.hear(alloc, frame, far),
             Device::T5(powered) if powered.lit => Ok(powered.tag.obey(frame)),
             Device::T5(_) => Ok(None),
+        }
+    }
+
+    fn hear_into<A: Answerer>(
+        &mut self,
+        alloc: Global,
+        frame: &Frame,
+        far: &mut A,
+        answer: &mut Frame,
+    ) -> Result<bool, AllocError> {
+        match self {
+            Device::T2(front) => front.hear_into(alloc, frame, far, answer),
+            Device::T4(front) => front.hear_into(alloc, frame, far, answer),
+            Device::T5(powered) => Ok(powered.hear_into(frame, answer)),
         }
     }
 
