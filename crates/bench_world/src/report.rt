@@ -19,7 +19,7 @@ pub fn render(alloc: Global, entry: &Entry, quiet: bool) -> Result<Vec<u8>, Allo
     if !quiet {
         push_events(alloc, &mut text, entry.line, entry.events.as_slice())?;
     }
-    push_number(alloc, &mut text, entry.line as u64)?;
+    push_number(&mut text, entry.line as u64)?;
     text.extend_from_slice(b" ".as_slice())?;
     push_answer(alloc, &mut text, &entry.answer)?;
     text.extend_from_slice(b"\n".as_slice())?;
@@ -35,7 +35,7 @@ fn push_events(
     ensures { OnOk result (text.new.items ≡ text.old.items ++ events_text line events.now) }
 {
     'events: for event in events {
-        push_number(alloc, text, line as u64)?;
+        push_number(text, line as u64)?;
         text.extend_from_slice(b" ".as_slice())?;
         push_event(alloc, text, event)?;
         text.extend_from_slice(b"\n".as_slice())?;
@@ -77,7 +77,7 @@ fn push_frame(alloc: Global, text: &mut Vec<u8>, frame: &Frame) -> Result<(), Al
     push_hex(alloc, text, frame.view())?;
     if frame.tail() != 0 {
         text.extend_from_slice(b"/".as_slice())?;
-        push_number(alloc, text, frame.tail() as u64)?;
+        push_number(text, frame.tail() as u64)?;
     }
     Ok(())
 }
@@ -136,7 +136,7 @@ fn push_found(
     ensures { OnOk result (text.new.items ≡ text.old.items ++ found_text devices.now crowd) }
 {
     text.extend_from_slice(b"found ".as_slice())?;
-    push_number(alloc, text, devices.len() as u64)?;
+    push_number(text, devices.len() as u64)?;
     push_devices(alloc, text, devices)?;
     if crowd {
         text.extend_from_slice(b" crowd".as_slice())?;
@@ -184,11 +184,18 @@ fn push_hex(alloc: Global, text: &mut Vec<u8>, bytes: &[u8]) -> Result<(), Alloc
     text.extend_from_slice(digits.as_bytes())
 }
 
-fn push_number(alloc: Global, text: &mut Vec<u8>, n: u64) -> Result<(), AllocError>
+/// A number in decimal. It takes no memory but the text's own.
+#[tactic(auto, using(std::proofs::lemmas::Fmt::decimal_digit))]
+fn push_number(text: &mut Vec<u8>, n: u64) -> Result<(), AllocError>
     ensures { OnOk result (text.new.items ≡ text.old.items ++ decimal n) }
 {
-    let digits = n.to_string(alloc)?;
-    text.extend_from_slice(digits.as_bytes())
+    if n < 10 {
+        text.push(b'0' + n as u8)?;
+        return Ok(());
+    }
+    push_number(text, n / 10)?;
+    text.push(b'0' + (n % 10) as u8)?;
+    Ok(())
 }
 
 #[cfg(test)]
