@@ -3,7 +3,7 @@ use Rattle.std.proofs.Common.{◌≡◌, ◌<◌, ℕ, suc, ◌+◌, ◌-◌, Op
 use Rattle.llcp_link.specs.Serving.{Serving}
 use Rattle.llcp_link.specs.State.{LlcState, Queued}
 use Rattle.llcp_link.specs.Giving.{Gave, or_else, sap_after, first_from, first_of_all, informs, acknowledges, gave, gave_from, gave_behind}
-use Rattle.llcp_link.specs.Offering.{LeftBy, LeavesNext, queued_first}
+use Rattle.llcp_link.specs.Offering.{IsLonger, LeftBy, LeavesNext, part_of, queued_first}
 
 pub first_unfolds : {A : Type 0} (n i s : ℕ) (f : ℕ → Option A) → i < n → first_from (n - i) s f ≡ or_else (f s) (first_from (n - (i + 1)) (sap_after s) f)
 unfolding first_from
@@ -50,3 +50,12 @@ next_left m n i s f all a b h e (inr k) = go (f s) refl k
     go : (o : Option _) → f s ≡ o → LeftBy o b → LeavesNext m all a b
     go None q j = absurd j
     go (Some g) q j = inr (subst (λ o. LeftBy o b) (sym (found_here n i s f all g h e q)) j)
+
+-- what is due here and is longer than what is left is due first of all
+pub longer_here : {S : Type 0} (n i s : ℕ) (f : ℕ → Option (Gave S)) (all : Option (Gave S)) (room : ℕ) → i < n → all ≡ first_from (n - i) s f
+    → IsLonger room (part_of (f s)) → IsLonger room (part_of all)
+longer_here n i s f all room h e k = go (f s) refl k
+  where
+    go : (o : Option (Gave _)) → f s ≡ o → IsLonger room (part_of o) → IsLonger room (part_of all)
+    go None q j = absurd j
+    go (Some g) q j = subst (λ o. IsLonger room (part_of o)) (sym (found_here n i s f all g h e q)) j

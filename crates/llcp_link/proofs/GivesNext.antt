@@ -1,12 +1,13 @@
 -- What a client's connection gives, by the table.
-use Rattle.std.proofs.Common.{◌≡◌, ℕ, ◌&&◌, not, Bool, true, false, List, [], ◌∷◌, ◌++◌, Option, Some, None, refl, sym, ap, subst, ◌∙◌, if◌then◌else◌}
+use Rattle.std.proofs.Common.{◌≡◌, ◌<◌, arith, ℕ, ◌&&◌, not, Bool, true, false, List, [], ◌∷◌, ◌++◌, Option, Some, None, refl, sym, ap, subst, ◌∙◌, if◌then◌else◌}
 use Rattle.llcp_pdu.specs.declared.part.Part.TheVariants.{Rr}
 use Rattle.llcp_conn.specs.Conn.{ConnState, Gave as Gives, gives, gives_from, gives_ack, queued, has_room}
 use Rattle.llcp_link.specs.Serving.{Serving}
 use Rattle.llcp_link.specs.State.{LlcState, conn_from, with_conn}
 use Rattle.llcp_link.specs.Giving.{Gave, may_send, gave_conn, sends, informs_served, acknowledges_served}
 use Rattle.llcp_link.specs.Kept.{IsServed}
-use Rattle.llcp_link.specs.Offering.{LeftBy, allowed, owing, sent_on, info_of, acked_on}
+use Rattle.llcp_link.specs.Offering.{IsLonger, LeftBy, Owes, allowed, owing, part_of, sent_on, info_of, acked_on}
+use Rattle.llcp_link.proofs.Places.{found_there}
 
 not_false : (b : Bool) → not b ≡ true → b ≡ false
 not_false true e = cc
@@ -79,6 +80,12 @@ module _ {S : Type 0} (m : Serving S) (l : LlcState S) (s : ℕ) where
   acknowledges_one c f e t =
       ap (acknowledges_served l) f ∙ ap (λ g. gave_conn l g.conn g.pdu) (gives_owed c e)
       ∙ ap (λ x. Some (record { llc = record l { served = with_conn (acked_on c) l.served; last = Some x }; part = Rr c.there c.here c.vr })) t
+
+  -- an acknowledgement that is owed is longer than what is left
+  pub ack_longer : (room place : ℕ) → Owes s l.served place → room < 5 → IsLonger room (part_of (acknowledges_served l (conn_from s l.served)))
+  ack_longer room place o few =
+      let long : IsLonger room (Some (Rr o.at.conn.there o.at.conn.here o.at.conn.vr)) = (few, omega arith) in
+      subst (λ x. IsLonger room (part_of x)) (sym (acknowledges_one o.at.conn (found_there s l.served place o.at) o.owed o.at.there)) long
 
 pub left_by : {S : Type 0} (due : Option (Gave S)) (g : Gave S) (s : S) → due ≡ Some g → s ≡ g.llc.service → LeftBy due s
 left_by due g s e i = subst (λ o. LeftBy o s) (sym e) i

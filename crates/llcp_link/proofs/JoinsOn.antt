@@ -1,5 +1,5 @@
 -- PDUs that are joined, one after the other.
-use Rattle.std.proofs.Common.{◌≡◌, ◌<◌, ◌≤◌, ℕ, suc, ◌+◌, ◌-◌, true, List, [], ◌∷◌, ◌++◌, length, Some, sym, ap, subst, ◌∙◌, arith, length-append, nat_le, if◌then◌else◌, append-nil}
+use Rattle.std.proofs.Common.{◌≡◌, ◌<◌, ◌≤◌, ℕ, zero, suc, ◌+◌, ◌-◌, true, false, refl, Option, None, List, [], ◌∷◌, ◌++◌, length, Some, sym, ap, subst, ◌∙◌, arith, length-append, nat_le, if◌then◌else◌, append-nil}
 use Rattle.std.proofs.lemmas.List.{append_assoc}
 use Rattle.llcp_pdu.specs.declared.part.Part.{Part}
 use Rattle.llcp_pdu.specs.Writing.{inner_bytes, part_bytes, parts_bytes}
@@ -8,7 +8,7 @@ use Rattle.llcp_link.specs.State.{LlcState}
 use Rattle.llcp_link.specs.Giving.{Gave, GaveAll, gave, gave_none, gave_first, joined, joined_so}
 use Rattle.llcp_link.specs.Kept.{IsSent}
 use Rattle.llcp_link.specs.Joining.{AreSent, Joins, HaltsJoining}
-use Rattle.llcp_link.specs.Offering.{LeavesNext}
+use Rattle.llcp_link.specs.Offering.{IsLonger, LeavesNext, part_of}
 
 -- these PDUs were given before
 abbrev pub gave_before : {S : Type 0} (m : Serving S) → List Part → GaveAll m → GaveAll m
@@ -22,8 +22,11 @@ pub record JoinsSoFar {S : Type 0} (m : Serving S) (first : ℕ) (old : LlcState
   pub size : 0 < length ps → used ≤ old.far_miu
 
 module _ {S : Type 0} (m : Serving S) where
-  pub none_joined : (first : ℕ) (old : LlcState S) → JoinsSoFar m first old [] first old
-  none_joined first old = record { all = λ j. ap (λ k. joined m k first old) (let z : 0 + j ≡ j = omega arith in z); sent = tt; used_is = omega arith; size = λ h. absurd (omega arith) }
+  none_at : (first : ℕ) (old : LlcState S) → JoinsSoFar m first old [] first old
+  none_at first old = record { all = λ j. ap (λ k. joined m k first old) (let z : 0 + j ≡ j = omega arith in z); sent = tt; used_is = omega arith; size = λ h. absurd (omega arith) }
+
+  pub none_joined : (first : ℕ) (old : LlcState S) → JoinsSoFar m first old [] (first + 0) old
+  none_joined first old = subst (λ u. JoinsSoFar m first old [] u old) (let z : first ≡ first + 0 = omega arith in z) (none_at first old)
 
   one_of : (j used : ℕ) (l : LlcState S) (g : Gave S) (fits : nat_le (used + length (inner_bytes g.part)) l.far_miu ≡ true) → gave m l ≡ Some g
       → joined m (suc j) used l ≡ gave_first m g.part (joined m j (used + length (inner_bytes g.part)) g.llc)
@@ -31,7 +34,7 @@ module _ {S : Type 0} (m : Serving S) where
       ap (λ o. joined_so m l used o (joined m j)) e
       ∙ ap (λ b. if b then gave_first m g.part (joined m j (used + length (inner_bytes g.part)) g.llc) else gave_none m l) fits
 
-  parts_more : (ps : List Part) (p : Part) → length (parts_bytes (ps ++ p ∷ [])) ≡ length (parts_bytes ps) + (length (part_bytes p) + 2)
+  pub parts_more : (ps : List Part) (p : Part) → length (parts_bytes (ps ++ p ∷ [])) ≡ length (parts_bytes ps) + (length (part_bytes p) + 2)
   parts_more [] p = ap length (append-nil (inner_bytes p)) ∙ (let e : length (inner_bytes p) ≡ 0 + (length (part_bytes p) + 2) = omega arith in e)
   parts_more (q ∷ qs) p =
       let e = length-append (inner_bytes q) (parts_bytes (qs ++ p ∷ [])) in
@@ -63,15 +66,43 @@ module _ {S : Type 0} (m : Serving S) where
           size = λ z. omega arith;
         }
 
-  pub joins_now : (first : ℕ) (old : LlcState S) (ps : List Part) (used : ℕ) (now : LlcState S) → JoinsSoFar m first old ps used now → Joins m first old ps now
-  joins_now first old ps used now h = record {
-    all =
-        ap (λ k. joined m k first old) (let z : length ps ≡ length ps + 0 = omega arith in z) ∙ h.all 0
-        ∙ ap (λ xs. record { llc = now; parts = xs }) (append-nil ps);
+  pub joined_now : (first : ℕ) (old : LlcState S) (ps : List Part) (used : ℕ) (now : LlcState S) → JoinsSoFar m first old ps used now
+      → joined m (length ps) first old ≡ record { llc = now; parts = ps }
+  joined_now first old ps used now h =
+      ap (λ k. joined m k first old) (let z : length ps ≡ length ps + 0 = omega arith in z) ∙ h.all 0
+      ∙ ap (λ xs. record { llc = now; parts = xs }) (append-nil ps)
+
+  -- none more is joined, however many are asked for
+  abbrev IsFull : ℕ → LlcState S → Type 0
+  IsFull used now = (j : ℕ) → joined m j used now ≡ gave_none m now
+
+  full_by : (used : ℕ) (now : LlcState S) (o : Option (Gave S)) → gave m now ≡ o
+      → ((g : Gave S) → o ≡ Some g → now.far_miu < used + length (inner_bytes g.part)) → IsFull used now
+  full_by used now o e long zero = refl
+  full_by used now None e long (suc n) = ap (λ o. joined_so m now used o (joined m n)) e
+  full_by used now (Some g) e long (suc n) =
+      let far : now.far_miu < used + length (inner_bytes g.part) = long g refl in
+      let not : nat_le (used + length (inner_bytes g.part)) now.far_miu ≡ false = grind (arith, far) in
+      ap (λ o. joined_so m now used o (joined m n)) e
+      ∙ ap (λ b. if b then gave_first m g.part (joined m n (used + length (inner_bytes g.part)) g.llc) else gave_none m now) not
+
+  pub full_nothing : (used : ℕ) (now : LlcState S) → gave m now ≡ None → IsFull used now
+  full_nothing used now e = full_by used now None e (λ g i. absurd cc)
+
+  pub full_long : (used room : ℕ) (now : LlcState S) → room ≡ now.far_miu - used → IsLonger room (part_of (gave m now)) → IsFull used now
+  full_long used room now r h = full_by used now (gave m now) refl (λ g e. (let k : IsLonger room (part_of (Some g)) = subst (λ o. IsLonger room (part_of o)) e h in let z = k.0 in omega arith))
+
+  pub full_end : (used : ℕ) (now : LlcState S) → now.far_miu ≤ used → IsFull used now
+  full_end used now h = full_by used now (gave m now) refl (λ g e. (let z : length (inner_bytes g.part) ≡ length (part_bytes g.part) + 2 = omega arith in omega arith))
+
+  pub joins_now : (first : ℕ) (old : LlcState S) (ps : List Part) (used : ℕ) (now : LlcState S) → JoinsSoFar m first old ps used now → IsFull used now
+      → Joins m first old ps now
+  joins_now first old ps used now h full = record {
+    all = λ more. h.all more ∙ ap (gave_before m ps) (full more) ∙ ap (λ xs. record { llc = now; parts = xs }) (append-nil ps);
     sent = h.sent;
     size = λ z. let u = h.used_is in let k = h.size z in omega arith;
   }
 
   pub halts_now : (first : ℕ) (old : LlcState S) (ps : List Part) (used : ℕ) (now : LlcState S) (s : S) → JoinsSoFar m first old ps used now
       → LeavesNext m (gave m now) now.service s → HaltsJoining m first old s
-  halts_now first old ps used now s h left = record { parts = ps; front = now; all = (joins_now first old ps used now h).all; service = left }
+  halts_now first old ps used now s h left = record { parts = ps; front = now; all = joined_now first old ps used now h; service = left }

@@ -1,8 +1,12 @@
 -- Lookups by their numbers.
 use Rattle.std.proofs.Common.{◌≡◌, ◌<◌, ℕ, suc, ◌==◌, Bool, true, false, List, [], ◌∷◌, ◌++◌, length, slice_set, Option, Some, None, option_map, refl, sym, ap, subst, ◌∙◌, arith, if◌then◌else◌}
 use Rattle.llcp_link.specs.State.{Lookup}
-use Rattle.llcp_link.specs.Asking.{lookup_place, put_lookup}
+use Rattle.llcp_link.specs.Asking.{put_lookup}
+use Rattle.llcp_link.specs.Places.{place_by}
 use Rattle.llcp_link.specs.Names.{told_one}
+
+abbrev pub lookup_place : ℕ → List Lookup → Option ℕ
+lookup_place tid xs = place_by (λ (x : Lookup). x.tid) tid xs
 
 no_place : (p : Option ℕ) → option_map suc p ≡ None → p ≡ None
 no_place None e = refl
@@ -30,20 +34,17 @@ module _ (tid : ℕ) where
 
   -- of one at this place
   pub record IsAt (xs : List Lookup) (place : ℕ) : Type 0 where
-    low : place < length xs
     put : slice_set xs place (record { tid = tid; told = None }) ≡ put_lookup tid xs
     told : (sap : ℕ) → slice_set xs place (record { tid = tid; told = Some sap }) ≡ told_one tid sap xs
 
   at_first : (x : Lookup) (xs : List Lookup) → (x.tid == tid) ≡ true → IsAt (x ∷ xs) 0
   at_first x xs t = record {
-    low = omega arith;
     put = sym (ap (λ b. if b then record { tid = tid; told = None } ∷ xs else x ∷ put_lookup tid xs) t);
     told = λ sap. sym (ap (λ b. if b then record { tid = tid; told = Some sap } ∷ xs else x ∷ told_one tid sap xs) t);
   }
 
   at_behind : (x : Lookup) (xs : List Lookup) (n : ℕ) → (x.tid == tid) ≡ false → IsAt xs n → IsAt (x ∷ xs) (suc n)
   at_behind x xs n t k = record {
-    low = (let l = k.low in omega arith);
     put = ap (λ ys. x ∷ ys) k.put ∙ sym (ap (λ b. if b then record { tid = tid; told = None } ∷ xs else x ∷ put_lookup tid xs) t);
     told = λ sap. ap (λ ys. x ∷ ys) (k.told sap) ∙ sym (ap (λ b. if b then record { tid = tid; told = Some sap } ∷ xs else x ∷ told_one tid sap xs) t);
   }
@@ -59,9 +60,6 @@ module _ (tid : ℕ) where
       by_test : (b : Bool) → (x.tid == tid) ≡ b → (if b then Some 0 else option_map suc (lookup_place tid xs)) ≡ Some n → ((j : ℕ) → lookup_place tid xs ≡ Some j → IsAt xs j) → IsAt (x ∷ xs) n
       by_test true t i more = let here : 0 ≡ n = cc in subst (IsAt (x ∷ xs)) here (at_first x xs t)
       by_test false t i more = step (lookup_place tid xs) refl i t more
-
-  pub low_there : (xs : List Lookup) (r : Option ℕ) (n : ℕ) → r ≡ lookup_place tid xs → r ≡ Some n → n < length xs
-  low_there xs r n e s = (is_at xs n (sym e ∙ s)).low
 
   pub put_there : (xs : List Lookup) (r : Option ℕ) (n : ℕ) → r ≡ lookup_place tid xs → r ≡ Some n → slice_set xs n (record { tid = tid; told = None }) ≡ put_lookup tid xs
   put_there xs r n e s = (is_at xs n (sym e ∙ s)).put

@@ -4,8 +4,8 @@ use Rattle.llcp_pdu.specs.declared.part.Part.{Part}
 use Rattle.llcp_conn.specs.Conn.{ConnState, due, gives, gives_ack}
 use Rattle.llcp_link.specs.State.{LlcState, OwnIs, Asking, Open, Refused, Leaving, Closed, OwnState, own_from, with_own}
 use Rattle.llcp_link.specs.Giving.{Gave, or_else, informs_own, informs_open, acknowledges_own, acknowledges_open, gave_own}
-use Rattle.llcp_link.specs.Offering.{Tried}
-use Rattle.llcp_link.specs.OwnGiving.{OwnsGave, OwnsTried, ack_by, ack_so, among, gave_so, unit_by, unit_so}
+use Rattle.llcp_link.specs.Offering.{IsLonger, Tried, part_of}
+use Rattle.llcp_link.specs.OwnGiving.{OwnsGave, OwnsTried, ack_by, ack_so, among, gave_so, owns_part, unit_by, unit_so}
 use Rattle.llcp_link.specs.declared.giving.Next.{Next}
 use Rattle.llcp_link.specs.declared.giving.Next.TheVariants.{Given, Nothing, TooLong}
 use Rattle.llcp_link.proofs.Awaited.{here_of}
@@ -51,9 +51,13 @@ module _ {S : Type 0} (l : LlcState S) (d : ℕ) where
   marked (Given p) own = record l { own = own; last = Some d }
   marked _ own = record l { own = own }
 
+  longer : (room : ℕ) (o : Option OwnsGave) → IsLonger room (owns_part o) → IsLonger room (part_of (lifted o))
+  longer room None h = h
+  longer room (Some g) h = h
+
   tried : (room : ℕ) (o : Option OwnsGave) (own : List OwnState) (n : Next) → OwnsTried room o l.own own n → Tried room (lifted o) l (marked n own) n
   tried room o own Nothing t = (ap lifted t.0, ap (λ xs. record l { own = xs }) t.1)
-  tried room o own TooLong t = (ap (λ xs. record l { own = xs }) t.0, t.1)
+  tried room o own TooLong t = (ap (λ xs. record l { own = xs }) t.0, longer room o t.1)
   tried room o own (Given p) t = (ap lifted t.0, t.1, t.2)
 
   pub unit_given : (room : ℕ) (own : List OwnState) (n : Next) → OwnsTried room (unit_by l.own (own_from d l.own)) l.own own n
@@ -68,8 +72,12 @@ module _ {S : Type 0} (room : ℕ) (a b : Option (Gave S)) (old : LlcState S) wh
   pub first_given : (new : LlcState S) (p : Part) → Tried room a old new (Given p) → Tried room (or_else a b) old new (Given p)
   first_given new p t = (ap (λ x. or_else x b) t.0, t.1, t.2)
 
+  longer_first : (x : Option (Gave S)) → IsLonger room (part_of x) → IsLonger room (part_of (or_else x b))
+  longer_first None h = absurd h
+  longer_first (Some g) h = h
+
   pub first_long : (new : LlcState S) → Tried room a old new TooLong → Tried room (or_else a b) old new TooLong
-  first_long new t = t
+  first_long new t = (t.0, longer_first a t.1)
 
   pub second_tried : (mid new : LlcState S) (n : Next) → Tried room a old mid Nothing → Tried room b old new n → Tried room (or_else a b) old new n
   second_tried mid new n t u = subst (λ x. Tried room (or_else x b) old new n) (sym t.0) u

@@ -1,10 +1,10 @@
 -- A connection at its place: found, changed and taken away there.
-use Rattle.std.proofs.Common.{◌≡◌, ℕ, ◌==◌, Bool, true, false, List, [], ◌∷◌, ◌++◌, length, slice_set, slice_index_or, Option, Some, None, refl, sym, ap, ◌∙◌, if◌then◌else◌, arith, remove}
+use Rattle.std.proofs.Common.{◌≡◌, ℕ, suc, option_map, subst, ◌==◌, Bool, true, false, List, [], ◌∷◌, ◌++◌, length, slice_set, slice_index_or, Option, Some, None, refl, sym, ap, ◌∙◌, if◌then◌else◌, arith, remove}
 use Rattle.std.proofs.Math.Seq.{set-append_seam}
 use Rattle.std.proofs.lemmas.Bool.Decides.{nat_tests}
 use Rattle.llcp_conn.specs.Conn.{ConnState}
 use Rattle.llcp_link.specs.State.{conn_from, with_conn, without_conn}
-use Rattle.llcp_link.specs.Places.{IsPlace}
+use Rattle.llcp_link.specs.Places.{IsPlace, IsPlaceOf, place_by}
 
 none_first : (b : Bool) (c : ConnState) (o : Option ConnState) → (if b then Some c else o) ≡ None → (b ≡ false) × (o ≡ None)
 none_first true c o e = cc
@@ -67,3 +67,33 @@ none_more s [] c n e = ap (λ b. if b then Some c else None) e
 none_more s (x ∷ xs) c n e =
     let k = none_first (x.there == s) x (conn_from s xs) n in
     ap (λ b. if b then Some x else conn_from s (xs ++ c ∷ [])) k.0 ∙ none_more s xs c k.1 e
+
+first_here : (s : ℕ) (c : ConnState) (cs : List ConnState) → (c.there == s) ≡ true → IsPlace s (c ∷ cs) 0
+first_here s c cs e = record { before = []; conn = c; behind = cs; all = refl; at = refl; none = refl; there = grind (arith, nat_tests) }
+
+behind_it : (s : ℕ) (c : ConnState) (cs : List ConnState) (n : ℕ) → (c.there == s) ≡ false → IsPlace s cs n → IsPlace s (c ∷ cs) (suc n)
+behind_it s c cs n e p = record {
+  before = c ∷ p.before;
+  conn = p.conn;
+  behind = p.behind;
+  all = ap (λ xs. c ∷ xs) p.all;
+  at = ap suc p.at;
+  none = ap (λ b. if b then Some c else conn_from s p.before) e ∙ p.none;
+  there = p.there;
+}
+
+behind_both : (s : ℕ) (c : ConnState) (cs : List ConnState) (r : Option ℕ) → (c.there == s) ≡ false → IsPlaceOf s cs r → IsPlaceOf s (c ∷ cs) (option_map suc r)
+behind_both s c cs None e h = ap (λ b. if b then Some c else conn_from s cs) e ∙ h
+behind_both s c cs (Some n) e h = behind_it s c cs n e h
+
+place_found : (s : ℕ) (cs : List ConnState) → IsPlaceOf s cs (place_by (λ (c : ConnState). c.there) s cs)
+place_found s [] = refl
+place_found s (c ∷ cs) = go (c.there == s) refl (place_found s cs)
+  where
+    go : (b : Bool) → (c.there == s) ≡ b → IsPlaceOf s cs (place_by (λ (c : ConnState). c.there) s cs)
+        → IsPlaceOf s (c ∷ cs) (if b then Some 0 else option_map suc (place_by (λ (c : ConnState). c.there) s cs))
+    go true e h = first_here s c cs e
+    go false e h = behind_both s c cs (place_by (λ (c : ConnState). c.there) s cs) e h
+
+pub place_is : (s : ℕ) (cs : List ConnState) (r : Option ℕ) → r ≡ place_by (λ (c : ConnState). c.there) s cs → IsPlaceOf s cs r
+place_is s cs r e = subst (IsPlaceOf s cs) (sym e) (place_found s cs)

@@ -1,4 +1,4 @@
--- What an end does as the far end of a link: it takes a payload, and gives one with some number of PDUs that is allowed.
+-- What an end does as the far end of a link: it takes a payload, and gives one with as many PDUs as fit.
 use Rattle.std.specs.Prelude.{◌≡◌, ◌≤◌, ◌⊎◌, ℕ, true, List, length}
 use Rattle.llcp_link.specs.Serving.{Serving}
 use Rattle.llcp_link.specs.State.{LlcState}
@@ -8,10 +8,12 @@ use Rattle.llcp_link.specs.Halting.{IsStuck}
 use Rattle.llcp_link.specs.Offering.{LeavesNext}
 use Rattle.llcp_link.specs.Kept.{most_payload}
 
--- a payload with some number of PDUs that is allowed
+-- A payload with as many PDUs as fit: a number that is allowed, and no larger one is. An end that couldn't read general bytes gives
+-- none.
 pub record Gives {S : Type 0} (m : Serving S) (old : LlcState S) (bytes : List ℕ) (new : LlcState S) : Type 0 where
   pub count : ℕ
   pub allowed : IsAllowed m old count
+  pub most : old.readable ≡ true → (more : ℕ) → IsAllowed m old more → more ≤ count
   pub bytes_are : bytes ≡ given m count old
   pub left : new ≡ after_giving m count old
 

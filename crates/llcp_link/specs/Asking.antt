@@ -104,10 +104,6 @@ abbrev pub put_lookup : ℕ → List Lookup → List Lookup
 put_lookup tid [] = record { tid = tid; told = None } ∷ []
 put_lookup tid (x ∷ xs) = if x.tid == tid then record { tid = tid; told = None } ∷ xs else x ∷ put_lookup tid xs
 
-abbrev pub lookup_place : ℕ → List Lookup → Option ℕ
-lookup_place tid [] = None
-lookup_place tid (x ∷ xs) = if x.tid == tid then Some 0 else option_map suc (lookup_place tid xs)
-
 module _ {S : Type 0} where
   -- why a connection from a SAP isn't asked for, if it isn't: one is there
   abbrev pub connecting_refusal : LlcState S → ℕ → Option LlcFault

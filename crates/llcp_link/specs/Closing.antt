@@ -1,4 +1,4 @@
--- Who has a connection gives it up.
+-- Who has a connection gives it up, for private calls: no public contract speaks of it, the table is Taking.antt.
 use Rattle.std.specs.Prelude.{◌≡◌, ℕ, Option, Some, None}
 use Rattle.llcp_conn.specs.declared.conn.ConnNumbers.{ConnNumbers}
 use Rattle.llcp_conn.specs.Conn.{ConnState, numbers}

@@ -17,11 +17,20 @@ use Rattle.llcp_link.specs.declared.giving.Next.TheVariants.{Given, Nothing, Too
 abbrev pub most_inner : ℕ
 most_inner = 2180
 
--- This PDU is due, or none, and so it was given; or it may not be within what is left, and nothing was done.
+-- a PDU is due, and has more bytes in an AGF than are left
+abbrev pub IsLonger : ℕ → Option Part → Type 0
+IsLonger room None = ⊥
+IsLonger room (Some p) = (room < length (inner_bytes p)) × (length (inner_bytes p) ≤ most_inner)
+
+abbrev pub part_of : {S : Type 0} → Option (Gave S) → Option Part
+part_of None = None
+part_of (Some g) = Some g.part
+
+-- This PDU is due, or none, and so it was given; or it is longer than what is left, and nothing was done.
 abbrev pub Tried : {S : Type 0} → ℕ → Option (Gave S) → LlcState S → LlcState S → Next → Type 0
 Tried room due old new Nothing = (due ≡ None) × (new ≡ old)
 Tried room due old new (Given p) = (due ≡ Some (record { llc = new; part = p })) × IsSent p × (length (inner_bytes p) ≤ room)
-Tried room due old new TooLong = (new ≡ old) × (room < most_inner)
+Tried room due old new TooLong = (new ≡ old) × IsLonger room (part_of due)
 
 -- a connection that was asked of this end, once it gave a unit as an I PDU
 abbrev pub sent_on : ConnState → List ℕ → ConnState
@@ -38,11 +47,6 @@ acked_on c = record c { vra = c.vr; owed = false }
 abbrev pub queued_first : {S : Type 0} → LlcState S → List Queued → Option (Gave S)
 queued_first l [] = None
 queued_first l (q ∷ qs) = Some (record { llc = record l { queue = qs }; part = q.part })
-
--- a unit that is due, of at most the MIU, has at most so many bytes
-abbrev pub BoundsNext : Option (List ℕ) → ℕ → ℕ → Type 0
-BoundsNext None miu most = Unit {0}
-BoundsNext (Some u) miu most = length u ≤ miu → length u ≤ most
 
 -- the client's connection, where its window allows an I PDU
 abbrev pub allowed : Option ConnState → Option ConnState

@@ -1,4 +1,4 @@
--- What PDUs do to a connection that this end asked for.
+-- What PDUs do to a connection that this end asked for, for private calls: no public contract speaks of it, the table is Taking.antt.
 use Rattle.std.specs.Prelude.{◌≡◌, ◌<◌, ℕ, ◌==◌, ◌&&◌, Bool, true, false, [], ◌∷◌, ◌++◌, Option, Some, None, if◌then◌else◌}
 use Rattle.llcp_pdu.specs.declared.pdu_view.PduView.{PduView}
 use Rattle.llcp_pdu.specs.Spelling.{IsReport}

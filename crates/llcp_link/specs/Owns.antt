@@ -1,4 +1,5 @@
--- What calls and PDUs do to the connections that this end asked for, each named by its own SAP.
+-- What calls and PDUs do to the connections that this end asked for, each named by its own SAP, for private calls: no public
+-- contract speaks of it, the tables are Taking.antt and Asking.antt.
 use Rattle.std.specs.Prelude.{◌≡◌, ◌<◌, ℕ, suc, ◌==◌, Bool, true, false, List, [], ◌∷◌, ◌++◌, length, drop, remove, slice_index_or, slice_set, Option, Some, None, option_map, if◌then◌else◌}
 use Rattle.llcp_pdu.specs.declared.part.Part.{Part}
 use Rattle.llcp_pdu.specs.declared.part.Part.TheVariants.{Disc}
@@ -9,14 +10,14 @@ use Rattle.llcp_conn.specs.declared.conn.Taken.TheVariants as taking
 use Rattle.llcp_conn.specs.Conn.{ConnState, numbers, takes_view}
 use Rattle.llcp_link.specs.Kept.{IsSent}
 use Rattle.llcp_link.specs.Asking.{put_own, queued_on, without_own}
+use Rattle.llcp_link.specs.Places.{place_by}
 use Rattle.llcp_link.specs.Owning.{AreNumbers, KeepsOwn, awaits_cc, dm_on}
 use Rattle.llcp_link.specs.declared.own.Heard.{Heard}
 use Rattle.llcp_link.specs.declared.own.Heard.TheVariants as heard
 use Rattle.llcp_link.specs.State.{Closed, OwnState, Nobody, Asked, own_from, own_holder, with_own}
 
 abbrev pub own_place : ℕ → List OwnState → Option ℕ
-own_place h [] = None
-own_place h (o ∷ os) = if o.here == h then Some 0 else option_map suc (own_place h os)
+own_place h os = place_by (λ (o : OwnState). o.here) h os
 
 -- The connection from a SAP stands at this place: there it is read, changed, replaced and taken away.
 pub record StandsAt (h : ℕ) (os : List OwnState) (place : ℕ) : Type 0 where

@@ -1,5 +1,5 @@
--- Where a connection stands among those of an end.
-use Rattle.std.specs.Prelude.{◌≡◌, ◌<◌, ℕ, List, ◌∷◌, ◌++◌, length, Option, Some, None}
+-- Where a connection stands among those of an end, for private calls.
+use Rattle.std.specs.Prelude.{◌≡◌, ◌<◌, ◌==◌, ℕ, suc, List, [], ◌∷◌, ◌++◌, length, Option, Some, None, option_map, if◌then◌else◌}
 use Rattle.llcp_pdu.specs.declared.pdu_view.PduView.{PduView}
 use Rattle.llcp_pdu.specs.declared.pdu_view.PduView.TheVariants as view
 use Rattle.llcp_pdu.specs.Spelling.{IsReport}
@@ -9,6 +9,11 @@ use Rattle.llcp_conn.specs.declared.conn.Taken.TheVariants as taking
 use Rattle.llcp_conn.specs.Conn.{ConnState, modulus, numbers, takes_view}
 use Rattle.llcp_link.specs.State.{conn_from, with_conn, without_conn, Nobody, served_holder}
 use Rattle.llcp_link.specs.Kept.{IsServed}
+
+-- the place of the first of a number
+abbrev pub place_by : {A : Type 0} → (A → ℕ) → ℕ → List A → Option ℕ
+place_by number n [] = None
+place_by number n (x ∷ xs) = if number x == n then Some 0 else option_map suc (place_by number n xs)
 
 -- at this place stands the connection of a client's SAP, with those before it and those behind it
 pub record IsPlace (s : ℕ) (cs : List ConnState) (place : ℕ) : Type 0 where

@@ -4,7 +4,7 @@ ghost use Rattle.std.specs.Prelude.{◌≡◌, ◌≤◌, IfOk, OnErr};
 ghost use Rattle.llcp_conn.specs.Conn.{IsSap};
 ghost use Rattle.llcp_link.specs.Giving.{acknowledges, acknowledges_own, acknowledges_served, circle_start as start_of, first_of_all, gave, informs, informs_own, informs_served, sap_after as after};
 ghost use Rattle.llcp_link.specs.Halting.{IsSame};
-ghost use Rattle.llcp_link.specs.Offering.{BoundsNext, LeavesNext, Tried, queued_first};
+ghost use Rattle.llcp_link.specs.Offering.{LeavesNext, Tried, queued_first};
 ghost use Rattle.llcp_link.specs.State.{conn_from, own_from};
 
 use crate::lengths::part_len;
@@ -28,7 +28,7 @@ pub(crate) enum Next {
     Given(Part),
     /// None is due.
     Nothing,
-    /// It may be longer than what is left.
+    /// It is longer than what is left.
     TooLong,
 }
 
@@ -71,19 +71,6 @@ impl<S: Service> Llc<S> {
         Next::Given(part)
     }
 
-    /// The most bytes that a client's next unit has: those that the service tells, and where it tells nothing the
-    /// client's MIU.
-    fn most_next(&self, client: u8, miu: u16) -> usize
-        requires { IsSap client }
-        ensures told { BoundsNext (S.serving.due self.now.service client miu) miu result }
-        ensures most { result ≤ miu }
-    {
-        match self.service.next_len(client, miu) {
-            None => miu as usize,
-            Some(told) => told.min(miu as usize),
-        }
-    }
-
     /// The next unit for a client of the service, as an I PDU.
     fn give_served_unit(&mut self, client: u8, room: usize) -> Result<Next, AllocError>
         requires { IsSap client }
@@ -96,7 +83,10 @@ impl<S: Service> Llc<S> {
         let Some((place, miu)) = sender(&self.served, client) else {
             return Ok(Next::Nothing);
         };
-        if self.most_next(client, miu) + NUMBERED > room {
+        let Some(length) = self.service.next_len(client, miu) else {
+            return Ok(Next::Nothing);
+        };
+        if length + NUMBERED > room {
             return Ok(Next::TooLong);
         }
         let Some(unit) = self.service.next(self.alloc, client, miu)? else {

@@ -15,32 +15,22 @@ use std::alloc::AllocError;
 pub(crate) const LENGTH: usize = 2;
 
 impl<S: Service> Llc<S> {
-    /// Gives PDUs that stand in one AGF behind one with so many bytes there, each where `joins` says so by the number of
-    /// PDUs and the bytes before it.
-    pub(crate) fn join<F: Fn(u16, usize) -> bool>(
-        &mut self,
-        first: usize,
-        joins: &F,
-    ) -> Result<Vec<Part>, AllocError>
-        requires callable { F.IsAlwaysCallable joins.now }
+    /// Gives PDUs that stand in one AGF behind one with so many bytes there, as many as fit.
+    pub(crate) fn join(&mut self, first: usize) -> Result<Vec<Part>, AllocError>
         requires first { first ≤ 2180 }
         ensures joined { IfOk result (λ ps. Joins S.serving first self.old ps.items self.new) }
         ensures same { IsSame self.old self.new }
         ensures err { OnErr result (HaltsJoining S.serving first self.old self.new.service) }
     {
-        let most = self.far_miu as usize;
-        let mut used = first;
+        let mut room = (self.far_miu as usize).saturating_sub(first);
         let mut others = Vec::new(self.alloc);
-        'others: for count in 1..self.far_miu {
-            if !joins(count, used) {
-                return Ok(others);
-            }
-            match self.give_next(most.saturating_sub(used)) {
+        'others: while room > 0 {
+            match self.give_next(room) {
                 Err(_) => return Err(AllocError),
                 Ok(Next::Nothing) => return Ok(others),
                 Ok(Next::TooLong) => return Ok(others),
                 Ok(Next::Given(part)) => {
-                    used += part_len(&part) + LENGTH;
+                    room -= part_len(&part) + LENGTH;
                     match others.push(part) {
                         Err(_) => return Err(AllocError),
                         Ok(()) => {}

@@ -5,8 +5,8 @@
 //! that is due, `joining` those behind it in an AGF. `answering` is an end as the far end of a link. `asking` is what an end
 //! asks of the other: connections, of which `standing` tells how they stand, and lookups. `served` keeps the connections that
 //! the other end asked for, `sending` is what they give; `own`, `owns` and `own_giving` are the same of those that this end
-//! asked for, `lookups` what it looked up. `queue` are the PDUs that wait; `parts`, `params` and `lengths` are about single
-//! PDUs. `fault` says why a call is refused.
+//! asked for, `lookups` what it looked up. `queue` are the PDUs that wait, `numbered` says where something
+//! stands in a list; `parts`, `params` and `lengths` are about single PDUs. `fault` says why a call is refused.
 #![tactic(auto)]
 
 mod answering;
@@ -22,6 +22,7 @@ mod link;
 mod llc;
 mod lookups;
 mod names;
+mod numbered;
 mod own;
 mod own_giving;
 mod owns;

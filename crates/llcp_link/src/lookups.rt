@@ -2,9 +2,10 @@
 
 ghost use Rattle.std.specs.Prelude.{◌≡◌, OnOk, OnErr};
 ghost use Rattle.llcp_pdu.specs.Views.{HoldsParams, params_in};
-ghost use Rattle.llcp_link.specs.Asking.{found_in, lookup_place, put_lookup};
+ghost use Rattle.llcp_link.specs.Asking.{found_in, put_lookup};
 ghost use Rattle.llcp_link.specs.Names.{told_all, told_one};
 
+use crate::numbered::{Numbered, place_of};
 use llcp_pdu::{ParamView, ParamWalk};
 use std::alloc::AllocError;
 use std::marker::Model;
@@ -24,18 +25,12 @@ impl Model for Lookup {
     ghost view = { λ l. record { tid = l.tid; told = l.told } };
 }
 
-/// The place of a number.
-fn place_of(lookups: &[Lookup], tid: u8) -> Option<usize>
-    ensures { result ≡ lookup_place tid lookups.now }
-{
-    let mut place = 0;
-    'lookups: for lookup in lookups {
-        if lookup.tid == tid {
-            return Some(place);
-        }
-        place += 1;
+impl Numbered for Lookup {
+    ghost number = { λ l. l.tid };
+
+    fn number(&self) -> u8 {
+        self.tid
     }
-    None
 }
 
 /// What was told for a number since it was last looked up.
@@ -51,7 +46,6 @@ pub(crate) fn found(lookups: &[Lookup], tid: u8) -> Option<u8>
 }
 
 /// A number is looked up: an earlier lookup of it is forgotten.
-#[tactic(auto, using(crate::proofs::LookedUp::put_there, crate::proofs::LookedUp::put_new, crate::proofs::LookedUp::low_there))]
 pub(crate) fn put(lookups: &mut Vec<Lookup>, tid: u8) -> Result<(), AllocError>
     ensures ok { OnOk result (lookups.new.items ≡ put_lookup tid lookups.old.items) }
     ensures err { OnErr result (lookups.new.items ≡ lookups.old.items) }
@@ -65,7 +59,6 @@ pub(crate) fn put(lookups: &mut Vec<Lookup>, tid: u8) -> Result<(), AllocError>
 }
 
 /// A number was told this SAP.
-#[tactic(auto, using(crate::proofs::LookedUp::told_there, crate::proofs::LookedUp::told_none, crate::proofs::LookedUp::low_there))]
 fn tell(lookups: &mut Vec<Lookup>, tid: u8, sap: u8)
     ensures { lookups.new.items ≡ told_one tid sap lookups.old.items }
 {

@@ -11,6 +11,7 @@ ghost use Rattle.llcp_link.specs.Places.{IsNumbered};
 ghost use Rattle.llcp_link.specs.Kept.{IsSent};
 ghost use Rattle.llcp_pdu.specs.declared.part.Part.{Part};
 
+use crate::numbered::Numbered;
 use crate::parts::disc;
 use crate::standing::Standing;
 use llcp_conn::{Conn, ConnFault, ConnNumbers, Taken};
@@ -60,6 +61,14 @@ impl Model for Own {
     ghost invariant = { λ o. IsOwn o.here o.there o.is };
 }
 
+impl Numbered for Own {
+    ghost number = { λ o. o.here };
+
+    fn number(&self) -> u8 {
+        self.here
+    }
+}
+
 impl Own {
     /// One that is asked for.
     pub(crate) fn new(alloc: Global, here: u8, there: u8) -> Own
@@ -73,13 +82,6 @@ impl Own {
             is: OwnIs::Asking,
             units: VecDeque::new(alloc),
         }
-    }
-
-    /// The SAP of this end.
-    pub(crate) fn here(&self) -> u8
-        ensures { result ≡ self.now.here }
-    {
-        self.here
     }
 
     /// A CC or DM is awaited, or it is open.

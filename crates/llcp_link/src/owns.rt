@@ -6,10 +6,11 @@ ghost use Rattle.llcp_pdu.specs.Wire.{rw_end};
 ghost use Rattle.llcp_conn.specs.Conn.{IsWindow};
 ghost use Rattle.llcp_conn.specs.declared.fault.ConnFault.{ConnFault};
 ghost use Rattle.llcp_link.specs.Asking.{acked_of, is_busy_by, is_open_by, put_own, refusal_of, standing_of, unit_of, without_own};
-ghost use Rattle.llcp_link.specs.Owns.{AwaitsAt, ClosesAsked, LeavesAt, PlaceOf, TakesAsked, dm_in, own_place, queued_in, unit_taken_in};
+ghost use Rattle.llcp_link.specs.Owns.{AwaitsAt, ClosesAsked, LeavesAt, PlaceOf, TakesAsked, dm_in, queued_in, unit_taken_in};
 ghost use Rattle.llcp_link.specs.Places.{IsNumbered};
 ghost use Rattle.llcp_link.specs.State.{own_from};
 
+use crate::numbered;
 use crate::own::{Heard, Own};
 use crate::standing::Standing;
 use llcp_conn::{ConnFault, ConnNumbers};
@@ -17,26 +18,12 @@ use llcp_pdu::{Part, PduView};
 use nfc_base::Items;
 use std::alloc::AllocError;
 
-/// The place of the connection from a SAP, counted.
-fn find(own: &[Own], here: u8) -> Option<usize>
-    ensures { result ≡ own_place here own.now }
-{
-    let mut place = 0;
-    'own: for one in own {
-        if one.here() == here {
-            return Some(place);
-        }
-        place += 1;
-    }
-    None
-}
-
 /// The place of the connection from a SAP.
 #[tactic(auto, using(crate::proofs::OwnPlaces::place_is))]
 pub(crate) fn place_of(own: &[Own], here: u8) -> Option<usize>
     ensures { PlaceOf here own.now result }
 {
-    find(own, here)
+    numbered::place_of(own, here)
 }
 
 /// One is there from a SAP.
@@ -85,7 +72,7 @@ pub(crate) fn put(own: &mut Vec<Own>, one: Own) -> Result<(), AllocError>
     ensures ok { OnOk result (own.new.items ≡ put_own one own.old.items) }
     ensures err { OnErr result (own.new.items ≡ own.old.items) }
 {
-    match place_of(own, one.here()) {
+    match place_of(own, one.here) {
         Some(place) => own[place] = one,
         None => own.push(one)?,
     }

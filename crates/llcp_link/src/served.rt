@@ -5,6 +5,7 @@ ghost use Rattle.llcp_link.specs.State.{conn_from};
 ghost use Rattle.llcp_link.specs.Kept.{AllServed, IsServed};
 ghost use Rattle.llcp_link.specs.Places.{IsBetweenOf, IsNumbered, IsPlaceOf, ClosedBy, TakenBy};
 
+use crate::numbered::{self, Numbered};
 use llcp_conn::{Conn, ConnNumbers, Taken};
 use llcp_pdu::PduView;
 use std::alloc::AllocError;
@@ -24,18 +25,20 @@ pub(crate) fn push(served: &mut Vec<Conn>, conn: Conn) -> Result<(), AllocError>
     }
 }
 
+impl Numbered for Conn {
+    ghost number = { λ c. c.there };
+
+    fn number(&self) -> u8 {
+        self.there()
+    }
+}
+
 /// The place of the connection of a client's SAP.
+#[tactic(auto, using(crate::proofs::Places::place_is))]
 pub(crate) fn place_of(served: &[Conn], client: u8) -> Option<usize>
     ensures { IsPlaceOf client served.now result }
 {
-    let mut place = 0;
-    'served: for conn in served {
-        if conn.there() == client {
-            return Some(place);
-        }
-        place += 1;
-    }
-    None
+    numbered::place_of(served, client)
 }
 
 /// The client has no connection.

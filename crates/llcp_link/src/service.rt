@@ -1,6 +1,6 @@
 //! What stands above an end of a link.
 
-ghost use Rattle.std.specs.Prelude.{◌≡◌, ◌<◌, ◌≤◌, ℕ, length, option_map, Some, IfOk, IfSome, OnOk, OnErr};
+ghost use Rattle.std.specs.Prelude.{◌≡◌, ◌<◌, ◌≤◌, length, option_map, IfOk, IfSome, OnOk, OnErr};
 ghost use Rattle.llcp_link.specs.Serving.{Serving, asked};
 
 use nfc_base::Items;
@@ -34,11 +34,9 @@ pub trait Service {
         ensures size { IfOk result (λ o. IfSome o (λ u. length u ≤ miu)) }
         ensures err { OnErr result (serving.keeps self.old self.new) };
 
-    /// The length of the unit that `next` would give, where the service tells it.
+    /// The length of the unit that `next` would give. It takes no memory.
     fn next_len(&self, ssap: u8, miu: u16) -> Option<usize>
         requires { ssap < 64 }
-        ensures { IfSome result (λ n. option_map length (serving.due self.now ssap miu) ≡ Some n) }
-    {
-        None
-    }
+        ensures exact { result ≡ option_map length (serving.due self.now ssap miu) }
+        ensures size { IfSome result (λ n. n ≤ miu) };
 }

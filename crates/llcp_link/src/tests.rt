@@ -58,6 +58,10 @@ impl Service for Notes {
     ) -> Result<Option<Items<u8>>, AllocError> {
         Ok(None)
     }
+
+    fn next_len(&self, _ssap: u8, _miu: u16) -> Option<usize> {
+        None
+    }
 }
 
 /// A server at SAP 4, with MIU 128 and window 1.

@@ -52,14 +52,9 @@ fn write_parts(first: Part, mut others: Vec<Part>, target: &mut Vec<u8>) -> Resu
 }
 
 impl<S: Service> Llc<S> {
-    /// Writes a payload of PDUs that are due, or SYMM: the first, and those behind it that `joins` says. It is empty where the
-    /// other end's general bytes couldn't be read.
-    fn give_payload<F: Fn(u16, usize) -> bool>(
-        &mut self,
-        joins: &F,
-        target: &mut Vec<u8>,
-    ) -> Result<(), AllocError>
-        requires callable { F.IsAlwaysCallable joins.now }
+    /// Writes a payload of PDUs that are due, as many as fit, or SYMM. It is empty where the other end's general bytes couldn't be
+    /// read.
+    fn give_payload(&mut self, target: &mut Vec<u8>) -> Result<(), AllocError>
         ensures ok { OnOk result (Gives S.serving self.old target.new.items self.new) }
         ensures size { OnOk result (length target.new.items ≤ 2178) }
         ensures same { IsSame self.old self.new }
@@ -75,35 +70,9 @@ impl<S: Service> Llc<S> {
             Ok(Next::Nothing) => return write_one(Part::Symm, target),
             Ok(Next::Given(part)) => part,
         };
-        match self.join(part_len(&first) + LENGTH, joins) {
+        match self.join(part_len(&first) + LENGTH) {
             Err(_) => Err(AllocError),
             Ok(others) => write_parts(first, others, target),
-        }
-    }
-
-    /// Replaces `target` by the next payload, in which as many PDUs are joined as fit, as long as `joins` says so by the
-    /// number of PDUs and their bytes in an AGF so far.
-    fn give_so<F: Fn(u16, usize) -> bool>(
-        &mut self,
-        joins: &F,
-        target: &mut Vec<u8>,
-    ) -> Result<(), AllocError>
-        requires callable { F.IsAlwaysCallable joins.now }
-        ensures ok { OnOk result (Gives S.serving self.old target.new.items self.new) }
-        ensures size { OnOk result (length target.new.items ≤ 2178) }
-        ensures going { OnOk result ((self.old.stuck ≡ false) × (self.new.stuck ≡ false)) }
-        ensures stuck { self.old.stuck ≡ true → IsErr result }
-        ensures err { OnErr result (IsStuckGiving S.serving self.old self.new) }
-    {
-        if self.stuck {
-            return Err(AllocError);
-        }
-        match self.give_payload(joins, target) {
-            Err(_) => {
-                self.stuck = true;
-                Err(AllocError)
-            }
-            Ok(()) => Ok(()),
         }
     }
 
@@ -118,6 +87,15 @@ impl<S: Service> Llc<S> {
         ensures front { FrontLaw S.serving }
         ensures alone { AloneLaw S.serving }
     {
-        self.give_so(&|_, _| true, target)
+        if self.stuck {
+            return Err(AllocError);
+        }
+        match self.give_payload(target) {
+            Err(_) => {
+                self.stuck = true;
+                Err(AllocError)
+            }
+            Ok(()) => Ok(()),
+        }
     }
 }

@@ -8,3 +8,4 @@ pub mod FirstUnits
 pub mod UnitPuts
 pub mod SourcesTold
 pub mod PayloadLaw
+pub mod Links

@@ -4,4 +4,5 @@ pub mod Session
 pub mod Server
 pub mod Puts
 pub mod Cuts
+pub mod Links
 pub mod Payloads

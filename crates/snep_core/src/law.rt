@@ -2,6 +2,7 @@
 
 ghost use Rattle.snep_core.specs.Puts.{PutsOne};
 ghost use Rattle.snep_core.specs.Cuts.{FrontsPut, LastPut};
+ghost use Rattle.snep_core.specs.Links.{LinkLaw};
 ghost use Rattle.snep_core.specs.Payloads.{AcceptedInOrder, PayloadsAccepted};
 
 /// The units of a connection put one list of messages.
@@ -17,6 +18,13 @@ pub fn fronts()
 /// The message of the last put was put exactly where all its units came and it is within the limit; those before it are whole.
 pub fn last_put()
     ensures { LastPut }
+{}
+
+/// A client puts one message after the other, the next once the one before was told. Whichever first units of the last one came:
+/// what they put is a front of its messages that are within the limit, all that were told to be taken, and at most the last one
+/// more, which wasn't answered.
+pub fn link()
+    ensures { LinkLaw }
 {}
 
 /// Whatever payloads come after a restart: what a server accepts from a client's SAP is what the units of its connections put.

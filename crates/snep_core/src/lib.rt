@@ -12,8 +12,10 @@ mod message;
 mod server;
 mod session;
 
-pub use law::{fronts, in_order, last_put, one_list, payloads};
+pub use law::{fronts, in_order, last_put, link, one_list, payloads};
 pub use server::Server;
 
+#[cfg(test)]
+mod link_tests;
 #[cfg(test)]
 mod tests;

@@ -302,6 +302,13 @@ impl Session {
         None
     }
 
+    /// What waits for a continue is dropped.
+    fn drop_waiting(&mut self)
+        ensures { self.new ≡ record self.old { waiting = [] } }
+    {
+        self.waiting = Bytes::new();
+    }
+
     /// This goes out, or its first unit.
     fn send(&mut self, alloc: Global, word: Word, miu: u16) -> Result<Items<u8>, AllocError>
         requires { self.old.going ≡ [] }
@@ -310,7 +317,7 @@ impl Session {
     {
         match word {
             Word::Answers(answer) => {
-                self.waiting = Bytes::new();
+                self.drop_waiting();
                 self.going = told(alloc, answer, &[])?;
             }
             Word::Offers(bytes) => {

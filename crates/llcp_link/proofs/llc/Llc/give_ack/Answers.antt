@@ -1,7 +1,8 @@
-use Rattle.std.proofs.Common.{rules, ◌≡◌, ◌<◌, ◌≤◌, ◌-◌, ◌+◌, Some, None, sym, ap, ◌∙◌, arith}
+use Rattle.std.proofs.Common.{rules, ◌≡◌, ◌<◌, ◌≤◌, ◌-◌, ◌+◌, Some, None, sym, ap, subst, ◌∙◌, arith}
 use Rattle.llcp_link.specs.Giving.{first_from, first_of_all, acknowledges}
+use Rattle.llcp_link.specs.Offering.{IsLonger, part_of}
 use Rattle.llcp_link.specs.State.{sap_count}
-use Rattle.llcp_link.proofs.Circle.{ends_at, found_here, goes_round}
+use Rattle.llcp_link.proofs.Circle.{ends_at, found_here, goes_round, longer_here}
 use Rattle.llcp_link.proofs.llc.Llc.give_ack.Goals as goal
 
 pub returns-in-Given-clause-next : goal.returns-in-Given-clause-next
@@ -34,3 +35,15 @@ returns-clause-next g c =
     let past : sap_count ≤ c.clients.counter = search rules in
     let z : sap_count - c.clients.counter ≡ 0 = omega arith in
     (ends_at (sap_count - c.clients.counter) c.clients.client f (first_of_all l.last f) z c.clients.invariant.left, c.clients.invariant.same)
+
+pub returns-in-TooLong-clause-next : goal.returns-in-TooLong-clause-next
+returns-in-TooLong-clause-next g c =
+    let l = c.args.self.now in
+    let f = acknowledges l in
+    let t = c.in-TooLong.ensures.next in
+    let lt : c.clients.counter < sap_count = search rules in
+    let k : IsLonger c.args.room (part_of (f c.clients.client)) =
+    subst (λ x. IsLonger c.args.room (part_of (acknowledges x c.clients.client))) c.clients.invariant.same t.1 in (
+      t.0 ∙ c.clients.invariant.same,
+      longer_here sap_count c.clients.counter c.clients.client f (first_of_all l.last f) c.args.room lt c.clients.invariant.left k,
+    )

@@ -1,9 +1,9 @@
 use Rattle.std.proofs.Common.{rules, ◌≡◌, ◌<◌, ◌≤◌, ◌-◌, ◌+◌, Some, None, sym, ap, subst, ◌∙◌, arith}
 use Rattle.llcp_link.specs.Giving.{first_from, first_of_all, informs}
-use Rattle.llcp_link.specs.Offering.{LeavesNext, Tried}
-use Rattle.llcp_link.specs.declared.giving.Next.TheVariants.{Given, Nothing}
+use Rattle.llcp_link.specs.Offering.{IsLonger, LeavesNext, Tried, part_of}
+use Rattle.llcp_link.specs.declared.giving.Next.TheVariants.{Given, Nothing, TooLong}
 use Rattle.llcp_link.specs.State.{sap_count}
-use Rattle.llcp_link.proofs.Circle.{ends_at, found_here, goes_round, next_left}
+use Rattle.llcp_link.proofs.Circle.{ends_at, found_here, goes_round, longer_here, next_left}
 use Rattle.llcp_link.proofs.llc.Llc.give_unit.Goals as goal
 
 pub returns-in-Ok-Given-clause-next : goal.returns-in-Ok-Given-clause-next
@@ -49,3 +49,18 @@ returns-in-Err-clause-err g c =
     let moved : LeavesNext m (f c.clients.client) l.service c.give_unit_at.new.self.service =
     subst (λ k. LeavesNext m (informs m k c.clients.client) k.service c.give_unit_at.new.self.service) c.clients.invariant.same left in
     next_left m sap_count c.clients.counter c.clients.client f (first_of_all l.last f) l.service c.give_unit_at.new.self.service lt c.clients.invariant.left moved
+
+pub returns-in-Ok-TooLong-clause-next : goal.returns-in-Ok-TooLong-clause-next
+returns-in-Ok-TooLong-clause-next g c =
+    let l = c.args.self.now in
+    let m = g.S.Service.serving in
+    let f = informs m l in
+    let t : Tried c.args.room (informs m c.clients.self c.clients.client) c.clients.self c.give_unit_at.new.self TooLong =
+    subst (Tried c.args.room (informs m c.clients.self c.clients.client) c.clients.self c.give_unit_at.new.self)
+    c.in-Ok-TooLong.field-0-is c.in-Ok-TooLong.ensures.next in
+    let lt : c.clients.counter < sap_count = search rules in
+    let k : IsLonger c.args.room (part_of (f c.clients.client)) =
+    subst (λ x. IsLonger c.args.room (part_of (informs m x c.clients.client))) c.clients.invariant.same t.1 in (
+      t.0 ∙ c.clients.invariant.same,
+      longer_here sap_count c.clients.counter c.clients.client f (first_of_all l.last f) c.args.room lt c.clients.invariant.left k,
+    )
