@@ -1,3 +1,4 @@
 pub mod Spellings
 pub mod Memory
+pub mod Stores
 pub mod Steps

@@ -1,5 +1,5 @@
 -- What a Type 2 tag holds (NFC Forum Type 2 Tag).
-use Rattle.std.specs.Prelude.{◌≡◌, ℕ, ◌+◌, ◌*◌, ◌/◌, ◌%◌, ◌≤◌, List, length, get_or, slice_index, set, replicate, Bool, true, false}
+use Rattle.std.specs.Prelude.{◌≡◌, ℕ, ◌+◌, ◌*◌, ◌/◌, ◌%◌, ◌≤◌, List, length, take, get_or, slice_index, set, replicate, Bool, true, false}
 use Rattle.t2t_tag.specs.declared.tag.StoreFault.{StoreFault}
 use Rattle.t2t_tag.specs.declared.tag.StoreFault.TheVariants.{BadStore}
 
@@ -14,6 +14,15 @@ pub record IsT2Store (store : List ℕ) : Type 0 where
   pub least : 4 ≤ block_count store
   pub most : block_count store ≤ 256
   pub area : slice_index store 12 ≡ 0xE1 → slice_index store 14 ≤ 0x7E → 4 + 2 * slice_index store 14 ≤ block_count store
+
+-- the first four blocks, with the container, which no command writes
+abbrev pub fixed_size : ℕ
+fixed_size = 16
+
+-- What no frame changes of a store, so that it stays one.
+pub record IsSameStore (old new : List ℕ) : Type 0 where
+  pub size : length new ≡ length old
+  pub fixed : take fixed_size new ≡ take fixed_size old
 
 -- the store of a tag, and of each block number whether that block is locked
 pub record T2Memory : Type 0 where
@@ -35,6 +44,11 @@ is_locked m block = get_or m.locked block false
 -- the tag with one block more locked
 abbrev pub locked_too : T2Memory → ℕ → T2Memory
 locked_too m block = record m { locked = set m.locked block true }
+
+-- what no frame changes of a tag
+pub record IsSameTag (m n : T2Memory) : Type 0 where
+  pub store : IsSameStore m.store n.store
+  pub locked : n.locked ≡ m.locked
 
 -- a tag that holds a store and has no locked block
 abbrev pub unlocked : List ℕ → T2Memory

@@ -1,8 +1,10 @@
 //! A Type 2 tag.
 
-ghost use Rattle.std.specs.Prelude.{◌≡◌, ◌<◌, ◌↔◌, length, IfOk, IsOk};
+ghost use Rattle.std.specs.Prelude.{◌≡◌, ◌<◌, ◌↔◌, length, IfOk, IsOk, Some};
 ghost use Rattle.nfc_base.specs.Blocks.{block_of};
-ghost use Rattle.t2t_tag.specs.Store.{IsT2Store, IsT2Memory, block_count, unlocked, locked_too, store_fault_number};
+ghost use Rattle.t2t_tag.specs.declared.answer.T2Answer.TheVariants.{Refused};
+ghost use Rattle.t2t_tag.specs.Spelling.{answer_frame};
+ghost use Rattle.t2t_tag.specs.Store.{IsT2Store, T2Memory, IsT2Memory, IsSameTag, block_count, unlocked, locked_too, store_fault_number};
 ghost use Rattle.t2t_tag.specs.Step.{four_blocks, t2_reply, t2_obeyed, t2_answer, t2_after};
 
 use crate::answer::T2Answer;
@@ -104,6 +106,10 @@ impl T2Tag {
     pub fn obey(&mut self, request: &Frame) -> Option<Frame>
         ensures answer { result ≡ t2_answer self.old request.now }
         ensures step { self.new ≡ t2_after self.old request.now }
+        // whatever the frame: a WRITE begins behind the container, so that the store stays one
+        ensures same { IsSameTag self.old self.new }
+        ensures stays { (m : T2Memory) → IsT2Memory m → IsT2Memory (t2_after m request.now) }
+        ensures refusal { result ≡ Some (answer_frame Refused) → self.new ≡ self.old }
     {
         let answer = match T2Command::read_from(request)? {
             T2Command::Read { block } => self.read(block),

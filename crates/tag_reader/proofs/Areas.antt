@@ -1,5 +1,5 @@
 -- The area that a store's container names, and which READs it is due to ask for.
-use Rattle.std.proofs.Common.{◌≡◌, ℕ, ◌+◌, ◌*◌, ◌<◌, ◌≤◌, inl, inr, List, length, take, refl, ap, subst, arith}
+use Rattle.std.proofs.Common.{◌≡◌, ℕ, ◌+◌, ◌*◌, ◌%◌, ◌<◌, ◌≤◌, inl, inr, List, length, take, refl, ap, subst, arith}
 use Rattle.std.specs.Prelude.{◌==◌, nat_lt, slice_index, Ok}
 use Rattle.std.proofs.lemmas.Bool.{cases_lt, cases_Bool, ltb-false, eqb-true, eqb-false}
 use Rattle.std.proofs.lemmas.List.{length-take-le, get_or-take}
@@ -12,7 +12,7 @@ use Rattle.tlv_area.proofs.Cuts.{none_unknown}
 use Rattle.tag_reader.specs.declared.how.How.{How}
 use Rattle.tag_reader.specs.declared.how.How.TheVariants.{T2, T4, T5}
 use Rattle.tag_reader.specs.Kinds.{IsStore, area_of}
-use Rattle.tag_reader.specs.Asked.{NeedsMore, IsNext, IsDue}
+use Rattle.tag_reader.specs.Asked.{Aim, ToRead, ToWrite, NeedsMore, IsNext, IsLeft, IsNextFor, IsDue}
 use Rattle.tag_reader.specs.Steps.{IsBlockStore, IsOfBlocks, IsInReach, HoldsContainer}
 
 -- the area of a Type 2 tag
@@ -21,6 +21,7 @@ pub record T2Area (store : List ℕ) (space : Space) : Type 0 where
   pub some : 16 < space.end
   pub within : space.end ≤ length store
   pub most : space.end ≤ 1024
+  pub fours : space.end % 4 ≡ 0
 
 pub t2_area : (store : List ℕ) (space : Space) → IsT2Store store → t2_container (four_bytes store 12) ≡ Ok space → T2Area store space
 t2_area store space is has =
@@ -39,7 +40,7 @@ t2_area store space is has =
                   let positive : 0 < slice_index store 14 = omega (arith, eqb-false (slice_index store 14) 0 some) in
                   let holds = is.area (eqb-true (slice_index store 12) 225 magic) size in
                   let same : t2_space (four_bytes store 12) ≡ space = cc in
-                  subst (λ x. T2Area store x) same (record { start = refl; some = omega arith; within = omega (arith, is.whole); most = omega arith }))
+                  subst (λ x. T2Area store x) same (record { start = refl; some = omega arith; within = omega (arith, is.whole); most = omega arith; fours = omega arith }))
             ])
           ])
         ])
@@ -103,6 +104,22 @@ needs_next (T5 id) size store n is needs = absurd is
 pub due_reach : (how : How) (size : ℕ) (store : List ℕ) (n : ℕ) → IsBlockStore how size store → IsDue how size store n → IsInReach how size store n
 due_reach how size store n is (inl e) = first_reach how size store n is e
 due_reach how size store n is (inr next) = needs_reach how size store n is (next_needs how size store n is next)
+
+-- so is one that is left of an area
+pub left_reach : (how : How) (size : ℕ) (store : List ℕ) (n : ℕ) → IsBlockStore how size store → IsLeft how size store n → IsInReach how size store n
+left_reach T2 size store n is left =
+    let fits = t2_area store left.space is.1 left.area in
+    let same : size * n ≡ 16 * n = ap (λ s. s * n) is.0 in
+    omega (arith, left.more, same, fits.within)
+left_reach T4 size store n is left = absurd is
+left_reach (T5 id) size store n is left = absurd is
+
+-- behind the first READ one is asked only where the container names an area
+pub next_area : (aim : Aim) (how : How) (size : ℕ) (store : List ℕ) (n : ℕ) → IsBlockStore how size store → IsNextFor aim how size store n → (space : Space) × (area_of how size store ≡ Ok space)
+next_area ToRead how size store n is next = (let m = next_needs how size store n is next in (m.space, m.area))
+next_area ToWrite T2 size store n is next = (next.space, next.area)
+next_area ToWrite T4 size store n is next = absurd is
+next_area ToWrite (T5 id) size store n is next = absurd is
 
 -- block numbers end behind the last that is due
 pub due_below : (how : How) (size : ℕ) (store : List ℕ) (n : ℕ) → IsBlockStore how size store → IsInReach how size store n → n < 256

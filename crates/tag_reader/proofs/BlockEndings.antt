@@ -24,10 +24,10 @@ use Rattle.tag_reader.specs.declared.how.How.TheVariants.{T5}
 use Rattle.tag_reader.specs.declared.known.Known.{Known}
 use Rattle.tag_reader.specs.declared.fault.ReadFault.{ReadFault}
 use Rattle.tag_reader.specs.declared.fault.ReadFault.TheVariants as fault
-use Rattle.tag_reader.specs.Blocks.{NeedsBlocks, known_at, progress_at}
+use Rattle.tag_reader.specs.Blocks.{NeedsBlocks, AreaGoesOn, known_at, progress_at}
 use Rattle.tag_reader.specs.Kinds.{IsTag, IsStoreForm, area_of, first}
-use Rattle.tag_reader.specs.Asked.{IsDue}
-use Rattle.tag_reader.specs.Calls.{HasAsked, HasAskedAll}
+use Rattle.tag_reader.specs.Asked.{Aim, ToRead, ToWrite, IsNextFor, IsDueFor, IsDue}
+use Rattle.tag_reader.specs.Calls.{HasAskedFor, HasAskedAllFor}
 use Rattle.tag_reader.specs.Reading.{IsReadFault, is_told}
 use Rattle.tag_reader.specs.Heard.{Brings, IsBroughtBy, AreaSays, IsNone, IsFaultBy, joined, first_size}
 use Rattle.tag_reader.specs.HeardSteps.{Under, Gains, Sees}
@@ -87,7 +87,7 @@ walk_ask known space front names e short =
 
 -- the container and what it names
 module _ (known : Known) (space : Space) (names : Names known space) where
-  ready_here : t5_front known.bytes.items ≡ Ok (Ready names.area.space names.area.wide names.area.many)
+  pub ready_here : t5_front known.bytes.items ≡ Ok (Ready names.area.space names.area.wide names.area.many)
   ready_here = ap (λ xs. t5_front xs) (sym (append-nil known.bytes.items)) ∙ names.front []
 
   pub named_here : IsNamed known.bytes.items names.area
@@ -187,18 +187,19 @@ short_blocks id a b ps known known' is open' ends = inr (record {
     least = (let long = joined_least ps ends.ends.0 ends.stopped.pieces in omega (arith, ap length is.bytes, long))
 
 -- what was asked, where all of it was answered
-has_asked : (id : List ℕ) (size n : ℕ) (a b : LinkView) → Asks (T5 id) size a b n → HasAsked (T5 id) size a.state.store a b
+pub has_asked : {aim : Aim} (id : List ℕ) (size n : ℕ) (a b : LinkView) → Asks aim (T5 id) size a b n → HasAskedFor aim (T5 id) size a.state.store a b
 has_asked id size n a b asks = record { count = n; each = asks.each; answered = asks.answered; last = inl (asks.last, asks.goes_on.over ∙ sym asks.before) }
 
-has_all : (id : List ℕ) (size n : ℕ) (a b : LinkView) → Asks (T5 id) size a b n → (IsDue (T5 id) size a.state.store n → ⊥) → HasAskedAll (T5 id) size a.state.store a b
+pub has_all : {aim : Aim} (id : List ℕ) (size n : ℕ) (a b : LinkView) → Asks aim (T5 id) size a b n → (IsDueFor aim (T5 id) size a.state.store n → ⊥) → HasAskedAllFor aim (T5 id) size a.state.store a b
 has_all id size n a b asks no_more = record {
   commands = first (T5 id) size a.state.store n;
   all = record { count = n; list = refl; each = asks.each; no_more = no_more };
   answered = asks.answered;
+  state = asks.after;
 }
 
-pub reads_told : (id : List ℕ) (size n : ℕ) (a b : LinkView) (known : List ℕ) (e : ReadFault) → Asks (T5 id) size a b n → (IsDue (T5 id) size a.state.store n → ⊥) → is_told e ≡ true →
-    IsReadFault (T5 id) size a.state.store a b e → Reads (T5 id) size a b known (Err e)
+pub reads_told : {aim : Aim} (id : List ℕ) (size n : ℕ) (a b : LinkView) (known : List ℕ) (e : ReadFault) → Asks aim (T5 id) size a b n → (IsDueFor aim (T5 id) size a.state.store n → ⊥) → is_told e ≡ true →
+    IsReadFault (T5 id) size a.state.store a b e → Reads aim (T5 id) size a b known (Err e)
 reads_told id size n a b known e asks no_more told is = record {
   stays = asks.stays;
   asked = has_asked id size n a b asks;
@@ -208,8 +209,8 @@ reads_told id size n a b known e asks no_more told is = record {
   calm = λ begun lit quiet. inl told;
 }
 
-pub reads_map : (id : List ℕ) (size n : ℕ) (a b : LinkView) (known : List ℕ) (m : AreaMap) → Asks (T5 id) size a b n → (IsDue (T5 id) size a.state.store n → ⊥) →
-    IsMapFound (T5 id) size a.state.store known m → Reads (T5 id) size a b known (Ok m)
+pub reads_map : (id : List ℕ) (size n : ℕ) (a b : LinkView) (known : List ℕ) (m : AreaMap) → Asks ToRead (T5 id) size a b n → (IsDue (T5 id) size a.state.store n → ⊥) →
+    IsMapFound (T5 id) size a.state.store known m → Reads ToRead (T5 id) size a b known (Ok m)
 reads_map id size n a b known m asks no_more is = record {
   stays = asks.stays;
   asked = has_asked id size n a b asks;
@@ -219,13 +220,13 @@ reads_map id size n a b known m asks no_more is = record {
   calm = tt;
 }
 
-pub any_known : (id : List ℕ) (size : ℕ) (a b : LinkView) (known known' : List ℕ) (e : ReadFault) → Reads (T5 id) size a b known (Err e) → Reads (T5 id) size a b known' (Err e)
+pub any_known : {aim : Aim} (id : List ℕ) (size : ℕ) (a b : LinkView) (known known' : List ℕ) (e : ReadFault) → Reads aim (T5 id) size a b known (Err e) → Reads aim (T5 id) size a b known' (Err e)
 any_known id size a b known known' e r = record { stays = r.stays; asked = r.asked; whole = r.whole; goes_on = r.goes_on; tells = r.tells; calm = r.calm }
 
 -- a container with a fault
-pub reads_faulty : (id : List ℕ) (size n : ℕ) (a b : LinkView) (known : Known) (f : ContainerFault) → IsReading id size a b known (suc n) → ((more : List ℕ) → t5_front (known.bytes.items ++ more) ≡ Err f) →
-    Reads (T5 id) size a b [] (Err (of_container f))
-reads_faulty id size n a b known f r front =
+pub reads_faulty : (aim : Aim) (id : List ℕ) (size n : ℕ) (a b : LinkView) (known : Known) (f : ContainerFault) → IsReading aim id size a b known (suc n) → ((more : List ℕ) → t5_front (known.bytes.items ++ more) ≡ Err f) →
+    Reads aim (T5 id) size a b [] (Err (of_container f))
+reads_faulty aim id size n a b known f r front =
     let store : List ℕ = a.state.store in
     let m : ℕ = size * (progress_at size store (suc n)).blocks in
     let whole : store ≡ known.bytes.items ++ drop m store = store_goes_on store known.bytes.items m r.bytes in
@@ -233,21 +234,25 @@ reads_faulty id size n a b known f r front =
     reads_told id size (suc n) a b [] (of_container f) r.reached none (container_told f)
     (container_fault (T5 id) size store a b f (subst (λ x. IsFormBy (cut_by (t5_area_by size x) (length store)) store (form.Faulty f)) (sym at_store) refl))
   where
-    none : IsDue (T5 id) size a.state.store (suc n) → ⊥
+    here : t5_front (known_at size a.state.store (progress_at size a.state.store (suc n))) ≡ Err f
+    here = ap (λ xs. t5_front xs) (sym (append-nil known.bytes.items ∙ r.bytes)) ∙ front []
+
+    next : (goal : Aim) → IsNextFor goal (T5 id) size a.state.store (suc n) → ⊥
+    next ToRead due = subst (λ x. NeedsBlocks size (known_at size a.state.store (progress_at size a.state.store (suc n))) x) here due.needs
+    next ToWrite due = subst (λ x. AreaGoesOn size (size * (progress_at size a.state.store (suc n)).blocks) x) here due.more
+
+    none : IsDueFor aim (T5 id) size a.state.store (suc n) → ⊥
     none (inl e) = omega arith
-    none (inr due) =
-        let here : t5_front (known_at size a.state.store (progress_at size a.state.store (suc n))) ≡ Err f =
-        ap (λ xs. t5_front xs) (sym (append-nil known.bytes.items ∙ r.bytes)) ∙ front [] in
-        subst (λ x. NeedsBlocks size (known_at size a.state.store (progress_at size a.state.store (suc n))) x) here due.needs
+    none (inr due) = next aim due
 
 -- all of the store is known
-pub all_known : (id : List ℕ) (size n : ℕ) (a b c : LinkView) (known known' : Known) → IsReading id size a b known n → HasRunOut id size a c known known' n → known.bytes.items ≡ a.state.store
+pub all_known : {aim : Aim} (id : List ℕ) (size n : ℕ) (a b c : LinkView) (known known' : Known) → IsReading aim id size a b known n → HasRunOut aim id size a c known known' n → known.bytes.items ≡ a.state.store
 all_known id size n a b c known known' r ends =
     r.bytes ∙ ap (λ m. take m a.state.store) (sym ends.end) ∙ take_all (length a.state.store) a.state.store (omega arith)
 
 -- the tag ends before its container does
-pub reads_short : (id : List ℕ) (size n : ℕ) (a b c : LinkView) (known known' : Known) → IsReading id size a b known n → t5_is_open known.bytes.items ≡ true → HasRunOut id size a c known known' n →
-    Reads (T5 id) size a c [] (Err fault.BadSize)
+pub reads_short : {aim : Aim} (id : List ℕ) (size n : ℕ) (a b c : LinkView) (known known' : Known) → IsReading aim id size a b known n → t5_is_open known.bytes.items ≡ true → HasRunOut aim id size a c known known' n →
+    Reads aim (T5 id) size a c [] (Err fault.BadSize)
 reads_short id size n a b c known known' r open' ends =
     let store : List ℕ = a.state.store in
     let whole = all_known id size n a b c known known' r ends in
@@ -258,7 +263,7 @@ reads_short id size n a b c known known' r open' ends =
 
 -- a walk that is settled over what is known
 module _ (id : List ℕ) (size n : ℕ) (a b : LinkView) (known : Known) (space : Space) (front : List ℕ) (w : Walk)
-    (r : IsReading id size a b known (suc n)) (names : Names known space) (e : front ≡ take space.end known.bytes.items)
+    (r : IsReading ToRead id size a b known (suc n)) (names : Names known space) (e : front ≡ take space.end known.bytes.items)
     (settled : IsSettled w) (there : (more : List ℕ) → IsWalk space (front ++ more) w) where
   abbrev past : List ℕ
   past = drop (size * (progress_at size a.state.store (suc n)).blocks) a.state.store
@@ -297,20 +302,20 @@ module _ (id : List ℕ) (size n : ℕ) (a b : LinkView) (known : Known) (space 
   pub form_here : (f : form.Form) → form.IsForm (cut space (length a.state.store)) a.state.store f → IsStoreForm (T5 id) size a.state.store f
   form_here f is = subst (λ x. IsFormBy (cut_by x (length a.state.store)) a.state.store f) (sym area_here) is
 
-pub blocks_none : (id : List ℕ) (size n : ℕ) (a b : LinkView) (known : Known) (space : Space) (front : List ℕ) → IsReading id size a b known (suc n) → Names known space →
-    front ≡ take space.end known.bytes.items → ((more : List ℕ) → IsWalk space (front ++ more) walk.NoMessageTlv) → Reads (T5 id) size a b known.bytes.items (Err fault.NoMessageTlv)
+pub blocks_none : (id : List ℕ) (size n : ℕ) (a b : LinkView) (known : Known) (space : Space) (front : List ℕ) → IsReading ToRead id size a b known (suc n) → Names known space →
+    front ≡ take space.end known.bytes.items → ((more : List ℕ) → IsWalk space (front ++ more) walk.NoMessageTlv) → Reads ToRead (T5 id) size a b known.bytes.items (Err fault.NoMessageTlv)
 blocks_none id size n a b known space front r names e there =
     reads_told id size (suc n) a b known.bytes.items fault.NoMessageTlv r.reached (none_due id size n a b known space front walk.NoMessageTlv r names e tt there) refl
     (form_here id size n a b known space front walk.NoMessageTlv r names e tt there form.NoMessageTlv (cut_told id size n a b known space front walk.NoMessageTlv r names e tt there))
 
-pub blocks_bad : (id : List ℕ) (size n : ℕ) (a b : LinkView) (known : Known) (space : Space) (front : List ℕ) → IsReading id size a b known (suc n) → Names known space →
-    front ≡ take space.end known.bytes.items → ((more : List ℕ) → IsWalk space (front ++ more) walk.BadTlv) → Reads (T5 id) size a b known.bytes.items (Err fault.BadTlv)
+pub blocks_bad : (id : List ℕ) (size n : ℕ) (a b : LinkView) (known : Known) (space : Space) (front : List ℕ) → IsReading ToRead id size a b known (suc n) → Names known space →
+    front ≡ take space.end known.bytes.items → ((more : List ℕ) → IsWalk space (front ++ more) walk.BadTlv) → Reads ToRead (T5 id) size a b known.bytes.items (Err fault.BadTlv)
 blocks_bad id size n a b known space front r names e there =
     reads_told id size (suc n) a b known.bytes.items fault.BadTlv r.reached (none_due id size n a b known space front walk.BadTlv r names e tt there) refl
     (form_here id size n a b known space front walk.BadTlv r names e tt there form.BadTlv (cut_told id size n a b known space front walk.BadTlv r names e tt there))
 
-pub blocks_held : (id : List ℕ) (size n : ℕ) (a b : LinkView) (known : Known) (space : Space) (front : List ℕ) (m : AreaMap) → IsReading id size a b known (suc n) → Names known space →
-    front ≡ take space.end known.bytes.items → ((more : List ℕ) → IsWalk space (front ++ more) (walk.Held m)) → IsPlacedIn front m → Reads (T5 id) size a b known.bytes.items (Ok m)
+pub blocks_held : (id : List ℕ) (size n : ℕ) (a b : LinkView) (known : Known) (space : Space) (front : List ℕ) (m : AreaMap) → IsReading ToRead id size a b known (suc n) → Names known space →
+    front ≡ take space.end known.bytes.items → ((more : List ℕ) → IsWalk space (front ++ more) (walk.Held m)) → IsPlacedIn front m → Reads ToRead (T5 id) size a b known.bytes.items (Ok m)
 blocks_held id size n a b known space front m r names e there places =
     let store : List ℕ = a.state.store in
     let cells : List ℕ = message_cells m in
@@ -333,7 +338,7 @@ blocks_held id size n a b known space front m r names e there places =
     })
 
 -- the walk needs more: another command is due
-pub blocks_due : (id : List ℕ) (size n : ℕ) (a b : LinkView) (known : Known) (space : Space) (front : List ℕ) → IsReading id size a b known (suc n) → Names known space →
+pub blocks_due : (id : List ℕ) (size n : ℕ) (a b : LinkView) (known : Known) (space : Space) (front : List ℕ) → IsReading ToRead id size a b known (suc n) → Names known space →
     front ≡ take space.end known.bytes.items → length front < space.end → form.NeedsMore space front → IsDue (T5 id) size a.state.store (suc n)
 blocks_due id size n a b known space front r names e short more =
     let less = known_short known.bytes.items front space.end e short in
@@ -342,14 +347,17 @@ blocks_due id size n a b known space front r names e short more =
     inr (record { within = r.within; needs = subst (λ xs. NeedsBlocks size xs (t5_front xs)) r.bytes needs })
 
 -- so it is where the container is open
-pub open_due : (id : List ℕ) (size n : ℕ) (a b : LinkView) (known : Known) → IsReading id size a b known n → t5_is_open known.bytes.items ≡ true → IsDue (T5 id) size a.state.store n
-open_due id size n a b known r open' =
+pub open_due : (aim : Aim) (id : List ℕ) (size n : ℕ) (a b : LinkView) (known : Known) → IsReading aim id size a b known n → t5_is_open known.bytes.items ≡ true → IsDueFor aim (T5 id) size a.state.store n
+open_due ToRead id size n a b known r open' =
     let front : t5_front (known_at size a.state.store (progress_at size a.state.store n)) ≡ Ok More = open_front (known_at size a.state.store (progress_at size a.state.store n)) (subst (λ xs. t5_is_open xs ≡ true) r.bytes open') in
     inr (record { within = r.within; needs = subst (λ x. NeedsBlocks size (known_at size a.state.store (progress_at size a.state.store n)) x) (sym front) tt })
+open_due ToWrite id size n a b known r open' =
+    let front : t5_front (known_at size a.state.store (progress_at size a.state.store n)) ≡ Ok More = open_front (known_at size a.state.store (progress_at size a.state.store n)) (subst (λ xs. t5_is_open xs ≡ true) r.bytes open') in
+    inr (record { within = r.within; more = subst (λ x. AreaGoesOn size (size * (progress_at size a.state.store n).blocks) x) (sym front) tt })
 
 -- the tag ends before its area
-pub blocks_cut : (id : List ℕ) (size n : ℕ) (a b c : LinkView) (known known' : Known) (space : Space) (e : ReadFault) → IsReading id size a b known (suc n) → Names known space →
-    length known.bytes.items < space.end → HasRunOut id size a c known known' (suc n) → IsCutFault space known.bytes.items e → Reads (T5 id) size a c known'.bytes.items (Err e)
+pub blocks_cut : (id : List ℕ) (size n : ℕ) (a b c : LinkView) (known known' : Known) (space : Space) (e : ReadFault) → IsReading ToRead id size a b known (suc n) → Names known space →
+    length known.bytes.items < space.end → HasRunOut ToRead id size a c known known' (suc n) → IsCutFault space known.bytes.items e → Reads ToRead (T5 id) size a c known'.bytes.items (Err e)
 blocks_cut id size n a b c known known' space e r names short ends cut' =
     reads_told id size (suc (suc n)) a c known'.bytes.items e ends.asks ends.no_more (cut_is_told space known.bytes.items e cut') (by_fault cut')
   where
@@ -388,7 +396,7 @@ names_ready known slice space result wide many sized closed same front reach =
       most = sizes'.1;
     }
 
-pub later : (id : List ℕ) (size n : ℕ) (a b : LinkView) (known : Known) → IsReading id size a b known n → t5_is_open known.bytes.items ≡ false → (m : ℕ) × IsReading id size a b known (suc m)
+pub later : {aim : Aim} (id : List ℕ) (size n : ℕ) (a b : LinkView) (known : Known) → IsReading aim id size a b known n → t5_is_open known.bytes.items ≡ false → (m : ℕ) × IsReading aim id size a b known (suc m)
 later id size (suc n) a b known r closed = (n, r)
 later id size zero a b known r closed =
     let none : size * 0 ≡ 0 = omega arith in
@@ -397,7 +405,7 @@ later id size zero a b known r closed =
     absurd (cc)
 
 -- nothing is known yet
-pub reading_none : (id : List ℕ) (size : ℕ) (a : LinkView) (known : Known) → IsTag (T5 id) size a → known.size ≡ 0 → known.single ≡ false → known.bytes.items ≡ [] → IsReading id size a a known 0
+pub reading_none : {aim : Aim} (id : List ℕ) (size : ℕ) (a : LinkView) (known : Known) → IsTag (T5 id) size a → known.size ≡ 0 → known.single ≡ false → known.bytes.items ≡ [] → IsReading aim id size a a known 0
 reading_none id size a known is none single empty =
     let zero' : size * 0 ≡ 0 = omega arith in
     record {

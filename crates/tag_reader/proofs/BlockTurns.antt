@@ -28,12 +28,12 @@ use Rattle.tag_reader.specs.declared.fault.ReadFault.TheVariants as fault
 use Rattle.tag_reader.specs.declared.told.BlocksTold.TheVariants.{Single, Ended}
 use Rattle.tag_reader.specs.Blocks.{ask_frame, ask_count, IsOne, IsMany, most_blocks, ask_by, next_ask, Progress, known_at, ask_at, ask_answer, progress_behind, progress_at}
 use Rattle.tag_reader.specs.Kinds.{IsTag, command, first, t5_memory}
-use Rattle.tag_reader.specs.Asked.{IsDue, AreDue}
+use Rattle.tag_reader.specs.Asked.{Aim, ToRead, ToWrite, IsNextFor, IsDueFor, AreDueFor}
 use Rattle.tag_reader.specs.Heard.{HasContent, IsBlocks}
 use Rattle.tag_reader.specs.Steps.{Answers, Fails, Asks, Reads}
 use Rattle.tag_reader.specs.BlockSteps.{TellsBlocks, Reached, size_at, IsReading, HasRunOut}
 use Rattle.tag_reader.proofs.Links.{Keeps}
-use Rattle.tag_reader.proofs.Knowing.{due_more, stays_on, goes_on_on}
+use Rattle.tag_reader.proofs.Knowing.{due_more_for, after_more, stays_on, goes_on_on}
 use Rattle.tag_reader.proofs.Endings.{ends_first, ends_asks}
 use Rattle.tag_reader.proofs.BlockLists.{sizes}
 
@@ -105,12 +105,12 @@ tag_by id size a b is kind identifier step state = record {
   steps = (is.steps.0, is.steps.1, λ t c store may. ap (λ st. st t c) step ∙ is.steps.2 t c store may);
 }
 
-pub tag_at : (id : List ℕ) (size n : ℕ) (a b : LinkView) (known : Known) → IsReading id size a b known n → IsTag (T5 id) size b
+pub tag_at : {aim : Aim} (id : List ℕ) (size n : ℕ) (a b : LinkView) (known : Known) → IsReading aim id size a b known n → IsTag (T5 id) size b
 tag_at id size zero a b known r = subst (λ v. IsTag (T5 id) size v) (sym r.reached) r.tag
 tag_at id size (suc n) a b known r = tag_by id size a b r.tag r.reached.stays.leads.kind r.reached.stays.leads.identifier r.reached.stays.leads.step r.state
 
 -- how many bytes are known
-pub known_long : (id : List ℕ) (size n : ℕ) (a b : LinkView) (known : Known) → IsReading id size a b known n → length known.bytes.items ≡ size * (progress_at size a.state.store n).blocks
+pub known_long : {aim : Aim} (id : List ℕ) (size n : ℕ) (a b : LinkView) (known : Known) → IsReading aim id size a b known n → length known.bytes.items ≡ size * (progress_at size a.state.store n).blocks
 known_long id size n a b known r = ap length r.bytes ∙ length-take-le (size * (progress_at size a.state.store n).blocks) a.state.store r.within
 
 -- what is asked is what the store's list has
@@ -119,7 +119,7 @@ first_ask single size known none =
     let zero' : length known / 0 ≡ length known / size = div-zero (length known) ∙ sym (ap (λ xs. length xs / size) none ∙ zero-div size) in
     rw none (let e : 0 / 0 ≡ 0 / size = div-zero 0 ∙ sym (zero-div size) in ap (λ b. One b) e)
 
-pub asks_is : (id : List ℕ) (size n : ℕ) (a b : LinkView) (known : Known) → IsReading id size a b known n → next_ask known.size known.single known.bytes.items ≡ ask_at size a.state.store (progress_at size a.state.store n)
+pub asks_is : {aim : Aim} (id : List ℕ) (size n : ℕ) (a b : LinkView) (known : Known) → IsReading aim id size a b known n → next_ask known.size known.single known.bytes.items ≡ ask_at size a.state.store (progress_at size a.state.store n)
 asks_is id size zero a b known r =
     let none : size * 0 ≡ 0 = omega arith in
     let empty : known.bytes.items ≡ [] = r.bytes ∙ ap (λ m. take m a.state.store) none in
@@ -165,28 +165,29 @@ asks_from size store p is within =
     subst (λ b. IsFrom size b (ask_at size store p)) block (from_by size p.single (length (known_at size store p) / size) (t5_front (known_at size store p)) facts.most facts.least)
 
 -- a command more is answered
-due_after : (id : List ℕ) (size n : ℕ) (store : List ℕ) → AreDue (T5 id) size store n → IsDue (T5 id) size store n → AreDue (T5 id) size store (suc n)
-due_after id size n store before here = (let e : n + 1 ≡ suc n = omega arith in subst (λ m. AreDue (T5 id) size store m) e (due_more (T5 id) size store n before here))
+due_after : (aim : Aim) (id : List ℕ) (size n : ℕ) (store : List ℕ) → AreDueFor aim (T5 id) size store n → IsDueFor aim (T5 id) size store n → AreDueFor aim (T5 id) size store (suc n)
+due_after aim id size n store before here = (let e : n + 1 ≡ suc n = omega arith in subst (λ m. AreDueFor aim (T5 id) size store m) e (due_more_for aim (T5 id) size store n before here))
 
-pub reaches : (id : List ℕ) (size n : ℕ) (a b c : LinkView) → Reached (T5 id) size a b n → IsDue (T5 id) size a.state.store n → Answers (command (T5 id) size a.state.store n) b c → Asks (T5 id) size a c (suc n)
-reaches id size zero a b c reached due answer =
+pub reaches : (aim : Aim) (id : List ℕ) (size n : ℕ) (a b c : LinkView) → Reached aim (T5 id) size a b n → IsDueFor aim (T5 id) size a.state.store n → Answers (command (T5 id) size a.state.store n) b c → Asks aim (T5 id) size a c (suc n)
+reaches aim id size zero a b c reached due answer =
     let here : Answers (command (T5 id) size a.state.store 0) a c = subst (λ v. Answers (command (T5 id) size a.state.store 0) v c) reached answer in
-    record { stays = here.stays; before = here.before; goes_on = here.goes_on; each = λ k low. inl (omega arith); answered = here.answered; last = here.last }
-reaches id size (suc n) a b c asks due answer = record {
+    record { stays = here.stays; before = here.before; goes_on = here.goes_on; each = λ k low. inl (omega arith); answered = here.answered; last = here.last; after = here.after }
+reaches aim id size (suc n) a b c asks due answer = record {
   stays = stays_on a b c asks.stays answer.stays;
   before = asks.before;
   goes_on = goes_on_on a b c asks.goes_on answer.goes_on;
-  each = due_after id size (suc n) a.state.store asks.each due;
+  each = due_after aim id size (suc n) a.state.store asks.each due;
   answered = answer.answered ∙ ap (λ xs. xs ++ command (T5 id) size a.state.store (suc n) ∷ []) asks.answered
       ∙ append_assoc a.answered (first (T5 id) size a.state.store (suc n)) (command (T5 id) size a.state.store (suc n) ∷ []);
   last = answer.last;
+  after = after_more a b c (first (T5 id) size a.state.store (suc n)) (command (T5 id) size a.state.store (suc n)) asks.stays.leads.step asks.after answer.after;
 }
 
 -- or it fails
-pub fails : (id : List ℕ) (size n : ℕ) (a b c : LinkView) (e : ReadFault) → Reached (T5 id) size a b n → IsDue (T5 id) size a.state.store n → Fails (command (T5 id) size a.state.store n) b c e →
-    Reads (T5 id) size a c [] (Err e)
-fails id size zero a b c e reached due f = ends_first (T5 id) size a c [] e (subst (λ v. Fails (command (T5 id) size a.state.store 0) v c e) reached f)
-fails id size (suc n) a b c e asks due f = ends_asks (T5 id) size a b c [] (suc n) e asks due f
+pub fails : (aim : Aim) (id : List ℕ) (size n : ℕ) (a b c : LinkView) (e : ReadFault) → Reached aim (T5 id) size a b n → IsDueFor aim (T5 id) size a.state.store n → Fails (command (T5 id) size a.state.store n) b c e →
+    Reads aim (T5 id) size a c [] (Err e)
+fails aim id size zero a b c e reached due f = ends_first aim (T5 id) size a c [] e (subst (λ v. Fails (command (T5 id) size a.state.store 0) v c e) reached f)
+fails aim id size (suc n) a b c e asks due f = ends_asks aim (T5 id) size a b c [] (suc n) e asks due f
 
 -- what the answer tells
 pub content_is : (id p q : List ℕ) (r : Signal) → HasContent (T5 id) r p → r ≡ t5.answer_frame (t5_says.Content (record { items = q })) → p ≡ q
@@ -377,7 +378,7 @@ no_fault id size n store a known r' r e is within same known_is answer tells = b
     by_fault fault.Memory told = told
 
 -- the tag answers what is asked
-pub keeps_next : (id : List ℕ) (size n : ℕ) (a b : LinkView) (known : Known) → IsReading id size a b known n →
+pub keeps_next : {aim : Aim} (id : List ℕ) (size n : ℕ) (a b : LinkView) (known : Known) → IsReading aim id size a b known n →
     Keeps b (command (T5 id) size a.state.store n) (t5.answer_frame (ask_answer size a.state.store (ask_at size a.state.store (progress_at size a.state.store n)))) b.state
 keeps_next id size n a b known r =
     let from = asks_from size a.state.store (progress_at size a.state.store n) r.tag.store r.within in
@@ -397,18 +398,18 @@ first_size_is size (suc n) store content new is long e =
     rw some at e
 
 -- what it brings is known then
-pub learns_next : (id : List ℕ) (size n : ℕ) (a b c : LinkView) (known new : Known) (x : Ask) (r : Signal) (content : List ℕ) → IsReading id size a b known n → IsDue (T5 id) size a.state.store n →
+pub learns_next : (aim : Aim) (id : List ℕ) (size n : ℕ) (a b c : LinkView) (known new : Known) (x : Ask) (r : Signal) (content : List ℕ) → IsReading aim id size a b known n → IsDueFor aim (T5 id) size a.state.store n →
     x ≡ ask_at size a.state.store (progress_at size a.state.store n) → r ≡ t5.answer_frame (ask_answer size a.state.store (ask_at size a.state.store (progress_at size a.state.store n))) →
     Answers (command (T5 id) size a.state.store n) b c → c.state ≡ b.state → HasContent (T5 id) r content × IsBlocks known.size x content →
-    new.size ≡ (if known.size == 0 then length content else known.size) → new.single ≡ known.single → new.bytes.items ≡ known.bytes.items ++ content → IsReading id size a c new (suc n)
-learns_next id size n a b c known new x r content reading due same answer answers state tells sized single bytes =
+    new.size ≡ (if known.size == 0 then length content else known.size) → new.single ≡ known.single → new.bytes.items ≡ known.bytes.items ++ content → IsReading aim id size a c new (suc n)
+learns_next aim id size n a b c known new x r content reading due same answer answers state tells sized single bytes =
     let store : List ℕ = a.state.store in
     let p : Progress = progress_at size store n in
     let from = asks_from size store p reading.tag.store reading.within in
     let more = learned id content r size store p (ask_at size store p) from tells.0 answer in
     record {
       tag = reading.tag;
-      reached = reaches id size n a b c reading.reached due answers;
+      reached = reaches aim id size n a b c reading.reached due answers;
       state = state ∙ reading.state;
       size' = first_size_is size n store content new.size reading.tag.store more.long (sized ∙ ap (λ k. if k == 0 then length content else k) reading.size');
       single = single ∙ reading.single ∙ sym more.single;
@@ -417,10 +418,10 @@ learns_next id size n a b c known new x r content reading due same answer answer
     }
 
 -- or that it gives no several blocks
-pub single_next : (id : List ℕ) (size n : ℕ) (a b c : LinkView) (known : Known) (x : Ask) (r : Signal) → IsReading id size a b known n → IsDue (T5 id) size a.state.store n →
+pub single_next : (aim : Aim) (id : List ℕ) (size n : ℕ) (a b c : LinkView) (known : Known) (x : Ask) (r : Signal) → IsReading aim id size a b known n → IsDueFor aim (T5 id) size a.state.store n →
     x ≡ ask_at size a.state.store (progress_at size a.state.store n) → r ≡ t5.answer_frame (ask_answer size a.state.store (ask_at size a.state.store (progress_at size a.state.store n))) →
-    Answers (command (T5 id) size a.state.store n) b c → c.state ≡ b.state → TellsBlocks id x known.size r (Ok Single) → IsReading id size a c (record known { single = true }) (suc n)
-single_next id size n a b c known x r reading due same answer answers state tells =
+    Answers (command (T5 id) size a.state.store n) b c → c.state ≡ b.state → TellsBlocks id x known.size r (Ok Single) → IsReading aim id size a c (record known { single = true }) (suc n)
+single_next aim id size n a b c known x r reading due same answer answers state tells =
     let store : List ℕ = a.state.store in
     let p : Progress = progress_at size store n in
     let many : IsMany (ask_at size store p) = subst IsMany same tells.0 in
@@ -428,7 +429,7 @@ single_next id size n a b c known x r reading due same answer answers state tell
     let blocks : (progress_behind size store p (ask_at size store p)).blocks ≡ p.blocks = ap (λ q. q.blocks) behind in
     record {
       tag = reading.tag;
-      reached = reaches id size n a b c reading.reached due answers;
+      reached = reaches aim id size n a b c reading.reached due answers;
       state = state ∙ reading.state;
       size' = by_number n many reading.size';
       single = sym (ap (λ q. q.single) behind);
@@ -444,27 +445,33 @@ single_next id size n a b c known x r reading due same answer answers state tell
     by_number zero many e = absurd (not_one (ask_at size a.state.store (progress_at size a.state.store zero)) (first_one size a.state.store) many)
     by_number (suc m) many e = e
 
+-- what is due is due only where the tag hasn't ended
+left_within : (aim : Aim) (id : List ℕ) (size : ℕ) (store : List ℕ) (n : ℕ) → IsNextFor aim (T5 id) size store n → size * (progress_at size store n).blocks ≤ length store
+left_within ToRead id size store n due = due.within
+left_within ToWrite id size store n due = due.within
+
 -- or that it has ended
-pub ended_next : (id : List ℕ) (size n : ℕ) (a b c : LinkView) (known : Known) (x : Ask) (r : Signal) → IsReading id size a b known n → IsDue (T5 id) size a.state.store n →
+pub ended_next : (aim : Aim) (id : List ℕ) (size n : ℕ) (a b c : LinkView) (known : Known) (x : Ask) (r : Signal) → IsReading aim id size a b known n → IsDueFor aim (T5 id) size a.state.store n →
     x ≡ ask_at size a.state.store (progress_at size a.state.store n) → r ≡ t5.answer_frame (ask_answer size a.state.store (ask_at size a.state.store (progress_at size a.state.store n))) →
-    Answers (command (T5 id) size a.state.store n) b c → TellsBlocks id x known.size r (Ok Ended) → HasRunOut id size a c known known n
-ended_next id size n a b c known x r reading due same answer answers tells =
+    Answers (command (T5 id) size a.state.store n) b c → c.state ≡ b.state → TellsBlocks id x known.size r (Ok Ended) → HasRunOut aim id size a c known known n
+ended_next aim id size n a b c known x r reading due same answer answers state tells =
     let store : List ℕ = a.state.store in
     let p : Progress = progress_at size store n in
     let from = asks_from size store p reading.tag.store reading.within in
     let ended = one_error r no_block size store (ask_at size store p) (subst IsOne same tells.0) tells.2 answer in
     record {
-      asks = reaches id size n a b c reading.reached due answers;
+      asks = reaches aim id size n a b c reading.reached due answers;
       end = runs_out size store p (ask_at size store p) ended.0 reading.tag.store reading.within from ended.1 ended.2;
       no_more = past (runs_out size store p (ask_at size store p) ended.0 reading.tag.store reading.within from ended.1 ended.2) (ap (λ y. progress_behind size store p y) ended.1);
+      state = state ∙ reading.state;
       same = refl;
     }
   where
     past : length a.state.store ≡ size * (progress_at size a.state.store n).blocks →
-        progress_at size a.state.store (suc n) ≡ record (progress_at size a.state.store n) { blocks = (progress_at size a.state.store n).blocks + 1 } → IsDue (T5 id) size a.state.store (suc n) → ⊥
+        progress_at size a.state.store (suc n) ≡ record (progress_at size a.state.store n) { blocks = (progress_at size a.state.store n).blocks + 1 } → IsDueFor aim (T5 id) size a.state.store (suc n) → ⊥
     past end behind (inl first) = omega arith
     past end behind (inr due') =
         let facts = sizes size a.state.store reading.tag.store in
-        let within : size * ((progress_at size a.state.store n).blocks + 1) ≤ length a.state.store = subst (λ q. size * q.blocks ≤ length a.state.store) behind due'.within in
+        let within : size * ((progress_at size a.state.store n).blocks + 1) ≤ length a.state.store = subst (λ q. size * q.blocks ≤ length a.state.store) behind (left_within aim id size a.state.store (suc n) due') in
         let next : size * ((progress_at size a.state.store n).blocks + 1) ≡ size * (progress_at size a.state.store n).blocks + size = omega arith in
         omega (arith, within, next, end, facts.least)

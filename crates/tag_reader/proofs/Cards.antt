@@ -1,15 +1,11 @@
 -- That the tags of this repository are tags that a link of the tests may lead to.
-use Rattle.std.proofs.Common.{◌≡◌, ℕ, ◌≤◌, Bool, true, false, List, ◌++◌, length, take, drop, refl, sym, ◌∙◌, ap, subst, arith}
-use Rattle.std.specs.Prelude.{if◌then◌else◌, Option, Some, None}
+use Rattle.std.proofs.Common.{◌≡◌, ℕ, ◌≤◌, false, List, ◌++◌, length, take, drop, refl, sym, ◌∙◌, ap, subst, arith}
 use Rattle.std.proofs.lemmas.List.{length-append, get_or_append_left}
 use Rattle.nfc_base.specs.Signal.{Signal}
 use Rattle.nfc_base.specs.TagLinks.{LinkView, Type4}
 use Rattle.t2t_tag.specs.Store.{T2Memory}
-use Rattle.t2t_tag.specs.Step.{t2_after, held_after, is_writable}
-use Rattle.t2t_tag.specs.Spelling.{spelled_command}
-use Rattle.t2t_tag.specs.declared.command.T2Command.{T2Command}
-use Rattle.t2t_tag.specs.declared.command.T2Command.TheVariants.{Read, Write}
-use Rattle.nfc_base.specs.Blocks.{with_block}
+use Rattle.t2t_tag.specs.Step.{t2_after}
+use Rattle.t2t_tag.proofs.Steps as t2
 use Rattle.t5t_tag.specs.Store.{T5State, darkened}
 use Rattle.t5t_tag.specs.Step.{t5_after}
 use Rattle.t5t_tag.proofs.Steps.{same_tag}
@@ -21,18 +17,8 @@ use Rattle.tag_reader.specs.declared.how.How.TheVariants.{T4}
 use Rattle.tag_reader.specs.Files.{container_end, container_in, file_in, IsFileStore, current_file, shown_file, t4_memory, shown, t4_link_step}
 use Rattle.tag_reader.specs.Kinds.{IsTag, t2_step, t5_step}
 
--- no frame changes which blocks are locked
-chosen_locked : (m : T2Memory) (block : ℕ) (content : List ℕ) (v : Bool) → (if v then record m { store = with_block 4 m.store block content } else m).locked ≡ m.locked
-chosen_locked m block content true = refl
-chosen_locked m block content false = refl
-
-held_locked : (m : T2Memory) (c : Option T2Command) → (held_after m c).locked ≡ m.locked
-held_locked m None = refl
-held_locked m (Some (Read block)) = refl
-held_locked m (Some (Write block content)) = chosen_locked m block content (is_writable m block)
-
 pub t2_same : (m : T2Memory) (f : Signal) → t2_step (t2_after m f).locked ≡ t2_step m.locked
-t2_same m f = ap t2_step (held_locked m (spelled_command f))
+t2_same m f = ap t2_step (t2.same_tag m f).locked
 
 pub t5_same : (t : T5State) (f : Signal) → t.quiet ≡ false →
     t5_step (darkened (t5_after t f)).id (darkened (t5_after t f)).size (darkened (t5_after t f)).locked (darkened (t5_after t f)).quiet ≡ t5_step t.id t.size t.locked t.quiet

@@ -3,7 +3,7 @@ use Rattle.std.proofs.Common.{◌≡◌, ℕ, suc, ◌+◌, ◌*◌, ◌<◌, �
 use Rattle.std.specs.Prelude.{min, slice_index, Some, None, Ok, Err}
 use Rattle.std.proofs.lemmas.List.{length-append, length-take-le, take_all, length-take, get_or_append_left}
 use Rattle.std.proofs.Math.Seq.{take-append_seam}
-use Rattle.nfc_base.specs.TagLinks.{LinkView, AskCause}
+use Rattle.nfc_base.specs.TagLinks.{LinkView, AskCause, after_all}
 use Rattle.nfc_base.specs.declared.tag_link.AskFault.{AskFault}
 use Rattle.nfc_base.specs.declared.tag_link.AskFault.TheVariants as ask
 use Rattle.nfc_base.proofs.Leading.{cause_on}
@@ -25,12 +25,12 @@ use Rattle.tag_reader.specs.declared.how.How.TheVariants.{T2, T4, T5}
 use Rattle.tag_reader.specs.declared.fault.ReadFault.{ReadFault}
 use Rattle.tag_reader.specs.declared.fault.ReadFault.TheVariants as fault
 use Rattle.tag_reader.specs.Kinds.{IsStoreForm, area_of, command, first}
-use Rattle.tag_reader.specs.Asked.{IsDue, NeedsMore}
-use Rattle.tag_reader.specs.Calls.{Stays, HasAsked, HasAskedAll, GoesOn, ByLink}
+use Rattle.tag_reader.specs.Asked.{Aim, ToRead, IsDueFor, IsDue, NeedsMore}
+use Rattle.tag_reader.specs.Calls.{Stays, HasAskedFor, HasAskedAllFor, GoesOn, ByLink}
 use Rattle.tag_reader.specs.Reading.{IsReadFault, is_told, IsToldOrMemory, IsCalm}
-use Rattle.tag_reader.specs.Steps.{IsBlockStore, Answers, Fails, Asks, Knows, Walks, IsLinkFault, IsInReach, IsMapFound, IsRead, Reads, IsCutFault, of_link, of_container}
-use Rattle.tag_reader.proofs.Areas.{next_needs, needs_next, some_size, needs_short, due_reach}
-use Rattle.tag_reader.proofs.Knowing.{last_more, due_more, answered_more, stays_on, goes_on_on, walk_front, store_goes_on, read_goes_on}
+use Rattle.tag_reader.specs.Steps.{IsBlockStore, Answers, Fails, Asks, Knows, Walks, IsLinkFault, IsInReach, IsMapFound, Concludes, Reads, IsCutFault, of_link, of_container}
+use Rattle.tag_reader.proofs.Areas.{next_needs, needs_next, next_area, some_size, needs_short, due_reach}
+use Rattle.tag_reader.proofs.Knowing.{first_more, last_more, due_more_for, after_more, answered_more, stays_on, goes_on_on, walk_front, store_goes_on, read_goes_on}
 
 -- what a settled walk over a store tells of it
 abbrev pub TellsStore : How → ℕ → List ℕ → Walk → Type 0
@@ -73,21 +73,22 @@ container_told container.Sectors = refl
 container_told container.BadSize = refl
 
 -- what was asked, where all of it was answered
-pub knows_asked : (how : How) (size : ℕ) (a b : LinkView) (known : List ℕ) (n : ℕ) → Knows how size a b known n → HasAsked how size a.state.store a b
+pub knows_asked : {aim : Aim} (how : How) (size : ℕ) (a b : LinkView) (known : List ℕ) (n : ℕ) → Knows aim how size a b known n → HasAskedFor aim how size a.state.store a b
 knows_asked how size a b known n k = record { count = n + 1; each = k.each; answered = k.answered; last = inl (k.last ∙ sym (last_more how size a.state.store a n), k.goes_on.over ∙ sym k.before) }
 
-knows_all : (how : How) (size : ℕ) (a b : LinkView) (known : List ℕ) (n : ℕ) → Knows how size a b known n → (IsDue how size a.state.store (n + 1) → ⊥) →
-    HasAskedAll how size a.state.store a b
+pub knows_all : {aim : Aim} (how : How) (size : ℕ) (a b : LinkView) (known : List ℕ) (n : ℕ) → Knows aim how size a b known n → (IsDueFor aim how size a.state.store (n + 1) → ⊥) →
+    HasAskedAllFor aim how size a.state.store a b
 knows_all how size a b known n k ends = record {
   commands = first how size a.state.store (n + 1);
   all = record { count = n + 1; list = refl; each = k.each; no_more = ends };
   answered = k.answered;
+  state = k.after;
 }
 
 -- the container has a fault
-pub ends_container : (how : How) (size : ℕ) (a b : LinkView) (known : List ℕ) (f : ContainerFault) → IsBlockStore how size a.state.store → Knows how size a b known 0 → area_of how size a.state.store ≡ Err f →
-    Reads how size a b known (Err (of_container f))
-ends_container how size a b known f is k has = record {
+pub ends_container : (aim : Aim) (how : How) (size : ℕ) (a b : LinkView) (known : List ℕ) (f : ContainerFault) → IsBlockStore how size a.state.store → Knows aim how size a b known 0 → area_of how size a.state.store ≡ Err f →
+    Reads aim how size a b known (Err (of_container f))
+ends_container aim how size a b known f is k has = record {
   stays = k.stays;
   asked = knows_asked how size a b known 0 k;
   whole = λ told. knows_all how size a b known 0 k none;
@@ -96,12 +97,12 @@ ends_container how size a b known f is k has = record {
   calm = λ begun lit quiet. inl (container_told f);
 }
   where
-    none : IsDue how size a.state.store 1 → ⊥
+    none : IsDueFor aim how size a.state.store 1 → ⊥
     none (inl e) = omega arith
-    none (inr next) = (let m = next_needs how size a.state.store 1 is next in let clash : Ok m.space ≡ Err f = sym m.area ∙ has in cc)
+    none (inr next) = (let area = next_area aim how size a.state.store 1 is next in let clash : Ok area.0 ≡ Err f = sym area.1 ∙ has in cc)
 
 module _ (how : How) (size : ℕ) (a b : LinkView) (known front : List ℕ) (space : Space) (n : ℕ) (w : Walk)
-    (is : IsBlockStore how size a.state.store) (walks : Walks how size a b known space n) (e : front ≡ take space.end known)
+    (is : IsBlockStore how size a.state.store) (walks : Walks ToRead how size a b known space n) (e : front ≡ take space.end known)
     (settled : IsSettled w) (there : (more : List ℕ) → IsWalk space (front ++ more) w) where
   at_store : IsWalk space a.state.store w
   at_store = subst (λ xs. IsWalk space xs w) (sym (store_goes_on a.state.store front (min space.end (size * (n + 1))) (walk_front how size a b known front space n walks e)))
@@ -125,7 +126,7 @@ module _ (how : How) (size : ℕ) (a b : LinkView) (known front : List ℕ) (spa
   pub settled_walk : IsWalk space a.state.store w
   settled_walk = at_store
 
-  pub settled_all : HasAskedAll how size a.state.store a b
+  pub settled_all : HasAskedAllFor ToRead how size a.state.store a b
   settled_all = knows_all how size a b known n walks.knows no_more
 
 -- bytes that lie in a front
@@ -141,7 +142,7 @@ cells_below front m places i low = places.below i (omega (arith, length-take m.l
 
 -- a message is found
 pub map_found : (how : How) (size : ℕ) (a b : LinkView) (known front : List ℕ) (space : Space) (n : ℕ) (m : AreaMap) → IsBlockStore how size a.state.store →
-    Walks how size a b known space n → front ≡ take space.end known → ((more : List ℕ) → IsWalk space (front ++ more) (walk.Held m)) → IsPlacedIn front m →
+    Walks ToRead how size a b known space n → front ≡ take space.end known → ((more : List ℕ) → IsWalk space (front ++ more) (walk.Held m)) → IsPlacedIn front m →
     IsMapFound how size a.state.store known m
 map_found how size a b known front space n m is walks e there places =
     let store : List ℕ = a.state.store in
@@ -196,8 +197,8 @@ untold : (e : ReadFault) (P : Type 0) → is_told e ≡ false → is_told e ≡ 
 untold e P not_told is = (let clash : false ≡ true = sym not_told ∙ is in absurd (cc))
 
 -- the first READ isn't answered, or its answer finds no memory
-pub ends_first : (how : How) (size : ℕ) (a b : LinkView) (known : List ℕ) (e : ReadFault) → Fails (command how size a.state.store 0) a b e → Reads how size a b known (Err e)
-ends_first how size a b known e f = record {
+pub ends_first : (aim : Aim) (how : How) (size : ℕ) (a b : LinkView) (known : List ℕ) (e : ReadFault) → Fails (command how size a.state.store 0) a b e → Reads aim how size a b known (Err e)
+ends_first aim how size a b known e f = record {
   stays = f.stays;
   asked = elim f.asked [
     | inl none ↦ record {
@@ -208,14 +209,14 @@ ends_first how size a b known e f = record {
     }
     | inr one ↦ record { count = 1; each = λ k low. inl (omega arith); answered = one.0; last = inl (one.1, one.2) }
   ];
-  whole = untold e (HasAskedAll how size a.state.store a b) (link_untold a b e f.fault');
+  whole = untold e (HasAskedAllFor aim how size a.state.store a b) (link_untold a b e f.fault');
   goes_on = untold e (GoesOn a b) (link_untold a b e f.fault');
   tells = link_fault how size a.state.store a b e f.fault';
   calm = λ begun lit quiet. inr (f.calm begun lit quiet);
 }
 
 -- READs of blocks that are answered are commands that are
-pub knows_asks : (how : How) (size : ℕ) (a b : LinkView) (known : List ℕ) (n : ℕ) → Knows how size a b known n → Asks how size a b (n + 1)
+pub knows_asks : {aim : Aim} (how : How) (size : ℕ) (a b : LinkView) (known : List ℕ) (n : ℕ) → Knows aim how size a b known n → Asks aim how size a b (n + 1)
 knows_asks how size a b known n k = record {
   stays = k.stays;
   before = k.before;
@@ -223,12 +224,13 @@ knows_asks how size a b known n k = record {
   each = k.each;
   answered = k.answered;
   last = k.last ∙ sym (last_more how size a.state.store a n);
+  after = k.after;
 }
 
 -- a later one
-pub ends_asks : (how : How) (size : ℕ) (a b c : LinkView) (known : List ℕ) (n : ℕ) (e : ReadFault) → Asks how size a b n →
-    IsDue how size a.state.store n → Fails (command how size a.state.store n) b c e → Reads how size a c known (Err e)
-ends_asks how size a b c known n e k due f =
+pub ends_asks : (aim : Aim) (how : How) (size : ℕ) (a b c : LinkView) (known : List ℕ) (n : ℕ) (e : ReadFault) → Asks aim how size a b n →
+    IsDueFor aim how size a.state.store n → Fails (command how size a.state.store n) b c e → Reads aim how size a c known (Err e)
+ends_asks aim how size a b c known n e k due f =
     let fault' = fault_on a b c e k.stays k.goes_on.over k.goes_on.lit f.fault' in
     let open' : b.over ≡ a.over = k.goes_on.over ∙ sym k.before in
     record {
@@ -242,24 +244,24 @@ ends_asks how size a b c known n e k due f =
         }
         | inr one ↦ record {
           count = n + 1;
-          each = due_more how size a.state.store n k.each due;
+          each = due_more_for aim how size a.state.store n k.each due;
           answered = answered_more how size a.state.store a.answered b.answered c.answered n k.answered one.0;
           last = inl (one.1 ∙ sym (last_more how size a.state.store a n), one.2 ∙ open');
         }
       ];
-      whole = untold e (HasAskedAll how size a.state.store a c) (link_untold a c e fault');
+      whole = untold e (HasAskedAllFor aim how size a.state.store a c) (link_untold a c e fault');
       goes_on = untold e (GoesOn a c) (link_untold a c e fault');
       tells = link_fault how size a.state.store a c e fault';
       calm = λ begun lit quiet. inr (f.calm k.goes_on.over k.goes_on.lit (omega (arith, quiet, k.stays.rises.noise, f.stays.rises.noise)));
     }
 
-pub ends_later : (how : How) (size : ℕ) (a b c : LinkView) (known known' : List ℕ) (n : ℕ) (e : ReadFault) → Knows how size a b known n →
-    IsDue how size a.state.store (n + 1) → Fails (command how size b.state.store (n + 1)) b c e → Reads how size a c known' (Err e)
-ends_later how size a b c known known' n e k due f =
-    ends_asks how size a b c known' (n + 1) e (knows_asks how size a b known n k) due (subst (λ s. Fails (command how size s (n + 1)) b c e) k.stays.store f)
+pub ends_later : (aim : Aim) (how : How) (size : ℕ) (a b c : LinkView) (known known' : List ℕ) (n : ℕ) (e : ReadFault) → Knows aim how size a b known n →
+    IsDueFor aim how size a.state.store (n + 1) → Fails (command how size b.state.store (n + 1)) b c e → Reads aim how size a c known' (Err e)
+ends_later aim how size a b c known known' n e k due f =
+    ends_asks aim how size a b c known' (n + 1) e (knows_asks how size a b known n k) due (subst (λ s. Fails (command how size s (n + 1)) b c e) k.stays.store f)
 
 -- the walk over what is known needs more
-pub due_next : (how : How) (size : ℕ) (a b : LinkView) (known front : List ℕ) (space : Space) (n : ℕ) → Walks how size a b known space n → front ≡ take space.end known →
+pub due_next : (how : How) (size : ℕ) (a b : LinkView) (known front : List ℕ) (space : Space) (n : ℕ) → Walks ToRead how size a b known space n → front ≡ take space.end known →
     length front < space.end → form.NeedsMore space front → NeedsMore how size a.state.store (n + 1)
 due_next how size a b known front space n walks e short more =
     let store : List ℕ = a.state.store in
@@ -276,7 +278,7 @@ due_next how size a b known front space n walks e short more =
     }
 
 -- all of the store is known
-known_store : (how : How) (size : ℕ) (a b : LinkView) (known : List ℕ) (n : ℕ) → Knows how size a b known n → length a.state.store ≡ size * (n + 1) → known ≡ a.state.store
+known_store : (how : How) (size : ℕ) (a b : LinkView) (known : List ℕ) (n : ℕ) → Knows ToRead how size a b known n → length a.state.store ≡ size * (n + 1) → known ≡ a.state.store
 known_store how size a b known n k end =
     let store : List ℕ = a.state.store in
     k.bytes ∙ ap (λ p. take p (store ++ store)) (sym end) ∙ take-append_seam store store
@@ -288,7 +290,7 @@ pub record Ends (space : Space) (store known : List ℕ) : Type 0 where
   pub more : form.NeedsMore space known
   pub short : length known < space.end
 
-pub ends_at : (how : How) (size : ℕ) (a b : LinkView) (known : List ℕ) (space : Space) (n : ℕ) → IsBlockStore how size a.state.store → Walks how size a b known space n →
+pub ends_at : (how : How) (size : ℕ) (a b : LinkView) (known : List ℕ) (space : Space) (n : ℕ) → IsBlockStore how size a.state.store → Walks ToRead how size a b known space n →
     NeedsMore how size a.state.store (n + 1) → length a.state.store ≡ size * (n + 1) → Ends space a.state.store known
 ends_at how size a b known space n is walks m end =
     let store : List ℕ = a.state.store in
@@ -317,13 +319,13 @@ cut_is_told space known e (inr bad) = ap is_told bad.0
 
 -- the tag ends before its area
 pub ends_cut : (how : How) (size : ℕ) (a b c : LinkView) (known : List ℕ) (space : Space) (n : ℕ) (e : ReadFault) → IsBlockStore how size a.state.store →
-    Walks how size a b known space n → NeedsMore how size a.state.store (n + 1) → Answers (command how size b.state.store (n + 1)) b c → length a.state.store ≡ size * (n + 1) →
-    IsCutFault space known e → Reads how size a c known (Err e)
+    Walks ToRead how size a b known space n → NeedsMore how size a.state.store (n + 1) → Answers (command how size b.state.store (n + 1)) b c → length a.state.store ≡ size * (n + 1) →
+    IsCutFault space known e → Reads ToRead how size a c known (Err e)
 ends_cut how size a b c known space n e is walks m answers end cut' =
     let k = walks.knows in
     let ends = ends_at how size a b known space n is walks m end in
     let due = inr (needs_next how size a.state.store (n + 1) is m) in
-    let each = due_more how size a.state.store (n + 1) k.each due in
+    let each = due_more_for ToRead how size a.state.store (n + 1) k.each due in
     let same : b.state.store ≡ a.state.store = k.stays.store in
     let answered = answered_more how size a.state.store a.answered b.answered c.answered (n + 1) k.answered
     (answers.answered ∙ ap (λ s. b.answered ++ command how size s (n + 1) ∷ []) same) in
@@ -339,6 +341,9 @@ ends_cut how size a b c known space n e is walks m answers end cut' =
         commands = first how size a.state.store (n + 1 + 1);
         all = record { count = n + 1 + 1; list = refl; each = each; no_more = none };
         answered = answered;
+        state = after_more a b c (first how size a.state.store (n + 1)) (command how size b.state.store (n + 1)) k.stays.leads.step k.after answers.after
+            ∙ ap (λ s. after_all a.step a.state (first how size a.state.store (n + 1) ++ command how size s (n + 1) ∷ [])) same
+            ∙ ap (λ xs. after_all a.step a.state xs) (sym (first_more how size a.state.store (n + 1)));
       };
       goes_on = λ told. goes_on_on a b c k.goes_on answers.goes_on;
       tells = cut_told how size a c known space e (n + 1) is (due_reach how size a.state.store (n + 1) is due) end walks.area ends cut';
@@ -381,14 +386,15 @@ counts_calm how size store a b fault.Protocol begun lit same is = absurd (by_lin
     by_link (inr rose) = omega (arith, ap (λ n. n.odd) same)
 
 -- a reading that ends by a fault on a calm link
-pub calm_end : (how : How) (size : ℕ) (a b : LinkView) (known : List ℕ) (e : ReadFault) → Reads how size a b known (Err e) → IsCalm a b → IsToldOrMemory e
+pub calm_end : {aim : Aim} (how : How) (size : ℕ) (a b : LinkView) (known : List ℕ) (e : ReadFault) → Reads aim how size a b known (Err e) → IsCalm a b → IsToldOrMemory e
 calm_end how size a b known e reads is = elim is.calm [
   | inl quiet ↦ reads.calm is.begun is.lit quiet
   | inr same ↦ counts_calm how size a.state.store a b e is.begun is.lit same reads.tells
 ]
 
--- a reading that a fault ended
-pub read_ended : (how : How) (size : ℕ) (a b : LinkView) (known : List ℕ) (e : ReadFault) → Reads how size a b known (Err e) → IsRead how size a b (Err e)
+-- a reading or a survey that a fault ended
+pub read_ended : {A : Type 0} {aim : Aim} {gives : A → Type 0} (how : How) (size : ℕ) (a b : LinkView) (known : List ℕ) (e : ReadFault) → Reads aim how size a b known (Err e) →
+    Concludes aim gives how size a b (Err e)
 read_ended how size a b known e r = record {
   stays = r.stays;
   asked = r.asked;

@@ -22,23 +22,32 @@ use Rattle.tag_reader.specs.declared.found.Found.{Found}
 use Rattle.tag_reader.specs.declared.found.Site.TheVariants.{File}
 use Rattle.tag_reader.specs.Files.{container_in, file_in, message_length, message_in, most_asked, HasPiece, file_command, file_frame, file_form, t4_form, NamesFile, IsFileDue}
 use Rattle.tag_reader.specs.Kinds.{IsTag, command, first}
-use Rattle.tag_reader.specs.Asked.{IsDue, AreDue}
-use Rattle.tag_reader.specs.Calls.{HasAsked, HasAskedAll}
+use Rattle.tag_reader.specs.Asked.{Aim, ToRead, ToWrite, IsNextFor, IsDueFor, AreDueFor}
+use Rattle.tag_reader.specs.Calls.{HasAskedFor, HasAskedAllFor}
 use Rattle.tag_reader.specs.Reading.{IsReadFault, is_told}
-use Rattle.tag_reader.specs.Steps.{Answers, Fails, Asks, IsRead, of_container}
+use Rattle.tag_reader.specs.Steps.{Answers, Fails, Asks, Reads, Concludes, IsRead, of_container}
 use Rattle.tag_reader.specs.FileSteps.{state_at, content_at, piece_at, Reached, IsUnder, EndsBy, IsOpen, IsMeasured, IsWhole, HasPieces}
 use Rattle.tag_reader.proofs.Links.{Keeps}
-use Rattle.tag_reader.proofs.Knowing.{due_more, stays_on, goes_on_on}
+use Rattle.tag_reader.proofs.Knowing.{due_more_for, after_more, stays_on, goes_on_on}
 use Rattle.tag_reader.proofs.Endings.{ends_first, ends_asks, container_fault, container_told, read_ended}
 use Rattle.tag_reader.proofs.Files.{t4_front, named, state_store, turn_at}
 
--- the link leads to the same tag
-leads_to : (size n : ℕ) (a b : LinkView) → Reached size a b n → (b.step ≡ a.step) × (b.kind ≡ a.kind)
-leads_to size zero a b here = (ap (λ v. v.step) here, ap (λ v. v.kind) here)
-leads_to size (suc n) a b asks = (asks.stays.leads.step, asks.stays.leads.kind)
+-- a command that is due is due by what the container and the length say
+pub file_due : (aim : Aim) (size : ℕ) (store : List ℕ) (n : ℕ) → IsNextFor aim T4 size store n → IsFileDue store n
+file_due ToRead size store n next = next
+file_due ToWrite size store n next = next.0
 
-pub under_kind : (size n : ℕ) (a b : LinkView) → IsUnder size a b n → b.kind ≡ Type4
-under_kind size n a b u = (leads_to size n a b u.reached).1 ∙ u.tag.kind
+pub head_due : (aim : Aim) (size : ℕ) (store : List ℕ) (n : ℕ) → n < 5 → IsFileDue store n → IsNextFor aim T4 size store n
+head_due ToRead size store n low due = due
+head_due ToWrite size store n low due = (due, low)
+
+-- the link leads to the same tag
+leads_to : (aim : Aim) (size n : ℕ) (a b : LinkView) → Reached aim size a b n → (b.step ≡ a.step) × (b.kind ≡ a.kind)
+leads_to aim size zero a b here = (ap (λ v. v.step) here, ap (λ v. v.kind) here)
+leads_to aim size (suc n) a b asks = (asks.stays.leads.step, asks.stays.leads.kind)
+
+pub under_kind : {aim : Aim} (size n : ℕ) (a b : LinkView) → IsUnder aim size a b n → b.kind ≡ Type4
+under_kind size n a b u = (leads_to _ size n a b u.reached).1 ∙ u.tag.kind
 
 -- a tag's code is one that a tag may have
 pub tag_store : (size : ℕ) (a : LinkView) (is : IsTag T4 size a) → IsT4Store is.steps.0 (container_in a.state.store) (file_in a.state.store)
@@ -52,7 +61,7 @@ tag_store size a is = record {
 }
 
 -- it answers the command that is due
-pub keeps_at : (size n : ℕ) (a b : LinkView) → IsUnder size a b n → IsFileDue a.state.store n →
+pub keeps_at : {aim : Aim} (size n : ℕ) (a b : LinkView) → IsUnder aim size a b n → IsFileDue a.state.store n →
     Keeps b (file_frame (file_command a.state.store n)) (whole_a (content_at a.state.store n ++ done)) (state_at a.state (suc n))
 keeps_at size n a b u due =
     let c : Signal = file_frame (file_command a.state.store n) in
@@ -60,7 +69,7 @@ keeps_at size n a b u due =
     let store : IsT4Store u.tag.steps.0 (container_in (state_at a.state n).store) (file_in (state_at a.state n).store) =
     subst (λ st. IsT4Store u.tag.steps.0 (container_in st) (file_in st)) (sym (state_store a.state n)) (tag_store size a u.tag) in
     record {
-      step = ap (λ st. st b.state c) (leads_to size n a b u.reached).0 ∙ ap here u.state ∙ u.tag.steps.2 (state_at a.state n) c (u.tag.steps.0, store) may
+      step = ap (λ st. st b.state c) (leads_to _ size n a b u.reached).0 ∙ ap here u.state ∙ u.tag.steps.2 (state_at a.state n) c (u.tag.steps.0, store) may
           ∙ turn_at u.tag.steps.0 a.state n (tag_store size a u.tag) due;
       store = state_store a.state (suc n) ∙ sym (state_store a.state n) ∙ sym (ap (λ t. t.store) u.state);
     }
@@ -77,59 +86,62 @@ keeps_at size n a b u due =
         short (suc (suc (suc (suc (suc k))))) = omega arith
 
 -- nothing is asked yet
-pub begins : (size : ℕ) (a : LinkView) → IsTag T4 size a → IsUnder size a a 0
-begins size a is = record { tag = is; reached = refl; state = refl }
+pub begins : (aim : Aim) (size : ℕ) (a : LinkView) → IsTag T4 size a → IsUnder aim size a a 0
+begins aim size a is = record { tag = is; reached = refl; state = refl }
 
-due_after : (size n : ℕ) (store : List ℕ) → AreDue T4 size store n → IsDue T4 size store n → AreDue T4 size store (suc n)
-due_after size n store before here = (let e : n + 1 ≡ suc n = omega arith in subst (λ m. AreDue T4 size store m) e (due_more T4 size store n before here))
+due_after : (aim : Aim) (size n : ℕ) (store : List ℕ) → AreDueFor aim T4 size store n → IsDueFor aim T4 size store n → AreDueFor aim T4 size store (suc n)
+due_after aim size n store before here = (let e : n + 1 ≡ suc n = omega arith in subst (λ m. AreDueFor aim T4 size store m) e (due_more_for aim T4 size store n before here))
 
-asks_first : (size : ℕ) (a c : LinkView) → Answers (command T4 size a.state.store 0) a c → Asks T4 size a c 1
-asks_first size a c answer = record {
+asks_first : (aim : Aim) (size : ℕ) (a c : LinkView) → Answers (command T4 size a.state.store 0) a c → Asks aim T4 size a c 1
+asks_first aim size a c answer = record {
   stays = answer.stays;
   before = answer.before;
   goes_on = answer.goes_on;
   each = λ k low. inl (omega arith);
   answered = answer.answered;
   last = answer.last;
+  after = answer.after;
 }
 
-asks_more : (size n : ℕ) (a b c : LinkView) → Asks T4 size a b n → IsDue T4 size a.state.store n → Answers (command T4 size a.state.store n) b c → Asks T4 size a c (suc n)
-asks_more size n a b c asks due answer = record {
+asks_more : (aim : Aim) (size n : ℕ) (a b c : LinkView) → Asks aim T4 size a b n → IsDueFor aim T4 size a.state.store n → Answers (command T4 size a.state.store n) b c → Asks aim T4 size a c (suc n)
+asks_more aim size n a b c asks due answer = record {
   stays = stays_on a b c asks.stays answer.stays;
   before = asks.before;
   goes_on = goes_on_on a b c asks.goes_on answer.goes_on;
-  each = due_after size n a.state.store asks.each due;
+  each = due_after aim size n a.state.store asks.each due;
   answered = answer.answered ∙ ap (λ xs. xs ++ command T4 size a.state.store n ∷ []) asks.answered
       ∙ append_assoc a.answered (first T4 size a.state.store n) (command T4 size a.state.store n ∷ []);
   last = answer.last;
+  after = after_more a b c (first T4 size a.state.store n) (command T4 size a.state.store n) asks.stays.leads.step asks.after answer.after;
 }
 
 -- it was answered
-pub under_next : (size n : ℕ) (a b c : LinkView) → IsUnder size a b n → IsFileDue a.state.store n → Answers (file_frame (file_command a.state.store n)) b c →
-    c.state ≡ state_at a.state (suc n) → IsUnder size a c (suc n)
-under_next size zero a b c u due answer state =
-    record { tag = u.tag; reached = asks_first size a c (subst (λ v. Answers (command T4 size a.state.store 0) v c) u.reached answer); state = state }
-under_next size (suc n) a b c u due answer state =
-    record { tag = u.tag; reached = asks_more size (suc n) a b c u.reached (inr due) answer; state = state }
+pub under_next : (aim : Aim) (size n : ℕ) (a b c : LinkView) → IsUnder aim size a b n → IsNextFor aim T4 size a.state.store n → Answers (file_frame (file_command a.state.store n)) b c →
+    c.state ≡ state_at a.state (suc n) → IsUnder aim size a c (suc n)
+under_next aim size zero a b c u due answer state =
+    record { tag = u.tag; reached = asks_first aim size a c (subst (λ v. Answers (command T4 size a.state.store 0) v c) u.reached answer); state = state }
+under_next aim size (suc n) a b c u due answer state =
+    record { tag = u.tag; reached = asks_more aim size (suc n) a b c u.reached (inr due) answer; state = state }
 
 -- it wasn't
-pub under_fails : (size n : ℕ) (a b c : LinkView) (e : ReadFault) → IsUnder size a b n → IsFileDue a.state.store n → Fails (file_frame (file_command a.state.store n)) b c e →
-    EndsBy size a c e
-under_fails size zero a b c e u due f = ends_first T4 size a c [] e (subst (λ v. Fails (command T4 size a.state.store 0) v c e) u.reached f)
-under_fails size (suc n) a b c e u due f = ends_asks T4 size a b c [] (suc n) e u.reached (inr due) f
+pub under_fails : (aim : Aim) (size n : ℕ) (a b c : LinkView) (e : ReadFault) → IsUnder aim size a b n → IsNextFor aim T4 size a.state.store n → Fails (file_frame (file_command a.state.store n)) b c e →
+    EndsBy aim size a c e
+under_fails aim size zero a b c e u due f = ends_first aim T4 size a c [] e (subst (λ v. Fails (command T4 size a.state.store 0) v c e) u.reached f)
+under_fails aim size (suc n) a b c e u due f = ends_asks aim T4 size a b c [] (suc n) e u.reached (inr due) f
 
-has_asked : (size n : ℕ) (a b : LinkView) → Asks T4 size a b n → HasAsked T4 size a.state.store a b
+pub has_asked : {aim : Aim} (size n : ℕ) (a b : LinkView) → Asks aim T4 size a b n → HasAskedFor aim T4 size a.state.store a b
 has_asked size n a b asks = record { count = n; each = asks.each; answered = asks.answered; last = inl (asks.last, asks.goes_on.over ∙ sym asks.before) }
 
-has_all : (size n : ℕ) (a b : LinkView) → Asks T4 size a b n → (IsDue T4 size a.state.store n → ⊥) → HasAskedAll T4 size a.state.store a b
+pub has_all : {aim : Aim} (size n : ℕ) (a b : LinkView) → Asks aim T4 size a b n → (IsDueFor aim T4 size a.state.store n → ⊥) → HasAskedAllFor aim T4 size a.state.store a b
 has_all size n a b asks no_more = record {
   commands = first T4 size a.state.store n;
   all = record { count = n; list = refl; each = asks.each; no_more = no_more };
   answered = asks.answered;
+  state = asks.after;
 }
 
 -- own growth found no memory
-pub under_lost : (size n : ℕ) (a b : LinkView) → IsUnder size a b (suc n) → EndsBy size a b fault.Memory
+pub under_lost : {aim : Aim} (size n : ℕ) (a b : LinkView) → IsUnder aim size a b (suc n) → EndsBy aim size a b fault.Memory
 under_lost size n a b u = record {
   stays = u.reached.stays;
   asked = has_asked size (suc n) a b u.reached;
@@ -140,8 +152,8 @@ under_lost size n a b u = record {
 }
 
 -- the store has a fault
-under_told : (size n : ℕ) (a b : LinkView) (e : ReadFault) → IsUnder size a b (suc n) → (IsDue T4 size a.state.store (suc n) → ⊥) → is_told e ≡ true →
-    IsReadFault T4 size a.state.store a b e → EndsBy size a b e
+under_told : {aim : Aim} (size n : ℕ) (a b : LinkView) (e : ReadFault) → IsUnder aim size a b (suc n) → (IsDueFor aim T4 size a.state.store (suc n) → ⊥) → is_told e ≡ true →
+    IsReadFault T4 size a.state.store a b e → EndsBy aim size a b e
 under_told size n a b e u no_more told is = record {
   stays = u.reached.stays;
   asked = has_asked size (suc n) a b u.reached;
@@ -151,25 +163,25 @@ under_told size n a b e u no_more told is = record {
   calm = λ begun lit quiet. inl told;
 }
 
-pub no_file : (size : ℕ) (a b : LinkView) (f : ContainerFault) → IsUnder size a b 3 → t4_container (container_in a.state.store) ≡ Err f → EndsBy size a b (of_container f)
-no_file size a b f u has =
+pub no_file : {aim : Aim} (size : ℕ) (a b : LinkView) (f : ContainerFault) → IsUnder aim size a b 3 → t4_container (container_in a.state.store) ≡ Err f → EndsBy aim size a b (of_container f)
+no_file {aim = aim} size a b f u has =
     under_told size 2 a b (of_container f) u none (container_told f)
     (container_fault T4 size a.state.store a b f (sym (ap (λ r. file_form r (file_in a.state.store)) has)))
   where
-    none : IsDue T4 size a.state.store 3 → ⊥
+    none : IsDueFor aim T4 size a.state.store 3 → ⊥
     none (inl e) = (omega arith)
-    none (inr next) = (let clash : Ok next.0 ≡ Err f = sym next.1 ∙ has in cc)
+    none (inr next) = (let due = file_due aim size a.state.store 3 next in let clash : Ok due.0 ≡ Err f = sym due.1 ∙ has in cc)
 
 -- what the container says, by its first bytes
 named_by : (a : LinkView) (head : List ℕ) (r : Result FileMap ContainerFault) → head ≡ content_at a.state.store 2 → r ≡ t4_container head → t4_container (container_in a.state.store) ≡ r
 named_by a head r brought is = sym (is ∙ ap (λ b. t4_container b) brought ∙ t4_front (container_in a.state.store))
 
-pub no_file_by : (size : ℕ) (a b : LinkView) (head : List ℕ) (f : ContainerFault) → IsUnder size a b 3 → head ≡ content_at a.state.store 2 → Err f ≡ t4_container head →
-    EndsBy size a b (of_container f)
+pub no_file_by : {aim : Aim} (size : ℕ) (a b : LinkView) (head : List ℕ) (f : ContainerFault) → IsUnder aim size a b 3 → head ≡ content_at a.state.store 2 → Err f ≡ t4_container head →
+    EndsBy aim size a b (of_container f)
 no_file_by size a b head f u brought is = no_file size a b f u (named_by a head (Err f) brought is)
 
-pub opens_file : (size : ℕ) (a b : LinkView) (head : List ℕ) (map' : FileMap) → IsUnder size a b 3 → head ≡ content_at a.state.store 2 → Ok map' ≡ t4_container head →
-    IsOpen size a b map'
+pub opens_file : {aim : Aim} (size : ℕ) (a b : LinkView) (head : List ℕ) (map' : FileMap) → IsUnder aim size a b 3 → head ≡ content_at a.state.store 2 → Ok map' ≡ t4_container head →
+    IsOpen aim size a b map'
 opens_file size a b head map' u brought is = record { under = u; names = named_by a head (Ok map') brought is }
 
 -- the file that is selected is the one that the container names
@@ -201,18 +213,19 @@ file_is : (store : List ℕ) (map' : FileMap) → NamesFile store map' →
     t4_form store ≡ (if nat_lt (map'.size - 2) (message_length (file_in store)) then form.BadTlv else form.Message (message_in (file_in store)))
 file_is store map' names = ap (λ r. file_form r (file_in store)) names
 
-pub too_long : (size : ℕ) (a b : LinkView) (map' : FileMap) → IsUnder size a b 5 → NamesFile a.state.store map' → map'.size - 2 < message_length (file_in a.state.store) →
-    EndsBy size a b fault.BadTlv
-too_long size a b map' u names long =
+pub too_long : {aim : Aim} (size : ℕ) (a b : LinkView) (map' : FileMap) → IsUnder aim size a b 5 → NamesFile a.state.store map' → map'.size - 2 < message_length (file_in a.state.store) →
+    EndsBy aim size a b fault.BadTlv
+too_long {aim = aim} size a b map' u names long =
     under_told size 4 a b fault.BadTlv u none refl
     (sym (file_is a.state.store map' names ∙ ap (λ v. if v then form.BadTlv else form.Message (message_in (file_in a.state.store))) (lt-ltb (map'.size - 2) (message_length (file_in a.state.store)) long)))
   where
-    none : IsDue T4 size a.state.store 5 → ⊥
+    none : IsDueFor aim T4 size a.state.store 5 → ⊥
     none (inl e) = (omega arith)
     none (inr next) =
-        (let both : Ok next.map' ≡ Ok map' = sym next.names ∙ names in
-        let same : next.map' ≡ map' = cc in
-        omega (arith, next.fits, ap (λ m. m.size) same, long))
+        (let due = file_due aim size a.state.store 5 next in
+        let both : Ok due.map' ≡ Ok map' = sym due.names ∙ names in
+        let same : due.map' ≡ map' = cc in
+        omega (arith, due.fits, ap (λ m. m.size) same, long))
 
 not_less : (m n : ℕ) → n ≤ m → nat_lt m n ≡ false
 not_less m n h = grind arith
@@ -234,7 +247,7 @@ is_read size a b map' found w names fits site writable = record {
   calm = λ is. tt;
 }
 
-pub is_ended : (size : ℕ) (a b : LinkView) (e : ReadFault) → EndsBy size a b e → IsRead T4 size a b (Err e)
+pub is_ended : {A : Type 0} {aim : Aim} {gives : A → Type 0} (size : ℕ) (a b : LinkView) (e : ReadFault) → Reads aim T4 size a b [] (Err e) → Concludes aim gives T4 size a b (Err e)
 is_ended size a b e r = read_ended T4 size a b [] e r
 
 -- The message, piece by piece.
@@ -254,7 +267,7 @@ part_of file at most within =
     ∙ cut_both most rest (drop at (drop 2 file))
     ∙ ap (λ ys. take (min most rest) ys) (drop-drop at 2 file)
 
-pub no_pieces : (size : ℕ) (a b : LinkView) (map' : FileMap) (n : ℕ) → IsMeasured size a b map' n → HasPieces size a b [] 0
+pub no_pieces : (size : ℕ) (a b : LinkView) (map' : FileMap) (n : ℕ) → IsMeasured ToRead size a b map' n → HasPieces size a b [] 0
 no_pieces size a b map' n is =
     let none : most_asked a.state.store * 0 ≡ 0 = omega arith in
     record { under = is.under; bytes = sym (ap (λ m. take m (message_in (file_in a.state.store))) none) }
@@ -269,7 +282,7 @@ low_piece n most k some low =
 pub most_some : (a : LinkView) (map' : FileMap) → NamesFile a.state.store map' → 15 ≤ most_asked a.state.store
 most_some a map' names = let facts = named (container_in a.state.store) map' names in omega (arith, facts.most)
 
-pub piece_due : (size : ℕ) (a b : LinkView) (map' : FileMap) (n most q k : ℕ) → IsMeasured size a b map' n → most ≡ most_asked a.state.store → q ≡ n / most + min 1 (n % most) → k < q →
+pub piece_due : (size : ℕ) (a b : LinkView) (map' : FileMap) (n most q k : ℕ) → IsMeasured ToRead size a b map' n → most ≡ most_asked a.state.store → q ≡ n / most + min 1 (n % most) → k < q →
     HasPiece a.state.store k
 piece_due size a b map' n most q k is same count low =
     let some = most_some a map' is.names in
@@ -278,12 +291,12 @@ piece_due size a b map' n most q k is same count low =
     record { map' = map'; names = is.names; fits = omega (arith, is.length', is.fits); left = omega (arith, left, is.length') }
 
 -- the code's numbers are those of the command that is due
-pub piece_command : (size : ℕ) (a b : LinkView) (map' : FileMap) (n most k count : ℕ) → IsMeasured size a b map' n → most ≡ most_asked a.state.store → count ≡ min most (n - most * k) →
+pub piece_command : (size : ℕ) (a b : LinkView) (map' : FileMap) (n most k count : ℕ) → IsMeasured ToRead size a b map' n → most ≡ most_asked a.state.store → count ≡ min most (n - most * k) →
     ReadBinary (2 + most * k) count ≡ file_command a.state.store (piece_at k)
 piece_command size a b map' n most k count is same here = rw (here, is.length', same) refl
 
 -- the next piece
-pub pieces_more : (size : ℕ) (a b c : LinkView) (message piece : List ℕ) (k : ℕ) → HasPieces size a b message k → HasPiece a.state.store k → IsUnder size a c (piece_at (suc k)) →
+pub pieces_more : (size : ℕ) (a b c : LinkView) (message piece : List ℕ) (k : ℕ) → HasPieces size a b message k → HasPiece a.state.store k → IsUnder ToRead size a c (piece_at (suc k)) →
     piece ≡ content_at a.state.store (piece_at k) → HasPieces size a c (message ++ piece) (k + 1)
 pieces_more size a b c message piece k h p u brought =
     let most : ℕ = most_asked a.state.store in
@@ -291,13 +304,13 @@ pieces_more size a b c message piece k h p u brought =
     let e : k + 1 ≡ suc k = omega arith in
     let next : most * (k + 1) ≡ most * k + most = omega arith in
     record {
-      under = subst (λ m. IsUnder size a c (piece_at m)) (sym e) u;
+      under = subst (λ m. IsUnder ToRead size a c (piece_at m)) (sym e) u;
       bytes = ap (λ xs. xs ++ piece) h.bytes ∙ ap (λ xs. take (most * k) (message_in file) ++ xs) (brought ∙ sym (part_of file (most * k) most p.left))
           ∙ sym (take-add (most * k) most (message_in file)) ∙ ap (λ m. take m (message_in file)) (sym next);
     }
 
 -- all of them
-pub all_pieces : (size : ℕ) (a b c : LinkView) (map' : FileMap) (n most q k : ℕ) (message : List ℕ) → IsMeasured size a b map' n → most ≡ most_asked a.state.store →
+pub all_pieces : (size : ℕ) (a b c : LinkView) (map' : FileMap) (n most q k : ℕ) (message : List ℕ) → IsMeasured ToRead size a b map' n → most ≡ most_asked a.state.store →
     q ≡ n / most + min 1 (n % most) → q ≤ k → HasPieces size a c message k → IsWhole size a c message
 all_pieces size a b c map' n most q k message is same count past h = record {
   count = suc (suc (suc (suc k)));
@@ -314,7 +327,7 @@ all_pieces size a b c map' n most q k message is same count past h = record {
         let all : n ≤ most * k = omega (arith, covered, more) in
         rw (sym same) all)
 
-    none : IsDue T4 size a.state.store (piece_at k) → ⊥
+    none : IsDueFor ToRead T4 size a.state.store (piece_at k) → ⊥
     none (inl e) = omega arith
     none (inr next) = (let left = next.left in omega (arith, left, high, is.length'))
 

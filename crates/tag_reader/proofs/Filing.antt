@@ -17,6 +17,7 @@ use Rattle.tag_reader.specs.declared.fault.ReadFault.TheVariants as fault
 use Rattle.tag_reader.specs.declared.found.Found.{Found}
 use Rattle.tag_reader.specs.declared.found.Site.TheVariants.{File}
 use Rattle.tag_reader.specs.Files.{container_in, file_in, message_length, most_asked, file_command, IsFileDue}
+use Rattle.tag_reader.specs.Asked.{Aim}
 use Rattle.tag_reader.specs.FileSteps.{content_at, EndsBy, OrEnds}
 use Rattle.tag_reader.specs.Steps.{of_container}
 use Rattle.tag_reader.specs.Heard.{HasSize, HasFile, IsFaultBy, IsFoundBy, file_next, most_of, joined}
@@ -29,8 +30,8 @@ use Rattle.tag_reader.proofs.Files.{named}
 pub or_fault : {A : Type 0} (P : A → Type 0) (how : How) (a b : LinkView) (r : Result A ReadFault) (e : ReadFault) → r ≡ Err e → IsFaultBy how a b e → OrFault P how a b r
 or_fault P how a b r e same is = subst (λ x. OrFault P how a b x) (sym same) is
 
-pub or_ends : {A : Type 0} (P : A → Type 0) (size : ℕ) (a b : LinkView) (r : Result A ReadFault) (e : ReadFault) → r ≡ Err e → EndsBy size a b e → OrEnds P size a b r
-or_ends P size a b r e same is = subst (λ x. OrEnds P size a b x) (sym same) is
+pub or_ends : {A : Type 0} (aim : Aim) (P : A → Type 0) (size : ℕ) (a b : LinkView) (r : Result A ReadFault) (e : ReadFault) → r ≡ Err e → EndsBy aim size a b e → OrEnds aim P size a b r
+or_ends aim P size a b r e same is = subst (λ x. OrEnds aim P size a b x) (sym same) is
 
 -- a fault is no content
 pub fault_brings : {A : Type 0} (e : ReadFault) (x : A) → Err e ≡ Ok x → ⊥

@@ -12,6 +12,8 @@ pub mod Contents
 pub mod Knowing
 pub mod Endings
 pub mod Turns
+pub mod AreaSurveys
+pub mod Grounds
 pub mod Lists
 pub mod SomeList
 pub mod Files

@@ -46,6 +46,7 @@ ask_answers a b c r s after k obeys rises last answer = record {
   goes_on = record { over = answer.stays; lit = answer.lit; counts = answer.counts };
   answered = answer.answered;
   last = last answer.begun;
+  after = answer.after;
 }
 
 -- an answer that found no memory

@@ -197,7 +197,7 @@ two_start bytes space has area =
     let small = area.small (sym (ap (λ s. s.control) is)) in
     omega (arith, start, small)
 
-numbered_by : (how : How) (a b : LinkView) (known : List ℕ) (space : Space) (n : ℕ) → IsOfBlocks how → (l : Looks how a b known space n) → IsArea space → length known < space.end →
+pub numbered_by : (how : How) (a b : LinkView) (known : List ℕ) (space : Space) (n : ℕ) → IsOfBlocks how → (l : Looks how a b known space n) → IsArea space → length known < space.end →
     Numbered how n
 numbered_by T2 a b known space n blocks l area short =
     let end = two_start (four_bytes known 12) space l.area area in

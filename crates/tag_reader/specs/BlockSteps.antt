@@ -20,7 +20,7 @@ use Rattle.tag_reader.specs.declared.told.BlocksTold.{BlocksTold}
 use Rattle.tag_reader.specs.declared.told.BlocksTold.TheVariants.{Bytes, Single, Ended}
 use Rattle.tag_reader.specs.Blocks.{IsOne, IsMany, known_at, progress_at}
 use Rattle.tag_reader.specs.Kinds.{IsTag}
-use Rattle.tag_reader.specs.Asked.{IsDue}
+use Rattle.tag_reader.specs.Asked.{Aim, ToRead, IsDueFor}
 use Rattle.tag_reader.specs.Heard.{HasContent, IsBlocks, EndsTag, IsStopped, IsFaultBy, joined, first_size, is_single}
 use Rattle.tag_reader.specs.HeardSteps.{Under}
 use Rattle.tag_reader.specs.Steps.{Asks, Reads}
@@ -86,19 +86,19 @@ pub record LooksBlocks (id : List ℕ) (a b : LinkView) (known : Known) : Type 0
   pub known' : IsKnown ps known
 
 -- the first n commands are answered
-abbrev pub Reached : How → ℕ → LinkView → LinkView → ℕ → Type 0
-Reached how size a b zero = b ≡ a
-Reached how size a b (suc n) = Asks how size a b (suc n)
+abbrev pub Reached : Aim → How → ℕ → LinkView → LinkView → ℕ → Type 0
+Reached aim how size a b zero = b ≡ a
+Reached aim how size a b (suc n) = Asks aim how size a b (suc n)
 
 -- how long blocks are known to be behind n commands
 abbrev pub size_at : ℕ → ℕ → ℕ
 size_at size zero = 0
 size_at size (suc n) = size
 
--- A reading of a Type 5 tag under way: its first n commands are answered, and this is known.
-pub record IsReading (id : List ℕ) (size : ℕ) (a b : LinkView) (known : Known) (n : ℕ) : Type 0 where
+-- A reading or a survey of a Type 5 tag under way: its first n commands are answered, and this is known.
+pub record IsReading (aim : Aim) (id : List ℕ) (size : ℕ) (a b : LinkView) (known : Known) (n : ℕ) : Type 0 where
   pub tag : IsTag (T5 id) size a
-  pub reached : Reached (T5 id) size a b n
+  pub reached : Reached aim (T5 id) size a b n
   pub state : b.state ≡ a.state
   pub size' : known.size ≡ size_at size n
   pub single : known.single ≡ (progress_at size a.state.store n).single
@@ -106,22 +106,23 @@ pub record IsReading (id : List ℕ) (size : ℕ) (a b : LinkView) (known : Know
   pub within : size * (progress_at size a.state.store n).blocks ≤ length a.state.store
 
 -- the tag has ended
-pub record HasRunOut (id : List ℕ) (size : ℕ) (a b : LinkView) (known known' : Known) (n : ℕ) : Type 0 where
-  pub asks : Asks (T5 id) size a b (suc n)
+pub record HasRunOut (aim : Aim) (id : List ℕ) (size : ℕ) (a b : LinkView) (known known' : Known) (n : ℕ) : Type 0 where
+  pub asks : Asks aim (T5 id) size a b (suc n)
   pub end : length a.state.store ≡ size * (progress_at size a.state.store n).blocks
-  pub no_more : IsDue (T5 id) size a.state.store (suc n) → ⊥
+  pub no_more : IsDueFor aim (T5 id) size a.state.store (suc n) → ⊥
+  pub state : b.state ≡ a.state
   pub same : known' ≡ known
 
-abbrev pub NextBlocks : List ℕ → ℕ → LinkView → LinkView → Known → Known → ℕ → Result Bool ReadFault → Type 0
-NextBlocks id size a b known known' n (Ok true) = IsReading id size a b known' (suc n)
-NextBlocks id size a b known known' n (Ok false) = HasRunOut id size a b known known' n
-NextBlocks id size a b known known' n (Err e) = Reads (T5 id) size a b [] (Err e)
+abbrev pub NextBlocks : Aim → List ℕ → ℕ → LinkView → LinkView → Known → Known → ℕ → Result Bool ReadFault → Type 0
+NextBlocks aim id size a b known known' n (Ok true) = IsReading aim id size a b known' (suc n)
+NextBlocks aim id size a b known known' n (Ok false) = HasRunOut aim id size a b known known' n
+NextBlocks aim id size a b known known' n (Err e) = Reads aim (T5 id) size a b [] (Err e)
 
 -- the container is read
-abbrev pub Opens : List ℕ → LinkView → LinkView → Known → Result Space ReadFault → Type 0
-Opens id a b known (Ok space) = (size : ℕ) → IsTag (T5 id) size a → (n : ℕ) × IsReading id size a b known (suc n)
-Opens id a b known (Err e) = (size : ℕ) → IsTag (T5 id) size a → Reads (T5 id) size a b [] (Err e)
+abbrev pub Opens : Aim → List ℕ → LinkView → LinkView → Known → Result Space ReadFault → Type 0
+Opens aim id a b known (Ok space) = (size : ℕ) → IsTag (T5 id) size a → (n : ℕ) × IsReading aim id size a b known (suc n)
+Opens aim id a b known (Err e) = (size : ℕ) → IsTag (T5 id) size a → Reads aim (T5 id) size a b [] (Err e)
 
 -- the message is found, or the reading has ended
 abbrev pub FindsMap : List ℕ → LinkView → LinkView → List ℕ → Result AreaMap ReadFault → Type 0
-FindsMap id a b known result = (size : ℕ) → IsTag (T5 id) size a → Reads (T5 id) size a b known result
+FindsMap id a b known result = (size : ℕ) → IsTag (T5 id) size a → Reads ToRead (T5 id) size a b known result

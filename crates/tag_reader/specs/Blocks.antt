@@ -1,6 +1,6 @@
 -- How a reader asks a Type 5 tag for its blocks (NFC Forum Type 5 Tag; ISO/IEC 15693-3): which command brings the next ones, by
 -- what it knows of the tag, and how far the commands of a reading go in a store.
-use Rattle.std.specs.Prelude.{ℕ, zero, suc, ◌+◌, ◌-◌, ◌*◌, ◌/◌, ◌≤◌, min, nat_le, nat_lt, Bool, true, false, not, ◌&&◌, if◌then◌else◌, List, take, length, Result, Ok, Err, Some}
+use Rattle.std.specs.Prelude.{ℕ, zero, suc, ◌+◌, ◌-◌, ◌*◌, ◌/◌, ◌<◌, ◌≤◌, min, nat_le, nat_lt, Bool, true, false, not, ◌&&◌, if◌then◌else◌, List, take, length, Result, Ok, Err, Some}
 use Rattle.nfc_base.specs.Signal.{Signal}
 use Rattle.nfc_base.specs.Blocks.{block_of}
 use Rattle.t5t_tag.specs.Store.{blocks_in}
@@ -99,3 +99,14 @@ progress_at size store (suc n) = progress_behind size store (progress_at size st
 pub record IsBlockDue (size : ℕ) (store : List ℕ) (n : ℕ) : Type 0 where
   pub within : size * (progress_at size store n).blocks ≤ length store
   pub needs : NeedsBlocks size (known_at size store (progress_at size store n)) (t5_front (known_at size store (progress_at size store n)))
+
+-- The area goes on behind so many bytes, or the container isn't whole.
+abbrev pub AreaGoesOn : ℕ → ℕ → Result T5Container ContainerFault → Type 0
+AreaGoesOn size known (Ok (Ready space wide many)) = known < (t5_reach size (record { space = space; wide = wide; many = many })).end
+AreaGoesOn size known (Ok More) = Unit {0}
+AreaGoesOn size known (Err fault) = ⊥
+
+-- Behind the first n commands the tag hasn't ended, and the area goes on.
+pub record IsBlockLeft (size : ℕ) (store : List ℕ) (n : ℕ) : Type 0 where
+  pub within : size * (progress_at size store n).blocks ≤ length store
+  pub more : AreaGoesOn size (size * (progress_at size store n).blocks) (t5_front (known_at size store (progress_at size store n)))

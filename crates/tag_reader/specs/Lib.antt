@@ -5,9 +5,11 @@ pub mod Asked
 pub mod Calls
 pub mod Counts
 pub mod Reading
+pub mod Survey
 pub mod Numbers
 pub mod Steps
 pub mod FileSteps
 pub mod Heard
 pub mod HeardSteps
 pub mod BlockSteps
+pub mod SurveySteps

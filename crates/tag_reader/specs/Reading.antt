@@ -16,7 +16,8 @@ use Rattle.tag_reader.specs.declared.found.Site.TheVariants.{Area, File}
 use Rattle.tag_reader.specs.declared.found.Found.{Found}
 use Rattle.tag_reader.specs.Files.{NamesFile}
 use Rattle.tag_reader.specs.Kinds.{area_of, IsStoreForm, OfTag}
-use Rattle.tag_reader.specs.Calls.{Stays, HasAsked, HasAskedAll, GoesOn, ByLink}
+use Rattle.tag_reader.specs.Asked.{Aim}
+use Rattle.tag_reader.specs.Calls.{Stays, HasAskedFor, HasAskedAllFor, GoesOn, ByLink}
 
 -- a Type 4 tag's container names this file
 abbrev pub IsFileOf : How → List ℕ → FileMap → Type 0
@@ -78,21 +79,21 @@ abbrev pub KeepsStore : How → LinkView → LinkView → Type 0
 KeepsStore how a b = OfTag how a (λ size. Stays a b)
 
 -- What was answered is the first of what is asked, and all of it where it tells what the store holds; then the link goes on.
-abbrev pub AsksInOrder : How → LinkView → LinkView → Type 0
-AsksInOrder how a b = OfTag how a (λ size. HasAsked how size a.state.store a b)
+abbrev pub AsksInOrder : Aim → How → LinkView → LinkView → Type 0
+AsksInOrder aim how a b = OfTag how a (λ size. HasAskedFor aim how size a.state.store a b)
 
-abbrev pub AsksAll : How → LinkView → LinkView → Result Found ReadFault → Type 0
-AsksAll how a b result = OfTag how a (λ size. OnTold result (HasAskedAll how size a.state.store a b))
+abbrev pub AsksAll : {A : Type 0} → Aim → How → LinkView → LinkView → Result A ReadFault → Type 0
+AsksAll aim how a b result = OfTag how a (λ size. OnTold result (HasAskedAllFor aim how size a.state.store a b))
 
-abbrev pub LeavesLink : How → LinkView → LinkView → Result Found ReadFault → Type 0
+abbrev pub LeavesLink : {A : Type 0} → How → LinkView → LinkView → Result A ReadFault → Type 0
 LeavesLink how a b result = OfTag how a (λ size. OnTold result (GoesOn a b))
 
 -- It tells the message that the store holds, or a fault with its cause; in calm the link is no cause.
 abbrev pub TellsMessage : How → LinkView → Result Found ReadFault → Type 0
 TellsMessage how a result = OfTag how a (λ size. IfOk result (IsFound how size a.state.store))
 
-abbrev pub TellsCause : How → LinkView → LinkView → Result Found ReadFault → Type 0
+abbrev pub TellsCause : {A : Type 0} → How → LinkView → LinkView → Result A ReadFault → Type 0
 TellsCause how a b result = OfTag how a (λ size. IfErr result (IsReadFault how size a.state.store a b))
 
-abbrev pub TellsInCalm : How → LinkView → LinkView → Result Found ReadFault → Type 0
+abbrev pub TellsInCalm : {A : Type 0} → How → LinkView → LinkView → Result A ReadFault → Type 0
 TellsInCalm how a b result = OfTag how a (λ size. IsCalm a b → IfErr result IsToldOrMemory)

@@ -1,7 +1,7 @@
 -- What the parts of a reading say. No public contract speaks of these.
 use Rattle.std.specs.Prelude.{◌≡◌, ℕ, ◌+◌, ◌*◌, ◌<◌, ◌≤◌, ◌⊎◌, List, [], ◌∷◌, ◌++◌, length, take, drop, Bool, true, false, Some, None, Result, Ok, Err, IfOk, IfErr}
 use Rattle.nfc_base.specs.Signal.{Signal}
-use Rattle.nfc_base.specs.TagLinks.{LinkView}
+use Rattle.nfc_base.specs.TagLinks.{LinkView, after_all}
 use Rattle.nfc_base.specs.declared.tag_link.AskFault.{AskFault}
 use Rattle.nfc_base.specs.declared.tag_link.AskFault.TheVariants as ask
 use Rattle.t2t_tag.specs.Store.{IsT2Store}
@@ -21,8 +21,8 @@ use Rattle.tag_reader.specs.declared.found.Found.{Found}
 use Rattle.tag_reader.specs.declared.told.Told.{Told}
 use Rattle.tag_reader.specs.declared.told.Told.TheVariants.{Bytes, Ended}
 use Rattle.tag_reader.specs.Kinds.{area_of, command, first, kind_of, IsNamed, IsStoreForm, OfTag, Steps}
-use Rattle.tag_reader.specs.Asked.{AreDue}
-use Rattle.tag_reader.specs.Calls.{Stays, last_of, HasAsked, HasAskedAll, GoesOn, ByLink}
+use Rattle.tag_reader.specs.Asked.{Aim, ToRead, AreDueFor}
+use Rattle.tag_reader.specs.Calls.{Stays, last_of, HasAskedFor, HasAskedAllFor, GoesOn, ByLink}
 use Rattle.tag_reader.specs.Reading.{IsFound, IsReadFault, IsCalm, IsToldOrMemory, OnTold}
 
 -- the fault of a reading for a fault of the link, and for one of the container
@@ -100,6 +100,7 @@ pub record Answers (c : Signal) (a b : LinkView) : Type 0 where
   pub goes_on : GoesOn a b
   pub answered : b.answered ≡ a.answered ++ c ∷ []
   pub last : b.last ≡ Some c
+  pub after : b.state ≡ (a.step a.state c).after
 
 -- More is known then, or the tag has ended.
 abbrev pub Learns : ℕ → List ℕ → ℕ → List ℕ → List ℕ → Bool → Type 0
@@ -115,7 +116,8 @@ pub record Fails (c : Signal) (a b : LinkView) (e : ReadFault) : Type 0 where
   pub calm : a.over ≡ None → a.dark ≡ false → b.noise ≡ a.noise → e ≡ fault.Memory
 
 abbrev pub AsksNext : How → ℕ → ℕ → LinkView → LinkView → List ℕ → List ℕ → Result Bool ReadFault → Type 0
-AsksNext how size k a b known known' (Ok more) = Answers (command how size a.state.store k) a b × Learns size a.state.store k known known' more
+AsksNext how size k a b known known' (Ok more) =
+    Answers (command how size a.state.store k) a b × Learns size a.state.store k known known' more × (b.state ≡ a.state)
 AsksNext how size k a b known known' (Err e) = Fails (command how size a.state.store k) a b e
 
 -- the same, where the first k READs gave all that is known
@@ -123,23 +125,26 @@ abbrev pub AsksNextOf : How → ℕ → LinkView → LinkView → List ℕ → L
 AsksNextOf how k a b known known' result = OfBlockTag how a (λ size. IsInReach how size a.state.store k → length known ≡ size * k →
     AsksNext how size k a b known known' result)
 
--- A reading under way, of a tag of whatever kind: the first n commands are answered, n not 0.
-pub record Asks (how : How) (size : ℕ) (a b : LinkView) (n : ℕ) : Type 0 where
+-- A reading or a survey under way, of a tag of whatever kind: the first n commands are answered, n not 0.
+pub record Asks (aim : Aim) (how : How) (size : ℕ) (a b : LinkView) (n : ℕ) : Type 0 where
   pub stays : Stays a b
   pub before : a.over ≡ None
   pub goes_on : GoesOn a b
-  pub each : AreDue how size a.state.store n
+  pub each : AreDueFor aim how size a.state.store n
   pub answered : b.answered ≡ a.answered ++ first how size a.state.store n
   pub last : b.last ≡ last_of how size a.state.store a n
+  pub after : b.state ≡ after_all a.step a.state (first how size a.state.store n)
 
--- A reading of blocks under way: the first n + 1 READs are answered, and gave these bytes.
-pub record Knows (how : How) (size : ℕ) (a b : LinkView) (known : List ℕ) (n : ℕ) : Type 0 where
+-- READs of blocks under way: the first n + 1 are answered, and gave these bytes.
+pub record Knows (aim : Aim) (how : How) (size : ℕ) (a b : LinkView) (known : List ℕ) (n : ℕ) : Type 0 where
   pub stays : Stays a b
   pub before : a.over ≡ None
   pub goes_on : GoesOn a b
-  pub each : AreDue how size a.state.store (n + 1)
+  pub each : AreDueFor aim how size a.state.store (n + 1)
   pub answered : b.answered ≡ a.answered ++ first how size a.state.store (n + 1)
   pub last : b.last ≡ Some (command how size a.state.store n)
+  pub after : b.state ≡ after_all a.step a.state (first how size a.state.store (n + 1))
+  pub state : b.state ≡ a.state
   pub bytes : known ≡ take (size * (n + 1)) (rolling a.state.store)
   pub tag : IsBlockTag how size b
 
@@ -150,9 +155,9 @@ pub record IsAreaOf (size : ℕ) (store : List ℕ) (space : Space) (n : ℕ) : 
   pub ends : space.end ≤ 256 * size
   pub within : (space.end ≤ length store) ⊎ (size * (n + 1) ≤ length store)
 
--- The walk over what is known is due.
-pub record Walks (how : How) (size : ℕ) (a b : LinkView) (known : List ℕ) (space : Space) (n : ℕ) : Type 0 where
-  pub knows : Knows how size a b known n
+-- The area is known to be there.
+pub record Walks (aim : Aim) (how : How) (size : ℕ) (a b : LinkView) (known : List ℕ) (space : Space) (n : ℕ) : Type 0 where
+  pub knows : Knows aim how size a b known n
   pub area : area_of how size a.state.store ≡ Ok space
   pub fits : IsAreaOf size a.state.store space n
 
@@ -173,23 +178,26 @@ Calms a b (Ok map') = Unit {0}
 Calms a b (Err e) = a.over ≡ None → a.dark ≡ false → b.noise ≡ a.noise → IsToldOrMemory e
 
 -- The end of a reading, but for its message.
-pub record Reads (how : How) (size : ℕ) (a b : LinkView) (known : List ℕ) (result : Result AreaMap ReadFault) : Type 0 where
+pub record Reads (aim : Aim) (how : How) (size : ℕ) (a b : LinkView) (known : List ℕ) (result : Result AreaMap ReadFault) : Type 0 where
   pub stays : Stays a b
-  pub asked : HasAsked how size a.state.store a b
-  pub whole : OnTold result (HasAskedAll how size a.state.store a b)
+  pub asked : HasAskedFor aim how size a.state.store a b
+  pub whole : OnTold result (HasAskedAllFor aim how size a.state.store a b)
   pub goes_on : OnTold result (GoesOn a b)
   pub tells : Tells how size a.state.store a b known result
   pub calm : Calms a b result
 
--- A reading, of a tag of whatever kind, from its first view of the link to its last.
-pub record IsRead (how : How) (size : ℕ) (a b : LinkView) (result : Result Found ReadFault) : Type 0 where
+-- A reading or a survey, of a tag of whatever kind, from its first view of the link to its last: what it gives is this.
+pub record Concludes {A : Type 0} (aim : Aim) (gives : A → Type 0) (how : How) (size : ℕ) (a b : LinkView) (result : Result A ReadFault) : Type 0 where
   pub stays : Stays a b
-  pub asked : HasAsked how size a.state.store a b
-  pub whole : OnTold result (HasAskedAll how size a.state.store a b)
+  pub asked : HasAskedFor aim how size a.state.store a b
+  pub whole : OnTold result (HasAskedAllFor aim how size a.state.store a b)
   pub goes_on : OnTold result (GoesOn a b)
-  pub ok : IfOk result (IsFound how size a.state.store)
+  pub ok : IfOk result gives
   pub err : IfErr result (IsReadFault how size a.state.store a b)
   pub calm : IsCalm a b → IfErr result IsToldOrMemory
+
+abbrev pub IsRead : How → ℕ → LinkView → LinkView → Result Found ReadFault → Type 0
+IsRead how size a b result = Concludes ToRead (IsFound how size a.state.store) how size a b result
 
 abbrev pub ReadsTag : How → LinkView → LinkView → Result Found ReadFault → Type 0
 ReadsTag how a b result = OfTag how a (λ size. IsRead how size a b result)
@@ -198,7 +206,7 @@ abbrev pub ReadsBlocks : How → LinkView → LinkView → Result Found ReadFaul
 ReadsBlocks how a b result = OfBlockTag how a (λ size. IsRead how size a b result)
 
 abbrev pub ReadsMap : How → LinkView → LinkView → List ℕ → Result AreaMap ReadFault → Type 0
-ReadsMap how a b known result = OfBlockTag how a (λ size. Reads how size a b known result)
+ReadsMap how a b known result = OfBlockTag how a (λ size. Reads ToRead how size a b known result)
 
 -- the fault of an area that ends where the memory does
 abbrev pub IsCutFault : Space → List ℕ → ReadFault → Type 0

@@ -5,6 +5,7 @@ ghost use Rattle.tlv_area.specs.Containers.{T5Area, t5_is_open};
 ghost use Rattle.tlv_area.specs.Layout.{IsArea};
 ghost use Rattle.tlv_area.specs.Stores.{t5_reach};
 ghost use Rattle.tag_reader.specs.declared.how.How.TheVariants as hows;
+ghost use Rattle.tag_reader.specs.Asked.{Aim};
 ghost use Rattle.tag_reader.specs.Heard.{IsOf};
 ghost use Rattle.tag_reader.specs.HeardSteps.{OrFault, SeesMap};
 ghost use Rattle.tag_reader.specs.BlockSteps.{Names, LooksBlocks, Opens, FindsMap};
@@ -40,7 +41,7 @@ fn reach(space: Space, wide: bool, size: usize) -> Space
 }
 
 /// Asks for blocks until the container is whole, and tells the area that it names.
-fn open_area<T: TagLink>(
+pub fn open_area<T: TagLink>(
     alloc: Global,
     link: &mut T,
     id: [u8; 8],
@@ -56,7 +57,7 @@ fn open_area<T: TagLink>(
     // whatever the tag does
     ensures sees { OrFault (λ space. LooksBlocks id (T.seen link.old) (T.seen link.new) known.new) (hows.T5 id)
         (T.seen link.old) (T.seen link.new) result }
-    ensures opens { Opens id (T.seen link.old) (T.seen link.new) known.new result }
+    ensures opens { (aim : Aim) → Opens aim id (T.seen link.old) (T.seen link.new) known.new result }
     ensures ready { T.ready link.new }
     ensures same { T.lenders link.new ≡ T.lenders link.old }
     ensures moves { T.moves link.old link.new }

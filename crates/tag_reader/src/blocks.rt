@@ -3,7 +3,7 @@
 ghost use Rattle.std.specs.Prelude.{◌≡◌, ℕ, List, true, false, [], IfOk};
 ghost use Rattle.nfc_base.specs.TagLinks.{LinkView};
 ghost use Rattle.tag_reader.specs.declared.how.How.TheVariants as hows;
-ghost use Rattle.tag_reader.specs.Asked.{IsDue};
+ghost use Rattle.tag_reader.specs.Asked.{Aim, IsDueFor};
 ghost use Rattle.tag_reader.specs.Heard.{IsOf};
 ghost use Rattle.tag_reader.specs.HeardSteps.{Under, OrFault};
 ghost use Rattle.tag_reader.specs.BlockSteps.{CanAsk, Grows, IsKnown, SeesBlocks, IsReading, NextBlocks};
@@ -31,9 +31,9 @@ pub fn ask_blocks<T: TagLink>(
     ensures sees { (a : LinkView) (ps : List (List ℕ)) → Under (hows.T5 id) a (T.seen link.old) ps →
         IsKnown ps known.old →
         SeesBlocks id a (T.seen link.new) ps known.old known.new result }
-    ensures next { (size n : ℕ) (a : LinkView) → IsReading id size a (T.seen link.old) known.old n →
-        IsDue (hows.T5 id) size a.state.store n →
-        NextBlocks id size a (T.seen link.new) known.old known.new n result }
+    ensures next { (aim : Aim) (size n : ℕ) (a : LinkView) → IsReading aim id size a (T.seen link.old) known.old n →
+        IsDueFor aim (hows.T5 id) size a.state.store n →
+        NextBlocks aim id size a (T.seen link.new) known.old known.new n result }
     ensures ready { T.ready link.new }
     ensures same { T.lenders link.new ≡ T.lenders link.old }
     ensures moves { T.moves link.old link.new }

@@ -5,7 +5,8 @@ ghost use Rattle.nfc_base.specs.TagLinks.{LinkView};
 ghost use Rattle.tlv_area.specs.declared.container.FileMap.{FileMap as Map};
 ghost use Rattle.tlv_area.specs.Containers.{t4_container};
 ghost use Rattle.tag_reader.specs.declared.how.How.TheVariants as hows;
-ghost use Rattle.tag_reader.specs.Files.{file_command, message_length, most_asked, IsFileDue};
+ghost use Rattle.tag_reader.specs.Asked.{Aim, ToRead, IsNextFor};
+ghost use Rattle.tag_reader.specs.Files.{file_command, message_length, most_asked};
 ghost use Rattle.t4t_tag.specs.Spelling.{IsT4Command};
 ghost use Rattle.tag_reader.specs.Heard.{IsOf, HasSize, IsToldBy, file_next};
 ghost use Rattle.tag_reader.specs.HeardSteps.{Under, OrFault, HasSelected, Opened, Measured, ReadAll};
@@ -85,9 +86,9 @@ fn ask_file<T: TagLink>(
         command.now ≡ file_next ps →
         OrFault (λ bytes. Under hows.T4 a (T.seen link.new) (ps ++ bytes.items ∷ []))
         hows.T4 a (T.seen link.new) result }
-    ensures next { (size n : ℕ) (a : LinkView) → IsUnder size a (T.seen link.old) n → IsFileDue a.state.store n →
-        command.now ≡ file_command a.state.store n →
-        OrEnds (λ bytes. BringsNext size a (T.seen link.new) n bytes.items) size a (T.seen link.new) result }
+    ensures next { (aim : Aim) (size n : ℕ) (a : LinkView) → IsUnder aim size a (T.seen link.old) n →
+        IsNextFor aim hows.T4 size a.state.store n → command.now ≡ file_command a.state.store n →
+        OrEnds aim (λ bytes. BringsNext aim size a (T.seen link.new) n bytes.items) size a (T.seen link.new) result }
     ensures ready { T.ready link.new }
     ensures same { T.lenders link.new ≡ T.lenders link.old }
     ensures moves { T.moves link.old link.new }
@@ -125,8 +126,8 @@ fn select_container<T: TagLink>(alloc: Global, link: &mut T) -> Result<(), ReadF
     requires of { IsOf hows.T4 (T.seen link.old) }
     ensures brings { OrFault (λ done. HasSelected (T.seen link.old) (T.seen link.new))
         hows.T4 (T.seen link.old) (T.seen link.new) result }
-    ensures selects { OfTag hows.T4 (T.seen link.old) (λ size.
-        OrEnds (λ done. IsUnder size (T.seen link.old) (T.seen link.new) 2)
+    ensures selects { (aim : Aim) → OfTag hows.T4 (T.seen link.old) (λ size.
+        OrEnds aim (λ done. IsUnder aim size (T.seen link.old) (T.seen link.new) 2)
         size (T.seen link.old) (T.seen link.new) result) }
     ensures ready { T.ready link.new }
     ensures same { T.lenders link.new ≡ T.lenders link.old }
@@ -138,13 +139,14 @@ fn select_container<T: TagLink>(alloc: Global, link: &mut T) -> Result<(), ReadF
 }
 
 /// Selects the application and the container, and reads what the container says.
-fn read_container<T: TagLink>(alloc: Global, link: &mut T) -> Result<FileMap, ReadFault>
+pub fn read_container<T: TagLink>(alloc: Global, link: &mut T) -> Result<FileMap, ReadFault>
     requires ready { T.ready link.old }
     requires of { IsOf hows.T4 (T.seen link.old) }
     ensures brings { OrFault (Opened (T.seen link.old) (T.seen link.new))
         hows.T4 (T.seen link.old) (T.seen link.new) result }
-    ensures opens { OfTag hows.T4 (T.seen link.old) (λ size.
-        OrEnds (IsOpen size (T.seen link.old) (T.seen link.new)) size (T.seen link.old) (T.seen link.new) result) }
+    ensures opens { (aim : Aim) → OfTag hows.T4 (T.seen link.old) (λ size.
+        OrEnds aim (IsOpen aim size (T.seen link.old) (T.seen link.new))
+        size (T.seen link.old) (T.seen link.new) result) }
     ensures ready { T.ready link.new }
     ensures same { T.lenders link.new ≡ T.lenders link.old }
     ensures moves { T.moves link.old link.new }
@@ -170,14 +172,14 @@ fn number_of(bytes: &[u8]) -> u16
 }
 
 /// Selects the NDEF file, and reads how long its message is.
-fn read_length<T: TagLink>(alloc: Global, link: &mut T, map: FileMap) -> Result<u16, ReadFault>
+pub fn read_length<T: TagLink>(alloc: Global, link: &mut T, map: FileMap) -> Result<u16, ReadFault>
     requires ready { T.ready link.old }
     requires of { IsOf hows.T4 (T.seen link.old) }
     requires opened { (a : LinkView) × Opened a (T.seen link.old) map }
     ensures brings { (a : LinkView) → Opened a (T.seen link.old) map →
         OrFault (Measured a (T.seen link.new) map) hows.T4 a (T.seen link.new) result }
-    ensures measures { (size : ℕ) (a : LinkView) → IsOpen size a (T.seen link.old) map →
-        OrEnds (IsMeasured size a (T.seen link.new) map) size a (T.seen link.new) result }
+    ensures measures { (aim : Aim) (size : ℕ) (a : LinkView) → IsOpen aim size a (T.seen link.old) map →
+        OrEnds aim (IsMeasured aim size a (T.seen link.new) map) size a (T.seen link.new) result }
     ensures ready { T.ready link.new }
     ensures same { T.lenders link.new ≡ T.lenders link.old }
     ensures moves { T.moves link.old link.new }
@@ -207,9 +209,9 @@ fn read_message<T: TagLink>(
     requires measured { (a : LinkView) × (m : Map) × Measured a (T.seen link.old) m length × (most ≡ min m.mle 255) }
     ensures brings { (a : LinkView) (m : Map) → Measured a (T.seen link.old) m length → most ≡ min m.mle 255 →
         OrFault (λ message. ReadAll a (T.seen link.new) m length message.items) hows.T4 a (T.seen link.new) result }
-    ensures whole { (size : ℕ) (a : LinkView) (m : Map) → IsMeasured size a (T.seen link.old) m length →
+    ensures whole { (size : ℕ) (a : LinkView) (m : Map) → IsMeasured ToRead size a (T.seen link.old) m length →
         most ≡ most_asked a.state.store →
-        OrEnds (λ message. IsWhole size a (T.seen link.new) message.items) size a (T.seen link.new) result }
+        OrEnds ToRead (λ message. IsWhole size a (T.seen link.new) message.items) size a (T.seen link.new) result }
     ensures ready { T.ready link.new }
     ensures same { T.lenders link.new ≡ T.lenders link.old }
     ensures moves { T.moves link.old link.new }

@@ -4,6 +4,7 @@ ghost use Rattle.std.specs.Prelude.{◌≡◌, IsErrOf, Some};
 ghost use Rattle.nfc_base.specs.declared.tag_link.AskFault.{AskFault};
 ghost use Rattle.tag_reader.specs.declared.how.How.TheVariants as hows;
 ghost use Rattle.tag_reader.specs.declared.found.Site.{Site};
+ghost use Rattle.tag_reader.specs.Asked.{ToRead};
 ghost use Rattle.tag_reader.specs.Reading.{KeepsStore, AsksInOrder, AsksAll, LeavesLink, TellsMessage, TellsCause, TellsInCalm};
 ghost use Rattle.tag_reader.specs.Counts.{AsksFew};
 ghost use Rattle.tag_reader.specs.Heard.{IsOf, IsToldBy, TellsExactly, TellsRefusals, TellsSaid, TellsCutOff};
@@ -39,8 +40,8 @@ pub fn read<T: TagLink>(alloc: Global, link: &mut T, how: How) -> Result<Found, 
     // where it is a tag of that kind: the store stays, in each image
     ensures stays { KeepsStore how (T.seen link.old) (T.seen link.new) }
     // what was answered is the first of what is asked, and all of it unless the link or memory failed
-    ensures asked { AsksInOrder how (T.seen link.old) (T.seen link.new) }
-    ensures whole { AsksAll how (T.seen link.old) (T.seen link.new) result }
+    ensures asked { AsksInOrder ToRead how (T.seen link.old) (T.seen link.new) }
+    ensures whole { AsksAll ToRead how (T.seen link.old) (T.seen link.new) result }
     // and that is few
     ensures few { AsksFew how (T.seen link.old) }
     // by what it then tells the link doesn't end

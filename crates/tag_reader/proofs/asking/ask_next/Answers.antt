@@ -38,7 +38,7 @@ returns-in-Ok-Ended-clause-next g c size is low long =
     (c.command-command.ensures size (g.T.TagLink.seen c.args.link.now).state.store) (keeps c.args.how size (g.T.TagLink.seen c.args.link.now) c.args.index is low)
     c.in-Ok.ensures.rises c.in-Ok.ensures.obeys c.in-Ok.ensures.last c.in-Ok.ensures.ok in
     let end = (rw c.in-Ok-Ended.field-0-is at c.in-Ok-Ended.ensures.store) size c.args.index (g.T.TagLink.seen c.args.link.now).state.store is.store low told.1 in
-    (told.0, (end, refl))
+    (told.0, (end, refl), told.2)
 
 pub returns-in-Err-extend_from_slice-clause-next : goal.returns-in-Err-extend_from_slice-clause-next
 returns-in-Err-extend_from_slice-clause-next g c size is low long =
@@ -58,7 +58,7 @@ returns-in-Ok-extend_from_slice-clause-next g c size is low long =
     let grown : c.extend_from_slice.new.self.items ≡ c.args.known.now.items ++ c.deref.result.now = c.in-Ok-extend_from_slice.ensures.items in
     let whole : c.deref.result.now ≡ c.in-Ok-Bytes.bytes.items = c.deref.ensures.0 in
     let part : c.in-Ok-Bytes.bytes.items ≡ take size (drop (size * c.args.index) (rolling (g.T.TagLink.seen c.args.link.now).state.store)) = next.1 in
-    (told.0, (next.0, grown ∙ ap (λ xs. c.args.known.now.items ++ xs) (whole ∙ part)))
+    (told.0, (next.0, grown ∙ ap (λ xs. c.args.known.now.items ++ xs) (whole ∙ part)), told.2)
 
 pub returns-in-Err-clause-gains : goal.returns-in-Err-clause-gains
 returns-in-Err-clause-gains g c a ps u count same =

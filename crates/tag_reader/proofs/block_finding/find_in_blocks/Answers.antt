@@ -1,11 +1,12 @@
 use Rattle.std.proofs.Common.{rules, ◌≡◌, suc, [], ◌∷◌, ◌++◌, length, take, Ok, Err, sym, ◌∙◌, ap, subst, arith}
-use Rattle.std.proofs.lemmas.List.{append-nil}
+use Rattle.std.proofs.lemmas.List.{append-nil, take_all}
 use Rattle.nfc_base.specs.TagLinks.{LinkView}
 use Rattle.tlv_area.specs.declared.space.Space.{Space}
 use Rattle.tlv_area.specs.declared.walk.Walk.TheVariants as walk
 use Rattle.tlv_area.specs.Form as form
 use Rattle.tlv_area.specs.Walking.{HasCome}
 use Rattle.tag_reader.specs.declared.how.How.TheVariants.{T5}
+use Rattle.tag_reader.specs.Asked.{ToRead}
 use Rattle.tag_reader.specs.Steps.{Reads, IsCutFault}
 use Rattle.tag_reader.specs.BlockSteps.{LooksBlocks, SeesBlocks, NextBlocks, GainsBlocks, EndsBlocks, HasRunOut}
 use Rattle.tag_reader.proofs.Looking.{known_short}
@@ -21,6 +22,29 @@ find_message-requires g c = record {
       subst (HasCome c.needs_more.new.self) (append-nil c.front.result.now ∙ before ∙ sym after) (c.needs_more.ensures.come []);
 }
 
+pub returns-in_err-space-clause-reads : goal.returns-in_err-space-clause-reads
+returns-in_err-space-clause-reads g c size is =
+    let a : LinkView = g.T.TagLink.seen c.args.link.now in
+    let new : LinkView = g.T.TagLink.seen c.open_area.new.link in
+    let h : Reads ToRead (T5 c.args.id) size a new c.open_area.new.known.bytes.items (Err c.in_err-space.field-0.0) =
+    any_known c.args.id size a new [] c.open_area.new.known.bytes.items c.in_err-space.field-0.0 (c.in_err-space.ensures.opens ToRead size is) in
+    let is_err : c.from_residual.result ≡ Err c.in_err-space.field-0.0 = search rules in
+    subst (λ x. Reads ToRead (T5 c.args.id) size a new c.open_area.new.known.bytes.items x) (sym is_err) h
+
+pub cut_fault-requires-clause-more : goal.cut_fault-requires-clause-more
+cut_fault-requires-clause-more g c =
+    let a : LinkView = g.T.TagLink.seen c.args.link.now in
+    let new : LinkView = g.T.TagLink.seen c.ask_blocks.new.link in
+    let space : Space = c.in_ok-space.space in
+    let looks : LooksBlocks c.args.id a (g.T.TagLink.seen c.walk.link) c.walk.known = c.walk.invariant.looks in
+    let e : c.front.result.now ≡ take space.end c.walk.known.bytes.items = c.front.ensures ∙ ap (λ k. take space.end k) c.as_slice.ensures.value in
+    let short = known_short c.walk.known.bytes.items c.front.result.now space.end e (short_in c.walk.walker space c.front.result.now c.walk.invariant.space (c.needs_more.ensures.short c.walk-test.true)) in
+    let ends : EndsBlocks c.args.id a new looks.ps c.walk.known c.ask_blocks.new.known =
+    subst (λ m. SeesBlocks c.args.id a new looks.ps c.walk.known c.ask_blocks.new.known (Ok m)) c.if-not-goes_on.true (c.in_ok-goes_on.ensures.sees a looks.ps looks.under looks.known') in
+    let whole : c.front.result.now ≡ c.as_slice-then-not-goes_on.result.now =
+    e ∙ take_all space.end c.walk.known.bytes.items (omega (arith, short)) ∙ sym (c.as_slice-then-not-goes_on.ensures.value ∙ ap (λ k. k.bytes.items) ends.same) in
+    subst (λ xs. form.NeedsMore space xs) whole (needs_in c.walk.walker space c.front.result.now c.walk.invariant.space (c.needs_more.ensures.more.0 c.walk-test.true))
+
 pub returns-in_err-goes_on-clause-reads : goal.returns-in_err-goes_on-clause-reads
 returns-in_err-goes_on-clause-reads g c size is =
     let a : LinkView = g.T.TagLink.seen c.args.link.now in
@@ -32,10 +56,10 @@ returns-in_err-goes_on-clause-reads g c size is =
     let due = blocks_due c.args.id size r.0 a old c.walk.known space c.front.result.now r.1 c.walk.invariant.names e
     (short_in c.walk.walker space c.front.result.now c.walk.invariant.space (c.needs_more.ensures.short c.walk-test.true))
     (needs_in c.walk.walker space c.front.result.now c.walk.invariant.space (c.needs_more.ensures.more.0 c.walk-test.true)) in
-    let h : Reads (T5 c.args.id) size a new c.ask_blocks.new.known.bytes.items (Err c.in_err-goes_on.field-0.0) =
-    any_known c.args.id size a new [] c.ask_blocks.new.known.bytes.items c.in_err-goes_on.field-0.0 (c.in_err-goes_on.ensures.next size (suc r.0) a r.1 due) in
+    let h : Reads ToRead (T5 c.args.id) size a new c.ask_blocks.new.known.bytes.items (Err c.in_err-goes_on.field-0.0) =
+    any_known c.args.id size a new [] c.ask_blocks.new.known.bytes.items c.in_err-goes_on.field-0.0 (c.in_err-goes_on.ensures.next ToRead size (suc r.0) a r.1 due) in
     let is_err : c.from_residual-in_err-goes_on.result ≡ Err c.in_err-goes_on.field-0.0 = search rules in
-    subst (λ x. Reads (T5 c.args.id) size a new c.ask_blocks.new.known.bytes.items x) (sym is_err) h
+    subst (λ x. Reads ToRead (T5 c.args.id) size a new c.ask_blocks.new.known.bytes.items x) (sym is_err) h
 
 pub cut_fault-requires-clause-begins : goal.cut_fault-requires-clause-begins
 cut_fault-requires-clause-begins g c =
@@ -72,8 +96,8 @@ returns-then-not-goes_on-clause-reads g c size is =
     let r = c.walk.invariant.reading size is in
     let due = blocks_due c.args.id size r.0 a old c.walk.known space c.front.result.now r.1 c.walk.invariant.names e less
     (needs_in c.walk.walker space c.front.result.now c.walk.invariant.space (c.needs_more.ensures.more.0 c.walk-test.true)) in
-    let ends : HasRunOut c.args.id size a new c.walk.known c.ask_blocks.new.known (suc r.0) =
-    subst (λ m. NextBlocks c.args.id size a new c.walk.known c.ask_blocks.new.known (suc r.0) (Ok m)) c.if-not-goes_on.true (c.in_ok-goes_on.ensures.next size (suc r.0) a r.1 due) in
+    let ends : HasRunOut ToRead c.args.id size a new c.walk.known c.ask_blocks.new.known (suc r.0) =
+    subst (λ m. NextBlocks ToRead c.args.id size a new c.walk.known c.ask_blocks.new.known (suc r.0) (Ok m)) c.if-not-goes_on.true (c.in_ok-goes_on.ensures.next ToRead size (suc r.0) a r.1 due) in
     blocks_cut c.args.id size r.0 a old new c.walk.known c.ask_blocks.new.known space c.cut_fault.result r.1 c.walk.invariant.names short ends
     (subst (λ xs. IsCutFault space xs c.cut_fault.result) (c.as_slice-then-not-goes_on.ensures.value ∙ ap (λ k. k.bytes.items) ends.same) c.cut_fault.ensures)
 
@@ -96,7 +120,7 @@ walk-preserved g c =
           let due = blocks_due c.args.id size r.0 a old c.walk.known space c.front.result.now r.1 c.walk.invariant.names e
           (short_in c.walk.walker space c.front.result.now c.walk.invariant.space (c.needs_more.ensures.short c.walk-test.true))
           (needs_in c.walk.walker space c.front.result.now c.walk.invariant.space (c.needs_more.ensures.more.0 c.walk-test.true)) in
-          (suc r.0, subst (λ m. NextBlocks c.args.id size a new c.walk.known c.ask_blocks.new.known (suc r.0) (Ok m)) c.if-not-goes_on.false (c.in_ok-goes_on.ensures.next size (suc r.0) a r.1 due)));
+          (suc r.0, subst (λ m. NextBlocks ToRead c.args.id size a new c.walk.known c.ask_blocks.new.known (suc r.0) (Ok m)) c.if-not-goes_on.false (c.in_ok-goes_on.ensures.next ToRead size (suc r.0) a r.1 due)));
       space = c.needs_more.ensures.space ∙ c.walk.invariant.space;
       come = come_further c.needs_more.new.self space.end c.walk.known.bytes.items c.front.result.now c.ask_blocks.new.known.bytes.items e grown.0 c.needs_more.ensures.come;
       ready = c.in_ok-goes_on.ensures.ready;

@@ -2,6 +2,7 @@ use Rattle.std.proofs.Common.{◌≡◌, ℕ, suc, ◌+◌, ◌-◌, length, tak
 use Rattle.tlv_area.specs.Walking.{HasCome}
 use Rattle.tag_reader.specs.declared.how.How.TheVariants.{T5}
 use Rattle.tag_reader.specs.Kinds.{IsTag}
+use Rattle.tag_reader.specs.Asked.{ToRead}
 use Rattle.tag_reader.specs.BlockSteps.{Names, LooksBlocks, IsReading}
 use Rattle.tag_reader.proofs.block_finding.find_in_blocks.Given as goal
 
@@ -9,7 +10,7 @@ abbrev pub invariant-walk : goal.invariant-walk
 invariant-walk g l = record {
   looks : LooksBlocks l.id (g.T.TagLink.seen l.fn.link) (g.T.TagLink.seen l.link) l.known;
   names : Names l.known l.space;
-  reading : (size : ℕ) → IsTag (T5 l.id) size (g.T.TagLink.seen l.fn.link) → (n : ℕ) × IsReading l.id size (g.T.TagLink.seen l.fn.link) (g.T.TagLink.seen l.link) l.known (suc n);
+  reading : (size : ℕ) → IsTag (T5 l.id) size (g.T.TagLink.seen l.fn.link) → (n : ℕ) × IsReading ToRead l.id size (g.T.TagLink.seen l.fn.link) (g.T.TagLink.seen l.link) l.known (suc n);
   space : l.walker.space ≡ l.space;
   come : HasCome l.walker (take l.space.end l.known.bytes.items);
   ready : g.T.TagLink.ready l.link;

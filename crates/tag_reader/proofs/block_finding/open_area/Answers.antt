@@ -1,10 +1,10 @@
-use Rattle.std.proofs.Common.{◌≡◌, suc, [], ◌∷◌, ◌++◌, true, false, Ok, Err, sym, ◌∙◌, ap, subst}
+use Rattle.std.proofs.Common.{rules, ◌≡◌, suc, [], ◌∷◌, ◌++◌, true, false, Ok, Err, sym, ◌∙◌, ap, subst}
 use Rattle.nfc_base.specs.TagLinks.{LinkView}
 use Rattle.tlv_area.specs.Containers.{t5_is_open, t5_front}
 use Rattle.tag_reader.specs.declared.how.How.TheVariants.{T5}
 use Rattle.tag_reader.specs.Heard.{IsFaultBy}
 use Rattle.tag_reader.specs.Steps.{Reads}
-use Rattle.tag_reader.specs.BlockSteps.{LooksBlocks, SeesBlocks, NextBlocks, GainsBlocks, EndsBlocks, HasRunOut}
+use Rattle.tag_reader.specs.BlockSteps.{LooksBlocks, SeesBlocks, NextBlocks, GainsBlocks, EndsBlocks, HasRunOut, Opens}
 use Rattle.tag_reader.proofs.BlockEndings.{known_size, closed_sized, some_known, open_due, names_ready, names_area, later, short_blocks, reads_short, faulty_blocks, reads_faulty}
 use Rattle.tag_reader.proofs.block_finding.open_area.Goals as goal
 
@@ -19,15 +19,25 @@ returns-then-not-goes_on-clause-sees g c =
     short_blocks c.args.id a new looks.ps c.open.known c.ask_blocks.new.known looks.known' open' ends
 
 pub returns-then-not-goes_on-clause-opens : goal.returns-then-not-goes_on-clause-opens
-returns-then-not-goes_on-clause-opens g c size is =
+returns-then-not-goes_on-clause-opens g c aim size is =
     let a : LinkView = g.T.TagLink.seen c.args.link.now in
     let new : LinkView = g.T.TagLink.seen c.ask_blocks.new.link in
     let open' : t5_is_open c.open.known.bytes.items ≡ true = sym (c.is_open.ensures ∙ ap t5_is_open c.as_slice.ensures.value) ∙ c.open-test.true in
-    let r = c.open.invariant.reading size is in
-    let due = open_due c.args.id size r.0 a (g.T.TagLink.seen c.open.link) c.open.known r.1 open' in
-    let ends : HasRunOut c.args.id size a new c.open.known c.ask_blocks.new.known r.0 =
-    subst (λ m. NextBlocks c.args.id size a new c.open.known c.ask_blocks.new.known r.0 (Ok m)) c.if-not-goes_on.true (c.in_ok-goes_on.ensures.next size r.0 a r.1 due) in
+    let r = c.open.invariant.reading aim size is in
+    let due = open_due aim c.args.id size r.0 a (g.T.TagLink.seen c.open.link) c.open.known r.1 open' in
+    let ends : HasRunOut aim c.args.id size a new c.open.known c.ask_blocks.new.known r.0 =
+    subst (λ m. NextBlocks aim c.args.id size a new c.open.known c.ask_blocks.new.known r.0 (Ok m)) c.if-not-goes_on.true (c.in_ok-goes_on.ensures.next aim size r.0 a r.1 due) in
     reads_short c.args.id size r.0 a (g.T.TagLink.seen c.open.link) new c.open.known c.ask_blocks.new.known r.1 open' ends
+
+pub returns-in_err-goes_on-clause-opens : goal.returns-in_err-goes_on-clause-opens
+returns-in_err-goes_on-clause-opens g c aim =
+    let a : LinkView = g.T.TagLink.seen c.args.link.now in
+    let new : LinkView = g.T.TagLink.seen c.ask_blocks.new.link in
+    let is_err : c.from_residual.result ≡ Err c.in_err-goes_on.field-0.0 = search rules in
+    subst (λ x. Opens aim c.args.id a new c.ask_blocks.new.known x) (sym is_err) (λ size is.
+    (let open' : t5_is_open c.open.known.bytes.items ≡ true = sym (c.is_open.ensures ∙ ap t5_is_open c.as_slice.ensures.value) ∙ c.open-test.true in
+    let r = c.open.invariant.reading aim size is in
+    c.in_err-goes_on.ensures.next aim size r.0 a r.1 (open_due aim c.args.id size r.0 a (g.T.TagLink.seen c.open.link) c.open.known r.1 open')))
 
 pub open-preserved : goal.open-preserved
 open-preserved g c =
@@ -39,10 +49,10 @@ open-preserved g c =
     subst (λ m. SeesBlocks c.args.id a new looks.ps c.open.known c.ask_blocks.new.known (Ok m)) c.if-not-goes_on.false (c.in_ok-goes_on.ensures.sees a looks.ps looks.under looks.known') in
     record {
       looks = record { ps = looks.ps ++ gains.piece ∷ []; under = gains.under; known' = gains.known' };
-      reading = λ size is.
-          (let r = c.open.invariant.reading size is in
-          let due = open_due c.args.id size r.0 a (g.T.TagLink.seen c.open.link) c.open.known r.1 open' in
-          (suc r.0, subst (λ m. NextBlocks c.args.id size a new c.open.known c.ask_blocks.new.known r.0 (Ok m)) c.if-not-goes_on.false (c.in_ok-goes_on.ensures.next size r.0 a r.1 due)));
+      reading = λ aim size is.
+          (let r = c.open.invariant.reading aim size is in
+          let due = open_due aim c.args.id size r.0 a (g.T.TagLink.seen c.open.link) c.open.known r.1 open' in
+          (suc r.0, subst (λ m. NextBlocks aim c.args.id size a new c.open.known c.ask_blocks.new.known r.0 (Ok m)) c.if-not-goes_on.false (c.in_ok-goes_on.ensures.next aim size r.0 a r.1 due)));
       ready = c.in_ok-goes_on.ensures.ready;
       same = c.in_ok-goes_on.ensures.same ∙ c.open.invariant.same;
       moves = g.met.T.TagLink.goes_on c.args.link.now c.open.link c.ask_blocks.new.link c.open.invariant.moves c.in_ok-goes_on.ensures.moves;
@@ -60,9 +70,9 @@ pub returns-in-Ok-Ready-clause-area : goal.returns-in-Ok-Ready-clause-area
 returns-in-Ok-Ready-clause-area g c = names_area c.open.known c.reach.result (returns-in-Ok-Ready-clause-names g c)
 
 pub returns-in-Ok-Ready-clause-opens : goal.returns-in-Ok-Ready-clause-opens
-returns-in-Ok-Ready-clause-opens g c size is =
+returns-in-Ok-Ready-clause-opens g c aim size is =
     let closed : t5_is_open c.open.known.bytes.items ≡ false = sym (c.is_open.ensures ∙ ap t5_is_open c.as_slice.ensures.value) ∙ c.open-test.false in
-    let r = c.open.invariant.reading size is in
+    let r = c.open.invariant.reading aim size is in
     later c.args.id size r.0 (g.T.TagLink.seen c.args.link.now) (g.T.TagLink.seen c.open.link) c.open.known r.1 closed
 
 pub returns-in-Err-clause-sees : goal.returns-in-Err-clause-sees
@@ -77,11 +87,11 @@ returns-in-Err-clause-sees g c =
     (faulty_blocks c.args.id a b looks.ps c.open.known c.in-Err.fault looks.under looks.known' (some_known looks.ps c.open.known looks.known' sized.0) closed front)
 
 pub returns-in-Err-clause-opens : goal.returns-in-Err-clause-opens
-returns-in-Err-clause-opens g c size is =
+returns-in-Err-clause-opens g c aim size is =
     let a : LinkView = g.T.TagLink.seen c.args.link.now in
     let b : LinkView = g.T.TagLink.seen c.open.link in
     let closed : t5_is_open c.open.known.bytes.items ≡ false = sym (c.is_open.ensures ∙ ap t5_is_open c.as_slice.ensures.value) ∙ c.open-test.false in
-    let r = c.open.invariant.reading size is in
+    let r = c.open.invariant.reading aim size is in
     let l = later c.args.id size r.0 a b c.open.known r.1 closed in
-    subst (λ e. Reads (T5 c.args.id) size a b [] (Err e)) (sym c.of_container.ensures)
-    (reads_faulty c.args.id size l.0 a b c.open.known c.in-Err.fault l.1 (λ more. ap (λ xs. t5_front (xs ++ more)) (sym c.as_slice-2.ensures.value) ∙ c.in-Err.ensures.front more (λ e. cc)))
+    subst (λ e. Reads aim (T5 c.args.id) size a b [] (Err e)) (sym c.of_container.ensures)
+    (reads_faulty aim c.args.id size l.0 a b c.open.known c.in-Err.fault l.1 (λ more. ap (λ xs. t5_front (xs ++ more)) (sym c.as_slice-2.ensures.value) ∙ c.in-Err.ensures.front more (λ e. cc)))

@@ -15,7 +15,7 @@ use Rattle.tag_reader.proofs.BlockTurns.{asks_is, keeps_next, fails, no_fault, l
 use Rattle.tag_reader.proofs.blocks.ask_blocks.Goals as goal
 
 pub returns-in-Err-clause-next : goal.returns-in-Err-clause-next
-returns-in-Err-clause-next g c size n a r due =
+returns-in-Err-clause-next g c aim size n a r due =
     let old : LinkView = g.T.TagLink.seen c.args.link.now in
     let new : LinkView = g.T.TagLink.seen c.ask.new.self in
     let same = c.next_ask-ask.ensures ∙ asks_is c.args.id size n a old c.args.known.now r in
@@ -23,10 +23,10 @@ returns-in-Err-clause-next g c size n a r due =
     let lost = asked_err old new (command (T5 c.args.id) size a.state.store n) (t5.answer_frame (ask_answer size a.state.store (ask_at size a.state.store (progress_at size a.state.store n))))
     c.frame-command.result old.state c.in-Err.fault frame (keeps_next c.args.id size n a old c.args.known.now r)
     c.in-Err.ensures.rises c.in-Err.ensures.obeys c.in-Err.ensures.last c.in-Err.ensures.err c.in-Err.ensures.cause c.in-Err.ensures.ended c.in-Err.ensures.calm in
-    subst (λ e. Reads (T5 c.args.id) size a new [] (Err e)) (sym c.of_link.ensures) (fails c.args.id size n a old new _ r.reached due lost)
+    subst (λ e. Reads aim (T5 c.args.id) size a new [] (Err e)) (sym c.of_link.ensures) (fails aim c.args.id size n a old new _ r.reached due lost)
 
 pub returns-in-Err-tell_blocks-clause-next : goal.returns-in-Err-tell_blocks-clause-next
-returns-in-Err-tell_blocks-clause-next g c size n a r due =
+returns-in-Err-tell_blocks-clause-next g c aim size n a r due =
     let old : LinkView = g.T.TagLink.seen c.args.link.now in
     let new : LinkView = g.T.TagLink.seen c.ask.new.self in
     let same = c.next_ask-ask.ensures ∙ asks_is c.args.id size n a old c.args.known.now r in
@@ -37,7 +37,7 @@ returns-in-Err-tell_blocks-clause-next g c size n a r due =
     (c.in-Err-tell_blocks.ensures.tells c.args.id))
 
 pub returns-in-Ok-Ended-clause-next : goal.returns-in-Ok-Ended-clause-next
-returns-in-Ok-Ended-clause-next g c size n a r due =
+returns-in-Ok-Ended-clause-next g c aim size n a r due =
     let old : LinkView = g.T.TagLink.seen c.args.link.now in
     let new : LinkView = g.T.TagLink.seen c.ask.new.self in
     let same = c.next_ask-ask.ensures ∙ asks_is c.args.id size n a old c.args.known.now r in
@@ -45,10 +45,10 @@ returns-in-Ok-Ended-clause-next g c size n a r due =
     let told = asked_ok old new (command (T5 c.args.id) size a.state.store n) (t5.answer_frame (ask_answer size a.state.store (ask_at size a.state.store (progress_at size a.state.store n)))) c.in-Ok.answer
     c.frame-command.result old.state frame (keeps_next c.args.id size n a old c.args.known.now r) c.in-Ok.ensures.rises c.in-Ok.ensures.obeys c.in-Ok.ensures.last c.in-Ok.ensures.ok in
     let tells : TellsBlocks c.args.id c.next_ask-ask.result c.args.known.now.size c.in-Ok.answer (Ok Ended) = rw c.in-Ok-Ended.field-0-is at (c.in-Ok-Ended.ensures.tells c.args.id) in
-    ended_next c.args.id size n a old new c.args.known.now c.next_ask-ask.result c.in-Ok.answer r due same told.1 told.0 tells
+    ended_next aim c.args.id size n a old new c.args.known.now c.next_ask-ask.result c.in-Ok.answer r due same told.1 told.0 told.2 tells
 
 pub returns-in-Ok-Single-clause-next : goal.returns-in-Ok-Single-clause-next
-returns-in-Ok-Single-clause-next g c size n a r due =
+returns-in-Ok-Single-clause-next g c aim size n a r due =
     let old : LinkView = g.T.TagLink.seen c.args.link.now in
     let new : LinkView = g.T.TagLink.seen c.ask.new.self in
     let same = c.next_ask-ask.ensures ∙ asks_is c.args.id size n a old c.args.known.now r in
@@ -56,10 +56,10 @@ returns-in-Ok-Single-clause-next g c size n a r due =
     let told = asked_ok old new (command (T5 c.args.id) size a.state.store n) (t5.answer_frame (ask_answer size a.state.store (ask_at size a.state.store (progress_at size a.state.store n)))) c.in-Ok.answer
     c.frame-command.result old.state frame (keeps_next c.args.id size n a old c.args.known.now r) c.in-Ok.ensures.rises c.in-Ok.ensures.obeys c.in-Ok.ensures.last c.in-Ok.ensures.ok in
     let tells : TellsBlocks c.args.id c.next_ask-ask.result c.args.known.now.size c.in-Ok.answer (Ok Single) = rw c.in-Ok-Single.field-0-is at (c.in-Ok-Single.ensures.tells c.args.id) in
-    single_next c.args.id size n a old new c.args.known.now c.next_ask-ask.result c.in-Ok.answer r due same told.1 told.0 told.2 tells
+    single_next aim c.args.id size n a old new c.args.known.now c.next_ask-ask.result c.in-Ok.answer r due same told.1 told.0 told.2 tells
 
 pub returns-in-Ok-learn-clause-next : goal.returns-in-Ok-learn-clause-next
-returns-in-Ok-learn-clause-next g c size n a r due =
+returns-in-Ok-learn-clause-next g c aim size n a r due =
     let old : LinkView = g.T.TagLink.seen c.args.link.now in
     let new : LinkView = g.T.TagLink.seen c.ask.new.self in
     let same = c.next_ask-ask.ensures ∙ asks_is c.args.id size n a old c.args.known.now r in
@@ -68,19 +68,19 @@ returns-in-Ok-learn-clause-next g c size n a r due =
     c.frame-command.result old.state frame (keeps_next c.args.id size n a old c.args.known.now r) c.in-Ok.ensures.rises c.in-Ok.ensures.obeys c.in-Ok.ensures.last c.in-Ok.ensures.ok in
     let tells : TellsBlocks c.args.id c.next_ask-ask.result c.args.known.now.size c.in-Ok.answer (Ok (Bytes c.in-Ok-Bytes.content)) = rw c.in-Ok-Bytes.field-0-is at (c.in-Ok-Bytes.ensures.tells c.args.id) in
     let content : c.deref.result.now ≡ c.in-Ok-Bytes.content.items = c.deref.ensures.0 in
-    learns_next c.args.id size n a old new c.args.known.now c.learn.new.self c.next_ask-ask.result c.in-Ok.answer c.in-Ok-Bytes.content.items r due same told.1 told.0 told.2 tells
+    learns_next aim c.args.id size n a old new c.args.known.now c.learn.new.self c.next_ask-ask.result c.in-Ok.answer c.in-Ok-Bytes.content.items r due same told.1 told.0 told.2 tells
     (c.in-Ok-learn.ensures.size ∙ ap (λ xs. if c.args.known.now.size == 0 then length xs else c.args.known.now.size) content) c.in-Ok-learn.ensures.single
     (c.in-Ok-learn.ensures.bytes ∙ ap (λ xs. c.args.known.now.bytes.items ++ xs) content)
 
 pub returns-in-Err-learn-clause-next : goal.returns-in-Err-learn-clause-next
-returns-in-Err-learn-clause-next g c size n a r due =
+returns-in-Err-learn-clause-next g c aim size n a r due =
     let old : LinkView = g.T.TagLink.seen c.args.link.now in
     let new : LinkView = g.T.TagLink.seen c.ask.new.self in
     let same = c.next_ask-ask.ensures ∙ asks_is c.args.id size n a old c.args.known.now r in
     let frame : c.frame-command.result ≡ command (T5 c.args.id) size a.state.store n = c.frame-command.ensures ∙ ap (λ x. ask_frame c.args.id x) same in
     let told = asked_ok old new (command (T5 c.args.id) size a.state.store n) (t5.answer_frame (ask_answer size a.state.store (ask_at size a.state.store (progress_at size a.state.store n)))) c.in-Ok.answer
     c.frame-command.result old.state frame (keeps_next c.args.id size n a old c.args.known.now r) c.in-Ok.ensures.rises c.in-Ok.ensures.obeys c.in-Ok.ensures.last c.in-Ok.ensures.ok in
-    fails c.args.id size n a old new fault.Memory r.reached due (answer_lost (command (T5 c.args.id) size a.state.store n) old new told.0)
+    fails aim c.args.id size n a old new fault.Memory r.reached due (answer_lost (command (T5 c.args.id) size a.state.store n) old new told.0)
 
 pub returns-in-Err-tell_blocks-clause-sees : goal.returns-in-Err-tell_blocks-clause-sees
 returns-in-Err-tell_blocks-clause-sees g c a ps u is =

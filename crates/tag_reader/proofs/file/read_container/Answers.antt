@@ -1,7 +1,7 @@
-use Rattle.std.proofs.Common.{rules, [], ◌∷◌, length, refl, sym, ◌∙◌, ap, subst}
+use Rattle.std.proofs.Common.{arith, rules, [], ◌∷◌, length, refl, sym, ◌∙◌, ap, subst}
 use Rattle.nfc_base.specs.TagLinks.{LinkView}
 use Rattle.tag_reader.specs.FileSteps.{EndsBy}
-use Rattle.tag_reader.proofs.FileReading.{opens_file, no_file_by}
+use Rattle.tag_reader.proofs.FileReading.{head_due, opens_file, no_file_by}
 use Rattle.tag_reader.specs.declared.how.How.TheVariants.{T4}
 use Rattle.tag_reader.specs.Heard.{IsFaultBy}
 use Rattle.tag_reader.proofs.Looking.{of_under}
@@ -9,27 +9,28 @@ use Rattle.tag_reader.proofs.Filing.{opens, no_file}
 use Rattle.tag_reader.proofs.file.read_container.Goals as goal
 
 pub returns-in_err-select_container-clause-opens : goal.returns-in_err-select_container-clause-opens
-returns-in_err-select_container-clause-opens g c size is =
-    let h : EndsBy size (g.T.TagLink.seen c.args.link.now) (g.T.TagLink.seen c.select_container.new.link) c.in_err-select_container.field-0.0 = c.in_err-select_container.ensures.selects size is in
+returns-in_err-select_container-clause-opens g c aim size is =
+    let h : EndsBy aim size (g.T.TagLink.seen c.args.link.now) (g.T.TagLink.seen c.select_container.new.link) c.in_err-select_container.field-0.0 = c.in_err-select_container.ensures.selects aim size is in
     search rules
 
 pub returns-in_err-bytes-clause-opens : goal.returns-in_err-bytes-clause-opens
-returns-in_err-bytes-clause-opens g c size is =
-    let h : EndsBy size (g.T.TagLink.seen c.args.link.now) (g.T.TagLink.seen c.ask_file.new.link) c.in_err-bytes.field-0.0 =
-    c.in_err-bytes.ensures.next size 2 (g.T.TagLink.seen c.args.link.now) (c.in_ok-select_container.ensures.selects size is) tt refl in
+returns-in_err-bytes-clause-opens g c aim size is =
+    let a : LinkView = g.T.TagLink.seen c.args.link.now in
+    let h : EndsBy aim size a (g.T.TagLink.seen c.ask_file.new.link) c.in_err-bytes.field-0.0 =
+    c.in_err-bytes.ensures.next aim size 2 a (c.in_ok-select_container.ensures.selects aim size is) (head_due aim size a.state.store 2 (omega arith) tt) refl in
     search rules
 
 pub returns-in-Err-clause-opens : goal.returns-in-Err-clause-opens
-returns-in-Err-clause-opens g c size is =
+returns-in-Err-clause-opens g c aim size is =
     let a : LinkView = g.T.TagLink.seen c.args.link.now in
-    let next = c.in_ok-bytes.ensures.next size 2 a (c.in_ok-select_container.ensures.selects size is) tt refl in
-    subst (λ e. EndsBy size a (g.T.TagLink.seen c.ask_file.new.link) e) (sym c.of_container.ensures)
+    let next = c.in_ok-bytes.ensures.next aim size 2 a (c.in_ok-select_container.ensures.selects aim size is) (head_due aim size a.state.store 2 (omega arith) tt) refl in
+    subst (λ e. EndsBy aim size a (g.T.TagLink.seen c.ask_file.new.link) e) (sym c.of_container.ensures)
     (no_file_by size a _ c.as_slice.result.now c.in-Err.fault next.0 (c.as_slice.ensures.value ∙ next.1) c.in-Err.ensures)
 
 pub returns-in-Ok-clause-opens : goal.returns-in-Ok-clause-opens
-returns-in-Ok-clause-opens g c size is =
+returns-in-Ok-clause-opens g c aim size is =
     let a : LinkView = g.T.TagLink.seen c.args.link.now in
-    let next = c.in_ok-bytes.ensures.next size 2 a (c.in_ok-select_container.ensures.selects size is) tt refl in
+    let next = c.in_ok-bytes.ensures.next aim size 2 a (c.in_ok-select_container.ensures.selects aim size is) (head_due aim size a.state.store 2 (omega arith) tt) refl in
     opens_file size a _ c.as_slice.result.now c.in-Ok.map next.0 (c.as_slice.ensures.value ∙ next.1) c.in-Ok.ensures
 
 pub ask_file-requires-clause-of : goal.ask_file-requires-clause-of

@@ -7,26 +7,27 @@ use Rattle.tag_reader.proofs.FileReading.{is_read, is_ended, most_is}
 use Rattle.tag_reader.specs.Heard.{IsFaultBy}
 use Rattle.tag_reader.proofs.Looking.{of_under}
 use Rattle.tag_reader.proofs.Filing.{found_file}
+use Rattle.tag_reader.specs.Asked.{ToRead}
 use Rattle.tag_reader.proofs.file.read_file.Goals as goal
 
 pub returns-in_err-map-clause-reads : goal.returns-in_err-map-clause-reads
 returns-in_err-map-clause-reads g c size is =
     let a : LinkView = g.T.TagLink.seen c.args.link.now in
-    let h : IsRead T4 size a (g.T.TagLink.seen c.read_container.new.link) (Err c.in_err-map.field-0.0) = is_ended size a _ c.in_err-map.field-0.0 (c.in_err-map.ensures.opens size is) in
+    let h : IsRead T4 size a (g.T.TagLink.seen c.read_container.new.link) (Err c.in_err-map.field-0.0) = is_ended size a _ c.in_err-map.field-0.0 (c.in_err-map.ensures.opens ToRead size is) in
     search rules
 
 pub returns-in_err-length-clause-reads : goal.returns-in_err-length-clause-reads
 returns-in_err-length-clause-reads g c size is =
     let a : LinkView = g.T.TagLink.seen c.args.link.now in
     let h : IsRead T4 size a (g.T.TagLink.seen c.read_length.new.link) (Err c.in_err-length.field-0.0) =
-    is_ended size a _ c.in_err-length.field-0.0 (c.in_err-length.ensures.measures size a (c.in_ok-map.ensures.opens size is)) in
+    is_ended size a _ c.in_err-length.field-0.0 (c.in_err-length.ensures.measures ToRead size a (c.in_ok-map.ensures.opens ToRead size is)) in
     search rules
 
 pub returns-in_err-message-clause-reads : goal.returns-in_err-message-clause-reads
 returns-in_err-message-clause-reads g c size is =
     let a : LinkView = g.T.TagLink.seen c.args.link.now in
-    let opens = c.in_ok-map.ensures.opens size is in
-    let measured = c.in_ok-length.ensures.measures size a opens in
+    let opens = c.in_ok-map.ensures.opens ToRead size is in
+    let measured = c.in_ok-length.ensures.measures ToRead size a opens in
     let h : IsRead T4 size a (g.T.TagLink.seen c.read_message.new.link) (Err c.in_err-message.field-0.0) =
     is_ended size a _ c.in_err-message.field-0.0 (c.in_err-message.ensures.whole size a c.in_ok-map.map measured (most_is a c.in_ok-map.map c.min.result opens.names c.min.ensures)) in
     search rules
@@ -34,8 +35,8 @@ returns-in_err-message-clause-reads g c size is =
 pub returns-clause-reads : goal.returns-clause-reads
 returns-clause-reads g c size is =
     let a : LinkView = g.T.TagLink.seen c.args.link.now in
-    let opens = c.in_ok-map.ensures.opens size is in
-    let measured = c.in_ok-length.ensures.measures size a opens in
+    let opens = c.in_ok-map.ensures.opens ToRead size is in
+    let measured = c.in_ok-length.ensures.measures ToRead size a opens in
     let whole = c.in_ok-message.ensures.whole size a c.in_ok-map.map measured (most_is a c.in_ok-map.map c.min.result opens.names c.min.ensures) in
     is_read size a (g.T.TagLink.seen c.read_message.new.link) c.in_ok-map.map (record { message = c.new.result; site = File c.in_ok-map.map; writable = c.in_ok-map.map.writable }) (rw c.new.ensures whole)
     opens.names (omega (arith, measured.length', measured.fits)) refl refl

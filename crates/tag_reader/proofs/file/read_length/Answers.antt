@@ -1,34 +1,34 @@
 use Rattle.std.proofs.Common.{rules, ℕ, List, [], ◌∷◌, ◌++◌, length, refl, sym, ◌∙◌, ap, arith}
 use Rattle.tag_reader.specs.FileSteps.{EndsBy}
-use Rattle.tag_reader.proofs.FileReading.{selected_file, length_told, too_long}
+use Rattle.tag_reader.proofs.FileReading.{head_due, selected_file, length_told, too_long}
 use Rattle.tag_reader.specs.declared.how.How.TheVariants.{T4}
 use Rattle.tag_reader.specs.Heard.{IsFaultBy}
 use Rattle.tag_reader.proofs.Filing.{opened_room, selects, measures, measured, file_too_long}
 use Rattle.tag_reader.proofs.file.read_length.Goals as goal
 
 pub returns-in_err-ask_file-clause-measures : goal.returns-in_err-ask_file-clause-measures
-returns-in_err-ask_file-clause-measures g c size a o =
-    let h : EndsBy size a (g.T.TagLink.seen c.ask_file.new.link) c.in_err-ask_file.field-0.0 =
-    c.in_err-ask_file.ensures.next size 3 a o.under (c.args.map, o.names) (selected_file a c.args.map o.names) in
+returns-in_err-ask_file-clause-measures g c aim size a o =
+    let h : EndsBy aim size a (g.T.TagLink.seen c.ask_file.new.link) c.in_err-ask_file.field-0.0 =
+    c.in_err-ask_file.ensures.next aim size 3 a o.under (head_due aim size a.state.store 3 (omega arith) (c.args.map, o.names)) (selected_file a c.args.map o.names) in
     search rules
 
 pub returns-in_err-bytes-clause-measures : goal.returns-in_err-bytes-clause-measures
-returns-in_err-bytes-clause-measures g c size a o =
-    let next = c.in_ok-ask_file.ensures.next size 3 a o.under (c.args.map, o.names) (selected_file a c.args.map o.names) in
-    let h : EndsBy size a (g.T.TagLink.seen c.ask_file-2.new.link) c.in_err-bytes.field-0.0 = c.in_err-bytes.ensures.next size 4 a next.0 (c.args.map, o.names) refl in
+returns-in_err-bytes-clause-measures g c aim size a o =
+    let next = c.in_ok-ask_file.ensures.next aim size 3 a o.under (head_due aim size a.state.store 3 (omega arith) (c.args.map, o.names)) (selected_file a c.args.map o.names) in
+    let h : EndsBy aim size a (g.T.TagLink.seen c.ask_file-2.new.link) c.in_err-bytes.field-0.0 = c.in_err-bytes.ensures.next aim size 4 a next.0 (head_due aim size a.state.store 4 (omega arith) (c.args.map, o.names)) refl in
     search rules
 
 pub returns-then-length-map-clause-measures : goal.returns-then-length-map-clause-measures
-returns-then-length-map-clause-measures g c size a o =
-    let first = c.in_ok-ask_file.ensures.next size 3 a o.under (c.args.map, o.names) (selected_file a c.args.map o.names) in
-    let next = c.in_ok-bytes.ensures.next size 4 a first.0 (c.args.map, o.names) refl in
+returns-then-length-map-clause-measures g c aim size a o =
+    let first = c.in_ok-ask_file.ensures.next aim size 3 a o.under (head_due aim size a.state.store 3 (omega arith) (c.args.map, o.names)) (selected_file a c.args.map o.names) in
+    let next = c.in_ok-bytes.ensures.next aim size 4 a first.0 (head_due aim size a.state.store 4 (omega arith) (c.args.map, o.names)) refl in
     let told = length_told a c.as_slice.result.now c.number_of-length.result (c.as_slice.ensures.value ∙ next.1) c.number_of-length.ensures in
     too_long size a (g.T.TagLink.seen c.ask_file-2.new.link) c.args.map next.0 o.names (omega (arith, told, c.if-length-map.true))
 
 pub returns-clause-measures : goal.returns-clause-measures
-returns-clause-measures g c size a o =
-    let first = c.in_ok-ask_file.ensures.next size 3 a o.under (c.args.map, o.names) (selected_file a c.args.map o.names) in
-    let next = c.in_ok-bytes.ensures.next size 4 a first.0 (c.args.map, o.names) refl in
+returns-clause-measures g c aim size a o =
+    let first = c.in_ok-ask_file.ensures.next aim size 3 a o.under (head_due aim size a.state.store 3 (omega arith) (c.args.map, o.names)) (selected_file a c.args.map o.names) in
+    let next = c.in_ok-bytes.ensures.next aim size 4 a first.0 (head_due aim size a.state.store 4 (omega arith) (c.args.map, o.names)) refl in
     let told = length_told a c.as_slice.result.now c.number_of-length.result (c.as_slice.ensures.value ∙ next.1) c.number_of-length.ensures in
     record { under = next.0; names = o.names; length' = told; fits = omega (arith, c.if-length-map.false) }
 

@@ -6,6 +6,7 @@ use Rattle.tag_reader.specs.HeardSteps.{ReadAll}
 use Rattle.tag_reader.proofs.FileReading.{no_pieces, low_piece, piece_due, piece_command, pieces_more, all_pieces, under_lost}
 use Rattle.tag_reader.specs.declared.how.How.TheVariants.{T4}
 use Rattle.tag_reader.proofs.Filing.{or_fault, or_ends, parts_some, parts_low, none_read, part_command, read_more, read_lost, read_all, pieces_high}
+use Rattle.tag_reader.specs.Asked.{ToRead}
 use Rattle.tag_reader.proofs.file.read_message.Goals as goal
 
 pub loop-index-init : goal.loop-index-init
@@ -23,8 +24,8 @@ returns-in_err-piece-clause-whole g c size a m is same =
     let k = c.loop-index.index in
     let due = piece_due size a old m c.args.length c.args.most c.div_ceil-pieces.result k is same c.div_ceil-pieces.ensures c.loop-index-test.true in
     let pieces = c.loop-index.invariant.pieces size a m is same in
-    or_ends (λ message. IsWhole size a (g.T.TagLink.seen c.ask_file.new.link) message.items) size a (g.T.TagLink.seen c.ask_file.new.link) c.from_residual.result c.in_err-piece.field-0.0 (search rules)
-    (c.in_err-piece.ensures.next size (piece_at k) a pieces.under due (piece_command size a old m c.args.length c.args.most k c.min.result is same c.min.ensures))
+    or_ends ToRead (λ message. IsWhole size a (g.T.TagLink.seen c.ask_file.new.link) message.items) size a (g.T.TagLink.seen c.ask_file.new.link) c.from_residual.result c.in_err-piece.field-0.0 (search rules)
+    (c.in_err-piece.ensures.next ToRead size (piece_at k) a pieces.under due (piece_command size a old m c.args.length c.args.most k c.min.result is same c.min.ensures))
 
 pub returns-in_err-piece-clause-moves : goal.returns-in_err-piece-clause-moves
 returns-in_err-piece-clause-moves g c = g.met.T.TagLink.goes_on c.args.link.now c.loop-index.link c.ask_file.new.link c.loop-index.invariant.moves c.in_err-piece.ensures.moves
@@ -35,7 +36,7 @@ returns-in-Err-clause-whole g c size a m is same =
     let k = c.loop-index.index in
     let due = piece_due size a old m c.args.length c.args.most c.div_ceil-pieces.result k is same c.div_ceil-pieces.ensures c.loop-index-test.true in
     let pieces = c.loop-index.invariant.pieces size a m is same in
-    let next = c.in_ok-piece.ensures.next size (piece_at k) a pieces.under due (piece_command size a old m c.args.length c.args.most k c.min.result is same c.min.ensures) in
+    let next = c.in_ok-piece.ensures.next ToRead size (piece_at k) a pieces.under due (piece_command size a old m c.args.length c.args.most k c.min.result is same c.min.ensures) in
     under_lost size (piece_at k) a (g.T.TagLink.seen c.ask_file.new.link) next.0
 
 pub returns-in-Err-clause-moves : goal.returns-in-Err-clause-moves
@@ -48,7 +49,7 @@ loop-index-preserved g c = record {
       let k = c.loop-index.index in
       let due = piece_due size a old m c.args.length c.args.most c.div_ceil-pieces.result k is same c.div_ceil-pieces.ensures c.loop-index-test.true in
       let pieces = c.loop-index.invariant.pieces size a m is same in
-      let next = c.in_ok-piece.ensures.next size (piece_at k) a pieces.under due (piece_command size a old m c.args.length c.args.most k c.min.result is same c.min.ensures) in
+      let next = c.in_ok-piece.ensures.next ToRead size (piece_at k) a pieces.under due (piece_command size a old m c.args.length c.args.most k c.min.result is same c.min.ensures) in
       let grown : c.extend_from_slice.new.self.items ≡ c.loop-index.message.items ++ c.in_ok-piece.piece.items =
       c.in-Ok.ensures.items ∙ ap (λ xs. c.loop-index.message.items ++ xs) c.deref.ensures.0 in
       rw grown (pieces_more size a (g.T.TagLink.seen c.loop-index.link) (g.T.TagLink.seen c.ask_file.new.link) c.loop-index.message.items c.in_ok-piece.piece.items k pieces due next.0 next.1));

@@ -1,7 +1,7 @@
-use Rattle.std.proofs.Common.{rules, [], ◌∷◌, refl}
+use Rattle.std.proofs.Common.{arith, rules, [], ◌∷◌, refl}
 use Rattle.nfc_base.specs.TagLinks.{LinkView}
 use Rattle.tag_reader.specs.FileSteps.{EndsBy}
-use Rattle.tag_reader.proofs.FileReading.{begins}
+use Rattle.tag_reader.proofs.FileReading.{head_due, begins}
 use Rattle.tag_reader.specs.declared.how.How.TheVariants.{T4}
 use Rattle.tag_reader.specs.Heard.{IsFaultBy}
 use Rattle.tag_reader.proofs.Bringing.{under_none}
@@ -9,23 +9,23 @@ use Rattle.tag_reader.proofs.Looking.{of_under}
 use Rattle.tag_reader.proofs.file.select_container.Goals as goal
 
 pub returns-in_err-ask_file-clause-selects : goal.returns-in_err-ask_file-clause-selects
-returns-in_err-ask_file-clause-selects g c size is =
+returns-in_err-ask_file-clause-selects g c aim size is =
     let a : LinkView = g.T.TagLink.seen c.args.link.now in
-    let h : EndsBy size a (g.T.TagLink.seen c.ask_file.new.link) c.in_err-ask_file.field-0.0 = c.in_err-ask_file.ensures.next size 0 a (begins size a is) tt refl in
+    let h : EndsBy aim size a (g.T.TagLink.seen c.ask_file.new.link) c.in_err-ask_file.field-0.0 = c.in_err-ask_file.ensures.next aim size 0 a (begins aim size a is) (head_due aim size a.state.store 0 (omega arith) tt) refl in
     search rules
 
 pub returns-in_err-ask_file-2-clause-selects : goal.returns-in_err-ask_file-2-clause-selects
-returns-in_err-ask_file-2-clause-selects g c size is =
+returns-in_err-ask_file-2-clause-selects g c aim size is =
     let a : LinkView = g.T.TagLink.seen c.args.link.now in
-    let next = c.in_ok-ask_file.ensures.next size 0 a (begins size a is) tt refl in
-    let h : EndsBy size a (g.T.TagLink.seen c.ask_file-2.new.link) c.in_err-ask_file-2.field-0.0 = c.in_err-ask_file-2.ensures.next size 1 a next.0 tt refl in
+    let next = c.in_ok-ask_file.ensures.next aim size 0 a (begins aim size a is) (head_due aim size a.state.store 0 (omega arith) tt) refl in
+    let h : EndsBy aim size a (g.T.TagLink.seen c.ask_file-2.new.link) c.in_err-ask_file-2.field-0.0 = c.in_err-ask_file-2.ensures.next aim size 1 a next.0 (head_due aim size a.state.store 1 (omega arith) tt) refl in
     search rules
 
 pub returns-clause-selects : goal.returns-clause-selects
-returns-clause-selects g c size is =
+returns-clause-selects g c aim size is =
     let a : LinkView = g.T.TagLink.seen c.args.link.now in
-    let next = c.in_ok-ask_file.ensures.next size 0 a (begins size a is) tt refl in
-    (c.in_ok-ask_file-2.ensures.next size 1 a next.0 tt refl).0
+    let next = c.in_ok-ask_file.ensures.next aim size 0 a (begins aim size a is) (head_due aim size a.state.store 0 (omega arith) tt) refl in
+    (c.in_ok-ask_file-2.ensures.next aim size 1 a next.0 (head_due aim size a.state.store 1 (omega arith) tt) refl).0
 
 pub ask_file-requires-2-clause-of : goal.ask_file-requires-2-clause-of
 ask_file-requires-2-clause-of g c =

@@ -1,6 +1,7 @@
 use Rattle.std.proofs.Common.{rules, ◌≡◌, ◌+◌, [], take, inl, inr, refl, sym, subst, ◌∙◌, ap, arith, Ok, Err}
 use Rattle.std.proofs.lemmas.List.{append-nil}
 use Rattle.tlv_area.specs.Walking.{HasCome}
+use Rattle.tag_reader.specs.Asked.{ToRead}
 use Rattle.tag_reader.specs.Steps.{Reads}
 use Rattle.tag_reader.specs.Heard.{IsFaultBy}
 use Rattle.tag_reader.specs.HeardSteps.{GainsOr}
@@ -29,23 +30,23 @@ find_message-requires g c = record {
 pub returns-in_err-begins-clause-reads : goal.returns-in_err-begins-clause-reads
 returns-in_err-begins-clause-reads g c size is =
     let low = due_reach c.args.how size (g.T.TagLink.seen c.args.link.now).state.store 0 is.store (inl refl) in
-    let h : Reads c.args.how size (g.T.TagLink.seen c.args.link.now) (g.T.TagLink.seen c.ask_next.new.link) c.ask_next.new.known.items (Err c.in_err-begins.field-0.0) =
-    ends_first c.args.how size (g.T.TagLink.seen c.args.link.now) (g.T.TagLink.seen c.ask_next.new.link) c.ask_next.new.known.items c.in_err-begins.field-0.0 (c.in_err-begins.ensures.next size is low (none_long c.args.known.now.items size c.requires.begun)) in
+    let h : Reads ToRead c.args.how size (g.T.TagLink.seen c.args.link.now) (g.T.TagLink.seen c.ask_next.new.link) c.ask_next.new.known.items (Err c.in_err-begins.field-0.0) =
+    ends_first ToRead c.args.how size (g.T.TagLink.seen c.args.link.now) (g.T.TagLink.seen c.ask_next.new.link) c.ask_next.new.known.items c.in_err-begins.field-0.0 (c.in_err-begins.ensures.next size is low (none_long c.args.known.now.items size c.requires.begun)) in
     search rules
 
 pub returns-in-Err-clause-reads : goal.returns-in-Err-clause-reads
 returns-in-Err-clause-reads g c size is =
     let low = due_reach c.args.how size (g.T.TagLink.seen c.args.link.now).state.store 0 is.store (inl refl) in
-    let knows = begun c.args.how size (g.T.TagLink.seen c.args.link.now) (g.T.TagLink.seen c.ask_next.new.link) c.args.known.now.items c.ask_next.new.known.items c.in_ok-begins.begins is
+    let knows = begun ToRead c.args.how size (g.T.TagLink.seen c.args.link.now) (g.T.TagLink.seen c.ask_next.new.link) c.args.known.now.items c.ask_next.new.known.items c.in_ok-begins.begins is
     (c.in_ok-begins.ensures.next size is low (none_long c.args.known.now.items size c.requires.begun)) c.if-not-begins.false c.requires.begun in
-    first_fault c.args.how size (g.T.TagLink.seen c.args.link.now) (g.T.TagLink.seen c.ask_next.new.link) c.ask_next.new.known.items c.as_slice.result.now c.in-Err.fault c.of_container.result is.store knows
+    first_fault ToRead c.args.how size (g.T.TagLink.seen c.args.link.now) (g.T.TagLink.seen c.ask_next.new.link) c.ask_next.new.known.items c.as_slice.result.now c.in-Err.fault c.of_container.result is.store knows
     c.as_slice.ensures.value c.in-Err.ensures.exact c.of_container.ensures
 
 pub walk-init : goal.walk-init
 walk-init g c = record {
   walks = λ size is.
       (let low = due_reach c.args.how size (g.T.TagLink.seen c.args.link.now).state.store 0 is.store (inl refl) in
-      let knows = begun c.args.how size (g.T.TagLink.seen c.args.link.now) (g.T.TagLink.seen c.ask_next.new.link) c.args.known.now.items c.ask_next.new.known.items c.in_ok-begins.begins is
+      let knows = begun ToRead c.args.how size (g.T.TagLink.seen c.args.link.now) (g.T.TagLink.seen c.ask_next.new.link) c.args.known.now.items c.ask_next.new.known.items c.in_ok-begins.begins is
       (c.in_ok-begins.ensures.next size is low (none_long c.args.known.now.items size c.requires.begun)) c.if-not-begins.false c.requires.begun in
       first_walk c.args.how size (g.T.TagLink.seen c.args.link.now) (g.T.TagLink.seen c.ask_next.new.link) c.ask_next.new.known.items c.as_slice.result.now c.in-Ok.space is.store knows
       c.as_slice.ensures.value c.in-Ok.ensures.exact);
@@ -87,8 +88,8 @@ returns-in_err-goes_on-clause-reads g c size is =
     let walks = c.walk.invariant.walks size is in
     let due = next c.args.how size (g.T.TagLink.seen c.args.link.now) (g.T.TagLink.seen c.walk.link) c.walk.known.items c.front.result.now c.in-Ok.space c.walk.index is.store
     walks e (short_in c.walk.walker c.in-Ok.space c.front.result.now c.walk.invariant.space (c.needs_more.ensures.short c.walk-test.true)) (needs_in c.walk.walker c.in-Ok.space c.front.result.now c.walk.invariant.space (c.needs_more.ensures.more.0 c.walk-test.true)) in
-    let h : Reads c.args.how size (g.T.TagLink.seen c.args.link.now) (g.T.TagLink.seen c.ask_next-in-walk.new.link) c.ask_next-in-walk.new.known.items (Err c.in_err-goes_on.field-0.0) =
-    ends_later c.args.how size (g.T.TagLink.seen c.args.link.now) (g.T.TagLink.seen c.walk.link) (g.T.TagLink.seen c.ask_next-in-walk.new.link) c.walk.known.items c.ask_next-in-walk.new.known.items c.walk.index
+    let h : Reads ToRead c.args.how size (g.T.TagLink.seen c.args.link.now) (g.T.TagLink.seen c.ask_next-in-walk.new.link) c.ask_next-in-walk.new.known.items (Err c.in_err-goes_on.field-0.0) =
+    ends_later ToRead c.args.how size (g.T.TagLink.seen c.args.link.now) (g.T.TagLink.seen c.walk.link) (g.T.TagLink.seen c.ask_next-in-walk.new.link) c.walk.known.items c.ask_next-in-walk.new.known.items c.walk.index
     c.in_err-goes_on.field-0.0 walks.knows (inr (needs_next c.args.how size (g.T.TagLink.seen c.args.link.now).state.store (c.walk.index + 1) is.store due.due)) (c.in_err-goes_on.ensures.next size due.tag due.reach (known_long c.args.how size (g.T.TagLink.seen c.args.link.now) (g.T.TagLink.seen c.walk.link) c.walk.known.items c.in-Ok.space c.walk.index walks due)) in
     search rules
 

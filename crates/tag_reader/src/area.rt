@@ -1,0 +1,93 @@
+//! An area, read to its end whatever its TLVs are.
+
+ghost use Rattle.std.specs.Prelude.{◌≡◌, ℕ, suc, ◌≤◌, length, [], IfOk, OnOk};
+ghost use Rattle.nfc_base.specs.TagLinks.{LinkView};
+ghost use Rattle.tlv_area.specs.Layout.{IsArea};
+ghost use Rattle.tag_reader.specs.Asked.{ToWrite};
+ghost use Rattle.tag_reader.specs.declared.how.How.TheVariants as hows;
+ghost use Rattle.tag_reader.specs.Heard.{IsOf};
+ghost use Rattle.tag_reader.specs.Steps.{IsOfBlocks};
+ghost use Rattle.tag_reader.specs.BlockSteps.{Names, LooksBlocks, IsReading};
+ghost use Rattle.tag_reader.specs.SurveySteps.{ReadsAll, KnowsAll};
+
+use crate::asking::ask_next;
+use crate::blocks::ask_blocks;
+use crate::fault::ReadFault;
+use crate::finding::{of_container, space_of};
+use crate::how::How;
+use crate::known::Known;
+use nfc_base::TagLink;
+use std::alloc::Global;
+use t5t_tag::NO_BLOCK;
+use tlv_area::Space;
+
+/// Asks a Type 2 tag for the bytes from the first one to the end of its area, and tells the area.
+pub fn read_all<T: TagLink>(
+    alloc: Global,
+    link: &mut T,
+    how: How,
+    known: &mut Vec<u8>,
+) -> Result<Space, ReadFault>
+    requires ready { T.ready link.old }
+    requires of { IsOf how (T.seen link.old) }
+    requires kind { IsOfBlocks how }
+    requires begun { known.old.items ≡ [] }
+    ensures area { IfOk result IsArea }
+    ensures whole { IfOk result (λ space. space.end ≤ length known.new.items) }
+    ensures reads { ReadsAll how (T.seen link.old) (T.seen link.new) known.new.items result }
+    ensures ready { T.ready link.new }
+    ensures same { T.lenders link.new ≡ T.lenders link.old }
+    ensures moves { T.moves link.old link.new }
+{
+    let begins = ask_next(alloc, link, how, 0, known)?;
+    if !begins {
+        return Err(ReadFault::Refused(NO_BLOCK as u16));
+    }
+    let space = match space_of(how, known.as_slice()) {
+        Ok(space) => space,
+        Err(fault) => return Err(of_container(fault)),
+    };
+    let mut index: u8 = 0;
+    'area: while known.len() < space.end as usize {
+        index += 1;
+        let goes_on = ask_next(alloc, link, how, index, known)?;
+        if !goes_on {
+            return Err(ReadFault::Refused(NO_BLOCK as u16));
+        }
+    }
+    Ok(space)
+}
+
+/// Asks a Type 5 tag for blocks up to the end of its area or its own, and tells the area as far as the tag goes.
+pub fn read_to_end<T: TagLink>(
+    alloc: Global,
+    link: &mut T,
+    id: [u8; 8],
+    known: &mut Known,
+    space: Space,
+) -> Result<Space, ReadFault>
+    requires ready { T.ready link.old }
+    requires of { IsOf (hows.T5 id) (T.seen link.old) }
+    requires area { IsArea space }
+    requires names { Names known.old space }
+    requires looks { (a : LinkView) × LooksBlocks id a (T.seen link.old) known.old }
+    ensures area { IfOk result IsArea }
+    ensures whole { IfOk result (λ end. end.end ≤ length known.new.bytes.items) }
+    ensures small { OnOk result (known.new.size ≤ 256) }
+    ensures reads { (size n : ℕ) (a : LinkView) → IsReading ToWrite id size a (T.seen link.old) known.old (suc n) →
+        KnowsAll id size a (T.seen link.new) known.new result }
+    ensures ready { T.ready link.new }
+    ensures same { T.lenders link.new ≡ T.lenders link.old }
+    ensures moves { T.moves link.old link.new }
+{
+    'area: while known.bytes.len() < space.end as usize {
+        let goes_on = ask_blocks(alloc, link, id, known)?;
+        if !goes_on {
+            return Ok(Space {
+                end: known.bytes.len() as u32,
+                ..space
+            });
+        }
+    }
+    Ok(space)
+}
