@@ -35,7 +35,8 @@ use Rattle.bench_devices.specs.Answering.{TellsExchange, TellsCard}
 use Rattle.bench_devices.specs.CardAsking.{Exchanges, card_due, card_stands, card_next}
 use Rattle.bench_devices.specs.Device.{air}
 use Rattle.bench_devices.specs.Linking.{Linked, ReadsOn, ReadsLinked, IsNewLink, ReadsSomeOn, CutLinked}
-use Rattle.bench_devices.specs.Phases.{Kept, ghosts, kept, Asked, AskedPart, Stands, FailsRead, Reads, ReadsAt, ReadsSome, CutAt}
+use Rattle.bench_devices.specs.Keeping.{Kept, kept, ghosts, NoStore}
+use Rattle.bench_devices.specs.Phases.{Asked, AskedPart, Stands, FailsRead, Reads, ReadsAt, ReadsSome, CutAt}
 use Rattle.bench_devices.specs.Reading.{AsksOf, ShowsOf}
 use Rattle.air_core.proofs.BrokenWaits.{stays_lit}
 use Rattle.bench_devices.proofs.CardKept.{rats_harmless}
@@ -56,7 +57,7 @@ has_fresh a place (T5 p) s four = absurd cc
 pub record ReadsCard (old new : Moment (World Device)) (d : Device) (r : Result Found ReadFault) : Type 0 where
   pub commands : List Signal
   pub asks : AsksOf d commands
-  pub asked : Asked (card_next commands) old new
+  pub asked : Asked NoStore (card_next commands) old new
   pub ends : TellsCard (ShowsOf d) FailsRead (card_stands commands asked.notes) r
   pub lost : (r ≡ Err faults.FieldLost) ↔ (0 < breaks asked.going.events)
 
@@ -64,7 +65,7 @@ pub record ReadsCard (old new : Moment (World Device)) (d : Device) (r : Result 
 record CardCut (old new : Moment (World Device)) (d : Device) : Type 0 where
   pub commands : List Signal
   pub asks : AsksOf d commands
-  pub asked : AskedPart (card_next commands) old new
+  pub asked : AskedPart NoStore (card_next commands) old new
 
 as_cut : (old new : Moment (World Device)) (d : Device) → how_of d ≡ hows.T4 → CardCut old new d → ReadsSome old new d
 as_cut old new (T2 d) four s = absurd cc

@@ -44,7 +44,8 @@ use Rattle.bench_devices.specs.Answering.{TellsExchange}
 use Rattle.bench_devices.specs.Device.{air}
 use Rattle.bench_devices.specs.Reading.{Shows, ShowsOf}
 use Rattle.bench_devices.specs.Linking.{Linked, ReadsOn, IsNewLink, ReadsSomeOn}
-use Rattle.bench_devices.specs.Phases.{ghosts, kept, IsSound, FailsRead}
+use Rattle.bench_devices.specs.Keeping.{kept, IsSound, ghosts}
+use Rattle.bench_devices.specs.Phases.{FailsRead}
 use Rattle.air_core.proofs.BrokenWaits.{stays_lit}
 use Rattle.bench_devices.proofs.CardKept.{exchange_keeps}
 use Rattle.bench_devices.proofs.CardReadingNotes.{exchange_lost, broken_more, due_front}
@@ -154,7 +155,7 @@ module _ (p : IsoSeen Device) (is : IsNewLink p) (d : Device) (l : Linked d p.ai
 
   pub new_tag : IsTag hows.T4 (size_of d) from
   new_tag =
-      let tag = shows_four from x (ap (λ k. k.how) l.same ∙ l.card) (subst IsSound (sym l.same) l.sound) refl from_state (seen device_commands _) in
+      let tag = shows_four from x (ap (λ k. k.fixed.how) l.same ∙ l.card) (subst IsSound (sym l.same) l.sound) refl from_state (seen device_commands _) in
       resized tag.0 (size_of d) from tag.1
 
   module _ (q : IsoSeen Device) (m : IsoMoves ghosts device_card device_tag p q) where

@@ -11,6 +11,7 @@ pub mod Unmoved
 pub mod TagTwo
 pub mod TagFive
 pub mod CardKept
+pub mod EveryFrame
 pub mod ReadingTags
 pub mod ReadingAir
 pub mod ReadingEnds

@@ -34,7 +34,8 @@ use Rattle.bench_devices.specs.Answering.{TellsStanding}
 use Rattle.bench_devices.specs.Device.{air}
 use Rattle.bench_devices.specs.Reading.{AsksOf, ShowsOf}
 use Rattle.bench_devices.specs.Linking.{IsPlainHow, IsNew}
-use Rattle.bench_devices.specs.Phases.{ghosts, kept, Stands, Asked, AskedPart, FailsRead, Reads, ReadsAt, ReadsSome, CutAt}
+use Rattle.bench_devices.specs.Keeping.{kept, ghosts, NoStore}
+use Rattle.bench_devices.specs.Phases.{Stands, Asked, AskedPart, FailsRead, Reads, ReadsAt, ReadsSome, CutAt}
 use Rattle.air_core.proofs.LostField.{going_lost}
 use Rattle.bench_devices.proofs.SelectingKept.{going_keeps}
 use Rattle.air_core.proofs.BrokenWaits.{EndsLost, lost_ends, broken_front, stays_lit}
@@ -56,7 +57,7 @@ record AskedSome (d : Device) (asked : List Signal) : Type 0 where
 pub record ReadsPlain (old new : Moment (World Device)) (d : Device) (r : Result Found ReadFault) : Type 0 where
   pub commands : List Signal
   pub asks : AsksOf d commands
-  pub asked : Asked (waits_next commands) old new
+  pub asked : Asked NoStore (waits_next commands) old new
   pub ends : TellsStanding (ShowsOf d) FailsRead (stand 0 commands asked.notes) r
   pub lost : (r ≡ Err faults.FieldLost) ↔ (0 < breaks asked.going.events)
 
@@ -64,7 +65,7 @@ pub record ReadsPlain (old new : Moment (World Device)) (d : Device) (r : Result
 pub record CutPlain (old new : Moment (World Device)) (d : Device) : Type 0 where
   pub commands : List Signal
   pub asks : AsksOf d commands
-  pub asked : AskedPart (waits_next commands) old new
+  pub asked : AskedPart NoStore (waits_next commands) old new
 
 as_cut : (old new : Moment (World Device)) (d : Device) → IsPlainHow (how_of d) → CutPlain old new d → ReadsSome old new d
 as_cut old new (T2 d) plain s = record { commands = s.commands; asks = s.asks; asked = s.asked }

@@ -18,7 +18,7 @@ use Rattle.bench_devices.specs.Cards.{T4Near}
 use Rattle.bench_devices.specs.declared.device.Device.{Device}
 use Rattle.bench_devices.specs.declared.device.Device.TheVariants.{T4}
 use Rattle.bench_devices.specs.Device.{device_answer, device_after, device_selected, device_card, device_tag, is_no_file, is_unlinked}
-use Rattle.bench_devices.specs.Phases.{ghosts, kept, IsSound}
+use Rattle.bench_devices.specs.Keeping.{kept, IsSound, ghosts}
 use Rattle.isodep_link.proofs.Heeding.{no_bytes}
 use Rattle.bench_devices.proofs.TagFourSteps.{linked_device, IsLinked, card_tag}
 
