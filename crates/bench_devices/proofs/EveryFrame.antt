@@ -1,6 +1,6 @@
 -- What events leave of the devices, whatever is sent: what is fixed of each stays, and its store is one of its kind still. A device
 -- that is aside keeps its store too.
-use Rattle.std.proofs.Common.{◌≡◌, ℕ, suc, ◌+◌, ◌*◌, ◌/◌, ◌<◌, ◌≤◌, nat_le, nat_lt, List, [], ◌∷◌, ◌++◌, drop, length, map, slice_index, Bool, true, false, not, ◌&&◌, nat_eq, if◌then◌else◌, Option, Some, None, refl, sym, ◌∙◌, ap, subst, arith}
+use Rattle.std.proofs.Common.{◌≡◌, ℕ, suc, ◌+◌, ◌*◌, ◌/◌, ◌<◌, ◌≤◌, List, [], ◌∷◌, ◌++◌, length, map, slice_index, Bool, true, false, nat_eq, if◌then◌else◌, Option, Some, None, refl, sym, ◌∙◌, ap, subst, arith}
 use Rattle.std.specs.List.{AllByRecursion}
 use Rattle.std.proofs.lemmas.List.{length-append}
 use Rattle.std.specs.Cmp.Lexicographic.{pointwise}
@@ -10,18 +10,16 @@ use Rattle.nfc_base.specs.declared.event.Event.{Event}
 use Rattle.nfc_base.specs.declared.event.Event.TheVariants.{Reset, Request, Answer, Clash}
 use Rattle.nfc_base.specs.declared.event.Fate.{Fate}
 use Rattle.nfc_base.specs.declared.event.Fate.TheVariants.{Pass, Damage, Lose, Break}
-use Rattle.nfc_base.specs.Signal.{Signal, whole_a}
+use Rattle.nfc_base.specs.Signal.{Signal}
 use Rattle.nfc_base.specs.Blocks.{with_block}
 use Rattle.nfc_base.specs.TagLinks.{MayAsk, IsNamedIn, addressed}
-use Rattle.air_core.specs.World.{World, hears, stepped_by, requested, came_back}
+use Rattle.air_core.specs.World.{hears, stepped_by, requested, came_back}
 use Rattle.air_core.specs.Conversation.{replay}
 use Rattle.air_core.specs.PlainTags.{plain_kind, IsAside}
 use Rattle.nfca_poll.specs.Calls.{call_of}
 use Rattle.nfca_poll.specs.Front.{Front, Off, Idle, Sleep, Ready, Active, front_next}
 use Rattle.nfca_poll.specs.Fronted.{Fronted, left_at, active_after, after_by}
-use Rattle.nfca_poll.specs.FrontLaws as fronted
 use Rattle.nfca_poll.specs.Levels.{levels}
-use Rattle.nfca_poll.specs.Ident.{IsIdent}
 use Rattle.t2t_tag.specs.declared.command.T2Command.{T2Command}
 use Rattle.t2t_tag.specs.declared.command.T2Command.TheVariants.{Read, Write}
 use Rattle.t2t_tag.specs.Spelling.{spelled_command}
@@ -29,20 +27,19 @@ use Rattle.t2t_tag.specs.Step.{is_writable, t2_obeyed, reply_frame, held_after}
 use Rattle.t2t_tag.specs.Store as t2
 use Rattle.t2t_tag.specs.Store.{T2Memory, IsT2Store}
 use Rattle.t2t_tag.proofs.Spellings.{exact_by}
-use Rattle.t4t_tag.specs.Store.{T4State, IsSameTag, IsT4Store, IsT4State, store_of}
-use Rattle.t5t_tag.specs.Store.{T5State, IsT5Store, id_size}
+use Rattle.t4t_tag.specs.Store.{T4State, IsSameTag, IsT4Store, store_of}
+use Rattle.t5t_tag.specs.Store.{T5State}
 use Rattle.t5t_tag.specs.Step.{T5Turn, t5_after}
 use Rattle.t5t_tag.proofs.Stores.{still_store}
 use Rattle.t5t_tag.proofs.Steps.{same_tag as same_five, other_silent}
 use Rattle.tlv_area.proofs.Stepping.{length-with_block, block_before}
 use Rattle.bench_devices.specs.Cards.{T4Near}
 use Rattle.bench_devices.specs.Powered.{Powered}
-use Rattle.bench_devices.specs.Uppers.{t2_upper, t4_upper}
 use Rattle.bench_devices.specs.declared.device.Device.{Device}
 use Rattle.bench_devices.specs.declared.device.Device.TheVariants.{T2, T4, T5}
 use Rattle.bench_devices.specs.Device.{BenchWorld, air, devices, device_id, device_store, says_of, t2_machine, t4_machine}
 use Rattle.bench_devices.specs.Placed.{device_with, IfPlaced}
-use Rattle.bench_devices.specs.Keeping.{ghosts, Fixed, fixed, Kept, kept, IsSound, IsSoundAs, IsApart, AreSound, AreTame, StaysDevice, AllStayDevices, held_by, images_of, IsStoreOf, AreImages, DevicesStay, ImagesStay, AsideKeeps, Changes, NoStore, StoreOf, KeepsBut, AllKeepBut, Leaves, EachAsked, IsAsideOf, OthersKeep}
+use Rattle.bench_devices.specs.Keeping.{ghosts, Fixed, fixed, kept, IsSound, IsApart, AreSound, AreTame, StaysDevice, AllStayDevices, held_by, images_of, IsStoreOf, DevicesStay, ImagesStay, AsideKeeps, Changes, NoStore, StoreOf, AllKeepBut, Leaves, EachAsked, IsAsideOf}
 use Rattle.bench_devices.proofs.SelectingKept.{kept_dark, kept_lit}
 use Rattle.bench_devices.proofs.CardKept.{IsAtRest, fixed_step, four_same, rest_keeps, rest_stays, dark_at_rest, lit_at_rest}
 

@@ -1,6 +1,6 @@
 -- The bench's devices as a crowd of cards: at a call each steps by its front and keeps what it holds, and no two have one
 -- identifier.
-use Rattle.std.proofs.Common.{◌≡◌, ◌≢◌, ◌⊎◌, ℕ, suc, ◌≤◌, ◌<◌, List, [], ◌∷◌, length, map, filter_map, Bool, true, false, if◌then◌else◌, not, ◌&&◌, Option, Some, None, inl, inr, refl, sym, ◌∙◌, ap, arith}
+use Rattle.std.proofs.Common.{◌≡◌, ◌≢◌, ◌⊎◌, ℕ, suc, ◌≤◌, ◌<◌, List, [], ◌∷◌, length, map, filter_map, Bool, true, false, if◌then◌else◌, not, ◌&&◌, Option, Some, None, inl, inr, refl, ◌∙◌, ap, arith}
 use Rattle.std.specs.List.{AllByRecursion, cons_option}
 use Rattle.nfc_base.specs.declared.frame.Tech.TheVariants.{A}
 use Rattle.nfc_base.specs.Signal.{Signal}

@@ -1,5 +1,5 @@
 -- A Type 4 tag of the bench that is selected and has no link takes RATS, and is then a tag that does what the card's table says.
-use Rattle.std.proofs.Common.{◌≡◌, ℕ, zero, suc, ◌≤◌, List, ◌++◌, Bool, true, false, not, ◌&&◌, Option, Some, refl, sym, ◌∙◌, ap, subst}
+use Rattle.std.proofs.Common.{◌≡◌, ℕ, zero, suc, ◌≤◌, List, ◌++◌, Bool, true, false, not, ◌&&◌, Some, refl, sym, ◌∙◌, ap, subst}
 use Rattle.std.proofs.lemmas.List.{append_cancel_left}
 use Rattle.nfc_base.specs.TagLinks.{plain_state}
 use Rattle.air_core.specs.PlainTags.{heard_times}
