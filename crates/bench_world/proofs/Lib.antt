@@ -10,3 +10,4 @@ pub mod Complete
 pub mod OneForm
 pub mod OneAnswer
 pub mod OneJournal
+pub mod Shapes

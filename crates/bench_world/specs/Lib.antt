@@ -5,5 +5,6 @@ pub mod Legal
 pub mod Obeying
 pub mod Completing
 pub mod Journal
+pub mod Taking
 pub mod SameCommands
 pub mod Report

@@ -16,5 +16,5 @@ mod report;
 pub use bench::{Bench, ObeyFault};
 pub use bench_devices::{Device, SeenKind};
 pub use entry::{Answer, Entry, Seen};
-pub use law::{finds_complete, reads_complete};
+pub use law::{finds_complete, lines_decide, reads_complete};
 pub use report::render;
