@@ -15,6 +15,7 @@ pub mod EveryFrame
 pub mod ReadingTags
 pub mod ReadingAir
 pub mod ReadingEnds
+pub mod QuietRats
 pub mod CardReadingNotes
 pub mod CardReadingLinks
 pub mod CardReading

@@ -1,7 +1,7 @@
 -- What the parts of a read of a Type 4 tag say of the field. No public contract speaks of these.
 use Rattle.std.specs.Prelude.{◌≡◌, ◌↔◌, ℕ, ◌<◌, List, length, true, None, Result, Err}
 use Rattle.nfc_base.specs.Signal.{Signal}
-use Rattle.nfc_base.specs.Trace.{breaks}
+use Rattle.nfc_base.specs.Trace.{noise, breaks}
 use Rattle.air_core.specs.World.{World}
 use Rattle.air_core.specs.Turn.{Air, moment}
 use Rattle.air_core.specs.Conversation.{Moment}
@@ -67,6 +67,7 @@ pub record ReadsOn (old new : Moment (World Device)) (d : Device) (reader : Read
   pub asked : Asked NoStore (iso_next reader (bytes_of commands)) old new
   pub ends : TellsExchange (ShowsOf d) FailsRead (stand (exchange.asks reader (bytes_of commands)) asked.notes) r
   pub lost : (r ≡ Err faults.FieldLost) ↔ (0 < breaks asked.going.events)
+  pub noisy : r ≡ Err faults.SixBad → 0 < noise asked.going.events
 
 -- Reading was cut off by want of memory.
 pub record ReadsSomeOn (old new : Moment (World Device)) (d : Device) (reader : ReaderState) : Type 0 where

@@ -8,7 +8,7 @@ use Rattle.air_core.specs.Turn.{Air}
 use Rattle.air_core.specs.World.{World}
 use Rattle.air_core.specs.Conversation.{Moment, Note, Next, Over, Going}
 use Rattle.air_core.specs.PlainTags.{IsAside}
-use Rattle.nfc_base.specs.Trace.{breaks}
+use Rattle.nfc_base.specs.Trace.{noise, breaks}
 use Rattle.nfca_poll.specs.declared.fault.PollFault.{PollFault}
 use Rattle.nfca_poll.specs.declared.fault.PollFault.TheVariants as polling
 use Rattle.tag_reader.specs.declared.fault.ReadFault.{ReadFault}
@@ -107,13 +107,15 @@ FailsRead asking.SixBad r = r ≡ Err faults.SixBad
 FailsRead asking.Memory r = ⊥
 FailsRead asking.Protocol r = ⊥
 
--- Reading asked what it asks of a device, up to a break or the sixth bad reception of a wait, and tells what came of it.
+-- Reading asked what it asks of a device, up to a break or the sixth bad reception of a wait, and tells what came of it. Without
+-- noise no wait has six bad receptions.
 pub record Reads (old new : Moment (World Device)) (d : Device) (r : Result Found ReadFault) : Type 0 where
   pub commands : List Signal
   pub asks : AsksOf d commands
   pub asked : Asked NoStore (tag_next (seen_of d) commands) old new
   pub ends : TellsBy (seen_of d) (ShowsOf d) FailsRead commands asked.notes r
   pub lost : (r ≡ Err faults.FieldLost) ↔ (0 < breaks asked.going.events)
+  pub noisy : r ≡ Err faults.SixBad → 0 < noise asked.going.events
 
 -- Reading was cut off by want of memory.
 pub record ReadsSome (old new : Moment (World Device)) (d : Device) : Type 0 where

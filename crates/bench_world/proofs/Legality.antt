@@ -5,7 +5,7 @@ use Rattle.std.proofs.lemmas.List.{append-nil}
 use Rattle.nfc_base.specs.declared.event.Event.{Event}
 use Rattle.nfc_base.specs.declared.event.Fate.{Fate}
 use Rattle.nfc_base.specs.Signal.{Signal}
-use Rattle.nfc_base.specs.Trace.{back_of, breaks}
+use Rattle.nfc_base.specs.Trace.{back_of, noise, breaks}
 use Rattle.nfc_base.specs.Trace as backs
 use Rattle.air_core.specs.World.{World}
 use Rattle.air_core.specs.Turn.{Air, moment}
@@ -44,12 +44,13 @@ use Rattle.tag_reader.specs.declared.fault.ReadFault.{ReadFault}
 use Rattle.tag_reader.specs.declared.fault.ReadFault.TheVariants as reading
 use Rattle.tag_reader.specs.declared.found.Found.{Found}
 use Rattle.bench_devices.specs.declared.sweeping.Everybody.{Everybody}
-use Rattle.bench_world.proofs.Telling.{tells_as, shows_tells, fails_tells, lost_told, found_told}
+use Rattle.bench_world.proofs.Telling.{six_told, tells_as, shows_tells, fails_tells, lost_told, found_told}
 use Rattle.tag_reader.proofs.FileAsked.{file_asked}
 use Rattle.bench_world.proofs.Placing.{map-over, IsWith, is_with, with_sound}
 use Rattle.bench_devices.proofs.Following.{ToldOn, told_on}
 use Rattle.bench_devices.proofs.ReadingTags.{some_asked}
 use Rattle.air_core.proofs.LostField.{breaks-append}
+use Rattle.air_core.proofs.PlainTurns.{noise_append}
 use Rattle.bench_devices.proofs.Tidy.{going_tidy}
 use Rattle.bench_devices.proofs.EveryFrame.{left_tame}
 
@@ -179,6 +180,15 @@ told_lost faults.Memory answer is lost = absurd cc
 told_lost faults.NotFound answer is lost = absurd cc
 told_lost faults.BadAnswer answer is lost = absurd cc
 
+-- polling ends by no six bad receptions
+never_six : (e : PollFault) (answer : Answer) → poll_answer e ≡ Some answer → answer ≡ answers.SixBad → ⊥
+never_six faults.Nobody answer is six = cc
+never_six faults.Disturbed answer is six = cc
+never_six faults.FieldLost answer is six = cc
+never_six faults.Memory answer is six = cc
+never_six faults.NotFound answer is six = cc
+never_six faults.BadAnswer answer is six = cc
+
 poll_lost : (e : PollFault) (answer : Answer) → poll_answer e ≡ Some answer → ◌≡◌ {A = Result SeenKind PollFault} (Err e) (Err faults.FieldLost) → answer ≡ answers.FieldLost
 poll_lost e answer is lost = (let same : e ≡ faults.FieldLost = cc in let told : Some answer ≡ Some answers.FieldLost = sym is ∙ ap poll_answer same in cc)
 
@@ -204,6 +214,7 @@ missed_tells Tells id asked old new e answer s is = record {
   cause = s.cause;
   ends = is;
   lost = (λ lost. s.lost.0 (told_lost e answer is lost), λ broken. poll_lost e answer is (s.lost.1 broken));
+  noisy = λ six. absurd (never_six e answer is six);
 }
 
 pub missed_obeyed : (old new : Air Device) (id : DeviceId) (e : PollFault) (answer : Answer) → IsIdle old → Selects id (Err e) (moment old) (moment new) → poll_answer e ≡ Some answer → Obeyed old new (Read id) answer
@@ -317,6 +328,11 @@ module _ (old mid new : Air Device) (id : DeviceId) (place : ℕ) (read : Result
     lost = lost_behind answer s.selects.asked.going.events r.asked.going.events
         (λ some. let is : ◌≡◌ {A = Result SeenKind PollFault} (Ok (seen_of s.device)) (Err faults.FieldLost) = s.selects.lost.1 some in cc)
         (lost_told read answer told (breaks r.asked.going.events) r.lost);
+    noisy = λ six.
+        let rest : 0 < noise r.asked.going.events = r.noisy (six_told read answer told six) in
+        let sum : noise (s.selects.asked.going.events ++ r.asked.going.events) ≡ noise s.selects.asked.going.events + noise r.asked.going.events =
+        noise_append s.selects.asked.going.events r.asked.going.events in
+        omega (arith, sum, rest);
   }
 
   pub read_obeyed : Obeyed old new (Read id) answer

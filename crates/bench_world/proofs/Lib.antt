@@ -11,3 +11,4 @@ pub mod OneForm
 pub mod OneAnswer
 pub mod OneJournal
 pub mod Shapes
+pub mod Quiet

@@ -2,6 +2,7 @@
 //! these laws.
 
 ghost use Rattle.bench_world.specs.Completing.{ReadsComplete, FindsComplete};
+ghost use Rattle.bench_world.specs.Quiet.{QuietStays, QuietReads, QuietFinds};
 ghost use Rattle.bench_world.specs.Taking.{LinesDecide};
 
 /// A legal read of a placed tag, without a Break, without a wait of six bad receptions and with one round (of a Type 5 tag one
@@ -18,4 +19,12 @@ pub fn finds_complete()
 /// Which lines of a script are taken is decided by the lines alone, not by what was sent.
 pub fn lines_decide()
     ensures { LinesDecide }
+{}
+
+/// Where no fate is left but Pass, the air stays quiet, a read of a placed tag tells what its store holds, and a search lists
+/// the whole field.
+pub fn quiet_air()
+    ensures stays { QuietStays }
+    ensures reads { QuietReads }
+    ensures finds { QuietFinds }
 {}
