@@ -16,9 +16,10 @@ use Rattle.nfca_poll.specs.Rounds.{all_devices, finding}
 use Rattle.bench_devices.specs.declared.device.Device.{Device}
 use Rattle.bench_devices.specs.declared.device.Device.TheVariants.{T2, T4, T5}
 use Rattle.bench_devices.specs.Device.{devices}
+use Rattle.bench_devices.specs.Keeping.{EachAsked}
 use Rattle.air_core.proofs.Following.{light_is_no_request}
 use Rattle.air_core.proofs.LostField.{over}
-use Rattle.bench_devices.proofs.SelectingKept.{EachAsked, due_asked}
+use Rattle.bench_devices.proofs.SelectingKept.{due_asked}
 use Rattle.bench_devices.proofs.Searching.{IsCall, asks_calls}
 use Rattle.bench_devices.proofs.Inventoried.{IsAwake}
 

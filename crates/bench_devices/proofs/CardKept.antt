@@ -9,7 +9,7 @@ use Rattle.nfc_base.specs.declared.event.Event.TheVariants.{Reset, Request, Answ
 use Rattle.nfc_base.specs.declared.event.Fate.{Fate}
 use Rattle.nfc_base.specs.declared.event.Fate.TheVariants.{Pass, Damage, Lose, Break}
 use Rattle.nfc_base.specs.Signal.{Signal, whole_a}
-use Rattle.air_core.specs.World.{World, stepped_by, requested, came_back}
+use Rattle.air_core.specs.World.{World, hears, stepped_by, requested, came_back}
 use Rattle.air_core.specs.Conversation.{Note, Next, Asks, Moment, Going, replay}
 use Rattle.air_core.specs.Waits.{waits_next}
 use Rattle.air_core.specs.PlainTags.{IsAside}
@@ -30,6 +30,9 @@ use Rattle.t2t_tag.specs.Store.{T2Memory}
 use Rattle.t4t_tag.specs.Store.{T4State, IsSameTag, store_of}
 use Rattle.t4t_tag.specs.Step.{t4_answer}
 use Rattle.t4t_tag.proofs.Steps.{same_tag}
+use Rattle.t5t_tag.specs.Store.{T5State}
+use Rattle.t5t_tag.specs.Step.{t5_after}
+use Rattle.t5t_tag.proofs.Steps.{same_tag as same_five}
 use Rattle.tag_reader.specs.declared.how.How.TheVariants as hows
 use Rattle.isodep_link.specs.declared.card.CardStep.{CardStep}
 use Rattle.isodep_link.specs.declared.card.CardStep.TheVariants as card
@@ -46,10 +49,10 @@ use Rattle.bench_devices.specs.declared.device.Device.{Device}
 use Rattle.bench_devices.specs.declared.device.Device.TheVariants.{T2, T4, T5}
 use Rattle.bench_devices.specs.Device.{devices, device_id, device_store, device_ready, device_selected, device_locks, by_card, on_link, did_if, says_of, t2_machine, t4_did, t4_machine}
 use Rattle.bench_devices.specs.Device.{air}
-use Rattle.bench_devices.specs.Phases.{Kept, kept, ghosts}
+use Rattle.bench_devices.specs.Keeping.{ghosts, Fixed, fixed, Kept, kept, EachAsked}
 use Rattle.bench_devices.specs.Standing.{at_rest, step_keeps}
 use Rattle.air_core.proofs.DueWaits.{due_all}
-use Rattle.bench_devices.proofs.SelectingKept.{IsHarmless, EachAsked, due_asked, kept_dark, kept_lit}
+use Rattle.bench_devices.proofs.SelectingKept.{IsHarmless, due_asked, kept_dark, kept_lit}
 
 -- What holds of the machine of a Type 4 device, with and without a link, holds of it behind a frame where it holds of what the
 -- frame leaves.
@@ -132,8 +135,11 @@ did_none u f none true = none u.tag (card_now u)
 did_none u f none false = refl
 
 -- what stays of a Type 4 tag
+abbrev fixed_four : List ℕ → ℕ → List ℕ → CardState → Fixed
+fixed_four id code container made = record { id = id; how = hows.T4; size = 0; locked = []; code = code; container = container; made = made }
+
 abbrev tagged : List ℕ → T4State → CardState → Kept
-tagged id t made = record { id = id; how = hows.T4; size = 0; store = store_of t; locked = []; code = t.code; container = t.container; made = made }
+tagged id t made = record { fixed = fixed_four id t.code t.container made; store = store_of t }
 
 -- such a frame changes no Type 4 tag but in its state
 pub four_keeps : (d : Fronted T4Near) (f : Signal) → DeliversNone f → kept (T4 (after_by t4_machine d.front d f None)) ≡ kept (T4 d)
@@ -177,7 +183,7 @@ did_same : (u : T4Near) (f : Signal) (v : Bool) → IsSameTag u.tag (did_if v u 
 did_same u f true = by_card_same u.tag (card_table (card_now u) f).state (card_table (card_now u) f).does
 did_same u f false = itself u.tag
 
-four_same : (d : Fronted T4Near) (f : Signal) → IsSameTag d.upper.tag (after_by t4_machine d.front d f None).upper.tag
+pub four_same : (d : Fronted T4Near) (f : Signal) → IsSameTag d.upper.tag (after_by t4_machine d.front d f None).upper.tag
 four_same d f =
     let P : T4Near → Type 0 = λ u. IsSameTag d.upper.tag u.tag in
     step_holds P (λ u h. record { code = h.code; container = h.container; length = h.length }) d.front d f (itself d.upper.tag) (did_same d.upper f (d.upper.linked || is_rats f))
@@ -218,32 +224,40 @@ two_locks Sleep d f = locks_left d.front (front_next (levels d.id) d.front (call
 two_locks (Ready level starred) d f = locks_left d.front (front_next (levels d.id) d.front (call_of f)) d.upper
 two_locks (Active starred) d f = active_locks d f (spelled_command f)
 
--- what stays of a device other than its store
-abbrev bare_of : Kept → Kept
-bare_of k = record k { store = [] }
+-- What is fixed of a device stays at every frame, whether it hears it or not.
+abbrev fixed_two : List ℕ → List Bool → Fixed
+fixed_two id locked = record { id = id; how = hows.T2; size = 16; locked = locked; code = 0; container = []; made = ends.fresh 0 }
 
-abbrev pub bare : Device → Kept
-bare d = bare_of (kept d)
+abbrev fixed_five : List ℕ → ℕ → List Bool → Fixed
+fixed_five id size locked = record { id = id; how = hows.T5 id; size = size; locked = locked; code = 0; container = []; made = ends.fresh 0 }
 
-abbrev bare_two : List ℕ → List Bool → Kept
-bare_two id locked = record { id = id; how = hows.T2; size = 16; store = []; locked = locked; code = 0; container = []; made = ends.fresh 0 }
+heard_fixed : (d e : Device) → fixed e ≡ fixed d → (v : Bool) → fixed (if v then e else d) ≡ fixed d
+heard_fixed d e same true = same
+heard_fixed d e same false = refl
 
-abbrev bare_four : List ℕ → ℕ → List ℕ → CardState → Kept
-bare_four id code container made = record { id = id; how = hows.T4; size = 0; store = []; locked = []; code = code; container = container; made = made }
-
--- a whole frame of NFC-A leaves it
-bare_step : (d : Device) (bytes : List ℕ) → bare (stepped_by devices d (whole_a bytes) None) ≡ bare d
-bare_step (T2 d) bytes =
-    ap (λ id. bare_two id (device_locks (devices.after (T2 d) (whole_a bytes) None))) (step_keeps (T2 d) (whole_a bytes) None).identifier'
-    ∙ ap (bare_two d.id) (two_locks d.front d (whole_a bytes))
-bare_step (T4 d) bytes =
-    let same = four_same d (whole_a bytes) in
-    let new : T4Near = (after_by t4_machine d.front d (whole_a bytes) None).upper in
-    ap (λ id. bare_four id new.tag.code new.tag.container (ends.darkened new.card)) (fronted.step_keeps t4_upper d (whole_a bytes) None).identifier'
-    ∙ ap (λ code. bare_four d.id code new.tag.container (ends.darkened new.card)) same.code
-    ∙ ap (λ container. bare_four d.id d.upper.tag.code container (ends.darkened new.card)) same.container
-    ∙ ap (bare_four d.id d.upper.tag.code d.upper.tag.container) (four_made d (whole_a bytes))
-bare_step (T5 p) bytes = refl
+pub fixed_step : (d : Device) (f : Signal) → fixed (stepped_by devices d f None) ≡ fixed d
+fixed_step (T2 d) f =
+    heard_fixed (T2 d) (devices.after (T2 d) f None)
+    (ap (λ id. fixed_two id (device_locks (devices.after (T2 d) f None))) (step_keeps (T2 d) f None).identifier' ∙ ap (fixed_two d.id) (two_locks d.front d f))
+    (hears devices (T2 d) f)
+fixed_step (T4 d) f =
+    let same = four_same d f in
+    let new : T4Near = (after_by t4_machine d.front d f None).upper in
+    heard_fixed (T4 d) (devices.after (T4 d) f None)
+    (ap (λ id. fixed_four id new.tag.code new.tag.container (ends.darkened new.card)) (fronted.step_keeps t4_upper d f None).identifier'
+    ∙ ap (λ code. fixed_four d.id code new.tag.container (ends.darkened new.card)) same.code
+    ∙ ap (λ container. fixed_four d.id d.upper.tag.code container (ends.darkened new.card)) same.container
+    ∙ ap (fixed_four d.id d.upper.tag.code d.upper.tag.container) (four_made d f))
+    (hears devices (T4 d) f)
+fixed_step (T5 p) f =
+    let new : T5State = t5_after p.tag f in
+    let same = same_five p.tag f in
+    let lit : Device = T5 (record { tag = new; lit = true }) in
+    heard_fixed (T5 p) (devices.after (T5 p) f None)
+    (heard_fixed (T5 p) lit
+    (ap (λ id. fixed_five id new.size new.locked) same.id ∙ ap (λ n. fixed_five p.tag.id n new.locked) same.size ∙ ap (fixed_five p.tag.id p.tag.size) same.locked)
+    p.lit)
+    (hears devices (T5 p) f)
 
 -- no device of NFC-A that is ready or selected
 abbrev pub IsAtRest : Device → Type 0
@@ -266,43 +280,43 @@ rest_four id (Ready level starred) u f r a = absurd cc
 rest_four id (Active starred) u f r a = absurd cc
 
 -- it hears a whole frame and stays as it is, at rest
-rest_keeps : (d : Device) (bytes : List ℕ) → IsAtRest d → kept (stepped_by devices d (whole_a bytes) None) ≡ kept d
+pub rest_keeps : (d : Device) (bytes : List ℕ) → IsAtRest d → kept (stepped_by devices d (whole_a bytes) None) ≡ kept d
 rest_keeps (T2 d) bytes r = rest_two d.id d.front d.upper (whole_a bytes) (r refl).0 (r refl).1
 rest_keeps (T4 d) bytes r = rest_four d.id d.front d.upper (whole_a bytes) (r refl).0 (r refl).1
 rest_keeps (T5 p) bytes r = refl
 
-rest_stays : (d : Device) (bytes : List ℕ) → IsAtRest d → IsAtRest (stepped_by devices d (whole_a bytes) None)
+pub rest_stays : (d : Device) (bytes : List ℕ) → IsAtRest d → IsAtRest (stepped_by devices d (whole_a bytes) None)
 rest_stays (T2 d) bytes r t = (let h = at_rest (T2 d) bytes refl (r refl).0 (r refl).1 in (h.2, h.3))
 rest_stays (T4 d) bytes r t = (let h = at_rest (T4 d) bytes refl (r refl).0 (r refl).1 in (h.2, h.3))
 rest_stays (T5 p) bytes r t = absurd cc
 
-dark_at_rest : (d : Device) → IsAtRest (devices.darkened d)
+pub dark_at_rest : (d : Device) → IsAtRest (devices.darkened d)
 dark_at_rest (T2 d) t = (refl, refl)
 dark_at_rest (T4 d) t = (refl, refl)
 dark_at_rest (T5 p) t = absurd cc
 
-lit_at_rest : (d : Device) → IsAtRest (devices.woken (devices.darkened d))
+pub lit_at_rest : (d : Device) → IsAtRest (devices.woken (devices.darkened d))
 lit_at_rest (T2 d) t = (refl, refl)
 lit_at_rest (T4 d) t = (refl, refl)
 lit_at_rest (T5 p) t = absurd cc
 
--- A change of devices that leaves those at rest as they are but in their state, and of any other what stays but its store.
+-- A change of devices that leaves those at rest as they are but in their state, and of any other what is fixed.
 record IsStill (g : Device → Device) : Type 0 where
   pub keeps : (e : Device) → IsAtRest e → kept (g e) ≡ kept e
   pub stays : (e : Device) → IsAtRest e → IsAtRest (g e)
-  pub same : (e : Device) → bare (g e) ≡ bare e
+  pub same : (e : Device) → fixed (g e) ≡ fixed e
 
 still_step : (bytes : List ℕ) → IsStill (λ l. stepped_by devices l (whole_a bytes) None)
-still_step bytes = record { keeps = λ e r. rest_keeps e bytes r; stays = λ e r. rest_stays e bytes r; same = λ e. bare_step e bytes }
+still_step bytes = record { keeps = λ e r. rest_keeps e bytes r; stays = λ e r. rest_stays e bytes r; same = λ e. fixed_step e (whole_a bytes) }
 
 still_dark : IsStill devices.darkened
-still_dark = record { keeps = λ e r. kept_dark e; stays = λ e r. dark_at_rest e; same = λ e. ap bare_of (kept_dark e) }
+still_dark = record { keeps = λ e r. kept_dark e; stays = λ e r. dark_at_rest e; same = λ e. ap (λ k. k.fixed) (kept_dark e) }
 
 kept_again : (e : Device) → kept (devices.woken (devices.darkened e)) ≡ kept e
 kept_again e = kept_lit (devices.darkened e) ∙ kept_dark e
 
 still_reset : IsStill (λ l. devices.woken (devices.darkened l))
-still_reset = record { keeps = λ e r. kept_again e; stays = λ e r. lit_at_rest e; same = λ e. ap bare_of (kept_again e) }
+still_reset = record { keeps = λ e r. kept_again e; stays = λ e r. lit_at_rest e; same = λ e. ap (λ k. k.fixed) (kept_again e) }
 
 module _ (g : Device → Device) (still : IsStill g) where
   map_same : (ds : List Device) → AllByRecursion IsAtRest ds → map kept (map g ds) ≡ map kept ds
@@ -321,7 +335,7 @@ module _ (before : List Device) (d : Device) (behind : List Device) where
     pub back : List Device
     pub split : ds ≡ front ++ one ∷ back
     pub first : map kept front ≡ map kept before
-    pub same : bare one ≡ bare d
+    pub same : fixed one ≡ fixed d
     pub later : map kept back ≡ map kept behind
     pub front_rests : AllByRecursion IsAtRest front
     pub back_rests : AllByRecursion IsAtRest back
@@ -359,10 +373,10 @@ module _ (before : List Device) (d : Device) (behind : List Device) where
   events_stand (Clash g x ∷ es) w h s = events_stand es (came_back devices w x) h (back_stand w x s)
 
   -- a device of the same kind that holds the same
-  same_kept : (e : Device) → bare e ≡ bare d → device_store e ≡ device_store d → kept e ≡ kept d
+  same_kept : (e : Device) → fixed e ≡ fixed d → device_store e ≡ device_store d → kept e ≡ kept d
   same_kept e same store =
-      let with_store : Kept → List ℕ → Kept = λ k xs. record k { store = xs } in
-      ap (λ k. with_store k (device_store e)) same ∙ ap (with_store (bare d)) store
+      let K : Fixed → List ℕ → Kept = λ x xs. record { fixed = x; store = xs } in
+      ap (λ x. K x (device_store e)) same ∙ ap (K (fixed d)) store
 
   at_front : (front : List Device) (e : Device) (back : List Device) → at_place device_store [] (front ++ e ∷ back) (length front) ≡ device_store e
   at_front [] e back = refl

@@ -6,7 +6,7 @@ use Rattle.std.proofs.lemmas.Bool.{cases_lt}
 use Rattle.nfc_base.specs.declared.tag_link.AskFault.{AskFault}
 use Rattle.nfc_base.specs.declared.tag_link.AskFault.TheVariants as asking
 use Rattle.nfc_base.specs.Signal.{Signal}
-use Rattle.nfc_base.specs.Trace.{breaks}
+use Rattle.nfc_base.specs.Trace.{noise, breaks}
 use Rattle.air_core.specs.World.{World}
 use Rattle.air_core.specs.Turn.{Air, world, moment}
 use Rattle.air_core.specs.Conversation.{Moment, Note, Going, replay, with_events}
@@ -35,13 +35,16 @@ use Rattle.bench_devices.specs.Answering.{TellsExchange, TellsCard}
 use Rattle.bench_devices.specs.CardAsking.{Exchanges, card_due, card_stands, card_next}
 use Rattle.bench_devices.specs.Device.{air}
 use Rattle.bench_devices.specs.Linking.{Linked, ReadsOn, ReadsLinked, IsNewLink, ReadsSomeOn, CutLinked}
-use Rattle.bench_devices.specs.Phases.{Kept, ghosts, kept, Asked, AskedPart, Stands, FailsRead, Reads, ReadsAt, ReadsSome, CutAt}
+use Rattle.bench_devices.specs.Keeping.{Kept, kept, ghosts, NoStore}
+use Rattle.bench_devices.specs.Phases.{Asked, AskedPart, Stands, FailsRead, Reads, ReadsAt, ReadsSome, CutAt}
 use Rattle.bench_devices.specs.Reading.{AsksOf, ShowsOf}
 use Rattle.air_core.proofs.BrokenWaits.{stays_lit}
 use Rattle.bench_devices.proofs.CardKept.{rats_harmless}
 use Rattle.bench_devices.proofs.CardReadingNotes.{rats_due, rats_told, lost_wait, reading_lost, reading_six}
 use Rattle.bench_devices.proofs.ReadingTags.{stands_alone, seen, stands_one}
 use Rattle.bench_devices.proofs.SelectingAir.{events_are}
+use Rattle.bench_devices.proofs.QuietRats.{rats_noise}
+use Rattle.air_core.proofs.PlainTurns.{noise_append}
 use Rattle.air_core.proofs.LostField.{going_lost, breaks-append}
 use Rattle.bench_devices.proofs.SelectingKept.{going_keeps}
 use Rattle.bench_devices.proofs.TagFour.{takes_rats}
@@ -56,15 +59,16 @@ has_fresh a place (T5 p) s four = absurd cc
 pub record ReadsCard (old new : Moment (World Device)) (d : Device) (r : Result Found ReadFault) : Type 0 where
   pub commands : List Signal
   pub asks : AsksOf d commands
-  pub asked : Asked (card_next commands) old new
+  pub asked : Asked NoStore (card_next commands) old new
   pub ends : TellsCard (ShowsOf d) FailsRead (card_stands commands asked.notes) r
   pub lost : (r ≡ Err faults.FieldLost) ↔ (0 < breaks asked.going.events)
+  pub noisy : r ≡ Err faults.SixBad → 0 < noise asked.going.events
 
 -- so far a read of a Type 4 tag went
 record CardCut (old new : Moment (World Device)) (d : Device) : Type 0 where
   pub commands : List Signal
   pub asks : AsksOf d commands
-  pub asked : AskedPart (card_next commands) old new
+  pub asked : AskedPart NoStore (card_next commands) old new
 
 as_cut : (old new : Moment (World Device)) (d : Device) → how_of d ≡ hows.T4 → CardCut old new d → ReadsSome old new d
 as_cut old new (T2 d) four s = absurd cc
@@ -73,7 +77,7 @@ as_cut old new (T5 p) four s = absurd cc
 
 as_reads : (old new : Moment (World Device)) (d : Device) (r : Result Found ReadFault) → how_of d ≡ hows.T4 → ReadsCard old new d r → Reads old new d r
 as_reads old new (T2 d) r four s = absurd cc
-as_reads old new (T4 d) r four s = record { commands = s.commands; asks = s.asks; asked = s.asked; ends = s.ends; lost = s.lost }
+as_reads old new (T4 d) r four s = record { commands = s.commands; asks = s.asks; asked = s.asked; ends = s.ends; lost = s.lost; noisy = s.noisy }
 as_reads old new (T5 p) r four s = absurd cc
 
 -- what stays of the device at a place is what stays there
@@ -82,7 +86,7 @@ at_kept [] place = refl
 at_kept (l ∷ ls) zero = refl
 at_kept (l ∷ ls) (suc n) = at_kept ls n
 
--- fewer breaks in a part than in the whole
+-- as many in the whole as in a part, or more
 more_breaks : (m n k : ℕ) → k ≡ m + n → 0 < n → 0 < k
 more_breaks m n k sum some = omega (arith, sum, some)
 
@@ -125,13 +129,15 @@ module _ (old mid : Air Device) (place : ℕ) (d : Device) (s : Stands (moment o
 
     -- a reading that ended there
     ended : (commands : List Signal) (r : Result Found ReadFault) (e : AskFault) → AsksOf d commands → card_stands commands sent.notes ≡ Exchanges (exchange.Broken e)
-        → TellsExchange (ShowsOf d) FailsRead (exchange.Broken e) r → (r ≡ Err faults.FieldLost) ↔ (0 < breaks sent.going.events) → ReadsCard (moment old) (moment mid) d r
-    ended commands r e asked stands tells lost = record {
+        → TellsExchange (ShowsOf d) FailsRead (exchange.Broken e) r → (r ≡ Err faults.FieldLost) ↔ (0 < breaks sent.going.events)
+        → (r ≡ Err faults.SixBad → 0 < noise sent.going.events) → ReadsCard (moment old) (moment mid) d r
+    ended commands r e asked stands tells lost noisy = record {
       commands = commands;
       asks = asked;
       asked = record { notes = sent.notes; going = as_reading commands; over = ap card_due stands; same = rats_keep };
       ends = subst (λ x. TellsCard (ShowsOf d) FailsRead x r) (sym stands) tells;
       lost = lost;
+      noisy = noisy;
     }
 
     some_break : mid.lit ≡ false → 0 < breaks sent.going.events
@@ -162,7 +168,7 @@ module _ (old mid : Air Device) (place : ℕ) (d : Device) (s : Stands (moment o
       let whole = file_asked (size_of d) (device_store d) in
       let stands : card_stands whole.0 sent.notes ≡ Exchanges (exchange.Broken asking.FieldLost) =
       reading_lost devices whole.0 (moment old) (moment mid) sent.notes (as_reading st sent whole.0) (lost_wait 0 (rats ∷ []) sent.notes left sent.stands) in
-      ended st sent whole.0 (Err faults.FieldLost) asking.FieldLost (asks_list st sent whole.0 whole.1) stands refl (λ e. some_break st sent dim, λ some. refl)
+      ended st sent whole.0 (Err faults.FieldLost) asking.FieldLost (asks_list st sent whole.0 whole.1) stands refl (λ e. some_break st sent dim, λ some. refl) (λ e. absurd cc)
 
   -- six receptions were bad
   rats_bad : (left : List Signal) → RatsSent ghosts device_card device_tag old mid (waits.Broken asking.SixBad left) → ReadsCard (moment old) (moment mid) d (Err faults.SixBad)
@@ -178,6 +184,7 @@ module _ (old mid : Air Device) (place : ℕ) (d : Device) (s : Stands (moment o
       let same : exchange.Broken asking.SixBad ≡ exchange.Broken asking.FieldLost = cc in
       cc) in
       ended st sent whole.0 (Err faults.SixBad) asking.SixBad (asks_list st sent whole.0 whole.1) stands refl (λ e. absurd cc, never)
+      (λ e. rats_noise old mid place lit_before (has_fresh old place d s four) left sent)
 
   -- what a reading comes to whose tag wasn't activated
   unanswered_reads : (fault : AskFault) → (fault ≡ asking.Memory → ⊥) → RatsEnds ghosts device_card device_tag old mid place (Err fault)
@@ -230,6 +237,9 @@ module _ (old mid : Air Device) (place : ℕ) (d : Device) (s : Stands (moment o
     stands_both : card_stands o.commands (sent.notes ++ o.asked.notes) ≡ Exchanges (stand (asks (waiting code) (bytes_of o.commands)) o.asked.notes)
     stands_both = rats_told (bytes_of o.commands) sent.notes o.asked.notes code sent.stands tells
 
+    noise_both : noise both.events ≡ noise sent.going.events + noise o.asked.going.events
+    noise_both = ap noise events_both ∙ noise_append sent.going.events o.asked.going.events
+
     broken_both : 0 < breaks both.events → r ≡ Err faults.FieldLost
     broken_both some =
         let lost : card_stands o.commands (sent.notes ++ o.asked.notes) ≡ Exchanges (exchange.Broken asking.FieldLost) =
@@ -251,6 +261,7 @@ module _ (old mid : Air Device) (place : ℕ) (d : Device) (s : Stands (moment o
       };
       ends = subst (λ x. TellsCard (ShowsOf d) FailsRead x r) (sym stands_both) o.ends;
       lost = (λ e. more_breaks (breaks sent.going.events) (breaks o.asked.going.events) (breaks both.events) breaks_both (o.lost.0 e), broken_both);
+      noisy = λ e. more_breaks (noise sent.going.events) (noise o.asked.going.events) (noise both.events) noise_both (o.noisy e);
     }
 
     reads_linked : Reads (moment old) (moment new) d r

@@ -1,5 +1,5 @@
 -- What a read of a Type 4 tag comes to over its link, by what the link did.
-use Rattle.std.proofs.Common.{Option, ◌≡◌, inl, inr, ◌⊎◌, ℕ, zero, suc, ◌+◌, ◌<◌, List, [], ◌∷◌, ◌++◌, length, take, drop, true, false, Some, None, refl, sym, ◌∙◌, ap, subst, arith, append-nil}
+use Rattle.std.proofs.Common.{Option, ◌≡◌, inl, inr, ◌⊎◌, ℕ, zero, suc, ◌+◌, ◌<◌, List, [], ◌∷◌, ◌++◌, length, take, drop, not, true, false, Some, None, refl, sym, ◌∙◌, ap, subst, arith, append-nil}
 use Rattle.std.specs.Prelude.{map, Result, Ok, Err, IfOk, IfErr}
 use Rattle.std.proofs.lemmas.List.{map-append, take_all}
 use Rattle.std.proofs.lemmas.Bool.{cases_lt}
@@ -8,7 +8,7 @@ use Rattle.nfc_base.specs.declared.event.Event.{Event}
 use Rattle.nfc_base.specs.declared.tag_link.AskFault.{AskFault}
 use Rattle.nfc_base.specs.declared.tag_link.AskFault.TheVariants as asking
 use Rattle.nfc_base.specs.Signal.{Signal, whole_a}
-use Rattle.nfc_base.specs.Trace.{breaks}
+use Rattle.nfc_base.specs.Trace.{noise, breaks}
 use Rattle.nfc_base.specs.LinkTurns.{arrived}
 use Rattle.nfc_base.specs.TagLinks.{Type4, LinkView, plain_state}
 use Rattle.air_core.specs.World.{World}
@@ -30,7 +30,7 @@ use Rattle.tag_reader.specs.declared.how.How.TheVariants as hows
 use Rattle.tag_reader.specs.Kinds.{IsTag, command, first}
 use Rattle.tag_reader.specs.Asked.{IsAsked, IsDue, AreDue}
 use Rattle.tag_reader.specs.Calls.{HasAsked, HasAskedAll, GoesOn, last_of}
-use Rattle.tag_reader.specs.Reading.{IsFound, IsReadFault, OnTold, is_told}
+use Rattle.tag_reader.specs.Reading.{IsFound, IsReadFault, OnTold, is_told, IsCalm, IsToldOrMemory}
 use Rattle.tag_reader.proofs.Cards.{t4_tag}
 use Rattle.tag_reader.proofs.FileAsked.{file_asked}
 use Rattle.tag_reader.proofs.Knowing.{due_more}
@@ -43,8 +43,11 @@ use Rattle.bench_devices.specs.Standing.{tag_holds}
 use Rattle.bench_devices.specs.Answering.{TellsExchange}
 use Rattle.bench_devices.specs.Device.{air}
 use Rattle.bench_devices.specs.Reading.{Shows, ShowsOf}
+use Rattle.bench_devices.proofs.SelectingAir.{events_are}
+use Rattle.bench_devices.proofs.ReadingEnds.{never_told}
 use Rattle.bench_devices.specs.Linking.{Linked, ReadsOn, IsNewLink, ReadsSomeOn}
-use Rattle.bench_devices.specs.Phases.{ghosts, kept, IsSound, FailsRead}
+use Rattle.bench_devices.specs.Keeping.{kept, IsSound, ghosts}
+use Rattle.bench_devices.specs.Phases.{FailsRead}
 use Rattle.air_core.proofs.BrokenWaits.{stays_lit}
 use Rattle.bench_devices.proofs.CardKept.{exchange_keeps}
 use Rattle.bench_devices.proofs.CardReadingNotes.{exchange_lost, broken_more, due_front}
@@ -154,7 +157,7 @@ module _ (p : IsoSeen Device) (is : IsNewLink p) (d : Device) (l : Linked d p.ai
 
   pub new_tag : IsTag hows.T4 (size_of d) from
   new_tag =
-      let tag = shows_four from x (ap (λ k. k.how) l.same ∙ l.card) (subst IsSound (sym l.same) l.sound) refl from_state (seen device_commands _) in
+      let tag = shows_four from x (ap (λ k. k.fixed.how) l.same ∙ l.card) (subst IsSound (sym l.same) l.sound) refl from_state (seen device_commands _) in
       resized tag.0 (size_of d) from tag.1
 
   module _ (q : IsoSeen Device) (m : IsoMoves ghosts device_card device_tag p q) where
@@ -291,8 +294,9 @@ module _ (p : IsoSeen Device) (is : IsNewLink p) (d : Device) (l : Linked d p.ai
     -- What a read did, where its exchanges stand so at the end.
     reads_by : (r : Result Found ReadFault) → to.state.store ≡ from.state.store → (rest : List Signal) → IsAskedOf (m.asks.asked ++ rest)
         → (s : IsoStanding) → stand (asks p.reader (bytes_of m.asks.asked ++ bytes_of rest)) m.asks.notes ≡ s → due_at s ≡ Over → TellsExchange (ShowsOf d) FailsRead s r
-        → (r ≡ Err faults.FieldLost → 0 < breaks m.asks.going.events) → (0 < breaks m.asks.going.events → r ≡ Err faults.FieldLost) → ReadsSo r
-    reads_by r stays rest asked s stands over tells lost by_break =
+        → (r ≡ Err faults.FieldLost → 0 < breaks m.asks.going.events) → (0 < breaks m.asks.going.events → r ≡ Err faults.FieldLost)
+        → (r ≡ Err faults.SixBad → 0 < noise m.asks.going.events) → ReadsSo r
+    reads_by r stays rest asked s stands over tells lost by_break noisy =
         let there : stand (asks p.reader (bytes_of (m.asks.asked ++ rest))) m.asks.notes ≡ s = ap (λ cs. stand (asks p.reader cs) m.asks.notes) (in_blocks rest) ∙ stands in
         record {
           commands = m.asks.asked ++ rest;
@@ -305,6 +309,7 @@ module _ (p : IsoSeen Device) (is : IsNewLink p) (d : Device) (l : Linked d p.ai
           };
           ends = subst (λ st. TellsExchange (ShowsOf d) FailsRead st r) (sym there) tells;
           lost = (lost, by_break);
+          noisy = noisy;
         }
 
     shows_here : (r : Result Found ReadFault) → ShowsFour r → ShowsOf d r
@@ -320,53 +325,69 @@ module _ (p : IsoSeen Device) (is : IsNewLink p) (d : Device) (l : Linked d p.ai
         (Rests q.reader) (ap (λ cs. stand (asks p.reader cs) m.asks.notes) (append-nil (bytes_of m.asks.asked)) ∙ done) refl (shows_here r tells)
         (λ e. absurd (subst ShowsFour e tells))
         (λ some. absurd (let clash : Rests q.reader ≡ Broken asking.FieldLost = sym done ∙ broken_by some in cc))
+        (λ e. absurd (subst ShowsFour e tells))
 
     -- an exchange ended by a fault
     read_broken : (r : Result Found ReadFault) → to.state.store ≡ from.state.store → HasAskedOf → (e : AskFault) → q.over ≡ Some e → end ≡ Broken e → TellsExchange (ShowsOf d) FailsRead (Broken e) r
-        → (r ≡ Err faults.FieldLost → 0 < breaks m.asks.going.events) → (0 < breaks m.asks.going.events → r ≡ Err faults.FieldLost) → ReadsSo r
-    read_broken r stays h e over stands tells lost by_break =
+        → (r ≡ Err faults.FieldLost → 0 < breaks m.asks.going.events) → (0 < breaks m.asks.going.events → r ≡ Err faults.FieldLost)
+        → (r ≡ Err faults.SixBad → 0 < noise m.asks.going.events) → ReadsSo r
+    read_broken r stays h e over stands tells lost by_break noisy =
         let some = asked_more h e over in
         let whole = file_asked (size_of d) (device_store d) in
         let front = asked_front hows.T4 (size_of d) (device_store d) some.count whole.0 some.each whole.1 in
         reads_by r stays front.0 (subst IsAskedOf (front.1 ∙ ap (λ xs. xs ++ front.0) (sym some.list)) whole.1)
-        (Broken e) (broken_more p.reader (bytes_of m.asks.asked) (bytes_of front.0) m.asks.notes e stands) refl tells lost by_break
+        (Broken e) (broken_more p.reader (bytes_of m.asks.asked) (bytes_of front.0) m.asks.notes e stands) refl tells lost by_break noisy
 
     read_lost : to.state.store ≡ from.state.store → HasAskedOf → q.over ≡ Some asking.FieldLost → ReadsSo (Err faults.FieldLost)
     read_lost stays h over =
         let ends = subst (λ o. IsoStandsAt o q.air.lit q.reader end) over ends_so in
         let some : 0 < breaks m.asks.going.events = some_break ends.0 in
-        read_broken (Err faults.FieldLost) stays h asking.FieldLost over (broken_by some) refl (λ e. some) (λ b. refl)
+        read_broken (Err faults.FieldLost) stays h asking.FieldLost over (broken_by some) refl (λ e. some) (λ b. refl) (λ e. absurd cc)
 
-    read_six : to.state.store ≡ from.state.store → HasAskedOf → q.over ≡ Some asking.SixBad → ReadsSo (Err faults.SixBad)
-    read_six stays h over =
+    -- without noise the link didn't end a read
+    six_noisy : (IsCalm from to → IsToldOrMemory faults.SixBad) → 0 < noise m.asks.going.events
+    six_noisy calm = elim (cases_lt 0 (noise m.asks.going.events)) [
+      | inl some ↦ some
+      | inr none ↦ absurd (
+          let here : from.noise ≡ 0 = ap noise none_since in
+          let start : q.start ≡ length p.air.trace = m.asks.same.1 ∙ is.start in
+          let there : to.noise ≡ noise m.asks.going.events =
+          ap (λ n. noise (drop n q.air.trace)) start ∙ ap noise (events_are air (moment p.air) (moment q.air) m.asks.going.events m.asks.going.moment) in
+          never_told (calm (record { begun = is.over; lit = ap not l.lit; calm = inl (omega (arith, here, there, none)) })))
+    ]
+
+    read_six : to.state.store ≡ from.state.store → HasAskedOf → q.over ≡ Some asking.SixBad → (IsCalm from to → IsToldOrMemory faults.SixBad) → ReadsSo (Err faults.SixBad)
+    read_six stays h over calm =
         let ends : end ≡ Broken asking.SixBad = subst (λ o. IsoStandsAt o q.air.lit q.reader end) over ends_so in
         read_broken (Err faults.SixBad) stays h asking.SixBad over ends refl (λ e. absurd cc)
         (λ some. absurd (let clash : Broken asking.SixBad ≡ Broken asking.FieldLost = sym ends ∙ broken_by some in cc))
+        (λ e. six_noisy calm)
 
     never_odd : q.over ≡ Some asking.Protocol → ⊥
     never_odd over = subst (λ o. IsoStandsAt o q.air.lit q.reader end) over ends_so
 
     -- a fault ended it: of the store, or of the link
     read_fault : (fault : ReadFault) → (fault ≡ faults.Memory → ⊥) → to.state.store ≡ from.state.store → HasAskedOf → (is_told fault ≡ true → HasAskedAllOf)
-        → (is_told fault ≡ true → GoesOn from to) → IsReadFault hows.T4 (size_of d) (device_store d) from to fault → ReadsSo (Err fault)
-    read_fault faults.NotNdef fed stays h all goes err = read_told (Err faults.NotNdef) stays (all refl) (goes refl) err
-    read_fault faults.Version fed stays h all goes err = read_told (Err faults.Version) stays (all refl) (goes refl) err
-    read_fault faults.NoRead fed stays h all goes err = read_told (Err faults.NoRead) stays (all refl) (goes refl) err
-    read_fault faults.Sectors fed stays h all goes err = read_told (Err faults.Sectors) stays (all refl) (goes refl) err
-    read_fault faults.BadSize fed stays h all goes err = read_told (Err faults.BadSize) stays (all refl) (goes refl) err
-    read_fault faults.NoMessageTlv fed stays h all goes err = read_told (Err faults.NoMessageTlv) stays (all refl) (goes refl) err
-    read_fault faults.BadTlv fed stays h all goes err = read_told (Err faults.BadTlv) stays (all refl) (goes refl) err
-    read_fault (faults.Refused code) fed stays h all goes err = absurd err
-    read_fault faults.FieldLost fed stays h all goes err = read_lost stays h err.0
-    read_fault faults.SixBad fed stays h all goes err = read_six stays h err.0
-    read_fault faults.Memory fed stays h all goes err = absurd (fed refl)
-    read_fault faults.Protocol fed stays h all goes err = absurd (never_odd err.0)
+        → (is_told fault ≡ true → GoesOn from to) → (IsCalm from to → IsToldOrMemory fault) → IsReadFault hows.T4 (size_of d) (device_store d) from to fault → ReadsSo (Err fault)
+    read_fault faults.NotNdef fed stays h all goes calm err = read_told (Err faults.NotNdef) stays (all refl) (goes refl) err
+    read_fault faults.Version fed stays h all goes calm err = read_told (Err faults.Version) stays (all refl) (goes refl) err
+    read_fault faults.NoRead fed stays h all goes calm err = read_told (Err faults.NoRead) stays (all refl) (goes refl) err
+    read_fault faults.Sectors fed stays h all goes calm err = read_told (Err faults.Sectors) stays (all refl) (goes refl) err
+    read_fault faults.BadSize fed stays h all goes calm err = read_told (Err faults.BadSize) stays (all refl) (goes refl) err
+    read_fault faults.NoMessageTlv fed stays h all goes calm err = read_told (Err faults.NoMessageTlv) stays (all refl) (goes refl) err
+    read_fault faults.BadTlv fed stays h all goes calm err = read_told (Err faults.BadTlv) stays (all refl) (goes refl) err
+    read_fault (faults.Refused code) fed stays h all goes calm err = absurd err
+    read_fault faults.FieldLost fed stays h all goes calm err = read_lost stays h err.0
+    read_fault faults.SixBad fed stays h all goes calm err = read_six stays h err.0 calm
+    read_fault faults.Memory fed stays h all goes calm err = absurd (fed refl)
+    read_fault faults.Protocol fed stays h all goes calm err = absurd (never_odd err.0)
 
     -- whatever the reading came to
     pub ends_read : (r : Result Found ReadFault) → to.state.store ≡ from.state.store → HasAskedOf → OnTold r HasAskedAllOf → OnTold r (GoesOn from to)
-        → IfOk r (IsFound hows.T4 (size_of d) from.state.store) → IfErr r (IsReadFault hows.T4 (size_of d) from.state.store from to) → (r ≡ Err faults.Memory → ⊥) → ReadsSo r
-    ends_read (Ok found) stays some whole goes ok err fed =
+        → IfOk r (IsFound hows.T4 (size_of d) from.state.store) → IfErr r (IsReadFault hows.T4 (size_of d) from.state.store from to)
+        → (IsCalm from to → IfErr r IsToldOrMemory) → (r ≡ Err faults.Memory → ⊥) → ReadsSo r
+    ends_read (Ok found) stays some whole goes ok err calm fed =
         let held : IsFound hows.T4 (size_of d) (device_store d) found = subst (λ xs. IsFound hows.T4 (size_of d) xs found) store_here ok in
         read_told (Ok found) stays whole goes held
-    ends_read (Err fault) stays some whole goes ok err fed =
-        read_fault fault (λ m. fed (ap Err m)) stays some whole goes (subst (λ xs. IsReadFault hows.T4 (size_of d) xs from to fault) store_here err)
+    ends_read (Err fault) stays some whole goes ok err calm fed =
+        read_fault fault (λ m. fed (ap Err m)) stays some whole goes calm (subst (λ xs. IsReadFault hows.T4 (size_of d) xs from to fault) store_here err)

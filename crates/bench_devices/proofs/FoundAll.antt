@@ -31,7 +31,8 @@ use Rattle.bench_devices.specs.Crowded.{card_if, v_if, crowd_of, inventory_of, o
 use Rattle.bench_devices.specs.Device.{air}
 use Rattle.bench_devices.specs.Answering.{AreOthers, InventoryEnds, FindEnds}
 use Rattle.bench_devices.specs.Noise.{is_call, noisy_tries, MissedRound}
-use Rattle.bench_devices.specs.Phases.{Kept, kept, AreSound, AreTame, AreTidy, AskedPart, IsEnd, Searches}
+use Rattle.bench_devices.specs.Keeping.{Kept, kept, AreSound, AreTame, NoStore, EachAsked}
+use Rattle.bench_devices.specs.Phases.{AreTidy, AskedPart, IsEnd, Searches}
 use Rattle.bench_devices.specs.Polling as followed
 use Rattle.bench_devices.specs.Polling.{Followed, follows, finding_all, then_inventory, then_others, asks}
 use Rattle.bench_devices.specs.declared.sweeping.Everybody.{Everybody}
@@ -44,7 +45,7 @@ use Rattle.bench_devices.proofs.Searching.{IsCall, asks_calls, asks_harmless, se
 use Rattle.bench_devices.proofs.SelectingAir.{events_are, loses}
 use Rattle.air_core.proofs.LostField.{breaks-append, HasLost, going_lost}
 use Rattle.bench_devices.proofs.SelectingCards.{polled, tidy, cards_of, own_idents, few_cards}
-use Rattle.bench_devices.proofs.SelectingKept.{EachAsked, due_asked, going_keeps}
+use Rattle.bench_devices.proofs.SelectingKept.{due_asked, going_keeps}
 use Rattle.bench_devices.proofs.Inventoried.{IsAwake, only_due, none_told, all_of, Comes, inventory_closes, inventory_harmless, inventory_comes}
 use Rattle.bench_devices.proofs.Awake.{awake_behind}
 
@@ -81,7 +82,7 @@ v_how hows.T2 = None
 v_how hows.T4 = None
 v_how (hows.T5 id) = Some id
 
-v_kept : (ds : List Device) → filter_map v_if ds ≡ filter_map (λ (k : Kept). v_how k.how) (map kept ds)
+v_kept : (ds : List Device) → filter_map v_if ds ≡ filter_map (λ (k : Kept). v_how k.fixed.how) (map kept ds)
 unfolding v_how
 v_kept [] = refl
 v_kept (T2 d ∷ ds) = v_kept ds
@@ -89,7 +90,7 @@ v_kept (T4 d ∷ ds) = v_kept ds
 v_kept (T5 p ∷ ds) = ap (λ is. p.tag.id ∷ is) (v_kept ds)
 
 same_others : (a b : List Device) → map kept a ≡ map kept b → inventory_of (filter_map v_if a) ≡ others_of b
-same_others a b e = ap inventory_of (v_kept a ∙ ap (filter_map (λ (k : Kept). v_how k.how)) e ∙ sym (v_kept b))
+same_others a b e = ap inventory_of (v_kept a ∙ ap (filter_map (λ (k : Kept). v_how k.fixed.how)) e ∙ sym (v_kept b))
 
 err_of : {X : Type 0} (e f : PollFault) → ◌≡◌ {A = Result X PollFault} (Err e) (Err f) → e ≡ f
 err_of e f h = cc
@@ -147,7 +148,7 @@ module _ (old mid : Air Device) (found : Result (List Picked) PollFault) (tame :
   }
 
   -- want of memory cut it off
-  pub cut_one : AskedPart next (moment old) (moment mid)
+  pub cut_one : AskedPart NoStore next (moment old) (moment mid)
   cut_one = record { notes = turns.notes; going = alone; same = first_kept }
 
   -- the search of NFC-A ended by a fault
@@ -300,7 +301,7 @@ module _ (old mid : Air Device) (found : Result (List Picked) PollFault) (tame :
       whole_kept = going_keeps (enquiring inventory) (moment mid) (moment new) more.notes inventory_harmless more.going ∙ first_kept
 
       -- want of memory cut off the inventory
-      pub cut_both : AskedPart next (moment old) (moment new)
+      pub cut_both : AskedPart NoStore next (moment old) (moment new)
       cut_both = record { notes = turns.notes ++ more.notes; going = whole; same = whole_kept }
 
       -- it was over, and both are one search

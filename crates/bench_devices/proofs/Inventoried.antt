@@ -32,7 +32,7 @@ use Rattle.bench_devices.specs.Powered.{Powered}
 use Rattle.bench_devices.specs.Device.{devices}
 use Rattle.bench_devices.specs.Crowded.{v_if, inventory_of}
 use Rattle.bench_devices.specs.Device.{air}
-use Rattle.bench_devices.specs.Phases.{Kept, kept, IsApart, AreSound}
+use Rattle.bench_devices.specs.Keeping.{Kept, kept, IsApart, AreSound}
 use Rattle.bench_devices.proofs.Ours.{stays_at_all}
 use Rattle.bench_devices.proofs.Following.{HasEnded, Closes}
 use Rattle.air_core.proofs.Following.{same_asked, light_is_no_request, over_is_no_request, over_is_no_light}
@@ -74,7 +74,7 @@ abbrev AreOwn : List (List ℕ) → Type 0
 AreOwn [] = Unit {0}
 AreOwn (i ∷ is) = (length i ≡ 8) × AllByRecursion (λ j. j ≡ i → ⊥) is × AreOwn is
 
-others_apart : (k : Kept) (ds : List Device) → AllByRecursion (IsApart k) (map kept ds) → AllByRecursion (λ j. j ≡ k.id → ⊥) (filter_map v_if ds)
+others_apart : (k : Kept) (ds : List Device) → AllByRecursion (IsApart k) (map kept ds) → AllByRecursion (λ j. j ≡ k.fixed.id → ⊥) (filter_map v_if ds)
 others_apart k [] a = tt
 others_apart k (T2 d ∷ ds) a = others_apart k ds a.1
 others_apart k (T4 d ∷ ds) a = others_apart k ds a.1

@@ -11,9 +11,11 @@ pub mod Unmoved
 pub mod TagTwo
 pub mod TagFive
 pub mod CardKept
+pub mod EveryFrame
 pub mod ReadingTags
 pub mod ReadingAir
 pub mod ReadingEnds
+pub mod QuietRats
 pub mod CardReadingNotes
 pub mod CardReadingLinks
 pub mod CardReading

@@ -19,7 +19,7 @@ use Rattle.nfca_poll.specs.Crowd.{Each}
 use Rattle.nfca_poll.specs.RoundTrace.{rounds, up_to_reset, last_of, is_noisy, MissesEnd, AreNoisy, Misses, GivesUp, last_four}
 use Rattle.nfca_poll.specs.Counting.{is_sens_req}
 use Rattle.bench_devices.specs.Noise.{noisy_turns, noisy_tries, is_call, MissedRound, GaveUp}
-use Rattle.bench_devices.proofs.SelectingKept.{EachAsked}
+use Rattle.bench_devices.specs.Keeping.{EachAsked}
 use Rattle.bench_devices.proofs.Unmoved.{OnlyAsks}
 
 abbrev IsOne : (Signal → Bool) → Signal → Type 0

@@ -26,7 +26,7 @@ use Rattle.bench_devices.specs.declared.device.Device.TheVariants.{T2, T4, T5}
 use Rattle.nfc_base.specs.declared.frame.Tech.TheVariants.{A}
 use Rattle.bench_devices.specs.Device.{devices, device_tech, device_after, how_of}
 use Rattle.bench_devices.specs.Linking.{IsPlainHow}
-use Rattle.bench_devices.specs.Phases.{kept}
+use Rattle.bench_devices.specs.Keeping.{kept}
 use Rattle.bench_devices.proofs.CardKept.{four_keeps, spells_none}
 use Rattle.air_core.proofs.DueWaits.{due_all}
 use Rattle.bench_devices.proofs.SelectingKept.{IsHarmless}

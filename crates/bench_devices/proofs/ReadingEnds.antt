@@ -1,5 +1,5 @@
 -- What a read of the selected tag comes to, by what its link did.
-use Rattle.std.proofs.Common.{◌≡◌, ◌↔◌, inl, inr, ◌⊎◌, ℕ, suc, ◌+◌, ◌<◌, List, [], ◌∷◌, ◌++◌, length, drop, true, false, Some, None, refl, sym, ◌∙◌, ap, subst, arith, IfOk, IfErr}
+use Rattle.std.proofs.Common.{◌≡◌, ◌↔◌, inl, inr, ◌⊎◌, ℕ, suc, ◌+◌, ◌<◌, List, [], ◌∷◌, ◌++◌, length, drop, not, true, false, Some, None, refl, sym, ◌∙◌, ap, subst, arith, IfOk, IfErr}
 use Rattle.std.specs.Prelude.{map, Option, Result, Ok, Err}
 use Rattle.std.specs.List.{AllByRecursion}
 use Rattle.std.proofs.lemmas.List.{append-nil}
@@ -8,7 +8,7 @@ use Rattle.nfc_base.specs.declared.event.Event.{Event}
 use Rattle.nfc_base.specs.declared.tag_link.AskFault.{AskFault}
 use Rattle.nfc_base.specs.declared.tag_link.AskFault.TheVariants.{FieldLost, SixBad, Protocol}
 use Rattle.nfc_base.specs.Signal.{Signal}
-use Rattle.nfc_base.specs.Trace.{breaks}
+use Rattle.nfc_base.specs.Trace.{noise, breaks}
 use Rattle.nfc_base.specs.TagLinks.{LinkView}
 use Rattle.air_core.specs.World.{World}
 use Rattle.air_core.specs.Turn.{Air, world, moment}
@@ -24,7 +24,7 @@ use Rattle.tag_reader.specs.declared.how.How.{How}
 use Rattle.tag_reader.specs.Kinds.{IsTag, command, first}
 use Rattle.tag_reader.specs.Asked.{IsAsked, IsDue, AreDue}
 use Rattle.tag_reader.specs.Calls.{HasAsked, HasAskedAll, GoesOn, last_of}
-use Rattle.tag_reader.specs.Reading.{IsFound, IsReadFault, OnTold, is_told}
+use Rattle.tag_reader.specs.Reading.{IsFound, IsReadFault, OnTold, is_told, IsCalm, IsToldOrMemory}
 use Rattle.tag_reader.proofs.Knowing.{due_more}
 use Rattle.tag_reader.proofs.Lists.{asked_front}
 use Rattle.bench_devices.specs.declared.device.Device.{Device}
@@ -34,12 +34,19 @@ use Rattle.bench_devices.specs.Answering.{TellsStanding}
 use Rattle.bench_devices.specs.Device.{air}
 use Rattle.bench_devices.specs.Reading.{AsksOf, ShowsOf}
 use Rattle.bench_devices.specs.Linking.{IsPlainHow, IsNew}
-use Rattle.bench_devices.specs.Phases.{ghosts, kept, Stands, Asked, AskedPart, FailsRead, Reads, ReadsAt, ReadsSome, CutAt}
+use Rattle.bench_devices.specs.Keeping.{kept, ghosts, NoStore}
+use Rattle.bench_devices.specs.Phases.{Stands, Asked, AskedPart, FailsRead, Reads, ReadsAt, ReadsSome, CutAt}
 use Rattle.air_core.proofs.LostField.{going_lost}
 use Rattle.bench_devices.proofs.SelectingKept.{going_keeps}
+use Rattle.bench_devices.proofs.SelectingAir.{events_are}
 use Rattle.air_core.proofs.BrokenWaits.{EndsLost, lost_ends, broken_front, stays_lit}
 use Rattle.bench_devices.proofs.ReadingTags.{has_tag, begun, shows_tag, shows_store, stands_one, some_asked}
 use Rattle.bench_devices.proofs.ReadingAir.{IsRead, all_reads, reads_harmless}
+
+-- six bad receptions tell nothing of the store, and aren't want of memory
+pub never_told : IsToldOrMemory faults.SixBad → ⊥
+never_told (inl told) = cc
+never_told (inr memory) = cc
 
 none_behind : (xs : List Event) → drop (length xs) xs ≡ []
 none_behind [] = refl
@@ -56,15 +63,16 @@ record AskedSome (d : Device) (asked : List Signal) : Type 0 where
 pub record ReadsPlain (old new : Moment (World Device)) (d : Device) (r : Result Found ReadFault) : Type 0 where
   pub commands : List Signal
   pub asks : AsksOf d commands
-  pub asked : Asked (waits_next commands) old new
+  pub asked : Asked NoStore (waits_next commands) old new
   pub ends : TellsStanding (ShowsOf d) FailsRead (stand 0 commands asked.notes) r
   pub lost : (r ≡ Err faults.FieldLost) ↔ (0 < breaks asked.going.events)
+  pub noisy : r ≡ Err faults.SixBad → 0 < noise asked.going.events
 
 -- so far a read of a plain tag went
 pub record CutPlain (old new : Moment (World Device)) (d : Device) : Type 0 where
   pub commands : List Signal
   pub asks : AsksOf d commands
-  pub asked : AskedPart (waits_next commands) old new
+  pub asked : AskedPart NoStore (waits_next commands) old new
 
 as_cut : (old new : Moment (World Device)) (d : Device) → IsPlainHow (how_of d) → CutPlain old new d → ReadsSome old new d
 as_cut old new (T2 d) plain s = record { commands = s.commands; asks = s.asks; asked = s.asked }
@@ -72,9 +80,9 @@ as_cut old new (T4 d) plain s = absurd plain
 as_cut old new (T5 p) plain s = record { commands = s.commands; asks = s.asks; asked = s.asked }
 
 as_reads : (old new : Moment (World Device)) (d : Device) (r : Result Found ReadFault) → IsPlainHow (how_of d) → ReadsPlain old new d r → Reads old new d r
-as_reads old new (T2 d) r plain s = record { commands = s.commands; asks = s.asks; asked = s.asked; ends = s.ends; lost = s.lost }
+as_reads old new (T2 d) r plain s = record { commands = s.commands; asks = s.asks; asked = s.asked; ends = s.ends; lost = s.lost; noisy = s.noisy }
 as_reads old new (T4 d) r plain s = absurd plain
-as_reads old new (T5 p) r plain s = record { commands = s.commands; asks = s.asks; asked = s.asked; ends = s.ends; lost = s.lost }
+as_reads old new (T5 p) r plain s = record { commands = s.commands; asks = s.asks; asked = s.asked; ends = s.ends; lost = s.lost; noisy = s.noisy }
 
 module _ (a : Air Device) (place : ℕ) (d : Device) (s : Stands (moment a) place d) (plain : IsPlainHow (how_of d)) (q : PlainSeen Device) (m : PlainMoves ghosts (begun a place) q) where
   abbrev pub from : LinkView
@@ -189,8 +197,9 @@ module _ (a : Air Device) (place : ℕ) (d : Device) (s : Stands (moment a) plac
   -- What a read did, where its waits stand so at the end.
   reads_by : (r : Result Found ReadFault) (n : ℕ) → m.asked.commands ≡ first (how_of d) (size_of d) (device_store d) n → (rest : List Signal) → AsksOf d (m.asked.commands ++ rest)
       → (x : Standing) → stand 0 (m.asked.commands ++ rest) m.asked.notes ≡ x → due_at x ≡ Over → TellsStanding (ShowsOf d) FailsRead x r
-      → (r ≡ Err faults.FieldLost → 0 < breaks m.asked.going.events) → (0 < breaks m.asked.going.events → r ≡ Err faults.FieldLost) → ReadsSo r
-  reads_by r n list rest asks x stands over tells lost by_break = record {
+      → (r ≡ Err faults.FieldLost → 0 < breaks m.asked.going.events) → (0 < breaks m.asked.going.events → r ≡ Err faults.FieldLost)
+      → (r ≡ Err faults.SixBad → 0 < noise m.asked.going.events) → ReadsSo r
+  reads_by r n list rest asks x stands over tells lost by_break noisy = record {
     commands = m.asked.commands ++ rest;
     asks = asks;
     asked = record {
@@ -201,6 +210,7 @@ module _ (a : Air Device) (place : ℕ) (d : Device) (s : Stands (moment a) plac
     };
     ends = subst (λ st. TellsStanding (ShowsOf d) FailsRead st r) (sym stands) tells;
     lost = (lost, by_break);
+    noisy = noisy;
   }
 
   -- all was answered
@@ -213,49 +223,63 @@ module _ (a : Air Device) (place : ℕ) (d : Device) (s : Stands (moment a) plac
       (Asking 0 []) (ap (λ cs. stand 0 cs m.asked.notes) (append-nil m.asked.commands) ∙ done) refl tells
       (λ e. absurd (subst (ShowsOf d) e tells))
       (λ some. absurd (let on = broken_by some in let clash : Asking 0 [] ≡ Broken FieldLost on.0 = sym done ∙ on.1 in cc))
+      (λ e. absurd (subst (ShowsOf d) e tells))
 
   -- a wait ended by a fault
   read_broken : (h : HasAskedOf) (r : Result Found ReadFault) (e : AskFault) (left : List Signal) → q.over ≡ Some e → stand 0 m.asked.commands m.asked.notes ≡ Broken e left
       → ((cs : List Signal) → TellsStanding (ShowsOf d) FailsRead (Broken e cs) r)
-      → (r ≡ Err faults.FieldLost → 0 < breaks m.asked.going.events) → (0 < breaks m.asked.going.events → r ≡ Err faults.FieldLost) → ReadsSo r
-  read_broken h r e left over stands tells lost by_break =
+      → (r ≡ Err faults.FieldLost → 0 < breaks m.asked.going.events) → (0 < breaks m.asked.going.events → r ≡ Err faults.FieldLost)
+      → (r ≡ Err faults.SixBad → 0 < noise m.asked.going.events) → ReadsSo r
+  read_broken h r e left over stands tells lost by_break noisy =
       let some = asked_more h e over in
       let whole = some_asked d s.sound plain in
       let front = asked_front (how_of d) (size_of d) (device_store d) some.count whole.0 some.each whole.1 in
       reads_by r some.count some.list front.0 (subst (AsksOf d) (front.1 ∙ ap (λ xs. xs ++ front.0) (sym some.list)) whole.1)
-      (Broken e (left ++ front.0)) (broken_front 0 m.asked.commands m.asked.notes e left front.0 stands) refl (tells (left ++ front.0)) lost by_break
+      (Broken e (left ++ front.0)) (broken_front 0 m.asked.commands m.asked.notes e left front.0 stands) refl (tells (left ++ front.0)) lost by_break noisy
 
   pub read_lost : HasAskedOf → q.over ≡ Some FieldLost → ReadsSo (Err faults.FieldLost)
   read_lost h over =
       let ends = subst (λ o. StandsAt o q.air.lit (stand 0 m.asked.commands m.asked.notes)) over (m.asked.stands refl) in
       let some : 0 < breaks m.asked.going.events = some_break ends.0 in
       let on = broken_by some in
-      read_broken h (Err faults.FieldLost) FieldLost on.0 over on.1 (λ cs. refl) (λ e. some) (λ b. refl)
+      read_broken h (Err faults.FieldLost) FieldLost on.0 over on.1 (λ cs. refl) (λ e. some) (λ b. refl) (λ e. absurd cc)
 
-  pub read_six : HasAskedOf → q.over ≡ Some SixBad → ReadsSo (Err faults.SixBad)
-  read_six h over =
+  -- without noise the link didn't end a read
+  six_noisy : (IsCalm from to → IsToldOrMemory faults.SixBad) → 0 < noise m.asked.going.events
+  six_noisy calm = elim (cases_lt 0 (noise m.asked.going.events)) [
+    | inl some ↦ some
+    | inr none ↦ absurd (
+        let here : from.noise ≡ 0 = ap noise (none_behind a.trace) in
+        let there : to.noise ≡ noise m.asked.going.events =
+        ap (λ n. noise (drop n q.air.trace)) m.same.1 ∙ ap noise (events_are air (moment a) (moment q.air) m.asked.going.events m.asked.going.moment) in
+        never_told (calm (record { begun = refl; lit = ap (λ (w : World Device). not w.lit) s.world; calm = inl (omega (arith, here, there, none)) })))
+  ]
+
+  pub read_six : HasAskedOf → q.over ≡ Some SixBad → (IsCalm from to → IsToldOrMemory faults.SixBad) → ReadsSo (Err faults.SixBad)
+  read_six h over calm =
       let ends = subst (λ o. StandsAt o q.air.lit (stand 0 m.asked.commands m.asked.notes)) over (m.asked.stands refl) in
       read_broken h (Err faults.SixBad) SixBad (ends.1 ∷ []) over ends.2 (λ cs. refl) (λ e. absurd cc)
       (λ some. absurd (let on = broken_by some in let clash : Broken SixBad (ends.1 ∷ []) ≡ Broken FieldLost on.0 = sym ends.2 ∙ on.1 in cc))
+      (λ e. six_noisy calm)
 
   never_odd : q.over ≡ Some Protocol → ⊥
   never_odd over = subst (λ o. StandsAt o q.air.lit (stand 0 m.asked.commands m.asked.notes)) over (m.asked.stands refl)
 
   -- a fault ended it: of the store, or of the link
   pub read_fault : (fault : ReadFault) → (fault ≡ faults.Memory → ⊥) → HasAskedOf → (is_told fault ≡ true → HasAskedAllOf) → (is_told fault ≡ true → GoesOn from to)
-      → IsReadFault (how_of d) (size_of d) (device_store d) from to fault → ReadsSo (Err fault)
-  read_fault faults.NotNdef fed h all goes is = read_told (Err faults.NotNdef) (all refl) (goes refl) is
-  read_fault faults.Version fed h all goes is = read_told (Err faults.Version) (all refl) (goes refl) is
-  read_fault faults.NoRead fed h all goes is = read_told (Err faults.NoRead) (all refl) (goes refl) is
-  read_fault faults.Sectors fed h all goes is = read_told (Err faults.Sectors) (all refl) (goes refl) is
-  read_fault faults.BadSize fed h all goes is = read_told (Err faults.BadSize) (all refl) (goes refl) is
-  read_fault faults.NoMessageTlv fed h all goes is = read_told (Err faults.NoMessageTlv) (all refl) (goes refl) is
-  read_fault faults.BadTlv fed h all goes is = read_told (Err faults.BadTlv) (all refl) (goes refl) is
-  read_fault (faults.Refused code) fed h all goes is = absurd is
-  read_fault faults.FieldLost fed h all goes is = read_lost h is.0
-  read_fault faults.SixBad fed h all goes is = read_six h is.0
-  read_fault faults.Memory fed h all goes is = absurd (fed refl)
-  read_fault faults.Protocol fed h all goes is = absurd (never_odd is.0)
+      → (IsCalm from to → IsToldOrMemory fault) → IsReadFault (how_of d) (size_of d) (device_store d) from to fault → ReadsSo (Err fault)
+  read_fault faults.NotNdef fed h all goes calm is = read_told (Err faults.NotNdef) (all refl) (goes refl) is
+  read_fault faults.Version fed h all goes calm is = read_told (Err faults.Version) (all refl) (goes refl) is
+  read_fault faults.NoRead fed h all goes calm is = read_told (Err faults.NoRead) (all refl) (goes refl) is
+  read_fault faults.Sectors fed h all goes calm is = read_told (Err faults.Sectors) (all refl) (goes refl) is
+  read_fault faults.BadSize fed h all goes calm is = read_told (Err faults.BadSize) (all refl) (goes refl) is
+  read_fault faults.NoMessageTlv fed h all goes calm is = read_told (Err faults.NoMessageTlv) (all refl) (goes refl) is
+  read_fault faults.BadTlv fed h all goes calm is = read_told (Err faults.BadTlv) (all refl) (goes refl) is
+  read_fault (faults.Refused code) fed h all goes calm is = absurd is
+  read_fault faults.FieldLost fed h all goes calm is = read_lost h is.0
+  read_fault faults.SixBad fed h all goes calm is = read_six h is.0 calm
+  read_fault faults.Memory fed h all goes calm is = absurd (fed refl)
+  read_fault faults.Protocol fed h all goes calm is = absurd (never_odd is.0)
 
 abbrev as_seen : Air Device → ℕ → ℕ → Option Signal → Option AskFault → PlainSeen Device
 as_seen air' place start last over = record { air = air'; place = place; start = start; last = last; over = over }
@@ -322,20 +346,24 @@ module _ (p : PlainSeen Device) (is : IsNew p) (how : How) (one : (e : Device) �
         (subst (λ h. IsFound h (size_of one.0) (plain_view ghosts p).state.store found) one.2 ok) in
         read_told p.air p.place one.0 one.1 plain_one q from_new (Ok found) (each_here whole) (goes_here goes) held
 
+    calm_here : (fault : ReadFault) → (IsCalm (plain_view ghosts p) (plain_view ghosts q) → IsToldOrMemory fault) → IsCalm (plain_view ghosts (begun p.air p.place)) (plain_view ghosts q) → IsToldOrMemory fault
+    calm_here fault calm still = calm (subst (λ x. IsCalm (plain_view ghosts x) (plain_view ghosts q)) (new_is p is) still)
+
     ends_told : (fault : ReadFault) → (fault ≡ faults.Memory → ⊥) → HasAskedSome how (size_of one.0) p → (is_told fault ≡ true → HasAskedEach how (size_of one.0) p)
         → (is_told fault ≡ true → GoesOn (plain_view ghosts p) (plain_view ghosts q))
+        → (IsCalm (plain_view ghosts p) (plain_view ghosts q) → IsToldOrMemory fault)
         → IsReadFault how (size_of one.0) (plain_view ghosts p).state.store (plain_view ghosts p) (plain_view ghosts q) fault → ReadsPlain (moment p.air) (moment q.air) one.0 (Err fault)
-    ends_told fault fed some whole goes err =
+    ends_told fault fed some whole goes calm err =
         let here : IsReadFault (how_of one.0) (size_of one.0) (device_store one.0) (plain_view ghosts (begun p.air p.place)) (plain_view ghosts q) fault =
         subst (λ x. IsReadFault (how_of one.0) (size_of one.0) (device_store one.0) (plain_view ghosts x) (plain_view ghosts q) fault) (sym (new_is p is))
         (subst (λ xs. IsReadFault (how_of one.0) (size_of one.0) xs (plain_view ghosts p) (plain_view ghosts q) fault) new_store
         (subst (λ h. IsReadFault h (size_of one.0) (plain_view ghosts p).state.store (plain_view ghosts p) (plain_view ghosts q) fault) one.2 err)) in
-        read_fault p.air p.place one.0 one.1 plain_one q from_new fault fed (some_here some) (λ told. each_here (whole told)) (λ told. goes_here (goes told)) here
+        read_fault p.air p.place one.0 one.1 plain_one q from_new fault fed (some_here some) (λ told. each_here (whole told)) (λ told. goes_here (goes told)) (calm_here fault calm) here
 
     -- whatever the reading came to
     pub ends_read : (r : Result Found ReadFault) → HasAskedSome how (size_of one.0) p → OnTold r (HasAskedEach how (size_of one.0) p)
         → OnTold r (GoesOn (plain_view ghosts p) (plain_view ghosts q)) → IfOk r (IsFound how (size_of one.0) (plain_view ghosts p).state.store)
         → IfErr r (IsReadFault how (size_of one.0) (plain_view ghosts p).state.store (plain_view ghosts p) (plain_view ghosts q))
-        → ReadsAt (moment p.air) (moment q.air) p.place r
-    ends_read (Ok found) some whole goes ok err fed = of_any (Ok found) (ends_found found whole goes ok)
-    ends_read (Err fault) some whole goes ok err fed = of_any (Err fault) (ends_told fault (λ m. fed (ap Err m)) some whole goes err)
+        → (IsCalm (plain_view ghosts p) (plain_view ghosts q) → IfErr r IsToldOrMemory) → ReadsAt (moment p.air) (moment q.air) p.place r
+    ends_read (Ok found) some whole goes ok err calm fed = of_any (Ok found) (ends_found found whole goes ok)
+    ends_read (Err fault) some whole goes ok err calm fed = of_any (Err fault) (ends_told fault (λ m. fed (ap Err m)) some whole goes calm err)

@@ -17,7 +17,8 @@ use Rattle.bench_devices.specs.declared.device.Device.{Device}
 use Rattle.bench_devices.specs.declared.device.Device.TheVariants.{T2, T4, T5}
 use Rattle.bench_devices.specs.Device.{device_tech, device_id, device_store, device_commands, device_selected, how_of, size_of}
 use Rattle.bench_devices.specs.Linking.{IsPlainHow}
-use Rattle.bench_devices.specs.Phases.{ghosts, kept, IsSound, Stands}
+use Rattle.bench_devices.specs.Keeping.{kept, IsSound, ghosts}
+use Rattle.bench_devices.specs.Phases.{Stands}
 use Rattle.bench_devices.specs.Reading.{AsksOf}
 use Rattle.bench_devices.proofs.TagTwo.{plain_two}
 use Rattle.bench_devices.proofs.TagFive.{plain_five}

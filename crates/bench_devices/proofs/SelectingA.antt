@@ -29,7 +29,8 @@ use Rattle.bench_devices.specs.Answering.{HasPollCause, MissedBy, IsAbsent}
 use Rattle.bench_devices.specs.Noise.{is_call}
 use Rattle.nfc_base.specs.declared.frame.Tech.TheVariants as techs
 use Rattle.bench_devices.specs.Choosing.{StandsAt}
-use Rattle.bench_devices.specs.Phases.{ghosts, kept, AreSound, AreTame, AreTidy, Stands, Asked, Selects, SelectsAt, SelectionCut}
+use Rattle.bench_devices.specs.Keeping.{kept, AreSound, AreTame, ghosts, NoStore, EachAsked}
+use Rattle.bench_devices.specs.Phases.{AreTidy, Stands, Asked, Selects, SelectsAt, SelectionCut}
 use Rattle.bench_devices.specs.Polling as followed
 use Rattle.bench_devices.specs.Polling.{follows, kind_by, seen_kind, selecting, asks}
 use Rattle.bench_devices.proofs.Following.{seen_by, kind_told, kind_asks, seen_lost, asks_same, told_same}
@@ -39,7 +40,7 @@ use Rattle.bench_devices.proofs.Searching.{IsCall, asks_calls, asks_harmless, se
 use Rattle.bench_devices.proofs.SelectingAir.{events_are, loses}
 use Rattle.air_core.proofs.LostField.{HasLost, going_lit, going_lost}
 use Rattle.bench_devices.proofs.SelectingCards.{ours, polled, tidy, cards_of, own_idents, few_cards}
-use Rattle.bench_devices.proofs.SelectingKept.{EachAsked, due_asked, going_keeps}
+use Rattle.bench_devices.proofs.SelectingKept.{due_asked, going_keeps}
 use Rattle.bench_devices.proofs.SelectingLinks.{AreUnlinked, unasked, unlinked_amid, unlinked_behind}
 use Rattle.bench_devices.proofs.SelectingPlaces.{some_named, sound_amid, others_before, others_behind, same_place}
 
@@ -153,7 +154,7 @@ module _ (id : List ℕ) (old new : Air Device) (r : Result Kind PollFault) (ide
   pub told : (r ≡ Err faults.Memory → ⊥) → selecting (ids.A id) turns.notes ≡ followed.Told (any r) []
   told starved = ap (kind_by seen_kind) (told_same (picking id) (search_closes (device_of id)) air (moment old) (moment new) turns.notes r going turns.comes starved) ∙ kind_told seen_kind r []
 
-  abbrev asked : (r ≡ Err faults.Memory → ⊥) → Asked next (moment old) (moment new)
+  abbrev asked : (r ≡ Err faults.Memory → ⊥) → Asked NoStore next (moment old) (moment new)
   asked starved = record {
     notes = turns.notes;
     going = going_as air next (enquiring (picking id)) (moment old) (moment new) turns.notes next_same going;

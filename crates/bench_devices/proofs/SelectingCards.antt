@@ -1,6 +1,6 @@
 -- The bench's devices as a crowd of cards: at a call each steps by its front and keeps what it holds, and no two have one
 -- identifier.
-use Rattle.std.proofs.Common.{◌≡◌, ◌≢◌, ◌⊎◌, ℕ, suc, ◌≤◌, ◌<◌, List, [], ◌∷◌, length, map, filter_map, Bool, true, false, if◌then◌else◌, not, ◌&&◌, Option, Some, None, inl, inr, refl, sym, ◌∙◌, ap, arith}
+use Rattle.std.proofs.Common.{◌≡◌, ◌≢◌, ◌⊎◌, ℕ, suc, ◌≤◌, ◌<◌, List, [], ◌∷◌, length, map, filter_map, Bool, true, false, if◌then◌else◌, not, ◌&&◌, Option, Some, None, inl, inr, refl, ◌∙◌, ap, arith}
 use Rattle.std.specs.List.{AllByRecursion, cons_option}
 use Rattle.nfc_base.specs.declared.frame.Tech.TheVariants.{A}
 use Rattle.nfc_base.specs.Signal.{Signal}
@@ -24,7 +24,8 @@ use Rattle.t5t_tag.specs.Step.{t5_after}
 use Rattle.bench_devices.specs.Cards.{T4Near}
 use Rattle.bench_devices.specs.Device.{devices, device_id, says_of, t2_machine, T4Did, t4_did, t4_machine, is_unlinked, is_no_file}
 use Rattle.bench_devices.specs.Phases as bench
-use Rattle.bench_devices.specs.Phases.{Kept, kept, IsApart, AreSound, AreTame, IsTidy}
+use Rattle.bench_devices.specs.Keeping.{Kept, kept, IsApart, AreSound, AreTame}
+use Rattle.bench_devices.specs.Phases.{IsTidy}
 use Rattle.bench_devices.proofs.Ours.{device_kind, device_front, steps}
 use Rattle.bench_devices.proofs.Tidy.{left_tidy}
 use Rattle.nfca_poll.specs.OwnFrames.{BeginsAsCalls, call_begins}
@@ -228,7 +229,7 @@ cards_idents (T2 d ∷ ds) s = (s.0.0, cards_idents ds s.2)
 cards_idents (T4 d ∷ ds) s = (s.0.0, cards_idents ds s.2)
 cards_idents (T5 p ∷ ds) s = cards_idents ds s.2
 
-cards_apart : (k : Kept) (ds : List Device) → AllByRecursion (IsApart k) (map kept ds) → Each (λ c. c.id ≢ k.id) (cards_of ds)
+cards_apart : (k : Kept) (ds : List Device) → AllByRecursion (IsApart k) (map kept ds) → Each (λ c. c.id ≢ k.fixed.id) (cards_of ds)
 cards_apart k [] a = tt
 cards_apart k (T2 d ∷ ds) a = (a.0, cards_apart k ds a.1)
 cards_apart k (T4 d ∷ ds) a = (a.0, cards_apart k ds a.1)

@@ -1,5 +1,5 @@
 -- What stays of the devices while a reader polls: resets, calls, inventories and the dark change no device but in its state.
-use Rattle.std.proofs.Common.{◌≡◌, ℕ, List, [], ◌∷◌, ◌++◌, map, Bool, true, false, if◌then◌else◌, Option, Some, None, refl, ◌∙◌, ap}
+use Rattle.std.proofs.Common.{◌≡◌, ℕ, List, [], ◌∷◌, ◌++◌, map, Bool, true, false, if◌then◌else◌, None, refl, ◌∙◌, ap}
 use Rattle.nfc_base.specs.declared.frame.Tech.TheVariants.{A, V}
 use Rattle.nfc_base.specs.declared.event.Event.{Event}
 use Rattle.nfc_base.specs.declared.event.Event.TheVariants.{Reset, Request, Answer, Clash}
@@ -19,7 +19,7 @@ use Rattle.bench_devices.specs.declared.device.Device.TheVariants.{T2, T4, T5}
 use Rattle.bench_devices.specs.Cards.{T4Near}
 use Rattle.bench_devices.specs.Device.{devices, t2_machine, t4_machine, T4Did}
 use Rattle.bench_devices.specs.Device.{air}
-use Rattle.bench_devices.specs.Phases.{Kept, kept}
+use Rattle.bench_devices.specs.Keeping.{Kept, kept, EachAsked}
 use Rattle.nfca_poll.specs.OwnFrames.{BeginsAsCalls}
 use Rattle.bench_devices.specs.LinkCalls.{no_command, says_at, did_at_call}
 use Rattle.bench_devices.proofs.SelectingCards.{carded, near, call_goes}
@@ -86,14 +86,6 @@ map_kept g h (d ∷ ds) = ap (λ k. k ∷ map kept (map g ds)) (h d) ∙ ap (λ 
 
 pub kept_relit : (ds : List Device) → map kept (map (λ l. devices.woken (devices.darkened l)) ds) ≡ map kept ds
 kept_relit ds = map_kept (λ l. devices.woken (devices.darkened l)) (λ d. kept_lit (devices.darkened d) ∙ kept_dark d) ds
-
--- something holds of each request of some events
-abbrev pub EachAsked : (Signal → Type 0) → List Event → Type 0
-EachAsked P [] = Unit {0}
-EachAsked P (Reset ∷ es) = EachAsked P es
-EachAsked P (Request f x ∷ es) = P f × EachAsked P es
-EachAsked P (Answer g x ∷ es) = EachAsked P es
-EachAsked P (Clash g x ∷ es) = EachAsked P es
 
 -- it holds of all that may be due
 pub due_asked : (P : Signal → Type 0) (next : List Note → Next) → ((ns : List Note) (f : Signal) → next ns ≡ Asks f → P f) → (before es : List Event) → EachDue next before es → EachAsked P es

@@ -18,11 +18,12 @@ use Rattle.bench_devices.specs.declared.device.Device.TheVariants.{T2, T4, T5}
 use Rattle.bench_devices.specs.Device.{devices}
 use Rattle.bench_devices.specs.Device.{air}
 use Rattle.bench_devices.specs.Phases.{IsTidy, AreTidy, IsUnasked}
+use Rattle.bench_devices.specs.Keeping.{EachAsked}
 use Rattle.air_core.proofs.Following.{light_is_no_request}
 use Rattle.nfca_poll.specs.OwnFrames.{BeginsAsCalls}
 use Rattle.bench_devices.proofs.Searching.{IsCall, asks_calls}
 use Rattle.bench_devices.proofs.SelectingCards.{device_unlinked, left_unlinked, stays_unlinked, reset_unlinked}
-use Rattle.bench_devices.proofs.SelectingKept.{EachAsked, due_asked}
+use Rattle.bench_devices.proofs.SelectingKept.{due_asked}
 
 abbrev pub IsUnlinked : Device → Type 0
 IsUnlinked d = device_unlinked d ≡ true

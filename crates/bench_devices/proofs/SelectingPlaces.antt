@@ -8,7 +8,7 @@ use Rattle.t5t_tag.proofs.Bytes.{equal_bytes}
 use Rattle.bench_devices.specs.declared.device.Device.{Device}
 use Rattle.bench_devices.specs.Device.{device_id}
 use Rattle.bench_devices.specs.Placed.{device_with}
-use Rattle.bench_devices.specs.Phases.{Kept, kept, IsSound, IsApart, AreSound}
+use Rattle.bench_devices.specs.Keeping.{Kept, kept, IsSound, IsApart, AreSound}
 use Rattle.bench_devices.specs.Choosing.{StandsAt}
 
 pub stands_at : (id : List ℕ) (ds : List Device) (place : ℕ) (x : Device) → place < length ds → pointwise nat_eq (device_id (get_or ds place x)) id ≡ true → StandsAt id ds place

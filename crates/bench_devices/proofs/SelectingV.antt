@@ -41,7 +41,8 @@ use Rattle.bench_devices.specs.Placed.{device_with}
 use Rattle.bench_devices.specs.Answering.{HasPollCause, MissedBy, IsAbsent}
 use Rattle.bench_devices.specs.Noise.{noisy_tries}
 use Rattle.bench_devices.specs.Choosing.{StandsAt}
-use Rattle.bench_devices.specs.Phases.{ghosts, kept, IsSound, AreSound, AreTame, IsUnasked, Asked, Selects, SelectsAt, SelectionCut}
+use Rattle.bench_devices.specs.Keeping.{kept, IsSound, AreSound, AreTame, ghosts, NoStore}
+use Rattle.bench_devices.specs.Phases.{IsUnasked, Asked, Selects, SelectsAt, SelectionCut}
 use Rattle.bench_devices.specs.Polling as followed
 use Rattle.bench_devices.specs.Polling.{Followed, follows, kind_by, pick_v, selecting, asks}
 use Rattle.bench_devices.proofs.Ours.{steady_at, stays_at_own, answers_own}
@@ -383,7 +384,7 @@ module _ (id : List ℕ) (eight : length id ≡ 8) (old mid new : Air Device) (r
   pub same_kept : map kept new.listeners ≡ map kept old.listeners
   same_kept = going_keeps (next id) (moment old) (moment new) (Lit ∷ notes) (next_asked id) whole
 
-  abbrev asked : (r ≡ Err faults.Memory → ⊥) → Asked (next id) (moment old) (moment new)
+  abbrev asked : (r ≡ Err faults.Memory → ⊥) → Asked NoStore (next id) (moment old) (moment new)
   asked starved = record { notes = Lit ∷ notes; going = whole; over = ap asks (told starved); same = same_kept }
 
   -- however it ended, so much was asked

@@ -19,7 +19,7 @@ use Rattle.bench_devices.specs.Powered.{Powered}
 use Rattle.bench_devices.specs.declared.device.Device.{Device}
 use Rattle.bench_devices.specs.declared.device.Device.TheVariants.{T2, T4, T5}
 use Rattle.bench_devices.specs.Device.{device_after, device_store, device_selected}
-use Rattle.bench_devices.specs.Phases.{ghosts}
+use Rattle.bench_devices.specs.Keeping.{ghosts}
 
 -- a step whose second time answers what its first did
 abbrev IsSaid : (T5State → T5Turn) → T5State → Type 0

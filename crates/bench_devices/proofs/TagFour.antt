@@ -1,5 +1,5 @@
 -- A Type 4 tag of the bench that is selected and has no link takes RATS, and is then a tag that does what the card's table says.
-use Rattle.std.proofs.Common.{◌≡◌, ℕ, zero, suc, ◌≤◌, List, ◌++◌, Bool, true, false, not, ◌&&◌, Option, Some, refl, sym, ◌∙◌, ap, subst}
+use Rattle.std.proofs.Common.{◌≡◌, ℕ, zero, suc, ◌≤◌, List, ◌++◌, Bool, true, false, not, ◌&&◌, Some, refl, sym, ◌∙◌, ap, subst}
 use Rattle.std.proofs.lemmas.List.{append_cancel_left}
 use Rattle.nfc_base.specs.TagLinks.{plain_state}
 use Rattle.air_core.specs.PlainTags.{heard_times}
@@ -18,7 +18,7 @@ use Rattle.bench_devices.specs.Cards.{T4Near}
 use Rattle.bench_devices.specs.declared.device.Device.{Device}
 use Rattle.bench_devices.specs.declared.device.Device.TheVariants.{T4}
 use Rattle.bench_devices.specs.Device.{device_answer, device_after, device_selected, device_card, device_tag, is_no_file, is_unlinked}
-use Rattle.bench_devices.specs.Phases.{ghosts, kept, IsSound}
+use Rattle.bench_devices.specs.Keeping.{kept, IsSound, ghosts}
 use Rattle.isodep_link.proofs.Heeding.{no_bytes}
 use Rattle.bench_devices.proofs.TagFourSteps.{linked_device, IsLinked, card_tag}
 

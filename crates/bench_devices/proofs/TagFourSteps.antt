@@ -23,7 +23,7 @@ use Rattle.bench_devices.specs.Cards.{T4Near}
 use Rattle.bench_devices.specs.declared.device.Device.{Device}
 use Rattle.bench_devices.specs.declared.device.Device.TheVariants.{T4}
 use Rattle.bench_devices.specs.Device.{t4_machine, by_card, device_tech, device_after, device_darkened, device_selected, device_card, device_tag}
-use Rattle.bench_devices.specs.Phases.{ghosts}
+use Rattle.bench_devices.specs.Keeping.{ghosts}
 
 -- the front of a selected device with this tag and this card's end, and the device
 abbrev pub linked_front : List ℕ → Bool → T4State → CardState → Fronted T4Near

@@ -20,7 +20,7 @@ use Rattle.bench_devices.specs.declared.device.Device.{Device}
 use Rattle.bench_devices.specs.declared.device.Device.TheVariants.{T2, T4, T5}
 use Rattle.bench_devices.specs.Device.{says_of, t2_machine, device_after, device_selected}
 use Rattle.bench_devices.specs.Uppers.{t2_commands, t2_upper}
-use Rattle.bench_devices.specs.Phases.{ghosts}
+use Rattle.bench_devices.specs.Keeping.{ghosts}
 
 -- no command changes which blocks are locked
 obeyed_locked : (m : T2Memory) (c : T2Command) → (t2_obeyed m c).locked ≡ m.locked

@@ -9,6 +9,7 @@ pub mod Placed
 pub mod CardAsking
 pub mod TagAsking
 pub mod Reading
+pub mod Keeping
 pub mod Crowded
 pub mod Noise
 pub mod Answering

@@ -1,7 +1,7 @@
 -- What the parts of a read of a Type 4 tag say of the field. No public contract speaks of these.
 use Rattle.std.specs.Prelude.{◌≡◌, ◌↔◌, ℕ, ◌<◌, List, length, true, None, Result, Err}
 use Rattle.nfc_base.specs.Signal.{Signal}
-use Rattle.nfc_base.specs.Trace.{breaks}
+use Rattle.nfc_base.specs.Trace.{noise, breaks}
 use Rattle.air_core.specs.World.{World}
 use Rattle.air_core.specs.Turn.{Air, moment}
 use Rattle.air_core.specs.Conversation.{Moment}
@@ -21,7 +21,8 @@ use Rattle.bench_devices.specs.declared.device.Device.{Device}
 use Rattle.bench_devices.specs.Device.{how_of, device_card, device_tag}
 use Rattle.bench_devices.specs.Answering.{TellsExchange}
 use Rattle.bench_devices.specs.Reading.{AsksOf, ShowsOf}
-use Rattle.bench_devices.specs.Phases.{ghosts, kept, IsSound, Stands, Asked, AskedPart, FailsRead}
+use Rattle.bench_devices.specs.Keeping.{ghosts, kept, IsSound, NoStore}
+use Rattle.bench_devices.specs.Phases.{Stands, Asked, AskedPart, FailsRead}
 
 -- a tag that takes commands as they are sent
 abbrev pub IsPlainHow : How → Type 0
@@ -63,15 +64,16 @@ pub record Linked (d : Device) (air : Air Device) (place : ℕ) (reader : Reader
 pub record ReadsOn (old new : Moment (World Device)) (d : Device) (reader : ReaderState) (r : Result Found ReadFault) : Type 0 where
   pub commands : List Signal
   pub asks : AsksOf d commands
-  pub asked : Asked (iso_next reader (bytes_of commands)) old new
+  pub asked : Asked NoStore (iso_next reader (bytes_of commands)) old new
   pub ends : TellsExchange (ShowsOf d) FailsRead (stand (exchange.asks reader (bytes_of commands)) asked.notes) r
   pub lost : (r ≡ Err faults.FieldLost) ↔ (0 < breaks asked.going.events)
+  pub noisy : r ≡ Err faults.SixBad → 0 < noise asked.going.events
 
 -- Reading was cut off by want of memory.
 pub record ReadsSomeOn (old new : Moment (World Device)) (d : Device) (reader : ReaderState) : Type 0 where
   pub commands : List Signal
   pub asks : AsksOf d commands
-  pub asked : AskedPart (iso_next reader (bytes_of commands)) old new
+  pub asked : AskedPart NoStore (iso_next reader (bytes_of commands)) old new
 
 abbrev pub CutLinked : Air Device → ℕ → ReaderState → Moment (World Device) → Result Found ReadFault → Type 0
 CutLinked air place reader new r =

@@ -1,35 +1,26 @@
 -- What the parts of a command that polls say of the field: selecting a device, reading it, searching for all.
-use Rattle.std.specs.Prelude.{◌≡◌, ◌↔◌, ◌⊎◌, ℕ, List, [], ◌∷◌, ◌++◌, map, length, slice_index, ◌<◌, ◌≤◌, Bool, true, Result, Ok, Err}
+use Rattle.std.specs.Prelude.{◌≡◌, ◌↔◌, ◌⊎◌, ℕ, List, [], ◌∷◌, ◌++◌, map, length, ◌<◌, true, Result, Ok, Err}
 use Rattle.std.specs.List.{AllByRecursion}
 use Rattle.nfc_base.specs.Signal.{Signal}
 use Rattle.nfc_base.specs.declared.tag_link.AskFault.{AskFault}
 use Rattle.nfc_base.specs.declared.tag_link.AskFault.TheVariants as asking
 use Rattle.air_core.specs.Turn.{Air}
-use Rattle.air_core.specs.declared.listener.Listener.{Ghosts}
 use Rattle.air_core.specs.World.{World}
 use Rattle.air_core.specs.Conversation.{Moment, Note, Next, Over, Going}
 use Rattle.air_core.specs.PlainTags.{IsAside}
-use Rattle.nfc_base.specs.Trace.{breaks}
+use Rattle.nfc_base.specs.Trace.{noise, breaks}
 use Rattle.nfca_poll.specs.declared.fault.PollFault.{PollFault}
 use Rattle.nfca_poll.specs.declared.fault.PollFault.TheVariants as polling
-use Rattle.nfca_poll.specs.Ident.{IsIdent}
-use Rattle.t2t_tag.specs.Store.{IsT2Store}
-use Rattle.t4t_tag.specs.Store.{IsT4Store}
-use Rattle.t5t_tag.specs.Store.{IsT5Store, id_size}
 use Rattle.tag_reader.specs.declared.fault.ReadFault.{ReadFault}
 use Rattle.tag_reader.specs.declared.fault.ReadFault.TheVariants as faults
 use Rattle.tag_reader.specs.declared.found.Found.{Found}
-use Rattle.tag_reader.specs.declared.how.How.{How}
-use Rattle.tag_reader.specs.declared.how.How.TheVariants.{T2, T4, T5}
 use Rattle.bench_script.specs.declared.command.DeviceId.{DeviceId}
 use Rattle.bench_devices.specs.declared.device.Device.{Device}
 use Rattle.nfca_poll.specs.Front.{is_active}
 use Rattle.bench_devices.specs.declared.device.Device.TheVariants as placed
 use Rattle.bench_devices.specs.declared.polling.SeenKind.{SeenKind}
 use Rattle.bench_devices.specs.declared.sweeping.Everybody.{Everybody}
-use Rattle.bench_devices.specs.Device.{devices, device_id, device_store, device_locks, device_made, device_ready, device_selected, device_commands, how_of, size_of, seen_of, is_unlinked}
-use Rattle.isodep_link.specs.Card.{CardState}
-use Rattle.isodep_link.specs.Exchange.{IsMade}
+use Rattle.bench_devices.specs.Device.{air, device_id, device_selected, seen_of, is_unlinked}
 use Rattle.bench_devices.specs.CardAsking.{tag_next}
 use Rattle.bench_devices.specs.declared.polling.Selection.{Selection}
 use Rattle.bench_devices.specs.declared.polling.Selection.TheVariants.{Place, Missed}
@@ -37,74 +28,7 @@ use Rattle.bench_script.specs.DeviceIds.{bytes_of}
 use Rattle.bench_devices.specs.Polling.{Told, asks, selecting, finding_all}
 use Rattle.bench_devices.specs.Answering.{HasPollCause, FindTells, TellsBy}
 use Rattle.bench_devices.specs.Reading.{AsksOf, ShowsOf}
-use Rattle.bench_devices.specs.Device.{air, most_devices}
-
--- the meanings of the bench's devices as listeners
-abbrev pub ghosts : Ghosts Device
-ghosts = record {
-  machine = devices;
-  identifier = device_id;
-  store = device_store;
-  is_ready = device_ready;
-  is_selected = device_selected;
-  commands = device_commands;
-}
-
--- What stays of a device through a read, whatever state it is in; of a Type 4 tag also its code, its container, and its card's end as
--- it was made.
-pub record Kept : Type 0 where
-  pub id : List ℕ
-  pub how : How
-  pub size : ℕ
-  pub store : List ℕ
-  pub locked : List Bool
-  pub code : ℕ
-  pub container : List ℕ
-  pub made : CardState
-
-abbrev pub code_of : Device → ℕ
-code_of (placed.T2 d) = 0
-code_of (placed.T4 d) = d.upper.tag.code
-code_of (placed.T5 p) = 0
-
-abbrev pub container_of : Device → List ℕ
-container_of (placed.T2 d) = []
-container_of (placed.T4 d) = d.upper.tag.container
-container_of (placed.T5 p) = []
-
-abbrev pub kept : Device → Kept
-kept d = record {
-  id = device_id d;
-  how = how_of d;
-  size = size_of d;
-  store = device_store d;
-  locked = device_locks d;
-  code = code_of d;
-  container = container_of d;
-  made = device_made d;
-}
-
--- a device that may be placed
-abbrev pub IsSoundAs : How → Kept → Type 0
-IsSoundAs T2 k = IsIdent k.id × (k.size ≡ 16) × IsT2Store k.store
-IsSoundAs T4 k = IsIdent k.id × (file : List ℕ) × (k.store ≡ k.container ++ file) × IsT4Store k.code k.container file × (k.made.code ≡ k.code) × IsMade k.made
-IsSoundAs (T5 id) k = (id ≡ k.id) × (length k.id ≡ id_size) × ((i : ℕ) → slice_index k.id i < 256) × IsT5Store k.size k.store
-
-abbrev pub IsSound : Kept → Type 0
-IsSound k = IsSoundAs k.how k
-
--- another device beside this one: of another identifier
-abbrev pub IsApart : Kept → Kept → Type 0
-IsApart k l = l.id ≡ k.id → ⊥
-
--- Devices as they may stand in the field: each may be placed, with an identifier of its own, and there are few.
-abbrev pub AreSound : List Kept → Type 0
-AreSound [] = Unit {0}
-AreSound (k ∷ ks) = IsSound k × AllByRecursion (IsApart k) ks × AreSound ks
-
-pub record AreTame (ks : List Kept) : Type 0 where
-  pub sound : AreSound ks
-  pub few : length ks ≤ most_devices
+use Rattle.bench_devices.specs.Keeping.{ghosts, kept, IsSound, AreTame, Changes, NoStore, Leaves}
 
 -- A Type 4 tag has a link at most while it is active.
 abbrev pub IsTidy : Device → Type 0
@@ -139,23 +63,23 @@ pub record Stands (a : Moment (World Device)) (place : ℕ) (d : Device) : Type 
   pub first : AllByRecursion (IsAside ghosts (device_id d)) before
   pub later : AllByRecursion (IsAside ghosts (device_id d)) behind
 
--- Something was asked of the field, each request being due, and this is known of it. No device changed but in its state.
--- Want of memory may have cut it off between two turns.
-pub record AskedPart (due : List Note → Next) (old new : Moment (World Device)) : Type 0 where
+-- Something was asked of the field, each request being due, and this is known of it. Of what stays of the devices this alone may
+-- have changed. Want of memory may have cut it off between two turns.
+pub record AskedPart (what : Changes) (due : List Note → Next) (old new : Moment (World Device)) : Type 0 where
   pub notes : List Note
   pub going : Going air due old new notes
-  pub same : map kept new.world.listeners ≡ map kept old.world.listeners
+  pub same : Leaves what old.world going.events new.world
 
 -- So was all that is due.
-pub record Asked (due : List Note → Next) (old new : Moment (World Device)) : Type 0 where
+pub record Asked (what : Changes) (due : List Note → Next) (old new : Moment (World Device)) : Type 0 where
   pub notes : List Note
   pub going : Going air due old new notes
   pub over : due notes ≡ Over
-  pub same : map kept new.world.listeners ≡ map kept old.world.listeners
+  pub same : Leaves what old.world going.events new.world
 
 -- Selecting a device ended so, and the field is lost exactly where a Break was used.
 pub record Selects (id : DeviceId) (r : Result SeenKind PollFault) (old new : Moment (World Device)) : Type 0 where
-  pub asked : Asked (λ ns. asks (selecting id ns)) old new
+  pub asked : Asked NoStore (λ ns. asks (selecting id ns)) old new
   pub told : selecting id asked.notes ≡ Told r []
   pub cause : HasPollCause id old.world.listeners r asked.going.events
   pub lost : (r ≡ Err polling.FieldLost) ↔ (0 < breaks asked.going.events)
@@ -174,7 +98,7 @@ SelectsTo id (Missed e) old new = Selects id (Err e) old new
 
 -- selecting a device was cut off by want of memory
 abbrev pub SelectionCut : DeviceId → Moment (World Device) → Moment (World Device) → Type 0
-SelectionCut id old new = AskedPart (λ ns. asks (selecting id ns)) old new
+SelectionCut id old new = AskedPart NoStore (λ ns. asks (selecting id ns)) old new
 
 -- a read failed by the fault of a wait; the others end none
 abbrev pub FailsRead : AskFault → Result Found ReadFault → Type 0
@@ -183,19 +107,21 @@ FailsRead asking.SixBad r = r ≡ Err faults.SixBad
 FailsRead asking.Memory r = ⊥
 FailsRead asking.Protocol r = ⊥
 
--- Reading asked what it asks of a device, up to a break or the sixth bad reception of a wait, and tells what came of it.
+-- Reading asked what it asks of a device, up to a break or the sixth bad reception of a wait, and tells what came of it. Without
+-- noise no wait has six bad receptions.
 pub record Reads (old new : Moment (World Device)) (d : Device) (r : Result Found ReadFault) : Type 0 where
   pub commands : List Signal
   pub asks : AsksOf d commands
-  pub asked : Asked (tag_next (seen_of d) commands) old new
+  pub asked : Asked NoStore (tag_next (seen_of d) commands) old new
   pub ends : TellsBy (seen_of d) (ShowsOf d) FailsRead commands asked.notes r
   pub lost : (r ≡ Err faults.FieldLost) ↔ (0 < breaks asked.going.events)
+  pub noisy : r ≡ Err faults.SixBad → 0 < noise asked.going.events
 
 -- Reading was cut off by want of memory.
 pub record ReadsSome (old new : Moment (World Device)) (d : Device) : Type 0 where
   pub commands : List Signal
   pub asks : AsksOf d commands
-  pub asked : AskedPart (tag_next (seen_of d) commands) old new
+  pub asked : AskedPart NoStore (tag_next (seen_of d) commands) old new
 
 -- So the device that stands at a place was read as far as memory reached.
 abbrev pub CutAt : Moment (World Device) → Moment (World Device) → ℕ → Result Found ReadFault → Type 0
@@ -211,12 +137,12 @@ IsEnd end r = r ≡ end
 
 -- A search asked what was due, and tells of all devices.
 pub record Searches (old new : Moment (World Device)) (r : Result Everybody PollFault) : Type 0 where
-  pub asked : Asked (λ ns. asks (finding_all ns)) old new
+  pub asked : Asked NoStore (λ ns. asks (finding_all ns)) old new
   pub tells : FindTells IsEnd old.world.listeners asked.going.events r
 
 -- A search was cut off by want of memory.
 abbrev pub SearchCut : Moment (World Device) → Moment (World Device) → Result Everybody PollFault → Type 0
-SearchCut old new r = r ≡ Err polling.Memory → AskedPart (λ ns. asks (finding_all ns)) old new
+SearchCut old new r = r ≡ Err polling.Memory → AskedPart NoStore (λ ns. asks (finding_all ns)) old new
 
 -- So the field was searched, unless memory was wanting.
 abbrev pub SearchesField : Moment (World Device) → Moment (World Device) → Result Everybody PollFault → Type 0

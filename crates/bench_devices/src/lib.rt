@@ -7,11 +7,13 @@
 #![tactic(auto)]
 
 mod device;
+mod law;
 mod polling;
 mod reading;
 mod sweeping;
 
 pub use device::{Device, PoweredTag, T2Upper, T4Upper};
+pub use law::devices_stay;
 pub use polling::{SeenKind, Selection, is_named, place_of, select};
 pub use reading::read;
 pub use sweeping::{Everybody, sweep_field};

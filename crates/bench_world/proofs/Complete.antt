@@ -67,14 +67,14 @@ module _ (id : DeviceId) (ds : List Device) (d : Device) (placed : device_with (
   given_up (A x) es q g = q g.noisy
   given_up (V x) es q g = g
 
-  module _ (asked : List Signal) (answer : Answer) (lit : answer ≡ answers.FieldLost → ⊥) where
+  module _ (Tells : Device → Answer → Type 0) (asked : List Signal) (answer : Answer) (lit : answer ≡ answers.FieldLost → ⊥) where
     abbrev PlacedTells : Answer → Type 0
-    PlacedTells a = OfPlaced (λ e. TellsOf e a) (device_with (bytes_of id) ds)
+    PlacedTells a = OfPlaced (λ e. Tells e a) (device_with (bytes_of id) ds)
 
-    of_placed : PlacedTells answer → TellsOf d answer
-    of_placed t = let P : Option Device → Type 0 = λ o. OfPlaced (λ e. TellsOf e answer) o in subst P placed t
+    of_placed : PlacedTells answer → Tells d answer
+    of_placed t = let P : Option Device → Type 0 = λ o. OfPlaced (λ e. Tells e answer) o in subst P placed t
 
-    standing : (s : Standing) → ((left : List Signal) → s ≡ Broken asking.SixBad left → ⊥) → TellsStanding PlacedTells TellsFault s answer → TellsOf d answer
+    standing : (s : Standing) → ((left : List Signal) → s ≡ Broken asking.SixBad left → ⊥) → TellsStanding PlacedTells TellsFault s answer → Tells d answer
     standing (Asking bad []) none t = of_placed t
     standing (Asking bad (c ∷ cs)) none t = absurd t
     standing (Broken asking.FieldLost cs) none t = absurd (lit t)
@@ -83,7 +83,7 @@ module _ (id : DeviceId) (ds : List Device) (d : Device) (placed : device_with (
     standing (Broken asking.Protocol cs) none t = absurd t
     standing Astray none t = absurd t
 
-    exchanged : (s : exchange.IsoStanding) → (s ≡ exchange.Broken asking.SixBad → ⊥) → TellsExchange PlacedTells TellsFault s answer → TellsOf d answer
+    exchanged : (s : exchange.IsoStanding) → (s ≡ exchange.Broken asking.SixBad → ⊥) → TellsExchange PlacedTells TellsFault s answer → Tells d answer
     exchanged (exchange.Waits i f cs) none t = absurd t
     exchanged (exchange.Rests i) none t = of_placed t
     exchanged (exchange.Broken asking.FieldLost) none t = absurd (lit t)
@@ -92,30 +92,30 @@ module _ (id : DeviceId) (ds : List Device) (d : Device) (placed : device_with (
     exchanged (exchange.Broken asking.Protocol) none t = absurd t
     exchanged exchange.Astray none t = absurd t
 
-    activated : (s : CardStanding) → (s ≡ Exchanges (exchange.Broken asking.SixBad) → ⊥) → TellsCard PlacedTells TellsFault s answer → TellsOf d answer
+    activated : (s : CardStanding) → (s ≡ Exchanges (exchange.Broken asking.SixBad) → ⊥) → TellsCard PlacedTells TellsFault s answer → Tells d answer
     activated (Activates bad) none t = absurd t
     activated (Exchanges s) none t = exchanged s (λ e. none (ap Exchanges e)) t
 
-    told_by : (kind : SeenKind) (ns : List Note) → (HadSixBad kind asked ns → ⊥) → TellsBy kind PlacedTells TellsFault asked ns answer → TellsOf d answer
+    told_by : (kind : SeenKind) (ns : List Note) → (HadSixBad kind asked ns → ⊥) → TellsBy kind PlacedTells TellsFault asked ns answer → Tells d answer
     told_by seen.T2 ns none t = standing (stand 0 asked ns) (λ left e. none (left, e)) t
     told_by seen.T4 ns none t = activated (card_stands asked ns) none t
     told_by seen.T5 ns none t = standing (stand 0 asked ns) (λ left e. none (left, e)) t
     told_by seen.Peer ns none t = absurd t
 
-    read_ends : (r : Result SeenKind PollFault) (behind : List Note) (es : List Event) → IsQuietOnce id es → ((kind : SeenKind) → r ≡ Ok kind → HadSixBad kind asked behind → ⊥)
-        → HasPollCause id ds r es → TagEnds TellsOf id ds asked r behind answer → TellsOf d answer
-    read_ends (Ok kind) behind es q none c e = told_by kind behind (none kind refl) e
-    read_ends (Err faults.Nobody) behind es q none c e = absurd c
-    read_ends (Err faults.Disturbed) behind es q none c e = absurd (given_up id es q c)
-    read_ends (Err faults.FieldLost) behind es q none c e = absurd (lit (told_once answers.FieldLost answer e))
-    read_ends (Err faults.Memory) behind es q none c e = absurd c
-    read_ends (Err faults.NotFound) behind es q none c e = absurd (missed id es placed named q c)
-    read_ends (Err faults.BadAnswer) behind es q none c e = absurd c
+    tag_ends : (r : Result SeenKind PollFault) (behind : List Note) (es : List Event) → IsQuietOnce id es → ((kind : SeenKind) → r ≡ Ok kind → HadSixBad kind asked behind → ⊥)
+        → HasPollCause id ds r es → TagEnds Tells id ds asked r behind answer → Tells d answer
+    tag_ends (Ok kind) behind es q none c e = told_by kind behind (none kind refl) e
+    tag_ends (Err faults.Nobody) behind es q none c e = absurd c
+    tag_ends (Err faults.Disturbed) behind es q none c e = absurd (given_up id es q c)
+    tag_ends (Err faults.FieldLost) behind es q none c e = absurd (lit (told_once answers.FieldLost answer e))
+    tag_ends (Err faults.Memory) behind es q none c e = absurd c
+    tag_ends (Err faults.NotFound) behind es q none c e = absurd (missed id es placed named q c)
+    tag_ends (Err faults.BadAnswer) behind es q none c e = absurd c
 
-  -- A read of a placed tag tells what its store holds.
-  read_completes : (asked : List Signal) (events : List Event) (answer : Answer) → TagTells TellsOf id ds asked events answer → IsUndisturbed id asked events → TellsOf d answer
-  read_completes asked events answer t calm =
-      read_ends asked answer (λ e. no_lost (breaks events) calm.lit (t.lost.0 e)) t.polled t.behind events calm.round
+  -- A command of a placed tag tells what it tells of the device.
+  tag_completes : (Tells : Device → Answer → Type 0) (asked : List Signal) (events : List Event) (answer : Answer) → TagTells Tells id ds asked events answer → IsUndisturbed id asked events → Tells d answer
+  tag_completes Tells asked events answer t calm =
+      tag_ends Tells asked answer (λ e. no_lost (breaks events) calm.lit (t.lost.0 e)) t.polled t.behind events calm.round
       (λ kind e bad. calm.waits kind t.behind (t.selected ∙ ap (λ r. Told r t.behind) e) bad) t.cause t.ends
 
 -- A search lists the whole field: the crowd in its order, and the Type 5 tag or that there are several.
@@ -160,7 +160,7 @@ pub reads_complete : ReadsComplete
 reads_complete s t g e id d step is placed named calm =
     let L : Command → Type 0 = λ c. AnswerLaw s g c e.events e.answer in
     let law : ReadLaw s id g.asked e.events e.answer = subst L is step.answered in
-    read_completes id s.world.listeners d placed named g.asked e.events e.answer law.tells calm
+    tag_completes id s.world.listeners d placed named TellsOf g.asked e.events e.answer law.tells calm
 
 pub finds_complete : FindsComplete
 finds_complete s t g e step is lit round once =

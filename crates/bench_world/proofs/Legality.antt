@@ -5,7 +5,7 @@ use Rattle.std.proofs.lemmas.List.{append-nil}
 use Rattle.nfc_base.specs.declared.event.Event.{Event}
 use Rattle.nfc_base.specs.declared.event.Fate.{Fate}
 use Rattle.nfc_base.specs.Signal.{Signal}
-use Rattle.nfc_base.specs.Trace.{back_of, breaks}
+use Rattle.nfc_base.specs.Trace.{back_of, noise, breaks}
 use Rattle.nfc_base.specs.Trace as backs
 use Rattle.air_core.specs.World.{World}
 use Rattle.air_core.specs.Turn.{Air, moment}
@@ -36,20 +36,23 @@ use Rattle.bench_world.specs.Reading.{Tells, TellsOf}
 use Rattle.bench_devices.specs.Reading.{AsksOf, ShowsOf}
 use Rattle.bench_world.specs.Legal.{State, Given, Accepts, IsAskedBy, AnswerLaw, FrontOf, changed, due, stable}
 use Rattle.bench_devices.specs.Placed.{OfPlaced, IfPlaced, device_with}
-use Rattle.bench_devices.specs.Phases.{AskedPart, SelectionCut, ReadsSome, FailsRead, Kept, kept, IsSound, IsIdle, AreTame, Selects, SelectsAt, Stands, Reads, ReadsAt, CutAt, Searches, SearchesField, SearchCut}
+use Rattle.bench_devices.specs.Keeping.{Kept, kept, IsSound, AreTame, Changes, NoStore, Leaves}
+use Rattle.bench_devices.specs.Phases.{AskedPart, SelectionCut, ReadsSome, FailsRead, IsIdle, Selects, SelectsAt, Stands, Reads, ReadsAt, CutAt, Searches, SearchesField, SearchCut}
 use Rattle.bench_world.specs.Obeying.{state_at, Obeyed, IsCutOff}
 use Rattle.tag_reader.specs.Asked.{IsAsked}
 use Rattle.tag_reader.specs.declared.fault.ReadFault.{ReadFault}
 use Rattle.tag_reader.specs.declared.fault.ReadFault.TheVariants as reading
 use Rattle.tag_reader.specs.declared.found.Found.{Found}
 use Rattle.bench_devices.specs.declared.sweeping.Everybody.{Everybody}
-use Rattle.bench_world.proofs.Telling.{tells_as, shows_tells, fails_tells, lost_told, found_told}
+use Rattle.bench_world.proofs.Telling.{six_told, tells_as, shows_tells, fails_tells, lost_told, found_told}
 use Rattle.tag_reader.proofs.FileAsked.{file_asked}
 use Rattle.bench_world.proofs.Placing.{map-over, IsWith, is_with, with_sound}
 use Rattle.bench_devices.proofs.Following.{ToldOn, told_on}
 use Rattle.bench_devices.proofs.ReadingTags.{some_asked}
 use Rattle.air_core.proofs.LostField.{breaks-append}
+use Rattle.air_core.proofs.PlainTurns.{noise_append}
 use Rattle.bench_devices.proofs.Tidy.{going_tidy}
+use Rattle.bench_devices.proofs.EveryFrame.{left_tame}
 
 -- What one has told, the other tells too, with more that is known since.
 kind_more : {X : Type 0} (kind : X → SeenKind) (p q : Followed X) (ns : List Note) → ToldOn p ns q → ToldOn (kind_by kind p) ns (kind_by kind q)
@@ -87,7 +90,7 @@ polls_first asked (Told r ns) (Asks f) h d = absurd cc
 
 -- what stays of devices that are kept
 abbrev stable_in : Kept → StablePart
-stable_in k = record { store = k.store; locked = k.locked; made = k.made }
+stable_in k = record { store = k.store; locked = k.fixed.locked; made = k.fixed.made }
 
 stores_kept : (ls : List Device) → map stable_of ls ≡ map stable_in (map kept ls)
 stores_kept [] = refl
@@ -130,12 +133,12 @@ front_of old new c asked ns idle accepted still g asked_by =
     } in
     subst P (sym trace) front
 
--- a command that asks, and changes nothing itself
-asks_obeyed : (old new : Air Device) (c : Command) (asked : List Signal) (ns : List Note) (answer : Answer) → IsIdle old → Accepts (state_at old) c → changed (state_at old) c ≡ state_at old
+-- a command that asks, and changes nothing itself, whatever it may have changed of what stays
+asks_obeyed : (what : Changes) (old new : Air Device) (c : Command) (asked : List Signal) (ns : List Note) (answer : Answer) → IsIdle old → Accepts (state_at old) c → changed (state_at old) c ≡ state_at old
     → (g : Going air (due (state_at old) (asks_for asked) c) (moment old) (moment new) ns) → due (state_at old) (asks_for asked) c ns ≡ Over → IsAskedBy (state_at old) c asked
     → AnswerLaw (state_at old) (asks_for asked) c g.events answer
-    → map kept new.listeners ≡ map kept old.listeners → Obeyed old new c answer
-asks_obeyed old new c asked ns answer idle accepted still g over asked_by law same =
+    → Leaves what (moment old).world g.events (moment new).world → Obeyed old new c answer
+asks_obeyed what old new c asked ns answer idle accepted still g over asked_by law left =
     let st : State = state_at old in
     let trace : new.trace ≡ g.events = trace_is old new (due st (asks_for asked) c) ns g idle in
     record {
@@ -143,7 +146,7 @@ asks_obeyed old new c asked ns answer idle accepted still g over asked_by law sa
       front = front_of old new c asked ns idle accepted still g asked_by;
       over = ap (λ es. due st (asks_for asked) c (receptions es)) trace ∙ ap (due st (asks_for asked) c) g.known ∙ over;
       answered = subst (λ es. AnswerLaw st (asks_for asked) c es answer) (sym trace) law;
-      tame = subst (λ ks. AreTame ks) (sym same) idle.tame;
+      tame = left_tame what (moment old).world g.events (moment new).world left idle.tame;
       tidy = going_tidy (due st (asks_for asked) c) (moment old) (moment new) ns g idle.tidy;
     }
 
@@ -151,7 +154,7 @@ asks_obeyed old new c asked ns answer idle accepted still g over asked_by law sa
 pub search_obeyed : (old new : Air Device) (r : Result Everybody PollFault) (answer : Answer) → IsIdle old → Searches (moment old) (moment new) r → TellsFound r answer → Obeyed old new Find answer
 search_obeyed old new r answer idle s told =
     let world : (moment new).world ≡ replay air (moment old).world s.asked.going.events = ap (λ (t : Moment (World Device)). t.world) s.asked.going.moment in
-    asks_obeyed old new Find [] s.asked.notes answer idle tt refl s.asked.going s.asked.over refl
+    asks_obeyed NoStore old new Find [] s.asked.notes answer idle tt refl s.asked.going s.asked.over refl
     (record { tells = found_told r answer told old.listeners s.asked.going.events s.tells; stays = stores_stay old new s.asked.going.events world s.asked.same }) s.asked.same
 
 -- each device has a list of what a read asks of it
@@ -177,6 +180,15 @@ told_lost faults.Memory answer is lost = absurd cc
 told_lost faults.NotFound answer is lost = absurd cc
 told_lost faults.BadAnswer answer is lost = absurd cc
 
+-- polling ends by no six bad receptions
+never_six : (e : PollFault) (answer : Answer) → poll_answer e ≡ Some answer → answer ≡ answers.SixBad → ⊥
+never_six faults.Nobody answer is six = cc
+never_six faults.Disturbed answer is six = cc
+never_six faults.FieldLost answer is six = cc
+never_six faults.Memory answer is six = cc
+never_six faults.NotFound answer is six = cc
+never_six faults.BadAnswer answer is six = cc
+
 poll_lost : (e : PollFault) (answer : Answer) → poll_answer e ≡ Some answer → ◌≡◌ {A = Result SeenKind PollFault} (Err e) (Err faults.FieldLost) → answer ≡ answers.FieldLost
 poll_lost e answer is lost = (let same : e ≡ faults.FieldLost = cc in let told : Some answer ≡ Some answers.FieldLost = sym is ∙ ap poll_answer same in cc)
 
@@ -192,22 +204,27 @@ polled_of id asked a b ns g = record {
   known = g.known;
 }
 
--- no tag was selected
+-- no tag was selected: so a command of it tells, whatever it would tell of a device
+missed_tells : (Tells : Device → Answer → Type 0) (id : DeviceId) (asked : List Signal) (old new : Moment (World Device)) (e : PollFault) (answer : Answer) → (s : Selects id (Err e) old new)
+    → poll_answer e ≡ Some answer → TagTells Tells id old.world.listeners asked s.asked.going.events answer
+missed_tells Tells id asked old new e answer s is = record {
+  polled = Err e;
+  behind = [];
+  selected = ap (selecting id) s.asked.going.known ∙ s.told;
+  cause = s.cause;
+  ends = is;
+  lost = (λ lost. s.lost.0 (told_lost e answer is lost), λ broken. poll_lost e answer is (s.lost.1 broken));
+  noisy = λ six. absurd (never_six e answer is six);
+}
+
 pub missed_obeyed : (old new : Air Device) (id : DeviceId) (e : PollFault) (answer : Answer) → IsIdle old → Selects id (Err e) (moment old) (moment new) → poll_answer e ≡ Some answer → Obeyed old new (Read id) answer
 missed_obeyed old new id e answer idle s is =
     let some = asked_by old id idle in
     let g : Going air (λ ns. asks (selecting id ns)) (moment old) (moment new) s.asked.notes = s.asked.going in
     let going : Going air (tag_due id some.0) (moment old) (moment new) s.asked.notes = polled_of id some.0 (moment old) (moment new) s.asked.notes g in
     let world : (moment new).world ≡ replay air (moment old).world g.events = ap (λ (t : Moment (World Device)). t.world) g.moment in
-    let tells : TagTells TellsOf id old.listeners some.0 g.events answer = record {
-      polled = Err e;
-      behind = [];
-      selected = ap (selecting id) g.known ∙ s.told;
-      cause = s.cause;
-      ends = is;
-      lost = (λ lost. s.lost.0 (told_lost e answer is lost), λ broken. poll_lost e answer is (s.lost.1 broken));
-    } in
-    asks_obeyed old new (Read id) some.0 s.asked.notes answer idle tt refl going (ap (then_asks some.0) s.told) some.1
+    let tells : TagTells TellsOf id old.listeners some.0 g.events answer = missed_tells TellsOf id some.0 (moment old) (moment new) e answer s is in
+    asks_obeyed NoStore old new (Read id) some.0 s.asked.notes answer idle tt refl going (ap (then_asks some.0) s.told) some.1
     (record { tells = tells; stays = stores_stay old new g.events world s.asked.same }) s.asked.same
 
 -- A tag was selected, and commands were asked behind that: both are one command.
@@ -267,7 +284,7 @@ module _ (old mid : Air Device) (id : DeviceId) (place : ℕ) (idle : IsIdle old
 
   placed_asked : (commands : List Signal) → AsksOf s.device commands → IsAskedBy (state_at old) (Read id) commands
   placed_asked commands asks =
-      let P : Kept → Type 0 = λ k. IsAsked k.how k.size k.store commands in
+      let P : Kept → Type 0 = λ k. IsAsked k.fixed.how k.fixed.size k.store commands in
       subst (λ o. IfPlaced (λ d. AsksOf d commands) (commands ≡ []) o) (sym selected_with.found) (subst P (sym selected_with.same) asks)
 
   -- reading was cut off
@@ -292,7 +309,7 @@ module _ (old mid new : Air Device) (id : DeviceId) (place : ℕ) (read : Result
   placed_tells : ShowsOf s.device read → PlacedTells answer
   placed_tells shows =
       let tells : TellsOf s.device answer = shows_tells (how_of s.device) (size_of s.device) (device_store s.device) read answer told shows in
-      let P : Kept → Type 0 = λ k. Tells k.how k.size k.store answer in
+      let P : Kept → Type 0 = λ k. Tells k.fixed.how k.fixed.size k.store answer in
       subst (λ o. OfPlaced (λ d. TellsOf d answer) o) (sym with_id.found) (subst P (sym with_id.same) tells)
 
   -- what is known of both parts
@@ -311,6 +328,11 @@ module _ (old mid new : Air Device) (id : DeviceId) (place : ℕ) (read : Result
     lost = lost_behind answer s.selects.asked.going.events r.asked.going.events
         (λ some. let is : ◌≡◌ {A = Result SeenKind PollFault} (Ok (seen_of s.device)) (Err faults.FieldLost) = s.selects.lost.1 some in cc)
         (lost_told read answer told (breaks r.asked.going.events) r.lost);
+    noisy = λ six.
+        let rest : 0 < noise r.asked.going.events = r.noisy (six_told read answer told six) in
+        let sum : noise (s.selects.asked.going.events ++ r.asked.going.events) ≡ noise s.selects.asked.going.events + noise r.asked.going.events =
+        noise_append s.selects.asked.going.events r.asked.going.events in
+        omega (arith, sum, rest);
   }
 
   pub read_obeyed : Obeyed old new (Read id) answer
@@ -321,7 +343,7 @@ module _ (old mid new : Air Device) (id : DeviceId) (place : ℕ) (read : Result
       both id (seen_of s.device) r.commands (moment old) (moment mid) (moment new) hs ks s.selects.told s.selects.asked.going r.asked.going in
       let world : (moment new).world ≡ replay air (moment old).world (s.selects.asked.going.events ++ r.asked.going.events) = ap (λ (t : Moment (World Device)). t.world) g.moment in
       let same : map kept new.listeners ≡ map kept old.listeners = r.asked.same ∙ s.selects.asked.same in
-      asks_obeyed old new (Read id) r.commands (hs ++ ks) answer idle tt refl g (then_tag id (seen_of s.device) r.commands hs ks s.selects.told ∙ r.asked.over) (placed_asked old mid id place idle s r.commands r.asks)
+      asks_obeyed NoStore old new (Read id) r.commands (hs ++ ks) answer idle tt refl g (then_tag id (seen_of s.device) r.commands hs ks s.selects.told ∙ r.asked.over) (placed_asked old mid id place idle s r.commands r.asks)
       (record { tells = read_tells; stays = stores_stay old new (s.selects.asked.going.events ++ r.asked.going.events) world same }) same
 
 -- A command that was cut off: nothing was done ...
@@ -329,7 +351,7 @@ pub untouched : (old new : Air Device) (c : Command) → IsIdle old → new ≡ 
 untouched old new c idle same = inl (ap (λ (a : Air Device). a.trace) same ∙ idle.quiet, ap state_at same)
 
 -- ... or so much was asked, in a search, in selecting a tag, and in reading it.
-pub search_cut : (old new : Air Device) → IsIdle old → AskedPart (λ ns. asks (finding_all ns)) (moment old) (moment new) → IsCutOff old new Find
+pub search_cut : (old new : Air Device) → IsIdle old → AskedPart NoStore (λ ns. asks (finding_all ns)) (moment old) (moment new) → IsCutOff old new Find
 search_cut old new idle part = inr (asks_for [], front_of old new Find [] part.notes idle tt refl part.going refl)
 
 pub selection_cut : (old new : Air Device) (id : DeviceId) → IsIdle old → SelectionCut id (moment old) (moment new) → IsCutOff old new (Read id)
@@ -338,7 +360,7 @@ selection_cut old new id idle part =
     inr (asks_for some.0, front_of old new (Read id) some.0 part.notes idle tt refl (polled_of id some.0 (moment old) (moment new) part.notes part.going) some.1)
 
 -- What was asked in a search, however it ended, and in a read.
-pub search_part : (old new : Moment (World Device)) (r : Result Everybody PollFault) → SearchesField old new r → SearchCut old new r → AskedPart (λ ns. asks (finding_all ns)) old new
+pub search_part : (old new : Moment (World Device)) (r : Result Everybody PollFault) → SearchesField old new r → SearchCut old new r → AskedPart NoStore (λ ns. asks (finding_all ns)) old new
 search_part old new (Ok e) told cut = let a = (told (λ k. cc)).asked in record { notes = a.notes; going = a.going; same = a.same }
 search_part old new (Err faults.Nobody) told cut = let a = (told (λ k. cc)).asked in record { notes = a.notes; going = a.going; same = a.same }
 search_part old new (Err faults.Disturbed) told cut = let a = (told (λ k. cc)).asked in record { notes = a.notes; going = a.going; same = a.same }

@@ -10,3 +10,5 @@ pub mod Complete
 pub mod OneForm
 pub mod OneAnswer
 pub mod OneJournal
+pub mod Shapes
+pub mod Quiet

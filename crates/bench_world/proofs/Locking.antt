@@ -21,7 +21,8 @@ use Rattle.bench_world.specs.Legal.{IsPlaced, MayBeBusy, Accepts, IsAskedBy, Ans
 use Rattle.bench_devices.specs.Placed.{device_with, with_changed, OfPlaced}
 use Rattle.bench_world.specs.Obeying.{state_at, Obeyed}
 use Rattle.bench_devices.specs.Phases.{IsIdle}
-use Rattle.bench_devices.specs.Phases.{Kept, kept, IsSound, IsApart, AreSound, AreTame, IsTidy, AreTidy}
+use Rattle.bench_devices.specs.Keeping.{Kept, kept, IsSound, IsApart, AreSound, AreTame}
+use Rattle.bench_devices.specs.Phases.{IsTidy, AreTidy}
 use Rattle.bench_script.specs.DeviceIds.{bytes_of}
 use Rattle.bench_world.proofs.Placed.{still_obeyed}
 use Rattle.bench_world.proofs.Removing.{is_other}
@@ -70,7 +71,7 @@ module _ (change : Device → Device) (d : Device) (stays : StaysPlaced change d
 
   all_sound : (before : List Device) → AreSound (map kept (before ++ d ∷ behind)) → AreSound (map kept (before ++ change d ∷ behind))
   all_sound [] s =
-      let P : List ℕ → Type 0 = λ id. AllByRecursion (λ l. l.id ≡ id → ⊥) (map kept behind) in
+      let P : List ℕ → Type 0 = λ id. AllByRecursion (λ l. l.fixed.id ≡ id → ⊥) (map kept behind) in
       (stays.sound s.0, subst P (sym stays.same_id) s.1, s.2)
   all_sound (b ∷ before) s = (s.0, all_apart (kept b) before s.1, all_sound before s.2)
 

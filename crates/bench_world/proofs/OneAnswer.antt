@@ -63,7 +63,7 @@ same_some : (a b : Answer) → ◌≡◌ {A = Option Answer} (Some a) (Some b) �
 same_some a b e = cc
 
 -- what was told is one thing
-one_end : {X : Type 0} (r q : Result X PollFault) (ns ks : List Note) → Told r ns ≡ Told q ks → (r ≡ q) × (ns ≡ ks)
+pub one_end : {X : Type 0} (r q : Result X PollFault) (ns ks : List Note) → Told r ns ≡ Told q ks → (r ≡ q) × (ns ≡ ks)
 one_end r q ns ks e = (cc, cc)
 
 -- A command of a tag has one answer, where what it tells of a device is one thing.

@@ -17,7 +17,8 @@ use Rattle.bench_world.specs.declared.entry.Answer.TheVariants.{Done}
 use Rattle.bench_devices.specs.Device.{device_id, new_t2, new_t4, new_t5}
 use Rattle.bench_world.specs.Legal.{State, Given, FrontOf, Accepts, IsAskedBy, IsFree, MayPlaceT2, MayPlaceT4, MayPlaceT5, AnswerLaw, with_device, changed, due, memory_of}
 use Rattle.bench_devices.specs.Device.{most_devices}
-use Rattle.bench_devices.specs.Phases.{Kept, kept, IsSound, IsApart, AreTame, IsTidy, AreTidy}
+use Rattle.bench_devices.specs.Keeping.{Kept, kept, IsSound, IsApart, AreTame}
+use Rattle.bench_devices.specs.Phases.{IsTidy, AreTidy}
 use Rattle.bench_world.specs.Obeying.{state_at, Obeyed}
 use Rattle.bench_devices.specs.Phases.{IsIdle}
 use Rattle.bench_world.proofs.Placing.{map-over, tame_more, tidy_more, none_named}

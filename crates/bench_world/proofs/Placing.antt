@@ -8,7 +8,8 @@ use Rattle.bench_devices.specs.declared.device.Device.{Device}
 use Rattle.bench_devices.specs.Device.{device_id}
 use Rattle.bench_devices.specs.Device.{most_devices}
 use Rattle.bench_devices.specs.Placed.{device_with}
-use Rattle.bench_devices.specs.Phases.{Kept, kept, IsSound, IsApart, AreSound, AreTame, IsTidy, AreTidy}
+use Rattle.bench_devices.specs.Keeping.{Kept, kept, IsSound, IsApart, AreSound, AreTame}
+use Rattle.bench_devices.specs.Phases.{IsTidy, AreTidy}
 
 pub map-over : {A B : Type 0} (f : A → B) (xs ys : List A) → map f (xs ++ ys) ≡ map f xs ++ map f ys
 map-over f [] ys = refl
@@ -52,12 +53,12 @@ pub record IsWith (ls : List Device) (id : List ℕ) (k : Kept) : Type 0 where
   pub found : device_with id ls ≡ Some device
   pub same : kept device ≡ k
 
-pub is_with : (ls : List Device) (before : List Kept) (k : Kept) (behind : List Kept) (id : List ℕ) → AreSound (map kept ls) → map kept ls ≡ before ++ k ∷ behind → k.id ≡ id → IsWith ls id k
+pub is_with : (ls : List Device) (before : List Kept) (k : Kept) (behind : List Kept) (id : List ℕ) → AreSound (map kept ls) → map kept ls ≡ before ++ k ∷ behind → k.fixed.id ≡ id → IsWith ls id k
 is_with [] [] k behind id sound split named = absurd cc
 is_with [] (b ∷ before) k behind id sound split named = absurd cc
 is_with (d ∷ ls) [] k behind id sound split named =
     let same : kept d ≡ k = ap first split in
-    let own : device_id d ≡ id = ap (λ (x : Kept). x.id) same ∙ named in
+    let own : device_id d ≡ id = ap (λ (x : Kept). x.fixed.id) same ∙ named in
     record { device = d; found = ap (λ v. if v then Some d else device_with id ls) (ap (λ x. pointwise nat_eq x id) own ∙ pointwise_self id); same = same }
   where
     first : List Kept → Kept

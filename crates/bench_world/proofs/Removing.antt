@@ -14,7 +14,8 @@ use Rattle.bench_world.specs.Legal.{IsPlaced}
 use Rattle.bench_devices.specs.Placed.{without}
 use Rattle.bench_world.specs.Obeying.{state_at, Obeyed}
 use Rattle.bench_devices.specs.Phases.{IsIdle}
-use Rattle.bench_devices.specs.Phases.{Kept, kept, IsApart, AreSound, AreTame, AreTidy}
+use Rattle.bench_devices.specs.Keeping.{Kept, kept, IsApart, AreSound, AreTame}
+use Rattle.bench_devices.specs.Phases.{AreTidy}
 use Rattle.bench_script.specs.DeviceIds.{bytes_of}
 use Rattle.bench_world.proofs.Placed.{still_obeyed}
 

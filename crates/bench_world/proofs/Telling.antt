@@ -195,6 +195,25 @@ lost_told r answer told n lost = (
   λ some. told_once answer answers.FieldLost (sym told ∙ ap told_by (lost.1 some)),
 )
 
+-- likewise of six bad receptions
+six_only : (r : Result Found ReadFault) → told_by r ≡ Some answers.SixBad → r ≡ Err reading.SixBad
+six_only (Ok found) e = absurd cc
+six_only (Err reading.NotNdef) e = absurd cc
+six_only (Err reading.Version) e = absurd cc
+six_only (Err reading.NoRead) e = absurd cc
+six_only (Err reading.Sectors) e = absurd cc
+six_only (Err reading.BadSize) e = absurd cc
+six_only (Err reading.NoMessageTlv) e = absurd cc
+six_only (Err reading.BadTlv) e = absurd cc
+six_only (Err (reading.Refused code)) e = absurd cc
+six_only (Err reading.FieldLost) e = absurd cc
+six_only (Err reading.SixBad) e = refl
+six_only (Err reading.Memory) e = absurd cc
+six_only (Err reading.Protocol) e = absurd cc
+
+pub six_told : (r : Result Found ReadFault) (answer : Answer) → told_by r ≡ Some answer → answer ≡ answers.SixBad → r ≡ Err reading.SixBad
+six_told r answer told is = six_only r (told ∙ ap Some is)
+
 -- How a search ended, and the answer that tells it.
 module _ (r : Result Everybody PollFault) (answer : Answer) (told : TellsFound r answer) where
   told_end : (end : Result Everybody PollFault) → r ≡ end → TellsFound end answer

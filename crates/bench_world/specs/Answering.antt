@@ -1,7 +1,7 @@
 -- What a command answers that polls, and the cause of each answer.
 use Rattle.std.specs.Prelude.{◌≡◌, ◌↔◌, ◌<◌, List, Option, Some, None, IsSome, ◌⊎◌, Result, Ok, Err}
 use Rattle.nfc_base.specs.Signal.{Signal}
-use Rattle.nfc_base.specs.Trace.{breaks}
+use Rattle.nfc_base.specs.Trace.{noise, breaks}
 use Rattle.nfc_base.specs.declared.event.Event.{Event}
 use Rattle.nfc_base.specs.declared.tag_link.AskFault.{AskFault}
 use Rattle.nfc_base.specs.declared.tag_link.AskFault.TheVariants as asking
@@ -68,7 +68,7 @@ TagEnds Tells id ds asked (Ok kind) behind answer =
 TagEnds Tells id ds asked (Err e) behind answer = poll_answer e ≡ Some answer
 
 -- The law of a command of a tag, over the devices that are placed: first it selects, then it asks what it asks of the tag. The
--- field is lost exactly where a Break was used.
+-- field is lost exactly where a Break was used, and without noise no wait has six bad receptions.
 pub record TagTells (Tells : Device → Answer → Type 0) (id : DeviceId) (ds : List Device) (asked : List Signal) (events : List Event) (answer : Answer) : Type 0 where
   pub polled : Result SeenKind PollFault
   pub behind : List Note
@@ -76,6 +76,7 @@ pub record TagTells (Tells : Device → Answer → Type 0) (id : DeviceId) (ds :
   pub cause : HasPollCause id ds polled events
   pub ends : TagEnds Tells id ds asked polled behind answer
   pub lost : (answer ≡ answers.FieldLost) ↔ (0 < breaks events)
+  pub noisy : answer ≡ answers.SixBad → 0 < noise events
 
 -- What a search answers, by what it has come to. The other faults never end one on the bench.
 abbrev pub TellsFound : Result Everybody PollFault → Answer → Type 0

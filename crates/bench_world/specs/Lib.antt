@@ -4,6 +4,8 @@ pub mod Answering
 pub mod Legal
 pub mod Obeying
 pub mod Completing
+pub mod Quiet
 pub mod Journal
+pub mod Taking
 pub mod SameCommands
 pub mod Report

@@ -11,7 +11,8 @@ use Rattle.bench_devices.specs.declared.device.Device.{Device}
 use Rattle.bench_world.specs.declared.entry.Answer.{Answer}
 use Rattle.bench_world.specs.declared.entry.Entry.{Entry}
 use Rattle.bench_world.specs.Legal.{State, Given, Accepts, AnswerLaw, FrontOf, LegalStep, CutOff, due, first_state}
-use Rattle.bench_devices.specs.Phases.{AreTame, AreTidy, kept}
+use Rattle.bench_devices.specs.Keeping.{AreTame, kept}
+use Rattle.bench_devices.specs.Phases.{AreTidy}
 
 abbrev pub obey_fault_number : ObeyFault → ℕ
 obey_fault_number faults.Refused = 1

@@ -17,6 +17,7 @@ use bench_devices::{
     Device, PoweredTag, Selection, T2Upper, T4Upper, is_named, place_of, read, select, sweep_field,
 };
 use bench_script::{Command, DeviceId};
+use isodep_link::{LONGEST_EXTENSION, MOST_BUSY};
 use nfc_base::{Fate, Items};
 use nfca_poll::{Front, Ident};
 use std::alloc::{AllocError, Global};
@@ -46,11 +47,6 @@ impl ObeyFault {
 
 /// How many devices may stand in the field at once (this project's limit).
 const MOST_DEVICES: usize = 16;
-
-/// How often a device may ask for more time before an answer, and by which value.
-const MOST_BUSY: u8 = 5;
-
-const LONGEST_EXTENSION: u8 = 59;
 
 /// The memory of a new tag of so many bytes.
 fn memory(alloc: Global, size: usize, head: &[u8]) -> Result<Vec<u8>, AllocError>

@@ -2,6 +2,8 @@
 //! these laws.
 
 ghost use Rattle.bench_world.specs.Completing.{ReadsComplete, FindsComplete};
+ghost use Rattle.bench_world.specs.Quiet.{QuietStays, QuietReads, QuietFinds};
+ghost use Rattle.bench_world.specs.Taking.{LinesDecide};
 
 /// A legal read of a placed tag, without a Break, without a wait of six bad receptions and with one round (of a Type 5 tag one
 /// try) of polling without noise, tells what the tag's store holds.
@@ -12,4 +14,17 @@ pub fn reads_complete()
 /// A legal search, without a Break and with a round and a try without noise, lists the whole field.
 pub fn finds_complete()
     ensures { FindsComplete }
+{}
+
+/// Which lines of a script are taken is decided by the lines alone, not by what was sent.
+pub fn lines_decide()
+    ensures { LinesDecide }
+{}
+
+/// Where no fate is left but Pass, the air stays quiet, a read of a placed tag tells what its store holds, and a search lists
+/// the whole field.
+pub fn quiet_air()
+    ensures stays { QuietStays }
+    ensures reads { QuietReads }
+    ensures finds { QuietFinds }
 {}

@@ -4,7 +4,7 @@
 //! reading and searching came to, and `report` turns an entry to text. `specs/Legal.antt` says which entries a bench may
 //! have, `specs/Journal.antt` which journals the lines of a script may have, `specs/Answering.antt` and
 //! `specs/Reading.antt` what each answer tells, `specs/Report.antt` how it is written; `law` says when noise keeps no command
-//! from its answer.
+//! from its answer, and that the lines of a script alone decide which of them are taken.
 #![tactic(auto)]
 
 mod answering;
@@ -16,5 +16,5 @@ mod report;
 pub use bench::{Bench, ObeyFault};
 pub use bench_devices::{Device, SeenKind};
 pub use entry::{Answer, Entry, Seen};
-pub use law::{finds_complete, reads_complete};
+pub use law::{finds_complete, lines_decide, quiet_air, reads_complete};
 pub use report::render;

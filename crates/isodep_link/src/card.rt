@@ -10,6 +10,9 @@ use arrayvec::ArrayVec;
 use nfc_base::Frame;
 use std::marker::Model;
 
+/// How often a card may ask for more time before an answer.
+pub const MOST_BUSY: u8 = 5;
+
 /// What a card does at a frame.
 #[derive(Debug, Drop)]
 pub enum CardStep {

@@ -13,10 +13,11 @@ use std::marker::Model;
 /// The most bad receptions of a wait that goes on.
 const MOST_BADS: u8 = 5;
 
-/// The most time extensions that are granted in a wait, and the longest of one (the number is this project's own).
+/// The most time extensions that are granted in a wait (this project's own number).
 const MOST_EXTENSIONS: u8 = 16;
 
-const LONGEST_EXTENSION: u8 = 59;
+/// The longest time extension of all.
+pub const LONGEST_EXTENSION: u8 = 59;
 
 /// What a reader does at a reception.
 #[derive(Debug, Drop)]

@@ -15,6 +15,9 @@ use Rattle.nfc_bench.specs.declared.top.lines.Stop.TheVariants.{Refused, ReadFau
 use Rattle.nfc_io.specs.Lines.{lines_of}
 use Rattle.bench_script.specs.Limits.{most_lines, longest_line}
 use Rattle.bench_world.specs.Report.{report_text}
+use Rattle.bench_world.specs.Legal.{first_state}
+use Rattle.bench_world.specs.Taking.{AreSpelled}
+use Rattle.bench_world.proofs.Shapes.{taken_at}
 use Rattle.nfc_bench.specs.Run.{FrontIsObeyed, FirstRefused, AllTaken, RefusesLine, ObeysFront, AddsFault, line_fault, read_fault, EndsRefused, EndsUnread, EndsUnwritten}
 use Rattle.nfc_bench.specs.Stops.{ReadingEnds, MayFollow, TextRefused, TextUnread, TextUnwritten, TextLost, TextStops, RunRefused, RunUnread, RunLost, RunStops}
 use Rattle.nfc_bench.proofs.Limits.{all_at, IsShort}
@@ -130,19 +133,21 @@ ends_unread quiet left left' t t1 t2 r r' w w1 w2 j s count added =
     record { risen = s.risen; lines = s.lines; written = fault_behind t t1 t2 w w1 w2 (report_text quiet j) read_fault s.written count added }
 
 -- where every line is taken, none is the first that is refused
-pub none_refused : (lines : List (List ℕ)) (j : List Entry) (n : ℕ) → AllTaken lines j → FirstRefused lines j n → ⊥
+pub none_refused : (lines : List (List ℕ)) (j : List Entry) (n : ℕ) → AllTaken lines → FirstRefused lines j n → ⊥
 none_refused lines j n all f =
     let number : n ≡ 1 + length f.before = f.number in
     let few : length lines ≤ most_lines = all.limits.few in
     let size : length lines ≡ length f.before + length (f.line ∷ f.after) = ap length f.parts ∙ length-append f.before (f.line ∷ f.after) in
     let A : List (List ℕ) → Type 0 = λ ls. All IsShort ls in
     let short : length f.line ≤ longest_line = all_at f.before f.after f.line (subst A f.parts all.limits.short) in
+    let spelled : AreSpelled (f.before ++ f.line ∷ f.after) all.commands = subst (λ ls. AreSpelled ls all.commands) f.parts all.taken.spelled in
     elim f.refused [
       | inl many ↦ omega arith
-      | inr why ↦ (elim why [ inl long ↦ omega arith | inr nothing ↦ nothing (all.taken f.before f.line f.after f.parts f.obeyed.legal) ])
+      | inr why ↦ (
+          elim why [ inl long ↦ omega arith | inr nothing ↦ nothing (taken_at first_state f.before f.line f.after all.commands f.commands spelled all.taken.accepted f.taken.spelled) ])
     ]
 
-pub taken_not_refused : (left : Option (List ℕ)) (bytes : List ℕ) (j : List Entry) (n : ℕ) → left ≡ Some bytes → AllTaken (lines_of bytes) j → RefusesLine left j n → ⊥
+pub taken_not_refused : (left : Option (List ℕ)) (bytes : List ℕ) (j : List Entry) (n : ℕ) → left ≡ Some bytes → AllTaken (lines_of bytes) → RefusesLine left j n → ⊥
 taken_not_refused left bytes j n is all s =
     let P : Option (List ℕ) → Type 0 = λ o. IfSome o (λ b. s.input ≡ b) in
     let F : List ℕ → Type 0 = λ x. FirstRefused (lines_of x) j n in

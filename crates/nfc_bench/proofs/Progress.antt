@@ -18,11 +18,13 @@ use Rattle.bench_world.specs.Obeying.{Benched, new_bench}
 use Rattle.std.specs.Prelude.{Result, Ok, Err, OnOk, IfErr}
 use Rattle.bench_script.specs.Limits.{most_lines, longest_line, AreWithinLimits}
 use Rattle.bench_world.specs.Report.{entry_text}
-use Rattle.nfc_bench.specs.Run.{AreObeyed, FrontIsObeyed, IsTaken, Leaves}
+use Rattle.nfc_bench.specs.Run.{AreObeyed, FrontIsObeyed, Leaves}
 use Rattle.nfc_bench.specs.Stops.{Parted, ReadIs, RestIs, IsUnfinished, IsTooMuch, AreLeft, MayFollow, Follows, LineDone, LineRefused, LineCut, LineLost, LineStops, ObeyedBy, LeavesUnless, Progress, TextDone, TextRefused, TextUnread, TextUnwritten, TextLost, TextStops}
 use Rattle.nfc_io.proofs.Lines.{lines_front, whole_front, whole_last, lines_last, lines_longer, some_line, GoesOn}
 use Rattle.nfc_bench.proofs.Limits.{limits_more, no_limits, all_by_recursion, length_sizes, not_full}
 use Rattle.bench_world.proofs.OneJournal.{one_legal}
+use Rattle.bench_world.specs.Taking.{IsTaken, standing_of}
+use Rattle.bench_world.proofs.Shapes.{TakenAlike, legal_taken, taken_too}
 use Rattle.nfc_bench.proofs.Journals.{legal_more, legal_none, written_more, written_none}
 
 -- a legal journal of some lines is the only one of them
@@ -183,6 +185,13 @@ next_line rest more some (b ∷ front) behind parts none =
     let P : List ℕ → Type 0 = λ x. GoesOn (b ∷ front) (lines_of x) in
     subst P (sym (ap (λ x. x ++ more) parts ∙ append_assoc (b ∷ front) behind more)) (lines_longer (b ∷ front) (behind ++ more) none (omega arith))
 
+-- The lines that were obeyed are taken, and what is taken behind them is taken by the machines.
+abbrev done_taken : (done : List (List ℕ)) (b : Benched) → ObeyedBy done b → TakenAlike done b.state
+done_taken done b o = legal_taken done b.journal b.state (leads_to done b o)
+
+taken_there : (done : List (List ℕ)) (b : Benched) (o : ObeyedBy done b) (line : List ℕ) → IsTaken (standing_of (done_taken done b o).commands) line → IsTaken b.state line
+taken_there done b o line is = taken_too (standing_of (done_taken done b o).commands) b.state line (done_taken done b o).alike is
+
 -- a line is refused for its number or its length
 pub refused_by_size : (quiet : Bool) (text rest : List ℕ) (ending : Ending) (j : Benched) (n : ℕ) (t t' : Option (List ℕ)) (lines : ℕ)
     → Progress quiet text rest j n t t' → n ≡ 1 + lines → IsTooMuch lines rest → TextRefused quiet text ending j.journal n t t'
@@ -195,6 +204,8 @@ refused_by_size quiet text rest ending j n t t' lines p at much = elim much.why 
           line = next.line;
           after = next.rest;
           parts = p.lines more ∙ ap (λ x. p.done ++ x) next.parts;
+          commands = (done_taken p.done j p.obeyed).commands;
+          taken = (done_taken p.done j p.obeyed).taken;
           obeyed = p.obeyed.obeyed;
           number = p.number;
           refused = inl (omega arith);
@@ -211,6 +222,8 @@ refused_by_size quiet text rest ending j n t t' lines p at much = elim much.why 
           line = next.line;
           after = next.rest;
           parts = p.lines more ∙ ap (λ x. p.done ++ x) next.parts;
+          commands = (done_taken p.done j p.obeyed).commands;
+          taken = (done_taken p.done j p.obeyed).taken;
           obeyed = p.obeyed.obeyed;
           number = p.number;
           refused = inr (inl (omega arith));
@@ -256,9 +269,11 @@ refused_line quiet text rest first ending j new n m t t1 t2 p next s =
             line = first;
             after = at.0;
             parts = p.lines more ∙ ap (λ x. p.done ++ x) at.1;
+            commands = (done_taken p.done j p.obeyed).commands;
+            taken = (done_taken p.done j p.obeyed).taken;
             obeyed = p.obeyed.obeyed;
             number = s.number ∙ p.number;
-            refused = inr (inr (subst (λ x. IsTaken x first → ⊥) (sym p.obeyed.machines) s.refused));
+            refused = inr (inr (λ is. s.refused (taken_there p.done j p.obeyed first is)));
           };
       written = s.same ∙ p.written;
     } in

@@ -1,5 +1,5 @@
 -- What a run does, by the status that it ends with.
-use Rattle.std.specs.Prelude.{◌≡◌, ℕ, ◌+◌, ◌<◌, ◌≤◌, ◌⊎◌, List, [], ◌∷◌, ◌++◌, length, codes, Bool, true, false, Option, Some, IfSome}
+use Rattle.std.specs.Prelude.{◌≡◌, ◌↔◌, ℕ, ◌+◌, ◌<◌, ◌≤◌, ◌⊎◌, List, [], ◌∷◌, ◌++◌, length, codes, Bool, true, false, Option, Some, IfSome}
 use Rattle.std.specs.Fmt.{decimal}
 use Rattle.nfc_io.specs.declared.source.Source as sources
 use Rattle.nfc_io.specs.declared.sink.Sink as sinks
@@ -7,13 +7,15 @@ use Rattle.nfc_io.specs.Counts.{HasRisen}
 use Rattle.nfc_io.specs.Moves.{with_front, with_end, GainsFront}
 use Rattle.bench_script.specs.declared.command.Command.{Command}
 use Rattle.bench_world.specs.declared.entry.Entry.{Entry}
-use Rattle.bench_script.specs.Script.{Spells}
 use Rattle.nfc_io.specs.Lines.{lines_of, whole_lines}
 use Rattle.bench_script.specs.Limits.{most_lines, longest_line, AreWithinLimits}
-use Rattle.nfc_bench.specs.Limits.{chunk_size}
-use Rattle.bench_world.specs.Legal.{State, Given, Accepts, EachLegal, first_state}
+use Rattle.nfc_bench.specs.Limits.{chunk_size, most_read}
+use Rattle.nfc_bench.specs.declared.top.program.WordsFault.{WordsFault}
+use Rattle.nfc_bench.specs.declared.top.program.WordsFault.TheVariants.{Memory, NoText}
+use Rattle.bench_world.specs.Legal.{State, Given, EachLegal, first_state}
 use Rattle.bench_world.specs.Obeying.{Benched}
 use Rattle.bench_world.specs.Journal.{Legal}
+use Rattle.bench_world.specs.Taking.{IsTaken, AreTaken, standing_of}
 use Rattle.bench_world.specs.Report.{entry_text, report_text}
 
 -- the forms of words: a run, which reports answers alone or events too
@@ -68,28 +70,28 @@ pub record Leaves (b : Benched) : Type 0 where
   pub steps : EachLegal first_state given b.journal b.state
   pub sound : b.spoiled ≡ false
 
--- in this state, a line spells a command that is accepted
-abbrev pub IsTaken : State → List ℕ → Type 0
-IsTaken s line = (c : Command) × Spells line c × Accepts s c
-
--- Line n is refused in this state: for its number, for its length, or as it stands.
+-- Line n is refused behind what stands there: for its number, for its length, or as it stands.
 abbrev pub IsRefused : State → ℕ → List ℕ → Type 0
 IsRefused s n line = (most_lines < n) ⊎ ((longest_line < length line) ⊎ (IsTaken s line → ⊥))
 
--- Line n is the first of these lines that is refused. The lines before it were obeyed, and this is their journal.
+-- Line n is the first of these lines that is refused: those before it are taken, and it isn't behind what they spell. They were
+-- obeyed, and this is their journal.
 pub record FirstRefused (lines : List (List ℕ)) (journal : List Entry) (n : ℕ) : Type 0 where
   pub before : List (List ℕ)
   pub line : List ℕ
   pub after : List (List ℕ)
   pub parts : lines ≡ before ++ line ∷ after
+  pub commands : List Command
+  pub taken : AreTaken before commands
   pub obeyed : AreObeyed before journal
   pub number : n ≡ 1 + length before
-  pub refused : IsRefused obeyed.legal.0 n line
+  pub refused : IsRefused (standing_of commands) n line
 
--- The lines are within the limits, and where the lines before one of them have this journal, it is taken in the state behind that.
-pub record AllTaken (lines : List (List ℕ)) (journal : List Entry) : Type 0 where
+-- All lines are within the limits and taken.
+pub record AllTaken (lines : List (List ℕ)) : Type 0 where
   pub limits : AreWithinLimits lines
-  pub taken : (before : List (List ℕ)) (line : List ℕ) (after : List (List ℕ)) → lines ≡ before ++ line ∷ after → (legal : Legal before journal) → IsTaken legal.0 line
+  pub commands : List Command
+  pub taken : AreTaken lines commands
 
 -- Which lines count. There is an input; it is the source's, where the source tells its bytes.
 
@@ -177,7 +179,7 @@ WantsMemory (Run quiet) old new = EndsMemory quiet old.left old.taken new.taken 
 -- Where every line is taken and neither count rose, memory alone may be wanting.
 abbrev pub Completes : Form → Seen → Seen → ℕ → Type 0
 Completes (Run quiet) old new n =
-    (bytes : List ℕ) → old.left ≡ Some bytes → AllTaken (lines_of bytes) new.bench.journal → (HasRisen old.reads new.reads → ⊥)
+    (bytes : List ℕ) → old.left ≡ Some bytes → AllTaken (lines_of bytes) → (HasRisen old.reads new.reads → ⊥)
     → (HasRisen old.writes new.writes → ⊥) → (n ≡ 0) ⊎ (n ≡ 5)
 
 -- So much was read: some bytes in which no line is refused for its number or its length, and behind them at most those
@@ -194,3 +196,25 @@ pub record ReadsAtMost (most : ℕ) (left left' : Option (List ℕ)) : Type 0 wh
   pub bytes : List ℕ
   pub read : left ≡ with_front bytes left'
   pub size : length bytes ≤ most
+
+-- What a run did by its words: from what it saw at first to what it saw at last, by its status.
+pub record Ran (words : List (List ℕ)) (old new : Seen) (n : ℕ) : Type 0 where
+  pub status : (f : Form) → FormOf words f → HasStatus f n
+  pub done : (f : Form) → FormOf words f → n ≡ 0 → Done f old new
+  pub still : n ≡ 0 → (new.reads ≡ old.reads) × (new.writes ≡ old.writes)
+  pub refused : (f : Form) → FormOf words f → n ≡ 2 → RefusesOne f old new
+  pub unread : (f : Form) → FormOf words f → n ≡ 3 → FailsToRead f old new
+  pub unwritten : (f : Form) → FormOf words f → n ≡ 4 → FailsToWrite f old new
+  pub memory : (f : Form) → FormOf words f → n ≡ 5 → WantsMemory f old new
+  pub unknown : (n ≡ 6) ↔ ((f : Form) → FormOf words f → ⊥)
+  pub told : n ≡ 6 → AddsFault [] words_fault old.taken new.taken old.writes new.writes
+  pub complete : (f : Form) → FormOf words f → Completes f old new n
+  pub machines : (n ≡ 5 → ⊥) → Leaves new.bench
+  pub stop : ReadsInTime old.left new.left
+  pub bound : ReadsAtMost most_read old.left new.left
+  pub counts : (old.reads ≤ new.reads) × (old.writes ≤ new.writes)
+
+-- Where there are no words, nothing is read. For want of memory nothing is written either; a word that is no text is in no form.
+abbrev pub EndsWordless : WordsFault → Option (List ℕ) → Option (List ℕ) → ℕ → ℕ → ℕ → Type 0
+EndsWordless Memory taken taken' writes writes' n = (n ≡ 5) × (taken' ≡ taken) × (writes' ≡ writes)
+EndsWordless NoText taken taken' writes writes' n = (n ≡ 6) × AddsFault [] words_fault taken taken' writes writes'

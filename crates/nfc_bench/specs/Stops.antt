@@ -13,8 +13,9 @@ use Rattle.bench_script.specs.Limits.{most_lines, longest_line, AreWithinLimits}
 use Rattle.bench_world.specs.Legal.{Given, EachLegal}
 use Rattle.bench_world.specs.Obeying.{Benched}
 use Rattle.bench_world.specs.Journal.{Numbered}
+use Rattle.bench_world.specs.Taking.{IsTaken}
 use Rattle.bench_world.specs.Report.{entry_text, report_text}
-use Rattle.nfc_bench.specs.Run.{Leaves, IsTaken, AreObeyed, FrontIsObeyed, FirstRefused, ObeysFront, RefusesLine, ObeysWhole, EndsUnwritten}
+use Rattle.nfc_bench.specs.Run.{Leaves, AreObeyed, FrontIsObeyed, FirstRefused, ObeysFront, RefusesLine, ObeysWhole, EndsUnwritten}
 
 -- the words of a run, and whether a second one follows
 abbrev pub IsRun : List (List ℕ) → Type 0

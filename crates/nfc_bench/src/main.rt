@@ -3,34 +3,30 @@
 
 mod top;
 
-use bench_world::Bench;
-use nfc_io::{StdSink, StdSource, write_all};
+use nfc_io::{StdSink, StdSource};
+use std::alloc::Global;
 use std::env;
 use std::io::ErrorKind;
 use std::process::ExitCode;
-use top::run_bench;
+use top::program::{WordsFault, program};
 
-/// A run over standard input and output, by the words after the program's name. A word that isn't UTF-8 is in no form of
-/// words; where memory is wanting for the words, nothing is written.
+/// The words after the program's name.
+fn words(rt: &HostRuntime, alloc: Global) -> Result<Vec<String>, WordsFault> {
+    match env::args(rt) {
+        Ok(args) => match args.skip(1).collect(alloc) {
+            Ok(words) => Ok(words),
+            Err(_) => Err(WordsFault::Memory),
+        },
+        Err(e) if e.kind() == ErrorKind::InvalidData => Err(WordsFault::NoText),
+        Err(_) => Err(WordsFault::Memory),
+    }
+}
+
+/// A run over standard input and output.
 fn main(rt: HostRuntime) -> ExitCode {
     let alloc = rt.alloc();
+    let words = words(&rt, alloc);
     let mut source = StdSource::new(rt.stdin());
     let mut sink = StdSink::new(rt.stdout());
-    let mut words = Vec::new(alloc);
-    match env::args(&rt) {
-        Ok(args) => {
-            for word in args.skip(1) {
-                if words.push(word).is_err() {
-                    return ExitCode::from(5);
-                }
-            }
-        }
-        Err(e) if e.kind() == ErrorKind::InvalidData => {
-            let _ = write_all(&mut sink, b"fault 6 words\n");
-            return ExitCode::from(6);
-        }
-        Err(_) => return ExitCode::from(5),
-    }
-    let mut bench = Bench::new(alloc);
-    ExitCode::from(run_bench(alloc, &words, &mut source, &mut sink, &mut bench))
+    ExitCode::from(program(alloc, words, &mut source, &mut sink))
 }

@@ -15,6 +15,7 @@ mod card_tests;
 mod crowd_tests;
 mod input;
 mod lines;
+pub mod program;
 #[cfg(test)]
 mod store_tests;
 #[cfg(test)]
@@ -106,7 +107,7 @@ fn run_form<S: Source, K: Sink>(
     ensures memory { result ≡ 5 → EndsMemory quiet (S.left source.old)
         (K.taken sink.old) (K.taken sink.new) (K.faults sink.old) (K.faults sink.new) bench.new.journal }
     ensures complete { (bytes : List ℕ) → S.left source.old ≡ Some bytes
-        → AllTaken (lines_of bytes) bench.new.journal → (HasRisen (S.faults source.old) (S.faults source.new) → ⊥)
+        → AllTaken (lines_of bytes) → (HasRisen (S.faults source.old) (S.faults source.new) → ⊥)
         → (HasRisen (K.faults sink.old) (K.faults sink.new) → ⊥) → (result ≡ 0) ⊎ (result ≡ 5) }
 
     ensures machines { (result ≡ 5 → ⊥) → Leaves bench.new }

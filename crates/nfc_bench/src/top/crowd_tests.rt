@@ -99,20 +99,25 @@ const LAST_BYTES: [&str; 16] = [
 ];
 
 #[test]
-fn a_full_field_in_crowd_order(rt: HostRuntime) -> Result<(), Fail> {
+fn a_full_field_in_crowd_order_ten_times(rt: HostRuntime) -> Result<(), Fail> {
     let alloc = rt.alloc();
     let mut script = String::new(alloc);
-    let mut wanted = String::from_str(alloc, "17 found 16")?;
+    let mut found = String::from_str(alloc, " found 16")?;
     for last in LAST_BYTES {
         script.push_str("place t2 010203")?;
         script.push_str(last)?;
         script.push_str(" 4 -\n")?;
-        wanted.push_str(" 010203")?;
-        wanted.push_str(last)?;
-        wanted.push_str(":t2")?;
+        found.push_str(" 010203")?;
+        found.push_str(last)?;
+        found.push_str(":t2")?;
     }
-    script.push_str("find")?;
-    wanted.push_str("\n")?;
+    let mut wanted = String::new(alloc);
+    for line in 17..27 {
+        script.push_str("find\n")?;
+        wanted.push_str(line.to_string(alloc)?.as_str())?;
+        wanted.push_str(found.as_str())?;
+        wanted.push_str("\n")?;
+    }
     let (status, written) = report(alloc, "run quiet", script.as_str())?;
     assert_eq!(rt; status, 0);
     assert!(rt; written.as_slice().ends_with(wanted.as_str().as_bytes()));

@@ -59,7 +59,7 @@ fn what_type_2_tags_hold(rt: HostRuntime) -> Result<(), Fail> {
 }
 
 /// What a script shows, its words, its lines, the status and the report.
-const SCRIPTS: [(&str, &str, &str, u8, &str); 13] = [
+const SCRIPTS: [(&str, &str, &str, u8, &str); 22] = [
     (
         "a lock control TLV that reserves bytes past the area",
         "run quiet",
@@ -160,6 +160,83 @@ place t2 01020304 16 000000000000000000000000E11006000301D2FE
 read 01020304",
         0,
         "1 ok\n2 message D1 writable\n3 ok\n4 ok\n5 message D2 writable\n",
+    ),
+    (
+        "every kind of line",
+        "run quiet",
+        "# a comment
+
+place t2 01020304 16 000000000000000000000000E11006000301D1FE
+place t4 04050607 5 000F20003B00340406E104000900FF 0003D00000
+place t5 E004010203040506 2 4 E14001000301D3FE
+lock 01020304 15
+busy 04050607 2 3
+fates PP
+find
+read 01020304
+read 04050607
+read E004010203040506
+dump 04050607
+remove E004010203040506
+find",
+        0,
+        "3 ok\n4 ok\n5 ok\n6 ok\n7 ok\n8 ok\n9 found 3 01020304:t2 04050607:t4 E004010203040506:t5\n10 message D1 writable\n11 message D00000 readonly\n12 message D3 writable\n13 store 0003D0000000000000\n14 ok\n15 found 2 01020304:t2 04050607:t4\n",
+    ),
+    (
+        "a block that a tag doesn't have isn't locked",
+        "run quiet",
+        "place t2 01020304 4 -\nlock 01020304 4",
+        2,
+        "1 ok\nfault 2 line 2\n",
+    ),
+    (
+        "a Type 4 tag has no block that is locked",
+        "run quiet",
+        "place t4 04050607 5 000F20003B00340406E104000900FF -\nlock 04050607 0",
+        2,
+        "1 ok\nfault 2 line 2\n",
+    ),
+    (
+        "a Type 2 tag asks for no time",
+        "run quiet",
+        "place t2 01020304 4 -\nbusy 01020304 1 1",
+        2,
+        "1 ok\nfault 2 line 2\n",
+    ),
+    (
+        "what isn't placed shows nothing",
+        "run quiet",
+        "dump 01020304",
+        2,
+        "fault 2 line 1\n",
+    ),
+    (
+        "what isn't placed isn't locked",
+        "run quiet",
+        "lock 01020304 0",
+        2,
+        "fault 2 line 1\n",
+    ),
+    (
+        "what isn't placed isn't busy",
+        "run quiet",
+        "busy 04050607 1 1",
+        2,
+        "fault 2 line 1\n",
+    ),
+    (
+        "a container that names no file of its own",
+        "run quiet",
+        "place t4 04050607 5 000F20003B00340406E103000900FF -",
+        2,
+        "fault 2 line 1\n",
+    ),
+    (
+        "more bytes than the file holds",
+        "run quiet",
+        "place t4 04050607 5 000F20003B00340406E104000200FF 000000",
+        2,
+        "fault 2 line 1\n",
     ),
     (
         "the others stay when one is taken away",

@@ -1,5 +1,6 @@
 //! Whole runs, over a source and a sink in memory.
 
+use super::program::{WordsFault, program};
 use super::*;
 use nfc_io::{Failed, MemSink, MemSource};
 use std::alloc::AllocError;
@@ -370,6 +371,24 @@ fn a_sink_that_fails_at_a_call(rt: HostRuntime) -> Result<(), Fail> {
         let status = run_bench(alloc, &words, &mut source, &mut sink, &mut bench);
         assert_eq!(rt; status, 4, "{call}");
         assert_eq!(rt; bench.journal().len(), call as usize, "{call}");
+    }
+    Ok(())
+}
+
+#[test]
+fn no_words(rt: HostRuntime) -> Result<(), Fail> {
+    let alloc = rt.alloc();
+    let ends = [
+        (WordsFault::NoText, 6, "fault 6 words\n"),
+        (WordsFault::Memory, 5, ""),
+    ];
+    for (fault, wanted, text) in ends {
+        let mut source = MemSource::new(Vec::from_slice(alloc, b"find")?, Vec::new(alloc));
+        let mut sink = MemSink::new(alloc, 1 << 8, Vec::new(alloc))?;
+        let status = program(alloc, Err(fault), &mut source, &mut sink);
+        assert_eq!(rt; status, wanted);
+        assert_eq!(rt; str::from_utf8(sink.content())?, text);
+        assert_eq!(rt; source.read(&mut [0; 8])?, 4);
     }
     Ok(())
 }

@@ -14,7 +14,7 @@ pub returns-clause-tells : goal.returns-clause-tells
 returns-clause-tells c =
     let tag = new_is_tag (seen_plain c.args.link.now) c.requires.fresh c.args.how c.requires.tag in
     ends_read (seen_plain c.args.link.now) c.requires.fresh c.args.how c.requires.tag (seen_plain c.read.new.link) c.read.ensures.moves c.read.result (c.read.ensures.asked tag.0 tag.1)
-    (c.read.ensures.whole tag.0 tag.1) (c.read.ensures.goes_on tag.0 tag.1) (c.read.ensures.ok tag.0 tag.1) (c.read.ensures.err tag.0 tag.1)
+    (c.read.ensures.whole tag.0 tag.1) (c.read.ensures.goes_on tag.0 tag.1) (c.read.ensures.ok tag.0 tag.1) (c.read.ensures.err tag.0 tag.1) (c.read.ensures.calm tag.0 tag.1)
 
 pub returns-clause-cut : goal.returns-clause-cut
 returns-clause-cut c =

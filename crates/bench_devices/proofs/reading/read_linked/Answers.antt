@@ -16,7 +16,7 @@ returns-clause-tells c fed d linked =
     let tag = new_tag (seen_link c.args.link.now) c.requires.fresh d linked in
     ends_read (seen_link c.args.link.now) c.requires.fresh d linked (seen_link c.read.new.link) c.read.ensures.moves c.read.result (c.read.ensures.stays (size_of d) tag).store
     (c.read.ensures.asked (size_of d) tag) (c.read.ensures.whole (size_of d) tag) (c.read.ensures.goes_on (size_of d) tag) (c.read.ensures.ok (size_of d) tag)
-    (c.read.ensures.err (size_of d) tag) fed
+    (c.read.ensures.err (size_of d) tag) (c.read.ensures.calm (size_of d) tag) fed
 
 pub returns-clause-cut : goal.returns-clause-cut
 returns-clause-cut c starved d linked =

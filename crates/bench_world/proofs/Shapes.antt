@@ -1,0 +1,255 @@
+-- What the conditions of a command ask of the devices that are placed: how many there are, their identifiers and blocks, and which
+-- may ask for more time. No event changes any of it, so lines are taken by what the lines before them say.
+use Rattle.std.proofs.Common.{◌≡◌, ℕ, ◌+◌, ◌/◌, ◌<◌, List, [], ◌∷◌, ◌++◌, map, length, Bool, true, false, nat_eq, if◌then◌else◌, Option, Some, None, IsSome, refl, sym, ◌∙◌, ap, subst, arith}
+use Rattle.std.proofs.lemmas.List.{map-append, length-map}
+use Rattle.std.specs.Cmp.Lexicographic.{pointwise}
+use Rattle.nfc_base.specs.declared.event.Event.{Event}
+use Rattle.air_core.specs.Conversation.{replay}
+use Rattle.tag_reader.specs.declared.how.How.{How}
+use Rattle.tag_reader.specs.declared.how.How.TheVariants as hows
+use Rattle.t4t_tag.specs.Store.{file_size}
+use Rattle.bench_script.specs.declared.command.Command.{Command}
+use Rattle.bench_script.specs.declared.command.Command.TheVariants.{Skip, Fates, PlaceT2, PlaceT4, PlaceT5, Lock, Busy, Remove, Dump, Find, Read}
+use Rattle.bench_script.specs.DeviceIds.{bytes_of}
+use Rattle.bench_script.specs.Script.{Spells, is_skipped}
+use Rattle.bench_script.proofs.Spelling.{spells_one}
+use Rattle.bench_devices.specs.declared.device.Device.{Device}
+use Rattle.bench_devices.specs.declared.device.Device.TheVariants.{T2, T4, T5}
+use Rattle.bench_devices.specs.Device.{BenchWorld, air, most_devices, device_id, device_store, blocks_of, may_be_busy, device_locked, device_busy}
+use Rattle.bench_devices.specs.Keeping.{Fixed, fixed, AllStayDevices}
+use Rattle.bench_devices.specs.Placed.{device_with, without, with_changed, OfPlaced}
+use Rattle.bench_devices.proofs.EveryFrame.{devices_stay}
+use Rattle.bench_world.specs.declared.entry.Entry.{Entry}
+use Rattle.bench_world.specs.Journal.{NumberedLine, AreEntriesOf, asking_lines, Numbered, LeadsTo}
+use Rattle.bench_world.specs.Legal.{State, Given, Accepts, IsFree, MayPlaceT2, MayPlaceT4, MayPlaceT5, MayBeBusy, LegalStep, EachLegal, changed, state_after, first_state}
+use Rattle.bench_world.specs.Taking.{IsTaken, AreSpelled, AreAccepted, AreTaken, LinesDecide, standing_from, standing_of}
+
+-- what the conditions ask of a device
+pub record Shape : Type 0 where
+  pub id : List ℕ
+  pub blocks : ℕ
+  pub busy : Bool
+
+abbrev pub shape : Device → Shape
+shape d = record { id = device_id d; blocks = blocks_of d; busy = may_be_busy d }
+
+-- States whose devices are of the same shapes, in the same order.
+abbrev pub AreAlike : State → State → Type 0
+AreAlike s t = map shape s.world.listeners ≡ map shape t.world.listeners
+
+-- It is a function of what no event changes.
+blocks_by : How → ℕ → ℕ → ℕ
+blocks_by hows.T2 size long = long / 4
+blocks_by hows.T4 size long = 0
+blocks_by (hows.T5 id) size long = long / size
+
+busy_by : How → Bool
+busy_by hows.T2 = false
+busy_by hows.T4 = true
+busy_by (hows.T5 id) = false
+
+shape_by : Fixed → ℕ → Shape
+shape_by x long = record { id = x.id; blocks = blocks_by x.how x.size long; busy = busy_by x.how }
+
+shape_is : (d : Device) → shape d ≡ shape_by (fixed d) (length (device_store d))
+unfolding shape_by blocks_by busy_by
+shape_is (T2 d) = refl
+shape_is (T4 d) = refl
+shape_is (T5 p) = refl
+
+stay_alike : (ds es : List Device) → AllStayDevices ds es → map shape es ≡ map shape ds
+stay_alike [] [] p = refl
+stay_alike [] (e ∷ es) p = absurd p
+stay_alike (d ∷ ds) [] p = absurd p
+stay_alike (d ∷ ds) (e ∷ es) p =
+    let same : shape e ≡ shape d =
+    shape_is e ∙ ap (λ x. shape_by x (length (device_store e))) p.0.fixed ∙ ap (shape_by (fixed d)) p.0.long ∙ sym (shape_is d) in
+    ap (λ x. x ∷ map shape es) same ∙ ap (λ xs. shape d ∷ xs) (stay_alike ds es p.1)
+
+-- no event changes any of it
+pub events_alike : (w : BenchWorld) (es : List Event) → map shape (replay air w es).listeners ≡ map shape w.listeners
+events_alike w es = stay_alike w.listeners (replay air w es).listeners (devices_stay w es)
+
+-- The device with an identifier, by its shape.
+shape_if : Option Device → Option Shape
+shape_if None = None
+shape_if (Some d) = Some (shape d)
+
+shape_with : List ℕ → List Shape → Option Shape
+shape_with id [] = None
+shape_with id (x ∷ xs) = if pointwise nat_eq x.id id then Some x else shape_with id xs
+
+with_shape : (id : List ℕ) (ds : List Device) → shape_if (device_with id ds) ≡ shape_with id (map shape ds)
+unfolding shape_if shape_with
+with_shape id [] = refl
+with_shape id (d ∷ ds) = by_name (pointwise nat_eq (device_id d) id) (with_shape id ds)
+  where
+    by_name : (v : Bool) → shape_if (device_with id ds) ≡ shape_with id (map shape ds) → shape_if (if v then Some d else device_with id ds) ≡ (if v then Some (shape d) else shape_with id (map shape ds))
+    by_name true more = refl
+    by_name false more = more
+
+same_with : (id : List ℕ) (s t : State) → AreAlike s t → shape_if (device_with id s.world.listeners) ≡ shape_if (device_with id t.world.listeners)
+same_with id s t alike = with_shape id s.world.listeners ∙ ap (shape_with id) alike ∙ sym (with_shape id t.world.listeners)
+
+none_too : (o p : Option Device) → shape_if o ≡ shape_if p → o ≡ None → p ≡ None
+unfolding shape_if
+none_too None None e is = refl
+none_too None (Some d) e is = absurd cc
+none_too (Some d) p e is = absurd cc
+
+some_too : (o p : Option Device) → shape_if o ≡ shape_if p → IsSome o → IsSome p
+unfolding shape_if
+some_too None p e is = absurd cc
+some_too (Some d) None e is = absurd cc
+some_too (Some d) (Some c) e is = refl
+
+of_too : (P : Shape → Type 0) (o p : Option Device) → shape_if o ≡ shape_if p → OfPlaced (λ d. P (shape d)) o → OfPlaced (λ d. P (shape d)) p
+unfolding shape_if
+of_too P None p e is = absurd is
+of_too P (Some d) None e is = absurd cc
+of_too P (Some d) (Some c) e is = let same : shape d ≡ shape c = cc in subst P same is
+
+-- So a command is accepted in both states or in none.
+free_too : (s t : State) (id : List ℕ) → AreAlike s t → IsFree s id → IsFree t id
+free_too s t id alike free =
+    let a : length s.world.listeners ≡ length t.world.listeners = sym (length-map s.world.listeners shape) ∙ ap length alike ∙ length-map t.world.listeners shape in
+    record { room = subst (λ n. n < most_devices) a free.room; fresh = none_too (device_with id s.world.listeners) (device_with id t.world.listeners) (same_with id s t alike) free.fresh }
+
+pub accepts_too : (s t : State) (c : Command) → AreAlike s t → Accepts s c → Accepts t c
+accepts_too s t Skip alike is = tt
+accepts_too s t (Fates fates) alike is = tt
+accepts_too s t (PlaceT2 id blocks head) alike is = record { free = free_too s t id alike is.free; fits = is.fits; store = is.store }
+accepts_too s t (PlaceT4 id code container head) alike is = record { free = free_too s t id alike is.free; fits = is.fits; store = is.store }
+accepts_too s t (PlaceT5 id blocks size head) alike is = record { free = free_too s t id alike is.free; fits = is.fits; store = is.store }
+accepts_too s t (Lock id block) alike is =
+    of_too (λ x. block < x.blocks) (device_with (bytes_of id) s.world.listeners) (device_with (bytes_of id) t.world.listeners) (same_with (bytes_of id) s t alike) is
+accepts_too s t (Busy id count times) alike is = record {
+  device = of_too (λ x. x.busy ≡ true) (device_with (bytes_of id) s.world.listeners) (device_with (bytes_of id) t.world.listeners) (same_with (bytes_of id) s t alike) is.device;
+  few = is.few;
+  long = is.long;
+}
+accepts_too s t (Remove id) alike is = some_too (device_with (bytes_of id) s.world.listeners) (device_with (bytes_of id) t.world.listeners) (same_with (bytes_of id) s t alike) is
+accepts_too s t (Dump id) alike is = some_too (device_with (bytes_of id) s.world.listeners) (device_with (bytes_of id) t.world.listeners) (same_with (bytes_of id) s t alike) is
+accepts_too s t Find alike is = tt
+accepts_too s t (Read id) alike is = tt
+
+pub taken_too : (s t : State) (line : List ℕ) → AreAlike s t → IsTaken s line → IsTaken t line
+taken_too s t line alike is = (is.0, is.1, accepts_too s t is.0 alike is.2)
+
+-- What a command itself changes leaves both alike.
+placed_alike : (ds es : List Device) (d : Device) → map shape ds ≡ map shape es → map shape (ds ++ d ∷ []) ≡ map shape (es ++ d ∷ [])
+placed_alike ds es d alike = map-append shape ds (d ∷ []) ∙ ap (λ xs. xs ++ shape d ∷ []) alike ∙ sym (map-append shape es (d ∷ []))
+
+without_shape : List ℕ → List Shape → List Shape
+without_shape id [] = []
+without_shape id (x ∷ xs) = if pointwise nat_eq x.id id then xs else x ∷ without_shape id xs
+
+removed_shape : (id : List ℕ) (ds : List Device) → map shape (without id ds) ≡ without_shape id (map shape ds)
+unfolding without_shape
+removed_shape id [] = refl
+removed_shape id (d ∷ ds) = by_name (pointwise nat_eq (device_id d) id) (removed_shape id ds)
+  where
+    by_name : (v : Bool) → map shape (without id ds) ≡ without_shape id (map shape ds) → map shape (if v then ds else d ∷ without id ds) ≡ (if v then map shape ds else shape d ∷ without_shape id (map shape ds))
+    by_name true more = refl
+    by_name false more = ap (λ xs. shape d ∷ xs) more
+
+changed_shape : (g : Device → Device) → ((d : Device) → shape (g d) ≡ shape d) → (id : List ℕ) (ds : List Device) → map shape (with_changed g id ds) ≡ map shape ds
+changed_shape g same id [] = refl
+changed_shape g same id (d ∷ ds) = by_name (pointwise nat_eq (device_id d) id) (changed_shape g same id ds)
+  where
+    by_name : (v : Bool) → map shape (with_changed g id ds) ≡ map shape ds → map shape (if v then g d ∷ ds else d ∷ with_changed g id ds) ≡ map shape (d ∷ ds)
+    by_name true more = ap (λ x. x ∷ map shape ds) (same d)
+    by_name false more = ap (λ xs. shape d ∷ xs) more
+
+locked_shape : (block : ℕ) (d : Device) → shape (device_locked block d) ≡ shape d
+locked_shape block (T2 d) = refl
+locked_shape block (T4 d) = refl
+locked_shape block (T5 p) = refl
+
+busy_shape : (count times : ℕ) (d : Device) → shape (device_busy count times d) ≡ shape d
+busy_shape count times (T2 d) = refl
+busy_shape count times (T4 d) = refl
+busy_shape count times (T5 p) = refl
+
+changes_alike : (s t : State) (c : Command) → AreAlike s t → AreAlike (changed s c) (changed t c)
+changes_alike s t Skip alike = alike
+changes_alike s t (Fates fates) alike = alike
+changes_alike s t (PlaceT2 id blocks head) alike = placed_alike s.world.listeners t.world.listeners _ alike
+changes_alike s t (PlaceT4 id code container head) alike = placed_alike s.world.listeners t.world.listeners _ alike
+changes_alike s t (PlaceT5 id blocks size head) alike = placed_alike s.world.listeners t.world.listeners _ alike
+changes_alike s t (Lock id block) alike =
+    changed_shape (device_locked block) (locked_shape block) (bytes_of id) s.world.listeners ∙ alike ∙ sym (changed_shape (device_locked block) (locked_shape block) (bytes_of id) t.world.listeners)
+changes_alike s t (Busy id count times) alike =
+    changed_shape (device_busy count times) (busy_shape count times) (bytes_of id) s.world.listeners ∙ alike
+    ∙ sym (changed_shape (device_busy count times) (busy_shape count times) (bytes_of id) t.world.listeners)
+changes_alike s t (Remove id) alike =
+    removed_shape (bytes_of id) s.world.listeners ∙ ap (without_shape (bytes_of id)) alike ∙ sym (removed_shape (bytes_of id) t.world.listeners)
+changes_alike s t (Dump id) alike = alike
+changes_alike s t Find alike = alike
+changes_alike s t (Read id) alike = alike
+
+-- a step leads on alike, whatever was sent in it
+step_alike : (u s t : State) (c : Command) (es : List Event) → AreAlike u s → t ≡ state_after s c es → AreAlike (changed u c) t
+step_alike u s t c es alike after =
+    changes_alike u s c alike ∙ sym (events_alike (changed s c).world es) ∙ sym (ap (λ (x : State). map shape x.world.listeners) after)
+
+-- The lines of a legal journal are taken, and lead on alike.
+record LeadsAlike (lines : List (List ℕ)) (u t : State) : Type 0 where
+  pub commands : List Command
+  pub spelled : AreSpelled lines commands
+  pub accepted : AreAccepted u commands
+  pub alike : AreAlike (standing_from u commands) t
+
+lines_alike : (n : ℕ) (lines : List (List ℕ)) (u s t : State) (gs : List Given) (js : List Entry) → AreEntriesOf (asking_lines n lines) js → EachLegal s gs js t → AreAlike u s → LeadsAlike lines u t
+lines_alike n [] u s t [] [] of steps alike = record { commands = []; spelled = tt; accepted = tt; alike = alike ∙ ap (λ (x : State). map shape x.world.listeners) (sym steps) }
+lines_alike n [] u s t (g ∷ gs) [] of steps alike = absurd steps
+lines_alike n [] u s t gs (e ∷ js) of steps alike = absurd of
+lines_alike n (l ∷ ls) u s t gs js of steps alike =
+    by_skip (is_skipped l) refl of (λ p. lines_alike (n + 1) ls u s t gs js p steps alike)
+    (λ hs e ks mid g step p rest. lines_alike (n + 1) ls (changed u e.command) mid t hs ks p rest (step_alike u s mid e.command e.events alike step.front.after))
+  where
+    then_more : (c : Command) → Spells l c → Accepts u c → LeadsAlike ls (changed u c) t → LeadsAlike (l ∷ ls) u t
+    then_more c spelled accepted rest = record { commands = c ∷ rest.commands; spelled = (spelled, rest.spelled); accepted = (accepted, rest.accepted); alike = rest.alike }
+
+    by_entry : (hs : List Given) (ks : List Entry) → AreEntriesOf (record { number = n; text = l } ∷ asking_lines (n + 1) ls) ks → EachLegal s hs ks t
+        → ((is : List Given) (e : Entry) (xs : List Entry) (mid : State) (g : Given) → LegalStep s g e mid → AreEntriesOf (asking_lines (n + 1) ls) xs → EachLegal mid is xs t → LeadsAlike ls (changed u e.command) t)
+        → LeadsAlike (l ∷ ls) u t
+    by_entry hs [] p q on = absurd p
+    by_entry [] (e ∷ ks) p q on = absurd q
+    by_entry (h ∷ hs) (e ∷ ks) p q on = then_more e.command p.1 (accepts_too s u e.command (sym alike) q.1.front.accepted) (on hs e ks q.0 h q.1 p.2 q.2)
+
+    by_skip : (v : Bool) → is_skipped l ≡ v
+        → AreEntriesOf (if v then asking_lines (n + 1) ls else record { number = n; text = l } ∷ asking_lines (n + 1) ls) js
+        → (AreEntriesOf (asking_lines (n + 1) ls) js → LeadsAlike ls u t)
+        → ((is : List Given) (e : Entry) (xs : List Entry) (mid : State) (g : Given) → LegalStep s g e mid → AreEntriesOf (asking_lines (n + 1) ls) xs → EachLegal mid is xs t → LeadsAlike ls (changed u e.command) t)
+        → LeadsAlike (l ∷ ls) u t
+    by_skip true h p skip on = then_more Skip h tt (skip p)
+    by_skip false h p skip on = by_entry gs js p steps on
+
+pub record TakenAlike (lines : List (List ℕ)) (last : State) : Type 0 where
+  pub commands : List Command
+  pub taken : AreTaken lines commands
+  pub alike : AreAlike (standing_of commands) last
+
+pub legal_taken : (lines : List (List ℕ)) (journal : List Entry) (last : State) → LeadsTo lines journal last → TakenAlike lines last
+legal_taken lines journal last leads =
+    let it = lines_alike 1 lines first_state first_state last leads.given journal leads.numbered leads.steps refl in
+    record { commands = it.commands; taken = record { spelled = it.spelled; accepted = it.accepted }; alike = it.alike }
+
+-- A line among taken ones is taken behind those before it, whatever commands are said of them.
+pub taken_at : (s : State) (before : List (List ℕ)) (line : List ℕ) (after : List (List ℕ)) (cs ds : List Command) → AreSpelled (before ++ line ∷ after) cs → AreAccepted s cs → AreSpelled before ds
+    → IsTaken (standing_from s ds) line
+taken_at s [] line after [] ds p q r = absurd p
+taken_at s [] line after (c ∷ cs) [] p q r = (c, p.0, q.0)
+taken_at s [] line after (c ∷ cs) (d ∷ ds) p q r = absurd r
+taken_at s (l ∷ ls) line after [] ds p q r = absurd p
+taken_at s (l ∷ ls) line after (c ∷ cs) [] p q r = absurd r
+taken_at s (l ∷ ls) line after (c ∷ cs) (d ∷ ds) p q r =
+    let same : c ≡ d = spells_one l c d p.0 r.0 in
+    subst (λ x. IsTaken (standing_from (changed s x) ds) line) same (taken_at (changed s c) ls line after cs ds p.1 q.1 r.1)
+
+-- So the lines alone decide which are taken.
+pub lines_decide : LinesDecide
+lines_decide lines journal last leads =
+    let it = legal_taken lines journal last leads in
+    (it.commands, it.taken, λ line. (taken_too last (standing_of it.commands) line (sym it.alike), taken_too (standing_of it.commands) last line it.alike))

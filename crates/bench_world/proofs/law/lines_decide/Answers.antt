@@ -1,0 +1,5 @@
+use Rattle.bench_world.proofs.Shapes as shapes
+use Rattle.bench_world.proofs.law.lines_decide.Goals as goal
+
+pub returns : goal.returns
+returns c = shapes.lines_decide

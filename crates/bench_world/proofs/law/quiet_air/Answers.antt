@@ -1,0 +1,11 @@
+use Rattle.bench_world.proofs.Quiet as quiet
+use Rattle.bench_world.proofs.law.quiet_air.Goals as goal
+
+pub returns-clause-stays : goal.returns-clause-stays
+returns-clause-stays c = quiet.quiet_stays
+
+pub returns-clause-reads : goal.returns-clause-reads
+returns-clause-reads c = quiet.quiet_reads
+
+pub returns-clause-finds : goal.returns-clause-finds
+returns-clause-finds c = quiet.quiet_finds

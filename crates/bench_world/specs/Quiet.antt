@@ -1,0 +1,35 @@
+-- What a bench does on quiet air, where no fate is left but Pass. A later command adds its case.
+use Rattle.std.specs.Prelude.{◌≡◌, List, Some}
+use Rattle.std.specs.List.{AllByRecursion}
+use Rattle.nfc_base.specs.Trace.{noise}
+use Rattle.nfc_base.specs.declared.event.Fate.{Fate}
+use Rattle.nfc_base.specs.declared.event.Fate.TheVariants.{Pass}
+use Rattle.bench_script.specs.declared.command.Command.TheVariants.{Find, Read}
+use Rattle.bench_script.specs.declared.command.DeviceId.{DeviceId}
+use Rattle.bench_script.specs.DeviceIds.{bytes_of}
+use Rattle.bench_devices.specs.declared.device.Device.{Device}
+use Rattle.bench_devices.specs.Answering.{IsNamed}
+use Rattle.bench_devices.specs.Placed.{device_with}
+use Rattle.bench_world.specs.declared.entry.Entry.{Entry}
+use Rattle.bench_world.specs.Completing.{whole_field}
+use Rattle.bench_world.specs.Legal.{State, Given, LegalStep, changed}
+use Rattle.bench_world.specs.Reading.{TellsOf}
+
+abbrev pub AllPass : List Fate → Type 0
+AllPass fates = AllByRecursion (λ x. x ≡ Pass) fates
+
+-- Each transmission of a command passes, and the air stays quiet: nothing is damaged or lost, and no field.
+abbrev pub QuietStays : Type 0
+QuietStays =
+    (s t : State) (g : Given) (e : Entry) → LegalStep s g e t → AllPass (changed s e.command).queue → (noise e.events ≡ 0) × AllPass t.queue
+
+-- A read of a placed tag tells what its store holds: the message, or the fault that the store has.
+abbrev pub QuietReads : Type 0
+QuietReads =
+    (s t : State) (g : Given) (e : Entry) (id : DeviceId) (d : Device) → LegalStep s g e t → e.command ≡ Read id → device_with (bytes_of id) s.world.listeners ≡ Some d
+    → IsNamed id d → AllPass s.queue → TellsOf d e.answer
+
+-- A search lists all NFC-A devices, in crowd order, and the true Type 5 result.
+abbrev pub QuietFinds : Type 0
+QuietFinds =
+    (s t : State) (g : Given) (e : Entry) → LegalStep s g e t → e.command ≡ Find → AllPass s.queue → e.answer ≡ whole_field s.world.listeners
