@@ -14,7 +14,7 @@ use Rattle.nfc_base.specs.Signal.{Signal}
 use Rattle.nfc_base.specs.Blocks.{with_block}
 use Rattle.nfc_base.specs.TagLinks.{MayAsk, IsNamedIn, addressed}
 use Rattle.air_core.specs.World.{hears, stepped_by, requested, came_back}
-use Rattle.air_core.specs.Conversation.{replay}
+use Rattle.air_core.specs.Conversation.{Note, Next, Asks, Moment, Going, replay}
 use Rattle.air_core.specs.PlainTags.{plain_kind, IsAside}
 use Rattle.nfca_poll.specs.Calls.{call_of}
 use Rattle.nfca_poll.specs.Front.{Front, Off, Idle, Sleep, Ready, Active, front_next}
@@ -40,7 +40,7 @@ use Rattle.bench_devices.specs.declared.device.Device.TheVariants.{T2, T4, T5}
 use Rattle.bench_devices.specs.Device.{BenchWorld, air, devices, device_id, device_store, says_of, t2_machine, t4_machine}
 use Rattle.bench_devices.specs.Placed.{device_with, IfPlaced}
 use Rattle.bench_devices.specs.Keeping.{ghosts, Fixed, fixed, kept, IsSound, IsApart, AreSound, AreTame, StaysDevice, AllStayDevices, held_by, images_of, IsStoreOf, DevicesStay, ImagesStay, AsideKeeps, Changes, NoStore, StoreOf, AllKeepBut, Leaves, EachAsked, IsAsideOf}
-use Rattle.bench_devices.proofs.SelectingKept.{kept_dark, kept_lit}
+use Rattle.bench_devices.proofs.SelectingKept.{due_asked, kept_dark, kept_lit}
 use Rattle.bench_devices.proofs.CardKept.{IsAtRest, fixed_step, four_same, rest_keeps, rest_stays, dark_at_rest, lit_at_rest}
 
 -- A changed block behind the first four leaves a store of a Type 2 tag one: its size and its capability container stay.
@@ -398,6 +398,29 @@ module _ (own : List ℕ) where
     others_keep w (Clash g x ∷ es) b h =
         let p : Beside w (came_back devices w x) = back_beside w x b in
         then_beside w (came_back devices w x) es p (others_keep (came_back devices w x) es p.beside h)
+
+-- So a command that asks one device what it may be asked leaves the others what they hold, and each image of that one's store is one
+-- of its kind: as it is asked, and behind what changed nothing that stays.
+pub going_leaves : (own : List ℕ) (t : Tech) (next : List Note → Next) (a b : Moment BenchWorld) (ns : List Note) → IsNamedIn t own → AreSound (map kept a.world.listeners)
+    → AllByRecursion (IsAsideOf own) a.world.listeners → ((ks : List Note) (f : Signal) → next ks ≡ Asks f → MayAsk (plain_kind t) own f) → (g : Going air next a b ns)
+    → Leaves (StoreOf own) a.world g.events b.world
+going_leaves own t next a b ns named sound beside may g = (
+  subst (λ (m : Moment BenchWorld). AllKeepBut own a.world.listeners m.world.listeners) (sym g.moment)
+      (others_keep own t named a.world g.events beside (due_asked (MayAsk (plain_kind t) own) next may [] g.events g.each)),
+  images_stay a.world g.events own sound,
+)
+
+kept_but : (own : List ℕ) (ds es : List Device) → map kept es ≡ map kept ds → AllKeepBut own ds es
+kept_but own [] [] same = tt
+kept_but own [] (e ∷ es) same = absurd cc
+kept_but own (d ∷ ds) [] same = absurd cc
+kept_but own (d ∷ ds) (e ∷ es) same =
+    let one : kept e ≡ kept d = cc in
+    (record { stays = kept_stays d e one; other = λ n. one }, kept_but own ds es (let rest : map kept es ≡ map kept ds = cc in rest))
+
+pub leaves_behind : (own : List ℕ) (w v u : BenchWorld) (es fs : List Event) → AreSound (map kept w.listeners) → Leaves NoStore w es v → Leaves (StoreOf own) v fs u → Leaves (StoreOf own) w (es ++ fs) u
+leaves_behind own w v u es fs sound first next =
+    (but_on own w.listeners v.listeners u.listeners (kept_but own w.listeners v.listeners first) next.0, images_stay w (es ++ fs) own sound)
 
 -- The devices stay tame, whatever may have changed of them.
 all_stay_of : (own : List ℕ) (ds es : List Device) → AllKeepBut own ds es → AllStayDevices ds es

@@ -1,6 +1,6 @@
 -- RATS that a selected Type 4 tag hears is answered at once, where all passes: so six bad receptions of it are noise.
-use Rattle.std.proofs.Common.{◌≡◌, ℕ, ◌+◌, ◌<◌, inl, inr, List, [], ◌∷◌, ◌++◌, true, if◌then◌else◌, Option, Some, None, refl, sym, ◌∙◌, ap, subst, arith}
-use Rattle.std.specs.List.{filter_map, cons_option}
+use Rattle.std.proofs.Common.{◌≡◌, ℕ, ◌<◌, inl, inr, List, [], ◌∷◌, ◌++◌, true, if◌then◌else◌, Some, None, refl, sym, ◌∙◌, ap, subst, arith}
+use Rattle.std.specs.List.{cons_option}
 use Rattle.std.proofs.lemmas.Bool.{cases_lt}
 use Rattle.nfc_base.specs.declared.frame.Tech.TheVariants.{A}
 use Rattle.nfc_base.specs.declared.event.Event.{Event}
@@ -13,8 +13,8 @@ use Rattle.nfc_base.specs.declared.event.Event.TheVariants.{Request}
 use Rattle.air_core.specs.Joint.{Joint, Single, joint, same_tech}
 use Rattle.air_core.specs.World.{World, answered_by}
 use Rattle.air_core.specs.Conversation.{Note, Move, Light, Ask, EachDue, joint_events, receptions, replay, trace_of, turn_events}
-use Rattle.air_core.specs.Turn.{Air, world, moment}
-use Rattle.air_core.specs.Waits.{Asking, Broken, Astray, stand, waits_next}
+use Rattle.air_core.specs.Turn.{Air, world}
+use Rattle.air_core.specs.Waits.{Broken, stand, waits_next}
 use Rattle.air_core.proofs.PlainAside.{Laws, IsUnmoved, aside_silent, alone_says}
 use Rattle.air_core.proofs.PlainTurns.{joint_one}
 use Rattle.isodep_link.specs.Sizes.{ats_frame}

@@ -31,12 +31,12 @@ use Rattle.bench_world.specs.Answering.{TagTells, TellsFault, TellsFound, poll_a
 use Rattle.bench_devices.specs.TagAsking.{then_asks, tag_due}
 use Rattle.bench_devices.specs.Device.{air, StablePart, stable_of, device_store, how_of, size_of, seen_of}
 use Rattle.bench_script.specs.DeviceIds.{bytes_of}
-use Rattle.bench_devices.specs.Polling.{Followed, Asks as Requests, Told, followed, follows, kind_by, seen_kind, pick_v, asks, selecting, finding_all}
+use Rattle.bench_devices.specs.Polling.{Followed, Asks as Requests, Told, follows, kind_by, seen_kind, pick_v, asks, selecting, finding_all}
 use Rattle.bench_world.specs.Reading.{Tells, TellsOf}
 use Rattle.bench_devices.specs.Reading.{AsksOf, ShowsOf}
 use Rattle.bench_world.specs.Legal.{State, Given, Accepts, IsAskedBy, AnswerLaw, FrontOf, changed, due, stable}
 use Rattle.bench_devices.specs.Placed.{OfPlaced, IfPlaced, device_with}
-use Rattle.bench_devices.specs.Keeping.{Kept, kept, IsSound, AreTame, Changes, NoStore, Leaves}
+use Rattle.bench_devices.specs.Keeping.{Kept, kept, IsSound, Changes, NoStore, Leaves}
 use Rattle.bench_devices.specs.Phases.{AskedPart, SelectionCut, ReadsSome, FailsRead, IsIdle, Selects, SelectsAt, Stands, Reads, ReadsAt, CutAt, Searches, SearchesField, SearchCut}
 use Rattle.bench_world.specs.Obeying.{state_at, Obeyed, IsCutOff}
 use Rattle.tag_reader.specs.Asked.{IsAsked}

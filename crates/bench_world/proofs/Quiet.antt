@@ -1,7 +1,5 @@
 -- On quiet air noise keeps no command from its answer.
-use Rattle.std.proofs.Common.{◌≡◌, ℕ, ◌+◌, ◌<◌, nat_lt, ◌&&◌, if◌then◌else◌, List, [], ◌∷◌, length, Bool, true, false, Ok, refl, sym, ◌∙◌, ap, subst, arith}
-use Rattle.std.specs.Prelude.{Result}
-use Rattle.std.specs.List.{AllByRecursion}
+use Rattle.std.proofs.Common.{◌≡◌, ℕ, ◌+◌, ◌<◌, List, [], ◌∷◌, Bool, Ok, refl, sym, ◌∙◌, ap, subst, arith}
 use Rattle.nfc_base.specs.Signal.{Signal}
 use Rattle.nfc_base.specs.Trace.{Turn, turns, back_of, noise, breaks, other_than_pass}
 use Rattle.nfc_base.specs.Trace as backs
@@ -9,14 +7,10 @@ use Rattle.nfc_base.specs.declared.event.Event.{Event}
 use Rattle.nfc_base.specs.declared.event.Event.TheVariants.{Reset, Request, Answer as Answers, Clash}
 use Rattle.nfc_base.specs.declared.event.Fate.{Fate}
 use Rattle.nfc_base.specs.declared.event.Fate.TheVariants.{Pass, Damage, Lose, Break}
-use Rattle.nfc_base.specs.declared.tag_link.AskFault.TheVariants as asking
 use Rattle.air_core.specs.Conversation.{Note, Next, Over, LightUp, AreTurns, EachDue, FatesFrom, first_fate, later_fates, queue_after, receptions}
-use Rattle.air_core.specs.Waits.{Standing, Broken, stand}
 use Rattle.air_core.proofs.Following.{trace_first}
-use Rattle.nfca_poll.specs.declared.fault.PollFault.{PollFault}
-use Rattle.nfca_poll.specs.RoundTrace.{rounds, up_to_reset, back_noise, is_noisy}
+use Rattle.nfca_poll.specs.RoundTrace.{rounds, up_to_reset, back_noise}
 use Rattle.nfca_poll.specs.Inventory.{tries, inventory_all, inventory_of}
-use Rattle.isodep_link.specs.Asking as exchange
 use Rattle.bench_script.specs.declared.command.Command.{Command}
 use Rattle.bench_script.specs.declared.command.Command.TheVariants.{Find, Read}
 use Rattle.bench_script.specs.declared.command.DeviceId.{DeviceId}
@@ -26,7 +20,6 @@ use Rattle.bench_devices.specs.declared.device.Device.{Device}
 use Rattle.bench_devices.specs.declared.polling.SeenKind.{SeenKind}
 use Rattle.bench_devices.specs.declared.polling.SeenKind.TheVariants as seen
 use Rattle.bench_devices.specs.Answering.{TellsBy, TellsStanding, TellsCard}
-use Rattle.bench_devices.specs.CardAsking.{CardStanding, Exchanges, card_stands}
 use Rattle.bench_devices.specs.Device.{BenchWorld, air}
 use Rattle.bench_devices.specs.Noise.{noisy_turns, noisy_tries, is_call, AreDisturbed}
 use Rattle.bench_devices.specs.Placed.{device_with, OfPlaced}
@@ -36,7 +29,7 @@ use Rattle.bench_world.specs.declared.entry.Answer.TheVariants.{SixBad}
 use Rattle.bench_world.specs.declared.entry.Entry.{Entry}
 use Rattle.bench_world.specs.Answering.{TagEnds, TagTells, TellsFault}
 use Rattle.bench_world.specs.Completing.{IsQuietOnce, HadSixBad, IsUndisturbed}
-use Rattle.bench_world.specs.Legal.{State, Given, LegalStep, AnswerLaw, ReadLaw, changed, due, state_after}
+use Rattle.bench_world.specs.Legal.{State, Given, LegalStep, AnswerLaw, ReadLaw, changed, due}
 use Rattle.bench_world.specs.Quiet.{AllPass, QuietStays, QuietReads, QuietFinds}
 use Rattle.bench_world.specs.Reading.{TellsOf}
 use Rattle.bench_world.proofs.Complete.{reads_complete, finds_complete}

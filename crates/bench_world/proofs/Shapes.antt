@@ -1,13 +1,12 @@
 -- What the conditions of a command ask of the devices that are placed: how many there are, their identifiers and blocks, and which
 -- may ask for more time. No event changes any of it, so lines are taken by what the lines before them say.
-use Rattle.std.proofs.Common.{◌≡◌, ℕ, ◌+◌, ◌/◌, ◌<◌, List, [], ◌∷◌, ◌++◌, map, length, Bool, true, false, nat_eq, if◌then◌else◌, Option, Some, None, IsSome, refl, sym, ◌∙◌, ap, subst, arith}
+use Rattle.std.proofs.Common.{◌≡◌, ℕ, ◌+◌, ◌/◌, ◌<◌, List, [], ◌∷◌, ◌++◌, map, length, Bool, true, false, nat_eq, if◌then◌else◌, Option, Some, None, IsSome, refl, sym, ◌∙◌, ap, subst}
 use Rattle.std.proofs.lemmas.List.{map-append, length-map}
 use Rattle.std.specs.Cmp.Lexicographic.{pointwise}
 use Rattle.nfc_base.specs.declared.event.Event.{Event}
 use Rattle.air_core.specs.Conversation.{replay}
 use Rattle.tag_reader.specs.declared.how.How.{How}
 use Rattle.tag_reader.specs.declared.how.How.TheVariants as hows
-use Rattle.t4t_tag.specs.Store.{file_size}
 use Rattle.bench_script.specs.declared.command.Command.{Command}
 use Rattle.bench_script.specs.declared.command.Command.TheVariants.{Skip, Fates, PlaceT2, PlaceT4, PlaceT5, Lock, Busy, Remove, Dump, Find, Read}
 use Rattle.bench_script.specs.DeviceIds.{bytes_of}
@@ -20,8 +19,8 @@ use Rattle.bench_devices.specs.Keeping.{Fixed, fixed, AllStayDevices}
 use Rattle.bench_devices.specs.Placed.{device_with, without, with_changed, OfPlaced}
 use Rattle.bench_devices.proofs.EveryFrame.{devices_stay}
 use Rattle.bench_world.specs.declared.entry.Entry.{Entry}
-use Rattle.bench_world.specs.Journal.{NumberedLine, AreEntriesOf, asking_lines, Numbered, LeadsTo}
-use Rattle.bench_world.specs.Legal.{State, Given, Accepts, IsFree, MayPlaceT2, MayPlaceT4, MayPlaceT5, MayBeBusy, LegalStep, EachLegal, changed, state_after, first_state}
+use Rattle.bench_world.specs.Journal.{AreEntriesOf, asking_lines, LeadsTo}
+use Rattle.bench_world.specs.Legal.{State, Given, Accepts, IsFree, LegalStep, EachLegal, changed, state_after, first_state}
 use Rattle.bench_world.specs.Taking.{IsTaken, AreSpelled, AreAccepted, AreTaken, LinesDecide, standing_from, standing_of}
 
 -- what the conditions ask of a device
