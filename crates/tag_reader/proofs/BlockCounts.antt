@@ -13,12 +13,12 @@ use Rattle.tlv_area.specs.Containers.{t5_front, t5_is_open, t5_ready, t5_contain
 use Rattle.tlv_area.proofs.FrontContainers.{front_ready, is_named}
 use Rattle.tag_reader.specs.declared.how.How.{How}
 use Rattle.tag_reader.specs.declared.how.How.TheVariants.{T2, T4, T5}
-use Rattle.tag_reader.specs.Blocks.{IsOne, Progress, ask_by, known_at, ask_at, progress_at, NeedsBlocks}
-use Rattle.tag_reader.specs.Asked.{IsDue, AreDue}
+use Rattle.tag_reader.specs.Blocks.{IsOne, Progress, ask_by, known_at, ask_at, progress_at, AreaGoesOn}
+use Rattle.tag_reader.specs.Asked.{Aim, ToRead, ToWrite, AreDueFor, IsSurveyed, AreSurveyed}
 use Rattle.tag_reader.specs.Counts.{IsFew, AsksFew}
 use Rattle.tag_reader.proofs.BlockLists.{sizes}
 use Rattle.tag_reader.proofs.BlockSingles.{once, none_single}
-use Rattle.tag_reader.proofs.BlockSeldom.{asks_listed, asked_once, asked_seldom}
+use Rattle.tag_reader.proofs.BlockSeldom.{due_surveyed, asks_listed, asked_once, asked_seldom}
 
 -- what is asked for alone then
 alone : (size block : ℕ) (r : Result T5Container ContainerFault) → IsOne (ask_by size false block r) → ((f : ContainerFault) → r ≡ Err f → ⊥) → ((space : _) (wide many : Bool) → r ≡ Ok (Ready space wide many) → many ≡ true) →
@@ -40,7 +40,7 @@ front_open bytes is = elim (cases_Bool (t5_is_open bytes)) [
     never (Ok area) e = cc
     never (Err f) e = cc
 
-pub is_few : (id : List ℕ) (size : ℕ) (store : List ℕ) (n : ℕ) → IsT5Store size store → AreDue (T5 id) size store n → IsFew id size store n
+pub is_few : (id : List ℕ) (size : ℕ) (store : List ℕ) (n : ℕ) → IsT5Store size store → AreSurveyed (T5 id) size store n → IsFew id size store n
 is_few id size store n is each = record {
   list = asks_listed id size store n;
   refused = λ j k low low' one two. elim (cases_lt j k) [
@@ -55,7 +55,7 @@ is_few id size store n is each = record {
   singles = λ allows none k low one. here allows k (none_single size store k (λ i less. none i (omega (arith, less, low)))) (each k low) one;
 }
   where
-    here : slice_index store 3 % 2 ≡ 1 → (k : ℕ) → (progress_at size store k).single ≡ false → IsDue (T5 id) size store k → IsOne (ask_at size store (progress_at size store k)) →
+    here : slice_index store 3 % 2 ≡ 1 → (k : ℕ) → (progress_at size store k).single ≡ false → IsSurveyed (T5 id) size store k → IsOne (ask_at size store (progress_at size store k)) →
         (t5_is_open (known_at size store (progress_at size store k)) ≡ true) ⊎ (256 ≤ (progress_at size store k).blocks)
     here allows k free due one =
         let p : Progress = progress_at size store k in
@@ -70,19 +70,19 @@ is_few id size store n is each = record {
           | inr high ↦ inr high
         ]
       where
-        within_at : (i : ℕ) → IsDue (T5 id) size store i → size * (progress_at size store i).blocks ≤ length store
+        within_at : (i : ℕ) → IsSurveyed (T5 id) size store i → size * (progress_at size store i).blocks ≤ length store
         within_at zero d = (let none : size * 0 ≡ 0 = omega arith in omega (arith, none))
         within_at (suc i) (inl e) = absurd (omega arith)
         within_at (suc i) (inr d) = d.within
 
-        faultless : (i : ℕ) → IsDue (T5 id) size store i → (f : ContainerFault) → t5_front (known_at size store (progress_at size store i)) ≡ Err f → ⊥
+        faultless : (i : ℕ) → IsSurveyed (T5 id) size store i → (f : ContainerFault) → t5_front (known_at size store (progress_at size store i)) ≡ Err f → ⊥
         faultless zero d f e =
             let none : size * 0 ≡ 0 = omega arith in
             let empty : take (size * 0) store ≡ [] = ap (λ m. take m store) none in
             let clash : Ok More ≡ Err f = sym (ap (λ xs. t5_front xs) empty) ∙ e in
             cc
         faultless (suc i) (inl d) f e = omega arith
-        faultless (suc i) (inr d) f e = subst (λ r. NeedsBlocks size (known_at size store (progress_at size store (suc i))) r) e d.needs
+        faultless (suc i) (inr d) f e = subst (λ r. AreaGoesOn size (size * (progress_at size store (suc i)).blocks) r) e d.more
 
         says : (i : ℕ) (space : _) (wide many : Bool) → t5_front (known_at size store (progress_at size store i)) ≡ Ok (Ready space wide many) → many ≡ true
         says i space wide many e =
@@ -95,7 +95,12 @@ is_few id size store n is each = record {
             let flag : (slice_index xs 3 % 2 == 1) ≡ true = rw (byte, allows) refl in
             sym (ap (λ a. a.many) named.is) ∙ flag
 
-pub few_of : (how : How) (a : LinkView) → AsksFew how a
-few_of T2 a size is n each = tt
-few_of T4 a size is n each = tt
-few_of (T5 id) a size is n each = is_few id size a.state.store n is.store each
+few_by : (aim : Aim) (id : List ℕ) (size : ℕ) (store : List ℕ) (n : ℕ) → IsT5Store size store → AreDueFor aim (T5 id) size store n → IsFew id size store n
+few_by ToRead id size store n is each =
+    (let least = (sizes size store is).least in is_few id size store n is (λ k low. due_surveyed id size store k (omega (arith, least)) (each k low)))
+few_by ToWrite id size store n is each = is_few id size store n is each
+
+pub few_of : (aim : Aim) (how : How) (a : LinkView) → AsksFew aim how a
+few_of aim T2 a size is n each = tt
+few_of aim T4 a size is n each = tt
+few_of aim (T5 id) a size is n each = few_by aim id size a.state.store n is.store each

@@ -23,15 +23,15 @@ use Rattle.tlv_area.proofs.FrontGrown.{front_grown}
 use Rattle.tag_reader.specs.declared.how.How.TheVariants.{T5}
 use Rattle.tag_reader.specs.declared.ask.Ask.{Ask}
 use Rattle.tag_reader.specs.declared.ask.Ask.TheVariants.{One, Many}
-use Rattle.tag_reader.specs.Blocks.{IsOne, IsMany, Progress, ask_frame, ask_by, ask_count, most_blocks, known_at, ask_at, progress_behind, progress_at, NeedsBlocks}
+use Rattle.tag_reader.specs.Blocks.{IsOne, IsMany, Progress, ask_frame, ask_by, ask_count, most_blocks, known_at, ask_at, progress_behind, progress_at, NeedsBlocks, AreaGoesOn}
 use Rattle.tag_reader.specs.Kinds.{command, first}
-use Rattle.tag_reader.specs.Asked.{IsDue, AreDue}
+use Rattle.tag_reader.specs.Asked.{IsDue, IsSurveyed, AreSurveyed}
 use Rattle.tag_reader.specs.Counts.{IsRefused, IsRefusedAt, first_asks, several, blocks_asked, is_many}
 use Rattle.tag_reader.proofs.BlockLists.{Sizes, sizes, many_single}
 use Rattle.tag_reader.proofs.BlockSingles.{behind_single}
 
 -- what is due lies in the store
-pub due_within : (id : List ℕ) (size : ℕ) (store : List ℕ) (n : ℕ) → IsDue (T5 id) size store n → size * (progress_at size store n).blocks ≤ length store
+pub due_within : (id : List ℕ) (size : ℕ) (store : List ℕ) (n : ℕ) → IsSurveyed (T5 id) size store n → size * (progress_at size store n).blocks ≤ length store
 due_within id size store zero d = (let none : size * 0 ≡ 0 = omega arith in omega (arith, none))
 due_within id size store (suc n) (inl e) = absurd (omega arith)
 due_within id size store (suc n) (inr d) = d.within
@@ -85,9 +85,9 @@ least_is x y z = elim (cases_lt y z) [
 
 -- No several blocks at once are asked for any more: they were refused, one-byte numbers are used up, or nothing more is needed.
 abbrev IsOver : List ℕ → ℕ → List ℕ → ℕ → Type 0
-IsOver id size store n = ((progress_at size store n).single ≡ true) ⊎ ((256 ≤ (progress_at size store n).blocks) ⊎ (IsDue (T5 id) size store n → ⊥))
+IsOver id size store n = ((progress_at size store n).single ≡ true) ⊎ ((256 ≤ (progress_at size store n).blocks) ⊎ (IsSurveyed (T5 id) size store n → ⊥))
 
-over_none : (id : List ℕ) (size : ℕ) (store : List ℕ) (n : ℕ) → 1 ≤ size → IsDue (T5 id) size store n → IsOver id size store n → IsMany (ask_at size store (progress_at size store n)) → ⊥
+over_none : (id : List ℕ) (size : ℕ) (store : List ℕ) (n : ℕ) → 1 ≤ size → IsSurveyed (T5 id) size store n → IsOver id size store n → IsMany (ask_at size store (progress_at size store n)) → ⊥
 over_none id size store n some due (inl single) is =
     let p : Progress = progress_at size store n in
     let free : p.single ≡ false = many_single size p.single (known_at size store p) is in
@@ -105,12 +105,12 @@ blocks_grow size store p (Many block more) = by_end (nat_le (blocks_in size stor
     by_end true = omega arith
     by_end false = omega arith
 
-over_stays : (id : List ℕ) (size : ℕ) (store : List ℕ) (n : ℕ) → IsDue (T5 id) size store n → IsOver id size store n → IsOver id size store (suc n)
+over_stays : (id : List ℕ) (size : ℕ) (store : List ℕ) (n : ℕ) → IsSurveyed (T5 id) size store n → IsOver id size store n → IsOver id size store (suc n)
 over_stays id size store n due (inl single) = inl (behind_single size store (progress_at size store n) (ask_at size store (progress_at size store n)) single)
 over_stays id size store n due (inr (inl high)) = inr (inl (omega (arith, high, blocks_grow size store (progress_at size store n) (ask_at size store (progress_at size store n)))))
 over_stays id size store n due (inr (inr none)) = absurd (none due)
 
--- a memory whose known front has the whole area needs nothing more
+-- where less is known than the area has, the area goes on
 end_below : (size end : ℕ) → 1 ≤ size → end ≤ size * blocks_below size end
 end_below size end some =
     let parts : size * blocks_below size end + (end + size - 1) % size ≡ end + size - 1 = div-add-mod (end + size - 1) size in
@@ -123,24 +123,21 @@ not_open known space wide many ready = elim (cases_Bool (t5_is_open known)) [
   | inl open' ↦ (let h = rw open' at ready in absurd (cc))
 ]
 
-whole_known : (size : ℕ) (store : List ℕ) (b c : ℕ) (space : Space) (wide many : Bool) → 1 ≤ size → size * (b + c) ≤ length store →
-    t5_front (take (size * b) store) ≡ Ok (Ready space wide many) → space.end ≤ size * (b + c) →
-    NeedsBlocks size (take (size * (b + c)) store) (t5_front (take (size * (b + c)) store)) → ⊥
-whole_known size store b c space wide many some within ready all needs =
+whole_known : (size : ℕ) (store : List ℕ) (b c : ℕ) (space : Space) (wide many : Bool) → t5_front (take (size * b) store) ≡ Ok (Ready space wide many) → space.end ≤ size * (b + c) →
+    AreaGoesOn size (size * (b + c)) (t5_front (take (size * (b + c)) store)) → ⊥
+whole_known size store b c space wide many ready all more =
     let known : List ℕ = take (size * b) store in
     let now : List ℕ = take (size * (b + c)) store in
-    let area : T5Area = record { space = space; wide = wide; many = many } in
     let grown : now ≡ known ++ take (size * c) (drop (size * b) store) = ap (λ m. take m store) (mul-add size b c) ∙ take-add (size * b) (size * c) store in
     let there : t5_front now ≡ Ok (Ready space wide many) =
     ap (λ xs. t5_front xs) grown ∙ front_grown known (take (size * c) (drop (size * b) store)) (not_open known space wide many ready) ∙ ready in
-    let is = reach_area size now area some (is_named now area (front_ready now space wide many there)) in
-    let long : length now ≡ size * (b + c) = length-take-le (size * (b + c)) store within in
-    none_unknown (t5_reach size area) now is.order (omega (arith, long, all)) (subst (λ r. NeedsBlocks size now r) there needs)
+    let short : AreaGoesOn size (size * (b + c)) (Ok (Ready space wide many)) = subst (λ r. AreaGoesOn size (size * (b + c)) r) there more in
+    omega (arith, short, all)
 
 -- where a command is due, the area isn't known whole
-due_short : (id : List ℕ) (size : ℕ) (store : List ℕ) (n : ℕ) (space : Space) (wide many : Bool) → 1 ≤ size → IsDue (T5 id) size store n →
+due_short : (id : List ℕ) (size : ℕ) (store : List ℕ) (n : ℕ) (space : Space) (wide many : Bool) → IsSurveyed (T5 id) size store n →
     t5_front (known_at size store (progress_at size store n)) ≡ Ok (Ready space wide many) → size * (progress_at size store n).blocks < space.end
-due_short id size store n space wide many some (inl first) ready =
+due_short id size store n space wide many (inl first) ready =
     let p : Progress = progress_at size store n in
     let known : List ℕ = known_at size store p in
     let none : size * p.blocks ≡ size * 0 = ap (λ k. size * (progress_at size store k).blocks) first in
@@ -148,15 +145,29 @@ due_short id size store n space wide many some (inl first) ready =
     let named = is_named known (record { space = space; wide = wide; many = many }) (front_ready known space wide many ready) in
     let long : length known ≡ size * p.blocks = length-take-le (size * p.blocks) store (due_within id size store n (inl first)) in
     absurd (omega (arith, named.within, named.least, long, none, nothing))
-due_short id size store n space wide many some (inr due) ready = elim (cases_lt (size * (progress_at size store n).blocks) space.end) [
-  | inl short ↦ short
-  | inr all ↦
-      (let b : ℕ = (progress_at size store n).blocks in
-      let e : b + 0 ≡ b = omega arith in
-      let same : size * (b + 0) ≡ size * b = ap (λ k. size * k) e in
-      absurd (whole_known size store b 0 space wide many some (omega (arith, same, due.within)) ready (omega (arith, same, all))
-      (subst (λ m. NeedsBlocks size (take m store) (t5_front (take m store))) (sym same) due.needs)))
-]
+due_short id size store n space wide many (inr due) ready =
+    let bytes : ℕ = size * (progress_at size store n).blocks in
+    let short : AreaGoesOn size bytes (Ok (Ready space wide many)) = subst (λ r. AreaGoesOn size bytes r) ready due.more in
+    omega (arith, short)
+
+-- what a reader asks a writer asks too: where the walk needs more, the area goes on
+needs_goes_on : (size : ℕ) (known : List ℕ) (r : Result T5Container ContainerFault) → 1 ≤ size → t5_front known ≡ r → NeedsBlocks size known r → AreaGoesOn size (length known) r
+needs_goes_on size known (Ok More) some is needs = tt
+needs_goes_on size known (Err f) some is needs = needs
+needs_goes_on size known (Ok (Ready space wide many)) some is needs =
+    let area : T5Area = record { space = space; wide = wide; many = many } in
+    let reach = reach_area size known area some (is_named known area (front_ready known space wide many is)) in
+    elim (cases_lt (length known) (t5_reach size area).end) [
+      | inl short ↦ short
+      | inr all ↦ absurd (none_unknown (t5_reach size area) known reach.order all needs)
+    ]
+
+pub due_surveyed : (id : List ℕ) (size : ℕ) (store : List ℕ) (n : ℕ) → 1 ≤ size → IsDue (T5 id) size store n → IsSurveyed (T5 id) size store n
+due_surveyed id size store n some (inl first) = inl first
+due_surveyed id size store n some (inr due) =
+    let known : List ℕ = known_at size store (progress_at size store n) in
+    let long : length known ≡ size * (progress_at size store n).blocks = length-take-le (size * (progress_at size store n).blocks) store due.within in
+    inr (record { within = due.within; more = subst (λ m. AreaGoesOn size m (t5_front known)) long (needs_goes_on size known (t5_front known) some refl due.needs) })
 
 -- Several blocks are refused, or known then.
 behind_by : (size : ℕ) (store : List ℕ) (p : Progress) (block more : ℕ) →
@@ -183,14 +194,14 @@ last_turn : (id : List ℕ) (size : ℕ) (store : List ℕ) (n more : ℕ) (spac
     (progress_at size store n).blocks + (more + 1) ≡ blocks_below size space.end → (progress_at size store (suc n)).blocks ≡ (progress_at size store n).blocks + (more + 1) → IsOver id size store (suc n)
 last_turn id size store n more space wide many some ready last blocks = inr (inr none)
   where
-    none : IsDue (T5 id) size store (suc n) → ⊥
+    none : IsSurveyed (T5 id) size store (suc n) → ⊥
     none (inl first) = omega arith
     none (inr due) =
         let b : ℕ = (progress_at size store n).blocks in
         let same : size * (progress_at size store (suc n)).blocks ≡ size * (b + (more + 1)) = ap (λ k. size * k) blocks in
         let all : size * blocks_below size space.end ≡ size * (b + (more + 1)) = ap (λ k. size * k) (sym last) in
-        whole_known size store b (more + 1) space wide many some (omega (arith, same, due.within)) ready (omega (arith, all, end_below size space.end some))
-        (subst (λ m. NeedsBlocks size (take m store) (t5_front (take m store))) same due.needs)
+        whole_known size store b (more + 1) space wide many ready (omega (arith, all, end_below size space.end some))
+        (subst (λ m. AreaGoesOn size m (t5_front (take m store))) same due.more)
 
 -- Several blocks that are asked for at once are as many as have 256 bytes, or several aren't asked for any more.
 record IsTurn (id : List ℕ) (size : ℕ) (store : List ℕ) (n : ℕ) : Type 0 where
@@ -200,7 +211,7 @@ record IsTurn (id : List ℕ) (size : ℕ) (store : List ℕ) (n : ℕ) : Type 0
 pub most_some : (size : ℕ) → 1 ≤ size → size ≤ 256 → 1 ≤ 256 / size
 most_some size some most = (le-div_iff_mul-le {k = size} {x = 1} {y = 256} some).1 (omega (arith, most))
 
-turn_at : (id : List ℕ) (size : ℕ) (store : List ℕ) (n : ℕ) → Sizes size store → IsDue (T5 id) size store n → IsMany (ask_at size store (progress_at size store n)) → IsTurn id size store n
+turn_at : (id : List ℕ) (size : ℕ) (store : List ℕ) (n : ℕ) → Sizes size store → IsSurveyed (T5 id) size store n → IsMany (ask_at size store (progress_at size store n)) → IsTurn id size store n
 turn_at id size store n facts due is =
     let p : Progress = progress_at size store n in
     let a : Ask = ask_at size store p in
@@ -210,7 +221,7 @@ turn_at id size store n facts due is =
     let e : ℕ = blocks_below size s.space.end in
     let more : ℕ = most_blocks size s.space.end p.blocks - 1 in
     let one : 1 ≤ q = most_some size some (omega (arith, facts.most)) in
-    let left : p.blocks < e = lt_of_mul-lt-mul_left size (omega (arith, due_short id size store n s.space s.wide s.many some due s.ready, end_below size s.space.end some)) in
+    let left : p.blocks < e = lt_of_mul-lt-mul_left size (omega (arith, due_short id size store n s.space s.wide s.many due s.ready, end_below size s.space.end some)) in
     let count : ask_count a ≡ more + 1 = ap ask_count s.ask in
     record {
       some = omega (arith, count);
@@ -242,7 +253,7 @@ one_or_many (Many block more) = inr tt
 abbrev IsSeldom : List ℕ → ℕ → List ℕ → ℕ → List Ask → Type 0
 IsSeldom id size store n asks = (256 / size * length asks ≡ blocks_asked asks) ⊎ ((256 / size * length asks < blocks_asked asks + 256 / size) × IsOver id size store n)
 
-seldom_more : (id : List ℕ) (size : ℕ) (store : List ℕ) (n : ℕ) → Sizes size store → IsDue (T5 id) size store n → IsSeldom id size store n (several (first_asks size store n)) →
+seldom_more : (id : List ℕ) (size : ℕ) (store : List ℕ) (n : ℕ) → Sizes size store → IsSurveyed (T5 id) size store n → IsSeldom id size store n (several (first_asks size store n)) →
     IsSeldom id size store (suc n) (several (first_asks size store (suc n)))
 seldom_more id size store n facts due so =
     let a : Ask = ask_at size store (progress_at size store n) in
@@ -272,12 +283,12 @@ seldom_more id size store n facts due so =
           | inr over ↦ inr (omega (arith, times, blocks, full, t.some), over)
         ]
 
-seldom_at : (id : List ℕ) (size : ℕ) (store : List ℕ) (n : ℕ) → Sizes size store → AreDue (T5 id) size store n → IsSeldom id size store n (several (first_asks size store n))
+seldom_at : (id : List ℕ) (size : ℕ) (store : List ℕ) (n : ℕ) → Sizes size store → AreSurveyed (T5 id) size store n → IsSeldom id size store n (several (first_asks size store n))
 seldom_at id size store zero facts each = inl (omega arith)
 seldom_at id size store (suc n) facts each =
     seldom_more id size store n facts (each n (omega arith)) (seldom_at id size store n facts (λ k low. each k (omega (arith, low))))
 
-pub asked_seldom : (id : List ℕ) (size : ℕ) (store : List ℕ) (n : ℕ) → IsT5Store size store → AreDue (T5 id) size store n →
+pub asked_seldom : (id : List ℕ) (size : ℕ) (store : List ℕ) (n : ℕ) → IsT5Store size store → AreSurveyed (T5 id) size store n →
     length (several (first_asks size store n)) ≤ div_ceil (blocks_asked (several (first_asks size store n))) (256 / size)
 asked_seldom id size store n is each =
     let facts = sizes size store is in

@@ -1,4 +1,4 @@
--- How few commands a reading of a Type 5 tag takes.
+-- How few commands a reading or a survey of a Type 5 tag takes.
 use Rattle.std.specs.Prelude.{◌≡◌, ℕ, zero, suc, ◌+◌, ◌<◌, ◌≤◌, ◌/◌, ◌%◌, ◌⊎◌, Bool, true, false, List, [], ◌∷◌, ◌++◌, length, map, filter, slice_index}
 use Rattle.std.specs.List.{sum_by}
 use Rattle.std.specs.Int.{div_ceil}
@@ -11,7 +11,7 @@ use Rattle.tag_reader.specs.declared.ask.Ask.{Ask}
 use Rattle.tag_reader.specs.declared.ask.Ask.TheVariants.{One, Many}
 use Rattle.tag_reader.specs.Blocks.{IsOne, ask_frame, ask_count, known_at, ask_at, progress_at}
 use Rattle.tag_reader.specs.Kinds.{OfTag, first}
-use Rattle.tag_reader.specs.Asked.{AreDue}
+use Rattle.tag_reader.specs.Asked.{Aim, AreDueFor}
 
 -- several blocks of which a store doesn't have the last
 abbrev pub IsRefused : ℕ → List ℕ → Ask → Type 0
@@ -57,5 +57,5 @@ IsFewOf T4 size store n = Unit {0}
 IsFewOf (T5 id) size store n = IsFew id size store n
 
 -- whatever the number of commands that are answered
-abbrev pub AsksFew : How → LinkView → Type 0
-AsksFew how a = OfTag how a (λ size. (n : ℕ) → AreDue how size a.state.store n → IsFewOf how size a.state.store n)
+abbrev pub AsksFew : Aim → How → LinkView → Type 0
+AsksFew aim how a = OfTag how a (λ size. (n : ℕ) → AreDueFor aim how size a.state.store n → IsFewOf how size a.state.store n)

@@ -7,7 +7,7 @@ use Rattle.tlv_area.specs.declared.container.ContainerFault.{ContainerFault}
 use Rattle.tlv_area.specs.declared.walk.Walk.TheVariants as walk
 use Rattle.tlv_area.specs.Layout.{bytes_at}
 use Rattle.tlv_area.specs.Form.{Message}
-use Rattle.tlv_area.specs.Map.{IsWalk, IsPlaced, message_cells}
+use Rattle.tlv_area.specs.Map.{IsWalk, IsPlaced, IsPlacedIn, message_cells}
 use Rattle.tlv_area.specs.Stores.{cut_by}
 use Rattle.tlv_area.specs.Writing.{HasBlocks}
 use Rattle.tag_reader.specs.declared.how.How.{How}
@@ -48,6 +48,11 @@ pub record IsKnownArea (how : How) (size : ℕ) (store known : List ℕ) (block 
 abbrev pub IsGround : How → ℕ → List ℕ → Ground → Type 0
 IsGround how size store (Area known block map') = IsKnownArea how size store known block map'
 IsGround how size store (File map') = IsFileOf how store map' × (message_length (file_in store) ≤ map'.size - 2)
+
+-- The message of an area lies in it, and all of the area is known.
+abbrev pub IsPlacedGround : Ground → Type 0
+IsPlacedGround (Area known block map') = IsPlacedIn known map' × (map'.space.end ≤ length known)
+IsPlacedGround (File map') = Unit {0}
 
 -- The tag as a survey leaves it: of a Type 4 tag the application is selected, and the NDEF file is the current one.
 abbrev pub surveyed : How → TagState → TagState

@@ -36,4 +36,6 @@ pub use reader::read;
 pub use surveying::survey;
 
 #[cfg(test)]
+mod survey_tests;
+#[cfg(test)]
 mod tests;

@@ -43,7 +43,7 @@ pub fn read<T: TagLink>(alloc: Global, link: &mut T, how: How) -> Result<Found, 
     ensures asked { AsksInOrder ToRead how (T.seen link.old) (T.seen link.new) }
     ensures whole { AsksAll ToRead how (T.seen link.old) (T.seen link.new) result }
     // and that is few
-    ensures few { AsksFew how (T.seen link.old) }
+    ensures few { AsksFew ToRead how (T.seen link.old) }
     // by what it then tells the link doesn't end
     ensures goes_on { LeavesLink how (T.seen link.old) (T.seen link.new) result }
     ensures ok { TellsMessage how (T.seen link.old) result }

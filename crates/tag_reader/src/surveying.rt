@@ -1,13 +1,14 @@
 //! What a writer reads first.
 
-ghost use Rattle.std.specs.Prelude.{◌≡◌, ◌≤◌, length};
+ghost use Rattle.std.specs.Prelude.{◌≡◌, ◌≤◌, length, IfOk};
 ghost use Rattle.tlv_area.specs.Layout.{IsArea};
 ghost use Rattle.tag_reader.specs.declared.how.How.TheVariants as hows;
 ghost use Rattle.tag_reader.specs.Asked.{ToWrite};
+ghost use Rattle.tag_reader.specs.Counts.{AsksFew};
 ghost use Rattle.tag_reader.specs.Heard.{IsOf};
 ghost use Rattle.tag_reader.specs.Reading.{KeepsStore, AsksInOrder, AsksAll, LeavesLink, TellsCause, TellsInCalm};
 ghost use Rattle.tag_reader.specs.Steps.{IsOfBlocks};
-ghost use Rattle.tag_reader.specs.Survey.{TellsGround};
+ghost use Rattle.tag_reader.specs.Survey.{IsPlacedGround, TellsGround};
 ghost use Rattle.tag_reader.specs.SurveySteps.{GroundIn, SurveysTag, SurveysBlocks};
 
 use crate::area::{read_all, read_to_end};
@@ -31,11 +32,15 @@ pub fn survey<T: TagLink>(alloc: Global, link: &mut T, how: How) -> Result<Groun
     requires ready { T.ready link.old }
     // it leads to a tag of that kind, with that identifier
     requires of { IsOf how (T.seen link.old) }
+    // whatever the tag does: the map is one that `capacity` takes
+    ensures places { IfOk result IsPlacedGround }
     // where it is a tag of that kind: the store stays, in each image
     ensures stays { KeepsStore how (T.seen link.old) (T.seen link.new) }
     // what was answered is the first of what is asked, and all of it unless the link or memory failed
     ensures asked { AsksInOrder ToWrite how (T.seen link.old) (T.seen link.new) }
     ensures whole { AsksAll ToWrite how (T.seen link.old) (T.seen link.new) result }
+    // and that is few
+    ensures few { AsksFew ToWrite how (T.seen link.old) }
     // by what it then tells the link doesn't end
     ensures goes_on { LeavesLink how (T.seen link.old) (T.seen link.new) result }
     ensures ok { TellsGround how (T.seen link.old) (T.seen link.new) result }
@@ -52,6 +57,7 @@ pub fn survey<T: TagLink>(alloc: Global, link: &mut T, how: How) -> Result<Groun
 fn survey_kind<T: TagLink>(alloc: Global, link: &mut T, how: How) -> Result<Ground, ReadFault>
     requires ready { T.ready link.old }
     requires of { IsOf how (T.seen link.old) }
+    ensures places { IfOk result IsPlacedGround }
     ensures surveys { SurveysTag how (T.seen link.old) (T.seen link.new) result }
     ensures ready { T.ready link.new }
     ensures same { T.lenders link.new ≡ T.lenders link.old }
@@ -68,7 +74,8 @@ fn survey_kind<T: TagLink>(alloc: Global, link: &mut T, how: How) -> Result<Grou
 fn ground_in(space: Space, block: u32, known: Vec<u8>) -> Result<Ground, ReadFault>
     requires area { IsArea space }
     requires whole { space.end ≤ length known.items }
-    ensures { GroundIn space block known.items result }
+    ensures ground { GroundIn space block known.items result }
+    ensures places { IfOk result IsPlacedGround }
 {
     match find_message(&space, known.as_slice()) {
         Walk::Held { map } => Ok(Ground::Area {
@@ -87,6 +94,7 @@ fn survey_area<T: TagLink>(alloc: Global, link: &mut T, how: How) -> Result<Grou
     requires ready { T.ready link.old }
     requires of { IsOf how (T.seen link.old) }
     requires kind { IsOfBlocks how }
+    ensures places { IfOk result IsPlacedGround }
     ensures surveys { SurveysBlocks how (T.seen link.old) (T.seen link.new) result }
     ensures ready { T.ready link.new }
     ensures same { T.lenders link.new ≡ T.lenders link.old }
@@ -102,6 +110,7 @@ fn survey_area<T: TagLink>(alloc: Global, link: &mut T, how: How) -> Result<Grou
 fn survey_file<T: TagLink>(alloc: Global, link: &mut T) -> Result<Ground, ReadFault>
     requires ready { T.ready link.old }
     requires of { IsOf hows.T4 (T.seen link.old) }
+    ensures places { IfOk result IsPlacedGround }
     ensures surveys { SurveysTag hows.T4 (T.seen link.old) (T.seen link.new) result }
     ensures ready { T.ready link.new }
     ensures same { T.lenders link.new ≡ T.lenders link.old }
@@ -116,6 +125,7 @@ fn survey_file<T: TagLink>(alloc: Global, link: &mut T) -> Result<Ground, ReadFa
 fn survey_blocks<T: TagLink>(alloc: Global, link: &mut T, id: [u8; 8]) -> Result<Ground, ReadFault>
     requires ready { T.ready link.old }
     requires of { IsOf (hows.T5 id) (T.seen link.old) }
+    ensures places { IfOk result IsPlacedGround }
     ensures surveys { SurveysTag (hows.T5 id) (T.seen link.old) (T.seen link.new) result }
     ensures ready { T.ready link.new }
     ensures same { T.lenders link.new ≡ T.lenders link.old }

@@ -17,7 +17,7 @@ use t4t_tag::T4Tag;
 use t5t_tag::T5Tag;
 
 /// A tag that obeys at once.
-trait Card {
+pub trait Card {
     ghost kind: { Self → TagKind };
 
     ghost identifier: { Self → List ℕ };
@@ -67,8 +67,8 @@ impl Card for T4Tag {
 
 /// A Type 5 tag that doesn't stay quiet.
 #[derive(Drop)]
-struct Awake {
-    tag: T5Tag,
+pub struct Awake {
+    pub tag: T5Tag,
     ghost awake: { tag.quiet ≡ false },
 }
 
@@ -90,9 +90,9 @@ impl Card for Awake {
 
 /// A tag that gives one answer to whatever it is asked.
 #[derive(Drop)]
-struct Odd<C> {
-    card: C,
-    answer: Frame,
+pub struct Odd<C> {
+    pub card: C,
+    pub answer: Frame,
 }
 
 impl<C: Card> Card for Odd<C> {
@@ -109,13 +109,33 @@ impl<C: Card> Card for Odd<C> {
     }
 }
 
+/// A tag that answers nothing.
+#[derive(Drop)]
+pub struct Mute<C> {
+    pub card: C,
+}
+
+impl<C: Card> Card for Mute<C> {
+    ghost kind = { λ m. C.kind m.card };
+
+    ghost identifier = { λ m. C.identifier m.card };
+
+    ghost state = { λ m. C.state m.card };
+
+    ghost step = { λ _ s _. record { answer = None; after = s } };
+
+    fn hear(&mut self, _command: &Frame) -> Option<Frame> {
+        None
+    }
+}
+
 /// A link to it that is lost after so many commands.
 #[derive(Drop)]
-struct MemLink<C> {
-    card: C,
+pub struct MemLink<C> {
+    pub card: C,
     left: u16,
     obeyed: Vec<Frame>,
-    answered: Vec<Frame>,
+    pub answered: Vec<Frame>,
     last: Option<Frame>,
     over: Option<AskFault>,
     breaks: u8,
@@ -184,7 +204,7 @@ impl<C: Card> TagLink for MemLink<C> {
 }
 
 impl<C> MemLink<C> {
-    fn new(alloc: Global, card: C, left: u16) -> MemLink<C>
+    pub fn new(alloc: Global, card: C, left: u16) -> MemLink<C>
         ensures { result.card ≡ card }
     {
         MemLink {
@@ -203,7 +223,7 @@ impl<C> MemLink<C> {
 /// A store of so many bytes that begins with zeros and goes on with these, and what a reading of it tells: a fault's
 /// number or 0, the message, whether writing is free, and how many commands it asks.
 #[derive(Drop)]
-struct Row<'a> {
+pub struct Row<'a> {
     zeros: usize,
     size: usize,
     head: &'a [u8],
@@ -213,7 +233,7 @@ struct Row<'a> {
     asks: usize,
 }
 
-fn store_of(alloc: Global, row: &Row) -> Result<Vec<u8>, Fail> {
+pub fn store_of(alloc: Global, row: &Row) -> Result<Vec<u8>, Fail> {
     let mut store = vec![in alloc; 0u8; row.zeros]?;
     store.extend_from_slice(row.head)?;
     store.resize(row.size, 0)?;
@@ -296,7 +316,7 @@ fn holds<'a>(zeros: usize, size: usize, head: &'a [u8], message: &'a [u8], asks:
 }
 
 /// A store that holds none.
-fn lacks<'a>(zeros: usize, size: usize, head: &'a [u8], fault: u8, asks: usize) -> Row<'a> {
+pub fn lacks<'a>(zeros: usize, size: usize, head: &'a [u8], fault: u8, asks: usize) -> Row<'a> {
     Row {
         zeros,
         size,
@@ -471,7 +491,7 @@ fn container_with(changes: &[(usize, u8)]) -> [u8; 15] {
 }
 
 /// A tag with a container, and a file of as many bytes as it says, which begins with these.
-fn tag_t4(alloc: Global, container: &[u8; 15], head: &[u8]) -> Result<T4Tag, Fail> {
+pub fn tag_t4(alloc: Global, container: &[u8; 15], head: &[u8]) -> Result<T4Tag, Fail> {
     let size = container[11] as usize * 256 + container[12] as usize;
     let mut file = head.to_vec(alloc)?;
     file.resize(size, 0)?;

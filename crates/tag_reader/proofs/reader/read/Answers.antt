@@ -1,6 +1,7 @@
 use Rattle.tag_reader.proofs.Exact.{tells_refused, tells_protocol, exactly_over}
 use Rattle.tag_reader.proofs.BlockCounts.{few_of}
 use Rattle.tag_reader.proofs.OneForm.{said_told, cut_told}
+use Rattle.tag_reader.specs.Asked.{ToRead}
 use Rattle.tag_reader.proofs.reader.read.Goals as goal
 
 pub returns-clause-refused : goal.returns-clause-refused
@@ -40,4 +41,4 @@ pub returns-clause-calm : goal.returns-clause-calm
 returns-clause-calm g c size is = (c.read_kind.ensures.reads size is).calm
 
 pub returns-clause-few : goal.returns-clause-few
-returns-clause-few g c = few_of c.args.how (g.T.TagLink.seen c.args.link.now)
+returns-clause-few g c = few_of ToRead c.args.how (g.T.TagLink.seen c.args.link.now)
