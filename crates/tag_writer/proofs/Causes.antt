@@ -1,0 +1,91 @@
+-- The faults of a survey, and of planning, as those of a write.
+use Rattle.std.proofs.Common.{◌≡◌, inl, inr, ℕ, List, true, None, refl, ap}
+use Rattle.nfc_base.specs.TagLinks.{LinkView}
+use Rattle.tag_reader.specs.declared.how.How.{How}
+use Rattle.tag_reader.specs.declared.fault.ReadFault.{ReadFault}
+use Rattle.tag_reader.specs.declared.fault.ReadFault.TheVariants as read
+use Rattle.tag_reader.specs.Reading as reading
+use Rattle.tag_writer.specs.declared.fault.WriteFault.{WriteFault}
+use Rattle.tag_writer.specs.declared.fault.WriteFault.TheVariants as fault
+use Rattle.tag_writer.specs.Faults.{IsWriteFault, is_told, IsToldOrMemory}
+use Rattle.tag_writer.specs.Planning.{of_read, IsDeclined}
+
+pub read_cause : (how : How) (size : ℕ) (message : List ℕ) (a b : LinkView) (e : ReadFault) → reading.IsReadFault how size a.state.store a b e → IsWriteFault how size message a b (of_read e)
+read_cause how size message a b read.NotNdef is = is
+read_cause how size message a b read.Version is = is
+read_cause how size message a b read.NoRead is = is
+read_cause how size message a b read.Sectors is = is
+read_cause how size message a b read.BadSize is = is
+read_cause how size message a b read.NoMessageTlv is = is
+read_cause how size message a b read.BadTlv is = is
+read_cause how size message a b (read.Refused code) is = absurd is
+read_cause how size message a b read.FieldLost is = is
+read_cause how size message a b read.SixBad is = is
+read_cause how size message a b read.Memory is = is
+read_cause how size message a b read.Protocol is = is
+
+pub read_told : (e : ReadFault) → is_told (of_read e) ≡ true → reading.is_told e ≡ true
+read_told read.NotNdef t = refl
+read_told read.Version t = refl
+read_told read.NoRead t = refl
+read_told read.Sectors t = refl
+read_told read.BadSize t = refl
+read_told read.NoMessageTlv t = refl
+read_told read.BadTlv t = refl
+read_told (read.Refused code) t = refl
+read_told read.FieldLost t = absurd cc
+read_told read.SixBad t = absurd cc
+read_told read.Memory t = absurd cc
+read_told read.Protocol t = absurd cc
+
+told_read : (e : ReadFault) → reading.is_told e ≡ true → is_told (of_read e) ≡ true
+told_read read.NotNdef t = refl
+told_read read.Version t = refl
+told_read read.NoRead t = refl
+told_read read.Sectors t = refl
+told_read read.BadSize t = refl
+told_read read.NoMessageTlv t = refl
+told_read read.BadTlv t = refl
+told_read (read.Refused code) t = refl
+told_read read.FieldLost t = absurd cc
+told_read read.SixBad t = absurd cc
+told_read read.Memory t = absurd cc
+told_read read.Protocol t = absurd cc
+
+pub read_calm : (e : ReadFault) → reading.IsToldOrMemory e → IsToldOrMemory (of_read e)
+read_calm e (inl t) = inl (told_read e t)
+read_calm e (inr m) = inr (ap of_read m)
+
+pub declined_cause : (how : How) (size : ℕ) (message : List ℕ) (a b : LinkView) (e : WriteFault) → b.over ≡ None → IsDeclined how size a.state.store message e → IsWriteFault how size message a b e
+declined_cause how size message a b fault.ReadOnly over is = is
+declined_cause how size message a b (fault.TooLong n) over is = is
+declined_cause how size message a b fault.ShortMlc over is = is
+declined_cause how size message a b fault.Memory over is = inl over
+declined_cause how size message a b fault.NotNdef over is = absurd is
+declined_cause how size message a b fault.Version over is = absurd is
+declined_cause how size message a b fault.NoRead over is = absurd is
+declined_cause how size message a b fault.Sectors over is = absurd is
+declined_cause how size message a b fault.BadSize over is = absurd is
+declined_cause how size message a b fault.NoMessageTlv over is = absurd is
+declined_cause how size message a b fault.BadTlv over is = absurd is
+declined_cause how size message a b (fault.Refused code) over is = absurd is
+declined_cause how size message a b fault.FieldLost over is = absurd is
+declined_cause how size message a b fault.SixBad over is = absurd is
+declined_cause how size message a b fault.Protocol over is = absurd is
+
+pub declined_calm : (how : How) (size : ℕ) (store message : List ℕ) (e : WriteFault) → IsDeclined how size store message e → IsToldOrMemory e
+declined_calm how size store message fault.ReadOnly is = inl refl
+declined_calm how size store message (fault.TooLong n) is = inl refl
+declined_calm how size store message fault.ShortMlc is = inl refl
+declined_calm how size store message fault.Memory is = inr refl
+declined_calm how size store message fault.NotNdef is = absurd is
+declined_calm how size store message fault.Version is = absurd is
+declined_calm how size store message fault.NoRead is = absurd is
+declined_calm how size store message fault.Sectors is = absurd is
+declined_calm how size store message fault.BadSize is = absurd is
+declined_calm how size store message fault.NoMessageTlv is = absurd is
+declined_calm how size store message fault.BadTlv is = absurd is
+declined_calm how size store message (fault.Refused code) is = absurd is
+declined_calm how size store message fault.FieldLost is = absurd is
+declined_calm how size store message fault.SixBad is = absurd is
+declined_calm how size store message fault.Protocol is = absurd is

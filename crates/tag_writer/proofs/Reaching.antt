@@ -1,0 +1,112 @@
+-- What a phase leaves that is reached.
+use Rattle.std.proofs.Common.{◌≡◌, inl, suc, List, [], ◌∷◌, ◌++◌, length, take, None, refl, sym, ◌∙◌, ap, subst, append-nil, arith}
+use Rattle.nfc_base.specs.Signal.{Signal}
+use Rattle.nfc_base.specs.TagLinks.{LinkView, Leads, images, Rises}
+use Rattle.nfc_base.proofs.Leading.{leads_on, rises_on}
+use Rattle.tag_reader.specs.Asked.{ToWrite, IsAskedFor}
+use Rattle.tag_reader.specs.Calls.{GoesOn}
+use Rattle.tag_reader.specs.Survey.{surveyed}
+use Rattle.tag_writer.specs.declared.phase.Phase.{Phase}
+use Rattle.tag_writer.specs.declared.phase.Phase.TheVariants.{Filled}
+use Rattle.tag_writer.specs.declared.work.Work.{Work}
+use Rattle.tag_writer.specs.Puts.{Put, after_puts, commands_of}
+use Rattle.tag_writer.specs.WriteAsked.{all_puts, refused_by, last_command}
+use Rattle.tag_writer.specs.Law.{IsEmptied, IsWritten}
+use Rattle.tag_writer.specs.Puttings.{Accepts, Makes}
+use Rattle.tag_writer.specs.Phases.{Job, Since, IsAt, made_at, next_at}
+use Rattle.tag_writer.specs.Ends.{IsOpened}
+use Rattle.tag_writer.proofs.Asking.{up_to_all}
+use Rattle.tag_writer.proofs.Places.{after_append}
+use Rattle.tag_writer.proofs.Tags.{under_makes, store_makes}
+use Rattle.tag_writer.proofs.Jobs.{next_all, under_at}
+use Rattle.tag_writer.proofs.Going.{since_makes, three_on, Three, New, last_image, answered_on, last_on, accepted_on}
+use Rattle.tag_writer.proofs.Fronts.{next_empty}
+
+-- the store behind the writes that follow a phase
+pub store_next : (phase : Phase) (j : Job) (work : Work) (old new : LinkView) → IsAt phase j work old → Makes j.how old (next_at phase j) new → new.state.store ≡ after_puts j.store (made_at phase j ++ next_at phase j)
+store_next phase j work old new at m =
+    store_makes j.how j.size j.store old new (next_at phase j) (under_at phase j work old at) (next_all phase j at.serves) m
+    ∙ ap (λ s. after_puts s (next_at phase j)) at.store ∙ sym (after_append j.store (made_at phase j) (next_at phase j))
+
+pub at_next : (phase next : Phase) (j : Job) (work : Work) (old new : LinkView) → made_at next j ≡ made_at phase j ++ next_at phase j → IsAt phase j work old → Makes j.how old (next_at phase j) new → IsAt next j work new
+at_next phase next j work old new same at m =
+    let under = under_makes j.how j.size j.store old new (next_at phase j) (under_at phase j work old at) (next_all phase j at.serves) m in
+    record {
+      serves = at.serves;
+      work' = at.work';
+      tag = under.tag;
+      near = under.near;
+      store = store_next phase j work old new at m ∙ ap (after_puts j.store) (sym same);
+    }
+
+pub since_next : (phase : Phase) (j : Job) (work : Work) (a old new : LinkView) → (phase ≡ Filled → ⊥) → IsAt phase j work old → Since j a old (made_at phase j) → Makes j.how old (next_at phase j) new → Since j a new (made_at phase j ++ next_at phase j)
+since_next phase j work a old new not at since m =
+    since_makes j a old new (made_at phase j) (next_at phase j) since (under_at phase j work old at) (next_all phase j at.serves) m
+    (λ n low. subst (λ t. IsEmptied j.how j.size j.place j.store (after_puts t (take (suc n) (next_at phase j)))) (sym at.store) (next_empty phase j at.serves not n low))
+
+pub written_at : (j : Job) (work : Work) (old new : LinkView) → IsAt Filled j work old → Makes j.how old (next_at Filled j) new → IsWritten j.how j.size j.message j.place j.store new.state.store
+written_at j work old new at m = subst (IsWritten j.how j.size j.message j.place j.store) (sym (store_next Filled j work old new at m)) at.serves.new
+
+-- all that an opened tag shows, since the writing began
+opens : (j : Job) (a b : LinkView) (more read : List Signal) → Leads a b more → Three j (images a more) → Rises a b → a.over ≡ None → GoesOn a b → IsAskedFor ToWrite j.how j.size j.store read →
+    b.answered ≡ a.answered ++ (read ++ commands_of (all_puts j.parts)) → b.last ≡ last_command a.last (read ++ commands_of (all_puts j.parts)) →
+    refused_by j.how a.step (surveyed j.how a.state) (commands_of (all_puts j.parts)) ≡ None → IsWritten j.how j.size j.message j.place j.store b.state.store → IsOpened j a b
+opens j a b more read leads three rises begun goes_on all answered last accepted written =
+    let list = up_to_all j.how a.step (surveyed j.how a.state) (commands_of (all_puts j.parts)) accepted in
+    let asked : List Signal = read ++ commands_of (all_puts j.parts) in
+    record {
+      more = more;
+      leads = leads;
+      passes = record { three = three; leaves = subst (IsWritten j.how j.size j.message j.place j.store) (sym (last_image a b j.store more leads)) written };
+      rises = rises;
+      goes_on = goes_on;
+      asked = record {
+        read = read;
+        all = all;
+        has = record {
+          asked = asked;
+          rest = [];
+          split = ap (λ cs. read ++ cs) list ∙ sym (append-nil asked);
+          answered = answered;
+          last = inl (last, goes_on.over ∙ sym begun);
+        };
+      };
+      whole = record { read = read; all = all; answered = answered ∙ ap (λ cs. a.answered ++ (read ++ cs)) (sym list) };
+      accepted = accepted;
+    }
+
+pub opened_at : (j : Job) (work : Work) (a old new : LinkView) → IsAt Filled j work old → Since j a old (j.parts.close ++ j.parts.fill) → Makes j.how old (next_at Filled j) new → IsOpened j a new
+opened_at j work a old new at since m = by_last j.parts.last refl m
+  where
+    front : List Put
+    front = j.parts.close ++ j.parts.fill
+
+    written : IsWritten j.how j.size j.message j.place j.store new.state.store
+    written = written_at j work old new at m
+
+    by_last : (last : List Put) → j.parts.last ≡ last → Makes j.how old last new → IsOpened j a new
+    by_last [] e n =
+        let same : all_puts j.parts ≡ j.parts.close ++ j.parts.fill = ap (λ ps. (j.parts.close ++ j.parts.fill) ++ ps) e ∙ append-nil (j.parts.close ++ j.parts.fill) in
+        let s : Since j a new (all_puts j.parts) = subst (λ v. Since j a v (all_puts j.parts)) (sym n) (subst (Since j a old) (sym same) since) in
+        opens j a new s.more s.read s.leads (record {
+          before = s.before;
+          during = s.during;
+          behind = [];
+          joined = s.joined ∙ ap (λ ys. s.before ++ ys) (sym (append-nil s.during));
+          olds = s.olds;
+          empties = s.empties;
+          news = tt;
+        }) s.rises s.begun s.goes_on s.all s.answered s.last s.accepted written
+    by_last (p ∷ []) e n =
+        let x : Accepts j.how old n.0 p.command = n.1 in
+        let same : all_puts j.parts ≡ (j.parts.close ++ j.parts.fill) ++ p ∷ [] = ap (λ ps. (j.parts.close ++ j.parts.fill) ++ ps) e in
+        let y : Accepts j.how old new p.command = subst (λ v. Accepts j.how old v p.command) (sym n.2) x in
+        let store : (old.step old.state p.command).after.store ≡ new.state.store = ap (λ t. t.store) (sym y.0.state) in
+        opens j a new (since.more ++ y.0.obeyed.more) since.read (leads_on a old new since.more y.0.obeyed.more since.leads y.0.obeyed.leads)
+        (three_on j a old new (j.parts.close ++ j.parts.fill) p.command since y.0.obeyed (New (subst (IsWritten j.how j.size j.message j.place j.store) (sym store) written)))
+        (rises_on a old new since.rises y.0.obeyed.rises) since.begun
+        (record { over = y.0.goes_on.over; lit = y.0.goes_on.lit; counts = y.0.goes_on.counts ∙ since.goes_on.counts }) since.all
+        (answered_on j a old new (j.parts.close ++ j.parts.fill) p since y ∙ ap (λ ps. a.answered ++ (since.read ++ commands_of ps)) (sym same))
+        (last_on j a old new (j.parts.close ++ j.parts.fill) p since y ∙ ap (λ ps. last_command a.last (since.read ++ commands_of ps)) (sym same))
+        (ap (λ ps. refused_by j.how a.step (surveyed j.how a.state) (commands_of ps)) same ∙ accepted_on j a old new (j.parts.close ++ j.parts.fill) p since y) written
+    by_last (p ∷ q ∷ ps) e n = absurd (omega (arith, ap length e, at.serves.last))

@@ -1,0 +1,52 @@
+use Rattle.std.proofs.Common.{◌≡◌, true, refl, sym, ◌∙◌, ap, subst}
+use Rattle.std.specs.Prelude.{Result, Ok, Err, IfOk, IfErr}
+use Rattle.nfc_base.specs.TagLinks.{LinkView}
+use Rattle.tag_reader.specs.Survey.{IsGround, IsKnownArea}
+use Rattle.tag_writer.specs.declared.fault.WriteFault.{WriteFault}
+use Rattle.tag_writer.specs.Place.{TakesNot}
+use Rattle.tag_writer.specs.Faults.{is_told}
+use Rattle.tag_writer.specs.Planning.{of_read, IsDeclined}
+use Rattle.tag_writer.proofs.OnePlace.{read_takes_not, declined_takes_not}
+use Rattle.tag_writer.proofs.Starting.{IsTold, prepared}
+use Rattle.tag_writer.proofs.preparing.prepare.Goals as goal
+
+ok_map : {A : Type 0} (P Q : A → Type 0) (r : Result A WriteFault) → ((x : A) → P x → Q x) → IfOk r P → IfOk r Q
+ok_map P Q (Ok x) f p = f x p
+ok_map P Q (Err e) f p = p
+
+pub returns-in-Ok-Area-clause-ok : goal.returns-in-Ok-Area-clause-ok
+returns-in-Ok-Area-clause-ok g c size is =
+    let a : LinkView = g.T.TagLink.seen c.args.link.now in
+    let b : LinkView = g.T.TagLink.seen c.survey.new.link in
+    let told : IsTold c.args.how size a.state.store a b = record {
+      tag = is;
+      store' = refl;
+      stays = c.in-Ok-Area.ensures.stays size is;
+      asked = c.in-Ok-Area.ensures.asked size is;
+      whole = c.in-Ok-Area.ensures.whole size is;
+      goes_on = c.in-Ok-Area.ensures.goes_on size is;
+      state = (c.in-Ok-Area.ensures.ok size is).state;
+    } in
+    let known : IsKnownArea c.args.how size a.state.store c.as_slice.result.now c.in-Ok-Area.block c.in-Ok-Area.map =
+    subst (λ k. IsKnownArea c.args.how size a.state.store k c.in-Ok-Area.block c.in-Ok-Area.map) (sym c.as_slice.ensures)
+    (subst (λ ground. IsGround c.args.how size a.state.store ground) c.in-Ok-Area.field-0-is (c.in-Ok-Area.ensures.ok size is).ground') in
+    ok_map _ _ c.plan_area.result (λ p planned. prepared c.args.how size a.state.store c.args.message.now p.work a b told planned) (c.plan_area.ensures.ok size a.state.store is.store known)
+
+err_map : {A : Type 0} (P Q : WriteFault → Type 0) (r : Result A WriteFault) → ((e : WriteFault) → P e → Q e) → IfErr r P → IfErr r Q
+err_map P Q (Ok x) f p = p
+err_map P Q (Err e) f p = f e p
+
+pub returns-in-Err-clause-untaken : goal.returns-in-Err-clause-untaken
+returns-in-Err-clause-untaken g c size is t =
+    let e : c.of_read.result ≡ of_read c.in-Err.fault = c.of_read.ensures in
+    read_takes_not c.args.how size c.args.message.now (g.T.TagLink.seen c.args.link.now) (g.T.TagLink.seen c.survey.new.link) c.in-Err.fault c.requires.kind (c.in-Err.ensures.err size is)
+    (ap is_told (sym e) ∙ t)
+
+pub returns-in-Ok-Area-clause-untaken : goal.returns-in-Ok-Area-clause-untaken
+returns-in-Ok-Area-clause-untaken g c size is =
+    let a : LinkView = g.T.TagLink.seen c.args.link.now in
+    let known : IsKnownArea c.args.how size a.state.store c.as_slice.result.now c.in-Ok-Area.block c.in-Ok-Area.map =
+    subst (λ k. IsKnownArea c.args.how size a.state.store k c.in-Ok-Area.block c.in-Ok-Area.map) (sym c.as_slice.ensures)
+    (subst (λ ground. IsGround c.args.how size a.state.store ground) c.in-Ok-Area.field-0-is (c.in-Ok-Area.ensures.ok size is).ground') in
+    err_map (IsDeclined c.args.how size a.state.store c.args.message.now) (λ e. is_told e ≡ true → TakesNot c.args.how size a.state.store c.args.message.now) c.plan_area.result
+    (λ e d t. declined_takes_not c.args.how size a.state.store c.args.message.now e c.requires.kind d t) (c.plan_area.ensures.err size a.state.store is.store known)

@@ -1,0 +1,12 @@
+pub mod Puts
+pub mod Place
+pub mod WriteAsked
+pub mod Law
+pub mod Puttings
+pub mod Phases
+pub mod Faults
+pub mod Ends
+pub mod Planning
+pub mod Writing
+pub mod Numbers
+pub mod Works

@@ -1,0 +1,43 @@
+-- What planning a write gives.
+use Rattle.std.specs.Prelude.{◌≡◌, ℕ, List}
+use Rattle.tag_reader.specs.declared.how.How.{How}
+use Rattle.tag_reader.specs.declared.fault.ReadFault.{ReadFault}
+use Rattle.tag_reader.specs.declared.fault.ReadFault.TheVariants as read
+use Rattle.tag_writer.specs.declared.fault.WriteFault.{WriteFault}
+use Rattle.tag_writer.specs.declared.fault.WriteFault.TheVariants as fault
+use Rattle.tag_writer.specs.declared.work.Work.{Work}
+use Rattle.tag_writer.specs.Faults.{IsReadOnly, IsTooLong, IsShort}
+use Rattle.tag_writer.specs.Phases.{Job, Serves, IsWork}
+
+-- The work serves a message for a store.
+pub record IsPlannedFor (how : How) (size : ℕ) (store message : List ℕ) (work : Work) : Type 0 where
+  pub job : Job
+  pub serves : Serves job
+  pub work' : IsWork job work
+  pub kind : job.how ≡ how
+  pub sized : job.size ≡ size
+  pub stored : job.store ≡ store
+  pub new : job.message ≡ message
+
+-- A store that holds a message doesn't take another, or there is no memory.
+abbrev pub IsDeclined : How → ℕ → List ℕ → List ℕ → WriteFault → Type 0
+IsDeclined how size store message fault.ReadOnly = IsReadOnly how size store message
+IsDeclined how size store message (fault.TooLong n) = IsTooLong how size store message n
+IsDeclined how size store message fault.ShortMlc = IsShort how size store message
+IsDeclined how size store message fault.Memory = Unit {0}
+IsDeclined how size store message e = ⊥
+
+-- the fault of a survey as one of a write
+abbrev pub of_read : ReadFault → WriteFault
+of_read read.NotNdef = fault.NotNdef
+of_read read.Version = fault.Version
+of_read read.NoRead = fault.NoRead
+of_read read.Sectors = fault.Sectors
+of_read read.BadSize = fault.BadSize
+of_read read.NoMessageTlv = fault.NoMessageTlv
+of_read read.BadTlv = fault.BadTlv
+of_read (read.Refused code) = fault.Refused code
+of_read read.FieldLost = fault.FieldLost
+of_read read.SixBad = fault.SixBad
+of_read read.Memory = fault.Memory
+of_read read.Protocol = fault.Protocol

@@ -1,0 +1,81 @@
+//! The writing of a tag.
+
+ghost use Rattle.std.specs.Prelude.{◌≡◌, ℕ, [], IfErr, OnOk};
+ghost use Rattle.nfc_base.specs.TagLinks.{LinkView, Rises};
+ghost use Rattle.tag_reader.specs.Kinds.{IsTag};
+ghost use Rattle.tag_reader.specs.Reading.{IsCalm};
+ghost use Rattle.tag_writer.specs.declared.phase.Phase.TheVariants as phases;
+ghost use Rattle.tag_writer.specs.Ends.{StopsSince, IsOpened};
+ghost use Rattle.tag_writer.specs.Faults.{IsToldOrMemory};
+ghost use Rattle.tag_writer.specs.Law.{IsWritten};
+ghost use Rattle.tag_writer.specs.Phases.{Job, Since, IsAt};
+ghost use Rattle.tag_writer.specs.Writing.{IsOfAreas, KeepsLaw, WritesInOrder, WritesAll, LeavesLink, TellsSuccess, TellsCause, TellsInCalm};
+
+use crate::fault::WriteFault;
+use crate::phase::{Opened, Prepared, Stopped};
+use crate::preparing::prepare;
+use nfc_base::TagLink;
+use std::alloc::Global;
+use tag_reader::How;
+
+/// The phases, one after another.
+fn open<T: TagLink>(alloc: Global, link: &mut T, prepared: Prepared) -> Result<Opened, Stopped>
+    requires ready { T.ready link.old }
+    requires at { (j : Job) × IsAt phases.Prepared j prepared.work (T.seen link.old) }
+    ensures ok { (j : Job) (a : LinkView) → IsAt phases.Prepared j prepared.work (T.seen link.old) →
+        Since j a (T.seen link.old) [] → OnOk result (IsOpened j a (T.seen link.new)) }
+    ensures new { (j : Job) → IsAt phases.Prepared j prepared.work (T.seen link.old) →
+        OnOk result (IsWritten j.how j.size j.message j.place j.store (T.seen link.new).state.store) }
+    ensures err { (j : Job) (a : LinkView) → IsAt phases.Prepared j prepared.work (T.seen link.old) →
+        Since j a (T.seen link.old) [] → IfErr result (λ s. StopsSince j a (T.seen link.new) s.cause) }
+    ensures calm { (j : Job) (a : LinkView) → IsAt phases.Prepared j prepared.work (T.seen link.old) →
+        Since j a (T.seen link.old) [] → IsCalm a (T.seen link.new) → IfErr result (λ s. IsToldOrMemory s.cause) }
+    ensures ready { T.ready link.new }
+    ensures same { T.lenders link.new ≡ T.lenders link.old }
+    ensures moves { T.moves link.old link.new }
+{
+    match prepared.empty(alloc, link) {
+        Err(stopped) => Err(stopped),
+        Ok(emptied) => match emptied.fill(alloc, link) {
+            Err(stopped) => Err(stopped),
+            Ok(filled) => filled.finish(alloc, link),
+        },
+    }
+}
+
+/// Writes a message to the tag behind a link, in the place of the one that it holds (NFC Forum Type 2 and Type 5 Tag).
+/// Whatever stops it, the tag holds the old message, the empty one or the new one.
+pub fn write<T: TagLink>(
+    alloc: Global,
+    link: &mut T,
+    how: How,
+    message: &[u8],
+) -> Result<(), WriteFault>
+    requires ready { T.ready link.old }
+    // it leads to a tag of that kind, with that identifier
+    requires tag { (size : ℕ) × IsTag how size (T.seen link.old) }
+    requires kind { IsOfAreas how }
+    // the law over the images, whatever the answer is
+    ensures law { KeepsLaw how message.now (T.seen link.old) (T.seen link.new) result }
+    // what was answered is the first of what is asked, and all of it unless the link or memory failed
+    ensures asked { WritesInOrder how message.now (T.seen link.old) (T.seen link.new) }
+    ensures whole { WritesAll how message.now (T.seen link.old) (T.seen link.new) result }
+    // by what it then tells the link doesn't end
+    ensures goes_on { LeavesLink how (T.seen link.old) (T.seen link.new) result }
+    // success: the store takes the message, no write of it was refused, and the tag holds it
+    ensures ok { TellsSuccess how message.now (T.seen link.old) (T.seen link.new) result }
+    ensures err { TellsCause how message.now (T.seen link.old) (T.seen link.new) result }
+    // where all passes, or each wait is answered, the link is no cause
+    ensures calm { TellsInCalm how (T.seen link.old) (T.seen link.new) result }
+    ensures ready { T.ready link.new }
+    ensures same { T.lenders link.new ≡ T.lenders link.old }
+    ensures moves { T.moves link.old link.new }
+{
+    match prepare(alloc, link, how, message) {
+        Err(fault) => Err(fault),
+        Ok(prepared) => match open(alloc, link, prepared) {
+            Ok(_) => Ok(()),
+            Err(stopped) => Err(stopped.cause),
+        },
+    }
+}
