@@ -1,5 +1,5 @@
 -- Lookups by their numbers.
-use Rattle.std.proofs.Common.{◌≡◌, ◌<◌, ℕ, suc, ◌==◌, Bool, true, false, List, [], ◌∷◌, ◌++◌, length, slice_set, Option, Some, None, option_map, refl, sym, ap, subst, ◌∙◌, arith, if◌then◌else◌}
+use Rattle.std.proofs.Common.{◌≡◌, ℕ, suc, ◌==◌, Bool, true, false, List, [], ◌∷◌, ◌++◌, slice_set, Option, Some, None, option_map, refl, sym, ap, subst, ◌∙◌, if◌then◌else◌}
 use Rattle.llcp_link.specs.State.{Lookup}
 use Rattle.llcp_link.specs.Asking.{put_lookup}
 use Rattle.llcp_link.specs.Places.{place_by}

@@ -1,5 +1,5 @@
 -- What an end asks of the other: connections and lookups, and what becomes of them (NFC Forum LLCP 1.3).
-use Rattle.std.specs.Prelude.{◌≡◌, ℕ, suc, option_map, ◌+◌, ◌%◌, ◌==◌, Bool, true, false, List, [], ◌∷◌, ◌++◌, drop, Option, Some, None, if◌then◌else◌}
+use Rattle.std.specs.Prelude.{◌≡◌, ℕ, ◌+◌, ◌%◌, ◌==◌, Bool, true, false, List, [], ◌∷◌, ◌++◌, drop, Option, Some, None, if◌then◌else◌}
 use Rattle.llcp_pdu.specs.declared.part.Part.{Part}
 use Rattle.llcp_pdu.specs.declared.part.Part.TheVariants.{Connect, Disc, Snl}
 use Rattle.llcp_pdu.specs.declared.param.Param.TheVariants.{SdReq}

@@ -1,6 +1,6 @@
 -- What calls and PDUs do to the connections that this end asked for, each named by its own SAP, for private calls: no public
 -- contract speaks of it, the tables are Taking.antt and Asking.antt.
-use Rattle.std.specs.Prelude.{◌≡◌, ◌<◌, ℕ, suc, ◌==◌, Bool, true, false, List, [], ◌∷◌, ◌++◌, length, drop, remove, slice_index_or, slice_set, Option, Some, None, option_map, if◌then◌else◌}
+use Rattle.std.specs.Prelude.{◌≡◌, ◌<◌, ℕ, Bool, true, false, List, [], ◌∷◌, ◌++◌, length, drop, remove, slice_index_or, slice_set, Option, Some, None}
 use Rattle.llcp_pdu.specs.declared.part.Part.{Part}
 use Rattle.llcp_pdu.specs.declared.part.Part.TheVariants.{Disc}
 use Rattle.llcp_pdu.specs.declared.pdu_view.PduView.{PduView}

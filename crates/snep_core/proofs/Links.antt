@@ -1,9 +1,7 @@
 -- What a client put and was told, by what the units put that came.
-use Rattle.std.proofs.Common.{◌≡◌, ◌⊎◌, ℕ, nat_lt, Bool, true, false, List, [], ◌∷◌, ◌++◌, length, refl, sym, ap, subst, ◌∙◌, inl, inr, append-nil, if◌then◌else◌}
-use Rattle.std.proofs.lemmas.List.{append_assoc}
-use Rattle.snep_core.specs.Cuts.{Job, AreJobs, IsJob, fit, units_of}
-use Rattle.snep_core.specs.Puts.{Puts}
-use Rattle.snep_core.specs.Links.{Answered, AreToldRight, IsToldRight, IsToldSo, LinkAccepts, LinkLaw, OneMore, Put, Rejected, Success, Told, Unanswered, fitting, jobs_of, put_before, put_of, puts_of, told_taken}
+use Rattle.std.proofs.Common.{◌≡◌, ℕ, nat_lt, Bool, true, false, List, [], ◌∷◌, ◌++◌, length, refl, sym, ap, ◌∙◌, inl, inr, append-nil, if◌then◌else◌}
+use Rattle.snep_core.specs.Cuts.{fit, units_of}
+use Rattle.snep_core.specs.Links.{Answered, AreToldRight, IsToldRight, IsToldSo, LinkAccepts, LinkLaw, Put, Rejected, Success, Told, Unanswered, fitting, jobs_of, put_before, put_of, puts_of, told_taken}
 use Rattle.snep_core.proofs.Cuts.{last_puts, puts_one}
 
 module _ (limit : ℕ) where
