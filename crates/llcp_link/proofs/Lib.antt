@@ -29,3 +29,4 @@ pub mod Closes
 pub mod Awaited
 pub mod OwnGiven
 pub mod Asked
+pub mod Waning

@@ -22,3 +22,4 @@ pub mod Owning
 pub mod OwnGiving
 pub mod Owns
 pub mod Closing
+pub mod Waning

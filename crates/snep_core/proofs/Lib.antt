@@ -9,3 +9,6 @@ pub mod UnitPuts
 pub mod SourcesTold
 pub mod PayloadLaw
 pub mod Links
+pub mod Cutting
+pub mod Talking
+pub mod Falling

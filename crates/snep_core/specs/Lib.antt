@@ -6,3 +6,7 @@ pub mod Puts
 pub mod Cuts
 pub mod Links
 pub mod Payloads
+pub mod Talk
+pub mod Calling
+pub mod Numbers
+pub mod Waning

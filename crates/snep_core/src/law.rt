@@ -20,9 +20,9 @@ pub fn last_put()
     ensures { LastPut }
 {}
 
-/// A client puts one message after the other, the next once the one before was told. Whichever first units of the last one came:
-/// what they put is a front of its messages that are within the limit, all that were told to be taken, and at most the last one
-/// more, which wasn't answered.
+/// A client puts one message after the other, the next once the one before was told. Whichever first units of the last one
+/// came: what they put is a front of its messages that are within the limit, all that were told to be taken, and at most the
+/// last one more, which wasn't answered.
 pub fn link()
     ensures { LinkLaw }
 {}

@@ -6,15 +6,24 @@
 //! session for each client's SAP; `law` says what the units of a client's messages put, and that a server accepts just that.
 #![tactic(auto)]
 
+mod client;
+mod fault;
 mod first;
+mod job;
 mod law;
 mod message;
 mod server;
 mod session;
+mod silent;
 
+pub use client::Client;
+pub use fault::SnepFault;
 pub use law::{fronts, in_order, last_put, link, one_list, payloads};
 pub use server::Server;
+pub use silent::NoService;
 
+#[cfg(test)]
+mod client_tests;
 #[cfg(test)]
 mod link_tests;
 #[cfg(test)]

@@ -1,0 +1,73 @@
+-- An exchange of a client over a link, and how it is cut off.
+use Rattle.std.proofs.Common.{◌≡◌, ℕ, Bool, false, List, [], ◌∷◌, Option, Some, None, Result, Err, refl, ap, subst, ◌∙◌, inl, inr}
+use Rattle.nfc_base.specs.declared.carrier.EndCause.{EndCause}
+use Rattle.nfc_base.specs.declared.carrier.LinkEnd.{LinkEnd}
+use Rattle.nfc_base.specs.Links.{CarrierView, FarStep, Stepped, SwapDone, SwapFailed, SwapRefused, Swapped, AskedBy}
+use Rattle.llcp_link.specs.Answering.{Gives}
+use Rattle.llcp_link.specs.Taking.{taken_from}
+use Rattle.llcp_link.specs.Giving.{given}
+use Rattle.snep_core.specs.declared.fault.SnepFault.{SnepFault}
+use Rattle.snep_core.specs.declared.fault.SnepFault.TheVariants.{Memory}
+use Rattle.snep_core.specs.Calling.{Exchanged, IsCut, fault_of}
+use Rattle.snep_core.specs.Talk.{EndState, gave_something, own_of, silent}
+
+module _ {C A : Type 0} (seen : C → CarrierView) (moves : C → List FarStep → C → Type 0) (steps : A → List ℕ → List ℕ → A → Type 0)
+    (stops : A → List ℕ → A → Type 0) (link : C) (far : A) (now : C) (after : A) (llc mid : EndState) (out : List ℕ)
+    (g : Gives silent llc out mid) where
+  abbrev sent : List ℕ
+  sent = given silent g.count llc
+
+  pub cut_failed : {V : Type 0} (e : SnepFault) (why : LinkEnd) (r : Result V LinkEnd) → r ≡ Err why → e ≡ fault_of why.cause
+      → ((seen link).over ≡ None → SwapFailed steps stops (seen link) (seen now) out why far after)
+      → ((c : EndCause) → (seen link).over ≡ Some c
+      → SwapRefused (seen link) (seen now) c far after r × moves link [] now)
+      → Swapped moves steps stops link out far now after (AskedBy why.answered why.cause out)
+      → IsCut seen moves steps stops llc link far e now after
+  cut_failed e why r is fault fails refused swapped = go (seen link).over refl
+    where
+      go : (o : Option EndCause) → (seen link).over ≡ o → IsCut seen moves steps stops llc link far e now after
+      go None i = inr (inl (record {
+        count = g.count;
+        allowed = g.allowed;
+        why = why;
+        fault = fault;
+        swap = subst (λ b. SwapFailed steps stops (seen link) (seen now) b why far after) g.bytes_are (fails i);
+        swapped = subst (λ b. Swapped moves steps stops link b far now after (AskedBy why.answered why.cause b)) g.bytes_are swapped;
+      }))
+      go (Some c) i =
+          (let q = refused c i in
+          let t = q.0.fault in
+          let w : why ≡ record { cause = c; answered = false } = cc in
+          inl (inr (record {
+            why = c;
+            over = i;
+            fault = fault ∙ ap (λ x. fault_of x.cause) w;
+            same = q.0.same;
+            link_moved = q.1;
+            far_is = q.0.rests;
+          })))
+
+  pub cut_unread : (e : SnepFault) (reply : List ℕ) → e ≡ Memory → SwapDone steps (seen link) (seen now) out reply far after
+      → Swapped moves steps stops link out far now after (λ did. did ≡ Stepped out reply ∷ [])
+      → IsCut seen moves steps stops llc link far e now after
+  cut_unread e reply fault done swapped = inr (inr (record {
+    count = g.count;
+    allowed = g.allowed;
+    reply = reply;
+    fault = fault;
+    swap = subst (λ b. SwapDone steps (seen link) (seen now) b reply far after) g.bytes_are done;
+    swapped = subst (λ b. Swapped moves steps stops link b far now after (λ did. did ≡ Stepped b reply ∷ [])) g.bytes_are swapped;
+  }))
+
+  pub exchanged : (reply : List ℕ) (gave : Bool) (new : EndState) → SwapDone steps (seen link) (seen now) out reply far after
+      → Swapped moves steps stops link out far now after (λ did. did ≡ Stepped out reply ∷ []) → new ≡ taken_from silent mid reply
+      → gave ≡ gave_something (own_of mid) (own_of new) → Exchanged seen moves steps stops llc link far gave new now after
+  exchanged reply gave new done swapped took something = record {
+    count = g.count;
+    allowed = g.allowed;
+    reply = reply;
+    swap = subst (λ b. SwapDone steps (seen link) (seen now) b reply far after) g.bytes_are done;
+    swapped = subst (λ b. Swapped moves steps stops link b far now after (λ did. did ≡ Stepped b reply ∷ [])) g.bytes_are swapped;
+    took = took ∙ ap (λ l. taken_from silent l reply) g.left;
+    something = something ∙ ap (λ l. gave_something (own_of l) (own_of new)) g.left;
+  }

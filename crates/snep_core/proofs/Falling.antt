@@ -1,0 +1,79 @@
+-- What is still to come falls by each reply that gives something.
+use Rattle.std.proofs.Common.{◌≡◌, ◌<◌, ◌≤◌, ℕ, ◌==◌, ◌&&◌, not, Bool, true, false, List, Option, refl, sym, ap, subst, arith, if◌then◌else◌}
+use Rattle.std.proofs.lemmas.Bool.Decides.{nat_tests}
+use Rattle.llcp_link.specs.State.{OwnState}
+use Rattle.llcp_link.specs.declared.standing.Standing.{Standing}
+use Rattle.llcp_link.specs.declared.standing.Standing.TheVariants as stands
+use Rattle.llcp_link.specs.Asking.{acked_of, is_open_by, standing_of}
+use Rattle.llcp_link.specs.Taking.{taken_from}
+use Rattle.llcp_link.specs.Giving.{after_giving}
+use Rattle.llcp_link.specs.Waning.{pending}
+use Rattle.llcp_link.proofs.Waning.{Wanes, is_of, acknowledged_falls, answer_falls, drained_wanes, given_wanes, pending_wanes, taken_wanes}
+use Rattle.snep_core.specs.Waning.{Lessens}
+use Rattle.snep_core.specs.Talk.{EndState, client_sap, drained, gave_something, is_waiting, own_of, silent}
+
+both : (a b : Bool) → (a && b) ≡ true → (a ≡ true) × (b ≡ true)
+both true b e = (refl, e)
+both false b e = absurd cc
+
+not_true : (b : Bool) → not b ≡ true → b ≡ false
+not_true true e = absurd cc
+not_true false e = refl
+
+waits : (s : Standing) → is_waiting s ≡ true → s ≡ stands.Waiting
+waits stands.Nothing e = absurd cc
+waits stands.Waiting e = refl
+waits (stands.Open miu) e = absurd cc
+waits stands.Refused e = absurd cc
+waits stands.Closed e = absurd cc
+
+rests : (s : Standing) → is_waiting s ≡ false → s ≡ stands.Waiting → ⊥
+rests s e i = (let z : is_waiting s ≡ true = ap is_waiting i in absurd cc)
+
+abbrev On : Option OwnState → Option OwnState → Type 0
+On a b = Wanes (is_of client_sap a) (is_of client_sap b)
+
+other_count : (m n : ℕ) → (m == n) ≡ false → m ≡ n → ⊥
+other_count m n e i = absurd (grind (arith, nat_tests, e, i))
+
+gave_falls : (a b : Option OwnState) → On a b → acked_of a < 4294967296 → gave_something a b ≡ true → pending b < pending a
+gave_falls a b w few e = go (is_waiting (standing_of a) && not (is_waiting (standing_of b))) refl e
+  where
+    rest : (c : Bool) → (is_open_by a && is_open_by b) ≡ c → (if c then not (acked_of b == acked_of a) else false) ≡ true → pending b < pending a
+    rest true i k =
+        (let o = both (is_open_by a) (is_open_by b) i in
+        acknowledged_falls client_sap a b w o.0 o.1 few (other_count (acked_of b) (acked_of a) (not_true (acked_of b == acked_of a) k)))
+    rest false i k = absurd cc
+
+    go : (c : Bool) → (is_waiting (standing_of a) && not (is_waiting (standing_of b))) ≡ c
+        → (if c then true else (if is_open_by a && is_open_by b then not (acked_of b == acked_of a) else false)) ≡ true → pending b < pending a
+    go true i k =
+        (let o = both (is_waiting (standing_of a)) (not (is_waiting (standing_of b))) i in
+        answer_falls client_sap a b w (waits (standing_of a) o.0) (rests (standing_of b) (not_true (is_waiting (standing_of b)) o.1)))
+    go false i k = rest (is_open_by a && is_open_by b) refl k
+
+-- one exchange
+pub exchange_falls : (l mid new : EndState) (n : ℕ) (reply : List ℕ) (gave : Bool) → mid ≡ after_giving silent n l → new ≡ taken_from silent mid reply
+    → acked_of (own_of mid) < 4294967296 → gave ≡ gave_something (own_of mid) (own_of new) → Lessens gave (own_of l) (own_of new)
+exchange_falls l mid new n reply gave e i few g = go gave g
+  where
+    one : pending (own_of mid) ≤ pending (own_of l)
+    one = pending_wanes client_sap (own_of l) (own_of mid) (subst (λ z. On (own_of l) (own_of z)) (sym e) (given_wanes silent client_sap n l))
+
+    two : On (own_of mid) (own_of new)
+    two = subst (λ z. On (own_of mid) (own_of z)) (sym i) (taken_wanes silent client_sap mid reply)
+
+    go : (b : Bool) → b ≡ gave_something (own_of mid) (own_of new) → Lessens b (own_of l) (own_of new)
+    go true k = (let x = one in let y = gave_falls (own_of mid) (own_of new) two few (sym k) in omega arith)
+    go false k = (let x = one in let y = pending_wanes client_sap (own_of mid) (own_of new) two in omega arith)
+
+-- and a unit that is taken away behind it
+pub drained_falls : (gave : Bool) (old : Option OwnState) (new last : EndState) → last ≡ drained new → Lessens gave old (own_of new) → Lessens gave old (own_of last)
+drained_falls gave old new last e h = go gave h
+  where
+    less : pending (own_of last) ≤ pending (own_of new)
+    less = pending_wanes client_sap (own_of new) (own_of last) (subst (λ z. On (own_of new) (own_of z)) (sym e) (drained_wanes silent client_sap new))
+
+    go : (b : Bool) → Lessens b old (own_of new) → Lessens b old (own_of last)
+    go true k = (let x = less in omega arith)
+    go false k = (let x = less in omega arith)

@@ -1,0 +1,18 @@
+use Rattle.std.proofs.Common.{◌≡◌, ◌<◌, false}
+use Rattle.snep_core.specs.Calling.{Talks}
+use Rattle.snep_core.specs.Talk.{Goes, begun, most_idle, own_of}
+use Rattle.snep_core.specs.Waning.{replies_left}
+use Rattle.snep_core.proofs.client.Client.converse.Given as goal
+
+abbrev pub invariant-turns : goal.invariant-turns
+invariant-turns g l = record {
+  idle : l.idle < most_idle;
+  spent : l.self.spent ≡ false;
+  ready : g.C.Carrier.ready l.carrier;
+  same : g.C.Carrier.lenders l.carrier ≡ g.C.Carrier.lenders l.fn.carrier;
+  talks : Talks g.C.Carrier.seen g.C.Carrier.moves g.A.Answerer.steps g.A.Answerer.stops (begun l.fn.self.llc l.job) l.fn.carrier l.fn.far
+      (Goes (record { llc = l.self.llc; job = l.job; idle = l.idle })) l.carrier l.far;
+}
+
+abbrev pub decreases-turns : goal.decreases-turns
+decreases-turns g l = replies_left (own_of l.self.llc) l.idle

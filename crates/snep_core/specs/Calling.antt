@@ -1,0 +1,132 @@
+-- A call of a client over a link and a far end: what it hands over and what it heard, and how it is cut off.
+use Rattle.std.specs.Prelude.{◌≡◌, ◌⊎◌, ℕ, Bool, true, false, List, [], ◌∷◌, ◌++◌, Option, Some}
+use Rattle.nfc_base.specs.declared.carrier.EndCause.{EndCause}
+use Rattle.nfc_base.specs.declared.carrier.EndCause.TheVariants as cause
+use Rattle.nfc_base.specs.declared.carrier.LinkEnd.{LinkEnd}
+use Rattle.nfc_base.specs.Links.{CarrierView, FarStep, Stepped, Stopped, FarMoved, SwapDone, SwapFailed, Swapped, AskedBy}
+use Rattle.llcp_link.specs.Taking.{taken_from}
+use Rattle.llcp_link.specs.Giving.{IsAllowed, given, after_giving}
+use Rattle.snep_core.specs.declared.fault.SnepFault.{SnepFault}
+use Rattle.snep_core.specs.declared.fault.SnepFault.TheVariants.{LinkEnded, Memory, BadPeer}
+use Rattle.snep_core.specs.Talk.{EndState, Step, Goes, Ends, GivesUp, Told, Working, gave_something, own_of, replied, silent}
+use Rattle.snep_core.specs.declared.job.Turn.{Turn}
+use Rattle.snep_core.specs.declared.job.Turn.TheVariants.{Ended, Went, GaveUp}
+
+-- What contracts see of a client: its end of the link, and whether want of memory ended a call.
+pub record ClientState : Type 0 where
+  pub llc : EndState
+  pub spent : Bool
+
+-- the payloads that were handed over
+abbrev pub payload_of : FarStep → List ℕ
+payload_of (Stepped payload reply) = payload
+payload_of (Stopped payload) = payload
+
+abbrev pub payloads : List FarStep → List (List ℕ)
+payloads [] = []
+payloads (x ∷ xs) = payload_of x ∷ payloads xs
+
+-- the last one, or the one before where there is none
+abbrev pub last_of : Option (List ℕ) → List FarStep → Option (List ℕ)
+last_of before [] = before
+last_of before (x ∷ xs) = last_of (Some (payload_of x)) xs
+
+-- why a call ends where a swap does
+abbrev pub fault_of : EndCause → SnepFault
+fault_of cause.FieldLost = LinkEnded cause.FieldLost
+fault_of cause.SixBad = LinkEnded cause.SixBad
+fault_of cause.Protocol = LinkEnded cause.Protocol
+fault_of cause.Memory = Memory
+
+abbrev pub is_memory : SnepFault → Bool
+is_memory Memory = true
+is_memory _ = false
+
+abbrev pub step_of : Turn → Working → EndState → Step
+step_of (Ended o) w l = Ends o l
+step_of (Went idle) w l = Goes (record { llc = l; job = w.job; idle = idle })
+step_of GaveUp w l = GivesUp l
+
+module _ {C A : Type 0} (seen : C → CarrierView) (moves : C → List FarStep → C → Type 0) (steps : A → List ℕ → List ℕ → A → Type 0)
+    (stops : A → List ℕ → A → Type 0) where
+  -- A call came from one step to another over the link: what was handed over, and what the link and the far end did.
+  pub record Talks (from : Step) (link : C) (far : A) (to : Step) (now : C) (after : A) : Type 0 where
+    pub did : List FarStep
+    pub told : Told from did to
+    pub handed : (seen now).handed ≡ (seen link).handed ++ payloads did
+    pub last : (seen now).last ≡ last_of (seen link).last did
+    pub link_moved : moves link did now
+    pub far_moved : FarMoved steps stops did far after
+
+  -- one exchange: the next payload was answered, and the reply taken
+  pub record Exchanged (old : EndState) (link : C) (far : A) (gave : Bool) (new : EndState) (now : C) (after : A) : Type 0 where
+    pub count : ℕ
+    pub allowed : IsAllowed silent old count
+    pub reply : List ℕ
+    pub swap : SwapDone steps (seen link) (seen now) (given silent count old) reply far after
+    pub swapped : Swapped moves steps stops link (given silent count old) far now after
+        (λ did. did ≡ Stepped (given silent count old) reply ∷ [])
+    pub took : new ≡ taken_from silent (after_giving silent count old) reply
+    pub something : gave ≡ gave_something (own_of (after_giving silent count old)) (own_of new)
+
+  -- one exchange, and what the call is then
+  pub record Turned (w : Working) (link : C) (far : A) (turn : Turn) (new : EndState) (now : C) (after : A) : Type 0 where
+    pub count : ℕ
+    pub allowed : IsAllowed silent w.llc count
+    pub reply : List ℕ
+    pub swap : SwapDone steps (seen link) (seen now) (given silent count w.llc) reply far after
+    pub swapped : Swapped moves steps stops link (given silent count w.llc) far now after
+        (λ did. did ≡ Stepped (given silent count w.llc) reply ∷ [])
+    pub step : replied count w reply ≡ step_of turn w new
+
+  -- Nothing was handed over: memory was wanting before.
+  pub record Rests (link : C) (far : A) (e : SnepFault) (now : C) (after : A) : Type 0 where
+    pub fault : e ≡ Memory
+    pub link_is : now ≡ link
+    pub far_is : after ≡ far
+
+  -- The link was over.
+  pub record IsOver (link : C) (far : A) (e : SnepFault) (now : C) (after : A) : Type 0 where
+    pub why : EndCause
+    pub over : (seen link).over ≡ Some why
+    pub fault : e ≡ fault_of why
+    pub same : seen now ≡ seen link
+    pub link_moved : moves link [] now
+    pub far_is : after ≡ far
+
+  -- The swap of the next payload failed.
+  pub record Fails (old : EndState) (link : C) (far : A) (e : SnepFault) (now : C) (after : A) : Type 0 where
+    pub count : ℕ
+    pub allowed : IsAllowed silent old count
+    pub why : LinkEnd
+    pub fault : e ≡ fault_of why.cause
+    pub swap : SwapFailed steps stops (seen link) (seen now) (given silent count old) why far after
+    pub swapped : Swapped moves steps stops link (given silent count old) far now after
+        (AskedBy why.answered why.cause (given silent count old))
+
+  -- The next payload was answered, and as the reply was taken memory was wanting.
+  pub record Unread (old : EndState) (link : C) (far : A) (e : SnepFault) (now : C) (after : A) : Type 0 where
+    pub count : ℕ
+    pub allowed : IsAllowed silent old count
+    pub reply : List ℕ
+    pub fault : e ≡ Memory
+    pub swap : SwapDone steps (seen link) (seen now) (given silent count old) reply far after
+    pub swapped : Swapped moves steps stops link (given silent count old) far now after
+        (λ did. did ≡ Stepped (given silent count old) reply ∷ [])
+
+  abbrev pub IsCut : EndState → C → A → SnepFault → C → A → Type 0
+  IsCut old link far e now after =
+      (Rests link far e now after ⊎ IsOver link far e now after) ⊎ (Fails old link far e now after ⊎ Unread old link far e now after)
+
+  -- A call went on so far, and was cut off by its link or by want of memory.
+  pub record Breaks (from : Step) (link : C) (far : A) (e : SnepFault) (now : C) (after : A) : Type 0 where
+    pub at : Working
+    pub mid : C
+    pub mid_far : A
+    pub talks : Talks from link far (Goes at) mid mid_far
+    pub cut : IsCut at.llc mid mid_far e now after
+
+  -- A call that failed: the far end was given up, or it was cut off.
+  abbrev pub FailsBy : Step → C → A → SnepFault → EndState → C → A → Type 0
+  FailsBy from link far e new now after =
+      ((e ≡ BadPeer) × Talks from link far (GivesUp new) now after) ⊎ Breaks from link far e now after

@@ -1,0 +1,193 @@
+//! A client over a carrier without an air.
+
+ghost use Rattle.std.specs.Prelude.{◌≡◌, Bool, None};
+ghost use Rattle.llcp_link.specs.State.{own_from};
+
+use crate::{Client, NoService, Server, SnepFault};
+use arrayvec::ArrayVec;
+use llcp_link::Llc;
+use llcp_pdu::LinkParams;
+use nfc_base::{Answerer, Carrier, EndCause, Items, LinkEnd, Mute};
+use std::alloc::Global;
+use std::process::Abort;
+use std::test::Fail;
+
+/// General bytes of an end of MIU 128.
+const GENERAL: [u8; 10] = [0x46, 0x66, 0x6D, 0x01, 0x01, 0x13, 0x03, 0x02, 0x00, 0x13];
+
+const PARAMS: LinkParams = LinkParams {
+    version: 0x13,
+    miu: 128,
+    wks: 0x13,
+};
+
+/// Hands each payload over at once, until it is over.
+#[derive(Drop)]
+struct Straight {
+    over: Option<EndCause>,
+    last: Option<ArrayVec<u8, 2178>>,
+    handed: Vec<Items<u8>>,
+}
+
+impl Straight {
+    ghost use Rattle.std.specs.Prelude.{◌≡◌, Some, false};
+
+    fn new(alloc: Global, over: Option<EndCause>) -> Straight {
+        Straight {
+            over,
+            last: None,
+            handed: Vec::new(alloc),
+        }
+    }
+
+    fn end(&mut self) -> LinkEnd
+        ensures over { self.new ≡ record self.old { over = Some EndCause.Memory } }
+        ensures told { result ≡ record { cause = EndCause.Memory; answered = false } }
+    {
+        self.over = Some(EndCause::Memory);
+        LinkEnd {
+            cause: EndCause::Memory,
+            answered: false,
+        }
+    }
+}
+
+impl Carrier for Straight {
+    ghost use Rattle.std.specs.Prelude.{[], false, ⊤};
+    ghost use Rattle.std.specs.Option.{option_map};
+
+    ghost seen = { λ c. record {
+      over = c.over;
+      dark = false;
+      counts = record { breaks = 0; six_bad = 0; odd = 0 };
+      noise = 0;
+      handed = c.handed.items;
+      last = option_map (λ l. l.items) c.last;
+    } };
+
+    ghost lenders = { λ _. [] };
+
+    ghost ready = { λ _. ⊤ };
+
+    ghost moves = { λ _ _ _. ⊤ };
+
+    fn swap<A: Answerer>(
+        &mut self,
+        alloc: Global,
+        out: &[u8],
+        far: &mut A,
+    ) -> Result<Vec<u8>, LinkEnd> {
+        if let Some(cause) = self.over {
+            return Err(LinkEnd {
+                cause,
+                answered: false,
+            });
+        }
+        let mut sent = ArrayVec::new();
+        sent.try_extend_from_slice(out).unwrap();
+        self.last = Some(sent);
+        let Ok(payload) = Items::from_bytes(alloc, out) else {
+            return Err(self.end());
+        };
+        if self.handed.reserve(1).is_err() {
+            return Err(self.end());
+        }
+        self.handed.push(payload).unwrap();
+        let mut reply = Vec::new(alloc);
+        match far.answer(alloc, out, &mut reply) {
+            Err(_) => Err(self.end()),
+            Ok(()) => Ok(reply),
+        }
+    }
+
+    ghost stays = { λ a. tt };
+
+    ghost goes_on = { λ a b c xs ys p q. tt };
+}
+
+/// An end with a server at SAP 4, at the begin of a link.
+fn peer(rt: &impl Abort, alloc: Global) -> Result<Llc<Server>, Fail> {
+    let mut llc = Llc::new(alloc, PARAMS, 1, Server::new(alloc, 1024));
+    assert_eq!(rt; llc.listen("urn:nfc:sn:snep", 4), Ok(()));
+    llc.restart(&GENERAL);
+    Ok(llc)
+}
+
+/// A client at the begin of a link.
+fn client(alloc: Global) -> Client {
+    let mut llc = Llc::new(alloc, PARAMS, 1, NoService);
+    llc.restart(&GENERAL);
+    Client::new(alloc, llc)
+}
+
+#[test]
+fn names_are_looked_up(rt: HostRuntime) -> Result<(), Fail> {
+    let alloc = rt.alloc();
+    let mut link = Straight::new(alloc, None);
+    let mut far = peer(&rt, alloc)?;
+    let mut client = client(alloc);
+    assert_eq!(rt;
+        client.lookup(&mut link, &mut far, "urn:nfc:sn:snep"),
+        Ok(4)
+    );
+    assert_eq!(rt;
+        client.lookup(&mut link, &mut far, "urn:nfc:sn:none"),
+        Ok(0)
+    );
+    assert_eq!(rt; client.lookup(&mut link, &mut far, "urn:nfc:sn:sdp"), Ok(1));
+    assert_eq!(rt; client.close(&mut link, &mut far), Ok(()));
+    assert_eq!(rt; link.handed.len(), 3);
+    let first = link.handed.first().map(|p| p.as_slice());
+    assert_eq!(rt;
+        first,
+        Some(b"\x06\x41\x08\x10\x00urn:nfc:sn:snep".as_slice())
+    );
+    Ok(())
+}
+
+#[test]
+fn an_open_connection_is_closed(rt: HostRuntime) -> Result<(), Fail> {
+    let alloc = rt.alloc();
+    let mut link = Straight::new(alloc, None);
+    let mut far = peer(&rt, alloc)?;
+    let mut client = client(alloc);
+    assert_eq!(rt; client.llc.connect(4), Ok(()));
+    assert_eq!(rt;
+        client.lookup(&mut link, &mut far, "urn:nfc:sn:snep"),
+        Ok(4)
+    );
+    assert_eq!(rt; client.close(&mut link, &mut far), Ok(()));
+    assert_eq!(rt; client.close(&mut link, &mut far), Ok(()));
+    let last = link.handed.last().map(|p| p.as_slice());
+    assert_eq!(rt; last, Some([0x11u8, 0x60].as_slice()));
+    assert_eq!(rt; link.handed.len(), 2);
+    Ok(())
+}
+
+#[test]
+fn sixteen_replies_that_give_nothing_are_enough(rt: HostRuntime) -> Result<(), Fail> {
+    let alloc = rt.alloc();
+    let mut link = Straight::new(alloc, None);
+    let mut client = client(alloc);
+    let told = client.lookup(&mut link, &mut Mute, "urn:nfc:sn:snep");
+    assert_eq!(rt; told, Err(SnepFault::BadPeer));
+    assert_eq!(rt; link.handed.len(), 16);
+    Ok(())
+}
+
+#[test]
+fn a_link_that_is_over_is_told_by_its_cause(rt: HostRuntime) -> Result<(), Fail> {
+    let alloc = rt.alloc();
+    let mut far = peer(&rt, alloc)?;
+    let mut client = client(alloc);
+    let mut lost = Straight::new(alloc, Some(EndCause::SixBad));
+    let told = client.lookup(&mut lost, &mut far, "urn:nfc:sn:snep");
+    assert_eq!(rt; told, Err(SnepFault::LinkEnded(EndCause::SixBad)));
+    let mut full = Straight::new(alloc, Some(EndCause::Memory));
+    let told = client.lookup(&mut full, &mut far, "urn:nfc:sn:snep");
+    assert_eq!(rt; told, Err(SnepFault::Memory));
+    let mut link = Straight::new(alloc, None);
+    assert_eq!(rt; client.close(&mut link, &mut far), Err(SnepFault::Memory));
+    assert_eq!(rt; SnepFault::BadPeer.number(), 7);
+    Ok(())
+}
