@@ -17,18 +17,19 @@ module _ {C A : Type 0} (seen : C → CarrierView) (moves : C → List FarStep �
   abbrev sent : List ℕ
   sent = given silent g.count llc
 
-  pub cut_failed : {V : Type 0} (e : SnepFault) (why : LinkEnd) (r : Result V LinkEnd) → r ≡ Err why → e ≡ fault_of why.cause
+  pub cut_failed : {V : Type 0} (new : EndState) → new ≡ mid → (e : SnepFault) (why : LinkEnd) (r : Result V LinkEnd) → r ≡ Err why → e ≡ fault_of why.cause
       → ((seen link).over ≡ None → SwapFailed steps stops (seen link) (seen now) out why far after)
       → ((c : EndCause) → (seen link).over ≡ Some c
       → SwapRefused (seen link) (seen now) c far after r × moves link [] now)
       → Swapped moves steps stops link out far now after (AskedBy why.answered why.cause out)
-      → IsCut seen moves steps stops llc link far e now after
-  cut_failed e why r is fault fails refused swapped = go (seen link).over refl
+      → IsCut seen moves steps stops llc link far e new now after
+  cut_failed new kept e why r is fault fails refused swapped = go (seen link).over refl
     where
-      go : (o : Option EndCause) → (seen link).over ≡ o → IsCut seen moves steps stops llc link far e now after
+      go : (o : Option EndCause) → (seen link).over ≡ o → IsCut seen moves steps stops llc link far e new now after
       go None i = inr (inl (record {
         count = g.count;
         allowed = g.allowed;
+        left = kept ∙ g.left;
         why = why;
         fault = fault;
         swap = subst (λ b. SwapFailed steps stops (seen link) (seen now) b why far after) g.bytes_are (fails i);
@@ -39,6 +40,9 @@ module _ {C A : Type 0} (seen : C → CarrierView) (moves : C → List FarStep �
           let t = q.0.fault in
           let w : why ≡ record { cause = c; answered = false } = cc in
           inl (inr (record {
+            count = g.count;
+            allowed = g.allowed;
+            left = kept ∙ g.left;
             why = c;
             over = i;
             fault = fault ∙ ap (λ x. fault_of x.cause) w;
@@ -47,10 +51,10 @@ module _ {C A : Type 0} (seen : C → CarrierView) (moves : C → List FarStep �
             far_is = q.0.rests;
           })))
 
-  pub cut_unread : (e : SnepFault) (reply : List ℕ) → e ≡ Memory → SwapDone steps (seen link) (seen now) out reply far after
+  pub cut_unread : (new : EndState) (e : SnepFault) (reply : List ℕ) → e ≡ Memory → SwapDone steps (seen link) (seen now) out reply far after
       → Swapped moves steps stops link out far now after (λ did. did ≡ Stepped out reply ∷ [])
-      → IsCut seen moves steps stops llc link far e now after
-  cut_unread e reply fault done swapped = inr (inr (record {
+      → IsCut seen moves steps stops llc link far e new now after
+  cut_unread new e reply fault done swapped = inr (inr (record {
     count = g.count;
     allowed = g.allowed;
     reply = reply;

@@ -8,6 +8,8 @@ pub mod FirstUnits
 pub mod UnitPuts
 pub mod SourcesTold
 pub mod PayloadLaw
+pub mod CallsKeep
+pub mod CutOff
 pub mod Links
 pub mod Cutting
 pub mod Talking

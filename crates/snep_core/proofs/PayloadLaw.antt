@@ -70,7 +70,7 @@ ranged_front xs ys all e h = go xs (subst AreRanged e h)
     go (x ∷ xs) h = let k = go xs h.1 in ((h.0, k.0), k.1)
 
 -- what was accepted stays, and more is accepted behind it
-front_more : (a b more : List Received) → IsFront a b → IsFront a (b ++ more)
+pub front_more : (a b more : List Received) → IsFront a b → IsFront a (b ++ more)
 front_more a b more (rest, e) = (rest ++ more, ap (λ z. z ++ more) e ∙ append_assoc a rest more)
 
 module _ (before : List Received) where

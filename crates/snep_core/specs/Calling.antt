@@ -85,8 +85,11 @@ module _ {C A : Type 0} (seen : C → CarrierView) (moves : C → List FarStep �
     pub link_is : now ≡ link
     pub far_is : after ≡ far
 
-  -- The link was over.
-  pub record IsOver (link : C) (far : A) (e : SnepFault) (now : C) (after : A) : Type 0 where
+  -- The link was over. The client's end gave its next payload, and nobody took it.
+  pub record IsOver (old : EndState) (link : C) (far : A) (e : SnepFault) (new : EndState) (now : C) (after : A) : Type 0 where
+    pub count : ℕ
+    pub allowed : IsAllowed silent old count
+    pub left : new ≡ after_giving silent count old
     pub why : EndCause
     pub over : (seen link).over ≡ Some why
     pub fault : e ≡ fault_of why
@@ -94,10 +97,11 @@ module _ {C A : Type 0} (seen : C → CarrierView) (moves : C → List FarStep �
     pub link_moved : moves link [] now
     pub far_is : after ≡ far
 
-  -- The swap of the next payload failed.
-  pub record Fails (old : EndState) (link : C) (far : A) (e : SnepFault) (now : C) (after : A) : Type 0 where
+  -- The swap of the next payload failed. The client's end gave it, and heard nothing.
+  pub record Fails (old : EndState) (link : C) (far : A) (e : SnepFault) (new : EndState) (now : C) (after : A) : Type 0 where
     pub count : ℕ
     pub allowed : IsAllowed silent old count
+    pub left : new ≡ after_giving silent count old
     pub why : LinkEnd
     pub fault : e ≡ fault_of why.cause
     pub swap : SwapFailed steps stops (seen link) (seen now) (given silent count old) why far after
@@ -114,19 +118,21 @@ module _ {C A : Type 0} (seen : C → CarrierView) (moves : C → List FarStep �
     pub swapped : Swapped moves steps stops link (given silent count old) far now after
         (λ did. did ≡ Stepped (given silent count old) reply ∷ [])
 
-  abbrev pub IsCut : EndState → C → A → SnepFault → C → A → Type 0
-  IsCut old link far e now after =
-      (Rests link far e now after ⊎ IsOver link far e now after) ⊎ (Fails old link far e now after ⊎ Unread old link far e now after)
+  -- An exchange was cut off. Where this end wanted no memory itself, it is left as it was once it gave its payload.
+  abbrev pub IsCut : EndState → C → A → SnepFault → EndState → C → A → Type 0
+  IsCut old link far e new now after =
+      (Rests link far e now after ⊎ IsOver old link far e new now after)
+      ⊎ (Fails old link far e new now after ⊎ Unread old link far e now after)
 
   -- A call went on so far, and was cut off by its link or by want of memory.
-  pub record Breaks (from : Step) (link : C) (far : A) (e : SnepFault) (now : C) (after : A) : Type 0 where
+  pub record Breaks (from : Step) (link : C) (far : A) (e : SnepFault) (new : EndState) (now : C) (after : A) : Type 0 where
     pub at : Working
     pub mid : C
     pub mid_far : A
     pub talks : Talks from link far (Goes at) mid mid_far
-    pub cut : IsCut at.llc mid mid_far e now after
+    pub cut : IsCut at.llc mid mid_far e new now after
 
   -- A call that failed: the far end was given up, or it was cut off.
   abbrev pub FailsBy : Step → C → A → SnepFault → EndState → C → A → Type 0
   FailsBy from link far e new now after =
-      ((e ≡ BadPeer) × Talks from link far (GivesUp new) now after) ⊎ Breaks from link far e now after
+      ((e ≡ BadPeer) × Talks from link far (GivesUp new) now after) ⊎ Breaks from link far e new now after

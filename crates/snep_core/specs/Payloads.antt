@@ -1,9 +1,10 @@
 -- What a server accepts on a link, by the payloads alone.
 use Rattle.std.specs.Prelude.{◌≡◌, ◌<◌, ℕ, ◌==◌, List, [], ◌∷◌, ◌++◌, None, if◌then◌else◌}
 use Rattle.llcp_link.specs.State.{LlcState, restarted}
-use Rattle.llcp_link.specs.Taking.{Item, brought, steps}
+use Rattle.llcp_link.specs.Taking.{Item, brought, steps, taken_from}
 use Rattle.llcp_link.specs.Units.{Mark, marks, units}
 use Rattle.llcp_link.specs.Running.{Acted, AreBytes, IsRun, end_of, marks_of}
+use Rattle.llcp_link.specs.Answering.{Answers, Stops}
 use Rattle.snep_core.specs.Puts.{Puts}
 use Rattle.snep_core.specs.Server.{Received, ServerState, sap_count, serving}
 use Rattle.snep_core.specs.Session.{Offer}
@@ -73,3 +74,14 @@ pub record AcceptsThere (old : LlcState ServerState) (begin : LlcState ServerSta
 abbrev pub AcceptedInOrder : Type 0
 AcceptedInOrder =
     (old : LlcState ServerState) (general : List ℕ) (p : Place (restarted serving old general)) → AcceptsThere old (restarted serving old general) p
+
+-- A step that want of memory left unfinished: what was accepted before it stays, and what it added is the first of what
+-- the payload adds. A whole step adds just that, whatever it replies.
+pub record AcceptsSome (old new : LlcState ServerState) (payload : List ℕ) : Type 0 where
+  pub before : IsFront old.service.accepted new.service.accepted
+  pub front : IsFront new.service.accepted (taken_from serving old payload).service.accepted
+  pub whole : (reply : List ℕ) (done : LlcState ServerState) → Answers serving old payload reply done
+      → done.service.accepted ≡ (taken_from serving old payload).service.accepted
+
+abbrev pub CutOffAccepts : Type 0
+CutOffAccepts = (old new : LlcState ServerState) (payload : List ℕ) → Stops serving old payload new → AcceptsSome old new payload

@@ -86,6 +86,7 @@ impl Client {
     fn spend(&mut self) -> SnepFault
         ensures fault { result ≡ SnepFault.Memory }
         ensures spent { self.new.spent ≡ true }
+        ensures same { self.new.llc ≡ self.old.llc }
     {
         self.spent = true;
         SnepFault::Memory
@@ -96,6 +97,7 @@ impl Client {
         requires { self.old.spent ≡ false }
         ensures fault { result ≡ fault_of cause }
         ensures spent { self.new.spent ≡ is_memory (fault_of cause) }
+        ensures same { self.new.llc ≡ self.old.llc }
     {
         match cause {
             EndCause::Memory => self.spend(),
@@ -141,7 +143,7 @@ impl Client {
         ensures falls { IfOk result (λ gave. Lessens gave (own_of self.old.llc) (own_of self.new.llc)) }
         ensures going { OnOk result (self.new.spent ≡ false) }
         ensures err { IfErr result (λ e.
-            IsCut C.seen C.moves A.steps A.stops self.old.llc carrier.old far.old e carrier.new far.new) }
+            IsCut C.seen C.moves A.steps A.stops self.old.llc carrier.old far.old e self.new.llc carrier.new far.new) }
         ensures spent { IfErr result (λ e. self.new.spent ≡ is_memory e) }
         ensures ready { C.ready carrier.new }
         ensures same { C.lenders carrier.new ≡ C.lenders carrier.old }
@@ -199,7 +201,7 @@ impl Client {
         ensures falls { IfOk result (λ turn. Falls (own_of self.old.llc) idle turn (own_of self.new.llc)) }
         ensures going { OnOk result (self.new.spent ≡ false) }
         ensures err { IfErr result (λ e.
-            IsCut C.seen C.moves A.steps A.stops self.old.llc carrier.old far.old e carrier.new far.new) }
+            IsCut C.seen C.moves A.steps A.stops self.old.llc carrier.old far.old e self.new.llc carrier.new far.new) }
         ensures spent { IfErr result (λ e. self.new.spent ≡ is_memory e) }
         ensures ready { C.ready carrier.new }
         ensures same { C.lenders carrier.new ≡ C.lenders carrier.old }

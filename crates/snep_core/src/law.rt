@@ -3,7 +3,7 @@
 ghost use Rattle.snep_core.specs.Puts.{PutsOne};
 ghost use Rattle.snep_core.specs.Cuts.{FrontsPut, LastPut};
 ghost use Rattle.snep_core.specs.Links.{LinkLaw};
-ghost use Rattle.snep_core.specs.Payloads.{AcceptedInOrder, PayloadsAccepted};
+ghost use Rattle.snep_core.specs.Payloads.{AcceptedInOrder, CutOffAccepts, PayloadsAccepted};
 
 /// The units of a connection put one list of messages.
 pub fn one_list()
@@ -35,4 +35,10 @@ pub fn payloads()
 /// Messages are accepted in the order in which the units that complete them stand in the payloads.
 pub fn in_order()
     ensures { AcceptedInOrder }
+{}
+
+/// Where want of memory leaves a step of an end with a server unfinished: what was accepted before stays, and what was
+/// accepted since is the first of what the whole step would accept.
+pub fn cut_off()
+    ensures { CutOffAccepts }
 {}

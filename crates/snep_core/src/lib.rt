@@ -18,7 +18,7 @@ mod silent;
 
 pub use client::Client;
 pub use fault::SnepFault;
-pub use law::{fronts, in_order, last_put, link, one_list, payloads};
+pub use law::{cut_off, fronts, in_order, last_put, link, one_list, payloads};
 pub use server::Server;
 pub use silent::NoService;
 

@@ -1,0 +1,5 @@
+use Rattle.snep_core.proofs.CutOff.{cut_off_accepts}
+use Rattle.snep_core.proofs.law.cut_off.Goals as goal
+
+pub returns : goal.returns
+returns c = cut_off_accepts
