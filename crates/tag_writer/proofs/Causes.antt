@@ -2,6 +2,7 @@
 use Rattle.std.proofs.Common.{◌≡◌, inl, inr, ℕ, List, true, None, refl, ap}
 use Rattle.nfc_base.specs.TagLinks.{LinkView}
 use Rattle.tag_reader.specs.declared.how.How.{How}
+use Rattle.tag_reader.specs.Calls.{HasSurveyed}
 use Rattle.tag_reader.specs.declared.fault.ReadFault.{ReadFault}
 use Rattle.tag_reader.specs.declared.fault.ReadFault.TheVariants as read
 use Rattle.tag_reader.specs.Reading as reading
@@ -10,19 +11,20 @@ use Rattle.tag_writer.specs.declared.fault.WriteFault.TheVariants as fault
 use Rattle.tag_writer.specs.Faults.{IsWriteFault, is_told, IsToldOrMemory}
 use Rattle.tag_writer.specs.Planning.{of_read, IsDeclined}
 
-pub read_cause : (how : How) (size : ℕ) (message : List ℕ) (a b : LinkView) (e : ReadFault) → reading.IsReadFault how size a.state.store a b e → IsWriteFault how size message a b (of_read e)
-read_cause how size message a b read.NotNdef is = is
-read_cause how size message a b read.Version is = is
-read_cause how size message a b read.NoRead is = is
-read_cause how size message a b read.Sectors is = is
-read_cause how size message a b read.BadSize is = is
-read_cause how size message a b read.NoMessageTlv is = is
-read_cause how size message a b read.BadTlv is = is
-read_cause how size message a b (read.Refused code) is = absurd is
-read_cause how size message a b read.FieldLost is = is
-read_cause how size message a b read.SixBad is = is
-read_cause how size message a b read.Memory is = is
-read_cause how size message a b read.Protocol is = is
+pub read_cause : (how : How) (size : ℕ) (message : List ℕ) (a b : LinkView) (e : ReadFault) → HasSurveyed how size a.state.store a b → reading.IsReadFault how size a.state.store a b e → IsWriteFault how size message a b (of_read e)
+read_cause how size message a b read.NotNdef asked is = is
+read_cause how size message a b read.Version asked is = is
+read_cause how size message a b read.NoRead asked is = is
+read_cause how size message a b read.Sectors asked is = is
+read_cause how size message a b read.BadSize asked is = is
+read_cause how size message a b read.NoMessageTlv asked is = is
+read_cause how size message a b read.BadTlv asked is = is
+read_cause how size message a b (read.Refused code) asked is = absurd is
+read_cause how size message a b read.FieldLost asked is = is
+read_cause how size message a b read.SixBad asked is = is
+read_cause how size message a b read.Memory asked (inl over) = inl (over, asked)
+read_cause how size message a b read.Memory asked (inr by) = inr by
+read_cause how size message a b read.Protocol asked is = is
 
 pub read_told : (e : ReadFault) → is_told (of_read e) ≡ true → reading.is_told e ≡ true
 read_told read.NotNdef t = refl
@@ -56,22 +58,22 @@ pub read_calm : (e : ReadFault) → reading.IsToldOrMemory e → IsToldOrMemory 
 read_calm e (inl t) = inl (told_read e t)
 read_calm e (inr m) = inr (ap of_read m)
 
-pub declined_cause : (how : How) (size : ℕ) (message : List ℕ) (a b : LinkView) (e : WriteFault) → b.over ≡ None → IsDeclined how size a.state.store message e → IsWriteFault how size message a b e
-declined_cause how size message a b fault.ReadOnly over is = is
-declined_cause how size message a b (fault.TooLong n) over is = is
-declined_cause how size message a b fault.ShortMlc over is = is
-declined_cause how size message a b fault.Memory over is = inl over
-declined_cause how size message a b fault.NotNdef over is = absurd is
-declined_cause how size message a b fault.Version over is = absurd is
-declined_cause how size message a b fault.NoRead over is = absurd is
-declined_cause how size message a b fault.Sectors over is = absurd is
-declined_cause how size message a b fault.BadSize over is = absurd is
-declined_cause how size message a b fault.NoMessageTlv over is = absurd is
-declined_cause how size message a b fault.BadTlv over is = absurd is
-declined_cause how size message a b (fault.Refused code) over is = absurd is
-declined_cause how size message a b fault.FieldLost over is = absurd is
-declined_cause how size message a b fault.SixBad over is = absurd is
-declined_cause how size message a b fault.Protocol over is = absurd is
+pub declined_cause : (how : How) (size : ℕ) (message : List ℕ) (a b : LinkView) (e : WriteFault) → b.over ≡ None → HasSurveyed how size a.state.store a b → IsDeclined how size a.state.store message e → IsWriteFault how size message a b e
+declined_cause how size message a b fault.ReadOnly over asked is = is
+declined_cause how size message a b (fault.TooLong n) over asked is = is
+declined_cause how size message a b fault.ShortMlc over asked is = is
+declined_cause how size message a b fault.Memory over asked is = inl (over, asked)
+declined_cause how size message a b fault.NotNdef over asked is = absurd is
+declined_cause how size message a b fault.Version over asked is = absurd is
+declined_cause how size message a b fault.NoRead over asked is = absurd is
+declined_cause how size message a b fault.Sectors over asked is = absurd is
+declined_cause how size message a b fault.BadSize over asked is = absurd is
+declined_cause how size message a b fault.NoMessageTlv over asked is = absurd is
+declined_cause how size message a b fault.BadTlv over asked is = absurd is
+declined_cause how size message a b (fault.Refused code) over asked is = absurd is
+declined_cause how size message a b fault.FieldLost over asked is = absurd is
+declined_cause how size message a b fault.SixBad over asked is = absurd is
+declined_cause how size message a b fault.Protocol over asked is = absurd is
 
 pub declined_calm : (how : How) (size : ℕ) (store message : List ℕ) (e : WriteFault) → IsDeclined how size store message e → IsToldOrMemory e
 declined_calm how size store message fault.ReadOnly is = inl refl

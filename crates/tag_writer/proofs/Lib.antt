@@ -7,9 +7,9 @@ pub mod Steps
 pub mod Asking
 pub mod Going
 pub mod Fronts
+pub mod Calming
 pub mod Stopping
 pub mod Reaching
-pub mod Calming
 pub mod Touching
 pub mod AreaJobs
 pub mod Known

@@ -5,7 +5,7 @@ use Rattle.nfc_base.specs.Signal.{Signal}
 use Rattle.nfc_base.specs.TagLinks.{LinkView, TagState, Leads, after_all, images}
 use Rattle.nfc_base.specs.declared.tag_link.AskFault.{AskFault}
 use Rattle.nfc_base.specs.declared.tag_link.AskFault.TheVariants as ask
-use Rattle.nfc_base.proofs.Leading.{leads_on, rises_on, cause_on}
+use Rattle.nfc_base.proofs.Leading.{leads_on, rises_on}
 use Rattle.tag_reader.specs.Calls.{GoesOn, ByLink}
 use Rattle.tag_reader.specs.Survey.{surveyed}
 use Rattle.tag_writer.specs.declared.fault.WriteFault.{WriteFault}
@@ -20,6 +20,7 @@ use Rattle.tag_writer.specs.Faults.{IsWriteFault, IsRefusal, is_told, ending_by}
 use Rattle.tag_writer.specs.Puttings.{of_link, IsPutOf, Rejects, Loses, FailsBy, BreaksOff}
 use Rattle.tag_writer.specs.Phases.{Job, Since, IsAt, made_at, next_at}
 use Rattle.tag_writer.specs.Ends.{asked_for, StopsSince, StopsAt, Stands}
+use Rattle.tag_writer.proofs.Calming.{went_makes, link_on, Left, left_makes}
 use Rattle.tag_writer.proofs.Asking.{last_snoc, up_to_at, refused_at, commands_append, asked_behind}
 use Rattle.tag_writer.proofs.Doing.{Does}
 use Rattle.tag_writer.proofs.Places.{after_append}
@@ -72,13 +73,20 @@ no_refusal ask.Memory r = r
 no_refusal ask.Protocol r = r
 
 -- what is left
-pub stops_at : (phase : Phase) (j : Job) (work : Work) (old new : LinkView) (e : WriteFault) → IsAt phase j work old → BreaksOff j.how old (next_at phase j) new e → StopsAt phase j new e
+pub stops_at : (phase : Phase) (j : Job) (work : Work) (old new : LinkView) (e : WriteFault) → IsAt phase j work old → BreaksOff j.how old (next_at phase j) new e → StopsAt phase j old new e
 stops_at phase j work old new e at off = by_fault off.fails
   where
     s : Stop phase j old new e off
     s = stop_at phase j work old new e at off
 
-    by_fault : FailsBy j.how off.at new off.next.command e → StopsAt phase j new e
+    left : Left j.how old off.at off.front
+    left = left_makes j.how old off.at off.front off.makes
+
+    refuses : (code : ℕ) → Rejects j.how off.at new off.next.command code → refusal_in j.how (old.step (after_all old.step old.state (commands_of off.front)) off.next.command).answer ≡ Some code
+    refuses code r =
+        sym (ap (λ st. refusal_in j.how (st off.at.state off.next.command).answer) left.step ∙ ap (λ t. refusal_in j.how (old.step t off.next.command).answer) left.state) ∙ r.1
+
+    by_fault : FailsBy j.how off.at new off.next.command e → StopsAt phase j old new e
     by_fault (inl r) =
         let state : new.state ≡ off.at.state = r.2.0.state ∙ s.does.refused r.0 r.2.1 in
         let store : new.state.store ≡ after_puts j.store (made_at phase j ++ off.front) = ap (λ t. t.store) state ∙ s.store in
@@ -87,6 +95,8 @@ stops_at phase j work old new e at off = by_fault off.fails
           next = off.next;
           rest = off.rest;
           split = off.split;
+          accepted = left.accepted;
+          cause = inl (r.0, r.1, refuses r.0 r.2);
           refused = λ is. (store, subst (Stands phase j) (sym store) (front_stands phase j at.serves off.front off.rest off.next off.split));
           lost = inl store;
         }
@@ -95,6 +105,8 @@ stops_at phase j work old new e at off = by_fault off.fails
       next = off.next;
       rest = off.rest;
       split = off.split;
+      accepted = left.accepted;
+      cause = inr (l.0, l.1, link_on old off.at new l.0 (went_makes j.how old off.at off.front off.makes) l.2.by);
       refused = λ is. absurd (no_refusal l.0 (subst IsRefusal l.1 is));
       lost = elim l.2.store [
         | inl same ↦ inl (same ∙ s.store)
@@ -201,13 +213,7 @@ module _ (phase : Phase) (j : Job) (work : Work) (a old new : LinkView) (e : Wri
 
   -- the link ended
   caused : (f : AskFault) → ByLink v new f → ByLink a new f
-  caused f by = (
-    by.0,
-    elim by.1 [
-      | inl before ↦ absurd (let no : Some f ≡ None = sym before ∙ until.goes_on.over in cc)
-      | inr here ↦ inr (cause_on a v new f until.rises until.goes_on.lit here)
-    ],
-  )
+  caused f by = link_on a v new f (record { rises = until.rises; link = inr until.goes_on }) by
 
   fault_of : (f : AskFault) → ByLink a new f → IsWriteFault j.how j.size j.message a new (of_link f)
   fault_of ask.FieldLost by = by

@@ -1,15 +1,18 @@
 -- How the phases of a write end.
-use Rattle.std.specs.Prelude.{◌≡◌, ◌⊎◌, ℕ, List, [], ◌∷◌, ◌++◌, true, None}
+use Rattle.std.specs.Prelude.{◌≡◌, ◌⊎◌, ℕ, List, [], ◌∷◌, ◌++◌, true, Some, None}
 use Rattle.nfc_base.specs.Signal.{Signal}
-use Rattle.nfc_base.specs.TagLinks.{LinkView, Leads, images, Rises}
+use Rattle.nfc_base.specs.TagLinks.{LinkView, after_all, Leads, images, Rises}
+use Rattle.nfc_base.specs.declared.tag_link.AskFault.{AskFault}
 use Rattle.tag_reader.specs.Asked.{ToWrite, IsAskedFor}
-use Rattle.tag_reader.specs.Calls.{GoesOn}
+use Rattle.tag_reader.specs.Calls.{GoesOn, ByLink}
 use Rattle.tag_reader.specs.Survey.{surveyed}
 use Rattle.tag_writer.specs.declared.fault.WriteFault.{WriteFault}
+use Rattle.tag_writer.specs.declared.fault.WriteFault.TheVariants as fault
 use Rattle.tag_writer.specs.declared.phase.Phase.{Phase}
 use Rattle.tag_writer.specs.declared.phase.Phase.TheVariants.{Prepared, Emptied, Filled}
 use Rattle.tag_writer.specs.Puts.{Put, after_puts, commands_of}
-use Rattle.tag_writer.specs.WriteAsked.{all_puts, up_to_refused, refused_by, HasAskedOf}
+use Rattle.tag_writer.specs.Puttings.{of_link}
+use Rattle.tag_writer.specs.WriteAsked.{all_puts, up_to_refused, refusal_in, refused_by, HasAskedOf}
 use Rattle.tag_writer.specs.Law.{Written, Passes, IsEmptied}
 use Rattle.tag_writer.specs.Faults.{IsWriteFault, ending_by, is_told, IsRefusal}
 use Rattle.tag_writer.specs.Phases.{Job, made_at, next_at}
@@ -47,13 +50,23 @@ Stands Prepared j store = store ≡ j.store
 Stands Emptied j store = IsEmptied j.how j.size j.place j.store store
 Stands Filled j store = IsEmptied j.how j.size j.place j.store store
 
--- What a call leaves that stopped behind a phase. A refused write changed nothing, and what stood at the phase stands. After any
--- other fault the store is as before the write that failed or as behind it.
-pub record StopsAt (phase : Phase) (j : Job) (b : LinkView) (e : WriteFault) : Type 0 where
+-- Why a phase stops at a write, behind those of a front: the tag as they leave it refuses the write by this code, or the link is
+-- over by this fault, which it was before the phase, or whose cause is known of the phase.
+abbrev pub StopsBy : Job → LinkView → LinkView → List Put → Put → WriteFault → Type 0
+StopsBy j a b front next e =
+    ((code : ℕ) × (e ≡ fault.Refused code) × (refusal_in j.how (a.step (after_all a.step a.state (commands_of front)) next.command).answer ≡ Some code))
+    ⊎ ((f : AskFault) × (e ≡ of_link f) × ByLink a b f)
+
+-- What a call leaves that stopped behind a phase, from the view at which it began: no write before the one that failed was refused.
+-- A refused write changed nothing, and what stood at the phase stands. After any other fault the store is as before the write that
+-- failed or as behind it.
+pub record StopsAt (phase : Phase) (j : Job) (a b : LinkView) (e : WriteFault) : Type 0 where
   pub front : List Put
   pub next : Put
   pub rest : List Put
   pub split : next_at phase j ≡ front ++ next ∷ rest
+  pub accepted : refused_by j.how a.step a.state (commands_of front) ≡ None
+  pub cause : StopsBy j a b front next e
   pub refused : IsRefusal e → (b.state.store ≡ after_puts j.store (made_at phase j ++ front)) × Stands phase j b.state.store
   pub lost : (b.state.store ≡ after_puts j.store (made_at phase j ++ front)) ⊎ (b.state.store ≡ after_puts j.store (made_at phase j ++ front ++ next ∷ []))
 

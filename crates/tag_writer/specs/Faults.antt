@@ -6,7 +6,7 @@ use Rattle.tlv_area.specs.declared.container.ContainerFault.TheVariants as conta
 use Rattle.tlv_area.specs.Form.{Faulty, NoMessageTlv, BadTlv}
 use Rattle.tag_reader.specs.declared.how.How.{How}
 use Rattle.tag_reader.specs.Kinds.{IsStoreForm}
-use Rattle.tag_reader.specs.Calls.{ByLink}
+use Rattle.tag_reader.specs.Calls.{HasSurveyed, ByLink}
 use Rattle.tag_writer.specs.declared.fault.WriteFault.{WriteFault}
 use Rattle.tag_writer.specs.declared.fault.WriteFault.TheVariants as fault
 use Rattle.tag_writer.specs.Place.{Place, IsPlaceIn, IsAccess, HasPieces}
@@ -27,8 +27,9 @@ abbrev pub IsShort : How → ℕ → List ℕ → List ℕ → Type 0
 IsShort how size store message =
     (place : Place) × IsPlaceIn how size store message place × IsAccess how size store true × (length message ≤ place.room) × (HasPieces how store → ⊥)
 
--- Each fault: of the store's form, of what the message asks for, of the tag, or of the link. Want of memory is the writer's own,
--- and then the link isn't over, or it is that by which the link is over.
+-- Each fault: of the store's form, of what the message asks for, of the tag, or of the link. Want of memory is the writer's own
+-- only while nothing was asked but what is read before the first write, and then the link isn't over; or it is that by which the
+-- link is over.
 abbrev pub IsWriteFault : How → ℕ → List ℕ → LinkView → LinkView → WriteFault → Type 0
 IsWriteFault how size message a b fault.NotNdef = IsStoreForm how size a.state.store (Faulty container.NotNdef)
 IsWriteFault how size message a b fault.Version = IsStoreForm how size a.state.store (Faulty container.Version)
@@ -44,7 +45,7 @@ IsWriteFault how size message a b fault.ShortMlc = IsShort how size a.state.stor
 IsWriteFault how size message a b fault.FieldLost = ByLink a b ask.FieldLost
 IsWriteFault how size message a b fault.SixBad = ByLink a b ask.SixBad
 IsWriteFault how size message a b fault.Protocol = ByLink a b ask.Protocol
-IsWriteFault how size message a b fault.Memory = (b.over ≡ None) ⊎ ByLink a b ask.Memory
+IsWriteFault how size message a b fault.Memory = ((b.over ≡ None) × HasSurveyed how size a.state.store a b) ⊎ ByLink a b ask.Memory
 
 -- how the stores of a write stand by its answer
 abbrev pub ending_by : WriteFault → Ending

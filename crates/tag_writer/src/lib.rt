@@ -1,8 +1,10 @@
 //! Writes the message of a tag over any link (NFC Forum Type 2 and Type 5 Tag).
 //!
-//! `write` is the one call, and runs four phases. `preparing` surveys the tag and `planning` plans all contents; `phase` has
-//! a type for each state in between: a call takes it and gives the next. `work` is what is written, a command at a time,
-//! and `putting` asks for it. Whatever stops a write, the tag holds the old message, the empty one or the new one.
+//! `write` does all of it, by four calls that a caller who wants to stop in between takes one by one: `prepare` surveys
+//! the tag and plans all contents (`preparing`, `planning`); then, in `phase`, `Prepared::empty` takes the old message
+//! away, `Emptied::fill` writes all but the length's block, and `Filled::finish` shows the new message. `work` is what
+//! is written, a command at a time, and `putting` asks for it. Whatever stops a write, the tag holds the old message,
+//! the empty one or the new one.
 //!
 //! What the tag's stores are meanwhile: `specs/Law.antt`. What is asked: `specs/WriteAsked.antt`.
 #![tactic(auto)]

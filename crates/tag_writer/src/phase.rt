@@ -16,7 +16,8 @@ use crate::work::Work;
 use nfc_base::TagLink;
 use std::alloc::Global;
 
-/// The last phase that was reached: all is planned, the tag holds the empty message, or all but the length's block is new.
+/// The last phase that was reached: all is planned, the tag holds the empty message, or all but the length's block
+/// is new.
 #[derive(Clone, Copy, Debug, PartialEq, Eq)]
 pub enum Phase {
     Prepared,
@@ -88,7 +89,7 @@ impl Prepared {
             IfOk result (λ e. IsAt phases.Emptied j e.work (T.seen link.new)) }
         ensures err { (j : Job) → IsAt phases.Prepared j self.work (T.seen link.old) →
             IfErr result (λ s. (s.phase ≡ phases.Prepared)
-            × StopsAt phases.Prepared j (T.seen link.new) s.cause) }
+            × StopsAt phases.Prepared j (T.seen link.old) (T.seen link.new) s.cause) }
         // the same since the view at which the writing began
         ensures since { (j : Job) (a : LinkView) → IsAt phases.Prepared j self.work (T.seen link.old) →
             Since j a (T.seen link.old) [] → OnOk result (Since j a (T.seen link.new) j.parts.close) }
@@ -118,7 +119,7 @@ impl Emptied {
             IfOk result (λ f. IsAt phases.Filled j f.work (T.seen link.new)) }
         ensures err { (j : Job) → IsAt phases.Emptied j self.work (T.seen link.old) →
             IfErr result (λ s. (s.phase ≡ phases.Emptied)
-            × StopsAt phases.Emptied j (T.seen link.new) s.cause) }
+            × StopsAt phases.Emptied j (T.seen link.old) (T.seen link.new) s.cause) }
         // the same since the view at which the writing began
         ensures since { (j : Job) (a : LinkView) → IsAt phases.Emptied j self.work (T.seen link.old) →
             Since j a (T.seen link.old) j.parts.close →
@@ -149,7 +150,7 @@ impl Filled {
             OnOk result (IsWritten j.how j.size j.message j.place j.store (T.seen link.new).state.store) }
         ensures err { (j : Job) → IsAt phases.Filled j self.work (T.seen link.old) →
             IfErr result (λ s. (s.phase ≡ phases.Filled)
-            × StopsAt phases.Filled j (T.seen link.new) s.cause) }
+            × StopsAt phases.Filled j (T.seen link.old) (T.seen link.new) s.cause) }
         // the same since the view at which the writing began
         ensures since { (j : Job) (a : LinkView) → IsAt phases.Filled j self.work (T.seen link.old) →
             Since j a (T.seen link.old) (j.parts.close ++ j.parts.fill) →

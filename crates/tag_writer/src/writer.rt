@@ -34,13 +34,9 @@ fn open<T: TagLink>(alloc: Global, link: &mut T, prepared: Prepared) -> Result<O
     ensures same { T.lenders link.new ≡ T.lenders link.old }
     ensures moves { T.moves link.old link.new }
 {
-    match prepared.empty(alloc, link) {
-        Err(stopped) => Err(stopped),
-        Ok(emptied) => match emptied.fill(alloc, link) {
-            Err(stopped) => Err(stopped),
-            Ok(filled) => filled.finish(alloc, link),
-        },
-    }
+    let emptied = prepared.empty(alloc, link)?;
+    let filled = emptied.fill(alloc, link)?;
+    filled.finish(alloc, link)
 }
 
 /// Writes a message to the tag behind a link, in the place of the one that it holds (NFC Forum Type 2 and Type 5 Tag).

@@ -4,8 +4,9 @@ use Rattle.nfc_base.specs.TagLinks.{LinkView}
 use Rattle.tag_reader.specs.Survey.{IsGround, IsKnownArea}
 use Rattle.tag_writer.specs.declared.fault.WriteFault.{WriteFault}
 use Rattle.tag_writer.specs.Place.{TakesNot}
-use Rattle.tag_writer.specs.Faults.{is_told}
+use Rattle.tag_writer.specs.Faults.{IsWriteFault, is_told}
 use Rattle.tag_writer.specs.Planning.{of_read, IsDeclined}
+use Rattle.tag_writer.proofs.Causes.{read_cause, declined_cause}
 use Rattle.tag_writer.proofs.OnePlace.{read_takes_not, declined_takes_not}
 use Rattle.tag_writer.proofs.Starting.{IsTold, prepared}
 use Rattle.tag_writer.proofs.preparing.prepare.Goals as goal
@@ -35,6 +36,24 @@ returns-in-Ok-Area-clause-ok g c size is =
 err_map : {A : Type 0} (P Q : WriteFault → Type 0) (r : Result A WriteFault) → ((e : WriteFault) → P e → Q e) → IfErr r P → IfErr r Q
 err_map P Q (Ok x) f p = p
 err_map P Q (Err e) f p = f e p
+
+pub returns-in-Err-clause-err : goal.returns-in-Err-clause-err
+returns-in-Err-clause-err g c size is =
+    let a : LinkView = g.T.TagLink.seen c.args.link.now in
+    let b : LinkView = g.T.TagLink.seen c.survey.new.link in
+    subst (IsWriteFault c.args.how size c.args.message.now a b) (sym c.of_read.ensures)
+    (read_cause c.args.how size c.args.message.now a b c.in-Err.fault (c.in-Err.ensures.asked size is) (c.in-Err.ensures.err size is))
+
+pub returns-in-Ok-Area-clause-err : goal.returns-in-Ok-Area-clause-err
+returns-in-Ok-Area-clause-err g c size is =
+    let a : LinkView = g.T.TagLink.seen c.args.link.now in
+    let b : LinkView = g.T.TagLink.seen c.survey.new.link in
+    let known : IsKnownArea c.args.how size a.state.store c.as_slice.result.now c.in-Ok-Area.block c.in-Ok-Area.map =
+    subst (λ k. IsKnownArea c.args.how size a.state.store k c.in-Ok-Area.block c.in-Ok-Area.map) (sym c.as_slice.ensures)
+    (subst (λ ground. IsGround c.args.how size a.state.store ground) c.in-Ok-Area.field-0-is (c.in-Ok-Area.ensures.ok size is).ground') in
+    err_map (IsDeclined c.args.how size a.state.store c.args.message.now) (IsWriteFault c.args.how size c.args.message.now a b) c.plan_area.result
+    (λ e d. declined_cause c.args.how size c.args.message.now a b e (c.in-Ok-Area.ensures.goes_on size is).over (c.in-Ok-Area.ensures.asked size is) d)
+    (c.plan_area.ensures.err size a.state.store is.store known)
 
 pub returns-in-Err-clause-untaken : goal.returns-in-Err-clause-untaken
 returns-in-Err-clause-untaken g c size is t =
