@@ -37,7 +37,7 @@ after_blocks how size base store (s ∷ ss) all =
     ap (λ t. after_puts t (block_puts how size ss)) (put_step how size store s all.0.content)
     ∙ after_blocks how size base (after_step (block_size how size) store s) ss all.1
 
-all_take : {A : Type 0} (P : A → Type 0) (n : ℕ) (xs : List A) → AllByRecursion P xs → AllByRecursion P (take n xs)
+pub all_take : {A : Type 0} (P : A → Type 0) (n : ℕ) (xs : List A) → AllByRecursion P xs → AllByRecursion P (take n xs)
 all_take P zero xs all = tt
 all_take P (suc n) [] all = tt
 all_take P (suc n) (x ∷ xs) all = (all.0, all_take P n xs all.1)

@@ -3,7 +3,6 @@ use Rattle.std.specs.Prelude.{◌≡◌, ◌⊎◌, ℕ, List, [], ◌++◌, tru
 use Rattle.nfc_base.specs.Signal.{Signal}
 use Rattle.nfc_base.specs.TagLinks.{LinkView, Leads, images, Rises}
 use Rattle.tag_reader.specs.declared.how.How.{How}
-use Rattle.tag_reader.specs.declared.how.How.TheVariants.{T2, T4, T5}
 use Rattle.tag_reader.specs.Kinds.{OfTag}
 use Rattle.tag_reader.specs.Calls.{GoesOn, HasSurveyed}
 use Rattle.tag_reader.specs.Reading.{IsCalm}
@@ -15,12 +14,6 @@ use Rattle.tag_writer.specs.Law.{Ending, IsWritten, WriteLaw}
 use Rattle.tag_writer.specs.Faults.{IsWriteFault, IsToldOrMemory, OnTold, is_told, ending_of}
 use Rattle.tag_writer.specs.WriteAsked.{IsWriteAsked, Writes, HasAskedOf}
 use Rattle.tag_writer.specs.Phases.{Job, Since, IsAt}
-
--- a tag whose memory is an area of TLVs
-abbrev pub IsOfAreas : How → Type 0
-IsOfAreas T2 = Unit {0}
-IsOfAreas T4 = ⊥
-IsOfAreas (T5 id) = Unit {0}
 
 -- All is planned for a message and the store as it stands, and nothing is written.
 pub record IsPrepared (how : How) (size : ℕ) (message : List ℕ) (work : Work) (a b : LinkView) : Type 0 where
