@@ -1,7 +1,7 @@
 use Rattle.std.proofs.Common.{◌≡◌, ℕ, List, [], ◌∷◌, length, get_or, string_bytes, sym, ◌∙◌, ap, refl, arith, inl, inr}
 use Rattle.std.specs.Prelude.{codes}
 use Rattle.std.specs.Cmp.Lexicographic.{same_text}
-use Rattle.nfc_bench.proofs.top.form_of.Goals as goal
+use Rattle.nfc_bench.proofs.top.words.form_of.Goals as goal
 
 only_one : {X : Type 0} (xs : List X) (x : X) → length xs ≡ 1 → x ≡ get_or xs 0 x → xs ≡ x ∷ []
 only_one [] x one is = absurd (omega arith)
@@ -19,7 +19,7 @@ returns-in-len1-clause-some c =
     let one = only_one c.args.words.now c.run-item.result (omega arith) c.run-item.is in
     let text : List ℕ = c.as_str.result.now in
     let same : text ≡ codes "run" = same_text text (codes "run") (sym c.if-eq.true ∙ c.eq.ensures) in
-    rw one (inl (ap (λ w. w ∷ []) (sym c.as_str.ensures.value ∙ same)), refl)
+    rw one (ap (λ w. w ∷ []) (sym c.as_str.ensures.value ∙ same))
 
 pub returns-in-len2-clause-some : goal.returns-in-len2-clause-some
 returns-in-len2-clause-some c =
@@ -28,4 +28,4 @@ returns-in-len2-clause-some c =
     let second : List ℕ = c.as_str-then-eq-2.result.now in
     let run : first ≡ codes "run" = same_text first (codes "run") (sym c.if-eq-2.true ∙ c.eq-then-words-lt3.ensures) in
     let quiet : second ≡ codes "quiet" = same_text second (codes "quiet") (sym c.if-eq-3.true ∙ c.eq-then-eq-2.ensures) in
-    rw two (inr (ap (λ w. w ∷ string_bytes c.quiet-item.result ∷ []) (sym c.as_str-then-words-lt3.ensures.value ∙ run) ∙ ap (λ w. codes "run" ∷ w ∷ []) (sym c.as_str-then-eq-2.ensures.value ∙ quiet)), refl)
+    rw two (ap (λ w. w ∷ string_bytes c.quiet-item.result ∷ []) (sym c.as_str-then-words-lt3.ensures.value ∙ run) ∙ ap (λ w. codes "run" ∷ w ∷ []) (sym c.as_str-then-eq-2.ensures.value ∙ quiet))

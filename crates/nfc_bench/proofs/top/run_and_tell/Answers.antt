@@ -3,7 +3,7 @@ use Rattle.nfc_bench.specs.declared.top.lines.Stop.{Stop}
 use Rattle.nfc_bench.specs.declared.top.lines.Stop.TheVariants.{Refused, ReadFault}
 use Rattle.nfc_bench.specs.Stops.{RunStops}
 use Rattle.nfc_bench.proofs.Endings.{ends_refused, ends_unread, taken_not_refused}
-use Rattle.nfc_bench.proofs.top.run_form.Goals as goal
+use Rattle.nfc_bench.proofs.top.run_and_tell.Goals as goal
 
 pub returns-in-Err-Refused-clause-refused : goal.returns-in-Err-Refused-clause-refused
 returns-in-Err-Refused-clause-refused g c = λ _.
