@@ -22,4 +22,7 @@ pub mod FileKnown
 pub mod Starting
 pub mod Causes
 pub mod OnePlace
+pub mod SameSignals
+pub mod OneWrite
+pub mod OneOutcome
 pub mod Wholes

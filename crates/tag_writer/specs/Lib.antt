@@ -5,6 +5,7 @@ pub mod Law
 pub mod Puttings
 pub mod Phases
 pub mod Faults
+pub mod Outcome
 pub mod Ends
 pub mod Planning
 pub mod Writing
