@@ -14,6 +14,7 @@ pub mod Calming
 pub mod Stopping
 pub mod Reaching
 pub mod Touching
+pub mod Counting
 pub mod AreaJobs
 pub mod FileJobs
 pub mod FileSteps

@@ -3,6 +3,7 @@ pub mod Place
 pub mod WriteAsked
 pub mod Law
 pub mod Puttings
+pub mod Counts
 pub mod Phases
 pub mod Faults
 pub mod Outcome
