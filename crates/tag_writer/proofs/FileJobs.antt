@@ -26,6 +26,7 @@ use Rattle.tag_writer.specs.Puttings.{IsUpdatePut}
 use Rattle.tag_writer.specs.Phases.{Job, Serves, file_parts}
 use Rattle.tag_writer.proofs.Addresses.{LiesBetween, outside_puts, all_run}
 use Rattle.tag_writer.proofs.AreaJobs.{all_take}
+use Rattle.tag_writer.proofs.Counting.{file_few}
 use Rattle.tag_writer.proofs.FileDoing.{IsJoinedBy, other_file}
 use Rattle.tag_writer.proofs.Touching.{all_both}
 use Rattle.tag_writer.proofs.Updates.{end_is, filled, closing, opened, piece_low}
@@ -182,4 +183,5 @@ file_serves size store message is = record {
   new = let w = written store message is in record { new = w.new; holds = w.holds };
   first = few (message_length (file_in store) == 0) (update_put store 0 (0 ∷ 0 ∷ []));
   last = few (length message == 0) (update_put store 0 (high_first (length message)));
+  few = file_few store message (omega (arith, brought store message is)) size;
 }

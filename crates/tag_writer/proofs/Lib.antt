@@ -14,6 +14,7 @@ pub mod Calming
 pub mod Stopping
 pub mod Reaching
 pub mod Touching
+pub mod Counting
 pub mod AreaJobs
 pub mod FileJobs
 pub mod FileSteps
@@ -22,4 +23,7 @@ pub mod FileKnown
 pub mod Starting
 pub mod Causes
 pub mod OnePlace
+pub mod SameSignals
+pub mod OneWrite
+pub mod OneOutcome
 pub mod Wholes

@@ -29,7 +29,7 @@ use Rattle.tag_writer.specs.Planning.{of_read, IsDeclined}
 no_room : (r : ℕ → Bool) (at end : ℕ) → end ≤ at → free r at end ≡ []
 no_room r at end low = let none : end - at ≡ 0 = omega (arith, low) in rw none refl
 
-order_of : (space : Space) (store message : List ℕ) (place : Place) → IsAreaPlace space store message place → space.start ≤ space.end
+pub order_of : (space : Space) (store message : List ℕ) (place : Place) → IsAreaPlace space store message place → space.start ≤ space.end
 order_of space store message place p = elim (cases_lt space.start space.end) [
   | inl up ↦ omega (arith, up)
   | inr down ↦
@@ -40,7 +40,7 @@ order_of space store message place p = elim (cases_lt space.start space.end) [
       omega (arith, ap length none, long, more, ap length first.2))
 ]
 
-stops_here : (store : List ℕ) (t : Tlv) (after : List ℕ) → LiesIn store t → t.kind ≡ ndef_message → Stops (next store (t.at ++ after))
+pub stops_here : (store : List ℕ) (t : Tlv) (after : List ℕ) → LiesIn store t → t.kind ≡ ndef_message → Stops (next store (t.at ++ after))
 stops_here store t after lies kind = subst Stops (sym (next_there store t after lies)) kind
 
 by_area : (r : Result Space ContainerFault) (store message : List ℕ) (p q : Place) → IsPlaceBy r store message p → IsPlaceBy r store message q → p ≡ q
@@ -60,15 +60,15 @@ not_there space store message p what a stops other c =
     let one = one_layout space store (order_of space store message p a) a.ts c.0 (a.t.at ++ a.after) c.1 a.layout (stops_here store a.t a.after a.lies a.kind) c.2 (subst Stops (sym c.3) stops) in
     other a.t (sym c.3 ∙ ap (next store) (sym one.1) ∙ next_there store a.t a.after a.lies)
 
-no_form : (r : Result Space ContainerFault) (store message : List ℕ) (p : Place) → IsPlaceBy r store message p → IsFormBy r store NoMessageTlv → ⊥
+pub no_form : (r : Result Space ContainerFault) (store message : List ℕ) (p : Place) → IsPlaceBy r store message p → IsFormBy r store NoMessageTlv → ⊥
 no_form (Err f) store message p a b = a
 no_form (Ok space) store message p a b = not_there space store message p End a tt (λ t e. cc) b
 
-bad_form : (r : Result Space ContainerFault) (store message : List ℕ) (p : Place) → IsPlaceBy r store message p → IsFormBy r store BadTlv → ⊥
+pub bad_form : (r : Result Space ContainerFault) (store message : List ℕ) (p : Place) → IsPlaceBy r store message p → IsFormBy r store BadTlv → ⊥
 bad_form (Err f) store message p a b = a
 bad_form (Ok space) store message p a b = not_there space store message p Fault a tt (λ t e. cc) b
 
-faulty_form : (r : Result Space ContainerFault) (store message : List ℕ) (p : Place) (f : ContainerFault) → IsPlaceBy r store message p → IsFormBy r store (Faulty f) → ⊥
+pub faulty_form : (r : Result Space ContainerFault) (store message : List ℕ) (p : Place) (f : ContainerFault) → IsPlaceBy r store message p → IsFormBy r store (Faulty f) → ⊥
 faulty_form (Err e) store message p f a b = a
 faulty_form (Ok space) store message p f a b = b
 
@@ -105,7 +105,7 @@ two_accesses : (r : Result Space ContainerFault) → AccessBy r true → AccessB
 two_accesses (Err f) a b = a
 two_accesses (Ok space) a b = let e : true ≡ false = a ∙ sym b in cc
 
-access_once : (how : How) (size : ℕ) (store : List ℕ) → IsAccess how size store true → IsAccess how size store false → ⊥
+pub access_once : (how : How) (size : ℕ) (store : List ℕ) → IsAccess how size store true → IsAccess how size store false → ⊥
 access_once T2 size store a b = two_accesses (written_area T2 size store) a b
 access_once T4 size store a b =
     let both : Ok a.0 ≡ Ok b.0 = sym a.1 ∙ b.1 in

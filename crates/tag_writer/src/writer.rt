@@ -9,7 +9,7 @@ ghost use Rattle.tag_writer.specs.Ends.{StopsSince, IsOpened};
 ghost use Rattle.tag_writer.specs.Faults.{IsToldOrMemory};
 ghost use Rattle.tag_writer.specs.Law.{IsWritten};
 ghost use Rattle.tag_writer.specs.Phases.{Job, Since, IsAt};
-ghost use Rattle.tag_writer.specs.Writing.{KeepsLaw, WritesInOrder, WritesAll, LeavesLink, TellsSuccess, TellsCause, TellsInCalm};
+ghost use Rattle.tag_writer.specs.Writing.{KeepsLaw, WritesInOrder, WritesFew, WritesAll, LeavesLink, TellsSuccess, TellsCause, TellsInCalm};
 
 use crate::fault::WriteFault;
 use crate::phase::{Opened, Prepared, Stopped};
@@ -55,6 +55,8 @@ pub fn write<T: TagLink>(
     ensures law { KeepsLaw how message.now (T.seen link.old) (T.seen link.new) result }
     // what was answered is the first of what is asked, and all of it unless the link or memory failed
     ensures asked { WritesInOrder how message.now (T.seen link.old) (T.seen link.new) }
+    // and of that the writes are few
+    ensures few { WritesFew how message.now (T.seen link.old) (T.seen link.new) }
     ensures whole { WritesAll how message.now (T.seen link.old) (T.seen link.new) result }
     // by what it then tells the link doesn't end
     ensures goes_on { LeavesLink how (T.seen link.old) (T.seen link.new) result }
