@@ -28,3 +28,7 @@ pub mod FoundAll
 pub mod Selections
 pub mod TagFourSteps
 pub mod TagFour
+pub mod QuietWalk
+pub mod CardBytes
+pub mod PlainHeard
+pub mod CardHeard

@@ -16,3 +16,4 @@ pub mod Answering
 pub mod Phases
 pub mod Linking
 pub mod Choosing
+pub mod Hearing
