@@ -230,7 +230,7 @@ module _ (commands : List (List ℕ)) (place : ℕ) (b c : Moment BenchWorld) (n
       record { answer = w.0; heard = w.1; goes = on_then w.0 w.1 (reader_table x.reader (Whole w.0)).does (after w.0 w.1) (stands_then w.0 w.1) }
 
 -- Whatever is due while a reading is under way is heard.
-same_frame : (f g : Signal) → Asks f ≡ Asks g → g ≡ f
+pub same_frame : (f g : Signal) → Asks f ≡ Asks g → g ≡ f
 same_frame f g e = cc
 
 pub card_heard : (commands : List (List ℕ)) (place : ℕ) (b c : Moment BenchWorld) (ns : List Note) (f : Signal) (h : Option Heard) → CardGoes commands place b ns → Passing b.queue

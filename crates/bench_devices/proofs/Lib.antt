@@ -32,3 +32,5 @@ pub mod QuietWalk
 pub mod CardBytes
 pub mod PlainHeard
 pub mod CardHeard
+pub mod TagHeard
+pub mod SelectedHeard

@@ -132,7 +132,7 @@ module _ (id : List ℕ) where
   v_heard (Tries n d) Silent h = more_tries n (nat_lt n tries) (nat_lt (n + 1) tries) refl refl h
   v_heard (Told r) g h = tt
 
-  v_closes : Closes call
+  pub v_closes : Closes call
   v_closes = record { silent = v_silent; lit = λ s h. h; heard = v_heard }
 
   due_only : (p : Progress (Inventory (Unit {0}))) (f : Signal) → due_of call p ≡ Asks f → f ≡ inventory
