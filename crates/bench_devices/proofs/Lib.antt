@@ -34,3 +34,4 @@ pub mod PlainHeard
 pub mod CardHeard
 pub mod TagHeard
 pub mod SelectedHeard
+pub mod ReadHeeded
