@@ -12,3 +12,5 @@ pub mod OneAnswer
 pub mod OneJournal
 pub mod Shapes
 pub mod Quiet
+pub mod Reached
+pub mod QuietHearing

@@ -9,3 +9,4 @@ pub mod Journal
 pub mod Taking
 pub mod SameCommands
 pub mod Report
+pub mod QuietHearing
