@@ -159,7 +159,7 @@ five_by (Told (Err f) ns) k e = absurd (let clash : ◌≡◌ {A = Followed Seen
 five_told : (id : List ℕ) (ns : List Note) (k : SeenKind) → selecting (ids.V id) ns ≡ Told (Ok k) [] → k ≡ seen.T5
 five_told id [] k e = absurd (let clash : polls.Asks LightUp ≡ Told (Ok k) [] = e in cc)
 five_told id (Lit ∷ ns) k e = five_by (follows (picking_v id) ns) k e
-five_told id (Got h ∷ ns) k e = five_told id ns k e
+five_told id (Got h ∷ ns) k e = absurd (let clash : polls.Asks Over ≡ Told (Ok k) [] = e in cc)
 five_told id (Lost ∷ ns) k e = absurd (let clash : ◌≡◌ {A = Followed SeenKind} (Told (Err faults.FieldLost) ns) (Told (Ok k) []) = e in cc)
 
 selected_v : (id : List ℕ) (a mid b : Moment BenchWorld) (hs : List Note) (x : Unit {0}) → length id ≡ 8 → AreTame (map kept a.world.listeners) → mid ≡ with_events air a (Reset ∷ [])

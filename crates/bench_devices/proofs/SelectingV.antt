@@ -165,7 +165,7 @@ module _ (id : List ℕ) where
   next_asked (Lit ∷ ns) f e =
       let same : asks (kind_by is_five (follows call ns)) ≡ enquiring call ns = kind_asks is_five (follows call ns) ∙ asks_same call v_closes ns in
       subst IsHarmless (sym (due_only (progress call (Tries 0 false) ns) f (sym same ∙ e))) harmless
-  next_asked (Got h ∷ ns) f e = next_asked ns f e
+  next_asked (Got h ∷ ns) f e = absurd (over_is_no_request f e)
   next_asked (Lost ∷ ns) f e = absurd (over_is_no_request f e)
 
   told_may : (q : Result (Unit {0}) PollFault) (ns : List Note) → MayCome q → MayCome (answer_of call (progress call (Told q) ns))

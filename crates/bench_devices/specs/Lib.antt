@@ -8,6 +8,7 @@ pub mod Polling
 pub mod Placed
 pub mod CardAsking
 pub mod TagAsking
+pub mod Hearing
 pub mod Reading
 pub mod Keeping
 pub mod Crowded
@@ -16,4 +17,3 @@ pub mod Answering
 pub mod Phases
 pub mod Linking
 pub mod Choosing
-pub mod Hearing
