@@ -1,5 +1,5 @@
 -- A block of a tag is locked, a tag asks for more time from now on, and what a tag holds is told.
-use Rattle.std.proofs.Common.{◌≡◌, ℕ, suc, ◌<◌, ◌≤◌, List, [], ◌∷◌, ◌++◌, length, map, nat_eq, true, if◌then◌else◌, Option, Some, None, IsSome, refl, sym, ◌∙◌, ap, subst}
+use Rattle.std.proofs.Common.{◌≡◌, ℕ, suc, ◌<◌, ◌≤◌, List, [], ◌∷◌, ◌++◌, length, map, nat_eq, true, if◌then◌else◌, Some, refl, sym, ◌∙◌, ap, subst}
 use Rattle.std.specs.Prelude.{slice_set, slice_index_or}
 use Rattle.std.proofs.Math.Seq.{set-append_seam, get_or-append_seam}
 use Rattle.std.specs.Cmp.Lexicographic.{pointwise}
@@ -32,11 +32,6 @@ all_tags : (d : Device) → is_tag d ≡ true
 all_tags (T2 d) = refl
 all_tags (T4 d) = refl
 all_tags (T5 p) = refl
-
--- a tag that is placed is a device that is
-pub tag_is_placed : (o : Option Device) → OfPlaced (λ d. is_tag d ≡ true) o → IsSome o
-tag_is_placed None h = absurd h
-tag_is_placed (Some d) h = refl
 
 -- no other device has its identifier, so it is the one that has it
 first_with : (before : List Device) (d : Device) (behind : List Device) (id : List ℕ) → device_id d ≡ id → AreSound (map kept (before ++ d ∷ behind)) → device_with id (before ++ d ∷ behind) ≡ Some d
