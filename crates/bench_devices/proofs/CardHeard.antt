@@ -2,21 +2,19 @@
 -- heard.
 use Rattle.std.proofs.Common.{◌≡◌, ◌⊎◌, inl, inr, ℕ, zero, ◌+◌, ◌*◌, ◌<◌, ◌≤◌, List, [], ◌∷◌, ◌++◌, length, true, Option, Some, None, refl, sym, ◌∙◌, ap, subst, arith, append_assoc, append-nil}
 use Rattle.std.specs.List.{AllByRecursion}
-use Rattle.std.proofs.lemmas.List.{append_cancel_left}
 use Rattle.nfc_base.specs.declared.event.Event.{Event}
 use Rattle.nfc_base.specs.declared.event.Fate.TheVariants.{Pass}
 use Rattle.nfc_base.specs.declared.event.Heard.{Heard}
 use Rattle.nfc_base.specs.declared.event.Heard.TheVariants.{Whole, Collided, Damaged, Silent}
 use Rattle.nfc_base.specs.Signal.{Signal}
-use Rattle.nfc_base.specs.StopAndWait.{Stage, Requests, Finished, Over as Ended, stage_of}
+use Rattle.nfc_base.specs.StopAndWait.{Stage, Requests, stage_of}
 use Rattle.nfc_base.specs.Trace.{noise, heard_by}
 use Rattle.nfc_base.specs.declared.tag_link.AskFault.TheVariants as asking
 use Rattle.nfc_base.proofs.LinkTurns.{J}
 use Rattle.air_core.specs.Joint.{Joint, Nothing, Single, Clashing}
-use Rattle.air_core.specs.Conversation.{Note, Got, note, Next, Over, Asks, Moment, TurnsTo, joint_events, joint_back, turn_events, turn_heard, first_fate, later_fates, with_events}
+use Rattle.air_core.specs.Conversation.{Note, Got, Over, Asks, Moment, TurnsTo, joint_events, joint_back, turn_events}
 use Rattle.air_core.specs.Quiet.{QuietTurn}
-use Rattle.air_core.specs.Turn.{Air, moment, world}
-use Rattle.air_core.specs.World.{World}
+use Rattle.air_core.specs.Turn.{Air, moment}
 use Rattle.air_core.proofs.PlainTurns.{noise_append}
 use Rattle.isodep_link.specs.Sizes.{limit, ats_frame}
 use Rattle.isodep_link.specs.declared.reader.ReaderStep.{ReaderStep}
@@ -25,7 +23,6 @@ use Rattle.isodep_link.specs.Activating.{rats, ats_code, HasFreshTag, IsActivate
 use Rattle.isodep_link.specs.Asking as exchange
 use Rattle.isodep_link.specs.Asking.{HasCardTag}
 use Rattle.isodep_link.specs.Blocks.{block_frame}
-use Rattle.isodep_link.specs.Card.{CardState}
 use Rattle.isodep_link.specs.Exchange.{iso_dep, pieces, reader_does}
 use Rattle.isodep_link.specs.Reader.{ReaderState, reader_table, request, begun, waiting}
 use Rattle.isodep_link.proofs.ActivateLaw.{After, first_rats, rats_turn, rats_done, rats_never}
@@ -36,14 +33,14 @@ use Rattle.tag_reader.specs.declared.how.How.TheVariants as hows
 use Rattle.bench_devices.specs.declared.device.Device.{Device}
 use Rattle.bench_devices.specs.declared.device.Device.TheVariants.{T2, T4, T5}
 use Rattle.bench_devices.specs.Device.{BenchWorld, air, devices, device_card, device_tag, how_of}
-use Rattle.bench_devices.specs.CardAsking.{CardStanding, Activates, Exchanges, told_code, card_stand, card_due, card_stands}
+use Rattle.bench_devices.specs.CardAsking.{CardStanding, Activates, Exchanges, told_code, card_stand, card_due}
 use Rattle.bench_devices.specs.Keeping.{ghosts}
 use Rattle.bench_devices.specs.Phases.{Stands}
 use Rattle.bench_devices.specs.Standing.{tag_holds}
 use Rattle.bench_devices.proofs.CardBytes.{sent_bytes}
 use Rattle.bench_devices.proofs.CardReadingNotes.{exchanges_stand}
 use Rattle.bench_devices.proofs.QuietRats.{laws, one_answer}
-use Rattle.bench_devices.proofs.QuietWalk.{Passing, first_passes, later_passing, fated_passes, told_passes}
+use Rattle.bench_devices.proofs.QuietWalk.{Passing, fated_passes, told_passes}
 use Rattle.bench_devices.proofs.ReadingTags.{stands_alone}
 use Rattle.bench_devices.proofs.TagFour.{takes_rats}
 

@@ -1,23 +1,22 @@
 -- A selected Type 2 or Type 5 tag answers each command that it heeds, whatever it holds, and is still selected then: where all
 -- passes, the answer is heard.
-use Rattle.std.proofs.Common.{◌≡◌, ◌≤◌, ℕ, List, [], ◌∷◌, length, Bool, true, false, ◌==◌, ◌&&◌, if◌then◌else◌, Option, Some, None, refl, sym, ◌∙◌, ap, subst, inl, inr}
-use Rattle.std.specs.List.{filter_map, cons_option}
+use Rattle.std.proofs.Common.{◌≡◌, ◌≤◌, ℕ, List, [], ◌∷◌, length, Bool, true, false, ◌==◌, ◌&&◌, if◌then◌else◌, Some, None, refl, sym, ◌∙◌, ap, subst}
+use Rattle.std.specs.List.{cons_option}
 use Rattle.nfc_base.specs.declared.frame.Tech.{Tech}
 use Rattle.nfc_base.specs.declared.frame.Tech.TheVariants.{A, V}
-use Rattle.nfc_base.specs.declared.event.Event.{Event}
 use Rattle.nfc_base.specs.declared.event.Event.TheVariants.{Request}
 use Rattle.nfc_base.specs.declared.event.Fate.TheVariants.{Pass}
 use Rattle.nfc_base.specs.declared.event.Heard.TheVariants.{Whole}
 use Rattle.nfc_base.specs.Signal.{Signal, whole_a}
 use Rattle.nfc_base.specs.TagLinks.{MayAsk, IsNamedIn, addressed}
 use Rattle.nfc_base.specs.Trace.{heard_by}
-use Rattle.air_core.specs.Joint.{Joint, Single, joint, same_tech}
+use Rattle.air_core.specs.Joint.{Single, joint, same_tech}
 use Rattle.air_core.specs.World.{hears, answered_by, stepped_by}
 use Rattle.air_core.specs.Conversation.{joint_events, joint_back, replay, turn_events, turn_heard}
 use Rattle.air_core.specs.PlainTags.{plain_kind, IsAside, IsAlone}
 use Rattle.air_core.proofs.PlainAside.{IsUnmoved, aside_silent, may_tech, alone_says, alone_steps}
 use Rattle.air_core.proofs.PlainTurns.{joint_one}
-use Rattle.nfca_poll.specs.Front.{Front, Active}
+use Rattle.nfca_poll.specs.Front.{Active}
 use Rattle.nfca_poll.specs.Fronted.{Fronted, active_answer, active_after, answer_by, after_by}
 use Rattle.t2t_tag.specs.declared.command.T2Command.{T2Command}
 use Rattle.t2t_tag.specs.Spelling.{spelled_command, answer_frame}

@@ -1,6 +1,6 @@
 -- Turns that are due, where each transmission passes: what holds at their beginning, and is kept by each reset and by each turn,
 -- holds at their end.
-use Rattle.std.proofs.Common.{◌≡◌, List, [], ◌∷◌, ◌++◌, Bool, true, false, if◌then◌else◌, Option, Some, None, refl, sym, ◌∙◌, ap, subst, append_assoc, append-nil}
+use Rattle.std.proofs.Common.{◌≡◌, List, [], ◌∷◌, ◌++◌, Bool, true, false, if◌then◌else◌, Option, refl, sym, ◌∙◌, ap, subst, append_assoc, append-nil}
 use Rattle.std.specs.List.{AllByRecursion}
 use Rattle.nfc_base.specs.Signal.{Signal}
 use Rattle.nfc_base.specs.Trace.{back_of}
@@ -11,7 +11,7 @@ use Rattle.nfc_base.specs.declared.event.Fate.{Fate}
 use Rattle.nfc_base.specs.declared.event.Fate.TheVariants.{Pass, Damage, Lose, Break}
 use Rattle.nfc_base.specs.declared.event.Heard.{Heard}
 use Rattle.air_core.specs.Joint.{Joint, Nothing, Single, Clashing}
-use Rattle.air_core.specs.Conversation.{AirModel, Note, Lit, note, Next, LightUp, Asks, EachDue, first_fate, later_fates, queue_after, FatesFrom, joint_events, joint_back, replay, turn_events, turn_heard, Move, Light, Ask, trace_of, Moment, with_events, TurnsTo, receptions}
+use Rattle.air_core.specs.Conversation.{AirModel, Note, Lit, note, Next, LightUp, Asks, EachDue, first_fate, later_fates, queue_after, FatesFrom, joint_events, replay, turn_events, turn_heard, Move, Light, Ask, trace_of, Moment, with_events, TurnsTo, receptions}
 use Rattle.air_core.specs.Turning.{receptions-append}
 use Rattle.air_core.proofs.Following.{turn_first, trace_first, turn_known, turn_split}
 

@@ -1,5 +1,5 @@
 -- What a read asks of a device, the device heeds: each command has an answer, whatever the device holds.
-use Rattle.std.proofs.Common.{◌≡◌, ℕ, zero, suc, ◌+◌, ◌*◌, ◌/◌, ◌%◌, ◌<◌, ◌≤◌, inl, inr, List, [], ◌∷◌, ◌++◌, slice_index, length, nat_lt, Bool, true, false, ◌&&◌, if◌then◌else◌, Some, refl, sym, ◌∙◌, ap, subst, arith}
+use Rattle.std.proofs.Common.{◌≡◌, ℕ, zero, suc, ◌+◌, ◌*◌, ◌/◌, ◌%◌, ◌<◌, ◌≤◌, inl, inr, List, [], ◌∷◌, ◌++◌, length, nat_lt, Bool, true, false, ◌&&◌, if◌then◌else◌, Some, refl, sym, subst, arith}
 use Rattle.std.specs.List.{AllByRecursion}
 use Rattle.nfc_base.specs.Signal.{Signal}
 use Rattle.nfc_base.specs.Words.{word}
@@ -11,13 +11,13 @@ use Rattle.t5t_tag.specs.declared.command.T5Command.TheVariants as t5_command
 use Rattle.t5t_tag.specs.Spelling as t5
 use Rattle.isodep_link.specs.Sizes.{limit}
 use Rattle.isodep_link.proofs.Heeding.{AreBytes, no_bytes}
-use Rattle.tag_reader.specs.Asked.{IsDue, AreDue, IsAsked}
+use Rattle.tag_reader.specs.Asked.{IsDue, IsAsked}
 use Rattle.tag_reader.specs.Blocks.{ask_frame, ask_at, progress_at}
 use Rattle.tag_reader.specs.declared.ask.Ask.{Ask}
 use Rattle.tag_reader.specs.declared.ask.Ask.TheVariants.{One, Many}
 use Rattle.tag_reader.specs.declared.how.How.{How}
 use Rattle.tag_reader.specs.declared.how.How.TheVariants as hows
-use Rattle.tag_reader.specs.Files.{container_in, most_asked, piece_size, HasPiece, IsFileDue, file_command, file_frame, IsFileStore}
+use Rattle.tag_reader.specs.Files.{container_in, most_asked, piece_size, IsFileDue, file_command, IsFileStore}
 use Rattle.tag_reader.specs.Kinds.{command, first}
 use Rattle.tag_reader.proofs.Cards.{container_is, store_is}
 use Rattle.tag_reader.proofs.Files.{InFile, in_file}

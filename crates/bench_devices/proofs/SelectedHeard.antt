@@ -1,5 +1,5 @@
 -- A command that selects a tag and asks commands of it, where all passes: behind the selection each note is a whole answer.
-use Rattle.std.proofs.Common.{◌≡◌, ◌⊎◌, inl, inr, ◌<◌, ℕ, List, [], ◌∷◌, ◌++◌, length, map, drop, true, Option, Some, None, IsSome, Result, Ok, Err, refl, sym, ◌∙◌, ap, subst, append_assoc, append-nil}
+use Rattle.std.proofs.Common.{◌≡◌, ◌⊎◌, inl, inr, ℕ, List, [], ◌∷◌, ◌++◌, length, map, Option, Some, None, IsSome, Result, Ok, Err, refl, sym, ◌∙◌, ap, subst, append_assoc, append-nil}
 use Rattle.std.specs.List.{AllByRecursion}
 use Rattle.std.proofs.lemmas.List.{append_cancel_left, map-append}
 use Rattle.nfc_base.specs.declared.event.Event.{Event}
@@ -7,16 +7,14 @@ use Rattle.nfc_base.specs.declared.event.Event.TheVariants.{Reset}
 use Rattle.nfc_base.specs.declared.event.Heard.{Heard}
 use Rattle.nfc_base.specs.declared.event.Heard.TheVariants.{Whole}
 use Rattle.nfc_base.specs.Signal.{Signal}
-use Rattle.nfc_base.specs.Trace.{breaks}
-use Rattle.air_core.specs.Conversation.{AirModel, Note, Lit, Got, Lost, note, Next, Over, LightUp, Asks, Moment, Going, TurnsTo, AreTurns, EachDue, FatesFrom, receptions, with_events}
-use Rattle.air_core.specs.Turn.{Air, moment}
+use Rattle.air_core.specs.Conversation.{Note, Lit, Got, Lost, note, Next, Over, LightUp, Asks, Moment, Going, TurnsTo, AreTurns, EachDue, FatesFrom, receptions, with_events}
 use Rattle.air_core.specs.Turning.{going_start, going_turn, going_reset}
 use Rattle.air_core.specs.Waits.{Standing, Asking, Broken, Astray, stand, due_at}
 use Rattle.isodep_link.specs.Asking as exchange
 use Rattle.nfca_poll.specs.declared.kind.Kind.{Kind}
 use Rattle.nfca_poll.specs.declared.fault.PollFault.{PollFault}
 use Rattle.nfca_poll.specs.declared.fault.PollFault.TheVariants as faults
-use Rattle.nfca_poll.specs.Enquiry.{Enquiry, Progress, progress, enquiring, answer_of, or_memory, Enquires}
+use Rattle.nfca_poll.specs.Enquiry.{Enquiry, progress, enquiring, answer_of, or_memory, Enquires}
 use Rattle.nfca_poll.specs.Ident.{IsIdent}
 use Rattle.nfca_poll.specs.Inventory.{picking_v}
 use Rattle.nfca_poll.specs.Rounds.{device_of, picking}
@@ -135,7 +133,7 @@ at_first : (id : List ℕ) (ls : List Device) → IsSome (device_with id ls) →
 at_first id ls some = by_one (none_or_amid id ls)
   where
     by_one : (device_with id ls ≡ None) ⊎ Amid id ls → (place : ℕ) × StandsAt id ls place
-    by_one (inl none) = absurd (let clash : IsSome { T = Device } None = subst (λ (o : Option Device). IsSome o) none some in cc)
+    by_one (inl none) = absurd (let clash : IsSome {T = Device} None = subst (λ (o : Option Device). IsSome o) none some in cc)
     by_one (inr r) = (length r.before, record { before = r.before; device = r.device; behind = r.behind; split = r.split; at = refl; named = r.named })
 
 selected_a : (id : List ℕ) (a b : Moment BenchWorld) (hs : List Note) (kind : Kind) → IsIdent id → AreTame (map kept a.world.listeners) → AreTidy a.world.listeners
@@ -331,8 +329,13 @@ module _ (asked : List Signal) (a : Moment BenchWorld) (tame : AreTame (map kept
   relit (ids.A i) b hs (inl x) due = poll_lit_a i b (with_events air b (Reset ∷ [])) hs x due refl (follows (picking i) hs) refl
   relit (ids.V i) b hs (inl (inl x)) due =
       let c : Moment BenchWorld = with_events air b (Reset ∷ []) in
-      inl (inr (c, [], ap (λ t. with_events air t (Reset ∷ [])) x.1, ap (λ t. t ++ Lit ∷ []) x.0,
-      record { going = going_start air (enquiring (picking_v i)) c; fresh = fresh_end (picking_v i) (picking_v i).start ((picking_v i).ended (picking_v i).start) }))
+      inl (inr (
+        c,
+        [],
+        ap (λ t. with_events air t (Reset ∷ [])) x.1,
+        ap (λ t. t ++ Lit ∷ []) x.0,
+        record { going = going_start air (enquiring (picking_v i)) c; fresh = fresh_end (picking_v i) (picking_v i).start ((picking_v i).ended (picking_v i).start) },
+      ))
   relit (ids.V i) b hs (inl (inr x)) due = poll_lit_v i b (with_events air b (Reset ∷ [])) x.0 hs x.1 x.2 x.3 x.4 due refl (follows (picking_v i) x.1) refl
 
   begins : (id : DeviceId) → Course id a []

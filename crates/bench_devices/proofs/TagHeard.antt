@@ -1,12 +1,12 @@
 -- What is asked of a selected tag is answered, and each answer is heard where all passes: of a tag that takes commands as they are sent,
 -- and of a Type 4 tag, from RATS on.
-use Rattle.std.proofs.Common.{◌≡◌, ◌⊎◌, inl, inr, ℕ, zero, List, [], ◌∷◌, ◌++◌, length, map, Bool, true, Option, Some, None, refl, sym, ◌∙◌, ap, subst, append_assoc, append-nil}
+use Rattle.std.proofs.Common.{◌≡◌, ◌⊎◌, inl, inr, ℕ, List, [], ◌∷◌, ◌++◌, Bool, true, Option, Some, refl, sym, ◌∙◌, ap, subst, append_assoc, append-nil}
 use Rattle.std.specs.List.{AllByRecursion}
 use Rattle.nfc_base.specs.declared.event.Fate.TheVariants.{Pass}
 use Rattle.nfc_base.specs.declared.event.Heard.{Heard}
 use Rattle.nfc_base.specs.declared.event.Heard.TheVariants.{Whole}
 use Rattle.nfc_base.specs.Signal.{Signal}
-use Rattle.air_core.specs.Conversation.{Note, Got, Next, Over, Asks, Moment, TurnsTo, replay, turn_events}
+use Rattle.air_core.specs.Conversation.{Note, Got, Over, Asks, Moment, TurnsTo, replay, turn_events}
 use Rattle.air_core.specs.Waits.{waits_next}
 use Rattle.nfca_poll.specs.Front.{Front, Off, Idle, Sleep, Ready, Active, is_active}
 use Rattle.isodep_link.specs.Activating.{rats, HasFreshTag}
@@ -18,11 +18,11 @@ use Rattle.bench_devices.specs.declared.device.Device.TheVariants.{T2, T4, T5}
 use Rattle.bench_devices.specs.declared.polling.SeenKind.{SeenKind}
 use Rattle.bench_devices.specs.declared.polling.SeenKind.TheVariants as seen
 use Rattle.bench_devices.specs.CardAsking.{tag_next}
-use Rattle.bench_devices.specs.Device.{BenchWorld, air, device_id, device_card, device_tag, how_of, seen_of}
+use Rattle.bench_devices.specs.Device.{BenchWorld, air, device_card, device_tag, how_of, seen_of}
 use Rattle.bench_devices.specs.Keeping.{ghosts}
 use Rattle.bench_devices.specs.Phases.{Stands}
 use Rattle.bench_devices.proofs.CardHeard.{CardGoes, CardHeard, IsSent, card_heard, rats_heard, has_fresh, field_of, same_frame}
-use Rattle.bench_devices.proofs.PlainHeard.{IsHeeded, IsOwn, IsOn, StandsOn, Answered, answers}
+use Rattle.bench_devices.proofs.PlainHeard.{IsHeeded, IsOwn, StandsOn, Answered, answers}
 use Rattle.bench_devices.proofs.QuietWalk.{Passing, fated_passes, told_passes}
 use Rattle.bench_devices.proofs.ReadingTags.{stands_alone}
 
