@@ -17,6 +17,13 @@ pub mod ReadingAir
 pub mod ReadingEnds
 pub mod QuietRats
 pub mod CardReadingNotes
+pub mod QuietWalk
+pub mod CardBytes
+pub mod PlainHeard
+pub mod CardHeard
+pub mod TagHeard
+pub mod SelectedHeard
+pub mod ReadHeeded
 pub mod CardReadingLinks
 pub mod CardReading
 pub mod SelectingPlaces
