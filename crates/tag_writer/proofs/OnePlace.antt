@@ -29,7 +29,7 @@ use Rattle.tag_writer.specs.Writing.{IsOfAreas}
 no_room : (r : ℕ → Bool) (at end : ℕ) → end ≤ at → free r at end ≡ []
 no_room r at end low = let none : end - at ≡ 0 = omega (arith, low) in rw none refl
 
-order_of : (space : Space) (store message : List ℕ) (place : Place) → IsAreaPlace space store message place → space.start ≤ space.end
+pub order_of : (space : Space) (store message : List ℕ) (place : Place) → IsAreaPlace space store message place → space.start ≤ space.end
 order_of space store message place p = elim (cases_lt space.start space.end) [
   | inl up ↦ omega (arith, up)
   | inr down ↦
