@@ -15,6 +15,9 @@ pub mod EveryFrame
 pub mod StoresFollow
 pub mod ImagesJoin
 pub mod Alone
+pub mod SurveyLists
+pub mod WriteParts
+pub mod WriteLists
 pub mod ReadingTags
 pub mod ReadingAir
 pub mod NewLinks
@@ -24,6 +27,7 @@ pub mod ReadTold
 pub mod WriteTold
 pub mod PlainEnds
 pub mod ReadingEnds
+pub mod WritingEnds
 pub mod QuietRats
 pub mod CardReadingNotes
 pub mod CardLinks
@@ -31,6 +35,7 @@ pub mod CardEnds
 pub mod CardReadingLinks
 pub mod CardParts
 pub mod CardReading
+pub mod CardWriting
 pub mod SelectingPlaces
 pub mod SelectingA
 pub mod SelectingV
@@ -38,5 +43,7 @@ pub mod Inventoried
 pub mod Awake
 pub mod FoundAll
 pub mod Selections
+pub mod SelectedLaw
+pub mod OneShown
 pub mod TagFourSteps
 pub mod TagFour

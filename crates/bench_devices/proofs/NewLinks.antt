@@ -40,3 +40,7 @@ module _ (p : PlainSeen Device) (is : IsNew p) (how : How) (one : (e : Device) �
 
 pub from_new : (p : PlainSeen Device) → IsNew p → (q : PlainSeen Device) → PlainMoves ghosts p q → PlainMoves ghosts (begun p.air p.place) q
 from_new p is q moves = subst (λ x. PlainMoves ghosts x q) (sym (new_is p is)) moves
+
+-- What is said of the field that a link borrows is said of the field that it gives back.
+pub given_back : (P : Air Device → Air Device → ℕ → Type 0) (a b x y : Air Device) (m n : ℕ) → a ≡ x → b ≡ y → m ≡ n → P a b m → P x y n
+given_back P a b x y m n first last place p = subst (P x y) place (subst (λ z. P x z m) last (subst (λ z. P z b m) first p))

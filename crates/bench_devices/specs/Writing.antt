@@ -1,17 +1,13 @@
 -- Writing a tag of the bench: what it asks, what it shows of the store and of the blocks that are locked, and the law over the
 -- tag's stores meanwhile.
-use Rattle.std.specs.Prelude.{ℕ, List, Option, Some, None, Result, Ok, Err}
+use Rattle.std.specs.Prelude.{ℕ, List, Result}
 use Rattle.nfc_base.specs.Signal.{Signal}
 use Rattle.nfc_base.specs.TagLinks.{plain_state}
 use Rattle.nfc_base.specs.declared.event.Event.{Event}
-use Rattle.tlv_area.specs.declared.container.ContainerFault.TheVariants as container
-use Rattle.tlv_area.specs.Form.{Faulty, NoMessageTlv, BadTlv}
-use Rattle.tag_reader.specs.Kinds.{IsStoreForm}
 use Rattle.tag_writer.specs.declared.fault.WriteFault.{WriteFault}
-use Rattle.tag_writer.specs.declared.fault.WriteFault.TheVariants as faults
-use Rattle.tag_writer.specs.Faults.{IsReadOnly, IsTooLong, IsShort}
+use Rattle.tag_writer.specs.Outcome.{IsOutcome}
 use Rattle.tag_writer.specs.Law.{Ending, WriteLaw}
-use Rattle.tag_writer.specs.WriteAsked as writer
+use Rattle.tag_writer.specs.WriteAsked.{IsWriteAsked}
 use Rattle.bench_devices.specs.declared.device.Device.{Device}
 use Rattle.bench_devices.specs.Device.{BenchWorld, device_id, device_store, device_commands, how_of, size_of}
 use Rattle.bench_devices.specs.Keeping.{images_of}
@@ -19,28 +15,12 @@ use Rattle.bench_devices.specs.Keeping.{images_of}
 -- What a write of a message asks of a device, from the first command to the last: by its store and its locked blocks. Nothing is
 -- selected of a Type 4 tag yet, whatever was before: it is newly activated.
 abbrev pub AsksWriteOf : List ℕ → Device → List Signal → Type 0
-AsksWriteOf message d commands = writer.IsWriteAsked (how_of d) (size_of d) (device_commands d) (plain_state (device_store d)) message commands
-
--- The device takes the message, and the first of its writes that it refuses is refused by this code, or none is.
-abbrev pub WritesOf : List ℕ → Device → Option ℕ → Type 0
-WritesOf message d code = writer.Writes (how_of d) (size_of d) (device_commands d) (plain_state (device_store d)) message code
+AsksWriteOf message d commands = IsWriteAsked (how_of d) (size_of d) (device_commands d) (plain_state (device_store d)) message commands
 
 -- What a write tells where all that it asks was answered: success, a fault of the store, what the message asks for, or a refusal.
 -- The faults of the link and want of memory show nothing of the device.
 abbrev pub ShowsWrite : List ℕ → Device → Result (Unit {0}) WriteFault → Type 0
-ShowsWrite message d (Ok done) = WritesOf message d None
-ShowsWrite message d (Err faults.NotNdef) = IsStoreForm (how_of d) (size_of d) (device_store d) (Faulty container.NotNdef)
-ShowsWrite message d (Err faults.Version) = IsStoreForm (how_of d) (size_of d) (device_store d) (Faulty container.Version)
-ShowsWrite message d (Err faults.NoRead) = IsStoreForm (how_of d) (size_of d) (device_store d) (Faulty container.NoRead)
-ShowsWrite message d (Err faults.Sectors) = IsStoreForm (how_of d) (size_of d) (device_store d) (Faulty container.Sectors)
-ShowsWrite message d (Err faults.BadSize) = IsStoreForm (how_of d) (size_of d) (device_store d) (Faulty container.BadSize)
-ShowsWrite message d (Err faults.NoMessageTlv) = IsStoreForm (how_of d) (size_of d) (device_store d) NoMessageTlv
-ShowsWrite message d (Err faults.BadTlv) = IsStoreForm (how_of d) (size_of d) (device_store d) BadTlv
-ShowsWrite message d (Err (faults.Refused code)) = WritesOf message d (Some code)
-ShowsWrite message d (Err faults.ReadOnly) = IsReadOnly (how_of d) (size_of d) (device_store d) message
-ShowsWrite message d (Err (faults.TooLong n)) = IsTooLong (how_of d) (size_of d) (device_store d) message n
-ShowsWrite message d (Err faults.ShortMlc) = IsShort (how_of d) (size_of d) (device_store d) message
-ShowsWrite message d (Err e) = ⊥
+ShowsWrite message d r = IsOutcome (how_of d) (size_of d) (device_commands d) (plain_state (device_store d)) message r
 
 -- The law of a write over the stores of the device: the one at the start of some events, and the one after each of them.
 abbrev pub KeepsWriteLaw : List ℕ → Device → Ending → BenchWorld → List Event → Type 0
