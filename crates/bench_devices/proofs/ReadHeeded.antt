@@ -11,7 +11,7 @@ use Rattle.t5t_tag.specs.declared.command.T5Command.TheVariants as t5_command
 use Rattle.t5t_tag.specs.Spelling as t5
 use Rattle.isodep_link.specs.Sizes.{limit}
 use Rattle.isodep_link.proofs.Heeding.{AreBytes, no_bytes}
-use Rattle.tag_reader.specs.Asked.{IsDue, IsAsked}
+use Rattle.tag_reader.specs.Asked.{Aim, ToRead, ToWrite, IsNextFor, IsDueFor, IsAskedFor}
 use Rattle.tag_reader.specs.Blocks.{ask_frame, ask_at, progress_at}
 use Rattle.tag_reader.specs.declared.ask.Ask.{Ask}
 use Rattle.tag_reader.specs.declared.ask.Ask.TheVariants.{One, Many}
@@ -25,7 +25,6 @@ use Rattle.bench_devices.specs.declared.device.Device.{Device}
 use Rattle.bench_devices.specs.declared.device.Device.TheVariants.{T2, T4, T5}
 use Rattle.bench_devices.specs.Device.{device_store, how_of, size_of}
 use Rattle.bench_devices.specs.Keeping.{kept, container_of, IsSound}
-use Rattle.bench_devices.specs.Reading.{AsksOf}
 use Rattle.bench_devices.proofs.CardBytes.{cons_bytes}
 use Rattle.bench_devices.proofs.PlainHeard.{IsHeeded}
 use Rattle.bench_devices.proofs.TagFour.{sound_tag}
@@ -40,8 +39,9 @@ all_first P how size store (suc n) each =
     snoc [] y all here = (here, tt)
     snoc (x ∷ xs) y all here = (all.0, snoc xs y all.1 here)
 
-all_asked : (P : Signal → Type 0) (how : How) (size : ℕ) (store : List ℕ) (asked : List Signal) → IsAsked how size store asked → ((k : ℕ) → IsDue how size store k → P (command how size store k)) → AllByRecursion P asked
-all_asked P how size store asked is each = subst (AllByRecursion P) (sym is.list) (all_first P how size store is.count (λ k low. each k (is.each k low)))
+all_asked : (P : Signal → Type 0) (aim : Aim) (how : How) (size : ℕ) (store : List ℕ) (asked : List Signal) → IsAskedFor aim how size store asked
+    → ((k : ℕ) → IsDueFor aim how size store k → P (command how size store k)) → AllByRecursion P asked
+all_asked P aim how size store asked is each = subst (AllByRecursion P) (sym is.list) (all_first P how size store is.count (λ k low. each k (is.each k low)))
 
 -- of a Type 5 tag
 five_heeded : (id : List ℕ) (a : Ask) → IsHeeded (hows.T5 id) (ask_frame id a)
@@ -106,17 +106,24 @@ module _ (tag : T4State) (sound : IsT4State tag) (bytes : AreBytes tag.container
   short (suc (suc (suc (suc zero)))) = omega arith
   short (suc (suc (suc (suc (suc k))))) = omega arith
 
-  four_heeded : (size k : ℕ) → IsDue hows.T4 size store k → IsHeeded hows.T4 (command hows.T4 size store k)
-  four_heeded size zero due = (short zero, file_bytes zero tt)
-  four_heeded size (suc k) (inl e) = absurd (omega (arith, e))
-  four_heeded size (suc k) (inr due) = (short (suc k), file_bytes (suc k) due)
+  -- a reader asks for a file as a writer does
+  file_due : (aim : Aim) (size k : ℕ) → IsNextFor aim hows.T4 size store k → IsFileDue store k
+  file_due ToRead size k due = due
+  file_due ToWrite size k due = due.0
 
--- So a device heeds all that a read asks of it, whose container has bytes.
-pub reads_heeded : (d : Device) (asked : List Signal) → IsSound (kept d) → AreBytes (container_of d) → AsksOf d asked → AllByRecursion (IsHeeded (how_of d)) asked
-reads_heeded (T2 d) asked sound bytes is = all_asked (IsHeeded hows.T2) hows.T2 (size_of (T2 d)) (device_store (T2 d)) asked is (λ k due. (refl, t2_command.Read (4 * k), refl))
-reads_heeded (T4 d) asked sound bytes is =
+  four_heeded : (aim : Aim) (size k : ℕ) → IsDueFor aim hows.T4 size store k → IsHeeded hows.T4 (command hows.T4 size store k)
+  four_heeded aim size zero due = (short zero, file_bytes zero tt)
+  four_heeded aim size (suc k) (inl e) = absurd (omega (arith, e))
+  four_heeded aim size (suc k) (inr due) = (short (suc k), file_bytes (suc k) (file_due aim size (suc k) due))
+
+-- So a device whose container has bytes heeds all that is asked of it, by a reader and by a writer that surveys it.
+pub asked_heeded : (aim : Aim) (d : Device) (asked : List Signal) → IsSound (kept d) → AreBytes (container_of d) → IsAskedFor aim (how_of d) (size_of d) (device_store d) asked
+    → AllByRecursion (IsHeeded (how_of d)) asked
+asked_heeded aim (T2 d) asked sound bytes is =
+    all_asked (IsHeeded hows.T2) aim hows.T2 (size_of (T2 d)) (device_store (T2 d)) asked is (λ k due. (refl, t2_command.Read (4 * k), refl))
+asked_heeded aim (T4 d) asked sound bytes is =
     let tag : IsT4State d.upper.tag = sound_tag d.upper.tag sound.1 sound.2 sound.3 in
-    all_asked (IsHeeded hows.T4) hows.T4 (size_of (T4 d)) (device_store (T4 d)) asked is (λ k due. four_heeded d.upper.tag tag bytes (size_of (T4 d)) k due)
-reads_heeded (T5 p) asked sound bytes is =
-    all_asked (IsHeeded (hows.T5 p.tag.id)) (hows.T5 p.tag.id) (size_of (T5 p)) (device_store (T5 p)) asked is
+    all_asked (IsHeeded hows.T4) aim hows.T4 (size_of (T4 d)) (device_store (T4 d)) asked is (λ k due. four_heeded d.upper.tag tag bytes aim (size_of (T4 d)) k due)
+asked_heeded aim (T5 p) asked sound bytes is =
+    all_asked (IsHeeded (hows.T5 p.tag.id)) aim (hows.T5 p.tag.id) (size_of (T5 p)) (device_store (T5 p)) asked is
     (λ k due. five_heeded p.tag.id (ask_at (size_of (T5 p)) (device_store (T5 p)) (progress_at (size_of (T5 p)) (device_store (T5 p)) k)))

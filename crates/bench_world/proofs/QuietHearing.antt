@@ -1,5 +1,5 @@
 -- On quiet air no reception is bad but the silences of polling, and a script without noise comes to what it should.
-use Rattle.std.proofs.Common.{◌≡◌, ℕ, ◌+◌, List, [], ◌∷◌, ◌++◌, map, Option, Some, None, Ok, refl, sym, ◌∙◌, ap, subst, arith}
+use Rattle.std.proofs.Common.{◌≡◌, ℕ, ◌+◌, List, [], ◌∷◌, ◌++◌, Some, Ok, refl, ◌∙◌, ap, subst, arith}
 use Rattle.std.specs.List.{AllByRecursion}
 use Rattle.nfc_base.specs.Signal.{Signal}
 use Rattle.nfc_base.specs.Trace.{noise, back_of, heard_by, other_than_pass}
@@ -14,23 +14,22 @@ use Rattle.bench_script.specs.declared.command.DeviceId.{DeviceId}
 use Rattle.bench_script.specs.declared.command.DeviceId.TheVariants.{A, V}
 use Rattle.bench_script.specs.DeviceIds.{bytes_of}
 use Rattle.bench_script.specs.Script.{Spells}
-use Rattle.bench_devices.specs.declared.device.Device.{Device}
+use Rattle.tag_reader.specs.Asked.{ToRead}
 use Rattle.bench_devices.specs.declared.polling.SeenKind.{SeenKind}
-use Rattle.bench_devices.specs.Device.{BenchWorld, air, device_id, how_of}
+use Rattle.bench_devices.specs.Device.{BenchWorld, air}
 use Rattle.bench_devices.specs.Hearing.{IsUnharmed, IsAnswered}
 use Rattle.bench_devices.specs.Keeping.{Kept, kept}
-use Rattle.bench_devices.specs.Placed.{device_with, IfPlaced}
+use Rattle.bench_devices.specs.Placed.{IfPlaced}
 use Rattle.bench_devices.specs.Polling.{Told, selecting}
 use Rattle.bench_devices.specs.Reading.{AsksOf}
-use Rattle.bench_devices.specs.TagAsking.{tag_due}
 use Rattle.bench_devices.proofs.PlainHeard.{IsHeeded}
-use Rattle.bench_devices.proofs.ReadHeeded.{reads_heeded}
+use Rattle.bench_devices.proofs.ReadHeeded.{asked_heeded}
 use Rattle.bench_devices.proofs.SelectedHeard.{Heed, IsId, tag_hears}
 use Rattle.bench_world.specs.declared.entry.Entry.{Entry}
 use Rattle.bench_world.specs.Journal.{asking_lines}
 use Rattle.bench_world.specs.Legal.{State, Given, LegalStep, IsAskedBy, changed, due}
 use Rattle.bench_world.specs.Quiet.{AllPass}
-use Rattle.bench_world.specs.QuietHearing.{tag_of, IsWellHeard, IsQuietLine, IsQuietEntry, QuietHears, QuietScript}
+use Rattle.bench_world.specs.QuietHearing.{tag_of, IsWellHeard, IsHeardIfQuiet, IsQuietLine, IsQuietEntry, QuietHears, QuietScript}
 use Rattle.bench_world.proofs.Complete.{of_first}
 use Rattle.bench_world.proofs.Placing.{IsWith, is_with, with_sound}
 use Rattle.bench_world.proofs.Quiet.{quiet_stays, quiet_reads, quiet_finds}
@@ -73,7 +72,7 @@ heed s r id asked asks d before behind split named =
     let here : AsksOf w.device asked = subst (λ o. IfPlaced (λ x. AsksOf x asked) (asked ≡ []) o) w.found asks in
     let readable : IsReadable w.device = of_first IsReadable (bytes_of id) s.world.listeners w.device r.readable w.found in
     subst (λ (k : Kept). AllByRecursion (IsHeeded k.fixed.how) asked) w.same
-    (reads_heeded w.device asked (with_sound s.world.listeners (bytes_of id) w.device r.tame.sound w.found) readable here)
+    (asked_heeded ToRead w.device asked (with_sound s.world.listeners (bytes_of id) w.device r.tame.sound w.found) readable here)
 
 -- a line names a device by an identifier that one may have
 spelled_id : (s : State) (r : IsReady s.world.listeners) (asked : List Signal) (line : List ℕ) (id : DeviceId) → Spells line (Read id) → IsId asked (start s) r.tame r.tidy id
@@ -102,7 +101,7 @@ module _ (s t : State) (g : Given) (line : List ℕ) (e : Entry) (r : IsReady s.
   by_command (Read i) is id kind since of told = let same : i ≡ id = cc in read_answered id kind since (is ∙ ap Read same) told
 
   well_heard : IsWellHeard e
-  well_heard = record { unharmed = all_unharmed e.events (quiet_stays s t g e step pass).0; answered = λ id kind since of told. by_command e.command refl id kind since of told }
+  well_heard = record { unharmed = all_unharmed e.events (quiet_stays s t g e step pass).0; answered = λ id of kind since told. by_command e.command refl id kind since of told }
 
 -- Each entry is heard so from which on all passes.
 abbrev IsAny : List ℕ → Type 0
@@ -114,7 +113,7 @@ any_line (l ∷ ls) = (tt, any_line ls)
 
 pub quiet_hears : QuietHears
 quiet_hears lines journal last leads =
-    along (λ s. IsReady s.world.listeners) IsAny (λ s e. AllPass (changed s e.command).queue → IsWellHeard e)
+    along (λ s. IsReady s.world.listeners) IsAny IsHeardIfQuiet
     (λ s t g line e r any sp step. (λ pass. well_heard s t g line e r sp step pass, ready_step s t g line e sp step r))
     (asking_lines 1 lines) _ last leads.given journal first_ready (asking_all IsAny 1 lines (any_line lines)) leads.numbered leads.steps
 
@@ -143,12 +142,11 @@ passes_still s line (Read id) h q sp = h
 quiet_entry : (s t : State) (g : Given) (line : List ℕ) (e : Entry) → IsCalm s → IsQuietLine line → Spells line e.command → LegalStep s g e t → IsQuietEntry s e × IsCalm t
 quiet_entry s t g line e calm q sp step =
     let pass : AllPass (changed s e.command).queue = passes_still s line e.command calm.queue q sp in
-    let on = quiet_stays s t g e step pass in
-    (
+    let on = quiet_stays s t g e step pass in (
       record {
         quiet = on.0;
         hears = well_heard s t g line e calm.ready sp step pass;
-        reads = λ id d is placed named. quiet_reads s t g e id d step is placed named calm.queue;
+        reads = λ id d r. quiet_reads s t g e id d step r.command r.placed r.named calm.queue;
         finds = λ is. quiet_finds s t g e step is calm.queue;
       },
       record { ready = ready_step s t g line e sp step calm.ready; queue = on.1 },

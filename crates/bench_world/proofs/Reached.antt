@@ -1,12 +1,10 @@
 -- What holds wherever the lines of a script lead: each device may be placed, with an identifier of its own, has no link unless it is
 -- active, and a container of bytes.
-use Rattle.std.proofs.Common.{◌≡◌, ◌⊎◌, inl, inr, ℕ, suc, ◌+◌, ◌*◌, ◌<◌, ◌≤◌, List, [], ◌∷◌, ◌++◌, map, length, slice_index, Bool, true, false, nat_eq, if◌then◌else◌, Option, Some, None, Ok, refl, sym, ◌∙◌, ap, subst, arith}
+use Rattle.std.proofs.Common.{◌≡◌, inl, inr, ℕ, suc, ◌+◌, ◌*◌, ◌<◌, ◌≤◌, List, [], ◌∷◌, ◌++◌, map, length, Bool, true, false, nat_eq, if◌then◌else◌, refl, sym, ◌∙◌, ap, subst, arith}
 use Rattle.std.specs.List.{AllByRecursion}
 use Rattle.std.specs.Cmp.Lexicographic.{pointwise}
 use Rattle.std.proofs.lemmas.List.{length-map}
-use Rattle.hex.specs.Hex.{decode_of}
 use Rattle.hex.proofs.HexLemmas.{decode_of-ok}
-use Rattle.nfc_base.specs.declared.event.Event.{Event}
 use Rattle.air_core.specs.Conversation.{replay}
 use Rattle.isodep_link.specs.Card.{most_busy}
 use Rattle.isodep_link.specs.Reader.{longest_extension}
@@ -19,14 +17,14 @@ use Rattle.bench_script.specs.Script.{Spells, SpellsHex, is_skipped}
 use Rattle.bench_devices.specs.declared.device.Device.{Device}
 use Rattle.bench_devices.specs.declared.device.Device.TheVariants.{T2, T4, T5}
 use Rattle.bench_devices.specs.Device.{BenchWorld, air, most_devices, device_id, new_t2, new_t4, new_t5, device_locked, device_busy}
-use Rattle.bench_devices.specs.Keeping.{Fixed, Kept, kept, container_of, IsSound, IsApart, AreSound, AreTame, AllStayDevices}
+use Rattle.bench_devices.specs.Keeping.{Fixed, kept, container_of, IsSound, IsApart, AreSound, AreTame, AllStayDevices}
 use Rattle.bench_devices.specs.Phases.{IsTidy, AreTidy}
 use Rattle.bench_devices.specs.Placed.{without, with_changed}
 use Rattle.bench_devices.proofs.EveryFrame.{devices_stay}
 use Rattle.bench_devices.proofs.Tidy.{events_tidy}
 use Rattle.bench_world.specs.declared.entry.Entry.{Entry}
-use Rattle.bench_world.specs.Journal.{NumberedLine, AreEntriesOf, asking_lines, LeadsTo}
-use Rattle.bench_world.specs.Legal.{State, Given, Accepts, IsFree, LegalStep, EachLegal, changed, with_device, state_after, first_state, memory_of}
+use Rattle.bench_world.specs.Journal.{NumberedLine, AreEntriesOf, asking_lines}
+use Rattle.bench_world.specs.Legal.{State, Given, Accepts, IsFree, LegalStep, EachLegal, changed, first_state, memory_of}
 use Rattle.bench_world.specs.QuietHearing.{AllAlong}
 use Rattle.bench_world.proofs.Placed.{apart_all}
 use Rattle.bench_world.proofs.Placing.{map-over, tame_more, tidy_more, none_named}

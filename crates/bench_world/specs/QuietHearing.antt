@@ -32,32 +32,47 @@ abbrev pub tag_of : Command → Option DeviceId
 tag_of (Read id) = Some id
 tag_of c = None
 
--- In an entry nothing was damaged or lost: no reception is bad but silences. Behind the selection of a tag each is a whole answer, so
--- those silences are polling's.
+-- Behind the selection of a tag each note of an entry is a whole answer.
+abbrev pub AnswersAll : DeviceId → Entry → Type 0
+AnswersAll id e =
+    (kind : SeenKind) (behind : List Note) → selecting id (receptions e.events) ≡ Told (Ok kind) behind
+    → AllByRecursion IsAnswered behind
+
+-- In an entry nothing was damaged or lost: no reception is bad but silences. Behind the selection of its tag each is a whole
+-- answer, so those silences are polling's.
 pub record IsWellHeard (e : Entry) : Type 0 where
   pub unharmed : AllByRecursion IsUnharmed (receptions e.events)
-  pub answered : (id : DeviceId) (kind : SeenKind) (behind : List Note) → tag_of e.command ≡ Some id → selecting id (receptions e.events) ≡ Told (Ok kind) behind → AllByRecursion IsAnswered behind
+  pub answered : (id : DeviceId) → tag_of e.command ≡ Some id → AnswersAll id e
+
+abbrev pub IsHeardIfQuiet : State → Entry → Type 0
+IsHeardIfQuiet s e = AllPass (changed s e.command).queue → IsWellHeard e
 
 -- Each entry of a script's journal is heard so, from which on no fate is left but Pass.
 abbrev pub QuietHears : Type 0
 QuietHears =
     (lines : List (List ℕ)) (journal : List Entry) (last : State) → LeadsTo lines journal last
-    → AllAlong (λ s e. AllPass (changed s e.command).queue → IsWellHeard e) first_state journal
+    → AllAlong IsHeardIfQuiet first_state journal
 
 -- A line that appends fates appends nothing but Pass.
 abbrev pub IsQuietLine : List ℕ → Type 0
 IsQuietLine line = (fates : List Fate) → Spells line (Fates fates) → AllPass fates
 
--- An entry of a script without noise: everything passed; a read of a placed tag tells what its store holds, and a search lists the
--- whole field.
+-- The entry reads this device, which is placed.
+pub record ReadsPlaced (s : State) (e : Entry) (id : DeviceId) (d : Device) : Type 0 where
+  pub command : e.command ≡ Read id
+  pub placed : device_with (bytes_of id) s.world.listeners ≡ Some d
+  pub named : IsNamed id d
+
+-- An entry of a script without noise: everything passed; a read of a placed tag tells what its store holds, and a search lists
+-- the whole field.
 pub record IsQuietEntry (s : State) (e : Entry) : Type 0 where
   pub quiet : noise e.events ≡ 0
   pub hears : IsWellHeard e
-  pub reads : (id : DeviceId) (d : Device) → e.command ≡ Read id → device_with (bytes_of id) s.world.listeners ≡ Some d → IsNamed id d → TellsOf d e.answer
+  pub reads : (id : DeviceId) (d : Device) → ReadsPlaced s e id d → TellsOf d e.answer
   pub finds : e.command ≡ Find → e.answer ≡ whole_field s.world.listeners
 
 -- Where no line has another fate than Pass, each entry is one.
 abbrev pub QuietScript : Type 0
 QuietScript =
-    (lines : List (List ℕ)) (journal : List Entry) (last : State) → LeadsTo lines journal last → AllByRecursion IsQuietLine lines
-    → AllAlong IsQuietEntry first_state journal
+    (lines : List (List ℕ)) (journal : List Entry) (last : State) → LeadsTo lines journal last
+    → AllByRecursion IsQuietLine lines → AllAlong IsQuietEntry first_state journal

@@ -5,7 +5,7 @@ use Rattle.bench_devices.specs.declared.device.Device.{Device}
 use Rattle.bench_world.specs.declared.entry.Answer.TheVariants.{Store}
 use Rattle.bench_devices.specs.Choosing.{StandsAt}
 use Rattle.bench_devices.specs.Device.{memory_in}
-use Rattle.bench_world.specs.Obeying.{state_at, Obeyed}
+use Rattle.bench_world.specs.Obeying.{Obeyed}
 use Rattle.bench_script.specs.DeviceIds.{bytes_of}
 use Rattle.bench_world.proofs.Locking.{stands_there, at_place, memory_told}
 use Rattle.bench_world.proofs.bench.dump_store.Goals as goal
