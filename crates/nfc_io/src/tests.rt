@@ -108,7 +108,7 @@ fn lines_of_4096_bytes_are_given_and_longer_ones_are_not(rt: HostRuntime) -> Res
             let text = long_text(alloc, ahead, 4096)?;
             read_lines(&rt, alloc, &text, (size, 0), &text, Ok(false))?;
             let text = long_text(alloc, ahead, 4097)?;
-            let first = text.as_slice().split_at(ahead + 1).0;
+            let first = text.as_slice().split_at(text.len().min(ahead + 1)).0;
             read_lines(&rt, alloc, &text, (size, 0), first, Err(LineStop::TooLong))?;
         }
     }
@@ -135,7 +135,7 @@ fn a_failed_read_ends_the_lines(rt: HostRuntime) -> Result<(), Fail> {
         (4096, 2, 10),
     ];
     for (size, failing, whole) in cases {
-        let lines = lines.split_at(whole).0;
+        let lines = lines.split_at(lines.len().min(whole)).0;
         read_lines(
             &rt,
             rt.alloc(),
