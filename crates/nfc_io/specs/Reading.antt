@@ -117,4 +117,5 @@ pub record HasGiven (lines : List (List ℕ)) (left : Option (List ℕ)) (b : Li
 
 -- However a source cuts its bytes, the lines that are given are those of its bytes, in order.
 abbrev pub GivesInOrder : Type 0
-GivesInOrder = (lines : List (List ℕ)) (left left' : Option (List ℕ)) (b : Lined) → GaveLines lines new_lined left b left' → HasGiven lines left b left'
+GivesInOrder =
+    (lines : List (List ℕ)) (left left' : Option (List ℕ)) (b : Lined) → GaveLines lines new_lined left b left' → HasGiven lines left b left'

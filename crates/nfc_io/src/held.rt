@@ -116,6 +116,7 @@ impl Held {
         self.end += n;
         Ok(n)
     }
+
     /// Reads until the first line of the bytes is whole or too long, or ends with the source, at whose end nothing is read.
     pub fn reach<S: Source>(&mut self, source: &mut S, ended: bool) -> Result<LineEnd, LineStop>
         ensures fetched { Fetches ended self.old self.new (S.left source.old) (S.left source.new) }
