@@ -4,10 +4,13 @@ pub mod Removing
 pub mod Locking
 pub mod Telling
 pub mod Legality
+pub mod Behind
 pub mod Outcomes
 pub mod Benches
 pub mod Complete
 pub mod OneForm
+pub mod WriteTelling
+pub mod WriteLegality
 pub mod OneAnswer
 pub mod OneJournal
 pub mod Shapes

@@ -9,3 +9,6 @@ returns-clause-reads c = quiet.quiet_reads
 
 pub returns-clause-finds : goal.returns-clause-finds
 returns-clause-finds c = quiet.quiet_finds
+
+pub returns-clause-writes : goal.returns-clause-writes
+returns-clause-writes c = quiet.quiet_writes
