@@ -10,6 +10,7 @@ pub mod CardAsking
 pub mod TagAsking
 pub mod Reading
 pub mod Keeping
+pub mod Writing
 pub mod Crowded
 pub mod Noise
 pub mod Answering
