@@ -1,11 +1,11 @@
 -- A tag was selected, and behind that a command asked it something: what its answer tells, whatever the command is.
-use Rattle.std.proofs.Common.{◌≡◌, ◌↔◌, ℕ, ◌+◌, ◌<◌, List, ◌++◌, Option, Some, None, Result, Ok, Err, refl, sym, ◌∙◌, ap, subst, arith}
+use Rattle.std.proofs.Common.{◌≡◌, ℕ, ◌+◌, ◌<◌, List, ◌++◌, Result, Ok, Err, ◌∙◌, ap, arith}
 use Rattle.nfc_base.specs.Signal.{Signal}
-use Rattle.nfc_base.specs.Trace.{noise, breaks}
+use Rattle.nfc_base.specs.Trace.{noise}
 use Rattle.nfc_base.specs.declared.tag_link.AskFault.{AskFault}
 use Rattle.nfc_base.specs.declared.tag_link.AskFault.TheVariants as asking
 use Rattle.air_core.specs.Turn.{Air, moment}
-use Rattle.air_core.specs.Conversation.{Note, receptions}
+use Rattle.air_core.specs.Conversation.{receptions}
 use Rattle.air_core.specs.Turning.{receptions-append}
 use Rattle.air_core.proofs.PlainTurns.{noise_append}
 use Rattle.nfca_poll.specs.declared.fault.PollFault.{PollFault}

@@ -1,42 +1,40 @@
 -- Writes that were obeyed, and what want of memory leaves of one.
-use Rattle.std.proofs.Common.{◌≡◌, ◌⊎◌, ℕ, List, [], ◌∷◌, ◌++◌, map, Bool, true, false, nat_eq, if◌then◌else◌, Option, Some, None, Result, Ok, Err, inl, inr, refl, sym, ◌∙◌, ap, subst}
+use Rattle.std.proofs.Common.{◌≡◌, ◌⊎◌, ℕ, List, [], ◌∷◌, ◌++◌, map, Bool, true, false, nat_eq, if◌then◌else◌, Option, Some, None, Err, inl, inr, refl, sym, ◌∙◌, ap, subst}
 use Rattle.std.proofs.lemmas.List.{append-nil}
 use Rattle.std.specs.Cmp.Lexicographic.{pointwise}
 use Rattle.nfc_base.specs.declared.event.Event.{Event}
 use Rattle.nfc_base.specs.Signal.{Signal}
-use Rattle.air_core.specs.World.{World}
 use Rattle.air_core.specs.Turn.{Air, moment}
-use Rattle.air_core.specs.Conversation.{Moment, Note, Going, replay, with_events}
+use Rattle.air_core.specs.Conversation.{Moment, Note, Going, replay}
 use Rattle.nfca_poll.specs.declared.fault.PollFault.{PollFault}
 use Rattle.nfca_poll.specs.declared.fault.PollFault.TheVariants as faults
 use Rattle.t5t_tag.proofs.Bytes.{equal_bytes}
 use Rattle.tag_writer.specs.declared.fault.WriteFault.TheVariants as writing
 use Rattle.tag_writer.specs.Faults.{ending_of}
 use Rattle.tag_writer.specs.Law.{Ending, Stopped}
-use Rattle.bench_script.specs.declared.command.Command.{Command}
 use Rattle.bench_script.specs.declared.command.Command.TheVariants.{Write}
 use Rattle.bench_script.specs.declared.command.DeviceId.{DeviceId}
 use Rattle.bench_script.specs.declared.message.Msg.{Msg}
 use Rattle.bench_script.specs.DeviceIds.{bytes_of}
 use Rattle.bench_script.specs.Messages.{message_of}
 use Rattle.bench_devices.specs.declared.device.Device.{Device}
-use Rattle.bench_devices.specs.declared.polling.SeenKind.{SeenKind}
 use Rattle.bench_devices.specs.Device.{BenchWorld, air, device_id, device_store, seen_of}
 use Rattle.bench_devices.specs.Polling.{asks, selecting}
 use Rattle.bench_devices.specs.TagAsking.{then_asks, tag_due}
 use Rattle.bench_devices.specs.CardAsking.{tag_next}
 use Rattle.bench_devices.specs.Placed.{device_with, OfPlaced, IfPlaced}
-use Rattle.bench_devices.specs.Keeping.{Kept, kept, IsSound, StoreOf, AllKeepBut, Leaves, held_by}
+use Rattle.bench_devices.specs.Keeping.{kept, IsSound, StoreOf, AllKeepBut, Leaves, held_by}
 use Rattle.bench_devices.specs.Phases.{WriteEnd, FailsWrite, Selects, SelectsAt, SelectionCut, Stands, Writes, WritesSome, WritesAt, CutAtWrite, IsIdle}
 use Rattle.bench_devices.specs.Writing.{AsksWriteOf, ShowsWrite, KeepsWriteLaw}
-use Rattle.bench_devices.proofs.EveryFrame.{IsSoundOne, first_sound, leaves_more, leaves_behind}
+use Rattle.bench_devices.proofs.EveryFrame.{IsSoundOne, leaves_more, leaves_behind}
 use Rattle.bench_devices.proofs.ImagesJoin.{held_kept, law_start, with_alone}
-use Rattle.bench_devices.proofs.Harmless.{law_selected}
+use Rattle.bench_devices.proofs.SelectedLaw.{law_selected}
+use Rattle.bench_devices.proofs.WriteLists.{some_write}
 use Rattle.bench_world.specs.declared.entry.Answer.{Answer}
 use Rattle.bench_world.specs.declared.entry.Answer.TheVariants as answers
-use Rattle.bench_world.specs.Answering.{TagTells, TellsFault, poll_answer, written_by}
+use Rattle.bench_world.specs.Answering.{TagTells, poll_answer, written_by}
 use Rattle.bench_world.specs.Writing.{TellsWrite, ending_told}
-use Rattle.bench_world.specs.Legal.{State, IsAskedBy, FrontOf, StoresLaw, WritingLaw}
+use Rattle.bench_world.specs.Legal.{State, IsAskedBy, StoresLaw}
 use Rattle.bench_world.specs.Obeying.{state_at, Obeyed, IsCutOff}
 use Rattle.bench_world.proofs.Placing.{IsWith, with_sound}
 use Rattle.bench_world.proofs.Legality.{asks_for, front_of, trace_is, asks_obeyed, polled_of, missed_tells, both, then_tag, selected_with}
@@ -49,7 +47,7 @@ write_asked old id m idle = by_found (device_with (bytes_of id) old.listeners) r
   where
     by_found : (o : Option Device) → device_with (bytes_of id) old.listeners ≡ o → (asked : List Signal) × IfPlaced (λ d. AsksWriteOf (message_of m) d asked) (asked ≡ []) o
     by_found None found = ([], refl)
-    by_found (Some d) found = ?
+    by_found (Some d) found = some_write (message_of m) d (with_sound old.listeners (bytes_of id) d idle.tame.sound found)
 
 -- the device that is found by an identifier has it
 found_named : (id : List ℕ) (ds : List Device) (d : Device) → device_with id ds ≡ Some d → device_id d ≡ id
@@ -60,6 +58,14 @@ found_named id (e ∷ ds) d found = by_name (pointwise nat_eq (device_id e) id) 
     by_name true named here later = let same : e ≡ d = cc in ap device_id (sym same) ∙ equal_bytes (device_id e) id named
     by_name false named here later = later here
 
+-- and may be placed
+sound_one : (old : Air Device) (id : DeviceId) → IsIdle old → IsSoundOne (bytes_of id) old.listeners
+sound_one old id idle = by_found (device_with (bytes_of id) old.listeners) refl
+  where
+    by_found : (o : Option Device) → device_with (bytes_of id) old.listeners ≡ o → IfPlaced (λ d. IsSound (kept d)) (Unit {0}) o
+    by_found None found = tt
+    by_found (Some d) found = with_sound old.listeners (bytes_of id) d idle.tame.sound found
+
 -- Polling alone left a device's store as it was, so it keeps the law of a write that was stopped.
 module _ (id : DeviceId) (message : List ℕ) (a b : Moment BenchWorld) (ns : List Note) (g : Going air (λ ks. asks (selecting id ks)) a b ns) (same : map kept b.world.listeners ≡ map kept a.world.listeners) where
   polled_law : (o : Option Device) → device_with (bytes_of id) a.world.listeners ≡ o → IfPlaced (λ d. KeepsWriteLaw message d Stopped a.world g.events) (Unit {0}) o
@@ -68,7 +74,7 @@ module _ (id : DeviceId) (message : List ℕ) (a b : Moment BenchWorld) (ns : Li
       let named : bytes_of id ≡ device_id d = sym (found_named (bytes_of id) a.world.listeners d found) in
       let holds : held_by (device_with (device_id d) b.world.listeners) ≡ device_store d =
       held_kept (device_id d) a.world.listeners b.world.listeners same ∙ ap (λ i. held_by (device_with i a.world.listeners)) (sym named) ∙ ap held_by found in
-      subst (λ es. KeepsWriteLaw message d Stopped a.world es) (append-nil g.events) (law_selected message d Stopped id a b ns [] g holds (law_start message d b.world holds))
+      subst (λ es. KeepsWriteLaw message d Stopped a.world es) (append-nil g.events) (law_selected id a b ns g message d Stopped [] holds (law_start message d b.world holds))
 
   -- and no other one changed
   polled_stores : IsSoundOne (bytes_of id) a.world.listeners → (s : State) → s.world ≡ a.world → StoresLaw s id message Stopped g.events
@@ -97,7 +103,7 @@ missed_write old new id m e answer idle s is =
     let some = write_asked old id m idle in
     let g : Going air (λ ns. asks (selecting id ns)) (moment old) (moment new) s.asked.notes = s.asked.going in
     let going : Going air (tag_due id some.0) (moment old) (moment new) s.asked.notes = polled_of id some.0 (moment old) (moment new) s.asked.notes g in
-    let sound : IsSoundOne (bytes_of id) old.listeners = first_sound (bytes_of id) old.listeners idle.tame.sound in
+    let sound : IsSoundOne (bytes_of id) old.listeners = sound_one old id idle in
     let stores : StoresLaw (state_at old) id (message_of m) (ending_told answer) g.events =
     subst (λ x. StoresLaw (state_at old) id (message_of m) x g.events) (poll_stopped e answer is)
     (polled_stores id (message_of m) (moment old) (moment new) s.asked.notes g s.asked.same sound (state_at old) refl) in
@@ -128,7 +134,7 @@ module _ (old mid : Air Device) (id : DeviceId) (m : Msg) (place : ℕ) (idle : 
   left_behind : (new : Air Device) (fs : List Event) → Leaves (StoreOf (device_id s.device)) (moment mid).world fs (moment new).world
       → Leaves (StoreOf (bytes_of id)) (moment old).world (s.selects.asked.going.events ++ fs) (moment new).world
   left_behind new fs left =
-      leaves_behind (bytes_of id) (moment old).world (moment mid).world (moment new).world s.selects.asked.going.events fs (first_sound (bytes_of id) old.listeners idle.tame.sound) s.selects.asked.same
+      leaves_behind (bytes_of id) (moment old).world (moment mid).world (moment new).world s.selects.asked.going.events fs (sound_one old id idle) s.selects.asked.same
       (subst (λ i. Leaves (StoreOf i) (moment mid).world fs (moment new).world) s.named left)
 
   -- the stores, from before it was selected on
@@ -138,7 +144,7 @@ module _ (old mid : Air Device) (id : DeviceId) (m : Msg) (place : ℕ) (idle : 
   stores_behind new commands ks h ending left law =
       let es : List Event = s.selects.asked.going.events in
       let whole : KeepsWriteLaw (message_of m) s.device ending (moment old).world (es ++ h.events) =
-      law_selected (message_of m) s.device ending id (moment old) (moment mid) s.selects.asked.notes h.events s.selects.asked.going holds_there law in
+      law_selected id (moment old) (moment mid) s.selects.asked.notes s.selects.asked.going (message_of m) s.device ending h.events holds_there law in
       let world : (moment new).world ≡ replay air (moment old).world (es ++ h.events) = ap (λ (x : Moment BenchWorld). x.world) (of_both new commands ks h).moment in
       record {
         law = subst (λ o. IfPlaced (λ d. KeepsWriteLaw (message_of m) d ending (state_at old).world (es ++ h.events)) (Unit {0}) o) (sym with_id.found)
@@ -154,7 +160,7 @@ module _ (old mid : Air Device) (id : DeviceId) (m : Msg) (place : ℕ) (idle : 
       let g : Going air (tag_due id commands) (moment old) (moment new) (s.selects.asked.notes ++ ks) = of_both new commands ks w.told.asked.going in
       let says : ShowsWrite (message_of m) s.device r → OfPlaced (λ d. TellsWrite (message_of m) d answer) (device_with (bytes_of id) old.listeners) =
       λ shows. subst (λ o. OfPlaced (λ d. TellsWrite (message_of m) d answer) o) (sym with_id.found)
-          (r, outcome_same s.device with_id.device (sym with_id.same) (message_of m) r shows, told) in
+      (r, outcome_same s.device with_id.device (sym with_id.same) (message_of m) r shows, told) in
       let tells : TagTells (TellsWrite (message_of m)) id old.listeners commands g.events answer =
       tells_behind (StoreOf (device_id s.device)) (AsksWriteOf (message_of m) s.device) (ShowsWrite (message_of m) s.device) FailsWrite (TellsWrite (message_of m)) old mid new id place r answer s w.told
       says (fails_written r answer told) (lost_written r answer told) (six_written r answer told) in
@@ -186,7 +192,7 @@ selection_cut_write old new id m idle part =
       asks_for some.0,
       front_of old new (Write id m) some.0 part.notes idle tt refl g some.1,
       subst (λ es. StoresLaw (state_at old) id (message_of m) Stopped es) (sym (trace_is old new (tag_due id some.0) part.notes g idle))
-          (polled_stores id (message_of m) (moment old) (moment new) part.notes part.going part.same (first_sound (bytes_of id) old.listeners idle.tame.sound) (state_at old) refl),
+          (polled_stores id (message_of m) (moment old) (moment new) part.notes part.going part.same (sound_one old id idle) (state_at old) refl),
     )
 
 -- What was asked in a write, however it ended.

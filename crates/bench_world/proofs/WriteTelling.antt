@@ -1,5 +1,5 @@
 -- What a write came to, and the answer that tells it.
-use Rattle.std.proofs.Common.{◌≡◌, ◌⊎◌, inl, inr, ℕ, false, List, Option, Some, None, IsSome, Result, Ok, Err, refl, sym, ◌∙◌, ap, subst}
+use Rattle.std.proofs.Common.{◌≡◌, ◌⊎◌, inl, inr, ℕ, false, List, Option, Some, None, Ok, Err, refl, sym, ◌∙◌, ap, subst}
 use Rattle.nfc_base.specs.Signal.{Signal}
 use Rattle.nfc_base.specs.TagLinks.{TagState, TagStep, plain_state}
 use Rattle.nfc_base.specs.declared.event.Event.{Event}
@@ -11,7 +11,6 @@ use Rattle.tag_reader.specs.Kinds.{t2_step, t5_step}
 use Rattle.tag_reader.specs.declared.how.How.{How}
 use Rattle.tag_reader.specs.declared.how.How.TheVariants as hows
 use Rattle.tag_reader.specs.Files.{t4_link_step}
-use Rattle.tag_writer.specs.declared.fault.WriteFault.{WriteFault}
 use Rattle.tag_writer.specs.declared.fault.WriteFault.TheVariants as writing
 use Rattle.tag_writer.specs.Faults.{ending_of}
 use Rattle.tag_writer.specs.Law.{Ending, Stopped, WriteLaw}
@@ -20,7 +19,7 @@ use Rattle.tag_writer.specs.WriteAsked.{IsWriteAsked}
 use Rattle.tag_writer.proofs.OneOutcome.{one_outcome_by}
 use Rattle.bench_devices.specs.declared.device.Device.{Device}
 use Rattle.bench_devices.specs.declared.device.Device.TheVariants.{T2, T4, T5}
-use Rattle.bench_devices.specs.Device.{BenchWorld, device_id, device_store, device_commands, how_of, size_of}
+use Rattle.bench_devices.specs.Device.{BenchWorld, device_store, device_commands, how_of, size_of}
 use Rattle.bench_devices.specs.Keeping.{Fixed, fixed, Kept, kept, images_of}
 use Rattle.bench_devices.specs.Phases.{WriteEnd, FailsWrite, Writes}
 use Rattle.bench_devices.specs.Writing.{AsksWriteOf, ShowsWrite, KeepsWriteLaw}

@@ -29,7 +29,11 @@ fn select_and_read(
 }
 
 /// Reads a tag, from a reset on.
-pub fn read_tag(alloc: Global, field: &mut Field<Device>, id: &DeviceId) -> Result<Answer, ObeyFault>
+pub fn read_tag(
+    alloc: Global,
+    field: &mut Field<Device>,
+    id: &DeviceId,
+) -> Result<Answer, ObeyFault>
     requires { IsIdle field.old }
     ensures ok { IfOk result (λ a. Obeyed field.old field.new (Command.Read id.now) a) }
     ensures cut { OnErr result (IsCutOff field.old field.new (Command.Read id.now)) }
