@@ -115,8 +115,8 @@ module _ (how : How) (size : ℕ) (step : TagState → Signal → TagStep) (s : 
   rooms : (p q : Place) → IsPlaceIn how size s.store message p → IsPlaceIn how size s.store message q → p.room ≡ q.room
   rooms p q a b = ap (λ x. x.room) (one_place how size s.store message p q a b)
 
-  one_why : IsStore how size s.store → (a b : Why) → IsWhy a → IsWhy b → a ≡ b
-  one_why is (ByForm f) (ByForm g) x y = ap ByForm (one_store_form how size s.store is f g x.0 y.0)
+  one_why : IsOneForm (IsStoreForm how size s.store) → (a b : Why) → IsWhy a → IsWhy b → a ≡ b
+  one_why is (ByForm f) (ByForm g) x y = ap ByForm (is f g x.0 y.0)
   one_why is (ByForm f) Closed x y = absurd (clash f y.0.0 x y.0.1)
   one_why is (ByForm f) (Long n) x y = absurd (clash f y.0 x y.1)
   one_why is (ByForm f) Short x y = absurd (clash f y.0 x y.1)
@@ -176,11 +176,15 @@ module _ (how : How) (size : ℕ) (step : TagState → Signal → TagStep) (s : 
   why_of (Err fault.Memory) is = absurd is
   why_of (Err fault.Protocol) is = absurd is
 
-  pub one_outcome : (r q : Result Unit WriteFault) → IsStore how size s.store → IsOutcome how size step s message r → IsOutcome how size step s message q → r ≡ q
-  one_outcome r q is a b =
+  -- where the store has one form
+  pub one_outcome_by : (r q : Result Unit WriteFault) → IsOneForm (IsStoreForm how size s.store) → IsOutcome how size step s message r → IsOutcome how size step s message q → r ≡ q
+  one_outcome_by r q is a b =
       let x = why_of r a in
       let y = why_of q b in
       x.2 ∙ ap told_by (one_why is x.0 y.0 x.1 y.1) ∙ sym y.2
+
+  pub one_outcome : (r q : Result Unit WriteFault) → IsStore how size s.store → IsOutcome how size step s message r → IsOutcome how size step s message q → r ≡ q
+  one_outcome r q is a b = one_outcome_by r q (one_store_form how size s.store is) a b
 
 -- what a write tells that isn't its link's is its outcome
 pub told_outcome : (how : How) (size : ℕ) (message : List ℕ) (a b : LinkView) (e : WriteFault) → is_told e ≡ true → IsWriteFault how size message a b e → IsOutcome how size a.step a.state message (Err e)
