@@ -17,6 +17,12 @@ pub mod ReadingAir
 pub mod ReadingEnds
 pub mod QuietRats
 pub mod CardReadingNotes
+pub mod CardReadingLinks
+pub mod CardReading
+pub mod SelectingPlaces
+pub mod SelectingA
+pub mod SelectingV
+pub mod Inventoried
 pub mod QuietWalk
 pub mod CardBytes
 pub mod PlainHeard
@@ -24,12 +30,6 @@ pub mod CardHeard
 pub mod TagHeard
 pub mod SelectedHeard
 pub mod ReadHeeded
-pub mod CardReadingLinks
-pub mod CardReading
-pub mod SelectingPlaces
-pub mod SelectingA
-pub mod SelectingV
-pub mod Inventoried
 pub mod Awake
 pub mod FoundAll
 pub mod Selections
