@@ -30,6 +30,7 @@ pub mod CardHeard
 pub mod TagHeard
 pub mod SelectedHeard
 pub mod ReadHeeded
+pub mod WriteHeeded
 pub mod Awake
 pub mod FoundAll
 pub mod Selections
