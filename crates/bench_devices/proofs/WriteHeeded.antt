@@ -1,15 +1,13 @@
 -- Commands that write are heeded: of a block that has four bytes in a Type 2 tag, of any block of a Type 5 tag, and of bytes that one
 -- update of a Type 4 tag brings.
-use Rattle.std.proofs.Common.{◌≡◌, ℕ, ◌/◌, ◌%◌, ◌<◌, ◌≤◌, List, [], ◌∷◌, ◌++◌, length, Some, refl, ap, arith}
-use Rattle.nfc_base.specs.Signal.{Signal}
+use Rattle.std.proofs.Common.{◌≡◌, ℕ, ◌/◌, ◌%◌, ◌<◌, ◌≤◌, List, [], ◌∷◌, length, Some, refl, arith}
 use Rattle.t2t_tag.specs.declared.command.T2Command.TheVariants.{Write}
 use Rattle.t2t_tag.specs.Spelling as t2
 use Rattle.t2t_tag.specs.Spelling.{spelled_command}
 use Rattle.t4t_tag.specs.declared.command.T4Command.TheVariants.{UpdateBinary}
-use Rattle.t4t_tag.specs.Spelling.{class_byte, update_code, command_bytes}
+use Rattle.t4t_tag.specs.Spelling.{class_byte, update_code}
 use Rattle.t5t_tag.specs.declared.command.T5Command.TheVariants as t5_command
 use Rattle.t5t_tag.specs.Spelling as t5
-use Rattle.isodep_link.specs.Sizes.{limit}
 use Rattle.isodep_link.proofs.Heeding.{AreBytes}
 use Rattle.tag_reader.specs.declared.how.How.TheVariants as hows
 use Rattle.tag_reader.specs.Files.{file_frame}
@@ -36,8 +34,7 @@ wide_heeded id block content = (_, _, refl, refl)
 
 pub update_heeded : (offset : ℕ) (content : List ℕ) → offset < 65536 → length content ≤ 255 → AreBytes content → IsHeeded hows.T4 (file_frame (UpdateBinary offset (record { items = content })))
 update_heeded offset content low few bytes =
-    let count : length content < 256 = omega (arith, few) in
-    (
+    let count : length content < 256 = omega (arith, few) in (
       omega (arith, few),
       small_bytes (class_byte ∷ update_code ∷ []) (offset / 256 ∷ offset % 256 ∷ length content ∷ content) refl (two_bytes offset (length content ∷ content) low (cons_bytes (length content) content count bytes)),
     )
