@@ -160,7 +160,7 @@ module _ (id : List ℕ) where
   abbrev next : List Note → Next
   next ns = asks (selecting (ids.V id) ns)
 
-  next_asked : (ns : List Note) (f : Signal) → next ns ≡ Asks f → IsHarmless f
+  pub next_asked : (ns : List Note) (f : Signal) → next ns ≡ Asks f → IsHarmless f
   next_asked [] f e = absurd (light_is_no_request f e)
   next_asked (Lit ∷ ns) f e =
       let same : asks (kind_by is_five (follows call ns)) ≡ enquiring call ns = kind_asks is_five (follows call ns) ∙ asks_same call v_closes ns in

@@ -11,6 +11,7 @@ pub mod TagAsking
 pub mod Hearing
 pub mod Reading
 pub mod Keeping
+pub mod Writing
 pub mod Crowded
 pub mod Noise
 pub mod Answering

@@ -1,5 +1,5 @@
 -- A canonical spelling is read as its command, and no spelling is shorter.
-use Rattle.std.proofs.Common.{◌≡◌, ℕ, suc, ◌<◌, ◌^◌, inl, inr, List, [], ◌∷◌, map, length, get_or, Bool, true, false, ◌==◌, ◌/◌, ◌%◌, ◌≤◌, Ok, refl, sym, ◌∙◌, ap, subst, arith}
+use Rattle.std.proofs.Common.{◌≡◌, ℕ, suc, ◌<◌, ◌^◌, ◌++◌, inl, inr, List, [], ◌∷◌, map, length, get_or, Bool, true, false, ◌==◌, ◌/◌, ◌%◌, ◌≤◌, Ok, refl, sym, ◌∙◌, ap, subst, arith}
 use Rattle.std.specs.Prelude.{codes, if◌then◌else◌, ◌&&◌, ltb, ◌≢◌, slice_index_or}
 use Rattle.std.specs.List.{All, onto_first, slice_split, join_with_byte}
 use Rattle.std.specs.Fmt.{decimal}
@@ -13,13 +13,15 @@ use Rattle.hex.proofs.HexLemmas.{length-encode_with, decode_of-encode_upper, dec
 use Rattle.nfc_base.specs.declared.event.Fate.{Fate}
 use Rattle.nfc_base.specs.declared.event.Fate.TheVariants.{Pass, Damage, Lose, Break}
 use Rattle.bench_script.specs.declared.command.Command.{Command}
-use Rattle.bench_script.specs.declared.command.Command.TheVariants.{Skip, Fates, PlaceT2, PlaceT4, PlaceT5, Lock, Busy, Remove, Dump, Find, Read}
+use Rattle.bench_script.specs.declared.command.Command.TheVariants.{Skip, Fates, PlaceT2, PlaceT4, PlaceT5, Lock, Busy, Remove, Dump, Find, Read, Write}
 use Rattle.bench_script.specs.declared.command.DeviceId.{DeviceId}
 use Rattle.bench_script.specs.declared.command.DeviceId.TheVariants.{A, V}
-use Rattle.bench_script.specs.Script.{words_of, SpelledBy, Spells, SpellsHex, SpellsIdent, SpellsIdV, SpellsId, SpellsFates, fate_letter}
+use Rattle.bench_script.specs.declared.message.Msg.{Msg}
+use Rattle.bench_script.specs.declared.message.Msg.TheVariants.{Hex, Gen}
+use Rattle.bench_script.specs.Script.{words_of, SpelledBy, Spells, SpellsHex, SpellsIdent, SpellsIdV, SpellsId, SpellsCounted, SpellsMsg, SpellsFates, fate_letter}
 use Rattle.std.proofs.lemmas.Bool.{ne_eqb}
 use Rattle.bench_script.proofs.Spelling.{size_small, spells_words, spells_one}
-use Rattle.bench_script.specs.Canonical.{hex_text, id_text, fates_text, canonical_words, canonical, IsReadAs}
+use Rattle.bench_script.specs.Canonical.{hex_text, id_text, message_text, fates_text, canonical_words, canonical, IsReadAs}
 
 -- words are parts between spaces
 words_split : (line : List ℕ) → words_of line ≡ slice_split (λ b. b == 32) line
@@ -84,7 +86,7 @@ upper_word (b ∷ bs) small =
     All-cons (λ b. 32 < b) high (low ∷ encode_upper bs) (digit_visible (b / 16) (omega arith))
     (All-cons (λ b. 32 < b) low (encode_upper bs) (digit_visible (b % 16) (omega arith)) (upper_word bs more))
 
-decimal_word : (n : ℕ) → n < 2 ^ 16 → IsWord (decimal n)
+decimal_word : (n : ℕ) → n < 2 ^ 32 → IsWord (decimal n)
 decimal_word n small =
     let digits = (decimal_is_IsNumeral n (omega arith)).0.1 in
     All-from_get_or (λ b. 32 < b) (decimal n) 0 (λ i within. let at = digit_at (decimal n) i digits within in omega arith)
@@ -133,7 +135,27 @@ hex_too word (b ∷ bs) (inr s) =
     (record { spells = inr (some, upper.spells); size = upper.size; is = upper.is })
 
 number_is : (word : List ℕ) (n : ℕ) → n < 2 ^ 16 → word ≡ decimal n → SpellsToo (λ t. t ≡ decimal n) word (decimal n)
-number_is word n small is = record { spells = refl; size = ap length is; is = decimal_word n small }
+number_is word n small is = record { spells = refl; size = ap length is; is = decimal_word n (omega arith) }
+
+counted_too : (word : List ℕ) (count start : ℕ) → SpellsCounted word count start
+    → SpellsToo (λ t. SpellsCounted t count start) word (message_text (Gen count start))
+counted_too word count start s =
+    let count_small : count < 2 ^ 32 = (let few : count ≤ 65536 = s.few in omega arith) in
+    let start_small : start < 2 ^ 32 = (let byte : start < 256 = s.byte in omega arith) in
+    record {
+      spells = record { spells = refl; few = s.few; byte = s.byte };
+      size = ap length s.spells;
+      is =
+          All-append (λ b. 32 < b) (codes "gen:" ++ decimal count) (58 ∷ decimal start)
+          (All-append (λ b. 32 < b) (codes "gen:") (decimal count) (literal (codes "gen:") refl)
+          (decimal_word count count_small))
+          (All-cons (λ b. 32 < b) 58 (decimal start) (omega arith) (decimal_word start start_small));
+    }
+
+message_too : (word : List ℕ) (message : Msg) → SpellsMsg word message
+    → SpellsToo (λ t. SpellsMsg t message) word (message_text message)
+message_too word (Hex bytes) s = hex_too word bytes s
+message_too word (Gen count start) s = counted_too word count start s
 
 letter_visible : (f : Fate) → 32 < fate_letter f
 letter_visible Pass = omega arith
@@ -279,6 +301,16 @@ all_too (Read id) ws (i, e, p) =
       spells = (id_text id, refl, x.spells);
       sizes = named_sizes ws (codes "read") i id e x.size;
       are = (literal (codes "read") refl, x.is);
+    }
+all_too (Write id message) ws (i, m, e, p, q) =
+    let x = id_too i id p in
+    let y = message_too m message q in
+    let first : length i ≡ length (id_text id) = x.size in
+    let second : length m ≡ length (message_text message) = y.size in
+    record {
+      spells = (id_text id, message_text message, refl, x.spells, y.spells);
+      sizes = cc;
+      are = (literal (codes "write") refl, (x.is, y.is));
     }
 
 spells_canonical : (line : List ℕ) (c : Command) → Spells line c → Spells (canonical c) c

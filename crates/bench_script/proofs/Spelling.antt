@@ -8,16 +8,19 @@ use Rattle.nfc_base.specs.declared.event.Fate.TheVariants.{Pass, Damage, Lose, B
 use Rattle.hex.specs.Hex.{decode_of}
 use Rattle.hex.proofs.HexLemmas.{decode_of-same}
 use Rattle.bench_script.specs.declared.command.Command.{Command}
-use Rattle.bench_script.specs.declared.command.Command.TheVariants.{Skip, Fates, PlaceT2, PlaceT4, PlaceT5, Lock, Busy, Remove, Dump, Find, Read}
+use Rattle.bench_script.specs.declared.command.Command.TheVariants.{Skip, Fates, PlaceT2, PlaceT4, PlaceT5, Lock, Busy, Remove, Dump, Find, Read, Write}
 use Rattle.bench_script.specs.declared.command.DeviceId.{DeviceId}
 use Rattle.bench_script.specs.declared.command.DeviceId.TheVariants.{A, V}
+use Rattle.bench_script.specs.declared.message.Msg.{Msg}
+use Rattle.bench_script.specs.declared.message.Msg.TheVariants.{Hex, Gen}
 use Rattle.bench_script.specs.declared.script.words.CommandName.{CommandName}
 use Rattle.bench_script.specs.declared.script.words.CommandName.TheVariants as names
 use Rattle.bench_script.specs.Words.{name_text}
-use Rattle.bench_script.specs.Script.{words_of, is_skipped, SpellsHex, SpellsIdent, SpellsIdV, SpellsId, SpellsWithin, SpellsSize, SpellsCode, SpellsBlock, fate_letter, SpellsFates, SpelledBy, Spells, least_blocks, most_blocks, least_blocks_v, most_blocks_v, least_busy, most_busy, least_times, most_times}
+use Rattle.bench_script.specs.Script.{words_of, is_skipped, SpellsHex, SpellsIdent, SpellsIdV, SpellsId, SpellsWithin, SpellsSize, SpellsCode, SpellsBlock, fate_letter, SpellsFates, SpellsMsg, SpelledBy, Spells, least_blocks, most_blocks, least_blocks_v, most_blocks_v, least_busy, most_busy, least_times, most_times}
 use Rattle.nfca_poll.specs.Ident.{IsIdent}
 use Rattle.t5t_tag.specs.Store.{IsBlockSize}
 use Rattle.std.proofs.lemmas.Bool.{ne_eqb}
+use Rattle.bench_script.proofs.Messages.{counted_one, counted_differs}
 
 -- a word spells one identifier
 pub ident_one : (w i j : List ℕ) → SpellsIdent w i → SpellsIdent w j → i ≡ j
@@ -46,6 +49,17 @@ hex_one w a b (inl p) (inl q) = p.1 ∙ sym q.1
 hex_one w a b (inl p) (inr q) = absurd (dash_odd w b p.0 q.1)
 hex_one w a b (inr p) (inl q) = absurd (dash_odd w a q.0 p.1)
 hex_one w a b (inr p) (inr q) = decode_of-same w a b p.1 q.1
+
+-- a word spells one message
+pub message_one : (word : List ℕ) (a b : Msg) → SpellsMsg word a → SpellsMsg word b → a ≡ b
+message_one word (Hex a) (Hex b) p q = ap (λ x. let m : Msg = Hex x in m) (hex_one word a b p q)
+message_one word (Hex a) (Gen n s) p q = absurd (counted_differs word a n s q p)
+message_one word (Gen n s) (Hex b) p q = absurd (counted_differs word b n s p q)
+message_one word (Gen m r) (Gen n s) p q =
+    let same = counted_one word m r n s p q in
+    let counts : m ≡ n = same.0 in
+    let starts : r ≡ s = same.1 in
+    cc
 
 -- a word spells one number within limits
 pub within_one : (least most : ℕ) → most < 65536 → (w : List ℕ) (m n : ℕ) → SpellsWithin least most w m → SpellsWithin least most w n → m ≡ n
@@ -142,6 +156,12 @@ spelled_one ws Find Find p q = refl
 spelled_one ws (Read i) (Read j) (v, e, p) (w, f, q) =
     let same : v ≡ w = cc in
     ap (λ x. let c : Command = Read x in c) (id_one w i j (let P : List ℕ → Type 0 = λ t. SpellsId t i in subst P same p) q)
+spelled_one ws (Write i m) (Write j n) (u, v, e, p, r) (u', v', e', p', r') =
+    let first : u ≡ u' = cc in
+    let second : v ≡ v' = cc in
+    let ids : i ≡ j = id_one u' i j (let P : List ℕ → Type 0 = λ t. SpellsId t i in subst P first p) p' in
+    let messages : m ≡ n = message_one v' m n (let P : List ℕ → Type 0 = λ t. SpellsMsg t m in subst P second r) r' in
+    cc
 spelled_one ws (PlaceT2 i m g) (PlaceT2 j n h) (u, v, w, e, p, r, s) (u', v', w', e', p', r', s') =
     let first : u ≡ u' = cc in
     let second : v ≡ v' = cc in
@@ -191,6 +211,7 @@ nameless w ws none some (Dump id) (i, e, p) = none names.Dump (let h : w ≡ cod
 nameless w ws none some (Remove id) (i, e, p) = none names.Remove (let h : w ≡ codes "remove" = cc in h)
 nameless w ws none some Find e = some (let h : ws ≡ [] = cc in h)
 nameless w ws none some (Read id) (i, e, p) = none names.Read (let h : w ≡ codes "read" = cc in h)
+nameless w ws none some (Write id message) (i, m, e, p, q) = none names.Write (let h : w ≡ codes "write" = cc in h)
 
 -- three words of which the last is no HEX place no tag
 pub head_refused : (ws : List (List ℕ)) (i b h : List ℕ) → ws ≡ i ∷ b ∷ h ∷ [] → ((bytes : List ℕ) → SpellsHex h bytes → ⊥)
@@ -250,6 +271,7 @@ hash_begins_none ws (Dump id) (i, e, p) h = omega (arith, h, ap first_byte e)
 hash_begins_none ws (Remove id) (i, e, p) h = omega (arith, h, ap first_byte e)
 hash_begins_none ws Find e h = omega (arith, h, ap first_byte e)
 hash_begins_none ws (Read id) (i, e, p) h = omega (arith, h, ap first_byte e)
+hash_begins_none ws (Write id message) (i, m, e, p, q) h = omega (arith, h, ap first_byte e)
 
 words_begin : (b : ℕ) (bs : List ℕ) → b ≡ 35 → first_byte (words_of (b ∷ bs)) ≡ 35
 words_begin b bs hash =

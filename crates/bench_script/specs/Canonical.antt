@@ -1,13 +1,15 @@
 -- The canonical spelling of a command: of those that spell it, the one with upper-case digits, and the empty line of those
 -- that ask for nothing.
-use Rattle.std.specs.Prelude.{◌≡◌, ◌≢◌, ℕ, List, [], ◌∷◌, map, codes, length, ◌==◌, if◌then◌else◌}
+use Rattle.std.specs.Prelude.{◌≡◌, ◌≢◌, ◌++◌, ℕ, List, [], ◌∷◌, map, codes, length, ◌==◌, if◌then◌else◌}
 use Rattle.std.specs.List.{All, join_with_byte}
 use Rattle.std.specs.Fmt.{decimal}
 use Rattle.hex.specs.Hex.{encode_upper}
 use Rattle.nfc_base.specs.declared.event.Fate.{Fate}
 use Rattle.bench_script.specs.declared.command.Command.{Command}
-use Rattle.bench_script.specs.declared.command.Command.TheVariants.{Skip, Fates, PlaceT2, PlaceT4, PlaceT5, Lock, Busy, Remove, Dump, Find, Read}
+use Rattle.bench_script.specs.declared.command.Command.TheVariants.{Skip, Fates, PlaceT2, PlaceT4, PlaceT5, Lock, Busy, Remove, Dump, Find, Read, Write}
 use Rattle.bench_script.specs.declared.command.DeviceId.{DeviceId}
+use Rattle.bench_script.specs.declared.message.Msg.{Msg}
+use Rattle.bench_script.specs.declared.message.Msg.TheVariants.{Hex, Gen}
 use Rattle.bench_script.specs.DeviceIds.{bytes_of}
 use Rattle.bench_script.specs.Script.{fate_letter, Spells}
 
@@ -22,6 +24,11 @@ fates_text fates = map fate_letter fates
 -- ID
 abbrev pub id_text : DeviceId → List ℕ
 id_text id = encode_upper (bytes_of id)
+
+-- MSG, as it was spelled
+abbrev pub message_text : Msg → List ℕ
+message_text (Hex bytes) = hex_text bytes
+message_text (Gen count start) = codes "gen:" ++ decimal count ++ 58 ∷ decimal start
 
 -- `place`, a kind, an ID and a number
 abbrev pub place_text : List ℕ → List ℕ → ℕ → List ℕ
@@ -42,6 +49,7 @@ canonical_words (Remove id) = codes "remove" ∷ id_text id ∷ []
 canonical_words (Dump id) = codes "dump" ∷ id_text id ∷ []
 canonical_words Find = codes "find" ∷ []
 canonical_words (Read id) = codes "read" ∷ id_text id ∷ []
+canonical_words (Write id message) = codes "write" ∷ id_text id ∷ message_text message ∷ []
 
 -- the words, parted by one space each
 abbrev pub canonical : Command → List ℕ

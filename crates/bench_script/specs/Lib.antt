@@ -1,5 +1,6 @@
 pub mod DeviceIds
 pub mod Canonical
 pub mod Limits
+pub mod Messages
 pub mod Script
 pub mod Words

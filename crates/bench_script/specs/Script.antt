@@ -1,5 +1,5 @@
 -- How a script is written; the language is this project's own.
-use Rattle.std.specs.Prelude.{◌≡◌, ℕ, ◌^◌, ◌<◌, ◌≤◌, ◌⊎◌, List, [], ◌∷◌, map, Bool, true, codes, length, ◌==◌, if◌then◌else◌, Ok}
+use Rattle.std.specs.Prelude.{◌≡◌, ℕ, ◌^◌, ◌<◌, ◌≤◌, ◌⊎◌, ◌++◌, List, [], ◌∷◌, map, Bool, true, codes, length, ◌==◌, if◌then◌else◌, Ok}
 use Rattle.std.specs.List.{onto_first}
 use Rattle.std.specs.Fmt.{decimal}
 use Rattle.hex.specs.Hex.{decode_of}
@@ -9,9 +9,11 @@ use Rattle.nfc_base.specs.declared.event.Fate.TheVariants.{Pass, Damage, Lose, B
 use Rattle.nfca_poll.specs.Ident.{IsIdent}
 use Rattle.t5t_tag.specs.Store.{IsBlockSize}
 use Rattle.bench_script.specs.declared.command.Command.{Command}
-use Rattle.bench_script.specs.declared.command.Command.TheVariants.{Skip, Fates, PlaceT2, PlaceT4, PlaceT5, Lock, Busy, Remove, Dump, Find, Read}
+use Rattle.bench_script.specs.declared.command.Command.TheVariants.{Skip, Fates, PlaceT2, PlaceT4, PlaceT5, Lock, Busy, Remove, Dump, Find, Read, Write}
 use Rattle.bench_script.specs.declared.command.DeviceId.{DeviceId}
 use Rattle.bench_script.specs.declared.command.DeviceId.TheVariants.{A, V}
+use Rattle.bench_script.specs.declared.message.Msg.{Msg}
+use Rattle.bench_script.specs.declared.message.Msg.TheVariants.{Hex, Gen}
 use Rattle.bench_script.specs.declared.script.LineFault.{LineFault}
 use Rattle.bench_script.specs.declared.script.LineFault.TheVariants.{Refused, Memory}
 
@@ -81,6 +83,21 @@ least_times = 1
 abbrev pub most_times : ℕ
 most_times = 59
 
+-- how many counted bytes a message has at most
+abbrev pub longest_message : ℕ
+longest_message = 65536
+
+-- `gen:N:S`: so many bytes, and the first of them
+pub record SpellsCounted (word : List ℕ) (count start : ℕ) : Type 0 where
+  pub spells : word ≡ codes "gen:" ++ decimal count ++ 58 ∷ decimal start
+  pub few : count ≤ longest_message
+  pub byte : start < 256
+
+-- MSG
+abbrev pub SpellsMsg : List ℕ → Msg → Type 0
+SpellsMsg word (Hex bytes) = SpellsHex word bytes
+SpellsMsg word (Gen count start) = SpellsCounted word count start
+
 -- the letter of a fate, in upper case alone: P, D, L or B
 abbrev pub fate_letter : Fate → ℕ
 fate_letter Pass = 80
@@ -104,7 +121,7 @@ is_skipped [] = true
 is_skipped (b ∷ bs) = b == 35
 
 -- `fates FATES`, `place t2 ID BLOCKS HEX`, `place t4 ID CODE HEX HEX`, `place t5 ID BLOCKS SIZE HEX`, `lock ID BLOCK`,
--- `busy ID COUNT TIMES`, `remove ID`, `dump ID`, `find` and `read ID`
+-- `busy ID COUNT TIMES`, `remove ID`, `dump ID`, `find`, `read ID` and `write ID MSG`
 abbrev pub SpelledBy : List (List ℕ) → Command → Type 0
 SpelledBy ws Skip = ⊥
 SpelledBy ws (Fates fates) = (f : List ℕ) × (ws ≡ codes "fates" ∷ f ∷ []) × SpellsFates f fates
@@ -125,6 +142,8 @@ SpelledBy ws (Remove id) = (i : List ℕ) × (ws ≡ codes "remove" ∷ i ∷ []
 SpelledBy ws (Dump id) = (i : List ℕ) × (ws ≡ codes "dump" ∷ i ∷ []) × SpellsId i id
 SpelledBy ws Find = ws ≡ codes "find" ∷ []
 SpelledBy ws (Read id) = (i : List ℕ) × (ws ≡ codes "read" ∷ i ∷ []) × SpellsId i id
+SpelledBy ws (Write id message) =
+    (i m : List ℕ) × (ws ≡ codes "write" ∷ i ∷ m ∷ []) × SpellsId i id × SpellsMsg m message
 
 -- the line spells the command
 abbrev pub Spells : List ℕ → Command → Type 0

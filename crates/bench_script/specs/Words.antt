@@ -1,10 +1,11 @@
 -- Words cut off the front of a text.
-use Rattle.std.specs.Prelude.{◌≡◌, ℕ, List, [], ◌∷◌, codes, Option, Some, None, MatchOption}
+use Rattle.std.specs.Prelude.{◌≡◌, ◌≢◌, ◌++◌, ℕ, List, [], ◌∷◌, codes, Option, Some, None, MatchOption}
 use Rattle.bench_script.specs.declared.script.words.CommandName.{CommandName}
 use Rattle.bench_script.specs.declared.script.words.CommandName.TheVariants as names
 use Rattle.std.specs.Borrow.{Bor}
 use Rattle.bench_script.specs.declared.command.Command.{Command}
-use Rattle.bench_script.specs.Script.{words_of, SpelledBy}
+use Rattle.std.specs.List.{All}
+use Rattle.bench_script.specs.Script.{words_of, SpelledBy, SpellsCounted}
 
 -- the first word, and the text behind its space, where there is one
 abbrev pub CutsWord : List ℕ → List ℕ → Option (List ℕ) → Type 0
@@ -42,6 +43,18 @@ NotThree ws = (a b c : List ℕ) → ws ≡ a ∷ b ∷ c ∷ [] → ⊥
 abbrev pub NotFour : List (List ℕ) → Type 0
 NotFour ws = (a b c d : List ℕ) → ws ≡ a ∷ b ∷ c ∷ d ∷ [] → ⊥
 
+-- no colon is in it
+abbrev pub HasNoColon : List ℕ → Type 0
+HasNoColon text = All (λ b. b ≢ 58) text
+
+-- these stand before and behind its first colon
+abbrev pub IsCutAtColon : List ℕ → Bor (List ℕ) × Bor (List ℕ) → Type 0
+IsCutAtColon text x = (text ≡ x.0.now ++ 58 ∷ x.1.now) × HasNoColon x.0.now
+
+-- the word spells no counted bytes
+abbrev pub SpellsNoCount : List ℕ → Type 0
+SpellsNoCount word = (count start : ℕ) → SpellsCounted word count start → ⊥
+
 -- the first word of a line of several words
 abbrev pub name_text : CommandName → List ℕ
 name_text names.Fates = codes "fates"
@@ -51,3 +64,4 @@ name_text names.Busy = codes "busy"
 name_text names.Remove = codes "remove"
 name_text names.Dump = codes "dump"
 name_text names.Read = codes "read"
+name_text names.Write = codes "write"

@@ -3,6 +3,7 @@
 ghost use Rattle.std.specs.Prelude.{◌≡◌, IfOk};
 ghost use Rattle.bench_script.specs.DeviceIds.{bytes_of};
 
+use crate::message::Msg;
 use nfc_base::{Fate, Items};
 use nfca_poll::Ident;
 use std::alloc::{AllocError, Global};
@@ -88,6 +89,11 @@ pub enum Command {
     Read {
         id: DeviceId,
     },
+    /// Puts a message in the place of the one that a tag holds.
+    Write {
+        id: DeviceId,
+        message: Msg,
+    },
 }
 
 impl Command {
@@ -141,6 +147,10 @@ impl Command {
             Command::Dump { id } => Ok(Command::Dump { id: id.copy() }),
             Command::Find => Ok(Command::Find),
             Command::Read { id } => Ok(Command::Read { id: id.copy() }),
+            Command::Write { id, message } => Ok(Command::Write {
+                id: id.copy(),
+                message: message.copy(alloc)?,
+            }),
         }
     }
 }

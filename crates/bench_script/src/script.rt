@@ -13,8 +13,8 @@ use std::alloc::{AllocError, Global};
 use thiserror::Error;
 use words::{
     CommandName, block_word, code_word, cut_word, device_word, fates_word, four_words, hex_word,
-    ident_word, ident_word_v, name_of, only_word, size_word, small_word, three_words, two_words,
-    within_word,
+    ident_word, ident_word_v, message_word, name_of, only_word, size_word, small_word, three_words,
+    two_words, within_word,
 };
 
 /// How many blocks a Type 2 tag that may be placed has at least, which are its header, and at most, since a read names a
@@ -100,6 +100,7 @@ fn command_line(alloc: Global, line: &[u8]) -> Result<Command, LineFault>
         Some(CommandName::Remove) => remove_line(alloc, rest),
         Some(CommandName::Dump) => dump_line(alloc, rest),
         Some(CommandName::Read) => read_line(alloc, rest),
+        Some(CommandName::Write) => write_line(alloc, rest),
         None => Err(LineFault::Refused),
     }
 }
@@ -208,6 +209,23 @@ fn read_line(alloc: Global, rest: &[u8]) -> Result<Command, LineFault>
     }
 }
 
+/// `write ID MSG`, behind its first word.
+fn write_line(alloc: Global, rest: &[u8]) -> Result<Command, LineFault>
+    ensures ok { IfOk result (λ c. SpelledBy (codes "write" ∷ words_of rest.now) c) }
+    ensures refused { IsErrOf result LineFault.Refused → SpellsNone (codes "write" ∷ words_of rest.now) }
+{
+    let Some((id_text, message_text)) = two_words(rest) else {
+        return Err(LineFault::Refused);
+    };
+    let Some(id) = device_word(alloc, id_text)? else {
+        return Err(LineFault::Refused);
+    };
+    match message_word(alloc, message_text)? {
+        Some(message) => Ok(Command::Write { id, message }),
+        None => Err(LineFault::Refused),
+    }
+}
+
 /// `place KIND ..`, behind its first word.
 fn place_line(alloc: Global, rest: &[u8]) -> Result<Command, LineFault>
     ensures ok { IfOk result (λ c. SpelledBy (codes "place" ∷ words_of rest.now) c) }
@@ -308,6 +326,7 @@ fn place_t5(alloc: Global, rest: &[u8]) -> Result<Command, LineFault>
 mod tests {
     use super::*;
     use crate::command::DeviceId;
+    use crate::message::Msg;
     use nfc_base::{Fate, Items};
     use nfca_poll::Ident;
     use std::test::Fail;
@@ -447,6 +466,40 @@ mod tests {
     }
 
     #[test]
+    fn lines_with_a_message(rt: HostRuntime) {
+        let rows = [
+            ("write 01020304 -", 0),
+            ("write e004010203040506 D00000", 0),
+            ("write 01020304 gen:0:0", 0),
+            ("write 01020304 gen:65536:255", 0),
+            ("write 01020304 gen:65537:0", 1),
+            ("write 01020304 gen:1:256", 1),
+            ("write 01020304 gen:01:0", 1),
+            ("write 01020304 gen:1:00", 1),
+            ("write 01020304 gen:1", 1),
+            ("write 01020304 gen::1", 1),
+            ("write 01020304 gen:1:", 1),
+            ("write 01020304 gen:1:1:1", 1),
+            ("write 01020304 gen:4294967297:0", 1),
+            ("write 01020304 Gen:1:1", 1),
+            ("write 01020304 D0000", 1),
+            ("write 01020304 D00000 ", 1),
+            ("write 01020304  D00000", 1),
+            ("write 01020304 ", 1),
+            ("write 01020304", 1),
+            ("write D00000 01020304", 1),
+            ("write", 1),
+        ];
+        for (line, wanted) in rows {
+            let fault = match parse_line(rt.alloc(), line.as_bytes()) {
+                Ok(_) => 0,
+                Err(fault) => fault.number(),
+            };
+            assert_eq!(rt; fault, wanted, "{line}");
+        }
+    }
+
+    #[test]
     fn values(rt: HostRuntime) -> Result<(), Fail> {
         let alloc = rt.alloc();
         let letters = [Fate::Pass, Fate::Damage, Fate::Lose, Fate::Break];
@@ -483,6 +536,23 @@ mod tests {
                 "dump E0040102030405fF",
                 Command::Dump {
                     id: DeviceId::V(tag),
+                },
+            ),
+            (
+                "write 04112233445566 d000",
+                Command::Write {
+                    id: DeviceId::A(ident.copy()),
+                    message: Msg::Hex(Items::new(Vec::from_slice(alloc, &[208, 0])?)),
+                },
+            ),
+            (
+                "write E0040102030405fF gen:1013:255",
+                Command::Write {
+                    id: DeviceId::V(tag),
+                    message: Msg::Gen {
+                        count: 1013,
+                        start: 255,
+                    },
                 },
             ),
             (

@@ -4,9 +4,10 @@ ghost use Rattle.std.specs.Prelude.{◌≡◌, ◌≤◌, ◌++◌, ◌∷◌, �
 ghost use Rattle.std.specs.Fmt.{decimal};
 ghost use Rattle.hex.specs.Hex.{encode_upper};
 ghost use Rattle.bench_script.specs.Script.{fate_letter, Spells};
-ghost use Rattle.bench_script.specs.Canonical.{hex_text, id_text, fates_text, place_text, canonical, IsReadAs};
+ghost use Rattle.bench_script.specs.Canonical.{hex_text, id_text, message_text, fates_text, place_text, canonical, IsReadAs};
 
 use crate::command::{Command, DeviceId};
+use crate::message::Msg;
 use nfc_base::Fate;
 use std::alloc::AllocError;
 
@@ -69,6 +70,10 @@ impl Command {
             Command::Dump { id } => add_named(line, b"dump", id),
             Command::Find => line.extend_from_slice(b"find"),
             Command::Read { id } => add_named(line, b"read", id),
+            Command::Write { id, message } => {
+                add_named(line, b"write", id)?;
+                add_message(line, message)
+            }
         }
     }
 }
@@ -112,12 +117,34 @@ fn add_hex(line: &mut Vec<u8>, bytes: &[u8]) -> Result<(), AllocError>
     }
 }
 
+/// Adds a space, and a message as it was spelled.
+fn add_message(line: &mut Vec<u8>, message: &Msg) -> Result<(), AllocError>
+    ensures { OnOk result (line.new.items ≡ line.old.items ++ 32 ∷ message_text message.now) }
+{
+    match message {
+        Msg::Hex(bytes) => add_hex(line, bytes.as_slice()),
+        Msg::Gen { count, start } => {
+            line.extend_from_slice(b" gen:")?;
+            add_decimal(line, *count)?;
+            line.push(b':')?;
+            add_decimal(line, *start as u32)
+        }
+    }
+}
+
 /// Adds a space, and a number.
 fn add_number(line: &mut Vec<u8>, number: u16) -> Result<(), AllocError>
     ensures { OnOk result (line.new.items ≡ line.old.items ++ 32 ∷ decimal number) }
 {
-    let digits = number.to_string(*line.allocator())?;
     line.push(b' ')?;
+    add_decimal(line, number as u32)
+}
+
+/// Adds a number.
+fn add_decimal(line: &mut Vec<u8>, number: u32) -> Result<(), AllocError>
+    ensures { OnOk result (line.new.items ≡ line.old.items ++ decimal number) }
+{
+    let digits = number.to_string(*line.allocator())?;
     line.extend_from_slice(digits.as_bytes())
 }
 
@@ -190,6 +217,12 @@ mod tests {
             ("dump e00401020304050f", "dump E00401020304050F"),
             ("find", "find"),
             ("read 0a010203", "read 0A010203"),
+            ("write 0a010203 -", "write 0A010203 -"),
+            ("write 0a010203 d00f", "write 0A010203 D00F"),
+            (
+                "write e00401020304050f gen:65536:255",
+                "write E00401020304050F gen:65536:255",
+            ),
         ];
         let alloc = rt.alloc();
         for (lower, upper) in rows {

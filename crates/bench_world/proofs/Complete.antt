@@ -31,8 +31,11 @@ use Rattle.bench_world.specs.Crowded.{seen_all, is_crowd}
 use Rattle.bench_devices.specs.Crowded.{crowd_of, others_of}
 use Rattle.bench_devices.specs.Placed.{device_with, OfPlaced}
 use Rattle.bench_world.specs.Reading.{TellsOf}
-use Rattle.bench_world.specs.Completing.{IsQuietOnce, HadSixBad, IsUndisturbed, ReadsComplete, FindsComplete}
-use Rattle.bench_world.specs.Legal.{AnswerLaw, ReadLaw, FindLaw}
+use Rattle.bench_world.specs.Completing.{IsQuietOnce, HadSixBad, IsUndisturbed, ReadsComplete, WritesComplete, ValidIsWritten, FindsComplete}
+use Rattle.bench_world.specs.Legal.{AnswerLaw, ReadLaw, WritingLaw, FindLaw}
+use Rattle.bench_world.specs.Writing.{TellsWrite}
+use Rattle.bench_world.proofs.WriteTelling.{one_written}
+use Rattle.bench_script.specs.Messages.{message_of}
 use Rattle.bench_script.specs.declared.command.Command.{Command}
 use Rattle.bench_devices.specs.Polling.{Told}
 use Rattle.bench_world.specs.Answering.{TellsFault, TagEnds, TagTells, TellsFound}
@@ -161,6 +164,16 @@ reads_complete s t g e id d step is placed named calm =
     let L : Command → Type 0 = λ c. AnswerLaw s g c e.events e.answer in
     let law : ReadLaw s id g.asked e.events e.answer = subst L is step.answered in
     tag_completes id s.world.listeners d placed named TellsOf g.asked e.events e.answer law.tells calm
+
+pub writes_complete : WritesComplete
+writes_complete s t g e id m d step is placed named calm =
+    let L : Command → Type 0 = λ c. AnswerLaw s g c e.events e.answer in
+    let law : WritingLaw s id (message_of m) g.asked e.events e.answer = subst L is step.answered in
+    tag_completes id s.world.listeners d placed named (TellsWrite (message_of m)) g.asked e.events e.answer law.tells calm
+
+pub valid_is_written : ValidIsWritten
+valid_is_written s t g e id m d step is placed named calm valid =
+    one_written (message_of m) d e.answer answers.Written (writes_complete s t g e id m d step is placed named calm) (Ok tt, valid, refl)
 
 pub finds_complete : FindsComplete
 finds_complete s t g e step is lit round once =

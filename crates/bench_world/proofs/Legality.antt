@@ -78,11 +78,11 @@ pub selecting_more : (id : DeviceId) (hs ns : List Note) (r : Result SeenKind Po
 selecting_more id hs ns r told = let P : Followed SeenKind → Type 0 = λ p. ToldOn p ns (selecting id (hs ++ ns)) in subst P told (selecting_stays id hs ns)
 
 -- behind it the commands are asked, as its kind takes them
-then_tag : (id : DeviceId) (kind : SeenKind) (asked : List Signal) (hs ns : List Note) → selecting id hs ≡ Told (Ok kind) [] → tag_due id asked (hs ++ ns) ≡ tag_next kind asked ns
+pub then_tag : (id : DeviceId) (kind : SeenKind) (asked : List Signal) (hs ns : List Note) → selecting id hs ≡ Told (Ok kind) [] → tag_due id asked (hs ++ ns) ≡ tag_next kind asked ns
 then_tag id kind asked hs ns told = ap (then_asks asked) (selecting_more id hs ns (Ok kind) told)
 
 -- what polling asks, the command asks
-polls_first : (asked : List Signal) (p : Followed SeenKind) (n : Next) → asks p ≡ n → IsDemand n → then_asks asked p ≡ n
+pub polls_first : (asked : List Signal) (p : Followed SeenKind) (n : Next) → asks p ≡ n → IsDemand n → then_asks asked p ≡ n
 polls_first asked (Requests m) n h d = h
 polls_first asked (Told r ns) Over h d = absurd d
 polls_first asked (Told r ns) LightUp h d = absurd cc
@@ -102,12 +102,20 @@ stores_stay : (old new : Air Device) (es : List Event) → (moment new).world �
 stores_stay old new es world same =
     ap stable (sym world) ∙ stores_kept new.listeners ∙ ap (map stable_in) same ∙ sym (stores_kept old.listeners)
 
+-- nor where it was cut off
+pub part_stays : (old new : Air Device) (es : List Event) → IsIdle old → moment new ≡ with_events air (moment old) es → map kept new.listeners ≡ map kept old.listeners
+    → stable (replay air (state_at old).world new.trace) ≡ stable (state_at old).world
+part_stays old new es idle made same =
+    let trace : new.trace ≡ es = ap (λ (t : Moment (World Device)). t.trace) made ∙ ap (λ t. t ++ es) idle.quiet in
+    let world : (moment new).world ≡ replay air (moment old).world es = ap (λ (t : Moment (World Device)). t.world) made in
+    ap (λ t. stable (replay air (state_at old).world t)) trace ∙ stores_stay old new es world same
+
 -- a step whose command asks these
 abbrev pub asks_for : List Signal → Given
 asks_for asked = record { asked = asked }
 
 -- the trace of an idle field is what happened since
-trace_is : (old new : Air Device) (next : List Note → Next) (ns : List Note) (g : Going air next (moment old) (moment new) ns) → IsIdle old → new.trace ≡ g.events
+pub trace_is : (old new : Air Device) (next : List Note → Next) (ns : List Note) (g : Going air next (moment old) (moment new) ns) → IsIdle old → new.trace ≡ g.events
 trace_is old new next ns g idle = ap (λ (t : Moment (World Device)). t.trace) g.moment ∙ ap (λ t. t ++ g.events) idle.quiet
 
 -- what was asked is a front of the command's step
@@ -134,7 +142,7 @@ front_of old new c asked ns idle accepted still g asked_by =
     subst P (sym trace) front
 
 -- a command that asks, and changes nothing itself, whatever it may have changed of what stays
-asks_obeyed : (what : Changes) (old new : Air Device) (c : Command) (asked : List Signal) (ns : List Note) (answer : Answer) → IsIdle old → Accepts (state_at old) c → changed (state_at old) c ≡ state_at old
+pub asks_obeyed : (what : Changes) (old new : Air Device) (c : Command) (asked : List Signal) (ns : List Note) (answer : Answer) → IsIdle old → Accepts (state_at old) c → changed (state_at old) c ≡ state_at old
     → (g : Going air (due (state_at old) (asks_for asked) c) (moment old) (moment new) ns) → due (state_at old) (asks_for asked) c ns ≡ Over → IsAskedBy (state_at old) c asked
     → AnswerLaw (state_at old) (asks_for asked) c g.events answer
     → Leaves what (moment old).world g.events (moment new).world → Obeyed old new c answer
@@ -193,7 +201,7 @@ poll_lost : (e : PollFault) (answer : Answer) → poll_answer e ≡ Some answer 
 poll_lost e answer is lost = (let same : e ≡ faults.FieldLost = cc in let told : Some answer ≡ Some answers.FieldLost = sym is ∙ ap poll_answer same in cc)
 
 -- what selecting asks, a command of the tag asks
-abbrev polled_of : (id : DeviceId) (asked : List Signal) (a b : Moment (World Device)) (ns : List Note) → Going air (λ ks. asks (selecting id ks)) a b ns → Going air (tag_due id asked) a b ns
+abbrev pub polled_of : (id : DeviceId) (asked : List Signal) (a b : Moment (World Device)) (ns : List Note) → Going air (λ ks. asks (selecting id ks)) a b ns → Going air (tag_due id asked) a b ns
 polled_of id asked a b ns g = record {
   events = g.events;
   moment = g.moment;
@@ -205,7 +213,7 @@ polled_of id asked a b ns g = record {
 }
 
 -- no tag was selected: so a command of it tells, whatever it would tell of a device
-missed_tells : (Tells : Device → Answer → Type 0) (id : DeviceId) (asked : List Signal) (old new : Moment (World Device)) (e : PollFault) (answer : Answer) → (s : Selects id (Err e) old new)
+pub missed_tells : (Tells : Device → Answer → Type 0) (id : DeviceId) (asked : List Signal) (old new : Moment (World Device)) (e : PollFault) (answer : Answer) → (s : Selects id (Err e) old new)
     → poll_answer e ≡ Some answer → TagTells Tells id old.world.listeners asked s.asked.going.events answer
 missed_tells Tells id asked old new e answer s is = record {
   polled = Err e;
@@ -234,24 +242,24 @@ module _ (id : DeviceId) (kind : SeenKind) (asked : List Signal) (a b c : Moment
   asks_behind t fresh =
       ap (tag_due id asked) (receptions-append g.events t fresh ∙ ap (λ r. r ++ receptions t) g.known) ∙ then_tag id kind asked hs (receptions t) told
 
-  each_of_both : EachDue (tag_due id asked) [] (g.events ++ k.events)
+  pub each_of_both : EachDue (tag_due id asked) [] (g.events ++ k.events)
   each_of_both =
       let D : List Event → Type 0 = λ t. EachDue (tag_due id asked) t k.events in
       due-append (tag_due id asked) [] g.events k.events
       (due_weaker (tag_due id asked) (λ ns. asks (selecting id ns)) (λ ns n h d. polls_first asked (selecting id ns) n h d) [] g.events g.each)
       (subst D (append-nil g.events) (due_shift (tag_due id asked) (tag_next kind asked) g.events asks_behind [] k.events k.fresh k.each))
 
-  turns_of_both : AreTurns air a.world (g.events ++ k.events)
+  pub turns_of_both : AreTurns air a.world (g.events ++ k.events)
   turns_of_both =
       let T : World Device → Type 0 = λ w. AreTurns air w k.events in
       turns-append air a.world g.events k.events g.turns (subst T (ap (λ (t : Moment (World Device)). t.world) g.moment) k.turns)
 
-  fates_of_both : FatesFrom a.queue (g.events ++ k.events)
+  pub fates_of_both : FatesFrom a.queue (g.events ++ k.events)
   fates_of_both =
       let F : List Fate → Type 0 = λ q. FatesFrom q k.events in
       fates-append a.queue g.events k.events g.fates (subst F (ap (λ (t : Moment (World Device)). t.queue) g.moment) k.fates)
 
-  abbrev both : Going air (tag_due id asked) a c (hs ++ ks)
+  abbrev pub both : Going air (tag_due id asked) a c (hs ++ ks)
   both = record {
     events = g.events ++ k.events;
     moment = k.moment ∙ ap (λ t. with_events air t k.events) g.moment ∙ events-append air a g.events k.events;
@@ -263,7 +271,7 @@ module _ (id : DeviceId) (kind : SeenKind) (asked : List Signal) (a b c : Moment
   }
 
 -- no Break was used by the first events
-lost_behind : (answer : Answer) (first rest : List Event) → ((0 < breaks first) → ⊥) → (answer ≡ answers.FieldLost) ↔ (0 < breaks rest) → (answer ≡ answers.FieldLost) ↔ (0 < breaks (first ++ rest))
+pub lost_behind : (answer : Answer) (first rest : List Event) → ((0 < breaks first) → ⊥) → (answer ≡ answers.FieldLost) ↔ (0 < breaks rest) → (answer ≡ answers.FieldLost) ↔ (0 < breaks (first ++ rest))
 lost_behind answer first rest none lost =
     let sum : breaks (first ++ rest) ≡ breaks first + breaks rest = breaks-append first rest in
     elim (cases_lt 0 (breaks first)) [
@@ -276,7 +284,7 @@ lost_behind answer first rest none lost =
 
 -- a tag was selected, and so much was asked of it
 module _ (old mid : Air Device) (id : DeviceId) (place : ℕ) (idle : IsIdle old) (s : SelectsAt id place (moment old) (moment mid)) where
-  selected_with : IsWith old.listeners (bytes_of id) (kept s.device)
+  pub selected_with : IsWith old.listeners (bytes_of id) (kept s.device)
   selected_with =
       let split : map kept old.listeners ≡ map kept s.stands.before ++ kept s.device ∷ map kept s.stands.behind =
       sym s.selects.asked.same ∙ ap (λ (w : World Device). map kept w.listeners) s.stands.world ∙ map-over kept s.stands.before (s.device ∷ s.stands.behind) in
@@ -295,6 +303,9 @@ module _ (old mid : Air Device) (id : DeviceId) (place : ℕ) (idle : IsIdle old
         front_of old new (Read id) r.commands (s.selects.asked.notes ++ r.asked.notes) idle tt refl
             (both id (seen_of s.device) r.commands (moment old) (moment mid) (moment new) s.selects.asked.notes r.asked.notes s.selects.told s.selects.asked.going r.asked.going)
             (placed_asked r.commands r.asks),
+        part_stays old new (s.selects.asked.going.events ++ r.asked.going.events) idle
+            (both id (seen_of s.device) r.commands (moment old) (moment mid) (moment new) s.selects.asked.notes r.asked.notes s.selects.told s.selects.asked.going r.asked.going).moment
+            (r.asked.same ∙ s.selects.asked.same),
       )
 
 -- a tag was selected and read
@@ -352,12 +363,17 @@ untouched old new c idle same = inl (ap (λ (a : Air Device). a.trace) same ∙ 
 
 -- ... or so much was asked, in a search, in selecting a tag, and in reading it.
 pub search_cut : (old new : Air Device) → IsIdle old → AskedPart NoStore (λ ns. asks (finding_all ns)) (moment old) (moment new) → IsCutOff old new Find
-search_cut old new idle part = inr (asks_for [], front_of old new Find [] part.notes idle tt refl part.going refl)
+search_cut old new idle part =
+    inr (asks_for [], front_of old new Find [] part.notes idle tt refl part.going refl, part_stays old new part.going.events idle part.going.moment part.same)
 
 pub selection_cut : (old new : Air Device) (id : DeviceId) → IsIdle old → SelectionCut id (moment old) (moment new) → IsCutOff old new (Read id)
 selection_cut old new id idle part =
     let some = asked_by old id idle in
-    inr (asks_for some.0, front_of old new (Read id) some.0 part.notes idle tt refl (polled_of id some.0 (moment old) (moment new) part.notes part.going) some.1)
+    inr (
+      asks_for some.0,
+      front_of old new (Read id) some.0 part.notes idle tt refl (polled_of id some.0 (moment old) (moment new) part.notes part.going) some.1,
+      part_stays old new part.going.events idle part.going.moment part.same,
+    )
 
 -- What was asked in a search, however it ended, and in a read.
 pub search_part : (old new : Moment (World Device)) (r : Result Everybody PollFault) → SearchesField old new r → SearchCut old new r → AskedPart NoStore (λ ns. asks (finding_all ns)) old new

@@ -1,5 +1,5 @@
 -- What happened decides what a command that polls answers.
-use Rattle.std.proofs.Common.{◌≡◌, List, [], ◌∷◌, Option, Some, None, Result, Ok, Err, sym, ◌∙◌, subst}
+use Rattle.std.proofs.Common.{◌≡◌, ℕ, List, [], ◌∷◌, Option, Some, None, Result, Ok, Err, sym, ◌∙◌, subst}
 use Rattle.nfc_base.specs.Signal.{Signal}
 use Rattle.nfc_base.specs.declared.event.Event.{Event}
 use Rattle.nfc_base.specs.declared.tag_link.AskFault.TheVariants as asking
@@ -17,6 +17,7 @@ use Rattle.bench_script.specs.DeviceIds.{bytes_of}
 use Rattle.bench_devices.specs.Polling.{Told}
 use Rattle.bench_devices.specs.Placed.{device_with, OfPlaced}
 use Rattle.bench_world.specs.Reading.{TellsOf}
+use Rattle.bench_world.specs.Writing.{TellsWrite}
 use Rattle.isodep_link.specs.Asking as exchange
 use Rattle.bench_devices.specs.declared.polling.SeenKind.{SeenKind}
 use Rattle.bench_devices.specs.declared.polling.SeenKind.TheVariants as seen
@@ -24,6 +25,7 @@ use Rattle.bench_devices.specs.CardAsking.{CardStanding, Activates, Exchanges, c
 use Rattle.bench_world.specs.Answering.{TellsFault, TagEnds, TagTells, TellsFound}
 use Rattle.bench_devices.specs.Answering.{TellsStanding, TellsExchange, TellsCard, TellsBy, InventoryEnds, FindEnds, FindTells}
 use Rattle.bench_world.proofs.OneForm.{one_telling}
+use Rattle.bench_world.proofs.WriteTelling.{one_written}
 
 -- at most one answer is so
 abbrev AtMostOne : (Answer → Type 0) → Type 0
@@ -90,6 +92,11 @@ one_telling_of d a b p q = one_telling (how_of d) (size_of d) (device_store d) a
 
 pub one_read : (id : DeviceId) (ds : List Device) (asked : List Signal) (events : List Event) (a b : Answer) → TagTells TellsOf id ds asked events a → TagTells TellsOf id ds asked events b → a ≡ b
 one_read id ds asked events a b p q = one_tag TellsOf one_telling_of id ds asked events a b p q
+
+-- A write has one answer.
+pub one_write : (id : DeviceId) (ds : List Device) (message : List ℕ) (asked : List Signal) (events : List Event) (a b : Answer) → TagTells (TellsWrite message) id ds asked events a
+    → TagTells (TellsWrite message) id ds asked events b → a ≡ b
+one_write id ds message asked events a b p q = one_tag (TellsWrite message) (one_written message) id ds asked events a b p q
 
 -- A search has one answer.
 module _ (ds : List Device) where

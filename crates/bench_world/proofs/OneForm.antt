@@ -135,6 +135,11 @@ module _ (how : How) (size : ℕ) (store : List ℕ) where
   tells_form answers.FieldLost t = absurd t
   tells_form answers.NotFound t = absurd t
   tells_form answers.SixBad t = absurd t
+  tells_form answers.Written t = absurd t
+  tells_form (answers.Refused code) t = absurd t
+  tells_form answers.ReadOnly t = absurd t
+  tells_form (answers.TooLong room) t = absurd t
+  tells_form answers.ShortMlc t = absurd t
 
   -- A store is told in one way.
   pub one_telling : (a b : Answer) → Tells how size store a → Tells how size store b → a ≡ b

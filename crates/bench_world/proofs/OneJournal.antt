@@ -4,31 +4,40 @@ use Rattle.nfc_base.specs.Signal.{Signal}
 use Rattle.nfc_base.specs.declared.event.Event.{Event}
 use Rattle.air_core.specs.Conversation.{Over, EachDue, receptions}
 use Rattle.bench_script.specs.declared.command.Command.{Command}
-use Rattle.bench_script.specs.declared.command.Command.TheVariants.{Skip, Fates, PlaceT2, PlaceT4, PlaceT5, Lock, Busy, Remove, Dump, Find, Read}
+use Rattle.bench_script.specs.declared.command.Command.TheVariants.{Skip, Fates, PlaceT2, PlaceT4, PlaceT5, Lock, Busy, Remove, Dump, Find, Read, Write}
 use Rattle.bench_devices.specs.declared.device.Device.{Device}
 use Rattle.bench_world.specs.declared.entry.Answer.{Answer}
 use Rattle.bench_world.specs.declared.entry.Answer.TheVariants.{Store}
 use Rattle.bench_world.specs.declared.entry.Entry.{Entry}
-use Rattle.bench_devices.specs.Device.{device_store, how_of, size_of, memory_in}
+use Rattle.bench_devices.specs.Device.{device_store, device_commands, how_of, size_of, memory_in}
 use Rattle.bench_script.specs.DeviceIds.{bytes_of}
 use Rattle.bench_devices.specs.Placed.{device_with, OfPlaced, IfPlaced}
 use Rattle.bench_devices.specs.Reading.{AsksOf}
+use Rattle.bench_devices.specs.Writing.{AsksWriteOf}
+use Rattle.bench_script.specs.Messages.{message_of}
+use Rattle.nfc_base.specs.TagLinks.{plain_state}
+use Rattle.tag_writer.proofs.OneWrite.{one_write as one_write_list}
 use Rattle.bench_world.specs.Legal.{State, Given, IsAskedBy, AnswerLaw, FrontOf, EachLegal, changed, due, state_after, first_state}
 use Rattle.bench_devices.specs.Device.{air}
 use Rattle.bench_world.specs.Journal.{NumberedLine, AreEntriesOf, asking_lines, Legal}
 use Rattle.bench_world.specs.SameCommands.{SameCommands}
 use Rattle.bench_script.proofs.Spelling.{spells_one}
 use Rattle.tag_reader.proofs.Lists.{one_list}
-use Rattle.bench_world.proofs.OneAnswer.{one_read, one_find}
+use Rattle.bench_world.proofs.OneAnswer.{one_read, one_write, one_find}
 use Rattle.air_core.proofs.OneCourse.{one_course}
 
 one_asked_of : (o : Option Device) (a b : List Signal) → IfPlaced (λ d. AsksOf d a) (a ≡ []) o → IfPlaced (λ d. AsksOf d b) (b ≡ []) o → a ≡ b
 one_asked_of None a b p q = p ∙ sym q
 one_asked_of (Some d) a b p q = one_list (how_of d) (size_of d) (device_store d) a b p q
 
+one_written_of : (message : List ℕ) (o : Option Device) (a b : List Signal) → IfPlaced (λ d. AsksWriteOf message d a) (a ≡ []) o → IfPlaced (λ d. AsksWriteOf message d b) (b ≡ []) o → a ≡ b
+one_written_of message None a b p q = p ∙ sym q
+one_written_of message (Some d) a b p q = one_write_list (how_of d) (size_of d) (device_commands d) (plain_state (device_store d)) message a b p q
+
 -- a command asks one list of its tag
 one_asked_by : (s : State) (c : Command) (a b : List Signal) → IsAskedBy s c a → IsAskedBy s c b → a ≡ b
 one_asked_by s (Read id) a b p q = one_asked_of (device_with (bytes_of id) s.world.listeners) a b p q
+one_asked_by s (Write id m) a b p q = one_written_of (message_of m) (device_with (bytes_of id) s.world.listeners) a b p q
 one_asked_by s c a b p q = p ∙ sym q
 
 -- a dump tells of one device
@@ -49,6 +58,7 @@ one_answer s g (Remove id) events a b p q = p ∙ sym q
 one_answer s g (Dump id) events a b p q = one_dump (device_with (bytes_of id) s.world.listeners) a b p q
 one_answer s g Find events a b p q = one_find s.world.listeners events a b p.tells q.tells
 one_answer s g (Read id) events a b p q = one_read id s.world.listeners g.asked events a b p.tells q.tells
+one_answer s g (Write id m) events a b p q = one_write id s.world.listeners (message_of m) g.asked events a b p.tells q.tells
 
 -- From a state a command is obeyed in one way.
 same_given : (s : State) (c : Command) (g h : Given) → IsAskedBy s c g.asked → IsAskedBy s c h.asked → h ≡ g

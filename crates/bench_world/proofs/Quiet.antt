@@ -12,7 +12,7 @@ use Rattle.air_core.proofs.Following.{trace_first}
 use Rattle.nfca_poll.specs.RoundTrace.{rounds, up_to_reset, back_noise}
 use Rattle.nfca_poll.specs.Inventory.{tries, inventory_all, inventory_of}
 use Rattle.bench_script.specs.declared.command.Command.{Command}
-use Rattle.bench_script.specs.declared.command.Command.TheVariants.{Find, Read}
+use Rattle.bench_script.specs.declared.command.Command.TheVariants.{Find, Read, Write}
 use Rattle.bench_script.specs.declared.command.DeviceId.{DeviceId}
 use Rattle.bench_script.specs.declared.command.DeviceId.TheVariants.{A, V}
 use Rattle.bench_script.specs.DeviceIds.{bytes_of}
@@ -29,10 +29,13 @@ use Rattle.bench_world.specs.declared.entry.Answer.TheVariants.{SixBad}
 use Rattle.bench_world.specs.declared.entry.Entry.{Entry}
 use Rattle.bench_world.specs.Answering.{TagEnds, TagTells, TellsFault}
 use Rattle.bench_world.specs.Completing.{IsQuietOnce, HadSixBad, IsUndisturbed}
-use Rattle.bench_world.specs.Legal.{State, Given, LegalStep, AnswerLaw, ReadLaw, changed, due}
-use Rattle.bench_world.specs.Quiet.{AllPass, QuietStays, QuietReads, QuietFinds}
+use Rattle.bench_world.specs.Legal.{State, Given, LegalStep, AnswerLaw, ReadLaw, WritingLaw, changed, due}
+use Rattle.bench_world.specs.Quiet.{AllPass, QuietStays, QuietReads, QuietWrites, QuietFinds}
 use Rattle.bench_world.specs.Reading.{TellsOf}
-use Rattle.bench_world.proofs.Complete.{reads_complete, finds_complete}
+use Rattle.bench_world.specs.Writing.{TellsWrite}
+use Rattle.bench_script.specs.Messages.{message_of}
+use Rattle.bench_script.specs.declared.message.Msg.{Msg}
+use Rattle.bench_world.proofs.Complete.{reads_complete, writes_complete, finds_complete}
 use Rattle.bench_world.proofs.OneAnswer.{one_end}
 
 -- Where no fate is left but Pass, the next one is Pass, and so are those behind it.
@@ -155,18 +158,35 @@ no_six Tells id ds asked es answer t none kind behind told six =
     let some : 0 < noise es = t.noisy (told_six (λ a. OfPlaced (λ d. Tells d a) (device_with (bytes_of id) ds)) kind asked behind answer ends six) in
     omega (arith, none, some)
 
-quiet_once : (s t : State) (g : Given) (e : Entry) (id : DeviceId) → LegalStep s g e t → e.command ≡ Read id → noise e.events ≡ 0 → IsQuietOnce id e.events
-quiet_once s t g e (A id) step is none = round_of s t g e (Read (A id)) step is refl refl none
-quiet_once s t g e (V id) step is none = few_noisy (noisy_tries (inventory_of id) e.events) (no_noisy _ e.events none)
+-- a command that asks a tag begins with a reset, and its first round isn't disturbed
+once_read : (s t : State) (g : Given) (e : Entry) (id : DeviceId) → LegalStep s g e t → e.command ≡ Read id → noise e.events ≡ 0 → IsQuietOnce id e.events
+once_read s t g e (A id) step is none = round_of s t g e (Read (A id)) step is refl refl none
+once_read s t g e (V id) step is none = few_noisy (noisy_tries (inventory_of id) e.events) (no_noisy _ e.events none)
+
+once_written : (s t : State) (g : Given) (e : Entry) (id : DeviceId) (m : Msg) → LegalStep s g e t → e.command ≡ Write id m → noise e.events ≡ 0 → IsQuietOnce id e.events
+once_written s t g e (A id) m step is none = round_of s t g e (Write (A id) m) step is refl refl none
+once_written s t g e (V id) m step is none = few_noisy (noisy_tries (inventory_of id) e.events) (no_noisy _ e.events none)
+
+-- so nothing keeps it from its answer
+quiet_tag : (Tells : Device → Answer → Type 0) (id : DeviceId) (ds : List Device) (asked : List Signal) (es : List Event) (answer : Answer) → TagTells Tells id ds asked es answer → noise es ≡ 0
+    → IsQuietOnce id es → IsUndisturbed id asked es
+quiet_tag Tells id ds asked es answer tells none once = record {
+  lit = no_breaks es none;
+  round = once;
+  waits = λ kind behind told six. no_six Tells id ds asked es answer tells none kind behind told six;
+}
 
 pub quiet_reads : QuietReads
 quiet_reads s t g e id d step is placed named pass =
     let none : noise e.events ≡ 0 = quiet_of s t g e (Read id) step is refl pass in
     let L : Command → Type 0 = λ c. AnswerLaw s g c e.events e.answer in
     let law : ReadLaw s id g.asked e.events e.answer = subst L is step.answered in
-    let calm : IsUndisturbed id g.asked e.events = record {
-      lit = no_breaks e.events none;
-      round = quiet_once s t g e id step is none;
-      waits = λ kind behind told six. no_six TellsOf id s.world.listeners g.asked e.events e.answer law.tells none kind behind told six;
-    } in
-    reads_complete s t g e id d step is placed named calm
+    reads_complete s t g e id d step is placed named (quiet_tag TellsOf id s.world.listeners g.asked e.events e.answer law.tells none (once_read s t g e id step is none))
+
+pub quiet_writes : QuietWrites
+quiet_writes s t g e id m d step is placed named pass =
+    let none : noise e.events ≡ 0 = quiet_of s t g e (Write id m) step is refl pass in
+    let L : Command → Type 0 = λ c. AnswerLaw s g c e.events e.answer in
+    let law : WritingLaw s id (message_of m) g.asked e.events e.answer = subst L is step.answered in
+    writes_complete s t g e id m d step is placed named
+    (quiet_tag (TellsWrite (message_of m)) id s.world.listeners g.asked e.events e.answer law.tells none (once_written s t g e id m step is none))

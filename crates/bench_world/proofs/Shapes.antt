@@ -8,7 +8,7 @@ use Rattle.air_core.specs.Conversation.{replay}
 use Rattle.tag_reader.specs.declared.how.How.{How}
 use Rattle.tag_reader.specs.declared.how.How.TheVariants as hows
 use Rattle.bench_script.specs.declared.command.Command.{Command}
-use Rattle.bench_script.specs.declared.command.Command.TheVariants.{Skip, Fates, PlaceT2, PlaceT4, PlaceT5, Lock, Busy, Remove, Dump, Find, Read}
+use Rattle.bench_script.specs.declared.command.Command.TheVariants.{Skip, Fates, PlaceT2, PlaceT4, PlaceT5, Lock, Busy, Remove, Dump, Find, Read, Write}
 use Rattle.bench_script.specs.DeviceIds.{bytes_of}
 use Rattle.bench_script.specs.Script.{Spells, is_skipped}
 use Rattle.bench_script.proofs.Spelling.{spells_one}
@@ -133,6 +133,7 @@ accepts_too s t (Dump id) alike is =
     of_too (λ x. x.tag ≡ true) (device_with (bytes_of id) s.world.listeners) (device_with (bytes_of id) t.world.listeners) (same_with (bytes_of id) s t alike) is
 accepts_too s t Find alike is = tt
 accepts_too s t (Read id) alike is = tt
+accepts_too s t (Write id m) alike is = tt
 
 pub taken_too : (s t : State) (line : List ℕ) → AreAlike s t → IsTaken s line → IsTaken t line
 taken_too s t line alike is = (is.0, is.1, accepts_too s t is.0 alike is.2)
@@ -188,6 +189,7 @@ changes_alike s t (Remove id) alike =
 changes_alike s t (Dump id) alike = alike
 changes_alike s t Find alike = alike
 changes_alike s t (Read id) alike = alike
+changes_alike s t (Write id m) alike = alike
 
 -- a step leads on alike, whatever was sent in it
 step_alike : (u s t : State) (c : Command) (es : List Event) → AreAlike u s → t ≡ state_after s c es → AreAlike (changed u c) t

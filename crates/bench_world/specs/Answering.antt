@@ -11,6 +11,8 @@ use Rattle.nfca_poll.specs.declared.fault.PollFault.TheVariants as faults
 use Rattle.tag_reader.specs.declared.fault.ReadFault.{ReadFault}
 use Rattle.tag_reader.specs.declared.fault.ReadFault.TheVariants as reading
 use Rattle.tag_reader.specs.declared.found.Found.{Found}
+use Rattle.tag_writer.specs.declared.fault.WriteFault.{WriteFault}
+use Rattle.tag_writer.specs.declared.fault.WriteFault.TheVariants as writing
 use Rattle.bench_script.specs.declared.command.DeviceId.{DeviceId}
 use Rattle.bench_script.specs.DeviceIds.{bytes_of}
 use Rattle.bench_devices.specs.declared.device.Device.{Device}
@@ -19,6 +21,7 @@ use Rattle.bench_devices.specs.declared.sweeping.Everybody.{Everybody}
 use Rattle.bench_devices.specs.Polling.{Told, selecting}
 use Rattle.bench_devices.specs.Placed.{device_with, OfPlaced}
 use Rattle.bench_devices.specs.Answering.{HasPollCause, TellsBy}
+use Rattle.bench_devices.specs.Phases.{WriteEnd}
 use Rattle.bench_world.specs.declared.entry.Answer.{Answer}
 use Rattle.bench_world.specs.declared.entry.Answer.TheVariants as answers
 use Rattle.bench_world.specs.Crowded.{seen_all, is_crowd}
@@ -52,7 +55,30 @@ told_by (Err reading.Protocol) = None
 abbrev pub MayEnd : Result Found ReadFault → Type 0
 MayEnd r = IsSome (told_by r) ⊎ (r ≡ Err reading.Memory)
 
--- What a read answers once its tag is selected, where a wait of it ended by a fault: the field was lost in it, or it had six bad
+-- The answer that tells what a write came to. The other faults never end one on the bench.
+abbrev pub written_by : WriteEnd → Option Answer
+written_by (Ok done) = Some answers.Written
+written_by (Err writing.NotNdef) = Some answers.NotNdef
+written_by (Err writing.Version) = Some answers.Version
+written_by (Err writing.NoRead) = Some answers.NoRead
+written_by (Err writing.Sectors) = Some answers.Sectors
+written_by (Err writing.BadSize) = Some answers.BadSize
+written_by (Err writing.NoMessageTlv) = Some answers.NoMessageTlv
+written_by (Err writing.BadTlv) = Some answers.BadTlv
+written_by (Err (writing.Refused code)) = Some (answers.Refused code)
+written_by (Err writing.FieldLost) = Some answers.FieldLost
+written_by (Err writing.SixBad) = Some answers.SixBad
+written_by (Err writing.Memory) = None
+written_by (Err writing.ReadOnly) = Some answers.ReadOnly
+written_by (Err (writing.TooLong room)) = Some (answers.TooLong room)
+written_by (Err writing.ShortMlc) = Some answers.ShortMlc
+written_by (Err writing.Protocol) = None
+
+-- a write that an answer tells of, or want of memory
+abbrev pub MayEndWrite : WriteEnd → Type 0
+MayEndWrite r = IsSome (written_by r) ⊎ (r ≡ Err writing.Memory)
+
+-- What a command answers once its tag is selected, where a wait of it ended by a fault: the field was lost in it, or it had six bad
 -- receptions.
 abbrev pub TellsFault : AskFault → Answer → Type 0
 TellsFault asking.FieldLost answer = answer ≡ answers.FieldLost

@@ -1,4 +1,4 @@
--- What a read and a search answer where noise doesn't keep them from it: no Break was used, no wait had six bad receptions, and
+-- What a read, a write and a search answer where noise doesn't keep them from it: no Break was used, no wait had six bad receptions, and
 -- polling had one round, of a Type 5 tag one try, without noise (rounds, tries and six receptions are this project's own).
 use Rattle.std.specs.Prelude.{◌≡◌, ◌<◌, List, Some, Ok}
 use Rattle.nfc_base.specs.Signal.{Signal}
@@ -10,10 +10,12 @@ use Rattle.air_core.specs.Waits.{Broken, stand}
 use Rattle.nfca_poll.specs.Inventory.{tries, inventory_all, inventory_of}
 use Rattle.nfca_poll.specs.RoundTrace.{rounds}
 use Rattle.isodep_link.specs.Asking as exchange
-use Rattle.bench_script.specs.declared.command.Command.TheVariants.{Find, Read}
+use Rattle.bench_script.specs.declared.command.Command.TheVariants.{Find, Read, Write}
 use Rattle.bench_script.specs.declared.command.DeviceId.{DeviceId}
 use Rattle.bench_script.specs.declared.command.DeviceId.TheVariants.{A, V}
 use Rattle.bench_script.specs.DeviceIds.{bytes_of}
+use Rattle.bench_script.specs.Messages.{message_of}
+use Rattle.bench_script.specs.declared.message.Msg.{Msg}
 use Rattle.bench_devices.specs.declared.device.Device.{Device}
 use Rattle.bench_devices.specs.declared.polling.SeenKind.{SeenKind}
 use Rattle.bench_devices.specs.declared.polling.SeenKind.TheVariants as seen
@@ -23,12 +25,14 @@ use Rattle.bench_devices.specs.Crowded.{crowd_of, others_of}
 use Rattle.bench_devices.specs.Noise.{noisy_tries, AreDisturbed}
 use Rattle.bench_devices.specs.Placed.{device_with}
 use Rattle.bench_devices.specs.Polling.{Told, selecting}
+use Rattle.bench_devices.specs.Writing.{ShowsWrite}
 use Rattle.bench_world.specs.declared.entry.Answer.{Answer}
 use Rattle.bench_world.specs.declared.entry.Answer.TheVariants as answers
 use Rattle.bench_world.specs.declared.entry.Entry.{Entry}
 use Rattle.bench_world.specs.Crowded.{seen_all, is_crowd}
 use Rattle.bench_world.specs.Legal.{State, Given, LegalStep}
 use Rattle.bench_world.specs.Reading.{TellsOf}
+use Rattle.bench_world.specs.Writing.{TellsWrite}
 
 -- One round of polling had no noise; of the four tries for a Type 5 tag, one had none.
 abbrev pub IsQuietOnce : DeviceId → List Event → Type 0
@@ -53,6 +57,19 @@ abbrev pub ReadsComplete : Type 0
 ReadsComplete =
     (s t : State) (g : Given) (e : Entry) (id : DeviceId) (d : Device) → LegalStep s g e t → e.command ≡ Read id → device_with (bytes_of id) s.world.listeners ≡ Some d
     → IsNamed id d → IsUndisturbed id g.asked e.events → TellsOf d e.answer
+
+-- A write of a placed tag tells what it comes to by what the tag holds and by its locked blocks.
+abbrev pub WritesComplete : Type 0
+WritesComplete =
+    (s t : State) (g : Given) (e : Entry) (id : DeviceId) (m : Msg) (d : Device) → LegalStep s g e t → e.command ≡ Write id m → device_with (bytes_of id) s.world.listeners ≡ Some d
+    → IsNamed id d → IsUndisturbed id g.asked e.events → TellsWrite (message_of m) d e.answer
+
+-- So a message is written where the tag holds one, is free to write, has room for it, takes updates of two bytes, and refuses none of
+-- the writes.
+abbrev pub ValidIsWritten : Type 0
+ValidIsWritten =
+    (s t : State) (g : Given) (e : Entry) (id : DeviceId) (m : Msg) (d : Device) → LegalStep s g e t → e.command ≡ Write id m → device_with (bytes_of id) s.world.listeners ≡ Some d
+    → IsNamed id d → IsUndisturbed id g.asked e.events → ShowsWrite (message_of m) d (Ok tt) → e.answer ≡ answers.Written
 
 -- A search lists the whole field: all NFC-A devices in crowd order, and the true Type 5 result.
 abbrev pub whole_field : List Device → Answer

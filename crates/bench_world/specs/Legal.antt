@@ -9,7 +9,7 @@ use Rattle.t2t_tag.specs.Store.{IsT2Store}
 use Rattle.t4t_tag.specs.Store.{IsT4Store, file_size}
 use Rattle.t5t_tag.specs.Store.{IsT5Store}
 use Rattle.bench_script.specs.declared.command.Command.{Command}
-use Rattle.bench_script.specs.declared.command.Command.TheVariants.{Skip, Fates, PlaceT2, PlaceT4, PlaceT5, Lock, Busy, Remove, Dump, Find, Read}
+use Rattle.bench_script.specs.declared.command.Command.TheVariants.{Skip, Fates, PlaceT2, PlaceT4, PlaceT5, Lock, Busy, Remove, Dump, Find, Read, Write}
 use Rattle.bench_script.specs.declared.command.DeviceId.{DeviceId}
 use Rattle.bench_devices.specs.declared.device.Device.{Device}
 use Rattle.bench_world.specs.declared.entry.Answer.{Answer}
@@ -20,11 +20,16 @@ use Rattle.isodep_link.specs.Card.{most_busy}
 use Rattle.isodep_link.specs.Reader.{longest_extension}
 use Rattle.bench_devices.specs.TagAsking.{tag_due}
 use Rattle.bench_script.specs.DeviceIds.{bytes_of}
+use Rattle.bench_script.specs.Messages.{message_of}
 use Rattle.bench_devices.specs.Polling.{asks, finding_all}
 use Rattle.bench_devices.specs.Placed.{device_with, without, with_changed, OfPlaced, IfPlaced}
 use Rattle.bench_devices.specs.Reading.{AsksOf}
+use Rattle.bench_devices.specs.Writing.{AsksWriteOf, KeepsWriteLaw}
+use Rattle.bench_devices.specs.Keeping.{AllKeepBut}
+use Rattle.tag_writer.specs.Law.{Ending, Stopped}
 use Rattle.bench_world.specs.Answering.{TagTells, TellsFound}
 use Rattle.bench_world.specs.Reading.{TellsOf}
+use Rattle.bench_world.specs.Writing.{TellsWrite, ending_told}
 use Rattle.bench_devices.specs.Answering.{FindTells}
 
 -- what stands between two commands: the bench's world, and the fates that are left
@@ -100,6 +105,7 @@ Accepts s (Remove id) = IsPlaced s id
 Accepts s (Dump id) = IsTagPlaced s id
 Accepts s Find = Unit {0}
 Accepts s (Read id) = Unit {0}
+Accepts s (Write id message) = Unit {0}
 
 -- the state with one more device
 abbrev pub with_device : State → Device → State
@@ -129,15 +135,19 @@ changed s (Busy id count times) = with_busy s id count times
 changed s (Remove id) = without_device s id
 changed s c = s
 
--- What a command asks of its tag, from the first command of the tag to the last. Only a read of a placed one asks anything.
+-- What a command asks of its tag, from the first command of the tag to the last. Only a read and a write of a placed one ask
+-- anything.
 abbrev pub IsAskedBy : State → Command → List Signal → Type 0
 IsAskedBy s (Read id) asked = IfPlaced (λ d. AsksOf d asked) (asked ≡ []) (device_with (bytes_of id) s.world.listeners)
+IsAskedBy s (Write id message) asked =
+    IfPlaced (λ d. AsksWriteOf (message_of message) d asked) (asked ≡ []) (device_with (bytes_of id) s.world.listeners)
 IsAskedBy s c asked = asked ≡ []
 
--- What is due in a command, by what the reader knows. Nothing is sent but in a read and in a search.
+-- What is due in a command, by what the reader knows. Nothing is sent but in a read, a write and a search.
 abbrev pub due : State → Given → Command → List Note → Next
 due s g Find ns = asks (finding_all ns)
 due s g (Read id) ns = tag_due id g.asked ns
+due s g (Write id message) ns = tag_due id g.asked ns
 due s g c ns = Over
 
 -- what stays of the devices when the field goes dark
@@ -152,6 +162,16 @@ pub record ReadLaw (s : State) (id : DeviceId) (asked : List Signal) (events : L
 pub record FindLaw (s : State) (events : List Event) (answer : Answer) : Type 0 where
   pub tells : FindTells TellsFound s.world.listeners events answer
   pub stays : stable (replay air s.world events) ≡ stable s.world
+
+-- A write changes the store of its tag alone, which passes such stores as the law of a write says: the one before the command and
+-- the one after each event, resets and polling too. No other store and no locked block changes.
+pub record StoresLaw (s : State) (id : DeviceId) (message : List ℕ) (ending : Ending) (events : List Event) : Type 0 where
+  pub law : IfPlaced (λ d. KeepsWriteLaw message d ending s.world events) (Unit {0}) (device_with (bytes_of id) s.world.listeners)
+  pub others : AllKeepBut (bytes_of id) s.world.listeners (replay air s.world events).listeners
+
+pub record WritingLaw (s : State) (id : DeviceId) (message : List ℕ) (asked : List Signal) (events : List Event) (answer : Answer) : Type 0 where
+  pub tells : TagTells (TellsWrite message) id s.world.listeners asked events answer
+  pub stores : StoresLaw s id message (ending_told answer) events
 
 -- A dump tells what the device with this identifier holds.
 abbrev pub DumpLaw : State → DeviceId → Answer → Type 0
@@ -170,6 +190,7 @@ AnswerLaw s g (Remove id) events answer = answer ≡ answers.Done
 AnswerLaw s g (Dump id) events answer = DumpLaw s id answer
 AnswerLaw s g Find events answer = FindLaw s events answer
 AnswerLaw s g (Read id) events answer = ReadLaw s id g.asked events answer
+AnswerLaw s g (Write id message) events answer = WritingLaw s id (message_of message) g.asked events answer
 
 -- the state after a command and what happened in it
 abbrev pub state_after : State → Command → List Event → State
@@ -191,9 +212,14 @@ pub record LegalStep (s : State) (g : Given) (e : Entry) (t : State) : Type 0 wh
   pub over : due s g e.command (receptions e.events) ≡ Over
   pub answered : AnswerLaw s g e.command e.events e.answer
 
+-- What a command that was cut off leaves of what stays: the stores of a write keep its law, and no other command changed any.
+abbrev pub CutStores : State → Command → List Event → Type 0
+CutStores s (Write id message) cut = StoresLaw s id (message_of message) Stopped cut
+CutStores s c cut = stable (replay air (changed s c).world cut) ≡ stable (changed s c).world
+
 -- What want of memory leaves of a command: nothing was done, or there is a front of its step.
 abbrev pub CutOff : State → Command → List Event → State → Type 0
-CutOff s c cut t = ((cut ≡ []) × (t ≡ s)) ⊎ ((g : Given) × FrontOf s g c cut t)
+CutOff s c cut t = ((cut ≡ []) × (t ≡ s)) ⊎ ((g : Given) × FrontOf s g c cut t × CutStores s c cut)
 
 -- The entries lead from one state to another, each behind those before it, and each has what its step is said for.
 abbrev pub EachLegal : State → List Given → List Entry → State → Type 0

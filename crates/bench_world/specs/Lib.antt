@@ -1,6 +1,7 @@
 pub mod Reading
 pub mod Crowded
 pub mod Answering
+pub mod Writing
 pub mod Legal
 pub mod Obeying
 pub mod Completing

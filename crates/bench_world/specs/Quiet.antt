@@ -4,9 +4,11 @@ use Rattle.std.specs.List.{AllByRecursion}
 use Rattle.nfc_base.specs.Trace.{noise}
 use Rattle.nfc_base.specs.declared.event.Fate.{Fate}
 use Rattle.nfc_base.specs.declared.event.Fate.TheVariants.{Pass}
-use Rattle.bench_script.specs.declared.command.Command.TheVariants.{Find, Read}
+use Rattle.bench_script.specs.declared.command.Command.TheVariants.{Find, Read, Write}
 use Rattle.bench_script.specs.declared.command.DeviceId.{DeviceId}
 use Rattle.bench_script.specs.DeviceIds.{bytes_of}
+use Rattle.bench_script.specs.Messages.{message_of}
+use Rattle.bench_script.specs.declared.message.Msg.{Msg}
 use Rattle.bench_devices.specs.declared.device.Device.{Device}
 use Rattle.bench_devices.specs.Answering.{IsNamed}
 use Rattle.bench_devices.specs.Placed.{device_with}
@@ -14,6 +16,7 @@ use Rattle.bench_world.specs.declared.entry.Entry.{Entry}
 use Rattle.bench_world.specs.Completing.{whole_field}
 use Rattle.bench_world.specs.Legal.{State, Given, LegalStep, changed}
 use Rattle.bench_world.specs.Reading.{TellsOf}
+use Rattle.bench_world.specs.Writing.{TellsWrite}
 
 abbrev pub AllPass : List Fate → Type 0
 AllPass fates = AllByRecursion (λ x. x ≡ Pass) fates
@@ -28,6 +31,12 @@ abbrev pub QuietReads : Type 0
 QuietReads =
     (s t : State) (g : Given) (e : Entry) (id : DeviceId) (d : Device) → LegalStep s g e t → e.command ≡ Read id → device_with (bytes_of id) s.world.listeners ≡ Some d
     → IsNamed id d → AllPass s.queue → TellsOf d e.answer
+
+-- A write of a placed tag tells what it comes to by what the tag holds and by its locked blocks.
+abbrev pub QuietWrites : Type 0
+QuietWrites =
+    (s t : State) (g : Given) (e : Entry) (id : DeviceId) (m : Msg) (d : Device) → LegalStep s g e t → e.command ≡ Write id m → device_with (bytes_of id) s.world.listeners ≡ Some d
+    → IsNamed id d → AllPass s.queue → TellsWrite (message_of m) d e.answer
 
 -- A search lists all NFC-A devices, in crowd order, and the true Type 5 result.
 abbrev pub QuietFinds : Type 0

@@ -1,14 +1,15 @@
 -- The report: the text of an entry, by the entry alone. Its form is this project's own.
-use Rattle.std.specs.Prelude.{ℕ, List, [], ◌++◌, codes, length, ◌==◌, if◌then◌else◌, Bool, true, false}
+use Rattle.std.specs.Prelude.{ℕ, ◌/◌, ◌%◌, List, [], ◌∷◌, ◌++◌, codes, length, ◌==◌, if◌then◌else◌, Bool, true, false}
 use Rattle.std.specs.List.{flat_map}
 use Rattle.std.specs.Fmt.{decimal}
+use Rattle.hex.specs.Hex.{encode_upper}
 use Rattle.nfc_base.specs.Signal.{Signal}
 use Rattle.nfc_base.specs.declared.event.Event.{Event}
 use Rattle.nfc_base.specs.declared.event.Event.TheVariants.{Reset, Request, Answer, Clash}
 use Rattle.nfc_base.specs.declared.event.Fate.{Fate}
 use Rattle.nfc_base.specs.declared.event.Fate.TheVariants.{Pass, Damage, Lose, Break}
 use Rattle.bench_world.specs.declared.entry.Answer.{Answer as Said}
-use Rattle.bench_world.specs.declared.entry.Answer.TheVariants.{Done, Store, Found, Message, NotNdef, Version, NoRead, Sectors, BadSize, NoMessageTlv, BadTlv, Disturbed, FieldLost, NotFound, SixBad}
+use Rattle.bench_world.specs.declared.entry.Answer.TheVariants.{Done, Store, Found, Message, NotNdef, Version, NoRead, Sectors, BadSize, NoMessageTlv, BadTlv, Disturbed, FieldLost, NotFound, SixBad, Written, Refused, ReadOnly, TooLong, ShortMlc}
 use Rattle.bench_world.specs.declared.entry.Entry.{Entry}
 use Rattle.bench_world.specs.declared.entry.Seen.{Seen}
 use Rattle.bench_devices.specs.declared.polling.SeenKind.{SeenKind}
@@ -58,6 +59,10 @@ kind_text kinds.Peer = codes "peer"
 abbrev pub seen_text : Seen → List ℕ
 seen_text s = codes " " ++ hex_text (bytes_of s.id) ++ codes ":" ++ kind_text s.kind
 
+-- the code of a refusal: four upper-case digits
+abbrev pub code_text : ℕ → List ℕ
+code_text code = encode_upper (code / 256 ∷ code % 256 ∷ [])
+
 -- how many devices were found, and which
 abbrev pub found_text : List Seen → Bool → List ℕ
 found_text devices crowd = codes "found " ++ decimal (length devices) ++ flat_map seen_text devices ++ (if crowd then codes " crowd" else [])
@@ -76,6 +81,11 @@ answer_text Disturbed = codes "disturbed"
 answer_text FieldLost = codes "field lost"
 answer_text NotFound = codes "not found"
 answer_text SixBad = codes "six bad"
+answer_text Written = codes "written"
+answer_text (Refused code) = codes "refused " ++ code_text code
+answer_text ReadOnly = codes "read only"
+answer_text (TooLong room) = codes "too long " ++ decimal room
+answer_text ShortMlc = codes "short mlc"
 answer_text (Store bytes) = codes "store " ++ hex_text bytes
 answer_text (Found devices crowd) = found_text devices crowd
 answer_text (Message message writable) = codes "message " ++ hex_text message ++ codes " " ++ access_text writable

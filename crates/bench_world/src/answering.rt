@@ -1,8 +1,8 @@
-//! Which answers tell what selecting, reading and searching came to.
+//! Which answers tell what selecting, reading, writing and searching came to.
 
 ghost use Rattle.std.specs.Prelude.{◌≡◌, ◌⊎◌, Some, IfOk, IsSome};
 ghost use Rattle.nfca_poll.specs.declared.fault.PollFault.TheVariants as faults;
-ghost use Rattle.bench_world.specs.Answering.{poll_answer, told_by, MayEnd};
+ghost use Rattle.bench_world.specs.Answering.{poll_answer, told_by, MayEnd, written_by, MayEndWrite};
 ghost use Rattle.bench_world.specs.Crowded.{seen_card, seen_all, is_crowd};
 
 use crate::entry::{Answer, Seen};
@@ -12,6 +12,7 @@ use nfc_base::Items;
 use nfca_poll::{Kind, Picked, PollFault, Vcrowd};
 use std::alloc::{AllocError, Global};
 use tag_reader::{Found, ReadFault};
+use tag_writer::WriteFault;
 
 /// The answer that tells of a fault of polling.
 pub fn missed(fault: PollFault) -> Result<Answer, AllocError>
@@ -67,6 +68,41 @@ fn unread(fault: ReadFault) -> Result<Answer, AllocError>
         ReadFault::SixBad => Ok(Answer::SixBad),
         ReadFault::Memory => Err(AllocError),
         ReadFault::Refused(_) | ReadFault::Protocol => unreachable!(),
+    }
+}
+
+/// The answer that tells what a write came to. A tag of the bench answers as it may.
+pub fn written(write: Result<(), WriteFault>) -> Result<Answer, AllocError>
+    requires { MayEndWrite write }
+    ensures { IfOk result (λ answer. written_by write ≡ Some answer) }
+{
+    match write {
+        Ok(()) => Ok(Answer::Written),
+        Err(fault) => unwritten(fault),
+    }
+}
+
+/// The answer that tells why the tag doesn't hold the message.
+fn unwritten(fault: WriteFault) -> Result<Answer, AllocError>
+    requires { MayEndWrite (Err fault) }
+    ensures { IfOk result (λ answer. written_by (Err fault) ≡ Some answer) }
+{
+    match fault {
+        WriteFault::NotNdef => Ok(Answer::NotNdef),
+        WriteFault::Version => Ok(Answer::Version),
+        WriteFault::NoRead => Ok(Answer::NoRead),
+        WriteFault::Sectors => Ok(Answer::Sectors),
+        WriteFault::BadSize => Ok(Answer::BadSize),
+        WriteFault::NoMessageTlv => Ok(Answer::NoMessageTlv),
+        WriteFault::BadTlv => Ok(Answer::BadTlv),
+        WriteFault::Refused(code) => Ok(Answer::Refused(code)),
+        WriteFault::FieldLost => Ok(Answer::FieldLost),
+        WriteFault::SixBad => Ok(Answer::SixBad),
+        WriteFault::ReadOnly => Ok(Answer::ReadOnly),
+        WriteFault::TooLong(room) => Ok(Answer::TooLong(room)),
+        WriteFault::ShortMlc => Ok(Answer::ShortMlc),
+        WriteFault::Memory => Err(AllocError),
+        WriteFault::Protocol => unreachable!(),
     }
 }
 

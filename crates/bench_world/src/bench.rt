@@ -10,12 +10,10 @@ ghost use Rattle.bench_devices.specs.Placed.{device_with};
 ghost use Rattle.bench_world.specs.Obeying.{Obeys, Obeyed, IsCutOff, RefusedOnly, LacksMemory, Benched, new_bench, state_at, obey_fault_number};
 ghost use Rattle.bench_devices.specs.Phases.{IsIdle};
 
-use crate::answering::{found, missed, told};
+use crate::asking::{find, read_tag, write_tag};
 use crate::entry::{Answer, Entry};
 use air_core::Field;
-use bench_devices::{
-    Device, PoweredTag, Selection, T2Upper, T4Upper, is_named, place_of, read, select, sweep_field,
-};
+use bench_devices::{Device, PoweredTag, T2Upper, T4Upper, is_named, place_of};
 use bench_script::{Command, DeviceId};
 use isodep_link::{LONGEST_EXTENSION, MOST_BUSY};
 use nfc_base::{Fate, Items};
@@ -268,60 +266,6 @@ fn add_fates(field: &mut Field<Device>, fates: &[Fate]) -> Result<Answer, ObeyFa
     }
 }
 
-/// Selects a tag and reads it.
-fn select_and_read(
-    alloc: Global,
-    field: &mut Field<Device>,
-    id: &DeviceId,
-) -> Result<Answer, AllocError>
-    requires { IsIdle field.old }
-    ensures ok { IfOk result (λ a. Obeyed field.old field.new (Command.Read id.now) a) }
-    ensures cut { OnErr result (IsCutOff field.old field.new (Command.Read id.now)) }
-{
-    match select(alloc, field, id)? {
-        Selection::Place(place) => told(read(alloc, field, place)),
-        Selection::Missed(fault) => missed(fault),
-    }
-}
-
-/// Reads a tag, from a reset on.
-fn read_tag(alloc: Global, field: &mut Field<Device>, id: &DeviceId) -> Result<Answer, ObeyFault>
-    requires { IsIdle field.old }
-    ensures ok { IfOk result (λ a. Obeyed field.old field.new (Command.Read id.now) a) }
-    ensures cut { OnErr result (IsCutOff field.old field.new (Command.Read id.now)) }
-    ensures never { IsErrOf result ObeyFault.Refused → ⊥ }
-{
-    match select_and_read(alloc, field, id) {
-        Ok(answer) => Ok(answer),
-        Err(_) => Err(ObeyFault::Memory),
-    }
-}
-
-/// Searches for all devices, and tells which were found.
-fn search(alloc: Global, field: &mut Field<Device>) -> Result<Answer, AllocError>
-    requires { IsIdle field.old }
-    ensures ok { IfOk result (λ a. Obeyed field.old field.new Command.Find a) }
-    ensures cut { OnErr result (IsCutOff field.old field.new Command.Find) }
-{
-    match sweep_field(alloc, field) {
-        Ok(everybody) => found(alloc, everybody),
-        Err(fault) => missed(fault),
-    }
-}
-
-/// Finds all devices.
-fn find(alloc: Global, field: &mut Field<Device>) -> Result<Answer, ObeyFault>
-    requires { IsIdle field.old }
-    ensures ok { IfOk result (λ a. Obeyed field.old field.new Command.Find a) }
-    ensures cut { OnErr result (IsCutOff field.old field.new Command.Find) }
-    ensures never { IsErrOf result ObeyFault.Refused → ⊥ }
-{
-    match search(alloc, field) {
-        Ok(answer) => Ok(answer),
-        Err(_) => Err(ObeyFault::Memory),
-    }
-}
-
 /// Does what a command asks.
 fn run_command(
     alloc: Global,
@@ -366,6 +310,7 @@ fn run_command(
         Command::Dump { id } => dump_store(alloc, field, id),
         Command::Find => find(alloc, field),
         Command::Read { id } => read_tag(alloc, field, id),
+        Command::Write { id, message } => write_tag(alloc, field, id, message),
     }
 }
 

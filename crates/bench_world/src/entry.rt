@@ -40,6 +40,16 @@ pub enum Answer {
     NotFound,
     /// Nothing whole was heard in six tries.
     SixBad,
+    /// A tag holds the message now.
+    Written,
+    /// A tag refused a command, by this code: 0 of a Type 2 tag, the error of a Type 5 tag, the status of a Type 4 tag.
+    Refused(u16),
+    /// Its container forbids writing.
+    ReadOnly,
+    /// A message is longer than the room for one, which is so many bytes.
+    TooLong(u32),
+    /// One update of the file brings fewer bytes than its length has.
+    ShortMlc,
 }
 
 /// A command that was obeyed: the number of its line, from 1 on, what happened on the air meanwhile, and the answer.

@@ -1,8 +1,8 @@
 //! That a command answers what it is asked for where noise doesn't keep it from that. The calls do nothing: they stand for
 //! these laws.
 
-ghost use Rattle.bench_world.specs.Completing.{ReadsComplete, FindsComplete};
-ghost use Rattle.bench_world.specs.Quiet.{QuietStays, QuietReads, QuietFinds};
+ghost use Rattle.bench_world.specs.Completing.{ReadsComplete, WritesComplete, ValidIsWritten, FindsComplete};
+ghost use Rattle.bench_world.specs.Quiet.{QuietStays, QuietReads, QuietWrites, QuietFinds};
 ghost use Rattle.bench_world.specs.QuietHearing.{QuietHears, QuietScript};
 ghost use Rattle.bench_world.specs.Taking.{LinesDecide};
 
@@ -10,6 +10,13 @@ ghost use Rattle.bench_world.specs.Taking.{LinesDecide};
 /// try) of polling without noise, tells what the tag's store holds.
 pub fn reads_complete()
     ensures { ReadsComplete }
+{}
+
+/// So does a legal write tell what it comes to by the tag's store and its locked blocks: a message is written where the tag
+/// takes it and refuses none of its writes.
+pub fn writes_complete()
+    ensures told { WritesComplete }
+    ensures written { ValidIsWritten }
 {}
 
 /// A legal search, without a Break and with a round and a try without noise, lists the whole field.
@@ -22,12 +29,13 @@ pub fn lines_decide()
     ensures { LinesDecide }
 {}
 
-/// Where no fate is left but Pass, the air stays quiet, a read of a placed tag tells what its store holds, and a search lists
-/// the whole field; no reception is bad but the silences of polling, so behind the selection of a tag each is a whole answer. Where
-/// no line has another fate, all this holds of each entry of a script's journal.
+/// Where no fate is left but Pass, the air stays quiet, a read of a placed tag tells what its store holds, a write what it
+/// comes to, and a search lists the whole field; no reception is bad but the silences of polling, so behind the selection of a
+/// tag that is read each is a whole answer. Where no line has another fate, all this holds of each entry of a script's journal.
 pub fn quiet_air()
     ensures stays { QuietStays }
     ensures reads { QuietReads }
+    ensures writes { QuietWrites }
     ensures finds { QuietFinds }
     ensures hears { QuietHears }
     ensures script { QuietScript }

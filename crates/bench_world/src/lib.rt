@@ -1,13 +1,15 @@
 //! A bench: devices in a field, and the journal of the commands that it obeyed.
 //!
-//! `bench` obeys commands; `entry` is what the journal keeps of one, `answering` makes its answer of what selecting,
-//! reading and searching came to, and `report` turns an entry to text. `specs/Legal.antt` says which entries a bench may
+//! `bench` obeys commands, those that ask the devices something by `asking`; `entry` is what the journal keeps of one,
+//! `answering` makes its answer of what selecting, reading, writing and searching came to, and `report` turns an entry to
+//! text. `specs/Legal.antt` says which entries a bench may
 //! have, `specs/Journal.antt` which journals the lines of a script may have, `specs/Answering.antt` and
 //! `specs/Reading.antt` what each answer tells, `specs/Report.antt` how it is written; `law` says when noise keeps no command
 //! from its answer, and that the lines of a script alone decide which of them are taken.
 #![tactic(auto)]
 
 mod answering;
+mod asking;
 mod bench;
 mod entry;
 mod law;
@@ -16,5 +18,5 @@ mod report;
 pub use bench::{Bench, ObeyFault};
 pub use bench_devices::{Device, SeenKind};
 pub use entry::{Answer, Entry, Seen};
-pub use law::{finds_complete, lines_decide, quiet_air, reads_complete};
+pub use law::{finds_complete, lines_decide, quiet_air, reads_complete, writes_complete};
 pub use report::render;

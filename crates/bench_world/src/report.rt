@@ -4,7 +4,7 @@ ghost use Rattle.std.specs.Prelude.{◌≡◌, ◌++◌, IfOk, OnOk, codes};
 ghost use Rattle.std.specs.List.{flat_map};
 ghost use Rattle.std.specs.Fmt.{decimal};
 ghost use Rattle.bench_script.specs.Canonical.{hex_text};
-ghost use Rattle.bench_world.specs.Report.{tail_text, frame_text, fate_text, sent_text, event_text, kind_text, seen_text, found_text, answer_text, events_text, entry_text, line_text};
+ghost use Rattle.bench_world.specs.Report.{tail_text, frame_text, fate_text, sent_text, event_text, kind_text, seen_text, found_text, answer_text, code_text, events_text, entry_text, line_text};
 
 use crate::entry::{Answer, Entry, Seen};
 use bench_devices::SeenKind;
@@ -109,6 +109,14 @@ fn push_answer(alloc: Global, text: &mut Vec<u8>, answer: &Answer) -> Result<(),
         Answer::FieldLost => text.extend_from_slice(b"field lost".as_slice()),
         Answer::NotFound => text.extend_from_slice(b"not found".as_slice()),
         Answer::SixBad => text.extend_from_slice(b"six bad".as_slice()),
+        Answer::Written => text.extend_from_slice(b"written".as_slice()),
+        Answer::Refused(code) => push_refusal(alloc, text, *code),
+        Answer::ReadOnly => text.extend_from_slice(b"read only".as_slice()),
+        Answer::TooLong(room) => {
+            text.extend_from_slice(b"too long ".as_slice())?;
+            push_number(text, *room as u64)
+        }
+        Answer::ShortMlc => text.extend_from_slice(b"short mlc".as_slice()),
         Answer::Store(bytes) => {
             text.extend_from_slice(b"store ".as_slice())?;
             push_hex(alloc, text, bytes.as_slice())
@@ -124,6 +132,14 @@ fn push_answer(alloc: Global, text: &mut Vec<u8>, answer: &Answer) -> Result<(),
             }
         }
     }
+}
+
+/// The code by which a tag refused a command.
+fn push_refusal(alloc: Global, text: &mut Vec<u8>, code: u16) -> Result<(), AllocError>
+    ensures { OnOk result (text.new.items ≡ text.old.items ++ (codes "refused " ++ code_text code)) }
+{
+    text.extend_from_slice(b"refused ".as_slice())?;
+    push_hex(alloc, text, &[(code / 256) as u8, (code % 256) as u8])
 }
 
 /// How many devices were found, which, and whether there is a crowd beside them.

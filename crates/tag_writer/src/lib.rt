@@ -10,6 +10,7 @@
 #![tactic(auto)]
 
 mod fault;
+mod law;
 mod phase;
 mod planning;
 mod preparing;
@@ -18,6 +19,7 @@ mod work;
 mod writer;
 
 pub use fault::WriteFault;
+pub use law::{one_outcome, one_place, one_write_asked};
 pub use phase::{Emptied, Filled, Opened, Phase, Prepared, Stopped};
 pub use preparing::prepare;
 pub use writer::write;

@@ -4,12 +4,13 @@ ghost use Rattle.std.specs.Prelude.{◌≡◌, ◌≢◌, ◌<◌, ◌^◌, ℕ,
 ghost use Rattle.nfc_base.specs.declared.event.Fate.{Fate as Becomes};
 ghost use Rattle.std.specs.Option.{option_copied};
 ghost use Rattle.std.specs.Fmt.{decimal};
-ghost use Rattle.bench_script.specs.Script.{words_of, SpellsHex, SpellsIdent, SpellsIdV, SpellsId, SpellsWithin, SpellsSize, SpellsCode, SpellsBlock, fate_letter, SpellsFates};
+ghost use Rattle.bench_script.specs.Script.{words_of, SpellsHex, SpellsIdent, SpellsIdV, SpellsId, SpellsWithin, SpellsSize, SpellsCode, SpellsBlock, fate_letter, SpellsFates, SpellsCounted, SpellsMsg};
 ghost use Rattle.bench_script.specs.declared.command.DeviceId.{DeviceId as Named};
 ghost use Rattle.bench_script.specs.declared.script.words.CommandName.{CommandName as Names};
-ghost use Rattle.bench_script.specs.Words.{CutsWord, Finds, AreThree, AreFour, NotOne, NotTwo, NotThree, NotFour, name_text};
+ghost use Rattle.bench_script.specs.Words.{CutsWord, Finds, AreThree, AreFour, NotOne, NotTwo, NotThree, NotFour, HasNoColon, IsCutAtColon, SpellsNoCount, name_text};
 
 use crate::command::DeviceId;
+use crate::message::Msg;
 use hex::FromHexError;
 use nfc_base::{Fate, Items};
 use nfca_poll::Ident;
@@ -18,6 +19,9 @@ use t4t_tag::MOST_CODE;
 
 /// How many fates a line may have (this project's limit).
 const MOST_FATES: usize = 4000;
+
+/// How many counted bytes a message has at most.
+const LONGEST_MESSAGE: u32 = 65536;
 
 /// The first word of a line of several words.
 #[derive(Clone, Copy, Debug, PartialEq, Eq)]
@@ -29,6 +33,7 @@ pub enum CommandName {
     Remove,
     Dump,
     Read,
+    Write,
 }
 
 /// The name that a word is.
@@ -43,6 +48,7 @@ pub fn name_of(word: &[u8]) -> Option<CommandName>
         b"remove" => Some(CommandName::Remove),
         b"dump" => Some(CommandName::Dump),
         b"read" => Some(CommandName::Read),
+        b"write" => Some(CommandName::Write),
         _ => None,
     }
 }
@@ -163,15 +169,15 @@ pub fn hex_word(alloc: Global, word: &[u8]) -> Result<Option<Items<u8>>, AllocEr
     }
 }
 
-/// The number below 65,536 that a word spells, if it does.
-pub fn number_word(alloc: Global, word: &[u8]) -> Result<Option<u16>, AllocError>
-    ensures { IfOk result (λ o. MatchOption o ((n : ℕ) → n < 2 ^ 16 → word.now ≢ decimal n)
+/// The number below 2^32 that a word spells, if it does.
+fn number_word(alloc: Global, word: &[u8]) -> Result<Option<u32>, AllocError>
+    ensures { IfOk result (λ o. MatchOption o ((n : ℕ) → n < 2 ^ 32 → word.now ≢ decimal n)
         (λ n. word.now ≡ decimal n)) }
 {
     let Ok(digits) = str::from_utf8(word) else {
         return Ok(None);
     };
-    let Ok(n) = digits.parse::<u16>() else {
+    let Ok(n) = digits.parse::<u32>() else {
         return Ok(None);
     };
     let written = n.to_string(alloc)?;
@@ -182,15 +188,18 @@ pub fn number_word(alloc: Global, word: &[u8]) -> Result<Option<u16>, AllocError
     }
 }
 
-/// The number of a block that a word spells, if it does.
-pub fn block_word(alloc: Global, word: &[u8]) -> Result<Option<u16>, AllocError>
-    ensures { IfOk result (Finds (SpellsBlock word.now)) }
-{
-    number_word(alloc, word)
-}
-
 /// The number between two limits that a word spells, if it does.
 #[tactic(auto, using(std::proofs::lemmas::Fmt::decimal_injective))]
+fn long_word(alloc: Global, word: &[u8], least: u32, most: u32) -> Result<Option<u32>, AllocError>
+    ensures { IfOk result (Finds (SpellsWithin least most word.now)) }
+{
+    match number_word(alloc, word)? {
+        Some(n) if least <= n && n <= most => Ok(Some(n)),
+        _ => Ok(None),
+    }
+}
+
+/// Likewise a number of two bytes.
 pub fn within_word(
     alloc: Global,
     word: &[u8],
@@ -199,9 +208,9 @@ pub fn within_word(
 ) -> Result<Option<u16>, AllocError>
     ensures { IfOk result (Finds (SpellsWithin least most word.now)) }
 {
-    match number_word(alloc, word)? {
-        Some(n) if least <= n && n <= most => Ok(Some(n)),
-        _ => Ok(None),
+    match long_word(alloc, word, least as u32, most as u32)? {
+        Some(n) => Ok(Some(n as u16)),
+        None => Ok(None),
     }
 }
 
@@ -213,6 +222,13 @@ pub fn small_word(alloc: Global, word: &[u8], least: u8, most: u8) -> Result<Opt
         Some(n) => Ok(Some(n as u8)),
         None => Ok(None),
     }
+}
+
+/// The number of a block that a word spells, if it does.
+pub fn block_word(alloc: Global, word: &[u8]) -> Result<Option<u16>, AllocError>
+    ensures { IfOk result (Finds (SpellsBlock word.now)) }
+{
+    within_word(alloc, word, 0, u16::MAX)
 }
 
 /// The size of a Type 5 tag's blocks that a word spells, if it does.
@@ -232,8 +248,53 @@ pub fn code_word(alloc: Global, word: &[u8]) -> Result<Option<u8>, AllocError>
     ensures { IfOk result (Finds (SpellsCode word.now)) }
 {
     match number_word(alloc, word)? {
-        Some(n) if n <= MOST_CODE as u16 => Ok(Some(n as u8)),
+        Some(n) if n <= MOST_CODE as u32 => Ok(Some(n as u8)),
         _ => Ok(None),
+    }
+}
+
+/// What stands before and behind the first colon of a text.
+fn colon_parts(text: &[u8]) -> Option<(&[u8], &[u8])>
+    ensures { MatchOption result (HasNoColon text.now) (IsCutAtColon text.now) }
+{
+    for (i, b) in text.iter().enumerate() {
+        if *b == b':' {
+            return Some((&text[..i], &text[i + 1..]));
+        }
+    }
+    None
+}
+
+/// How many bytes a word spells, and the first of them, if it spells counted bytes.
+fn counted_word(alloc: Global, word: &[u8]) -> Result<Option<(u32, u8)>, AllocError>
+    ensures { IfOk result (λ o. MatchOption o (SpellsNoCount word.now) (λ x. SpellsCounted word.now x.0 x.1)) }
+{
+    let Some(rest) = word.strip_prefix(b"gen:") else {
+        return Ok(None);
+    };
+    let Some((count_text, start_text)) = colon_parts(rest) else {
+        return Ok(None);
+    };
+    let Some(count) = long_word(alloc, count_text, 0, LONGEST_MESSAGE)? else {
+        return Ok(None);
+    };
+    match small_word(alloc, start_text, 0, u8::MAX)? {
+        Some(start) => Ok(Some((count, start))),
+        None => Ok(None),
+    }
+}
+
+/// The message that a word spells, if it does.
+#[tactic(auto, using(crate::proofs::Messages::no_message))]
+pub fn message_word(alloc: Global, word: &[u8]) -> Result<Option<Msg>, AllocError>
+    ensures { IfOk result (Finds (SpellsMsg word.now)) }
+{
+    if let Some((count, start)) = counted_word(alloc, word)? {
+        return Ok(Some(Msg::Gen { count, start }));
+    }
+    match hex_word(alloc, word)? {
+        Some(bytes) => Ok(Some(Msg::Hex(bytes))),
+        None => Ok(None),
     }
 }
 

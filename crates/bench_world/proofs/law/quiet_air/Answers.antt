@@ -16,3 +16,6 @@ returns-clause-hears c = hearing.quiet_hears
 
 pub returns-clause-script : goal.returns-clause-script
 returns-clause-script c = hearing.quiet_script
+
+pub returns-clause-writes : goal.returns-clause-writes
+returns-clause-writes c = quiet.quiet_writes

@@ -13,13 +13,13 @@ returns-in_default c = λ n small e. c.in_default.ensures.cases.0 (let P : List 
 pub returns-in_default-parse : goal.returns-in_default-parse
 returns-in_default-parse c = λ n small e.
     let text : c.in-Ok.digits.now ≡ c.args.word.now = c.in-Ok.ensures.cases.0 in
-    let read : c.parse.result ≡ Ok n = parse-decimal 16 n c.in-Ok.digits.now c.parse.result small (omega arith) (text ∙ e) c.parse.ensures.value.0 in
+    let read : c.parse.result ≡ Ok n = parse-decimal 32 n c.in-Ok.digits.now c.parse.result small (omega arith) (text ∙ e) c.parse.ensures.value.0 in
     cc
 
 pub returns : goal.returns
 returns c = λ n small e.
     let text : c.in-Ok.digits.now ≡ c.args.word.now = c.in-Ok.ensures.cases.0 in
-    let read : c.parse.result ≡ Ok n = parse-decimal 16 n c.in-Ok.digits.now c.parse.result small (omega arith) (text ∙ e) c.parse.ensures.value.0 in
+    let read : c.parse.result ≡ Ok n = parse-decimal 32 n c.in-Ok.digits.now c.parse.result small (omega arith) (text ∙ e) c.parse.ensures.value.0 in
     let same : c.in-Ok-parse.n ≡ n = cc in
     let written : c.as_bytes.result.now ≡ decimal c.in-Ok-parse.n = grind (arith, common_steps) in
     let alike : c.as_bytes.result.now ≡ c.args.word.now = written ∙ ap decimal same ∙ sym e in

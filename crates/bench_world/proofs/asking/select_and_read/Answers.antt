@@ -9,7 +9,7 @@ use Rattle.bench_world.specs.Obeying.{Obeyed}
 use Rattle.bench_world.proofs.Legality.{read_obeyed, missed_obeyed, read_cut, read_part, selection_cut, missed_part}
 use Rattle.bench_world.proofs.Telling.{poll_told, may_end, fed_by}
 use Rattle.bench_world.proofs.Outcomes.{if_ok, on_err}
-use Rattle.bench_world.proofs.bench.select_and_read.Goals as goal
+use Rattle.bench_world.proofs.asking.select_and_read.Goals as goal
 
 pub read-requires : goal.read-requires
 read-requires c =

@@ -11,7 +11,7 @@ use Rattle.bench_world.specs.Obeying.{Obeyed}
 use Rattle.bench_world.proofs.Legality.{search_obeyed, search_cut, search_part}
 use Rattle.bench_world.proofs.Telling.{may_search, poll_fed, fault_found}
 use Rattle.bench_world.proofs.Outcomes.{if_ok, on_err}
-use Rattle.bench_world.proofs.bench.search.Goals as goal
+use Rattle.bench_world.proofs.asking.search.Goals as goal
 
 pub missed-requires : goal.missed-requires
 missed-requires c =

@@ -1,0 +1,208 @@
+-- Writes that were obeyed, and what want of memory leaves of one.
+use Rattle.std.proofs.Common.{◌≡◌, ◌⊎◌, ℕ, List, [], ◌∷◌, ◌++◌, map, Bool, true, false, nat_eq, if◌then◌else◌, Option, Some, None, Result, Ok, Err, inl, inr, refl, sym, ◌∙◌, ap, subst}
+use Rattle.std.proofs.lemmas.List.{append-nil}
+use Rattle.std.specs.Cmp.Lexicographic.{pointwise}
+use Rattle.nfc_base.specs.declared.event.Event.{Event}
+use Rattle.nfc_base.specs.Signal.{Signal}
+use Rattle.air_core.specs.World.{World}
+use Rattle.air_core.specs.Turn.{Air, moment}
+use Rattle.air_core.specs.Conversation.{Moment, Note, Going, replay, with_events}
+use Rattle.nfca_poll.specs.declared.fault.PollFault.{PollFault}
+use Rattle.nfca_poll.specs.declared.fault.PollFault.TheVariants as faults
+use Rattle.t5t_tag.proofs.Bytes.{equal_bytes}
+use Rattle.tag_writer.specs.declared.fault.WriteFault.TheVariants as writing
+use Rattle.tag_writer.specs.Faults.{ending_of}
+use Rattle.tag_writer.specs.Law.{Ending, Stopped}
+use Rattle.bench_script.specs.declared.command.Command.{Command}
+use Rattle.bench_script.specs.declared.command.Command.TheVariants.{Write}
+use Rattle.bench_script.specs.declared.command.DeviceId.{DeviceId}
+use Rattle.bench_script.specs.declared.message.Msg.{Msg}
+use Rattle.bench_script.specs.DeviceIds.{bytes_of}
+use Rattle.bench_script.specs.Messages.{message_of}
+use Rattle.bench_devices.specs.declared.device.Device.{Device}
+use Rattle.bench_devices.specs.declared.polling.SeenKind.{SeenKind}
+use Rattle.bench_devices.specs.Device.{BenchWorld, air, device_id, device_store, seen_of}
+use Rattle.bench_devices.specs.Polling.{asks, selecting}
+use Rattle.bench_devices.specs.TagAsking.{then_asks, tag_due}
+use Rattle.bench_devices.specs.CardAsking.{tag_next}
+use Rattle.bench_devices.specs.Placed.{device_with, OfPlaced, IfPlaced}
+use Rattle.bench_devices.specs.Keeping.{Kept, kept, IsSound, StoreOf, AllKeepBut, Leaves, held_by}
+use Rattle.bench_devices.specs.Phases.{WriteEnd, FailsWrite, Selects, SelectsAt, SelectionCut, Stands, Writes, WritesSome, WritesAt, CutAtWrite, IsIdle}
+use Rattle.bench_devices.specs.Writing.{AsksWriteOf, ShowsWrite, KeepsWriteLaw}
+use Rattle.bench_devices.proofs.EveryFrame.{IsSoundOne, first_sound, leaves_more, leaves_behind}
+use Rattle.bench_devices.proofs.ImagesJoin.{held_kept, law_start, with_alone}
+use Rattle.bench_devices.proofs.Harmless.{law_selected}
+use Rattle.bench_world.specs.declared.entry.Answer.{Answer}
+use Rattle.bench_world.specs.declared.entry.Answer.TheVariants as answers
+use Rattle.bench_world.specs.Answering.{TagTells, TellsFault, poll_answer, written_by}
+use Rattle.bench_world.specs.Writing.{TellsWrite, ending_told}
+use Rattle.bench_world.specs.Legal.{State, IsAskedBy, FrontOf, StoresLaw, WritingLaw}
+use Rattle.bench_world.specs.Obeying.{state_at, Obeyed, IsCutOff}
+use Rattle.bench_world.proofs.Placing.{IsWith, with_sound}
+use Rattle.bench_world.proofs.Legality.{asks_for, front_of, trace_is, asks_obeyed, polled_of, missed_tells, both, then_tag, selected_with}
+use Rattle.bench_world.proofs.Behind.{tells_behind}
+use Rattle.bench_world.proofs.WriteTelling.{asks_same, outcome_same, law_same, law_stopped, fails_written, lost_written, six_written, same_ending, starved_or_not}
+
+-- What a write asks of a placed device, and nothing where none is placed.
+write_asked : (old : Air Device) (id : DeviceId) (m : Msg) → IsIdle old → (asked : List Signal) × IsAskedBy (state_at old) (Write id m) asked
+write_asked old id m idle = by_found (device_with (bytes_of id) old.listeners) refl
+  where
+    by_found : (o : Option Device) → device_with (bytes_of id) old.listeners ≡ o → (asked : List Signal) × IfPlaced (λ d. AsksWriteOf (message_of m) d asked) (asked ≡ []) o
+    by_found None found = ([], refl)
+    by_found (Some d) found = ?
+
+-- the device that is found by an identifier has it
+found_named : (id : List ℕ) (ds : List Device) (d : Device) → device_with id ds ≡ Some d → device_id d ≡ id
+found_named id [] d found = absurd cc
+found_named id (e ∷ ds) d found = by_name (pointwise nat_eq (device_id e) id) refl found (λ later. found_named id ds d later)
+  where
+    by_name : (v : Bool) → pointwise nat_eq (device_id e) id ≡ v → (if v then Some e else device_with id ds) ≡ Some d → (device_with id ds ≡ Some d → device_id d ≡ id) → device_id d ≡ id
+    by_name true named here later = let same : e ≡ d = cc in ap device_id (sym same) ∙ equal_bytes (device_id e) id named
+    by_name false named here later = later here
+
+-- Polling alone left a device's store as it was, so it keeps the law of a write that was stopped.
+module _ (id : DeviceId) (message : List ℕ) (a b : Moment BenchWorld) (ns : List Note) (g : Going air (λ ks. asks (selecting id ks)) a b ns) (same : map kept b.world.listeners ≡ map kept a.world.listeners) where
+  polled_law : (o : Option Device) → device_with (bytes_of id) a.world.listeners ≡ o → IfPlaced (λ d. KeepsWriteLaw message d Stopped a.world g.events) (Unit {0}) o
+  polled_law None found = tt
+  polled_law (Some d) found =
+      let named : bytes_of id ≡ device_id d = sym (found_named (bytes_of id) a.world.listeners d found) in
+      let holds : held_by (device_with (device_id d) b.world.listeners) ≡ device_store d =
+      held_kept (device_id d) a.world.listeners b.world.listeners same ∙ ap (λ i. held_by (device_with i a.world.listeners)) (sym named) ∙ ap held_by found in
+      subst (λ es. KeepsWriteLaw message d Stopped a.world es) (append-nil g.events) (law_selected message d Stopped id a b ns [] g holds (law_start message d b.world holds))
+
+  -- and no other one changed
+  polled_stores : IsSoundOne (bytes_of id) a.world.listeners → (s : State) → s.world ≡ a.world → StoresLaw s id message Stopped g.events
+  polled_stores sound s at =
+      let world : b.world ≡ replay air a.world g.events = ap (λ (m : Moment BenchWorld). m.world) g.moment in
+      let P : BenchWorld → Type 0 = λ w. IfPlaced (λ d. KeepsWriteLaw message d Stopped w g.events) (Unit {0}) (device_with (bytes_of id) w.listeners) in
+      let Q : BenchWorld → Type 0 = λ w. AllKeepBut (bytes_of id) w.listeners (replay air w g.events).listeners in
+      record {
+        law = subst P (sym at) (polled_law (device_with (bytes_of id) a.world.listeners) refl);
+        others = subst Q (sym at) (subst (λ (w : BenchWorld). AllKeepBut (bytes_of id) a.world.listeners w.listeners) world (leaves_more (StoreOf (bytes_of id)) a.world b.world g.events sound same).0);
+      }
+
+-- no fault of polling tells of a success or of a refusal
+poll_stopped : (e : PollFault) (answer : Answer) → poll_answer e ≡ Some answer → Stopped ≡ ending_told answer
+poll_stopped faults.Nobody answer is = absurd cc
+poll_stopped faults.Disturbed answer is = ap ending_told (let same : answers.Disturbed ≡ answer = cc in same)
+poll_stopped faults.FieldLost answer is = ap ending_told (let same : answers.FieldLost ≡ answer = cc in same)
+poll_stopped faults.Memory answer is = absurd cc
+poll_stopped faults.NotFound answer is = ap ending_told (let same : answers.NotFound ≡ answer = cc in same)
+poll_stopped faults.BadAnswer answer is = absurd cc
+
+-- no tag was selected
+pub missed_write : (old new : Air Device) (id : DeviceId) (m : Msg) (e : PollFault) (answer : Answer) → IsIdle old → Selects id (Err e) (moment old) (moment new) → poll_answer e ≡ Some answer
+    → Obeyed old new (Write id m) answer
+missed_write old new id m e answer idle s is =
+    let some = write_asked old id m idle in
+    let g : Going air (λ ns. asks (selecting id ns)) (moment old) (moment new) s.asked.notes = s.asked.going in
+    let going : Going air (tag_due id some.0) (moment old) (moment new) s.asked.notes = polled_of id some.0 (moment old) (moment new) s.asked.notes g in
+    let sound : IsSoundOne (bytes_of id) old.listeners = first_sound (bytes_of id) old.listeners idle.tame.sound in
+    let stores : StoresLaw (state_at old) id (message_of m) (ending_told answer) g.events =
+    subst (λ x. StoresLaw (state_at old) id (message_of m) x g.events) (poll_stopped e answer is)
+    (polled_stores id (message_of m) (moment old) (moment new) s.asked.notes g s.asked.same sound (state_at old) refl) in
+    asks_obeyed (StoreOf (bytes_of id)) old new (Write id m) some.0 s.asked.notes answer idle tt refl going (ap (then_asks some.0) s.told) some.1
+    (record { tells = missed_tells (TellsWrite (message_of m)) id some.0 (moment old) (moment new) e answer s is; stores = stores })
+    (leaves_more (StoreOf (bytes_of id)) (moment old).world (moment new).world g.events sound s.asked.same)
+
+-- A tag was selected, and so much was asked of it.
+module _ (old mid : Air Device) (id : DeviceId) (m : Msg) (place : ℕ) (idle : IsIdle old) (s : SelectsAt id place (moment old) (moment mid)) where
+  abbrev with_id : IsWith old.listeners (bytes_of id) (kept s.device)
+  with_id = selected_with old mid id place idle s
+
+  placed_write : (commands : List Signal) → AsksWriteOf (message_of m) s.device commands → IsAskedBy (state_at old) (Write id m) commands
+  placed_write commands asks' =
+      subst (λ o. IfPlaced (λ d. AsksWriteOf (message_of m) d commands) (commands ≡ []) o) (sym with_id.found)
+      (asks_same s.device with_id.device (sym with_id.same) (message_of m) commands asks')
+
+  -- the selected device holds what is written
+  holds_there : held_by (device_with (device_id s.device) (moment mid).world.listeners) ≡ device_store s.device
+  holds_there =
+      ap (λ (w : BenchWorld). held_by (device_with (device_id s.device) w.listeners)) s.stands.world ∙ ap held_by (with_alone s.stands.before s.device s.stands.behind s.stands.first)
+
+  -- both parts, as what the command asks
+  abbrev of_both : (new : Air Device) (commands : List Signal) (ks : List Note) → Going air (tag_next (seen_of s.device) commands) (moment mid) (moment new) ks
+      → Going air (tag_due id commands) (moment old) (moment new) (s.selects.asked.notes ++ ks)
+  of_both new commands ks h = both id (seen_of s.device) commands (moment old) (moment mid) (moment new) s.selects.asked.notes ks s.selects.told s.selects.asked.going h
+
+  left_behind : (new : Air Device) (fs : List Event) → Leaves (StoreOf (device_id s.device)) (moment mid).world fs (moment new).world
+      → Leaves (StoreOf (bytes_of id)) (moment old).world (s.selects.asked.going.events ++ fs) (moment new).world
+  left_behind new fs left =
+      leaves_behind (bytes_of id) (moment old).world (moment mid).world (moment new).world s.selects.asked.going.events fs (first_sound (bytes_of id) old.listeners idle.tame.sound) s.selects.asked.same
+      (subst (λ i. Leaves (StoreOf i) (moment mid).world fs (moment new).world) s.named left)
+
+  -- the stores, from before it was selected on
+  stores_behind : (new : Air Device) (commands : List Signal) (ks : List Note) (h : Going air (tag_next (seen_of s.device) commands) (moment mid) (moment new) ks) (ending : Ending)
+      → Leaves (StoreOf (device_id s.device)) (moment mid).world h.events (moment new).world → KeepsWriteLaw (message_of m) s.device ending (moment mid).world h.events
+      → StoresLaw (state_at old) id (message_of m) ending (s.selects.asked.going.events ++ h.events)
+  stores_behind new commands ks h ending left law =
+      let es : List Event = s.selects.asked.going.events in
+      let whole : KeepsWriteLaw (message_of m) s.device ending (moment old).world (es ++ h.events) =
+      law_selected (message_of m) s.device ending id (moment old) (moment mid) s.selects.asked.notes h.events s.selects.asked.going holds_there law in
+      let world : (moment new).world ≡ replay air (moment old).world (es ++ h.events) = ap (λ (x : Moment BenchWorld). x.world) (of_both new commands ks h).moment in
+      record {
+        law = subst (λ o. IfPlaced (λ d. KeepsWriteLaw (message_of m) d ending (state_at old).world (es ++ h.events)) (Unit {0}) o) (sym with_id.found)
+            (law_same s.device with_id.device (sym with_id.same) (message_of m) ending (moment old).world (es ++ h.events) whole);
+        others = subst (λ (w : BenchWorld). AllKeepBut (bytes_of id) old.listeners w.listeners) world (left_behind new h.events left).0;
+      }
+
+  -- it was written
+  pub write_obeyed : (new : Air Device) (r : WriteEnd) (answer : Answer) → written_by r ≡ Some answer → Writes (moment mid) (moment new) s.device (message_of m) r → Obeyed old new (Write id m) answer
+  write_obeyed new r answer told w =
+      let commands : List Signal = w.told.commands in
+      let ks : List Note = w.told.asked.notes in
+      let g : Going air (tag_due id commands) (moment old) (moment new) (s.selects.asked.notes ++ ks) = of_both new commands ks w.told.asked.going in
+      let says : ShowsWrite (message_of m) s.device r → OfPlaced (λ d. TellsWrite (message_of m) d answer) (device_with (bytes_of id) old.listeners) =
+      λ shows. subst (λ o. OfPlaced (λ d. TellsWrite (message_of m) d answer) o) (sym with_id.found)
+          (r, outcome_same s.device with_id.device (sym with_id.same) (message_of m) r shows, told) in
+      let tells : TagTells (TellsWrite (message_of m)) id old.listeners commands g.events answer =
+      tells_behind (StoreOf (device_id s.device)) (AsksWriteOf (message_of m) s.device) (ShowsWrite (message_of m) s.device) FailsWrite (TellsWrite (message_of m)) old mid new id place r answer s w.told
+      says (fails_written r answer told) (lost_written r answer told) (six_written r answer told) in
+      let stores : StoresLaw (state_at old) id (message_of m) (ending_told answer) g.events =
+      stores_behind new commands ks w.told.asked.going (ending_told answer) w.told.asked.same
+      (subst (λ x. KeepsWriteLaw (message_of m) s.device x (moment mid).world w.told.asked.going.events) (same_ending r answer told) w.law) in
+      asks_obeyed (StoreOf (bytes_of id)) old new (Write id m) commands (s.selects.asked.notes ++ ks) answer idle tt refl g
+      (then_tag id (seen_of s.device) commands s.selects.asked.notes ks s.selects.told ∙ w.told.asked.over) (placed_write commands w.told.asks)
+      (record { tells = tells; stores = stores }) (left_behind new w.told.asked.going.events w.told.asked.same)
+
+  -- writing was cut off
+  pub write_cut : (new : Air Device) → WritesSome (moment mid) (moment new) s.device (message_of m) → IsCutOff old new (Write id m)
+  write_cut new w =
+      let commands : List Signal = w.told.commands in
+      let g : Going air (tag_due id commands) (moment old) (moment new) (s.selects.asked.notes ++ w.told.asked.notes) = of_both new commands w.told.asked.notes w.told.asked.going in
+      inr (
+        asks_for commands,
+        front_of old new (Write id m) commands (s.selects.asked.notes ++ w.told.asked.notes) idle tt refl g (placed_write commands w.told.asks),
+        subst (λ es. StoresLaw (state_at old) id (message_of m) Stopped es) (sym (trace_is old new (tag_due id commands) (s.selects.asked.notes ++ w.told.asked.notes) g idle))
+            (stores_behind new commands w.told.asked.notes w.told.asked.going Stopped w.told.asked.same w.law),
+      )
+
+-- ... or selecting was
+pub selection_cut_write : (old new : Air Device) (id : DeviceId) (m : Msg) → IsIdle old → SelectionCut id (moment old) (moment new) → IsCutOff old new (Write id m)
+selection_cut_write old new id m idle part =
+    let some = write_asked old id m idle in
+    let g : Going air (tag_due id some.0) (moment old) (moment new) part.notes = polled_of id some.0 (moment old) (moment new) part.notes part.going in
+    inr (
+      asks_for some.0,
+      front_of old new (Write id m) some.0 part.notes idle tt refl g some.1,
+      subst (λ es. StoresLaw (state_at old) id (message_of m) Stopped es) (sym (trace_is old new (tag_due id some.0) part.notes g idle))
+          (polled_stores id (message_of m) (moment old) (moment new) part.notes part.going part.same (first_sound (bytes_of id) old.listeners idle.tame.sound) (state_at old) refl),
+    )
+
+-- What was asked in a write, however it ended.
+pub write_part : (old new : Moment BenchWorld) (place : ℕ) (d : Device) (message : List ℕ) (r : WriteEnd) → Stands old place d → WritesAt old new place message r → CutAtWrite old new place message r
+    → WritesSome old new d message
+write_part old new place d message r stands told cut = by_memory (starved_or_not r)
+  where
+    by_memory : (r ≡ Err writing.Memory) ⊎ (r ≡ Err writing.Memory → ⊥) → WritesSome old new d message
+    by_memory (inl starved) = cut starved d stands
+    by_memory (inr fed) =
+        let w = told fed d stands in
+        record {
+          told = record {
+            commands = w.told.commands;
+            asks = w.told.asks;
+            asked = record { notes = w.told.asked.notes; going = w.told.asked.going; same = w.told.asked.same };
+          };
+          law = law_stopped message d (ending_of r) old.world w.told.asked.going.events w.law;
+        }

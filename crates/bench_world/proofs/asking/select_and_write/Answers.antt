@@ -1,0 +1,67 @@
+use Rattle.std.proofs.Common.{◌≡◌, ℕ, List, Some, ◌∙◌, subst}
+use Rattle.std.specs.Prelude.{Err}
+use Rattle.air_core.specs.Turn.{moment}
+use Rattle.bench_script.specs.declared.command.Command.TheVariants.{Write}
+use Rattle.bench_script.specs.Messages.{message_of}
+use Rattle.bench_devices.specs.declared.polling.Selection.{Selection}
+use Rattle.bench_devices.specs.Phases.{Selects, SelectsAt, SelectsTo, WritesAt, CutAtWrite}
+use Rattle.bench_world.specs.Answering.{poll_answer, written_by}
+use Rattle.bench_world.specs.Obeying.{Obeyed}
+use Rattle.bench_world.proofs.WriteLegality.{write_obeyed, missed_write, write_cut, write_part, selection_cut_write}
+use Rattle.bench_world.proofs.WriteTelling.{may_write, write_fed}
+use Rattle.bench_world.proofs.Legality.{missed_part}
+use Rattle.bench_world.proofs.Outcomes.{if_ok, on_err}
+use Rattle.bench_world.proofs.asking.select_and_write.Goals as goal
+
+pub write-requires : goal.write-requires
+write-requires c =
+    let S : Selection → Type 0 = λ s. SelectsTo c.args.id.now s (moment c.args.field.now) (moment c.select.new.field) in
+    let s : SelectsAt c.args.id.now c.in-Place.place (moment c.args.field.now) (moment c.select.new.field) = subst S c.in-Place.is c.in_ok-place.ensures.ok in
+    (s.device, s.stands)
+
+pub written-requires : goal.written-requires
+written-requires c =
+    let S : Selection → Type 0 = λ s. SelectsTo c.args.id.now s (moment c.args.field.now) (moment c.select.new.field) in
+    let s : SelectsAt c.args.id.now c.in-Place.place (moment c.args.field.now) (moment c.select.new.field) = subst S c.in-Place.is c.in_ok-place.ensures.ok in
+    may_write (moment c.select.new.field) (moment c.write.new.field) s.device c.deref.result.now c.write.result (λ fed. c.write.ensures.tells fed s.device s.stands)
+
+pub returns-in-Place-clause-ok : goal.returns-in-Place-clause-ok
+returns-in-Place-clause-ok c =
+    let S : Selection → Type 0 = λ s. SelectsTo c.args.id.now s (moment c.args.field.now) (moment c.select.new.field) in
+    let s : SelectsAt c.args.id.now c.in-Place.place (moment c.args.field.now) (moment c.select.new.field) = subst S c.in-Place.is c.in_ok-place.ensures.ok in
+    let W : List ℕ → Type 0 = λ bytes. WritesAt (moment c.select.new.field) (moment c.write.new.field) c.in-Place.place bytes c.write.result in
+    let tells : W (message_of c.args.message.now) = subst W (c.deref.ensures.value ∙ c.in_ok-bytes.ensures) c.write.ensures.tells in
+    if_ok c.written.result (λ answer. written_by c.write.result ≡ Some answer)
+    (λ answer. Obeyed c.args.field.now c.write.new.field (Write c.args.id.now c.args.message.now) answer)
+    (λ answer told. write_obeyed c.args.field.now c.select.new.field c.args.id.now c.args.message.now c.in-Place.place c.requires s c.write.new.field c.write.result answer told
+    (tells (write_fed c.write.result answer told) s.device s.stands)) c.written.ensures
+
+pub returns-in-Place-clause-cut : goal.returns-in-Place-clause-cut
+returns-in-Place-clause-cut c =
+    let S : Selection → Type 0 = λ s. SelectsTo c.args.id.now s (moment c.args.field.now) (moment c.select.new.field) in
+    let s : SelectsAt c.args.id.now c.in-Place.place (moment c.args.field.now) (moment c.select.new.field) = subst S c.in-Place.is c.in_ok-place.ensures.ok in
+    let W : List ℕ → Type 0 = λ bytes. WritesAt (moment c.select.new.field) (moment c.write.new.field) c.in-Place.place bytes c.write.result in
+    let C : List ℕ → Type 0 = λ bytes. CutAtWrite (moment c.select.new.field) (moment c.write.new.field) c.in-Place.place bytes c.write.result in
+    let tells : W (message_of c.args.message.now) = subst W (c.deref.ensures.value ∙ c.in_ok-bytes.ensures) c.write.ensures.tells in
+    let cut : C (message_of c.args.message.now) = subst C (c.deref.ensures.value ∙ c.in_ok-bytes.ensures) c.write.ensures.cut in
+    on_err c.written.result (write_cut c.args.field.now c.select.new.field c.args.id.now c.args.message.now c.in-Place.place c.requires s c.write.new.field
+    (write_part (moment c.select.new.field) (moment c.write.new.field) c.in-Place.place s.device (message_of c.args.message.now) c.write.result s.stands tells cut))
+
+pub returns-clause-ok : goal.returns-clause-ok
+returns-clause-ok c =
+    let S : Selection → Type 0 = λ s. SelectsTo c.args.id.now s (moment c.args.field.now) (moment c.select.new.field) in
+    let s : Selects c.args.id.now (Err c.in-Missed.fault) (moment c.args.field.now) (moment c.select.new.field) = subst S c.in-Missed.is c.in_ok-place.ensures.ok in
+    if_ok c.missed.result (λ answer. poll_answer c.in-Missed.fault ≡ Some answer)
+    (λ answer. Obeyed c.args.field.now c.select.new.field (Write c.args.id.now c.args.message.now) answer)
+    (λ answer is. missed_write c.args.field.now c.select.new.field c.args.id.now c.args.message.now c.in-Missed.fault answer c.requires s is) c.missed.ensures
+
+pub returns-clause-cut : goal.returns-clause-cut
+returns-clause-cut c =
+    let S : Selection → Type 0 = λ s. SelectsTo c.args.id.now s (moment c.args.field.now) (moment c.select.new.field) in
+    let s : Selects c.args.id.now (Err c.in-Missed.fault) (moment c.args.field.now) (moment c.select.new.field) = subst S c.in-Missed.is c.in_ok-place.ensures.ok in
+    on_err c.missed.result (selection_cut_write c.args.field.now c.select.new.field c.args.id.now c.args.message.now c.requires
+    (missed_part (moment c.args.field.now) (moment c.select.new.field) c.args.id.now c.in-Missed.fault s))
+
+pub returns-in_err-place-clause-cut : goal.returns-in_err-place-clause-cut
+returns-in_err-place-clause-cut c =
+    on_err c.from_residual-in_err-place.result (selection_cut_write c.args.field.now c.select.new.field c.args.id.now c.args.message.now c.requires c.in_err-place.ensures.cut)

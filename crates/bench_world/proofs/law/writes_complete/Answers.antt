@@ -1,0 +1,8 @@
+use Rattle.bench_world.proofs.Complete.{writes_complete, valid_is_written}
+use Rattle.bench_world.proofs.law.writes_complete.Goals as goal
+
+pub returns-clause-told : goal.returns-clause-told
+returns-clause-told c = writes_complete
+
+pub returns-clause-written : goal.returns-clause-written
+returns-clause-written c = valid_is_written
