@@ -47,6 +47,7 @@ pub mod SelectingPlaces
 pub mod SelectingA
 pub mod SelectingV
 pub mod Inventoried
+pub mod WriteHeeded
 pub mod Awake
 pub mod FoundAll
 pub mod Selections

@@ -57,7 +57,7 @@ abbrev are_small : List ℕ → Bool
 are_small [] = true
 are_small (x ∷ xs) = nat_lt x 256 && are_small xs
 
-small_bytes : (xs ys : List ℕ) → are_small xs ≡ true → AreBytes ys → AreBytes (xs ++ ys)
+pub small_bytes : (xs ys : List ℕ) → are_small xs ≡ true → AreBytes ys → AreBytes (xs ++ ys)
 small_bytes [] ys e q = q
 small_bytes (x ∷ xs) ys e q = by_first (nat_lt x 256) refl e (λ rest. small_bytes xs ys rest q)
   where
@@ -65,7 +65,7 @@ small_bytes (x ∷ xs) ys e q = by_first (nat_lt x 256) refl e (λ rest. small_b
     by_first true low rest more = cons_bytes x (xs ++ ys) (grind (arith, low)) (more rest)
     by_first false low rest more = absurd cc
 
-two_bytes : (n : ℕ) (ys : List ℕ) → n < 65536 → AreBytes ys → AreBytes (n / 256 ∷ n % 256 ∷ ys)
+pub two_bytes : (n : ℕ) (ys : List ℕ) → n < 65536 → AreBytes ys → AreBytes (n / 256 ∷ n % 256 ∷ ys)
 two_bytes n ys low q =
     let high : n / 256 < 256 = omega (arith, low) in
     let rest : n % 256 < 256 = omega arith in

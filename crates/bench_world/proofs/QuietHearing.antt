@@ -9,7 +9,7 @@ use Rattle.nfc_base.specs.declared.event.Fate.{Fate}
 use Rattle.nfc_base.specs.declared.event.Fate.TheVariants.{Pass, Damage, Lose, Break}
 use Rattle.air_core.specs.Conversation.{Note, note, AreTurns, FatesFrom, EachDue, Moment, receptions}
 use Rattle.bench_script.specs.declared.command.Command.{Command}
-use Rattle.bench_script.specs.declared.command.Command.TheVariants.{Skip, Fates, PlaceT2, PlaceT4, PlaceT5, Lock, Busy, Remove, Dump, Find, Read}
+use Rattle.bench_script.specs.declared.command.Command.TheVariants.{Skip, Fates, PlaceT2, PlaceT4, PlaceT5, Lock, Busy, Remove, Dump, Find, Read, Write}
 use Rattle.bench_script.specs.declared.command.DeviceId.{DeviceId}
 use Rattle.bench_script.specs.declared.command.DeviceId.TheVariants.{A, V}
 use Rattle.bench_script.specs.DeviceIds.{bytes_of}
@@ -32,7 +32,7 @@ use Rattle.bench_world.specs.Quiet.{AllPass}
 use Rattle.bench_world.specs.QuietHearing.{tag_of, IsWellHeard, IsHeardIfQuiet, IsQuietLine, IsQuietEntry, QuietHears, QuietScript}
 use Rattle.bench_world.proofs.Complete.{of_first}
 use Rattle.bench_world.proofs.Placing.{IsWith, is_with, with_sound}
-use Rattle.bench_world.proofs.Quiet.{quiet_stays, quiet_reads, quiet_finds}
+use Rattle.bench_world.proofs.Quiet.{quiet_stays, quiet_reads, quiet_writes, quiet_finds}
 use Rattle.bench_world.proofs.Reached.{IsReadable, IsReady, ready_step, along, asking_all, first_ready}
 
 -- Without noise nothing that is heard is damaged, and no field is lost.
@@ -98,6 +98,7 @@ module _ (s t : State) (g : Given) (line : List ℕ) (e : Entry) (r : IsReady s.
   by_command (Remove i) is id kind since of told = absurd cc
   by_command (Dump i) is id kind since of told = absurd cc
   by_command Find is id kind since of told = absurd cc
+  by_command (Write i m) is id kind since of told = absurd cc
   by_command (Read i) is id kind since of told = let same : i ≡ id = cc in read_answered id kind since (is ∙ ap Read same) told
 
   well_heard : IsWellHeard e
@@ -138,6 +139,7 @@ passes_still s line (Remove id) h q sp = h
 passes_still s line (Dump id) h q sp = h
 passes_still s line Find h q sp = h
 passes_still s line (Read id) h q sp = h
+passes_still s line (Write id m) h q sp = h
 
 quiet_entry : (s t : State) (g : Given) (line : List ℕ) (e : Entry) → IsCalm s → IsQuietLine line → Spells line e.command → LegalStep s g e t → IsQuietEntry s e × IsCalm t
 quiet_entry s t g line e calm q sp step =
@@ -147,6 +149,7 @@ quiet_entry s t g line e calm q sp step =
         quiet = on.0;
         hears = well_heard s t g line e calm.ready sp step pass;
         reads = λ id d r. quiet_reads s t g e id d step r.command r.placed r.named calm.queue;
+        writes = λ id m d w. quiet_writes s t g e id m d step w.command w.placed w.named calm.queue;
         finds = λ is. quiet_finds s t g e step is calm.queue;
       },
       record { ready = ready_step s t g line e sp step calm.ready; queue = on.1 },

@@ -11,7 +11,7 @@ use Rattle.isodep_link.specs.Reader.{longest_extension}
 use Rattle.isodep_link.proofs.Heeding.{AreBytes, no_bytes}
 use Rattle.t4t_tag.specs.Store.{file_size}
 use Rattle.bench_script.specs.declared.command.Command.{Command}
-use Rattle.bench_script.specs.declared.command.Command.TheVariants.{Skip, Fates, PlaceT2, PlaceT4, PlaceT5, Lock, Busy, Remove, Dump, Find, Read}
+use Rattle.bench_script.specs.declared.command.Command.TheVariants.{Skip, Fates, PlaceT2, PlaceT4, PlaceT5, Lock, Busy, Remove, Dump, Find, Read, Write}
 use Rattle.bench_script.specs.DeviceIds.{bytes_of}
 use Rattle.bench_script.specs.Script.{Spells, SpellsHex, is_skipped}
 use Rattle.bench_devices.specs.declared.device.Device.{Device}
@@ -209,6 +209,7 @@ ready_changed s line (Remove id) sp is r = ready_without (bytes_of id) s.world.l
 ready_changed s line (Dump id) sp is r = r
 ready_changed s line Find sp is r = r
 ready_changed s line (Read id) sp is r = r
+ready_changed s line (Write id m) sp is r = r
 
 -- So does a step.
 pub ready_step : (s t : State) (g : Given) (line : List ℕ) (e : Entry) → Spells line e.command → LegalStep s g e t → IsReady s.world.listeners → IsReady t.world.listeners

@@ -5,9 +5,11 @@ use Rattle.nfc_base.specs.Trace.{noise}
 use Rattle.nfc_base.specs.declared.event.Fate.{Fate}
 use Rattle.air_core.specs.Conversation.{Note, receptions}
 use Rattle.bench_script.specs.declared.command.Command.{Command}
-use Rattle.bench_script.specs.declared.command.Command.TheVariants.{Fates, Find, Read}
+use Rattle.bench_script.specs.declared.command.Command.TheVariants.{Fates, Find, Read, Write}
 use Rattle.bench_script.specs.declared.command.DeviceId.{DeviceId}
 use Rattle.bench_script.specs.DeviceIds.{bytes_of}
+use Rattle.bench_script.specs.Messages.{message_of}
+use Rattle.bench_script.specs.declared.message.Msg.{Msg}
 use Rattle.bench_script.specs.Script.{Spells}
 use Rattle.bench_devices.specs.declared.device.Device.{Device}
 use Rattle.bench_devices.specs.declared.polling.SeenKind.{SeenKind}
@@ -21,6 +23,7 @@ use Rattle.bench_world.specs.Journal.{LeadsTo}
 use Rattle.bench_world.specs.Legal.{State, changed, state_after, first_state}
 use Rattle.bench_world.specs.Quiet.{AllPass}
 use Rattle.bench_world.specs.Reading.{TellsOf}
+use Rattle.bench_world.specs.Writing.{TellsWrite}
 
 -- something holds of each entry, and of the state that the entries before it lead to
 abbrev pub AllAlong : (State → Entry → Type 0) → State → List Entry → Type 0
@@ -63,12 +66,19 @@ pub record ReadsPlaced (s : State) (e : Entry) (id : DeviceId) (d : Device) : Ty
   pub placed : device_with (bytes_of id) s.world.listeners ≡ Some d
   pub named : IsNamed id d
 
--- An entry of a script without noise: everything passed; a read of a placed tag tells what its store holds, and a search lists
--- the whole field.
+-- The entry writes this message to it.
+pub record WritesPlaced (s : State) (e : Entry) (id : DeviceId) (m : Msg) (d : Device) : Type 0 where
+  pub command : e.command ≡ Write id m
+  pub placed : device_with (bytes_of id) s.world.listeners ≡ Some d
+  pub named : IsNamed id d
+
+-- An entry of a script without noise: everything passed; a read of a placed tag tells what its store holds, a write what it comes
+-- to, and a search lists the whole field.
 pub record IsQuietEntry (s : State) (e : Entry) : Type 0 where
   pub quiet : noise e.events ≡ 0
   pub hears : IsWellHeard e
   pub reads : (id : DeviceId) (d : Device) → ReadsPlaced s e id d → TellsOf d e.answer
+  pub writes : (id : DeviceId) (m : Msg) (d : Device) → WritesPlaced s e id m d → TellsWrite (message_of m) d e.answer
   pub finds : e.command ≡ Find → e.answer ≡ whole_field s.world.listeners
 
 -- Where no line has another fate than Pass, each entry is one.
