@@ -39,7 +39,7 @@ use Rattle.bench_devices.specs.declared.device.Device.{Device}
 use Rattle.bench_devices.specs.declared.device.Device.TheVariants.{T2, T4, T5}
 use Rattle.bench_devices.specs.Device.{BenchWorld, air, devices, device_id, device_store, says_of, t2_machine, t4_machine}
 use Rattle.bench_devices.specs.Placed.{device_with, IfPlaced}
-use Rattle.bench_devices.specs.Keeping.{ghosts, Fixed, fixed, kept, IsSound, IsApart, AreSound, AreTame, StaysDevice, AllStayDevices, held_by, images_of, IsStoreOf, DevicesStay, ImagesStay, AsideKeeps, Changes, NoStore, StoreOf, AllKeepBut, Leaves, EachAsked, IsAsideOf}
+use Rattle.bench_devices.specs.Keeping.{ghosts, Fixed, fixed, kept, IsSound, IsApart, AreSound, AreTame, StaysDevice, AllStayDevices, held_by, images_of, IsStoreOf, AreImages, DevicesStay, ImagesStay, AsideKeeps, Changes, NoStore, StoreOf, AllKeepBut, Leaves, EachAsked, IsAsideOf}
 use Rattle.bench_devices.proofs.SelectingKept.{due_asked, kept_dark, kept_lit}
 use Rattle.bench_devices.proofs.CardKept.{IsAtRest, fixed_step, four_same, rest_keeps, rest_stays, dark_at_rest, lit_at_rest}
 
@@ -171,6 +171,9 @@ stays_itself d = kept_stays d d refl
 stays_on : (d e x : Device) → StaysDevice d e → StaysDevice e x → StaysDevice d x
 stays_on d e x p q = record { fixed = q.fixed ∙ p.fixed; long = q.long ∙ p.long; sound = λ is. q.sound (p.sound is) }
 
+pub same_id : (d e : Device) → StaysDevice d e → device_id e ≡ device_id d
+same_id d e s = ap (λ (k : Fixed). k.id) s.fixed
+
 all_same : (ds : List Device) → AllStayDevices ds ds
 all_same [] = tt
 all_same (d ∷ ds) = (stays_itself d, all_same ds)
@@ -199,7 +202,7 @@ back_stays w Damage = all_same w.listeners
 back_stays w Lose = all_same w.listeners
 back_stays w Break = all_map devices.darkened stays_dark w.listeners
 
-event_stays : (w : BenchWorld) (e : Event) → AllStayDevices w.listeners (air.happens w e).listeners
+pub event_stays : (w : BenchWorld) (e : Event) → AllStayDevices w.listeners (air.happens w e).listeners
 event_stays w Reset = all_map (λ l. devices.woken (devices.darkened l)) stays_reset w.listeners
 event_stays w (Request f x) = requested_stays w f x
 event_stays w (Answer g x) = back_stays w x
@@ -209,21 +212,20 @@ pub devices_stay : DevicesStay
 devices_stay w [] = all_same w.listeners
 devices_stay w (e ∷ es) = all_on w.listeners (air.happens w e).listeners (replay air (air.happens w e) es).listeners (event_stays w e) (devices_stay (air.happens w e) es)
 
--- The device with an identifier stays one, and what it holds is a store of its kind.
+-- The device with an identifier stays one.
 abbrev IsOne : Device → Option Device → Type 0
 IsOne d None = ⊥
-IsOne d (Some e) = StaysDevice d e × IsSound (kept e)
+IsOne d (Some e) = StaysDevice d e
 
-first_stays : (id : List ℕ) (ds es : List Device) (d : Device) → AllStayDevices ds es → AreSound (map kept ds) → device_with id ds ≡ Some d → IsOne d (device_with id es)
-first_stays id [] [] d p s e = absurd cc
-first_stays id [] (y ∷ es) d p s e = absurd p
-first_stays id (x ∷ ds) [] d p s e = absurd p
-first_stays id (x ∷ ds) (y ∷ es) d p s e =
-    let own : device_id y ≡ device_id x = ap (λ (k : Fixed). k.id) p.0.fixed in
-    subst (λ i. IsOne d (if pointwise nat_eq i id then Some y else device_with id es)) (sym own) (by_name (pointwise nat_eq (device_id x) id) e (λ q. first_stays id ds es d p.1 s.2 q))
+first_stays : (id : List ℕ) (ds es : List Device) (d : Device) → AllStayDevices ds es → device_with id ds ≡ Some d → IsOne d (device_with id es)
+first_stays id [] [] d p e = absurd cc
+first_stays id [] (y ∷ es) d p e = absurd p
+first_stays id (x ∷ ds) [] d p e = absurd p
+first_stays id (x ∷ ds) (y ∷ es) d p e =
+    subst (λ i. IsOne d (if pointwise nat_eq i id then Some y else device_with id es)) (sym (same_id x y p.0)) (by_name (pointwise nat_eq (device_id x) id) e (λ q. first_stays id ds es d p.1 q))
   where
     by_name : (v : Bool) → (if v then Some x else device_with id ds) ≡ Some d → (device_with id ds ≡ Some d → IsOne d (device_with id es)) → IsOne d (if v then Some y else device_with id es)
-    by_name true q more = let same : x ≡ d = cc in subst (λ z. StaysDevice z y × IsSound (kept y)) same (p.0, p.0.sound s.0)
+    by_name true q more = let same : x ≡ d = cc in subst (λ z. StaysDevice z y) same p.0
     by_name false q more = more q
 
 pub sound_stay : (ds es : List Device) → AllStayDevices ds es → AreSound (map kept ds) → AreSound (map kept es)
@@ -238,42 +240,48 @@ sound_stay (d ∷ ds) (e ∷ es) p s = (p.0.sound s.0, apart ds es p.1 s.1, soun
     apart (x ∷ xs) [] q a = absurd q
     apart (x ∷ xs) (y ∷ ys) q a = ((λ same. a.0 (sym (ap (λ (k : Fixed). k.id) q.0.fixed) ∙ same ∙ ap (λ (k : Fixed). k.id) p.0.fixed)), apart xs ys q.1 a.1)
 
--- a store that one device may have, another may of which the same is fixed
-module _ (id : List ℕ) (d : Device) where
+-- and what it holds is a store of its kind
+module _ (id : List ℕ) (d : Device) (is : IsSound (kept d)) where
   held_so : (o : Option Device) → IsOne d o → IsStoreOf d (held_by o)
   held_so None one = absurd one
-  held_so (Some e) one = subst (λ x. IsStoreBy x (device_store e)) one.0.fixed one.1
+  held_so (Some e) one = subst (λ x. IsStoreBy x (device_store e)) one.fixed (one.sound is)
 
-  one_more : (o : Option Device) (ds es : List Device) → device_with id ds ≡ o → AllStayDevices ds es → AreSound (map kept ds) → IsOne d o → IsOne d (device_with id es)
-  one_more None ds es e p s one = absurd one
-  one_more (Some x) ds es e p s one = on (device_with id es) (first_stays id ds es x p s e)
+  one_more : (o : Option Device) (ds es : List Device) → device_with id ds ≡ o → AllStayDevices ds es → IsOne d o → IsOne d (device_with id es)
+  one_more None ds es e p one = absurd one
+  one_more (Some x) ds es e p one = on (device_with id es) (first_stays id ds es x p e)
     where
       on : (o : Option Device) → IsOne x o → IsOne d o
       on None two = absurd two
-      on (Some y) two = (stays_on d x y one.0 two.0, two.1)
+      on (Some y) two = stays_on d x y one two
 
-  all_images : (w : BenchWorld) (es : List Event) → AreSound (map kept w.listeners) → IsOne d (device_with id w.listeners) → AllByRecursion (IsStoreOf d) (images_of id w es)
-  all_images w [] s one = (held_so (device_with id w.listeners) one, tt)
-  all_images w (e ∷ es) s one = (
+  all_images : (w : BenchWorld) (es : List Event) → IsOne d (device_with id w.listeners) → AllByRecursion (IsStoreOf d) (images_of id w es)
+  all_images w [] one = (held_so (device_with id w.listeners) one, tt)
+  all_images w (e ∷ es) one = (
     held_so (device_with id w.listeners) one,
-    all_images (air.happens w e) es (sound_stay w.listeners (air.happens w e).listeners (event_stays w e) s)
-        (one_more (device_with id w.listeners) w.listeners (air.happens w e).listeners refl (event_stays w e) s one),
+    all_images (air.happens w e) es (one_more (device_with id w.listeners) w.listeners (air.happens w e).listeners refl (event_stays w e) one),
   )
 
-first_sound : (id : List ℕ) (ds : List Device) (d : Device) → AreSound (map kept ds) → device_with id ds ≡ Some d → IsSound (kept d)
-first_sound id [] d s e = absurd cc
-first_sound id (x ∷ ds) d s e = by_name (pointwise nat_eq (device_id x) id) e (λ q. first_sound id ds d s.2 q)
+-- where the device with an identifier may be placed, each image is a store that it may have
+abbrev pub IsSoundOne : List ℕ → List Device → Type 0
+IsSoundOne id ds = IfPlaced (λ d. IsSound (kept d)) (Unit {0}) (device_with id ds)
+
+pub images_sound : (w : BenchWorld) (es : List Event) (id : List ℕ) → IsSoundOne id w.listeners → AreImages id w es
+images_sound w es id sound = by_found (device_with id w.listeners) refl sound
   where
-    by_name : (v : Bool) → (if v then Some x else device_with id ds) ≡ Some d → (device_with id ds ≡ Some d → IsSound (kept d)) → IsSound (kept d)
-    by_name true q more = let same : x ≡ d = cc in subst (λ z. IsSound (kept z)) same s.0
-    by_name false q more = more q
+    by_found : (o : Option Device) → device_with id w.listeners ≡ o → IfPlaced (λ d. IsSound (kept d)) (Unit {0}) o → IfPlaced (λ d. AllByRecursion (IsStoreOf d) (images_of id w es)) (Unit {0}) o
+    by_found None e is = tt
+    by_found (Some d) e is = all_images id d is w es (subst (IsOne d) (sym e) (stays_itself d))
+
+first_sound : (id : List ℕ) (ds : List Device) → AreSound (map kept ds) → IsSoundOne id ds
+first_sound id [] s = tt
+first_sound id (x ∷ ds) s = by_name (pointwise nat_eq (device_id x) id) (first_sound id ds s.2)
+  where
+    by_name : (v : Bool) → IsSoundOne id ds → IfPlaced (λ d. IsSound (kept d)) (Unit {0}) (if v then Some x else device_with id ds)
+    by_name true more = s.0
+    by_name false more = more
 
 pub images_stay : ImagesStay
-images_stay w es id s = by_found (device_with id w.listeners) refl
-  where
-    by_found : (o : Option Device) → device_with id w.listeners ≡ o → IfPlaced (λ d. AllByRecursion (IsStoreOf d) (images_of id w es)) (Unit {0}) o
-    by_found None e = tt
-    by_found (Some d) e = all_images id d w es s (subst (IsOne d) (sym e) (stays_itself d, first_sound id w.listeners d s e))
+images_stay w es id s = images_sound w es id (first_sound id w.listeners s)
 
 -- A device that is aside: a whole frame of NFC-A finds it at rest, and what is addressed to another identifier it passes over.
 five_aside : (lit : Bool) (p : Powered) (f : Signal) → t5_after p.tag f ≡ p.tag → kept (if lit then T5 (record { tag = t5_after p.tag f; lit = true }) else T5 p) ≡ kept (T5 p)
@@ -308,9 +316,6 @@ record IsQuietFor (own : List ℕ) (g : Device → Device) : Type 0 where
   pub stays : (d : Device) → StaysDevice d (g d)
   pub keeps : (d : Device) → IsAside ghosts own d → kept (g d) ≡ kept d
   pub rests : (d : Device) → IsAside ghosts own d → IsAtRest (g d)
-
-same_id : (d e : Device) → StaysDevice d e → device_id e ≡ device_id d
-same_id d e s = ap (λ (k : Fixed). k.id) s.fixed
 
 module _ (own : List ℕ) where
   beside_on : (g : Device → Device) → IsQuietFor own g → (d : Device) → IsAsideOf own d → IsAsideOf own (g d)
@@ -401,13 +406,13 @@ module _ (own : List ℕ) where
 
 -- So a command that asks one device what it may be asked leaves the others what they hold, and each image of that one's store is one
 -- of its kind: as it is asked, and behind what changed nothing that stays.
-pub going_leaves : (own : List ℕ) (t : Tech) (next : List Note → Next) (a b : Moment BenchWorld) (ns : List Note) → IsNamedIn t own → AreSound (map kept a.world.listeners)
+pub going_leaves : (own : List ℕ) (t : Tech) (next : List Note → Next) (a b : Moment BenchWorld) (ns : List Note) → IsNamedIn t own → IsSoundOne own a.world.listeners
     → AllByRecursion (IsAsideOf own) a.world.listeners → ((ks : List Note) (f : Signal) → next ks ≡ Asks f → MayAsk (plain_kind t) own f) → (g : Going air next a b ns)
     → Leaves (StoreOf own) a.world g.events b.world
 going_leaves own t next a b ns named sound beside may g = (
   subst (λ (m : Moment BenchWorld). AllKeepBut own a.world.listeners m.world.listeners) (sym g.moment)
       (others_keep own t named a.world g.events beside (due_asked (MayAsk (plain_kind t) own) next may [] g.events g.each)),
-  images_stay a.world g.events own sound,
+  images_sound a.world g.events own sound,
 )
 
 kept_but : (own : List ℕ) (ds es : List Device) → map kept es ≡ map kept ds → AllKeepBut own ds es
@@ -418,9 +423,9 @@ kept_but own (d ∷ ds) (e ∷ es) same =
     let one : kept e ≡ kept d = cc in
     (record { stays = kept_stays d e one; other = λ n. one }, kept_but own ds es (let rest : map kept es ≡ map kept ds = cc in rest))
 
-pub leaves_behind : (own : List ℕ) (w v u : BenchWorld) (es fs : List Event) → AreSound (map kept w.listeners) → Leaves NoStore w es v → Leaves (StoreOf own) v fs u → Leaves (StoreOf own) w (es ++ fs) u
+pub leaves_behind : (own : List ℕ) (w v u : BenchWorld) (es fs : List Event) → IsSoundOne own w.listeners → Leaves NoStore w es v → Leaves (StoreOf own) v fs u → Leaves (StoreOf own) w (es ++ fs) u
 leaves_behind own w v u es fs sound first next =
-    (but_on own w.listeners v.listeners u.listeners (kept_but own w.listeners v.listeners first) next.0, images_stay w (es ++ fs) own sound)
+    (but_on own w.listeners v.listeners u.listeners (kept_but own w.listeners v.listeners first) next.0, images_sound w (es ++ fs) own sound)
 
 -- The devices stay tame, whatever may have changed of them.
 all_stay_of : (own : List ℕ) (ds es : List Device) → AllKeepBut own ds es → AllStayDevices ds es
@@ -440,3 +445,16 @@ left_tame NoStore old es new same tame = subst AreTame (sym same) tame
 left_tame (StoreOf id) old es new left tame =
     let stay = all_stay_of id old.listeners new.listeners left.0 in
     record { sound = sound_stay old.listeners new.listeners stay tame.sound; few = omega (arith, as_many old.listeners new.listeners stay, tame.few) }
+
+-- Where nothing changed that stays, nothing else did either, whatever might have; so it is before what changed it.
+abbrev pub IsSoundFor : Changes → List Device → Type 0
+IsSoundFor NoStore ds = Unit {0}
+IsSoundFor (StoreOf id) ds = IsSoundOne id ds
+
+pub leaves_more : (what : Changes) (w v : BenchWorld) (es : List Event) → IsSoundFor what w.listeners → Leaves NoStore w es v → Leaves what w es v
+leaves_more NoStore w v es sound first = first
+leaves_more (StoreOf id) w v es sound first = (kept_but id w.listeners v.listeners first, images_sound w es id sound)
+
+pub leaves_then : (what : Changes) (w v u : BenchWorld) (es fs : List Event) → IsSoundFor what w.listeners → Leaves NoStore w es v → Leaves what v fs u → Leaves what w (es ++ fs) u
+leaves_then NoStore w v u es fs sound first next = next ∙ first
+leaves_then (StoreOf id) w v u es fs sound first next = leaves_behind id w v u es fs sound first next

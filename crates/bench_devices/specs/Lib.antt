@@ -8,8 +8,10 @@ pub mod Polling
 pub mod Placed
 pub mod CardAsking
 pub mod TagAsking
+pub mod Hearing
 pub mod Reading
 pub mod Keeping
+pub mod Writing
 pub mod Crowded
 pub mod Noise
 pub mod Answering

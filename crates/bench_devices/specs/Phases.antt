@@ -14,6 +14,10 @@ use Rattle.nfca_poll.specs.declared.fault.PollFault.TheVariants as polling
 use Rattle.tag_reader.specs.declared.fault.ReadFault.{ReadFault}
 use Rattle.tag_reader.specs.declared.fault.ReadFault.TheVariants as faults
 use Rattle.tag_reader.specs.declared.found.Found.{Found}
+use Rattle.tag_writer.specs.declared.fault.WriteFault.{WriteFault}
+use Rattle.tag_writer.specs.declared.fault.WriteFault.TheVariants as writing
+use Rattle.tag_writer.specs.Faults.{ending_of}
+use Rattle.tag_writer.specs.Law.{Stopped}
 use Rattle.bench_script.specs.declared.command.DeviceId.{DeviceId}
 use Rattle.bench_devices.specs.declared.device.Device.{Device}
 use Rattle.nfca_poll.specs.Front.{is_active}
@@ -28,7 +32,8 @@ use Rattle.bench_script.specs.DeviceIds.{bytes_of}
 use Rattle.bench_devices.specs.Polling.{Told, asks, selecting, finding_all}
 use Rattle.bench_devices.specs.Answering.{HasPollCause, FindTells, TellsBy}
 use Rattle.bench_devices.specs.Reading.{AsksOf, ShowsOf}
-use Rattle.bench_devices.specs.Keeping.{ghosts, kept, IsSound, AreTame, Changes, NoStore, Leaves}
+use Rattle.bench_devices.specs.Writing.{AsksWriteOf, ShowsWrite, KeepsWriteLaw}
+use Rattle.bench_devices.specs.Keeping.{ghosts, kept, IsSound, AreTame, Changes, NoStore, StoreOf, Leaves}
 
 -- A Type 4 tag has a link at most while it is active.
 abbrev pub IsTidy : Device → Type 0
@@ -100,6 +105,23 @@ SelectsTo id (Missed e) old new = Selects id (Err e) old new
 abbrev pub SelectionCut : DeviceId → Moment (World Device) → Moment (World Device) → Type 0
 SelectionCut id old new = AskedPart NoStore (λ ns. asks (selecting id ns)) old new
 
+-- A selected tag was asked all that a command asks of it, up to a break or the sixth bad reception of a wait: what is due of it, by
+-- what was heard, and what tells of the end are those of the command. Without noise no wait has six bad receptions.
+pub record AsksTag {X : Type 0} (what : Changes) (IsAll : List Signal → Type 0) (due : List Signal → List Note → Next) (Tells : List Signal → List Note → X → Type 0)
+    (Fails : AskFault → X → Type 0) (old new : Moment (World Device)) (x : X) : Type 0 where
+  pub commands : List Signal
+  pub asks : IsAll commands
+  pub asked : Asked what (due commands) old new
+  pub ends : Tells commands asked.notes x
+  pub lost : Fails asking.FieldLost x ↔ (0 < breaks asked.going.events)
+  pub noisy : Fails asking.SixBad x → 0 < noise asked.going.events
+
+-- So far it was asked, until memory was wanting.
+pub record AsksSome (what : Changes) (IsAll : List Signal → Type 0) (due : List Signal → List Note → Next) (old new : Moment (World Device)) : Type 0 where
+  pub commands : List Signal
+  pub asks : IsAll commands
+  pub asked : AskedPart what (due commands) old new
+
 -- a read failed by the fault of a wait; the others end none
 abbrev pub FailsRead : AskFault → Result Found ReadFault → Type 0
 FailsRead asking.FieldLost r = r ≡ Err faults.FieldLost
@@ -107,21 +129,13 @@ FailsRead asking.SixBad r = r ≡ Err faults.SixBad
 FailsRead asking.Memory r = ⊥
 FailsRead asking.Protocol r = ⊥
 
--- Reading asked what it asks of a device, up to a break or the sixth bad reception of a wait, and tells what came of it. Without
--- noise no wait has six bad receptions.
-pub record Reads (old new : Moment (World Device)) (d : Device) (r : Result Found ReadFault) : Type 0 where
-  pub commands : List Signal
-  pub asks : AsksOf d commands
-  pub asked : Asked NoStore (tag_next (seen_of d) commands) old new
-  pub ends : TellsBy (seen_of d) (ShowsOf d) FailsRead commands asked.notes r
-  pub lost : (r ≡ Err faults.FieldLost) ↔ (0 < breaks asked.going.events)
-  pub noisy : r ≡ Err faults.SixBad → 0 < noise asked.going.events
+-- Reading asked what it asks of a device, and tells what came of it.
+abbrev pub Reads : Moment (World Device) → Moment (World Device) → Device → Result Found ReadFault → Type 0
+Reads old new d r = AsksTag NoStore (AsksOf d) (tag_next (seen_of d)) (TellsBy (seen_of d) (ShowsOf d) FailsRead) FailsRead old new r
 
 -- Reading was cut off by want of memory.
-pub record ReadsSome (old new : Moment (World Device)) (d : Device) : Type 0 where
-  pub commands : List Signal
-  pub asks : AsksOf d commands
-  pub asked : AskedPart NoStore (tag_next (seen_of d) commands) old new
+abbrev pub ReadsSome : Moment (World Device) → Moment (World Device) → Device → Type 0
+ReadsSome old new d = AsksSome NoStore (AsksOf d) (tag_next (seen_of d)) old new
 
 -- So the device that stands at a place was read as far as memory reached.
 abbrev pub CutAt : Moment (World Device) → Moment (World Device) → ℕ → Result Found ReadFault → Type 0
@@ -130,6 +144,36 @@ CutAt old new place r = r ≡ Err faults.Memory → (d : Device) → Stands old 
 -- So the device that stands at a place was read, unless memory was wanting.
 abbrev pub ReadsAt : Moment (World Device) → Moment (World Device) → ℕ → Result Found ReadFault → Type 0
 ReadsAt old new place r = (r ≡ Err faults.Memory → ⊥) → (d : Device) → Stands old place d → Reads old new d r
+
+-- what a write comes to: that it is done, or why it isn't
+abbrev pub WriteEnd : Type 0
+WriteEnd = Result (Unit {0}) WriteFault
+
+-- a write failed by the fault of a wait
+abbrev pub FailsWrite : AskFault → WriteEnd → Type 0
+FailsWrite asking.FieldLost r = r ≡ Err writing.FieldLost
+FailsWrite asking.SixBad r = r ≡ Err writing.SixBad
+FailsWrite asking.Memory r = ⊥
+FailsWrite asking.Protocol r = ⊥
+
+-- Writing asked what it asks of a device, and tells what came of it. Its stores keep the law of a write, whatever stopped it; no
+-- store of another device changes, and no locked block of any.
+pub record Writes (old new : Moment (World Device)) (d : Device) (message : List ℕ) (r : WriteEnd) : Type 0 where
+  pub told : AsksTag (StoreOf (device_id d)) (AsksWriteOf message d) (tag_next (seen_of d)) (TellsBy (seen_of d) (ShowsWrite message d) FailsWrite) FailsWrite old new r
+  pub law : KeepsWriteLaw message d (ending_of r) old.world told.asked.going.events
+
+-- Writing was cut off by want of memory; until there its stores keep the law too.
+pub record WritesSome (old new : Moment (World Device)) (d : Device) (message : List ℕ) : Type 0 where
+  pub told : AsksSome (StoreOf (device_id d)) (AsksWriteOf message d) (tag_next (seen_of d)) old new
+  pub law : KeepsWriteLaw message d Stopped old.world told.asked.going.events
+
+-- So the device that stands at a place was written as far as memory reached.
+abbrev pub CutAtWrite : Moment (World Device) → Moment (World Device) → ℕ → List ℕ → WriteEnd → Type 0
+CutAtWrite old new place message r = r ≡ Err writing.Memory → (d : Device) → Stands old place d → WritesSome old new d message
+
+-- So the device that stands at a place was written, unless memory was wanting.
+abbrev pub WritesAt : Moment (World Device) → Moment (World Device) → ℕ → List ℕ → WriteEnd → Type 0
+WritesAt old new place message r = (r ≡ Err writing.Memory → ⊥) → (d : Device) → Stands old place d → Writes old new d message r
 
 -- a search is told by what it has come to
 abbrev pub IsEnd : Result Everybody PollFault → Result Everybody PollFault → Type 0

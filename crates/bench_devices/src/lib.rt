@@ -1,7 +1,8 @@
 //! The devices of a bench, and what is done with them on a field.
 //!
 //! `device` holds Type 2 and Type 4 tags under a listener front, and Type 5 tags, as listeners. `polling` selects the one
-//! with an identifier, `reading` reads the message of the one that is selected, `sweeping` searches for all.
+//! with an identifier, `reading` reads the message of the one that is selected, `writing` writes one to it, `sweeping`
+//! searches for all.
 //! `specs/Polling.antt` and `specs/CardAsking.antt` say which request is due in each of these, `specs/Answering.antt` how
 //! each may end and why, `specs/Phases.antt` what each does to the field. Nothing here knows of commands or answers.
 #![tactic(auto)]
@@ -11,9 +12,11 @@ mod law;
 mod polling;
 mod reading;
 mod sweeping;
+mod writing;
 
 pub use device::{Device, PoweredTag, T2Upper, T4Upper};
 pub use law::devices_stay;
 pub use polling::{SeenKind, Selection, is_named, place_of, select};
 pub use reading::read;
 pub use sweeping::{Everybody, sweep_field};
+pub use writing::write;

@@ -2,6 +2,7 @@ pub mod Placing
 pub mod Placed
 pub mod Removing
 pub mod Locking
+pub mod Reached
 pub mod Telling
 pub mod Legality
 pub mod Outcomes
@@ -9,6 +10,7 @@ pub mod Benches
 pub mod Complete
 pub mod OneForm
 pub mod OneAnswer
+pub mod QuietHearing
 pub mod OneJournal
 pub mod Shapes
 pub mod Quiet

@@ -6,6 +6,7 @@ pub mod Obeying
 pub mod Completing
 pub mod Quiet
 pub mod Journal
+pub mod QuietHearing
 pub mod Taking
 pub mod SameCommands
 pub mod Report

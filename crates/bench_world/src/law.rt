@@ -3,6 +3,7 @@
 
 ghost use Rattle.bench_world.specs.Completing.{ReadsComplete, FindsComplete};
 ghost use Rattle.bench_world.specs.Quiet.{QuietStays, QuietReads, QuietFinds};
+ghost use Rattle.bench_world.specs.QuietHearing.{QuietHears, QuietScript};
 ghost use Rattle.bench_world.specs.Taking.{LinesDecide};
 
 /// A legal read of a placed tag, without a Break, without a wait of six bad receptions and with one round (of a Type 5 tag one
@@ -22,9 +23,12 @@ pub fn lines_decide()
 {}
 
 /// Where no fate is left but Pass, the air stays quiet, a read of a placed tag tells what its store holds, and a search lists
-/// the whole field.
+/// the whole field; no reception is bad but the silences of polling, so behind the selection of a tag each is a whole answer. Where
+/// no line has another fate, all this holds of each entry of a script's journal.
 pub fn quiet_air()
     ensures stays { QuietStays }
     ensures reads { QuietReads }
     ensures finds { QuietFinds }
+    ensures hears { QuietHears }
+    ensures script { QuietScript }
 {}

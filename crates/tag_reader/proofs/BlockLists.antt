@@ -95,7 +95,7 @@ many_free size false block (Ok (Ready space wide many')) many = refl
 pub many_single : (size : ℕ) (single : Bool) (known : List ℕ) → IsMany (next_ask size single known) → single ≡ false
 many_single size single known many = many_free size single (length known / size) (t5_front known) many
 
-less_left : (size : ℕ) (store : List ℕ) (p : Progress) (a : Ask) → p.blocks ≤ length store → (IsMany a → p.single ≡ false) → left_of store (progress_behind size store p a) < left_of store p
+pub less_left : (size : ℕ) (store : List ℕ) (p : Progress) (a : Ask) → p.blocks ≤ length store → (IsMany a → p.single ≡ false) → left_of store (progress_behind size store p a) < left_of store p
 less_left size store p (One block) low free = by_flag p.single
   where
     by_flag : (v : Bool) → (length store + 1 - (p.blocks + 1)) + (length store + 1 - (p.blocks + 1)) + (if v then 0 else 1) < (length store + 1 - p.blocks) + (length store + 1 - p.blocks) + (if v then 0 else 1)

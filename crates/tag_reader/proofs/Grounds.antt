@@ -88,7 +88,7 @@ module _ (how : How) (size : ℕ) (a b : LinkView) (space : Space) (block : ℕ)
     err = tt;
     calm = λ calm. tt;
   }
-  made (Ok (File map')) is = absurd is
+  made (Ok (File map' length')) is = absurd is
   made (Err fault.NoMessageTlv) is = record {
     stays = g.stays;
     asked = g.asked;
@@ -187,13 +187,13 @@ blocks_grounded id size block a b known end is whole same =
     }
 
 -- the length of a file's message is read
-pub file_made : (size : ℕ) (a b : LinkView) (map' : FileMap) (n : ℕ) → IsMeasured ToWrite size a b map' n → IsSurveyMade T4 size a b (Ok (File map'))
+pub file_made : (size : ℕ) (a b : LinkView) (map' : FileMap) (n : ℕ) → IsMeasured ToWrite size a b map' n → IsSurveyMade T4 size a b (Ok (File map' n))
 file_made size a b map' n is = record {
   stays = is.under.reached.stays;
   asked = files.has_asked size 5 a b is.under.reached;
   whole = files.has_all size 5 a b is.under.reached none;
   goes_on = is.under.reached.goes_on;
-  ok = record { ground' = (is.names, omega (arith, is.length', is.fits)); state = is.under.state };
+  ok = record { ground' = record { names = is.names; counts = is.length'; fits = is.fits }; state = is.under.state };
   err = tt;
   calm = λ calm. tt;
 }

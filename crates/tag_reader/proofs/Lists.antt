@@ -9,18 +9,21 @@ use Rattle.tlv_area.specs.declared.space.Space.{Space}
 use Rattle.tlv_area.specs.Form as form
 use Rattle.tag_reader.specs.declared.how.How.{How}
 use Rattle.tag_reader.specs.Kinds.{area_of, command, first}
-use Rattle.tag_reader.specs.Asked.{IsDue, AreDue, IsAsked}
+use Rattle.tag_reader.specs.Asked.{Aim, ToRead, IsAskedFor, IsDue, AreDue, IsAsked}
 use Rattle.tag_reader.specs.Steps.{IsBlockStore}
 use Rattle.tag_reader.proofs.Areas.{next_needs, needs_next, first_within, front_area}
 
-pub one_list : (how : How) (size : ℕ) (store : List ℕ) (xs ys : List Signal) → IsAsked how size store xs → IsAsked how size store ys → xs ≡ ys
-one_list how size store xs ys one other = elim (cases_lt one.count other.count) [
+pub one_list_for : (aim : Aim) (how : How) (size : ℕ) (store : List ℕ) (xs ys : List Signal) → IsAskedFor aim how size store xs → IsAskedFor aim how size store ys → xs ≡ ys
+one_list_for aim how size store xs ys one other = elim (cases_lt one.count other.count) [
   | inl less ↦ absurd (one.no_more (other.each one.count less))
   | inr more ↦ elim (cases_lt other.count one.count) [
     | inl less ↦ absurd (other.no_more (one.each other.count less))
     | inr rest ↦ (let same : one.count ≡ other.count = omega arith in one.list ∙ ap (λ n. first how size store n) same ∙ sym other.list)
   ]
 ]
+
+pub one_list : (how : How) (size : ℕ) (store : List ℕ) (xs ys : List Signal) → IsAsked how size store xs → IsAsked how size store ys → xs ≡ ys
+one_list how size store xs ys one other = one_list_for ToRead how size store xs ys one other
 
 first_split : (how : How) (size : ℕ) (store : List ℕ) (n m : ℕ) → (rest : List Signal) × (first how size store (n + m) ≡ first how size store n ++ rest)
 first_split how size store n zero = let e : n + 0 ≡ n = omega arith in ([], ap (λ k. first how size store k) e ∙ sym (append-nil (first how size store n)))

@@ -32,7 +32,7 @@ big_area false true z b = tt
 big_area false false true b = tt
 big_area false false false b = tt
 
-t2_is_area : (b : List ℕ) → IfOk (t2_container b) IsArea
+pub t2_is_area : (b : List ℕ) → IfOk (t2_container b) IsArea
 t2_is_area b = elim (cases_Bool (nat_lt 0x7E (slice_index b 2))) [
   | inl big ↦ rw big (big_area (not (slice_index b 0 == 0xE1)) (not (high_nibble (slice_index b 1) == 1)) (not (high_nibble (slice_index b 3) == 0)) b)
   | inr fits ↦ by_fault (first_fault (t2_faults b)) (ltb-false 126 (slice_index b 2) fits)

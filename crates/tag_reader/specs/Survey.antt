@@ -4,6 +4,7 @@ use Rattle.nfc_base.specs.TagLinks.{TagState, LinkView, NdefFile}
 use Rattle.tlv_area.specs.declared.space.Space.{Space}
 use Rattle.tlv_area.specs.declared.space.AreaMap.{AreaMap}
 use Rattle.tlv_area.specs.declared.container.ContainerFault.{ContainerFault}
+use Rattle.tlv_area.specs.declared.container.FileMap.{FileMap}
 use Rattle.tlv_area.specs.declared.walk.Walk.TheVariants as walk
 use Rattle.tlv_area.specs.Layout.{bytes_at}
 use Rattle.tlv_area.specs.Form.{Message}
@@ -44,15 +45,21 @@ pub record IsKnownArea (how : How) (size : ℕ) (store known : List ℕ) (block 
   pub placed : IsPlaced map'
   pub held : IsStoreForm how size store (Message (bytes_at known (message_cells map')))
 
--- The area, or the file, in which a message lies whose length doesn't pass the file's end.
+-- A file holds a message: this is its length, which doesn't pass the file's end.
+pub record IsKnownFile (how : How) (store : List ℕ) (map' : FileMap) (length' : ℕ) : Type 0 where
+  pub names : IsFileOf how store map'
+  pub counts : length' ≡ message_length (file_in store)
+  pub fits : length' ≤ map'.size - 2
+
+-- the area or the file in which a message lies
 abbrev pub IsGround : How → ℕ → List ℕ → Ground → Type 0
 IsGround how size store (Area known block map') = IsKnownArea how size store known block map'
-IsGround how size store (File map') = IsFileOf how store map' × (message_length (file_in store) ≤ map'.size - 2)
+IsGround how size store (File map' length') = IsKnownFile how store map' length'
 
 -- The message of an area lies in it, and all of the area is known.
 abbrev pub IsPlacedGround : Ground → Type 0
 IsPlacedGround (Area known block map') = IsPlacedIn known map' × (map'.space.end ≤ length known)
-IsPlacedGround (File map') = Unit {0}
+IsPlacedGround (File map' length') = Unit {0}
 
 -- The tag as a survey leaves it: of a Type 4 tag the application is selected, and the NDEF file is the current one.
 abbrev pub surveyed : How → TagState → TagState

@@ -5,7 +5,7 @@ use tlv_area::{AreaMap, FileMap};
 
 /// What a writer knows of a tag: of an area of TLVs (NFC Forum Type 2 Tag and Type 5 Tag) the bytes of the store from
 /// the first one to the area's end or the tag's, how many bytes a block has, and the map of the message, whose area
-/// ends there too; or the file (NFC Forum Type 4 Tag).
+/// ends there too; or the file, and how many bytes its message has (NFC Forum Type 4 Tag).
 #[derive(Debug, Drop)]
 pub enum Ground {
     Area {
@@ -13,5 +13,8 @@ pub enum Ground {
         block: u32,
         map: AreaMap,
     },
-    File(FileMap),
+    File {
+        map: FileMap,
+        length: u16,
+    },
 }

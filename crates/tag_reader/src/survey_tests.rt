@@ -159,9 +159,9 @@ const CONTAINER: [u8; 15] = [
     0x00, 0x0F, 0x20, 0x00, 0x3B, 0x00, 0x0D, 0x04, 0x06, 0xE1, 0x04, 0x02, 0x00, 0x00, 0x00,
 ];
 
-fn is_file(outcome: &Result<Ground, ReadFault>, map: FileMap) -> bool {
+fn is_file(outcome: &Result<Ground, ReadFault>, map: FileMap, count: u16) -> bool {
     match outcome {
-        Ok(Ground::File(told)) => *told == map,
+        Ok(Ground::File { map: told, length }) => *told == map && *length == count,
         _ => false,
     }
 }
@@ -178,7 +178,7 @@ fn surveys_a_file_by_its_length_alone(rt: HostRuntime) -> Result<(), Fail> {
         mlc: 13,
         writable: true,
     };
-    assert!(rt; is_file(&outcome, map), "{outcome:?}");
+    assert!(rt; is_file(&outcome, map, 3), "{outcome:?}");
     let commands: [&[u8]; 5] = [
         b"\x00\xA4\x04\x00\x07\xD2\x76\x00\x00\x85\x01\x01\x00",
         b"\x00\xA4\x00\x0C\x02\xE1\x03",

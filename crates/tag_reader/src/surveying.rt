@@ -117,8 +117,8 @@ fn survey_file<T: TagLink>(alloc: Global, link: &mut T) -> Result<Ground, ReadFa
     ensures moves { T.moves link.old link.new }
 {
     let map = read_container(alloc, link)?;
-    read_length(alloc, link, map)?;
-    Ok(Ground::File(map))
+    let length = read_length(alloc, link, map)?;
+    Ok(Ground::File { map, length })
 }
 
 /// Surveys the Type 5 tag with this identifier.

@@ -1,7 +1,8 @@
 -- The job of a message in an area.
-use Rattle.std.proofs.Common.{◌≡◌, ℕ, zero, suc, ◌+◌, ◌*◌, ◌/◌, ◌≤◌, true, List, [], ◌∷◌, ◌++◌, length, take, drop, Option, Some, None, Ok, refl, sym, ◌∙◌, ap, subst, arith}
+use Rattle.std.proofs.Common.{◌≡◌, ◌≢◌, slice_index, ◌<◌, ℕ, zero, suc, ◌+◌, ◌*◌, ◌/◌, ◌≤◌, true, List, [], ◌∷◌, ◌++◌, length, take, drop, Option, Some, None, Ok, refl, sym, ◌∙◌, ap, subst, arith}
 use Rattle.std.specs.List.{AllByRecursion, flat_map}
 use Rattle.std.proofs.lemmas.List.{length-append, map-append, take-map}
+use Rattle.t5t_tag.proofs.Stores.{size_of_block}
 use Rattle.tlv_area.specs.declared.space.Space.{Space}
 use Rattle.tlv_area.specs.declared.space.AreaMap.{AreaMap}
 use Rattle.tlv_area.specs.declared.step.Step.{Step}
@@ -12,7 +13,7 @@ use Rattle.tlv_area.specs.Layout.{Tlv, bytes_at, spelling}
 use Rattle.tlv_area.specs.Map.{IsMap, map_cells}
 use Rattle.tlv_area.specs.Stores.{four_bytes}
 use Rattle.tlv_area.specs.Tail.{message_tail, map_tail, map_room, capacity_of}
-use Rattle.tlv_area.specs.Writing.{IsWhole, IsNew, IsPlan, PlanKeeps, PlanForms, GivesPlan, KeepsPlan, KeepsKinds, after_step, after_steps, made, steps_of, image}
+use Rattle.tlv_area.specs.Writing.{home, IsWhole, IsNew, IsPlan, PlanKeeps, PlanForms, GivesPlan, KeepsPlan, KeepsKinds, after_step, after_steps, made, steps_of, image}
 use Rattle.tlv_area.proofs.Places.{map_parts, tail_same}
 use Rattle.tag_reader.specs.declared.how.How.{How}
 use Rattle.tag_reader.specs.declared.how.How.TheVariants.{T2, T4, T5}
@@ -23,7 +24,9 @@ use Rattle.tag_writer.specs.Place.{Place, IsAreaPlace, IsPlaceBy, IsPlaceIn, IsA
 use Rattle.tag_writer.specs.WriteAsked.{all_puts, AreAreaPuts, ArePuts}
 use Rattle.tag_writer.specs.Law.{IsEmptied, IsWritten}
 use Rattle.tag_writer.specs.Puttings.{IsPutOf, IsBlockPut}
+use Rattle.tag_writer.specs.Counts.{writes_at, EachIsOther, AreFew}
 use Rattle.tag_writer.specs.Phases.{Job, Serves, plan_parts}
+use Rattle.tag_writer.proofs.Counting.{first_of_span, blocks_twice, blocks_once, blocks_other}
 use Rattle.tag_writer.proofs.Jobs.{all_front, all_rest}
 use Rattle.tag_writer.proofs.Touching.{blocks_inside, all_both}
 
@@ -37,7 +40,7 @@ after_blocks how size base store (s ∷ ss) all =
     ap (λ t. after_puts t (block_puts how size ss)) (put_step how size store s all.0.content)
     ∙ after_blocks how size base (after_step (block_size how size) store s) ss all.1
 
-all_take : {A : Type 0} (P : A → Type 0) (n : ℕ) (xs : List A) → AllByRecursion P xs → AllByRecursion P (take n xs)
+pub all_take : {A : Type 0} (P : A → Type 0) (n : ℕ) (xs : List A) → AllByRecursion P xs → AllByRecursion P (take n xs)
 all_take P zero xs all = tt
 all_take P (suc n) [] all = tt
 all_take P (suc n) (x ∷ xs) all = (all.0, all_take P n xs all.1)
@@ -155,9 +158,23 @@ module _ (how : How) (size : ℕ) (m : AreaMap) (store message : List ℕ) (plan
   abbrev pub job : Job
   job = record { how = how; size = size; store = store; message = message; place = place; parts = plan_parts how size plan }
 
+  -- the home block is that of the span's first address
+  home_is : home block tail ≡ slice_index place.span 0 / block
+  home_is = ap (λ a. a / block) (sym (first_of_span tail message))
+
+  twice_by : 0 < block → writes_at (block * (slice_index place.span 0 / block)) (block_puts how size (steps_of plan)) ≤ 2
+  twice_by some = subst (λ k. writes_at (block * k) (block_puts how size (steps_of plan)) ≤ 2) home_is (blocks_twice how size some (home block tail) (steps_of plan) keeps.twice)
+
+  once_by : 0 < block → (a : ℕ) → a ≢ block * (slice_index place.span 0 / block) → writes_at a (block_puts how size (steps_of plan)) ≤ 1
+  once_by some a other = blocks_once how size some (home block tail) a (steps_of plan) (λ e. other (e ∙ ap (λ k. block * k) home_is)) keeps.once
+
+  other_by : EachIsOther store (block_puts how size (steps_of plan))
+  other_by = blocks_other how size store store (steps_of plan) keeps.whole keeps.changed
+
   serves_by : PlanForms block (IsStoreForm how size) store message plan → IsPlaceIn how size store message place → IsAccess how size store true → HasPieces how store →
-      ArePuts how size store message (plan_parts how size plan) → AllByRecursion (IsPutOf how size store) (block_puts how size (steps_of plan)) → Serves job
-  serves_by forms there free pieces are puts = record {
+      ArePuts how size store message (plan_parts how size plan) → AllByRecursion (IsPutOf how size store) (block_puts how size (steps_of plan)) →
+      AreFew how size store place (block_puts how size (steps_of plan)) → Serves job
+  serves_by forms there free pieces are puts few_puts = record {
     store' = is.store';
     takes = record { holds = there; free = free; fits = fits; pieces = pieces };
     are = are;
@@ -166,6 +183,7 @@ module _ (how : How) (size : ℕ) (m : AreaMap) (store message : List ℕ) (plan
     new = subst (IsWritten how size message place store) (sym new_is) (record { new = keeps.new; holds = forms.holds });
     first = long_puts how size plan.close;
     last = long_puts how size plan.last;
+    few = subst (AreFew how size store place) (sym puts_are) few_puts;
   }
 
 pub serves : (how : How) (size : ℕ) (m : AreaMap) (store message : List ℕ) (plan : Plan) → (is : IsPlanned how size m store message plan) → Serves (job how size m store message plan is)
@@ -176,6 +194,7 @@ serves T2 size m store message plan is =
     (subst (λ r. IsPlaceBy r store message (tail_place (message_tail is.t.at is.after) message)) (sym is.area) (holds T2 size m store message plan is))
     (subst (λ r. AccessBy r true) (sym is.area) (sym is.writable)) tt (m.space, is.area, area_puts T2 size m store message plan is)
     (block_ok T2 size 4 store (steps_of plan) (keeps T2 size m store message plan is).whole (low T2 size m store message plan is 4 (λ a in_. omega (arith, start, in_))))
+    (record { twice = twice_by T2 size m store message plan is (omega arith); once = once_by T2 size m store message plan is (omega arith); changed = other_by T2 size m store message plan is })
 serves T4 size m store message plan is = absurd (let no_ = is.area in cc)
 serves (T5 id) size m store message plan is =
     let kind = is.kinds is.ts is.t is.after is.map' in
@@ -183,3 +202,5 @@ serves (T5 id) size m store message plan is =
     (subst (λ r. IsPlaceBy r store message (tail_place (message_tail is.t.at is.after) message)) (sym is.area) (holds (T5 id) size m store message plan is))
     (subst (λ r. AccessBy r true) (sym is.area) (sym is.writable)) tt (m.space, is.area, area_puts (T5 id) size m store message plan is)
     (block_ok (T5 id) size 0 store (steps_of plan) (keeps (T5 id) size m store message plan is).whole (low (T5 id) size m store message plan is 0 (λ a in_. omega arith)))
+    (let some : 0 < size = (let sized = size_of_block size is.store'.sized in omega (arith, sized.2)) in
+    record { twice = twice_by (T5 id) size m store message plan is some; once = once_by (T5 id) size m store message plan is some; changed = other_by (T5 id) size m store message plan is })

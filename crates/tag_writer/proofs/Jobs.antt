@@ -13,7 +13,7 @@ use Rattle.tag_writer.specs.WriteAsked.{all_puts}
 use Rattle.tag_writer.specs.Puttings.{IsPutOf, AnswersAs, Accepts, FailsBy, Makes, BreaksOff, signal_at}
 use Rattle.tag_writer.specs.Phases.{Job, IsAt, Serves, made_at, next_at}
 use Rattle.tag_writer.proofs.Places.{HasNth, nth}
-use Rattle.tag_writer.proofs.Tags.{IsLike, like_puts, IsUnder, under_makes, CanDo, can_do, makes_more}
+use Rattle.tag_writer.proofs.Tags.{IsLike, like_itself, like_puts, IsUnder, under_makes, CanDo, can_do, makes_more}
 
 pub all_front : {A : Type 0} (P : A → Type 0) (xs ys : List A) → AllByRecursion P (xs ++ ys) → AllByRecursion P xs
 all_front P [] ys all = tt
@@ -44,7 +44,7 @@ under_at phase j work v at = record {
   near = at.near;
   like = subst (λ s. IsLike j.how j.size j.store s) (sym at.store)
       (like_puts j.how j.size j.store j.store (made_at phase j) (all_front (IsPutOf j.how j.size j.store) (made_at phase j) (next_at phase j) (made_all phase j at.serves))
-      (record { store' = at.serves.store'; long = refl }));
+      (like_itself j.how j.size j.store at.serves.store'));
 }
 
 -- the k-th write behind it
@@ -61,7 +61,7 @@ front_at phase j k s h = all_front (IsPutOf j.how j.size j.store) (take k (next_
 pub can_at : (phase : Phase) (j : Job) (work : Work) (a b : LinkView) (k : ℕ) → IsAt phase j work a → (h : HasNth (next_at phase j) k) → Makes j.how a (take k (next_at phase j)) b → CanDo j.how b h.p
 can_at phase j work a b k at h m =
     let under = under_makes j.how j.size j.store a b (take k (next_at phase j)) (under_at phase j work a at) (front_at phase j k at.serves h) m in
-    can_do j.how j.size j.store b h.p under.tag under.near (put_at phase j k at.serves h)
+    can_do j.how j.size j.store b h.p under.tag under.near under.like (put_at phase j k at.serves h)
 
 pub may_at : (phase : Phase) (j : Job) (work : Work) (a b : LinkView) (k : ℕ) (c : Signal) → IsAt phase j work a → k < length (next_at phase j) → Makes j.how a (take k (next_at phase j)) b → c ≡ signal_at (next_at phase j) k → MayAsk b.kind b.identifier c
 may_at phase j work a b k c at low m e =

@@ -11,6 +11,7 @@ use Rattle.tag_reader.specs.declared.how.How.{How}
 use Rattle.tag_reader.specs.declared.how.How.TheVariants.{T2, T4, T5}
 use Rattle.tag_reader.specs.Kinds.{IsStore}
 use Rattle.tag_reader.specs.Survey.{IsKnownArea}
+use Rattle.tag_writer.specs.declared.work.Work.TheVariants.{Blocks}
 use Rattle.tag_writer.specs.Place.{Place, IsAreaPlace, IsPlaceBy, IsPlaceIn, AccessBy, IsAccess, tail_place}
 use Rattle.tag_writer.specs.Faults.{IsReadOnly, IsTooLong}
 use Rattle.tag_writer.specs.Planning.{IsPlannedFor}
@@ -59,7 +60,7 @@ planned how size store known message block m plan is k free fits front form =
       fits = fits;
     }
 
-pub planned_for : (how : How) (size : ℕ) (store message : List ℕ) (m : AreaMap) (plan : Plan) → IsPlanned how size m store message plan → IsPlannedFor how size store message (record { how = how; plan = plan })
+pub planned_for : (how : How) (size : ℕ) (store message : List ℕ) (m : AreaMap) (plan : Plan) → IsPlanned how size m store message plan → IsPlannedFor how size store message (Blocks how plan)
 planned_for how size store message m plan is = record {
   job = job how size m store message plan is;
   serves = serves how size m store message plan is;

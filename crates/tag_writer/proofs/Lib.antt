@@ -1,5 +1,8 @@
 pub mod Places
+pub mod Addresses
+pub mod Updates
 pub mod Doing
+pub mod FileDoing
 pub mod Loses
 pub mod Tags
 pub mod Jobs
@@ -11,9 +14,16 @@ pub mod Calming
 pub mod Stopping
 pub mod Reaching
 pub mod Touching
+pub mod Counting
 pub mod AreaJobs
+pub mod FileJobs
+pub mod FileSteps
 pub mod Known
+pub mod FileKnown
 pub mod Starting
 pub mod Causes
 pub mod OnePlace
+pub mod SameSignals
+pub mod OneWrite
+pub mod OneOutcome
 pub mod Wholes

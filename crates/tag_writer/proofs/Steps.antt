@@ -8,6 +8,7 @@ use Rattle.tag_reader.specs.declared.how.How.TheVariants.{T2, T4, T5}
 use Rattle.tag_reader.specs.Kinds.{IsStore}
 use Rattle.tag_writer.specs.declared.phase.Phase.{Phase}
 use Rattle.tag_writer.specs.declared.phase.Phase.TheVariants.{Prepared, Emptied, Filled}
+use Rattle.tag_writer.specs.declared.work.Work.TheVariants.{Blocks}
 use Rattle.tag_writer.specs.Puts.{block_puts, block_put, block_command}
 use Rattle.tag_writer.specs.Puttings.{IsPutOf, signal_at}
 use Rattle.tag_writer.specs.Phases.{Job, Serves, IsWork, next_at}
@@ -20,7 +21,7 @@ signal_of how size [] k s low is = absurd (omega (arith, low))
 signal_of how size (t ∷ steps) zero s low is = ap (block_command how) (sym is)
 signal_of how size (t ∷ steps) (suc k) s low is = signal_of how size steps k s (omega (arith, low)) is
 
-pub next_steps : (phase : Phase) (j : Job) (how : How) (plan : Plan) → IsWork j (record { how = how; plan = plan }) → next_at phase j ≡ block_puts how j.size (steps_at phase plan)
+pub next_steps : (phase : Phase) (j : Job) (how : How) (plan : Plan) → IsWork j (Blocks how plan) → next_at phase j ≡ block_puts how j.size (steps_at phase plan)
 next_steps Prepared j how plan is = ap (λ p. p.close) is.parts
 next_steps Emptied j how plan is = ap (λ p. p.fill) is.parts
 next_steps Filled j how plan is = ap (λ p. p.last) is.parts
@@ -36,14 +37,14 @@ step_fit T2 size store s is p =
     let place : 4 * s.block ≡ 4 * p.step.block = ap (λ q. q.at) p.put in
     let most = is.1.most in
     (omega (arith, place, p.within, is.1.whole, most), ap length same ∙ p.content)
-step_fit T4 size store s is p = absurd p
+step_fit T4 size store s is p = absurd (let long = ap (λ q. length q.command.bytes) p.put in omega (arith, long))
 step_fit (T5 id) size store s is p = tt
 
 pub steps_fit : (how : How) (size : ℕ) (store : List ℕ) (steps : List Step) → IsStore how size store → AllByRecursion (IsPutOf how size store) (block_puts how size steps) → AllByRecursion (IsStepFor how) steps
 steps_fit how size store [] is all = tt
 steps_fit how size store (s ∷ steps) is all = (step_fit how size store s is all.0, steps_fit how size store steps is all.1)
 
-pub work_fit : (phase : Phase) (j : Job) (how : How) (plan : Plan) → Serves j → IsWork j (record { how = how; plan = plan }) → AllByRecursion (IsStepFor how) (steps_at phase plan)
+pub work_fit : (phase : Phase) (j : Job) (how : How) (plan : Plan) → Serves j → IsWork j (Blocks how plan) → AllByRecursion (IsStepFor how) (steps_at phase plan)
 work_fit phase j how plan s is =
     steps_fit how j.size j.store (steps_at phase plan) (subst (λ h. IsStore h j.size j.store) is.how' s.store')
     (subst (λ h. AllByRecursion (IsPutOf h j.size j.store) (block_puts how j.size (steps_at phase plan))) is.how'

@@ -44,7 +44,7 @@ stop_at phase j work old new e at off =
     let under : IsUnder j.how j.size j.store off.at = under_makes j.how j.size j.store old off.at off.front before front off.makes in
     record {
       under = under;
-      does = (can_do j.how j.size j.store off.at off.next under.tag under.near (all_rest P off.front (off.next ∷ off.rest) all).0).does;
+      does = (can_do j.how j.size j.store off.at off.next under.tag under.near under.like (all_rest P off.front (off.next ∷ off.rest) all).0).does;
       store = store_makes j.how j.size j.store old off.at off.front before front off.makes ∙ ap (λ s. after_puts s off.front) at.store
           ∙ sym (after_append j.store (made_at phase j) off.front);
     }

@@ -14,7 +14,7 @@ use Rattle.tag_writer.specs.Law.{Ending, Written, Leaves, last_store, Passes, Wr
 use Rattle.tag_writer.specs.Faults.{IsWriteFault, ending_by, is_told}
 use Rattle.tag_writer.specs.Phases.{Job, Serves}
 use Rattle.tag_writer.specs.Ends.{StopsSince, IsOpened, AsksJob, AsksAllOf, asked_for}
-use Rattle.tag_writer.specs.Writing.{Keeps, HasWritten, HasWrittenAll, HasSucceeded}
+use Rattle.tag_writer.specs.Writing.{Keeps, HasWritten, TakesFew, HasFew, HasWrittenAll, HasSucceeded}
 use Rattle.tag_writer.proofs.Going.{last_image}
 use Rattle.tag_writer.proofs.OnePlace.{one_place}
 
@@ -22,6 +22,7 @@ use Rattle.tag_writer.proofs.OnePlace.{one_place}
 pub record Stops (how : How) (size : ℕ) (message : List ℕ) (a b : LinkView) (e : WriteFault) : Type 0 where
   pub keeps : Keeps how size message (ending_by e) a b
   pub asked : HasWritten how size message a b
+  pub few : HasFew how size message a b
   pub whole : is_told e ≡ true → HasWrittenAll how size message a b
   pub goes_on : is_told e ≡ true → GoesOn a b
   pub cause : IsWriteFault how size message a b e
@@ -30,6 +31,7 @@ pub record Stops (how : How) (size : ℕ) (message : List ℕ) (a b : LinkView) 
 pub record Succeeds (how : How) (size : ℕ) (message : List ℕ) (a b : LinkView) : Type 0 where
   pub keeps : Keeps how size message Written a b
   pub asked : HasWritten how size message a b
+  pub few : HasFew how size message a b
   pub whole : HasWrittenAll how size message a b
   pub goes_on : GoesOn a b
   pub succeeded : HasSucceeded how size message a b
@@ -56,10 +58,14 @@ module _ (j : Job) (a b : LinkView) (serves : Serves j) (store : a.state.store �
   all_of : AsksAllOf j a b → HasWrittenAll j.how j.size j.message a b
   all_of asks = record { commands = asked_for j a asks.read; asked = asked_of asks.read asks.all; answered = asks.answered }
 
+  few_of : HasFew j.how j.size j.message a b
+  few_of = inr (subst (λ s. TakesFew j.how j.size s j.message) (sym store) (record { place = j.place; takes = serves.takes; parts = j.parts; are = serves.are; few = serves.few }))
+
   pub stops : (e : WriteFault) → StopsSince j a b e → Stops j.how j.size j.message a b e
   stops e s = record {
     keeps = record { more = s.more; leads = s.leads; law = law_of (ending_by e) (images a s.more) s.passes; rises = s.rises };
     asked = written_of s.asked;
+    few = few_of;
     whole = λ t. all_of (s.told t).0;
     goes_on = λ t. (s.told t).1;
     cause = s.cause;
@@ -69,6 +75,7 @@ module _ (j : Job) (a b : LinkView) (serves : Serves j) (store : a.state.store �
   succeeds s holds = record {
     keeps = record { more = s.more; leads = s.leads; law = law_of Written (images a s.more) s.passes; rises = s.rises };
     asked = written_of s.asked;
+    few = few_of;
     whole = all_of s.whole;
     goes_on = s.goes_on;
     succeeded = record {
@@ -133,6 +140,7 @@ unwritten how size message a b e stays asked whole goes_on untaken cause =
         rises = stays.rises;
       };
       asked = inl asked;
+      few = inl asked;
       whole = λ t.
           (let w = whole t in
           let none = untaken t in

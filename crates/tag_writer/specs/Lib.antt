@@ -3,8 +3,10 @@ pub mod Place
 pub mod WriteAsked
 pub mod Law
 pub mod Puttings
+pub mod Counts
 pub mod Phases
 pub mod Faults
+pub mod Outcome
 pub mod Ends
 pub mod Planning
 pub mod Writing

@@ -1,5 +1,5 @@
 -- The phases of a write: what each one needs and leaves, from the call that prepared it on.
-use Rattle.std.specs.Prelude.{◌≡◌, ◌⊎◌, ℕ, ◌≤◌, List, [], ◌++◌, length, take, true, None}
+use Rattle.std.specs.Prelude.{◌≡◌, ◌⊎◌, ℕ, ◌≤◌, List, [], ◌++◌, length, take, Bool, true, not, ◌==◌, None}
 use Rattle.std.specs.List.{AllByRecursion}
 use Rattle.nfc_base.specs.Signal.{Signal}
 use Rattle.nfc_base.specs.TagLinks.{LinkView, TagState, NdefFile, after_all, Leads, images, Rises}
@@ -10,13 +10,16 @@ use Rattle.tag_reader.specs.declared.how.How.TheVariants.{T2, T4, T5}
 use Rattle.tag_reader.specs.Kinds.{IsTag, IsStore}
 use Rattle.tag_reader.specs.Asked.{ToWrite, IsAskedFor}
 use Rattle.tag_reader.specs.Survey.{surveyed}
+use Rattle.tag_reader.specs.Files.{file_in, message_length}
 use Rattle.tag_reader.specs.Calls.{GoesOn}
 use Rattle.tag_writer.specs.declared.work.Work.{Work}
+use Rattle.tag_writer.specs.declared.work.Work.TheVariants.{Blocks, File}
 use Rattle.tag_writer.specs.declared.phase.Phase.{Phase}
 use Rattle.tag_writer.specs.declared.phase.Phase.TheVariants.{Prepared, Emptied, Filled}
-use Rattle.tag_writer.specs.Puts.{Put, after_puts, commands_of, block_puts}
+use Rattle.tag_writer.specs.Puts.{Put, after_puts, commands_of, block_puts, most_brought, file_close, file_fill, file_last}
 use Rattle.tag_writer.specs.Place.{Place, Takes}
 use Rattle.tag_writer.specs.Puttings.{IsPutOf}
+use Rattle.tag_writer.specs.Counts.{AreFew}
 use Rattle.tag_writer.specs.WriteAsked.{Parts, all_puts, ArePuts, refused_by, last_command}
 use Rattle.tag_writer.specs.Law.{IsEmptied, IsWritten}
 
@@ -45,7 +48,7 @@ abbrev pub new_store : Job → List ℕ
 new_store j = after_puts j.store (all_puts j.parts)
 
 -- The writes serve the message: behind the first part and each front of the second the store holds the empty message, behind
--- the third it is the new one. The first and the third part are one write at most.
+-- the third it is the new one. The first and the third part are one write at most, and all of them are few.
 pub record Serves (j : Job) : Type 0 where
   pub store' : IsStore j.how j.size j.store
   pub takes : Takes j.how j.size j.store j.message j.place
@@ -55,8 +58,10 @@ pub record Serves (j : Job) : Type 0 where
   pub new : IsWritten j.how j.size j.message j.place j.store (new_store j)
   pub first : length j.parts.close ≤ 1
   pub last : length j.parts.last ≤ 1
+  pub few : AreFew j.how j.size j.store j.place (all_puts j.parts)
 
--- The work as the code keeps it: the plan of the blocks.
+-- The work as the code keeps it: the plan of the blocks; or of a file the message, the most bytes of it that one update brings,
+-- and whether the length has to become 0 first.
 abbrev pub plan_parts : How → ℕ → Plan → Parts
 plan_parts how size plan = record {
   close = block_puts how size (made plan.close);
@@ -64,9 +69,27 @@ plan_parts how size plan = record {
   last = block_puts how size (made plan.last);
 }
 
+abbrev pub file_parts : List ℕ → List ℕ → Parts
+file_parts store message = record { close = file_close store; fill = file_fill store message; last = file_last store message }
+
+pub record IsFileWork (j : Job) (message : List ℕ) (most : ℕ) (close : Bool) : Type 0 where
+  pub message' : j.message ≡ message
+  pub parts : j.parts ≡ file_parts j.store message
+  pub most' : most ≡ most_brought j.store
+  pub some : 1 ≤ most
+  pub close' : close ≡ not (message_length (file_in j.store) == 0)
+
+abbrev pub how_of : Work → How
+how_of (Blocks how plan) = how
+how_of (File message most close) = T4
+
+abbrev pub DoesParts : Job → Work → Type 0
+DoesParts j (Blocks how plan) = j.parts ≡ plan_parts how j.size plan
+DoesParts j (File message most close) = IsFileWork j message most close
+
 pub record IsWork (j : Job) (work : Work) : Type 0 where
-  pub how' : j.how ≡ work.how
-  pub parts : j.parts ≡ plan_parts work.how j.size work.plan
+  pub how' : j.how ≡ how_of work
+  pub parts : DoesParts j work
 
 -- A Type 4 tag has its NDEF file for the current one.
 abbrev pub IsNear : How → TagState → Type 0

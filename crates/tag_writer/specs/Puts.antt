@@ -1,5 +1,6 @@
 -- What a writer asks of a tag, as bytes that are put into its store (NFC Forum Type 2, Type 4 and Type 5 Tag).
-use Rattle.std.specs.Prelude.{ℕ, ◌+◌, ◌-◌, ◌*◌, ◌/◌, min, nat_lt, ◌==◌, if◌then◌else◌, List, [], ◌∷◌, ◌++◌, length, take, drop, map, Some}
+use Rattle.std.specs.Prelude.{ℕ, ◌+◌, ◌*◌, min, nat_lt, ◌==◌, if◌then◌else◌, List, [], ◌∷◌, ◌++◌, length, take, drop, map, Some}
+use Rattle.std.specs.Int.{div_ceil}
 use Rattle.std.specs.List.{range_with_len}
 use Rattle.nfc_base.specs.Signal.{Signal, whole_a}
 use Rattle.t2t_tag.specs.Spelling as t2
@@ -61,10 +62,7 @@ update_put store offset bytes = record {
 abbrev pub most_brought : List ℕ → ℕ
 most_brought store = min (most_written (container_in store)) 255
 
--- how many updates a message takes, and the k-th of them, counted from 0
-abbrev pub piece_count : ℕ → ℕ → ℕ
-piece_count most n = (n + most - 1) / most
-
+-- the k-th update that brings a piece of the message, counted from 0
 abbrev pub piece_put : List ℕ → List ℕ → ℕ → Put
 piece_put store message k =
     update_put store (2 + most_brought store * k) (take (most_brought store) (drop (most_brought store * k) message))
@@ -75,7 +73,7 @@ abbrev pub file_close : List ℕ → List Put
 file_close store = if message_length (file_in store) == 0 then [] else update_put store 0 (0 ∷ 0 ∷ []) ∷ []
 
 abbrev pub file_fill : List ℕ → List ℕ → List Put
-file_fill store message = map (piece_put store message) (range_with_len 0 (piece_count (most_brought store) (length message)))
+file_fill store message = map (piece_put store message) (range_with_len 0 (div_ceil (length message) (most_brought store)))
 
 abbrev pub file_last : List ℕ → List ℕ → List Put
 file_last store message = if length message == 0 then [] else update_put store 0 (high_first (length message)) ∷ []

@@ -1,19 +1,22 @@
 -- What one write does to a link, and writes one after another.
-use Rattle.std.specs.Prelude.{◌≡◌, ◌+◌, ◌*◌, ℕ, zero, suc, ◌≤◌, ◌⊎◌, List, [], ◌∷◌, ◌++◌, length, Option, Some, None, Result, Ok, Err}
+use Rattle.std.specs.Prelude.{◌≡◌, ◌+◌, ◌*◌, ℕ, zero, suc, ◌<◌, ◌≤◌, ◌⊎◌, List, [], ◌∷◌, ◌++◌, length, Option, Some, None, Result, Ok, Err}
 use Rattle.std.specs.List.{AllByRecursion}
 use Rattle.nfc_base.specs.Signal.{Signal, whole_a}
 use Rattle.nfc_base.specs.TagLinks.{LinkView, Leads, passed, Rises}
 use Rattle.nfc_base.specs.declared.tag_link.AskFault.{AskFault}
 use Rattle.nfc_base.specs.declared.tag_link.AskFault.TheVariants as ask
+use Rattle.t4t_tag.specs.Store.{write_access, everyone}
+use Rattle.t4t_tag.specs.Spelling.{offset_end}
 use Rattle.tlv_area.specs.declared.step.Step.{Step}
 use Rattle.tag_reader.specs.declared.how.How.{How}
 use Rattle.tag_reader.specs.declared.how.How.TheVariants.{T2, T4, T5}
+use Rattle.tag_reader.specs.Files.{container_in, file_in}
 use Rattle.tag_reader.specs.Calls.{GoesOn, ByLink}
 use Rattle.tag_reader.specs.Reading.{IsCalm}
 use Rattle.tag_reader.specs.Survey.{block_size}
 use Rattle.tag_writer.specs.declared.fault.WriteFault.{WriteFault}
 use Rattle.tag_writer.specs.declared.fault.WriteFault.TheVariants as fault
-use Rattle.tag_writer.specs.Puts.{Put, block_put}
+use Rattle.tag_writer.specs.Puts.{Put, block_put, update_put, most_brought}
 use Rattle.tag_writer.specs.WriteAsked.{refusal_in}
 
 -- The write of a whole block that the store has; of a Type 2 tag, behind its first four.
@@ -24,10 +27,21 @@ pub record IsBlockPut (how : How) (size least : ℕ) (store : List ℕ) (p : Put
   pub content : length step.content.items ≡ block_size how size
   pub within : block_size how size * step.block + block_size how size ≤ length store
 
--- a write that a tag of blocks with this store can do
+-- An update of the file that the container of this store allows: writing is free, it brings a byte at least and no more than one
+-- may, and all of them lie in the file.
+pub record IsUpdatePut (store : List ℕ) (p : Put) : Type 0 where
+  pub offset : ℕ
+  pub put : p ≡ update_put store offset p.bytes
+  pub free : write_access (container_in store) ≡ everyone
+  pub low : offset < offset_end
+  pub some : 1 ≤ length p.bytes
+  pub most : length p.bytes ≤ most_brought store
+  pub within : offset + length p.bytes ≤ length (file_in store)
+
+-- a write that a tag with this store can do
 abbrev pub IsPutOf : How → ℕ → List ℕ → Put → Type 0
 IsPutOf T2 size store p = IsBlockPut T2 size 4 store p
-IsPutOf T4 size store p = ⊥
+IsPutOf T4 size store p = IsUpdatePut store p
 IsPutOf (T5 id) size store p = IsBlockPut (T5 id) size 0 store p
 
 abbrev pub of_link : AskFault → WriteFault

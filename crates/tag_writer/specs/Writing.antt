@@ -3,24 +3,18 @@ use Rattle.std.specs.Prelude.{◌≡◌, ◌⊎◌, ℕ, List, [], ◌++◌, tru
 use Rattle.nfc_base.specs.Signal.{Signal}
 use Rattle.nfc_base.specs.TagLinks.{LinkView, Leads, images, Rises}
 use Rattle.tag_reader.specs.declared.how.How.{How}
-use Rattle.tag_reader.specs.declared.how.How.TheVariants.{T2, T4, T5}
 use Rattle.tag_reader.specs.Kinds.{OfTag}
 use Rattle.tag_reader.specs.Calls.{GoesOn, HasSurveyed}
 use Rattle.tag_reader.specs.Reading.{IsCalm}
 use Rattle.tag_writer.specs.declared.fault.WriteFault.{WriteFault}
 use Rattle.tag_writer.specs.declared.phase.Phase.TheVariants.{Prepared}
 use Rattle.tag_writer.specs.declared.work.Work.{Work}
-use Rattle.tag_writer.specs.Place.{TakesNot}
+use Rattle.tag_writer.specs.Place.{Place, Takes, TakesNot}
 use Rattle.tag_writer.specs.Law.{Ending, IsWritten, WriteLaw}
 use Rattle.tag_writer.specs.Faults.{IsWriteFault, IsToldOrMemory, OnTold, is_told, ending_of}
-use Rattle.tag_writer.specs.WriteAsked.{IsWriteAsked, Writes, HasAskedOf}
+use Rattle.tag_writer.specs.WriteAsked.{Parts, all_puts, ArePuts, IsWriteAsked, Writes, HasAskedOf}
+use Rattle.tag_writer.specs.Counts.{AreFew}
 use Rattle.tag_writer.specs.Phases.{Job, Since, IsAt}
-
--- a tag whose memory is an area of TLVs
-abbrev pub IsOfAreas : How → Type 0
-IsOfAreas T2 = Unit {0}
-IsOfAreas T4 = ⊥
-IsOfAreas (T5 id) = Unit {0}
 
 -- All is planned for a message and the store as it stands, and nothing is written.
 pub record IsPrepared (how : How) (size : ℕ) (message : List ℕ) (work : Work) (a b : LinkView) : Type 0 where
@@ -47,6 +41,18 @@ pub record HasBegun (how : How) (size : ℕ) (message : List ℕ) (a b : LinkVie
 abbrev pub HasWritten : How → ℕ → List ℕ → LinkView → LinkView → Type 0
 HasWritten how size message a b = HasSurveyed how size a.state.store a b ⊎ HasBegun how size message a b
 
+-- The store takes the message, and the writes of it are few.
+pub record TakesFew (how : How) (size : ℕ) (store message : List ℕ) : Type 0 where
+  pub place : Place
+  pub takes : Takes how size store message place
+  pub parts : Parts
+  pub are : ArePuts how size store message parts
+  pub few : AreFew how size store place (all_puts parts)
+
+-- Nothing is asked but what is read first, or few writes.
+abbrev pub HasFew : How → ℕ → List ℕ → LinkView → LinkView → Type 0
+HasFew how size message a b = HasSurveyed how size a.state.store a b ⊎ TakesFew how size a.state.store message
+
 -- the stores that a tag passed
 pub record Keeps (how : How) (size : ℕ) (message : List ℕ) (ending : Ending) (a b : LinkView) : Type 0 where
   pub more : List Signal
@@ -65,6 +71,9 @@ KeepsLaw how message a b result = OfTag how a (λ size. Keeps how size message (
 
 abbrev pub WritesInOrder : How → List ℕ → LinkView → LinkView → Type 0
 WritesInOrder how message a b = OfTag how a (λ size. HasWritten how size message a b)
+
+abbrev pub WritesFew : How → List ℕ → LinkView → LinkView → Type 0
+WritesFew how message a b = OfTag how a (λ size. HasFew how size message a b)
 
 abbrev pub WritesAll : {A : Type 0} → How → List ℕ → LinkView → LinkView → Result A WriteFault → Type 0
 WritesAll how message a b result = OfTag how a (λ size. OnTold result (HasWrittenAll how size message a b))

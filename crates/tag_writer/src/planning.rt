@@ -2,16 +2,24 @@
 
 ghost use Rattle.std.specs.Prelude.{◌≡◌, ℕ, List, ◌<◌, IfOk, IfErr};
 ghost use Rattle.tlv_area.specs.declared.space.AreaMap.{AreaMap as Map};
+ghost use Rattle.tag_reader.specs.declared.how.How.TheVariants as hows;
 ghost use Rattle.tag_reader.specs.Kinds.{IsStore};
-ghost use Rattle.tag_reader.specs.Survey.{IsKnownArea};
+ghost use Rattle.tag_reader.specs.Survey.{IsKnownArea, IsKnownFile};
 ghost use Rattle.tag_writer.specs.Planning.{IsPlannedFor, IsDeclined};
 
 use crate::fault::WriteFault;
 use crate::phase::Prepared;
 use crate::work::Work;
+use nfc_base::Items;
 use std::alloc::Global;
 use tag_reader::How;
-use tlv_area::{AreaMap, PlanFault, capacity, plan};
+use tlv_area::{AreaMap, FileMap, PlanFault, capacity, plan};
+
+/// The most bytes that one update brings: their number is spelled by one byte.
+const MOST_BROUGHT: u16 = 255;
+
+/// How many bytes of a file say how long its message is.
+const LENGTH_SIZE: u16 = 2;
 
 /// Plans the writes of a message to an area of which this is known.
 pub fn plan_area(
@@ -40,9 +48,43 @@ pub fn plan_area(
     }
     match plan(alloc, map, known, block, message) {
         Ok(plan) => Ok(Prepared {
-            work: Work { how, plan },
+            work: Work::Blocks { how, plan },
         }),
         Err(PlanFault::TooLong) => unreachable!(),
         Err(PlanFault::Memory) => Err(WriteFault::Memory),
+    }
+}
+
+/// Plans the updates of a file of which this is known. The message is copied, since the phases take no memory.
+pub fn plan_file(
+    alloc: Global,
+    map: FileMap,
+    length: u16,
+    message: &[u8],
+) -> Result<Prepared, WriteFault>
+    ensures ok { (size : ℕ) (store : List ℕ) → IsStore hows.T4 size store → IsKnownFile hows.T4 store map length →
+        IfOk result (λ p. IsPlannedFor hows.T4 size store message.now p.work) }
+    ensures err { (size : ℕ) (store : List ℕ) → IsStore hows.T4 size store → IsKnownFile hows.T4 store map length →
+        IfErr result (IsDeclined hows.T4 size store message.now) }
+{
+    if !map.writable {
+        return Err(WriteFault::ReadOnly);
+    }
+    let room = map.size.saturating_sub(LENGTH_SIZE);
+    if message.len() > usize::from(room) {
+        return Err(WriteFault::TooLong(u32::from(room)));
+    }
+    if map.mlc < LENGTH_SIZE {
+        return Err(WriteFault::ShortMlc);
+    }
+    match Items::from_bytes(alloc, message) {
+        Ok(message) => Ok(Prepared {
+            work: Work::File {
+                message,
+                most: map.mlc.min(MOST_BROUGHT),
+                close: length > 0,
+            },
+        }),
+        Err(_) => Err(WriteFault::Memory),
     }
 }

@@ -7,11 +7,11 @@ ghost use Rattle.tag_reader.specs.Kinds.{IsTag, OfTag};
 ghost use Rattle.tag_reader.specs.Reading.{KeepsStore, AsksInOrder};
 ghost use Rattle.tag_writer.specs.Faults.{OnTold};
 ghost use Rattle.tag_writer.specs.Planning.{of_read};
-ghost use Rattle.tag_writer.specs.Writing.{IsOfAreas, IsPrepared, LeavesLink, LeavesUntaken, TellsCause, TellsInCalm};
+ghost use Rattle.tag_writer.specs.Writing.{IsPrepared, LeavesLink, LeavesUntaken, TellsCause, TellsInCalm};
 
 use crate::fault::WriteFault;
 use crate::phase::Prepared;
-use crate::planning::plan_area;
+use crate::planning::{plan_area, plan_file};
 use nfc_base::TagLink;
 use std::alloc::Global;
 use tag_reader::{Ground, How, ReadFault, survey};
@@ -45,7 +45,6 @@ pub fn prepare<T: TagLink>(
     requires ready { T.ready link.old }
     // it leads to a tag of that kind, with that identifier
     requires tag { (size : ℕ) × IsTag how size (T.seen link.old) }
-    requires kind { IsOfAreas how }
     // the store stays, in each image
     ensures stays { KeepsStore how (T.seen link.old) (T.seen link.new) }
     // what was answered is the first of what is read, and all of it unless the link or memory failed
@@ -69,6 +68,6 @@ pub fn prepare<T: TagLink>(
         Ok(Ground::Area { known, block, map }) => {
             plan_area(alloc, how, known.as_slice(), block, &map, message)
         }
-        Ok(Ground::File(_)) => unreachable!(),
+        Ok(Ground::File { map, length }) => plan_file(alloc, map, length, message),
     }
 }

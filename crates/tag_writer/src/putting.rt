@@ -93,7 +93,7 @@ pub fn put_all<T: TagLink>(
     ensures same { T.lenders link.new ≡ T.lenders link.old }
     ensures moves { T.moves link.old link.new }
 {
-    let how = work.how;
+    let how = work.how();
     for index in 0..work.count(phase) {
         let command = work.command(phase, index);
         put(alloc, link, how, &command)?;

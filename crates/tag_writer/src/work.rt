@@ -1,18 +1,22 @@
 //! What is written, once all of it is planned.
 
-ghost use Rattle.std.specs.Prelude.{◌≡◌, ◌<◌, ℕ, length};
+ghost use Rattle.std.specs.Prelude.{◌≡◌, ◌+◌, ◌*◌, ◌<◌, ◌≤◌, ℕ, List, length, take, drop};
 ghost use Rattle.std.specs.List.{AllByRecursion};
+ghost use Rattle.t4t_tag.specs.Spelling.{offset_end};
+ghost use Rattle.t4t_tag.specs.declared.command.T4Command.TheVariants as t4;
 ghost use Rattle.tag_reader.specs.declared.how.How.{How};
 ghost use Rattle.tag_reader.specs.declared.how.How.TheVariants as hows;
+ghost use Rattle.tag_reader.specs.Files.{file_frame};
 ghost use Rattle.tag_writer.specs.Puts.{block_command, block_puts};
 ghost use Rattle.tag_writer.specs.Puttings.{signal_at};
-ghost use Rattle.tag_writer.specs.Phases.{Job, Serves, IsWork, next_at};
-ghost use Rattle.tag_writer.specs.Works.{IsStepFor, steps_at};
+ghost use Rattle.tag_writer.specs.Phases.{Job, Serves, IsWork, IsFileWork, next_at};
+ghost use Rattle.tag_writer.specs.Works.{IsStepFor, steps_at, updates_at, AreUpdatesFor, IsPieceAt};
 
 use crate::phase::Phase;
 use arrayvec::ArrayVec;
-use nfc_base::Frame;
+use nfc_base::{Frame, Items, Tech};
 use t2t_tag::T2Command;
+use t4t_tag::T4Command;
 use t5t_tag::T5Command;
 use tag_reader::How;
 use tlv_area::{Plan, Step};
@@ -20,11 +24,24 @@ use tlv_area::{Plan, Step};
 /// How many blocks numbers of one byte can name.
 const SHORT_NUMBERS: u16 = 256;
 
-/// The plan of the blocks of a tag of this kind.
+/// How many bytes of a file say how long its message is; the message stands behind them.
+const LENGTH_SIZE: u16 = 2;
+
+/// What is written to a tag.
 #[derive(Debug, Drop)]
-pub struct Work {
-    pub how: How,
-    pub plan: Plan,
+pub enum Work {
+    /// The plan of the blocks of a tag of this kind.
+    Blocks {
+        how: How,
+        plan: Plan,
+    },
+    /// To the file of a Type 4 tag: the message, the most bytes of it that one update brings, and whether the length has
+    /// to become 0 first.
+    File {
+        message: Items<u8>,
+        most: u16,
+        close: bool,
+    },
 }
 
 /// The command that writes a block.
@@ -97,19 +114,100 @@ fn step_count(plan: &Plan, phase: Phase) -> usize
     }
 }
 
+/// The update of the file from an offset on.
+fn update_frame(offset: u16, bytes: &[u8]) -> Frame
+    requires offset { offset < offset_end }
+    requires some { 1 ≤ length bytes.now }
+    requires most { length bytes.now ≤ 255 }
+    ensures { result ≡ file_frame (t4.UpdateBinary offset (record { items = bytes.now })) }
+{
+    let mut content = ArrayVec::new();
+    content.try_extend_from_slice(bytes).unwrap();
+    let spelled = T4Command::UpdateBinary { offset, content }.to_bytes();
+    Frame::whole(Tech::A, spelled.as_slice()).unwrap()
+}
+
+/// The update that brings the `index`-th piece of the message.
+fn piece_frame(message: &[u8], most: u16, index: usize) -> Frame
+    requires { IsPieceAt message.now most index }
+    ensures { result ≡ file_frame (t4.UpdateBinary (2 + most * index)
+        (record { items = take most (drop (most * index) message.now) })) }
+{
+    let taken = most as usize * index;
+    let end = message.len().min(taken + most as usize);
+    update_frame(LENGTH_SIZE + taken as u16, &message[taken..end])
+}
+
+/// The update that is the `index`-th behind a phase.
+fn update_at(message: &[u8], most: u16, phase: Phase, index: usize) -> Frame
+    requires { (store : List ℕ) × AreUpdatesFor phase store message.now most index }
+    ensures { (store : List ℕ) → AreUpdatesFor phase store message.now most index →
+        result ≡ signal_at (updates_at phase store message.now) index }
+{
+    match phase {
+        Phase::Prepared => update_frame(0, &[0, 0]),
+        Phase::Emptied => piece_frame(message, most, index),
+        Phase::Filled => {
+            let length = message.len();
+            update_frame(0, &[(length / 256) as u8, (length % 256) as u8])
+        }
+    }
+}
+
+fn update_count(message: &[u8], most: u16, close: bool, phase: Phase) -> usize
+    requires { 1 ≤ most }
+    ensures { (j : Job) → IsFileWork j message.now most close → result ≡ length (updates_at phase j.store message.now) }
+{
+    match phase {
+        Phase::Prepared => usize::from(close),
+        Phase::Emptied => message.len().div_ceil(most as usize),
+        Phase::Filled => usize::from(!message.is_empty()),
+    }
+}
+
 impl Work {
+    /// The kind of the tag.
+    pub fn how(&self) -> How
+        ensures { (j : Job) → IsWork j self.now → result ≡ j.how }
+    {
+        match self {
+            Work::Blocks { how, plan: _ } => *how,
+            Work::File {
+                message: _,
+                most: _,
+                close: _,
+            } => How::T4,
+        }
+    }
+
     /// How many writes follow a phase.
     pub fn count(&self, phase: Phase) -> usize
+        requires { (j : Job) × IsWork j self.now }
         ensures { (j : Job) → IsWork j self.now → result ≡ length (next_at phase j) }
     {
-        step_count(&self.plan, phase)
+        match self {
+            Work::Blocks { how: _, plan } => step_count(plan, phase),
+            Work::File {
+                message,
+                most,
+                close,
+            } => update_count(message.as_slice(), *most, *close, phase),
+        }
     }
 
     /// The command of the `index`-th of them, counted from 0.
     pub fn command(&self, phase: Phase, index: usize) -> Frame
         requires { (j : Job) × Serves j × IsWork j self.now × (index < length (next_at phase j)) }
-        ensures { (j : Job) → Serves j → IsWork j self.now → result ≡ signal_at (next_at phase j) index }
+        ensures { (j : Job) → Serves j → IsWork j self.now → index < length (next_at phase j) →
+            result ≡ signal_at (next_at phase j) index }
     {
-        block_frame(self.how, step_at(&self.plan, phase, index))
+        match self {
+            Work::Blocks { how, plan } => block_frame(*how, step_at(plan, phase, index)),
+            Work::File {
+                message,
+                most,
+                close: _,
+            } => update_at(message.as_slice(), *most, phase, index),
+        }
     }
 }

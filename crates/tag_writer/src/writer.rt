@@ -9,7 +9,7 @@ ghost use Rattle.tag_writer.specs.Ends.{StopsSince, IsOpened};
 ghost use Rattle.tag_writer.specs.Faults.{IsToldOrMemory};
 ghost use Rattle.tag_writer.specs.Law.{IsWritten};
 ghost use Rattle.tag_writer.specs.Phases.{Job, Since, IsAt};
-ghost use Rattle.tag_writer.specs.Writing.{IsOfAreas, KeepsLaw, WritesInOrder, WritesAll, LeavesLink, TellsSuccess, TellsCause, TellsInCalm};
+ghost use Rattle.tag_writer.specs.Writing.{KeepsLaw, WritesInOrder, WritesFew, WritesAll, LeavesLink, TellsSuccess, TellsCause, TellsInCalm};
 
 use crate::fault::WriteFault;
 use crate::phase::{Opened, Prepared, Stopped};
@@ -39,7 +39,8 @@ fn open<T: TagLink>(alloc: Global, link: &mut T, prepared: Prepared) -> Result<O
     filled.finish(alloc, link)
 }
 
-/// Writes a message to the tag behind a link, in the place of the one that it holds (NFC Forum Type 2 and Type 5 Tag).
+/// Writes a message to the tag behind a link, in the place of the one that it holds (NFC Forum Type 2,
+/// Type 4 and Type 5 Tag).
 /// Whatever stops it, the tag holds the old message, the empty one or the new one.
 pub fn write<T: TagLink>(
     alloc: Global,
@@ -50,11 +51,12 @@ pub fn write<T: TagLink>(
     requires ready { T.ready link.old }
     // it leads to a tag of that kind, with that identifier
     requires tag { (size : ℕ) × IsTag how size (T.seen link.old) }
-    requires kind { IsOfAreas how }
     // the law over the images, whatever the answer is
     ensures law { KeepsLaw how message.now (T.seen link.old) (T.seen link.new) result }
     // what was answered is the first of what is asked, and all of it unless the link or memory failed
     ensures asked { WritesInOrder how message.now (T.seen link.old) (T.seen link.new) }
+    // and of that the writes are few
+    ensures few { WritesFew how message.now (T.seen link.old) (T.seen link.new) }
     ensures whole { WritesAll how message.now (T.seen link.old) (T.seen link.new) result }
     // by what it then tells the link doesn't end
     ensures goes_on { LeavesLink how (T.seen link.old) (T.seen link.new) result }

@@ -96,7 +96,7 @@ all_whole size n old new (s ∷ ss) us room sizes each below more =
     )
 
 -- a message within the capacity fits
-fits_in : (message : List ℕ) (n : ℕ) → 2 ≤ n → length message ≤ capacity_of n → (length message < 65535) × (length (new_tail message) + 1 ≤ n)
+pub fits_in : (message : List ℕ) (n : ℕ) → 2 ≤ n → length message ≤ capacity_of n → (length message < 65535) × (length (new_tail message) + 1 ≤ n)
 fits_in message n some within = elim (cases_Bool (leb n 256)) [
   | inl a ↦ (let low : n ≤ 256 = leb-true n 256 a in let cap : length message ≤ n - 2 = rw a at within in
       let short : ltb 254 (length message) ≡ false = le-ltb 254 (length message) (omega arith) in

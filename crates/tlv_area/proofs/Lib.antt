@@ -21,3 +21,4 @@ pub mod Images
 pub mod Grown
 pub mod StoreForms
 pub mod Walks
+pub mod SomePlan

@@ -1,10 +1,10 @@
--- Whether the walk over an area needs a byte behind the memory: it does, or it doesn't.
+-- Whether the walk over an area needs a byte behind the memory, and whether it comes to a message: it does, or it doesn't.
 use Rattle.std.proofs.Common.{◌≡◌, ◌≢◌, ℕ, suc, zero, ◌+◌, ◌-◌, ◌*◌, ◌<◌, ◌≤◌, Bool, true, false, List, [], ◌∷◌, ◌++◌, length, refl, sym, ◌∙◌, ap, arith, subst, ltb, eqb, take, drop, inl, inr, ◌⊎◌, append_assoc}
 use Rattle.std.specs.Prelude.{◌&&◌, ◌||◌, slice_index}
 use Rattle.std.proofs.lemmas.List.{take-append-drop}
 use Rattle.std.proofs.lemmas.Bool.{cases_lt, cases_eq, cases_Bool}
 use Rattle.tlv_area.specs.declared.space.Space.{Space}
-use Rattle.tlv_area.specs.Layout.{free, is_known, bytes_at, spelling, Tlv, IsTlv, LiesIn, length_limit, reserved_by, reserves}
+use Rattle.tlv_area.specs.Layout.{free, is_known, bytes_at, spelling, Tlv, IsTlv, LiesIn, length_limit, reserved_by, reserves, Layout}
 use Rattle.tlv_area.specs.Form.{Next, End, Fault, Unknown, Item, next, length_next, long_next, value_next, NeedsMore}
 use Rattle.tlv_area.specs.Walking.{Trail}
 use Rattle.tlv_area.proofs.Free.{free_split}
@@ -75,7 +75,7 @@ next_begins memory (a ∷ cells) t is =
     ]
 
 -- whether a TLV lies in a memory is decided, part by part
-bytes_decided : (xs ys : List ℕ) → (xs ≡ ys) ⊎ (xs ≡ ys → ⊥)
+pub bytes_decided : (xs ys : List ℕ) → (xs ≡ ys) ⊎ (xs ≡ ys → ⊥)
 bytes_decided [] [] = inl refl
 bytes_decided [] (y ∷ ys) = inr (λ e. cc e)
 bytes_decided (x ∷ xs) [] = inr (λ e. cc e)
@@ -120,16 +120,25 @@ lies_decided memory t = elim (proper_decided t) [
   ]
 ]
 
-module _ (space : Space) (memory : List ℕ) where
+-- What a walk looks for at what stands next, which is no TLV but a message.
+record IsSought (Is : Next → Type 0) : Type 0 where
+  pub decide : (x : Next) → Is x ⊎ (Is x → ⊥)
+  pub stops : (t : Tlv) → Is (Item t) → t.kind ≡ 3
+
+module _ (space : Space) (memory : List ℕ) (Is : Next → Type 0) (sought : IsSought Is) where
   abbrev left : (ℕ → Bool) → ℕ → List ℕ
   left r at = free r at space.end
 
   abbrev Walks : (ℕ → Bool) → ℕ → List Tlv → List ℕ → Type 0
   Walks r at us rest = Steps memory space.control space.end r at us rest
 
-  -- no TLVs from `at` on lead to where a byte is needed
+  -- a layout is followed by it
+  abbrev Found : Type 0
+  Found = (ts : List Tlv) × (rest : List ℕ) × Layout space memory ts rest × Is (next memory rest)
+
+  -- no TLVs from `at` on lead to it
   abbrev Never : (ℕ → Bool) → ℕ → Type 0
-  Never r at = (us : List Tlv) (rest : List ℕ) → Walks r at us rest → next memory rest ≡ Unknown → ⊥
+  Never r at = (us : List Tlv) (rest : List ℕ) → Walks r at us rest → Is (next memory rest) → ⊥
 
   -- the first of some TLVs stands next
   first : (r : ℕ → Bool) (at : ℕ) (u : Tlv) (us : List Tlv) (rest : List ℕ) → Walks r at (u ∷ us) rest → next memory (left r at) ≡ Item u
@@ -137,16 +146,16 @@ module _ (space : Space) (memory : List ℕ) where
       let order : at ≤ steps.0 = omega (arith, steps.1) in
       ap (λ c. next memory c) (free_split r at steps.0 space.end order steps.2 ∙ ap (λ c. c ++ free r steps.0 space.end) (sym steps.3)) ∙ next_there memory u (free r steps.0 space.end) steps.5
 
-  never : (r : ℕ → Bool) (at : ℕ) (x : Next) → next memory (left r at) ≡ x → (x ≡ Unknown → ⊥)
+  never : (r : ℕ → Bool) (at : ℕ) (x : Next) → next memory (left r at) ≡ x → (Is x → ⊥)
       → ((u : Tlv) → x ≡ Item u → LiesIn memory u → u.kind ≢ 3 → ⊥) → Never r at
-  never r at x e known item [] rest steps is = known (sym e ∙ ap (λ c. next memory c) (sym steps) ∙ is)
-  never r at x e known item (u ∷ us) rest steps is = item u (sym e ∙ first r at u us rest steps) steps.5 steps.6
+  never r at x e none item [] rest steps is = none (subst Is (ap (λ c. next memory c) steps ∙ e) is)
+  never r at x e none item (u ∷ us) rest steps is = item u (sym e ∙ first r at u us rest steps) steps.5 steps.6
 
   -- behind a TLV that stands next
-  never_behind : (r : ℕ → Bool) (at p : ℕ) (t : Tlv) → next memory (left r at) ≡ Item t → at < p → r (p - 1) ≡ false → t.at ≡ free r at p
+  never_behind : (r : ℕ → Bool) (at p : ℕ) (t : Tlv) → next memory (left r at) ≡ Item t → t.kind ≢ 3 → at < p → r (p - 1) ≡ false → t.at ≡ free r at p
       → Never (λ a. r a || (space.control && reserves t a)) p → Never r at
-  never_behind r at p t e up open_cell cells none [] rest steps is = (let h : Item t ≡ Unknown = sym e ∙ ap (λ c. next memory c) (sym steps) ∙ is in cc)
-  never_behind r at p t e up open_cell cells none (u ∷ us) rest steps is =
+  never_behind r at p t e plain up open_cell cells none [] rest steps is = plain (sought.stops t (subst Is (ap (λ c. next memory c) steps ∙ e) is))
+  never_behind r at p t e plain up open_cell cells none (u ∷ us) rest steps is =
       let same : u ≡ t = item_same u t (sym (first r at u us rest steps) ∙ e) in
       let past : steps.0 ≡ p = same_past r at steps.0 p steps.1 up steps.4 open_cell (sym steps.3 ∙ ap (λ v. v.at) same ∙ cells) in
       let moved : Walks (λ a. r a || (space.control && reserves t a)) p us rest =
@@ -154,9 +163,9 @@ module _ (space : Space) (memory : List ℕ) where
       (subst (λ n. Walks (λ a. r a || (space.control && reserves u a)) n us rest) past steps.7) in
       none us rest moved is
 
-  -- a byte is needed, or none is from `at` on
+  -- a layout leads to it, or none does from `at` on
   abbrev Decides : (ℕ → Bool) → ℕ → Type 0
-  Decides r at = NeedsMore space memory ⊎ Never r at
+  Decides r at = Found ⊎ Never r at
 
   -- what is decided of each walk that has come further decides of this one
   behind : (ts : List Tlv) (at : ℕ) (r : ℕ → Bool) → space.start ≤ at → at ≤ space.end → Trail space memory ts at r
@@ -171,20 +180,28 @@ module _ (space : Space) (memory : List ℕ) where
       let more = trail_more space memory ts t at parts.0 r (λ a. r a || (space.control && reserves t a)) trail low parts.1.up cells parts.1.last lies plain (λ a. refl) in
       elim (further (ts ++ t ∷ []) parts.0 (λ a. r a || (space.control && reserves t a)) parts.1.up parts.1.below more) [
         | inl needs ↦ inl needs
-        | inr none ↦ inr (never_behind r at parts.0 t e parts.1.up parts.1.last cells none)
+        | inr none ↦ inr (never_behind r at parts.0 t e plain parts.1.up parts.1.last cells none)
       ]
+
+  -- what stands next isn't a TLV that is gone past
+  by_stop : (ts : List Tlv) (at : ℕ) (r : ℕ → Bool) → space.start ≤ at → at ≤ space.end → Trail space memory ts at r → (x : Next) → next memory (left r at) ≡ x
+      → ((u : Tlv) → x ≡ Item u → LiesIn memory u → u.kind ≢ 3 → ⊥) → Decides r at
+  by_stop ts at r low high trail x e item = elim (sought.decide x) [
+    | inl is ↦ inl (ts, left r at, trail_layout space memory ts at r trail low high, subst Is (sym e) is)
+    | inr none ↦ inr (never r at x e none item)
+  ]
 
   by_next : (ts : List Tlv) (at : ℕ) (r : ℕ → Bool) → space.start ≤ at → at ≤ space.end → Trail space memory ts at r
       → ((us : List Tlv) (p : ℕ) (s : ℕ → Bool) → at < p → p ≤ space.end → Trail space memory us p s → Decides s p)
       → (x : Next) → next memory (left r at) ≡ x → Decides r at
-  by_next ts at r low high trail further End e = inr (never r at End e (λ h. cc h) (λ u h lies plain. cc h))
-  by_next ts at r low high trail further Fault e = inr (never r at Fault e (λ h. cc h) (λ u h lies plain. cc h))
-  by_next ts at r low high trail further Unknown e = inl (ts, left r at, trail_layout space memory ts at r trail low high, e)
+  by_next ts at r low high trail further End e = by_stop ts at r low high trail End e (λ u h lies plain. cc h)
+  by_next ts at r low high trail further Fault e = by_stop ts at r low high trail Fault e (λ u h lies plain. cc h)
+  by_next ts at r low high trail further Unknown e = by_stop ts at r low high trail Unknown e (λ u h lies plain. cc h)
   by_next ts at r low high trail further (Item t) e = elim (cases_eq t.kind 3) [
-    | inl message ↦ inr (never r at (Item t) e (λ h. cc h) (λ u h lies plain. plain (sym (ap (λ v. v.kind) (item_same t u h)) ∙ message)))
+    | inl message ↦ by_stop ts at r low high trail (Item t) e (λ u h lies plain. plain (sym (ap (λ v. v.kind) (item_same t u h)) ∙ message))
     | inr plain ↦ elim (lies_decided memory t) [
       | inl lies ↦ behind ts at r low high trail further t e plain lies
-      | inr other ↦ inr (never r at (Item t) e (λ h. cc h) (λ u h lies k. other (subst (LiesIn memory) (sym (item_same t u h)) lies)))
+      | inr other ↦ by_stop ts at r low high trail (Item t) e (λ u h lies k. other (subst (LiesIn memory) (sym (item_same t u h)) lies))
     ]
   ]
 
@@ -194,11 +211,69 @@ module _ (space : Space) (memory : List ℕ) where
   decided (suc fuel) ts at r enough low high trail =
       by_next ts at r low high trail (λ us p s up below walked. decided fuel us p s (omega arith) (omega arith) below walked) (next memory (left r at)) refl
 
-  pub needing : space.start ≤ space.end → NeedsMore space memory ⊎ (NeedsMore space memory → ⊥)
-  needing order =
+  seeking : space.start ≤ space.end → Found ⊎ (Found → ⊥)
+  seeking order =
       elim (decided (suc space.end) [] space.start (λ _. false) (omega arith) (omega arith) order (trail_none space memory (λ _. false) (λ a. refl))) [
         | inl needs ↦ inl needs
         | inr none ↦ inr (λ m. none m.0 m.1
             (layout_steps memory space.control space.end (λ _. false) (reserved_by space.control m.0) space.start m.0 m.1 (λ a. refl) m.2.addresses order m.2.lie m.2.plain)
             m.3)
       ]
+
+-- a byte that isn't known
+unknown_sought : IsSought (λ x. x ≡ Unknown)
+unknown_sought = record { decide = decide; stops = λ t e. cc e }
+  where
+    decide : (x : Next) → (x ≡ Unknown) ⊎ (x ≡ Unknown → ⊥)
+    decide End = inr (λ e. cc e)
+    decide Fault = inr (λ e. cc e)
+    decide Unknown = inl refl
+    decide (Item t) = inr (λ e. cc e)
+
+pub needing : (space : Space) (memory : List ℕ) → space.start ≤ space.end → NeedsMore space memory ⊎ (NeedsMore space memory → ⊥)
+needing space memory order = seeking space memory (λ x. x ≡ Unknown) unknown_sought order
+
+-- the message
+abbrev IsMessage : List ℕ → Next → Type 0
+IsMessage memory End = ⊥
+IsMessage memory Fault = ⊥
+IsMessage memory Unknown = ⊥
+IsMessage memory (Item t) = (t.kind ≡ 3) × LiesIn memory t
+
+message_sought : (memory : List ℕ) → IsSought (IsMessage memory)
+message_sought memory = record { decide = decide; stops = λ t is. is.0 }
+  where
+    decide : (x : Next) → IsMessage memory x ⊎ (IsMessage memory x → ⊥)
+    decide End = inr (λ e. e)
+    decide Fault = inr (λ e. e)
+    decide Unknown = inr (λ e. e)
+    decide (Item t) = elim (cases_eq t.kind 3) [
+      | inr other ↦ inr (λ is. other is.0)
+      | inl kind ↦ elim (lies_decided memory t) [
+        | inr other ↦ inr (λ is. other is.1)
+        | inl lies ↦ inl (kind, lies)
+      ]
+    ]
+
+-- A layout is followed by a message.
+pub record HoldsOne (space : Space) (memory : List ℕ) : Type 0 where
+  pub ts : List Tlv
+  pub t : Tlv
+  pub after : List ℕ
+  pub layout : Layout space memory ts (t.at ++ after)
+  pub lies : LiesIn memory t
+  pub kind : t.kind ≡ 3
+
+pub holding : (space : Space) (memory : List ℕ) → space.start ≤ space.end → HoldsOne space memory ⊎ (HoldsOne space memory → ⊥)
+holding space memory order = elim (seeking space memory (IsMessage memory) (message_sought memory) order) [
+  | inl found ↦ inl (there found.0 found.1 found.2 (next memory found.1) refl found.3)
+  | inr none ↦ inr (λ h. none (h.ts, h.t.at ++ h.after, h.layout, subst (IsMessage memory) (sym (next_there memory h.t h.after h.lies)) (h.kind, h.lies)))
+]
+  where
+    there : (ts : List Tlv) (rest : List ℕ) → Layout space memory ts rest → (x : Next) → next memory rest ≡ x → IsMessage memory x → HoldsOne space memory
+    there ts rest layout End e is = absurd is
+    there ts rest layout Fault e is = absurd is
+    there ts rest layout Unknown e is = absurd is
+    there ts rest layout (Item t) e is =
+        let begins = next_begins memory rest t e in
+        record { ts = ts; t = t; after = begins.0; layout = subst (Layout space memory ts) begins.1 layout; lies = is.1; kind = is.0 }

@@ -1,6 +1,7 @@
 use Rattle.isodep_link.specs.IsoLinks.{seen_link}
 use Rattle.bench_devices.specs.Device.{size_of}
-use Rattle.bench_devices.proofs.CardReadingLinks.{new_ready, new_tag, ends_read, cut_read}
+use Rattle.bench_devices.proofs.CardLinks.{new_ready, new_tag}
+use Rattle.bench_devices.proofs.CardReadingLinks.{ends_read, cut_read}
 use Rattle.bench_devices.proofs.reading.read_linked.Goals as goal
 
 pub read-requires-clause-ready : goal.read-requires-clause-ready
@@ -14,9 +15,14 @@ read-requires-clause-of c =
 pub returns-clause-tells : goal.returns-clause-tells
 returns-clause-tells c fed d linked =
     let tag = new_tag (seen_link c.args.link.now) c.requires.fresh d linked in
-    ends_read (seen_link c.args.link.now) c.requires.fresh d linked (seen_link c.read.new.link) c.read.ensures.moves c.read.result (c.read.ensures.stays (size_of d) tag).store
-    (c.read.ensures.asked (size_of d) tag) (c.read.ensures.whole (size_of d) tag) (c.read.ensures.goes_on (size_of d) tag) (c.read.ensures.ok (size_of d) tag)
-    (c.read.ensures.err (size_of d) tag) (c.read.ensures.calm (size_of d) tag) fed
+    ends_read (seen_link c.args.link.now) c.requires.fresh d linked (seen_link c.read.new.link) c.read.ensures.moves c.read.result fed (c.read.ensures.stays (size_of d) tag).store (record {
+      order = c.read.ensures.asked (size_of d) tag;
+      all = c.read.ensures.whole (size_of d) tag;
+      goes_on = c.read.ensures.goes_on (size_of d) tag;
+      ok = c.read.ensures.ok (size_of d) tag;
+      err = c.read.ensures.err (size_of d) tag;
+      calm = c.read.ensures.calm (size_of d) tag;
+    })
 
 pub returns-clause-cut : goal.returns-clause-cut
 returns-clause-cut c starved d linked =

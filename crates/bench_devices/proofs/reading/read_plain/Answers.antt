@@ -1,8 +1,16 @@
-use Rattle.std.proofs.Common.{subst}
+use Rattle.std.proofs.Common.{rules, subst}
+use Rattle.air_core.specs.Turn.{moment}
 use Rattle.bench_devices.specs.Linking.{IsPlainHow}
+use Rattle.bench_devices.specs.Phases.{ReadsAt}
+use Rattle.bench_devices.proofs.NewLinks.{given_back}
 use Rattle.bench_devices.proofs.ReadingTags.{has_tag}
 use Rattle.bench_devices.proofs.reading.read_plain.Goals as goal
 
 pub on-link-requires : goal.on-link-requires
 on-link-requires c =
     record { tag = has_tag c.args.field.now c.args.place c.requires.0 c.requires.1 (subst IsPlainHow c.requires.2 c.requires.3) }
+
+pub returns-clause-tells : goal.returns-clause-tells
+returns-clause-tells c =
+    given_back (λ a b n. ReadsAt (moment a) (moment b) n c.read_by.result) c.on-link.result.field.now c.read_by.new.link.field.now c.args.field.now _ c.on-link.result.place c.args.place
+    (search rules) (search rules) (search rules) c.read_by.ensures.tells

@@ -14,14 +14,14 @@ returns-in_err-map-clause-surveys g c size is =
     let is_err : c.from_residual.result ≡ Err c.in_err-map.field-0.0 = search rules in
     subst (λ x. IsSurveyMade T4 size a new x) (sym is_err) (is_ended size a new c.in_err-map.field-0.0 (c.in_err-map.ensures.opens ToWrite size is))
 
-pub returns-in_err-read_length-clause-surveys : goal.returns-in_err-read_length-clause-surveys
-returns-in_err-read_length-clause-surveys g c size is =
+pub returns-in_err-length-clause-surveys : goal.returns-in_err-length-clause-surveys
+returns-in_err-length-clause-surveys g c size is =
     let a : LinkView = g.T.TagLink.seen c.args.link.now in
     let new : LinkView = g.T.TagLink.seen c.read_length.new.link in
-    let is_err : c.from_residual-in_err-read_length.result ≡ Err c.in_err-read_length.field-0.0 = search rules in
-    subst (λ x. IsSurveyMade T4 size a new x) (sym is_err) (is_ended size a new c.in_err-read_length.field-0.0 (c.in_err-read_length.ensures.measures ToWrite size a (c.in_ok-map.ensures.opens ToWrite size is)))
+    let is_err : c.from_residual-in_err-length.result ≡ Err c.in_err-length.field-0.0 = search rules in
+    subst (λ x. IsSurveyMade T4 size a new x) (sym is_err) (is_ended size a new c.in_err-length.field-0.0 (c.in_err-length.ensures.measures ToWrite size a (c.in_ok-map.ensures.opens ToWrite size is)))
 
 pub returns-clause-surveys : goal.returns-clause-surveys
 returns-clause-surveys g c size is =
     let a : LinkView = g.T.TagLink.seen c.args.link.now in
-    file_made size a (g.T.TagLink.seen c.read_length.new.link) c.in_ok-map.map c.in_ok-read_length.field-0 (c.in_ok-read_length.ensures.measures ToWrite size a (c.in_ok-map.ensures.opens ToWrite size is))
+    file_made size a (g.T.TagLink.seen c.read_length.new.link) c.in_ok-map.map c.in_ok-length.length (c.in_ok-length.ensures.measures ToWrite size a (c.in_ok-map.ensures.opens ToWrite size is))

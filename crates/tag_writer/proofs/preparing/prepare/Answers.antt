@@ -1,12 +1,13 @@
 use Rattle.std.proofs.Common.{◌≡◌, true, refl, sym, ◌∙◌, ap, subst}
 use Rattle.std.specs.Prelude.{Result, Ok, Err, IfOk, IfErr}
 use Rattle.nfc_base.specs.TagLinks.{LinkView}
-use Rattle.tag_reader.specs.Survey.{IsGround, IsKnownArea}
+use Rattle.tag_reader.specs.Survey.{IsGround, IsKnownArea, IsKnownFile}
 use Rattle.tag_writer.specs.declared.fault.WriteFault.{WriteFault}
 use Rattle.tag_writer.specs.Place.{TakesNot}
-use Rattle.tag_writer.specs.Faults.{IsWriteFault, is_told}
-use Rattle.tag_writer.specs.Planning.{of_read, IsDeclined}
-use Rattle.tag_writer.proofs.Causes.{read_cause, declined_cause}
+use Rattle.tag_writer.specs.Faults.{IsWriteFault, is_told, IsToldOrMemory}
+use Rattle.tag_writer.specs.Planning.{of_read, IsPlannedFor, IsDeclined}
+use Rattle.tag_writer.proofs.Causes.{read_cause, declined_cause, declined_calm}
+use Rattle.tag_writer.proofs.FileKnown.{for_file}
 use Rattle.tag_writer.proofs.OnePlace.{read_takes_not, declined_takes_not}
 use Rattle.tag_writer.proofs.Starting.{IsTold, prepared}
 use Rattle.tag_writer.proofs.preparing.prepare.Goals as goal
@@ -58,7 +59,7 @@ returns-in-Ok-Area-clause-err g c size is =
 pub returns-in-Err-clause-untaken : goal.returns-in-Err-clause-untaken
 returns-in-Err-clause-untaken g c size is t =
     let e : c.of_read.result ≡ of_read c.in-Err.fault = c.of_read.ensures in
-    read_takes_not c.args.how size c.args.message.now (g.T.TagLink.seen c.args.link.now) (g.T.TagLink.seen c.survey.new.link) c.in-Err.fault c.requires.kind (c.in-Err.ensures.err size is)
+    read_takes_not c.args.how size c.args.message.now (g.T.TagLink.seen c.args.link.now) (g.T.TagLink.seen c.survey.new.link) c.in-Err.fault (c.in-Err.ensures.err size is)
     (ap is_told (sym e) ∙ t)
 
 pub returns-in-Ok-Area-clause-untaken : goal.returns-in-Ok-Area-clause-untaken
@@ -68,4 +69,53 @@ returns-in-Ok-Area-clause-untaken g c size is =
     subst (λ k. IsKnownArea c.args.how size a.state.store k c.in-Ok-Area.block c.in-Ok-Area.map) (sym c.as_slice.ensures)
     (subst (λ ground. IsGround c.args.how size a.state.store ground) c.in-Ok-Area.field-0-is (c.in-Ok-Area.ensures.ok size is).ground') in
     err_map (IsDeclined c.args.how size a.state.store c.args.message.now) (λ e. is_told e ≡ true → TakesNot c.args.how size a.state.store c.args.message.now) c.plan_area.result
-    (λ e d t. declined_takes_not c.args.how size a.state.store c.args.message.now e c.requires.kind d t) (c.plan_area.ensures.err size a.state.store is.store known)
+    (λ e d t. declined_takes_not c.args.how size a.state.store c.args.message.now e d t) (c.plan_area.ensures.err size a.state.store is.store known)
+
+pub returns-in-Ok-File-clause-ok : goal.returns-in-Ok-File-clause-ok
+returns-in-Ok-File-clause-ok g c size is =
+    let a : LinkView = g.T.TagLink.seen c.args.link.now in
+    let b : LinkView = g.T.TagLink.seen c.survey.new.link in
+    let told : IsTold c.args.how size a.state.store a b = record {
+      tag = is;
+      store' = refl;
+      stays = c.in-Ok-File.ensures.stays size is;
+      asked = c.in-Ok-File.ensures.asked size is;
+      whole = c.in-Ok-File.ensures.whole size is;
+      goes_on = c.in-Ok-File.ensures.goes_on size is;
+      state = (c.in-Ok-File.ensures.ok size is).state;
+    } in
+    let known : IsKnownFile c.args.how a.state.store c.in-Ok-File.map c.in-Ok-File.length =
+    subst (λ ground. IsGround c.args.how size a.state.store ground) c.in-Ok-File.field-0-is (c.in-Ok-File.ensures.ok size is).ground' in
+    let planned = for_file (λ how. IfOk c.plan_file.result (λ p. IsPlannedFor how size a.state.store c.args.message.now p.work)) c.args.how size a.state.store c.in-Ok-File.map c.in-Ok-File.length
+    is.store known (c.plan_file.ensures.ok size a.state.store) in
+    ok_map _ _ c.plan_file.result (λ p planned. prepared c.args.how size a.state.store c.args.message.now p.work a b told planned) planned
+
+pub returns-in-Ok-File-clause-err : goal.returns-in-Ok-File-clause-err
+returns-in-Ok-File-clause-err g c size is =
+    let a : LinkView = g.T.TagLink.seen c.args.link.now in
+    let b : LinkView = g.T.TagLink.seen c.survey.new.link in
+    let known : IsKnownFile c.args.how a.state.store c.in-Ok-File.map c.in-Ok-File.length =
+    subst (λ ground. IsGround c.args.how size a.state.store ground) c.in-Ok-File.field-0-is (c.in-Ok-File.ensures.ok size is).ground' in
+    let declined = for_file (λ how. IfErr c.plan_file.result (IsDeclined how size a.state.store c.args.message.now)) c.args.how size a.state.store c.in-Ok-File.map c.in-Ok-File.length
+    is.store known (c.plan_file.ensures.err size a.state.store) in
+    err_map (IsDeclined c.args.how size a.state.store c.args.message.now) (IsWriteFault c.args.how size c.args.message.now a b) c.plan_file.result
+    (λ e d. declined_cause c.args.how size c.args.message.now a b e (c.in-Ok-File.ensures.goes_on size is).over (c.in-Ok-File.ensures.asked size is) d) declined
+
+pub returns-in-Ok-File-clause-untaken : goal.returns-in-Ok-File-clause-untaken
+returns-in-Ok-File-clause-untaken g c size is =
+    let a : LinkView = g.T.TagLink.seen c.args.link.now in
+    let known : IsKnownFile c.args.how a.state.store c.in-Ok-File.map c.in-Ok-File.length =
+    subst (λ ground. IsGround c.args.how size a.state.store ground) c.in-Ok-File.field-0-is (c.in-Ok-File.ensures.ok size is).ground' in
+    let declined = for_file (λ how. IfErr c.plan_file.result (IsDeclined how size a.state.store c.args.message.now)) c.args.how size a.state.store c.in-Ok-File.map c.in-Ok-File.length
+    is.store known (c.plan_file.ensures.err size a.state.store) in
+    err_map (IsDeclined c.args.how size a.state.store c.args.message.now) (λ e. is_told e ≡ true → TakesNot c.args.how size a.state.store c.args.message.now) c.plan_file.result
+    (λ e d t. declined_takes_not c.args.how size a.state.store c.args.message.now e d t) declined
+
+pub returns-in-Ok-File-clause-calm : goal.returns-in-Ok-File-clause-calm
+returns-in-Ok-File-clause-calm g c size is calm =
+    let a : LinkView = g.T.TagLink.seen c.args.link.now in
+    let known : IsKnownFile c.args.how a.state.store c.in-Ok-File.map c.in-Ok-File.length =
+    subst (λ ground. IsGround c.args.how size a.state.store ground) c.in-Ok-File.field-0-is (c.in-Ok-File.ensures.ok size is).ground' in
+    let declined = for_file (λ how. IfErr c.plan_file.result (IsDeclined how size a.state.store c.args.message.now)) c.args.how size a.state.store c.in-Ok-File.map c.in-Ok-File.length
+    is.store known (c.plan_file.ensures.err size a.state.store) in
+    err_map (IsDeclined c.args.how size a.state.store c.args.message.now) IsToldOrMemory c.plan_file.result (declined_calm c.args.how size a.state.store c.args.message.now) declined

@@ -102,3 +102,27 @@ pub returns-in-Err-open-clause-calm : goal.returns-in-Err-open-clause-calm
 returns-in-Err-open-clause-calm g c size is calm =
     let p = c.in-Ok.ensures.ok size is in
     c.in-Err-open.ensures.calm p.job (g.T.TagLink.seen c.args.link.now) p.at p.since calm
+
+pub returns-in-Err-clause-few : goal.returns-in-Err-clause-few
+returns-in-Err-clause-few g c size is =
+    let a : LinkView = g.T.TagLink.seen c.args.link.now in
+    let b : LinkView = g.T.TagLink.seen c.prepare.new.link in
+    let h = c.in-Err.ensures in
+    let s : Stops c.args.how size c.args.message.now a b c.in-Err.fault = unwritten c.args.how size c.args.message.now a b c.in-Err.fault (h.stays size is) (h.asked size is) (h.whole size is) (h.goes_on size is) (h.untaken size is) (h.err size is) in
+    s.few
+
+pub returns-in-Ok-open-clause-few : goal.returns-in-Ok-open-clause-few
+returns-in-Ok-open-clause-few g c size is =
+    let a : LinkView = g.T.TagLink.seen c.args.link.now in
+    let b : LinkView = g.T.TagLink.seen c.open.new.link in
+    let p = c.in-Ok.ensures.ok size is in
+    let s : Succeeds c.args.how size c.args.message.now a b = succeeds_for p.job c.args.how size c.args.message.now a b p.kind p.sized p.new p.at.serves p.since.store (c.in-Ok-open.ensures.ok p.job a p.at p.since) (c.in-Ok-open.ensures.new p.job p.at) in
+    s.few
+
+pub returns-in-Err-open-clause-few : goal.returns-in-Err-open-clause-few
+returns-in-Err-open-clause-few g c size is =
+    let a : LinkView = g.T.TagLink.seen c.args.link.now in
+    let b : LinkView = g.T.TagLink.seen c.open.new.link in
+    let p = c.in-Ok.ensures.ok size is in
+    let s : Stops c.args.how size c.args.message.now a b c.in-Err-open.stopped.cause = stops_for p.job c.args.how size c.args.message.now a b c.in-Err-open.stopped.cause p.kind p.sized p.new p.at.serves p.since.store (c.in-Err-open.ensures.err p.job a p.at p.since) in
+    s.few

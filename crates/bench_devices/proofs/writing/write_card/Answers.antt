@@ -1,0 +1,30 @@
+use Rattle.std.proofs.Common.{rules}
+use Rattle.bench_devices.proofs.CardParts.{opened_at, opened_fresh, link_is}
+use Rattle.bench_devices.proofs.CardWriting.{ends_linked, ends_unanswered, ends_cut, cut_unanswered}
+use Rattle.bench_devices.proofs.writing.write_card.Goals as goal
+
+pub write_linked-requires-clause-tag : goal.write_linked-requires-clause-tag
+write_linked-requires-clause-tag c = (c.requires.0, link_is c.args.field.now c.args.place c.requires c.in-Ok.link (opened_at c.args.field.now c.args.place c.in-Ok.link c.in-Ok.ensures.turns) c.in-Ok.ensures.ok)
+
+pub write_linked-requires-clause-fresh : goal.write_linked-requires-clause-fresh
+write_linked-requires-clause-fresh c = opened_fresh c.args.field.now c.args.place c.in-Ok.link c.in-Ok.ensures.turns
+
+pub returns-in-Ok-clause-tells : goal.returns-in-Ok-clause-tells
+returns-in-Ok-clause-tells c =
+    ends_linked c.args.message.now c.args.field.now c.args.place c.requires c.in-Ok.link (opened_at c.args.field.now c.args.place c.in-Ok.link c.in-Ok.ensures.turns) c.in-Ok.ensures.ok
+    c.write_linked.new.link.field.now _ (search rules) c.write_linked.result c.write_linked.ensures.tells
+
+pub returns-in-Err-clause-tells : goal.returns-in-Err-clause-tells
+returns-in-Err-clause-tells c =
+    ends_unanswered c.args.message.now c.args.field.now c.args.place c.requires c.activate.follows.lender-at-none c.activate.result c.in-Err.fault c.in-Err.is c.activate.follows.holds-at-none
+    c.unanswered.result c.unanswered.ensures
+
+pub returns-in-Ok-clause-cut : goal.returns-in-Ok-clause-cut
+returns-in-Ok-clause-cut c =
+    ends_cut c.args.message.now c.args.field.now c.args.place c.requires c.in-Ok.link (opened_at c.args.field.now c.args.place c.in-Ok.link c.in-Ok.ensures.turns) c.in-Ok.ensures.ok
+    c.write_linked.new.link.field.now _ (search rules) c.write_linked.result c.write_linked.ensures.cut
+
+pub returns-in-Err-clause-cut : goal.returns-in-Err-clause-cut
+returns-in-Err-clause-cut c =
+    cut_unanswered c.args.message.now c.args.field.now c.args.place c.requires c.activate.follows.lender-at-none c.activate.result c.in-Err.fault c.in-Err.is c.activate.follows.holds-at-none
+    c.unanswered.result c.unanswered.ensures
