@@ -23,7 +23,8 @@ IsHomePut how size place p = (p.at ≡ home_at how size place) × (length p.byte
 
 -- two stores are the same but for the length's block or, in a file, its length
 abbrev pub SameElsewhere : How → ℕ → Place → List ℕ → List ℕ → Type 0
-SameElsewhere how size place s t = (a : ℕ) → (a < home_at how size place) ⊎ (home_at how size place + home_size how size ≤ a) → slice_index s a ≡ slice_index t a
+SameElsewhere how size place s t = (a : ℕ) → (a < home_at how size place) ⊎ (home_at how size place + home_size how size ≤ a) →
+    slice_index s a ≡ slice_index t a
 
 -- how many of some writes begin at an address
 abbrev pub writes_at : ℕ → List Put → ℕ

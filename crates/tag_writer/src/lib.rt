@@ -26,6 +26,8 @@ pub use preparing::prepare;
 pub use writer::write;
 
 #[cfg(test)]
+mod area_tests;
+#[cfg(test)]
 mod file_tests;
 #[cfg(test)]
 mod tests;

@@ -66,8 +66,8 @@ impl Card for T4Tag {
 
 /// A Type 5 tag that doesn't stay quiet.
 #[derive(Drop)]
-struct Awake {
-    tag: T5Tag,
+pub struct Awake {
+    pub tag: T5Tag,
     ghost awake: { tag.quiet ≡ false },
 }
 
@@ -199,12 +199,16 @@ impl<C> MemLink<C> {
 /// How many commands a link answers that isn't lost.
 pub const ENOUGH: u16 = 5000;
 
-fn write_t2(alloc: Global, link: &mut MemLink<T2Tag>, message: &[u8]) -> Result<(), WriteFault> {
+pub fn write_t2(
+    alloc: Global,
+    link: &mut MemLink<T2Tag>,
+    message: &[u8],
+) -> Result<(), WriteFault> {
     let _shape = link.card.store();
     write(alloc, link, How::T2, message)
 }
 
-fn write_t5(
+pub fn write_t5(
     alloc: Global,
     link: &mut MemLink<Awake>,
     id: [u8; 8],
@@ -217,7 +221,7 @@ fn write_t5(
 }
 
 /// A store of so many bytes that begins with zeros and goes on with these.
-fn store_of(alloc: Global, zeros: usize, size: usize, head: &[u8]) -> Result<Vec<u8>, Fail> {
+pub fn store_of(alloc: Global, zeros: usize, size: usize, head: &[u8]) -> Result<Vec<u8>, Fail> {
     let mut store = vec![in alloc; 0u8; zeros]?;
     store.extend_from_slice(head)?;
     store.resize(size, 0)?;
@@ -249,10 +253,10 @@ const RESERVED: [u8; 28] = [
     10, 11, 12, 0xFE,
 ];
 
-const ID: [u8; 8] = [0xE0, 4, 1, 2, 3, 4, 5, 6];
+pub const ID: [u8; 8] = [0xE0, 4, 1, 2, 3, 4, 5, 6];
 
 /// What a tag holds once the field is there again.
-fn left_t2(alloc: Global, link: &mut MemLink<T2Tag>) -> Result<Vec<u8>, Fail> {
+pub fn left_t2(alloc: Global, link: &mut MemLink<T2Tag>) -> Result<Vec<u8>, Fail> {
     link.light();
     let found = read(alloc, link, How::T2)?;
     Ok(found.message.into_vec())
