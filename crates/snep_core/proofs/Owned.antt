@@ -80,8 +80,7 @@ module _ (l : EndState) where
       go (v ∷ us) k n =
           let p : OwnState = record o { units = drop 1 o.units } in
           let there : own_of (unit_taken_by l (Some o)) ≡ Some p = own_with client_sap l.own p o e here in
-          let v_is : v ≡ u = cc in
-          (
+          let v_is : v ≡ u = cc in (
             k ∙ ap (λ z. z ∷ us) v_is ∙ sym (ap (λ z. u ∷ units_of z) there ∙ ap (λ z. u ∷ drop 1 z) k),
             ap (λ z. emptied_by (unit_taken_by l (Some o)) z) there
                 ∙ ap (λ xs. record l { own = xs }) (with_twice client_sap l.own p (record o { units = [] }) here here),
@@ -150,9 +149,8 @@ hears_one l new job u some e k = subst (λ z. HearsOne l z job u some) (sym k) (
 -- the far end refused the connection of a job that needs it, or closed it
 pub lost_so : (l mid new : EndState) (job now : Job) → told_all job (units_of (own_of l)) ≡ Some now → mid ≡ emptied l client_sap
     → is_lost mid client_sap now ≡ true → new ≡ forgotten mid client_sap → (heard l client_sap job ≡ None) × (new ≡ forgotten l client_sap)
-lost_so l mid new job now t e b f =
-    (
-      ap (heard_so (emptied l client_sap) client_sap) t
-          ∙ ap (λ x. if x then None else Some (finished (emptied l client_sap) client_sap now)) (ap (λ z. is_lost z client_sap now) (sym e) ∙ b),
-      f ∙ ap (λ z. forgotten z client_sap) e ∙ forgotten_emptied l,
-    )
+lost_so l mid new job now t e b f = (
+  ap (heard_so (emptied l client_sap) client_sap) t
+      ∙ ap (λ x. if x then None else Some (finished (emptied l client_sap) client_sap now)) (ap (λ z. is_lost z client_sap now) (sym e) ∙ b),
+  f ∙ ap (λ z. forgotten z client_sap) e ∙ forgotten_emptied l,
+)

@@ -79,8 +79,7 @@ sent_one miu most l new bytes rest taken low some is o left =
     let t = offered_true l (take miu bytes) new (subst (λ b. Offered l (take miu bytes) b new) is o) in
     let r : rest ≡ drop miu bytes = subst (λ b. IsLeft miu bytes b rest) is left in
     let less = dropped miu bytes rest low some r in
-    let more = t.2 in
-    (
+    let more = t.2 in (
       sends_step miu client_sap most low l bytes some t.0
           ∙ ap (λ z. sends_some (length (drop miu bytes)) miu z client_sap most (drop miu bytes)) (sym t.1)
           ∙ ap (λ z. sends_some (length z) miu new client_sap most z) (sym r),
@@ -92,8 +91,7 @@ pub sent_none : (miu : ℕ) (most : Option ℕ) (l new : EndState) (bytes rest :
     → (sends_some (length bytes) miu l client_sap most bytes ≡ ready_so new (Sends most rest)) × (rest ≡ bytes) × (new ≡ l)
 sent_none miu most l new bytes rest taken low is o left =
     let t = offered_false l (take miu bytes) new (subst (λ b. Offered l (take miu bytes) b new) is o) in
-    let r : rest ≡ bytes = subst (λ b. IsLeft miu bytes b rest) is left in
-    (
+    let r : rest ≡ bytes = subst (λ b. IsLeft miu bytes b rest) is left in (
       sends_stop miu client_sap most low l bytes t.0 ∙ ap (λ z. ready_so z (Sends most bytes)) (sym t.1)
           ∙ ap (λ z. ready_so new (Sends most z)) (sym r),
       r,

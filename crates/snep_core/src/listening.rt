@@ -63,9 +63,8 @@ impl Client {
     {
         match job {
             Job::Looks(_) | Job::Closes | Job::Over(_) => false,
-            Job::Begins(..) | Job::Waits(..) | Job::Sends(..) | Job::Asks(..) | Job::Collects(..) => {
-                !is_there(self.llc.standing(CLIENT_SAP))
-            }
+            Job::Begins(..) | Job::Waits(..) | Job::Sends(..) | Job::Asks(..) | Job::Collects(..) =>
+                { !is_there(self.llc.standing(CLIENT_SAP)) }
         }
     }
 

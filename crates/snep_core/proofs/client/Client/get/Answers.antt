@@ -8,9 +8,9 @@ use Rattle.snep_core.proofs.client.Client.get.Goals as goal
 pub returns-in-Err-clause-err : goal.returns-in-Err-clause-err
 returns-in-Err-clause-err g c = λ going. inr (inr (record {
   at = record {
-      llc = connected c.args.self.now.llc client_sap;
-      jobs = alone (Begins (Some c.args.acceptable) (get_bytes c.args.acceptable c.args.key.now));
-      idle = 0;
+    llc = connected c.args.self.now.llc client_sap;
+    jobs = alone (Begins (Some c.args.acceptable) (get_bytes c.args.acceptable c.args.key.now));
+    idle = 0;
   };
   mid = c.args.carrier.now;
   mid_far = c.args.far.now;

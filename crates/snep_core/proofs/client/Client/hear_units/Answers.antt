@@ -33,8 +33,7 @@ returns-in-Ok-None-clause-ok c =
     let one = hears_one c.units.self.llc c.unit.new.self c.units.job c.in-Some.unit c.units.some there taken in
     let same : c.as_slice-bytes.result.now ≡ c.in-Some.unit = search rules in
     let next : told c.units.job c.in-Some.unit ≡ None =
-    ap (told c.units.job) (sym same) ∙ sym c.in-Ok-None.ensures ∙ c.in-Ok-None.field-0-is in
-    (
+    ap (told c.units.job) (sym same) ∙ sym c.in-Ok-None.ensures ∙ c.in-Ok-None.field-0-is in (
       c.units.invariant.told ∙ one.told_is ∙ ap (λ o. told_on o (units_of (own_of c.unit.new.self))) next,
       one.forgotten_is ∙ c.units.invariant.forgotten_is,
     )
