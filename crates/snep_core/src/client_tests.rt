@@ -1,6 +1,6 @@
 //! A client over a carrier without an air.
 
-ghost use Rattle.std.specs.Prelude.{◌≡◌, ◌≤◌, Bool, None};
+ghost use Rattle.std.specs.Prelude.{◌≡◌, Bool, None};
 ghost use Rattle.llcp_link.specs.State.{own_from};
 
 use crate::{Client, NoService, Server, SnepFault};
@@ -189,78 +189,5 @@ fn a_link_that_is_over_is_told_by_its_cause(rt: HostRuntime) -> Result<(), Fail>
     let mut link = Straight::new(alloc, None);
     assert_eq!(rt; client.close(&mut link, &mut far), Err(SnepFault::Memory));
     assert_eq!(rt; SnepFault::BadPeer.number(), 7);
-    Ok(())
-}
-
-/// A message of bytes that count up.
-fn counted(alloc: Global, size: usize) -> Result<Vec<u8>, Fail>
-    requires { size ≤ 2000 }
-{
-    let mut message = Vec::new(alloc);
-    for i in 0..size {
-        message.push((i % 256) as u8)?;
-    }
-    Ok(message)
-}
-
-#[test]
-fn a_message_is_put(rt: HostRuntime) -> Result<(), Fail> {
-    let alloc = rt.alloc();
-    let mut link = Straight::new(alloc, None);
-    let mut far = peer(&rt, alloc)?;
-    let mut client = client(alloc);
-    assert_eq!(rt; client.put(&mut link, &mut far, &[0xD0, 0, 0]), Ok(()));
-    assert_eq!(rt; link.handed.len(), 2);
-    let first = link.handed.first().map(|p| p.as_slice());
-    assert_eq!(rt; first, Some([0x11u8, 0x20].as_slice()));
-    let last = link.handed.last().map(|p| p.as_slice());
-    assert_eq!(rt;
-        last,
-        Some([0x13u8, 0x20, 0x00, 0x10, 2, 0, 0, 0, 3, 0xD0, 0, 0].as_slice())
-    );
-    let first = far.service().accepted().first().map(|m| m.as_slice());
-    assert_eq!(rt; first, Some([0xD0u8, 0, 0].as_slice()));
-    assert_eq!(rt; client.put(&mut link, &mut far, &[]), Ok(()));
-    assert_eq!(rt; far.service().accepted().len(), 2);
-    Ok(())
-}
-
-#[test]
-fn a_message_goes_in_nine_units_and_a_longer_one_is_rejected(rt: HostRuntime) -> Result<(), Fail> {
-    let alloc = rt.alloc();
-    let mut link = Straight::new(alloc, None);
-    let mut far = peer(&rt, alloc)?;
-    let mut client = client(alloc);
-    let most = counted(alloc, 1024)?;
-    assert_eq!(rt; client.put(&mut link, &mut far, &most), Ok(()));
-    assert_eq!(rt; link.handed.len(), 10);
-    let longer = counted(alloc, 1025)?;
-    let told = client.put(&mut link, &mut far, &longer);
-    assert_eq!(rt; told, Err(SnepFault::Reject));
-    assert_eq!(rt; link.handed.len(), 11);
-    assert_eq!(rt; client.put(&mut link, &mut far, &[0xD0, 0, 0]), Ok(()));
-    assert_eq!(rt; far.service().accepted().len(), 2);
-    Ok(())
-}
-
-#[test]
-fn values_are_got(rt: HostRuntime) -> Result<(), Fail> {
-    let alloc = rt.alloc();
-    let mut link = Straight::new(alloc, None);
-    let mut far = peer(&rt, alloc)?;
-    let mut client = client(alloc);
-    let none = client.get(&mut link, &mut far, 16, b"k1").map(|v| v.len());
-    assert_eq!(rt; none, Err(SnepFault::NotImplemented));
-    far.service().offer(b"k1", &[0xA1, 0xA2, 0xA3])?;
-    let value = client.get(&mut link, &mut far, 16, b"k1")?;
-    assert_eq!(rt; value.as_slice(), [0xA1u8, 0xA2, 0xA3].as_slice());
-    let long = client.get(&mut link, &mut far, 2, b"k1").map(|v| v.len());
-    assert_eq!(rt; long, Err(SnepFault::Excess));
-    let other = client.get(&mut link, &mut far, 16, b"k2").map(|v| v.len());
-    assert_eq!(rt; other, Err(SnepFault::NotFound));
-    let large = counted(alloc, 300)?;
-    far.service().offer(b"k3", &large)?;
-    let value = client.get(&mut link, &mut far, 300, b"k3")?;
-    assert_eq!(rt; value.as_slice(), large.as_slice());
     Ok(())
 }
