@@ -4,13 +4,15 @@ pub mod Removing
 pub mod Locking
 pub mod Telling
 pub mod Legality
-pub mod Behind
+pub mod AskedBehind
 pub mod Outcomes
 pub mod Benches
 pub mod Complete
 pub mod OneForm
 pub mod WriteTelling
 pub mod WriteLegality
+pub mod HeldOn
+pub mod ReadBehind
 pub mod OneAnswer
 pub mod OneJournal
 pub mod Shapes
