@@ -1,15 +1,13 @@
 -- What the tag with an identifier holds stays through a command that doesn't touch it.
-use Rattle.std.proofs.Common.{◌≡◌, ℕ, List, [], ◌∷◌, ◌++◌, map, Bool, true, false, nat_eq, if◌then◌else◌, Option, Some, None, refl, sym, ◌∙◌, ap, subst}
+use Rattle.std.proofs.Common.{◌≡◌, ℕ, List, [], ◌∷◌, ◌++◌, map, Bool, true, false, nat_eq, if◌then◌else◌, Option, Some, refl, sym, ◌∙◌, ap, subst}
 use Rattle.std.specs.Cmp.Lexicographic.{pointwise}
-use Rattle.nfca_poll.proofs.OneLevel.{pointwise_self}
 use Rattle.nfc_base.specs.declared.event.Event.{Event}
 use Rattle.nfc_base.specs.declared.event.Event.TheVariants.{Reset, Request, Answer as Answers, Clash}
 use Rattle.nfc_base.specs.Trace.{back_of}
 use Rattle.nfc_base.specs.Trace as backs
-use Rattle.air_core.specs.Conversation.{Note, Next, Over, LightUp, Asks, AreTurns, EachDue, replay}
+use Rattle.air_core.specs.Conversation.{Note, Over, LightUp, Asks, AreTurns, EachDue, replay}
 use Rattle.air_core.proofs.Following.{trace_first}
 use Rattle.t5t_tag.proofs.Bytes.{equal_bytes}
-use Rattle.tag_reader.specs.declared.how.How.{How}
 use Rattle.bench_script.specs.declared.command.Command.{Command}
 use Rattle.bench_script.specs.declared.command.Command.TheVariants.{Skip, Fates, PlaceT2, PlaceT4, PlaceT5, Lock, Busy, Remove, Dump, Find, Read, Write}
 use Rattle.bench_script.specs.declared.command.DeviceId.{DeviceId}
@@ -17,11 +15,11 @@ use Rattle.bench_script.specs.DeviceIds.{bytes_of}
 use Rattle.bench_devices.specs.declared.device.Device.{Device}
 use Rattle.bench_devices.specs.declared.device.Device.TheVariants.{T2, T4, T5}
 use Rattle.bench_devices.specs.Device.{BenchWorld, air, StablePart, stable_of, device_id, device_store, device_locked, device_busy, how_of, size_of}
-use Rattle.bench_devices.specs.Keeping.{Fixed, fixed, Kept, kept, StaysDevice, AllStayDevices, AllKeepBut}
+use Rattle.bench_devices.specs.Keeping.{Fixed, fixed, Kept, kept, AllStayDevices, AllKeepBut}
 use Rattle.bench_devices.specs.Placed.{device_with, without, with_changed}
 use Rattle.bench_devices.proofs.EveryFrame.{devices_stay}
 use Rattle.bench_world.specs.declared.entry.Entry.{Entry}
-use Rattle.bench_world.specs.Legal.{State, Given, FrontOf, AnswerLaw, ReadLaw, FindLaw, WritingLaw, LegalStep, EachLegal, changed, due, stable, state_after}
+use Rattle.bench_world.specs.Legal.{State, Given, AnswerLaw, ReadLaw, FindLaw, WritingLaw, LegalStep, EachLegal, changed, due, stable, state_after}
 use Rattle.bench_world.specs.Behind.{Touches, LeaveAlone}
 
 -- Two devices read alike: they are read in the same way, and hold the same.
@@ -81,15 +79,15 @@ module _ (id : List ℕ) where
   fewer_found k [] d apart found = absurd cc
   fewer_found k (y ∷ ds) d apart found =
       first_or_later (Found d (without k (y ∷ ds))) y ds d found (λ named same. by_first named same (pointwise nat_eq (device_id y) k) refl)
-      (λ other later. by_later other later (pointwise nat_eq (device_id y) k))
+      (λ other later. by_later other later (fewer_found k ds d apart later) (pointwise nat_eq (device_id y) k))
     where
       by_first : pointwise nat_eq (device_id y) id ≡ true → y ≡ d → (v : Bool) → pointwise nat_eq (device_id y) k ≡ v → Found d (if v then ds else y ∷ without k ds)
       by_first named same true e = absurd (apart (sym (equal_bytes (device_id y) k e) ∙ equal_bytes (device_id y) id named))
       by_first named same false e = here d y (without k ds) named (subst (λ z. ReadAlike d z) (sym same) (alike_itself d))
 
-      by_later : pointwise nat_eq (device_id y) id ≡ false → device_with id ds ≡ Some d → (v : Bool) → Found d (if v then ds else y ∷ without k ds)
-      by_later other later true = still_found ds d later
-      by_later other later false = passed d y (without k ds) other (fewer_found k ds d apart later)
+      by_later : pointwise nat_eq (device_id y) id ≡ false → device_with id ds ≡ Some d → Found d (without k ds) → (v : Bool) → Found d (if v then ds else y ∷ without k ds)
+      by_later other later more true = still_found ds d later
+      by_later other later more false = passed d y (without k ds) other more
 
   -- one changed in what doesn't show in a read
   changed_found : (change : Device → Device) (k : List ℕ) → ((x : Device) → device_id (change x) ≡ device_id x) → ((x : Device) → ReadAlike x (change x)) → (ds : List Device) (d : Device)
@@ -97,15 +95,15 @@ module _ (id : List ℕ) where
   changed_found change k own like [] d found = absurd cc
   changed_found change k own like (y ∷ ds) d found =
       first_or_later (Found d (with_changed change k (y ∷ ds))) y ds d found (λ named same. by_first named same (pointwise nat_eq (device_id y) k))
-      (λ other later. by_later other later (pointwise nat_eq (device_id y) k))
+      (λ other later. by_later other later (changed_found change k own like ds d later) (pointwise nat_eq (device_id y) k))
     where
       by_first : pointwise nat_eq (device_id y) id ≡ true → y ≡ d → (v : Bool) → Found d (if v then change y ∷ ds else y ∷ with_changed change k ds)
       by_first named same true = here d (change y) ds (ap (λ i. pointwise nat_eq i id) (own y) ∙ named) (subst (λ z. ReadAlike z (change y)) same (like y))
       by_first named same false = here d y (with_changed change k ds) named (subst (λ z. ReadAlike d z) (sym same) (alike_itself d))
 
-      by_later : pointwise nat_eq (device_id y) id ≡ false → device_with id ds ≡ Some d → (v : Bool) → Found d (if v then change y ∷ ds else y ∷ with_changed change k ds)
-      by_later other later true = passed d (change y) ds (ap (λ i. pointwise nat_eq i id) (own y) ∙ other) (still_found ds d later)
-      by_later other later false = passed d y (with_changed change k ds) other (changed_found change k own like ds d later)
+      by_later : pointwise nat_eq (device_id y) id ≡ false → device_with id ds ≡ Some d → Found d (with_changed change k ds) → (v : Bool) → Found d (if v then change y ∷ ds else y ∷ with_changed change k ds)
+      by_later other later more true = passed d (change y) ds (ap (λ i. pointwise nat_eq i id) (own y) ∙ other) (still_found ds d later)
+      by_later other later more false = passed d y (with_changed change k ds) other more
 
   -- all asked, and their stores stayed
   stays_found : (ds es : List Device) (d : Device) → AllStayDevices ds es → map stable_of es ≡ map stable_of ds → device_with id ds ≡ Some d → Found d es
@@ -130,8 +128,8 @@ module _ (id : List ℕ) where
   beside_found k apart (x ∷ ds) (y ∷ es) d keep found =
       let own : device_id y ≡ device_id x = ap (λ (z : Fixed). z.id) keep.0.stays.fixed in
       let alike : pointwise nat_eq (device_id x) id ≡ true → ReadAlike x y = λ named.
-          let same : kept y ≡ kept x = keep.0.other (λ e. apart (sym e ∙ equal_bytes (device_id x) id named)) in
-          record { how = ap (λ (z : Kept). z.fixed.how) same; size = ap (λ (z : Kept). z.fixed.size) same; store = ap (λ (z : Kept). z.store) same } in
+      let same : kept y ≡ kept x = keep.0.other (λ e. apart (sym e ∙ equal_bytes (device_id x) id named)) in
+      record { how = ap (λ (z : Kept). z.fixed.how) same; size = ap (λ (z : Kept). z.fixed.size) same; store = ap (λ (z : Kept). z.store) same } in
       first_or_later (Found d (y ∷ es)) x ds d found (λ named is. here d y es (ap (λ i. pointwise nat_eq i id) own ∙ named) (subst (λ z. ReadAlike z y) is (alike named)))
       (λ other later. passed d y es (ap (λ i. pointwise nat_eq i id) own ∙ other) (beside_found k apart ds es d keep.1 later))
 
@@ -144,8 +142,8 @@ module _ (id : List ℕ) where
       first_or_later ((e : Device) × (device_with id (y ∷ es) ≡ Some e) × (fixed e ≡ fixed d)) x ds d found
       (λ named is. (y, ap (λ v. if v then Some y else device_with id es) (ap (λ i. pointwise nat_eq i id) own ∙ named), keep.0.stays.fixed ∙ ap fixed is))
       (λ other later.
-          let more = own_found k ds es d keep.1 later in
-          (more.0, ap (λ v. if v then Some y else device_with id es) (ap (λ i. pointwise nat_eq i id) own ∙ other) ∙ more.1, more.2))
+      let more = own_found k ds es d keep.1 later in
+      (more.0, ap (λ v. if v then Some y else device_with id es) (ap (λ i. pointwise nat_eq i id) own ∙ other) ∙ more.1, more.2))
 
 -- a command that asks nothing has no events
 nothing_sent : (w : BenchWorld) (es : List Event) → AreTurns air w es → EachDue (λ ns. Over) [] es → es ≡ []

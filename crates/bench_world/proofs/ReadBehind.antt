@@ -1,5 +1,5 @@
 -- What a read tells behind a write of its tag.
-use Rattle.std.proofs.Common.{◌≡◌, ◌⊎◌, inl, inr, ℕ, List, [], ◌∷◌, ◌++◌, Bool, true, false, nat_eq, Option, Some, None, Result, Ok, Err, refl, sym, ◌∙◌, ap, subst}
+use Rattle.std.proofs.Common.{◌≡◌, ◌⊎◌, inl, inr, ℕ, List, [], ◌∷◌, ◌++◌, Bool, true, false, nat_eq, Some, Result, Ok, Err, refl, sym, ◌∙◌, ap, subst}
 use Rattle.std.specs.List.{AllByRecursion}
 use Rattle.std.specs.Cmp.Lexicographic.{pointwise}
 use Rattle.nfca_poll.proofs.OneLevel.{pointwise_self}
@@ -12,10 +12,9 @@ use Rattle.nfca_poll.specs.declared.fault.PollFault.{PollFault}
 use Rattle.nfca_poll.specs.declared.fault.PollFault.TheVariants as faults
 use Rattle.t5t_tag.proofs.Bytes.{equal_bytes}
 use Rattle.tlv_area.specs.Form.{Form, Message}
-use Rattle.tag_reader.specs.declared.how.How.{How}
 use Rattle.tag_reader.specs.Kinds.{IsStoreForm}
-use Rattle.tag_writer.specs.Place.{Takes, TakesNot}
-use Rattle.tag_writer.specs.Law.{Ending, Written, last_store, PassInThree, IsEmptied, IsWritten, Leaves, WriteLaw}
+use Rattle.tag_writer.specs.Place.{TakesNot}
+use Rattle.tag_writer.specs.Law.{Written, last_store, PassInThree, IsEmptied, IsWritten, Leaves}
 use Rattle.bench_script.specs.declared.command.Command.{Command}
 use Rattle.bench_script.specs.declared.command.Command.TheVariants.{Read, Write}
 use Rattle.bench_script.specs.declared.command.DeviceId.{DeviceId}
@@ -39,7 +38,7 @@ use Rattle.bench_world.proofs.OneForm.{one_store_form}
 use Rattle.bench_world.proofs.Telling.{tells_either}
 use Rattle.bench_world.proofs.WriteTelling.{done_written}
 use Rattle.bench_world.proofs.WriteLegality.{found_named}
-use Rattle.bench_world.proofs.HeldOn.{ReadAlike, IsAlike, own_found, steps_alike}
+use Rattle.bench_world.proofs.HeldOn.{IsAlike, own_found, steps_alike}
 
 -- the last image is what the device holds at last
 last_image : (id : List ℕ) (w : BenchWorld) (es : List Event) (store : List ℕ) → last_store store (images_of id w es) ≡ held_by (device_with id (replay air w es).listeners)

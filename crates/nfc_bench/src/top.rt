@@ -24,6 +24,8 @@ mod tags_tests;
 mod tests;
 #[cfg(test)]
 mod world_tests;
+#[cfg(test)]
+mod write_tests;
 
 use arrayvec::ArrayVec;
 use bench_world::Bench;
