@@ -4,7 +4,7 @@
 Each table in README.md and docs/*.md with the columns `Call` and `Clause` is read. A call of a row has to exist, and each clause
 of the row has to be one of every call of that row (a row without a clause stands for a contract without names). In docs/proved.md a
 section `## NAME` stands for each crate of crates.txt, and its tables have to name each public call of that crate with all its
-clauses.
+clauses. A name `CLAUSE.FIELD` is a field of a record that the clause says, or that a definition it says is made of.
 Then each clause is changed by a letter in turn, which has to be refused: so the check itself is checked.
 
 Lines of code in README.md that stand behind a line `From FILE:` have to stand in that file, in this order and without a gap.
@@ -16,6 +16,7 @@ from pathlib import Path
 
 ROOT = Path(__file__).resolve().parent.parent
 NAMES = re.compile(r"`([^`]+)`")
+DEFINED = re.compile(r"\b[A-Z]\w*")
 
 
 class Call:
@@ -29,6 +30,7 @@ class Call:
         self.public = public
         self.of_trait = of_trait
         self.clauses = []
+        self.said = {}
 
     def full(self):
         return f"{self.owner}::{self.name}" if self.owner else self.name
@@ -52,12 +54,39 @@ def owner_of(line):
     return None, False, None
 
 
+def words_of_clause(lines):
+    """The definitions that the clause which these lines begin with names."""
+    depth, text = 0, ""
+    for line in lines:
+        text += line + "\n"
+        depth += line.count("{") - line.count("}")
+        if depth == 0:
+            break
+    return set(DEFINED.findall(text))
+
+
+def definitions_of(crate):
+    """The definitions of a crate: the fields of each, where it is a record, and the definitions that it names."""
+    found = {}
+    for file in sorted((ROOT / "crates" / crate / "specs").rglob("*.antt")):
+        fields, words = set(), set()
+        for line in file.read_text().split("\n"):
+            head = re.match(r"(?:pub )?(?:record|data|abbrev) (?:pub )?(\w+)", line)
+            if head:
+                fields, words = found.setdefault(head.group(1), (set(), set()))
+            if not line.startswith(("use ", "--")):
+                fields.update(re.findall(r"^  pub (\w+) :", line))
+                words.update(DEFINED.findall(line))
+    return found
+
+
 def calls_of(crate):
     """All functions of a crate outside its tests, and the laws that its traits state."""
     calls, laws = [], {}
     for file in source_files(crate):
         owner, in_trait, of_trait, call = None, False, None, None
-        for line in file.read_text().split("\n"):
+        lines = file.read_text().split("\n")
+        for number, line in enumerate(lines):
             if line.startswith("mod tests {"):
                 break
             if re.match(r"\S", line) and not line.startswith(("#", "/")):
@@ -70,6 +99,7 @@ def calls_of(crate):
             clause = re.match(r"\s+ensures\*? (\w+) \{", line)
             if clause and call:
                 call.clauses.append(clause.group(1))
+                call.said[clause.group(1)] = words_of_clause(lines[number:])
             law = re.match(r"    ghost (\w+): \{", line)
             if law and in_trait:
                 laws.setdefault(owner, []).append(law.group(1))
@@ -92,11 +122,27 @@ class Code:
     def __init__(self):
         lines = (ROOT / "crates.txt").read_text().splitlines()
         self.crates = [line.split(":")[0].strip() for line in lines if line.strip() and not line.startswith("#")]
-        self.calls, self.laws = [], {}
+        self.calls, self.laws, self.definitions = [], {}, {}
         for crate in self.crates:
             calls, laws = calls_of(crate)
             self.calls += calls
             self.laws.update(laws)
+            self.definitions[crate] = definitions_of(crate)
+
+    def fields(self, call):
+        """The fields of what each clause of a call says, as CLAUSE.FIELD."""
+        found = []
+        for clause, words in call.said.items():
+            left, seen = list(words), set()
+            while left:
+                word = left.pop()
+                if word in seen or word not in self.definitions[call.crate]:
+                    continue
+                seen.add(word)
+                fields, more = self.definitions[call.crate][word]
+                found += [f"{clause}.{field}" for field in fields]
+                left += more
+        return found
 
     def clauses(self, call):
         """The clauses of a call, with those of the trait's where it implements one."""
@@ -109,7 +155,8 @@ class Code:
 
     def named(self, crate, name):
         """The clauses of each call, or trait, of this name; none where there is none."""
-        found = [self.clauses(call) for call in self.calls if call.full() == name and crate in (None, call.crate)]
+        found = [self.clauses(call) + self.fields(call) for call in self.calls
+                 if call.full() == name and crate in (None, call.crate)]
         if not found and "::" not in name:
             of_trait = [c for call in self.calls if call.owner == name and crate in (None, call.crate) for c in call.clauses]
             laws = self.laws.get(name, [])

@@ -143,8 +143,8 @@ module _ (message : List ℕ) (old : Air Device) (place : ℕ) (one : (e : Devic
   cut_any : (new : Air Device) → WritesSome (moment old) (moment new) d message → (e : Device) → Stands (moment old) place e → WritesSome (moment old) (moment new) e message
   cut_any new writes e stands = subst (λ x. WritesSome (moment old) (moment new) x message) (sym (stands_one old place d one.1 e stands)) writes
 
-  all_write' : (xs : List Signal) × AsksWriteOf message d xs
-  all_write' = some_write message d one.1.sound
+  all_asked : (xs : List Signal) × AsksWriteOf message d xs
+  all_asked = some_write message d one.1.sound
 
   -- RATS changes no store
   module _ (mid : Air Device) (st : waits.Standing) (sent : RatsSent ghosts device_card device_tag old mid st) where
@@ -195,7 +195,7 @@ module _ (message : List ℕ) (old : Air Device) (place : ℕ) (one : (e : Devic
         let o : WritesOn (moment mid) (moment new) d (waiting by_link.code) message r = subst (λ i. WritesOn (moment mid) (moment new) d i message r) by_link.reader on in
         let told =
         as_told (StoreOf own) (AsksWriteOf message d) (ShowsWrite message d) FailsWrite (moment old) (moment new) d r one.2
-        (linked_asks (StoreOf own) (AsksWriteOf message d) (ShowsWrite message d) FailsWrite all_write' old mid place d one.1 one.2 (sound_there old place d one.1) new by_link.code by_link.sent by_link.tells r o.told) in
+        (linked_asks (StoreOf own) (AsksWriteOf message d) (ShowsWrite message d) FailsWrite all_asked old mid place d one.1 one.2 (sound_there old place d one.1) new by_link.code by_link.sent by_link.tells r o.told) in
         record { told = told; law = law_both new (ending_of r) o.told.asked.going.events told.asked.going.events o.told.asked.going.moment told.asked.going.moment o.law }
 
     cut_ends : (new : Air Device) → WritesSomeOn (moment mid) (moment new) d l.reader message → WritesSome (moment old) (moment new) d message
@@ -203,7 +203,7 @@ module _ (message : List ℕ) (old : Air Device) (place : ℕ) (one : (e : Devic
         let o : WritesSomeOn (moment mid) (moment new) d (waiting by_link.code) message = subst (λ i. WritesSomeOn (moment mid) (moment new) d i message) by_link.reader on in
         let told =
         as_cut (StoreOf own) (AsksWriteOf message d) (ShowsWrite message d) FailsWrite (moment old) (moment new) d one.2
-        (linked_cut (StoreOf own) (AsksWriteOf message d) (ShowsWrite message d) FailsWrite all_write' old mid place d one.1 one.2 (sound_there old place d one.1) new by_link.code by_link.sent by_link.tells o.told) in
+        (linked_cut (StoreOf own) (AsksWriteOf message d) (ShowsWrite message d) FailsWrite all_asked old mid place d one.1 one.2 (sound_there old place d one.1) new by_link.code by_link.sent by_link.tells o.told) in
         record { told = told; law = law_both new Stopped o.told.asked.going.events told.asked.going.events o.told.asked.going.moment told.asked.going.moment o.law }
 
     -- the field is given back as the link left it
@@ -238,7 +238,7 @@ module _ (message : List ℕ) (old : Air Device) (place : ℕ) (one : (e : Devic
         let ends : RatsEnds ghosts device_card device_tag old new place (Err fault) = refused old place one new given fault failed rests in
         let told =
         as_told (StoreOf own) (AsksWriteOf message d) (ShowsWrite message d) FailsWrite (moment old) (moment new) d (tell fault) one.2
-        (unanswered_asks (StoreOf own) (AsksWriteOf message d) (ShowsWrite message d) FailsWrite all_write' old new place d one.1 one.2 (sound_there old place d one.1) tell refl (λ k. cc) refl (λ k. cc)
+        (unanswered_asks (StoreOf own) (AsksWriteOf message d) (ShowsWrite message d) FailsWrite all_asked old new place d one.1 one.2 (sound_there old place d one.1) tell refl (λ k. cc) refl (λ k. cc)
         fault starved ends) in
         let law : KeepsWriteLaw message d (ending_of (tell fault)) (world old) told.asked.going.events =
         subst (λ x. KeepsWriteLaw message d x (world old) told.asked.going.events) (sym (stopped fault)) (law_refused fault ends told.asked.going.events told.asked.going.moment) in
@@ -258,5 +258,5 @@ module _ (message : List ℕ) (old : Air Device) (place : ℕ) (one : (e : Devic
         subst (λ f. RatsEnds ghosts device_card device_tag old new place (Err f)) want (refused old place one new given fault failed rests) in
         let told =
         as_cut (StoreOf own) (AsksWriteOf message d) (ShowsWrite message d) FailsWrite (moment old) (moment new) d one.2
-        (rats_cut (StoreOf own) (AsksWriteOf message d) (ShowsWrite message d) FailsWrite all_write' old new place d one.1 one.2 (sound_there old place d one.1) (waits.Asking ends.0 (rats ∷ [])) ends.1) in
+        (rats_cut (StoreOf own) (AsksWriteOf message d) (ShowsWrite message d) FailsWrite all_asked old new place d one.1 one.2 (sound_there old place d one.1) (waits.Asking ends.0 (rats ∷ [])) ends.1) in
         cut_any new (record { told = told; law = law_refused asking.Memory ends told.asked.going.events told.asked.going.moment })

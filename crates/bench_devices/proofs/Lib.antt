@@ -30,6 +30,13 @@ pub mod ReadingEnds
 pub mod WritingEnds
 pub mod QuietRats
 pub mod CardReadingNotes
+pub mod QuietWalk
+pub mod CardBytes
+pub mod PlainHeard
+pub mod CardHeard
+pub mod TagHeard
+pub mod SelectedHeard
+pub mod ReadHeeded
 pub mod CardLinks
 pub mod CardEnds
 pub mod CardReadingLinks
@@ -40,6 +47,7 @@ pub mod SelectingPlaces
 pub mod SelectingA
 pub mod SelectingV
 pub mod Inventoried
+pub mod WriteHeeded
 pub mod Awake
 pub mod FoundAll
 pub mod Selections

@@ -1,16 +1,16 @@
 -- What was asked over a link, by what the link tells: what was answered, and the command that the link ended with.
-use Rattle.std.proofs.Common.{◌≡◌, inl, inr, ◌⊎◌, ℕ, zero, suc, ◌+◌, ◌-◌, ◌<◌, List, [], ◌∷◌, ◌++◌, Some, None, refl, sym, ◌∙◌, ap, subst, arith, append_assoc, append-nil}
+use Rattle.std.proofs.Common.{◌≡◌, inl, inr, ◌⊎◌, ℕ, suc, ◌+◌, List, [], ◌∷◌, ◌++◌, Some, None, refl, sym, ◌∙◌, ap, subst, arith, append-nil}
 use Rattle.std.specs.Prelude.{Option}
-use Rattle.std.proofs.lemmas.Bool.{cases_lt}
 use Rattle.nfc_base.specs.declared.tag_link.AskFault.{AskFault}
 use Rattle.nfc_base.specs.Signal.{Signal}
 use Rattle.nfc_base.specs.TagLinks.{LinkView}
 use Rattle.air_core.specs.PlainLinks.{unanswered}
 use Rattle.tag_reader.specs.declared.how.How.{How}
 use Rattle.tag_reader.specs.Kinds.{command, first}
-use Rattle.tag_reader.specs.Asked.{Aim, ToRead, IsDueFor, AreDueFor, IsAskedFor}
+use Rattle.tag_reader.specs.Asked.{Aim, IsDueFor, AreDueFor, IsAskedFor}
 use Rattle.tag_reader.specs.Calls.{HasAskedFor, last_of}
 use Rattle.tag_reader.proofs.Knowing.{due_more_for}
+use Rattle.tag_reader.proofs.Lists.{asked_front_for}
 
 -- What was asked, where each of the first so many commands is asked: these.
 pub record AskedSome (aim : Aim) (how : How) (size : ℕ) (store : List ℕ) (asked : List Signal) : Type 0 where
@@ -18,24 +18,12 @@ pub record AskedSome (aim : Aim) (how : How) (size : ℕ) (store : List ℕ) (as
   pub list : asked ≡ first how size store count
   pub each : AreDueFor aim how size store count
 
--- the first so many are a front of the whole list
-first_split : (how : How) (size : ℕ) (store : List ℕ) (n m : ℕ) → (rest : List Signal) × (first how size store (n + m) ≡ first how size store n ++ rest)
-first_split how size store n zero = let e : n + 0 ≡ n = omega arith in ([], ap (λ k. first how size store k) e ∙ sym (append-nil (first how size store n)))
-first_split how size store n (suc m) =
-    let e : n + suc m ≡ suc (n + m) = omega arith in
-    let part = first_split how size store n m in (
-      part.0 ++ command how size store (n + m) ∷ [],
-      ap (λ k. first how size store k) e ∙ ap (λ xs. xs ++ command how size store (n + m) ∷ []) part.1 ∙ append_assoc (first how size store n) part.0 (command how size store (n + m) ∷ []),
-    )
-
+-- they are a front of the whole list
 pub left_of : (aim : Aim) (how : How) (size : ℕ) (store : List ℕ) (asked xs : List Signal) → AskedSome aim how size store asked → IsAskedFor aim how size store xs
     → (rest : List Signal) × (xs ≡ asked ++ rest)
-left_of aim how size store asked xs some all = elim (cases_lt all.count some.count) [
-  | inl past ↦ absurd (all.no_more (some.each all.count past))
-  | inr within ↦ (let parts = first_split how size store some.count (all.count - some.count) in
-      let e : some.count + (all.count - some.count) ≡ all.count = omega arith in
-      (parts.0, all.list ∙ ap (λ k. first how size store k) (sym e) ∙ parts.1 ∙ ap (λ ys. ys ++ parts.0) (sym some.list)))
-]
+left_of aim how size store asked xs some all =
+    let front = asked_front_for aim how size store some.count xs some.each all in
+    (front.0, front.1 ∙ ap (λ ys. ys ++ front.0) (sym some.list))
 
 -- Nothing was answered before, and the link wasn't over.
 module _ (from to : LinkView) (asked : List Signal) (none : from.answered ≡ []) (begun : from.over ≡ None) (told : to.answered ++ unanswered to.over to.last ≡ asked) where

@@ -24,7 +24,7 @@ use Rattle.bench_devices.specs.Device.{air, devices, device_id, device_card, dev
 use Rattle.bench_devices.specs.Keeping.{ghosts}
 use Rattle.bench_devices.specs.Standing as standing
 
-laws : Laws ghosts
+pub laws : Laws ghosts
 laws = record {
   step_keeps = standing.step_keeps;
   dark_keeps = standing.dark_keeps;
@@ -72,7 +72,7 @@ first_turn ls g single (Ask f x y ∷ ks) left each e none =
     at_turn (air.joint w f) g f x y (trace_of air (replay air w (turn_events air w f x y)) ks) left there (sym same) e none
 
 module _ (old mid : Air Device) (place : ℕ) (lit : old.lit ≡ true) (h : HasFreshTag ghosts device_card device_tag old place) where
-  one_answer : (g : Signal) → devices.answer h.listener rats None ≡ Some g → air.joint (record { lit = true; listeners = old.listeners }) rats ≡ Single g
+  pub one_answer : (g : Signal) → devices.answer h.listener rats None ≡ Some g → air.joint (record { lit = true; listeners = old.listeners }) rats ≡ Single g
   one_answer g says =
       let heard : answered_by devices h.listener rats None ≡ Some g = ap (λ t. if same_tech t A then devices.answer h.listener rats None else None) h.takes.tech ∙ says in
       let aside : (x : Device) → _ → IsUnmoved ghosts laws (device_id h.listener) rats x = λ x a. aside_silent ghosts laws (device_id h.listener) A rats refl tt x a in

@@ -132,7 +132,7 @@ module _ (id : List ℕ) where
   v_heard (Tries n d) Silent h = more_tries n (nat_lt n tries) (nat_lt (n + 1) tries) refl refl h
   v_heard (Told r) g h = tt
 
-  v_closes : Closes call
+  pub v_closes : Closes call
   v_closes = record { silent = v_silent; lit = λ s h. h; heard = v_heard }
 
   due_only : (p : Progress (Inventory (Unit {0}))) (f : Signal) → due_of call p ≡ Asks f → f ≡ inventory
@@ -165,7 +165,7 @@ module _ (id : List ℕ) where
   next_asked (Lit ∷ ns) f e =
       let same : asks (kind_by is_five (follows call ns)) ≡ enquiring call ns = kind_asks is_five (follows call ns) ∙ asks_same call v_closes ns in
       subst IsHarmless (sym (due_only (progress call (Tries 0 false) ns) f (sym same ∙ e))) harmless
-  next_asked (Got h ∷ ns) f e = next_asked ns f e
+  next_asked (Got h ∷ ns) f e = absurd (over_is_no_request f e)
   next_asked (Lost ∷ ns) f e = absurd (over_is_no_request f e)
 
   told_may : (q : Result (Unit {0}) PollFault) (ns : List Note) → MayCome q → MayCome (answer_of call (progress call (Told q) ns))

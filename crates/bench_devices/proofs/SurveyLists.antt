@@ -23,7 +23,7 @@ use Rattle.tag_reader.proofs.Knowing.{due_more_for}
 use Rattle.tag_reader.proofs.BlockLists.{sizes, left_of, less_left, many_single}
 
 -- it goes on behind the first so many commands, or it doesn't
-abbrev Decided : Type 0 → Type 0
+abbrev pub Decided : Type 0 → Type 0
 Decided P = P ⊎ (P → ⊥)
 
 -- The commands up to where it doesn't go on any more, which it does with less and less left.

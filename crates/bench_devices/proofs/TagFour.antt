@@ -33,7 +33,7 @@ abbrev first_device : List ℕ → Bool → T4State → CardState → Device
 first_device id starred tag t = linked_device id starred tag (first_card t)
 
 -- a sound device has a tag that can be
-sound_tag : (tag : T4State) (file : List ℕ) → store_of tag ≡ tag.container ++ file → IsT4Store tag.code tag.container file → IsT4State tag
+pub sound_tag : (tag : T4State) (file : List ℕ) → store_of tag ≡ tag.container ++ file → IsT4Store tag.code tag.container file → IsT4State tag
 sound_tag tag file e is = subst (λ xs. IsT4Store tag.code tag.container xs) (sym (append_cancel_left tag.container tag.file file e)) is
 
 -- nothing is selected of it

@@ -28,9 +28,7 @@ use Rattle.tag_writer.specs.Place.{Place, IsAreaPlace, IsPlaceBy, IsFilePlace, I
 use Rattle.tag_writer.specs.Puts.{block_puts, file_close, file_fill, file_last}
 use Rattle.tag_writer.specs.WriteAsked.{Parts, all_puts, AreAreaPuts, AreFilePuts, ArePuts, AreWrites}
 use Rattle.tag_writer.proofs.OnePlace.{one_place, order_of}
-
-abbrev Decided : Type 0 → Type 0
-Decided P = P ⊎ (P → ⊥)
+use Rattle.bench_devices.proofs.SurveyLists.{Decided}
 
 -- An area has a place for a message, or none.
 place_of : (space : Space) (store message : List ℕ) → Decided ((place : Place) × IsAreaPlace space store message place)
@@ -38,9 +36,9 @@ place_of space store message = elim (cases_lt space.end space.start) [
   | inl none ↦ inr (λ p. (let order = order_of space store message p.0 p.1 in omega (arith, order, none)))
   | inr order ↦ elim (holding space store order) [
     | inl h ↦ inl (
-        tail_place (message_tail h.t.at h.after) message,
-        record { ts = h.ts; t = h.t; after = h.after; layout = h.layout; lies = h.lies; kind = h.kind; place' = refl },
-      )
+      tail_place (message_tail h.t.at h.after) message,
+      record { ts = h.ts; t = h.t; after = h.after; layout = h.layout; lies = h.lies; kind = h.kind; place' = refl },
+    )
     | inr none ↦ inr (λ p. (let is = p.1 in none (record { ts = is.ts; t = is.t; after = is.after; layout = is.layout; lies = is.lies; kind = is.kind })))
   ]
 ]
@@ -122,8 +120,7 @@ module _ (how : How) (size : ℕ) (space : Space) (store message : List ℕ) (pl
   cells : (pre : List ℕ) × Cells pre
   cells =
       let first = nonempty store is.t is.lies in
-      let split : is.t.at ++ is.after ≡ first.0 ∷ (first.1 ++ is.after) = ap (λ xs. xs ++ is.after) first.2 in
-      (
+      let split : is.t.at ++ is.after ≡ first.0 ∷ (first.1 ++ is.after) = ap (λ xs. xs ++ is.after) first.2 in (
         before ++ first.0 ∷ [],
         append_assoc before (first.0 ∷ []) tail ∙ ap (λ xs. before ++ first.0 ∷ xs) (ap (drop 1) split) ∙ ap (λ xs. before ++ xs) (sym split) ∙ is.layout.addresses,
       )
@@ -142,8 +139,7 @@ module _ (how : How) (size : ℕ) (space : Space) (store message : List ℕ) (pl
 
   pub area_parts : (p : Parts) × AreAreaPuts how size space store message p
   area_parts =
-      let plan = some_plan (block_size how size) space.end tail store message new.0 in
-      (
+      let plan = some_plan (block_size how size) space.end tail store message new.0 in (
         record { close = block_puts how size (made plan.0.close); fill = block_puts how size plan.0.fill; last = block_puts how size (made plan.0.last) },
         record {
           ts = is.ts;

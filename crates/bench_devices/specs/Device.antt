@@ -260,6 +260,12 @@ device_busy count times (T4 d) =
     T4 (record { id = d.id; front = d.front; upper = record { tag = d.upper.tag; card = ends.made_busy d.upper.card count times; linked = d.upper.linked } })
 device_busy count times (T5 p) = T5 p
 
+-- whether it is a tag: each device is one
+abbrev pub is_tag : Device → Bool
+is_tag (T2 d) = true
+is_tag (T4 d) = true
+is_tag (T5 p) = true
+
 -- what a dump of it shows: all its memory, and of a Type 4 tag the NDEF file alone
 abbrev pub memory_in : Device → List ℕ
 memory_in (T2 d) = d.upper.store

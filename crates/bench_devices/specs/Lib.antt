@@ -8,6 +8,7 @@ pub mod Polling
 pub mod Placed
 pub mod CardAsking
 pub mod TagAsking
+pub mod Hearing
 pub mod Reading
 pub mod Keeping
 pub mod Writing

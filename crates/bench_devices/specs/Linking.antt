@@ -66,9 +66,11 @@ pub record Linked (d : Device) (air : Air Device) (place : ℕ) (reader : Reader
   pub lit : air.lit ≡ true
 
 -- A command asked all that it asks of an activated tag, up to a break or the sixth bad reception of a wait, and tells what came of it.
-abbrev pub AsksOn : {X : Type 0} → Changes → (List Signal → Type 0) → (X → Type 0) → (AskFault → X → Type 0) → ReaderState → Moment (World Device) → Moment (World Device) → X → Type 0
+abbrev pub AsksOn : {X : Type 0} → Changes → (List Signal → Type 0) → (X → Type 0) → (AskFault → X → Type 0) → ReaderState
+    → Moment (World Device) → Moment (World Device) → X → Type 0
 AsksOn what IsAll Tells Fails reader old new x =
-    AsksTag what IsAll (λ commands. iso_next reader (bytes_of commands)) (λ commands ns. TellsExchange Tells Fails (stand (exchange.asks reader (bytes_of commands)) ns)) Fails old new x
+    AsksTag what IsAll (λ commands. iso_next reader (bytes_of commands))
+    (λ commands ns. TellsExchange Tells Fails (stand (exchange.asks reader (bytes_of commands)) ns)) Fails old new x
 
 -- So far it came, until memory was wanting.
 abbrev pub AsksSomeOn : Changes → (List Signal → Type 0) → ReaderState → Moment (World Device) → Moment (World Device) → Type 0

@@ -107,8 +107,8 @@ SelectionCut id old new = AskedPart NoStore (λ ns. asks (selecting id ns)) old 
 
 -- A selected tag was asked all that a command asks of it, up to a break or the sixth bad reception of a wait: what is due of it, by
 -- what was heard, and what tells of the end are those of the command. Without noise no wait has six bad receptions.
-pub record AsksTag {X : Type 0} (what : Changes) (IsAll : List Signal → Type 0) (due : List Signal → List Note → Next) (Tells : List Signal → List Note → X → Type 0)
-    (Fails : AskFault → X → Type 0) (old new : Moment (World Device)) (x : X) : Type 0 where
+pub record AsksTag {X : Type 0} (what : Changes) (IsAll : List Signal → Type 0) (due : List Signal → List Note → Next)
+    (Tells : List Signal → List Note → X → Type 0) (Fails : AskFault → X → Type 0) (old new : Moment (World Device)) (x : X) : Type 0 where
   pub commands : List Signal
   pub asks : IsAll commands
   pub asked : Asked what (due commands) old new
@@ -117,7 +117,8 @@ pub record AsksTag {X : Type 0} (what : Changes) (IsAll : List Signal → Type 0
   pub noisy : Fails asking.SixBad x → 0 < noise asked.going.events
 
 -- So far it was asked, until memory was wanting.
-pub record AsksSome (what : Changes) (IsAll : List Signal → Type 0) (due : List Signal → List Note → Next) (old new : Moment (World Device)) : Type 0 where
+pub record AsksSome (what : Changes) (IsAll : List Signal → Type 0) (due : List Signal → List Note → Next)
+    (old new : Moment (World Device)) : Type 0 where
   pub commands : List Signal
   pub asks : IsAll commands
   pub asked : AskedPart what (due commands) old new
@@ -159,7 +160,8 @@ FailsWrite asking.Protocol r = ⊥
 -- Writing asked what it asks of a device, and tells what came of it. Its stores keep the law of a write, whatever stopped it; no
 -- store of another device changes, and no locked block of any.
 pub record Writes (old new : Moment (World Device)) (d : Device) (message : List ℕ) (r : WriteEnd) : Type 0 where
-  pub told : AsksTag (StoreOf (device_id d)) (AsksWriteOf message d) (tag_next (seen_of d)) (TellsBy (seen_of d) (ShowsWrite message d) FailsWrite) FailsWrite old new r
+  pub told : AsksTag (StoreOf (device_id d)) (AsksWriteOf message d) (tag_next (seen_of d))
+      (TellsBy (seen_of d) (ShowsWrite message d) FailsWrite) FailsWrite old new r
   pub law : KeepsWriteLaw message d (ending_of r) old.world told.asked.going.events
 
 -- Writing was cut off by want of memory; until there its stores keep the law too.

@@ -46,11 +46,12 @@ kind_by kind (Asks n) = Asks n
 kind_by kind (Told (Ok x) ns) = Told (Ok (kind x)) ns
 kind_by kind (Told (Err e) ns) = Told (Err e) ns
 
--- Selecting an NFC-V device: a reset, then the inventory of this identifier.
+-- Selecting an NFC-V device: a reset, then the inventory of this identifier. What would be heard before the reset belongs to no
+-- request: nothing is due then.
 abbrev pub pick_v : List ℕ → List Note → Followed SeenKind
 pick_v id [] = Asks LightUp
 pick_v id (Lit ∷ ns) = kind_by (λ x. seen.T5) (follows (picking_v id) ns)
-pick_v id (Got h ∷ ns) = pick_v id ns
+pick_v id (Got h ∷ ns) = Asks Over
 pick_v id (Lost ∷ ns) = Told (Err faults.FieldLost) ns
 
 -- selecting the device with an identifier, and what it is seen to be

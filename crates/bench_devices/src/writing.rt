@@ -85,11 +85,7 @@ fn write_card(
 }
 
 /// Writes to the Type 4 tag behind a new link.
-fn write_linked(
-    alloc: Global,
-    link: &mut IsoLink<Device>,
-    message: &[u8],
-) -> Result<(), WriteFault>
+fn write_linked(alloc: Global, link: &mut IsoLink<Device>, message: &[u8]) -> Result<(), WriteFault>
     requires tag { (d : Placed) × Linked d link.old.field.now link.old.place link.old.reader }
     requires fresh { IsNewLink (seen_link link.old) }
     ensures same { link.new.field.ghost_name ≡ link.old.field.ghost_name }

@@ -51,7 +51,7 @@ few_tries : (n : ℕ) → n < tries → tries ≤ n → ⊥
 few_tries n a b = omega (arith, a, b)
 
 -- what holds of all holds of the first that has an identifier
-of_first : (P : Device → Type 0) (id : List ℕ) (ds : List Device) (d : Device) → AllByRecursion P ds → device_with id ds ≡ Some d → P d
+pub of_first : (P : Device → Type 0) (id : List ℕ) (ds : List Device) (d : Device) → AllByRecursion P ds → device_with id ds ≡ Some d → P d
 of_first P id [] d all e = absurd cc
 of_first P id (x ∷ ds) d all e = by_name (pointwise nat_eq (device_id x) id) e (λ q. of_first P id ds d all.1 q)
   where

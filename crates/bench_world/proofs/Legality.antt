@@ -66,7 +66,7 @@ follows_more e kind hs ns = kind_more kind (follows e hs) (follows e (hs ++ ns))
 pick_v_more : (id : List ℕ) (hs ns : List Note) → ToldOn (pick_v id hs) ns (pick_v id (hs ++ ns))
 pick_v_more id [] ns = tt
 pick_v_more id (Lit ∷ hs) ns = follows_more (picking_v id) (λ x. seen.T5) hs ns
-pick_v_more id (Got h ∷ hs) ns = pick_v_more id hs ns
+pick_v_more id (Got h ∷ hs) ns = tt
 pick_v_more id (Lost ∷ hs) ns = refl
 
 selecting_stays : (id : DeviceId) (hs ns : List Note) → ToldOn (selecting id hs) ns (selecting id (hs ++ ns))

@@ -2,6 +2,7 @@ pub mod Placing
 pub mod Placed
 pub mod Removing
 pub mod Locking
+pub mod Reached
 pub mod Telling
 pub mod Legality
 pub mod AskedBehind
@@ -14,6 +15,7 @@ pub mod WriteLegality
 pub mod HeldOn
 pub mod ReadBehind
 pub mod OneAnswer
+pub mod QuietHearing
 pub mod OneJournal
 pub mod Shapes
 pub mod Quiet

@@ -13,11 +13,11 @@ use Rattle.bench_devices.specs.declared.device.Device.TheVariants.{T2, T4, T5}
 use Rattle.bench_world.specs.declared.entry.Answer.TheVariants.{Done, Store}
 use Rattle.bench_devices.specs.Choosing.{StandsAt}
 use Rattle.std.specs.List.{AllByRecursion}
-use Rattle.bench_devices.specs.Device.{device_id, most_devices, blocks_of, device_locked, may_be_busy, device_busy, memory_in}
+use Rattle.bench_devices.specs.Device.{device_id, most_devices, blocks_of, device_locked, may_be_busy, device_busy, is_tag, memory_in}
 use Rattle.isodep_link.specs.Card.{most_busy}
 use Rattle.isodep_link.specs.Reader.{longest_extension}
 use Rattle.air_core.specs.Conversation.{Over}
-use Rattle.bench_world.specs.Legal.{IsPlaced, MayBeBusy, Accepts, IsAskedBy, AnswerLaw, changed, due}
+use Rattle.bench_world.specs.Legal.{MayBeBusy, Accepts, IsAskedBy, AnswerLaw, changed, due}
 use Rattle.bench_devices.specs.Placed.{device_with, with_changed, OfPlaced}
 use Rattle.bench_world.specs.Obeying.{state_at, Obeyed}
 use Rattle.bench_devices.specs.Phases.{IsIdle}
@@ -26,6 +26,12 @@ use Rattle.bench_devices.specs.Phases.{IsTidy, AreTidy}
 use Rattle.bench_script.specs.DeviceIds.{bytes_of}
 use Rattle.bench_world.proofs.Placed.{still_obeyed}
 use Rattle.bench_world.proofs.Removing.{is_other}
+
+-- each device is a tag
+all_tags : (d : Device) → is_tag d ≡ true
+all_tags (T2 d) = refl
+all_tags (T4 d) = refl
+all_tags (T5 p) = refl
 
 -- no other device has its identifier, so it is the one that has it
 first_with : (before : List Device) (d : Device) (behind : List Device) (id : List ℕ) → device_id d ≡ id → AreSound (map kept (before ++ d ∷ behind)) → device_with id (before ++ d ∷ behind) ≡ Some d
@@ -146,6 +152,6 @@ module _ (old : Air Device) (id : DeviceId) (place : ℕ) (idle : IsIdle old) (s
       device_changed new (Busy id count times) (device_busy count times) (busy_stays count times s.device few long) accepted refl refl refl refl is
 
   -- what it holds was told
-  pub memory_told : IsPlaced (state_at old) id → Obeyed old old (Dump id) (Store (memory_in s.device))
-  memory_told placed =
-      still_obeyed old old (Dump id) (Store (memory_in s.device)) idle placed refl refl refl refl (of_placed (λ d. Store (memory_in s.device) ≡ Store (memory_in d)) refl) idle.tame idle.tidy
+  pub memory_told : Obeyed old old (Dump id) (Store (memory_in s.device))
+  memory_told =
+      still_obeyed old old (Dump id) (Store (memory_in s.device)) idle (of_placed (λ d. is_tag d ≡ true) (all_tags s.device)) refl refl refl refl (of_placed (λ d. Store (memory_in s.device) ≡ Store (memory_in d)) refl) idle.tame idle.tidy

@@ -24,7 +24,7 @@ use Rattle.bench_devices.specs.Phases.{IsIdle}
 use Rattle.bench_world.proofs.Placing.{map-over, tame_more, tidy_more, none_named}
 
 -- none of these devices has the identifier of another one
-apart_all : (ls : List Device) (d : Device) → AllByRecursion (λ e. device_id e ≡ device_id d → ⊥) ls → AllByRecursion (λ l. IsApart l (kept d)) (map kept ls)
+pub apart_all : (ls : List Device) (d : Device) → AllByRecursion (λ e. device_id e ≡ device_id d → ⊥) ls → AllByRecursion (λ l. IsApart l (kept d)) (map kept ls)
 apart_all [] d none = tt
 apart_all (e ∷ ls) d none = ((λ same. none.0 (sym same)), apart_all ls d none.1)
 

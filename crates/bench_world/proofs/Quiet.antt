@@ -71,7 +71,7 @@ none_lost Damage n m more e = absurd (omega (arith, e))
 none_lost Lose n m more e = absurd (omega (arith, e))
 none_lost Break n m more e = absurd (omega (arith, e))
 
-no_breaks : (es : List Event) → noise es ≡ 0 → breaks es ≡ 0
+pub no_breaks : (es : List Event) → noise es ≡ 0 → breaks es ≡ 0
 no_breaks [] z = refl
 no_breaks (Reset ∷ es) z = no_breaks es z
 no_breaks (Request g x ∷ es) z = none_lost x (noise es) (breaks es) (λ y. no_breaks es y) z

@@ -14,7 +14,7 @@ use Rattle.bench_script.specs.Script.{Spells, is_skipped}
 use Rattle.bench_script.proofs.Spelling.{spells_one}
 use Rattle.bench_devices.specs.declared.device.Device.{Device}
 use Rattle.bench_devices.specs.declared.device.Device.TheVariants.{T2, T4, T5}
-use Rattle.bench_devices.specs.Device.{BenchWorld, air, most_devices, device_id, device_store, blocks_of, may_be_busy, device_locked, device_busy}
+use Rattle.bench_devices.specs.Device.{BenchWorld, air, most_devices, device_id, device_store, blocks_of, may_be_busy, is_tag, device_locked, device_busy}
 use Rattle.bench_devices.specs.Keeping.{Fixed, fixed, AllStayDevices}
 use Rattle.bench_devices.specs.Placed.{device_with, without, with_changed, OfPlaced}
 use Rattle.bench_devices.proofs.EveryFrame.{devices_stay}
@@ -28,9 +28,10 @@ pub record Shape : Type 0 where
   pub id : List ℕ
   pub blocks : ℕ
   pub busy : Bool
+  pub tag : Bool
 
 abbrev pub shape : Device → Shape
-shape d = record { id = device_id d; blocks = blocks_of d; busy = may_be_busy d }
+shape d = record { id = device_id d; blocks = blocks_of d; busy = may_be_busy d; tag = is_tag d }
 
 -- States whose devices are of the same shapes, in the same order.
 abbrev pub AreAlike : State → State → Type 0
@@ -48,7 +49,7 @@ busy_by hows.T4 = true
 busy_by (hows.T5 id) = false
 
 shape_by : Fixed → ℕ → Shape
-shape_by x long = record { id = x.id; blocks = blocks_by x.how x.size long; busy = busy_by x.how }
+shape_by x long = record { id = x.id; blocks = blocks_by x.how x.size long; busy = busy_by x.how; tag = true }
 
 shape_is : (d : Device) → shape d ≡ shape_by (fixed d) (length (device_store d))
 unfolding shape_by blocks_by busy_by
@@ -128,7 +129,8 @@ accepts_too s t (Busy id count times) alike is = record {
   long = is.long;
 }
 accepts_too s t (Remove id) alike is = some_too (device_with (bytes_of id) s.world.listeners) (device_with (bytes_of id) t.world.listeners) (same_with (bytes_of id) s t alike) is
-accepts_too s t (Dump id) alike is = some_too (device_with (bytes_of id) s.world.listeners) (device_with (bytes_of id) t.world.listeners) (same_with (bytes_of id) s t alike) is
+accepts_too s t (Dump id) alike is =
+    of_too (λ x. x.tag ≡ true) (device_with (bytes_of id) s.world.listeners) (device_with (bytes_of id) t.world.listeners) (same_with (bytes_of id) s t alike) is
 accepts_too s t Find alike is = tt
 accepts_too s t (Read id) alike is = tt
 accepts_too s t (Write id m) alike is = tt

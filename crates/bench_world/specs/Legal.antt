@@ -15,7 +15,7 @@ use Rattle.bench_devices.specs.declared.device.Device.{Device}
 use Rattle.bench_world.specs.declared.entry.Answer.{Answer}
 use Rattle.bench_world.specs.declared.entry.Answer.TheVariants as answers
 use Rattle.bench_world.specs.declared.entry.Entry.{Entry}
-use Rattle.bench_devices.specs.Device.{BenchWorld, air, most_devices, StablePart, stable_of, new_t2, new_t4, new_t5, blocks_of, device_locked, may_be_busy, device_busy, memory_in}
+use Rattle.bench_devices.specs.Device.{BenchWorld, air, most_devices, StablePart, stable_of, new_t2, new_t4, new_t5, blocks_of, device_locked, may_be_busy, device_busy, is_tag, memory_in}
 use Rattle.isodep_link.specs.Card.{most_busy}
 use Rattle.isodep_link.specs.Reader.{longest_extension}
 use Rattle.bench_devices.specs.TagAsking.{tag_due}
@@ -77,6 +77,10 @@ pub record MayPlaceT5 (s : State) (id : List ℕ) (blocks size : ℕ) (head : Li
 abbrev pub IsPlaced : State → DeviceId → Type 0
 IsPlaced s id = IsSome (device_with (bytes_of id) s.world.listeners)
 
+-- a tag with this identifier is placed
+abbrev pub IsTagPlaced : State → DeviceId → Type 0
+IsTagPlaced s id = OfPlaced (λ d. is_tag d ≡ true) (device_with (bytes_of id) s.world.listeners)
+
 -- The device with this identifier has this block. Only a Type 2 or Type 5 tag has one that can be locked.
 abbrev pub HasBlock : State → DeviceId → ℕ → Type 0
 HasBlock s id block = OfPlaced (λ d. block < blocks_of d) (device_with (bytes_of id) s.world.listeners)
@@ -87,7 +91,8 @@ pub record MayBeBusy (s : State) (id : DeviceId) (count times : ℕ) : Type 0 wh
   pub few : count ≤ most_busy
   pub long : (1 ≤ times) × (times ≤ longest_extension)
 
--- The conditions of a command beside its grammar, in a state. Only what is placed can be taken away, or shows what it holds.
+-- The conditions of a command beside its grammar, in a state. Only what is placed can be taken away, and a tag alone shows what it
+-- holds.
 abbrev pub Accepts : State → Command → Type 0
 Accepts s Skip = Unit {0}
 Accepts s (Fates fates) = Unit {0}
@@ -97,7 +102,7 @@ Accepts s (PlaceT5 id blocks size head) = MayPlaceT5 s id blocks size head
 Accepts s (Lock id block) = HasBlock s id block
 Accepts s (Busy id count times) = MayBeBusy s id count times
 Accepts s (Remove id) = IsPlaced s id
-Accepts s (Dump id) = IsPlaced s id
+Accepts s (Dump id) = IsTagPlaced s id
 Accepts s Find = Unit {0}
 Accepts s (Read id) = Unit {0}
 Accepts s (Write id message) = Unit {0}

@@ -8,6 +8,7 @@ pub mod Behind
 pub mod Completing
 pub mod Quiet
 pub mod Journal
+pub mod QuietHearing
 pub mod Taking
 pub mod SameCommands
 pub mod Report

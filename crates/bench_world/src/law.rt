@@ -4,6 +4,7 @@
 ghost use Rattle.bench_world.specs.Behind.{WrittenIsRead, OneOfThreeIsRead};
 ghost use Rattle.bench_world.specs.Completing.{ReadsComplete, WritesComplete, ValidIsWritten, FindsComplete};
 ghost use Rattle.bench_world.specs.Quiet.{QuietStays, QuietReads, QuietWrites, QuietFinds};
+ghost use Rattle.bench_world.specs.QuietHearing.{QuietHears, QuietScript};
 ghost use Rattle.bench_world.specs.Taking.{LinesDecide};
 
 /// A legal read of a placed tag, without a Break, without a wait of six bad receptions and with one round (of a Type 5 tag one
@@ -37,10 +38,13 @@ pub fn lines_decide()
 {}
 
 /// Where no fate is left but Pass, the air stays quiet, a read of a placed tag tells what its store holds, a write what it
-/// comes to, and a search lists the whole field.
+/// comes to, and a search lists the whole field; no reception is bad but the silences of polling, so behind the selection of a
+/// tag that is read each is a whole answer. Where no line has another fate, all this holds of each entry of a script's journal.
 pub fn quiet_air()
     ensures stays { QuietStays }
     ensures reads { QuietReads }
     ensures writes { QuietWrites }
     ensures finds { QuietFinds }
+    ensures hears { QuietHears }
+    ensures script { QuietScript }
 {}

@@ -30,3 +30,4 @@ pub mod Awaited
 pub mod OwnGiven
 pub mod Asked
 pub mod Waning
+pub mod Submitted

@@ -1,27 +1,25 @@
 -- The forms of words.
-use Rattle.std.proofs.Common.{◌≡◌, ℕ, List, ◌≤◌, Bool, true, false, ◌⊎◌, inl, inr, ◌∙◌, ap, subst, arith}
-use Rattle.nfc_bench.specs.Run.{Form, Run, FormOf}
-use Rattle.nfc_bench.specs.Stops.{IsRun, is_quiet}
+use Rattle.std.proofs.Common.{◌≡◌, ℕ, List, ◌≤◌, Bool, true, false, ◌⊎◌, inl, inr, length, refl, ap, subst, arith}
+use Rattle.nfc_bench.specs.declared.top.words.Form.{Form}
+use Rattle.nfc_bench.specs.declared.top.words.Form.TheVariants.{Run}
+use Rattle.nfc_bench.specs.Run.{FormOf}
 
--- words of a form are words of a run
-pub is_run : (words : List (List ℕ)) (f : Form) → FormOf words f → IsRun words
-is_run words (Run false) w = inl w
-is_run words (Run true) w = inr w
+-- no words are of two forms
+pub one_form : (words : List (List ℕ)) (f g : Form) → FormOf words f → FormOf words g → f ≡ g
+one_form words (Run false) (Run false) one two = refl
+one_form words (Run true) (Run true) one two = refl
+one_form words (Run false) (Run true) one two = absurd (omega (arith, ap length one, ap length two))
+one_form words (Run true) (Run false) one two = absurd (omega (arith, ap length one, ap length two))
 
-quiet_by : (words : List (List ℕ)) (q : Bool) → FormOf words (Run q) → is_quiet words ≡ q
-quiet_by words false w = ap is_quiet w
-quiet_by words true w = ap is_quiet w
+-- what holds of the form that was seen holds of the form of the words
+pub by_form : (words : List (List ℕ)) (seen : Form) → FormOf words seen → (P : Form → Type 0) → P seen → (f : Form) → FormOf words f → P f
+by_form words seen is P p f w = subst P (one_form words seen f is w) p
 
--- what holds of a run whose second word says so holds of its form
-pub by_form : (words : List (List ℕ)) (quiet : Bool) → quiet ≡ is_quiet words → (P : Form → Type 0) → P (Run quiet) → (f : Form) → FormOf words f → P f
-by_form words quiet is P p (Run q) w = subst (λ x. P (Run x)) (is ∙ quiet_by words q w) p
+-- the one form that there is
+pub quiet_of : (f : Form) → (quiet : Bool) × (f ≡ Run quiet)
+quiet_of (Run quiet) = (quiet, refl)
 
--- the words of a run are of a form
-pub some_form : (words : List (List ℕ)) → IsRun words → ((f : Form) → FormOf words f → ⊥) → ⊥
-some_form words (inl w) none = none (Run false) w
-some_form words (inr w) none = none (Run true) w
-
--- a run over a script has another status than words in no form
+-- a run over a script has another status than words of no form
 pub not_six : (n : ℕ) → (n ≡ 0) ⊎ ((2 ≤ n) × (n ≤ 5)) → n ≡ 6 → ⊥
 not_six n (inl none) six = omega (arith, none, six)
 not_six n (inr some) six = omega (arith, some.1, six)

@@ -1,4 +1,4 @@
--- What a run does, by the status that it ends with.
+-- What a run does, by its words and by the status that it ends with.
 use Rattle.std.specs.Prelude.{◌≡◌, ◌↔◌, ℕ, ◌+◌, ◌<◌, ◌≤◌, ◌⊎◌, List, [], ◌∷◌, ◌++◌, length, codes, Bool, true, false, Option, Some, IfSome}
 use Rattle.std.specs.Fmt.{decimal}
 use Rattle.nfc_io.specs.declared.source.Source as sources
@@ -10,6 +10,8 @@ use Rattle.bench_world.specs.declared.entry.Entry.{Entry}
 use Rattle.nfc_io.specs.Lines.{lines_of, whole_lines}
 use Rattle.bench_script.specs.Limits.{most_lines, longest_line, AreWithinLimits}
 use Rattle.nfc_bench.specs.Limits.{chunk_size, most_read}
+use Rattle.nfc_bench.specs.declared.top.words.Form.{Form}
+use Rattle.nfc_bench.specs.declared.top.words.Form.TheVariants.{Run}
 use Rattle.nfc_bench.specs.declared.top.program.WordsFault.{WordsFault}
 use Rattle.nfc_bench.specs.declared.top.program.WordsFault.TheVariants.{Memory, NoText}
 use Rattle.bench_world.specs.Legal.{State, Given, EachLegal, first_state}
@@ -18,25 +20,23 @@ use Rattle.bench_world.specs.Journal.{Legal}
 use Rattle.bench_world.specs.Taking.{IsTaken, AreTaken, standing_of}
 use Rattle.bench_world.specs.Report.{entry_text, report_text}
 
--- the forms of words: a run, which reports answers alone or events too
-pub data Form : Type 0 where
-  Run : Bool → Form
-
--- these words are of this form
+-- these words are of this form; no words are of two
 abbrev pub FormOf : List (List ℕ) → Form → Type 0
 FormOf words (Run false) = words ≡ codes "run" ∷ []
 FormOf words (Run true) = words ≡ codes "run" ∷ codes "quiet" ∷ []
 
--- What a run sees: what the source has left and the sink has taken, where they tell it, how often each failed, and the bench.
-pub record Seen : Type 0 where
+-- What a run sees: its source, what that has left and the sink has taken, where they tell it, how often each failed, and the bench.
+pub record Seen (S : Type 0) : Type 0 where
+  pub source : S
   pub left : Option (List ℕ)
   pub taken : Option (List ℕ)
   pub reads : ℕ
   pub writes : ℕ
   pub bench : Benched
 
-abbrev pub sees : {S K : Type 0} → sources.Ghosts S → sinks.Ghosts K → S → K → Benched → Seen
-sees s k source sink bench = record { left = s.left source; taken = k.taken sink; reads = s.faults source; writes = k.faults sink; bench = bench }
+abbrev pub sees : {S K : Type 0} → sources.Ghosts S → sinks.Ghosts K → S → K → Benched → Seen S
+sees s k source sink bench =
+    record { source = source; left = s.left source; taken = k.taken sink; reads = s.faults source; writes = k.faults sink; bench = bench }
 
 -- the fault lines
 abbrev pub words_fault : List ℕ
@@ -157,31 +157,6 @@ pub record EndsMemory (quiet : Bool) (left taken taken' : Option (List ℕ)) (wr
   pub most : (journal ≡ entries) ⊎ ((last : Entry) × (journal ≡ entries ++ last ∷ []))
   pub written : AddsFault (report_text quiet entries) memory_fault taken taken' writes writes'
 
--- How a run of a form ends, by its status: from what it saw at first to what it saw at last.
-abbrev pub HasStatus : Form → ℕ → Type 0
-HasStatus (Run quiet) n = (n ≡ 0) ⊎ ((2 ≤ n) × (n ≤ 5))
-
-abbrev pub Done : Form → Seen → Seen → Type 0
-Done (Run quiet) old new = EndsDone quiet old.left new.left old.taken new.taken new.bench.journal
-
-abbrev pub RefusesOne : Form → Seen → Seen → Type 0
-RefusesOne (Run quiet) old new = EndsRefused quiet old.left old.taken new.taken old.writes new.writes new.bench.journal
-
-abbrev pub FailsToRead : Form → Seen → Seen → Type 0
-FailsToRead (Run quiet) old new = EndsUnread quiet old.left new.left old.taken new.taken old.reads new.reads old.writes new.writes new.bench.journal
-
-abbrev pub FailsToWrite : Form → Seen → Seen → Type 0
-FailsToWrite (Run quiet) old new = EndsUnwritten quiet old.left old.taken new.taken old.writes new.writes new.bench.journal
-
-abbrev pub WantsMemory : Form → Seen → Seen → Type 0
-WantsMemory (Run quiet) old new = EndsMemory quiet old.left old.taken new.taken old.writes new.writes new.bench.journal
-
--- Where every line is taken and neither count rose, memory alone may be wanting.
-abbrev pub Completes : Form → Seen → Seen → ℕ → Type 0
-Completes (Run quiet) old new n =
-    (bytes : List ℕ) → old.left ≡ Some bytes → AllTaken (lines_of bytes) → (HasRisen old.reads new.reads → ⊥)
-    → (HasRisen old.writes new.writes → ⊥) → (n ≡ 0) ⊎ (n ≡ 5)
-
 -- So much was read: some bytes in which no line is refused for its number or its length, and behind them at most those
 -- of one call.
 pub record ReadsInTime (left left' : Option (List ℕ)) : Type 0 where
@@ -197,21 +172,42 @@ pub record ReadsAtMost (most : ℕ) (left left' : Option (List ℕ)) : Type 0 wh
   pub read : left ≡ with_front bytes left'
   pub size : length bytes ≤ most
 
--- What a run did by its words: from what it saw at first to what it saw at last, by its status.
-pub record Ran (words : List (List ℕ)) (old new : Seen) (n : ℕ) : Type 0 where
-  pub status : (f : Form) → FormOf words f → HasStatus f n
-  pub done : (f : Form) → FormOf words f → n ≡ 0 → Done f old new
+-- Where every line is taken and neither count rose, memory alone may be wanting.
+abbrev pub Completes : {S : Type 0} → Seen S → Seen S → ℕ → Type 0
+Completes old new n =
+    (bytes : List ℕ) → old.left ≡ Some bytes → AllTaken (lines_of bytes) → (HasRisen old.reads new.reads → ⊥)
+    → (HasRisen old.writes new.writes → ⊥) → (n ≡ 0) ⊎ (n ≡ 5)
+
+-- What a run over a script did, which reports answers alone or events too: from what it saw at first to what it saw at last, by its status.
+pub record RanScript {S : Type 0} (quiet : Bool) (old new : Seen S) (n : ℕ) : Type 0 where
+  pub status : (n ≡ 0) ⊎ ((2 ≤ n) × (n ≤ 5))
+  pub done : n ≡ 0 → EndsDone quiet old.left new.left old.taken new.taken new.bench.journal
   pub still : n ≡ 0 → (new.reads ≡ old.reads) × (new.writes ≡ old.writes)
-  pub refused : (f : Form) → FormOf words f → n ≡ 2 → RefusesOne f old new
-  pub unread : (f : Form) → FormOf words f → n ≡ 3 → FailsToRead f old new
-  pub unwritten : (f : Form) → FormOf words f → n ≡ 4 → FailsToWrite f old new
-  pub memory : (f : Form) → FormOf words f → n ≡ 5 → WantsMemory f old new
-  pub unknown : (n ≡ 6) ↔ ((f : Form) → FormOf words f → ⊥)
-  pub told : n ≡ 6 → AddsFault [] words_fault old.taken new.taken old.writes new.writes
-  pub complete : (f : Form) → FormOf words f → Completes f old new n
+  pub refused : n ≡ 2 → EndsRefused quiet old.left old.taken new.taken old.writes new.writes new.bench.journal
+  pub unread : n ≡ 3 → EndsUnread quiet old.left new.left old.taken new.taken old.reads new.reads old.writes new.writes new.bench.journal
+  pub unwritten : n ≡ 4 → EndsUnwritten quiet old.left old.taken new.taken old.writes new.writes new.bench.journal
+  pub memory : n ≡ 5 → EndsMemory quiet old.left old.taken new.taken old.writes new.writes new.bench.journal
+  pub complete : Completes old new n
+  -- unless memory was wanting, the machines are in the state that the journal leaves
   pub machines : (n ≡ 5 → ⊥) → Leaves new.bench
   pub stop : ReadsInTime old.left new.left
   pub bound : ReadsAtMost most_read old.left new.left
+
+-- What a run of a form did: which statuses there are and what each means is the form's own.
+abbrev pub RanAs : {S : Type 0} → Form → Seen S → Seen S → ℕ → Type 0
+RanAs (Run quiet) old new n = RanScript quiet old new n
+
+-- What is left as it was, and the fault line, where the words are of no form: nothing was read, and no line obeyed.
+pub record RefusesWords {S : Type 0} (old new : Seen S) : Type 0 where
+  pub source : new.source ≡ old.source
+  pub bench : new.bench ≡ old.bench
+  pub told : AddsFault [] words_fault old.taken new.taken old.writes new.writes
+
+-- What was done by these words: from what was seen at first to what was seen at last, with this status.
+pub record Ran {S : Type 0} (words : List (List ℕ)) (old new : Seen S) (n : ℕ) : Type 0 where
+  pub known : (f : Form) → FormOf words f → RanAs f old new n
+  pub unknown : (n ≡ 6) ↔ ((f : Form) → FormOf words f → ⊥)
+  pub same : n ≡ 6 → RefusesWords old new
   pub counts : (old.reads ≤ new.reads) × (old.writes ≤ new.writes)
 
 -- Where there are no words, nothing is read. For want of memory nothing is written either; a word that is no text is in no form.

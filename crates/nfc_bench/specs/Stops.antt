@@ -1,5 +1,5 @@
 -- Why the parts of a run stop.
-use Rattle.std.specs.Prelude.{◌≡◌, ℕ, ◌+◌, ◌<◌, ◌≤◌, ◌⊎◌, List, [], ◌∷◌, ◌++◌, map, length, codes, ◌==◌, Bool, false, Option, IfSome, Result, Err}
+use Rattle.std.specs.Prelude.{◌≡◌, ℕ, ◌+◌, ◌<◌, ◌≤◌, ◌⊎◌, List, [], ◌∷◌, ◌++◌, map, length, Bool, false, Option, IfSome, Result, Err}
 use Rattle.std.specs.List.{AllByRecursion}
 use Rattle.nfc_io.specs.Counts.{HasRisen}
 use Rattle.nfc_io.specs.Moves.{with_end, GainsFront}
@@ -16,13 +16,6 @@ use Rattle.bench_world.specs.Journal.{Numbered}
 use Rattle.bench_world.specs.Taking.{IsTaken}
 use Rattle.bench_world.specs.Report.{entry_text, report_text}
 use Rattle.nfc_bench.specs.Run.{Leaves, AreObeyed, FrontIsObeyed, FirstRefused, ObeysFront, RefusesLine, ObeysWhole, EndsUnwritten}
-
--- the words of a run, and whether a second one follows
-abbrev pub IsRun : List (List ℕ) → Type 0
-IsRun words = (words ≡ codes "run" ∷ []) ⊎ (words ≡ codes "run" ∷ codes "quiet" ∷ [])
-
-abbrev pub is_quiet : List (List ℕ) → Bool
-is_quiet words = length words == 2
 
 -- A text is whole lines of these lengths, within the limits, and a rest.
 pub record Parted (text lengths rest : List ℕ) : Type 0 where

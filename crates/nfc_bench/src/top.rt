@@ -1,12 +1,12 @@
 //! The top call: a run, from the bytes of a script to the bytes of its report.
 
-ghost use Rattle.std.specs.Prelude.{map, string_bytes, codes, IsTrue, IfSome, None, ⊤, ◌⊎◌, ◌≡◌, ◌+◌, ◌<◌, ◌≤◌, ◌↔◌, ◌++◌, [], ℕ, List, length, Option, Some, false, OnOk, IfErr};
+ghost use Rattle.std.specs.Prelude.{map, string_bytes, ◌⊎◌, ◌≡◌, ◌+◌, ◌<◌, ◌≤◌, ◌++◌, [], ℕ, List, length, Some, OnOk, IfErr};
 ghost use Rattle.std.specs.Fmt.{decimal};
 ghost use Rattle.nfc_io.specs.Counts.{HasRisen};
 ghost use Rattle.nfc_io.specs.Lines.{lines_of};
 ghost use Rattle.nfc_bench.specs.Limits.{most_read};
-ghost use Rattle.nfc_bench.specs.Run.{Form, FormOf, HasStatus, Done, RefusesOne, FailsToRead, FailsToWrite, WantsMemory, Completes, sees, words_fault, line_fault, AllTaken, AddsFault, Leaves, EndsDone, EndsRefused, EndsUnread, EndsUnwritten, EndsMemory, ReadsInTime, ReadsAtMost};
-ghost use Rattle.nfc_bench.specs.Stops.{IsRun, is_quiet, RunStops, LeavesUnless};
+ghost use Rattle.nfc_bench.specs.Run.{Ran, sees, line_fault, AllTaken, AddsFault, Leaves, EndsDone, EndsRefused, EndsUnread, EndsUnwritten, EndsMemory, ReadsInTime, ReadsAtMost};
+ghost use Rattle.nfc_bench.specs.Stops.{RunStops, LeavesUnless};
 ghost use Rattle.bench_world.specs.Obeying.{new_bench};
 
 #[cfg(test)]
@@ -22,6 +22,7 @@ mod store_tests;
 mod tags_tests;
 #[cfg(test)]
 mod tests;
+mod words;
 #[cfg(test)]
 mod world_tests;
 #[cfg(test)]
@@ -33,8 +34,9 @@ use input::read_script;
 use lines::{Stop, obey_lines};
 use nfc_io::{Sink, Source, write_all};
 use std::alloc::Global;
+use words::{Form, form_of};
 
-/// Reads a script, obeys its lines, and reports each to the sink; answers the status. The status is that of the first
+/// Does what the words ask for, with a fault line where it stops early; answers the status. The status is that of the first
 /// stop, and a fault line that can't be written doesn't change it.
 pub fn run_bench<S: Source, K: Sink>(
     alloc: Global,
@@ -44,49 +46,20 @@ pub fn run_bench<S: Source, K: Sink>(
     bench: &mut Bench,
 ) -> u8
     requires { bench.old ≡ new_bench }
-    ensures status { (f : Form) → FormOf (map string_bytes words.now) f → HasStatus f result }
-
-    ensures done { (f : Form) → FormOf (map string_bytes words.now) f → result ≡ 0
-        → Done f (sees S.Source K.Sink source.old sink.old bench.old) (sees S.Source K.Sink source.new
-        sink.new bench.new) }
-    ensures still { result ≡ 0 → (S.faults source.new ≡ S.faults source.old) × (K.faults sink.new ≡ K.faults sink.old) }
-    ensures refused { (f : Form) → FormOf (map string_bytes words.now) f → result ≡ 2
-        → RefusesOne f (sees S.Source K.Sink source.old sink.old bench.old) (sees S.Source K.Sink source.new
-        sink.new bench.new) }
-    ensures unread { (f : Form) → FormOf (map string_bytes words.now) f → result ≡ 3
-        → FailsToRead f (sees S.Source K.Sink source.old sink.old bench.old) (sees S.Source K.Sink source.new
-        sink.new bench.new) }
-    ensures unwritten { (f : Form) → FormOf (map string_bytes words.now) f → result ≡ 4
-        → FailsToWrite f (sees S.Source K.Sink source.old sink.old bench.old) (sees S.Source K.Sink source.new
-        sink.new bench.new) }
-    ensures memory { (f : Form) → FormOf (map string_bytes words.now) f → result ≡ 5
-        → WantsMemory f (sees S.Source K.Sink source.old sink.old bench.old) (sees S.Source K.Sink source.new
-        sink.new bench.new) }
-    ensures words { (result ≡ 6) ↔ ((f : Form) → FormOf (map string_bytes words.now) f → ⊥) }
-    ensures same { result ≡ 6 → (source.new ≡ source.old) × (bench.new ≡ bench.old) }
-    ensures told { result ≡ 6 → AddsFault [] words_fault (K.taken sink.old) (K.taken sink.new) (K.faults sink.old)
-        (K.faults sink.new) }
-    ensures complete { (f : Form) → FormOf (map string_bytes words.now) f
-        → Completes f (sees S.Source K.Sink source.old sink.old bench.old) (sees S.Source K.Sink source.new
-        sink.new bench.new) result }
-
-    // Unless memory was wanting, the machines are in the state that the journal leaves.
-    ensures machines { (result ≡ 5 → ⊥) → Leaves bench.new }
-
-    ensures stop { ReadsInTime (S.left source.old) (S.left source.new) }
-    ensures bound { ReadsAtMost most_read (S.left source.old) (S.left source.new) }
-    ensures reads { S.faults source.old ≤ S.faults source.new }
-    ensures writes { K.faults sink.old ≤ K.faults sink.new }
+    ensures ran { Ran (map string_bytes words.now) (sees S.Source K.Sink source.old sink.old bench.old)
+        (sees S.Source K.Sink source.new sink.new bench.new) result }
 {
-    let Some(quiet) = form_of(words) else {
-        write_fault(sink, b"fault 6 words\n");
-        return 6;
-    };
-    run_form(alloc, quiet, source, sink, bench)
+    match form_of(words) {
+        Some(Form::Run { quiet }) => run_and_tell(alloc, quiet, source, sink, bench),
+        None => {
+            write_fault(sink, b"fault 6 words\n");
+            6
+        }
+    }
 }
 
-/// A run over a script, that reports answers alone or events too.
-fn run_form<S: Source, K: Sink>(
+/// A run over a script, that reports answers alone or events too, and tells why it stopped.
+fn run_and_tell<S: Source, K: Sink>(
     alloc: Global,
     quiet: bool,
     source: &mut S,
@@ -134,19 +107,6 @@ fn run_form<S: Source, K: Sink>(
             write_fault(sink, b"fault 5 memory\n");
             5
         }
-    }
-}
-
-/// Whether a run is to report answers alone; none where the words are no form that is known.
-fn form_of(words: &[String]) -> Option<bool>
-    ensures some { IfSome result
-        (λ quiet. IsRun (map string_bytes words.now) × (quiet ≡ is_quiet (map string_bytes words.now))) }
-    ensures none { result ≡ None → IsRun (map string_bytes words.now) → ⊥ }
-{
-    match words {
-        [run] if run.as_str() == "run" => Some(false),
-        [run, quiet] if run.as_str() == "run" && quiet.as_str() == "quiet" => Some(true),
-        _ => None,
     }
 }
 

@@ -3,3 +3,4 @@ pub mod Moves
 pub mod Memory
 pub mod Standard
 pub mod Lines
+pub mod Reading

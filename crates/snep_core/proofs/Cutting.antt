@@ -28,7 +28,7 @@ module _ {C A : Type 0} (seen : C → CarrierView) (moves : C → List FarStep �
       go : (o : Option EndCause) → (seen link).over ≡ o → IsCut seen moves steps stops llc link far e new now after
       go None i = inr (inl (record {
         count = g.count;
-        allowed = g.allowed;
+        most = (g.allowed, g.most);
         left = kept ∙ g.left;
         why = why;
         fault = fault;
@@ -41,7 +41,7 @@ module _ {C A : Type 0} (seen : C → CarrierView) (moves : C → List FarStep �
           let w : why ≡ record { cause = c; answered = false } = cc in
           inl (inr (record {
             count = g.count;
-            allowed = g.allowed;
+            most = (g.allowed, g.most);
             left = kept ∙ g.left;
             why = c;
             over = i;
@@ -56,7 +56,7 @@ module _ {C A : Type 0} (seen : C → CarrierView) (moves : C → List FarStep �
       → IsCut seen moves steps stops llc link far e new now after
   cut_unread new e reply fault done swapped = inr (inr (record {
     count = g.count;
-    allowed = g.allowed;
+    most = (g.allowed, g.most);
     reply = reply;
     fault = fault;
     swap = subst (λ b. SwapDone steps (seen link) (seen now) b reply far after) g.bytes_are done;
@@ -68,7 +68,7 @@ module _ {C A : Type 0} (seen : C → CarrierView) (moves : C → List FarStep �
       → gave ≡ gave_something (own_of mid) (own_of new) → Exchanged seen moves steps stops llc link far gave new now after
   exchanged reply gave new done swapped took something = record {
     count = g.count;
-    allowed = g.allowed;
+    most = (g.allowed, g.most);
     reply = reply;
     swap = subst (λ b. SwapDone steps (seen link) (seen now) b reply far after) g.bytes_are done;
     swapped = subst (λ b. Swapped moves steps stops link b far now after (λ did. did ≡ Stepped b reply ∷ [])) g.bytes_are swapped;

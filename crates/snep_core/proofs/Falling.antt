@@ -1,5 +1,5 @@
 -- What is still to come falls by each reply that gives something.
-use Rattle.std.proofs.Common.{◌≡◌, ◌<◌, ◌≤◌, ℕ, ◌==◌, ◌&&◌, not, Bool, true, false, List, Option, refl, sym, ap, subst, arith, if◌then◌else◌}
+use Rattle.std.proofs.Common.{◌≡◌, ◌<◌, ◌≤◌, ℕ, ◌==◌, ◌&&◌, ◌||◌, ◌+◌, ◌-◌, ◌*◌, not, Bool, true, false, List, Option, refl, sym, ap, subst, ◌∙◌, arith, if◌then◌else◌}
 use Rattle.std.proofs.lemmas.Bool.Decides.{nat_tests}
 use Rattle.llcp_link.specs.State.{OwnState}
 use Rattle.llcp_link.specs.declared.standing.Standing.{Standing}
@@ -8,9 +8,13 @@ use Rattle.llcp_link.specs.Asking.{acked_of, is_open_by, standing_of}
 use Rattle.llcp_link.specs.Taking.{taken_from}
 use Rattle.llcp_link.specs.Giving.{after_giving}
 use Rattle.llcp_link.specs.Waning.{pending}
-use Rattle.llcp_link.proofs.Waning.{Wanes, is_of, acknowledged_falls, answer_falls, drained_wanes, given_wanes, pending_wanes, taken_wanes}
-use Rattle.snep_core.specs.Waning.{Lessens}
-use Rattle.snep_core.specs.Talk.{EndState, client_sap, drained, gave_something, is_waiting, own_of, silent}
+use Rattle.llcp_link.proofs.Waning.{Wanes, is_of, acknowledged_falls, answer_falls, given_wanes, pending_wanes, taken_wanes}
+use Rattle.snep_core.specs.declared.job.Turn.{Turn}
+use Rattle.snep_core.specs.declared.job.Turn.TheVariants.{Ended, Went, GaveUp}
+use Rattle.snep_core.specs.Jobs.{Job}
+use Rattle.snep_core.specs.Waning.{Falls, GoesAs, Lessens, LessensTo, job_left, to_come}
+use Rattle.snep_core.proofs.Owned.{pending_emptied}
+use Rattle.snep_core.specs.Talk.{EndState, client_sap, emptied, gave_something, idle_after, is_waiting, most_idle, own_of, silent}
 
 both : (a b : Bool) → (a && b) ≡ true → (a ≡ true) × (b ≡ true)
 both true b e = (refl, e)
@@ -67,13 +71,26 @@ exchange_falls l mid new n reply gave e i few g = go gave g
     go true k = (let x = one in let y = gave_falls (own_of mid) (own_of new) two few (sym k) in omega arith)
     go false k = (let x = one in let y = pending_wanes client_sap (own_of mid) (own_of new) two in omega arith)
 
--- and a unit that is taken away behind it
-pub drained_falls : (gave : Bool) (old : Option OwnState) (new last : EndState) → last ≡ drained new → Lessens gave old (own_of new) → Lessens gave old (own_of last)
-drained_falls gave old new last e h = go gave h
-  where
-    less : pending (own_of last) ≤ pending (own_of new)
-    less = pending_wanes client_sap (own_of new) (own_of last) (subst (λ z. On (own_of new) (own_of z)) (sym e) (drained_wanes silent client_sap new))
+-- A call that goes on has fewer replies left.
+pub turn_falls : (before between after start mid last idle : ℕ) (gave some : Bool) → between + mid ≤ before + start → LessensTo gave between after
+    → LessensTo some mid last → idle < most_idle → idle_after (gave || some) idle < most_idle
+    → 17 * (after + last) + (most_idle - idle_after (gave || some) idle) < 17 * (before + start) + (most_idle - idle)
+turn_falls before between after start mid last idle true true r g s i n = omega arith
+turn_falls before between after start mid last idle true false r g s i n = omega arith
+turn_falls before between after start mid last idle false true r g s i n = omega arith
+turn_falls before between after start mid last idle false false r g s i n = omega arith
 
-    go : (b : Bool) → Lessens b old (own_of new) → Lessens b old (own_of last)
-    go true k = (let x = less in omega arith)
-    go false k = (let x = less in omega arith)
+-- so does one whose job came to this
+pub goes_falls : (own : Option OwnState) (job : Job) (between mid last : EndState) (now next : Job) (idle : ℕ) (gave some : Bool) (turn : Turn) (new : EndState)
+    → to_come (own_of between) now ≤ to_come own job → Lessens gave (own_of between) (own_of mid) → LessensTo some (job_left now) (job_left next)
+    → idle < most_idle → last ≡ emptied mid client_sap → GoesAs next (idle_after (gave || some) idle) last turn new → Falls own job idle turn (own_of new)
+goes_falls own job between mid last now next idle gave some (Ended e) new r g s i k goes = tt
+goes_falls own job between mid last now next idle gave some GaveUp new r g s i k goes = tt
+goes_falls own job between mid last now next idle gave some (Went j n) new r g s i k goes =
+    let p : pending (own_of new) ≡ pending (own_of mid) = ap (λ z. pending (own_of z)) (goes.3 ∙ k) ∙ pending_emptied mid in
+    let f =
+    turn_falls (pending own) (pending (own_of between)) (pending (own_of mid)) (job_left job) (job_left now) (job_left next) idle gave some r g s i
+    goes.2 in
+    let a = ap job_left goes.0 in
+    let b = goes.1 in
+    (subst (λ z. z < most_idle) (sym b) goes.2, omega arith)

@@ -11,6 +11,10 @@ pub mod PayloadLaw
 pub mod CallsKeep
 pub mod CutOff
 pub mod Links
+pub mod Owned
+pub mod Jobs
+pub mod Submits
+pub mod Connecting
 pub mod Cutting
 pub mod Talking
 pub mod Falling

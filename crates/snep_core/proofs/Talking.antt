@@ -1,20 +1,28 @@
 -- A call goes on by one exchange more.
-use Rattle.std.proofs.Common.{◌≡◌, ℕ, List, [], ◌∷◌, ◌++◌, Option, Some, refl, sym, ap, subst, ◌∙◌, append-nil}
+use Rattle.std.proofs.Common.{◌≡◌, ℕ, Bool, true, false, List, [], ◌∷◌, ◌++◌, ◌||◌, Option, Some, None, refl, sym, ap, subst, ◌∙◌, inr, append-nil}
 use Rattle.std.proofs.lemmas.List.{append_assoc}
-use Rattle.nfc_base.specs.Links.{CarrierView, FarStep, Stepped, Stopped, FarMoved}
-use Rattle.llcp_link.specs.Giving.{IsAllowed, given}
+use Rattle.nfc_base.specs.Links.{CarrierView, FarStep, Stepped, Stopped, FarMoved, SwapDone, Swapped}
+use Rattle.llcp_link.specs.Asking.{forgotten}
+use Rattle.llcp_link.specs.Giving.{given, after_giving}
 use Rattle.snep_core.specs.declared.job.Turn.{Turn}
-use Rattle.snep_core.specs.Calling.{Talks, Turned, last_of, payload_of, payloads, step_of}
-use Rattle.snep_core.specs.Talk.{EndState, Ends, GivesUp, Goes, Step, Told, Working, replied, silent}
+use Rattle.snep_core.specs.declared.job.Turn.TheVariants.{GaveUp}
+use Rattle.snep_core.specs.declared.fault.SnepFault.{SnepFault}
+use Rattle.snep_core.specs.declared.fault.SnepFault.TheVariants.{Memory}
+use Rattle.snep_core.specs.Calling.{Exchanged, IsCut, Talks, Turned, last_of, payload_of, payloads, step_of}
+use Rattle.snep_core.specs.Jobs.{Job, has_byte}
+use Rattle.snep_core.specs.Talk.{EndState, Ends, GivesUp, Goes, IsMost, Ready, Step, Told, Working, alone, client_sap, emptied, gave_something, heard, heard_with, idle_after, own_of, payload, ready, readied, ready_so, replied, replied_ready, settled, silent, told_by, took, units_of}
 
-told_more : (from : Step) (did : List FarStep) (w : Working) (n : ℕ) (reply : List ℕ) (to : Step) → Told from did (Goes w) → IsAllowed silent w.llc n
-    → replied n w reply ≡ to → Told from (did ++ Stepped (given silent n w.llc) reply ∷ []) to
-told_more from [] w n reply to t a e =
-    subst (λ s. Told s (Stepped (given silent n w.llc) reply ∷ []) to) t (n, a, refl, sym e)
-told_more (Goes v) (Stepped p r ∷ did) w n reply to (k, b, q, more) a e = (k, b, q, told_more (replied k v r) did w n reply to more a e)
-told_more (Goes v) (Stopped p ∷ did) w n reply to t a e = absurd t
-told_more (Ends o l) (x ∷ did) w n reply to t a e = absurd t
-told_more (GivesUp l) (x ∷ did) w n reply to t a e = absurd t
+told_more : (from : Step) (ns : List ℕ) (did : List FarStep) (w : Working) (n : ℕ) (reply : List ℕ) (to : Step) → Told IsMost ns from did (Goes w)
+    → IsMost (ready w).llc n → replied n w reply ≡ to → Told IsMost (ns ++ n ∷ []) from (did ++ Stepped (payload n w) reply ∷ []) to
+told_more from [] [] w n reply to t a e = subst (λ s. Told IsMost (n ∷ []) s (Stepped (payload n w) reply ∷ []) to) t (a, refl, sym e)
+told_more from [] (x ∷ did) w n reply to t a e = absurd t
+told_more (Goes v) (k ∷ ns) (Stepped p r ∷ did) w n reply to (b, q, more) a e = (b, q, told_more (replied k v r) ns did w n reply to more a e)
+told_more (Goes v) (k ∷ ns) (Stopped p ∷ did) w n reply to t a e = absurd t
+told_more (Goes v) (k ∷ ns) [] w n reply to t a e = absurd t
+told_more (Ends o l) (k ∷ ns) [] w n reply to t a e = absurd t
+told_more (Ends o l) (k ∷ ns) (x ∷ did) w n reply to t a e = absurd t
+told_more (GivesUp l) (k ∷ ns) [] w n reply to t a e = absurd t
+told_more (GivesUp l) (k ∷ ns) (x ∷ did) w n reply to t a e = absurd t
 
 payloads_more : (did : List FarStep) (x : FarStep) → payloads (did ++ x ∷ []) ≡ payloads did ++ payload_of x ∷ []
 payloads_more [] x = refl
@@ -26,18 +34,20 @@ last_more before (y ∷ did) x = last_more (Some (payload_of y)) did x
 
 module _ {C A : Type 0} (seen : C → CarrierView) (moves : C → List FarStep → C → Type 0) (steps : A → List ℕ → List ℕ → A → Type 0)
     (stops : A → List ℕ → A → Type 0) where
-  far_more : (from : Step) (did : List FarStep) (w : Working) → Told from did (Goes w) → (far mid after : A) (out reply : List ℕ)
+  far_more : (from : Step) (ns : List ℕ) (did : List FarStep) (w : Working) → Told IsMost ns from did (Goes w) → (far mid after : A) (out reply : List ℕ)
       → FarMoved steps stops did far mid → steps mid out reply after → FarMoved steps stops (did ++ Stepped out reply ∷ []) far after
-  far_more from [] w t far mid after out reply m s = (after, subst (λ z. steps z out reply after) m s, refl)
-  far_more (Goes v) (Stepped p r ∷ did) w (k, b, q, more) far mid after out reply (x, s1, m) s =
-      (x, s1, far_more (replied k v r) did w more x mid after out reply m s)
-  far_more (Goes v) (Stopped p ∷ did) w t far mid after out reply m s = absurd t
-  far_more (Ends o l) (x ∷ did) w t far mid after out reply m s = absurd t
-  far_more (GivesUp l) (x ∷ did) w t far mid after out reply m s = absurd t
+  far_more from ns [] w t far mid after out reply m s = (after, subst (λ z. steps z out reply after) m s, refl)
+  far_more from [] (x ∷ did) w t far mid after out reply m s = absurd t
+  far_more (Goes v) (k ∷ ns) (Stepped p r ∷ did) w (b, q, more) far mid after out reply (x, s1, m) s =
+      (x, s1, far_more (replied k v r) ns did w more x mid after out reply m s)
+  far_more (Goes v) (k ∷ ns) (Stopped p ∷ did) w t far mid after out reply m s = absurd t
+  far_more (Ends o l) (k ∷ ns) (x ∷ did) w t far mid after out reply m s = absurd t
+  far_more (GivesUp l) (k ∷ ns) (x ∷ did) w t far mid after out reply m s = absurd t
 
   pub talks_none : ((a : C) → moves a [] a) → (from : Step) (link : C) (far : A) → Talks seen moves steps stops from link far from link far
   talks_none law from link far = record {
     did = [];
+    counts = [];
     told = refl;
     handed = sym (append-nil (seen link).handed);
     last = refl;
@@ -47,16 +57,93 @@ module _ {C A : Type 0} (seen : C → CarrierView) (moves : C → List FarStep �
 
   pub talks_on : ((a b c : C) (xs ys : List FarStep) → moves a xs b → moves b ys c → moves a (xs ++ ys) c) → (from : Step) (link : C) (far : A) (w : Working)
       (mid : C) (mid_far : A) (turn : Turn) (new : EndState) (now : C) (after : A) → Talks seen moves steps stops from link far (Goes w) mid mid_far
-      → Turned seen moves steps stops w mid mid_far turn new now after → Talks seen moves steps stops from link far (step_of turn w new) now after
+      → Turned seen moves steps stops w mid mid_far turn new now after → Talks seen moves steps stops from link far (step_of turn new) now after
   talks_on law from link far w mid mid_far turn new now after t u =
-      let out = given silent u.count w.llc in
+      let out = given silent u.count (ready w).llc in
       let x : FarStep = Stepped out u.reply in record {
         did = t.did ++ x ∷ [];
-        told = told_more from t.did w u.count u.reply (step_of turn w new) t.told u.allowed u.step;
+        counts = t.counts ++ u.count ∷ [];
+        told = told_more from t.counts t.did w u.count u.reply (step_of turn new) t.told u.most u.step;
         handed =
             u.swap.handed ∙ ap (λ z. z ++ out ∷ []) t.handed ∙ append_assoc (seen link).handed (payloads t.did) (out ∷ [])
             ∙ ap (λ z. (seen link).handed ++ z) (sym (payloads_more t.did x));
         last = u.swap.swaps.last ∙ sym (last_more (seen link).last t.did x);
         link_moved = law link mid now t.did (x ∷ []) t.link_moved (subst (λ d. moves mid d now) u.swapped.tells u.swapped.link);
-        far_moved = far_more from t.did w t.told far mid_far after out u.reply t.far_moved u.swap.step;
+        far_moved = far_more from t.counts t.did w t.told far mid_far after out u.reply t.far_moved u.swap.step;
       }
+
+-- What one job alone comes to, behind a payload and its reply.
+module _ (old mid new : EndState) (job now : Job) (idle : ℕ) where
+  or_false : (b : Bool) → (b || false) ≡ b
+  or_false true = refl
+  or_false false = refl
+
+  pub took_none : heard mid client_sap now ≡ None → new ≡ forgotten mid client_sap → took old mid (alone now) idle ≡ step_of GaveUp new
+  took_none h e =
+      ap (λ o. told_by mid (alone now) (idle_after ((gave_something (own_of old) (own_of mid) || has_byte (units_of (own_of mid))) || false) idle)
+      (heard_with client_sap o (Some []))) h
+      ∙ ap GivesUp (sym e)
+
+  pub took_some : (next : Job) (gave : Bool) → heard mid client_sap now ≡ Some next
+      → gave ≡ (gave_something (own_of old) (own_of mid) || has_byte (units_of (own_of mid)))
+      → took old mid (alone now) idle ≡ settled (emptied mid client_sap) (alone next) (idle_after gave idle)
+  took_some next gave h e =
+      ap (λ o. told_by mid (alone now) (idle_after ((gave_something (own_of old) (own_of mid) || has_byte (units_of (own_of mid))) || false) idle)
+      (heard_with client_sap o (Some []))) h
+      ∙ ap (λ b. settled (emptied mid client_sap) (alone next) (idle_after b idle))
+      (or_false (gave_something (own_of old) (own_of mid) || has_byte (units_of (own_of mid))) ∙ sym e)
+
+module _ {C A : Type 0} (seen : C → CarrierView) (moves : C → List FarStep → C → Type 0) (steps : A → List ℕ → List ℕ → A → Type 0)
+    (stops : A → List ℕ → A → Type 0) (link : C) (far : A) (over : C) (after : A) (l mid heard_end : EndState) (job now : Job) (idle : ℕ)
+    (r : readied l client_sap job ≡ ready_so mid now) (gave : Bool)
+    (x : Exchanged seen moves steps stops mid link far gave heard_end over after) where
+  abbrev working : Working
+  working = record { llc = l; jobs = alone job; idle = idle }
+
+  abbrev turned_by : (turn : Turn) (new : EndState) → took (after_giving silent x.count mid) heard_end (alone now) idle ≡ step_of turn new
+      → Turned seen moves steps stops working link far turn new over after
+  turned_by turn new e = record {
+    count = x.count;
+    most = subst (λ (z : Ready). IsMost z.llc x.count) (sym r) x.most;
+    reply = x.reply;
+    swap = subst (λ (z : Ready). SwapDone steps (seen link) (seen over) (given silent x.count z.llc) x.reply far after) (sym r) x.swap;
+    swapped = subst (λ (z : Ready). Swapped moves steps stops link (given silent x.count z.llc) far over after
+        (λ did. did ≡ Stepped (given silent x.count z.llc) x.reply ∷ [])) (sym r) x.swapped;
+    step =
+        ap (λ (z : Ready). replied_ready x.count (record { llc = z.llc; jobs = record { sap = client_sap; job = z.job } ∷ []; idle = idle }) x.reply) r
+        ∙ ap (λ z. took (after_giving silent x.count mid) z (alone now) idle) (sym x.took) ∙ e;
+  }
+
+  -- the far end was at fault
+  pub turned_none : (new : EndState) → heard heard_end client_sap now ≡ None → new ≡ forgotten heard_end client_sap
+      → Turned seen moves steps stops working link far GaveUp new over after
+  turned_none new h e = turned_by GaveUp new (took_none (after_giving silent x.count mid) heard_end new job now idle h e)
+
+  -- its job came to this
+  pub turned_some : (turn : Turn) (new : EndState) (next : Job) (some : Bool) → heard heard_end client_sap now ≡ Some next
+      → some ≡ has_byte (units_of (own_of heard_end))
+      → settled (emptied heard_end client_sap) (alone next) (idle_after (gave || some) idle) ≡ step_of turn new
+      → Turned seen moves steps stops working link far turn new over after
+  turned_some turn new next some h s e =
+      turned_by turn new
+      (took_some (after_giving silent x.count mid) heard_end new job now idle next (gave || some) h
+      (ap (λ b. b || some) x.something ∙ ap (λ b. gave_something (own_of (after_giving silent x.count mid)) (own_of heard_end) || b) s) ∙ e)
+
+  -- it was answered, and memory was wanting as the reply was read
+  pub unread : (e : SnepFault) (new : EndState) → e ≡ Memory → IsCut seen moves steps stops (ready working).llc link far e new over after
+  unread e new f = subst (λ (z : Ready). IsCut seen moves steps stops z.llc link far e new over after) (sym r) (inr (inr (record {
+    count = x.count;
+    most = x.most;
+    reply = x.reply;
+    fault = f;
+    swap = x.swap;
+    swapped = x.swapped;
+  })))
+
+-- where it was cut off is the end once its job was ready
+pub cut_ready : {C A : Type 0} (seen : C → CarrierView) (moves : C → List FarStep → C → Type 0) (steps : A → List ℕ → List ℕ → A → Type 0)
+    (stops : A → List ℕ → A → Type 0) (link : C) (far : A) (over : C) (after : A) (l mid new : EndState) (job now : Job) (idle : ℕ) (e : SnepFault)
+    → readied l client_sap job ≡ ready_so mid now → IsCut seen moves steps stops mid link far e new over after
+    → IsCut seen moves steps stops (ready (record { llc = l; jobs = alone job; idle = idle })).llc link far e new over after
+cut_ready seen moves steps stops link far over after l mid new job now idle e r c =
+    subst (λ (z : Ready). IsCut seen moves steps stops z.llc link far e new over after) (sym r) c

@@ -5,10 +5,14 @@ use Rattle.nfc_base.specs.declared.carrier.EndCause.TheVariants as cause
 use Rattle.nfc_base.specs.declared.carrier.LinkEnd.{LinkEnd}
 use Rattle.nfc_base.specs.Links.{CarrierView, FarStep, Stepped, Stopped, FarMoved, SwapDone, SwapFailed, Swapped, AskedBy}
 use Rattle.llcp_link.specs.Taking.{taken_from}
-use Rattle.llcp_link.specs.Giving.{IsAllowed, given, after_giving}
+use Rattle.llcp_link.specs.Giving.{given, after_giving}
 use Rattle.snep_core.specs.declared.fault.SnepFault.{SnepFault}
 use Rattle.snep_core.specs.declared.fault.SnepFault.TheVariants.{LinkEnded, Memory, BadPeer}
-use Rattle.snep_core.specs.Talk.{EndState, Step, Goes, Ends, GivesUp, Told, Working, gave_something, own_of, replied, silent}
+use Rattle.snep_core.specs.declared.fault.SnepFault.TheVariants as faults
+use Rattle.snep_core.specs.Jobs.{Over, Refused}
+use Rattle.snep_core.specs.Talk.{EndState, IsMost, Step, Goes, Ends, GivesUp, Told, Working, alone, gave_something, own_of, ready, replied, silent}
+use Rattle.snep_core.specs.declared.job.Refusal.{Refusal}
+use Rattle.snep_core.specs.declared.job.Refusal.TheVariants as refusals
 use Rattle.snep_core.specs.declared.job.Turn.{Turn}
 use Rattle.snep_core.specs.declared.job.Turn.TheVariants.{Ended, Went, GaveUp}
 
@@ -42,17 +46,27 @@ abbrev pub is_memory : SnepFault → Bool
 is_memory Memory = true
 is_memory _ = false
 
-abbrev pub step_of : Turn → Working → EndState → Step
-step_of (Ended o) w l = Ends o l
-step_of (Went idle) w l = Goes (record { llc = l; job = w.job; idle = idle })
-step_of GaveUp w l = GivesUp l
+-- why a call ends that the server refused
+abbrev pub refused_by : Refusal → SnepFault
+refused_by refusals.Reject = faults.Reject
+refused_by refusals.NotFound = faults.NotFound
+refused_by refusals.Excess = faults.Excess
+refused_by refusals.NotImplemented = faults.NotImplemented
+
+-- what a call is behind an exchange
+abbrev pub step_of : Turn → EndState → Step
+step_of (Ended e) l = Ends (alone (Over e)) l
+step_of (Went job idle) l = Goes (record { llc = l; jobs = alone job; idle = idle })
+step_of GaveUp l = GivesUp l
 
 module _ {C A : Type 0} (seen : C → CarrierView) (moves : C → List FarStep → C → Type 0) (steps : A → List ℕ → List ℕ → A → Type 0)
     (stops : A → List ℕ → A → Type 0) where
-  -- A call came from one step to another over the link: what was handed over, and what the link and the far end did.
+  -- A call came from one step to another over the link: what was handed over, each payload with as many PDUs as fit, and what the
+  -- link and the far end did.
   pub record Talks (from : Step) (link : C) (far : A) (to : Step) (now : C) (after : A) : Type 0 where
     pub did : List FarStep
-    pub told : Told from did to
+    pub counts : List ℕ
+    pub told : Told IsMost counts from did to
     pub handed : (seen now).handed ≡ (seen link).handed ++ payloads did
     pub last : (seen now).last ≡ last_of (seen link).last did
     pub link_moved : moves link did now
@@ -61,7 +75,7 @@ module _ {C A : Type 0} (seen : C → CarrierView) (moves : C → List FarStep �
   -- one exchange: the next payload was answered, and the reply taken
   pub record Exchanged (old : EndState) (link : C) (far : A) (gave : Bool) (new : EndState) (now : C) (after : A) : Type 0 where
     pub count : ℕ
-    pub allowed : IsAllowed silent old count
+    pub most : IsMost old count
     pub reply : List ℕ
     pub swap : SwapDone steps (seen link) (seen now) (given silent count old) reply far after
     pub swapped : Swapped moves steps stops link (given silent count old) far now after
@@ -72,12 +86,12 @@ module _ {C A : Type 0} (seen : C → CarrierView) (moves : C → List FarStep �
   -- one exchange, and what the call is then
   pub record Turned (w : Working) (link : C) (far : A) (turn : Turn) (new : EndState) (now : C) (after : A) : Type 0 where
     pub count : ℕ
-    pub allowed : IsAllowed silent w.llc count
+    pub most : IsMost (ready w).llc count
     pub reply : List ℕ
-    pub swap : SwapDone steps (seen link) (seen now) (given silent count w.llc) reply far after
-    pub swapped : Swapped moves steps stops link (given silent count w.llc) far now after
-        (λ did. did ≡ Stepped (given silent count w.llc) reply ∷ [])
-    pub step : replied count w reply ≡ step_of turn w new
+    pub swap : SwapDone steps (seen link) (seen now) (given silent count (ready w).llc) reply far after
+    pub swapped : Swapped moves steps stops link (given silent count (ready w).llc) far now after
+        (λ did. did ≡ Stepped (given silent count (ready w).llc) reply ∷ [])
+    pub step : replied count w reply ≡ step_of turn new
 
   -- Nothing was handed over: memory was wanting before.
   pub record Rests (link : C) (far : A) (e : SnepFault) (now : C) (after : A) : Type 0 where
@@ -88,7 +102,7 @@ module _ {C A : Type 0} (seen : C → CarrierView) (moves : C → List FarStep �
   -- The link was over. The client's end gave its next payload, and nobody took it.
   pub record IsOver (old : EndState) (link : C) (far : A) (e : SnepFault) (new : EndState) (now : C) (after : A) : Type 0 where
     pub count : ℕ
-    pub allowed : IsAllowed silent old count
+    pub most : IsMost old count
     pub left : new ≡ after_giving silent count old
     pub why : EndCause
     pub over : (seen link).over ≡ Some why
@@ -100,7 +114,7 @@ module _ {C A : Type 0} (seen : C → CarrierView) (moves : C → List FarStep �
   -- The swap of the next payload failed. The client's end gave it, and heard nothing.
   pub record Fails (old : EndState) (link : C) (far : A) (e : SnepFault) (new : EndState) (now : C) (after : A) : Type 0 where
     pub count : ℕ
-    pub allowed : IsAllowed silent old count
+    pub most : IsMost old count
     pub left : new ≡ after_giving silent count old
     pub why : LinkEnd
     pub fault : e ≡ fault_of why.cause
@@ -111,7 +125,7 @@ module _ {C A : Type 0} (seen : C → CarrierView) (moves : C → List FarStep �
   -- The next payload was answered, and as the reply was taken memory was wanting.
   pub record Unread (old : EndState) (link : C) (far : A) (e : SnepFault) (now : C) (after : A) : Type 0 where
     pub count : ℕ
-    pub allowed : IsAllowed silent old count
+    pub most : IsMost old count
     pub reply : List ℕ
     pub fault : e ≡ Memory
     pub swap : SwapDone steps (seen link) (seen now) (given silent count old) reply far after
@@ -130,9 +144,20 @@ module _ {C A : Type 0} (seen : C → CarrierView) (moves : C → List FarStep �
     pub mid : C
     pub mid_far : A
     pub talks : Talks from link far (Goes at) mid mid_far
-    pub cut : IsCut at.llc mid mid_far e new now after
+    pub cut : IsCut (ready at).llc mid mid_far e new now after
 
   -- A call that failed: the far end was given up, or it was cut off.
   abbrev pub FailsBy : Step → C → A → SnepFault → EndState → C → A → Type 0
   FailsBy from link far e new now after =
       ((e ≡ BadPeer) × Talks from link far (GivesUp new) now after) ⊎ Breaks from link far e new now after
+
+  -- A call whose request was refused.
+  pub record IsRefused (from : Step) (link : C) (far : A) (e : SnepFault) (new : EndState) (now : C) (after : A) : Type 0 where
+    pub why : Refusal
+    pub fault : e ≡ refused_by why
+    pub talks : Talks from link far (Ends (alone (Over (Refused why))) new) now after
+
+  -- A request that failed: it was refused, the far end was given up, or it was cut off.
+  abbrev pub RequestFails : Step → C → A → SnepFault → EndState → C → A → Type 0
+  RequestFails from link far e new now after =
+      IsRefused from link far e new now after ⊎ FailsBy from link far e new now after

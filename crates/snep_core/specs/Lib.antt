@@ -6,7 +6,9 @@ pub mod Puts
 pub mod Cuts
 pub mod Links
 pub mod Payloads
+pub mod Jobs
 pub mod Talk
+pub mod Listening
 pub mod Calling
 pub mod Numbers
 pub mod Waning

@@ -1,20 +1,20 @@
 -- What a client of a SNEP server does in one call, reply by reply: a function of what it asked and of what it was told (NFC Forum LLCP
--- 1.3; when it gives a far end up is this project's own).
-use Rattle.std.specs.Prelude.{◌≡◌, ℕ, ◌+◌, ◌==◌, ◌&&◌, nat_lt, not, is_some, Bool, true, false, List, [], ◌∷◌, Option, Some, None, option_map, if◌then◌else◌}
-use Rattle.nfc_base.specs.Links.{FarStep, Stepped, Stopped}
+-- 1.3 and SNEP 1.0; when it gives a far end up is this project's own).
+use Rattle.std.specs.Prelude.{◌≡◌, ◌≤◌, ℕ, zero, suc, ◌+◌, ◌==◌, ◌&&◌, ◌||◌, nat_lt, not, is_none, Bool, true, false, List, [], ◌∷◌, ◌++◌, length, take, drop, Option, Some, None, if◌then◌else◌}
+use Rattle.nfc_base.specs.Links.{FarStep, Stepped}
+use Rattle.llcp_pdu.specs.declared.part.Part.TheVariants.{Connect}
 use Rattle.llcp_link.specs.Serving.{Serving}
-use Rattle.snep_core.specs.declared.silent.NoService.{NoService}
-use Rattle.snep_core.specs.declared.client.Stands.{Stands}
-pub use Rattle.snep_core.specs.declared.job.Job.{Job}
-pub use Rattle.snep_core.specs.declared.job.Job.TheVariants.{Looks, Closes}
-pub use Rattle.snep_core.specs.declared.job.Outcome.{Outcome}
-pub use Rattle.snep_core.specs.declared.job.Outcome.TheVariants.{Done, Sap}
-use Rattle.llcp_link.specs.State.{LlcState, OwnState, own_from}
+use Rattle.llcp_link.specs.Names.{own_params}
+use Rattle.llcp_link.specs.State.{LlcState, OwnState, own_from, with_own}
 use Rattle.llcp_link.specs.declared.standing.Standing.{Standing}
 use Rattle.llcp_link.specs.declared.standing.Standing.TheVariants as stands
-use Rattle.llcp_link.specs.Asking.{acked_of, standing_of, disconnected_by, forgotten, found_in, is_open_by, looked_up, unit_of, unit_taken_by}
+use Rattle.llcp_link.specs.Asking.{acked_of, asked_from, disconnected_by, forgotten, found_in, is_busy_by, is_open_by, looked_up, put_own, refusal_of, request, standing_of, submitted_by}
 use Rattle.llcp_link.specs.Taking.{taken_from}
 use Rattle.llcp_link.specs.Giving.{IsAllowed, given, after_giving}
+use Rattle.snep_core.specs.declared.silent.NoService.{NoService}
+use Rattle.snep_core.specs.declared.client.Stands.{Stands}
+use Rattle.snep_core.specs.Message.{continue_code, four_bytes, get_code, message_of_code, put_code}
+use Rattle.snep_core.specs.Jobs.{Job, Begins, Waits, Sends, Asks, Collects, Looks, Closes, Over, Done, Sap, told_all, has_byte}
 
 -- a service with nothing to send
 abbrev pub silent : Serving NoService
@@ -30,42 +30,150 @@ silent = record {
 abbrev pub EndState : Type 0
 EndState = LlcState NoService
 
--- the SAP of a client's end
+-- the SAP of a client's end, and that of a server
 abbrev pub client_sap : ℕ
 client_sap = 32
 
--- its connection
-abbrev pub own_of : EndState → Option OwnState
-own_of l = own_from client_sap l.own
+abbrev pub server_sap : ℕ
+server_sap = 4
 
 -- replies that gave nothing, in a row, before a far end is given up
 abbrev pub most_idle : ℕ
 most_idle = 16
 
--- what a call asks for: the SAP of a name, or that the connection ends
+-- what a call asks for: a message is put; the value of a key, of at most so many bytes; the SAP of a name; the connection ends
 pub data Task : Type 0 where
+  Puts : List ℕ → Task
+  Gets : ℕ → List ℕ → Task
   Finds : List ℕ → Task
   Leaves : Task
 
--- What a call is about that goes on: its end, what it waits for, and how many replies in a row gave nothing.
+-- a job, on the connection from a SAP
+pub record OnSap : Type 0 where
+  pub sap : ℕ
+  pub job : Job
+
+-- What a call is about that goes on: its end, its jobs, each on a connection of its own, and how many replies in a row gave
+-- nothing.
 pub record Working : Type 0 where
   pub llc : EndState
-  pub job : Job
+  pub jobs : List OnSap
   pub idle : ℕ
 
--- a call goes on; it comes to an end; or the far end is given up
+-- a call goes on; all its jobs are over; or the far end is given up
 pub data Step : Type 0 where
   Goes : Working → Step
-  Ends : Outcome → EndState → Step
+  Ends : List OnSap → EndState → Step
   GivesUp : EndState → Step
+
+-- one job alone
+abbrev pub alone : Job → List OnSap
+alone job = record { sap = client_sap; job = job } ∷ []
 
 -- where a call begins
 abbrev pub begun : EndState → Job → Step
-begun l job = Goes (record { llc = l; job = job; idle = 0 })
+begun l job = Goes (record { llc = l; jobs = alone job; idle = 0 })
+
+-- a connection to the server is asked for, unless one is there
+abbrev pub connected : EndState → ℕ → EndState
+connected l sap =
+    if is_busy_by (own_from sap l.own) then l
+    else record l {
+      queue = l.queue ++ request (Connect server_sap sap (own_params l.miu l.window)) ∷ [];
+      own = put_own (asked_from sap server_sap) l.own;
+    }
+
+-- the bytes of requests
+abbrev pub put_bytes : List ℕ → List ℕ
+put_bytes message = message_of_code put_code message
+
+abbrev pub get_bytes : ℕ → List ℕ → List ℕ
+get_bytes most key = message_of_code get_code (four_bytes most ++ key)
+
+abbrev pub continue_bytes : List ℕ
+continue_bytes = message_of_code continue_code []
+
+-- its connection
+abbrev pub own_of : EndState → Option OwnState
+own_of l = own_from client_sap l.own
 
 abbrev pub begins : EndState → Task → Step
+begins l (Puts message) = begun (connected l client_sap) (Begins None (put_bytes message))
+begins l (Gets most key) = begun (connected l client_sap) (Begins (Some most) (get_bytes most key))
 begins l (Finds name) = begun (looked_up l name) (Looks l.asked)
-begins l Leaves = if is_open_by (own_of l) then begun (disconnected_by l (own_of l)) Closes else Ends Done l
+begins l Leaves = if is_open_by (own_of l) then begun (disconnected_by l (own_of l)) Closes else Ends (alone (Over Done)) l
+
+-- a unit may be submitted on the connection from a SAP, and is
+abbrev pub takes_more : EndState → ℕ → List ℕ → Bool
+takes_more l sap unit = is_none (refusal_of (own_from sap l.own) unit)
+
+abbrev pub submits : EndState → ℕ → List ℕ → EndState
+submits l sap unit = submitted_by l unit (own_from sap l.own)
+
+-- The most bytes of a unit, where the connection is open. An MIU of 0, which no CC says, takes none.
+abbrev pub miu_of : Standing → Option ℕ
+miu_of (stands.Open zero) = None
+miu_of (stands.Open (suc n)) = Some (suc n)
+miu_of _ = None
+
+-- an end, and a job that goes on there
+pub record Ready : Type 0 where
+  pub llc : EndState
+  pub job : Job
+
+abbrev pub ready_so : EndState → Job → Ready
+ready_so l job = record { llc = l; job = job }
+
+-- the first unit of a request goes out alone, until a continue comes, where it isn't all
+abbrev pub behind_first : Option ℕ → List ℕ → Job
+behind_first most [] = Sends most []
+behind_first most (b ∷ bs) = Waits most (b ∷ bs)
+
+abbrev pub begins_on : EndState → ℕ → Option ℕ → List ℕ → Option ℕ → Ready
+begins_on l sap most bytes None = ready_so l (Begins most bytes)
+begins_on l sap most bytes (Some miu) =
+    if takes_more l sap (take miu bytes) then ready_so (submits l sap (take miu bytes)) (behind_first most (drop miu bytes))
+    else ready_so l (Begins most bytes)
+
+-- The rest follows in units of at most so many bytes, as far as the window allows. There are at most as many units as bytes.
+abbrev pub sends_some : ℕ → ℕ → EndState → ℕ → Option ℕ → List ℕ → Ready
+sends_some zero miu l sap most rest = ready_so l (Sends most rest)
+sends_some (suc n) miu l sap most [] = ready_so l (Sends most [])
+sends_some (suc n) miu l sap most (b ∷ bs) =
+    if takes_more l sap (take miu (b ∷ bs))
+    then sends_some n miu (submits l sap (take miu (b ∷ bs))) sap most (drop miu (b ∷ bs))
+    else ready_so l (Sends most (b ∷ bs))
+
+abbrev pub sends_on : EndState → ℕ → Option ℕ → List ℕ → Option ℕ → Ready
+sends_on l sap most rest None = ready_so l (Sends most rest)
+sends_on l sap most rest (Some miu) = sends_some (length rest) miu l sap most rest
+
+-- the rest of a value is asked for by a continue
+abbrev pub asks_on : EndState → ℕ → ℕ → List ℕ → Ready
+asks_on l sap size have =
+    if takes_more l sap continue_bytes then ready_so (submits l sap continue_bytes) (Collects size have) else ready_so l (Asks size have)
+
+-- what a job submits before a payload is given
+abbrev pub readied : EndState → ℕ → Job → Ready
+readied l sap (Begins most bytes) = begins_on l sap most bytes (miu_of (standing_of (own_from sap l.own)))
+readied l sap (Sends most rest) = sends_on l sap most rest (miu_of (standing_of (own_from sap l.own)))
+readied l sap (Asks size have) = asks_on l sap size have
+readied l sap job = ready_so l job
+
+-- an end, and all jobs
+pub record AllReady : Type 0 where
+  pub llc : EndState
+  pub jobs : List OnSap
+
+abbrev pub with_job : ℕ → Ready → (EndState → AllReady) → AllReady
+with_job sap r more = record { llc = (more r.llc).llc; jobs = record { sap = sap; job = r.job } ∷ (more r.llc).jobs }
+
+abbrev pub all_readied : List OnSap → EndState → AllReady
+all_readied [] l = record { llc = l; jobs = [] }
+all_readied (x ∷ xs) l = with_job x.sap (readied l x.sap x.job) (all_readied xs)
+
+abbrev pub ready : Working → Working
+ready w = record w { llc = (all_readied w.jobs w.llc).llc; jobs = (all_readied w.jobs w.llc).jobs }
 
 -- a CC or DM is awaited
 abbrev pub is_waiting : Standing → Bool
@@ -76,7 +184,7 @@ is_waiting _ = false
 abbrev pub stands_of : Option OwnState → Stands
 stands_of o = record { waiting = is_waiting (standing_of o); open_ = is_open_by o; acked = acked_of o }
 
--- A reply gave something: a CC or DM that was awaited, or an acknowledgement.
+-- A reply gave something on a connection: a CC or DM that was awaited, or an acknowledgement.
 abbrev pub gave_between : Stands → Stands → Bool
 gave_between old new =
     if old.waiting && not new.waiting then true else (if old.open_ && new.open_ then not (new.acked == old.acked) else false)
@@ -84,49 +192,123 @@ gave_between old new =
 abbrev pub gave_something : Option OwnState → Option OwnState → Bool
 gave_something old new = gave_between (stands_of old) (stands_of new)
 
--- the connection without the oldest unit that was handed up
-abbrev pub drained : EndState → EndState
-drained l = unit_taken_by l (own_of l)
+-- the units that were handed up on a connection; and the end once they are taken away
+abbrev pub units_of : Option OwnState → List (List ℕ)
+units_of None = []
+units_of (Some o) = o.units
 
-abbrev pub done_by : Bool → Option Outcome
-done_by true = None
-done_by false = Some Done
+abbrev pub emptied_by : EndState → Option OwnState → EndState
+emptied_by l None = l
+emptied_by l (Some o) = record l { own = with_own (record o { units = [] }) l.own }
 
-abbrev pub finished : EndState → Job → Option Outcome
-finished l (Looks tid) = option_map Sap (found_in tid l.lookups)
-finished l Closes = done_by (stands_of (own_of l)).waiting
+abbrev pub emptied : EndState → ℕ → EndState
+emptied l sap = emptied_by l (own_from sap l.own)
+
+-- A lookup is over once it was told, the end of a connection once its DM came.
+abbrev pub found_so : ℕ → Option ℕ → Job
+found_so tid None = Looks tid
+found_so tid (Some sap) = Over (Sap sap)
+
+abbrev pub finished : EndState → ℕ → Job → Job
+finished l sap (Looks tid) = found_so tid (found_in tid l.lookups)
+finished l sap Closes = if is_waiting (standing_of (own_from sap l.own)) then Closes else Over Done
+finished l sap job = job
+
+-- a job that needs its connection, and the far end refused this or closed it
+abbrev pub is_there : Standing → Bool
+is_there stands.Waiting = true
+is_there (stands.Open miu) = true
+is_there _ = false
+
+abbrev pub needs : Job → Bool
+needs (Looks tid) = false
+needs Closes = false
+needs (Over e) = false
+needs _ = true
+
+abbrev pub is_lost : EndState → ℕ → Job → Bool
+is_lost l sap job = needs job && not (is_there (standing_of (own_from sap l.own)))
+
+-- what a job comes to by what was heard; none where the far end is at fault
+abbrev pub heard_so : EndState → ℕ → Option Job → Option Job
+heard_so l sap None = None
+heard_so l sap (Some job) = if is_lost l sap job then None else Some (finished l sap job)
+
+abbrev pub heard : EndState → ℕ → Job → Option Job
+heard l sap job = heard_so (emptied l sap) sap (told_all job (units_of (own_from sap l.own)))
+
+-- all jobs
+abbrev pub heard_with : ℕ → Option Job → Option (List OnSap) → Option (List OnSap)
+heard_with sap (Some job) (Some more) = Some (record { sap = sap; job = job } ∷ more)
+heard_with sap _ _ = None
+
+abbrev pub all_heard : EndState → List OnSap → Option (List OnSap)
+all_heard l [] = Some []
+all_heard l (x ∷ xs) = heard_with x.sap (heard l x.sap x.job) (all_heard l xs)
+
+abbrev pub all_emptied : List OnSap → EndState → EndState
+all_emptied [] l = l
+all_emptied (x ∷ xs) l = all_emptied xs (emptied l x.sap)
+
+abbrev pub is_over : Job → Bool
+is_over (Over e) = true
+is_over _ = false
+
+abbrev pub all_over : List OnSap → Bool
+all_over [] = true
+all_over (x ∷ xs) = is_over x.job && all_over xs
+
+-- a reply gave something to one of them: on its connection, or a unit with a byte
+abbrev pub gave_any : EndState → EndState → List OnSap → Bool
+gave_any old new [] = false
+gave_any old new (x ∷ xs) =
+    (gave_something (own_from x.sap old.own) (own_from x.sap new.own) || has_byte (units_of (own_from x.sap new.own))) || gave_any old new xs
 
 abbrev pub idle_after : Bool → ℕ → ℕ
 idle_after true n = 0
 idle_after false n = n + 1
 
--- the connection is forgotten with a far end that is given up
-abbrev pub given_up : EndState → Step
-given_up l = GivesUp (forgotten l client_sap)
+-- the connections of the jobs are forgotten with a far end that is given up
+abbrev pub all_forgotten : List OnSap → EndState → EndState
+all_forgotten [] l = l
+all_forgotten (x ∷ xs) l = all_forgotten xs (forgotten l x.sap)
 
-abbrev pub goes_on : EndState → Job → ℕ → Step
-goes_on l job idle = if nat_lt idle most_idle then Goes (record { llc = l; job = job; idle = idle }) else given_up l
+abbrev pub given_up : EndState → List OnSap → Step
+given_up l jobs = GivesUp (all_forgotten jobs l)
 
-abbrev pub settled : EndState → Job → ℕ → Option Outcome → Step
-settled l job idle None = goes_on l job idle
-settled l job idle (Some o) = Ends o l
+abbrev pub goes_on : EndState → List OnSap → ℕ → Step
+goes_on l jobs idle = if nat_lt idle most_idle then Goes (record { llc = l; jobs = jobs; idle = idle }) else given_up l jobs
 
--- a unit is awaited by neither of these jobs
-abbrev pub told_by : EndState → EndState → Job → ℕ → Step
-told_by old l job idle =
-    if is_some (unit_of (own_of l)) then given_up (drained l)
-    else settled (drained l) job (idle_after (gave_something (own_of old) (own_of l)) idle) (finished (drained l) job)
+abbrev pub settled : EndState → List OnSap → ℕ → Step
+settled l jobs idle = if all_over jobs then Ends jobs l else goes_on l jobs idle
 
--- what a call is once its payload, with so many PDUs in it, was answered
+abbrev pub told_by : EndState → List OnSap → ℕ → Option (List OnSap) → Step
+told_by l jobs idle None = given_up l jobs
+told_by l jobs idle (Some now) = settled (all_emptied jobs l) now idle
+
+-- what a call is once its end gave a payload and took the reply
+abbrev pub took : EndState → EndState → List OnSap → ℕ → Step
+took old l jobs idle = told_by l jobs (idle_after (gave_any old l jobs) idle) (all_heard l jobs)
+
+-- What a call is once its payload, with so many PDUs in it, was answered.
+abbrev pub replied_ready : ℕ → Working → List ℕ → Step
+replied_ready n w reply = took (after_giving silent n w.llc) (taken_from silent (after_giving silent n w.llc) reply) w.jobs w.idle
+
 abbrev pub replied : ℕ → Working → List ℕ → Step
-replied n w reply = told_by (after_giving silent n w.llc) (taken_from silent (after_giving silent n w.llc) reply) w.job w.idle
+replied n w reply = replied_ready n (ready w) reply
 
--- A call came from one step to another as its far end made these steps: each payload is the next one, with some number of PDUs that
--- is allowed.
-abbrev pub Told : Step → List FarStep → Step → Type 0
-Told from [] to = to ≡ from
-Told (Goes w) (Stepped payload reply ∷ did) to =
-    (n : ℕ) × IsAllowed silent w.llc n × (payload ≡ given silent n w.llc) × Told (replied n w reply) did to
-Told (Goes w) (Stopped payload ∷ did) to = ⊥
-Told (Ends o l) (x ∷ did) to = ⊥
-Told (GivesUp l) (x ∷ did) to = ⊥
+-- its next payload
+abbrev pub payload : ℕ → Working → List ℕ
+payload n w = given silent n (ready w).llc
+
+-- as many PDUs as fit
+abbrev pub IsMost : EndState → ℕ → Type 0
+IsMost l n = IsAllowed silent l n × (l.readable ≡ true → (more : ℕ) → IsAllowed silent l more → more ≤ n)
+
+-- A call came from one step to another as its far end made these steps, where each payload is the next one, with so many PDUs
+-- in it; and these numbers are of this kind.
+abbrev pub Told : (EndState → ℕ → Type 0) → List ℕ → Step → List FarStep → Step → Type 0
+Told fits [] from [] to = to ≡ from
+Told fits (n ∷ ns) (Goes w) (Stepped out reply ∷ did) to =
+    fits (ready w).llc n × (out ≡ payload n w) × Told fits ns (replied n w reply) did to
+Told fits _ _ _ to = ⊥

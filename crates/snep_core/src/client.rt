@@ -1,33 +1,36 @@
 //! A client of a SNEP server, over whatever carries payloads.
 
-ghost use Rattle.std.specs.Prelude.{◌≡◌, ◌≤◌, ◌<◌, length, None, true, false, Err, IfOk, IfErr, IfSome, OnOk};
-ghost use Rattle.llcp_link.specs.State.{own_from};
-ghost use Rattle.snep_core.specs.Calling.{Exchanged, FailsBy, IsCut, Talks, Turned, fault_of, is_memory};
-ghost use Rattle.snep_core.specs.Waning.{EndsAs, Falls, IsOf, Lessens};
+ghost use Rattle.std.specs.Prelude.{◌≡◌, ◌≤◌, [], length, true, false, IfOk, IfErr, OnOk};
 ghost use Rattle.llcp_link.specs.Asking.{is_open_by};
-ghost use Rattle.snep_core.specs.Talk.{Done, Ends, Finds, Leaves, Sap, begins, begun, client_sap, finished as finished_by, is_waiting as awaits, gave_between as gave, most_idle, own_of, stands_of};
+ghost use Rattle.snep_core.specs.Calling.{FailsBy, RequestFails, Talks, is_memory};
+ghost use Rattle.snep_core.specs.Jobs.{Done, Over, Sap, Value};
+ghost use Rattle.snep_core.specs.Talk.{Ends, Finds, Gets, Leaves, Puts, alone, begins, begun, client_sap, connected, gave_between as gave, is_waiting as awaits, own_of, stands_of};
+ghost use Rattle.snep_core.specs.Waning.{IsOf, aim_by};
 ghost use Rattle.snep_core.specs.declared.fault.SnepFault.{SnepFault};
+ghost use Rattle.snep_core.specs.declared.job.Job.{Job};
 
 use crate::fault::SnepFault;
-use crate::job::{Job, Outcome, Turn};
+use crate::job::{Ending, Job};
+use crate::message::{GET, PUT, write_request};
 use crate::silent::NoService;
-use llcp_link::{Llc, Standing};
-use nfc_base::{Answerer, Carrier, EndCause};
+use bytes::Bytes;
+use llcp_link::{Llc, LlcFault, Standing};
+use nfc_base::{Answerer, Carrier};
 use std::alloc::Global;
 use std::marker::Model;
 
 /// The SAP of this end from which a client connects.
-const CLIENT_SAP: u8 = 32;
+pub(crate) const CLIENT_SAP: u8 = 32;
 
-/// Replies that gave nothing, in a row, before a far end is given up.
-const MOST_IDLE: u8 = 16;
+/// The SAP of a server.
+const SERVER_SAP: u8 = 4;
 
 /// A client of a SNEP server (NFC Forum SNEP 1.0) on one link. After want of memory it answers nothing else.
 #[derive(Debug, Drop)]
 pub struct Client {
-    alloc: Global,
+    pub(crate) alloc: Global,
     pub(crate) llc: Llc<NoService>,
-    spent: bool,
+    pub(crate) spent: bool,
 }
 
 impl Model for Client {
@@ -47,7 +50,7 @@ pub struct Stands {
 }
 
 /// A CC or DM is awaited.
-fn is_waiting(standing: Standing) -> bool
+pub(crate) fn is_waiting(standing: Standing) -> bool
     ensures { result ≡ awaits standing }
 {
     match standing {
@@ -57,7 +60,7 @@ fn is_waiting(standing: Standing) -> bool
 }
 
 /// Whether a reply gave something between two states.
-fn gave_between(old: Stands, new: Stands) -> bool
+pub(crate) fn gave_between(old: Stands, new: Stands) -> bool
     ensures { result ≡ gave old new }
 {
     if old.waiting && !new.waiting {
@@ -72,7 +75,7 @@ fn gave_between(old: Stands, new: Stands) -> bool
 impl Client {
     /// A client over an end that was restarted with the other end's general bytes, and asked for no connection since.
     pub fn new(alloc: Global, llc: Llc<NoService>) -> Client
-        requires { own_from client_sap llc.own ≡ None }
+        requires { llc.own ≡ [] }
         ensures { result ≡ record { llc = llc; spent = false } }
     {
         Client {
@@ -83,28 +86,13 @@ impl Client {
     }
 
     /// Memory was wanting: each later call answers so.
-    fn spend(&mut self) -> SnepFault
+    pub(crate) fn spend(&mut self) -> SnepFault
         ensures fault { result ≡ SnepFault.Memory }
         ensures spent { self.new.spent ≡ true }
         ensures same { self.new.llc ≡ self.old.llc }
     {
         self.spent = true;
         SnepFault::Memory
-    }
-
-    /// The link ended by this cause.
-    fn ended(&mut self, cause: EndCause) -> SnepFault
-        requires { self.old.spent ≡ false }
-        ensures fault { result ≡ fault_of cause }
-        ensures spent { self.new.spent ≡ is_memory (fault_of cause) }
-        ensures same { self.new.llc ≡ self.old.llc }
-    {
-        match cause {
-            EndCause::Memory => self.spend(),
-            EndCause::FieldLost | EndCause::SixBad | EndCause::Protocol => {
-                SnepFault::LinkEnded(cause)
-            }
-        }
     }
 
     /// Its connection is open.
@@ -118,7 +106,7 @@ impl Client {
     }
 
     /// How its connection stands.
-    fn stands(&self) -> Stands
+    pub(crate) fn stands(&self) -> Stands
         ensures { result ≡ stands_of (own_of self.now.llc) }
     {
         let standing = self.llc.standing(CLIENT_SAP);
@@ -129,133 +117,121 @@ impl Client {
         }
     }
 
-    /// One exchange: the next payload goes out, and its reply is taken. Whether that gave something.
-    fn exchange<C: Carrier, A: Answerer>(
-        &mut self,
-        carrier: &mut C,
-        far: &mut A,
-    ) -> Result<bool, SnepFault>
-        requires ready { C.ready carrier.old }
-        requires going { self.old.spent ≡ false }
-        ensures ok { IfOk result (λ gave.
-            Exchanged C.seen C.moves A.steps A.stops self.old.llc carrier.old far.old gave
-            self.new.llc carrier.new far.new) }
-        ensures falls { IfOk result (λ gave. Lessens gave (own_of self.old.llc) (own_of self.new.llc)) }
-        ensures going { OnOk result (self.new.spent ≡ false) }
-        ensures err { IfErr result (λ e.
-            IsCut C.seen C.moves A.steps A.stops self.old.llc carrier.old far.old e self.new.llc carrier.new far.new) }
-        ensures spent { IfErr result (λ e. self.new.spent ≡ is_memory e) }
-        ensures ready { C.ready carrier.new }
-        ensures same { C.lenders carrier.new ≡ C.lenders carrier.old }
+    /// Asks for a connection, unless one is there.
+    fn connect(&mut self) -> Result<(), SnepFault>
+        ensures ok { OnOk result (self.new.llc ≡ connected self.old.llc client_sap) }
+        ensures going { OnOk result (self.new.spent ≡ self.old.spent) }
+        ensures err { IfErr result (λ e. e ≡ SnepFault.Memory) }
+        ensures spent { IfErr result (λ e. self.new.spent ≡ true) }
     {
-        let mut out = Vec::new(self.alloc);
-        if self.llc.give(&mut out).is_err() {
-            return Err(self.spend());
-        }
-        let before = self.stands();
-        match carrier.swap(self.alloc, &out, far) {
-            Err(end) => Err(self.ended(end.cause)),
-            Ok(reply) => {
-                if self.llc.take(&reply).is_err() {
-                    return Err(self.spend());
-                }
-                Ok(gave_between(before, self.stands()))
-            }
+        match self.llc.connect(SERVER_SAP) {
+            Ok(()) => Ok(()),
+            Err(LlcFault::Busy) => Ok(()),
+            Err(LlcFault::Memory | LlcFault::NameTaken | LlcFault::SapTaken) => Err(self.spend()),
         }
     }
 
-    /// What its job comes to by what was heard, if it ends.
-    fn finished(&self, job: Job) -> Option<Outcome>
-        ensures exact { result ≡ finished_by self.now.llc job }
-        ensures kind { IfSome result (λ o. IsOf job o) }
-    {
-        match job {
-            Job::Looks(tid) => match self.llc.found(tid) {
-                None => None,
-                Some(sap) => Some(Outcome::Sap(sap)),
-            },
-            Job::Closes => {
-                if self.stands().waiting {
-                    None
-                } else {
-                    Some(Outcome::Done)
-                }
-            }
-        }
-    }
-
-    /// One exchange, and what the call is then.
-    fn turn<C: Carrier, A: Answerer>(
+    /// Asks for a connection where none is there, and exchanges until the request was answered.
+    fn ask<C: Carrier, A: Answerer>(
         &mut self,
         carrier: &mut C,
         far: &mut A,
-        job: Job,
-        idle: u8,
-    ) -> Result<Turn, SnepFault>
+        most: Option<u32>,
+        request: Bytes,
+    ) -> Result<Ending, SnepFault>
         requires ready { C.ready carrier.old }
         requires going { self.old.spent ≡ false }
-        requires idle { idle < most_idle }
-        ensures ok { IfOk result (λ turn. Turned C.seen C.moves A.steps A.stops
-            (record { llc = self.old.llc; job = job; idle = idle }) carrier.old far.old turn self.new.llc carrier.new far.new) }
-        ensures kind { IfOk result (λ turn. EndsAs job turn) }
-        ensures falls { IfOk result (λ turn. Falls (own_of self.old.llc) idle turn (own_of self.new.llc)) }
+        ensures ok { IfOk result (λ ending. Talks C.seen C.moves A.steps A.stops
+            (begun (connected self.old.llc client_sap) (Job.Begins most request))
+            carrier.old far.old (Ends (alone (Over ending)) self.new.llc) carrier.new far.new) }
+        ensures aim { IfOk result (λ ending. IsOf (aim_by most) ending) }
         ensures going { OnOk result (self.new.spent ≡ false) }
-        ensures err { IfErr result (λ e.
-            IsCut C.seen C.moves A.steps A.stops self.old.llc carrier.old far.old e self.new.llc carrier.new far.new) }
-        ensures spent { IfErr result (λ e. self.new.spent ≡ is_memory e) }
-        ensures ready { C.ready carrier.new }
-        ensures same { C.lenders carrier.new ≡ C.lenders carrier.old }
-    {
-        let gave = match self.exchange(carrier, far) {
-            Err(fault) => return Err(fault),
-            Ok(gave) => gave,
-        };
-        if self.llc.unit(CLIENT_SAP).is_some() {
-            self.llc.forget(CLIENT_SAP);
-            return Ok(Turn::GaveUp);
-        }
-        if let Some(outcome) = self.finished(job) {
-            return Ok(Turn::Ended(outcome));
-        }
-        if gave {
-            return Ok(Turn::Went(0));
-        }
-        if idle + 1 < MOST_IDLE {
-            return Ok(Turn::Went(idle + 1));
-        }
-        self.llc.forget(CLIENT_SAP);
-        Ok(Turn::GaveUp)
-    }
-
-    /// Exchanges until the job is done, or the far end is given up.
-    fn converse<C: Carrier, A: Answerer>(
-        &mut self,
-        carrier: &mut C,
-        far: &mut A,
-        job: Job,
-    ) -> Result<Outcome, SnepFault>
-        requires ready { C.ready carrier.old }
-        requires going { self.old.spent ≡ false }
-        ensures ok { IfOk result (λ outcome. Talks C.seen C.moves A.steps A.stops (begun self.old.llc job)
-            carrier.old far.old (Ends outcome self.new.llc) carrier.new far.new) }
-        ensures kind { IfOk result (λ outcome. IsOf job outcome) }
-        ensures going { OnOk result (self.new.spent ≡ false) }
-        ensures err { IfErr result (λ e. FailsBy C.seen C.moves A.steps A.stops (begun self.old.llc job)
+        ensures err { IfErr result (λ e. FailsBy C.seen C.moves A.steps A.stops
+            (begun (connected self.old.llc client_sap) (Job.Begins most request))
             carrier.old far.old e self.new.llc carrier.new far.new) }
         ensures spent { IfErr result (λ e. self.new.spent ≡ is_memory e) }
         ensures ready { C.ready carrier.new }
         ensures same { C.lenders carrier.new ≡ C.lenders carrier.old }
     {
-        let mut idle = 0;
-        'turns: while idle < MOST_IDLE {
-            match self.turn(carrier, far, job, idle) {
-                Err(fault) => return Err(fault),
-                Ok(Turn::Ended(outcome)) => return Ok(outcome),
-                Ok(Turn::GaveUp) => return Err(SnepFault::BadPeer),
-                Ok(Turn::Went(next)) => idle = next,
-            }
+        match self.connect() {
+            Err(fault) => return Err(fault),
+            Ok(()) => {}
         }
-        unreachable!()
+        match self.converse(carrier, far, Job::Begins(most, request)) {
+            Err(fault) => Err(fault),
+            Ok(ending) => Ok(ending),
+        }
+    }
+
+    /// Puts a message of at most 65,536 bytes.
+    pub fn put<C: Carrier, A: Answerer>(
+        &mut self,
+        carrier: &mut C,
+        far: &mut A,
+        message: &[u8],
+    ) -> Result<(), SnepFault>
+        requires ready { C.ready carrier.old }
+        requires message { length message.now ≤ 65536 }
+        ensures ok { OnOk result (Talks C.seen C.moves A.steps A.stops (begins self.old.llc (Puts message.now))
+            carrier.old far.old (Ends (alone (Over Done)) self.new.llc) carrier.new far.new) }
+        ensures going { OnOk result ((self.old.spent ≡ false) × (self.new.spent ≡ false)) }
+        ensures err { self.old.spent ≡ false → IfErr result (λ e. RequestFails C.seen C.moves A.steps A.stops
+            (begins self.old.llc (Puts message.now)) carrier.old far.old e self.new.llc carrier.new far.new) }
+        ensures spent { IfErr result (λ e. self.new.spent ≡ is_memory e) }
+        ensures stays { self.old.spent ≡ true
+            → (self.new ≡ self.old) × (carrier.new ≡ carrier.old) × (far.new ≡ far.old) }
+        ensures ready { C.ready carrier.new }
+        ensures same { C.lenders carrier.new ≡ C.lenders carrier.old }
+    {
+        if self.spent {
+            return Err(SnepFault::Memory);
+        }
+        let request = match write_request(self.alloc, PUT, &[], message) {
+            Err(_) => return Err(self.spend()),
+            Ok(request) => request,
+        };
+        match self.ask(carrier, far, None, request) {
+            Err(fault) => Err(fault),
+            Ok(Ending::Done) => Ok(()),
+            Ok(Ending::Refused(refusal)) => Err(refusal.fault()),
+            Ok(Ending::Value(_) | Ending::Sap(_)) => unreachable!(),
+        }
+    }
+
+    /// The value of a key of at most 65,536 bytes, where it has at most so many bytes.
+    pub fn get<C: Carrier, A: Answerer>(
+        &mut self,
+        carrier: &mut C,
+        far: &mut A,
+        acceptable: u32,
+        key: &[u8],
+    ) -> Result<Vec<u8>, SnepFault>
+        requires ready { C.ready carrier.old }
+        requires key { length key.now ≤ 65536 }
+        ensures ok { IfOk result (λ value. Talks C.seen C.moves A.steps A.stops (begins self.old.llc (Gets acceptable key.now))
+            carrier.old far.old (Ends (alone (Over (Value value.items))) self.new.llc) carrier.new far.new) }
+        ensures going { OnOk result ((self.old.spent ≡ false) × (self.new.spent ≡ false)) }
+        ensures err { self.old.spent ≡ false → IfErr result (λ e. RequestFails C.seen C.moves A.steps A.stops
+            (begins self.old.llc (Gets acceptable key.now)) carrier.old far.old e self.new.llc carrier.new far.new) }
+        ensures spent { IfErr result (λ e. self.new.spent ≡ is_memory e) }
+        ensures stays { self.old.spent ≡ true
+            → (self.new ≡ self.old) × (carrier.new ≡ carrier.old) × (far.new ≡ far.old) }
+        ensures ready { C.ready carrier.new }
+        ensures same { C.lenders carrier.new ≡ C.lenders carrier.old }
+    {
+        if self.spent {
+            return Err(SnepFault::Memory);
+        }
+        let request = match write_request(self.alloc, GET, &acceptable.to_be_bytes(), key) {
+            Err(_) => return Err(self.spend()),
+            Ok(request) => request,
+        };
+        match self.ask(carrier, far, Some(acceptable), request) {
+            Err(fault) => Err(fault),
+            Ok(Ending::Value(value)) => Ok(value.into_vec()),
+            Ok(Ending::Refused(refusal)) => Err(refusal.fault()),
+            Ok(Ending::Done | Ending::Sap(_)) => unreachable!(),
+        }
     }
 
     /// The SAP at which the far end has a name of at most 64 bytes, 0 where it has none.
@@ -268,7 +244,7 @@ impl Client {
         requires ready { C.ready carrier.old }
         requires name { length name.now ≤ 64 }
         ensures ok { IfOk result (λ sap. Talks C.seen C.moves A.steps A.stops (begins self.old.llc (Finds name.now))
-            carrier.old far.old (Ends (Sap sap) self.new.llc) carrier.new far.new) }
+            carrier.old far.old (Ends (alone (Over (Sap sap))) self.new.llc) carrier.new far.new) }
         ensures going { OnOk result ((self.old.spent ≡ false) × (self.new.spent ≡ false)) }
         ensures err { self.old.spent ≡ false → IfErr result (λ e. FailsBy C.seen C.moves A.steps A.stops
             (begins self.old.llc (Finds name.now)) carrier.old far.old e self.new.llc carrier.new far.new) }
@@ -287,8 +263,8 @@ impl Client {
         };
         match self.converse(carrier, far, Job::Looks(tid)) {
             Err(fault) => Err(fault),
-            Ok(Outcome::Sap(sap)) => Ok(sap),
-            Ok(Outcome::Done) => unreachable!(),
+            Ok(Ending::Sap(sap)) => Ok(sap),
+            Ok(Ending::Done | Ending::Value(_) | Ending::Refused(_)) => unreachable!(),
         }
     }
 
@@ -300,7 +276,7 @@ impl Client {
     ) -> Result<(), SnepFault>
         requires ready { C.ready carrier.old }
         ensures ok { OnOk result (Talks C.seen C.moves A.steps A.stops (begins self.old.llc Leaves)
-            carrier.old far.old (Ends Done self.new.llc) carrier.new far.new) }
+            carrier.old far.old (Ends (alone (Over Done)) self.new.llc) carrier.new far.new) }
         ensures going { OnOk result ((self.old.spent ≡ false) × (self.new.spent ≡ false)) }
         ensures err { self.old.spent ≡ false → IfErr result (λ e. FailsBy C.seen C.moves A.steps A.stops
             (begins self.old.llc Leaves) carrier.old far.old e self.new.llc carrier.new far.new) }
@@ -322,8 +298,8 @@ impl Client {
         }
         match self.converse(carrier, far, Job::Closes) {
             Err(fault) => Err(fault),
-            Ok(Outcome::Done) => Ok(()),
-            Ok(Outcome::Sap(_)) => unreachable!(),
+            Ok(Ending::Done) => Ok(()),
+            Ok(Ending::Value(_) | Ending::Sap(_) | Ending::Refused(_)) => unreachable!(),
         }
     }
 }

@@ -1,24 +1,77 @@
 //! What a call of a client waits for, and what it comes to.
 
-/// What is awaited: what a lookup of a number is told, or the end of the connection.
-#[derive(Clone, Copy, Debug)]
+ghost use Rattle.std.specs.Prelude.{◌≡◌};
+ghost use Rattle.snep_core.specs.Calling.{refused_by};
+
+use crate::fault::SnepFault;
+use bytes::Bytes;
+use nfc_base::Items;
+
+/// What a call is about on a connection. A get says how many bytes a value may have, a put doesn't.
+#[derive(Debug, Drop)]
 pub enum Job {
+    /// A request of which nothing was submitted.
+    Begins(Option<u32>, Bytes),
+    /// Its first unit was submitted: a continue is awaited, and then these bytes go out.
+    Waits(Option<u32>, Bytes),
+    /// These bytes are to be submitted, and then an answer is awaited.
+    Sends(Option<u32>, Bytes),
+    /// Of a value of so many bytes these came: the rest is to be asked for.
+    Asks(u32, Items<u8>),
+    /// It was asked for, and is awaited.
+    Collects(u32, Items<u8>),
+    /// What a lookup of this number is told.
     Looks(u8),
+    /// The end of the connection.
     Closes,
+    /// Nothing more: it came to this.
+    Over(Ending),
 }
 
-/// What a call comes to: it is done, or it was told a SAP.
-#[derive(Clone, Copy, Debug)]
-pub enum Outcome {
+/// What a job comes to.
+#[derive(Debug, Drop)]
+pub enum Ending {
     Done,
+    Value(Items<u8>),
     Sap(u8),
+    Refused(Refusal),
+}
+
+/// Why a server refuses a request.
+#[derive(Clone, Copy, Debug, PartialEq, Eq)]
+pub enum Refusal {
+    Reject,
+    NotFound,
+    Excess,
+    NotImplemented,
+}
+
+impl Refusal {
+    /// The fault that tells it.
+    pub(crate) fn fault(self) -> SnepFault
+        ensures { result ≡ refused_by self }
+    {
+        match self {
+            Refusal::Reject => SnepFault::Reject,
+            Refusal::NotFound => SnepFault::NotFound,
+            Refusal::Excess => SnepFault::Excess,
+            Refusal::NotImplemented => SnepFault::NotImplemented,
+        }
+    }
+}
+
+/// What a reply makes of a job, and whether it brought a unit with a byte.
+#[derive(Debug, Drop)]
+pub struct Heard {
+    pub(crate) job: Job,
+    pub(crate) some: bool,
 }
 
 /// What a call is behind an exchange: at its end; going on after so many replies that gave nothing; or the far end is given
 /// up.
-#[derive(Clone, Copy, Debug)]
+#[derive(Debug, Drop)]
 pub enum Turn {
-    Ended(Outcome),
-    Went(u8),
+    Ended(Ending),
+    Went(Job, u8),
     GaveUp,
 }

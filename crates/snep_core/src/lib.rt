@@ -9,12 +9,16 @@
 mod client;
 mod fault;
 mod first;
+mod hearing;
 mod job;
 mod law;
+mod listening;
 mod message;
 mod server;
 mod session;
 mod silent;
+mod submitting;
+mod turning;
 
 pub use client::Client;
 pub use fault::SnepFault;

@@ -1,8 +1,9 @@
 //! The codes of messages, and how one is written.
 
-ghost use Rattle.std.specs.Prelude.{◌≡◌, ◌<◌, ◌^◌, length, IfOk};
-ghost use Rattle.snep_core.specs.Message.{answer_code, message as message_of};
+ghost use Rattle.std.specs.Prelude.{◌≡◌, ◌<◌, ◌+◌, ◌^◌, ◌++◌, length, IfOk};
+ghost use Rattle.snep_core.specs.Message.{answer_code, message as message_of, message_of_code};
 
+use bytes::Bytes;
 use nfc_base::Items;
 use std::alloc::{AllocError, Global};
 
@@ -59,14 +60,40 @@ impl Answer {
     }
 }
 
+/// The bytes of a message of this code. Its information is two parts, one behind the other.
+fn write(alloc: Global, code: u8, first: &[u8], rest: &[u8]) -> Result<Vec<u8>, AllocError>
+    requires { length first.now + length rest.now < 2 ^ 32 }
+    ensures { IfOk result (λ v. v.items ≡ message_of_code code (first.now ++ rest.now)) }
+{
+    let size = first.len() + rest.len();
+    let mut bytes = Vec::with_capacity(alloc, HEADER + size)?;
+    bytes.extend_from_slice(&[VERSION, code])?;
+    bytes.extend_from_slice(&(size as u32).to_be_bytes())?;
+    bytes.extend_from_slice(first)?;
+    bytes.extend_from_slice(rest)?;
+    Ok(bytes)
+}
+
 /// The bytes of an answer with this information.
 pub(crate) fn message(alloc: Global, answer: Answer, info: &[u8]) -> Result<Items<u8>, AllocError>
     requires { length info.now < 2 ^ 32 }
     ensures { IfOk result (λ m. m ≡ message_of answer info.now) }
 {
-    let mut bytes = Vec::with_capacity(alloc, HEADER + info.len())?;
-    bytes.extend_from_slice(&[VERSION, answer.code()])?;
-    bytes.extend_from_slice(&(info.len() as u32).to_be_bytes())?;
-    bytes.extend_from_slice(info)?;
-    Ok(Items::new(bytes))
+    Ok(Items::new(write(alloc, answer.code(), &[], info)?))
+}
+
+/// The bytes of a request of this code.
+pub(crate) fn write_request(
+    alloc: Global,
+    code: u8,
+    first: &[u8],
+    rest: &[u8],
+) -> Result<Bytes, AllocError>
+    requires { length first.now + length rest.now < 2 ^ 32 }
+    ensures { IfOk result (λ m. m ≡ message_of_code code (first.now ++ rest.now)) }
+{
+    match Bytes::from_vec(write(alloc, code, first, rest)?) {
+        Ok(bytes) => Ok(bytes),
+        Err(_) => Err(AllocError),
+    }
 }

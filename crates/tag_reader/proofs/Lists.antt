@@ -9,7 +9,7 @@ use Rattle.tlv_area.specs.declared.space.Space.{Space}
 use Rattle.tlv_area.specs.Form as form
 use Rattle.tag_reader.specs.declared.how.How.{How}
 use Rattle.tag_reader.specs.Kinds.{area_of, command, first}
-use Rattle.tag_reader.specs.Asked.{Aim, ToRead, IsAskedFor, IsDue, AreDue, IsAsked}
+use Rattle.tag_reader.specs.Asked.{Aim, ToRead, AreDueFor, IsAskedFor, IsDue, AreDue, IsAsked}
 use Rattle.tag_reader.specs.Steps.{IsBlockStore}
 use Rattle.tag_reader.proofs.Areas.{next_needs, needs_next, first_within, front_area}
 
@@ -35,14 +35,18 @@ first_split how size store n (suc m) =
     )
 
 -- what is asked so far
-pub asked_front : (how : How) (size : ℕ) (store : List ℕ) (n : ℕ) (xs : List Signal) → AreDue how size store n → IsAsked how size store xs →
+pub asked_front_for : (aim : Aim) (how : How) (size : ℕ) (store : List ℕ) (n : ℕ) (xs : List Signal) → AreDueFor aim how size store n → IsAskedFor aim how size store xs →
     (rest : List Signal) × (xs ≡ first how size store n ++ rest)
-asked_front how size store n xs each all = elim (cases_lt all.count n) [
+asked_front_for aim how size store n xs each all = elim (cases_lt all.count n) [
   | inl past ↦ absurd (all.no_more (each all.count past))
   | inr within ↦ (let parts = first_split how size store n (all.count - n) in
       let e : n + (all.count - n) ≡ all.count = omega arith in
       (parts.0, all.list ∙ ap (λ k. first how size store k) (sym e) ∙ parts.1))
 ]
+
+pub asked_front : (how : How) (size : ℕ) (store : List ℕ) (n : ℕ) (xs : List Signal) → AreDue how size store n → IsAsked how size store xs →
+    (rest : List Signal) × (xs ≡ first how size store n ++ rest)
+asked_front how size store n xs each all = asked_front_for ToRead how size store n xs each all
 
 -- a list up to where no more is due
 pub asked_all : (how : How) (size : ℕ) (store : List ℕ) (n : ℕ) → AreDue how size store n → (IsDue how size store n → ⊥) → (xs : List Signal) × IsAsked how size store xs

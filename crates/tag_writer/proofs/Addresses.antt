@@ -17,7 +17,7 @@ pub record LiesBetween (from to size : ℕ) (p : Put) : Type 0 where
 abbrev pub IsAside : ℕ → ℕ → ℕ → Type 0
 IsAside from to a = (a < from) ⊎ (to ≤ a)
 
-same_put : (s : List ℕ) (p : Put) (a : ℕ) → p.at + length p.bytes ≤ length s → IsAside p.at (p.at + length p.bytes) a → slice_index (put_into s p) a ≡ slice_index s a
+pub same_put : (s : List ℕ) (p : Put) (a : ℕ) → p.at + length p.bytes ≤ length s → IsAside p.at (p.at + length p.bytes) a → slice_index (put_into s p) a ≡ slice_index s a
 same_put s p a within aside =
     let front : List ℕ = take p.at s ++ p.bytes in
     let rest : List ℕ = drop (p.at + length p.bytes) s in

@@ -13,7 +13,7 @@ use Rattle.tlv_area.specs.Layout.{Tlv, bytes_at, spelling}
 use Rattle.tlv_area.specs.Map.{IsMap, map_cells}
 use Rattle.tlv_area.specs.Stores.{four_bytes}
 use Rattle.tlv_area.specs.Tail.{message_tail, map_tail, map_room, capacity_of}
-use Rattle.tlv_area.specs.Writing.{home, IsWhole, IsNew, IsPlan, PlanKeeps, PlanForms, GivesPlan, KeepsPlan, KeepsKinds, after_step, after_steps, made, steps_of, image}
+use Rattle.tlv_area.specs.Writing.{home, IsStepTo, IsWhole, IsNew, IsPlan, PlanKeeps, PlanForms, GivesPlan, KeepsPlan, KeepsKinds, after_step, after_steps, made, steps_of, image}
 use Rattle.tlv_area.proofs.Places.{map_parts, tail_same}
 use Rattle.tag_reader.specs.declared.how.How.{How}
 use Rattle.tag_reader.specs.declared.how.How.TheVariants.{T2, T4, T5}
@@ -24,7 +24,7 @@ use Rattle.tag_writer.specs.Place.{Place, IsAreaPlace, IsPlaceBy, IsPlaceIn, IsA
 use Rattle.tag_writer.specs.WriteAsked.{all_puts, AreAreaPuts, ArePuts}
 use Rattle.tag_writer.specs.Law.{IsEmptied, IsWritten}
 use Rattle.tag_writer.specs.Puttings.{IsPutOf, IsBlockPut}
-use Rattle.tag_writer.specs.Counts.{writes_at, EachIsOther, AreFew}
+use Rattle.tag_writer.specs.Counts.{IsHomePut, writes_at, EachIsOther, AreFew}
 use Rattle.tag_writer.specs.Phases.{Job, Serves, plan_parts}
 use Rattle.tag_writer.proofs.Counting.{first_of_span, blocks_twice, blocks_once, blocks_other}
 use Rattle.tag_writer.proofs.Jobs.{all_front, all_rest}
@@ -162,6 +162,15 @@ module _ (how : How) (size : ℕ) (m : AreaMap) (store message : List ℕ) (plan
   home_is : home block tail ≡ slice_index place.span 0 / block
   home_is = ap (λ a. a / block) (sym (first_of_span tail message))
 
+  last_home : (o : Option Step) (now content : List ℕ) → IsStepTo (home block tail) now content o → AllByRecursion (IsWhole block store) (made o) →
+      AllByRecursion (λ p. (p.at ≡ block * (slice_index place.span 0 / block)) × (length p.bytes ≡ block)) (block_puts how size (made o))
+  last_home None now content is whole = tt
+  last_home (Some s) now content is whole = ((ap (λ k. block * k) (ap (λ (w : ℕ × List ℕ). w.0) is.0 ∙ home_is), whole.0.content), tt)
+
+  home_by : AllByRecursion (λ p. (p.at ≡ block * (slice_index place.span 0 / block)) × (length p.bytes ≡ block)) (block_puts how size (made plan.last))
+  unfolding area_puts
+  home_by = last_home plan.last _ _ area_puts.is_plan.last (all_rest (IsWhole block store) (made plan.close ++ plan.fill) (made plan.last) keeps.whole)
+
   twice_by : 0 < block → writes_at (block * (slice_index place.span 0 / block)) (block_puts how size (steps_of plan)) ≤ 2
   twice_by some = subst (λ k. writes_at (block * k) (block_puts how size (steps_of plan)) ≤ 2) home_is (blocks_twice how size some (home block tail) (steps_of plan) keeps.twice)
 
@@ -173,8 +182,8 @@ module _ (how : How) (size : ℕ) (m : AreaMap) (store message : List ℕ) (plan
 
   serves_by : PlanForms block (IsStoreForm how size) store message plan → IsPlaceIn how size store message place → IsAccess how size store true → HasPieces how store →
       ArePuts how size store message (plan_parts how size plan) → AllByRecursion (IsPutOf how size store) (block_puts how size (steps_of plan)) →
-      AreFew how size store place (block_puts how size (steps_of plan)) → Serves job
-  serves_by forms there free pieces are puts few_puts = record {
+      AreFew how size store place (block_puts how size (steps_of plan)) → AllByRecursion (IsHomePut how size place) (block_puts how size (made plan.last)) → Serves job
+  serves_by forms there free pieces are puts few_puts home_puts = record {
     store' = is.store';
     takes = record { holds = there; free = free; fits = fits; pieces = pieces };
     are = are;
@@ -183,6 +192,7 @@ module _ (how : How) (size : ℕ) (m : AreaMap) (store message : List ℕ) (plan
     new = subst (IsWritten how size message place store) (sym new_is) (record { new = keeps.new; holds = forms.holds });
     first = long_puts how size plan.close;
     last = long_puts how size plan.last;
+    home = home_puts;
     few = subst (AreFew how size store place) (sym puts_are) few_puts;
   }
 
@@ -194,7 +204,7 @@ serves T2 size m store message plan is =
     (subst (λ r. IsPlaceBy r store message (tail_place (message_tail is.t.at is.after) message)) (sym is.area) (holds T2 size m store message plan is))
     (subst (λ r. AccessBy r true) (sym is.area) (sym is.writable)) tt (m.space, is.area, area_puts T2 size m store message plan is)
     (block_ok T2 size 4 store (steps_of plan) (keeps T2 size m store message plan is).whole (low T2 size m store message plan is 4 (λ a in_. omega (arith, start, in_))))
-    (record { twice = twice_by T2 size m store message plan is (omega arith); once = once_by T2 size m store message plan is (omega arith); changed = other_by T2 size m store message plan is })
+    (record { twice = twice_by T2 size m store message plan is (omega arith); once = once_by T2 size m store message plan is (omega arith); changed = other_by T2 size m store message plan is }) (home_by T2 size m store message plan is)
 serves T4 size m store message plan is = absurd (let no_ = is.area in cc)
 serves (T5 id) size m store message plan is =
     let kind = is.kinds is.ts is.t is.after is.map' in
@@ -203,4 +213,4 @@ serves (T5 id) size m store message plan is =
     (subst (λ r. AccessBy r true) (sym is.area) (sym is.writable)) tt (m.space, is.area, area_puts (T5 id) size m store message plan is)
     (block_ok (T5 id) size 0 store (steps_of plan) (keeps (T5 id) size m store message plan is).whole (low (T5 id) size m store message plan is 0 (λ a in_. omega arith)))
     (let some : 0 < size = (let sized = size_of_block size is.store'.sized in omega (arith, sized.2)) in
-    record { twice = twice_by (T5 id) size m store message plan is some; once = once_by (T5 id) size m store message plan is some; changed = other_by (T5 id) size m store message plan is })
+    record { twice = twice_by (T5 id) size m store message plan is some; once = once_by (T5 id) size m store message plan is some; changed = other_by (T5 id) size m store message plan is }) (home_by (T5 id) size m store message plan is)

@@ -123,7 +123,7 @@ module _ (store message : List ℕ) (some : 1 ≤ most_brought store) where
   abbrev count : ℕ
   count = div_ceil (length message) most
 
-  home : slice_index (file_place store message).span 0 ≡ end
+  pub home : slice_index (file_place store message).span 0 ≡ end
   home = (let first = get_or-range_with_len end (2 + length message) 0 0 (omega arith) in let same : end + 0 ≡ end = omega arith in first ∙ same)
 
   up : (j k : ℕ) → j < k → (piece_put store message j).at < (piece_put store message k).at

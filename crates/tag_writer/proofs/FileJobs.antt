@@ -23,10 +23,11 @@ use Rattle.tag_writer.specs.Place.{Place, file_place}
 use Rattle.tag_writer.specs.WriteAsked.{all_puts}
 use Rattle.tag_writer.specs.Law.{IsEmptied, IsWritten}
 use Rattle.tag_writer.specs.Puttings.{IsUpdatePut}
+use Rattle.tag_writer.specs.Counts.{IsHomePut}
 use Rattle.tag_writer.specs.Phases.{Job, Serves, file_parts}
 use Rattle.tag_writer.proofs.Addresses.{LiesBetween, outside_puts, all_run}
 use Rattle.tag_writer.proofs.AreaJobs.{all_take}
-use Rattle.tag_writer.proofs.Counting.{file_few}
+use Rattle.tag_writer.proofs.Counting.{home, file_few}
 use Rattle.tag_writer.proofs.FileDoing.{IsJoinedBy, other_file}
 use Rattle.tag_writer.proofs.Touching.{all_both}
 use Rattle.tag_writer.proofs.Updates.{end_is, filled, closing, opened, piece_low}
@@ -183,5 +184,10 @@ file_serves size store message is = record {
   new = let w = written store message is in record { new = w.new; holds = w.holds };
   first = few (message_length (file_in store) == 0) (update_put store 0 (0 ∷ 0 ∷ []));
   last = few (length message == 0) (update_put store 0 (high_first (length message)));
+  home = last_home (length message == 0);
   few = file_few store message (omega (arith, brought store message is)) size;
 }
+  where
+    last_home : (v : Bool) → AllByRecursion (IsHomePut T4 size (file_place store message)) (if v then [] else update_put store 0 (high_first (length message)) ∷ [])
+    last_home true = tt
+    last_home false = (((let at : container_end store + 0 ≡ container_end store = omega arith in at ∙ sym (home store message (omega (arith, brought store message is)))), refl), tt)

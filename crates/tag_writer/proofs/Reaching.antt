@@ -1,24 +1,31 @@
 -- What a phase leaves that is reached.
-use Rattle.std.proofs.Common.{◌≡◌, inl, suc, List, [], ◌∷◌, ◌++◌, length, take, None, refl, sym, ◌∙◌, ap, subst, append-nil, arith}
+use Rattle.std.proofs.Common.{◌≡◌, inl, inr, slice_index, ℕ, ◌+◌, ◌≤◌, suc, List, [], ◌∷◌, ◌++◌, length, take, None, refl, sym, ◌∙◌, ap, subst, append-nil, arith}
+use Rattle.std.proofs.lemmas.List.{length-drop}
+use Rattle.std.specs.List.{AllByRecursion}
 use Rattle.nfc_base.specs.Signal.{Signal}
 use Rattle.nfc_base.specs.TagLinks.{LinkView, Leads, images, Rises}
 use Rattle.nfc_base.proofs.Leading.{leads_on, rises_on}
+use Rattle.tag_reader.specs.declared.how.How.{How}
+use Rattle.tag_reader.specs.declared.how.How.TheVariants.{T2, T4, T5}
+use Rattle.tag_reader.specs.Files.{container_end}
 use Rattle.tag_reader.specs.Asked.{ToWrite, IsAskedFor}
 use Rattle.tag_reader.specs.Calls.{GoesOn}
 use Rattle.tag_reader.specs.Survey.{surveyed}
 use Rattle.tag_writer.specs.declared.phase.Phase.{Phase}
-use Rattle.tag_writer.specs.declared.phase.Phase.TheVariants.{Filled}
+use Rattle.tag_writer.specs.declared.phase.Phase.TheVariants.{Emptied, Filled}
 use Rattle.tag_writer.specs.declared.work.Work.{Work}
 use Rattle.tag_writer.specs.Puts.{Put, after_puts, commands_of}
 use Rattle.tag_writer.specs.WriteAsked.{all_puts, refused_by, last_command}
 use Rattle.tag_writer.specs.Law.{IsEmptied, IsWritten}
-use Rattle.tag_writer.specs.Puttings.{Accepts, Makes}
-use Rattle.tag_writer.specs.Phases.{Job, Since, IsAt, made_at, next_at}
+use Rattle.tag_writer.specs.Puttings.{IsPutOf, Accepts, Makes}
+use Rattle.tag_writer.specs.Phases.{Job, Serves, Since, IsAt, made_at, next_at, new_store}
+use Rattle.tag_writer.specs.Counts.{home_at, home_size, IsHomePut, SameElsewhere}
 use Rattle.tag_writer.specs.Ends.{IsOpened}
 use Rattle.tag_writer.proofs.Asking.{up_to_all}
+use Rattle.tag_writer.proofs.Addresses.{same_put}
 use Rattle.tag_writer.proofs.Places.{after_append}
-use Rattle.tag_writer.proofs.Tags.{under_makes, store_makes}
-use Rattle.tag_writer.proofs.Jobs.{next_all, under_at}
+use Rattle.tag_writer.proofs.Tags.{like_itself, like_puts, under_makes, store_makes}
+use Rattle.tag_writer.proofs.Jobs.{made_all, next_all, under_at}
 use Rattle.tag_writer.proofs.Going.{since_makes, three_on, Three, New, last_image, answered_on, last_on, accepted_on}
 use Rattle.tag_writer.proofs.Fronts.{next_empty}
 
@@ -43,6 +50,34 @@ pub since_next : (phase : Phase) (j : Job) (work : Work) (a old new : LinkView) 
 since_next phase j work a old new not at since m =
     since_makes j a old new (made_at phase j) (next_at phase j) since (under_at phase j work old at) (next_all phase j at.serves) m
     (λ n low. subst (λ t. IsEmptied j.how j.size j.place j.store (after_puts t (take (suc n) (next_at phase j)))) (sym at.store) (next_empty phase j at.serves not n low))
+
+-- behind the second part all but the length's block, or field, is as the new store has it
+put_within : (how : How) (size : ℕ) (base : List ℕ) (p : Put) → IsPutOf how size base p → p.at + length p.bytes ≤ length base
+put_within T2 size base p is = (let at = ap (λ q. q.at) is.put in let long = ap (λ q. length q.bytes) is.put in omega (arith, at, long, is.within, is.content))
+put_within T4 size base p is = (let at = ap (λ q. q.at) is.put in omega (arith, at, is.within, length-drop (container_end base) base))
+put_within (T5 id) size base p is = (let at = ap (λ q. q.at) is.put in let long = ap (λ q. length q.bytes) is.put in omega (arith, at, long, is.within, is.content))
+
+pub same_elsewhere : (j : Job) → Serves j → SameElsewhere j.how j.size j.place (after_puts j.store (j.parts.close ++ j.parts.fill)) (new_store j)
+same_elsewhere j serves a aside =
+    by_last j.parts.last serves.last serves.home (next_all Filled j serves) ∙ ap (λ s. slice_index s a) (sym (after_append j.store (j.parts.close ++ j.parts.fill) j.parts.last))
+  where
+    front : List ℕ
+    front = after_puts j.store (j.parts.close ++ j.parts.fill)
+
+    long : length front ≡ length j.store
+    long = (like_puts j.how j.size j.store j.store (j.parts.close ++ j.parts.fill) (made_all Emptied j serves) (like_itself j.how j.size j.store serves.store')).long
+
+    by_last : (ps : List Put) → length ps ≤ 1 → AllByRecursion (IsHomePut j.how j.size j.place) ps → AllByRecursion (IsPutOf j.how j.size j.store) ps → slice_index front a ≡ slice_index (after_puts front ps) a
+    by_last [] few home ok = refl
+    by_last (p ∷ []) few home ok =
+        let at : p.at ≡ home_at j.how j.size j.place = home.0.0 in
+        let count : length p.bytes ≡ home_size j.how j.size = home.0.1 in
+        let within : p.at + length p.bytes ≤ length front = omega (arith, put_within j.how j.size j.store p ok.0, long) in
+        sym (same_put front p a within (elim aside [ inl before ↦ inl (omega (arith, at, before)) | inr behind ↦ inr (omega (arith, at, count, behind)) ]))
+    by_last (p ∷ q ∷ ps) few home ok = absurd (omega (arith, few))
+
+pub same_filled : (j : Job) (work : Work) (v : LinkView) → IsAt Filled j work v → SameElsewhere j.how j.size j.place v.state.store (new_store j)
+same_filled j work v at a aside = ap (λ s. slice_index s a) at.store ∙ same_elsewhere j at.serves a aside
 
 pub written_at : (j : Job) (work : Work) (old new : LinkView) → IsAt Filled j work old → Makes j.how old (next_at Filled j) new → IsWritten j.how j.size j.message j.place j.store new.state.store
 written_at j work old new at m = subst (IsWritten j.how j.size j.message j.place j.store) (sym (store_next Filled j work old new at m)) at.serves.new

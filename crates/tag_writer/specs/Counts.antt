@@ -1,5 +1,5 @@
 -- How often a write writes at one address, and that it writes no content that stands there.
-use Rattle.std.specs.Prelude.{◌≢◌, ℕ, ◌+◌, ◌*◌, ◌/◌, ◌≤◌, ◌==◌, if◌then◌else◌, List, [], ◌∷◌, length, take, drop, slice_index}
+use Rattle.std.specs.Prelude.{◌≡◌, ◌≢◌, ℕ, ◌+◌, ◌*◌, ◌/◌, ◌<◌, ◌≤◌, ◌⊎◌, ◌==◌, if◌then◌else◌, List, [], ◌∷◌, length, take, drop, slice_index}
 use Rattle.tag_reader.specs.declared.how.How.{How}
 use Rattle.tag_reader.specs.declared.how.How.TheVariants.{T2, T4, T5}
 use Rattle.tag_writer.specs.Puts.{Put, put_into}
@@ -10,6 +10,21 @@ abbrev pub home_at : How → ℕ → Place → ℕ
 home_at T2 size place = 4 * (slice_index place.span 0 / 4)
 home_at T4 size place = slice_index place.span 0
 home_at (T5 id) size place = size * (slice_index place.span 0 / size)
+
+-- how many bytes are written there
+abbrev pub home_size : How → ℕ → ℕ
+home_size T2 size = 4
+home_size T4 size = 2
+home_size (T5 id) size = size
+
+-- a write of the length
+abbrev pub IsHomePut : How → ℕ → Place → Put → Type 0
+IsHomePut how size place p = (p.at ≡ home_at how size place) × (length p.bytes ≡ home_size how size)
+
+-- two stores are the same but for the length's block or, in a file, its length
+abbrev pub SameElsewhere : How → ℕ → Place → List ℕ → List ℕ → Type 0
+SameElsewhere how size place s t = (a : ℕ) → (a < home_at how size place) ⊎ (home_at how size place + home_size how size ≤ a) →
+    slice_index s a ≡ slice_index t a
 
 -- how many of some writes begin at an address
 abbrev pub writes_at : ℕ → List Put → ℕ

@@ -19,7 +19,7 @@ use Rattle.tag_writer.specs.declared.phase.Phase.TheVariants.{Prepared, Emptied,
 use Rattle.tag_writer.specs.Puts.{Put, after_puts, commands_of, block_puts, most_brought, file_close, file_fill, file_last}
 use Rattle.tag_writer.specs.Place.{Place, Takes}
 use Rattle.tag_writer.specs.Puttings.{IsPutOf}
-use Rattle.tag_writer.specs.Counts.{AreFew}
+use Rattle.tag_writer.specs.Counts.{IsHomePut, AreFew}
 use Rattle.tag_writer.specs.WriteAsked.{Parts, all_puts, ArePuts, refused_by, last_command}
 use Rattle.tag_writer.specs.Law.{IsEmptied, IsWritten}
 
@@ -48,7 +48,7 @@ abbrev pub new_store : Job → List ℕ
 new_store j = after_puts j.store (all_puts j.parts)
 
 -- The writes serve the message: behind the first part and each front of the second the store holds the empty message, behind
--- the third it is the new one. The first and the third part are one write at most, and all of them are few.
+-- the third it is the new one. The first and the third part are one write at most, the third one of the length; all of them are few.
 pub record Serves (j : Job) : Type 0 where
   pub store' : IsStore j.how j.size j.store
   pub takes : Takes j.how j.size j.store j.message j.place
@@ -58,6 +58,7 @@ pub record Serves (j : Job) : Type 0 where
   pub new : IsWritten j.how j.size j.message j.place j.store (new_store j)
   pub first : length j.parts.close ≤ 1
   pub last : length j.parts.last ≤ 1
+  pub home : AllByRecursion (IsHomePut j.how j.size j.place) j.parts.last
   pub few : AreFew j.how j.size j.store j.place (all_puts j.parts)
 
 -- The work as the code keeps it: the plan of the blocks; or of a file the message, the most bytes of it that one update brings,

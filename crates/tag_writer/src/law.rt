@@ -15,8 +15,8 @@ ghost use Rattle.tag_writer.specs.Outcome.{IsOutcome};
 
 /// What is asked for a message is one list, and the writes are the same ones, part by part.
 pub fn one_write_asked()
-    ensures one { (how : How) (size : ℕ) (step : TagState → Signal → TagStep) (s : TagState) (message : List ℕ) (xs ys : List Signal) →
-        IsWriteAsked how size step s message xs → IsWriteAsked how size step s message ys → xs ≡ ys }
+    ensures one { (how : How) (size : ℕ) (step : TagState → Signal → TagStep) (s : TagState) (message : List ℕ)
+        (xs ys : List Signal) → IsWriteAsked how size step s message xs → IsWriteAsked how size step s message ys → xs ≡ ys }
     ensures parts { (how : How) (size : ℕ) (store message : List ℕ) (p q : Parts) →
         ArePuts how size store message p → ArePuts how size store message q → p ≡ q }
 {}

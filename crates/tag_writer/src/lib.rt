@@ -1,4 +1,4 @@
-//! Writes the message of a tag over any link (NFC Forum Type 2 and Type 5 Tag).
+//! Writes the message of a tag over any link (NFC Forum Type 2, Type 4 and Type 5 Tag).
 //!
 //! `write` does all of it, by four calls that a caller who wants to stop in between takes one by one: `prepare` surveys
 //! the tag and plans all contents (`preparing`, `planning`); then, in `phase`, `Prepared::empty` takes the old message
@@ -6,7 +6,8 @@
 //! is written, a command at a time, and `putting` asks for it. Whatever stops a write, the tag holds the old message,
 //! the empty one or the new one.
 //!
-//! What the tag's stores are meanwhile: `specs/Law.antt`. What is asked: `specs/WriteAsked.antt`.
+//! What the tag's stores are meanwhile: `specs/Law.antt`. What is asked: `specs/WriteAsked.antt`. `law` says that each write asks
+//! one list, has one place and one outcome.
 #![tactic(auto)]
 
 mod fault;
@@ -24,5 +25,9 @@ pub use phase::{Emptied, Filled, Opened, Phase, Prepared, Stopped};
 pub use preparing::prepare;
 pub use writer::write;
 
+#[cfg(test)]
+mod area_tests;
+#[cfg(test)]
+mod file_tests;
 #[cfg(test)]
 mod tests;

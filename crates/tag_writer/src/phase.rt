@@ -7,7 +7,8 @@ ghost use Rattle.tag_writer.specs.declared.phase.Phase.TheVariants as phases;
 ghost use Rattle.tag_writer.specs.Law.{IsWritten};
 ghost use Rattle.tag_writer.specs.Faults.{IsToldOrMemory};
 ghost use Rattle.tag_writer.specs.Puttings.{Makes, BreaksOff};
-ghost use Rattle.tag_writer.specs.Phases.{Job, Since, IsAt, next_at};
+ghost use Rattle.tag_writer.specs.Phases.{Job, Since, IsAt, next_at, new_store};
+ghost use Rattle.tag_writer.specs.Counts.{SameElsewhere};
 ghost use Rattle.tag_writer.specs.Ends.{StopsAt, StopsSince, IsOpened};
 
 use crate::fault::WriteFault;
@@ -117,6 +118,9 @@ impl Emptied {
         requires at { (j : Job) × IsAt phases.Emptied j self.work (T.seen link.old) }
         ensures ok { (j : Job) → IsAt phases.Emptied j self.work (T.seen link.old) →
             IfOk result (λ f. IsAt phases.Filled j f.work (T.seen link.new)) }
+        // all but the length's block or field is new
+        ensures filled { (j : Job) → IsAt phases.Emptied j self.work (T.seen link.old) →
+            OnOk result (SameElsewhere j.how j.size j.place (T.seen link.new).state.store (new_store j)) }
         ensures err { (j : Job) → IsAt phases.Emptied j self.work (T.seen link.old) →
             IfErr result (λ s. (s.phase ≡ phases.Emptied)
             × StopsAt phases.Emptied j (T.seen link.old) (T.seen link.new) s.cause) }

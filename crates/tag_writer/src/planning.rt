@@ -9,7 +9,7 @@ ghost use Rattle.tag_writer.specs.Planning.{IsPlannedFor, IsDeclined};
 
 use crate::fault::WriteFault;
 use crate::phase::Prepared;
-use crate::work::Work;
+use crate::work::{LENGTH_SIZE, Work};
 use nfc_base::Items;
 use std::alloc::Global;
 use tag_reader::How;
@@ -17,9 +17,6 @@ use tlv_area::{AreaMap, FileMap, PlanFault, capacity, plan};
 
 /// The most bytes that one update brings: their number is spelled by one byte.
 const MOST_BROUGHT: u16 = 255;
-
-/// How many bytes of a file say how long its message is.
-const LENGTH_SIZE: u16 = 2;
 
 /// Plans the writes of a message to an area of which this is known.
 pub fn plan_area(

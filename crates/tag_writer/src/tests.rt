@@ -2,19 +2,21 @@
 
 ghost use Rattle.std.specs.Prelude.{◌≡◌, ℕ, List, Bool, Option, [], None, Some, true, false};
 ghost use Rattle.nfc_base.specs.Signal.{Signal};
-ghost use Rattle.nfc_base.specs.TagLinks.{TagKind, Type2, Type5, TagState, TagStep, LinkView, plain_state};
+ghost use Rattle.nfc_base.specs.TagLinks.{TagKind, Type2, Type4, Type5, TagState, TagStep, LinkView, plain_state};
+ghost use Rattle.tag_reader.specs.Files.{shown, t4_link_step};
 ghost use Rattle.tag_reader.specs.Kinds.{t2_step, t5_step};
 
 use crate::{WriteFault, write};
-use nfc_base::{AskFault, Frame, TagLink};
+use nfc_base::{AskFault, Frame, TagLink, Tech};
 use std::alloc::Global;
 use std::test::Fail;
 use t2t_tag::T2Tag;
+use t4t_tag::T4Tag;
 use t5t_tag::T5Tag;
 use tag_reader::{How, read};
 
 /// A tag that obeys at once.
-trait Card {
+pub trait Card {
     ghost kind: { Self → TagKind };
 
     ghost identifier: { Self → List ℕ };
@@ -46,10 +48,26 @@ impl Card for T2Tag {
     }
 }
 
+impl Card for T4Tag {
+    ghost kind = { λ _. Type4 };
+
+    ghost identifier = { λ _. [] };
+
+    ghost state = { λ t. shown t };
+
+    ghost step = { λ t. t4_link_step t.code };
+
+    fn hear(&mut self, command: &Frame) -> Option<Frame> {
+        let _shape = self.file();
+        let answer = self.obey(command.view());
+        Some(Frame::whole(Tech::A, answer.as_slice()).unwrap())
+    }
+}
+
 /// A Type 5 tag that doesn't stay quiet.
 #[derive(Drop)]
-struct Awake {
-    tag: T5Tag,
+pub struct Awake {
+    pub tag: T5Tag,
     ghost awake: { tag.quiet ≡ false },
 }
 
@@ -71,12 +89,12 @@ impl Card for Awake {
 
 /// A link to it that is lost after so many commands, where `behind` says behind the one that isn't answered.
 #[derive(Drop)]
-struct MemLink<C> {
-    card: C,
+pub struct MemLink<C> {
+    pub card: C,
     left: u16,
     behind: bool,
     obeyed: Vec<Frame>,
-    answered: Vec<Frame>,
+    pub answered: Vec<Frame>,
     last: Option<Frame>,
     over: Option<AskFault>,
     breaks: u8,
@@ -152,7 +170,7 @@ impl<C: Card> TagLink for MemLink<C> {
 }
 
 impl<C> MemLink<C> {
-    fn new(alloc: Global, card: C, left: u16, behind: bool) -> MemLink<C>
+    pub fn new(alloc: Global, card: C, left: u16, behind: bool) -> MemLink<C>
         ensures { result.card ≡ card }
     {
         MemLink {
@@ -167,17 +185,30 @@ impl<C> MemLink<C> {
             six_bad: 0,
         }
     }
+
+    /// The field is there again.
+    pub fn light(&mut self)
+        ensures { self.new.card ≡ self.old.card }
+    {
+        self.over = None;
+        self.left = ENOUGH;
+        self.breaks = 0;
+    }
 }
 
 /// How many commands a link answers that isn't lost.
-const ENOUGH: u16 = 5000;
+pub const ENOUGH: u16 = 5000;
 
-fn write_t2(alloc: Global, link: &mut MemLink<T2Tag>, message: &[u8]) -> Result<(), WriteFault> {
+pub fn write_t2(
+    alloc: Global,
+    link: &mut MemLink<T2Tag>,
+    message: &[u8],
+) -> Result<(), WriteFault> {
     let _shape = link.card.store();
     write(alloc, link, How::T2, message)
 }
 
-fn write_t5(
+pub fn write_t5(
     alloc: Global,
     link: &mut MemLink<Awake>,
     id: [u8; 8],
@@ -190,7 +221,7 @@ fn write_t5(
 }
 
 /// A store of so many bytes that begins with zeros and goes on with these.
-fn store_of(alloc: Global, zeros: usize, size: usize, head: &[u8]) -> Result<Vec<u8>, Fail> {
+pub fn store_of(alloc: Global, zeros: usize, size: usize, head: &[u8]) -> Result<Vec<u8>, Fail> {
     let mut store = vec![in alloc; 0u8; zeros]?;
     store.extend_from_slice(head)?;
     store.resize(size, 0)?;
@@ -198,7 +229,7 @@ fn store_of(alloc: Global, zeros: usize, size: usize, head: &[u8]) -> Result<Vec
 }
 
 /// Some of the bytes, none where they aren't all there.
-fn part(bytes: &[u8], from: usize, to: usize) -> &[u8] {
+pub fn part(bytes: &[u8], from: usize, to: usize) -> &[u8] {
     match bytes.get(from..to) {
         Some(part) => part,
         None => &[],
@@ -206,7 +237,7 @@ fn part(bytes: &[u8], from: usize, to: usize) -> &[u8] {
 }
 
 /// The bytes of the command that was answered as the n-th from the end.
-fn asked_at(answered: &[Frame], n: usize) -> &[u8] {
+pub fn asked_at(answered: &[Frame], n: usize) -> &[u8] {
     match answered.get(answered.len().wrapping_sub(n)) {
         Some(frame) => frame.view(),
         None => &[],
@@ -222,13 +253,11 @@ const RESERVED: [u8; 28] = [
     10, 11, 12, 0xFE,
 ];
 
-const ID: [u8; 8] = [0xE0, 4, 1, 2, 3, 4, 5, 6];
+pub const ID: [u8; 8] = [0xE0, 4, 1, 2, 3, 4, 5, 6];
 
 /// What a tag holds once the field is there again.
-fn left_t2(alloc: Global, link: &mut MemLink<T2Tag>) -> Result<Vec<u8>, Fail> {
-    link.over = None;
-    link.left = ENOUGH;
-    link.breaks = 0;
+pub fn left_t2(alloc: Global, link: &mut MemLink<T2Tag>) -> Result<Vec<u8>, Fail> {
+    link.light();
     let found = read(alloc, link, How::T2)?;
     Ok(found.message.into_vec())
 }

@@ -25,7 +25,7 @@ use tlv_area::{Plan, Step};
 const SHORT_NUMBERS: u16 = 256;
 
 /// How many bytes of a file say how long its message is; the message stands behind them.
-const LENGTH_SIZE: u16 = 2;
+pub const LENGTH_SIZE: u16 = 2;
 
 /// What is written to a tag.
 #[derive(Debug, Drop)]

@@ -1,4 +1,5 @@
 use Rattle.bench_world.proofs.Quiet as quiet
+use Rattle.bench_world.proofs.QuietHearing as hearing
 use Rattle.bench_world.proofs.law.quiet_air.Goals as goal
 
 pub returns-clause-stays : goal.returns-clause-stays
@@ -9,6 +10,12 @@ returns-clause-reads c = quiet.quiet_reads
 
 pub returns-clause-finds : goal.returns-clause-finds
 returns-clause-finds c = quiet.quiet_finds
+
+pub returns-clause-hears : goal.returns-clause-hears
+returns-clause-hears c = hearing.quiet_hears
+
+pub returns-clause-script : goal.returns-clause-script
+returns-clause-script c = hearing.quiet_script
 
 pub returns-clause-writes : goal.returns-clause-writes
 returns-clause-writes c = quiet.quiet_writes

@@ -1,7 +1,7 @@
 use Rattle.std.proofs.Common.{◌≡◌, ◌<◌, false}
 use Rattle.snep_core.specs.Calling.{Talks}
-use Rattle.snep_core.specs.Talk.{Goes, begun, most_idle, own_of}
-use Rattle.snep_core.specs.Waning.{replies_left}
+use Rattle.snep_core.specs.Talk.{Goes, alone, begun, most_idle, own_of}
+use Rattle.snep_core.specs.Waning.{Aim, Serves, replies_left}
 use Rattle.snep_core.proofs.client.Client.converse.Given as goal
 
 abbrev pub invariant-turns : goal.invariant-turns
@@ -10,9 +10,10 @@ invariant-turns g l = record {
   spent : l.self.spent ≡ false;
   ready : g.C.Carrier.ready l.carrier;
   same : g.C.Carrier.lenders l.carrier ≡ g.C.Carrier.lenders l.fn.carrier;
-  talks : Talks g.C.Carrier.seen g.C.Carrier.moves g.A.Answerer.steps g.A.Answerer.stops (begun l.fn.self.llc l.job) l.fn.carrier l.fn.far
-      (Goes (record { llc = l.self.llc; job = l.job; idle = l.idle })) l.carrier l.far;
+  serves : (aim : Aim) → Serves aim l.fn.first → Serves aim l.job;
+  talks : Talks g.C.Carrier.seen g.C.Carrier.moves g.A.Answerer.steps g.A.Answerer.stops (begun l.fn.self.llc l.fn.first) l.fn.carrier l.fn.far
+      (Goes (record { llc = l.self.llc; jobs = alone l.job; idle = l.idle })) l.carrier l.far;
 }
 
 abbrev pub decreases-turns : goal.decreases-turns
-decreases-turns g l = replies_left (own_of l.self.llc) l.idle
+decreases-turns g l = replies_left (own_of l.self.llc) l.job l.idle

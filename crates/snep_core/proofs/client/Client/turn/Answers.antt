@@ -1,26 +1,29 @@
-use Rattle.std.proofs.Common.{rules, ◌≡◌, ◌<◌, ◌+◌, true, false, subst, arith}
-use Rattle.snep_core.specs.Talk.{drained, most_idle, own_of}
-use Rattle.snep_core.specs.Waning.{Lessens}
-use Rattle.snep_core.proofs.Falling.{drained_falls}
+use Rattle.std.proofs.Common.{sym, subst, Option}
+use Rattle.snep_core.specs.declared.job.Heard.{Heard}
+use Rattle.snep_core.specs.Listening.{Hears}
+use Rattle.snep_core.specs.Talk.{Ready, client_sap, own_of}
+use Rattle.snep_core.specs.Waning.{LessensTo, Putting, Serves, job_left}
+use Rattle.snep_core.proofs.Falling.{goes_falls}
+use Rattle.snep_core.proofs.Jobs.{heard_lets}
+use Rattle.snep_core.proofs.Submits.{ready_serves}
 use Rattle.snep_core.proofs.client.Client.turn.Goals as goal
 
-pub returns-then-gave-clause-falls : goal.returns-then-gave-clause-falls
-returns-then-gave-clause-falls g c =
-    let less : Lessens c.in-Ok.gave (own_of c.args.self.now.llc) (own_of c.exchange.new.self.llc) = c.in-Ok.ensures.falls in
-    let last : c.unit.new.self ≡ drained c.exchange.new.self.llc = search rules in
-    let fall = drained_falls c.in-Ok.gave (own_of c.args.self.now.llc) c.exchange.new.self.llc c.unit.new.self last less in
-    let some : Lessens true (own_of c.args.self.now.llc) (own_of c.unit.new.self) =
-    subst (λ b. Lessens b (own_of c.args.self.now.llc) (own_of c.unit.new.self)) c.if-gave.true fall in
-    let low : c.args.idle < most_idle = c.requires.idle in
-    (omega arith, omega arith)
+pub returns-in-Ok-Some-clause-serves : goal.returns-in-Ok-Some-clause-serves
+returns-in-Ok-Some-clause-serves g c = λ aim s.
+    let h =
+    subst (λ (o : Option Heard). Hears c.exchange.new.self.llc c.in-Ok.now o c.hear.new.self.llc) c.in-Ok-Some.field-0-is c.in-Ok-Some.ensures.ok in
+    let ready =
+    subst (λ (r : Ready). Serves aim r.job) c.in-Ok.ensures.ok (ready_serves aim c.args.self.now.llc client_sap c.args.job s) in
+    c.settle.ensures.serves aim
+    ((heard_lets aim c.exchange.new.self.llc client_sap c.in-Ok.now c.in-Ok-Some.heard.job h.0).serves ready)
 
-pub returns-then-idle-lt-MOST_IDLE-clause-falls : goal.returns-then-idle-lt-MOST_IDLE-clause-falls
-returns-then-idle-lt-MOST_IDLE-clause-falls g c =
-    let less : Lessens c.in-Ok.gave (own_of c.args.self.now.llc) (own_of c.exchange.new.self.llc) = c.in-Ok.ensures.falls in
-    let last : c.unit.new.self ≡ drained c.exchange.new.self.llc = search rules in
-    let fall = drained_falls c.in-Ok.gave (own_of c.args.self.now.llc) c.exchange.new.self.llc c.unit.new.self last less in
-    let none : Lessens false (own_of c.args.self.now.llc) (own_of c.unit.new.self) =
-    subst (λ b. Lessens b (own_of c.args.self.now.llc) (own_of c.unit.new.self)) c.if-gave.false fall in
-    let low : c.args.idle < most_idle = c.requires.idle in
-    let next : c.args.idle + 1 < most_idle = search rules in
-    (next, omega arith)
+pub returns-in-Ok-Some-clause-falls : goal.returns-in-Ok-Some-clause-falls
+returns-in-Ok-Some-clause-falls g c =
+    let h =
+    subst (λ (o : Option Heard). Hears c.exchange.new.self.llc c.in-Ok.now o c.hear.new.self.llc) c.in-Ok-Some.field-0-is c.in-Ok-Some.ensures.ok in
+    let left =
+    subst (λ b. LessensTo b (job_left c.in-Ok.now) (job_left c.in-Ok-Some.heard.job)) (sym h.1)
+    (heard_lets Putting c.exchange.new.self.llc client_sap c.in-Ok.now c.in-Ok-Some.heard.job h.0).left in
+    goes_falls (own_of c.args.self.now.llc) c.args.job c.ready.new.self.llc c.exchange.new.self.llc c.hear.new.self.llc c.in-Ok.now
+    c.in-Ok-Some.heard.job c.args.idle c.in-Ok-exchange.gave c.in-Ok-Some.heard.some c.settle.result c.settle.new.self.llc c.in-Ok.ensures.left
+    c.in-Ok-exchange.ensures.falls left c.requires.idle h.2 c.settle.ensures.goes

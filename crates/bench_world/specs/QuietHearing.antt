@@ -1,0 +1,88 @@
+-- What is heard on quiet air, where no fate is left but Pass, and what a script without noise comes to. A later command adds its case.
+use Rattle.std.specs.Prelude.{◌≡◌, ℕ, List, [], ◌∷◌, Option, Some, None, Ok}
+use Rattle.std.specs.List.{AllByRecursion}
+use Rattle.nfc_base.specs.Trace.{noise}
+use Rattle.nfc_base.specs.declared.event.Fate.{Fate}
+use Rattle.air_core.specs.Conversation.{Note, receptions}
+use Rattle.bench_script.specs.declared.command.Command.{Command}
+use Rattle.bench_script.specs.declared.command.Command.TheVariants.{Fates, Find, Read, Write}
+use Rattle.bench_script.specs.declared.command.DeviceId.{DeviceId}
+use Rattle.bench_script.specs.DeviceIds.{bytes_of}
+use Rattle.bench_script.specs.Messages.{message_of}
+use Rattle.bench_script.specs.declared.message.Msg.{Msg}
+use Rattle.bench_script.specs.Script.{Spells}
+use Rattle.bench_devices.specs.declared.device.Device.{Device}
+use Rattle.bench_devices.specs.declared.polling.SeenKind.{SeenKind}
+use Rattle.bench_devices.specs.Answering.{IsNamed}
+use Rattle.bench_devices.specs.Hearing.{IsUnharmed, IsAnswered}
+use Rattle.bench_devices.specs.Placed.{device_with}
+use Rattle.bench_devices.specs.Polling.{Told, selecting}
+use Rattle.bench_world.specs.declared.entry.Entry.{Entry}
+use Rattle.bench_world.specs.Completing.{whole_field}
+use Rattle.bench_world.specs.Journal.{LeadsTo}
+use Rattle.bench_world.specs.Legal.{State, changed, state_after, first_state}
+use Rattle.bench_world.specs.Quiet.{AllPass}
+use Rattle.bench_world.specs.Reading.{TellsOf}
+use Rattle.bench_world.specs.Writing.{TellsWrite}
+
+-- something holds of each entry, and of the state that the entries before it lead to
+abbrev pub AllAlong : (State → Entry → Type 0) → State → List Entry → Type 0
+AllAlong P s [] = Unit {0}
+AllAlong P s (e ∷ es) = P s e × AllAlong P (state_after s e.command e.events) es
+
+-- the tag that a command selects and then asks, if it does
+abbrev pub tag_of : Command → Option DeviceId
+tag_of (Read id) = Some id
+tag_of c = None
+
+-- Behind the selection of a tag each note of an entry is a whole answer.
+abbrev pub AnswersAll : DeviceId → Entry → Type 0
+AnswersAll id e =
+    (kind : SeenKind) (behind : List Note) → selecting id (receptions e.events) ≡ Told (Ok kind) behind
+    → AllByRecursion IsAnswered behind
+
+-- In an entry nothing was damaged or lost: no reception is bad but silences. Behind the selection of its tag each is a whole
+-- answer, so those silences are polling's.
+pub record IsWellHeard (e : Entry) : Type 0 where
+  pub unharmed : AllByRecursion IsUnharmed (receptions e.events)
+  pub answered : (id : DeviceId) → tag_of e.command ≡ Some id → AnswersAll id e
+
+abbrev pub IsHeardIfQuiet : State → Entry → Type 0
+IsHeardIfQuiet s e = AllPass (changed s e.command).queue → IsWellHeard e
+
+-- Each entry of a script's journal is heard so, from which on no fate is left but Pass.
+abbrev pub QuietHears : Type 0
+QuietHears =
+    (lines : List (List ℕ)) (journal : List Entry) (last : State) → LeadsTo lines journal last
+    → AllAlong IsHeardIfQuiet first_state journal
+
+-- A line that appends fates appends nothing but Pass.
+abbrev pub IsQuietLine : List ℕ → Type 0
+IsQuietLine line = (fates : List Fate) → Spells line (Fates fates) → AllPass fates
+
+-- The entry reads this device, which is placed.
+pub record ReadsPlaced (s : State) (e : Entry) (id : DeviceId) (d : Device) : Type 0 where
+  pub command : e.command ≡ Read id
+  pub placed : device_with (bytes_of id) s.world.listeners ≡ Some d
+  pub named : IsNamed id d
+
+-- The entry writes this message to it.
+pub record WritesPlaced (s : State) (e : Entry) (id : DeviceId) (m : Msg) (d : Device) : Type 0 where
+  pub command : e.command ≡ Write id m
+  pub placed : device_with (bytes_of id) s.world.listeners ≡ Some d
+  pub named : IsNamed id d
+
+-- An entry of a script without noise: everything passed; a read of a placed tag tells what its store holds, a write what it comes
+-- to, and a search lists the whole field.
+pub record IsQuietEntry (s : State) (e : Entry) : Type 0 where
+  pub quiet : noise e.events ≡ 0
+  pub hears : IsWellHeard e
+  pub reads : (id : DeviceId) (d : Device) → ReadsPlaced s e id d → TellsOf d e.answer
+  pub writes : (id : DeviceId) (m : Msg) (d : Device) → WritesPlaced s e id m d → TellsWrite (message_of m) d e.answer
+  pub finds : e.command ≡ Find → e.answer ≡ whole_field s.world.listeners
+
+-- Where no line has another fate than Pass, each entry is one.
+abbrev pub QuietScript : Type 0
+QuietScript =
+    (lines : List (List ℕ)) (journal : List Entry) (last : State) → LeadsTo lines journal last
+    → AllByRecursion IsQuietLine lines → AllAlong IsQuietEntry first_state journal

@@ -1,0 +1,31 @@
+use Rattle.std.proofs.Common.{◌≡◌, ℕ, List, [], ◌∷◌, length, get_or, string_bytes, sym, ◌∙◌, ap, arith}
+use Rattle.std.specs.Prelude.{codes}
+use Rattle.std.specs.Cmp.Lexicographic.{same_text}
+use Rattle.nfc_bench.proofs.top.words.form_of.Goals as goal
+
+only_one : {X : Type 0} (xs : List X) (x : X) → length xs ≡ 1 → x ≡ get_or xs 0 x → xs ≡ x ∷ []
+only_one [] x one is = absurd (omega arith)
+only_one (y ∷ []) x one is = ap (λ z. z ∷ []) (sym is)
+only_one (y ∷ z ∷ xs) x one is = absurd (omega arith)
+
+only_two : {X : Type 0} (xs : List X) (x y : X) → length xs ≡ 2 → x ≡ get_or xs 0 x → y ≡ get_or xs 1 y → xs ≡ x ∷ y ∷ []
+only_two [] x y two first second = absurd (omega arith)
+only_two (a ∷ []) x y two first second = absurd (omega arith)
+only_two (a ∷ b ∷ []) x y two first second = ap (λ z. z ∷ b ∷ []) (sym first) ∙ ap (λ z. x ∷ z ∷ []) (sym second)
+only_two (a ∷ b ∷ c ∷ xs) x y two first second = absurd (omega arith)
+
+pub returns-in-len1-clause-some : goal.returns-in-len1-clause-some
+returns-in-len1-clause-some c =
+    let one = only_one c.args.words.now c.run-item.result (omega arith) c.run-item.is in
+    let text : List ℕ = c.as_str.result.now in
+    let same : text ≡ codes "run" = same_text text (codes "run") (sym c.if-eq.true ∙ c.eq.ensures) in
+    rw one (ap (λ w. w ∷ []) (sym c.as_str.ensures.value ∙ same))
+
+pub returns-in-len2-clause-some : goal.returns-in-len2-clause-some
+returns-in-len2-clause-some c =
+    let two = only_two c.args.words.now c.run-item-then-words-lt3.result c.quiet-item.result (omega arith) c.run-item-then-words-lt3.is c.quiet-item.is in
+    let first : List ℕ = c.as_str-then-words-lt3.result.now in
+    let second : List ℕ = c.as_str-then-eq-2.result.now in
+    let run : first ≡ codes "run" = same_text first (codes "run") (sym c.if-eq-2.true ∙ c.eq-then-words-lt3.ensures) in
+    let quiet : second ≡ codes "quiet" = same_text second (codes "quiet") (sym c.if-eq-3.true ∙ c.eq-then-eq-2.ensures) in
+    rw two (ap (λ w. w ∷ string_bytes c.quiet-item.result ∷ []) (sym c.as_str-then-words-lt3.ensures.value ∙ run) ∙ ap (λ w. codes "run" ∷ w ∷ []) (sym c.as_str-then-eq-2.ensures.value ∙ quiet))

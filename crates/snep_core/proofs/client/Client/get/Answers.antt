@@ -1,0 +1,59 @@
+use Rattle.std.proofs.Common.{rules, ◌≡◌, List, ℕ, Some, refl, subst, inl, inr}
+use Rattle.snep_core.specs.Calling.{FailsBy, Talks}
+use Rattle.snep_core.specs.Jobs.{Begins, Ending, Over, Refused, Value}
+use Rattle.snep_core.specs.Talk.{Ends, Gets, alone, begins, begun, client_sap, connected, get_bytes}
+use Rattle.snep_core.proofs.Talking.{talks_none}
+use Rattle.snep_core.proofs.client.Client.get.Goals as goal
+
+pub returns-in-Err-clause-err : goal.returns-in-Err-clause-err
+returns-in-Err-clause-err g c = λ going. inr (inr (record {
+  at = record {
+    llc = connected c.args.self.now.llc client_sap;
+    jobs = alone (Begins (Some c.args.acceptable) (get_bytes c.args.acceptable c.args.key.now));
+    idle = 0;
+  };
+  mid = c.args.carrier.now;
+  mid_far = c.args.far.now;
+  talks = talks_none g.C.Carrier.seen g.C.Carrier.moves g.A.Answerer.steps g.A.Answerer.stops g.met.C.Carrier.stays
+      (begins c.args.self.now.llc (Gets c.args.acceptable c.args.key.now)) c.args.carrier.now c.args.far.now;
+  cut = inl (inl (record { fault = c.spend.ensures.fault; link_is = refl; far_is = refl }));
+}))
+
+pub returns-in-Err-ask-clause-err : goal.returns-in-Err-ask-clause-err
+returns-in-Err-ask-clause-err g c =
+    let e : c.in-Ok.request ≡ get_bytes c.args.acceptable c.args.key.now = search rules in
+    λ going. inr
+    (subst (λ (b : List ℕ). FailsBy g.C.Carrier.seen g.C.Carrier.moves g.A.Answerer.steps g.A.Answerer.stops
+    (begun (connected c.args.self.now.llc client_sap) (Begins (Some c.args.acceptable) b)) c.args.carrier.now c.args.far.now c.in-Err-ask.fault
+    c.ask.new.self.llc c.ask.new.carrier c.ask.new.far) e c.in-Err-ask.ensures.err)
+
+pub returns-in-Ok-Value-clause-ok : goal.returns-in-Ok-Value-clause-ok
+returns-in-Ok-Value-clause-ok g c =
+    let e : c.in-Ok.request ≡ get_bytes c.args.acceptable c.args.key.now = search rules in
+    let v : c.in-Ok-Value.value ≡ c.into_vec.result.items = search rules in
+    let t =
+    subst (λ (o : Ending). Talks g.C.Carrier.seen g.C.Carrier.moves g.A.Answerer.steps g.A.Answerer.stops
+    (begun (connected c.args.self.now.llc client_sap) (Begins (Some c.args.acceptable) c.in-Ok.request)) c.args.carrier.now c.args.far.now
+    (Ends (alone (Over o)) c.ask.new.self.llc) c.ask.new.carrier c.ask.new.far) c.in-Ok-Value.field-0-is c.in-Ok-Value.ensures.ok in
+    let u =
+    subst (λ (b : List ℕ). Talks g.C.Carrier.seen g.C.Carrier.moves g.A.Answerer.steps g.A.Answerer.stops
+    (begun (connected c.args.self.now.llc client_sap) (Begins (Some c.args.acceptable) b)) c.args.carrier.now c.args.far.now
+    (Ends (alone (Over (Value c.in-Ok-Value.value))) c.ask.new.self.llc) c.ask.new.carrier c.ask.new.far) e t in
+    subst (λ (x : List ℕ). Talks g.C.Carrier.seen g.C.Carrier.moves g.A.Answerer.steps g.A.Answerer.stops
+    (begun (connected c.args.self.now.llc client_sap) (Begins (Some c.args.acceptable) (get_bytes c.args.acceptable c.args.key.now)))
+    c.args.carrier.now c.args.far.now (Ends (alone (Over (Value x))) c.ask.new.self.llc) c.ask.new.carrier c.ask.new.far) v u
+
+pub returns-in-Ok-Refused-clause-err : goal.returns-in-Ok-Refused-clause-err
+returns-in-Ok-Refused-clause-err g c =
+    let e : c.in-Ok.request ≡ get_bytes c.args.acceptable c.args.key.now = search rules in
+    let t =
+    subst (λ (o : Ending). Talks g.C.Carrier.seen g.C.Carrier.moves g.A.Answerer.steps g.A.Answerer.stops
+    (begun (connected c.args.self.now.llc client_sap) (Begins (Some c.args.acceptable) c.in-Ok.request)) c.args.carrier.now c.args.far.now
+    (Ends (alone (Over o)) c.ask.new.self.llc) c.ask.new.carrier c.ask.new.far) c.in-Ok-Refused.field-0-is c.in-Ok-Refused.ensures.ok in
+    λ going. inl (record {
+      why = c.in-Ok-Refused.refusal;
+      fault = c.fault.ensures;
+      talks = subst (λ (b : List ℕ). Talks g.C.Carrier.seen g.C.Carrier.moves g.A.Answerer.steps g.A.Answerer.stops
+          (begun (connected c.args.self.now.llc client_sap) (Begins (Some c.args.acceptable) b)) c.args.carrier.now c.args.far.now
+          (Ends (alone (Over (Refused c.in-Ok-Refused.refusal))) c.ask.new.self.llc) c.ask.new.carrier c.ask.new.far) e t;
+    })

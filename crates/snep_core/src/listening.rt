@@ -1,0 +1,121 @@
+//! What a client makes of a reply that its end took.
+
+ghost use Rattle.std.specs.Prelude.{◌≡◌, ◌||◌, [], ◌∷◌, true, IfOk, IfErr, OnOk};
+ghost use Rattle.snep_core.specs.Jobs.{has_byte};
+ghost use Rattle.snep_core.specs.Listening.{Hears, HearsUnits};
+ghost use Rattle.snep_core.specs.Talk.{client_sap, finished as finished_by, is_lost as lost_by, is_there as there_by};
+ghost use Rattle.snep_core.specs.declared.fault.SnepFault.{SnepFault};
+
+use crate::client::{CLIENT_SAP, Client, is_waiting};
+use crate::fault::SnepFault;
+use crate::hearing::hear_unit;
+use crate::job::{Ending, Heard, Job};
+use llcp_link::Standing;
+
+/// A connection is open, or its CC or DM is awaited.
+fn is_there(standing: Standing) -> bool
+    ensures { result ≡ there_by standing }
+{
+    match standing {
+        Standing::Waiting | Standing::Open { .. } => true,
+        Standing::Nothing | Standing::Refused | Standing::Closed => false,
+    }
+}
+
+/// A unit with a byte came before, or this has one.
+fn gives_more(some: bool, bytes: &[u8]) -> bool
+    ensures { result ≡ (some || has_byte (bytes.now ∷ [])) }
+{
+    if some {
+        return true;
+    }
+    match bytes {
+        [_, ..] => true,
+        [] => false,
+    }
+}
+
+impl Client {
+    /// The units that were handed up, each taken away. None where one of them puts the far end at fault.
+    fn hear_units(&mut self, first: Job) -> Result<Option<Heard>, SnepFault>
+        ensures ok { IfOk result (λ heard. HearsUnits self.old.llc first heard self.new.llc) }
+        ensures going { OnOk result (self.new.spent ≡ self.old.spent) }
+        ensures err { IfErr result (λ e. e ≡ SnepFault.Memory) }
+        ensures spent { IfErr result (λ e. self.new.spent ≡ true) }
+    {
+        let mut job = first;
+        let mut some = false;
+        'units: while let Some(unit) = self.llc.unit(CLIENT_SAP) {
+            let bytes = unit.as_slice();
+            some = gives_more(some, bytes);
+            match hear_unit(self.alloc, job, bytes) {
+                Err(_) => return Err(self.spend()),
+                Ok(None) => return Ok(None),
+                Ok(Some(next)) => job = next,
+            }
+        }
+        Ok(Some(Heard { job, some }))
+    }
+
+    /// The job needs its connection, and the far end refused or closed this.
+    fn is_lost(&self, job: &Job) -> bool
+        ensures { result ≡ lost_by self.now.llc client_sap job.now }
+    {
+        match job {
+            Job::Looks(_) | Job::Closes | Job::Over(_) => false,
+            Job::Begins(..) | Job::Waits(..) | Job::Sends(..) | Job::Asks(..) | Job::Collects(..) =>
+                { !is_there(self.llc.standing(CLIENT_SAP)) }
+        }
+    }
+
+    /// A lookup that was told is over, and the end of a connection whose DM came.
+    fn finished(&self, job: Job) -> Job
+        ensures { result ≡ finished_by self.now.llc client_sap job }
+    {
+        match job {
+            Job::Looks(tid) => match self.llc.found(tid) {
+                None => Job::Looks(tid),
+                Some(sap) => Job::Over(Ending::Sap(sap)),
+            },
+            Job::Closes => {
+                if is_waiting(self.llc.standing(CLIENT_SAP)) {
+                    Job::Closes
+                } else {
+                    Job::Over(Ending::Done)
+                }
+            }
+            Job::Begins(most, bytes) => Job::Begins(most, bytes),
+            Job::Waits(most, rest) => Job::Waits(most, rest),
+            Job::Sends(most, rest) => Job::Sends(most, rest),
+            Job::Asks(size, have) => Job::Asks(size, have),
+            Job::Collects(size, have) => Job::Collects(size, have),
+            Job::Over(ending) => Job::Over(ending),
+        }
+    }
+
+    /// What was heard makes of its job. None where the far end is at fault: the connection is forgotten.
+    pub(crate) fn hear(&mut self, job: Job) -> Result<Option<Heard>, SnepFault>
+        ensures ok { IfOk result (λ heard. Hears self.old.llc job heard self.new.llc) }
+        ensures going { OnOk result (self.new.spent ≡ self.old.spent) }
+        ensures err { IfErr result (λ e. e ≡ SnepFault.Memory) }
+        ensures spent { IfErr result (λ e. self.new.spent ≡ true) }
+    {
+        let heard = match self.hear_units(job) {
+            Err(fault) => return Err(fault),
+            Ok(heard) => heard,
+        };
+        let Some(heard) = heard else {
+            self.llc.forget(CLIENT_SAP);
+            return Ok(None);
+        };
+        if self.is_lost(&heard.job) {
+            self.llc.forget(CLIENT_SAP);
+            return Ok(None);
+        }
+        let Heard { job, some } = heard;
+        Ok(Some(Heard {
+            job: self.finished(job),
+            some,
+        }))
+    }
+}

@@ -1,0 +1,162 @@
+//! What a client exchanges with a far end until its job is over.
+
+ghost use Rattle.std.specs.Prelude.{◌≡◌, ◌<◌, ◌||◌, false, IfOk, IfErr, OnOk};
+ghost use Rattle.snep_core.specs.Calling.{Exchanged, FailsBy, IsCut, Talks, Turned, fault_of, is_memory, step_of};
+ghost use Rattle.snep_core.specs.Jobs.{Over};
+ghost use Rattle.snep_core.specs.Talk.{Ends, alone, begun, client_sap, idle_after, most_idle, own_of, ready, settled};
+ghost use Rattle.snep_core.specs.Waning.{Aim, Falls, GoesAs, IsOf, Lessens, Serves, TurnServes, aim_of};
+ghost use Rattle.snep_core.specs.declared.fault.SnepFault.{SnepFault};
+
+use crate::client::{CLIENT_SAP, Client, gave_between};
+use crate::fault::SnepFault;
+use crate::job::{Ending, Job, Turn};
+use nfc_base::{Answerer, Carrier, EndCause};
+
+/// Replies that gave nothing, in a row, before a far end is given up.
+const MOST_IDLE: u8 = 16;
+
+impl Client {
+    /// The link ended by this cause.
+    fn ended(&mut self, cause: EndCause) -> SnepFault
+        requires { self.old.spent ≡ false }
+        ensures fault { result ≡ fault_of cause }
+        ensures spent { self.new.spent ≡ is_memory (fault_of cause) }
+        ensures same { self.new.llc ≡ self.old.llc }
+    {
+        match cause {
+            EndCause::Memory => self.spend(),
+            EndCause::FieldLost | EndCause::SixBad | EndCause::Protocol => {
+                SnepFault::LinkEnded(cause)
+            }
+        }
+    }
+
+    /// One exchange: the next payload goes out, and its reply is taken. Whether that gave something on the connection.
+    fn exchange<C: Carrier, A: Answerer>(
+        &mut self,
+        carrier: &mut C,
+        far: &mut A,
+    ) -> Result<bool, SnepFault>
+        requires ready { C.ready carrier.old }
+        requires going { self.old.spent ≡ false }
+        ensures ok { IfOk result (λ gave.
+            Exchanged C.seen C.moves A.steps A.stops self.old.llc carrier.old far.old gave
+            self.new.llc carrier.new far.new) }
+        ensures falls { IfOk result (λ gave. Lessens gave (own_of self.old.llc) (own_of self.new.llc)) }
+        ensures going { OnOk result (self.new.spent ≡ false) }
+        ensures err { IfErr result (λ e.
+            IsCut C.seen C.moves A.steps A.stops self.old.llc carrier.old far.old e self.new.llc carrier.new far.new) }
+        ensures spent { IfErr result (λ e. self.new.spent ≡ is_memory e) }
+        ensures ready { C.ready carrier.new }
+        ensures same { C.lenders carrier.new ≡ C.lenders carrier.old }
+    {
+        let mut out = Vec::new(self.alloc);
+        if self.llc.give(&mut out).is_err() {
+            return Err(self.spend());
+        }
+        let before = self.stands();
+        match carrier.swap(self.alloc, &out, far) {
+            Err(end) => Err(self.ended(end.cause)),
+            Ok(reply) => {
+                if self.llc.take(&reply).is_err() {
+                    return Err(self.spend());
+                }
+                Ok(gave_between(before, self.stands()))
+            }
+        }
+    }
+
+    /// What the call is once its job came to this.
+    fn settle(&mut self, job: Job, gave: bool, some: bool, idle: u8) -> Turn
+        requires idle { idle < most_idle }
+        ensures step { settled self.old.llc (alone job) (idle_after (gave || some) idle) ≡ step_of result self.new.llc }
+        ensures goes { GoesAs job (idle_after (gave || some) idle) self.old.llc result self.new.llc }
+        ensures serves { (aim : Aim) → Serves aim job → TurnServes aim result }
+        ensures same { self.new.spent ≡ self.old.spent }
+    {
+        let next = if gave || some { 0 } else { idle + 1 };
+        match job {
+            Job::Over(ending) => Turn::Ended(ending),
+            other => {
+                if next < MOST_IDLE {
+                    return Turn::Went(other, next);
+                }
+                self.llc.forget(CLIENT_SAP);
+                Turn::GaveUp
+            }
+        }
+    }
+
+    /// One exchange, and what the call is then.
+    fn turn<C: Carrier, A: Answerer>(
+        &mut self,
+        carrier: &mut C,
+        far: &mut A,
+        job: Job,
+        idle: u8,
+    ) -> Result<Turn, SnepFault>
+        requires ready { C.ready carrier.old }
+        requires going { self.old.spent ≡ false }
+        requires idle { idle < most_idle }
+        ensures ok { IfOk result (λ turn. Turned C.seen C.moves A.steps A.stops
+            (record { llc = self.old.llc; jobs = alone job; idle = idle }) carrier.old far.old turn self.new.llc carrier.new far.new) }
+        ensures serves { IfOk result (λ turn. (aim : Aim) → Serves aim job → TurnServes aim turn) }
+        ensures falls { IfOk result (λ turn. Falls (own_of self.old.llc) job idle turn (own_of self.new.llc)) }
+        ensures going { OnOk result (self.new.spent ≡ false) }
+        ensures err { IfErr result (λ e. IsCut C.seen C.moves A.steps A.stops
+            (ready (record { llc = self.old.llc; jobs = alone job; idle = idle })).llc
+            carrier.old far.old e self.new.llc carrier.new far.new) }
+        ensures spent { IfErr result (λ e. self.new.spent ≡ is_memory e) }
+        ensures ready { C.ready carrier.new }
+        ensures same { C.lenders carrier.new ≡ C.lenders carrier.old }
+    {
+        let now = match self.ready(job) {
+            Err(fault) => return Err(fault),
+            Ok(now) => now,
+        };
+        let gave = match self.exchange(carrier, far) {
+            Err(fault) => return Err(fault),
+            Ok(gave) => gave,
+        };
+        match self.hear(now) {
+            Err(fault) => Err(fault),
+            Ok(None) => Ok(Turn::GaveUp),
+            Ok(Some(heard)) => Ok(self.settle(heard.job, gave, heard.some, idle)),
+        }
+    }
+
+    /// Exchanges until the job is over, or the far end is given up.
+    pub(crate) fn converse<C: Carrier, A: Answerer>(
+        &mut self,
+        carrier: &mut C,
+        far: &mut A,
+        first: Job,
+    ) -> Result<Ending, SnepFault>
+        requires ready { C.ready carrier.old }
+        requires going { self.old.spent ≡ false }
+        ensures ok { IfOk result (λ ending. Talks C.seen C.moves A.steps A.stops (begun self.old.llc first)
+            carrier.old far.old (Ends (alone (Over ending)) self.new.llc) carrier.new far.new) }
+        ensures aim { IfOk result (λ ending. IsOf (aim_of first) ending) }
+        ensures going { OnOk result (self.new.spent ≡ false) }
+        ensures err { IfErr result (λ e. FailsBy C.seen C.moves A.steps A.stops (begun self.old.llc first)
+            carrier.old far.old e self.new.llc carrier.new far.new) }
+        ensures spent { IfErr result (λ e. self.new.spent ≡ is_memory e) }
+        ensures ready { C.ready carrier.new }
+        ensures same { C.lenders carrier.new ≡ C.lenders carrier.old }
+    {
+        let mut job = first;
+        let mut idle = 0;
+        'turns: while idle < MOST_IDLE {
+            match self.turn(carrier, far, job, idle) {
+                Err(fault) => return Err(fault),
+                Ok(Turn::Ended(ending)) => return Ok(ending),
+                Ok(Turn::GaveUp) => return Err(SnepFault::BadPeer),
+                Ok(Turn::Went(next, replies)) => {
+                    job = next;
+                    idle = replies;
+                }
+            }
+        }
+        unreachable!()
+    }
+}
