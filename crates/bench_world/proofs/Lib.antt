@@ -5,13 +5,15 @@ pub mod Locking
 pub mod Reached
 pub mod Telling
 pub mod Legality
-pub mod Behind
+pub mod AskedBehind
 pub mod Outcomes
 pub mod Benches
 pub mod Complete
 pub mod OneForm
 pub mod WriteTelling
 pub mod WriteLegality
+pub mod HeldOn
+pub mod ReadBehind
 pub mod OneAnswer
 pub mod QuietHearing
 pub mod OneJournal

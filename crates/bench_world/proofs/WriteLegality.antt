@@ -38,7 +38,7 @@ use Rattle.bench_world.specs.Legal.{State, IsAskedBy, StoresLaw}
 use Rattle.bench_world.specs.Obeying.{state_at, Obeyed, IsCutOff}
 use Rattle.bench_world.proofs.Placing.{IsWith, with_sound}
 use Rattle.bench_world.proofs.Legality.{asks_for, front_of, trace_is, asks_obeyed, polled_of, missed_tells, both, then_tag, selected_with}
-use Rattle.bench_world.proofs.Behind.{tells_behind}
+use Rattle.bench_world.proofs.AskedBehind.{tells_behind}
 use Rattle.bench_world.proofs.WriteTelling.{asks_same, outcome_same, law_same, law_stopped, fails_written, lost_written, six_written, same_ending, starved_or_not}
 
 -- What a write asks of a placed device, and nothing where none is placed.
@@ -50,7 +50,7 @@ write_asked old id m idle = by_found (device_with (bytes_of id) old.listeners) r
     by_found (Some d) found = some_write (message_of m) d (with_sound old.listeners (bytes_of id) d idle.tame.sound found)
 
 -- the device that is found by an identifier has it
-found_named : (id : List ℕ) (ds : List Device) (d : Device) → device_with id ds ≡ Some d → device_id d ≡ id
+pub found_named : (id : List ℕ) (ds : List Device) (d : Device) → device_with id ds ≡ Some d → device_id d ≡ id
 found_named id [] d found = absurd cc
 found_named id (e ∷ ds) d found = by_name (pointwise nat_eq (device_id e) id) refl found (λ later. found_named id ds d later)
   where

@@ -83,17 +83,18 @@ fails_written r answer told asking.SixBad is = told_once answer answers.SixBad (
 fails_written r answer told asking.Memory is = absurd is
 fails_written r answer told asking.Protocol is = absurd is
 
--- ... and only of such: what an answer of a fault of the field tells
+-- ... and only of such: what these answers tell of the write
 abbrev IsFor : Answer → WriteEnd → Type 0
 IsFor answers.FieldLost r = r ≡ Err writing.FieldLost
 IsFor answers.SixBad r = r ≡ Err writing.SixBad
+IsFor answers.Written r = r ≡ Ok tt
 IsFor answer r = Unit {0}
 
 is_for : (r : WriteEnd) (answer : Answer) → written_by r ≡ Some answer → IsFor answer r
 is_for r answer told = by_end r (written_by r) refl told
   where
     by_end : (q : WriteEnd) (o : Option Answer) → written_by q ≡ o → o ≡ Some answer → IsFor answer q
-    by_end (Ok done) o e t = subst (λ a. IsFor a (Ok done)) (told_once answers.Written answer (e ∙ t)) tt
+    by_end (Ok done) o e t = subst (λ a. IsFor a (Ok done)) (told_once answers.Written answer (e ∙ t)) refl
     by_end (Err writing.NotNdef) o e t = subst (λ a. IsFor a (Err writing.NotNdef)) (told_once answers.NotNdef answer (e ∙ t)) tt
     by_end (Err writing.Version) o e t = subst (λ a. IsFor a (Err writing.Version)) (told_once answers.Version answer (e ∙ t)) tt
     by_end (Err writing.NoRead) o e t = subst (λ a. IsFor a (Err writing.NoRead)) (told_once answers.NoRead answer (e ∙ t)) tt
@@ -115,6 +116,9 @@ lost_written r answer told is = subst (λ a. IsFor a r) is (is_for r answer told
 
 pub six_written : (r : WriteEnd) (answer : Answer) → written_by r ≡ Some answer → answer ≡ answers.SixBad → r ≡ Err writing.SixBad
 six_written r answer told is = subst (λ a. IsFor a r) is (is_for r answer told)
+
+pub done_written : (r : WriteEnd) → written_by r ≡ Some answers.Written → r ≡ Ok tt
+done_written r told = is_for r answers.Written told
 
 -- how the stores stand is told alike
 pub same_ending : (r : WriteEnd) (answer : Answer) → written_by r ≡ Some answer → ending_of r ≡ ending_told answer

@@ -4,6 +4,7 @@ pub mod Answering
 pub mod Writing
 pub mod Legal
 pub mod Obeying
+pub mod Behind
 pub mod Completing
 pub mod Quiet
 pub mod Journal

@@ -1,6 +1,7 @@
 //! That a command answers what it is asked for where noise doesn't keep it from that. The calls do nothing: they stand for
 //! these laws.
 
+ghost use Rattle.bench_world.specs.Behind.{WrittenIsRead, OneOfThreeIsRead};
 ghost use Rattle.bench_world.specs.Completing.{ReadsComplete, WritesComplete, ValidIsWritten, FindsComplete};
 ghost use Rattle.bench_world.specs.Quiet.{QuietStays, QuietReads, QuietWrites, QuietFinds};
 ghost use Rattle.bench_world.specs.QuietHearing.{QuietHears, QuietScript};
@@ -22,6 +23,13 @@ pub fn writes_complete()
 /// A legal search, without a Break and with a round and a try without noise, lists the whole field.
 pub fn finds_complete()
     ensures { FindsComplete }
+{}
+
+/// Behind a write, with no command between that touches its tag, a read that tells a message tells the new one where the
+/// write was a success, and whatever it answered the old one, the empty one or the new one.
+pub fn reads_behind()
+    ensures written { WrittenIsRead }
+    ensures three { OneOfThreeIsRead }
 {}
 
 /// Which lines of a script are taken is decided by the lines alone, not by what was sent.

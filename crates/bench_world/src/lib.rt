@@ -18,5 +18,7 @@ mod report;
 pub use bench::{Bench, ObeyFault};
 pub use bench_devices::{Device, SeenKind};
 pub use entry::{Answer, Entry, Seen};
-pub use law::{finds_complete, lines_decide, quiet_air, reads_complete, writes_complete};
+pub use law::{
+    finds_complete, lines_decide, quiet_air, reads_behind, reads_complete, writes_complete,
+};
 pub use report::render;

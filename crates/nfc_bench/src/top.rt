@@ -25,6 +25,8 @@ mod tests;
 mod words;
 #[cfg(test)]
 mod world_tests;
+#[cfg(test)]
+mod write_tests;
 
 use arrayvec::ArrayVec;
 use bench_world::Bench;

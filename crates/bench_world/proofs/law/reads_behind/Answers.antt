@@ -1,0 +1,8 @@
+use Rattle.bench_world.proofs.ReadBehind.{written_is_read, one_of_three_is_read}
+use Rattle.bench_world.proofs.law.reads_behind.Goals as goal
+
+pub returns-clause-written : goal.returns-clause-written
+returns-clause-written c = written_is_read
+
+pub returns-clause-three : goal.returns-clause-three
+returns-clause-three c = one_of_three_is_read

@@ -1,0 +1,62 @@
+-- What a read tells behind a write of its tag, where no command between them touches the tag.
+use Rattle.std.specs.Prelude.{◌≡◌, ◌⊎◌, ℕ, List, [], Bool, Some}
+use Rattle.std.specs.List.{AllByRecursion}
+use Rattle.tlv_area.specs.Form.{Message}
+use Rattle.tag_reader.specs.Kinds.{IsStoreForm}
+use Rattle.bench_script.specs.declared.command.Command.{Command}
+use Rattle.bench_script.specs.declared.command.Command.TheVariants.{Remove, Read, Write}
+use Rattle.bench_script.specs.declared.command.DeviceId.{DeviceId}
+use Rattle.bench_script.specs.declared.message.Msg.{Msg}
+use Rattle.bench_script.specs.DeviceIds.{bytes_of}
+use Rattle.bench_script.specs.Messages.{message_of}
+use Rattle.bench_devices.specs.declared.device.Device.{Device}
+use Rattle.bench_devices.specs.Device.{device_store, how_of, size_of}
+use Rattle.bench_devices.specs.Placed.{device_with}
+use Rattle.bench_world.specs.declared.entry.Answer.{Answer}
+use Rattle.bench_world.specs.declared.entry.Answer.TheVariants as answers
+use Rattle.bench_world.specs.declared.entry.Entry.{Entry}
+use Rattle.bench_world.specs.Legal.{State, Given, LegalStep, EachLegal}
+
+-- A command may change what the tag with an identifier holds, or takes it away. A later command that may adds its case.
+abbrev pub Touches : DeviceId → Command → Type 0
+Touches id (Remove other) = bytes_of other ≡ bytes_of id
+Touches id (Write other message) = bytes_of other ≡ bytes_of id
+Touches id c = ⊥
+
+-- none of these does
+abbrev pub LeaveAlone : DeviceId → List Entry → Type 0
+LeaveAlone id es = AllByRecursion (λ e. Touches id e.command → ⊥) es
+
+-- A tag is placed; a write of it has an answer, then come entries that leave it alone, and then a read of it that tells a message.
+pub record WritesThenReads (id : DeviceId) (tag : Device) (m : Msg) (answer : Answer) (message : List ℕ) : Type 0 where
+  pub before : State
+  pub written : State
+  pub later : State
+  pub after : State
+  pub write : Entry
+  pub between : List Entry
+  pub read : Entry
+  pub write_given : Given
+  pub given : List Given
+  pub read_given : Given
+  pub placed : device_with (bytes_of id) before.world.listeners ≡ Some tag
+  pub writes : LegalStep before write_given write written
+  pub writing : write.command ≡ Write id m
+  pub answered : write.answer ≡ answer
+  pub goes_on : EachLegal written given between later
+  pub alone : LeaveAlone id between
+  pub reads : LegalStep later read_given read after
+  pub reading : read.command ≡ Read id
+  pub writable : Bool
+  pub told : read.answer ≡ answers.Message message writable
+
+-- Behind a success the read tells the message that was written.
+abbrev pub WrittenIsRead : Type 0
+WrittenIsRead =
+    (id : DeviceId) (tag : Device) (m : Msg) (message : List ℕ) → WritesThenReads id tag m answers.Written message → message ≡ message_of m
+
+-- Whatever the write answered, the read tells the message that the tag held before, the empty one or the new one.
+abbrev pub OneOfThreeIsRead : Type 0
+OneOfThreeIsRead =
+    (id : DeviceId) (tag : Device) (m : Msg) (answer : Answer) (old message : List ℕ) → WritesThenReads id tag m answer message
+    → IsStoreForm (how_of tag) (size_of tag) (device_store tag) (Message old) → (message ≡ old) ⊎ (message ≡ []) ⊎ (message ≡ message_of m)
