@@ -1,5 +1,5 @@
 -- On quiet air no reception is bad but the silences of polling, and a script without noise comes to what it should.
-use Rattle.std.proofs.Common.{◌≡◌, ℕ, ◌+◌, List, [], ◌∷◌, ◌++◌, Some, Ok, refl, ◌∙◌, ap, subst, arith}
+use Rattle.std.proofs.Common.{◌≡◌, ℕ, ◌+◌, List, [], ◌∷◌, ◌++◌, Some, refl, ◌∙◌, ap, subst, arith}
 use Rattle.std.specs.List.{AllByRecursion}
 use Rattle.nfc_base.specs.Signal.{Signal}
 use Rattle.nfc_base.specs.Trace.{noise, back_of, heard_by, other_than_pass}
@@ -7,33 +7,37 @@ use Rattle.nfc_base.specs.declared.event.Event.{Event}
 use Rattle.nfc_base.specs.declared.event.Event.TheVariants.{Reset, Request, Answer, Clash}
 use Rattle.nfc_base.specs.declared.event.Fate.{Fate}
 use Rattle.nfc_base.specs.declared.event.Fate.TheVariants.{Pass, Damage, Lose, Break}
-use Rattle.air_core.specs.Conversation.{Note, note, AreTurns, FatesFrom, EachDue, Moment, receptions}
+use Rattle.air_core.specs.Conversation.{note, AreTurns, FatesFrom, EachDue, Moment, receptions}
 use Rattle.bench_script.specs.declared.command.Command.{Command}
 use Rattle.bench_script.specs.declared.command.Command.TheVariants.{Skip, Fates, PlaceT2, PlaceT4, PlaceT5, Lock, Busy, Remove, Dump, Find, Read, Write}
 use Rattle.bench_script.specs.declared.command.DeviceId.{DeviceId}
 use Rattle.bench_script.specs.declared.command.DeviceId.TheVariants.{A, V}
+use Rattle.bench_script.specs.declared.message.Msg.{Msg}
 use Rattle.bench_script.specs.DeviceIds.{bytes_of}
-use Rattle.bench_script.specs.Script.{Spells}
+use Rattle.bench_script.specs.Messages.{message_of}
+use Rattle.bench_script.specs.Script.{Spells, SpellsId}
 use Rattle.tag_reader.specs.Asked.{ToRead}
-use Rattle.bench_devices.specs.declared.polling.SeenKind.{SeenKind}
-use Rattle.bench_devices.specs.Device.{BenchWorld, air}
-use Rattle.bench_devices.specs.Hearing.{IsUnharmed, IsAnswered}
-use Rattle.bench_devices.specs.Keeping.{Kept, kept}
-use Rattle.bench_devices.specs.Placed.{IfPlaced}
-use Rattle.bench_devices.specs.Polling.{Told, selecting}
+use Rattle.bench_devices.specs.declared.device.Device.{Device}
+use Rattle.bench_devices.specs.Device.{BenchWorld, air, how_of}
+use Rattle.bench_devices.specs.Hearing.{IsUnharmed}
+use Rattle.bench_devices.specs.Keeping.{Kept, kept, IsSound}
+use Rattle.bench_devices.specs.Placed.{IfPlaced, device_with}
+use Rattle.bench_devices.specs.TagAsking.{tag_due}
 use Rattle.bench_devices.specs.Reading.{AsksOf}
+use Rattle.bench_devices.specs.Writing.{AsksWriteOf}
 use Rattle.bench_devices.proofs.PlainHeard.{IsHeeded}
 use Rattle.bench_devices.proofs.ReadHeeded.{asked_heeded}
 use Rattle.bench_devices.proofs.SelectedHeard.{Heed, IsId, tag_hears}
+use Rattle.bench_devices.proofs.WriteHeeded.{write_heeded}
 use Rattle.bench_world.specs.declared.entry.Entry.{Entry}
 use Rattle.bench_world.specs.Journal.{asking_lines}
 use Rattle.bench_world.specs.Legal.{State, Given, LegalStep, IsAskedBy, changed, due}
 use Rattle.bench_world.specs.Quiet.{AllPass}
-use Rattle.bench_world.specs.QuietHearing.{tag_of, IsWellHeard, IsHeardIfQuiet, IsQuietLine, IsQuietEntry, QuietHears, QuietScript}
+use Rattle.bench_world.specs.QuietHearing.{tag_of, AnswersAll, IsWellHeard, IsHeardIfQuiet, IsQuietLine, IsQuietEntry, QuietHears, QuietScript}
 use Rattle.bench_world.proofs.Complete.{of_first}
 use Rattle.bench_world.proofs.Placing.{IsWith, is_with, with_sound}
 use Rattle.bench_world.proofs.Quiet.{quiet_stays, quiet_reads, quiet_writes, quiet_finds}
-use Rattle.bench_world.proofs.Reached.{IsReadable, IsReady, ready_step, along, asking_all, first_ready}
+use Rattle.bench_world.proofs.Reached.{IsReadable, IsReady, message_bytes, ready_step, along, asking_all, first_ready}
 
 -- Without noise nothing that is heard is damaged, and no field is lost.
 heard_first : (x : Fate) (es : List Event) → other_than_pass x + noise es ≡ 0 → IsUnharmed (note (heard_by x (back_of es)))
@@ -62,47 +66,60 @@ all_unharmed (Request g x ∷ es) z = (heard_first x es z, all_unharmed es (behi
 all_unharmed (Answer g x ∷ es) z = all_unharmed es (behind x (noise es) z)
 all_unharmed (Clash g x ∷ es) z = all_unharmed es (behind x (noise es) z)
 
--- the device that a read is of heeds what is asked
+-- The device that a command selects and then asks heeds what is asked.
 abbrev start : State → Moment BenchWorld
 start s = record { world = s.world; queue = s.queue; trace = [] }
 
-heed : (s : State) (r : IsReady s.world.listeners) (id : DeviceId) (asked : List Signal) → IsAskedBy s (Read id) asked → Heed asked (start s) r.tame r.tidy id
-heed s r id asked asks d before behind split named =
+heed : (s : State) (r : IsReady s.world.listeners) (id : DeviceId) (asked : List Signal) (Asks : Device → Type 0)
+    → ((d : Device) → IsSound (kept d) → IsReadable d → Asks d → AllByRecursion (IsHeeded (how_of d)) asked)
+    → IfPlaced Asks (asked ≡ []) (device_with (bytes_of id) s.world.listeners) → Heed asked (start s) r.tame r.tidy id
+heed s r id asked Asks each asks d before behind split named =
     let w : IsWith s.world.listeners (bytes_of id) (kept d) = is_with s.world.listeners before (kept d) behind (bytes_of id) r.tame.sound split named in
-    let here : AsksOf w.device asked = subst (λ o. IfPlaced (λ x. AsksOf x asked) (asked ≡ []) o) w.found asks in
+    let here : Asks w.device = subst (λ o. IfPlaced Asks (asked ≡ []) o) w.found asks in
     let readable : IsReadable w.device = of_first IsReadable (bytes_of id) s.world.listeners w.device r.readable w.found in
-    subst (λ (k : Kept). AllByRecursion (IsHeeded k.fixed.how) asked) w.same
-    (asked_heeded ToRead w.device asked (with_sound s.world.listeners (bytes_of id) w.device r.tame.sound w.found) readable here)
+    subst (λ (k : Kept). AllByRecursion (IsHeeded k.fixed.how) asked) w.same (each w.device (with_sound s.world.listeners (bytes_of id) w.device r.tame.sound w.found) readable here)
 
 -- a line names a device by an identifier that one may have
-spelled_id : (s : State) (r : IsReady s.world.listeners) (asked : List Signal) (line : List ℕ) (id : DeviceId) → Spells line (Read id) → IsId asked (start s) r.tame r.tidy id
-spelled_id s r asked line (A id) sp = sp.2.1
-spelled_id s r asked line (V id) sp = sp.2.1
+spelled_id : (s : State) (r : IsReady s.world.listeners) (asked : List Signal) (word : List ℕ) (id : DeviceId) → SpellsId word id → IsId asked (start s) r.tame r.tidy id
+spelled_id s r asked word (A id) sp = sp.1
+spelled_id s r asked word (V id) sp = sp.1
 
 module _ (s t : State) (g : Given) (line : List ℕ) (e : Entry) (r : IsReady s.world.listeners) (sp : Spells line e.command) (step : LegalStep s g e t) (pass : AllPass (changed s e.command).queue) where
-  read_answered : (id : DeviceId) (kind : SeenKind) (since : List Note) → e.command ≡ Read id → selecting id (receptions e.events) ≡ Told (Ok kind) since → AllByRecursion IsAnswered since
-  read_answered id kind since is told =
-      let C : Command → Type 0 = λ c. Spells line c in
-      tag_hears g.asked (start s) r.tame r.tidy id (spelled_id s r g.asked line id (subst C is sp)) (heed s r id g.asked (subst (λ c. IsAskedBy s c g.asked) is step.front.asks)) e.events
-      (subst (λ c. AllPass (changed s c).queue) is pass) (subst (λ c. AreTurns air (changed s c).world e.events) is step.front.turns) (subst (λ c. FatesFrom (changed s c).queue e.events) is step.front.fates)
-      (subst (λ c. EachDue (due s g c) [] e.events) is step.front.each) kind since told
+  -- a command that itself changes nothing, selects a tag and asks it what it heeds
+  tag_answered : (id : DeviceId) → changed s e.command ≡ s → due s g e.command ≡ tag_due id g.asked → IsId g.asked (start s) r.tame r.tidy id → Heed g.asked (start s) r.tame r.tidy id → AnswersAll id e
+  tag_answered id same next named heeds kind since told =
+      tag_hears g.asked (start s) r.tame r.tidy id named heeds e.events (subst (λ (x : State). AllPass x.queue) same pass) (subst (λ (x : State). AreTurns air x.world e.events) same step.front.turns)
+      (subst (λ (x : State). FatesFrom x.queue e.events) same step.front.fates) (subst (λ d. EachDue d [] e.events) next step.front.each) kind since told
 
-  by_command : (c : Command) → e.command ≡ c → (id : DeviceId) (kind : SeenKind) (since : List Note) → tag_of c ≡ Some id → selecting id (receptions e.events) ≡ Told (Ok kind) since → AllByRecursion IsAnswered since
-  by_command Skip is id kind since of told = absurd cc
-  by_command (Fates fates) is id kind since of told = absurd cc
-  by_command (PlaceT2 i blocks head) is id kind since of told = absurd cc
-  by_command (PlaceT4 i code container head) is id kind since of told = absurd cc
-  by_command (PlaceT5 i blocks size head) is id kind since of told = absurd cc
-  by_command (Lock i block) is id kind since of told = absurd cc
-  by_command (Busy i count times) is id kind since of told = absurd cc
-  by_command (Remove i) is id kind since of told = absurd cc
-  by_command (Dump i) is id kind since of told = absurd cc
-  by_command Find is id kind since of told = absurd cc
-  by_command (Write i m) is id kind since of told = absurd cc
-  by_command (Read i) is id kind since of told = let same : i ≡ id = cc in read_answered id kind since (is ∙ ap Read same) told
+  read_answered : (id : DeviceId) → e.command ≡ Read id → AnswersAll id e
+  read_answered id is =
+      let spelled : Spells line (Read id) = let C : Command → Type 0 = λ c. Spells line c in subst C is sp in
+      tag_answered id (ap (λ c. changed s c) is) (ap (λ c. due s g c) is) (spelled_id s r g.asked spelled.0 id spelled.2)
+      (heed s r id g.asked (λ d. AsksOf d g.asked) (λ d sound bytes asks. asked_heeded ToRead d g.asked sound bytes asks) (subst (λ c. IsAskedBy s c g.asked) is step.front.asks))
+
+  write_answered : (id : DeviceId) (m : Msg) → e.command ≡ Write id m → AnswersAll id e
+  write_answered id m is =
+      let spelled : Spells line (Write id m) = let C : Command → Type 0 = λ c. Spells line c in subst C is sp in
+      tag_answered id (ap (λ c. changed s c) is) (ap (λ c. due s g c) is) (spelled_id s r g.asked spelled.0 id spelled.3)
+      (heed s r id g.asked (λ d. AsksWriteOf (message_of m) d g.asked) (λ d sound bytes asks. write_heeded (message_of m) d g.asked sound bytes (message_bytes spelled.1 m spelled.4) asks)
+      (subst (λ c. IsAskedBy s c g.asked) is step.front.asks))
+
+  by_command : (c : Command) → e.command ≡ c → (id : DeviceId) → tag_of c ≡ Some id → AnswersAll id e
+  by_command Skip is id of = absurd cc
+  by_command (Fates fates) is id of = absurd cc
+  by_command (PlaceT2 i blocks head) is id of = absurd cc
+  by_command (PlaceT4 i code container head) is id of = absurd cc
+  by_command (PlaceT5 i blocks size head) is id of = absurd cc
+  by_command (Lock i block) is id of = absurd cc
+  by_command (Busy i count times) is id of = absurd cc
+  by_command (Remove i) is id of = absurd cc
+  by_command (Dump i) is id of = absurd cc
+  by_command Find is id of = absurd cc
+  by_command (Read i) is id of = let same : i ≡ id = cc in read_answered id (is ∙ ap Read same)
+  by_command (Write i m) is id of = let same : i ≡ id = cc in write_answered id m (is ∙ ap (λ x. Write x m) same)
 
   well_heard : IsWellHeard e
-  well_heard = record { unharmed = all_unharmed e.events (quiet_stays s t g e step pass).0; answered = λ id of kind since told. by_command e.command refl id kind since of told }
+  well_heard = record { unharmed = all_unharmed e.events (quiet_stays s t g e step pass).0; answered = λ id of. by_command e.command refl id of }
 
 -- Each entry is heard so from which on all passes.
 abbrev IsAny : List ℕ → Type 0

@@ -1,7 +1,7 @@
 -- What holds wherever the lines of a script lead: each device may be placed, with an identifier of its own, has no link unless it is
 -- active, and a container of bytes.
-use Rattle.std.proofs.Common.{◌≡◌, inl, inr, ℕ, suc, ◌+◌, ◌*◌, ◌<◌, ◌≤◌, List, [], ◌∷◌, ◌++◌, map, length, Bool, true, false, nat_eq, if◌then◌else◌, refl, sym, ◌∙◌, ap, subst, arith}
-use Rattle.std.specs.List.{AllByRecursion}
+use Rattle.std.proofs.Common.{◌≡◌, inl, inr, ℕ, suc, ◌+◌, ◌*◌, ◌<◌, ◌≤◌, List, [], ◌∷◌, ◌++◌, map, length, ◌%◌, zero, Bool, true, false, nat_eq, if◌then◌else◌, refl, sym, ◌∙◌, ap, subst, arith}
+use Rattle.std.specs.List.{AllByRecursion, range_with_len}
 use Rattle.std.specs.Cmp.Lexicographic.{pointwise}
 use Rattle.std.proofs.lemmas.List.{length-map}
 use Rattle.hex.proofs.HexLemmas.{decode_of-ok}
@@ -12,14 +12,18 @@ use Rattle.isodep_link.proofs.Heeding.{AreBytes, no_bytes}
 use Rattle.t4t_tag.specs.Store.{file_size}
 use Rattle.bench_script.specs.declared.command.Command.{Command}
 use Rattle.bench_script.specs.declared.command.Command.TheVariants.{Skip, Fates, PlaceT2, PlaceT4, PlaceT5, Lock, Busy, Remove, Dump, Find, Read, Write}
+use Rattle.bench_script.specs.declared.message.Msg.{Msg}
+use Rattle.bench_script.specs.declared.message.Msg.TheVariants.{Hex, Gen}
 use Rattle.bench_script.specs.DeviceIds.{bytes_of}
-use Rattle.bench_script.specs.Script.{Spells, SpellsHex, is_skipped}
+use Rattle.bench_script.specs.Messages.{message_of}
+use Rattle.bench_script.specs.Script.{Spells, SpellsHex, SpellsMsg, is_skipped}
 use Rattle.bench_devices.specs.declared.device.Device.{Device}
 use Rattle.bench_devices.specs.declared.device.Device.TheVariants.{T2, T4, T5}
 use Rattle.bench_devices.specs.Device.{BenchWorld, air, most_devices, device_id, new_t2, new_t4, new_t5, device_locked, device_busy}
 use Rattle.bench_devices.specs.Keeping.{Fixed, kept, container_of, IsSound, IsApart, AreSound, AreTame, AllStayDevices}
 use Rattle.bench_devices.specs.Phases.{IsTidy, AreTidy}
 use Rattle.bench_devices.specs.Placed.{without, with_changed}
+use Rattle.bench_devices.proofs.CardBytes.{cons_bytes}
 use Rattle.bench_devices.proofs.EveryFrame.{devices_stay}
 use Rattle.bench_devices.proofs.Tidy.{events_tidy}
 use Rattle.bench_world.specs.declared.entry.Entry.{Entry}
@@ -187,6 +191,15 @@ ready_more s d sound tidy readable free r =
 hex_bytes : (word bytes : List ℕ) → SpellsHex word bytes → AreBytes bytes
 hex_bytes word bytes (inl none) = subst AreBytes (sym none.1) no_bytes
 hex_bytes word bytes (inr some) = (decode_of-ok word bytes some.1).3
+
+-- a message of a line has bytes
+counted_bytes : (start a n : ℕ) → AreBytes (map (λ i. (start + i) % 256) (range_with_len a n))
+counted_bytes start a zero = no_bytes
+counted_bytes start a (suc n) = cons_bytes ((start + a) % 256) (map (λ i. (start + i) % 256) (range_with_len (a + 1) n)) (omega arith) (counted_bytes start (a + 1) n)
+
+pub message_bytes : (word : List ℕ) (m : Msg) → SpellsMsg word m → AreBytes (message_of m)
+message_bytes word (Hex bytes) sp = hex_bytes word bytes sp
+message_bytes word (Gen count start) sp = counted_bytes start 0 count
 
 -- What a line's command changes leaves the devices so.
 ready_changed : (s : State) (line : List ℕ) (c : Command) → Spells line c → Accepts s c → IsReady s.world.listeners → IsReady (changed s c).world.listeners

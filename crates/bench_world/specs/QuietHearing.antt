@@ -33,6 +33,7 @@ AllAlong P s (e ∷ es) = P s e × AllAlong P (state_after s e.command e.events)
 -- the tag that a command selects and then asks, if it does
 abbrev pub tag_of : Command → Option DeviceId
 tag_of (Read id) = Some id
+tag_of (Write id m) = Some id
 tag_of c = None
 
 -- Behind the selection of a tag each note of an entry is a whole answer.

@@ -39,7 +39,7 @@ pub fn lines_decide()
 
 /// Where no fate is left but Pass, the air stays quiet, a read of a placed tag tells what its store holds, a write what it
 /// comes to, and a search lists the whole field; no reception is bad but the silences of polling, so behind the selection of a
-/// tag that is read each is a whole answer. Where no line has another fate, all this holds of each entry of a script's journal.
+/// tag each is a whole answer. Where no line has another fate, all this holds of each entry of a script's journal.
 pub fn quiet_air()
     ensures stays { QuietStays }
     ensures reads { QuietReads }
