@@ -1,6 +1,7 @@
 //! Whole runs that write messages, with answers alone.
 
 use super::tags_tests::report;
+use std::alloc::Global;
 use std::test::Fail;
 
 /// What a script shows, its lines, and the report.
