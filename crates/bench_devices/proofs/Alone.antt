@@ -1,5 +1,5 @@
 -- What stands of the device that was selected, and of those beside it.
-use Rattle.std.proofs.Common.{◌≡◌, ℕ, List, [], ◌∷◌, ◌++◌, length, Some, refl, sym, ◌∙◌, ap, subst}
+use Rattle.std.proofs.Common.{◌≡◌, ℕ, List, [], ◌∷◌, ◌++◌, refl, sym, ◌∙◌, ap, subst}
 use Rattle.std.specs.List.{AllByRecursion}
 use Rattle.nfc_base.specs.TagLinks.{IsNamedIn}
 use Rattle.air_core.specs.Turn.{Air, world, moment}

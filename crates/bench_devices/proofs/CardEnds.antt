@@ -1,56 +1,29 @@
 -- What asking an activated Type 4 tag comes to, by what its link did.
-use Rattle.std.proofs.Common.{Option, ◌≡◌, inl, inr, ◌⊎◌, ℕ, zero, suc, ◌+◌, ◌<◌, List, [], ◌∷◌, ◌++◌, length, take, drop, not, true, false, Some, None, refl, sym, ◌∙◌, ap, subst, arith, append-nil}
-use Rattle.std.specs.Prelude.{map, Result, Ok, Err, IfOk, IfErr}
-use Rattle.std.proofs.lemmas.List.{map-append, take_all}
+use Rattle.std.proofs.Common.{◌≡◌, inl, inr, ◌<◌, List, [], ◌++◌, length, drop, not, true, false, Some, None, refl, sym, ◌∙◌, ap, subst, arith, append-nil}
+use Rattle.std.proofs.lemmas.List.{map-append}
 use Rattle.std.proofs.lemmas.Bool.{cases_lt}
-use Rattle.std.proofs.Math.Seq.{drop-append_seam}
-use Rattle.nfc_base.specs.declared.event.Event.{Event}
 use Rattle.nfc_base.specs.declared.tag_link.AskFault.{AskFault}
 use Rattle.nfc_base.specs.declared.tag_link.AskFault.TheVariants as asking
-use Rattle.nfc_base.specs.Signal.{Signal, whole_a}
+use Rattle.nfc_base.specs.Signal.{Signal}
 use Rattle.nfc_base.specs.Trace.{noise, breaks}
-use Rattle.nfc_base.specs.LinkTurns.{arrived}
-use Rattle.nfc_base.specs.TagLinks.{Type4, LinkView, plain_state}
+use Rattle.nfc_base.specs.TagLinks.{LinkView}
 use Rattle.air_core.specs.World.{World}
 use Rattle.air_core.specs.Turn.{world, moment}
-use Rattle.air_core.specs.Conversation.{Moment, Note, Going, Lit, Got, Lost, Over, Asks, EachDue, replay}
+use Rattle.air_core.specs.Conversation.{Moment, Going, Over, EachDue, replay}
 use Rattle.air_core.specs.Turning.{due_weaker}
-use Rattle.air_core.specs.PlainLinks.{at_place, unanswered}
-use Rattle.air_core.proofs.PlainStores.{place_is}
-use Rattle.nfca_poll.specs.Fronted.{Fronted}
-use Rattle.t4t_tag.specs.Store.{T4State, IsT4Store, IsT4State}
-use Rattle.isodep_link.specs.Reader.{ReaderState, ReaderDoes, block_next, reception, framed_next}
-use Rattle.isodep_link.specs.Reader as reader
-use Rattle.isodep_link.specs.Asking.{IsoStanding, Waits, Rests, Broken, Astray, asks, goes_by, noted, stand, due_at, iso_next, HasCardTag}
-use Rattle.isodep_link.specs.IsoLinks.{IsoSeen, commands_of, obeyed_in, bytes_of, IsoStandsAt, since, iso_view, IsIsoReady, IsoMoves}
-use Rattle.tag_reader.specs.declared.fault.ReadFault.{ReadFault}
-use Rattle.tag_reader.specs.declared.fault.ReadFault.TheVariants as faults
-use Rattle.tag_reader.specs.declared.found.Found.{Found}
-use Rattle.tag_reader.specs.declared.how.How.TheVariants as hows
-use Rattle.tag_reader.specs.Kinds.{IsTag, command, first}
-use Rattle.tag_reader.specs.Asked.{IsAsked, IsDue, AreDue}
-use Rattle.tag_reader.specs.Calls.{HasAsked, HasAskedAll, GoesOn, last_of}
-use Rattle.tag_reader.specs.Reading.{IsFound, IsReadFault, OnTold, is_told, IsCalm, IsToldOrMemory}
-use Rattle.tag_reader.proofs.Cards.{t4_tag}
-use Rattle.tag_reader.proofs.FileAsked.{file_asked}
-use Rattle.tag_reader.proofs.Knowing.{due_more}
-use Rattle.tag_reader.proofs.Lists.{asked_front}
-use Rattle.bench_devices.specs.Cards.{T4Near}
+use Rattle.isodep_link.specs.Asking.{IsoStanding, Rests, Broken, asks, stand, due_at, iso_next}
+use Rattle.isodep_link.specs.IsoLinks.{IsoSeen, bytes_of, IsoStandsAt, iso_view, IsoMoves}
+use Rattle.tag_reader.specs.Reading.{IsCalm}
 use Rattle.bench_devices.specs.declared.device.Device.{Device}
-use Rattle.bench_devices.specs.declared.device.Device.TheVariants.{T2, T4, T5}
-use Rattle.bench_devices.specs.Device.{devices, device_id, device_store, device_commands, device_card, device_tag, how_of, size_of}
-use Rattle.bench_devices.specs.Standing.{tag_holds}
+use Rattle.bench_devices.specs.Device.{devices, device_card, device_tag}
 use Rattle.bench_devices.specs.Answering.{TellsExchange}
 use Rattle.bench_devices.specs.Device.{air}
-use Rattle.bench_devices.specs.Reading.{Shows, ShowsOf}
 use Rattle.bench_devices.proofs.SelectingAir.{events_are}
 use Rattle.bench_devices.specs.Linking.{IsNewLink, AsksOn, AsksSomeOn}
 use Rattle.bench_devices.specs.Keeping.{ghosts, Changes, Leaves}
 use Rattle.bench_devices.proofs.LinkEnds.{LinkEnds}
 use Rattle.bench_devices.proofs.PlainEnds.{none_behind}
-use Rattle.bench_devices.specs.Phases.{FailsRead}
 use Rattle.air_core.proofs.BrokenWaits.{stays_lit}
-use Rattle.bench_devices.proofs.CardKept.{exchange_keeps}
 use Rattle.bench_devices.proofs.CardReadingNotes.{exchange_lost, broken_more, due_front}
 
 -- A command asks all of such a list of a tag, this shows what it tells where all was answered, and this how it fails.

@@ -1,5 +1,5 @@
 -- What a command does that asks something of a Type 4 tag: RATS activates it, and then its commands are asked over a link.
-use Rattle.std.proofs.Common.{◌≡◌, ◌↔◌, inl, inr, ℕ, zero, suc, ◌+◌, ◌<◌, List, [], ◌∷◌, ◌++◌, true, false, Some, None, refl, sym, ◌∙◌, ap, subst, arith}
+use Rattle.std.proofs.Common.{◌≡◌, inl, inr, ℕ, zero, suc, ◌+◌, ◌<◌, List, [], ◌∷◌, ◌++◌, true, false, Some, None, refl, sym, ◌∙◌, ap, subst, arith}
 use Rattle.std.specs.Prelude.{map, Result, Err}
 use Rattle.std.specs.Result.{IfErr, OnErr}
 use Rattle.std.proofs.lemmas.Bool.{cases_lt}
@@ -25,7 +25,7 @@ use Rattle.isodep_link.specs.declared.link.IsoLink.{IsoLink}
 use Rattle.tag_reader.specs.declared.how.How.TheVariants as hows
 use Rattle.bench_devices.specs.declared.device.Device.{Device}
 use Rattle.bench_devices.specs.declared.device.Device.TheVariants.{T2, T4, T5}
-use Rattle.bench_devices.specs.Device.{devices, device_id, device_store, device_card, device_tag, how_of, seen_of}
+use Rattle.bench_devices.specs.Device.{devices, device_id, device_card, device_tag, how_of, seen_of}
 use Rattle.bench_devices.specs.Answering.{TellsExchange, TellsCard, TellsBy}
 use Rattle.bench_devices.specs.CardAsking.{Exchanges, card_due, card_stands, card_next, tag_next}
 use Rattle.bench_devices.specs.Device.{air}

@@ -1,25 +1,15 @@
 -- What a read of a Type 4 tag does.
-use Rattle.std.proofs.Common.{◌≡◌, ◌↔◌, inl, inr, ℕ, zero, suc, ◌+◌, ◌<◌, List, [], ◌∷◌, ◌++◌, true, false, Some, None, refl, sym, ◌∙◌, ap, subst, arith}
-use Rattle.std.specs.Prelude.{map, Result, Err}
+use Rattle.std.proofs.Common.{◌≡◌, ℕ, List, [], ◌∷◌, refl, sym, ◌∙◌, ap, subst}
+use Rattle.std.specs.Prelude.{Result, Err}
 use Rattle.std.specs.Result.{IfErr, OnErr}
-use Rattle.std.proofs.lemmas.Bool.{cases_lt}
 use Rattle.nfc_base.specs.declared.tag_link.AskFault.{AskFault}
 use Rattle.nfc_base.specs.declared.tag_link.AskFault.TheVariants as asking
 use Rattle.nfc_base.specs.Signal.{Signal}
-use Rattle.nfc_base.specs.Trace.{noise, breaks}
-use Rattle.air_core.specs.World.{World}
-use Rattle.air_core.specs.Turn.{Air, world, moment}
-use Rattle.air_core.specs.Conversation.{Moment, Note, Going, replay, with_events}
-use Rattle.air_core.specs.Turning.{due_weaker, going_then, events-append}
+use Rattle.air_core.specs.Turn.{Air, moment}
 use Rattle.air_core.specs.Waits as waits
 use Rattle.air_core.specs.Waits.{waits_next}
-use Rattle.air_core.specs.PlainLinks.{at_place}
-use Rattle.air_core.proofs.PlainStores.{place_is}
-use Rattle.isodep_link.specs.Activating.{rats, TellsCode, AsksRats, Opens, HasFreshTag, IsActivated, RatsSent, RatsEnds, Activates, IsActivatedLink}
-use Rattle.isodep_link.specs.Asking as exchange
-use Rattle.isodep_link.specs.Asking.{asks, stand, iso_next}
-use Rattle.isodep_link.specs.IsoLinks.{seen_link, bytes_of}
-use Rattle.isodep_link.specs.Reader.{waiting}
+use Rattle.isodep_link.specs.Activating.{rats, AsksRats, HasFreshTag, RatsEnds, Activates, IsActivatedLink}
+use Rattle.isodep_link.specs.IsoLinks.{seen_link}
 use Rattle.isodep_link.specs.declared.link.IsoLink.{IsoLink}
 use Rattle.tag_reader.specs.declared.fault.ReadFault.{ReadFault}
 use Rattle.tag_reader.specs.declared.fault.ReadFault.TheVariants as faults
@@ -29,24 +19,12 @@ use Rattle.tag_reader.specs.Steps.{of_link}
 use Rattle.tag_reader.specs.Asked.{IsAsked}
 use Rattle.tag_reader.proofs.FileAsked.{file_asked}
 use Rattle.bench_devices.specs.declared.device.Device.{Device}
-use Rattle.bench_devices.specs.declared.device.Device.TheVariants.{T2, T4, T5}
-use Rattle.bench_devices.specs.Device.{devices, device_id, device_store, device_card, device_tag, how_of, size_of}
-use Rattle.bench_devices.specs.Answering.{TellsExchange, TellsCard}
-use Rattle.bench_devices.specs.CardAsking.{Exchanges, card_due, card_stands, card_next}
-use Rattle.bench_devices.specs.Device.{air}
-use Rattle.bench_devices.specs.Linking.{Linked, ReadsOn, ReadsLinked, IsNewLink, ReadsSomeOn, CutLinked}
-use Rattle.bench_devices.specs.Keeping.{Kept, kept, ghosts, NoStore}
-use Rattle.bench_devices.specs.Phases.{Asked, AskedPart, Stands, FailsRead, Reads, ReadsAt, ReadsSome, CutAt}
+use Rattle.bench_devices.specs.Device.{devices, device_store, device_card, device_tag, how_of, size_of}
+use Rattle.bench_devices.specs.Linking.{ReadsOn, ReadsLinked, ReadsSomeOn, CutLinked}
+use Rattle.bench_devices.specs.Keeping.{ghosts, NoStore}
+use Rattle.bench_devices.specs.Phases.{Stands, FailsRead, Reads, ReadsAt, ReadsSome, CutAt}
 use Rattle.bench_devices.specs.Reading.{AsksOf, ShowsOf}
-use Rattle.air_core.proofs.BrokenWaits.{stays_lit}
-use Rattle.bench_devices.proofs.CardKept.{rats_harmless}
-use Rattle.bench_devices.proofs.CardReadingNotes.{rats_due, rats_told, lost_wait, reading_lost, reading_six}
-use Rattle.bench_devices.proofs.ReadingTags.{stands_alone, seen, stands_one}
-use Rattle.bench_devices.proofs.SelectingAir.{events_are}
-use Rattle.bench_devices.proofs.QuietRats.{rats_noise}
-use Rattle.air_core.proofs.PlainTurns.{noise_append}
-use Rattle.air_core.proofs.LostField.{going_lost, breaks-append}
-use Rattle.bench_devices.proofs.SelectingKept.{going_keeps}
+use Rattle.bench_devices.proofs.ReadingTags.{stands_one}
 use Rattle.bench_devices.proofs.CardParts.{as_told, as_cut, linked_asks, linked_cut, unanswered_asks, rats_cut, made, link_is, refused}
 
 -- what is asked of it

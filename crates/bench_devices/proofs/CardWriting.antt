@@ -1,6 +1,6 @@
 -- What a write of a Type 4 tag does: over its link, and with the activation before it.
-use Rattle.std.proofs.Common.{◌≡◌, inl, inr, ℕ, List, [], ◌∷◌, ◌++◌, length, drop, true, false, None, refl, sym, ◌∙◌, ap, subst, append-nil}
-use Rattle.std.specs.Prelude.{Result, Ok, Err}
+use Rattle.std.proofs.Common.{◌≡◌, inl, inr, ℕ, List, [], ◌∷◌, ◌++◌, length, drop, true, false, refl, sym, ◌∙◌, ap, subst, append-nil}
+use Rattle.std.specs.Prelude.{Result, Err}
 use Rattle.std.specs.Result.{IfErr, OnErr}
 use Rattle.std.specs.List.{AllByRecursion}
 use Rattle.air_core.specs.Turning.{events-append}
@@ -12,7 +12,7 @@ use Rattle.nfc_base.specs.Signal.{Signal}
 use Rattle.nfc_base.specs.TagLinks.{LinkView, passed}
 use Rattle.air_core.specs.World.{World}
 use Rattle.air_core.specs.Turn.{Air, world, moment}
-use Rattle.air_core.specs.Conversation.{Moment, Going, replay, with_events}
+use Rattle.air_core.specs.Conversation.{Moment, replay, with_events}
 use Rattle.air_core.specs.Waits as waits
 use Rattle.air_core.specs.PlainLinks.{Follows, stores_after, at_place}
 use Rattle.isodep_link.specs.Activating.{rats, AsksRats, HasFreshTag, RatsSent, RatsEnds, Activates, IsActivatedLink}
@@ -32,13 +32,13 @@ use Rattle.bench_devices.specs.Device.{BenchWorld, air, devices, device_id, devi
 use Rattle.bench_devices.specs.Placed.{device_with}
 use Rattle.bench_devices.specs.Writing.{AsksWriteOf, ShowsWrite, KeepsWriteLaw}
 use Rattle.bench_devices.specs.Linking.{Linked, IsNewLink, AsksOn, AsksSomeOn, WritesOn, WritesSomeOn, WritesLinked, CutLinkedWrite}
-use Rattle.bench_devices.specs.Keeping.{Kept, kept, ghosts, IsSound, IsAsideOf, EachAsked, held_by, StoreOf, Leaves}
+use Rattle.bench_devices.specs.Keeping.{Kept, ghosts, IsSound, IsAsideOf, EachAsked, held_by, StoreOf, Leaves}
 use Rattle.bench_devices.specs.Phases.{Stands, WriteEnd, FailsWrite, Writes, WritesSome, WritesAt, CutAtWrite}
 use Rattle.bench_devices.proofs.SelectingAir.{events_are}
 use Rattle.bench_devices.proofs.SelectingKept.{IsHarmless, due_asked}
 use Rattle.bench_devices.proofs.CardKept.{rats_harmless}
 use Rattle.bench_devices.proofs.EveryFrame.{IsSoundOne, going_leaves}
-use Rattle.bench_devices.proofs.ImagesJoin.{IsFirstAt, held_at, images_at, first_alone, with_alone, law_behind, law_start, held_kept, same_going}
+use Rattle.bench_devices.proofs.ImagesJoin.{IsFirstAt, held_at, images_at, first_alone, law_behind, law_start, held_kept, same_going}
 use Rattle.bench_devices.proofs.Alone.{sound_alone, beside_all, sound_there, held_there}
 use Rattle.bench_devices.proofs.ReadingTags.{stands_one}
 use Rattle.bench_devices.proofs.LinkEnds.{LinkEnds}

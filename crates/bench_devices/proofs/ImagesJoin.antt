@@ -1,11 +1,10 @@
 -- The images of a store: those of a device at a place, and those of events one behind another.
-use Rattle.std.proofs.Common.{◌≡◌, ℕ, zero, suc, List, [], ◌∷◌, ◌++◌, length, map, Bool, true, false, nat_eq, if◌then◌else◌, Option, Some, None, refl, sym, ◌∙◌, ap, subst}
+use Rattle.std.proofs.Common.{◌≡◌, ℕ, zero, suc, List, [], ◌∷◌, ◌++◌, length, map, Bool, true, false, nat_eq, if◌then◌else◌, Some, refl, sym, ◌∙◌, ap, subst}
 use Rattle.std.specs.List.{AllByRecursion}
 use Rattle.std.specs.Cmp.Lexicographic.{pointwise}
 use Rattle.nfc_base.specs.declared.event.Event.{Event}
 use Rattle.nfc_base.specs.declared.event.Event.TheVariants.{Reset, Request, Answer, Clash}
-use Rattle.nfc_base.specs.Signal.{Signal}
-use Rattle.air_core.specs.Conversation.{Note, Next, Asks, Moment, Going, replay}
+use Rattle.air_core.specs.Conversation.{Note, Next, Moment, Going, replay}
 use Rattle.air_core.specs.PlainTags.{IsAside}
 use Rattle.air_core.specs.PlainLinks.{at_place, stores_after}
 use Rattle.nfca_poll.proofs.OneLevel.{pointwise_self}
@@ -14,9 +13,9 @@ use Rattle.tag_writer.specs.Law.{Ending, Stopped, WriteLaw}
 use Rattle.bench_devices.specs.declared.device.Device.{Device}
 use Rattle.bench_devices.specs.Device.{BenchWorld, air, device_id, device_store, how_of, size_of}
 use Rattle.bench_devices.specs.Placed.{device_with}
-use Rattle.bench_devices.specs.Keeping.{Kept, kept, ghosts, held_by, images_of, EachAsked, StaysDevice, AllStayDevices}
+use Rattle.bench_devices.specs.Keeping.{Kept, kept, ghosts, held_by, images_of, EachAsked, AllStayDevices}
 use Rattle.bench_devices.specs.Writing.{KeepsWriteLaw}
-use Rattle.bench_devices.proofs.SelectingKept.{IsHarmless, due_asked, events_keep}
+use Rattle.bench_devices.proofs.SelectingKept.{IsHarmless, events_keep}
 use Rattle.bench_devices.proofs.SelectingAir.{events_are}
 use Rattle.bench_devices.proofs.EveryFrame.{event_stays, same_id}
 use Rattle.bench_devices.proofs.StoresFollow.{law_before}

@@ -1,8 +1,7 @@
 -- What a read of the selected tag comes to, by what its link did.
-use Rattle.std.proofs.Common.{◌≡◌, ℕ, List, length, None, refl, sym, ap, subst}
-use Rattle.std.specs.Prelude.{map, Result, Ok, Err}
+use Rattle.std.proofs.Common.{◌≡◌, ℕ, refl, sym, ap, subst}
+use Rattle.std.specs.Prelude.{map, Result, Err}
 use Rattle.std.specs.List.{AllByRecursion}
-use Rattle.nfc_base.specs.Signal.{Signal}
 use Rattle.nfc_base.specs.TagLinks.{LinkView}
 use Rattle.air_core.specs.World.{World}
 use Rattle.air_core.specs.Turn.{Air, moment}

@@ -1,9 +1,8 @@
 -- Stores that follow others keep the law of a write that these keep.
-use Rattle.std.proofs.Common.{◌≡◌, ◌⊎◌, inl, inr, ℕ, List, [], ◌∷◌, ◌++◌, refl, sym, ◌∙◌, ap, subst}
+use Rattle.std.proofs.Common.{◌≡◌, inl, inr, ℕ, List, [], ◌∷◌, ◌++◌, refl, sym, ◌∙◌, ap, subst}
 use Rattle.std.specs.List.{AllByRecursion}
 use Rattle.air_core.specs.PlainLinks.{Follows}
 use Rattle.tag_reader.specs.declared.how.How.{How}
-use Rattle.tag_writer.specs.Place.{Place}
 use Rattle.tag_writer.specs.Law.{PassInThree, Ending, last_store, IsEmptied, IsWritten, Leaves, Passes, WriteLaw}
 
 abbrev Store : Type 0

@@ -4,7 +4,6 @@ use Rattle.std.specs.Prelude.{Result, Ok, Err}
 use Rattle.std.proofs.lemmas.Bool.{cases_lt}
 use Rattle.std.proofs.Math.Nat.{mul-le-mul_right}
 use Rattle.nfc_base.specs.Signal.{Signal}
-use Rattle.t2t_tag.specs.Store.{IsT2Store}
 use Rattle.t5t_tag.specs.Store.{IsT5Store}
 use Rattle.tlv_area.specs.declared.container.ContainerFault.{ContainerFault}
 use Rattle.tlv_area.specs.declared.container.FileMap.{FileMap}
@@ -16,9 +15,9 @@ use Rattle.tlv_area.specs.Stores.{t5_reach}
 use Rattle.tag_reader.specs.declared.how.How.{How}
 use Rattle.tag_reader.specs.declared.how.How.TheVariants.{T2, T4, T5}
 use Rattle.tag_reader.specs.Kinds.{area_of, first}
-use Rattle.tag_reader.specs.Blocks.{Progress, known_at, ask_at, progress_at, AreaGoesOn, IsBlockLeft}
-use Rattle.tag_reader.specs.Files.{container_in, IsFileDue}
-use Rattle.tag_reader.specs.Asked.{ToWrite, HasMore, IsLeft, IsDueFor, AreDueFor, IsAskedFor}
+use Rattle.tag_reader.specs.Blocks.{Progress, known_at, ask_at, progress_at, AreaGoesOn}
+use Rattle.tag_reader.specs.Files.{container_in}
+use Rattle.tag_reader.specs.Asked.{ToWrite, IsLeft, IsDueFor, AreDueFor, IsAskedFor}
 use Rattle.tag_reader.proofs.Knowing.{due_more_for}
 use Rattle.tag_reader.proofs.BlockLists.{sizes, left_of, less_left, many_single}
 

@@ -1,5 +1,5 @@
 -- Whether a device takes a message, and the writes of one that does.
-use Rattle.std.proofs.Common.{◌≡◌, ℕ, ◌+◌, ◌-◌, ◌<◌, ◌≤◌, inl, inr, ◌⊎◌, Bool, true, false, List, [], ◌∷◌, ◌++◌, length, min, drop, refl, sym, ◌∙◌, ap, subst, arith}
+use Rattle.std.proofs.Common.{◌≡◌, ℕ, ◌-◌, ◌≤◌, inl, inr, ◌⊎◌, Bool, true, false, List, [], ◌∷◌, ◌++◌, length, drop, refl, sym, ◌∙◌, ap, subst, arith}
 use Rattle.std.specs.Prelude.{Result, Ok, Err, slice_index}
 use Rattle.std.specs.List.{flat_map}
 use Rattle.std.proofs.lemmas.Bool.{cases_lt, cases_Bool}
@@ -10,14 +10,13 @@ use Rattle.t4t_tag.specs.Store.{most_written}
 use Rattle.tlv_area.specs.declared.container.ContainerFault.{ContainerFault}
 use Rattle.tlv_area.specs.declared.container.FileMap.{FileMap}
 use Rattle.tlv_area.specs.declared.space.Space.{Space}
-use Rattle.tlv_area.specs.declared.step.Plan.{Plan}
 use Rattle.tlv_area.specs.Containers.{t4_container}
 use Rattle.tlv_area.specs.Layout.{Tlv, free, reserved_by, spelling, after_kind, length_bytes}
 use Rattle.tlv_area.specs.Stores.{cut, cut_by, t5_area}
 use Rattle.tlv_area.specs.Tail.{message_tail}
 use Rattle.tlv_area.specs.Writing.{IsNew, made}
 use Rattle.tlv_area.proofs.OneForm.{nonempty}
-use Rattle.tlv_area.proofs.Needing.{HoldsOne, holding}
+use Rattle.tlv_area.proofs.Needing.{holding}
 use Rattle.tlv_area.proofs.SomePlan.{some_new, some_plan}
 use Rattle.tag_reader.specs.declared.how.How.{How}
 use Rattle.tag_reader.specs.declared.how.How.TheVariants.{T2, T4, T5}
@@ -26,7 +25,7 @@ use Rattle.tag_reader.specs.Survey.{block_size, written_area}
 use Rattle.tag_reader.proofs.Areas.{t2_area}
 use Rattle.tag_writer.specs.Place.{Place, IsAreaPlace, IsPlaceBy, IsFilePlace, IsPlaceIn, AccessBy, IsAccess, HasPieces, Takes, TakesNot, tail_place, file_place}
 use Rattle.tag_writer.specs.Puts.{block_puts, file_close, file_fill, file_last}
-use Rattle.tag_writer.specs.WriteAsked.{Parts, all_puts, AreAreaPuts, AreFilePuts, ArePuts, AreWrites}
+use Rattle.tag_writer.specs.WriteAsked.{Parts, AreAreaPuts, ArePuts, AreWrites}
 use Rattle.tag_writer.proofs.OnePlace.{one_place, order_of}
 use Rattle.bench_devices.proofs.SurveyLists.{Decided}
 

@@ -1,13 +1,11 @@
 -- What a write of the selected tag comes to that takes commands as they are sent, by what its link did.
-use Rattle.std.proofs.Common.{◌≡◌, ℕ, List, ◌∷◌, ◌++◌, length, drop, None, refl, sym, ◌∙◌, ap, subst}
-use Rattle.std.specs.Prelude.{Result, Ok, Err}
+use Rattle.std.proofs.Common.{◌≡◌, ℕ, List, ◌∷◌, ◌++◌, length, drop, refl, sym, ◌∙◌, ap, subst}
+use Rattle.std.specs.Prelude.{Err}
 use Rattle.std.specs.List.{AllByRecursion}
-use Rattle.nfc_base.specs.declared.event.Event.{Event}
 use Rattle.nfc_base.specs.Signal.{Signal}
 use Rattle.nfc_base.specs.TagLinks.{LinkView, MayAsk, plain_state}
 use Rattle.air_core.specs.World.{World}
 use Rattle.air_core.specs.Turn.{Air, world, moment}
-use Rattle.air_core.specs.Conversation.{Note, Asks}
 use Rattle.air_core.specs.Waits.{waits_next}
 use Rattle.air_core.specs.PlainTags.{plain_kind}
 use Rattle.air_core.specs.PlainLinks.{PlainSeen, PlainMoves, Follows, stores_after, plain_view}
@@ -15,14 +13,14 @@ use Rattle.nfc_base.specs.TagLinks.{passed}
 use Rattle.tag_reader.specs.declared.how.How.{How}
 use Rattle.tag_writer.specs.declared.fault.WriteFault.TheVariants as faults
 use Rattle.tag_writer.specs.Faults.{ending_of}
-use Rattle.tag_writer.specs.Law.{Ending, Stopped, WriteLaw}
+use Rattle.tag_writer.specs.Law.{Stopped, WriteLaw}
 use Rattle.tag_writer.specs.Writing.{Keeps, HasWritten}
 use Rattle.bench_devices.specs.declared.device.Device.{Device}
 use Rattle.bench_devices.specs.Device.{air, device_tech, device_id, device_store, device_commands, how_of, size_of}
 use Rattle.bench_devices.specs.Writing.{AsksWriteOf, ShowsWrite, KeepsWriteLaw}
 use Rattle.bench_devices.specs.Linking.{IsPlainHow, IsNew}
 use Rattle.bench_devices.specs.Keeping.{ghosts, StoreOf, Leaves}
-use Rattle.bench_devices.specs.Phases.{Stands, AsksTag, AsksSome, WriteEnd, FailsWrite, Writes, WritesSome, WritesAt, CutAtWrite}
+use Rattle.bench_devices.specs.Phases.{Stands, AsksSome, WriteEnd, FailsWrite, Writes, WritesSome, WritesAt, CutAtWrite}
 use Rattle.air_core.proofs.DueWaits.{due_all}
 use Rattle.bench_devices.proofs.SelectingAir.{events_are}
 use Rattle.bench_devices.proofs.EveryFrame.{going_leaves}

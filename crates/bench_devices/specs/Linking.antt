@@ -1,8 +1,7 @@
 -- What the parts of a read or a write say of the field, over a link to the tag. No public contract speaks of these.
-use Rattle.std.specs.Prelude.{◌≡◌, ◌↔◌, ℕ, ◌<◌, List, length, true, None, Result, Err}
+use Rattle.std.specs.Prelude.{◌≡◌, ℕ, List, length, true, None, Result, Err}
 use Rattle.nfc_base.specs.Signal.{Signal}
 use Rattle.nfc_base.specs.declared.tag_link.AskFault.{AskFault}
-use Rattle.nfc_base.specs.Trace.{noise, breaks}
 use Rattle.air_core.specs.World.{World}
 use Rattle.air_core.specs.Turn.{Air, moment}
 use Rattle.air_core.specs.Conversation.{Moment}
