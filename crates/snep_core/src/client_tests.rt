@@ -23,16 +23,16 @@ const PARAMS: LinkParams = LinkParams {
 
 /// Hands each payload over at once, until it is over.
 #[derive(Drop)]
-struct Straight {
+pub(crate) struct Straight {
     over: Option<EndCause>,
     last: Option<ArrayVec<u8, 2178>>,
-    handed: Vec<Items<u8>>,
+    pub(crate) handed: Vec<Items<u8>>,
 }
 
 impl Straight {
     ghost use Rattle.std.specs.Prelude.{◌≡◌, Some, false};
 
-    fn new(alloc: Global, over: Option<EndCause>) -> Straight {
+    pub(crate) fn new(alloc: Global, over: Option<EndCause>) -> Straight {
         Straight {
             over,
             last: None,
@@ -106,7 +106,7 @@ impl Carrier for Straight {
 }
 
 /// An end with a server at SAP 4, at the begin of a link.
-fn peer(rt: &impl Abort, alloc: Global) -> Result<Llc<Server>, Fail> {
+pub(crate) fn peer(rt: &impl Abort, alloc: Global) -> Result<Llc<Server>, Fail> {
     let mut llc = Llc::new(alloc, PARAMS, 1, Server::new(alloc, 1024));
     assert_eq!(rt; llc.listen("urn:nfc:sn:snep", 4), Ok(()));
     llc.restart(&GENERAL);
@@ -114,7 +114,7 @@ fn peer(rt: &impl Abort, alloc: Global) -> Result<Llc<Server>, Fail> {
 }
 
 /// A client at the begin of a link.
-fn client(alloc: Global) -> Client {
+pub(crate) fn client(alloc: Global) -> Client {
     let mut llc = Llc::new(alloc, PARAMS, 1, NoService);
     llc.restart(&GENERAL);
     Client::new(alloc, llc)
