@@ -151,6 +151,16 @@ fn broken_off(alloc: Global, place: &str, id: &str, passes: usize) -> Result<Vec
     Ok(written)
 }
 
+/// Which of the three this text is, from one of them on; 3 where it is none.
+fn stage_of(text: &str, first: usize) -> usize {
+    for stage in first..BROKEN_OFF.len() {
+        if text == BROKEN_OFF[stage] {
+            return stage;
+        }
+    }
+    BROKEN_OFF.len()
+}
+
 /// A Break at each transmission of a write leaves the old message, then the empty one, then the new one.
 #[test]
 fn a_break_at_each_transmission(rt: HostRuntime) -> Result<(), Fail> {
@@ -160,9 +170,7 @@ fn a_break_at_each_transmission(rt: HostRuntime) -> Result<(), Fail> {
         for passes in 0..80 {
             let written = broken_off(alloc, place, id, passes)?;
             let text = str::from_utf8(&written)?;
-            while stage < 3 && text != BROKEN_OFF[stage] {
-                stage += 1;
-            }
+            stage = stage_of(text, stage);
             if stage == 3 {
                 assert_eq!(rt;
                     text,
