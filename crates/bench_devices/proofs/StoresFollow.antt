@@ -3,7 +3,8 @@ use Rattle.std.proofs.Common.{◌≡◌, inl, inr, ℕ, List, [], ◌∷◌, ◌
 use Rattle.std.specs.List.{AllByRecursion}
 use Rattle.air_core.specs.PlainLinks.{Follows}
 use Rattle.tag_reader.specs.declared.how.How.{How}
-use Rattle.tag_writer.specs.Law.{PassInThree, Ending, last_store, IsEmptied, IsWritten, Leaves, Passes, WriteLaw}
+use Rattle.nfc_base.specs.TagLinks.{PassInThree}
+use Rattle.tag_writer.specs.Law.{Ending, last_store, IsEmptied, IsWritten, Leaves, Passes, WriteLaw}
 
 abbrev Store : Type 0
 Store = List ℕ

@@ -14,7 +14,8 @@ use Rattle.t5t_tag.proofs.Bytes.{equal_bytes}
 use Rattle.tlv_area.specs.Form.{Form, Message}
 use Rattle.tag_reader.specs.Kinds.{IsStoreForm}
 use Rattle.tag_writer.specs.Place.{TakesNot}
-use Rattle.tag_writer.specs.Law.{Written, last_store, PassInThree, IsEmptied, IsWritten, Leaves}
+use Rattle.nfc_base.specs.TagLinks.{PassInThree}
+use Rattle.tag_writer.specs.Law.{Written, last_store, IsEmptied, IsWritten, Leaves}
 use Rattle.bench_script.specs.declared.command.Command.{Command}
 use Rattle.bench_script.specs.declared.command.Command.TheVariants.{Read, Write}
 use Rattle.bench_script.specs.declared.command.DeviceId.{DeviceId}

@@ -112,6 +112,17 @@ pub record Leads (a b : LinkView) (more : List Signal) : Type 0 where
 abbrev pub images : LinkView → List Signal → List (List ℕ)
 images a more = a.state.store ∷ passed a.step a.state more
 
+-- Stores one after another: first such of one kind, then of a second, then of a third. The three say what a tag of some kind
+-- reads as, before, during and behind a write.
+pub record PassInThree (Old Empty New : List ℕ → Type 0) (images : List (List ℕ)) : Type 0 where
+  pub before : List (List ℕ)
+  pub during : List (List ℕ)
+  pub behind : List (List ℕ)
+  pub joined : images ≡ before ++ (during ++ behind)
+  pub olds : AllByRecursion Old before
+  pub empties : AllByRecursion Empty during
+  pub news : AllByRecursion New behind
+
 -- All that the tag obeyed in an `ask` is this command, each time with the same store after it. A Type 4 tag obeyed it
 -- at most once.
 pub record Steady (a : LinkView) (c : Signal) (more : List Signal) : Type 0 where

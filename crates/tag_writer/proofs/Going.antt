@@ -2,12 +2,12 @@
 use Rattle.std.proofs.Common.{◌≡◌, ◌⊎◌, inl, inr, ℕ, suc, ◌<◌, List, [], ◌∷◌, ◌++◌, length, take, None, refl, sym, ◌∙◌, ap, subst, append_assoc, append-nil, arith}
 use Rattle.std.specs.List.{AllByRecursion}
 use Rattle.nfc_base.specs.Signal.{Signal}
-use Rattle.nfc_base.specs.TagLinks.{LinkView, TagState, TagStep, passed, images, after_all, Leads}
+use Rattle.nfc_base.specs.TagLinks.{LinkView, TagState, TagStep, passed, images, after_all, Leads, PassInThree}
 use Rattle.nfc_base.proofs.Leading.{all_append, all_map, leads_on, passed_on, rises_on, after_append}
 use Rattle.tag_reader.specs.Survey.{surveyed}
 use Rattle.tag_writer.specs.Puts.{Put, put_into, after_puts, commands_of}
 use Rattle.tag_writer.specs.WriteAsked.{refusal_in, refused_by, last_command}
-use Rattle.tag_writer.specs.Law.{IsEmptied, IsWritten, PassInThree, last_store}
+use Rattle.tag_writer.specs.Law.{IsEmptied, IsWritten, last_store}
 use Rattle.tag_writer.specs.Puttings.{Obeyed, Accepts, Makes, IsPutOf}
 use Rattle.tag_writer.specs.Phases.{Job, Since}
 use Rattle.tag_writer.proofs.Asking.{last_snoc, refused_at, commands_append}

@@ -1,22 +1,12 @@
 -- What a tag's stores are while a message is written, whatever stops the write.
-use Rattle.std.specs.Prelude.{◌≡◌, ◌⊎◌, List, [], ◌∷◌, ◌++◌, ℕ}
+use Rattle.std.specs.Prelude.{◌≡◌, ◌⊎◌, List, [], ◌∷◌, ℕ}
 use Rattle.std.specs.List.{AllByRecursion}
+use Rattle.nfc_base.specs.TagLinks.{PassInThree}
 use Rattle.tlv_area.specs.Form.{Message}
 use Rattle.tlv_area.specs.Writing.{SameOutside}
 use Rattle.tag_reader.specs.declared.how.How.{How}
 use Rattle.tag_reader.specs.Kinds.{IsStoreForm}
 use Rattle.tag_writer.specs.Place.{Place, IsNewStore, Takes, TakesNot}
-
--- Stores one after another: first such of one kind, then of a second, then of a third. The three say what a tag of some kind
--- reads as, before, during and behind a write.
-pub record PassInThree (Old Empty New : List ℕ → Type 0) (images : List (List ℕ)) : Type 0 where
-  pub before : List (List ℕ)
-  pub during : List (List ℕ)
-  pub behind : List (List ℕ)
-  pub joined : images ≡ before ++ (during ++ behind)
-  pub olds : AllByRecursion Old before
-  pub empties : AllByRecursion Empty during
-  pub news : AllByRecursion New behind
 
 -- how a write ended, as far as its stores tell: by success, by a refusal of the tag, or else
 pub data Ending : Type 0 where
