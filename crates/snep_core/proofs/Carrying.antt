@@ -83,6 +83,37 @@ module _ {S T : Type 0} (m : Serving S) (n : Serving T) (P : LlcState S → LlcS
   payload_brings p (x ∷ y ∷ xs) r f =
       subst (λ is. Brings p (x ∷ y ∷ xs) is) (sym (items_back (Agf (x ∷ y ∷ xs)) (map Good (x ∷ y ∷ xs)) (pdu_back (Agf (x ∷ y ∷ xs)) r) refl)) (f, refl)
 
+  payload_steps : (p : LlcState T) (ps : List Part) → AreParts ps → steps n p (items (payload_of ps)) ≡ steps n p (map Good ps)
+  payload_steps p [] r = refl
+  payload_steps p (x ∷ []) r = ap (steps n p) (items_back (One x) (Good x ∷ []) (pdu_back (One x) r.0) refl)
+  payload_steps p (x ∷ y ∷ xs) r = ap (steps n p) (items_back (Agf (x ∷ y ∷ xs)) (map Good (x ∷ y ∷ xs)) (pdu_back (Agf (x ∷ y ∷ xs)) r) refl)
+
+  -- it holds once the first PDU was given and taken, or as none is due
+  abbrev pub FirstSo : LlcState S → LlcState T → Option (Gave S) → Type 0
+  FirstSo l p None = P l p
+  FirstSo l p (Some g) = IsShort g.part × P g.llc (steps_part n p g.part)
+
+  record Firstly (p : LlcState T) (g : GaveAll m) : Type 0 where
+    parts : AreParts g.parts
+    now : P g.llc (steps n p (map Good g.parts))
+
+  firstly : ((l : LlcState S) (p : LlcState T) → P l p → HopSo p (gave m l)) → (k : ℕ) (l : LlcState S) (p : LlcState T) → (o : Option (Gave S)) → FirstSo l p o → Firstly p (given_so m l o k)
+  firstly hops k l p None h = record { parts = tt; now = h }
+  firstly hops k l p (Some g) h =
+      let c = carried_joined hops k (length (inner_bytes g.part)) g.llc (steps_part n p g.part) h.1 in record { parts = (h.0.0, h.0.1, c.parts); now = c.now }
+
+  -- and so once all were
+  pub handed_first : ((l : LlcState S) (p : LlcState T) → P l p → HopSo p (gave m l)) → (k : ℕ) (l : LlcState S) (p : LlcState T)
+      → l.readable ≡ true → p.readable ≡ true → FirstSo l p (gave m l) → P (after_giving m k l) (taken_from n p (given m k l))
+  handed_first hops k l p r q h =
+      let c = firstly hops (others m l k) l p (gave m l) h in
+      let out : given m k l ≡ payload_of (given_parts m k l).parts = ap (λ b. if b then payload_of (given_parts m k l).parts else []) r in
+      let left : after_giving m k l ≡ (given_parts m k l).llc = ap (λ b. if b then (given_parts m k l).llc else l) r in
+      let in_ : brought p (given m k l) ≡ items (payload_of (given_parts m k l).parts) =
+      ap (brought p) out ∙ ap (λ b. if b then items (payload_of (given_parts m k l).parts) else []) q in
+      subst (λ z. P z (taken_from n p (given m k l))) (sym left)
+      (subst (λ z. P (given_parts m k l).llc z) (sym (ap (steps n p) in_ ∙ payload_steps p (given_parts m k l).parts c.parts)) c.now)
+
   -- what holds once a payload was given and taken, and at each of its PDUs
   pub record Handed (k : ℕ) (l : LlcState S) (p : LlcState T) : Type 0 where
     pub fronts : AtFronts p (brought p (given m k l))

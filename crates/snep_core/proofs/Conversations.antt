@@ -1,10 +1,10 @@
 -- One request on a connection, unit by unit: where the two ends stand, and how they come from one phase to another.
-use Rattle.std.proofs.Common.{◌≡◌, ◌≤◌, ◌⊎◌, ℕ, List, [], ◌∷◌, ◌++◌, length, Option, Some, None}
+use Rattle.std.proofs.Common.{◌≡◌, ◌<◌, ◌≤◌, ◌⊎◌, false, ℕ, List, [], ◌∷◌, ◌++◌, length, Option, Some, None}
 use Rattle.snep_core.specs.Accord.{IsPaired, Numbers, client_open}
 use Rattle.snep_core.specs.Jobs.{Job, told_all}
 use Rattle.snep_core.specs.Server.{Received, ServerState, serving}
 use Rattle.snep_core.specs.Session.{Offer, Session, fresh_session}
-use Rattle.snep_core.specs.Talk.{EndState, client_sap, finished, readied, ready_so}
+use Rattle.snep_core.specs.Talk.{EndState, client_sap, finished, is_over, readied, ready_so}
 use Rattle.snep_core.proofs.Served.{Serves}
 
 -- Phases, and at each: the client's job, the units that it is still to give, and those that it heard and didn't take up; the server's
@@ -41,6 +41,7 @@ module _ (limit : ℕ) (table : List Offer) (c : Conversation) where
     pub unit : List ℕ
     pub due : serving.due s client_sap size ≡ Some unit
     pub short : length unit ≤ size
+    pub some : 0 < length unit
     pub to : c.Phase
     pub holds : c.Holds to
     pub job : c.job_at to ≡ c.job_at from
@@ -61,8 +62,8 @@ module _ (limit : ℕ) (table : List Offer) (c : Conversation) where
     pub session_is : c.session_at to ≡ c.session_at from
     pub accepted_is : c.accepted_at to ≡ c.accepted_at from
 
-  -- The client submitted what it may.
-  pub record Readies (l : EndState) (n : Numbers) (from : c.Phase) : Type 0 where
+  -- The client submitted what it may. Where it is still to do nothing, and nothing of it is unacknowledged, the server has an answer.
+  pub record Readies (size : ℕ) (l : EndState) (n : Numbers) (from : c.Phase) : Type 0 where
     pub to : c.Phase
     pub holds : c.Holds to
     pub paired : IsPaired n (length (c.queue_at to))
@@ -70,6 +71,7 @@ module _ (limit : ℕ) (table : List Offer) (c : Conversation) where
         ≡ ready_so (client_open l n (c.queue_at to) (c.units_at to)) (c.job_at to)
     pub session_is : c.session_at to ≡ c.session_at from
     pub accepted_is : c.accepted_at to ≡ c.accepted_at from
+    pub busy : c.units_at from ≡ [] → is_over (c.job_at from) ≡ false → c.queue_at to ≡ [] → n.asked ≡ [] → (s : ServerState) → StandsAt to s → Tells size to s
 
   -- What is true of a conversation over ends with these MIUs.
   pub record Converses (miu size : ℕ) : Type 0 where
@@ -79,7 +81,7 @@ module _ (limit : ℕ) (table : List Offer) (c : Conversation) where
     pub tells : (ph : c.Phase) → c.Holds ph → (s : ServerState) → StandsAt ph s → MayTell size ph s
     pub hears : (ph : c.Phase) → c.Holds ph → Hears ph
     pub plain : (ph : c.Phase) (l : EndState) → finished l client_sap (c.job_at ph) ≡ c.job_at ph
-    pub readies : (ph : c.Phase) → c.Holds ph → (l : EndState) (n : Numbers) → n.server_miu ≡ miu → IsPaired n (length (c.queue_at ph)) → Readies l n ph
+    pub readies : (ph : c.Phase) → c.Holds ph → (l : EndState) (n : Numbers) → n.server_miu ≡ miu → IsPaired n (length (c.queue_at ph)) → Readies size l n ph
 
   -- a phase at which nothing of a request is submitted
   pub record Starts (job : Job) (old : List Received) : Type 0 where

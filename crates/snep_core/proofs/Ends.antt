@@ -23,7 +23,7 @@ use Rattle.snep_core.proofs.Conversations.{Conversation, StandsAt}
 use Rattle.snep_core.proofs.Meets.{Joined}
 use Rattle.snep_core.proofs.Opening.{Keeps, Meeting}
 use Rattle.snep_core.proofs.Served.{Serves}
-use Rattle.snep_core.proofs.Turns.{StepSo, hands, readied_meets, takes, talks_on}
+use Rattle.snep_core.proofs.Turns.{Rests, StepSo, hands, readied_meets, rested_meets, takes, talks_on}
 
 -- a link that begins
 pub begun_accords : (client : EndState) (peer : PeerState) → IsBegun client peer → Accords client peer
@@ -64,7 +64,7 @@ module _ (os : List OwnState) where
 module _ (conv : ℕ → ℕ → Conversation) (most : Option ℕ) (bytes : List ℕ) (client : EndState) (peer : PeerState) (a : Accords client peer)
     (keeps : Keeps peer.service.limit peer.service.table conv most bytes peer.service.accepted) where
   abbrev Begun : EndState → Type 0
-  Begun l = Meeting peer.service.limit peer.service.table conv most bytes peer.service.accepted (Begins most bytes) l peer
+  Begun l = Rests peer.service.limit peer.service.table conv most bytes peer.service.accepted keeps (Begins most bytes) l peer
 
   apart_begins : IsApart client peer → Begun (connected client client_sap)
   apart_begins h =
@@ -103,25 +103,28 @@ module _ (conv : ℕ → ℕ → Conversation) (most : Option ℕ) (bytes : List
       let same : connected client client_sap ≡ client =
       ap (λ (z : EndState). if is_busy_by (own_from client_sap z.own) then client else record client { queue = client.queue ++ request (Connect server_sap client_sap (own_params client.miu client.window)) ∷ []; own = put_own (asked_from client_sap server_sap) client.own }) h.client_is in
       subst Begun (sym same) (inr (inr (record {
-        base = client;
-        far = peer;
-        n = n;
-        service = peer.service;
-        phase = t.at;
-        base_fair = a.client_fair;
-        far_fair = a.peer_fair;
-        bound = a.peer_serving.bound;
-        paired = subst (λ q. IsPaired n (length q)) (sym t.queue_is) h.paired;
-        holds = t.holds;
-        l_is = h.client_is ∙ ap (λ q. client_open client n q []) (sym t.queue_is) ∙ ap (λ us. client_open client n (c.queue_at t.at) us) (sym t.units_is);
-        p_is = h.peer_is;
-        job_is = sym t.job_is;
-        serves = record {
-          seats = a.peer_serving.seats;
-          session = h.session ∙ sym t.session_is;
-          got = sym t.accepted_is;
-          most = refl;
-          offers = refl;
+        units = t.units_is;
+        joined = record {
+          base = client;
+          far = peer;
+          n = n;
+          service = peer.service;
+          phase = t.at;
+          base_fair = a.client_fair;
+          far_fair = a.peer_fair;
+          bound = a.peer_serving.bound;
+          paired = subst (λ q. IsPaired n (length q)) (sym t.queue_is) h.paired;
+          holds = t.holds;
+          l_is = h.client_is ∙ ap (λ q. client_open client n q []) (sym t.queue_is) ∙ ap (λ us. client_open client n (c.queue_at t.at) us) (sym t.units_is);
+          p_is = h.peer_is;
+          job_is = sym t.job_is;
+          serves = record {
+            seats = a.peer_serving.seats;
+            session = h.session ∙ sym t.session_is;
+            got = sym t.accepted_is;
+            most = refl;
+            offers = refl;
+          };
         };
       })))
 
@@ -184,11 +187,11 @@ module _ (limit : ℕ) (table : List Offer) (conv : ℕ → ℕ → Conversation
 
   -- where a call is
   abbrev pub At : Step → PeerState → Type 0
-  At to p = StepSo limit table conv most bytes old keeps (λ p. Adds p.service.accepted) adds to p
+  At to p = StepSo limit table conv most bytes old keeps to p
 
   pub came : (from to : Step) (link now : C) (far after : A) → At from (view far) → Talks seen moves steps stops from link far to now after → At to (view after)
   came from to link now far after h t =
-      talks_on limit table conv most bytes old keeps (λ p. Adds p.service.accepted) adds steps stops view peer t.counts t.did from to far after h t.told t.far_moved
+      talks_on limit table conv most bytes old keeps steps stops view peer t.counts t.did from to far after h t.told t.far_moved
 
   module _ (job : Job) (l : EndState) (mid : A) (h : Meets job l (view mid)) where
     abbrev out : ℕ → List ℕ
@@ -245,7 +248,8 @@ module _ (limit : ℕ) (table : List Offer) (conv : ℕ → ℕ → Conversation
   breaks_off from link far e new now after h b = go (came from (Goes b.at) link b.mid far b.mid_far h b.talks)
     where
       go : At (Goes b.at) (view b.mid_far) → BrokeOff e after
-      go (job, l, idle, w, k) =
+      go (job, l, idle, w, on, k0) =
+          let k = rested_meets limit table conv most bytes old keeps k0 in
           let cut : IsCut seen moves steps stops (readied l client_sap job).llc b.mid b.mid_far e new now after =
           subst (λ z. IsCut seen moves steps stops (ready z).llc b.mid b.mid_far e new now after) w b.cut in
           let f = cut_fault job l b.mid_far k e new b.mid now after cut in

@@ -25,6 +25,7 @@ pub mod Served
 pub mod Conversations
 pub mod Meets
 pub mod Opening
+pub mod Pressing
 pub mod Turns
 pub mod Ends
 pub mod PutPhases

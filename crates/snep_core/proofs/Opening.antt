@@ -2,6 +2,7 @@
 use Rattle.std.proofs.Common.{◌≡◌, ◌<◌, ◌≤◌, ◌⊎◌, nat_lt, ℕ, ◌+◌, ◌^◌, ◌==◌, Bool, true, false, List, [], ◌∷◌, ◌++◌, length, Option, Some, None, IfSome, refl, sym, ◌∙◌, ap, subst, inl, inr, arith, if◌then◌else◌}
 use Rattle.std.proofs.lemmas.Bool.Decides.{nat_tests}
 use Rattle.llcp_pdu.specs.declared.param.Param.{Param}
+use Rattle.llcp_pdu.specs.declared.part.Part.{Part}
 use Rattle.llcp_pdu.specs.declared.part.Part.TheVariants.{Cc, Connect}
 use Rattle.llcp_pdu.specs.General.{IsMiu}
 use Rattle.llcp_conn.specs.Conn.{fresh}
@@ -163,12 +164,16 @@ module _ (limit : ℕ) (table : List Offer) (conv : ℕ → ℕ → Conversation
     some_window : (w : ℕ) → 1 ≤ w → (w == 0) ≡ false
     some_window w h = grind (arith, nat_tests)
 
-    asks_hop : (base : EndState) (far : PeerState) (s : ServerState) → IsFair base → IsFair far → is_bound server_sap far.bound ≡ true → job ≡ Begins most bytes
-        → client_sap < length s.sessions → s.accepted ≡ old → s.limit ≡ limit → s.table ≡ table → Hop (bare far s) (gave silent (asking base))
-    asks_hop base far s f g b j seats got limit_is offers =
+    abbrev pub connect_part : EndState → Part
+    connect_part base = Connect server_sap client_sap (own_params base.miu base.window)
+
+    pub asks_given : (base : EndState) (far : PeerState) (s : ServerState) → IsFair base → IsFair far → is_bound server_sap far.bound ≡ true → job ≡ Begins most bytes
+        → client_sap < length s.sessions → s.accepted ≡ old → s.limit ≡ limit → s.table ≡ table
+        → IsShort (connect_part base) × Awaits job (awaiting base) (steps_part serving (bare far s) (connect_part base))
+    asks_given base far s f g b j seats got limit_is offers =
         let w = says base.miu base.window f.miu f.window in (
           (((omega arith), (omega arith), w.2), (let z = w.3 in omega arith)),
-          inr (inl (record {
+          record {
             base = base;
             far = far;
             service = serving.begun s client_sap;
@@ -179,7 +184,7 @@ module _ (limit : ℕ) (table : List Offer) (conv : ℕ → ℕ → Conversation
             p_is = connect_taken base far s (own_params base.miu base.window) b w.1 w.0 (some_window base.window f.window.0);
             job_is = j;
             serves = serves_begun limit table s _ old (record { seats = seats; session = refl; got = got; most = limit_is; offers = offers });
-          })),
+          },
         )
 
     -- what nobody has
@@ -188,20 +193,24 @@ module _ (limit : ℕ) (table : List Offer) (conv : ℕ → ℕ → Conversation
         ap (λ o. or_else o (first_of_all far.last (acknowledges (bare far s)))) (found_none (informs serving (bare far s)) client_sap (λ e t. refl) (omega arith) far.last g.last refl)
         ∙ found_none (acknowledges (bare far s)) client_sap (λ e t. refl) (omega arith) far.last g.last refl
 
-    awaiting_none : (base : EndState) → IsFair base → gave silent (awaiting base) ≡ None
+    pub awaiting_none : (base : EndState) → IsFair base → gave silent (awaiting base) ≡ None
     awaiting_none base f =
         ap (λ o. or_else o (first_of_all base.last (acknowledges (awaiting base))))
         (found_none (informs silent (awaiting base)) client_sap (λ e t. ap (λ b. informs_own (awaiting base) (if b then Some (asked_from client_sap server_sap) else None)) (flip e t)) (omega arith) base.last f.last refl)
         ∙ found_none (acknowledges (awaiting base)) client_sap (λ e t. ap (λ b. acknowledges_own (awaiting base) (if b then Some (asked_from client_sap server_sap) else None)) (flip e t)) (omega arith) base.last f.last refl
 
-    awaits_back : (base : EndState) (far : PeerState) (s : ServerState) → IsFair base → IsFair far → is_bound server_sap far.bound ≡ true → job ≡ Begins most bytes
-        → Serves limit table s fresh_session old → HopBack (awaiting base) (gave serving (accepting far base s))
-    awaits_back base far s f g b j serves =
+    abbrev pub cc_part : PeerState → Part
+    cc_part far = Cc client_sap server_sap (own_params far.miu far.window)
+
+    pub awaits_given : (base : EndState) (far : PeerState) (s : ServerState) → IsFair base → IsFair far → is_bound server_sap far.bound ≡ true → job ≡ Begins most bytes
+        → Serves limit table s fresh_session old
+        → IsShort (cc_part far) × Joined limit table conv job (steps_part silent (awaiting base) (cc_part far)) (server_open far (new_numbers base far) s)
+    awaits_given base far s f g b j serves =
         let w = says far.miu far.window g.miu g.window in
         let t = keeps.starts far.miu base.miu in
         let c = conv far.miu base.miu in (
           (((omega arith), (omega arith), w.2), (let z = w.3 in omega arith)),
-          inr (inr (record {
+          record {
             base = base;
             far = far;
             n = new_numbers base far;
@@ -226,7 +235,7 @@ module _ (limit : ℕ) (table : List Offer) (conv : ℕ → ℕ → Conversation
             p_is = refl;
             job_is = j ∙ sym t.job_is;
             serves = subst (λ x. Serves limit table s x (c.accepted_at t.at)) (sym t.session_is) (subst (λ y. Serves limit table s fresh_session y) (sym t.accepted_is) serves);
-          })),
+          },
         )
 
     joined_on : (p : PeerState) (o : Option (Gave NoService)) → HopSo silent serving (Joined limit table conv job) p o → Hop p o
@@ -241,7 +250,7 @@ module _ (limit : ℕ) (table : List Offer) (conv : ℕ → ℕ → Conversation
     pub hops : (l : EndState) (p : PeerState) → Meeting job l p → Hop p (gave silent l)
     hops l p (inl h) =
         subst (λ z. Hop p (gave silent z)) (sym h.l_is)
-        (subst (λ z. Hop z (gave silent (asking h.base))) (sym h.p_is) (asks_hop h.base h.far h.service h.base_fair h.far_fair h.bound h.job_is h.seats h.got h.limit_is h.offers))
+        (subst (λ z. Hop z (gave silent (asking h.base))) (sym h.p_is) (let x = asks_given h.base h.far h.service h.base_fair h.far_fair h.bound h.job_is h.seats h.got h.limit_is h.offers in (x.0, inr (inl x.1))))
     hops l p (inr (inl h)) =
         subst (λ z. Hop p (gave silent z)) (sym h.l_is) (subst (λ o. Hop p o) (sym (awaiting_none h.base h.base_fair)) tt)
     hops l p (inr (inr h)) =
@@ -255,7 +264,7 @@ module _ (limit : ℕ) (table : List Offer) (conv : ℕ → ℕ → Conversation
         subst (λ z. HopBack l (gave serving z)) (sym h.p_is) (subst (λ o. HopBack l o) (sym (bare_none h.far h.service h.far_fair)) tt)
     hops_back p l (inr (inl h)) =
         subst (λ z. HopBack z (gave serving p)) (sym h.l_is)
-        (subst (λ z. HopBack (awaiting h.base) (gave serving z)) (sym h.p_is) (awaits_back h.base h.far h.service h.base_fair h.far_fair h.bound h.job_is h.serves))
+        (subst (λ z. HopBack (awaiting h.base) (gave serving z)) (sym h.p_is) (let x = awaits_given h.base h.far h.service h.base_fair h.far_fair h.bound h.job_is h.serves in (x.0, inr (inr x.1))))
     hops_back p l (inr (inr h)) =
         subst (λ z. HopBack z (gave serving p)) (sym h.l_is)
         (subst (λ z. HopBack (joined_client h) (gave serving z)) (sym h.p_is)

@@ -17,6 +17,7 @@ use Rattle.snep_core.proofs.Conversations.{Conversation}
 use Rattle.snep_core.proofs.Ends.{At, accord_begins, accepted_is, accords_again, breaks_off, came, limit_is, table_is}
 use Rattle.snep_core.proofs.Meets.{Joined}
 use Rattle.snep_core.proofs.Opening.{Keeps, Meeting}
+use Rattle.snep_core.proofs.Turns.{rested_meets}
 use Rattle.snep_core.proofs.PutAnswers.{put_converses, put_starts}
 use Rattle.snep_core.proofs.PutPhases.{Accepted, ContinueHeard, Continues, Holds, Phase, Refusing, Rejected, RefusalHeard, Sending, Submitted, SuccessHeard, Succeeds, Unsent, accepted_at, conversation, job_at, queue_at, session_at, units_at}
 
@@ -142,7 +143,7 @@ module _ {C A : Type 0} (seen : C → CarrierView) (moves : C → List FarStep �
   Here to q = At p.service.limit p.service.table (conv m p short) None (put_of m) p.service.accepted (keeps m p short) (AddsSome m p short) (adds_some m p short) seen moves steps stops view peer to q
 
   begins_so : Here (begins client (Puts m)) p
-  begins_so = (Begins None (put_of m), connected client client_sap, 0, refl, accord_begins (conv m p short) None (put_of m) client p a (keeps m p short))
+  begins_so = (Begins None (put_of m), connected client client_sap, 0, refl, refl, accord_begins (conv m p short) None (put_of m) client p a (keeps m p short))
 
   came_to : (to : Step) (now : C) (after : A) → Talks seen moves steps stops (begins client (Puts m)) link far to now after → Here to (view after)
   came_to to now after t =
@@ -154,7 +155,7 @@ module _ {C A : Type 0} (seen : C → CarrierView) (moves : C → List FarStep �
       → IsTaken m p new (view after)
   put_taken new now after t =
       let z = came_to (Ends (alone (Over Done)) new) now after t in
-      taken_at m p short new (view after) (subst (λ j. Putting m p short j new (view after)) (sym (alone_is (Over Done) z.0 z.1)) z.2)
+      taken_at m p short new (view after) (subst (λ j. Putting m p short j new (view after)) (sym (alone_is (Over Done) z.0 z.1)) (rested_meets p.service.limit p.service.table (conv m p short) None (put_of m) p.service.accepted (keeps m p short) z.2))
 
   -- it was refused
   refused_fails : (r : Refusal) → (new : EndState) (after : A) → (r ≡ refusals.Reject) × IsRejected m p new (view after) → PutFails m p (refused_by r) new (view after)
@@ -169,7 +170,7 @@ module _ {C A : Type 0} (seen : C → CarrierView) (moves : C → List FarStep �
       let z = came_to (Ends (alone (Over (Refused h.why))) new) now after h.talks in
       subst (λ f. PutFails m p f new (view after)) (sym h.fault)
       (refused_fails h.why new after
-      (rejected_at m p short new (view after) h.why (subst (λ j. Putting m p short j new (view after)) (sym (alone_is (Over (Refused h.why)) z.0 z.1)) z.2)))
+      (rejected_at m p short new (view after) h.why (subst (λ j. Putting m p short j new (view after)) (sym (alone_is (Over (Refused h.why)) z.0 z.1)) (rested_meets p.service.limit p.service.table (conv m p short) None (put_of m) p.service.accepted (keeps m p short) z.2))))
 
   fails_by : (c : EndCause) (new : EndState) (after : A) → AddsAtMost m p (view after) → PutFails m p (fault_of c) new (view after)
   fails_by cause.FieldLost new after h = h
@@ -182,7 +183,7 @@ module _ {C A : Type 0} (seen : C → CarrierView) (moves : C → List FarStep �
       → PutFails m p e new (view after)
   put_fails e new now after (inl h) = put_refused e new now after h
   put_fails e new now after (inr (inl (f, t))) =
-      subst (λ z. PutFails m p z new (view after)) (sym f) (came_to (GivesUp new) now after t)
+      absurd (came_to (GivesUp new) now after t)
   put_fails e new now after (inr (inr b)) =
       let k = breaks_off p.service.limit p.service.table (conv m p short) None (put_of m) p.service.accepted (keeps m p short) (AddsSome m p short) (adds_some m p short) seen moves steps stops view peer
       (begins client (Puts m)) link far e new now after begins_so b in

@@ -209,7 +209,7 @@ PutFails m old Excess client new = ⊥
 PutFails m old NotImplemented client new = ⊥
 PutFails m old (LinkEnded c) client new = AddsAtMost m old new
 PutFails m old Memory client new = AddsAtMost m old new
-PutFails m old BadPeer client new = AddsAtMost m old new
+PutFails m old BadPeer client new = ⊥
 
 -- An end with this project's server is a peer, as it is.
 abbrev pub PeersServe : Type 0
