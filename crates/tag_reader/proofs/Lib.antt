@@ -14,6 +14,7 @@ pub mod Endings
 pub mod Turns
 pub mod AreaSurveys
 pub mod Grounds
+pub mod Accesses
 pub mod Lists
 pub mod SomeList
 pub mod Files

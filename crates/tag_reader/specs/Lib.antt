@@ -1,6 +1,7 @@
 pub mod Files
 pub mod Blocks
 pub mod Kinds
+pub mod Access
 pub mod Asked
 pub mod Calls
 pub mod Counts

@@ -6,10 +6,11 @@ use Rattle.tlv_area.specs.declared.container.ContainerFault.TheVariants as conta
 use Rattle.tlv_area.specs.Form.{Faulty, NoMessageTlv, BadTlv}
 use Rattle.tag_reader.specs.declared.how.How.{How}
 use Rattle.tag_reader.specs.Kinds.{IsStoreForm}
+use Rattle.tag_reader.specs.Access.{IsAccess}
 use Rattle.tag_reader.specs.Calls.{HasSurveyed, ByLink}
 use Rattle.tag_writer.specs.declared.fault.WriteFault.{WriteFault}
 use Rattle.tag_writer.specs.declared.fault.WriteFault.TheVariants as fault
-use Rattle.tag_writer.specs.Place.{Place, IsPlaceIn, IsAccess, HasPieces}
+use Rattle.tag_writer.specs.Place.{Place, IsPlaceIn, HasPieces}
 use Rattle.tag_writer.specs.WriteAsked.{Writes}
 use Rattle.tag_writer.specs.Law.{Ending, Written, Refused, Stopped}
 
