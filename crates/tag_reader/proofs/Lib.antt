@@ -15,6 +15,7 @@ pub mod Turns
 pub mod AreaSurveys
 pub mod Grounds
 pub mod Accesses
+pub mod Surveys
 pub mod Lists
 pub mod SomeList
 pub mod Files

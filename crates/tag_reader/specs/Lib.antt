@@ -13,4 +13,5 @@ pub mod FileSteps
 pub mod Heard
 pub mod HeardSteps
 pub mod BlockSteps
+pub mod SurveyHeard
 pub mod SurveySteps
