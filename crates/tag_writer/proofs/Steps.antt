@@ -25,27 +25,3 @@ pub next_steps : (phase : Phase) (j : Job) (how : How) (plan : Plan) → IsWork 
 next_steps Prepared j how plan is = ap (λ p. p.close) is.parts
 next_steps Emptied j how plan is = ap (λ p. p.fill) is.parts
 next_steps Filled j how plan is = ap (λ p. p.last) is.parts
-
-pub length_puts : (how : How) (size : ℕ) (steps : List Step) → length (block_puts how size steps) ≡ length steps
-length_puts how size [] = refl
-length_puts how size (s ∷ steps) = ap suc (length_puts how size steps)
-
--- a step that is a write of a block can be asked for
-step_fit : (how : How) (size : ℕ) (store : List ℕ) (s : Step) → IsStore how size store → IsPutOf how size store (block_put how size s) → IsStepFor how s
-step_fit T2 size store s is p =
-    let same : s.content.items ≡ p.step.content.items = ap (λ q. q.bytes) p.put in
-    let place : 4 * s.block ≡ 4 * p.step.block = ap (λ q. q.at) p.put in
-    let most = is.1.most in
-    (omega (arith, place, p.within, is.1.whole, most), ap length same ∙ p.content)
-step_fit T4 size store s is p = absurd (let long = ap (λ q. length q.command.bytes) p.put in omega (arith, long))
-step_fit (T5 id) size store s is p = tt
-
-pub steps_fit : (how : How) (size : ℕ) (store : List ℕ) (steps : List Step) → IsStore how size store → AllByRecursion (IsPutOf how size store) (block_puts how size steps) → AllByRecursion (IsStepFor how) steps
-steps_fit how size store [] is all = tt
-steps_fit how size store (s ∷ steps) is all = (step_fit how size store s is all.0, steps_fit how size store steps is all.1)
-
-pub work_fit : (phase : Phase) (j : Job) (how : How) (plan : Plan) → Serves j → IsWork j (Blocks how plan) → AllByRecursion (IsStepFor how) (steps_at phase plan)
-work_fit phase j how plan s is =
-    steps_fit how j.size j.store (steps_at phase plan) (subst (λ h. IsStore h j.size j.store) is.how' s.store')
-    (subst (λ h. AllByRecursion (IsPutOf h j.size j.store) (block_puts how j.size (steps_at phase plan))) is.how'
-    (subst (AllByRecursion (IsPutOf j.how j.size j.store)) (next_steps phase j how plan is) (next_all phase j s)))

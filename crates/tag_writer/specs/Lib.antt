@@ -12,3 +12,6 @@ pub mod Planning
 pub mod Writing
 pub mod Numbers
 pub mod Works
+pub mod Commands
+pub mod WriteHeard
+pub mod WriteTold

@@ -28,13 +28,6 @@ updates_at Prepared store message = file_close store
 updates_at Emptied store message = file_fill store message
 updates_at Filled store message = file_last store message
 
--- what is known of them before the one at an index is asked for
-pub record AreUpdatesFor (phase : Phase) (store message : List ℕ) (most index : ℕ) : Type 0 where
-  pub brought : most ≡ most_brought store
-  pub some : 1 ≤ most
-  pub low : index < length (updates_at phase store message)
-  pub small : 2 + length message ≤ offset_end
-
 -- a piece of the message
 pub record IsPieceAt (message : List ℕ) (most index : ℕ) : Type 0 where
   pub some : 1 ≤ most
