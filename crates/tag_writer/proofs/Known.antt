@@ -15,7 +15,7 @@ use Rattle.tag_reader.specs.Survey.{IsKnownArea}
 use Rattle.tag_reader.proofs.Accesses.{written_access}
 use Rattle.tag_writer.specs.declared.work.Work.TheVariants.{Blocks}
 use Rattle.tag_writer.specs.Place.{Place, IsAreaPlace, IsPlaceBy, IsPlaceIn, tail_place}
-use Rattle.tag_writer.specs.Faults.{IsReadOnly, IsTooLong}
+use Rattle.tag_writer.specs.Outcome.{IsReadOnly, IsTooLong}
 use Rattle.tag_writer.specs.Planning.{IsPlannedFor}
 use Rattle.tag_writer.proofs.AreaJobs.{IsPlanned, job, serves, room_is}
 

@@ -5,8 +5,8 @@ pub mod Law
 pub mod Puttings
 pub mod Counts
 pub mod Phases
-pub mod Faults
 pub mod Outcome
+pub mod Faults
 pub mod Ends
 pub mod Planning
 pub mod Writing

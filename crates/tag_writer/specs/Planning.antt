@@ -7,7 +7,7 @@ use Rattle.tag_reader.specs.declared.fault.ReadFault.TheVariants as read
 use Rattle.tag_writer.specs.declared.fault.WriteFault.{WriteFault}
 use Rattle.tag_writer.specs.declared.fault.WriteFault.TheVariants as fault
 use Rattle.tag_writer.specs.declared.work.Work.{Work}
-use Rattle.tag_writer.specs.Faults.{IsReadOnly, IsTooLong, IsShort}
+use Rattle.tag_writer.specs.Outcome.{IsReadOnly, IsTooLong, IsShort}
 use Rattle.tag_writer.specs.Phases.{Job, Serves, IsWork}
 
 -- The work serves a message for a store.

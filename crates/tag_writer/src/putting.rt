@@ -5,13 +5,13 @@ ghost use Rattle.nfc_base.specs.TagLinks.{MayAsk, Rises};
 ghost use Rattle.tag_reader.specs.declared.how.How.TheVariants as hows;
 ghost use Rattle.tag_reader.specs.Heard.{IsOf};
 ghost use Rattle.tag_writer.specs.Commands.{commands_at, IsFit};
-ghost use Rattle.tag_writer.specs.Puttings.{of_link, Puts, AnswersAs, Makes, BreaksOff, AnswerTells, PutTells, PutsTell};
+ghost use Rattle.tag_writer.specs.Puttings.{Puts, AnswersAs, Makes, BreaksOff, AnswerTells, PutTells, PutsTell};
 ghost use Rattle.tag_writer.specs.Phases.{Job, IsAt, how_of, next_at};
 
 use crate::fault::WriteFault;
 use crate::phase::Phase;
 use crate::work::Work;
-use nfc_base::{AskFault, Frame, TagLink, Tech};
+use nfc_base::{Frame, TagLink, Tech};
 use std::alloc::Global;
 use t2t_tag::T2Answer;
 use t5t_tag::T5Answer;
@@ -19,17 +19,6 @@ use tag_reader::How;
 
 /// The status bytes of a Type 4 tag that obeyed a command (ISO/IEC 7816-4).
 const DONE: [u8; 2] = [0x90, 0x00];
-
-fn of_link(fault: AskFault) -> WriteFault
-    ensures { result ≡ of_link fault }
-{
-    match fault {
-        AskFault::FieldLost => WriteFault::FieldLost,
-        AskFault::SixBad => WriteFault::SixBad,
-        AskFault::Memory => WriteFault::Memory,
-        AskFault::Protocol => WriteFault::Protocol,
-    }
-}
 
 /// What the answer of a Type 2 tag to a write says.
 fn tell_t2(answer: &Frame) -> Result<(), WriteFault>
@@ -105,7 +94,7 @@ fn put<T: TagLink>(alloc: Global, link: &mut T, how: How, command: &Frame) -> Re
     ensures moves { T.moves link.old link.new }
 {
     match link.ask(alloc, command) {
-        Err(fault) => Err(of_link(fault)),
+        Err(fault) => Err(WriteFault::from(fault)),
         Ok(answer) => tell(how, &answer),
     }
 }

@@ -11,7 +11,7 @@ returns-in-Err-clause-puts g c is =
     let b : LinkView = g.T.TagLink.seen c.ask.new.self in
     inr (
       c.in-Err.fault,
-      c.of_link.ensures,
+      c.from.ensures,
       loses a b c.args.command.now c.in-Err.fault c.in-Err.ensures.obeys c.in-Err.ensures.rises c.in-Err.ensures.last c.in-Err.ensures.err c.in-Err.ensures.cause c.in-Err.ensures.ended c.in-Err.ensures.calm
           (some_answer c.args.how (a.step a.state c.args.command.now).answer is),
     )
@@ -20,7 +20,7 @@ pub returns-in-Err-clause-told : goal.returns-in-Err-clause-told
 returns-in-Err-clause-told g c =
     let a : LinkView = g.T.TagLink.seen c.args.link.now in
     let b : LinkView = g.T.TagLink.seen c.ask.new.self in
-    subst (λ e. IsWhy c.args.how a b [] c.args.command.now e) (sym c.of_link.ensures)
+    subst (λ e. IsWhy c.args.how a b [] c.args.command.now e) (sym c.from.ensures)
     (put_lost c.args.how a b c.args.command.now c.in-Err.fault c.in-Err.ensures.err c.in-Err.ensures.cause c.in-Err.ensures.ended)
 
 pub returns-in-Ok-clause-puts : goal.returns-in-Ok-clause-puts
