@@ -1,10 +1,10 @@
 -- What a survey hears, whatever the tag does.
-use Rattle.std.proofs.Common.{◌≡◌, ℕ, zero, suc, ◌+◌, ◌-◌, ◌*◌, ◌/◌, ◌<◌, ◌≤◌, inl, inr, List, [], ◌∷◌, ◌++◌, length, take, drop, Bool, true, false, append-nil, refl, sym, ◌∙◌, ap, subst, arith}
+use Rattle.std.proofs.Common.{◌≡◌, ℕ, suc, ◌+◌, ◌-◌, ◌*◌, ◌/◌, ◌<◌, ◌≤◌, inl, inr, List, [], ◌∷◌, ◌++◌, length, take, drop, Bool, true, false, append-nil, refl, sym, ◌∙◌, ap, subst, arith}
 use Rattle.std.specs.Prelude.{min, Option, Some, None, Result, Ok, Err}
-use Rattle.std.proofs.lemmas.List.{length-append, length-take, length-take-le}
+use Rattle.std.proofs.lemmas.List.{length-append, length-take}
 use Rattle.std.proofs.Math.Nat.{mul-le-mul_right, mul-add}
 use Rattle.nfc_base.specs.Signal.{Signal}
-use Rattle.nfc_base.specs.TagLinks.{LinkView, TagState, TagStep, after_all}
+use Rattle.nfc_base.specs.TagLinks.{LinkView, TagState, TagStep}
 use Rattle.tlv_area.specs.declared.space.Space.{Space}
 use Rattle.tlv_area.specs.declared.space.AreaMap.{AreaMap}
 use Rattle.tlv_area.specs.declared.container.ContainerFault.{ContainerFault}
@@ -14,7 +14,7 @@ use Rattle.tlv_area.specs.declared.walk.Walk.TheVariants as walk
 use Rattle.tlv_area.specs.Layout.{IsArea}
 use Rattle.tlv_area.specs.Form as form
 use Rattle.tlv_area.specs.Containers.{T5Area, first_fault, unless, t2_faults, t2_space, t2_container, t5_container}
-use Rattle.tlv_area.specs.Stores.{cut, cut_by, four_bytes, named_blocks, t5_reach, t5_area_by, t5_area, IsFormBy, IsT5Form}
+use Rattle.tlv_area.specs.Stores.{cut, cut_by, four_bytes, named_blocks, t5_reach, t5_area_by, t5_area, IsFormBy}
 use Rattle.tlv_area.specs.Map.{IsWalk, TellsForm}
 use Rattle.tlv_area.specs.Writing.{HasBlocks}
 use Rattle.tag_reader.specs.declared.how.How.{How}
@@ -28,7 +28,7 @@ use Rattle.tag_reader.specs.Blocks.{ask_count}
 use Rattle.tag_reader.specs.Kinds.{area_of}
 use Rattle.tag_reader.specs.Survey.{block_size}
 use Rattle.tag_reader.specs.Steps.{IsOfBlocks}
-use Rattle.tag_reader.specs.Heard.{IsBlocks, Brings, EndsTag, AreaSays, Says, HasContainer, HasFile, IsBroughtBy, IsNone, IsFaultBy, joined, first_size, ask_behind, next_command}
+use Rattle.tag_reader.specs.Heard.{IsBlocks, Brings, HasContainer, IsBroughtBy, IsNone, joined, first_size, ask_behind, next_command}
 use Rattle.tag_reader.specs.HeardSteps.{Under, GainsOr, RunsOut, Looks, Measured}
 use Rattle.tag_reader.specs.BlockSteps.{IsKnown, EndsBlocks, Names, LooksBlocks}
 use Rattle.tag_reader.specs.SurveyHeard.{surveyed_by, IsHeard, IsLeftBy, area_heard, known_heard, IsAreaHeard, IsSurveyedBy, IsGroundToldBy}
@@ -36,7 +36,6 @@ use Rattle.tag_reader.specs.SurveySteps.{HearsAll, IsSettledOver, GroundIn}
 use Rattle.tag_reader.proofs.Knowing.{store_goes_on}
 use Rattle.tag_reader.proofs.Bringing.{went_of}
 use Rattle.tag_reader.proofs.OneForm.{first_block}
-use Rattle.tag_reader.proofs.BlockAsking.{size_kept}
 use Rattle.tag_reader.proofs.BlockEndings.{closed_here, names_store, some_known}
 use Rattle.tag_reader.proofs.Grounds.{whole_block}
 

@@ -1,11 +1,10 @@
 -- Writes that a tag acknowledges, whatever it does, and why one isn't.
-use Rattle.std.proofs.Common.{◌≡◌, ℕ, inl, inr, List, [], ◌∷◌, ◌++◌, take, append_assoc, append-nil, Option, Some, None, Result, Ok, Err, refl, sym, ◌∙◌, ap, subst, arith}
-use Rattle.nfc_base.specs.Signal.{Signal, whole_a}
+use Rattle.std.proofs.Common.{◌≡◌, ℕ, inl, inr, List, [], ◌∷◌, ◌++◌, take, append_assoc, append-nil, Some, None, Result, Ok, Err, refl, sym, ◌∙◌, ap, subst, arith}
+use Rattle.nfc_base.specs.Signal.{Signal}
 use Rattle.nfc_base.specs.TagLinks.{TagState, TagStep, LinkView, after_all, Obeys, Rises, IsAnswer, IsFault, AskCause, IsEnded}
 use Rattle.nfc_base.specs.declared.tag_link.AskFault.{AskFault}
 use Rattle.nfc_base.specs.declared.tag_link.AskFault.TheVariants as ask
 use Rattle.nfc_base.proofs.Leading.{after_append, cause_on}
-use Rattle.t4t_tag.specs.Step.{done}
 use Rattle.tag_reader.specs.declared.how.How.{How}
 use Rattle.tag_reader.specs.declared.how.How.TheVariants.{T2, T4, T5}
 use Rattle.tag_reader.specs.Kinds.{IsNamed}

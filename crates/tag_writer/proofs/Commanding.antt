@@ -19,7 +19,7 @@ use Rattle.tag_writer.specs.declared.phase.Phase.{Phase}
 use Rattle.tag_writer.specs.declared.phase.Phase.TheVariants.{Prepared, Emptied, Filled}
 use Rattle.tag_writer.specs.declared.work.Work.{Work}
 use Rattle.tag_writer.specs.declared.work.Work.TheVariants.{Blocks, File}
-use Rattle.tag_writer.specs.Puts.{Put, commands_of, block_put, block_puts, block_command, most_brought, update_put, piece_put}
+use Rattle.tag_writer.specs.Puts.{Put, commands_of, block_puts, block_command, most_brought, update_put, piece_put}
 use Rattle.tag_writer.specs.Puttings.{signal_at}
 use Rattle.tag_writer.specs.Phases.{Job, IsWork, how_of, next_at}
 use Rattle.tag_writer.specs.Works.{IsStepFor, steps_at, updates_at, IsPieceAt}

@@ -1,5 +1,5 @@
 -- What is planned on the ground that a survey told, whatever the tag.
-use Rattle.std.proofs.Common.{◌≡◌, ℕ, ◌+◌, ◌*◌, ◌<◌, ◌≤◌, inl, inr, Bool, true, false, List, [], ◌∷◌, length, Result, Ok, Err, refl, sym, ◌∙◌, ap, subst, arith}
+use Rattle.std.proofs.Common.{◌≡◌, ℕ, ◌≤◌, inr, Bool, true, false, List, [], ◌∷◌, length, Result, Ok, Err, sym, subst, arith}
 use Rattle.std.specs.Prelude.{IfOk, IfErr}
 use Rattle.std.specs.List.{AllByRecursion}
 use Rattle.nfc_base.specs.TagLinks.{LinkView}
@@ -8,14 +8,14 @@ use Rattle.tlv_area.specs.declared.step.Step.{Step}
 use Rattle.tlv_area.specs.declared.step.Plan.{Plan}
 use Rattle.tlv_area.specs.declared.walk.Walk.TheVariants as walk
 use Rattle.tlv_area.specs.Map.{IsWalk}
-use Rattle.tlv_area.specs.Writing.{IsWhole, KeepsPlan, PlanKeeps, steps_of}
+use Rattle.tlv_area.specs.Writing.{IsWhole, KeepsPlan, steps_of}
 use Rattle.tag_reader.specs.declared.how.How.{How}
 use Rattle.tag_reader.specs.declared.how.How.TheVariants.{T2, T4, T5}
 use Rattle.tag_reader.specs.declared.ground.Ground.{Ground}
 use Rattle.tag_reader.specs.declared.ground.Ground.TheVariants.{Area, File}
 use Rattle.tag_reader.specs.Heard.{IsOf}
 use Rattle.tag_reader.specs.Survey.{IsPlacedArea}
-use Rattle.tag_reader.specs.SurveyHeard.{IsHeard, IsAreaHeard, IsFileHeard, IsGroundHeard, IsSurveyedBy}
+use Rattle.tag_reader.specs.SurveyHeard.{IsHeard, IsAreaHeard, IsSurveyedBy}
 use Rattle.tag_reader.proofs.Surveys.{two_low}
 use Rattle.tag_writer.specs.declared.fault.WriteFault.{WriteFault}
 use Rattle.tag_writer.specs.declared.phase.Prepared.{Prepared}
@@ -24,7 +24,7 @@ use Rattle.tag_writer.specs.declared.work.Work.TheVariants as work
 use Rattle.tag_writer.specs.Planning.{IsLow}
 use Rattle.tag_writer.specs.Works.{IsStepFor}
 use Rattle.tag_writer.specs.Phases.{how_of}
-use Rattle.tag_writer.specs.WriteTold.{IsWorkOn, IsPlannedBy, IsDeclinedOn, IsDeclinedBy, IsUnplannedBy, TellsPlan}
+use Rattle.tag_writer.specs.WriteTold.{IsWorkOn, IsPlannedBy, IsDeclinedOn, TellsPlan}
 use Rattle.tag_writer.proofs.Acknowledging.{of_left}
 
 -- the steps can be asked for

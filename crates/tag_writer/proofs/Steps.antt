@@ -1,19 +1,15 @@
 -- The steps of a plan as writes.
-use Rattle.std.proofs.Common.{◌≡◌, ℕ, zero, suc, ◌*◌, ◌<◌, List, [], ◌∷◌, length, refl, sym, ◌∙◌, ap, subst, get_or, arith}
-use Rattle.std.specs.List.{AllByRecursion}
+use Rattle.std.proofs.Common.{◌≡◌, ℕ, zero, suc, ◌<◌, List, [], ◌∷◌, length, sym, ap, get_or, arith}
 use Rattle.tlv_area.specs.declared.step.Step.{Step}
 use Rattle.tlv_area.specs.declared.step.Plan.{Plan}
 use Rattle.tag_reader.specs.declared.how.How.{How}
-use Rattle.tag_reader.specs.declared.how.How.TheVariants.{T2, T4, T5}
-use Rattle.tag_reader.specs.Kinds.{IsStore}
 use Rattle.tag_writer.specs.declared.phase.Phase.{Phase}
 use Rattle.tag_writer.specs.declared.phase.Phase.TheVariants.{Prepared, Emptied, Filled}
 use Rattle.tag_writer.specs.declared.work.Work.TheVariants.{Blocks}
-use Rattle.tag_writer.specs.Puts.{block_puts, block_put, block_command}
-use Rattle.tag_writer.specs.Puttings.{IsPutOf, signal_at}
-use Rattle.tag_writer.specs.Phases.{Job, Serves, IsWork, next_at}
-use Rattle.tag_writer.specs.Works.{IsStepFor, steps_at}
-use Rattle.tag_writer.proofs.Jobs.{next_all}
+use Rattle.tag_writer.specs.Puts.{block_puts, block_command}
+use Rattle.tag_writer.specs.Puttings.{signal_at}
+use Rattle.tag_writer.specs.Phases.{Job, IsWork, next_at}
+use Rattle.tag_writer.specs.Works.{steps_at}
 
 -- the command of the k-th step
 pub signal_of : (how : How) (size : ℕ) (steps : List Step) (k : ℕ) (s : Step) → k < length steps → s ≡ get_or steps k s → signal_at (block_puts how size steps) k ≡ block_command how s

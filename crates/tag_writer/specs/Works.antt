@@ -8,7 +8,7 @@ use Rattle.tag_reader.specs.declared.how.How.{How}
 use Rattle.tag_reader.specs.declared.how.How.TheVariants.{T2, T4, T5}
 use Rattle.tag_writer.specs.declared.phase.Phase.{Phase}
 use Rattle.tag_writer.specs.declared.phase.Phase.TheVariants.{Prepared, Emptied, Filled}
-use Rattle.tag_writer.specs.Puts.{Put, most_brought, file_close, file_fill, file_last}
+use Rattle.tag_writer.specs.Puts.{Put, file_close, file_fill, file_last}
 
 -- a step that a command can ask for
 abbrev pub IsStepFor : How → Step → Type 0

@@ -1,4 +1,4 @@
-use Rattle.std.proofs.Common.{rules, ◌≡◌, ◌<◌, ◌≤◌, [], ◌∷◌, length, take, sym, ◌∙◌, subst, arith}
+use Rattle.std.proofs.Common.{rules, ◌≡◌, ◌<◌, [], ◌∷◌, length, take, sym, ◌∙◌, subst, arith}
 use Rattle.std.specs.Prelude.{Result, Err, IfErr}
 use Rattle.std.proofs.lemmas.List.{take_all}
 use Rattle.nfc_base.specs.TagLinks.{LinkView, MayAsk}

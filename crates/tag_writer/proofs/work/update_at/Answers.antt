@@ -1,6 +1,6 @@
 use Rattle.std.proofs.Common.{◌≡◌, ◌<◌, length, sym, ◌∙◌, subst}
 use Rattle.tag_writer.specs.Commands.{updates_in, command_at}
-use Rattle.tag_writer.proofs.Commanding.{piece_is, piece_fits, close_is, last_is}
+use Rattle.tag_writer.proofs.Commanding.{piece_is, piece_fits, close_is}
 use Rattle.tag_writer.proofs.work.update_at.Goals as goal
 
 pub piece_frame-requires : goal.piece_frame-requires
