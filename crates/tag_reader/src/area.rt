@@ -36,7 +36,8 @@ pub fn read_all<T: TagLink>(
     ensures area { IfOk result IsArea }
     ensures whole { IfOk result (λ space. space.end ≤ length known.new.items) }
     // whatever the tag does
-    ensures hears { OrFault (λ space. (size : ℕ) × HearsAll how (T.seen link.old) (T.seen link.new) size known.new.items space)
+    ensures hears { OrFault (λ space. (size : ℕ)
+        × HearsAll how (T.seen link.old) (T.seen link.new) size known.new.items space)
         how (T.seen link.old) (T.seen link.new) result }
     ensures reads { ReadsAll how (T.seen link.old) (T.seen link.new) known.new.items result }
     ensures ready { T.ready link.new }
@@ -80,7 +81,8 @@ pub fn read_to_end<T: TagLink>(
     ensures small { OnOk result (known.new.size ≤ 256) }
     // whatever the tag does
     ensures hears { (a : LinkView) → LooksBlocks id a (T.seen link.old) known.old →
-        OrFault (HearsAll (hows.T5 id) a (T.seen link.new) known.new.size known.new.bytes.items) (hows.T5 id) a (T.seen link.new) result }
+        OrFault (HearsAll (hows.T5 id) a (T.seen link.new) known.new.size known.new.bytes.items)
+        (hows.T5 id) a (T.seen link.new) result }
     ensures reads { (size n : ℕ) (a : LinkView) → IsReading ToWrite id size a (T.seen link.old) known.old (suc n) →
         KnowsAll id size a (T.seen link.new) known.new result }
     ensures ready { T.ready link.new }

@@ -78,7 +78,8 @@ fn advance<T: TagLink>(
         × BreaksOff j.how (T.seen link.old) (next_at phase j) (T.seen link.new) s.cause) }
     ensures stopped { IfErr result (λ s. s.phase ≡ phase) }
     // whatever the tag does
-    ensures told { TellsWrites (how_of work.now) (T.seen link.old) (T.seen link.new) (commands_at phase work.now) result }
+    ensures told { TellsWrites (how_of work.now) (T.seen link.old) (T.seen link.new)
+        (commands_at phase work.now) result }
     ensures rises { Rises (T.seen link.old) (T.seen link.new) }
     ensures ready { T.ready link.new }
     ensures same { T.lenders link.new ≡ T.lenders link.old }
