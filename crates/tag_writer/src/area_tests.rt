@@ -162,7 +162,7 @@ fn each_stop_on_a_type_5_tag_leaves_one_of_three_messages(rt: HostRuntime) -> Re
                 let mut link = MemLink::new(rt.alloc(), Awake { tag }, left, behind);
                 let message = part(&new, 0, *length);
                 let outcome = write_t5(rt.alloc(), &mut link, ID, message);
-                let held = left_t5(rt.alloc(), &mut link, ID)?;
+                let held = left_t5(rt.alloc(), &mut link)?;
                 let is_old = held.as_slice() == [0xD0u8, 0, 0].as_slice();
                 let is_new = held.as_slice() == message;
                 assert!(rt; is_old || is_new || held.is_empty(), "at {left}: {held:?}");

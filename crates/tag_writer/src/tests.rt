@@ -262,10 +262,9 @@ pub fn left_t2(alloc: Global, link: &mut MemLink<T2Tag>) -> Result<Vec<u8>, Fail
 }
 
 /// The same of a Type 5 tag.
-pub fn left_t5(alloc: Global, link: &mut MemLink<Awake>, id: [u8; 8]) -> Result<Vec<u8>, Fail>
-    requires { link.old.card.tag.id ≡ id }
-{
+pub fn left_t5(alloc: Global, link: &mut MemLink<Awake>) -> Result<Vec<u8>, Fail> {
     link.light();
+    let id = link.card.tag.id();
     let _shape = link.card.tag.store();
     let found = read(alloc, link, How::T5(id))?;
     Ok(found.message.into_vec())
