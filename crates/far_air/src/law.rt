@@ -11,17 +11,17 @@ ghost use Rattle.far_air.specs.FarTurns.{FarTurns, FarResets, FarGoesOn, FarGoes
 
 use nfc_base::Answerer;
 
-/// Where no device hands anything over, a stretch is one of the quiet air, and the far ends stay. So it is behind a reset, from
-/// which on no device has a link, as long as no frame begins one.
+/// Where no device hands anything over, a stretch is one of the quiet air, and the far ends stay. So it is behind a
+/// reset, from which on no device has a link, as long as no frame begins one.
 pub fn quiet_stretches<L, F>()
     ensures unlinked { (m : Machine L) (linked : L → Bool) → UnlinkedStay m linked }
     ensures stretch { (m : Machine L) (linked : L → Bool) (t : FarTable F) → QuietStretches m linked t }
     ensures goes { (m : Machine L) (linked : L → Bool) (t : FarTable F) → QuietGoings m linked t }
 {}
 
-/// At a frame at which one device at most hands something over, whatever state it and the others are in and whichever is
-/// selected, what the field's `transmit` says over that device's far end is a turn of the world with far ends at its place.
-/// Turns one after another take an entry's numbers in order.
+/// At a frame at which one device at most hands something over, whatever state it and the others are in and whichever
+/// is selected, what the field's `transmit` says over that device's far end is a turn of the world with far ends at
+/// its place. Turns one after another take an entry's numbers in order.
 pub fn far_turns<L, F, A: Answerer>()
     ensures reset { (m : Machine L) (linked : L → Bool) (t : FarTable F) → FarResets m linked t }
     ensures turn { (m : Machine L) (linked : L → Bool) (t : FarTable F)
@@ -32,14 +32,14 @@ pub fn far_turns<L, F, A: Answerer>()
     ensures then { (m : Machine L) (linked : L → Bool) (t : FarTable F) → FarGoesThen m linked t }
 {}
 
-/// What stays of far ends is changed by a payload that is handed over, and by nothing else: the dark, resets, new links and
-/// all other frames leave it.
+/// What stays of far ends is changed by a payload that is handed over, and by nothing else: the dark, resets, new
+/// links and all other frames leave it.
 pub fn far_ends_stay<L, F>()
     ensures { (m : Machine L) (linked : L → Bool) (t : FarTable F) → FarsStay m linked t }
 {}
 
-/// A field with a tag and two peers, computed: a frame begins a link with one peer, the next hands its far end a payload, which
-/// takes a number and is replied to; then the field is lost, and of both far ends there is what stays.
+/// A field with a tag and two peers, computed: a frame begins a link with one peer, the next hands its far end a
+/// payload, which takes a number and is replied to; then the field is lost, and of both far ends there is what stays.
 pub fn two_frames()
     ensures { TwoFrames }
 {}

@@ -1,0 +1,3 @@
+pub mod SwapTurns
+pub mod Ends
+pub mod PeerFars
