@@ -3,3 +3,4 @@ pub mod Walking
 pub mod Wholly
 pub mod OtherNumbers
 pub mod PeerEnds
+pub mod Aside

@@ -3,10 +3,12 @@
 ghost use Rattle.std.specs.Prelude.{Bool};
 ghost use Rattle.far_air.specs.FarEnds.{FarTable};
 ghost use Rattle.far_air.specs.FarLaws.{IsFarTable, IsOfTable};
+ghost use Rattle.peer_air.specs.Aside.{AsideTurns, SpeaksAside};
 ghost use Rattle.peer_air.specs.Ends.{AreFarEnds, EndsStep, AnyNumber};
 ghost use Rattle.peer_air.specs.PeerFars.{peer_ends, RestsKeep, RestartsKeep};
 ghost use Rattle.peer_air.specs.SwapTurns.{ExchangesFar, SwapsFar, MovesFar, StopsFar};
 
+use air_core::Listener;
 use dep_link::PeerListener;
 use llcp_link::{Llc, Service};
 use nfc_base::Answerer;
@@ -24,6 +26,14 @@ pub fn swaps<L: PeerListener, F, A: Answerer>()
         → MovesFar L.Listener L.target linked t A.restarts A.steps A.stops view }
     ensures stop { (linked : L → Bool) (t : FarTable F) (view : A → F)
         → StopsFar L.Listener L.target linked t A.restarts A.steps A.stops view }
+{}
+
+/// What a reader says in frames of whole bytes of NFC-A to one listener of a field, while all others are aside, is turns
+/// of the world with far ends at its place: what an activation of a link asks, and what ends one.
+pub fn talks_aside<L: Listener, F, A: Answerer>()
+    ensures turn { AsideTurns L.Listener A.restarts A.steps }
+    ensures speaks { (linked : L → Bool) (t : FarTable F) (view : A → F)
+        → SpeaksAside L.Listener A.restarts A.steps linked t view }
 {}
 
 /// An end of a link is a far end of the world: each step of the code's end is one of its table, by some number of PDUs,
