@@ -1,5 +1,5 @@
 -- What is found round the circle of SAPs where one SAP alone has anything.
-use Rattle.std.proofs.Common.{◌≡◌, ◌<◌, ◌≤◌, ◌⊎◌, ℕ, zero, suc, ◌+◌, ◌%◌, ◌==◌, Bool, true, false, Option, Some, None, IfSome, refl, sym, ap, subst, ◌∙◌, inl, inr, arith}
+use Rattle.std.proofs.Common.{◌≡◌, ◌<◌, ◌≤◌, ◌⊎◌, ℕ, zero, suc, ◌+◌, ◌%◌, ◌==◌, Bool, true, false, Option, Some, None, IfSome, refl, sym, ap, ◌∙◌, inl, inr, arith}
 use Rattle.std.proofs.lemmas.Bool.{eqb-true, cases_lt}
 use Rattle.llcp_conn.specs.Conn.{IsSap}
 use Rattle.llcp_link.specs.State.{sap_count}

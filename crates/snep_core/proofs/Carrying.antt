@@ -1,7 +1,6 @@
 -- What holds of two ends as PDUs go from one to the other, one by one, holds as payloads do.
-use Rattle.std.proofs.Common.{◌≡◌, ◌<◌, ◌≤◌, ℕ, zero, suc, ◌+◌, nat_le, Bool, true, false, List, [], ◌∷◌, ◌++◌, length, map, Option, Some, None, Ok, refl, sym, ap, subst, ◌∙◌, arith, if◌then◌else◌}
+use Rattle.std.proofs.Common.{◌≡◌, ◌<◌, ℕ, zero, suc, ◌+◌, nat_le, true, List, [], ◌∷◌, ◌++◌, length, map, Option, Some, None, Ok, refl, sym, ap, subst, ◌∙◌, if◌then◌else◌}
 use Rattle.llcp_pdu.specs.declared.part.Part.{Part}
-use Rattle.llcp_pdu.specs.declared.part.Part.TheVariants.{Symm}
 use Rattle.llcp_pdu.specs.declared.pdu.Pdu.{Pdu}
 use Rattle.llcp_pdu.specs.declared.pdu.Pdu.TheVariants.{Agf, One}
 use Rattle.llcp_pdu.specs.Pdus.{pdu}

@@ -1,5 +1,5 @@
 -- One request on a connection, unit by unit: where the two ends stand, and how they come from one phase to another.
-use Rattle.std.proofs.Common.{◌≡◌, ◌<◌, ◌≤◌, ◌⊎◌, false, ℕ, List, [], ◌∷◌, ◌++◌, length, Option, Some, None}
+use Rattle.std.proofs.Common.{◌≡◌, ◌<◌, ◌≤◌, ◌⊎◌, false, ℕ, List, [], ◌∷◌, ◌++◌, length, Some, None}
 use Rattle.snep_core.specs.Accord.{IsPaired, Numbers, client_open}
 use Rattle.snep_core.specs.Jobs.{Job, told_all}
 use Rattle.snep_core.specs.Server.{Received, ServerState, serving}

@@ -1,13 +1,17 @@
 -- How a call begins where a client and a peer accord, how it ends, and what it leaves where it is cut off.
-use Rattle.std.proofs.Common.{◌≡◌, ◌<◌, ◌≤◌, ◌⊎◌, ℕ, ◌+◌, ◌==◌, Bool, true, false, List, [], ◌∷◌, ◌++◌, length, Option, Some, None, IfSome, refl, sym, ◌∙◌, ap, subst, inl, inr, arith, if◌then◌else◌}
+use Rattle.std.proofs.Common.{◌≡◌, ◌<◌, ◌≤◌, ◌⊎◌, ℕ, ◌/◌, ◌==◌, Bool, true, false, List, [], ◌∷◌, ◌++◌, length, Option, Some, None, IfSome, Result, Ok, Err, unwrap_or, refl, sym, ◌∙◌, ap, subst, inl, inr, arith, if◌then◌else◌}
 use Rattle.std.proofs.lemmas.List.{length-replicate}
 use Rattle.nfc_base.specs.declared.carrier.EndCause.{EndCause}
 use Rattle.nfc_base.specs.declared.carrier.EndCause.TheVariants as cause
 use Rattle.nfc_base.specs.Links.{CarrierView, FarLeft, FarStep}
-use Rattle.llcp_pdu.specs.General.{IsMiu}
+use Rattle.llcp_pdu.specs.declared.param.Param.{Param}
+use Rattle.llcp_pdu.specs.General.{IsMiu, general, miu_by, said, said_behind, spoken, unmasked}
+use Rattle.llcp_pdu.specs.Params.{last_of, miux_in, params, version_in, wks_in}
+use Rattle.llcp_pdu.specs.Wire.{least_miu, magic_length, major}
+use Rattle.llcp_link.proofs.Ranged.{either}
 use Rattle.llcp_pdu.specs.declared.part.Part.TheVariants.{Connect}
 use Rattle.llcp_conn.specs.Conn.{IsSap, IsWindow}
-use Rattle.llcp_link.specs.State.{LlcState, OwnState, own_from}
+use Rattle.llcp_link.specs.State.{LlcState, OwnState, miu_said, own_from}
 use Rattle.llcp_link.specs.Asking.{asked_from, is_busy_by, put_own, request}
 use Rattle.llcp_link.specs.Names.{is_bound, own_params}
 use Rattle.llcp_link.specs.Giving.{given}
@@ -19,11 +23,30 @@ use Rattle.snep_core.specs.Server.{Received, serving, session_of}
 use Rattle.snep_core.specs.Session.{Offer, fresh_session}
 use Rattle.snep_core.specs.Talk.{EndState, Goes, Step, client_sap, connected, ready, readied, server_sap, silent}
 use Rattle.snep_core.proofs.Carrying.{AtFronts, at_front}
-use Rattle.snep_core.proofs.Conversations.{Conversation, StandsAt}
+use Rattle.snep_core.proofs.Conversations.{Conversation}
 use Rattle.snep_core.proofs.Meets.{Joined}
 use Rattle.snep_core.proofs.Opening.{Keeps, Meeting}
-use Rattle.snep_core.proofs.Served.{Serves}
 use Rattle.snep_core.proofs.Turns.{Rests, StepSo, hands, readied_meets, rested_meets, takes, talks_on}
+
+-- general bytes say no MIU below the least one
+miu_more : (o : Option ℕ) → least_miu ≤ miu_by least_miu o
+miu_more None = omega arith
+miu_more (Some n) = omega arith
+
+spoken_more : (v : Option ℕ) (miu wks : ℕ) → least_miu ≤ miu → least_miu ≤ miu_said (spoken v miu wks)
+spoken_more None miu wks h = omega arith
+spoken_more (Some v) miu wks h = either (λ r. least_miu ≤ miu_said r) (v / 16 == major) _ _ (λ e. h) (λ e. (let z : 128 ≤ 128 = omega arith in z))
+
+said_by : (r : Result (List Param) _) → least_miu ≤ miu_said (said r)
+said_by (Err e) = omega arith
+said_by (Ok ps) = spoken_more (last_of version_in ps) (miu_by least_miu (last_of miux_in ps)) (unwrap_or (last_of wks_in ps) 0) (miu_more (last_of miux_in ps))
+
+behind_more : (o : Option (List ℕ)) → least_miu ≤ miu_said (said_behind o)
+behind_more None = omega arith
+behind_more (Some rest) = said_by (params rest 0 magic_length)
+
+said_more : (b : List ℕ) → least_miu ≤ miu_said (general b)
+said_more b = behind_more (unmasked b)
 
 -- a link that begins
 pub begun_accords : (client : EndState) (peer : PeerState) → IsBegun client peer → Accords client peer
@@ -33,6 +56,7 @@ begun_accords client peer h = record {
   peer_serving = record {
     seats = subst (λ (z : PeerState). client_sap < length z.service.sessions) (sym h.peer_is) (subst (λ n. client_sap < n) (sym (length-replicate 64 fresh_session)) (omega arith));
     bound = h.bound;
+    far_miu = subst (λ (z : PeerState). least_miu ≤ z.far_miu) (sym h.peer_is) (said_more h.peer_general);
   };
   stands = inl (record {
     client_readable = h.client_readable;
@@ -76,7 +100,7 @@ module _ (conv : ℕ → ℕ → Conversation) (most : Option ℕ) (bytes : List
         service = peer.service;
         base_fair = a.client_fair;
         far_fair = a.peer_fair;
-        bound = a.peer_serving.bound;
+        bound = (a.peer_serving.bound, a.peer_serving.far_miu);
         l_is =
             ap (λ b. if b then client else record client { queue = client.queue ++ q ∷ []; own = put_own (asked_from client_sap server_sap) client.own }) free.0
             ∙ ap (λ z. record client { queue = z ++ q ∷ []; own = put_own (asked_from client_sap server_sap) client.own }) h.client_queue
@@ -112,7 +136,7 @@ module _ (conv : ℕ → ℕ → Conversation) (most : Option ℕ) (bytes : List
           phase = t.at;
           base_fair = a.client_fair;
           far_fair = a.peer_fair;
-          bound = a.peer_serving.bound;
+          bound = (a.peer_serving.bound, a.peer_serving.far_miu);
           paired = subst (λ q. IsPaired n (length q)) (sym t.queue_is) h.paired;
           holds = t.holds;
           l_is = h.client_is ∙ ap (λ q. client_open client n q []) (sym t.queue_is) ∙ ap (λ us. client_open client n (c.queue_at t.at) us) (sym t.units_is);
@@ -157,7 +181,8 @@ module _ (limit : ℕ) (table : List Offer) (conv : ℕ → ℕ → Conversation
         peer_fair = fair_end p h.far (ap (λ (z : PeerState). z.miu) h.p_is) (ap (λ (z : PeerState). z.window) h.p_is) (ap (λ (z : PeerState). z.last) h.p_is) h.far_fair;
         peer_serving = record {
           seats = subst (λ z. client_sap < length z.sessions) (sym pi) h.serves.seats;
-          bound = ap (λ (z : PeerState). is_bound server_sap z.bound) h.p_is ∙ h.bound;
+          bound = ap (λ (z : PeerState). is_bound server_sap z.bound) h.p_is ∙ h.bound.0;
+          far_miu = subst (λ (z : PeerState). least_miu ≤ z.far_miu) (sym h.p_is) h.bound.1;
         };
         stands = inr (record {
           numbers = h.n;

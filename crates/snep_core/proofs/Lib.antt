@@ -32,3 +32,4 @@ pub mod PutPhases
 pub mod PutAnswers
 pub mod PutEnds
 pub mod Peers
+pub mod Asides

@@ -1,11 +1,12 @@
 -- A client and a peer on a connection: what holds of both as PDUs go from one to the other.
-use Rattle.std.proofs.Common.{◌≡◌, ◌<◌, ◌≤◌, ◌⊎◌, nat_lt, ℕ, suc, ◌+◌, ◌-◌, ◌%◌, ◌==◌, Bool, true, false, List, [], ◌∷◌, ◌++◌, length, Option, Some, None, refl, sym, ◌∙◌, ap, subst, inl, inr, arith, length-append, if◌then◌else◌}
+use Rattle.std.proofs.Common.{◌≡◌, ◌<◌, ◌≤◌, ◌⊎◌, nat_lt, ℕ, suc, ◌+◌, ◌-◌, ◌%◌, ◌==◌, Bool, true, false, List, [], ◌∷◌, ◌++◌, length, None, refl, sym, ◌∙◌, ap, subst, inl, inr, arith, length-append, if◌then◌else◌}
 use Rattle.std.proofs.lemmas.Bool.{eqb-true}
 use Rattle.std.proofs.lemmas.Bool.Decides.{nat_tests}
 use Rattle.llcp_pdu.specs.General.{IsMiu}
 use Rattle.llcp_pdu.specs.Ranges.{AreParams}
 use Rattle.llcp_pdu.specs.declared.param.Param.{Param}
 use Rattle.llcp_pdu.specs.declared.param.Param.TheVariants.{Miux, Rw}
+use Rattle.llcp_pdu.specs.Wire.{least_miu}
 use Rattle.llcp_pdu.specs.Writing.{params_bytes}
 use Rattle.llcp_pdu.specs.declared.part.Part.{Part}
 use Rattle.llcp_pdu.specs.declared.part.Part.TheVariants.{Rr}
@@ -20,10 +21,10 @@ use Rattle.snep_core.specs.Server.{ServerState, serving}
 use Rattle.snep_core.specs.Session.{Offer}
 use Rattle.snep_core.specs.Talk.{EndState, client_sap, server_sap, silent}
 use Rattle.snep_core.proofs.Carrying.{HopSo, IsShort}
-use Rattle.snep_core.proofs.Conversations.{AllWithin, Comes, Conversation, Converses, StandsAt, Tells}
+use Rattle.snep_core.proofs.Conversations.{AllWithin, Conversation, Converses, StandsAt, Tells}
 use Rattle.snep_core.proofs.Pairs.{asked_part, asks, client_ack, client_acks, client_hears, client_none, client_takes, client_unit, marked, server_ack, server_acks, server_hears, server_none, server_takes, server_unit, tells, told_part, Rests}
 
-below : (a : ℕ) → a % 16 < 16
+pub below : (a : ℕ) → a % 16 < 16
 below a = omega arith
 
 -- the numbers stay in range
@@ -90,6 +91,10 @@ module _ (miu window : ℕ) (range : IsMiu miu) (few : IsWindow window) where
   pub says : SaidSo (own_params miu window)
   says = said_by (miu == 128) (window == 1) refl refl
 
+-- the server is bound to its SAP, and the client's MIU on the link is one that can be said
+abbrev pub IsReached : PeerState → Type 0
+IsReached p = (is_bound server_sap p.bound ≡ true) × (least_miu ≤ p.far_miu)
+
 module _ (limit : ℕ) (table : List Offer) (conv : ℕ → ℕ → Conversation) where
   -- Both have the connection, and the conversation stands so.
   pub record Joined (job : Job) (l : EndState) (p : PeerState) : Type 0 where
@@ -100,7 +105,7 @@ module _ (limit : ℕ) (table : List Offer) (conv : ℕ → ℕ → Conversation
     pub phase : (conv n.server_miu n.client_miu).Phase
     pub base_fair : IsFair base
     pub far_fair : IsFair far
-    pub bound : is_bound server_sap far.bound ≡ true
+    pub bound : IsReached far
     pub paired : IsPaired n (length ((conv n.server_miu n.client_miu).queue_at phase))
     pub holds : (conv n.server_miu n.client_miu).Holds phase
     pub l_is : l ≡ client_open base n ((conv n.server_miu n.client_miu).queue_at phase) ((conv n.server_miu n.client_miu).units_at phase)
@@ -112,7 +117,7 @@ module _ (limit : ℕ) (table : List Offer) (conv : ℕ → ℕ → Conversation
   marked_fair l h = record { miu = h.miu; window = h.window; last = omega arith }
 
   module _ (job : Job) (base : EndState) (far : PeerState) (n : Numbers) (s : ServerState)
-      (base_fair : IsFair base) (far_fair : IsFair far) (bound : is_bound server_sap far.bound ≡ true)
+      (base_fair : IsFair base) (far_fair : IsFair far) (bound : IsReached far)
       (laws : Converses limit table (conv n.server_miu n.client_miu) n.server_miu n.client_miu)
       (ph : (conv n.server_miu n.client_miu).Phase) (paired : IsPaired n (length ((conv n.server_miu n.client_miu).queue_at ph)))
       (holds : (conv n.server_miu n.client_miu).Holds ph) (j : job ≡ (conv n.server_miu n.client_miu).job_at ph)

@@ -1,5 +1,5 @@
 -- A request that begins: its connection is asked for, and the server accepts it.
-use Rattle.std.proofs.Common.{◌≡◌, ◌<◌, ◌≤◌, ◌⊎◌, nat_lt, ℕ, ◌+◌, ◌^◌, ◌==◌, Bool, true, false, List, [], ◌∷◌, ◌++◌, length, Option, Some, None, IfSome, refl, sym, ◌∙◌, ap, subst, inl, inr, arith, if◌then◌else◌}
+use Rattle.std.proofs.Common.{◌≡◌, ◌<◌, ◌≤◌, ◌⊎◌, ℕ, ◌==◌, true, false, List, [], ◌∷◌, length, Option, Some, None, refl, sym, ◌∙◌, ap, subst, inl, inr, arith, if◌then◌else◌}
 use Rattle.std.proofs.lemmas.Bool.Decides.{nat_tests}
 use Rattle.llcp_pdu.specs.declared.param.Param.{Param}
 use Rattle.llcp_pdu.specs.declared.part.Part.{Part}
@@ -10,7 +10,7 @@ use Rattle.llcp_pdu.specs.Wire.{discovery_sap}
 use Rattle.llcp_link.specs.Names.{is_bound, miu_of, name_of, named, own_params, reached, rw_of}
 use Rattle.llcp_link.specs.State.{answer}
 use Rattle.llcp_link.specs.Asking.{asked_from, request}
-use Rattle.llcp_link.specs.Taking.{accepted, accepted_at, connects_to, heard_cc, opens, steps_part}
+use Rattle.llcp_link.specs.Taking.{accepted, accepted_at, connects_to, opens, steps_part}
 use Rattle.llcp_link.specs.Giving.{acknowledges, Gave, acknowledges_own, first_of_all, gave, informs, informs_own, or_else}
 use Rattle.snep_core.specs.Accord.{IsFair, IsPaired, Numbers, PeerState, client_open, server_open}
 use Rattle.snep_core.specs.Jobs.{Begins, Job}
@@ -21,7 +21,7 @@ use Rattle.snep_core.specs.Talk.{EndState, client_sap, server_sap, silent}
 use Rattle.snep_core.proofs.AtOneSap.{found_none}
 use Rattle.snep_core.proofs.Carrying.{HopSo, IsShort}
 use Rattle.snep_core.proofs.Conversations.{Conversation, Converses, Starts}
-use Rattle.snep_core.proofs.Meets.{Joined, client_gives, says, server_gives}
+use Rattle.snep_core.proofs.Meets.{IsReached, Joined, client_gives, says, server_gives}
 use Rattle.snep_core.proofs.Served.{Serves, serves_begun}
 
 -- an end with nothing under way but these requests
@@ -70,7 +70,7 @@ module _ (limit : ℕ) (table : List Offer) (conv : ℕ → ℕ → Conversation
     pub service : ServerState
     pub base_fair : IsFair base
     pub far_fair : IsFair far
-    pub bound : is_bound server_sap far.bound ≡ true
+    pub bound : IsReached far
     pub l_is : l ≡ asking base
     pub p_is : p ≡ bare far service
     pub job_is : job ≡ Begins most bytes
@@ -85,7 +85,7 @@ module _ (limit : ℕ) (table : List Offer) (conv : ℕ → ℕ → Conversation
     pub service : ServerState
     pub base_fair : IsFair base
     pub far_fair : IsFair far
-    pub bound : is_bound server_sap far.bound ≡ true
+    pub bound : IsReached far
     pub l_is : l ≡ awaiting base
     pub p_is : p ≡ accepting far base service
     pub job_is : job ≡ Begins most bytes
@@ -167,7 +167,7 @@ module _ (limit : ℕ) (table : List Offer) (conv : ℕ → ℕ → Conversation
     abbrev pub connect_part : EndState → Part
     connect_part base = Connect server_sap client_sap (own_params base.miu base.window)
 
-    pub asks_given : (base : EndState) (far : PeerState) (s : ServerState) → IsFair base → IsFair far → is_bound server_sap far.bound ≡ true → job ≡ Begins most bytes
+    pub asks_given : (base : EndState) (far : PeerState) (s : ServerState) → IsFair base → IsFair far → IsReached far → job ≡ Begins most bytes
         → client_sap < length s.sessions → s.accepted ≡ old → s.limit ≡ limit → s.table ≡ table
         → IsShort (connect_part base) × Awaits job (awaiting base) (steps_part serving (bare far s) (connect_part base))
     asks_given base far s f g b j seats got limit_is offers =
@@ -181,7 +181,7 @@ module _ (limit : ℕ) (table : List Offer) (conv : ℕ → ℕ → Conversation
             far_fair = g;
             bound = b;
             l_is = refl;
-            p_is = connect_taken base far s (own_params base.miu base.window) b w.1 w.0 (some_window base.window f.window.0);
+            p_is = connect_taken base far s (own_params base.miu base.window) b.0 w.1 w.0 (some_window base.window f.window.0);
             job_is = j;
             serves = serves_begun limit table s _ old (record { seats = seats; session = refl; got = got; most = limit_is; offers = offers });
           },
@@ -202,7 +202,7 @@ module _ (limit : ℕ) (table : List Offer) (conv : ℕ → ℕ → Conversation
     abbrev pub cc_part : PeerState → Part
     cc_part far = Cc client_sap server_sap (own_params far.miu far.window)
 
-    pub awaits_given : (base : EndState) (far : PeerState) (s : ServerState) → IsFair base → IsFair far → is_bound server_sap far.bound ≡ true → job ≡ Begins most bytes
+    pub awaits_given : (base : EndState) (far : PeerState) (s : ServerState) → IsFair base → IsFair far → IsReached far → job ≡ Begins most bytes
         → Serves limit table s fresh_session old
         → IsShort (cc_part far) × Joined limit table conv job (steps_part silent (awaiting base) (cc_part far)) (server_open far (new_numbers base far) s)
     awaits_given base far s f g b j serves =

@@ -1,27 +1,25 @@
 -- One PDU on a connection between a client and a peer: what the one gives, and what the other makes of it.
-use Rattle.std.proofs.Common.{◌≡◌, ◌<◌, ◌≤◌, ◌⊎◌, nat_lt, ℕ, ◌+◌, ◌-◌, ◌%◌, ◌==◌, Bool, true, false, List, [], ◌∷◌, ◌++◌, length, drop, Option, Some, None, IfSome, refl, sym, ◌∙◌, ap, subst, arith, inl, inr, if◌then◌else◌, length-append}
+use Rattle.std.proofs.Common.{◌≡◌, ◌<◌, ◌≤◌, ◌⊎◌, nat_lt, ℕ, ◌+◌, ◌-◌, ◌%◌, ◌==◌, Bool, true, false, List, [], ◌∷◌, ◌++◌, length, drop, Some, None, IfSome, refl, sym, ◌∙◌, ap, subst, arith, inl, inr, if◌then◌else◌, length-append}
 use Rattle.std.proofs.lemmas.Bool.Decides.{nat_tests}
 use Rattle.llcp_pdu.specs.declared.part.Part.{Part}
 use Rattle.llcp_pdu.specs.declared.part.Part.TheVariants.{Info, Rr}
-use Rattle.llcp_pdu.specs.Writing.{part_bytes}
-use Rattle.llcp_conn.specs.Conn.{ConnState, IsSap, acks, count_end, modulus}
+use Rattle.llcp_conn.specs.Conn.{ConnState, IsSap, count_end, modulus}
 use Rattle.llcp_link.specs.Serving.{Serving}
-use Rattle.llcp_link.specs.State.{LlcState, OwnState, conn_from, own_from}
+use Rattle.llcp_link.specs.State.{LlcState, OwnState}
 use Rattle.llcp_link.specs.Opened.{opened}
 use Rattle.llcp_link.specs.Taking.{steps_part}
-use Rattle.llcp_link.specs.Giving.{Gave, acknowledges, acknowledges_own, acknowledges_served, first_of_all, gave, informs, informs_own, informs_served, or_else, sends}
-use Rattle.snep_core.specs.Accord.{IsPaired, Numbers, client_conn, client_open, is_some_of, server_conn}
+use Rattle.llcp_link.specs.Giving.{acknowledges, acknowledges_own, acknowledges_served, first_of_all, gave, informs, informs_own, informs_served, or_else, sends}
+use Rattle.snep_core.specs.Accord.{Numbers, client_conn, client_open, is_some_of, server_conn}
 use Rattle.snep_core.specs.Talk.{EndState, client_sap, server_sap, silent}
 use Rattle.snep_core.proofs.AtOneSap.{found_at}
-use Rattle.snep_core.proofs.Carrying.{IsShort}
 
-not_lt : (m n : ℕ) → n ≤ m → nat_lt m n ≡ false
+pub not_lt : (m n : ℕ) → n ≤ m → nat_lt m n ≡ false
 not_lt m n h = grind (arith, nat_tests)
 
 same : (m : ℕ) → (m == m) ≡ true
 same m = grind (arith, nat_tests)
 
-drop_all : (xs : List (List ℕ)) → drop (length xs) xs ≡ []
+pub drop_all : (xs : List (List ℕ)) → drop (length xs) xs ≡ []
 drop_all [] = refl
 drop_all (x ∷ xs) = drop_all xs
 
@@ -116,7 +114,7 @@ module _ (l : EndState) (n : Numbers) (units : List (List ℕ)) (mark : IfSome l
       (acknowledges (asking_end l (record (client_conn n []) { owed = b }) units) client_sap) ≡ None) (sym (ap is_some_of e)) refl
 
 -- numbers modulo 16
-right : (a k : ℕ) → a < 16 → k ≤ 15 → ((a + k) % 16 + 16 - a) % 16 ≡ k
+pub right : (a k : ℕ) → a < 16 → k ≤ 15 → ((a + k) % 16 + 16 - a) % 16 ≡ k
 right a k h i = omega arith
 
 counted : (a k : ℕ) → ((a + k) % 16 + 1) % 16 ≡ (a + (k + 1)) % 16

@@ -1,8 +1,8 @@
 -- An end with this project's server is a peer, and accords with its client whatever its table for get is.
-use Rattle.std.proofs.Common.{◌≡◌, ◌⊎◌, ℕ, List, [], ◌++◌, refl, sym, ◌∙◌, ap, subst, inl, inr, append-nil}
+use Rattle.std.proofs.Common.{◌⊎◌, ℕ, List, [], refl, sym, ap, inl, inr, append-nil}
 use Rattle.llcp_link.specs.Taking.{brought, steps, taken_from}
-use Rattle.llcp_link.specs.Answering.{Answers, Stops}
-use Rattle.snep_core.specs.Accord.{Accords, IsApart, IsJoined, IsPeer, PeerState, PeerStops, PeersServe, OffersAccord}
+use Rattle.llcp_link.specs.Answering.{Stops}
+use Rattle.snep_core.specs.Accord.{IsApart, IsJoined, PeerState, PeerStops, PeersServe, OffersAccord}
 use Rattle.snep_core.specs.Server.{serving}
 use Rattle.snep_core.specs.Session.{Offer}
 use Rattle.snep_core.proofs.CutOff.{giving_same, left_same}
@@ -34,7 +34,7 @@ pub offers_accord : OffersAccord
 offers_accord client peer table a = record {
   client_fair = a.client_fair;
   peer_fair = record { miu = a.peer_fair.miu; window = a.peer_fair.window; last = a.peer_fair.last };
-  peer_serving = record { seats = a.peer_serving.seats; bound = a.peer_serving.bound };
+  peer_serving = record { seats = a.peer_serving.seats; bound = a.peer_serving.bound; far_miu = a.peer_serving.far_miu };
   stands = go a.stands;
 }
   where

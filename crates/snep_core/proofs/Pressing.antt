@@ -1,22 +1,20 @@
 -- Each exchange of a client and a peer gives the client something, until its request is answered.
-use Rattle.std.proofs.Common.{◌≡◌, ◌<◌, ◌≤◌, ◌⊎◌, nat_lt, ℕ, suc, ◌+◌, ◌%◌, ◌==◌, ◌&&◌, ◌||◌, not, Bool, true, false, List, [], ◌∷◌, ◌++◌, length, Option, Some, None, refl, sym, ◌∙◌, ap, subst, inl, inr, arith, if◌then◌else◌}
+use Rattle.std.proofs.Common.{◌≡◌, ◌<◌, ◌≤◌, ◌⊎◌, nat_lt, ℕ, ◌+◌, ◌%◌, ◌==◌, ◌||◌, not, Bool, true, false, List, [], ◌∷◌, ◌++◌, length, Option, Some, None, refl, sym, ◌∙◌, ap, subst, inl, inr, arith}
 use Rattle.std.proofs.lemmas.Bool.{lt-ltb}
 use Rattle.std.proofs.lemmas.Bool.Decides.{nat_tests}
 use Rattle.llcp_pdu.specs.declared.part.Part.TheVariants.{Rr}
 use Rattle.llcp_conn.specs.Conn.{count_end, modulus}
-use Rattle.llcp_link.specs.State.{LlcState}
 use Rattle.llcp_link.specs.Giving.{Gave, after_giving, gave, given}
 use Rattle.llcp_link.specs.Taking.{steps_part, taken_from}
-use Rattle.snep_core.specs.Accord.{Numbers, PeerState, client_open, server_open}
+use Rattle.snep_core.specs.Accord.{PeerState, client_open, server_open}
 use Rattle.snep_core.specs.Jobs.{Job, has_byte}
 use Rattle.snep_core.specs.Server.{Received, ServerState, serving}
 use Rattle.snep_core.specs.Session.{Offer}
 use Rattle.snep_core.specs.Talk.{EndState, client_sap, gave_something, own_of, server_sap, silent, units_of}
-use Rattle.snep_core.specs.declared.silent.NoService.{NoService}
 use Rattle.snep_core.proofs.Carrying.{FirstSo, HopSo, IsShort, handed_first}
-use Rattle.snep_core.proofs.Conversations.{Conversation, Converses, StandsAt, Tells}
+use Rattle.snep_core.proofs.Conversations.{Conversation, Converses, Tells}
 use Rattle.snep_core.proofs.Meets.{Joined, asks_short, client_ack_short, joined_asks, joined_client_acks, joined_server_acks, joined_tells, server_ack_short, server_gives, tells_short}
-use Rattle.snep_core.proofs.Opening.{Asks, Awaits, Keeps, accepting, asking, asks_given, awaiting, awaiting_none, awaits_given, bare, joined_client}
+use Rattle.snep_core.proofs.Opening.{Asks, Awaits, Keeps, accepting, asking, asks_given, awaiting, awaiting_none, awaits_given, joined_client}
 use Rattle.snep_core.proofs.Pairs.{asked_part, asks, client_ack, client_acks, client_none, client_unit, marked, server_ack, server_acks, server_none, server_unit, tells, told_part}
 
 -- there is one in these

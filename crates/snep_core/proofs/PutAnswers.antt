@@ -1,5 +1,5 @@
 -- What a server answers a put, what the client makes of it, and what the client submits.
-use Rattle.std.proofs.Common.{◌≡◌, ◌<◌, ◌≤◌, ◌⊎◌, nat_lt, ℕ, zero, suc, ◌+◌, ◌^◌, is_none, Bool, true, false, List, [], ◌∷◌, ◌++◌, length, take, drop, Option, Some, None, refl, sym, ◌∙◌, ap, subst, inl, inr, arith, append-nil, append_assoc, length-append, if◌then◌else◌}
+use Rattle.std.proofs.Common.{◌≡◌, ◌<◌, ◌≤◌, ◌⊎◌, nat_lt, ℕ, zero, suc, ◌+◌, ◌^◌, is_none, Bool, true, false, List, [], ◌∷◌, ◌++◌, length, take, drop, Some, None, refl, sym, ◌∙◌, ap, subst, inl, inr, arith, append-nil, append_assoc, length-append, if◌then◌else◌}
 use Rattle.std.specs.List.{concat}
 use Rattle.std.proofs.lemmas.Bool.{ltb-true}
 use Rattle.std.proofs.lemmas.Bool.Decides.{nat_tests}
@@ -16,7 +16,7 @@ use Rattle.snep_core.specs.declared.job.Refusal.TheVariants as refusals
 use Rattle.snep_core.specs.Cuts.{NoneEmpty, put_of}
 use Rattle.snep_core.specs.First.{info_of}
 use Rattle.snep_core.specs.Accord.{IsPaired, Numbers, client_open}
-use Rattle.snep_core.specs.Jobs.{Begins, Done, Job, Over, Refused, Sends, Waits, told_all}
+use Rattle.snep_core.specs.Jobs.{Begins, Over, Refused, Sends, told_all}
 use Rattle.snep_core.specs.Message.{message}
 use Rattle.snep_core.specs.Server.{Received, ServerState, serving}
 use Rattle.snep_core.specs.Session.{Offer, Sent, Session, fresh_session, sent}

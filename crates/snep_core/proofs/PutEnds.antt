@@ -1,5 +1,5 @@
 -- What a put comes to at a peer that its client accords with.
-use Rattle.std.proofs.Common.{◌≡◌, ◌<◌, ◌≤◌, ◌⊎◌, ℕ, ◌^◌, List, [], ◌∷◌, ◌++◌, length, Option, Some, None, refl, sym, ◌∙◌, ap, subst, inl, inr, arith}
+use Rattle.std.proofs.Common.{◌≡◌, ◌<◌, ◌≤◌, ◌⊎◌, ℕ, ◌^◌, List, [], ◌∷◌, ◌++◌, length, None, refl, sym, ◌∙◌, ap, subst, inl, inr, arith}
 use Rattle.nfc_base.specs.declared.carrier.EndCause.{EndCause}
 use Rattle.nfc_base.specs.declared.carrier.EndCause.TheVariants as cause
 use Rattle.nfc_base.specs.Links.{CarrierView, FarStep}
@@ -11,7 +11,7 @@ use Rattle.snep_core.specs.Calling.{IsRefused, RequestFails, Talks, fault_of, re
 use Rattle.snep_core.specs.Cuts.{put_of}
 use Rattle.snep_core.specs.Jobs.{Begins, Done, Ending, Job, Over, Refused}
 use Rattle.snep_core.specs.Server.{Received}
-use Rattle.snep_core.specs.Session.{Offer, fresh_session}
+use Rattle.snep_core.specs.Session.{Offer}
 use Rattle.snep_core.specs.Talk.{EndState, Ends, GivesUp, OnSap, Puts, Step, alone, begins, behind_first, client_sap, connected}
 use Rattle.snep_core.proofs.Conversations.{Conversation}
 use Rattle.snep_core.proofs.Ends.{At, accord_begins, accepted_is, accords_again, breaks_off, came, limit_is, table_is}

@@ -1,25 +1,23 @@
 -- A put of a client at a server that awaits a request: where the two stand, unit by unit.
-use Rattle.std.proofs.Common.{◌≡◌, ◌<◌, ◌≤◌, ◌⊎◌, nat_lt, ℕ, zero, suc, ◌+◌, ◌-◌, ◌^◌, ◌==◌, Bool, true, false, List, [], ◌∷◌, ◌++◌, length, take, drop, Option, Some, None, set, get_or, refl, sym, ◌∙◌, ap, subst, inl, inr, arith, append-nil, append_assoc, length-append, if◌then◌else◌}
+use Rattle.std.proofs.Common.{◌≡◌, ◌<◌, ◌≤◌, ◌⊎◌, nat_lt, ℕ, ◌+◌, ◌-◌, ◌^◌, ◌==◌, false, List, [], ◌∷◌, ◌++◌, length, take, drop, Some, None, refl, sym, ◌∙◌, ap, subst, inl, inr, arith, append-nil, append_assoc, length-append}
 use Rattle.std.specs.List.{concat}
 use Rattle.std.proofs.lemmas.Bool.{cases_lt, eq-eqb}
 use Rattle.std.proofs.lemmas.Bool.Decides.{nat_tests}
-use Rattle.std.proofs.lemmas.List.{length-take, length-drop, length-set, take-append-drop}
+use Rattle.std.proofs.lemmas.List.{length-take, take-append-drop}
 use Rattle.llcp_pdu.specs.General.{IsMiu}
 use Rattle.snep_core.specs.declared.message.Answer.{Answer}
 use Rattle.snep_core.specs.declared.message.Answer.TheVariants as answers
 use Rattle.snep_core.specs.declared.message.Request.TheVariants.{Put}
-use Rattle.snep_core.specs.declared.first.First.{First}
-use Rattle.snep_core.specs.declared.first.First.TheVariants.{Says, Whole, Partly}
 use Rattle.snep_core.specs.declared.session.Due.{Due}
 use Rattle.snep_core.specs.declared.session.Due.TheVariants.{Tells}
 use Rattle.snep_core.specs.declared.session.Word.TheVariants.{Answers}
 use Rattle.snep_core.specs.declared.job.Refusal.TheVariants as refusals
 use Rattle.snep_core.specs.Cuts.{NoneEmpty, put_of}
-use Rattle.snep_core.specs.First.{by_code, first_of, info_of}
-use Rattle.snep_core.specs.Jobs.{Begins, Done, Job, Over, Refused, Sends, Waits}
-use Rattle.snep_core.specs.Message.{message, put_code}
+use Rattle.snep_core.specs.First.{info_of}
+use Rattle.snep_core.specs.Jobs.{Begins, Done, Job, Over, Refused, Sends}
+use Rattle.snep_core.specs.Message.{message}
 use Rattle.snep_core.specs.Server.{Received, ServerState, serving}
-use Rattle.snep_core.specs.Session.{Gathering, Offer, Session, first_did, fresh_session, later_did}
+use Rattle.snep_core.specs.Session.{Offer, Session, first_did, fresh_session, later_did}
 use Rattle.snep_core.specs.Talk.{behind_first, client_sap}
 use Rattle.snep_core.proofs.Cuts as cuts
 use Rattle.snep_core.proofs.Conversations.{AllWithin, Comes, Conversation}

@@ -1,5 +1,5 @@
 -- What an end's calls do to its server's session for the client.
-use Rattle.std.proofs.Common.{◌≡◌, ◌<◌, ℕ, zero, suc, List, [], ◌∷◌, ◌++◌, length, Option, set, get_or, refl, sym, ◌∙◌, ap, subst, arith}
+use Rattle.std.proofs.Common.{◌≡◌, ◌<◌, ℕ, zero, suc, List, [], ◌∷◌, ◌++◌, length, set, get_or, refl, sym, ◌∙◌, ap, subst, arith}
 use Rattle.std.proofs.lemmas.List.{length-set}
 use Rattle.snep_core.specs.Server.{Received, ServerState, brought_by, received, serving, session_of, with_session}
 use Rattle.snep_core.specs.Session.{Did, Offer, Sent, Session, did, fresh_session, sent}

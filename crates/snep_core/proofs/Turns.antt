@@ -1,14 +1,14 @@
 -- A call over a peer, turn by turn, from its begin to its end.
-use Rattle.std.proofs.Common.{◌≡◌, ◌<◌, ◌≤◌, ◌⊎◌, nat_lt, ℕ, suc, ◌+◌, ◌&&◌, ◌||◌, not, Bool, true, false, List, [], ◌∷◌, ◌++◌, length, Option, Some, None, refl, sym, ◌∙◌, ap, subst, inl, inr, arith, if◌then◌else◌}
+use Rattle.std.proofs.Common.{◌≡◌, ◌⊎◌, ℕ, ◌&&◌, ◌||◌, not, Bool, true, false, List, [], ◌∷◌, length, Option, Some, None, refl, sym, ◌∙◌, ap, subst, inl, inr, if◌then◌else◌}
 use Rattle.nfc_base.specs.Links.{FarMoved, FarStep, Stepped, Stopped}
-use Rattle.llcp_link.specs.Taking.{brought, steps, taken_from}
+use Rattle.llcp_link.specs.Taking.{taken_from}
 use Rattle.llcp_link.specs.Giving.{after_giving, given}
 use Rattle.llcp_link.proofs.Ranged.{either}
 use Rattle.snep_core.specs.Accord.{IsPaired, IsPeer, PeerState, PeerSteps, client_open}
-use Rattle.snep_core.specs.Jobs.{Begins, Job, has_byte}
+use Rattle.snep_core.specs.Jobs.{Job, has_byte}
 use Rattle.snep_core.specs.Server.{Received, serving}
 use Rattle.snep_core.specs.Session.{Offer}
-use Rattle.snep_core.specs.Talk.{EndState, Ends, GivesUp, Goes, IsMost, Ready, Step, Told, Working, all_over, alone, client_sap, emptied, finished, gave_something, goes_on, heard, heard_so, idle_after, is_over, most_idle, needs, own_of, payload, readied, ready_so, replied, settled, silent, units_of}
+use Rattle.snep_core.specs.Talk.{EndState, Ends, GivesUp, Goes, IsMost, Ready, Step, Told, Working, all_over, alone, client_sap, emptied, finished, gave_something, heard, heard_so, idle_after, is_over, needs, own_of, payload, readied, replied, settled, silent, units_of}
 use Rattle.snep_core.proofs.Carrying.{Handed, handed}
 use Rattle.snep_core.proofs.Conversations.{Conversation}
 use Rattle.snep_core.proofs.Meets.{Joined}

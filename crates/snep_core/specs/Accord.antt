@@ -1,7 +1,8 @@
 -- A far end that serves as this project's server does, and what a client's end and such a far end come to between calls.
 use Rattle.std.specs.Prelude.{◌≡◌, ◌<◌, ◌≤◌, ◌⊎◌, ℕ, ◌+◌, ◌%◌, Bool, true, false, List, [], ◌∷◌, ◌++◌, length, IfSome}
 use Rattle.llcp_pdu.specs.General.{IsMiu}
-use Rattle.llcp_conn.specs.Conn.{ConnState, IsSap, IsWindow, modulus, most_window}
+use Rattle.llcp_pdu.specs.Wire.{least_miu}
+use Rattle.llcp_conn.specs.Conn.{ConnState, IsSap, IsWindow, modulus}
 use Rattle.llcp_link.specs.State.{LlcState, OwnState, restarted}
 use Rattle.llcp_link.specs.Opened.{opened}
 use Rattle.llcp_link.specs.Asking.{is_there}
@@ -147,10 +148,11 @@ pub record IsFair {S : Type 0} (l : LlcState S) : Type 0 where
   pub window : IsWindow l.window
   pub last : IfSome l.last IsSap
 
--- a peer has a session for the client, and its server is bound to its SAP
+-- a peer has a session for the client, its server is bound to its SAP, and the client's MIU on the link is one that can be said
 pub record IsServing (peer : PeerState) : Type 0 where
   pub seats : client_sap < length peer.service.sessions
   pub bound : is_bound server_sap peer.bound ≡ true
+  pub far_miu : least_miu ≤ peer.far_miu
 
 -- What a client's end and a peer come to between calls.
 pub record Accords (client : EndState) (peer : PeerState) : Type 0 where
