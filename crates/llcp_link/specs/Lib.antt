@@ -23,3 +23,4 @@ pub mod OwnGiving
 pub mod Owns
 pub mod Closing
 pub mod Waning
+pub mod Opened

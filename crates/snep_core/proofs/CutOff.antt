@@ -26,7 +26,7 @@ taking_adds l is =
     (λ s c u h. front_more (Accepted l) s.accepted (received c (did s.limit s.table (session_of s c) u).accepts) h) l is (same_front (Accepted l) (Accepted l) refl)
 
 -- want of memory leaves what was accepted
-left_same : (old new : ServerState) → Leaves serving old new → new.accepted ≡ old.accepted
+pub left_same : (old new : ServerState) → Leaves serving old new → new.accepted ≡ old.accepted
 left_same old new (inl e) = subst (λ z. z.accepted ≡ old.accepted) (sym e) refl
 left_same old new (inr k) = k.accepted
 
@@ -43,7 +43,7 @@ module _ (xs : List Received) where
       go (Some x) a b = subst IsSame (sym b) a
 
   -- what is given adds nothing
-  giving_same : (l new : LlcState ServerState) → IsSame l.service → IsStuckGiving serving l new → IsSame new.service
+  pub giving_same : (l new : LlcState ServerState) → IsSame l.service → IsStuckGiving serving l new → IsSame new.service
   giving_same l new h k = next_same k.halts.front new.service (front_same k.halts.is_front) k.halts.service
     where
       front_same : (k.halts.front ≡ l) ⊎ ((n : ℕ) × IsAllowed serving l n × (k.halts.front ≡ (given_parts serving n l).llc)) → IsSame k.halts.front.service

@@ -16,12 +16,12 @@ not_lt : (m n : ℕ) → n ≤ m → nat_lt m n ≡ false
 not_lt m n h = grind (arith, nat_tests)
 
 -- a list of at least 6 bytes that begins a put
-record Begins (m u : List ℕ) (rest : List ℕ) : Type 0 where
+pub record Begins (m u : List ℕ) (rest : List ℕ) : Type 0 where
   pub info : List ℕ
   pub is : u ≡ 16 ∷ 2 ∷ (length m / 16777216) ∷ (length m / 65536 % 256) ∷ (length m / 256 % 256) ∷ (length m % 256) ∷ info
   pub message : m ≡ info ++ rest
 
-begins : (m u rest : List ℕ) → 6 ≤ length u → put_of m ≡ u ++ rest → Begins m u rest
+pub begins : (m u rest : List ℕ) → 6 ≤ length u → put_of m ≡ u ++ rest → Begins m u rest
 begins m [] rest h e = absurd (omega arith)
 begins m (a ∷ []) rest h e = absurd (omega arith)
 begins m (a ∷ b ∷ []) rest h e = absurd (omega arith)
@@ -40,13 +40,13 @@ begins m (a ∷ b ∷ c ∷ d ∷ f ∷ g ∷ info) rest h e =
 number_is : (n : ℕ) → n < 2 ^ 32 → number (n / 16777216) (n / 65536 % 256) (n / 256 % 256) (n % 256) ≡ n
 number_is n h = omega arith
 
-record FirstOf (limit : ℕ) (m u info : List ℕ) : Type 0 where
+pub record FirstOf (limit : ℕ) (m u info : List ℕ) : Type 0 where
   pub is_put : IsPut u
   pub length_is : length_of u ≡ length m
   pub info_is : info_of u ≡ info
   pub first : first_of limit u ≡ by_code limit put_code (length m) (length info)
 
-first_is : (limit : ℕ) (m u rest : List ℕ) → length m < 2 ^ 32 → (b : Begins m u rest) → FirstOf limit m u b.info
+pub first_is : (limit : ℕ) (m u rest : List ℕ) → length m < 2 ^ 32 → (b : Begins m u rest) → FirstOf limit m u b.info
 first_is limit m u rest h b = rw b.is (record {
   is_put = (refl, refl);
   length_is = number_is (length m) h;
@@ -54,15 +54,15 @@ first_is limit m u rest h b = rw b.is (record {
   first = rw (number_is (length m) h) refl;
 })
 
-partly_is : (limit n : ℕ) (info : List ℕ) → n ≤ limit → length info < n → by_code limit put_code n (length info) ≡ Partly Put (n - length info)
+pub partly_is : (limit n : ℕ) (info : List ℕ) → n ≤ limit → length info < n → by_code limit put_code n (length info) ≡ Partly Put (n - length info)
 partly_is limit n info h k =
     let e : (n == length info) ≡ false = grind (arith, nat_tests) in
     rw (not_lt limit n h, not_lt n (length info) (omega arith), e) refl
 
-whole_is : (limit n : ℕ) (info : List ℕ) → n ≡ length info → n ≤ limit → by_code limit put_code n (length info) ≡ Whole Put
+pub whole_is : (limit n : ℕ) (info : List ℕ) → n ≡ length info → n ≤ limit → by_code limit put_code n (length info) ≡ Whole Put
 whole_is limit n info e h = rw (not_lt limit n h, not_lt n (length info) (omega arith), eq-eqb n (length info) e) refl
 
-over_is : (limit n : ℕ) (info : List ℕ) → limit < n → by_code limit put_code n (length info) ≡ Says answers.Reject
+pub over_is : (limit n : ℕ) (info : List ℕ) → limit < n → by_code limit put_code n (length info) ≡ Says answers.Reject
 over_is limit n info h = rw (lt-ltb limit n h) refl
 
 -- later units that aren't empty reach the length with the last alone

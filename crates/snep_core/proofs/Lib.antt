@@ -18,3 +18,17 @@ pub mod Connecting
 pub mod Cutting
 pub mod Talking
 pub mod Falling
+pub mod AtOneSap
+pub mod Carrying
+pub mod Pairs
+pub mod Served
+pub mod Conversations
+pub mod Meets
+pub mod Opening
+pub mod Pressing
+pub mod Turns
+pub mod Ends
+pub mod PutPhases
+pub mod PutAnswers
+pub mod PutEnds
+pub mod Peers

@@ -12,3 +12,4 @@ pub mod Listening
 pub mod Calling
 pub mod Numbers
 pub mod Waning
+pub mod Accord

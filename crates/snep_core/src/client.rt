@@ -2,6 +2,7 @@
 
 ghost use Rattle.std.specs.Prelude.{◌≡◌, ◌≤◌, [], length, true, false, IfOk, IfErr, OnOk};
 ghost use Rattle.llcp_link.specs.Asking.{is_open_by};
+ghost use Rattle.snep_core.specs.Accord.{Accords, IsBegun, IsPeer, IsTaken, PeerState, PutFails};
 ghost use Rattle.snep_core.specs.Calling.{FailsBy, RequestFails, Talks, is_memory};
 ghost use Rattle.snep_core.specs.Jobs.{Done, Over, Sap, Value};
 ghost use Rattle.snep_core.specs.Talk.{Ends, Finds, Gets, Leaves, Puts, alone, begins, begun, client_sap, connected, gave_between as gave, is_waiting as awaits, own_of, stands_of};
@@ -76,7 +77,8 @@ impl Client {
     /// A client over an end that was restarted with the other end's general bytes, and asked for no connection since.
     pub fn new(alloc: Global, llc: Llc<NoService>) -> Client
         requires { llc.own ≡ [] }
-        ensures { result ≡ record { llc = llc; spent = false } }
+        ensures kept { result ≡ record { llc = llc; spent = false } }
+        ensures accords { (peer : PeerState) → IsBegun llc peer → Accords result.llc peer }
     {
         Client {
             alloc,
@@ -177,6 +179,11 @@ impl Client {
         ensures going { OnOk result ((self.old.spent ≡ false) × (self.new.spent ≡ false)) }
         ensures err { self.old.spent ≡ false → IfErr result (λ e. RequestFails C.seen C.moves A.steps A.stops
             (begins self.old.llc (Puts message.now)) carrier.old far.old e self.new.llc carrier.new far.new) }
+        // Over a far end that serves as this project's server does, and with which the client accords:
+        ensures taken { (view : A → PeerState) → IsPeer A.steps A.stops view → Accords self.old.llc (view far.old)
+            → OnOk result (IsTaken message.now (view far.old) self.new.llc (view far.new)) }
+        ensures fails { (view : A → PeerState) → IsPeer A.steps A.stops view → Accords self.old.llc (view far.old)
+            → IfErr result (λ e. PutFails message.now (view far.old) e self.new.llc (view far.new)) }
         ensures spent { IfErr result (λ e. self.new.spent ≡ is_memory e) }
         ensures stays { self.old.spent ≡ true
             → (self.new ≡ self.old) × (carrier.new ≡ carrier.old) × (far.new ≡ far.old) }

@@ -21,10 +21,13 @@ const PARAMS: LinkParams = LinkParams {
     wks: 0x13,
 };
 
-/// Hands each payload over at once, until it is over.
+/// Hands each payload over at once, until it is over. Once so many passed, the field is lost: before the far end
+/// is handed the next one, or as it answered.
 #[derive(Drop)]
 pub(crate) struct Straight {
     over: Option<EndCause>,
+    passes: u8,
+    answers: bool,
     last: Option<ArrayVec<u8, 2178>>,
     pub(crate) handed: Vec<Items<u8>>,
 }
@@ -35,8 +38,33 @@ impl Straight {
     pub(crate) fn new(alloc: Global, over: Option<EndCause>) -> Straight {
         Straight {
             over,
+            passes: 200,
+            answers: false,
             last: None,
             handed: Vec::new(alloc),
+        }
+    }
+
+    /// One that is lost behind so many payloads.
+    pub(crate) fn lost(alloc: Global, passes: u8, answers: bool) -> Straight {
+        Straight {
+            over: None,
+            passes,
+            answers,
+            last: None,
+            handed: Vec::new(alloc),
+        }
+    }
+
+    /// The field is lost.
+    fn lose(&mut self, answered: bool) -> LinkEnd
+        ensures over { self.new ≡ record self.old { over = Some EndCause.FieldLost } }
+        ensures told { result ≡ record { cause = EndCause.FieldLost; answered = answered } }
+    {
+        self.over = Some(EndCause::FieldLost);
+        LinkEnd {
+            cause: EndCause::FieldLost,
+            answered,
         }
     }
 
@@ -53,14 +81,14 @@ impl Straight {
 }
 
 impl Carrier for Straight {
-    ghost use Rattle.std.specs.Prelude.{[], false, ⊤};
+    ghost use Rattle.std.specs.Prelude.{[], false, ⊤, is_some, if◌then◌else◌};
     ghost use Rattle.std.specs.Option.{option_map};
 
     ghost seen = { λ c. record {
       over = c.over;
       dark = false;
-      counts = record { breaks = 0; six_bad = 0; odd = 0 };
-      noise = 0;
+      counts = record { breaks = if is_some c.over then 1 else 0; six_bad = 0; odd = 0 };
+      noise = if is_some c.over then 1 else 0;
       handed = c.handed.items;
       last = option_map (λ l. l.items) c.last;
     } };
@@ -86,6 +114,9 @@ impl Carrier for Straight {
         let mut sent = ArrayVec::new();
         sent.try_extend_from_slice(out).unwrap();
         self.last = Some(sent);
+        if self.passes == 0 && !self.answers {
+            return Err(self.lose(false));
+        }
         let Ok(payload) = Items::from_bytes(alloc, out) else {
             return Err(self.end());
         };
@@ -96,7 +127,13 @@ impl Carrier for Straight {
         let mut reply = Vec::new(alloc);
         match far.answer(alloc, out, &mut reply) {
             Err(_) => Err(self.end()),
-            Ok(()) => Ok(reply),
+            Ok(()) => {
+                if self.passes == 0 {
+                    return Err(self.lose(true));
+                }
+                self.passes -= 1;
+                Ok(reply)
+            }
         }
     }
 

@@ -1,5 +1,6 @@
 //! What the units of a connection put, whatever a server does with them; and what a server accepts, by the payloads alone.
 
+ghost use Rattle.snep_core.specs.Accord.{OffersAccord, PeersServe};
 ghost use Rattle.snep_core.specs.Puts.{PutsOne};
 ghost use Rattle.snep_core.specs.Cuts.{FrontsPut, LastPut};
 ghost use Rattle.snep_core.specs.Links.{LinkLaw};
@@ -41,4 +42,14 @@ pub fn in_order()
 /// accepted since is the first of what the whole step would accept.
 pub fn cut_off()
     ensures { CutOffAccepts }
+{}
+
+/// An end with a server of this project is a far end of the kind that the calls of a client speak of.
+pub fn peer()
+    ensures { PeersServe }
+{}
+
+/// What is offered for get between two calls of a client changes nothing of how the two stand.
+pub fn any_table()
+    ensures { OffersAccord }
 {}

@@ -22,7 +22,7 @@ mod turning;
 
 pub use client::Client;
 pub use fault::SnepFault;
-pub use law::{cut_off, fronts, in_order, last_put, link, one_list, payloads};
+pub use law::{any_table, cut_off, fronts, in_order, last_put, link, one_list, payloads, peer};
 pub use server::Server;
 pub use silent::NoService;
 

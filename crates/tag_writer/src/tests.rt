@@ -204,7 +204,6 @@ pub fn write_t2(
     link: &mut MemLink<T2Tag>,
     message: &[u8],
 ) -> Result<(), WriteFault> {
-    let _shape = link.card.store();
     write(alloc, link, How::T2, message)
 }
 
@@ -259,6 +258,16 @@ pub const ID: [u8; 8] = [0xE0, 4, 1, 2, 3, 4, 5, 6];
 pub fn left_t2(alloc: Global, link: &mut MemLink<T2Tag>) -> Result<Vec<u8>, Fail> {
     link.light();
     let found = read(alloc, link, How::T2)?;
+    Ok(found.message.into_vec())
+}
+
+/// The same of a Type 5 tag.
+pub fn left_t5(alloc: Global, link: &mut MemLink<Awake>, id: [u8; 8]) -> Result<Vec<u8>, Fail>
+    requires { link.old.card.tag.id ≡ id }
+{
+    link.light();
+    let _shape = link.card.tag.store();
+    let found = read(alloc, link, How::T5(id))?;
     Ok(found.message.into_vec())
 }
 

@@ -1,7 +1,9 @@
-use Rattle.std.proofs.Common.{List, ℕ, None, refl, subst, inl, inr}
+use Rattle.std.proofs.Common.{rules, ◌≡◌, false, List, ℕ, None, refl, sym, subst, inl, inr}
+use Rattle.snep_core.specs.Accord.{PutFails}
 use Rattle.snep_core.specs.Calling.{FailsBy, Talks}
 use Rattle.snep_core.specs.Jobs.{Begins, Done, Ending, Over, Refused}
 use Rattle.snep_core.specs.Talk.{Ends, Puts, alone, begins, begun, client_sap, connected, put_bytes}
+use Rattle.snep_core.proofs.PutEnds.{put_fails, put_taken}
 use Rattle.snep_core.proofs.Talking.{talks_none}
 use Rattle.snep_core.proofs.client.Client.put.Goals as goal
 
@@ -44,3 +46,24 @@ returns-in-Ok-Refused-clause-err g c =
           (begun (connected c.args.self.now.llc client_sap) (Begins None b)) c.args.carrier.now c.args.far.now
           (Ends (alone (Over (Refused c.in-Ok-Refused.refusal))) c.ask.new.self.llc) c.ask.new.carrier c.ask.new.far) c.in-Ok.ensures t;
     })
+
+pub returns-in-Err-clause-fails : goal.returns-in-Err-clause-fails
+returns-in-Err-clause-fails g c = λ view peer a.
+    subst (λ f. PutFails c.args.message.now (view c.args.far.now) f c.spend.new.self.llc (view c.args.far.now)) (sym c.spend.ensures.fault) (inl refl)
+
+pub returns-in-Err-ask-clause-fails : goal.returns-in-Err-ask-clause-fails
+returns-in-Err-ask-clause-fails g c = λ view peer a.
+    let going : c.args.self.now.spent ≡ false = search rules in
+    put_fails g.C.Carrier.seen g.C.Carrier.moves g.A.Answerer.steps g.A.Answerer.stops view peer c.args.message.now c.requires.message c.args.self.now.llc
+    c.args.carrier.now c.args.far.now a c.in-Err-ask.fault c.ask.new.self.llc c.ask.new.carrier c.ask.new.far (returns-in-Err-ask-clause-err g c going)
+
+pub returns-in-Ok-Done-clause-taken : goal.returns-in-Ok-Done-clause-taken
+returns-in-Ok-Done-clause-taken g c = λ view peer a.
+    put_taken g.C.Carrier.seen g.C.Carrier.moves g.A.Answerer.steps g.A.Answerer.stops view peer c.args.message.now c.requires.message c.args.self.now.llc
+    c.args.carrier.now c.args.far.now a c.ask.new.self.llc c.ask.new.carrier c.ask.new.far (returns-in-Ok-Done-clause-ok g c)
+
+pub returns-in-Ok-Refused-clause-fails : goal.returns-in-Ok-Refused-clause-fails
+returns-in-Ok-Refused-clause-fails g c = λ view peer a.
+    let going : c.args.self.now.spent ≡ false = search rules in
+    put_fails g.C.Carrier.seen g.C.Carrier.moves g.A.Answerer.steps g.A.Answerer.stops view peer c.args.message.now c.requires.message c.args.self.now.llc
+    c.args.carrier.now c.args.far.now a c.fault.result c.ask.new.self.llc c.ask.new.carrier c.ask.new.far (returns-in-Ok-Refused-clause-err g c going)

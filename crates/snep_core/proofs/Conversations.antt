@@ -1,0 +1,94 @@
+-- One request on a connection, unit by unit: where the two ends stand, and how they come from one phase to another.
+use Rattle.std.proofs.Common.{◌≡◌, ◌<◌, ◌≤◌, ◌⊎◌, false, ℕ, List, [], ◌∷◌, ◌++◌, length, Option, Some, None}
+use Rattle.snep_core.specs.Accord.{IsPaired, Numbers, client_open}
+use Rattle.snep_core.specs.Jobs.{Job, told_all}
+use Rattle.snep_core.specs.Server.{Received, ServerState, serving}
+use Rattle.snep_core.specs.Session.{Offer, Session, fresh_session}
+use Rattle.snep_core.specs.Talk.{EndState, client_sap, finished, is_over, readied, ready_so}
+use Rattle.snep_core.proofs.Served.{Serves}
+
+-- Phases, and at each: the client's job, the units that it is still to give, and those that it heard and didn't take up; the server's
+-- session, and what is accepted; and what is true there.
+pub record Conversation : Type 1 where
+  pub Phase : Type 0
+  pub job_at : Phase → Job
+  pub queue_at : Phase → List (List ℕ)
+  pub units_at : Phase → List (List ℕ)
+  pub session_at : Phase → Session
+  pub accepted_at : Phase → List Received
+  pub Holds : Phase → Type 0
+
+abbrev pub AllWithin : ℕ → List (List ℕ) → Type 0
+AllWithin miu [] = Unit {0}
+AllWithin miu (u ∷ us) = (length u ≤ miu) × AllWithin miu us
+
+module _ (limit : ℕ) (table : List Offer) (c : Conversation) where
+  -- the server stands so
+  abbrev pub StandsAt : c.Phase → ServerState → Type 0
+  StandsAt ph s = Serves limit table s (c.session_at ph) (c.accepted_at ph)
+
+  -- A unit came, and the server stands elsewhere.
+  pub record Comes (from : c.Phase) (queue units : List (List ℕ)) (s : ServerState) : Type 0 where
+    pub to : c.Phase
+    pub holds : c.Holds to
+    pub job : c.job_at to ≡ c.job_at from
+    pub queue_is : c.queue_at to ≡ queue
+    pub units_is : c.units_at to ≡ units
+    pub serves : StandsAt to s
+
+  -- A unit that the server gives, of at most so many bytes, and where it stands then.
+  pub record Tells (size : ℕ) (from : c.Phase) (s : ServerState) : Type 0 where
+    pub unit : List ℕ
+    pub due : serving.due s client_sap size ≡ Some unit
+    pub short : length unit ≤ size
+    pub some : 0 < length unit
+    pub to : c.Phase
+    pub holds : c.Holds to
+    pub job : c.job_at to ≡ c.job_at from
+    pub queue_is : c.queue_at to ≡ c.queue_at from
+    pub units_is : c.units_at to ≡ c.units_at from ++ unit ∷ []
+    pub serves : StandsAt to (serving.sent s client_sap size)
+
+  abbrev pub MayTell : ℕ → c.Phase → ServerState → Type 0
+  MayTell size ph s = (serving.due s client_sap size ≡ None) ⊎ Tells size ph s
+
+  -- The client took up what it heard.
+  pub record Hears (from : c.Phase) : Type 0 where
+    pub to : c.Phase
+    pub holds : c.Holds to
+    pub told : told_all (c.job_at from) (c.units_at from) ≡ Some (c.job_at to)
+    pub queue_is : c.queue_at to ≡ c.queue_at from
+    pub units_is : c.units_at to ≡ []
+    pub session_is : c.session_at to ≡ c.session_at from
+    pub accepted_is : c.accepted_at to ≡ c.accepted_at from
+
+  -- The client submitted what it may. Where it is still to do nothing, and nothing of it is unacknowledged, the server has an answer.
+  pub record Readies (size : ℕ) (l : EndState) (n : Numbers) (from : c.Phase) : Type 0 where
+    pub to : c.Phase
+    pub holds : c.Holds to
+    pub paired : IsPaired n (length (c.queue_at to))
+    pub ready : readied (client_open l n (c.queue_at from) (c.units_at from)) client_sap (c.job_at from)
+        ≡ ready_so (client_open l n (c.queue_at to) (c.units_at to)) (c.job_at to)
+    pub session_is : c.session_at to ≡ c.session_at from
+    pub accepted_is : c.accepted_at to ≡ c.accepted_at from
+    pub busy : c.units_at from ≡ [] → is_over (c.job_at from) ≡ false → c.queue_at to ≡ [] → n.asked ≡ [] → (s : ServerState) → StandsAt to s → Tells size to s
+
+  -- What is true of a conversation over ends with these MIUs.
+  pub record Converses (miu size : ℕ) : Type 0 where
+    pub within : (ph : c.Phase) → c.Holds ph → AllWithin miu (c.queue_at ph)
+    pub comes : (ph : c.Phase) (u : List ℕ) (queue : List (List ℕ)) → c.queue_at ph ≡ u ∷ queue → c.Holds ph → (s : ServerState) → StandsAt ph s
+        → Comes ph queue (c.units_at ph) (serving.brought s client_sap u)
+    pub tells : (ph : c.Phase) → c.Holds ph → (s : ServerState) → StandsAt ph s → MayTell size ph s
+    pub hears : (ph : c.Phase) → c.Holds ph → Hears ph
+    pub plain : (ph : c.Phase) (l : EndState) → finished l client_sap (c.job_at ph) ≡ c.job_at ph
+    pub readies : (ph : c.Phase) → c.Holds ph → (l : EndState) (n : Numbers) → n.server_miu ≡ miu → IsPaired n (length (c.queue_at ph)) → Readies size l n ph
+
+  -- a phase at which nothing of a request is submitted
+  pub record Starts (job : Job) (old : List Received) : Type 0 where
+    pub at : c.Phase
+    pub holds : c.Holds at
+    pub job_is : c.job_at at ≡ job
+    pub queue_is : c.queue_at at ≡ []
+    pub units_is : c.units_at at ≡ []
+    pub session_is : c.session_at at ≡ fresh_session
+    pub accepted_is : c.accepted_at at ≡ old

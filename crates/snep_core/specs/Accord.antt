@@ -1,0 +1,222 @@
+-- A far end that serves as this project's server does, and what a client's end and such a far end come to between calls.
+use Rattle.std.specs.Prelude.{◌≡◌, ◌<◌, ◌≤◌, ◌⊎◌, ℕ, ◌+◌, ◌%◌, Bool, true, false, List, [], ◌∷◌, ◌++◌, length, IfSome}
+use Rattle.llcp_pdu.specs.General.{IsMiu}
+use Rattle.llcp_conn.specs.Conn.{ConnState, IsSap, IsWindow, modulus, most_window}
+use Rattle.llcp_link.specs.State.{LlcState, OwnState, restarted}
+use Rattle.llcp_link.specs.Opened.{opened}
+use Rattle.llcp_link.specs.Asking.{is_there}
+use Rattle.llcp_link.specs.Names.{is_bound}
+use Rattle.llcp_link.specs.Taking.{Item, brought, steps, taken_from}
+use Rattle.llcp_link.specs.Giving.{given, after_giving}
+use Rattle.llcp_link.specs.Answering.{Answers, Stops}
+use Rattle.snep_core.specs.declared.fault.SnepFault.{SnepFault}
+use Rattle.snep_core.specs.declared.fault.SnepFault.TheVariants.{BadPeer, Excess, LinkEnded, Memory, NotFound, NotImplemented, Reject}
+use Rattle.snep_core.specs.Server.{Received, ServerState, serving, session_of}
+use Rattle.snep_core.specs.Session.{Offer, fresh_session}
+use Rattle.snep_core.specs.Talk.{EndState, client_sap, server_sap, silent}
+
+abbrev pub PeerState : Type 0
+PeerState = LlcState ServerState
+
+-- A step: the payload is taken by the server's table, and the reply has some number of PDUs.
+pub record PeerSteps (old : PeerState) (payload reply : List ℕ) (new : PeerState) : Type 0 where
+  pub count : ℕ
+  pub reply_is : reply ≡ given serving count (taken_from serving old payload)
+  pub left : new ≡ after_giving serving count (taken_from serving old payload)
+
+-- A step that want of memory left unfinished: what is accepted is what some first of the payload's PDUs bring.
+pub record PeerStops (old : PeerState) (payload : List ℕ) (new : PeerState) : Type 0 where
+  pub front : List Item
+  pub behind : List Item
+  pub split : brought old payload ≡ front ++ behind
+  pub accepted : new.service.accepted ≡ (steps serving old front).service.accepted
+
+-- In this view a far end is a peer: its steps are those of an end with a server.
+pub record IsPeer {A : Type 0} (steps : A → List ℕ → List ℕ → A → Type 0) (stops : A → List ℕ → A → Type 0) (view : A → PeerState) : Type 0 where
+  pub steps_so : (a : A) (payload reply : List ℕ) (b : A) → steps a payload reply b → PeerSteps (view a) payload reply (view b)
+  pub stops_so : (a : A) (payload : List ℕ) (b : A) → stops a payload b → PeerStops (view a) payload (view b)
+
+-- A connection between them, on which no PDU is on the way: what each end takes in a unit, and how many units; the client's units that
+-- the server took and didn't acknowledge, and the server's that the client took and didn't; the numbers of those before them, and
+-- how many of these there were.
+pub record Numbers : Type 0 where
+  pub client_miu : ℕ
+  pub client_window : ℕ
+  pub server_miu : ℕ
+  pub server_window : ℕ
+  pub asked : List (List ℕ)
+  pub told : List (List ℕ)
+  pub asked_sa : ℕ
+  pub told_sa : ℕ
+  pub asked_count : ℕ
+  pub told_count : ℕ
+
+abbrev pub is_some_of : List (List ℕ) → Bool
+is_some_of [] = false
+is_some_of (u ∷ us) = true
+
+-- the client's end of it, with these units still to give
+abbrev pub client_conn : Numbers → List (List ℕ) → ConnState
+client_conn n queue = record {
+  here = client_sap;
+  there = server_sap;
+  near_miu = n.client_miu;
+  far_miu = n.server_miu;
+  window = n.server_window;
+  queue = queue;
+  flight = n.asked;
+  vsa = n.asked_sa;
+  vr = (n.told_sa + length n.told) % modulus;
+  vra = n.told_sa;
+  owed = is_some_of n.told;
+  held = false;
+  live = true;
+  acked = n.asked_count;
+}
+
+-- the server's end of it
+abbrev pub server_conn : Numbers → ConnState
+server_conn n = record {
+  here = server_sap;
+  there = client_sap;
+  near_miu = n.server_miu;
+  far_miu = n.client_miu;
+  window = n.client_window;
+  queue = [];
+  flight = n.told;
+  vsa = n.told_sa;
+  vr = (n.asked_sa + length n.asked) % modulus;
+  vra = n.asked_sa;
+  owed = is_some_of n.asked;
+  held = false;
+  live = true;
+  acked = n.told_count;
+}
+
+-- the numbers are in range, with so many units still to give
+pub record IsPaired (n : Numbers) (waiting : ℕ) : Type 0 where
+  pub client_miu : IsMiu n.client_miu
+  pub server_miu : IsMiu n.server_miu
+  pub client_window : IsWindow n.client_window
+  pub server_window : IsWindow n.server_window
+  pub asked : length n.asked + waiting ≤ n.server_window
+  pub told : length n.told ≤ n.client_window
+  pub asked_sa : n.asked_sa < modulus
+  pub told_sa : n.told_sa < modulus
+
+-- the ends with this connection, and nothing else under way
+abbrev pub client_open : EndState → Numbers → List (List ℕ) → List (List ℕ) → EndState
+client_open l n queue units = record l {
+  readable = true;
+  queue = [];
+  served = [];
+  own = opened client_sap server_sap (client_conn n queue) units ∷ [];
+}
+
+abbrev pub server_open : PeerState → Numbers → ServerState → PeerState
+server_open p n s = record p { readable = true; queue = []; served = server_conn n ∷ []; own = []; service = s }
+
+-- the client has no connection, or one that is over
+abbrev pub AreOver : List OwnState → Type 0
+AreOver [] = Unit {0}
+AreOver (o ∷ []) = (o.here ≡ client_sap) × (is_there o.is ≡ false)
+AreOver (o ∷ p ∷ os) = ⊥
+
+-- nothing is under way, and there is no connection
+pub record IsApart (client : EndState) (peer : PeerState) : Type 0 where
+  pub client_readable : client.readable ≡ true
+  pub client_queue : client.queue ≡ []
+  pub client_served : client.served ≡ []
+  pub client_own : AreOver client.own
+  pub peer_readable : peer.readable ≡ true
+  pub peer_queue : peer.queue ≡ []
+  pub peer_served : peer.served ≡ []
+  pub peer_own : peer.own ≡ []
+
+-- nothing is under way on the connection that there is, and the server awaits a request
+pub record IsJoined (client : EndState) (peer : PeerState) : Type 0 where
+  pub numbers : Numbers
+  pub paired : IsPaired numbers 0
+  pub client_is : client ≡ client_open client numbers [] []
+  pub peer_is : peer ≡ server_open peer numbers peer.service
+  pub session : session_of peer.service client_sap ≡ fresh_session
+
+-- an end's MIU, window and mark are in range
+pub record IsFair {S : Type 0} (l : LlcState S) : Type 0 where
+  pub miu : IsMiu l.miu
+  pub window : IsWindow l.window
+  pub last : IfSome l.last IsSap
+
+-- a peer has a session for the client, and its server is bound to its SAP
+pub record IsServing (peer : PeerState) : Type 0 where
+  pub seats : client_sap < length peer.service.sessions
+  pub bound : is_bound server_sap peer.bound ≡ true
+
+-- What a client's end and a peer come to between calls.
+pub record Accords (client : EndState) (peer : PeerState) : Type 0 where
+  pub client_fair : IsFair client
+  pub peer_fair : IsFair peer
+  pub peer_serving : IsServing peer
+  pub stands : IsApart client peer ⊎ IsJoined client peer
+
+-- Both ends of a link as it begins: each was restarted with general bytes of the other that it could read.
+pub record IsBegun (client : EndState) (peer : PeerState) : Type 0 where
+  pub client_before : EndState
+  pub client_general : List ℕ
+  pub client_is : client ≡ restarted silent client_before client_general
+  pub client_readable : client.readable ≡ true
+  pub client_miu : IsMiu client.miu
+  pub client_window : IsWindow client.window
+  pub peer_before : PeerState
+  pub peer_general : List ℕ
+  pub peer_is : peer ≡ restarted serving peer_before peer_general
+  pub peer_readable : peer.readable ≡ true
+  pub peer_miu : IsMiu peer.miu
+  pub peer_window : IsWindow peer.window
+  pub bound : is_bound server_sap peer.bound ≡ true
+
+-- a message that a peer accepted from the client
+abbrev pub from_client : List ℕ → Received
+from_client m = record { source = client_sap; message = m }
+
+-- A put that was told to be taken: the peer accepted its message, once, and it is within the limit.
+pub record IsTaken (m : List ℕ) (old : PeerState) (client : EndState) (new : PeerState) : Type 0 where
+  pub within : length m ≤ old.service.limit
+  pub accepted : new.service.accepted ≡ old.service.accepted ++ from_client m ∷ []
+  pub limit : new.service.limit ≡ old.service.limit
+  pub table : new.service.table ≡ old.service.table
+  pub accords : Accords client new
+
+-- A put that was rejected: its message is longer than the limit, and nothing was accepted.
+pub record IsRejected (m : List ℕ) (old : PeerState) (client : EndState) (new : PeerState) : Type 0 where
+  pub beyond : old.service.limit < length m
+  pub accepted : new.service.accepted ≡ old.service.accepted
+  pub limit : new.service.limit ≡ old.service.limit
+  pub table : new.service.table ≡ old.service.table
+  pub accords : Accords client new
+
+-- nothing was accepted, or the message once, which is within the limit
+abbrev pub AddsAtMost : List ℕ → PeerState → PeerState → Type 0
+AddsAtMost m old new =
+    (new.service.accepted ≡ old.service.accepted)
+    ⊎ ((new.service.accepted ≡ old.service.accepted ++ from_client m ∷ []) × (length m ≤ old.service.limit))
+
+-- a put that failed so
+abbrev pub PutFails : List ℕ → PeerState → SnepFault → EndState → PeerState → Type 0
+PutFails m old Reject client new = IsRejected m old client new
+PutFails m old NotFound client new = ⊥
+PutFails m old Excess client new = ⊥
+PutFails m old NotImplemented client new = ⊥
+PutFails m old (LinkEnded c) client new = AddsAtMost m old new
+PutFails m old Memory client new = AddsAtMost m old new
+PutFails m old BadPeer client new = ⊥
+
+-- An end with this project's server is a peer, as it is.
+abbrev pub PeersServe : Type 0
+PeersServe = IsPeer (Answers serving) (Stops serving) (λ (p : PeerState). p)
+
+-- A client accords with a peer whatever the peer's table for get is.
+abbrev pub OffersAccord : Type 0
+OffersAccord =
+    (client : EndState) (peer : PeerState) (table : List Offer) → Accords client peer
+    → Accords client (record peer { service = record peer.service { table = table } })
