@@ -178,6 +178,7 @@ module _ {L F : Type 0} (k : Ghosts L) (target : L → TargetState) (steps : F �
       let x : Turns a.air None (asks a.initiator out) = record {
         events = [];
         trace = sym (append-nil a.air.trace);
+        frames = tt;
         brings = ap (λ (fs : List Signal). payloads a.first (frames_of fs)) (append-nil (arrived (since a))) ∙ sym (append-nil (brought a.first (since a)));
         within = omega arith;
         notes = [];

@@ -33,7 +33,7 @@ use Rattle.dep_link.specs.Payloads.{payloads}
 use Rattle.dep_link.specs.Exchange.{initiator_does, target_does, frames_of}
 use Rattle.dep_link.specs.Answering.{answering_air}
 use Rattle.dep_link.specs.Peers.{target_use, IsAsked, reached, IsPeer}
-use Rattle.dep_link.specs.Asking.{Standing, Waits, Rests, Broken, asks, goes_by, noted, stand, due_at, dep_next, HasPeer, ExchangeTurns}
+use Rattle.dep_link.specs.Asking.{Standing, Waits, Rests, Broken, asks, goes_by, noted, stand, due_at, dep_next, HasPeer, ExchangeTurns, AreFrames}
 use Rattle.dep_link.proofs.Answered.{DidBy}
 use Rattle.dep_link.proofs.PeerTurns.{each_quiet, hears_asked}
 use Rattle.dep_link.proofs.Unbegun.{never_begins}
@@ -43,7 +43,7 @@ use Rattle.far_air.specs.FarEnds.{FarTable}
 use Rattle.far_air.specs.FarLaws.{IsFarTable, IsLinked, IsOfTable}
 use Rattle.far_air.specs.FarTurns.{QuietBut, FarTurn, FarGoing}
 use Rattle.far_air.proofs.FarTurns.{far_turns, far_goes_on}
-use Rattle.peer_air.specs.SwapTurns.{AreFrames, Stands}
+use Rattle.peer_air.specs.SwapTurns.{Stands}
 use Rattle.peer_air.proofs.Back.{behind_turn, behind_at, turn_back, quiet_but}
 
 -- A far end that replies r to whatever it is handed, and shows whether it was handed anything.
@@ -108,14 +108,7 @@ fates_later q (Request f x ∷ a) b d = fates_later (later_fates q) a b d.1
 fates_later q (Answer f x ∷ a) b d = fates_later (later_fates q) a b d.1
 fates_later q (Clash f x ∷ a) b d = fates_later (later_fates q) a b d.1
 
-pub frames_front : (a b : List Event) → AreFrames (a ++ b) → AreFrames a
-frames_front [] b d = tt
-frames_front (Reset ∷ a) b d = frames_front a b d
-frames_front (Request f x ∷ a) b d = (d.0, frames_front a b d.1)
-frames_front (Answer f x ∷ a) b d = frames_front a b d
-frames_front (Clash f x ∷ a) b d = frames_front a b d
-
-pub frames_later : (a b : List Event) → AreFrames (a ++ b) → AreFrames b
+frames_later : (a b : List Event) → AreFrames (a ++ b) → AreFrames b
 frames_later [] b d = d
 frames_later (Reset ∷ a) b d = frames_later a b d
 frames_later (Request f x ∷ a) b d = frames_later a b d.1

@@ -1,13 +1,11 @@
 -- The turns of an exchange with a peer are turns of the world with far ends.
-use Rattle.std.proofs.Common.{◌≡◌, ◌≤◌, ℕ, suc, length, arith, List, [], ◌∷◌, ◌++◌, Bool, true, false, Option, Some, None, refl, sym, ◌∙◌, ap, subst, append_assoc, append-nil}
+use Rattle.std.proofs.Common.{◌≡◌, ◌≤◌, ℕ, suc, length, arith, List, [], ◌∷◌, ◌++◌, Bool, true, false, Option, Some, None, refl, sym, ◌∙◌, ap, subst, append-nil}
 use Rattle.std.proofs.lemmas.List.{append_cancel_left}
 use Rattle.nfc_base.specs.Signal.{Signal}
 use Rattle.nfc_base.specs.StopAndWait.{delivered_of}
 use Rattle.nfc_base.specs.LinkTurns as turns
 use Rattle.nfc_base.specs.Links.{FarStep, Stepped, Stopped, FarMoved}
 use Rattle.nfc_base.specs.declared.event.Event.{Event}
-use Rattle.nfc_base.specs.declared.event.Event.TheVariants.{Request}
-use Rattle.nfc_base.specs.declared.event.Fate.TheVariants.{Pass}
 use Rattle.air_core.specs.World.{World}
 use Rattle.air_core.specs.Conversation.{Note, Going, Moment, with_events, receptions}
 use Rattle.air_core.specs.Turn.{Air, world, moment}
@@ -23,15 +21,15 @@ use Rattle.dep_link.specs.Initiator.{InitState, begun, request}
 use Rattle.dep_link.specs.Payloads.{payloads}
 use Rattle.dep_link.specs.Exchange.{frames_of}
 use Rattle.dep_link.specs.Answering.{answering_air}
-use Rattle.dep_link.specs.Asking.{Standing, MayReply, due_at, dep_next, HasPeer, ExchangeTurns}
+use Rattle.dep_link.specs.Asking.{Standing, MayReply, due_at, dep_next, HasPeer, ExchangeTurns, AreFrames}
 use Rattle.dep_link.specs.DepLinks.{DepSeen, Swap, PeerOf, TurnsOf, Exchanged, Chained, StandsAt, brought, since}
 use Rattle.dep_link.proofs.SwapEnds.{first_here}
 use Rattle.far_air.specs.FarEnds.{FarTable}
 use Rattle.far_air.specs.FarWorld.{far_air}
 use Rattle.far_air.specs.FarLaws.{IsFarTable, IsLinked, IsOfTable, with_far, seen_at}
 use Rattle.far_air.specs.FarTurns.{FarGoing}
-use Rattle.peer_air.specs.SwapTurns.{AreFrames, Stands, Gave, ExchangesFar, IsWhole, SwapTurn, SwapTurns, SwapFront, SwapsFar, StopsFar, MovesFar}
-use Rattle.peer_air.proofs.Walking.{begins, tells, flagged, frames_front, frames_later, dark_none, So, End, walk}
+use Rattle.peer_air.specs.SwapTurns.{Stands, Gave, ExchangesFar, IsWhole, SwapTurn, SwapTurns, SwapFront, SwapsFar, StopsFar, MovesFar}
+use Rattle.peer_air.proofs.Walking.{begins, tells, flagged, dark_none, So, End, walk}
 
 -- the reply that an exchange is walked with
 abbrev reply_in : Option (List ℕ) → List ℕ
@@ -111,14 +109,14 @@ module _ {L F : Type 0} (k : Ghosts L) (laws : Laws k) (target : L → TargetSta
           λ on. subst T places (z.there (lit ∙ on)),
         )
 
-    lit_exchange : length out ≤ limit → old.lit ≡ true → AreFrames x.events → Goes
-    lit_exchange short lit frames =
+    lit_exchange : length out ≤ limit → old.lit ≡ true → Goes
+    lit_exchange short lit =
         let R : List Event → Type 0 = AreFrames in
         ended
         (walk k laws target linked t links fars old i out first handed arrived p r fits v w os all going.turns.moves old false (begun i out) (air_frame (request (begun i out).core))
         (first_here k laws target begins (tells r) old i out first handed arrived p false short lit (begun i out) (air_frame (request (begun i out).core)) refl refl)
         [] [] (ap (λ z. record { world = world old; queue = old.fates; trace = z }) (sym (append-nil old.trace))) refl (far_starts p.place v) refl
-        all going.turns.made refl going.each going.fates (subst R same_events frames))
+        all going.turns.made refl going.each going.fates (subst R same_events x.frames))
 
     -- in the dark nothing happens, at whatever place
     dark_exchange : (place : ℕ) → old.lit ≡ false → FarGoing k.machine linked t (dep_next i out) (moment old) (moment new) x.notes place os v w × (new.lit ≡ false)
@@ -137,16 +135,16 @@ module _ {L F : Type 0} (k : Ghosts L) (laws : Laws k) (target : L → TargetSta
         let R : F → Type 0 = λ a. To a (moment old) [] in
         (subst P at (subst Q notes (subst R (sym (gave_none given g empty)) (far_starts place v))), sym (ap (λ (m : Moment (World L)). m.world.lit) at) ∙ dark)
 
-    pub exchange_far : length out ≤ limit → AreFrames x.events → Goes
-    exchange_far short frames = go old.lit refl
+    pub exchange_far : length out ≤ limit → Goes
+    exchange_far short = go old.lit refl
       where
         go : (b : Bool) → old.lit ≡ b → Goes
-        go true e = lit_exchange short e frames
+        go true e = lit_exchange short e
         go false e = let d = dark_exchange p.place e in (d.0, λ lit. (let dark = d.1 in absurd cc))
 
 pub exchanges_far : {L F : Type 0} (k : Ghosts L) → Laws k → (target : L → TargetState) (linked : L → Bool) (t : FarTable F) → ExchangesFar k target linked t
-exchanges_far k laws target linked t links fars old new i first handed arrived p out given s x short frames v w g os =
-    exchange_far k laws target linked t links fars old new i first handed arrived p out os given s x v w g short frames
+exchanges_far k laws target linked t links fars old new i first handed arrived p out given s x short v w g os =
+    exchange_far k laws target linked t links fars old new i first handed arrived p out os given s x v w g short
 
 -- among listeners that are aside of one, and not selected, one place alone has a selected one
 aside_in : {L : Type 0} (k : Ghosts L) (own : List ℕ) (before : List L) (l : L) (behind : List L) → AllByRecursion (IsAside k own) (before ++ l ∷ behind) → IsAside k own l
@@ -166,11 +164,10 @@ one_place k own (x ∷ before) l behind (y ∷ begin) m rest never p q e =
     let same : before ++ l ∷ behind ≡ begin ++ m ∷ rest = cc in ap suc (one_place k own before l behind begin m rest never p.1 q same)
 
 module _ {L F : Type 0} (k : Ghosts L) (laws : Laws k) (target : L → TargetState) (linked : L → Bool) (t : FarTable F) (links : IsLinked k.machine linked) (fars : IsFarTable t)
-    (a b : DepSeen L) (out : List ℕ) (peer : PeerOf k target a) (short : length out ≤ limit) (frames : AreFrames b.air.trace) (os : List (Option F)) where
+    (a b : DepSeen L) (out : List ℕ) (peer : PeerOf k target a) (short : length out ≤ limit) (os : List (Option F)) where
   swap_turn : (given : Option (List ℕ)) → TurnsOf k target a b peer out given → (v w : F) → Gave k target linked t out given v w → SwapTurn k target linked t a b out peer.place os v w
   swap_turn given (s, x, at) v w g =
-      let R : List Event → Type 0 = AreFrames in
-      let go = exchanges_far k laws target linked t links fars a.air b.air a.initiator a.first (brought a.first (since a)) (turns.arrived (since a)) peer out given s x short (frames_later a.air.trace x.events (subst R x.trace frames)) v w g os in
+      let go = exchanges_far k laws target linked t links fars a.air b.air a.initiator a.first (brought a.first (since a)) (turns.arrived (since a)) peer out given s x short v w g os in
       record {
         notes = x.notes;
         stands = subst (λ (z : Standing). StandsAt b.over b.initiator z) (sym x.stands) at;
@@ -204,31 +201,31 @@ module _ {L F : Type 0} (k : Ghosts L) (laws : Laws k) (target : L → TargetSta
 module _ {L F A : Type 0} (k : Ghosts L) (laws : Laws k) (target : L → TargetState) (linked : L → Bool) (t : FarTable F) (links : IsLinked k.machine linked) (fars : IsFarTable t)
     (restarts : A → List ℕ → A → Type 0) (steps : A → List ℕ → List ℕ → A → Type 0) (stops : A → List ℕ → A → Type 0) (view : A → F) (kind : IsOfTable restarts steps t view)
     (fits : (a : A) (payload reply : List ℕ) (b : A) → steps a payload reply b → length reply ≤ limit) where
-  swap_far : (a b : DepSeen L) (out : List ℕ) (did : List FarStep) (x : Exchanged k target a b (record { out = out; did = did })) → AreFrames b.air.trace
+  swap_far : (a b : DepSeen L) (out : List ℕ) (did : List FarStep) (x : Exchanged k target a b (record { out = out; did = did }))
       → (far after : A) → FarMoved steps stops did far after → IsWhole k target linked t did → (os : List (Option F)) → SwapTurn k target linked t a b out x.peer.place os (view far) (view after)
-  swap_far a b out [] x frames far after moved whole os =
-      swap_turn k laws target linked t links fars a b out x.peer x.short frames os None x.exchange (view far) (view after) (ap view moved)
-  swap_far a b out (Stepped payload reply ∷ []) x frames far after (mid, step, rest) whole os =
+  swap_far a b out [] x far after moved whole os =
+      swap_turn k laws target linked t links fars a b out x.peer x.short os None x.exchange (view far) (view after) (ap view moved)
+  swap_far a b out (Stepped payload reply ∷ []) x far after (mid, step, rest) whole os =
       let n = kind.step far payload reply mid step in
       let G : List ℕ → Type 0 = λ z. Gave k target linked t z (Some reply) (view far) (view mid) in
       let g : Gave k target linked t out (Some reply) (view far) (view mid) = subst G x.exchange.0 (n.0, n.1, n.2, fits far payload reply mid step) in
       let P : A → Type 0 = λ z. SwapTurn k target linked t a b out x.peer.place os (view far) (view z) in
-      subst P (sym rest) (swap_turn k laws target linked t links fars a b out x.peer x.short frames os (Some reply) x.exchange.1 (view far) (view mid) g)
-  swap_far a b out (Stopped payload ∷ []) x frames far after moved whole os = absurd whole
-  swap_far a b out (d ∷ e ∷ did) x frames far after moved whole os = absurd x.exchange
+      subst P (sym rest) (swap_turn k laws target linked t links fars a b out x.peer x.short os (Some reply) x.exchange.1 (view far) (view mid) g)
+  swap_far a b out (Stopped payload ∷ []) x far after moved whole os = absurd whole
+  swap_far a b out (d ∷ e ∷ did) x far after moved whole os = absurd x.exchange
 
-  moved_at : (a b : DepSeen L) (out : List ℕ) (did : List FarStep) (x : Exchanged k target a b (record { out = out; did = did })) → AreFrames b.air.trace
+  moved_at : (a b : DepSeen L) (out : List ℕ) (did : List FarStep) (x : Exchanged k target a b (record { out = out; did = did }))
       → (far after : A) → FarMoved steps stops did far after → IsWhole k target linked t did → (place : ℕ) → Stands k target linked t a.air place → (os : List (Option F)) → SwapTurn k target linked t a b out place os (view far) (view after)
-  moved_at a b out [] x frames far after moved whole place stands os =
-      swap_at k laws target linked t links fars a b out x.peer x.short frames os None x.exchange (view far) (view after) (ap view moved) place stands
-  moved_at a b out (Stepped payload reply ∷ []) x frames far after (mid, step, rest) whole place stands os =
+  moved_at a b out [] x far after moved whole place stands os =
+      swap_at k laws target linked t links fars a b out x.peer x.short os None x.exchange (view far) (view after) (ap view moved) place stands
+  moved_at a b out (Stepped payload reply ∷ []) x far after (mid, step, rest) whole place stands os =
       let n = kind.step far payload reply mid step in
       let G : List ℕ → Type 0 = λ z. Gave k target linked t z (Some reply) (view far) (view mid) in
       let g : Gave k target linked t out (Some reply) (view far) (view mid) = subst G x.exchange.0 (n.0, n.1, n.2, fits far payload reply mid step) in
       let P : A → Type 0 = λ z. SwapTurn k target linked t a b out place os (view far) (view z) in
-      subst P (sym rest) (swap_at k laws target linked t links fars a b out x.peer x.short frames os (Some reply) x.exchange.1 (view far) (view mid) g place stands)
-  moved_at a b out (Stopped payload ∷ []) x frames far after moved whole place stands os = absurd whole
-  moved_at a b out (d ∷ e ∷ did) x frames far after moved whole place stands os = absurd x.exchange
+      subst P (sym rest) (swap_at k laws target linked t links fars a b out x.peer x.short os (Some reply) x.exchange.1 (view far) (view mid) g place stands)
+  moved_at a b out (Stopped payload ∷ []) x far after moved whole place stands os = absurd whole
+  moved_at a b out (d ∷ e ∷ did) x far after moved whole place stands os = absurd x.exchange
 
   -- what swaps did, one after another
   moved_split : (xs ys : List FarStep) (far after : A) → FarMoved steps stops (xs ++ ys) far after → IsWhole k target linked t (xs ++ ys)
@@ -238,75 +235,48 @@ module _ {L F A : Type 0} (k : Ghosts L) (laws : Laws k) (target : L → TargetS
       let z = moved_split xs ys mid after rest whole in (z.0, (mid, step, z.1), z.2, z.3, z.4)
   moved_split (Stopped payload ∷ xs) ys far after m whole = absurd whole
 
-  whole_split : (xs ys : List FarStep) → IsWhole k target linked t (xs ++ ys) → IsWhole k target linked t xs × IsWhole k target linked t ys
-  whole_split [] ys w = (tt, w)
-  whole_split (Stepped payload reply ∷ xs) ys w = whole_split xs ys w
-  whole_split (Stopped payload ∷ xs) ys w = absurd w
-
-  swapped_trace : (a b : DepSeen L) (out : List ℕ) (did : List FarStep) (x : Exchanged k target a b (record { out = out; did = did })) → IsWhole k target linked t did
-      → (es : List Event) × (b.air.trace ≡ a.air.trace ++ es)
-  swapped_trace a b out [] x whole = (x.exchange.1.events, x.exchange.1.trace)
-  swapped_trace a b out (Stepped payload reply ∷ []) x whole = (x.exchange.1.1.events, x.exchange.1.1.trace)
-  swapped_trace a b out (Stopped payload ∷ []) x whole = absurd whole
-  swapped_trace a b out (d ∷ e ∷ did) x whole = absurd x.exchange
-
-  chained_trace : (ss : List Swap) (a : DepSeen L) (did : List FarStep) (b : DepSeen L) → Chained k target ss a did b → IsWhole k target linked t did → (es : List Event) × (b.air.trace ≡ a.air.trace ++ es)
-  chained_trace [] a did b c whole = ([], ap (λ (z : DepSeen L). z.air.trace) c.0 ∙ sym (append-nil a.air.trace))
-  chained_trace (s ∷ ss) a did b (mid, rest, x, more, e) whole =
-      let W : List FarStep → Type 0 = IsWhole k target linked t in
-      let both = whole_split s.did rest (subst W e whole) in
-      let one = swapped_trace a mid s.out s.did x both.0 in
-      let then = chained_trace ss mid rest b more both.1 in
-      (one.0 ++ then.0, then.1 ∙ ap (λ z. z ++ then.0) one.1 ∙ append_assoc a.air.trace one.0 then.0)
-
-  chained_far : (ss : List Swap) (a : DepSeen L) (did : List FarStep) (b : DepSeen L) → Chained k target ss a did b → AreFrames b.air.trace
+  chained_far : (ss : List Swap) (a : DepSeen L) (did : List FarStep) (b : DepSeen L) → Chained k target ss a did b
       → (far after : A) → FarMoved steps stops did far after → IsWhole k target linked t did → (place : ℕ) → Stands k target linked t a.air place → (os : List (Option F))
       → SwapTurns k target linked t ss a place os (view far) b (view after)
-  chained_far [] a did b c frames far after moved whole place stands os =
+  chained_far [] a did b c far after moved whole place stands os =
       let P : List FarStep → Type 0 = λ z. FarMoved steps stops z far after in (c.0, ap view (subst P c.1 moved))
-  chained_far (s ∷ ss) a did b (mid, rest, x, more, e) frames far after moved whole place stands os =
+  chained_far (s ∷ ss) a did b (mid, rest, x, more, e) far after moved whole place stands os =
       let P : List FarStep → Type 0 = λ z. FarMoved steps stops z far after in
       let W : List FarStep → Type 0 = IsWhole k target linked t in
-      let R : List Event → Type 0 = AreFrames in
       let z = moved_split s.did rest far after (subst P e moved) (subst W e whole) in
-      let trace = chained_trace ss mid rest b more z.4 in
-      let front : AreFrames mid.air.trace = frames_front mid.air.trace trace.0 (subst R trace.1 frames) in
-      let one = moved_at a mid s.out s.did x front far z.0 z.1 z.3 place stands os in
-      (mid, view z.0, one, chained_far ss mid rest b more frames z.0 after z.2 z.4 place one.there os)
+      let one = moved_at a mid s.out s.did x far z.0 z.1 z.3 place stands os in
+      (mid, view z.0, one, chained_far ss mid rest b more z.0 after z.2 z.4 place one.there os)
 
 pub moves_far : {L F A : Type 0} (k : Ghosts L) → Laws k → (target : L → TargetState) (linked : L → Bool) (t : FarTable F) (restarts : A → List ℕ → A → Type 0) (steps : A → List ℕ → List ℕ → A → Type 0) (stops : A → List ℕ → A → Type 0) (view : A → F)
     → ((a : A) (payload reply : List ℕ) (b : A) → steps a payload reply b → length reply ≤ limit) → MovesFar k target linked t restarts steps stops view
-moves_far k laws target linked t restarts steps stops view fits links fars kind a b did (ss, chained) frames far after moved whole place stands os =
-    (ss, chained_far k laws target linked t links fars restarts steps stops view kind fits ss a did b chained frames far after moved whole place stands os)
+moves_far k laws target linked t restarts steps stops view fits links fars kind a b did (ss, chained) far after moved whole place stands os =
+    (ss, chained_far k laws target linked t links fars restarts steps stops view kind fits ss a did b chained far after moved whole place stands os)
 
 pub swaps_far : {L F A : Type 0} (k : Ghosts L) → Laws k → (target : L → TargetState) (linked : L → Bool) (t : FarTable F) (restarts : A → List ℕ → A → Type 0) (steps : A → List ℕ → List ℕ → A → Type 0) (stops : A → List ℕ → A → Type 0) (view : A → F)
     → ((a : A) (payload reply : List ℕ) (b : A) → steps a payload reply b → length reply ≤ limit) → SwapsFar k target linked t restarts steps stops view
-swaps_far k laws target linked t restarts steps stops view fits links fars kind a b s x frames far after moved whole os =
-    swap_far k laws target linked t links fars restarts steps stops view kind fits a b s.out s.did x frames far after moved whole os
+swaps_far k laws target linked t restarts steps stops view fits links fars kind a b s x far after moved whole os =
+    swap_far k laws target linked t links fars restarts steps stops view kind fits a b s.out s.did x far after moved whole os
 
 stop_far : {L F : Type 0} (k : Ghosts L) → Laws k → (target : L → TargetState) (linked : L → Bool) (t : FarTable F) → IsLinked k.machine linked → IsFarTable t
-    → (a b : DepSeen L) (out : List ℕ) (did : List FarStep) (x : Exchanged k target a b (record { out = out; did = did })) → AreFrames b.air.trace
+    → (a b : DepSeen L) (out : List ℕ) (did : List FarStep) (x : Exchanged k target a b (record { out = out; did = did }))
     → (payload : List ℕ) → did ≡ Stopped payload ∷ [] → (far : F) (os : List (Option F)) → SwapFront k target linked t a b out x.peer.place os far
-stop_far k laws target linked t links fars a b out [] x frames payload e far os = absurd cc
-stop_far k laws target linked t links fars a b out (Stepped p reply ∷ did) x frames payload e far os = absurd cc
-stop_far k laws target linked t links fars a b out (Stopped p ∷ []) x frames payload e far os =
+stop_far k laws target linked t links fars a b out [] x payload e far os = absurd cc
+stop_far k laws target linked t links fars a b out (Stepped p reply ∷ did) x payload e far os = absurd cc
+stop_far k laws target linked t links fars a b out (Stopped p ∷ []) x payload e far os =
     let s = x.exchange.1 in
-    let R : List Event → Type 0 = AreFrames in
-    let all : AreFrames (s.mid.trace ++ Request s.sent Pass ∷ []) = subst R (ap (λ z. z.trace) s.left) frames in
-    let front : AreFrames s.mid.trace = frames_front s.mid.trace (Request s.sent Pass ∷ []) all in
     record {
       mid = s.mid;
       notes = s.before.notes;
-      going = (exchanges_far k laws target linked t links fars a.air s.mid a.initiator a.first (brought a.first (since a)) (turns.arrived (since a)) x.peer out None _ s.before x.short (frames_later a.air.trace s.before.events (subst R s.before.trace front)) far far refl os).0;
+      going = (exchanges_far k laws target linked t links fars a.air s.mid a.initiator a.first (brought a.first (since a)) (turns.arrived (since a)) x.peer out None _ s.before x.short far far refl os).0;
       sent = s.sent;
       due = ap due_at s.before.stands;
       fate = s.fate;
       listeners = s.listeners;
       left = s.left;
     }
-stop_far k laws target linked t links fars a b out (Stopped p ∷ d ∷ did) x frames payload e far os = absurd cc
+stop_far k laws target linked t links fars a b out (Stopped p ∷ d ∷ did) x payload e far os = absurd cc
 
 pub stops_far : {L F A : Type 0} (k : Ghosts L) → Laws k → (target : L → TargetState) (linked : L → Bool) (t : FarTable F) (restarts : A → List ℕ → A → Type 0) (steps : A → List ℕ → List ℕ → A → Type 0) (stops : A → List ℕ → A → Type 0) (view : A → F)
     → StopsFar k target linked t restarts steps stops view
-stops_far k laws target linked t restarts steps stops view links fars a b s x frames payload e far os =
-    stop_far k laws target linked t links fars a b s.out s.did x frames payload e far os
+stops_far k laws target linked t restarts steps stops view links fars a b s x payload e far os =
+    stop_far k laws target linked t links fars a b s.out s.did x payload e far os

@@ -1,9 +1,8 @@
 -- Exchanges and swaps on a link to a peer, in the world with far ends (NFCIP-1, ISO/IEC 18092; the air is this project's own).
-use Rattle.std.specs.Prelude.{◌≡◌, ◌<◌, ◌≤◌, ℕ, List, [], ◌∷◌, length, slice_index, Bool, true, Option, Some, None}
+use Rattle.std.specs.Prelude.{◌≡◌, ◌≤◌, ℕ, List, [], ◌∷◌, length, Bool, true, Option, Some, None}
 use Rattle.nfc_base.specs.Signal.{Signal}
 use Rattle.nfc_base.specs.Links.{FarStep, Stepped, Stopped, FarMoved}
-use Rattle.nfc_base.specs.declared.event.Event.{Event}
-use Rattle.nfc_base.specs.declared.event.Event.TheVariants.{Reset, Request, Answer, Clash}
+use Rattle.nfc_base.specs.declared.event.Event.TheVariants.{Request}
 use Rattle.nfc_base.specs.declared.event.Fate.TheVariants.{Pass}
 use Rattle.air_core.specs.Turn.{Air, moment, after_event}
 use Rattle.air_core.specs.Conversation.{Note, Asks, first_fate, later_fates}
@@ -17,14 +16,6 @@ use Rattle.dep_link.specs.DepLinks.{DepSeen, Swap, Exchanged, DepMoves, StandsAt
 use Rattle.far_air.specs.FarEnds.{FarTable}
 use Rattle.far_air.specs.FarLaws.{IsFarTable, IsLinked, IsOfTable}
 use Rattle.far_air.specs.FarTurns.{FarGoing}
-
--- the items of each request's frame are bytes
-abbrev pub AreFrames : List Event → Type 0
-AreFrames [] = Unit {0}
-AreFrames (Reset ∷ es) = AreFrames es
-AreFrames (Request f x ∷ es) = ((i : ℕ) → slice_index f.bytes i < 256) × AreFrames es
-AreFrames (Answer g x ∷ es) = AreFrames es
-AreFrames (Clash g x ∷ es) = AreFrames es
 
 module _ {L F : Type 0} (k : Ghosts L) (target : L → TargetState) (linked : L → Bool) (t : FarTable F) where
   -- A far end went from one state to another in an exchange of this payload, in which it gave that reply, by some number, or none.
@@ -42,7 +33,7 @@ module _ {L F : Type 0} (k : Ghosts L) (target : L → TargetState) (linked : L 
   ExchangesFar = IsLinked k.machine linked → IsFarTable t
       → (old new : Air L) (i : InitState) (first : ℕ) (handed : List (List ℕ)) (arrived : List Signal) (p : HasPeer k target old i first handed arrived)
       (out : List ℕ) (given : Option (List ℕ)) (s : Standing) (x : ExchangeTurns k target old new p.listener i first handed arrived out given s)
-      → length out ≤ limit → AreFrames x.events → (far after : F) → Gave out given far after → (os : List (Option F))
+      → length out ≤ limit → (far after : F) → Gave out given far after → (os : List (Option F))
       → FarGoing k.machine linked t (dep_next i out) (moment old) (moment new) x.notes p.place os far after
       × Stands new p.place
 
@@ -81,18 +72,18 @@ module _ {L F : Type 0} (k : Ghosts L) (target : L → TargetState) (linked : L 
     -- What a link tells of a swap, with what its far end did, is a swap in the world with far ends.
     abbrev pub SwapsFar : Type 0
     SwapsFar = IsLinked k.machine linked → IsFarTable t → IsOfTable restarts steps t view
-        → (a b : DepSeen L) (s : Swap) (x : Exchanged k target a b s) → AreFrames b.air.trace
+        → (a b : DepSeen L) (s : Swap) (x : Exchanged k target a b s)
         → (far after : A) → FarMoved steps stops s.did far after → IsWhole s.did → (os : List (Option F))
         → SwapTurn a b s.out x.peer.place os (view far) (view after)
 
     abbrev pub StopsFar : Type 0
     StopsFar = IsLinked k.machine linked → IsFarTable t
-        → (a b : DepSeen L) (s : Swap) (x : Exchanged k target a b s) → AreFrames b.air.trace
+        → (a b : DepSeen L) (s : Swap) (x : Exchanged k target a b s)
         → (payload : List ℕ) → s.did ≡ Stopped payload ∷ [] → (far : F) (os : List (Option F)) → SwapFront a b s.out x.peer.place os far
 
     -- What a link tells of its swaps is that, at whatever place its peer stands.
     abbrev pub MovesFar : Type 0
     MovesFar = IsLinked k.machine linked → IsFarTable t → IsOfTable restarts steps t view
-        → (a b : DepSeen L) (did : List FarStep) → DepMoves k target a did b → AreFrames b.air.trace
+        → (a b : DepSeen L) (did : List FarStep) → DepMoves k target a did b
         → (far after : A) → FarMoved steps stops did far after → IsWhole did → (place : ℕ) → Stands a.air place → (os : List (Option F))
         → (ss : List Swap) × SwapTurns ss a place os (view far) b (view after)
