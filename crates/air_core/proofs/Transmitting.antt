@@ -87,6 +87,17 @@ module _ {L A : Type 0} (m : Machine L) (restarts : A → List ℕ → A → Typ
       let left : new ≡ brought m (passed old f ls) (Clashing g) y = air_of new (came_back m (record { lit = true; listeners = ls }) y) (later_fates (later_fates old.fates)) ((old.trace ++ Request f Pass ∷ []) ++ Clash g y ∷ []) w q t in
       settles new far' r (Collided g) y (λ z. heard_at z (Collided g)) refl refl refl refl is (λ heard e. turn_passes new far' answers ls (Clashing g) y heard lit pass (hears begin far' answers ls from all) joins fate e left)
 
+  -- a request at which the field is lost
+  pub transmits_break : (new : Air L) (r : Result Heard AirFault) → old.lit ≡ true → first_fate old.fates ≡ Break → r ≡ settled Silent Break → world new ≡ came_back m (world old) Break
+      → new.fates ≡ later_fates old.fates → new.trace ≡ old.trace ++ Request f Break ∷ [] → Transmits m restarts steps stops is_stuck old f far r new far
+  transmits_break new r lit fate is w q t =
+      let left : new ≡ after_event old (Request f Break) (later_fates old.fates) (came_back m (world old) Break) = air_of new (came_back m (world old) Break) (later_fates old.fates) (old.trace ++ Request f Break ∷ []) w q t in
+      let P : Fate → Type 0 = λ x. TurnBy m restarts steps x old f far None new far in
+      let by : TurnBy m restarts steps Break old f far None new far = record { back = refl; left = left; same = refl } in
+      let R : Result Heard AirFault → Type 0 = λ z. Transmits m restarts steps stops is_stuck old f far z new far in
+      let turn : TurnIs m restarts steps old f far None new far = record { lit = lit; by = subst P (sym fate) by } in
+      subst R (sym is) (inr turn)
+
   -- a far end that stopped
   pub transmits_stop : (begin : List L) (new : Air L) (far' : A) (ls : List L)
       → old.lit ≡ true → first_fate old.fates ≡ Pass → begin ≡ old.listeners → HearSome m restarts steps stops is_stuck f begin far ls far'

@@ -3,6 +3,7 @@
 ghost use Rattle.std.specs.Prelude.{◌≡◌, ◌++◌, ◌∷◌, [], ◌<◌, length, map, slice_index_or, remove, true, false, IfOk, OnOk, OnErr, Err};
 ghost use Rattle.std.specs.Borrow.{sem};
 ghost use Rattle.nfc_base.specs.declared.event.Event.TheVariants.{Reset};
+ghost use Rattle.nfc_base.specs.declared.event.Fate.TheVariants.{Pass};
 ghost use Rattle.air_core.specs.World.{reset_by, dark, came_back};
 ghost use Rattle.air_core.specs.Turn.{Air, world, after_event, Transmits};
 ghost use Rattle.air_core.specs.Lends.{lends_listener};
@@ -11,7 +12,7 @@ ghost use Rattle.air_core.specs.declared.fault.AirFault.TheVariants.{FieldLost, 
 
 use crate::answers::{Answers, Joined};
 use crate::bits::first_bits;
-use crate::fates::{next_fate, note, push_all};
+use crate::fates::{note_answer, note_clash, note_request, push_all};
 use crate::fault::AirFault;
 use crate::hearing::{dark_all, hear_all, light_all};
 use crate::listener::Listener;
@@ -149,15 +150,15 @@ impl<L: Listener> Field<L> {
         Ok(())
     }
 
-    /// What a transmission with this fate comes to, where `heard` is what passes. At a Break the field goes dark.
-    fn settle(&mut self, heard: Heard, fate: Fate) -> Result<Heard, AirFault>
-        ensures result { result ≡ settled heard fate }
+    /// What a transmission comes to that doesn't pass, by its fate. At a Break the field goes dark.
+    fn miss(&mut self, fate: Fate) -> Result<Heard, AirFault>
+        requires { fate ≡ Pass → ⊥ }
+        ensures result { (heard : Heard) → result ≡ settled heard fate }
         ensures left { (self.new.trace ≡ self.old.trace) × (self.new.fates ≡ self.old.fates)
             × (world self.new ≡ came_back L.machine (world self.old) fate) }
         ensures places { length self.new.listeners ≡ length self.old.listeners }
     {
         match fate {
-            Fate::Pass => Ok(heard),
             Fate::Damage => Ok(Heard::Damaged),
             Fate::Lose => Ok(Heard::Silent),
             Fate::Break => {
@@ -165,6 +166,7 @@ impl<L: Listener> Field<L> {
                 self.lit = false;
                 Err(AirFault::FieldLost)
             }
+            Fate::Pass => unreachable!(),
         }
     }
 
@@ -181,12 +183,9 @@ impl<L: Listener> Field<L> {
         if self.trace.reserve(2).is_err() {
             return Err(AirFault::Memory);
         }
-        let fate = next_fate(&mut self.fates);
-        let frame = request.copy();
-        note(&mut self.trace, Event::Request { frame, fate });
-        match fate {
+        match note_request(&mut self.fates, &mut self.trace, request) {
             Fate::Damage | Fate::Lose => return Ok(Heard::Silent),
-            Fate::Break => return self.settle(Heard::Silent, fate),
+            Fate::Break => return self.miss(Fate::Break),
             Fate::Pass => {}
         }
         let mut answers = Answers::none();
@@ -197,17 +196,17 @@ impl<L: Listener> Field<L> {
         match joined {
             Joined::Nothing => Ok(Heard::Silent),
             Joined::Alike => {
-                let fate = next_fate(&mut self.fates);
-                let frame = first.copy();
-                note(&mut self.trace, Event::Answer { frame, fate });
-                self.settle(Heard::Whole(first), fate)
+                match note_answer(&mut self.fates, &mut self.trace, &first) {
+                    Fate::Pass => Ok(Heard::Whole(first)),
+                    fate => self.miss(fate),
+                }
             }
             Joined::Differing { shared } => {
-                let fate = next_fate(&mut self.fates);
                 let clash = first_bits(&first, shared);
-                let frame = clash.copy();
-                note(&mut self.trace, Event::Clash { frame, fate });
-                self.settle(Heard::Collided(clash), fate)
+                match note_clash(&mut self.fates, &mut self.trace, &clash) {
+                    Fate::Pass => Ok(Heard::Collided(clash)),
+                    fate => self.miss(fate),
+                }
             }
         }
     }

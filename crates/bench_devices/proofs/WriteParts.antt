@@ -21,9 +21,11 @@ use Rattle.tlv_area.proofs.SomePlan.{some_new, some_plan}
 use Rattle.tag_reader.specs.declared.how.How.{How}
 use Rattle.tag_reader.specs.declared.how.How.TheVariants.{T2, T4, T5}
 use Rattle.tag_reader.specs.Files.{container_in, file_in, message_length}
+use Rattle.tag_reader.specs.Kinds.{area_of}
+use Rattle.tag_reader.specs.Access.{AccessBy, IsAccess}
 use Rattle.tag_reader.specs.Survey.{block_size, written_area}
 use Rattle.tag_reader.proofs.Areas.{t2_area}
-use Rattle.tag_writer.specs.Place.{Place, IsAreaPlace, IsPlaceBy, IsFilePlace, IsPlaceIn, AccessBy, IsAccess, HasPieces, Takes, TakesNot, tail_place, file_place}
+use Rattle.tag_writer.specs.Place.{Place, IsAreaPlace, IsPlaceBy, IsFilePlace, IsPlaceIn, HasPieces, Takes, TakesNot, tail_place, file_place}
 use Rattle.tag_writer.specs.Puts.{block_puts, file_close, file_fill, file_last}
 use Rattle.tag_writer.specs.WriteAsked.{Parts, AreAreaPuts, ArePuts, AreWrites}
 use Rattle.tag_writer.proofs.OnePlace.{one_place, order_of}
@@ -72,9 +74,9 @@ free_file store (Ok map') has = elim (cases_Bool map'.writable) [
 ]
 
 access_decided : (how : How) (size : ℕ) (store : List ℕ) → Decided (IsAccess how size store true)
-access_decided T2 size store = free_area (written_area T2 size store)
+access_decided T2 size store = free_area (area_of T2 size store)
 access_decided T4 size store = free_file store (t4_container (container_in store)) refl
-access_decided (T5 id) size store = free_area (written_area (T5 id) size store)
+access_decided (T5 id) size store = free_area (area_of (T5 id) size store)
 
 pieces_decided : (how : How) (store : List ℕ) → Decided (HasPieces how store)
 pieces_decided T2 store = inl tt

@@ -8,11 +8,12 @@ ghost use Rattle.t5t_tag.specs.Step.{t5_answer, t5_after};
 ghost use Rattle.isodep_link.specs.Card as ends;
 ghost use Rattle.isodep_link.specs.Card.{most_busy};
 ghost use Rattle.isodep_link.specs.Reader.{longest_extension};
+ghost use Rattle.nfca_poll.specs.Upper.{step_at};
 ghost use Rattle.bench_devices.specs.Cards.{card_now};
 ghost use Rattle.bench_devices.specs.Device.{said, on_link, how_of, blocks_of, device_locked, may_be_busy, device_busy, memory_in};
 
 use air_core::Listener;
-use isodep_link::{CardEnd, CardListener, CardStep, is_rats};
+use isodep_link::{CardEnd, CardKind, CardListener, is_rats};
 use nfc_base::{Answerer, Frame, Tech};
 use nfca_poll::{Front, Ident, Kind, UpKind, UpStep, Upper};
 use std::alloc::{AllocError, Global};
@@ -164,14 +165,17 @@ impl T4Upper {
     }
 
     /// A frame of the link to the tag.
-    fn take(tag: &mut T4Tag, card: &mut CardEnd, frame: &Frame) -> UpStep
-        ensures { said result tag.new card.new ≡ on_link tag.old card.old frame.now }
+    fn take(tag: &mut T4Tag, card: &mut CardEnd, frame: &Frame, answer: &mut Frame) -> UpKind
+        ensures { said (step_at result answer.new) tag.new card.new ≡ on_link tag.old card.old frame.now }
     {
-        match card.hear(frame) {
-            CardStep::Quiet => UpStep::Quiet,
-            CardStep::Reply(answer) => UpStep::Reply(answer),
-            CardStep::Deliver(command) => UpStep::Reply(card.reply(&tag.obey(&command))),
-            CardStep::Asleep(answer) => UpStep::Sleep(answer),
+        match card.hear_into(frame, answer) {
+            CardKind::Quiet => UpKind::Quiet,
+            CardKind::Reply => UpKind::Reply,
+            CardKind::Deliver(command) => {
+                card.reply_into(&tag.obey(&command), answer);
+                UpKind::Reply
+            }
+            CardKind::Asleep => UpKind::Sleep,
         }
     }
 }
@@ -200,15 +204,32 @@ impl Upper for T4Upper {
 
     fn hear<A: Answerer>(
         &mut self,
+        alloc: Global,
+        frame: &Frame,
+        far: &mut A,
+    ) -> Result<UpStep, AllocError> {
+        let mut answer = Frame::whole(Tech::A, &[]).unwrap();
+        Ok(match self.hear_into(alloc, frame, far, &mut answer)? {
+            UpKind::Foreign => UpStep::Foreign,
+            UpKind::Quiet => UpStep::Quiet,
+            UpKind::Reply => UpStep::Reply(answer),
+            UpKind::Sleep => UpStep::Sleep(answer),
+            UpKind::Idle => UpStep::Idle(answer),
+        })
+    }
+
+    fn hear_into<A: Answerer>(
+        &mut self,
         _alloc: Global,
         frame: &Frame,
         _far: &mut A,
-    ) -> Result<UpStep, AllocError> {
+        answer: &mut Frame,
+    ) -> Result<UpKind, AllocError> {
         if !self.linked && !is_rats(frame) {
-            return Ok(UpStep::Foreign);
+            return Ok(UpKind::Foreign);
         }
         self.open_link();
-        Ok(T4Upper::take(&mut self.tag, &mut self.card, frame))
+        Ok(T4Upper::take(&mut self.tag, &mut self.card, frame, answer))
     }
 
     ghost laws = { t4_upper };

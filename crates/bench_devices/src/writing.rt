@@ -2,7 +2,6 @@
 
 ghost use Rattle.std.specs.Prelude.{◌≡◌};
 ghost use Rattle.air_core.specs.Turn.{moment};
-ghost use Rattle.tag_writer.specs.Puttings.{of_link};
 ghost use Rattle.bench_devices.specs.declared.device.Device.{Device as Placed};
 ghost use Rattle.bench_devices.specs.Device.{how_of};
 ghost use Rattle.bench_devices.specs.Phases.{Stands, WritesAt, CutAtWrite};
@@ -12,7 +11,6 @@ ghost use Rattle.bench_devices.specs.Linking.{seen_plain, StandsPlain, IsNew, Is
 use crate::device::Device;
 use air_core::{Field, PlainLink};
 use isodep_link::IsoLink;
-use nfc_base::AskFault;
 use std::alloc::Global;
 use tag_reader::How;
 use tag_writer::WriteFault;
@@ -80,7 +78,7 @@ fn write_card(
 {
     match IsoLink::activate(field, place) {
         Ok(mut link) => write_linked(alloc, &mut link, message),
-        Err(fault) => Err(unanswered(fault)),
+        Err(fault) => Err(WriteFault::from(fault)),
     }
 }
 
@@ -93,16 +91,4 @@ fn write_linked(alloc: Global, link: &mut IsoLink<Device>, message: &[u8]) -> Re
     ensures cut { CutLinkedWrite link.old.field.now link.old.place link.old.reader (moment link.new.field.now) message.now result }
 {
     tag_writer::write(alloc, link, How::T4, message)
-}
-
-/// Why a tag isn't written that RATS didn't activate.
-fn unanswered(fault: AskFault) -> WriteFault
-    ensures { result ≡ of_link fault }
-{
-    match fault {
-        AskFault::FieldLost => WriteFault::FieldLost,
-        AskFault::SixBad => WriteFault::SixBad,
-        AskFault::Memory => WriteFault::Memory,
-        AskFault::Protocol => WriteFault::Protocol,
-    }
 }

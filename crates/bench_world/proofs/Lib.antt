@@ -19,3 +19,4 @@ pub mod QuietHearing
 pub mod OneJournal
 pub mod Shapes
 pub mod Quiet
+mod DigitPairs

@@ -15,9 +15,11 @@ use Rattle.tlv_area.proofs.OneNext.{one_form}
 use Rattle.tag_reader.specs.declared.how.How.{How}
 use Rattle.tag_reader.specs.declared.how.How.TheVariants.{T2, T4, T5}
 use Rattle.tag_reader.specs.Kinds.{IsStoreForm}
+use Rattle.tag_reader.specs.Access.{IsAccess}
+use Rattle.tag_reader.proofs.Accesses.{one_access}
 use Rattle.bench_world.specs.declared.entry.Answer.{Answer}
 use Rattle.bench_world.specs.declared.entry.Answer.TheVariants as answers
-use Rattle.bench_world.specs.Reading.{IsAreaAccess, IsAccess, Tells}
+use Rattle.bench_world.specs.Reading.{Tells}
 
 nil_behind : (a b : List ℕ) → a ++ b ≡ [] → b ≡ []
 nil_behind [] b none = none
@@ -75,24 +77,7 @@ answer_by (Message message) writable = answers.Message message writable
 answer_by NoMessageTlv writable = answers.NoMessageTlv
 answer_by BadTlv writable = answers.BadTlv
 
-same_space : (a b : Space) → ◌≡◌ {A = Result Space ContainerFault} (Ok a) (Ok b) → a ≡ b
-same_space a b e = cc
-
-same_file : (a b : FileMap) → ◌≡◌ {A = Result FileMap ContainerFault} (Ok a) (Ok b) → a ≡ b
-same_file a b e = cc
-
-one_area_access : (how : How) (size : ℕ) (store : List ℕ) (v w : Bool) → IsAreaAccess how size store v → IsAreaAccess how size store w → v ≡ w
-one_area_access how size store v w p q = p.2 ∙ ap (λ (s : Space). s.writable) (same_space p.0 q.0 (sym p.1 ∙ q.1)) ∙ sym q.2
-
-access_one : (how : How) (size : ℕ) (store : List ℕ) (v w : Bool) → IsAccess how size store v → IsAccess how size store w → v ≡ w
-access_one T2 size store v w p q = one_area_access T2 size store v w p q
-access_one T4 size store v w p q = p.2 ∙ ap (λ (f : FileMap). f.writable) (same_file p.0 q.0 (sym p.1 ∙ q.1)) ∙ sym q.2
-access_one (T5 id) size store v w p q = one_area_access (T5 id) size store v w p q
-
 module _ (how : How) (size : ℕ) (store : List ℕ) where
-  one_access : (v w : Bool) → IsAccess how size store v → IsAccess how size store w → v ≡ w
-  one_access v w p q = access_one how size store v w p q
-
   -- whether writing is free is told of a message alone
   abbrev AccessIf : Form → Bool → Type 0
   AccessIf (Message message) writable = IsAccess how size store writable
@@ -104,7 +89,7 @@ module _ (how : How) (size : ℕ) (store : List ℕ) where
   same_answer (Faulty container.NoRead) v w p q = refl
   same_answer (Faulty container.Sectors) v w p q = refl
   same_answer (Faulty container.BadSize) v w p q = refl
-  same_answer (Message message) v w p q = ap (λ x. answers.Message message x) (one_access v w p q)
+  same_answer (Message message) v w p q = ap (λ x. answers.Message message x) (one_access how size store v w p q)
   same_answer NoMessageTlv v w p q = refl
   same_answer BadTlv v w p q = refl
 

@@ -18,6 +18,7 @@ use Rattle.tag_reader.specs.declared.found.Site.{Site}
 use Rattle.tag_reader.specs.declared.found.Site.TheVariants.{Area, File}
 use Rattle.tag_reader.specs.declared.how.How.{How}
 use Rattle.tag_reader.specs.declared.how.How.TheVariants as hows
+use Rattle.tag_reader.specs.Access.{AccessBy, IsAccess}
 use Rattle.tag_reader.specs.Reading.{IsSite}
 use Rattle.isodep_link.specs.Asking as exchange
 use Rattle.bench_script.specs.declared.command.DeviceId.{DeviceId}
@@ -33,7 +34,7 @@ use Rattle.bench_world.specs.declared.entry.Answer.{Answer}
 use Rattle.bench_world.specs.declared.entry.Answer.TheVariants as answers
 use Rattle.bench_world.specs.Answering.{poll_answer, told_by, MayEnd, TellsFault, TellsFound}
 use Rattle.bench_world.specs.Crowded.{seen_all, is_crowd}
-use Rattle.bench_world.specs.Reading.{IsAccess, Tells}
+use Rattle.bench_world.specs.Reading.{Tells}
 
 -- Selecting a device ends by a fault that an answer tells of.
 pub poll_told : (id : DeviceId) (ds : List Device) (e : PollFault) (es : List Event) → HasPollCause id ds (Err e) es → IsSome (poll_answer e)
@@ -126,11 +127,11 @@ may_end old new d (Err reading.Protocol) reads =
 
 -- whether writing is free
 site_access : (how : How) (size : ℕ) (store : List ℕ) (site : Site) (writable : Bool) → IsSite how size store site writable → IsAccess how size store writable
-site_access hows.T2 size store (Area m) writable is = (m.space, is.0, is.2)
+site_access hows.T2 size store (Area m) writable is = subst (λ r. AccessBy r writable) (sym is.0) is.2
 site_access hows.T2 size store (File m) writable is = absurd is.0
 site_access hows.T4 size store (Area m) writable is = absurd (let no_area = is.0 in cc)
 site_access hows.T4 size store (File m) writable is = (m, is.0, is.1)
-site_access (hows.T5 id) size store (Area m) writable is = (m.space, is.0, is.2)
+site_access (hows.T5 id) size store (Area m) writable is = subst (λ r. AccessBy r writable) (sym is.0) is.2
 site_access (hows.T5 id) size store (File m) writable is = absurd is.0
 
 same_fault : (e f : PollFault) → ◌≡◌ {A = Result Everybody PollFault} (Err e) (Err f) → e ≡ f

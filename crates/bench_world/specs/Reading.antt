@@ -1,26 +1,14 @@
 -- What the answer to a read tells of the store.
-use Rattle.std.specs.Prelude.{◌≡◌, ℕ, List, Bool, Ok}
-use Rattle.tlv_area.specs.declared.space.Space.{Space}
+use Rattle.std.specs.Prelude.{ℕ, List}
 use Rattle.tlv_area.specs.declared.container.ContainerFault.TheVariants as container
 use Rattle.tlv_area.specs.Form.{Faulty, Message, NoMessageTlv, BadTlv}
-use Rattle.tlv_area.specs.declared.container.FileMap.{FileMap}
 use Rattle.tag_reader.specs.declared.how.How.{How}
-use Rattle.tag_reader.specs.declared.how.How.TheVariants as hows
-use Rattle.tag_reader.specs.Files.{NamesFile}
-use Rattle.tag_reader.specs.Kinds.{area_of, IsStoreForm}
+use Rattle.tag_reader.specs.Kinds.{IsStoreForm}
+use Rattle.tag_reader.specs.Access.{IsAccess}
 use Rattle.bench_devices.specs.declared.device.Device.{Device}
 use Rattle.bench_devices.specs.Device.{device_store, how_of, size_of}
 use Rattle.bench_world.specs.declared.entry.Answer.{Answer}
 use Rattle.bench_world.specs.declared.entry.Answer.TheVariants as answers
-
--- whether writing is free, by the container's area or, of a Type 4 tag, by its file
-abbrev pub IsAreaAccess : How → ℕ → List ℕ → Bool → Type 0
-IsAreaAccess how size store writable = (space : Space) × (area_of how size store ≡ Ok space) × (writable ≡ space.writable)
-
-abbrev pub IsAccess : How → ℕ → List ℕ → Bool → Type 0
-IsAccess hows.T2 size store writable = IsAreaAccess hows.T2 size store writable
-IsAccess hows.T4 size store writable = (file : FileMap) × NamesFile store file × (writable ≡ file.writable)
-IsAccess (hows.T5 id) size store writable = IsAreaAccess (hows.T5 id) size store writable
 
 -- What a read answers, by the form of the store. The other answers tell of none.
 abbrev pub Tells : How → ℕ → List ℕ → Answer → Type 0

@@ -2,7 +2,7 @@
 //!
 //! `bench` obeys commands, those that ask the devices something by `asking`; `entry` is what the journal keeps of one,
 //! `answering` makes its answer of what selecting, reading, writing and searching came to, and `report` turns an entry to
-//! text. `specs/Legal.antt` says which entries a bench may
+//! text, bytes by `digits`. `specs/Legal.antt` says which entries a bench may
 //! have, `specs/Journal.antt` which journals the lines of a script may have, `specs/Answering.antt` and
 //! `specs/Reading.antt` what each answer tells, `specs/Report.antt` how it is written; `law` says when noise keeps no command
 //! from its answer, and that the lines of a script alone decide which of them are taken.
@@ -11,6 +11,7 @@
 mod answering;
 mod asking;
 mod bench;
+mod digits;
 mod entry;
 mod law;
 mod report;

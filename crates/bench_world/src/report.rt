@@ -6,6 +6,7 @@ ghost use Rattle.std.specs.Fmt.{decimal};
 ghost use Rattle.bench_script.specs.Canonical.{hex_text};
 ghost use Rattle.bench_world.specs.Report.{tail_text, frame_text, fate_text, sent_text, event_text, kind_text, seen_text, found_text, answer_text, code_text, events_text, entry_text, line_text};
 
+use crate::digits::push_digits;
 use crate::entry::{Answer, Entry, Seen};
 use bench_devices::SeenKind;
 use nfc_base::{Event, Fate, Frame};
@@ -17,46 +18,40 @@ pub fn render(alloc: Global, entry: &Entry, quiet: bool) -> Result<Vec<u8>, Allo
 {
     let mut text = Vec::new(alloc);
     if !quiet {
-        push_events(alloc, &mut text, entry.line, entry.events.as_slice())?;
+        push_events(&mut text, entry.line, entry.events.as_slice())?;
     }
     push_number(&mut text, entry.line as u64)?;
     text.extend_from_slice(b" ".as_slice())?;
-    push_answer(alloc, &mut text, &entry.answer)?;
+    push_answer(&mut text, &entry.answer)?;
     text.extend_from_slice(b"\n".as_slice())?;
     Ok(text)
 }
 
-fn push_events(
-    alloc: Global,
-    text: &mut Vec<u8>,
-    line: u32,
-    events: &[Event],
-) -> Result<(), AllocError>
+fn push_events(text: &mut Vec<u8>, line: u32, events: &[Event]) -> Result<(), AllocError>
     ensures { OnOk result (text.new.items ≡ text.old.items ++ events_text line events.now) }
 {
     'events: for event in events {
         push_number(text, line as u64)?;
         text.extend_from_slice(b" ".as_slice())?;
-        push_event(alloc, text, event)?;
+        push_event(text, event)?;
         text.extend_from_slice(b"\n".as_slice())?;
     }
     Ok(())
 }
 
-fn push_event(alloc: Global, text: &mut Vec<u8>, event: &Event) -> Result<(), AllocError>
+fn push_event(text: &mut Vec<u8>, event: &Event) -> Result<(), AllocError>
     ensures { OnOk result (text.new.items ≡ text.old.items ++ event_text event.now) }
 {
     match event {
         Event::Reset => text.extend_from_slice(b"! reset".as_slice()),
-        Event::Request { frame, fate } => push_sent(alloc, text, b"> ", frame, *fate),
-        Event::Answer { frame, fate } => push_sent(alloc, text, b"< ", frame, *fate),
-        Event::Clash { frame, fate } => push_sent(alloc, text, b"* ", frame, *fate),
+        Event::Request { frame, fate } => push_sent(text, b"> ", frame, *fate),
+        Event::Answer { frame, fate } => push_sent(text, b"< ", frame, *fate),
+        Event::Clash { frame, fate } => push_sent(text, b"* ", frame, *fate),
     }
 }
 
 /// A transmission, behind the sign that says what it is.
 fn push_sent(
-    alloc: Global,
     text: &mut Vec<u8>,
     sign: &[u8; 2],
     frame: &Frame,
@@ -65,16 +60,16 @@ fn push_sent(
     ensures { OnOk result (text.new.items ≡ text.old.items ++ (sign.now ++ sent_text frame.now fate)) }
 {
     text.extend_from_slice(sign.as_slice())?;
-    push_frame(alloc, text, frame)?;
+    push_frame(text, frame)?;
     text.extend_from_slice(b" ".as_slice())?;
     text.extend_from_slice(fate_name(fate))?;
     Ok(())
 }
 
-fn push_frame(alloc: Global, text: &mut Vec<u8>, frame: &Frame) -> Result<(), AllocError>
+fn push_frame(text: &mut Vec<u8>, frame: &Frame) -> Result<(), AllocError>
     ensures { OnOk result (text.new.items ≡ text.old.items ++ frame_text frame.now) }
 {
-    push_hex(alloc, text, frame.view())?;
+    push_hex(text, frame.view())?;
     if frame.tail() != 0 {
         text.extend_from_slice(b"/".as_slice())?;
         push_number(text, frame.tail() as u64)?;
@@ -93,7 +88,7 @@ fn fate_name(fate: Fate) -> &'static [u8]
     }
 }
 
-fn push_answer(alloc: Global, text: &mut Vec<u8>, answer: &Answer) -> Result<(), AllocError>
+fn push_answer(text: &mut Vec<u8>, answer: &Answer) -> Result<(), AllocError>
     ensures { OnOk result (text.new.items ≡ text.old.items ++ answer_text answer.now) }
 {
     match answer {
@@ -110,7 +105,7 @@ fn push_answer(alloc: Global, text: &mut Vec<u8>, answer: &Answer) -> Result<(),
         Answer::NotFound => text.extend_from_slice(b"not found".as_slice()),
         Answer::SixBad => text.extend_from_slice(b"six bad".as_slice()),
         Answer::Written => text.extend_from_slice(b"written".as_slice()),
-        Answer::Refused(code) => push_refusal(alloc, text, *code),
+        Answer::Refused(code) => push_refusal(text, *code),
         Answer::ReadOnly => text.extend_from_slice(b"read only".as_slice()),
         Answer::TooLong(room) => {
             text.extend_from_slice(b"too long ".as_slice())?;
@@ -119,12 +114,12 @@ fn push_answer(alloc: Global, text: &mut Vec<u8>, answer: &Answer) -> Result<(),
         Answer::ShortMlc => text.extend_from_slice(b"short mlc".as_slice()),
         Answer::Store(bytes) => {
             text.extend_from_slice(b"store ".as_slice())?;
-            push_hex(alloc, text, bytes.as_slice())
+            push_hex(text, bytes.as_slice())
         }
-        Answer::Found { devices, crowd } => push_found(alloc, text, devices.as_slice(), *crowd),
+        Answer::Found { devices, crowd } => push_found(text, devices.as_slice(), *crowd),
         Answer::Message { message, writable } => {
             text.extend_from_slice(b"message ".as_slice())?;
-            push_hex(alloc, text, message.as_slice())?;
+            push_hex(text, message.as_slice())?;
             if *writable {
                 text.extend_from_slice(b" writable".as_slice())
             } else {
@@ -135,45 +130,40 @@ fn push_answer(alloc: Global, text: &mut Vec<u8>, answer: &Answer) -> Result<(),
 }
 
 /// The code by which a tag refused a command.
-fn push_refusal(alloc: Global, text: &mut Vec<u8>, code: u16) -> Result<(), AllocError>
+fn push_refusal(text: &mut Vec<u8>, code: u16) -> Result<(), AllocError>
     ensures { OnOk result (text.new.items ≡ text.old.items ++ (codes "refused " ++ code_text code)) }
 {
     text.extend_from_slice(b"refused ".as_slice())?;
-    push_hex(alloc, text, &[(code / 256) as u8, (code % 256) as u8])
+    push_hex(text, &[(code / 256) as u8, (code % 256) as u8])
 }
 
 /// How many devices were found, which, and whether there is a crowd beside them.
-fn push_found(
-    alloc: Global,
-    text: &mut Vec<u8>,
-    devices: &[Seen],
-    crowd: bool,
-) -> Result<(), AllocError>
+fn push_found(text: &mut Vec<u8>, devices: &[Seen], crowd: bool) -> Result<(), AllocError>
     ensures { OnOk result (text.new.items ≡ text.old.items ++ found_text devices.now crowd) }
 {
     text.extend_from_slice(b"found ".as_slice())?;
     push_number(text, devices.len() as u64)?;
-    push_devices(alloc, text, devices)?;
+    push_devices(text, devices)?;
     if crowd {
         text.extend_from_slice(b" crowd".as_slice())?;
     }
     Ok(())
 }
 
-fn push_devices(alloc: Global, text: &mut Vec<u8>, devices: &[Seen]) -> Result<(), AllocError>
+fn push_devices(text: &mut Vec<u8>, devices: &[Seen]) -> Result<(), AllocError>
     ensures { OnOk result (text.new.items ≡ text.old.items ++ flat_map seen_text devices.now) }
 {
     'devices: for seen in devices {
-        push_seen(alloc, text, seen)?;
+        push_seen(text, seen)?;
     }
     Ok(())
 }
 
-fn push_seen(alloc: Global, text: &mut Vec<u8>, seen: &Seen) -> Result<(), AllocError>
+fn push_seen(text: &mut Vec<u8>, seen: &Seen) -> Result<(), AllocError>
     ensures { OnOk result (text.new.items ≡ text.old.items ++ seen_text seen.now) }
 {
     text.extend_from_slice(b" ".as_slice())?;
-    push_hex(alloc, text, seen.id.bytes())?;
+    push_hex(text, seen.id.bytes())?;
     text.extend_from_slice(b":".as_slice())?;
     text.extend_from_slice(kind_name(seen.kind))?;
     Ok(())
@@ -190,14 +180,13 @@ fn kind_name(kind: SeenKind) -> &'static [u8]
     }
 }
 
-fn push_hex(alloc: Global, text: &mut Vec<u8>, bytes: &[u8]) -> Result<(), AllocError>
+fn push_hex(text: &mut Vec<u8>, bytes: &[u8]) -> Result<(), AllocError>
     ensures { OnOk result (text.new.items ≡ text.old.items ++ hex_text bytes.now) }
 {
     if bytes.is_empty() {
         return text.extend_from_slice(b"-".as_slice());
     }
-    let digits = hex::encode_upper(alloc, bytes)?;
-    text.extend_from_slice(digits.as_bytes())
+    push_digits(text, bytes)
 }
 
 /// A number in decimal. It takes no memory but the text's own.

@@ -29,6 +29,7 @@ use Rattle.dep_link.specs.Payloads.{Cut, joined, taken, cut_by, begins, payloads
 use Rattle.dep_link.specs.Exchange.{frames_of}
 use Rattle.dep_link.specs.Answering.{answering_air}
 use Rattle.dep_link.specs.Asking.{Standing, Rests, asks, dep_next, HasPeer, ExchangeTurns, EndsBy}
+use Rattle.dep_link.specs.Sizes.{limit}
 use Rattle.dep_link.specs.DepLinks.{DepSeen, since, brought, told_end, StandsAt, IsDepReady, Exchanged, Carries}
 use Rattle.dep_link.proofs.Wire.{frames_append}
 
@@ -73,7 +74,7 @@ cut_then c [] ws = refl
 cut_then c (v ∷ vs) ws = cut_then (taken c v) vs ws
 
 module _ {L F : Type 0} (k : Ghosts L) (target : L → TargetState) (steps : F → List ℕ → List ℕ → F → Type 0) (stops : F → List ℕ → F → Type 0) (a : DepSeen L) (open_link : a.over ≡ None) (r : IsDepReady k target a)
-    (out : List ℕ) (far far' : F) where
+    (out : List ℕ) (short : length out ≤ limit) (far far' : F) where
   -- where the link stands then
   abbrev pub at : Air L → InitState → Option EndCause → DepSeen L
   at new j over = record { air = new; initiator = j; first = a.first; start = a.start; over = over }
@@ -112,10 +113,10 @@ module _ {L F : Type 0} (k : Ghosts L) (target : L → TargetState) (steps : F �
 
   module _ (new : Air L) (j : InitState) (last : j.out ≡ Some out) where
     exchanged : (over : Option EndCause) (s : Standing) → StandsAt over j s → Turns new None s → Exchanged k target a (at new j over) (record { out = out; did = [] })
-    exchanged over s st x = record { begins = open_link; start = r.start; peer = r.peer; same = (refl, refl); last = last; exchange = (s, x, st) }
+    exchanged over s st x = record { begins = open_link; start = r.start; peer = r.peer; same = (refl, refl); last = last; short = short; exchange = (s, x, st) }
 
     exchanged_step : (over : Option EndCause) (reply : List ℕ) (s : Standing) → StandsAt over j s → Turns new (Some reply) s → Exchanged k target a (at new j over) (record { out = out; did = Stepped out reply ∷ [] })
-    exchanged_step over reply s st x = record { begins = open_link; start = r.start; peer = r.peer; same = (refl, refl); last = last; exchange = (refl, (s, x, st)) }
+    exchanged_step over reply s st x = record { begins = open_link; start = r.start; peer = r.peer; same = (refl, refl); last = last; short = short; exchange = (refl, (s, x, st)) }
 
     -- the reply came
     pub carried : (reply : Vec ℕ) → EndsBy k target steps stops a.air new r.peer.listener a.initiator j a.first (brought a.first (since a)) (arrived (since a)) out far far' (Ok (record { items = reply.items }))
@@ -163,7 +164,7 @@ module _ {L F : Type 0} (k : Ghosts L) (target : L → TargetState) (steps : F �
     stopped (x, stop) = (
       Stopped out ∷ [],
       record {
-        exchanged = record { begins = open_link; start = r.start; peer = r.peer; same = (refl, refl); last = last; exchange = (refl, x, refl) };
+        exchanged = record { begins = open_link; start = r.start; peer = r.peer; same = (refl, refl); last = last; short = short; exchange = (refl, x, refl) };
         far_moved = (stop, refl);
       },
       inr (refl, refl),
@@ -177,6 +178,7 @@ module _ {L F : Type 0} (k : Ghosts L) (target : L → TargetState) (steps : F �
       let x : Turns a.air None (asks a.initiator out) = record {
         events = [];
         trace = sym (append-nil a.air.trace);
+        frames = tt;
         brings = ap (λ (fs : List Signal). payloads a.first (frames_of fs)) (append-nil (arrived (since a))) ∙ sym (append-nil (brought a.first (since a)));
         within = omega arith;
         notes = [];

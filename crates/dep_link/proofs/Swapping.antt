@@ -8,6 +8,7 @@ use Rattle.nfc_base.specs.StopAndWait.{Does, Quiet, Reply, Deliver, Hears, Finis
 use Rattle.nfc_base.specs.LinkTurns.{heard_of, heard_in, Step, settled, step, Turned, turned, IsTurn, MovedBy, GivenBy, bad_receptions}
 use Rattle.nfc_base.specs.LinkTurns as turns
 use Rattle.nfc_base.specs.declared.event.Event.{Event}
+use Rattle.nfc_base.specs.declared.event.Event.TheVariants.{Reset, Request, Answer, Clash}
 use Rattle.nfc_base.specs.declared.event.Fate.{Fate}
 use Rattle.nfc_base.specs.declared.event.Fate.TheVariants.{Pass, Damage, Lose, Break}
 use Rattle.nfc_base.specs.declared.event.Heard.{Heard}
@@ -35,7 +36,7 @@ use Rattle.dep_link.specs.Payloads.{payloads}
 use Rattle.dep_link.specs.Exchange.{nfc_dep, initiator_does, frames_of, pieces, frames_back, beginning, InStep, IsCut}
 use Rattle.dep_link.specs.Answering.{answering, answering_air}
 use Rattle.dep_link.specs.Peers.{IsAskedFrame, IsAsked, IsShort, Hearing, IsHearing, heard_with, reached, StepsByTarget, IsPeer}
-use Rattle.dep_link.specs.Asking.{Standing, Waits, Broken, asks, goes_by, noted, stand, due_at, dep_next, MayReply, HasPeer, ExchangeTurns}
+use Rattle.dep_link.specs.Asking.{Standing, Waits, Broken, asks, goes_by, noted, stand, due_at, dep_next, AreFrames, MayReply, HasPeer, ExchangeTurns}
 use Rattle.dep_link.proofs.Wire.{is_piece}
 use Rattle.dep_link.proofs.Standing as law
 use Rattle.dep_link.proofs.Landing.{speaks_at, hands_at}
@@ -141,6 +142,38 @@ positive : (n : ℕ) → (n ≡ 0 → ⊥) → 0 < n
 positive zero p = absurd (p refl)
 positive (suc n) p = omega arith
 
+-- frames of bytes, one stretch after another
+frames_append : (a b : List Event) → AreFrames a → AreFrames b → AreFrames (a ++ b)
+frames_append [] b p q = q
+frames_append (Reset ∷ a) b p q = frames_append a b p q
+frames_append (Request f x ∷ a) b p q = (p.0, frames_append a b p.1 q)
+frames_append (Answer g x ∷ a) b p q = frames_append a b p q
+frames_append (Clash g x ∷ a) b p q = frames_append a b p q
+
+answered_frames : (first : ℕ) (t : TargetState) (asked : Option (List ℕ)) (f : Signal) (q : Option Signal) (y : Fate) → HasBytes f → AreFrames (turns.answered (nfc_dep first) t asked f q y).events
+answered_frames first t asked f None y b = (b, tt)
+answered_frames first t asked f (Some a) y b = (b, tt)
+
+turned_frames : (first : ℕ) (r : List ℕ) (t : TargetState) (f : Signal) (x y : Fate) → HasBytes f → AreFrames (turned (nfc_dep first) r t f x y).events
+turned_frames first r t f Pass y b = answered_frames first (step (nfc_dep first) r t f).state (step (nfc_dep first) r t f).asked f (step (nfc_dep first) r t f).answer y b
+turned_frames first r t f Damage y b = (b, tt)
+turned_frames first r t f Lose y b = (b, tt)
+turned_frames first r t f Break y b = (b, tt)
+
+-- what was added to a trace are frames of bytes
+abbrev pub Framed : List Event → List Event → Type 0
+Framed base now = (es : List Event) → now ≡ base ++ es → AreFrames es
+
+framed_first : (base : List Event) → Framed base base
+framed_first base es e =
+    let none : [] ≡ es = append_cancel_left base [] es (append-nil base ∙ e) in
+    subst AreFrames none tt
+
+framed_more : (base mid new xs ys : List Event) → mid ≡ base ++ xs → new ≡ mid ++ ys → Framed base mid → AreFrames ys → Framed base new
+framed_more base mid new xs ys e1 e2 before more es e =
+    let same : es ≡ xs ++ ys = append_cancel_left base es (xs ++ ys) (sym e ∙ e2 ∙ ap (λ (zs : List Event). zs ++ ys) e1 ∙ append_assoc base xs ys) in
+    subst AreFrames (sym same) (frames_append xs ys (before xs e1) more)
+
 -- what didn't pass in a turn didn't pass in all of them
 noise_later : (base xs ys zs : List Event) (mid new : List Event) → mid ≡ base ++ xs → new ≡ mid ++ ys → new ≡ base ++ zs → 0 < noise ys → 0 < noise zs
 noise_later base xs ys zs mid new e1 e2 e3 h =
@@ -169,6 +202,7 @@ module _ {L F : Type 0} (k : Ghosts L) (target : L → TargetState) (steps : F �
     pub lit : mid.lit ≡ true
     pub said : Option (List ℕ)
     pub along : StandsBy old.trace i (target (reached k begin heard)) mid.trace (saying far said) stage
+    pub frames : Framed old.trace mid.trace
     pub notes : List Note
     pub going : (r : List ℕ) → MayReply said r → Going (answering_air k.machine r) (dep_next i0 out) (moment old) (moment mid) notes
     pub stands : stand (asks i0 out) notes ≡ s
@@ -180,6 +214,7 @@ module _ {L F : Type 0} (k : Ghosts L) (target : L → TargetState) (steps : F �
     pub said : Option (List ℕ)
     pub initiator : InitState
     pub along : StandsBy old.trace initiator (target left) new.trace (saying far said) Dark
+    pub frames : Framed old.trace new.trace
     pub notes : List Note
     pub going : (r : List ℕ) → MayReply said r → Going (answering_air k.machine r) (dep_next i0 out) (moment old) (moment new) notes
     pub stands : stand (asks i0 out) notes ≡ Broken cause.FieldLost
@@ -254,6 +289,7 @@ module _ {L : Type 0} (k : Ghosts L) (laws : Laws k) where
               bads = refl;
               given = refl;
             };
+            frames = framed_first old.trace;
             notes = [];
             going = λ r m. going_start (answering_air k.machine r) (dep_next i0 out) (moment old);
             stands = refl;
@@ -323,6 +359,10 @@ module _ {L : Type 0} (k : Ghosts L) (laws : Laws k) where
           onward =
               goes_along (nfc_dep first) handed out The (2 * pieces i0.core.most out) (Replying F) (says steps) arrived old.trace (saying far0 None)
               i (target last) (target t.left) mid.trace new.trace (saying far o.said) (saying far' said_now) f h o.along said_turn
+
+          framed_now : Framed old.trace new.trace
+          framed_now =
+              framed_more old.trace mid.trace new.trace o.along.added turn_is.events o.along.events t.turn.events o.frames (turned_frames first t.turn.reply (target last) f t.turn.first t.turn.second bytes)
 
           one_more : (r : List ℕ) → MayReply o.said r → QuietTurn {A = Told} (answering k.machine r) mid f tt h new tt
               → Going (answering_air k.machine r) (dep_next i0 out) (moment old) (moment new) (o.notes ++ note h ∷ [])
@@ -411,6 +451,7 @@ module _ {L : Type 0} (k : Ghosts L) (laws : Laws k) where
                 lit = lit;
                 said = said_now old mid place far i f bytes o far' new (Some h) q;
                 along = subst (λ (y : L). Stands old.trace (init_table i h).state (target y) new.trace x (stage_of (initiator_does (init_table i h).does))) e b;
+                frames = framed_now old mid place far i f bytes o far' new (Some h) q;
                 notes = o.notes ++ note (Some h) ∷ [];
                 going = going_on old mid place far i f bytes o far' new (Some h) q;
                 stands = stands_then old mid place far i f bytes o far' new (Some h) q;
@@ -446,6 +487,7 @@ module _ {L : Type 0} (k : Ghosts L) (laws : Laws k) where
               said = said_now old mid place far i f bytes o far' new None q;
               initiator = i;
               along = heard_nothing old.trace new.trace i (target t0.left) x n.hears n.heard_is n.along;
+              frames = framed_now old mid place far i f bytes o far' new None q;
               notes = o.notes ++ note None ∷ [];
               going = going_on old mid place far i f bytes o far' new None q;
               stands = stands_then old mid place far i f bytes o far' new None q;
@@ -462,16 +504,17 @@ module _ {L : Type 0} (k : Ghosts L) (laws : Laws k) where
           subst (λ (x : Option (List ℕ)). GivenBy steps far0 out x far) (sym given.1 ∙ e) given.0
 
       abbrev pub turns_by : (old new : Air L) (i : InitState) (t : TargetState) (far : F) (said : Option (List ℕ)) (stage : Stage Signal) (a : Stands old.trace i t new.trace (saying far said) stage)
-          → (g : Option (List ℕ)) → said ≡ g → (notes : List Note)
+          → (g : Option (List ℕ)) → said ≡ g → Framed old.trace new.trace → (notes : List Note)
           → ((r : List ℕ) → MayReply said r → Going (answering_air k.machine r) (dep_next i0 out) (moment old) (moment new) notes) → (s : Standing) → stand (asks i0 out) notes ≡ s
           → Turns old new g s
-      turns_by old new i t far said stage a g e notes going s stands =
+      turns_by old new i t far said stage a g e frames notes going s stands =
           let o : OnceAlong a.world = once_along old.trace new.trace i t (saying far said) stage a in
           let given = given_far steps far0 far out said a.world.given a.given in
           let same : a.world.given ≡ g = sym given.1 ∙ e in
           record {
             events = a.added;
             trace = a.events;
+            frames = frames a.added a.events;
             brings = ap (λ (fs : List Signal). payloads first (frames_of fs)) a.arrives ∙ o.brings ∙ o.once ∙ ap (λ (x : Option (List ℕ)). handed ++ delivered_of out x) same;
             within =
                 (let w : a.world.sent ≤ 2 * (pieces i0.core.most out + pieces_back (frames_back (target begin)) g - 1) + 4 * a.world.bads =
@@ -485,10 +528,10 @@ module _ {L : Type 0} (k : Ghosts L) (laws : Laws k) where
       -- the payload is under way in a lit field, or was broken off there
       abbrev pub on_turns : (old mid : Air L) (place : ℕ) (far : F) (i : InitState) (stage : Stage Signal) (s : Standing) (o : On old mid place far i stage s) → Turns old mid o.said s
       on_turns old mid place far i stage s o =
-          turns_by old mid i (target (reached k begin o.heard)) far o.said stage o.along o.said refl o.notes o.going s o.stands
+          turns_by old mid i (target (reached k begin o.heard)) far o.said stage o.along o.said refl o.frames o.notes o.going s o.stands
 
       abbrev pub lost_turns : (old new : Air L) (far : F) (o : Lost old new far) → Turns old new o.said (Broken cause.FieldLost)
-      lost_turns old new far o = turns_by old new o.initiator (target o.left) far o.said Dark o.along o.said refl o.notes o.going (Broken cause.FieldLost) o.stands
+      lost_turns old new far o = turns_by old new o.initiator (target o.left) far o.said Dark o.along o.said refl o.frames o.notes o.going (Broken cause.FieldLost) o.stands
 
       -- an exchange that ended, by what its end tells
       ending_along : (es0 es : List Event) (i : InitState) (t : TargetState) (x : Replying F) (stage : Stage Signal) (a : Stands es0 i t es x stage)
@@ -511,7 +554,7 @@ module _ {L : Type 0} (k : Ghosts L) (laws : Laws k) where
           let said : o.said ≡ Some r = (given_far steps far0 far out o.said o.along.world.given o.along.given).1 ∙ e.0 in
           let P : InitState → TargetState → Type 0 = λ y z. InStep y z in
           let Q : TargetState → List (List ℕ) → List Signal → Type 0 = IsCut first in (
-            turns_by old new i (target l) far o.said (Over (Finished r)) o.along (Some r) said o.notes o.going s o.stands,
+            turns_by old new i (target l) far o.said (Over (Finished r)) o.along (Some r) said o.frames o.notes o.going s o.stands,
             far_by old.trace new.trace i (target l) far o.said (Over (Finished r)) o.along (Some r) said,
             record {
               place = place;

@@ -1,13 +1,13 @@
 -- What an initiator sends while it carries one payload, by what it has heard (NFCIP-1, ISO/IEC 18092), and what one exchange
 -- with a peer in a field does.
-use Rattle.std.specs.Prelude.{◌≡◌, ℕ, ◌+◌, ◌-◌, ◌*◌, ◌<◌, ◌≤◌, List, [], ◌∷◌, ◌++◌, length, true, Option, Some, None, Result, Ok, Err}
+use Rattle.std.specs.Prelude.{◌≡◌, ℕ, ◌+◌, ◌-◌, ◌*◌, ◌<◌, ◌≤◌, List, [], ◌∷◌, ◌++◌, length, slice_index, true, Option, Some, None, Result, Ok, Err}
 use Rattle.nfc_base.specs.Signal.{Signal}
 use Rattle.nfc_base.specs.Trace.{noise}
 use Rattle.nfc_base.specs.StopAndWait.{delivered_of, pieces_back}
 use Rattle.nfc_base.specs.LinkTurns.{GivenBy, bad_receptions}
 use Rattle.nfc_base.specs.LinkTurns as turns
 use Rattle.nfc_base.specs.declared.event.Event.{Event}
-use Rattle.nfc_base.specs.declared.event.Event.TheVariants.{Request}
+use Rattle.nfc_base.specs.declared.event.Event.TheVariants.{Reset, Request, Answer, Clash}
 use Rattle.nfc_base.specs.declared.event.Fate.TheVariants.{Pass}
 use Rattle.nfc_base.specs.declared.carrier.EndCause.{EndCause}
 use Rattle.nfc_base.specs.declared.carrier.EndCause.TheVariants.{FieldLost, SixBad, Protocol, Memory}
@@ -68,6 +68,14 @@ due_at Astray = Over
 abbrev pub dep_next : InitState → List ℕ → List Note → Next
 dep_next i out ns = due_at (stand (asks i out) ns)
 
+-- the items of the frames of these requests are bytes
+abbrev pub AreFrames : List Event → Type 0
+AreFrames [] = Unit {0}
+AreFrames (Reset ∷ es) = AreFrames es
+AreFrames (Request f x ∷ es) = ((i : ℕ) → slice_index f.bytes i < 256) × AreFrames es
+AreFrames (Answer g x ∷ es) = AreFrames es
+AreFrames (Clash g x ∷ es) = AreFrames es
+
 -- the reply r will do where that was given, if it was
 abbrev pub MayReply : Option (List ℕ) → List ℕ → Type 0
 MayReply None r = Unit {0}
@@ -91,6 +99,7 @@ module _ {L : Type 0} (k : Ghosts L) (target : L → TargetState) where
   pub record ExchangeTurns (old new : Air L) (peer : L) (i : InitState) (first : ℕ) (handed : List (List ℕ)) (arrived : List Signal) (out : List ℕ) (given : Option (List ℕ)) (s : Standing) : Type 0 where
     pub events : List Event
     pub trace : new.trace ≡ old.trace ++ events
+    pub frames : AreFrames events
     pub brings : payloads first (frames_of (arrived ++ turns.arrived events)) ≡ handed ++ delivered_of out given
     pub within : length events ≤ 2 * (pieces i.core.most out + pieces_back (frames_back (target peer)) given - 1) + 4 * bad_receptions events
     pub notes : List Note

@@ -17,6 +17,7 @@ use Rattle.dep_link.specs.declared.exchange.Unanswered.TheVariants as ends
 use Rattle.dep_link.specs.declared.initiator.Phase.{Phase}
 use Rattle.dep_link.specs.declared.initiator.Phase.TheVariants.{Asked, Nacked, Attending, Free, EndedSixBad, EndedProtocol}
 use Rattle.dep_link.specs.declared.pair.DepPair.{DepPair}
+use Rattle.dep_link.specs.Sizes.{limit}
 use Rattle.dep_link.specs.Target.{TargetState}
 use Rattle.dep_link.specs.Initiator.{InitState}
 use Rattle.dep_link.specs.Payloads.{payloads}
@@ -126,13 +127,15 @@ module _ {L : Type 0} (k : Ghosts L) (target : L → TargetState) where
       (payload ≡ out) × StoppedTurns k target a.air b.air t.listener a.initiator a.first (brought a.first (since a)) (arrived (since a)) out b.initiator × (b.over ≡ Some Memory)
   ExchangedAs a b t out (d ∷ e ∷ ds) = ⊥
 
-  -- From one moment to another a payload was swapped: each request was due, and nothing else happened to the field.
+  -- From one moment to another a payload was swapped, which is as long as one may be: each request was due, and nothing else happened to
+  -- the field.
   pub record Exchanged (a b : DepSeen L) (s : Swap) : Type 0 where
     pub begins : a.over ≡ None
     pub start : a.start ≤ length a.air.trace
     pub peer : PeerOf a
     pub same : (b.first ≡ a.first) × (b.start ≡ a.start)
     pub last : b.initiator.out ≡ Some s.out
+    pub short : length s.out ≤ limit
     pub exchange : ExchangedAs a b peer s.out s.did
 
   -- swaps one after another

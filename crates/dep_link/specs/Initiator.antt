@@ -9,6 +9,8 @@ use Rattle.dep_pdu.specs.declared.frame.DepFrame.{DepFrame}
 use Rattle.dep_pdu.specs.declared.frame.DepFrame.TheVariants.{Info, Ack, Nack, Attention, Extend}
 use Rattle.dep_link.specs.declared.initiator.Phase.{Phase}
 use Rattle.dep_link.specs.declared.initiator.Phase.TheVariants.{Asked, Nacked, Attending, Free, EndedSixBad, EndedProtocol}
+use Rattle.dep_link.specs.declared.initiator.InitKind.{InitKind}
+use Rattle.dep_link.specs.declared.initiator.InitKind.TheVariants as kinds
 use Rattle.dep_link.specs.declared.initiator.InitStep.{InitStep}
 use Rattle.dep_link.specs.declared.initiator.InitStep.TheVariants as steps
 use Rattle.dep_link.specs.Sizes.{piece_size, limit}
@@ -227,6 +229,13 @@ waiting code =
       bads = 0;
       out = None;
     }
+
+-- a step whose frame stands in the place that it was given
+abbrev pub init_step_at : InitKind → Signal → InitStep
+init_step_at kinds.Send f = steps.Send f
+init_step_at (kinds.Finished reply) f = steps.Finished reply
+init_step_at kinds.SixBad f = steps.SixBad
+init_step_at kinds.Protocol f = steps.Protocol
 
 -- Whatever an initiator sends spells a frame.
 abbrev pub IsSent : InitStep → Type 0

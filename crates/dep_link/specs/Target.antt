@@ -6,6 +6,8 @@ use Rattle.nfc_base.specs.Signal.{Signal}
 use Rattle.dep_pdu.specs.declared.frame.DepFrame.{DepFrame}
 use Rattle.dep_pdu.specs.declared.frame.DepFrame.TheVariants.{AtrReq, AtrRes, Info, Ack, Nack, Attention, Extend, DslReq, DslRes, RlsReq, RlsRes}
 use Rattle.dep_pdu.specs.Spelling.{IsDepFrame}
+use Rattle.dep_link.specs.declared.target.TargetKind.{TargetKind}
+use Rattle.dep_link.specs.declared.target.TargetKind.TheVariants as kinds
 use Rattle.dep_link.specs.declared.target.TargetStep.{TargetStep}
 use Rattle.dep_link.specs.declared.target.TargetStep.TheVariants as steps
 use Rattle.dep_link.specs.Sizes.{piece_size, initiator_lr, limit}
@@ -210,6 +212,15 @@ made_busy t count times = record t { busy = count; times = times }
 -- the most often that a target asks for more time before a reply
 abbrev pub most_busy : ℕ
 most_busy = 5
+
+-- a step whose answer stands in the place that it was given
+abbrev pub target_step_at : TargetKind → Signal → TargetStep
+target_step_at kinds.Quiet f = steps.Quiet
+target_step_at kinds.Reply f = steps.Reply f
+target_step_at (kinds.Restart general) f = steps.Restart general f
+target_step_at (kinds.Deliver payload) f = steps.Deliver payload
+target_step_at kinds.Asleep f = steps.Asleep f
+target_step_at kinds.Released f = steps.Released f
 
 -- Whatever a target answers spells a frame.
 abbrev pub IsSaid : TargetStep → Type 0

@@ -3,7 +3,7 @@
 ghost use Rattle.std.specs.Prelude.{◌≡◌};
 ghost use Rattle.dep_link.specs.Asking.{Exchanges};
 
-use crate::initiator::{InitStep, Initiator};
+use crate::initiator::{InitKind, Initiator};
 use crate::listener::PeerListener;
 use air_core::{AirFault, Field};
 use arrayvec::ArrayVec;
@@ -41,11 +41,12 @@ pub(crate) fn ask_peer<L: PeerListener, A: Answerer>(
                 return Err(Unanswered::Stopped);
             }
         };
-        match initiator.next(&heard) {
-            InitStep::Send(next) => frame = next,
-            InitStep::Finished(reply) => return Ok(reply),
-            InitStep::SixBad => return Err(Unanswered::Ended(EndCause::SixBad)),
-            InitStep::Protocol => return Err(Unanswered::Ended(EndCause::Protocol)),
+        match initiator.next_into(&heard, &mut frame) {
+            // a look at it, by which each of its bytes is known as one
+            InitKind::Send => prove!(frame.view().len() <= 288),
+            InitKind::Finished(reply) => return Ok(reply),
+            InitKind::SixBad => return Err(Unanswered::Ended(EndCause::SixBad)),
+            InitKind::Protocol => return Err(Unanswered::Ended(EndCause::Protocol)),
         }
     }
 }

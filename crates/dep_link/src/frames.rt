@@ -39,6 +39,14 @@ pub(crate) fn air_frame(value: &DepFrame) -> Frame
     Frame::whole(Tech::A, &bytes).unwrap()
 }
 
+/// The same, put into a place of the caller's.
+pub(crate) fn put_frame(value: &DepFrame, place: &mut Frame)
+    ensures frame { place.new ≡ air_frame value.now }
+    ensures spelled { IsDepFrame value.now → IsSpelled place.new }
+{
+    *place = air_frame(value);
+}
+
 /// The frame of NFC-DEP that one on the air spells.
 pub(crate) fn spelled(frame: &Frame) -> Option<DepFrame>
     ensures value { result ≡ spelled frame.now }

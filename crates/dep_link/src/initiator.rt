@@ -4,12 +4,12 @@ ghost use Rattle.std.specs.Prelude.{◌≡◌, ◌<◌, ◌≤◌, length, None}
 ghost use Rattle.dep_pdu.specs.Spelling.{IsDepFrame};
 ghost use Rattle.dep_link.specs.Frames.{air_frame, spelled, IsSpelled};
 ghost use Rattle.dep_link.specs.DepLinks.{over_at};
-ghost use Rattle.dep_link.specs.Initiator.{InitTurn, init_table, framed, sends, refuses, bad, acked, brought, answered, attended, waited, attending, request, more_follows, may_extend, extended, begun, waiting, IsSent};
+ghost use Rattle.dep_link.specs.Initiator.{InitTurn, init_table, framed, sends, refuses, bad, acked, brought, answered, attended, waited, attending, request, more_follows, may_extend, extended, begun, waiting, IsSent, init_step_at};
 
-use crate::frames::{after, air_frame, piece, piece_size, spelled};
+use crate::frames::{after, air_frame, piece, piece_size, put_frame, spelled};
 use arrayvec::ArrayVec;
 use dep_pdu::DepFrame;
-use nfc_base::{EndCause, Frame, Heard};
+use nfc_base::{EndCause, Frame, Heard, Tech};
 use std::marker::Model;
 
 /// The most bad receptions of a wait that goes on.
@@ -29,6 +29,15 @@ pub enum InitStep {
     /// The sixth bad reception of a wait.
     SixBad,
     /// A whole frame that isn't allowed here.
+    Protocol,
+}
+
+/// The same, of an initiator that was given a place for the frame that it sends next.
+#[derive(Debug, Drop)]
+pub enum InitKind {
+    Send,
+    Finished(ArrayVec<u8, 2178>),
+    SixBad,
     Protocol,
 }
 
@@ -130,21 +139,37 @@ impl Initiator {
         ensures spelled { IsSent result }
         ensures some { 0 < self.old.core.most }
     {
+        let mut sent = Frame::whole(Tech::A, &[]).unwrap();
+        match self.next_into(heard, &mut sent) {
+            InitKind::Send => InitStep::Send(sent),
+            InitKind::Finished(reply) => InitStep::Finished(reply),
+            InitKind::SixBad => InitStep::SixBad,
+            InitKind::Protocol => InitStep::Protocol,
+        }
+    }
+
+    /// The same step, whose frame is put into a place of the caller's.
+    pub fn next_into(&mut self, heard: &Heard, sent: &mut Frame) -> InitKind
+        ensures step { record { state = self.new; does = init_step_at result sent.new }
+            ≡ init_table self.old heard.now }
+        ensures spelled { IsSent (init_step_at result sent.new) }
+        ensures some { 0 < self.old.core.most }
+    {
         match (self.phase, heard) {
-            (Phase::EndedSixBad, _) => InitStep::SixBad,
-            (Phase::EndedProtocol, _) => InitStep::Protocol,
+            (Phase::EndedSixBad, _) => InitKind::SixBad,
+            (Phase::EndedProtocol, _) => InitKind::Protocol,
             (Phase::Free, Heard::Whole(_)) => self.refuse(),
-            (Phase::Free, Heard::Collided(_)) => self.bad(Phase::Free),
-            (Phase::Free, Heard::Damaged) => self.bad(Phase::Free),
-            (Phase::Free, Heard::Silent) => self.bad(Phase::Free),
-            (Phase::Attending, Heard::Whole(frame)) => self.attend(frame),
-            (Phase::Attending, Heard::Collided(_)) => self.bad(Phase::Attending),
-            (Phase::Attending, Heard::Damaged) => self.bad(Phase::Attending),
-            (Phase::Attending, Heard::Silent) => self.bad(Phase::Attending),
-            (_, Heard::Whole(frame)) => self.whole(frame),
-            (_, Heard::Collided(_)) => self.bad(Phase::Nacked),
-            (_, Heard::Damaged) => self.bad(Phase::Nacked),
-            (_, Heard::Silent) => self.bad(Phase::Attending),
+            (Phase::Free, Heard::Collided(_)) => self.bad(Phase::Free, sent),
+            (Phase::Free, Heard::Damaged) => self.bad(Phase::Free, sent),
+            (Phase::Free, Heard::Silent) => self.bad(Phase::Free, sent),
+            (Phase::Attending, Heard::Whole(frame)) => self.attend(frame, sent),
+            (Phase::Attending, Heard::Collided(_)) => self.bad(Phase::Attending, sent),
+            (Phase::Attending, Heard::Damaged) => self.bad(Phase::Attending, sent),
+            (Phase::Attending, Heard::Silent) => self.bad(Phase::Attending, sent),
+            (_, Heard::Whole(frame)) => self.whole(frame, sent),
+            (_, Heard::Collided(_)) => self.bad(Phase::Nacked, sent),
+            (_, Heard::Damaged) => self.bad(Phase::Nacked, sent),
+            (_, Heard::Silent) => self.bad(Phase::Attending, sent),
         }
     }
 
@@ -202,10 +227,10 @@ impl Initiator {
     }
 
     /// Sends what belongs to the phase.
-    fn send(&mut self, phase: Phase) -> InitStep
-        ensures step { record { state = self.new; does = result }
+    fn send(&mut self, phase: Phase, sent: &mut Frame) -> InitKind
+        ensures step { record { state = self.new; does = init_step_at result sent.new }
             ≡ framed (sends self.old self.old.core phase self.old.bads) }
-        ensures spelled { IsSent result }
+        ensures spelled { IsSent (init_step_at result sent.new) }
     {
         self.phase = phase;
         let value = match phase {
@@ -214,59 +239,60 @@ impl Initiator {
             Phase::Free => DepFrame::Attention { up: false },
             _ => self.request(),
         };
-        InitStep::Send(air_frame(&value))
+        put_frame(&value, sent);
+        InitKind::Send
     }
 
     /// A whole frame that isn't allowed.
-    fn refuse(&mut self) -> InitStep
-        ensures step { record { state = self.new; does = result } ≡ framed (refuses self.old) }
-        ensures spelled { IsSent result }
+    fn refuse(&mut self) -> InitKind
+        ensures state { self.new ≡ (refuses self.old).state }
+        ensures kind { result ≡ InitKind.Protocol }
     {
         self.phase = Phase::EndedProtocol;
-        InitStep::Protocol
+        InitKind::Protocol
     }
 
     /// A bad reception, after which that is sent.
-    fn bad(&mut self, phase: Phase) -> InitStep
-        ensures step { record { state = self.new; does = result } ≡ framed (bad self.old phase) }
-        ensures spelled { IsSent result }
+    fn bad(&mut self, phase: Phase, sent: &mut Frame) -> InitKind
+        ensures step { record { state = self.new; does = init_step_at result sent.new } ≡ framed (bad self.old phase) }
+        ensures spelled { IsSent (init_step_at result sent.new) }
     {
         if self.bads == MOST_BADS {
             self.phase = Phase::EndedSixBad;
-            return InitStep::SixBad;
+            return InitKind::SixBad;
         }
         self.bads += 1;
-        self.send(phase)
+        self.send(phase, sent)
     }
 
     /// A whole frame behind a request or a NACK.
-    fn whole(&mut self, frame: &Frame) -> InitStep
-        ensures step { record { state = self.new; does = result } ≡ framed (waited self.old (spelled frame.now)) }
-        ensures spelled { IsSent result }
+    fn whole(&mut self, frame: &Frame, sent: &mut Frame) -> InitKind
+        ensures step { record { state = self.new; does = init_step_at result sent.new } ≡ framed (waited self.old (spelled frame.now)) }
+        ensures spelled { IsSent (init_step_at result sent.new) }
     {
         match spelled(frame) {
-            Some(value) => self.answered(&value),
+            Some(value) => self.answered(&value, sent),
             None => self.refuse(),
         }
     }
 
     /// A whole frame behind an attention.
-    fn attend(&mut self, frame: &Frame) -> InitStep
-        ensures step { record { state = self.new; does = result } ≡ framed (attending self.old (spelled frame.now)) }
-        ensures spelled { IsSent result }
+    fn attend(&mut self, frame: &Frame, sent: &mut Frame) -> InitKind
+        ensures step { record { state = self.new; does = init_step_at result sent.new } ≡ framed (attending self.old (spelled frame.now)) }
+        ensures spelled { IsSent (init_step_at result sent.new) }
     {
         match spelled(frame) {
-            Some(DepFrame::Attention { up: true }) => self.send(Phase::Asked),
+            Some(DepFrame::Attention { up: true }) => self.send(Phase::Asked, sent),
             _ => self.refuse(),
         }
     }
 
-    fn answered(&mut self, value: &DepFrame) -> InitStep
-        ensures step { record { state = self.new; does = result } ≡ framed (answered self.old value.now) }
-        ensures spelled { IsSent result }
+    fn answered(&mut self, value: &DepFrame, sent: &mut Frame) -> InitKind
+        ensures step { record { state = self.new; does = init_step_at result sent.new } ≡ framed (answered self.old value.now) }
+        ensures spelled { IsSent (init_step_at result sent.new) }
     {
         match value {
-            DepFrame::Ack { up: true, pni } => self.go_on(*pni),
+            DepFrame::Ack { up: true, pni } => self.go_on(*pni, sent),
             DepFrame::Info {
                 up: true,
                 more,
@@ -274,12 +300,12 @@ impl Initiator {
                 content,
             } => {
                 if !self.more_follows() && *pni == self.number {
-                    self.take(*more, content)
+                    self.take(*more, content, sent)
                 } else {
                     self.refuse()
                 }
             }
-            DepFrame::Extend { up: true, times } => self.extend(*times),
+            DepFrame::Extend { up: true, times } => self.extend(*times, sent),
             _ => self.refuse(),
         }
     }
@@ -292,9 +318,9 @@ impl Initiator {
     }
 
     /// ACK: the next piece of the payload.
-    fn go_on(&mut self, pni: u8) -> InitStep
-        ensures step { record { state = self.new; does = result } ≡ framed (acked self.old pni) }
-        ensures spelled { IsSent result }
+    fn go_on(&mut self, pni: u8, sent: &mut Frame) -> InitKind
+        ensures step { record { state = self.new; does = init_step_at result sent.new } ≡ framed (acked self.old pni) }
+        ensures spelled { IsSent (init_step_at result sent.new) }
     {
         if !self.more_follows() || pni != self.number {
             return self.refuse();
@@ -302,13 +328,13 @@ impl Initiator {
         self.at += self.most;
         self.number = after(self.number);
         self.turn();
-        self.send(Phase::Asked)
+        self.send(Phase::Asked, sent)
     }
 
     /// A piece of the reply.
-    fn take(&mut self, more: bool, content: &[u8]) -> InitStep
-        ensures step { record { state = self.new; does = result } ≡ framed (brought self.old more content.now) }
-        ensures spelled { IsSent result }
+    fn take(&mut self, more: bool, content: &[u8], sent: &mut Frame) -> InitKind
+        ensures step { record { state = self.new; does = init_step_at result sent.new } ≡ framed (brought self.old more content.now) }
+        ensures spelled { IsSent (init_step_at result sent.new) }
     {
         if more && content.is_empty() {
             return self.refuse();
@@ -321,10 +347,10 @@ impl Initiator {
         self.drawing = more;
         self.turn();
         if more {
-            self.send(Phase::Asked)
+            self.send(Phase::Asked, sent)
         } else {
             self.phase = Phase::Free;
-            InitStep::Finished(std::mem::replace(&mut self.got, ArrayVec::new()))
+            InitKind::Finished(std::mem::replace(&mut self.got, ArrayVec::new()))
         }
     }
     /// Whether the target may ask for so much more time.
@@ -336,15 +362,15 @@ impl Initiator {
     }
 
     /// The target asks for more time.
-    fn extend(&mut self, times: u8) -> InitStep
-        ensures step { record { state = self.new; does = result } ≡ framed (extended self.old times) }
-        ensures spelled { IsSent result }
+    fn extend(&mut self, times: u8, sent: &mut Frame) -> InitKind
+        ensures step { record { state = self.new; does = init_step_at result sent.new } ≡ framed (extended self.old times) }
+        ensures spelled { IsSent (init_step_at result sent.new) }
     {
         if !self.may_extend(times) {
             return self.refuse();
         }
         self.extension = Some(times);
         self.granted += 1;
-        self.send(Phase::Asked)
+        self.send(Phase::Asked, sent)
     }
 }

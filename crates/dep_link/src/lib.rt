@@ -18,11 +18,11 @@ mod pair;
 mod target;
 
 pub use activation::activate;
-pub use initiator::{InitStep, Initiator};
+pub use initiator::{InitKind, InitStep, Initiator};
 pub use law::{delivered_anew, faults_stay, handed_once, replies_heard};
 pub use listener::PeerListener;
 pub use pair::{DepPair, release};
-pub use target::{Target, TargetStep};
+pub use target::{Target, TargetKind, TargetStep};
 
 #[cfg(test)]
 mod field_tests;

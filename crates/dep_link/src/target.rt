@@ -3,12 +3,12 @@
 ghost use Rattle.std.specs.Prelude.{◌≡◌, ◌≤◌, ◌<◌, ◌++◌, length, drop, true};
 ghost use Rattle.dep_pdu.specs.Spelling.{IsDepFrame};
 ghost use Rattle.dep_link.specs.Frames.{air_frame, IsSpelled};
-ghost use Rattle.dep_link.specs.Target.{TargetTurn, target_table, framed, heeded, frame_table, again, repeated, gathered, drawn, extended, granted, first_piece, opened, replied, reply_frame, fresh, restarted, darkened, made_busy, atr_res, IsSaid};
+ghost use Rattle.dep_link.specs.Target.{TargetTurn, target_table, framed, heeded, frame_table, again, repeated, gathered, drawn, extended, granted, first_piece, opened, replied, reply_frame, fresh, restarted, darkened, made_busy, atr_res, IsSaid, target_step_at};
 
-use crate::frames::{INITIATOR_LR, after, air_frame, piece, piece_size, spelled};
+use crate::frames::{INITIATOR_LR, after, piece, piece_size, put_frame, spelled};
 use arrayvec::ArrayVec;
 use dep_pdu::DepFrame;
-use nfc_base::Frame;
+use nfc_base::{Frame, Tech};
 use std::marker::Model;
 
 /// The code of the target's waiting time (this project's own).
@@ -30,6 +30,17 @@ pub enum TargetStep {
     Asleep(Frame),
     /// It answers a last time, and is let go.
     Released(Frame),
+}
+
+/// The same, of a target that was given a place for its answer.
+#[derive(Debug, Drop)]
+pub enum TargetKind {
+    Quiet,
+    Reply,
+    Restart(ArrayVec<u8, 48>),
+    Deliver(ArrayVec<u8, 2178>),
+    Asleep,
+    Released,
 }
 
 /// The target's end (NFCIP-1, ISO/IEC 18092; NFC Forum Digital Protocol): it puts payloads together and hands out replies
@@ -123,9 +134,29 @@ impl Target {
         ensures step { record { state = self.new; does = result } ≡ target_table self.old frame.now }
         ensures spelled { IsSaid result }
     {
+        let mut answer = Frame::whole(Tech::A, &[]).unwrap();
+        match self.hear_into(frame, &mut answer) {
+            TargetKind::Quiet => TargetStep::Quiet,
+            TargetKind::Reply => TargetStep::Reply(answer),
+            TargetKind::Restart(general) => TargetStep::Restart {
+                general,
+                reply: answer,
+            },
+            TargetKind::Deliver(payload) => TargetStep::Deliver(payload),
+            TargetKind::Asleep => TargetStep::Asleep(answer),
+            TargetKind::Released => TargetStep::Released(answer),
+        }
+    }
+
+    /// The same step, whose answer is put into a place of the caller's.
+    pub fn hear_into(&mut self, frame: &Frame, answer: &mut Frame) -> TargetKind
+        ensures step { record { state = self.new; does = target_step_at result answer.new }
+            ≡ target_table self.old frame.now }
+        ensures spelled { IsSaid (target_step_at result answer.new) }
+    {
         match spelled(frame) {
-            Some(value) => self.heed(&value),
-            None => TargetStep::Quiet,
+            Some(value) => self.heed(&value, answer),
+            None => TargetKind::Quiet,
         }
     }
 
@@ -135,6 +166,18 @@ impl Target {
         ensures step { self.new ≡ replied self.old content.now }
         ensures answer { result ≡ air_frame (reply_frame self.old content.now) }
         ensures spelled { IsSpelled result }
+    {
+        let mut answer = Frame::whole(Tech::A, &[]).unwrap();
+        self.reply_into(content, &mut answer);
+        answer
+    }
+
+    /// The same answer, put into a place of the caller's.
+    pub fn reply_into(&mut self, content: &[u8], answer: &mut Frame)
+        requires { length content.now ≤ 2178 }
+        ensures step { self.new ≡ replied self.old content.now }
+        ensures answer { answer.new ≡ air_frame (reply_frame self.old content.now) }
+        ensures spelled { IsSpelled answer.new }
     {
         let mut reply = ArrayVec::new();
         reply.try_extend_from_slice(content).unwrap();
@@ -147,9 +190,8 @@ impl Target {
         } else {
             self.first_piece()
         };
-        let frame = air_frame(&value);
+        put_frame(&value, answer);
         self.last = Some(value);
-        frame
     }
 
     fn extension(&self) -> DepFrame
@@ -189,32 +231,30 @@ impl Target {
         self.followed = false;
     }
 
-    fn heed(&mut self, value: &DepFrame) -> TargetStep
-        ensures step { record { state = self.new; does = result } ≡ framed (heeded self.old value.now) }
-        ensures spelled { IsSaid result }
+    fn heed(&mut self, value: &DepFrame, answer: &mut Frame) -> TargetKind
+        ensures step { record { state = self.new; does = target_step_at result answer.new } ≡ framed (heeded self.old value.now) }
+        ensures spelled { IsSaid (target_step_at result answer.new) }
     {
         if let DepFrame::AtrReq { lr, general, .. } = value {
-            return self.open(*lr, general);
+            return self.open(*lr, general, answer);
         }
         if self.mute {
-            return TargetStep::Quiet;
+            return TargetKind::Quiet;
         }
-        self.obey(value)
+        self.obey(value, answer)
     }
 
     /// ATR_REQ.
-    fn open(&mut self, code: u8, general: &[u8]) -> TargetStep
+    fn open(&mut self, code: u8, general: &[u8], answer: &mut Frame) -> TargetKind
         requires { length general.now ≤ 48 }
-        ensures step { record { state = self.new; does = result } ≡ framed (opened self.old code general.now) }
-        ensures spelled { IsSaid result }
+        ensures step { record { state = self.new; does = target_step_at result answer.new } ≡ framed (opened self.old code general.now) }
+        ensures spelled { IsSaid (target_step_at result answer.new) }
     {
         self.restart(code);
         let mut kept = ArrayVec::new();
         kept.try_extend_from_slice(general).unwrap();
-        TargetStep::Restart {
-            general: kept,
-            reply: air_frame(&self.atr_res()),
-        }
+        put_frame(&self.atr_res(), answer);
+        TargetKind::Restart(kept)
     }
 
     fn atr_res(&self) -> DepFrame
@@ -231,9 +271,9 @@ impl Target {
         }
     }
 
-    fn obey(&mut self, value: &DepFrame) -> TargetStep
-        ensures step { record { state = self.new; does = result } ≡ framed (frame_table self.old value.now) }
-        ensures spelled { IsSaid result }
+    fn obey(&mut self, value: &DepFrame, answer: &mut Frame) -> TargetKind
+        ensures step { record { state = self.new; does = target_step_at result answer.new } ≡ framed (frame_table self.old value.now) }
+        ensures spelled { IsSaid (target_step_at result answer.new) }
     {
         match value {
             DepFrame::Info {
@@ -243,126 +283,137 @@ impl Target {
                 content,
             } => {
                 if *pni == self.expected {
-                    self.gather(*more, *pni, content)
+                    self.gather(*more, *pni, content, answer)
                 } else {
-                    self.repeat(*pni)
+                    self.repeat(*pni, answer)
                 }
             }
             DepFrame::Ack { up: false, pni } => {
                 if *pni == self.expected {
-                    self.draw(*pni)
+                    self.draw(*pni, answer)
                 } else {
-                    self.repeat(*pni)
+                    self.repeat(*pni, answer)
                 }
             }
-            DepFrame::Nack { pni } => self.repeat(*pni),
+            DepFrame::Nack { pni } => self.repeat(*pni, answer),
             DepFrame::Attention { up: false } => {
-                TargetStep::Reply(air_frame(&DepFrame::Attention { up: true }))
+                put_frame(&DepFrame::Attention { up: true }, answer);
+                TargetKind::Reply
             }
-            DepFrame::Extend { up: false, times } => self.extend(*times),
-            DepFrame::DslReq => TargetStep::Asleep(air_frame(&DepFrame::DslRes)),
-            DepFrame::RlsReq => TargetStep::Released(air_frame(&DepFrame::RlsRes)),
-            _ => TargetStep::Quiet,
+            DepFrame::Extend { up: false, times } => self.extend(*times, answer),
+            DepFrame::DslReq => {
+                put_frame(&DepFrame::DslRes, answer);
+                TargetKind::Asleep
+            }
+            DepFrame::RlsReq => {
+                put_frame(&DepFrame::RlsRes, answer);
+                TargetKind::Released
+            }
+            _ => TargetKind::Quiet,
         }
     }
 
     /// The last answer again, where the request is the last one.
-    fn repeat(&self, pni: u8) -> TargetStep
-        ensures step { record { state = self.now; does = result } ≡ framed (repeated self.now pni) }
-        ensures spelled { IsSaid result }
+    fn repeat(&self, pni: u8, answer: &mut Frame) -> TargetKind
+        ensures step { record { state = self.now; does = target_step_at result answer.new } ≡ framed (repeated self.now pni) }
+        ensures spelled { IsSaid (target_step_at result answer.new) }
     {
         if (pni as u16 + 1) % 4 != self.expected as u16 {
-            return TargetStep::Quiet;
+            return TargetKind::Quiet;
         }
-        self.repeat_last()
+        self.repeat_last(answer)
     }
 
-    fn repeat_last(&self) -> TargetStep
-        ensures step { record { state = self.now; does = result } ≡ framed (again self.now self.now.last) }
-        ensures spelled { IsSaid result }
+    fn repeat_last(&self, answer: &mut Frame) -> TargetKind
+        ensures step { record { state = self.now; does = target_step_at result answer.new } ≡ framed (again self.now self.now.last) }
+        ensures spelled { IsSaid (target_step_at result answer.new) }
     {
         match &self.last {
-            None => TargetStep::Quiet,
-            Some(value) => TargetStep::Reply(air_frame(value)),
+            None => TargetKind::Quiet,
+            Some(value) => {
+                put_frame(value, answer);
+                TargetKind::Reply
+            }
         }
     }
 
     /// A piece of a payload.
-    fn gather(&mut self, more: bool, pni: u8, content: &[u8]) -> TargetStep
+    fn gather(&mut self, more: bool, pni: u8, content: &[u8], answer: &mut Frame) -> TargetKind
         requires { pni < 4 }
-        ensures step { record { state = self.new; does = result }
+        ensures step { record { state = self.new; does = target_step_at result answer.new }
             ≡ framed (gathered self.old more pni (self.old.chain ++ content.now)) }
-        ensures spelled { IsSaid result }
+        ensures spelled { IsSaid (target_step_at result answer.new) }
     {
         if self.chain.try_extend_from_slice(content).is_err() {
             self.mute = true;
-            return TargetStep::Quiet;
+            return TargetKind::Quiet;
         }
         self.expected = after(self.expected);
         self.due = 0;
         self.followed = false;
         if more {
             let ack = DepFrame::Ack { up: true, pni };
-            let frame = air_frame(&ack);
+            put_frame(&ack, answer);
             self.last = Some(ack);
-            TargetStep::Reply(frame)
+            TargetKind::Reply
         } else {
             self.last = None;
-            TargetStep::Deliver(std::mem::replace(&mut self.chain, ArrayVec::new()))
+            TargetKind::Deliver(std::mem::replace(&mut self.chain, ArrayVec::new()))
         }
     }
 
     /// The next piece of the reply.
-    fn draw(&mut self, pni: u8) -> TargetStep
+    fn draw(&mut self, pni: u8, answer: &mut Frame) -> TargetKind
         requires { pni < 4 }
-        ensures step { record { state = self.new; does = result } ≡ framed (drawn self.old pni) }
-        ensures spelled { IsSaid result }
+        ensures step { record { state = self.new; does = target_step_at result answer.new } ≡ framed (drawn self.old pni) }
+        ensures spelled { IsSaid (target_step_at result answer.new) }
     {
         let left = &self.reply.as_slice()[self.at..];
         if self.due > 0 || left.is_empty() {
-            return TargetStep::Quiet;
+            return TargetKind::Quiet;
         }
         let value = piece(true, self.most, pni, left);
         self.at += left.len().min(self.most);
         self.expected = after(self.expected);
         self.followed = false;
-        let frame = air_frame(&value);
+        put_frame(&value, answer);
         self.last = Some(value);
-        TargetStep::Reply(frame)
+        TargetKind::Reply
     }
     /// A time extension by this value.
-    fn extend(&mut self, times: u8) -> TargetStep
-        ensures step { record { state = self.new; does = result } ≡ framed (extended self.old times) }
-        ensures spelled { IsSaid result }
+    fn extend(&mut self, times: u8, answer: &mut Frame) -> TargetKind
+        ensures step { record { state = self.new; does = target_step_at result answer.new } ≡ framed (extended self.old times) }
+        ensures spelled { IsSaid (target_step_at result answer.new) }
     {
         if self.due > 0 {
             if times == self.times {
-                self.grant()
+                self.grant(answer)
             } else {
-                TargetStep::Quiet
+                TargetKind::Quiet
             }
         } else if self.followed {
-            self.repeat_last()
+            self.repeat_last(answer)
         } else {
-            TargetStep::Quiet
+            TargetKind::Quiet
         }
     }
 
     /// The time that it asked for was granted.
-    fn grant(&mut self) -> TargetStep
+    fn grant(&mut self, answer: &mut Frame) -> TargetKind
         requires { 0 < self.old.due }
-        ensures step { record { state = self.new; does = result } ≡ framed (granted self.old) }
-        ensures spelled { IsSaid result }
+        ensures step { record { state = self.new; does = target_step_at result answer.new } ≡ framed (granted self.old) }
+        ensures spelled { IsSaid (target_step_at result answer.new) }
     {
         if self.due > 1 {
             self.due -= 1;
-            return TargetStep::Reply(air_frame(&self.extension()));
+            put_frame(&self.extension(), answer);
+            return TargetKind::Reply;
         }
         self.due = 0;
         self.followed = true;
         let value = self.first_piece();
-        let frame = air_frame(&value);
+        put_frame(&value, answer);
         self.last = Some(value);
-        TargetStep::Reply(frame)
+        TargetKind::Reply
     }
 }

@@ -5,6 +5,8 @@ use Rattle.nfc_base.specs.Signal.{Signal}
 use Rattle.isodep_link.specs.declared.block.Block.{Block}
 use Rattle.isodep_link.specs.declared.block.Block.TheVariants.{Info, Ack, Nak, Deselect, Extend}
 use Rattle.isodep_link.specs.declared.card.CardStep.{CardStep}
+use Rattle.isodep_link.specs.declared.card.CardKind.{CardKind}
+use Rattle.isodep_link.specs.declared.card.CardKind.TheVariants as kinds
 use Rattle.isodep_link.specs.declared.card.CardStep.TheVariants as steps
 use Rattle.isodep_link.specs.Blocks.{toggled, piece, block_frame, spelled_block, IsSpelled}
 use Rattle.isodep_link.specs.Sizes.{piece_size, least_code, limit, rats_code, ats_frame, IsAts}
@@ -157,6 +159,13 @@ made_busy t count times = record t { busy = count; times = times }
 -- the most often that a card asks for more time before an answer
 abbrev pub most_busy : ℕ
 most_busy = 5
+
+-- a step whose answer stands in the place that it was given
+abbrev pub card_step_at : CardKind → Signal → CardStep
+card_step_at kinds.Quiet f = steps.Quiet
+card_step_at kinds.Reply f = steps.Reply f
+card_step_at (kinds.Deliver command) f = steps.Deliver command
+card_step_at kinds.Asleep f = steps.Asleep f
 
 -- Whatever a card with this size code answers spells a block, or is its ATS.
 abbrev pub IsSaid : ℕ → CardStep → Type 0

@@ -1,6 +1,7 @@
 -- The reader's end of ISO-DEP (ISO/IEC 14443-4; NFC Forum Digital Protocol): what it sends next, or how the exchange
 -- ends, by what it sent last and what it heard. The six receptions and the 264 bytes are this project's own.
 use Rattle.std.specs.Prelude.{◌≡◌, ℕ, ◌+◌, ◌==◌, nat_lt, Bool, true, false, not, List, [], ◌++◌, length, drop, Option, Some, None, if◌then◌else◌}
+use Rattle.nfc_base.specs.Signal.{Signal}
 use Rattle.nfc_base.specs.declared.event.Heard.{Heard}
 use Rattle.nfc_base.specs.declared.event.Heard.TheVariants.{Whole, Collided, Damaged, Silent}
 use Rattle.isodep_link.specs.declared.block.Block.{Block}
@@ -8,6 +9,8 @@ use Rattle.isodep_link.specs.declared.block.Block.TheVariants.{Info, Ack, Nak, D
 use Rattle.isodep_link.specs.declared.reader.Phase.{Phase}
 use Rattle.isodep_link.specs.declared.reader.Phase.TheVariants.{Asked, Nacked, Free, EndedSixBad, EndedProtocol}
 use Rattle.isodep_link.specs.declared.reader.ReaderStep.{ReaderStep}
+use Rattle.isodep_link.specs.declared.reader.ReaderKind.{ReaderKind}
+use Rattle.isodep_link.specs.declared.reader.ReaderKind.TheVariants as kinds
 use Rattle.isodep_link.specs.declared.reader.ReaderStep.TheVariants as steps
 use Rattle.isodep_link.specs.Blocks.{toggled, piece, block_frame, spelled_block, IsSpelled}
 use Rattle.isodep_link.specs.Sizes.{piece_size, limit}
@@ -196,6 +199,13 @@ begun i command =
 abbrev pub waiting : ℕ → ReaderState
 waiting code =
     record { core = record { number = 0; most = piece_size code; rest = []; drawing = false; got = []; extension = None; granted = 0 }; phase = Free; bads = 0 }
+
+-- a step whose frame stands in the place that it was given
+abbrev pub reader_step_at : ReaderKind → Signal → ReaderStep
+reader_step_at kinds.Send f = steps.Send f
+reader_step_at (kinds.Finished answer) f = steps.Finished answer
+reader_step_at kinds.SixBad f = steps.SixBad
+reader_step_at kinds.Protocol f = steps.Protocol
 
 -- Whatever a reader sends spells a block.
 abbrev pub SpellsSent : ReaderStep → Type 0

@@ -74,6 +74,14 @@ impl Block {
         self.written()
     }
 
+    /// The same, put into a place of the caller's.
+    pub(crate) fn put(&self, place: &mut Frame)
+        ensures frame { place.new ≡ block_frame self.now }
+        ensures spelled { IsSpelled place.new }
+    {
+        *place = self.to_frame();
+    }
+
     fn written(&self) -> Frame
         ensures frame { result ≡ block_frame self.now }
         ensures fits { length result.bytes ≤ 288 }

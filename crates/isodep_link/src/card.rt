@@ -2,12 +2,12 @@
 
 ghost use Rattle.std.specs.Prelude.{◌≡◌, ◌≤◌, ◌<◌, ◌++◌, length, drop};
 ghost use Rattle.isodep_link.specs.Blocks.{block_frame, piece, IsSpelled};
-ghost use Rattle.isodep_link.specs.Card.{CardTurn, card_table, activated, framed, block_table, again, gathered, drawn, extended, granted, replied, reply_block, fresh, darkened, made_busy, IsSaid};
+ghost use Rattle.isodep_link.specs.Card.{CardTurn, card_table, activated, framed, block_table, again, gathered, drawn, extended, granted, replied, reply_block, fresh, darkened, made_busy, IsSaid, card_step_at};
 
 use crate::block::{Block, piece, toggled};
 use crate::size::{LEAST_CODE, ats_frame, piece_size, rats_code};
 use arrayvec::ArrayVec;
-use nfc_base::Frame;
+use nfc_base::{Frame, Tech};
 use std::marker::Model;
 
 /// How often a card may ask for more time before an answer.
@@ -22,6 +22,15 @@ pub enum CardStep {
     Deliver(ArrayVec<u8, 264>),
     /// It answers a last time, and sleeps.
     Asleep(Frame),
+}
+
+/// The same, of a card that was given a place for its answer.
+#[derive(Debug, Drop)]
+pub enum CardKind {
+    Quiet,
+    Reply,
+    Deliver(ArrayVec<u8, 264>),
+    Asleep,
 }
 
 /// The card's end (ISO/IEC 14443-4; NFC Forum Digital Protocol): it puts commands together and hands out answers in
@@ -119,15 +128,30 @@ impl CardEnd {
         ensures step { record { state = self.new; does = result } ≡ card_table self.old frame.now }
         ensures spelled { IsSaid self.old.code result }
     {
+        let mut answer = Frame::whole(Tech::A, &[]).unwrap();
+        match self.hear_into(frame, &mut answer) {
+            CardKind::Quiet => CardStep::Quiet,
+            CardKind::Reply => CardStep::Reply(answer),
+            CardKind::Deliver(command) => CardStep::Deliver(command),
+            CardKind::Asleep => CardStep::Asleep(answer),
+        }
+    }
+
+    /// The same step, whose answer is put into a place of the caller's.
+    pub fn hear_into(&mut self, frame: &Frame, answer: &mut Frame) -> CardKind
+        ensures step { record { state = self.new; does = card_step_at result answer.new }
+            ≡ card_table self.old frame.now }
+        ensures spelled { IsSaid self.old.code (card_step_at result answer.new) }
+    {
         if self.mute {
-            return CardStep::Quiet;
+            return CardKind::Quiet;
         }
         if let Some(code) = rats_code(frame) {
-            return self.activate(code);
+            return self.activate(code, answer);
         }
         match Block::read_from(frame) {
-            Some(block) => self.obey(&block),
-            None => CardStep::Quiet,
+            Some(block) => self.obey(&block, answer),
+            None => CardKind::Quiet,
         }
     }
 
@@ -138,9 +162,21 @@ impl CardEnd {
         ensures answer { result ≡ block_frame (reply_block self.old content.now) }
         ensures spelled { IsSpelled result }
     {
-        let mut answer = ArrayVec::new();
-        answer.try_extend_from_slice(content).unwrap();
-        self.answer = answer;
+        let mut answer = Frame::whole(Tech::A, &[]).unwrap();
+        self.reply_into(content, &mut answer);
+        answer
+    }
+
+    /// The same answer, put into a place of the caller's.
+    pub fn reply_into(&mut self, content: &[u8], answer: &mut Frame)
+        requires { length content.now ≤ 264 }
+        ensures step { self.new ≡ replied self.old content.now }
+        ensures answer { answer.new ≡ block_frame (reply_block self.old content.now) }
+        ensures spelled { IsSpelled answer.new }
+    {
+        let mut kept = ArrayVec::new();
+        kept.try_extend_from_slice(content).unwrap();
+        self.answer = kept;
         self.at = 0;
         self.due = self.busy;
         let block = if self.busy > 0 {
@@ -148,9 +184,8 @@ impl CardEnd {
         } else {
             self.first_piece()
         };
-        let frame = block.to_frame();
+        block.put(answer);
         self.last = Some(block);
-        frame
     }
 
     /// The first piece of its answer, which is sent with it.
@@ -165,66 +200,74 @@ impl CardEnd {
     }
 
     /// RATS with this size code.
-    fn activate(&mut self, code: u8) -> CardStep
-        ensures step { record { state = self.new; does = result } ≡ activated self.old code }
-        ensures spelled { IsSaid self.old.code result }
+    fn activate(&mut self, code: u8, answer: &mut Frame) -> CardKind
+        ensures step { record { state = self.new; does = card_step_at result answer.new } ≡ activated self.old code }
+        ensures spelled { IsSaid self.old.code (card_step_at result answer.new) }
     {
         if self.begun {
-            return CardStep::Quiet;
+            return CardKind::Quiet;
         }
         self.most = piece_size(code);
-        CardStep::Reply(ats_frame(self.code))
+        *answer = ats_frame(self.code);
+        CardKind::Reply
     }
 
-    fn obey(&mut self, block: &Block) -> CardStep
-        ensures step { record { state = self.new; does = result } ≡ framed (block_table self.old block.now) }
-        ensures spelled { IsSaid self.old.code result }
+    fn obey(&mut self, block: &Block, answer: &mut Frame) -> CardKind
+        ensures step { record { state = self.new; does = card_step_at result answer.new } ≡ framed (block_table self.old block.now) }
+        ensures spelled { IsSaid self.old.code (card_step_at result answer.new) }
     {
         match block {
-            Block::Info { more, content, .. } => self.gather(*more, content),
+            Block::Info { more, content, .. } => self.gather(*more, content, answer),
             Block::Ack { number } => {
                 if *number == self.number {
-                    self.repeat()
+                    self.repeat(answer)
                 } else {
-                    self.draw()
+                    self.draw(answer)
                 }
             }
             Block::Nak { number } => {
                 if *number == self.number {
-                    self.repeat()
+                    self.repeat(answer)
                 } else {
                     let ack = Block::Ack {
                         number: self.number,
                     };
-                    CardStep::Reply(ack.to_frame())
+                    ack.put(answer);
+                    CardKind::Reply
                 }
             }
-            Block::Deselect => CardStep::Asleep(Block::Deselect.to_frame()),
-            Block::Extend { times } => self.extend(*times),
+            Block::Deselect => {
+                Block::Deselect.put(answer);
+                CardKind::Asleep
+            }
+            Block::Extend { times } => self.extend(*times, answer),
         }
     }
 
     /// The last block again.
-    fn repeat(&self) -> CardStep
-        ensures step { record { state = self.now; does = result } ≡ framed (again self.now self.now.last) }
-        ensures spelled { IsSaid self.now.code result }
+    fn repeat(&self, answer: &mut Frame) -> CardKind
+        ensures step { record { state = self.now; does = card_step_at result answer.new } ≡ framed (again self.now self.now.last) }
+        ensures spelled { IsSaid self.now.code (card_step_at result answer.new) }
     {
         match &self.last {
-            None => CardStep::Quiet,
-            Some(block) => CardStep::Reply(block.to_frame()),
+            None => CardKind::Quiet,
+            Some(block) => {
+                block.put(answer);
+                CardKind::Reply
+            }
         }
     }
 
     /// A piece of a command.
-    fn gather(&mut self, more: bool, content: &[u8]) -> CardStep
-        ensures step { record { state = self.new; does = result }
+    fn gather(&mut self, more: bool, content: &[u8], answer: &mut Frame) -> CardKind
+        ensures step { record { state = self.new; does = card_step_at result answer.new }
             ≡ framed (gathered self.old more (self.old.chain ++ content.now)) }
-        ensures spelled { IsSaid self.old.code result }
+        ensures spelled { IsSaid self.old.code (card_step_at result answer.new) }
     {
         self.begun = true;
         if self.chain.try_extend_from_slice(content).is_err() {
             self.mute = true;
-            return CardStep::Quiet;
+            return CardKind::Quiet;
         }
         self.number = toggled(self.number);
         self.due = 0;
@@ -232,58 +275,59 @@ impl CardEnd {
             let ack = Block::Ack {
                 number: self.number,
             };
-            let frame = ack.to_frame();
+            ack.put(answer);
             self.last = Some(ack);
-            CardStep::Reply(frame)
+            CardKind::Reply
         } else {
-            CardStep::Deliver(std::mem::replace(&mut self.chain, ArrayVec::new()))
+            CardKind::Deliver(std::mem::replace(&mut self.chain, ArrayVec::new()))
         }
     }
 
     /// The next piece of the answer.
-    fn draw(&mut self) -> CardStep
-        ensures step { record { state = self.new; does = result } ≡ framed (drawn self.old) }
-        ensures spelled { IsSaid self.old.code result }
+    fn draw(&mut self, answer: &mut Frame) -> CardKind
+        ensures step { record { state = self.new; does = card_step_at result answer.new } ≡ framed (drawn self.old) }
+        ensures spelled { IsSaid self.old.code (card_step_at result answer.new) }
     {
         let left = &self.answer.as_slice()[self.at..];
         if self.due > 0 || left.is_empty() {
-            return CardStep::Quiet;
+            return CardKind::Quiet;
         }
         self.number = toggled(self.number);
         let block = piece(self.most, self.number, left);
         self.at += left.len().min(self.most);
-        let frame = block.to_frame();
+        block.put(answer);
         self.last = Some(block);
-        CardStep::Reply(frame)
+        CardKind::Reply
     }
 
     /// S(WTX) by this value.
-    fn extend(&mut self, times: u8) -> CardStep
-        ensures step { record { state = self.new; does = result } ≡ framed (extended self.old times) }
-        ensures spelled { IsSaid self.old.code result }
+    fn extend(&mut self, times: u8, answer: &mut Frame) -> CardKind
+        ensures step { record { state = self.new; does = card_step_at result answer.new } ≡ framed (extended self.old times) }
+        ensures spelled { IsSaid self.old.code (card_step_at result answer.new) }
     {
         if self.due > 0 && times == self.times {
-            self.grant()
+            self.grant(answer)
         } else {
-            CardStep::Quiet
+            CardKind::Quiet
         }
     }
 
     /// The time that it asked for was granted.
-    fn grant(&mut self) -> CardStep
+    fn grant(&mut self, answer: &mut Frame) -> CardKind
         requires { 0 < self.old.due }
-        ensures step { record { state = self.new; does = result } ≡ framed (granted self.old) }
-        ensures spelled { IsSaid self.old.code result }
+        ensures step { record { state = self.new; does = card_step_at result answer.new } ≡ framed (granted self.old) }
+        ensures spelled { IsSaid self.old.code (card_step_at result answer.new) }
     {
         if self.due > 1 {
             self.due -= 1;
             let block = Block::Extend { times: self.times };
-            return CardStep::Reply(block.to_frame());
+            block.put(answer);
+            return CardKind::Reply;
         }
         self.due = 0;
         let block = self.first_piece();
-        let frame = block.to_frame();
+        block.put(answer);
         self.last = Some(block);
-        CardStep::Reply(frame)
+        CardKind::Reply
     }
 }

@@ -4,7 +4,7 @@ ghost use Rattle.std.specs.Prelude.{◌≤◌, length};
 ghost use Rattle.isodep_link.specs.Asking.{AsksCommand, Exchanges};
 
 use crate::listener::CardListener;
-use crate::reader::{ReaderEnd, ReaderStep};
+use crate::reader::{ReaderEnd, ReaderKind};
 use air_core::{AirFault, Field};
 use nfc_base::{AskFault, Frame, Mute, Tech};
 
@@ -29,11 +29,12 @@ pub(crate) fn ask_card<L: CardListener>(
             Err(AirFault::FieldLost) => return Err(AskFault::FieldLost),
             Err(AirFault::Memory) => return Err(AskFault::Memory),
         };
-        match reader.next(&heard) {
-            ReaderStep::Send(next) => frame = next,
-            ReaderStep::Finished(answer) => return Ok(Frame::whole(Tech::A, &answer).unwrap()),
-            ReaderStep::SixBad => return Err(AskFault::SixBad),
-            ReaderStep::Protocol => return Err(AskFault::Protocol),
+        match reader.next_into(&heard, &mut frame) {
+            // a look at it, by which each of its bytes is known as one
+            ReaderKind::Send => prove!(frame.view().len() <= 288),
+            ReaderKind::Finished(answer) => return Ok(Frame::whole(Tech::A, &answer).unwrap()),
+            ReaderKind::SixBad => return Err(AskFault::SixBad),
+            ReaderKind::Protocol => return Err(AskFault::Protocol),
         }
     }
 }

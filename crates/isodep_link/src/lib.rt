@@ -18,9 +18,9 @@ mod size;
 #[cfg(test)]
 mod tests;
 
-pub use card::{CardEnd, CardStep, MOST_BUSY};
+pub use card::{CardEnd, CardKind, CardStep, MOST_BUSY};
 pub use law::{blocks_read, delivered_once, faults_stay, obeyed_once};
 pub use link::IsoLink;
 pub use listener::CardListener;
-pub use reader::{LONGEST_EXTENSION, ReaderEnd, ReaderStep};
+pub use reader::{LONGEST_EXTENSION, ReaderEnd, ReaderKind, ReaderStep};
 pub use size::is_rats;

@@ -2,12 +2,12 @@
 
 ghost use Rattle.std.specs.Prelude.{◌≡◌, ◌<◌, ◌≤◌, length, None};
 ghost use Rattle.isodep_link.specs.Blocks.{block_frame, spelled_block, IsSpelled};
-ghost use Rattle.isodep_link.specs.Reader.{ReaderTurn, reader_table, framed, sent, sends, refuses, bad, acked, missed, brought, answered, waited, whole_reception, request, more_follows, may_extend, extended, begun, waiting, SpellsSent};
+ghost use Rattle.isodep_link.specs.Reader.{ReaderTurn, reader_table, framed, sent, sends, refuses, bad, acked, missed, brought, answered, waited, whole_reception, request, more_follows, may_extend, extended, begun, waiting, SpellsSent, reader_step_at};
 
 use crate::block::{Block, piece, toggled};
 use crate::size::piece_size;
 use arrayvec::ArrayVec;
-use nfc_base::{Frame, Heard};
+use nfc_base::{Frame, Heard, Tech};
 use std::marker::Model;
 
 /// The most bad receptions of a wait that goes on.
@@ -28,6 +28,15 @@ pub enum ReaderStep {
     /// The sixth bad reception of a wait.
     SixBad,
     /// A whole frame that isn't allowed here.
+    Protocol,
+}
+
+/// The same, of a reader that was given a place for the frame that it sends next.
+#[derive(Debug, Drop)]
+pub enum ReaderKind {
+    Send,
+    Finished(ArrayVec<u8, 264>),
+    SixBad,
     Protocol,
 }
 
@@ -124,14 +133,30 @@ impl ReaderEnd {
         ensures spelled { SpellsSent result }
         ensures some { 0 < self.old.core.most }
     {
+        let mut sent = Frame::whole(Tech::A, &[]).unwrap();
+        match self.next_into(heard, &mut sent) {
+            ReaderKind::Send => ReaderStep::Send(sent),
+            ReaderKind::Finished(answer) => ReaderStep::Finished(answer),
+            ReaderKind::SixBad => ReaderStep::SixBad,
+            ReaderKind::Protocol => ReaderStep::Protocol,
+        }
+    }
+
+    /// The same step, whose frame is put into a place of the caller's.
+    pub fn next_into(&mut self, heard: &Heard, sent: &mut Frame) -> ReaderKind
+        ensures step { record { state = self.new; does = reader_step_at result sent.new }
+            ≡ reader_table self.old heard.now }
+        ensures spelled { SpellsSent (reader_step_at result sent.new) }
+        ensures some { 0 < self.old.core.most }
+    {
         match (self.phase, heard) {
-            (Phase::EndedSixBad, _) => ReaderStep::SixBad,
-            (Phase::EndedProtocol, _) => ReaderStep::Protocol,
+            (Phase::EndedSixBad, _) => ReaderKind::SixBad,
+            (Phase::EndedProtocol, _) => ReaderKind::Protocol,
             (Phase::Free, Heard::Whole(_)) => self.refuse(),
-            (_, Heard::Whole(frame)) => self.whole(frame),
-            (_, Heard::Collided(_)) => self.bad(),
-            (_, Heard::Damaged) => self.bad(),
-            (_, Heard::Silent) => self.bad(),
+            (_, Heard::Whole(frame)) => self.whole(frame, sent),
+            (_, Heard::Collided(_)) => self.bad(sent),
+            (_, Heard::Damaged) => self.bad(sent),
+            (_, Heard::Silent) => self.bad(sent),
         }
     }
 
@@ -163,9 +188,9 @@ impl ReaderEnd {
     }
 
     /// Sends what belongs to the phase.
-    fn send(&mut self, phase: Phase) -> ReaderStep
-        ensures step { record { state = self.new; does = result } ≡ framed (sends self.old.core phase self.old.bads) }
-        ensures spelled { SpellsSent result }
+    fn send(&mut self, phase: Phase, sent: &mut Frame) -> ReaderKind
+        ensures step { record { state = self.new; does = reader_step_at result sent.new } ≡ framed (sends self.old.core phase self.old.bads) }
+        ensures spelled { SpellsSent (reader_step_at result sent.new) }
     {
         self.phase = phase;
         let block = match phase {
@@ -174,55 +199,56 @@ impl ReaderEnd {
             },
             _ => self.request(),
         };
-        ReaderStep::Send(block.to_frame())
+        block.put(sent);
+        ReaderKind::Send
     }
 
     /// A whole frame that isn't allowed.
-    fn refuse(&mut self) -> ReaderStep
-        ensures step { record { state = self.new; does = result } ≡ framed (refuses self.old) }
-        ensures spelled { SpellsSent result }
+    fn refuse(&mut self) -> ReaderKind
+        ensures state { self.new ≡ (refuses self.old).state }
+        ensures kind { result ≡ ReaderKind.Protocol }
     {
         self.phase = Phase::EndedProtocol;
-        ReaderStep::Protocol
+        ReaderKind::Protocol
     }
 
     /// A bad reception.
-    fn bad(&mut self) -> ReaderStep
-        ensures step { record { state = self.new; does = result } ≡ framed (bad self.old) }
-        ensures spelled { SpellsSent result }
+    fn bad(&mut self, sent: &mut Frame) -> ReaderKind
+        ensures step { record { state = self.new; does = reader_step_at result sent.new } ≡ framed (bad self.old) }
+        ensures spelled { SpellsSent (reader_step_at result sent.new) }
     {
         if self.bads == MOST_BADS {
             self.phase = Phase::EndedSixBad;
-            return ReaderStep::SixBad;
+            return ReaderKind::SixBad;
         }
         self.bads += 1;
         match self.phase {
-            Phase::Free => self.send(Phase::Free),
+            Phase::Free => self.send(Phase::Free, sent),
             _ => {
                 if self.drawing {
-                    self.send(Phase::Asked)
+                    self.send(Phase::Asked, sent)
                 } else {
-                    self.send(Phase::Nacked)
+                    self.send(Phase::Nacked, sent)
                 }
             }
         }
     }
 
     /// A whole frame while a command is under way.
-    fn whole(&mut self, frame: &Frame) -> ReaderStep
-        ensures step { record { state = self.new; does = result }
+    fn whole(&mut self, frame: &Frame, sent: &mut Frame) -> ReaderKind
+        ensures step { record { state = self.new; does = reader_step_at result sent.new }
             ≡ framed (waited self.old (whole_reception (spelled_block frame.now))) }
-        ensures spelled { SpellsSent result }
+        ensures spelled { SpellsSent (reader_step_at result sent.new) }
     {
         match Block::read_from(frame) {
-            Some(block) => self.answered(&block),
+            Some(block) => self.answered(&block, sent),
             None => self.refuse(),
         }
     }
 
-    fn answered(&mut self, block: &Block) -> ReaderStep
-        ensures step { record { state = self.new; does = result } ≡ framed (answered self.old block.now) }
-        ensures spelled { SpellsSent result }
+    fn answered(&mut self, block: &Block, sent: &mut Frame) -> ReaderKind
+        ensures step { record { state = self.new; does = reader_step_at result sent.new } ≡ framed (answered self.old block.now) }
+        ensures spelled { SpellsSent (reader_step_at result sent.new) }
     {
         match block {
             Block::Info {
@@ -231,19 +257,19 @@ impl ReaderEnd {
                 content,
             } => {
                 if !self.more_follows() && *number == self.number {
-                    self.take(*more, content)
+                    self.take(*more, content, sent)
                 } else {
                     self.refuse()
                 }
             }
             Block::Ack { number } => {
                 if *number == self.number {
-                    self.go_on()
+                    self.go_on(sent)
                 } else {
-                    self.ask_again()
+                    self.ask_again(sent)
                 }
             }
-            Block::Extend { times } => self.extend(*times),
+            Block::Extend { times } => self.extend(*times, sent),
             _ => self.refuse(),
         }
     }
@@ -256,9 +282,9 @@ impl ReaderEnd {
     }
 
     /// The card took a piece of the command.
-    fn go_on(&mut self) -> ReaderStep
-        ensures step { record { state = self.new; does = result } ≡ framed (acked self.old) }
-        ensures spelled { SpellsSent result }
+    fn go_on(&mut self, sent: &mut Frame) -> ReaderKind
+        ensures step { record { state = self.new; does = reader_step_at result sent.new } ≡ framed (acked self.old) }
+        ensures spelled { SpellsSent (reader_step_at result sent.new) }
     {
         if !self.more_follows() {
             return self.refuse();
@@ -266,27 +292,27 @@ impl ReaderEnd {
         self.at += self.most;
         self.number = toggled(self.number);
         self.turn();
-        self.send(Phase::Asked)
+        self.send(Phase::Asked, sent)
     }
 
     /// The card didn't hear the last I-block.
-    fn ask_again(&mut self) -> ReaderStep
-        ensures step { record { state = self.new; does = result } ≡ framed (missed self.old self.old.phase) }
-        ensures spelled { SpellsSent result }
+    fn ask_again(&mut self, sent: &mut Frame) -> ReaderKind
+        ensures step { record { state = self.new; does = reader_step_at result sent.new } ≡ framed (missed self.old self.old.phase) }
+        ensures spelled { SpellsSent (reader_step_at result sent.new) }
     {
         match self.phase {
             Phase::Nacked => {
                 self.extension = None;
-                self.send(Phase::Asked)
+                self.send(Phase::Asked, sent)
             }
             _ => self.refuse(),
         }
     }
 
     /// A piece of the answer.
-    fn take(&mut self, more: bool, content: &[u8]) -> ReaderStep
-        ensures step { record { state = self.new; does = result } ≡ framed (brought self.old more content.now) }
-        ensures spelled { SpellsSent result }
+    fn take(&mut self, more: bool, content: &[u8], sent: &mut Frame) -> ReaderKind
+        ensures step { record { state = self.new; does = reader_step_at result sent.new } ≡ framed (brought self.old more content.now) }
+        ensures spelled { SpellsSent (reader_step_at result sent.new) }
     {
         if more && content.is_empty() {
             return self.refuse();
@@ -299,10 +325,10 @@ impl ReaderEnd {
         self.turn();
         self.drawing = more;
         if more {
-            self.send(Phase::Asked)
+            self.send(Phase::Asked, sent)
         } else {
             self.phase = Phase::Free;
-            ReaderStep::Finished(std::mem::replace(&mut self.got, ArrayVec::new()))
+            ReaderKind::Finished(std::mem::replace(&mut self.got, ArrayVec::new()))
         }
     }
 
@@ -315,15 +341,15 @@ impl ReaderEnd {
     }
 
     /// The card asks for more time.
-    fn extend(&mut self, times: u8) -> ReaderStep
-        ensures step { record { state = self.new; does = result } ≡ framed (extended self.old times) }
-        ensures spelled { SpellsSent result }
+    fn extend(&mut self, times: u8, sent: &mut Frame) -> ReaderKind
+        ensures step { record { state = self.new; does = reader_step_at result sent.new } ≡ framed (extended self.old times) }
+        ensures spelled { SpellsSent (reader_step_at result sent.new) }
     {
         if !self.may_extend(times) {
             return self.refuse();
         }
         self.extension = Some(times);
         self.granted += 1;
-        self.send(Phase::Asked)
+        self.send(Phase::Asked, sent)
     }
 }

@@ -48,7 +48,7 @@ advances_by_end a b left left' text n going fetched end all some is =
 
 -- it stopped
 pub advances_err : (a b : Lined) (left left' : Option (List ℕ)) (text : List ℕ) (s : LineStop) → Fetches a.is_ended a.held text left left'
-    → Lacks text s → b ≡ record a { held = text; stop = Some s } → Advances a b left left' (Err s)
+    → Lacks a.is_ended text s → b ≡ record a { held = text; stop = Some s } → Advances a b left left' (Err s)
 advances_err a b left left' text s fetched lacks is =
     let P : Lined → Type 0 = λ v. Advances a v left left' (Err s) in
     let it : P (record a { held = text; stop = Some s }) = record {
@@ -60,6 +60,6 @@ advances_err a b left left' text s fetched lacks is =
     } in
     subst P (sym is) it
   where
-    comes : (s : LineStop) → Lacks text s → ComesTo a text (Err s) (record a { held = text; stop = Some s })
+    comes : (s : LineStop) → Lacks a.is_ended text s → ComesTo a text (Err s) (record a { held = text; stop = Some s })
     comes TooLong lacks = (lacks.0, lacks.1, refl)
-    comes ReadFault lacks = (lacks.0, lacks.1, refl)
+    comes ReadFault lacks = (lacks.0, lacks.1, lacks.2, refl)

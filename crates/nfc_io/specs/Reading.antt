@@ -56,7 +56,7 @@ ComesTo a text (Ok false) b = (text ≡ []) × (b ≡ record a { is_ended = true
 ComesTo a text (Err TooLong) b =
     (longest < length text) × NoLf (take (longest + 1) text) × (b ≡ record a { held = text; stop = Some TooLong })
 ComesTo a text (Err ReadFault) b =
-    (length text ≤ longest) × NoLf text × (b ≡ record a { held = text; stop = Some ReadFault })
+    (a.is_ended ≡ false) × (length text ≤ longest) × NoLf text × (b ≡ record a { held = text; stop = Some ReadFault })
 
 -- One call: what it read, and what it came to.
 pub record Advances (a b : Lined) (left left' : Option (List ℕ)) (result : Result Bool LineStop) : Type 0 where
@@ -65,6 +65,22 @@ pub record Advances (a b : Lined) (left left' : Option (List ℕ)) (result : Res
   pub came : ComesTo a text result b
   pub ended : a.is_ended ≡ false → b.is_ended ≡ true → IfSome left' (λ rest. rest ≡ [])
   pub stays : a.is_ended ≡ true → b.is_ended ≡ true
+
+-- What was found behind the last line: whether a byte stands there, which is held then.
+abbrev pub Finds : Lined → List ℕ → Result Bool LineStop → Lined → Type 0
+Finds a text (Ok true) b = (0 < length text) × (b ≡ record a { held = text })
+Finds a text (Ok false) b = (text ≡ []) × (b ≡ record a { is_ended = true })
+Finds a text (Err TooLong) b = ⊥
+Finds a text (Err ReadFault) b = (a.is_ended ≡ false) × (text ≡ []) × (b ≡ record a { stop = Some ReadFault })
+
+-- A look at whether something follows: it reads once where nothing is held and the source isn't known to be at its end, and else
+-- not at all.
+pub record Looks (a b : Lined) (left left' : Option (List ℕ)) (result : Result Bool LineStop) : Type 0 where
+  pub got : List ℕ
+  pub read : left ≡ with_front got left'
+  pub wanted : (got ≡ []) ⊎ ((a.is_ended ≡ false) × (a.held ≡ []) × (length got ≤ most_of_a_read))
+  pub found : Finds a (a.held ++ got) result b
+  pub ended : a.is_ended ≡ false → b.is_ended ≡ true → IfSome left' (λ rest. rest ≡ [])
 
 -- What the parts of a call do.
 
@@ -90,9 +106,9 @@ Reaches is_ended text left' Source =
     NoLf text × (length text ≤ longest) × (is_ended ≡ false → IfSome left' (λ rest. rest ≡ []))
 
 -- why it has none
-abbrev pub Lacks : List ℕ → LineStop → Type 0
-Lacks text TooLong = (longest < length text) × NoLf (take (longest + 1) text)
-Lacks text ReadFault = (length text ≤ longest) × NoLf text
+abbrev pub Lacks : Bool → List ℕ → LineStop → Type 0
+Lacks is_ended text TooLong = (longest < length text) × NoLf (take (longest + 1) text)
+Lacks is_ended text ReadFault = (is_ended ≡ false) × (length text ≤ longest) × NoLf text
 
 -- Calls, one after the other, that each gave a line: these lines, from one state of the reader and the source to another.
 abbrev pub GaveLines : List (List ℕ) → Lined → Option (List ℕ) → Lined → Option (List ℕ) → Type 0

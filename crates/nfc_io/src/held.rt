@@ -99,7 +99,7 @@ impl Held {
     }
 
     /// Reads once, as far as there is room behind the bytes, and says how many it got.
-    fn fill<S: Source>(&mut self, source: &mut S) -> Result<usize, Failed>
+    pub fn fill<S: Source>(&mut self, source: &mut S) -> Result<usize, Failed>
         requires { length self.old ≤ 4096 }
         ensures ok { IfOk result (λ n. Gets n self.old self.new (S.left source.old) (S.left source.new)) }
         ensures size { length self.new ≤ 4097 }
@@ -121,7 +121,7 @@ impl Held {
     pub fn reach<S: Source>(&mut self, source: &mut S, ended: bool) -> Result<LineEnd, LineStop>
         ensures fetched { Fetches ended self.old self.new (S.left source.old) (S.left source.new) }
         ensures ok { IfOk result (λ e. Reaches ended self.new (S.left source.new) e) }
-        ensures err { IfErr result (λ s. Lacks self.new s) }
+        ensures err { IfErr result (λ s. Lacks ended self.new s) }
         ensures size { length self.new ≤ 4097 }
         ensures still { result ≢ Err LineStop.ReadFault → S.faults source.new ≡ S.faults source.old }
         ensures cause { result ≡ Err LineStop.ReadFault → HasRisen (S.faults source.old) (S.faults source.new) }

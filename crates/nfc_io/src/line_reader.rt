@@ -1,7 +1,7 @@
 //! A source's lines, one by one.
 ghost use Rattle.std.specs.Prelude.{◌≡◌, ◌≢◌, ◌≤◌, length, take, drop, None, Some, Err, IfOk};
 ghost use Rattle.nfc_io.specs.Counts.{HasRisen};
-ghost use Rattle.nfc_io.specs.Reading.{Advances, new_lined};
+ghost use Rattle.nfc_io.specs.Reading.{Advances, Looks, new_lined};
 
 use crate::held::{Held, LineEnd};
 use crate::source::Source;
@@ -96,6 +96,40 @@ impl LineReader {
             Err(stop) => {
                 self.stop = Some(stop);
                 Err(stop)
+            }
+        }
+    }
+
+    /// Says whether a byte stands behind the last line. It reads once at most, and only where it holds none.
+    pub fn follows<S: Source>(&mut self, source: &mut S) -> Result<bool, LineStop>
+        ensures look { self.old.stop ≡ None
+            → Looks self.old self.new (S.left source.old) (S.left source.new) result }
+        ensures cause { self.old.stop ≡ None → result ≡ Err LineStop.ReadFault
+            → HasRisen (S.faults source.old) (S.faults source.new) }
+        ensures still { result ≢ Err LineStop.ReadFault → S.faults source.new ≡ S.faults source.old }
+        ensures count { S.faults source.old ≤ S.faults source.new }
+        ensures few { length self.new.held ≤ 4097 }
+        ensures stuck { (s : LineStop) → self.old.stop ≡ Some s
+            → (result ≡ Err s) × (self.new ≡ self.old) × (source.new ≡ source.old) }
+    {
+        if let Some(stop) = self.stop {
+            return Err(stop);
+        }
+        if !self.held.view().is_empty() {
+            return Ok(true);
+        }
+        if self.ended {
+            return Ok(false);
+        }
+        match self.held.fill(source) {
+            Ok(0) => {
+                self.ended = true;
+                Ok(false)
+            }
+            Ok(_) => Ok(true),
+            Err(_) => {
+                self.stop = Some(LineStop::ReadFault);
+                Err(LineStop::ReadFault)
             }
         }
     }

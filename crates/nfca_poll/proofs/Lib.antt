@@ -39,6 +39,7 @@ pub mod Moves
 pub mod ThroughNoise
 pub mod Causes
 pub mod Twins
+mod Unwoken
 pub mod FromAny
 pub mod AnyTurns
 pub mod Unlinked

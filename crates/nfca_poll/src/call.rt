@@ -1,7 +1,7 @@
 //! The requests by which a reader finds and selects devices.
 
-ghost use Rattle.std.specs.Prelude.{◌≡◌, slice_index};
-ghost use Rattle.nfca_poll.specs.Calls.{is_short, is_slp, is_sel_cmd, is_sdd_par, is_sdd, is_sel, cmd_level, call_of};
+ghost use Rattle.std.specs.Prelude.{◌≡◌, ◌↔◌, ◌⊎◌, slice_index, IsTrue};
+ghost use Rattle.nfca_poll.specs.Calls.{Calls, Sens, All, is_short, is_slp, is_sel_cmd, is_sdd_par, is_sdd, is_sel, cmd_level, call_of};
 ghost use Rattle.nfca_poll.specs.Kinds.{reading_by, HasForm};
 
 use air_core::bits::bit_len;
@@ -55,6 +55,26 @@ impl CallKind {
         }
         None
     }
+}
+
+/// Whether a frame is SENS_REQ or ALL_REQ, which wake an idle device.
+pub(crate) fn is_sens_or_all(frame: &Frame) -> bool
+    ensures { IsTrue result ↔ ((call_of frame.now ≡ Calls Sens) ⊎ (call_of frame.now ≡ Calls All)) }
+{
+    is_sens(frame) || is_all(frame)
+}
+
+fn is_sens(frame: &Frame) -> bool
+    ensures { IsTrue result ↔ (call_of frame.now ≡ Calls Sens) }
+{
+    is_short(frame, SENS_REQ)
+}
+
+/// Whether a frame is ALL_REQ, which wakes a sleeping device too.
+pub(crate) fn is_all(frame: &Frame) -> bool
+    ensures { IsTrue result ↔ (call_of frame.now ≡ Calls All) }
+{
+    is_short(frame, ALL_REQ)
 }
 
 /// One byte of which seven bits are sent.

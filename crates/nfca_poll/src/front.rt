@@ -7,7 +7,7 @@ ghost use Rattle.nfca_poll.specs.Calls.{Calls, Sdd, Sel, call_of, is_sdd, is_sel
 ghost use Rattle.nfca_poll.specs.Front.{Off, Ready, sens_res, sel_res, home, front_says, front_next};
 ghost use Rattle.nfca_poll.specs.Fronted.{front_of, HasLevel};
 
-use crate::call::CallKind;
+use crate::call::{CallKind, is_all, is_sens_or_all};
 use crate::ident::Ident;
 use crate::kind::Kind;
 use crate::level::Level;
@@ -243,6 +243,7 @@ impl Step {
 }
 
 /// The step of a front at a frame that isn't of the machine above it.
+#[tactic(auto, using(crate::proofs::Unwoken::idle_stays, crate::proofs::Unwoken::idle_silent, crate::proofs::Unwoken::sleep_stays, crate::proofs::Unwoken::sleep_silent))]
 fn step_at(id: &Ident, kind: Kind, state: FrontState, frame: &Frame, answer: &mut Frame) -> Step
     requires { HasLevel (length (levels id.now)) (front_of state) }
     ensures state { front_of result.state ≡ front_next (levels id.now) (front_of state) (call_of frame.now) }
@@ -250,30 +251,56 @@ fn step_at(id: &Ident, kind: Kind, state: FrontState, frame: &Frame, answer: &mu
         ≡ front_says (levels id.now) kind (front_of state) (call_of frame.now) }
     ensures level { HasLevel (length (levels id.now)) (front_of result.state) }
 {
-    let call = CallKind::read_from(frame);
     match state {
         FrontState::Off => Step::silent(FrontState::Off),
-        FrontState::Idle => match call {
-            Some(CallKind::Sens | CallKind::All) => Step::wakes(id, false, answer),
-            _ => Step::silent(FrontState::Idle),
-        },
-        FrontState::Sleep => match call {
-            Some(CallKind::All) => Step::wakes(id, true, answer),
-            _ => Step::silent(FrontState::Sleep),
-        },
-        FrontState::Ready { level, starred } => match call {
-            Some(CallKind::Sdd { level: asked }) if asked == level => {
-                step_at_sdd(id, kind, level, starred, frame, answer)
+        FrontState::Idle => {
+            if is_sens_or_all(frame) {
+                Step::wakes(id, false, answer)
+            } else {
+                Step::silent(FrontState::Idle)
             }
-            Some(CallKind::Sel { level: asked }) if asked == level => {
-                step_at_sel(id, kind, level, starred, frame, answer)
+        }
+        FrontState::Sleep => {
+            if is_all(frame) {
+                Step::wakes(id, true, answer)
+            } else {
+                Step::silent(FrontState::Sleep)
             }
-            _ => Step::silent(home(starred)),
-        },
-        FrontState::Active { starred } => match call {
+        }
+        FrontState::Ready { level, starred } => {
+            step_at_call(id, kind, level, starred, frame, answer)
+        }
+        FrontState::Active { starred } => match CallKind::read_from(frame) {
             Some(CallKind::Slp) => Step::silent(FrontState::Sleep),
             _ => Step::silent(home(starred)),
         },
+    }
+}
+
+/// A device that is ready hears a frame.
+fn step_at_call(
+    id: &Ident,
+    kind: Kind,
+    level: u8,
+    starred: bool,
+    frame: &Frame,
+    answer: &mut Frame,
+) -> Step
+    requires low { 1 ≤ level }
+    requires high { level ≤ length (levels id.now) }
+    ensures state { front_of result.state ≡ front_next (levels id.now) (Ready level starred) (call_of frame.now) }
+    ensures answer { said_at result.said answer.new
+        ≡ front_says (levels id.now) kind (Ready level starred) (call_of frame.now) }
+    ensures level { HasLevel (length (levels id.now)) (front_of result.state) }
+{
+    match CallKind::read_from(frame) {
+        Some(CallKind::Sdd { level: asked }) if asked == level => {
+            step_at_sdd(id, kind, level, starred, frame, answer)
+        }
+        Some(CallKind::Sel { level: asked }) if asked == level => {
+            step_at_sel(id, kind, level, starred, frame, answer)
+        }
+        _ => Step::silent(home(starred)),
     }
 }
 

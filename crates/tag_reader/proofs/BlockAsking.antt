@@ -19,7 +19,7 @@ use Rattle.tag_reader.specs.Blocks.{ask_frame, ask_count, next_ask, IsMany}
 use Rattle.tag_reader.specs.Heard.{next_command, ask_behind, HasContent, IsBlocks, Brings, IsFaultBy, joined, first_size, is_single}
 use Rattle.tag_reader.specs.HeardSteps.{Under}
 use Rattle.tag_reader.specs.BlockSteps.{TellsBlocks, IsKnown, GainsBlocks, EndsBlocks, Grows}
-use Rattle.tag_reader.proofs.Bringing.{under_brings, under_stops, memory_ends}
+use Rattle.tag_reader.proofs.Bringing.{under_brings, under_stops, memory_ends, under_left}
 use Rattle.tag_reader.proofs.OneForm.{five_least}
 use Rattle.tag_reader.proofs.BlockLists.{many_single}
 
@@ -77,10 +77,15 @@ some_pieces : (ps : List (List ℕ)) → 0 < first_size ps → 0 < length ps
 some_pieces [] some = some
 some_pieces (p ∷ ps) some = omega arith
 
-pub blocks_ended : (id : List ℕ) (a b c : LinkView) (ps : List (List ℕ)) (known : Known) (f r : Signal) → Under (T5 id) a b ps → f ≡ next_command (T5 id) ps → IsAnswer b c f r →
+pub blocks_ended : (id : List ℕ) (a b c : LinkView) (ps : List (List ℕ)) (known : Known) (f r : Signal) → Under (T5 id) a b ps → f ≡ next_command (T5 id) ps → Obeys b c f → IsAnswer b c f r →
     TellsBlocks id (ask_behind ps) (first_size ps) r (Ok Ended) → EndsBlocks id a c ps known known
-blocks_ended id a b c ps known f r u is answer tells =
-    record { r = r; stopped = under_stops (T5 id) a b c ps f r u is answer; ends = (some_pieces ps tells.1, tells.0, tells.2); same = refl }
+blocks_ended id a b c ps known f r u is obeys answer tells = record {
+  r = r;
+  stopped = under_stops (T5 id) a b c ps f r u is answer;
+  ends = (some_pieces ps tells.1, tells.0, tells.2);
+  left = under_left (T5 id) a b c ps f r u is obeys answer;
+  same = refl;
+}
 
 -- a piece more
 single_more : (ps : List (List ℕ)) (p : List ℕ) → is_single (ps ++ p ∷ []) ≡ (is_single ps || (length p == 0))

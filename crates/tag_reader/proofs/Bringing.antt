@@ -1,5 +1,5 @@
 -- The pieces that a tag brings, whatever it does, and how a reading of it ends.
-use Rattle.std.proofs.Common.{◌≡◌, ℕ, ◌<◌, inl, inr, List, [], ◌∷◌, ◌++◌, length, drop, None, Some, Err, refl, sym, ◌∙◌, ap, subst, append_assoc, append-nil, arith}
+use Rattle.std.proofs.Common.{◌≡◌, ℕ, ◌<◌, inl, inr, List, [], ◌∷◌, ◌++◌, length, drop, true, None, Some, Err, refl, sym, ◌∙◌, ap, subst, append_assoc, append-nil, arith}
 use Rattle.std.proofs.lemmas.List.{append_cancel_right, length-append}
 use Rattle.std.proofs.Math.Seq.{drop-append_seam}
 use Rattle.nfc_base.specs.Signal.{Signal}
@@ -19,6 +19,7 @@ use Rattle.tag_reader.specs.declared.ask.Ask.TheVariants.{One, Many}
 use Rattle.tag_reader.specs.Blocks.{IsOne, IsMany}
 use Rattle.tag_reader.specs.Heard.{ask_behind, BringsPiece, EndsTag, IsLast, next_command, asked_for, HasContent, IsPiece, Brings, Refuses, IsOdd, IsBroughtBy, tag_after, IsBrought, IsStopped, IsFaultBy}
 use Rattle.tag_reader.specs.HeardSteps.{HasNoForm, Went, Under}
+use Rattle.tag_reader.specs.SurveyHeard.{surveyed_by, IsLeftBy}
 use Rattle.tag_reader.proofs.Links.{began, began_by}
 
 -- one piece more
@@ -91,6 +92,15 @@ under_stops how a b c ps f r u e answer = record {
   answer = sym (ap (λ t. t.answer) (step_is how a b ps f u e)) ∙ answer.answer;
   answered = answered_is how a b c ps f u e answer.answered;
   over = answer.stays;
+}
+
+-- what it leaves
+pub under_left : (how : How) (a b c : LinkView) (ps : List (List ℕ)) (f r : Signal) → Under how a b ps → f ≡ next_command how ps → Obeys b c f → IsAnswer b c f r → IsLeftBy a c (surveyed_by how ps true)
+under_left how a b c ps f r u e obeys answer = record {
+  kind = obeys.leads.kind ∙ u.kind;
+  identifier = obeys.leads.identifier ∙ u.identifier;
+  step = obeys.leads.step ∙ u.step;
+  state = answer.after ∙ ap (λ t. t.after) (step_is how a b ps f u e) ∙ sym (after_append a.step a.state (asked_for how [] ps) (next_command how ps ∷ []));
 }
 
 -- no answer

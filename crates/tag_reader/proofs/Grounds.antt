@@ -119,7 +119,7 @@ module _ (how : How) (size : ℕ) (a b : LinkView) (space : Space) (block : ℕ)
   made (Err fault.Protocol) is = absurd is
 
 -- each address before the end of whole blocks lies in one of them
-whole_block : (size count a : ℕ) → a < size * count → size * (a / size) + size ≤ size * count
+pub whole_block : (size count a : ℕ) → a < size * count → size * (a / size) + size ≤ size * count
 whole_block size count a low =
     let less : size * (a / size) ≤ a = mul-div-le a size in
     let block : a / size < count = lt_of_mul-lt-mul_left size (omega (arith, less, low)) in

@@ -14,6 +14,8 @@ pub mod Endings
 pub mod Turns
 pub mod AreaSurveys
 pub mod Grounds
+pub mod Accesses
+pub mod Surveys
 pub mod Lists
 pub mod SomeList
 pub mod Files

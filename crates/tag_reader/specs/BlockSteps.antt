@@ -23,6 +23,7 @@ use Rattle.tag_reader.specs.Kinds.{IsTag}
 use Rattle.tag_reader.specs.Asked.{Aim, ToRead, IsDueFor}
 use Rattle.tag_reader.specs.Heard.{HasContent, IsBlocks, EndsTag, IsStopped, IsFaultBy, joined, first_size, is_single}
 use Rattle.tag_reader.specs.HeardSteps.{Under}
+use Rattle.tag_reader.specs.SurveyHeard.{surveyed_by, IsLeftBy}
 use Rattle.tag_reader.specs.Steps.{Asks, Reads}
 
 -- what is known can be asked on from: the next block has a number of two bytes
@@ -64,6 +65,7 @@ pub record EndsBlocks (id : List ℕ) (a b : LinkView) (ps : List (List ℕ)) (k
   pub r : Signal
   pub stopped : IsStopped (T5 id) a b ps r
   pub ends : EndsTag (T5 id) ps r
+  pub left : IsLeftBy a b (surveyed_by (T5 id) ps true)
   pub same : known' ≡ known
 
 abbrev pub SeesBlocks : List ℕ → LinkView → LinkView → List (List ℕ) → Known → Known → Result Bool ReadFault → Type 0

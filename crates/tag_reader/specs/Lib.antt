@@ -1,6 +1,7 @@
 pub mod Files
 pub mod Blocks
 pub mod Kinds
+pub mod Access
 pub mod Asked
 pub mod Calls
 pub mod Counts
@@ -12,4 +13,5 @@ pub mod FileSteps
 pub mod Heard
 pub mod HeardSteps
 pub mod BlockSteps
+pub mod SurveyHeard
 pub mod SurveySteps

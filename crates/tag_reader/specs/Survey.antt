@@ -1,12 +1,12 @@
 -- What a survey of a tag tells a writer (NFC Forum Type 2, Type 4 and Type 5 Tag).
-use Rattle.std.specs.Prelude.{◌≡◌, ℕ, ◌-◌, ◌≤◌, List, length, take, true, Result, Ok, IfOk}
+use Rattle.std.specs.Prelude.{◌≡◌, ℕ, ◌-◌, ◌*◌, ◌<◌, ◌≤◌, List, length, take, true, Result, Ok, IfOk}
 use Rattle.nfc_base.specs.TagLinks.{TagState, LinkView, NdefFile}
 use Rattle.tlv_area.specs.declared.space.Space.{Space}
 use Rattle.tlv_area.specs.declared.space.AreaMap.{AreaMap}
 use Rattle.tlv_area.specs.declared.container.ContainerFault.{ContainerFault}
 use Rattle.tlv_area.specs.declared.container.FileMap.{FileMap}
 use Rattle.tlv_area.specs.declared.walk.Walk.TheVariants as walk
-use Rattle.tlv_area.specs.Layout.{bytes_at}
+use Rattle.tlv_area.specs.Layout.{IsArea, bytes_at}
 use Rattle.tlv_area.specs.Form.{Message}
 use Rattle.tlv_area.specs.Map.{IsWalk, IsPlaced, IsPlacedIn, message_cells}
 use Rattle.tlv_area.specs.Stores.{cut_by}
@@ -56,9 +56,17 @@ abbrev pub IsGround : How → ℕ → List ℕ → Ground → Type 0
 IsGround how size store (Area known block map') = IsKnownArea how size store known block map'
 IsGround how size store (File map' length') = IsKnownFile how store map' length'
 
--- The message of an area lies in it, and all of the area is known.
+-- The message of an area lies in it, and all of the area is known, in whole blocks that numbers of two bytes name.
+pub record IsPlacedArea (known : List ℕ) (block : ℕ) (map' : AreaMap) : Type 0 where
+  pub area : IsArea map'.space
+  pub placed : IsPlacedIn known map'
+  pub whole : map'.space.end ≤ length known
+  pub some : 0 < block
+  pub end : map'.space.end ≤ 65536 * block
+  pub blocks : HasBlocks block map'.space known
+
 abbrev pub IsPlacedGround : Ground → Type 0
-IsPlacedGround (Area known block map') = IsPlacedIn known map' × (map'.space.end ≤ length known)
+IsPlacedGround (Area known block map') = IsPlacedArea known block map'
 IsPlacedGround (File map' length') = Unit {0}
 
 -- The tag as a survey leaves it: of a Type 4 tag the application is selected, and the NDEF file is the current one.

@@ -1,5 +1,5 @@
 -- What the parts of a survey say. No public contract speaks of these.
-use Rattle.std.specs.Prelude.{◌≡◌, ℕ, ◌*◌, ◌≤◌, List, [], ◌++◌, length, take, Result, Ok, Err}
+use Rattle.std.specs.Prelude.{◌≡◌, ℕ, ◌*◌, ◌<◌, ◌≤◌, Bool, List, [], ◌++◌, length, take, Result, Ok, Err}
 use Rattle.nfc_base.specs.TagLinks.{LinkView}
 use Rattle.tlv_area.specs.declared.space.Space.{Space}
 use Rattle.tlv_area.specs.declared.walk.Walk.{Walk}
@@ -16,6 +16,8 @@ use Rattle.tag_reader.specs.declared.known.Known.{Known}
 use Rattle.tag_reader.specs.Kinds.{OfTag}
 use Rattle.tag_reader.specs.Asked.{ToWrite, IsSurveyed}
 use Rattle.tag_reader.specs.Survey.{IsSurvey}
+use Rattle.tag_reader.specs.Heard.{joined, first_size, HasContainer}
+use Rattle.tag_reader.specs.SurveyHeard.{surveyed_by, IsHeard, IsLeftBy, area_heard}
 use Rattle.tag_reader.specs.Steps.{IsBlockTag, Asks, Walks, Reads, Concludes, OfBlockTag}
 
 -- what a walk tells over an area that is known to its end, whatever stands behind it
@@ -58,6 +60,18 @@ pub record IsAllKnown (id : List ℕ) (size : ℕ) (a b : LinkView) (known : Kno
 abbrev pub KnowsAll : List ℕ → ℕ → LinkView → LinkView → Known → Result Space ReadFault → Type 0
 KnowsAll id size a b known (Ok end) = IsAllKnown id size a b known end
 KnowsAll id size a b known (Err e) = Reads ToWrite (T5 id) size a b [] (Err e)
+
+-- Pieces of this size, whatever the tag does, which have the area that they name as far as the tag goes.
+pub record HearsAll (how : How) (a b : LinkView) (size : ℕ) (known : List ℕ) (end : Space) : Type 0 where
+  pub ps : List (List ℕ)
+  pub ended : Bool
+  pub heard : IsHeard how a b ps ended
+  pub left : IsLeftBy a b (surveyed_by how ps ended)
+  pub some : 0 < length ps
+  pub first : size ≡ first_size ps
+  pub known' : known ≡ joined ps
+  pub container : HasContainer how known
+  pub area : area_heard how ps ended ≡ Ok end
 
 -- A survey, of a tag of whatever kind, from its first view of the link to its last.
 abbrev pub IsSurveyMade : How → ℕ → LinkView → LinkView → Result Ground ReadFault → Type 0

@@ -6,9 +6,10 @@ ghost use Rattle.tlv_area.specs.Layout.{IsArea};
 ghost use Rattle.tag_reader.specs.Asked.{ToWrite};
 ghost use Rattle.tag_reader.specs.declared.how.How.TheVariants as hows;
 ghost use Rattle.tag_reader.specs.Heard.{IsOf};
+ghost use Rattle.tag_reader.specs.HeardSteps.{OrFault};
 ghost use Rattle.tag_reader.specs.Steps.{IsOfBlocks};
 ghost use Rattle.tag_reader.specs.BlockSteps.{Names, LooksBlocks, IsReading};
-ghost use Rattle.tag_reader.specs.SurveySteps.{ReadsAll, KnowsAll};
+ghost use Rattle.tag_reader.specs.SurveySteps.{HearsAll, ReadsAll, KnowsAll};
 
 use crate::asking::ask_next;
 use crate::blocks::ask_blocks;
@@ -34,6 +35,10 @@ pub fn read_all<T: TagLink>(
     requires begun { known.old.items ≡ [] }
     ensures area { IfOk result IsArea }
     ensures whole { IfOk result (λ space. space.end ≤ length known.new.items) }
+    // whatever the tag does
+    ensures hears { OrFault (λ space. (size : ℕ)
+        × HearsAll how (T.seen link.old) (T.seen link.new) size known.new.items space)
+        how (T.seen link.old) (T.seen link.new) result }
     ensures reads { ReadsAll how (T.seen link.old) (T.seen link.new) known.new.items result }
     ensures ready { T.ready link.new }
     ensures same { T.lenders link.new ≡ T.lenders link.old }
@@ -74,6 +79,10 @@ pub fn read_to_end<T: TagLink>(
     ensures area { IfOk result IsArea }
     ensures whole { IfOk result (λ end. end.end ≤ length known.new.bytes.items) }
     ensures small { OnOk result (known.new.size ≤ 256) }
+    // whatever the tag does
+    ensures hears { (a : LinkView) → LooksBlocks id a (T.seen link.old) known.old →
+        OrFault (HearsAll (hows.T5 id) a (T.seen link.new) known.new.size known.new.bytes.items)
+        (hows.T5 id) a (T.seen link.new) result }
     ensures reads { (size n : ℕ) (a : LinkView) → IsReading ToWrite id size a (T.seen link.old) known.old (suc n) →
         KnowsAll id size a (T.seen link.new) known.new result }
     ensures ready { T.ready link.new }

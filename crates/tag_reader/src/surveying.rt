@@ -1,7 +1,8 @@
 //! What a writer reads first.
 
-ghost use Rattle.std.specs.Prelude.{◌≡◌, ◌≤◌, length, IfOk};
+ghost use Rattle.std.specs.Prelude.{◌≡◌, ◌*◌, ◌<◌, ◌≤◌, length, IfOk};
 ghost use Rattle.tlv_area.specs.Layout.{IsArea};
+ghost use Rattle.tlv_area.specs.Writing.{HasBlocks};
 ghost use Rattle.tag_reader.specs.declared.how.How.TheVariants as hows;
 ghost use Rattle.tag_reader.specs.Asked.{ToWrite};
 ghost use Rattle.tag_reader.specs.Counts.{AsksFew};
@@ -9,6 +10,7 @@ ghost use Rattle.tag_reader.specs.Heard.{IsOf};
 ghost use Rattle.tag_reader.specs.Reading.{KeepsStore, AsksInOrder, AsksAll, LeavesLink, TellsCause, TellsInCalm};
 ghost use Rattle.tag_reader.specs.Steps.{IsOfBlocks};
 ghost use Rattle.tag_reader.specs.Survey.{IsPlacedGround, TellsGround};
+ghost use Rattle.tag_reader.specs.SurveyHeard.{IsGroundToldBy};
 ghost use Rattle.tag_reader.specs.SurveySteps.{GroundIn, SurveysTag, SurveysBlocks};
 
 use crate::area::{read_all, read_to_end};
@@ -34,6 +36,9 @@ pub fn survey<T: TagLink>(alloc: Global, link: &mut T, how: How) -> Result<Groun
     requires of { IsOf how (T.seen link.old) }
     // whatever the tag does: the map is one that `capacity` takes
     ensures places { IfOk result IsPlacedGround }
+    // and what it tells stands in the tag's answers, and each fault in the last of them, in what they brought, or in the
+    // link
+    ensures told { IsGroundToldBy how (T.seen link.old) (T.seen link.new) result }
     // where it is a tag of that kind: the store stays, in each image
     ensures stays { KeepsStore how (T.seen link.old) (T.seen link.new) }
     // what was answered is the first of what is asked, and all of it unless the link or memory failed
@@ -58,6 +63,7 @@ fn survey_kind<T: TagLink>(alloc: Global, link: &mut T, how: How) -> Result<Grou
     requires ready { T.ready link.old }
     requires of { IsOf how (T.seen link.old) }
     ensures places { IfOk result IsPlacedGround }
+    ensures told { IsGroundToldBy how (T.seen link.old) (T.seen link.new) result }
     ensures surveys { SurveysTag how (T.seen link.old) (T.seen link.new) result }
     ensures ready { T.ready link.new }
     ensures same { T.lenders link.new ≡ T.lenders link.old }
@@ -74,6 +80,9 @@ fn survey_kind<T: TagLink>(alloc: Global, link: &mut T, how: How) -> Result<Grou
 fn ground_in(space: Space, block: u32, known: Vec<u8>) -> Result<Ground, ReadFault>
     requires area { IsArea space }
     requires whole { space.end ≤ length known.items }
+    requires some { 0 < block }
+    requires end { space.end ≤ 65536 * block }
+    requires blocks { HasBlocks block space known.items }
     ensures ground { GroundIn space block known.items result }
     ensures places { IfOk result IsPlacedGround }
 {
@@ -95,6 +104,8 @@ fn survey_area<T: TagLink>(alloc: Global, link: &mut T, how: How) -> Result<Grou
     requires of { IsOf how (T.seen link.old) }
     requires kind { IsOfBlocks how }
     ensures places { IfOk result IsPlacedGround }
+    // whatever the tag does
+    ensures told { IsGroundToldBy how (T.seen link.old) (T.seen link.new) result }
     ensures surveys { SurveysBlocks how (T.seen link.old) (T.seen link.new) result }
     ensures ready { T.ready link.new }
     ensures same { T.lenders link.new ≡ T.lenders link.old }
@@ -111,6 +122,8 @@ fn survey_file<T: TagLink>(alloc: Global, link: &mut T) -> Result<Ground, ReadFa
     requires ready { T.ready link.old }
     requires of { IsOf hows.T4 (T.seen link.old) }
     ensures places { IfOk result IsPlacedGround }
+    // whatever the tag does
+    ensures told { IsGroundToldBy hows.T4 (T.seen link.old) (T.seen link.new) result }
     ensures surveys { SurveysTag hows.T4 (T.seen link.old) (T.seen link.new) result }
     ensures ready { T.ready link.new }
     ensures same { T.lenders link.new ≡ T.lenders link.old }
@@ -126,6 +139,8 @@ fn survey_blocks<T: TagLink>(alloc: Global, link: &mut T, id: [u8; 8]) -> Result
     requires ready { T.ready link.old }
     requires of { IsOf (hows.T5 id) (T.seen link.old) }
     ensures places { IfOk result IsPlacedGround }
+    // whatever the tag does
+    ensures told { IsGroundToldBy (hows.T5 id) (T.seen link.old) (T.seen link.new) result }
     ensures surveys { SurveysTag (hows.T5 id) (T.seen link.old) (T.seen link.new) result }
     ensures ready { T.ready link.new }
     ensures same { T.lenders link.new ≡ T.lenders link.old }

@@ -18,9 +18,11 @@ use Rattle.tlv_area.proofs.Places.{map_parts, tail_same}
 use Rattle.tag_reader.specs.declared.how.How.{How}
 use Rattle.tag_reader.specs.declared.how.How.TheVariants.{T2, T4, T5}
 use Rattle.tag_reader.specs.Kinds.{IsStore, IsStoreForm}
+use Rattle.tag_reader.specs.Access.{IsAccess}
 use Rattle.tag_reader.specs.Survey.{block_size, written_area}
+use Rattle.tag_reader.proofs.Accesses.{written_access}
 use Rattle.tag_writer.specs.Puts.{put_into, after_puts, block_put, block_puts}
-use Rattle.tag_writer.specs.Place.{Place, IsAreaPlace, IsPlaceBy, IsPlaceIn, IsAccess, AccessBy, HasPieces, tail_place}
+use Rattle.tag_writer.specs.Place.{Place, IsAreaPlace, IsPlaceBy, IsPlaceIn, HasPieces, tail_place}
 use Rattle.tag_writer.specs.WriteAsked.{all_puts, AreAreaPuts, ArePuts}
 use Rattle.tag_writer.specs.Law.{IsEmptied, IsWritten}
 use Rattle.tag_writer.specs.Puttings.{IsPutOf, IsBlockPut}
@@ -202,7 +204,7 @@ serves T2 size m store message plan is =
     let start : m.space.start ≡ 16 = t2_start (four_bytes store 12) m.space is.area in
     serves_by T2 size m store message plan is (kind.t2 is.area)
     (subst (λ r. IsPlaceBy r store message (tail_place (message_tail is.t.at is.after) message)) (sym is.area) (holds T2 size m store message plan is))
-    (subst (λ r. AccessBy r true) (sym is.area) (sym is.writable)) tt (m.space, is.area, area_puts T2 size m store message plan is)
+    (subst (IsAccess T2 size store) is.writable (written_access T2 size store m.space is.area)) tt (m.space, is.area, area_puts T2 size m store message plan is)
     (block_ok T2 size 4 store (steps_of plan) (keeps T2 size m store message plan is).whole (low T2 size m store message plan is 4 (λ a in_. omega (arith, start, in_))))
     (record { twice = twice_by T2 size m store message plan is (omega arith); once = once_by T2 size m store message plan is (omega arith); changed = other_by T2 size m store message plan is }) (home_by T2 size m store message plan is)
 serves T4 size m store message plan is = absurd (let no_ = is.area in cc)
@@ -210,7 +212,7 @@ serves (T5 id) size m store message plan is =
     let kind = is.kinds is.ts is.t is.after is.map' in
     serves_by (T5 id) size m store message plan is (kind.t5 is.area)
     (subst (λ r. IsPlaceBy r store message (tail_place (message_tail is.t.at is.after) message)) (sym is.area) (holds (T5 id) size m store message plan is))
-    (subst (λ r. AccessBy r true) (sym is.area) (sym is.writable)) tt (m.space, is.area, area_puts (T5 id) size m store message plan is)
+    (subst (IsAccess (T5 id) size store) is.writable (written_access (T5 id) size store m.space is.area)) tt (m.space, is.area, area_puts (T5 id) size m store message plan is)
     (block_ok (T5 id) size 0 store (steps_of plan) (keeps (T5 id) size m store message plan is).whole (low (T5 id) size m store message plan is 0 (λ a in_. omega arith)))
     (let some : 0 < size = (let sized = size_of_block size is.store'.sized in omega (arith, sized.2)) in
     record { twice = twice_by (T5 id) size m store message plan is some; once = once_by (T5 id) size m store message plan is some; changed = other_by (T5 id) size m store message plan is }) (home_by (T5 id) size m store message plan is)

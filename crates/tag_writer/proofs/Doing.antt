@@ -44,8 +44,8 @@ t2_told : (locked : List Bool) (s : TagState) (block : ℕ) (content : List ℕ)
       answer = Some (answer_frame (if w then Done else Refused));
       after = record s { store = (if w then record (t2_memory locked s) { store = with_block 4 s.store block content } else t2_memory locked s).store };
     })
-t2_told locked s block content c long true = record { answers = tt; done = λ e. block_in 4 s block content c long; refused = λ code e. absurd cc }
-t2_told locked s block content c long false = record { answers = tt; done = λ e. absurd cc; refused = λ code e. refl }
+t2_told locked s block content c long true = record { answers = inl refl; done = λ e. block_in 4 s block content c long; refused = λ code e. absurd cc }
+t2_told locked s block content c long false = record { answers = inr (0, (refl, refl)); done = λ e. absurd cc; refused = λ code e. refl }
 
 pub t2_does : (locked : List Bool) (size : ℕ) (s : TagState) (step : Step) → length step.content.items ≡ 4 →
     Does T2 s (block_put T2 size step) (t2_step locked s (block_command T2 step))
@@ -66,13 +66,13 @@ t5_told id size locked quiet s block content c long =
     let t : T5State = t5_memory id size locked quiet s in
     let p : Put = record { at = size * block; bytes = content; command = c } in
     let P : T5Turn → Type 0 = λ r. Does (T5 id) s p (record { answer = sent r.answer; after = record s { store = r.after.store } }) in
-    let error : (code : ℕ) → P (refuses t code) = λ code. record { answers = tt; done = λ e. absurd cc; refused = λ other e. refl } in
+    let error : (code : ℕ) → P (refuses t code) = λ code. record { answers = inr (code, refl); done = λ e. absurd cc; refused = λ other e. refl } in
     let free : T5Turn = if is_locked t block then refuses t block_locked else writes t block content in
     let sized : T5Turn = if not (length content == t.size) then refuses t not_supported else free in
     by_test P (nat_le (block_count t) block) (refuses t no_block) sized (λ h. error no_block)
     (λ h. by_test P (not (length content == t.size)) (refuses t not_supported) free (λ k. error not_supported)
     (λ k. by_test P (is_locked t block) (refuses t block_locked) (writes t block content) (λ l. error block_locked)
-    (λ l. record { answers = tt; done = λ e. block_in size s block content c long; refused = λ code e. absurd cc })))
+    (λ l. record { answers = inl refl; done = λ e. block_in size s block content c long; refused = λ code e. absurd cc })))
 
 t5_by : (id : List ℕ) (size : ℕ) (locked : List Bool) (quiet : Bool) (s : TagState) (block : ℕ) (content : List ℕ) (c : Signal) → length content ≡ size →
     t5_step.t5_turn (t5_memory id size locked quiet s) c ≡ write_turn (t5_memory id size locked quiet s) block content →

@@ -88,7 +88,7 @@ t4_does code base s offset bytes is like here u within =
     ∙ ap {B = TagState} (λ (f : TagFile). record { store = store_of (writes t offset bytes).after; selected = s.selected; file = f }) (sym here)
     ∙ ap {B = TagState} (λ (st : List ℕ). record s { store = st }) store in
     subst (λ (r : T4Turn). Does T4 s (update_put base offset bytes) (record { answer = Some (whole_a r.answer); after = shown r.after })) (sym turn)
-    (record { answers = omega arith; done = λ e. after; refused = λ code e. absurd cc })
+    (record { answers = refl; done = λ e. after; refused = λ code e. absurd cc })
 
 -- what the tag may be asked
 pub t4_may : (base id : List ℕ) (p : Put) (offset : ℕ) → length p.bytes ≤ 255 → MayAsk Type4 id (update_put base offset p.bytes).command

@@ -9,7 +9,7 @@ use Rattle.tag_reader.specs.Survey.{IsKnownFile}
 use Rattle.tag_reader.proofs.Files.{Named, named}
 use Rattle.tag_writer.specs.declared.work.Work.TheVariants.{File}
 use Rattle.tag_writer.specs.Place.{IsFilePlace, file_place}
-use Rattle.tag_writer.specs.Faults.{IsReadOnly, IsTooLong, IsShort}
+use Rattle.tag_writer.specs.Outcome.{IsReadOnly, IsTooLong, IsShort}
 use Rattle.tag_writer.specs.Planning.{IsPlannedFor}
 use Rattle.tag_writer.proofs.FileJobs.{IsRoomFor, file_job, file_serves}
 

@@ -10,10 +10,12 @@ use Rattle.tlv_area.specs.Writing.{GivesPlan, KeepsPlan, KeepsKinds}
 use Rattle.tag_reader.specs.declared.how.How.{How}
 use Rattle.tag_reader.specs.declared.how.How.TheVariants.{T2, T4, T5}
 use Rattle.tag_reader.specs.Kinds.{IsStore}
+use Rattle.tag_reader.specs.Access.{IsAccess}
 use Rattle.tag_reader.specs.Survey.{IsKnownArea}
+use Rattle.tag_reader.proofs.Accesses.{written_access}
 use Rattle.tag_writer.specs.declared.work.Work.TheVariants.{Blocks}
-use Rattle.tag_writer.specs.Place.{Place, IsAreaPlace, IsPlaceBy, IsPlaceIn, AccessBy, IsAccess, tail_place}
-use Rattle.tag_writer.specs.Faults.{IsReadOnly, IsTooLong}
+use Rattle.tag_writer.specs.Place.{Place, IsAreaPlace, IsPlaceBy, IsPlaceIn, tail_place}
+use Rattle.tag_writer.specs.Outcome.{IsReadOnly, IsTooLong}
 use Rattle.tag_writer.specs.Planning.{IsPlannedFor}
 use Rattle.tag_writer.proofs.AreaJobs.{IsPlanned, job, serves, room_is}
 
@@ -94,9 +96,7 @@ has_place (T5 id) size store message known block m k =
     record { place = h.0; there = subst (λ r. IsPlaceBy r store message h.0) (sym k.area) h.1; room' = h.2 }
 
 pub has_access : (how : How) (size : ℕ) (store known : List ℕ) (block : ℕ) (m : AreaMap) (free : Bool) → IsKnownArea how size store known block m → m.space.writable ≡ free → IsAccess how size store free
-has_access T2 size store known block m free k e = subst (λ r. AccessBy r free) (sym k.area) (sym e)
-has_access T4 size store known block m free k e = absurd (let off = k.area in cc)
-has_access (T5 id) size store known block m free k e = subst (λ r. AccessBy r free) (sym k.area) (sym e)
+has_access how size store known block m free k e = subst (IsAccess how size store) e (written_access how size store m.space k.area)
 
 pub read_only : (how : How) (size : ℕ) (store message known : List ℕ) (block : ℕ) (m : AreaMap) → IsKnownArea how size store known block m → m.space.writable ≡ false → IsReadOnly how size store message
 read_only how size store message known block m k e =

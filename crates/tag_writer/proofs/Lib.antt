@@ -18,6 +18,9 @@ pub mod Counting
 pub mod AreaJobs
 pub mod FileJobs
 pub mod FileSteps
+pub mod Commanding
+pub mod Acknowledging
+pub mod Grounded
 pub mod Known
 pub mod FileKnown
 pub mod Starting

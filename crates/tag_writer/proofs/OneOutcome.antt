@@ -24,8 +24,8 @@ use Rattle.tag_writer.specs.declared.fault.WriteFault.{WriteFault}
 use Rattle.tag_writer.specs.declared.fault.WriteFault.TheVariants as fault
 use Rattle.tag_writer.specs.Place.{Place, IsFilePlace, IsPlaceBy, IsPlaceIn, tail_place, file_place}
 use Rattle.tag_writer.specs.WriteAsked.{Writes}
-use Rattle.tag_writer.specs.Faults.{IsReadOnly, IsTooLong, IsShort, IsWriteFault, is_told}
-use Rattle.tag_writer.specs.Outcome.{IsOutcome}
+use Rattle.tag_writer.specs.Faults.{IsWriteFault, is_told}
+use Rattle.tag_writer.specs.Outcome.{IsReadOnly, IsTooLong, IsShort, IsOutcome}
 use Rattle.tag_writer.proofs.OnePlace.{one_place, file_message, no_form, bad_form, faulty_form, access_once}
 use Rattle.tag_writer.proofs.OneWrite.{one_refusal}
 

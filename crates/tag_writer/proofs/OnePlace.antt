@@ -17,11 +17,13 @@ use Rattle.tag_reader.specs.declared.fault.ReadFault.{ReadFault}
 use Rattle.tag_reader.specs.declared.fault.ReadFault.TheVariants as read
 use Rattle.tag_reader.specs.Files.{file_in, message_length, message_in, file_form, t4_form}
 use Rattle.tag_reader.specs.Kinds.{IsStoreForm}
+use Rattle.tag_reader.specs.Access.{IsAccess}
 use Rattle.tag_reader.specs.Reading.{IsReadFault}
 use Rattle.tag_reader.specs.Survey.{written_area}
+use Rattle.tag_reader.proofs.Accesses.{one_access}
 use Rattle.tag_writer.specs.declared.fault.WriteFault.{WriteFault}
 use Rattle.tag_writer.specs.declared.fault.WriteFault.TheVariants as fault
-use Rattle.tag_writer.specs.Place.{Place, IsAreaPlace, IsFilePlace, IsPlaceBy, IsPlaceIn, AccessBy, IsAccess, TakesNot, tail_place}
+use Rattle.tag_writer.specs.Place.{Place, IsAreaPlace, IsFilePlace, IsPlaceBy, IsPlaceIn, TakesNot, tail_place}
 use Rattle.tag_writer.specs.Faults.{is_told}
 use Rattle.tag_writer.specs.Planning.{of_read, IsDeclined}
 
@@ -101,18 +103,8 @@ excludes (T5 id) size store message = record {
   faulty = λ f form p t. faulty_form (written_area (T5 id) size store) store message p f t.holds form;
 }
 
-two_accesses : (r : Result Space ContainerFault) → AccessBy r true → AccessBy r false → ⊥
-two_accesses (Err f) a b = a
-two_accesses (Ok space) a b = let e : true ≡ false = a ∙ sym b in cc
-
 pub access_once : (how : How) (size : ℕ) (store : List ℕ) → IsAccess how size store true → IsAccess how size store false → ⊥
-access_once T2 size store a b = two_accesses (written_area T2 size store) a b
-access_once T4 size store a b =
-    let both : Ok a.0 ≡ Ok b.0 = sym a.1 ∙ b.1 in
-    let same : a.0 ≡ b.0 = cc in
-    let no_ : true ≡ false = a.2 ∙ ap (λ m. m.writable) same ∙ sym b.2 in
-    cc
-access_once (T5 id) size store a b = two_accesses (written_area (T5 id) size store) a b
+access_once how size store a b = let no_ : true ≡ false = one_access how size store true false a b in cc
 
 -- a fault that a survey tells
 pub read_takes_not : (how : How) (size : ℕ) (message : List ℕ) (a b : LinkView) (e : ReadFault) → IsReadFault how size a.state.store a b e → is_told (of_read e) ≡ true → TakesNot how size a.state.store message

@@ -1,51 +1,22 @@
 -- Why a write ends without the message, and how its stores then stand.
-use Rattle.std.specs.Prelude.{◌≡◌, ℕ, ◌<◌, ◌≤◌, ◌⊎◌, List, length, Bool, true, false, Some, None, Result, Ok, Err}
+use Rattle.std.specs.Prelude.{◌≡◌, ℕ, ◌⊎◌, List, Bool, true, false, None, Result, Ok, Err}
 use Rattle.nfc_base.specs.TagLinks.{LinkView}
 use Rattle.nfc_base.specs.declared.tag_link.AskFault.TheVariants as ask
-use Rattle.tlv_area.specs.declared.container.ContainerFault.TheVariants as container
-use Rattle.tlv_area.specs.Form.{Faulty, NoMessageTlv, BadTlv}
 use Rattle.tag_reader.specs.declared.how.How.{How}
-use Rattle.tag_reader.specs.Kinds.{IsStoreForm}
 use Rattle.tag_reader.specs.Calls.{HasSurveyed, ByLink}
 use Rattle.tag_writer.specs.declared.fault.WriteFault.{WriteFault}
 use Rattle.tag_writer.specs.declared.fault.WriteFault.TheVariants as fault
-use Rattle.tag_writer.specs.Place.{Place, IsPlaceIn, IsAccess, HasPieces}
-use Rattle.tag_writer.specs.WriteAsked.{Writes}
+use Rattle.tag_writer.specs.Outcome.{IsOutcome}
 use Rattle.tag_writer.specs.Law.{Ending, Written, Refused, Stopped}
 
--- The store holds a message, and writing isn't free.
-abbrev pub IsReadOnly : How → ℕ → List ℕ → List ℕ → Type 0
-IsReadOnly how size store message = ((place : Place) × IsPlaceIn how size store message place) × IsAccess how size store false
-
--- Writing is free, but the message is longer than so many bytes, which is all the room there is.
-abbrev pub IsTooLong : How → ℕ → List ℕ → List ℕ → ℕ → Type 0
-IsTooLong how size store message n =
-    (place : Place) × IsPlaceIn how size store message place × IsAccess how size store true × (n ≡ place.room) × (n < length message)
-
--- There is room, but one update brings fewer than two bytes.
-abbrev pub IsShort : How → ℕ → List ℕ → List ℕ → Type 0
-IsShort how size store message =
-    (place : Place) × IsPlaceIn how size store message place × IsAccess how size store true × (length message ≤ place.room) × (HasPieces how store → ⊥)
-
--- Each fault: of the store's form, of what the message asks for, of the tag, or of the link. Want of memory is the writer's own
--- only while nothing was asked but what is read before the first write, and then the link isn't over; or it is that by which the
--- link is over.
+-- Each fault: by the store, the tag's step and the message, or of the link. Want of memory is the writer's own only while nothing
+-- was asked but what is read before the first write, and then the link isn't over; or it is that by which the link is over.
 abbrev pub IsWriteFault : How → ℕ → List ℕ → LinkView → LinkView → WriteFault → Type 0
-IsWriteFault how size message a b fault.NotNdef = IsStoreForm how size a.state.store (Faulty container.NotNdef)
-IsWriteFault how size message a b fault.Version = IsStoreForm how size a.state.store (Faulty container.Version)
-IsWriteFault how size message a b fault.NoRead = IsStoreForm how size a.state.store (Faulty container.NoRead)
-IsWriteFault how size message a b fault.Sectors = IsStoreForm how size a.state.store (Faulty container.Sectors)
-IsWriteFault how size message a b fault.BadSize = IsStoreForm how size a.state.store (Faulty container.BadSize)
-IsWriteFault how size message a b fault.NoMessageTlv = IsStoreForm how size a.state.store NoMessageTlv
-IsWriteFault how size message a b fault.BadTlv = IsStoreForm how size a.state.store BadTlv
-IsWriteFault how size message a b (fault.Refused code) = Writes how size a.step a.state message (Some code)
-IsWriteFault how size message a b fault.ReadOnly = IsReadOnly how size a.state.store message
-IsWriteFault how size message a b (fault.TooLong n) = IsTooLong how size a.state.store message n
-IsWriteFault how size message a b fault.ShortMlc = IsShort how size a.state.store message
 IsWriteFault how size message a b fault.FieldLost = ByLink a b ask.FieldLost
 IsWriteFault how size message a b fault.SixBad = ByLink a b ask.SixBad
 IsWriteFault how size message a b fault.Protocol = ByLink a b ask.Protocol
 IsWriteFault how size message a b fault.Memory = ((b.over ≡ None) × HasSurveyed how size a.state.store a b) ⊎ ByLink a b ask.Memory
+IsWriteFault how size message a b e = IsOutcome how size a.step a.state message (Err e)
 
 -- how the stores of a write stand by its answer
 abbrev pub ending_by : WriteFault → Ending

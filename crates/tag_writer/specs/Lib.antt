@@ -5,10 +5,13 @@ pub mod Law
 pub mod Puttings
 pub mod Counts
 pub mod Phases
-pub mod Faults
 pub mod Outcome
+pub mod Faults
 pub mod Ends
 pub mod Planning
 pub mod Writing
 pub mod Numbers
 pub mod Works
+pub mod Commands
+pub mod WriteHeard
+pub mod WriteTold

@@ -1,15 +1,30 @@
 -- What a write may tell that neither its link nor want of memory stops.
-use Rattle.std.specs.Prelude.{ℕ, List, Some, None, Result, Ok, Err}
+use Rattle.std.specs.Prelude.{◌≡◌, ℕ, ◌<◌, ◌≤◌, List, length, true, false, Some, None, Result, Ok, Err}
 use Rattle.nfc_base.specs.Signal.{Signal}
 use Rattle.nfc_base.specs.TagLinks.{TagState, TagStep}
 use Rattle.tlv_area.specs.declared.container.ContainerFault.TheVariants as container
 use Rattle.tlv_area.specs.Form.{Faulty, NoMessageTlv, BadTlv}
 use Rattle.tag_reader.specs.declared.how.How.{How}
 use Rattle.tag_reader.specs.Kinds.{IsStoreForm}
+use Rattle.tag_reader.specs.Access.{IsAccess}
 use Rattle.tag_writer.specs.declared.fault.WriteFault.{WriteFault}
 use Rattle.tag_writer.specs.declared.fault.WriteFault.TheVariants as fault
+use Rattle.tag_writer.specs.Place.{Place, IsPlaceIn, HasPieces}
 use Rattle.tag_writer.specs.WriteAsked.{Writes}
-use Rattle.tag_writer.specs.Faults.{IsReadOnly, IsTooLong, IsShort}
+
+-- The store holds a message, and writing isn't free.
+abbrev pub IsReadOnly : How → ℕ → List ℕ → List ℕ → Type 0
+IsReadOnly how size store message = ((place : Place) × IsPlaceIn how size store message place) × IsAccess how size store false
+
+-- Writing is free, but the message is longer than so many bytes, which is all the room there is.
+abbrev pub IsTooLong : How → ℕ → List ℕ → List ℕ → ℕ → Type 0
+IsTooLong how size store message n =
+    (place : Place) × IsPlaceIn how size store message place × IsAccess how size store true × (n ≡ place.room) × (n < length message)
+
+-- There is room, but one update brings fewer than two bytes.
+abbrev pub IsShort : How → ℕ → List ℕ → List ℕ → Type 0
+IsShort how size store message =
+    (place : Place) × IsPlaceIn how size store message place × IsAccess how size store true × (length message ≤ place.room) × (HasPieces how store → ⊥)
 
 -- Success, or a fault of the store's form, of what the message asks for, or of the tag: by the store, the tag's step and the message
 -- alone.

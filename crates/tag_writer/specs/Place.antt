@@ -1,5 +1,5 @@
 -- Where a message goes in a store: how long it may be, which addresses it takes, and the store that has it.
-use Rattle.std.specs.Prelude.{◌≡◌, ℕ, ◌+◌, ◌-◌, ◌≤◌, List, ◌++◌, length, Bool, true, Result, Ok, Err}
+use Rattle.std.specs.Prelude.{◌≡◌, ℕ, ◌+◌, ◌-◌, ◌≤◌, List, ◌++◌, length, true, Result, Ok, Err}
 use Rattle.std.specs.List.{range_with_len}
 use Rattle.t4t_tag.specs.Store.{most_written, file_size}
 use Rattle.t4t_tag.specs.Spelling.{high_first}
@@ -12,6 +12,7 @@ use Rattle.tlv_area.specs.Writing.{IsPut}
 use Rattle.tag_reader.specs.declared.how.How.{How}
 use Rattle.tag_reader.specs.declared.how.How.TheVariants.{T2, T4, T5}
 use Rattle.tag_reader.specs.Files.{container_in, container_end, file_in, message_length, NamesFile}
+use Rattle.tag_reader.specs.Access.{IsAccess}
 use Rattle.tag_reader.specs.Survey.{written_area}
 
 -- the place of a message: how long one may be there, the addresses that this one takes, and its bytes there
@@ -66,16 +67,6 @@ IsPlaceIn (T5 id) size store message place = IsPlaceBy (written_area (T5 id) siz
 -- The store with the message: what is written stands at the place, and elsewhere it is the old store.
 abbrev pub IsNewStore : Place → List ℕ → List ℕ → Type 0
 IsNewStore place old new = IsPut place.span old new place.bytes
-
--- whether writing is free, by the container's area or, of a Type 4 tag, by its file
-abbrev pub AccessBy : Result Space ContainerFault → Bool → Type 0
-AccessBy (Err fault) free = ⊥
-AccessBy (Ok space) free = free ≡ space.writable
-
-abbrev pub IsAccess : How → ℕ → List ℕ → Bool → Type 0
-IsAccess T2 size store free = AccessBy (written_area T2 size store) free
-IsAccess T4 size store free = (map' : FileMap) × NamesFile store map' × (free ≡ map'.writable)
-IsAccess (T5 id) size store free = AccessBy (written_area (T5 id) size store) free
 
 -- whether one update may bring the two bytes of a length (MLc)
 abbrev pub HasPieces : How → List ℕ → Type 0

@@ -1,12 +1,13 @@
 -- What planning a write gives.
-use Rattle.std.specs.Prelude.{◌≡◌, ℕ, List}
+use Rattle.std.specs.Prelude.{◌≡◌, ℕ, ◌≤◌, List, length}
 use Rattle.tag_reader.specs.declared.how.How.{How}
+use Rattle.tag_reader.specs.declared.how.How.TheVariants.{T2, T4, T5}
 use Rattle.tag_reader.specs.declared.fault.ReadFault.{ReadFault}
 use Rattle.tag_reader.specs.declared.fault.ReadFault.TheVariants as read
 use Rattle.tag_writer.specs.declared.fault.WriteFault.{WriteFault}
 use Rattle.tag_writer.specs.declared.fault.WriteFault.TheVariants as fault
 use Rattle.tag_writer.specs.declared.work.Work.{Work}
-use Rattle.tag_writer.specs.Faults.{IsReadOnly, IsTooLong, IsShort}
+use Rattle.tag_writer.specs.Outcome.{IsReadOnly, IsTooLong, IsShort}
 use Rattle.tag_writer.specs.Phases.{Job, Serves, IsWork}
 
 -- The work serves a message for a store.
@@ -26,6 +27,12 @@ IsDeclined how size store message (fault.TooLong n) = IsTooLong how size store m
 IsDeclined how size store message fault.ShortMlc = IsShort how size store message
 IsDeclined how size store message fault.Memory = Unit {0}
 IsDeclined how size store message e = ⊥
+
+-- The blocks of a Type 2 tag have four bytes and numbers of one.
+abbrev pub IsLow : How → List ℕ → ℕ → Type 0
+IsLow T2 known block = (block ≡ 4) × (length known ≤ 1024)
+IsLow T4 known block = ⊥
+IsLow (T5 id) known block = Unit {0}
 
 -- the fault of a survey as one of a write
 abbrev pub of_read : ReadFault → WriteFault

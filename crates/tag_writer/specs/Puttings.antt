@@ -11,6 +11,7 @@ use Rattle.tlv_area.specs.declared.step.Step.{Step}
 use Rattle.tag_reader.specs.declared.how.How.{How}
 use Rattle.tag_reader.specs.declared.how.How.TheVariants.{T2, T4, T5}
 use Rattle.tag_reader.specs.Files.{container_in, file_in}
+use Rattle.tag_reader.specs.Heard.{Refuses}
 use Rattle.tag_reader.specs.Calls.{GoesOn, ByLink}
 use Rattle.tag_reader.specs.Reading.{IsCalm}
 use Rattle.tag_reader.specs.Survey.{block_size}
@@ -18,6 +19,7 @@ use Rattle.tag_writer.specs.declared.fault.WriteFault.{WriteFault}
 use Rattle.tag_writer.specs.declared.fault.WriteFault.TheVariants as fault
 use Rattle.tag_writer.specs.Puts.{Put, block_put, update_put, most_brought}
 use Rattle.tag_writer.specs.WriteAsked.{refusal_in}
+use Rattle.tag_writer.specs.WriteHeard.{Acknowledges, IsOddAnswer, AreAcknowledged, IsWhy, StopsAmong}
 
 -- The write of a whole block that the store has; of a Type 2 tag, behind its first four.
 pub record IsBlockPut (how : How) (size least : ℕ) (store : List ℕ) (p : Put) : Type 0 where
@@ -50,11 +52,11 @@ of_link ask.SixBad = fault.SixBad
 of_link ask.Memory = fault.Memory
 of_link ask.Protocol = fault.Protocol
 
--- an answer of a tag of this kind: that of a Type 4 tag has two status bytes at least
+-- An answer of a tag of this kind to a write: it acknowledges or refuses it. A Type 4 tag refuses none.
 abbrev pub IsAnswerOf : How → Signal → Type 0
-IsAnswerOf T2 f = Unit {0}
-IsAnswerOf T4 f = 2 ≤ length f.bytes
-IsAnswerOf (T5 id) f = Unit {0}
+IsAnswerOf T2 f = Acknowledges T2 f ⊎ ((code : ℕ) × Refuses T2 f code)
+IsAnswerOf T4 f = Acknowledges T4 f
+IsAnswerOf (T5 id) f = Acknowledges (T5 id) f ⊎ ((code : ℕ) × Refuses (T5 id) f code)
 
 -- a tag of this kind answers so
 abbrev pub AnswersAs : How → Option Signal → Type 0
@@ -100,6 +102,22 @@ FailsBy how a b c e =
 abbrev pub Puts : How → LinkView → LinkView → Signal → Result Unit WriteFault → Type 0
 Puts how a b c (Ok done) = Accepts how a b c
 Puts how a b c (Err e) = FailsBy how a b c e
+
+-- what one answer says, whatever the tag
+abbrev pub AnswerTells : How → Signal → Result Unit WriteFault → Type 0
+AnswerTells how r (Ok done) = Acknowledges how r
+AnswerTells how r (Err (fault.Refused code)) = Refuses how r code
+AnswerTells how r (Err fault.Protocol) = IsOddAnswer how r
+AnswerTells how r (Err e) = ⊥
+
+-- what one write tells, and writes one after another
+abbrev pub PutTells : How → LinkView → LinkView → Signal → Result Unit WriteFault → Type 0
+PutTells how a b c (Ok done) = AreAcknowledged how a b (c ∷ [])
+PutTells how a b c (Err e) = IsWhy how a b [] c e
+
+abbrev pub PutsTell : How → LinkView → LinkView → List Signal → Result Unit WriteFault → Type 0
+PutsTell how a b commands (Ok done) = AreAcknowledged how a b commands
+PutsTell how a b commands (Err e) = StopsAmong how a b commands e
 
 -- the command of the k-th write, counted from 0
 abbrev pub signal_at : List Put → ℕ → Signal

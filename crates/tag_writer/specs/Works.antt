@@ -8,7 +8,7 @@ use Rattle.tag_reader.specs.declared.how.How.{How}
 use Rattle.tag_reader.specs.declared.how.How.TheVariants.{T2, T4, T5}
 use Rattle.tag_writer.specs.declared.phase.Phase.{Phase}
 use Rattle.tag_writer.specs.declared.phase.Phase.TheVariants.{Prepared, Emptied, Filled}
-use Rattle.tag_writer.specs.Puts.{Put, most_brought, file_close, file_fill, file_last}
+use Rattle.tag_writer.specs.Puts.{Put, file_close, file_fill, file_last}
 
 -- a step that a command can ask for
 abbrev pub IsStepFor : How → Step → Type 0
@@ -27,13 +27,6 @@ abbrev pub updates_at : Phase → List ℕ → List ℕ → List Put
 updates_at Prepared store message = file_close store
 updates_at Emptied store message = file_fill store message
 updates_at Filled store message = file_last store message
-
--- what is known of them before the one at an index is asked for
-pub record AreUpdatesFor (phase : Phase) (store message : List ℕ) (most index : ℕ) : Type 0 where
-  pub brought : most ≡ most_brought store
-  pub some : 1 ≤ most
-  pub low : index < length (updates_at phase store message)
-  pub small : 2 + length message ≤ offset_end
 
 -- a piece of the message
 pub record IsPieceAt (message : List ℕ) (most index : ℕ) : Type 0 where

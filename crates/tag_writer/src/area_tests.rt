@@ -2,7 +2,7 @@
 
 use crate::WriteFault;
 use crate::tests::{
-    Awake, ENOUGH, ID, MemLink, asked_at, left_t2, part, store_of, write_t2, write_t5,
+    Awake, ENOUGH, ID, MemLink, asked_at, left_t2, left_t5, part, store_of, write_t2, write_t5,
 };
 use std::alloc::Global;
 use std::test::Fail;
@@ -136,6 +136,39 @@ fn a_locked_block_of_a_type_5_tag_refuses_by_its_code(rt: HostRuntime) -> Result
         let outcome = write_t5(rt.alloc(), &mut link, ID, &[9; 9]);
         assert_eq!(rt; outcome, Err(WriteFault::Refused(0x12)));
         assert_eq!(rt; part(link.card.tag.store(), 4, 6), length.as_slice());
+    }
+    Ok(())
+}
+
+#[test]
+fn each_stop_on_a_type_5_tag_leaves_one_of_three_messages(rt: HostRuntime) -> Result<(), Fail> {
+    // blocks of 32 bytes and of 4, and blocks behind 255; how many bytes the old message has and the new one, and
+    // after which commands the link is lost
+    let one = [0xE1, 0x40, 6, 0, 3, 3, 0xD0, 0, 0, 0xFE];
+    let four = [0xE1, 0x40, 6, 0, 3, 0, 0xFE];
+    let wide = [0xE2, 0x40, 0, 0, 0, 0, 0, 0xFF, 3, 3, 0xD0, 0, 0, 0xFE];
+    let rows = [
+        (one.as_slice(), 32, 32, 20, 0, 6),
+        (four.as_slice(), 16, 4, 10, 0, 9),
+        (wide.as_slice(), 2048, 4, 1024, 508, 516),
+        (wide.as_slice(), 2048, 4, 1024, 764, 774),
+    ];
+    let new = [7; 1024];
+    for (head, size, block, length, from, to) in &rows {
+        for behind in [false, true] {
+            for left in *from..*to {
+                let store = store_of(rt.alloc(), 0, *size, head)?;
+                let tag = T5Tag::new(ID, store, *block)?;
+                let mut link = MemLink::new(rt.alloc(), Awake { tag }, left, behind);
+                let message = part(&new, 0, *length);
+                let outcome = write_t5(rt.alloc(), &mut link, ID, message);
+                let held = left_t5(rt.alloc(), &mut link)?;
+                let is_old = held.as_slice() == [0xD0u8, 0, 0].as_slice();
+                let is_new = held.as_slice() == message;
+                assert!(rt; is_old || is_new || held.is_empty(), "at {left}: {held:?}");
+                assert!(rt; outcome.is_err() || is_new, "at {left}: {held:?}");
+            }
+        }
     }
     Ok(())
 }

@@ -39,7 +39,6 @@ fn link_to(
 }
 
 fn write_t4(alloc: Global, link: &mut MemLink<T4Tag>, message: &[u8]) -> Result<(), WriteFault> {
-    let _shape = link.card.file();
     write(alloc, link, How::T4, message)
 }
 

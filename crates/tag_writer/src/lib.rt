@@ -30,4 +30,6 @@ mod area_tests;
 #[cfg(test)]
 mod file_tests;
 #[cfg(test)]
+mod phase_tests;
+#[cfg(test)]
 mod tests;

@@ -3,10 +3,12 @@
 ghost use Rattle.std.specs.Prelude.{◌≡◌, ℕ, IfOk};
 ghost use Rattle.tag_reader.specs.Asked.{ToWrite};
 ghost use Rattle.tag_reader.specs.Calls.{HasSurveyedAll};
-ghost use Rattle.tag_reader.specs.Kinds.{IsTag, OfTag};
+ghost use Rattle.tag_reader.specs.Heard.{IsOf};
+ghost use Rattle.tag_reader.specs.Kinds.{OfTag};
 ghost use Rattle.tag_reader.specs.Reading.{KeepsStore, AsksInOrder};
 ghost use Rattle.tag_writer.specs.Faults.{OnTold};
 ghost use Rattle.tag_writer.specs.Planning.{of_read};
+ghost use Rattle.tag_writer.specs.WriteTold.{TellsPlan};
 ghost use Rattle.tag_writer.specs.Writing.{IsPrepared, LeavesLink, LeavesUntaken, TellsCause, TellsInCalm};
 
 use crate::fault::WriteFault;
@@ -44,8 +46,10 @@ pub fn prepare<T: TagLink>(
 ) -> Result<Prepared, WriteFault>
     requires ready { T.ready link.old }
     // it leads to a tag of that kind, with that identifier
-    requires tag { (size : ℕ) × IsTag how size (T.seen link.old) }
-    // the store stays, in each image
+    requires of { IsOf how (T.seen link.old) }
+    // whatever the tag does: what it tells stands in the tag's answers, in the ground that they say, or in the link
+    ensures told { TellsPlan how message.now (T.seen link.old) (T.seen link.new) result }
+    // where it is a tag of that kind: the store stays, in each image
     ensures stays { KeepsStore how (T.seen link.old) (T.seen link.new) }
     // what was answered is the first of what is read, and all of it unless the link or memory failed
     ensures asked { AsksInOrder ToWrite how (T.seen link.old) (T.seen link.new) }

@@ -1,57 +1,82 @@
 //! One write after another.
 
-ghost use Rattle.std.specs.Prelude.{◌≡◌, ℕ, IfErr, OnOk};
+ghost use Rattle.std.specs.Prelude.{◌≡◌, ℕ, List, IfErr, OnOk};
 ghost use Rattle.nfc_base.specs.TagLinks.{MayAsk, Rises};
-ghost use Rattle.tag_reader.specs.Kinds.{IsTag};
-ghost use Rattle.tag_writer.specs.WriteAsked.{refusal_of};
-ghost use Rattle.tag_writer.specs.Puttings.{of_link, Puts, IsAnswerOf, AnswersAs, Makes, BreaksOff};
-ghost use Rattle.tag_writer.specs.Phases.{Job, IsAt, next_at};
+ghost use Rattle.tag_reader.specs.declared.how.How.TheVariants as hows;
+ghost use Rattle.tag_reader.specs.Heard.{IsOf};
+ghost use Rattle.tag_writer.specs.Commands.{commands_at, IsFit};
+ghost use Rattle.tag_writer.specs.Puttings.{Puts, AnswersAs, Makes, BreaksOff, AnswerTells, PutTells, PutsTell};
+ghost use Rattle.tag_writer.specs.Phases.{Job, IsAt, how_of, next_at};
 
 use crate::fault::WriteFault;
 use crate::phase::Phase;
 use crate::work::Work;
-use nfc_base::{AskFault, Frame, TagLink};
+use nfc_base::{Frame, TagLink, Tech};
 use std::alloc::Global;
+use t2t_tag::T2Answer;
+use t5t_tag::T5Answer;
 use tag_reader::How;
 
 /// The status bytes of a Type 4 tag that obeyed a command (ISO/IEC 7816-4).
-const DONE: u16 = 0x9000;
+const DONE: [u8; 2] = [0x90, 0x00];
 
-fn of_link(fault: AskFault) -> WriteFault
-    ensures { result ≡ of_link fault }
+/// What the answer of a Type 2 tag to a write says.
+fn tell_t2(answer: &Frame) -> Result<(), WriteFault>
+    ensures { AnswerTells hows.T2 answer.now result }
 {
-    match fault {
-        AskFault::FieldLost => WriteFault::FieldLost,
-        AskFault::SixBad => WriteFault::SixBad,
-        AskFault::Memory => WriteFault::Memory,
-        AskFault::Protocol => WriteFault::Protocol,
+    match T2Answer::read_from(answer) {
+        Some(T2Answer::Done) => Ok(()),
+        Some(T2Answer::Refused) => Err(WriteFault::Refused(0)),
+        Some(T2Answer::Content(_)) => Err(WriteFault::Protocol),
+        None => Err(WriteFault::Protocol),
     }
 }
 
-/// The code by which an answer to a write refuses it, where it does.
-fn refusal(how: How, answer: &Frame) -> Option<u16>
-    ensures { IsAnswerOf how answer.now → result ≡ refusal_of how answer.now }
+/// What the answer of a Type 4 tag to an update says.
+fn tell_t4(answer: &Frame) -> Result<(), WriteFault>
+    ensures { AnswerTells hows.T4 answer.now result }
 {
-    let view = answer.view();
-    match how {
-        How::T2 => {
-            if answer.tail() == 4 && view.len() == 1 && view[0] == 0 {
-                Some(0)
+    if answer.tech() != Tech::A || answer.tail() != 0 {
+        return Err(WriteFault::Protocol);
+    }
+    let [content @ .., high, low] = answer.view() else {
+        return Err(WriteFault::Protocol);
+    };
+    if [*high, *low] != DONE {
+        return Err(WriteFault::Refused(*high as u16 * 256 + *low as u16));
+    }
+    if !content.is_empty() {
+        return Err(WriteFault::Protocol);
+    }
+    Ok(())
+}
+
+/// What the answer of a Type 5 tag to a write says.
+fn tell_t5(answer: &Frame) -> Result<(), WriteFault>
+    ensures { (id : List ℕ) → AnswerTells (hows.T5 id) answer.now result }
+{
+    match T5Answer::read_from(answer) {
+        Some(T5Answer::Content(content)) => {
+            if content.is_empty() {
+                Ok(())
             } else {
-                None
+                Err(WriteFault::Protocol)
             }
         }
-        How::T4 => match view {
-            [.., high, low] => {
-                let status = *high as u16 * 256 + *low as u16;
-                if status == DONE { None } else { Some(status) }
-            }
-            _ => None,
-        },
-        How::T5(_) => match view {
-            [1, code] => Some(*code as u16),
-            _ => None,
-        },
+        Some(T5Answer::Error(code)) => Err(WriteFault::Refused(code as u16)),
+        Some(T5Answer::Present { id: _ }) => Err(WriteFault::Protocol),
+        None => Err(WriteFault::Protocol),
+    }
+}
+
+/// What an answer to a write says: that it is done, that the tag refuses it, or no more than that no tag sends it.
+fn tell(how: How, answer: &Frame) -> Result<(), WriteFault>
+    ensures { AnswerTells how answer.now result }
+{
+    match how {
+        How::T2 => tell_t2(answer),
+        How::T4 => tell_t4(answer),
+        How::T5(_) => tell_t5(answer),
     }
 }
 
@@ -59,19 +84,18 @@ fn refusal(how: How, answer: &Frame) -> Option<u16>
 fn put<T: TagLink>(alloc: Global, link: &mut T, how: How, command: &Frame) -> Result<(), WriteFault>
     requires ready { T.ready link.old }
     requires fits { MayAsk (T.seen link.old).kind (T.seen link.old).identifier command.now }
-    requires answers { AnswersAs how ((T.seen link.old).step (T.seen link.old).state command.now).answer }
-    ensures puts { Puts how (T.seen link.old) (T.seen link.new) command.now result }
+    ensures puts { AnswersAs how ((T.seen link.old).step (T.seen link.old).state command.now).answer →
+        Puts how (T.seen link.old) (T.seen link.new) command.now result }
+    // whatever the tag does
+    ensures told { PutTells how (T.seen link.old) (T.seen link.new) command.now result }
     ensures rises { Rises (T.seen link.old) (T.seen link.new) }
     ensures ready { T.ready link.new }
     ensures same { T.lenders link.new ≡ T.lenders link.old }
     ensures moves { T.moves link.old link.new }
 {
     match link.ask(alloc, command) {
-        Err(fault) => Err(of_link(fault)),
-        Ok(answer) => match refusal(how, &answer) {
-            Some(code) => Err(WriteFault::Refused(code)),
-            None => Ok(()),
-        },
+        Err(fault) => Err(WriteFault::from(fault)),
+        Ok(answer) => tell(how, &answer),
     }
 }
 
@@ -83,11 +107,14 @@ pub fn put_all<T: TagLink>(
     phase: Phase,
 ) -> Result<(), WriteFault>
     requires ready { T.ready link.old }
-    requires at { (j : Job) × IsAt phase j work.now (T.seen link.old) }
+    requires of { IsOf (how_of work.now) (T.seen link.old) }
+    requires fit { IsFit work.now }
     ensures ok { (j : Job) → IsAt phase j work.now (T.seen link.old) →
         OnOk result (Makes j.how (T.seen link.old) (next_at phase j) (T.seen link.new)) }
     ensures err { (j : Job) → IsAt phase j work.now (T.seen link.old) →
         IfErr result (BreaksOff j.how (T.seen link.old) (next_at phase j) (T.seen link.new)) }
+    // whatever the tag does
+    ensures told { PutsTell (how_of work.now) (T.seen link.old) (T.seen link.new) (commands_at phase work.now) result }
     ensures rises { Rises (T.seen link.old) (T.seen link.new) }
     ensures ready { T.ready link.new }
     ensures same { T.lenders link.new ≡ T.lenders link.old }

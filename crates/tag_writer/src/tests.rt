@@ -204,7 +204,6 @@ pub fn write_t2(
     link: &mut MemLink<T2Tag>,
     message: &[u8],
 ) -> Result<(), WriteFault> {
-    let _shape = link.card.store();
     write(alloc, link, How::T2, message)
 }
 
@@ -259,6 +258,15 @@ pub const ID: [u8; 8] = [0xE0, 4, 1, 2, 3, 4, 5, 6];
 pub fn left_t2(alloc: Global, link: &mut MemLink<T2Tag>) -> Result<Vec<u8>, Fail> {
     link.light();
     let found = read(alloc, link, How::T2)?;
+    Ok(found.message.into_vec())
+}
+
+/// The same of a Type 5 tag.
+pub fn left_t5(alloc: Global, link: &mut MemLink<Awake>) -> Result<Vec<u8>, Fail> {
+    link.light();
+    let id = link.card.tag.id();
+    let _shape = link.card.tag.store();
+    let found = read(alloc, link, How::T5(id))?;
     Ok(found.message.into_vec())
 }
 
@@ -365,31 +373,40 @@ fn a_locked_block_leaves_the_old_message_or_the_empty_one(rt: HostRuntime) -> Re
 
 #[test]
 fn each_stop_leaves_one_of_three_messages(rt: HostRuntime) -> Result<(), Fail> {
+    let empty = [0xE1, 0x10, 6, 0, 3, 0, 0xFE];
+    let sold = [0xE1, 0x10, 0x12, 0, 1, 3, 0xA0, 0x0C, 0x34, 3, 0, 0xFE];
     let old = [1u8, 2, 3, 4, 5, 6, 7, 8, 9, 10, 11, 12];
-    let new = [21u8, 22, 23, 24, 25, 26, 27, 28, 29, 30, 31, 32];
-    for behind in [false, true] {
-        for left in 0..10 {
-            let tag = T2Tag::new(store_of(rt.alloc(), 12, 64, &RESERVED)?)?;
-            let mut link = MemLink::new(rt.alloc(), tag, left, behind);
-            let outcome = write_t2(rt.alloc(), &mut link, &new);
-            let lost = left < 9;
-            assert_eq!(rt;
-                outcome == Err(WriteFault::FieldLost),
-                lost,
-                "at {left}: {outcome:?}"
-            );
-            let message = left_t2(rt.alloc(), &mut link)?;
-            let is_old = message.as_slice() == old.as_slice();
-            let is_new = message.as_slice() == new.as_slice();
-            assert!(rt;
-                is_old || is_new || message.is_empty(),
-                "at {left}: {message:?}"
-            );
-            assert!(rt; lost || is_new, "at {left}: {message:?}");
-            assert_eq!(rt;
-                part(link.card.store(), 32, 36),
-                [0xAAu8, 0xBB, 0xCC, 0xDD].as_slice()
-            );
+    let new = [0x5A; 46];
+    // the first bytes behind twelve of 0, the size, how long the old and the new message are, how many commands a
+    // write takes, and bytes that stay
+    let rows = [
+        (RESERVED.as_slice(), 64, 12, 12, 9, 32, 36),
+        (empty.as_slice(), 64, 0, 46, 16, 12, 16),
+        (sold.as_slice(), 180, 0, 16, 15, 12, 21),
+    ];
+    for (head, size, length, more, count, from, to) in &rows {
+        for behind in [false, true] {
+            for left in 0..*count + 1 {
+                let store = store_of(rt.alloc(), 12, *size, head)?;
+                let stays = part(store.as_slice(), *from, *to).to_vec(rt.alloc())?;
+                let mut link = MemLink::new(rt.alloc(), T2Tag::new(store)?, left, behind);
+                let outcome = write_t2(rt.alloc(), &mut link, part(&new, 0, *more));
+                let lost = left < *count;
+                assert_eq!(rt;
+                    outcome == Err(WriteFault::FieldLost),
+                    lost,
+                    "at {left}: {outcome:?}"
+                );
+                let message = left_t2(rt.alloc(), &mut link)?;
+                let is_old = message.as_slice() == part(&old, 0, *length);
+                let is_new = message.as_slice() == part(&new, 0, *more);
+                assert!(rt;
+                    is_old || is_new || message.is_empty(),
+                    "at {left}: {message:?}"
+                );
+                assert!(rt; lost || is_new, "at {left}: {message:?}");
+                assert_eq!(rt; part(link.card.store(), *from, *to), stays.as_slice());
+            }
         }
     }
     Ok(())

@@ -1,16 +1,17 @@
 //! What is written, once all of it is planned.
 
-ghost use Rattle.std.specs.Prelude.{◌≡◌, ◌+◌, ◌*◌, ◌<◌, ◌≤◌, ℕ, List, length, take, drop};
+ghost use Rattle.std.specs.Prelude.{◌≡◌, ◌+◌, ◌*◌, ◌<◌, ◌≤◌, ℕ, Bool, length};
 ghost use Rattle.std.specs.List.{AllByRecursion};
 ghost use Rattle.t4t_tag.specs.Spelling.{offset_end};
 ghost use Rattle.t4t_tag.specs.declared.command.T4Command.TheVariants as t4;
 ghost use Rattle.tag_reader.specs.declared.how.How.{How};
 ghost use Rattle.tag_reader.specs.declared.how.How.TheVariants as hows;
 ghost use Rattle.tag_reader.specs.Files.{file_frame};
+ghost use Rattle.tag_writer.specs.Commands.{piece_command, updates_in, commands_at, command_at, IsFit};
 ghost use Rattle.tag_writer.specs.Puts.{block_command, block_puts};
 ghost use Rattle.tag_writer.specs.Puttings.{signal_at};
-ghost use Rattle.tag_writer.specs.Phases.{Job, Serves, IsWork, IsFileWork, next_at};
-ghost use Rattle.tag_writer.specs.Works.{IsStepFor, steps_at, updates_at, AreUpdatesFor, IsPieceAt};
+ghost use Rattle.tag_writer.specs.Phases.{how_of};
+ghost use Rattle.tag_writer.specs.Works.{IsStepFor, steps_at, IsPieceAt};
 
 use crate::phase::Phase;
 use arrayvec::ArrayVec;
@@ -130,8 +131,7 @@ fn update_frame(offset: u16, bytes: &[u8]) -> Frame
 /// The update that brings the `index`-th piece of the message.
 fn piece_frame(message: &[u8], most: u16, index: usize) -> Frame
     requires { IsPieceAt message.now most index }
-    ensures { result ≡ file_frame (t4.UpdateBinary (2 + most * index)
-        (record { items = take most (drop (most * index) message.now) })) }
+    ensures { result ≡ piece_command message.now most index }
 {
     let taken = most as usize * index;
     let end = message.len().min(taken + most as usize);
@@ -140,9 +140,12 @@ fn piece_frame(message: &[u8], most: u16, index: usize) -> Frame
 
 /// The update that is the `index`-th behind a phase.
 fn update_at(message: &[u8], most: u16, phase: Phase, index: usize) -> Frame
-    requires { (store : List ℕ) × AreUpdatesFor phase store message.now most index }
-    ensures { (store : List ℕ) → AreUpdatesFor phase store message.now most index →
-        result ≡ signal_at (updates_at phase store message.now) index }
+    requires some { 1 ≤ most }
+    requires few { most ≤ 255 }
+    requires small { 2 + length message.now ≤ offset_end }
+    requires low { (close : Bool) × (index < length (updates_in phase message.now most close)) }
+    ensures { (close : Bool) → index < length (updates_in phase message.now most close) →
+        result ≡ command_at (updates_in phase message.now most close) index }
 {
     match phase {
         Phase::Prepared => update_frame(0, &[0, 0]),
@@ -156,7 +159,7 @@ fn update_at(message: &[u8], most: u16, phase: Phase, index: usize) -> Frame
 
 fn update_count(message: &[u8], most: u16, close: bool, phase: Phase) -> usize
     requires { 1 ≤ most }
-    ensures { (j : Job) → IsFileWork j message.now most close → result ≡ length (updates_at phase j.store message.now) }
+    ensures { result ≡ length (updates_in phase message.now most close) }
 {
     match phase {
         Phase::Prepared => usize::from(close),
@@ -168,7 +171,7 @@ fn update_count(message: &[u8], most: u16, close: bool, phase: Phase) -> usize
 impl Work {
     /// The kind of the tag.
     pub fn how(&self) -> How
-        ensures { (j : Job) → IsWork j self.now → result ≡ j.how }
+        ensures { result ≡ how_of self.now }
     {
         match self {
             Work::Blocks { how, plan: _ } => *how,
@@ -182,8 +185,8 @@ impl Work {
 
     /// How many writes follow a phase.
     pub fn count(&self, phase: Phase) -> usize
-        requires { (j : Job) × IsWork j self.now }
-        ensures { (j : Job) → IsWork j self.now → result ≡ length (next_at phase j) }
+        requires { IsFit self.now }
+        ensures { result ≡ length (commands_at phase self.now) }
     {
         match self {
             Work::Blocks { how: _, plan } => step_count(plan, phase),
@@ -197,9 +200,9 @@ impl Work {
 
     /// The command of the `index`-th of them, counted from 0.
     pub fn command(&self, phase: Phase, index: usize) -> Frame
-        requires { (j : Job) × Serves j × IsWork j self.now × (index < length (next_at phase j)) }
-        ensures { (j : Job) → Serves j → IsWork j self.now → index < length (next_at phase j) →
-            result ≡ signal_at (next_at phase j) index }
+        requires fit { IsFit self.now }
+        requires low { index < length (commands_at phase self.now) }
+        ensures { result ≡ command_at (commands_at phase self.now) index }
     {
         match self {
             Work::Blocks { how, plan } => block_frame(*how, step_at(plan, phase, index)),

@@ -2,13 +2,16 @@
 
 ghost use Rattle.std.specs.Prelude.{◌≡◌, ℕ, [], IfErr, OnOk};
 ghost use Rattle.nfc_base.specs.TagLinks.{LinkView, Rises};
-ghost use Rattle.tag_reader.specs.Kinds.{IsTag};
+ghost use Rattle.tag_reader.specs.Heard.{IsOf};
 ghost use Rattle.tag_reader.specs.Reading.{IsCalm};
 ghost use Rattle.tag_writer.specs.declared.phase.Phase.TheVariants as phases;
 ghost use Rattle.tag_writer.specs.Ends.{StopsSince, IsOpened};
 ghost use Rattle.tag_writer.specs.Faults.{IsToldOrMemory};
 ghost use Rattle.tag_writer.specs.Law.{IsWritten};
-ghost use Rattle.tag_writer.specs.Phases.{Job, Since, IsAt};
+ghost use Rattle.tag_writer.specs.Commands.{all_commands};
+ghost use Rattle.tag_writer.specs.Phases.{Job, Since, IsAt, how_of};
+ghost use Rattle.tag_writer.specs.WriteHeard.{TellsWrites};
+ghost use Rattle.tag_writer.specs.WriteTold.{IsWriteToldBy};
 ghost use Rattle.tag_writer.specs.Writing.{KeepsLaw, WritesInOrder, WritesFew, WritesAll, LeavesLink, TellsSuccess, TellsCause, TellsInCalm};
 
 use crate::fault::WriteFault;
@@ -21,7 +24,10 @@ use tag_reader::How;
 /// The phases, one after another.
 fn open<T: TagLink>(alloc: Global, link: &mut T, prepared: Prepared) -> Result<Opened, Stopped>
     requires ready { T.ready link.old }
-    requires at { (j : Job) × IsAt phases.Prepared j prepared.work (T.seen link.old) }
+    requires of { IsOf (how_of prepared.work) (T.seen link.old) }
+    // whatever the tag does
+    ensures told { TellsWrites (how_of prepared.work) (T.seen link.old) (T.seen link.new)
+        (all_commands prepared.work) result }
     ensures ok { (j : Job) (a : LinkView) → IsAt phases.Prepared j prepared.work (T.seen link.old) →
         Since j a (T.seen link.old) [] → OnOk result (IsOpened j a (T.seen link.new)) }
     ensures new { (j : Job) → IsAt phases.Prepared j prepared.work (T.seen link.old) →
@@ -50,8 +56,11 @@ pub fn write<T: TagLink>(
 ) -> Result<(), WriteFault>
     requires ready { T.ready link.old }
     // it leads to a tag of that kind, with that identifier
-    requires tag { (size : ℕ) × IsTag how size (T.seen link.old) }
-    // the law over the images, whatever the answer is
+    requires of { IsOf how (T.seen link.old) }
+    // whatever the tag does: success only where each write was acknowledged, and each fault stands in the tag's answers,
+    // in what they say of the tag, or in the link
+    ensures told { IsWriteToldBy how message.now (T.seen link.old) (T.seen link.new) result }
+    // where it is a tag of that kind: the law over the images, whatever the answer is
     ensures law { KeepsLaw how message.now (T.seen link.old) (T.seen link.new) result }
     // what was answered is the first of what is asked, and all of it unless the link or memory failed
     ensures asked { WritesInOrder how message.now (T.seen link.old) (T.seen link.new) }

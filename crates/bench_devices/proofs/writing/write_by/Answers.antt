@@ -6,8 +6,10 @@ use Rattle.bench_devices.proofs.writing.write_by.Goals as goal
 pub write-requires-clause-ready : goal.write-requires-clause-ready
 write-requires-clause-ready c over = new_ready (seen_plain c.args.link.now) c.requires.fresh c.args.how c.requires.tag
 
-pub write-requires-clause-tag : goal.write-requires-clause-tag
-write-requires-clause-tag c = new_is_tag (seen_plain c.args.link.now) c.requires.fresh c.args.how c.requires.tag
+pub write-requires-clause-of : goal.write-requires-clause-of
+write-requires-clause-of c =
+    let tag = new_is_tag (seen_plain c.args.link.now) c.requires.fresh c.args.how c.requires.tag in
+    record { kind = tag.1.kind; named = tag.1.named }
 
 pub returns-clause-tells : goal.returns-clause-tells
 returns-clause-tells c =

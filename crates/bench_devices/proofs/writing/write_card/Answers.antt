@@ -17,7 +17,7 @@ returns-in-Ok-clause-tells c =
 pub returns-in-Err-clause-tells : goal.returns-in-Err-clause-tells
 returns-in-Err-clause-tells c =
     ends_unanswered c.args.message.now c.args.field.now c.args.place c.requires c.activate.follows.lender-at-none c.activate.result c.in-Err.fault c.in-Err.is c.activate.follows.holds-at-none
-    c.unanswered.result c.unanswered.ensures
+    c.from.result c.from.ensures
 
 pub returns-in-Ok-clause-cut : goal.returns-in-Ok-clause-cut
 returns-in-Ok-clause-cut c =
@@ -27,4 +27,4 @@ returns-in-Ok-clause-cut c =
 pub returns-in-Err-clause-cut : goal.returns-in-Err-clause-cut
 returns-in-Err-clause-cut c =
     cut_unanswered c.args.message.now c.args.field.now c.args.place c.requires c.activate.follows.lender-at-none c.activate.result c.in-Err.fault c.in-Err.is c.activate.follows.holds-at-none
-    c.unanswered.result c.unanswered.ensures
+    c.from.result c.from.ensures

@@ -7,8 +7,10 @@ use Rattle.bench_devices.proofs.writing.write_linked.Goals as goal
 pub write-requires-clause-ready : goal.write-requires-clause-ready
 write-requires-clause-ready c over = new_ready (seen_link c.args.link.now) c.requires.fresh c.requires.tag.0 c.requires.tag.1
 
-pub write-requires-clause-tag : goal.write-requires-clause-tag
-write-requires-clause-tag c = (size_of c.requires.tag.0, new_tag (seen_link c.args.link.now) c.requires.fresh c.requires.tag.0 c.requires.tag.1)
+pub write-requires-clause-of : goal.write-requires-clause-of
+write-requires-clause-of c =
+    let tag = new_tag (seen_link c.args.link.now) c.requires.fresh c.requires.tag.0 c.requires.tag.1 in
+    record { kind = tag.kind; named = tag.named }
 
 pub returns-clause-tells : goal.returns-clause-tells
 returns-clause-tells c fed d linked =

@@ -33,38 +33,38 @@ loop-heard-init g c = record {
 
 pub loop-heard-preserved : goal.loop-heard-preserved
 loop-heard-preserved g c = record {
-  out = next_out g c.loop-heard.initiator c.next.new.self c.in-Ok.heard _ c.in-Send.ensures.step ∙ c.loop-heard.invariant.out;
+  out = next_out g c.loop-heard.initiator c.next_into.new.self c.in-Ok.heard _ c.in-Send.ensures.step ∙ c.loop-heard.invariant.out;
   bytes = search rules;
   goes = λ i out b r s lit first handed arrived t.
       next_here g.L.Listener (laws g) g.L.PeerListener.target g.A.Answerer.restarts g.A.Answerer.steps c.args.field.now i out first handed arrived t c.args.far.now g.A.Answerer.stops g.A.Answerer.is_stuck c.loop-heard.field c.loop-heard.far c.loop-heard.initiator c.loop-heard.frame c.loop-heard.invariant.bytes
-      (c.loop-heard.invariant.goes i out b r s lit first handed arrived t) c.transmit.new.far c.transmit.new.self c.in-Ok.heard c.in-Ok.ensures.turn c.next.new.self _ c.in-Send.ensures.step;
+      (c.loop-heard.invariant.goes i out b r s lit first handed arrived t) c.transmit.new.far c.transmit.new.self c.in-Ok.heard c.in-Ok.ensures.turn c.next_into.new.self _ c.in-Send.ensures.step;
 }
 
 pub loop-heard-smaller : goal.loop-heard-smaller
-loop-heard-smaller g c = falls_by c.loop-heard.initiator c.next.new.self c.in-Ok.heard c.in-Send.next c.next.ensures.some c.in-Send.ensures.step
+loop-heard-smaller g c = falls_by c.loop-heard.initiator c.next_into.new.self c.in-Ok.heard c.next_into.new.sent c.next_into.ensures.some c.in-Send.ensures.step
 
 pub returns-in-Finished : goal.returns-in-Finished
 returns-in-Finished g c = record {
-  out = next_out g c.loop-heard.initiator c.next.new.self c.in-Ok.heard _ c.in-Finished.ensures.step ∙ c.loop-heard.invariant.out;
+  out = next_out g c.loop-heard.initiator c.next_into.new.self c.in-Ok.heard _ c.in-Finished.ensures.step ∙ c.loop-heard.invariant.out;
   ends = λ i out b r s lit first handed arrived t.
       ends_replied g.L.Listener (laws g) g.L.PeerListener.target g.A.Answerer.restarts g.A.Answerer.steps c.args.field.now i out first handed arrived t c.args.far.now g.A.Answerer.stops g.A.Answerer.is_stuck c.loop-heard.field c.loop-heard.far c.loop-heard.initiator c.loop-heard.frame c.loop-heard.invariant.bytes
-      (c.loop-heard.invariant.goes i out b r s lit first handed arrived t) c.transmit.new.far c.transmit.new.self c.in-Ok.heard c.in-Ok.ensures.turn c.next.new.self c.in-Finished.reply.items c.in-Finished.ensures.step;
+      (c.loop-heard.invariant.goes i out b r s lit first handed arrived t) c.transmit.new.far c.transmit.new.self c.in-Ok.heard c.in-Ok.ensures.turn c.next_into.new.self c.in-Finished.reply.items c.in-Finished.ensures.step;
 }
 
 pub returns-in-SixBad : goal.returns-in-SixBad
 returns-in-SixBad g c = record {
-  out = next_out g c.loop-heard.initiator c.next.new.self c.in-Ok.heard _ c.in-SixBad.ensures.step ∙ c.loop-heard.invariant.out;
+  out = next_out g c.loop-heard.initiator c.next_into.new.self c.in-Ok.heard _ c.in-SixBad.ensures.step ∙ c.loop-heard.invariant.out;
   ends = λ i out b r s lit first handed arrived t.
       ends_six g.L.Listener (laws g) g.L.PeerListener.target g.A.Answerer.restarts g.A.Answerer.steps c.args.field.now i out first handed arrived t c.args.far.now g.A.Answerer.stops g.A.Answerer.is_stuck c.loop-heard.field c.loop-heard.far c.loop-heard.initiator c.loop-heard.frame c.loop-heard.invariant.bytes
-      (c.loop-heard.invariant.goes i out b r s lit first handed arrived t) c.transmit.new.far c.transmit.new.self c.in-Ok.heard c.in-Ok.ensures.turn c.next.new.self c.in-SixBad.ensures.step;
+      (c.loop-heard.invariant.goes i out b r s lit first handed arrived t) c.transmit.new.far c.transmit.new.self c.in-Ok.heard c.in-Ok.ensures.turn c.next_into.new.self c.in-SixBad.ensures.step;
 }
 
 pub returns-in-Protocol : goal.returns-in-Protocol
 returns-in-Protocol g c = record {
-  out = next_out g c.loop-heard.initiator c.next.new.self c.in-Ok.heard _ c.in-Protocol.ensures.step ∙ c.loop-heard.invariant.out;
+  out = next_out g c.loop-heard.initiator c.next_into.new.self c.in-Ok.heard _ c.in-Protocol.ensures.step ∙ c.loop-heard.invariant.out;
   ends = λ i out b r s lit first handed arrived t.
       ends_never g.L.Listener (laws g) g.L.PeerListener.target g.A.Answerer.restarts g.A.Answerer.steps c.args.field.now i out first handed arrived t c.args.far.now g.A.Answerer.stops g.A.Answerer.is_stuck c.loop-heard.field c.loop-heard.far c.loop-heard.initiator c.loop-heard.frame c.loop-heard.invariant.bytes
-      (c.loop-heard.invariant.goes i out b r s lit first handed arrived t) c.transmit.new.far c.transmit.new.self c.in-Ok.heard c.in-Ok.ensures.turn c.next.new.self c.in-Protocol.ensures.step;
+      (c.loop-heard.invariant.goes i out b r s lit first handed arrived t) c.transmit.new.far c.transmit.new.self c.in-Ok.heard c.in-Ok.ensures.turn c.next_into.new.self c.in-Protocol.ensures.step;
 }
 
 pub returns-in-Err-FieldLost : goal.returns-in-Err-FieldLost

@@ -1,13 +1,15 @@
 use Rattle.std.proofs.Common.{rules, ◌≡◌, ◌<◌, [], length, inl, inr, refl, sym, subst, ◌∙◌, arith, Err}
 use Rattle.nfc_base.specs.TagLinks.{LinkView}
 use Rattle.tag_reader.specs.Asked.{ToWrite}
+use Rattle.tag_reader.specs.Heard.{IsFaultBy}
 use Rattle.tag_reader.specs.SurveySteps.{ReadsAll}
 use Rattle.tag_reader.proofs.Bringing.{under_none}
-use Rattle.tag_reader.proofs.Looking.{first_gains, first_holds, first_looks, looks_more}
+use Rattle.tag_reader.proofs.Looking.{first_gains, first_holds, first_looks, first_faulty, first_ended, looks_more}
 use Rattle.tag_reader.proofs.Areas.{due_reach}
 use Rattle.tag_reader.proofs.Endings.{ends_first, ends_later}
 use Rattle.tag_reader.proofs.Turns.{begun, first_fault, first_walk, none_long}
 use Rattle.tag_reader.proofs.AreaSurveys.{all_brought, left, brings_more}
+use Rattle.tag_reader.proofs.Surveys.{never_out, looks_all}
 use Rattle.tag_reader.proofs.area.read_all.Goals as goal
 
 pub returns-in_err-begins-clause-reads : goal.returns-in_err-begins-clause-reads
@@ -87,3 +89,41 @@ area-preserved g c =
       same = c.in_ok-goes_on.ensures.same ∙ c.area.invariant.same;
       moves = g.met.T.TagLink.goes_on c.args.link.now c.area.link c.ask_next-in-area.new.link c.area.invariant.moves c.in_ok-goes_on.ensures.moves;
     }
+
+-- whatever the tag does
+pub returns-in_err-begins-clause-hears : goal.returns-in_err-begins-clause-hears
+returns-in_err-begins-clause-hears g c =
+    let a : LinkView = g.T.TagLink.seen c.args.link.now in
+    let h : IsFaultBy c.args.how a (g.T.TagLink.seen c.ask_next.new.link) c.in_err-begins.field-0.0 = c.in_err-begins.ensures.gains a [] (under_none c.args.how a) refl c.requires.begun in
+    search rules
+
+pub returns-then-not-begins-clause-hears : goal.returns-then-not-begins-clause-hears
+returns-then-not-begins-clause-hears g c =
+    let a : LinkView = g.T.TagLink.seen c.args.link.now in
+    first_ended c.args.how a (g.T.TagLink.seen c.ask_next.new.link) c.args.known.now.items c.ask_next.new.known.items c.in_ok-begins.begins
+    (c.in_ok-begins.ensures.gains a [] (under_none c.args.how a) refl c.requires.begun) c.if-not-begins.true
+
+pub returns-in-Err-clause-hears : goal.returns-in-Err-clause-hears
+returns-in-Err-clause-hears g c =
+    let a : LinkView = g.T.TagLink.seen c.args.link.now in
+    let new : LinkView = g.T.TagLink.seen c.ask_next.new.link in
+    let gains = first_gains c.args.how a new c.args.known.now.items c.ask_next.new.known.items c.in_ok-begins.begins
+    (c.in_ok-begins.ensures.gains a [] (under_none c.args.how a) refl c.requires.begun) c.if-not-begins.false c.requires.begun in
+    first_faulty c.args.how a new c.ask_next.new.known.items c.as_slice.result.now c.in-Err.fault c.of_container.result c.requires.kind gains c.as_slice.ensures.value c.in-Err.ensures.exact c.of_container.ensures
+
+pub returns-in_err-goes_on-clause-hears : goal.returns-in_err-goes_on-clause-hears
+returns-in_err-goes_on-clause-hears g c =
+    let a : LinkView = g.T.TagLink.seen c.args.link.now in
+    let l = c.area.invariant.looks in
+    let h : IsFaultBy c.args.how a (g.T.TagLink.seen c.ask_next-in-area.new.link) c.in_err-goes_on.field-0.0 = c.in_err-goes_on.ensures.gains a l.ps l.under l.count l.known' in
+    search rules
+
+pub returns-then-not-goes_on-clause-hears : goal.returns-then-not-goes_on-clause-hears
+returns-then-not-goes_on-clause-hears g c =
+    let a : LinkView = g.T.TagLink.seen c.args.link.now in
+    let l = c.area.invariant.looks in
+    absurd (never_out c.args.how a (g.T.TagLink.seen c.ask_next-in-area.new.link) l.ps c.area.known.items c.ask_next-in-area.new.known.items c.in_ok-goes_on.goes_on c.requires.kind
+    (c.in_ok-goes_on.ensures.gains a l.ps l.under l.count l.known') c.if-not-goes_on.true)
+
+pub returns-clause-hears : goal.returns-clause-hears
+returns-clause-hears g c = looks_all c.args.how (g.T.TagLink.seen c.args.link.now) (g.T.TagLink.seen c.area.link) c.area.known.items c.in-Ok.space c.area.index c.requires.kind c.area.invariant.looks

@@ -2,9 +2,12 @@ use Rattle.std.proofs.Common.{rules, ◌≡◌, suc, ◌<◌, ◌≤◌, [], ◌
 use Rattle.nfc_base.specs.TagLinks.{LinkView}
 use Rattle.tag_reader.specs.Asked.{ToWrite}
 use Rattle.tag_reader.specs.BlockSteps.{LooksBlocks, SeesBlocks, NextBlocks, GainsBlocks, EndsBlocks, HasRunOut}
+use Rattle.tag_reader.specs.declared.how.How.TheVariants.{T5}
 use Rattle.tag_reader.specs.SurveySteps.{KnowsAll}
 use Rattle.tag_reader.proofs.BlockEndings.{names_more, names_begins}
 use Rattle.tag_reader.proofs.AreaSurveys.{area_due, all_is_known, tag_is_known, cut_area, still_of}
+use Rattle.tag_reader.proofs.Filing.{or_fault}
+use Rattle.tag_reader.proofs.Surveys.{blocks_all, blocks_ended}
 use Rattle.tag_reader.proofs.area.read_to_end.Goals as goal
 
 pub returns-in_err-goes_on-clause-reads : goal.returns-in_err-goes_on-clause-reads
@@ -51,6 +54,11 @@ area-preserved g c =
     record {
       of = still_of c.args.id a old new looks.ps (looks.ps ++ gains.piece ∷ []) c.area.invariant.of looks.under gains.under;
       looks = (a, record { ps = looks.ps ++ gains.piece ∷ []; under = gains.under; known' = gains.known' });
+      seen = λ b begun.
+          (let l : LooksBlocks c.args.id b old c.area.known = c.area.invariant.seen b begun in
+          let more : GainsBlocks c.args.id b new l.ps c.ask_blocks.new.known =
+          subst (λ m. SeesBlocks c.args.id b new l.ps c.area.known c.ask_blocks.new.known (Ok m)) c.if-not-goes_on.false (c.in_ok-goes_on.ensures.sees b l.ps l.under l.known') in
+          record { ps = l.ps ++ more.piece ∷ []; under = more.under; known' = more.known' });
       names = names_more c.args.id a new looks.ps c.area.known c.ask_blocks.new.known c.args.space looks.known' c.area.invariant.names gains;
       reading = λ size n b begun.
           (let r = c.area.invariant.reading size n b begun in (
@@ -68,3 +76,23 @@ returns-clause-reads g c size n a begun =
     let whole : c.args.space.end ≤ length c.area.known.bytes.items = omega (arith, c.len.ensures, c.area-test.false) in
     let r = c.area.invariant.reading size n a begun in
     all_is_known c.args.id size r.0 a (g.T.TagLink.seen c.area.link) c.area.known c.args.space r.1 c.area.invariant.names whole
+
+-- whatever the tag does
+pub returns-in_err-goes_on-clause-hears : goal.returns-in_err-goes_on-clause-hears
+returns-in_err-goes_on-clause-hears g c a begun =
+    let new : LinkView = g.T.TagLink.seen c.ask_blocks.new.link in
+    let is_err : c.from_residual.result ≡ Err c.in_err-goes_on.field-0.0 = search rules in
+    let l : LooksBlocks c.args.id a (g.T.TagLink.seen c.area.link) c.area.known = c.area.invariant.seen a begun in
+    or_fault _ (T5 c.args.id) a new c.from_residual.result c.in_err-goes_on.field-0.0 is_err (c.in_err-goes_on.ensures.sees a l.ps l.under l.known')
+
+pub returns-then-not-goes_on-clause-hears : goal.returns-then-not-goes_on-clause-hears
+returns-then-not-goes_on-clause-hears g c a begun =
+    let new : LinkView = g.T.TagLink.seen c.ask_blocks.new.link in
+    let l : LooksBlocks c.args.id a (g.T.TagLink.seen c.area.link) c.area.known = c.area.invariant.seen a begun in
+    let ends : EndsBlocks c.args.id a new l.ps c.area.known c.ask_blocks.new.known =
+    subst (λ m. SeesBlocks c.args.id a new l.ps c.area.known c.ask_blocks.new.known (Ok m)) c.if-not-goes_on.true (c.in_ok-goes_on.ensures.sees a l.ps l.under l.known') in
+    let short : length c.area.known.bytes.items < c.args.space.end = omega (arith, c.len.ensures, c.area-test.true) in
+    blocks_ended c.args.id a (g.T.TagLink.seen c.area.link) new c.area.known c.ask_blocks.new.known c.args.space c.len-then-not-goes_on.result l c.area.invariant.names ends short (omega (arith, c.len-then-not-goes_on.ensures))
+
+pub returns-clause-hears : goal.returns-clause-hears
+returns-clause-hears g c a begun = blocks_all c.args.id a (g.T.TagLink.seen c.area.link) c.area.known c.args.space (c.area.invariant.seen a begun) c.area.invariant.names

@@ -10,6 +10,7 @@ abbrev pub invariant-area : goal.invariant-area
 invariant-area g l = record {
   of : IsOf (T5 l.id) (g.T.TagLink.seen l.link);
   looks : (a : LinkView) × LooksBlocks l.id a (g.T.TagLink.seen l.link) l.known;
+  seen : (a : LinkView) → LooksBlocks l.id a (g.T.TagLink.seen l.fn.link) l.fn.known → LooksBlocks l.id a (g.T.TagLink.seen l.link) l.known;
   names : Names l.known l.space;
   reading : (size n : ℕ) (a : LinkView) → IsReading ToWrite l.id size a (g.T.TagLink.seen l.fn.link) l.fn.known (suc n) → (m : ℕ) × IsReading ToWrite l.id size a (g.T.TagLink.seen l.link) l.known (suc m);
   ready : g.T.TagLink.ready l.link;

@@ -96,7 +96,7 @@ returns-in-Ok-Ended-clause-sees g c a ps u is =
     let new : LinkView = g.T.TagLink.seen c.ask.new.self in
     let tells : TellsBlocks c.args.id c.next_ask-ask.result c.args.known.now.size c.in-Ok.answer (Ok Ended) = rw c.in-Ok-Ended.field-0-is at (c.in-Ok-Ended.ensures.tells c.args.id) in
     blocks_ended c.args.id a old new ps c.args.known.now c.frame-command.result c.in-Ok.answer u
-    (command_is c.args.id ps c.args.known.now c.next_ask-ask.result c.frame-command.result is c.next_ask-ask.ensures c.frame-command.ensures) c.in-Ok.ensures.ok
+    (command_is c.args.id ps c.args.known.now c.next_ask-ask.result c.frame-command.result is c.next_ask-ask.ensures c.frame-command.ensures) c.in-Ok.ensures.obeys c.in-Ok.ensures.ok
     (tells_is c.args.id ps c.args.known.now c.next_ask-ask.result c.in-Ok.answer (Ok Ended) is c.next_ask-ask.ensures tells)
 
 pub returns-in-Ok-Single-clause-sees : goal.returns-in-Ok-Single-clause-sees

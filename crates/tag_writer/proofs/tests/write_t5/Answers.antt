@@ -1,17 +1,10 @@
-use Rattle.std.proofs.Common.{refl, ap, subst}
+use Rattle.std.proofs.Common.{refl, subst}
 use Rattle.tag_reader.specs.declared.how.How.TheVariants.{T5}
-use Rattle.tag_reader.specs.Kinds.{IsNamed, t5_step}
+use Rattle.tag_reader.specs.Kinds.{IsNamed}
 use Rattle.tag_writer.proofs.tests.write_t5.Goals as goal
 
-pub write-requires-clause-tag : goal.write-requires-clause-tag
-write-requires-clause-tag c =
+pub write-requires-clause-of : goal.write-requires-clause-of
+write-requires-clause-of c =
     let tag = c.args.link.now.card.tag in
-    let is = c.store-shape.ensures.shape in (
-      tag.size,
-      record {
-        kind = refl;
-        named = subst (λ i. IsNamed (T5 i) tag.id) c.requires (refl, is.id, is.bytes);
-        store = is.store;
-        steps = (tag.locked, tag.quiet, λ s f of may. ap (λ i. t5_step i tag.size tag.locked tag.quiet s f) c.requires);
-      },
-    )
+    let is = c.store-shape.ensures.shape in
+    record { kind = refl; named = subst (λ i. IsNamed (T5 i) tag.id) c.requires (refl, is.id, is.bytes) }

@@ -1,4 +1,9 @@
+use Rattle.std.proofs.Common.{inl, inr, subst}
 use Rattle.nfc_base.specs.TagLinks.{LinkView}
+use Rattle.tag_writer.specs.Commands.{all_commands}
+use Rattle.tag_writer.specs.WriteHeard.{AreAcknowledged, StopsAmong}
+use Rattle.tag_writer.specs.WriteTold.{IsPlannedBy}
+use Rattle.tag_writer.proofs.Grounded.{work_kind, of_planned}
 use Rattle.tag_writer.proofs.Wholes.{Stops, Succeeds, stops_for, succeeds_for, unwritten}
 use Rattle.tag_writer.proofs.writer.write.Goals as goal
 
@@ -126,3 +131,26 @@ returns-in-Err-open-clause-few g c size is =
     let p = c.in-Ok.ensures.ok size is in
     let s : Stops c.args.how size c.args.message.now a b c.in-Err-open.stopped.cause = stops_for p.job c.args.how size c.args.message.now a b c.in-Err-open.stopped.cause p.kind p.sized p.new p.at.serves p.since.store (c.in-Err-open.ensures.err p.job a p.at p.since) in
     s.few
+
+-- whatever the tag does
+pub open-requires-clause-of : goal.open-requires-clause-of
+open-requires-clause-of g c = of_planned c.args.how c.args.message.now c.in-Ok.prepared.work (g.T.TagLink.seen c.args.link.now) (g.T.TagLink.seen c.prepare.new.link) c.requires.of c.in-Ok.ensures.told
+
+pub returns-in-Err-clause-told : goal.returns-in-Err-clause-told
+returns-in-Err-clause-told g c = inl c.in-Err.ensures.told
+
+pub returns-in-Ok-open-clause-told : goal.returns-in-Ok-open-clause-told
+returns-in-Ok-open-clause-told g c =
+    let v : LinkView = g.T.TagLink.seen c.prepare.new.link in
+    let b : LinkView = g.T.TagLink.seen c.open.new.link in
+    let w = c.in-Ok.prepared.work in
+    let p : IsPlannedBy c.args.how c.args.message.now w (g.T.TagLink.seen c.args.link.now) v = c.in-Ok.ensures.told in
+    (v, w, p, subst (λ h. AreAcknowledged h v b (all_commands w)) (work_kind c.args.how p.ground c.args.message.now w p.on) c.in-Ok-open.ensures.told)
+
+pub returns-in-Err-open-clause-told : goal.returns-in-Err-open-clause-told
+returns-in-Err-open-clause-told g c =
+    let v : LinkView = g.T.TagLink.seen c.prepare.new.link in
+    let b : LinkView = g.T.TagLink.seen c.open.new.link in
+    let w = c.in-Ok.prepared.work in
+    let p : IsPlannedBy c.args.how c.args.message.now w (g.T.TagLink.seen c.args.link.now) v = c.in-Ok.ensures.told in
+    inr (v, w, p, subst (λ h. StopsAmong h v b (all_commands w) c.in-Err-open.stopped.cause) (work_kind c.args.how p.ground c.args.message.now w p.on) c.in-Err-open.ensures.told)

@@ -1,6 +1,6 @@
 use Rattle.std.proofs.Common.{◌≡◌, ℕ, List, Option, Some, true, ◌∙◌, ap, subst, take, drop, length, arith}
 use Rattle.nfc_io.specs.declared.held.LineEnd.TheVariants.{Source}
-use Rattle.nfc_io.specs.Reading.{Lined, Fetches, Reaches, HoldsLf}
+use Rattle.nfc_io.specs.Reading.{Lined, Fetches, Reaches, HoldsLf, Lacks}
 use Rattle.nfc_io.proofs.Reading.{advances_by_lf, advances_by_end, advances_err}
 use Rattle.nfc_io.proofs.line_reader.LineReader.advance.Goals as goal
 
@@ -29,7 +29,8 @@ returns-in-Err-clause-next g c = λ going.
     let text : List ℕ = c.reach.new.self in
     let fetched : Fetches a.is_ended a.held text left left' = subst (λ (v : Lined). Fetches v.is_ended v.held text left left') c.self.view_is c.in-Err.ensures.fetched in
     let is = ap (λ (v : Lined). record v { held = text; stop = Some c.in-Err.stop }) c.self.view_is in
-    advances_err a _ left left' text c.in-Err.stop fetched c.in-Err.ensures.err is
+    let lacks : Lacks a.is_ended text c.in-Err.stop = subst (λ (v : Lined). Lacks v.is_ended text c.in-Err.stop) c.self.view_is c.in-Err.ensures.err in
+    advances_err a _ left left' text c.in-Err.stop fetched lacks is
 
 pub returns-else-length-eq0-clause-next : goal.returns-else-length-eq0-clause-next
 returns-else-length-eq0-clause-next g c = λ going.

@@ -22,6 +22,5 @@ returns-in-Err-clause-law g c j a at since =
     stops_since Prepared j c.args.self.work a (g.T.TagLink.seen c.args.link.now) (g.T.TagLink.seen c.advance.new.link) c.in-Err.stopped.cause at since (c.in-Err.ensures.err j at).1
 
 pub returns-in-Err-clause-calm : goal.returns-in-Err-clause-calm
-returns-in-Err-clause-calm g c calm =
-    let at = c.requires.at in
-    calm_fault at.0.how (g.T.TagLink.seen c.args.link.now) (g.T.TagLink.seen c.advance.new.link) (next_at Prepared at.0) c.in-Err.stopped.cause (c.in-Err.ensures.err at.0 at.1).1 calm
+returns-in-Err-clause-calm g c j at calm =
+    calm_fault j.how (g.T.TagLink.seen c.args.link.now) (g.T.TagLink.seen c.advance.new.link) (next_at Prepared j) c.in-Err.stopped.cause (c.in-Err.ensures.err j at).1 calm

@@ -1,20 +1,19 @@
 use Rattle.std.proofs.Common.{sym, ◌∙◌, ap, length, subst}
-use Rattle.tag_writer.specs.Phases.{IsWork}
+use Rattle.tag_writer.specs.Commands.{updates_in, commands_at, IsFit}
 use Rattle.tag_writer.specs.Works.{steps_at}
-use Rattle.tag_writer.proofs.Steps.{next_steps, length_puts}
-use Rattle.tag_writer.proofs.FileSteps.{counted}
+use Rattle.tag_writer.specs.declared.work.Work.TheVariants.{File}
+use Rattle.tag_writer.proofs.Commanding.{spells, length_commands}
 use Rattle.tag_writer.proofs.work.Work.count.Goals as goal
 
+pub update_count-requires : goal.update_count-requires
+update_count-requires c = let f = c.in-File in (spells (File f.message f.most f.close) (subst IsFit f.is c.requires)).0
+
 pub returns-in-Blocks : goal.returns-in-Blocks
-returns-in-Blocks c j is =
+returns-in-Blocks c =
     let b = c.in-Blocks in
-    c.step_count.ensures ∙ sym (length_puts b.how j.size (steps_at c.args.phase b.plan))
-    ∙ ap length (sym (next_steps c.args.phase j b.how b.plan (subst (IsWork j) b.is is)))
+    c.step_count.ensures ∙ sym (length_commands b.how (steps_at c.args.phase b.plan)) ∙ ap (λ w. length (commands_at c.args.phase w)) (sym b.is)
 
 pub returns-in-File : goal.returns-in-File
-returns-in-File c j is =
+returns-in-File c =
     let f = c.in-File in
-    counted c.args.phase j f.message c.as_slice.result.now f.most f.close c.update_count.result c.as_slice.ensures (subst (IsWork j) f.is is) c.update_count.ensures
-
-pub update_count-requires : goal.update_count-requires
-update_count-requires c = (let f = c.in-File in let w = subst (IsWork c.requires.0) f.is c.requires.1 in w.parts.some)
+    c.update_count.ensures ∙ ap (λ xs. length (updates_in c.args.phase xs f.most f.close)) c.as_slice.ensures ∙ ap (λ w. length (commands_at c.args.phase w)) (sym f.is)

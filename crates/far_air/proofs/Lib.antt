@@ -1,0 +1,5 @@
+pub mod Showing
+pub mod Meeting
+pub mod Quietly
+pub mod FarTurns
+pub mod Staying

@@ -1,0 +1,7 @@
+pub mod FarEnds
+pub mod FarWorld
+pub mod FarLaws
+pub mod Quietly
+pub mod FarTurns
+pub mod Staying
+pub mod TwoFrames

@@ -1,0 +1,282 @@
+-- The turns of an exchange with a peer are turns of the world with far ends.
+use Rattle.std.proofs.Common.{◌≡◌, ◌≤◌, ℕ, suc, length, arith, List, [], ◌∷◌, ◌++◌, Bool, true, false, Option, Some, None, refl, sym, ◌∙◌, ap, subst, append-nil}
+use Rattle.std.proofs.lemmas.List.{append_cancel_left}
+use Rattle.nfc_base.specs.Signal.{Signal}
+use Rattle.nfc_base.specs.StopAndWait.{delivered_of}
+use Rattle.nfc_base.specs.LinkTurns as turns
+use Rattle.nfc_base.specs.Links.{FarStep, Stepped, Stopped, FarMoved}
+use Rattle.nfc_base.specs.declared.event.Event.{Event}
+use Rattle.air_core.specs.World.{World}
+use Rattle.air_core.specs.Conversation.{Note, Going, Moment, with_events, receptions}
+use Rattle.air_core.specs.Turn.{Air, world, moment}
+use Rattle.air_core.specs.Turning.{going_start}
+use Rattle.std.specs.List.{AllByRecursion}
+use Rattle.air_core.specs.PlainTags.{IsAside, IsAlone}
+use Rattle.air_core.specs.declared.listener.Listener.{Ghosts}
+use Rattle.air_core.proofs.PlainAside.{Laws}
+use Rattle.dep_link.specs.Sizes.{limit}
+use Rattle.dep_link.specs.Frames.{air_frame}
+use Rattle.dep_link.specs.Target.{TargetState}
+use Rattle.dep_link.specs.Initiator.{InitState, begun, request}
+use Rattle.dep_link.specs.Payloads.{payloads}
+use Rattle.dep_link.specs.Exchange.{frames_of}
+use Rattle.dep_link.specs.Answering.{answering_air}
+use Rattle.dep_link.specs.Asking.{Standing, MayReply, due_at, dep_next, HasPeer, ExchangeTurns, AreFrames}
+use Rattle.dep_link.specs.DepLinks.{DepSeen, Swap, PeerOf, TurnsOf, Exchanged, Chained, StandsAt, brought, since}
+use Rattle.dep_link.proofs.SwapEnds.{first_here}
+use Rattle.far_air.specs.FarEnds.{FarTable}
+use Rattle.far_air.specs.FarWorld.{far_air}
+use Rattle.far_air.specs.FarLaws.{IsFarTable, IsLinked, IsOfTable, with_far, seen_at}
+use Rattle.far_air.specs.FarTurns.{FarGoing}
+use Rattle.peer_air.specs.SwapTurns.{Stands, Gave, ExchangesFar, IsWhole, SwapTurn, SwapTurns, SwapFront, SwapsFar, StopsFar, MovesFar}
+use Rattle.peer_air.proofs.Walking.{begins, tells, flagged, dark_none, So, End, walk}
+
+-- the reply that an exchange is walked with
+abbrev reply_in : Option (List ℕ) → List ℕ
+reply_in None = []
+reply_in (Some r) = r
+
+may_reply : (given : Option (List ℕ)) → MayReply given (reply_in given)
+may_reply None = tt
+may_reply (Some r) = refl
+
+-- whether the payload was handed over
+flag_none : (out : List ℕ) (far : Bool) → flagged out far ≡ [] → far ≡ false
+flag_none out false e = refl
+flag_none out true e = absurd cc
+
+flag_some : (out : List ℕ) (far : Bool) → flagged out far ≡ out ∷ [] → far ≡ true
+flag_some out false e = absurd cc
+flag_some out true e = refl
+
+module _ {L F : Type 0} (k : Ghosts L) (laws : Laws k) (target : L → TargetState) (linked : L → Bool) (t : FarTable F) (links : IsLinked k.machine linked) (fars : IsFarTable t)
+    (old new : Air L) (i : InitState) (first : ℕ) (handed : List (List ℕ)) (arrived : List Signal) (p : HasPeer k target old i first handed arrived) (out : List ℕ) (os : List (Option F)) where
+  far_starts : (place : ℕ) (v : F) → FarGoing k.machine linked t (dep_next i out) (moment old) (moment old) [] place os v v
+  far_starts place v = record { taken = []; going = λ ns b. going_start (far_air k.machine linked t) (dep_next i out) (seen_at linked t (moment old) (with_far os place v) ns) }
+
+  reply_fits : (given : Option (List ℕ)) (v w : F) → Gave k target linked t out given v w → length (reply_in given) ≤ limit
+  reply_fits None v w g = omega arith
+  reply_fits (Some r) v w g = g.3
+
+  module _ (given : Option (List ℕ)) (s : Standing) (x : ExchangeTurns k target old new p.listener i first handed arrived out given s) (v w : F) (g : Gave k target linked t out given v w) where
+    abbrev r : List ℕ
+    r = reply_in given
+
+    abbrev fits : length r ≤ limit
+    fits = reply_fits given v w g
+
+    abbrev going : Going (answering_air k.machine r) (dep_next i out) (moment old) (moment new) x.notes
+    going = x.going r (may_reply given)
+
+    abbrev all : List Event
+    all = going.events
+
+    same_events : x.events ≡ all
+    same_events = append_cancel_left old.trace x.events all (sym x.trace ∙ ap (λ (z : Moment (World L)). z.trace) going.moment)
+
+    abbrev Ends : Type 0
+    Ends = End k laws target linked t links fars old i out first handed arrived p r fits v w os all
+
+    abbrev FarTo : F → Moment (World L) → List Note → Type 0
+    FarTo a m ns = FarGoing k.machine linked t (dep_next i out) (moment old) m ns p.place os v a
+
+    gave_by : (given' : Option (List ℕ)) → Gave k target linked t out given' v w → (far : Bool) → flagged out far ≡ delivered_of out given' → (m : Moment (World L)) (ns : List Note)
+        → (far ≡ false → FarTo v m ns) → (far ≡ true → (n : ℕ) × (reply_in given' ≡ t.reply v out n) × (w ≡ t.left v out n) → FarTo w m ns) → FarTo w m ns
+    gave_by None g far e m ns no_reply some = let P : F → Type 0 = λ z. FarTo z m ns in subst P (sym g) (no_reply (flag_none out far e))
+    gave_by (Some q) g far e m ns no_reply some = some (flag_some out far e) (g.0, g.1, g.2)
+
+    gave_none : (given' : Option (List ℕ)) → Gave k target linked t out given' v w → [] ≡ delivered_of out given' → w ≡ v
+    gave_none None g e = g
+    gave_none (Some q) g e = absurd cc
+
+    abbrev Goes : Type 0
+    Goes = FarTo w (moment new) x.notes × Stands k target linked t new p.place
+
+    ended : Ends → Goes
+    ended z =
+        let at : moment z.air ≡ moment new = z.at ∙ sym going.moment in
+        let notes : z.notes ≡ x.notes = sym z.known ∙ going.known in
+        let brings : flagged out z.far ≡ delivered_of out given =
+        append_cancel_left handed (flagged out z.far) (delivered_of out given)
+        (sym z.brings ∙ ap (λ es. payloads first (frames_of (arrived ++ turns.arrived es))) (sym same_events) ∙ x.brings) in
+        let S : Bool → Type 0 = λ b. So k laws target linked t links fars old i out first handed arrived p r fits v w os all b z.air z.notes in
+        let P : Moment (World L) → Type 0 = λ m. FarTo w m x.notes in
+        let Q : List Note → Type 0 = λ ns. FarTo w (moment z.air) ns in
+        let lit : z.air.lit ≡ new.lit = ap (λ (m : Moment (World L)). m.world.lit) at in
+        let places : z.air.listeners ≡ new.listeners = ap (λ (m : Moment (World L)). m.world.listeners) at in
+        let T : List L → Type 0 = λ ls. (l : L) × (k.is_selected l ≡ true) × IsAlone k (k.identifier l) ls p.place l in (
+          subst P at (subst Q notes (gave_by given g z.far brings (moment z.air) z.notes (λ e. subst S e z.so) (λ e makes. (subst S e z.so) makes))),
+          λ on. subst T places (z.there (lit ∙ on)),
+        )
+
+    lit_exchange : length out ≤ limit → old.lit ≡ true → Goes
+    lit_exchange short lit =
+        let R : List Event → Type 0 = AreFrames in
+        ended
+        (walk k laws target linked t links fars old i out first handed arrived p r fits v w os all going.turns.moves old false (begun i out) (air_frame (request (begun i out).core))
+        (first_here k laws target begins (tells r) old i out first handed arrived p false short lit (begun i out) (air_frame (request (begun i out).core)) refl refl)
+        [] [] (ap (λ z. record { world = world old; queue = old.fates; trace = z }) (sym (append-nil old.trace))) refl (far_starts p.place v) refl
+        all going.turns.made refl going.each going.fates (subst R same_events x.frames))
+
+    -- in the dark nothing happens, at whatever place
+    dark_exchange : (place : ℕ) → old.lit ≡ false → FarGoing k.machine linked t (dep_next i out) (moment old) (moment new) x.notes place os v w × (new.lit ≡ false)
+    dark_exchange place dark =
+        let none : all ≡ [] = dark_none (answering_air k.machine r) (dep_next i out) [] (air_frame (request (begun i out).core)) going.turns.moves (world old) all going.turns.made going.each refl dark in
+        let at : moment old ≡ moment new = ap (λ z. record { world = world old; queue = old.fates; trace = z }) (sym (append-nil old.trace)) ∙ ap (λ z. with_events (answering_air k.machine r) (moment old) z) (sym none) ∙ sym going.moment in
+        let notes : [] ≡ x.notes = ap receptions (sym none) ∙ going.known in
+        let before : payloads first (frames_of arrived) ≡ handed = ap (λ c. c.payloads) p.cut in
+        let brings : handed ++ [] ≡ handed ++ delivered_of out given =
+        append-nil handed ∙ sym before ∙ ap (λ z. payloads first (frames_of z)) (sym (append-nil arrived))
+        ∙ ap (λ es. payloads first (frames_of (arrived ++ turns.arrived es))) (sym none ∙ sym same_events) ∙ x.brings in
+        let empty : [] ≡ delivered_of out given = append_cancel_left handed [] (delivered_of out given) brings in
+        let To : F → Moment (World L) → List Note → Type 0 = λ a m ns. FarGoing k.machine linked t (dep_next i out) (moment old) m ns place os v a in
+        let P : Moment (World L) → Type 0 = λ m. To w m x.notes in
+        let Q : List Note → Type 0 = λ ns. To w (moment old) ns in
+        let R : F → Type 0 = λ a. To a (moment old) [] in
+        (subst P at (subst Q notes (subst R (sym (gave_none given g empty)) (far_starts place v))), sym (ap (λ (m : Moment (World L)). m.world.lit) at) ∙ dark)
+
+    pub exchange_far : length out ≤ limit → Goes
+    exchange_far short = go old.lit refl
+      where
+        go : (b : Bool) → old.lit ≡ b → Goes
+        go true e = lit_exchange short e
+        go false e = let d = dark_exchange p.place e in (d.0, λ lit. (let dark = d.1 in absurd cc))
+
+pub exchanges_far : {L F : Type 0} (k : Ghosts L) → Laws k → (target : L → TargetState) (linked : L → Bool) (t : FarTable F) → ExchangesFar k target linked t
+exchanges_far k laws target linked t links fars old new i first handed arrived p out given s x short v w g os =
+    exchange_far k laws target linked t links fars old new i first handed arrived p out os given s x v w g short
+
+-- among listeners that are aside of one, and not selected, one place alone has a selected one
+aside_in : {L : Type 0} (k : Ghosts L) (own : List ℕ) (before : List L) (l : L) (behind : List L) → AllByRecursion (IsAside k own) (before ++ l ∷ behind) → IsAside k own l
+aside_in k own [] l behind a = a.0
+aside_in k own (x ∷ before) l behind a = aside_in k own before l behind a.1
+
+one_place : {L : Type 0} (k : Ghosts L) (own : List ℕ) (before : List L) (l : L) (behind begin : List L) (m : L) (rest : List L)
+    → (IsAside k own m → ⊥) → AllByRecursion (IsAside k own) before → AllByRecursion (IsAside k own) behind → before ++ l ∷ behind ≡ begin ++ m ∷ rest → length before ≡ length begin
+one_place k own [] l behind [] m rest never p q e = refl
+one_place k own [] l behind (x ∷ begin) m rest never p q e =
+    let same : behind ≡ begin ++ m ∷ rest = cc in
+    let P : List _ → Type 0 = AllByRecursion (IsAside k own) in absurd (never (aside_in k own begin m rest (subst P same q)))
+one_place k own (x ∷ before) l behind [] m rest never p q e =
+    let same : x ≡ m = cc in
+    let P : _ → Type 0 = IsAside k own in absurd (never (subst P same p.0))
+one_place k own (x ∷ before) l behind (y ∷ begin) m rest never p q e =
+    let same : before ++ l ∷ behind ≡ begin ++ m ∷ rest = cc in ap suc (one_place k own before l behind begin m rest never p.1 q same)
+
+module _ {L F : Type 0} (k : Ghosts L) (laws : Laws k) (target : L → TargetState) (linked : L → Bool) (t : FarTable F) (links : IsLinked k.machine linked) (fars : IsFarTable t)
+    (a b : DepSeen L) (out : List ℕ) (peer : PeerOf k target a) (short : length out ≤ limit) (os : List (Option F)) where
+  swap_turn : (given : Option (List ℕ)) → TurnsOf k target a b peer out given → (v w : F) → Gave k target linked t out given v w → SwapTurn k target linked t a b out peer.place os v w
+  swap_turn given (s, x, at) v w g =
+      let go = exchanges_far k laws target linked t links fars a.air b.air a.initiator a.first (brought a.first (since a)) (turns.arrived (since a)) peer out given s x short v w g os in
+      record {
+        notes = x.notes;
+        stands = subst (λ (z : Standing). StandsAt b.over b.initiator z) (sym x.stands) at;
+        there = go.1;
+        going = go.0;
+      }
+
+  -- at whatever place the peer is known to stand in a lit field, and at any place in the dark
+  same_place : (place : ℕ) → Stands k target linked t a.air place → a.air.lit ≡ true → place ≡ peer.place
+  same_place place stands lit =
+      let s = stands lit in
+      let l : L = s.0 in
+      let never : IsAside k (k.identifier l) peer.listener → ⊥ = λ z. (let off = (z.rests peer.is.tech).1 in let on = peer.selected in absurd cc) in
+      sym s.2.stands ∙ one_place k (k.identifier l) s.2.before l s.2.behind peer.alone.before peer.listener peer.alone.behind never s.2.first s.2.later (sym s.2.split ∙ peer.alone.split) ∙ peer.alone.stands
+
+  swap_at : (given : Option (List ℕ)) → TurnsOf k target a b peer out given → (v w : F) → Gave k target linked t out given v w → (place : ℕ) → Stands k target linked t a.air place
+      → SwapTurn k target linked t a b out place os v w
+  swap_at given (s, x, at) v w g place stands = go a.air.lit refl
+    where
+      go : (z : Bool) → a.air.lit ≡ z → SwapTurn k target linked t a b out place os v w
+      go true e = let P : ℕ → Type 0 = λ n. SwapTurn k target linked t a b out n os v w in subst P (sym (same_place place stands e)) (swap_turn given (s, x, at) v w g)
+      go false e =
+          let d = dark_exchange k laws target linked t links fars a.air b.air a.initiator a.first (brought a.first (since a)) (turns.arrived (since a)) peer out os given s x v w g place e in
+          record {
+            notes = x.notes;
+            stands = subst (λ (q : Standing). StandsAt b.over b.initiator q) (sym x.stands) at;
+            there = λ lit. (let dark = d.1 in absurd cc);
+            going = d.0;
+          }
+
+module _ {L F A : Type 0} (k : Ghosts L) (laws : Laws k) (target : L → TargetState) (linked : L → Bool) (t : FarTable F) (links : IsLinked k.machine linked) (fars : IsFarTable t)
+    (restarts : A → List ℕ → A → Type 0) (steps : A → List ℕ → List ℕ → A → Type 0) (stops : A → List ℕ → A → Type 0) (view : A → F) (kind : IsOfTable restarts steps t view)
+    (fits : (a : A) (payload reply : List ℕ) (b : A) → steps a payload reply b → length reply ≤ limit) where
+  swap_far : (a b : DepSeen L) (out : List ℕ) (did : List FarStep) (x : Exchanged k target a b (record { out = out; did = did }))
+      → (far after : A) → FarMoved steps stops did far after → IsWhole k target linked t did → (os : List (Option F)) → SwapTurn k target linked t a b out x.peer.place os (view far) (view after)
+  swap_far a b out [] x far after moved whole os =
+      swap_turn k laws target linked t links fars a b out x.peer x.short os None x.exchange (view far) (view after) (ap view moved)
+  swap_far a b out (Stepped payload reply ∷ []) x far after (mid, step, rest) whole os =
+      let n = kind.step far payload reply mid step in
+      let G : List ℕ → Type 0 = λ z. Gave k target linked t z (Some reply) (view far) (view mid) in
+      let g : Gave k target linked t out (Some reply) (view far) (view mid) = subst G x.exchange.0 (n.0, n.1, n.2, fits far payload reply mid step) in
+      let P : A → Type 0 = λ z. SwapTurn k target linked t a b out x.peer.place os (view far) (view z) in
+      subst P (sym rest) (swap_turn k laws target linked t links fars a b out x.peer x.short os (Some reply) x.exchange.1 (view far) (view mid) g)
+  swap_far a b out (Stopped payload ∷ []) x far after moved whole os = absurd whole
+  swap_far a b out (d ∷ e ∷ did) x far after moved whole os = absurd x.exchange
+
+  moved_at : (a b : DepSeen L) (out : List ℕ) (did : List FarStep) (x : Exchanged k target a b (record { out = out; did = did }))
+      → (far after : A) → FarMoved steps stops did far after → IsWhole k target linked t did → (place : ℕ) → Stands k target linked t a.air place → (os : List (Option F)) → SwapTurn k target linked t a b out place os (view far) (view after)
+  moved_at a b out [] x far after moved whole place stands os =
+      swap_at k laws target linked t links fars a b out x.peer x.short os None x.exchange (view far) (view after) (ap view moved) place stands
+  moved_at a b out (Stepped payload reply ∷ []) x far after (mid, step, rest) whole place stands os =
+      let n = kind.step far payload reply mid step in
+      let G : List ℕ → Type 0 = λ z. Gave k target linked t z (Some reply) (view far) (view mid) in
+      let g : Gave k target linked t out (Some reply) (view far) (view mid) = subst G x.exchange.0 (n.0, n.1, n.2, fits far payload reply mid step) in
+      let P : A → Type 0 = λ z. SwapTurn k target linked t a b out place os (view far) (view z) in
+      subst P (sym rest) (swap_at k laws target linked t links fars a b out x.peer x.short os (Some reply) x.exchange.1 (view far) (view mid) g place stands)
+  moved_at a b out (Stopped payload ∷ []) x far after moved whole place stands os = absurd whole
+  moved_at a b out (d ∷ e ∷ did) x far after moved whole place stands os = absurd x.exchange
+
+  -- what swaps did, one after another
+  moved_split : (xs ys : List FarStep) (far after : A) → FarMoved steps stops (xs ++ ys) far after → IsWhole k target linked t (xs ++ ys)
+      → (half : A) × FarMoved steps stops xs far half × FarMoved steps stops ys half after × IsWhole k target linked t xs × IsWhole k target linked t ys
+  moved_split [] ys far after m whole = (far, refl, m, tt, whole)
+  moved_split (Stepped payload reply ∷ xs) ys far after (mid, step, rest) whole =
+      let z = moved_split xs ys mid after rest whole in (z.0, (mid, step, z.1), z.2, z.3, z.4)
+  moved_split (Stopped payload ∷ xs) ys far after m whole = absurd whole
+
+  chained_far : (ss : List Swap) (a : DepSeen L) (did : List FarStep) (b : DepSeen L) → Chained k target ss a did b
+      → (far after : A) → FarMoved steps stops did far after → IsWhole k target linked t did → (place : ℕ) → Stands k target linked t a.air place → (os : List (Option F))
+      → SwapTurns k target linked t ss a place os (view far) b (view after)
+  chained_far [] a did b c far after moved whole place stands os =
+      let P : List FarStep → Type 0 = λ z. FarMoved steps stops z far after in (c.0, ap view (subst P c.1 moved))
+  chained_far (s ∷ ss) a did b (mid, rest, x, more, e) far after moved whole place stands os =
+      let P : List FarStep → Type 0 = λ z. FarMoved steps stops z far after in
+      let W : List FarStep → Type 0 = IsWhole k target linked t in
+      let z = moved_split s.did rest far after (subst P e moved) (subst W e whole) in
+      let one = moved_at a mid s.out s.did x far z.0 z.1 z.3 place stands os in
+      (mid, view z.0, one, chained_far ss mid rest b more z.0 after z.2 z.4 place one.there os)
+
+pub moves_far : {L F A : Type 0} (k : Ghosts L) → Laws k → (target : L → TargetState) (linked : L → Bool) (t : FarTable F) (restarts : A → List ℕ → A → Type 0) (steps : A → List ℕ → List ℕ → A → Type 0) (stops : A → List ℕ → A → Type 0) (view : A → F)
+    → ((a : A) (payload reply : List ℕ) (b : A) → steps a payload reply b → length reply ≤ limit) → MovesFar k target linked t restarts steps stops view
+moves_far k laws target linked t restarts steps stops view fits links fars kind a b did (ss, chained) far after moved whole place stands os =
+    (ss, chained_far k laws target linked t links fars restarts steps stops view kind fits ss a did b chained far after moved whole place stands os)
+
+pub swaps_far : {L F A : Type 0} (k : Ghosts L) → Laws k → (target : L → TargetState) (linked : L → Bool) (t : FarTable F) (restarts : A → List ℕ → A → Type 0) (steps : A → List ℕ → List ℕ → A → Type 0) (stops : A → List ℕ → A → Type 0) (view : A → F)
+    → ((a : A) (payload reply : List ℕ) (b : A) → steps a payload reply b → length reply ≤ limit) → SwapsFar k target linked t restarts steps stops view
+swaps_far k laws target linked t restarts steps stops view fits links fars kind a b s x far after moved whole os =
+    swap_far k laws target linked t links fars restarts steps stops view kind fits a b s.out s.did x far after moved whole os
+
+stop_far : {L F : Type 0} (k : Ghosts L) → Laws k → (target : L → TargetState) (linked : L → Bool) (t : FarTable F) → IsLinked k.machine linked → IsFarTable t
+    → (a b : DepSeen L) (out : List ℕ) (did : List FarStep) (x : Exchanged k target a b (record { out = out; did = did }))
+    → (payload : List ℕ) → did ≡ Stopped payload ∷ [] → (far : F) (os : List (Option F)) → SwapFront k target linked t a b out x.peer.place os far
+stop_far k laws target linked t links fars a b out [] x payload e far os = absurd cc
+stop_far k laws target linked t links fars a b out (Stepped p reply ∷ did) x payload e far os = absurd cc
+stop_far k laws target linked t links fars a b out (Stopped p ∷ []) x payload e far os =
+    let s = x.exchange.1 in
+    record {
+      mid = s.mid;
+      notes = s.before.notes;
+      going = (exchanges_far k laws target linked t links fars a.air s.mid a.initiator a.first (brought a.first (since a)) (turns.arrived (since a)) x.peer out None _ s.before x.short far far refl os).0;
+      sent = s.sent;
+      due = ap due_at s.before.stands;
+      fate = s.fate;
+      listeners = s.listeners;
+      left = s.left;
+    }
+stop_far k laws target linked t links fars a b out (Stopped p ∷ d ∷ did) x payload e far os = absurd cc
+
+pub stops_far : {L F A : Type 0} (k : Ghosts L) → Laws k → (target : L → TargetState) (linked : L → Bool) (t : FarTable F) (restarts : A → List ℕ → A → Type 0) (steps : A → List ℕ → List ℕ → A → Type 0) (stops : A → List ℕ → A → Type 0) (view : A → F)
+    → StopsFar k target linked t restarts steps stops view
+stops_far k laws target linked t restarts steps stops view links fars a b s x payload e far os =
+    stop_far k laws target linked t links fars a b s.out s.did x payload e far os

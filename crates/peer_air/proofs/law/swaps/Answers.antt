@@ -1,0 +1,25 @@
+use Rattle.air_core.proofs.PlainAside.{Laws}
+use Rattle.peer_air.proofs.Wholly.{exchanges_far, swaps_far, moves_far, stops_far}
+use Rattle.peer_air.proofs.law.swaps.Given as given
+use Rattle.peer_air.proofs.law.swaps.Goals as goal
+
+laws : (g : given.Over) → Laws g.L.Listener
+laws g = record {
+  step_keeps = g.met.L.Listener.step_keeps;
+  dark_keeps = g.met.L.Listener.dark_keeps;
+  dark_rests = g.met.L.Listener.dark_rests;
+  rests = g.met.L.Listener.rests;
+  ignores = g.met.L.Listener.ignores;
+}
+
+pub returns-clause-exchange : goal.returns-clause-exchange
+returns-clause-exchange g c = λ linked t. exchanges_far g.L.Listener (laws g) g.L.PeerListener.target linked t
+
+pub returns-clause-swap : goal.returns-clause-swap
+returns-clause-swap g c = λ linked t view. swaps_far g.L.Listener (laws g) g.L.PeerListener.target linked t g.A.Answerer.restarts g.A.Answerer.steps g.A.Answerer.stops view g.met.A.Answerer.fits
+
+pub returns-clause-stop : goal.returns-clause-stop
+returns-clause-stop g c = λ linked t view. stops_far g.L.Listener (laws g) g.L.PeerListener.target linked t g.A.Answerer.restarts g.A.Answerer.steps g.A.Answerer.stops view
+
+pub returns-clause-moves : goal.returns-clause-moves
+returns-clause-moves g c = λ linked t view. moves_far g.L.Listener (laws g) g.L.PeerListener.target linked t g.A.Answerer.restarts g.A.Answerer.steps g.A.Answerer.stops view g.met.A.Answerer.fits

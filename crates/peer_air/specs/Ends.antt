@@ -1,0 +1,50 @@
+-- An end of a link as a far end of the world (NFC Forum LLCP 1.3; what stays without a link is this project's own).
+use Rattle.std.specs.Prelude.{◌≡◌, ◌⊎◌, ℕ, [], true, false, None}
+use Rattle.llcp_pdu.specs.Wire.{least_miu}
+use Rattle.llcp_link.specs.Serving.{Serving}
+use Rattle.llcp_link.specs.State.{LlcState, restarted}
+use Rattle.llcp_link.specs.Taking.{taken_from}
+use Rattle.llcp_link.specs.Giving.{given, after_giving, given_parts, IsAllowed}
+use Rattle.llcp_link.specs.Answering.{Answers}
+use Rattle.far_air.specs.FarEnds.{FarTable}
+use Rattle.far_air.specs.FarLaws.{IsFarTable, IsOfTable}
+
+module _ {S : Type 0} (m : Serving S) where
+  -- What stays of an end without a link: its MIU and receive window, what is bound, and of its service what a new link leaves.
+  abbrev pub rested : LlcState S → LlcState S
+  rested l = record {
+    miu = l.miu;
+    window = l.window;
+    bound = l.bound;
+    readable = true;
+    far_miu = least_miu;
+    queue = [];
+    served = [];
+    own = [];
+    lookups = [];
+    asked = 0;
+    last = None;
+    stuck = false;
+    service = m.renewed l.service;
+  }
+
+  -- An end takes a payload, and gives one with so many PDUs.
+  abbrev pub ends : FarTable (LlcState S)
+  ends = record {
+    restarted = restarted m;
+    reply = λ l payload n. given m n (taken_from m l payload);
+    left = λ l payload n. after_giving m n (taken_from m l payload);
+    rested = rested;
+  }
+
+  -- ends are far ends where a new link leaves the same of a service that it left
+  abbrev pub AreFarEnds : Type 0
+  AreFarEnds = ((s : S) → m.renewed (m.renewed s) ≡ m.renewed s) → IsFarTable ends
+
+  -- Each step of the code's end is one of the table, by some number of PDUs that is allowed.
+  abbrev pub EndsStep : Type 0
+  EndsStep = IsOfTable (λ old general new. new ≡ restarted m old general) (Answers m) ends (λ l. l)
+
+  -- A payload may have any number of PDUs that are due and fit in one AGF. Any other number, and 0, is as many as fit.
+  abbrev pub AnyNumber : Type 0
+  AnyNumber = (l : LlcState S) (n : ℕ) → IsAllowed m l n ⊎ (given_parts m n l ≡ given_parts m 0 l)

@@ -1,0 +1,4 @@
+pub mod SwapTurns
+pub mod Ends
+pub mod PeerFars
+pub mod Aside

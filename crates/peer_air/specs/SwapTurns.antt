@@ -1,0 +1,89 @@
+-- Exchanges and swaps on a link to a peer, in the world with far ends (NFCIP-1, ISO/IEC 18092; the air is this project's own).
+use Rattle.std.specs.Prelude.{◌≡◌, ◌≤◌, ℕ, List, [], ◌∷◌, length, Bool, true, Option, Some, None}
+use Rattle.nfc_base.specs.Signal.{Signal}
+use Rattle.nfc_base.specs.Links.{FarStep, Stepped, Stopped, FarMoved}
+use Rattle.nfc_base.specs.declared.event.Event.TheVariants.{Request}
+use Rattle.nfc_base.specs.declared.event.Fate.TheVariants.{Pass}
+use Rattle.air_core.specs.Turn.{Air, moment, after_event}
+use Rattle.air_core.specs.Conversation.{Note, Asks, first_fate, later_fates}
+use Rattle.air_core.specs.PlainTags.{IsAlone}
+use Rattle.air_core.specs.declared.listener.Listener.{Ghosts}
+use Rattle.dep_link.specs.Sizes.{limit}
+use Rattle.dep_link.specs.Target.{TargetState}
+use Rattle.dep_link.specs.Initiator.{InitState}
+use Rattle.dep_link.specs.Asking.{Standing, HasPeer, ExchangeTurns, asks, stand, dep_next}
+use Rattle.dep_link.specs.DepLinks.{DepSeen, Swap, Exchanged, DepMoves, StandsAt}
+use Rattle.far_air.specs.FarEnds.{FarTable}
+use Rattle.far_air.specs.FarLaws.{IsFarTable, IsLinked, IsOfTable}
+use Rattle.far_air.specs.FarTurns.{FarGoing}
+
+module _ {L F : Type 0} (k : Ghosts L) (target : L → TargetState) (linked : L → Bool) (t : FarTable F) where
+  -- A far end went from one state to another in an exchange of this payload, in which it gave that reply, by some number, or none.
+  abbrev pub Gave : List ℕ → Option (List ℕ) → F → F → Type 0
+  Gave out None far after = after ≡ far
+  Gave out (Some reply) far after = (n : ℕ) × (reply ≡ t.reply far out n) × (after ≡ t.left far out n) × (length reply ≤ limit)
+
+  -- where a field is lit, a selected listener stands at this place, and is alone
+  abbrev pub Stands : Air L → ℕ → Type 0
+  Stands air place = air.lit ≡ true → (l : L) × (k.is_selected l ≡ true) × IsAlone k (k.identifier l) air.listeners place l
+
+  -- The turns of an exchange with a peer, in which that was given, are turns of the world with far ends at the peer's place, where it
+  -- stands behind them too.
+  abbrev pub ExchangesFar : Type 0
+  ExchangesFar = IsLinked k.machine linked → IsFarTable t
+      → (old new : Air L) (i : InitState) (first : ℕ) (handed : List (List ℕ)) (arrived : List Signal) (p : HasPeer k target old i first handed arrived)
+      (out : List ℕ) (given : Option (List ℕ)) (s : Standing) (x : ExchangeTurns k target old new p.listener i first handed arrived out given s)
+      → length out ≤ limit → (far after : F) → Gave out given far after → (os : List (Option F))
+      → FarGoing k.machine linked t (dep_next i out) (moment old) (moment new) x.notes p.place os far after
+      × Stands new p.place
+
+  -- what a far end of the code did in a swap is whole: want of memory left no step unfinished
+  abbrev pub IsWhole : List FarStep → Type 0
+  IsWhole [] = Unit {0}
+  IsWhole (Stepped payload reply ∷ did) = IsWhole did
+  IsWhole (Stopped payload ∷ did) = ⊥
+
+  -- A swap on a link, in the world with far ends: this is what the reader knows of it, and where its initiator stands. The peer stands at
+  -- the same place behind it.
+  pub record SwapTurn (a b : DepSeen L) (out : List ℕ) (place : ℕ) (os : List (Option F)) (far after : F) : Type 0 where
+    pub notes : List Note
+    pub stands : StandsAt b.over b.initiator (stand (asks a.initiator out) notes)
+    pub there : Stands b.air place
+    pub going : FarGoing k.machine linked t (dep_next a.initiator out) (moment a.air) (moment b.air) notes place os far after
+
+  -- Behind the turns of a swap a request that was due passed, and its far end stopped for want of memory: nothing came back.
+  pub record SwapFront (a b : DepSeen L) (out : List ℕ) (place : ℕ) (os : List (Option F)) (far : F) : Type 0 where
+    pub mid : Air L
+    pub notes : List Note
+    pub going : FarGoing k.machine linked t (dep_next a.initiator out) (moment a.air) (moment mid) notes place os far far
+    pub sent : Signal
+    pub due : dep_next a.initiator out notes ≡ Asks sent
+    pub fate : first_fate mid.fates ≡ Pass
+    pub listeners : List L
+    pub left : b.air ≡ after_event mid (Request sent Pass) (later_fates mid.fates) (record { lit = true; listeners = listeners })
+
+  -- swaps one after another
+  abbrev pub SwapTurns : List Swap → DepSeen L → ℕ → List (Option F) → F → DepSeen L → F → Type 0
+  SwapTurns [] a place os far b after = (b ≡ a) × (after ≡ far)
+  SwapTurns (s ∷ ss) a place os far b after =
+      (mid : DepSeen L) × (half : F) × SwapTurn a mid s.out place os far half × SwapTurns ss mid place os half b after
+
+  module _ {A : Type 0} (restarts : A → List ℕ → A → Type 0) (steps : A → List ℕ → List ℕ → A → Type 0) (stops : A → List ℕ → A → Type 0) (view : A → F) where
+    -- What a link tells of a swap, with what its far end did, is a swap in the world with far ends.
+    abbrev pub SwapsFar : Type 0
+    SwapsFar = IsLinked k.machine linked → IsFarTable t → IsOfTable restarts steps t view
+        → (a b : DepSeen L) (s : Swap) (x : Exchanged k target a b s)
+        → (far after : A) → FarMoved steps stops s.did far after → IsWhole s.did → (os : List (Option F))
+        → SwapTurn a b s.out x.peer.place os (view far) (view after)
+
+    abbrev pub StopsFar : Type 0
+    StopsFar = IsLinked k.machine linked → IsFarTable t
+        → (a b : DepSeen L) (s : Swap) (x : Exchanged k target a b s)
+        → (payload : List ℕ) → s.did ≡ Stopped payload ∷ [] → (far : F) (os : List (Option F)) → SwapFront a b s.out x.peer.place os far
+
+    -- What a link tells of its swaps is that, at whatever place its peer stands.
+    abbrev pub MovesFar : Type 0
+    MovesFar = IsLinked k.machine linked → IsFarTable t → IsOfTable restarts steps t view
+        → (a b : DepSeen L) (did : List FarStep) → DepMoves k target a did b
+        → (far after : A) → FarMoved steps stops did far after → IsWhole did → (place : ℕ) → Stands a.air place → (os : List (Option F))
+        → (ss : List Swap) × SwapTurns ss a place os (view far) b (view after)
