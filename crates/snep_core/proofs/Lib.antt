@@ -26,6 +26,7 @@ pub mod Conversations
 pub mod Meets
 pub mod Opening
 pub mod Pressing
+pub mod Courses
 pub mod Turns
 pub mod Ends
 pub mod PutPhases

@@ -187,6 +187,7 @@ pub record IsTaken (m : List ℕ) (old : PeerState) (client : EndState) (new : P
   pub accepted : new.service.accepted ≡ old.service.accepted ++ from_client m ∷ []
   pub limit : new.service.limit ≡ old.service.limit
   pub table : new.service.table ≡ old.service.table
+  pub bound : new.bound ≡ old.bound
   pub accords : Accords client new
 
 -- A put that was rejected: its message is longer than the limit, and nothing was accepted.
@@ -195,6 +196,7 @@ pub record IsRejected (m : List ℕ) (old : PeerState) (client : EndState) (new 
   pub accepted : new.service.accepted ≡ old.service.accepted
   pub limit : new.service.limit ≡ old.service.limit
   pub table : new.service.table ≡ old.service.table
+  pub bound : new.bound ≡ old.bound
   pub accords : Accords client new
 
 -- nothing was accepted, or the message once, which is within the limit
