@@ -34,3 +34,6 @@ pub mod PutAnswers
 pub mod PutEnds
 pub mod Peers
 pub mod Asides
+pub mod OneExchange
+pub mod LookupEnds
+pub mod CloseEnds

@@ -1,0 +1,1 @@
+-- What the end of a connection comes to at a peer that its client accords with.
