@@ -73,7 +73,7 @@ own_acks l None = refl
 own_acks l (Some o) = refl
 
 -- a peer without a connection gives nothing
-bare_none : (far : PeerState) (s : ServerState) → IsFair far → gave serving (peer_at far (Apart []) [] s) ≡ None
+pub bare_none : (far : PeerState) (s : ServerState) → IsFair far → gave serving (peer_at far (Apart []) [] s) ≡ None
 bare_none far s g =
     let z = peer_at far (Apart []) [] s in
     ap (λ o. or_else o (first_of_all far.last (acknowledges z))) (found_none (informs serving z) client_sap (λ e t. refl) (omega arith) far.last g.last refl)

@@ -1,5 +1,5 @@
 -- A call over a peer that is over with its first exchange.
-use Rattle.std.proofs.Common.{◌≡◌, ◌⊎◌, ℕ, ◌||◌, true, List, [], ◌∷◌, ◌++◌, length, Option, Some, None, Result, Ok, Err, IfOk, IfErr, refl, sym, ◌∙◌, ap, subst, inl, inr}
+use Rattle.std.proofs.Common.{◌≡◌, ◌⊎◌, ℕ, ◌||◌, true, List, [], ◌∷◌, ◌++◌, length, Option, Some, None, refl, sym, ◌∙◌, ap, subst, inl, inr}
 use Rattle.nfc_base.specs.declared.carrier.EndCause.{EndCause}
 use Rattle.nfc_base.specs.declared.carrier.EndCause.TheVariants as cause
 use Rattle.nfc_base.specs.Links.{CarrierView, FarStep}
@@ -136,12 +136,3 @@ module _ (s : ServerState) (job : Job) (ending : Ending) (x : OneExchange s job 
         let k = breaks_off Same course seen moves far_steps far_stops view peer from link far e new now after h b in
         subst (λ z. AsideFails (view far) z (view after)) (sym k.fault)
         (aside_by (view far) (view after) (k.added ∙ ap (λ (z : ServerState). z.accepted) (sym is)) k.why)
-
--- what follows from how a call ended
-pub ok_more : {V E : Type 0} (r : Result V E) {P Q : V → Type 0} → ((x : V) → P x → Q x) → IfOk r P → IfOk r Q
-ok_more (Ok x) f h = f x h
-ok_more (Err e) f h = tt
-
-pub err_more : {V E : Type 0} (r : Result V E) {P Q : E → Type 0} → ((x : E) → P x → Q x) → IfErr r P → IfErr r Q
-err_more (Ok x) f h = tt
-err_more (Err e) f h = f e h
