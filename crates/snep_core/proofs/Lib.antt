@@ -29,8 +29,9 @@ pub mod Pressing
 pub mod Courses
 pub mod Turns
 pub mod Ends
+pub mod RequestPhases
+pub mod RequestAnswers
 pub mod PutPhases
-pub mod PutAnswers
 pub mod PutEnds
 pub mod Peers
 pub mod Asides

@@ -20,8 +20,9 @@ use Rattle.snep_core.proofs.Ends.{accord_begins, accepted_is, accords_again, lim
 use Rattle.snep_core.proofs.Meets.{Joined}
 use Rattle.snep_core.proofs.Opening.{Keeps, Meeting}
 use Rattle.snep_core.proofs.Turns.{rested_meets}
-use Rattle.snep_core.proofs.PutAnswers.{put_converses, put_starts}
-use Rattle.snep_core.proofs.PutPhases.{Accepted, ContinueHeard, Continues, Holds, Phase, Refusing, Rejected, RefusalHeard, Sending, Submitted, SuccessHeard, Succeeds, Unsent, accepted_at, conversation, job_at, queue_at, session_at, units_at}
+use Rattle.snep_core.proofs.PutPhases.{Accepted, Later, SuccessHeard, Succeeds, ask, is_read, later, later_converses, whole}
+use Rattle.snep_core.proofs.RequestAnswers.{request_converses, request_starts}
+use Rattle.snep_core.proofs.RequestPhases.{Came, ContinueHeard, Continues, Holds, Phase, Refusing, Rejected, RefusalHeard, Sending, Submitted, Unsent, accepted_at, conversation, job_at, queue_at, session_at, units_at}
 
 module _ (m : List ℕ) (p : PeerState) (short : length m < 2 ^ 32) where
   abbrev limit : ℕ
@@ -36,14 +37,17 @@ module _ (m : List ℕ) (p : PeerState) (short : length m < 2 ^ 32) where
   abbrev old : List Received
   old = p.service.accepted
 
+  abbrev Here : Type 0
+  Here = Phase Later
+
   -- a put at this peer
   abbrev pub conv : ℕ → ℕ → Conversation
-  conv miu size = conversation miu limit table m old
+  conv miu size = conversation miu limit table (ask m) old (later limit m old)
 
   pub keeps : Keeps limit table names conv None (put_of m) old
   keeps = record {
-    laws = λ miu size range fits. put_converses miu size limit table m old range fits short;
-    starts = λ miu size. put_starts miu size limit table m old;
+    laws = λ miu size range fits. request_converses miu size limit table (ask m) old (later limit m old) (later_converses limit m old miu size table range fits) (whole limit m old miu table) range fits (is_read limit m short);
+    starts = λ miu size. request_starts miu limit table (ask m) old (later limit m old);
   }
 
   abbrev pub Putting : Job → EndState → PeerState → Type 0
@@ -53,7 +57,7 @@ module _ (m : List ℕ) (p : PeerState) (short : length m < 2 ^ 32) where
   abbrev pub AddsSome : List Received → Type 0
   AddsSome now = (now ≡ old) ⊎ ((now ≡ old ++ from_client m ∷ []) × (length m ≤ limit))
 
-  at_phase : (miu : ℕ) (ph : Phase) → Holds miu limit table m old ph → AddsSome (accepted_at miu limit table m old ph)
+  at_phase : (miu : ℕ) (ph : Here) → Holds miu limit table (ask m) old (later limit m old) ph → AddsSome (accepted_at miu limit table (ask m) old (later limit m old) ph)
   at_phase miu Unsent h = inl refl
   at_phase miu Submitted h = inl refl
   at_phase miu Refusing h = inl refl
@@ -61,9 +65,9 @@ module _ (m : List ℕ) (p : PeerState) (short : length m < 2 ^ 32) where
   at_phase miu Continues h = inl refl
   at_phase miu ContinueHeard h = inl refl
   at_phase miu (Sending info queue rest) h = inl refl
-  at_phase miu Succeeds h = inr (refl, h)
-  at_phase miu SuccessHeard h = inr (refl, h)
-  at_phase miu Accepted h = inr (refl, h)
+  at_phase miu (Came Succeeds) h = inr (refl, h)
+  at_phase miu (Came SuccessHeard) h = inr (refl, h)
+  at_phase miu (Came Accepted) h = inr (refl, h)
   at_phase miu Rejected h = inl refl
 
   pub adds_some : (job : Job) (l : EndState) (q : PeerState) → Putting job l q → AddsSome q.service.accepted
@@ -76,8 +80,8 @@ module _ (m : List ℕ) (p : PeerState) (short : length m < 2 ^ 32) where
   ends_nowhere [] e q = cc
   ends_nowhere (b ∷ bs) e q = cc
 
-  ends_at : (miu : ℕ) (e : Ending) (ph : Phase) → Over e ≡ job_at miu limit table m old ph
-      → ((ph ≡ Accepted) × (e ≡ Done)) ⊎ ((ph ≡ Rejected) × (e ≡ Refused refusals.Reject))
+  ends_at : (miu : ℕ) (e : Ending) (ph : Here) → Over e ≡ job_at miu limit table (ask m) old (later limit m old) ph
+      → ((ph ≡ Came Accepted) × (e ≡ Done)) ⊎ ((ph ≡ Rejected) × (e ≡ Refused refusals.Reject))
   ends_at miu e Unsent q = absurd cc
   ends_at miu e Submitted q = absurd (ends_nowhere _ e q)
   ends_at miu e Refusing q = absurd (ends_nowhere _ e q)
@@ -85,9 +89,9 @@ module _ (m : List ℕ) (p : PeerState) (short : length m < 2 ^ 32) where
   ends_at miu e Continues q = absurd (ends_nowhere _ e q)
   ends_at miu e ContinueHeard q = absurd (ends_nowhere _ e q)
   ends_at miu e (Sending info queue rest) q = absurd cc
-  ends_at miu e Succeeds q = absurd cc
-  ends_at miu e SuccessHeard q = absurd cc
-  ends_at miu e Accepted q = inl (refl, cc)
+  ends_at miu e (Came Succeeds) q = absurd cc
+  ends_at miu e (Came SuccessHeard) q = absurd cc
+  ends_at miu e (Came Accepted) q = inl (refl, cc)
   ends_at miu e Rejected q = inr (refl, cc)
 
   joined_only : (e : Ending) (l : EndState) (q : PeerState) → Putting (Over e) l q → Joined limit table names conv (Over e) l q
@@ -96,34 +100,34 @@ module _ (m : List ℕ) (p : PeerState) (short : length m < 2 ^ 32) where
   joined_only e l q (inr (inr h)) = h
 
   module _ (l : EndState) (q : PeerState) where
-    taken_so : (h : Joined limit table names conv (Over Done) l q) → ((h.phase ≡ Accepted) × (Done ≡ Done)) ⊎ ((h.phase ≡ Rejected) × (Done ≡ Refused refusals.Reject)) → IsTaken m p l q
+    taken_so : (h : Joined limit table names conv (Over Done) l q) → ((h.phase ≡ Came Accepted) × (Done ≡ Done)) ⊎ ((h.phase ≡ Rejected) × (Done ≡ Refused refusals.Reject)) → IsTaken m p l q
     taken_so h (inr (e, z)) = absurd cc
     taken_so h (inl (e, z)) =
         let miu = h.n.server_miu in record {
-          within = subst (Holds miu limit table m old) e h.holds;
-          accepted = accepted_is limit table names conv h ∙ ap (accepted_at miu limit table m old) e;
+          within = subst (Holds miu limit table (ask m) old (later limit m old)) e h.holds;
+          accepted = accepted_is limit table names conv h ∙ ap (accepted_at miu limit table (ask m) old (later limit m old)) e;
           limit = limit_is limit table names conv h;
           table = table_is limit table names conv h;
           bound = names_are limit table names conv h;
-          accords = accords_again limit table names conv h (ap (queue_at miu limit table m old) e) (ap (units_at miu limit table m old) e) (ap (session_at miu limit table m old) e);
+          accords = accords_again limit table names conv h (ap (queue_at miu limit table (ask m) old (later limit m old)) e) (ap (units_at miu limit table (ask m) old (later limit m old)) e) (ap (session_at miu limit table (ask m) old (later limit m old)) e);
         }
 
     taken_at : Putting (Over Done) l q → IsTaken m p l q
     taken_at k = let h = joined_only Done l q k in taken_so h (ends_at h.n.server_miu Done h.phase h.job_is)
 
-    rejected_so : (r : Refusal) → (h : Joined limit table names conv (Over (Refused r)) l q) → ((h.phase ≡ Accepted) × (Refused r ≡ Done)) ⊎ ((h.phase ≡ Rejected) × (Refused r ≡ Refused refusals.Reject))
+    rejected_so : (r : Refusal) → (h : Joined limit table names conv (Over (Refused r)) l q) → ((h.phase ≡ Came Accepted) × (Refused r ≡ Done)) ⊎ ((h.phase ≡ Rejected) × (Refused r ≡ Refused refusals.Reject))
         → (r ≡ refusals.Reject) × IsRejected m p l q
     rejected_so r h (inl (e, z)) = absurd cc
     rejected_so r h (inr (e, z)) =
         let miu = h.n.server_miu in (
           (let y : r ≡ refusals.Reject = cc in y),
           record {
-            beyond = subst (Holds miu limit table m old) e h.holds;
-            accepted = accepted_is limit table names conv h ∙ ap (accepted_at miu limit table m old) e;
+            beyond = subst (Holds miu limit table (ask m) old (later limit m old)) e h.holds;
+            accepted = accepted_is limit table names conv h ∙ ap (accepted_at miu limit table (ask m) old (later limit m old)) e;
             limit = limit_is limit table names conv h;
             table = table_is limit table names conv h;
           bound = names_are limit table names conv h;
-            accords = accords_again limit table names conv h (ap (queue_at miu limit table m old) e) (ap (units_at miu limit table m old) e) (ap (session_at miu limit table m old) e);
+            accords = accords_again limit table names conv h (ap (queue_at miu limit table (ask m) old (later limit m old)) e) (ap (units_at miu limit table (ask m) old (later limit m old)) e) (ap (session_at miu limit table (ask m) old (later limit m old)) e);
           },
         )
 

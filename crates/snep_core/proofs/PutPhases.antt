@@ -1,231 +1,155 @@
--- A put of a client at a server that awaits a request: where the two stand, unit by unit.
-use Rattle.std.proofs.Common.{◌≡◌, ◌<◌, ◌≤◌, ◌⊎◌, nat_lt, ℕ, ◌+◌, ◌-◌, ◌^◌, ◌==◌, false, List, [], ◌∷◌, ◌++◌, length, take, drop, Some, None, refl, sym, ◌∙◌, ap, subst, inl, inr, arith, append-nil, append_assoc, length-append}
-use Rattle.std.specs.List.{concat}
-use Rattle.std.proofs.lemmas.Bool.{cases_lt, eq-eqb}
+-- A put at a server that awaits a request: where the two stand once all of its message came.
+use Rattle.std.proofs.Common.{◌≡◌, ◌<◌, ◌≤◌, ◌⊎◌, nat_lt, ℕ, ◌-◌, ◌^◌, ◌==◌, false, List, [], ◌∷◌, ◌++◌, length, Option, Some, None, refl, sym, ◌∙◌, ap, subst, inl, inr, arith}
+use Rattle.std.proofs.lemmas.Bool.{eq-eqb, lt-ltb}
 use Rattle.std.proofs.lemmas.Bool.Decides.{nat_tests}
-use Rattle.std.proofs.lemmas.List.{length-take, take-append-drop}
 use Rattle.llcp_pdu.specs.General.{IsMiu}
-use Rattle.snep_core.specs.declared.message.Answer.{Answer}
 use Rattle.snep_core.specs.declared.message.Answer.TheVariants as answers
 use Rattle.snep_core.specs.declared.message.Request.TheVariants.{Put}
-use Rattle.snep_core.specs.declared.session.Due.{Due}
-use Rattle.snep_core.specs.declared.session.Due.TheVariants.{Tells}
-use Rattle.snep_core.specs.declared.session.Word.TheVariants.{Answers}
-use Rattle.snep_core.specs.declared.job.Refusal.TheVariants as refusals
-use Rattle.snep_core.specs.Cuts.{NoneEmpty, put_of}
-use Rattle.snep_core.specs.First.{info_of}
-use Rattle.snep_core.specs.Jobs.{Begins, Done, Job, Over, Refused, Sends}
-use Rattle.snep_core.specs.Message.{message}
+use Rattle.snep_core.specs.Accord.{IsPaired, Numbers}
+use Rattle.snep_core.specs.First.{by_code}
+use Rattle.snep_core.specs.Jobs.{Done, Job, Over, Sends, told_all}
+use Rattle.snep_core.specs.Message.{message, put_code}
 use Rattle.snep_core.specs.Server.{Received, ServerState, serving}
-use Rattle.snep_core.specs.Session.{Offer, Session, first_did, fresh_session, later_did}
-use Rattle.snep_core.specs.Talk.{behind_first, client_sap}
-use Rattle.snep_core.proofs.Cuts as cuts
-use Rattle.snep_core.proofs.Conversations.{AllWithin, Comes, Conversation}
-use Rattle.snep_core.proofs.Served.{Serves, serves_brought}
+use Rattle.snep_core.specs.Session.{Offer, Session, fresh_session, sent}
+use Rattle.snep_core.specs.Talk.{EndState, client_sap, finished}
+use Rattle.snep_core.proofs.Conversations.{AllWithin, Comes, Conversation, Converses, Hears, MayTell, Readies, StandsAt, Tells}
+use Rattle.snep_core.proofs.RequestAnswers.{behind_stays, quiet, says}
+use Rattle.snep_core.proofs.RequestPhases.{Asked, IsRead, Whole, answering}
 
--- where a put stands
-pub data Phase : Type 0 where
-  Unsent : Phase
-  Submitted : Phase
-  Refusing : Phase
-  RefusalHeard : Phase
-  Continues : Phase
-  ContinueHeard : Phase
-  Sending : List ℕ → List (List ℕ) → List ℕ → Phase
-  Succeeds : Phase
-  SuccessHeard : Phase
-  Accepted : Phase
-  Rejected : Phase
+-- a put
+abbrev pub ask : List ℕ → Asked
+ask m = record { request = Put; code = put_code; most = None; info = m; size = length m }
 
-abbrev pub answering : Answer → Session
-answering a = record { gathered = None; due = Tells (Answers a) ∷ []; waiting = []; going = [] }
+not_lt : (a b : ℕ) → b ≤ a → nat_lt a b ≡ false
+not_lt a b h = grind (arith, nat_tests)
 
-abbrev pub gathering : ℕ → List ℕ → List Due → Session
-gathering left info due = record { gathered = Some (record { request = Put; left = left; info = info }); due = due; waiting = []; going = [] }
+pub is_read : (limit : ℕ) (m : List ℕ) → length m < 2 ^ 32 → IsRead limit (ask m)
+is_read limit m short = record {
+  short = short;
+  over = λ long k h. rw (lt-ltb limit (length m) long) refl;
+  whole = λ few. rw (not_lt limit (length m) few, not_lt (length m) (length m) (omega arith), eq-eqb (length m) (length m) refl) refl;
+  partly = λ few k h.
+      (let e : (length m == k) ≡ false = grind (arith, nat_tests) in
+      rw (not_lt limit (length m) few, not_lt (length m) k (omega arith), e) refl);
+}
 
-module _ (miu limit : ℕ) (table : List Offer) (m : List ℕ) (old : List Received) where
-  -- the first unit, and the rest
-  abbrev pub first_unit : List ℕ
-  first_unit = take miu (put_of m)
+-- its success waits at the server; it was heard; it was taken up
+pub data Later : Type 0 where
+  Succeeds : Later
+  SuccessHeard : Later
+  Accepted : Later
 
-  abbrev pub rest_units : List ℕ
-  rest_units = drop miu (put_of m)
-
-  -- what is accepted once the message is
+module _ (limit : ℕ) (m : List ℕ) (old : List Received) where
   abbrev pub accepted : List Received
   accepted = old ++ record { source = client_sap; message = m } ∷ []
 
-  abbrev pub job_at : Phase → Job
-  job_at Unsent = Begins None (put_of m)
-  job_at Submitted = behind_first None rest_units
-  job_at Refusing = behind_first None rest_units
-  job_at RefusalHeard = behind_first None rest_units
-  job_at Continues = behind_first None rest_units
-  job_at ContinueHeard = behind_first None rest_units
-  job_at (Sending info queue rest) = Sends None rest
+  abbrev pub job_at : Later → Job
   job_at Succeeds = Sends None []
   job_at SuccessHeard = Sends None []
   job_at Accepted = Over Done
-  job_at Rejected = Over (Refused refusals.Reject)
 
-  abbrev pub queue_at : Phase → List (List ℕ)
-  queue_at Submitted = first_unit ∷ []
-  queue_at (Sending info queue rest) = queue
-  queue_at _ = []
-
-  abbrev pub units_at : Phase → List (List ℕ)
-  units_at RefusalHeard = message answers.Reject [] ∷ []
-  units_at ContinueHeard = message answers.Continue [] ∷ []
+  abbrev pub units_at : Later → List (List ℕ)
   units_at SuccessHeard = message answers.Success [] ∷ []
   units_at _ = []
 
-  abbrev pub session_at : Phase → Session
-  session_at Refusing = answering answers.Reject
-  session_at Continues = gathering (length rest_units) (info_of first_unit) (Tells (Answers answers.Continue) ∷ [])
-  session_at ContinueHeard = gathering (length rest_units) (info_of first_unit) []
-  session_at (Sending info queue rest) = gathering (length (concat queue ++ rest)) info []
+  abbrev pub session_at : Later → Session
   session_at Succeeds = answering answers.Success
   session_at _ = fresh_session
 
-  abbrev pub accepted_at : Phase → List Received
-  accepted_at Succeeds = accepted
-  accepted_at SuccessHeard = accepted
-  accepted_at Accepted = accepted
-  accepted_at _ = old
-
-  -- Where the message is longer than the limit it is refused, and where it isn't, its units add up to it.
-  abbrev pub Holds : Phase → Type 0
-  Holds Unsent = Unit {0}
-  Holds Submitted = Unit {0}
-  Holds Refusing = limit < length m
-  Holds RefusalHeard = limit < length m
-  Holds Continues = (length m ≤ limit) × (0 < length rest_units)
-  Holds ContinueHeard = (length m ≤ limit) × (0 < length rest_units)
-  Holds (Sending info queue rest) =
-      (length m ≤ limit) × (0 < length (concat queue ++ rest)) × (info ++ (concat queue ++ rest) ≡ m) × NoneEmpty queue × AllWithin miu queue
-  Holds Succeeds = length m ≤ limit
-  Holds SuccessHeard = length m ≤ limit
-  Holds Accepted = length m ≤ limit
-  Holds Rejected = limit < length m
-
-  -- A put, by the two ends' MIUs.
-  abbrev pub conversation : Conversation
-  conversation = record {
-    Phase = Phase;
+  abbrev pub later : Conversation
+  later = record {
+    Phase = Later;
     job_at = job_at;
-    queue_at = queue_at;
+    queue_at = λ ph. [];
     units_at = units_at;
     session_at = session_at;
-    accepted_at = accepted_at;
-    Holds = Holds;
+    accepted_at = λ ph. accepted;
+    Holds = λ ph. length m ≤ limit;
   }
 
-  module _ (range : IsMiu miu) (short : length m < 2 ^ 32) where
-    six : 6 ≤ length first_unit
-    six = let e = length-take miu (put_of m) in omega (arith, range.0)
+  pub whole : (miu : ℕ) (table : List Offer) → Whole miu limit table (ask m) old later
+  whole miu table = record {
+    at = Succeeds;
+    holds = λ few. few;
+    job_is = refl;
+    queue_is = refl;
+    units_is = refl;
+    accepts = Some m;
+    does = λ g. refl;
+    accepted_is = refl;
+  }
 
-    cut : cuts.Begins m first_unit rest_units
-    cut = cuts.begins m first_unit rest_units six (sym (take-append-drop miu (put_of m)))
+  module _ (miu size : ℕ) (table : List Offer) where
+    no_unit : (u : List ℕ) (queue : List (List ℕ)) → ◌≡◌ {A = List (List ℕ)} [] (u ∷ queue) → ⊥
+    no_unit u queue e = cc
 
-    looks : cuts.FirstOf limit m first_unit cut.info
-    looks = cuts.first_is limit m first_unit rest_units short cut
+    success : IsMiu size → length m ≤ limit → (s : ServerState) → StandsAt limit table later Succeeds s → Tells limit table later size Succeeds s
+    success fits k s h = says size limit table later fits Succeeds SuccessHeard answers.Success refl refl refl refl refl k refl refl refl s h
 
-    total : length m ≡ length cut.info + length rest_units
-    total = ap length cut.message ∙ length-append cut.info rest_units
+    later_tells : IsMiu size → (ph : Later) → length m ≤ limit → (s : ServerState) → StandsAt limit table later ph s → MayTell limit table later size ph s
+    later_tells fits Succeeds k s h = inr (success fits k s h)
+    later_tells fits SuccessHeard k s h = quiet size limit table later SuccessHeard s h (sent size fresh_session) refl refl
+    later_tells fits Accepted k s h = quiet size limit table later Accepted s h (sent size fresh_session) refl refl
 
-    first_comes_so : (s : ServerState) → Serves limit table s fresh_session old
-        → ((limit < length m) ⊎ (length m ≤ limit)) → (rest : List ℕ) → rest_units ≡ rest → Comes limit table conversation Submitted [] [] (serving.brought s client_sap first_unit)
-    first_comes_so s h (inl long) rest e = record {
-      to = Refusing;
-      holds = long;
-      job = refl;
+    nothing : (ph : Later) → length m ≤ limit → units_at ph ≡ [] → Hears limit table later ph
+    nothing ph k e = record {
+      to = ph;
+      holds = k;
+      told = ap (told_all (job_at ph)) e;
       queue_is = refl;
-      units_is = refl;
-      serves = subst (λ z. Serves limit table (serving.brought s client_sap first_unit) (answering answers.Reject) z) (append-nil old)
-          (serves_brought limit table s fresh_session old h first_unit (record { session = answering answers.Reject; accepts = None })
-          (ap (λ f. first_did table fresh_session f (info_of first_unit)) (looks.first ∙ cuts.over_is limit (length m) cut.info long)));
+      units_is = e;
+      session_is = refl;
+      accepted_is = refl;
     }
-    first_comes_so s h (inr few) [] e =
-        let whole : m ≡ cut.info = cut.message ∙ ap (λ z. cut.info ++ z) e ∙ append-nil cut.info in record {
-          to = Succeeds;
-          holds = few;
-          job = sym (ap (behind_first None) e);
-          queue_is = refl;
-          units_is = refl;
-          serves = serves_brought limit table s fresh_session old h first_unit (record { session = answering answers.Success; accepts = Some m })
-              (ap (λ f. first_did table fresh_session f (info_of first_unit)) (looks.first ∙ cuts.whole_is limit (length m) cut.info (ap length whole) few)
-              ∙ ap (λ z. record { session = answering answers.Success; accepts = Some z }) (looks.info_is ∙ sym whole));
-        }
-    first_comes_so s h (inr few) (b ∷ bs) e =
-        let some : 0 < length rest_units = rw e (omega arith) in
-        let left : length m - length cut.info ≡ length rest_units = omega (arith, total) in record {
-          to = Continues;
-          holds = (few, some);
-          job = refl;
-          queue_is = refl;
-          units_is = refl;
-          serves = subst (λ z. Serves limit table (serving.brought s client_sap first_unit) (session_at Continues) z) (append-nil old)
-              (serves_brought limit table s fresh_session old h first_unit (record { session = session_at Continues; accepts = None })
-              (ap (λ f. first_did table fresh_session f (info_of first_unit)) (looks.first ∙ cuts.partly_is limit (length m) cut.info few (omega (arith, total)))
-              ∙ ap (λ n. record { session = gathering n (info_of first_unit) (Tells (Answers answers.Continue) ∷ []); accepts = None }) left));
-        }
 
-    -- the first unit comes
-    pub first_comes : (s : ServerState) → Serves limit table s fresh_session old → Comes limit table conversation Submitted [] [] (serving.brought s client_sap first_unit)
-    first_comes s h = first_comes_so s h (cases_lt limit (length m)) rest_units refl
+    later_hears : (ph : Later) → length m ≤ limit → Hears limit table later ph
+    later_hears Succeeds k = nothing Succeeds k refl
+    later_hears Accepted k = nothing Accepted k refl
+    later_hears SuccessHeard k = record { to = Accepted; holds = k; told = refl; queue_is = refl; units_is = refl; session_is = refl; accepted_is = refl }
 
-  not_lt : (a b : ℕ) → b ≤ a → nat_lt a b ≡ false
-  not_lt a b h = grind (arith, nat_tests)
+    later_plain : (ph : Later) (l : EndState) → finished l client_sap (job_at ph) ≡ job_at ph
+    later_plain Succeeds l = refl
+    later_plain SuccessHeard l = refl
+    later_plain Accepted l = refl
 
-  not_eq : (a b : ℕ) → a < b → (b == a) ≡ false
-  not_eq a b h = grind (arith, nat_tests)
+    no_units : (u : List ℕ) (queue : List (List ℕ)) → ◌≡◌ {A = List (List ℕ)} (u ∷ queue) [] → ⊥
+    no_units u queue e = cc
 
-  -- a later unit comes
-  pub later_comes : (info u : List ℕ) (queue : List (List ℕ)) (rest : List ℕ) → Holds (Sending info (u ∷ queue) rest) → (s : ServerState)
-      → Serves limit table s (session_at (Sending info (u ∷ queue) rest)) old
-      → Comes limit table conversation (Sending info (u ∷ queue) rest) queue [] (serving.brought s client_sap u)
-  later_comes info u queue rest h s v =
-      go (concat queue ++ rest) refl
-    where
-      here : gathering (length (concat (u ∷ queue) ++ rest)) info [] ≡ gathering (length u + length (concat queue ++ rest)) info []
-      here = ap (λ n. gathering n info []) (ap length (append_assoc u (concat queue) rest) ∙ length-append u (concat queue ++ rest))
+    later_readies : IsMiu size → (ph : Later) → length m ≤ limit → 0 < miu → (l : EndState) (n : Numbers) → n.server_miu ≡ miu → IsPaired n 0 → Readies limit table later size l n ph
+    later_readies fits Succeeds k low l n is r = record {
+      to = Succeeds;
+      holds = k;
+      paired = r;
+      ready = behind_stays l n None miu is [] [] [] low;
+      session_is = refl;
+      accepted_is = refl;
+      busy = λ u o q a s h. success fits k s h;
+    }
+    later_readies fits SuccessHeard k low l n is r = record {
+      to = SuccessHeard;
+      holds = k;
+      paired = r;
+      ready = behind_stays l n None miu is [] (message answers.Success [] ∷ []) [] low;
+      session_is = refl;
+      accepted_is = refl;
+      busy = λ u o q a s h. absurd (no_units _ _ u);
+    }
+    later_readies fits Accepted k low l n is r = record {
+      to = Accepted;
+      holds = k;
+      paired = r;
+      ready = refl;
+      session_is = refl;
+      accepted_is = refl;
+      busy = λ u o q a s h. absurd cc;
+    }
 
-      all : info ++ (u ++ (concat queue ++ rest)) ≡ m
-      all = ap (λ z. info ++ z) (sym (append_assoc u (concat queue) rest)) ∙ h.2
-
-      w : Serves limit table s (gathering (length u + length (concat queue ++ rest)) info []) old
-      w = subst (λ x. Serves limit table s x old) here v
-
-      empty : (q : List (List ℕ)) → NoneEmpty q → concat q ++ rest ≡ [] → (q ≡ []) × (rest ≡ [])
-      empty [] n e = (refl, e)
-      empty ([] ∷ us) n e = absurd (let z = n.0 in omega arith)
-      empty ((b ∷ bs) ∷ us) n e = absurd cc
-
-      go : (more : List ℕ) → concat queue ++ rest ≡ more → Comes limit table conversation (Sending info (u ∷ queue) rest) queue [] (serving.brought s client_sap u)
-      go [] e =
-          let z = empty queue h.3.1 e in
-          let whole : info ++ u ≡ m = ap (λ t. info ++ t) (sym (append-nil u)) ∙ ap (λ t. info ++ (u ++ t)) (sym e) ∙ all in
-          let n : length u + length (concat queue ++ rest) ≡ length u = ap (λ t. length u + length t) e ∙ (omega arith) in record {
-            to = Succeeds;
-            holds = h.0;
-            job = ap (λ t. Sends None t) (sym z.1);
-            queue_is = sym z.0;
-            units_is = refl;
-            serves = serves_brought limit table s _ old w u (record { session = answering answers.Success; accepts = Some m })
-                (ap (λ k. later_did table (gathering k info []) (record { request = Put; left = k; info = info }) u) n
-                ∙ rw (not_lt (length u) (length u) (omega arith), eq-eqb (length u) (length u) refl) refl
-                ∙ ap (λ t. record { session = answering answers.Success; accepts = Some t }) whole);
-          }
-      go (b ∷ bs) e =
-          let some : 0 < length (concat queue ++ rest) = rw e (omega arith) in
-          let n = length (concat queue ++ rest) in
-          let left : length u + n - length u ≡ n = omega arith in record {
-            to = Sending (info ++ u) queue rest;
-            holds = (h.0, some, append_assoc info u (concat queue ++ rest) ∙ all, h.3.1, h.4.1);
-            job = refl;
-            queue_is = refl;
-            units_is = refl;
-            serves = subst (λ z. Serves limit table (serving.brought s client_sap u) (gathering n (info ++ u) []) z) (append-nil old)
-                (serves_brought limit table s _ old w u (record { session = gathering n (info ++ u) []; accepts = None })
-                (rw (not_lt (length u + n) (length u) (omega arith), not_eq (length u) (length u + n) (omega arith), left) refl));
-          }
+    pub later_converses : IsMiu miu → IsMiu size → Converses limit table later miu size
+    later_converses range fits = record {
+      within = λ ph k. tt;
+      comes = λ ph u queue e k s h. absurd (no_unit u queue e);
+      tells = later_tells fits;
+      hears = later_hears;
+      plain = later_plain;
+      readies = λ ph k l n is r. later_readies fits ph k (let z = range.0 in omega arith) l n is r;
+    }

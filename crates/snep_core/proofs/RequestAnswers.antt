@@ -1,0 +1,436 @@
+-- What a server answers a request before all of it came, what the client makes of it, and what the client submits.
+use Rattle.std.proofs.Common.{◌≡◌, ◌<◌, ◌≤◌, ◌⊎◌, nat_lt, ℕ, zero, suc, ◌+◌, ◌^◌, is_none, Bool, true, false, List, [], ◌∷◌, ◌++◌, length, take, drop, Option, Some, None, refl, sym, ◌∙◌, ap, subst, inl, inr, arith, append-nil, append_assoc, length-append, if◌then◌else◌}
+use Rattle.std.specs.List.{concat}
+use Rattle.std.proofs.lemmas.Bool.{ltb-true}
+use Rattle.std.proofs.lemmas.Bool.Decides.{nat_tests}
+use Rattle.llcp_conn.specs.declared.fault.ConnFault.TheVariants.{TooLong, WindowFull}
+use Rattle.llcp_link.specs.declared.standing.Standing.TheVariants as stands
+use Rattle.llcp_link.proofs.Ranged.{either}
+use Rattle.std.proofs.lemmas.List.{drop_all, length-drop, length-take, nil_from_length, take-append-drop, take_all}
+use Rattle.llcp_pdu.specs.General.{IsMiu}
+use Rattle.snep_core.specs.declared.message.Answer.{Answer}
+use Rattle.snep_core.specs.declared.message.Answer.TheVariants as answers
+use Rattle.snep_core.specs.declared.session.Due.TheVariants.{Tells as Tells_}
+use Rattle.snep_core.specs.declared.session.Word.TheVariants.{Answers}
+use Rattle.snep_core.specs.declared.job.Refusal.TheVariants as refusals
+use Rattle.snep_core.specs.Cuts.{NoneEmpty}
+use Rattle.snep_core.specs.First.{info_of}
+use Rattle.snep_core.specs.Accord.{IsPaired, Numbers, client_open}
+use Rattle.snep_core.specs.Jobs.{Begins, Over, Refused, Sends, told_all}
+use Rattle.snep_core.specs.Message.{message}
+use Rattle.snep_core.specs.Server.{Received, ServerState, serving}
+use Rattle.snep_core.specs.Session.{Offer, Sent, Session, fresh_session, sent}
+use Rattle.snep_core.specs.Talk.{EndState, Ready, begins_on, behind_first, client_sap, finished, is_over, miu_of, readied, ready_so, sends_on, sends_some, submits, takes_more}
+use Rattle.snep_core.proofs.Conversations.{AllWithin, Comes, Conversation, Converses, Hears, MayTell, Readies, StandsAt, Starts, Tells}
+use Rattle.snep_core.proofs.Served.{Serves, due_is, serves_sent}
+use Rattle.snep_core.proofs.RequestPhases.{Asked, Came, ContinueHeard, Continues, IsRead, Phase, Refusing, Rejected, RefusalHeard, Sending, Unsent, Submitted, Whole, Holds, accepted_at, begun_info, bytes_of, conversation, first_comes, first_unit, gathering, job_at, later_comes, queue_at, rest_units, session_at, units_at}
+
+not_lt : (m n : ℕ) → n ≤ m → nat_lt m n ≡ false
+not_lt m n h = grind (arith, nat_tests)
+
+not_less : (m n : ℕ) → nat_lt m n ≡ false → n ≤ m
+not_less m n h = grind (arith, nat_tests)
+
+miu_some : (n : ℕ) → 0 < n → miu_of (stands.Open n) ≡ Some n
+miu_some zero h = absurd (omega arith)
+miu_some (suc n) h = refl
+
+-- a unit that is taken leaves the window as it must be
+room_by : (b c : Bool) → is_none (if b then Some TooLong else (if c then None else Some WindowFull)) ≡ true → c ≡ true
+room_by true c h = absurd cc
+room_by false true h = refl
+room_by false false h = absurd cc
+
+concat_more : (us : List (List ℕ)) (u : List ℕ) → concat (us ++ u ∷ []) ≡ concat us ++ u
+concat_more [] u = append-nil u
+concat_more (x ∷ us) u = ap (λ z. x ++ z) (concat_more us u) ∙ sym (append_assoc x (concat us) u)
+
+none_more : (us : List (List ℕ)) (u : List ℕ) → NoneEmpty us → 0 < length u → NoneEmpty (us ++ u ∷ [])
+none_more [] u h k = (k, tt)
+none_more (x ∷ us) u h k = (h.0, none_more us u h.1 k)
+
+within_more : (miu : ℕ) (us : List (List ℕ)) (u : List ℕ) → AllWithin miu us → length u ≤ miu → AllWithin miu (us ++ u ∷ [])
+within_more miu [] u h k = (k, tt)
+within_more miu (x ∷ us) u h k = (h.0, within_more miu us u h.1 k)
+
+pub behind_plain : (l : EndState) (most : Option ℕ) (rest : List ℕ) → finished l client_sap (behind_first most rest) ≡ behind_first most rest
+behind_plain l most [] = refl
+behind_plain l most (b ∷ bs) = refl
+
+module _ (l : EndState) (n : Numbers) where
+  takes_room : (queue units : List (List ℕ)) (u : List ℕ) → takes_more (client_open l n queue units) client_sap u ≡ true → length n.asked + length queue < n.server_window
+  takes_room queue units u e =
+      ltb-true (length n.asked + length queue) n.server_window
+      (room_by (nat_lt n.server_miu (length u)) (nat_lt (length n.asked + length queue) n.server_window) e)
+
+  -- one that isn't, though it isn't too long, leaves it full
+  full_by : (b c : Bool) → b ≡ false → is_none (if b then Some TooLong else (if c then None else Some WindowFull)) ≡ false → c ≡ false
+  full_by true c i h = absurd cc
+  full_by false true i h = absurd cc
+  full_by false false i h = refl
+
+  no_room : (queue units : List (List ℕ)) (u : List ℕ) → length u ≤ n.server_miu → takes_more (client_open l n queue units) client_sap u ≡ false → n.server_window ≤ length n.asked + length queue
+  no_room queue units u i e =
+      not_less (length n.asked + length queue) n.server_window
+      (full_by (nat_lt n.server_miu (length u)) (nat_lt (length n.asked + length queue) n.server_window) (not_lt n.server_miu (length u) i) e)
+
+  paired_more : (queue : List (List ℕ)) (u : List ℕ) → IsPaired n (length queue) → length n.asked + length queue < n.server_window → IsPaired n (length (queue ++ u ∷ []))
+  paired_more queue u h room = record {
+    client_miu = h.client_miu;
+    server_miu = h.server_miu;
+    client_window = h.client_window;
+    server_window = h.server_window;
+    asked = (let e = length-append queue (u ∷ []) in omega arith);
+    told = h.told;
+    asked_sa = h.asked_sa;
+    told_sa = h.told_sa;
+  }
+
+  pub behind_stays : (most : Option ℕ) (miu : ℕ) → n.server_miu ≡ miu → (queue units : List (List ℕ)) (rest : List ℕ) → 0 < miu
+      → readied (client_open l n queue units) client_sap (behind_first most rest) ≡ ready_so (client_open l n queue units) (behind_first most rest)
+  behind_stays most miu is queue units [] h =
+      ap (sends_on (client_open l n queue units) client_sap most []) (ap (λ z. miu_of (stands.Open z)) is ∙ miu_some miu h)
+  behind_stays most miu is queue units (b ∷ bs) h = refl
+
+-- a session that is idle but for what is gathered
+abbrev rested : Session → Session
+rested x = record x { due = []; waiting = []; going = [] }
+
+module _ (miu : ℕ) (range : IsMiu miu) where
+  six_fit : (a : Answer) → length (message a []) ≡ 6 → length (message a []) ≤ miu
+  six_fit a e = omega (arith, range.0)
+
+  -- an answer goes out in one unit
+  answer_sent : (x : Session) (a : Answer) → length (message a []) ≡ 6 → x.going ≡ [] → x.due ≡ Tells_ (Answers a) ∷ []
+      → sent miu x ≡ record { session = rested x; unit = Some (message a []) }
+  answer_sent x a six g d =
+      ap (λ z. sent miu (record x { going = z; due = x.due })) g
+      ∙ ap (λ z. sent miu (record x { going = []; due = z })) d
+      ∙ ap (λ z. record { session = record (rested x) { going = z }; unit = Some (take miu (message a [])) }) (drop_all miu (message a []) (six_fit a six))
+      ∙ ap (λ z. record { session = rested x; unit = Some z }) (take_all miu (message a []) (six_fit a six))
+
+-- what a server says at a phase of any conversation
+module _ (size limit : ℕ) (table : List Offer) (c : Conversation) where
+  pub quiet : (ph : c.Phase) (s : ServerState) → StandsAt limit table c ph s → (z : Sent) → sent size (c.session_at ph) ≡ z → z.unit ≡ None → MayTell limit table c size ph s
+  quiet ph s h z e n = inl (due_is limit table s (c.session_at ph) (c.accepted_at ph) h size z e ∙ n)
+
+  pub says : IsMiu size → (ph to : c.Phase) (a : Answer) → length (message a []) ≡ 6 → (c.session_at ph).going ≡ [] → (c.session_at ph).due ≡ Tells_ (Answers a) ∷ []
+      → rested (c.session_at ph) ≡ c.session_at to → c.accepted_at to ≡ c.accepted_at ph → c.Holds to → c.job_at to ≡ c.job_at ph → c.queue_at to ≡ c.queue_at ph
+      → c.units_at to ≡ c.units_at ph ++ message a [] ∷ [] → (s : ServerState) → StandsAt limit table c ph s → Tells limit table c size ph s
+  says fits ph to a six g d r same k j q u s h =
+      let z : Sent = record { session = rested (c.session_at ph); unit = Some (message a []) } in
+      let e : sent size (c.session_at ph) ≡ z = answer_sent size fits (c.session_at ph) a six g d in record {
+        unit = message a [];
+        due = due_is limit table s (c.session_at ph) (c.accepted_at ph) h size z e;
+        short = six_fit size fits a six;
+        some = omega arith;
+        to = to;
+        holds = k;
+        job = j;
+        queue_is = q;
+        units_is = u;
+        serves = subst (λ x. Serves limit table (serving.sent s client_sap size) x (c.accepted_at to)) r
+            (subst (λ y. Serves limit table (serving.sent s client_sap size) (rested (c.session_at ph)) y) (sym same) (serves_sent limit table s (c.session_at ph) (c.accepted_at ph) h size z e));
+      }
+
+module _ (miu size limit : ℕ) (table : List Offer) (ask : Asked) (old : List Received) (later : Conversation) (laws : Converses limit table later miu size) where
+  abbrev Here_ : Type 0
+  Here_ = Phase later.Phase
+
+  abbrev Stands : Here_ → ServerState → Type 0
+  Stands ph s = StandsAt limit table (conversation miu limit table ask old later) ph s
+
+  abbrev May : Here_ → ServerState → Type 0
+  May ph s = MayTell limit table (conversation miu limit table ask old later) size ph s
+
+  abbrev at : Here_ → Session
+  at ph = session_at miu limit table ask old later ph
+
+  abbrev acc : Here_ → List Received
+  acc ph = accepted_at miu limit table ask old later ph
+
+  abbrev conv : Conversation
+  conv = conversation miu limit table ask old later
+
+  -- what came of it goes on as it does by itself
+  comes_later : (ph : later.Phase) (queue units : List (List ℕ)) (s : ServerState) → Comes limit table later ph queue units s → Comes limit table conv (Came ph) queue units s
+  comes_later ph queue units s x = record { to = Came x.to; holds = x.holds; job = x.job; queue_is = x.queue_is; units_is = x.units_is; serves = x.serves }
+
+  tells_later : (ph : later.Phase) (s : ServerState) → Tells limit table later size ph s → Tells limit table conv size (Came ph) s
+  tells_later ph s x = record {
+    unit = x.unit;
+    due = x.due;
+    short = x.short;
+    some = x.some;
+    to = Came x.to;
+    holds = x.holds;
+    job = x.job;
+    queue_is = x.queue_is;
+    units_is = x.units_is;
+    serves = x.serves;
+  }
+
+  may_later : (ph : later.Phase) (s : ServerState) → MayTell limit table later size ph s → MayTell limit table conv size (Came ph) s
+  may_later ph s (inl e) = inl e
+  may_later ph s (inr x) = inr (tells_later ph s x)
+
+  hears_later : (ph : later.Phase) → Hears limit table later ph → Hears limit table conv (Came ph)
+  hears_later ph x = record {
+    to = Came x.to;
+    holds = x.holds;
+    told = x.told;
+    queue_is = x.queue_is;
+    units_is = x.units_is;
+    session_is = x.session_is;
+    accepted_is = x.accepted_is;
+  }
+
+  readies_later : (l : EndState) (n : Numbers) (ph : later.Phase) → Readies limit table later size l n ph → Readies limit table conv size l n (Came ph)
+  readies_later l n ph x = record {
+    to = Came x.to;
+    holds = x.holds;
+    paired = x.paired;
+    ready = x.ready;
+    session_is = x.session_is;
+    accepted_is = x.accepted_is;
+    busy = λ u o q a s h. tells_later x.to s (x.busy u o q a s h);
+  }
+
+  module _ (fits : IsMiu size) where
+    request_tells : (ph : Here_) → Holds miu limit table ask old later ph → (s : ServerState) → Stands ph s → May ph s
+    request_tells Unsent k s h = quiet size limit table conv Unsent s h (sent size fresh_session) refl refl
+    request_tells Submitted k s h = quiet size limit table conv Submitted s h (sent size fresh_session) refl refl
+    request_tells RefusalHeard k s h = quiet size limit table conv RefusalHeard s h (sent size fresh_session) refl refl
+    request_tells ContinueHeard k s h = quiet size limit table conv ContinueHeard s h (sent size (at ContinueHeard)) refl refl
+    request_tells (Sending info queue rest) k s h = quiet size limit table conv (Sending info queue rest) s h (sent size (at (Sending info queue rest))) refl refl
+    request_tells Rejected k s h = quiet size limit table conv Rejected s h (sent size fresh_session) refl refl
+    request_tells Refusing k s h = inr (says size limit table conv fits Refusing RefusalHeard answers.Reject refl refl refl refl refl k refl refl refl s h)
+    request_tells (Came ph) k s h = may_later ph s (laws.tells ph k s h)
+    request_tells Continues k s h = inr (says size limit table conv fits Continues ContinueHeard answers.Continue refl refl refl refl refl k refl refl refl s h)
+
+  abbrev Heard_ : Here_ → Type 0
+  Heard_ ph = Hears limit table (conversation miu limit table ask old later) ph
+
+  nothing : (ph : Here_) → Holds miu limit table ask old later ph → units_at miu limit table ask old later ph ≡ [] → Heard_ ph
+  nothing ph k e = record {
+    to = ph;
+    holds = k;
+    told = ap (told_all (job_at miu limit table ask old later ph)) e;
+    queue_is = refl;
+    units_is = e;
+    session_is = refl;
+    accepted_is = refl;
+  }
+
+  refused_by : (rest : List ℕ) → told_all (behind_first ask.most rest) (message answers.Reject [] ∷ []) ≡ Some (Over (Refused refusals.Reject))
+  refused_by [] = refl
+  refused_by (b ∷ bs) = refl
+
+  continued_by : (rest : List ℕ) → 0 < length rest → told_all (behind_first ask.most rest) (message answers.Continue [] ∷ []) ≡ Some (Sends ask.most rest)
+  continued_by [] h = absurd (omega arith)
+  continued_by (b ∷ bs) h = refl
+
+  module _ (w : Whole miu limit table ask old later) (range : IsMiu miu) (read : IsRead limit ask) where
+    request_hears : (ph : Here_) → Holds miu limit table ask old later ph → Heard_ ph
+    request_hears Unsent k = nothing Unsent k refl
+    request_hears Submitted k = nothing Submitted k refl
+    request_hears Refusing k = nothing Refusing k refl
+    request_hears Continues k = nothing Continues k refl
+    request_hears (Sending info queue rest) k = nothing (Sending info queue rest) k refl
+    request_hears Rejected k = nothing Rejected k refl
+    request_hears RefusalHeard k = record {
+      to = Rejected;
+      holds = k;
+      told = refused_by (rest_units miu limit table ask old later);
+      queue_is = refl;
+      units_is = refl;
+      session_is = refl;
+      accepted_is = refl;
+    }
+    request_hears ContinueHeard k =
+        let first = first_unit miu limit table ask old later in
+        let rest = rest_units miu limit table ask old later in record {
+          to = Sending (info_of first) [] rest;
+          holds = (k.0, k.1, begun_info miu limit table ask old later w range read, tt, tt);
+          told = continued_by rest k.1;
+          queue_is = refl;
+          units_is = refl;
+          session_is = refl;
+          accepted_is = refl;
+        }
+    request_hears (Came ph) k = hears_later ph (laws.hears ph k)
+
+  request_plain : (ph : Here_) (l : EndState) → finished l client_sap (job_at miu limit table ask old later ph) ≡ job_at miu limit table ask old later ph
+  request_plain Unsent l = refl
+  request_plain Submitted l = behind_plain l ask.most (rest_units miu limit table ask old later)
+  request_plain Refusing l = behind_plain l ask.most (rest_units miu limit table ask old later)
+  request_plain RefusalHeard l = behind_plain l ask.most (rest_units miu limit table ask old later)
+  request_plain Continues l = behind_plain l ask.most (rest_units miu limit table ask old later)
+  request_plain ContinueHeard l = behind_plain l ask.most (rest_units miu limit table ask old later)
+  request_plain (Sending info queue rest) l = refl
+  request_plain Rejected l = refl
+  request_plain (Came ph) l = laws.plain ph l
+
+  request_within : (ph : Here_) → Holds miu limit table ask old later ph → AllWithin miu (queue_at miu limit table ask old later ph)
+  request_within Unsent k = tt
+  request_within Submitted k = ((let e = length-take miu (bytes_of ask) in omega (arith, e)), tt)
+  request_within Refusing k = tt
+  request_within RefusalHeard k = tt
+  request_within Continues k = tt
+  request_within ContinueHeard k = tt
+  request_within (Sending info queue rest) k = k.4
+  request_within Rejected k = tt
+  request_within (Came ph) k = laws.within ph k
+
+  no_unit : (u : List ℕ) (queue : List (List ℕ)) → ◌≡◌ {A = List (List ℕ)} [] (u ∷ queue) → ⊥
+  no_unit u queue e = cc
+
+  module _ (w : Whole miu limit table ask old later) (range : IsMiu miu) (read : IsRead limit ask) where
+    request_comes : (ph : Here_) (u : List ℕ) (queue : List (List ℕ)) → queue_at miu limit table ask old later ph ≡ u ∷ queue → Holds miu limit table ask old later ph → (s : ServerState) → Stands ph s
+        → Comes limit table (conversation miu limit table ask old later) ph queue (units_at miu limit table ask old later ph) (serving.brought s client_sap u)
+    request_comes Submitted u queue e k s h =
+        let i : first_unit miu limit table ask old later ≡ u = cc in
+        let j : [] ≡ queue = cc in
+        subst (λ q. Comes limit table (conversation miu limit table ask old later) Submitted q [] (serving.brought s client_sap u)) j
+        (subst (λ v. Comes limit table (conversation miu limit table ask old later) Submitted [] [] (serving.brought s client_sap v)) i (first_comes miu limit table ask old later w range read s h))
+    request_comes (Sending info [] rest) u queue e k s h = absurd (no_unit u queue e)
+    request_comes (Sending info (v ∷ q) rest) u queue e k s h =
+        let i : v ≡ u = cc in
+        let j : q ≡ queue = cc in
+        subst (λ z. Comes limit table (conversation miu limit table ask old later) (Sending info (v ∷ q) rest) z [] (serving.brought s client_sap u)) j
+        (subst (λ z. Comes limit table (conversation miu limit table ask old later) (Sending info (v ∷ q) rest) q [] (serving.brought s client_sap z)) i (later_comes miu limit table ask old later w info v q rest k s h))
+    request_comes Unsent u queue e k s h = absurd (no_unit u queue e)
+    request_comes Refusing u queue e k s h = absurd (no_unit u queue e)
+    request_comes RefusalHeard u queue e k s h = absurd (no_unit u queue e)
+    request_comes Continues u queue e k s h = absurd (no_unit u queue e)
+    request_comes ContinueHeard u queue e k s h = absurd (no_unit u queue e)
+    request_comes Rejected u queue e k s h = absurd (no_unit u queue e)
+    request_comes (Came ph) u queue e k s h = comes_later ph queue (later.units_at ph) (serving.brought s client_sap u) (laws.comes ph u queue e k s h)
+
+  -- what the client submits
+  module _ (l : EndState) (n : Numbers) (is : n.server_miu ≡ miu) where
+    abbrev Ready_ : Here_ → Type 0
+    Ready_ ph = Readies limit table (conversation miu limit table ask old later) size l n ph
+
+    -- the server has an answer where the client has nothing to give and nothing unacknowledged
+    abbrev Busy : Here_ → Here_ → Type 0
+    Busy ph to = units_at miu limit table ask old later ph ≡ [] → is_over (job_at miu limit table ask old later ph) ≡ false → queue_at miu limit table ask old later to ≡ [] → n.asked ≡ []
+        → (s : ServerState) → Stands to s → Tells limit table (conversation miu limit table ask old later) size to s
+
+    stays : (ph : Here_) → Busy ph ph → Holds miu limit table ask old later ph → IsPaired n (length (queue_at miu limit table ask old later ph))
+        → readied (client_open l n (queue_at miu limit table ask old later ph) (units_at miu limit table ask old later ph)) client_sap (job_at miu limit table ask old later ph)
+        ≡ ready_so (client_open l n (queue_at miu limit table ask old later ph) (units_at miu limit table ask old later ph)) (job_at miu limit table ask old later ph) → Ready_ ph
+    stays ph w k r e = record { to = ph; holds = k; paired = r; ready = e; session_is = refl; accepted_is = refl; busy = w }
+
+    -- a phase that another one stands for, as the client sees it
+    as_at : (ph : Here_) (r : Ready) → readied (client_open l n (queue_at miu limit table ask old later ph) (units_at miu limit table ask old later ph)) client_sap (job_at miu limit table ask old later ph) ≡ r
+        → (to : Here_) → r ≡ ready_so (client_open l n (queue_at miu limit table ask old later to) (units_at miu limit table ask old later to)) (job_at miu limit table ask old later to)
+        → Holds miu limit table ask old later to → IsPaired n (length (queue_at miu limit table ask old later to)) → at to ≡ at ph → acc to ≡ acc ph → Busy ph to → Ready_ ph
+    as_at ph r e to i k p x a w = record { to = to; holds = k; paired = p; ready = e ∙ i; session_is = x; accepted_is = a; busy = w }
+
+    -- the rest goes out as far as the window allows
+    record Sends_ (info : List ℕ) (x : Session) (r : Ready) : Type 0 where
+      pub queue : List (List ℕ)
+      pub rest : List ℕ
+      pub holds : Holds miu limit table ask old later (Sending info queue rest)
+      pub paired : IsPaired n (length queue)
+      pub ready : r ≡ ready_so (client_open l n queue []) (Sends ask.most rest)
+      pub same : at (Sending info queue rest) ≡ x
+      pub full : (rest ≡ []) ⊎ (n.server_window ≤ length n.asked + length queue)
+
+    sends : (info : List ℕ) (x : Session) (k : ℕ) (queue : List (List ℕ)) (rest : List ℕ) → Holds miu limit table ask old later (Sending info queue rest) → IsPaired n (length queue) → 0 < miu → length rest ≤ k
+        → at (Sending info queue rest) ≡ x → Sends_ info x (sends_some k miu (client_open l n queue []) client_sap ask.most rest)
+    sends info x zero queue rest w r low i e = record { queue = queue; rest = rest; holds = w; paired = r; ready = refl; same = e; full = inl (nil_from_length rest (omega arith)) }
+    sends info x (suc k) queue [] w r low i e = record { queue = queue; rest = []; holds = w; paired = r; ready = refl; same = e; full = inl refl }
+    sends info x (suc k) queue (b ∷ bs) w r low i e =
+        let u = take miu (b ∷ bs) in
+        let rest = drop miu (b ∷ bs) in
+        let len = length-take miu (b ∷ bs) in
+        let same : concat (queue ++ u ∷ []) ++ rest ≡ concat queue ++ (b ∷ bs) =
+        ap (λ z. z ++ rest) (concat_more queue u) ∙ append_assoc (concat queue) u rest ∙ ap (λ z. concat queue ++ z) (take-append-drop miu (b ∷ bs)) in
+        let now : Holds miu limit table ask old later (Sending info (queue ++ u ∷ []) rest) = (
+          w.0,
+          subst (λ z. 0 < length z) (sym same) w.1,
+          ap (λ z. info ++ z) same ∙ w.2,
+          none_more queue u w.3 (omega (arith, low, len)),
+          within_more miu queue u w.4 (omega (arith, len)),
+        ) in
+        either (Sends_ info x) (takes_more (client_open l n queue []) client_sap u) _ _
+        (λ t. sends info x k (queue ++ u ∷ []) rest now (paired_more l n queue u r (takes_room l n queue [] u t)) low (let d = length-drop miu (b ∷ bs) in omega (arith, d, low, i)) (ap (λ z. gathering ask.request (length z) info []) same ∙ e))
+        (λ t. record { queue = queue; rest = b ∷ bs; holds = w; paired = r; ready = refl; same = e; full = inr (no_room l n queue [] u (let z : n.server_miu ≡ miu = is in omega (arith, len, z)) t) })
+
+    miu_is : 0 < miu → miu_of (stands.Open n.server_miu) ≡ Some miu
+    miu_is low = ap (λ z. miu_of (stands.Open z)) is ∙ miu_some miu low
+
+    abbrev bare_end : EndState
+    bare_end = client_open l n [] []
+
+    abbrev first : List ℕ
+    first = first_unit miu limit table ask old later
+
+    abbrev chosen : Bool → Ready
+    chosen b =
+        if b then ready_so (submits bare_end client_sap first) (behind_first ask.most (rest_units miu limit table ask old later))
+        else ready_so bare_end (Begins ask.most (bytes_of ask))
+
+    no_queue : (u : List ℕ) (queue : List (List ℕ)) → ◌≡◌ {A = List (List ℕ)} (u ∷ queue) [] → ⊥
+    no_queue u queue e = cc
+
+    -- a window that is full while nothing is unacknowledged
+    never_full : (queue : List (List ℕ)) (k : ℕ) → IsPaired n k → n.server_window ≤ length n.asked + length queue → queue ≡ [] → n.asked ≡ [] → ⊥
+    never_full queue k r full q a =
+        let w = r.server_window.0 in
+        let x : length queue ≡ 0 = ap length q in
+        let y : length n.asked ≡ 0 = ap length a in omega arith
+
+    sending_on : (info : List ℕ) (queue : List (List ℕ)) (rest : List ℕ) → Holds miu limit table ask old later (Sending info queue rest) → IsPaired n (length queue)
+        → ((rest ≡ []) ⊎ (n.server_window ≤ length n.asked + length queue)) → queue ≡ [] → n.asked ≡ [] → ⊥
+    sending_on info queue rest k r (inr full) q a = never_full queue (length queue) r full q a
+    sending_on info queue rest k r (inl none) q a =
+        let e : concat queue ++ rest ≡ [] = ap (λ z. concat z ++ rest) q ∙ none in
+        let z : length (concat queue ++ rest) ≡ 0 = ap length e in
+        let w = k.1 in omega arith
+
+    request_readies : IsMiu size → (ph : Here_) → Holds miu limit table ask old later ph → 0 < miu → IsPaired n (length (queue_at miu limit table ask old later ph)) → Ready_ ph
+    request_readies fits Submitted k low r = stays Submitted (λ u o q a s h. absurd (no_queue _ _ q)) k r (behind_stays l n ask.most miu is (first_unit miu limit table ask old later ∷ []) [] (rest_units miu limit table ask old later) low)
+    request_readies fits Refusing k low r =
+        stays Refusing (λ u o q a s h. says size limit table conv fits Refusing RefusalHeard answers.Reject refl refl refl refl refl k refl refl refl s h) k r
+        (behind_stays l n ask.most miu is [] [] (rest_units miu limit table ask old later) low)
+    request_readies fits RefusalHeard k low r = stays RefusalHeard (λ u o q a s h. absurd (no_queue _ _ u)) k r (behind_stays l n ask.most miu is [] (message answers.Reject [] ∷ []) (rest_units miu limit table ask old later) low)
+    request_readies fits Continues k low r =
+        stays Continues (λ u o q a s h. says size limit table conv fits Continues ContinueHeard answers.Continue refl refl refl refl refl k refl refl refl s h) k r
+        (behind_stays l n ask.most miu is [] [] (rest_units miu limit table ask old later) low)
+    request_readies fits ContinueHeard k low r = stays ContinueHeard (λ u o q a s h. absurd (no_queue _ _ u)) k r (behind_stays l n ask.most miu is [] (message answers.Continue [] ∷ []) (rest_units miu limit table ask old later) low)
+    request_readies fits Rejected k low r = stays Rejected (λ u o q a s h. absurd cc) k r refl
+    request_readies fits (Came ph) k low r = readies_later l n ph (laws.readies ph k l n is r)
+    request_readies fits Unsent k low r = go (takes_more bare_end client_sap first) refl
+      where
+        all : readied bare_end client_sap (Begins ask.most (bytes_of ask)) ≡ chosen (takes_more bare_end client_sap first)
+        all = ap (begins_on bare_end client_sap ask.most (bytes_of ask)) (miu_is low)
+
+        short : length first ≤ n.server_miu
+        short = let e = length-take miu (bytes_of ask) in let z : n.server_miu ≡ miu = is in omega (arith, e, z)
+
+        go : (b : Bool) → takes_more bare_end client_sap first ≡ b → Ready_ Unsent
+        go true t = as_at Unsent (chosen true) (all ∙ ap chosen t) Submitted refl tt (paired_more l n [] first r (takes_room l n [] [] first t)) refl refl (λ u o q a s h. absurd (no_queue _ _ q))
+        go false t = as_at Unsent (chosen false) (all ∙ ap chosen t) Unsent refl tt r refl refl (λ u o q a s h. absurd (never_full [] 0 r (no_room l n [] [] first short t) refl a))
+    request_readies fits (Sending info queue rest) k low r =
+        let x = sends info (at (Sending info queue rest)) (length rest) queue rest k r low (omega arith) refl in
+        as_at (Sending info queue rest) (sends_some (length rest) miu (client_open l n queue []) client_sap ask.most rest)
+        (ap (sends_on (client_open l n queue []) client_sap ask.most rest) (miu_is low)) (Sending info x.queue x.rest) x.ready x.holds x.paired x.same refl
+        (λ u o q a s h. absurd (sending_on info x.queue x.rest x.holds x.paired x.full q a))
+
+  -- a request is a conversation
+  pub request_converses : Whole miu limit table ask old later → IsMiu miu → IsMiu size → IsRead limit ask → Converses limit table conv miu size
+  request_converses w range fits read = record {
+    within = request_within;
+    comes = request_comes w range read;
+    tells = request_tells fits;
+    hears = request_hears w range read;
+    plain = request_plain;
+    readies = λ ph k l n is r. request_readies l n is fits ph k (let z = range.0 in omega arith) r;
+  }
+
+module _ (miu limit : ℕ) (table : List Offer) (ask : Asked) (old : List Received) (later : Conversation) where
+  pub request_starts : Starts limit table (conversation miu limit table ask old later) (Begins ask.most (bytes_of ask)) old
+  request_starts = record { at = Unsent; holds = tt; job_is = refl; queue_is = refl; units_is = refl; session_is = refl; accepted_is = refl }
