@@ -19,3 +19,5 @@ pub mod QuietHearing
 pub mod OneJournal
 pub mod Shapes
 pub mod Quiet
+pub mod ReadBack
+pub mod Joined

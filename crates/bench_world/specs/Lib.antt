@@ -12,3 +12,4 @@ pub mod QuietHearing
 pub mod Taking
 pub mod SameCommands
 pub mod Report
+pub mod ReadBack
