@@ -1,97 +1,303 @@
 -- How a run ends, by how its parts did.
-use Rattle.std.proofs.Common.{◌≡◌, ℕ, ◌+◌, ◌≤◌, List, [], ◌∷◌, ◌++◌, length, Bool, Option, Some, None, Result, Ok, Err, refl, sym, ◌∙◌, ap, subst, arith, inl, inr}
+use Rattle.std.proofs.Common.{◌≡◌, ℕ, ◌+◌, ◌<◌, ◌≤◌, ◌⊎◌, List, [], ◌∷◌, ◌++◌, length, take, drop, Bool, true, false, Option, Some, None, Result, Ok, Err, refl, sym, ◌∙◌, ap, subst, append_assoc, arith, inl, inr}
 use Rattle.std.specs.Prelude.{IfSome, OnOk, OnErr}
 use Rattle.std.specs.List.{All}
-use Rattle.std.proofs.lemmas.List.{length-append}
+use Rattle.std.proofs.lemmas.Bool.{cases_Bool}
+use Rattle.std.proofs.lemmas.List.{append-nil, length-append, length-take-le, take-append-drop}
 use Rattle.nfc_io.specs.Counts.{HasRisen}
 use Rattle.nfc_io.specs.Moves.{with_front, with_end, GainsFront}
+use Rattle.nfc_io.specs.Lines.{lines_of, whole_lines, NoLf}
+use Rattle.nfc_io.specs.Reading.{Lined, Advances, Looks}
+use Rattle.nfc_io.specs.declared.line_reader.LineStop.{LineStop}
+use Rattle.nfc_io.specs.declared.line_reader.LineStop.TheVariants as ends
 use Rattle.nfc_io.proofs.Counts.{rises_at_last}
-use Rattle.nfc_io.proofs.Moves.{with_end-append, with_end-nil}
+use Rattle.nfc_io.proofs.Moves.{with_end-append, with_end-nil, with_front-nil, read_on}
+use Rattle.nfc_io.proofs.Lines.{GoesOn, some_line, lines_longer, whole_last}
 use Rattle.bench_world.specs.declared.entry.Entry.{Entry}
-use Rattle.nfc_bench.specs.declared.top.input.Ending.{Ending}
-use Rattle.nfc_bench.specs.declared.top.input.Ending.TheVariants.{End, Fault, Enough}
 use Rattle.nfc_bench.specs.declared.top.lines.Stop.{Stop}
 use Rattle.nfc_bench.specs.declared.top.lines.Stop.TheVariants.{Refused, ReadFault, WriteFault, Memory}
-use Rattle.nfc_io.specs.Lines.{lines_of}
-use Rattle.bench_script.specs.Limits.{most_lines, longest_line}
-use Rattle.bench_world.specs.Report.{report_text}
+use Rattle.bench_script.specs.Limits.{most_lines, longest_line, AreWithinLimits}
+use Rattle.bench_world.specs.Report.{entry_text, report_text}
 use Rattle.bench_world.specs.Legal.{first_state}
-use Rattle.bench_world.specs.Taking.{AreSpelled}
-use Rattle.bench_world.proofs.Shapes.{taken_at}
-use Rattle.nfc_bench.specs.Run.{FrontIsObeyed, FirstRefused, AllTaken, RefusesLine, ObeysFront, AddsFault, line_fault, read_fault, EndsRefused, EndsUnread, EndsUnwritten}
-use Rattle.nfc_bench.specs.Stops.{ReadingEnds, MayFollow, TextRefused, TextUnread, TextUnwritten, TextLost, TextStops, RunRefused, RunUnread, RunLost, RunStops}
+use Rattle.bench_world.specs.Obeying.{Benched}
+use Rattle.bench_world.specs.Taking.{AreSpelled, IsTaken, standing_of}
+use Rattle.bench_world.proofs.Shapes.{TakenAlike, legal_taken, taken_at, taken_too}
+use Rattle.nfc_bench.specs.Run.{AreObeyed, FrontIsObeyed, FirstRefused, AllTaken, RefusesLine, ObeysAll, ObeysFront, AddsFault, line_fault, read_fault, EndsDone, EndsRefused, EndsUnread, EndsUnwritten, ReadsInTime}
+use Rattle.nfc_bench.specs.Stops.{Follows, LineRefused, LineCut, LineLost, LineStops, ObeyedBy, RunRefused, RunUnread, RunLost, RunStops}
 use Rattle.nfc_bench.proofs.Limits.{all_at, IsShort}
-use Rattle.nfc_bench.proofs.Progress.{obeyed_none}
+use Rattle.nfc_bench.proofs.Progress.{Progress, GaveNext, Goes, goes, lines_on, whole_on, ended_on, leads_to, obeyed_more, obeyed_none}
 use Rattle.nfc_bench.proofs.Journals.{written_none}
 
-pub risen_of : (left' : Option (List ℕ)) (ending : Ending) (r r' : ℕ) → ReadingEnds left' ending r r' → ending ≡ Fault → HasRisen r r'
-risen_of left' End r r' ends is = absurd cc
-risen_of left' Fault r r' ends is = ends
-risen_of left' Enough r r' ends is = absurd cc
-
-pub ended_of : (left' : Option (List ℕ)) (ending : Ending) (r r' : ℕ) → ReadingEnds left' ending r r' → ending ≡ End → IfSome left' (λ rest. rest ≡ [])
-ended_of left' End r r' ends is = ends
-ended_of left' Fault r r' ends is = absurd cc
-ended_of left' Enough r r' ends is = absurd cc
-
--- the input goes on behind the text, where the source tells it
-pub record GoesOnBy (left : Option (List ℕ)) (text : List ℕ) (ending : Ending) : Type 0 where
+-- the input goes on behind the text, where the source tells it; at the source's end by nothing
+record GoesOnBy (left : Option (List ℕ)) (text : List ℕ) (is_ended : Bool) : Type 0 where
   pub more : List ℕ
-  pub follows : MayFollow ending more
+  pub follows : is_ended ≡ true → more ≡ []
   pub told : IfSome left (λ bytes. text ++ more ≡ bytes)
 
-pub goes_on_by : (left left' : Option (List ℕ)) (text : List ℕ) (ending : Ending) → left ≡ with_front text left' → (ending ≡ End → IfSome left' (λ rest. rest ≡ [])) → GoesOnBy left text ending
-goes_on_by left None text ending read ended = record {
+goes_on_by : (left left' : Option (List ℕ)) (text : List ℕ) (is_ended : Bool) → left ≡ with_front text left' → (is_ended ≡ true → IfSome left' (λ rest. rest ≡ [])) → GoesOnBy left text is_ended
+goes_on_by left None text is_ended read ended = record {
   more = [];
   follows = λ _. refl;
   told = let P : Option (List ℕ) → Type 0 = λ o. IfSome o (λ bytes. text ++ [] ≡ bytes) in subst P (sym read) tt;
 }
-goes_on_by left (Some rest) text ending read ended = record {
+goes_on_by left (Some rest) text is_ended read ended = record {
   more = rest;
   follows = ended;
   told = let P : Option (List ℕ) → Type 0 = λ o. IfSome o (λ bytes. text ++ rest ≡ bytes) in subst P (sym read) refl;
 }
 
-pub run_refused : (quiet : Bool) (left left' t t' : Option (List ℕ)) (text : List ℕ) (ending : Ending) (j : List Entry) (n r r' : ℕ)
-    → left ≡ with_front text left' → ReadingEnds left' ending r r' → TextRefused quiet text ending j n t t' → RunRefused quiet left t t' j n
-run_refused quiet left left' t t' text ending j n r r' read ends s =
-    let on = goes_on_by left left' text ending read (ended_of left' ending r r' ends) in
-    record { lines = record { input = text ++ on.more; told = on.told; first = s.first on.more on.follows }; written = s.written }
+-- The lines that were obeyed are taken, and what is taken behind them is taken by the machines.
+abbrev done_taken : (done : List (List ℕ)) (b : Benched) → ObeyedBy done b → TakenAlike done b.state
+done_taken done b o = legal_taken done b.journal b.state (leads_to done b o)
 
-pub run_unread : (quiet : Bool) (left left' t t' : Option (List ℕ)) (text : List ℕ) (ending : Ending) (j : List Entry) (r r' : ℕ)
-    → left ≡ with_front text left' → ReadingEnds left' ending r r' → TextUnread quiet text ending j t t' → RunUnread quiet left left' t t' r r' j
-run_unread quiet left left' t t' text ending j r r' read ends s = record {
-  risen = risen_of left' ending r r' ends s.fault;
-  lines = record { read = text; told = read; obeyed = s.obeyed };
-  written = s.written;
-}
+taken_there : (done : List (List ℕ)) (b : Benched) (o : ObeyedBy done b) (line : List ℕ) → IsTaken (standing_of (done_taken done b o).commands) line → IsTaken b.state line
+taken_there done b o line is = taken_too (standing_of (done_taken done b o).commands) b.state line (done_taken done b o).alike is
 
-pub run_unwritten : (quiet : Bool) (left left' t t' : Option (List ℕ)) (text : List ℕ) (ending : Ending) (j : List Entry) (r r' w w' : ℕ)
-    → left ≡ with_front text left' → ReadingEnds left' ending r r' → TextUnwritten quiet text ending j t t' w w' → EndsUnwritten quiet left t t' w w' j
-run_unwritten quiet left left' t t' text ending j r r' w w' read ends s =
-    let on = goes_on_by left left' text ending read (ended_of left' ending r r' ends) in
+-- the line that is next, whatever follows
+next_line : (rest more : List ℕ) → 0 < length rest → (front behind : List ℕ) → rest ≡ front ++ behind → NoLf front → GoesOn front (lines_of (rest ++ more))
+next_line rest more some [] behind parts none = some_line rest more some
+next_line rest more some (b ∷ front) behind parts none =
+    let P : List ℕ → Type 0 = λ x. GoesOn (b ∷ front) (lines_of x) in
+    subst P (sym (ap (λ x. x ++ more) parts ∙ append_assoc (b ∷ front) behind more)) (lines_longer (b ∷ front) (behind ++ more) none (omega arith))
+
+-- the next line, which begins so, is refused for its number or its length
+refused_by_size : (quiet : Bool) (left mid left' : Option (List ℕ)) (a : Lined) (j : Benched) (n : ℕ) (t t1 : Option (List ℕ)) (got front behind : List ℕ)
+    → Progress quiet left mid a j n t t1 → Goes a got mid left' → 0 < length (a.held ++ got) → a.held ++ got ≡ front ++ behind → NoLf front
+    → (most_lines < n) ⊎ (longest_line < length front) → RunRefused quiet left t t1 j.journal n
+refused_by_size quiet left mid left' a j n t t1 got front behind p on some parts none why =
+    let text : List ℕ = p.text ++ got in
+    let by = goes_on_by left left' text a.is_ended (read_on left mid left' p.text got p.read on.read) (ended_on a got mid left' on p.ended) in
+    let next : GoesOn front (lines_of ((a.held ++ got) ++ by.more)) = next_line (a.held ++ got) by.more some front behind parts none in
+    let longer : length front ≤ length next.line = next.longer in
     record {
-      risen = s.risen;
-      lines = record { input = text ++ on.more; told = on.told; obeyed = s.front on.more on.follows };
-      before = s.before;
-      last = s.last;
-      entries = s.entries;
-      written = s.written;
+      lines = record {
+        input = text ++ by.more;
+        told = by.told;
+        first = record {
+          before = p.done;
+          line = next.line;
+          after = next.rest;
+          parts = lines_on quiet left mid left' a j n t t1 got p on by.more by.follows ∙ ap (λ x. p.done ++ x) next.parts;
+          commands = (done_taken p.done j p.obeyed).commands;
+          taken = (done_taken p.done j p.obeyed).taken;
+          obeyed = p.obeyed.obeyed;
+          number = p.number;
+          refused = elim why [ inl many ↦ inl many | inr long ↦ inr (inl (omega arith)) ];
+        };
+      };
+      written = p.written;
     }
 
-pub run_lost : (quiet : Bool) (left left' t t' : Option (List ℕ)) (text : List ℕ) (ending : Ending) (j : List Entry) (r r' : ℕ)
-    → left ≡ with_front text left' → ReadingEnds left' ending r r' → TextLost quiet text ending j t t' → RunLost quiet left t t' j
-run_lost quiet left left' t t' text ending j r r' read ends s =
-    let on = goes_on_by left left' text ending read (ended_of left' ending r r' ends) in
-    record { lines = record { input = text ++ on.more; told = on.told; obeyed = s.front on.more on.follows }; most = s.most }
+-- it is too long
+pub too_long : (quiet : Bool) (left mid left' : Option (List ℕ)) (a m : Lined) (j : Benched) (n : ℕ) (t t1 : Option (List ℕ))
+    → Progress quiet left mid a j n t t1 → Advances a m mid left' (Err ends.TooLong) → RunRefused quiet left t t1 j.journal n
+too_long quiet left mid left' a m j n t t1 p adv =
+    let got : List ℕ = adv.fetched.got in
+    let parts : adv.text ≡ a.held ++ got = adv.fetched.parts in
+    let long : 4096 < length adv.text = adv.came.0 in
+    let front : length (take 4097 adv.text) ≡ 4097 = length-take-le 4097 adv.text (omega arith) in
+    refused_by_size quiet left mid left' a j n t t1 got (take 4097 adv.text) (drop 4097 adv.text) p (goes a adv.text mid left' adv.fetched)
+    (omega (arith, long, ap length parts)) (sym parts ∙ sym (take-append-drop 4097 adv.text)) adv.came.1 (inr (omega (arith, front)))
 
--- the lines of a text that was read so ended the run
-pub run_stops : (quiet : Bool) (left left' t t' : Option (List ℕ)) (text : List ℕ) (ending : Ending) (j : List Entry) (r r' w w' : ℕ) (stop : Stop)
-    → left ≡ with_front text left' → ReadingEnds left' ending r r' → TextStops quiet text ending j t t' w w' stop → RunStops quiet left left' t t' r r' w w' j stop
-run_stops quiet left left' t t' text ending j r r' w w' (Refused n) read ends s = run_refused quiet left left' t t' text ending j n r r' read ends s
-run_stops quiet left left' t t' text ending j r r' w w' ReadFault read ends s = run_unread quiet left left' t t' text ending j r r' read ends s
-run_stops quiet left left' t t' text ending j r r' w w' WriteFault read ends s = run_unwritten quiet left left' t t' text ending j r r' w w' read ends s
-run_stops quiet left left' t t' text ending j r r' w w' Memory read ends s = run_lost quiet left left' t t' text ending j r r' read ends s
+goes_looking : (a b : Lined) (mid left' : Option (List ℕ)) (r : Result Bool LineStop) (l : Looks a b mid left' r) → Goes a l.got mid left'
+goes_looking a b mid left' r l = record {
+  read = l.read;
+  nothing = λ over. elim l.wanted [ inl is ↦ is | inr some ↦ absurd (let no : true ≡ false = sym over ∙ some.0 in absurd cc) ];
+}
+
+-- it is one too many
+pub too_many : (quiet : Bool) (left mid left' : Option (List ℕ)) (a m : Lined) (j : Benched) (n : ℕ) (t t1 : Option (List ℕ))
+    → Progress quiet left mid a j n t t1 → most_lines < n → Looks a m mid left' (Ok true) → RunRefused quiet left t t1 j.journal n
+too_many quiet left mid left' a m j n t t1 p many look =
+    refused_by_size quiet left mid left' a j n t t1 look.got [] (a.held ++ look.got) p (goes_looking a m mid left' (Ok true) look)
+    look.found.0 refl (λ k small. absurd (omega arith)) (inl many)
+
+-- What was read behind the lines of a text isn't more than one call gives.
+pub looks_in_time : (quiet : Bool) (left mid left' : Option (List ℕ)) (a m : Lined) (j : Benched) (n : ℕ) (t t1 : Option (List ℕ)) (r : Result Bool LineStop)
+    → Progress quiet left mid a j n t t1 → Looks a m mid left' r → ReadsInTime left left'
+looks_in_time quiet left mid left' a m j n t t1 r p look = elim look.wanted [
+  | inl none ↦ (
+      let same : mid ≡ left' = look.read ∙ ap (λ g. with_front g left') none ∙ with_front-nil left' in
+      subst (λ o. ReadsInTime left o) same p.time)
+  | inr (going, none, size) ↦ (
+      let lines : lines_of p.text ≡ p.done =
+      ap lines_of (sym (append-nil p.text)) ∙ p.lines [] (λ _. refl) ∙ ap (λ x. p.done ++ lines_of (x ++ [])) none ∙ append-nil p.done in
+      record {
+        front = p.text;
+        chunk = look.got;
+        read = read_on left mid left' p.text look.got p.read look.read;
+        short = subst (λ ls. AreWithinLimits ls) (sym lines) p.obeyed.obeyed.limits;
+        size = size;
+      })
+]
+
+-- nothing is held or left: every line is obeyed
+told_all : (left left' : Option (List ℕ)) (text : List ℕ) → left ≡ with_front text left' → IfSome left' (λ rest. rest ≡ []) → IfSome left (λ bytes. (text ≡ bytes) × (left' ≡ Some []))
+told_all left None text read none =
+    let nothing : Option (List ℕ) = None in
+    let P : Option (List ℕ) → Type 0 = λ o. IfSome o (λ bytes. (text ≡ bytes) × (nothing ≡ Some [])) in
+    subst P (sym read) tt
+told_all left (Some rest) text read none =
+    let P : Option (List ℕ) → Type 0 = λ o. IfSome o (λ bytes. (text ≡ bytes) × (Some rest ≡ Some [])) in
+    subst P (sym read) (sym (ap (λ x. text ++ x) none ∙ append-nil text), ap Some none)
+
+all_done : (quiet : Bool) (left mid left' : Option (List ℕ)) (a : Lined) (j : Benched) (n : ℕ) (t t1 : Option (List ℕ)) (got : List ℕ)
+    → Progress quiet left mid a j n t t1 → Goes a got mid left' → a.held ++ got ≡ [] → IfSome left' (λ rest. rest ≡ []) → EndsDone quiet left left' t t1 j.journal
+all_done quiet left mid left' a j n t t1 got p on nothing ended =
+    let L : List (List ℕ) → Type 0 = λ ls. AreObeyed ls j.journal in
+    let lines : lines_of (p.text ++ got) ≡ p.done =
+    ap lines_of (sym (append-nil (p.text ++ got))) ∙ lines_on quiet left mid left' a j n t t1 got p on [] (λ _. refl) ∙ ap (λ x. p.done ++ lines_of (x ++ [])) nothing ∙ append-nil p.done in
+    record {
+      lines = record {
+        input = p.text ++ got;
+        told = told_all left left' (p.text ++ got) (read_on left mid left' p.text got p.read on.read) ended;
+        obeyed = subst L (sym lines) p.obeyed.obeyed;
+      };
+      written = p.written;
+    }
+
+-- at the end no byte is left, whether it is known from before or not
+ended_now : (a : Lined) (got : List ℕ) (mid left' : Option (List ℕ)) → Goes a got mid left' → (a.is_ended ≡ true → IfSome mid (λ rest. rest ≡ []))
+    → (a.is_ended ≡ false → IfSome left' (λ rest. rest ≡ [])) → IfSome left' (λ rest. rest ≡ [])
+ended_now a got mid left' on before now = elim (cases_Bool a.is_ended) [
+  | inl over ↦ ended_on a got mid left' on before over
+  | inr going ↦ now going
+]
+
+pub done_at_end : (quiet : Bool) (left mid left' : Option (List ℕ)) (a m : Lined) (j : Benched) (n : ℕ) (t t1 : Option (List ℕ))
+    → Progress quiet left mid a j n t t1 → Advances a m mid left' (Ok false) → EndsDone quiet left left' t t1 j.journal
+done_at_end quiet left mid left' a m j n t t1 p adv =
+    let got : List ℕ = adv.fetched.got in
+    let on : Goes a got mid left' = goes a adv.text mid left' adv.fetched in
+    let over : m.is_ended ≡ true = ap (λ (v : Lined). v.is_ended) adv.came.1 in
+    all_done quiet left mid left' a j n t t1 got p on (sym adv.fetched.parts ∙ adv.came.0) (ended_now a got mid left' on p.ended (λ going. adv.ended going over))
+
+pub done_at_limit : (quiet : Bool) (left mid left' : Option (List ℕ)) (a m : Lined) (j : Benched) (n : ℕ) (t t1 : Option (List ℕ))
+    → Progress quiet left mid a j n t t1 → Looks a m mid left' (Ok false) → EndsDone quiet left left' t t1 j.journal
+done_at_limit quiet left mid left' a m j n t t1 p look =
+    let on : Goes a look.got mid left' = goes_looking a m mid left' (Ok false) look in
+    let over : m.is_ended ≡ true = ap (λ (v : Lined). v.is_ended) look.found.1 in
+    all_done quiet left mid left' a j n t t1 look.got p on look.found.0 (ended_now a look.got mid left' on p.ended (λ going. look.ended going over))
+
+-- the source failed, behind no whole line that isn't obeyed
+unread : (quiet : Bool) (left mid left' : Option (List ℕ)) (a : Lined) (j : Benched) (n : ℕ) (t t1 : Option (List ℕ)) (r r' : ℕ) (got : List ℕ)
+    → Progress quiet left mid a j n t t1 → Goes a got mid left' → a.is_ended ≡ false → NoLf (a.held ++ got) → HasRisen r r' → RunUnread quiet left left' t t1 r r' j.journal
+unread quiet left mid left' a j n t t1 r r' got p on going none risen =
+    let L : List (List ℕ) → Type 0 = λ ls. AreObeyed ls j.journal in
+    let whole : whole_lines (p.text ++ got) ≡ p.done =
+    ap whole_lines (sym (append-nil (p.text ++ got))) ∙ whole_on quiet left mid a j n t t1 got p [] going ∙ ap (λ x. p.done ++ whole_lines x) (append-nil (a.held ++ got))
+    ∙ ap (λ x. p.done ++ x) (whole_last (a.held ++ got) none) ∙ append-nil p.done in
+    record {
+      risen = risen;
+      lines = record { read = p.text ++ got; told = read_on left mid left' p.text got p.read on.read; obeyed = subst L (sym whole) p.obeyed.obeyed };
+      written = p.written;
+    }
+
+pub unread_next : (quiet : Bool) (left mid left' : Option (List ℕ)) (a m : Lined) (j : Benched) (n : ℕ) (t t1 : Option (List ℕ)) (r r' : ℕ)
+    → Progress quiet left mid a j n t t1 → Advances a m mid left' (Err ends.ReadFault) → HasRisen r r' → RunUnread quiet left left' t t1 r r' j.journal
+unread_next quiet left mid left' a m j n t t1 r r' p adv risen =
+    unread quiet left mid left' a j n t t1 r r' adv.fetched.got p (goes a adv.text mid left' adv.fetched) adv.came.0 (subst NoLf adv.fetched.parts adv.came.2) risen
+
+pub unread_at_limit : (quiet : Bool) (left mid left' : Option (List ℕ)) (a m : Lined) (j : Benched) (n : ℕ) (t t1 : Option (List ℕ)) (r r' : ℕ)
+    → Progress quiet left mid a j n t t1 → Looks a m mid left' (Err ends.ReadFault) → HasRisen r r' → RunUnread quiet left left' t t1 r r' j.journal
+unread_at_limit quiet left mid left' a m j n t t1 r r' p look risen =
+    let empty : NoLf [] = λ k small. absurd (omega arith) in
+    unread quiet left mid left' a j n t t1 r r' look.got p (goes_looking a m mid left' (Err ends.ReadFault) look) look.found.0 (subst NoLf (sym look.found.1) empty) risen
+
+-- The next line was given, and tried.
+
+-- it is refused as it stands
+refused_line : (quiet : Bool) (left left' : Option (List ℕ)) (done : List (List ℕ)) (m : Lined) (j new : Benched) (n k : ℕ) (t t1 t2 : Option (List ℕ))
+    → (o : ObeyedBy done j) → n ≡ 1 + length done → t1 ≡ with_end t (report_text quiet j.journal) → GaveNext left left' done m → LineRefused j new n k m.line t1 t2
+    → RunRefused quiet left t t2 new.journal k
+refused_line quiet left left' done m j new n k t t1 t2 o number written next s =
+    let P : Benched → Type 0 = λ x. RunRefused quiet left t t2 x.journal k in
+    let by = goes_on_by left left' next.text m.is_ended next.read next.ended in
+    let it : P j = record {
+      lines = record {
+        input = next.text ++ by.more;
+        told = by.told;
+        first = record {
+          before = done;
+          line = m.line;
+          after = lines_of (m.held ++ by.more);
+          parts = next.lines by.more by.follows;
+          commands = (done_taken done j o).commands;
+          taken = (done_taken done j o).taken;
+          obeyed = o.obeyed;
+          number = s.number ∙ number;
+          refused = inr (inr (λ is. s.refused (taken_there done j o m.line is)));
+        };
+      };
+      written = s.same ∙ written;
+    } in
+    subst P (sym s.stays) it
+
+-- the line is obeyed too
+front_with : (left left' : Option (List ℕ)) (done : List (List ℕ)) (m : Lined) (j new : Benched) (n : ℕ)
+    → ObeyedBy done j → n ≡ 1 + length done → GaveNext left left' done m → n ≤ most_lines → Follows j new n m.line → ObeysFront left new.journal
+front_with left left' done m j new n o number next few line =
+    let by = goes_on_by left left' next.text m.is_ended next.read next.ended in
+    record {
+      input = next.text ++ by.more;
+      told = by.told;
+      obeyed = record {
+        front = done ++ m.line ∷ [];
+        rest = lines_of (m.held ++ by.more);
+        parts = next.lines by.more by.follows ∙ sym (append_assoc done (m.line ∷ []) (lines_of (m.held ++ by.more)));
+        obeyed = (obeyed_more done j new m.line n o line number few next.short).obeyed;
+      };
+    }
+
+-- it isn't
+front_without : (left left' : Option (List ℕ)) (done : List (List ℕ)) (m : Lined) (j : Benched) (journal : List Entry)
+    → ObeyedBy done j → GaveNext left left' done m → journal ≡ j.journal → ObeysFront left journal
+front_without left left' done m j journal o next same =
+    let by = goes_on_by left left' next.text m.is_ended next.read next.ended in
+    let O : List Entry → Type 0 = λ js. AreObeyed done js in
+    record {
+      input = next.text ++ by.more;
+      told = by.told;
+      obeyed = record { front = done; rest = m.line ∷ lines_of (m.held ++ by.more); parts = next.lines by.more by.follows; obeyed = subst O (sym same) o.obeyed };
+    }
+
+cut_line : (quiet : Bool) (left left' : Option (List ℕ)) (done : List (List ℕ)) (m : Lined) (j new : Benched) (n : ℕ) (t t1 t2 : Option (List ℕ)) (w w1 w2 : ℕ)
+    → ObeyedBy done j → n ≡ 1 + length done → t1 ≡ with_end t (report_text quiet j.journal) → GaveNext left left' done m → n ≤ most_lines → w ≤ w1 → LineCut quiet j new n m.line t1 t2 w1 w2
+    → EndsUnwritten quiet left t t2 w w2 new.journal
+cut_line quiet left left' done m j new n t t1 t2 w w1 w2 o number written next few count s =
+    let G : Option (List ℕ) → Type 0 = λ x. GainsFront x t2 (entry_text quiet s.entry) in
+    record {
+      risen = rises_at_last w w1 w2 count s.risen;
+      lines = front_with left left' done m j new n o number next few s.follows;
+      before = j.journal;
+      last = s.entry;
+      entries = s.follows.added ∙ ap (λ es. j.journal ++ es) s.one;
+      written = subst G written s.written;
+    }
+
+lost_line : (quiet : Bool) (left left' : Option (List ℕ)) (done : List (List ℕ)) (m : Lined) (j new : Benched) (n : ℕ) (t t1 t2 : Option (List ℕ))
+    → ObeyedBy done j → n ≡ 1 + length done → t1 ≡ with_end t (report_text quiet j.journal) → GaveNext left left' done m → n ≤ most_lines → LineLost j new n m.line t1 t2
+    → RunLost quiet left t t2 new.journal
+lost_line quiet left left' done m j new n t t1 t2 o number written next few s = record {
+  lines = elim s.journal [
+    | inl same ↦ front_without left left' done m j new.journal o next same
+    | inr made ↦ front_with left left' done m j new n o number next few made.0
+  ];
+  most = record {
+    entries = j.journal;
+    most = elim s.journal as (λ _. (new.journal ≡ j.journal) ⊎ ((e : Entry) × (new.journal ≡ j.journal ++ e ∷ []))) [ inl same ↦ inl same | inr made ↦ inr (made.1, made.0.added ∙ ap (λ es. j.journal ++ es) made.2) ];
+    written = s.same ∙ written;
+  };
+}
+
+-- a line that was tried ended the run
+pub line_stops : (quiet : Bool) (left left' : Option (List ℕ)) (done : List (List ℕ)) (m : Lined) (j new : Benched) (n : ℕ) (t t1 t2 : Option (List ℕ)) (r r' w w1 w2 : ℕ) (stop : Stop)
+    → ObeyedBy done j → n ≡ 1 + length done → t1 ≡ with_end t (report_text quiet j.journal) → GaveNext left left' done m → n ≤ most_lines → w ≤ w1 → LineStops quiet j new n m.line t1 t2 w1 w2 stop
+    → RunStops quiet left left' t t2 r r' w w2 new.journal stop
+line_stops quiet left left' done m j new n t t1 t2 r r' w w1 w2 (Refused k) o number written next few count s = refused_line quiet left left' done m j new n k t t1 t2 o number written next s
+line_stops quiet left left' done m j new n t t1 t2 r r' w w1 w2 ReadFault o number written next few count s = absurd s
+line_stops quiet left left' done m j new n t t1 t2 r r' w w1 w2 WriteFault o number written next few count s = cut_line quiet left left' done m j new n t t1 t2 w w1 w2 o number written next few count s
+line_stops quiet left left' done m j new n t t1 t2 r r' w w1 w2 Memory o number written next few count s = lost_line quiet left left' done m j new n t t1 t2 o number written next few s
 
 -- memory was wanting before a line was obeyed
 pub lost_at_once : (quiet : Bool) (left t : Option (List ℕ)) (j : List Entry) → j ≡ [] → RunLost quiet left t t j

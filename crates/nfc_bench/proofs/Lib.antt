@@ -1,5 +1,4 @@
 pub mod Limits
-pub mod Chunks
 pub mod ScriptText
 pub mod Journals
 pub mod Progress

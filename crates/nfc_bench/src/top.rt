@@ -1,19 +1,17 @@
 //! The top call: a run, from the bytes of a script to the bytes of its report.
 
-ghost use Rattle.std.specs.Prelude.{map, string_bytes, ◌⊎◌, ◌≡◌, ◌+◌, ◌<◌, ◌≤◌, ◌++◌, [], ℕ, List, length, Some, OnOk, IfErr};
+ghost use Rattle.std.specs.Prelude.{map, string_bytes, ◌⊎◌, ◌≡◌, ◌+◌, ◌<◌, ◌≤◌, ◌++◌, [], ℕ, List, length, Some};
 ghost use Rattle.std.specs.Fmt.{decimal};
 ghost use Rattle.nfc_io.specs.Counts.{HasRisen};
 ghost use Rattle.nfc_io.specs.Lines.{lines_of};
 ghost use Rattle.nfc_bench.specs.Limits.{most_read};
 ghost use Rattle.nfc_bench.specs.Run.{Ran, sees, line_fault, AllTaken, AddsFault, Leaves, EndsDone, EndsRefused, EndsUnread, EndsUnwritten, EndsMemory, ReadsInTime, ReadsAtMost};
-ghost use Rattle.nfc_bench.specs.Stops.{RunStops, LeavesUnless};
 ghost use Rattle.bench_world.specs.Obeying.{new_bench};
 
 #[cfg(test)]
 mod card_tests;
 #[cfg(test)]
 mod crowd_tests;
-mod input;
 mod lines;
 pub mod program;
 #[cfg(test)]
@@ -30,8 +28,7 @@ mod write_tests;
 
 use arrayvec::ArrayVec;
 use bench_world::Bench;
-use input::read_script;
-use lines::{Stop, obey_lines};
+use lines::{Stop, run_script};
 use nfc_io::{Sink, Source, write_all};
 use std::alloc::Global;
 use words::{Form, form_of};
@@ -108,34 +105,6 @@ fn run_and_tell<S: Source, K: Sink>(
             5
         }
     }
-}
-
-/// Reads a script, and obeys its lines.
-fn run_script<S: Source, K: Sink>(
-    alloc: Global,
-    quiet: bool,
-    source: &mut S,
-    sink: &mut K,
-    bench: &mut Bench,
-) -> Result<(), Stop>
-    requires { bench.old ≡ new_bench }
-    ensures ok { OnOk result (EndsDone quiet (S.left source.old) (S.left source.new) (K.taken sink.old)
-        (K.taken sink.new) bench.new.journal) }
-    ensures still { OnOk result ((S.faults source.new ≡ S.faults source.old)
-        × (K.faults sink.new ≡ K.faults sink.old)) }
-    ensures err { IfErr result
-        (λ s. RunStops quiet (S.left source.old) (S.left source.new) (K.taken sink.old) (K.taken sink.new)
-        (S.faults source.old) (S.faults source.new) (K.faults sink.old) (K.faults sink.new) bench.new.journal s) }
-    ensures machines { LeavesUnless result bench.new }
-    ensures stop { ReadsInTime (S.left source.old) (S.left source.new) }
-    ensures bound { ReadsAtMost most_read (S.left source.old) (S.left source.new) }
-    ensures reads { S.faults source.old ≤ S.faults source.new }
-    ensures writes { K.faults sink.old ≤ K.faults sink.new }
-{
-    let Ok(script) = read_script(alloc, source) else {
-        return Err(Stop::Memory);
-    };
-    obey_lines(alloc, quiet, &script, sink, bench)
 }
 
 /// Writes a fault line, as far as the sink takes it.

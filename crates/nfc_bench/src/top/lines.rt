@@ -1,14 +1,17 @@
-//! Obeying the lines of a script.
+//! Reading and obeying the lines of a script.
 
-ghost use Rattle.std.specs.Prelude.{◌≡◌, ◌<◌, ◌≤◌, [], length, OnOk, IfOk, IfErr};
-ghost use Rattle.nfc_bench.specs.Stops.{IsLastText, ReadIs, LineDone, LineStops, TextDone, TextStops, LeavesUnless};
+ghost use Rattle.std.specs.Prelude.{◌≡◌, ◌<◌, ◌≤◌, length, OnOk, IfOk, IfErr};
+ghost use Rattle.nfc_bench.specs.Run.{EndsDone, ReadsInTime};
+ghost use Rattle.nfc_bench.specs.Stops.{IsLastText, LineDone, LineStops, RunStops, LeavesUnless};
 ghost use Rattle.bench_world.specs.Obeying.{new_bench};
 
-use super::input::{Ending, Script};
 use bench_script::{Command, LineFault, parse_line};
 use bench_world::{Bench, ObeyFault, render};
-use nfc_io::{Sink, write_all};
+use nfc_io::{LineReader, LineStop, Sink, Source, write_all};
 use std::alloc::{AllocError, Global};
+
+/// How many lines a script may have.
+const MOST_LINES: u32 = 1000;
 
 /// Why a run stopped before its end.
 #[derive(Clone, Copy, Debug, PartialEq, Eq)]
@@ -67,40 +70,48 @@ fn obey_line<K: Sink>(
     }
 }
 
-/// Obeys the lines of a script one by one. Behind a fault of the source, a last line without its LF isn't whole.
-pub fn obey_lines<K: Sink>(
+/// Reads a script line by line, and obeys each line and writes its entry before the next is read. Behind a fault of the
+/// source, a last line without its LF isn't whole; a line past the most that may be is refused by its first byte.
+pub fn run_script<S: Source, K: Sink>(
     alloc: Global,
     quiet: bool,
-    script: &Script,
+    source: &mut S,
     sink: &mut K,
     bench: &mut Bench,
 ) -> Result<(), Stop>
-    requires empty { bench.old ≡ new_bench }
-    requires lines { ReadIs script.now.text.items script.now.lengths.items script.now.ending }
-    ensures ok { OnOk result (TextDone quiet script.now.text.items script.now.ending bench.new.journal
-        (K.taken sink.old) (K.taken sink.new)) }
+    requires { bench.old ≡ new_bench }
+    ensures ok { OnOk result (EndsDone quiet (S.left source.old) (S.left source.new) (K.taken sink.old)
+        (K.taken sink.new) bench.new.journal) }
+    ensures still { OnOk result ((S.faults source.new ≡ S.faults source.old)
+        × (K.faults sink.new ≡ K.faults sink.old)) }
     ensures err { IfErr result
-        (λ s. TextStops quiet script.now.text.items script.now.ending bench.new.journal (K.taken sink.old)
-        (K.taken sink.new) (K.faults sink.old) (K.faults sink.new) s) }
+        (λ s. RunStops quiet (S.left source.old) (S.left source.new) (K.taken sink.old) (K.taken sink.new)
+        (S.faults source.old) (S.faults source.new) (K.faults sink.old) (K.faults sink.new) bench.new.journal s) }
     ensures machines { LeavesUnless result bench.new }
-    ensures still { OnOk result (K.faults sink.new ≡ K.faults sink.old) }
-    ensures count { K.faults sink.old ≤ K.faults sink.new }
+    ensures stop { ReadsInTime (S.left source.old) (S.left source.new) }
+    ensures reads { S.faults source.old ≤ S.faults source.new }
+    ensures writes { K.faults sink.old ≤ K.faults sink.new }
 {
-    let mut rest = script.text.as_slice();
+    let Ok(mut reader) = LineReader::new(alloc) else {
+        return Err(Stop::Memory);
+    };
     let mut line: u32 = 1;
-    'lines: for length in script.lengths.as_slice() {
-        let (first, behind) = rest.split_at(*length);
-        match obey_line(alloc, quiet, line, first, sink, bench) {
+    'lines: while line <= MOST_LINES {
+        match reader.advance(source) {
+            Ok(true) => {}
+            Ok(false) => return Ok(()),
+            Err(LineStop::ReadFault) => return Err(Stop::ReadFault),
+            Err(LineStop::TooLong) => return Err(Stop::Refused(line)),
+        }
+        match obey_line(alloc, quiet, line, reader.line(), sink, bench) {
             Ok(()) => {}
             Err(stop) => return Err(stop),
         }
-        rest = behind.split_at(1).1;
         line += 1;
     }
-    match script.ending {
-        Ending::End if rest.is_empty() => Ok(()),
-        Ending::End => obey_line(alloc, quiet, line, rest, sink, bench),
-        Ending::Fault => Err(Stop::ReadFault),
-        Ending::Enough => Err(Stop::Refused(line)),
+    match reader.follows(source) {
+        Ok(false) => Ok(()),
+        Ok(true) => Err(Stop::Refused(line)),
+        Err(_) => Err(Stop::ReadFault),
     }
 }

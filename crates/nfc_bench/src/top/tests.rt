@@ -279,7 +279,7 @@ fn lengths_of_lines(rt: HostRuntime) -> Result<(), Fail> {
             "\n",
             2,
             "fault 2 line 1\n",
-            0,
+            1,
         ),
         (
             "no more is read than that line",

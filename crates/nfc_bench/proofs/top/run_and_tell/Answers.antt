@@ -2,6 +2,7 @@ use Rattle.std.proofs.Common.{ℕ, List, Option, ◌∙◌, subst}
 use Rattle.nfc_bench.specs.declared.top.lines.Stop.{Stop}
 use Rattle.nfc_bench.specs.declared.top.lines.Stop.TheVariants.{Refused, ReadFault}
 use Rattle.nfc_bench.specs.Stops.{RunStops}
+use Rattle.nfc_bench.proofs.ScriptText.{reads_at_most}
 use Rattle.nfc_bench.proofs.Endings.{ends_refused, ends_unread, taken_not_refused}
 use Rattle.nfc_bench.proofs.top.run_and_tell.Goals as goal
 
@@ -43,3 +44,18 @@ returns-in-Err-ReadFault-clause-unread g c = λ _.
     let P : Stop → Type 0 = λ s. RunStops c.args.quiet left left' t t1 r r' w w1 c.run_script.new.bench.journal s in
     let s : P ReadFault = subst P c.in-Err-ReadFault.field-0-is c.in-Err-ReadFault.ensures.err in
     (ends_unread c.args.quiet left left' t t1 t2 r r' w w1 w2 c.run_script.new.bench.journal s c.run_script.ensures.writes c.write_fault-in-Err-ReadFault.ensures.told)
+
+pub returns-in-Ok-clause-bound : goal.returns-in-Ok-clause-bound
+returns-in-Ok-clause-bound g c = reads_at_most (g.S.Source.left c.args.source.now) (g.S.Source.left c.run_script.new.source) c.run_script.ensures.stop
+
+pub returns-in-Err-Refused-clause-bound : goal.returns-in-Err-Refused-clause-bound
+returns-in-Err-Refused-clause-bound g c = reads_at_most (g.S.Source.left c.args.source.now) (g.S.Source.left c.run_script.new.source) c.run_script.ensures.stop
+
+pub returns-in-Err-ReadFault-clause-bound : goal.returns-in-Err-ReadFault-clause-bound
+returns-in-Err-ReadFault-clause-bound g c = reads_at_most (g.S.Source.left c.args.source.now) (g.S.Source.left c.run_script.new.source) c.run_script.ensures.stop
+
+pub returns-in-Err-WriteFault-clause-bound : goal.returns-in-Err-WriteFault-clause-bound
+returns-in-Err-WriteFault-clause-bound g c = reads_at_most (g.S.Source.left c.args.source.now) (g.S.Source.left c.run_script.new.source) c.run_script.ensures.stop
+
+pub returns-in-Err-Memory-clause-bound : goal.returns-in-Err-Memory-clause-bound
+returns-in-Err-Memory-clause-bound g c = reads_at_most (g.S.Source.left c.args.source.now) (g.S.Source.left c.run_script.new.source) c.run_script.ensures.stop

@@ -1,0 +1,150 @@
+use Rattle.std.proofs.Common.{◌≡◌, ◌≤◌, ◌<◌, ◌+◌, ℕ, List, Option, None, true, Ok, Err, refl, sym, ◌∙◌, ap, subst, arith}
+use Rattle.nfc_io.specs.Counts.{HasRisen}
+use Rattle.nfc_io.specs.Reading.{Lined, new_lined, Advances, Looks}
+use Rattle.nfc_io.specs.declared.line_reader.LineStop.{LineStop}
+use Rattle.nfc_io.specs.declared.line_reader.LineStop.TheVariants.{ReadFault, TooLong}
+use Rattle.bench_world.specs.Obeying.{Benched}
+use Rattle.nfc_bench.specs.Stops.{LineDone, LineStops}
+use Rattle.nfc_bench.proofs.ScriptText.{stops_at_once}
+use Rattle.nfc_bench.proofs.Progress.{GaveNext, progress_start, progress_more, gave_next, in_time, line_leaves}
+use Rattle.nfc_bench.proofs.Endings.{lost_at_once, unread_next, too_long, too_many, looks_in_time, line_stops}
+use Rattle.nfc_bench.proofs.top.lines.run_script.Goals as goal
+
+pub returns-in_default-clause-err : goal.returns-in_default-clause-err
+returns-in_default-clause-err g c =
+    lost_at_once c.args.quiet (g.S.Source.left c.args.source.now) (g.K.Sink.taken c.args.sink.now) c.args.bench.now.journal (ap (λ (b : Benched). b.journal) c.requires)
+
+pub returns-in_default-clause-stop : goal.returns-in_default-clause-stop
+returns-in_default-clause-stop g c = stops_at_once (g.S.Source.left c.args.source.now)
+
+pub lines-init : goal.lines-init
+lines-init g c =
+    let new : c.in-Ok.reader ≡ new_lined = c.in-Ok.ensures in
+    record {
+      progress = progress_start c.args.quiet (g.S.Source.left c.args.source.now) (g.K.Sink.taken c.args.sink.now) c.in-Ok.reader c.args.bench.now new c.requires;
+      going = ap (λ (r : Lined). r.stop) new;
+      few = omega arith;
+      reads = refl;
+      writes = refl;
+    }
+
+pub returns-in-Err-ReadFault-clause-err : goal.returns-in-Err-ReadFault-clause-err
+returns-in-Err-ReadFault-clause-err g c =
+    let left : Option (List ℕ) = g.S.Source.left c.args.source.now in
+    let mid : Option (List ℕ) = g.S.Source.left c.lines.source in
+    let left' : Option (List ℕ) = g.S.Source.left c.advance.new.source in
+    let r' : ℕ = g.S.Source.faults c.advance.new.source in
+    let P : LineStop → Type 0 = λ s. Advances c.lines.reader c.advance.new.self mid left' (Err s) in
+    let adv : P ReadFault = subst P c.in-Err-ReadFault.field-0-is (c.in-Err-ReadFault.ensures.next c.lines.invariant.going) in
+    let risen : HasRisen (g.S.Source.faults c.lines.source) r' = c.in-Err-ReadFault.ensures.cause c.lines.invariant.going (ap Err c.in-Err-ReadFault.field-0-is) in
+    unread_next c.args.quiet left mid left' c.lines.reader c.advance.new.self c.lines.bench c.lines.line (g.K.Sink.taken c.args.sink.now) (g.K.Sink.taken c.lines.sink)
+    (g.S.Source.faults c.args.source.now) r' c.lines.invariant.progress adv (subst (λ n. HasRisen n r') c.lines.invariant.reads risen)
+
+pub returns-in-Err-ReadFault-clause-stop : goal.returns-in-Err-ReadFault-clause-stop
+returns-in-Err-ReadFault-clause-stop g c =
+    let adv = c.in-Err-ReadFault.ensures.next c.lines.invariant.going in
+    in_time c.args.quiet (g.S.Source.left c.args.source.now) (g.S.Source.left c.lines.source) (g.S.Source.left c.advance.new.source) c.lines.reader c.lines.bench c.lines.line
+    (g.K.Sink.taken c.args.sink.now) (g.K.Sink.taken c.lines.sink) adv.text c.lines.invariant.progress (omega (arith, c.lines-test.true)) adv.fetched
+
+pub returns-in-Err-TooLong-clause-err : goal.returns-in-Err-TooLong-clause-err
+returns-in-Err-TooLong-clause-err g c =
+    let left : Option (List ℕ) = g.S.Source.left c.args.source.now in
+    let mid : Option (List ℕ) = g.S.Source.left c.lines.source in
+    let left' : Option (List ℕ) = g.S.Source.left c.advance.new.source in
+    let P : LineStop → Type 0 = λ s. Advances c.lines.reader c.advance.new.self mid left' (Err s) in
+    let adv : P TooLong = subst P c.in-Err-TooLong.field-0-is (c.in-Err-TooLong.ensures.next c.lines.invariant.going) in
+    too_long c.args.quiet left mid left' c.lines.reader c.advance.new.self c.lines.bench c.lines.line (g.K.Sink.taken c.args.sink.now) (g.K.Sink.taken c.lines.sink) c.lines.invariant.progress adv
+
+pub returns-in-Err-TooLong-clause-stop : goal.returns-in-Err-TooLong-clause-stop
+returns-in-Err-TooLong-clause-stop g c =
+    let adv = c.in-Err-TooLong.ensures.next c.lines.invariant.going in
+    in_time c.args.quiet (g.S.Source.left c.args.source.now) (g.S.Source.left c.lines.source) (g.S.Source.left c.advance.new.source) c.lines.reader c.lines.bench c.lines.line
+    (g.K.Sink.taken c.args.sink.now) (g.K.Sink.taken c.lines.sink) adv.text c.lines.invariant.progress (omega (arith, c.lines-test.true)) adv.fetched
+
+pub returns-in-Err-clause-err : goal.returns-in-Err-clause-err
+returns-in-Err-clause-err g c =
+    let left : Option (List ℕ) = g.S.Source.left c.args.source.now in
+    let mid : Option (List ℕ) = g.S.Source.left c.lines.source in
+    let left' : Option (List ℕ) = g.S.Source.left c.advance.new.source in
+    let t : Option (List ℕ) = g.K.Sink.taken c.args.sink.now in
+    let t1 : Option (List ℕ) = g.K.Sink.taken c.lines.sink in
+    let t2 : Option (List ℕ) = g.K.Sink.taken c.obey_line.new.sink in
+    let w : ℕ = g.K.Sink.faults c.args.sink.now in
+    let w1 : ℕ = g.K.Sink.faults c.lines.sink in
+    let w2 : ℕ = g.K.Sink.faults c.obey_line.new.sink in
+    let m : Lined = c.advance.new.self in
+    let few : c.lines.line ≤ 1000 = omega (arith, c.lines-test.true) in
+    let p = c.lines.invariant.progress in
+    let is : c.in-Ok-true.field-0 ≡ true = cc in
+    let adv : Advances c.lines.reader m mid left' (Ok true) = subst (λ b. Advances c.lines.reader m mid left' (Ok b)) is (c.in-Ok-true.ensures.next c.lines.invariant.going) in
+    let next : GaveNext left left' p.done m = gave_next c.args.quiet left mid left' c.lines.reader m c.lines.bench c.lines.line t t1 p few adv in
+    let L : List ℕ → Type 0 = λ l. LineStops c.args.quiet c.lines.bench c.obey_line.new.bench c.lines.line l t1 t2 w1 w2 c.in-Err.stop in
+    let stops : L m.line = subst L c.line.ensures c.in-Err.ensures.err in
+    line_stops c.args.quiet left left' p.done m c.lines.bench c.obey_line.new.bench c.lines.line t t1 t2 (g.S.Source.faults c.args.source.now) (g.S.Source.faults c.advance.new.source) w w1 w2 c.in-Err.stop
+    p.obeyed p.number p.written next few (omega (arith, c.lines.invariant.writes)) stops
+
+pub returns-in-Err-clause-machines : goal.returns-in-Err-clause-machines
+returns-in-Err-clause-machines g c =
+    let left : Option (List ℕ) = g.S.Source.left c.args.source.now in
+    let mid : Option (List ℕ) = g.S.Source.left c.lines.source in
+    let left' : Option (List ℕ) = g.S.Source.left c.advance.new.source in
+    let t : Option (List ℕ) = g.K.Sink.taken c.args.sink.now in
+    let t1 : Option (List ℕ) = g.K.Sink.taken c.lines.sink in
+    let t2 : Option (List ℕ) = g.K.Sink.taken c.obey_line.new.sink in
+    let w1 : ℕ = g.K.Sink.faults c.lines.sink in
+    let w2 : ℕ = g.K.Sink.faults c.obey_line.new.sink in
+    let m : Lined = c.advance.new.self in
+    let few : c.lines.line ≤ 1000 = omega (arith, c.lines-test.true) in
+    let p = c.lines.invariant.progress in
+    let is : c.in-Ok-true.field-0 ≡ true = cc in
+    let adv : Advances c.lines.reader m mid left' (Ok true) = subst (λ b. Advances c.lines.reader m mid left' (Ok b)) is (c.in-Ok-true.ensures.next c.lines.invariant.going) in
+    let next : GaveNext left left' p.done m = gave_next c.args.quiet left mid left' c.lines.reader m c.lines.bench c.lines.line t t1 p few adv in
+    let L : List ℕ → Type 0 = λ l. LineStops c.args.quiet c.lines.bench c.obey_line.new.bench c.lines.line l t1 t2 w1 w2 c.in-Err.stop in
+    let stops : L m.line = subst L c.line.ensures c.in-Err.ensures.err in
+    line_leaves c.args.quiet p.done c.lines.bench c.obey_line.new.bench c.lines.line m.line t1 t2 w1 w2 c.in-Err.stop p.obeyed p.number few next.short stops
+
+pub returns-in-Err-clause-stop : goal.returns-in-Err-clause-stop
+returns-in-Err-clause-stop g c =
+    let adv = c.in-Ok-true.ensures.next c.lines.invariant.going in
+    in_time c.args.quiet (g.S.Source.left c.args.source.now) (g.S.Source.left c.lines.source) (g.S.Source.left c.advance.new.source) c.lines.reader c.lines.bench c.lines.line
+    (g.K.Sink.taken c.args.sink.now) (g.K.Sink.taken c.lines.sink) adv.text c.lines.invariant.progress (omega (arith, c.lines-test.true)) adv.fetched
+
+pub lines-preserved : goal.lines-preserved
+lines-preserved g c =
+    let left : Option (List ℕ) = g.S.Source.left c.args.source.now in
+    let mid : Option (List ℕ) = g.S.Source.left c.lines.source in
+    let left' : Option (List ℕ) = g.S.Source.left c.advance.new.source in
+    let t : Option (List ℕ) = g.K.Sink.taken c.args.sink.now in
+    let t1 : Option (List ℕ) = g.K.Sink.taken c.lines.sink in
+    let t2 : Option (List ℕ) = g.K.Sink.taken c.obey_line.new.sink in
+    let m : Lined = c.advance.new.self in
+    let few : c.lines.line ≤ 1000 = omega (arith, c.lines-test.true) in
+    let p = c.lines.invariant.progress in
+    let is : c.in-Ok-true.field-0 ≡ true = cc in
+    let adv : Advances c.lines.reader m mid left' (Ok true) = subst (λ b. Advances c.lines.reader m mid left' (Ok b)) is (c.in-Ok-true.ensures.next c.lines.invariant.going) in
+    let next : GaveNext left left' p.done m = gave_next c.args.quiet left mid left' c.lines.reader m c.lines.bench c.lines.line t t1 p few adv in
+    let L : List ℕ → Type 0 = λ l. LineDone c.args.quiet c.lines.bench c.obey_line.new.bench c.lines.line l t1 t2 in
+    let line : L m.line = subst L c.line.ensures c.in-Ok-obey_line.ensures.ok in
+    let still : g.S.Source.faults c.advance.new.source ≡ g.S.Source.faults c.lines.source = c.in-Ok-true.ensures.still (λ e. absurd cc) in
+    record {
+      progress = progress_more c.args.quiet left left' m p.done c.lines.bench c.obey_line.new.bench c.lines.line t t1 t2 p.obeyed p.number p.written next few line;
+      going = adv.came.going;
+      few = omega (arith, few);
+      reads = still ∙ c.lines.invariant.reads;
+      writes = c.in-Ok-obey_line.ensures.still ∙ c.lines.invariant.writes;
+    }
+
+pub returns-in-Ok-true-follows-clause-err : goal.returns-in-Ok-true-follows-clause-err
+returns-in-Ok-true-follows-clause-err g c =
+    let left : Option (List ℕ) = g.S.Source.left c.args.source.now in
+    let mid : Option (List ℕ) = g.S.Source.left c.lines.source in
+    let left' : Option (List ℕ) = g.S.Source.left c.follows.new.source in
+    let is : c.in-Ok-true-follows.field-0 ≡ true = cc in
+    let look : Looks c.lines.reader c.follows.new.self mid left' (Ok true) = subst (λ b. Looks c.lines.reader c.follows.new.self mid left' (Ok b)) is (c.in-Ok-true-follows.ensures.look c.lines.invariant.going) in
+    too_many c.args.quiet left mid left' c.lines.reader c.follows.new.self c.lines.bench c.lines.line (g.K.Sink.taken c.args.sink.now) (g.K.Sink.taken c.lines.sink) c.lines.invariant.progress
+    (omega (arith, c.lines-test.false)) look
+
+pub returns-in-Ok-true-follows-clause-stop : goal.returns-in-Ok-true-follows-clause-stop
+returns-in-Ok-true-follows-clause-stop g c =
+    looks_in_time c.args.quiet (g.S.Source.left c.args.source.now) (g.S.Source.left c.lines.source) (g.S.Source.left c.follows.new.source) c.lines.reader c.follows.new.self c.lines.bench c.lines.line
+    (g.K.Sink.taken c.args.sink.now) (g.K.Sink.taken c.lines.sink) (Ok c.in-Ok-true-follows.field-0) c.lines.invariant.progress (c.in-Ok-true-follows.ensures.look c.lines.invariant.going)
