@@ -19,4 +19,5 @@ pub mod QuietHearing
 pub mod OneJournal
 pub mod Shapes
 pub mod Quiet
-mod DigitPairs
+pub mod ReadBack
+pub mod Joined

@@ -12,4 +12,4 @@ pub mod QuietHearing
 pub mod Taking
 pub mod SameCommands
 pub mod Report
-pub mod Digits
+pub mod ReadBack
