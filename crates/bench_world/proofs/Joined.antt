@@ -1,12 +1,11 @@
 -- The pieces of a line, joined.
-use Rattle.std.proofs.Common.{◌≡◌, ℕ, suc, ◌+◌, ◌*◌, ◌/◌, ◌%◌, ◌<◌, arith, List, [], ◌∷◌, ◌++◌, length, take, drop, get_or, sym, ◌∙◌, ap, append_assoc, append-nil, refl}
+use Rattle.std.proofs.Common.{◌≡◌, ℕ, ◌+◌, ◌*◌, ◌/◌, ◌%◌, ◌<◌, arith, List, [], ◌∷◌, ◌++◌, length, take, drop, sym, ◌∙◌, ap, append_assoc, append-nil, refl}
 use Rattle.std.specs.Prelude.{slice_index, min}
 use Rattle.std.specs.List.{flat_map}
 use Rattle.std.proofs.lemmas.List.{take-append-drop, length-append}
 use Rattle.bench_world.specs.declared.entry.Seen.{Seen}
 use Rattle.bench_world.specs.Report.{seen_text}
 use Rattle.hex.specs.Hex.{encode_with, encode_upper, upper_digits}
-use Rattle.hex.proofs.Pairs.{encode_with-drop}
 use Rattle.bench_script.specs.Canonical.{hex_text}
 
 pub upper_nil : encode_upper [] ≡ []
@@ -25,15 +24,6 @@ upper-append (b ∷ xs) ys = ap (λ x. slice_index upper_digits (b / 16) ∷ sli
 -- the digits of a front, and those behind them
 pub upper_split : (n : ℕ) (bytes : List ℕ) → encode_upper bytes ≡ encode_upper (take n bytes) ++ encode_upper (drop n bytes)
 upper_split n bytes = ap encode_upper (sym (take-append-drop n bytes)) ∙ upper-append (take n bytes) (drop n bytes)
-
--- two digits more, behind a text
-pub two_more : (text bytes : List ℕ) (i : ℕ) → i < length bytes
-    → (text ++ slice_index upper_digits (slice_index bytes i / 16) ∷ []) ++ slice_index upper_digits (slice_index bytes i % 16) ∷ [] ++ encode_upper (drop (i + 1) bytes) ≡ text ++ encode_upper (drop i bytes)
-two_more text bytes i within =
-    let high : ℕ = slice_index upper_digits (slice_index bytes i / 16) in
-    let low : ℕ = slice_index upper_digits (slice_index bytes i % 16) in
-    let rest : List ℕ = encode_upper (drop (i + 1) bytes) in
-    append_assoc (text ++ high ∷ []) (low ∷ []) rest ∙ append_assoc text (high ∷ []) (low ∷ rest) ∙ ap (λ x. text ++ x) (sym (encode_with-drop upper_digits bytes i within))
 
 pub empty_is : {T : Type 0} (xs : List T) → length xs ≡ 0 → xs ≡ []
 empty_is [] none = refl

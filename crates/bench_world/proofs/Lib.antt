@@ -21,3 +21,4 @@ pub mod Shapes
 pub mod Quiet
 pub mod ReadBack
 pub mod Joined
+mod DigitPairs

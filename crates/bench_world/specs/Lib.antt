@@ -13,3 +13,4 @@ pub mod Taking
 pub mod SameCommands
 pub mod Report
 pub mod ReadBack
+pub mod Digits

@@ -1,14 +1,22 @@
 //! Pieces of a report's text, each in room of its own, so that they take no memory.
 
-ghost use Rattle.std.specs.Prelude.{◌≡◌, ◌+◌, ◌*◌, ◌<◌, ◌≤◌, ◌++◌, length, slice_index};
+ghost use Rattle.std.specs.Prelude.{◌≡◌, ◌+◌, ◌*◌, ◌<◌, ◌≤◌, ◌++◌, length};
 ghost use Rattle.std.specs.Fmt.{decimal};
-ghost use Rattle.hex.specs.Hex.{encode_upper, upper_digits};
+ghost use Rattle.hex.specs.Hex.{encode_upper};
 ghost use Rattle.bench_script.specs.Canonical.{hex_text};
+ghost use Rattle.bench_world.specs.Digits.{all_pairs};
 
 use arrayvec::ArrayVec;
 
-/// The digits of a number in base 16.
-const DIGITS: &[u8; 16] = b"0123456789ABCDEF";
+/// The two digits of each byte in turn, from 00 to FF.
+const PAIRS: &[u8; 512] = b"000102030405060708090A0B0C0D0E0F101112131415161718191A1B1C1D1E1F\
+    202122232425262728292A2B2C2D2E2F303132333435363738393A3B3C3D3E3F\
+    404142434445464748494A4B4C4D4E4F505152535455565758595A5B5C5D5E5F\
+    606162636465666768696A6B6C6D6E6F707172737475767778797A7B7C7D7E7F\
+    808182838485868788898A8B8C8D8E8F909192939495969798999A9B9C9D9E9F\
+    A0A1A2A3A4A5A6A7A8A9AAABACADAEAFB0B1B2B3B4B5B6B7B8B9BABBBCBDBEBF\
+    C0C1C2C3C4C5C6C7C8C9CACBCCCDCECFD0D1D2D3D4D5D6D7D8D9DADBDCDDDEDF\
+    E0E1E2E3E4E5E6E7E8E9EAEBECEDEEEFF0F1F2F3F4F5F6F7F8F9FAFBFCFDFEFF";
 
 /// Puts a text behind a piece that has room for it.
 pub(crate) fn push_text(piece: &mut ArrayVec<u8, 640>, text: &[u8])
@@ -42,23 +50,28 @@ fn push_decimal(piece: &mut ArrayVec<u8, 640>, number: u64)
     }
 }
 
-/// A digit in base 16.
-fn digit(value: u8) -> u8
-    requires { value < 16 }
-    ensures { result ≡ slice_index upper_digits value }
-{
-    DIGITS[value as usize]
-}
-
-/// Puts the digits of some bytes, two a byte, behind a piece that has room for them.
+/// Puts the digits of some bytes, two a byte, behind a piece that has room for them: most of a report is digits.
 pub(crate) fn push_digits(piece: &mut ArrayVec<u8, 640>, bytes: &[u8])
     requires { length piece.old.items + 2 * length bytes.now ≤ 640 }
     ensures value { piece.new.items ≡ piece.old.items ++ encode_upper bytes.now }
     ensures size { length piece.new.items ≡ length piece.old.items + 2 * length bytes.now }
 {
-    'bytes: for byte in bytes {
-        piece.push(digit(*byte / 16));
-        piece.push(digit(*byte % 16));
+    let mut digits = [0; 640];
+    let room = &mut digits[..2 * bytes.len()];
+    write_digits(room, bytes, PAIRS);
+    push_text(piece, room);
+}
+
+/// Writes the digits of some bytes, two by one look into the pairs.
+fn write_digits(digits: &mut [u8], bytes: &[u8], pairs: &[u8; 512])
+    requires room { length digits.old ≡ 2 * length bytes.now }
+    requires pairs { pairs.now ≡ all_pairs }
+    ensures { digits.new ≡ encode_upper bytes.now }
+{
+    'bytes: for i in 0..bytes.len() {
+        let at = 2 * bytes[i] as usize;
+        digits[2 * i] = pairs[at];
+        digits[2 * i + 1] = pairs[at + 1];
     }
 }
 
