@@ -1,20 +1,24 @@
 -- A client and a peer between two calls, as PDUs go from one to the other that are of no request: acknowledgements, and what waits in the
--- queues of both. No contract stands on this yet: it is for what a lookup, and the end of a connection, come to at a peer.
-use Rattle.std.proofs.Common.{◌≡◌, ◌<◌, ◌≤◌, ◌⊎◌, ℕ, ◌+◌, ◌%◌, ◌==◌, true, false, List, [], ◌∷◌, length, Option, Some, None, IfSome, refl, sym, ◌∙◌, ap, subst, inl, inr, arith}
+-- queues of both.
+use Rattle.std.proofs.Common.{◌≡◌, ◌<◌, ◌≤◌, ◌⊎◌, ℕ, ◌+◌, ◌%◌, ◌==◌, true, false, List, [], ◌∷◌, length, Option, Some, None, IfSome, refl, sym, ◌∙◌, ap, subst, inl, inr, arith, if◌then◌else◌}
+use Rattle.std.proofs.lemmas.Bool.{eq-eqb}
 use Rattle.std.proofs.lemmas.Bool.Decides.{nat_tests}
 use Rattle.llcp_pdu.specs.declared.part.Part.TheVariants.{Rr}
-use Rattle.llcp_conn.specs.Conn.{ConnState, IsSap, modulus}
-use Rattle.llcp_link.specs.State.{Bound, LlcState, Lookup, OwnState, Queued, own_from}
+use Rattle.llcp_pdu.specs.General.{IsMiu}
+use Rattle.llcp_pdu.specs.Wire.{least_miu}
+use Rattle.llcp_conn.specs.Conn.{ConnState, IsSap, IsWindow, modulus}
+use Rattle.llcp_link.specs.State.{Bound, LlcState, Lookup, OwnState, Queued, own_from, with_own}
 use Rattle.llcp_link.specs.Asking.{is_there}
+use Rattle.llcp_link.specs.Names.{is_bound}
 use Rattle.llcp_link.specs.Opened.{opened}
 use Rattle.llcp_link.specs.Taking.{steps_part}
 use Rattle.llcp_link.specs.Giving.{Gave, acknowledges, acknowledges_open, acknowledges_own, first_of_all, gave, informs, informs_open, informs_own, or_else}
 use Rattle.llcp_link.proofs.Ranged.{either}
 use Rattle.snep_core.specs.declared.silent.NoService.{NoService}
-use Rattle.snep_core.specs.Accord.{Accords, AreOver, IsApart, IsFair, IsJoined, IsPaired, Numbers, PeerState, client_conn, server_conn}
+use Rattle.snep_core.specs.Accord.{Accords, AreOver, IsApart, IsFair, IsJoined, IsPaired, Numbers, PeerState, client_conn, client_open, server_conn, server_open}
 use Rattle.snep_core.specs.Server.{ServerState, serving, session_of}
 use Rattle.snep_core.specs.Session.{fresh_session, sent}
-use Rattle.snep_core.specs.Talk.{EndState, client_sap, server_sap, silent}
+use Rattle.snep_core.specs.Talk.{EndState, client_sap, emptied, emptied_by, server_sap, silent, units_of}
 use Rattle.snep_core.proofs.AtOneSap.{found_none}
 use Rattle.snep_core.proofs.Carrying.{HopSo}
 use Rattle.snep_core.proofs.Meets.{IsReached, below, paired_client_acks, paired_server_acks}
@@ -69,7 +73,7 @@ own_acks l None = refl
 own_acks l (Some o) = refl
 
 -- a peer without a connection gives nothing
-bare_none : (far : PeerState) (s : ServerState) → IsFair far → gave serving (peer_at far (Apart []) [] s) ≡ None
+pub bare_none : (far : PeerState) (s : ServerState) → IsFair far → gave serving (peer_at far (Apart []) [] s) ≡ None
 bare_none far s g =
     let z = peer_at far (Apart []) [] s in
     ap (λ o. or_else o (first_of_all far.last (acknowledges z))) (found_none (informs serving z) client_sap (λ e t. refl) (omega arith) far.last g.last refl)
@@ -95,7 +99,7 @@ hears_ack : (far : PeerState) (n : Numbers) (q : List Queued) (s : ServerState) 
 hears_ack far n q s sa few =
     rw (right n.told_sa (length n.told) sa few, not_lt (length n.told) (length n.told) (omega arith), drop_all n.told) refl
 
-module _ (Found : List Lookup → Type 0) (bound : List Bound) (s : ServerState) where
+module _ (Found : List Lookup → Type 0) (names : List Bound) (s : ServerState) where
   -- Nothing but these waits at the client and at the peer.
   pub record Calm (client_queue peer_queue : List Queued) (l : EndState) (p : PeerState) : Type 0 where
     pub base : EndState
@@ -103,19 +107,18 @@ module _ (Found : List Lookup → Type 0) (bound : List Bound) (s : ServerState)
     pub st : Stand
     pub base_fair : IsFair base
     pub far_fair : IsFair far
-    pub reached : IsReached far
+    pub reached : IsReached names far
     pub stand : IsStand st s
     pub l_is : l ≡ client_at base st client_queue
     pub p_is : p ≡ peer_at far st peer_queue s
     pub found : Found base.lookups
-    pub bound_is : far.bound ≡ bound
 
   module _ (q : List Queued) where
-    client_hop_at : (base : EndState) (far : PeerState) (st : Stand) → IsFair base → IsFair far → IsReached far → IsStand st s → Found base.lookups → far.bound ≡ bound
+    client_hop_at : (base : EndState) (far : PeerState) (st : Stand) → IsFair base → IsFair far → IsReached names far → IsStand st s → Found base.lookups
         → HopSo silent serving (Calm [] q) (peer_at far st q s) (gave silent (client_at base st []))
-    client_hop_at base far (Apart os) f g r h w b =
+    client_hop_at base far (Apart os) f g r h w =
         subst (λ o. HopSo silent serving (Calm [] q) (peer_at far (Apart os) q s) o) (sym (apart_none base os h f.last)) tt
-    client_hop_at base far (Joined n) f g r h w b = by_told n.told refl
+    client_hop_at base far (Joined n) f g r h w = by_told n.told refl
       where
         by_told : (told : List (List ℕ)) → n.told ≡ told → HopSo silent serving (Calm [] q) (peer_at far (Joined n) q s) (gave silent (client_at base (Joined n) []))
         by_told [] e = subst (λ o. HopSo silent serving (Calm [] q) (peer_at far (Joined n) q s) o) (sym (client_none base n [] f.last e)) tt
@@ -133,7 +136,6 @@ module _ (Found : List Lookup → Type 0) (bound : List Bound) (s : ServerState)
                 l_is = refl;
                 p_is = hears_ack far n q s h.0.told_sa (let a = h.0.told in let c = h.0.client_window.1 in omega arith);
                 found = w;
-                bound_is = b;
               },
             )
 
@@ -142,13 +144,13 @@ module _ (Found : List Lookup → Type 0) (bound : List Bound) (s : ServerState)
     client_hop l p h =
         subst (λ z. HopSo silent serving (Calm [] q) p (gave silent z)) (sym h.l_is)
         (subst (λ z. HopSo silent serving (Calm [] q) z (gave silent (client_at h.base h.st []))) (sym h.p_is)
-        (client_hop_at h.base h.far h.st h.base_fair h.far_fair h.reached h.stand h.found h.bound_is))
+        (client_hop_at h.base h.far h.st h.base_fair h.far_fair h.reached h.stand h.found))
 
-  peer_hop_at : (base : EndState) (far : PeerState) (st : Stand) → IsFair base → IsFair far → IsReached far → IsStand st s → Found base.lookups → far.bound ≡ bound
+  peer_hop_at : (base : EndState) (far : PeerState) (st : Stand) → IsFair base → IsFair far → IsReached names far → IsStand st s → Found base.lookups
       → HopSo serving silent (λ p l. Calm [] [] l p) (client_at base st []) (gave serving (peer_at far st [] s))
-  peer_hop_at base far (Apart os) f g r h w b =
+  peer_hop_at base far (Apart os) f g r h w =
       subst (λ o. HopSo serving silent (λ p l. Calm [] [] l p) (client_at base (Apart os) []) o) (sym (bare_none far s g)) tt
-  peer_hop_at base far (Joined n) f g r h w b = by_asked n.asked refl
+  peer_hop_at base far (Joined n) f g r h w = by_asked n.asked refl
     where
       none : serving.due s client_sap n.client_miu ≡ None
       none = ap (λ x. (sent n.client_miu x).unit) h.1
@@ -170,7 +172,6 @@ module _ (Found : List Lookup → Type 0) (bound : List Bound) (s : ServerState)
               l_is = client_hears base n [] h.0.asked_sa (let a = h.0.asked in let c = h.0.server_window.1 in omega arith) [];
               p_is = refl;
               found = w;
-              bound_is = b;
             },
           )
 
@@ -179,7 +180,33 @@ module _ (Found : List Lookup → Type 0) (bound : List Bound) (s : ServerState)
   peer_hop p l h =
       subst (λ z. HopSo serving silent (λ p l. Calm [] [] l p) z (gave serving p)) (sym h.l_is)
       (subst (λ z. HopSo serving silent (λ p l. Calm [] [] l p) (client_at h.base h.st []) (gave serving z)) (sym h.p_is)
-      (peer_hop_at h.base h.far h.st h.base_fair h.far_fair h.reached h.stand h.found h.bound_is))
+      (peer_hop_at h.base h.far h.st h.base_fair h.far_fair h.reached h.stand h.found))
+
+-- what was heard on it, and not taken up, is nothing
+over_units : (os : List OwnState) → AreOver os → units_of (own_from client_sap os) ≡ []
+over_units [] h = refl
+over_units (o ∷ []) h = either (λ x. units_of x ≡ []) (o.here == client_sap) (Some o) None (λ t. h.2) (λ t. refl)
+over_units (o ∷ p ∷ os) h = absurd h
+
+pub stand_units : (st : Stand) (s : ServerState) → IsStand st s → units_of (own_from client_sap (own_at st)) ≡ []
+stand_units (Apart os) s h = over_units os h
+stand_units (Joined n) s h = refl
+
+over_same : (o : OwnState) → o.units ≡ [] → with_own (record o { units = [] }) (o ∷ []) ≡ o ∷ []
+over_same o h =
+    ap (λ b. if b then record o { units = [] } ∷ [] else o ∷ []) (eq-eqb o.here o.here refl)
+    ∙ ap (λ us. record o { units = us } ∷ []) (sym h)
+
+over_emptied : (l : EndState) (os : List OwnState) → AreOver os → l.own ≡ os → emptied_by l (own_from client_sap os) ≡ l
+over_emptied l [] h e = refl
+over_emptied l (o ∷ []) h e =
+    either (λ x. emptied_by l x ≡ l) (o.here == client_sap) (Some o) None
+    (λ t. ap (λ z. record l { own = with_own (record o { units = [] }) z }) e ∙ ap (λ z. record l { own = z }) (over_same o h.2) ∙ ap (λ z. record l { own = z }) (sym e)) (λ t. refl)
+over_emptied l (o ∷ p ∷ os) h e = absurd h
+
+pub stand_emptied : (l : EndState) (st : Stand) (s : ServerState) → IsStand st s → emptied (client_at l st []) client_sap ≡ client_at l st []
+stand_emptied l (Apart os) s h = over_emptied (client_at l (Apart os) []) os h refl
+stand_emptied l (Joined n) s h = refl
 
 -- where client and peer accord, nothing waits
 pub record Stands (client : EndState) (peer : PeerState) : Type 0 where
@@ -206,3 +233,50 @@ stands_at client peer a = go a.stands
           ∙ ap (λ z. record peer { readable = true; queue = []; served = z }) h.peer_served
           ∙ ap (λ z. record peer { readable = true; queue = []; served = []; own = z }) h.peer_own;
     }
+
+fair_again : {S : Type 0} (a b : LlcState S) → a.miu ≡ b.miu → a.window ≡ b.window → a.last ≡ b.last → IsFair b → IsFair a
+fair_again a b i j k f = record {
+  miu = subst IsMiu (sym i) f.miu;
+  window = subst IsWindow (sym j) f.window;
+  last = subst (λ z. IfSome z IsSap) (sym k) f.last;
+}
+
+-- and where nothing waits, they accord
+module _ (names : List Bound) (s : ServerState) (base : EndState) (far : PeerState) (client : EndState) (peer : PeerState)
+    (base_fair : IsFair base) (far_fair : IsFair far) (reached : IsReached names far) (seats : client_sap < length s.sessions) where
+  abbrev At : Stand → Type 0
+  At st = (client ≡ client_at base st []) × (peer ≡ peer_at far st [] s)
+
+  pub apart_at : (os : List OwnState) → AreOver os → At (Apart os) → IsApart client peer
+  apart_at os h (l, p) = record {
+    client_readable = ap (λ (z : EndState). z.readable) l;
+    client_queue = ap (λ (z : EndState). z.queue) l;
+    client_served = ap (λ (z : EndState). z.served) l;
+    client_own = subst (λ (z : EndState). AreOver z.own) (sym l) h;
+    peer_readable = ap (λ (z : PeerState). z.readable) p;
+    peer_queue = ap (λ (z : PeerState). z.queue) p;
+    peer_served = ap (λ (z : PeerState). z.served) p;
+    peer_own = ap (λ (z : PeerState). z.own) p;
+  }
+
+  stands_so : (st : Stand) → IsStand st s → At st → IsApart client peer ⊎ IsJoined client peer
+  stands_so (Apart os) h at = inl (apart_at os h at)
+  stands_so (Joined n) h (l, p) = inr (record {
+    numbers = n;
+    paired = h.0;
+    client_is = subst (λ z. z ≡ client_open z n [] []) (sym l) refl;
+    peer_is = subst (λ z. z ≡ server_open z n z.service) (sym p) refl;
+    session = ap (λ (z : PeerState). session_of z.service client_sap) p ∙ h.1;
+  })
+
+  pub accord_at : (st : Stand) → IsStand st s → At st → Accords client peer
+  accord_at st h (l, p) = record {
+    client_fair = fair_again client base (ap (λ (z : EndState). z.miu) l) (ap (λ (z : EndState). z.window) l) (ap (λ (z : EndState). z.last) l) base_fair;
+    peer_fair = fair_again peer far (ap (λ (z : PeerState). z.miu) p) (ap (λ (z : PeerState). z.window) p) (ap (λ (z : PeerState). z.last) p) far_fair;
+    peer_serving = record {
+      seats = subst (λ (z : PeerState). client_sap < length z.service.sessions) (sym p) seats;
+      bound = ap (λ (z : PeerState). is_bound server_sap z.bound) p ∙ reached.1;
+      far_miu = subst (λ (z : PeerState). least_miu ≤ z.far_miu) (sym p) reached.2;
+    };
+    stands = stands_so st h (l, p);
+  }

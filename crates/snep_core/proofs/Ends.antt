@@ -1,9 +1,6 @@
 -- How a call begins where a client and a peer accord, how it ends, and what it leaves where it is cut off.
 use Rattle.std.proofs.Common.{◌≡◌, ◌<◌, ◌≤◌, ◌⊎◌, ℕ, ◌/◌, ◌==◌, Bool, true, false, List, [], ◌∷◌, ◌++◌, length, Option, Some, None, IfSome, Result, Ok, Err, unwrap_or, refl, sym, ◌∙◌, ap, subst, inl, inr, arith, if◌then◌else◌}
 use Rattle.std.proofs.lemmas.List.{length-replicate}
-use Rattle.nfc_base.specs.declared.carrier.EndCause.{EndCause}
-use Rattle.nfc_base.specs.declared.carrier.EndCause.TheVariants as cause
-use Rattle.nfc_base.specs.Links.{CarrierView, FarLeft, FarStep}
 use Rattle.llcp_pdu.specs.declared.param.Param.{Param}
 use Rattle.llcp_pdu.specs.General.{IsMiu, general, miu_by, said, said_behind, spoken, unmasked}
 use Rattle.llcp_pdu.specs.Params.{last_of, miux_in, params, version_in, wks_in}
@@ -11,22 +8,20 @@ use Rattle.llcp_pdu.specs.Wire.{least_miu, magic_length, major}
 use Rattle.llcp_link.proofs.Ranged.{either}
 use Rattle.llcp_pdu.specs.declared.part.Part.TheVariants.{Connect}
 use Rattle.llcp_conn.specs.Conn.{IsSap, IsWindow}
-use Rattle.llcp_link.specs.State.{LlcState, OwnState, miu_said, own_from}
+use Rattle.llcp_link.specs.State.{Bound, LlcState, OwnState, miu_said, own_from}
 use Rattle.llcp_link.specs.Asking.{asked_from, is_busy_by, put_own, request}
 use Rattle.llcp_link.specs.Names.{is_bound, own_params}
-use Rattle.llcp_link.specs.Giving.{given}
-use Rattle.snep_core.specs.declared.fault.SnepFault.{SnepFault}
-use Rattle.snep_core.specs.Accord.{Accords, AreOver, IsApart, IsBegun, IsFair, IsJoined, IsPaired, IsPeer, PeerState, client_open, server_open}
-use Rattle.snep_core.specs.Calling.{Breaks, IsCut, Talks, fault_of}
+use Rattle.snep_core.specs.Accord.{Accords, AreOver, IsApart, IsBegun, IsFair, IsJoined, IsPaired, PeerState, client_open, server_open}
 use Rattle.snep_core.specs.Jobs.{Begins, Job}
 use Rattle.snep_core.specs.Server.{Received, serving, session_of}
 use Rattle.snep_core.specs.Session.{Offer, fresh_session}
-use Rattle.snep_core.specs.Talk.{EndState, Goes, Step, client_sap, connected, ready, readied, server_sap, silent}
+use Rattle.snep_core.specs.Talk.{EndState, Goes, Working, client_sap, connected, ready, readied, server_sap, silent}
 use Rattle.snep_core.proofs.Carrying.{AtFronts, at_front}
 use Rattle.snep_core.proofs.Conversations.{Conversation}
+use Rattle.snep_core.proofs.Courses.{Course, IsSafe}
 use Rattle.snep_core.proofs.Meets.{Joined}
 use Rattle.snep_core.proofs.Opening.{Keeps, Meeting}
-use Rattle.snep_core.proofs.Turns.{Rests, StepSo, hands, readied_meets, rested_meets, takes, talks_on}
+use Rattle.snep_core.proofs.Turns.{Rests, StepSo, hands, readied_meets, rested_meets, takes, turns_so}
 
 -- general bytes say no MIU below the least one
 miu_more : (o : Option ℕ) → least_miu ≤ miu_by least_miu o
@@ -86,9 +81,9 @@ module _ (os : List OwnState) where
 
 -- where a request begins
 module _ (conv : ℕ → ℕ → Conversation) (most : Option ℕ) (bytes : List ℕ) (client : EndState) (peer : PeerState) (a : Accords client peer)
-    (keeps : Keeps peer.service.limit peer.service.table conv most bytes peer.service.accepted) where
+    (keeps : Keeps peer.service.limit peer.service.table peer.bound conv most bytes peer.service.accepted) where
   abbrev Begun : EndState → Type 0
-  Begun l = Rests peer.service.limit peer.service.table conv most bytes peer.service.accepted keeps (Begins most bytes) l peer
+  Begun l = Rests peer.service.limit peer.service.table peer.bound conv most bytes peer.service.accepted keeps (Begins most bytes) l peer
 
   apart_begins : IsApart client peer → Begun (connected client client_sap)
   apart_begins h =
@@ -100,7 +95,7 @@ module _ (conv : ℕ → ℕ → Conversation) (most : Option ℕ) (bytes : List
         service = peer.service;
         base_fair = a.client_fair;
         far_fair = a.peer_fair;
-        bound = (a.peer_serving.bound, a.peer_serving.far_miu);
+        bound = (refl, a.peer_serving.bound, a.peer_serving.far_miu);
         l_is =
             ap (λ b. if b then client else record client { queue = client.queue ++ q ∷ []; own = put_own (asked_from client_sap server_sap) client.own }) free.0
             ∙ ap (λ z. record client { queue = z ++ q ∷ []; own = put_own (asked_from client_sap server_sap) client.own }) h.client_queue
@@ -136,7 +131,7 @@ module _ (conv : ℕ → ℕ → Conversation) (most : Option ℕ) (bytes : List
           phase = t.at;
           base_fair = a.client_fair;
           far_fair = a.peer_fair;
-          bound = (a.peer_serving.bound, a.peer_serving.far_miu);
+          bound = (refl, a.peer_serving.bound, a.peer_serving.far_miu);
           paired = subst (λ q. IsPaired n (length q)) (sym t.queue_is) h.paired;
           holds = t.holds;
           l_is = h.client_is ∙ ap (λ q. client_open client n q []) (sym t.queue_is) ∙ ap (λ us. client_open client n (c.queue_at t.at) us) (sym t.units_is);
@@ -167,7 +162,7 @@ fair_end a b i j k f = record {
 }
 
 -- where a request is over
-module _ (limit : ℕ) (table : List Offer) (conv : ℕ → ℕ → Conversation) {job : Job} {l : EndState} {p : PeerState} (h : Joined limit table conv job l p) where
+module _ (limit : ℕ) (table : List Offer) (names : List Bound) (conv : ℕ → ℕ → Conversation) {job : Job} {l : EndState} {p : PeerState} (h : Joined limit table names conv job l p) where
   abbrev c : Conversation
   c = conv h.n.server_miu h.n.client_miu
 
@@ -181,8 +176,8 @@ module _ (limit : ℕ) (table : List Offer) (conv : ℕ → ℕ → Conversation
         peer_fair = fair_end p h.far (ap (λ (z : PeerState). z.miu) h.p_is) (ap (λ (z : PeerState). z.window) h.p_is) (ap (λ (z : PeerState). z.last) h.p_is) h.far_fair;
         peer_serving = record {
           seats = subst (λ z. client_sap < length z.sessions) (sym pi) h.serves.seats;
-          bound = ap (λ (z : PeerState). is_bound server_sap z.bound) h.p_is ∙ h.bound.0;
-          far_miu = subst (λ (z : PeerState). least_miu ≤ z.far_miu) (sym h.p_is) h.bound.1;
+          bound = ap (λ (z : PeerState). is_bound server_sap z.bound) h.p_is ∙ h.bound.1;
+          far_miu = subst (λ (z : PeerState). least_miu ≤ z.far_miu) (sym h.p_is) h.bound.2;
         };
         stands = inr (record {
           numbers = h.n;
@@ -202,80 +197,29 @@ module _ (limit : ℕ) (table : List Offer) (conv : ℕ → ℕ → Conversation
   pub table_is : p.service.table ≡ table
   table_is = ap (λ (z : PeerState). z.service.table) h.p_is ∙ h.serves.offers
 
--- a call that was cut off
-module _ (limit : ℕ) (table : List Offer) (conv : ℕ → ℕ → Conversation) (most : Option ℕ) (bytes : List ℕ) (old : List Received) (keeps : Keeps limit table conv most bytes old)
-    (Adds : List Received → Type 0) (adds : (job : Job) (l : EndState) (p : PeerState) → Meeting limit table conv most bytes old job l p → Adds p.service.accepted)
-    {C A : Type 0} (seen : C → CarrierView) (moves : C → List FarStep → C → Type 0) (steps : A → List ℕ → List ℕ → A → Type 0) (stops : A → List ℕ → A → Type 0)
-    (view : A → PeerState) (peer : IsPeer steps stops view) where
-  abbrev Meets : Job → EndState → PeerState → Type 0
-  Meets job l p = Meeting limit table conv most bytes old job l p
+  pub names_are : p.bound ≡ names
+  names_are = ap (λ (z : PeerState). z.bound) h.p_is ∙ h.bound.0
 
-  -- where a call is
-  abbrev pub At : Step → PeerState → Type 0
-  At to p = StepSo limit table conv most bytes old keeps to p
+-- The course of a request: until it is answered, what is accepted is of some kind.
+module _ (limit : ℕ) (table : List Offer) (names : List Bound) (conv : ℕ → ℕ → Conversation) (most : Option ℕ) (bytes : List ℕ) (old : List Received)
+    (keeps : Keeps limit table names conv most bytes old) (Adds : List Received → Type 0)
+    (adds : (job : Job) (l : EndState) (p : PeerState) → Meeting limit table names conv most bytes old job l p → Adds p.service.accepted) where
+  pub request_safe : (w : Working) (p : PeerState) → StepSo limit table names conv most bytes old keeps (Goes w) p → IsSafe Adds (ready w).llc p
+  request_safe w p (job, l, idle, e, on, h) =
+      let r = readied_meets limit table names conv most bytes old keeps (rested_meets limit table names conv most bytes old keeps h) in
+      let handed = hands limit table names conv most bytes old keeps r in
+      subst (λ z. IsSafe Adds (ready z).llc p) (sym e) (record {
+        here = adds (readied l client_sap job).job (readied l client_sap job).llc p r;
+        stepped = λ k count. adds _ _ _ (takes limit table names conv most bytes old keeps (handed k).now count);
+        fronts = λ k front behind split.
+            (let f = at_front silent serving (Meeting limit table names conv most bytes old (readied l client_sap job).job) front behind p
+            (subst (λ is. AtFronts silent serving (Meeting limit table names conv most bytes old (readied l client_sap job).job) p is) split (handed k).fronts) in
+            adds _ _ _ f.1);
+      })
 
-  pub came : (from to : Step) (link now : C) (far after : A) → At from (view far) → Talks seen moves steps stops from link far to now after → At to (view after)
-  came from to link now far after h t =
-      talks_on limit table conv most bytes old keeps steps stops view peer t.counts t.did from to far after h t.told t.far_moved
-
-  module _ (job : Job) (l : EndState) (mid : A) (h : Meets job l (view mid)) where
-    abbrev out : ℕ → List ℕ
-    out k = given silent k (readied l client_sap job).llc
-
-    ready_ : Meets (readied l client_sap job).job (readied l client_sap job).llc (view mid)
-    ready_ = readied_meets limit table conv most bytes old keeps h
-
-    stepped_adds : (k : ℕ) (reply : List ℕ) (after : A) → steps mid (out k) reply after → Adds (view after).service.accepted
-    stepped_adds k reply after s =
-        let x = peer.steps_so mid (out k) reply after s in
-        subst (λ z. Adds z.service.accepted) (sym x.left)
-        (adds _ _ _ (takes limit table conv most bytes old keeps (hands limit table conv most bytes old keeps ready_ k).now x.count))
-
-    stopped_adds : (k : ℕ) (after : A) → stops mid (out k) after → Adds (view after).service.accepted
-    stopped_adds k after s =
-        let x = peer.stops_so mid (out k) after s in
-        let f = (hands limit table conv most bytes old keeps ready_ k).fronts in
-        let r = at_front silent serving (Meets (readied l client_sap job).job) x.front x.behind (view mid)
-        (subst (λ is. AtFronts silent serving (Meets (readied l client_sap job).job) (view mid) is) x.split f) in
-        subst Adds (sym x.accepted) (adds _ _ _ r.1)
-
-    same_adds : (after : A) → after ≡ mid → Adds (view after).service.accepted
-    same_adds after e = subst (λ z. Adds (view z).service.accepted) (sym e) (adds job l (view mid) h)
-
-    left_adds : (k : ℕ) (answered : Bool) (why : EndCause) (before now : List (List ℕ)) (after : A) → FarLeft steps stops answered why before now (out k) mid after
-        → Adds (view after).service.accepted
-    left_adds k true why before now after ((reply, s), e) = stepped_adds k reply after s
-    left_adds k false why before now after (inl (e, i)) = same_adds after e
-    left_adds k false why before now after (inr (w, s, e)) = stopped_adds k after s
-
-    cut_adds : (e : SnepFault) (new : EndState) (link now : C) (after : A) → IsCut seen moves steps stops (readied l client_sap job).llc link mid e new now after
-        → Adds (view after).service.accepted
-    cut_adds e new link now after (inl (inl k)) = same_adds after k.far_is
-    cut_adds e new link now after (inl (inr k)) = same_adds after k.far_is
-    cut_adds e new link now after (inr (inl k)) = left_adds k.count k.why.answered k.why.cause _ _ after k.swap.left
-    cut_adds e new link now after (inr (inr k)) = stepped_adds k.count k.reply after k.swap.step
-
-    cut_fault : (e : SnepFault) (new : EndState) (link now : C) (after : A) → IsCut seen moves steps stops (readied l client_sap job).llc link mid e new now after
-        → (c : EndCause) × (e ≡ fault_of c)
-    cut_fault e new link now after (inl (inl k)) = (cause.Memory, k.fault)
-    cut_fault e new link now after (inl (inr k)) = (k.why, k.fault)
-    cut_fault e new link now after (inr (inl k)) = (k.why.cause, k.fault)
-    cut_fault e new link now after (inr (inr k)) = (cause.Memory, k.fault)
-
-  -- what the link or want of memory leaves
-  pub record BrokeOff (e : SnepFault) (after : A) : Type 0 where
-    pub why : EndCause
-    pub fault : e ≡ fault_of why
-    pub added : Adds (view after).service.accepted
-
-  pub breaks_off : (from : Step) (link : C) (far : A) (e : SnepFault) (new : EndState) (now : C) (after : A) → At from (view far)
-      → Breaks seen moves steps stops from link far e new now after → BrokeOff e after
-  breaks_off from link far e new now after h b = go (came from (Goes b.at) link b.mid far b.mid_far h b.talks)
-    where
-      go : At (Goes b.at) (view b.mid_far) → BrokeOff e after
-      go (job, l, idle, w, on, k0) =
-          let k = rested_meets limit table conv most bytes old keeps k0 in
-          let cut : IsCut seen moves steps stops (readied l client_sap job).llc b.mid b.mid_far e new now after =
-          subst (λ z. IsCut seen moves steps stops (ready z).llc b.mid b.mid_far e new now after) w b.cut in
-          let f = cut_fault job l b.mid_far k e new b.mid now after cut in
-          record { why = f.0; fault = f.1; added = cut_adds job l b.mid_far k e new b.mid now after cut }
+  abbrev pub request_course : Course Adds
+  request_course = record {
+    At = StepSo limit table names conv most bytes old keeps;
+    turns = turns_so limit table names conv most bytes old keeps;
+    safe = request_safe;
+  }

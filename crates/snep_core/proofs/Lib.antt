@@ -26,6 +26,7 @@ pub mod Conversations
 pub mod Meets
 pub mod Opening
 pub mod Pressing
+pub mod Courses
 pub mod Turns
 pub mod Ends
 pub mod PutPhases
@@ -33,3 +34,6 @@ pub mod PutAnswers
 pub mod PutEnds
 pub mod Peers
 pub mod Asides
+pub mod OneExchange
+pub mod LookupEnds
+pub mod CloseEnds

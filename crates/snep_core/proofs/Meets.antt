@@ -13,7 +13,7 @@ use Rattle.llcp_pdu.specs.declared.part.Part.TheVariants.{Rr}
 use Rattle.llcp_conn.specs.Conn.{IsWindow, modulus}
 use Rattle.llcp_link.specs.Taking.{steps_part}
 use Rattle.llcp_link.specs.Names.{is_bound, miu_of, own_params, rw_of}
-use Rattle.llcp_link.specs.State.{LlcState}
+use Rattle.llcp_link.specs.State.{Bound, LlcState}
 use Rattle.llcp_link.specs.Giving.{gave}
 use Rattle.snep_core.specs.Accord.{IsFair, IsPaired, Numbers, PeerState, client_open, server_open}
 use Rattle.snep_core.specs.Jobs.{Job}
@@ -91,11 +91,11 @@ module _ (miu window : ℕ) (range : IsMiu miu) (few : IsWindow window) where
   pub says : SaidSo (own_params miu window)
   says = said_by (miu == 128) (window == 1) refl refl
 
--- the server is bound to its SAP, and the client's MIU on the link is one that can be said
-abbrev pub IsReached : PeerState → Type 0
-IsReached p = (is_bound server_sap p.bound ≡ true) × (least_miu ≤ p.far_miu)
+-- these names are bound there, the server is bound to its SAP, and the client's MIU on the link is one that can be said
+abbrev pub IsReached : List Bound → PeerState → Type 0
+IsReached names p = (p.bound ≡ names) × (is_bound server_sap p.bound ≡ true) × (least_miu ≤ p.far_miu)
 
-module _ (limit : ℕ) (table : List Offer) (conv : ℕ → ℕ → Conversation) where
+module _ (limit : ℕ) (table : List Offer) (names : List Bound) (conv : ℕ → ℕ → Conversation) where
   -- Both have the connection, and the conversation stands so.
   pub record Joined (job : Job) (l : EndState) (p : PeerState) : Type 0 where
     pub base : EndState
@@ -105,7 +105,7 @@ module _ (limit : ℕ) (table : List Offer) (conv : ℕ → ℕ → Conversation
     pub phase : (conv n.server_miu n.client_miu).Phase
     pub base_fair : IsFair base
     pub far_fair : IsFair far
-    pub bound : IsReached far
+    pub bound : IsReached names far
     pub paired : IsPaired n (length ((conv n.server_miu n.client_miu).queue_at phase))
     pub holds : (conv n.server_miu n.client_miu).Holds phase
     pub l_is : l ≡ client_open base n ((conv n.server_miu n.client_miu).queue_at phase) ((conv n.server_miu n.client_miu).units_at phase)
@@ -117,7 +117,7 @@ module _ (limit : ℕ) (table : List Offer) (conv : ℕ → ℕ → Conversation
   marked_fair l h = record { miu = h.miu; window = h.window; last = omega arith }
 
   module _ (job : Job) (base : EndState) (far : PeerState) (n : Numbers) (s : ServerState)
-      (base_fair : IsFair base) (far_fair : IsFair far) (bound : IsReached far)
+      (base_fair : IsFair base) (far_fair : IsFair far) (bound : IsReached names far)
       (laws : Converses limit table (conv n.server_miu n.client_miu) n.server_miu n.client_miu)
       (ph : (conv n.server_miu n.client_miu).Phase) (paired : IsPaired n (length ((conv n.server_miu n.client_miu).queue_at ph)))
       (holds : (conv n.server_miu n.client_miu).Holds ph) (j : job ≡ (conv n.server_miu n.client_miu).job_at ph)

@@ -8,7 +8,7 @@ use Rattle.llcp_pdu.specs.General.{IsMiu}
 use Rattle.llcp_conn.specs.Conn.{fresh}
 use Rattle.llcp_pdu.specs.Wire.{discovery_sap}
 use Rattle.llcp_link.specs.Names.{is_bound, miu_of, name_of, named, own_params, reached, rw_of}
-use Rattle.llcp_link.specs.State.{answer}
+use Rattle.llcp_link.specs.State.{Bound, answer}
 use Rattle.llcp_link.specs.Asking.{asked_from, request}
 use Rattle.llcp_link.specs.Taking.{accepted, accepted_at, connects_to, opens, steps_part}
 use Rattle.llcp_link.specs.Giving.{acknowledges, Gave, acknowledges_own, first_of_all, gave, informs, informs_own, or_else}
@@ -62,7 +62,7 @@ new_numbers l p = record {
 flip : (s : ℕ) → (s == client_sap) ≡ false → (client_sap == s) ≡ false
 flip s e = grind (arith, nat_tests)
 
-module _ (limit : ℕ) (table : List Offer) (conv : ℕ → ℕ → Conversation) (most : Option ℕ) (bytes : List ℕ) (old : List Received) where
+module _ (limit : ℕ) (table : List Offer) (names : List Bound) (conv : ℕ → ℕ → Conversation) (most : Option ℕ) (bytes : List ℕ) (old : List Received) where
   -- The CONNECT is to be given; or the CC is.
   pub record Asks (job : Job) (l : EndState) (p : PeerState) : Type 0 where
     pub base : EndState
@@ -70,7 +70,7 @@ module _ (limit : ℕ) (table : List Offer) (conv : ℕ → ℕ → Conversation
     pub service : ServerState
     pub base_fair : IsFair base
     pub far_fair : IsFair far
-    pub bound : IsReached far
+    pub bound : IsReached names far
     pub l_is : l ≡ asking base
     pub p_is : p ≡ bare far service
     pub job_is : job ≡ Begins most bytes
@@ -85,7 +85,7 @@ module _ (limit : ℕ) (table : List Offer) (conv : ℕ → ℕ → Conversation
     pub service : ServerState
     pub base_fair : IsFair base
     pub far_fair : IsFair far
-    pub bound : IsReached far
+    pub bound : IsReached names far
     pub l_is : l ≡ awaiting base
     pub p_is : p ≡ accepting far base service
     pub job_is : job ≡ Begins most bytes
@@ -125,9 +125,9 @@ module _ (limit : ℕ) (table : List Offer) (conv : ℕ → ℕ → Conversation
 
   -- what holds of both until the request is answered
   abbrev pub Meeting : Job → EndState → PeerState → Type 0
-  Meeting job l p = Asks job l p ⊎ (Awaits job l p ⊎ Joined limit table conv job l p)
+  Meeting job l p = Asks job l p ⊎ (Awaits job l p ⊎ Joined limit table names conv job l p)
 
-  abbrev pub joined_client : {job : Job} → {l : EndState} → {p : PeerState} → Joined limit table conv job l p → EndState
+  abbrev pub joined_client : {job : Job} → {l : EndState} → {p : PeerState} → Joined limit table names conv job l p → EndState
   joined_client h =
       client_open h.base h.n ((conv h.n.server_miu h.n.client_miu).queue_at h.phase) ((conv h.n.server_miu h.n.client_miu).units_at h.phase)
 
@@ -167,7 +167,7 @@ module _ (limit : ℕ) (table : List Offer) (conv : ℕ → ℕ → Conversation
     abbrev pub connect_part : EndState → Part
     connect_part base = Connect server_sap client_sap (own_params base.miu base.window)
 
-    pub asks_given : (base : EndState) (far : PeerState) (s : ServerState) → IsFair base → IsFair far → IsReached far → job ≡ Begins most bytes
+    pub asks_given : (base : EndState) (far : PeerState) (s : ServerState) → IsFair base → IsFair far → IsReached names far → job ≡ Begins most bytes
         → client_sap < length s.sessions → s.accepted ≡ old → s.limit ≡ limit → s.table ≡ table
         → IsShort (connect_part base) × Awaits job (awaiting base) (steps_part serving (bare far s) (connect_part base))
     asks_given base far s f g b j seats got limit_is offers =
@@ -181,7 +181,7 @@ module _ (limit : ℕ) (table : List Offer) (conv : ℕ → ℕ → Conversation
             far_fair = g;
             bound = b;
             l_is = refl;
-            p_is = connect_taken base far s (own_params base.miu base.window) b.0 w.1 w.0 (some_window base.window f.window.0);
+            p_is = connect_taken base far s (own_params base.miu base.window) b.1 w.1 w.0 (some_window base.window f.window.0);
             job_is = j;
             serves = serves_begun limit table s _ old (record { seats = seats; session = refl; got = got; most = limit_is; offers = offers });
           },
@@ -202,9 +202,9 @@ module _ (limit : ℕ) (table : List Offer) (conv : ℕ → ℕ → Conversation
     abbrev pub cc_part : PeerState → Part
     cc_part far = Cc client_sap server_sap (own_params far.miu far.window)
 
-    pub awaits_given : (base : EndState) (far : PeerState) (s : ServerState) → IsFair base → IsFair far → IsReached far → job ≡ Begins most bytes
+    pub awaits_given : (base : EndState) (far : PeerState) (s : ServerState) → IsFair base → IsFair far → IsReached names far → job ≡ Begins most bytes
         → Serves limit table s fresh_session old
-        → IsShort (cc_part far) × Joined limit table conv job (steps_part silent (awaiting base) (cc_part far)) (server_open far (new_numbers base far) s)
+        → IsShort (cc_part far) × Joined limit table names conv job (steps_part silent (awaiting base) (cc_part far)) (server_open far (new_numbers base far) s)
     awaits_given base far s f g b j serves =
         let w = says far.miu far.window g.miu g.window in
         let t = keeps.starts far.miu base.miu in
@@ -238,11 +238,11 @@ module _ (limit : ℕ) (table : List Offer) (conv : ℕ → ℕ → Conversation
           },
         )
 
-    joined_on : (p : PeerState) (o : Option (Gave NoService)) → HopSo silent serving (Joined limit table conv job) p o → Hop p o
+    joined_on : (p : PeerState) (o : Option (Gave NoService)) → HopSo silent serving (Joined limit table names conv job) p o → Hop p o
     joined_on p None h = tt
     joined_on p (Some g) h = (h.0, inr (inr h.1))
 
-    joined_back : (l : EndState) (o : Option (Gave ServerState)) → HopSo serving silent (λ p l. Joined limit table conv job l p) l o → HopBack l o
+    joined_back : (l : EndState) (o : Option (Gave ServerState)) → HopSo serving silent (λ p l. Joined limit table names conv job l p) l o → HopBack l o
     joined_back l None h = tt
     joined_back l (Some g) h = (h.0, inr (inr h.1))
 
@@ -256,7 +256,7 @@ module _ (limit : ℕ) (table : List Offer) (conv : ℕ → ℕ → Conversation
     hops l p (inr (inr h)) =
         subst (λ z. Hop p (gave silent z)) (sym h.l_is)
         (subst (λ z. Hop z (gave silent (joined_client h))) (sym h.p_is)
-        (joined_on (server_open h.far h.n h.service) (gave silent (joined_client h)) (client_gives limit table conv job h.base h.far h.n h.service h.base_fair h.far_fair h.bound (keeps.laws h.n.server_miu h.n.client_miu h.paired.server_miu h.paired.client_miu) h.phase h.paired h.holds h.job_is h.serves)))
+        (joined_on (server_open h.far h.n h.service) (gave silent (joined_client h)) (client_gives limit table names conv job h.base h.far h.n h.service h.base_fair h.far_fair h.bound (keeps.laws h.n.server_miu h.n.client_miu h.paired.server_miu h.paired.client_miu) h.phase h.paired h.holds h.job_is h.serves)))
 
     -- what the peer gives, the client takes
     pub hops_back : (p : PeerState) (l : EndState) → Meeting job l p → HopBack l (gave serving p)
@@ -268,4 +268,4 @@ module _ (limit : ℕ) (table : List Offer) (conv : ℕ → ℕ → Conversation
     hops_back p l (inr (inr h)) =
         subst (λ z. HopBack z (gave serving p)) (sym h.l_is)
         (subst (λ z. HopBack (joined_client h) (gave serving z)) (sym h.p_is)
-        (joined_back (joined_client h) (gave serving (server_open h.far h.n h.service)) (server_gives limit table conv job h.base h.far h.n h.service h.base_fair h.far_fair h.bound (keeps.laws h.n.server_miu h.n.client_miu h.paired.server_miu h.paired.client_miu) h.phase h.paired h.holds h.job_is h.serves)))
+        (joined_back (joined_client h) (gave serving (server_open h.far h.n h.service)) (server_gives limit table names conv job h.base h.far h.n h.service h.base_fair h.far_fair h.bound (keeps.laws h.n.server_miu h.n.client_miu h.paired.server_miu h.paired.client_miu) h.phase h.paired h.holds h.job_is h.serves)))

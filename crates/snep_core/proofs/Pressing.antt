@@ -6,6 +6,7 @@ use Rattle.llcp_pdu.specs.declared.part.Part.TheVariants.{Rr}
 use Rattle.llcp_conn.specs.Conn.{count_end, modulus}
 use Rattle.llcp_link.specs.Giving.{Gave, after_giving, gave, given}
 use Rattle.llcp_link.specs.Taking.{steps_part, taken_from}
+use Rattle.llcp_link.specs.State.{Bound}
 use Rattle.snep_core.specs.Accord.{PeerState, client_open, server_open}
 use Rattle.snep_core.specs.Jobs.{Job, has_byte}
 use Rattle.snep_core.specs.Server.{Received, ServerState, serving}
@@ -51,10 +52,10 @@ by_moved : (a b : ℕ) (asked units : List (List ℕ)) → ((has_byte units ≡ 
 by_moved a b asked units (inl e) = true_or (not (a == b)) (has_byte units) e
 by_moved a b asked units (inr (e, n)) = ap (λ z. not z || has_byte units) n
 
-module _ (limit : ℕ) (table : List Offer) (conv : ℕ → ℕ → Conversation) (most : Option ℕ) (bytes : List ℕ) (old : List Received)
-    (keeps : Keeps limit table conv most bytes old) (job : Job) where
+module _ (limit : ℕ) (table : List Offer) (names : List Bound) (conv : ℕ → ℕ → Conversation) (most : Option ℕ) (bytes : List ℕ) (old : List Received)
+    (keeps : Keeps limit table names conv most bytes old) (job : Job) where
   abbrev J : EndState → PeerState → Type 0
-  J l p = Joined limit table conv job l p
+  J l p = Joined limit table names conv job l p
 
   laws_of : {l : EndState} → {p : PeerState} → (h : J l p) → Converses limit table (conv h.n.server_miu h.n.client_miu) h.n.server_miu h.n.client_miu
   laws_of h = keeps.laws h.n.server_miu h.n.client_miu h.paired.server_miu h.paired.client_miu
@@ -80,7 +81,7 @@ module _ (limit : ℕ) (table : List Offer) (conv : ℕ → ℕ → Conversation
     pub moved : (has_byte ((conv joined.n.server_miu joined.n.client_miu).units_at joined.phase) ≡ true) ⊎ ((joined.n.asked ≡ []) × ((joined.n.asked_count == before) ≡ false))
 
   abbrev pub Presses : EndState → PeerState → Type 0
-  Presses l p = Awaits limit table conv most bytes old job l p ⊎ Pressed l p
+  Presses l p = Awaits limit table names conv most bytes old job l p ⊎ Pressed l p
 
   -- the client gives
   module _ (l : EndState) (p : PeerState) (h : J l p) where
@@ -96,9 +97,9 @@ module _ (limit : ℕ) (table : List Offer) (conv : ℕ → ℕ → Conversation
     asks_presses : (u : List ℕ) (queue : List (List ℕ)) → c.queue_at h.phase ≡ u ∷ queue
         → IsShort (asked_part h.n u) × Presses (client_open (marked h.base) (asks h.n u) queue units) (steps_part serving p (asked_part h.n u))
     asks_presses u queue e = (
-      asks_short limit table conv job h.base h.far h.n h.service h.base_fair h.far_fair h.bound (laws_of h) h.phase h.paired h.holds h.job_is h.serves u queue e,
+      asks_short limit table names conv job h.base h.far h.n h.service h.base_fair h.far_fair h.bound (laws_of h) h.phase h.paired h.holds h.job_is h.serves u queue e,
       subst (λ z. Presses (client_open (marked h.base) (asks h.n u) queue units) (steps_part serving z (asked_part h.n u))) (sym h.p_is) (inr (record {
-        joined = joined_asks limit table conv job h.base h.far h.n h.service h.base_fair h.far_fair h.bound (laws_of h) h.phase h.paired h.holds h.job_is h.serves u queue e;
+        joined = joined_asks limit table names conv job h.base h.far h.n h.service h.base_fair h.far_fair h.bound (laws_of h) h.phase h.paired h.holds h.job_is h.serves u queue e;
         told = refl;
         due = inl (some_of h.n.asked u);
       })),
@@ -115,9 +116,9 @@ module _ (limit : ℕ) (table : List Offer) (conv : ℕ → ℕ → Conversation
         (inr (record { joined = h; told = t; due = due_by busy e h.n.asked refl }))
     first_by busy [] e (v ∷ vs) t =
         subst (λ o. FirstSo silent serving Presses l p o) (sym (at_queue [] e ∙ client_ack h.base h.n units h.base_fair.last v vs t)) (
-          client_ack_short limit table conv job h.base h.far h.n h.service h.base_fair h.far_fair h.bound (laws_of h) h.phase h.paired h.holds h.job_is h.serves,
+          client_ack_short limit table names conv job h.base h.far h.n h.service h.base_fair h.far_fair h.bound (laws_of h) h.phase h.paired h.holds h.job_is h.serves,
           subst (λ z. Presses (client_open (marked h.base) (client_acks h.n) [] units) (steps_part serving z (Rr server_sap client_sap ((h.n.told_sa + length h.n.told) % modulus)))) (sym h.p_is) (inr (record {
-            joined = joined_client_acks limit table conv job h.base h.far h.n h.service h.base_fair h.far_fair h.bound (laws_of h) h.phase h.paired h.holds h.job_is h.serves e;
+            joined = joined_client_acks limit table names conv job h.base h.far h.n h.service h.base_fair h.far_fair h.bound (laws_of h) h.phase h.paired h.holds h.job_is h.serves e;
             told = refl;
             due = due_by busy e h.n.asked refl;
           })),
@@ -132,7 +133,7 @@ module _ (limit : ℕ) (table : List Offer) (conv : ℕ → ℕ → Conversation
 
   press_hop : (l : EndState) (p : PeerState) → Presses l p → HopSo silent serving Presses p (gave silent l)
   press_hop l p (inl w) =
-      subst (λ o. HopSo silent serving Presses p o) (sym (ap (gave silent) w.l_is ∙ awaiting_none limit table conv most bytes old keeps job w.base w.base_fair)) tt
+      subst (λ o. HopSo silent serving Presses p o) (sym (ap (gave silent) w.l_is ∙ awaiting_none limit table names conv most bytes old keeps job w.base w.base_fair)) tt
   press_hop l p (inr x) = next_by l p x.joined x.told _ refl
 
   -- the server gives
@@ -146,9 +147,9 @@ module _ (limit : ℕ) (table : List Offer) (conv : ℕ → ℕ → Conversation
     told_moves : (t : HasAnswer h) → nat_lt (length h.n.told + 0) h.n.client_window ≡ true
         → IsShort (told_part h.n t.unit) × Moved before (steps_part silent l (told_part h.n t.unit)) (server_open (marked h.far) (tells h.n t.unit) (serving.sent h.service client_sap h.n.client_miu))
     told_moves t room = (
-      tells_short limit table conv job h.base h.far h.n h.service h.base_fair h.far_fair h.bound (laws_of h) h.phase h.paired h.holds h.job_is h.serves t,
+      tells_short limit table names conv job h.base h.far h.n h.service h.base_fair h.far_fair h.bound (laws_of h) h.phase h.paired h.holds h.job_is h.serves t,
       subst (λ z. Moved before (steps_part silent z (told_part h.n t.unit)) (server_open (marked h.far) (tells h.n t.unit) (serving.sent h.service client_sap h.n.client_miu))) (sym h.l_is) (record {
-        joined = joined_tells limit table conv job h.base h.far h.n h.service h.base_fair h.far_fair h.bound (laws_of h) h.phase h.paired h.holds h.job_is h.serves t room;
+        joined = joined_tells limit table names conv job h.base h.far h.n h.service h.base_fair h.far_fair h.bound (laws_of h) h.phase h.paired h.holds h.job_is h.serves t room;
         moved = inl (ap has_byte t.units_is ∙ byte_of (d.units_at h.phase) t.unit t.some);
       }),
     )
@@ -168,9 +169,9 @@ module _ (limit : ℕ) (table : List Offer) (conv : ℕ → ℕ → Conversation
         → IsShort (Rr client_sap server_sap ((h.n.asked_sa + length h.n.asked) % modulus))
         × Moved before (steps_part silent l (Rr client_sap server_sap ((h.n.asked_sa + length h.n.asked) % modulus))) (server_open (marked h.far) (server_acks h.n) h.service)
     acks_move w = (
-      server_ack_short limit table conv job h.base h.far h.n h.service h.base_fair h.far_fair h.bound (laws_of h) h.phase h.paired h.holds h.job_is h.serves,
+      server_ack_short limit table names conv job h.base h.far h.n h.service h.base_fair h.far_fair h.bound (laws_of h) h.phase h.paired h.holds h.job_is h.serves,
       subst (λ z. Moved before (steps_part silent z (Rr client_sap server_sap ((h.n.asked_sa + length h.n.asked) % modulus))) (server_open (marked h.far) (server_acks h.n) h.service)) (sym h.l_is) (record {
-        joined = joined_server_acks limit table conv job h.base h.far h.n h.service h.base_fair h.far_fair h.bound (laws_of h) h.phase h.paired h.holds h.job_is h.serves;
+        joined = joined_server_acks limit table names conv job h.base h.far h.n h.service h.base_fair h.far_fair h.bound (laws_of h) h.phase h.paired h.holds h.job_is h.serves;
         moved = moved_so (d.units_at h.phase) (((h.n.asked_count + length h.n.asked) % count_end) == before) w;
       }),
     )
@@ -213,8 +214,8 @@ module _ (limit : ℕ) (table : List Offer) (conv : ℕ → ℕ → Conversation
   joined_hop : (p : PeerState) (l : EndState) → J l p → HopSo serving silent (λ q e. J e q) l (gave serving p)
   joined_hop p l h =
       subst (λ z. HopSo serving silent (λ q e. J e q) z (gave serving p)) (sym h.l_is)
-      (subst (λ z. HopSo serving silent (λ q e. J e q) (joined_client limit table conv most bytes old h) (gave serving z)) (sym h.p_is)
-      (server_gives limit table conv job h.base h.far h.n h.service h.base_fair h.far_fair h.bound (laws_of h) h.phase h.paired h.holds h.job_is h.serves))
+      (subst (λ z. HopSo serving silent (λ q e. J e q) (joined_client limit table names conv most bytes old h) (gave serving z)) (sym h.p_is)
+      (server_gives limit table names conv job h.base h.far h.n h.service h.base_fair h.far_fair h.bound (laws_of h) h.phase h.paired h.holds h.job_is h.serves))
 
   -- A reply was taken, and gave something.
   pub record Answered (before after : EndState) (q : PeerState) : Type 0 where
@@ -242,12 +243,12 @@ module _ (limit : ℕ) (table : List Offer) (conv : ℕ → ℕ → Conversation
             let g = m.joined in
             let units = (conv g.n.server_miu g.n.client_miu).units_at g.phase in
             ap (λ z. gave_something (own_of z) (own_of after) || has_byte (units_of (own_of after))) h.l_is
-            ∙ ap (λ z. gave_something (own_of (joined_client limit table conv most bytes old h)) (own_of z) || has_byte (units_of (own_of z))) g.l_is
+            ∙ ap (λ z. gave_something (own_of (joined_client limit table names conv most bytes old h)) (own_of z) || has_byte (units_of (own_of z))) g.l_is
             ∙ by_moved g.n.asked_count h.n.asked_count g.n.asked units m.moved
 
-    awaits_answers : Awaits limit table conv most bytes old job l p → Answered l after q_
+    awaits_answers : Awaits limit table names conv most bytes old job l p → Answered l after q_
     awaits_answers w =
-        let x = awaits_given limit table conv most bytes old keeps job w.base w.far w.service w.base_fair w.far_fair w.bound w.job_is w.serves in
+        let x = awaits_given limit table names conv most bytes old keeps job w.base w.far w.service w.base_fair w.far_fair w.bound w.job_is w.serves in
         let r : l.readable ≡ true = ap (λ (z : EndState). z.readable) w.l_is in
         let s : p.readable ≡ true = ap (λ (z : PeerState). z.readable) w.p_is in
         let first : FirstSo serving silent (λ q e. J e q) p l (gave serving p) =
@@ -277,16 +278,16 @@ module _ (limit : ℕ) (table : List Offer) (conv : ℕ → ℕ → Conversation
         handed_first silent serving Presses press_hop k l p (ap (λ (z : EndState). z.readable) h.l_is) (ap (λ (z : PeerState). z.readable) h.p_is)
         (first_by l p h x.busy _ refl h.n.told refl)
 
-    pub asks_presses_all : Asks limit table conv most bytes old job l p → Presses out_ there
+    pub asks_presses_all : Asks limit table names conv most bytes old job l p → Presses out_ there
     asks_presses_all a =
-        let x = asks_given limit table conv most bytes old keeps job a.base a.far a.service a.base_fair a.far_fair a.bound a.job_is a.seats a.got a.limit_is a.offers in
+        let x = asks_given limit table names conv most bytes old keeps job a.base a.far a.service a.base_fair a.far_fair a.bound a.job_is a.seats a.got a.limit_is a.offers in
         let first : FirstSo silent serving Presses l p (gave silent l) =
         subst (λ z. FirstSo silent serving Presses z p (gave silent z)) (sym a.l_is)
         (subst (λ z. FirstSo silent serving Presses (asking a.base) z (gave silent (asking a.base))) (sym a.p_is) (x.0, inl x.1)) in
         handed_first silent serving Presses press_hop k l p (ap (λ (z : EndState). z.readable) a.l_is) (ap (λ (z : PeerState). z.readable) a.p_is) first
 
-    pub awaits_presses : Awaits limit table conv most bytes old job l p → Presses out_ there
+    pub awaits_presses : Awaits limit table names conv most bytes old job l p → Presses out_ there
     awaits_presses w =
-        let none : gave silent l ≡ None = ap (gave silent) w.l_is ∙ awaiting_none limit table conv most bytes old keeps job w.base w.base_fair in
+        let none : gave silent l ≡ None = ap (gave silent) w.l_is ∙ awaiting_none limit table names conv most bytes old keeps job w.base w.base_fair in
         handed_first silent serving Presses press_hop k l p (ap (λ (z : EndState). z.readable) w.l_is) (ap (λ (z : PeerState). z.readable) w.p_is)
         (subst (λ o. FirstSo silent serving Presses l p o) (sym none) (inl w))

@@ -3,6 +3,7 @@ use Rattle.std.proofs.Common.{◌≡◌, ◌<◌, ◌≤◌, ◌⊎◌, ℕ, ◌
 use Rattle.nfc_base.specs.declared.carrier.EndCause.{EndCause}
 use Rattle.nfc_base.specs.declared.carrier.EndCause.TheVariants as cause
 use Rattle.nfc_base.specs.Links.{CarrierView, FarStep}
+use Rattle.llcp_link.specs.State.{Bound}
 use Rattle.snep_core.specs.declared.fault.SnepFault.{SnepFault}
 use Rattle.snep_core.specs.declared.job.Refusal.{Refusal}
 use Rattle.snep_core.specs.declared.job.Refusal.TheVariants as refusals
@@ -14,7 +15,8 @@ use Rattle.snep_core.specs.Server.{Received}
 use Rattle.snep_core.specs.Session.{Offer}
 use Rattle.snep_core.specs.Talk.{EndState, Ends, GivesUp, OnSap, Puts, Step, alone, begins, behind_first, client_sap, connected}
 use Rattle.snep_core.proofs.Conversations.{Conversation}
-use Rattle.snep_core.proofs.Ends.{At, accord_begins, accepted_is, accords_again, breaks_off, came, limit_is, table_is}
+use Rattle.snep_core.proofs.Courses.{Course, breaks_off, came}
+use Rattle.snep_core.proofs.Ends.{accord_begins, accepted_is, accords_again, limit_is, names_are, request_course, table_is}
 use Rattle.snep_core.proofs.Meets.{Joined}
 use Rattle.snep_core.proofs.Opening.{Keeps, Meeting}
 use Rattle.snep_core.proofs.Turns.{rested_meets}
@@ -28,6 +30,9 @@ module _ (m : List ℕ) (p : PeerState) (short : length m < 2 ^ 32) where
   abbrev table : List Offer
   table = p.service.table
 
+  abbrev names : List Bound
+  names = p.bound
+
   abbrev old : List Received
   old = p.service.accepted
 
@@ -35,14 +40,14 @@ module _ (m : List ℕ) (p : PeerState) (short : length m < 2 ^ 32) where
   abbrev pub conv : ℕ → ℕ → Conversation
   conv miu size = conversation miu limit table m old
 
-  pub keeps : Keeps limit table conv None (put_of m) old
+  pub keeps : Keeps limit table names conv None (put_of m) old
   keeps = record {
     laws = λ miu size range fits. put_converses miu size limit table m old range fits short;
     starts = λ miu size. put_starts miu size limit table m old;
   }
 
   abbrev pub Putting : Job → EndState → PeerState → Type 0
-  Putting job l q = Meeting limit table conv None (put_of m) old job l q
+  Putting job l q = Meeting limit table names conv None (put_of m) old job l q
 
   -- the message was added once, and is within the limit; or nothing was
   abbrev pub AddsSome : List Received → Type 0
@@ -64,7 +69,7 @@ module _ (m : List ℕ) (p : PeerState) (short : length m < 2 ^ 32) where
   pub adds_some : (job : Job) (l : EndState) (q : PeerState) → Putting job l q → AddsSome q.service.accepted
   adds_some job l q (inl h) = inl (ap (λ (z : PeerState). z.service.accepted) h.p_is ∙ h.got)
   adds_some job l q (inr (inl h)) = inl (ap (λ (z : PeerState). z.service.accepted) h.p_is ∙ h.serves.got)
-  adds_some job l q (inr (inr h)) = subst AddsSome (sym (accepted_is limit table conv h)) (at_phase h.n.server_miu h.phase h.holds)
+  adds_some job l q (inr (inr h)) = subst AddsSome (sym (accepted_is limit table names conv h)) (at_phase h.n.server_miu h.phase h.holds)
 
   -- where a put ends
   ends_nowhere : (rest : List ℕ) (e : Ending) → Over e ≡ behind_first None rest → ⊥
@@ -85,27 +90,28 @@ module _ (m : List ℕ) (p : PeerState) (short : length m < 2 ^ 32) where
   ends_at miu e Accepted q = inl (refl, cc)
   ends_at miu e Rejected q = inr (refl, cc)
 
-  joined_only : (e : Ending) (l : EndState) (q : PeerState) → Putting (Over e) l q → Joined limit table conv (Over e) l q
+  joined_only : (e : Ending) (l : EndState) (q : PeerState) → Putting (Over e) l q → Joined limit table names conv (Over e) l q
   joined_only e l q (inl h) = absurd (let z = h.job_is in cc)
   joined_only e l q (inr (inl h)) = absurd (let z = h.job_is in cc)
   joined_only e l q (inr (inr h)) = h
 
   module _ (l : EndState) (q : PeerState) where
-    taken_so : (h : Joined limit table conv (Over Done) l q) → ((h.phase ≡ Accepted) × (Done ≡ Done)) ⊎ ((h.phase ≡ Rejected) × (Done ≡ Refused refusals.Reject)) → IsTaken m p l q
+    taken_so : (h : Joined limit table names conv (Over Done) l q) → ((h.phase ≡ Accepted) × (Done ≡ Done)) ⊎ ((h.phase ≡ Rejected) × (Done ≡ Refused refusals.Reject)) → IsTaken m p l q
     taken_so h (inr (e, z)) = absurd cc
     taken_so h (inl (e, z)) =
         let miu = h.n.server_miu in record {
           within = subst (Holds miu limit table m old) e h.holds;
-          accepted = accepted_is limit table conv h ∙ ap (accepted_at miu limit table m old) e;
-          limit = limit_is limit table conv h;
-          table = table_is limit table conv h;
-          accords = accords_again limit table conv h (ap (queue_at miu limit table m old) e) (ap (units_at miu limit table m old) e) (ap (session_at miu limit table m old) e);
+          accepted = accepted_is limit table names conv h ∙ ap (accepted_at miu limit table m old) e;
+          limit = limit_is limit table names conv h;
+          table = table_is limit table names conv h;
+          bound = names_are limit table names conv h;
+          accords = accords_again limit table names conv h (ap (queue_at miu limit table m old) e) (ap (units_at miu limit table m old) e) (ap (session_at miu limit table m old) e);
         }
 
     taken_at : Putting (Over Done) l q → IsTaken m p l q
     taken_at k = let h = joined_only Done l q k in taken_so h (ends_at h.n.server_miu Done h.phase h.job_is)
 
-    rejected_so : (r : Refusal) → (h : Joined limit table conv (Over (Refused r)) l q) → ((h.phase ≡ Accepted) × (Refused r ≡ Done)) ⊎ ((h.phase ≡ Rejected) × (Refused r ≡ Refused refusals.Reject))
+    rejected_so : (r : Refusal) → (h : Joined limit table names conv (Over (Refused r)) l q) → ((h.phase ≡ Accepted) × (Refused r ≡ Done)) ⊎ ((h.phase ≡ Rejected) × (Refused r ≡ Refused refusals.Reject))
         → (r ≡ refusals.Reject) × IsRejected m p l q
     rejected_so r h (inl (e, z)) = absurd cc
     rejected_so r h (inr (e, z)) =
@@ -113,10 +119,11 @@ module _ (m : List ℕ) (p : PeerState) (short : length m < 2 ^ 32) where
           (let y : r ≡ refusals.Reject = cc in y),
           record {
             beyond = subst (Holds miu limit table m old) e h.holds;
-            accepted = accepted_is limit table conv h ∙ ap (accepted_at miu limit table m old) e;
-            limit = limit_is limit table conv h;
-            table = table_is limit table conv h;
-            accords = accords_again limit table conv h (ap (queue_at miu limit table m old) e) (ap (units_at miu limit table m old) e) (ap (session_at miu limit table m old) e);
+            accepted = accepted_is limit table names conv h ∙ ap (accepted_at miu limit table m old) e;
+            limit = limit_is limit table names conv h;
+            table = table_is limit table names conv h;
+          bound = names_are limit table names conv h;
+            accords = accords_again limit table names conv h (ap (queue_at miu limit table m old) e) (ap (units_at miu limit table m old) e) (ap (session_at miu limit table m old) e);
           },
         )
 
@@ -139,23 +146,21 @@ module _ {C A : Type 0} (seen : C → CarrierView) (moves : C → List FarStep �
   abbrev p : PeerState
   p = view far
 
-  abbrev Here : Step → PeerState → Type 0
-  Here to q = At p.service.limit p.service.table (conv m p short) None (put_of m) p.service.accepted (keeps m p short) (AddsSome m p short) (adds_some m p short) seen moves steps stops view peer to q
+  abbrev course : Course (AddsSome m p short)
+  course = request_course p.service.limit p.service.table p.bound (conv m p short) None (put_of m) p.service.accepted (keeps m p short) (AddsSome m p short) (adds_some m p short)
 
-  begins_so : Here (begins client (Puts m)) p
+  begins_so : course.At (begins client (Puts m)) p
   begins_so = (Begins None (put_of m), connected client client_sap, 0, refl, refl, accord_begins (conv m p short) None (put_of m) client p a (keeps m p short))
 
-  came_to : (to : Step) (now : C) (after : A) → Talks seen moves steps stops (begins client (Puts m)) link far to now after → Here to (view after)
-  came_to to now after t =
-      came p.service.limit p.service.table (conv m p short) None (put_of m) p.service.accepted (keeps m p short) (AddsSome m p short) (adds_some m p short) seen moves steps stops view peer
-      (begins client (Puts m)) to link now far after begins_so t
+  came_to : (to : Step) (now : C) (after : A) → Talks seen moves steps stops (begins client (Puts m)) link far to now after → course.At to (view after)
+  came_to to now after t = came (AddsSome m p short) course seen moves steps stops view peer (begins client (Puts m)) to link now far after begins_so t
 
   -- it was told to be taken
   pub put_taken : (new : EndState) (now : C) (after : A) → Talks seen moves steps stops (begins client (Puts m)) link far (Ends (alone (Over Done)) new) now after
       → IsTaken m p new (view after)
   put_taken new now after t =
       let z = came_to (Ends (alone (Over Done)) new) now after t in
-      taken_at m p short new (view after) (subst (λ j. Putting m p short j new (view after)) (sym (alone_is (Over Done) z.0 z.1)) (rested_meets p.service.limit p.service.table (conv m p short) None (put_of m) p.service.accepted (keeps m p short) z.2))
+      taken_at m p short new (view after) (subst (λ j. Putting m p short j new (view after)) (sym (alone_is (Over Done) z.0 z.1)) (rested_meets p.service.limit p.service.table p.bound (conv m p short) None (put_of m) p.service.accepted (keeps m p short) z.2))
 
   -- it was refused
   refused_fails : (r : Refusal) → (new : EndState) (after : A) → (r ≡ refusals.Reject) × IsRejected m p new (view after) → PutFails m p (refused_by r) new (view after)
@@ -170,7 +175,7 @@ module _ {C A : Type 0} (seen : C → CarrierView) (moves : C → List FarStep �
       let z = came_to (Ends (alone (Over (Refused h.why))) new) now after h.talks in
       subst (λ f. PutFails m p f new (view after)) (sym h.fault)
       (refused_fails h.why new after
-      (rejected_at m p short new (view after) h.why (subst (λ j. Putting m p short j new (view after)) (sym (alone_is (Over (Refused h.why)) z.0 z.1)) (rested_meets p.service.limit p.service.table (conv m p short) None (put_of m) p.service.accepted (keeps m p short) z.2))))
+      (rejected_at m p short new (view after) h.why (subst (λ j. Putting m p short j new (view after)) (sym (alone_is (Over (Refused h.why)) z.0 z.1)) (rested_meets p.service.limit p.service.table p.bound (conv m p short) None (put_of m) p.service.accepted (keeps m p short) z.2))))
 
   fails_by : (c : EndCause) (new : EndState) (after : A) → AddsAtMost m p (view after) → PutFails m p (fault_of c) new (view after)
   fails_by cause.FieldLost new after h = h
@@ -185,6 +190,5 @@ module _ {C A : Type 0} (seen : C → CarrierView) (moves : C → List FarStep �
   put_fails e new now after (inr (inl (f, t))) =
       absurd (came_to (GivesUp new) now after t)
   put_fails e new now after (inr (inr b)) =
-      let k = breaks_off p.service.limit p.service.table (conv m p short) None (put_of m) p.service.accepted (keeps m p short) (AddsSome m p short) (adds_some m p short) seen moves steps stops view peer
-      (begins client (Puts m)) link far e new now after begins_so b in
+      let k = breaks_off (AddsSome m p short) course seen moves steps stops view peer (begins client (Puts m)) link far e new now after begins_so b in
       subst (λ z. PutFails m p z new (view after)) (sym k.fault) (fails_by k.why new after k.added)

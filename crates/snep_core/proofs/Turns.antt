@@ -1,14 +1,14 @@
 -- A call over a peer, turn by turn, from its begin to its end.
 use Rattle.std.proofs.Common.{◌≡◌, ◌⊎◌, ℕ, ◌&&◌, ◌||◌, not, Bool, true, false, List, [], ◌∷◌, length, Option, Some, None, refl, sym, ◌∙◌, ap, subst, inl, inr, if◌then◌else◌}
-use Rattle.nfc_base.specs.Links.{FarMoved, FarStep, Stepped, Stopped}
 use Rattle.llcp_link.specs.Taking.{taken_from}
 use Rattle.llcp_link.specs.Giving.{after_giving, given}
 use Rattle.llcp_link.proofs.Ranged.{either}
-use Rattle.snep_core.specs.Accord.{IsPaired, IsPeer, PeerState, PeerSteps, client_open}
+use Rattle.llcp_link.specs.State.{Bound}
+use Rattle.snep_core.specs.Accord.{IsPaired, PeerState, PeerSteps, client_open}
 use Rattle.snep_core.specs.Jobs.{Job, has_byte}
 use Rattle.snep_core.specs.Server.{Received, serving}
 use Rattle.snep_core.specs.Session.{Offer}
-use Rattle.snep_core.specs.Talk.{EndState, Ends, GivesUp, Goes, IsMost, Ready, Step, Told, Working, all_over, alone, client_sap, emptied, finished, gave_something, heard, heard_so, idle_after, is_over, needs, own_of, payload, readied, replied, settled, silent, units_of}
+use Rattle.snep_core.specs.Talk.{EndState, Ends, GivesUp, Goes, Ready, Step, Working, all_over, alone, client_sap, emptied, finished, gave_something, heard, heard_so, idle_after, is_over, needs, own_of, payload, readied, replied, settled, silent, units_of}
 use Rattle.snep_core.proofs.Carrying.{Handed, handed}
 use Rattle.snep_core.proofs.Conversations.{Conversation}
 use Rattle.snep_core.proofs.Meets.{Joined}
@@ -21,22 +21,22 @@ lost_not : (b : Bool) → (b && not true) ≡ false
 lost_not true = refl
 lost_not false = refl
 
-module _ (limit : ℕ) (table : List Offer) (conv : ℕ → ℕ → Conversation) (most : Option ℕ) (bytes : List ℕ) (old : List Received)
-    (keeps : Keeps limit table conv most bytes old) where
+module _ (limit : ℕ) (table : List Offer) (names : List Bound) (conv : ℕ → ℕ → Conversation) (most : Option ℕ) (bytes : List ℕ) (old : List Received)
+    (keeps : Keeps limit table names conv most bytes old) where
   abbrev Meets : Job → EndState → PeerState → Type 0
-  Meets job l p = Meeting limit table conv most bytes old job l p
+  Meets job l p = Meeting limit table names conv most bytes old job l p
 
   -- The client's end and its job once it submitted what it may.
   abbrev ReadyMeets : PeerState → Ready → Type 0
   ReadyMeets p r = Meets r.job r.llc p
 
-  joined_ready : {job : Job} → {l : EndState} → {p : PeerState} → (h : Joined limit table conv job l p) → ReadyMeets p (readied l client_sap job)
+  joined_ready : {job : Job} → {l : EndState} → {p : PeerState} → (h : Joined limit table names conv job l p) → ReadyMeets p (readied l client_sap job)
   joined_ready {job} {l} {p} h =
       let c = conv h.n.server_miu h.n.client_miu in
       let laws = keeps.laws h.n.server_miu h.n.client_miu h.paired.server_miu h.paired.client_miu in
       let r = laws.readies h.phase h.holds h.base h.n refl h.paired in
       subst (λ z. ReadyMeets p (readied z client_sap job)) (sym h.l_is)
-      (subst (λ z. ReadyMeets p (readied (joined_client limit table conv most bytes old h) client_sap z)) (sym h.job_is)
+      (subst (λ z. ReadyMeets p (readied (joined_client limit table names conv most bytes old h) client_sap z)) (sym h.job_is)
       (subst (ReadyMeets p) (sym r.ready) (inr (inr (record {
         base = h.base;
         far = h.far;
@@ -58,10 +58,10 @@ module _ (limit : ℕ) (table : List Offer) (conv : ℕ → ℕ → Conversation
   ready_meets : {job : Job} → {l : EndState} → {p : PeerState} → Meets job l p → ReadyMeets p (readied l client_sap job)
   ready_meets {job} {l} {p} (inl h) =
       subst (λ z. ReadyMeets p (readied z client_sap job)) (sym h.l_is)
-      (subst (λ z. ReadyMeets p (readied (asking h.base) client_sap z)) (sym h.job_is) (inl (asks_again limit table conv most bytes old h)))
+      (subst (λ z. ReadyMeets p (readied (asking h.base) client_sap z)) (sym h.job_is) (inl (asks_again limit table names conv most bytes old h)))
   ready_meets {job} {l} {p} (inr (inl h)) =
       subst (λ z. ReadyMeets p (readied z client_sap job)) (sym h.l_is)
-      (subst (λ z. ReadyMeets p (readied (awaiting h.base) client_sap z)) (sym h.job_is) (inr (inl (awaits_again limit table conv most bytes old h))))
+      (subst (λ z. ReadyMeets p (readied (awaiting h.base) client_sap z)) (sym h.job_is) (inr (inl (awaits_again limit table names conv most bytes old h))))
   ready_meets (inr (inr h)) = joined_ready h
 
   readable : {job : Job} → {l : EndState} → {p : PeerState} → Meets job l p → (l.readable ≡ true) × (p.readable ≡ true)
@@ -71,12 +71,12 @@ module _ (limit : ℕ) (table : List Offer) (conv : ℕ → ℕ → Conversation
 
   -- its payload, handed over
   pub hands : {job : Job} → {l : EndState} → {p : PeerState} → Meets job l p → (k : ℕ) → Handed silent serving (Meets job) k l p
-  hands {job} {l} {p} h k = handed silent serving (Meets job) (hops limit table conv most bytes old keeps job) k l p (readable h).0 (readable h).1 h
+  hands {job} {l} {p} h k = handed silent serving (Meets job) (hops limit table names conv most bytes old keeps job) k l p (readable h).0 (readable h).1 h
 
   -- and the reply, taken
   pub takes : {job : Job} → {l : EndState} → {p : PeerState} → Meets job l p → (k : ℕ) → Meets job (taken_from silent l (given serving k p)) (after_giving serving k p)
   takes {job} {l} {p} h k =
-      (handed serving silent (λ q e. Meets job e q) (hops_back limit table conv most bytes old keeps job) k p l (readable h).1 (readable h).0 h).now
+      (handed serving silent (λ q e. Meets job e q) (hops_back limit table names conv most bytes old keeps job) k p l (readable h).1 (readable h).0 h).now
 
   -- once the client submitted what it may
   pub readied_meets : {job : Job} → {l : EndState} → {p : PeerState} → Meets job l p → Meets (readied l client_sap job).job (readied l client_sap job).llc p
@@ -84,11 +84,11 @@ module _ (limit : ℕ) (table : List Offer) (conv : ℕ → ℕ → Conversation
 
   -- Between two turns: the connection is to be asked for or a CC is to be given, or nothing that was heard is left.
   pub record IsRested (job : Job) (l : EndState) (p : PeerState) : Type 0 where
-    pub joined : Joined limit table conv job l p
+    pub joined : Joined limit table names conv job l p
     pub units : (conv joined.n.server_miu joined.n.client_miu).units_at joined.phase ≡ []
 
   abbrev pub Rests : Job → EndState → PeerState → Type 0
-  Rests job l p = Asks limit table conv most bytes old job l p ⊎ (Awaits limit table conv most bytes old job l p ⊎ IsRested job l p)
+  Rests job l p = Asks limit table names conv most bytes old job l p ⊎ (Awaits limit table names conv most bytes old job l p ⊎ IsRested job l p)
 
   pub rested_meets : {job : Job} → {l : EndState} → {p : PeerState} → Rests job l p → Meets job l p
   rested_meets (inl h) = inl h
@@ -101,20 +101,20 @@ module _ (limit : ℕ) (table : List Offer) (conv : ℕ → ℕ → Conversation
     pub heard_is : heard l client_sap job ≡ Some next
     pub rested : IsRested next (emptied l client_sap) p
 
-  joined_hears : {job : Job} → {l : EndState} → {p : PeerState} → (h : Joined limit table conv job l p) → HearsMore job p l
+  joined_hears : {job : Job} → {l : EndState} → {p : PeerState} → (h : Joined limit table names conv job l p) → HearsMore job p l
   joined_hears {job} {l} {p} h =
       let c = conv h.n.server_miu h.n.client_miu in
       let laws = keeps.laws h.n.server_miu h.n.client_miu h.paired.server_miu h.paired.client_miu in
       let x = laws.hears h.phase h.holds in
       let now = c.job_at x.to in
       let left = client_open h.base h.n (c.queue_at h.phase) [] in
-      let here : heard (joined_client limit table conv most bytes old h) client_sap (c.job_at h.phase) ≡ Some now =
+      let here : heard (joined_client limit table names conv most bytes old h) client_sap (c.job_at h.phase) ≡ Some now =
       ap (heard_so left client_sap) x.told
       ∙ ap (λ b. if b then None else Some (finished left client_sap now)) (lost_not (needs now))
       ∙ ap Some (laws.plain x.to left) in
       subst (HearsMore job p) (sym h.l_is) (record {
         next = now;
-        heard_is = ap (heard (joined_client limit table conv most bytes old h) client_sap) h.job_is ∙ here;
+        heard_is = ap (heard (joined_client limit table names conv most bytes old h) client_sap) h.job_is ∙ here;
         rested = record {
           joined = record {
             base = h.base;
@@ -139,8 +139,8 @@ module _ (limit : ℕ) (table : List Offer) (conv : ℕ → ℕ → Conversation
 
   -- its end is ready
   abbrev ReadyRests : PeerState → Ready → Type 0
-  ReadyRests p r = Asks limit table conv most bytes old r.job r.llc p
-      ⊎ (Awaits limit table conv most bytes old r.job r.llc p ⊎ IsReady limit table conv most bytes old keeps r.job r.llc p)
+  ReadyRests p r = Asks limit table names conv most bytes old r.job r.llc p
+      ⊎ (Awaits limit table names conv most bytes old r.job r.llc p ⊎ IsReady limit table names conv most bytes old keeps r.job r.llc p)
 
   rested_ready : {job : Job} → {l : EndState} → {p : PeerState} → is_over job ≡ false → IsRested job l p → ReadyRests p (readied l client_sap job)
   rested_ready {job} {l} {p} on x =
@@ -151,7 +151,7 @@ module _ (limit : ℕ) (table : List Offer) (conv : ℕ → ℕ → Conversation
       let serves = subst (λ z. Serves limit table h.service z (c.accepted_at r.to)) (sym r.session_is)
       (subst (λ z. Serves limit table h.service (c.session_at h.phase) z) (sym r.accepted_is) h.serves) in
       subst (λ z. ReadyRests p (readied z client_sap job)) (sym h.l_is)
-      (subst (λ z. ReadyRests p (readied (joined_client limit table conv most bytes old h) client_sap z)) (sym h.job_is)
+      (subst (λ z. ReadyRests p (readied (joined_client limit table names conv most bytes old h) client_sap z)) (sym h.job_is)
       (subst (ReadyRests p) (sym r.ready) (inr (inr (record {
         joined = record {
           base = h.base;
@@ -175,17 +175,17 @@ module _ (limit : ℕ) (table : List Offer) (conv : ℕ → ℕ → Conversation
   ready_rests : {job : Job} → {l : EndState} → {p : PeerState} → is_over job ≡ false → Rests job l p → ReadyRests p (readied l client_sap job)
   ready_rests {job} {l} {p} on (inl h) =
       subst (λ z. ReadyRests p (readied z client_sap job)) (sym h.l_is)
-      (subst (λ z. ReadyRests p (readied (asking h.base) client_sap z)) (sym h.job_is) (inl (asks_again limit table conv most bytes old h)))
+      (subst (λ z. ReadyRests p (readied (asking h.base) client_sap z)) (sym h.job_is) (inl (asks_again limit table names conv most bytes old h)))
   ready_rests {job} {l} {p} on (inr (inl h)) =
       subst (λ z. ReadyRests p (readied z client_sap job)) (sym h.l_is)
-      (subst (λ z. ReadyRests p (readied (awaiting h.base) client_sap z)) (sym h.job_is) (inr (inl (awaits_again limit table conv most bytes old h))))
+      (subst (λ z. ReadyRests p (readied (awaiting h.base) client_sap z)) (sym h.job_is) (inr (inl (awaits_again limit table names conv most bytes old h))))
   ready_rests on (inr (inr h)) = rested_ready on h
 
-  presses : {job : Job} → {l : EndState} → {p : PeerState} → (k : ℕ) → (Asks limit table conv most bytes old job l p ⊎ (Awaits limit table conv most bytes old job l p ⊎ IsReady limit table conv most bytes old keeps job l p))
-      → Presses limit table conv most bytes old keeps job (after_giving silent k l) (taken_from serving p (given silent k l))
-  presses {job} {l} {p} k (inl h) = asks_presses_all limit table conv most bytes old keeps job l p k h
-  presses {job} {l} {p} k (inr (inl h)) = awaits_presses limit table conv most bytes old keeps job l p k h
-  presses {job} {l} {p} k (inr (inr h)) = ready_presses limit table conv most bytes old keeps job l p k h
+  presses : {job : Job} → {l : EndState} → {p : PeerState} → (k : ℕ) → (Asks limit table names conv most bytes old job l p ⊎ (Awaits limit table names conv most bytes old job l p ⊎ IsReady limit table names conv most bytes old keeps job l p))
+      → Presses limit table names conv most bytes old keeps job (after_giving silent k l) (taken_from serving p (given silent k l))
+  presses {job} {l} {p} k (inl h) = asks_presses_all limit table names conv most bytes old keeps job l p k h
+  presses {job} {l} {p} k (inr (inl h)) = awaits_presses limit table names conv most bytes old keeps job l p k h
+  presses {job} {l} {p} k (inr (inr h)) = ready_presses limit table names conv most bytes old keeps job l p k h
 
   -- where a call is, step by step; the far end is never given up
   abbrev pub StepSo : Step → PeerState → Type 0
@@ -213,10 +213,10 @@ module _ (limit : ℕ) (table : List Offer) (conv : ℕ → ℕ → Conversation
         let mid = after_giving silent k r.llc in
         let there = taken_from serving p (payload k working) in
         let out = presses k (ready_rests on h) in
-        let back : Answered limit table conv most bytes old keeps r.job mid (taken_from silent mid reply) q =
-        subst (λ z. Answered limit table conv most bytes old keeps r.job mid (taken_from silent mid z) q) (sym s.reply_is)
-        (subst (λ z. Answered limit table conv most bytes old keeps r.job mid (taken_from silent mid (given serving s.count there)) z) (sym s.left)
-        (answers limit table conv most bytes old keeps r.job mid there s.count out)) in
+        let back : Answered limit table names conv most bytes old keeps r.job mid (taken_from silent mid reply) q =
+        subst (λ z. Answered limit table names conv most bytes old keeps r.job mid (taken_from silent mid z) q) (sym s.reply_is)
+        (subst (λ z. Answered limit table names conv most bytes old keeps r.job mid (taken_from silent mid (given serving s.count there)) z) (sym s.left)
+        (answers limit table names conv most bytes old keeps r.job mid there s.count out)) in
         let end_ = taken_from silent mid reply in
         let x = joined_hears back.joined in
         let gave = gave_something (own_of mid) (own_of end_) || has_byte (units_of (own_of end_)) in
@@ -224,19 +224,8 @@ module _ (limit : ℕ) (table : List Offer) (conv : ℕ → ℕ → Conversation
         ∙ ap (λ b. settled (emptied end_ client_sap) (alone x.next) (idle_after b idle)) back.gave_some))
         (settles (emptied end_ client_sap) q x.next (inr (inr x.rested)))
 
-  module _ {A : Type 0} (far_steps : A → List ℕ → List ℕ → A → Type 0) (far_stops : A → List ℕ → A → Type 0) (view : A → PeerState) (peer : IsPeer far_steps far_stops view) where
-    -- from one step to another
-    pub talks_on : (counts : List ℕ) (did : List FarStep) (from to : Step) (far after : A) → StepSo from (view far) → Told IsMost counts from did to
-        → FarMoved far_steps far_stops did far after → StepSo to (view after)
-    talks_on [] [] from to far after h t f = subst (λ z. StepSo z (view after)) (sym t) (subst (λ z. StepSo from (view z)) (sym f) h)
-    talks_on [] (x ∷ did) from to far after h t f = absurd t
-    talks_on (k ∷ ks) [] (Goes w) to far after h t f = absurd t
-    talks_on (k ∷ ks) [] (Ends jobs l) to far after h t f = absurd t
-    talks_on (k ∷ ks) [] (GivesUp l) to far after h t f = absurd t
-    talks_on (k ∷ ks) (Stopped out ∷ did) (Goes w) to far after h t f = absurd t
-    talks_on (k ∷ ks) (x ∷ did) (Ends jobs l) to far after h t f = absurd t
-    talks_on (k ∷ ks) (x ∷ did) (GivesUp l) to far after h t f = absurd t
-    talks_on (k ∷ ks) (Stepped out reply ∷ did) (Goes w) to far after (job, l, idle, e, on, h) (fits, o, more) (mid, s, f) =
-        let s2 : PeerSteps (view far) (payload k (record { llc = l; jobs = alone job; idle = idle })) reply (view mid) =
-        subst (λ z. PeerSteps (view far) (payload k z) reply (view mid)) e (subst (λ z. PeerSteps (view far) z reply (view mid)) o (peer.steps_so far out reply mid s)) in
-        talks_on ks did (replied k w reply) to mid after (subst (λ z. StepSo (replied k z reply) (view mid)) (sym e) (turns job l (view far) idle on h k reply (view mid) s2)) more f
+  -- and so from any step
+  pub turns_so : (w : Working) (p : PeerState) → StepSo (Goes w) p → (k : ℕ) (reply : List ℕ) (q : PeerState) → PeerSteps p (payload k w) reply q → StepSo (replied k w reply) q
+  turns_so w p (job, l, idle, e, on, h) k reply q s =
+      let x = subst (λ z. PeerSteps p (payload k z) reply q) e s in
+      subst (λ z. StepSo (replied k z reply) q) (sym e) (turns job l p idle on h k reply q x)

@@ -6,7 +6,7 @@ use Rattle.llcp_conn.specs.Conn.{ConnState, IsSap, IsWindow, modulus}
 use Rattle.llcp_link.specs.State.{LlcState, OwnState, restarted}
 use Rattle.llcp_link.specs.Opened.{opened}
 use Rattle.llcp_link.specs.Asking.{is_there}
-use Rattle.llcp_link.specs.Names.{is_bound}
+use Rattle.llcp_link.specs.Names.{found, is_bound}
 use Rattle.llcp_link.specs.Taking.{Item, brought, steps, taken_from}
 use Rattle.llcp_link.specs.Giving.{given, after_giving}
 use Rattle.llcp_link.specs.Answering.{Answers, Stops}
@@ -117,10 +117,10 @@ client_open l n queue units = record l {
 abbrev pub server_open : PeerState → Numbers → ServerState → PeerState
 server_open p n s = record p { readable = true; queue = []; served = server_conn n ∷ []; own = []; service = s }
 
--- the client has no connection, or one that is over
+-- the client has no connection, or one that is over, of which no unit is left
 abbrev pub AreOver : List OwnState → Type 0
 AreOver [] = Unit {0}
-AreOver (o ∷ []) = (o.here ≡ client_sap) × (is_there o.is ≡ false)
+AreOver (o ∷ []) = (o.here ≡ client_sap) × (is_there o.is ≡ false) × (o.units ≡ [])
 AreOver (o ∷ p ∷ os) = ⊥
 
 -- nothing is under way, and there is no connection
@@ -187,6 +187,7 @@ pub record IsTaken (m : List ℕ) (old : PeerState) (client : EndState) (new : P
   pub accepted : new.service.accepted ≡ old.service.accepted ++ from_client m ∷ []
   pub limit : new.service.limit ≡ old.service.limit
   pub table : new.service.table ≡ old.service.table
+  pub bound : new.bound ≡ old.bound
   pub accords : Accords client new
 
 -- A put that was rejected: its message is longer than the limit, and nothing was accepted.
@@ -195,6 +196,7 @@ pub record IsRejected (m : List ℕ) (old : PeerState) (client : EndState) (new 
   pub accepted : new.service.accepted ≡ old.service.accepted
   pub limit : new.service.limit ≡ old.service.limit
   pub table : new.service.table ≡ old.service.table
+  pub bound : new.bound ≡ old.bound
   pub accords : Accords client new
 
 -- nothing was accepted, or the message once, which is within the limit
@@ -212,6 +214,28 @@ PutFails m old NotImplemented client new = ⊥
 PutFails m old (LinkEnded c) client new = AddsAtMost m old new
 PutFails m old Memory client new = AddsAtMost m old new
 PutFails m old BadPeer client new = ⊥
+
+-- A call that puts nothing: the peer's service and its names are as before, and client and peer accord again.
+pub record IsAside (old : PeerState) (client : EndState) (new : PeerState) : Type 0 where
+  pub service : new.service ≡ old.service
+  pub bound : new.bound ≡ old.bound
+  pub accords : Accords client new
+
+-- A lookup that was told: the SAP is the one to which the peer's end has the name bound, 1 that of service discovery, 0 where it has none.
+pub record IsFound (name : List ℕ) (old : PeerState) (sap : ℕ) (client : EndState) (new : PeerState) : Type 0 where
+  pub told : sap ≡ found old.bound name
+  pub aside : IsAside old client new
+
+-- A connection that was ended, or none was open: there is none.
+pub record IsClosed (old : PeerState) (client : EndState) (new : PeerState) : Type 0 where
+  pub apart : IsApart client new
+  pub aside : IsAside old client new
+
+-- a call that puts nothing, and failed so: by the link or by want of memory
+abbrev pub AsideFails : PeerState → SnepFault → PeerState → Type 0
+AsideFails old (LinkEnded c) new = new.service.accepted ≡ old.service.accepted
+AsideFails old Memory new = new.service.accepted ≡ old.service.accepted
+AsideFails old _ new = ⊥
 
 -- An end with this project's server is a peer, as it is.
 abbrev pub PeersServe : Type 0

@@ -1,8 +1,11 @@
-use Rattle.std.proofs.Common.{rules, ◌≡◌, true, false, refl, sym, ap, subst, inl, inr, if◌then◌else◌}
+use Rattle.std.proofs.Common.{rules, ◌≡◌, IfErr, OnOk, true, false, refl, sym, ap, subst, inl, inr, if◌then◌else◌}
+use Rattle.std.proofs.lemmas.Result.{IfErr-weaker, on_ok_weaker}
 use Rattle.llcp_link.specs.Asking.{disconnected_by, is_open_by}
-use Rattle.snep_core.specs.Calling.{Talks}
+use Rattle.snep_core.specs.Calling.{FailsBy, Talks}
 use Rattle.snep_core.specs.Jobs.{Closes, Done, Over}
 use Rattle.snep_core.specs.Talk.{Ends, Leaves, Step, alone, begins, begun, own_of}
+use Rattle.snep_core.specs.Accord.{AsideFails}
+use Rattle.snep_core.proofs.CloseEnds.{close_ends, close_fails}
 use Rattle.snep_core.proofs.Talking.{talks_none}
 use Rattle.snep_core.proofs.client.Client.close.Goals as goal
 
@@ -33,3 +36,27 @@ returns-then-not-is_open-clause-ok g c =
     c.args.carrier.now c.args.far.now (Ends (alone (Over Done)) l) c.args.carrier.now c.args.far.now) from
     (talks_none g.C.Carrier.seen g.C.Carrier.moves g.A.Answerer.steps g.A.Answerer.stops g.met.C.Carrier.stays
     (Ends (alone (Over Done)) l) c.args.carrier.now c.args.far.now)
+
+pub returns-in-Err-clause-fails : goal.returns-in-Err-clause-fails
+returns-in-Err-clause-fails g c = λ view peer a.
+    subst (λ f. AsideFails (view c.args.far.now) f (view c.args.far.now)) (sym c.spend.ensures.fault) refl
+
+pub returns-then-not-is_open-clause-closed : goal.returns-then-not-is_open-clause-closed
+returns-then-not-is_open-clause-closed g c = λ view peer a.
+    close_ends g.C.Carrier.seen g.C.Carrier.moves g.A.Answerer.steps g.A.Answerer.stops view peer c.args.self.now.llc
+    c.args.carrier.now c.args.far.now a c.args.self.now.llc c.args.carrier.now c.args.far.now (returns-then-not-is_open-clause-ok g c)
+
+pub returns-clause-closed : goal.returns-clause-closed
+returns-clause-closed g c = λ view peer a.
+    let ok : OnOk c.match-converse.result (Talks g.C.Carrier.seen g.C.Carrier.moves g.A.Answerer.steps g.A.Answerer.stops
+    (begins c.args.self.now.llc Leaves) c.args.carrier.now c.args.far.now (Ends (alone (Over Done)) c.converse.new.self.llc)
+    c.converse.new.carrier c.converse.new.far) = search rules in
+    on_ok_weaker c.match-converse.result (λ t. close_ends g.C.Carrier.seen g.C.Carrier.moves g.A.Answerer.steps g.A.Answerer.stops view peer
+    c.args.self.now.llc c.args.carrier.now c.args.far.now a c.converse.new.self.llc c.converse.new.carrier c.converse.new.far t) ok
+
+pub returns-clause-fails : goal.returns-clause-fails
+returns-clause-fails g c = λ view peer a.
+    let err : IfErr c.match-converse.result (λ e. FailsBy g.C.Carrier.seen g.C.Carrier.moves g.A.Answerer.steps g.A.Answerer.stops
+    (begins c.args.self.now.llc Leaves) c.args.carrier.now c.args.far.now e c.converse.new.self.llc c.converse.new.carrier c.converse.new.far) = search rules in
+    IfErr-weaker c.match-converse.result _ _ (λ e t. close_fails g.C.Carrier.seen g.C.Carrier.moves g.A.Answerer.steps g.A.Answerer.stops view peer
+    c.args.self.now.llc c.args.carrier.now c.args.far.now a e c.converse.new.self.llc c.converse.new.carrier c.converse.new.far t) err
