@@ -1,5 +1,7 @@
 pub mod Powered
 pub mod Cards
+pub mod Peers
+pub mod PeerUpper
 pub mod Device
 pub mod LinkCalls
 pub mod Uppers

@@ -19,4 +19,6 @@ pub mod QuietHearing
 pub mod OneJournal
 pub mod Shapes
 pub mod Quiet
+pub mod ReadBack
+pub mod Joined
 mod DigitPairs

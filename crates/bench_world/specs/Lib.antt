@@ -12,4 +12,5 @@ pub mod QuietHearing
 pub mod Taking
 pub mod SameCommands
 pub mod Report
+pub mod ReadBack
 pub mod Digits

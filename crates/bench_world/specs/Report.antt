@@ -1,7 +1,8 @@
 -- The report: the text of an entry, by the entry alone. Its form is this project's own.
-use Rattle.std.specs.Prelude.{ℕ, ◌/◌, ◌%◌, List, [], ◌∷◌, ◌++◌, codes, length, ◌==◌, if◌then◌else◌, Bool, true, false}
+use Rattle.std.specs.Prelude.{◌≡◌, ℕ, ◌/◌, ◌%◌, ◌<◌, Option, Some, None, List, [], ◌∷◌, ◌++◌, codes, length, ◌==◌, if◌then◌else◌, Bool, true, false}
 use Rattle.std.specs.List.{flat_map}
 use Rattle.std.specs.Fmt.{decimal}
+use Rattle.arrayvec.specs.ArrayVec.{ArrayVec}
 use Rattle.hex.specs.Hex.{encode_upper}
 use Rattle.nfc_base.specs.Signal.{Signal}
 use Rattle.nfc_base.specs.declared.event.Event.{Event}
@@ -105,3 +106,8 @@ entry_text quiet e = (if quiet then [] else events_text e.line e.events) ++ line
 -- the text of some entries
 abbrev pub report_text : Bool → List Entry → List ℕ
 report_text quiet es = flat_map (entry_text quiet) es
+
+-- a piece of a line's text that is left, which isn't empty, unless none is left
+abbrev pub GivesPiece : List ℕ → Option (ArrayVec ℕ) → List ℕ → Type 0
+GivesPiece left None left' = (left ≡ []) × (left' ≡ [])
+GivesPiece left (Some piece) left' = (left ≡ piece.items ++ left') × (0 < length piece.items)

@@ -5,6 +5,7 @@ ghost use Rattle.bench_world.specs.Behind.{WrittenIsRead, OneOfThreeIsRead};
 ghost use Rattle.bench_world.specs.Completing.{ReadsComplete, WritesComplete, ValidIsWritten, FindsComplete};
 ghost use Rattle.bench_world.specs.Quiet.{QuietStays, QuietReads, QuietWrites, QuietFinds};
 ghost use Rattle.bench_world.specs.QuietHearing.{QuietHears, QuietScript};
+ghost use Rattle.bench_world.specs.ReadBack.{LinesTellEvents, AnswersApart};
 ghost use Rattle.bench_world.specs.Taking.{LinesDecide};
 
 /// A legal read of a placed tag, without a Break, without a wait of six bad receptions and with one round (of a Type 5 tag one
@@ -35,6 +36,13 @@ pub fn reads_behind()
 /// Which lines of a script are taken is decided by the lines alone, not by what was sent.
 pub fn lines_decide()
     ensures { LinesDecide }
+{}
+
+/// A stored report can be read back: two events of one technology have one line only where they are equal, and no answer's line
+/// is an event's.
+pub fn lines_tell_events()
+    ensures events { LinesTellEvents }
+    ensures answers { AnswersApart }
 {}
 
 /// Where no fate is left but Pass, the air stays quiet, a read of a placed tag tells what its store holds, a write what it

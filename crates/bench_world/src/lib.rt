@@ -1,25 +1,31 @@
 //! A bench: devices in a field, and the journal of the commands that it obeyed.
 //!
 //! `bench` obeys commands, those that ask the devices something by `asking`; `entry` is what the journal keeps of one,
-//! `answering` makes its answer of what selecting, reading, writing and searching came to, and `report` turns an entry to
-//! text, bytes by `digits`. `specs/Legal.antt` says which entries a bench may
-//! have, `specs/Journal.antt` which journals the lines of a script may have, `specs/Answering.antt` and
-//! `specs/Reading.antt` what each answer tells, `specs/Report.antt` how it is written; `law` says when noise keeps no command
-//! from its answer, and that the lines of a script alone decide which of them are taken.
+//! `answering` makes its answer of what selecting, reading, writing and searching came to. `event_lines` and `pieces` turn
+//! an entry to text in pieces that `fixed_text` fills, without memory, and `report` joins them. `specs/Legal.antt` says which
+//! entries a bench may have, `specs/Journal.antt` which journals the lines of a script may have, `specs/Answering.antt` and
+//! `specs/Reading.antt` what each answer tells, `specs/Report.antt` how it is written, `specs/ReadBack.antt` what its lines
+//! tell; `law` says when noise keeps no command from its answer, and that the lines of a script alone decide which of them are
+//! taken.
 #![tactic(auto)]
 
 mod answering;
 mod asking;
 mod bench;
-mod digits;
 mod entry;
+mod event_lines;
+mod fixed_text;
 mod law;
+mod pieces;
 mod report;
 
 pub use bench::{Bench, ObeyFault};
 pub use bench_devices::{Device, SeenKind};
 pub use entry::{Answer, Entry, Seen};
+pub use event_lines::event_line;
 pub use law::{
-    finds_complete, lines_decide, quiet_air, reads_behind, reads_complete, writes_complete,
+    finds_complete, lines_decide, lines_tell_events, quiet_air, reads_behind, reads_complete,
+    writes_complete,
 };
+pub use pieces::{AnswerPieces, answer_pieces};
 pub use report::render;

@@ -1,15 +1,12 @@
 //! The report's text of an entry.
 
-ghost use Rattle.std.specs.Prelude.{◌≡◌, ◌++◌, IfOk, OnOk, codes};
-ghost use Rattle.std.specs.List.{flat_map};
-ghost use Rattle.std.specs.Fmt.{decimal};
-ghost use Rattle.bench_script.specs.Canonical.{hex_text};
-ghost use Rattle.bench_world.specs.Report.{tail_text, frame_text, fate_text, sent_text, event_text, kind_text, seen_text, found_text, answer_text, code_text, events_text, entry_text, line_text};
+ghost use Rattle.std.specs.Prelude.{◌≡◌, ◌++◌, IfOk, OnOk};
+ghost use Rattle.bench_world.specs.Report.{events_text, entry_text, line_text, answer_text};
 
-use crate::digits::push_digits;
-use crate::entry::{Answer, Entry, Seen};
-use bench_devices::SeenKind;
-use nfc_base::{Event, Fate, Frame};
+use crate::entry::Entry;
+use crate::event_lines::event_line;
+use crate::pieces::answer_pieces;
+use nfc_base::Event;
 use std::alloc::{AllocError, Global};
 
 /// The lines of an entry: one for each event, unless `quiet`, and one for the answer.
@@ -20,10 +17,7 @@ pub fn render(alloc: Global, entry: &Entry, quiet: bool) -> Result<Vec<u8>, Allo
     if !quiet {
         push_events(&mut text, entry.line, entry.events.as_slice())?;
     }
-    push_number(&mut text, entry.line as u64)?;
-    text.extend_from_slice(b" ".as_slice())?;
-    push_answer(&mut text, &entry.answer)?;
-    text.extend_from_slice(b"\n".as_slice())?;
+    push_answer(&mut text, entry)?;
     Ok(text)
 }
 
@@ -31,183 +25,29 @@ fn push_events(text: &mut Vec<u8>, line: u32, events: &[Event]) -> Result<(), Al
     ensures { OnOk result (text.new.items ≡ text.old.items ++ events_text line events.now) }
 {
     'events: for event in events {
-        push_number(text, line as u64)?;
-        text.extend_from_slice(b" ".as_slice())?;
-        push_event(text, event)?;
-        text.extend_from_slice(b"\n".as_slice())?;
+        text.extend_from_slice(&event_line(line, event))?;
     }
     Ok(())
 }
 
-fn push_event(text: &mut Vec<u8>, event: &Event) -> Result<(), AllocError>
-    ensures { OnOk result (text.new.items ≡ text.old.items ++ event_text event.now) }
+fn push_answer(text: &mut Vec<u8>, entry: &Entry) -> Result<(), AllocError>
+    ensures { OnOk result (text.new.items
+        ≡ text.old.items ++ line_text entry.now.line (answer_text entry.now.answer)) }
 {
-    match event {
-        Event::Reset => text.extend_from_slice(b"! reset".as_slice()),
-        Event::Request { frame, fate } => push_sent(text, b"> ", frame, *fate),
-        Event::Answer { frame, fate } => push_sent(text, b"< ", frame, *fate),
-        Event::Clash { frame, fate } => push_sent(text, b"* ", frame, *fate),
+    let mut pieces = answer_pieces(entry);
+    'pieces: while let Some(piece) = pieces.next() {
+        text.extend_from_slice(&piece)?;
     }
-}
-
-/// A transmission, behind the sign that says what it is.
-fn push_sent(
-    text: &mut Vec<u8>,
-    sign: &[u8; 2],
-    frame: &Frame,
-    fate: Fate,
-) -> Result<(), AllocError>
-    ensures { OnOk result (text.new.items ≡ text.old.items ++ (sign.now ++ sent_text frame.now fate)) }
-{
-    text.extend_from_slice(sign.as_slice())?;
-    push_frame(text, frame)?;
-    text.extend_from_slice(b" ".as_slice())?;
-    text.extend_from_slice(fate_name(fate))?;
-    Ok(())
-}
-
-fn push_frame(text: &mut Vec<u8>, frame: &Frame) -> Result<(), AllocError>
-    ensures { OnOk result (text.new.items ≡ text.old.items ++ frame_text frame.now) }
-{
-    push_hex(text, frame.view())?;
-    if frame.tail() != 0 {
-        text.extend_from_slice(b"/".as_slice())?;
-        push_number(text, frame.tail() as u64)?;
-    }
-    Ok(())
-}
-
-fn fate_name(fate: Fate) -> &'static [u8]
-    ensures { result.now ≡ fate_text fate }
-{
-    match fate {
-        Fate::Pass => b"pass".as_slice(),
-        Fate::Damage => b"damage".as_slice(),
-        Fate::Lose => b"lose".as_slice(),
-        Fate::Break => b"break".as_slice(),
-    }
-}
-
-fn push_answer(text: &mut Vec<u8>, answer: &Answer) -> Result<(), AllocError>
-    ensures { OnOk result (text.new.items ≡ text.old.items ++ answer_text answer.now) }
-{
-    match answer {
-        Answer::Done => text.extend_from_slice(b"ok".as_slice()),
-        Answer::NotNdef => text.extend_from_slice(b"not ndef".as_slice()),
-        Answer::Version => text.extend_from_slice(b"version".as_slice()),
-        Answer::NoRead => text.extend_from_slice(b"no read".as_slice()),
-        Answer::Sectors => text.extend_from_slice(b"sectors".as_slice()),
-        Answer::BadSize => text.extend_from_slice(b"bad size".as_slice()),
-        Answer::NoMessageTlv => text.extend_from_slice(b"no message tlv".as_slice()),
-        Answer::BadTlv => text.extend_from_slice(b"bad tlv".as_slice()),
-        Answer::Disturbed => text.extend_from_slice(b"disturbed".as_slice()),
-        Answer::FieldLost => text.extend_from_slice(b"field lost".as_slice()),
-        Answer::NotFound => text.extend_from_slice(b"not found".as_slice()),
-        Answer::SixBad => text.extend_from_slice(b"six bad".as_slice()),
-        Answer::Written => text.extend_from_slice(b"written".as_slice()),
-        Answer::Refused(code) => push_refusal(text, *code),
-        Answer::ReadOnly => text.extend_from_slice(b"read only".as_slice()),
-        Answer::TooLong(room) => {
-            text.extend_from_slice(b"too long ".as_slice())?;
-            push_number(text, *room as u64)
-        }
-        Answer::ShortMlc => text.extend_from_slice(b"short mlc".as_slice()),
-        Answer::Store(bytes) => {
-            text.extend_from_slice(b"store ".as_slice())?;
-            push_hex(text, bytes.as_slice())
-        }
-        Answer::Found { devices, crowd } => push_found(text, devices.as_slice(), *crowd),
-        Answer::Message { message, writable } => {
-            text.extend_from_slice(b"message ".as_slice())?;
-            push_hex(text, message.as_slice())?;
-            if *writable {
-                text.extend_from_slice(b" writable".as_slice())
-            } else {
-                text.extend_from_slice(b" readonly".as_slice())
-            }
-        }
-    }
-}
-
-/// The code by which a tag refused a command.
-fn push_refusal(text: &mut Vec<u8>, code: u16) -> Result<(), AllocError>
-    ensures { OnOk result (text.new.items ≡ text.old.items ++ (codes "refused " ++ code_text code)) }
-{
-    text.extend_from_slice(b"refused ".as_slice())?;
-    push_hex(text, &[(code / 256) as u8, (code % 256) as u8])
-}
-
-/// How many devices were found, which, and whether there is a crowd beside them.
-fn push_found(text: &mut Vec<u8>, devices: &[Seen], crowd: bool) -> Result<(), AllocError>
-    ensures { OnOk result (text.new.items ≡ text.old.items ++ found_text devices.now crowd) }
-{
-    text.extend_from_slice(b"found ".as_slice())?;
-    push_number(text, devices.len() as u64)?;
-    push_devices(text, devices)?;
-    if crowd {
-        text.extend_from_slice(b" crowd".as_slice())?;
-    }
-    Ok(())
-}
-
-fn push_devices(text: &mut Vec<u8>, devices: &[Seen]) -> Result<(), AllocError>
-    ensures { OnOk result (text.new.items ≡ text.old.items ++ flat_map seen_text devices.now) }
-{
-    'devices: for seen in devices {
-        push_seen(text, seen)?;
-    }
-    Ok(())
-}
-
-fn push_seen(text: &mut Vec<u8>, seen: &Seen) -> Result<(), AllocError>
-    ensures { OnOk result (text.new.items ≡ text.old.items ++ seen_text seen.now) }
-{
-    text.extend_from_slice(b" ".as_slice())?;
-    push_hex(text, seen.id.bytes())?;
-    text.extend_from_slice(b":".as_slice())?;
-    text.extend_from_slice(kind_name(seen.kind))?;
-    Ok(())
-}
-
-fn kind_name(kind: SeenKind) -> &'static [u8]
-    ensures { result.now ≡ kind_text kind }
-{
-    match kind {
-        SeenKind::T2 => b"t2".as_slice(),
-        SeenKind::T4 => b"t4".as_slice(),
-        SeenKind::T5 => b"t5".as_slice(),
-        SeenKind::Peer => b"peer".as_slice(),
-    }
-}
-
-fn push_hex(text: &mut Vec<u8>, bytes: &[u8]) -> Result<(), AllocError>
-    ensures { OnOk result (text.new.items ≡ text.old.items ++ hex_text bytes.now) }
-{
-    if bytes.is_empty() {
-        return text.extend_from_slice(b"-".as_slice());
-    }
-    push_digits(text, bytes)
-}
-
-/// A number in decimal. It takes no memory but the text's own.
-#[tactic(auto, using(std::proofs::lemmas::Fmt::decimal_digit))]
-fn push_number(text: &mut Vec<u8>, n: u64) -> Result<(), AllocError>
-    ensures { OnOk result (text.new.items ≡ text.old.items ++ decimal n) }
-{
-    if n < 10 {
-        text.push(b'0' + n as u8)?;
-        return Ok(());
-    }
-    push_number(text, n / 10)?;
-    text.push(b'0' + (n % 10) as u8)?;
     Ok(())
 }
 
 #[cfg(test)]
 mod tests {
     use super::*;
+    use crate::entry::{Answer, Seen};
+    use bench_devices::SeenKind;
     use bench_script::{Command, DeviceId, parse_line};
-    use nfc_base::{Items, Tech};
+    use nfc_base::{Fate, Frame, Items, Tech};
     use nfca_poll::Ident;
     use std::test::Fail;
 

@@ -101,11 +101,11 @@ grown_same : (t : TargetState) (more : Bool) (pni : ℕ) (xs : List ℕ) → Sam
 grown_same t true pni xs = record { named = refl; code = refl; says = refl; asks = refl; longer = refl }
 grown_same t false pni xs = record { named = refl; code = refl; says = refl; asks = refl; longer = refl }
 
-obeyed_same : (t : TargetState) (o : Option DepFrame) → SameSelf t (obeyed t o).state
+pub obeyed_same : (t : TargetState) (o : Option DepFrame) → SameSelf t (obeyed t o).state
 obeyed_same t None = same_self t
 obeyed_same t (Some v) = of_heeded t (λ m. SameSelf t m.state) (λ m k s. s) (λ more pni xs l. grown_same t more pni xs) v
 
-then_same : (t u : TargetState) (r : List ℕ) (d : TargetStep) → SameSelf t u → SameSelf t (left_with u r d)
+pub then_same : (t u : TargetState) (r : List ℕ) (d : TargetStep) → SameSelf t u → SameSelf t (left_with u r d)
 then_same t u r steps.Quiet s = s
 then_same t u r (steps.Reply f) s = s
 then_same t u r (steps.Restart general f) s = s

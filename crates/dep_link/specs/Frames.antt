@@ -1,8 +1,8 @@
 -- Frames of NFC-DEP on the air, and pieces of payloads (NFCIP-1, ISO/IEC 18092; NFC Forum Digital Protocol).
-use Rattle.std.specs.Prelude.{◌≡◌, ℕ, ◌+◌, ◌%◌, ◌≤◌, nat_lt, List, length, take, Bool, if◌then◌else◌, Option, None}
+use Rattle.std.specs.Prelude.{◌≡◌, ℕ, ◌+◌, ◌%◌, ◌≤◌, nat_lt, List, length, take, Bool, true, false, if◌then◌else◌, Option, Some, None}
 use Rattle.nfc_base.specs.Signal.{Signal, whole_a, is_whole_a}
 use Rattle.dep_pdu.specs.declared.frame.DepFrame.{DepFrame}
-use Rattle.dep_pdu.specs.declared.frame.DepFrame.TheVariants.{Info}
+use Rattle.dep_pdu.specs.declared.frame.DepFrame.TheVariants.{AtrReq, Info}
 use Rattle.dep_pdu.specs.Spelling.{IsDepFrame, written}
 use Rattle.dep_pdu.specs.Reading.{spelled_frame}
 
@@ -13,6 +13,15 @@ air_frame v = whole_a (written v)
 -- the frame of NFC-DEP that one on the air spells, none where it spells none
 abbrev pub spelled : Signal → Option DepFrame
 spelled f = if is_whole_a f then spelled_frame f.bytes else None
+
+-- whether a frame on the air is a well-formed ATR_REQ, which activates a target
+abbrev pub names_atr : Option DepFrame → Bool
+names_atr None = false
+names_atr (Some (AtrReq id lr general)) = true
+names_atr (Some _) = false
+
+abbrev pub is_atr_req : Signal → Bool
+is_atr_req f = names_atr (spelled f)
 
 -- The frame on the air is that of a value in range, and is no longer than a frame may be.
 pub record IsSpelled (f : Signal) : Type 0 where

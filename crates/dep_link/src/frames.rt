@@ -3,7 +3,7 @@
 ghost use Rattle.std.specs.Prelude.{◌≡◌, ◌≤◌, ◌<◌, length, IfSome};
 ghost use Rattle.dep_pdu.specs.Spelling.{IsDepFrame};
 ghost use Rattle.dep_link.specs.Sizes.{piece_size};
-ghost use Rattle.dep_link.specs.Frames.{air_frame, spelled, IsSpelled, after, piece};
+ghost use Rattle.dep_link.specs.Frames.{air_frame, spelled, is_atr_req, IsSpelled, after, piece};
 
 use arrayvec::ArrayVec;
 use dep_pdu::DepFrame;
@@ -59,6 +59,14 @@ pub(crate) fn spelled(frame: &Frame) -> Option<DepFrame>
         Ok(value) => Some(value),
         Err(_) => None,
     }
+}
+
+/// Whether a frame is a well-formed ATR_REQ, which activates a target (NFCIP-1, ISO/IEC 18092). Whoever holds a `Target`
+/// hands it all frames from there on.
+pub fn is_atr_req(frame: &Frame) -> bool
+    ensures { result ≡ is_atr_req frame.now }
+{
+    matches!(spelled(frame), Some(DepFrame::AtrReq { .. }))
 }
 
 /// The number after a PNI.

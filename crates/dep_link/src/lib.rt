@@ -18,6 +18,7 @@ mod pair;
 mod target;
 
 pub use activation::activate;
+pub use frames::is_atr_req;
 pub use initiator::{InitKind, InitStep, Initiator};
 pub use law::{delivered_anew, faults_stay, handed_once, replies_heard};
 pub use listener::PeerListener;

@@ -275,19 +275,11 @@ cut_line quiet left left' done m j new n t t1 t2 w w1 w2 o number written next f
       written = subst G written s.written;
     }
 
-lost_line : (quiet : Bool) (left left' : Option (List ℕ)) (done : List (List ℕ)) (m : Lined) (j new : Benched) (n : ℕ) (t t1 t2 : Option (List ℕ))
-    → ObeyedBy done j → n ≡ 1 + length done → t1 ≡ with_end t (report_text quiet j.journal) → GaveNext left left' done m → n ≤ most_lines → LineLost j new n m.line t1 t2
-    → RunLost quiet left t t2 new.journal
-lost_line quiet left left' done m j new n t t1 t2 o number written next few s = record {
-  lines = elim s.journal [
-    | inl same ↦ front_without left left' done m j new.journal o next same
-    | inr made ↦ front_with left left' done m j new n o number next few made.0
-  ];
-  most = record {
-    entries = j.journal;
-    most = elim s.journal as (λ _. (new.journal ≡ j.journal) ⊎ ((e : Entry) × (new.journal ≡ j.journal ++ e ∷ []))) [ inl same ↦ inl same | inr made ↦ inr (made.1, made.0.added ∙ ap (λ es. j.journal ++ es) made.2) ];
-    written = s.same ∙ written;
-  };
+lost_line : (quiet : Bool) (left left' : Option (List ℕ)) (done : List (List ℕ)) (m : Lined) (j new : Benched) (t t1 t2 : Option (List ℕ))
+    → ObeyedBy done j → t1 ≡ with_end t (report_text quiet j.journal) → GaveNext left left' done m → LineLost j new t1 t2 → RunLost quiet left t t2 new.journal
+lost_line quiet left left' done m j new t t1 t2 o written next s = record {
+  lines = front_without left left' done m j new.journal o next s.journal;
+  written = s.same ∙ written ∙ ap (λ js. with_end t (report_text quiet js)) (sym s.journal);
 }
 
 -- a line that was tried ended the run
@@ -297,14 +289,14 @@ pub line_stops : (quiet : Bool) (left left' : Option (List ℕ)) (done : List (L
 line_stops quiet left left' done m j new n t t1 t2 r r' w w1 w2 (Refused k) o number written next few count s = refused_line quiet left left' done m j new n k t t1 t2 o number written next s
 line_stops quiet left left' done m j new n t t1 t2 r r' w w1 w2 ReadFault o number written next few count s = absurd s
 line_stops quiet left left' done m j new n t t1 t2 r r' w w1 w2 WriteFault o number written next few count s = cut_line quiet left left' done m j new n t t1 t2 w w1 w2 o number written next few count s
-line_stops quiet left left' done m j new n t t1 t2 r r' w w1 w2 Memory o number written next few count s = lost_line quiet left left' done m j new n t t1 t2 o number written next few s
+line_stops quiet left left' done m j new n t t1 t2 r r' w w1 w2 Memory o number written next few count s = lost_line quiet left left' done m j new t t1 t2 o written next s
 
 -- memory was wanting before a line was obeyed
 pub lost_at_once : (quiet : Bool) (left t : Option (List ℕ)) (j : List Entry) → j ≡ [] → RunLost quiet left t t j
 lost_at_once quiet left t j none =
     let P : List Entry → Type 0 = λ js. RunLost quiet left t t js in
     let front : (lines : List (List ℕ)) → FrontIsObeyed lines [] = λ lines. record { front = []; rest = lines; parts = refl; obeyed = obeyed_none } in
-    let it : P [] = record { lines = lines_at_once left front; most = record { entries = []; most = inl refl; written = written_none quiet t } } in
+    let it : P [] = record { lines = lines_at_once left front; written = written_none quiet t } in
     subst P (sym none) it
   where
     lines_at_once : (left : Option (List ℕ)) → ((lines : List (List ℕ)) → FrontIsObeyed lines []) → ObeysFront left []

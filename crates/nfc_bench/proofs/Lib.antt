@@ -4,3 +4,4 @@ pub mod Journals
 pub mod Progress
 pub mod Endings
 pub mod Forms
+pub mod Writing

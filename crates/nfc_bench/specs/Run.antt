@@ -150,12 +150,10 @@ pub record EndsUnwritten (quiet : Bool) (left taken taken' : Option (List ℕ)) 
   pub entries : journal ≡ before ++ last ∷ []
   pub written : GainsFront (with_end taken (report_text quiet before)) taken' (entry_text quiet last)
 
--- Status 5: memory was wanting. All entries were written, or all but the last.
+-- Status 5: memory was wanting. All entries were written.
 pub record EndsMemory (quiet : Bool) (left taken taken' : Option (List ℕ)) (writes writes' : ℕ) (journal : List Entry) : Type 0 where
   pub lines : ObeysFront left journal
-  pub entries : List Entry
-  pub most : (journal ≡ entries) ⊎ ((last : Entry) × (journal ≡ entries ++ last ∷ []))
-  pub written : AddsFault (report_text quiet entries) memory_fault taken taken' writes writes'
+  pub written : AddsFault (report_text quiet journal) memory_fault taken taken' writes writes'
 
 -- So much was read: some bytes in which no line is refused for its number or its length, and behind them at most those
 -- of one call.

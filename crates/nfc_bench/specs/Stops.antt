@@ -1,5 +1,5 @@
 -- Why the parts of a run stop.
-use Rattle.std.specs.Prelude.{◌≡◌, ℕ, ◌⊎◌, List, [], ◌∷◌, ◌++◌, Bool, false, Option, Result, Err}
+use Rattle.std.specs.Prelude.{◌≡◌, ℕ, List, [], ◌∷◌, ◌++◌, Bool, false, Option, Result, Err}
 use Rattle.nfc_io.specs.Counts.{HasRisen}
 use Rattle.nfc_io.specs.Moves.{with_end, GainsFront}
 use Rattle.bench_world.specs.declared.entry.Entry.{Entry}
@@ -41,9 +41,9 @@ pub record LineCut (quiet : Bool) (old new : Benched) (n : ℕ) (l : List ℕ) (
   pub written : GainsFront taken taken' (entry_text quiet entry)
   pub risen : HasRisen writes writes'
 
--- Memory was wanting: it was obeyed, or the journal stays; and nothing was written.
-pub record LineLost (old new : Benched) (n : ℕ) (l : List ℕ) (taken taken' : Option (List ℕ)) : Type 0 where
-  pub journal : (new.journal ≡ old.journal) ⊎ ((follows : Follows old new n l) × (entry : Entry) × (follows.entries ≡ entry ∷ []))
+-- Memory was wanting: the journal stays, and nothing was written.
+pub record LineLost (old new : Benched) (taken taken' : Option (List ℕ)) : Type 0 where
+  pub journal : new.journal ≡ old.journal
   pub same : taken' ≡ taken
 
 -- why a line ended the run
@@ -51,7 +51,7 @@ abbrev pub LineStops : Bool → Benched → Benched → ℕ → List ℕ → Opt
 LineStops quiet old new n l t t' w w' (Refused m) = LineRefused old new n m l t t'
 LineStops quiet old new n l t t' w w' ReadFault = ⊥
 LineStops quiet old new n l t t' w w' WriteFault = LineCut quiet old new n l t t' w w'
-LineStops quiet old new n l t t' w w' Memory = LineLost old new n l t t'
+LineStops quiet old new n l t t' w w' Memory = LineLost old new t t'
 
 -- These lines were obeyed by a bench, whose machines are in the state that its journal leaves.
 pub record ObeyedBy (lines : List (List ℕ)) (b : Benched) : Type 0 where
@@ -63,15 +63,9 @@ pub record ObeyedBy (lines : List (List ℕ)) (b : Benched) : Type 0 where
 abbrev pub LeavesUnless : Result (Unit {0}) Stop → Benched → Type 0
 LeavesUnless r b = (r ≡ Err Memory → ⊥) → Leaves b
 
--- the text of the last entry
-abbrev pub IsLastText : Bool → List Entry → List ℕ → Type 0
-IsLastText quiet journal text = (js : List Entry) (e : Entry) → journal ≡ js ++ e ∷ [] → text ≡ entry_text quiet e
-
--- all entries were written, or all but the last
-pub record WritesMost (quiet : Bool) (journal : List Entry) (taken taken' : Option (List ℕ)) : Type 0 where
-  pub entries : List Entry
-  pub most : (journal ≡ entries) ⊎ ((last : Entry) × (journal ≡ entries ++ last ∷ []))
-  pub written : taken' ≡ with_end taken (report_text quiet entries)
+-- the last entry
+abbrev pub IsLast : List Entry → Entry → Type 0
+IsLast journal entry = (js : List Entry) (e : Entry) → journal ≡ js ++ e ∷ [] → entry ≡ e
 
 -- What a run did before it writes a fault line.
 pub record RunRefused (quiet : Bool) (left taken taken' : Option (List ℕ)) (journal : List Entry) (n : ℕ) : Type 0 where
@@ -85,7 +79,7 @@ pub record RunUnread (quiet : Bool) (left left' taken taken' : Option (List ℕ)
 
 pub record RunLost (quiet : Bool) (left taken taken' : Option (List ℕ)) (journal : List Entry) : Type 0 where
   pub lines : ObeysFront left journal
-  pub most : WritesMost quiet journal taken taken'
+  pub written : taken' ≡ with_end taken (report_text quiet journal)
 
 -- why a run stopped
 abbrev pub RunStops : Bool → Option (List ℕ) → Option (List ℕ) → Option (List ℕ) → Option (List ℕ) → ℕ → ℕ → ℕ → ℕ → List Entry → Stop → Type 0

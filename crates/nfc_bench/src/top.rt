@@ -25,6 +25,7 @@ mod words;
 mod world_tests;
 #[cfg(test)]
 mod write_tests;
+mod writing;
 
 use arrayvec::ArrayVec;
 use bench_world::Bench;

@@ -178,29 +178,37 @@ module _ {C A : Type 0} (seen : C → CarrierView) (moves : C → List FarStep �
     where
       go : (st : Stand) → IsStand st p.service → client ≡ client_at client st [] → p ≡ peer_at p st [] p.service → AtStep (begins client Leaves) p
       go (Joined n) k e q =
-          subst (λ z. AtStep (begins z Leaves) p) (sym e) (disconnected_by (client_at client (Joined n) []) (own_of (client_at client (Joined n) [])), 0, refl, record {
-            base = client;
-            far = p;
-            n = n;
-            base_fair = a.client_fair;
-            far_fair = a.peer_fair;
-            reached = (refl, a.peer_serving.bound, a.peer_serving.far_miu);
-            l_is = refl;
-            p_is = q;
-          })
+          subst (λ z. AtStep (begins z Leaves) p) (sym e) (
+            disconnected_by (client_at client (Joined n) []) (own_of (client_at client (Joined n) [])),
+            0,
+            refl,
+            record {
+              base = client;
+              far = p;
+              n = n;
+              base_fair = a.client_fair;
+              far_fair = a.peer_fair;
+              reached = (refl, a.peer_serving.bound, a.peer_serving.far_miu);
+              l_is = refl;
+              p_is = q;
+            },
+          )
       go (Apart os) k e q =
           subst (λ z. AtStep (begins z Leaves) p) (sym e)
-          (subst (λ b. AtStep (begin_by (client_at client (Apart os) []) b) p) (sym (over_shut os k).0) (refl, record {
-            base = client;
-            far = p;
-            os = os;
-            base_fair = a.client_fair;
-            far_fair = a.peer_fair;
-            reached = (refl, a.peer_serving.bound, a.peer_serving.far_miu);
-            are_over = k;
-            l_is = refl;
-            p_is = q;
-          }))
+          (subst (λ b. AtStep (begin_by (client_at client (Apart os) []) b) p) (sym (over_shut os k).0) (
+            refl,
+            record {
+              base = client;
+              far = p;
+              os = os;
+              base_fair = a.client_fair;
+              far_fair = a.peer_fair;
+              reached = (refl, a.peer_serving.bound, a.peer_serving.far_miu);
+              are_over = k;
+              l_is = refl;
+              p_is = q;
+            },
+          ))
 
   -- it was ended
   pub close_ends : (new : EndState) (now : C) (after : A) → Talks seen moves steps stops (begins client Leaves) link far (Ends (alone (Over Done)) new) now after

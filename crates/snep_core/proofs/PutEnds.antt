@@ -126,7 +126,7 @@ module _ (m : List ℕ) (p : PeerState) (short : length m < 2 ^ 32) where
             accepted = accepted_is limit table names conv h ∙ ap (accepted_at miu limit table (ask m) old (later limit m old)) e;
             limit = limit_is limit table names conv h;
             table = table_is limit table names conv h;
-          bound = names_are limit table names conv h;
+            bound = names_are limit table names conv h;
             accords = accords_again limit table names conv h (ap (queue_at miu limit table (ask m) old (later limit m old)) e) (ap (units_at miu limit table (ask m) old (later limit m old)) e) (ap (session_at miu limit table (ask m) old (later limit m old)) e);
           },
         )

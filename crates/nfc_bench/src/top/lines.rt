@@ -1,14 +1,15 @@
 //! Reading and obeying the lines of a script.
 
-ghost use Rattle.std.specs.Prelude.{◌≡◌, ◌<◌, ◌≤◌, length, OnOk, IfOk, IfErr};
+ghost use Rattle.std.specs.Prelude.{◌≡◌, ◌<◌, ◌≤◌, length, OnOk, IfErr};
 ghost use Rattle.nfc_bench.specs.Run.{EndsDone, ReadsInTime};
-ghost use Rattle.nfc_bench.specs.Stops.{IsLastText, LineDone, LineStops, RunStops, LeavesUnless};
+ghost use Rattle.nfc_bench.specs.Stops.{IsLast, LineDone, LineStops, RunStops, LeavesUnless};
 ghost use Rattle.bench_world.specs.Obeying.{new_bench};
 
+use super::writing::write_entry;
 use bench_script::{Command, LineFault, parse_line};
-use bench_world::{Bench, ObeyFault, render};
-use nfc_io::{LineReader, LineStop, Sink, Source, write_all};
-use std::alloc::{AllocError, Global};
+use bench_world::{Bench, Entry, ObeyFault};
+use nfc_io::{LineReader, LineStop, Sink, Source};
+use std::alloc::Global;
 
 /// How many lines a script may have.
 const MOST_LINES: u32 = 1000;
@@ -22,13 +23,13 @@ pub enum Stop {
     Memory,
 }
 
-/// The text of the journal's last entry.
-fn last_text(alloc: Global, bench: &Bench, quiet: bool) -> Result<Vec<u8>, AllocError>
+/// The journal's last entry.
+fn last_entry(bench: &Bench) -> &Entry
     requires { 0 < length bench.now.journal }
-    ensures { IfOk result (λ text. IsLastText quiet bench.now.journal text.items) }
+    ensures { IsLast bench.now.journal result.now }
 {
     let entries = bench.journal();
-    render(alloc, &entries[entries.len() - 1], quiet)
+    &entries[entries.len() - 1]
 }
 
 /// Obeys one line, and writes its entry, if it asks for something.
@@ -61,10 +62,7 @@ fn obey_line<K: Sink>(
     if let Command::Skip = command {
         return Ok(());
     }
-    let Ok(text) = last_text(alloc, bench, quiet) else {
-        return Err(Stop::Memory);
-    };
-    match write_all(sink, text.as_slice()) {
+    match write_entry(sink, last_entry(bench), quiet) {
         Ok(()) => Ok(()),
         Err(_) => Err(Stop::WriteFault),
     }

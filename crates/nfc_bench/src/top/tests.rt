@@ -355,12 +355,15 @@ fn reads_of_a_few_bytes(rt: HostRuntime) -> Result<(), Fail> {
     Ok(())
 }
 
-/// Each entry is written before the next line is obeyed.
+/// Each entry is written before the next line is read: the answers of `place` and of each `read` in one write and in three.
 #[test]
 fn a_sink_that_fails_at_a_call(rt: HostRuntime) -> Result<(), Fail> {
     let alloc = rt.alloc();
-    for call in 1..5 {
-        let words = vec![in alloc; String::from_str(alloc, "run")?]?;
+    for (call, entries) in [(1, 1), (2, 2), (4, 2), (5, 3), (10, 4)] {
+        let words = vec![in alloc;
+            String::from_str(alloc, "run")?,
+            String::from_str(alloc, "quiet")?,
+        ]?;
         let script = joined(
             alloc,
             [PLACE, "read 01020304\nread 01020304\nread 01020304"],
@@ -370,7 +373,7 @@ fn a_sink_that_fails_at_a_call(rt: HostRuntime) -> Result<(), Fail> {
         let mut bench = Bench::new(alloc);
         let status = run_bench(alloc, &words, &mut source, &mut sink, &mut bench);
         assert_eq!(rt; status, 4, "{call}");
-        assert_eq!(rt; bench.journal().len(), call as usize, "{call}");
+        assert_eq!(rt; bench.journal().len(), entries, "{call}");
     }
     Ok(())
 }

@@ -1,9 +1,9 @@
-use Rattle.std.proofs.Common.{◌≡◌, false, ℕ, List, [], ◌∷◌, Option, refl, sym, ap, ◌∙◌, subst, arith, inr}
+use Rattle.std.proofs.Common.{◌≡◌, false, ℕ, List, [], ◌∷◌, Option, refl, sym, ap, ◌∙◌, subst, arith}
 use Rattle.nfc_io.specs.Moves.{with_end, GainsFront}
 use Rattle.nfc_io.proofs.Moves.{with_end-nil}
 use Rattle.bench_script.specs.declared.command.Command.{Command}
 use Rattle.bench_script.specs.declared.command.Command.TheVariants.{Skip}
-use Rattle.bench_world.specs.Report.{report_text}
+use Rattle.bench_world.specs.Report.{entry_text, report_text}
 use Rattle.bench_script.specs.Script.{Spells}
 use Rattle.bench_world.specs.Obeying.{Benched, Adds, Obeys}
 use Rattle.nfc_bench.specs.Stops.{Follows}
@@ -29,30 +29,27 @@ returns-in-Skip-clause-ok g c =
     let taken : Option (List ℕ) = g.K.Sink.taken c.args.sink.now in
     record { follows = it.0; written = sym (with_end-nil taken) ∙ ap (λ es. with_end taken (report_text c.args.quiet es)) (sym it.1) }
 
-pub returns-in_default-last_text : goal.returns-in_default-last_text
-returns-in_default-last_text g c =
+pub returns-in-Ok-write_entry : goal.returns-in-Ok-write_entry
+returns-in-Ok-write_entry g c =
     let it = asked c.args.bench.now c.obey.new.self c.args.line c.args.text.now c.in-Ok.command c.in-Ok.ensures.ok c.in-Ok-obey.ensures.ok c.in_default.not-Skip in
-    record { ok = tt; err = record { journal = inr (it.1, it.0.entry, it.2); same = refl }; still = tt; count = omega arith }
-
-pub returns-in-Ok-write_all : goal.returns-in-Ok-write_all
-returns-in-Ok-write_all g c =
-    let it = asked c.args.bench.now c.obey.new.self c.args.line c.args.text.now c.in-Ok.command c.in-Ok.ensures.ok c.in-Ok-obey.ensures.ok c.in_default.not-Skip in
-    let text = c.as_slice.ensures.value ∙ c.in-Ok-last_text.ensures c.args.bench.now.journal it.0.entry (ap (λ (b : Benched). b.journal) it.0.is) in
+    let last : c.last_entry.result.now ≡ it.0.entry = c.last_entry.ensures c.args.bench.now.journal it.0.entry (ap (λ (b : Benched). b.journal) it.0.is) in
+    let text = ap (entry_text c.args.quiet) last in
     record {
       ok = record {
         follows = it.1;
-        written = c.in-Ok-write_all.ensures.ok ∙ ap (with_end (g.K.Sink.taken c.args.sink.now)) (text ∙ sym (report_one c.args.quiet it.1.entries it.0.entry it.2));
+        written = c.in-Ok-write_entry.ensures.ok ∙ ap (with_end (g.K.Sink.taken c.args.sink.now)) (text ∙ sym (report_one c.args.quiet it.1.entries it.0.entry it.2));
       };
       err = tt;
-      still = c.in-Ok-write_all.ensures.still;
-      count = c.write_all.ensures.count;
+      still = c.in-Ok-write_entry.ensures.still;
+      count = c.write_entry.ensures.count;
     }
 
 pub returns : goal.returns
 returns g c =
     let it = asked c.args.bench.now c.obey.new.self c.args.line c.args.text.now c.in-Ok.command c.in-Ok.ensures.ok c.in-Ok-obey.ensures.ok c.in_default.not-Skip in
-    let text = c.as_slice.ensures.value ∙ c.in-Ok-last_text.ensures c.args.bench.now.journal it.0.entry (ap (λ (b : Benched). b.journal) it.0.is) in
-    let G : List ℕ → Type 0 = λ t. GainsFront (g.K.Sink.taken c.args.sink.now) (g.K.Sink.taken c.write_all.new.sink) t in
+    let last : c.last_entry.result.now ≡ it.0.entry = c.last_entry.ensures c.args.bench.now.journal it.0.entry (ap (λ (b : Benched). b.journal) it.0.is) in
+    let text = ap (entry_text c.args.quiet) last in
+    let G : List ℕ → Type 0 = λ t. GainsFront (g.K.Sink.taken c.args.sink.now) (g.K.Sink.taken c.write_entry.new.sink) t in
     record {
       ok = tt;
       err = record {
@@ -63,5 +60,5 @@ returns g c =
         risen = c.in-Err.ensures.cause;
       };
       still = tt;
-      count = c.write_all.ensures.count;
+      count = c.write_entry.ensures.count;
     }

@@ -1,7 +1,0 @@
-use Rattle.std.proofs.Common.{refl}
-use Rattle.hex.specs.Hex.{encode_with}
-use Rattle.bench_world.proofs.digits.push_digits.Goals as goal
-
-pub write_digits-requires-clause-pairs : goal.write_digits-requires-clause-pairs
-unfolding encode_with
-write_digits-requires-clause-pairs c = refl

@@ -1,0 +1,276 @@
+//! The report's line of an answer, in pieces.
+
+ghost use Rattle.std.specs.Prelude.{◌≡◌, ◌+◌, ◌*◌, ◌<◌, ◌≤◌, ◌++◌, [], length, codes, if◌then◌else◌};
+ghost use Rattle.std.specs.Fmt.{decimal};
+ghost use Rattle.hex.specs.Hex.{encode_upper};
+ghost use Rattle.bench_script.specs.Canonical.{hex_text};
+ghost use Rattle.bench_world.specs.Report.{access_text, kind_text, seen_text, found_text, answer_text, code_text, line_text};
+
+use crate::entry::{Answer, Entry, Seen};
+use crate::fixed_text::{push_digits, push_hex, push_number, push_text};
+use arrayvec::ArrayVec;
+use bench_devices::SeenKind;
+use bench_script::DeviceId;
+use std::marker::Model;
+use std::mem;
+
+/// How many bytes one piece brings the digits of at most.
+const MOST_BYTES: usize = 320;
+
+/// Goes over the pieces of an answer's line, none of which is empty. Contracts see the text that is left. It takes no memory.
+#[derive(Debug, Drop)]
+pub struct AnswerPieces<'a> {
+    head: ArrayVec<u8, 640>,
+    bytes: &'a [u8],
+    devices: &'a [Seen],
+    tail: ArrayVec<u8, 640>,
+}
+
+impl<'a> Model for AnswerPieces<'a> {
+    ghost use Rattle.std.specs.Prelude.{ℕ, List, ◌++◌};
+    ghost use Rattle.std.specs.List.{flat_map};
+    ghost use Rattle.hex.specs.Hex.{encode_upper};
+    ghost use Rattle.bench_world.specs.Report.{seen_text};
+
+    ghost Value = { List ℕ };
+
+    ghost view = { λ p. p.head.items ++ (encode_upper p.bytes.now ++ (flat_map seen_text p.devices.now ++ p.tail.items)) };
+}
+
+/// The pieces of the line of an entry's answer.
+pub fn answer_pieces(entry: &Entry) -> AnswerPieces<'_>
+    ensures { result ≡ line_text entry.now.line (answer_text entry.now.answer) }
+{
+    let line = entry.line;
+    match &entry.answer {
+        Answer::Done => in_words(line, b"ok"),
+        Answer::NotNdef => in_words(line, b"not ndef"),
+        Answer::Version => in_words(line, b"version"),
+        Answer::NoRead => in_words(line, b"no read"),
+        Answer::Sectors => in_words(line, b"sectors"),
+        Answer::BadSize => in_words(line, b"bad size"),
+        Answer::NoMessageTlv => in_words(line, b"no message tlv"),
+        Answer::BadTlv => in_words(line, b"bad tlv"),
+        Answer::Disturbed => in_words(line, b"disturbed"),
+        Answer::FieldLost => in_words(line, b"field lost"),
+        Answer::NotFound => in_words(line, b"not found"),
+        Answer::SixBad => in_words(line, b"six bad"),
+        Answer::Written => in_words(line, b"written"),
+        Answer::Refused(code) => refused(line, *code),
+        Answer::ReadOnly => in_words(line, b"read only"),
+        Answer::TooLong(room) => too_long(line, *room),
+        Answer::ShortMlc => in_words(line, b"short mlc"),
+        Answer::Store(bytes) => with_bytes(line, b"store ", bytes.as_slice(), b""),
+        Answer::Found { devices, crowd } => found(line, devices.as_slice(), *crowd),
+        Answer::Message { message, writable } => {
+            with_bytes(line, b"message ", message.as_slice(), access(*writable))
+        }
+    }
+}
+
+/// The front of a line: its number, a space, and some words.
+fn begun(line: u32, words: &[u8]) -> ArrayVec<u8, 640>
+    requires { length words.now ≤ 32 }
+    ensures value { result.items ≡ decimal line ++ codes " " ++ words.now }
+    ensures size { length result.items ≤ 53 }
+{
+    let mut head = ArrayVec::new();
+    push_number(&mut head, line as u64);
+    push_text(&mut head, b" ");
+    push_text(&mut head, words);
+    head
+}
+
+/// The end of a line.
+fn ended(text: &[u8]) -> ArrayVec<u8, 640>
+    requires { length text.now ≤ 32 }
+    ensures { result.items ≡ text.now ++ codes "\n" }
+{
+    let mut tail = ArrayVec::new();
+    push_text(&mut tail, text);
+    push_text(&mut tail, b"\n");
+    tail
+}
+
+fn in_words<'a>(line: u32, words: &[u8]) -> AnswerPieces<'a>
+    requires { length words.now ≤ 32 }
+    ensures { result ≡ line_text line words.now }
+{
+    whole(begun(line, words))
+}
+
+/// A line that one piece holds, but for its end.
+fn whole<'a>(text: ArrayVec<u8, 640>) -> AnswerPieces<'a>
+    requires { length text.items ≤ 73 }
+    ensures { result ≡ text.items ++ codes "\n" }
+{
+    let mut head = text;
+    push_text(&mut head, b"\n");
+    AnswerPieces {
+        head,
+        bytes: &[],
+        devices: &[],
+        tail: ArrayVec::new(),
+    }
+}
+
+/// Words, some bytes in hex, and an end.
+fn with_bytes<'a>(line: u32, words: &[u8], bytes: &'a [u8], end: &[u8]) -> AnswerPieces<'a>
+    requires { (length words.now ≤ 32) × (length end.now ≤ 32) }
+    ensures { result ≡ line_text line (words.now ++ hex_text bytes.now ++ end.now) }
+{
+    let mut head = begun(line, words);
+    push_text(&mut head, sign_of_none(bytes));
+    AnswerPieces {
+        head,
+        bytes,
+        devices: &[],
+        tail: ended(end),
+    }
+}
+
+/// What stands for no bytes in hex; nothing where there are some.
+fn sign_of_none(bytes: &[u8]) -> &'static [u8]
+    ensures value { hex_text bytes.now ≡ result.now ++ encode_upper bytes.now }
+    ensures size { length result.now ≤ 1 }
+{
+    if bytes.is_empty() {
+        b"-".as_slice()
+    } else {
+        b"".as_slice()
+    }
+}
+
+/// Whether the message may be written.
+fn access(writable: bool) -> &'static [u8]
+    ensures value { result.now ≡ codes " " ++ access_text writable }
+    ensures size { length result.now ≤ 32 }
+{
+    if writable {
+        b" writable".as_slice()
+    } else {
+        b" readonly".as_slice()
+    }
+}
+
+/// The code by which a tag refused a command.
+fn refused<'a>(line: u32, code: u16) -> AnswerPieces<'a>
+    ensures { result ≡ line_text line (codes "refused " ++ code_text code) }
+{
+    let mut head = begun(line, b"refused ");
+    push_digits(&mut head, &[(code / 256) as u8, (code % 256) as u8]);
+    whole(head)
+}
+
+/// How much room a message has.
+fn too_long<'a>(line: u32, room: u32) -> AnswerPieces<'a>
+    ensures { result ≡ line_text line (codes "too long " ++ decimal room) }
+{
+    let mut head = begun(line, b"too long ");
+    push_number(&mut head, room as u64);
+    whole(head)
+}
+
+/// How many devices were found, which, and whether there is a crowd beside them.
+fn found(line: u32, devices: &[Seen], crowd: bool) -> AnswerPieces<'_>
+    ensures { result ≡ line_text line (found_text devices.now crowd) }
+{
+    let mut head = begun(line, b"found ");
+    push_number(&mut head, devices.len() as u64);
+    AnswerPieces {
+        head,
+        bytes: &[],
+        devices,
+        tail: ended(crowd_text(crowd)),
+    }
+}
+
+/// Whether there is a crowd beside the devices.
+fn crowd_text(crowd: bool) -> &'static [u8]
+    ensures value { result.now ≡ (if crowd then codes " crowd" else []) }
+    ensures size { length result.now ≤ 32 }
+{
+    if crowd {
+        b" crowd".as_slice()
+    } else {
+        b"".as_slice()
+    }
+}
+
+impl<'a> Iterator for AnswerPieces<'a> {
+    ghost use Rattle.std.specs.Prelude.{length};
+    ghost use Rattle.std.specs.Iterator.{at_most};
+    ghost use Rattle.bench_world.specs.Report.{GivesPiece};
+
+    type Item = ArrayVec<u8, 640>;
+
+    ghost next_gives = { λ old piece new. GivesPiece old piece new };
+
+    ghost remaining = { λ left. at_most (length left) };
+
+    fn next(&mut self) -> Option<ArrayVec<u8, 640>> {
+        if !self.head.is_empty() {
+            return Some(mem::replace(&mut self.head, ArrayVec::new()));
+        }
+        if !self.bytes.is_empty() {
+            let (front, rest) = self.bytes.split_at(self.bytes.len().min(MOST_BYTES));
+            self.bytes = rest;
+            return Some(digits(front));
+        }
+        if let Some((seen, rest)) = self.devices.split_first() {
+            self.devices = rest;
+            return Some(device(seen));
+        }
+        if !self.tail.is_empty() {
+            return Some(mem::replace(&mut self.tail, ArrayVec::new()));
+        }
+        None
+    }
+}
+
+fn digits(bytes: &[u8]) -> ArrayVec<u8, 640>
+    requires { length bytes.now ≤ 320 }
+    ensures value { result.items ≡ encode_upper bytes.now }
+    ensures size { length result.items ≡ 2 * length bytes.now }
+{
+    let mut piece = ArrayVec::new();
+    push_digits(&mut piece, bytes);
+    piece
+}
+
+/// A device that was found.
+fn device(seen: &Seen) -> ArrayVec<u8, 640>
+    ensures value { result.items ≡ seen_text seen.now }
+    ensures some { 0 < length result.items }
+{
+    let mut piece = ArrayVec::new();
+    push_text(&mut piece, b" ");
+    match &seen.id {
+        DeviceId::A(id) => push_hex(&mut piece, id.view()),
+        DeviceId::V(id) => push_uid(&mut piece, *id),
+    }
+    push_text(&mut piece, b":");
+    push_text(&mut piece, kind_name(seen.kind));
+    piece
+}
+
+/// The identifier of a Type 5 tag.
+fn push_uid(piece: &mut ArrayVec<u8, 640>, id: [u8; 8])
+    requires { length piece.old.items ≤ 1 }
+    ensures value { piece.new.items ≡ piece.old.items ++ hex_text id }
+    ensures size { length piece.new.items ≤ length piece.old.items + 17 }
+{
+    push_hex(piece, &id);
+}
+
+fn kind_name(kind: SeenKind) -> &'static [u8]
+    ensures value { result.now ≡ kind_text kind }
+    ensures size { length result.now ≤ 4 }
+{
+    match kind {
+        SeenKind::T2 => b"t2".as_slice(),
+        SeenKind::T4 => b"t4".as_slice(),
+        SeenKind::T5 => b"t5".as_slice(),
+        SeenKind::Peer => b"peer".as_slice(),
+    }
+}
