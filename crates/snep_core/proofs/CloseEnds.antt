@@ -1,5 +1,5 @@
 -- What the end of a connection comes to at a peer that its client accords with.
-use Rattle.std.proofs.Common.{◌≡◌, ◌<◌, ◌≤◌, ◌⊎◌, ℕ, ◌==◌, Bool, true, false, List, [], ◌∷◌, length, Some, None, refl, sym, ◌∙◌, ap, subst, inl, inr, arith, if◌then◌else◌}
+use Rattle.std.proofs.Common.{◌≡◌, ℕ, ◌==◌, Bool, true, false, List, [], ◌∷◌, Some, None, refl, sym, ◌∙◌, ap, subst, arith, if◌then◌else◌}
 use Rattle.std.proofs.lemmas.Bool.Decides.{nat_tests}
 use Rattle.nfc_base.specs.Links.{CarrierView, FarStep}
 use Rattle.llcp_pdu.specs.declared.part.Part.TheVariants.{Disc, Dm}
@@ -11,13 +11,13 @@ use Rattle.llcp_link.specs.declared.own.OwnIs.TheVariants.{Asking, Closed, Leavi
 use Rattle.llcp_link.specs.Taking.{disconnected}
 use Rattle.llcp_link.proofs.Ranged.{either}
 use Rattle.snep_core.specs.declared.fault.SnepFault.{SnepFault}
-use Rattle.snep_core.specs.Accord.{Accords, AreOver, AsideFails, IsApart, IsClosed, IsFair, IsPaired, IsPeer, Numbers, PeerState}
+use Rattle.snep_core.specs.Accord.{Accords, AreOver, AsideFails, IsClosed, IsFair, IsPeer, Numbers, PeerState}
 use Rattle.snep_core.specs.Calling.{FailsBy, Talks}
-use Rattle.snep_core.specs.Jobs.{Closes, Done, Job, Over, told_all}
+use Rattle.snep_core.specs.Jobs.{Closes, Done, Over, told_all}
 use Rattle.snep_core.specs.Server.{ServerState, serving}
 use Rattle.snep_core.specs.Talk.{EndState, Ends, Leaves, Step, alone, begins, begun, client_sap, emptied, finished, heard, heard_so, is_waiting, own_of, server_sap, silent}
 use Rattle.snep_core.proofs.AtOneSap.{found_none}
-use Rattle.snep_core.proofs.Asides.{Apart, IsStand, Joined, Stand, accord_at, apart_at, bare_none, client_at, own_at, peer_at, stand_emptied, stand_units, stands_at}
+use Rattle.snep_core.proofs.Asides.{Apart, IsStand, Joined, Stand, accord_at, apart_at, bare_none, client_at, peer_at, stand_emptied, stand_units, stands_at}
 use Rattle.snep_core.proofs.Carrying.{FirstSo, HopSo}
 use Rattle.snep_core.proofs.Courses.{came}
 use Rattle.snep_core.proofs.Meets.{IsReached}

@@ -1,5 +1,5 @@
 -- What a lookup comes to at a peer that its client accords with.
-use Rattle.std.proofs.Common.{◌≡◌, ◌<◌, ◌≤◌, ◌⊎◌, nat_lt, ℕ, ◌+◌, ◌/◌, ◌%◌, ◌==◌, Bool, true, false, List, [], ◌∷◌, ◌++◌, length, take, Option, Some, None, refl, sym, ◌∙◌, ap, subst, inl, inr, arith, if◌then◌else◌, append-nil}
+use Rattle.std.proofs.Common.{◌≡◌, ◌≤◌, ℕ, ◌+◌, ◌/◌, ◌%◌, ◌==◌, Bool, true, false, List, [], ◌∷◌, length, Some, refl, sym, ◌∙◌, ap, subst, arith, append-nil}
 use Rattle.std.proofs.Math.Seq.{take-nil}
 use Rattle.std.proofs.lemmas.Bool.{eq-eqb}
 use Rattle.std.proofs.lemmas.List.{take_all}
@@ -10,18 +10,17 @@ use Rattle.llcp_pdu.specs.Wire.{least_miu}
 use Rattle.llcp_link.specs.Asking.{found_in, looked_up, put_lookup, request}
 use Rattle.llcp_link.specs.Giving.{gave}
 use Rattle.llcp_link.specs.Names.{answers_to, found, told_one}
-use Rattle.llcp_link.specs.State.{Bound, Lookup, Queued, answer, own_from}
+use Rattle.llcp_link.specs.State.{Bound, Lookup, Queued, answer}
 use Rattle.llcp_link.specs.Taking.{steps_part, tells}
 use Rattle.snep_core.specs.declared.fault.SnepFault.{SnepFault}
-use Rattle.snep_core.specs.Accord.{Accords, AsideFails, IsFair, IsFound, IsPeer, PeerState}
+use Rattle.snep_core.specs.Accord.{Accords, AsideFails, IsFound, IsPeer, PeerState}
 use Rattle.snep_core.specs.Calling.{FailsBy, Talks}
 use Rattle.snep_core.specs.Jobs.{Job, Looks, Over, Sap, told_all}
 use Rattle.snep_core.specs.Server.{ServerState, serving}
-use Rattle.snep_core.specs.Talk.{EndState, Ends, Finds, OnSap, alone, begins, client_sap, emptied, found_so, heard, heard_so, own_of, silent}
-use Rattle.snep_core.proofs.Asides.{Calm, IsStand, Stand, accord_at, client_at, client_hop, own_at, peer_at, peer_hop, stand_emptied, stand_units, stands_at}
-use Rattle.snep_core.proofs.Carrying.{FirstSo, HopSo, IsShort}
+use Rattle.snep_core.specs.Talk.{EndState, Ends, Finds, OnSap, alone, begins, client_sap, emptied, found_so, heard, heard_so, silent}
+use Rattle.snep_core.proofs.Asides.{Calm, Stand, accord_at, client_at, client_hop, peer_at, peer_hop, stand_emptied, stand_units, stands_at}
+use Rattle.snep_core.proofs.Carrying.{FirstSo, IsShort}
 use Rattle.snep_core.proofs.Courses.{came}
-use Rattle.snep_core.proofs.Meets.{IsReached}
 use Rattle.snep_core.proofs.OneExchange.{OneExchange, Same, course, fails_so}
 
 -- a number that was told is found

@@ -1,9 +1,9 @@
 -- A call over a peer that is over with its first exchange.
-use Rattle.std.proofs.Common.{◌≡◌, ◌⊎◌, ℕ, ◌||◌, true, List, [], ◌∷◌, ◌++◌, length, Option, Some, None, refl, sym, ◌∙◌, ap, subst, inl, inr}
+use Rattle.std.proofs.Common.{◌≡◌, ◌⊎◌, ℕ, ◌||◌, true, List, Option, Some, None, refl, sym, ◌∙◌, ap, subst, inl, inr}
 use Rattle.nfc_base.specs.declared.carrier.EndCause.{EndCause}
 use Rattle.nfc_base.specs.declared.carrier.EndCause.TheVariants as cause
 use Rattle.nfc_base.specs.Links.{CarrierView, FarStep}
-use Rattle.llcp_link.specs.Taking.{Item, brought, steps, taken_from}
+use Rattle.llcp_link.specs.Taking.{steps, taken_from}
 use Rattle.llcp_link.specs.Giving.{Gave, after_giving, gave, given}
 use Rattle.snep_core.specs.declared.fault.SnepFault.{SnepFault}
 use Rattle.snep_core.specs.Accord.{AsideFails, IsPeer, PeerState, PeerSteps}
@@ -11,7 +11,7 @@ use Rattle.snep_core.specs.Calling.{FailsBy, fault_of}
 use Rattle.snep_core.specs.Jobs.{Ending, Job, Over, has_byte}
 use Rattle.snep_core.specs.Server.{Received, ServerState, serving}
 use Rattle.snep_core.specs.declared.silent.NoService.{NoService}
-use Rattle.snep_core.specs.Talk.{EndState, Ends, GivesUp, Goes, Ready, Step, Working, alone, client_sap, emptied, gave_something, heard, idle_after, own_of, payload, readied, ready, ready_so, replied, settled, silent, took, units_of}
+use Rattle.snep_core.specs.Talk.{EndState, Ends, GivesUp, Goes, Ready, Step, Working, alone, client_sap, emptied, gave_something, heard, own_of, payload, readied, ready, ready_so, replied, silent, took, units_of}
 use Rattle.snep_core.proofs.Carrying.{AtFronts, FirstSo, HopSo, at_front, handed, handed_first}
 use Rattle.snep_core.proofs.Courses.{Course, IsSafe, breaks_off, came}
 use Rattle.snep_core.proofs.Talking.{took_some}

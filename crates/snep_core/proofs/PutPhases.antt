@@ -1,18 +1,17 @@
 -- A put at a server that awaits a request: where the two stand once all of its message came.
-use Rattle.std.proofs.Common.{◌≡◌, ◌<◌, ◌≤◌, ◌⊎◌, nat_lt, ℕ, ◌-◌, ◌^◌, ◌==◌, false, List, [], ◌∷◌, ◌++◌, length, Option, Some, None, refl, sym, ◌∙◌, ap, subst, inl, inr, arith}
+use Rattle.std.proofs.Common.{◌≡◌, ◌<◌, ◌≤◌, nat_lt, ℕ, ◌^◌, ◌==◌, false, List, [], ◌∷◌, ◌++◌, length, Some, None, refl, ap, inr, arith}
 use Rattle.std.proofs.lemmas.Bool.{eq-eqb, lt-ltb}
 use Rattle.std.proofs.lemmas.Bool.Decides.{nat_tests}
 use Rattle.llcp_pdu.specs.General.{IsMiu}
 use Rattle.snep_core.specs.declared.message.Answer.TheVariants as answers
 use Rattle.snep_core.specs.declared.message.Request.TheVariants.{Put}
 use Rattle.snep_core.specs.Accord.{IsPaired, Numbers}
-use Rattle.snep_core.specs.First.{by_code}
 use Rattle.snep_core.specs.Jobs.{Done, Job, Over, Sends, told_all}
 use Rattle.snep_core.specs.Message.{message, put_code}
-use Rattle.snep_core.specs.Server.{Received, ServerState, serving}
+use Rattle.snep_core.specs.Server.{Received, ServerState}
 use Rattle.snep_core.specs.Session.{Offer, Session, fresh_session, sent}
 use Rattle.snep_core.specs.Talk.{EndState, client_sap, finished}
-use Rattle.snep_core.proofs.Conversations.{AllWithin, Comes, Conversation, Converses, Hears, MayTell, Readies, StandsAt, Tells}
+use Rattle.snep_core.proofs.Conversations.{Conversation, Converses, Hears, MayTell, Readies, StandsAt, Tells}
 use Rattle.snep_core.proofs.RequestAnswers.{behind_stays, quiet, says}
 use Rattle.snep_core.proofs.RequestPhases.{Asked, IsRead, Whole, answering}
 

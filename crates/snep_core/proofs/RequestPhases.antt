@@ -16,11 +16,11 @@ use Rattle.snep_core.specs.declared.job.Refusal.TheVariants as refusals
 use Rattle.snep_core.specs.Cuts.{NoneEmpty}
 use Rattle.snep_core.specs.First.{by_code, first_of, info_of}
 use Rattle.snep_core.specs.Jobs.{Begins, Job, Over, Refused, Sends}
-use Rattle.snep_core.specs.Message.{four_bytes, message, message_of_code, number}
+use Rattle.snep_core.specs.Message.{message, message_of_code, number}
 use Rattle.snep_core.specs.Server.{Received, ServerState, received, serving}
 use Rattle.snep_core.specs.Session.{Did, Gathering, Offer, Session, first_did, fresh_session, later_did, obeys}
 use Rattle.snep_core.specs.Talk.{behind_first, client_sap}
-use Rattle.snep_core.proofs.Conversations.{AllWithin, Comes, Conversation, StandsAt}
+use Rattle.snep_core.proofs.Conversations.{AllWithin, Comes, Conversation}
 use Rattle.snep_core.proofs.Served.{Serves, serves_brought}
 
 abbrev pub answering : Answer → Session
