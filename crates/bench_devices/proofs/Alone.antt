@@ -5,7 +5,7 @@ use Rattle.nfc_base.specs.TagLinks.{IsNamedIn}
 use Rattle.air_core.specs.Turn.{Air, world, moment}
 use Rattle.air_core.specs.PlainTags.{IsAside}
 use Rattle.bench_devices.specs.declared.device.Device.{Device}
-use Rattle.bench_devices.specs.declared.device.Device.TheVariants.{T2, T4, T5}
+use Rattle.bench_devices.specs.declared.device.Device.TheVariants.{T2, T4, Peer, T5}
 use Rattle.bench_devices.specs.Device.{device_tech, device_id, device_store}
 use Rattle.bench_devices.specs.Placed.{device_with, IfPlaced}
 use Rattle.bench_devices.specs.Keeping.{kept, ghosts, IsSound, IsAsideOf, held_by}
@@ -26,6 +26,7 @@ beside_all (b ∷ before) d behind first later = ((λ other. first.0), beside_al
 eight_bytes : (d : Device) → IsSound (kept d) → IsNamedIn (device_tech d) (device_id d)
 eight_bytes (T2 d) is = tt
 eight_bytes (T4 d) is = tt
+eight_bytes (Peer d) is = tt
 eight_bytes (T5 p) is = is.1
 
 -- Devices of which one stands alone, and may be placed.

@@ -1,5 +1,5 @@
 -- The link to a Type 4 tag that was activated, as it is made.
-use Rattle.std.proofs.Common.{◌≡◌, ℕ, zero, suc, List, [], ◌∷◌, ◌++◌, length, take, drop, refl, sym, ◌∙◌, ap, subst, arith}
+use Rattle.std.proofs.Common.{◌≡◌, ℕ, zero, suc, List, [], ◌∷◌, ◌++◌, length, take, drop, true, refl, sym, ◌∙◌, ap, subst, arith}
 use Rattle.std.proofs.lemmas.List.{take_all}
 use Rattle.std.proofs.Math.Seq.{drop-append_seam}
 use Rattle.nfc_base.specs.declared.event.Event.{Event}
@@ -20,8 +20,8 @@ use Rattle.tag_reader.specs.Kinds.{IsTag}
 use Rattle.tag_reader.proofs.Cards.{t4_tag}
 use Rattle.bench_devices.specs.Cards.{T4Near}
 use Rattle.bench_devices.specs.declared.device.Device.{Device}
-use Rattle.bench_devices.specs.declared.device.Device.TheVariants.{T2, T4, T5}
-use Rattle.bench_devices.specs.Device.{device_id, device_store, device_commands, device_card, device_tag, how_of, size_of}
+use Rattle.bench_devices.specs.declared.device.Device.TheVariants.{T2, T4, Peer, T5}
+use Rattle.bench_devices.specs.Device.{device_id, device_store, device_commands, device_card, device_tag, how_of, size_of, is_tag}
 use Rattle.bench_devices.specs.Standing.{tag_holds}
 use Rattle.bench_devices.specs.Linking.{Linked, IsNewLink}
 use Rattle.bench_devices.specs.Keeping.{Kept, kept, IsSound, ghosts}
@@ -75,6 +75,7 @@ shows_four : (v : LinkView) (y : Device) → how_of y ≡ hows.T4 → IsSound (k
     → (size : ℕ) × IsTag hows.T4 size v
 shows_four v (T2 y) how is kind state step = absurd cc
 shows_four v (T4 y) how is kind state step = t4_tag v y.upper.tag kind (sound_tag y is) state step
+shows_four v (Peer y) how is kind state step = absurd cc
 shows_four v (T5 p) how is kind state step = absurd cc
 
 -- how many bytes a READ asks for says nothing of it
@@ -88,11 +89,20 @@ held_there (d ∷ ds) zero = sym (tag_holds d)
 held_there (d ∷ ds) (suc n) = held_there ds n
 
 -- what a Type 4 tag does with commands is told by what is fixed of it
+-- a Type 4 tag is a tag
+pub four_tag : (d : Device) → how_of d ≡ hows.T4 → is_tag d ≡ true
+four_tag (T2 d) four = refl
+four_tag (T4 d) four = refl
+four_tag (Peer d) four = absurd cc
+four_tag (T5 p) four = refl
+
 four_commands : (x d : Device) → how_of d ≡ hows.T4 → kept x ≡ kept d → device_commands x ≡ device_commands d
 four_commands (T2 x) d four same = absurd (let e : hows.T2 ≡ hows.T4 = ap (λ (k : Kept). k.fixed.how) same ∙ four in cc)
 four_commands (T4 x) (T2 d) four same = absurd cc
 four_commands (T4 x) (T4 d) four same = ap t4_link_step (ap (λ (k : Kept). k.fixed.code) same)
+four_commands (T4 x) (Peer d) four same = absurd cc
 four_commands (T4 x) (T5 d) four same = absurd cc
+four_commands (Peer x) d four same = absurd (let e : hows.T2 ≡ hows.T4 = ap (λ (k : Kept). k.fixed.how) same ∙ four in cc)
 four_commands (T5 x) d four same = absurd (let e : hows.T5 x.tag.id ≡ hows.T4 = ap (λ (k : Kept). k.fixed.how) same ∙ four in cc)
 
 module _ (p : IsoSeen Device) (is : IsNewLink p) (d : Device) (l : Linked d p.air p.place p.reader) where

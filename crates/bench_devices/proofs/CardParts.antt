@@ -24,7 +24,7 @@ use Rattle.isodep_link.specs.Reader.{waiting}
 use Rattle.isodep_link.specs.declared.link.IsoLink.{IsoLink}
 use Rattle.tag_reader.specs.declared.how.How.TheVariants as hows
 use Rattle.bench_devices.specs.declared.device.Device.{Device}
-use Rattle.bench_devices.specs.declared.device.Device.TheVariants.{T2, T4, T5}
+use Rattle.bench_devices.specs.declared.device.Device.TheVariants.{T2, T4, Peer, T5}
 use Rattle.bench_devices.specs.Device.{devices, device_id, device_card, device_tag, how_of, seen_of}
 use Rattle.bench_devices.specs.Answering.{TellsExchange, TellsCard, TellsBy}
 use Rattle.bench_devices.specs.CardAsking.{Exchanges, card_due, card_stands, card_next, tag_next}
@@ -48,6 +48,7 @@ use Rattle.bench_devices.proofs.TagFour.{takes_rats}
 pub has_fresh : (a : Air Device) (place : ℕ) (d : Device) → Stands (moment a) place d → how_of d ≡ hows.T4 → HasFreshTag ghosts device_card device_tag a place
 has_fresh a place (T2 d) s four = absurd cc
 has_fresh a place (T4 d) s four = record { listener = T4 d; alone = stands_alone a place (T4 d) s; takes = takes_rats d s.sound s.selected s.unasked }
+has_fresh a place (Peer d) s four = absurd cc
 has_fresh a place (T5 p) s four = absurd cc
 
 -- what stays of the device at a place is what stays there
@@ -105,11 +106,13 @@ module _ {X : Type 0} (what : Changes) (IsAll : List Signal → Type 0) (Shows :
   pub as_told : (old new : Moment (World Device)) (d : Device) (x : X) → how_of d ≡ hows.T4 → AsksCard old new x → AsksTag what IsAll (tag_next (seen_of d)) (TellsBy (seen_of d) Shows Fails) Fails old new x
   as_told old new (T2 d) x four s = absurd cc
   as_told old new (T4 d) x four s = record { commands = s.commands; asks = s.asks; asked = s.asked; ends = s.ends; lost = s.lost; noisy = s.noisy }
+  as_told old new (Peer d) x four s = absurd cc
   as_told old new (T5 p) x four s = absurd cc
 
   pub as_cut : (old new : Moment (World Device)) (d : Device) → how_of d ≡ hows.T4 → AsksCardSome old new → AsksSome what IsAll (tag_next (seen_of d)) old new
   as_cut old new (T2 d) four s = absurd cc
   as_cut old new (T4 d) four s = record { commands = s.commands; asks = s.asks; asked = s.asked }
+  as_cut old new (Peer d) four s = absurd cc
   as_cut old new (T5 p) four s = absurd cc
 
   -- RATS was sent to the tag that stands at a place, whose command has such a list.

@@ -43,7 +43,7 @@ use Rattle.bench_devices.proofs.Alone.{sound_alone, beside_all, sound_there, hel
 use Rattle.bench_devices.proofs.ReadingTags.{stands_one}
 use Rattle.bench_devices.proofs.LinkEnds.{LinkEnds}
 use Rattle.bench_devices.proofs.CardLinks as link
-use Rattle.bench_devices.proofs.CardLinks.{due_whole, stand_whole, asks_whole, from_step, from_plain, from_store, store_here, none_before, asked_told}
+use Rattle.bench_devices.proofs.CardLinks.{due_whole, stand_whole, asks_whole, from_step, from_plain, from_store, store_here, none_before, asked_told, four_tag}
 use Rattle.bench_devices.proofs.CardEnds.{card_ends}
 use Rattle.bench_devices.proofs.CardParts.{as_told, as_cut, linked_asks, linked_cut, unanswered_asks, rats_cut, rats_keep, made, link_is, refused}
 use Rattle.bench_devices.proofs.WriteTold.{IsWritten, write_does, write_does_some, write_law}
@@ -67,7 +67,7 @@ module _ (message : List ℕ) (p : IsoSeen Device) (is : IsNewLink p) (d : Devic
   same_id = ap (λ (k : Kept). k.fixed.id) l.same
 
   all_write : (xs : List Signal) × AsksWriteOf message d xs
-  all_write = some_write message d l.sound
+  all_write = some_write message d (four_tag d l.card) l.sound
 
   leaves_own : Leaves (StoreOf (device_id tag_at)) (world p.air) m.asks.going.events (world q.air)
   leaves_own =
@@ -144,7 +144,7 @@ module _ (message : List ℕ) (old : Air Device) (place : ℕ) (one : (e : Devic
   cut_any new writes e stands = subst (λ x. WritesSome (moment old) (moment new) x message) (sym (stands_one old place d one.1 e stands)) writes
 
   all_asked : (xs : List Signal) × AsksWriteOf message d xs
-  all_asked = some_write message d one.1.sound
+  all_asked = some_write message d (four_tag d one.2) one.1.sound
 
   -- RATS changes no store
   module _ (mid : Air Device) (st : waits.Standing) (sent : RatsSent ghosts device_card device_tag old mid st) where

@@ -36,7 +36,7 @@ use Rattle.tlv_area.proofs.Stepping.{length-with_block, block_before}
 use Rattle.bench_devices.specs.Cards.{T4Near}
 use Rattle.bench_devices.specs.Powered.{Powered}
 use Rattle.bench_devices.specs.declared.device.Device.{Device}
-use Rattle.bench_devices.specs.declared.device.Device.TheVariants.{T2, T4, T5}
+use Rattle.bench_devices.specs.declared.device.Device.TheVariants.{T2, T4, Peer, T5}
 use Rattle.bench_devices.specs.Device.{BenchWorld, air, devices, device_id, device_store, says_of, t2_machine, t4_machine}
 use Rattle.bench_devices.specs.Placed.{device_with, IfPlaced}
 use Rattle.bench_devices.specs.Keeping.{ghosts, Fixed, fixed, kept, IsSound, IsApart, AreSound, AreTame, StaysDevice, AllStayDevices, held_by, images_of, IsStoreOf, AreImages, DevicesStay, ImagesStay, AsideKeeps, Changes, NoStore, StoreOf, AllKeepBut, Leaves, EachAsked, IsAsideOf}
@@ -147,6 +147,7 @@ holds_step (T2 d) f =
     let on = two_store d.front d f in
     heard_holds (T2 d) (devices.after (T2 d) f None) (record { long = on.long; sound = λ is. (is.0, is.1, on.sound is.2) }) (hears devices (T2 d) f)
 holds_step (T4 d) f = heard_holds (T4 d) (devices.after (T4 d) f None) (four_holds d f) (hears devices (T4 d) f)
+holds_step (Peer d) f = heard_holds (Peer d) (devices.after (Peer d) f None) (record { long = refl; sound = λ is. is }) (hears devices (Peer d) f)
 holds_step (T5 p) f = heard_holds (T5 p) (devices.after (T5 p) f None) (five_holds p f) (hears devices (T5 p) f)
 
 -- So frames, the dark and light leave a device one that may be placed.
@@ -291,6 +292,7 @@ five_aside false p f same = refl
 addressed_keeps : (own : List ℕ) (code : ℕ) (rest : List ℕ) (d : Device) → length own ≡ 8 → IsAside ghosts own d → kept (stepped_by devices d (addressed own code rest) None) ≡ kept d
 addressed_keeps own code rest (T2 d) eight a = refl
 addressed_keeps own code rest (T4 d) eight a = refl
+addressed_keeps own code rest (Peer d) eight a = refl
 addressed_keeps own code rest (T5 p) eight a = five_aside p.lit p (addressed own code rest) (ap (λ (r : T5Turn). r.after) (other_silent p.tag own eight a.other code rest))
 
 pub aside_keeps : AsideKeeps
@@ -301,6 +303,7 @@ aside_keeps own V f d may named a = subst (λ g. kept (stepped_by devices d g No
 addressed_rests : (own : List ℕ) (code : ℕ) (rest : List ℕ) (d : Device) → IsAside ghosts own d → IsAtRest (stepped_by devices d (addressed own code rest) None)
 addressed_rests own code rest (T2 d) a = a.rests
 addressed_rests own code rest (T4 d) a = a.rests
+addressed_rests own code rest (Peer d) a = a.rests
 addressed_rests own code rest (T5 p) a = five_rests p.lit
   where
     five_rests : (lit : Bool) → IsAtRest (if lit then T5 (record { tag = t5_after p.tag (addressed own code rest); lit = true }) else T5 p)

@@ -25,7 +25,7 @@ use Rattle.nfca_poll.proofs.Crowding.{drop-front}
 use Rattle.tag_reader.specs.declared.how.How.{How}
 use Rattle.tag_reader.specs.declared.how.How.TheVariants as hows
 use Rattle.bench_devices.specs.declared.device.Device.{Device}
-use Rattle.bench_devices.specs.declared.device.Device.TheVariants.{T2, T4, T5}
+use Rattle.bench_devices.specs.declared.device.Device.TheVariants.{T2, T4, Peer, T5}
 use Rattle.bench_devices.specs.Device.{devices, device_id}
 use Rattle.bench_devices.specs.Crowded.{card_if, v_if, crowd_of, inventory_of, others_of}
 use Rattle.bench_devices.specs.Device.{air}
@@ -45,12 +45,26 @@ use Rattle.bench_devices.proofs.Searching.{IsCall, asks_calls, asks_harmless, se
 use Rattle.bench_devices.proofs.SelectingAir.{events_are, loses}
 use Rattle.air_core.proofs.LostField.{breaks-append, HasLost, going_lost}
 use Rattle.bench_devices.proofs.SelectingCards.{polled, tidy, cards_of, own_idents, few_cards}
+use Rattle.bench_devices.proofs.QuietPolling.{AsksQuietly, PollsQuietly, call_hands_none, other_hands_none, quietly}
 use Rattle.bench_devices.proofs.SelectingKept.{due_asked, going_keeps}
-use Rattle.bench_devices.proofs.Inventoried.{IsAwake, only_due, none_told, all_of, Comes, inventory_closes, inventory_harmless, inventory_comes}
+use Rattle.bench_devices.proofs.Inventoried.{IsAwake, only_due, none_told, all_of, Comes, inventory_closes, inventory_other, inventory_harmless, inventory_comes}
 use Rattle.bench_devices.proofs.Awake.{awake_behind}
 
 abbrev next : List Note → Next
 next ns = asks (finding_all ns)
+
+-- at its requests nothing is handed over
+pub finds_quietly : AsksQuietly finding
+finds_quietly ns f e = let is : IsCall f = asks_calls all_devices ns f e in call_hands_none f is.begins
+
+pub inventories_quietly : AsksQuietly inventory
+inventories_quietly ns f e = other_hands_none f (inventory_other ns f e)
+
+pub quiet_find : (old new : Air Device) (r : Result (List Picked) PollFault) → Enquires finding devices old r new → PollsQuietly finding old r new
+quiet_find old new r turns = quietly finding finds_quietly old new r turns
+
+pub quiet_inventory : (old new : Air Device) (r : Result Vcrowd PollFault) → Enquires inventory devices old r new → PollsQuietly inventory old r new
+quiet_inventory old new r turns = quietly inventory inventories_quietly old new r turns
 
 -- the search of NFC-A comes first
 first_by : (p : Followed (List Picked)) (n : Next) → asks p ≡ n → IsDemand n → asks (then_inventory p) ≡ n
@@ -61,7 +75,7 @@ first_asks : (ns : List Note) (n : Next) → enquiring finding ns ≡ n → IsDe
 first_asks ns n e d = first_by (follows finding ns) n (asks_same finding (search_closes all_devices) ns ∙ e) d
 
 -- and the inventory behind it
-others_ask : (cards : List Picked) (p : Followed Vcrowd) → asks (then_others cards p) ≡ asks p
+pub others_ask : (cards : List Picked) (p : Followed Vcrowd) → asks (then_others cards p) ≡ asks p
 others_ask cards (followed.Asks n) = refl
 others_ask cards (followed.Told (Ok others) ns) = refl
 others_ask cards (followed.Told (Err e) ns) = refl
@@ -75,6 +89,7 @@ same_cards : (ds : List Device) → cards_of ds ≡ filter_map card_if ds
 same_cards [] = refl
 same_cards (T2 d ∷ ds) = ap (λ cs. record { id = d.id; kind = kinds.T2; front = d.front } ∷ cs) (same_cards ds)
 same_cards (T4 d ∷ ds) = ap (λ cs. record { id = d.id; kind = kinds.T4; front = d.front } ∷ cs) (same_cards ds)
+same_cards (Peer d ∷ ds) = ap (λ cs. record { id = d.id; kind = kinds.Peer; front = d.front } ∷ cs) (same_cards ds)
 same_cards (T5 p ∷ ds) = same_cards ds
 
 v_how : How → Option (List ℕ)
@@ -87,6 +102,7 @@ unfolding v_how
 v_kept [] = refl
 v_kept (T2 d ∷ ds) = v_kept ds
 v_kept (T4 d ∷ ds) = v_kept ds
+v_kept (Peer d ∷ ds) = v_kept ds
 v_kept (T5 p ∷ ds) = ap (λ is. p.tag.id ∷ is) (v_kept ds)
 
 same_others : (a b : List Device) → map kept a ≡ map kept b → inventory_of (filter_map v_if a) ≡ others_of b
@@ -110,7 +126,7 @@ abbrev pub together : List Picked → Result Vcrowd PollFault → Result Everybo
 together cards (Ok others) = Ok (record { cards = cards; others = others })
 together cards (Err e) = Err e
 
-module _ (old mid : Air Device) (found : Result (List Picked) PollFault) (tame : AreTame (map kept old.listeners)) (calm : AreTidy old.listeners) (turns : Enquires finding devices old found mid)
+module _ (old mid : Air Device) (found : Result (List Picked) PollFault) (tame : AreTame (map kept old.listeners)) (calm : AreTidy old.listeners) (turns : PollsQuietly finding old found mid)
     (ends_so : FindsCrowd devices device_id old found mid) (lost : found ≡ Err faults.FieldLost → 0 < breaks (drop (length old.trace) mid.trace)) where
   abbrev first : List Event
   first = turns.going.events
@@ -211,7 +227,7 @@ module _ (old mid : Air Device) (found : Result (List Picked) PollFault) (tame :
         let at : mid.listeners ≡ _ = ap (λ (m : Moment (World Device)). m.world.listeners) turns.going.moment in
         subst (AllByRecursion IsAwake) (sym at) (awake_behind first (moment old).world turns.going.each turns.going.fresh unbroken asked_some)
 
-    module _ (new : Air Device) (r : Result Vcrowd PollFault) (more : Enquires inventory devices mid r new) (cause : Each (IsSteady devices inventory_all) mid.listeners → HasCauseV devices mid r new) (lost_more : LosesByBreak mid r new) (lit : mid.lit ≡ true) where
+    module _ (new : Air Device) (r : Result Vcrowd PollFault) (more : PollsQuietly inventory mid r new) (cause : Each (IsSteady devices inventory_all) mid.listeners → HasCauseV devices mid r new) (lost_more : LosesByBreak mid r new) (lit : mid.lit ≡ true) where
       abbrev rest : List Event
       rest = more.going.events
 

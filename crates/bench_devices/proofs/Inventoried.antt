@@ -27,7 +27,7 @@ use Rattle.t5t_tag.specs.Step.{T5Turn, sent, t5_answer}
 use Rattle.t5t_tag.proofs.Bytes.{equal_bytes}
 use Rattle.t5t_tag.proofs.Inventories.{counted}
 use Rattle.bench_devices.specs.declared.device.Device.{Device}
-use Rattle.bench_devices.specs.declared.device.Device.TheVariants.{T2, T4, T5}
+use Rattle.bench_devices.specs.declared.device.Device.TheVariants.{T2, T4, Peer, T5}
 use Rattle.bench_devices.specs.Powered.{Powered}
 use Rattle.bench_devices.specs.Device.{devices}
 use Rattle.bench_devices.specs.Crowded.{v_if, inventory_of}
@@ -43,6 +43,7 @@ use Rattle.bench_devices.proofs.SelectingKept.{IsHarmless}
 abbrev pub IsAwake : Device → Type 0
 IsAwake (T2 d) = Unit {0}
 IsAwake (T4 d) = Unit {0}
+IsAwake (Peer d) = Unit {0}
 IsAwake (T5 p) = (p.lit ≡ true) × (p.tag.quiet ≡ false)
 
 abbrev pub says : Device → Option Signal
@@ -59,6 +60,7 @@ all_answer : (ds : List Device) → AllByRecursion IsAwake ds → filter_map say
 all_answer [] h = refl
 all_answer (T2 d ∷ ds) h = all_answer ds h.1
 all_answer (T4 d ∷ ds) h = all_answer ds h.1
+all_answer (Peer d ∷ ds) h = all_answer ds h.1
 all_answer (T5 p ∷ ds) h = ap (λ o. cons_option o (filter_map says ds)) (tag_says p h.0) ∙ ap (λ gs. present p.tag.id ∷ gs) (all_answer ds h.1)
 
 no_ids : (ids : List (List ℕ)) → map present ids ≡ [] → inventory_of ids ≡ Nobody
@@ -78,12 +80,14 @@ others_apart : (k : Kept) (ds : List Device) → AllByRecursion (IsApart k) (map
 others_apart k [] a = tt
 others_apart k (T2 d ∷ ds) a = others_apart k ds a.1
 others_apart k (T4 d ∷ ds) a = others_apart k ds a.1
+others_apart k (Peer d ∷ ds) a = others_apart k ds a.1
 others_apart k (T5 p ∷ ds) a = (a.0, others_apart k ds a.1)
 
 own_ids : (ds : List Device) → AreSound (map kept ds) → AreOwn (filter_map v_if ds)
 own_ids [] s = tt
 own_ids (T2 d ∷ ds) s = own_ids ds s.2
 own_ids (T4 d ∷ ds) s = own_ids ds s.2
+own_ids (Peer d ∷ ds) s = own_ids ds s.2
 own_ids (T5 p ∷ ds) s = (s.0.1, others_apart (kept (T5 p)) ds s.1, own_ids ds s.2)
 
 pub is_whole : (i : List ℕ) → length i ≡ 8 → is_present (present i) ≡ true
@@ -227,9 +231,14 @@ only_due before (Request f x ∷ es) q = (due_only (progress inventory (Tries 0 
 only_due before (Answer g x ∷ es) q = only_due (before ++ Answer g x ∷ []) es q
 only_due before (Clash g x ∷ es) q = only_due (before ++ Clash g x ∷ []) es q
 
+-- it is a request of NFC-V
+pub inventory_other : (ns : List Note) (f : Signal) → enquiring inventory ns ≡ Asks f → f.tech ≡ NfcV
+inventory_other ns f e = ap (λ (g : Signal). g.tech) (due_only (progress inventory (Tries 0 false) ns) f e)
+
 harmless : IsHarmless inventory_all
 harmless (T2 d) = refl
 harmless (T4 d) = refl
+harmless (Peer d) = refl
 harmless (T5 p) = ap kept (stays_at_all p)
 
 pub inventory_harmless : (ns : List Note) (f : Signal) → enquiring inventory ns ≡ Asks f → IsHarmless f
@@ -238,6 +247,7 @@ inventory_harmless ns f e = subst IsHarmless (sym (due_only (progress inventory 
 stays_at : (d : Device) → stepped_by devices d inventory_all None ≡ d
 stays_at (T2 d) = refl
 stays_at (T4 d) = refl
+stays_at (Peer d) = refl
 stays_at (T5 p) = stays_at_all p
 
 pub all_of : (P : Device → Type 0) → ((d : Device) → P d) → (ds : List Device) → Each P ds

@@ -1,9 +1,12 @@
 pub mod Ours
+pub mod PeerMade
+pub mod PeerCalls
 pub mod Tidy
 pub mod Following
 pub mod SelectingCards
 pub mod SelectingAir
 pub mod SelectingKept
+pub mod QuietPolling
 pub mod Searching
 pub mod NoisyTurns
 pub mod SelectingLinks
@@ -55,3 +58,7 @@ pub mod SelectedLaw
 pub mod OneShown
 pub mod TagFourSteps
 pub mod TagFour
+pub mod PeerLinks
+pub mod CalmFrames
+pub mod CalmDues
+pub mod TagOrPeer

@@ -1,5 +1,5 @@
 -- The link to a selected tag that takes commands as they are sent, as it is made.
-use Rattle.std.proofs.Common.{◌≡◌, ℕ, None, sym, ◌∙◌, ap, subst, arith}
+use Rattle.std.proofs.Common.{◌≡◌, ℕ, true, None, sym, ◌∙◌, ap, subst, arith}
 use Rattle.std.specs.Prelude.{Option}
 use Rattle.nfc_base.specs.declared.tag_link.AskFault.{AskFault}
 use Rattle.nfc_base.specs.Signal.{Signal}
@@ -8,8 +8,8 @@ use Rattle.air_core.specs.PlainLinks.{PlainSeen, IsPlainReady, PlainMoves, plain
 use Rattle.tag_reader.specs.declared.how.How.{How}
 use Rattle.tag_reader.specs.Kinds.{IsTag}
 use Rattle.bench_devices.specs.declared.device.Device.{Device}
-use Rattle.bench_devices.specs.Device.{device_store, how_of, size_of}
-use Rattle.bench_devices.specs.Linking.{IsPlainHow, IsNew}
+use Rattle.bench_devices.specs.Device.{device_store, how_of, size_of, is_tag}
+use Rattle.bench_devices.specs.Linking.{IsPlain, IsPlainHow, IsNew}
 use Rattle.bench_devices.specs.Keeping.{ghosts}
 use Rattle.bench_devices.specs.Phases.{Stands}
 use Rattle.bench_devices.proofs.ReadingTags.{has_tag, begun, shows_tag, shows_store}
@@ -22,9 +22,9 @@ new_is p is =
     ap (λ n. as_seen p.air p.place n None None) (sym is.start) ∙ ap (λ x. as_seen p.air p.place p.start x None) (sym is.last)
     ∙ ap (λ x. as_seen p.air p.place p.start p.last x) (sym is.over)
 
-module _ (p : PlainSeen Device) (is : IsNew p) (how : How) (one : (e : Device) × Stands (moment p.air) p.place e × (how ≡ how_of e) × IsPlainHow how) where
-  pub plain_one : IsPlainHow (how_of one.0)
-  plain_one = subst IsPlainHow one.2 one.3
+module _ (p : PlainSeen Device) (is : IsNew p) (how : How) (one : (e : Device) × Stands (moment p.air) p.place e × (how ≡ how_of e) × IsPlainHow how × (is_tag e ≡ true)) where
+  pub plain_one : IsPlain one.0
+  plain_one = (subst IsPlainHow one.2 one.3, one.4)
 
   pub new_ready : IsPlainReady ghosts p
   new_ready = record { start = omega (arith, is.start); tag = has_tag p.air p.place one.0 one.1 plain_one }

@@ -16,18 +16,18 @@ use Rattle.air_core.specs.Waiting.{front_due}
 use Rattle.air_core.specs.PlainLinks.{PlainSeen, PlainMoves, StandsAt, unanswered, answered_in, plain_view}
 use Rattle.tag_reader.specs.Reading.{IsCalm}
 use Rattle.bench_devices.specs.declared.device.Device.{Device}
-use Rattle.bench_devices.specs.declared.device.Device.TheVariants.{T2, T4, T5}
-use Rattle.bench_devices.specs.Device.{air, devices, how_of, seen_of}
+use Rattle.bench_devices.specs.declared.device.Device.TheVariants.{T2, T4, Peer, T5}
+use Rattle.bench_devices.specs.Device.{air, devices, seen_of}
 use Rattle.bench_devices.specs.Answering.{TellsStanding, TellsBy}
 use Rattle.bench_devices.specs.CardAsking.{tag_next}
-use Rattle.bench_devices.specs.Linking.{IsPlainHow}
+use Rattle.bench_devices.specs.Linking.{IsPlain}
 use Rattle.bench_devices.specs.Keeping.{ghosts, Changes, Leaves}
 use Rattle.bench_devices.specs.Phases.{AsksTag, AsksSome}
 use Rattle.air_core.proofs.LostField.{going_lost}
 use Rattle.air_core.proofs.BrokenWaits.{EndsLost, lost_ends, broken_front, stays_lit}
 use Rattle.bench_devices.proofs.SelectingAir.{events_are}
 use Rattle.bench_devices.proofs.LinkEnds.{LinkEnds}
-use Rattle.bench_devices.proofs.ReadingTags.{begun}
+use Rattle.bench_devices.proofs.ReadingTags.{begun, no_tag}
 
 pub none_behind : (xs : List Event) → drop (length xs) xs ≡ []
 none_behind [] = refl
@@ -40,14 +40,16 @@ module _ {X : Type 0} (what : Changes) (IsAll : List Signal → Type 0) (Shows :
   AsksPlain old new x = AsksTag what IsAll waits_next (λ cs ns. TellsStanding Shows Fails (stand 0 cs ns)) Fails old new x
 
   -- so it asks the tag as it is seen
-  pub as_told : (old new : Moment (World Device)) (d : Device) (x : X) → IsPlainHow (how_of d) → AsksPlain old new x → AsksTag what IsAll (tag_next (seen_of d)) (TellsBy (seen_of d) Shows Fails) Fails old new x
+  pub as_told : (old new : Moment (World Device)) (d : Device) (x : X) → IsPlain d → AsksPlain old new x → AsksTag what IsAll (tag_next (seen_of d)) (TellsBy (seen_of d) Shows Fails) Fails old new x
   as_told old new (T2 d) x plain s = record { commands = s.commands; asks = s.asks; asked = s.asked; ends = s.ends; lost = s.lost; noisy = s.noisy }
-  as_told old new (T4 d) x plain s = absurd plain
+  as_told old new (T4 d) x plain s = absurd plain.0
+  as_told old new (Peer d) x plain s = absurd (no_tag plain.1)
   as_told old new (T5 p) x plain s = record { commands = s.commands; asks = s.asks; asked = s.asked; ends = s.ends; lost = s.lost; noisy = s.noisy }
 
-  pub as_cut : (old new : Moment (World Device)) (d : Device) → IsPlainHow (how_of d) → AsksSome what IsAll waits_next old new → AsksSome what IsAll (tag_next (seen_of d)) old new
+  pub as_cut : (old new : Moment (World Device)) (d : Device) → IsPlain d → AsksSome what IsAll waits_next old new → AsksSome what IsAll (tag_next (seen_of d)) old new
   as_cut old new (T2 d) plain s = record { commands = s.commands; asks = s.asks; asked = s.asked }
-  as_cut old new (T4 d) plain s = absurd plain
+  as_cut old new (T4 d) plain s = absurd plain.0
+  as_cut old new (Peer d) plain s = absurd (no_tag plain.1)
   as_cut old new (T5 p) plain s = record { commands = s.commands; asks = s.asks; asked = s.asked }
 
   module _ (a : Air Device) (place : ℕ) (bright : a.lit ≡ true) (q : PlainSeen Device) (m : PlainMoves ghosts (begun a place) q) where

@@ -33,7 +33,7 @@ use Rattle.isodep_link.proofs.Heeding.{AreBytes}
 use Rattle.tag_reader.specs.declared.how.How.{How}
 use Rattle.tag_reader.specs.declared.how.How.TheVariants as hows
 use Rattle.bench_devices.specs.declared.device.Device.{Device}
-use Rattle.bench_devices.specs.declared.device.Device.TheVariants.{T2, T4, T5}
+use Rattle.bench_devices.specs.declared.device.Device.TheVariants.{T2, T4, Peer, T5}
 use Rattle.bench_devices.specs.Powered.{Powered}
 use Rattle.bench_devices.specs.Device.{BenchWorld, air, devices, device_tech, says_of, t2_machine}
 use Rattle.bench_devices.specs.Keeping.{ghosts}
@@ -56,6 +56,7 @@ IsOwn (hows.T5 id) own = (id ≡ own) × (length own ≡ 8)
 abbrev pub IsOn : How → Device → Type 0
 IsOn how (T2 d) = (how ≡ hows.T2) × (starred : Bool) × (d.front ≡ Active starred)
 IsOn how (T4 d) = ⊥
+IsOn how (Peer d) = ⊥
 IsOn how (T5 p) = (how ≡ hows.T5 p.tag.id) × (p.lit ≡ true) × IsT5State p.tag
 
 -- it answers, and stays one
@@ -102,6 +103,7 @@ five_replies how p f is lit sound tells = record {
 pub replies : (how : How) (m : Device) (f : Signal) → IsOn how m → IsHeeded how f → Replies how m f
 replies how (T2 d) f on heeded = let h : IsHeeded hows.T2 f = subst (λ k. IsHeeded k f) on.0 heeded in two_replies how d f h.1 on.0 on.1 on.2 h.2
 replies how (T4 d) f on heeded = absurd on
+replies how (Peer d) f on heeded = absurd on
 replies how (T5 p) f on heeded =
     let h : IsHeeded (hows.T5 p.tag.id) f = subst (λ k. IsHeeded k f) on.0 heeded in
     five_replies how p f on.0 on.1 on.2 (subst (λ g. Tells (t5_turn p.tag g)) (sym h.2) (addressed_tells p.tag on.2 h.0 h.1 h.3))
@@ -125,6 +127,7 @@ named_by (hows.T5 id) own is = is.1
 tech_is : (how : How) (m : Device) → IsOn how m → device_tech m ≡ tech_by how
 tech_is how (T2 d) on = ap tech_by (sym on.0)
 tech_is how (T4 d) on = absurd on
+tech_is how (Peer d) on = absurd on
 tech_is how (T5 p) on = ap tech_by (sym on.0)
 
 same_techs : (t : Tech) → same_tech t t ≡ true

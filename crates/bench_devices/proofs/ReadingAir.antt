@@ -22,11 +22,13 @@ use Rattle.tag_reader.specs.declared.how.How.TheVariants as hows
 use Rattle.tag_reader.specs.Kinds.{command, first}
 use Rattle.bench_devices.specs.Powered.{Powered}
 use Rattle.bench_devices.specs.declared.device.Device.{Device}
-use Rattle.bench_devices.specs.declared.device.Device.TheVariants.{T2, T4, T5}
+use Rattle.bench_devices.specs.declared.device.Device.TheVariants.{T2, T4, Peer, T5}
 use Rattle.nfc_base.specs.declared.frame.Tech.TheVariants.{A}
 use Rattle.bench_devices.specs.Device.{devices, device_tech, device_after, how_of}
-use Rattle.bench_devices.specs.Linking.{IsPlainHow}
+use Rattle.bench_devices.specs.Linking.{IsPlain}
 use Rattle.bench_devices.specs.Keeping.{kept}
+use Rattle.bench_devices.proofs.PeerMade.{peer_kept}
+use Rattle.bench_devices.proofs.ReadingTags.{no_tag}
 use Rattle.bench_devices.proofs.CardKept.{four_keeps, spells_none}
 use Rattle.air_core.proofs.DueWaits.{due_all}
 use Rattle.bench_devices.proofs.SelectingKept.{IsHarmless}
@@ -83,14 +85,14 @@ several_leave t id block more = read_addressed t read_many_code (t5_mask.low_fir
 
 -- so does one of each kind of device, whichever it hears
 read_two : (id : List ℕ) (front : Front) (u : T2Memory) (size : ℕ) (store : List ℕ) (k : ℕ)
-    → kept (device_after (T2 (record { id = id; front = front; upper = u })) (command hows.T2 size store k)) ≡ kept (T2 (record { id = id; front = front; upper = u }))
+    → kept (device_after (T2 (record { id = id; front = front; upper = u })) (command hows.T2 size store k) None) ≡ kept (T2 (record { id = id; front = front; upper = u }))
 read_two id Off u size store k = refl
 read_two id Idle u size store k = refl
 read_two id Sleep u size store k = refl
 read_two id (Ready level starred) u size store k = refl
 read_two id (Active starred) u size store k = refl
 
-five_keeps : (p : Powered) (f : Signal) → t5_after p.tag f ≡ p.tag → kept (device_after (T5 p) f) ≡ kept (T5 p)
+five_keeps : (p : Powered) (f : Signal) → t5_after p.tag f ≡ p.tag → kept (device_after (T5 p) f None) ≡ kept (T5 p)
 five_keeps p f leaves = by_light p.lit
   where
     by_light : (v : Bool) → kept (if v then T5 (record { tag = t5_after p.tag f; lit = true }) else T5 p) ≡ kept (T5 p)
@@ -114,13 +116,16 @@ unheard d (One block) id is = by_number (nat_lt block 256)
     by_number false = rw is refl
 unheard d (Many block more) id is = rw is refl
 
-read_keeps : (e : Device) → IsPlainHow (how_of e) → (size : ℕ) (store : List ℕ) (k : ℕ) (d : Device) → kept (stepped_by devices d (command (how_of e) size store k) None) ≡ kept d
+read_keeps : (e : Device) → IsPlain e → (size : ℕ) (store : List ℕ) (k : ℕ) (d : Device) → kept (stepped_by devices d (command (how_of e) size store k) None) ≡ kept d
 read_keeps (T2 e) is size store k (T2 d) = read_two d.id d.front d.upper size store k
 read_keeps (T2 e) is size store k (T4 d) = four_keeps d (command hows.T2 size store k) (spells_none (command hows.T2 size store k) refl refl)
 read_keeps (T2 e) is size store k (T5 p) = refl
-read_keeps (T4 e) is size store k d = absurd is
+read_keeps (T2 e) is size store k (Peer d) = peer_kept d (command hows.T2 size store k) None
+read_keeps (T4 e) is size store k d = absurd is.0
+read_keeps (Peer e) is size store k d = absurd (no_tag is.1)
 read_keeps (T5 e) is size store k (T2 d) = unheard (T2 d) (ask_at size store (progress_at size store k)) e.tag.id refl
 read_keeps (T5 e) is size store k (T4 d) = unheard (T4 d) (ask_at size store (progress_at size store k)) e.tag.id refl
+read_keeps (T5 e) is size store k (Peer d) = peer_kept d (command (hows.T5 e.tag.id) size store k) None
 read_keeps (T5 e) is size store k (T5 p) = read_five p e.tag.id (ask_at size store (progress_at size store k))
 
 -- a frame that asks a device for bytes
@@ -136,7 +141,7 @@ all_reads e size store zero = tt
 all_reads e size store (suc n) = all_more (IsRead e) (first (how_of e) size store n) (command (how_of e) size store n) (all_reads e size store n) (size, store, n, refl)
 
 -- what is due while READs are asked changes no device but in its state
-pub reads_harmless : (e : Device) → IsPlainHow (how_of e) → (cs : List Signal) → AllByRecursion (IsRead e) cs → (ns : List Note) (f : Signal) → waits_next cs ns ≡ Asks f → IsHarmless f
+pub reads_harmless : (e : Device) → IsPlain e → (cs : List Signal) → AllByRecursion (IsRead e) cs → (ns : List Note) (f : Signal) → waits_next cs ns ≡ Asks f → IsHarmless f
 reads_harmless e plain cs all ns f due d =
     let is : IsRead e f = due_all (IsRead e) cs all ns f due in
     ap (λ g. kept (stepped_by devices d g None)) is.3 ∙ read_keeps e plain is.0 is.1 is.2 d

@@ -1,5 +1,5 @@
 -- What a read of the selected tag comes to, by what its link did.
-use Rattle.std.proofs.Common.{◌≡◌, ℕ, refl, sym, ap, subst}
+use Rattle.std.proofs.Common.{◌≡◌, ℕ, true, refl, sym, ap, subst}
 use Rattle.std.specs.Prelude.{map, Result, Err}
 use Rattle.std.specs.List.{AllByRecursion}
 use Rattle.nfc_base.specs.TagLinks.{LinkView}
@@ -15,9 +15,9 @@ use Rattle.tag_reader.specs.Kinds.{first}
 use Rattle.tag_reader.specs.Asked.{ToRead}
 use Rattle.tag_reader.specs.Calls.{HasAsked}
 use Rattle.bench_devices.specs.declared.device.Device.{Device}
-use Rattle.bench_devices.specs.Device.{device_store, how_of, size_of}
+use Rattle.bench_devices.specs.Device.{device_store, how_of, size_of, is_tag}
 use Rattle.bench_devices.specs.Reading.{AsksOf, ShowsOf}
-use Rattle.bench_devices.specs.Linking.{IsPlainHow, IsNew}
+use Rattle.bench_devices.specs.Linking.{IsPlain, IsPlainHow, IsNew}
 use Rattle.bench_devices.specs.Keeping.{kept, ghosts, NoStore}
 use Rattle.bench_devices.specs.Phases.{Stands, AsksSome, FailsRead, Reads, ReadsAt, ReadsSome, CutAt}
 use Rattle.bench_devices.proofs.SelectingKept.{going_keeps}
@@ -31,7 +31,7 @@ use Rattle.bench_devices.proofs.ReadTold as reading
 use Rattle.bench_devices.proofs.ReadTold.{read_some, read_does, read_does_some}
 
 -- The link as it is made, to the tag that stands there.
-module _ (a : Air Device) (place : ℕ) (d : Device) (s : Stands (moment a) place d) (plain : IsPlainHow (how_of d)) (q : PlainSeen Device) (m : PlainMoves ghosts (begun a place) q) where
+module _ (a : Air Device) (place : ℕ) (d : Device) (s : Stands (moment a) place d) (plain : IsPlain d) (q : PlainSeen Device) (m : PlainMoves ghosts (begun a place) q) where
   abbrev from : LinkView
   from = plain_view ghosts (begun a place)
 
@@ -68,7 +68,7 @@ module _ (a : Air Device) (place : ℕ) (d : Device) (s : Stands (moment a) plac
       as_cut NoStore (AsksOf d) (ShowsOf d) FailsRead (moment a) (moment q.air) d plain
       (read_does_some d (some_asked d s.sound plain) from to (shows_store a place d s) m.asked.commands (none_before a place q m) refl (asked_told a place q m) (ends h) h)
 
-module _ (p : PlainSeen Device) (is : IsNew p) (how : How) (one : (e : Device) × Stands (moment p.air) p.place e × (how ≡ how_of e) × IsPlainHow how) (q : PlainSeen Device)
+module _ (p : PlainSeen Device) (is : IsNew p) (how : How) (one : (e : Device) × Stands (moment p.air) p.place e × (how ≡ how_of e) × IsPlainHow how × (is_tag e ≡ true)) (q : PlainSeen Device)
     (moves : PlainMoves ghosts p q) where
   -- what was told on the link that is new
   here : (r : Result Found ReadFault) → reading.IsRead how (size_of one.0) (plain_view ghosts p) (plain_view ghosts q) r

@@ -39,6 +39,7 @@ use Rattle.bench_devices.specs.TagAsking.{then_asks, tag_due}
 use Rattle.bench_devices.proofs.CardHeard.{field_of}
 use Rattle.bench_devices.proofs.Following.{Closes, asks_same, follows_on}
 use Rattle.bench_devices.proofs.PlainHeard.{IsHeeded}
+use Rattle.bench_devices.proofs.QuietPolling.{PollsQuietly, mutely}
 use Rattle.bench_devices.proofs.QuietWalk.{Passing, walk}
 use Rattle.bench_devices.proofs.Searching.{search_closes}
 use Rattle.bench_devices.proofs.SelectingA as a_kind
@@ -139,10 +140,11 @@ at_first id ls some = by_one (none_or_amid id ls)
 selected_a : (id : List ℕ) (a b : Moment BenchWorld) (hs : List Note) (kind : Kind) → IsIdent id → AreTame (map kept a.world.listeners) → AreTidy a.world.listeners
     → Polls (picking id) a b hs → follows (picking id) hs ≡ Told (Ok kind) [] → Selected (ids.A id) a b (seen_kind kind)
 selected_a id a b hs kind ident tame tidy p told =
-    let turns : Enquires (picking id) devices (field_of a) (Ok kind) (field_of b) =
+    let turns : PollsQuietly (picking id) (field_of a) (Ok kind) (field_of b) =
     record { notes = hs; going = p.going; comes = came (picking id) (picking id).start ((picking id).ended (picking id).start) hs kind refl told } in
-    let lost = pick_lost id devices (field_of a) (field_of b) (Ok kind) turns in
-    let crowd = selects_alone devices device_id id (field_of a) (field_of b) (Ok kind) turns in
+    let asked : Enquires (picking id) devices (field_of a) (Ok kind) (field_of b) = mutely (picking id) (a_kind.asks_quietly id) (field_of a) (field_of b) (Ok kind) turns in
+    let lost = pick_lost id devices (field_of a) (field_of b) (Ok kind) asked in
+    let crowd = selects_alone devices device_id id (field_of a) (field_of b) (Ok kind) asked in
     let some = a_kind.placed id (field_of a) (field_of b) (Ok kind) ident tame tidy turns lost crowd kind refl in
     let at = at_first id b.world.listeners some in
     selected_by (ids.A id) a b (enquiring (picking id)) hs (seen_kind kind) at.0 p.going (ap (kind_by seen_kind) told)
@@ -163,7 +165,7 @@ five_told id (Lost ∷ ns) k e = absurd (let clash : ◌≡◌ {A = Followed See
 selected_v : (id : List ℕ) (a mid b : Moment BenchWorld) (hs : List Note) (x : Unit {0}) → length id ≡ 8 → AreTame (map kept a.world.listeners) → mid ≡ with_events air a (Reset ∷ [])
     → Polls (picking_v id) mid b hs → follows (picking_v id) hs ≡ Told (Ok x) [] → Selected (ids.V id) a b seen.T5
 selected_v id a mid b hs x eight tame reset p told =
-    let turns : Enquires (picking_v id) devices (field_of mid) (Ok x) (field_of b) =
+    let turns : PollsQuietly (picking_v id) (field_of mid) (Ok x) (field_of b) =
     record { notes = hs; going = p.going; comes = came (picking_v id) (picking_v id).start ((picking_v id).ended (picking_v id).start) hs x refl told } in
     let some = v_kind.placed id eight (field_of a) (field_of mid) (field_of b) (Ok x) tame reset turns (λ e. absurd cc) (λ steady. record { not_found = λ e. absurd cc; bad = λ e well. absurd cc }) refl in
     let at = at_first id b.world.listeners some in

@@ -20,7 +20,7 @@ use Rattle.nfca_poll.specs.RoundEnds.{LeavesActive, PickEnds, SelectsAlone}
 use Rattle.nfca_poll.proofs.Eaches.{each_front, each_back}
 use Rattle.bench_script.specs.declared.command.DeviceId.TheVariants as ids
 use Rattle.bench_devices.specs.declared.device.Device.{Device}
-use Rattle.bench_devices.specs.declared.device.Device.TheVariants.{T2, T4, T5}
+use Rattle.bench_devices.specs.declared.device.Device.TheVariants.{T2, T4, Peer, T5}
 use Rattle.bench_devices.specs.declared.polling.SeenKind.{SeenKind}
 use Rattle.bench_devices.specs.Device.{devices, device_id, device_selected, seen_of}
 use Rattle.bench_devices.specs.Device.{air}
@@ -40,6 +40,7 @@ use Rattle.bench_devices.proofs.Searching.{IsCall, asks_calls, asks_harmless, se
 use Rattle.bench_devices.proofs.SelectingAir.{events_are, loses}
 use Rattle.air_core.proofs.LostField.{HasLost, going_lit, going_lost}
 use Rattle.bench_devices.proofs.SelectingCards.{ours, polled, tidy, cards_of, own_idents, few_cards}
+use Rattle.bench_devices.proofs.QuietPolling.{AsksQuietly, PollsQuietly, call_hands_none, quietly}
 use Rattle.bench_devices.proofs.SelectingKept.{due_asked, going_keeps}
 use Rattle.bench_devices.proofs.SelectingLinks.{AreUnlinked, unasked, unlinked_amid, unlinked_behind}
 use Rattle.bench_devices.proofs.SelectingPlaces.{some_named, sound_amid, others_before, others_behind, same_place}
@@ -53,6 +54,7 @@ other_ids : (id : List ℕ) (ds : List Device) → Each (λ c. c.id ≢ id) (car
 other_ids id [] h = tt
 other_ids id (T2 d ∷ ds) h = ((λ e. h.0 e.1), other_ids id ds h.1)
 other_ids id (T4 d ∷ ds) h = ((λ e. h.0 e.1), other_ids id ds h.1)
+other_ids id (Peer d ∷ ds) h = ((λ e. h.0 e.1), other_ids id ds h.1)
 other_ids id (T5 p ∷ ds) h = ((λ e. absurd (let k : techs.V ≡ techs.A = e.0 in cc)), other_ids id ds h)
 
 -- the device that has a card
@@ -107,6 +109,8 @@ card_at (T2 d ∷ ds) [] c b e = card_here (T2 d) ds c b e
 card_at (T2 d ∷ ds) (x ∷ a) c b e = card_later (T2 d) ds x a c b (λ xs. refl) e (card_at ds a c b (ap tail_of e))
 card_at (T4 d ∷ ds) [] c b e = card_here (T4 d) ds c b e
 card_at (T4 d ∷ ds) (x ∷ a) c b e = card_later (T4 d) ds x a c b (λ xs. refl) e (card_at ds a c b (ap tail_of e))
+card_at (Peer d ∷ ds) [] c b e = card_here (Peer d) ds c b e
+card_at (Peer d ∷ ds) (x ∷ a) c b e = card_later (Peer d) ds x a c b (λ xs. refl) e (card_at ds a c b (ap tail_of e))
 
 -- a device whose card is active is selected, and is what its card tells
 no_off : Off ≡ Active false → ⊥
@@ -115,6 +119,7 @@ no_off e = cc
 told_right : (d : Device) (c : Card) → card_of ours d ≡ c → c.front ≡ Active false → (seen_of d ≡ seen_kind c.kind) × (device_selected d ≡ true)
 told_right (T2 d) c e f = (ap (λ (x : Card). seen_kind x.kind) e, ap (λ (x : Card). is_active x.front) e ∙ ap is_active f)
 told_right (T4 d) c e f = (ap (λ (x : Card). seen_kind x.kind) e, ap (λ (x : Card). is_active x.front) e ∙ ap is_active f)
+told_right (Peer d) c e f = (ap (λ (x : Card). seen_kind x.kind) e, ap (λ (x : Card). is_active x.front) e ∙ ap is_active f)
 told_right (T5 p) c e f = absurd (no_off (ap (λ (x : Card). x.front) e ∙ f))
 
 rest_unready : (front : Front) → is_rest front ≡ true → (is_ready front ≡ false) × (is_active front ≡ false)
@@ -129,10 +134,18 @@ all_aside : (id : List ℕ) (ds : List Device) → Each (λ c. is_rest c.front �
 all_aside id [] h o = tt
 all_aside id (T2 d ∷ ds) h o = (record { rests = λ t. rest_unready d.front h.0; other = o.0 }, all_aside id ds h.1 o.1)
 all_aside id (T4 d ∷ ds) h o = (record { rests = λ t. rest_unready d.front h.0; other = o.0 }, all_aside id ds h.1 o.1)
+all_aside id (Peer d ∷ ds) h o = (record { rests = λ t. rest_unready d.front h.0; other = o.0 }, all_aside id ds h.1 o.1)
 all_aside id (T5 p ∷ ds) h o = (record { rests = λ t. absurd cc; other = o.0 }, all_aside id ds h o.1)
 
+-- at its calls nothing is handed over
+pub asks_quietly : (id : List ℕ) → AsksQuietly (picking id)
+asks_quietly id ns f e = let is : IsCall f = asks_calls (device_of id) ns f e in call_hands_none f is.begins
+
+pub quiet : (id : List ℕ) (old new : Air Device) (r : Result Kind PollFault) → Enquires (picking id) devices old r new → PollsQuietly (picking id) old r new
+quiet id old new r turns = quietly (picking id) (asks_quietly id) old new r turns
+
 module _ (id : List ℕ) (old new : Air Device) (r : Result Kind PollFault) (ident : IsIdent id) (tame : AreTame (map kept old.listeners)) (calm : AreTidy old.listeners)
-    (turns : Enquires (picking id) devices old r new) where
+    (turns : PollsQuietly (picking id) old r new) where
   abbrev next : List Note → Next
   next ns = asks (selecting (ids.A id) ns)
 

@@ -19,7 +19,7 @@ use Rattle.t2t_tag.specs.Spelling.{spelled_command}
 use Rattle.t2t_tag.specs.Store.{T2Memory}
 use Rattle.t2t_tag.specs.Step.{reply_frame, t2_after}
 use Rattle.bench_devices.specs.declared.device.Device.{Device}
-use Rattle.bench_devices.specs.declared.device.Device.TheVariants.{T2, T4, T5}
+use Rattle.bench_devices.specs.declared.device.Device.TheVariants.{T2, T4, Peer, T5}
 use Rattle.t5t_tag.specs.Step.{t5_after}
 use Rattle.bench_devices.specs.Cards.{T4Near}
 use Rattle.bench_devices.specs.Device.{devices, device_id, says_of, t2_machine, T4Did, t4_did, t4_machine, is_unlinked, is_no_file}
@@ -27,7 +27,10 @@ use Rattle.bench_devices.specs.Phases as bench
 use Rattle.bench_devices.specs.Keeping.{Kept, kept, IsApart, AreSound, AreTame}
 use Rattle.bench_devices.specs.Phases.{IsTidy}
 use Rattle.bench_devices.proofs.Ours.{device_kind, device_front, steps}
-use Rattle.bench_devices.proofs.Tidy.{left_tidy}
+use Rattle.bench_devices.specs.Peers.{no_link}
+use Rattle.bench_devices.specs.PeerUpper.{foreign_peer}
+use Rattle.bench_devices.proofs.PeerCalls.{peer_steps, peer_yields, peer_free}
+use Rattle.bench_devices.proofs.Tidy.{left_tidy, left_free, four_gives_up}
 use Rattle.nfca_poll.specs.OwnFrames.{BeginsAsCalls, call_begins}
 use Rattle.bench_devices.specs.LinkCalls.{no_command, says_at, did_at_call}
 
@@ -77,10 +80,11 @@ step_at_call d f e =
 abbrev pub ours : AreOurs devices device_id
 ours = record { kind = device_kind; front = device_front; steps = steps }
 
--- whether a device has no link; a Type 4 tag alone may have one
+-- whether a device has no link; a Type 4 tag and a peer may have one
 abbrev pub device_unlinked : Device → Bool
 device_unlinked (T2 d) = true
 device_unlinked (T4 d) = is_unlinked d.upper
+device_unlinked (Peer d) = no_link d.upper
 device_unlinked (T5 p) = true
 
 -- to a Type 4 tag without a link each call is foreign
@@ -114,15 +118,7 @@ card_steps (Active starred) id u f e =
     }
 
 pub left_unlinked : (front next : Front) (u : T4Near) → is_unlinked u ≡ true → is_unlinked (left_at t4_machine front next u) ≡ true
-left_unlinked Off next u n = n
-left_unlinked Idle next u n = n
-left_unlinked Sleep next u n = n
-left_unlinked (Ready k starred) next u n = n
-left_unlinked (Active starred) Off u n = refl
-left_unlinked (Active starred) Idle u n = refl
-left_unlinked (Active starred) Sleep u n = refl
-left_unlinked (Active starred) (Ready k other) u n = refl
-left_unlinked (Active starred) (Active other) u n = n
+left_unlinked front next u n = left_free t4_machine is_unlinked four_gives_up front next u n
 
 card_unlinked : (front : Front) (id : List ℕ) (u : T4Near) (f : Signal) → BeginsAsCalls f → is_unlinked u ≡ true → is_unlinked (after_by t4_machine front (near id front u) f None).upper ≡ true
 card_unlinked Off id u f h n = n
@@ -136,6 +132,7 @@ card_unlinked (Active starred) id u f h n =
 pub stays_unlinked : (d : Device) (f : Signal) → BeginsAsCalls f → device_unlinked d ≡ true → device_unlinked (devices.after d f None) ≡ true
 stays_unlinked (T2 d) f h n = refl
 stays_unlinked (T4 d) f h n = card_unlinked d.front d.id d.upper f h n
+stays_unlinked (Peer d) f h n = peer_free d.front d.id d.upper f h n
 stays_unlinked (T5 p) f h n = powered_unlinked p.lit (T5 (record { tag = t5_after p.tag f; lit = true })) (T5 p) refl refl
   where
     powered_unlinked : (v : Bool) (a b : Device) → device_unlinked a ≡ true → device_unlinked b ≡ true → device_unlinked (if v then a else b) ≡ true
@@ -145,11 +142,14 @@ stays_unlinked (T5 p) f h n = powered_unlinked p.lit (T5 (record { tag = t5_afte
 pub same_tech_woken : (l : Device) → devices.tech (devices.woken (devices.darkened l)) ≡ devices.tech l
 same_tech_woken (T2 d) = refl
 same_tech_woken (T4 d) = refl
+same_tech_woken (Peer d) = refl
 same_tech_woken (T5 p) = refl
 
 pub leaves : LeavesAtCalls ours device_unlinked
 leaves (T2 d) f c t u e = ((λ a. step_at_call d f (no_command f (call_begins f c e))), refl)
 leaves (T4 d) f c t u e = ((λ a. card_steps d.front d.id d.upper f (foreign_to d.upper f (call_begins f c e) u)), stays_unlinked (T4 d) f (call_begins f c e) u)
+leaves (Peer d) f c t u e =
+    ((λ a. peer_steps d.front d.id d.upper f (call_begins f c e) (foreign_peer d.upper f None (call_begins f c e) u)), stays_unlinked (Peer d) f (call_begins f c e) u)
 leaves (T5 p) f c t u e = absurd cc
 
 -- a reset takes the link
@@ -159,12 +159,14 @@ unlinked_off u (inr n) = n
 
 pub reset_unlinked : (d : Device) → IsTidy d → device_unlinked (devices.woken (devices.darkened d)) ≡ true
 reset_unlinked (T2 d) t = refl
-reset_unlinked (T4 d) t = unlinked_off (left_at t4_machine d.front Off d.upper) (left_tidy d.front Off d.upper t)
+reset_unlinked (T4 d) t = unlinked_off (left_at t4_machine d.front Off d.upper) (left_tidy t4_machine is_unlinked four_gives_up d.front Off d.upper t)
+reset_unlinked (Peer d) t = refl
 reset_unlinked (T5 p) t = refl
 
 pub wakes_idle : (l : Device) → devices.tech l ≡ A → Tidy device_front device_unlinked l → WakesIdle devices device_id device_kind device_front device_unlinked l
 wakes_idle (T2 d) t h = record { idle = refl; no_link = refl; same_id = refl; same_kind = refl }
 wakes_idle (T4 d) t h = record { idle = refl; no_link = reset_unlinked (T4 d) h; same_id = refl; same_kind = refl }
+wakes_idle (Peer d) t h = record { idle = refl; no_link = refl; same_id = refl; same_kind = refl }
 wakes_idle (T5 p) t h = absurd cc
 
 -- at a call an active device leaves the state Active, but for a Type 4 tag with a link, which stays in it
@@ -195,6 +197,7 @@ yields_near (Active starred) id u f h a = silent_near id starred u u.linked f h 
 pub yields : YieldsToCalls ours
 yields (T2 d) f c t a e = inl (step_at_call d f (no_command f (call_begins f c e)))
 yields (T4 d) f c t a e = yields_near d.front d.id d.upper f (call_begins f c e) a
+yields (Peer d) f c t a e = peer_yields d.front d.id d.upper f (call_begins f c e) a
 yields (T5 p) f c t a e = absurd cc
 
 abbrev pub polled : ArePolled devices device_id
@@ -204,6 +207,7 @@ pub tidy : (ds : List Device) → bench.AreTidy ds → AreTidy polled ds
 tidy [] h = tt
 tidy (T2 d ∷ ds) h = ((λ t. inr refl), tidy ds h.1)
 tidy (T4 d ∷ ds) h = ((λ t. h.0), tidy ds h.1)
+tidy (Peer d ∷ ds) h = ((λ t. h.0), tidy ds h.1)
 tidy (T5 p ∷ ds) h = ((λ t. inr refl), tidy ds h.1)
 
 -- the cards of the devices
@@ -227,18 +231,21 @@ cards_idents : (ds : List Device) → AreSound (map kept ds) → Each (λ c. IsI
 cards_idents [] s = tt
 cards_idents (T2 d ∷ ds) s = (s.0.0, cards_idents ds s.2)
 cards_idents (T4 d ∷ ds) s = (s.0.0, cards_idents ds s.2)
+cards_idents (Peer d ∷ ds) s = (s.0.0, cards_idents ds s.2)
 cards_idents (T5 p ∷ ds) s = cards_idents ds s.2
 
 cards_apart : (k : Kept) (ds : List Device) → AllByRecursion (IsApart k) (map kept ds) → Each (λ c. c.id ≢ k.fixed.id) (cards_of ds)
 cards_apart k [] a = tt
 cards_apart k (T2 d ∷ ds) a = (a.0, cards_apart k ds a.1)
 cards_apart k (T4 d ∷ ds) a = (a.0, cards_apart k ds a.1)
+cards_apart k (Peer d ∷ ds) a = (a.0, cards_apart k ds a.1)
 cards_apart k (T5 p ∷ ds) a = cards_apart k ds a.1
 
 cards_distinct : (ds : List Device) → AreSound (map kept ds) → AreDistinct (cards_of ds)
 cards_distinct [] s = tt
 cards_distinct (T2 d ∷ ds) s = (cards_apart (kept (T2 d)) ds s.1, cards_distinct ds s.2)
 cards_distinct (T4 d ∷ ds) s = (cards_apart (kept (T4 d)) ds s.1, cards_distinct ds s.2)
+cards_distinct (Peer d ∷ ds) s = (cards_apart (kept (Peer d)) ds s.1, cards_distinct ds s.2)
 cards_distinct (T5 p ∷ ds) s = cards_distinct ds s.2
 
 pub own_idents : (ds : List Device) → AreTame (map kept ds) → HaveOwnIdents (cards_of ds)

@@ -15,13 +15,14 @@ use Rattle.nfca_poll.specs.Front.{Front, Off, Idle, Sleep, Ready, Active, front_
 use Rattle.nfca_poll.specs.Fronted.{left_at, active_after, after_by}
 use Rattle.t2t_tag.specs.Store.{T2Memory}
 use Rattle.bench_devices.specs.declared.device.Device.{Device}
-use Rattle.bench_devices.specs.declared.device.Device.TheVariants.{T2, T4, T5}
+use Rattle.bench_devices.specs.declared.device.Device.TheVariants.{T2, T4, Peer, T5}
 use Rattle.bench_devices.specs.Cards.{T4Near}
 use Rattle.bench_devices.specs.Device.{devices, t2_machine, t4_machine, T4Did}
 use Rattle.bench_devices.specs.Device.{air}
 use Rattle.bench_devices.specs.Keeping.{Kept, kept, EachAsked}
 use Rattle.nfca_poll.specs.OwnFrames.{BeginsAsCalls}
 use Rattle.bench_devices.specs.LinkCalls.{no_command, says_at, did_at_call}
+use Rattle.bench_devices.proofs.PeerMade.{peer_kept, peer_lit}
 use Rattle.bench_devices.proofs.SelectingCards.{carded, near, call_goes}
 
 -- a frame that changes no device but in its state
@@ -57,6 +58,7 @@ pub harmless_call : (f : Signal) → f.tech ≡ A → BeginsAsCalls f → IsHarm
 harmless_call f a h (T2 d) =
     ap (λ t. kept (if same_tech A t then devices.after (T2 d) f None else T2 d)) a ∙ ap (λ x. kept (T2 x)) (call_goes d.front d.id d.upper f (no_command f h))
 harmless_call f a h (T4 d) = ap (λ t. kept (if same_tech A t then devices.after (T4 d) f None else T4 d)) a ∙ kept_card d.front d.id d.upper f h
+harmless_call f a h (Peer d) = peer_kept d f None
 harmless_call f a h (T5 p) = ap (λ t. kept (if same_tech V t then devices.after (T5 p) f None else T5 p)) a
 
 dark_stays : (front next : Front) (u : T2Memory) → left_at t2_machine front next u ≡ u
@@ -73,11 +75,13 @@ dark_stays (Active starred) (Active other) u = refl
 pub kept_dark : (d : Device) → kept (devices.darkened d) ≡ kept d
 kept_dark (T2 d) = ap (λ u. kept (T2 (carded d.id d.front u))) (dark_stays d.front Off d.upper)
 kept_dark (T4 d) = kept_left d.front Off Off d.id d.upper
+kept_dark (Peer d) = refl
 kept_dark (T5 p) = refl
 
 pub kept_lit : (d : Device) → kept (devices.woken d) ≡ kept d
 kept_lit (T2 d) = ap (λ u. kept (T2 (carded d.id d.front u))) (dark_stays d.front Idle d.upper)
 kept_lit (T4 d) = kept_left d.front Idle Idle d.id d.upper
+kept_lit (Peer d) = peer_lit d
 kept_lit (T5 p) = refl
 
 map_kept : (g : Device → Device) → ((d : Device) → kept (g d) ≡ kept d) → (ds : List Device) → map kept (map g ds) ≡ map kept ds

@@ -1,4 +1,4 @@
--- Behind the reset that polling begins with, no Type 4 tag has a link.
+-- Behind the reset that polling begins with, no Type 4 tag and no peer has a link.
 use Rattle.std.proofs.Common.{◌≡◌, ℕ, List, [], ◌∷◌, ◌++◌, map, Bool, true, false, if◌then◌else◌, None, refl}
 use Rattle.std.specs.List.{AllByRecursion}
 use Rattle.nfc_base.specs.declared.event.Event.{Event}
@@ -14,7 +14,7 @@ use Rattle.nfca_poll.specs.Enquiry.{enquiring}
 use Rattle.nfca_poll.specs.Front.{Off, Idle}
 use Rattle.nfca_poll.specs.Rounds.{device_of, picking}
 use Rattle.bench_devices.specs.declared.device.Device.{Device}
-use Rattle.bench_devices.specs.declared.device.Device.TheVariants.{T2, T4, T5}
+use Rattle.bench_devices.specs.declared.device.Device.TheVariants.{T2, T4, Peer, T5}
 use Rattle.bench_devices.specs.Device.{devices}
 use Rattle.bench_devices.specs.Device.{air}
 use Rattle.bench_devices.specs.Phases.{IsTidy, AreTidy, IsUnasked}
@@ -22,6 +22,8 @@ use Rattle.bench_devices.specs.Keeping.{EachAsked}
 use Rattle.air_core.proofs.Following.{light_is_no_request}
 use Rattle.nfca_poll.specs.OwnFrames.{BeginsAsCalls}
 use Rattle.bench_devices.proofs.Searching.{IsCall, asks_calls}
+use Rattle.bench_devices.specs.Peers.{peer_machine, no_link}
+use Rattle.bench_devices.proofs.Tidy.{left_free, peer_gives_up}
 use Rattle.bench_devices.proofs.SelectingCards.{device_unlinked, left_unlinked, stays_unlinked, reset_unlinked}
 use Rattle.bench_devices.proofs.SelectingKept.{due_asked}
 
@@ -35,6 +37,7 @@ AreUnlinked ds = AllByRecursion IsUnlinked ds
 pub unasked : (d : Device) → IsUnlinked d → IsUnasked d
 unasked (T2 d) u = tt
 unasked (T4 d) u = u
+unasked (Peer d) u = u
 unasked (T5 p) u = tt
 
 pub unlinked_amid : (before : List Device) (d : Device) (behind : List Device) → AreUnlinked (before ++ d ∷ behind) → IsUnlinked d
@@ -52,11 +55,13 @@ step_unlinked f h d u = either_unlinked (hears devices d f) (devices.after d f N
 dark_unlinked : (d : Device) → IsUnlinked d → IsUnlinked (devices.darkened d)
 dark_unlinked (T2 d) u = refl
 dark_unlinked (T4 d) u = left_unlinked d.front Off d.upper u
+dark_unlinked (Peer d) u = refl
 dark_unlinked (T5 p) u = refl
 
 woken_unlinked : (d : Device) → IsUnlinked d → IsUnlinked (devices.woken d)
 woken_unlinked (T2 d) u = refl
 woken_unlinked (T4 d) u = left_unlinked d.front Idle d.upper u
+woken_unlinked (Peer d) u = left_free peer_machine no_link peer_gives_up d.front Idle d.upper u
 woken_unlinked (T5 p) u = refl
 
 all_map : (P Q : Device → Type 0) (g : Device → Device) → ((d : Device) → P d → Q (g d)) → (ds : List Device) → AllByRecursion P ds → AllByRecursion Q (map g ds)

@@ -31,7 +31,7 @@ use Rattle.t5t_tag.specs.Step.{T5Turn, sent}
 use Rattle.t5t_tag.proofs.Inventories.{unpicked}
 use Rattle.bench_script.specs.declared.command.DeviceId.TheVariants as ids
 use Rattle.bench_devices.specs.declared.device.Device.{Device}
-use Rattle.bench_devices.specs.declared.device.Device.TheVariants.{T2, T4, T5}
+use Rattle.bench_devices.specs.declared.device.Device.TheVariants.{T2, T4, Peer, T5}
 use Rattle.bench_devices.specs.declared.polling.SeenKind.{SeenKind}
 use Rattle.bench_devices.specs.declared.polling.SeenKind.TheVariants as seen
 use Rattle.bench_devices.specs.Powered.{Powered}
@@ -53,6 +53,7 @@ use Rattle.bench_devices.proofs.Unmoved.{OnlyAsks, AllHeard, AllStay, all_stay, 
 use Rattle.bench_devices.proofs.NoisyTurns.{tries_same}
 use Rattle.bench_devices.proofs.SelectingAir.{events_are, loses, stays_lit}
 use Rattle.air_core.proofs.LostField.{lit_by, HasLost, going_lit, going_lost}
+use Rattle.bench_devices.proofs.QuietPolling.{AsksQuietly, PollsQuietly, other_hands_none, quietly}
 use Rattle.bench_devices.proofs.SelectingKept.{IsHarmless, going_keeps}
 use Rattle.bench_devices.proofs.SelectingPlaces.{not_eight, some_named, Amid, none_or_amid, each_other, sound_amid, sound_front, sound_back, others_before, others_behind}
 
@@ -152,21 +153,29 @@ module _ (id : List ℕ) where
   only_due before (Answer g x ∷ es) q = only_due (before ++ Answer g x ∷ []) es q
   only_due before (Clash g x ∷ es) q = only_due (before ++ Clash g x ∷ []) es q
 
+  -- nothing is handed over at it
+  pub asks_quietly : AsksQuietly call
+  asks_quietly ns f e = other_hands_none f (ap (λ (g : Signal). g.tech) (due_only (progress call (Tries 0 false) ns) f e))
+
   harmless : IsHarmless inventory
   harmless (T2 d) = refl
   harmless (T4 d) = refl
+  harmless (Peer d) = refl
   harmless (T5 p) = ap kept (stays_at_own id p)
 
   abbrev next : List Note → Next
   next ns = asks (selecting (ids.V id) ns)
 
-  pub next_asked : (ns : List Note) (f : Signal) → next ns ≡ Asks f → IsHarmless f
-  next_asked [] f e = absurd (light_is_no_request f e)
-  next_asked (Lit ∷ ns) f e =
+  pub next_inventory : (ns : List Note) (f : Signal) → next ns ≡ Asks f → f ≡ inventory
+  next_inventory [] f e = absurd (light_is_no_request f e)
+  next_inventory (Lit ∷ ns) f e =
       let same : asks (kind_by is_five (follows call ns)) ≡ enquiring call ns = kind_asks is_five (follows call ns) ∙ asks_same call v_closes ns in
-      subst IsHarmless (sym (due_only (progress call (Tries 0 false) ns) f (sym same ∙ e))) harmless
-  next_asked (Got h ∷ ns) f e = absurd (over_is_no_request f e)
-  next_asked (Lost ∷ ns) f e = absurd (over_is_no_request f e)
+      due_only (progress call (Tries 0 false) ns) f (sym same ∙ e)
+  next_inventory (Got h ∷ ns) f e = absurd (over_is_no_request f e)
+  next_inventory (Lost ∷ ns) f e = absurd (over_is_no_request f e)
+
+  pub next_asked : (ns : List Note) (f : Signal) → next ns ≡ Asks f → IsHarmless f
+  next_asked ns f e = subst IsHarmless (sym (next_inventory ns f e)) harmless
 
   told_may : (q : Result (Unit {0}) PollFault) (ns : List Note) → MayCome q → MayCome (answer_of call (progress call (Told q) ns))
   told_may q [] m = m
@@ -215,6 +224,7 @@ module _ (id : List ℕ) where
   other_silent : (l : Device) → IsSound (kept l) → (id ≡ device_id l → ⊥) → says (relit l) ≡ None
   other_silent (T2 d) s o = refl
   other_silent (T4 d) s o = refl
+  other_silent (Peer d) s o = refl
   other_silent (T5 p) s o = ap (λ (x : T5Turn). sent x.answer) (unpicked (darkened p.tag) (state_of p s) id o)
 
   others_silent : (ls : List Device) → AreSound (map kept ls) → AllByRecursion (λ l. id ≡ device_id l → ⊥) ls → Each (λ l. says l ≡ None) (map relit ls)
@@ -247,6 +257,10 @@ module _ (id : List ℕ) where
       by_kind (T4 d) split named =
           let sound : AreSound (map kept (a.before ++ T4 d ∷ a.behind)) = subst (λ ds. AreSound (map kept ds)) split s in
           let own : IsSound (kept (T4 d)) = sound_amid a.before (T4 d) a.behind sound in
+          absurd (not_eight (length d.id) own.0.size (ap length named ∙ eight))
+      by_kind (Peer d) split named =
+          let sound : AreSound (map kept (a.before ++ Peer d ∷ a.behind)) = subst (λ ds. AreSound (map kept ds)) split s in
+          let own : IsSound (kept (Peer d)) = sound_amid a.before (Peer d) a.behind sound in
           absurd (not_eight (length d.id) own.0.size (ap length named ∙ eight))
       by_kind (T5 p) split named =
           let sound : AreSound (map kept (a.before ++ T5 p ∷ a.behind)) = subst (λ ds. AreSound (map kept ds)) split s in
@@ -297,18 +311,21 @@ none_named id (d ∷ ds) none = by_name (pointwise nat_eq (device_id d) id) refl
 stays_at : (id : List ℕ) (d : Device) → stepped_by devices d (inventory_of id) None ≡ d
 stays_at id (T2 d) = refl
 stays_at id (T4 d) = refl
+stays_at id (Peer d) = refl
 stays_at id (T5 p) = stays_at_own id p
 
 -- a device as a reset leaves it
 abbrev IsRelit : Device → Type 0
 IsRelit (T2 d) = d.front ≡ Idle
 IsRelit (T4 d) = d.front ≡ Idle
+IsRelit (Peer d) = d.front ≡ Idle
 IsRelit (T5 p) = p.lit ≡ true
 
 are_relit : (ls : List Device) → AllByRecursion IsRelit (map relit ls)
 are_relit [] = tt
 are_relit (T2 d ∷ ls) = (refl, are_relit ls)
 are_relit (T4 d ∷ ls) = (refl, are_relit ls)
+are_relit (Peer d ∷ ls) = (refl, are_relit ls)
 are_relit (T5 p ∷ ls) = (refl, are_relit ls)
 
 relit_front : (before behind : List Device) → AllByRecursion IsRelit (before ++ behind) → AllByRecursion IsRelit before
@@ -323,11 +340,13 @@ relit_aside : (id : List ℕ) (ls : List Device) → AllByRecursion IsRelit ls �
 relit_aside id [] h o = tt
 relit_aside id (T2 d ∷ ls) h o = (record { rests = λ t. (ap is_ready h.0, ap is_active h.0); other = o.0 }, relit_aside id ls h.1 o.1)
 relit_aside id (T4 d ∷ ls) h o = (record { rests = λ t. (ap is_ready h.0, ap is_active h.0); other = o.0 }, relit_aside id ls h.1 o.1)
+relit_aside id (Peer d ∷ ls) h o = (record { rests = λ t. (ap is_ready h.0, ap is_active h.0); other = o.0 }, relit_aside id ls h.1 o.1)
 relit_aside id (T5 p ∷ ls) h o = (record { rests = λ t. absurd cc; other = o.0 }, relit_aside id ls h.1 o.1)
 
 relit_id : (l : Device) → device_id (relit l) ≡ device_id l
 relit_id (T2 d) = refl
 relit_id (T4 d) = refl
+relit_id (Peer d) = refl
 relit_id (T5 p) = refl
 
 relit_among : (before : List Device) (d : Device) (behind : List Device) → map relit (before ++ d ∷ behind) ≡ map relit before ++ relit d ∷ map relit behind
@@ -346,8 +365,11 @@ uncut id old new same =
     let P : Air Device → Type 0 = λ a. SelectionCut (ids.V id) (moment old) (moment a) in
     subst P (sym same) (record { notes = []; going = going_start air (next id) (moment old); same = refl })
 
+pub quiet : (id : List ℕ) (old new : Air Device) (r : Result (Unit {0}) PollFault) → Enquires (picking_v id) devices old r new → PollsQuietly (picking_v id) old r new
+quiet id old new r turns = quietly (picking_v id) (asks_quietly id) old new r turns
+
 module _ (id : List ℕ) (eight : length id ≡ 8) (old mid new : Air Device) (r : Result (Unit {0}) PollFault) (tame : AreTame (map kept old.listeners))
-    (reset : moment mid ≡ with_events air (moment old) (Reset ∷ [])) (turns : Enquires (picking_v id) devices mid r new) where
+    (reset : moment mid ≡ with_events air (moment old) (Reset ∷ [])) (turns : PollsQuietly (picking_v id) mid r new) where
   part : Going air (enquiring (picking_v id)) (moment mid) (moment new) turns.notes
   part = turns.going
 
@@ -510,11 +532,13 @@ module _ (id : List ℕ) (eight : length id ≡ 8) (old mid new : Air Device) (r
       selected_if : (d : Device) → IsRelit d → IsSound (kept d) → device_id d ≡ id → device_selected d ≡ true
       selected_if (T2 d) h s named = absurd (not_eight (length d.id) s.0.size (ap length named ∙ eight))
       selected_if (T4 d) h s named = absurd (not_eight (length d.id) s.0.size (ap length named ∙ eight))
+      selected_if (Peer d) h s named = absurd (not_eight (length d.id) s.0.size (ap length named ∙ eight))
       selected_if (T5 p) h s named = h
 
       five_if : (d : Device) → IsSound (kept d) → device_id d ≡ id → (seen_of d ≡ seen.T5) × IsUnasked d
       five_if (T2 d) s named = absurd (not_eight (length d.id) s.0.size (ap length named ∙ eight))
       five_if (T4 d) s named = absurd (not_eight (length d.id) s.0.size (ap length named ∙ eight))
+      five_if (Peer d) s named = absurd (not_eight (length d.id) s.0.size (ap length named ∙ eight))
       five_if (T5 p) s named = (refl, tt)
 
       -- it is selected, and stands at the place that was found

@@ -1,5 +1,5 @@
 -- A Type 4 tag of the bench that is selected and has no link takes RATS, and is then a tag that does what the card's table says.
-use Rattle.std.proofs.Common.{◌≡◌, ℕ, zero, suc, ◌≤◌, List, ◌++◌, Bool, true, false, not, ◌&&◌, Some, refl, sym, ◌∙◌, ap, subst}
+use Rattle.std.proofs.Common.{◌≡◌, None, ℕ, zero, suc, ◌≤◌, List, ◌++◌, Bool, true, false, not, ◌&&◌, Some, refl, sym, ◌∙◌, ap, subst}
 use Rattle.std.proofs.lemmas.List.{append_cancel_left}
 use Rattle.nfc_base.specs.TagLinks.{plain_state}
 use Rattle.air_core.specs.PlainTags.{heard_times}
@@ -17,7 +17,8 @@ use Rattle.isodep_link.specs.Activating.{reader_code, rats, TakesRats}
 use Rattle.bench_devices.specs.Cards.{T4Near}
 use Rattle.bench_devices.specs.declared.device.Device.{Device}
 use Rattle.bench_devices.specs.declared.device.Device.TheVariants.{T4}
-use Rattle.bench_devices.specs.Device.{device_answer, device_after, device_selected, device_card, device_tag, is_no_file, is_unlinked}
+use Rattle.nfc_base.specs.Far.{Untouched}
+use Rattle.bench_devices.specs.Device.{device_handed, device_answer, device_after, device_selected, device_card, device_tag, is_no_file, is_unlinked}
 use Rattle.bench_devices.specs.Keeping.{kept, IsSound, ghosts}
 use Rattle.isodep_link.proofs.Heeding.{no_bytes}
 use Rattle.bench_devices.proofs.TagFourSteps.{linked_device, IsLinked, card_tag}
@@ -48,12 +49,17 @@ module _ (id : List ℕ) (starred : Bool) (tag : T4State) (t : CardState) where
   -- however often RATS is heard, it leaves the same
   rats_again : (n : ℕ) → heard_times ghosts (unlinked_device id starred tag t) rats (suc n) ≡ first_device id starred tag t
   rats_again zero = refl
-  rats_again (suc n) = ap (λ m. device_after m rats) (rats_again n)
+  rats_again (suc n) = ap (λ m. device_after m rats None) (rats_again n)
 
   -- and each time it is answered by ATS
-  rats_answered : (n : ℕ) → device_answer (heard_times ghosts (unlinked_device id starred tag t) rats n) rats ≡ Some (ats_frame t.code)
+  rats_answered : (n : ℕ) → device_answer (heard_times ghosts (unlinked_device id starred tag t) rats n) rats None ≡ Some (ats_frame t.code)
   rats_answered zero = refl
-  rats_answered (suc n) = ap (λ m. device_answer m rats) (rats_again n)
+  rats_answered (suc n) = ap (λ m. device_answer m rats None) (rats_again n)
+
+  -- and hands nothing over
+  rats_quiet : (n : ℕ) → device_handed (heard_times ghosts (unlinked_device id starred tag t) rats n) rats ≡ Untouched
+  rats_quiet zero = refl
+  rats_quiet (suc n) = ap (λ m. device_handed m rats) (rats_again n)
 
   -- then the tag is linked
   first_linked : IsT4State tag → t.code ≡ tag.code → IsLinked tag.code (first_device id starred tag t)
@@ -78,7 +84,7 @@ module _ (id : List ℕ) (starred : Bool) (tag : T4State) (t : CardState) where
     is_made = made;
     small = subst (λ c. c ≤ most_code) (sym own) is.coded;
     steps = λ n. record {
-      quiet = refl;
+      quiet = rats_quiet n;
       answer = rats_answered n;
       selected = ap device_selected (rats_again n);
       is = subst (IsCardTag ghosts device_card device_tag) (sym (rats_again n)) (card_tag tag.code (first_device id starred tag t) (first_linked is own));

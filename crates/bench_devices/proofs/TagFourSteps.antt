@@ -1,5 +1,5 @@
 -- A Type 4 tag of the bench, once RATS opened its link, does at each block of a reader what the card's table says.
-use Rattle.std.proofs.Common.{◌≡◌, ℕ, ◌≤◌, List, [], ◌∷◌, length, Bool, Option, Some, refl, sym, ◌∙◌, ap, subst, arith, nat_lt, true, false, if◌then◌else◌, drop}
+use Rattle.std.proofs.Common.{◌≡◌, None, ℕ, ◌≤◌, List, [], ◌∷◌, length, Bool, Option, Some, refl, sym, ◌∙◌, ap, subst, arith, nat_lt, true, false, if◌then◌else◌, drop}
 use Rattle.std.specs.List.{AllByRecursion}
 use Rattle.nfc_base.specs.Signal.{Signal, whole_a}
 use Rattle.nfc_base.specs.LinkTurns.{MovedBy, settled}
@@ -127,7 +127,7 @@ pub record IsLinked (code : ℕ) (m : Device) : Type 0 where
 -- what it does at an asked block, and that it stays one
 record Turns (code : ℕ) (m : Device) (f : Signal) : Type 0 where
   pub steps : StepsByCard ghosts device_card device_tag m f
-  pub stays : IsLinked code (device_after m f)
+  pub stays : IsLinked code (device_after m f None)
 
 module _ (code : ℕ) where
   -- A linked tag does at an asked block what the card's table says, and stays linked.
@@ -142,7 +142,7 @@ module _ (code : ℕ) where
       asked : Option (List ℕ)
       asked = (settled iso_dep does.reply (card_table l.card f).state (card_does (card_table l.card f).does)).asked
 
-      after : device_after (linked_device l.id l.starred l.tag l.card) f ≡ linked_device l.id l.starred does.tag_then does.card_then
+      after : device_after (linked_device l.id l.starred l.tag l.card) f None ≡ linked_device l.id l.starred does.tag_then does.card_then
       after = ap (λ d. T4 d) does.after
 
       stepped : StepsByCard ghosts device_card device_tag (linked_device l.id l.starred l.tag l.card) f
@@ -156,7 +156,7 @@ module _ (code : ℕ) where
         selected = ap device_selected after;
       }
 
-      stays_linked : IsLinked code (device_after (linked_device l.id l.starred l.tag l.card) f)
+      stays_linked : IsLinked code (device_after (linked_device l.id l.starred l.tag l.card) f None)
       stays_linked = record {
         id = l.id;
         starred = l.starred;
@@ -172,7 +172,7 @@ module _ (code : ℕ) where
   -- by asked blocks it stays a linked tag of this code
   stays_on : (fs : List Signal) (m : Device) → IsLinked code m → AllByRecursion IsAskedFrame fs → IsLinked code (reached ghosts m fs)
   stays_on [] m l all = l
-  stays_on (f ∷ fs) m l all = stays_on fs (device_after m f) (turns m l f all.0).stays all.1
+  stays_on (f ∷ fs) m l all = stays_on fs (device_after m f None) (turns m l f all.0).stays all.1
 
   -- the dark clears its card's end
   dark_card : (m : Device) → IsLinked code m → device_card (device_darkened m) ≡ darkened (device_card m)

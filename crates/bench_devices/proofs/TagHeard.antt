@@ -14,7 +14,7 @@ use Rattle.isodep_link.specs.IsoLinks.{bytes_of}
 use Rattle.tag_reader.specs.declared.how.How.{How}
 use Rattle.tag_reader.specs.declared.how.How.TheVariants as hows
 use Rattle.bench_devices.specs.declared.device.Device.{Device}
-use Rattle.bench_devices.specs.declared.device.Device.TheVariants.{T2, T4, T5}
+use Rattle.bench_devices.specs.declared.device.Device.TheVariants.{T2, T4, Peer, T5}
 use Rattle.bench_devices.specs.declared.polling.SeenKind.{SeenKind}
 use Rattle.bench_devices.specs.declared.polling.SeenKind.TheVariants as seen
 use Rattle.bench_devices.specs.CardAsking.{tag_next}
@@ -51,8 +51,9 @@ pub record CardOn (asked : List Signal) (kind : SeenKind) (b : Moment BenchWorld
   pub place : ℕ
   pub goes : CardGoes (bytes_of asked) place b ns
 
+-- of a peer nothing is asked
 abbrev pub TagGoes : List Signal → SeenKind → Moment BenchWorld → List Note → Type 0
-TagGoes asked kind b ns = PlainGoes asked kind b ns ⊎ CardWaits asked kind b ns ⊎ CardOn asked kind b ns
+TagGoes asked kind b ns = PlainGoes asked kind b ns ⊎ CardWaits asked kind b ns ⊎ CardOn asked kind b ns ⊎ (kind ≡ seen.Peer)
 
 -- what a turn of it comes to
 pub record TagHeard (asked : List Signal) (kind : SeenKind) (c : Moment BenchWorld) (ns : List Note) (h : Option Heard) : Type 0 where
@@ -93,10 +94,13 @@ tag_heard asked kind b c ns f h (inr (inl x)) calm due turn =
     let same : f ≡ rats = same_frame rats f here in
     let r : CardHeard (bytes_of asked) x.place c [] h = rats_heard (bytes_of asked) x.sent x.place b c h calm (subst (λ g. TurnsTo air b c g h) same turn) x.fresh in
     let there : CardHeard (bytes_of asked) x.place c ns h = subst (λ ks. CardHeard (bytes_of asked) x.place c ks h) (sym x.first) r in
-    record { answer = there.answer; heard = there.heard; goes = inr (inr (record { four = x.four; place = x.place; goes = there.goes })) }
-tag_heard asked kind b c ns f h (inr (inr x)) calm due turn =
+    record { answer = there.answer; heard = there.heard; goes = inr (inr (inl (record { four = x.four; place = x.place; goes = there.goes }))) }
+tag_heard asked kind b c ns f h (inr (inr (inr x))) calm due turn =
+    let over : Over ≡ Asks f = subst (λ k. tag_next k asked ns ≡ Asks f) x due in
+    absurd (let clash : Over ≡ Asks f = over in cc)
+tag_heard asked kind b c ns f h (inr (inr (inl x))) calm due turn =
     let r : CardHeard (bytes_of asked) x.place c ns h = card_heard (bytes_of asked) x.place b c ns f h x.goes calm (subst (λ k. tag_next k asked ns ≡ Asks f) x.four due) turn in
-    record { answer = r.answer; heard = r.heard; goes = inr (inr (record { four = x.four; place = x.place; goes = r.goes })) }
+    record { answer = r.answer; heard = r.heard; goes = inr (inr (inl (record { four = x.four; place = x.place; goes = r.goes }))) }
 
 -- A tag that was selected stands so.
 active_is : (front : Front) → is_active front ≡ true → (starred : Bool) × (front ≡ Active starred)
@@ -123,6 +127,7 @@ begins_heard asked b place (T2 d) s heeded = inl (record {
 })
 begins_heard asked b place (T4 d) s heeded =
     inr (inl (record { four = refl; first = refl; place = place; fresh = has_fresh (field_of b) place (T4 d) s refl; sent = all_sent asked heeded }))
+begins_heard asked b place (Peer d) s heeded = inr (inr (inr refl))
 begins_heard asked b place (T5 p) s heeded = inl (record {
   how = hows.T5 p.tag.id;
   own = p.tag.id;

@@ -17,7 +17,7 @@ use Rattle.t2t_tag.specs.Step.{is_writable, t2_reply, t2_obeyed, reply_frame, he
 use Rattle.t2t_tag.proofs.Spellings.{exact_by}
 use Rattle.t5t_tag.proofs.Stores.{length_with_block, with_block_again}
 use Rattle.bench_devices.specs.declared.device.Device.{Device}
-use Rattle.bench_devices.specs.declared.device.Device.TheVariants.{T2, T4, T5}
+use Rattle.bench_devices.specs.declared.device.Device.TheVariants.{T2, T4, Peer, T5}
 use Rattle.bench_devices.specs.Device.{says_of, t2_machine, device_after, device_selected}
 use Rattle.bench_devices.specs.Uppers.{t2_commands, t2_upper}
 use Rattle.bench_devices.specs.Keeping.{ghosts}
@@ -122,6 +122,7 @@ unready (Active starred) a = refl
 abbrev of_two : (Fronted T2Memory → Bool) → Device → Bool
 of_two holds (T2 d) = holds d
 of_two holds (T4 d) = false
+of_two holds (Peer d) = false
 of_two holds (T5 p) = false
 
 pub plain_two : (d : Fronted T2Memory) → is_active d.front ≡ true → IsPlainTag ghosts Type2 d.id (T2 d)
@@ -136,9 +137,10 @@ plain_two d a = lifted (plain_front t2_upper (λ u f kind may. obeys u f) d refl
       passes = passes;
     }
       where
-        kept : (m : Device) (f : Signal) → MayAsk Type2 d.id f → of_two p.holds m ≡ true → of_two p.holds (device_after m f) ≡ true
+        kept : (m : Device) (f : Signal) → MayAsk Type2 d.id f → of_two p.holds m ≡ true → of_two p.holds (device_after m f None) ≡ true
         kept (T2 e) f may h = p.kept e f may h
         kept (T4 e) f may h = absurd cc
+        kept (Peer e) f may h = absurd cc
         kept (T5 e) f may h = absurd cc
 
         takes : (m : Device) (f : Signal) → MayAsk Type2 d.id f → of_two p.holds m ≡ true → device_selected m ≡ true → Takes ghosts m f
@@ -146,6 +148,7 @@ plain_two d a = lifted (plain_front t2_upper (λ u f kind may. obeys u f) d refl
             let t = p.takes e f may h s in
             record { quiet = refl; answer = t.answer; after = t.after; again = t.again; selected = t.selected }
         takes (T4 e) f may h s = absurd cc
+        takes (Peer e) f may h s = absurd cc
         takes (T5 e) f may h s = absurd cc
 
         passes : (m : Device) (f : Signal) → MayAsk Type2 d.id f → of_two p.holds m ≡ true → device_selected m ≡ false → PassesOver ghosts m f
@@ -153,4 +156,5 @@ plain_two d a = lifted (plain_front t2_upper (λ u f kind may. obeys u f) d refl
             let t = p.passes e f may h s in
             record { quiet = refl; silent = t.silent; store = t.store; rests = t.rests }
         passes (T4 e) f may h s = absurd cc
+        passes (Peer e) f may h s = absurd cc
         passes (T5 e) f may h s = absurd cc

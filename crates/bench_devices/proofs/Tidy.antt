@@ -1,4 +1,4 @@
--- Whatever happens to the field, a Type 4 tag has a link at most while it is active.
+-- Whatever happens to the field, a Type 4 tag and a peer have a link at most while they are active.
 use Rattle.std.proofs.Common.{◌≡◌, ◌⊎◌, inl, inr, ℕ, List, [], ◌∷◌, map, Bool, true, false, if◌then◌else◌, None, refl, sym, subst}
 use Rattle.nfc_base.specs.declared.event.Event.{Event}
 use Rattle.nfc_base.specs.declared.event.Event.TheVariants.{Reset, Request, Answer, Clash}
@@ -12,49 +12,74 @@ use Rattle.nfca_poll.specs.declared.upper.UpStep.TheVariants as steps
 use Rattle.nfca_poll.specs.Levels.{levels}
 use Rattle.nfca_poll.specs.Calls.{call_of}
 use Rattle.nfca_poll.specs.Front.{Front, Off, Idle, Sleep, Ready, Active, front_next, is_active}
-use Rattle.nfca_poll.specs.Fronted.{left_at, active_after, after_by}
+use Rattle.nfca_poll.specs.Fronted.{Fronted, left_at, active_after, after_by}
+use Rattle.nfca_poll.specs.Upper.{UpperMachine}
 use Rattle.t5t_tag.specs.Step.{t5_after}
 use Rattle.bench_devices.specs.Cards.{T4Near}
+use Rattle.bench_devices.specs.Peers.{PeerNear, peer_machine, no_link}
 use Rattle.bench_devices.specs.declared.device.Device.{Device}
-use Rattle.bench_devices.specs.declared.device.Device.TheVariants.{T2, T4, T5}
+use Rattle.bench_devices.specs.declared.device.Device.TheVariants.{T2, T4, Peer, T5}
 use Rattle.bench_devices.specs.Device.{devices, t4_machine, is_unlinked}
 use Rattle.bench_devices.specs.Device.{air}
 use Rattle.bench_devices.specs.Phases.{IsTidy, AreTidy}
 
--- a front in a state, under which the machine of a Type 4 tag is tidy
-abbrev pub IsTidyAt : Front → T4Near → Type 0
-IsTidyAt front u = (is_active front ≡ true) ⊎ (is_unlinked u ≡ true)
+-- a front in a state, under which a machine has no link, or is active
+module _ {U : Type 0} (m : UpperMachine U) (free : U → Bool) (gives_up : (u : U) → free (m.cleared u) ≡ true) where
+  abbrev pub IsTidyAt : Front → U → Type 0
+  IsTidyAt front u = (is_active front ≡ true) ⊎ (free u ≡ true)
 
--- where a front leaves Active the link is given up
-pub left_tidy : (front next : Front) (u : T4Near) → IsTidyAt front u → IsTidyAt next (left_at t4_machine front next u)
-left_tidy Off next u (inl a) = absurd cc
-left_tidy Off next u (inr n) = inr n
-left_tidy Idle next u (inl a) = absurd cc
-left_tidy Idle next u (inr n) = inr n
-left_tidy Sleep next u (inl a) = absurd cc
-left_tidy Sleep next u (inr n) = inr n
-left_tidy (Ready k starred) next u (inl a) = absurd cc
-left_tidy (Ready k starred) next u (inr n) = inr n
-left_tidy (Active starred) Off u t = inr refl
-left_tidy (Active starred) Idle u t = inr refl
-left_tidy (Active starred) Sleep u t = inr refl
-left_tidy (Active starred) (Ready k other) u t = inr refl
-left_tidy (Active starred) (Active other) u t = inl refl
+  -- where a front leaves Active the link is given up
+  pub left_tidy : (front next : Front) (u : U) → IsTidyAt front u → IsTidyAt next (left_at m front next u)
+  left_tidy Off next u (inl a) = absurd cc
+  left_tidy Off next u (inr n) = inr n
+  left_tidy Idle next u (inl a) = absurd cc
+  left_tidy Idle next u (inr n) = inr n
+  left_tidy Sleep next u (inl a) = absurd cc
+  left_tidy Sleep next u (inr n) = inr n
+  left_tidy (Ready k starred) next u (inl a) = absurd cc
+  left_tidy (Ready k starred) next u (inr n) = inr n
+  left_tidy (Active starred) Off u t = inr (gives_up u)
+  left_tidy (Active starred) Idle u t = inr (gives_up u)
+  left_tidy (Active starred) Sleep u t = inr (gives_up u)
+  left_tidy (Active starred) (Ready k other) u t = inr (gives_up u)
+  left_tidy (Active starred) (Active other) u t = inl refl
 
--- so a device is tidy after each step of it
-active_tidy : (s : UpStep) (starred : Bool) (id : List ℕ) (u v : T4Near) (f : Signal) → IsTidy (T4 (active_after t4_machine s v (record { id = id; front = Active starred; upper = u }) f))
-active_tidy steps.Foreign starred id u v f = left_tidy (Active starred) (front_next (levels id) (Active starred) (call_of f)) u (inl refl)
-active_tidy steps.Quiet starred id u v f = inl refl
-active_tidy (steps.Reply g) starred id u v f = inl refl
-active_tidy (steps.Sleep g) starred id u v f = inr refl
-active_tidy (steps.Idle g) starred id u v f = inr refl
+  -- one without a link has none where its front goes elsewhere
+  pub left_free : (front next : Front) (u : U) → free u ≡ true → free (left_at m front next u) ≡ true
+  left_free Off next u n = n
+  left_free Idle next u n = n
+  left_free Sleep next u n = n
+  left_free (Ready k starred) next u n = n
+  left_free (Active starred) Off u n = gives_up u
+  left_free (Active starred) Idle u n = gives_up u
+  left_free (Active starred) Sleep u n = gives_up u
+  left_free (Active starred) (Ready k other) u n = gives_up u
+  left_free (Active starred) (Active other) u n = n
 
-card_after : (front : Front) (id : List ℕ) (u : T4Near) (f : Signal) → IsTidyAt front u → IsTidy (T4 (after_by t4_machine front (record { id = id; front = front; upper = u }) f None))
-card_after Off id u f t = left_tidy Off (front_next (levels id) Off (call_of f)) u t
-card_after Idle id u f t = left_tidy Idle (front_next (levels id) Idle (call_of f)) u t
-card_after Sleep id u f t = left_tidy Sleep (front_next (levels id) Sleep (call_of f)) u t
-card_after (Ready k starred) id u f t = left_tidy (Ready k starred) (front_next (levels id) (Ready k starred) (call_of f)) u t
-card_after (Active starred) id u f t = active_tidy (t4_machine.says u f None) starred id u (t4_machine.after u f None) f
+  -- so a device is tidy after each step of it
+  abbrev IsTidyOne : Fronted U → Type 0
+  IsTidyOne d = IsTidyAt d.front d.upper
+
+  active_tidy : (s : UpStep) (starred : Bool) (id : List ℕ) (u v : U) (f : Signal) → IsTidyOne (active_after m s v (record { id = id; front = Active starred; upper = u }) f)
+  active_tidy steps.Foreign starred id u v f = left_tidy (Active starred) (front_next (levels id) (Active starred) (call_of f)) u (inl refl)
+  active_tidy steps.Quiet starred id u v f = inl refl
+  active_tidy (steps.Reply g) starred id u v f = inl refl
+  active_tidy (steps.Sleep g) starred id u v f = inr (gives_up v)
+  active_tidy (steps.Idle g) starred id u v f = inr (gives_up v)
+
+  after_tidy : (front : Front) (id : List ℕ) (u : U) (f : Signal) → IsTidyAt front u → IsTidyOne (after_by m front (record { id = id; front = front; upper = u }) f None)
+  after_tidy Off id u f t = left_tidy Off (front_next (levels id) Off (call_of f)) u t
+  after_tidy Idle id u f t = left_tidy Idle (front_next (levels id) Idle (call_of f)) u t
+  after_tidy Sleep id u f t = left_tidy Sleep (front_next (levels id) Sleep (call_of f)) u t
+  after_tidy (Ready k starred) id u f t = left_tidy (Ready k starred) (front_next (levels id) (Ready k starred) (call_of f)) u t
+  after_tidy (Active starred) id u f t = active_tidy (m.says u f None) starred id u (m.after u f None) f
+
+-- what a Type 4 tag and a peer give up
+pub four_gives_up : (u : T4Near) → is_unlinked (t4_machine.cleared u) ≡ true
+four_gives_up u = refl
+
+pub peer_gives_up : (u : PeerNear) → no_link (peer_machine.cleared u) ≡ true
+peer_gives_up u = refl
 
 either_tidy : (v : Bool) (a b : Device) → IsTidy a → IsTidy b → IsTidy (if v then a else b)
 either_tidy true a b t u = t
@@ -62,19 +87,23 @@ either_tidy false a b t u = u
 
 pub stepped_tidy : (f : Signal) (d : Device) → IsTidy d → IsTidy (stepped_by devices d f None)
 stepped_tidy f (T2 d) t = either_tidy (hears devices (T2 d) f) (devices.after (T2 d) f None) (T2 d) tt tt
-stepped_tidy f (T4 d) t = either_tidy (hears devices (T4 d) f) (devices.after (T4 d) f None) (T4 d) (card_after d.front d.id d.upper f t) t
+stepped_tidy f (T4 d) t = either_tidy (hears devices (T4 d) f) (devices.after (T4 d) f None) (T4 d) (after_tidy t4_machine is_unlinked four_gives_up d.front d.id d.upper f t) t
+stepped_tidy f (Peer d) t =
+    either_tidy (hears devices (Peer d) f) (devices.after (Peer d) f None) (Peer d) (after_tidy peer_machine no_link peer_gives_up d.front d.id d.upper f t) t
 stepped_tidy f (T5 p) t =
     either_tidy (hears devices (T5 p) f) (devices.after (T5 p) f None) (T5 p) (either_tidy p.lit (T5 (record { tag = t5_after p.tag f; lit = true })) (T5 p) tt tt) tt
 
 -- and where light comes and goes
 pub dark_tidy : (d : Device) → IsTidy d → IsTidy (devices.darkened d)
 dark_tidy (T2 d) t = tt
-dark_tidy (T4 d) t = left_tidy d.front Off d.upper t
+dark_tidy (T4 d) t = left_tidy t4_machine is_unlinked four_gives_up d.front Off d.upper t
+dark_tidy (Peer d) t = inr refl
 dark_tidy (T5 p) t = tt
 
 pub woken_tidy : (d : Device) → IsTidy d → IsTidy (devices.woken d)
 woken_tidy (T2 d) t = tt
-woken_tidy (T4 d) t = left_tidy d.front Idle d.upper t
+woken_tidy (T4 d) t = left_tidy t4_machine is_unlinked four_gives_up d.front Idle d.upper t
+woken_tidy (Peer d) t = left_tidy peer_machine no_link peer_gives_up d.front Idle d.upper t
 woken_tidy (T5 p) t = tt
 
 all_tidy : (g : Device → Device) → ((d : Device) → IsTidy d → IsTidy (g d)) → (ds : List Device) → AreTidy ds → AreTidy (map g ds)

@@ -49,8 +49,8 @@ use Rattle.tag_writer.proofs.Jobs.{all_rest}
 use Rattle.tag_writer.proofs.OnePlace.{order_of}
 use Rattle.tag_writer.proofs.Touching.{blocks_inside}
 use Rattle.bench_devices.specs.declared.device.Device.{Device}
-use Rattle.bench_devices.specs.declared.device.Device.TheVariants.{T2, T4, T5}
-use Rattle.bench_devices.specs.Device.{device_store, device_commands, how_of, size_of}
+use Rattle.bench_devices.specs.declared.device.Device.TheVariants.{T2, T4, Peer, T5}
+use Rattle.bench_devices.specs.Device.{device_store, device_commands, how_of, size_of, is_tag}
 use Rattle.bench_devices.specs.Keeping.{kept, container_of, IsSound}
 use Rattle.bench_devices.specs.Writing.{AsksWriteOf}
 use Rattle.bench_devices.proofs.CardBytes.{cons_bytes, front_bytes, behind_bytes}
@@ -223,25 +223,26 @@ module _ (size : ℕ) (store message : List ℕ) (is : IsFileStore store) (place
       let parts : all_puts p ≡ all_puts (file_parts store message) = ap (λ ps. (ps ++ p.fill) ++ p.last) are.close ∙ ap (λ ps. (file_close store ++ ps) ++ p.last) are.fill ∙ ap (λ ps. (file_close store ++ file_fill store message) ++ ps) are.last in
       subst (λ ps. AllByRecursion (IsHeeded hows.T4) (commands_of ps)) (sym parts) (each_heeded (all_puts (file_parts store message)) (file_serves size store message room).puts (contents bytes))
 
--- So each device heeds the writes of a message of bytes that it takes.
-puts_heeded : (message : List ℕ) (d : Device) → IsSound (kept d) → AreBytes message → (p : Parts) (place : Place) → Takes (how_of d) (size_of d) (device_store d) message place
+-- So each tag heeds the writes of a message of bytes that it takes.
+puts_heeded : (message : List ℕ) (d : Device) → is_tag d ≡ true → IsSound (kept d) → AreBytes message → (p : Parts) (place : Place) → Takes (how_of d) (size_of d) (device_store d) message place
     → ArePuts (how_of d) (size_of d) (device_store d) message p → AllByRecursion (IsHeeded (how_of d)) (commands_of (all_puts p))
-puts_heeded message (T2 d) sound bytes p place takes are =
+puts_heeded message (T2 d) tagged sound bytes p place takes are =
     two_heeded (size_of (T2 d)) are.0 d.upper.store message p are.2 sound.2 (t2_area d.upper.store are.0 sound.2 are.1).within
-puts_heeded message (T4 d) sound bytes p place takes are =
+puts_heeded message (T4 d) tagged sound bytes p place takes are =
     let tag : IsT4State d.upper.tag = sound_tag d.upper.tag sound.1 sound.2 sound.3 in
     four_heeded (size_of (T4 d)) (store_of d.upper.tag) message (store_is d.upper.tag tag) place takes bytes p are
-puts_heeded message (T5 q) sound bytes p place takes are =
+puts_heeded message (Peer d) tagged sound bytes p place takes are = absurd cc
+puts_heeded message (T5 q) tagged sound bytes p place takes are =
     let how : How = hows.T5 q.tag.id in
     area_all (IsHeeded how) how q.tag.size are.0 q.tag.store message p are.2 (always (λ s. IsHeeded how (block_command how s)) (five_heeded q.tag.id) (steps_of are.2.plan))
 
 -- And so all that a write asks, of a tag whose container has bytes.
-pub write_heeded : (message : List ℕ) (d : Device) (asked : List Signal) → IsSound (kept d) → AreBytes (container_of d) → AreBytes message → AsksWriteOf message d asked → AllByRecursion (IsHeeded (how_of d)) asked
-write_heeded message d asked sound container bytes is =
+pub write_heeded : (message : List ℕ) (d : Device) (asked : List Signal) → is_tag d ≡ true → IsSound (kept d) → AreBytes (container_of d) → AreBytes message → AsksWriteOf message d asked → AllByRecursion (IsHeeded (how_of d)) asked
+write_heeded message d asked tagged sound container bytes is =
     let P : Signal → Type 0 = IsHeeded (how_of d) in
     let store : List ℕ = device_store d in
     let behind : List Signal = up_to_refused (how_of d) (device_commands d) (surveyed (how_of d) (plain_state store)) (commands_of (all_puts is.parts)) in
     subst (AllByRecursion P) (sym is.list)
     (both_all P is.read behind (asked_heeded ToWrite d is.read sound container is.all)
     (up_to_all P (how_of d) (device_commands d) (surveyed (how_of d) (plain_state store)) (commands_of (all_puts is.parts))
-    (writes_all P (how_of d) (size_of d) store message is.parts is.writes (λ place takes are. puts_heeded message d sound bytes is.parts place takes are))))
+    (writes_all P (how_of d) (size_of d) store message is.parts is.writes (λ place takes are. puts_heeded message d tagged sound bytes is.parts place takes are))))

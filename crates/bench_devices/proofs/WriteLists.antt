@@ -1,5 +1,5 @@
 -- The list of what a write asks of a device: there is one, and a tag that takes commands as they are sent may be asked each of it.
-use Rattle.std.proofs.Common.{ℕ, zero, suc, inl, inr, ◌⊎◌, List, [], ◌∷◌, ◌++◌, Bool, true, false, if◌then◌else◌, refl, sym, subst}
+use Rattle.std.proofs.Common.{◌≡◌, ℕ, zero, suc, inl, inr, ◌⊎◌, List, [], ◌∷◌, ◌++◌, Bool, true, false, if◌then◌else◌, refl, sym, subst}
 use Rattle.std.specs.Prelude.{is_some}
 use Rattle.std.specs.List.{AllByRecursion}
 use Rattle.nfc_base.specs.Signal.{Signal}
@@ -21,28 +21,31 @@ use Rattle.tag_writer.specs.WriteAsked.{Parts, all_puts, AreAreaPuts, ArePuts, A
 use Rattle.tag_writer.proofs.Doing.{t2_may, t5_may}
 use Rattle.tag_writer.proofs.Jobs.{all_rest}
 use Rattle.bench_devices.specs.declared.device.Device.{Device}
-use Rattle.bench_devices.specs.declared.device.Device.TheVariants.{T2, T4, T5}
-use Rattle.bench_devices.specs.Device.{device_tech, device_id, device_store, device_commands, how_of, size_of}
+use Rattle.bench_devices.specs.declared.device.Device.TheVariants.{T2, T4, Peer, T5}
+use Rattle.bench_devices.specs.Device.{device_tech, device_id, device_store, device_commands, how_of, size_of, is_tag}
 use Rattle.bench_devices.specs.Keeping.{kept, IsSound}
-use Rattle.bench_devices.specs.Linking.{IsPlainHow}
+use Rattle.bench_devices.specs.Linking.{IsPlain}
 use Rattle.bench_devices.specs.Writing.{AsksWriteOf}
+use Rattle.bench_devices.proofs.ReadingTags.{no_tag}
 use Rattle.bench_devices.proofs.SurveyLists.{two_surveyed, four_surveyed, five_surveyed}
 use Rattle.bench_devices.proofs.WriteParts.{IsBlocks, takes_decided, some_writes}
 
-some_surveyed : (d : Device) → IsSound (kept d) → (xs : List Signal) × IsAskedFor ToWrite (how_of d) (size_of d) (device_store d) xs
-some_surveyed (T2 d) is = two_surveyed 16 d.upper.store refl
-some_surveyed (T4 d) is = four_surveyed 0 (device_store (T4 d))
-some_surveyed (T5 p) is = five_surveyed p.tag.id p.tag.size p.tag.store is.3
+some_surveyed : (d : Device) → is_tag d ≡ true → IsSound (kept d) → (xs : List Signal) × IsAskedFor ToWrite (how_of d) (size_of d) (device_store d) xs
+some_surveyed (T2 d) tag is = two_surveyed 16 d.upper.store refl
+some_surveyed (T4 d) tag is = four_surveyed 0 (device_store (T4 d))
+some_surveyed (Peer d) tag is = absurd cc
+some_surveyed (T5 p) tag is = five_surveyed p.tag.id p.tag.size p.tag.store is.3
 
-of_blocks : (d : Device) → IsSound (kept d) → IsBlocks (how_of d) (size_of d) (device_store d)
-of_blocks (T2 d) is = is.2
-of_blocks (T4 d) is = tt
-of_blocks (T5 p) is = tt
+of_blocks : (d : Device) → is_tag d ≡ true → IsSound (kept d) → IsBlocks (how_of d) (size_of d) (device_store d)
+of_blocks (T2 d) tag is = is.2
+of_blocks (T4 d) tag is = tt
+of_blocks (Peer d) tag is = absurd cc
+of_blocks (T5 p) tag is = tt
 
-pub some_write : (message : List ℕ) (d : Device) → IsSound (kept d) → (xs : List Signal) × AsksWriteOf message d xs
-some_write message d is =
-    let read = some_surveyed d is in
-    let parts = some_writes (how_of d) (size_of d) (device_store d) message (of_blocks d is) in
+pub some_write : (message : List ℕ) (d : Device) → is_tag d ≡ true → IsSound (kept d) → (xs : List Signal) × AsksWriteOf message d xs
+some_write message d tag is =
+    let read = some_surveyed d tag is in
+    let parts = some_writes (how_of d) (size_of d) (device_store d) message (of_blocks d tag is) in
     let behind : List Signal = up_to_refused (how_of d) (device_commands d) (surveyed (how_of d) (plain_state (device_store d))) (commands_of (all_puts parts.0)) in
     (read.0 ++ behind, record { read = read.0; all = read.1; parts = parts.0; writes = parts.1; list = refl })
 
@@ -63,7 +66,7 @@ up_to_all P how step s (c ∷ cs) all = (all.0, by_refusal (is_some (refusal_in 
     by_refusal true more = tt
     by_refusal false more = more
 
-first_all : (P : Signal → Type 0) (how : How) (size : ℕ) (store : List ℕ) → ((k : ℕ) → P (command how size store k)) → (n : ℕ) → AllByRecursion P (first how size store n)
+pub first_all : (P : Signal → Type 0) (how : How) (size : ℕ) (store : List ℕ) → ((k : ℕ) → P (command how size store k)) → (n : ℕ) → AllByRecursion P (first how size store n)
 first_all P how size store each zero = tt
 first_all P how size store each (suc n) = both_all P (first how size store n) (command how size store n ∷ []) (first_all P how size store each n) (each n, tt)
 
@@ -72,7 +75,7 @@ module _ (P : Signal → Type 0) (how : How) (size : ℕ) where
   abbrev pub AllPuts : List Put → Type 0
   AllPuts ps = AllByRecursion P (commands_of ps)
 
-  puts_both : (ps qs : List Put) → AllPuts ps → AllPuts qs → AllPuts (ps ++ qs)
+  pub puts_both : (ps qs : List Put) → AllPuts ps → AllPuts qs → AllPuts (ps ++ qs)
   puts_both [] qs p q = q
   puts_both (x ∷ ps) qs p q = (p.0, puts_both ps qs p.1 q)
 
@@ -103,7 +106,7 @@ pub always : (P : Step → Type 0) → ((s : Step) → P s) → (ss : List Step)
 always P each [] = tt
 always P each (s ∷ ss) = (each s, always P each ss)
 
-pub may_all : (message : List ℕ) (d : Device) → IsPlainHow (how_of d) → (xs : List Signal) → AsksWriteOf message d xs → AllByRecursion (MayAsk (plain_kind (device_tech d)) (device_id d)) xs
+pub may_all : (message : List ℕ) (d : Device) → IsPlain d → (xs : List Signal) → AsksWriteOf message d xs → AllByRecursion (MayAsk (plain_kind (device_tech d)) (device_id d)) xs
 may_all message (T2 d) plain xs is =
     let P : Signal → Type 0 = MayAsk (plain_kind (device_tech (T2 d))) (device_id (T2 d)) in
     let store : List ℕ = d.upper.store in
@@ -113,7 +116,8 @@ may_all message (T2 d) plain xs is =
     (subst (AllByRecursion P) (sym is.all.list) (first_all P hows.T2 16 store (λ k. refl) is.all.count))
     (up_to_all P hows.T2 step (plain_state store) (commands_of (all_puts is.parts))
     (writes_all P hows.T2 16 store message is.parts is.writes (λ place takes are. area_all P hows.T2 16 are.0 store message is.parts are.2 (always (λ s. P (block_command hows.T2 s)) (t2_may (device_id (T2 d))) (steps_of are.2.plan))))))
-may_all message (T4 d) plain xs is = absurd plain
+may_all message (T4 d) plain xs is = absurd plain.0
+may_all message (Peer d) plain xs is = absurd (no_tag plain.1)
 may_all message (T5 p) plain xs is =
     let P : Signal → Type 0 = MayAsk (plain_kind (device_tech (T5 p))) (device_id (T5 p)) in
     let how : How = hows.T5 p.tag.id in

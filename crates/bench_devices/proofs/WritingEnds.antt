@@ -1,5 +1,5 @@
 -- What a write of the selected tag comes to that takes commands as they are sent, by what its link did.
-use Rattle.std.proofs.Common.{◌≡◌, ℕ, List, ◌∷◌, ◌++◌, length, drop, refl, sym, ◌∙◌, ap, subst}
+use Rattle.std.proofs.Common.{◌≡◌, ℕ, true, List, ◌∷◌, ◌++◌, length, drop, refl, sym, ◌∙◌, ap, subst}
 use Rattle.std.specs.Prelude.{Err}
 use Rattle.std.specs.List.{AllByRecursion}
 use Rattle.nfc_base.specs.Signal.{Signal}
@@ -16,9 +16,9 @@ use Rattle.tag_writer.specs.Faults.{ending_of}
 use Rattle.tag_writer.specs.Law.{Stopped, WriteLaw}
 use Rattle.tag_writer.specs.Writing.{Keeps, HasWritten}
 use Rattle.bench_devices.specs.declared.device.Device.{Device}
-use Rattle.bench_devices.specs.Device.{air, device_tech, device_id, device_store, device_commands, how_of, size_of}
+use Rattle.bench_devices.specs.Device.{air, device_tech, device_id, device_store, device_commands, how_of, size_of, is_tag}
 use Rattle.bench_devices.specs.Writing.{AsksWriteOf, ShowsWrite, KeepsWriteLaw}
-use Rattle.bench_devices.specs.Linking.{IsPlainHow, IsNew}
+use Rattle.bench_devices.specs.Linking.{IsPlain, IsPlainHow, IsNew}
 use Rattle.bench_devices.specs.Keeping.{ghosts, StoreOf, Leaves}
 use Rattle.bench_devices.specs.Phases.{Stands, AsksSome, WriteEnd, FailsWrite, Writes, WritesSome, WritesAt, CutAtWrite}
 use Rattle.air_core.proofs.DueWaits.{due_all}
@@ -34,7 +34,7 @@ use Rattle.bench_devices.proofs.WriteTold.{IsWritten, write_left, write_does, wr
 use Rattle.bench_devices.proofs.WriteLists.{some_write, may_all, front_all}
 
 -- The link as it is made, to the tag that stands there.
-module _ (a : Air Device) (place : ℕ) (d : Device) (s : Stands (moment a) place d) (plain : IsPlainHow (how_of d)) (message : List ℕ) (q : PlainSeen Device) (m : PlainMoves ghosts (begun a place) q) where
+module _ (a : Air Device) (place : ℕ) (d : Device) (s : Stands (moment a) place d) (plain : IsPlain d) (message : List ℕ) (q : PlainSeen Device) (m : PlainMoves ghosts (begun a place) q) where
   abbrev from : LinkView
   from = plain_view ghosts (begun a place)
 
@@ -51,7 +51,7 @@ module _ (a : Air Device) (place : ℕ) (d : Device) (s : Stands (moment a) plac
   shows_state = ap plain_state (shows_store a place d s)
 
   all_write : (xs : List Signal) × AsksWriteOf message d xs
-  all_write = some_write message d s.sound
+  all_write = some_write message d plain.1 s.sound
 
   left : HasWrittenOf → (rest : List Signal) × AsksWriteOf message d (m.asked.commands ++ rest)
   left h = write_left message d all_write from to shows_step shows_state m.asked.commands (none_before a place q m) refl (asked_told a place q m) h
@@ -98,7 +98,7 @@ module _ (a : Air Device) (place : ℕ) (d : Device) (s : Stands (moment a) plac
       let told = as_cut (StoreOf (device_id d)) (AsksWriteOf message d) (ShowsWrite message d) FailsWrite (moment a) (moment q.air) d plain does in
       record { told = told; law = subst (KeepsWriteLaw message d Stopped (world a)) (same_going (moment a) (moment q.air) m.asked.going told.asked.going) (law_here (Err faults.Memory) k) }
 
-module _ (p : PlainSeen Device) (is : IsNew p) (how : How) (one : (e : Device) × Stands (moment p.air) p.place e × (how ≡ how_of e) × IsPlainHow how) (message : List ℕ) (q : PlainSeen Device)
+module _ (p : PlainSeen Device) (is : IsNew p) (how : How) (one : (e : Device) × Stands (moment p.air) p.place e × (how ≡ how_of e) × IsPlainHow how × (is_tag e ≡ true)) (message : List ℕ) (q : PlainSeen Device)
     (moves : PlainMoves ghosts p q) where
   abbrev IsTold : WriteEnd → How → PlainSeen Device → Type 0
   IsTold r h x = IsWritten h (size_of one.0) message (plain_view ghosts x) (plain_view ghosts q) r

@@ -79,12 +79,12 @@ abbrev pub TellsCard : {X : Type 0} → (X → Type 0) → (AskFault → X → T
 TellsCard Tells Fails (Activates bad) x = ⊥
 TellsCard Tells Fails (Exchanges s) x = TellsExchange Tells Fails s x
 
--- what tells of a read of a tag that is seen to be of this kind, by what was heard since it was selected
+-- what tells of a read of a tag that is seen to be of this kind, by what was heard since it was selected; of a peer nothing is asked
 abbrev pub TellsBy : {X : Type 0} → SeenKind → (X → Type 0) → (AskFault → X → Type 0) → List Signal → List Note → X → Type 0
 TellsBy seen.T2 Tells Fails asked ns x = TellsStanding Tells Fails (stand 0 asked ns) x
 TellsBy seen.T4 Tells Fails asked ns x = TellsCard Tells Fails (card_stands asked ns) x
 TellsBy seen.T5 Tells Fails asked ns x = TellsStanding Tells Fails (stand 0 asked ns) x
-TellsBy seen.Peer Tells Fails asked ns x = ⊥
+TellsBy seen.Peer Tells Fails asked ns x = Tells x
 
 -- what the inventory told is so, or each of its four tries had noise
 abbrev pub AreOthers : List Device → Vcrowd → List Event → Type 0

@@ -1,10 +1,10 @@
--- The devices of the bench: a Type 2 or Type 4 tag under the listener front of its identifier, and a Type 5 tag (NFC Forum
--- Digital Protocol; NFC Forum Type 2 Tag, Type 4 Tag and Type 5 Tag).
+-- The devices of the bench: a Type 2 tag, a Type 4 tag or a peer under the listener front of its identifier, and a Type 5 tag (NFC
+-- Forum Digital Protocol; NFC Forum Type 2 Tag, Type 4 Tag and Type 5 Tag; NFCIP-1, ISO/IEC 18092).
 use Rattle.std.specs.Prelude.{ℕ, List, [], Bool, true, false, not, ◌&&◌, ◌||◌, if◌then◌else◌, Option, Some, None}
 use Rattle.nfc_base.specs.declared.frame.Tech.{Tech}
 use Rattle.nfc_base.specs.declared.frame.Tech.TheVariants.{A, V}
 use Rattle.nfc_base.specs.Signal.{Signal}
-use Rattle.nfc_base.specs.Far.{Untouched}
+use Rattle.nfc_base.specs.Far.{FarUse, Untouched}
 use Rattle.nfc_base.specs.TagLinks.{TagState, TagStep, plain_state}
 use Rattle.air_core.specs.World.{Machine, World, quiet_air}
 use Rattle.air_core.specs.Conversation.{AirModel}
@@ -12,7 +12,7 @@ use Rattle.nfca_poll.specs.declared.kind.Kind.TheVariants as kinds
 use Rattle.nfca_poll.specs.declared.upper.UpStep.{UpStep}
 use Rattle.nfca_poll.specs.declared.upper.UpStep.TheVariants as steps
 use Rattle.nfca_poll.specs.Front.{Off, Idle, is_ready, is_active}
-use Rattle.nfca_poll.specs.Fronted.{answer_by, after_by, moved}
+use Rattle.nfca_poll.specs.Fronted.{handed_by, answer_by, after_by, moved}
 use Rattle.nfca_poll.specs.Upper.{UpperMachine}
 use Rattle.t2t_tag.specs.Store as t2
 use Rattle.t2t_tag.specs.Store.{T2Memory, unlocked}
@@ -35,10 +35,13 @@ use Rattle.nfc_base.specs.Headed.{is_rats}
 use Rattle.isodep_link.specs.Card as ends
 use Rattle.isodep_link.specs.Card.{CardState, card_table, replied, reply_block}
 use Rattle.bench_devices.specs.declared.device.Device.{Device}
-use Rattle.bench_devices.specs.declared.device.Device.TheVariants.{T2, T4, T5}
+use Rattle.bench_devices.specs.declared.device.Device.TheVariants.{T2, T4, Peer, T5}
 use Rattle.bench_devices.specs.declared.polling.SeenKind.{SeenKind}
 use Rattle.bench_devices.specs.declared.polling.SeenKind.TheVariants as seen
+use Rattle.dep_link.specs.Target.{TargetState}
+use Rattle.dep_link.specs.Target as targets
 use Rattle.bench_devices.specs.Cards.{T4Near, card_now}
+use Rattle.bench_devices.specs.Peers.{peer_machine, no_commands, given_up, made_near, new_near, near_busy}
 
 -- A Type 2 tag as the machine above a front: it takes the frames that spell a command, and answers each.
 abbrev pub says_of : Option Signal → UpStep
@@ -103,96 +106,135 @@ is_unlinked u = not u.linked && not u.tag.selected && is_no_file u.tag.current
 abbrev pub device_tech : Device → Tech
 device_tech (T2 d) = A
 device_tech (T4 d) = A
+device_tech (Peer d) = A
 device_tech (T5 p) = V
 
+-- tags ask nothing of a far end
+abbrev pub device_handed : Device → Signal → FarUse
+device_handed (T2 d) f = Untouched
+device_handed (T4 d) f = Untouched
+device_handed (Peer d) f = handed_by peer_machine d.front d f
+device_handed (T5 p) f = Untouched
+
 -- a Type 5 tag hears nothing in the dark
-abbrev pub device_answer : Device → Signal → Option Signal
-device_answer (T2 d) f = answer_by t2_machine d.front d f None
-device_answer (T4 d) f = answer_by t4_machine d.front d f None
-device_answer (T5 p) f = if p.lit then t5_answer p.tag f else None
+abbrev pub device_answer : Device → Signal → Option (List ℕ) → Option Signal
+device_answer (T2 d) f reply = answer_by t2_machine d.front d f None
+device_answer (T4 d) f reply = answer_by t4_machine d.front d f None
+device_answer (Peer d) f reply = answer_by peer_machine d.front d f reply
+device_answer (T5 p) f reply = if p.lit then t5_answer p.tag f else None
 
-abbrev pub device_after : Device → Signal → Device
-device_after (T2 d) f = T2 (after_by t2_machine d.front d f None)
-device_after (T4 d) f = T4 (after_by t4_machine d.front d f None)
-device_after (T5 p) f = if p.lit then T5 (record { tag = t5_after p.tag f; lit = true }) else T5 p
+abbrev pub device_after : Device → Signal → Option (List ℕ) → Device
+device_after (T2 d) f reply = T2 (after_by t2_machine d.front d f None)
+device_after (T4 d) f reply = T4 (after_by t4_machine d.front d f None)
+device_after (Peer d) f reply = Peer (after_by peer_machine d.front d f reply)
+device_after (T5 p) f reply = if p.lit then T5 (record { tag = t5_after p.tag f; lit = true }) else T5 p
 
--- light and dark: a front comes on idle, and what a tag holds stays
+-- light and dark: a front comes on idle, what a tag holds stays, and in the dark a peer has no link
 abbrev pub device_woken : Device → Device
 device_woken (T2 d) = T2 (moved t2_machine d Idle)
 device_woken (T4 d) = T4 (moved t4_machine d Idle)
+device_woken (Peer d) = Peer (moved peer_machine d Idle)
 device_woken (T5 p) = T5 (record { tag = p.tag; lit = true })
 
 abbrev pub device_darkened : Device → Device
 device_darkened (T2 d) = T2 (moved t2_machine d Off)
 device_darkened (T4 d) = T4 (moved t4_machine d Off)
+device_darkened (Peer d) = Peer (record { id = d.id; front = Off; upper = given_up d.upper })
 device_darkened (T5 p) = T5 (record { tag = darkened p.tag; lit = false })
 
 abbrev pub device_id : Device → List ℕ
 device_id (T2 d) = d.id
 device_id (T4 d) = d.id
+device_id (Peer d) = d.id
 device_id (T5 p) = p.tag.id
 
 abbrev pub device_store : Device → List ℕ
 device_store (T2 d) = d.upper.store
 device_store (T4 d) = t4.store_of d.upper.tag
+device_store (Peer d) = []
 device_store (T5 p) = p.tag.store
 
--- which of its blocks are locked; a Type 4 tag has none that can be
+-- which of its blocks are locked; a Type 4 tag and a peer have none that can be
 abbrev pub device_locks : Device → List Bool
 device_locks (T2 d) = d.upper.locked
 device_locks (T4 d) = []
+device_locks (Peer d) = []
 device_locks (T5 p) = p.tag.locked
 
 -- its card's end as it was made: how often it asks for more time before an answer, and by which value; no other device has one
 abbrev pub device_made : Device → CardState
 device_made (T2 d) = ends.fresh 0
 device_made (T4 d) = ends.darkened d.upper.card
+device_made (Peer d) = ends.fresh 0
 device_made (T5 p) = ends.fresh 0
+
+-- likewise a peer's end of NFC-DEP, with its NFCID3, its LR code and its general bytes
+abbrev pub no_target : TargetState
+no_target = targets.fresh [] 0 []
+
+abbrev pub device_target : Device → TargetState
+device_target (T2 d) = no_target
+device_target (T4 d) = no_target
+device_target (Peer d) = made_near d.upper
+device_target (T5 p) = no_target
 
 -- what stays of a device in the dark
 pub record StablePart : Type 0 where
   pub store : List ℕ
   pub locked : List Bool
   pub made : CardState
+  pub target : TargetState
 
 abbrev pub stable_of : Device → StablePart
-stable_of d = record { store = device_store d; locked = device_locks d; made = device_made d }
+stable_of d = record { store = device_store d; locked = device_locks d; made = device_made d; target = device_target d }
 
 abbrev pub device_ready : Device → Bool
 device_ready (T2 d) = is_ready d.front
 device_ready (T4 d) = is_ready d.front
+device_ready (Peer d) = is_ready d.front
 device_ready (T5 p) = false
 
 -- a tag of NFC-V is selected in a lit field
 abbrev pub device_selected : Device → Bool
 device_selected (T2 d) = is_active d.front
 device_selected (T4 d) = is_active d.front
+device_selected (Peer d) = is_active d.front
 device_selected (T5 p) = p.lit
 
 -- The step on commands. That a Type 5 tag was told to stay quiet makes no difference to those that name it.
 abbrev pub device_commands : Device → TagState → Signal → TagStep
 device_commands (T2 d) = t2_step d.upper.locked
 device_commands (T4 d) = t4_link_step d.upper.tag.code
+device_commands (Peer d) = no_commands
 device_commands (T5 p) = t5_step p.tag.id p.tag.size p.tag.locked false
 
 -- of a Type 4 tag, its card's end, and what it holds and what is selected of it
 abbrev pub device_card : Device → CardState
 device_card (T2 d) = ends.fresh 0
 device_card (T4 d) = card_now d.upper
+device_card (Peer d) = ends.fresh 0
 device_card (T5 p) = ends.fresh 0
 
 abbrev pub device_tag : Device → TagState
 device_tag (T2 d) = plain_state d.upper.store
 device_tag (T4 d) = shown d.upper.tag
+device_tag (Peer d) = plain_state []
 device_tag (T5 p) = plain_state p.tag.store
 
--- what the devices of the bench do; tags ask nothing of a far end
+-- whether a device has a link to its far end: a peer alone may have one
+abbrev pub device_linked : Device → Bool
+device_linked (T2 d) = false
+device_linked (T4 d) = false
+device_linked (Peer d) = d.upper.linked
+device_linked (T5 p) = false
+
+-- what the devices of the bench do
 abbrev pub devices : Machine Device
 devices = record {
   tech = device_tech;
-  handed = λ d f. Untouched;
-  answer = λ d f reply. device_answer d f;
-  after = λ d f reply. device_after d f;
+  handed = λ d f. device_handed d f;
+  answer = λ d f reply. device_answer d f reply;
+  after = λ d f reply. device_after d f reply;
   woken = device_woken;
   darkened = device_darkened;
 }
@@ -208,7 +250,7 @@ air = quiet_air devices
 abbrev pub most_devices : ℕ
 most_devices = 16
 
--- a tag that is newly placed: in the dark, with no block locked
+-- a device that is newly placed: in the dark, a tag with no block locked
 abbrev pub new_t2 : List ℕ → List ℕ → Device
 new_t2 id store = T2 (record { id = id; front = Off; upper = unlocked store })
 
@@ -218,39 +260,50 @@ new_t4 id code container file = T4 (record { id = id; front = Off; upper = recor
 abbrev pub new_t5 : List ℕ → ℕ → List ℕ → Device
 new_t5 id size store = T5 (record { tag = fresh id size store; lit = false })
 
--- how a tag is read, and how many bytes one READ asks for, which says nothing of a Type 4 tag
+-- a peer of this LR code, which says that its far end has this MIU
+abbrev pub new_peer : List ℕ → ℕ → ℕ → Device
+new_peer id lr miu = Peer (record { id = id; front = Off; upper = new_near id lr miu })
+
+-- How a tag is read, and how many bytes one READ asks for, which says nothing of a Type 4 tag. Neither says anything of a peer, which
+-- isn't read.
 abbrev pub how_of : Device → How
 how_of (T2 d) = hows.T2
 how_of (T4 d) = hows.T4
+how_of (Peer d) = hows.T2
 how_of (T5 p) = hows.T5 p.tag.id
 
 abbrev pub size_of : Device → ℕ
 size_of (T2 d) = 16
 size_of (T4 d) = 0
+size_of (Peer d) = 0
 size_of (T5 p) = p.tag.size
 
 -- what a reader sees that it is
 abbrev pub seen_of : Device → SeenKind
 seen_of (T2 d) = seen.T2
 seen_of (T4 d) = seen.T4
+seen_of (Peer d) = seen.Peer
 seen_of (T5 p) = seen.T5
 
--- how many blocks it has that can be locked: a Type 4 tag has none
+-- how many blocks it has that can be locked: a Type 4 tag has none, nor has a peer
 abbrev pub blocks_of : Device → ℕ
 blocks_of (T2 d) = t2.block_count d.upper.store
 blocks_of (T4 d) = 0
+blocks_of (Peer d) = 0
 blocks_of (T5 p) = block_count p.tag
 
 -- the device with one block more locked
 abbrev pub device_locked : ℕ → Device → Device
 device_locked block (T2 d) = T2 (record { id = d.id; front = d.front; upper = t2.locked_too d.upper block })
 device_locked block (T4 d) = T4 d
+device_locked block (Peer d) = Peer d
 device_locked block (T5 p) = T5 (record { tag = locked_too p.tag block; lit = p.lit })
 
--- whether it can ask for more time: a Type 4 tag alone can
+-- whether it can ask for more time: a Type 4 tag and a peer can
 abbrev pub may_be_busy : Device → Bool
 may_be_busy (T2 d) = false
 may_be_busy (T4 d) = true
+may_be_busy (Peer d) = true
 may_be_busy (T5 p) = false
 
 -- the device that asks so often for more time before each answer, by this value
@@ -258,16 +311,26 @@ abbrev pub device_busy : ℕ → ℕ → Device → Device
 device_busy count times (T2 d) = T2 d
 device_busy count times (T4 d) =
     T4 (record { id = d.id; front = d.front; upper = record { tag = d.upper.tag; card = ends.made_busy d.upper.card count times; linked = d.upper.linked } })
+device_busy count times (Peer d) = Peer (record { id = d.id; front = d.front; upper = near_busy count times d.upper })
 device_busy count times (T5 p) = T5 p
 
--- whether it is a tag: each device is one
+-- whether it is a tag
 abbrev pub is_tag : Device → Bool
 is_tag (T2 d) = true
 is_tag (T4 d) = true
+is_tag (Peer d) = false
 is_tag (T5 p) = true
 
--- what a dump of it shows: all its memory, and of a Type 4 tag the NDEF file alone
+-- by what a device is seen to be: one thing of a tag, another of a peer
+abbrev pub IfTag : SeenKind → Type 0 → Type 0 → Type 0
+IfTag seen.T2 P Q = P
+IfTag seen.T4 P Q = P
+IfTag seen.Peer P Q = Q
+IfTag seen.T5 P Q = P
+
+-- what a dump of it shows: all its memory, of a Type 4 tag the NDEF file alone, and nothing of a peer
 abbrev pub memory_in : Device → List ℕ
 memory_in (T2 d) = d.upper.store
 memory_in (T4 d) = d.upper.tag.file
+memory_in (Peer d) = []
 memory_in (T5 p) = p.tag.store

@@ -20,3 +20,4 @@ pub mod Answering
 pub mod Phases
 pub mod Linking
 pub mod Choosing
+pub mod Calm

@@ -4,21 +4,19 @@ use Rattle.nfc_base.specs.declared.frame.Tech.TheVariants.{A}
 use Rattle.nfc_base.specs.Signal.{Signal, is_nfc_a}
 use Rattle.nfc_base.specs.Far.{Untouched, Hands}
 use Rattle.nfc_base.specs.TagLinks.{TagState, TagStep}
-use Rattle.nfca_poll.specs.Calls.{Call, Calls, call_of}
 use Rattle.nfca_poll.specs.declared.upper.UpStep.{UpStep}
 use Rattle.nfca_poll.specs.declared.upper.UpStep.TheVariants as steps
 use Rattle.air_core.specs.Listening.{Stop}
 use Rattle.nfca_poll.specs.Upper.{is_taken, answer_in, IsUpper, UpperStep}
 use Rattle.nfca_poll.specs.OwnFrames.{BeginsAsCalls, call_begins, is_zero}
-use Rattle.dep_pdu.specs.declared.frame.DepFrame.{DepFrame}
 use Rattle.dep_pdu.specs.declared.refusal.DepKind.TheVariants.{Start}
 use Rattle.dep_pdu.specs.Numbers.{start_byte}
 use Rattle.dep_pdu.specs.Refusal.{first, head, dep_faults}
 use Rattle.dep_pdu.specs.Reading.{frame_of, unless, spelled_frame}
 use Rattle.dep_link.specs.declared.target.TargetStep.{TargetStep}
 use Rattle.dep_link.specs.declared.target.TargetStep.TheVariants as target
-use Rattle.dep_link.specs.Frames.{air_frame, spelled, names_atr, is_atr_req}
-use Rattle.dep_link.specs.Target.{TargetState, TargetTurn, target_table, obeyed, reply_frame}
+use Rattle.dep_link.specs.Frames.{spelled, names_atr, is_atr_req}
+use Rattle.dep_link.specs.Target.{TargetState, target_table, obeyed}
 use Rattle.dep_link.specs.Peers.{target_use, answered_with}
 use Rattle.dep_link.specs.Delivering.{handed_short, answered_tech}
 use Rattle.bench_devices.specs.Peers.{PeerNear, by_target, by_turn, takes_frame, peer_if, peer_did, asked_if, no_commands, peer_machine, Handles, Halts}
@@ -33,7 +31,7 @@ is_peer_linked u = u.linked
 other_start : (n : ℕ) → n ≤ 0x97 → (n == start_byte) ≡ false
 other_start n h = grind arith
 
-refused : (b : List ℕ) → (slice_index b 0 == start_byte) ≡ false → spelled_frame b ≡ None
+pub refused : (b : List ℕ) → (slice_index b 0 == start_byte) ≡ false → spelled_frame b ≡ None
 refused b e = ap (λ v. unless (if not v then Some (record { place = 0; kind = Start }) else first (drop 1 (dep_faults b))) (frame_of (head b) b)) e
 
 none_of : (v w : Bool) (b : List ℕ) → (w ≡ true → spelled_frame b ≡ None) → (if v && w then spelled_frame b else None) ≡ None
@@ -87,7 +85,7 @@ opens_if u f reply true h = link_stays (target_table u.target f).state reply (ta
 opens_if u f reply false h = absurd cc
 
 -- at what is no frame of NFC-DEP nothing happens
-asks_none : (u : PeerNear) (f : Signal) (v : Bool) → spelled f ≡ None → asked_if v u f ≡ Untouched
+pub asks_none : (u : PeerNear) (f : Signal) (v : Bool) → spelled f ≡ None → asked_if v u f ≡ Untouched
 asks_none u f true e = ap (λ o. target_use (obeyed u.target o).does) e
 asks_none u f false e = refl
 

@@ -1,6 +1,6 @@
 -- A peer above a listener front (NFCIP-1, ISO/IEC 18092; NFC Forum Digital Protocol and LLCP): the target's end of NFC-DEP, which says
 -- of itself what a peer of the bench says. What stands in its NFCID3, and which general bytes it has, are this project's own.
-use Rattle.std.specs.Prelude.{◌≡◌, ℕ, ◌-◌, ◌≤◌, List, [], ◌++◌, length, replicate, Bool, true, false, ◌||◌, if◌then◌else◌, Option, Some, None}
+use Rattle.std.specs.Prelude.{◌≡◌, ℕ, ◌-◌, ◌<◌, ◌≤◌, List, ◌++◌, length, replicate, Bool, true, false, not, ◌||◌, if◌then◌else◌, Option, Some, None}
 use Rattle.nfc_base.specs.Signal.{Signal}
 use Rattle.nfc_base.specs.Far.{FarUse, Untouched, Hands}
 use Rattle.nfc_base.specs.TagLinks.{TagState, TagStep}
@@ -9,11 +9,11 @@ use Rattle.nfca_poll.specs.declared.upper.UpStep.{UpStep}
 use Rattle.nfca_poll.specs.declared.upper.UpStep.TheVariants as steps
 use Rattle.nfca_poll.specs.Upper.{UpperMachine}
 use Rattle.llcp_pdu.specs.declared.general.LinkParams.{LinkParams}
-use Rattle.llcp_pdu.specs.General.{general_bytes}
+use Rattle.llcp_pdu.specs.General.{general_bytes, IsMiu}
 use Rattle.dep_link.specs.declared.target.TargetStep.{TargetStep}
 use Rattle.dep_link.specs.declared.target.TargetStep.TheVariants as target
 use Rattle.dep_link.specs.Frames.{air_frame, is_atr_req}
-use Rattle.dep_link.specs.Target.{TargetState, TargetTurn, target_table, replied, reply_frame, fresh, darkened, made_busy}
+use Rattle.dep_link.specs.Target.{TargetState, TargetTurn, target_table, replied, reply_frame, fresh, darkened, made_busy, most_busy}
 use Rattle.dep_link.specs.Peers.{target_use}
 
 -- the target's end, and whether ATR_REQ opened a link to it
@@ -97,9 +97,25 @@ peer_machine = record {
 abbrev pub no_commands : TagState → Signal → TagStep
 no_commands s f = record { answer = None; after = s }
 
+-- it has no link
+abbrev pub no_link : PeerNear → Bool
+no_link u = not u.linked
+
 -- its target's end as it was made, which no frame changes
 abbrev pub made_near : PeerNear → TargetState
 made_near u = darkened u.target
+
+-- An end of a peer with this identifier as it may be made: it says of itself what new peers do, and asks for more time before a
+-- reply at most five times, by a value from 1 to 59.
+pub record IsMadePeer (id : List ℕ) (t : TargetState) : Type 0 where
+  pub lr : ℕ
+  pub miu : ℕ
+  pub code : lr < 4
+  pub size : IsMiu miu
+  pub few : t.busy ≤ most_busy
+  pub some : 1 ≤ t.times
+  pub longest : t.times ≤ 59
+  pub made : t ≡ made_busy (fresh (id3_of id) lr (peer_general miu)) t.busy t.times
 
 -- the peer that asks so often for more time before each reply, by this value
 abbrev pub near_busy : ℕ → ℕ → PeerNear → PeerNear

@@ -24,6 +24,7 @@ use Rattle.nfca_poll.specs.Front.{is_active}
 use Rattle.bench_devices.specs.declared.device.Device.TheVariants as placed
 use Rattle.bench_devices.specs.declared.polling.SeenKind.{SeenKind}
 use Rattle.bench_devices.specs.declared.sweeping.Everybody.{Everybody}
+use Rattle.bench_devices.specs.Peers.{no_link}
 use Rattle.bench_devices.specs.Device.{air, device_id, device_selected, seen_of, is_unlinked}
 use Rattle.bench_devices.specs.CardAsking.{tag_next}
 use Rattle.bench_devices.specs.declared.polling.Selection.{Selection}
@@ -35,10 +36,11 @@ use Rattle.bench_devices.specs.Reading.{AsksOf, ShowsOf}
 use Rattle.bench_devices.specs.Writing.{AsksWriteOf, ShowsWrite, KeepsWriteLaw}
 use Rattle.bench_devices.specs.Keeping.{ghosts, kept, IsSound, AreTame, Changes, NoStore, StoreOf, Leaves}
 
--- A Type 4 tag has a link at most while it is active.
+-- A Type 4 tag and a peer have a link at most while they are active.
 abbrev pub IsTidy : Device → Type 0
 IsTidy (placed.T2 d) = Unit {0}
 IsTidy (placed.T4 d) = (is_active d.front ≡ true) ⊎ (is_unlinked d.upper ≡ true)
+IsTidy (placed.Peer d) = (is_active d.front ≡ true) ⊎ (no_link d.upper ≡ true)
 IsTidy (placed.T5 p) = Unit {0}
 
 abbrev pub AreTidy : List Device → Type 0
@@ -54,6 +56,7 @@ pub record IsIdle (a : Air Device) : Type 0 where
 abbrev pub IsUnasked : Device → Type 0
 IsUnasked (placed.T2 d) = Unit {0}
 IsUnasked (placed.T4 d) = is_unlinked d.upper ≡ true
+IsUnasked (placed.Peer d) = no_link d.upper ≡ true
 IsUnasked (placed.T5 p) = Unit {0}
 
 -- In a lit field a device stands at a place. It is selected, and all others are aside of it.

@@ -10,8 +10,9 @@ ghost use Rattle.isodep_link.specs.Card.{most_busy};
 ghost use Rattle.isodep_link.specs.Reader.{longest_extension};
 ghost use Rattle.nfca_poll.specs.Upper.{step_at};
 ghost use Rattle.bench_devices.specs.Cards.{card_now};
-ghost use Rattle.bench_devices.specs.Device.{said, on_link, how_of, blocks_of, device_locked, may_be_busy, device_busy, memory_in};
+ghost use Rattle.bench_devices.specs.Device.{said, on_link, how_of, blocks_of, device_locked, may_be_busy, device_busy, is_tag, memory_in};
 
+use crate::peer::PeerUpper;
 use air_core::Listener;
 use isodep_link::{CardEnd, CardKind, CardListener, is_rats};
 use nfc_base::{Answerer, Frame, Tech};
@@ -296,6 +297,7 @@ impl PoweredTag {
 pub enum Device {
     T2(Front<T2Upper>),
     T4(Front<T4Upper>),
+    Peer(Front<PeerUpper>),
     T5(PoweredTag),
 }
 
@@ -317,7 +319,7 @@ impl Listener for Device {
 
     fn tech(&self) -> Tech {
         match self {
-            Device::T2(_) | Device::T4(_) => Tech::A,
+            Device::T2(_) | Device::T4(_) | Device::Peer(_) => Tech::A,
             Device::T5(_) => Tech::V,
         }
     }
@@ -326,6 +328,7 @@ impl Listener for Device {
         match self {
             Device::T2(front) => front.light(),
             Device::T4(front) => front.light(),
+            Device::Peer(front) => front.light(),
             Device::T5(powered) => powered.lit = true,
         }
     }
@@ -334,6 +337,10 @@ impl Listener for Device {
         match self {
             Device::T2(front) => front.dark(),
             Device::T4(front) => front.dark(),
+            Device::Peer(front) => {
+                front.dark();
+                front.upper().clear();
+            }
             Device::T5(powered) => {
                 powered.tag.dark();
                 powered.lit = false;
@@ -350,6 +357,7 @@ impl Listener for Device {
         match self {
             Device::T2(front) => front.hear(alloc, frame, far),
             Device::T4(front) => front.hear(alloc, frame, far),
+            Device::Peer(front) => front.hear(alloc, frame, far),
             Device::T5(powered) if powered.lit => Ok(powered.tag.obey(frame)),
             Device::T5(_) => Ok(None),
         }
@@ -365,6 +373,7 @@ impl Listener for Device {
         match self {
             Device::T2(front) => front.hear_into(alloc, frame, far, answer),
             Device::T4(front) => front.hear_into(alloc, frame, far, answer),
+            Device::Peer(front) => front.hear_into(alloc, frame, far, answer),
             Device::T5(powered) => Ok(powered.hear_into(frame, answer)),
         }
     }
@@ -402,24 +411,34 @@ impl CardListener for Device {
 }
 
 impl Device {
+    /// A tag holds a message; a peer is none.
+    pub fn is_tag(&self) -> bool
+        ensures { result ≡ is_tag self.now }
+    {
+        !matches!(self, Device::Peer(_))
+    }
+
     /// How a tag of its kind is read.
     pub fn how(&self) -> How
+        requires { is_tag self.now ≡ true }
         ensures { result ≡ how_of self.now }
     {
         match self {
             Device::T2(_) => How::T2,
             Device::T4(_) => How::T4,
+            Device::Peer(_) => unreachable!(),
             Device::T5(powered) => How::T5(powered.tag().id()),
         }
     }
 
-    /// What it holds: of a Type 4 tag its NDEF file alone.
+    /// What it holds: of a Type 4 tag its NDEF file alone, and nothing of a peer.
     pub fn memory(&self) -> &[u8]
         ensures { result.now ≡ memory_in self.now }
     {
         match self {
             Device::T2(front) => front.as_upper().tag().store(),
             Device::T4(front) => front.as_upper().tag().file(),
+            Device::Peer(_) => &[],
             Device::T5(powered) => powered.tag().store(),
         }
     }
@@ -430,7 +449,7 @@ impl Device {
     {
         match self {
             Device::T2(front) => front.as_upper().tag().blocks(),
-            Device::T4(_) => 0,
+            Device::T4(_) | Device::Peer(_) => 0,
             Device::T5(powered) => powered.tag().blocks(),
         }
     }
@@ -442,7 +461,7 @@ impl Device {
     {
         match self {
             Device::T2(front) => front.upper().lock(block),
-            Device::T4(_) => unreachable!(),
+            Device::T4(_) | Device::Peer(_) => unreachable!(),
             Device::T5(powered) => powered.lock(block),
         }
     }
@@ -451,7 +470,7 @@ impl Device {
     pub fn may_be_busy(&self) -> bool
         ensures { result ≡ may_be_busy self.now }
     {
-        matches!(self, Device::T4(_))
+        matches!(self, Device::T4(_) | Device::Peer(_))
     }
 
     /// From now on it asks for more time before each answer: `count` extensions, each by `times`. It takes no memory.
@@ -463,6 +482,7 @@ impl Device {
     {
         match self {
             Device::T4(front) => front.upper().set_busy(count, times),
+            Device::Peer(front) => front.upper().set_busy(count, times),
             Device::T2(_) | Device::T5(_) => unreachable!(),
         }
     }

@@ -1,9 +1,8 @@
 //! The devices of a bench, and what is done with them on a field.
 //!
-//! `device` holds Type 2 and Type 4 tags under a listener front, and Type 5 tags, as listeners. `polling` selects the one
-//! with an identifier, `reading` reads the message of the one that is selected, `writing` writes one to it, `sweeping`
-//! searches for all. `peer` is the machine of a peer above a listener front, whose far end stands beside the field; no
-//! device of a bench is one yet.
+//! `device` holds Type 2 and Type 4 tags and peers under a listener front, and Type 5 tags, as listeners. `peer` is the
+//! machine of a peer, whose far end stands beside the field. `polling` selects the one with an identifier, `reading`
+//! reads the message of the tag that is selected, `writing` writes one to it, `sweeping` searches for all.
 //! `specs/Polling.antt` and `specs/CardAsking.antt` say which request is due in each of these, `specs/Answering.antt` how
 //! each may end and why, `specs/Phases.antt` what each does to the field. Nothing here knows of commands or answers.
 #![tactic(auto)]
@@ -17,7 +16,7 @@ mod sweeping;
 mod writing;
 
 pub use device::{Device, PoweredTag, T2Upper, T4Upper};
-pub use law::devices_stay;
+pub use law::{devices_stay, peers_stay_unlinked};
 pub use peer::PeerUpper;
 pub use polling::{SeenKind, Selection, is_named, place_of, select};
 pub use reading::read;

@@ -1,25 +1,21 @@
-//! A peer under its front: selected, linked, put to sleep, and found among others.
+//! A peer as a device: selected, linked, put to sleep, in the dark, and found among others.
 
 ghost use Rattle.std.specs.Prelude.{◌<◌};
 ghost use Rattle.llcp_pdu.specs.General.{IsMiu};
 
-use crate::PeerUpper;
+use crate::{Device, PeerUpper, T2Upper};
 use air_core::{Field, Listener};
 use nfc_base::{Frame, Mute, Tech};
 use nfca_poll::{Front, Ident, Kind, find_all};
 use std::alloc::Global;
 use std::process::Abort;
 use std::test::Fail;
+use t2t_tag::T2Tag;
 
 /// The bytes of a request and its tail, and the bytes of the answer, which is whole: none where it is silent.
 type Row<'a> = (&'a [u8], u8, &'a [u8]);
 
-fn walk<R: Abort>(
-    rt: &R,
-    alloc: Global,
-    device: &mut Front<PeerUpper>,
-    rows: &[Row],
-) -> Result<(), Fail> {
+fn walk<R: Abort>(rt: &R, alloc: Global, device: &mut Device, rows: &[Row]) -> Result<(), Fail> {
     for (request, tail, answer) in rows {
         let wanted = if answer.is_empty() {
             None
@@ -36,13 +32,13 @@ fn walk<R: Abort>(
     Ok(())
 }
 
-fn peer(id: &[u8], lr: u8, miu: u16) -> Result<Front<PeerUpper>, Fail>
+fn peer(id: &[u8], lr: u8, miu: u16) -> Result<Device, Fail>
     requires lr { lr < 4 }
     requires miu { IsMiu miu }
 {
     let id = Ident::new(id)?;
     let upper = PeerUpper::new(&id, lr, miu);
-    Ok(Front::new(id, upper))
+    Ok(Device::Peer(Front::new(id, upper)))
 }
 
 /// A call of all devices, and the selection of this one.
@@ -93,15 +89,16 @@ fn link_to_a_peer_takes_every_frame(rt: HostRuntime) -> Result<(), Fail> {
 }
 
 #[test]
-fn peers_are_found(rt: HostRuntime) -> Result<(), Fail> {
+fn a_peer_is_found_beside_a_tag(rt: HostRuntime) -> Result<(), Fail> {
     let alloc = rt.alloc();
     let mut field = Field::new(alloc);
     field.put_in(peer(&[8, 1, 2, 3], 0, 2175)?)?;
-    field.put_in(peer(&[4, 17, 34, 51, 68, 85, 102], 3, 128)?)?;
+    let tag = T2Tag::new(vec![in alloc; 0u8; 16]?)?;
+    let id = Ident::new(&[1, 2, 3, 4])?;
+    field.put_in(Device::T2(Front::new(id, T2Upper::new(tag))))?;
     let found = find_all(alloc, &mut field)?;
     assert_eq!(rt; found.len(), 2);
-    for one in found {
-        assert!(rt; one.kind == Kind::Peer);
-    }
+    let peers = found.iter().filter(|one| one.kind == Kind::Peer).count();
+    assert_eq!(rt; peers, 1);
     Ok(())
 }

@@ -13,7 +13,7 @@ use Rattle.hex.proofs.HexLemmas.{length-encode_with, decode_of-encode_upper, dec
 use Rattle.nfc_base.specs.declared.event.Fate.{Fate}
 use Rattle.nfc_base.specs.declared.event.Fate.TheVariants.{Pass, Damage, Lose, Break}
 use Rattle.bench_script.specs.declared.command.Command.{Command}
-use Rattle.bench_script.specs.declared.command.Command.TheVariants.{Skip, Fates, PlaceT2, PlaceT4, PlaceT5, Lock, Busy, Remove, Dump, Find, Read, Write}
+use Rattle.bench_script.specs.declared.command.Command.TheVariants.{Skip, Fates, PlaceT2, PlaceT4, PlaceT5, PlacePeer, Lock, Busy, Offer, Remove, Dump, Inbox, Find, Read, Write}
 use Rattle.bench_script.specs.declared.command.DeviceId.{DeviceId}
 use Rattle.bench_script.specs.declared.command.DeviceId.TheVariants.{A, V}
 use Rattle.bench_script.specs.declared.message.Msg.{Msg}
@@ -134,8 +134,8 @@ hex_too word (b ∷ bs) (inr s) =
     subst (SpellsToo (λ t. SpellsHex t (b ∷ bs)) word) (sym (hex_some b bs))
     (record { spells = inr (some, upper.spells); size = upper.size; is = upper.is })
 
-number_is : (word : List ℕ) (n : ℕ) → n < 2 ^ 16 → word ≡ decimal n → SpellsToo (λ t. t ≡ decimal n) word (decimal n)
-number_is word n small is = record { spells = refl; size = ap length is; is = decimal_word n (omega arith) }
+number_is : (word : List ℕ) (n : ℕ) → n < 2 ^ 32 → word ≡ decimal n → SpellsToo (λ t. t ≡ decimal n) word (decimal n)
+number_is word n small is = record { spells = refl; size = ap length is; is = decimal_word n small }
 
 counted_too : (word : List ℕ) (count start : ℕ) → SpellsCounted word count start
     → SpellsToo (λ t. SpellsCounted t count start) word (message_text (Gen count start))
@@ -241,6 +241,37 @@ t5_too id n size head ws (i, b, k, h, e, p, q, t, r) =
       are = (literal (codes "place") refl, (literal (codes "t5") refl, (x.is, (y.is, (u.is, z.is)))));
     }
 
+peer_too : (id : List ℕ) (lr miu rw limit : ℕ) (ws : List (List ℕ)) → SpelledBy ws (PlacePeer id lr miu rw limit)
+    → AllToo (PlacePeer id lr miu rw limit) ws (canonical_words (PlacePeer id lr miu rw limit))
+peer_too id lr miu rw limit ws (i, r, m, w, l, e, p, q, s, t, u) =
+    let x = ident_too i id p in
+    let y = number_is r lr (let most : lr ≤ 3 = q.2 in omega arith) q.0 in
+    let z = number_is m miu (let most : miu ≤ 2175 = s.2 in omega arith) s.0 in
+    let v = number_is w rw (let most : rw ≤ 15 = t.2 in omega arith) t.0 in
+    let o = number_is l limit (let most : limit ≤ 65536 = u.2 in omega arith) u.0 in
+    let first : length i ≡ length (encode_upper id) = x.size in
+    let second : length r ≡ length (decimal lr) = y.size in
+    let third : length m ≡ length (decimal miu) = z.size in
+    let fourth : length w ≡ length (decimal rw) = v.size in
+    let fifth : length l ≡ length (decimal limit) = o.size in
+    record {
+      spells = (
+        encode_upper id,
+        decimal lr,
+        decimal miu,
+        decimal rw,
+        decimal limit,
+        refl,
+        x.spells,
+        (refl, q.1, q.2),
+        (refl, s.1, s.2),
+        (refl, t.1, t.2),
+        (refl, u.1, u.2),
+      );
+      sizes = cc;
+      are = (literal (codes "place") refl, (literal (codes "peer") refl, (x.is, (y.is, (z.is, (v.is, o.is))))));
+    }
+
 -- a name and an ID
 named_sizes : (ws : List (List ℕ)) (name i : List ℕ) (id : DeviceId) → ws ≡ name ∷ i ∷ [] → length i ≡ length (id_text id)
     → map length ws ≡ map length (name ∷ id_text id ∷ [])
@@ -258,9 +289,10 @@ all_too (Fates fates) ws (f, e, p) =
 all_too (PlaceT2 id n head) ws s = t2_too id n head ws s
 all_too (PlaceT4 id n container head) ws s = t4_too id n container head ws s
 all_too (PlaceT5 id n size head) ws s = t5_too id n size head ws s
+all_too (PlacePeer id lr miu rw limit) ws s = peer_too id lr miu rw limit ws s
 all_too (Lock id block) ws (i, b, e, p, q) =
     let x = id_too i id p in
-    let y = number_is b block q.1 q.0 in
+    let y = number_is b block (let most : block < 65536 = q.1 in omega arith) q.0 in
     let first : length i ≡ length (id_text id) = x.size in
     let second : length b ≡ length (decimal block) = y.size in
     record {
@@ -280,6 +312,18 @@ all_too (Busy id count times) ws (i, k, w, e, p, q, r) =
       sizes = cc;
       are = (literal (codes "busy") refl, (x.is, (y.is, z.is)));
     }
+all_too (Offer id key value) ws (i, k, v, e, p, q, r) =
+    let x = id_too i id p in
+    let y = hex_too k key q in
+    let z = hex_too v value r in
+    let first : length i ≡ length (id_text id) = x.size in
+    let second : length k ≡ length (hex_text key) = y.size in
+    let third : length v ≡ length (hex_text value) = z.size in
+    record {
+      spells = (id_text id, hex_text key, hex_text value, refl, x.spells, y.spells, z.spells);
+      sizes = cc;
+      are = (literal (codes "offer") refl, (x.is, (y.is, z.is)));
+    }
 all_too (Remove id) ws (i, e, p) =
     let x = id_too i id p in
     record {
@@ -293,6 +337,13 @@ all_too (Dump id) ws (i, e, p) =
       spells = (id_text id, refl, x.spells);
       sizes = named_sizes ws (codes "dump") i id e x.size;
       are = (literal (codes "dump") refl, x.is);
+    }
+all_too (Inbox id) ws (i, e, p) =
+    let x = id_too i id p in
+    record {
+      spells = (id_text id, refl, x.spells);
+      sizes = named_sizes ws (codes "inbox") i id e x.size;
+      are = (literal (codes "inbox") refl, x.is);
     }
 all_too Find ws e = record { spells = refl; sizes = ap (map length) e; are = literal (codes "find") refl }
 all_too (Read id) ws (i, e, p) =

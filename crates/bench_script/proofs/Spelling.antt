@@ -8,7 +8,7 @@ use Rattle.nfc_base.specs.declared.event.Fate.TheVariants.{Pass, Damage, Lose, B
 use Rattle.hex.specs.Hex.{decode_of}
 use Rattle.hex.proofs.HexLemmas.{decode_of-same}
 use Rattle.bench_script.specs.declared.command.Command.{Command}
-use Rattle.bench_script.specs.declared.command.Command.TheVariants.{Skip, Fates, PlaceT2, PlaceT4, PlaceT5, Lock, Busy, Remove, Dump, Find, Read, Write}
+use Rattle.bench_script.specs.declared.command.Command.TheVariants.{Skip, Fates, PlaceT2, PlaceT4, PlaceT5, PlacePeer, Lock, Busy, Offer, Remove, Dump, Inbox, Find, Read, Write}
 use Rattle.bench_script.specs.declared.command.DeviceId.{DeviceId}
 use Rattle.bench_script.specs.declared.command.DeviceId.TheVariants.{A, V}
 use Rattle.bench_script.specs.declared.message.Msg.{Msg}
@@ -16,7 +16,7 @@ use Rattle.bench_script.specs.declared.message.Msg.TheVariants.{Hex, Gen}
 use Rattle.bench_script.specs.declared.script.words.CommandName.{CommandName}
 use Rattle.bench_script.specs.declared.script.words.CommandName.TheVariants as names
 use Rattle.bench_script.specs.Words.{name_text}
-use Rattle.bench_script.specs.Script.{words_of, is_skipped, SpellsHex, SpellsIdent, SpellsIdV, SpellsId, SpellsWithin, SpellsSize, SpellsCode, SpellsBlock, fate_letter, SpellsFates, SpellsMsg, SpelledBy, Spells, least_blocks, most_blocks, least_blocks_v, most_blocks_v, least_busy, most_busy, least_times, most_times}
+use Rattle.bench_script.specs.Script.{words_of, is_skipped, SpellsHex, SpellsIdent, SpellsIdV, SpellsId, SpellsWithin, SpellsSize, SpellsCode, SpellsBlock, fate_letter, SpellsFates, SpellsMsg, SpelledBy, Spells, least_blocks, most_blocks, least_blocks_v, most_blocks_v, least_lr, most_lr, least_miu, most_miu, least_rw, most_rw, least_limit, most_limit, least_busy, most_busy, least_times, most_times}
 use Rattle.nfca_poll.specs.Ident.{IsIdent}
 use Rattle.t5t_tag.specs.Store.{IsBlockSize}
 use Rattle.std.proofs.lemmas.Bool.{ne_eqb}
@@ -62,7 +62,7 @@ message_one word (Gen m r) (Gen n s) p q =
     cc
 
 -- a word spells one number within limits
-pub within_one : (least most : ℕ) → most < 65536 → (w : List ℕ) (m n : ℕ) → SpellsWithin least most w m → SpellsWithin least most w n → m ≡ n
+pub within_one : (least most : ℕ) → most ≤ 65536 → (w : List ℕ) (m n : ℕ) → SpellsWithin least most w m → SpellsWithin least most w n → m ≡ n
 within_one least most few w m n p q =
     decimal_injective m n (let h : m ≤ most = p.2 in omega (arith, few, h)) (let h : n ≤ most = q.2 in omega (arith, few, h)) (sym p.0 ∙ q.0)
 
@@ -127,6 +127,11 @@ dump_differs : (ws xs ys : List (List ℕ)) → ws ≡ codes "dump" ∷ xs → w
 unfolding first_byte
 dump_differs ws xs ys p q = let h : 100 ≡ 114 = ap first_byte (sym p ∙ q) in omega (arith, h)
 
+-- `inbox` isn't `fates`
+inbox_differs : (ws xs ys : List (List ℕ)) → ws ≡ codes "inbox" ∷ xs → ws ≡ codes "fates" ∷ ys → ⊥
+unfolding first_byte
+inbox_differs ws xs ys p q = let h : 105 ≡ 102 = ap first_byte (sym p ∙ q) in omega (arith, h)
+
 -- where the first words are alike, so are the values; words that differ spell no two commands
 pub spelled_one : (ws : List (List ℕ)) (c d : Command) → SpelledBy ws c → SpelledBy ws d → c ≡ d
 spelled_one ws (Fates a) (Fates b) (v, e, p) (w, f, q) =
@@ -149,6 +154,17 @@ spelled_one ws (Busy i m k) (Busy j n l) (u, v, w, e, p, r, s) (u', v', w', e', 
     let counts : m ≡ n = within_one least_busy most_busy (omega arith) v' m n (let P : List ℕ → Type 0 = λ t. SpellsWithin least_busy most_busy t m in subst P second r) r' in
     let times : k ≡ l = within_one least_times most_times (omega arith) w' k l (let P : List ℕ → Type 0 = λ t. SpellsWithin least_times most_times t k in subst P third s) s' in
     cc
+spelled_one ws (Offer i m g) (Offer j n h) (u, v, w, e, p, r, s) (u', v', w', e', p', r', s') =
+    let first : u ≡ u' = cc in
+    let second : v ≡ v' = cc in
+    let third : w ≡ w' = cc in
+    let ids : i ≡ j = id_one u' i j (let P : List ℕ → Type 0 = λ t. SpellsId t i in subst P first p) p' in
+    let keys : m ≡ n = hex_one v' m n (let P : List ℕ → Type 0 = λ t. SpellsHex t m in subst P second r) r' in
+    let values : g ≡ h = hex_one w' g h (let P : List ℕ → Type 0 = λ t. SpellsHex t g in subst P third s) s' in
+    cc
+spelled_one ws (Inbox i) (Inbox j) (v, e, p) (w, f, q) =
+    let same : v ≡ w = cc in
+    ap (λ x. let c : Command = Inbox x in c) (id_one w i j (let P : List ℕ → Type 0 = λ t. SpellsId t i in subst P same p) q)
 spelled_one ws (Dump i) (Dump j) (v, e, p) (w, f, q) =
     let same : v ≡ w = cc in
     ap (λ x. let c : Command = Dump x in c) (id_one w i j (let P : List ℕ → Type 0 = λ t. SpellsId t i in subst P same p) q)
@@ -190,10 +206,24 @@ spelled_one ws (PlaceT5 i m k g) (PlaceT5 j n l h) (u, v, w, x, e, p, r, t, s) (
     let sizes : k ≡ l = size_one w' k l (let P : List ℕ → Type 0 = λ t. SpellsSize t k in subst P third t) t' in
     let heads : g ≡ h = hex_one x' g h (let P : List ℕ → Type 0 = λ t. SpellsHex t g in subst P fourth s) s' in
     cc
+spelled_one ws (PlacePeer i m k g a) (PlacePeer j n l h b) (u, v, w, x, y, e, p, r, t, s, o) (u', v', w', x', y', e', p', r', t', s', o') =
+    let first : u ≡ u' = cc in
+    let second : v ≡ v' = cc in
+    let third : w ≡ w' = cc in
+    let fourth : x ≡ x' = cc in
+    let fifth : y ≡ y' = cc in
+    let ids : i ≡ j = ident_one u' i j (let P : List ℕ → Type 0 = λ z. SpellsIdent z i in subst P first p) p' in
+    let codes' : m ≡ n = within_one least_lr most_lr (omega arith) v' m n (let P : List ℕ → Type 0 = λ z. SpellsWithin least_lr most_lr z m in subst P second r) r' in
+    let units : k ≡ l = within_one least_miu most_miu (omega arith) w' k l (let P : List ℕ → Type 0 = λ z. SpellsWithin least_miu most_miu z k in subst P third t) t' in
+    let windows : g ≡ h = within_one least_rw most_rw (omega arith) x' g h (let P : List ℕ → Type 0 = λ z. SpellsWithin least_rw most_rw z g in subst P fourth s) s' in
+    let limits : a ≡ b = within_one least_limit most_limit (omega arith) y' a b (let P : List ℕ → Type 0 = λ z. SpellsWithin least_limit most_limit z a in subst P fifth o) o' in
+    cc
 spelled_one ws (PlaceT4 i m k g) (PlaceT5 j n l h) (u, v, w, x, e, p, r, t, s) (u', v', w', x', e', p', r', t', s') = absurd (four_differs ws (u ∷ v ∷ w ∷ x ∷ []) (u' ∷ v' ∷ w' ∷ x' ∷ []) e e')
 spelled_one ws (PlaceT5 i m k g) (PlaceT4 j n l h) (u, v, w, x, e, p, r, t, s) (u', v', w', x', e', p', r', t', s') = absurd (four_differs ws (u' ∷ v' ∷ w' ∷ x' ∷ []) (u ∷ v ∷ w ∷ x ∷ []) e' e)
 spelled_one ws (Dump i) (Read j) (v, e, p) (w, f, q) = absurd (dump_differs ws (v ∷ []) (w ∷ []) e f)
 spelled_one ws (Read i) (Dump j) (v, e, p) (w, f, q) = absurd (dump_differs ws (w ∷ []) (v ∷ []) f e)
+spelled_one ws (Inbox i) (Fates b) (v, e, p) (w, f, q) = absurd (inbox_differs ws (v ∷ []) (w ∷ []) e f)
+spelled_one ws (Fates a) (Inbox j) (v, e, p) (w, f, q) = absurd (inbox_differs ws (w ∷ []) (v ∷ []) f e)
 spelled_one ws Skip d p q = absurd p
 spelled_one ws c Skip p q = absurd q
 spelled_one ws c d p q = absurd cc
@@ -205,8 +235,11 @@ nameless w ws none some (Fates fates) (f, e, p) = none names.Fates (let h : w �
 nameless w ws none some (PlaceT2 id n head) (i, b, d, e, p, q, r) = none names.Place (let h : w ≡ codes "place" = cc in h)
 nameless w ws none some (PlaceT4 id n k head) (i, b, s, d, e, p, q, t, r) = none names.Place (let h : w ≡ codes "place" = cc in h)
 nameless w ws none some (PlaceT5 id n k head) (i, b, s, d, e, p, q, t, r) = none names.Place (let h : w ≡ codes "place" = cc in h)
+nameless w ws none some (PlacePeer id n k g o) (i, b, s, d, l, e, p, q, t, r, u) = none names.Place (let h : w ≡ codes "place" = cc in h)
 nameless w ws none some (Lock id block) (i, b, e, p, q) = none names.Lock (let h : w ≡ codes "lock" = cc in h)
 nameless w ws none some (Busy id count times) (i, k, d, e, p, q, r) = none names.Busy (let h : w ≡ codes "busy" = cc in h)
+nameless w ws none some (Offer id key value) (i, k, v, e, p, q, r) = none names.Offer (let h : w ≡ codes "offer" = cc in h)
+nameless w ws none some (Inbox id) (i, e, p) = none names.Inbox (let h : w ≡ codes "inbox" = cc in h)
 nameless w ws none some (Dump id) (i, e, p) = none names.Dump (let h : w ≡ codes "dump" = cc in h)
 nameless w ws none some (Remove id) (i, e, p) = none names.Remove (let h : w ≡ codes "remove" = cc in h)
 nameless w ws none some Find e = some (let h : ws ≡ [] = cc in h)
@@ -252,6 +285,23 @@ heads_refused ws i b s h e none (PlaceT5 id n k head) (i', b', s', h', e', p, q,
 heads_refused ws i b s h e none Skip p = p
 heads_refused ws i b s h e none c p = cc
 
+-- an offer's key and its value are HEX
+pub key_refused : (ws : List (List ℕ)) (i k v : List ℕ) → ws ≡ i ∷ k ∷ v ∷ [] → ((bytes : List ℕ) → SpellsHex k bytes → ⊥)
+    → (c : Command) → SpelledBy (codes "offer" ∷ ws) c → ⊥
+key_refused ws i k v e none (Offer id key value) (i', k', v', e', p, q, r) =
+    let same : k' ≡ k = cc in
+    none key (let P : List ℕ → Type 0 = λ t. SpellsHex t key in subst P same q)
+key_refused ws i k v e none Skip p = p
+key_refused ws i k v e none c p = cc
+
+pub value_refused : (ws : List (List ℕ)) (i k v : List ℕ) → ws ≡ i ∷ k ∷ v ∷ [] → ((bytes : List ℕ) → SpellsHex v bytes → ⊥)
+    → (c : Command) → SpelledBy (codes "offer" ∷ ws) c → ⊥
+value_refused ws i k v e none (Offer id key value) (i', k', v', e', p, q, r) =
+    let same : v' ≡ v = cc in
+    none value (let P : List ℕ → Type 0 = λ t. SpellsHex t value in subst P same r)
+value_refused ws i k v e none Skip p = p
+value_refused ws i k v e none c p = cc
+
 -- a line that is skipped spells nothing else
 onto_begins : (b : ℕ) (ws : List (List ℕ)) → first_byte (onto_first b ws) ≡ b
 unfolding first_byte
@@ -265,8 +315,11 @@ hash_begins_none ws (Fates fates) (f, e, p) h = omega (arith, h, ap first_byte e
 hash_begins_none ws (PlaceT2 id n head) (i, b, d, e, p, q, r) h = omega (arith, h, ap first_byte e)
 hash_begins_none ws (PlaceT4 id n k head) (i, b, s, d, e, p, q, t, r) h = omega (arith, h, ap first_byte e)
 hash_begins_none ws (PlaceT5 id n k head) (i, b, s, d, e, p, q, t, r) h = omega (arith, h, ap first_byte e)
+hash_begins_none ws (PlacePeer id n k g o) (i, b, s, d, l, e, p, q, t, r, u) h = omega (arith, h, ap first_byte e)
 hash_begins_none ws (Lock id block) (i, b, e, p, q) h = omega (arith, h, ap first_byte e)
 hash_begins_none ws (Busy id count times) (i, k, w, e, p, q, r) h = omega (arith, h, ap first_byte e)
+hash_begins_none ws (Offer id key value) (i, k, v, e, p, q, r) h = omega (arith, h, ap first_byte e)
+hash_begins_none ws (Inbox id) (i, e, p) h = omega (arith, h, ap first_byte e)
 hash_begins_none ws (Dump id) (i, e, p) h = omega (arith, h, ap first_byte e)
 hash_begins_none ws (Remove id) (i, e, p) h = omega (arith, h, ap first_byte e)
 hash_begins_none ws Find e h = omega (arith, h, ap first_byte e)

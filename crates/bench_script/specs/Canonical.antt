@@ -6,7 +6,7 @@ use Rattle.std.specs.Fmt.{decimal}
 use Rattle.hex.specs.Hex.{encode_upper}
 use Rattle.nfc_base.specs.declared.event.Fate.{Fate}
 use Rattle.bench_script.specs.declared.command.Command.{Command}
-use Rattle.bench_script.specs.declared.command.Command.TheVariants.{Skip, Fates, PlaceT2, PlaceT4, PlaceT5, Lock, Busy, Remove, Dump, Find, Read, Write}
+use Rattle.bench_script.specs.declared.command.Command.TheVariants.{Skip, Fates, PlaceT2, PlaceT4, PlaceT5, PlacePeer, Lock, Busy, Offer, Remove, Dump, Inbox, Find, Read, Write}
 use Rattle.bench_script.specs.declared.command.DeviceId.{DeviceId}
 use Rattle.bench_script.specs.declared.message.Msg.{Msg}
 use Rattle.bench_script.specs.declared.message.Msg.TheVariants.{Hex, Gen}
@@ -43,10 +43,14 @@ canonical_words (PlaceT4 id code container head) =
     codes "place" ∷ codes "t4" ∷ encode_upper id ∷ decimal code ∷ hex_text container ∷ hex_text head ∷ []
 canonical_words (PlaceT5 id blocks size head) =
     codes "place" ∷ codes "t5" ∷ encode_upper id ∷ decimal blocks ∷ decimal size ∷ hex_text head ∷ []
+canonical_words (PlacePeer id lr miu rw limit) =
+    codes "place" ∷ codes "peer" ∷ encode_upper id ∷ decimal lr ∷ decimal miu ∷ decimal rw ∷ decimal limit ∷ []
 canonical_words (Lock id block) = codes "lock" ∷ id_text id ∷ decimal block ∷ []
 canonical_words (Busy id count times) = codes "busy" ∷ id_text id ∷ decimal count ∷ decimal times ∷ []
+canonical_words (Offer id key value) = codes "offer" ∷ id_text id ∷ hex_text key ∷ hex_text value ∷ []
 canonical_words (Remove id) = codes "remove" ∷ id_text id ∷ []
 canonical_words (Dump id) = codes "dump" ∷ id_text id ∷ []
+canonical_words (Inbox id) = codes "inbox" ∷ id_text id ∷ []
 canonical_words Find = codes "find" ∷ []
 canonical_words (Read id) = codes "read" ∷ id_text id ∷ []
 canonical_words (Write id message) = codes "write" ∷ id_text id ∷ message_text message ∷ []

@@ -9,7 +9,7 @@ use Rattle.nfc_base.specs.declared.event.Fate.TheVariants.{Pass, Damage, Lose, B
 use Rattle.nfca_poll.specs.Ident.{IsIdent}
 use Rattle.t5t_tag.specs.Store.{IsBlockSize}
 use Rattle.bench_script.specs.declared.command.Command.{Command}
-use Rattle.bench_script.specs.declared.command.Command.TheVariants.{Skip, Fates, PlaceT2, PlaceT4, PlaceT5, Lock, Busy, Remove, Dump, Find, Read, Write}
+use Rattle.bench_script.specs.declared.command.Command.TheVariants.{Skip, Fates, PlaceT2, PlaceT4, PlaceT5, PlacePeer, Lock, Busy, Offer, Remove, Dump, Inbox, Find, Read, Write}
 use Rattle.bench_script.specs.declared.command.DeviceId.{DeviceId}
 use Rattle.bench_script.specs.declared.command.DeviceId.TheVariants.{A, V}
 use Rattle.bench_script.specs.declared.message.Msg.{Msg}
@@ -40,7 +40,7 @@ abbrev pub SpellsId : List ℕ → DeviceId → Type 0
 SpellsId word (A id) = SpellsIdent word id
 SpellsId word (V id) = SpellsIdV word id
 
--- BLOCKS, COUNT, TIMES: a decimal number without leading zeros, from the first of these limits to the second
+-- BLOCKS, LR, MIU, RW, LIMIT, COUNT, TIMES: a decimal number without leading zeros, from the first of these limits to the second
 abbrev pub SpellsWithin : ℕ → ℕ → List ℕ → ℕ → Type 0
 SpellsWithin least most word n = (word ≡ decimal n) × (least ≤ n) × (n ≤ most)
 
@@ -65,6 +65,35 @@ SpellsSize word n = (word ≡ decimal n) × IsBlockSize n
 -- CODE: how long the frames are that a Type 4 tag takes
 abbrev pub SpellsCode : List ℕ → ℕ → Type 0
 SpellsCode word n = (word ≡ decimal n) × (n ≤ most_code)
+
+-- LR: the code of the length of NFC-DEP's frames that a peer takes (ISO/IEC 18092)
+abbrev pub least_lr : ℕ
+least_lr = 0
+
+abbrev pub most_lr : ℕ
+most_lr = 3
+
+-- MIU: how many bytes of information a PDU to a peer has at most (NFC Forum LLCP)
+abbrev pub least_miu : ℕ
+least_miu = 128
+
+abbrev pub most_miu : ℕ
+most_miu = 2175
+
+-- RW: how many I PDUs a peer can take that it hasn't acknowledged (NFC Forum LLCP; a window of 0, by which every connection is
+-- refused, is left out)
+abbrev pub least_rw : ℕ
+least_rw = 1
+
+abbrev pub most_rw : ℕ
+most_rw = 15
+
+-- LIMIT: how many bytes a message has at most that a peer's SNEP server takes
+abbrev pub least_limit : ℕ
+least_limit = 1024
+
+abbrev pub most_limit : ℕ
+most_limit = 65536
 
 -- BLOCK: the number of a block, of which a device may have fewer
 abbrev pub SpellsBlock : List ℕ → ℕ → Type 0
@@ -120,8 +149,9 @@ abbrev pub is_skipped : List ℕ → Bool
 is_skipped [] = true
 is_skipped (b ∷ bs) = b == 35
 
--- `fates FATES`, `place t2 ID BLOCKS HEX`, `place t4 ID CODE HEX HEX`, `place t5 ID BLOCKS SIZE HEX`, `lock ID BLOCK`,
--- `busy ID COUNT TIMES`, `remove ID`, `dump ID`, `find`, `read ID` and `write ID MSG`
+-- `fates FATES`, `place t2 ID BLOCKS HEX`, `place t4 ID CODE HEX HEX`, `place t5 ID BLOCKS SIZE HEX`,
+-- `place peer ID LR MIU RW LIMIT`, `lock ID BLOCK`, `busy ID COUNT TIMES`, `offer ID HEX HEX`, `remove ID`, `dump ID`, `inbox ID`,
+-- `find`, `read ID` and `write ID MSG`
 abbrev pub SpelledBy : List (List ℕ) → Command → Type 0
 SpelledBy ws Skip = ⊥
 SpelledBy ws (Fates fates) = (f : List ℕ) × (ws ≡ codes "fates" ∷ f ∷ []) × SpellsFates f fates
@@ -134,12 +164,19 @@ SpelledBy ws (PlaceT4 id code container head) =
 SpelledBy ws (PlaceT5 id blocks size head) =
     (i b s h : List ℕ) × (ws ≡ codes "place" ∷ codes "t5" ∷ i ∷ b ∷ s ∷ h ∷ [])
     × SpellsIdV i id × SpellsWithin least_blocks_v most_blocks_v b blocks × SpellsSize s size × SpellsHex h head
+SpelledBy ws (PlacePeer id lr miu rw limit) =
+    (i r m w l : List ℕ) × (ws ≡ codes "place" ∷ codes "peer" ∷ i ∷ r ∷ m ∷ w ∷ l ∷ [])
+    × SpellsIdent i id × SpellsWithin least_lr most_lr r lr × SpellsWithin least_miu most_miu m miu
+    × SpellsWithin least_rw most_rw w rw × SpellsWithin least_limit most_limit l limit
 SpelledBy ws (Lock id block) = (i b : List ℕ) × (ws ≡ codes "lock" ∷ i ∷ b ∷ []) × SpellsId i id × SpellsBlock b block
 SpelledBy ws (Busy id count times) =
     (i k w : List ℕ) × (ws ≡ codes "busy" ∷ i ∷ k ∷ w ∷ [])
     × SpellsId i id × SpellsWithin least_busy most_busy k count × SpellsWithin least_times most_times w times
+SpelledBy ws (Offer id key value) =
+    (i k v : List ℕ) × (ws ≡ codes "offer" ∷ i ∷ k ∷ v ∷ []) × SpellsId i id × SpellsHex k key × SpellsHex v value
 SpelledBy ws (Remove id) = (i : List ℕ) × (ws ≡ codes "remove" ∷ i ∷ []) × SpellsId i id
 SpelledBy ws (Dump id) = (i : List ℕ) × (ws ≡ codes "dump" ∷ i ∷ []) × SpellsId i id
+SpelledBy ws (Inbox id) = (i : List ℕ) × (ws ≡ codes "inbox" ∷ i ∷ []) × SpellsId i id
 SpelledBy ws Find = ws ≡ codes "find" ∷ []
 SpelledBy ws (Read id) = (i : List ℕ) × (ws ≡ codes "read" ∷ i ∷ []) × SpellsId i id
 SpelledBy ws (Write id message) =

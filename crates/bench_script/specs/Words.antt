@@ -27,6 +27,9 @@ AreThree ws x = ws ≡ x.0.now ∷ x.1.now ∷ x.2.now ∷ []
 abbrev pub AreFour : List (List ℕ) → Bor (List ℕ) × Bor (List ℕ) × Bor (List ℕ) × Bor (List ℕ) → Type 0
 AreFour ws x = ws ≡ x.0.now ∷ x.1.now ∷ x.2.now ∷ x.3.now ∷ []
 
+abbrev pub AreFive : List (List ℕ) → Bor (List ℕ) × Bor (List ℕ) × Bor (List ℕ) × Bor (List ℕ) × Bor (List ℕ) → Type 0
+AreFive ws x = ws ≡ x.0.now ∷ x.1.now ∷ x.2.now ∷ x.3.now ∷ x.4.now ∷ []
+
 -- it isn't one word
 abbrev pub NotOne : List (List ℕ) → Type 0
 NotOne ws = (a : List ℕ) → ws ≡ a ∷ [] → ⊥
@@ -42,6 +45,10 @@ NotThree ws = (a b c : List ℕ) → ws ≡ a ∷ b ∷ c ∷ [] → ⊥
 -- ... or four
 abbrev pub NotFour : List (List ℕ) → Type 0
 NotFour ws = (a b c d : List ℕ) → ws ≡ a ∷ b ∷ c ∷ d ∷ [] → ⊥
+
+-- ... or five
+abbrev pub NotFive : List (List ℕ) → Type 0
+NotFive ws = (a b c d e : List ℕ) → ws ≡ a ∷ b ∷ c ∷ d ∷ e ∷ [] → ⊥
 
 -- no colon is in it
 abbrev pub HasNoColon : List ℕ → Type 0
@@ -61,7 +68,9 @@ name_text names.Fates = codes "fates"
 name_text names.Place = codes "place"
 name_text names.Lock = codes "lock"
 name_text names.Busy = codes "busy"
+name_text names.Offer = codes "offer"
 name_text names.Remove = codes "remove"
 name_text names.Dump = codes "dump"
+name_text names.Inbox = codes "inbox"
 name_text names.Read = codes "read"
 name_text names.Write = codes "write"

@@ -64,6 +64,15 @@ pub enum Command {
         size: u8,
         head: Items<u8>,
     },
+    /// Puts a peer into the field: a target of NFC-DEP that takes frames of this LR code, with an LLCP link of this MIU and
+    /// window, and a SNEP server that takes messages of at most `limit` bytes.
+    PlacePeer {
+        id: Ident,
+        lr: u8,
+        miu: u16,
+        rw: u8,
+        limit: u32,
+    },
     /// Locks a block of a Type 2 or Type 5 tag against writing.
     Lock {
         id: DeviceId,
@@ -75,12 +84,22 @@ pub enum Command {
         count: u8,
         times: u8,
     },
+    /// Gives a peer's server this value for a key.
+    Offer {
+        id: DeviceId,
+        key: Items<u8>,
+        value: Items<u8>,
+    },
     /// Takes a device away.
     Remove {
         id: DeviceId,
     },
     /// Shows what a tag holds.
     Dump {
+        id: DeviceId,
+    },
+    /// Shows the messages that a peer's server accepted.
+    Inbox {
         id: DeviceId,
     },
     /// Finds all devices.
@@ -134,6 +153,19 @@ impl Command {
                 size: *size,
                 head: Items::from_bytes(alloc, head.as_slice())?,
             }),
+            Command::PlacePeer {
+                id,
+                lr,
+                miu,
+                rw,
+                limit,
+            } => Ok(Command::PlacePeer {
+                id: id.copy(),
+                lr: *lr,
+                miu: *miu,
+                rw: *rw,
+                limit: *limit,
+            }),
             Command::Lock { id, block } => Ok(Command::Lock {
                 id: id.copy(),
                 block: *block,
@@ -143,8 +175,14 @@ impl Command {
                 count: *count,
                 times: *times,
             }),
+            Command::Offer { id, key, value } => Ok(Command::Offer {
+                id: id.copy(),
+                key: Items::from_bytes(alloc, key.as_slice())?,
+                value: Items::from_bytes(alloc, value.as_slice())?,
+            }),
             Command::Remove { id } => Ok(Command::Remove { id: id.copy() }),
             Command::Dump { id } => Ok(Command::Dump { id: id.copy() }),
+            Command::Inbox { id } => Ok(Command::Inbox { id: id.copy() }),
             Command::Find => Ok(Command::Find),
             Command::Read { id } => Ok(Command::Read { id: id.copy() }),
             Command::Write { id, message } => Ok(Command::Write {

@@ -8,6 +8,8 @@
 
 mod command;
 mod message;
+#[cfg(test)]
+mod peer_tests;
 mod script;
 mod writing;
 

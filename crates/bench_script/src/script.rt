@@ -12,9 +12,9 @@ use crate::command::Command;
 use std::alloc::{AllocError, Global};
 use thiserror::Error;
 use words::{
-    CommandName, block_word, code_word, cut_word, device_word, fates_word, four_words, hex_word,
-    ident_word, ident_word_v, message_word, name_of, only_word, size_word, small_word, three_words,
-    two_words, within_word,
+    CommandName, block_word, code_word, cut_word, device_word, fates_word, five_words, four_words,
+    hex_word, ident_word, ident_word_v, long_word, message_word, name_of, only_word, size_word,
+    small_word, three_words, two_words, within_word,
 };
 
 /// How many blocks a Type 2 tag that may be placed has at least, which are its header, and at most, since a read names a
@@ -27,6 +27,26 @@ const MOST_BLOCKS: u16 = 256;
 const LEAST_BLOCKS_V: u16 = 1;
 
 const MOST_BLOCKS_V: u16 = 16384;
+
+/// How long the frames of NFC-DEP are that a peer takes, by the code of their length (ISO/IEC 18092).
+const LEAST_LR: u8 = 0;
+
+const MOST_LR: u8 = 3;
+
+/// How many bytes of information a PDU to a peer may have (NFC Forum LLCP).
+const LEAST_MIU: u16 = 128;
+
+const MOST_MIU: u16 = 2175;
+
+/// How many I PDUs a peer can take that it hasn't acknowledged (NFC Forum LLCP).
+const LEAST_RW: u8 = 1;
+
+const MOST_RW: u8 = 15;
+
+/// How many bytes a message may have that a peer's server takes (this project's limits).
+const LEAST_LIMIT: u32 = 1024;
+
+const MOST_LIMIT: u32 = 65536;
 
 /// How often a device may ask for more time before an answer, and by which value.
 const LEAST_BUSY: u8 = 0;
@@ -97,8 +117,10 @@ fn command_line(alloc: Global, line: &[u8]) -> Result<Command, LineFault>
         Some(CommandName::Place) => place_line(alloc, rest),
         Some(CommandName::Lock) => lock_line(alloc, rest),
         Some(CommandName::Busy) => busy_line(alloc, rest),
+        Some(CommandName::Offer) => offer_line(alloc, rest),
         Some(CommandName::Remove) => remove_line(alloc, rest),
         Some(CommandName::Dump) => dump_line(alloc, rest),
+        Some(CommandName::Inbox) => inbox_line(alloc, rest),
         Some(CommandName::Read) => read_line(alloc, rest),
         Some(CommandName::Write) => write_line(alloc, rest),
         None => Err(LineFault::Refused),
@@ -167,6 +189,27 @@ fn busy_line(alloc: Global, rest: &[u8]) -> Result<Command, LineFault>
     }
 }
 
+/// `offer ID HEX HEX`, behind its first word.
+#[tactic(auto, using(crate::proofs::Spelling::key_refused, crate::proofs::Spelling::value_refused))]
+fn offer_line(alloc: Global, rest: &[u8]) -> Result<Command, LineFault>
+    ensures ok { IfOk result (λ c. SpelledBy (codes "offer" ∷ words_of rest.now) c) }
+    ensures refused { IsErrOf result LineFault.Refused → SpellsNone (codes "offer" ∷ words_of rest.now) }
+{
+    let Some((id_text, key_text, value_text)) = three_words(rest) else {
+        return Err(LineFault::Refused);
+    };
+    let Some(id) = device_word(alloc, id_text)? else {
+        return Err(LineFault::Refused);
+    };
+    let Some(key) = hex_word(alloc, key_text)? else {
+        return Err(LineFault::Refused);
+    };
+    match hex_word(alloc, value_text)? {
+        Some(value) => Ok(Command::Offer { id, key, value }),
+        None => Err(LineFault::Refused),
+    }
+}
+
 /// `remove ID`, behind its first word.
 fn remove_line(alloc: Global, rest: &[u8]) -> Result<Command, LineFault>
     ensures ok { IfOk result (λ c. SpelledBy (codes "remove" ∷ words_of rest.now) c) }
@@ -191,6 +234,20 @@ fn dump_line(alloc: Global, rest: &[u8]) -> Result<Command, LineFault>
     };
     match device_word(alloc, word)? {
         Some(id) => Ok(Command::Dump { id }),
+        None => Err(LineFault::Refused),
+    }
+}
+
+/// `inbox ID`, behind its first word.
+fn inbox_line(alloc: Global, rest: &[u8]) -> Result<Command, LineFault>
+    ensures ok { IfOk result (λ c. SpelledBy (codes "inbox" ∷ words_of rest.now) c) }
+    ensures refused { IsErrOf result LineFault.Refused → SpellsNone (codes "inbox" ∷ words_of rest.now) }
+{
+    let Some(word) = only_word(rest) else {
+        return Err(LineFault::Refused);
+    };
+    match device_word(alloc, word)? {
+        Some(id) => Ok(Command::Inbox { id }),
         None => Err(LineFault::Refused),
     }
 }
@@ -239,6 +296,7 @@ fn place_line(alloc: Global, rest: &[u8]) -> Result<Command, LineFault>
         b"t2" => place_t2(alloc, more),
         b"t4" => place_t4(alloc, more),
         b"t5" => place_t5(alloc, more),
+        b"peer" => place_peer(alloc, more),
         _ => Err(LineFault::Refused),
     }
 }
@@ -317,6 +375,38 @@ fn place_t5(alloc: Global, rest: &[u8]) -> Result<Command, LineFault>
             blocks,
             size,
             head,
+        }),
+        None => Err(LineFault::Refused),
+    }
+}
+
+/// `place peer ID LR MIU RW LIMIT`, behind its second word.
+fn place_peer(alloc: Global, rest: &[u8]) -> Result<Command, LineFault>
+    ensures ok { IfOk result (λ c. SpelledBy (codes "place" ∷ codes "peer" ∷ words_of rest.now) c) }
+    ensures refused { IsErrOf result LineFault.Refused → SpellsNone (codes "place" ∷ codes "peer" ∷ words_of rest.now) }
+{
+    let Some((id_text, lr_text, miu_text, rw_text, limit_text)) = five_words(rest) else {
+        return Err(LineFault::Refused);
+    };
+    let Some(id) = ident_word(alloc, id_text)? else {
+        return Err(LineFault::Refused);
+    };
+    let Some(lr) = small_word(alloc, lr_text, LEAST_LR, MOST_LR)? else {
+        return Err(LineFault::Refused);
+    };
+    let Some(miu) = within_word(alloc, miu_text, LEAST_MIU, MOST_MIU)? else {
+        return Err(LineFault::Refused);
+    };
+    let Some(rw) = small_word(alloc, rw_text, LEAST_RW, MOST_RW)? else {
+        return Err(LineFault::Refused);
+    };
+    match long_word(alloc, limit_text, LEAST_LIMIT, MOST_LIMIT)? {
+        Some(limit) => Ok(Command::PlacePeer {
+            id,
+            lr,
+            miu,
+            rw,
+            limit,
         }),
         None => Err(LineFault::Refused),
     }

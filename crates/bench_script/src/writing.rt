@@ -9,6 +9,7 @@ ghost use Rattle.bench_script.specs.Canonical.{hex_text, id_text, message_text, 
 use crate::command::{Command, DeviceId};
 use crate::message::Msg;
 use nfc_base::Fate;
+use nfca_poll::Ident;
 use std::alloc::AllocError;
 
 impl Command {
@@ -34,7 +35,7 @@ impl Command {
             Command::Skip => Ok(()),
             Command::Fates(fates) => add_fates(line, fates.as_slice()),
             Command::PlaceT2 { id, blocks, head } => {
-                add_place(line, b"t2", id.view(), *blocks)?;
+                add_place(line, b"t2", id.view(), *blocks as u32)?;
                 add_hex(line, head.as_slice())
             }
             Command::PlaceT4 {
@@ -43,7 +44,7 @@ impl Command {
                 container,
                 head,
             } => {
-                add_place(line, b"t4", id.view(), *code as u16)?;
+                add_place(line, b"t4", id.view(), *code as u32)?;
                 add_hex(line, container.as_slice())?;
                 add_hex(line, head.as_slice())
             }
@@ -53,21 +54,34 @@ impl Command {
                 size,
                 head,
             } => {
-                add_place(line, b"t5", id.as_slice(), *blocks)?;
-                add_number(line, *size as u16)?;
+                add_place(line, b"t5", id.as_slice(), *blocks as u32)?;
+                add_number(line, *size as u32)?;
                 add_hex(line, head.as_slice())
             }
+            Command::PlacePeer {
+                id,
+                lr,
+                miu,
+                rw,
+                limit,
+            } => add_peer(line, id, *lr, *miu, *rw, *limit),
             Command::Lock { id, block } => {
                 add_named(line, b"lock", id)?;
-                add_number(line, *block)
+                add_number(line, *block as u32)
             }
             Command::Busy { id, count, times } => {
                 add_named(line, b"busy", id)?;
-                add_number(line, *count as u16)?;
-                add_number(line, *times as u16)
+                add_number(line, *count as u32)?;
+                add_number(line, *times as u32)
+            }
+            Command::Offer { id, key, value } => {
+                add_named(line, b"offer", id)?;
+                add_hex(line, key.as_slice())?;
+                add_hex(line, value.as_slice())
             }
             Command::Remove { id } => add_named(line, b"remove", id),
             Command::Dump { id } => add_named(line, b"dump", id),
+            Command::Inbox { id } => add_named(line, b"inbox", id),
             Command::Find => line.extend_from_slice(b"find"),
             Command::Read { id } => add_named(line, b"read", id),
             Command::Write { id, message } => {
@@ -79,7 +93,7 @@ impl Command {
 }
 
 /// Adds `place`, a kind, an identifier and a number.
-fn add_place(line: &mut Vec<u8>, kind: &[u8], id: &[u8], number: u16) -> Result<(), AllocError>
+fn add_place(line: &mut Vec<u8>, kind: &[u8], id: &[u8], number: u32) -> Result<(), AllocError>
     ensures { OnOk result (line.new.items ≡ line.old.items ++ codes "place " ++ kind.now ++ 32 ∷ encode_upper id.now
         ++ 32 ∷ decimal number) }
 {
@@ -87,6 +101,23 @@ fn add_place(line: &mut Vec<u8>, kind: &[u8], id: &[u8], number: u16) -> Result<
     line.extend_from_slice(kind)?;
     add_digits(line, id)?;
     add_number(line, number)
+}
+
+/// Adds `place peer`, and the values of its words.
+fn add_peer(
+    line: &mut Vec<u8>,
+    id: &Ident,
+    lr: u8,
+    miu: u16,
+    rw: u8,
+    limit: u32,
+) -> Result<(), AllocError>
+    ensures { OnOk result (line.new.items ≡ line.old.items ++ canonical (Command.PlacePeer id.now lr miu rw limit)) }
+{
+    add_place(line, b"peer", id.view(), lr as u32)?;
+    add_number(line, miu as u32)?;
+    add_number(line, rw as u32)?;
+    add_number(line, limit)
 }
 
 /// Adds a command's name and an identifier.
@@ -133,11 +164,11 @@ fn add_message(line: &mut Vec<u8>, message: &Msg) -> Result<(), AllocError>
 }
 
 /// Adds a space, and a number.
-fn add_number(line: &mut Vec<u8>, number: u16) -> Result<(), AllocError>
+fn add_number(line: &mut Vec<u8>, number: u32) -> Result<(), AllocError>
     ensures { OnOk result (line.new.items ≡ line.old.items ++ 32 ∷ decimal number) }
 {
     line.push(b' ')?;
-    add_decimal(line, number as u32)
+    add_decimal(line, number)
 }
 
 /// Adds a number.

@@ -1,30 +1,27 @@
 -- A bench behind a command: spoiled by want of memory, or with an entry more.
 use Rattle.std.proofs.Common.{◌≡◌, ℕ, List, [], ◌∷◌, ◌++◌, Bool, true, false, refl, sym, ◌∙◌, ap, subst}
 use Rattle.nfc_base.specs.declared.event.Event.{Event}
-use Rattle.air_core.specs.Turn.{Air}
 use Rattle.air_core.specs.Conversation.{Over, receptions}
 use Rattle.bench_script.specs.declared.command.Command.{Command}
 use Rattle.bench_script.specs.declared.command.Command.TheVariants.{Skip}
-use Rattle.bench_devices.specs.declared.device.Device.{Device}
-use Rattle.bench_devices.specs.Phases.{IsIdle}
 use Rattle.bench_world.specs.declared.entry.Answer.{Answer}
 use Rattle.bench_world.specs.declared.entry.Entry.{Entry}
 use Rattle.bench_world.specs.Legal.{State, AnswerLaw, FrontOf, LegalStep, due}
-use Rattle.bench_world.specs.Obeying.{state_at, Obeyed, IsCutOff, Benched, Adds, Obeys, Spoils, LacksMemory}
+use Rattle.bench_world.specs.Obeying.{Machines, state_at, IsSettled, Obeyed, IsCutOff, Benched, Adds, Obeys, Spoils, LacksMemory}
 
--- what contracts see of a bench with this journal and field
-abbrev pub seen : List Entry → Air Device → Bool → Benched
-seen js a spoiled = record { journal = js; state = state_at a; cut = a.trace; spoiled = spoiled }
+-- what contracts see of a bench with this journal and these machines
+abbrev pub seen : List Entry → Machines → Bool → Benched
+seen js a spoiled = record { journal = js; state = state_at a; cut = a.air.trace; spoiled = spoiled }
 
 -- a bench that isn't spoiled isn't a spoiled one
 pub both_ways : (b : Benched) → b.spoiled ≡ false → b.spoiled ≡ true → ⊥
 both_ways b sound bad = (let clash : false ≡ true = sym sound ∙ bad in cc)
 
 -- want of memory cut a command off
-pub spoils : (old : Benched) (a b : Air Device) (js ks : List Entry) (c : Command) → old ≡ seen js a false → ks ≡ js → IsCutOff a b c → LacksMemory old (seen ks b true) c
+pub spoils : (old : Benched) (a b : Machines) (js ks : List Entry) (c : Command) → old ≡ seen js a false → ks ≡ js → IsCutOff a b c → LacksMemory old (seen ks b true) c
 spoils old a b js ks c is same cut =
     let S : List Entry → Benched → Type 0 = λ xs o. Spoils o (seen xs b true) c in
-    let it : S js (seen js a false) = record { state = state_at b; cut = b.trace; is = refl; front = cut } in
+    let it : S js (seen js a false) = record { state = state_at b; cut = b.air.trace; is = refl; front = cut } in
     (λ _. subst (λ xs. S xs old) (sym same) (subst (S js) (sym is) it), λ bad. absurd (both_ways old (ap (λ o. o.spoiled) is) bad))
 
 as_obeys : (old new : Benched) (line : ℕ) (c : Command) → (c ≡ Skip → ⊥) → Adds old new line c → Obeys old new line c
@@ -32,15 +29,15 @@ as_obeys old new line Skip other adds = absurd (other refl)
 as_obeys old new line c other adds = adds
 
 -- a command was obeyed, and its entry added
-pub adds_entry : (old : Benched) (a b k : Air Device) (js ks : List Entry) (c : Command) (answer : Answer) (e : Entry) → (c ≡ Skip → ⊥) → old ≡ seen js a false → IsIdle a → Obeyed a b c answer
-    → k ≡ record { lit = b.lit; listeners = b.listeners; fates = b.fates; trace = [] } → ks ≡ js ++ e ∷ [] → e.command ≡ c → e.events ≡ b.trace → e.answer ≡ answer → Obeys old (seen ks k false) e.line c
-adds_entry old a b k js ks c answer e other is idle o left added command events told =
+pub adds_entry : (old : Benched) (a b k : Machines) (js ks : List Entry) (c : Command) (answer : Answer) (e : Entry) → (c ≡ Skip → ⊥) → old ≡ seen js a false → IsSettled a → Obeyed a b c answer
+    → k ≡ record { air = record { lit = b.air.lit; listeners = b.air.listeners; fates = b.air.fates; trace = [] }; ends = b.ends; peers = b.peers } → ks ≡ js ++ e ∷ [] → e.command ≡ c → e.events ≡ b.air.trace → e.answer ≡ answer → Obeys old (seen ks k false) e.line c
+adds_entry old a b k js ks c answer e other is settled o left added command events told =
     let to : state_at k ≡ state_at b = ap state_at left in
     let F : List Event → State → Type 0 = λ es t. FrontOf (state_at a) o.given c es t in
-    let front : F e.events (state_at k) = subst (λ es. F es (state_at k)) (sym events) (subst (F b.trace) (sym to) o.front) in
+    let front : F e.events (state_at k) = subst (λ es. F es (state_at k)) (sym events) (subst (F b.air.trace) (sym to) o.front) in
     let over : due (state_at a) o.given c (receptions e.events) ≡ Over = ap (λ es. due (state_at a) o.given c (receptions es)) events ∙ o.over in
     let law : AnswerLaw (state_at a) o.given c e.events e.answer =
-    subst (λ es. AnswerLaw (state_at a) o.given c es e.answer) (sym events) (subst (AnswerLaw (state_at a) o.given c b.trace) (sym told) o.answered) in
+    subst (λ es. AnswerLaw (state_at a) o.given c es e.answer) (sym events) (subst (AnswerLaw (state_at a) o.given c b.air.trace) (sym told) o.answered) in
     let C : Command → Type 0 = λ x. FrontOf (state_at a) o.given x e.events (state_at k) in
     let step : LegalStep (state_at a) o.given e (state_at k) = record {
       front = subst C (sym command) front;
@@ -54,7 +51,7 @@ adds_entry old a b k js ks c answer e other is idle o left added command events 
       entry = e;
       state = state_at k;
       given = o.given;
-      is = ap (λ xs. B xs k.trace) added ∙ ap (B (js ++ e ∷ [])) (ap (λ (x : Air Device). x.trace) left ∙ sym idle.quiet);
+      is = ap (λ xs. B xs k.air.trace) added ∙ ap (B (js ++ e ∷ [])) (ap (λ (x : Machines). x.air.trace) left ∙ sym settled.idle.quiet);
       numbered = refl;
       asked = command;
       legal = step;

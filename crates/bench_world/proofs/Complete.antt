@@ -30,6 +30,7 @@ use Rattle.bench_script.specs.DeviceIds.{bytes_of}
 use Rattle.bench_world.specs.Crowded.{seen_all, is_crowd}
 use Rattle.bench_devices.specs.Crowded.{crowd_of, others_of}
 use Rattle.bench_devices.specs.Placed.{device_with, OfPlaced}
+use Rattle.bench_devices.proofs.TagOrPeer.{as_tag}
 use Rattle.bench_world.specs.Reading.{TellsOf}
 use Rattle.bench_world.specs.Completing.{IsQuietOnce, HadSixBad, IsUndisturbed, ReadsComplete, WritesComplete, ValidIsWritten, FindsComplete}
 use Rattle.bench_world.specs.Legal.{AnswerLaw, ReadLaw, WritingLaw, FindLaw}
@@ -103,7 +104,7 @@ module _ (id : DeviceId) (ds : List Device) (d : Device) (placed : device_with (
     told_by seen.T2 ns none t = standing (stand 0 asked ns) (λ left e. none (left, e)) t
     told_by seen.T4 ns none t = activated (card_stands asked ns) none t
     told_by seen.T5 ns none t = standing (stand 0 asked ns) (λ left e. none (left, e)) t
-    told_by seen.Peer ns none t = absurd t
+    told_by seen.Peer ns none t = of_placed t
 
     tag_ends : (r : Result SeenKind PollFault) (behind : List Note) (es : List Event) → IsQuietOnce id es → ((kind : SeenKind) → r ≡ Ok kind → HadSixBad kind asked behind → ⊥)
         → HasPollCause id ds r es → TagEnds Tells id ds asked r behind answer → Tells d answer
@@ -162,21 +163,21 @@ find_completes ds events answer t q n b = find_ends ds answer (λ e. no_lost (br
 pub reads_complete : ReadsComplete
 reads_complete s t g e id d step is placed named calm =
     let L : Command → Type 0 = λ c. AnswerLaw s g c e.events e.answer in
-    let law : ReadLaw s id g.asked e.events e.answer = subst L is step.answered in
-    tag_completes id s.world.listeners d placed named TellsOf g.asked e.events e.answer law.tells calm
+    let law : ReadLaw s g.joins id g.asked e.events e.answer = subst L is step.answered in
+    tag_completes id s.world.field.listeners d placed named TellsOf g.asked e.events e.answer law.tells calm
 
 pub writes_complete : WritesComplete
 writes_complete s t g e id m d step is placed named calm =
     let L : Command → Type 0 = λ c. AnswerLaw s g c e.events e.answer in
-    let law : WritingLaw s id (message_of m) g.asked e.events e.answer = subst L is step.answered in
-    tag_completes id s.world.listeners d placed named (TellsWrite (message_of m)) g.asked e.events e.answer law.tells calm
+    let law : WritingLaw s g.joins id m g.asked e.events e.answer = subst L is step.answered in
+    tag_completes id s.world.field.listeners d placed named (TellsWrite (message_of m)) g.asked e.events e.answer law.tells calm
 
 pub valid_is_written : ValidIsWritten
-valid_is_written s t g e id m d step is placed named calm valid =
-    one_written (message_of m) d e.answer answers.Written (writes_complete s t g e id m d step is placed named calm) (Ok tt, valid, refl)
+valid_is_written s t g e id m d step is placed tag named calm valid =
+    one_written (message_of m) d e.answer answers.Written (writes_complete s t g e id m d step is placed named calm) (as_tag d tag _ _ (Ok tt, valid, refl))
 
 pub finds_complete : FindsComplete
 finds_complete s t g e step is lit round once =
     let L : Command → Type 0 = λ c. AnswerLaw s g c e.events e.answer in
-    let law : FindLaw s e.events e.answer = subst L is step.answered in
-    find_completes s.world.listeners e.events e.answer law.tells round once lit
+    let law : FindLaw s g.joins e.events e.answer = subst L is step.answered in
+    find_completes s.world.field.listeners e.events e.answer law.tells round once lit

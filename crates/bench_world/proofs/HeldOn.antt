@@ -9,30 +9,33 @@ use Rattle.air_core.specs.Conversation.{Note, Over, LightUp, Asks, AreTurns, Eac
 use Rattle.air_core.proofs.Following.{trace_first}
 use Rattle.t5t_tag.proofs.Bytes.{equal_bytes}
 use Rattle.bench_script.specs.declared.command.Command.{Command}
-use Rattle.bench_script.specs.declared.command.Command.TheVariants.{Skip, Fates, PlaceT2, PlaceT4, PlaceT5, Lock, Busy, Remove, Dump, Find, Read, Write}
+use Rattle.bench_script.specs.declared.command.Command.TheVariants.{Skip, Fates, PlaceT2, PlaceT4, PlaceT5, PlacePeer, Lock, Busy, Offer, Remove, Dump, Inbox, Find, Read, Write}
 use Rattle.bench_script.specs.declared.command.DeviceId.{DeviceId}
 use Rattle.bench_script.specs.DeviceIds.{bytes_of}
 use Rattle.bench_devices.specs.declared.device.Device.{Device}
-use Rattle.bench_devices.specs.declared.device.Device.TheVariants.{T2, T4, T5}
-use Rattle.bench_devices.specs.Device.{BenchWorld, air, StablePart, stable_of, device_id, device_store, device_locked, device_busy, how_of, size_of}
+use Rattle.bench_devices.specs.declared.device.Device.TheVariants.{T2, T4, Peer, T5}
+use Rattle.bench_devices.specs.Device.{BenchWorld, air, StablePart, stable_of, device_id, device_store, device_locked, device_busy, how_of, size_of, seen_of}
 use Rattle.bench_devices.specs.Keeping.{Fixed, fixed, Kept, kept, AllStayDevices, AllKeepBut}
 use Rattle.bench_devices.specs.Placed.{device_with, without, with_changed}
 use Rattle.bench_devices.proofs.EveryFrame.{devices_stay}
 use Rattle.bench_world.specs.declared.entry.Entry.{Entry}
-use Rattle.bench_world.specs.Legal.{State, Given, AnswerLaw, ReadLaw, FindLaw, WritingLaw, LegalStep, EachLegal, changed, due, stable, state_after}
+use Rattle.bench_world.specs.World.{Stable}
+use Rattle.bench_world.specs.Legal.{State, Given, AnswerLaw, ReadLaw, FindLaw, WritingLaw, LeavesStable, FrontOf, LegalStep, EachLegal, changed, due, state_after}
 use Rattle.bench_world.specs.Behind.{Touches, LeaveAlone}
+use Rattle.bench_world.proofs.Fronts.{on_field, field_after}
 
 -- Two devices read alike: they are read in the same way, and hold the same.
 pub record ReadAlike (d e : Device) : Type 0 where
+  pub kind : seen_of e ≡ seen_of d
   pub how : how_of e ≡ how_of d
   pub size : size_of e ≡ size_of d
   pub store : device_store e ≡ device_store d
 
 alike_itself : (d : Device) → ReadAlike d d
-alike_itself d = record { how = refl; size = refl; store = refl }
+alike_itself d = record { kind = refl; how = refl; size = refl; store = refl }
 
 alike_then : (d e x : Device) → ReadAlike d e → ReadAlike e x → ReadAlike d x
-alike_then d e x p q = record { how = q.how ∙ p.how; size = q.size ∙ p.size; store = q.store ∙ p.store }
+alike_then d e x p q = record { kind = q.kind ∙ p.kind; how = q.how ∙ p.how; size = q.size ∙ p.size; store = q.store ∙ p.store }
 
 -- The device with an identifier reads as this one.
 pub record IsAlike (id : List ℕ) (d : Device) (ds : List Device) : Type 0 where
@@ -114,6 +117,7 @@ module _ (id : List ℕ) where
       let one : stable_of y ≡ stable_of x = cc in
       let rest : map stable_of es ≡ map stable_of ds = cc in
       let alike : ReadAlike x y = record {
+        kind = ap (λ (k : Fixed). k.kind) stay.0.fixed;
         how = ap (λ (k : Fixed). k.how) stay.0.fixed;
         size = ap (λ (k : Fixed). k.size) stay.0.fixed;
         store = ap (λ (k : StablePart). k.store) one;
@@ -129,7 +133,7 @@ module _ (id : List ℕ) where
       let own : device_id y ≡ device_id x = ap (λ (z : Fixed). z.id) keep.0.stays.fixed in
       let alike : pointwise nat_eq (device_id x) id ≡ true → ReadAlike x y = λ named.
       let same : kept y ≡ kept x = keep.0.other (λ e. apart (sym e ∙ equal_bytes (device_id x) id named)) in
-      record { how = ap (λ (z : Kept). z.fixed.how) same; size = ap (λ (z : Kept). z.fixed.size) same; store = ap (λ (z : Kept). z.store) same } in
+      record { kind = ap (λ (z : Kept). z.fixed.kind) same; how = ap (λ (z : Kept). z.fixed.how) same; size = ap (λ (z : Kept). z.fixed.size) same; store = ap (λ (z : Kept). z.store) same } in
       first_or_later (Found d (y ∷ es)) x ds d found (λ named is. here d y es (ap (λ i. pointwise nat_eq i id) own ∙ named) (subst (λ z. ReadAlike z y) is (alike named)))
       (λ other later. passed d y es (ap (λ i. pointwise nat_eq i id) own ∙ other) (beside_found k apart ds es d keep.1 later))
 
@@ -154,35 +158,39 @@ nothing_sent w (Answers g x ∷ es) turns each = absurd (let clash : back_of (An
 nothing_sent w (Clash g x ∷ es) turns each = absurd (let clash : back_of (Clash g x ∷ es) ≡ backs.Nothing = ap back_of turns.made ∙ trace_first air w turns.moves in cc)
 
 locked_alike : (block : ℕ) (d : Device) → ReadAlike d (device_locked block d)
-locked_alike block (T2 d) = record { how = refl; size = refl; store = refl }
-locked_alike block (T4 d) = record { how = refl; size = refl; store = refl }
-locked_alike block (T5 p) = record { how = refl; size = refl; store = refl }
+locked_alike block (T2 d) = record { kind = refl; how = refl; size = refl; store = refl }
+locked_alike block (T4 d) = record { kind = refl; how = refl; size = refl; store = refl }
+locked_alike block (Peer d) = record { kind = refl; how = refl; size = refl; store = refl }
+locked_alike block (T5 p) = record { kind = refl; how = refl; size = refl; store = refl }
 
 locked_own : (block : ℕ) (d : Device) → device_id (device_locked block d) ≡ device_id d
 locked_own block (T2 d) = refl
 locked_own block (T4 d) = refl
+locked_own block (Peer d) = refl
 locked_own block (T5 p) = refl
 
 busy_alike : (count times : ℕ) (d : Device) → ReadAlike d (device_busy count times d)
-busy_alike count times (T2 d) = record { how = refl; size = refl; store = refl }
-busy_alike count times (T4 d) = record { how = refl; size = refl; store = refl }
-busy_alike count times (T5 p) = record { how = refl; size = refl; store = refl }
+busy_alike count times (T2 d) = record { kind = refl; how = refl; size = refl; store = refl }
+busy_alike count times (T4 d) = record { kind = refl; how = refl; size = refl; store = refl }
+busy_alike count times (Peer d) = record { kind = refl; how = refl; size = refl; store = refl }
+busy_alike count times (T5 p) = record { kind = refl; how = refl; size = refl; store = refl }
 
 busy_own : (count times : ℕ) (d : Device) → device_id (device_busy count times d) ≡ device_id d
 busy_own count times (T2 d) = refl
 busy_own count times (T4 d) = refl
+busy_own count times (Peer d) = refl
 busy_own count times (T5 p) = refl
 
 -- So it is through a legal step.
-module _ (id : DeviceId) (s t : State) (g : Given) (e : Entry) (d : Device) (step : LegalStep s g e t) (found : device_with (bytes_of id) s.world.listeners ≡ Some d) where
+module _ (id : DeviceId) (s t : State) (g : Given) (e : Entry) (d : Device) (step : LegalStep s g e t) (found : device_with (bytes_of id) s.world.field.listeners ≡ Some d) where
   -- what the command itself changed, where it asks nothing
-  quiet_step : (c : Command) → e.command ≡ c → ((ns : List Note) → due s g c ns ≡ Over) → IsAlike (bytes_of id) d (changed s c).world.listeners → IsAlike (bytes_of id) d t.world.listeners
+  quiet_step : (c : Command) → e.command ≡ c → ((ns : List Note) → due s g c ns ≡ Over) → IsAlike (bytes_of id) d (changed s c).world.field.listeners → IsAlike (bytes_of id) d t.world.field.listeners
   quiet_step c is over alike =
       let each : EachDue (due s g c) [] e.events = subst (λ k. EachDue (due s g k) [] e.events) is step.front.each in
-      let turns : AreTurns air (changed s c).world e.events = subst (λ k. AreTurns air (changed s k).world e.events) is step.front.turns in
-      let none : e.events ≡ [] = nothing_sent (changed s c).world e.events turns (over_all e.events [] each) in
-      let after : t ≡ state_after s c [] = step.front.after ∙ ap (λ k. state_after s k e.events) is ∙ ap (state_after s c) none in
-      subst (λ (x : State). IsAlike (bytes_of id) d x.world.listeners) (sym after) alike
+      let turns : AreTurns air (changed s c).world.field e.events = subst (λ k. AreTurns air (changed s k).world.field e.events) is (on_field s t g e.command e.events step.front).turns in
+      let none : e.events ≡ [] = nothing_sent (changed s c).world.field e.events turns (over_all e.events [] each) in
+      let after : t ≡ state_after s g.joins c [] = step.front.after ∙ ap (λ k. state_after s g.joins k e.events) is ∙ ap (state_after s g.joins c) none in
+      subst (λ (x : State). IsAlike (bytes_of id) d x.world.field.listeners) (sym after) alike
     where
       over_all : (es before : List Event) → EachDue (due s g c) before es → EachDue (λ ns. Over) before es
       over_all [] before q = tt
@@ -192,43 +200,50 @@ module _ (id : DeviceId) (s t : State) (g : Given) (e : Entry) (d : Device) (ste
       over_all (Clash f x ∷ es) before q = over_all es (before ++ Clash f x ∷ []) q
 
   -- what was asked changed no store
-  asking_step : (c : Command) → e.command ≡ c → changed s c ≡ s → stable (replay air s.world e.events) ≡ stable s.world → IsAlike (bytes_of id) d t.world.listeners
+  asking_step : (c : Command) → e.command ≡ c → changed s c ≡ s → LeavesStable s g.joins c e.events → IsAlike (bytes_of id) d t.world.field.listeners
   asking_step c is still stays =
-      let after : t ≡ state_after s c e.events = step.front.after ∙ ap (λ k. state_after s k e.events) is in
-      let world : t.world ≡ replay air s.world e.events = ap (λ (x : State). x.world) after ∙ ap (λ (x : State). replay air x.world e.events) still in
-      subst (λ (w : BenchWorld). IsAlike (bytes_of id) d w.listeners) (sym world)
-      (stays_found (bytes_of id) s.world.listeners (replay air s.world e.events).listeners d (devices_stay s.world e.events) stays found)
+      let front : FrontOf s g c e.events t = subst (λ k. FrontOf s g k e.events t) is step.front in
+      let after : (state_after s g.joins c e.events).world.field ≡ replay air (changed s c).world.field e.events = field_after s t g c e.events front in
+      let on : t.world.field ≡ replay air (changed s c).world.field e.events = (on_field s t g c e.events front).field in
+      let same : map stable_of (replay air (changed s c).world.field e.events).listeners ≡ map stable_of (changed s c).world.field.listeners =
+      sym (ap (λ (w : BenchWorld). map stable_of w.listeners) after) ∙ ap (λ (z : Stable). z.devices) stays in
+      let there : device_with (bytes_of id) (changed s c).world.field.listeners ≡ Some d = ap (λ (x : State). device_with (bytes_of id) x.world.field.listeners) still ∙ found in
+      subst (λ (w : BenchWorld). IsAlike (bytes_of id) d w.listeners) (sym on)
+      (stays_found (bytes_of id) (changed s c).world.field.listeners (replay air (changed s c).world.field e.events).listeners d (devices_stay (changed s c).world.field e.events) same there)
 
   law_of : (c : Command) → e.command ≡ c → AnswerLaw s g c e.events e.answer
   law_of c is = subst (λ k. AnswerLaw s g k e.events e.answer) is step.answered
 
-  by_command : (c : Command) → e.command ≡ c → (Touches id c → ⊥) → IsAlike (bytes_of id) d t.world.listeners
+  by_command : (c : Command) → e.command ≡ c → (Touches id c → ⊥) → IsAlike (bytes_of id) d t.world.field.listeners
   by_command Skip is alone = absurd (law_of Skip is)
-  by_command (Fates fates) is alone = quiet_step (Fates fates) is (λ ns. refl) (still_found (bytes_of id) s.world.listeners d found)
-  by_command (PlaceT2 i blocks head) is alone = quiet_step (PlaceT2 i blocks head) is (λ ns. refl) (more_found (bytes_of id) s.world.listeners _ d found)
-  by_command (PlaceT4 i code container head) is alone = quiet_step (PlaceT4 i code container head) is (λ ns. refl) (more_found (bytes_of id) s.world.listeners _ d found)
-  by_command (PlaceT5 i blocks size head) is alone = quiet_step (PlaceT5 i blocks size head) is (λ ns. refl) (more_found (bytes_of id) s.world.listeners _ d found)
+  by_command (Fates fates) is alone = quiet_step (Fates fates) is (λ ns. refl) (still_found (bytes_of id) s.world.field.listeners d found)
+  by_command (PlaceT2 i blocks head) is alone = quiet_step (PlaceT2 i blocks head) is (λ ns. refl) (more_found (bytes_of id) s.world.field.listeners _ d found)
+  by_command (PlaceT4 i code container head) is alone = quiet_step (PlaceT4 i code container head) is (λ ns. refl) (more_found (bytes_of id) s.world.field.listeners _ d found)
+  by_command (PlaceT5 i blocks size head) is alone = quiet_step (PlaceT5 i blocks size head) is (λ ns. refl) (more_found (bytes_of id) s.world.field.listeners _ d found)
+  by_command (PlacePeer i lr miu rw limit) is alone = quiet_step (PlacePeer i lr miu rw limit) is (λ ns. refl) (more_found (bytes_of id) s.world.field.listeners _ d found)
   by_command (Lock i block) is alone =
-      quiet_step (Lock i block) is (λ ns. refl) (changed_found (bytes_of id) (device_locked block) (bytes_of i) (locked_own block) (locked_alike block) s.world.listeners d found)
+      quiet_step (Lock i block) is (λ ns. refl) (changed_found (bytes_of id) (device_locked block) (bytes_of i) (locked_own block) (locked_alike block) s.world.field.listeners d found)
   by_command (Busy i count times) is alone =
-      quiet_step (Busy i count times) is (λ ns. refl) (changed_found (bytes_of id) (device_busy count times) (bytes_of i) (busy_own count times) (busy_alike count times) s.world.listeners d found)
-  by_command (Remove i) is alone = quiet_step (Remove i) is (λ ns. refl) (fewer_found (bytes_of id) (bytes_of i) s.world.listeners d alone found)
-  by_command (Dump i) is alone = quiet_step (Dump i) is (λ ns. refl) (still_found (bytes_of id) s.world.listeners d found)
-  by_command Find is alone = let law : FindLaw s e.events e.answer = law_of Find is in asking_step Find is refl law.stays
-  by_command (Read i) is alone = let law : ReadLaw s i g.asked e.events e.answer = law_of (Read i) is in asking_step (Read i) is refl law.stays
+      quiet_step (Busy i count times) is (λ ns. refl) (changed_found (bytes_of id) (device_busy count times) (bytes_of i) (busy_own count times) (busy_alike count times) s.world.field.listeners d found)
+  by_command (Offer i key value) is alone = quiet_step (Offer i key value) is (λ ns. refl) (still_found (bytes_of id) s.world.field.listeners d found)
+  by_command (Remove i) is alone = quiet_step (Remove i) is (λ ns. refl) (fewer_found (bytes_of id) (bytes_of i) s.world.field.listeners d alone found)
+  by_command (Dump i) is alone = quiet_step (Dump i) is (λ ns. refl) (still_found (bytes_of id) s.world.field.listeners d found)
+  by_command (Inbox i) is alone = quiet_step (Inbox i) is (λ ns. refl) (still_found (bytes_of id) s.world.field.listeners d found)
+  by_command Find is alone = let law : FindLaw s g.joins e.events e.answer = law_of Find is in asking_step Find is refl law.stays
+  by_command (Read i) is alone = let law : ReadLaw s g.joins i g.asked e.events e.answer = law_of (Read i) is in asking_step (Read i) is refl law.stays
   by_command (Write i m) is alone =
-      let law : WritingLaw s i _ g.asked e.events e.answer = law_of (Write i m) is in
-      let after : t ≡ state_after s (Write i m) e.events = step.front.after ∙ ap (λ k. state_after s k e.events) is in
-      subst (λ (x : State). IsAlike (bytes_of id) d x.world.listeners) (sym after)
-      (beside_found (bytes_of id) (bytes_of i) alone s.world.listeners (replay air s.world e.events).listeners d law.stores.others found)
+      let law : WritingLaw s g.joins i m g.asked e.events e.answer = law_of (Write i m) is in
+      let after : t ≡ state_after s g.joins (Write i m) e.events = step.front.after ∙ ap (λ k. state_after s g.joins k e.events) is in
+      subst (λ (x : State). IsAlike (bytes_of id) d x.world.field.listeners) (sym after)
+      (beside_found (bytes_of id) (bytes_of i) alone s.world.field.listeners (state_after s g.joins (Write i m) e.events).world.field.listeners d law.stores.others found)
 
-  pub step_alike : (Touches id e.command → ⊥) → IsAlike (bytes_of id) d t.world.listeners
+  pub step_alike : (Touches id e.command → ⊥) → IsAlike (bytes_of id) d t.world.field.listeners
   step_alike alone = by_command e.command refl alone
 
 -- ... and through some of them.
-pub steps_alike : (id : DeviceId) (s t : State) (gs : List Given) (es : List Entry) (d : Device) → EachLegal s gs es t → LeaveAlone id es → device_with (bytes_of id) s.world.listeners ≡ Some d
-    → IsAlike (bytes_of id) d t.world.listeners
-steps_alike id s t [] [] d legal alone found = subst (λ (x : State). IsAlike (bytes_of id) d x.world.listeners) (sym legal) (still_found (bytes_of id) s.world.listeners d found)
+pub steps_alike : (id : DeviceId) (s t : State) (gs : List Given) (es : List Entry) (d : Device) → EachLegal s gs es t → LeaveAlone id es → device_with (bytes_of id) s.world.field.listeners ≡ Some d
+    → IsAlike (bytes_of id) d t.world.field.listeners
+steps_alike id s t [] [] d legal alone found = subst (λ (x : State). IsAlike (bytes_of id) d x.world.field.listeners) (sym legal) (still_found (bytes_of id) s.world.field.listeners d found)
 steps_alike id s t [] (e ∷ es) d legal alone found = absurd legal
 steps_alike id s t (g ∷ gs) [] d legal alone found = absurd legal
 steps_alike id s t (g ∷ gs) (e ∷ es) d legal alone found =

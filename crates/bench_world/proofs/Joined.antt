@@ -1,10 +1,11 @@
 -- The pieces of a line, joined.
-use Rattle.std.proofs.Common.{◌≡◌, ℕ, ◌+◌, ◌*◌, ◌/◌, ◌%◌, ◌<◌, arith, List, [], ◌∷◌, ◌++◌, length, take, drop, sym, ◌∙◌, ap, append_assoc, append-nil, refl}
+use Rattle.std.proofs.Common.{◌≡◌, ℕ, ◌*◌, ◌/◌, ◌%◌, ◌<◌, arith, List, [], ◌∷◌, ◌++◌, length, take, drop, sym, ◌∙◌, ap, append_assoc, append-nil, refl}
 use Rattle.std.specs.Prelude.{slice_index, min}
 use Rattle.std.specs.List.{flat_map}
 use Rattle.std.proofs.lemmas.List.{take-append-drop, length-append}
+use Rattle.bench_world.specs.declared.entry.Received.{Received}
 use Rattle.bench_world.specs.declared.entry.Seen.{Seen}
-use Rattle.bench_world.specs.Report.{seen_text}
+use Rattle.bench_world.specs.Report.{seen_text, received_text}
 use Rattle.hex.specs.Hex.{encode_with, encode_upper, upper_digits}
 use Rattle.bench_script.specs.Canonical.{hex_text}
 
@@ -46,6 +47,11 @@ pub found_parts : (d f c l e n head tail : List ℕ) → head ≡ (d ++ f) ++ c 
 found_parts d f c l e n head tail first last =
     ap (λ x. head ++ (x ++ (l ++ tail))) upper_nil ∙ ap (λ x. x ++ (l ++ tail)) (first ∙ append_assoc d f c) ∙ ap (λ x. (d ++ (f ++ c)) ++ (l ++ x)) last ∙ line_parts d (f ++ c) l e n
 
+-- with a number and a list that ends the line
+pub inbox_parts : (d f c l n head tail : List ℕ) → head ≡ (d ++ f) ++ c → tail ≡ n → head ++ (encode_upper [] ++ (l ++ tail)) ≡ (d ++ ((f ++ c) ++ l)) ++ n
+inbox_parts d f c l n head tail first last =
+    found_parts d f c l [] n head tail first last ∙ ap (λ x. (d ++ x) ++ n) (append-nil ((f ++ c) ++ l))
+
 -- nothing stands before the rest
 pub nothing_before : (head bytes rest : List ℕ) → head ≡ [] → bytes ≡ [] → head ++ (encode_upper bytes ++ rest) ≡ rest
 nothing_before head bytes rest none few = ap (λ x. x ++ (encode_upper bytes ++ rest)) none ∙ ap (λ x. encode_upper x ++ rest) few ∙ ap (λ x. x ++ rest) upper_nil
@@ -73,16 +79,35 @@ device_piece head bytes tail piece devices ds d none few parts is =
     ∙ ap (λ x. x ++ (flat_map seen_text ds ++ tail)) (sym is)
     ∙ ap (λ x. piece ++ x) (sym (nothing_before head bytes (flat_map seen_text ds ++ tail) none few))
 
--- what is left at last
-pub last_left : (head bytes tail : List ℕ) (devices : List Seen) → head ≡ [] → bytes ≡ [] → devices ≡ [] → head ++ (encode_upper bytes ++ (flat_map seen_text devices ++ tail)) ≡ tail
-last_left head bytes tail devices none few gone =
-    nothing_before head bytes (flat_map seen_text devices ++ tail) none few ∙ ap (λ x. flat_map seen_text x ++ tail) gone
+-- what is left behind the devices
+pub behind_devices : (head bytes rest : List ℕ) (devices : List Seen) → head ≡ [] → bytes ≡ [] → devices ≡ [] → head ++ (encode_upper bytes ++ (flat_map seen_text devices ++ rest)) ≡ rest
+behind_devices head bytes rest devices none few gone =
+    nothing_before head bytes (flat_map seen_text devices ++ rest) none few ∙ ap (λ x. flat_map seen_text x ++ rest) gone
 
-pub tail_piece : (head bytes tail piece after : List ℕ) (devices : List Seen) → head ≡ [] → bytes ≡ [] → devices ≡ [] → piece ≡ tail → after ≡ []
-    → head ++ (encode_upper bytes ++ (flat_map seen_text devices ++ tail)) ≡ piece ++ (head ++ (encode_upper bytes ++ (flat_map seen_text devices ++ after)))
-tail_piece head bytes tail piece after devices none few gone is over =
-    last_left head bytes tail devices none few gone ∙ sym is ∙ sym (append-nil piece)
-    ∙ ap (λ x. piece ++ x) (sym (last_left head bytes after devices none few gone ∙ over))
+-- a message's origin is a piece, and its digits come next
+pub message_piece : (head bytes message tail piece : List ℕ) (devices : List Seen) (messages rs : List Received) (r : Received) → head ≡ [] → bytes ≡ [] → devices ≡ [] → messages ≡ r ∷ rs → received_text r ≡ piece ++ encode_upper message
+    → head ++ (encode_upper bytes ++ (flat_map seen_text devices ++ (flat_map received_text messages ++ tail)))
+    ≡ piece ++ (head ++ (encode_upper message ++ (flat_map seen_text devices ++ (flat_map received_text rs ++ tail))))
+message_piece head bytes message tail piece devices messages rs r none few gone parts is =
+    let rest : List ℕ = flat_map received_text rs ++ tail in
+    behind_devices head bytes (flat_map received_text messages ++ tail) devices none few gone
+    ∙ ap (λ x. flat_map received_text x ++ tail) parts ∙ append_assoc (received_text r) (flat_map received_text rs) tail
+    ∙ ap (λ x. x ++ rest) is ∙ append_assoc piece (encode_upper message) rest
+    ∙ ap (λ x. piece ++ (encode_upper message ++ (flat_map seen_text x ++ rest))) (sym gone)
+    ∙ ap (λ x. piece ++ (x ++ (encode_upper message ++ (flat_map seen_text devices ++ rest)))) (sym none)
+
+-- what is left at last
+pub last_left : (head bytes tail : List ℕ) (devices : List Seen) (messages : List Received) → head ≡ [] → bytes ≡ [] → devices ≡ [] → messages ≡ []
+    → head ++ (encode_upper bytes ++ (flat_map seen_text devices ++ (flat_map received_text messages ++ tail))) ≡ tail
+last_left head bytes tail devices messages none few gone read =
+    behind_devices head bytes (flat_map received_text messages ++ tail) devices none few gone ∙ ap (λ x. flat_map received_text x ++ tail) read
+
+pub tail_piece : (head bytes tail piece after : List ℕ) (devices : List Seen) (messages : List Received) → head ≡ [] → bytes ≡ [] → devices ≡ [] → messages ≡ [] → piece ≡ tail → after ≡ []
+    → head ++ (encode_upper bytes ++ (flat_map seen_text devices ++ (flat_map received_text messages ++ tail)))
+    ≡ piece ++ (head ++ (encode_upper bytes ++ (flat_map seen_text devices ++ (flat_map received_text messages ++ after))))
+tail_piece head bytes tail piece after devices messages none few gone read is over =
+    last_left head bytes tail devices messages none few gone read ∙ sym is ∙ sym (append-nil piece)
+    ∙ ap (λ x. piece ++ x) (sym (last_left head bytes after devices messages none few gone read ∙ over))
 
 pub less_left : (old piece new : List ℕ) → old ≡ piece ++ new → 0 < length piece → length new < length old
 less_left old piece new is some = omega (arith, some, ap length is, length-append piece new)

@@ -1,5 +1,5 @@
 -- Commands that were obeyed, and journals.
-use Rattle.std.proofs.Common.{◌≡◌, ◌↔◌, ℕ, ◌+◌, ◌<◌, List, [], ◌∷◌, ◌++◌, map, Option, Some, None, Result, Ok, Err, refl, sym, ◌∙◌, ap, subst, arith, inl, inr}
+use Rattle.std.proofs.Common.{◌≡◌, ◌↔◌, ℕ, ◌+◌, ◌<◌, List, [], ◌∷◌, ◌++◌, map, length, true, false, Option, Some, None, Result, Ok, Err, refl, sym, ◌∙◌, ap, subst, arith, inl, inr}
 use Rattle.std.proofs.lemmas.Bool.{cases_lt}
 use Rattle.std.proofs.lemmas.List.{append-nil}
 use Rattle.nfc_base.specs.declared.event.Event.{Event}
@@ -21,7 +21,7 @@ use Rattle.bench_script.specs.declared.command.Command.TheVariants.{Find, Read}
 use Rattle.bench_script.specs.declared.command.DeviceId.{DeviceId}
 use Rattle.bench_script.specs.declared.command.DeviceId.TheVariants.{A, V}
 use Rattle.bench_devices.specs.declared.device.Device.{Device}
-use Rattle.bench_devices.specs.declared.device.Device.TheVariants.{T2, T4, T5}
+use Rattle.bench_devices.specs.declared.device.Device.TheVariants.{T2, T4, Peer, T5}
 use Rattle.bench_world.specs.declared.entry.Answer.{Answer}
 use Rattle.bench_world.specs.declared.entry.Answer.TheVariants as answers
 use Rattle.bench_devices.specs.declared.polling.SeenKind.{SeenKind}
@@ -29,16 +29,25 @@ use Rattle.bench_devices.specs.declared.polling.SeenKind.TheVariants as seen
 use Rattle.bench_devices.specs.CardAsking.{tag_next}
 use Rattle.bench_world.specs.Answering.{TagTells, TellsFault, TellsFound, poll_answer, told_by}
 use Rattle.bench_devices.specs.TagAsking.{then_asks, tag_due}
-use Rattle.bench_devices.specs.Device.{air, StablePart, stable_of, device_store, how_of, size_of, seen_of}
+use Rattle.bench_devices.specs.Device.{air, devices, device_linked, StablePart, stable_of, device_store, how_of, size_of, seen_of, is_tag, IfTag}
+use Rattle.bench_devices.specs.Answering.{TellsBy}
+use Rattle.bench_devices.proofs.TagOrPeer.{as_tag, as_peer, peer_seen}
 use Rattle.bench_script.specs.DeviceIds.{bytes_of}
 use Rattle.bench_devices.specs.Polling.{Followed, Asks as Requests, Told, follows, kind_by, seen_kind, pick_v, asks, selecting, finding_all}
-use Rattle.bench_world.specs.Reading.{Tells, TellsOf}
-use Rattle.bench_devices.specs.Reading.{AsksOf, ShowsOf}
-use Rattle.bench_world.specs.Legal.{State, Given, Accepts, IsAskedBy, AnswerLaw, FrontOf, changed, due, stable}
+use Rattle.bench_world.specs.Reading.{Tells, TellsOf, ReadAsks}
+use Rattle.bench_devices.specs.Reading.{ShowsOf}
+use Rattle.bench_world.specs.Legal.{State, Given, Accepts, IsAskedBy, AnswerLaw, FrontOf, changed, due}
 use Rattle.bench_devices.specs.Placed.{OfPlaced, IfPlaced, device_with}
 use Rattle.bench_devices.specs.Keeping.{Kept, kept, IsSound, Changes, NoStore, Leaves}
 use Rattle.bench_devices.specs.Phases.{AskedPart, SelectionCut, ReadsSome, FailsRead, IsIdle, Selects, SelectsAt, Stands, Reads, ReadsAt, CutAt, Searches, SearchesField, SearchCut}
-use Rattle.bench_world.specs.Obeying.{state_at, Obeyed, IsCutOff}
+use Rattle.bench_world.specs.Obeying.{Machines, state_at, HasPlaces, IsSettled, Obeyed, ObeyedBelow, IsCutOff, CutOffBelow}
+use Rattle.bench_world.specs.World.{WholeWorld, bench_air, stable}
+use Rattle.bench_world.specs.Peers.{Peers}
+use Rattle.far_air.specs.FarLaws.{seen}
+use Rattle.far_air.specs.FarWorld.{with_numbers}
+use Rattle.far_air.specs.Quietly.{NoneHands}
+use Rattle.peer_air.specs.PeerFars.{peer_ends}
+use Rattle.bench_world.proofs.Fronts.{Ends, world_behind, none_hand, stretch, stable_behind, as_long}
 use Rattle.tag_reader.specs.Asked.{IsAsked}
 use Rattle.tag_reader.specs.declared.fault.ReadFault.{ReadFault}
 use Rattle.tag_reader.specs.declared.fault.ReadFault.TheVariants as reading
@@ -46,6 +55,7 @@ use Rattle.tag_reader.specs.declared.found.Found.{Found}
 use Rattle.bench_devices.specs.declared.sweeping.Everybody.{Everybody}
 use Rattle.bench_world.proofs.Telling.{six_told, tells_as, shows_tells, fails_tells, lost_told, found_told}
 use Rattle.tag_reader.proofs.FileAsked.{file_asked}
+use Rattle.bench_world.proofs.Placed.{Upon, beneath}
 use Rattle.bench_world.proofs.Placing.{map-over, IsWith, is_with, with_sound}
 use Rattle.bench_devices.proofs.Following.{ToldOn, told_on}
 use Rattle.bench_devices.proofs.ReadingTags.{some_asked}
@@ -90,92 +100,114 @@ polls_first asked (Told r ns) (Asks f) h d = absurd cc
 
 -- what stays of devices that are kept
 abbrev stable_in : Kept → StablePart
-stable_in k = record { store = k.store; locked = k.fixed.locked; made = k.fixed.made }
+stable_in k = record { store = k.store; locked = k.fixed.locked; made = k.fixed.made; target = k.fixed.target }
 
 stores_kept : (ls : List Device) → map stable_of ls ≡ map stable_in (map kept ls)
 stores_kept [] = refl
 stores_kept (d ∷ ls) = ap (λ xs. stable_of d ∷ xs) (stores_kept ls)
 
--- nothing that stays changed
+-- nothing that stays of the devices changed
 stores_stay : (old new : Air Device) (es : List Event) → (moment new).world ≡ replay air (moment old).world es → map kept new.listeners ≡ map kept old.listeners
-    → stable (replay air (state_at old).world es) ≡ stable (state_at old).world
+    → map stable_of (replay air (moment old).world es).listeners ≡ map stable_of old.listeners
 stores_stay old new es world same =
-    ap stable (sym world) ∙ stores_kept new.listeners ∙ ap (map stable_in) same ∙ sym (stores_kept old.listeners)
+    ap (λ (w : World Device). map stable_of w.listeners) (sym world) ∙ stores_kept new.listeners ∙ ap (map stable_in) same ∙ sym (stores_kept old.listeners)
 
--- nor where it was cut off
-pub part_stays : (old new : Air Device) (es : List Event) → IsIdle old → moment new ≡ with_events air (moment old) es → map kept new.listeners ≡ map kept old.listeners
-    → stable (replay air (state_at old).world new.trace) ≡ stable (state_at old).world
-part_stays old new es idle made same =
+-- nor of the far ends, where it was cut off
+part_stays : (os : Ends) (old new : Air Device) (es : List Event) → IsIdle old → moment new ≡ with_events air (moment old) es → map kept new.listeners ≡ map kept old.listeners
+    → NoneHands devices (moment old).world es → stable (world_behind os (moment old).world new.trace) ≡ stable (seen device_linked peer_ends (moment old).world os [])
+part_stays os old new es idle made same none =
     let trace : new.trace ≡ es = ap (λ (t : Moment (World Device)). t.trace) made ∙ ap (λ t. t ++ es) idle.quiet in
     let world : (moment new).world ≡ replay air (moment old).world es = ap (λ (t : Moment (World Device)). t.world) made in
-    ap (λ t. stable (replay air (state_at old).world t)) trace ∙ stores_stay old new es world same
+    ap (λ t. stable (world_behind os (moment old).world t)) trace ∙ stable_behind (moment old).world es os none (stores_stay old new es world same)
 
--- a step whose command asks these
+-- a step whose command asks these, and whose entry has no numbers
 abbrev pub asks_for : List Signal → Given
-asks_for asked = record { asked = asked }
+asks_for asked = record { asked = asked; joins = [] }
+
+-- the state of a field under what stands above it
+abbrev pub above : Upon → Air Device → State
+above os a = state_at (beneath os a)
+
+-- in what is due in a command no device hands anything over
+pub none_in : (os : Upon) (old new : Air Device) (c : Command) (asked : List Signal) (ns : List Note) → (g : Going air (due (above os old) (asks_for asked) c) (moment old) (moment new) ns)
+    → IsAskedBy (above os old) c asked → NoneHands devices (moment old).world g.events
+none_in os old new c asked ns g asked_by = none_hand (above os old) (asks_for asked) c g.events asked_by g.each g.fresh (moment old).world
 
 -- the trace of an idle field is what happened since
 pub trace_is : (old new : Air Device) (next : List Note → Next) (ns : List Note) (g : Going air next (moment old) (moment new) ns) → IsIdle old → new.trace ≡ g.events
 trace_is old new next ns g idle = ap (λ (t : Moment (World Device)). t.trace) g.moment ∙ ap (λ t. t ++ g.events) idle.quiet
 
 -- what was asked is a front of the command's step
-pub front_of : (old new : Air Device) (c : Command) (asked : List Signal) (ns : List Note) → IsIdle old → Accepts (state_at old) c → changed (state_at old) c ≡ state_at old
-    → Going air (due (state_at old) (asks_for asked) c) (moment old) (moment new) ns → IsAskedBy (state_at old) c asked → FrontOf (state_at old) (asks_for asked) c new.trace (state_at new)
-front_of old new c asked ns idle accepted still g asked_by =
-    let st : State = state_at old in
+pub front_of : (os : Upon) (old new : Air Device) (c : Command) (asked : List Signal) (ns : List Note) → IsIdle old → Accepts (above os old) c → changed (above os old) c ≡ above os old
+    → Going air (due (above os old) (asks_for asked) c) (moment old) (moment new) ns → IsAskedBy (above os old) c asked → FrontOf (above os old) (asks_for asked) c new.trace (above os new)
+front_of os old new c asked ns idle accepted still g asked_by =
+    let st : State = above os old in
     let es : List Event = g.events in
+    let q = stretch (moment old).world es os.ends (none_in os old new c asked ns g asked_by) in
     let trace : new.trace ≡ es = trace_is old new (due st (asks_for asked) c) ns g idle in
-    let world : (moment new).world ≡ replay air st.world es = ap (λ (t : Moment (World Device)). t.world) g.moment in
+    let world : (moment new).world ≡ replay air (moment old).world es = ap (λ (t : Moment (World Device)). t.world) g.moment in
     let queue : new.fates ≡ queue_after old.fates es = ap (λ (t : Moment (World Device)). t.queue) g.moment in
-    let T : State → Type 0 = λ s. AreTurns air s.world es in
+    let T : State → Type 0 = λ s. AreTurns bench_air (with_numbers s.world []) es in
     let F : State → Type 0 = λ s. FatesFrom s.queue es in
-    let S : World Device → List Fate → State = λ w q. record { world = w; queue = q } in
-    let P : List Event → Type 0 = λ t. FrontOf st (asks_for asked) c t (state_at new) in
+    let S : WholeWorld → List Fate → Peers → State = λ w f ps. record { world = with_numbers w []; queue = f; peers = ps } in
+    let P : List Event → Type 0 = λ t. FrontOf st (asks_for asked) c t (above os new) in
     let front : P es = record {
       accepted = accepted;
       asks = asked_by;
-      turns = subst T (sym still) g.turns;
+      turns = subst T (sym still) (q.turns.1 g.turns);
       fates = subst F (sym still) g.fates;
       each = g.each;
-      after = ap (λ w. S w new.fates) world ∙ ap (S (replay air st.world es)) queue ∙ ap (λ (s : State). S (replay air s.world es) (queue_after s.queue es)) (sym still);
+      after = ap (λ w. S (seen device_linked peer_ends w os.ends []) new.fates os.peers) world ∙ ap (λ f. S (seen device_linked peer_ends (replay air (moment old).world es) os.ends []) f os.peers) queue
+          ∙ ap (λ w. S w (queue_after old.fates es) os.peers) (sym q.after)
+          ∙ ap (λ (s : State). S (replay bench_air (with_numbers s.world []) es) (queue_after s.queue es) s.peers) (sym still);
     } in
     subst P (sym trace) front
 
 -- a command that asks, and changes nothing itself, whatever it may have changed of what stays
-pub asks_obeyed : (what : Changes) (old new : Air Device) (c : Command) (asked : List Signal) (ns : List Note) (answer : Answer) → IsIdle old → Accepts (state_at old) c → changed (state_at old) c ≡ state_at old
-    → (g : Going air (due (state_at old) (asks_for asked) c) (moment old) (moment new) ns) → due (state_at old) (asks_for asked) c ns ≡ Over → IsAskedBy (state_at old) c asked
-    → AnswerLaw (state_at old) (asks_for asked) c g.events answer
-    → Leaves what (moment old).world g.events (moment new).world → Obeyed old new c answer
-asks_obeyed what old new c asked ns answer idle accepted still g over asked_by law left =
-    let st : State = state_at old in
+pub asks_obeyed : (what : Changes) (os : Upon) (old new : Air Device) (c : Command) (asked : List Signal) (ns : List Note) (answer : Answer) → IsIdle old → HasPlaces (beneath os old)
+    → Accepts (above os old) c → changed (above os old) c ≡ above os old
+    → (g : Going air (due (above os old) (asks_for asked) c) (moment old) (moment new) ns) → due (above os old) (asks_for asked) c ns ≡ Over → IsAskedBy (above os old) c asked
+    → AnswerLaw (above os old) (asks_for asked) c g.events answer
+    → Leaves what (moment old).world g.events (moment new).world → Obeyed (beneath os old) (beneath os new) c answer
+asks_obeyed what os old new c asked ns answer idle places accepted still g over asked_by law left =
+    let st : State = above os old in
     let trace : new.trace ≡ g.events = trace_is old new (due st (asks_for asked) c) ns g idle in
+    let world : (moment new).world ≡ replay air (moment old).world g.events = ap (λ (t : Moment (World Device)). t.world) g.moment in
+    let as_many : length old.listeners ≡ length new.listeners = sym (ap (λ (w : World Device). length w.listeners) world ∙ as_long (moment old).world g.events) in
     record {
       given = asks_for asked;
-      front = front_of old new c asked ns idle accepted still g asked_by;
+      front = front_of os old new c asked ns idle accepted still g asked_by;
       over = ap (λ es. due st (asks_for asked) c (receptions es)) trace ∙ ap (due st (asks_for asked) c) g.known ∙ over;
       answered = subst (λ es. AnswerLaw st (asks_for asked) c es answer) (sym trace) law;
       tame = left_tame what (moment old).world g.events (moment new).world left idle.tame;
       tidy = going_tidy (due st (asks_for asked) c) (moment old) (moment new) ns g idle.tidy;
+      places = record { ends = places.ends ∙ as_many; numbers = places.numbers ∙ as_many };
     }
 
 -- all devices were searched for
-pub search_obeyed : (old new : Air Device) (r : Result Everybody PollFault) (answer : Answer) → IsIdle old → Searches (moment old) (moment new) r → TellsFound r answer → Obeyed old new Find answer
-search_obeyed old new r answer idle s told =
-    let world : (moment new).world ≡ replay air (moment old).world s.asked.going.events = ap (λ (t : Moment (World Device)). t.world) s.asked.going.moment in
-    asks_obeyed NoStore old new Find [] s.asked.notes answer idle tt refl s.asked.going s.asked.over refl
-    (record { tells = found_told r answer told old.listeners s.asked.going.events s.tells; stays = stores_stay old new s.asked.going.events world s.asked.same }) s.asked.same
+pub search_obeyed : (old new : Air Device) (r : Result Everybody PollFault) (answer : Answer) → IsIdle old → Searches (moment old) (moment new) r → TellsFound r answer → ObeyedBelow old new Find answer
+search_obeyed old new r answer idle s told = λ ends peers places.
+    let os : Upon = record { ends = ends; peers = peers } in
+    let g : Going air (due (above os old) (asks_for []) Find) (moment old) (moment new) s.asked.notes = s.asked.going in
+    let world : (moment new).world ≡ replay air (moment old).world g.events = ap (λ (t : Moment (World Device)). t.world) g.moment in
+    asks_obeyed NoStore os old new Find [] s.asked.notes answer idle places tt refl g s.asked.over refl
+    (record {
+      tells = found_told r answer told old.listeners s.asked.going.events s.tells;
+      stays = stable_behind (moment old).world g.events os.ends (none_in os old new Find [] s.asked.notes g refl) (stores_stay old new g.events world s.asked.same);
+    }) s.asked.same
 
 -- each device has a list of what a read asks of it
-all_asked : (d : Device) → IsSound (kept d) → (asked : List Signal) × AsksOf d asked
-all_asked (T2 d) sound = some_asked (T2 d) sound tt
+all_asked : (d : Device) → IsSound (kept d) → (asked : List Signal) × ReadAsks d asked
+all_asked (T2 d) sound = some_asked (T2 d) sound (tt, refl)
 all_asked (T4 d) sound = file_asked 0 (device_store (T4 d))
-all_asked (T5 p) sound = some_asked (T5 p) sound tt
+all_asked (Peer d) sound = ([], refl)
+all_asked (T5 p) sound = some_asked (T5 p) sound (tt, refl)
 
 -- what a read asks of a placed device, and nothing where none is placed
-asked_by : (old : Air Device) (id : DeviceId) → IsIdle old → (asked : List Signal) × IsAskedBy (state_at old) (Read id) asked
+asked_by : (old : Air Device) (id : DeviceId) → IsIdle old → (asked : List Signal) × IfPlaced (λ d. ReadAsks d asked) (asked ≡ []) (device_with (bytes_of id) old.listeners)
 asked_by old id idle = by_found (device_with (bytes_of id) old.listeners) refl
   where
-    by_found : (o : Option Device) → device_with (bytes_of id) old.listeners ≡ o → (asked : List Signal) × IfPlaced (λ d. AsksOf d asked) (asked ≡ []) o
+    by_found : (o : Option Device) → device_with (bytes_of id) old.listeners ≡ o → (asked : List Signal) × IfPlaced (λ d. ReadAsks d asked) (asked ≡ []) o
     by_found None found = ([], refl)
     by_found (Some d) found = all_asked d (with_sound old.listeners (bytes_of id) d idle.tame.sound found)
 
@@ -225,15 +257,19 @@ missed_tells Tells id asked old new e answer s is = record {
   noisy = λ six. absurd (never_six e answer is six);
 }
 
-pub missed_obeyed : (old new : Air Device) (id : DeviceId) (e : PollFault) (answer : Answer) → IsIdle old → Selects id (Err e) (moment old) (moment new) → poll_answer e ≡ Some answer → Obeyed old new (Read id) answer
-missed_obeyed old new id e answer idle s is =
+pub missed_obeyed : (old new : Air Device) (id : DeviceId) (e : PollFault) (answer : Answer) → IsIdle old → Selects id (Err e) (moment old) (moment new) → poll_answer e ≡ Some answer → ObeyedBelow old new (Read id) answer
+missed_obeyed old new id e answer idle s is = λ ends peers places.
+    let os : Upon = record { ends = ends; peers = peers } in
     let some = asked_by old id idle in
     let g : Going air (λ ns. asks (selecting id ns)) (moment old) (moment new) s.asked.notes = s.asked.going in
     let going : Going air (tag_due id some.0) (moment old) (moment new) s.asked.notes = polled_of id some.0 (moment old) (moment new) s.asked.notes g in
     let world : (moment new).world ≡ replay air (moment old).world g.events = ap (λ (t : Moment (World Device)). t.world) g.moment in
     let tells : TagTells TellsOf id old.listeners some.0 g.events answer = missed_tells TellsOf id some.0 (moment old) (moment new) e answer s is in
-    asks_obeyed NoStore old new (Read id) some.0 s.asked.notes answer idle tt refl going (ap (then_asks some.0) s.told) some.1
-    (record { tells = tells; stays = stores_stay old new g.events world s.asked.same }) s.asked.same
+    asks_obeyed NoStore os old new (Read id) some.0 s.asked.notes answer idle places tt refl going (ap (then_asks some.0) s.told) some.1
+    (record {
+      tells = tells;
+      stays = stable_behind (moment old).world g.events os.ends (none_in os old new (Read id) some.0 s.asked.notes going some.1) (stores_stay old new g.events world s.asked.same);
+    }) s.asked.same
 
 -- A tag was selected, and commands were asked behind that: both are one command.
 module _ (id : DeviceId) (kind : SeenKind) (asked : List Signal) (a b c : Moment (World Device)) (hs ks : List Note) (told : selecting id hs ≡ Told (Ok kind) [])
@@ -290,27 +326,72 @@ module _ (old mid : Air Device) (id : DeviceId) (place : ℕ) (idle : IsIdle old
       sym s.selects.asked.same ∙ ap (λ (w : World Device). map kept w.listeners) s.stands.world ∙ map-over kept s.stands.before (s.device ∷ s.stands.behind) in
       is_with old.listeners (map kept s.stands.before) (kept s.device) (map kept s.stands.behind) (bytes_of id) idle.tame.sound split s.named
 
-  placed_asked : (commands : List Signal) → AsksOf s.device commands → IsAskedBy (state_at old) (Read id) commands
+  placed_asked : (commands : List Signal) → ReadAsks s.device commands → IfPlaced (λ d. ReadAsks d commands) (commands ≡ []) (device_with (bytes_of id) old.listeners)
   placed_asked commands asks =
-      let P : Kept → Type 0 = λ k. IsAsked k.fixed.how k.fixed.size k.store commands in
-      subst (λ o. IfPlaced (λ d. AsksOf d commands) (commands ≡ []) o) (sym selected_with.found) (subst P (sym selected_with.same) asks)
+      let P : Kept → Type 0 = λ k. IfTag k.fixed.kind (IsAsked k.fixed.how k.fixed.size k.store commands) (commands ≡ []) in
+      subst (λ o. IfPlaced (λ d. ReadAsks d commands) (commands ≡ []) o) (sym selected_with.found) (subst P (sym selected_with.same) asks)
 
   -- reading was cut off
-  pub read_cut : (new : Air Device) → ReadsSome (moment mid) (moment new) s.device → IsCutOff old new (Read id)
-  read_cut new r =
+  pub read_cut : (new : Air Device) → is_tag s.device ≡ true → ReadsSome (moment mid) (moment new) s.device → CutOffBelow old new (Read id)
+  read_cut new tag r = λ ends peers.
+      let os : Upon = record { ends = ends; peers = peers } in
+      let g : Going air (tag_due id r.commands) (moment old) (moment new) (s.selects.asked.notes ++ r.asked.notes) =
+      both id (seen_of s.device) r.commands (moment old) (moment mid) (moment new) s.selects.asked.notes r.asked.notes s.selects.told s.selects.asked.going r.asked.going in
+      let asked = placed_asked r.commands (as_tag s.device tag _ _ r.asks) in
       inr (
         asks_for r.commands,
-        front_of old new (Read id) r.commands (s.selects.asked.notes ++ r.asked.notes) idle tt refl
-            (both id (seen_of s.device) r.commands (moment old) (moment mid) (moment new) s.selects.asked.notes r.asked.notes s.selects.told s.selects.asked.going r.asked.going)
-            (placed_asked r.commands r.asks),
-        part_stays old new (s.selects.asked.going.events ++ r.asked.going.events) idle
-            (both id (seen_of s.device) r.commands (moment old) (moment mid) (moment new) s.selects.asked.notes r.asked.notes s.selects.told s.selects.asked.going r.asked.going).moment
-            (r.asked.same ∙ s.selects.asked.same),
+        front_of os old new (Read id) r.commands (s.selects.asked.notes ++ r.asked.notes) idle tt refl g asked,
+        part_stays os.ends old new g.events idle g.moment (r.asked.same ∙ s.selects.asked.same)
+            (none_in os old new (Read id) r.commands (s.selects.asked.notes ++ r.asked.notes) g asked),
       )
+
+-- A peer was selected, and so a command of a tag asks nothing more.
+module _ (Tells : Device → Answer → Type 0) (old mid : Air Device) (id : DeviceId) (place : ℕ) (s : SelectsAt id place (moment old) (moment mid)) (peer : is_tag s.device ≡ false) where
+  abbrev peer_notes : List Note
+  peer_notes = s.selects.asked.notes
+
+  abbrev pub peer_going : Going air (tag_due id []) (moment old) (moment mid) peer_notes
+  peer_going = polled_of id [] (moment old) (moment mid) peer_notes s.selects.asked.going
+
+  pub peer_over : tag_due id [] peer_notes ≡ Over
+  peer_over = ap (then_asks []) s.selects.told ∙ ap (λ k. tag_next k [] []) (peer_seen s.device peer)
+
+  -- so it tells, where it tells so of the device
+  pub peer_tells : OfPlaced (λ d. Tells d answers.WrongKind) (device_with (bytes_of id) old.listeners) → TagTells Tells id old.listeners [] s.selects.asked.going.events answers.WrongKind
+  peer_tells placed = record {
+    polled = Ok (seen_of s.device);
+    behind = [];
+    selected = ap (selecting id) s.selects.asked.going.known ∙ s.selects.told;
+    cause = tt;
+    ends = subst (λ k. TellsBy k (λ a. OfPlaced (λ d. Tells d a) (device_with (bytes_of id) old.listeners)) TellsFault [] [] answers.WrongKind) (sym (peer_seen s.device peer)) placed;
+    lost = (
+      λ lost. absurd (let clash : answers.WrongKind ≡ answers.FieldLost = lost in cc),
+      λ broken. absurd (let is : ◌≡◌ {A = Result SeenKind PollFault} (Ok (seen_of s.device)) (Err faults.FieldLost) = s.selects.lost.1 broken in cc),
+    );
+    noisy = λ six. absurd (let clash : answers.WrongKind ≡ answers.SixBad = six in cc);
+  }
+
+-- a peer isn't read
+pub peer_obeyed : (old mid : Air Device) (id : DeviceId) (place : ℕ) (idle : IsIdle old) (s : SelectsAt id place (moment old) (moment mid)) → is_tag s.device ≡ false → ObeyedBelow old mid (Read id) answers.WrongKind
+peer_obeyed old mid id place idle s peer = λ ends peers places.
+    let os : Upon = record { ends = ends; peers = peers } in
+    let with_id : IsWith old.listeners (bytes_of id) (kept s.device) = selected_with old mid id place idle s in
+    let P : Kept → Type 0 = λ k. IfTag k.fixed.kind (Tells k.fixed.how k.fixed.size k.store answers.WrongKind) (answers.WrongKind ≡ answers.WrongKind) in
+    let here : TellsOf s.device answers.WrongKind = as_peer s.device peer _ _ refl in
+    let there : OfPlaced (λ d. TellsOf d answers.WrongKind) (device_with (bytes_of id) old.listeners) =
+    subst (λ o. OfPlaced (λ d. TellsOf d answers.WrongKind) o) (sym with_id.found) (subst P (sym with_id.same) here) in
+    let g : Going air (tag_due id []) (moment old) (moment mid) s.selects.asked.notes = peer_going TellsOf old mid id place s peer in
+    let world : (moment mid).world ≡ replay air (moment old).world g.events = ap (λ (t : Moment (World Device)). t.world) g.moment in
+    let asked = placed_asked old mid id place idle s [] (as_peer s.device peer _ _ refl) in
+    asks_obeyed NoStore os old mid (Read id) [] s.selects.asked.notes answers.WrongKind idle places tt refl g (peer_over TellsOf old mid id place s peer) asked
+    (record {
+      tells = peer_tells TellsOf old mid id place s peer there;
+      stays = stable_behind (moment old).world g.events os.ends (none_in os old mid (Read id) [] s.selects.asked.notes g asked) (stores_stay old mid g.events world s.selects.asked.same);
+    }) s.selects.asked.same
 
 -- a tag was selected and read
 module _ (old mid new : Air Device) (id : DeviceId) (place : ℕ) (read : Result Found ReadFault) (answer : Answer) (told : told_by read ≡ Some answer) (idle : IsIdle old)
-    (s : SelectsAt id place (moment old) (moment mid)) (r : Reads (moment mid) (moment new) s.device read) where
+    (s : SelectsAt id place (moment old) (moment mid)) (tag : is_tag s.device ≡ true) (r : Reads (moment mid) (moment new) s.device read) where
   abbrev with_id : IsWith old.listeners (bytes_of id) (kept s.device)
   with_id = selected_with old mid id place idle s
 
@@ -319,8 +400,8 @@ module _ (old mid new : Air Device) (id : DeviceId) (place : ℕ) (read : Result
 
   placed_tells : ShowsOf s.device read → PlacedTells answer
   placed_tells shows =
-      let tells : TellsOf s.device answer = shows_tells (how_of s.device) (size_of s.device) (device_store s.device) read answer told shows in
-      let P : Kept → Type 0 = λ k. Tells k.fixed.how k.fixed.size k.store answer in
+      let tells : TellsOf s.device answer = as_tag s.device tag _ _ (shows_tells (how_of s.device) (size_of s.device) (device_store s.device) read answer told shows) in
+      let P : Kept → Type 0 = λ k. IfTag k.fixed.kind (Tells k.fixed.how k.fixed.size k.store answer) (answer ≡ answers.WrongKind) in
       subst (λ o. OfPlaced (λ d. TellsOf d answer) o) (sym with_id.found) (subst P (sym with_id.same) tells)
 
   -- what is known of both parts
@@ -346,33 +427,45 @@ module _ (old mid new : Air Device) (id : DeviceId) (place : ℕ) (read : Result
         omega (arith, sum, rest);
   }
 
-  pub read_obeyed : Obeyed old new (Read id) answer
-  read_obeyed =
+  pub read_obeyed : ObeyedBelow old new (Read id) answer
+  read_obeyed = λ ends peers places.
+      let os : Upon = record { ends = ends; peers = peers } in
       let hs : List Note = s.selects.asked.notes in
       let ks : List Note = r.asked.notes in
       let g : Going air (tag_due id r.commands) (moment old) (moment new) (hs ++ ks) =
       both id (seen_of s.device) r.commands (moment old) (moment mid) (moment new) hs ks s.selects.told s.selects.asked.going r.asked.going in
-      let world : (moment new).world ≡ replay air (moment old).world (s.selects.asked.going.events ++ r.asked.going.events) = ap (λ (t : Moment (World Device)). t.world) g.moment in
+      let world : (moment new).world ≡ replay air (moment old).world g.events = ap (λ (t : Moment (World Device)). t.world) g.moment in
       let same : map kept new.listeners ≡ map kept old.listeners = r.asked.same ∙ s.selects.asked.same in
-      asks_obeyed NoStore old new (Read id) r.commands (hs ++ ks) answer idle tt refl g (then_tag id (seen_of s.device) r.commands hs ks s.selects.told ∙ r.asked.over) (placed_asked old mid id place idle s r.commands r.asks)
-      (record { tells = read_tells; stays = stores_stay old new (s.selects.asked.going.events ++ r.asked.going.events) world same }) same
+      let asked = placed_asked old mid id place idle s r.commands (as_tag s.device tag _ _ r.asks) in
+      asks_obeyed NoStore os old new (Read id) r.commands (hs ++ ks) answer idle places tt refl g (then_tag id (seen_of s.device) r.commands hs ks s.selects.told ∙ r.asked.over) asked
+      (record {
+        tells = read_tells;
+        stays = stable_behind (moment old).world g.events os.ends (none_in os old new (Read id) r.commands (hs ++ ks) g asked) (stores_stay old new g.events world same);
+      }) same
 
 -- A command that was cut off: nothing was done ...
-pub untouched : (old new : Air Device) (c : Command) → IsIdle old → new ≡ old → IsCutOff old new c
-untouched old new c idle same = inl (ap (λ (a : Air Device). a.trace) same ∙ idle.quiet, ap state_at same)
+pub untouched : (old new : Machines) (c : Command) → IsSettled old → new ≡ old → IsCutOff old new c
+untouched old new c settled same = inl (ap (λ (m : Machines). m.air.trace) same ∙ settled.idle.quiet, ap state_at same)
 
 -- ... or so much was asked, in a search, in selecting a tag, and in reading it.
-pub search_cut : (old new : Air Device) → IsIdle old → AskedPart NoStore (λ ns. asks (finding_all ns)) (moment old) (moment new) → IsCutOff old new Find
-search_cut old new idle part =
-    inr (asks_for [], front_of old new Find [] part.notes idle tt refl part.going refl, part_stays old new part.going.events idle part.going.moment part.same)
+pub search_cut : (old new : Air Device) → IsIdle old → AskedPart NoStore (λ ns. asks (finding_all ns)) (moment old) (moment new) → CutOffBelow old new Find
+search_cut old new idle part = λ ends peers.
+    let os : Upon = record { ends = ends; peers = peers } in
+    inr (
+      asks_for [],
+      front_of os old new Find [] part.notes idle tt refl part.going refl,
+      part_stays os.ends old new part.going.events idle part.going.moment part.same (none_in os old new Find [] part.notes part.going refl),
+    )
 
-pub selection_cut : (old new : Air Device) (id : DeviceId) → IsIdle old → SelectionCut id (moment old) (moment new) → IsCutOff old new (Read id)
-selection_cut old new id idle part =
+pub selection_cut : (old new : Air Device) (id : DeviceId) → IsIdle old → SelectionCut id (moment old) (moment new) → CutOffBelow old new (Read id)
+selection_cut old new id idle part = λ ends peers.
+    let os : Upon = record { ends = ends; peers = peers } in
     let some = asked_by old id idle in
+    let g : Going air (tag_due id some.0) (moment old) (moment new) part.notes = polled_of id some.0 (moment old) (moment new) part.notes part.going in
     inr (
       asks_for some.0,
-      front_of old new (Read id) some.0 part.notes idle tt refl (polled_of id some.0 (moment old) (moment new) part.notes part.going) some.1,
-      part_stays old new part.going.events idle part.going.moment part.same,
+      front_of os old new (Read id) some.0 part.notes idle tt refl g some.1,
+      part_stays os.ends old new part.going.events idle part.going.moment part.same (none_in os old new (Read id) some.0 part.notes g some.1),
     )
 
 -- What was asked in a search, however it ended, and in a read.

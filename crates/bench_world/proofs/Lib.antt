@@ -1,10 +1,13 @@
+pub mod Fronts
 pub mod Placing
 pub mod Placed
 pub mod Removing
 pub mod Locking
+pub mod Peering
 pub mod Reached
 pub mod Telling
 pub mod Legality
+mod SelectedPlace
 pub mod AskedBehind
 pub mod Outcomes
 pub mod Benches

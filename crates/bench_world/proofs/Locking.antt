@@ -1,5 +1,5 @@
 -- A block of a tag is locked, a tag asks for more time from now on, and what a tag holds is told.
-use Rattle.std.proofs.Common.{◌≡◌, ℕ, suc, ◌<◌, ◌≤◌, List, [], ◌∷◌, ◌++◌, length, map, nat_eq, true, if◌then◌else◌, Some, refl, sym, ◌∙◌, ap, subst}
+use Rattle.std.proofs.Common.{◌≡◌, ℕ, suc, ◌<◌, ◌≤◌, List, [], ◌∷◌, ◌++◌, length, map, nat_eq, true, if◌then◌else◌, Option, Some, refl, sym, ◌∙◌, ap, subst}
 use Rattle.std.specs.Prelude.{slice_set, slice_index_or}
 use Rattle.std.proofs.Math.Seq.{set-append_seam, get_or-append_seam}
 use Rattle.std.specs.Cmp.Lexicographic.{pointwise}
@@ -9,7 +9,7 @@ use Rattle.bench_script.specs.declared.command.Command.{Command}
 use Rattle.bench_script.specs.declared.command.Command.TheVariants.{Lock, Busy, Dump}
 use Rattle.bench_script.specs.declared.command.DeviceId.{DeviceId}
 use Rattle.bench_devices.specs.declared.device.Device.{Device}
-use Rattle.bench_devices.specs.declared.device.Device.TheVariants.{T2, T4, T5}
+use Rattle.bench_devices.specs.declared.device.Device.TheVariants.{T2, T4, Peer, T5}
 use Rattle.bench_world.specs.declared.entry.Answer.TheVariants.{Done, Store}
 use Rattle.bench_devices.specs.Choosing.{StandsAt}
 use Rattle.std.specs.List.{AllByRecursion}
@@ -17,21 +17,21 @@ use Rattle.bench_devices.specs.Device.{device_id, most_devices, blocks_of, devic
 use Rattle.isodep_link.specs.Card.{most_busy}
 use Rattle.isodep_link.specs.Reader.{longest_extension}
 use Rattle.air_core.specs.Conversation.{Over}
-use Rattle.bench_world.specs.Legal.{MayBeBusy, Accepts, IsAskedBy, AnswerLaw, changed, due}
+use Rattle.bench_world.specs.Legal.{State, MayBeBusy, Accepts, with_device_changed, IsAskedBy, AnswerLaw, changed, due}
 use Rattle.bench_devices.specs.Placed.{device_with, with_changed, OfPlaced}
-use Rattle.bench_world.specs.Obeying.{state_at, Obeyed}
+use Rattle.bench_world.specs.Obeying.{state_at, Obeyed, ObeyedBelow}
+use Rattle.bench_world.specs.World.{FarEnd}
+use Rattle.far_air.specs.FarEnds.{first_far, later_fars, by_link}
+use Rattle.far_air.specs.FarLaws.{shown}
+use Rattle.peer_air.specs.PeerFars.{peer_ends}
+use Rattle.bench_devices.specs.Device.{device_linked}
 use Rattle.bench_devices.specs.Phases.{IsIdle}
 use Rattle.bench_devices.specs.Keeping.{Kept, kept, IsSound, IsApart, AreSound, AreTame}
 use Rattle.bench_devices.specs.Phases.{IsTidy, AreTidy}
 use Rattle.bench_script.specs.DeviceIds.{bytes_of}
-use Rattle.bench_world.proofs.Placed.{still_obeyed}
+use Rattle.bench_devices.proofs.PeerMade.{busy_made}
+use Rattle.bench_world.proofs.Placed.{Upon, beneath, nothing, still_obeyed}
 use Rattle.bench_world.proofs.Removing.{is_other}
-
--- each device is a tag
-all_tags : (d : Device) → is_tag d ≡ true
-all_tags (T2 d) = refl
-all_tags (T4 d) = refl
-all_tags (T5 p) = refl
 
 -- no other device has its identifier, so it is the one that has it
 first_with : (before : List Device) (d : Device) (behind : List Device) (id : List ℕ) → device_id d ≡ id → AreSound (map kept (before ++ d ∷ behind)) → device_with id (before ++ d ∷ behind) ≡ Some d
@@ -51,26 +51,44 @@ changed_behind change (b ∷ before) d behind id named sound =
 -- A device that is changed so may be placed, too, and has the same identifier.
 record StaysPlaced (change : Device → Device) (d : Device) : Type 0 where
   pub same_id : device_id (change d) ≡ device_id d
+  pub link : device_linked (change d) ≡ device_linked d
   pub sound : IsSound (kept d) → IsSound (kept (change d))
   pub tidy : IsTidy d → IsTidy (change d)
 
 -- one with one block more locked
 locked_stays : (block : ℕ) (d : Device) → StaysPlaced (device_locked block) d
-locked_stays block (T2 d) = record { same_id = refl; sound = λ s. s; tidy = λ t. t }
-locked_stays block (T4 d) = record { same_id = refl; sound = λ s. s; tidy = λ t. t }
-locked_stays block (T5 p) = record { same_id = refl; sound = λ s. s; tidy = λ t. t }
+locked_stays block (T2 d) = record { same_id = refl; link = refl; sound = λ s. s; tidy = λ t. t }
+locked_stays block (T4 d) = record { same_id = refl; link = refl; sound = λ s. s; tidy = λ t. t }
+locked_stays block (Peer d) = record { same_id = refl; link = refl; sound = λ s. s; tidy = λ t. t }
+locked_stays block (T5 p) = record { same_id = refl; link = refl; sound = λ s. s; tidy = λ t. t }
 
 -- one that asks for more time, no more often and by no greater value than it may
 busy_stays : (count times : ℕ) (d : Device) → count ≤ most_busy → (1 ≤ times) × (times ≤ longest_extension) → StaysPlaced (device_busy count times) d
-busy_stays count times (T2 d) few long = record { same_id = refl; sound = λ s. s; tidy = λ t. t }
+busy_stays count times (T2 d) few long = record { same_id = refl; link = refl; sound = λ s. s; tidy = λ t. t }
 busy_stays count times (T4 d) few long = record {
   same_id = refl;
+  link = refl;
   sound = λ s. (s.0, s.1, s.2, s.3, s.4, record { made = refl; busy = few; times = long });
   tidy = λ t. t;
 }
-busy_stays count times (T5 p) few long = record { same_id = refl; sound = λ s. s; tidy = λ t. t }
+busy_stays count times (Peer d) few long = record {
+  same_id = refl;
+  link = refl;
+  sound = λ s. (s.0, s.1, busy_made d.id d.upper count times few long s.2);
+  tidy = λ t. t;
+}
+busy_stays count times (T5 p) few long = record { same_id = refl; link = refl; sound = λ s. s; tidy = λ t. t }
 
 module _ (change : Device → Device) (d : Device) (stays : StaysPlaced change d) (behind : List Device) where
+  -- far ends above it are shown as before
+  shown_changed : (before : List Device) (os : List (Option FarEnd)) → shown device_linked peer_ends (before ++ change d ∷ behind) os ≡ shown device_linked peer_ends (before ++ d ∷ behind) os
+  shown_changed [] os = ap (λ v. by_link peer_ends v (first_far os) ∷ shown device_linked peer_ends behind (later_fars os)) stays.link
+  shown_changed (b ∷ before) os = ap (λ xs. by_link peer_ends (device_linked b) (first_far os) ∷ xs) (shown_changed before (later_fars os))
+
+  as_long : (before : List Device) → length (before ++ d ∷ behind) ≡ length (before ++ change d ∷ behind)
+  as_long [] = refl
+  as_long (b ∷ before) = ap suc (as_long before)
+
   all_apart : (k : Kept) (before : List Device) → AllByRecursion (IsApart k) (map kept (before ++ d ∷ behind)) → AllByRecursion (IsApart k) (map kept (before ++ change d ∷ behind))
   all_apart k [] h = ((λ e. h.0 (sym stays.same_id ∙ e)), h.1)
   all_apart k (b ∷ before) h = (h.0, all_apart k before h.1)
@@ -120,38 +138,48 @@ module _ (old : Air Device) (id : DeviceId) (place : ℕ) (idle : IsIdle old) (s
   of_device P holds = subst (OfPlaced P) has_id holds
 
   -- it was changed so by a command that is done
-  device_changed : (new : Air Device) (c : Command) (change : Device → Device) → StaysPlaced change s.device → Accepts (state_at old) c
-      → changed (state_at old) c ≡ record { world = record { lit = old.lit; listeners = with_changed change (bytes_of id) old.listeners }; queue = old.fates }
-      → IsAskedBy (state_at old) c [] → due (state_at old) (record { asked = [] }) c [] ≡ Over
-      → AnswerLaw (state_at old) (record { asked = [] }) c [] Done
-      → new ≡ record { lit = old.lit; listeners = slice_set old.listeners place (change s.device); fates = old.fates; trace = old.trace } → Obeyed old new c Done
-  device_changed new c change stays accepted changes asks over answered is =
-      let O : Air Device → Type 0 = λ a. Obeyed old a c Done in
+  device_changed : (new : Air Device) (c : Command) (change : Device → Device) → StaysPlaced change s.device → ((os : Upon) → Accepts (state_at (beneath os old)) c)
+      → ((os : Upon) → changed (state_at (beneath os old)) c ≡ with_device_changed (state_at (beneath os old)) id change)
+      → ((os : Upon) → IsAskedBy (state_at (beneath os old)) c []) → ((os : Upon) → due (state_at (beneath os old)) nothing c [] ≡ Over)
+      → ((os : Upon) → AnswerLaw (state_at (beneath os old)) nothing c [] Done)
+      → new ≡ record { lit = old.lit; listeners = slice_set old.listeners place (change s.device); fates = old.fates; trace = old.trace } → ObeyedBelow old new c Done
+  device_changed new c change stays accepted changes asks over answered is = λ ends peers places.
+      let os : Upon = record { ends = ends; peers = peers } in
+      let O : Air Device → Type 0 = λ a. Obeyed (beneath os old) (beneath os a) c Done in
       let F : List Device → Air Device = λ ls. record { lit = old.lit; listeners = ls; fates = old.fates; trace = old.trace } in
-      let left : slice_set old.listeners place (change s.device) ≡ s.before ++ change s.device ∷ s.behind =
+      let now : List Device = s.before ++ change s.device ∷ s.behind in
+      let left : slice_set old.listeners place (change s.device) ≡ now =
       ap (λ ls. slice_set ls place (change s.device)) s.split ∙ ap (λ i. slice_set (s.before ++ s.device ∷ s.behind) i (change s.device)) (sym s.at)
       ∙ set-append_seam s.before s.device s.behind (change s.device) in
-      let same : with_changed change (bytes_of id) old.listeners ≡ s.before ++ change s.device ∷ s.behind =
+      let same : with_changed change (bytes_of id) old.listeners ≡ now =
       ap (with_changed change (bytes_of id)) s.split ∙ changed_behind change s.before s.device s.behind (bytes_of id) s.named sound in
+      let fars : shown device_linked peer_ends now os.ends ≡ shown device_linked peer_ends old.listeners os.ends =
+      shown_changed change s.device stays s.behind s.before os.ends ∙ ap (λ ls. shown device_linked peer_ends ls os.ends) (sym s.split) in
+      let S : List Device → List (Option FarEnd) → State = λ ls xs. record { world = record { field = record { lit = old.lit; listeners = ls }; fars = xs; numbers = [] }; queue = old.fates; peers = os.peers } in
+      let as_many : length old.listeners ≡ length now = ap length s.split ∙ as_long change s.device stays s.behind s.before in
       subst O (sym (is ∙ ap F left))
-      (still_obeyed old (F (s.before ++ change s.device ∷ s.behind)) c Done idle accepted (ap (λ ls. state_at (F ls)) (sym same) ∙ sym changes) refl asks over answered
+      (still_obeyed (beneath os old) (beneath os (F now)) c Done idle (accepted os)
+      (ap (S now) fars ∙ ap (λ ls. S ls (shown device_linked peer_ends old.listeners os.ends)) (sym same) ∙ sym (changes os)) refl (asks os) (over os) (answered os)
       (all_tame change s.device stays s.behind s.before (subst (λ ls. AreTame (map kept ls)) s.split idle.tame))
-      (all_tidy change s.device stays s.behind s.before (subst AreTidy s.split idle.tidy)))
+      (all_tidy change s.device stays s.behind s.before (subst AreTidy s.split idle.tidy)) (record { ends = places.ends ∙ as_many; numbers = places.numbers ∙ as_many }))
 
   -- a block of it was locked
   pub block_locked : (new : Air Device) (block : ℕ) → block < blocks_of s.device
-      → new ≡ record { lit = old.lit; listeners = slice_set old.listeners place (device_locked block s.device); fates = old.fates; trace = old.trace } → Obeyed old new (Lock id block) Done
+      → new ≡ record { lit = old.lit; listeners = slice_set old.listeners place (device_locked block s.device); fates = old.fates; trace = old.trace } → ObeyedBelow old new (Lock id block) Done
   block_locked new block within is =
-      device_changed new (Lock id block) (device_locked block) (locked_stays block s.device) (of_placed (λ d. block < blocks_of d) within) refl refl refl refl is
+      device_changed new (Lock id block) (device_locked block) (locked_stays block s.device) (λ os. of_placed (λ d. block < blocks_of d) within) (λ os. refl) (λ os. refl) (λ os. refl) (λ os. refl) is
 
   -- it asks for more time from now on
   pub made_busy : (new : Air Device) (count times : ℕ) → may_be_busy s.device ≡ true → count ≤ most_busy → (1 ≤ times) × (times ≤ longest_extension)
-      → new ≡ record { lit = old.lit; listeners = slice_set old.listeners place (device_busy count times s.device); fates = old.fates; trace = old.trace } → Obeyed old new (Busy id count times) Done
+      → new ≡ record { lit = old.lit; listeners = slice_set old.listeners place (device_busy count times s.device); fates = old.fates; trace = old.trace } → ObeyedBelow old new (Busy id count times) Done
   made_busy new count times may few long is =
-      let accepted : MayBeBusy (state_at old) id count times = record { device = of_placed (λ d. may_be_busy d ≡ true) may; few = few; long = long } in
-      device_changed new (Busy id count times) (device_busy count times) (busy_stays count times s.device few long) accepted refl refl refl refl is
+      let accepted : (os : Upon) → MayBeBusy (state_at (beneath os old)) id count times =
+      λ os. record { device = of_placed (λ d. may_be_busy d ≡ true) may; few = few; long = long } in
+      device_changed new (Busy id count times) (device_busy count times) (busy_stays count times s.device few long) accepted (λ os. refl) (λ os. refl) (λ os. refl) (λ os. refl) is
 
   -- what it holds was told
-  pub memory_told : Obeyed old old (Dump id) (Store (memory_in s.device))
-  memory_told =
-      still_obeyed old old (Dump id) (Store (memory_in s.device)) idle (of_placed (λ d. is_tag d ≡ true) (all_tags s.device)) refl refl refl refl (of_placed (λ d. Store (memory_in s.device) ≡ Store (memory_in d)) refl) idle.tame idle.tidy
+  pub memory_told : is_tag s.device ≡ true → ObeyedBelow old old (Dump id) (Store (memory_in s.device))
+  memory_told tag = λ ends peers places.
+      let os : Upon = record { ends = ends; peers = peers } in
+      still_obeyed (beneath os old) (beneath os old) (Dump id) (Store (memory_in s.device)) idle (of_placed (λ d. is_tag d ≡ true) tag) refl refl refl refl
+      (of_placed (λ d. Store (memory_in s.device) ≡ Store (memory_in d)) refl) idle.tame idle.tidy places

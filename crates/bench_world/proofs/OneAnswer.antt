@@ -12,11 +12,13 @@ use Rattle.nfca_poll.specs.declared.inventory.Vcrowd.{Vcrowd}
 use Rattle.bench_script.specs.declared.command.DeviceId.{DeviceId}
 use Rattle.bench_devices.specs.declared.device.Device.{Device}
 use Rattle.bench_world.specs.declared.entry.Answer.{Answer}
-use Rattle.bench_devices.specs.Device.{device_store, how_of, size_of}
+use Rattle.bench_world.specs.declared.entry.Answer.TheVariants as answers
+use Rattle.bench_devices.specs.Device.{device_store, how_of, size_of, seen_of}
+use Rattle.bench_devices.proofs.TagOrPeer.{one_if}
 use Rattle.bench_script.specs.DeviceIds.{bytes_of}
 use Rattle.bench_devices.specs.Polling.{Told}
 use Rattle.bench_devices.specs.Placed.{device_with, OfPlaced}
-use Rattle.bench_world.specs.Reading.{TellsOf}
+use Rattle.bench_world.specs.Reading.{Tells, TellsOf}
 use Rattle.bench_world.specs.Writing.{TellsWrite}
 use Rattle.isodep_link.specs.Asking as exchange
 use Rattle.bench_devices.specs.declared.polling.SeenKind.{SeenKind}
@@ -59,7 +61,7 @@ one_told : (kind : SeenKind) (Tells : Answer → Type 0) → AtMostOne Tells →
 one_told seen.T2 Tells one asked ns a b p q = one_standing Tells one (stand 0 asked ns) a b p q
 one_told seen.T4 Tells one asked ns a b p q = one_card Tells one (card_stands asked ns) a b p q
 one_told seen.T5 Tells one asked ns a b p q = one_standing Tells one (stand 0 asked ns) a b p q
-one_told seen.Peer Tells one asked ns a b p q = absurd p
+one_told seen.Peer Tells one asked ns a b p q = one a b p q
 
 same_some : (a b : Answer) → ◌≡◌ {A = Option Answer} (Some a) (Some b) → a ≡ b
 same_some a b e = cc
@@ -88,7 +90,8 @@ module _ (Tells : Device → Answer → Type 0) (one : (d : Device) → AtMostOn
 
 -- A read has one answer.
 one_telling_of : (d : Device) → AtMostOne (TellsOf d)
-one_telling_of d a b p q = one_telling (how_of d) (size_of d) (device_store d) a b p q
+one_telling_of d a b p q =
+    one_if (seen_of d) (Tells (how_of d) (size_of d) (device_store d)) answers.WrongKind (one_telling (how_of d) (size_of d) (device_store d)) a b p q
 
 pub one_read : (id : DeviceId) (ds : List Device) (asked : List Signal) (events : List Event) (a b : Answer) → TagTells TellsOf id ds asked events a → TagTells TellsOf id ds asked events b → a ≡ b
 one_read id ds asked events a b p q = one_tag TellsOf one_telling_of id ds asked events a b p q

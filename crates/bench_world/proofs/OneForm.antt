@@ -4,7 +4,6 @@ use Rattle.std.specs.List.{flat_map}
 use Rattle.std.proofs.lemmas.Bool.{cases_lt}
 use Rattle.tlv_area.specs.declared.space.Space.{Space}
 use Rattle.tlv_area.specs.declared.container.ContainerFault.{ContainerFault}
-use Rattle.tlv_area.specs.declared.container.FileMap.{FileMap}
 use Rattle.tlv_area.specs.declared.container.ContainerFault.TheVariants as container
 use Rattle.tlv_area.specs.Containers.{t2_container}
 use Rattle.tlv_area.specs.Layout.{Tlv, Layout, free, reserved_by}
@@ -115,6 +114,7 @@ module _ (how : How) (size : ℕ) (store : List ℕ) where
   tells_form answers.BadTlv t = record { form = BadTlv; writable = false; is = t; access = tt; same = refl }
   tells_form answers.Done t = absurd t
   tells_form (answers.Store bytes) t = absurd t
+  tells_form (answers.Inbox messages) t = absurd t
   tells_form (answers.Found devices crowd) t = absurd t
   tells_form answers.Disturbed t = absurd t
   tells_form answers.FieldLost t = absurd t
@@ -125,6 +125,7 @@ module _ (how : How) (size : ℕ) (store : List ℕ) where
   tells_form answers.ReadOnly t = absurd t
   tells_form (answers.TooLong room) t = absurd t
   tells_form answers.ShortMlc t = absurd t
+  tells_form answers.WrongKind t = absurd t
 
   -- A store is told in one way.
   pub one_telling : (a b : Answer) → Tells how size store a → Tells how size store b → a ≡ b

@@ -4,12 +4,15 @@ use Rattle.nfc_base.specs.Signal.{Signal}
 use Rattle.nfc_base.specs.declared.event.Event.{Event}
 use Rattle.air_core.specs.Conversation.{Over, EachDue, receptions}
 use Rattle.bench_script.specs.declared.command.Command.{Command}
-use Rattle.bench_script.specs.declared.command.Command.TheVariants.{Skip, Fates, PlaceT2, PlaceT4, PlaceT5, Lock, Busy, Remove, Dump, Find, Read, Write}
+use Rattle.bench_script.specs.declared.command.Command.TheVariants.{Skip, Fates, PlaceT2, PlaceT4, PlaceT5, PlacePeer, Lock, Busy, Offer, Remove, Dump, Inbox, Find, Read, Write}
 use Rattle.bench_devices.specs.declared.device.Device.{Device}
 use Rattle.bench_world.specs.declared.entry.Answer.{Answer}
 use Rattle.bench_world.specs.declared.entry.Answer.TheVariants.{Store}
 use Rattle.bench_world.specs.declared.entry.Entry.{Entry}
-use Rattle.bench_devices.specs.Device.{device_store, device_commands, how_of, size_of, memory_in}
+use Rattle.bench_devices.specs.Device.{device_store, device_commands, how_of, size_of, seen_of, memory_in}
+use Rattle.bench_devices.proofs.TagOrPeer.{one_if}
+use Rattle.bench_world.specs.Reading.{ReadAsks}
+use Rattle.bench_world.specs.Writing.{WriteAsks}
 use Rattle.bench_script.specs.DeviceIds.{bytes_of}
 use Rattle.bench_devices.specs.Placed.{device_with, OfPlaced, IfPlaced}
 use Rattle.bench_devices.specs.Reading.{AsksOf}
@@ -19,25 +22,27 @@ use Rattle.nfc_base.specs.TagLinks.{plain_state}
 use Rattle.tag_writer.proofs.OneWrite.{one_write as one_write_list}
 use Rattle.bench_world.specs.Legal.{State, Given, IsAskedBy, AnswerLaw, FrontOf, EachLegal, changed, due, state_after, first_state}
 use Rattle.bench_devices.specs.Device.{air}
-use Rattle.bench_world.specs.Journal.{NumberedLine, AreEntriesOf, asking_lines, Legal}
+use Rattle.bench_world.specs.Journal.{NumberedLine, AreEntriesOf, asking_lines, LeadsTo, AgreeFor}
+use Rattle.bench_world.proofs.Fronts.{on_field, any_numbers}
 use Rattle.bench_world.specs.SameCommands.{SameCommands}
 use Rattle.bench_script.proofs.Spelling.{spells_one}
 use Rattle.tag_reader.proofs.Lists.{one_list}
 use Rattle.bench_world.proofs.OneAnswer.{one_read, one_write, one_find}
 use Rattle.air_core.proofs.OneCourse.{one_course}
 
-one_asked_of : (o : Option Device) (a b : List Signal) → IfPlaced (λ d. AsksOf d a) (a ≡ []) o → IfPlaced (λ d. AsksOf d b) (b ≡ []) o → a ≡ b
+one_asked_of : (o : Option Device) (a b : List Signal) → IfPlaced (λ d. ReadAsks d a) (a ≡ []) o → IfPlaced (λ d. ReadAsks d b) (b ≡ []) o → a ≡ b
 one_asked_of None a b p q = p ∙ sym q
-one_asked_of (Some d) a b p q = one_list (how_of d) (size_of d) (device_store d) a b p q
+one_asked_of (Some d) a b p q = one_if (seen_of d) (AsksOf d) [] (one_list (how_of d) (size_of d) (device_store d)) a b p q
 
-one_written_of : (message : List ℕ) (o : Option Device) (a b : List Signal) → IfPlaced (λ d. AsksWriteOf message d a) (a ≡ []) o → IfPlaced (λ d. AsksWriteOf message d b) (b ≡ []) o → a ≡ b
+one_written_of : (message : List ℕ) (o : Option Device) (a b : List Signal) → IfPlaced (λ d. WriteAsks message d a) (a ≡ []) o → IfPlaced (λ d. WriteAsks message d b) (b ≡ []) o → a ≡ b
 one_written_of message None a b p q = p ∙ sym q
-one_written_of message (Some d) a b p q = one_write_list (how_of d) (size_of d) (device_commands d) (plain_state (device_store d)) message a b p q
+one_written_of message (Some d) a b p q =
+    one_if (seen_of d) (AsksWriteOf message d) [] (one_write_list (how_of d) (size_of d) (device_commands d) (plain_state (device_store d)) message) a b p q
 
 -- a command asks one list of its tag
 one_asked_by : (s : State) (c : Command) (a b : List Signal) → IsAskedBy s c a → IsAskedBy s c b → a ≡ b
-one_asked_by s (Read id) a b p q = one_asked_of (device_with (bytes_of id) s.world.listeners) a b p q
-one_asked_by s (Write id m) a b p q = one_written_of (message_of m) (device_with (bytes_of id) s.world.listeners) a b p q
+one_asked_by s (Read id) a b p q = one_asked_of (device_with (bytes_of id) s.world.field.listeners) a b p q
+one_asked_by s (Write id m) a b p q = one_written_of (message_of m) (device_with (bytes_of id) s.world.field.listeners) a b p q
 one_asked_by s c a b p q = p ∙ sym q
 
 -- a dump tells of one device
@@ -46,38 +51,54 @@ one_dump None a b p q = absurd p
 one_dump (Some d) a b p q = p ∙ sym q
 
 -- what happened decides what it answers
-one_answer : (s : State) (g : Given) (c : Command) (events : List Event) (a b : Answer) → AnswerLaw s g c events a → AnswerLaw s g c events b → a ≡ b
-one_answer s g Skip events a b p q = absurd p
-one_answer s g (Fates fates) events a b p q = p ∙ sym q
-one_answer s g (PlaceT2 id blocks head) events a b p q = p ∙ sym q
-one_answer s g (PlaceT4 id code container head) events a b p q = p ∙ sym q
-one_answer s g (PlaceT5 id blocks size head) events a b p q = p ∙ sym q
-one_answer s g (Lock id block) events a b p q = p ∙ sym q
-one_answer s g (Busy id count times) events a b p q = p ∙ sym q
-one_answer s g (Remove id) events a b p q = p ∙ sym q
-one_answer s g (Dump id) events a b p q = one_dump (device_with (bytes_of id) s.world.listeners) a b p q
-one_answer s g Find events a b p q = one_find s.world.listeners events a b p.tells q.tells
-one_answer s g (Read id) events a b p q = one_read id s.world.listeners g.asked events a b p.tells q.tells
-one_answer s g (Write id m) events a b p q = one_write id s.world.listeners (message_of m) g.asked events a b p.tells q.tells
+one_answer : (s : State) (c : Command) (asked : List Signal) (ns ms : List ℕ) (events : List Event) (a b : Answer)
+    → AnswerLaw s (record { asked = asked; joins = ns }) c events a → AnswerLaw s (record { asked = asked; joins = ms }) c events b → a ≡ b
+one_answer s Skip asked ns ms events a b p q = absurd p
+one_answer s (Fates fates) asked ns ms events a b p q = p ∙ sym q
+one_answer s (PlaceT2 id blocks head) asked ns ms events a b p q = p ∙ sym q
+one_answer s (PlaceT4 id code container head) asked ns ms events a b p q = p ∙ sym q
+one_answer s (PlaceT5 id blocks size head) asked ns ms events a b p q = p ∙ sym q
+one_answer s (PlacePeer id lr miu rw limit) asked ns ms events a b p q = p ∙ sym q
+one_answer s (Lock id block) asked ns ms events a b p q = p ∙ sym q
+one_answer s (Busy id count times) asked ns ms events a b p q = p ∙ sym q
+one_answer s (Offer id key value) asked ns ms events a b p q = p ∙ sym q
+one_answer s (Remove id) asked ns ms events a b p q = p ∙ sym q
+one_answer s (Dump id) asked ns ms events a b p q = one_dump (device_with (bytes_of id) s.world.field.listeners) a b p q
+one_answer s (Inbox id) asked ns ms events a b p q = p ∙ sym q
+one_answer s Find asked ns ms events a b p q = one_find s.world.field.listeners events a b p.tells q.tells
+one_answer s (Read id) asked ns ms events a b p q = one_read id s.world.field.listeners asked events a b p.tells q.tells
+one_answer s (Write id m) asked ns ms events a b p q = one_write id s.world.field.listeners (message_of m) asked events a b p.tells q.tells
 
--- From a state a command is obeyed in one way.
-same_given : (s : State) (c : Command) (g h : Given) → IsAskedBy s c g.asked → IsAskedBy s c h.asked → h ≡ g
-same_given s c g h p q = ap (λ asked. record { asked = asked }) (one_asked_by s c h.asked g.asked q p)
-
+-- From a state a command is obeyed in one way, whichever numbers its entry has.
 module _ (s : State) (c : Command) (g h : Given) (es fs : List Event) (t u : State) (p : FrontOf s g c es t) (q : FrontOf s h c fs u) (done : due s g c (receptions es) ≡ Over) (over : due s h c (receptions fs) ≡ Over) where
-  abbrev as_given : h ≡ g
-  as_given = same_given s c g h p.asks q.asks
+  same_asked : h.asked ≡ g.asked
+  same_asked = one_asked_by s c h.asked g.asked q.asks p.asks
+
+  abbrev As : List Signal → Given
+  As asked = record { asked = asked; joins = g.joins }
+
+  -- what is due is told by what the tag is asked
+  due_as : (asked : List Signal) (n : List ℕ) (c' : Command) → due s (record { asked = asked; joins = n }) c' ≡ due s (As asked) c'
+  due_as asked n Find = refl
+  due_as asked n (Read id) = refl
+  due_as asked n (Write id m) = refl
+  due_as asked n c' = refl
+
+  due_same : due s h c ≡ due s g c
+  due_same = due_as h.asked h.joins c ∙ ap (λ asked. due s (As asked) c) same_asked
 
   pub same_events : es ≡ fs
   same_events =
-      let each : EachDue (due s g c) [] fs = subst (λ k. EachDue (due s k c) [] fs) as_given q.each in
-      let at_end : due s g c (receptions fs) ≡ Over = subst (λ k. due s k c (receptions fs) ≡ Over) as_given over in
-      one_course air (due s g c) (changed s c).world (changed s c).queue es fs p.turns q.turns p.fates q.fates p.each each done at_end
+      let each : EachDue (due s g c) [] fs = subst (λ d. EachDue d [] fs) due_same q.each in
+      let at_end : due s g c (receptions fs) ≡ Over = subst (λ d. d (receptions fs) ≡ Over) due_same over in
+      one_course air (due s g c) (changed s c).world.field (changed s c).queue es fs (on_field s t g c es p).turns (on_field s u h c fs q).turns p.fates q.fates p.each each done at_end
+
+  -- it leads to the same state
+  pub same_state : u ≡ t
+  same_state = q.after ∙ ap (state_after s h.joins c) (sym same_events) ∙ any_numbers s t g c es p h.joins g.joins ∙ sym p.after
 
   pub same_answers : (a b : Answer) → AnswerLaw s g c es a → AnswerLaw s h c fs b → a ≡ b
-  same_answers a b x y =
-      let law : AnswerLaw s g c es b = subst (λ k. AnswerLaw s g c k b) (sym same_events) (subst (λ k. AnswerLaw s k c fs b) as_given y) in
-      one_answer s g c es a b x law
+  same_answers a b x y = one_answer s c g.asked g.joins h.joins es a b x (subst (λ asked. AnswerLaw s (record { asked = asked; joins = h.joins }) c es b) same_asked (subst (λ k. AnswerLaw s h c k b) (sym same_events) y))
 
 -- entries of the same parts
 same_entry : (j k : Entry) → j.line ≡ k.line → j.command ≡ k.command → j.events ≡ k.events → j.answer ≡ k.answer → j ≡ k
@@ -103,7 +124,7 @@ one_journal s t u (g ∷ gs) (h ∷ hs) (j ∷ js) (k ∷ ks) same p q =
     let law : AnswerLaw s h c k.events k.answer = subst (λ x. AnswerLaw s h x k.events k.answer) (sym same.1) q.1.answered in
     let events : j.events ≡ k.events = same_events s c g h j.events k.events p.0 q.0 p.1.front front p.1.over over in
     let answer : j.answer ≡ k.answer = same_answers s c g h j.events k.events p.0 q.0 p.1.front front p.1.over over j.answer k.answer p.1.answered law in
-    let mid : q.0 ≡ p.0 = front.after ∙ ap (state_after s c) (sym events) ∙ sym p.1.front.after in
+    let mid : q.0 ≡ p.0 = same_state s c g h j.events k.events p.0 q.0 p.1.front front p.1.over over in
     ap (λ e. e ∷ js) (same_entry j k same.0 same.1 events answer)
     ∙ ap (λ es. k ∷ es) (one_journal p.0 t u gs hs js ks same.2 p.2 (subst (λ x. EachLegal x hs ks u) mid q.2))
 
@@ -116,7 +137,14 @@ same_commands (l ∷ ls) [] ks p q = absurd p
 same_commands (l ∷ ls) (j ∷ js) [] p q = absurd q
 same_commands (l ∷ ls) (j ∷ js) (k ∷ ks) p q = (p.0 ∙ sym q.0, spells_one l.text j.command k.command p.1 q.1, same_commands ls js ks p.2 q.2)
 
+-- No command takes numbers, so all numbers agree.
+pub all_agree : (js : List Entry) (ns ms : List (List ℕ)) → AgreeFor js ns ms
+all_agree [] ns ms = tt
+all_agree (j ∷ js) [] ms = tt
+all_agree (j ∷ js) (n ∷ ns) [] = tt
+all_agree (j ∷ js) (n ∷ ns) (m ∷ ms) = (λ takes. absurd takes, all_agree js ns ms)
+
 -- The lines of a script have at most one legal journal.
-pub one_legal : (lines : List (List ℕ)) (js ks : List Entry) → Legal lines js → Legal lines ks → js ≡ ks
-one_legal lines js ks p q =
-    one_journal first_state p.0 q.0 p.1.given q.1.given js ks (same_commands (asking_lines 1 lines) js ks p.1.numbered q.1.numbered) p.1.steps q.1.steps
+pub one_legal : (lines numbers others : List (List ℕ)) (js ks : List Entry) (s t : State) → LeadsTo lines numbers js s → LeadsTo lines others ks t → js ≡ ks
+one_legal lines numbers others js ks s t p q =
+    one_journal first_state s t p.given q.given js ks (same_commands (asking_lines 1 lines) js ks p.numbered q.numbered) p.steps q.steps

@@ -1,6 +1,6 @@
--- Commands that send nothing: fates are appended, and a tag is placed.
-use Rattle.std.proofs.Common.{◌≡◌, ℕ, ◌*◌, ◌<◌, List, [], ◌∷◌, ◌++◌, map, length, slice_index, refl, sym, ◌∙◌, ap, subst, arith, inr}
-use Rattle.std.proofs.lemmas.List.{length-map}
+-- Commands that send nothing: fates are appended, and a tag or a peer is placed.
+use Rattle.std.proofs.Common.{◌≡◌, ℕ, ◌*◌, ◌<◌, List, [], ◌∷◌, ◌++◌, map, length, Bool, true, false, Option, Some, None, suc, ◌+◌, slice_index, refl, sym, ◌∙◌, ap, subst, arith, inr}
+use Rattle.std.proofs.lemmas.List.{length-map, length-append}
 use Rattle.std.specs.List.{AllByRecursion}
 use Rattle.nfc_base.specs.declared.event.Event.{Event}
 use Rattle.nfc_base.specs.declared.event.Fate.{Fate}
@@ -10,16 +10,23 @@ use Rattle.nfca_poll.specs.Ident.{IsIdent}
 use Rattle.t4t_tag.specs.Store.{file_size}
 use Rattle.t5t_tag.specs.Store.{id_size}
 use Rattle.bench_script.specs.declared.command.Command.{Command}
-use Rattle.bench_script.specs.declared.command.Command.TheVariants.{Fates, PlaceT2, PlaceT4, PlaceT5}
+use Rattle.bench_script.specs.declared.command.Command.TheVariants.{Fates, PlaceT2, PlaceT4, PlaceT5, PlacePeer}
 use Rattle.bench_devices.specs.declared.device.Device.{Device}
 use Rattle.bench_world.specs.declared.entry.Answer.{Answer}
 use Rattle.bench_world.specs.declared.entry.Answer.TheVariants.{Done}
-use Rattle.bench_devices.specs.Device.{device_id, new_t2, new_t4, new_t5}
-use Rattle.bench_world.specs.Legal.{State, Given, FrontOf, Accepts, IsAskedBy, IsFree, MayPlaceT2, MayPlaceT4, MayPlaceT5, AnswerLaw, with_device, changed, due, memory_of}
+use Rattle.bench_devices.specs.Device.{device_id, new_t2, new_t4, new_t5, new_peer}
+use Rattle.bench_world.specs.Legal.{State, Given, FrontOf, Accepts, IsAskedBy, IsFree, MayPlaceT2, MayPlaceT4, MayPlaceT5, MayPlacePeer, AnswerLaw, changed, due, memory_of}
 use Rattle.bench_devices.specs.Device.{most_devices}
 use Rattle.bench_devices.specs.Keeping.{Kept, kept, IsSound, IsApart, AreTame}
 use Rattle.bench_devices.specs.Phases.{IsTidy, AreTidy}
-use Rattle.bench_world.specs.Obeying.{state_at, Obeyed}
+use Rattle.bench_world.specs.Obeying.{Machines, under, state_at, HasPlaces, IsSettled, Obeyed, ObeyedBelow}
+use Rattle.bench_world.specs.World.{FarEnd, with_one_more}
+use Rattle.bench_world.specs.Peers.{Peers, with_tag, with_peer, new_end}
+use Rattle.far_air.specs.FarEnds.{by_link}
+use Rattle.far_air.specs.FarWorld.{with_numbers}
+use Rattle.far_air.specs.FarLaws.{shown}
+use Rattle.peer_air.specs.PeerFars.{peer_ends}
+use Rattle.bench_devices.specs.Device.{device_linked}
 use Rattle.bench_devices.specs.Phases.{IsIdle}
 use Rattle.bench_world.proofs.Placing.{map-over, tame_more, tidy_more, none_named}
 
@@ -32,18 +39,28 @@ apart_all (e ∷ ls) d none = ((λ same. none.0 (sym same)), apart_all ls d none
 abbrev pub more_by : Air Device → Device → Air Device
 more_by a d = record { lit = a.lit; listeners = a.listeners ++ d ∷ []; fates = a.fates; trace = a.trace }
 
+-- what stands above a field
+pub record Upon : Type 0 where
+  pub ends : List (Option FarEnd)
+  pub peers : Peers
+
+abbrev pub beneath : Upon → Air Device → Machines
+beneath u a = under u.ends u.peers a
+
 -- a command that asks nothing
 abbrev pub nothing : Given
-nothing = record { asked = [] }
+nothing = record { asked = []; joins = [] }
 
--- a command that changes the field as it says, and sends nothing
-pub still_obeyed : (old new : Air Device) (c : Command) (answer : Answer) → IsIdle old → Accepts (state_at old) c → state_at new ≡ changed (state_at old) c → new.trace ≡ old.trace
-    → IsAskedBy (state_at old) c [] → due (state_at old) nothing c [] ≡ Over → AnswerLaw (state_at old) nothing c [] answer → AreTame (map kept new.listeners) → AreTidy new.listeners → Obeyed old new c answer
-still_obeyed old new c answer idle accepted changes trace asks over law tame tidy =
+-- a command that changes the machines as it says, and sends nothing
+pub still_obeyed : (old new : Machines) (c : Command) (answer : Answer) → IsIdle old.air → Accepts (state_at old) c → state_at new ≡ changed (state_at old) c → new.air.trace ≡ old.air.trace
+    → IsAskedBy (state_at old) c [] → due (state_at old) nothing c [] ≡ Over → AnswerLaw (state_at old) nothing c [] answer → AreTame (map kept new.air.listeners) → AreTidy new.air.listeners
+    → HasPlaces new → Obeyed old new c answer
+still_obeyed old new c answer idle accepted changes trace asks over law tame tidy places =
     let st : State = state_at old in
-    let quiet : new.trace ≡ [] = trace ∙ idle.quiet in
+    let quiet : new.air.trace ≡ [] = trace ∙ idle.quiet in
     let F : List Event → Type 0 = λ es. FrontOf st nothing c es (state_at new) in
-    let front : F [] = record { accepted = accepted; asks = asks; turns = record { moves = []; made = refl }; fates = tt; each = tt; after = changes } in
+    let dropped : State → State = λ s. record { world = with_numbers s.world []; queue = s.queue; peers = s.peers } in
+    let front : F [] = record { accepted = accepted; asks = asks; turns = record { moves = []; made = refl }; fates = tt; each = tt; after = ap dropped changes } in
     record {
       given = nothing;
       front = subst F (sym quiet) front;
@@ -51,45 +68,94 @@ still_obeyed old new c answer idle accepted changes trace asks over law tame tid
       answered = subst (λ es. AnswerLaw st nothing c es answer) (sym quiet) law;
       tame = tame;
       tidy = tidy;
+      places = places;
     }
 
 -- fates were appended
-pub fates_added : (old new : Air Device) (fates : List Fate) → IsIdle old → new ≡ record { lit = old.lit; listeners = old.listeners; fates = old.fates ++ fates; trace = old.trace } → Obeyed old new (Fates fates) Done
-fates_added old new fates idle is =
+pub fates_added : (old new : Air Device) (fates : List Fate) → IsIdle old → new ≡ record { lit = old.lit; listeners = old.listeners; fates = old.fates ++ fates; trace = old.trace } → ObeyedBelow old new (Fates fates) Done
+fates_added old new fates idle is = λ ends peers places.
     let a : Air Device = record { lit = old.lit; listeners = old.listeners; fates = old.fates ++ fates; trace = old.trace } in
-    let O : Air Device → Type 0 = λ x. Obeyed old x (Fates fates) Done in
-    subst O (sym is) (still_obeyed old a (Fates fates) Done idle tt refl refl refl refl refl idle.tame idle.tidy)
+    let O : Air Device → Type 0 = λ x. Obeyed (under ends peers old) (under ends peers x) (Fates fates) Done in
+    subst O (sym is) (still_obeyed (under ends peers old) (under ends peers a) (Fates fates) Done idle tt refl refl refl refl refl idle.tame idle.tidy (record { ends = places.ends; numbers = places.numbers }))
+
+-- Behind the others, a device and its far end are shown as they are.
+shown_more : (ls : List Device) (os : List (Option FarEnd)) (d : Device) (end : Option FarEnd) → by_link peer_ends (device_linked d) end ≡ end → length os ≡ length ls
+    → shown device_linked peer_ends (ls ++ d ∷ []) (os ++ end ∷ []) ≡ shown device_linked peer_ends ls os ++ end ∷ []
+shown_more [] [] d end rests e = ap (λ o. o ∷ []) rests
+shown_more [] (o ∷ os) d end rests e = absurd cc
+shown_more (l ∷ ls) [] d end rests e = absurd cc
+shown_more (l ∷ ls) (o ∷ os) d end rests e =
+    let more : length os ≡ length ls = cc in
+    ap (λ xs. by_link peer_ends (device_linked l) o ∷ xs) (shown_more ls os d end rests more)
+
+-- a tag has none
+none_shown : (v : Bool) → by_link peer_ends v None ≡ None
+none_shown true = refl
+none_shown false = refl
+
+one_longer : {X Y : Type 0} (xs : List X) (ys : List Y) (x : X) (y : Y) → length xs ≡ length ys → length (xs ++ x ∷ []) ≡ length (ys ++ y ∷ [])
+one_longer xs ys x y e = omega (arith, e, length-append xs (x ∷ []), length-append ys (y ∷ []))
+
+-- the machines with one more device and its far end, and such peers
+abbrev pub with_more : Machines → Device → Option FarEnd → Peers → Machines
+with_more m d end peers = record { air = more_by m.air d; ends = m.ends ++ end ∷ []; peers = peers }
+
+-- the machines with one more tag
+abbrev pub one_more : Machines → Device → Machines
+one_more m d = with_more m d None (with_tag m.peers)
+
+-- the state with one more device
+abbrev more_in : State → Device → Option FarEnd → Peers → State
+more_in s d end peers = record { world = with_one_more s.world d end; queue = s.queue; peers = peers }
 
 -- a command that places a device
-place_obeyed : (old : Air Device) (c : Command) (d : Device) → IsIdle old → Accepts (state_at old) c → changed (state_at old) c ≡ with_device (state_at old) d
+place_obeyed : (old : Machines) (c : Command) (d : Device) (end : Option FarEnd) (peers : Peers) → IsSettled old → Accepts (state_at old) c → changed (state_at old) c ≡ more_in (state_at old) d end peers
     → IsAskedBy (state_at old) c [] → due (state_at old) nothing c [] ≡ Over → AnswerLaw (state_at old) nothing c [] Done
-    → IsSound (kept d) → IsTidy d → IsFree (state_at old) (device_id d) → Obeyed old (more_by old d) c Done
-place_obeyed old c d idle accepted changes asks over law sound tidy free =
+    → IsSound (kept d) → IsTidy d → IsFree (state_at old) (device_id d) → by_link peer_ends (device_linked d) end ≡ end → length peers.numbers ≡ suc (length old.peers.numbers)
+    → Obeyed old (with_more old d end peers) c Done
+place_obeyed old c d end peers settled accepted changes asks over law sound tidy free rests longer =
     let T : List Kept → Type 0 = AreTame in
-    let apart : AllByRecursion (λ l. IsApart l (kept d)) (map kept old.listeners) = apart_all old.listeners d (none_named old.listeners (device_id d) free.fresh) in
-    let room : length (map kept old.listeners) < most_devices = omega (arith, length-map old.listeners kept, free.room) in
-    still_obeyed old (more_by old d) c Done idle accepted (sym changes) refl asks over law
-    (subst T (sym (map-over kept old.listeners (d ∷ []))) (tame_more (map kept old.listeners) (kept d) idle.tame sound apart room))
-    (tidy_more old.listeners d idle.tidy tidy)
+    let ls : List Device = old.air.listeners in
+    let idle : IsIdle old.air = settled.idle in
+    let apart : AllByRecursion (λ l. IsApart l (kept d)) (map kept ls) = apart_all ls d (none_named ls (device_id d) free.fresh) in
+    let room : length (map kept ls) < most_devices = omega (arith, length-map ls kept, free.room) in
+    let S : List (Option FarEnd) → State = λ os. record { world = record { field = record { lit = old.air.lit; listeners = ls ++ d ∷ [] }; fars = os; numbers = [] }; queue = old.air.fates; peers = peers } in
+    let more : length (ls ++ d ∷ []) ≡ length ls + 1 = length-append ls (d ∷ []) in
+    let numbers : length old.peers.numbers ≡ length ls = settled.places.numbers in
+    still_obeyed old (with_more old d end peers) c Done idle accepted (ap S (shown_more ls old.ends d end rests settled.places.ends) ∙ sym changes) refl asks over law
+    (subst T (sym (map-over kept ls (d ∷ []))) (tame_more (map kept ls) (kept d) idle.tame sound apart room))
+    (tidy_more ls d idle.tidy tidy) (record { ends = one_longer old.ends ls end d settled.places.ends; numbers = omega (arith, longer, more, numbers) })
 
-pub t2_placed : (old new : Air Device) (id : List ℕ) (blocks : ℕ) (head : List ℕ) → IsIdle old → IsIdent id → MayPlaceT2 (state_at old) id blocks head
-    → new ≡ more_by old (new_t2 id (memory_of (4 * blocks) head)) → Obeyed old new (PlaceT2 id blocks head) Done
-t2_placed old new id blocks head idle ident may is =
+one_number : (p : Peers) → length (with_tag p).numbers ≡ suc (length p.numbers)
+one_number p = omega (arith, length-append p.numbers (None ∷ []))
+
+pub t2_placed : (old new : Machines) (id : List ℕ) (blocks : ℕ) (head : List ℕ) → IsSettled old → IsIdent id → MayPlaceT2 (state_at old) id blocks head
+    → new ≡ one_more old (new_t2 id (memory_of (4 * blocks) head)) → Obeyed old new (PlaceT2 id blocks head) Done
+t2_placed old new id blocks head settled ident may is =
     let d : Device = new_t2 id (memory_of (4 * blocks) head) in
-    let O : Air Device → Type 0 = λ a. Obeyed old a (PlaceT2 id blocks head) Done in
-    subst O (sym is) (place_obeyed old (PlaceT2 id blocks head) d idle may refl refl refl refl (ident, refl, may.store) tt may.free)
+    let O : Machines → Type 0 = λ m. Obeyed old m (PlaceT2 id blocks head) Done in
+    subst O (sym is) (place_obeyed old (PlaceT2 id blocks head) d None (with_tag old.peers) settled may refl refl refl refl (ident, refl, may.store) tt may.free (none_shown (device_linked d)) (one_number old.peers))
 
-pub t4_placed : (old new : Air Device) (id : List ℕ) (code : ℕ) (container head : List ℕ) → IsIdle old → IsIdent id → MayPlaceT4 (state_at old) id code container head
-    → new ≡ more_by old (new_t4 id code container (memory_of (file_size container) head)) → Obeyed old new (PlaceT4 id code container head) Done
-t4_placed old new id code container head idle ident may is =
+pub t4_placed : (old new : Machines) (id : List ℕ) (code : ℕ) (container head : List ℕ) → IsSettled old → IsIdent id → MayPlaceT4 (state_at old) id code container head
+    → new ≡ one_more old (new_t4 id code container (memory_of (file_size container) head)) → Obeyed old new (PlaceT4 id code container head) Done
+t4_placed old new id code container head settled ident may is =
     let file : List ℕ = memory_of (file_size container) head in
     let d : Device = new_t4 id code container file in
-    let O : Air Device → Type 0 = λ a. Obeyed old a (PlaceT4 id code container head) Done in
-    subst O (sym is) (place_obeyed old (PlaceT4 id code container head) d idle may refl refl refl refl (ident, file, refl, may.store, refl, record { made = refl; busy = omega arith; times = (omega arith, omega arith) }) (inr refl) may.free)
+    let O : Machines → Type 0 = λ m. Obeyed old m (PlaceT4 id code container head) Done in
+    subst O (sym is) (place_obeyed old (PlaceT4 id code container head) d None (with_tag old.peers) settled may refl refl refl refl (ident, file, refl, may.store, refl, record { made = refl; busy = omega arith; times = (omega arith, omega arith) }) (inr refl) may.free (none_shown (device_linked d)) (one_number old.peers))
 
-pub t5_placed : (old new : Air Device) (id : List ℕ) (blocks size : ℕ) (head : List ℕ) → IsIdle old → length id ≡ id_size → ((i : ℕ) → slice_index id i < 256) → MayPlaceT5 (state_at old) id blocks size head
-    → new ≡ more_by old (new_t5 id size (memory_of (size * blocks) head)) → Obeyed old new (PlaceT5 id blocks size head) Done
-t5_placed old new id blocks size head idle eight bytes may is =
+pub t5_placed : (old new : Machines) (id : List ℕ) (blocks size : ℕ) (head : List ℕ) → IsSettled old → length id ≡ id_size → ((i : ℕ) → slice_index id i < 256) → MayPlaceT5 (state_at old) id blocks size head
+    → new ≡ one_more old (new_t5 id size (memory_of (size * blocks) head)) → Obeyed old new (PlaceT5 id blocks size head) Done
+t5_placed old new id blocks size head settled eight bytes may is =
     let d : Device = new_t5 id size (memory_of (size * blocks) head) in
-    let O : Air Device → Type 0 = λ a. Obeyed old a (PlaceT5 id blocks size head) Done in
-    subst O (sym is) (place_obeyed old (PlaceT5 id blocks size head) d idle may refl refl refl refl (refl, eight, bytes, may.store) tt may.free)
+    let O : Machines → Type 0 = λ m. Obeyed old m (PlaceT5 id blocks size head) Done in
+    subst O (sym is) (place_obeyed old (PlaceT5 id blocks size head) d None (with_tag old.peers) settled may refl refl refl refl (refl, eight, bytes, may.store) tt may.free (none_shown (device_linked d)) (one_number old.peers))
+
+pub peer_placed : (old new : Machines) (id : List ℕ) (lr miu window limit : ℕ) → IsSettled old → IsIdent id → MayPlacePeer (state_at old) id lr miu window limit
+    → new ≡ with_more old (new_peer id lr miu) (Some (new_end miu window limit)) (with_peer old.peers) → Obeyed old new (PlacePeer id lr miu window limit) Done
+peer_placed old new id lr miu window limit settled ident may is =
+    let d : Device = new_peer id lr miu in
+    let O : Machines → Type 0 = λ m. Obeyed old m (PlacePeer id lr miu window limit) Done in
+    subst O (sym is) (place_obeyed old (PlacePeer id lr miu window limit) d (Some (new_end miu window limit)) (with_peer old.peers) settled may refl refl refl refl
+    (ident, refl, record { lr = lr; miu = miu; code = may.code; size = may.size; few = omega arith; some = omega arith; longest = omega arith; made = refl }) (inr refl) may.free refl
+    (omega (arith, length-append old.peers.numbers (Some old.peers.placed ∷ []))))

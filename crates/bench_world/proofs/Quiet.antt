@@ -37,6 +37,7 @@ use Rattle.bench_script.specs.Messages.{message_of}
 use Rattle.bench_script.specs.declared.message.Msg.{Msg}
 use Rattle.bench_world.proofs.Complete.{reads_complete, writes_complete, finds_complete}
 use Rattle.bench_world.proofs.OneAnswer.{one_end}
+use Rattle.bench_world.proofs.Fronts.{on_field}
 
 -- Where no fate is left but Pass, the next one is Pass, and so are those behind it.
 next_passes : (q : List Fate) → AllPass q → first_fate q ≡ Pass
@@ -135,7 +136,7 @@ quiet_of s t g e c step is same pass =
 round_of : (s t : State) (g : Given) (e : Entry) (c : Command) → LegalStep s g e t → e.command ≡ c → changed s c ≡ s → due s g c [] ≡ LightUp → noise e.events ≡ 0 → AreDisturbed (rounds e.events) → ⊥
 round_of s t g e c step is same lit none =
     let there : changed s e.command ≡ s = ap (changed s) is ∙ same in
-    first_round s.world (due s g c) e.events (subst (λ (x : State). AreTurns air x.world e.events) there step.front.turns) (subst (λ k. EachDue (due s g k) [] e.events) is step.front.each) lit
+    first_round s.world.field (due s g c) e.events (subst (λ (x : State). AreTurns air x.world.field e.events) there (on_field s t g e.command e.events step.front).turns) (subst (λ k. EachDue (due s g k) [] e.events) is step.front.each) lit
     (ap (λ k. due s g k (receptions e.events)) (sym is) ∙ step.over) none
 
 pub quiet_finds : QuietFinds
@@ -180,13 +181,13 @@ pub quiet_reads : QuietReads
 quiet_reads s t g e id d step is placed named pass =
     let none : noise e.events ≡ 0 = quiet_of s t g e (Read id) step is refl pass in
     let L : Command → Type 0 = λ c. AnswerLaw s g c e.events e.answer in
-    let law : ReadLaw s id g.asked e.events e.answer = subst L is step.answered in
-    reads_complete s t g e id d step is placed named (quiet_tag TellsOf id s.world.listeners g.asked e.events e.answer law.tells none (once_read s t g e id step is none))
+    let law : ReadLaw s g.joins id g.asked e.events e.answer = subst L is step.answered in
+    reads_complete s t g e id d step is placed named (quiet_tag TellsOf id s.world.field.listeners g.asked e.events e.answer law.tells none (once_read s t g e id step is none))
 
 pub quiet_writes : QuietWrites
 quiet_writes s t g e id m d step is placed named pass =
     let none : noise e.events ≡ 0 = quiet_of s t g e (Write id m) step is refl pass in
     let L : Command → Type 0 = λ c. AnswerLaw s g c e.events e.answer in
-    let law : WritingLaw s id (message_of m) g.asked e.events e.answer = subst L is step.answered in
+    let law : WritingLaw s g.joins id m g.asked e.events e.answer = subst L is step.answered in
     writes_complete s t g e id m d step is placed named
-    (quiet_tag (TellsWrite (message_of m)) id s.world.listeners g.asked e.events e.answer law.tells none (once_written s t g e id m step is none))
+    (quiet_tag (TellsWrite (message_of m)) id s.world.field.listeners g.asked e.events e.answer law.tells none (once_written s t g e id m step is none))

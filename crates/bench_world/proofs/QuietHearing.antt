@@ -1,5 +1,5 @@
 -- On quiet air no reception is bad but the silences of polling, and a script without noise comes to what it should.
-use Rattle.std.proofs.Common.{◌≡◌, ℕ, ◌+◌, List, [], ◌∷◌, ◌++◌, Some, refl, ◌∙◌, ap, subst, arith}
+use Rattle.std.proofs.Common.{◌≡◌, ◌⊎◌, inl, inr, ℕ, ◌+◌, List, [], ◌∷◌, ◌++◌, true, false, Some, refl, sym, ◌∙◌, ap, subst, arith}
 use Rattle.std.specs.List.{AllByRecursion}
 use Rattle.nfc_base.specs.Signal.{Signal}
 use Rattle.nfc_base.specs.Trace.{noise, back_of, heard_by, other_than_pass}
@@ -9,7 +9,7 @@ use Rattle.nfc_base.specs.declared.event.Fate.{Fate}
 use Rattle.nfc_base.specs.declared.event.Fate.TheVariants.{Pass, Damage, Lose, Break}
 use Rattle.air_core.specs.Conversation.{note, AreTurns, FatesFrom, EachDue, Moment, receptions}
 use Rattle.bench_script.specs.declared.command.Command.{Command}
-use Rattle.bench_script.specs.declared.command.Command.TheVariants.{Skip, Fates, PlaceT2, PlaceT4, PlaceT5, Lock, Busy, Remove, Dump, Find, Read, Write}
+use Rattle.bench_script.specs.declared.command.Command.TheVariants.{Skip, Fates, PlaceT2, PlaceT4, PlaceT5, PlacePeer, Lock, Busy, Offer, Remove, Dump, Inbox, Find, Read, Write}
 use Rattle.bench_script.specs.declared.command.DeviceId.{DeviceId}
 use Rattle.bench_script.specs.declared.command.DeviceId.TheVariants.{A, V}
 use Rattle.bench_script.specs.declared.message.Msg.{Msg}
@@ -18,23 +18,26 @@ use Rattle.bench_script.specs.Messages.{message_of}
 use Rattle.bench_script.specs.Script.{Spells, SpellsId}
 use Rattle.tag_reader.specs.Asked.{ToRead}
 use Rattle.bench_devices.specs.declared.device.Device.{Device}
-use Rattle.bench_devices.specs.Device.{BenchWorld, air, how_of}
+use Rattle.bench_devices.specs.Device.{BenchWorld, air, how_of, seen_of, is_tag}
+use Rattle.bench_devices.proofs.TagOrPeer.{tag_or_peer, of_tag, of_peer, either_if}
+use Rattle.isodep_link.proofs.Heeding.{AreBytes}
+use Rattle.bench_world.specs.Reading.{ReadAsks}
+use Rattle.bench_world.specs.Writing.{WriteAsks}
 use Rattle.bench_devices.specs.Hearing.{IsUnharmed}
 use Rattle.bench_devices.specs.Keeping.{Kept, kept, IsSound}
 use Rattle.bench_devices.specs.Placed.{IfPlaced, device_with}
 use Rattle.bench_devices.specs.TagAsking.{tag_due}
-use Rattle.bench_devices.specs.Reading.{AsksOf}
-use Rattle.bench_devices.specs.Writing.{AsksWriteOf}
 use Rattle.bench_devices.proofs.PlainHeard.{IsHeeded}
 use Rattle.bench_devices.proofs.ReadHeeded.{asked_heeded}
 use Rattle.bench_devices.proofs.SelectedHeard.{Heed, IsId, tag_hears}
 use Rattle.bench_devices.proofs.WriteHeeded.{write_heeded}
 use Rattle.bench_world.specs.declared.entry.Entry.{Entry}
 use Rattle.bench_world.specs.Journal.{asking_lines}
-use Rattle.bench_world.specs.Legal.{State, Given, LegalStep, IsAskedBy, changed, due}
+use Rattle.bench_world.specs.Legal.{State, Given, LegalStep, IsAskedBy, changed, due, first_state}
 use Rattle.bench_world.specs.Quiet.{AllPass}
-use Rattle.bench_world.specs.QuietHearing.{tag_of, AnswersAll, IsWellHeard, IsHeardIfQuiet, IsQuietLine, IsQuietEntry, QuietHears, QuietScript}
+use Rattle.bench_world.specs.QuietHearing.{AllAlong, tag_of, AnswersAll, IsWellHeard, IsHeardIfQuiet, IsQuietLine, IsQuietEntry, QuietHears, QuietScript}
 use Rattle.bench_world.proofs.Complete.{of_first}
+use Rattle.bench_world.proofs.Fronts.{on_field}
 use Rattle.bench_world.proofs.Placing.{IsWith, is_with, with_sound}
 use Rattle.bench_world.proofs.Quiet.{quiet_stays, quiet_reads, quiet_writes, quiet_finds}
 use Rattle.bench_world.proofs.Reached.{IsReadable, IsReady, message_bytes, ready_step, along, asking_all, first_ready}
@@ -68,40 +71,49 @@ all_unharmed (Clash g x ∷ es) z = all_unharmed es (behind x (noise es) z)
 
 -- The device that a command selects and then asks heeds what is asked.
 abbrev start : State → Moment BenchWorld
-start s = record { world = s.world; queue = s.queue; trace = [] }
+start s = record { world = s.world.field; queue = s.queue; trace = [] }
 
-heed : (s : State) (r : IsReady s.world.listeners) (id : DeviceId) (asked : List Signal) (Asks : Device → Type 0)
+heed : (s : State) (r : IsReady s.world.field.listeners) (id : DeviceId) (asked : List Signal) (Asks : Device → Type 0)
     → ((d : Device) → IsSound (kept d) → IsReadable d → Asks d → AllByRecursion (IsHeeded (how_of d)) asked)
-    → IfPlaced Asks (asked ≡ []) (device_with (bytes_of id) s.world.listeners) → Heed asked (start s) r.tame r.tidy id
+    → IfPlaced Asks (asked ≡ []) (device_with (bytes_of id) s.world.field.listeners) → Heed asked (start s) r.tame r.tidy id
 heed s r id asked Asks each asks d before behind split named =
-    let w : IsWith s.world.listeners (bytes_of id) (kept d) = is_with s.world.listeners before (kept d) behind (bytes_of id) r.tame.sound split named in
+    let w : IsWith s.world.field.listeners (bytes_of id) (kept d) = is_with s.world.field.listeners before (kept d) behind (bytes_of id) r.tame.sound split named in
     let here : Asks w.device = subst (λ o. IfPlaced Asks (asked ≡ []) o) w.found asks in
-    let readable : IsReadable w.device = of_first IsReadable (bytes_of id) s.world.listeners w.device r.readable w.found in
-    subst (λ (k : Kept). AllByRecursion (IsHeeded k.fixed.how) asked) w.same (each w.device (with_sound s.world.listeners (bytes_of id) w.device r.tame.sound w.found) readable here)
+    let readable : IsReadable w.device = of_first IsReadable (bytes_of id) s.world.field.listeners w.device r.readable w.found in
+    subst (λ (k : Kept). AllByRecursion (IsHeeded k.fixed.how) asked) w.same (each w.device (with_sound s.world.field.listeners (bytes_of id) w.device r.tame.sound w.found) readable here)
+
+-- it heeds what a write asks of it, and nothing is asked of a peer
+writes_heeded : (message : List ℕ) (d : Device) → (is_tag d ≡ true) ⊎ (is_tag d ≡ false) → (asked : List Signal) → IsSound (kept d) → IsReadable d → AreBytes message → WriteAsks message d asked
+    → AllByRecursion (IsHeeded (how_of d)) asked
+writes_heeded message d (inl tag) asked sound readable bytes asks = write_heeded message d asked tag sound readable bytes (of_tag d tag _ _ asks)
+writes_heeded message d (inr peer) asked sound readable bytes asks =
+    subst (AllByRecursion (IsHeeded (how_of d))) (sym (of_peer d peer _ _ asks)) tt
 
 -- a line names a device by an identifier that one may have
-spelled_id : (s : State) (r : IsReady s.world.listeners) (asked : List Signal) (word : List ℕ) (id : DeviceId) → SpellsId word id → IsId asked (start s) r.tame r.tidy id
+spelled_id : (s : State) (r : IsReady s.world.field.listeners) (asked : List Signal) (word : List ℕ) (id : DeviceId) → SpellsId word id → IsId asked (start s) r.tame r.tidy id
 spelled_id s r asked word (A id) sp = sp.1
 spelled_id s r asked word (V id) sp = sp.1
 
-module _ (s t : State) (g : Given) (line : List ℕ) (e : Entry) (r : IsReady s.world.listeners) (sp : Spells line e.command) (step : LegalStep s g e t) (pass : AllPass (changed s e.command).queue) where
+module _ (s t : State) (g : Given) (line : List ℕ) (e : Entry) (r : IsReady s.world.field.listeners) (sp : Spells line e.command) (step : LegalStep s g e t) (pass : AllPass (changed s e.command).queue) where
   -- a command that itself changes nothing, selects a tag and asks it what it heeds
   tag_answered : (id : DeviceId) → changed s e.command ≡ s → due s g e.command ≡ tag_due id g.asked → IsId g.asked (start s) r.tame r.tidy id → Heed g.asked (start s) r.tame r.tidy id → AnswersAll id e
   tag_answered id same next named heeds kind since told =
-      tag_hears g.asked (start s) r.tame r.tidy id named heeds e.events (subst (λ (x : State). AllPass x.queue) same pass) (subst (λ (x : State). AreTurns air x.world e.events) same step.front.turns)
+      tag_hears g.asked (start s) r.tame r.tidy id named heeds e.events (subst (λ (x : State). AllPass x.queue) same pass) (subst (λ (x : State). AreTurns air x.world.field e.events) same (on_field s t g e.command e.events step.front).turns)
       (subst (λ (x : State). FatesFrom x.queue e.events) same step.front.fates) (subst (λ d. EachDue d [] e.events) next step.front.each) kind since told
 
   read_answered : (id : DeviceId) → e.command ≡ Read id → AnswersAll id e
   read_answered id is =
       let spelled : Spells line (Read id) = let C : Command → Type 0 = λ c. Spells line c in subst C is sp in
       tag_answered id (ap (λ c. changed s c) is) (ap (λ c. due s g c) is) (spelled_id s r g.asked spelled.0 id spelled.2)
-      (heed s r id g.asked (λ d. AsksOf d g.asked) (λ d sound bytes asks. asked_heeded ToRead d g.asked sound bytes asks) (subst (λ c. IsAskedBy s c g.asked) is step.front.asks))
+      (heed s r id g.asked (λ d. ReadAsks d g.asked)
+      (λ d sound bytes asks. either_if (seen_of d) _ _ _ (λ p. asked_heeded ToRead d g.asked sound bytes p) (λ none. subst (AllByRecursion (IsHeeded (how_of d))) (sym none) tt) asks) (subst (λ c. IsAskedBy s c g.asked) is step.front.asks))
 
   write_answered : (id : DeviceId) (m : Msg) → e.command ≡ Write id m → AnswersAll id e
   write_answered id m is =
       let spelled : Spells line (Write id m) = let C : Command → Type 0 = λ c. Spells line c in subst C is sp in
       tag_answered id (ap (λ c. changed s c) is) (ap (λ c. due s g c) is) (spelled_id s r g.asked spelled.0 id spelled.3)
-      (heed s r id g.asked (λ d. AsksWriteOf (message_of m) d g.asked) (λ d sound bytes asks. write_heeded (message_of m) d g.asked sound bytes (message_bytes spelled.1 m spelled.4) asks)
+      (heed s r id g.asked (λ d. WriteAsks (message_of m) d g.asked)
+      (λ d sound bytes asks. writes_heeded (message_of m) d (tag_or_peer d) g.asked sound bytes (message_bytes spelled.1 m spelled.4) asks)
       (subst (λ c. IsAskedBy s c g.asked) is step.front.asks))
 
   by_command : (c : Command) → e.command ≡ c → (id : DeviceId) → tag_of c ≡ Some id → AnswersAll id e
@@ -110,10 +122,13 @@ module _ (s t : State) (g : Given) (line : List ℕ) (e : Entry) (r : IsReady s.
   by_command (PlaceT2 i blocks head) is id of = absurd cc
   by_command (PlaceT4 i code container head) is id of = absurd cc
   by_command (PlaceT5 i blocks size head) is id of = absurd cc
+  by_command (PlacePeer i lr miu rw limit) is id of = absurd cc
   by_command (Lock i block) is id of = absurd cc
   by_command (Busy i count times) is id of = absurd cc
+  by_command (Offer i key value) is id of = absurd cc
   by_command (Remove i) is id of = absurd cc
   by_command (Dump i) is id of = absurd cc
+  by_command (Inbox i) is id of = absurd cc
   by_command Find is id of = absurd cc
   by_command (Read i) is id of = let same : i ≡ id = cc in read_answered id (is ∙ ap Read same)
   by_command (Write i m) is id of = let same : i ≡ id = cc in write_answered id m (is ∙ ap (λ x. Write x m) same)
@@ -130,14 +145,14 @@ any_line [] = tt
 any_line (l ∷ ls) = (tt, any_line ls)
 
 pub quiet_hears : QuietHears
-quiet_hears lines journal last leads =
-    along (λ s. IsReady s.world.listeners) IsAny IsHeardIfQuiet
+quiet_hears lines numbers journal last leads =
+    subst (λ ns. AllAlong IsHeardIfQuiet first_state ns journal) leads.joins (along (λ s. IsReady s.world.field.listeners) IsAny IsHeardIfQuiet
     (λ s t g line e r any sp step. (λ pass. well_heard s t g line e r sp step pass, ready_step s t g line e sp step r))
-    (asking_lines 1 lines) _ last leads.given journal first_ready (asking_all IsAny 1 lines (any_line lines)) leads.numbered leads.steps
+    (asking_lines 1 lines) first_state last leads.given journal first_ready (asking_all IsAny 1 lines (any_line lines)) leads.numbered leads.steps)
 
 -- A script without noise.
 record IsCalm (s : State) : Type 0 where
-  pub ready : IsReady s.world.listeners
+  pub ready : IsReady s.world.field.listeners
   pub queue : AllPass s.queue
 
 join_pass : (xs ys : List Fate) → AllPass xs → AllPass ys → AllPass (xs ++ ys)
@@ -150,10 +165,13 @@ passes_still s line (Fates fates) h q sp = join_pass s.queue fates h (q fates sp
 passes_still s line (PlaceT2 id blocks head) h q sp = h
 passes_still s line (PlaceT4 id code container head) h q sp = h
 passes_still s line (PlaceT5 id blocks size head) h q sp = h
+passes_still s line (PlacePeer id lr miu rw limit) h q sp = h
 passes_still s line (Lock id block) h q sp = h
 passes_still s line (Busy id count times) h q sp = h
+passes_still s line (Offer id key value) h q sp = h
 passes_still s line (Remove id) h q sp = h
 passes_still s line (Dump id) h q sp = h
+passes_still s line (Inbox id) h q sp = h
 passes_still s line Find h q sp = h
 passes_still s line (Read id) h q sp = h
 passes_still s line (Write id m) h q sp = h
@@ -173,5 +191,5 @@ quiet_entry s t g line e calm q sp step =
     )
 
 pub quiet_script : QuietScript
-quiet_script lines journal last leads quiet =
-    along IsCalm IsQuietLine IsQuietEntry quiet_entry (asking_lines 1 lines) _ last leads.given journal (record { ready = first_ready; queue = tt }) (asking_all IsQuietLine 1 lines quiet) leads.numbered leads.steps
+quiet_script lines numbers journal last leads quiet =
+    subst (λ ns. AllAlong IsQuietEntry first_state ns journal) leads.joins (along IsCalm IsQuietLine IsQuietEntry quiet_entry (asking_lines 1 lines) first_state last leads.given journal (record { ready = first_ready; queue = tt }) (asking_all IsQuietLine 1 lines quiet) leads.numbered leads.steps)

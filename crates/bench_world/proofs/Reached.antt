@@ -11,25 +11,27 @@ use Rattle.isodep_link.specs.Reader.{longest_extension}
 use Rattle.isodep_link.proofs.Heeding.{AreBytes, no_bytes}
 use Rattle.t4t_tag.specs.Store.{file_size}
 use Rattle.bench_script.specs.declared.command.Command.{Command}
-use Rattle.bench_script.specs.declared.command.Command.TheVariants.{Skip, Fates, PlaceT2, PlaceT4, PlaceT5, Lock, Busy, Remove, Dump, Find, Read, Write}
+use Rattle.bench_script.specs.declared.command.Command.TheVariants.{Skip, Fates, PlaceT2, PlaceT4, PlaceT5, PlacePeer, Lock, Busy, Offer, Remove, Dump, Inbox, Find, Read, Write}
 use Rattle.bench_script.specs.declared.message.Msg.{Msg}
 use Rattle.bench_script.specs.declared.message.Msg.TheVariants.{Hex, Gen}
 use Rattle.bench_script.specs.DeviceIds.{bytes_of}
 use Rattle.bench_script.specs.Messages.{message_of}
 use Rattle.bench_script.specs.Script.{Spells, SpellsHex, SpellsMsg, is_skipped}
 use Rattle.bench_devices.specs.declared.device.Device.{Device}
-use Rattle.bench_devices.specs.declared.device.Device.TheVariants.{T2, T4, T5}
-use Rattle.bench_devices.specs.Device.{BenchWorld, air, most_devices, device_id, new_t2, new_t4, new_t5, device_locked, device_busy}
+use Rattle.bench_devices.specs.declared.device.Device.TheVariants.{T2, T4, Peer, T5}
+use Rattle.bench_devices.specs.Device.{BenchWorld, air, most_devices, device_id, new_t2, new_t4, new_t5, new_peer, device_locked, device_busy}
 use Rattle.bench_devices.specs.Keeping.{Fixed, kept, container_of, IsSound, IsApart, AreSound, AreTame, AllStayDevices}
 use Rattle.bench_devices.specs.Phases.{IsTidy, AreTidy}
 use Rattle.bench_devices.specs.Placed.{without, with_changed}
 use Rattle.bench_devices.proofs.CardBytes.{cons_bytes}
 use Rattle.bench_devices.proofs.EveryFrame.{devices_stay}
+use Rattle.bench_devices.proofs.PeerMade.{busy_made}
 use Rattle.bench_devices.proofs.Tidy.{events_tidy}
 use Rattle.bench_world.specs.declared.entry.Entry.{Entry}
 use Rattle.bench_world.specs.Journal.{NumberedLine, AreEntriesOf, asking_lines}
 use Rattle.bench_world.specs.Legal.{State, Given, Accepts, IsFree, LegalStep, EachLegal, changed, first_state, memory_of}
 use Rattle.bench_world.specs.QuietHearing.{AllAlong}
+use Rattle.bench_world.proofs.Fronts.{on_field}
 use Rattle.bench_world.proofs.Placed.{apart_all}
 use Rattle.bench_world.proofs.Placing.{map-over, tame_more, tidy_more, none_named}
 
@@ -114,21 +116,25 @@ tidy_changed g stays id (d ∷ ds) t = by_name (pointwise nat_eq (device_id d) i
 locked_stays : (block : ℕ) (d : Device) → StaysReady d (device_locked block d)
 locked_stays block (T2 d) = record { same_id = refl; container = refl; sound = λ s. s }
 locked_stays block (T4 d) = record { same_id = refl; container = refl; sound = λ s. s }
+locked_stays block (Peer d) = record { same_id = refl; container = refl; sound = λ s. s }
 locked_stays block (T5 p) = record { same_id = refl; container = refl; sound = λ s. s }
 
 locked_tidy : (block : ℕ) (d : Device) → IsTidy d → IsTidy (device_locked block d)
 locked_tidy block (T2 d) t = t
 locked_tidy block (T4 d) t = t
+locked_tidy block (Peer d) t = t
 locked_tidy block (T5 p) t = t
 
 busy_stays : (count times : ℕ) → count ≤ most_busy → (1 ≤ times) × (times ≤ longest_extension) → (d : Device) → StaysReady d (device_busy count times d)
 busy_stays count times few long (T2 d) = record { same_id = refl; container = refl; sound = λ s. s }
 busy_stays count times few long (T4 d) = record { same_id = refl; container = refl; sound = λ s. (s.0, s.1, s.2, s.3, s.4, record { made = refl; busy = few; times = long }) }
+busy_stays count times few long (Peer d) = record { same_id = refl; container = refl; sound = λ s. (s.0, s.1, busy_made d.id d.upper count times few long s.2) }
 busy_stays count times few long (T5 p) = record { same_id = refl; container = refl; sound = λ s. s }
 
 busy_tidy : (count times : ℕ) (d : Device) → IsTidy d → IsTidy (device_busy count times d)
 busy_tidy count times (T2 d) t = t
 busy_tidy count times (T4 d) t = t
+busy_tidy count times (Peer d) t = t
 busy_tidy count times (T5 p) t = t
 
 -- a device is taken away
@@ -176,9 +182,9 @@ readable_more : (ds : List Device) (d : Device) → AllByRecursion IsReadable ds
 readable_more [] d h own = (own, tt)
 readable_more (x ∷ ds) d h own = (h.0, readable_more ds d h.1 own)
 
-ready_more : (s : State) (d : Device) → IsSound (kept d) → IsTidy d → IsReadable d → IsFree s (device_id d) → IsReady s.world.listeners → IsReady (s.world.listeners ++ d ∷ [])
+ready_more : (s : State) (d : Device) → IsSound (kept d) → IsTidy d → IsReadable d → IsFree s (device_id d) → IsReady s.world.field.listeners → IsReady (s.world.field.listeners ++ d ∷ [])
 ready_more s d sound tidy readable free r =
-    let ls : List Device = s.world.listeners in
+    let ls : List Device = s.world.field.listeners in
     let apart : AllByRecursion (λ l. IsApart l (kept d)) (map kept ls) = apart_all ls d (none_named ls (device_id d) free.fresh) in
     let room : length (map kept ls) < most_devices = omega (arith, length-map ls kept, free.room) in
     record {
@@ -202,7 +208,7 @@ message_bytes word (Hex bytes) sp = hex_bytes word bytes sp
 message_bytes word (Gen count start) sp = counted_bytes start 0 count
 
 -- What a line's command changes leaves the devices so.
-ready_changed : (s : State) (line : List ℕ) (c : Command) → Spells line c → Accepts s c → IsReady s.world.listeners → IsReady (changed s c).world.listeners
+ready_changed : (s : State) (line : List ℕ) (c : Command) → Spells line c → Accepts s c → IsReady s.world.field.listeners → IsReady (changed s c).world.field.listeners
 ready_changed s line Skip sp is r = r
 ready_changed s line (Fates fates) sp is r = r
 ready_changed s line (PlaceT2 id blocks head) sp is r = ready_more s (new_t2 id (memory_of (4 * blocks) head)) (sp.4.1, refl, is.store) tt no_bytes is.free r
@@ -212,37 +218,42 @@ ready_changed s line (PlaceT4 id code container head) sp is r =
     (sp.5.1, file, refl, is.store, refl, record { made = refl; busy = omega arith; times = (omega arith, omega arith) }) (inr refl) (hex_bytes sp.2 container sp.7) is.free r
 ready_changed s line (PlaceT5 id blocks size head) sp is r =
     ready_more s (new_t5 id size (memory_of (size * blocks) head)) (refl, sp.5.1, (decode_of-ok sp.0 id sp.5.0).3, is.store) tt no_bytes is.free r
+ready_changed s line (PlacePeer id lr miu rw limit) sp is r =
+    ready_more s (new_peer id lr miu)
+    (sp.6.1, refl, record { lr = lr; miu = miu; code = is.code; size = is.size; few = omega arith; some = omega arith; longest = omega arith; made = refl }) (inr refl) no_bytes is.free r
 ready_changed s line (Lock id block) sp is r =
-    ready_too s.world.listeners (with_changed (device_locked block) (bytes_of id) s.world.listeners) (all_changed (device_locked block) (locked_stays block) (bytes_of id) s.world.listeners)
-    (tidy_changed (device_locked block) (locked_tidy block) (bytes_of id) s.world.listeners r.tidy) r
+    ready_too s.world.field.listeners (with_changed (device_locked block) (bytes_of id) s.world.field.listeners) (all_changed (device_locked block) (locked_stays block) (bytes_of id) s.world.field.listeners)
+    (tidy_changed (device_locked block) (locked_tidy block) (bytes_of id) s.world.field.listeners r.tidy) r
 ready_changed s line (Busy id count times) sp is r =
-    ready_too s.world.listeners (with_changed (device_busy count times) (bytes_of id) s.world.listeners) (all_changed (device_busy count times) (busy_stays count times is.few is.long) (bytes_of id) s.world.listeners)
-    (tidy_changed (device_busy count times) (busy_tidy count times) (bytes_of id) s.world.listeners r.tidy) r
-ready_changed s line (Remove id) sp is r = ready_without (bytes_of id) s.world.listeners r
+    ready_too s.world.field.listeners (with_changed (device_busy count times) (bytes_of id) s.world.field.listeners) (all_changed (device_busy count times) (busy_stays count times is.few is.long) (bytes_of id) s.world.field.listeners)
+    (tidy_changed (device_busy count times) (busy_tidy count times) (bytes_of id) s.world.field.listeners r.tidy) r
+ready_changed s line (Offer id key value) sp is r = r
+ready_changed s line (Remove id) sp is r = ready_without (bytes_of id) s.world.field.listeners r
 ready_changed s line (Dump id) sp is r = r
+ready_changed s line (Inbox id) sp is r = r
 ready_changed s line Find sp is r = r
 ready_changed s line (Read id) sp is r = r
 ready_changed s line (Write id m) sp is r = r
 
 -- So does a step.
-pub ready_step : (s t : State) (g : Given) (line : List ℕ) (e : Entry) → Spells line e.command → LegalStep s g e t → IsReady s.world.listeners → IsReady t.world.listeners
+pub ready_step : (s t : State) (g : Given) (line : List ℕ) (e : Entry) → Spells line e.command → LegalStep s g e t → IsReady s.world.field.listeners → IsReady t.world.field.listeners
 ready_step s t g line e sp step r =
-    let w : BenchWorld = (changed s e.command).world in
+    let w : BenchWorld = (changed s e.command).world.field in
     let here : IsReady w.listeners = ready_changed s line e.command sp step.front.accepted r in
     let there : IsReady (replay air w e.events).listeners =
     ready_too w.listeners (replay air w e.events).listeners (all_stayed w.listeners (replay air w e.events).listeners (devices_stay w e.events)) (events_tidy e.events w here.tidy) here in
-    subst (λ (x : State). IsReady x.world.listeners) (sym step.front.after) there
+    subst (λ (x : BenchWorld). IsReady x.listeners) (sym (on_field s t g e.command e.events step.front).field) there
 
 -- What holds at first, and is kept by each step of a line that is so, holds all along a journal.
 pub along : (I : State → Type 0) (L : List ℕ → Type 0) (P : State → Entry → Type 0)
     → ((s t : State) (g : Given) (line : List ℕ) (e : Entry) → I s → L line → Spells line e.command → LegalStep s g e t → P s e × I t)
-    → (ls : List NumberedLine) (s t : State) (gs : List Given) (js : List Entry) → I s → AllByRecursion (λ (l : NumberedLine). L l.text) ls → AreEntriesOf ls js → EachLegal s gs js t → AllAlong P s js
+    → (ls : List NumberedLine) (s t : State) (gs : List Given) (js : List Entry) → I s → AllByRecursion (λ (l : NumberedLine). L l.text) ls → AreEntriesOf ls js → EachLegal s gs js t → AllAlong P s (map (λ (g : Given). g.joins) gs) js
 along I L P step ls s t gs [] i all of steps = tt
 along I L P step [] s t gs (e ∷ js) i all of steps = absurd of
 along I L P step (l ∷ ls) s t [] (e ∷ js) i all of steps = absurd steps
 along I L P step (l ∷ ls) s t (g ∷ gs) (e ∷ js) i all of steps =
     let one = step s steps.0 g l.text e i all.0 of.1 steps.1 in
-    (one.0, subst (λ x. AllAlong P x js) steps.1.front.after (along I L P step ls steps.0 t gs js one.1 all.1 of.2 steps.2))
+    (one.0, subst (λ x. AllAlong P x (map (λ (h : Given). h.joins) gs) js) steps.1.front.after (along I L P step ls steps.0 t gs js one.1 all.1 of.2 steps.2))
 
 -- what holds of each line holds of each that asks for something
 pub asking_all : (L : List ℕ → Type 0) (n : ℕ) (lines : List (List ℕ)) → AllByRecursion L lines → AllByRecursion (λ (l : NumberedLine). L l.text) (asking_lines n lines)
@@ -254,5 +265,5 @@ asking_all L n (l ∷ ls) h = by_skip (is_skipped l) (asking_all L (n + 1) ls h.
     by_skip true more = more
     by_skip false more = (h.0, more)
 
-pub first_ready : IsReady first_state.world.listeners
+pub first_ready : IsReady first_state.world.field.listeners
 first_ready = record { tame = record { sound = tt; few = omega arith }; tidy = tt; readable = tt }

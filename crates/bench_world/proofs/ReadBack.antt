@@ -1,5 +1,5 @@
 -- The lines of a report tell what they say.
-use Rattle.std.proofs.Common.{◌≡◌, ◌≢◌, ℕ, suc, ◌+◌, ◌*◌, ◌/◌, ◌%◌, ◌<◌, ◌^◌, List, [], ◌∷◌, ◌++◌, length, append_assoc, drop, get_or, Bool, true, false, ◌==◌, Ok, refl, sym, ◌∙◌, ap, subst, arith, inl, inr}
+use Rattle.std.proofs.Common.{◌≡◌, ◌≢◌, ℕ, suc, ◌/◌, ◌%◌, ◌<◌, ◌^◌, List, [], ◌∷◌, ◌++◌, length, append_assoc, drop, get_or, Bool, true, false, ◌==◌, refl, sym, ◌∙◌, ap, subst, arith}
 use Rattle.std.specs.Prelude.{codes, if◌then◌else◌, ◌&&◌, ltb}
 use Rattle.std.specs.List.{All}
 use Rattle.std.specs.Fmt.{decimal}
@@ -18,7 +18,7 @@ use Rattle.nfc_base.specs.declared.event.Fate.{Fate}
 use Rattle.nfc_base.specs.declared.event.Fate.TheVariants.{Pass, Damage, Lose, Break}
 use Rattle.bench_script.specs.Canonical.{hex_text}
 use Rattle.bench_world.specs.declared.entry.Answer.{Answer as Said}
-use Rattle.bench_world.specs.declared.entry.Answer.TheVariants.{Done, Store, Found, Message, NotNdef, Version, NoRead, Sectors, BadSize, NoMessageTlv, BadTlv, Disturbed, FieldLost, NotFound, SixBad, Written, Refused, ReadOnly, TooLong, ShortMlc}
+use Rattle.bench_world.specs.declared.entry.Answer.TheVariants.{Done, Store, Found, Message, NotNdef, Version, NoRead, Sectors, BadSize, NoMessageTlv, BadTlv, Disturbed, FieldLost, NotFound, SixBad, Written, Refused, ReadOnly, TooLong, ShortMlc, WrongKind, Inbox}
 use Rattle.bench_world.specs.Report.{tail_text, frame_text, fate_text, sent_text, event_text, answer_text, line_text}
 use Rattle.bench_world.specs.ReadBack.{IsOf, LinesTellEvents, AnswersApart}
 
@@ -220,7 +220,9 @@ letter_first (Refused code) = omega arith
 letter_first ReadOnly = omega arith
 letter_first (TooLong room) = omega arith
 letter_first ShortMlc = omega arith
+letter_first WrongKind = omega arith
 letter_first (Store bytes) = omega arith
+letter_first (Inbox messages) = omega arith
 letter_first (Found devices crowd) = omega arith
 letter_first (Message message writable) = omega arith
 

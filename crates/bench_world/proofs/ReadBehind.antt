@@ -24,16 +24,18 @@ use Rattle.bench_script.specs.DeviceIds.{bytes_of}
 use Rattle.bench_script.specs.Messages.{message_of}
 use Rattle.bench_devices.specs.declared.device.Device.{Device}
 use Rattle.bench_devices.specs.declared.polling.SeenKind.{SeenKind}
-use Rattle.bench_devices.specs.Device.{BenchWorld, air, device_id, device_store, how_of, size_of}
-use Rattle.bench_devices.specs.Keeping.{Fixed, fixed, held_by, images_of}
+use Rattle.bench_devices.specs.Device.{BenchWorld, air, device_id, device_store, how_of, size_of, is_tag}
+use Rattle.bench_devices.proofs.TagOrPeer.{told_tag, of_tag, same_tag}
+use Rattle.bench_devices.specs.Keeping.{Fixed, fixed, held_by, images_of, AllKeepBut}
 use Rattle.bench_devices.specs.Placed.{device_with, OfPlaced, IfPlaced}
 use Rattle.bench_devices.specs.Writing.{ShowsWrite, KeepsWriteLaw}
 use Rattle.bench_world.specs.declared.entry.Answer.{Answer}
 use Rattle.bench_world.specs.declared.entry.Answer.TheVariants as answers
 use Rattle.bench_world.specs.Answering.{TagEnds, TagTells, TellsFault, poll_answer}
 use Rattle.bench_world.specs.Reading.{TellsOf}
-use Rattle.bench_world.specs.Writing.{TellsWrite, ending_told}
-use Rattle.bench_world.specs.Legal.{State, AnswerLaw, ReadLaw, WritingLaw, state_after}
+use Rattle.bench_world.specs.Writing.{TellsTag, TellsWrite, KeepsStores, ending_told}
+use Rattle.bench_world.specs.Legal.{State, FrontOf, AnswerLaw, ReadLaw, WritingLaw, state_after}
+use Rattle.bench_world.proofs.Fronts.{field_after}
 use Rattle.bench_world.specs.Behind.{WritesThenReads, WrittenIsRead, OneOfThreeIsRead}
 use Rattle.bench_world.proofs.OneForm.{one_store_form}
 use Rattle.bench_world.proofs.Telling.{tells_either}
@@ -113,47 +115,70 @@ all_three P Q S R p q s xs t =
 
 module _ (id : DeviceId) (tag : Device) (m : Msg) (answer : Answer) (message : List ℕ) (r : WritesThenReads id tag m answer message) where
   abbrev images : List (List ℕ)
-  images = images_of (device_id tag) r.before.world r.write.events
+  images = images_of (device_id tag) r.before.world.field r.write.events
 
   abbrev last : List ℕ
   last = last_store (device_store tag) images
 
-  law : WritingLaw r.before id (message_of m) r.write_given.asked r.write.events answer
+  law : WritingLaw r.before r.write_given.joins id m r.write_given.asked r.write.events answer
   law =
       let L : Command → Answer → Type 0 = λ c a. AnswerLaw r.before r.write_given c r.write.events a in
       subst (L (Write id m)) r.answered (subst (λ c. L c r.write.answer) r.writing r.writes.answered)
 
-  keeps : KeepsWriteLaw (message_of m) tag (ending_told answer) r.before.world r.write.events
-  keeps = subst (λ o. IfPlaced (λ d. KeepsWriteLaw (message_of m) d (ending_told answer) r.before.world r.write.events) (Unit {0}) o) r.placed law.stores.law
-
   -- the tag behind the write
-  behind : (e : Device) × (device_with (bytes_of id) (replay air r.before.world r.write.events).listeners ≡ Some e) × (fixed e ≡ fixed tag)
-  behind = own_found (bytes_of id) (bytes_of id) r.before.world.listeners (replay air r.before.world r.write.events).listeners tag law.stores.others r.placed
+  on_air : (state_after r.before r.write_given.joins (Write id m) r.write.events).world.field ≡ replay air r.before.world.field r.write.events
+  on_air =
+      let front : FrontOf r.before r.write_given (Write id m) r.write.events r.written = subst (λ c. FrontOf r.before r.write_given c r.write.events r.written) r.writing r.writes.front in
+      field_after r.before r.written r.write_given (Write id m) r.write.events front
+
+  behind : (e : Device) × (device_with (bytes_of id) (replay air r.before.world.field r.write.events).listeners ≡ Some e) × (fixed e ≡ fixed tag)
+  behind =
+      own_found (bytes_of id) (bytes_of id) r.before.world.field.listeners (replay air r.before.world.field r.write.events).listeners tag
+      (subst (λ (w : BenchWorld). AllKeepBut (bytes_of id) r.before.world.field.listeners w.listeners) on_air law.stores.others) r.placed
 
   holds_last : device_store behind.0 ≡ last
   holds_last =
-      let named : device_id tag ≡ bytes_of id = found_named (bytes_of id) r.before.world.listeners tag r.placed in
-      sym (ap held_by behind.1) ∙ ap (λ i. held_by (device_with i (replay air r.before.world r.write.events).listeners)) (sym named)
-      ∙ sym (last_image (device_id tag) r.before.world r.write.events (device_store tag))
+      let named : device_id tag ≡ bytes_of id = found_named (bytes_of id) r.before.world.field.listeners tag r.placed in
+      sym (ap held_by behind.1) ∙ ap (λ i. held_by (device_with i (replay air r.before.world.field r.write.events).listeners)) (sym named)
+      ∙ sym (last_image (device_id tag) r.before.world.field r.write.events (device_store tag))
 
-  there : device_with (bytes_of id) r.written.world.listeners ≡ Some behind.0
+  there : device_with (bytes_of id) r.written.world.field.listeners ≡ Some behind.0
   there =
-      let after : r.written ≡ state_after r.before (Write id m) r.write.events = r.writes.front.after ∙ ap (λ c. state_after r.before c r.write.events) r.writing in
-      ap (λ (s : State). device_with (bytes_of id) s.world.listeners) after ∙ behind.1
+      let after : r.written ≡ state_after r.before r.write_given.joins (Write id m) r.write.events =
+      r.writes.front.after ∙ ap (λ c. state_after r.before r.write_given.joins c r.write.events) r.writing in
+      ap (λ (s : State). device_with (bytes_of id) s.world.field.listeners) after ∙ ap (λ (w : BenchWorld). device_with (bytes_of id) w.listeners) on_air ∙ behind.1
 
   -- and when it is read
-  at_read : IsAlike (bytes_of id) behind.0 r.later.world.listeners
+  at_read : IsAlike (bytes_of id) behind.0 r.later.world.field.listeners
   at_read = steps_alike id r.written r.later r.given r.between behind.0 r.goes_on r.alone there
+
+  read : ReadLaw r.later r.read_given.joins id r.read_given.asked r.read.events (answers.Message message r.writable)
+  read =
+      let L : Command → Answer → Type 0 = λ c a. AnswerLaw r.later r.read_given c r.read.events a in
+      subst (L (Read id)) r.told (subst (λ c. L c r.read.answer) r.reading r.reads.answered)
+
+  told_there : TellsOf at_read.device (answers.Message message r.writable)
+  told_there =
+      told_of TellsOf id r.later.world.field.listeners r.read_given.asked (answers.Message message r.writable) at_read.device at_read.found (message_polled message r.writable) (message_failed message r.writable)
+      read.tells.polled read.tells.behind read.tells.ends
+
+  -- it is a tag, since it told a message
+  no_wrong : answers.Message message r.writable ≡ answers.WrongKind → ⊥
+  no_wrong e = cc
+
+  tag_there : is_tag at_read.device ≡ true
+  tag_there = told_tag at_read.device _ _ no_wrong told_there
+
+  is_one : is_tag tag ≡ true
+  is_one = same_tag tag at_read.device (sym (at_read.alike.kind ∙ ap (λ (k : Fixed). k.kind) behind.2)) ∙ tag_there
+
+  keeps : KeepsWriteLaw (message_of m) tag (ending_told answer) r.before.world.field r.write.events
+  keeps = of_tag tag is_one _ _ (subst (λ o. IfPlaced (λ d. KeepsStores (message_of m) d (ending_told answer) r.before.world.field r.write.events) (Unit {0}) o) r.placed law.stores.law)
 
   -- what it holds then has this form
   form : IsStoreForm (how_of tag) (size_of tag) last (Message message)
   form =
-      let L : Command → Answer → Type 0 = λ c a. AnswerLaw r.later r.read_given c r.read.events a in
-      let read : ReadLaw r.later id r.read_given.asked r.read.events (answers.Message message r.writable) =
-      subst (L (Read id)) r.told (subst (λ c. L c r.read.answer) r.reading r.reads.answered) in
-      let tells : TellsOf at_read.device (answers.Message message r.writable) =
-      told_of TellsOf id r.later.world.listeners r.read_given.asked (answers.Message message r.writable) at_read.device at_read.found (message_polled message r.writable) (message_failed message r.writable)
-      read.tells.polled read.tells.behind read.tells.ends in
+      let tells = of_tag at_read.device tag_there _ _ told_there in
       let how : how_of at_read.device ≡ how_of tag = at_read.alike.how ∙ ap (λ (k : Fixed). k.how) behind.2 in
       let size : size_of at_read.device ≡ size_of tag = at_read.alike.size ∙ ap (λ (k : Fixed). k.size) behind.2 in
       let store : device_store at_read.device ≡ last = at_read.alike.store ∙ holds_last in
@@ -166,10 +191,10 @@ module _ (id : DeviceId) (tag : Device) (m : Msg) (answer : Answer) (message : L
 
   pub new_is_read : answer ≡ answers.Written → message ≡ message_of m
   new_is_read done =
-      let told : TagTells (TellsWrite (message_of m)) id r.before.world.listeners r.write_given.asked r.write.events answers.Written =
-      subst (TagTells (TellsWrite (message_of m)) id r.before.world.listeners r.write_given.asked r.write.events) done law.tells in
-      let tells : TellsWrite (message_of m) tag answers.Written =
-      told_of (TellsWrite (message_of m)) id r.before.world.listeners r.write_given.asked answers.Written tag r.placed written_polled written_failed told.polled told.behind told.ends in
+      let told : TagTells (TellsWrite (message_of m)) id r.before.world.field.listeners r.write_given.asked r.write.events answers.Written =
+      subst (TagTells (TellsWrite (message_of m)) id r.before.world.field.listeners r.write_given.asked r.write.events) done law.tells in
+      let tells : TellsTag (message_of m) tag answers.Written =
+      of_tag tag is_one _ _ (told_of (TellsWrite (message_of m)) id r.before.world.field.listeners r.write_given.asked answers.Written tag r.placed written_polled written_failed told.polled told.behind told.ends) in
       let writes : ShowsWrite (message_of m) tag (Ok tt) = subst (ShowsWrite (message_of m) tag) (done_written tells.0 tells.2) tells.1 in
       let passes = keeps.takes writes.place writes.takes in
       let left : Leaves (how_of tag) (size_of tag) (message_of m) writes.place (device_store tag) Written last =

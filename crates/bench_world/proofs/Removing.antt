@@ -1,8 +1,7 @@
 -- A device is taken away.
-use Rattle.std.proofs.Common.{◌≡◌, ℕ, ◌≤◌, List, [], ◌∷◌, ◌++◌, map, length, Bool, true, false, nat_eq, if◌then◌else◌, refl, sym, ◌∙◌, ap, subst, arith}
+use Rattle.std.proofs.Common.{◌≡◌, ℕ, suc, ◌≤◌, List, [], ◌∷◌, ◌++◌, map, length, Bool, true, false, nat_eq, if◌then◌else◌, Option, refl, sym, ◌∙◌, ap, subst, arith}
 use Rattle.std.specs.List.{AllByRecursion, remove}
 use Rattle.std.specs.Cmp.Lexicographic.{pointwise, same_text}
-use Rattle.air_core.specs.Turn.{Air}
 use Rattle.nfca_poll.proofs.OneLevel.{pointwise_self}
 use Rattle.bench_script.specs.declared.command.Command.TheVariants.{Remove}
 use Rattle.bench_script.specs.declared.command.DeviceId.{DeviceId}
@@ -10,9 +9,15 @@ use Rattle.bench_devices.specs.declared.device.Device.{Device}
 use Rattle.bench_world.specs.declared.entry.Answer.TheVariants.{Done}
 use Rattle.bench_devices.specs.Choosing.{StandsAt}
 use Rattle.bench_devices.specs.Device.{device_id}
-use Rattle.bench_world.specs.Legal.{IsPlaced}
+use Rattle.bench_world.specs.Legal.{State, IsPlaced}
 use Rattle.bench_devices.specs.Placed.{without}
-use Rattle.bench_world.specs.Obeying.{state_at, Obeyed}
+use Rattle.bench_world.specs.Obeying.{Machines, state_at, IsSettled, Obeyed, taken_out}
+use Rattle.bench_world.specs.World.{FarEnd}
+use Rattle.bench_world.specs.Peers.{without_place}
+use Rattle.far_air.specs.FarEnds.{by_link}
+use Rattle.far_air.specs.FarLaws.{shown}
+use Rattle.peer_air.specs.PeerFars.{peer_ends}
+use Rattle.bench_devices.specs.Device.{device_linked}
 use Rattle.bench_devices.specs.Phases.{IsIdle}
 use Rattle.bench_devices.specs.Keeping.{Kept, kept, IsApart, AreSound, AreTame}
 use Rattle.bench_devices.specs.Phases.{AreTidy}
@@ -64,21 +69,67 @@ without_behind (b ∷ before) d behind id named sound =
     ap (λ v. if v then before ++ d ∷ behind else b ∷ without id (before ++ d ∷ behind)) (is_other b before d behind id named sound.1)
     ∙ ap (λ xs. b ∷ xs) (without_behind before d behind id named sound.2)
 
--- the field without the listener at a place
-abbrev pub less_by : Air Device → ℕ → Air Device
-less_by a place = record { lit = a.lit; listeners = remove a.listeners place; fates = a.fates; trace = a.trace }
+-- Without a device and its far end, the others are shown as before.
+end_without : (before : List Device) (d : Device) (behind : List Device) (id : List ℕ) (os : List (Option FarEnd)) → device_id d ≡ id → AreSound (map kept (before ++ d ∷ behind)) → length os ≡ length (before ++ d ∷ behind)
+    → shown device_linked peer_ends (before ++ behind) (remove os (length before)) ≡ without_place id (before ++ d ∷ behind) (shown device_linked peer_ends (before ++ d ∷ behind) os)
+end_without [] d behind id [] named sound e = absurd cc
+end_without [] d behind id (o ∷ os) named sound e =
+    sym (ap (λ v. if v then shown device_linked peer_ends behind os else by_link peer_ends (device_linked d) o ∷ without_place id behind (shown device_linked peer_ends behind os))
+    (ap (λ x. pointwise nat_eq x id) named ∙ pointwise_self id))
+end_without (b ∷ before) d behind id [] named sound e = absurd cc
+end_without (b ∷ before) d behind id (o ∷ os) named sound e =
+    let more : length os ≡ length (before ++ d ∷ behind) = cc in
+    let all : List (Option FarEnd) = shown device_linked peer_ends (before ++ d ∷ behind) os in
+    ap (λ xs. by_link peer_ends (device_linked b) o ∷ xs) (end_without before d behind id os named sound.2 more)
+    ∙ sym (ap (λ v. if v then all else by_link peer_ends (device_linked b) o ∷ without_place id (before ++ d ∷ behind) all) (is_other b before d behind id named sound.1))
+
+-- nor do the others' numbers change
+number_without : (before : List Device) (d : Device) (behind : List Device) (id : List ℕ) (ns : List (Option ℕ)) → device_id d ≡ id → AreSound (map kept (before ++ d ∷ behind)) → length ns ≡ length (before ++ d ∷ behind)
+    → remove ns (length before) ≡ without_place id (before ++ d ∷ behind) ns
+number_without [] d behind id [] named sound e = absurd cc
+number_without [] d behind id (n ∷ ns) named sound e = sym (ap (λ v. if v then ns else n ∷ without_place id behind ns) (ap (λ x. pointwise nat_eq x id) named ∙ pointwise_self id))
+number_without (b ∷ before) d behind id [] named sound e = absurd cc
+number_without (b ∷ before) d behind id (n ∷ ns) named sound e =
+    let more : length ns ≡ length (before ++ d ∷ behind) = cc in
+    ap (λ xs. n ∷ xs) (number_without before d behind id ns named sound.2 more)
+    ∙ sym (ap (λ v. if v then ns else n ∷ without_place id (before ++ d ∷ behind) ns) (is_other b before d behind id named sound.1))
+
+shorter : {X : Type 0} (before : List Device) (d : Device) (behind : List Device) (os : List X) → length os ≡ length (before ++ d ∷ behind) → length (remove os (length before)) ≡ length (before ++ behind)
+shorter [] d behind [] e = absurd cc
+shorter [] d behind (o ∷ os) e = cc
+shorter (b ∷ before) d behind [] e = absurd cc
+shorter (b ∷ before) d behind (o ∷ os) e = let more : length os ≡ length (before ++ d ∷ behind) = cc in ap suc (shorter before d behind os more)
 
 -- a device was taken away
-pub removed : (old new : Air Device) (id : DeviceId) (place : ℕ) → IsIdle old → IsPlaced (state_at old) id → StandsAt (bytes_of id) old.listeners place → new ≡ less_by old place → Obeyed old new (Remove id) Done
-removed old new id place idle placed s is =
+pub removed : (old new : Machines) (id : DeviceId) (place : ℕ) → IsSettled old → IsPlaced (state_at old) id → StandsAt (bytes_of id) old.air.listeners place → new ≡ taken_out old place → Obeyed old new (Remove id) Done
+removed old new id place settled placed s is =
     let T : List Device → Type 0 = λ ls. AreTame (map kept ls) in
-    let O : Air Device → Type 0 = λ a. Obeyed old a (Remove id) Done in
-    let F : List Device → Air Device = λ ls. record { lit = old.lit; listeners = ls; fates = old.fates; trace = old.trace } in
-    let tame : T (s.before ++ s.device ∷ s.behind) = subst T s.split idle.tame in
-    let left : remove old.listeners place ≡ s.before ++ s.behind =
-    ap (λ ls. remove ls place) s.split ∙ ap (remove (s.before ++ s.device ∷ s.behind)) (sym s.at) ∙ remove_behind s.before s.device s.behind in
-    let same : without (bytes_of id) old.listeners ≡ s.before ++ s.behind =
+    let O : Machines → Type 0 = λ m. Obeyed old m (Remove id) Done in
+    let idle : IsIdle old.air = settled.idle in
+    let all : List Device = s.before ++ s.device ∷ s.behind in
+    let ends : List (Option FarEnd) = remove old.ends (length s.before) in
+    let M : List Device → ℕ → Machines = λ ls n. record { air = record { lit = old.air.lit; listeners = ls; fates = old.air.fates; trace = old.air.trace }; ends = remove old.ends n; peers = record { numbers = remove old.peers.numbers n; placed = old.peers.placed; links = old.peers.links } } in
+    let tame : T all = subst T s.split idle.tame in
+    let long : length old.ends ≡ length all = settled.places.ends ∙ ap length s.split in
+    let many : length old.peers.numbers ≡ length all = settled.places.numbers ∙ ap length s.split in
+    let left : remove old.air.listeners place ≡ s.before ++ s.behind =
+    ap (λ ls. remove ls place) s.split ∙ ap (remove all) (sym s.at) ∙ remove_behind s.before s.device s.behind in
+    let same : without (bytes_of id) old.air.listeners ≡ s.before ++ s.behind =
     ap (without (bytes_of id)) s.split ∙ without_behind s.before s.device s.behind (bytes_of id) s.named tame.sound in
-    subst O (sym (is ∙ ap F left))
-    (still_obeyed old (F (s.before ++ s.behind)) (Remove id) Done idle placed (ap (λ ls. state_at (F ls)) (sym same)) refl refl refl refl (tame_without s.before s.device s.behind tame)
-    (tidy_without s.before s.device s.behind (subst AreTidy s.split idle.tidy)))
+    let fars : shown device_linked peer_ends (s.before ++ s.behind) ends ≡ without_place (bytes_of id) old.air.listeners (shown device_linked peer_ends old.air.listeners old.ends) =
+    end_without s.before s.device s.behind (bytes_of id) old.ends s.named tame.sound long
+    ∙ ap (λ ls. without_place (bytes_of id) ls (shown device_linked peer_ends ls old.ends)) (sym s.split) in
+    let numbers : remove old.peers.numbers (length s.before) ≡ without_place (bytes_of id) old.air.listeners old.peers.numbers =
+    number_without s.before s.device s.behind (bytes_of id) old.peers.numbers s.named tame.sound many ∙ ap (λ ls. without_place (bytes_of id) ls old.peers.numbers) (sym s.split) in
+    let S : List Device → List (Option FarEnd) → List (Option ℕ) → State = λ ls os ns. record {
+      world = record { field = record { lit = old.air.lit; listeners = ls }; fars = os; numbers = [] };
+      queue = old.air.fates;
+      peers = record { numbers = ns; placed = old.peers.placed; links = old.peers.links };
+    } in
+    let gone : List (Option FarEnd) = without_place (bytes_of id) old.air.listeners (shown device_linked peer_ends old.air.listeners old.ends) in
+    let left_numbers : List (Option ℕ) = without_place (bytes_of id) old.air.listeners old.peers.numbers in
+    subst O (sym (is ∙ ap (λ ls. M ls place) left ∙ ap (M (s.before ++ s.behind)) (sym s.at)))
+    (still_obeyed old (M (s.before ++ s.behind) (length s.before)) (Remove id) Done idle placed
+    (ap (λ os. S (s.before ++ s.behind) os (remove old.peers.numbers (length s.before))) fars ∙ ap (S (s.before ++ s.behind) gone) numbers ∙ ap (λ ls. S ls gone left_numbers) (sym same))
+    refl refl refl refl (tame_without s.before s.device s.behind tame)
+    (tidy_without s.before s.device s.behind (subst AreTidy s.split idle.tidy)) (record { ends = shorter s.before s.device s.behind old.ends long; numbers = shorter s.before s.device s.behind old.peers.numbers many }))

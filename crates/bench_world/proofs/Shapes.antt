@@ -5,22 +5,23 @@ use Rattle.std.proofs.lemmas.List.{map-append, length-map}
 use Rattle.std.specs.Cmp.Lexicographic.{pointwise}
 use Rattle.nfc_base.specs.declared.event.Event.{Event}
 use Rattle.air_core.specs.Conversation.{replay}
-use Rattle.tag_reader.specs.declared.how.How.{How}
-use Rattle.tag_reader.specs.declared.how.How.TheVariants as hows
+use Rattle.bench_devices.specs.declared.polling.SeenKind.{SeenKind}
+use Rattle.bench_devices.specs.declared.polling.SeenKind.TheVariants as seen
 use Rattle.bench_script.specs.declared.command.Command.{Command}
-use Rattle.bench_script.specs.declared.command.Command.TheVariants.{Skip, Fates, PlaceT2, PlaceT4, PlaceT5, Lock, Busy, Remove, Dump, Find, Read, Write}
+use Rattle.bench_script.specs.declared.command.Command.TheVariants.{Skip, Fates, PlaceT2, PlaceT4, PlaceT5, PlacePeer, Lock, Busy, Offer, Remove, Dump, Inbox, Find, Read, Write}
 use Rattle.bench_script.specs.DeviceIds.{bytes_of}
 use Rattle.bench_script.specs.Script.{Spells, is_skipped}
 use Rattle.bench_script.proofs.Spelling.{spells_one}
 use Rattle.bench_devices.specs.declared.device.Device.{Device}
-use Rattle.bench_devices.specs.declared.device.Device.TheVariants.{T2, T4, T5}
+use Rattle.bench_devices.specs.declared.device.Device.TheVariants.{T2, T4, Peer, T5}
 use Rattle.bench_devices.specs.Device.{BenchWorld, air, most_devices, device_id, device_store, blocks_of, may_be_busy, is_tag, device_locked, device_busy}
 use Rattle.bench_devices.specs.Keeping.{Fixed, fixed, AllStayDevices}
 use Rattle.bench_devices.specs.Placed.{device_with, without, with_changed, OfPlaced}
 use Rattle.bench_devices.proofs.EveryFrame.{devices_stay}
 use Rattle.bench_world.specs.declared.entry.Entry.{Entry}
 use Rattle.bench_world.specs.Journal.{AreEntriesOf, asking_lines, LeadsTo}
-use Rattle.bench_world.specs.Legal.{State, Given, Accepts, IsFree, LegalStep, EachLegal, changed, state_after, first_state}
+use Rattle.bench_world.specs.Legal.{State, Given, Accepts, IsFree, FrontOf, LegalStep, EachLegal, changed, first_state}
+use Rattle.bench_world.proofs.Fronts.{on_field}
 use Rattle.bench_world.specs.Taking.{IsTaken, AreSpelled, AreAccepted, AreTaken, LinesDecide, standing_from, standing_of}
 
 -- what the conditions ask of a device
@@ -35,26 +36,35 @@ shape d = record { id = device_id d; blocks = blocks_of d; busy = may_be_busy d;
 
 -- States whose devices are of the same shapes, in the same order.
 abbrev pub AreAlike : State → State → Type 0
-AreAlike s t = map shape s.world.listeners ≡ map shape t.world.listeners
+AreAlike s t = map shape s.world.field.listeners ≡ map shape t.world.field.listeners
 
 -- It is a function of what no event changes.
-blocks_by : How → ℕ → ℕ → ℕ
-blocks_by hows.T2 size long = long / 4
-blocks_by hows.T4 size long = 0
-blocks_by (hows.T5 id) size long = long / size
+blocks_by : SeenKind → ℕ → ℕ → ℕ
+blocks_by seen.T2 size long = long / 4
+blocks_by seen.T4 size long = 0
+blocks_by seen.Peer size long = 0
+blocks_by seen.T5 size long = long / size
 
-busy_by : How → Bool
-busy_by hows.T2 = false
-busy_by hows.T4 = true
-busy_by (hows.T5 id) = false
+busy_by : SeenKind → Bool
+busy_by seen.T2 = false
+busy_by seen.T4 = true
+busy_by seen.Peer = true
+busy_by seen.T5 = false
+
+tag_by : SeenKind → Bool
+tag_by seen.T2 = true
+tag_by seen.T4 = true
+tag_by seen.Peer = false
+tag_by seen.T5 = true
 
 shape_by : Fixed → ℕ → Shape
-shape_by x long = record { id = x.id; blocks = blocks_by x.how x.size long; busy = busy_by x.how; tag = true }
+shape_by x long = record { id = x.id; blocks = blocks_by x.kind x.size long; busy = busy_by x.kind; tag = tag_by x.kind }
 
 shape_is : (d : Device) → shape d ≡ shape_by (fixed d) (length (device_store d))
-unfolding shape_by blocks_by busy_by
+unfolding shape_by blocks_by busy_by tag_by
 shape_is (T2 d) = refl
 shape_is (T4 d) = refl
+shape_is (Peer d) = refl
 shape_is (T5 p) = refl
 
 stay_alike : (ds es : List Device) → AllStayDevices ds es → map shape es ≡ map shape ds
@@ -88,8 +98,8 @@ with_shape id (d ∷ ds) = by_name (pointwise nat_eq (device_id d) id) (with_sha
     by_name true more = refl
     by_name false more = more
 
-same_with : (id : List ℕ) (s t : State) → AreAlike s t → shape_if (device_with id s.world.listeners) ≡ shape_if (device_with id t.world.listeners)
-same_with id s t alike = with_shape id s.world.listeners ∙ ap (shape_with id) alike ∙ sym (with_shape id t.world.listeners)
+same_with : (id : List ℕ) (s t : State) → AreAlike s t → shape_if (device_with id s.world.field.listeners) ≡ shape_if (device_with id t.world.field.listeners)
+same_with id s t alike = with_shape id s.world.field.listeners ∙ ap (shape_with id) alike ∙ sym (with_shape id t.world.field.listeners)
 
 none_too : (o p : Option Device) → shape_if o ≡ shape_if p → o ≡ None → p ≡ None
 unfolding shape_if
@@ -112,8 +122,8 @@ of_too P (Some d) (Some c) e is = let same : shape d ≡ shape c = cc in subst P
 -- So a command is accepted in both states or in none.
 free_too : (s t : State) (id : List ℕ) → AreAlike s t → IsFree s id → IsFree t id
 free_too s t id alike free =
-    let a : length s.world.listeners ≡ length t.world.listeners = sym (length-map s.world.listeners shape) ∙ ap length alike ∙ length-map t.world.listeners shape in
-    record { room = subst (λ n. n < most_devices) a free.room; fresh = none_too (device_with id s.world.listeners) (device_with id t.world.listeners) (same_with id s t alike) free.fresh }
+    let a : length s.world.field.listeners ≡ length t.world.field.listeners = sym (length-map s.world.field.listeners shape) ∙ ap length alike ∙ length-map t.world.field.listeners shape in
+    record { room = subst (λ n. n < most_devices) a free.room; fresh = none_too (device_with id s.world.field.listeners) (device_with id t.world.field.listeners) (same_with id s t alike) free.fresh }
 
 pub accepts_too : (s t : State) (c : Command) → AreAlike s t → Accepts s c → Accepts t c
 accepts_too s t Skip alike is = tt
@@ -121,16 +131,23 @@ accepts_too s t (Fates fates) alike is = tt
 accepts_too s t (PlaceT2 id blocks head) alike is = record { free = free_too s t id alike is.free; fits = is.fits; store = is.store }
 accepts_too s t (PlaceT4 id code container head) alike is = record { free = free_too s t id alike is.free; fits = is.fits; store = is.store }
 accepts_too s t (PlaceT5 id blocks size head) alike is = record { free = free_too s t id alike is.free; fits = is.fits; store = is.store }
+accepts_too s t (PlacePeer id lr miu rw limit) alike is = record { free = free_too s t id alike is.free; code = is.code; size = is.size; window = is.window; limit = is.limit }
 accepts_too s t (Lock id block) alike is =
-    of_too (λ x. block < x.blocks) (device_with (bytes_of id) s.world.listeners) (device_with (bytes_of id) t.world.listeners) (same_with (bytes_of id) s t alike) is
+    of_too (λ x. block < x.blocks) (device_with (bytes_of id) s.world.field.listeners) (device_with (bytes_of id) t.world.field.listeners) (same_with (bytes_of id) s t alike) is
 accepts_too s t (Busy id count times) alike is = record {
-  device = of_too (λ x. x.busy ≡ true) (device_with (bytes_of id) s.world.listeners) (device_with (bytes_of id) t.world.listeners) (same_with (bytes_of id) s t alike) is.device;
+  device = of_too (λ x. x.busy ≡ true) (device_with (bytes_of id) s.world.field.listeners) (device_with (bytes_of id) t.world.field.listeners) (same_with (bytes_of id) s t alike) is.device;
   few = is.few;
   long = is.long;
 }
-accepts_too s t (Remove id) alike is = some_too (device_with (bytes_of id) s.world.listeners) (device_with (bytes_of id) t.world.listeners) (same_with (bytes_of id) s t alike) is
+accepts_too s t (Offer id key value) alike is = record {
+  peer = of_too (λ x. x.tag ≡ false) (device_with (bytes_of id) s.world.field.listeners) (device_with (bytes_of id) t.world.field.listeners) (same_with (bytes_of id) s t alike) is.peer;
+  short = is.short;
+}
+accepts_too s t (Remove id) alike is = some_too (device_with (bytes_of id) s.world.field.listeners) (device_with (bytes_of id) t.world.field.listeners) (same_with (bytes_of id) s t alike) is
 accepts_too s t (Dump id) alike is =
-    of_too (λ x. x.tag ≡ true) (device_with (bytes_of id) s.world.listeners) (device_with (bytes_of id) t.world.listeners) (same_with (bytes_of id) s t alike) is
+    of_too (λ x. x.tag ≡ true) (device_with (bytes_of id) s.world.field.listeners) (device_with (bytes_of id) t.world.field.listeners) (same_with (bytes_of id) s t alike) is
+accepts_too s t (Inbox id) alike is =
+    of_too (λ x. x.tag ≡ false) (device_with (bytes_of id) s.world.field.listeners) (device_with (bytes_of id) t.world.field.listeners) (same_with (bytes_of id) s t alike) is
 accepts_too s t Find alike is = tt
 accepts_too s t (Read id) alike is = tt
 accepts_too s t (Write id m) alike is = tt
@@ -166,35 +183,40 @@ changed_shape g same id (d ∷ ds) = by_name (pointwise nat_eq (device_id d) id)
 locked_shape : (block : ℕ) (d : Device) → shape (device_locked block d) ≡ shape d
 locked_shape block (T2 d) = refl
 locked_shape block (T4 d) = refl
+locked_shape block (Peer d) = refl
 locked_shape block (T5 p) = refl
 
 busy_shape : (count times : ℕ) (d : Device) → shape (device_busy count times d) ≡ shape d
 busy_shape count times (T2 d) = refl
 busy_shape count times (T4 d) = refl
+busy_shape count times (Peer d) = refl
 busy_shape count times (T5 p) = refl
 
 changes_alike : (s t : State) (c : Command) → AreAlike s t → AreAlike (changed s c) (changed t c)
 changes_alike s t Skip alike = alike
 changes_alike s t (Fates fates) alike = alike
-changes_alike s t (PlaceT2 id blocks head) alike = placed_alike s.world.listeners t.world.listeners _ alike
-changes_alike s t (PlaceT4 id code container head) alike = placed_alike s.world.listeners t.world.listeners _ alike
-changes_alike s t (PlaceT5 id blocks size head) alike = placed_alike s.world.listeners t.world.listeners _ alike
+changes_alike s t (PlaceT2 id blocks head) alike = placed_alike s.world.field.listeners t.world.field.listeners _ alike
+changes_alike s t (PlaceT4 id code container head) alike = placed_alike s.world.field.listeners t.world.field.listeners _ alike
+changes_alike s t (PlaceT5 id blocks size head) alike = placed_alike s.world.field.listeners t.world.field.listeners _ alike
+changes_alike s t (PlacePeer id lr miu rw limit) alike = placed_alike s.world.field.listeners t.world.field.listeners _ alike
 changes_alike s t (Lock id block) alike =
-    changed_shape (device_locked block) (locked_shape block) (bytes_of id) s.world.listeners ∙ alike ∙ sym (changed_shape (device_locked block) (locked_shape block) (bytes_of id) t.world.listeners)
+    changed_shape (device_locked block) (locked_shape block) (bytes_of id) s.world.field.listeners ∙ alike ∙ sym (changed_shape (device_locked block) (locked_shape block) (bytes_of id) t.world.field.listeners)
 changes_alike s t (Busy id count times) alike =
-    changed_shape (device_busy count times) (busy_shape count times) (bytes_of id) s.world.listeners ∙ alike
-    ∙ sym (changed_shape (device_busy count times) (busy_shape count times) (bytes_of id) t.world.listeners)
+    changed_shape (device_busy count times) (busy_shape count times) (bytes_of id) s.world.field.listeners ∙ alike
+    ∙ sym (changed_shape (device_busy count times) (busy_shape count times) (bytes_of id) t.world.field.listeners)
+changes_alike s t (Offer id key value) alike = alike
 changes_alike s t (Remove id) alike =
-    removed_shape (bytes_of id) s.world.listeners ∙ ap (without_shape (bytes_of id)) alike ∙ sym (removed_shape (bytes_of id) t.world.listeners)
+    removed_shape (bytes_of id) s.world.field.listeners ∙ ap (without_shape (bytes_of id)) alike ∙ sym (removed_shape (bytes_of id) t.world.field.listeners)
 changes_alike s t (Dump id) alike = alike
+changes_alike s t (Inbox id) alike = alike
 changes_alike s t Find alike = alike
 changes_alike s t (Read id) alike = alike
 changes_alike s t (Write id m) alike = alike
 
 -- a step leads on alike, whatever was sent in it
-step_alike : (u s t : State) (c : Command) (es : List Event) → AreAlike u s → t ≡ state_after s c es → AreAlike (changed u c) t
-step_alike u s t c es alike after =
-    changes_alike u s c alike ∙ sym (events_alike (changed s c).world es) ∙ sym (ap (λ (x : State). map shape x.world.listeners) after)
+step_alike : (u s t : State) (g : Given) (c : Command) (es : List Event) → AreAlike u s → FrontOf s g c es t → AreAlike (changed u c) t
+step_alike u s t g c es alike front =
+    changes_alike u s c alike ∙ sym (events_alike (changed s c).world.field es) ∙ sym (ap (λ (w : BenchWorld). map shape w.listeners) (on_field s t g c es front).field)
 
 -- The lines of a legal journal are taken, and lead on alike.
 record LeadsAlike (lines : List (List ℕ)) (u t : State) : Type 0 where
@@ -204,12 +226,12 @@ record LeadsAlike (lines : List (List ℕ)) (u t : State) : Type 0 where
   pub alike : AreAlike (standing_from u commands) t
 
 lines_alike : (n : ℕ) (lines : List (List ℕ)) (u s t : State) (gs : List Given) (js : List Entry) → AreEntriesOf (asking_lines n lines) js → EachLegal s gs js t → AreAlike u s → LeadsAlike lines u t
-lines_alike n [] u s t [] [] of steps alike = record { commands = []; spelled = tt; accepted = tt; alike = alike ∙ ap (λ (x : State). map shape x.world.listeners) (sym steps) }
+lines_alike n [] u s t [] [] of steps alike = record { commands = []; spelled = tt; accepted = tt; alike = alike ∙ ap (λ (x : State). map shape x.world.field.listeners) (sym steps) }
 lines_alike n [] u s t (g ∷ gs) [] of steps alike = absurd steps
 lines_alike n [] u s t gs (e ∷ js) of steps alike = absurd of
 lines_alike n (l ∷ ls) u s t gs js of steps alike =
     by_skip (is_skipped l) refl of (λ p. lines_alike (n + 1) ls u s t gs js p steps alike)
-    (λ hs e ks mid g step p rest. lines_alike (n + 1) ls (changed u e.command) mid t hs ks p rest (step_alike u s mid e.command e.events alike step.front.after))
+    (λ hs e ks mid g step p rest. lines_alike (n + 1) ls (changed u e.command) mid t hs ks p rest (step_alike u s mid g e.command e.events alike step.front))
   where
     then_more : (c : Command) → Spells l c → Accepts u c → LeadsAlike ls (changed u c) t → LeadsAlike (l ∷ ls) u t
     then_more c spelled accepted rest = record { commands = c ∷ rest.commands; spelled = (spelled, rest.spelled); accepted = (accepted, rest.accepted); alike = rest.alike }
@@ -234,8 +256,8 @@ pub record TakenAlike (lines : List (List ℕ)) (last : State) : Type 0 where
   pub taken : AreTaken lines commands
   pub alike : AreAlike (standing_of commands) last
 
-pub legal_taken : (lines : List (List ℕ)) (journal : List Entry) (last : State) → LeadsTo lines journal last → TakenAlike lines last
-legal_taken lines journal last leads =
+pub legal_taken : (lines numbers : List (List ℕ)) (journal : List Entry) (last : State) → LeadsTo lines numbers journal last → TakenAlike lines last
+legal_taken lines numbers journal last leads =
     let it = lines_alike 1 lines first_state first_state last leads.given journal leads.numbered leads.steps refl in
     record { commands = it.commands; taken = record { spelled = it.spelled; accepted = it.accepted }; alike = it.alike }
 
@@ -253,6 +275,6 @@ taken_at s (l ∷ ls) line after (c ∷ cs) (d ∷ ds) p q r =
 
 -- So the lines alone decide which are taken.
 pub lines_decide : LinesDecide
-lines_decide lines journal last leads =
-    let it = legal_taken lines journal last leads in
+lines_decide lines numbers journal last leads =
+    let it = legal_taken lines numbers journal last leads in
     (it.commands, it.taken, λ line. (taken_too last (standing_of it.commands) line (sym it.alike), taken_too (standing_of it.commands) last line it.alike))

@@ -68,7 +68,7 @@ module _ {X Y : Type 0} (P : X → Type 0) (F : AskFault → X → Type 0) (Q : 
   tells_as seen.T2 asked ns t = standing_as (stand 0 asked ns) t
   tells_as seen.T4 asked ns t = card_as (card_stands asked ns) t
   tells_as seen.T5 asked ns t = standing_as (stand 0 asked ns) t
-  tells_as seen.Peer asked ns t = absurd t
+  tells_as seen.Peer asked ns t = says t
 
 -- What tells of a read tells what the store holds, or a fault.
 module _ {X : Type 0} (P : X → Type 0) (F : AskFault → X → Type 0) (x : X) (Q : Type 0) (says : P x → Q) (fails : (e : AskFault) → F e x → Q) where
@@ -92,7 +92,7 @@ module _ {X : Type 0} (P : X → Type 0) (F : AskFault → X → Type 0) (x : X)
   tells_either seen.T2 asked ns t = by_standing (stand 0 asked ns) t
   tells_either seen.T4 asked ns t = by_card (card_stands asked ns) t
   tells_either seen.T5 asked ns t = by_standing (stand 0 asked ns) t
-  tells_either seen.Peer asked ns t = absurd t
+  tells_either seen.Peer asked ns t = says t
 
 -- A read ends by what a store shows, or by the fault of a wait.
 no_refusal : (code : ℕ) (e : AskFault) → FailsRead e (Err (reading.Refused code)) → ⊥

@@ -18,12 +18,13 @@ use Rattle.bench_script.specs.declared.message.Msg.{Msg}
 use Rattle.bench_script.specs.DeviceIds.{bytes_of}
 use Rattle.bench_script.specs.Messages.{message_of}
 use Rattle.bench_devices.specs.declared.device.Device.{Device}
-use Rattle.bench_devices.specs.Device.{BenchWorld, air, device_id, device_store, seen_of}
+use Rattle.bench_devices.specs.Device.{BenchWorld, air, devices, device_id, device_store, seen_of, is_tag}
+use Rattle.bench_devices.proofs.TagOrPeer.{tag_or_peer, as_tag, as_peer, if_tag, if_as, same_tag}
 use Rattle.bench_devices.specs.Polling.{asks, selecting}
 use Rattle.bench_devices.specs.TagAsking.{then_asks, tag_due}
 use Rattle.bench_devices.specs.CardAsking.{tag_next}
 use Rattle.bench_devices.specs.Placed.{device_with, OfPlaced, IfPlaced}
-use Rattle.bench_devices.specs.Keeping.{kept, IsSound, StoreOf, AllKeepBut, Leaves, held_by}
+use Rattle.bench_devices.specs.Keeping.{Kept, kept, IsSound, StoreOf, AllKeepBut, Leaves, held_by}
 use Rattle.bench_devices.specs.Phases.{WriteEnd, FailsWrite, Selects, SelectsAt, SelectionCut, Stands, Writes, WritesSome, WritesAt, CutAtWrite, IsIdle}
 use Rattle.bench_devices.specs.Writing.{AsksWriteOf, ShowsWrite, KeepsWriteLaw}
 use Rattle.bench_devices.proofs.EveryFrame.{IsSoundOne, leaves_more, leaves_behind}
@@ -33,21 +34,29 @@ use Rattle.bench_devices.proofs.WriteLists.{some_write}
 use Rattle.bench_world.specs.declared.entry.Answer.{Answer}
 use Rattle.bench_world.specs.declared.entry.Answer.TheVariants as answers
 use Rattle.bench_world.specs.Answering.{TagTells, poll_answer, written_by}
-use Rattle.bench_world.specs.Writing.{TellsWrite, ending_told}
-use Rattle.bench_world.specs.Legal.{State, IsAskedBy, StoresLaw}
-use Rattle.bench_world.specs.Obeying.{state_at, Obeyed, IsCutOff}
+use Rattle.bench_world.specs.Writing.{TellsWrite, WriteAsks, KeepsStores, ending_told}
+use Rattle.bench_world.specs.Legal.{StoresLaw}
+use Rattle.bench_world.specs.Obeying.{ObeyedBelow, CutOffBelow}
+use Rattle.far_air.specs.Quietly.{NoneHands}
+use Rattle.bench_world.proofs.Fronts.{field_behind, ends_behind}
+use Rattle.bench_world.proofs.Placed.{Upon}
 use Rattle.bench_world.proofs.Placing.{IsWith, with_sound}
-use Rattle.bench_world.proofs.Legality.{asks_for, front_of, trace_is, asks_obeyed, polled_of, missed_tells, both, then_tag, selected_with}
+use Rattle.bench_world.proofs.Legality.{asks_for, above, none_in, front_of, trace_is, asks_obeyed, polled_of, missed_tells, both, then_tag, selected_with, peer_going, peer_over, peer_tells}
 use Rattle.bench_world.proofs.AskedBehind.{tells_behind}
 use Rattle.bench_world.proofs.WriteTelling.{asks_same, outcome_same, law_same, law_stopped, fails_written, lost_written, six_written, same_ending, starved_or_not}
 
 -- What a write asks of a placed device, and nothing where none is placed.
-write_asked : (old : Air Device) (id : DeviceId) (m : Msg) → IsIdle old → (asked : List Signal) × IsAskedBy (state_at old) (Write id m) asked
+write_asked : (old : Air Device) (id : DeviceId) (m : Msg) → IsIdle old
+    → (asked : List Signal) × IfPlaced (λ d. WriteAsks (message_of m) d asked) (asked ≡ []) (device_with (bytes_of id) old.listeners)
 write_asked old id m idle = by_found (device_with (bytes_of id) old.listeners) refl
   where
-    by_found : (o : Option Device) → device_with (bytes_of id) old.listeners ≡ o → (asked : List Signal) × IfPlaced (λ d. AsksWriteOf (message_of m) d asked) (asked ≡ []) o
+    by_found : (o : Option Device) → device_with (bytes_of id) old.listeners ≡ o → (asked : List Signal) × IfPlaced (λ d. WriteAsks (message_of m) d asked) (asked ≡ []) o
     by_found None found = ([], refl)
-    by_found (Some d) found = some_write (message_of m) d (with_sound old.listeners (bytes_of id) d idle.tame.sound found)
+    by_found (Some d) found = by_kind d (tag_or_peer d) (with_sound old.listeners (bytes_of id) d idle.tame.sound found)
+      where
+        by_kind : (e : Device) → (is_tag e ≡ true) ⊎ (is_tag e ≡ false) → IsSound (kept e) → (asked : List Signal) × WriteAsks (message_of m) e asked
+        by_kind e (inl tag) sound = let some = some_write (message_of m) e tag sound in (some.0, as_tag e tag _ _ some.1)
+        by_kind e (inr peer) sound = ([], as_peer e peer _ _ refl)
 
 -- the device that is found by an identifier has it
 pub found_named : (id : List ℕ) (ds : List Device) (d : Device) → device_with id ds ≡ Some d → device_id d ≡ id
@@ -66,25 +75,36 @@ sound_one old id idle = by_found (device_with (bytes_of id) old.listeners) refl
     by_found None found = tt
     by_found (Some d) found = with_sound old.listeners (bytes_of id) d idle.tame.sound found
 
+-- The stores of a field keep the law of a write, and so they do whatever stands above it; the far ends stay.
+record FieldStores (w : BenchWorld) (id : List ℕ) (message : List ℕ) (ending : Ending) (es : List Event) : Type 0 where
+  pub law : IfPlaced (λ d. KeepsStores message d ending w es) (Unit {0}) (device_with id w.listeners)
+  pub others : AllKeepBut id w.listeners (replay air w es).listeners
+
+stores_above : (os : Upon) (a : Air Device) (id : DeviceId) (m : Msg) (ending : Ending) (es : List Event) → NoneHands devices (moment a).world es
+    → FieldStores (moment a).world (bytes_of id) (message_of m) ending es → StoresLaw (above os a) [] id m ending es
+stores_above os a id m ending es none s = record {
+  law = s.law;
+  others = subst (λ (w : BenchWorld). AllKeepBut (bytes_of id) a.listeners w.listeners) (sym (field_behind (moment a).world es os.ends none)) s.others;
+  ends = ends_behind (moment a).world es os.ends none;
+}
+
 -- Polling alone left a device's store as it was, so it keeps the law of a write that was stopped.
 module _ (id : DeviceId) (message : List ℕ) (a b : Moment BenchWorld) (ns : List Note) (g : Going air (λ ks. asks (selecting id ks)) a b ns) (same : map kept b.world.listeners ≡ map kept a.world.listeners) where
-  polled_law : (o : Option Device) → device_with (bytes_of id) a.world.listeners ≡ o → IfPlaced (λ d. KeepsWriteLaw message d Stopped a.world g.events) (Unit {0}) o
+  polled_law : (o : Option Device) → device_with (bytes_of id) a.world.listeners ≡ o → IfPlaced (λ d. KeepsStores message d Stopped a.world g.events) (Unit {0}) o
   polled_law None found = tt
   polled_law (Some d) found =
       let named : bytes_of id ≡ device_id d = sym (found_named (bytes_of id) a.world.listeners d found) in
       let holds : held_by (device_with (device_id d) b.world.listeners) ≡ device_store d =
       held_kept (device_id d) a.world.listeners b.world.listeners same ∙ ap (λ i. held_by (device_with i a.world.listeners)) (sym named) ∙ ap held_by found in
-      subst (λ es. KeepsWriteLaw message d Stopped a.world es) (append-nil g.events) (law_selected id a b ns g message d Stopped [] holds (law_start message d b.world holds))
+      if_tag (seen_of d) _ _ (subst (λ es. KeepsWriteLaw message d Stopped a.world es) (append-nil g.events) (law_selected id a b ns g message d Stopped [] holds (law_start message d b.world holds))) tt
 
   -- and no other one changed
-  polled_stores : IsSoundOne (bytes_of id) a.world.listeners → (s : State) → s.world ≡ a.world → StoresLaw s id message Stopped g.events
-  polled_stores sound s at =
+  polled_stores : IsSoundOne (bytes_of id) a.world.listeners → FieldStores a.world (bytes_of id) message Stopped g.events
+  polled_stores sound =
       let world : b.world ≡ replay air a.world g.events = ap (λ (m : Moment BenchWorld). m.world) g.moment in
-      let P : BenchWorld → Type 0 = λ w. IfPlaced (λ d. KeepsWriteLaw message d Stopped w g.events) (Unit {0}) (device_with (bytes_of id) w.listeners) in
-      let Q : BenchWorld → Type 0 = λ w. AllKeepBut (bytes_of id) w.listeners (replay air w g.events).listeners in
       record {
-        law = subst P (sym at) (polled_law (device_with (bytes_of id) a.world.listeners) refl);
-        others = subst Q (sym at) (subst (λ (w : BenchWorld). AllKeepBut (bytes_of id) a.world.listeners w.listeners) world (leaves_more (StoreOf (bytes_of id)) a.world b.world g.events sound same).0);
+        law = polled_law (device_with (bytes_of id) a.world.listeners) refl;
+        others = subst (λ (w : BenchWorld). AllKeepBut (bytes_of id) a.world.listeners w.listeners) world (leaves_more (StoreOf (bytes_of id)) a.world b.world g.events sound same).0;
       }
 
 -- no fault of polling tells of a success or of a refusal
@@ -98,16 +118,18 @@ poll_stopped faults.BadAnswer answer is = absurd cc
 
 -- no tag was selected
 pub missed_write : (old new : Air Device) (id : DeviceId) (m : Msg) (e : PollFault) (answer : Answer) → IsIdle old → Selects id (Err e) (moment old) (moment new) → poll_answer e ≡ Some answer
-    → Obeyed old new (Write id m) answer
-missed_write old new id m e answer idle s is =
+    → ObeyedBelow old new (Write id m) answer
+missed_write old new id m e answer idle s is = λ ends peers places.
+    let os : Upon = record { ends = ends; peers = peers } in
     let some = write_asked old id m idle in
     let g : Going air (λ ns. asks (selecting id ns)) (moment old) (moment new) s.asked.notes = s.asked.going in
     let going : Going air (tag_due id some.0) (moment old) (moment new) s.asked.notes = polled_of id some.0 (moment old) (moment new) s.asked.notes g in
     let sound : IsSoundOne (bytes_of id) old.listeners = sound_one old id idle in
-    let stores : StoresLaw (state_at old) id (message_of m) (ending_told answer) g.events =
-    subst (λ x. StoresLaw (state_at old) id (message_of m) x g.events) (poll_stopped e answer is)
-    (polled_stores id (message_of m) (moment old) (moment new) s.asked.notes g s.asked.same sound (state_at old) refl) in
-    asks_obeyed (StoreOf (bytes_of id)) old new (Write id m) some.0 s.asked.notes answer idle tt refl going (ap (then_asks some.0) s.told) some.1
+    let none : NoneHands devices (moment old).world g.events = none_in os old new (Write id m) some.0 s.asked.notes going some.1 in
+    let stores : StoresLaw (above os old) [] id m (ending_told answer) g.events =
+    subst (λ x. StoresLaw (above os old) [] id m x g.events) (poll_stopped e answer is)
+    (stores_above os old id m Stopped g.events none (polled_stores id (message_of m) (moment old) (moment new) s.asked.notes g s.asked.same sound)) in
+    asks_obeyed (StoreOf (bytes_of id)) os old new (Write id m) some.0 s.asked.notes answer idle places tt refl going (ap (then_asks some.0) s.told) some.1
     (record { tells = missed_tells (TellsWrite (message_of m)) id some.0 (moment old) (moment new) e answer s is; stores = stores })
     (leaves_more (StoreOf (bytes_of id)) (moment old).world (moment new).world g.events sound s.asked.same)
 
@@ -116,10 +138,14 @@ module _ (old mid : Air Device) (id : DeviceId) (m : Msg) (place : ℕ) (idle : 
   abbrev with_id : IsWith old.listeners (bytes_of id) (kept s.device)
   with_id = selected_with old mid id place idle s
 
-  placed_write : (commands : List Signal) → AsksWriteOf (message_of m) s.device commands → IsAskedBy (state_at old) (Write id m) commands
+  same_seen : seen_of s.device ≡ seen_of with_id.device
+  same_seen = ap (λ (k : Kept). k.fixed.kind) (sym with_id.same)
+
+  placed_write : (commands : List Signal) → WriteAsks (message_of m) s.device commands
+      → IfPlaced (λ d. WriteAsks (message_of m) d commands) (commands ≡ []) (device_with (bytes_of id) old.listeners)
   placed_write commands asks' =
-      subst (λ o. IfPlaced (λ d. AsksWriteOf (message_of m) d commands) (commands ≡ []) o) (sym with_id.found)
-      (asks_same s.device with_id.device (sym with_id.same) (message_of m) commands asks')
+      subst (λ o. IfPlaced (λ d. WriteAsks (message_of m) d commands) (commands ≡ []) o) (sym with_id.found)
+      (if_as (seen_of s.device) (seen_of with_id.device) same_seen _ _ _ _ (asks_same s.device with_id.device (sym with_id.same) (message_of m) commands) (λ q. q) asks')
 
   -- the selected device holds what is written
   holds_there : held_by (device_with (device_id s.device) (moment mid).world.listeners) ≡ device_store s.device
@@ -140,59 +166,87 @@ module _ (old mid : Air Device) (id : DeviceId) (m : Msg) (place : ℕ) (idle : 
   -- the stores, from before it was selected on
   stores_behind : (new : Air Device) (commands : List Signal) (ks : List Note) (h : Going air (tag_next (seen_of s.device) commands) (moment mid) (moment new) ks) (ending : Ending)
       → Leaves (StoreOf (device_id s.device)) (moment mid).world h.events (moment new).world → KeepsWriteLaw (message_of m) s.device ending (moment mid).world h.events
-      → StoresLaw (state_at old) id (message_of m) ending (s.selects.asked.going.events ++ h.events)
+      → FieldStores (moment old).world (bytes_of id) (message_of m) ending (s.selects.asked.going.events ++ h.events)
   stores_behind new commands ks h ending left law =
       let es : List Event = s.selects.asked.going.events in
       let whole : KeepsWriteLaw (message_of m) s.device ending (moment old).world (es ++ h.events) =
       law_selected id (moment old) (moment mid) s.selects.asked.notes s.selects.asked.going (message_of m) s.device ending h.events holds_there law in
       let world : (moment new).world ≡ replay air (moment old).world (es ++ h.events) = ap (λ (x : Moment BenchWorld). x.world) (of_both new commands ks h).moment in
       record {
-        law = subst (λ o. IfPlaced (λ d. KeepsWriteLaw (message_of m) d ending (state_at old).world (es ++ h.events)) (Unit {0}) o) (sym with_id.found)
-            (law_same s.device with_id.device (sym with_id.same) (message_of m) ending (moment old).world (es ++ h.events) whole);
+        law = subst (λ o. IfPlaced (λ d. KeepsStores (message_of m) d ending (moment old).world (es ++ h.events)) (Unit {0}) o) (sym with_id.found)
+            (if_tag (seen_of with_id.device) _ _ (law_same s.device with_id.device (sym with_id.same) (message_of m) ending (moment old).world (es ++ h.events) whole) tt);
         others = subst (λ (w : BenchWorld). AllKeepBut (bytes_of id) old.listeners w.listeners) world (left_behind new h.events left).0;
       }
 
   -- it was written
-  pub write_obeyed : (new : Air Device) (r : WriteEnd) (answer : Answer) → written_by r ≡ Some answer → Writes (moment mid) (moment new) s.device (message_of m) r → Obeyed old new (Write id m) answer
-  write_obeyed new r answer told w =
+  pub write_obeyed : (new : Air Device) (r : WriteEnd) (answer : Answer) → written_by r ≡ Some answer → is_tag s.device ≡ true → Writes (moment mid) (moment new) s.device (message_of m) r → ObeyedBelow old new (Write id m) answer
+  write_obeyed new r answer told tag w = λ ends peers places.
+      let os : Upon = record { ends = ends; peers = peers } in
       let commands : List Signal = w.told.commands in
       let ks : List Note = w.told.asked.notes in
       let g : Going air (tag_due id commands) (moment old) (moment new) (s.selects.asked.notes ++ ks) = of_both new commands ks w.told.asked.going in
       let says : ShowsWrite (message_of m) s.device r → OfPlaced (λ d. TellsWrite (message_of m) d answer) (device_with (bytes_of id) old.listeners) =
       λ shows. subst (λ o. OfPlaced (λ d. TellsWrite (message_of m) d answer) o) (sym with_id.found)
-      (r, outcome_same s.device with_id.device (sym with_id.same) (message_of m) r shows, told) in
+      (as_tag with_id.device (same_tag with_id.device s.device (sym same_seen) ∙ tag) _ _ (r, outcome_same s.device with_id.device (sym with_id.same) (message_of m) r shows, told)) in
       let tells : TagTells (TellsWrite (message_of m)) id old.listeners commands g.events answer =
       tells_behind (StoreOf (device_id s.device)) (AsksWriteOf (message_of m) s.device) (ShowsWrite (message_of m) s.device) FailsWrite (TellsWrite (message_of m)) old mid new id place r answer s w.told
       says (fails_written r answer told) (lost_written r answer told) (six_written r answer told) in
-      let stores : StoresLaw (state_at old) id (message_of m) (ending_told answer) g.events =
-      stores_behind new commands ks w.told.asked.going (ending_told answer) w.told.asked.same
-      (subst (λ x. KeepsWriteLaw (message_of m) s.device x (moment mid).world w.told.asked.going.events) (same_ending r answer told) w.law) in
-      asks_obeyed (StoreOf (bytes_of id)) old new (Write id m) commands (s.selects.asked.notes ++ ks) answer idle tt refl g
-      (then_tag id (seen_of s.device) commands s.selects.asked.notes ks s.selects.told ∙ w.told.asked.over) (placed_write commands w.told.asks)
+      let asked = placed_write commands (as_tag s.device tag _ _ w.told.asks) in
+      let none : NoneHands devices (moment old).world g.events = none_in os old new (Write id m) commands (s.selects.asked.notes ++ ks) g asked in
+      let stores : StoresLaw (above os old) [] id m (ending_told answer) g.events =
+      stores_above os old id m (ending_told answer) g.events none (stores_behind new commands ks w.told.asked.going (ending_told answer) w.told.asked.same
+      (subst (λ x. KeepsWriteLaw (message_of m) s.device x (moment mid).world w.told.asked.going.events) (same_ending r answer told) w.law)) in
+      asks_obeyed (StoreOf (bytes_of id)) os old new (Write id m) commands (s.selects.asked.notes ++ ks) answer idle places tt refl g
+      (then_tag id (seen_of s.device) commands s.selects.asked.notes ks s.selects.told ∙ w.told.asked.over) asked
       (record { tells = tells; stores = stores }) (left_behind new w.told.asked.going.events w.told.asked.same)
 
+  -- it was a peer, to which nothing is written
+  pub peer_write : is_tag s.device ≡ false → ObeyedBelow old mid (Write id m) answers.WrongKind
+  peer_write peer = λ ends peers places.
+      let os : Upon = record { ends = ends; peers = peers } in
+      let Tells : Device → Answer → Type 0 = TellsWrite (message_of m) in
+      let es : List Event = s.selects.asked.going.events in
+      let there : OfPlaced (λ d. TellsWrite (message_of m) d answers.WrongKind) (device_with (bytes_of id) old.listeners) =
+      subst (λ o. OfPlaced (λ d. TellsWrite (message_of m) d answers.WrongKind) o) (sym with_id.found)
+      (as_peer with_id.device (same_tag with_id.device s.device (sym same_seen) ∙ peer) _ _ refl) in
+      let sound : IsSoundOne (bytes_of id) old.listeners = sound_one old id idle in
+      let g : Going air (tag_due id []) (moment old) (moment mid) s.selects.asked.notes = peer_going Tells old mid id place s peer in
+      let asked = placed_write [] (as_peer s.device peer _ _ refl) in
+      let stores : StoresLaw (above os old) [] id m (ending_told answers.WrongKind) es =
+      stores_above os old id m Stopped es (none_in os old mid (Write id m) [] s.selects.asked.notes g asked)
+      (polled_stores id (message_of m) (moment old) (moment mid) s.selects.asked.notes s.selects.asked.going s.selects.asked.same sound) in
+      asks_obeyed (StoreOf (bytes_of id)) os old mid (Write id m) [] s.selects.asked.notes answers.WrongKind idle places tt refl g (peer_over Tells old mid id place s peer)
+      asked (record { tells = peer_tells Tells old mid id place s peer there; stores = stores })
+      (leaves_more (StoreOf (bytes_of id)) (moment old).world (moment mid).world es sound s.selects.asked.same)
+
   -- writing was cut off
-  pub write_cut : (new : Air Device) → WritesSome (moment mid) (moment new) s.device (message_of m) → IsCutOff old new (Write id m)
-  write_cut new w =
+  pub write_cut : (new : Air Device) → is_tag s.device ≡ true → WritesSome (moment mid) (moment new) s.device (message_of m) → CutOffBelow old new (Write id m)
+  write_cut new tag w = λ ends peers.
+      let os : Upon = record { ends = ends; peers = peers } in
       let commands : List Signal = w.told.commands in
-      let g : Going air (tag_due id commands) (moment old) (moment new) (s.selects.asked.notes ++ w.told.asked.notes) = of_both new commands w.told.asked.notes w.told.asked.going in
+      let ns : List Note = s.selects.asked.notes ++ w.told.asked.notes in
+      let g : Going air (tag_due id commands) (moment old) (moment new) ns = of_both new commands w.told.asked.notes w.told.asked.going in
+      let asked = placed_write commands (as_tag s.device tag _ _ w.told.asks) in
       inr (
         asks_for commands,
-        front_of old new (Write id m) commands (s.selects.asked.notes ++ w.told.asked.notes) idle tt refl g (placed_write commands w.told.asks),
-        subst (λ es. StoresLaw (state_at old) id (message_of m) Stopped es) (sym (trace_is old new (tag_due id commands) (s.selects.asked.notes ++ w.told.asked.notes) g idle))
-            (stores_behind new commands w.told.asked.notes w.told.asked.going Stopped w.told.asked.same w.law),
+        front_of os old new (Write id m) commands ns idle tt refl g asked,
+        subst (λ es. StoresLaw (above os old) [] id m Stopped es) (sym (trace_is old new (tag_due id commands) ns g idle))
+            (stores_above os old id m Stopped g.events (none_in os old new (Write id m) commands ns g asked)
+            (stores_behind new commands w.told.asked.notes w.told.asked.going Stopped w.told.asked.same w.law)),
       )
 
 -- ... or selecting was
-pub selection_cut_write : (old new : Air Device) (id : DeviceId) (m : Msg) → IsIdle old → SelectionCut id (moment old) (moment new) → IsCutOff old new (Write id m)
-selection_cut_write old new id m idle part =
+pub selection_cut_write : (old new : Air Device) (id : DeviceId) (m : Msg) → IsIdle old → SelectionCut id (moment old) (moment new) → CutOffBelow old new (Write id m)
+selection_cut_write old new id m idle part = λ ends peers.
+    let os : Upon = record { ends = ends; peers = peers } in
     let some = write_asked old id m idle in
     let g : Going air (tag_due id some.0) (moment old) (moment new) part.notes = polled_of id some.0 (moment old) (moment new) part.notes part.going in
     inr (
       asks_for some.0,
-      front_of old new (Write id m) some.0 part.notes idle tt refl g some.1,
-      subst (λ es. StoresLaw (state_at old) id (message_of m) Stopped es) (sym (trace_is old new (tag_due id some.0) part.notes g idle))
-          (polled_stores id (message_of m) (moment old) (moment new) part.notes part.going part.same (sound_one old id idle) (state_at old) refl),
+      front_of os old new (Write id m) some.0 part.notes idle tt refl g some.1,
+      subst (λ es. StoresLaw (above os old) [] id m Stopped es) (sym (trace_is old new (tag_due id some.0) part.notes g idle))
+          (stores_above os old id m Stopped g.events (none_in os old new (Write id m) some.0 part.notes g some.1)
+          (polled_stores id (message_of m) (moment old) (moment new) part.notes part.going part.same (sound_one old id idle))),
     )
 
 -- What was asked in a write, however it ended.

@@ -8,8 +8,6 @@ use Rattle.nfc_base.specs.declared.tag_link.AskFault.TheVariants as asking
 use Rattle.air_core.specs.World.{World}
 use Rattle.air_core.specs.Conversation.{Moment}
 use Rattle.tag_reader.specs.Kinds.{t2_step, t5_step}
-use Rattle.tag_reader.specs.declared.how.How.{How}
-use Rattle.tag_reader.specs.declared.how.How.TheVariants as hows
 use Rattle.tag_reader.specs.Files.{t4_link_step}
 use Rattle.tag_writer.specs.declared.fault.WriteFault.TheVariants as writing
 use Rattle.tag_writer.specs.Faults.{ending_of}
@@ -18,32 +16,38 @@ use Rattle.tag_writer.specs.Outcome.{IsOutcome}
 use Rattle.tag_writer.specs.WriteAsked.{IsWriteAsked}
 use Rattle.tag_writer.proofs.OneOutcome.{one_outcome_by}
 use Rattle.bench_devices.specs.declared.device.Device.{Device}
-use Rattle.bench_devices.specs.declared.device.Device.TheVariants.{T2, T4, T5}
-use Rattle.bench_devices.specs.Device.{BenchWorld, device_store, device_commands, how_of, size_of}
+use Rattle.bench_devices.specs.declared.device.Device.TheVariants.{T2, T4, Peer, T5}
+use Rattle.bench_devices.specs.Device.{BenchWorld, device_store, device_commands, how_of, size_of, seen_of}
+use Rattle.bench_devices.specs.declared.polling.SeenKind.{SeenKind}
+use Rattle.bench_devices.specs.declared.polling.SeenKind.TheVariants as seen
+use Rattle.bench_devices.specs.Peers.{no_commands}
 use Rattle.bench_devices.specs.Keeping.{Fixed, fixed, Kept, kept, images_of}
 use Rattle.bench_devices.specs.Phases.{WriteEnd, FailsWrite, Writes}
 use Rattle.bench_devices.specs.Writing.{AsksWriteOf, ShowsWrite, KeepsWriteLaw}
 use Rattle.bench_world.specs.declared.entry.Answer.{Answer}
 use Rattle.bench_world.specs.declared.entry.Answer.TheVariants as answers
 use Rattle.bench_world.specs.Answering.{written_by, MayEndWrite, TellsFault}
-use Rattle.bench_world.specs.Writing.{TellsWrite, ending_told}
+use Rattle.bench_world.specs.Writing.{TellsTag, TellsWrite, ending_told}
+use Rattle.bench_devices.proofs.TagOrPeer.{one_if}
 use Rattle.bench_world.proofs.OneForm.{one_store_form}
 use Rattle.bench_world.proofs.Telling.{tells_either}
 
 -- What a device does with commands is a function of what stays of it.
-commands_by : How → Fixed → TagState → Signal → TagStep
-commands_by hows.T2 x = t2_step x.locked
-commands_by hows.T4 x = t4_link_step x.code
-commands_by (hows.T5 id) x = t5_step id x.size x.locked false
+commands_by : SeenKind → Fixed → TagState → Signal → TagStep
+commands_by seen.T2 x = t2_step x.locked
+commands_by seen.T4 x = t4_link_step x.code
+commands_by seen.Peer x = no_commands
+commands_by seen.T5 x = t5_step x.id x.size x.locked false
 
-commands_are : (d : Device) → device_commands d ≡ commands_by (how_of d) (fixed d)
+commands_are : (d : Device) → device_commands d ≡ commands_by (seen_of d) (fixed d)
 unfolding commands_by
 commands_are (T2 d) = refl
 commands_are (T4 d) = refl
+commands_are (Peer d) = refl
 commands_are (T5 p) = refl
 
 pub same_commands : (d e : Device) → kept d ≡ kept e → device_commands d ≡ device_commands e
-same_commands d e same = commands_are d ∙ ap (λ (k : Kept). commands_by k.fixed.how k.fixed) same ∙ sym (commands_are e)
+same_commands d e same = commands_are d ∙ ap (λ (k : Kept). commands_by k.fixed.kind k.fixed) same ∙ sym (commands_are e)
 
 -- So what is said of a write of one device is said of another of which the same stays.
 module _ (d e : Device) (same : kept d ≡ kept e) (message : List ℕ) where
@@ -189,5 +193,8 @@ pub one_outcome_of : (message : List ℕ) (d : Device) (r q : WriteEnd) → Show
 one_outcome_of message d r q a b =
     one_outcome_by (how_of d) (size_of d) (device_commands d) (plain_state (device_store d)) message r q (one_store_form (how_of d) (size_of d) (device_store d)) a b
 
+one_of_tag : (message : List ℕ) (d : Device) (a b : Answer) → TellsTag message d a → TellsTag message d b → a ≡ b
+one_of_tag message d a b p q = told_once a b (sym p.2 ∙ ap written_by (one_outcome_of message d p.0 q.0 p.1 q.1) ∙ q.2)
+
 pub one_written : (message : List ℕ) (d : Device) (a b : Answer) → TellsWrite message d a → TellsWrite message d b → a ≡ b
-one_written message d a b p q = told_once a b (sym p.2 ∙ ap written_by (one_outcome_of message d p.0 q.0 p.1 q.1) ∙ q.2)
+one_written message d a b p q = one_if (seen_of d) (TellsTag message d) answers.WrongKind (one_of_tag message d) a b p q

@@ -39,7 +39,7 @@ pub record WritesThenReads (id : DeviceId) (tag : Device) (m : Msg) (answer : An
   pub write_given : Given
   pub given : List Given
   pub read_given : Given
-  pub placed : device_with (bytes_of id) before.world.listeners ≡ Some tag
+  pub placed : device_with (bytes_of id) before.world.field.listeners ≡ Some tag
   pub writes : LegalStep before write_given write written
   pub writing : write.command ≡ Write id m
   pub answered : write.answer ≡ answer

@@ -1,6 +1,6 @@
 -- What a read, a write and a search answer where noise doesn't keep them from it: no Break was used, no wait had six bad receptions, and
 -- polling had one round, of a Type 5 tag one try, without noise (rounds, tries and six receptions are this project's own).
-use Rattle.std.specs.Prelude.{◌≡◌, ◌<◌, List, Some, Ok}
+use Rattle.std.specs.Prelude.{◌≡◌, ◌<◌, List, Some, Ok, true}
 use Rattle.nfc_base.specs.Signal.{Signal}
 use Rattle.nfc_base.specs.Trace.{breaks}
 use Rattle.nfc_base.specs.declared.event.Event.{Event}
@@ -17,6 +17,7 @@ use Rattle.bench_script.specs.DeviceIds.{bytes_of}
 use Rattle.bench_script.specs.Messages.{message_of}
 use Rattle.bench_script.specs.declared.message.Msg.{Msg}
 use Rattle.bench_devices.specs.declared.device.Device.{Device}
+use Rattle.bench_devices.specs.Device.{is_tag}
 use Rattle.bench_devices.specs.declared.polling.SeenKind.{SeenKind}
 use Rattle.bench_devices.specs.declared.polling.SeenKind.TheVariants as seen
 use Rattle.bench_devices.specs.Answering.{IsNamed}
@@ -55,21 +56,21 @@ pub record IsUndisturbed (id : DeviceId) (asked : List Signal) (es : List Event)
 -- So a read of a placed tag tells what its store holds: the message, or the fault that the store has.
 abbrev pub ReadsComplete : Type 0
 ReadsComplete =
-    (s t : State) (g : Given) (e : Entry) (id : DeviceId) (d : Device) → LegalStep s g e t → e.command ≡ Read id → device_with (bytes_of id) s.world.listeners ≡ Some d
+    (s t : State) (g : Given) (e : Entry) (id : DeviceId) (d : Device) → LegalStep s g e t → e.command ≡ Read id → device_with (bytes_of id) s.world.field.listeners ≡ Some d
     → IsNamed id d → IsUndisturbed id g.asked e.events → TellsOf d e.answer
 
 -- A write of a placed tag tells what it comes to by what the tag holds and by its locked blocks.
 abbrev pub WritesComplete : Type 0
 WritesComplete =
-    (s t : State) (g : Given) (e : Entry) (id : DeviceId) (m : Msg) (d : Device) → LegalStep s g e t → e.command ≡ Write id m → device_with (bytes_of id) s.world.listeners ≡ Some d
+    (s t : State) (g : Given) (e : Entry) (id : DeviceId) (m : Msg) (d : Device) → LegalStep s g e t → e.command ≡ Write id m → device_with (bytes_of id) s.world.field.listeners ≡ Some d
     → IsNamed id d → IsUndisturbed id g.asked e.events → TellsWrite (message_of m) d e.answer
 
 -- So a message is written where the tag holds one, is free to write, has room for it, takes updates of two bytes, and refuses none of
 -- the writes.
 abbrev pub ValidIsWritten : Type 0
 ValidIsWritten =
-    (s t : State) (g : Given) (e : Entry) (id : DeviceId) (m : Msg) (d : Device) → LegalStep s g e t → e.command ≡ Write id m → device_with (bytes_of id) s.world.listeners ≡ Some d
-    → IsNamed id d → IsUndisturbed id g.asked e.events → ShowsWrite (message_of m) d (Ok tt) → e.answer ≡ answers.Written
+    (s t : State) (g : Given) (e : Entry) (id : DeviceId) (m : Msg) (d : Device) → LegalStep s g e t → e.command ≡ Write id m → device_with (bytes_of id) s.world.field.listeners ≡ Some d
+    → is_tag d ≡ true → IsNamed id d → IsUndisturbed id g.asked e.events → ShowsWrite (message_of m) d (Ok tt) → e.answer ≡ answers.Written
 
 -- A search lists the whole field: all NFC-A devices in crowd order, and the true Type 5 result.
 abbrev pub whole_field : List Device → Answer
@@ -78,4 +79,4 @@ whole_field ds = answers.Found (seen_all (record { cards = crowd_of ds; others =
 abbrev pub FindsComplete : Type 0
 FindsComplete =
     (s t : State) (g : Given) (e : Entry) → LegalStep s g e t → e.command ≡ Find → breaks e.events ≡ 0 → (AreDisturbed (rounds e.events) → ⊥)
-    → noisy_tries inventory_all e.events < tries → e.answer ≡ whole_field s.world.listeners
+    → noisy_tries inventory_all e.events < tries → e.answer ≡ whole_field s.world.field.listeners

@@ -1,5 +1,6 @@
 -- Which journals are legal for the lines of a script.
-use Rattle.std.specs.Prelude.{◌≡◌, ℕ, ◌+◌, List, [], ◌∷◌, if◌then◌else◌}
+use Rattle.std.specs.Prelude.{◌≡◌, ℕ, ◌+◌, List, [], ◌∷◌, map, if◌then◌else◌}
+use Rattle.bench_script.specs.declared.command.Command.{Command}
 use Rattle.bench_world.specs.declared.entry.Entry.{Entry}
 use Rattle.bench_world.specs.Legal.{State, Given, EachLegal, first_state}
 use Rattle.bench_script.specs.Script.{Spells, is_skipped}
@@ -25,12 +26,27 @@ AreEntriesOf (l ∷ ls) [] = ⊥
 abbrev pub Numbered : ℕ → List (List ℕ) → List Entry → Type 0
 Numbered n lines entries = AreEntriesOf (asking_lines n lines) entries
 
--- The journal is one that these lines may have: an entry for each that asks for something, and each entry legal behind
--- those before it; so it leads to this state.
-pub record LeadsTo (lines : List (List ℕ)) (journal : List Entry) (last : State) : Type 0 where
+-- The journal is one that these lines may have, by these numbers of PDUs, a list an entry: an entry for each line that asks for
+-- something, and each entry legal behind those before it; so it leads to this state.
+pub record LeadsTo (lines : List (List ℕ)) (numbers : List (List ℕ)) (journal : List Entry) (last : State) : Type 0 where
   pub given : List Given
+  pub joins : map (λ (g : Given). g.joins) given ≡ numbers
   pub numbered : Numbered 1 lines journal
   pub steps : EachLegal first_state given journal last
 
-abbrev pub Legal : List (List ℕ) → List Entry → Type 0
-Legal lines journal = (last : State) × LeadsTo lines journal last
+-- by some numbers
+pub record Legal (lines : List (List ℕ)) (journal : List Entry) : Type 0 where
+  pub numbers : List (List ℕ)
+  pub last : State
+  pub leads : LeadsTo lines numbers journal last
+
+-- In a command far ends may be handed payloads, so its entry may take numbers. In none yet; a later command adds its case.
+abbrev pub TakesNumbers : Command → Type 0
+TakesNumbers c = ⊥
+
+-- Numbers of a journal's entries agree where a command may take any.
+abbrev pub AgreeFor : List Entry → List (List ℕ) → List (List ℕ) → Type 0
+AgreeFor [] ns ms = Unit {0}
+AgreeFor (e ∷ es) [] ms = Unit {0}
+AgreeFor (e ∷ es) (n ∷ ns) [] = Unit {0}
+AgreeFor (e ∷ es) (n ∷ ns) (m ∷ ms) = (TakesNumbers e.command → m ≡ n) × AgreeFor es ns ms

@@ -1,6 +1,6 @@
 -- Which entries a bench may have: what it accepts, what each command changes, which request is due, and what it
 -- answers. A later command adds a case to each definition.
-use Rattle.std.specs.Prelude.{◌≡◌, ◌⊎◌, ℕ, ◌*◌, ◌-◌, ◌<◌, ◌≤◌, List, [], ◌∷◌, ◌++◌, map, length, replicate, None, IsSome, true, false}
+use Rattle.std.specs.Prelude.{◌≡◌, ◌⊎◌, ℕ, ◌*◌, ◌-◌, ◌^◌, ◌<◌, ◌≤◌, List, [], ◌∷◌, ◌++◌, length, replicate, Some, None, IsSome, true, false}
 use Rattle.nfc_base.specs.declared.event.Event.{Event}
 use Rattle.nfc_base.specs.declared.event.Fate.{Fate}
 use Rattle.nfc_base.specs.Signal.{Signal}
@@ -9,13 +9,13 @@ use Rattle.t2t_tag.specs.Store.{IsT2Store}
 use Rattle.t4t_tag.specs.Store.{IsT4Store, file_size}
 use Rattle.t5t_tag.specs.Store.{IsT5Store}
 use Rattle.bench_script.specs.declared.command.Command.{Command}
-use Rattle.bench_script.specs.declared.command.Command.TheVariants.{Skip, Fates, PlaceT2, PlaceT4, PlaceT5, Lock, Busy, Remove, Dump, Find, Read, Write}
+use Rattle.bench_script.specs.declared.command.Command.TheVariants.{Skip, Fates, PlaceT2, PlaceT4, PlaceT5, PlacePeer, Lock, Busy, Offer, Remove, Dump, Inbox, Find, Read, Write}
 use Rattle.bench_script.specs.declared.command.DeviceId.{DeviceId}
 use Rattle.bench_devices.specs.declared.device.Device.{Device}
 use Rattle.bench_world.specs.declared.entry.Answer.{Answer}
 use Rattle.bench_world.specs.declared.entry.Answer.TheVariants as answers
 use Rattle.bench_world.specs.declared.entry.Entry.{Entry}
-use Rattle.bench_devices.specs.Device.{BenchWorld, air, most_devices, StablePart, stable_of, new_t2, new_t4, new_t5, blocks_of, device_locked, may_be_busy, device_busy, is_tag, memory_in}
+use Rattle.bench_devices.specs.Device.{most_devices, new_t2, new_t4, new_t5, new_peer, blocks_of, device_locked, may_be_busy, device_busy, is_tag, memory_in}
 use Rattle.isodep_link.specs.Card.{most_busy}
 use Rattle.isodep_link.specs.Reader.{longest_extension}
 use Rattle.bench_devices.specs.TagAsking.{tag_due}
@@ -23,27 +23,38 @@ use Rattle.bench_script.specs.DeviceIds.{bytes_of}
 use Rattle.bench_script.specs.Messages.{message_of}
 use Rattle.bench_devices.specs.Polling.{asks, finding_all}
 use Rattle.bench_devices.specs.Placed.{device_with, without, with_changed, OfPlaced, IfPlaced}
-use Rattle.bench_devices.specs.Reading.{AsksOf}
-use Rattle.bench_devices.specs.Writing.{AsksWriteOf, KeepsWriteLaw}
 use Rattle.bench_devices.specs.Keeping.{AllKeepBut}
 use Rattle.tag_writer.specs.Law.{Ending, Stopped}
+use Rattle.far_air.specs.FarWorld.{with_numbers}
+use Rattle.bench_script.specs.declared.message.Msg.{Msg}
+use Rattle.llcp_pdu.specs.General.{IsMiu}
+use Rattle.llcp_conn.specs.Conn.{IsWindow}
+use Rattle.snep_core.specs.Server.{IsLimit}
+use Rattle.bench_world.specs.World.{FarEnd, WholeWorld, bench_air, first_world, with_listeners, with_one_more, stable}
+use Rattle.bench_world.specs.declared.entry.Received.{Received}
+use Rattle.bench_world.specs.Inbox.{inbox_at}
+use Rattle.bench_world.specs.Peers.{Peers, no_peers, with_tag, with_peer, without_place, with_place_changed, placed_under, without_number, new_end, end_offered}
 use Rattle.bench_world.specs.Answering.{TagTells, TellsFound}
-use Rattle.bench_world.specs.Reading.{TellsOf}
-use Rattle.bench_world.specs.Writing.{TellsWrite, ending_told}
+use Rattle.bench_world.specs.Reading.{TellsOf, ReadAsks}
+use Rattle.bench_world.specs.Writing.{TellsWrite, WriteAsks, KeepsStores, ending_told}
 use Rattle.bench_devices.specs.Answering.{FindTells}
 
--- what stands between two commands: the bench's world, and the fates that are left
+-- What stands between two commands: the bench's world, in which no numbers are left, the fates that are left, and the peers so far. No command
+-- begins a link yet, so none has had any.
 pub record State : Type 0 where
-  pub world : BenchWorld
+  pub world : WholeWorld
   pub queue : List Fate
+  pub peers : Peers
 
--- What a step is said for: what its command asks of its tag.
+-- What a step is said for: what its command asks of its tag, and how many PDUs far ends put in each payload, from the first reply to
+-- the last.
 pub record Given : Type 0 where
   pub asked : List Signal
+  pub joins : List ℕ
 
 -- before the first command: no device, dark, and no fate
 abbrev pub first_state : State
-first_state = record { world = record { lit = false; listeners = [] }; queue = [] }
+first_state = record { world = first_world; queue = []; peers = no_peers }
 
 -- the memory of a new tag of so many bytes: the given ones, then zeros
 abbrev pub memory_of : ℕ → List ℕ → List ℕ
@@ -51,8 +62,8 @@ memory_of size head = head ++ replicate (size - length head) 0
 
 -- There is room for one more device, and none has this identifier.
 pub record IsFree (s : State) (id : List ℕ) : Type 0 where
-  pub room : length s.world.listeners < most_devices
-  pub fresh : device_with id s.world.listeners ≡ None
+  pub room : length s.world.field.listeners < most_devices
+  pub fresh : device_with id s.world.field.listeners ≡ None
 
 -- A Type 2 tag may be placed: the given bytes fit, and its store is one of a tag.
 pub record MayPlaceT2 (s : State) (id : List ℕ) (blocks : ℕ) (head : List ℕ) : Type 0 where
@@ -73,74 +84,124 @@ pub record MayPlaceT5 (s : State) (id : List ℕ) (blocks size : ℕ) (head : Li
   pub fits : length head ≤ size * blocks
   pub store : IsT5Store size (memory_of (size * blocks) head)
 
+-- A peer may be placed: its LR code is one, its MIU and receive window are those that an end may have, and its limit one of a server.
+pub record MayPlacePeer (s : State) (id : List ℕ) (lr miu rw most : ℕ) : Type 0 where
+  pub free : IsFree s id
+  pub code : lr < 4
+  pub size : IsMiu miu
+  pub window : IsWindow rw
+  pub limit : IsLimit most
+
 -- a device with this identifier is placed
 abbrev pub IsPlaced : State → DeviceId → Type 0
-IsPlaced s id = IsSome (device_with (bytes_of id) s.world.listeners)
+IsPlaced s id = IsSome (device_with (bytes_of id) s.world.field.listeners)
 
 -- a tag with this identifier is placed
 abbrev pub IsTagPlaced : State → DeviceId → Type 0
-IsTagPlaced s id = OfPlaced (λ d. is_tag d ≡ true) (device_with (bytes_of id) s.world.listeners)
+IsTagPlaced s id = OfPlaced (λ d. is_tag d ≡ true) (device_with (bytes_of id) s.world.field.listeners)
+
+-- a peer with this identifier is placed
+abbrev pub IsPeerPlaced : State → DeviceId → Type 0
+IsPeerPlaced s id = OfPlaced (λ d. is_tag d ≡ false) (device_with (bytes_of id) s.world.field.listeners)
+
+-- A peer may be given a value for a key: four bytes can say how long it is.
+pub record MayOffer (s : State) (id : DeviceId) (value : List ℕ) : Type 0 where
+  pub peer : IsPeerPlaced s id
+  pub short : length value < 2 ^ 32
 
 -- The device with this identifier has this block. Only a Type 2 or Type 5 tag has one that can be locked.
 abbrev pub HasBlock : State → DeviceId → ℕ → Type 0
-HasBlock s id block = OfPlaced (λ d. block < blocks_of d) (device_with (bytes_of id) s.world.listeners)
+HasBlock s id block = OfPlaced (λ d. block < blocks_of d) (device_with (bytes_of id) s.world.field.listeners)
 
--- The device with this identifier is a Type 4 tag, and may ask for more time so often before an answer, and by this value.
+-- The device with this identifier is a Type 4 tag or a peer, and may ask for more time so often before an answer, and by this value.
 pub record MayBeBusy (s : State) (id : DeviceId) (count times : ℕ) : Type 0 where
-  pub device : OfPlaced (λ d. may_be_busy d ≡ true) (device_with (bytes_of id) s.world.listeners)
+  pub device : OfPlaced (λ d. may_be_busy d ≡ true) (device_with (bytes_of id) s.world.field.listeners)
   pub few : count ≤ most_busy
   pub long : (1 ≤ times) × (times ≤ longest_extension)
 
 -- The conditions of a command beside its grammar, in a state. Only what is placed can be taken away, and a tag alone shows what it
--- holds.
+-- holds, and a peer alone what it accepted.
 abbrev pub Accepts : State → Command → Type 0
 Accepts s Skip = Unit {0}
 Accepts s (Fates fates) = Unit {0}
 Accepts s (PlaceT2 id blocks head) = MayPlaceT2 s id blocks head
 Accepts s (PlaceT4 id code container head) = MayPlaceT4 s id code container head
 Accepts s (PlaceT5 id blocks size head) = MayPlaceT5 s id blocks size head
+Accepts s (PlacePeer id lr miu rw limit) = MayPlacePeer s id lr miu rw limit
 Accepts s (Lock id block) = HasBlock s id block
 Accepts s (Busy id count times) = MayBeBusy s id count times
+Accepts s (Offer id key value) = MayOffer s id value
 Accepts s (Remove id) = IsPlaced s id
 Accepts s (Dump id) = IsTagPlaced s id
+Accepts s (Inbox id) = IsPeerPlaced s id
 Accepts s Find = Unit {0}
 Accepts s (Read id) = Unit {0}
 Accepts s (Write id message) = Unit {0}
 
--- the state with one more device
+-- the state with one more tag, which has no far end
 abbrev pub with_device : State → Device → State
-with_device s d = record { world = record { lit = s.world.lit; listeners = s.world.listeners ++ d ∷ [] }; queue = s.queue }
+with_device s d = record { world = with_one_more s.world d None; queue = s.queue; peers = with_tag s.peers }
 
--- the state with the device that has an identifier taken away
+-- the state with one more peer, under its far end; it has the next number
+abbrev pub with_peer_under : State → Device → FarEnd → State
+with_peer_under s d end = record { world = with_one_more s.world d (Some end); queue = s.queue; peers = with_peer s.peers }
+
+-- the state with the device that has an identifier taken away, and its far end with it
 abbrev pub without_device : State → DeviceId → State
-without_device s id = record { world = record { lit = s.world.lit; listeners = without (bytes_of id) s.world.listeners }; queue = s.queue }
+without_device s id = record {
+  world = record {
+    field = record { lit = s.world.field.lit; listeners = without (bytes_of id) s.world.field.listeners };
+    fars = without_place (bytes_of id) s.world.field.listeners s.world.fars;
+    numbers = s.world.numbers;
+  };
+  queue = s.queue;
+  peers = without_number (bytes_of id) s.world.field.listeners s.peers;
+}
+
+-- the state in which the device with an identifier is changed so
+abbrev pub with_device_changed : State → DeviceId → (Device → Device) → State
+with_device_changed s id change = record { world = with_listeners s.world (with_changed change (bytes_of id) s.world.field.listeners); queue = s.queue; peers = s.peers }
 
 -- the state in which the device with an identifier has one block more locked
 abbrev pub with_locked : State → DeviceId → ℕ → State
-with_locked s id block = record { world = record { lit = s.world.lit; listeners = with_changed (device_locked block) (bytes_of id) s.world.listeners }; queue = s.queue }
+with_locked s id block = with_device_changed s id (device_locked block)
 
 -- the state in which the device with an identifier asks for more time so often before each answer, by this value
 abbrev pub with_busy : State → DeviceId → ℕ → ℕ → State
-with_busy s id count times = record { world = record { lit = s.world.lit; listeners = with_changed (device_busy count times) (bytes_of id) s.world.listeners }; queue = s.queue }
+with_busy s id count times = with_device_changed s id (device_busy count times)
+
+-- the state in which the server of the peer with an identifier gives a key this value
+abbrev pub with_offer : State → DeviceId → List ℕ → List ℕ → State
+with_offer s id key value = record {
+  world = record {
+    field = s.world.field;
+    fars = with_place_changed (end_offered key value) (bytes_of id) s.world.field.listeners s.world.fars;
+    numbers = s.world.numbers;
+  };
+  queue = s.queue;
+  peers = s.peers;
+}
 
 -- What a command itself changes, before anything is sent: fates are appended, devices are placed and taken away, a block is
--- locked, and a device asks for more time from now on.
+-- locked, a device asks for more time from now on, and a peer's server gives a key a value.
 abbrev pub changed : State → Command → State
-changed s (Fates fates) = record { world = s.world; queue = s.queue ++ fates }
+changed s (Fates fates) = record { world = s.world; queue = s.queue ++ fates; peers = s.peers }
 changed s (PlaceT2 id blocks head) = with_device s (new_t2 id (memory_of (4 * blocks) head))
 changed s (PlaceT4 id code container head) = with_device s (new_t4 id code container (memory_of (file_size container) head))
 changed s (PlaceT5 id blocks size head) = with_device s (new_t5 id size (memory_of (size * blocks) head))
+changed s (PlacePeer id lr miu rw limit) = with_peer_under s (new_peer id lr miu) (new_end miu rw limit)
 changed s (Lock id block) = with_locked s id block
 changed s (Busy id count times) = with_busy s id count times
+changed s (Offer id key value) = with_offer s id key value
 changed s (Remove id) = without_device s id
 changed s c = s
 
 -- What a command asks of its tag, from the first command of the tag to the last. Only a read and a write of a placed one ask
--- anything.
+-- anything, and nothing of a peer.
 abbrev pub IsAskedBy : State → Command → List Signal → Type 0
-IsAskedBy s (Read id) asked = IfPlaced (λ d. AsksOf d asked) (asked ≡ []) (device_with (bytes_of id) s.world.listeners)
+IsAskedBy s (Read id) asked = IfPlaced (λ d. ReadAsks d asked) (asked ≡ []) (device_with (bytes_of id) s.world.field.listeners)
 IsAskedBy s (Write id message) asked =
-    IfPlaced (λ d. AsksWriteOf (message_of message) d asked) (asked ≡ []) (device_with (bytes_of id) s.world.listeners)
+    IfPlaced (λ d. WriteAsks (message_of message) d asked) (asked ≡ []) (device_with (bytes_of id) s.world.field.listeners)
 IsAskedBy s c asked = asked ≡ []
 
 -- What is due in a command, by what the reader knows. Nothing is sent but in a read, a write and a search.
@@ -150,32 +211,47 @@ due s g (Read id) ns = tag_due id g.asked ns
 due s g (Write id message) ns = tag_due id g.asked ns
 due s g c ns = Over
 
--- what stays of the devices when the field goes dark
-abbrev pub stable : BenchWorld → List StablePart
-stable w = map stable_of w.listeners
+-- the world that a command begins in: what it itself changes is changed, and the entry has its numbers
+abbrev pub begun : State → List ℕ → Command → WholeWorld
+begun s numbers c = with_numbers (changed s c).world numbers
+
+-- the state after a command, by these numbers, and what happened in it: numbers that are left go
+abbrev pub state_after : State → List ℕ → Command → List Event → State
+state_after s numbers c events = record { world = with_numbers (replay bench_air (begun s numbers c) events) []; queue = queue_after (changed s c).queue events; peers = (changed s c).peers }
+
+-- what a command and what happened in it leave of what stays, but for what the command itself changes
+abbrev pub LeavesStable : State → List ℕ → Command → List Event → Type 0
+LeavesStable s numbers c events = stable (state_after s numbers c events).world ≡ stable (changed s c).world
 
 -- A search and a read change nothing that stays.
-pub record ReadLaw (s : State) (id : DeviceId) (asked : List Signal) (events : List Event) (answer : Answer) : Type 0 where
-  pub tells : TagTells TellsOf id s.world.listeners asked events answer
-  pub stays : stable (replay air s.world events) ≡ stable s.world
+pub record ReadLaw (s : State) (numbers : List ℕ) (id : DeviceId) (asked : List Signal) (events : List Event) (answer : Answer) : Type 0 where
+  pub tells : TagTells TellsOf id s.world.field.listeners asked events answer
+  pub stays : LeavesStable s numbers (Read id) events
 
-pub record FindLaw (s : State) (events : List Event) (answer : Answer) : Type 0 where
-  pub tells : FindTells TellsFound s.world.listeners events answer
-  pub stays : stable (replay air s.world events) ≡ stable s.world
+pub record FindLaw (s : State) (numbers : List ℕ) (events : List Event) (answer : Answer) : Type 0 where
+  pub tells : FindTells TellsFound s.world.field.listeners events answer
+  pub stays : LeavesStable s numbers Find events
 
 -- A write changes the store of its tag alone, which passes such stores as the law of a write says: the one before the command and
--- the one after each event, resets and polling too. No other store and no locked block changes.
-pub record StoresLaw (s : State) (id : DeviceId) (message : List ℕ) (ending : Ending) (events : List Event) : Type 0 where
-  pub law : IfPlaced (λ d. KeepsWriteLaw message d ending s.world events) (Unit {0}) (device_with (bytes_of id) s.world.listeners)
-  pub others : AllKeepBut (bytes_of id) s.world.listeners (replay air s.world events).listeners
+-- the one after each event, resets and polling too. No other store, no locked block and nothing that stays of a far end changes. The
+-- images of the tag's store are told by the field alone, since no far end has a part in what a tag takes.
+pub record StoresLaw (s : State) (numbers : List ℕ) (id : DeviceId) (message : Msg) (ending : Ending) (events : List Event) : Type 0 where
+  pub law : IfPlaced (λ d. KeepsStores (message_of message) d ending s.world.field events) (Unit {0}) (device_with (bytes_of id) s.world.field.listeners)
+  pub others : AllKeepBut (bytes_of id) s.world.field.listeners (state_after s numbers (Write id message) events).world.field.listeners
+  pub ends : (stable (state_after s numbers (Write id message) events).world).ends ≡ (stable s.world).ends
 
-pub record WritingLaw (s : State) (id : DeviceId) (message : List ℕ) (asked : List Signal) (events : List Event) (answer : Answer) : Type 0 where
-  pub tells : TagTells (TellsWrite message) id s.world.listeners asked events answer
-  pub stores : StoresLaw s id message (ending_told answer) events
+pub record WritingLaw (s : State) (numbers : List ℕ) (id : DeviceId) (message : Msg) (asked : List Signal) (events : List Event) (answer : Answer) : Type 0 where
+  pub tells : TagTells (TellsWrite (message_of message)) id s.world.field.listeners asked events answer
+  pub stores : StoresLaw s numbers id message (ending_told answer) events
 
 -- A dump tells what the device with this identifier holds.
 abbrev pub DumpLaw : State → DeviceId → Answer → Type 0
-DumpLaw s id answer = OfPlaced (λ d. answer ≡ answers.Store (memory_in d)) (device_with (bytes_of id) s.world.listeners)
+DumpLaw s id answer = OfPlaced (λ d. answer ≡ answers.Store (memory_in d)) (device_with (bytes_of id) s.world.field.listeners)
+
+-- An inbox tells what the server of the peer with this identifier accepted, by the peer's links.
+abbrev pub inbox_now : State → DeviceId → List Received
+inbox_now s id =
+    inbox_at s.peers.links (placed_under (bytes_of id) s.world.field.listeners s.peers.numbers) (placed_under (bytes_of id) s.world.field.listeners s.world.fars)
 
 -- the law of the answers; a line that asks for nothing has none
 abbrev pub AnswerLaw : State → Given → Command → List Event → Answer → Type 0
@@ -184,27 +260,26 @@ AnswerLaw s g (Fates fates) events answer = answer ≡ answers.Done
 AnswerLaw s g (PlaceT2 id blocks head) events answer = answer ≡ answers.Done
 AnswerLaw s g (PlaceT4 id code container head) events answer = answer ≡ answers.Done
 AnswerLaw s g (PlaceT5 id blocks size head) events answer = answer ≡ answers.Done
+AnswerLaw s g (PlacePeer id lr miu rw limit) events answer = answer ≡ answers.Done
 AnswerLaw s g (Lock id block) events answer = answer ≡ answers.Done
 AnswerLaw s g (Busy id count times) events answer = answer ≡ answers.Done
+AnswerLaw s g (Offer id key value) events answer = answer ≡ answers.Done
 AnswerLaw s g (Remove id) events answer = answer ≡ answers.Done
 AnswerLaw s g (Dump id) events answer = DumpLaw s id answer
-AnswerLaw s g Find events answer = FindLaw s events answer
-AnswerLaw s g (Read id) events answer = ReadLaw s id g.asked events answer
-AnswerLaw s g (Write id message) events answer = WritingLaw s id (message_of message) g.asked events answer
-
--- the state after a command and what happened in it
-abbrev pub state_after : State → Command → List Event → State
-state_after s c events = record { world = replay air (changed s c).world events; queue = queue_after (changed s c).queue events }
+AnswerLaw s g (Inbox id) events answer = answer ≡ answers.Inbox (inbox_now s id)
+AnswerLaw s g Find events answer = FindLaw s g.joins events answer
+AnswerLaw s g (Read id) events answer = ReadLaw s g.joins id g.asked events answer
+AnswerLaw s g (Write id message) events answer = WritingLaw s g.joins id message g.asked events answer
 
 -- A front of a step: from this state the command is accepted, and turns were made, each due, by the first fates; they lead to that
 -- state. An entry is a front that is over and answered; a command that was cut off leaves one.
 pub record FrontOf (s : State) (g : Given) (c : Command) (events : List Event) (t : State) : Type 0 where
   pub accepted : Accepts s c
   pub asks : IsAskedBy s c g.asked
-  pub turns : AreTurns air (changed s c).world events
+  pub turns : AreTurns bench_air (begun s g.joins c) events
   pub fates : FatesFrom (changed s c).queue events
   pub each : EachDue (due s g c) [] events
-  pub after : t ≡ state_after s c events
+  pub after : t ≡ state_after s g.joins c events
 
 -- An entry leads from one state to another.
 pub record LegalStep (s : State) (g : Given) (e : Entry) (t : State) : Type 0 where
@@ -213,13 +288,13 @@ pub record LegalStep (s : State) (g : Given) (e : Entry) (t : State) : Type 0 wh
   pub answered : AnswerLaw s g e.command e.events e.answer
 
 -- What a command that was cut off leaves of what stays: the stores of a write keep its law, and no other command changed any.
-abbrev pub CutStores : State → Command → List Event → Type 0
-CutStores s (Write id message) cut = StoresLaw s id (message_of message) Stopped cut
-CutStores s c cut = stable (replay air (changed s c).world cut) ≡ stable (changed s c).world
+abbrev pub CutStores : State → List ℕ → Command → List Event → Type 0
+CutStores s numbers (Write id message) cut = StoresLaw s numbers id message Stopped cut
+CutStores s numbers c cut = LeavesStable s numbers c cut
 
 -- What want of memory leaves of a command: nothing was done, or there is a front of its step.
 abbrev pub CutOff : State → Command → List Event → State → Type 0
-CutOff s c cut t = ((cut ≡ []) × (t ≡ s)) ⊎ ((g : Given) × FrontOf s g c cut t × CutStores s c cut)
+CutOff s c cut t = ((cut ≡ []) × (t ≡ s)) ⊎ ((g : Given) × FrontOf s g c cut t × CutStores s g.joins c cut)
 
 -- The entries lead from one state to another, each behind those before it, and each has what its step is said for.
 abbrev pub EachLegal : State → List Given → List Entry → State → Type 0

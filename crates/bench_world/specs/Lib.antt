@@ -2,6 +2,9 @@ pub mod Reading
 pub mod Crowded
 pub mod Answering
 pub mod Writing
+pub mod World
+pub mod Peers
+pub mod Inbox
 pub mod Legal
 pub mod Obeying
 pub mod Behind

@@ -1,5 +1,6 @@
 -- What obeying a command does.
-use Rattle.std.specs.Prelude.{◌≡◌, ℕ, List, [], ◌∷◌, ◌++◌, map, Bool, true, false, Result, IsErrOf}
+use Rattle.std.specs.Prelude.{◌≡◌, ℕ, List, [], ◌∷◌, ◌++◌, map, length, get_or, slice_set, zero, suc, Bool, true, false, Option, None, Result, IsErrOf}
+use Rattle.std.specs.List.{remove}
 use Rattle.nfc_base.specs.declared.event.Event.{Event}
 use Rattle.air_core.specs.Turn.{Air}
 use Rattle.air_core.specs.Conversation.{Over, receptions}
@@ -12,32 +13,109 @@ use Rattle.bench_world.specs.declared.entry.Answer.{Answer}
 use Rattle.bench_world.specs.declared.entry.Entry.{Entry}
 use Rattle.bench_world.specs.Legal.{State, Given, Accepts, AnswerLaw, FrontOf, LegalStep, CutOff, due, first_state}
 use Rattle.bench_devices.specs.Keeping.{AreTame, kept}
-use Rattle.bench_devices.specs.Phases.{AreTidy}
+use Rattle.bench_devices.specs.Phases.{AreTidy, IsIdle}
+use Rattle.bench_devices.specs.Device.{device_darkened}
+use Rattle.bench_devices.specs.Device.{device_linked}
+use Rattle.far_air.specs.FarEnds.{by_link}
+use Rattle.far_air.specs.FarLaws.{seen}
+use Rattle.peer_air.specs.PeerFars.{peer_ends}
+use Rattle.bench_world.specs.World.{FarEnd}
+use Rattle.bench_world.specs.Peers.{Peers}
 
 abbrev pub obey_fault_number : ObeyFault → ℕ
 obey_fault_number faults.Refused = 1
 obey_fault_number faults.Memory = 2
 
--- the state that a field is in
-abbrev pub state_at : Air Device → State
-state_at a = record { world = record { lit = a.lit; listeners = a.listeners }; queue = a.fates }
+-- The machines of a bench: the field with its devices; and above each device, at its place, its far end, and nothing above a tag; and the
+-- peers so far.
+pub record Machines : Type 0 where
+  pub air : Air Device
+  pub ends : List (Option FarEnd)
+  pub peers : Peers
 
--- A command is refused only where it isn't accepted in the state of the field.
-abbrev pub RefusedOnly : {X : Type 0} → Result X ObeyFault → Air Device → Command → Type 0
-RefusedOnly r a c = IsErrOf r faults.Refused → Accepts (state_at a) c → ⊥
+-- a field under these far ends, with these peers
+abbrev pub under : List (Option FarEnd) → Peers → Air Device → Machines
+under ends peers a = record { air = a; ends = ends; peers = peers }
+
+-- The state that machines are in: a far end is whole while its device has a link, and else there is of it what stays.
+abbrev pub state_at : Machines → State
+state_at m = record { world = seen device_linked peer_ends (record { lit = m.air.lit; listeners = m.air.listeners }) m.ends []; queue = m.air.fates; peers = m.peers }
+
+-- whether the device at a place has a link
+abbrev pub linked_at : ℕ → List Device → Bool
+linked_at n [] = false
+linked_at zero (d ∷ ds) = device_linked d
+linked_at (suc n) (d ∷ ds) = linked_at n ds
+
+-- This is the far end of the device at a place in this state: all of it while the device has a link, and else the state has what stays of it.
+abbrev pub FarAt : State → ℕ → Option FarEnd → Type 0
+FarAt s place end = get_or s.world.fars place None ≡ by_link peer_ends (linked_at place s.world.field.listeners) end
+
+-- a field is in this state, but for the far ends above it
+abbrev pub FieldOf : State → Air Device → Type 0
+FieldOf s a = (s.world.field ≡ record { lit = a.lit; listeners = a.listeners }) × (s.queue ≡ a.fates)
+
+-- Each device has a place in the lists of far ends and of numbers.
+pub record HasPlaces (m : Machines) : Type 0 where
+  pub ends : length m.ends ≡ length m.air.listeners
+  pub numbers : length m.peers.numbers ≡ length m.air.listeners
+
+-- Between two commands the field is idle, and each device has its place.
+pub record IsSettled (m : Machines) : Type 0 where
+  pub idle : IsIdle m.air
+  pub places : HasPlaces m
+
+-- the machines, of which nothing is in the trace
+abbrev pub untraced : Machines → Machines
+untraced m = record { air = record { lit = m.air.lit; listeners = m.air.listeners; fates = m.air.fates; trace = [] }; ends = m.ends; peers = m.peers }
+
+-- one device more, dark, and its far end; so these are the peers now
+abbrev pub put_in : Machines → Device → Option FarEnd → Peers → Machines
+put_in m d end peers = record {
+  air = record { lit = m.air.lit; listeners = m.air.listeners ++ device_darkened d ∷ []; fates = m.air.fates; trace = m.air.trace };
+  ends = m.ends ++ end ∷ [];
+  peers = peers;
+}
+
+-- the machines without the device at a place, its far end and its number
+abbrev pub taken_out : Machines → ℕ → Machines
+taken_out m place = record {
+  air = record { lit = m.air.lit; listeners = remove m.air.listeners place; fates = m.air.fates; trace = m.air.trace };
+  ends = remove m.ends place;
+  peers = record { numbers = remove m.peers.numbers place; placed = m.peers.placed; links = m.peers.links };
+}
+
+-- the machines with this far end at a place
+abbrev pub with_end : Machines → ℕ → Option FarEnd → Machines
+with_end m place end = record { air = m.air; ends = slice_set m.ends place end; peers = m.peers }
+
+-- A command is refused only where it isn't accepted in the state of the machines.
+abbrev pub RefusedOnly : {X : Type 0} → Result X ObeyFault → Machines → Command → Type 0
+RefusedOnly r m c = IsErrOf r faults.Refused → Accepts (state_at m) c → ⊥
 
 -- A command was obeyed with this answer; its events are the trace.
-pub record Obeyed (old new : Air Device) (c : Command) (answer : Answer) : Type 0 where
+pub record Obeyed (old new : Machines) (c : Command) (answer : Answer) : Type 0 where
   pub given : Given
-  pub front : FrontOf (state_at old) given c new.trace (state_at new)
-  pub over : due (state_at old) given c (receptions new.trace) ≡ Over
-  pub answered : AnswerLaw (state_at old) given c new.trace answer
-  pub tame : AreTame (map kept new.listeners)
-  pub tidy : AreTidy new.listeners
+  pub front : FrontOf (state_at old) given c new.air.trace (state_at new)
+  pub over : due (state_at old) given c (receptions new.air.trace) ≡ Over
+  pub answered : AnswerLaw (state_at old) given c new.air.trace answer
+  pub tame : AreTame (map kept new.air.listeners)
+  pub tidy : AreTidy new.air.listeners
+  pub places : HasPlaces new
 
 -- It was cut off by want of memory.
-abbrev pub IsCutOff : Air Device → Air Device → Command → Type 0
-IsCutOff old new c = CutOff (state_at old) c new.trace (state_at new)
+abbrev pub IsCutOff : Machines → Machines → Command → Type 0
+IsCutOff old new c = CutOff (state_at old) c new.air.trace (state_at new)
+
+-- A command that neither places nor takes away a device has no part in far ends: so it is, whatever stands above the field.
+abbrev pub RefusedBelow : {X : Type 0} → Result X ObeyFault → Air Device → Command → Type 0
+RefusedBelow r a c = IsErrOf r faults.Refused → (ends : List (Option FarEnd)) (peers : Peers) → Accepts (state_at (under ends peers a)) c → ⊥
+
+abbrev pub ObeyedBelow : Air Device → Air Device → Command → Answer → Type 0
+ObeyedBelow old new c answer = (ends : List (Option FarEnd)) (peers : Peers) → HasPlaces (under ends peers old) → Obeyed (under ends peers old) (under ends peers new) c answer
+
+abbrev pub CutOffBelow : Air Device → Air Device → Command → Type 0
+CutOffBelow old new c = (ends : List (Option FarEnd)) (peers : Peers) → IsCutOff (under ends peers old) (under ends peers new) c
 
 -- What contracts see of a bench: its journal; the state that its machines are in; what happened in a command that want of memory
 -- cut off, since its last entry; and whether that spoiled it.

@@ -29,16 +29,16 @@ QuietStays =
 -- A read of a placed tag tells what its store holds: the message, or the fault that the store has.
 abbrev pub QuietReads : Type 0
 QuietReads =
-    (s t : State) (g : Given) (e : Entry) (id : DeviceId) (d : Device) → LegalStep s g e t → e.command ≡ Read id → device_with (bytes_of id) s.world.listeners ≡ Some d
+    (s t : State) (g : Given) (e : Entry) (id : DeviceId) (d : Device) → LegalStep s g e t → e.command ≡ Read id → device_with (bytes_of id) s.world.field.listeners ≡ Some d
     → IsNamed id d → AllPass s.queue → TellsOf d e.answer
 
 -- A write of a placed tag tells what it comes to by what the tag holds and by its locked blocks.
 abbrev pub QuietWrites : Type 0
 QuietWrites =
-    (s t : State) (g : Given) (e : Entry) (id : DeviceId) (m : Msg) (d : Device) → LegalStep s g e t → e.command ≡ Write id m → device_with (bytes_of id) s.world.listeners ≡ Some d
+    (s t : State) (g : Given) (e : Entry) (id : DeviceId) (m : Msg) (d : Device) → LegalStep s g e t → e.command ≡ Write id m → device_with (bytes_of id) s.world.field.listeners ≡ Some d
     → IsNamed id d → AllPass s.queue → TellsWrite (message_of m) d e.answer
 
 -- A search lists all NFC-A devices, in crowd order, and the true Type 5 result.
 abbrev pub QuietFinds : Type 0
 QuietFinds =
-    (s t : State) (g : Given) (e : Entry) → LegalStep s g e t → e.command ≡ Find → AllPass s.queue → e.answer ≡ whole_field s.world.listeners
+    (s t : State) (g : Given) (e : Entry) → LegalStep s g e t → e.command ≡ Find → AllPass s.queue → e.answer ≡ whole_field s.world.field.listeners

@@ -25,10 +25,11 @@ use Rattle.bench_world.specs.Quiet.{AllPass}
 use Rattle.bench_world.specs.Reading.{TellsOf}
 use Rattle.bench_world.specs.Writing.{TellsWrite}
 
--- something holds of each entry, and of the state that the entries before it lead to
-abbrev pub AllAlong : (State → Entry → Type 0) → State → List Entry → Type 0
-AllAlong P s [] = Unit {0}
-AllAlong P s (e ∷ es) = P s e × AllAlong P (state_after s e.command e.events) es
+-- something holds of each entry, and of the state that the entries before it lead to, by these numbers of PDUs
+abbrev pub AllAlong : (State → Entry → Type 0) → State → List (List ℕ) → List Entry → Type 0
+AllAlong P s numbers [] = Unit {0}
+AllAlong P s [] (e ∷ es) = ⊥
+AllAlong P s (n ∷ ns) (e ∷ es) = P s e × AllAlong P (state_after s n e.command e.events) ns es
 
 -- the tag that a command selects and then asks, if it does
 abbrev pub tag_of : Command → Option DeviceId
@@ -54,8 +55,8 @@ IsHeardIfQuiet s e = AllPass (changed s e.command).queue → IsWellHeard e
 -- Each entry of a script's journal is heard so, from which on no fate is left but Pass.
 abbrev pub QuietHears : Type 0
 QuietHears =
-    (lines : List (List ℕ)) (journal : List Entry) (last : State) → LeadsTo lines journal last
-    → AllAlong IsHeardIfQuiet first_state journal
+    (lines numbers : List (List ℕ)) (journal : List Entry) (last : State) → LeadsTo lines numbers journal last
+    → AllAlong IsHeardIfQuiet first_state numbers journal
 
 -- A line that appends fates appends nothing but Pass.
 abbrev pub IsQuietLine : List ℕ → Type 0
@@ -64,13 +65,13 @@ IsQuietLine line = (fates : List Fate) → Spells line (Fates fates) → AllPass
 -- The entry reads this device, which is placed.
 pub record ReadsPlaced (s : State) (e : Entry) (id : DeviceId) (d : Device) : Type 0 where
   pub command : e.command ≡ Read id
-  pub placed : device_with (bytes_of id) s.world.listeners ≡ Some d
+  pub placed : device_with (bytes_of id) s.world.field.listeners ≡ Some d
   pub named : IsNamed id d
 
 -- The entry writes this message to it.
 pub record WritesPlaced (s : State) (e : Entry) (id : DeviceId) (m : Msg) (d : Device) : Type 0 where
   pub command : e.command ≡ Write id m
-  pub placed : device_with (bytes_of id) s.world.listeners ≡ Some d
+  pub placed : device_with (bytes_of id) s.world.field.listeners ≡ Some d
   pub named : IsNamed id d
 
 -- An entry of a script without noise: everything passed; a read of a placed tag tells what its store holds, a write what it comes
@@ -80,10 +81,10 @@ pub record IsQuietEntry (s : State) (e : Entry) : Type 0 where
   pub hears : IsWellHeard e
   pub reads : (id : DeviceId) (d : Device) → ReadsPlaced s e id d → TellsOf d e.answer
   pub writes : (id : DeviceId) (m : Msg) (d : Device) → WritesPlaced s e id m d → TellsWrite (message_of m) d e.answer
-  pub finds : e.command ≡ Find → e.answer ≡ whole_field s.world.listeners
+  pub finds : e.command ≡ Find → e.answer ≡ whole_field s.world.field.listeners
 
 -- Where no line has another fate than Pass, each entry is one.
 abbrev pub QuietScript : Type 0
 QuietScript =
-    (lines : List (List ℕ)) (journal : List Entry) (last : State) → LeadsTo lines journal last
-    → AllByRecursion IsQuietLine lines → AllAlong IsQuietEntry first_state journal
+    (lines numbers : List (List ℕ)) (journal : List Entry) (last : State) → LeadsTo lines numbers journal last
+    → AllByRecursion IsQuietLine lines → AllAlong IsQuietEntry first_state numbers journal

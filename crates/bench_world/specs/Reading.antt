@@ -1,12 +1,14 @@
 -- What the answer to a read tells of the store.
-use Rattle.std.specs.Prelude.{ℕ, List}
+use Rattle.std.specs.Prelude.{◌≡◌, ℕ, List, []}
+use Rattle.nfc_base.specs.Signal.{Signal}
 use Rattle.tlv_area.specs.declared.container.ContainerFault.TheVariants as container
 use Rattle.tlv_area.specs.Form.{Faulty, Message, NoMessageTlv, BadTlv}
 use Rattle.tag_reader.specs.declared.how.How.{How}
 use Rattle.tag_reader.specs.Kinds.{IsStoreForm}
 use Rattle.tag_reader.specs.Access.{IsAccess}
 use Rattle.bench_devices.specs.declared.device.Device.{Device}
-use Rattle.bench_devices.specs.Device.{device_store, how_of, size_of}
+use Rattle.bench_devices.specs.Device.{device_store, how_of, size_of, seen_of, IfTag}
+use Rattle.bench_devices.specs.Reading.{AsksOf}
 use Rattle.bench_world.specs.declared.entry.Answer.{Answer}
 use Rattle.bench_world.specs.declared.entry.Answer.TheVariants as answers
 
@@ -22,5 +24,10 @@ Tells how size store answers.NoMessageTlv = IsStoreForm how size store NoMessage
 Tells how size store answers.BadTlv = IsStoreForm how size store BadTlv
 Tells how size store answer = ⊥
 
+-- A read of a tag tells of its store, and one of a peer that it is none.
 abbrev pub TellsOf : Device → Answer → Type 0
-TellsOf d answer = Tells (how_of d) (size_of d) (device_store d) answer
+TellsOf d answer = IfTag (seen_of d) (Tells (how_of d) (size_of d) (device_store d) answer) (answer ≡ answers.WrongKind)
+
+-- what a read asks of a device that was selected: nothing of a peer
+abbrev pub ReadAsks : Device → List Signal → Type 0
+ReadAsks d asked = IfTag (seen_of d) (AsksOf d asked) (asked ≡ [])

@@ -10,8 +10,9 @@ use Rattle.nfc_base.specs.declared.event.Event.TheVariants.{Reset, Request, Answ
 use Rattle.nfc_base.specs.declared.event.Fate.{Fate}
 use Rattle.nfc_base.specs.declared.event.Fate.TheVariants.{Pass, Damage, Lose, Break}
 use Rattle.bench_world.specs.declared.entry.Answer.{Answer as Said}
-use Rattle.bench_world.specs.declared.entry.Answer.TheVariants.{Done, Store, Found, Message, NotNdef, Version, NoRead, Sectors, BadSize, NoMessageTlv, BadTlv, Disturbed, FieldLost, NotFound, SixBad, Written, Refused, ReadOnly, TooLong, ShortMlc}
+use Rattle.bench_world.specs.declared.entry.Answer.TheVariants.{Done, Store, Found, Message, NotNdef, Version, NoRead, Sectors, BadSize, NoMessageTlv, BadTlv, Disturbed, FieldLost, NotFound, SixBad, Written, Refused, ReadOnly, TooLong, ShortMlc, WrongKind, Inbox}
 use Rattle.bench_world.specs.declared.entry.Entry.{Entry}
+use Rattle.bench_world.specs.declared.entry.Received.{Received}
 use Rattle.bench_world.specs.declared.entry.Seen.{Seen}
 use Rattle.bench_devices.specs.declared.polling.SeenKind.{SeenKind}
 use Rattle.bench_devices.specs.declared.polling.SeenKind.TheVariants as kinds
@@ -68,6 +69,22 @@ code_text code = encode_upper (code / 256 ∷ code % 256 ∷ [])
 abbrev pub found_text : List Seen → Bool → List ℕ
 found_text devices crowd = codes "found " ++ decimal (length devices) ++ flat_map seen_text devices ++ (if crowd then codes " crowd" else [])
 
+-- the SAP from which a reader's client connects
+abbrev pub client_sap : ℕ
+client_sap = 32
+
+-- the SAP from which a message came, untold where it is that one
+abbrev pub source_text : ℕ → List ℕ
+source_text source = if source == client_sap then [] else codes "." ++ decimal source
+
+-- a message that a peer's server accepted: a space, then L:HEX from that SAP, L.S:HEX from another
+abbrev pub received_text : Received → List ℕ
+received_text r = codes " " ++ decimal r.link ++ source_text r.source ++ codes ":" ++ hex_text r.message
+
+-- how many messages a peer's server accepted, and which
+abbrev pub inbox_text : List Received → List ℕ
+inbox_text messages = codes "inbox " ++ decimal (length messages) ++ flat_map received_text messages
+
 -- ANSWER
 abbrev pub answer_text : Said → List ℕ
 answer_text Done = codes "ok"
@@ -87,7 +104,9 @@ answer_text (Refused code) = codes "refused " ++ code_text code
 answer_text ReadOnly = codes "read only"
 answer_text (TooLong room) = codes "too long " ++ decimal room
 answer_text ShortMlc = codes "short mlc"
+answer_text WrongKind = codes "wrong kind"
 answer_text (Store bytes) = codes "store " ++ hex_text bytes
+answer_text (Inbox messages) = inbox_text messages
 answer_text (Found devices crowd) = found_text devices crowd
 answer_text (Message message writable) = codes "message " ++ hex_text message ++ codes " " ++ access_text writable
 

@@ -2,7 +2,7 @@
 
 ghost use Rattle.std.specs.Prelude.{IfOk, OnErr, IsErrOf};
 ghost use Rattle.bench_devices.specs.Phases.{IsIdle};
-ghost use Rattle.bench_world.specs.Obeying.{Obeyed, IsCutOff};
+ghost use Rattle.bench_world.specs.Obeying.{ObeyedBelow, CutOffBelow};
 
 use crate::answering::{found, missed, told, written};
 use crate::bench::ObeyFault;
@@ -12,18 +12,21 @@ use bench_devices::{Device, Selection, read, select, sweep_field, write};
 use bench_script::{Command, DeviceId, Msg};
 use std::alloc::{AllocError, Global};
 
-/// Selects a tag and reads it.
+/// Selects a device and reads it. A peer isn't read.
 fn select_and_read(
     alloc: Global,
     field: &mut Field<Device>,
     id: &DeviceId,
 ) -> Result<Answer, AllocError>
     requires { IsIdle field.old }
-    ensures ok { IfOk result (λ a. Obeyed field.old field.new (Command.Read id.now) a) }
-    ensures cut { OnErr result (IsCutOff field.old field.new (Command.Read id.now)) }
+    ensures ok { IfOk result (λ a. ObeyedBelow field.old field.new (Command.Read id.now) a) }
+    ensures cut { OnErr result (CutOffBelow field.old field.new (Command.Read id.now)) }
 {
     match select(alloc, field, id)? {
-        Selection::Place(place) => told(read(alloc, field, place)),
+        Selection::Place(place) if field.listeners()[place].is_tag() => {
+            told(read(alloc, field, place))
+        }
+        Selection::Place(_) => Ok(Answer::WrongKind),
         Selection::Missed(fault) => missed(fault),
     }
 }
@@ -35,8 +38,8 @@ pub fn read_tag(
     id: &DeviceId,
 ) -> Result<Answer, ObeyFault>
     requires { IsIdle field.old }
-    ensures ok { IfOk result (λ a. Obeyed field.old field.new (Command.Read id.now) a) }
-    ensures cut { OnErr result (IsCutOff field.old field.new (Command.Read id.now)) }
+    ensures ok { IfOk result (λ a. ObeyedBelow field.old field.new (Command.Read id.now) a) }
+    ensures cut { OnErr result (CutOffBelow field.old field.new (Command.Read id.now)) }
     ensures never { IsErrOf result ObeyFault.Refused → ⊥ }
 {
     match select_and_read(alloc, field, id) {
@@ -45,7 +48,7 @@ pub fn read_tag(
     }
 }
 
-/// Selects a tag and writes a message to it.
+/// Selects a device and writes a message to it. A peer isn't written.
 fn select_and_write(
     alloc: Global,
     field: &mut Field<Device>,
@@ -53,12 +56,15 @@ fn select_and_write(
     message: &Msg,
 ) -> Result<Answer, AllocError>
     requires { IsIdle field.old }
-    ensures ok { IfOk result (λ a. Obeyed field.old field.new (Command.Write id.now message.now) a) }
-    ensures cut { OnErr result (IsCutOff field.old field.new (Command.Write id.now message.now)) }
+    ensures ok { IfOk result (λ a. ObeyedBelow field.old field.new (Command.Write id.now message.now) a) }
+    ensures cut { OnErr result (CutOffBelow field.old field.new (Command.Write id.now message.now)) }
 {
     let bytes = message.bytes(alloc)?;
     match select(alloc, field, id)? {
-        Selection::Place(place) => written(write(alloc, field, place, &bytes)),
+        Selection::Place(place) if field.listeners()[place].is_tag() => {
+            written(write(alloc, field, place, &bytes))
+        }
+        Selection::Place(_) => Ok(Answer::WrongKind),
         Selection::Missed(fault) => missed(fault),
     }
 }
@@ -71,8 +77,8 @@ pub fn write_tag(
     message: &Msg,
 ) -> Result<Answer, ObeyFault>
     requires { IsIdle field.old }
-    ensures ok { IfOk result (λ a. Obeyed field.old field.new (Command.Write id.now message.now) a) }
-    ensures cut { OnErr result (IsCutOff field.old field.new (Command.Write id.now message.now)) }
+    ensures ok { IfOk result (λ a. ObeyedBelow field.old field.new (Command.Write id.now message.now) a) }
+    ensures cut { OnErr result (CutOffBelow field.old field.new (Command.Write id.now message.now)) }
     ensures never { IsErrOf result ObeyFault.Refused → ⊥ }
 {
     match select_and_write(alloc, field, id, message) {
@@ -84,8 +90,8 @@ pub fn write_tag(
 /// Searches for all devices, and tells which were found.
 fn search(alloc: Global, field: &mut Field<Device>) -> Result<Answer, AllocError>
     requires { IsIdle field.old }
-    ensures ok { IfOk result (λ a. Obeyed field.old field.new Command.Find a) }
-    ensures cut { OnErr result (IsCutOff field.old field.new Command.Find) }
+    ensures ok { IfOk result (λ a. ObeyedBelow field.old field.new Command.Find a) }
+    ensures cut { OnErr result (CutOffBelow field.old field.new Command.Find) }
 {
     match sweep_field(alloc, field) {
         Ok(everybody) => found(alloc, everybody),
@@ -96,8 +102,8 @@ fn search(alloc: Global, field: &mut Field<Device>) -> Result<Answer, AllocError
 /// Finds all devices.
 pub fn find(alloc: Global, field: &mut Field<Device>) -> Result<Answer, ObeyFault>
     requires { IsIdle field.old }
-    ensures ok { IfOk result (λ a. Obeyed field.old field.new Command.Find a) }
-    ensures cut { OnErr result (IsCutOff field.old field.new Command.Find) }
+    ensures ok { IfOk result (λ a. ObeyedBelow field.old field.new Command.Find a) }
+    ensures cut { OnErr result (CutOffBelow field.old field.new Command.Find) }
     ensures never { IsErrOf result ObeyFault.Refused → ⊥ }
 {
     match search(alloc, field) {

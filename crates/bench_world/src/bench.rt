@@ -1,23 +1,27 @@
 //! The bench: the field, and the journal of what was obeyed.
 
-ghost use Rattle.std.specs.Prelude.{◌≡◌, ◌≢◌, ◌↔◌, ◌+◌, ◌*◌, ◌≤◌, ◌<◌, ◌++◌, List, [], ◌∷◌, Bool, true, is_some, None, MatchOption, IsTrue, IfOk, OnOk, OnErr, IsErrOf, vec_len, vec_capacity, length};
+ghost use Rattle.std.specs.Prelude.{◌≡◌, ◌≢◌, ◌↔◌, ◌+◌, ◌*◌, ◌≤◌, ◌<◌, ◌++◌, List, [], ◌∷◌, Bool, true, is_some, Some, None, MatchOption, IsTrue, IsSome, get_or, IfOk, OnOk, OnErr, IsErrOf, vec_len, vec_capacity, length};
 ghost use Rattle.std.specs.List.{AllByRecursion};
 ghost use Rattle.nfc_base.specs.declared.frame.Tech.TheVariants as techs;
 ghost use Rattle.bench_devices.specs.Device.{device_tech};
 ghost use Rattle.bench_world.specs.Legal.{Accepts, memory_of};
 ghost use Rattle.bench_devices.specs.Device.{most_devices};
 ghost use Rattle.bench_devices.specs.Placed.{device_with};
-ghost use Rattle.bench_world.specs.Obeying.{Obeys, Obeyed, IsCutOff, RefusedOnly, LacksMemory, Benched, new_bench, state_at, obey_fault_number};
+ghost use Rattle.bench_world.specs.Obeying.{Obeys, Obeyed, IsSettled, IsCutOff, RefusedOnly, ObeyedBelow, RefusedBelow, LacksMemory, FieldOf, FarAt, new_bench, obey_fault_number};
 ghost use Rattle.bench_devices.specs.Phases.{IsIdle};
 
 use crate::asking::{find, read_tag, write_tag};
 use crate::entry::{Answer, Entry};
+use crate::machines::Machines;
+use crate::peers::{inbox, offer_value, place_peer};
 use air_core::Field;
 use bench_devices::{Device, PoweredTag, T2Upper, T4Upper, is_named, place_of};
 use bench_script::{Command, DeviceId};
 use isodep_link::{LONGEST_EXTENSION, MOST_BUSY};
+use llcp_link::Llc;
 use nfc_base::{Fate, Items};
 use nfca_poll::{Front, Ident};
+use snep_core::Server;
 use std::alloc::{AllocError, Global};
 use std::marker::Model;
 use t2t_tag::T2Tag;
@@ -57,7 +61,7 @@ fn memory(alloc: Global, size: usize, head: &[u8]) -> Result<Vec<u8>, AllocError
 }
 
 /// Whether a device with this identifier is placed.
-fn is_placed(devices: &[Device], id: &[u8]) -> bool
+pub(crate) fn is_placed(devices: &[Device], id: &[u8]) -> bool
     ensures { result ≡ is_some (device_with id.now devices.now) }
 {
     for device in devices {
@@ -69,7 +73,7 @@ fn is_placed(devices: &[Device], id: &[u8]) -> bool
 }
 
 /// Whether there is room for a device, and none has its identifier.
-fn is_free(devices: &[Device], id: &[u8]) -> bool
+pub(crate) fn is_free(devices: &[Device], id: &[u8]) -> bool
     ensures { IsTrue result ↔ ((length devices.now < most_devices) × (device_with id.now devices.now ≡ None)) }
 {
     devices.len() < MOST_DEVICES && !is_placed(devices, id)
@@ -78,18 +82,18 @@ fn is_free(devices: &[Device], id: &[u8]) -> bool
 /// Puts a Type 2 tag into the field.
 fn place_t2(
     alloc: Global,
-    field: &mut Field<Device>,
+    machines: &mut Machines,
     id: &Ident,
     blocks: u16,
     head: &[u8],
 ) -> Result<Answer, ObeyFault>
-    requires { IsIdle field.old }
-    ensures ok { IfOk result (λ a. Obeyed field.old field.new (Command.PlaceT2 id.now blocks head.now) a) }
-    ensures err { OnErr result (field.new ≡ field.old) }
-    ensures cause { RefusedOnly result field.old (Command.PlaceT2 id.now blocks head.now) }
+    requires { IsSettled machines.old }
+    ensures ok { IfOk result (λ a. Obeyed machines.old machines.new (Command.PlaceT2 id.now blocks head.now) a) }
+    ensures err { OnErr result (machines.new ≡ machines.old) }
+    ensures cause { RefusedOnly result machines.old (Command.PlaceT2 id.now blocks head.now) }
 {
     let size = 4 * blocks as usize;
-    let devices = field.listeners();
+    let devices = machines.devices();
     if !is_free(devices, id.view()) || head.len() > size {
         return Err(ObeyFault::Refused);
     }
@@ -99,7 +103,7 @@ fn place_t2(
     let Ok(tag) = T2Tag::new(bytes) else {
         return Err(ObeyFault::Refused);
     };
-    match field.put_in(Device::T2(Front::new(id.copy(), T2Upper::new(tag)))) {
+    match machines.put_in(Device::T2(Front::new(id.copy(), T2Upper::new(tag)))) {
         Ok(_) => Ok(Answer::Done),
         Err(_) => Err(ObeyFault::Memory),
     }
@@ -108,22 +112,22 @@ fn place_t2(
 /// Puts a Type 4 tag into the field.
 fn place_t4(
     alloc: Global,
-    field: &mut Field<Device>,
+    machines: &mut Machines,
     id: &Ident,
     code: u8,
     container: &[u8],
     head: &[u8],
 ) -> Result<Answer, ObeyFault>
-    requires { IsIdle field.old }
-    ensures ok { IfOk result (λ a. Obeyed field.old field.new (Command.PlaceT4 id.now code container.now head.now) a) }
-    ensures err { OnErr result (field.new ≡ field.old) }
-    ensures cause { RefusedOnly result field.old (Command.PlaceT4 id.now code container.now head.now) }
+    requires { IsSettled machines.old }
+    ensures ok { IfOk result (λ a. Obeyed machines.old machines.new (Command.PlaceT4 id.now code container.now head.now) a) }
+    ensures err { OnErr result (machines.new ≡ machines.old) }
+    ensures cause { RefusedOnly result machines.old (Command.PlaceT4 id.now code container.now head.now) }
 {
     let Some(size) = named_size(container) else {
         return Err(ObeyFault::Refused);
     };
     let size = size as usize;
-    if !is_free(field.listeners(), id.view()) || head.len() > size {
+    if !is_free(machines.devices(), id.view()) || head.len() > size {
         return Err(ObeyFault::Refused);
     }
     let Ok(files) = Vec::from_slice(alloc, container) else {
@@ -135,7 +139,7 @@ fn place_t4(
     let Ok(tag) = T4Tag::new(code, files, file) else {
         return Err(ObeyFault::Refused);
     };
-    match field.put_in(Device::T4(Front::new(id.copy(), T4Upper::new(tag)))) {
+    match machines.put_in(Device::T4(Front::new(id.copy(), T4Upper::new(tag)))) {
         Ok(_) => Ok(Answer::Done),
         Err(_) => Err(ObeyFault::Memory),
     }
@@ -144,19 +148,19 @@ fn place_t4(
 /// Puts a Type 5 tag into the field.
 fn place_t5(
     alloc: Global,
-    field: &mut Field<Device>,
+    machines: &mut Machines,
     id: [u8; 8],
     blocks: u16,
     size: u8,
     head: &[u8],
 ) -> Result<Answer, ObeyFault>
-    requires { IsIdle field.old }
-    ensures ok { IfOk result (λ a. Obeyed field.old field.new (Command.PlaceT5 id blocks size head.now) a) }
-    ensures err { OnErr result (field.new ≡ field.old) }
-    ensures cause { RefusedOnly result field.old (Command.PlaceT5 id blocks size head.now) }
+    requires { IsSettled machines.old }
+    ensures ok { IfOk result (λ a. Obeyed machines.old machines.new (Command.PlaceT5 id blocks size head.now) a) }
+    ensures err { OnErr result (machines.new ≡ machines.old) }
+    ensures cause { RefusedOnly result machines.old (Command.PlaceT5 id blocks size head.now) }
 {
     let bytes = size as usize * blocks as usize;
-    if !is_free(field.listeners(), &id) || head.len() > bytes {
+    if !is_free(machines.devices(), &id) || head.len() > bytes {
         return Err(ObeyFault::Refused);
     }
     let Ok(store) = memory(alloc, bytes, head) else {
@@ -165,34 +169,34 @@ fn place_t5(
     let Ok(tag) = T5Tag::new(id, store, size) else {
         return Err(ObeyFault::Refused);
     };
-    match field.put_in(Device::T5(PoweredTag::new(tag))) {
+    match machines.put_in(Device::T5(PoweredTag::new(tag))) {
         Ok(_) => Ok(Answer::Done),
         Err(_) => Err(ObeyFault::Memory),
     }
 }
 
 /// Takes a device away.
-fn remove_device(field: &mut Field<Device>, id: &DeviceId) -> Result<Answer, ObeyFault>
-    requires { IsIdle field.old }
-    ensures ok { IfOk result (λ a. Obeyed field.old field.new (Command.Remove id.now) a) }
-    ensures err { OnErr result (field.new ≡ field.old) }
-    ensures cause { RefusedOnly result field.old (Command.Remove id.now) }
+fn remove_device(machines: &mut Machines, id: &DeviceId) -> Result<Answer, ObeyFault>
+    requires { IsSettled machines.old }
+    ensures ok { IfOk result (λ a. Obeyed machines.old machines.new (Command.Remove id.now) a) }
+    ensures err { OnErr result (machines.new ≡ machines.old) }
+    ensures cause { RefusedOnly result machines.old (Command.Remove id.now) }
 {
     let bytes = id.bytes();
-    if !is_placed(field.listeners(), bytes) {
+    if !is_placed(machines.devices(), bytes) {
         return Err(ObeyFault::Refused);
     }
-    let place = place_of(field.listeners(), bytes);
-    let _ = field.take_out(place);
+    let place = place_of(machines.devices(), bytes);
+    machines.take_out(place);
     Ok(Answer::Done)
 }
 
 /// Locks a block of a tag.
 fn lock_block(field: &mut Field<Device>, id: &DeviceId, block: u16) -> Result<Answer, ObeyFault>
     requires { IsIdle field.old }
-    ensures ok { IfOk result (λ a. Obeyed field.old field.new (Command.Lock id.now block) a) }
+    ensures ok { IfOk result (λ a. ObeyedBelow field.old field.new (Command.Lock id.now block) a) }
     ensures err { OnErr result (field.new ≡ field.old) }
-    ensures cause { RefusedOnly result field.old (Command.Lock id.now block) }
+    ensures cause { RefusedBelow result field.old (Command.Lock id.now block) }
 {
     let bytes = id.bytes();
     let devices = field.listeners();
@@ -215,9 +219,9 @@ fn set_busy(
     times: u8,
 ) -> Result<Answer, ObeyFault>
     requires { IsIdle field.old }
-    ensures ok { IfOk result (λ a. Obeyed field.old field.new (Command.Busy id.now count times) a) }
+    ensures ok { IfOk result (λ a. ObeyedBelow field.old field.new (Command.Busy id.now count times) a) }
     ensures err { OnErr result (field.new ≡ field.old) }
-    ensures cause { RefusedOnly result field.old (Command.Busy id.now count times) }
+    ensures cause { RefusedBelow result field.old (Command.Busy id.now count times) }
 {
     let bytes = id.bytes();
     let devices = field.listeners();
@@ -238,8 +242,8 @@ fn set_busy(
 /// Tells what a tag holds.
 fn dump_store(alloc: Global, field: &Field<Device>, id: &DeviceId) -> Result<Answer, ObeyFault>
     requires { IsIdle field.now }
-    ensures ok { IfOk result (λ a. Obeyed field.now field.now (Command.Dump id.now) a) }
-    ensures cause { RefusedOnly result field.now (Command.Dump id.now) }
+    ensures ok { IfOk result (λ a. ObeyedBelow field.now field.now (Command.Dump id.now) a) }
+    ensures cause { RefusedBelow result field.now (Command.Dump id.now) }
 {
     let bytes = id.bytes();
     let devices = field.listeners();
@@ -247,6 +251,9 @@ fn dump_store(alloc: Global, field: &Field<Device>, id: &DeviceId) -> Result<Ans
         return Err(ObeyFault::Refused);
     }
     let place = place_of(devices, bytes);
+    if !devices[place].is_tag() {
+        return Err(ObeyFault::Refused);
+    }
     match Items::from_bytes(alloc, devices[place].memory()) {
         Ok(store) => Ok(Answer::Store(store)),
         Err(_) => Err(ObeyFault::Memory),
@@ -256,7 +263,7 @@ fn dump_store(alloc: Global, field: &Field<Device>, id: &DeviceId) -> Result<Ans
 /// Appends fates for transmissions to come.
 fn add_fates(field: &mut Field<Device>, fates: &[Fate]) -> Result<Answer, ObeyFault>
     requires { IsIdle field.old }
-    ensures ok { IfOk result (λ a. Obeyed field.old field.new (Command.Fates fates.now) a) }
+    ensures ok { IfOk result (λ a. ObeyedBelow field.old field.new (Command.Fates fates.now) a) }
     ensures err { OnErr result (field.new ≡ field.old) }
     ensures never { IsErrOf result ObeyFault.Refused → ⊥ }
 {
@@ -269,21 +276,21 @@ fn add_fates(field: &mut Field<Device>, fates: &[Fate]) -> Result<Answer, ObeyFa
 /// Does what a command asks.
 fn run_command(
     alloc: Global,
-    field: &mut Field<Device>,
+    machines: &mut Machines,
     command: &Command,
 ) -> Result<Answer, ObeyFault>
-    requires idle { IsIdle field.old }
+    requires idle { IsSettled machines.old }
     requires asks { command.now ≢ Command.Skip }
-    ensures ok { IfOk result (λ a. Obeyed field.old field.new command.now a) }
-    ensures refused { IsErrOf result ObeyFault.Refused → (field.new ≡ field.old) }
-    ensures cause { RefusedOnly result field.old command.now }
-    ensures cut { IsErrOf result ObeyFault.Memory → IsCutOff field.old field.new command.now }
+    ensures ok { IfOk result (λ a. Obeyed machines.old machines.new command.now a) }
+    ensures refused { IsErrOf result ObeyFault.Refused → (machines.new ≡ machines.old) }
+    ensures cause { RefusedOnly result machines.old command.now }
+    ensures cut { IsErrOf result ObeyFault.Memory → IsCutOff machines.old machines.new command.now }
 {
     match command {
         Command::Skip => unreachable!(),
-        Command::Fates(fates) => add_fates(field, fates.as_slice()),
+        Command::Fates(fates) => add_fates(&mut machines.field, fates.as_slice()),
         Command::PlaceT2 { id, blocks, head } => {
-            place_t2(alloc, field, id, *blocks, head.as_slice())
+            place_t2(alloc, machines, id, *blocks, head.as_slice())
         }
         Command::PlaceT4 {
             id,
@@ -292,7 +299,7 @@ fn run_command(
             head,
         } => place_t4(
             alloc,
-            field,
+            machines,
             id,
             *code,
             container.as_slice(),
@@ -303,42 +310,52 @@ fn run_command(
             blocks,
             size,
             head,
-        } => place_t5(alloc, field, *id, *blocks, *size, head.as_slice()),
-        Command::Lock { id, block } => lock_block(field, id, *block),
-        Command::Busy { id, count, times } => set_busy(field, id, *count, *times),
-        Command::Remove { id } => remove_device(field, id),
-        Command::Dump { id } => dump_store(alloc, field, id),
-        Command::Find => find(alloc, field),
-        Command::Read { id } => read_tag(alloc, field, id),
-        Command::Write { id, message } => write_tag(alloc, field, id, message),
+        } => place_t5(alloc, machines, *id, *blocks, *size, head.as_slice()),
+        Command::PlacePeer {
+            id,
+            lr,
+            miu,
+            rw,
+            limit,
+        } => place_peer(alloc, machines, id, *lr, *miu, *rw, *limit),
+        Command::Offer { id, key, value } => {
+            offer_value(machines, id, key.as_slice(), value.as_slice())
+        }
+        Command::Inbox { id } => inbox(alloc, machines, id),
+        Command::Lock { id, block } => lock_block(&mut machines.field, id, *block),
+        Command::Busy { id, count, times } => set_busy(&mut machines.field, id, *count, *times),
+        Command::Remove { id } => remove_device(machines, id),
+        Command::Dump { id } => dump_store(alloc, &machines.field, id),
+        Command::Find => find(alloc, &mut machines.field),
+        Command::Read { id } => read_tag(alloc, &mut machines.field, id),
+        Command::Write { id, message } => write_tag(alloc, &mut machines.field, id, message),
     }
 }
 
-/// A field, the devices in it, and the journal of the commands that were obeyed. Once want of memory has cut a command
+/// A field, the devices in it with the far ends above them, and the journal of the commands that were obeyed. Once want of memory has cut a command
 /// off it obeys none.
 #[derive(Drop)]
 pub struct Bench {
     alloc: Global,
-    field: Field<Device>,
+    machines: Machines,
     journal: Vec<Entry>,
     spoiled: bool,
 }
 
 impl Model for Bench {
     ghost use Rattle.std.specs.Prelude.{◌≡◌, false};
-    ghost use Rattle.bench_devices.specs.Phases.{IsIdle};
-    ghost use Rattle.bench_world.specs.Obeying.{Benched, state_at};
+    ghost use Rattle.bench_world.specs.Obeying.{Benched, IsSettled, state_at};
 
     ghost Value = { Benched };
 
     ghost view = { λ b. record {
       journal = b.journal.items;
-      state = state_at b.field;
-      cut = b.field.trace;
+      state = state_at b.machines;
+      cut = b.machines.air.trace;
       spoiled = b.spoiled;
     } };
 
-    ghost invariant = { λ b. b.spoiled ≡ false → IsIdle b.field };
+    ghost invariant = { λ b. b.spoiled ≡ false → IsSettled b.machines };
 }
 
 /// Adds an entry where there is room.
@@ -356,7 +373,7 @@ impl Bench {
     {
         Bench {
             alloc,
-            field: Field::new(alloc),
+            machines: Machines::new(alloc),
             journal: Vec::new(alloc),
             spoiled: false,
         }
@@ -371,10 +388,22 @@ impl Bench {
 
     /// The field and the machines in it; its trace is what happened in a command that want of memory cut off.
     pub fn field(&self) -> &Field<Device>
-        ensures state { state_at result.now ≡ self.now.state }
+        ensures state { FieldOf self.now.state result.now }
         ensures cut { result.now.trace ≡ self.now.cut }
     {
-        &self.field
+        &self.machines.field
+    }
+
+    /// The far end above the peer at a place.
+    pub fn far(&self, place: usize) -> &Llc<Server>
+        requires place { place < length self.now.state.world.field.listeners }
+        requires peer { IsSome (get_or self.now.state.world.fars place None) }
+        ensures { FarAt self.now.state place (Some result.now) }
+    {
+        match self.machines.far(place) {
+            Some(end) => end,
+            None => unreachable!(),
+        }
     }
 
     /// Obeys the command of a line, and adds its entry to the journal, none for a line that asks for nothing.
@@ -399,9 +428,9 @@ impl Bench {
             self.spoiled = true;
             return Err(ObeyFault::Memory);
         }
-        match run_command(self.alloc, &mut self.field, command) {
+        match run_command(self.alloc, &mut self.machines, command) {
             Ok(answer) => {
-                let events = Items::new(self.field.take_trace());
+                let events = Items::new(self.machines.take_trace());
                 record_entry(
                     &mut self.journal,
                     Entry {

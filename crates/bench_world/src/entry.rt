@@ -11,6 +11,16 @@ pub struct Seen {
     pub kind: SeenKind,
 }
 
+/// A message that a peer's server accepted.
+#[derive(Debug, Drop, PartialEq)]
+pub struct Received {
+    /// The number of the link on which it came, 0 where it came on none.
+    pub link: u32,
+    /// The SAP of the client that brought it.
+    pub source: u8,
+    pub message: Items<u8>,
+}
+
 /// The bench's answer to a command.
 #[derive(Debug, Drop, PartialEq)]
 pub enum Answer {
@@ -18,6 +28,8 @@ pub enum Answer {
     Done,
     /// What a tag holds: its memory, or its NDEF file.
     Store(Items<u8>),
+    /// What a peer's server accepted, by its links.
+    Inbox(Items<Received>),
     /// The devices that were found, and whether Type 5 tags stand in a crowd, which isn't among them.
     Found { devices: Items<Seen>, crowd: bool },
     /// The message that a tag holds, and whether it may be written.
@@ -38,6 +50,8 @@ pub enum Answer {
     FieldLost,
     /// No device with this identifier was found.
     NotFound,
+    /// The device is a peer, which holds no message as tags do.
+    WrongKind,
     /// Nothing whole was heard in six tries.
     SixBad,
     /// A tag holds the message now.

@@ -1,6 +1,7 @@
 //! A bench: devices in a field, and the journal of the commands that it obeyed.
 //!
-//! `bench` obeys commands, those that ask the devices something by `asking`; `entry` is what the journal keeps of one,
+//! `bench` obeys commands, those that ask the devices something by `asking`, those of peers by `peers`; `machines` are the
+//! field with its devices and the far ends above them. `entry` is what the journal keeps of a command,
 //! `answering` makes its answer of what selecting, reading, writing and searching came to. `event_lines` and `pieces` turn
 //! an entry to text in pieces that `fixed_text` fills, without memory, and `report` joins them. `specs/Legal.antt` says which
 //! entries a bench may have, `specs/Journal.antt` which journals the lines of a script may have, `specs/Answering.antt` and
@@ -16,12 +17,14 @@ mod entry;
 mod event_lines;
 mod fixed_text;
 mod law;
+mod machines;
+mod peers;
 mod pieces;
 mod report;
 
 pub use bench::{Bench, ObeyFault};
 pub use bench_devices::{Device, SeenKind};
-pub use entry::{Answer, Entry, Seen};
+pub use entry::{Answer, Entry, Received, Seen};
 pub use event_lines::event_line;
 pub use law::{
     finds_complete, lines_decide, lines_tell_events, quiet_air, reads_behind, reads_complete,

@@ -4,9 +4,9 @@ ghost use Rattle.std.specs.Prelude.{◌≡◌, ◌+◌, ◌*◌, ◌<◌, ◌≤
 ghost use Rattle.std.specs.Fmt.{decimal};
 ghost use Rattle.hex.specs.Hex.{encode_upper};
 ghost use Rattle.bench_script.specs.Canonical.{hex_text};
-ghost use Rattle.bench_world.specs.Report.{access_text, kind_text, seen_text, found_text, answer_text, code_text, line_text};
+ghost use Rattle.bench_world.specs.Report.{access_text, kind_text, seen_text, found_text, source_text, received_text, inbox_text, answer_text, code_text, line_text};
 
-use crate::entry::{Answer, Entry, Seen};
+use crate::entry::{Answer, Entry, Received, Seen};
 use crate::fixed_text::{push_digits, push_hex, push_number, push_text};
 use arrayvec::ArrayVec;
 use bench_devices::SeenKind;
@@ -17,12 +17,16 @@ use std::mem;
 /// How many bytes one piece brings the digits of at most.
 const MOST_BYTES: usize = 320;
 
+/// The SAP from which a reader's client connects, which a line leaves out.
+const CLIENT_SAP: u8 = 32;
+
 /// Goes over the pieces of an answer's line, none of which is empty. Contracts see the text that is left. It takes no memory.
 #[derive(Debug, Drop)]
 pub struct AnswerPieces<'a> {
     head: ArrayVec<u8, 640>,
     bytes: &'a [u8],
     devices: &'a [Seen],
+    messages: &'a [Received],
     tail: ArrayVec<u8, 640>,
 }
 
@@ -30,11 +34,12 @@ impl<'a> Model for AnswerPieces<'a> {
     ghost use Rattle.std.specs.Prelude.{ℕ, List, ◌++◌};
     ghost use Rattle.std.specs.List.{flat_map};
     ghost use Rattle.hex.specs.Hex.{encode_upper};
-    ghost use Rattle.bench_world.specs.Report.{seen_text};
+    ghost use Rattle.bench_world.specs.Report.{seen_text, received_text};
 
     ghost Value = { List ℕ };
 
-    ghost view = { λ p. p.head.items ++ (encode_upper p.bytes.now ++ (flat_map seen_text p.devices.now ++ p.tail.items)) };
+    ghost view = { λ p. p.head.items ++ (encode_upper p.bytes.now
+        ++ (flat_map seen_text p.devices.now ++ (flat_map received_text p.messages.now ++ p.tail.items))) };
 }
 
 /// The pieces of the line of an entry's answer.
@@ -60,7 +65,9 @@ pub fn answer_pieces(entry: &Entry) -> AnswerPieces<'_>
         Answer::ReadOnly => in_words(line, b"read only"),
         Answer::TooLong(room) => too_long(line, *room),
         Answer::ShortMlc => in_words(line, b"short mlc"),
+        Answer::WrongKind => in_words(line, b"wrong kind"),
         Answer::Store(bytes) => with_bytes(line, b"store ", bytes.as_slice(), b""),
+        Answer::Inbox(messages) => inbox(line, messages.as_slice()),
         Answer::Found { devices, crowd } => found(line, devices.as_slice(), *crowd),
         Answer::Message { message, writable } => {
             with_bytes(line, b"message ", message.as_slice(), access(*writable))
@@ -110,6 +117,7 @@ fn whole<'a>(text: ArrayVec<u8, 640>) -> AnswerPieces<'a>
         head,
         bytes: &[],
         devices: &[],
+        messages: &[],
         tail: ArrayVec::new(),
     }
 }
@@ -125,6 +133,7 @@ fn with_bytes<'a>(line: u32, words: &[u8], bytes: &'a [u8], end: &[u8]) -> Answe
         head,
         bytes,
         devices: &[],
+        messages: &[],
         tail: ended(end),
     }
 }
@@ -181,6 +190,7 @@ fn found(line: u32, devices: &[Seen], crowd: bool) -> AnswerPieces<'_>
         head,
         bytes: &[],
         devices,
+        messages: &[],
         tail: ended(crowd_text(crowd)),
     }
 }
@@ -194,6 +204,21 @@ fn crowd_text(crowd: bool) -> &'static [u8]
         b" crowd".as_slice()
     } else {
         b"".as_slice()
+    }
+}
+
+/// How many messages a peer's server accepted, and which.
+fn inbox(line: u32, messages: &[Received]) -> AnswerPieces<'_>
+    ensures { result ≡ line_text line (inbox_text messages.now) }
+{
+    let mut head = begun(line, b"inbox ");
+    push_number(&mut head, messages.len() as u64);
+    AnswerPieces {
+        head,
+        bytes: &[],
+        devices: &[],
+        messages,
+        tail: ended(b""),
     }
 }
 
@@ -220,6 +245,11 @@ impl<'a> Iterator for AnswerPieces<'a> {
         if let Some((seen, rest)) = self.devices.split_first() {
             self.devices = rest;
             return Some(device(seen));
+        }
+        if let Some((received, rest)) = self.messages.split_first() {
+            self.messages = rest;
+            self.bytes = received.message.as_slice();
+            return Some(origin(received));
         }
         if !self.tail.is_empty() {
             return Some(mem::replace(&mut self.tail, ArrayVec::new()));
@@ -272,5 +302,31 @@ fn kind_name(kind: SeenKind) -> &'static [u8]
         SeenKind::T4 => b"t4".as_slice(),
         SeenKind::T5 => b"t5".as_slice(),
         SeenKind::Peer => b"peer".as_slice(),
+    }
+}
+
+/// What stands before a message's digits: where it came from, and the sign that it has no bytes where it has none.
+fn origin(received: &Received) -> ArrayVec<u8, 640>
+    ensures value { received_text received.now ≡ result.items ++ encode_upper received.now.message }
+    ensures some { 0 < length result.items }
+{
+    let mut piece = ArrayVec::new();
+    push_text(&mut piece, b" ");
+    push_number(&mut piece, received.link as u64);
+    push_source(&mut piece, received.source);
+    push_text(&mut piece, b":");
+    push_text(&mut piece, sign_of_none(received.message.as_slice()));
+    piece
+}
+
+/// The SAP from which a message came, where it is another than the client's.
+fn push_source(piece: &mut ArrayVec<u8, 640>, source: u8)
+    requires { length piece.old.items ≤ 21 }
+    ensures value { piece.new.items ≡ piece.old.items ++ source_text source }
+    ensures size { length piece.new.items ≤ length piece.old.items + 21 }
+{
+    if source != CLIENT_SAP {
+        push_text(piece, b".");
+        push_number(piece, source as u64);
     }
 }

@@ -44,7 +44,7 @@ fn push_answer(text: &mut Vec<u8>, entry: &Entry) -> Result<(), AllocError>
 #[cfg(test)]
 mod tests {
     use super::*;
-    use crate::entry::{Answer, Seen};
+    use crate::entry::{Answer, Received, Seen};
     use bench_devices::SeenKind;
     use bench_script::{Command, DeviceId, parse_line};
     use nfc_base::{Fate, Frame, Items, Tech};
@@ -130,6 +130,34 @@ mod tests {
         }
     }
 
+    fn received(alloc: Global, link: u32, source: u8, bytes: &[u8]) -> Result<Received, Fail> {
+        Ok(Received {
+            link,
+            source,
+            message: Items::from_bytes(alloc, bytes)?,
+        })
+    }
+
+    /// Messages from another SAP and from the client's, an empty one, and one that came on no link.
+    fn accepted(alloc: Global) -> Result<Items<Received>, Fail> {
+        let messages = vec![in alloc;
+            received(alloc, 1, 33, &[0xD1])?,
+            received(alloc, 1, 32, &[0xD0, 0x0F])?,
+            received(alloc, 4294967295, 32, &[])?,
+            received(alloc, 0, 4, &[0xAB])?,
+        ]?;
+        Ok(Items::new(messages))
+    }
+
+    fn answered(alloc: Global, answer: Answer) -> Entry {
+        Entry {
+            line: 7,
+            command: Command::Find,
+            events: Items::new(Vec::new(alloc)),
+            answer,
+        }
+    }
+
     #[test]
     fn answers(rt: HostRuntime) -> Result<(), Fail> {
         let alloc = rt.alloc();
@@ -147,7 +175,13 @@ mod tests {
             (Answer::Disturbed, "7 disturbed\n"),
             (Answer::FieldLost, "7 field lost\n"),
             (Answer::NotFound, "7 not found\n"),
+            (Answer::WrongKind, "7 wrong kind\n"),
             (Answer::SixBad, "7 six bad\n"),
+            (Answer::Inbox(Items::new(Vec::new(alloc))), "7 inbox 0\n"),
+            (
+                Answer::Inbox(accepted(alloc)?),
+                "7 inbox 4 1.33:D1 1:D00F 4294967295:- 0.4:AB\n",
+            ),
             (none_found(alloc, false), "7 found 0\n"),
             (none_found(alloc, true), "7 found 0 crowd\n"),
             (
@@ -156,15 +190,23 @@ mod tests {
             ),
         ];
         for (answer, wanted) in rows {
-            let entry = Entry {
-                line: 7,
-                command: Command::Find,
-                events: Items::new(Vec::new(alloc)),
-                answer,
-            };
-            let text = render(alloc, &entry, false)?;
+            let text = render(alloc, &answered(alloc, answer), false)?;
             assert_eq!(rt; str::from_utf8(text.as_slice())?, wanted);
         }
+        Ok(())
+    }
+
+    /// How many bytes each piece has, where the digits of a message take three.
+    #[test]
+    fn pieces_of_a_long_message(rt: HostRuntime) -> Result<(), Fail> {
+        let alloc = rt.alloc();
+        let messages = vec![in alloc; received(alloc, 1, 33, &[0xAB; 700])?]?;
+        let entry = answered(alloc, Answer::Inbox(Items::new(messages)));
+        let mut sizes = Vec::new(alloc);
+        for piece in answer_pieces(&entry) {
+            sizes.push(piece.len())?;
+        }
+        assert_eq!(rt; sizes.as_slice(), [9, 6, 640, 640, 120, 1].as_slice());
         Ok(())
     }
 }

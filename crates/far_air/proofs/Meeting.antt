@@ -18,6 +18,42 @@ met_same : {L F : Type 0} (l l' : L) (o o' : Option F) (a a' : Option Signal) (r
 met_same l l' o o' a a' r r' d e s k =
     ap (λ x. met_first x o a r) d ∙ ap (λ x. met_first l' x a r) e ∙ ap (λ x. met_first l' o' x r) s ∙ ap (λ x. met_first l' o' a' x) k
 
+module _ {L F : Type 0} (m : Machine L) (linked : L → Bool) (t : FarTable F) where
+  -- a device that hands nothing over, whatever its far end is
+  pub record OneUnasked (l : L) (f : Signal) (o : Option F) (ns : List ℕ) : Type 0 where
+    pub device : device_after m linked t l f o ns ≡ stepped_by m l f None
+    pub far : far_after m linked t l f o ns ≡ by_link t (linked (stepped_by m l f None)) o
+    pub answer : answered_by m l f (reply_at m linked t l f o ns) ≡ answered_by m l f None
+    pub numbers : numbers_left (reply_at m linked t l f o ns) ns ≡ ns
+
+  pub one_unasked : (l : L) (f : Signal) (o : Option F) (ns : List ℕ) → hands_over m l f ≡ Untouched → OneUnasked l f o ns
+  one_unasked l f o ns q =
+      let n : ℕ = first_number ns in
+      let r : reply_at m linked t l f o ns ≡ None = ap (λ u. reply_to t u o n) q in
+      let d : device_after m linked t l f o ns ≡ stepped_by m l f None = ap (stepped_by m l f) r in
+      record {
+        device = d;
+        far = ap (λ z. by_link t (linked z) (moved t (hands_over m l f) o n)) d ∙ ap (λ u. by_link t (linked (stepped_by m l f None)) (moved t u o n)) q;
+        answer = ap (answered_by m l f) r;
+        numbers = ap (λ z. numbers_left z ns) r;
+      }
+
+  -- devices that hand nothing over, whatever their far ends are
+  abbrev pub unasked : Signal → List L → List (Option F) → List ℕ → AllMet L F
+  unasked f ls os ns = record {
+    listeners = map (λ l. stepped_by m l f None) ls;
+    fars = shown linked t (map (λ l. stepped_by m l f None) ls) os;
+    answers = filter_map (λ l. answered_by m l f None) ls;
+    numbers = ns;
+  }
+
+  pub meets_unasked : (f : Signal) (ls : List L) (os : List (Option F)) (ns : List ℕ) → EachQuiet m f ls → all_meet m linked t f ls os ns ≡ unasked f ls os ns
+  meets_unasked f [] os ns q = refl
+  meets_unasked f (l ∷ ls) os ns q =
+      let one : OneUnasked l f (first_far os) ns = one_unasked l f (first_far os) ns q.0 in
+      met_same _ _ _ _ _ _ _ _ one.device one.far one.answer
+      (ap (all_meet m linked t f ls (later_fars os)) one.numbers ∙ meets_unasked f ls (later_fars os) ns q.1)
+
 module _ {L F : Type 0} (m : Machine L) (linked : L → Bool) (t : FarTable F) (links : IsLinked m linked) (laws : IsFarTable t) where
   -- what devices come to that hand nothing over
   abbrev pub met_quietly : Signal → List L → List (Option F) → List ℕ → AllMet L F
@@ -37,16 +73,12 @@ module _ {L F : Type 0} (m : Machine L) (linked : L → Bool) (t : FarTable F) (
 
   one_quiet : (l : L) (f : Signal) (o : Option F) (ns : List ℕ) → hands_over m l f ≡ Untouched → OneQuiet l f o ns
   one_quiet l f o ns q =
-      let s : Option F = by_link t (linked l) o in
-      let n : ℕ = first_number ns in
-      let r : reply_at m linked t l f s ns ≡ None = ap (λ u. reply_to t u s n) q in
-      let d : device_after m linked t l f s ns ≡ stepped_by m l f None = ap (stepped_by m l f) r in
+      let k : OneUnasked m linked t l f (by_link t (linked l) o) ns = one_unasked m linked t l f (by_link t (linked l) o) ns q in
       record {
-        device = d;
-        far = ap (λ z. by_link t (linked z) (moved t (hands_over m l f) s n)) d ∙ ap (λ u. by_link t (linked (stepped_by m l f None)) (moved t u s n)) q
-            ∙ link_kept t laws (linked l) (linked (stepped_by m l f None)) o (stepped_unlinked m linked t links laws l f q);
-        answer = ap (answered_by m l f) r;
-        numbers = ap (λ z. numbers_left z ns) r;
+        device = k.device;
+        far = k.far ∙ link_kept t laws (linked l) (linked (stepped_by m l f None)) o (stepped_unlinked m linked t links laws l f q);
+        answer = k.answer;
+        numbers = k.numbers;
       }
 
   pub meets_quietly : (f : Signal) (ls : List L) (os : List (Option F)) (ns : List ℕ) → EachQuiet m f ls

@@ -1,5 +1,5 @@
 -- Where no device hands anything over, the world with far ends does what the quiet air does.
-use Rattle.std.proofs.Common.{◌≡◌, ℕ, List, [], ◌∷◌, ◌++◌, Bool, true, false, if◌then◌else◌, Option, None, refl, sym, ◌∙◌, ap, subst}
+use Rattle.std.proofs.Common.{◌≡◌, ℕ, List, [], ◌∷◌, ◌++◌, Bool, true, false, if◌then◌else◌, Option, None, refl, sym, ◌∙◌, ap}
 use Rattle.std.specs.Prelude.{map}
 use Rattle.nfc_base.specs.declared.event.Event.{Event}
 use Rattle.nfc_base.specs.declared.event.Event.TheVariants.{Reset, Request, Answer, Clash}
@@ -7,24 +7,16 @@ use Rattle.nfc_base.specs.declared.event.Fate.{Fate}
 use Rattle.nfc_base.specs.declared.event.Fate.TheVariants.{Pass, Damage, Lose, Break}
 use Rattle.nfc_base.specs.Signal.{Signal}
 use Rattle.nfc_base.specs.Far.{Untouched}
-use Rattle.air_core.specs.Joint.{joint}
 use Rattle.air_core.specs.World.{Machine, World, hears, stepped_by, reset_by, requested, came_back, dark, quiet_air}
-use Rattle.air_core.specs.Conversation.{Moment, Note, Next, Going, Move, Light, Ask, AreTurns, replay, trace_of, turn_events, joint_events, queue_after}
+use Rattle.air_core.specs.Conversation.{Moment, Note, Next, Going, AreTurns, replay, queue_after}
 use Rattle.air_core.specs.Quiet.{EachQuiet}
 use Rattle.far_air.specs.FarEnds.{FarTable}
-use Rattle.far_air.specs.FarWorld.{FarWorld, AllMet, far_air, far_happens}
+use Rattle.far_air.specs.FarWorld.{AllMet, far_air, far_happens}
 use Rattle.far_air.specs.FarLaws.{IsFarTable, IsLinked, seen, seen_at}
 use Rattle.far_air.specs.Quietly.{QuietAt, NoneHands, Unlinked, IsCalm, AreCalm, StaysUnlinked, UnlinkedStay, QuietStretches, QuietGoings}
 use Rattle.far_air.proofs.Showing.{shown_dark, shown_reset}
 use Rattle.far_air.proofs.Meeting.{meets_quietly}
-
-module _ {L : Type 0} (m : Machine L) where
-  pub none_append : (w : World L) (a b : List Event) → NoneHands m w (a ++ b) → NoneHands m w a × NoneHands m (replay (quiet_air m) w a) b
-  none_append w [] b n = (tt, n)
-  none_append w (Reset ∷ a) b n = none_append (reset_by m w) a b n
-  none_append w (Request f x ∷ a) b n = let r = none_append (requested m w f x) a b n.1 in ((n.0, r.0), r.1)
-  none_append w (Answer g x ∷ a) b n = none_append (came_back m w x) a b n
-  none_append w (Clash g x ∷ a) b n = none_append (came_back m w x) a b n
+use Rattle.far_air.proofs.OnField.{turns_of_field, quiet_fields}
 
 module _ {L F : Type 0} (m : Machine L) (linked : L → Bool) (t : FarTable F) (links : IsLinked m linked) (laws : IsFarTable t) where
   -- one event
@@ -57,100 +49,8 @@ module _ {L F : Type 0} (m : Machine L) (linked : L → Bool) (t : FarTable F) (
   replay_quietly w os ns (Answer g x ∷ es) n = ap (λ z. replay (far_air m linked t) z es) (came_quietly w os ns g x) ∙ replay_quietly (came_back m w x) os ns es n
   replay_quietly w os ns (Clash g x ∷ es) n = ap (λ z. replay (far_air m linked t) z es) (came_quietly w os ns g x) ∙ replay_quietly (came_back m w x) os ns es n
 
-  turn_quietly : (w : World L) (os : List (Option F)) (ns : List ℕ) (f : Signal) (x y : Fate) → QuietAt m x f w.listeners
-      → turn_events (far_air m linked t) (seen linked t w os ns) f x y ≡ turn_events (quiet_air m) w f x y
-  turn_quietly w os ns f Pass y q = ap (λ (z : AllMet L F). Request f Pass ∷ joint_events (joint z.answers) y) (meets_quietly m linked t links laws f w.listeners os ns q)
-  turn_quietly w os ns f Damage y q = refl
-  turn_quietly w os ns f Lose y q = refl
-  turn_quietly w os ns f Break y q = refl
-
-  abbrev quiet_move : Move (far_air m linked t) → Move (quiet_air m)
-  quiet_move Light = Light
-  quiet_move (Ask f x y) = Ask f x y
-
-  abbrev far_move : Move (quiet_air m) → Move (far_air m linked t)
-  far_move Light = Light
-  far_move (Ask f x y) = Ask f x y
-
-  abbrev IsQuietTrace : List (Option F) → List ℕ → List (Move (far_air m linked t)) → World L → Type 0
-  IsQuietTrace os ns ks w =
-      NoneHands m w (trace_of (far_air m linked t) (seen linked t w os ns) ks)
-      → trace_of (far_air m linked t) (seen linked t w os ns) ks ≡ trace_of (quiet_air m) w (map quiet_move ks)
-
-  abbrev IsFarTrace : List (Option F) → List ℕ → List (Move (quiet_air m)) → World L → Type 0
-  IsFarTrace os ns ks w =
-      NoneHands m w (trace_of (quiet_air m) w ks) → trace_of (quiet_air m) w ks ≡ trace_of (far_air m linked t) (seen linked t w os ns) (map far_move ks)
-
-  -- moves of this air are moves of the quiet one
-  far_trace : (w : World L) (os : List (Option F)) (ns : List ℕ) (ks : List (Move (far_air m linked t))) → NoneHands m w (trace_of (far_air m linked t) (seen linked t w os ns) ks)
-      → trace_of (far_air m linked t) (seen linked t w os ns) ks ≡ trace_of (quiet_air m) w (map quiet_move ks)
-  far_trace w os ns [] n = refl
-  far_trace w os ns (Light ∷ ks) n =
-      let P : FarWorld L F → Type 0 = λ z. NoneHands m (reset_by m w) (trace_of (far_air m linked t) z ks) in
-      ap (λ z. Reset ∷ trace_of (far_air m linked t) z ks) (reset_quietly w os ns)
-      ∙ ap (λ es. Reset ∷ es) (far_trace (reset_by m w) os ns ks (subst P (reset_quietly w os ns) n))
-  far_trace w os ns (Ask f x y ∷ ks) n =
-      go (λ k. far_trace w os ns ks k) (λ k. far_trace (replay (quiet_air m) w (turn_events (quiet_air m) w f x y)) os ns ks k) w.lit n
-    where
-      E : List Event
-      E = turn_events (far_air m linked t) (seen linked t w os ns) f x y
-
-      D : List Event
-      D = turn_events (quiet_air m) w f x y
-
-      go : IsQuietTrace os ns ks w → IsQuietTrace os ns ks (replay (quiet_air m) w D) → (v : Bool)
-          → NoneHands m w ((if v then E else []) ++ trace_of (far_air m linked t) (replay (far_air m linked t) (seen linked t w os ns) (if v then E else [])) ks)
-          → (if v then E else []) ++ trace_of (far_air m linked t) (replay (far_air m linked t) (seen linked t w os ns) (if v then E else [])) ks
-          ≡ (if v then D else []) ++ trace_of (quiet_air m) (replay (quiet_air m) w (if v then D else [])) (map quiet_move ks)
-      go here there false n = here n
-      go here there true n =
-          let same : E ≡ D = turn_quietly w os ns f x y n.0 in
-          let P : List Event → Type 0 = λ es. NoneHands m w (es ++ trace_of (far_air m linked t) (replay (far_air m linked t) (seen linked t w os ns) es) ks) in
-          let both = none_append m w D (trace_of (far_air m linked t) (replay (far_air m linked t) (seen linked t w os ns) D) ks) (subst P same n) in
-          let on = replay_quietly w os ns D both.0 in
-          let Q : FarWorld L F → Type 0 = λ z. NoneHands m (replay (quiet_air m) w D) (trace_of (far_air m linked t) z ks) in
-          ap (λ es. es ++ trace_of (far_air m linked t) (replay (far_air m linked t) (seen linked t w os ns) es) ks) same
-          ∙ ap (λ z. D ++ trace_of (far_air m linked t) z ks) on
-          ∙ ap (λ es. D ++ es) (there (subst Q on both.1))
-
-  -- and the other way round
-  quiet_trace : (w : World L) (os : List (Option F)) (ns : List ℕ) (ks : List (Move (quiet_air m))) → NoneHands m w (trace_of (quiet_air m) w ks)
-      → trace_of (quiet_air m) w ks ≡ trace_of (far_air m linked t) (seen linked t w os ns) (map far_move ks)
-  quiet_trace w os ns [] n = refl
-  quiet_trace w os ns (Light ∷ ks) n =
-      ap (λ es. Reset ∷ es) (quiet_trace (reset_by m w) os ns ks n)
-      ∙ ap (λ z. Reset ∷ trace_of (far_air m linked t) z (map far_move ks)) (sym (reset_quietly w os ns))
-  quiet_trace w os ns (Ask f x y ∷ ks) n =
-      go (λ k. quiet_trace w os ns ks k) (λ k. quiet_trace (replay (quiet_air m) w (turn_events (quiet_air m) w f x y)) os ns ks k) w.lit n
-    where
-      E : List Event
-      E = turn_events (far_air m linked t) (seen linked t w os ns) f x y
-
-      D : List Event
-      D = turn_events (quiet_air m) w f x y
-
-      go : IsFarTrace os ns ks w → IsFarTrace os ns ks (replay (quiet_air m) w D) → (v : Bool)
-          → NoneHands m w ((if v then D else []) ++ trace_of (quiet_air m) (replay (quiet_air m) w (if v then D else [])) ks)
-          → (if v then D else []) ++ trace_of (quiet_air m) (replay (quiet_air m) w (if v then D else [])) ks
-          ≡ (if v then E else []) ++ trace_of (far_air m linked t) (replay (far_air m linked t) (seen linked t w os ns) (if v then E else [])) (map far_move ks)
-      go here there false n = here n
-      go here there true n =
-          let same : E ≡ D = turn_quietly w os ns f x y n.0 in
-          let both = none_append m w D (trace_of (quiet_air m) (replay (quiet_air m) w D) ks) n in
-          let on = replay_quietly w os ns D both.0 in
-          ap (λ es. D ++ es) (there both.1)
-          ∙ ap (λ z. D ++ trace_of (far_air m linked t) z (map far_move ks)) (sym on)
-          ∙ ap (λ es. es ++ trace_of (far_air m linked t) (replay (far_air m linked t) (seen linked t w os ns) es) (map far_move ks)) (sym same)
-
-  turns_of_far : (w : World L) (os : List (Option F)) (ns : List ℕ) (es : List Event) → NoneHands m w es → AreTurns (far_air m linked t) (seen linked t w os ns) es → AreTurns (quiet_air m) w es
-  turns_of_far w os ns es n a =
-      let P : List Event → Type 0 = λ z. NoneHands m w z in
-      record { moves = map quiet_move a.moves; made = a.made ∙ far_trace w os ns a.moves (subst P a.made n) }
-
   turns_of_quiet : (w : World L) (os : List (Option F)) (ns : List ℕ) (es : List Event) → NoneHands m w es → AreTurns (quiet_air m) w es → AreTurns (far_air m linked t) (seen linked t w os ns) es
-  turns_of_quiet w os ns es n a =
-      let P : List Event → Type 0 = λ z. NoneHands m w z in
-      record { moves = map far_move a.moves; made = a.made ∙ quiet_trace w os ns a.moves (subst P a.made n) }
+  turns_of_quiet w os ns es n a = turns_of_field m linked t (seen linked t w os ns) es n a
 
   pub going_quietly : (next : List Note → Next) (old new : Moment (World L)) (notes : List Note) (g : Going (quiet_air m) next old new notes) → NoneHands m old.world g.events
       → (os : List (Option F)) (ns : List ℕ) → Going (far_air m linked t) next (seen_at linked t old os ns) (seen_at linked t new os ns) notes
@@ -228,7 +128,7 @@ unlinked_stay m linked links = (
 pub quiet_stretches : {L F : Type 0} (m : Machine L) (linked : L → Bool) (t : FarTable F) → QuietStretches m linked t
 quiet_stretches m linked t links laws w os ns es n = record {
   after = replay_quietly m linked t links laws w os ns es n;
-  turns = (λ a. turns_of_far m linked t links laws w os ns es n a, λ a. turns_of_quiet m linked t links laws w os ns es n a);
+  turns = (quiet_fields m linked t (seen linked t w os ns) es n).turns;
 }
 
 pub quiet_goings : {L F : Type 0} (m : Machine L) (linked : L → Bool) (t : FarTable F) → QuietGoings m linked t

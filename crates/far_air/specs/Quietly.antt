@@ -12,7 +12,7 @@ use Rattle.air_core.specs.World.{Machine, World, reset_by, requested, came_back,
 use Rattle.air_core.specs.Conversation.{Moment, Note, Next, Going, AreTurns, replay}
 use Rattle.air_core.specs.Quiet.{EachQuiet}
 use Rattle.far_air.specs.FarEnds.{FarTable}
-use Rattle.far_air.specs.FarWorld.{far_air}
+use Rattle.far_air.specs.FarWorld.{FarWorld, with_numbers, far_air}
 use Rattle.far_air.specs.FarLaws.{IsFarTable, IsLinked, seen, seen_at}
 
 module _ {L : Type 0} (m : Machine L) where
@@ -59,6 +59,15 @@ module _ {L : Type 0} (m : Machine L) where
         × ((w : World L) (es : List Event) → AreCalm es → StaysUnlinked w (Reset ∷ es))
 
 module _ {L F : Type 0} (m : Machine L) (linked : L → Bool) (t : FarTable F) where
+  -- Whatever the far ends are: a stretch does to the field what it does on the quiet air, and which numbers there are decides nothing.
+  pub record DoesQuietly (w : FarWorld L F) (es : List Event) : Type 0 where
+    pub field : (replay (far_air m linked t) w es).field ≡ replay (quiet_air m) w.field es
+    pub turns : AreTurns (far_air m linked t) w es ↔ AreTurns (quiet_air m) w.field es
+    pub numbers : (ns : List ℕ) → replay (far_air m linked t) (with_numbers w ns) es ≡ with_numbers (replay (far_air m linked t) w es) ns
+
+  abbrev pub QuietFields : Type 0
+  QuietFields = (w : FarWorld L F) (es : List Event) → NoneHands m w.field es → DoesQuietly w es
+
   -- A stretch is one of the quiet air; it leads to the same field, and the code's far ends and the numbers are as before.
   pub record IsQuietStretch (w : World L) (os : List (Option F)) (ns : List ℕ) (es : List Event) : Type 0 where
     pub after : replay (far_air m linked t) (seen linked t w os ns) es ≡ seen linked t (replay (quiet_air m) w es) os ns

@@ -4,17 +4,19 @@ ghost use Rattle.std.specs.Prelude.{ℕ, List, Bool};
 ghost use Rattle.air_core.specs.World.{Machine};
 ghost use Rattle.air_core.specs.Conversation.{Note, Next};
 ghost use Rattle.far_air.specs.FarEnds.{FarTable};
-ghost use Rattle.far_air.specs.Quietly.{UnlinkedStay, QuietStretches, QuietGoings};
+ghost use Rattle.far_air.specs.Quietly.{UnlinkedStay, QuietFields, QuietStretches, QuietGoings};
 ghost use Rattle.far_air.specs.Staying.{FarsStay};
 ghost use Rattle.far_air.specs.TwoFrames.{TwoFrames};
 ghost use Rattle.far_air.specs.FarTurns.{FarTurns, FarResets, FarGoesOn, FarGoesThen, SpeaksFar};
 
 use nfc_base::Answerer;
 
-/// Where no device hands anything over, a stretch is one of the quiet air, and the far ends stay. So it is behind a
-/// reset, from which on no device has a link, as long as no frame begins one.
+/// Where no device hands anything over, a stretch is one of the quiet air, whatever the far ends are and whatever the
+/// numbers, and the code's far ends stay. So it is behind a reset, from which on no device has a link, as long as no
+/// frame begins one.
 pub fn quiet_stretches<L, F>()
     ensures unlinked { (m : Machine L) (linked : L → Bool) → UnlinkedStay m linked }
+    ensures field { (m : Machine L) (linked : L → Bool) (t : FarTable F) → QuietFields m linked t }
     ensures stretch { (m : Machine L) (linked : L → Bool) (t : FarTable F) → QuietStretches m linked t }
     ensures goes { (m : Machine L) (linked : L → Bool) (t : FarTable F) → QuietGoings m linked t }
 {}

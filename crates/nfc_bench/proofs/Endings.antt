@@ -48,7 +48,7 @@ goes_on_by left (Some rest) text is_ended read ended = record {
 
 -- The lines that were obeyed are taken, and what is taken behind them is taken by the machines.
 abbrev done_taken : (done : List (List ℕ)) (b : Benched) → ObeyedBy done b → TakenAlike done b.state
-done_taken done b o = legal_taken done b.journal b.state (leads_to done b o)
+done_taken done b o = legal_taken done o.obeyed.legal.numbers b.journal b.state (leads_to done b o)
 
 taken_there : (done : List (List ℕ)) (b : Benched) (o : ObeyedBy done b) (line : List ℕ) → IsTaken (standing_of (done_taken done b o).commands) line → IsTaken b.state line
 taken_there done b o line is = taken_too (standing_of (done_taken done b o).commands) b.state line (done_taken done b o).alike is

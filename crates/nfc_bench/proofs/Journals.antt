@@ -1,6 +1,7 @@
 -- A journal gains entries, and a report their text.
 use Rattle.std.proofs.Common.{◌≡◌, ℕ, ◌+◌, List, [], ◌∷◌, ◌++◌, length, Bool, true, false, if◌then◌else◌, Option, refl, sym, ◌∙◌, ap, subst, arith}
-use Rattle.std.proofs.lemmas.List.{append-nil}
+use Rattle.std.specs.Prelude.{map}
+use Rattle.std.proofs.lemmas.List.{append-nil, map-append}
 use Rattle.std.proofs.lemmas.Grind.{flat_map-append}
 use Rattle.nfc_io.specs.Moves.{with_end}
 use Rattle.nfc_io.proofs.Moves.{write_on, with_end-nil}
@@ -45,20 +46,23 @@ numbered_more n ls ks es ds p q =
     subst A (sym (asking_more n ls ks)) (entries_more (asking_lines n ls) (asking_lines (n + length ls) ks) es ds p q)
 
 -- one more line is obeyed
-pub legal_more : (ls : List (List ℕ)) (old new : Benched) (l : List ℕ) (n : ℕ) → LeadsTo ls old.journal old.state → Follows old new n l → n ≡ 1 + length ls → LeadsTo (ls ++ l ∷ []) new.journal new.state
-legal_more ls old new l n legal more at =
-    let P : List Entry → Type 0 = λ js. LeadsTo (ls ++ l ∷ []) js new.state in
+pub legal_more : (ls numbers : List (List ℕ)) (old new : Benched) (l : List ℕ) (n : ℕ) → LeadsTo ls numbers old.journal old.state → (more : Follows old new n l) → n ≡ 1 + length ls
+    → LeadsTo (ls ++ l ∷ []) (numbers ++ map (λ (g : Given). g.joins) more.given) new.journal new.state
+legal_more ls numbers old new l n legal more at =
+    let joins : Given → List ℕ = λ g. g.joins in
+    let P : List Entry → Type 0 = λ js. LeadsTo (ls ++ l ∷ []) (numbers ++ map joins more.given) js new.state in
     let N : ℕ → Type 0 = λ m. Numbered m (l ∷ []) more.entries in
     let it : P (old.journal ++ more.entries) = record {
       given = legal.given ++ more.given;
+      joins = map-append joins legal.given more.given ∙ ap (λ ns. ns ++ map joins more.given) legal.joins;
       numbered = numbered_more 1 ls (l ∷ []) old.journal more.entries legal.numbered (subst N at more.numbered);
       steps = each_more first_state old.state new.state legal.given more.given old.journal more.entries legal.steps more.steps;
     } in
     subst P (sym more.added) it
 
 -- the empty journal
-pub legal_none : LeadsTo [] [] first_state
-legal_none = record { given = []; numbered = tt; steps = refl }
+pub legal_none : LeadsTo [] [] [] first_state
+legal_none = record { given = []; joins = refl; numbered = tt; steps = refl }
 
 -- a line that asks for nothing is obeyed by doing nothing
 pub follows_skipped : (old new : Benched) (n : ℕ) (l : List ℕ) → is_skipped l ≡ true → old.spoiled ≡ false → new ≡ old → (follows : Follows old new n l) × (follows.entries ≡ [])

@@ -1,6 +1,6 @@
 -- A script is read, and its lines are obeyed one by one.
 use Rattle.std.proofs.Common.{◌≡◌, ℕ, ◌+◌, ◌<◌, ◌≤◌, List, [], ◌∷◌, ◌++◌, length, Bool, true, false, Option, Ok, refl, sym, ◌∙◌, ap, subst, append_assoc, arith, inl, inr}
-use Rattle.std.specs.Prelude.{Result, Err, OnOk, IfErr, IfSome}
+use Rattle.std.specs.Prelude.{map, Result, Err, OnOk, IfErr, IfSome}
 use Rattle.std.proofs.lemmas.Bool.{cases_Bool}
 use Rattle.std.proofs.lemmas.List.{append-nil, length-append}
 use Rattle.nfc_io.specs.Moves.{with_front, with_end}
@@ -11,7 +11,7 @@ use Rattle.nfc_io.proofs.InOrder.{ended_behind}
 use Rattle.nfc_io.proofs.Lines.{lines_front, whole_front, lines_last}
 use Rattle.bench_world.specs.declared.entry.Entry.{Entry}
 use Rattle.bench_world.specs.Journal.{LeadsTo}
-use Rattle.bench_world.specs.Legal.{State, first_state}
+use Rattle.bench_world.specs.Legal.{State, Given, first_state}
 use Rattle.bench_world.specs.Obeying.{Benched, new_bench}
 use Rattle.bench_world.specs.Report.{report_text}
 use Rattle.bench_world.proofs.OneJournal.{one_legal}
@@ -25,23 +25,23 @@ use Rattle.nfc_bench.proofs.ScriptText.{stops_at_once}
 use Rattle.nfc_bench.proofs.Journals.{legal_more, legal_none, written_more, written_none}
 
 -- a legal journal of some lines is the only one of them
-is_obeyed : (lines : List (List ℕ)) (journal : List Entry) (last : State) → LeadsTo lines journal last → AreWithinLimits lines → AreObeyed lines journal
-is_obeyed lines journal last leads limits = record { legal = (last, leads); only = λ other is. one_legal lines other journal is (last, leads); limits = limits }
-
-pub obeyed_none : AreObeyed [] []
-obeyed_none = is_obeyed [] [] first_state legal_none no_limits
-
--- where lines lead a bench to its state, it obeyed them
-obeyed_by : (lines : List (List ℕ)) (b : Benched) → LeadsTo lines b.journal b.state → AreWithinLimits lines → b.spoiled ≡ false → ObeyedBy lines b
-obeyed_by lines b leads limits sound = record {
-  obeyed = record { legal = (b.state, leads); only = λ other is. one_legal lines other b.journal is (b.state, leads); limits = limits };
-  machines = refl;
-  sound = sound;
+abbrev is_obeyed : (lines numbers : List (List ℕ)) (journal : List Entry) (last : State) → LeadsTo lines numbers journal last → AreWithinLimits lines → AreObeyed lines journal
+is_obeyed lines numbers journal last leads limits = record {
+  legal = record { numbers = numbers; last = last; leads = leads };
+  only = λ other others t is same. one_legal lines others numbers other journal t last is leads;
+  limits = limits;
 }
 
+pub obeyed_none : AreObeyed [] []
+obeyed_none = is_obeyed [] [] [] first_state legal_none no_limits
+
+-- where lines lead a bench to its state, it obeyed them
+obeyed_by : (lines numbers : List (List ℕ)) (b : Benched) → LeadsTo lines numbers b.journal b.state → AreWithinLimits lines → b.spoiled ≡ false → ObeyedBy lines b
+obeyed_by lines numbers b leads limits sound = record { obeyed = is_obeyed lines numbers b.journal b.state leads limits; machines = refl; sound = sound }
+
 -- and the other way
-pub leads_to : (lines : List (List ℕ)) (b : Benched) → ObeyedBy lines b → LeadsTo lines b.journal b.state
-leads_to lines b o = subst (LeadsTo lines b.journal) o.machines o.obeyed.legal.1
+pub leads_to : (lines : List (List ℕ)) (b : Benched) (o : ObeyedBy lines b) → LeadsTo lines o.obeyed.legal.numbers b.journal b.state
+leads_to lines b o = subst (LeadsTo lines o.obeyed.legal.numbers b.journal) o.machines o.obeyed.legal.leads
 
 pub leaves_by : (lines : List (List ℕ)) (b : Benched) → ObeyedBy lines b → Leaves b
 leaves_by lines b o = let leads = leads_to lines b o in record { given = leads.given; steps = leads.steps; sound = o.sound }
@@ -49,7 +49,7 @@ leaves_by lines b o = let leads = leads_to lines b o in record { given = leads.g
 -- one more line is obeyed
 pub obeyed_more : (ls : List (List ℕ)) (old new : Benched) (l : List ℕ) (n : ℕ) → ObeyedBy ls old → Follows old new n l → n ≡ 1 + length ls → n ≤ most_lines → length l ≤ longest_line → ObeyedBy (ls ++ l ∷ []) new
 obeyed_more ls old new l n obeyed follows at few fits =
-    obeyed_by (ls ++ l ∷ []) new (legal_more ls old new l n (leads_to ls old obeyed) follows at) (limits_more ls l obeyed.obeyed.limits (omega arith) fits) follows.sound
+    obeyed_by (ls ++ l ∷ []) (obeyed.obeyed.legal.numbers ++ map (λ (g : Given). g.joins) follows.given) new (legal_more ls obeyed.obeyed.legal.numbers old new l n (leads_to ls old obeyed) follows at) (limits_more ls l obeyed.obeyed.limits (omega arith) fits) follows.sound
 
 -- The lines that a reader gave are obeyed, and their entries written; the next line has this number. What was read is these lines
 -- and what the reader holds, and whatever follows belongs to what it holds; at the source's end nothing follows.
@@ -76,7 +76,7 @@ progress_start quiet left t a b new none =
       lines = λ more follows. refl;
       whole = λ more going. refl;
       ended = λ over. absurd cc;
-      obeyed = obeyed_by [] new_bench legal_none no_limits refl;
+      obeyed = obeyed_by [] [] new_bench legal_none no_limits refl;
       number = refl;
       written = written_none quiet t;
       time = stops_at_once left;

@@ -16,7 +16,7 @@ use Rattle.nfc_bench.specs.declared.top.program.WordsFault.{WordsFault}
 use Rattle.nfc_bench.specs.declared.top.program.WordsFault.TheVariants.{Memory, NoText}
 use Rattle.bench_world.specs.Legal.{State, Given, EachLegal, first_state}
 use Rattle.bench_world.specs.Obeying.{Benched}
-use Rattle.bench_world.specs.Journal.{Legal}
+use Rattle.bench_world.specs.Journal.{LeadsTo, Legal, AgreeFor}
 use Rattle.bench_world.specs.Taking.{IsTaken, AreTaken, standing_of}
 use Rattle.bench_world.specs.Report.{entry_text, report_text}
 
@@ -51,10 +51,11 @@ read_fault = codes "fault 3 read\n"
 abbrev pub line_fault : ℕ → List ℕ
 line_fault n = codes "fault 2 line " ++ decimal n ++ codes "\n"
 
--- These lines were obeyed, and this is their journal: it is legal, and no other one is.
+-- These lines were obeyed, and this is their journal: it is legal, and no other one is, by numbers of PDUs that are the same wherever a
+-- command may take any.
 pub record AreObeyed (lines : List (List ℕ)) (journal : List Entry) : Type 0 where
   pub legal : Legal lines journal
-  pub only : (other : List Entry) → Legal lines other → other ≡ journal
+  pub only : (other : List Entry) (numbers : List (List ℕ)) (last : State) → LeadsTo lines numbers other last → AgreeFor journal legal.numbers numbers → other ≡ journal
   pub limits : AreWithinLimits lines
 
 -- The first of these lines were obeyed, and this is their journal.

@@ -56,7 +56,7 @@ LineStops quiet old new n l t t' w w' Memory = LineLost old new t t'
 -- These lines were obeyed by a bench, whose machines are in the state that its journal leaves.
 pub record ObeyedBy (lines : List (List ℕ)) (b : Benched) : Type 0 where
   pub obeyed : AreObeyed lines b.journal
-  pub machines : obeyed.legal.0 ≡ b.state
+  pub machines : obeyed.legal.last ≡ b.state
   pub sound : b.spoiled ≡ false
 
 -- a run that isn't short of memory leaves the machines so

@@ -13,6 +13,8 @@ mod card_tests;
 #[cfg(test)]
 mod crowd_tests;
 mod lines;
+#[cfg(test)]
+mod peer_tests;
 pub mod program;
 #[cfg(test)]
 mod store_tests;

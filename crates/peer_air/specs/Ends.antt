@@ -1,8 +1,7 @@
 -- An end of a link as a far end of the world (NFC Forum LLCP 1.3; what stays without a link is this project's own).
-use Rattle.std.specs.Prelude.{◌≡◌, ◌⊎◌, ℕ, [], true, false, None}
-use Rattle.llcp_pdu.specs.Wire.{least_miu}
+use Rattle.std.specs.Prelude.{◌≡◌, ◌⊎◌, ℕ}
 use Rattle.llcp_link.specs.Serving.{Serving}
-use Rattle.llcp_link.specs.State.{LlcState, restarted}
+use Rattle.llcp_link.specs.State.{LlcState, fresh_end, restarted}
 use Rattle.llcp_link.specs.Taking.{taken_from}
 use Rattle.llcp_link.specs.Giving.{given, after_giving, given_parts, IsAllowed}
 use Rattle.llcp_link.specs.Answering.{Answers}
@@ -10,23 +9,9 @@ use Rattle.far_air.specs.FarEnds.{FarTable}
 use Rattle.far_air.specs.FarLaws.{IsFarTable, IsOfTable}
 
 module _ {S : Type 0} (m : Serving S) where
-  -- What stays of an end without a link: its MIU and receive window, what is bound, and of its service what a new link leaves.
+  -- What stays of an end without a link: its MIU and receive window, what is bound, and of its service what a new link leaves. Else it is new.
   abbrev pub rested : LlcState S → LlcState S
-  rested l = record {
-    miu = l.miu;
-    window = l.window;
-    bound = l.bound;
-    readable = true;
-    far_miu = least_miu;
-    queue = [];
-    served = [];
-    own = [];
-    lookups = [];
-    asked = 0;
-    last = None;
-    stuck = false;
-    service = m.renewed l.service;
-  }
+  rested l = record (fresh_end l.miu l.window (m.renewed l.service)) { bound = l.bound }
 
   -- An end takes a payload, and gives one with so many PDUs.
   abbrev pub ends : FarTable (LlcState S)

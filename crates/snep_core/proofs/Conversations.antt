@@ -1,5 +1,5 @@
 -- One request on a connection, unit by unit: where the two ends stand, and how they come from one phase to another.
-use Rattle.std.proofs.Common.{◌≡◌, ◌<◌, ◌≤◌, ◌⊎◌, false, ℕ, List, [], ◌∷◌, ◌++◌, length, Some, None}
+use Rattle.std.proofs.Common.{◌≡◌, ◌<◌, ◌≤◌, ◌⊎◌, false, ℕ, List, [], ◌∷◌, ◌++◌, length, Some, None, refl, ap}
 use Rattle.snep_core.specs.Accord.{IsPaired, Numbers, client_open}
 use Rattle.snep_core.specs.Jobs.{Job, told_all}
 use Rattle.snep_core.specs.Server.{Received, ServerState, serving}
@@ -92,3 +92,35 @@ module _ (limit : ℕ) (table : List Offer) (c : Conversation) where
     pub units_is : c.units_at at ≡ []
     pub session_is : c.session_at at ≡ fresh_session
     pub accepted_is : c.accepted_at at ≡ old
+
+-- what has no first unit
+pub no_unit : (u : List ℕ) (units : List (List ℕ)) → ◌≡◌ {A = List (List ℕ)} [] (u ∷ units) → ⊥
+no_unit u units e = cc
+
+module _ (limit : ℕ) (table : List Offer) (c : Conversation) (ph : c.Phase) (holds : c.Holds ph) where
+  -- the client heard nothing
+  pub hears_nothing : c.units_at ph ≡ [] → Hears limit table c ph
+  hears_nothing e = record {
+    to = ph;
+    holds = holds;
+    told = ap (told_all (c.job_at ph)) e;
+    queue_is = refl;
+    units_is = e;
+    session_is = refl;
+    accepted_is = refl;
+  }
+
+  -- the client submits nothing
+  pub stays : (size : ℕ) (l : EndState) (n : Numbers) → IsPaired n (length (c.queue_at ph))
+      → readied (client_open l n (c.queue_at ph) (c.units_at ph)) client_sap (c.job_at ph) ≡ ready_so (client_open l n (c.queue_at ph) (c.units_at ph)) (c.job_at ph)
+      → (c.units_at ph ≡ [] → is_over (c.job_at ph) ≡ false → c.queue_at ph ≡ [] → (s : ServerState) → StandsAt limit table c ph s → Tells limit table c size ph s)
+      → Readies limit table c size l n ph
+  stays size l n paired ready busy = record {
+    to = ph;
+    holds = holds;
+    paired = paired;
+    ready = ready;
+    session_is = refl;
+    accepted_is = refl;
+    busy = λ u o q a s h. busy u o q s h;
+  }

@@ -12,7 +12,8 @@ use Rattle.llcp_link.proofs.Waning.{Wanes, is_of, acknowledged_falls, answer_fal
 use Rattle.snep_core.specs.declared.job.Turn.{Turn}
 use Rattle.snep_core.specs.declared.job.Turn.TheVariants.{Ended, Went, GaveUp}
 use Rattle.snep_core.specs.Jobs.{Job}
-use Rattle.snep_core.specs.Waning.{Falls, GoesAs, Lessens, LessensTo, job_left, to_come}
+use Rattle.snep_core.specs.RepliesLeft.{job_left, to_come}
+use Rattle.snep_core.specs.Waning.{Falls, GoesAs, Lessens, LessensTo, one_job}
 use Rattle.snep_core.proofs.Owned.{pending_emptied}
 use Rattle.snep_core.specs.Talk.{EndState, client_sap, emptied, gave_something, idle_after, is_waiting, most_idle, own_of, silent}
 
@@ -34,63 +35,72 @@ waits stands.Closed e = absurd cc
 rests : (s : Standing) → is_waiting s ≡ false → s ≡ stands.Waiting → ⊥
 rests s e i = (let z : is_waiting s ≡ true = ap is_waiting i in absurd cc)
 
-abbrev On : Option OwnState → Option OwnState → Type 0
-On a b = Wanes (is_of client_sap a) (is_of client_sap b)
-
 other_count : (m n : ℕ) → (m == n) ≡ false → m ≡ n → ⊥
 other_count m n e i = absurd (grind (arith, nat_tests, e, i))
 
-gave_falls : (a b : Option OwnState) → On a b → acked_of a < 4294967296 → gave_something a b ≡ true → pending b < pending a
-gave_falls a b w few e = go (is_waiting (standing_of a) && not (is_waiting (standing_of b))) refl e
-  where
-    rest : (c : Bool) → (is_open_by a && is_open_by b) ≡ c → (if c then not (acked_of b == acked_of a) else false) ≡ true → pending b < pending a
-    rest true i k =
-        (let o = both (is_open_by a) (is_open_by b) i in
-        acknowledged_falls client_sap a b w o.0 o.1 few (other_count (acked_of b) (acked_of a) (not_true (acked_of b == acked_of a) k)))
-    rest false i k = absurd cc
+module _ (sap : ℕ) (a b : Option OwnState) (w : Wanes (is_of sap a) (is_of sap b)) (few : acked_of a < 4294967296) where
+  gave_falls : gave_something a b ≡ true → pending b < pending a
+  gave_falls e = go (is_waiting (standing_of a) && not (is_waiting (standing_of b))) refl e
+    where
+      rest : (c : Bool) → (is_open_by a && is_open_by b) ≡ c → (if c then not (acked_of b == acked_of a) else false) ≡ true → pending b < pending a
+      rest true i k =
+          (let o = both (is_open_by a) (is_open_by b) i in
+          acknowledged_falls sap a b w o.0 o.1 few (other_count (acked_of b) (acked_of a) (not_true (acked_of b == acked_of a) k)))
+      rest false i k = absurd cc
 
-    go : (c : Bool) → (is_waiting (standing_of a) && not (is_waiting (standing_of b))) ≡ c
-        → (if c then true else (if is_open_by a && is_open_by b then not (acked_of b == acked_of a) else false)) ≡ true → pending b < pending a
-    go true i k =
-        (let o = both (is_waiting (standing_of a)) (not (is_waiting (standing_of b))) i in
-        answer_falls client_sap a b w (waits (standing_of a) o.0) (rests (standing_of b) (not_true (is_waiting (standing_of b)) o.1)))
-    go false i k = rest (is_open_by a && is_open_by b) refl k
+      go : (c : Bool) → (is_waiting (standing_of a) && not (is_waiting (standing_of b))) ≡ c
+          → (if c then true else (if is_open_by a && is_open_by b then not (acked_of b == acked_of a) else false)) ≡ true → pending b < pending a
+      go true i k =
+          (let o = both (is_waiting (standing_of a)) (not (is_waiting (standing_of b))) i in
+          answer_falls sap a b w (waits (standing_of a) o.0) (rests (standing_of b) (not_true (is_waiting (standing_of b)) o.1)))
+      go false i k = rest (is_open_by a && is_open_by b) refl k
+
+  -- one connection, as a payload is taken
+  pub gave_lessens : (gave : Bool) → gave ≡ gave_something a b → LessensTo gave (pending a) (pending b)
+  gave_lessens true e = gave_falls (sym e)
+  gave_lessens false e = pending_wanes sap a b w
 
 -- one exchange
 pub exchange_falls : (l mid new : EndState) (n : ℕ) (reply : List ℕ) (gave : Bool) → mid ≡ after_giving silent n l → new ≡ taken_from silent mid reply
     → acked_of (own_of mid) < 4294967296 → gave ≡ gave_something (own_of mid) (own_of new) → Lessens gave (own_of l) (own_of new)
-exchange_falls l mid new n reply gave e i few g = go gave g
+exchange_falls l mid new n reply gave e i few g = go gave (gave_lessens client_sap (own_of mid) (own_of new) two few gave g)
   where
     one : pending (own_of mid) ≤ pending (own_of l)
-    one = pending_wanes client_sap (own_of l) (own_of mid) (subst (λ z. On (own_of l) (own_of z)) (sym e) (given_wanes silent client_sap n l))
+    one =
+        pending_wanes client_sap (own_of l) (own_of mid)
+        (subst (λ z. Wanes (is_of client_sap (own_of l)) (is_of client_sap (own_of z))) (sym e) (given_wanes silent client_sap n l))
 
-    two : On (own_of mid) (own_of new)
-    two = subst (λ z. On (own_of mid) (own_of z)) (sym i) (taken_wanes silent client_sap mid reply)
+    two : Wanes (is_of client_sap (own_of mid)) (is_of client_sap (own_of new))
+    two = subst (λ z. Wanes (is_of client_sap (own_of mid)) (is_of client_sap (own_of z))) (sym i) (taken_wanes silent client_sap mid reply)
 
-    go : (b : Bool) → b ≡ gave_something (own_of mid) (own_of new) → Lessens b (own_of l) (own_of new)
-    go true k = (let x = one in let y = gave_falls (own_of mid) (own_of new) two few (sym k) in omega arith)
-    go false k = (let x = one in let y = pending_wanes client_sap (own_of mid) (own_of new) two in omega arith)
+    go : (b : Bool) → LessensTo b (pending (own_of mid)) (pending (own_of new)) → Lessens b (own_of l) (own_of new)
+    go true h = (let x = one in omega arith)
+    go false h = (let x = one in omega arith)
+
+-- each of two leaves less where it gave something
+pub both_lessen : (a b : Bool) (x y u v : ℕ) → LessensTo a x y → LessensTo b u v → LessensTo (a || b) (x + u) (y + v)
+both_lessen true true x y u v g s = omega arith
+both_lessen true false x y u v g s = omega arith
+both_lessen false true x y u v g s = omega arith
+both_lessen false false x y u v g s = omega arith
 
 -- A call that goes on has fewer replies left.
-pub turn_falls : (before between after start mid last idle : ℕ) (gave some : Bool) → between + mid ≤ before + start → LessensTo gave between after
-    → LessensTo some mid last → idle < most_idle → idle_after (gave || some) idle < most_idle
-    → 17 * (after + last) + (most_idle - idle_after (gave || some) idle) < 17 * (before + start) + (most_idle - idle)
-turn_falls before between after start mid last idle true true r g s i n = omega arith
-turn_falls before between after start mid last idle true false r g s i n = omega arith
-turn_falls before between after start mid last idle false true r g s i n = omega arith
-turn_falls before between after start mid last idle false false r g s i n = omega arith
+pub turn_falls : (old between new idle : ℕ) (gave : Bool) → between ≤ old → LessensTo gave between new → idle_after gave idle < most_idle
+    → 17 * new + (most_idle - idle_after gave idle) < 17 * old + (most_idle - idle)
+turn_falls old between new idle true r g n = omega arith
+turn_falls old between new idle false r g n = omega arith
 
 -- so does one whose job came to this
-pub goes_falls : (own : Option OwnState) (job : Job) (between mid last : EndState) (now next : Job) (idle : ℕ) (gave some : Bool) (turn : Turn) (new : EndState)
-    → to_come (own_of between) now ≤ to_come own job → Lessens gave (own_of between) (own_of mid) → LessensTo some (job_left now) (job_left next)
-    → idle < most_idle → last ≡ emptied mid client_sap → GoesAs next (idle_after (gave || some) idle) last turn new → Falls own job idle turn (own_of new)
-goes_falls own job between mid last now next idle gave some (Ended e) new r g s i k goes = tt
-goes_falls own job between mid last now next idle gave some GaveUp new r g s i k goes = tt
-goes_falls own job between mid last now next idle gave some (Went j n) new r g s i k goes =
+pub goes_falls : (l between mid last : EndState) (job now next : Job) (idle : ℕ) (gave some : Bool) (turn : Turn) (new : EndState)
+    → to_come (own_of between) now ≤ to_come (own_of l) job → Lessens gave (own_of between) (own_of mid)
+    → LessensTo some (job_left now) (job_left next) → last ≡ emptied mid client_sap → GoesAs next (idle_after (gave || some) idle) last turn new
+    → Falls (one_job l job idle) turn new
+goes_falls l between mid last job now next idle gave some (Ended e) new r g s k goes = tt
+goes_falls l between mid last job now next idle gave some GaveUp new r g s k goes = tt
+goes_falls l between mid last job now next idle gave some (Went j n) new r g s k goes =
     let p : pending (own_of new) ≡ pending (own_of mid) = ap (λ z. pending (own_of z)) (goes.3 ∙ k) ∙ pending_emptied mid in
-    let f =
-    turn_falls (pending own) (pending (own_of between)) (pending (own_of mid)) (job_left job) (job_left now) (job_left next) idle gave some r g s i
-    goes.2 in
+    let less = both_lessen gave some (pending (own_of between)) (pending (own_of mid)) (job_left now) (job_left next) g s in
+    let f = turn_falls (to_come (own_of l) job) (to_come (own_of between) now) (pending (own_of mid) + job_left next) idle (gave || some) r less goes.2 in
     let a = ap job_left goes.0 in
     let b = goes.1 in
     (subst (λ z. z < most_idle) (sym b) goes.2, omega arith)

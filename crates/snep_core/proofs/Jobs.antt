@@ -12,7 +12,8 @@ use Rattle.snep_core.specs.Jobs.{Job, Begins, Waits, Sends, Asks, Collects, Look
 use Rattle.snep_core.specs.Talk.{EndState, emptied, finished, found_so, heard, heard_so, is_lost, is_waiting, units_of}
 use Rattle.llcp_link.specs.Asking.{found_in, standing_of}
 use Rattle.llcp_link.specs.State.{own_from}
-use Rattle.snep_core.specs.Waning.{Aim, Finding, Getting, IsOf, LessensTo, Putting, Serves, aim_by, aim_of, answer_left, job_left}
+use Rattle.snep_core.specs.RepliesLeft.{answer_left, job_left}
+use Rattle.snep_core.specs.Waning.{Aim, Finding, Getting, IsOf, LessensTo, Putting, Serves, aim_by, aim_of}
 
 -- A unit that ends what is awaited leaves less.
 pub record Follows (aim : Aim) (old new : Job) : Type 0 where

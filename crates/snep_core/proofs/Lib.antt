@@ -8,6 +8,8 @@ pub mod FirstUnits
 pub mod UnitPuts
 pub mod SourcesTold
 pub mod PayloadLaw
+pub mod Readied
+pub mod CallsEnd
 pub mod CallsKeep
 pub mod CutOff
 pub mod Links
@@ -31,8 +33,13 @@ pub mod Turns
 pub mod Ends
 pub mod RequestPhases
 pub mod RequestAnswers
+pub mod AnswerPhases
+pub mod RequestEnds
 pub mod PutPhases
 pub mod PutEnds
+pub mod ValuePhases
+pub mod GetPhases
+pub mod GetEnds
 pub mod Peers
 pub mod Asides
 pub mod OneExchange

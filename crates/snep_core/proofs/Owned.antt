@@ -1,14 +1,14 @@
 -- A connection from one SAP, put back, read, forgotten, with its units taken away.
-use Rattle.std.proofs.Common.{◌≡◌, ◌<◌, ℕ, ◌+◌, ◌==◌, ◌||◌, Bool, true, false, List, [], ◌∷◌, length, drop, Option, Some, None, refl, sym, ap, subst, ◌∙◌, arith, if◌then◌else◌}
+use Rattle.std.proofs.Common.{◌≡◌, ◌<◌, ℕ, ◌==◌, ◌||◌, Bool, true, false, List, [], ◌∷◌, length, drop, Option, Some, None, refl, sym, ap, subst, ◌∙◌, arith, if◌then◌else◌}
 use Rattle.std.proofs.lemmas.Bool.Decides.{nat_tests}
 use Rattle.llcp_conn.specs.Conn.{first}
 use Rattle.llcp_link.specs.State.{OwnState, with_own}
 use Rattle.llcp_link.specs.Asking.{forgotten, unit_of, unit_taken_by, without_own}
 use Rattle.llcp_link.specs.Waning.{pending}
 use Rattle.llcp_link.proofs.Awaited.{here_of, with_same}
-use Rattle.llcp_link.proofs.Submitted.{own_with, pending_submits}
+use Rattle.llcp_link.proofs.Submitted.{own_with}
 use Rattle.snep_core.specs.Jobs.{Job, has_byte, told, told_all, told_on}
-use Rattle.snep_core.specs.Talk.{EndState, client_sap, emptied, emptied_by, finished, heard, heard_so, is_lost, own_of, submits, takes_more, units_of}
+use Rattle.snep_core.specs.Talk.{EndState, client_sap, emptied, emptied_by, finished, heard, heard_so, is_lost, own_of, units_of}
 
 is_same : (m n : ℕ) → m ≡ n → (m == n) ≡ true
 is_same m n e = grind (arith, nat_tests)
@@ -109,10 +109,6 @@ module _ (l : EndState) where
   -- units that are taken away leave what is still to come
   pub pending_emptied : pending (own_of (emptied l client_sap)) ≡ pending (own_of l)
   pending_emptied = pending_so (own_of l) refl
-
-  -- a unit that is submitted is still to be acknowledged
-  pub pending_more : (u : List ℕ) → takes_more l client_sap u ≡ true → pending (own_of (submits l client_sap u)) ≡ pending (own_of l) + 1
-  pending_more u t = pending_submits l client_sap u t
 
 either_or : (a b c : Bool) → (a || (b || c)) ≡ ((a || b) || c)
 either_or true b c = refl

@@ -1,8 +1,7 @@
 -- What a server answers a request before all of it came, what the client makes of it, and what the client submits.
 use Rattle.std.proofs.Common.{◌≡◌, ◌<◌, ◌≤◌, ◌⊎◌, nat_lt, ℕ, zero, suc, ◌+◌, is_none, Bool, true, false, List, [], ◌∷◌, ◌++◌, length, take, drop, Option, Some, None, refl, sym, ◌∙◌, ap, subst, inl, inr, arith, append-nil, append_assoc, length-append, if◌then◌else◌}
 use Rattle.std.specs.List.{concat}
-use Rattle.std.proofs.lemmas.Bool.{ltb-true}
-use Rattle.std.proofs.lemmas.Bool.Decides.{nat_tests}
+use Rattle.std.proofs.lemmas.Bool.{le-ltb, ltb-false, ltb-true}
 use Rattle.llcp_conn.specs.declared.fault.ConnFault.TheVariants.{TooLong, WindowFull}
 use Rattle.llcp_link.specs.declared.standing.Standing.TheVariants as stands
 use Rattle.llcp_link.proofs.Ranged.{either}
@@ -21,15 +20,9 @@ use Rattle.snep_core.specs.Message.{message}
 use Rattle.snep_core.specs.Server.{Received, ServerState, serving}
 use Rattle.snep_core.specs.Session.{Offer, Sent, Session, fresh_session, sent}
 use Rattle.snep_core.specs.Talk.{EndState, Ready, begins_on, behind_first, client_sap, finished, is_over, miu_of, readied, ready_so, sends_on, sends_some, submits, takes_more}
-use Rattle.snep_core.proofs.Conversations.{AllWithin, Comes, Conversation, Converses, Hears, MayTell, Readies, StandsAt, Starts, Tells}
+use Rattle.snep_core.proofs.Conversations.{AllWithin, Comes, Conversation, Converses, Hears, MayTell, Readies, StandsAt, Starts, Tells, hears_nothing, no_unit, stays}
 use Rattle.snep_core.proofs.Served.{Serves, due_is, serves_sent}
 use Rattle.snep_core.proofs.RequestPhases.{Asked, Came, ContinueHeard, Continues, IsRead, Phase, Refusing, Rejected, RefusalHeard, Sending, Unsent, Submitted, Whole, Holds, accepted_at, begun_info, bytes_of, conversation, first_comes, first_unit, gathering, job_at, later_comes, queue_at, rest_units, session_at, units_at}
-
-not_lt : (m n : ℕ) → n ≤ m → nat_lt m n ≡ false
-not_lt m n h = grind (arith, nat_tests)
-
-not_less : (m n : ℕ) → nat_lt m n ≡ false → n ≤ m
-not_less m n h = grind (arith, nat_tests)
 
 miu_some : (n : ℕ) → 0 < n → miu_of (stands.Open n) ≡ Some n
 miu_some zero h = absurd (omega arith)
@@ -41,11 +34,11 @@ room_by true c h = absurd cc
 room_by false true h = refl
 room_by false false h = absurd cc
 
-concat_more : (us : List (List ℕ)) (u : List ℕ) → concat (us ++ u ∷ []) ≡ concat us ++ u
+pub concat_more : (us : List (List ℕ)) (u : List ℕ) → concat (us ++ u ∷ []) ≡ concat us ++ u
 concat_more [] u = append-nil u
 concat_more (x ∷ us) u = ap (λ z. x ++ z) (concat_more us u) ∙ sym (append_assoc x (concat us) u)
 
-none_more : (us : List (List ℕ)) (u : List ℕ) → NoneEmpty us → 0 < length u → NoneEmpty (us ++ u ∷ [])
+pub none_more : (us : List (List ℕ)) (u : List ℕ) → NoneEmpty us → 0 < length u → NoneEmpty (us ++ u ∷ [])
 none_more [] u h k = (k, tt)
 none_more (x ∷ us) u h k = (h.0, none_more us u h.1 k)
 
@@ -58,7 +51,7 @@ behind_plain l most [] = refl
 behind_plain l most (b ∷ bs) = refl
 
 module _ (l : EndState) (n : Numbers) where
-  takes_room : (queue units : List (List ℕ)) (u : List ℕ) → takes_more (client_open l n queue units) client_sap u ≡ true → length n.asked + length queue < n.server_window
+  pub takes_room : (queue units : List (List ℕ)) (u : List ℕ) → takes_more (client_open l n queue units) client_sap u ≡ true → length n.asked + length queue < n.server_window
   takes_room queue units u e =
       ltb-true (length n.asked + length queue) n.server_window
       (room_by (nat_lt n.server_miu (length u)) (nat_lt (length n.asked + length queue) n.server_window) e)
@@ -69,12 +62,12 @@ module _ (l : EndState) (n : Numbers) where
   full_by false true i h = absurd cc
   full_by false false i h = refl
 
-  no_room : (queue units : List (List ℕ)) (u : List ℕ) → length u ≤ n.server_miu → takes_more (client_open l n queue units) client_sap u ≡ false → n.server_window ≤ length n.asked + length queue
+  pub no_room : (queue units : List (List ℕ)) (u : List ℕ) → length u ≤ n.server_miu → takes_more (client_open l n queue units) client_sap u ≡ false → n.server_window ≤ length n.asked + length queue
   no_room queue units u i e =
-      not_less (length n.asked + length queue) n.server_window
-      (full_by (nat_lt n.server_miu (length u)) (nat_lt (length n.asked + length queue) n.server_window) (not_lt n.server_miu (length u) i) e)
+      ltb-false (length n.asked + length queue) n.server_window
+      (full_by (nat_lt n.server_miu (length u)) (nat_lt (length n.asked + length queue) n.server_window) (le-ltb n.server_miu (length u) i) e)
 
-  paired_more : (queue : List (List ℕ)) (u : List ℕ) → IsPaired n (length queue) → length n.asked + length queue < n.server_window → IsPaired n (length (queue ++ u ∷ []))
+  pub paired_more : (queue : List (List ℕ)) (u : List ℕ) → IsPaired n (length queue) → length n.asked + length queue < n.server_window → IsPaired n (length (queue ++ u ∷ []))
   paired_more queue u h room = record {
     client_miu = h.client_miu;
     server_miu = h.server_miu;
@@ -85,6 +78,13 @@ module _ (l : EndState) (n : Numbers) where
     asked_sa = h.asked_sa;
     told_sa = h.told_sa;
   }
+
+  -- a window that is full while nothing is unacknowledged
+  pub never_full : (queue : List (List ℕ)) (k : ℕ) → IsPaired n k → n.server_window ≤ length n.asked + length queue → queue ≡ [] → n.asked ≡ [] → ⊥
+  never_full queue k r full q a =
+      let w = r.server_window.0 in
+      let x : length queue ≡ 0 = ap length q in
+      let y : length n.asked ≡ 0 = ap length a in omega arith
 
   pub behind_stays : (most : Option ℕ) (miu : ℕ) → n.server_miu ≡ miu → (queue units : List (List ℕ)) (rest : List ℕ) → 0 < miu
       → readied (client_open l n queue units) client_sap (behind_first most rest) ≡ ready_so (client_open l n queue units) (behind_first most rest)
@@ -211,17 +211,6 @@ module _ (miu size limit : ℕ) (table : List Offer) (ask : Asked) (old : List R
   abbrev Heard_ : Here_ → Type 0
   Heard_ ph = Hears limit table (conversation miu limit table ask old later) ph
 
-  nothing : (ph : Here_) → Holds miu limit table ask old later ph → units_at miu limit table ask old later ph ≡ [] → Heard_ ph
-  nothing ph k e = record {
-    to = ph;
-    holds = k;
-    told = ap (told_all (job_at miu limit table ask old later ph)) e;
-    queue_is = refl;
-    units_is = e;
-    session_is = refl;
-    accepted_is = refl;
-  }
-
   refused_by : (rest : List ℕ) → told_all (behind_first ask.most rest) (message answers.Reject [] ∷ []) ≡ Some (Over (Refused refusals.Reject))
   refused_by [] = refl
   refused_by (b ∷ bs) = refl
@@ -232,12 +221,12 @@ module _ (miu size limit : ℕ) (table : List Offer) (ask : Asked) (old : List R
 
   module _ (w : Whole miu limit table ask old later) (range : IsMiu miu) (read : IsRead limit ask) where
     request_hears : (ph : Here_) → Holds miu limit table ask old later ph → Heard_ ph
-    request_hears Unsent k = nothing Unsent k refl
-    request_hears Submitted k = nothing Submitted k refl
-    request_hears Refusing k = nothing Refusing k refl
-    request_hears Continues k = nothing Continues k refl
-    request_hears (Sending info queue rest) k = nothing (Sending info queue rest) k refl
-    request_hears Rejected k = nothing Rejected k refl
+    request_hears Unsent k = hears_nothing limit table conv Unsent k refl
+    request_hears Submitted k = hears_nothing limit table conv Submitted k refl
+    request_hears Refusing k = hears_nothing limit table conv Refusing k refl
+    request_hears Continues k = hears_nothing limit table conv Continues k refl
+    request_hears (Sending info queue rest) k = hears_nothing limit table conv (Sending info queue rest) k refl
+    request_hears Rejected k = hears_nothing limit table conv Rejected k refl
     request_hears RefusalHeard k = record {
       to = Rejected;
       holds = k;
@@ -282,9 +271,6 @@ module _ (miu size limit : ℕ) (table : List Offer) (ask : Asked) (old : List R
   request_within Rejected k = tt
   request_within (Came ph) k = laws.within ph k
 
-  no_unit : (u : List ℕ) (queue : List (List ℕ)) → ◌≡◌ {A = List (List ℕ)} [] (u ∷ queue) → ⊥
-  no_unit u queue e = cc
-
   module _ (w : Whole miu limit table ask old later) (range : IsMiu miu) (read : IsRead limit ask) where
     request_comes : (ph : Here_) (u : List ℕ) (queue : List (List ℕ)) → queue_at miu limit table ask old later ph ≡ u ∷ queue → Holds miu limit table ask old later ph → (s : ServerState) → Stands ph s
         → Comes limit table (conversation miu limit table ask old later) ph queue (units_at miu limit table ask old later ph) (serving.brought s client_sap u)
@@ -316,11 +302,6 @@ module _ (miu size limit : ℕ) (table : List Offer) (ask : Asked) (old : List R
     abbrev Busy : Here_ → Here_ → Type 0
     Busy ph to = units_at miu limit table ask old later ph ≡ [] → is_over (job_at miu limit table ask old later ph) ≡ false → queue_at miu limit table ask old later to ≡ [] → n.asked ≡ []
         → (s : ServerState) → Stands to s → Tells limit table (conversation miu limit table ask old later) size to s
-
-    stays : (ph : Here_) → Busy ph ph → Holds miu limit table ask old later ph → IsPaired n (length (queue_at miu limit table ask old later ph))
-        → readied (client_open l n (queue_at miu limit table ask old later ph) (units_at miu limit table ask old later ph)) client_sap (job_at miu limit table ask old later ph)
-        ≡ ready_so (client_open l n (queue_at miu limit table ask old later ph) (units_at miu limit table ask old later ph)) (job_at miu limit table ask old later ph) → Ready_ ph
-    stays ph w k r e = record { to = ph; holds = k; paired = r; ready = e; session_is = refl; accepted_is = refl; busy = w }
 
     -- a phase that another one stands for, as the client sees it
     as_at : (ph : Here_) (r : Ready) → readied (client_open l n (queue_at miu limit table ask old later ph) (units_at miu limit table ask old later ph)) client_sap (job_at miu limit table ask old later ph) ≡ r
@@ -368,40 +349,36 @@ module _ (miu size limit : ℕ) (table : List Offer) (ask : Asked) (old : List R
     abbrev first : List ℕ
     first = first_unit miu limit table ask old later
 
+    abbrev behind : List ℕ
+    behind = rest_units miu limit table ask old later
+
     abbrev chosen : Bool → Ready
     chosen b =
-        if b then ready_so (submits bare_end client_sap first) (behind_first ask.most (rest_units miu limit table ask old later))
+        if b then ready_so (submits bare_end client_sap first) (behind_first ask.most behind)
         else ready_so bare_end (Begins ask.most (bytes_of ask))
-
-    no_queue : (u : List ℕ) (queue : List (List ℕ)) → ◌≡◌ {A = List (List ℕ)} (u ∷ queue) [] → ⊥
-    no_queue u queue e = cc
-
-    -- a window that is full while nothing is unacknowledged
-    never_full : (queue : List (List ℕ)) (k : ℕ) → IsPaired n k → n.server_window ≤ length n.asked + length queue → queue ≡ [] → n.asked ≡ [] → ⊥
-    never_full queue k r full q a =
-        let w = r.server_window.0 in
-        let x : length queue ≡ 0 = ap length q in
-        let y : length n.asked ≡ 0 = ap length a in omega arith
 
     sending_on : (info : List ℕ) (queue : List (List ℕ)) (rest : List ℕ) → Holds miu limit table ask old later (Sending info queue rest) → IsPaired n (length queue)
         → ((rest ≡ []) ⊎ (n.server_window ≤ length n.asked + length queue)) → queue ≡ [] → n.asked ≡ [] → ⊥
-    sending_on info queue rest k r (inr full) q a = never_full queue (length queue) r full q a
+    sending_on info queue rest k r (inr full) q a = never_full l n queue (length queue) r full q a
     sending_on info queue rest k r (inl none) q a =
         let e : concat queue ++ rest ≡ [] = ap (λ z. concat z ++ rest) q ∙ none in
         let z : length (concat queue ++ rest) ≡ 0 = ap length e in
         let w = k.1 in omega arith
 
     request_readies : IsMiu size → (ph : Here_) → Holds miu limit table ask old later ph → 0 < miu → IsPaired n (length (queue_at miu limit table ask old later ph)) → Ready_ ph
-    request_readies fits Submitted k low r = stays Submitted (λ u o q a s h. absurd (no_queue _ _ q)) k r (behind_stays l n ask.most miu is (first_unit miu limit table ask old later ∷ []) [] (rest_units miu limit table ask old later) low)
+    request_readies fits Submitted k low r =
+        stays limit table conv Submitted k size l n r (behind_stays l n ask.most miu is (first ∷ []) [] behind low) (λ u o q s h. absurd (no_unit _ _ (sym q)))
     request_readies fits Refusing k low r =
-        stays Refusing (λ u o q a s h. says size limit table conv fits Refusing RefusalHeard answers.Reject refl refl refl refl refl k refl refl refl s h) k r
-        (behind_stays l n ask.most miu is [] [] (rest_units miu limit table ask old later) low)
-    request_readies fits RefusalHeard k low r = stays RefusalHeard (λ u o q a s h. absurd (no_queue _ _ u)) k r (behind_stays l n ask.most miu is [] (message answers.Reject [] ∷ []) (rest_units miu limit table ask old later) low)
+        stays limit table conv Refusing k size l n r (behind_stays l n ask.most miu is [] [] behind low)
+        (λ u o q s h. says size limit table conv fits Refusing RefusalHeard answers.Reject refl refl refl refl refl k refl refl refl s h)
+    request_readies fits RefusalHeard k low r =
+        stays limit table conv RefusalHeard k size l n r (behind_stays l n ask.most miu is [] (message answers.Reject [] ∷ []) behind low) (λ u o q s h. absurd (no_unit _ _ (sym u)))
     request_readies fits Continues k low r =
-        stays Continues (λ u o q a s h. says size limit table conv fits Continues ContinueHeard answers.Continue refl refl refl refl refl k refl refl refl s h) k r
-        (behind_stays l n ask.most miu is [] [] (rest_units miu limit table ask old later) low)
-    request_readies fits ContinueHeard k low r = stays ContinueHeard (λ u o q a s h. absurd (no_queue _ _ u)) k r (behind_stays l n ask.most miu is [] (message answers.Continue [] ∷ []) (rest_units miu limit table ask old later) low)
-    request_readies fits Rejected k low r = stays Rejected (λ u o q a s h. absurd cc) k r refl
+        stays limit table conv Continues k size l n r (behind_stays l n ask.most miu is [] [] behind low)
+        (λ u o q s h. says size limit table conv fits Continues ContinueHeard answers.Continue refl refl refl refl refl k refl refl refl s h)
+    request_readies fits ContinueHeard k low r =
+        stays limit table conv ContinueHeard k size l n r (behind_stays l n ask.most miu is [] (message answers.Continue [] ∷ []) behind low) (λ u o q s h. absurd (no_unit _ _ (sym u)))
+    request_readies fits Rejected k low r = stays limit table conv Rejected k size l n r refl (λ u o q s h. absurd cc)
     request_readies fits (Came ph) k low r = readies_later l n ph (laws.readies ph k l n is r)
     request_readies fits Unsent k low r = go (takes_more bare_end client_sap first) refl
       where
@@ -412,8 +389,8 @@ module _ (miu size limit : ℕ) (table : List Offer) (ask : Asked) (old : List R
         short = let e = length-take miu (bytes_of ask) in let z : n.server_miu ≡ miu = is in omega (arith, e, z)
 
         go : (b : Bool) → takes_more bare_end client_sap first ≡ b → Ready_ Unsent
-        go true t = as_at Unsent (chosen true) (all ∙ ap chosen t) Submitted refl tt (paired_more l n [] first r (takes_room l n [] [] first t)) refl refl (λ u o q a s h. absurd (no_queue _ _ q))
-        go false t = as_at Unsent (chosen false) (all ∙ ap chosen t) Unsent refl tt r refl refl (λ u o q a s h. absurd (never_full [] 0 r (no_room l n [] [] first short t) refl a))
+        go true t = as_at Unsent (chosen true) (all ∙ ap chosen t) Submitted refl tt (paired_more l n [] first r (takes_room l n [] [] first t)) refl refl (λ u o q a s h. absurd (no_unit _ _ (sym q)))
+        go false t = as_at Unsent (chosen false) (all ∙ ap chosen t) Unsent refl tt r refl refl (λ u o q a s h. absurd (never_full l n [] 0 r (no_room l n [] [] first short t) refl a))
     request_readies fits (Sending info queue rest) k low r =
         let x = sends info (at (Sending info queue rest)) (length rest) queue rest k r low (omega arith) refl in
         as_at (Sending info queue rest) (sends_some (length rest) miu (client_open l n queue []) client_sap ask.most rest)

@@ -1,7 +1,7 @@
 -- A request of a client at a server that awaits one: where the two stand, unit by unit, until all of it came.
-use Rattle.std.proofs.Common.{◌≡◌, ◌<◌, ◌≤◌, ◌⊎◌, nat_lt, ℕ, ◌+◌, ◌-◌, ◌/◌, ◌%◌, ◌^◌, ◌==◌, false, List, [], ◌∷◌, ◌++◌, length, take, drop, Option, Some, None, refl, sym, ◌∙◌, ap, subst, inl, inr, arith, append-nil, append_assoc, length-append}
+use Rattle.std.proofs.Common.{◌≡◌, ◌<◌, ◌≤◌, ◌⊎◌, ℕ, ◌+◌, ◌-◌, ◌/◌, ◌%◌, ◌^◌, ◌==◌, false, List, [], ◌∷◌, ◌++◌, length, take, drop, Option, Some, None, refl, sym, ◌∙◌, ap, subst, inl, inr, arith, append-nil, append_assoc, length-append}
 use Rattle.std.specs.List.{concat}
-use Rattle.std.proofs.lemmas.Bool.{cases_lt, eq-eqb}
+use Rattle.std.proofs.lemmas.Bool.{cases_lt, eq-eqb, le-ltb}
 use Rattle.std.proofs.lemmas.Bool.Decides.{nat_tests}
 use Rattle.std.proofs.lemmas.List.{length-take, take-append-drop}
 use Rattle.llcp_pdu.specs.General.{IsMiu}
@@ -15,12 +15,12 @@ use Rattle.snep_core.specs.declared.session.Word.TheVariants.{Answers}
 use Rattle.snep_core.specs.declared.job.Refusal.TheVariants as refusals
 use Rattle.snep_core.specs.Cuts.{NoneEmpty}
 use Rattle.snep_core.specs.First.{by_code, first_of, info_of}
-use Rattle.snep_core.specs.Jobs.{Begins, Job, Over, Refused, Sends}
+use Rattle.snep_core.specs.Jobs.{Begins, Ending, Job, Over, Refused, Sends}
 use Rattle.snep_core.specs.Message.{message, message_of_code, number}
 use Rattle.snep_core.specs.Server.{Received, ServerState, received, serving}
 use Rattle.snep_core.specs.Session.{Did, Gathering, Offer, Session, first_did, fresh_session, later_did, obeys}
 use Rattle.snep_core.specs.Talk.{behind_first, client_sap}
-use Rattle.snep_core.proofs.Conversations.{AllWithin, Comes, Conversation}
+use Rattle.snep_core.proofs.Conversations.{AllWithin, Comes, Conversation, Converses}
 use Rattle.snep_core.proofs.Served.{Serves, serves_brought}
 
 abbrev pub answering : Answer → Session
@@ -59,36 +59,36 @@ pub record IsRead (limit : ℕ) (r : Asked) : Type 0 where
   pub whole : r.size ≤ limit → by_code limit r.code (length r.info) (length r.info) ≡ firsts.Whole r.request
   pub partly : r.size ≤ limit → (k : ℕ) → k < length r.info → by_code limit r.code (length r.info) k ≡ firsts.Partly r.request (length r.info - k)
 
--- its first unit
-pub record Opens (r : Asked) (u rest : List ℕ) : Type 0 where
+-- a message's first unit, behind which these bytes are still to come
+pub record Opens (code : ℕ) (said u rest : List ℕ) : Type 0 where
   pub info : List ℕ
-  pub is : u ≡ 16 ∷ r.code ∷ (length r.info / 16777216) ∷ (length r.info / 65536 % 256) ∷ (length r.info / 256 % 256) ∷ (length r.info % 256) ∷ info
-  pub all : r.info ≡ info ++ rest
+  pub is : u ≡ 16 ∷ code ∷ (length said / 16777216) ∷ (length said / 65536 % 256) ∷ (length said / 256 % 256) ∷ (length said % 256) ∷ info
+  pub all : said ≡ info ++ rest
 
-opens : (r : Asked) (u rest : List ℕ) → 6 ≤ length u → bytes_of r ≡ u ++ rest → Opens r u rest
-opens r [] rest h e = absurd (omega arith)
-opens r (a ∷ []) rest h e = absurd (omega arith)
-opens r (a ∷ b ∷ []) rest h e = absurd (omega arith)
-opens r (a ∷ b ∷ c ∷ []) rest h e = absurd (omega arith)
-opens r (a ∷ b ∷ c ∷ d ∷ []) rest h e = absurd (omega arith)
-opens r (a ∷ b ∷ c ∷ d ∷ f ∷ []) rest h e = absurd (omega arith)
-opens r (a ∷ b ∷ c ∷ d ∷ f ∷ g ∷ info) rest h e =
+pub opens : (code : ℕ) (said u rest : List ℕ) → 6 ≤ length u → message_of_code code said ≡ u ++ rest → Opens code said u rest
+opens code said [] rest h e = absurd (omega arith)
+opens code said (a ∷ []) rest h e = absurd (omega arith)
+opens code said (a ∷ b ∷ []) rest h e = absurd (omega arith)
+opens code said (a ∷ b ∷ c ∷ []) rest h e = absurd (omega arith)
+opens code said (a ∷ b ∷ c ∷ d ∷ []) rest h e = absurd (omega arith)
+opens code said (a ∷ b ∷ c ∷ d ∷ f ∷ []) rest h e = absurd (omega arith)
+opens code said (a ∷ b ∷ c ∷ d ∷ f ∷ g ∷ info) rest h e =
     let e0 : a ≡ 16 = cc in
-    let e1 : b ≡ r.code = cc in
-    let e2 : c ≡ length r.info / 16777216 = cc in
-    let e3 : d ≡ length r.info / 65536 % 256 = cc in
-    let e4 : f ≡ length r.info / 256 % 256 = cc in
-    let e5 : g ≡ length r.info % 256 = cc in
+    let e1 : b ≡ code = cc in
+    let e2 : c ≡ length said / 16777216 = cc in
+    let e3 : d ≡ length said / 65536 % 256 = cc in
+    let e4 : f ≡ length said / 256 % 256 = cc in
+    let e5 : g ≡ length said % 256 = cc in
     record { info = info; is = rw (e0, e1, e2, e3, e4, e5) refl; all = cc }
 
-number_is : (n : ℕ) → n < 2 ^ 32 → number (n / 16777216) (n / 65536 % 256) (n / 256 % 256) (n % 256) ≡ n
+pub number_is : (n : ℕ) → n < 2 ^ 32 → number (n / 16777216) (n / 65536 % 256) (n / 256 % 256) (n % 256) ≡ n
 number_is n h = omega arith
 
 pub record Reads (limit : ℕ) (r : Asked) (u info : List ℕ) : Type 0 where
   pub info_is : info_of u ≡ info
   pub first : first_of limit u ≡ by_code limit r.code (length r.info) (length info)
 
-reads : (limit : ℕ) (r : Asked) (u rest : List ℕ) → length r.info < 2 ^ 32 → (b : Opens r u rest) → Reads limit r u b.info
+reads : (limit : ℕ) (r : Asked) (u rest : List ℕ) → length r.info < 2 ^ 32 → (b : Opens r.code r.info u rest) → Reads limit r u b.info
 reads limit r u rest h b = rw b.is (record { info_is = refl; first = rw (number_is (length r.info) h) refl })
 
 module _ (miu limit : ℕ) (table : List Offer) (ask : Asked) (old : List Received) (later : Conversation) where
@@ -178,8 +178,8 @@ module _ (miu limit : ℕ) (table : List Offer) (ask : Asked) (old : List Receiv
     six : 6 ≤ length first_unit
     six = let e = length-take miu (bytes_of ask) in omega (arith, range.0)
 
-    cut : Opens ask first_unit rest_units
-    cut = opens ask first_unit rest_units six (sym (take-append-drop miu (bytes_of ask)))
+    cut : Opens ask.code ask.info first_unit rest_units
+    cut = opens ask.code ask.info first_unit rest_units six (sym (take-append-drop miu (bytes_of ask)))
 
     looks : Reads limit ask first_unit cut.info
     looks = reads limit ask first_unit rest_units read.short cut
@@ -235,9 +235,6 @@ module _ (miu limit : ℕ) (table : List Offer) (ask : Asked) (old : List Receiv
     pub begun_info : info_of first_unit ++ rest_units ≡ ask.info
     begun_info = ap (λ z. z ++ rest_units) looks.info_is ∙ sym cut.all
 
-  not_lt : (a b : ℕ) → b ≤ a → nat_lt a b ≡ false
-  not_lt a b h = grind (arith, nat_tests)
-
   not_eq : (a b : ℕ) → a < b → (b == a) ≡ false
   not_eq a b h = grind (arith, nat_tests)
 
@@ -270,7 +267,7 @@ module _ (miu limit : ℕ) (table : List Offer) (ask : Asked) (old : List Receiv
           let g : Gathering = record { request = ask.request; left = length u; info = info } in
           let did_ : Did = record { session = later.session_at wh.at; accepts = wh.accepts } in
           let met : later_did table (gathering ask.request (length u) info []) g u ≡ obeys table (gathering ask.request (length u) info []) ask.request (info ++ u) =
-          rw (not_lt (length u) (length u) (omega arith), eq-eqb (length u) (length u) refl) refl in record {
+          rw (le-ltb (length u) (length u) (omega arith), eq-eqb (length u) (length u) refl) refl in record {
             to = Came wh.at;
             holds = wh.holds h.0;
             job = wh.job_is ∙ ap (λ t. Sends ask.most t) (sym z.1);
@@ -294,5 +291,22 @@ module _ (miu limit : ℕ) (table : List Offer) (ask : Asked) (old : List Receiv
             units_is = refl;
             serves = subst (λ z. Serves limit table (serving.brought s client_sap u) (gathering ask.request n (info ++ u) []) z) (append-nil old)
                 (serves_brought limit table s _ old w u (record { session = gathering ask.request n (info ++ u) []; accepts = None })
-                (rw (not_lt (length u + n) (length u) (omega arith), not_eq (length u) (length u + n) (omega arith), left) refl));
+                (rw (le-ltb (length u + n) (length u) (omega arith), not_eq (length u) (length u + n) (omega arith), left) refl));
           }
+
+-- Where it is over it came to this, and nothing is under way.
+pub record IsLast (c : Conversation) (end : Ending) (ph : c.Phase) (e : Ending) : Type 0 where
+  pub end_is : e ≡ end
+  pub queue_is : c.queue_at ph ≡ []
+  pub units_is : c.units_at ph ≡ []
+  pub session_is : c.session_at ph ≡ fresh_session
+
+-- What comes of a request within the limit once all of it came: by its client's MIU the later phases, at whose end it came to this, and this
+-- is accepted.
+pub record Outcome (limit : ℕ) (table : List Offer) (ask : Asked) (old : List Received) (end : Ending) (now : List Received) : Type 1 where
+  pub later : ℕ → Conversation
+  pub whole : (miu size : ℕ) → Whole miu limit table ask old (later size)
+  pub converses : (miu size : ℕ) → IsMiu miu → IsMiu size → Converses limit table (later size) miu size
+  pub within : (size : ℕ) (ph : (later size).Phase) → (later size).Holds ph → ask.size ≤ limit
+  pub adds : (size : ℕ) (ph : (later size).Phase) → (later size).accepted_at ph ≡ now
+  pub ends : (size : ℕ) (ph : (later size).Phase) (e : Ending) → Over e ≡ (later size).job_at ph → IsLast (later size) end ph e

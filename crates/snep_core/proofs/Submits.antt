@@ -1,14 +1,12 @@
 -- Units that are submitted one after another.
-use Rattle.std.proofs.Common.{◌≡◌, ◌<◌, ◌≤◌, ℕ, zero, suc, ◌+◌, Bool, true, false, List, [], ◌∷◌, length, take, drop, Option, Some, None, refl, sym, ap, subst, ◌∙◌, arith, if◌then◌else◌, length-drop}
+use Rattle.std.proofs.Common.{◌≡◌, ◌<◌, ◌≤◌, ℕ, zero, suc, Bool, true, false, List, [], ◌∷◌, length, take, drop, Option, Some, None, refl, sym, ap, subst, ◌∙◌, arith, if◌then◌else◌, length-drop}
 use Rattle.llcp_link.proofs.Ranged.{either}
 use Rattle.llcp_link.specs.Asking.{standing_of}
 use Rattle.llcp_link.specs.State.{own_from}
-use Rattle.llcp_link.specs.Waning.{pending}
 use Rattle.snep_core.specs.Jobs.{Job, Begins, Waits, Sends, Asks, Collects, Looks, Closes, Over}
 use Rattle.snep_core.specs.Listening.{Offered}
-use Rattle.snep_core.specs.Talk.{EndState, Ready, asks_on, behind_first, begins_on, client_sap, continue_bytes, miu_of, own_of, readied, ready_so, sends_on, sends_some, submits, takes_more}
-use Rattle.snep_core.specs.Waning.{Aim, Serves, aim_by, to_come}
-use Rattle.snep_core.proofs.Owned.{pending_more}
+use Rattle.snep_core.specs.Talk.{EndState, Ready, behind_first, begins_on, client_sap, continue_bytes, miu_of, readied, ready_so, sends_on, sends_some, submits, takes_more}
+use Rattle.snep_core.specs.Waning.{Aim, Serves, aim_by}
 
 none_there : (xs : List ℕ) → length xs ≤ 0 → xs ≡ []
 none_there [] e = refl
@@ -57,9 +55,8 @@ module _ (miu sap : ℕ) (most : Option ℕ) (low : 0 < miu) where
 
 -- an offer that was taken, or wasn't
 pub offered_true : (l : EndState) (u : List ℕ) (new : EndState) → Offered l u true new
-    → (takes_more l client_sap u ≡ true) × (new ≡ submits l client_sap u) × (pending (own_of new) ≡ pending (own_of l) + 1)
-offered_true l u new o =
-    (sym o.test, o.kept, ap (λ z. pending (own_of z)) o.kept ∙ pending_more l u (sym o.test))
+    → (takes_more l client_sap u ≡ true) × (new ≡ submits l client_sap u)
+offered_true l u new o = (sym o.test, o.kept)
 
 pub offered_false : (l : EndState) (u : List ℕ) (new : EndState) → Offered l u false new → (takes_more l client_sap u ≡ false) × (new ≡ l)
 offered_false l u new o = (sym o.test, o.kept)
@@ -68,35 +65,24 @@ offered_false l u new o = (sym o.test, o.kept)
 abbrev pub IsLeft : ℕ → List ℕ → Bool → List ℕ → Type 0
 IsLeft miu bytes taken rest = rest ≡ (if taken then drop miu bytes else bytes)
 
-dropped : (miu : ℕ) (bytes rest : List ℕ) → 0 < miu → 0 < length bytes → rest ≡ drop miu bytes → length rest + 1 ≤ length bytes
-dropped miu bytes rest low some e = let k = length-drop miu bytes in let n = ap length e in omega arith
-
 pub sent_one : (miu : ℕ) (most : Option ℕ) (l new : EndState) (bytes rest : List ℕ) (taken : Bool) → 0 < miu → 0 < length bytes → taken ≡ true
     → Offered l (take miu bytes) taken new → IsLeft miu bytes taken rest
-    → (sends_some (length bytes) miu l client_sap most bytes ≡ sends_some (length rest) miu new client_sap most rest)
-    × (pending (own_of new) + length rest ≤ pending (own_of l) + length bytes)
+    → sends_some (length bytes) miu l client_sap most bytes ≡ sends_some (length rest) miu new client_sap most rest
 sent_one miu most l new bytes rest taken low some is o left =
     let t = offered_true l (take miu bytes) new (subst (λ b. Offered l (take miu bytes) b new) is o) in
     let r : rest ≡ drop miu bytes = subst (λ b. IsLeft miu bytes b rest) is left in
-    let less = dropped miu bytes rest low some r in
-    let more = t.2 in (
-      sends_step miu client_sap most low l bytes some t.0
-          ∙ ap (λ z. sends_some (length (drop miu bytes)) miu z client_sap most (drop miu bytes)) (sym t.1)
-          ∙ ap (λ z. sends_some (length z) miu new client_sap most z) (sym r),
-      omega arith,
-    )
+    sends_step miu client_sap most low l bytes some t.0
+    ∙ ap (λ z. sends_some (length (drop miu bytes)) miu z client_sap most (drop miu bytes)) (sym t.1)
+    ∙ ap (λ z. sends_some (length z) miu new client_sap most z) (sym r)
 
 pub sent_none : (miu : ℕ) (most : Option ℕ) (l new : EndState) (bytes rest : List ℕ) (taken : Bool) → 0 < miu → taken ≡ false
     → Offered l (take miu bytes) taken new → IsLeft miu bytes taken rest
-    → (sends_some (length bytes) miu l client_sap most bytes ≡ ready_so new (Sends most rest)) × (rest ≡ bytes) × (new ≡ l)
+    → sends_some (length bytes) miu l client_sap most bytes ≡ ready_so new (Sends most rest)
 sent_none miu most l new bytes rest taken low is o left =
     let t = offered_false l (take miu bytes) new (subst (λ b. Offered l (take miu bytes) b new) is o) in
-    let r : rest ≡ bytes = subst (λ b. IsLeft miu bytes b rest) is left in (
-      sends_stop miu client_sap most low l bytes t.0 ∙ ap (λ z. ready_so z (Sends most bytes)) (sym t.1)
-          ∙ ap (λ z. ready_so new (Sends most z)) (sym r),
-      r,
-      t.1,
-    )
+    let r : rest ≡ bytes = subst (λ b. IsLeft miu bytes b rest) is left in
+    sends_stop miu client_sap most low l bytes t.0 ∙ ap (λ z. ready_so z (Sends most bytes)) (sym t.1)
+    ∙ ap (λ z. ready_so new (Sends most z)) (sym r)
 
 -- the first unit of a request
 module _ (l new : EndState) (most : Option ℕ) (miu : ℕ) (bytes : List ℕ) where
@@ -123,59 +109,21 @@ module _ (l new : EndState) (most : Option ℕ) (miu : ℕ) (bytes : List ℕ) w
       ap (λ b. if b then ready_so (submits l client_sap (take miu bytes)) (behind_first most (drop miu bytes)) else ready_so l (Begins most bytes)) t.0
       ∙ ap (λ z. ready_so z (Begins most bytes)) (sym t.1)
 
--- a continue
-module _ (l new : EndState) (size : ℕ) (have : List ℕ) where
-  pub asks_taken : Offered l continue_bytes true new → asks_on l client_sap size have ≡ ready_so new (Collects size have)
-  asks_taken o =
-      let t = offered_true l continue_bytes new o in
-      ap (λ b. if b then ready_so (submits l client_sap continue_bytes) (Collects size have) else ready_so l (Asks size have)) t.0
-      ∙ ap (λ z. ready_so z (Collects size have)) (sym t.1)
-
-  pub asks_not : Offered l continue_bytes false new → asks_on l client_sap size have ≡ ready_so new (Asks size have)
-  asks_not o =
-      let t = offered_false l continue_bytes new o in
-      ap (λ b. if b then ready_so (submits l client_sap continue_bytes) (Collects size have) else ready_so l (Asks size have)) t.0
-      ∙ ap (λ z. ready_so z (Asks size have)) (sym t.1)
-
--- the same, and what is still to come
+-- the same by what was offered
 module _ (miu : ℕ) (most : Option ℕ) (l new : EndState) (bytes rest : List ℕ) (taken : Bool) (o : Offered l (take miu bytes) taken new)
     (left : IsLeft miu bytes taken rest) where
-  pub begin_whole : taken ≡ true → length rest ≡ 0
-      → (begins_on l client_sap most bytes (Some miu) ≡ ready_so new (Sends most rest))
-      × (to_come (own_of new) (Sends most rest) ≤ to_come (own_of l) (Begins most bytes))
+  pub begin_whole : taken ≡ true → length rest ≡ 0 → begins_on l client_sap most bytes (Some miu) ≡ ready_so new (Sends most rest)
   begin_whole is none =
-      let k = subst (λ b. Offered l (take miu bytes) b new) is o in
-      let r : rest ≡ drop miu bytes = subst (λ b. IsLeft miu bytes b rest) is left in
-      let p = (offered_true l (take miu bytes) new k).2 in
-      (begins_whole l new most miu bytes rest r none k, omega arith)
+      begins_whole l new most miu bytes rest (subst (λ b. IsLeft miu bytes b rest) is left) none (subst (λ b. Offered l (take miu bytes) b new) is o)
 
-  pub begin_part : taken ≡ true → 0 < miu → 0 < length rest
-      → (begins_on l client_sap most bytes (Some miu) ≡ ready_so new (Waits most rest))
-      × (to_come (own_of new) (Waits most rest) ≤ to_come (own_of l) (Begins most bytes))
-  begin_part is low some =
-      let k = subst (λ b. Offered l (take miu bytes) b new) is o in
-      let r : rest ≡ drop miu bytes = subst (λ b. IsLeft miu bytes b rest) is left in
-      let p = (offered_true l (take miu bytes) new k).2 in
-      let n = ap length r in
-      let d = length-drop miu bytes in
-      (begins_part l new most miu bytes rest r some k, omega arith)
+  pub begin_part : taken ≡ true → 0 < length rest → begins_on l client_sap most bytes (Some miu) ≡ ready_so new (Waits most rest)
+  begin_part is some =
+      begins_part l new most miu bytes rest (subst (λ b. IsLeft miu bytes b rest) is left) some (subst (λ b. Offered l (take miu bytes) b new) is o)
 
-  pub begin_not : taken ≡ false
-      → (begins_on l client_sap most bytes (Some miu) ≡ ready_so new (Begins most rest))
-      × (to_come (own_of new) (Begins most rest) ≤ to_come (own_of l) (Begins most bytes))
+  pub begin_not : taken ≡ false → begins_on l client_sap most bytes (Some miu) ≡ ready_so new (Begins most rest)
   begin_not is =
-      let k = subst (λ b. Offered l (take miu bytes) b new) is o in
       let r : rest ≡ bytes = subst (λ b. IsLeft miu bytes b rest) is left in
-      let p = ap (λ z. pending (own_of z)) (offered_false l (take miu bytes) new k).1 in
-      let n = ap length r in
-      (begins_not l new most miu bytes k ∙ ap (λ z. ready_so new (Begins most z)) (sym r), omega arith)
-
--- a continue that is submitted is still to be acknowledged
-pub ask_left : (l new : EndState) (size : ℕ) (have : List ℕ) (taken : Bool) → taken ≡ true → Offered l continue_bytes taken new
-    → to_come (own_of new) (Collects size have) ≤ to_come (own_of l) (Asks size have)
-ask_left l new size have taken is o =
-    let p = (offered_true l continue_bytes new (subst (λ b. Offered l continue_bytes b new) is o)).2 in
-    omega arith
+      begins_not l new most miu bytes (subst (λ b. Offered l (take miu bytes) b new) is o) ∙ ap (λ z. ready_so new (Begins most z)) (sym r)
 
 -- what a job submits leaves it its aim
 some_serves : (aim : Aim) (n miu : ℕ) (l : EndState) (sap : ℕ) (most : Option ℕ) (rest : List ℕ) → aim ≡ aim_by most

@@ -139,11 +139,3 @@ module _ {C A : Type 0} (seen : C → CarrierView) (moves : C → List FarStep �
     swap = x.swap;
     swapped = x.swapped;
   })))
-
--- where it was cut off is the end once its job was ready
-pub cut_ready : {C A : Type 0} (seen : C → CarrierView) (moves : C → List FarStep → C → Type 0) (steps : A → List ℕ → List ℕ → A → Type 0)
-    (stops : A → List ℕ → A → Type 0) (link : C) (far : A) (over : C) (after : A) (l mid new : EndState) (job now : Job) (idle : ℕ) (e : SnepFault)
-    → readied l client_sap job ≡ ready_so mid now → IsCut seen moves steps stops mid link far e new over after
-    → IsCut seen moves steps stops (ready (record { llc = l; jobs = alone job; idle = idle })).llc link far e new over after
-cut_ready seen moves steps stops link far over after l mid new job now idle e r c =
-    subst (λ (z : Ready). IsCut seen moves steps stops z.llc link far e new over after) (sym r) c

@@ -1,5 +1,5 @@
 -- A far end that serves as this project's server does, and what a client's end and such a far end come to between calls.
-use Rattle.std.specs.Prelude.{◌≡◌, ◌<◌, ◌≤◌, ◌⊎◌, ℕ, ◌+◌, ◌%◌, Bool, true, false, List, [], ◌∷◌, ◌++◌, length, IfSome}
+use Rattle.std.specs.Prelude.{◌≡◌, ◌<◌, ◌≤◌, ◌⊎◌, ℕ, ◌+◌, ◌%◌, Bool, true, false, List, [], ◌∷◌, ◌++◌, length, IfSome, Some, None}
 use Rattle.llcp_pdu.specs.General.{IsMiu}
 use Rattle.llcp_pdu.specs.Wire.{least_miu}
 use Rattle.llcp_conn.specs.Conn.{ConnState, IsSap, IsWindow, modulus}
@@ -13,7 +13,7 @@ use Rattle.llcp_link.specs.Answering.{Answers, Stops}
 use Rattle.snep_core.specs.declared.fault.SnepFault.{SnepFault}
 use Rattle.snep_core.specs.declared.fault.SnepFault.TheVariants.{BadPeer, Excess, LinkEnded, Memory, NotFound, NotImplemented, Reject}
 use Rattle.snep_core.specs.Server.{Received, ServerState, serving, session_of}
-use Rattle.snep_core.specs.Session.{Offer, fresh_session}
+use Rattle.snep_core.specs.Session.{Offer, fresh_session, value_of}
 use Rattle.snep_core.specs.Talk.{EndState, client_sap, server_sap, silent}
 
 abbrev pub PeerState : Type 0
@@ -161,6 +161,11 @@ pub record Accords (client : EndState) (peer : PeerState) : Type 0 where
   pub peer_serving : IsServing peer
   pub stands : IsApart client peer ⊎ IsJoined client peer
 
+-- What is said of a call where its client's end and its far end are so: it holds of each view in which the far end is a peer, and with which the
+-- client accords.
+abbrev pub AtPeers : {A : Type 0} → (A → List ℕ → List ℕ → A → Type 0) → (A → List ℕ → A → Type 0) → EndState → A → ((A → PeerState) → Type 0) → Type 0
+AtPeers steps stops client far says = (view : _ → PeerState) → IsPeer steps stops view → Accords client (view far) → says view
+
 -- Both ends of a link as it begins: each was restarted with general bytes of the other that it could read.
 pub record IsBegun (client : EndState) (peer : PeerState) : Type 0 where
   pub client_before : EndState
@@ -181,23 +186,24 @@ pub record IsBegun (client : EndState) (peer : PeerState) : Type 0 where
 abbrev pub from_client : List ℕ → Received
 from_client m = record { source = client_sap; message = m }
 
--- A put that was told to be taken: the peer accepted its message, once, and it is within the limit.
-pub record IsTaken (m : List ℕ) (old : PeerState) (client : EndState) (new : PeerState) : Type 0 where
-  pub within : length m ≤ old.service.limit
-  pub accepted : new.service.accepted ≡ old.service.accepted ++ from_client m ∷ []
+-- A request that was answered: the peer's limit, its table for get and its names are as before, and client and peer accord again.
+pub record IsAnswered (old : PeerState) (client : EndState) (new : PeerState) : Type 0 where
   pub limit : new.service.limit ≡ old.service.limit
   pub table : new.service.table ≡ old.service.table
   pub bound : new.bound ≡ old.bound
   pub accords : Accords client new
 
--- A put that was rejected: its message is longer than the limit, and nothing was accepted.
+-- A put that was told to be taken: the peer accepted its message, once, and it is within the limit.
+pub record IsTaken (m : List ℕ) (old : PeerState) (client : EndState) (new : PeerState) : Type 0 where
+  pub within : length m ≤ old.service.limit
+  pub accepted : new.service.accepted ≡ old.service.accepted ++ from_client m ∷ []
+  pub answered : IsAnswered old client new
+
+-- A message or a key that was rejected: it is longer than the limit, and nothing was accepted.
 pub record IsRejected (m : List ℕ) (old : PeerState) (client : EndState) (new : PeerState) : Type 0 where
   pub beyond : old.service.limit < length m
   pub accepted : new.service.accepted ≡ old.service.accepted
-  pub limit : new.service.limit ≡ old.service.limit
-  pub table : new.service.table ≡ old.service.table
-  pub bound : new.bound ≡ old.bound
-  pub accords : Accords client new
+  pub answered : IsAnswered old client new
 
 -- nothing was accepted, or the message once, which is within the limit
 abbrev pub AddsAtMost : List ℕ → PeerState → PeerState → Type 0
@@ -214,6 +220,38 @@ PutFails m old NotImplemented client new = ⊥
 PutFails m old (LinkEnded c) client new = AddsAtMost m old new
 PutFails m old Memory client new = AddsAtMost m old new
 PutFails m old BadPeer client new = ⊥
+
+-- A value that was told, of at most so many bytes: it is the one that the peer's table has under the key, and nothing was accepted.
+pub record IsGot (most : ℕ) (key value : List ℕ) (old : PeerState) (client : EndState) (new : PeerState) : Type 0 where
+  pub within : length key ≤ old.service.limit
+  pub found : value_of key old.service.table ≡ Some value
+  pub few : length value ≤ most
+  pub accepted : new.service.accepted ≡ old.service.accepted
+  pub answered : IsAnswered old client new
+
+-- why a table refuses a get that takes a value of at most so many bytes: it is empty; else it hasn't the key; else the value is longer
+abbrev pub Refuses : List Offer → ℕ → List ℕ → SnepFault → Type 0
+Refuses table most key NotImplemented = table ≡ []
+Refuses table most key NotFound = (0 < length table) × (value_of key table ≡ None)
+Refuses table most key Excess = (value : List ℕ) × (value_of key table ≡ Some value) × (most < length value)
+Refuses table most key _ = ⊥
+
+-- A get that was refused so: its key is within the limit, and nothing was accepted.
+pub record IsRefusedBy (why : SnepFault) (most : ℕ) (key : List ℕ) (old : PeerState) (client : EndState) (new : PeerState) : Type 0 where
+  pub within : length key ≤ old.service.limit
+  pub refuses : Refuses old.service.table most key why
+  pub accepted : new.service.accepted ≡ old.service.accepted
+  pub answered : IsAnswered old client new
+
+-- a get that failed so
+abbrev pub GetFails : ℕ → List ℕ → PeerState → SnepFault → EndState → PeerState → Type 0
+GetFails most key old Reject client new = IsRejected key old client new
+GetFails most key old NotFound client new = IsRefusedBy NotFound most key old client new
+GetFails most key old Excess client new = IsRefusedBy Excess most key old client new
+GetFails most key old NotImplemented client new = IsRefusedBy NotImplemented most key old client new
+GetFails most key old (LinkEnded c) client new = new.service.accepted ≡ old.service.accepted
+GetFails most key old Memory client new = new.service.accepted ≡ old.service.accepted
+GetFails most key old BadPeer client new = ⊥
 
 -- A call that puts nothing: the peer's service and its names are as before, and client and peer accord again.
 pub record IsAside (old : PeerState) (client : EndState) (new : PeerState) : Type 0 where

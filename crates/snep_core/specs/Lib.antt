@@ -11,5 +11,6 @@ pub mod Talk
 pub mod Listening
 pub mod Calling
 pub mod Numbers
+pub mod RepliesLeft
 pub mod Waning
 pub mod Accord

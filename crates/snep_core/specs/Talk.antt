@@ -1,6 +1,7 @@
 -- What a client of a SNEP server does in one call, reply by reply: a function of what it asked and of what it was told (NFC Forum LLCP
 -- 1.3 and SNEP 1.0; when it gives a far end up is this project's own).
-use Rattle.std.specs.Prelude.{◌≡◌, ◌≤◌, ℕ, zero, suc, ◌+◌, ◌==◌, ◌&&◌, ◌||◌, nat_lt, not, is_none, Bool, true, false, List, [], ◌∷◌, ◌++◌, length, take, drop, Option, Some, None, if◌then◌else◌}
+use Rattle.std.specs.Prelude.{◌≡◌, ◌≤◌, ℕ, zero, suc, ◌+◌, ◌==◌, ◌&&◌, ◌||◌, eqb, nat_lt, not, is_none, Bool, true, false, List, [], ◌∷◌, ◌++◌, length, take, drop, Option, Some, None, if◌then◌else◌}
+use Rattle.std.specs.List.{IsDistinct}
 use Rattle.nfc_base.specs.Links.{FarStep, Stepped}
 use Rattle.llcp_pdu.specs.declared.part.Part.TheVariants.{Connect}
 use Rattle.llcp_link.specs.Serving.{Serving}
@@ -59,6 +60,14 @@ pub record Working : Type 0 where
   pub llc : EndState
   pub jobs : List OnSap
   pub idle : ℕ
+
+-- the SAPs of jobs; no two of them are on one connection
+abbrev pub saps : List OnSap → List ℕ
+saps [] = []
+saps (x ∷ xs) = x.sap ∷ saps xs
+
+abbrev pub AreApart : List OnSap → Type 0
+AreApart jobs = IsDistinct eqb (saps jobs)
 
 -- a call goes on; all its jobs are over; or the far end is given up
 pub data Step : Type 0 where

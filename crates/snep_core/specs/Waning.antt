@@ -1,31 +1,12 @@
--- Why a call comes to an end whatever a far end replies, for private calls: what is still to come for its job falls by each reply that
--- gives something, and 16 others in a row give the far end up.
-use Rattle.std.specs.Prelude.{◌≡◌, ◌<◌, ◌≤◌, ℕ, ◌+◌, ◌-◌, ◌*◌, Bool, true, false, length, Option, Some, None}
+-- What a reply leaves to come for a call of one job, and what a job is for: for private calls.
+use Rattle.std.specs.Prelude.{◌≡◌, ◌<◌, ◌≤◌, ℕ, Bool, true, false, Option, Some, None}
 use Rattle.llcp_link.specs.State.{OwnState}
 use Rattle.llcp_link.specs.Waning.{pending}
 use Rattle.snep_core.specs.Jobs.{Job, Begins, Waits, Sends, Asks, Collects, Looks, Closes, Over, Ending, Done, Value, Sap, Refused}
-use Rattle.snep_core.specs.Talk.{EndState, most_idle}
+use Rattle.snep_core.specs.Talk.{EndState, Working, alone, most_idle}
+use Rattle.snep_core.specs.RepliesLeft.{replies_left}
 use Rattle.snep_core.specs.declared.job.Turn.{Turn}
 use Rattle.snep_core.specs.declared.job.Turn.TheVariants.{Ended, Went, GaveUp}
-
--- an answer, or the first unit of a value, the continue that asks for the rest, and its bytes
-abbrev pub answer_left : Option ℕ → ℕ
-answer_left None = 1
-answer_left (Some most) = most + 2
-
--- what is still to come: bytes to submit, a continue, the answer
-abbrev pub job_left : Job → ℕ
-job_left (Begins most bytes) = length bytes + 1 + answer_left most
-job_left (Waits most rest) = length rest + 1 + answer_left most
-job_left (Sends most rest) = length rest + answer_left most
-job_left (Asks size have) = size - length have + 1
-job_left (Collects size have) = size - length have
-job_left (Looks tid) = 0
-job_left Closes = 0
-job_left (Over e) = 0
-
-abbrev pub to_come : Option OwnState → Job → ℕ
-to_come own job = pending own + job_left job
 
 -- a reply that gave something leaves less to come, and another one not more
 abbrev pub LessensTo : Bool → ℕ → ℕ → Type 0
@@ -35,14 +16,14 @@ LessensTo false old new = new ≤ old
 abbrev pub Lessens : Bool → Option OwnState → Option OwnState → Type 0
 Lessens gave old new = LessensTo gave (pending old) (pending new)
 
--- the replies that may still come
-abbrev pub replies_left : Option OwnState → Job → ℕ → ℕ
-replies_left own job idle = 17 * to_come own job + (most_idle - idle)
+-- a call of one job
+abbrev pub one_job : EndState → Job → ℕ → Working
+one_job l job idle = record { llc = l; jobs = alone job; idle = idle }
 
--- a call that goes on has fewer
-abbrev pub Falls : Option OwnState → Job → ℕ → Turn → Option OwnState → Type 0
-Falls old job idle (Went now n) new = (n < most_idle) × (replies_left new now n < replies_left old job idle)
-Falls old job idle _ new = Unit {0}
+-- it has fewer replies left where it goes on
+abbrev pub Falls : Working → Turn → EndState → Type 0
+Falls w (Went now n) new = (n < most_idle) × (replies_left (one_job new now n) < replies_left w)
+Falls w _ new = Unit {0}
 
 -- one that goes on does so with this job, after so many replies that gave nothing, and its end is as it was
 abbrev pub GoesAs : Job → ℕ → EndState → Turn → EndState → Type 0

@@ -2,7 +2,7 @@
 
 ghost use Rattle.std.specs.Prelude.{◌≡◌, ◌≤◌, [], length, true, false, IfOk, IfErr, OnOk};
 ghost use Rattle.llcp_link.specs.Asking.{is_open_by};
-ghost use Rattle.snep_core.specs.Accord.{Accords, AsideFails, IsBegun, IsClosed, IsFound, IsPeer, IsTaken, PeerState, PutFails};
+ghost use Rattle.snep_core.specs.Accord.{Accords, AsideFails, AtPeers, GetFails, IsBegun, IsClosed, IsFound, IsGot, IsTaken, PeerState, PutFails};
 ghost use Rattle.snep_core.specs.Calling.{FailsBy, RequestFails, Talks, is_memory};
 ghost use Rattle.snep_core.specs.Jobs.{Done, Over, Sap, Value};
 ghost use Rattle.snep_core.specs.Talk.{Ends, Finds, Gets, Leaves, Puts, alone, begins, begun, client_sap, connected, gave_between as gave, is_waiting as awaits, own_of, stands_of};
@@ -180,10 +180,10 @@ impl Client {
         ensures err { self.old.spent ≡ false → IfErr result (λ e. RequestFails C.seen C.moves A.steps A.stops
             (begins self.old.llc (Puts message.now)) carrier.old far.old e self.new.llc carrier.new far.new) }
         // Over a far end that serves as this project's server does, and with which the client accords:
-        ensures taken { (view : A → PeerState) → IsPeer A.steps A.stops view → Accords self.old.llc (view far.old)
-            → OnOk result (IsTaken message.now (view far.old) self.new.llc (view far.new)) }
-        ensures fails { (view : A → PeerState) → IsPeer A.steps A.stops view → Accords self.old.llc (view far.old)
-            → IfErr result (λ e. PutFails message.now (view far.old) e self.new.llc (view far.new)) }
+        ensures taken { AtPeers A.steps A.stops self.old.llc far.old (λ view.
+            OnOk result (IsTaken message.now (view far.old) self.new.llc (view far.new))) }
+        ensures fails { AtPeers A.steps A.stops self.old.llc far.old (λ view.
+            IfErr result (λ e. PutFails message.now (view far.old) e self.new.llc (view far.new))) }
         ensures spent { IfErr result (λ e. self.new.spent ≡ is_memory e) }
         ensures stays { self.old.spent ≡ true
             → (self.new ≡ self.old) × (carrier.new ≡ carrier.old) × (far.new ≡ far.old) }
@@ -220,6 +220,11 @@ impl Client {
         ensures going { OnOk result ((self.old.spent ≡ false) × (self.new.spent ≡ false)) }
         ensures err { self.old.spent ≡ false → IfErr result (λ e. RequestFails C.seen C.moves A.steps A.stops
             (begins self.old.llc (Gets acceptable key.now)) carrier.old far.old e self.new.llc carrier.new far.new) }
+        // Over a far end that serves as this project's server does, and with which the client accords:
+        ensures value { AtPeers A.steps A.stops self.old.llc far.old (λ view.
+            IfOk result (λ value. IsGot acceptable key.now value.items (view far.old) self.new.llc (view far.new))) }
+        ensures fails { AtPeers A.steps A.stops self.old.llc far.old (λ view.
+            IfErr result (λ e. GetFails acceptable key.now (view far.old) e self.new.llc (view far.new))) }
         ensures spent { IfErr result (λ e. self.new.spent ≡ is_memory e) }
         ensures stays { self.old.spent ≡ true
             → (self.new ≡ self.old) × (carrier.new ≡ carrier.old) × (far.new ≡ far.old) }
@@ -256,10 +261,10 @@ impl Client {
         ensures err { self.old.spent ≡ false → IfErr result (λ e. FailsBy C.seen C.moves A.steps A.stops
             (begins self.old.llc (Finds name.now)) carrier.old far.old e self.new.llc carrier.new far.new) }
         // Over a far end that serves as this project's server does, and with which the client accords:
-        ensures found { (view : A → PeerState) → IsPeer A.steps A.stops view → Accords self.old.llc (view far.old)
-            → IfOk result (λ sap. IsFound name.now (view far.old) sap self.new.llc (view far.new)) }
-        ensures fails { (view : A → PeerState) → IsPeer A.steps A.stops view → Accords self.old.llc (view far.old)
-            → IfErr result (λ e. AsideFails (view far.old) e (view far.new)) }
+        ensures found { AtPeers A.steps A.stops self.old.llc far.old (λ view.
+            IfOk result (λ sap. IsFound name.now (view far.old) sap self.new.llc (view far.new))) }
+        ensures fails { AtPeers A.steps A.stops self.old.llc far.old (λ view.
+            IfErr result (λ e. AsideFails (view far.old) e (view far.new))) }
         ensures spent { IfErr result (λ e. self.new.spent ≡ is_memory e) }
         ensures stays { self.old.spent ≡ true
             → (self.new ≡ self.old) × (carrier.new ≡ carrier.old) × (far.new ≡ far.old) }
@@ -293,10 +298,10 @@ impl Client {
         ensures err { self.old.spent ≡ false → IfErr result (λ e. FailsBy C.seen C.moves A.steps A.stops
             (begins self.old.llc Leaves) carrier.old far.old e self.new.llc carrier.new far.new) }
         // Over a far end that serves as this project's server does, and with which the client accords:
-        ensures closed { (view : A → PeerState) → IsPeer A.steps A.stops view → Accords self.old.llc (view far.old)
-            → OnOk result (IsClosed (view far.old) self.new.llc (view far.new)) }
-        ensures fails { (view : A → PeerState) → IsPeer A.steps A.stops view → Accords self.old.llc (view far.old)
-            → IfErr result (λ e. AsideFails (view far.old) e (view far.new)) }
+        ensures closed { AtPeers A.steps A.stops self.old.llc far.old (λ view.
+            OnOk result (IsClosed (view far.old) self.new.llc (view far.new))) }
+        ensures fails { AtPeers A.steps A.stops self.old.llc far.old (λ view.
+            IfErr result (λ e. AsideFails (view far.old) e (view far.new))) }
         ensures spent { IfErr result (λ e. self.new.spent ≡ is_memory e) }
         ensures stays { self.old.spent ≡ true
             → (self.new ≡ self.old) × (carrier.new ≡ carrier.old) × (far.new ≡ far.old) }

@@ -15,6 +15,11 @@ use std::test::Fail;
 /// General bytes of an end of MIU 128.
 const GENERAL: [u8; 10] = [0x46, 0x66, 0x6D, 0x01, 0x01, 0x13, 0x03, 0x02, 0x00, 0x13];
 
+/// Those of an end whose link takes 2,047 bytes.
+const WIDE: [u8; 14] = [
+    0x46, 0x66, 0x6D, 0x01, 0x01, 0x13, 0x02, 0x02, 0x07, 0x7F, 0x03, 0x02, 0x00, 0x13,
+];
+
 const PARAMS: LinkParams = LinkParams {
     version: 0x13,
     miu: 128,
@@ -148,6 +153,15 @@ pub(crate) fn peer(rt: &impl Abort, alloc: Global) -> Result<Llc<Server>, Fail> 
     assert_eq!(rt; llc.listen("urn:nfc:sn:snep", 4), Ok(()));
     llc.restart(&GENERAL);
     Ok(llc)
+}
+
+/// A client that takes units of 128 bytes, four at a time, and the end with the server, which may send it 2,047 bytes at once.
+pub(crate) fn wide_ends(rt: &impl Abort, alloc: Global) -> Result<(Client, Llc<Server>), Fail> {
+    let mut near = Llc::new(alloc, PARAMS, 4, NoService);
+    near.restart(&GENERAL);
+    let mut far = peer(rt, alloc)?;
+    far.restart(&WIDE);
+    Ok((Client::new(alloc, near), far))
 }
 
 /// A client at the begin of a link.

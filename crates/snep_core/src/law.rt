@@ -1,10 +1,12 @@
-//! What the units of a connection put, whatever a server does with them; and what a server accepts, by the payloads alone.
+//! What the units of a connection put, whatever a server does with them; what a server accepts, by the payloads alone; and that
+//! a client's calls come to an end.
 
 ghost use Rattle.snep_core.specs.Accord.{OffersAccord, PeersServe};
 ghost use Rattle.snep_core.specs.Puts.{PutsOne};
 ghost use Rattle.snep_core.specs.Cuts.{FrontsPut, LastPut};
 ghost use Rattle.snep_core.specs.Links.{LinkLaw};
 ghost use Rattle.snep_core.specs.Payloads.{AcceptedInOrder, CutOffAccepts, PayloadsAccepted};
+ghost use Rattle.snep_core.specs.RepliesLeft.{CallsBegin, CallsEnd, RepliesFall};
 
 /// The units of a connection put one list of messages.
 pub fn one_list()
@@ -52,4 +54,12 @@ pub fn peer()
 /// What is offered for get between two calls of a client changes nothing of how the two stand.
 pub fn any_table()
     ensures { OffersAccord }
+{}
+
+/// Whatever a far end replies, a call of a client comes to an end, of any number of jobs, each on a connection of its own: by
+/// each reply after which it goes on, fewer replies are left to it.
+pub fn calls_end()
+    ensures begins { CallsBegin }
+    ensures falls { RepliesFall }
+    ensures most { CallsEnd }
 {}

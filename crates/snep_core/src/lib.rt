@@ -3,7 +3,8 @@
 //!
 //! `message` has the codes and writes messages; `first` reads the first unit of a request; `session` is one connection: what
 //! is gathered, what is to be sent, what waits for a continue; `server` has the table for get, what was accepted, and a
-//! session for each client's SAP; `law` says what the units of a client's messages put, and that a server accepts just that.
+//! session for each client's SAP; `law` says what the units of a client's messages put, that a server accepts
+//! just that, and that a client's calls come to an end.
 #![tactic(auto)]
 
 mod client;
@@ -22,7 +23,9 @@ mod turning;
 
 pub use client::Client;
 pub use fault::SnepFault;
-pub use law::{any_table, cut_off, fronts, in_order, last_put, link, one_list, payloads, peer};
+pub use law::{
+    any_table, calls_end, cut_off, fronts, in_order, last_put, link, one_list, payloads, peer,
+};
 pub use server::Server;
 pub use silent::NoService;
 

@@ -4,7 +4,7 @@ ghost use Rattle.std.specs.Prelude.{◌≡◌, ◌≤◌, ◌<◌, true, take, d
 ghost use Rattle.llcp_link.specs.Asking.{standing_of};
 ghost use Rattle.snep_core.specs.Listening.{Offered};
 ghost use Rattle.snep_core.specs.Talk.{asks_on, begins_on, client_sap, miu_of, own_of, readied, ready_so, sends_on};
-ghost use Rattle.snep_core.specs.Waning.{Aim, Serves, to_come};
+ghost use Rattle.snep_core.specs.Waning.{Aim, Serves};
 ghost use Rattle.snep_core.specs.declared.fault.SnepFault.{SnepFault};
 ghost use Rattle.snep_core.specs.declared.job.Job.{Job};
 
@@ -65,8 +65,6 @@ impl Client {
     fn begin_on(&mut self, most: Option<u32>, bytes: Bytes) -> Result<Job, SnepFault>
         ensures ok { IfOk result (λ job.
             begins_on self.old.llc client_sap most bytes (miu_of (standing_of (own_of self.old.llc))) ≡ ready_so self.new.llc job) }
-        ensures left { IfOk result (λ job.
-            to_come (own_of self.new.llc) job ≤ to_come (own_of self.old.llc) (Job.Begins most bytes)) }
         ensures going { OnOk result (self.new.spent ≡ self.old.spent) }
         ensures err { IfErr result (λ e. e ≡ SnepFault.Memory) }
         ensures spent { IfErr result (λ e. self.new.spent ≡ true) }
@@ -89,8 +87,6 @@ impl Client {
     fn send_on(&mut self, most: Option<u32>, bytes: Bytes) -> Result<Job, SnepFault>
         ensures ok { IfOk result (λ job.
             sends_on self.old.llc client_sap most bytes (miu_of (standing_of (own_of self.old.llc))) ≡ ready_so self.new.llc job) }
-        ensures left { IfOk result (λ job.
-            to_come (own_of self.new.llc) job ≤ to_come (own_of self.old.llc) (Job.Sends most bytes)) }
         ensures going { OnOk result (self.new.spent ≡ self.old.spent) }
         ensures err { IfErr result (λ e. e ≡ SnepFault.Memory) }
         ensures spent { IfErr result (λ e. self.new.spent ≡ true) }
@@ -111,8 +107,6 @@ impl Client {
     /// A continue for the rest of a value.
     fn ask_on(&mut self, size: u32, have: Items<u8>) -> Result<Job, SnepFault>
         ensures ok { IfOk result (λ job. asks_on self.old.llc client_sap size have ≡ ready_so self.new.llc job) }
-        ensures left { IfOk result (λ job.
-            to_come (own_of self.new.llc) job ≤ to_come (own_of self.old.llc) (Job.Asks size have)) }
         ensures going { OnOk result (self.new.spent ≡ self.old.spent) }
         ensures err { IfErr result (λ e. e ≡ SnepFault.Memory) }
         ensures spent { IfErr result (λ e. self.new.spent ≡ true) }
@@ -128,7 +122,6 @@ impl Client {
     /// What its job submits before a payload is given.
     pub(crate) fn ready(&mut self, job: Job) -> Result<Job, SnepFault>
         ensures ok { IfOk result (λ now. readied self.old.llc client_sap job ≡ ready_so self.new.llc now) }
-        ensures left { IfOk result (λ now. to_come (own_of self.new.llc) now ≤ to_come (own_of self.old.llc) job) }
         ensures going { OnOk result (self.new.spent ≡ self.old.spent) }
         ensures err { IfErr result (λ e. e ≡ SnepFault.Memory) }
         ensures spent { IfErr result (λ e. self.new.spent ≡ true) }

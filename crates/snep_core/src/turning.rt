@@ -4,7 +4,7 @@ ghost use Rattle.std.specs.Prelude.{◌≡◌, ◌<◌, ◌||◌, false, IfOk, I
 ghost use Rattle.snep_core.specs.Calling.{Exchanged, FailsBy, IsCut, Talks, Turned, fault_of, is_memory, step_of};
 ghost use Rattle.snep_core.specs.Jobs.{Over};
 ghost use Rattle.snep_core.specs.Talk.{Ends, alone, begun, client_sap, idle_after, most_idle, own_of, ready, settled};
-ghost use Rattle.snep_core.specs.Waning.{Aim, Falls, GoesAs, IsOf, Lessens, Serves, TurnServes, aim_of};
+ghost use Rattle.snep_core.specs.Waning.{Aim, Falls, GoesAs, IsOf, Lessens, Serves, TurnServes, aim_of, one_job};
 ghost use Rattle.snep_core.specs.declared.fault.SnepFault.{SnepFault};
 
 use crate::client::{CLIENT_SAP, Client, gave_between};
@@ -101,7 +101,7 @@ impl Client {
         ensures ok { IfOk result (λ turn. Turned C.seen C.moves A.steps A.stops
             (record { llc = self.old.llc; jobs = alone job; idle = idle }) carrier.old far.old turn self.new.llc carrier.new far.new) }
         ensures serves { IfOk result (λ turn. (aim : Aim) → Serves aim job → TurnServes aim turn) }
-        ensures falls { IfOk result (λ turn. Falls (own_of self.old.llc) job idle turn (own_of self.new.llc)) }
+        ensures falls { IfOk result (λ turn. Falls (one_job self.old.llc job idle) turn self.new.llc) }
         ensures going { OnOk result (self.new.spent ≡ false) }
         ensures err { IfErr result (λ e. IsCut C.seen C.moves A.steps A.stops
             (ready (record { llc = self.old.llc; jobs = alone job; idle = idle })).llc

@@ -7,7 +7,7 @@ ghost use Rattle.std.specs.Fmt.{decimal};
 ghost use Rattle.bench_script.specs.Script.{words_of, SpellsHex, SpellsIdent, SpellsIdV, SpellsId, SpellsWithin, SpellsSize, SpellsCode, SpellsBlock, fate_letter, SpellsFates, SpellsCounted, SpellsMsg};
 ghost use Rattle.bench_script.specs.declared.command.DeviceId.{DeviceId as Named};
 ghost use Rattle.bench_script.specs.declared.script.words.CommandName.{CommandName as Names};
-ghost use Rattle.bench_script.specs.Words.{CutsWord, Finds, AreThree, AreFour, NotOne, NotTwo, NotThree, NotFour, HasNoColon, IsCutAtColon, SpellsNoCount, name_text};
+ghost use Rattle.bench_script.specs.Words.{CutsWord, Finds, AreThree, AreFour, AreFive, NotOne, NotTwo, NotThree, NotFour, NotFive, HasNoColon, IsCutAtColon, SpellsNoCount, name_text};
 
 use crate::command::DeviceId;
 use crate::message::Msg;
@@ -30,8 +30,10 @@ pub enum CommandName {
     Place,
     Lock,
     Busy,
+    Offer,
     Remove,
     Dump,
+    Inbox,
     Read,
     Write,
 }
@@ -45,8 +47,10 @@ pub fn name_of(word: &[u8]) -> Option<CommandName>
         b"place" => Some(CommandName::Place),
         b"lock" => Some(CommandName::Lock),
         b"busy" => Some(CommandName::Busy),
+        b"offer" => Some(CommandName::Offer),
         b"remove" => Some(CommandName::Remove),
         b"dump" => Some(CommandName::Dump),
+        b"inbox" => Some(CommandName::Inbox),
         b"read" => Some(CommandName::Read),
         b"write" => Some(CommandName::Write),
         _ => None,
@@ -85,6 +89,16 @@ pub fn two_words(text: &[u8]) -> Option<(&[u8], &[u8])>
 {
     let (first, rest) = cut_word(text);
     Some((first, only_word(rest?)?))
+}
+
+/// The words of a text of five.
+#[tactic(auto, using(crate::proofs::Words::words_not_nil))]
+pub fn five_words(text: &[u8]) -> Option<(&[u8], &[u8], &[u8], &[u8], &[u8])>
+    ensures { MatchOption result (NotFive (words_of text.now)) (AreFive (words_of text.now)) }
+{
+    let (first, rest) = cut_word(text);
+    let (second, third, fourth, fifth) = four_words(rest?)?;
+    Some((first, second, third, fourth, fifth))
 }
 
 /// The words of a text of four.
@@ -190,7 +204,12 @@ fn number_word(alloc: Global, word: &[u8]) -> Result<Option<u32>, AllocError>
 
 /// The number between two limits that a word spells, if it does.
 #[tactic(auto, using(std::proofs::lemmas::Fmt::decimal_injective))]
-fn long_word(alloc: Global, word: &[u8], least: u32, most: u32) -> Result<Option<u32>, AllocError>
+pub fn long_word(
+    alloc: Global,
+    word: &[u8],
+    least: u32,
+    most: u32,
+) -> Result<Option<u32>, AllocError>
     ensures { IfOk result (Finds (SpellsWithin least most word.now)) }
 {
     match number_word(alloc, word)? {

@@ -8,7 +8,7 @@ use Rattle.bench_devices.proofs.writing.write_plain.Goals as goal
 
 pub on-link-requires : goal.on-link-requires
 on-link-requires c =
-    record { tag = has_tag c.args.field.now c.args.place c.requires.0 c.requires.1 (subst IsPlainHow c.requires.2 c.requires.3) }
+    record { tag = has_tag c.args.field.now c.args.place c.requires.0 c.requires.1 (subst IsPlainHow c.requires.2 c.requires.3, c.requires.4) }
 
 pub returns-clause-tells : goal.returns-clause-tells
 returns-clause-tells c =

@@ -1,12 +1,14 @@
-use Rattle.std.proofs.Common.{◌≡◌, Some, subst, inl}
+use Rattle.std.proofs.Common.{◌≡◌, true, false, Some, sym, ◌∙◌, ap, subst, inl}
 use Rattle.std.specs.Prelude.{Err}
 use Rattle.air_core.specs.Turn.{moment}
 use Rattle.bench_script.specs.declared.command.Command.TheVariants.{Read}
 use Rattle.bench_devices.specs.declared.polling.Selection.{Selection}
 use Rattle.bench_devices.specs.Phases.{Selects, SelectsAt, SelectsTo}
 use Rattle.bench_world.specs.Answering.{poll_answer, told_by}
-use Rattle.bench_world.specs.Obeying.{Obeyed}
-use Rattle.bench_world.proofs.Legality.{read_obeyed, missed_obeyed, read_cut, read_part, selection_cut, missed_part}
+use Rattle.bench_world.specs.Obeying.{ObeyedBelow}
+use Rattle.bench_devices.specs.Device.{is_tag}
+use Rattle.bench_world.proofs.SelectedPlace.{looked_at}
+use Rattle.bench_world.proofs.Legality.{peer_obeyed, read_obeyed, missed_obeyed, read_cut, read_part, selection_cut, missed_part}
 use Rattle.bench_world.proofs.Telling.{poll_told, may_end, fed_by}
 use Rattle.bench_world.proofs.Outcomes.{if_ok, on_err}
 use Rattle.bench_world.proofs.asking.select_and_read.Goals as goal
@@ -15,7 +17,9 @@ pub read-requires : goal.read-requires
 read-requires c =
     let S : Selection → Type 0 = λ s. SelectsTo c.args.id.now s (moment c.args.field.now) (moment c.select.new.field) in
     let s : SelectsAt c.args.id.now c.in-Place.place (moment c.args.field.now) (moment c.select.new.field) = subst S c.in-Place.is c.in_ok-place.ensures.ok in
-    (s.device, s.stands)
+    let found = looked_at c.select.new.field c.in-Place.place s.device s.stands c.listeners.result.now c.index-listeners-place.result c.listeners.ensures c.index-listeners-place.is in
+    let tag : is_tag s.device ≡ true = sym (ap is_tag found) ∙ sym c.is_tag.ensures ∙ c.if-is_tag.true in
+    (s.device, s.stands, tag)
 
 pub told-requires : goal.told-requires
 told-requires c =
@@ -27,9 +31,11 @@ pub returns-in-Place-clause-ok : goal.returns-in-Place-clause-ok
 returns-in-Place-clause-ok c =
     let S : Selection → Type 0 = λ s. SelectsTo c.args.id.now s (moment c.args.field.now) (moment c.select.new.field) in
     let s : SelectsAt c.args.id.now c.in-Place.place (moment c.args.field.now) (moment c.select.new.field) = subst S c.in-Place.is c.in_ok-place.ensures.ok in
+    let found = looked_at c.select.new.field c.in-Place.place s.device s.stands c.listeners.result.now c.index-listeners-place.result c.listeners.ensures c.index-listeners-place.is in
+    let tag : is_tag s.device ≡ true = sym (ap is_tag found) ∙ sym c.is_tag.ensures ∙ c.if-is_tag.true in
     if_ok c.told.result (λ answer. told_by c.read.result ≡ Some answer)
-    (λ answer. Obeyed c.args.field.now c.read.new.field (Read c.args.id.now) answer)
-    (λ answer told. read_obeyed c.args.field.now c.select.new.field c.read.new.field c.args.id.now c.in-Place.place c.read.result answer told c.requires s
+    (λ answer. ObeyedBelow c.args.field.now c.read.new.field (Read c.args.id.now) answer)
+    (λ answer told. read_obeyed c.args.field.now c.select.new.field c.read.new.field c.args.id.now c.in-Place.place c.read.result answer told c.requires s tag
     (c.read.ensures.tells (fed_by c.read.result answer told) s.device s.stands)) c.told.ensures
 
 pub missed-requires : goal.missed-requires
@@ -43,14 +49,16 @@ returns-in-Missed-clause-ok c =
     let S : Selection → Type 0 = λ s. SelectsTo c.args.id.now s (moment c.args.field.now) (moment c.select.new.field) in
     let s : Selects c.args.id.now (Err c.in-Missed.fault) (moment c.args.field.now) (moment c.select.new.field) = subst S c.in-Missed.is c.in_ok-place.ensures.ok in
     if_ok c.missed.result (λ answer. poll_answer c.in-Missed.fault ≡ Some answer)
-    (λ answer. Obeyed c.args.field.now c.select.new.field (Read c.args.id.now) answer)
+    (λ answer. ObeyedBelow c.args.field.now c.select.new.field (Read c.args.id.now) answer)
     (λ answer is. missed_obeyed c.args.field.now c.select.new.field c.args.id.now c.in-Missed.fault answer c.requires s is) c.missed.ensures
 
 pub returns-in-Place-clause-cut : goal.returns-in-Place-clause-cut
 returns-in-Place-clause-cut c =
     let S : Selection → Type 0 = λ s. SelectsTo c.args.id.now s (moment c.args.field.now) (moment c.select.new.field) in
     let s : SelectsAt c.args.id.now c.in-Place.place (moment c.args.field.now) (moment c.select.new.field) = subst S c.in-Place.is c.in_ok-place.ensures.ok in
-    on_err c.told.result (read_cut c.args.field.now c.select.new.field c.args.id.now c.in-Place.place c.requires s c.read.new.field
+    let found = looked_at c.select.new.field c.in-Place.place s.device s.stands c.listeners.result.now c.index-listeners-place.result c.listeners.ensures c.index-listeners-place.is in
+    let tag : is_tag s.device ≡ true = sym (ap is_tag found) ∙ sym c.is_tag.ensures ∙ c.if-is_tag.true in
+    on_err c.told.result (read_cut c.args.field.now c.select.new.field c.args.id.now c.in-Place.place c.requires s c.read.new.field tag
     (read_part (moment c.select.new.field) (moment c.read.new.field) c.in-Place.place s.device c.read.result s.stands c.read.ensures.tells c.read.ensures.cut))
 
 pub returns-in-Missed-clause-cut : goal.returns-in-Missed-clause-cut
@@ -62,3 +70,11 @@ returns-in-Missed-clause-cut c =
 
 pub returns-in_err-place-clause-cut : goal.returns-in_err-place-clause-cut
 returns-in_err-place-clause-cut c = on_err c.from_residual.result (selection_cut c.args.field.now c.select.new.field c.args.id.now c.requires c.in_err-place.ensures.cut)
+
+pub returns-in-Place-2-clause-ok : goal.returns-in-Place-2-clause-ok
+returns-in-Place-2-clause-ok c =
+    let S : Selection → Type 0 = λ s. SelectsTo c.args.id.now s (moment c.args.field.now) (moment c.select.new.field) in
+    let s : SelectsAt c.args.id.now c.in-Place.place (moment c.args.field.now) (moment c.select.new.field) = subst S c.in-Place.is c.in_ok-place.ensures.ok in
+    let found = looked_at c.select.new.field c.in-Place.place s.device s.stands c.listeners.result.now c.index-listeners-place.result c.listeners.ensures c.index-listeners-place.is in
+    let peer : is_tag s.device ≡ false = sym (ap is_tag found) ∙ sym c.is_tag.ensures ∙ c.if-is_tag.false in
+    peer_obeyed c.args.field.now c.select.new.field c.args.id.now c.in-Place.place c.requires s peer

@@ -1,4 +1,4 @@
-use Rattle.std.proofs.Common.{◌≡◌, ℕ, List, Some, ◌∙◌, subst}
+use Rattle.std.proofs.Common.{◌≡◌, ℕ, List, true, false, Some, sym, ◌∙◌, ap, subst}
 use Rattle.std.specs.Prelude.{Err}
 use Rattle.air_core.specs.Turn.{moment}
 use Rattle.bench_script.specs.declared.command.Command.TheVariants.{Write}
@@ -6,8 +6,10 @@ use Rattle.bench_script.specs.Messages.{message_of}
 use Rattle.bench_devices.specs.declared.polling.Selection.{Selection}
 use Rattle.bench_devices.specs.Phases.{Selects, SelectsAt, SelectsTo, WritesAt, CutAtWrite}
 use Rattle.bench_world.specs.Answering.{poll_answer, written_by}
-use Rattle.bench_world.specs.Obeying.{Obeyed}
-use Rattle.bench_world.proofs.WriteLegality.{write_obeyed, missed_write, write_cut, write_part, selection_cut_write}
+use Rattle.bench_world.specs.Obeying.{ObeyedBelow}
+use Rattle.bench_devices.specs.Device.{is_tag}
+use Rattle.bench_world.proofs.SelectedPlace.{looked_at}
+use Rattle.bench_world.proofs.WriteLegality.{peer_write, write_obeyed, missed_write, write_cut, write_part, selection_cut_write}
 use Rattle.bench_world.proofs.WriteTelling.{may_write, write_fed}
 use Rattle.bench_world.proofs.Legality.{missed_part}
 use Rattle.bench_world.proofs.Outcomes.{if_ok, on_err}
@@ -17,7 +19,9 @@ pub write-requires : goal.write-requires
 write-requires c =
     let S : Selection → Type 0 = λ s. SelectsTo c.args.id.now s (moment c.args.field.now) (moment c.select.new.field) in
     let s : SelectsAt c.args.id.now c.in-Place.place (moment c.args.field.now) (moment c.select.new.field) = subst S c.in-Place.is c.in_ok-place.ensures.ok in
-    (s.device, s.stands)
+    let found = looked_at c.select.new.field c.in-Place.place s.device s.stands c.listeners.result.now c.index-listeners-place.result c.listeners.ensures c.index-listeners-place.is in
+    let tag : is_tag s.device ≡ true = sym (ap is_tag found) ∙ sym c.is_tag.ensures ∙ c.if-is_tag.true in
+    (s.device, s.stands, tag)
 
 pub written-requires : goal.written-requires
 written-requires c =
@@ -31,9 +35,11 @@ returns-in-Place-clause-ok c =
     let s : SelectsAt c.args.id.now c.in-Place.place (moment c.args.field.now) (moment c.select.new.field) = subst S c.in-Place.is c.in_ok-place.ensures.ok in
     let W : List ℕ → Type 0 = λ bytes. WritesAt (moment c.select.new.field) (moment c.write.new.field) c.in-Place.place bytes c.write.result in
     let tells : W (message_of c.args.message.now) = subst W (c.deref.ensures.value ∙ c.in_ok-bytes.ensures) c.write.ensures.tells in
+    let found = looked_at c.select.new.field c.in-Place.place s.device s.stands c.listeners.result.now c.index-listeners-place.result c.listeners.ensures c.index-listeners-place.is in
+    let tag : is_tag s.device ≡ true = sym (ap is_tag found) ∙ sym c.is_tag.ensures ∙ c.if-is_tag.true in
     if_ok c.written.result (λ answer. written_by c.write.result ≡ Some answer)
-    (λ answer. Obeyed c.args.field.now c.write.new.field (Write c.args.id.now c.args.message.now) answer)
-    (λ answer told. write_obeyed c.args.field.now c.select.new.field c.args.id.now c.args.message.now c.in-Place.place c.requires s c.write.new.field c.write.result answer told
+    (λ answer. ObeyedBelow c.args.field.now c.write.new.field (Write c.args.id.now c.args.message.now) answer)
+    (λ answer told. write_obeyed c.args.field.now c.select.new.field c.args.id.now c.args.message.now c.in-Place.place c.requires s c.write.new.field c.write.result answer told tag
     (tells (write_fed c.write.result answer told) s.device s.stands)) c.written.ensures
 
 pub returns-in-Place-clause-cut : goal.returns-in-Place-clause-cut
@@ -44,7 +50,9 @@ returns-in-Place-clause-cut c =
     let C : List ℕ → Type 0 = λ bytes. CutAtWrite (moment c.select.new.field) (moment c.write.new.field) c.in-Place.place bytes c.write.result in
     let tells : W (message_of c.args.message.now) = subst W (c.deref.ensures.value ∙ c.in_ok-bytes.ensures) c.write.ensures.tells in
     let cut : C (message_of c.args.message.now) = subst C (c.deref.ensures.value ∙ c.in_ok-bytes.ensures) c.write.ensures.cut in
-    on_err c.written.result (write_cut c.args.field.now c.select.new.field c.args.id.now c.args.message.now c.in-Place.place c.requires s c.write.new.field
+    let found = looked_at c.select.new.field c.in-Place.place s.device s.stands c.listeners.result.now c.index-listeners-place.result c.listeners.ensures c.index-listeners-place.is in
+    let tag : is_tag s.device ≡ true = sym (ap is_tag found) ∙ sym c.is_tag.ensures ∙ c.if-is_tag.true in
+    on_err c.written.result (write_cut c.args.field.now c.select.new.field c.args.id.now c.args.message.now c.in-Place.place c.requires s c.write.new.field tag
     (write_part (moment c.select.new.field) (moment c.write.new.field) c.in-Place.place s.device (message_of c.args.message.now) c.write.result s.stands tells cut))
 
 pub returns-clause-ok : goal.returns-clause-ok
@@ -52,7 +60,7 @@ returns-clause-ok c =
     let S : Selection → Type 0 = λ s. SelectsTo c.args.id.now s (moment c.args.field.now) (moment c.select.new.field) in
     let s : Selects c.args.id.now (Err c.in-Missed.fault) (moment c.args.field.now) (moment c.select.new.field) = subst S c.in-Missed.is c.in_ok-place.ensures.ok in
     if_ok c.missed.result (λ answer. poll_answer c.in-Missed.fault ≡ Some answer)
-    (λ answer. Obeyed c.args.field.now c.select.new.field (Write c.args.id.now c.args.message.now) answer)
+    (λ answer. ObeyedBelow c.args.field.now c.select.new.field (Write c.args.id.now c.args.message.now) answer)
     (λ answer is. missed_write c.args.field.now c.select.new.field c.args.id.now c.args.message.now c.in-Missed.fault answer c.requires s is) c.missed.ensures
 
 pub returns-clause-cut : goal.returns-clause-cut
@@ -65,3 +73,11 @@ returns-clause-cut c =
 pub returns-in_err-place-clause-cut : goal.returns-in_err-place-clause-cut
 returns-in_err-place-clause-cut c =
     on_err c.from_residual-in_err-place.result (selection_cut_write c.args.field.now c.select.new.field c.args.id.now c.args.message.now c.requires c.in_err-place.ensures.cut)
+
+pub returns-in-Place-2-clause-ok : goal.returns-in-Place-2-clause-ok
+returns-in-Place-2-clause-ok c =
+    let S : Selection → Type 0 = λ s. SelectsTo c.args.id.now s (moment c.args.field.now) (moment c.select.new.field) in
+    let s : SelectsAt c.args.id.now c.in-Place.place (moment c.args.field.now) (moment c.select.new.field) = subst S c.in-Place.is c.in_ok-place.ensures.ok in
+    let found = looked_at c.select.new.field c.in-Place.place s.device s.stands c.listeners.result.now c.index-listeners-place.result c.listeners.ensures c.index-listeners-place.is in
+    let peer : is_tag s.device ≡ false = sym (ap is_tag found) ∙ sym c.is_tag.ensures ∙ c.if-is_tag.false in
+    peer_write c.args.field.now c.select.new.field c.args.id.now c.args.message.now c.in-Place.place c.requires s peer

@@ -1,5 +1,4 @@
 use Rattle.std.proofs.Common.{◌≡◌, ℕ, ◌*◌, List, rules, ◌∙◌, ap}
-use Rattle.air_core.specs.Turn.{Air}
 use Rattle.nfca_poll.specs.Ident.{IsIdent}
 use Rattle.nfca_poll.specs.Front.{Off}
 use Rattle.nfca_poll.specs.Fronted.{Fronted}
@@ -8,13 +7,13 @@ use Rattle.bench_devices.specs.declared.device.Device.{Device}
 use Rattle.bench_devices.specs.declared.device.Device.TheVariants.{T2}
 use Rattle.bench_devices.specs.Device.{device_darkened}
 use Rattle.bench_world.specs.Legal.{MayPlaceT2, memory_of}
-use Rattle.bench_world.specs.Obeying.{state_at}
-use Rattle.bench_world.proofs.Placed.{more_by, t2_placed}
+use Rattle.bench_world.specs.Obeying.{Machines, state_at}
+use Rattle.bench_world.proofs.Placed.{one_more, t2_placed}
 use Rattle.bench_world.proofs.bench.place_t2.Goals as goal
 
 pub returns-in-Ok-put_in-clause-ok : goal.returns-in-Ok-put_in-clause-ok
 returns-in-Ok-put_in-clause-ok c =
-    let old : Air Device = c.args.field.now in
+    let old : Machines = c.args.machines.now in
     let store : List ℕ = memory_of (4 * c.args.blocks) c.args.head.now in
     let held : c.new-2.result ≡ unlocked store = c.new-2.ensures ∙ c.in-Ok-new.ensures.ok ∙ ap unlocked c.in-Ok.ensures in
     let placed : Fronted T2Memory → Device = λ d. T2 d in
@@ -27,4 +26,4 @@ returns-in-Ok-put_in-clause-ok c =
     } in
     let ident : IsIdent c.args.id.now = search rules in
     t2_placed old c.put_in.new.self c.args.id.now c.args.blocks c.args.head.now c.requires ident may
-    (c.in-Ok-put_in.ensures.ok.1 ∙ ap (λ d. more_by old (device_darkened (T2 d))) front)
+    (c.in-Ok-put_in.ensures.ok ∙ ap (λ d. one_more old (device_darkened (T2 d))) front)

@@ -1,21 +1,19 @@
 use Rattle.std.proofs.Common.{◌≡◌, ℕ, List, rules, false, ◌∙◌, ap}
-use Rattle.air_core.specs.Turn.{Air}
 use Rattle.nfca_poll.specs.Ident.{IsIdent}
 use Rattle.nfca_poll.specs.Front.{Off}
 use Rattle.t4t_tag.specs.Store.{T4State, file_size, fresh}
 use Rattle.isodep_link.specs.Card as ends
 use Rattle.bench_devices.specs.Cards.{T4Near}
-use Rattle.bench_devices.specs.declared.device.Device.{Device}
 use Rattle.bench_devices.specs.declared.device.Device.TheVariants.{T4}
 use Rattle.bench_devices.specs.Device.{device_darkened}
 use Rattle.bench_world.specs.Legal.{MayPlaceT4, memory_of}
-use Rattle.bench_world.specs.Obeying.{state_at}
-use Rattle.bench_world.proofs.Placed.{more_by, t4_placed}
+use Rattle.bench_world.specs.Obeying.{Machines, state_at}
+use Rattle.bench_world.proofs.Placed.{one_more, t4_placed}
 use Rattle.bench_world.proofs.bench.place_t4.Goals as goal
 
 pub returns-in-Ok-put_in-clause-ok : goal.returns-in-Ok-put_in-clause-ok
 returns-in-Ok-put_in-clause-ok c =
-    let old : Air Device = c.args.field.now in
+    let old : Machines = c.args.machines.now in
     let container : List ℕ = c.args.container.now in
     let file : List ℕ = memory_of (file_size container) c.args.head.now in
     let held : c.in-Ok-memory.file.items ≡ file = c.in-Ok-memory.ensures ∙ ap (λ n. memory_of n c.args.head.now) c.in-Some.ensures in
@@ -32,4 +30,4 @@ returns-in-Ok-put_in-clause-ok c =
     } in
     let ident : IsIdent c.args.id.now = search rules in
     t4_placed old c.put_in.new.self c.args.id.now c.args.code container c.args.head.now c.requires ident may
-    (c.in-Ok-put_in.ensures.ok.1 ∙ ap (λ d. more_by old (device_darkened (T4 d))) front)
+    (c.in-Ok-put_in.ensures.ok ∙ ap (λ d. one_more old (device_darkened (T4 d))) front)

@@ -1,19 +1,18 @@
 use Rattle.std.proofs.Common.{ℕ, List, rules, subst}
-use Rattle.air_core.specs.Turn.{Air}
 use Rattle.bench_devices.specs.declared.device.Device.{Device}
 use Rattle.bench_devices.specs.Choosing.{StandsAt}
 use Rattle.bench_world.specs.Legal.{IsPlaced}
-use Rattle.bench_world.specs.Obeying.{state_at}
+use Rattle.bench_world.specs.Obeying.{Machines, state_at}
 use Rattle.bench_script.specs.DeviceIds.{bytes_of}
 use Rattle.bench_world.proofs.Removing.{removed}
 use Rattle.bench_world.proofs.bench.remove_device.Goals as goal
 
 pub returns-clause-ok : goal.returns-clause-ok
 returns-clause-ok c =
-    let old : Air Device = c.args.field.now in
+    let old : Machines = c.args.machines.now in
     let place : ℕ = c.place_of-place.result in
-    let P : List ℕ → Type 0 = λ id. StandsAt id c.listeners-2.result.now place in
+    let P : List ℕ → Type 0 = λ id. StandsAt id c.devices-2.result.now place in
     let Q : List Device → Type 0 = λ ls. StandsAt (bytes_of c.args.id.now) ls place in
-    let stands : StandsAt (bytes_of c.args.id.now) old.listeners place = subst Q c.listeners-2.ensures (subst P c.bytes-bytes.ensures c.place_of-place.ensures) in
+    let stands : StandsAt (bytes_of c.args.id.now) old.air.listeners place = subst Q c.devices-2.ensures (subst P c.bytes-bytes.ensures c.place_of-place.ensures) in
     let placed : IsPlaced (state_at old) c.args.id.now = search rules in
-    removed old c.take_out.new.self c.args.id.now place c.requires placed stands c.take_out.ensures.left
+    removed old c.take_out.new.self c.args.id.now place c.requires placed stands c.take_out.ensures

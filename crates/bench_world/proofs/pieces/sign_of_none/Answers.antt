@@ -1,4 +1,4 @@
-use Rattle.std.proofs.Common.{◌≡◌, [], ◌∷◌, length, arith}
+use Rattle.std.proofs.Common.{◌≡◌, [], arith}
 use Rattle.std.proofs.lemmas.Grind.{common_steps}
 use Rattle.bench_world.proofs.Joined.{empty_is, dash_parts}
 use Rattle.bench_world.proofs.pieces.sign_of_none.Goals as goal

@@ -1,4 +1,4 @@
-use Rattle.std.proofs.Common.{◌≡◌, ◌++◌, [], ◌∷◌, ℕ, List, ◌∙◌, ap}
+use Rattle.std.proofs.Common.{◌++◌, [], ◌∷◌, ℕ, List, ◌∙◌, ap}
 use Rattle.std.specs.Fmt.{decimal}
 use Rattle.hex.specs.Hex.{encode_upper}
 use Rattle.bench_script.specs.Canonical.{hex_text}

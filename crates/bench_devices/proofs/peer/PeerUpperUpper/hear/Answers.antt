@@ -3,7 +3,6 @@ use Rattle.std.specs.Prelude.{IfOk, OnErr}
 use Rattle.std.proofs.lemmas.Result.{IfOk-weaker, on_err_weaker}
 use Rattle.nfc_base.specs.Signal.{Signal}
 use Rattle.nfca_poll.specs.Upper.{UpperStep}
-use Rattle.air_core.specs.Listening.{Stop}
 use Rattle.dep_link.specs.Target.{TargetState, target_table}
 use Rattle.bench_devices.specs.Peers.{PeerNear, takes_frame, peer_machine, Handles, Halts}
 use Rattle.bench_devices.specs.PeerUpper.{taken_step, taken_stop}

@@ -8,38 +8,21 @@ pub returns-then-not-taken-clause-ok : goal.returns-then-not-taken-clause-ok
 returns-then-not-taken-clause-ok c =
     let e : miu_of (standing_of (own_of c.args.self.now.llc)) ≡ Some c.in-Some.miu = search rules in
     ap (λ o. begins_on c.args.self.now.llc client_sap c.args.most c.args.bytes o) e
-    ∙ (begin_not c.in-Some.miu c.args.most c.args.self.now.llc c.offer_front.new.self.llc c.args.bytes c.offer_front.new.bytes c.in_ok-taken.taken
-    c.in_ok-taken.ensures.ok c.in_ok-taken.ensures.rest c.if-not-taken.true).0
-
-pub returns-then-not-taken-clause-left : goal.returns-then-not-taken-clause-left
-returns-then-not-taken-clause-left c =
-    (begin_not c.in-Some.miu c.args.most c.args.self.now.llc c.offer_front.new.self.llc c.args.bytes c.offer_front.new.bytes c.in_ok-taken.taken
-    c.in_ok-taken.ensures.ok c.in_ok-taken.ensures.rest c.if-not-taken.true).1
+    ∙ begin_not c.in-Some.miu c.args.most c.args.self.now.llc c.offer_front.new.self.llc c.args.bytes c.offer_front.new.bytes c.in_ok-taken.taken
+    c.in_ok-taken.ensures.ok c.in_ok-taken.ensures.rest c.if-not-taken.true
 
 pub returns-then-is_empty-clause-ok : goal.returns-then-is_empty-clause-ok
 returns-then-is_empty-clause-ok c =
     let e : miu_of (standing_of (own_of c.args.self.now.llc)) ≡ Some c.in-Some.miu = search rules in
     let none : length c.offer_front.new.bytes ≡ 0 = search rules in
     ap (λ o. begins_on c.args.self.now.llc client_sap c.args.most c.args.bytes o) e
-    ∙ (begin_whole c.in-Some.miu c.args.most c.args.self.now.llc c.offer_front.new.self.llc c.args.bytes c.offer_front.new.bytes c.in_ok-taken.taken
-    c.in_ok-taken.ensures.ok c.in_ok-taken.ensures.rest c.if-not-taken.false none).0
-
-pub returns-then-is_empty-clause-left : goal.returns-then-is_empty-clause-left
-returns-then-is_empty-clause-left c =
-    let none : length c.offer_front.new.bytes ≡ 0 = search rules in
-    (begin_whole c.in-Some.miu c.args.most c.args.self.now.llc c.offer_front.new.self.llc c.args.bytes c.offer_front.new.bytes c.in_ok-taken.taken
-    c.in_ok-taken.ensures.ok c.in_ok-taken.ensures.rest c.if-not-taken.false none).1
+    ∙ begin_whole c.in-Some.miu c.args.most c.args.self.now.llc c.offer_front.new.self.llc c.args.bytes c.offer_front.new.bytes c.in_ok-taken.taken
+    c.in_ok-taken.ensures.ok c.in_ok-taken.ensures.rest c.if-not-taken.false none
 
 pub returns-clause-ok : goal.returns-clause-ok
 returns-clause-ok c =
     let e : miu_of (standing_of (own_of c.args.self.now.llc)) ≡ Some c.in-Some.miu = search rules in
     let some : 0 < length c.offer_front.new.bytes = search rules in
     ap (λ o. begins_on c.args.self.now.llc client_sap c.args.most c.args.bytes o) e
-    ∙ (begin_part c.in-Some.miu c.args.most c.args.self.now.llc c.offer_front.new.self.llc c.args.bytes c.offer_front.new.bytes c.in_ok-taken.taken
-    c.in_ok-taken.ensures.ok c.in_ok-taken.ensures.rest c.if-not-taken.false c.in-Some.ensures.some some).0
-
-pub returns-clause-left : goal.returns-clause-left
-returns-clause-left c =
-    let some : 0 < length c.offer_front.new.bytes = search rules in
-    (begin_part c.in-Some.miu c.args.most c.args.self.now.llc c.offer_front.new.self.llc c.args.bytes c.offer_front.new.bytes c.in_ok-taken.taken
-    c.in_ok-taken.ensures.ok c.in_ok-taken.ensures.rest c.if-not-taken.false c.in-Some.ensures.some some).1
+    ∙ begin_part c.in-Some.miu c.args.most c.args.self.now.llc c.offer_front.new.self.llc c.args.bytes c.offer_front.new.bytes c.in_ok-taken.taken
+    c.in_ok-taken.ensures.ok c.in_ok-taken.ensures.rest c.if-not-taken.false some

@@ -2,7 +2,7 @@ use Rattle.std.proofs.Common.{arith, refl, subst, ◌∙◌, inl}
 use Rattle.snep_core.specs.declared.job.Turn.{Turn}
 use Rattle.snep_core.specs.declared.job.Turn.TheVariants.{Ended, Went, GaveUp}
 use Rattle.snep_core.specs.Calling.{Turned}
-use Rattle.snep_core.specs.Talk.{Working, alone, begun, own_of}
+use Rattle.snep_core.specs.Talk.{Working, alone, begun}
 use Rattle.snep_core.specs.Waning.{Falls, TurnServes, aim_of}
 use Rattle.snep_core.proofs.Jobs.{serves_own}
 use Rattle.snep_core.proofs.Talking.{talks_none, talks_on}
@@ -57,8 +57,8 @@ turns-preserved g c =
     let turned =
     subst (λ (t : Turn). Turned g.C.Carrier.seen g.C.Carrier.moves g.A.Answerer.steps g.A.Answerer.stops w c.turns.carrier c.turns.far t new
     c.turn.new.carrier c.turn.new.far) c.in-Ok-Went.field-0-is c.in-Ok-Went.ensures.ok in
-    let falls : Falls (own_of c.turns.self.llc) c.turns.job c.turns.idle (Went c.in-Ok-Went.next c.in-Ok-Went.replies) (own_of new) =
-    subst (λ (t : Turn). Falls (own_of c.turns.self.llc) c.turns.job c.turns.idle t (own_of new)) c.in-Ok-Went.field-0-is c.in-Ok-Went.ensures.falls in record {
+    let falls : Falls w (Went c.in-Ok-Went.next c.in-Ok-Went.replies) new =
+    subst (λ (t : Turn). Falls w t new) c.in-Ok-Went.field-0-is c.in-Ok-Went.ensures.falls in record {
       idle = falls.0;
       spent = c.in-Ok-Went.ensures.going;
       ready = c.in-Ok-Went.ensures.ready;

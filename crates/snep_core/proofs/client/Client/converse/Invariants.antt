@@ -1,7 +1,8 @@
 use Rattle.std.proofs.Common.{◌≡◌, ◌<◌, false}
 use Rattle.snep_core.specs.Calling.{Talks}
-use Rattle.snep_core.specs.Talk.{Goes, alone, begun, most_idle, own_of}
-use Rattle.snep_core.specs.Waning.{Aim, Serves, replies_left}
+use Rattle.snep_core.specs.Talk.{Goes, alone, begun, most_idle}
+use Rattle.snep_core.specs.RepliesLeft.{replies_left}
+use Rattle.snep_core.specs.Waning.{Aim, Serves, one_job}
 use Rattle.snep_core.proofs.client.Client.converse.Given as goal
 
 abbrev pub invariant-turns : goal.invariant-turns
@@ -16,4 +17,4 @@ invariant-turns g l = record {
 }
 
 abbrev pub decreases-turns : goal.decreases-turns
-decreases-turns g l = replies_left (own_of l.self.llc) l.job l.idle
+decreases-turns g l = replies_left (one_job l.self.llc l.job l.idle)

@@ -1,7 +1,9 @@
-use Rattle.std.proofs.Common.{rules, ◌≡◌, List, ℕ, Some, refl, subst, inl, inr}
+use Rattle.std.proofs.Common.{rules, ◌≡◌, ◌<◌, ◌^◌, false, List, ℕ, Some, refl, sym, subst, inl, inr}
+use Rattle.snep_core.specs.Accord.{GetFails}
 use Rattle.snep_core.specs.Calling.{FailsBy, Talks}
 use Rattle.snep_core.specs.Jobs.{Begins, Ending, Over, Refused, Value}
 use Rattle.snep_core.specs.Talk.{Ends, Gets, alone, begins, begun, client_sap, connected, get_bytes}
+use Rattle.snep_core.proofs.GetEnds.{get_fails, get_got}
 use Rattle.snep_core.proofs.Talking.{talks_none}
 use Rattle.snep_core.proofs.client.Client.get.Goals as goal
 
@@ -57,3 +59,30 @@ returns-in-Ok-Refused-clause-err g c =
           (begun (connected c.args.self.now.llc client_sap) (Begins (Some c.args.acceptable) b)) c.args.carrier.now c.args.far.now
           (Ends (alone (Over (Refused c.in-Ok-Refused.refusal))) c.ask.new.self.llc) c.ask.new.carrier c.ask.new.far) e t;
     })
+
+pub returns-in-Err-clause-fails : goal.returns-in-Err-clause-fails
+returns-in-Err-clause-fails g c = λ view peer a.
+    subst (λ f. GetFails c.args.acceptable c.args.key.now (view c.args.far.now) f c.spend.new.self.llc (view c.args.far.now)) (sym c.spend.ensures.fault) refl
+
+pub returns-in-Err-ask-clause-fails : goal.returns-in-Err-ask-clause-fails
+returns-in-Err-ask-clause-fails g c = λ view peer a.
+    let going : c.args.self.now.spent ≡ false = search rules in
+    let small : c.args.acceptable < 2 ^ 32 = search rules in
+    get_fails g.C.Carrier.seen g.C.Carrier.moves g.A.Answerer.steps g.A.Answerer.stops view peer c.args.acceptable small c.args.key.now c.requires.key
+    c.args.self.now.llc c.args.carrier.now c.args.far.now a c.in-Err-ask.fault c.ask.new.self.llc c.ask.new.carrier c.ask.new.far
+    (returns-in-Err-ask-clause-err g c going)
+
+pub returns-in-Ok-Value-clause-value : goal.returns-in-Ok-Value-clause-value
+returns-in-Ok-Value-clause-value g c = λ view peer a.
+    let small : c.args.acceptable < 2 ^ 32 = search rules in
+    get_got g.C.Carrier.seen g.C.Carrier.moves g.A.Answerer.steps g.A.Answerer.stops view peer c.args.acceptable small c.args.key.now c.requires.key
+    c.args.self.now.llc c.args.carrier.now c.args.far.now a c.into_vec.result.items c.ask.new.self.llc c.ask.new.carrier c.ask.new.far
+    (returns-in-Ok-Value-clause-ok g c)
+
+pub returns-in-Ok-Refused-clause-fails : goal.returns-in-Ok-Refused-clause-fails
+returns-in-Ok-Refused-clause-fails g c = λ view peer a.
+    let going : c.args.self.now.spent ≡ false = search rules in
+    let small : c.args.acceptable < 2 ^ 32 = search rules in
+    get_fails g.C.Carrier.seen g.C.Carrier.moves g.A.Answerer.steps g.A.Answerer.stops view peer c.args.acceptable small c.args.key.now c.requires.key
+    c.args.self.now.llc c.args.carrier.now c.args.far.now a c.fault.result c.ask.new.self.llc c.ask.new.carrier c.ask.new.far
+    (returns-in-Ok-Refused-clause-err g c going)

@@ -1,6 +1,5 @@
-use Rattle.std.proofs.Common.{◌≡◌, ◌<◌, ap, ◌∙◌, arith, length, rules, Some}
+use Rattle.std.proofs.Common.{◌≡◌, ◌<◌, ap, ◌∙◌, length, rules, Some}
 use Rattle.llcp_link.specs.Asking.{standing_of}
-use Rattle.llcp_link.specs.Waning.{pending}
 use Rattle.snep_core.specs.Talk.{client_sap, miu_of, own_of, sends_on}
 use Rattle.snep_core.proofs.Submits.{sends_end, sent_none, sent_one}
 use Rattle.snep_core.proofs.client.Client.send_on.Goals as goal
@@ -10,27 +9,15 @@ returns-then-not-taken-clause-ok c =
     let e : miu_of (standing_of (own_of c.args.self.now.llc)) ≡ Some c.in-Some.miu = search rules in
     let n = sent_none c.in-Some.miu c.args.most c.units.self.llc c.offer_front.new.self.llc c.units.rest c.offer_front.new.bytes c.in_ok-taken.taken
     c.in-Some.ensures.some c.if-not-taken.true c.in_ok-taken.ensures.ok c.in_ok-taken.ensures.rest in
-    ap (λ o. sends_on c.args.self.now.llc client_sap c.args.most c.args.bytes o) e ∙ c.units.invariant.sends ∙ n.0
-
-pub returns-then-not-taken-clause-left : goal.returns-then-not-taken-clause-left
-returns-then-not-taken-clause-left c =
-    let n = sent_none c.in-Some.miu c.args.most c.units.self.llc c.offer_front.new.self.llc c.units.rest c.offer_front.new.bytes c.in_ok-taken.taken
-    c.in-Some.ensures.some c.if-not-taken.true c.in_ok-taken.ensures.ok c.in_ok-taken.ensures.rest in
-    let a = ap length n.1 in
-    let b = ap (λ z. pending (own_of z)) n.2 in
-    let k = c.units.invariant.left in
-    omega arith
+    ap (λ o. sends_on c.args.self.now.llc client_sap c.args.most c.args.bytes o) e ∙ c.units.invariant.sends ∙ n
 
 pub units-preserved : goal.units-preserved
 units-preserved c =
     let some : 0 < length c.units.rest = search rules in
     let n = sent_one c.in-Some.miu c.args.most c.units.self.llc c.offer_front.new.self.llc c.units.rest c.offer_front.new.bytes c.in_ok-taken.taken
-    c.in-Some.ensures.some some c.if-not-taken.false c.in_ok-taken.ensures.ok c.in_ok-taken.ensures.rest in
-    let k = c.units.invariant.left in
-    let m = n.1 in record {
+    c.in-Some.ensures.some some c.if-not-taken.false c.in_ok-taken.ensures.ok c.in_ok-taken.ensures.rest in record {
       spent = c.in_ok-taken.ensures.going ∙ c.units.invariant.spent;
-      sends = c.units.invariant.sends ∙ n.0;
-      left = omega arith;
+      sends = c.units.invariant.sends ∙ n;
     }
 
 pub returns-clause-ok : goal.returns-clause-ok

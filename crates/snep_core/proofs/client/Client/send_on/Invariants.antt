@@ -1,13 +1,11 @@
-use Rattle.std.proofs.Common.{◌≡◌, ◌≤◌, ◌+◌, length}
-use Rattle.llcp_link.specs.Waning.{pending}
-use Rattle.snep_core.specs.Talk.{client_sap, own_of, sends_some}
+use Rattle.std.proofs.Common.{◌≡◌, length}
+use Rattle.snep_core.specs.Talk.{client_sap, sends_some}
 use Rattle.snep_core.proofs.client.Client.send_on.Given as goal
 
 abbrev pub invariant-units : goal.invariant-units
 invariant-units l = record {
   spent : l.self.spent ≡ l.fn.self.spent;
   sends : sends_some (length l.fn.bytes) l.miu l.fn.self.llc client_sap l.most l.fn.bytes ≡ sends_some (length l.rest) l.miu l.self.llc client_sap l.most l.rest;
-  left : pending (own_of l.self.llc) + length l.rest ≤ pending (own_of l.fn.self.llc) + length l.fn.bytes;
 }
 
 abbrev pub decreases-units : goal.decreases-units

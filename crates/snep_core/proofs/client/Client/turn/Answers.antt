@@ -1,10 +1,12 @@
-use Rattle.std.proofs.Common.{sym, subst, Option}
+use Rattle.std.proofs.Common.{◌≤◌, sym, subst, Option}
 use Rattle.snep_core.specs.declared.job.Heard.{Heard}
 use Rattle.snep_core.specs.Listening.{Hears}
 use Rattle.snep_core.specs.Talk.{Ready, client_sap, own_of}
-use Rattle.snep_core.specs.Waning.{LessensTo, Putting, Serves, job_left}
+use Rattle.snep_core.specs.RepliesLeft.{job_left, to_come}
+use Rattle.snep_core.specs.Waning.{LessensTo, Putting, Serves}
 use Rattle.snep_core.proofs.Falling.{goes_falls}
 use Rattle.snep_core.proofs.Jobs.{heard_lets}
+use Rattle.snep_core.proofs.Readied.{one_ready}
 use Rattle.snep_core.proofs.Submits.{ready_serves}
 use Rattle.snep_core.proofs.client.Client.turn.Goals as goal
 
@@ -24,6 +26,9 @@ returns-in-Ok-Some-clause-falls g c =
     let left =
     subst (λ b. LessensTo b (job_left c.in-Ok.now) (job_left c.in-Ok-Some.heard.job)) (sym h.1)
     (heard_lets Putting c.exchange.new.self.llc client_sap c.in-Ok.now c.in-Ok-Some.heard.job h.0).left in
-    goes_falls (own_of c.args.self.now.llc) c.args.job c.ready.new.self.llc c.exchange.new.self.llc c.hear.new.self.llc c.in-Ok.now
-    c.in-Ok-Some.heard.job c.args.idle c.in-Ok-exchange.gave c.in-Ok-Some.heard.some c.settle.result c.settle.new.self.llc c.in-Ok.ensures.left
-    c.in-Ok-exchange.ensures.falls left c.requires.idle h.2 c.settle.ensures.goes
+    let ready =
+    subst (λ (r : Ready). to_come (own_of r.llc) r.job ≤ to_come (own_of c.args.self.now.llc) c.args.job) c.in-Ok.ensures.ok
+    (one_ready c.args.self.now.llc client_sap c.args.job).left in
+    goes_falls c.args.self.now.llc c.ready.new.self.llc c.exchange.new.self.llc c.hear.new.self.llc c.args.job c.in-Ok.now c.in-Ok-Some.heard.job c.args.idle
+    c.in-Ok-exchange.gave c.in-Ok-Some.heard.some c.settle.result c.settle.new.self.llc ready c.in-Ok-exchange.ensures.falls left h.2
+    c.settle.ensures.goes

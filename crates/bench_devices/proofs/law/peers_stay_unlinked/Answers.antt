@@ -1,0 +1,21 @@
+use Rattle.bench_devices.proofs.CalmDues as laws
+use Rattle.bench_devices.proofs.PeerLinks as links
+use Rattle.bench_devices.proofs.law.peers_stay_unlinked.Goals as goal
+
+pub returns-clause-links : goal.returns-clause-links
+returns-clause-links c = links.devices_link
+
+pub returns-clause-find : goal.returns-clause-find
+returns-clause-find c = laws.calm_finding
+
+pub returns-clause-select : goal.returns-clause-select
+returns-clause-select c = laws.calm_selecting
+
+pub returns-clause-read : goal.returns-clause-read
+returns-clause-read c = laws.calm_reading
+
+pub returns-clause-write : goal.returns-clause-write
+returns-clause-write c = laws.calm_writing
+
+pub returns-clause-none : goal.returns-clause-none
+returns-clause-none c = laws.calm_unasked

@@ -1,0 +1,198 @@
+-- A command that finds, reads or writes: at its frames no device hands anything over. So its fronts in the world with far ends are those of the
+-- quiet air over the field, and the far ends stay.
+use Rattle.std.proofs.Common.{◌≡◌, ◌⊎◌, inl, inr, ℕ, suc, List, [], ◌∷◌, ◌++◌, length, Option, Some, None, refl, sym, ◌∙◌, ap, subst}
+use Rattle.std.specs.Prelude.{map}
+use Rattle.nfc_base.specs.declared.event.Event.{Event}
+use Rattle.nfc_base.specs.declared.event.Event.TheVariants.{Reset, Request, Answer, Clash}
+use Rattle.nfc_base.specs.Signal.{Signal}
+use Rattle.nfc_base.specs.Trace.{back_of}
+use Rattle.nfc_base.specs.Trace as backs
+use Rattle.air_core.specs.Conversation.{Over, LightUp, Asks, AreTurns, EachDue, replay, queue_after}
+use Rattle.air_core.proofs.Following.{trace_first}
+use Rattle.far_air.specs.FarEnds.{first_far, later_fars, rests, by_link}
+use Rattle.far_air.specs.FarWorld.{with_numbers}
+use Rattle.far_air.specs.FarLaws.{IsFarTable, shown}
+use Rattle.far_air.specs.FarLaws as far
+use Rattle.far_air.specs.Quietly.{NoneHands, AreCalm, DoesQuietly, IsQuietStretch}
+use Rattle.far_air.proofs.OnField.{quiet_fields}
+use Rattle.far_air.proofs.Quietly.{unlinked_stay, quiet_stretches}
+use Rattle.far_air.proofs.Showing.{rests_shown}
+use Rattle.peer_air.specs.PeerFars.{peer_ends}
+use Rattle.peer_air.proofs.PeerEnds.{are_far_ends}
+use Rattle.snep_core.specs.Server.{serving}
+use Rattle.bench_script.specs.declared.command.Command.{Command}
+use Rattle.bench_script.specs.declared.command.Command.TheVariants.{Skip, Fates, PlaceT2, PlaceT4, PlaceT5, PlacePeer, Lock, Busy, Offer, Remove, Dump, Inbox, Find, Read, Write}
+use Rattle.bench_script.specs.declared.command.DeviceId.{DeviceId}
+use Rattle.bench_script.specs.declared.command.DeviceId.TheVariants.{A, V}
+use Rattle.bench_script.specs.DeviceIds.{bytes_of}
+use Rattle.bench_script.specs.Messages.{message_of}
+use Rattle.bench_devices.specs.declared.device.Device.{Device}
+use Rattle.bench_devices.specs.declared.polling.SeenKind.{SeenKind}
+use Rattle.bench_devices.specs.declared.polling.SeenKind.TheVariants as seen
+use Rattle.bench_devices.specs.Device.{BenchWorld, air, devices, device_linked, stable_of, StablePart, seen_of, IfTag}
+use Rattle.bench_devices.specs.Calm.{IsCalmDue}
+use Rattle.bench_devices.specs.Placed.{device_with, IfPlaced}
+use Rattle.bench_devices.specs.Reading.{AsksOf}
+use Rattle.bench_devices.specs.TagAsking.{tag_due}
+use Rattle.bench_devices.specs.Writing.{AsksWriteOf}
+use Rattle.bench_devices.proofs.CalmDues.{calm_finding, calm_reading, calm_writing, calm_unasked}
+use Rattle.bench_devices.proofs.PeerLinks.{devices_link}
+use Rattle.bench_world.specs.Reading.{ReadAsks}
+use Rattle.bench_world.specs.Writing.{WriteAsks}
+use Rattle.bench_devices.specs.Keeping.{AllStayDevices}
+use Rattle.bench_devices.proofs.EveryFrame.{devices_stay}
+use Rattle.bench_world.specs.World.{FarEnd, WholeWorld, bench_air, Stable, stable}
+use Rattle.bench_world.specs.Legal.{State, Given, IsAskedBy, FrontOf, changed, due, begun, state_after}
+
+-- the far ends above a field, one place a device
+abbrev pub Ends : Type 0
+Ends = List (Option FarEnd)
+
+-- ends of peers are far ends
+pub ends_table : IsFarTable peer_ends
+ends_table = are_far_ends serving (λ s. refl)
+
+-- At what is due in a command no device hands anything over that has no link.
+reads_calm : (o : Option Device) (asked : List Signal) (id : DeviceId) → IfPlaced (λ d. ReadAsks d asked) (asked ≡ []) o → IsCalmDue (tag_due id asked)
+reads_calm None asked id none = subst (λ a. IsCalmDue (tag_due id a)) (sym none) (calm_unasked.1 id)
+reads_calm (Some d) asked id is = by_kind (seen_of d) is
+  where
+    by_kind : (k : SeenKind) → IfTag k (AsksOf d asked) (asked ≡ []) → IsCalmDue (tag_due id asked)
+    by_kind seen.T2 a = (calm_reading d asked a).1 id
+    by_kind seen.T4 a = (calm_reading d asked a).1 id
+    by_kind seen.T5 a = (calm_reading d asked a).1 id
+    by_kind seen.Peer none = subst (λ a. IsCalmDue (tag_due id a)) (sym none) (calm_unasked.1 id)
+
+writes_calm : (m : List ℕ) (o : Option Device) (asked : List Signal) (id : DeviceId) → IfPlaced (λ d. WriteAsks m d asked) (asked ≡ []) o → IsCalmDue (tag_due id asked)
+writes_calm m None asked id none = subst (λ a. IsCalmDue (tag_due id a)) (sym none) (calm_unasked.1 id)
+writes_calm m (Some d) asked id is = by_kind (seen_of d) is
+  where
+    by_kind : (k : SeenKind) → IfTag k (AsksWriteOf m d asked) (asked ≡ []) → IsCalmDue (tag_due id asked)
+    by_kind seen.T2 a = (calm_writing m d asked a).1 id
+    by_kind seen.T4 a = (calm_writing m d asked a).1 id
+    by_kind seen.T5 a = (calm_writing m d asked a).1 id
+    by_kind seen.Peer none = subst (λ a. IsCalmDue (tag_due id a)) (sym none) (calm_unasked.1 id)
+
+nothing_due : (es before : List Event) → EachDue (λ ns. Over) before es → AreCalm devices device_linked es
+nothing_due [] before each = tt
+nothing_due (Reset ∷ es) before each = nothing_due es (before ++ Reset ∷ []) each.1
+nothing_due (Request f x ∷ es) before each = absurd (let clash : Over ≡ Asks f = each.0 in cc)
+nothing_due (Answer g x ∷ es) before each = nothing_due es (before ++ Answer g x ∷ []) each
+nothing_due (Clash g x ∷ es) before each = nothing_due es (before ++ Clash g x ∷ []) each
+
+calm_due : (s : State) (g : Given) (c : Command) (es : List Event) → IsAskedBy s c g.asked → EachDue (due s g c) [] es → AreCalm devices device_linked es
+calm_due s g Find es asked each = calm_finding es each
+calm_due s g (Read id) es asked each = reads_calm (device_with (bytes_of id) s.world.field.listeners) g.asked id asked es each
+calm_due s g (Write id m) es asked each = writes_calm (message_of m) (device_with (bytes_of id) s.world.field.listeners) g.asked id asked es each
+calm_due s g c es asked each = nothing_due es [] each
+
+-- a command that sends anything begins with a reset
+begins_lit : (s : State) (g : Given) (c : Command) → (due s g c [] ≡ Over) ⊎ (due s g c [] ≡ LightUp)
+begins_lit s g Skip = inl refl
+begins_lit s g (Fates fates) = inl refl
+begins_lit s g (PlaceT2 id blocks head) = inl refl
+begins_lit s g (PlaceT4 id code container head) = inl refl
+begins_lit s g (PlaceT5 id blocks size head) = inl refl
+begins_lit s g (PlacePeer id lr miu rw limit) = inl refl
+begins_lit s g (Lock id block) = inl refl
+begins_lit s g (Busy id count times) = inl refl
+begins_lit s g (Offer id key value) = inl refl
+begins_lit s g (Remove id) = inl refl
+begins_lit s g (Dump id) = inl refl
+begins_lit s g (Inbox id) = inl refl
+begins_lit s g Find = inr refl
+begins_lit s g (Read (A id)) = inr refl
+begins_lit s g (Read (V id)) = inr refl
+begins_lit s g (Write (A id) message) = inr refl
+begins_lit s g (Write (V id) message) = inr refl
+
+asks_no_first : (s : State) (g : Given) (c : Command) (f : Signal) → due s g c [] ≡ Asks f → ⊥
+asks_no_first s g c f e = elim (begins_lit s g c) [
+  | inl over ↦ (let clash : Over ≡ Asks f = sym over ∙ e in cc)
+  | inr lit ↦ (let clash : LightUp ≡ Asks f = sym lit ∙ e in cc)
+]
+
+-- So none hands anything over in them.
+pub none_hand : (s : State) (g : Given) (c : Command) (es : List Event) → IsAskedBy s c g.asked → EachDue (due s g c) [] es → back_of es ≡ backs.Nothing → (w : BenchWorld) → NoneHands devices w es
+none_hand s g c [] asked each first w = tt
+none_hand s g c (Reset ∷ es) asked each first w = ((unlinked_stay devices device_linked devices_link).1 w es (calm_due s g c (Reset ∷ es) asked each)).none
+none_hand s g c (Request f x ∷ es) asked each first w = absurd (asks_no_first s g c f each.0)
+none_hand s g c (Answer f x ∷ es) asked each first w = absurd cc
+none_hand s g c (Clash f x ∷ es) asked each first w = absurd cc
+
+none_in_front : (s t : State) (g : Given) (c : Command) (es : List Event) → FrontOf s g c es t → (w : BenchWorld) → NoneHands devices w es
+none_in_front s t g c es front w =
+    none_hand s g c es front.asks front.each (ap back_of front.turns.made ∙ trace_first bench_air (begun s g.joins c) front.turns.moves) w
+
+does_quietly : (s t : State) (g : Given) (c : Command) (es : List Event) → FrontOf s g c es t → (w : WholeWorld) → DoesQuietly devices device_linked peer_ends w es
+does_quietly s t g c es front w = quiet_fields devices device_linked peer_ends w es (none_in_front s t g c es front w.field)
+
+-- A front over the field alone.
+pub record OnField (s : State) (c : Command) (es : List Event) (t : State) : Type 0 where
+  pub turns : AreTurns air (changed s c).world.field es
+  pub field : t.world.field ≡ replay air (changed s c).world.field es
+  pub queue : t.queue ≡ queue_after (changed s c).queue es
+
+pub on_field : (s t : State) (g : Given) (c : Command) (es : List Event) → FrontOf s g c es t → OnField s c es t
+on_field s t g c es front =
+    let q : DoesQuietly devices device_linked peer_ends (begun s g.joins c) es = does_quietly s t g c es front (begun s g.joins c) in
+    record {
+      turns = q.turns.0 front.turns;
+      field = ap (λ (x : State). x.world.field) front.after ∙ q.field;
+      queue = ap (λ (x : State). x.queue) front.after;
+    }
+
+-- the field of the state after a front
+pub field_after : (s t : State) (g : Given) (c : Command) (es : List Event) → FrontOf s g c es t → (state_after s g.joins c es).world.field ≡ replay air (changed s c).world.field es
+field_after s t g c es front = (does_quietly s t g c es front (begun s g.joins c)).field
+
+-- whichever numbers there are
+pub any_numbers : (s t : State) (g : Given) (c : Command) (es : List Event) → FrontOf s g c es t → (ns ms : List ℕ) → state_after s ns c es ≡ state_after s ms c es
+any_numbers s t g c es front ns ms =
+    let q : DoesQuietly devices device_linked peer_ends (changed s c).world es = does_quietly s t g c es front (changed s c).world in
+    let S : WholeWorld → State = λ w. record { world = with_numbers w []; queue = queue_after (changed s c).queue es; peers = (changed s c).peers } in
+    ap S (q.numbers ns) ∙ sym (ap S (q.numbers ms))
+
+-- The far ends that are above a field stay in such events.
+stay_long : (ds es : List Device) → AllStayDevices ds es → length es ≡ length ds
+stay_long [] [] p = refl
+stay_long [] (e ∷ es) p = absurd p
+stay_long (d ∷ ds) [] p = absurd p
+stay_long (d ∷ ds) (e ∷ es) p = ap suc (stay_long ds es p.1)
+
+pub as_long : (w : BenchWorld) (es : List Event) → length (replay air w es).listeners ≡ length w.listeners
+as_long w es = stay_long w.listeners (replay air w es).listeners (devices_stay w es)
+
+rests_alike : (ls ks : List Device) (os : Ends) → length ls ≡ length ks
+    → map (rests peer_ends) (shown device_linked peer_ends ls os) ≡ map (rests peer_ends) (shown device_linked peer_ends ks os)
+rests_alike [] [] os e = refl
+rests_alike [] (k ∷ ks) os e = absurd cc
+rests_alike (l ∷ ls) [] os e = absurd cc
+rests_alike (l ∷ ls) (k ∷ ks) os e =
+    let o : Option FarEnd = first_far os in
+    let more : length ls ≡ length ks = cc in
+    ap (λ x. x ∷ map (rests peer_ends) (shown device_linked peer_ends ls (later_fars os)))
+    (rests_shown peer_ends ends_table (device_linked l) o ∙ sym (rests_shown peer_ends ends_table (device_linked k) o))
+    ∙ ap (λ xs. rests peer_ends (by_link peer_ends (device_linked k) o) ∷ xs) (rests_alike ls ks (later_fars os) more)
+
+-- the world behind some events, from a field under these far ends
+abbrev pub world_behind : Ends → BenchWorld → List Event → WholeWorld
+world_behind os w es = with_numbers (replay bench_air (far.seen device_linked peer_ends w os []) es) []
+
+module _ (w : BenchWorld) (es : List Event) (os : Ends) (none : NoneHands devices w es) where
+  pub stretch : IsQuietStretch devices device_linked peer_ends w os [] es
+  stretch = quiet_stretches devices device_linked peer_ends devices_link ends_table w os [] es none
+
+  pub field_behind : (world_behind os w es).field ≡ replay air w es
+  field_behind = ap (λ (z : WholeWorld). z.field) stretch.after
+
+  pub ends_behind : (stable (world_behind os w es)).ends ≡ (stable (far.seen device_linked peer_ends w os [])).ends
+  ends_behind =
+      ap (λ (z : WholeWorld). (stable z).ends) stretch.after ∙ rests_alike (replay air w es).listeners w.listeners os (as_long w es)
+
+  -- and so does all that stays, where it does on the field
+  pub stable_behind : map stable_of (replay air w es).listeners ≡ map stable_of w.listeners → stable (world_behind os w es) ≡ stable (far.seen device_linked peer_ends w os [])
+  stable_behind same =
+      let S : List StablePart → Ends → Stable = λ ds os. record { devices = ds; ends = os } in
+      ap (λ (z : BenchWorld). S (map stable_of z.listeners) (stable (world_behind os w es)).ends) field_behind ∙ ap (λ ds. S ds (stable (world_behind os w es)).ends) same
+      ∙ ap (S (map stable_of w.listeners)) ends_behind

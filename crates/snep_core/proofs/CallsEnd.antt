@@ -1,0 +1,296 @@
+-- A call of any number of jobs, each on a connection of its own, comes to an end.
+use Rattle.std.proofs.Common.{◌≡◌, ◌<◌, ◌≤◌, ℕ, ◌==◌, ◌||◌, eqb, nat_lt, Bool, true, false, List, [], ◌∷◌, length, Option, Some, None, refl, sym, ap, subst, ◌∙◌, arith, if◌then◌else◌}
+use Rattle.std.proofs.lemmas.Bool.{eqb-true}
+use Rattle.std.proofs.lemmas.Bool.Decides.{nat_tests}
+use Rattle.std.specs.List.{AllByRecursion, IsDistinct}
+use Rattle.nfc_base.specs.Links.{FarStep, Stepped, Stopped}
+use Rattle.llcp_conn.specs.Conn.{count_end}
+use Rattle.llcp_link.specs.declared.own.OwnIs.{OwnIs}
+use Rattle.llcp_link.specs.declared.own.OwnIs.TheVariants.{Asking, Open, Refused, Leaving, Closed}
+use Rattle.llcp_link.specs.State.{OwnState, own_from}
+use Rattle.llcp_link.specs.Asking.{acked_of, acked_on, asked_from, disconnected_by, is_busy_by, is_open_by, looked_up, put_own}
+use Rattle.llcp_link.specs.Giving.{after_giving}
+use Rattle.llcp_link.specs.Taking.{taken_from}
+use Rattle.llcp_link.specs.Waning.{pending, pending_on}
+use Rattle.llcp_link.proofs.Awaited.{here_of}
+use Rattle.llcp_link.proofs.Ranged.{either}
+use Rattle.llcp_link.proofs.Submitted.{own_with}
+use Rattle.llcp_link.proofs.Waning.{Wanes, is_of, given_wanes, pending_wanes, taken_wanes}
+use Rattle.snep_core.specs.Jobs.{Job, Begins, Looks, Closes, Over, Done, has_byte}
+use Rattle.snep_core.specs.Talk.{AllReady, EndState, Ends, Finds, Gets, GivesUp, Leaves, Puts, alone, begun, client_sap, connected, get_bytes, own_of, put_bytes, server_sap, Goes, OnSap, Ready, Step, Told, Working, all_emptied, all_heard, all_over, all_readied, emptied, emptied_by, gave_any, gave_something, goes_on, heard, heard_with, idle_after, most_idle, given_up, readied, ready, replied, saps, settled, silent, with_job, told_by, took, units_of}
+use Rattle.snep_core.specs.RepliesLeft.{AnyNumber, CallsBegin, CallsEnd, IsCounted, IsUnderWay, RepliesFall, all_to_come, job_left, replies_left, to_come}
+use Rattle.snep_core.specs.Waning.{one_job, LessensTo, Putting}
+use Rattle.snep_core.proofs.Falling.{both_lessen, gave_lessens, turn_falls}
+use Rattle.snep_core.proofs.Jobs.{heard_lets}
+use Rattle.snep_core.proofs.Readied.{Readies, elsewhere, one_ready}
+
+-- None of these is that SAP.
+abbrev NotAmong : ℕ → List ℕ → Type 0
+NotAmong s ss = AllByRecursion (λ z. (s == z) ≡ false) ss
+
+is_other : (m n : ℕ) → (m == n) ≡ false → (n == m) ≡ false
+is_other m n e = grind (arith, nat_tests, e)
+
+same_elsewhere : (l : EndState) (sap : ℕ) (job : Job) (r : Ready) → Readies l sap job r → (xs : List OnSap) → NotAmong sap (saps xs)
+    → (all_to_come r.llc xs ≡ all_to_come l xs)
+same_elsewhere l sap job r h [] n = refl
+same_elsewhere l sap job r h (x ∷ xs) n =
+    let more = same_elsewhere l sap job r h xs n.1 in
+    let one : to_come (own_from x.sap r.llc.own) x.job ≡ to_come (own_from x.sap l.own) x.job = ap (λ o. to_come o x.job) (h.others x.sap n.0) in
+    omega arith
+
+counted_elsewhere : (l : EndState) (sap : ℕ) (job : Job) (r : Ready) → Readies l sap job r → (ss : List ℕ) → NotAmong sap ss
+    → AllByRecursion (IsCounted l) ss → AllByRecursion (IsCounted r.llc) ss
+counted_elsewhere l sap job r h [] n c = tt
+counted_elsewhere l sap job r h (s ∷ ss) n c =
+    (subst (λ o. acked_of o < count_end) (sym (h.others s n.0)) c.0, counted_elsewhere l sap job r h ss n.1 c.1)
+
+-- what all jobs submit
+record AllReadies (l : EndState) (xs : List OnSap) (r : AllReady) : Type 0 where
+  pub left : all_to_come r.llc r.jobs ≤ all_to_come l xs
+  pub counted : AllByRecursion (IsCounted l) (saps xs) → AllByRecursion (IsCounted r.llc) (saps xs)
+  pub others : (s : ℕ) → NotAmong s (saps xs) → own_from s r.llc.own ≡ own_from s l.own
+  pub same : saps r.jobs ≡ saps xs
+
+all_ready : (xs : List OnSap) (l : EndState) → IsDistinct eqb (saps xs) → AllReadies l xs (all_readied xs l)
+unfolding IsDistinct
+all_ready [] l d = record { left = omega arith; counted = λ c. c; others = λ s n. refl; same = refl }
+all_ready (x ∷ xs) l d = go (readied l x.sap x.job) (one_ready l x.sap x.job) (all_ready xs (readied l x.sap x.job).llc d.1)
+  where
+    go : (r : Ready) → Readies l x.sap x.job r → AllReadies r.llc xs (all_readied xs r.llc) → AllReadies l (x ∷ xs) (with_job x.sap r (all_readied xs))
+    go r h m = record {
+      left =
+          (let a = h.left in let b = m.left in let c = same_elsewhere l x.sap x.job r h xs d.0 in
+          let e : to_come (own_from x.sap (all_readied xs r.llc).llc.own) r.job ≡ to_come (own_from x.sap r.llc.own) r.job =
+          ap (λ o. to_come o r.job) (m.others x.sap d.0) in
+          omega arith);
+      counted = λ c. (
+        subst (λ o. acked_of o < count_end) (sym (m.others x.sap d.0)) (subst (λ n. n < count_end) (sym h.acked) c.0),
+        m.counted (counted_elsewhere l x.sap x.job r h (saps xs) d.0 c.1),
+      );
+      others = λ s n. m.others s n.1 ∙ h.others s (is_other s x.sap n.0);
+      same = ap (λ ss. x.sap ∷ ss) m.same;
+    }
+
+-- Acknowledgements are counted modulo 2 ^ 32 as payloads are given and taken.
+bound_on : (i j : OwnIs) → Wanes i j → acked_on i < count_end → acked_on j < count_end
+bound_on i Asking w h = omega arith
+bound_on i Refused w h = omega arith
+bound_on i Leaving w h = omega arith
+bound_on i Closed w h = omega arith
+bound_on Asking (Open d) w h = w.bound (omega arith)
+bound_on (Open c) (Open d) w h = w.bound h
+bound_on Refused (Open d) w h = w.bound (omega arith)
+bound_on Leaving (Open d) w h = w.bound (omega arith)
+bound_on Closed (Open d) w h = w.bound (omega arith)
+
+acked_is : (s : ℕ) (o : Option OwnState) → acked_of o ≡ acked_on (is_of s o)
+acked_is s None = refl
+acked_is s (Some o) = refl
+
+bound_by : (s : ℕ) (a b : Option OwnState) → Wanes (is_of s a) (is_of s b) → acked_of a < count_end → acked_of b < count_end
+bound_by s a b w h =
+    subst (λ n. n < count_end) (sym (acked_is s b)) (bound_on (is_of s a) (is_of s b) w (subst (λ n. n < count_end) (acked_is s a) h))
+
+-- One end after another, on each of whose connections no more is to come.
+abbrev Wane : EndState → EndState → Type 0
+Wane l new = (s : ℕ) → Wanes (is_of s (own_from s l.own)) (is_of s (own_from s new.own))
+
+counted_on : (l new : EndState) → Wane l new → (ss : List ℕ) → AllByRecursion (IsCounted l) ss → AllByRecursion (IsCounted new) ss
+counted_on l new w [] c = tt
+counted_on l new w (s ∷ ss) c = (bound_by s (own_from s l.own) (own_from s new.own) (w s) c.0, counted_on l new w ss c.1)
+
+to_come_on : (l new : EndState) → Wane l new → (xs : List OnSap) → all_to_come new xs ≤ all_to_come l xs
+to_come_on l new w [] = omega arith
+to_come_on l new w (x ∷ xs) =
+    (let a = pending_wanes x.sap (own_from x.sap l.own) (own_from x.sap new.own) (w x.sap) in let b = to_come_on l new w xs in omega arith)
+
+-- one job hears what came on its connection
+one_heard : (l new : EndState) → Wane l new → (sap : ℕ) (job now : Job) → IsCounted l sap → heard new sap job ≡ Some now
+    → LessensTo (gave_something (own_from sap l.own) (own_from sap new.own) || has_byte (units_of (own_from sap new.own)))
+    (to_come (own_from sap l.own) job) (to_come (own_from sap new.own) now)
+one_heard l new w sap job now c e =
+    both_lessen (gave_something (own_from sap l.own) (own_from sap new.own)) (has_byte (units_of (own_from sap new.own)))
+    (pending (own_from sap l.own)) (pending (own_from sap new.own)) (job_left job) (job_left now)
+    (gave_lessens sap (own_from sap l.own) (own_from sap new.own) (w sap) c (gave_something (own_from sap l.own) (own_from sap new.own)) refl)
+    (heard_lets Putting new sap job now e).left
+
+-- what all jobs hear
+record AllHeard (l new : EndState) (xs ys : List OnSap) : Type 0 where
+  pub left : LessensTo (gave_any l new xs) (all_to_come l xs) (all_to_come new ys)
+  pub same : saps ys ≡ saps xs
+
+all_hear : (l new : EndState) → Wane l new → (xs ys : List OnSap) → AllByRecursion (IsCounted l) (saps xs) → all_heard new xs ≡ Some ys → AllHeard l new xs ys
+all_hear l new w [] ys c e = let k : [] ≡ ys = cc in subst (AllHeard l new []) k (record { left = omega arith; same = refl })
+all_hear l new w (x ∷ xs) ys c e = go (λ zs j. all_hear l new w xs zs c.1 j) (heard new x.sap x.job) refl (all_heard new xs) refl e
+  where
+    go : ((zs : List OnSap) → all_heard new xs ≡ Some zs → AllHeard l new xs zs) → (o : Option Job) → heard new x.sap x.job ≡ o → (q : Option (List OnSap)) → all_heard new xs ≡ q → heard_with x.sap o q ≡ Some ys → AllHeard l new (x ∷ xs) ys
+    go rest None i q j k = absurd cc
+    go rest (Some now) i None j k = absurd cc
+    go rest (Some now) i (Some zs) j k =
+        let same : record { sap = x.sap; job = now } ∷ zs ≡ ys = cc in
+        let more = rest zs j in
+        subst (AllHeard l new (x ∷ xs)) same (record {
+          left = both_lessen (gave_something (own_from x.sap l.own) (own_from x.sap new.own) || has_byte (units_of (own_from x.sap new.own)))
+              (gave_any l new xs) (to_come (own_from x.sap l.own) x.job) (to_come (own_from x.sap new.own) now) (all_to_come l xs) (all_to_come new zs)
+              (one_heard l new w x.sap x.job now c.0 i) more.left;
+          same = ap (λ ss. x.sap ∷ ss) more.same;
+        })
+
+-- Units that are taken away leave each connection as it stands.
+abbrev StandsAs : EndState → EndState → Type 0
+StandsAs l new = (s : ℕ) → is_of s (own_from s new.own) ≡ is_of s (own_from s l.own)
+
+one_emptied : (l : EndState) (sap : ℕ) → StandsAs l (emptied l sap)
+one_emptied l sap s = go (own_from sap l.own) refl (sap == s) refl
+  where
+    go : (q : Option OwnState) → own_from sap l.own ≡ q → (b : Bool) → (sap == s) ≡ b → is_of s (own_from s (emptied_by l q).own) ≡ is_of s (own_from s l.own)
+    go None e b i = refl
+    go (Some o) e false i = ap (is_of s) (elsewhere s (record o { units = [] }) l.own (ap (λ h. h == s) (here_of sap l.own o e) ∙ i))
+    go (Some o) e true i =
+        let there : own_from s l.own ≡ Some o = subst (λ z. own_from z l.own ≡ Some o) (eqb-true sap s i) e in
+        ap (is_of s) (own_with s l.own (record o { units = [] }) o there (here_of s l.own o there)) ∙ sym (ap (is_of s) there)
+
+all_empty : (xs : List OnSap) (l : EndState) → StandsAs l (all_emptied xs l)
+all_empty [] l s = refl
+all_empty (x ∷ xs) l s = all_empty xs (emptied l x.sap) s ∙ one_emptied l x.sap s
+
+pending_is : (s : ℕ) (o : Option OwnState) → pending o ≡ pending_on (is_of s o)
+pending_is s None = refl
+pending_is s (Some o) = refl
+
+module _ (l new : EndState) (h : StandsAs l new) where
+  to_come_still : (xs : List OnSap) → all_to_come new xs ≡ all_to_come l xs
+  to_come_still [] = refl
+  to_come_still (x ∷ xs) =
+      let a = pending_is x.sap (own_from x.sap l.own) in let b = pending_is x.sap (own_from x.sap new.own) in
+      let c = ap pending_on (h x.sap) in let d = to_come_still xs in omega arith
+
+  counted_still : (ss : List ℕ) → AllByRecursion (IsCounted l) ss → AllByRecursion (IsCounted new) ss
+  counted_still [] c = tt
+  counted_still (s ∷ ss) c =
+      let e : acked_of (own_from s new.own) ≡ acked_of (own_from s l.own) =
+      acked_is s (own_from s new.own) ∙ ap acked_on (h s) ∙ sym (acked_is s (own_from s l.own)) in
+      (subst (λ n. n < count_end) (sym e) c.0, counted_still ss c.1)
+
+is_below : (m n : ℕ) → nat_lt m n ≡ true → m < n
+is_below m n e = grind (arith, nat_tests, e)
+
+-- where a call goes on
+module _ (w : Working) (new : EndState) where
+  abbrev Falls : Working → Type 0
+  Falls next = IsUnderWay next × (replies_left next < replies_left w)
+
+  abbrev FallsOn : Step → Type 0
+  FallsOn step = (next : Working) → step ≡ Goes next → Falls next
+
+  -- its jobs came to these
+  goes_so : (now : List OnSap) (idle : ℕ) → (idle < most_idle → Falls (record { llc = new; jobs = now; idle = idle })) → FallsOn (goes_on new now idle)
+  goes_so now idle f =
+      either {X = Step} FallsOn (nat_lt idle most_idle) (Goes (record { llc = new; jobs = now; idle = idle })) (given_up new now)
+      (λ i next e. (let k : record { llc = new; jobs = now; idle = idle } ≡ next = cc in subst Falls k (f (is_below idle most_idle i)))) (λ i next e. absurd cc)
+
+  settles_so : (now : List OnSap) (idle : ℕ) → (idle < most_idle → Falls (record { llc = new; jobs = now; idle = idle })) → FallsOn (settled new now idle)
+  settles_so now idle f = either {X = Step} FallsOn (all_over now) (Ends now new) (goes_on new now idle) (λ i next e. absurd cc) (λ i. goes_so now idle f)
+
+-- an end that gave and took a payload
+took_falls : (w : Working) → IsUnderWay w → (r : AllReady) → AllReadies w.llc w.jobs r → (mid l : EndState) → Wane r.llc mid → Wane mid l
+    → (next : Working) → took mid l r.jobs w.idle ≡ Goes next → IsUnderWay next × (replies_left next < replies_left w)
+took_falls w way r h mid l one two next e = go (all_heard l r.jobs) refl e
+  where
+    same : saps r.jobs ≡ saps w.jobs
+    same = h.same
+
+    begun : AllByRecursion (IsCounted mid) (saps r.jobs)
+    begun = counted_on r.llc mid one (saps r.jobs) (subst (AllByRecursion (IsCounted r.llc)) (sym same) (h.counted way.counted))
+
+    go : (q : Option (List OnSap)) → all_heard l r.jobs ≡ q → told_by l r.jobs (idle_after (gave_any mid l r.jobs) w.idle) q ≡ Goes next
+        → IsUnderWay next × (replies_left next < replies_left w)
+    go None i k = absurd cc
+    go (Some now) i k =
+        let a = all_hear mid l two r.jobs now begun i in
+        let still = all_empty r.jobs l in
+        settles_so w (all_emptied r.jobs l) now (idle_after (gave_any mid l r.jobs) w.idle)
+        (λ low. (
+          record {
+            apart = subst (IsDistinct eqb) (sym (a.same ∙ same)) way.apart;
+            counted = counted_still l (all_emptied r.jobs l) still (saps now)
+                (subst (AllByRecursion (IsCounted l)) (sym a.same) (counted_on mid l two (saps r.jobs) begun));
+            idle = low;
+          },
+          (let x = to_come_on r.llc mid one r.jobs in let y = h.left in let z = to_come_still l (all_emptied r.jobs l) still now in
+              let v = turn_falls (all_to_come w.llc w.jobs) (all_to_come mid r.jobs) (all_to_come l now) w.idle (gave_any mid l r.jobs) (omega arith) a.left low in
+              omega arith),
+        )) next k
+
+pub replies_fall : RepliesFall
+replies_fall w n reply next way e =
+    took_falls w way (all_readied w.jobs w.llc) (all_ready w.jobs w.llc way.apart) (after_giving silent n (ready w).llc)
+    (taken_from silent (after_giving silent n (ready w).llc) reply) (λ s. given_wanes silent s n (ready w).llc)
+    (λ s. taken_wanes silent s (after_giving silent n (ready w).llc) reply) next e
+
+-- replies are left where a call goes on
+some_left : (w : Working) → IsUnderWay w → 0 < replies_left w
+some_left w way = (let i = way.idle in omega arith)
+
+-- nothing is heard behind the end of a call
+ended : (xs : List OnSap) (l : EndState) (ns : List ℕ) (did : List FarStep) (to : Step) → Told AnyNumber ns (Ends xs l) did to → length did ≡ 0
+ended xs l [] [] to t = refl
+ended xs l [] (d ∷ ds) to t = absurd t
+ended xs l (n ∷ ns) did to t = absurd t
+
+gave_up : (l : EndState) (ns : List ℕ) (did : List FarStep) (to : Step) → Told AnyNumber ns (GivesUp l) did to → length did ≡ 0
+gave_up l [] [] to t = refl
+gave_up l [] (d ∷ ds) to t = absurd t
+gave_up l (n ∷ ns) did to t = absurd t
+
+pub calls_end : CallsEnd
+calls_end w [] [] to way t = (let z = some_left w way in omega arith)
+calls_end w [] (d ∷ ds) to way t = absurd t
+calls_end w (n ∷ ns) [] to way t = absurd t
+calls_end w (n ∷ ns) (Stopped out ∷ did) to way t = absurd t
+calls_end w (n ∷ ns) (Stepped out reply ∷ did) to way t = go (λ next f u. calls_end next ns did to f u) (replied n w reply) refl t.2
+  where
+    go : ((next : Working) → IsUnderWay next → Told AnyNumber ns (Goes next) did to → length did ≤ replies_left next) → (from : Step) → replied n w reply ≡ from → Told AnyNumber ns from did to → length (Stepped out reply ∷ did) ≤ replies_left w
+    go rest (Goes next) e u = (let f = replies_fall w n reply next way e in let more = rest next f.0 u in omega arith)
+    go rest (Ends xs l) e u = (let z = ended xs l ns did to u in let v = some_left w way in omega arith)
+    go rest (GivesUp l) e u = (let z = gave_up l ns did to u in let v = some_left w way in omega arith)
+
+-- where a call begins
+put_there : (h : ℕ) (o : OwnState) (os : List OwnState) → (o.here == h) ≡ true → own_from h (put_own o os) ≡ Some o
+put_there h o [] i = ap (λ b. if b then Some o else None) i
+put_there h o (p ∷ ps) i = go (put_there h o ps i) (p.here == o.here) refl
+  where
+    go : own_from h (put_own o ps) ≡ Some o → (b : Bool) → (p.here == o.here) ≡ b → own_from h (if b then o ∷ ps else p ∷ put_own o ps) ≡ Some o
+    go more true t = ap (λ b. if b then Some o else own_from h ps) i
+    go more false t =
+        ap (λ b. if b then Some p else own_from h (put_own o ps)) (ap (λ k. p.here == k) (sym (eqb-true o.here h i)) ∙ t) ∙ more
+
+begins_so : (l : EndState) (job : Job) → IsCounted l client_sap → IsUnderWay (one_job l job 0)
+unfolding IsDistinct
+begins_so l job c = record { apart = (tt, tt); counted = (c, tt); idle = omega arith }
+
+connected_so : (l : EndState) → IsCounted l client_sap → IsCounted (connected l client_sap) client_sap
+connected_so l c =
+    either {X = EndState} (λ z. IsCounted z client_sap) (is_busy_by (own_from client_sap l.own)) l _ (λ e. c)
+    (λ e. subst (λ o. acked_of o < count_end) (sym (put_there client_sap (asked_from client_sap server_sap) l.own refl)) (omega arith))
+
+disconnected_so : (l : EndState) (q : Option OwnState) → own_of l ≡ q → IsCounted l client_sap → IsCounted (disconnected_by l q) client_sap
+disconnected_so l None e c = c
+disconnected_so l (Some o) e c =
+    subst (λ z. acked_of z < count_end)
+    (sym (own_with client_sap l.own (record o { is = Leaving }) o e (here_of client_sap l.own o e))) (omega arith)
+
+abbrev BeginsSo : Step → Type 0
+BeginsSo step = (w : Working) → step ≡ Goes w → IsUnderWay w
+
+goes_from : (l : EndState) (job : Job) → IsCounted l client_sap → BeginsSo (begun l job)
+goes_from l job c w e = let k : one_job l job 0 ≡ w = cc in subst IsUnderWay k (begins_so l job c)
+
+pub calls_begin : CallsBegin
+calls_begin l (Puts message) w c e = goes_from (connected l client_sap) (Begins None (put_bytes message)) (connected_so l c) w e
+calls_begin l (Gets most key) w c e = goes_from (connected l client_sap) (Begins (Some most) (get_bytes most key)) (connected_so l c) w e
+calls_begin l (Finds name) w c e = goes_from (looked_up l name) (Looks l.asked) c w e
+calls_begin l Leaves w c e =
+    either {X = Step} BeginsSo (is_open_by (own_of l)) (begun (disconnected_by l (own_of l)) Closes) (Ends (alone (Over Done)) l)
+    (λ b. goes_from (disconnected_by l (own_of l)) Closes (disconnected_so l (own_of l) refl c)) (λ b x k. absurd cc) w e

@@ -1,0 +1,81 @@
+-- What a get comes to at a peer that its client accords with.
+use Rattle.std.proofs.Common.{◌≡◌, ◌<◌, ◌≤◌, ℕ, ◌^◌, List, length, sym, subst, inl, inr}
+use Rattle.nfc_base.specs.declared.carrier.EndCause.{EndCause}
+use Rattle.nfc_base.specs.declared.carrier.EndCause.TheVariants as cause
+use Rattle.nfc_base.specs.Links.{CarrierView, FarStep}
+use Rattle.snep_core.specs.declared.fault.SnepFault.{SnepFault}
+use Rattle.snep_core.specs.declared.job.Refusal.{Refusal}
+use Rattle.snep_core.specs.declared.job.Refusal.TheVariants as refusals
+use Rattle.snep_core.specs.Accord.{Accords, GetFails, IsGot, IsPeer, PeerState, Refuses}
+use Rattle.snep_core.specs.Calling.{RequestFails, Talks, fault_of, refused_by}
+use Rattle.snep_core.specs.Jobs.{Over, Refused, Value}
+use Rattle.snep_core.specs.Talk.{EndState, Ends, Gets, alone, begins}
+use Rattle.snep_core.proofs.GetPhases.{ComesTo, GetOutcome, ask, get_outcome, get_read}
+use Rattle.snep_core.proofs.RequestEnds.{AddsSome, Ended, Failed, Fate, request_ended, request_failed}
+use Rattle.snep_core.proofs.RequestPhases.{IsRead}
+
+module _ (most : ℕ) (key : List ℕ) (p : PeerState) (fits : length key ≤ 65536) (x : GetOutcome p.service.limit p.service.table most key p.service.accepted) where
+  abbrev read : IsRead p.service.limit (ask most key)
+  read = get_read p.service.limit most key fits
+
+  adds_nothing : (q : PeerState) → AddsSome (ask most key) p read x.outcome q.service.accepted → q.service.accepted ≡ p.service.accepted
+  adds_nothing q (inl e) = e
+  adds_nothing q (inr (e, within)) = e
+
+  module _ (l : EndState) (q : PeerState) where
+    got_at : (v : List ℕ) → Ended (ask most key) p read x.outcome (Value v) l q → IsGot most key v p l q
+    got_at v h = go h.fate
+      where
+        go : Fate (ask most key) p read x.outcome (Value v) q → IsGot most key v p l q
+        go (inl (e, within, accepted)) =
+            let c = subst (ComesTo p.service.table most key) (sym e) x.comes in
+            record { within = within; found = c.0; few = c.1; accepted = accepted; answered = h.answered }
+        go (inr (e, beyond, accepted)) = absurd cc
+
+    -- refused for what the table has
+    refused_for : (r : Refusal) → Refuses p.service.table most key (refused_by r) → length key ≤ p.service.limit → q.service.accepted ≡ p.service.accepted
+        → Ended (ask most key) p read x.outcome (Refused r) l q → GetFails most key p (refused_by r) l q
+    refused_for refusals.Reject why within accepted h = absurd why
+    refused_for refusals.NotFound why within accepted h = record { within = within; refuses = why; accepted = accepted; answered = h.answered }
+    refused_for refusals.Excess why within accepted h = record { within = within; refuses = why; accepted = accepted; answered = h.answered }
+    refused_for refusals.NotImplemented why within accepted h = record { within = within; refuses = why; accepted = accepted; answered = h.answered }
+
+    refused_at : (r : Refusal) → Ended (ask most key) p read x.outcome (Refused r) l q → GetFails most key p (refused_by r) l q
+    refused_at r h = go h.fate
+      where
+        go : Fate (ask most key) p read x.outcome (Refused r) q → GetFails most key p (refused_by r) l q
+        go (inl (e, within, accepted)) = refused_for r (subst (ComesTo p.service.table most key) (sym e) x.comes) within accepted h
+        go (inr (e, beyond, accepted)) =
+            let same : r ≡ refusals.Reject = cc in
+            subst (λ w. GetFails most key p (refused_by w) l q) (sym same) (record { beyond = beyond; accepted = accepted; answered = h.answered })
+
+    broken_at : (c : EndCause) → q.service.accepted ≡ p.service.accepted → GetFails most key p (fault_of c) l q
+    broken_at cause.FieldLost h = h
+    broken_at cause.SixBad h = h
+    broken_at cause.Protocol h = h
+    broken_at cause.Memory h = h
+
+module _ {C A : Type 0} (seen : C → CarrierView) (moves : C → List FarStep → C → Type 0) (steps : A → List ℕ → List ℕ → A → Type 0) (stops : A → List ℕ → A → Type 0)
+    (view : A → PeerState) (peer : IsPeer steps stops view) (most : ℕ) (small : most < 2 ^ 32) (key : List ℕ) (fits : length key ≤ 65536) (client : EndState) (link : C) (far : A)
+    (a : Accords client (view far)) where
+  abbrev comes : GetOutcome (view far).service.limit (view far).service.table most key (view far).service.accepted
+  comes = get_outcome (view far).service.limit (view far).service.table most key (view far).service.accepted small
+
+  -- the value was told
+  pub get_got : (v : List ℕ) (new : EndState) (now : C) (after : A) → Talks seen moves steps stops (begins client (Gets most key)) link far (Ends (alone (Over (Value v))) new) now after
+      → IsGot most key v (view far) new (view after)
+  get_got v new now after t =
+      got_at most key (view far) fits comes new (view after) v
+      (request_ended seen moves steps stops view peer client link far a (ask most key) (read most key (view far) fits comes) comes.outcome (Value v) new now after t)
+
+  -- it failed
+  pub get_fails : (e : SnepFault) (new : EndState) (now : C) (after : A) → RequestFails seen moves steps stops (begins client (Gets most key)) link far e new now after
+      → GetFails most key (view far) e new (view after)
+  get_fails e new now after h =
+      go (request_failed seen moves steps stops view peer client link far a (ask most key) (read most key (view far) fits comes) comes.outcome e new now after h)
+    where
+      go : Failed seen moves steps stops view peer client link far a (ask most key) (read most key (view far) fits comes) comes.outcome e new after → GetFails most key (view far) e new (view after)
+      go (inl (why, f, z)) = subst (λ w. GetFails most key (view far) w new (view after)) (sym f) (refused_at most key (view far) fits comes new (view after) why z)
+      go (inr (why, f, z)) =
+          subst (λ w. GetFails most key (view far) w new (view after)) (sym f)
+          (broken_at most key (view far) fits comes new (view after) why (adds_nothing most key (view far) fits comes (view after) z))
