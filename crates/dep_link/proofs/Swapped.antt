@@ -83,16 +83,16 @@ module _ {L : Type 0} (k : Ghosts L) (target : L → TargetState) where
     moved = (record { out = out; did = did } ∷ [], (b, [], x, (refl, refl), sym (append-nil did)))
 
   -- no exchange of a peer in step ends by a frame that isn't allowed
-  stands_never : (o : Option EndCause) (j : InitState) (s : Standing) → StandsAt o j s → o ≡ Some Protocol → ⊥
-  stands_never None j s st e = absurd (cc)
-  stands_never (Some FieldLost) j s st e = absurd (cc)
-  stands_never (Some SixBad) j s st e = absurd (cc)
-  stands_never (Some Memory) j s st e = absurd (cc)
-  stands_never (Some Protocol) j s st e = st
+  stands_never : (o : Option EndCause) (given : Option (List ℕ)) (j : InitState) (s : Standing) → StandsAt o given j s → o ≡ Some Protocol → ⊥
+  stands_never None given j s st e = absurd (cc)
+  stands_never (Some FieldLost) given j s st e = absurd (cc)
+  stands_never (Some SixBad) given j s st e = absurd (cc)
+  stands_never (Some Memory) given j s st e = absurd (cc)
+  stands_never (Some Protocol) given j s st e = st
 
   never_odd : (a b : DepSeen L) (t : PeerOf k target a) (out : List ℕ) (did : List FarStep) → ExchangedAs k target a b t out did → b.over ≡ Some Protocol → ⊥
-  never_odd a b t out [] (s, x, st) e = stands_never b.over b.initiator s st e
-  never_odd a b t out (Stepped payload reply ∷ []) (q, (s, x, st)) e = stands_never b.over b.initiator s st e
+  never_odd a b t out [] (s, x, st) e = stands_never b.over None b.initiator s st e
+  never_odd a b t out (Stepped payload reply ∷ []) (q, (s, x, st)) e = stands_never b.over (Some reply) b.initiator s st e
   never_odd a b t out (Stopped payload ∷ []) (q, x, o) e = absurd (cc)
   never_odd a b t out (d ∷ d' ∷ ds) x e = absurd x
 
