@@ -171,3 +171,15 @@ module _ {L : Type 0} (k : Ghosts L) (target : L → TargetState) where
     pub err_moved : (result : Result (Vec ℕ) LinkEnd) → Carries k target steps stops (see p) (see q) out far after result → IfErr result (λ e. Swapped Moves steps stops p out far q after (AskedBy e.answered e.cause out))
     err_moved (Ok r) c = tt
     err_moved (Err e) (did, c, asked, over, calm) = record { did = did; link = moved (see p) (see q) out did c.exchanged; far_moved = c.far_moved; tells = asked }
+
+    -- each by itself
+    abbrev One : C → List FarStep → C → Type 0
+    One x did y = Exchanged k target (see x) (see y) (record { out = out; did = did })
+
+    pub ok_swapped : (result : Result (Vec ℕ) LinkEnd) → Carries k target steps stops (see p) (see q) out far after result → IfOk result (λ r. Swapped One steps stops p out far q after (λ did. did ≡ Stepped out r.items ∷ []))
+    ok_swapped (Ok r) (c, over, ready) = record { did = Stepped out r.items ∷ []; link = c.exchanged; far_moved = c.far_moved; tells = refl }
+    ok_swapped (Err e) c = tt
+
+    pub err_swapped : (result : Result (Vec ℕ) LinkEnd) → Carries k target steps stops (see p) (see q) out far after result → IfErr result (λ e. Swapped One steps stops p out far q after (AskedBy e.answered e.cause out))
+    err_swapped (Ok r) c = tt
+    err_swapped (Err e) (did, c, asked, over, calm) = record { did = did; link = c.exchanged; far_moved = c.far_moved; tells = asked }
