@@ -112,10 +112,10 @@ module _ {L F : Type 0} (k : Ghosts L) (target : L → TargetState) (steps : F �
       ∙ ap is_some (append_cancel_left ps (payloads a.initiator.core.number bs) (delivered_of out given) same)
 
   module _ (new : Air L) (j : InitState) (last : j.out ≡ Some out) where
-    exchanged : (over : Option EndCause) (s : Standing) → StandsAt over j s → Turns new None s → Exchanged k target a (at new j over) (record { out = out; did = [] })
+    exchanged : (over : Option EndCause) (s : Standing) → StandsAt over None j s → Turns new None s → Exchanged k target a (at new j over) (record { out = out; did = [] })
     exchanged over s st x = record { begins = open_link; start = r.start; peer = r.peer; same = (refl, refl); last = last; short = short; exchange = (s, x, st) }
 
-    exchanged_step : (over : Option EndCause) (reply : List ℕ) (s : Standing) → StandsAt over j s → Turns new (Some reply) s → Exchanged k target a (at new j over) (record { out = out; did = Stepped out reply ∷ [] })
+    exchanged_step : (over : Option EndCause) (reply : List ℕ) (s : Standing) → StandsAt over (Some reply) j s → Turns new (Some reply) s → Exchanged k target a (at new j over) (record { out = out; did = Stepped out reply ∷ [] })
     exchanged_step over reply s st x = record { begins = open_link; start = r.start; peer = r.peer; same = (refl, refl); last = last; short = short; exchange = (refl, (s, x, st)) }
 
     -- the reply came
@@ -125,7 +125,7 @@ module _ {L F : Type 0} (k : Ghosts L) (target : L → TargetState) (steps : F �
         let P : List (List ℕ) → List Signal → Type 0 = λ ps fs. HasPeer k target new j a.first ps fs in
         let fs : arrived (since (at new j None)) ≡ arrived (since a) ++ arrived x.events = arrived_is new j None x.events x.trace in
         let ps : brought a.first (since (at new j None)) ≡ brought a.first (since a) ++ out ∷ [] = ap (λ (zs : List Signal). payloads a.first (frames_of zs)) fs ∙ x.brings in (
-          record { exchanged = exchanged_step None reply.items (Rests j) refl x; far_moved = (far', step, refl) },
+          record { exchanged = exchanged_step None reply.items (Rests j reply.items) refl x; far_moved = (far', step, refl) },
           refl,
           record {
             lit = lit;
@@ -135,7 +135,7 @@ module _ {L F : Type 0} (k : Ghosts L) (target : L → TargetState) (steps : F �
         )
 
     -- the exchange was broken off by this cause
-    under_way : (cause : EndCause) (given : Option (List ℕ)) (s : Standing) (x : Turns new given s) → GivenBy steps far out given far' → StandsAt (Some cause) j s
+    under_way : (cause : EndCause) (given : Option (List ℕ)) (s : Standing) (x : Turns new given s) → GivenBy steps far out given far' → StandsAt (Some cause) given j s
         → (noise (since (at new j (Some cause))) ≡ noise (since a) → cause ≡ Memory) → Carries k target steps stops a (at new j (Some cause)) out far far' (Err (record { cause = cause; answered = is_some (delivered_of out given) }))
     under_way cause None s x g st calm = ([], record { exchanged = exchanged (Some cause) s st x; far_moved = g }, inl refl, refl, calm)
     under_way cause (Some reply) s x g st calm = (Stepped out reply ∷ [], record { exchanged = exchanged_step (Some cause) reply s st x; far_moved = (far', g, refl) }, (reply, refl), refl, calm)

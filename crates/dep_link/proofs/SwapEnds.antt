@@ -77,7 +77,7 @@ module _ {L F : Type 0} (k : Ghosts L) (laws : Laws k) (target : L → TargetSta
         → EndsBy k target steps stops old new t.listener i0 i' first handed arrived out far0 far' (Ok (record { items = r }))
     ends_replied h turn i' r e =
         let n = next_here h turn i' (send.Finished (record { items = r })) e in
-        let a = replied_turns k laws target restarts steps t.listener t.is i0 first handed arrived out far0 old new t.place far' i' r (Rests i') n in
+        let a = replied_turns k laws target restarts steps t.listener t.is i0 first handed arrived out far0 old new t.place far' i' r (Rests i' r) n in
         (a.0, a.1, n.lit, a.2)
 
     pub ends_six : (h : Heard) → TurnIs k.machine restarts steps mid f far (Some h) new far' → (i' : InitState)

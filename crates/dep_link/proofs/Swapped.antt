@@ -83,16 +83,16 @@ module _ {L : Type 0} (k : Ghosts L) (target : L → TargetState) where
     moved = (record { out = out; did = did } ∷ [], (b, [], x, (refl, refl), sym (append-nil did)))
 
   -- no exchange of a peer in step ends by a frame that isn't allowed
-  stands_never : (o : Option EndCause) (j : InitState) (s : Standing) → StandsAt o j s → o ≡ Some Protocol → ⊥
-  stands_never None j s st e = absurd (cc)
-  stands_never (Some FieldLost) j s st e = absurd (cc)
-  stands_never (Some SixBad) j s st e = absurd (cc)
-  stands_never (Some Memory) j s st e = absurd (cc)
-  stands_never (Some Protocol) j s st e = st
+  stands_never : (o : Option EndCause) (given : Option (List ℕ)) (j : InitState) (s : Standing) → StandsAt o given j s → o ≡ Some Protocol → ⊥
+  stands_never None given j s st e = absurd (cc)
+  stands_never (Some FieldLost) given j s st e = absurd (cc)
+  stands_never (Some SixBad) given j s st e = absurd (cc)
+  stands_never (Some Memory) given j s st e = absurd (cc)
+  stands_never (Some Protocol) given j s st e = st
 
   never_odd : (a b : DepSeen L) (t : PeerOf k target a) (out : List ℕ) (did : List FarStep) → ExchangedAs k target a b t out did → b.over ≡ Some Protocol → ⊥
-  never_odd a b t out [] (s, x, st) e = stands_never b.over b.initiator s st e
-  never_odd a b t out (Stepped payload reply ∷ []) (q, (s, x, st)) e = stands_never b.over b.initiator s st e
+  never_odd a b t out [] (s, x, st) e = stands_never b.over None b.initiator s st e
+  never_odd a b t out (Stepped payload reply ∷ []) (q, (s, x, st)) e = stands_never b.over (Some reply) b.initiator s st e
   never_odd a b t out (Stopped payload ∷ []) (q, x, o) e = absurd (cc)
   never_odd a b t out (d ∷ d' ∷ ds) x e = absurd x
 
@@ -171,3 +171,15 @@ module _ {L : Type 0} (k : Ghosts L) (target : L → TargetState) where
     pub err_moved : (result : Result (Vec ℕ) LinkEnd) → Carries k target steps stops (see p) (see q) out far after result → IfErr result (λ e. Swapped Moves steps stops p out far q after (AskedBy e.answered e.cause out))
     err_moved (Ok r) c = tt
     err_moved (Err e) (did, c, asked, over, calm) = record { did = did; link = moved (see p) (see q) out did c.exchanged; far_moved = c.far_moved; tells = asked }
+
+    -- each by itself
+    abbrev One : C → List FarStep → C → Type 0
+    One x did y = Exchanged k target (see x) (see y) (record { out = out; did = did })
+
+    pub ok_swapped : (result : Result (Vec ℕ) LinkEnd) → Carries k target steps stops (see p) (see q) out far after result → IfOk result (λ r. Swapped One steps stops p out far q after (λ did. did ≡ Stepped out r.items ∷ []))
+    ok_swapped (Ok r) (c, over, ready) = record { did = Stepped out r.items ∷ []; link = c.exchanged; far_moved = c.far_moved; tells = refl }
+    ok_swapped (Err e) c = tt
+
+    pub err_swapped : (result : Result (Vec ℕ) LinkEnd) → Carries k target steps stops (see p) (see q) out far after result → IfErr result (λ e. Swapped One steps stops p out far q after (AskedBy e.answered e.cause out))
+    err_swapped (Ok r) c = tt
+    err_swapped (Err e) (did, c, asked, over, calm) = record { did = did; link = c.exchanged; far_moved = c.far_moved; tells = asked }

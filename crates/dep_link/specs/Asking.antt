@@ -28,11 +28,11 @@ use Rattle.dep_link.specs.Exchange.{InStep, IsCut, frames_of, pieces, frames_bac
 use Rattle.dep_link.specs.Answering.{answering_air}
 use Rattle.dep_link.specs.Peers.{IsPeer}
 
--- Where an initiator stands: this frame was sent; the reply came; it ended by a fault; or something was heard that belongs to
+-- Where an initiator stands: this frame was sent; this reply came; it ended by a fault; or something was heard that belongs to
 -- no exchange.
 pub data Standing : Type 0 where
   Waits : InitState → Signal → Standing
-  Rests : InitState → Standing
+  Rests : InitState → List ℕ → Standing
   Broken : EndCause → Standing
   Astray : Standing
 
@@ -41,7 +41,7 @@ asks i out = Waits (begun i out) (air_frame (request (begun i out).core))
 
 abbrev pub goes_by : InitState → InitStep → Standing
 goes_by i (steps.Send f) = Waits i f
-goes_by i (steps.Finished reply) = Rests i
+goes_by i (steps.Finished reply) = Rests i reply.items
 goes_by i steps.SixBad = Broken SixBad
 goes_by i steps.Protocol = Broken Protocol
 
@@ -50,7 +50,7 @@ abbrev pub noted : Standing → Note → Standing
 noted (Waits i f) Lit = Astray
 noted (Waits i f) Lost = Broken FieldLost
 noted (Waits i f) (Got h) = goes_by (init_table i h).state (init_table i h).does
-noted (Rests i) n = Astray
+noted (Rests i reply) n = Astray
 noted (Broken e) n = Astray
 noted Astray n = Astray
 
@@ -60,7 +60,7 @@ stand s (n ∷ ns) = stand (noted s n) ns
 
 abbrev pub due_at : Standing → Next
 due_at (Waits i f) = Asks f
-due_at (Rests i) = Over
+due_at (Rests i reply) = Over
 due_at (Broken e) = Over
 due_at Astray = Over
 
@@ -128,7 +128,7 @@ module _ {L : Type 0} (k : Ghosts L) (target : L → TargetState) where
   abbrev pub EndsBy : {F : Type 0} → (F → List ℕ → List ℕ → F → Type 0) → (F → List ℕ → F → Type 0) → Air L → Air L → L → InitState → InitState → ℕ → List (List ℕ) → List Signal → List ℕ → F → F
       → Result (ArrayVec ℕ) Unanswered → Type 0
   EndsBy steps stops old new peer i j first handed arrived out far after (Ok r) =
-      (x : ExchangeTurns old new peer i first handed arrived out (Some r.items) (Rests j)) × steps far out r.items after × (new.lit ≡ true)
+      (x : ExchangeTurns old new peer i first handed arrived out (Some r.items) (Rests j r.items)) × steps far out r.items after × (new.lit ≡ true)
       × HasPeer new j first (handed ++ out ∷ []) (arrived ++ turns.arrived x.events)
   EndsBy steps stops old new peer i j first handed arrived out far after (Err (Ended FieldLost)) =
       UnderWay steps old new peer i first handed arrived out far after (λ s es. (s ≡ Broken FieldLost) × (0 < noise es))

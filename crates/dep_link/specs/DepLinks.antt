@@ -79,13 +79,14 @@ dep_view p = record {
   last = p.initiator.out;
 }
 
--- Where an initiator stands whose exchange ended so.
-abbrev pub StandsAt : Option EndCause → InitState → Standing → Type 0
-StandsAt None i s = s ≡ Rests i
-StandsAt (Some FieldLost) i s = s ≡ Broken FieldLost
-StandsAt (Some SixBad) i s = s ≡ Broken SixBad
-StandsAt (Some Memory) i s = (f : Signal) × (s ≡ Waits i f)
-StandsAt (Some Protocol) i s = ⊥
+-- Where an initiator stands whose exchange ended so, in which that reply was given. A link that isn't over rests with it.
+abbrev pub StandsAt : Option EndCause → Option (List ℕ) → InitState → Standing → Type 0
+StandsAt None None i s = ⊥
+StandsAt None (Some reply) i s = s ≡ Rests i reply
+StandsAt (Some FieldLost) given i s = s ≡ Broken FieldLost
+StandsAt (Some SixBad) given i s = s ≡ Broken SixBad
+StandsAt (Some Memory) given i s = (f : Signal) × (s ≡ Waits i f)
+StandsAt (Some Protocol) given i s = ⊥
 
 -- What a swap tells whose exchange brought no reply: why, and whether the far end made its step, which it did where the payload
 -- came and it didn't stop.
@@ -116,7 +117,7 @@ module _ {L : Type 0} (k : Ghosts L) (target : L → TargetState) where
   -- turns of an exchange with this peer, in which that was given, up to where the link stands
   abbrev pub TurnsOf : (a b : DepSeen L) → PeerOf a → List ℕ → Option (List ℕ) → Type 0
   TurnsOf a b t out given =
-      (s : Standing) × ExchangeTurns k target a.air b.air t.listener a.initiator a.first (brought a.first (since a)) (arrived (since a)) out given s × StandsAt b.over b.initiator s
+      (s : Standing) × ExchangeTurns k target a.air b.air t.listener a.initiator a.first (brought a.first (since a)) (arrived (since a)) out given s × StandsAt b.over given b.initiator s
 
   -- What the far end did was asked for by these turns: nothing; one step with the payload, whose reply they brought back; or it
   -- stopped, and so did the turns.

@@ -15,6 +15,7 @@ use crate::listener::PeerListener;
 use air_core::{AirFault, Field};
 use dep_pdu::DepFrame;
 use nfc_base::{Answerer, Carrier, EndCause, LinkEnd};
+use nfc_link::Link;
 use std::alloc::Global;
 
 /// The most bytes of a payload (this project's own).
@@ -140,6 +141,27 @@ impl<'a, L: PeerListener> Carrier for DepPair<'a, L> {
     ghost stays = { λ a. moves_again _ _ _ };
 
     ghost goes_on = { λ a b c xs ys p q. moves_on _ _ _ _ _ _ _ p q };
+}
+
+impl<'a, L: PeerListener> Link for DepPair<'a, L> {
+    ghost use Rattle.dep_link.specs.DepLinks.{seen_pair, Exchanged};
+
+    ghost swaps = { λ a out did b. Exchanged L.Listener L.target (seen_pair a) (seen_pair b) (record { out = out; did = did }) };
+
+    fn exchange<A: Answerer>(
+        &mut self,
+        alloc: Global,
+        out: &[u8],
+        far: &mut A,
+    ) -> Result<Vec<u8>, LinkEnd> {
+        if let Some(cause) = self.over {
+            return Err(LinkEnd {
+                cause,
+                answered: false,
+            });
+        }
+        self.carry(alloc, out, far)
+    }
 }
 
 /// Ends a link by RLS_REQ, which is sent once, whatever is heard of it.
