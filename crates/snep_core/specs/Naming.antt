@@ -1,5 +1,5 @@
 -- Under which name, and to which SAP, a SNEP server is bound (NFC Forum SNEP 1.0).
-use Rattle.std.specs.Prelude.{ℕ, List, [], ◌∷◌, codes}
+use Rattle.std.specs.Prelude.{ℕ, List, codes}
 use Rattle.llcp_link.specs.State.{Bound}
 use Rattle.snep_core.specs.Talk.{server_sap}
 
