@@ -17,7 +17,7 @@ mod writing;
 
 pub use device::{Device, PoweredTag, T2Upper, T4Upper};
 pub use law::{devices_stay, peers_stay_unlinked};
-pub use peer::PeerUpper;
+pub use peer::{PeerUpper, peer_params};
 pub use polling::{SeenKind, Selection, is_named, place_of, select};
 pub use reading::read;
 pub use sweeping::{Everybody, sweep_field};

@@ -19,8 +19,8 @@ const VERSION: u8 = 0x13;
 /// The services of a peer: link management, service discovery and SNEP, by their SAPs 0, 1 and 4.
 const SERVICES: u16 = 0x0013;
 
-/// What an end with this MIU says of its link.
-fn params(miu: u16) -> LinkParams
+/// What a peer with this MIU says of its link.
+pub fn peer_params(miu: u16) -> LinkParams
     ensures { result ≡ peer_params miu }
 {
     LinkParams {
@@ -64,7 +64,7 @@ impl PeerUpper {
         ensures { result ≡ new_near id.now lr miu }
     {
         PeerUpper {
-            target: Target::new(id3_of(id), lr, general_write(&params(miu))),
+            target: Target::new(id3_of(id), lr, general_write(&peer_params(miu))),
             linked: false,
         }
     }

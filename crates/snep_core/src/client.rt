@@ -13,6 +13,7 @@ ghost use Rattle.snep_core.specs.declared.job.Job.{Job};
 use crate::fault::SnepFault;
 use crate::job::{Ending, Job};
 use crate::message::{GET, PUT, write_request};
+use crate::server::SNEP_SAP;
 use crate::silent::NoService;
 use bytes::Bytes;
 use llcp_link::{Llc, LlcFault, Standing};
@@ -21,10 +22,7 @@ use std::alloc::Global;
 use std::marker::Model;
 
 /// The SAP of this end from which a client connects.
-pub(crate) const CLIENT_SAP: u8 = 32;
-
-/// The SAP of a server.
-const SERVER_SAP: u8 = 4;
+pub const CLIENT_SAP: u8 = 32;
 
 /// A client of a SNEP server (NFC Forum SNEP 1.0) on one link. After want of memory it answers nothing else.
 #[derive(Debug, Drop)]
@@ -126,7 +124,7 @@ impl Client {
         ensures err { IfErr result (λ e. e ≡ SnepFault.Memory) }
         ensures spent { IfErr result (λ e. self.new.spent ≡ true) }
     {
-        match self.llc.connect(SERVER_SAP) {
+        match self.llc.connect(SNEP_SAP) {
             Ok(()) => Ok(()),
             Err(LlcFault::Busy) => Ok(()),
             Err(LlcFault::Memory | LlcFault::NameTaken | LlcFault::SapTaken) => Err(self.spend()),

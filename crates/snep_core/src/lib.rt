@@ -21,12 +21,12 @@ mod silent;
 mod submitting;
 mod turning;
 
-pub use client::Client;
+pub use client::{CLIENT_SAP, Client};
 pub use fault::SnepFault;
 pub use law::{
     any_table, calls_end, cut_off, fronts, in_order, last_put, link, one_list, payloads, peer,
 };
-pub use server::Server;
+pub use server::{SNEP_NAME, SNEP_SAP, Server};
 pub use silent::NoService;
 
 #[cfg(test)]

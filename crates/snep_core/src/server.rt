@@ -10,6 +10,12 @@ use nfc_base::Items;
 use std::alloc::{AllocError, Global};
 use std::marker::Model;
 
+/// The name that a server is bound under (NFC Forum SNEP 1.0).
+pub const SNEP_NAME: &str = "urn:nfc:sn:snep";
+
+/// The SAP that it is bound to.
+pub const SNEP_SAP: u8 = 4;
+
 /// A SNEP server (NFC Forum SNEP 1.0), the service of an end of a link. Each client's SAP has a session of its own.
 #[derive(Debug, Drop)]
 pub struct Server {
