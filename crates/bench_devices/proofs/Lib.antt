@@ -62,3 +62,7 @@ pub mod PeerLinks
 pub mod CalmFrames
 pub mod CalmDues
 pub mod TagOrPeer
+pub mod OpenPeer
+pub mod BesideLink
+pub mod PeerInStep
+pub mod OpensPeer

@@ -21,3 +21,4 @@ pub mod Phases
 pub mod Linking
 pub mod Choosing
 pub mod Calm
+pub mod Opening
