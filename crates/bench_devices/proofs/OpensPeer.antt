@@ -130,7 +130,7 @@ module _ (old : Air Device) (place : ℕ) (d : Device) (s : Stands (moment old) 
   lit_before : old.lit ≡ true
   lit_before = ap (λ (w : World Device). w.lit) s.world
 
-  pub has_target : (general : List ℕ) → length general ≤ 48 → HasTarget ghosts device_end old general
+  abbrev pub has_target : (general : List ℕ) → length general ≤ 48 → HasTarget ghosts device_end old general
   has_target general short = record { place = place; listener = d; alone = stands_alone old place d s; takes = takes_atr d s.sound s.selected tag general short }
 
   -- a peer that is selected in the field afterwards is this one
