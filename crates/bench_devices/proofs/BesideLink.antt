@@ -20,26 +20,21 @@ use Rattle.bench_devices.specs.declared.device.Device.TheVariants.{T2, T4, Peer,
 use Rattle.bench_devices.specs.declared.polling.SeenKind.TheVariants as seen
 use Rattle.bench_devices.specs.Device.{devices, device_tech, device_selected, seen_of}
 use Rattle.bench_devices.specs.Keeping.{Kept, ghosts, kept, EachAsked}
-use Rattle.bench_devices.specs.Phases.{IsTidy, AreTidy}
+use Rattle.bench_devices.specs.Beside.{PeerAt, TalkLeaves}
+use Rattle.bench_devices.specs.Phases.{IsTidy}
 use Rattle.bench_devices.proofs.EveryFrame.{aside_keeps}
 use Rattle.bench_devices.proofs.PeerMade.{peer_kept}
 use Rattle.bench_devices.proofs.QuietRats.{laws}
 use Rattle.bench_devices.proofs.SelectingKept.{due_asked, kept_dark, kept_lit}
 use Rattle.bench_devices.proofs.Tidy.{stepped_tidy, dark_tidy, woken_tidy, all_tidy}
 
--- a peer stands at a place, and all others are aside
-abbrev pub AtPeer : List ℕ → ℕ → List Device → Type 0
-AtPeer own place [] = Unit {0}
-AtPeer own zero (l ∷ ls) = (seen_of l ≡ seen.Peer) × AllByRecursion (IsAside ghosts own) ls
-AtPeer own (suc place) (l ∷ ls) = IsAside ghosts own l × AtPeer own place ls
-
-pub at_aside : (own : List ℕ) (place : ℕ) (ls : List Device) → AtPeer own place ls → AsideBut ghosts own place ls
-at_aside own place [] a = tt
+pub at_aside : (own : List ℕ) (place : ℕ) (ls : List Device) → PeerAt own place ls → AsideBut ghosts own place ls
+at_aside own place [] a = absurd a
 at_aside own zero (l ∷ ls) a = a.1
 at_aside own (suc place) (l ∷ ls) a = (a.0, at_aside own place ls a.1)
 
 pub at_split : (own : List ℕ) (before : List Device) (d : Device) (behind : List Device) → seen_of d ≡ seen.Peer → AllByRecursion (IsAside ghosts own) before
-    → AllByRecursion (IsAside ghosts own) behind → AtPeer own (length before) (before ++ d ∷ behind)
+    → AllByRecursion (IsAside ghosts own) behind → PeerAt own (length before) (before ++ d ∷ behind)
 at_split own [] d behind is first later = (is, later)
 at_split own (b ∷ before) d behind is first later = (first.0, at_split own before d behind is first.1 later)
 
@@ -58,16 +53,10 @@ only_one own [] x behind (suc n) a t s = absurd (not_aside own x a.0 t s)
 only_one own (b ∷ before) x behind zero a t s = absurd (not_aside own x (aside_at own before x behind a) t s)
 only_one own (b ∷ before) x behind (suc n) a t s = ap suc (only_one own before x behind n a.1 t s)
 
--- what each of these leaves of some devices
-pub record LinkLeaves (own : List ℕ) (place : ℕ) (old new : List Device) : Type 0 where
-  pub same : map kept new ≡ map kept old
-  pub at : AtPeer own place new
-  pub tidy : AreTidy old → AreTidy new
-
-pub leaves_all : (own : List ℕ) (place : ℕ) (ls : List Device) → AtPeer own place ls → LinkLeaves own place ls ls
+pub leaves_all : (own : List ℕ) (place : ℕ) (ls : List Device) → PeerAt own place ls → TalkLeaves own place ls ls
 leaves_all own place ls a = record { same = refl; at = a; tidy = λ t. t }
 
-pub leaves_both : (own : List ℕ) (place : ℕ) (a b c : List Device) → LinkLeaves own place a b → LinkLeaves own place b c → LinkLeaves own place a c
+pub leaves_both : (own : List ℕ) (place : ℕ) (a b c : List Device) → TalkLeaves own place a b → TalkLeaves own place b c → TalkLeaves own place a c
 leaves_both own place a b c x y = record { same = y.same ∙ x.same; at = y.at; tidy = λ t. y.tidy (x.tidy t) }
 
 module _ (own : List ℕ) where
@@ -85,17 +74,17 @@ module _ (own : List ℕ) where
     aside_all [] a = tt
     aside_all (l ∷ ls) a = ((other l a.0).1, aside_all ls a.1)
 
-    map_kept : (place : ℕ) (ls : List Device) → AtPeer own place ls → map kept (map g ls) ≡ map kept ls
-    map_kept place [] a = refl
+    map_kept : (place : ℕ) (ls : List Device) → PeerAt own place ls → map kept (map g ls) ≡ map kept ls
+    map_kept place [] a = absurd a
     map_kept zero (l ∷ ls) a = both_kept (kept (g l)) l (map kept (map g ls)) ls (one l a.0) (aside_kept ls a.1)
     map_kept (suc place) (l ∷ ls) a = both_kept (kept (g l)) l (map kept (map g ls)) ls (other l a.0).0 (map_kept place ls a.1)
 
-    map_at : (place : ℕ) (ls : List Device) → AtPeer own place ls → AtPeer own place (map g ls)
-    map_at place [] a = tt
+    map_at : (place : ℕ) (ls : List Device) → PeerAt own place ls → PeerAt own place (map g ls)
+    map_at place [] a = absurd a
     map_at zero (l ∷ ls) a = (ap (λ (k : Kept). k.fixed.kind) (one l a.0) ∙ a.0, aside_all ls a.1)
     map_at (suc place) (l ∷ ls) a = ((other l a.0).1, map_at place ls a.1)
 
-    map_leaves : (place : ℕ) (ls : List Device) → AtPeer own place ls → LinkLeaves own place ls (map g ls)
+    map_leaves : (place : ℕ) (ls : List Device) → PeerAt own place ls → TalkLeaves own place ls (map g ls)
     map_leaves place ls a = record { same = map_kept place ls a; at = map_at place ls a; tidy = λ t. all_tidy g tidy ls t }
 
   -- the dark, and light behind it
@@ -108,10 +97,10 @@ module _ (own : List ℕ) where
   lit_aside (Peer d) a = record { rests = λ h. (refl, refl); other = a.other }
   lit_aside (T5 p) a = record { rests = λ h. absurd cc; other = a.other }
 
-  dark_leaves : (place : ℕ) (ls : List Device) → AtPeer own place ls → LinkLeaves own place ls (map devices.darkened ls)
+  dark_leaves : (place : ℕ) (ls : List Device) → PeerAt own place ls → TalkLeaves own place ls (map devices.darkened ls)
   dark_leaves place ls a = map_leaves devices.darkened (λ l is. kept_dark l) (λ l b. (kept_dark l, dark_aside l b)) dark_tidy place ls a
 
-  lit_leaves : (place : ℕ) (ls : List Device) → AtPeer own place ls → LinkLeaves own place ls (map (λ l. devices.woken (devices.darkened l)) ls)
+  lit_leaves : (place : ℕ) (ls : List Device) → PeerAt own place ls → TalkLeaves own place ls (map (λ l. devices.woken (devices.darkened l)) ls)
   lit_leaves place ls a =
       map_leaves (λ l. devices.woken (devices.darkened l)) (λ l is. kept_lit (devices.darkened l) ∙ kept_dark l)
       (λ l b. (kept_lit (devices.darkened l) ∙ kept_dark l, lit_aside l b)) (λ l t. woken_tidy (devices.darkened l) (dark_tidy l t)) place ls a
@@ -143,16 +132,16 @@ module _ (own : List ℕ) where
       peer_step (Peer d) is = peer_kept d f (reply_for r (devices.handed (Peer d) f))
       peer_step (T5 p) is = absurd cc
 
-      step_leaves : (place : ℕ) (ls : List Device) → AtPeer own place ls → LinkLeaves own place ls (map step ls)
+      step_leaves : (place : ℕ) (ls : List Device) → PeerAt own place ls → TalkLeaves own place ls (map step ls)
       step_leaves place ls a = map_leaves step peer_step aside_step (λ l t. stepped_tidy f (reply_for r (devices.handed l f)) l t) place ls a
 
-    requested_leaves : (place : ℕ) (w : World Device) (f : Signal) (x : Fate) → f ≡ whole_a f.bytes → AtPeer own place w.listeners → LinkLeaves own place w.listeners (requested m w f x).listeners
+    requested_leaves : (place : ℕ) (w : World Device) (f : Signal) (x : Fate) → f ≡ whole_a f.bytes → PeerAt own place w.listeners → TalkLeaves own place w.listeners (requested m w f x).listeners
     requested_leaves place w f Pass whole a = step_leaves f whole place w.listeners a
     requested_leaves place w f Damage whole a = leaves_all own place w.listeners a
     requested_leaves place w f Lose whole a = leaves_all own place w.listeners a
     requested_leaves place w f Break whole a = dark_leaves place w.listeners a
 
-    back_leaves : (place : ℕ) (w : World Device) (x : Fate) → AtPeer own place w.listeners → LinkLeaves own place w.listeners (came_back m w x).listeners
+    back_leaves : (place : ℕ) (w : World Device) (x : Fate) → PeerAt own place w.listeners → TalkLeaves own place w.listeners (came_back m w x).listeners
     back_leaves place w Pass a = leaves_all own place w.listeners a
     back_leaves place w Damage a = leaves_all own place w.listeners a
     back_leaves place w Lose a = leaves_all own place w.listeners a
@@ -161,7 +150,7 @@ module _ (own : List ℕ) where
     abbrev IsWhole : Signal → Type 0
     IsWhole f = f ≡ whole_a f.bytes
 
-    events_leave : (place : ℕ) (es : List Event) (w : World Device) → EachAsked IsWhole es → AtPeer own place w.listeners → LinkLeaves own place w.listeners (replay (answering_air devices r) w es).listeners
+    events_leave : (place : ℕ) (es : List Event) (w : World Device) → EachAsked IsWhole es → PeerAt own place w.listeners → TalkLeaves own place w.listeners (replay (answering_air devices r) w es).listeners
     events_leave place [] w h a = leaves_all own place w.listeners a
     events_leave place (Reset ∷ es) w h a =
         let x = lit_leaves place w.listeners a in
@@ -178,7 +167,7 @@ module _ (own : List ℕ) where
 
     -- whatever was due in such frames
     pub going_leaves : (place : ℕ) (next : List Note → Next) (a b : Moment (World Device)) (ns : List Note) → ((ks : List Note) (f : Signal) → next ks ≡ Asks f → IsWhole f)
-        → Going (answering_air devices r) next a b ns → AtPeer own place a.world.listeners → LinkLeaves own place a.world.listeners b.world.listeners
+        → Going (answering_air devices r) next a b ns → PeerAt own place a.world.listeners → TalkLeaves own place a.world.listeners b.world.listeners
     going_leaves place next a b ns whole g at =
-        subst (λ (x : Moment (World Device)). LinkLeaves own place a.world.listeners x.world.listeners) (sym g.moment)
+        subst (λ (x : Moment (World Device)). TalkLeaves own place a.world.listeners x.world.listeners) (sym g.moment)
         (events_leave place g.events a.world (due_asked IsWhole next whole [] g.events g.each) at)

@@ -40,9 +40,10 @@ use Rattle.bench_devices.specs.declared.polling.SeenKind.TheVariants as seen
 use Rattle.bench_devices.specs.Device.{devices, device_id, device_end, device_target, device_linked, device_selected, seen_of, is_tag}
 use Rattle.bench_devices.specs.Keeping.{Kept, ghosts, kept, IsSound}
 use Rattle.bench_devices.specs.Peers.{PeerNear, IsMadePeer, peer_general, asked_if, takes_frame, peer_machine}
-use Rattle.bench_devices.specs.Phases.{Stands, AreTidy}
+use Rattle.bench_devices.specs.Beside.{PeerAt, TalkLeaves, InStepAt}
+use Rattle.bench_devices.specs.Phases.{Stands}
 use Rattle.bench_devices.specs.Opening.{Opened, OpeningEnds, Opens}
-use Rattle.bench_devices.proofs.BesideLink.{AtPeer, LinkLeaves, at_aside, at_split, only_one, going_leaves}
+use Rattle.bench_devices.proofs.BesideLink.{at_aside, at_split, only_one, going_leaves}
 use Rattle.bench_devices.proofs.CardParts.{at_kept}
 use Rattle.bench_devices.proofs.OpenPeer.{atr_range, takes_atr}
 use Rattle.bench_devices.proofs.ReadingTags as reading
@@ -120,11 +121,11 @@ says_as_made (T4 d) is e = absurd cc
 says_as_made (Peer d) is e = record { made = is.2; code = ap (λ (t : TargetState). t.lr) is.2.made; says = ap (λ (t : TargetState). t.general) is.2.made }
 says_as_made (T5 p) is e = absurd cc
 
-pub at_peer : (old : Air Device) (place : ℕ) (d : Device) → Stands (moment old) place d → is_tag d ≡ false → AtPeer (device_id d) place old.listeners
+pub at_peer : (old : Air Device) (place : ℕ) (d : Device) → Stands (moment old) place d → is_tag d ≡ false → PeerAt (device_id d) place old.listeners
 at_peer old place d s tag =
     let split : old.listeners ≡ s.before ++ d ∷ s.behind = ap (λ (w : World Device). w.listeners) s.world in
-    subst (AtPeer (device_id d) place) (sym split)
-    (subst (λ n. AtPeer (device_id d) n (s.before ++ d ∷ s.behind)) s.at (at_split (device_id d) s.before d s.behind (peer_kind d tag) s.first s.later))
+    subst (PeerAt (device_id d) place) (sym split)
+    (subst (λ n. PeerAt (device_id d) n (s.before ++ d ∷ s.behind)) s.at (at_split (device_id d) s.before d s.behind (peer_kind d tag) s.first s.later))
 
 module _ (old : Air Device) (place : ℕ) (d : Device) (s : Stands (moment old) place d) (tag : is_tag d ≡ false) where
   lit_before : old.lit ≡ true
@@ -134,7 +135,7 @@ module _ (old : Air Device) (place : ℕ) (d : Device) (s : Stands (moment old) 
   has_target general short = record { place = place; listener = d; alone = stands_alone old place d s; takes = takes_atr d s.sound s.selected tag general short }
 
   -- a peer that is selected in the field afterwards is this one
-  module _ (new : Air Device) (leaves : LinkLeaves (device_id d) place old.listeners new.listeners) where
+  module _ (new : Air Device) (leaves : TalkLeaves (device_id d) place old.listeners new.listeners) where
     module _ (i : InitState) (first : ℕ) (handed : List (List ℕ)) (arrived : List Signal) (t : HasPeer ghosts device_end new i first handed arrived) where
       pub same_place : t.place ≡ place
       same_place =
@@ -156,27 +157,31 @@ module _ (old : Air Device) (place : ℕ) (d : Device) (s : Stands (moment old) 
       pub has_link : device_linked t.listener ≡ true
       has_link = linked_peer t.listener (ap (λ (k : Kept). k.fixed.kind) same_kept ∙ peer_kind d tag) t.selected t.is t.step.heeds
 
+    -- both ends in step are so at this place
+    abbrev pub in_step : (i : InitState) (first : ℕ) → i.core.number ≡ first → new.lit ≡ true → HasPeer ghosts device_end new i first [] [] → InStepAt new place i
+    in_step i first number lit t = record {
+      step = (lit, record {
+        place = t.place;
+        listener = t.listener;
+        selected = t.selected;
+        alone = t.alone;
+        is = t.is;
+        step = t.step;
+        cut = subst (λ n. IsCut n (device_end t.listener) [] []) (sym number) t.cut;
+      });
+      at = same_place i first [] [] t;
+      linked = has_link i first [] [] t;
+    }
+
     pub opened : (i : InitState) (told : List ℕ) → IsActivated ghosts device_end new (device_end d) i told → Opened new place d i told
     opened i told a =
         let says : SaysAsMade d = says_as_made d s.sound tag in
-        let number : i.core.number ≡ 0 = ap (λ (j : InitState). j.core.number) a.initiator in
-        let t : HasPeer ghosts device_end new i 0 [] [] = a.peer in
         record {
           made = says.made;
           initiator = a.initiator ∙ ap waiting says.code;
           general = a.told_own ∙ says.says;
-          step = (a.lit, record {
-            place = t.place;
-            listener = t.listener;
-            selected = t.selected;
-            alone = t.alone;
-            is = t.is;
-            step = t.step;
-            cut = subst (λ n. IsCut n (device_end t.listener) [] []) (sym number) t.cut;
-          });
-          at = same_place i 0 [] [] t;
-          linked = has_link i 0 [] [] t;
-          same = same_kept i 0 [] [] t;
+          here = in_step i 0 (ap (λ (j : InitState). j.core.number) a.initiator) a.lit a.peer;
+          same = same_kept i 0 [] [] a.peer;
         }
 
   -- ATR_REQ was asked of the peer
@@ -219,7 +224,7 @@ module _ (old : Air Device) (place : ℕ) (d : Device) (s : Stands (moment old) 
       known = speaks.known;
     }
 
-    leaves : LinkLeaves (device_id d) place old.listeners new.listeners
+    leaves : TalkLeaves (device_id d) place old.listeners new.listeners
     leaves = going_leaves (device_id d) [] place (atr_next general) (moment old) (moment new) turns.notes (atr_whole general) going (at_peer old place d s tag)
 
     answers : AnswersAtr true turns.notes (stand 0 (atr_frame general ∷ []) turns.notes) result
@@ -274,7 +279,5 @@ module _ (old : Air Device) (place : ℕ) (d : Device) (s : Stands (moment old) 
       answers = answers;
       lost = (some_break, by_break);
       ends = ends_by result refl ends;
-      same = leaves.same;
-      tidy = leaves.tidy;
-      aside = at_aside (device_id d) place new.listeners leaves.at;
+      leaves = leaves;
     }

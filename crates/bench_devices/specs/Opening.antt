@@ -1,8 +1,7 @@
 -- Opening a link to a peer of the bench that is selected: which request is due, and what is there once it ended (NFCIP-1, ISO/IEC 18092;
 -- NFC Forum Digital Protocol).
-use Rattle.std.specs.Prelude.{◌≡◌, ◌↔◌, ℕ, ◌<◌, List, [], ◌∷◌, map, Bool, true, false, Result, Ok, Err}
+use Rattle.std.specs.Prelude.{◌≡◌, ◌↔◌, ℕ, ◌<◌, List, [], ◌∷◌, true, false, Result, Ok, Err}
 use Rattle.nfc_base.specs.Trace.{breaks}
-use Rattle.nfc_base.specs.declared.event.Event.{Event}
 use Rattle.nfc_base.specs.declared.carrier.EndCause.{EndCause}
 use Rattle.nfc_base.specs.declared.carrier.EndCause.TheVariants.{FieldLost, SixBad, Protocol, Memory}
 use Rattle.air_core.specs.Conversation.{Note, Next, Over}
@@ -13,16 +12,15 @@ use Rattle.arrayvec.specs.ArrayVec.{ArrayVec}
 use Rattle.dep_link.specs.Initiator.{InitState, waiting}
 use Rattle.dep_link.specs.Activating.{atr_frame}
 use Rattle.dep_link.specs.AnyTarget.{AnswersAtr, atr_next}
-use Rattle.dep_link.specs.DepLinks.{IsInStep}
-use Rattle.peer_air.specs.Aside.{AsideBut}
 use Rattle.bench_script.specs.declared.command.DeviceId.{DeviceId}
 use Rattle.bench_devices.specs.declared.device.Device.{Device}
 use Rattle.bench_devices.specs.declared.polling.SeenKind.{SeenKind}
 use Rattle.bench_devices.specs.declared.polling.SeenKind.TheVariants as seen
-use Rattle.bench_devices.specs.Device.{devices, device_id, device_end, device_target, device_linked, is_tag}
-use Rattle.bench_devices.specs.Keeping.{ghosts, kept}
+use Rattle.bench_devices.specs.Beside.{TalkLeaves, InStepAt}
+use Rattle.bench_devices.specs.Device.{devices, device_id, device_target, is_tag}
+use Rattle.bench_devices.specs.Keeping.{kept}
 use Rattle.bench_devices.specs.Peers.{IsMadePeer, peer_general}
-use Rattle.bench_devices.specs.Phases.{Stands, AreTidy}
+use Rattle.bench_devices.specs.Phases.{Stands}
 use Rattle.bench_devices.specs.Polling as polls
 use Rattle.bench_devices.specs.Polling.{Followed, Told, selecting}
 
@@ -43,15 +41,13 @@ abbrev pub linking : DeviceId → List ℕ → List Note → Next
 linking id general ns = then_opens general (selecting id ns)
 
 -- A link is open to the peer that stood at a place: its initiator cuts to this peer's LR code, and was told the general bytes by which
--- such a peer says its MIU. Both ends are in step, the peer at its place has a link, and all that stays of it is as it was.
+-- such a peer says its MIU. Both ends are in step, and all that stays of the peer is as it was.
 pub record Opened (new : Air Device) (place : ℕ) (d : Device) (i : InitState) (told : List ℕ) : Type 0 where
   pub made : IsMadePeer (device_id d) (device_target d)
   pub initiator : i ≡ waiting made.lr
   pub general : told ≡ peer_general made.miu
-  pub step : IsInStep ghosts device_end new i
-  pub at : step.1.place ≡ place
-  pub linked : device_linked step.1.listener ≡ true
-  pub same : kept step.1.listener ≡ kept d
+  pub here : InStepAt new place i
+  pub same : kept here.step.1.listener ≡ kept d
 
 -- what is there, by how it ended; no answer comes that isn't allowed
 abbrev pub OpeningEnds : Air Device → ℕ → Device → Result (InitState × ArrayVec ℕ) EndCause → Type 0
@@ -62,7 +58,7 @@ OpeningEnds new place d (Err Protocol) = ⊥
 OpeningEnds new place d (Err Memory) = new.lit ≡ true
 
 -- So it was asked of the peer at a place, up to some end: each request was due, and this is told by what was heard. The field is lost
--- exactly where a Break was used. Of all that stays of the devices nothing changed, and all others are aside still.
+-- exactly where a Break was used.
 pub record Opens {F : Type 0} (restarts : F → List ℕ → F → Type 0) (steps : F → List ℕ → List ℕ → F → Type 0) (old : Air Device) (far : F) (new : Air Device) (after : F)
     (general : List ℕ) (place : ℕ) (d : Device) (result : Result (InitState × ArrayVec ℕ) EndCause) : Type 0 where
   pub notes : List Note
@@ -70,9 +66,7 @@ pub record Opens {F : Type 0} (restarts : F → List ℕ → F → Type 0) (step
   pub answers : AnswersAtr true notes (stand 0 (atr_frame general ∷ []) notes) result
   pub lost : (result ≡ Err FieldLost) ↔ (0 < breaks speaks.events)
   pub ends : OpeningEnds new place d result
-  pub same : map kept new.listeners ≡ map kept old.listeners
-  pub tidy : AreTidy old.listeners → AreTidy new.listeners
-  pub aside : AsideBut ghosts (device_id d) place new.listeners
+  pub leaves : TalkLeaves (device_id d) place old.listeners new.listeners
 
 -- so it was, of whatever peer stands at a place
 abbrev pub OpensAny : {F : Type 0} → (F → List ℕ → F → Type 0) → (F → List ℕ → List ℕ → F → Type 0) → Air Device → F → Air Device → F → List ℕ → Result (InitState × ArrayVec ℕ) EndCause → Type 0
