@@ -1,6 +1,6 @@
 -- What the turns of a link leave: frames of whole bytes of NFC-A, light and dark, under a far end that replies one thing. All that stays
 -- of the devices stays, all but the peer are aside still, and each has a link at most while it is active.
-use Rattle.std.proofs.Common.{◌≡◌, ℕ, zero, suc, List, [], ◌∷◌, ◌++◌, map, length, Bool, true, false, if◌then◌else◌, Option, None, refl, sym, ◌∙◌, ap, subst}
+use Rattle.std.proofs.Common.{◌≡◌, ℕ, zero, suc, List, [], ◌∷◌, ◌++◌, map, length, Bool, true, false, if◌then◌else◌, None, refl, sym, ◌∙◌, ap, subst}
 use Rattle.std.specs.List.{AllByRecursion}
 use Rattle.nfc_base.specs.Signal.{Signal, whole_a}
 use Rattle.nfc_base.specs.Far.{Untouched}
@@ -97,7 +97,7 @@ module _ (own : List ℕ) where
   lit_aside (Peer d) a = record { rests = λ h. (refl, refl); other = a.other }
   lit_aside (T5 p) a = record { rests = λ h. absurd cc; other = a.other }
 
-  dark_leaves : (place : ℕ) (ls : List Device) → PeerAt own place ls → TalkLeaves own place ls (map devices.darkened ls)
+  pub dark_leaves : (place : ℕ) (ls : List Device) → PeerAt own place ls → TalkLeaves own place ls (map devices.darkened ls)
   dark_leaves place ls a = map_leaves devices.darkened (λ l is. kept_dark l) (λ l b. (kept_dark l, dark_aside l b)) dark_tidy place ls a
 
   lit_leaves : (place : ℕ) (ls : List Device) → PeerAt own place ls → TalkLeaves own place ls (map (λ l. devices.woken (devices.darkened l)) ls)

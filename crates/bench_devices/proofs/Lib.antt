@@ -66,3 +66,8 @@ pub mod OpenPeer
 pub mod BesideLink
 pub mod PeerInStep
 pub mod OpensPeer
+pub mod PeerHere
+pub mod TalkTurns
+pub mod SwapLeaves
+pub mod LinkingNotes
+pub mod LinkFar

@@ -18,12 +18,12 @@ use Rattle.dep_link.specs.declared.target.TargetStep.{TargetStep}
 use Rattle.dep_link.specs.declared.target.TargetStep.TheVariants as steps
 use Rattle.dep_link.specs.Sizes.{limit}
 use Rattle.dep_link.specs.Frames.{after, names_atr, is_atr_req, spelled}
-use Rattle.dep_link.specs.Target.{TargetState, TargetTurn, TargetMove, Does, Stays, Answers, Begins, Delivers, Sleeps, Frees, stays, again, repeated, grown, gathered, drawn, extended, heeded, framed, framed_does, target_table, fresh, darkened, made_busy, atr_res}
+use Rattle.dep_link.specs.Target.{TargetState, TargetTurn, TargetMove, Does, Stays, Answers, Begins, Delivers, Sleeps, Frees, again, repeated, grown, gathered, drawn, extended, heeded, framed, framed_does, target_table, fresh, darkened, made_busy, atr_res}
 use Rattle.dep_link.specs.Moves.{SameSelf, same_self}
 use Rattle.dep_link.specs.Delivering.{obeyed_same, then_same}
 use Rattle.dep_link.specs.Answering.{reply_for}
 use Rattle.dep_link.specs.Sessions.{IsBusy}
-use Rattle.dep_link.specs.Peers.{target_use, answered_with, left_with, IsAskedFrame, IsAsked, IsShort, Hearing, IsHearing, heard_with, reached, StepsByTarget, IsPeer}
+use Rattle.dep_link.specs.Peers.{target_use, answered_with, left_with, IsAskedFrame, IsAsked, Hearing, IsHearing, heard_with, reached, StepsByTarget, IsPeer}
 use Rattle.dep_link.specs.Activating.{atr_req, atr_frame, sent_times, TakesAtr}
 use Rattle.dep_link.proofs.Wire.{written_read, target_heeds}
 use Rattle.bench_devices.specs.declared.device.Device.{Device}

@@ -1,6 +1,6 @@
 -- What opening a link to the selected peer comes to.
-use Rattle.std.proofs.Common.{◌≡◌, ◌⊎◌, inl, inr, ℕ, zero, suc, ◌<◌, ◌≤◌, List, [], ◌∷◌, ◌++◌, map, length, Bool, true, false, if◌then◌else◌, Option, Some, None, refl, sym, ◌∙◌, ap, subst, arith}
-use Rattle.std.specs.Prelude.{◌↔◌, Result, Ok, Err}
+use Rattle.std.proofs.Common.{◌≡◌, inl, inr, ℕ, ◌<◌, ◌≤◌, List, [], ◌∷◌, ◌++◌, length, Bool, true, false, if◌then◌else◌, Some, None, refl, sym, ◌∙◌, ap, subst, arith}
+use Rattle.std.specs.Prelude.{Result, Ok, Err}
 use Rattle.std.proofs.lemmas.Bool.{cases_lt}
 use Rattle.std.proofs.lemmas.List.{append_cancel_left}
 use Rattle.nfc_base.specs.Signal.{Signal, whole_a}
@@ -10,26 +10,23 @@ use Rattle.nfc_base.specs.declared.event.Event.{Event}
 use Rattle.nfc_base.specs.declared.carrier.EndCause.{EndCause}
 use Rattle.nfc_base.specs.declared.carrier.EndCause.TheVariants.{FieldLost, SixBad, Protocol, Memory}
 use Rattle.nfc_base.specs.declared.tag_link.AskFault.TheVariants as faults
-use Rattle.air_core.specs.World.{World, hears, hands_over}
-use Rattle.air_core.specs.Turn.{Air, moment, world, HearSome, Stops}
-use Rattle.air_core.specs.Conversation.{Moment, Note, Next, Asks, Going, AreTurns, with_events, receptions, replay}
+use Rattle.air_core.specs.World.{World, hears}
+use Rattle.air_core.specs.Turn.{Air, moment, world, HearSome}
+use Rattle.air_core.specs.Conversation.{Moment, Note, Asks, Going, AreTurns, with_events}
 use Rattle.air_core.specs.Speaking.{Speaks, LeavesOff}
-use Rattle.air_core.specs.Waits.{Standing, Asking, Broken, Astray, stand, waits_next}
+use Rattle.air_core.specs.Waits.{Standing, Asking, Broken, stand}
 use Rattle.air_core.specs.PlainLinks.{at_place}
 use Rattle.air_core.proofs.PlainStores.{place_is}
 use Rattle.air_core.proofs.DueWaits.{due_all}
 use Rattle.air_core.proofs.BrokenWaits.{lost_ends, stays_lit}
 use Rattle.air_core.proofs.LostField.{HasLost, going_lost}
-use Rattle.peer_air.specs.Aside.{AsideBut}
 use Rattle.arrayvec.specs.ArrayVec.{ArrayVec}
-use Rattle.dep_link.specs.declared.target.TargetStep.TheVariants as steps
 use Rattle.dep_link.specs.Answering.{answering, answering_air}
 use Rattle.dep_link.specs.Initiator.{InitState, waiting}
 use Rattle.dep_link.specs.Target.{TargetState, TargetTurn, target_table, framed, heeded}
 use Rattle.dep_link.specs.Asking.{HasPeer}
-use Rattle.dep_link.specs.Activating.{atr_req, atr_frame, RestartedTimes, HasTarget, AtrSent, IsActivated, AtrFails, AtrEnds}
-use Rattle.dep_link.specs.AnyTarget.{cause_of, AnswersAtr, AsksAtr, atr_next}
-use Rattle.dep_link.specs.Exchange.{IsCut}
+use Rattle.dep_link.specs.Activating.{atr_req, atr_frame, HasTarget, AtrSent, IsActivated, AtrEnds}
+use Rattle.dep_link.specs.AnyTarget.{AnswersAtr, AsksAtr, atr_next}
 use Rattle.dep_link.specs.Peers.{target_use}
 use Rattle.dep_link.proofs.Wire.{target_heeds}
 use Rattle.nfca_poll.specs.Front.{Front, Off, Idle, Sleep, Ready, Active}
@@ -37,18 +34,18 @@ use Rattle.nfca_poll.specs.Fronted.{Fronted, handed_by}
 use Rattle.bench_devices.specs.declared.device.Device.{Device}
 use Rattle.bench_devices.specs.declared.device.Device.TheVariants.{T2, T4, Peer, T5}
 use Rattle.bench_devices.specs.declared.polling.SeenKind.TheVariants as seen
-use Rattle.bench_devices.specs.Device.{devices, device_id, device_end, device_target, device_linked, device_selected, seen_of, is_tag}
+use Rattle.bench_devices.specs.Device.{devices, device_id, device_end, device_target, seen_of, is_tag}
 use Rattle.bench_devices.specs.Keeping.{Kept, ghosts, kept, IsSound}
 use Rattle.bench_devices.specs.Peers.{PeerNear, IsMadePeer, peer_general, asked_if, takes_frame, peer_machine}
-use Rattle.bench_devices.specs.Beside.{PeerAt, TalkLeaves, InStepAt}
+use Rattle.bench_devices.specs.Beside.{PeerAt, TalkLeaves}
 use Rattle.bench_devices.specs.Phases.{Stands}
 use Rattle.bench_devices.specs.Opening.{Opened, OpeningEnds, Opens}
-use Rattle.bench_devices.proofs.BesideLink.{at_aside, at_split, only_one, going_leaves}
+use Rattle.bench_devices.proofs.BesideLink.{at_split, going_leaves}
 use Rattle.bench_devices.proofs.CardParts.{at_kept}
 use Rattle.bench_devices.proofs.OpenPeer.{atr_range, takes_atr}
 use Rattle.bench_devices.proofs.ReadingTags as reading
 use Rattle.bench_devices.proofs.ReadingTags.{stands_alone}
-use Rattle.bench_devices.proofs.PeerInStep.{linked_peer}
+use Rattle.bench_devices.proofs.PeerHere.{same_place, in_step}
 
 -- No device hands a payload over at ATR_REQ.
 module _ (general : List ℕ) (short : length general ≤ 48) where
@@ -136,42 +133,17 @@ module _ (old : Air Device) (place : ℕ) (d : Device) (s : Stands (moment old) 
 
   -- a peer that is selected in the field afterwards is this one
   module _ (new : Air Device) (leaves : TalkLeaves (device_id d) place old.listeners new.listeners) where
-    module _ (i : InitState) (first : ℕ) (handed : List (List ℕ)) (arrived : List Signal) (t : HasPeer ghosts device_end new i first handed arrived) where
-      pub same_place : t.place ≡ place
-      same_place =
-          let aside = subst (AsideBut ghosts (device_id d) place) t.alone.split (at_aside (device_id d) place new.listeners leaves.at) in
-          sym t.alone.stands ∙ only_one (device_id d) t.alone.before t.listener t.alone.behind place aside t.is.tech t.selected
-
-      pub same_kept : kept t.listener ≡ kept d
-      same_kept =
-          let there : at_place (λ e. Some (kept e)) None new.listeners t.place ≡ Some (kept t.listener) =
-          place_is ghosts (λ e. Some (kept e)) None (device_id t.listener) new.listeners t.place t.listener t.alone in
-          let here : at_place (λ e. Some (kept e)) None old.listeners place ≡ Some (kept d) = reading.seen old place d s (λ e. Some (kept e)) None in
-          let both : at_place (λ e. Some (kept e)) None new.listeners place ≡ at_place (λ e. Some (kept e)) None old.listeners place =
-          at_kept new.listeners place ∙ ap (λ ks. at_place (λ (k : Kept). Some k) None ks place) leaves.same ∙ sym (at_kept old.listeners place) in
-          let moved : at_place (λ e. Some (kept e)) None new.listeners t.place ≡ at_place (λ e. Some (kept e)) None new.listeners place =
-          ap (λ n. at_place (λ e. Some (kept e)) None new.listeners n) same_place in
-          let same : Some (kept t.listener) ≡ Some (kept d) = sym there ∙ moved ∙ both ∙ here in
-          (let q : kept t.listener ≡ kept d = cc in q)
-
-      pub has_link : device_linked t.listener ≡ true
-      has_link = linked_peer t.listener (ap (λ (k : Kept). k.fixed.kind) same_kept ∙ peer_kind d tag) t.selected t.is t.step.heeds
-
-    -- both ends in step are so at this place
-    abbrev pub in_step : (i : InitState) (first : ℕ) → i.core.number ≡ first → new.lit ≡ true → HasPeer ghosts device_end new i first [] [] → InStepAt new place i
-    in_step i first number lit t = record {
-      step = (lit, record {
-        place = t.place;
-        listener = t.listener;
-        selected = t.selected;
-        alone = t.alone;
-        is = t.is;
-        step = t.step;
-        cut = subst (λ n. IsCut n (device_end t.listener) [] []) (sym number) t.cut;
-      });
-      at = same_place i first [] [] t;
-      linked = has_link i first [] [] t;
-    }
+    pub same_kept : (i : InitState) (t : HasPeer ghosts device_end new i 0 [] []) → kept t.listener ≡ kept d
+    same_kept i t =
+        let there : at_place (λ e. Some (kept e)) None new.listeners t.place ≡ Some (kept t.listener) =
+        place_is ghosts (λ e. Some (kept e)) None (device_id t.listener) new.listeners t.place t.listener t.alone in
+        let here : at_place (λ e. Some (kept e)) None old.listeners place ≡ Some (kept d) = reading.seen old place d s (λ e. Some (kept e)) None in
+        let both : at_place (λ e. Some (kept e)) None new.listeners place ≡ at_place (λ e. Some (kept e)) None old.listeners place =
+        at_kept new.listeners place ∙ ap (λ ks. at_place (λ (k : Kept). Some k) None ks place) leaves.same ∙ sym (at_kept old.listeners place) in
+        let moved : at_place (λ e. Some (kept e)) None new.listeners t.place ≡ at_place (λ e. Some (kept e)) None new.listeners place =
+        ap (λ n. at_place (λ e. Some (kept e)) None new.listeners n) (same_place (device_id d) place new leaves.at i 0 [] [] t) in
+        let same : Some (kept t.listener) ≡ Some (kept d) = sym there ∙ moved ∙ both ∙ here in
+        (let q : kept t.listener ≡ kept d = cc in q)
 
     pub opened : (i : InitState) (told : List ℕ) → IsActivated ghosts device_end new (device_end d) i told → Opened new place d i told
     opened i told a =
@@ -180,8 +152,8 @@ module _ (old : Air Device) (place : ℕ) (d : Device) (s : Stands (moment old) 
           made = says.made;
           initiator = a.initiator ∙ ap waiting says.code;
           general = a.told_own ∙ says.says;
-          here = in_step i 0 (ap (λ (j : InitState). j.core.number) a.initiator) a.lit a.peer;
-          same = same_kept i 0 [] [] a.peer;
+          here = in_step (device_id d) place new leaves.at i 0 [] [] a.peer a.lit;
+          same = same_kept i a.peer;
         }
 
   -- ATR_REQ was asked of the peer

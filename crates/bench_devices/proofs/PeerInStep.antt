@@ -1,14 +1,13 @@
 -- A selected peer that does what its target's table says has a link: without one it is silent where it is asked whether it is there.
-use Rattle.std.proofs.Common.{◌≡◌, ℕ, zero, suc, ◌<◌, List, [], Bool, true, false, ◌||◌, if◌then◌else◌, Option, Some, None, refl, sym, ◌∙◌, ap, subst, arith}
+use Rattle.std.proofs.Common.{◌≡◌, ℕ, zero, suc, ◌<◌, List, [], Bool, true, false, ◌||◌, if◌then◌else◌, Some, None, refl, sym, ◌∙◌, ap, arith}
 use Rattle.std.specs.Prelude.{slice_index}
 use Rattle.nfc_base.specs.Signal.{Signal}
 use Rattle.nfca_poll.specs.Front.{Front, Off, Idle, Sleep, Ready, Active, is_active}
 use Rattle.nfca_poll.specs.Fronted.{Fronted, active_answer}
 use Rattle.dep_pdu.specs.declared.frame.DepFrame.TheVariants.{Attention}
-use Rattle.dep_link.specs.declared.target.TargetStep.TheVariants as steps
 use Rattle.dep_link.specs.Answering.{reply_for}
 use Rattle.dep_link.specs.Frames.{air_frame, names_atr, is_atr_req}
-use Rattle.dep_link.specs.Target.{TargetState, TargetTurn, TargetMove, Answers, stays, target_table, framed, heeded}
+use Rattle.dep_link.specs.Target.{TargetState, TargetTurn, Answers, stays, target_table, framed, heeded}
 use Rattle.dep_link.specs.Peers.{answered_with, IsAsked, IsPeer, StepsByTarget}
 use Rattle.dep_link.proofs.Wire.{written_read, target_heeds}
 use Rattle.bench_devices.specs.declared.device.Device.{Device}

@@ -1,6 +1,6 @@
 -- What links to the bench's peers keep to: which request is due while one is opened, what talking to a peer leaves of all devices, and
 -- that all of it happens so in the world with far ends (NFCIP-1, ISO/IEC 18092; who hears what is this project's own).
-use Rattle.std.specs.Prelude.{◌≡◌, ℕ, List, [], ◌∷◌, ◌++◌, Bool, true, false, Option, Some, None, Result, Ok, Err}
+use Rattle.std.specs.Prelude.{◌≡◌, ℕ, List, [], ◌++◌, Bool, false, Option, Some, Result, Ok, Err}
 use Rattle.nfc_base.specs.Signal.{Signal, whole_a}
 use Rattle.nfc_base.specs.Links.{FarStep}
 use Rattle.nfc_base.specs.declared.event.Heard.{Heard}
@@ -10,14 +10,13 @@ use Rattle.nfc_base.specs.declared.carrier.LinkEnd.{LinkEnd}
 use Rattle.air_core.specs.World.{World}
 use Rattle.air_core.specs.Turn.{Air, moment, TurnIs}
 use Rattle.air_core.specs.Conversation.{Moment, Note, Next, Over, IsDemand, Going}
-use Rattle.air_core.specs.Speaking.{Speaks}
 use Rattle.arrayvec.specs.ArrayVec.{ArrayVec}
 use Rattle.dep_link.specs.Initiator.{InitState}
 use Rattle.dep_link.specs.DepLinks.{DepSeen, DepMoves, IsDepReady}
 use Rattle.dep_link.specs.Releasing.{Releases, TakesRls}
 use Rattle.far_air.specs.FarEnds.{FarTable}
 use Rattle.far_air.specs.FarLaws.{IsFarTable, IsOfTable}
-use Rattle.far_air.specs.FarTurns.{FarTurn, FarGoing}
+use Rattle.far_air.specs.FarTurns.{FarGoing}
 use Rattle.peer_air.specs.Aside.{AsideBut}
 use Rattle.nfca_poll.specs.declared.fault.PollFault.{PollFault}
 use Rattle.bench_script.specs.declared.command.DeviceId.{DeviceId}

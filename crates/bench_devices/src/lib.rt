@@ -18,7 +18,7 @@ mod sweeping;
 mod writing;
 
 pub use device::{Device, PoweredTag, T2Upper, T4Upper};
-pub use law::{devices_stay, peers_stay_unlinked};
+pub use law::{devices_stay, links_far, links_open, peers_stay_unlinked};
 pub use opening::open_link;
 pub use peer::PeerUpper;
 pub use polling::{SeenKind, Selection, is_named, place_of, select};
