@@ -1,21 +1,18 @@
 -- The selection of a peer and the opening of a link to it, in the world with far ends.
-use Rattle.std.proofs.Common.{◌≡◌, ℕ, List, [], ◌∷◌, ◌++◌, false, Option, Ok, refl, sym, ◌∙◌, ap, subst}
-use Rattle.std.specs.Prelude.{Result}
+use Rattle.std.proofs.Common.{◌≡◌, ℕ, List, [], ◌∷◌, ◌++◌, Option, refl, sym, ◌∙◌, subst}
 use Rattle.std.proofs.lemmas.List.{append-nil}
 use Rattle.nfc_base.specs.declared.event.Event.{Event}
 use Rattle.nfc_base.specs.declared.event.Event.TheVariants.{Reset, Request, Answer, Clash}
-use Rattle.nfc_base.specs.Signal.{Signal}
 use Rattle.nfc_base.specs.Trace.{back_of}
 use Rattle.nfc_base.specs.Trace as backs
-use Rattle.nfc_base.specs.declared.carrier.EndCause.{EndCause}
 use Rattle.air_core.specs.World.{World}
-use Rattle.air_core.specs.Turn.{Air, moment}
+use Rattle.air_core.specs.Turn.{moment}
 use Rattle.air_core.specs.Conversation.{Moment, Note, Next, LightUp, Asks, EachDue, Going}
-use Rattle.arrayvec.specs.ArrayVec.{ArrayVec}
+use Rattle.air_core.specs.Turning.{going_start}
 use Rattle.dep_link.specs.AnyTarget.{atr_next}
-use Rattle.dep_link.specs.Initiator.{InitState}
 use Rattle.far_air.specs.FarEnds.{FarTable}
-use Rattle.far_air.specs.FarLaws.{IsFarTable, IsOfTable, with_far}
+use Rattle.far_air.specs.FarLaws.{IsFarTable, with_far, seen_at}
+use Rattle.far_air.specs.FarWorld.{far_air}
 use Rattle.far_air.specs.FarTurns.{FarGoing}
 use Rattle.far_air.specs.Quietly.{NoneHands}
 use Rattle.far_air.proofs.FarTurns.{far_goes_then}
@@ -25,12 +22,11 @@ use Rattle.bench_script.specs.declared.command.DeviceId.{DeviceId}
 use Rattle.bench_script.specs.declared.command.DeviceId.TheVariants as ids
 use Rattle.bench_devices.specs.declared.device.Device.{Device}
 use Rattle.bench_devices.specs.declared.polling.SeenKind.TheVariants as seen
-use Rattle.bench_devices.specs.Device.{air, devices, device_id, device_linked, is_tag}
+use Rattle.bench_devices.specs.Device.{air, devices, device_id, device_linked}
 use Rattle.bench_devices.specs.Keeping.{ghosts}
 use Rattle.bench_devices.specs.LinkLaws.{OpensFar, SelectsFar}
-use Rattle.bench_devices.specs.Opening.{linking, Opens}
-use Rattle.bench_devices.specs.Phases.{Stands}
-use Rattle.bench_devices.specs.Polling.{Told, asks, selecting}
+use Rattle.bench_devices.specs.Opening.{linking}
+use Rattle.bench_devices.specs.Polling.{asks, selecting}
 use Rattle.bench_devices.proofs.BesideLink.{at_aside}
 use Rattle.bench_devices.proofs.CalmDues.{calm_selecting}
 use Rattle.bench_devices.proofs.LinkingNotes.{link_asks}
