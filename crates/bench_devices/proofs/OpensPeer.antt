@@ -1,6 +1,7 @@
 -- What opening a link to the selected peer comes to.
 use Rattle.std.proofs.Common.{◌≡◌, inl, inr, ℕ, ◌<◌, ◌≤◌, List, [], ◌∷◌, ◌++◌, length, Bool, true, false, if◌then◌else◌, Some, None, refl, sym, ◌∙◌, ap, subst, arith}
 use Rattle.std.specs.Prelude.{Result, Ok, Err}
+use Rattle.std.specs.Result.{IfOk}
 use Rattle.std.proofs.lemmas.Bool.{cases_lt}
 use Rattle.std.proofs.lemmas.List.{append_cancel_left}
 use Rattle.nfc_base.specs.Signal.{Signal, whole_a}
@@ -237,6 +238,11 @@ module _ (old : Air Device) (place : ℕ) (d : Device) (s : Stands (moment old) 
       | inr none ↦ lit_without (omega (arith, none))
     ]
 
+    begun_by : (r : Result (InitState × ArrayVec ℕ) EndCause) (e : AtrEnds ghosts device_end restarts old new general (device_end d) far after r) → IfOk r (λ p. 0 < (sent_by r e).1.times)
+    unfolding sent_by
+    begun_by (Ok p) e = e.1
+    begun_by (Err cause) e = tt
+
     ends_by : (r : Result (InitState × ArrayVec ℕ) EndCause) → result ≡ r → AtrEnds ghosts device_end restarts old new general (device_end d) far after r → OpeningEnds new place d r
     ends_by (Ok p) e x = opened new leaves p.0 p.1.items x.2
     ends_by (Err FieldLost) e x = dim_by result e ends
@@ -250,6 +256,9 @@ module _ (old : Air Device) (place : ℕ) (d : Device) (s : Stands (moment old) 
       speaks = speaks;
       answers = answers;
       lost = (some_break, by_break);
+      times = sent.times;
+      restarted = sent.restarted;
+      begun = begun_by result ends;
       ends = ends_by result refl ends;
       leaves = leaves;
     }

@@ -1,6 +1,7 @@
 -- Opening a link to a peer of the bench that is selected: which request is due, and what is there once it ended (NFCIP-1, ISO/IEC 18092;
 -- NFC Forum Digital Protocol).
 use Rattle.std.specs.Prelude.{◌≡◌, ◌↔◌, ℕ, ◌<◌, List, [], ◌∷◌, true, false, Result, Ok, Err}
+use Rattle.std.specs.Result.{IfOk}
 use Rattle.nfc_base.specs.Trace.{breaks}
 use Rattle.nfc_base.specs.declared.carrier.EndCause.{EndCause}
 use Rattle.nfc_base.specs.declared.carrier.EndCause.TheVariants.{FieldLost, SixBad, Protocol, Memory}
@@ -10,7 +11,7 @@ use Rattle.air_core.specs.Turn.{Air, moment}
 use Rattle.air_core.specs.Waits.{stand}
 use Rattle.arrayvec.specs.ArrayVec.{ArrayVec}
 use Rattle.dep_link.specs.Initiator.{InitState, waiting}
-use Rattle.dep_link.specs.Activating.{atr_frame}
+use Rattle.dep_link.specs.Activating.{atr_frame, RestartedTimes}
 use Rattle.dep_link.specs.AnyTarget.{AnswersAtr, atr_next}
 use Rattle.bench_script.specs.declared.command.DeviceId.{DeviceId}
 use Rattle.bench_devices.specs.declared.device.Device.{Device}
@@ -58,13 +59,17 @@ OpeningEnds new place d (Err Protocol) = ⊥
 OpeningEnds new place d (Err Memory) = new.lit ≡ true
 
 -- So it was asked of the peer at a place, up to some end: each request was due, and this is told by what was heard. The field is lost
--- exactly where a Break was used.
+-- exactly where a Break was used. The far end was restarted with these general bytes as often as ATR_REQ arrived, once at least where
+-- the link is open.
 pub record Opens {F : Type 0} (restarts : F → List ℕ → F → Type 0) (steps : F → List ℕ → List ℕ → F → Type 0) (old : Air Device) (far : F) (new : Air Device) (after : F)
     (general : List ℕ) (place : ℕ) (d : Device) (result : Result (InitState × ArrayVec ℕ) EndCause) : Type 0 where
   pub notes : List Note
   pub speaks : Speaks devices restarts steps (atr_next general) old far new after notes
   pub answers : AnswersAtr true notes (stand 0 (atr_frame general ∷ []) notes) result
   pub lost : (result ≡ Err FieldLost) ↔ (0 < breaks speaks.events)
+  pub times : ℕ
+  pub restarted : RestartedTimes restarts general times far after
+  pub begun : IfOk result (λ p. 0 < times)
   pub ends : OpeningEnds new place d result
   pub leaves : TalkLeaves (device_id d) place old.listeners new.listeners
 
