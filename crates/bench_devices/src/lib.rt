@@ -27,4 +27,6 @@ pub use sweeping::{Everybody, sweep_field};
 pub use writing::write;
 
 #[cfg(test)]
+mod opening_tests;
+#[cfg(test)]
 mod peer_tests;
