@@ -46,15 +46,18 @@ module _ (own : List ℕ) (place : ℕ) (new : Air Device) (at : PeerAt own plac
 
   abbrev pub in_step : new.lit ≡ true → InStepAt new place i
   in_step lit = record {
-    step = (lit, record {
-      place = t.place;
-      listener = t.listener;
-      selected = t.selected;
-      alone = t.alone;
-      is = t.is;
-      step = t.step;
-      cut = cut_anew;
-    });
+    step = (
+      lit,
+      record {
+        place = t.place;
+        listener = t.listener;
+        selected = t.selected;
+        alone = t.alone;
+        is = t.is;
+        step = t.step;
+        cut = cut_anew;
+      },
+    );
     at = same_place;
     linked = linked_peer t.listener here_kind t.selected t.is t.step.heeds;
   }

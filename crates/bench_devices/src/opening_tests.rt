@@ -12,6 +12,7 @@ use t2t_tag::T2Tag;
 
 /// The general bytes of the initiator and of the peer.
 const OWN: &[u8] = b"Ffm\x01\x01\x13\x03\x02\x00\x03";
+
 const PEERS: &[u8] = b"Ffm\x01\x01\x13\x03\x02\x00\x13";
 
 /// A field in which the peer is selected.
