@@ -52,7 +52,7 @@ has_fresh a place (Peer d) s four = absurd cc
 has_fresh a place (T5 p) s four = absurd cc
 
 -- what stays of the device at a place is what stays there
-at_kept : (ls : List Device) (place : ℕ) → at_place (λ d. Some (kept d)) None ls place ≡ at_place (λ (k : Kept). Some k) None (map kept ls) place
+pub at_kept : (ls : List Device) (place : ℕ) → at_place (λ d. Some (kept d)) None ls place ≡ at_place (λ (k : Kept). Some k) None (map kept ls) place
 at_kept [] place = refl
 at_kept (l ∷ ls) zero = refl
 at_kept (l ∷ ls) (suc n) = at_kept ls n

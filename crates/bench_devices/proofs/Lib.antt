@@ -62,3 +62,12 @@ pub mod PeerLinks
 pub mod CalmFrames
 pub mod CalmDues
 pub mod TagOrPeer
+pub mod OpenPeer
+pub mod BesideLink
+pub mod PeerInStep
+pub mod OpensPeer
+pub mod PeerHere
+pub mod TalkTurns
+pub mod SwapLeaves
+pub mod LinkingNotes
+pub mod LinkFar

@@ -1,5 +1,5 @@
 -- Whatever happens to the field, a Type 4 tag and a peer have a link at most while they are active.
-use Rattle.std.proofs.Common.{◌≡◌, ◌⊎◌, inl, inr, ℕ, List, [], ◌∷◌, map, Bool, true, false, if◌then◌else◌, None, refl, sym, subst}
+use Rattle.std.proofs.Common.{◌≡◌, ◌⊎◌, inl, inr, ℕ, List, [], ◌∷◌, map, Bool, true, false, if◌then◌else◌, Option, None, refl, sym, subst}
 use Rattle.nfc_base.specs.declared.event.Event.{Event}
 use Rattle.nfc_base.specs.declared.event.Event.TheVariants.{Reset, Request, Answer, Clash}
 use Rattle.nfc_base.specs.declared.event.Fate.{Fate}
@@ -67,12 +67,12 @@ module _ {U : Type 0} (m : UpperMachine U) (free : U → Bool) (gives_up : (u : 
   active_tidy (steps.Sleep g) starred id u v f = inr (gives_up v)
   active_tidy (steps.Idle g) starred id u v f = inr (gives_up v)
 
-  after_tidy : (front : Front) (id : List ℕ) (u : U) (f : Signal) → IsTidyAt front u → IsTidyOne (after_by m front (record { id = id; front = front; upper = u }) f None)
-  after_tidy Off id u f t = left_tidy Off (front_next (levels id) Off (call_of f)) u t
-  after_tidy Idle id u f t = left_tidy Idle (front_next (levels id) Idle (call_of f)) u t
-  after_tidy Sleep id u f t = left_tidy Sleep (front_next (levels id) Sleep (call_of f)) u t
-  after_tidy (Ready k starred) id u f t = left_tidy (Ready k starred) (front_next (levels id) (Ready k starred) (call_of f)) u t
-  after_tidy (Active starred) id u f t = active_tidy (m.says u f None) starred id u (m.after u f None) f
+  after_tidy : (front : Front) (id : List ℕ) (u : U) (f : Signal) (reply : Option (List ℕ)) → IsTidyAt front u → IsTidyOne (after_by m front (record { id = id; front = front; upper = u }) f reply)
+  after_tidy Off id u f reply t = left_tidy Off (front_next (levels id) Off (call_of f)) u t
+  after_tidy Idle id u f reply t = left_tidy Idle (front_next (levels id) Idle (call_of f)) u t
+  after_tidy Sleep id u f reply t = left_tidy Sleep (front_next (levels id) Sleep (call_of f)) u t
+  after_tidy (Ready k starred) id u f reply t = left_tidy (Ready k starred) (front_next (levels id) (Ready k starred) (call_of f)) u t
+  after_tidy (Active starred) id u f reply t = active_tidy (m.says u f reply) starred id u (m.after u f reply) f
 
 -- what a Type 4 tag and a peer give up
 pub four_gives_up : (u : T4Near) → is_unlinked (t4_machine.cleared u) ≡ true
@@ -85,13 +85,13 @@ either_tidy : (v : Bool) (a b : Device) → IsTidy a → IsTidy b → IsTidy (if
 either_tidy true a b t u = t
 either_tidy false a b t u = u
 
-pub stepped_tidy : (f : Signal) (d : Device) → IsTidy d → IsTidy (stepped_by devices d f None)
-stepped_tidy f (T2 d) t = either_tidy (hears devices (T2 d) f) (devices.after (T2 d) f None) (T2 d) tt tt
-stepped_tidy f (T4 d) t = either_tidy (hears devices (T4 d) f) (devices.after (T4 d) f None) (T4 d) (after_tidy t4_machine is_unlinked four_gives_up d.front d.id d.upper f t) t
-stepped_tidy f (Peer d) t =
-    either_tidy (hears devices (Peer d) f) (devices.after (Peer d) f None) (Peer d) (after_tidy peer_machine no_link peer_gives_up d.front d.id d.upper f t) t
-stepped_tidy f (T5 p) t =
-    either_tidy (hears devices (T5 p) f) (devices.after (T5 p) f None) (T5 p) (either_tidy p.lit (T5 (record { tag = t5_after p.tag f; lit = true })) (T5 p) tt tt) tt
+pub stepped_tidy : (f : Signal) (reply : Option (List ℕ)) (d : Device) → IsTidy d → IsTidy (stepped_by devices d f reply)
+stepped_tidy f reply (T2 d) t = either_tidy (hears devices (T2 d) f) (devices.after (T2 d) f reply) (T2 d) tt tt
+stepped_tidy f reply (T4 d) t = either_tidy (hears devices (T4 d) f) (devices.after (T4 d) f reply) (T4 d) (after_tidy t4_machine is_unlinked four_gives_up d.front d.id d.upper f None t) t
+stepped_tidy f reply (Peer d) t =
+    either_tidy (hears devices (Peer d) f) (devices.after (Peer d) f reply) (Peer d) (after_tidy peer_machine no_link peer_gives_up d.front d.id d.upper f reply t) t
+stepped_tidy f reply (T5 p) t =
+    either_tidy (hears devices (T5 p) f) (devices.after (T5 p) f reply) (T5 p) (either_tidy p.lit (T5 (record { tag = t5_after p.tag f; lit = true })) (T5 p) tt tt) tt
 
 -- and where light comes and goes
 pub dark_tidy : (d : Device) → IsTidy d → IsTidy (devices.darkened d)
@@ -106,12 +106,12 @@ woken_tidy (T4 d) t = left_tidy t4_machine is_unlinked four_gives_up d.front Idl
 woken_tidy (Peer d) t = left_tidy peer_machine no_link peer_gives_up d.front Idle d.upper t
 woken_tidy (T5 p) t = tt
 
-all_tidy : (g : Device → Device) → ((d : Device) → IsTidy d → IsTidy (g d)) → (ds : List Device) → AreTidy ds → AreTidy (map g ds)
+pub all_tidy : (g : Device → Device) → ((d : Device) → IsTidy d → IsTidy (g d)) → (ds : List Device) → AreTidy ds → AreTidy (map g ds)
 all_tidy g h [] t = tt
 all_tidy g h (d ∷ ds) t = (h d t.0, all_tidy g h ds t.1)
 
 requested_tidy : (w : World Device) (f : Signal) (x : Fate) → AreTidy w.listeners → AreTidy (requested devices w f x).listeners
-requested_tidy w f Pass t = all_tidy (λ l. stepped_by devices l f None) (stepped_tidy f) w.listeners t
+requested_tidy w f Pass t = all_tidy (λ l. stepped_by devices l f None) (stepped_tidy f None) w.listeners t
 requested_tidy w f Damage t = t
 requested_tidy w f Lose t = t
 requested_tidy w f Break t = all_tidy devices.darkened dark_tidy w.listeners t

@@ -178,6 +178,13 @@ device_target (T4 d) = no_target
 device_target (Peer d) = made_near d.upper
 device_target (T5 p) = no_target
 
+-- a peer's end of NFC-DEP as it is; a tag shows one that never changes
+abbrev pub device_end : Device → TargetState
+device_end (T2 d) = no_target
+device_end (T4 d) = no_target
+device_end (Peer d) = d.upper.target
+device_end (T5 p) = no_target
+
 -- what stays of a device in the dark
 pub record StablePart : Type 0 where
   pub store : List ℕ

@@ -21,3 +21,6 @@ pub mod Phases
 pub mod Linking
 pub mod Choosing
 pub mod Calm
+pub mod Beside
+pub mod Opening
+pub mod LinkLaws

@@ -14,6 +14,7 @@ ghost use Rattle.bench_devices.specs.Device.{said, on_link, how_of, blocks_of, d
 
 use crate::peer::PeerUpper;
 use air_core::Listener;
+use dep_link::PeerListener;
 use isodep_link::{CardEnd, CardKind, CardListener, is_rats};
 use nfc_base::{Answerer, Frame, Tech};
 use nfca_poll::{Front, Ident, Kind, UpKind, UpStep, Upper};
@@ -408,6 +409,12 @@ impl CardListener for Device {
     ghost tag = { device_tag };
 
     ghost holds = { tag_holds };
+}
+
+impl PeerListener for Device {
+    ghost use Rattle.bench_devices.specs.Device.{device_end};
+
+    ghost target = { device_end };
 }
 
 impl Device {

@@ -2,6 +2,10 @@
 
 ghost use Rattle.bench_devices.specs.Keeping.{DevicesStay, ImagesStay, AsideKeeps, OthersKeep};
 ghost use Rattle.bench_devices.specs.Calm.{DevicesLink, CalmFinding, CalmSelecting, CalmReading, CalmWriting, CalmUnasked};
+ghost use Rattle.far_air.specs.FarEnds.{FarTable};
+ghost use Rattle.bench_devices.specs.LinkLaws.{LinkAsks, PeerStands, OthersAside, SwapsLeave, ReadyInStep, InStepTakesRls, TurnLeaves, ReleaseLeaves, OpensFar, SelectsFar};
+
+use nfc_base::Answerer;
 
 /// Events change of a device its state and its store alone, which is one of its kind still; and of the others, where
 /// one that they are aside of is asked, their state alone.
@@ -21,4 +25,25 @@ pub fn peers_stay_unlinked()
     ensures read { CalmReading }
     ensures write { CalmWriting }
     ensures none { CalmUnasked }
+{}
+
+/// While a link is opened its peer is selected first, and then asked by ATR_REQ. What is said to a peer, while all others
+/// are aside, changes of every device its state alone, whatever becomes of it: one turn, swaps over a link, a release. A
+/// link that is ready is in step with the peer at its place.
+pub fn links_open<A: Answerer>()
+    ensures asks { LinkAsks }
+    ensures stands { PeerStands }
+    ensures others { OthersAside }
+    ensures ready { ReadyInStep }
+    ensures takes { InStepTakesRls }
+    ensures moves { SwapsLeave }
+    ensures turn { TurnLeaves A.restarts A.steps }
+    ensures release { ReleaseLeaves A.restarts A.steps A.stops A.is_stuck }
+{}
+
+/// The opening of a link, from the selection of its peer on, is a stretch of the world with far ends, at the peer's place.
+/// So is a selection alone, whatever it came to.
+pub fn links_far<F, A: Answerer>()
+    ensures selects { (t : FarTable F) → SelectsFar t }
+    ensures opens { (t : FarTable F) (view : A → F) → OpensFar A.restarts A.steps t view }
 {}

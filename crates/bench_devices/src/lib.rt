@@ -2,13 +2,15 @@
 //!
 //! `device` holds Type 2 and Type 4 tags and peers under a listener front, and Type 5 tags, as listeners. `peer` is the
 //! machine of a peer, whose far end stands beside the field. `polling` selects the one with an identifier, `reading`
-//! reads the message of the tag that is selected, `writing` writes one to it, `sweeping` searches for all.
+//! reads the message of the tag that is selected, `writing` writes one to it, `opening` opens a link to the peer that is
+//! selected, `sweeping` searches for all.
 //! `specs/Polling.antt` and `specs/CardAsking.antt` say which request is due in each of these, `specs/Answering.antt` how
 //! each may end and why, `specs/Phases.antt` what each does to the field. Nothing here knows of commands or answers.
 #![tactic(auto)]
 
 mod device;
 mod law;
+mod opening;
 mod peer;
 mod polling;
 mod reading;
@@ -16,12 +18,15 @@ mod sweeping;
 mod writing;
 
 pub use device::{Device, PoweredTag, T2Upper, T4Upper};
-pub use law::{devices_stay, peers_stay_unlinked};
+pub use law::{devices_stay, links_far, links_open, peers_stay_unlinked};
+pub use opening::open_link;
 pub use peer::{PeerUpper, peer_params};
 pub use polling::{SeenKind, Selection, is_named, place_of, select};
 pub use reading::read;
 pub use sweeping::{Everybody, sweep_field};
 pub use writing::write;
 
+#[cfg(test)]
+mod opening_tests;
 #[cfg(test)]
 mod peer_tests;

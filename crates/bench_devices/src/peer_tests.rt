@@ -32,7 +32,7 @@ fn walk<R: Abort>(rt: &R, alloc: Global, device: &mut Device, rows: &[Row]) -> R
     Ok(())
 }
 
-fn peer(id: &[u8], lr: u8, miu: u16) -> Result<Device, Fail>
+pub fn peer(id: &[u8], lr: u8, miu: u16) -> Result<Device, Fail>
     requires lr { lr < 4 }
     requires miu { IsMiu miu }
 {
@@ -48,7 +48,7 @@ const SELECTION: [Row; 3] = [
     (&[0x93, 0x70, 8, 1, 2, 3, 8], 0, &[0x40]),
 ];
 
-const ATR_REQ: &[u8] =
+pub const ATR_REQ: &[u8] =
     b"\xF0\x1B\xD4\x00\x00\x01\x02\x03\x04\x05\x06\x07\x08\x09\x00\x00\x00\x32Ffm\x01\x01\x13\x03\x02\x00\x03";
 
 const ATR_RES: &[u8] =

@@ -1,0 +1,86 @@
+-- Where a peer stands at a place and all others are aside, a peer that is in step with an initiator is this one.
+use Rattle.std.proofs.Common.{◌≡◌, ◌||◌, ℕ, zero, suc, List, [], ◌∷◌, ◌++◌, length, true, sym, ◌∙◌, ap, subst}
+use Rattle.nfc_base.specs.Signal.{Signal}
+use Rattle.air_core.specs.Turn.{Air}
+use Rattle.nfca_poll.specs.Front.{Front, Off, Idle, Sleep, Ready, Active, is_active}
+use Rattle.dep_link.specs.Asking.{HasPeer}
+use Rattle.dep_link.specs.Frames.{is_atr_req}
+use Rattle.dep_link.specs.Exchange.{IsCut}
+use Rattle.dep_link.specs.Initiator.{InitState}
+use Rattle.dep_link.specs.Payloads.{Cut}
+use Rattle.dep_link.specs.Peers.{target_use}
+use Rattle.dep_link.specs.Releasing.{rls_frame}
+use Rattle.dep_link.specs.Target.{target_table}
+use Rattle.peer_air.specs.Aside.{AsideBut}
+use Rattle.bench_devices.specs.declared.device.Device.{Device}
+use Rattle.bench_devices.specs.declared.device.Device.TheVariants.{T2, T4, Peer, T5}
+use Rattle.bench_devices.specs.declared.polling.SeenKind.TheVariants as seen
+use Rattle.bench_devices.specs.Beside.{PeerAt, InStepAt}
+use Rattle.bench_devices.specs.Device.{devices, device_end, device_linked, device_selected, seen_of}
+use Rattle.bench_devices.specs.Keeping.{ghosts}
+use Rattle.bench_devices.specs.LinkLaws.{ReadyInStep, InStepTakesRls}
+use Rattle.bench_devices.specs.Peers.{PeerNear, asked_if}
+use Rattle.bench_devices.proofs.BesideLink.{at_aside, only_one}
+use Rattle.bench_devices.proofs.PeerInStep.{linked_peer}
+
+peer_there : (own : List ℕ) (before : List Device) (x : Device) (behind : List Device) (place : ℕ) → PeerAt own place (before ++ x ∷ behind) → length before ≡ place → seen_of x ≡ seen.Peer
+peer_there own [] x behind zero a e = a.0
+peer_there own [] x behind (suc n) a e = absurd cc
+peer_there own (b ∷ before) x behind zero a e = absurd cc
+peer_there own (b ∷ before) x behind (suc n) a e = (let less : length before ≡ n = cc in peer_there own before x behind n a.1 less)
+
+module _ (own : List ℕ) (place : ℕ) (new : Air Device) (at : PeerAt own place new.listeners) (i : InitState) (first : ℕ) (handed : List (List ℕ)) (arrived : List Signal)
+    (t : HasPeer ghosts device_end new i first handed arrived) where
+  pub same_place : t.place ≡ place
+  same_place =
+      let aside = subst (AsideBut ghosts own place) t.alone.split (at_aside own place new.listeners at) in
+      sym t.alone.stands ∙ only_one own t.alone.before t.listener t.alone.behind place aside t.is.tech t.selected
+
+  pub here_kind : seen_of t.listener ≡ seen.Peer
+  here_kind = peer_there own t.alone.before t.listener t.alone.behind place (subst (PeerAt own place) t.alone.split at) (t.alone.stands ∙ same_place)
+
+  pub cut_anew : IsCut i.core.number (device_end t.listener) [] []
+  cut_anew =
+      let Now : ℕ → List ℕ → Cut = λ n c. record { next = n; chain = c; payloads = [] } in
+      ap (λ n. Now n []) (sym t.step.expects) ∙ ap (Now (device_end t.listener).expected) (sym t.step.no_chain)
+
+  abbrev pub in_step : new.lit ≡ true → InStepAt new place i
+  in_step lit = record {
+    step = (
+      lit,
+      record {
+        place = t.place;
+        listener = t.listener;
+        selected = t.selected;
+        alone = t.alone;
+        is = t.is;
+        step = t.step;
+        cut = cut_anew;
+      },
+    );
+    at = same_place;
+    linked = linked_peer t.listener here_kind t.selected t.is t.step.heeds;
+  }
+
+pub ready_in_step : ReadyInStep
+ready_in_step own place a ready at = in_step own place a.air at a.initiator a.first _ _ ready.peer ready.lit
+
+-- a peer with a link does at RLS_REQ what its target's table says
+rls_asks : (x : Device) → device_linked x ≡ true → device_selected x ≡ true → devices.handed x rls_frame ≡ target_use (target_table (device_end x) rls_frame).does
+rls_asks (T2 d) linked a = absurd cc
+rls_asks (T4 d) linked a = absurd cc
+rls_asks (Peer d) linked a = by_front d.front d.upper a linked
+  where
+    by_front : (front : Front) (u : PeerNear) → is_active front ≡ true → u.linked ≡ true
+        → devices.handed (Peer (record { id = d.id; front = front; upper = u })) rls_frame ≡ target_use (target_table u.target rls_frame).does
+    by_front Off u b l = absurd cc
+    by_front Idle u b l = absurd cc
+    by_front Sleep u b l = absurd cc
+    by_front (Ready k starred) u b l = absurd cc
+    by_front (Active starred) u b l = ap (λ v. asked_if (v || is_atr_req rls_frame) u rls_frame) l
+rls_asks (T5 p) linked a = absurd cc
+
+pub takes_rls : InStepTakesRls
+takes_rls a place i s =
+    let t = s.step.1 in
+    record { place = t.place; listener = t.listener; alone = t.alone; asks = rls_asks t.listener s.linked t.selected }

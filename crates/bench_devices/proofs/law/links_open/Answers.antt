@@ -1,0 +1,31 @@
+use Rattle.bench_devices.proofs.BesideLink as beside
+use Rattle.bench_devices.proofs.LinkingNotes as notes
+use Rattle.bench_devices.proofs.OpensPeer as opens
+use Rattle.bench_devices.proofs.PeerHere as here
+use Rattle.bench_devices.proofs.SwapLeaves as swaps
+use Rattle.bench_devices.proofs.TalkTurns as turns
+use Rattle.bench_devices.proofs.law.links_open.Goals as goal
+
+pub returns-clause-asks : goal.returns-clause-asks
+returns-clause-asks g c = notes.link_asks
+
+pub returns-clause-stands : goal.returns-clause-stands
+returns-clause-stands g c = opens.at_peer
+
+pub returns-clause-others : goal.returns-clause-others
+returns-clause-others g c = beside.at_aside
+
+pub returns-clause-ready : goal.returns-clause-ready
+returns-clause-ready g c = here.ready_in_step
+
+pub returns-clause-takes : goal.returns-clause-takes
+returns-clause-takes g c = here.takes_rls
+
+pub returns-clause-moves : goal.returns-clause-moves
+returns-clause-moves g c = swaps.swaps_leave
+
+pub returns-clause-turn : goal.returns-clause-turn
+returns-clause-turn g c = turns.turn_leaves g.A.Answerer.restarts g.A.Answerer.steps
+
+pub returns-clause-release : goal.returns-clause-release
+returns-clause-release g c = turns.release_leaves g.A.Answerer.restarts g.A.Answerer.steps g.A.Answerer.stops g.A.Answerer.is_stuck
