@@ -53,6 +53,10 @@ pub record Joins : Type 0 where
   pub own : List ℕ
   pub far : List ℕ
 
+-- none in either
+abbrev pub no_joins : Joins
+no_joins = record { own = []; far = [] }
+
 -- What a step is said for: what its command asks of its tag, and how many PDUs stand in payloads.
 pub record Given : Type 0 where
   pub asked : List Signal
@@ -175,7 +179,12 @@ is_linked_to s id = is_with s.link (placed_under (bytes_of id) s.world.field.lis
 
 -- the state with no link to that device
 abbrev pub unlinked_from : State → DeviceId → State
-unlinked_from s id = if is_linked_to s id then unlinked s else s
+unlinked_from s id = record {
+  world = s.world;
+  queue = s.queue;
+  peers = if is_linked_to s id then (unlinked s).peers else s.peers;
+  link = if is_linked_to s id then None else s.link;
+}
 
 -- the state in which the device with an identifier is changed so
 abbrev pub with_device_changed : State → DeviceId → (Device → Device) → State
@@ -320,9 +329,13 @@ abbrev pub CutStores : State → Joins → Command → List Event → Type 0
 CutStores s joins (Write id message) cut = StoresLaw s joins id message Stopped cut
 CutStores s joins c cut = LeavesStable s joins c cut
 
+-- a front of a step that was cut off
+abbrev pub CutFront : State → Command → List Event → State → Type 0
+CutFront s c cut t = (g : Given) × FrontOf s g c cut None t × CutStores s g.joins c cut
+
 -- What want of memory leaves of a command: nothing was done, or there is a front of its step.
 abbrev pub CutOff : State → Command → List Event → State → Type 0
-CutOff s c cut t = ((cut ≡ []) × (t ≡ s)) ⊎ ((g : Given) × FrontOf s g c cut None t × CutStores s g.joins c cut)
+CutOff s c cut t = ((cut ≡ []) × (t ≡ s)) ⊎ CutFront s c cut t
 
 -- The entries lead from one state to another, each behind those before it, and each has what its step is said for.
 abbrev pub EachLegal : State → List Given → List Entry → State → Type 0

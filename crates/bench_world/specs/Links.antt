@@ -5,7 +5,8 @@ use Rattle.dep_link.specs.Initiator.{InitState}
 use Rattle.far_air.specs.FarEnds.{first_far, later_fars}
 use Rattle.snep_core.specs.Talk.{EndState}
 use Rattle.bench_world.specs.World.{FarEnd}
-use Rattle.bench_world.specs.Peers.{LinkRange, Peers}
+use Rattle.bench_world.specs.declared.inbox.LinkRange.{LinkRange}
+use Rattle.bench_world.specs.Peers.{Peers}
 
 -- An open link: its peer, by its number; where the initiator stands between two exchanges; and this end of it, from which a client asks.
 pub record OpenLink : Type 0 where
@@ -13,11 +14,15 @@ pub record OpenLink : Type 0 where
   pub initiator : InitState
   pub client : EndState
 
+-- a device has this number among the peers; a tag has none
+abbrev pub is_number : ℕ → Option ℕ → Bool
+is_number n None = false
+is_number n (Some p) = nat_eq p n
+
 -- the far end of the peer with a number, by the numbers and far ends of devices at their places
 abbrev pub end_numbered : ℕ → List (Option ℕ) → List (Option FarEnd) → Option FarEnd
 end_numbered n [] os = None
-end_numbered n (None ∷ ps) os = end_numbered n ps (later_fars os)
-end_numbered n (Some p ∷ ps) os = if nat_eq p n then first_far os else end_numbered n ps (later_fars os)
+end_numbered n (p ∷ ps) os = if is_number n p then first_far os else end_numbered n ps (later_fars os)
 
 -- how many messages a far end's server has accepted
 abbrev pub accepted_by : Option FarEnd → ℕ
@@ -45,8 +50,7 @@ abbrev pub ended : Option OpenLink → List (Option FarEnd) → Peers → Peers
 ended None fars p = p
 ended (Some l) fars p = with_last_ended (accepted_at l.peer p fars) p
 
--- whether the open link is one to the peer of this number
+-- whether the open link is one to the device with this number
 abbrev pub is_with : Option OpenLink → Option ℕ → Bool
-is_with (Some l) (Some n) = nat_eq l.peer n
-is_with (Some l) None = false
-is_with None n = false
+is_with None p = false
+is_with (Some l) p = is_number l.peer p
