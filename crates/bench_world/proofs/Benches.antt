@@ -1,5 +1,5 @@
 -- A bench behind a command: spoiled by want of memory, or with an entry more.
-use Rattle.std.proofs.Common.{◌≡◌, ℕ, List, [], ◌∷◌, ◌++◌, Bool, true, false, refl, sym, ◌∙◌, ap, subst}
+use Rattle.std.proofs.Common.{◌≡◌, ℕ, List, [], ◌∷◌, ◌++◌, Bool, true, false, Some, refl, sym, ◌∙◌, ap, subst}
 use Rattle.nfc_base.specs.declared.event.Event.{Event}
 use Rattle.air_core.specs.Conversation.{Over, receptions}
 use Rattle.bench_script.specs.declared.command.Command.{Command}
@@ -30,17 +30,17 @@ as_obeys old new line c other adds = adds
 
 -- a command was obeyed, and its entry added
 pub adds_entry : (old : Benched) (a b k : Machines) (js ks : List Entry) (c : Command) (answer : Answer) (e : Entry) → (c ≡ Skip → ⊥) → old ≡ seen js a false → IsSettled a → Obeyed a b c answer
-    → k ≡ record { air = record { lit = b.air.lit; listeners = b.air.listeners; fates = b.air.fates; trace = [] }; ends = b.ends; peers = b.peers } → ks ≡ js ++ e ∷ [] → e.command ≡ c → e.events ≡ b.air.trace → e.answer ≡ answer → Obeys old (seen ks k false) e.line c
+    → k ≡ record { air = record { lit = b.air.lit; listeners = b.air.listeners; fates = b.air.fates; trace = [] }; ends = b.ends; peers = b.peers; link = b.link } → ks ≡ js ++ e ∷ [] → e.command ≡ c → e.events ≡ b.air.trace → e.answer ≡ answer → Obeys old (seen ks k false) e.line c
 adds_entry old a b k js ks c answer e other is settled o left added command events told =
     let to : state_at k ≡ state_at b = ap state_at left in
-    let F : List Event → State → Type 0 = λ es t. FrontOf (state_at a) o.given c es t in
+    let F : List Event → State → Type 0 = λ es t. FrontOf (state_at a) o.given c es (Some answer) t in
     let front : F e.events (state_at k) = subst (λ es. F es (state_at k)) (sym events) (subst (F b.air.trace) (sym to) o.front) in
     let over : due (state_at a) o.given c (receptions e.events) ≡ Over = ap (λ es. due (state_at a) o.given c (receptions es)) events ∙ o.over in
     let law : AnswerLaw (state_at a) o.given c e.events e.answer =
     subst (λ es. AnswerLaw (state_at a) o.given c es e.answer) (sym events) (subst (AnswerLaw (state_at a) o.given c b.air.trace) (sym told) o.answered) in
-    let C : Command → Type 0 = λ x. FrontOf (state_at a) o.given x e.events (state_at k) in
+    let C : Command → Type 0 = λ x. FrontOf (state_at a) o.given x e.events (Some e.answer) (state_at k) in
     let step : LegalStep (state_at a) o.given e (state_at k) = record {
-      front = subst C (sym command) front;
+      front = subst C (sym command) (subst (λ w. FrontOf (state_at a) o.given c e.events (Some w) (state_at k)) (sym told) front);
       over = ap (λ x. due (state_at a) o.given x (receptions e.events)) command ∙ over;
       answered = subst (λ x. AnswerLaw (state_at a) o.given x e.events e.answer) (sym command) law;
     } in

@@ -42,7 +42,8 @@ use Rattle.bench_world.specs.Writing.{WriteAsks}
 use Rattle.bench_devices.specs.Keeping.{AllStayDevices}
 use Rattle.bench_devices.proofs.EveryFrame.{devices_stay}
 use Rattle.bench_world.specs.World.{FarEnd, WholeWorld, bench_air, Stable, stable}
-use Rattle.bench_world.specs.Legal.{State, Given, IsAskedBy, FrontOf, changed, due, begun, state_after}
+use Rattle.bench_world.specs.declared.entry.Answer.{Answer as Told}
+use Rattle.bench_world.specs.Legal.{State, Given, Joins, IsAskedBy, FrontOf, changed, due, begun, world_after, state_after}
 
 -- the far ends above a field, one place a device
 abbrev pub Ends : Type 0
@@ -120,11 +121,11 @@ none_hand s g c (Request f x ∷ es) asked each first w = absurd (asks_no_first 
 none_hand s g c (Answer f x ∷ es) asked each first w = absurd cc
 none_hand s g c (Clash f x ∷ es) asked each first w = absurd cc
 
-none_in_front : (s t : State) (g : Given) (c : Command) (es : List Event) → FrontOf s g c es t → (w : BenchWorld) → NoneHands devices w es
+none_in_front : {told : Option Told} (s t : State) (g : Given) (c : Command) (es : List Event) → FrontOf s g c es told t → (w : BenchWorld) → NoneHands devices w es
 none_in_front s t g c es front w =
     none_hand s g c es front.asks front.each (ap back_of front.turns.made ∙ trace_first bench_air (begun s g.joins c) front.turns.moves) w
 
-does_quietly : (s t : State) (g : Given) (c : Command) (es : List Event) → FrontOf s g c es t → (w : WholeWorld) → DoesQuietly devices device_linked peer_ends w es
+does_quietly : {told : Option Told} (s t : State) (g : Given) (c : Command) (es : List Event) → FrontOf s g c es told t → (w : WholeWorld) → DoesQuietly devices device_linked peer_ends w es
 does_quietly s t g c es front w = quiet_fields devices device_linked peer_ends w es (none_in_front s t g c es front w.field)
 
 -- A front over the field alone.
@@ -133,7 +134,7 @@ pub record OnField (s : State) (c : Command) (es : List Event) (t : State) : Typ
   pub field : t.world.field ≡ replay air (changed s c).world.field es
   pub queue : t.queue ≡ queue_after (changed s c).queue es
 
-pub on_field : (s t : State) (g : Given) (c : Command) (es : List Event) → FrontOf s g c es t → OnField s c es t
+pub on_field : {told : Option Told} (s t : State) (g : Given) (c : Command) (es : List Event) → FrontOf s g c es told t → OnField s c es t
 on_field s t g c es front =
     let q : DoesQuietly devices device_linked peer_ends (begun s g.joins c) es = does_quietly s t g c es front (begun s g.joins c) in
     record {
@@ -143,15 +144,15 @@ on_field s t g c es front =
     }
 
 -- the field of the state after a front
-pub field_after : (s t : State) (g : Given) (c : Command) (es : List Event) → FrontOf s g c es t → (state_after s g.joins c es).world.field ≡ replay air (changed s c).world.field es
+pub field_after : {told : Option Told} (s t : State) (g : Given) (c : Command) (es : List Event) → FrontOf s g c es told t → (world_after s g.joins c es).field ≡ replay air (changed s c).world.field es
 field_after s t g c es front = (does_quietly s t g c es front (begun s g.joins c)).field
 
 -- whichever numbers there are
-pub any_numbers : (s t : State) (g : Given) (c : Command) (es : List Event) → FrontOf s g c es t → (ns ms : List ℕ) → state_after s ns c es ≡ state_after s ms c es
+pub any_numbers : {told : Option Told} (s t : State) (g : Given) (c : Command) (es : List Event) → FrontOf s g c es told t → (ns ms : Joins) → state_after s ns c es told ≡ state_after s ms c es told
 any_numbers s t g c es front ns ms =
     let q : DoesQuietly devices device_linked peer_ends (changed s c).world es = does_quietly s t g c es front (changed s c).world in
-    let S : WholeWorld → State = λ w. record { world = with_numbers w []; queue = queue_after (changed s c).queue es; peers = (changed s c).peers } in
-    ap S (q.numbers ns) ∙ sym (ap S (q.numbers ms))
+    let S : WholeWorld → State = λ w. record { world = with_numbers w []; queue = queue_after (changed s c).queue es; peers = (changed s c).peers; link = (changed s c).link } in
+    ap S (q.numbers ns.far) ∙ sym (ap S (q.numbers ms.far))
 
 -- The far ends that are above a field stay in such events.
 stay_long : (ds es : List Device) → AllStayDevices ds es → length es ≡ length ds

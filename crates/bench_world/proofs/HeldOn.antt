@@ -20,7 +20,7 @@ use Rattle.bench_devices.specs.Placed.{device_with, without, with_changed}
 use Rattle.bench_devices.proofs.EveryFrame.{devices_stay}
 use Rattle.bench_world.specs.declared.entry.Entry.{Entry}
 use Rattle.bench_world.specs.World.{Stable}
-use Rattle.bench_world.specs.Legal.{State, Given, AnswerLaw, ReadLaw, FindLaw, WritingLaw, LeavesStable, FrontOf, LegalStep, EachLegal, changed, due, state_after}
+use Rattle.bench_world.specs.Legal.{State, Given, AnswerLaw, ReadLaw, FindLaw, WritingLaw, LeavesStable, FrontOf, LegalStep, EachLegal, changed, due, world_after, state_after}
 use Rattle.bench_world.specs.Behind.{Touches, LeaveAlone}
 use Rattle.bench_world.proofs.Fronts.{on_field, field_after}
 
@@ -189,7 +189,8 @@ module _ (id : DeviceId) (s t : State) (g : Given) (e : Entry) (d : Device) (ste
       let each : EachDue (due s g c) [] e.events = subst (λ k. EachDue (due s g k) [] e.events) is step.front.each in
       let turns : AreTurns air (changed s c).world.field e.events = subst (λ k. AreTurns air (changed s k).world.field e.events) is (on_field s t g e.command e.events step.front).turns in
       let none : e.events ≡ [] = nothing_sent (changed s c).world.field e.events turns (over_all e.events [] each) in
-      let after : t ≡ state_after s g.joins c [] = step.front.after ∙ ap (λ k. state_after s g.joins k e.events) is ∙ ap (state_after s g.joins c) none in
+      let after : t ≡ state_after s g.joins c [] (Some e.answer) =
+      step.front.after ∙ ap (λ k. state_after s g.joins k e.events (Some e.answer)) is ∙ ap (λ es. state_after s g.joins c es (Some e.answer)) none in
       subst (λ (x : State). IsAlike (bytes_of id) d x.world.field.listeners) (sym after) alike
     where
       over_all : (es before : List Event) → EachDue (due s g c) before es → EachDue (λ ns. Over) before es
@@ -200,14 +201,14 @@ module _ (id : DeviceId) (s t : State) (g : Given) (e : Entry) (d : Device) (ste
       over_all (Clash f x ∷ es) before q = over_all es (before ++ Clash f x ∷ []) q
 
   -- what was asked changed no store
-  asking_step : (c : Command) → e.command ≡ c → changed s c ≡ s → LeavesStable s g.joins c e.events → IsAlike (bytes_of id) d t.world.field.listeners
+  asking_step : (c : Command) → e.command ≡ c → (changed s c).world.field ≡ s.world.field → LeavesStable s g.joins c e.events → IsAlike (bytes_of id) d t.world.field.listeners
   asking_step c is still stays =
-      let front : FrontOf s g c e.events t = subst (λ k. FrontOf s g k e.events t) is step.front in
-      let after : (state_after s g.joins c e.events).world.field ≡ replay air (changed s c).world.field e.events = field_after s t g c e.events front in
+      let front : FrontOf s g c e.events (Some e.answer) t = subst (λ k. FrontOf s g k e.events (Some e.answer) t) is step.front in
+      let after : (world_after s g.joins c e.events).field ≡ replay air (changed s c).world.field e.events = field_after s t g c e.events front in
       let on : t.world.field ≡ replay air (changed s c).world.field e.events = (on_field s t g c e.events front).field in
       let same : map stable_of (replay air (changed s c).world.field e.events).listeners ≡ map stable_of (changed s c).world.field.listeners =
       sym (ap (λ (w : BenchWorld). map stable_of w.listeners) after) ∙ ap (λ (z : Stable). z.devices) stays in
-      let there : device_with (bytes_of id) (changed s c).world.field.listeners ≡ Some d = ap (λ (x : State). device_with (bytes_of id) x.world.field.listeners) still ∙ found in
+      let there : device_with (bytes_of id) (changed s c).world.field.listeners ≡ Some d = ap (λ (w : BenchWorld). device_with (bytes_of id) w.listeners) still ∙ found in
       subst (λ (w : BenchWorld). IsAlike (bytes_of id) d w.listeners) (sym on)
       (stays_found (bytes_of id) (changed s c).world.field.listeners (replay air (changed s c).world.field e.events).listeners d (devices_stay (changed s c).world.field e.events) same there)
 
@@ -233,9 +234,9 @@ module _ (id : DeviceId) (s t : State) (g : Given) (e : Entry) (d : Device) (ste
   by_command (Read i) is alone = let law : ReadLaw s g.joins i g.asked e.events e.answer = law_of (Read i) is in asking_step (Read i) is refl law.stays
   by_command (Write i m) is alone =
       let law : WritingLaw s g.joins i m g.asked e.events e.answer = law_of (Write i m) is in
-      let after : t ≡ state_after s g.joins (Write i m) e.events = step.front.after ∙ ap (λ k. state_after s g.joins k e.events) is in
+      let after : t ≡ state_after s g.joins (Write i m) e.events (Some e.answer) = step.front.after ∙ ap (λ k. state_after s g.joins k e.events (Some e.answer)) is in
       subst (λ (x : State). IsAlike (bytes_of id) d x.world.field.listeners) (sym after)
-      (beside_found (bytes_of id) (bytes_of i) alone s.world.field.listeners (state_after s g.joins (Write i m) e.events).world.field.listeners d law.stores.others found)
+      (beside_found (bytes_of id) (bytes_of i) alone s.world.field.listeners (world_after s g.joins (Write i m) e.events).field.listeners d law.stores.others found)
 
   pub step_alike : (Touches id e.command → ⊥) → IsAlike (bytes_of id) d t.world.field.listeners
   step_alike alone = by_command e.command refl alone

@@ -36,12 +36,13 @@ use Rattle.bench_script.specs.DeviceIds.{bytes_of}
 use Rattle.bench_devices.specs.Polling.{Followed, Asks as Requests, Told, follows, kind_by, seen_kind, pick_v, asks, selecting, finding_all}
 use Rattle.bench_world.specs.Reading.{Tells, TellsOf, ReadAsks}
 use Rattle.bench_devices.specs.Reading.{ShowsOf}
-use Rattle.bench_world.specs.Legal.{State, Given, Accepts, IsAskedBy, AnswerLaw, FrontOf, changed, due}
+use Rattle.bench_world.specs.Legal.{State, Given, no_joins, Accepts, IsAskedBy, AnswerLaw, FrontOf, changed, due}
 use Rattle.bench_devices.specs.Placed.{OfPlaced, IfPlaced, device_with}
 use Rattle.bench_devices.specs.Keeping.{Kept, kept, IsSound, Changes, NoStore, Leaves}
 use Rattle.bench_devices.specs.Phases.{AskedPart, SelectionCut, ReadsSome, FailsRead, IsIdle, Selects, SelectsAt, Stands, Reads, ReadsAt, CutAt, Searches, SearchesField, SearchCut}
-use Rattle.bench_world.specs.Obeying.{Machines, state_at, HasPlaces, IsSettled, Obeyed, ObeyedBelow, IsCutOff, CutOffBelow}
+use Rattle.bench_world.specs.Obeying.{Machines, state_at, HasPlaces, IsSettled, Obeyed, ObeyedUnlinked, IsCutOff, CutOffUnlinked}
 use Rattle.bench_world.specs.World.{WholeWorld, bench_air, stable}
+use Rattle.bench_world.specs.Links.{OpenLink}
 use Rattle.bench_world.specs.Peers.{Peers}
 use Rattle.far_air.specs.FarLaws.{seen}
 use Rattle.far_air.specs.FarWorld.{with_numbers}
@@ -122,7 +123,7 @@ part_stays os old new es idle made same none =
 
 -- a step whose command asks these, and whose entry has no numbers
 abbrev pub asks_for : List Signal → Given
-asks_for asked = record { asked = asked; joins = [] }
+asks_for asked = record { asked = asked; joins = no_joins }
 
 -- the state of a field under what stands above it
 abbrev pub above : Upon → Air Device → State
@@ -138,9 +139,9 @@ pub trace_is : (old new : Air Device) (next : List Note → Next) (ns : List Not
 trace_is old new next ns g idle = ap (λ (t : Moment (World Device)). t.trace) g.moment ∙ ap (λ t. t ++ g.events) idle.quiet
 
 -- what was asked is a front of the command's step
-pub front_of : (os : Upon) (old new : Air Device) (c : Command) (asked : List Signal) (ns : List Note) → IsIdle old → Accepts (above os old) c → changed (above os old) c ≡ above os old
-    → Going air (due (above os old) (asks_for asked) c) (moment old) (moment new) ns → IsAskedBy (above os old) c asked → FrontOf (above os old) (asks_for asked) c new.trace (above os new)
-front_of os old new c asked ns idle accepted still g asked_by =
+pub front_of : (told : Option Answer) (os : Upon) (old new : Air Device) (c : Command) (asked : List Signal) (ns : List Note) → IsIdle old → Accepts (above os old) c → changed (above os old) c ≡ above os old
+    → Going air (due (above os old) (asks_for asked) c) (moment old) (moment new) ns → IsAskedBy (above os old) c asked → FrontOf (above os old) (asks_for asked) c new.trace told (above os new)
+front_of told os old new c asked ns idle accepted still g asked_by =
     let st : State = above os old in
     let es : List Event = g.events in
     let q = stretch (moment old).world es os.ends (none_in os old new c asked ns g asked_by) in
@@ -149,8 +150,9 @@ front_of os old new c asked ns idle accepted still g asked_by =
     let queue : new.fates ≡ queue_after old.fates es = ap (λ (t : Moment (World Device)). t.queue) g.moment in
     let T : State → Type 0 = λ s. AreTurns bench_air (with_numbers s.world []) es in
     let F : State → Type 0 = λ s. FatesFrom s.queue es in
-    let S : WholeWorld → List Fate → Peers → State = λ w f ps. record { world = with_numbers w []; queue = f; peers = ps } in
-    let P : List Event → Type 0 = λ t. FrontOf st (asks_for asked) c t (above os new) in
+    let S : WholeWorld → List Fate → Peers → State = λ w f ps. record { world = with_numbers w []; queue = f; peers = ps; link = os.link } in
+    let L : WholeWorld → List Fate → Peers → Option OpenLink → State = λ w f ps l. record { world = with_numbers w []; queue = f; peers = ps; link = l } in
+    let P : List Event → Type 0 = λ t. FrontOf st (asks_for asked) c t told (above os new) in
     let front : P es = record {
       accepted = accepted;
       asks = asked_by;
@@ -159,7 +161,7 @@ front_of os old new c asked ns idle accepted still g asked_by =
       each = g.each;
       after = ap (λ w. S (seen device_linked peer_ends w os.ends []) new.fates os.peers) world ∙ ap (λ f. S (seen device_linked peer_ends (replay air (moment old).world es) os.ends []) f os.peers) queue
           ∙ ap (λ w. S w (queue_after old.fates es) os.peers) (sym q.after)
-          ∙ ap (λ (s : State). S (replay bench_air (with_numbers s.world []) es) (queue_after s.queue es) s.peers) (sym still);
+          ∙ ap (λ (s : State). L (replay bench_air (with_numbers s.world []) es) (queue_after s.queue es) s.peers s.link) (sym still);
     } in
     subst P (sym trace) front
 
@@ -176,7 +178,7 @@ asks_obeyed what os old new c asked ns answer idle places accepted still g over 
     let as_many : length old.listeners ≡ length new.listeners = sym (ap (λ (w : World Device). length w.listeners) world ∙ as_long (moment old).world g.events) in
     record {
       given = asks_for asked;
-      front = front_of os old new c asked ns idle accepted still g asked_by;
+      front = front_of (Some answer) os old new c asked ns idle accepted still g asked_by;
       over = ap (λ es. due st (asks_for asked) c (receptions es)) trace ∙ ap (due st (asks_for asked) c) g.known ∙ over;
       answered = subst (λ es. AnswerLaw st (asks_for asked) c es answer) (sym trace) law;
       tame = left_tame what (moment old).world g.events (moment new).world left idle.tame;
@@ -185,9 +187,9 @@ asks_obeyed what os old new c asked ns answer idle places accepted still g over 
     }
 
 -- all devices were searched for
-pub search_obeyed : (old new : Air Device) (r : Result Everybody PollFault) (answer : Answer) → IsIdle old → Searches (moment old) (moment new) r → TellsFound r answer → ObeyedBelow old new Find answer
+pub search_obeyed : (old new : Air Device) (r : Result Everybody PollFault) (answer : Answer) → IsIdle old → Searches (moment old) (moment new) r → TellsFound r answer → ObeyedUnlinked old new Find answer
 search_obeyed old new r answer idle s told = λ ends peers places.
-    let os : Upon = record { ends = ends; peers = peers } in
+    let os : Upon = record { ends = ends; peers = peers; link = None } in
     let g : Going air (due (above os old) (asks_for []) Find) (moment old) (moment new) s.asked.notes = s.asked.going in
     let world : (moment new).world ≡ replay air (moment old).world g.events = ap (λ (t : Moment (World Device)). t.world) g.moment in
     asks_obeyed NoStore os old new Find [] s.asked.notes answer idle places tt refl g s.asked.over refl
@@ -257,9 +259,9 @@ missed_tells Tells id asked old new e answer s is = record {
   noisy = λ six. absurd (never_six e answer is six);
 }
 
-pub missed_obeyed : (old new : Air Device) (id : DeviceId) (e : PollFault) (answer : Answer) → IsIdle old → Selects id (Err e) (moment old) (moment new) → poll_answer e ≡ Some answer → ObeyedBelow old new (Read id) answer
+pub missed_obeyed : (old new : Air Device) (id : DeviceId) (e : PollFault) (answer : Answer) → IsIdle old → Selects id (Err e) (moment old) (moment new) → poll_answer e ≡ Some answer → ObeyedUnlinked old new (Read id) answer
 missed_obeyed old new id e answer idle s is = λ ends peers places.
-    let os : Upon = record { ends = ends; peers = peers } in
+    let os : Upon = record { ends = ends; peers = peers; link = None } in
     let some = asked_by old id idle in
     let g : Going air (λ ns. asks (selecting id ns)) (moment old) (moment new) s.asked.notes = s.asked.going in
     let going : Going air (tag_due id some.0) (moment old) (moment new) s.asked.notes = polled_of id some.0 (moment old) (moment new) s.asked.notes g in
@@ -332,15 +334,15 @@ module _ (old mid : Air Device) (id : DeviceId) (place : ℕ) (idle : IsIdle old
       subst (λ o. IfPlaced (λ d. ReadAsks d commands) (commands ≡ []) o) (sym selected_with.found) (subst P (sym selected_with.same) asks)
 
   -- reading was cut off
-  pub read_cut : (new : Air Device) → is_tag s.device ≡ true → ReadsSome (moment mid) (moment new) s.device → CutOffBelow old new (Read id)
+  pub read_cut : (new : Air Device) → is_tag s.device ≡ true → ReadsSome (moment mid) (moment new) s.device → CutOffUnlinked old new (Read id)
   read_cut new tag r = λ ends peers.
-      let os : Upon = record { ends = ends; peers = peers } in
+      let os : Upon = record { ends = ends; peers = peers; link = None } in
       let g : Going air (tag_due id r.commands) (moment old) (moment new) (s.selects.asked.notes ++ r.asked.notes) =
       both id (seen_of s.device) r.commands (moment old) (moment mid) (moment new) s.selects.asked.notes r.asked.notes s.selects.told s.selects.asked.going r.asked.going in
       let asked = placed_asked r.commands (as_tag s.device tag _ _ r.asks) in
-      inr (
+      (
         asks_for r.commands,
-        front_of os old new (Read id) r.commands (s.selects.asked.notes ++ r.asked.notes) idle tt refl g asked,
+        front_of None os old new (Read id) r.commands (s.selects.asked.notes ++ r.asked.notes) idle tt refl g asked,
         part_stays os.ends old new g.events idle g.moment (r.asked.same ∙ s.selects.asked.same)
             (none_in os old new (Read id) r.commands (s.selects.asked.notes ++ r.asked.notes) g asked),
       )
@@ -372,9 +374,9 @@ module _ (Tells : Device → Answer → Type 0) (old mid : Air Device) (id : Dev
   }
 
 -- a peer isn't read
-pub peer_obeyed : (old mid : Air Device) (id : DeviceId) (place : ℕ) (idle : IsIdle old) (s : SelectsAt id place (moment old) (moment mid)) → is_tag s.device ≡ false → ObeyedBelow old mid (Read id) answers.WrongKind
+pub peer_obeyed : (old mid : Air Device) (id : DeviceId) (place : ℕ) (idle : IsIdle old) (s : SelectsAt id place (moment old) (moment mid)) → is_tag s.device ≡ false → ObeyedUnlinked old mid (Read id) answers.WrongKind
 peer_obeyed old mid id place idle s peer = λ ends peers places.
-    let os : Upon = record { ends = ends; peers = peers } in
+    let os : Upon = record { ends = ends; peers = peers; link = None } in
     let with_id : IsWith old.listeners (bytes_of id) (kept s.device) = selected_with old mid id place idle s in
     let P : Kept → Type 0 = λ k. IfTag k.fixed.kind (Tells k.fixed.how k.fixed.size k.store answers.WrongKind) (answers.WrongKind ≡ answers.WrongKind) in
     let here : TellsOf s.device answers.WrongKind = as_peer s.device peer _ _ refl in
@@ -427,9 +429,9 @@ module _ (old mid new : Air Device) (id : DeviceId) (place : ℕ) (read : Result
         omega (arith, sum, rest);
   }
 
-  pub read_obeyed : ObeyedBelow old new (Read id) answer
+  pub read_obeyed : ObeyedUnlinked old new (Read id) answer
   read_obeyed = λ ends peers places.
-      let os : Upon = record { ends = ends; peers = peers } in
+      let os : Upon = record { ends = ends; peers = peers; link = None } in
       let hs : List Note = s.selects.asked.notes in
       let ks : List Note = r.asked.notes in
       let g : Going air (tag_due id r.commands) (moment old) (moment new) (hs ++ ks) =
@@ -448,23 +450,23 @@ pub untouched : (old new : Machines) (c : Command) → IsSettled old → new ≡
 untouched old new c settled same = inl (ap (λ (m : Machines). m.air.trace) same ∙ settled.idle.quiet, ap state_at same)
 
 -- ... or so much was asked, in a search, in selecting a tag, and in reading it.
-pub search_cut : (old new : Air Device) → IsIdle old → AskedPart NoStore (λ ns. asks (finding_all ns)) (moment old) (moment new) → CutOffBelow old new Find
+pub search_cut : (old new : Air Device) → IsIdle old → AskedPart NoStore (λ ns. asks (finding_all ns)) (moment old) (moment new) → CutOffUnlinked old new Find
 search_cut old new idle part = λ ends peers.
-    let os : Upon = record { ends = ends; peers = peers } in
-    inr (
+    let os : Upon = record { ends = ends; peers = peers; link = None } in
+    (
       asks_for [],
-      front_of os old new Find [] part.notes idle tt refl part.going refl,
+      front_of None os old new Find [] part.notes idle tt refl part.going refl,
       part_stays os.ends old new part.going.events idle part.going.moment part.same (none_in os old new Find [] part.notes part.going refl),
     )
 
-pub selection_cut : (old new : Air Device) (id : DeviceId) → IsIdle old → SelectionCut id (moment old) (moment new) → CutOffBelow old new (Read id)
+pub selection_cut : (old new : Air Device) (id : DeviceId) → IsIdle old → SelectionCut id (moment old) (moment new) → CutOffUnlinked old new (Read id)
 selection_cut old new id idle part = λ ends peers.
-    let os : Upon = record { ends = ends; peers = peers } in
+    let os : Upon = record { ends = ends; peers = peers; link = None } in
     let some = asked_by old id idle in
     let g : Going air (tag_due id some.0) (moment old) (moment new) part.notes = polled_of id some.0 (moment old) (moment new) part.notes part.going in
-    inr (
+    (
       asks_for some.0,
-      front_of os old new (Read id) some.0 part.notes idle tt refl g some.1,
+      front_of None os old new (Read id) some.0 part.notes idle tt refl g some.1,
       part_stays os.ends old new part.going.events idle part.going.moment part.same (none_in os old new (Read id) some.0 part.notes g some.1),
     )
 

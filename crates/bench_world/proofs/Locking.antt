@@ -143,8 +143,8 @@ module _ (old : Air Device) (id : DeviceId) (place : ℕ) (idle : IsIdle old) (s
       → ((os : Upon) → IsAskedBy (state_at (beneath os old)) c []) → ((os : Upon) → due (state_at (beneath os old)) nothing c [] ≡ Over)
       → ((os : Upon) → AnswerLaw (state_at (beneath os old)) nothing c [] Done)
       → new ≡ record { lit = old.lit; listeners = slice_set old.listeners place (change s.device); fates = old.fates; trace = old.trace } → ObeyedBelow old new c Done
-  device_changed new c change stays accepted changes asks over answered is = λ ends peers places.
-      let os : Upon = record { ends = ends; peers = peers } in
+  device_changed new c change stays accepted changes asks over answered is = λ ends peers link places.
+      let os : Upon = record { ends = ends; peers = peers; link = link } in
       let O : Air Device → Type 0 = λ a. Obeyed (beneath os old) (beneath os a) c Done in
       let F : List Device → Air Device = λ ls. record { lit = old.lit; listeners = ls; fates = old.fates; trace = old.trace } in
       let now : List Device = s.before ++ change s.device ∷ s.behind in
@@ -155,7 +155,7 @@ module _ (old : Air Device) (id : DeviceId) (place : ℕ) (idle : IsIdle old) (s
       ap (with_changed change (bytes_of id)) s.split ∙ changed_behind change s.before s.device s.behind (bytes_of id) s.named sound in
       let fars : shown device_linked peer_ends now os.ends ≡ shown device_linked peer_ends old.listeners os.ends =
       shown_changed change s.device stays s.behind s.before os.ends ∙ ap (λ ls. shown device_linked peer_ends ls os.ends) (sym s.split) in
-      let S : List Device → List (Option FarEnd) → State = λ ls xs. record { world = record { field = record { lit = old.lit; listeners = ls }; fars = xs; numbers = [] }; queue = old.fates; peers = os.peers } in
+      let S : List Device → List (Option FarEnd) → State = λ ls xs. record { world = record { field = record { lit = old.lit; listeners = ls }; fars = xs; numbers = [] }; queue = old.fates; peers = os.peers; link = os.link } in
       let as_many : length old.listeners ≡ length now = ap length s.split ∙ as_long change s.device stays s.behind s.before in
       subst O (sym (is ∙ ap F left))
       (still_obeyed (beneath os old) (beneath os (F now)) c Done idle (accepted os)
@@ -179,7 +179,7 @@ module _ (old : Air Device) (id : DeviceId) (place : ℕ) (idle : IsIdle old) (s
 
   -- what it holds was told
   pub memory_told : is_tag s.device ≡ true → ObeyedBelow old old (Dump id) (Store (memory_in s.device))
-  memory_told tag = λ ends peers places.
-      let os : Upon = record { ends = ends; peers = peers } in
+  memory_told tag = λ ends peers link places.
+      let os : Upon = record { ends = ends; peers = peers; link = link } in
       still_obeyed (beneath os old) (beneath os old) (Dump id) (Store (memory_in s.device)) idle (of_placed (λ d. is_tag d ≡ true) tag) refl refl refl refl
       (of_placed (λ d. Store (memory_in s.device) ≡ Store (memory_in d)) refl) idle.tame idle.tidy places

@@ -20,7 +20,7 @@ use Rattle.bench_devices.specs.Writing.{AsksWriteOf}
 use Rattle.bench_script.specs.Messages.{message_of}
 use Rattle.nfc_base.specs.TagLinks.{plain_state}
 use Rattle.tag_writer.proofs.OneWrite.{one_write as one_write_list}
-use Rattle.bench_world.specs.Legal.{State, Given, IsAskedBy, AnswerLaw, FrontOf, EachLegal, changed, due, state_after, first_state}
+use Rattle.bench_world.specs.Legal.{State, Given, Joins, IsAskedBy, AnswerLaw, FrontOf, EachLegal, changed, due, state_after, first_state}
 use Rattle.bench_devices.specs.Device.{air}
 use Rattle.bench_world.specs.Journal.{NumberedLine, AreEntriesOf, asking_lines, LeadsTo, AgreeFor}
 use Rattle.bench_world.proofs.Fronts.{on_field, any_numbers}
@@ -51,7 +51,7 @@ one_dump None a b p q = absurd p
 one_dump (Some d) a b p q = p ∙ sym q
 
 -- what happened decides what it answers
-one_answer : (s : State) (c : Command) (asked : List Signal) (ns ms : List ℕ) (events : List Event) (a b : Answer)
+one_answer : (s : State) (c : Command) (asked : List Signal) (ns ms : Joins) (events : List Event) (a b : Answer)
     → AnswerLaw s (record { asked = asked; joins = ns }) c events a → AnswerLaw s (record { asked = asked; joins = ms }) c events b → a ≡ b
 one_answer s Skip asked ns ms events a b p q = absurd p
 one_answer s (Fates fates) asked ns ms events a b p q = p ∙ sym q
@@ -70,7 +70,7 @@ one_answer s (Read id) asked ns ms events a b p q = one_read id s.world.field.li
 one_answer s (Write id m) asked ns ms events a b p q = one_write id s.world.field.listeners (message_of m) asked events a b p.tells q.tells
 
 -- From a state a command is obeyed in one way, whichever numbers its entry has.
-module _ (s : State) (c : Command) (g h : Given) (es fs : List Event) (t u : State) (p : FrontOf s g c es t) (q : FrontOf s h c fs u) (done : due s g c (receptions es) ≡ Over) (over : due s h c (receptions fs) ≡ Over) where
+module _ (s : State) (c : Command) (g h : Given) (es fs : List Event) (a b : Answer) (t u : State) (p : FrontOf s g c es (Some a) t) (q : FrontOf s h c fs (Some b) u) (done : due s g c (receptions es) ≡ Over) (over : due s h c (receptions fs) ≡ Over) where
   same_asked : h.asked ≡ g.asked
   same_asked = one_asked_by s c h.asked g.asked q.asks p.asks
 
@@ -78,7 +78,7 @@ module _ (s : State) (c : Command) (g h : Given) (es fs : List Event) (t u : Sta
   As asked = record { asked = asked; joins = g.joins }
 
   -- what is due is told by what the tag is asked
-  due_as : (asked : List Signal) (n : List ℕ) (c' : Command) → due s (record { asked = asked; joins = n }) c' ≡ due s (As asked) c'
+  due_as : (asked : List Signal) (n : Joins) (c' : Command) → due s (record { asked = asked; joins = n }) c' ≡ due s (As asked) c'
   due_as asked n Find = refl
   due_as asked n (Read id) = refl
   due_as asked n (Write id m) = refl
@@ -93,12 +93,13 @@ module _ (s : State) (c : Command) (g h : Given) (es fs : List Event) (t u : Sta
       let at_end : due s g c (receptions fs) ≡ Over = subst (λ d. d (receptions fs) ≡ Over) due_same over in
       one_course air (due s g c) (changed s c).world.field (changed s c).queue es fs (on_field s t g c es p).turns (on_field s u h c fs q).turns p.fates q.fates p.each each done at_end
 
-  -- it leads to the same state
-  pub same_state : u ≡ t
-  same_state = q.after ∙ ap (state_after s h.joins c) (sym same_events) ∙ any_numbers s t g c es p h.joins g.joins ∙ sym p.after
+  pub same_answers : AnswerLaw s g c es a → AnswerLaw s h c fs b → a ≡ b
+  same_answers x y = one_answer s c g.asked g.joins h.joins es a b x (subst (λ asked. AnswerLaw s (record { asked = asked; joins = h.joins }) c es b) same_asked (subst (λ k. AnswerLaw s h c k b) (sym same_events) y))
 
-  pub same_answers : (a b : Answer) → AnswerLaw s g c es a → AnswerLaw s h c fs b → a ≡ b
-  same_answers a b x y = one_answer s c g.asked g.joins h.joins es a b x (subst (λ asked. AnswerLaw s (record { asked = asked; joins = h.joins }) c es b) same_asked (subst (λ k. AnswerLaw s h c k b) (sym same_events) y))
+  -- it leads to the same state
+  pub same_state : a ≡ b → u ≡ t
+  same_state told =
+      q.after ∙ ap (λ k. state_after s h.joins c k (Some b)) (sym same_events) ∙ ap (λ x. state_after s h.joins c es (Some x)) (sym told) ∙ any_numbers s t g c es p h.joins g.joins ∙ sym p.after
 
 -- entries of the same parts
 same_entry : (j k : Entry) → j.line ≡ k.line → j.command ≡ k.command → j.events ≡ k.events → j.answer ≡ k.answer → j ≡ k
@@ -118,13 +119,13 @@ one_journal s t u (g ∷ gs) hs (j ∷ js) [] same p q = absurd same
 one_journal s t u (g ∷ gs) [] (j ∷ js) (k ∷ ks) same p q = absurd q
 one_journal s t u (g ∷ gs) (h ∷ hs) (j ∷ js) (k ∷ ks) same p q =
     let c : Command = j.command in
-    let F : Command → Type 0 = λ x. FrontOf s h x k.events q.0 in
+    let F : Command → Type 0 = λ x. FrontOf s h x k.events (Some k.answer) q.0 in
     let front : F c = subst F (sym same.1) q.1.front in
     let over : due s h c (receptions k.events) ≡ Over = subst (λ x. due s h x (receptions k.events) ≡ Over) (sym same.1) q.1.over in
     let law : AnswerLaw s h c k.events k.answer = subst (λ x. AnswerLaw s h x k.events k.answer) (sym same.1) q.1.answered in
-    let events : j.events ≡ k.events = same_events s c g h j.events k.events p.0 q.0 p.1.front front p.1.over over in
-    let answer : j.answer ≡ k.answer = same_answers s c g h j.events k.events p.0 q.0 p.1.front front p.1.over over j.answer k.answer p.1.answered law in
-    let mid : q.0 ≡ p.0 = same_state s c g h j.events k.events p.0 q.0 p.1.front front p.1.over over in
+    let events : j.events ≡ k.events = same_events s c g h j.events k.events j.answer k.answer p.0 q.0 p.1.front front p.1.over over in
+    let answer : j.answer ≡ k.answer = same_answers s c g h j.events k.events j.answer k.answer p.0 q.0 p.1.front front p.1.over over p.1.answered law in
+    let mid : q.0 ≡ p.0 = same_state s c g h j.events k.events j.answer k.answer p.0 q.0 p.1.front front p.1.over over answer in
     ap (λ e. e ∷ js) (same_entry j k same.0 same.1 events answer)
     ∙ ap (λ es. k ∷ es) (one_journal p.0 t u gs hs js ks same.2 p.2 (subst (λ x. EachLegal x hs ks u) mid q.2))
 
@@ -138,13 +139,13 @@ same_commands (l ∷ ls) (j ∷ js) [] p q = absurd q
 same_commands (l ∷ ls) (j ∷ js) (k ∷ ks) p q = (p.0 ∙ sym q.0, spells_one l.text j.command k.command p.1 q.1, same_commands ls js ks p.2 q.2)
 
 -- No command takes numbers, so all numbers agree.
-pub all_agree : (js : List Entry) (ns ms : List (List ℕ)) → AgreeFor js ns ms
+pub all_agree : (js : List Entry) (ns ms : List Joins) → AgreeFor js ns ms
 all_agree [] ns ms = tt
 all_agree (j ∷ js) [] ms = tt
 all_agree (j ∷ js) (n ∷ ns) [] = tt
 all_agree (j ∷ js) (n ∷ ns) (m ∷ ms) = (λ takes. absurd takes, all_agree js ns ms)
 
 -- The lines of a script have at most one legal journal.
-pub one_legal : (lines numbers others : List (List ℕ)) (js ks : List Entry) (s t : State) → LeadsTo lines numbers js s → LeadsTo lines others ks t → js ≡ ks
+pub one_legal : (lines : List (List ℕ)) (numbers others : List Joins) (js ks : List Entry) (s t : State) → LeadsTo lines numbers js s → LeadsTo lines others ks t → js ≡ ks
 one_legal lines numbers others js ks s t p q =
     one_journal first_state s t p.given q.given js ks (same_commands (asking_lines 1 lines) js ks p.numbered q.numbered) p.steps q.steps

@@ -19,7 +19,8 @@ use Rattle.bench_world.specs.declared.entry.Answer.TheVariants as answers
 use Rattle.bench_world.specs.declared.entry.Received.{Received}
 use Rattle.bench_world.specs.Legal.{State, IsPeerPlaced, inbox_now}
 use Rattle.bench_world.specs.Obeying.{Machines, state_at, IsSettled, Obeyed, FarAt, linked_at, with_end}
-use Rattle.bench_world.specs.Peers.{LinkRange, with_place_changed, placed_under, end_offered}
+use Rattle.bench_world.specs.declared.inbox.LinkRange.{LinkRange}
+use Rattle.bench_world.specs.Peers.{with_place_changed, placed_under, end_offered}
 use Rattle.bench_world.specs.Inbox.{chosen, told_of, inbox_at}
 use Rattle.snep_core.specs.Server.{Received as Accepted, messages_of, sources_of}
 use Rattle.bench_world.specs.World.{FarEnd}
@@ -66,14 +67,14 @@ value_offered old new id key value place settled peer short s is =
     ap (λ n. shown device_linked peer_ends old.air.listeners (now n)) (sym s.at) ∙ ap (λ ls. shown device_linked peer_ends ls (now (length s.before))) s.split
     ∙ offered_shown key value s.before s.device s.behind (bytes_of id) old.ends s.named sound long
     ∙ ap (λ ls. with_place_changed (end_offered key value) (bytes_of id) ls (shown device_linked peer_ends ls old.ends)) (sym s.split) in
-    let S : List (Option FarEnd) → State = λ os. record { world = record { field = record { lit = old.air.lit; listeners = old.air.listeners }; fars = os; numbers = [] }; queue = old.air.fates; peers = old.peers } in
+    let S : List (Option FarEnd) → State = λ os. record { world = record { field = record { lit = old.air.lit; listeners = old.air.listeners }; fars = os; numbers = [] }; queue = old.air.fates; peers = old.peers; link = old.link } in
     let as_long : length (now place) ≡ length old.ends = length-set old.ends place (option_map (end_offered key value) (get_or old.ends place None)) in
     subst O (sym is)
     (still_obeyed old (with_end old place (option_map (end_offered key value) (get_or old.ends place None))) (Offer id key value) Done settled.idle (record { peer = peer; short = short }) (ap S fars)
     refl refl refl refl settled.idle.tame settled.idle.tidy (record { ends = as_long ∙ settled.places.ends; numbers = settled.places.numbers }))
 
 -- What stands at the place of the device with an identifier.
-under_at : {X : Type 0} (before : List Device) (d : Device) (behind : List Device) (id : List ℕ) (xs : List (Option X)) → device_id d ≡ id → AreSound (map kept (before ++ d ∷ behind))
+pub under_at : {X : Type 0} (before : List Device) (d : Device) (behind : List Device) (id : List ℕ) (xs : List (Option X)) → device_id d ≡ id → AreSound (map kept (before ++ d ∷ behind))
     → length xs ≡ length (before ++ d ∷ behind) → placed_under id (before ++ d ∷ behind) xs ≡ get_or xs (length before) None
 under_at [] d behind id [] named sound e = absurd cc
 under_at [] d behind id (x ∷ xs) named sound e = ap (λ v. if v then x else placed_under id behind xs) (ap (λ i. pointwise nat_eq i id) named ∙ pointwise_self id)

@@ -15,11 +15,12 @@ use Rattle.bench_devices.specs.declared.device.Device.{Device}
 use Rattle.bench_world.specs.declared.entry.Answer.{Answer}
 use Rattle.bench_world.specs.declared.entry.Answer.TheVariants.{Done}
 use Rattle.bench_devices.specs.Device.{device_id, new_t2, new_t4, new_t5, new_peer}
-use Rattle.bench_world.specs.Legal.{State, Given, FrontOf, Accepts, IsAskedBy, IsFree, MayPlaceT2, MayPlaceT4, MayPlaceT5, MayPlacePeer, AnswerLaw, changed, due, memory_of}
+use Rattle.bench_world.specs.Legal.{State, Given, no_joins, FrontOf, Accepts, IsAskedBy, IsFree, MayPlaceT2, MayPlaceT4, MayPlaceT5, MayPlacePeer, AnswerLaw, changed, due, memory_of}
 use Rattle.bench_devices.specs.Device.{most_devices}
 use Rattle.bench_devices.specs.Keeping.{Kept, kept, IsSound, IsApart, AreTame}
 use Rattle.bench_devices.specs.Phases.{IsTidy, AreTidy}
 use Rattle.bench_world.specs.Obeying.{Machines, under, state_at, HasPlaces, IsSettled, Obeyed, ObeyedBelow}
+use Rattle.bench_world.specs.Links.{OpenLink}
 use Rattle.bench_world.specs.World.{FarEnd, with_one_more}
 use Rattle.bench_world.specs.Peers.{Peers, with_tag, with_peer, new_end}
 use Rattle.far_air.specs.FarEnds.{by_link}
@@ -43,13 +44,14 @@ more_by a d = record { lit = a.lit; listeners = a.listeners ++ d ∷ []; fates =
 pub record Upon : Type 0 where
   pub ends : List (Option FarEnd)
   pub peers : Peers
+  pub link : Option OpenLink
 
 abbrev pub beneath : Upon → Air Device → Machines
-beneath u a = under u.ends u.peers a
+beneath u a = under u.ends u.peers u.link a
 
 -- a command that asks nothing
 abbrev pub nothing : Given
-nothing = record { asked = []; joins = [] }
+nothing = record { asked = []; joins = no_joins }
 
 -- a command that changes the machines as it says, and sends nothing
 pub still_obeyed : (old new : Machines) (c : Command) (answer : Answer) → IsIdle old.air → Accepts (state_at old) c → state_at new ≡ changed (state_at old) c → new.air.trace ≡ old.air.trace
@@ -58,8 +60,8 @@ pub still_obeyed : (old new : Machines) (c : Command) (answer : Answer) → IsId
 still_obeyed old new c answer idle accepted changes trace asks over law tame tidy places =
     let st : State = state_at old in
     let quiet : new.air.trace ≡ [] = trace ∙ idle.quiet in
-    let F : List Event → Type 0 = λ es. FrontOf st nothing c es (state_at new) in
-    let dropped : State → State = λ s. record { world = with_numbers s.world []; queue = s.queue; peers = s.peers } in
+    let F : List Event → Type 0 = λ es. FrontOf st nothing c es (Some answer) (state_at new) in
+    let dropped : State → State = λ s. record { world = with_numbers s.world []; queue = s.queue; peers = s.peers; link = s.link } in
     let front : F [] = record { accepted = accepted; asks = asks; turns = record { moves = []; made = refl }; fates = tt; each = tt; after = ap dropped changes } in
     record {
       given = nothing;
@@ -73,10 +75,10 @@ still_obeyed old new c answer idle accepted changes trace asks over law tame tid
 
 -- fates were appended
 pub fates_added : (old new : Air Device) (fates : List Fate) → IsIdle old → new ≡ record { lit = old.lit; listeners = old.listeners; fates = old.fates ++ fates; trace = old.trace } → ObeyedBelow old new (Fates fates) Done
-fates_added old new fates idle is = λ ends peers places.
+fates_added old new fates idle is = λ ends peers link places.
     let a : Air Device = record { lit = old.lit; listeners = old.listeners; fates = old.fates ++ fates; trace = old.trace } in
-    let O : Air Device → Type 0 = λ x. Obeyed (under ends peers old) (under ends peers x) (Fates fates) Done in
-    subst O (sym is) (still_obeyed (under ends peers old) (under ends peers a) (Fates fates) Done idle tt refl refl refl refl refl idle.tame idle.tidy (record { ends = places.ends; numbers = places.numbers }))
+    let O : Air Device → Type 0 = λ x. Obeyed (under ends peers link old) (under ends peers link x) (Fates fates) Done in
+    subst O (sym is) (still_obeyed (under ends peers link old) (under ends peers link a) (Fates fates) Done idle tt refl refl refl refl refl idle.tame idle.tidy (record { ends = places.ends; numbers = places.numbers }))
 
 -- Behind the others, a device and its far end are shown as they are.
 shown_more : (ls : List Device) (os : List (Option FarEnd)) (d : Device) (end : Option FarEnd) → by_link peer_ends (device_linked d) end ≡ end → length os ≡ length ls
@@ -98,7 +100,7 @@ one_longer xs ys x y e = omega (arith, e, length-append xs (x ∷ []), length-ap
 
 -- the machines with one more device and its far end, and such peers
 abbrev pub with_more : Machines → Device → Option FarEnd → Peers → Machines
-with_more m d end peers = record { air = more_by m.air d; ends = m.ends ++ end ∷ []; peers = peers }
+with_more m d end peers = record { air = more_by m.air d; ends = m.ends ++ end ∷ []; peers = peers; link = m.link }
 
 -- the machines with one more tag
 abbrev pub one_more : Machines → Device → Machines
@@ -106,7 +108,7 @@ one_more m d = with_more m d None (with_tag m.peers)
 
 -- the state with one more device
 abbrev more_in : State → Device → Option FarEnd → Peers → State
-more_in s d end peers = record { world = with_one_more s.world d end; queue = s.queue; peers = peers }
+more_in s d end peers = record { world = with_one_more s.world d end; queue = s.queue; peers = peers; link = s.link }
 
 -- a command that places a device
 place_obeyed : (old : Machines) (c : Command) (d : Device) (end : Option FarEnd) (peers : Peers) → IsSettled old → Accepts (state_at old) c → changed (state_at old) c ≡ more_in (state_at old) d end peers
@@ -119,7 +121,7 @@ place_obeyed old c d end peers settled accepted changes asks over law sound tidy
     let idle : IsIdle old.air = settled.idle in
     let apart : AllByRecursion (λ l. IsApart l (kept d)) (map kept ls) = apart_all ls d (none_named ls (device_id d) free.fresh) in
     let room : length (map kept ls) < most_devices = omega (arith, length-map ls kept, free.room) in
-    let S : List (Option FarEnd) → State = λ os. record { world = record { field = record { lit = old.air.lit; listeners = ls ++ d ∷ [] }; fars = os; numbers = [] }; queue = old.air.fates; peers = peers } in
+    let S : List (Option FarEnd) → State = λ os. record { world = record { field = record { lit = old.air.lit; listeners = ls ++ d ∷ [] }; fars = os; numbers = [] }; queue = old.air.fates; peers = peers; link = old.link } in
     let more : length (ls ++ d ∷ []) ≡ length ls + 1 = length-append ls (d ∷ []) in
     let numbers : length old.peers.numbers ≡ length ls = settled.places.numbers in
     still_obeyed old (with_more old d end peers) c Done idle accepted (ap S (shown_more ls old.ends d end rests settled.places.ends) ∙ sym changes) refl asks over law

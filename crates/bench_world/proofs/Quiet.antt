@@ -127,16 +127,16 @@ quiet_stays s t g e step pass =
     (none, subst (λ (x : State). AllPass x.queue) (sym step.front.after) (left_pass (changed s e.command).queue e.events pass))
 
 -- the events of a command that changes no fate have no noise
-quiet_of : (s t : State) (g : Given) (e : Entry) (c : Command) → LegalStep s g e t → e.command ≡ c → changed s c ≡ s → AllPass s.queue → noise e.events ≡ 0
+quiet_of : (s t : State) (g : Given) (e : Entry) (c : Command) → LegalStep s g e t → e.command ≡ c → (changed s c).queue ≡ s.queue → AllPass s.queue → noise e.events ≡ 0
 quiet_of s t g e c step is same pass =
-    let there : changed s e.command ≡ s = ap (changed s) is ∙ same in
-    (quiet_stays s t g e step (subst (λ (x : State). AllPass x.queue) (sym there) pass)).0
+    let there : (changed s e.command).queue ≡ s.queue = ap (λ k. (changed s k).queue) is ∙ same in
+    (quiet_stays s t g e step (subst (λ q. AllPass q) (sym there) pass)).0
 
 -- its first round isn't disturbed, where it begins with a reset
-round_of : (s t : State) (g : Given) (e : Entry) (c : Command) → LegalStep s g e t → e.command ≡ c → changed s c ≡ s → due s g c [] ≡ LightUp → noise e.events ≡ 0 → AreDisturbed (rounds e.events) → ⊥
+round_of : (s t : State) (g : Given) (e : Entry) (c : Command) → LegalStep s g e t → e.command ≡ c → (changed s c).world.field ≡ s.world.field → due s g c [] ≡ LightUp → noise e.events ≡ 0 → AreDisturbed (rounds e.events) → ⊥
 round_of s t g e c step is same lit none =
-    let there : changed s e.command ≡ s = ap (changed s) is ∙ same in
-    first_round s.world.field (due s g c) e.events (subst (λ (x : State). AreTurns air x.world.field e.events) there (on_field s t g e.command e.events step.front).turns) (subst (λ k. EachDue (due s g k) [] e.events) is step.front.each) lit
+    let there : (changed s e.command).world.field ≡ s.world.field = ap (λ k. (changed s k).world.field) is ∙ same in
+    first_round s.world.field (due s g c) e.events (subst (λ (w : BenchWorld). AreTurns air w e.events) there (on_field s t g e.command e.events step.front).turns) (subst (λ k. EachDue (due s g k) [] e.events) is step.front.each) lit
     (ap (λ k. due s g k (receptions e.events)) (sym is) ∙ step.over) none
 
 pub quiet_finds : QuietFinds

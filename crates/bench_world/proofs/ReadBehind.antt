@@ -34,7 +34,7 @@ use Rattle.bench_world.specs.declared.entry.Answer.TheVariants as answers
 use Rattle.bench_world.specs.Answering.{TagEnds, TagTells, TellsFault, poll_answer}
 use Rattle.bench_world.specs.Reading.{TellsOf}
 use Rattle.bench_world.specs.Writing.{TellsTag, TellsWrite, KeepsStores, ending_told}
-use Rattle.bench_world.specs.Legal.{State, FrontOf, AnswerLaw, ReadLaw, WritingLaw, state_after}
+use Rattle.bench_world.specs.Legal.{State, FrontOf, AnswerLaw, ReadLaw, WritingLaw, world_after, state_after}
 use Rattle.bench_world.proofs.Fronts.{field_after}
 use Rattle.bench_world.specs.Behind.{WritesThenReads, WrittenIsRead, OneOfThreeIsRead}
 use Rattle.bench_world.proofs.OneForm.{one_store_form}
@@ -126,9 +126,10 @@ module _ (id : DeviceId) (tag : Device) (m : Msg) (answer : Answer) (message : L
       subst (L (Write id m)) r.answered (subst (λ c. L c r.write.answer) r.writing r.writes.answered)
 
   -- the tag behind the write
-  on_air : (state_after r.before r.write_given.joins (Write id m) r.write.events).world.field ≡ replay air r.before.world.field r.write.events
+  on_air : (world_after r.before r.write_given.joins (Write id m) r.write.events).field ≡ replay air r.before.world.field r.write.events
   on_air =
-      let front : FrontOf r.before r.write_given (Write id m) r.write.events r.written = subst (λ c. FrontOf r.before r.write_given c r.write.events r.written) r.writing r.writes.front in
+      let front : FrontOf r.before r.write_given (Write id m) r.write.events (Some r.write.answer) r.written =
+      subst (λ c. FrontOf r.before r.write_given c r.write.events (Some r.write.answer) r.written) r.writing r.writes.front in
       field_after r.before r.written r.write_given (Write id m) r.write.events front
 
   behind : (e : Device) × (device_with (bytes_of id) (replay air r.before.world.field r.write.events).listeners ≡ Some e) × (fixed e ≡ fixed tag)
@@ -144,8 +145,8 @@ module _ (id : DeviceId) (tag : Device) (m : Msg) (answer : Answer) (message : L
 
   there : device_with (bytes_of id) r.written.world.field.listeners ≡ Some behind.0
   there =
-      let after : r.written ≡ state_after r.before r.write_given.joins (Write id m) r.write.events =
-      r.writes.front.after ∙ ap (λ c. state_after r.before r.write_given.joins c r.write.events) r.writing in
+      let after : r.written ≡ state_after r.before r.write_given.joins (Write id m) r.write.events (Some r.write.answer) =
+      r.writes.front.after ∙ ap (λ c. state_after r.before r.write_given.joins c r.write.events (Some r.write.answer)) r.writing in
       ap (λ (s : State). device_with (bytes_of id) s.world.field.listeners) after ∙ ap (λ (w : BenchWorld). device_with (bytes_of id) w.listeners) on_air ∙ behind.1
 
   -- and when it is read

@@ -2,6 +2,7 @@
 use Rattle.std.proofs.Common.{◌≡◌, ℕ, suc, ◌≤◌, List, [], ◌∷◌, ◌++◌, map, length, Bool, true, false, nat_eq, if◌then◌else◌, Option, refl, sym, ◌∙◌, ap, subst, arith}
 use Rattle.std.specs.List.{AllByRecursion, remove}
 use Rattle.std.specs.Cmp.Lexicographic.{pointwise, same_text}
+use Rattle.air_core.specs.Turn.{Air}
 use Rattle.nfca_poll.proofs.OneLevel.{pointwise_self}
 use Rattle.bench_script.specs.declared.command.Command.TheVariants.{Remove}
 use Rattle.bench_script.specs.declared.command.DeviceId.{DeviceId}
@@ -9,7 +10,7 @@ use Rattle.bench_devices.specs.declared.device.Device.{Device}
 use Rattle.bench_world.specs.declared.entry.Answer.TheVariants.{Done}
 use Rattle.bench_devices.specs.Choosing.{StandsAt}
 use Rattle.bench_devices.specs.Device.{device_id}
-use Rattle.bench_world.specs.Legal.{State, IsPlaced}
+use Rattle.bench_world.specs.Legal.{State, IsPlaced, changed, without_device}
 use Rattle.bench_devices.specs.Placed.{without}
 use Rattle.bench_world.specs.Obeying.{Machines, state_at, IsSettled, Obeyed, taken_out}
 use Rattle.bench_world.specs.World.{FarEnd}
@@ -100,15 +101,21 @@ shorter [] d behind (o ∷ os) e = cc
 shorter (b ∷ before) d behind [] e = absurd cc
 shorter (b ∷ before) d behind (o ∷ os) e = let more : length os ≡ length (before ++ d ∷ behind) = cc in ap suc (shorter before d behind os more)
 
--- a device was taken away
-pub removed : (old new : Machines) (id : DeviceId) (place : ℕ) → IsSettled old → IsPlaced (state_at old) id → StandsAt (bytes_of id) old.air.listeners place → new ≡ taken_out old place → Obeyed old new (Remove id) Done
-removed old new id place settled placed s is =
+-- A device was taken away, once no link to it was open.
+pub removed : (first old new : Machines) (id : DeviceId) (place : ℕ) → IsIdle first.air → IsSettled old → old.air ≡ first.air → IsPlaced (state_at first) id
+    → without_device (state_at old) id ≡ changed (state_at first) (Remove id) → StandsAt (bytes_of id) old.air.listeners place → new ≡ taken_out old place → Obeyed first new (Remove id) Done
+removed first old new id place quiet settled beside placed changes s is =
     let T : List Device → Type 0 = λ ls. AreTame (map kept ls) in
-    let O : Machines → Type 0 = λ m. Obeyed old m (Remove id) Done in
+    let O : Machines → Type 0 = λ m. Obeyed first m (Remove id) Done in
     let idle : IsIdle old.air = settled.idle in
     let all : List Device = s.before ++ s.device ∷ s.behind in
     let ends : List (Option FarEnd) = remove old.ends (length s.before) in
-    let M : List Device → ℕ → Machines = λ ls n. record { air = record { lit = old.air.lit; listeners = ls; fates = old.air.fates; trace = old.air.trace }; ends = remove old.ends n; peers = record { numbers = remove old.peers.numbers n; placed = old.peers.placed; links = old.peers.links } } in
+    let M : List Device → ℕ → Machines = λ ls n. record {
+      air = record { lit = old.air.lit; listeners = ls; fates = old.air.fates; trace = old.air.trace };
+      ends = remove old.ends n;
+      peers = record { numbers = remove old.peers.numbers n; placed = old.peers.placed; links = old.peers.links };
+      link = old.link;
+    } in
     let tame : T all = subst T s.split idle.tame in
     let long : length old.ends ≡ length all = settled.places.ends ∙ ap length s.split in
     let many : length old.peers.numbers ≡ length all = settled.places.numbers ∙ ap length s.split in
@@ -125,11 +132,12 @@ removed old new id place settled placed s is =
       world = record { field = record { lit = old.air.lit; listeners = ls }; fars = os; numbers = [] };
       queue = old.air.fates;
       peers = record { numbers = ns; placed = old.peers.placed; links = old.peers.links };
+      link = old.link;
     } in
     let gone : List (Option FarEnd) = without_place (bytes_of id) old.air.listeners (shown device_linked peer_ends old.air.listeners old.ends) in
     let left_numbers : List (Option ℕ) = without_place (bytes_of id) old.air.listeners old.peers.numbers in
     subst O (sym (is ∙ ap (λ ls. M ls place) left ∙ ap (M (s.before ++ s.behind)) (sym s.at)))
-    (still_obeyed old (M (s.before ++ s.behind) (length s.before)) (Remove id) Done idle placed
-    (ap (λ os. S (s.before ++ s.behind) os (remove old.peers.numbers (length s.before))) fars ∙ ap (S (s.before ++ s.behind) gone) numbers ∙ ap (λ ls. S ls gone left_numbers) (sym same))
-    refl refl refl refl (tame_without s.before s.device s.behind tame)
+    (still_obeyed first (M (s.before ++ s.behind) (length s.before)) (Remove id) Done quiet placed
+    (ap (λ os. S (s.before ++ s.behind) os (remove old.peers.numbers (length s.before))) fars ∙ ap (S (s.before ++ s.behind) gone) numbers ∙ ap (λ ls. S ls gone left_numbers) (sym same) ∙ changes)
+    (ap (λ (a : Air Device). a.trace) beside) refl refl refl (tame_without s.before s.device s.behind tame)
     (tidy_without s.before s.device s.behind (subst AreTidy s.split idle.tidy)) (record { ends = shorter s.before s.device s.behind old.ends long; numbers = shorter s.before s.device s.behind old.peers.numbers many }))

@@ -18,9 +18,10 @@ use Rattle.bench_devices.specs.Device.{BenchWorld, air, most_devices, device_id,
 use Rattle.bench_devices.specs.Keeping.{Fixed, fixed, AllStayDevices}
 use Rattle.bench_devices.specs.Placed.{device_with, without, with_changed, OfPlaced}
 use Rattle.bench_devices.proofs.EveryFrame.{devices_stay}
+use Rattle.bench_world.specs.declared.entry.Answer.{Answer}
 use Rattle.bench_world.specs.declared.entry.Entry.{Entry}
 use Rattle.bench_world.specs.Journal.{AreEntriesOf, asking_lines, LeadsTo}
-use Rattle.bench_world.specs.Legal.{State, Given, Accepts, IsFree, FrontOf, LegalStep, EachLegal, changed, first_state}
+use Rattle.bench_world.specs.Legal.{State, Given, Joins, Accepts, IsFree, FrontOf, LegalStep, EachLegal, changed, first_state}
 use Rattle.bench_world.proofs.Fronts.{on_field}
 use Rattle.bench_world.specs.Taking.{IsTaken, AreSpelled, AreAccepted, AreTaken, LinesDecide, standing_from, standing_of}
 
@@ -214,7 +215,7 @@ changes_alike s t (Read id) alike = alike
 changes_alike s t (Write id m) alike = alike
 
 -- a step leads on alike, whatever was sent in it
-step_alike : (u s t : State) (g : Given) (c : Command) (es : List Event) → AreAlike u s → FrontOf s g c es t → AreAlike (changed u c) t
+step_alike : {told : Option Answer} (u s t : State) (g : Given) (c : Command) (es : List Event) → AreAlike u s → FrontOf s g c es told t → AreAlike (changed u c) t
 step_alike u s t g c es alike front =
     changes_alike u s c alike ∙ sym (events_alike (changed s c).world.field es) ∙ sym (ap (λ (w : BenchWorld). map shape w.listeners) (on_field s t g c es front).field)
 
@@ -256,7 +257,7 @@ pub record TakenAlike (lines : List (List ℕ)) (last : State) : Type 0 where
   pub taken : AreTaken lines commands
   pub alike : AreAlike (standing_of commands) last
 
-pub legal_taken : (lines numbers : List (List ℕ)) (journal : List Entry) (last : State) → LeadsTo lines numbers journal last → TakenAlike lines last
+pub legal_taken : (lines : List (List ℕ)) (numbers : List Joins) (journal : List Entry) (last : State) → LeadsTo lines numbers journal last → TakenAlike lines last
 legal_taken lines numbers journal last leads =
     let it = lines_alike 1 lines first_state first_state last leads.given journal leads.numbered leads.steps refl in
     record { commands = it.commands; taken = record { spelled = it.spelled; accepted = it.accepted }; alike = it.alike }

@@ -35,8 +35,8 @@ use Rattle.bench_world.specs.declared.entry.Answer.{Answer}
 use Rattle.bench_world.specs.declared.entry.Answer.TheVariants as answers
 use Rattle.bench_world.specs.Answering.{TagTells, poll_answer, written_by}
 use Rattle.bench_world.specs.Writing.{TellsWrite, WriteAsks, KeepsStores, ending_told}
-use Rattle.bench_world.specs.Legal.{StoresLaw}
-use Rattle.bench_world.specs.Obeying.{ObeyedBelow, CutOffBelow}
+use Rattle.bench_world.specs.Legal.{no_joins, StoresLaw}
+use Rattle.bench_world.specs.Obeying.{ObeyedUnlinked, CutOffUnlinked}
 use Rattle.far_air.specs.Quietly.{NoneHands}
 use Rattle.bench_world.proofs.Fronts.{field_behind, ends_behind}
 use Rattle.bench_world.proofs.Placed.{Upon}
@@ -81,7 +81,7 @@ record FieldStores (w : BenchWorld) (id : List ℕ) (message : List ℕ) (ending
   pub others : AllKeepBut id w.listeners (replay air w es).listeners
 
 stores_above : (os : Upon) (a : Air Device) (id : DeviceId) (m : Msg) (ending : Ending) (es : List Event) → NoneHands devices (moment a).world es
-    → FieldStores (moment a).world (bytes_of id) (message_of m) ending es → StoresLaw (above os a) [] id m ending es
+    → FieldStores (moment a).world (bytes_of id) (message_of m) ending es → StoresLaw (above os a) no_joins id m ending es
 stores_above os a id m ending es none s = record {
   law = s.law;
   others = subst (λ (w : BenchWorld). AllKeepBut (bytes_of id) a.listeners w.listeners) (sym (field_behind (moment a).world es os.ends none)) s.others;
@@ -118,16 +118,16 @@ poll_stopped faults.BadAnswer answer is = absurd cc
 
 -- no tag was selected
 pub missed_write : (old new : Air Device) (id : DeviceId) (m : Msg) (e : PollFault) (answer : Answer) → IsIdle old → Selects id (Err e) (moment old) (moment new) → poll_answer e ≡ Some answer
-    → ObeyedBelow old new (Write id m) answer
+    → ObeyedUnlinked old new (Write id m) answer
 missed_write old new id m e answer idle s is = λ ends peers places.
-    let os : Upon = record { ends = ends; peers = peers } in
+    let os : Upon = record { ends = ends; peers = peers; link = None } in
     let some = write_asked old id m idle in
     let g : Going air (λ ns. asks (selecting id ns)) (moment old) (moment new) s.asked.notes = s.asked.going in
     let going : Going air (tag_due id some.0) (moment old) (moment new) s.asked.notes = polled_of id some.0 (moment old) (moment new) s.asked.notes g in
     let sound : IsSoundOne (bytes_of id) old.listeners = sound_one old id idle in
     let none : NoneHands devices (moment old).world g.events = none_in os old new (Write id m) some.0 s.asked.notes going some.1 in
-    let stores : StoresLaw (above os old) [] id m (ending_told answer) g.events =
-    subst (λ x. StoresLaw (above os old) [] id m x g.events) (poll_stopped e answer is)
+    let stores : StoresLaw (above os old) no_joins id m (ending_told answer) g.events =
+    subst (λ x. StoresLaw (above os old) no_joins id m x g.events) (poll_stopped e answer is)
     (stores_above os old id m Stopped g.events none (polled_stores id (message_of m) (moment old) (moment new) s.asked.notes g s.asked.same sound)) in
     asks_obeyed (StoreOf (bytes_of id)) os old new (Write id m) some.0 s.asked.notes answer idle places tt refl going (ap (then_asks some.0) s.told) some.1
     (record { tells = missed_tells (TellsWrite (message_of m)) id some.0 (moment old) (moment new) e answer s is; stores = stores })
@@ -179,9 +179,9 @@ module _ (old mid : Air Device) (id : DeviceId) (m : Msg) (place : ℕ) (idle : 
       }
 
   -- it was written
-  pub write_obeyed : (new : Air Device) (r : WriteEnd) (answer : Answer) → written_by r ≡ Some answer → is_tag s.device ≡ true → Writes (moment mid) (moment new) s.device (message_of m) r → ObeyedBelow old new (Write id m) answer
+  pub write_obeyed : (new : Air Device) (r : WriteEnd) (answer : Answer) → written_by r ≡ Some answer → is_tag s.device ≡ true → Writes (moment mid) (moment new) s.device (message_of m) r → ObeyedUnlinked old new (Write id m) answer
   write_obeyed new r answer told tag w = λ ends peers places.
-      let os : Upon = record { ends = ends; peers = peers } in
+      let os : Upon = record { ends = ends; peers = peers; link = None } in
       let commands : List Signal = w.told.commands in
       let ks : List Note = w.told.asked.notes in
       let g : Going air (tag_due id commands) (moment old) (moment new) (s.selects.asked.notes ++ ks) = of_both new commands ks w.told.asked.going in
@@ -193,7 +193,7 @@ module _ (old mid : Air Device) (id : DeviceId) (m : Msg) (place : ℕ) (idle : 
       says (fails_written r answer told) (lost_written r answer told) (six_written r answer told) in
       let asked = placed_write commands (as_tag s.device tag _ _ w.told.asks) in
       let none : NoneHands devices (moment old).world g.events = none_in os old new (Write id m) commands (s.selects.asked.notes ++ ks) g asked in
-      let stores : StoresLaw (above os old) [] id m (ending_told answer) g.events =
+      let stores : StoresLaw (above os old) no_joins id m (ending_told answer) g.events =
       stores_above os old id m (ending_told answer) g.events none (stores_behind new commands ks w.told.asked.going (ending_told answer) w.told.asked.same
       (subst (λ x. KeepsWriteLaw (message_of m) s.device x (moment mid).world w.told.asked.going.events) (same_ending r answer told) w.law)) in
       asks_obeyed (StoreOf (bytes_of id)) os old new (Write id m) commands (s.selects.asked.notes ++ ks) answer idle places tt refl g
@@ -201,9 +201,9 @@ module _ (old mid : Air Device) (id : DeviceId) (m : Msg) (place : ℕ) (idle : 
       (record { tells = tells; stores = stores }) (left_behind new w.told.asked.going.events w.told.asked.same)
 
   -- it was a peer, to which nothing is written
-  pub peer_write : is_tag s.device ≡ false → ObeyedBelow old mid (Write id m) answers.WrongKind
+  pub peer_write : is_tag s.device ≡ false → ObeyedUnlinked old mid (Write id m) answers.WrongKind
   peer_write peer = λ ends peers places.
-      let os : Upon = record { ends = ends; peers = peers } in
+      let os : Upon = record { ends = ends; peers = peers; link = None } in
       let Tells : Device → Answer → Type 0 = TellsWrite (message_of m) in
       let es : List Event = s.selects.asked.going.events in
       let there : OfPlaced (λ d. TellsWrite (message_of m) d answers.WrongKind) (device_with (bytes_of id) old.listeners) =
@@ -212,7 +212,7 @@ module _ (old mid : Air Device) (id : DeviceId) (m : Msg) (place : ℕ) (idle : 
       let sound : IsSoundOne (bytes_of id) old.listeners = sound_one old id idle in
       let g : Going air (tag_due id []) (moment old) (moment mid) s.selects.asked.notes = peer_going Tells old mid id place s peer in
       let asked = placed_write [] (as_peer s.device peer _ _ refl) in
-      let stores : StoresLaw (above os old) [] id m (ending_told answers.WrongKind) es =
+      let stores : StoresLaw (above os old) no_joins id m (ending_told answers.WrongKind) es =
       stores_above os old id m Stopped es (none_in os old mid (Write id m) [] s.selects.asked.notes g asked)
       (polled_stores id (message_of m) (moment old) (moment mid) s.selects.asked.notes s.selects.asked.going s.selects.asked.same sound) in
       asks_obeyed (StoreOf (bytes_of id)) os old mid (Write id m) [] s.selects.asked.notes answers.WrongKind idle places tt refl g (peer_over Tells old mid id place s peer)
@@ -220,31 +220,31 @@ module _ (old mid : Air Device) (id : DeviceId) (m : Msg) (place : ℕ) (idle : 
       (leaves_more (StoreOf (bytes_of id)) (moment old).world (moment mid).world es sound s.selects.asked.same)
 
   -- writing was cut off
-  pub write_cut : (new : Air Device) → is_tag s.device ≡ true → WritesSome (moment mid) (moment new) s.device (message_of m) → CutOffBelow old new (Write id m)
+  pub write_cut : (new : Air Device) → is_tag s.device ≡ true → WritesSome (moment mid) (moment new) s.device (message_of m) → CutOffUnlinked old new (Write id m)
   write_cut new tag w = λ ends peers.
-      let os : Upon = record { ends = ends; peers = peers } in
+      let os : Upon = record { ends = ends; peers = peers; link = None } in
       let commands : List Signal = w.told.commands in
       let ns : List Note = s.selects.asked.notes ++ w.told.asked.notes in
       let g : Going air (tag_due id commands) (moment old) (moment new) ns = of_both new commands w.told.asked.notes w.told.asked.going in
       let asked = placed_write commands (as_tag s.device tag _ _ w.told.asks) in
-      inr (
+      (
         asks_for commands,
-        front_of os old new (Write id m) commands ns idle tt refl g asked,
-        subst (λ es. StoresLaw (above os old) [] id m Stopped es) (sym (trace_is old new (tag_due id commands) ns g idle))
+        front_of None os old new (Write id m) commands ns idle tt refl g asked,
+        subst (λ es. StoresLaw (above os old) no_joins id m Stopped es) (sym (trace_is old new (tag_due id commands) ns g idle))
             (stores_above os old id m Stopped g.events (none_in os old new (Write id m) commands ns g asked)
             (stores_behind new commands w.told.asked.notes w.told.asked.going Stopped w.told.asked.same w.law)),
       )
 
 -- ... or selecting was
-pub selection_cut_write : (old new : Air Device) (id : DeviceId) (m : Msg) → IsIdle old → SelectionCut id (moment old) (moment new) → CutOffBelow old new (Write id m)
+pub selection_cut_write : (old new : Air Device) (id : DeviceId) (m : Msg) → IsIdle old → SelectionCut id (moment old) (moment new) → CutOffUnlinked old new (Write id m)
 selection_cut_write old new id m idle part = λ ends peers.
-    let os : Upon = record { ends = ends; peers = peers } in
+    let os : Upon = record { ends = ends; peers = peers; link = None } in
     let some = write_asked old id m idle in
     let g : Going air (tag_due id some.0) (moment old) (moment new) part.notes = polled_of id some.0 (moment old) (moment new) part.notes part.going in
-    inr (
+    (
       asks_for some.0,
-      front_of os old new (Write id m) some.0 part.notes idle tt refl g some.1,
-      subst (λ es. StoresLaw (above os old) [] id m Stopped es) (sym (trace_is old new (tag_due id some.0) part.notes g idle))
+      front_of None os old new (Write id m) some.0 part.notes idle tt refl g some.1,
+      subst (λ es. StoresLaw (above os old) no_joins id m Stopped es) (sym (trace_is old new (tag_due id some.0) part.notes g idle))
           (stores_above os old id m Stopped g.events (none_in os old new (Write id m) some.0 part.notes g some.1)
           (polled_stores id (message_of m) (moment old) (moment new) part.notes part.going part.same (sound_one old id idle))),
     )

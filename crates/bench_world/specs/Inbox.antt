@@ -3,7 +3,7 @@ use Rattle.std.specs.Prelude.{ℕ, ◌+◌, Bool, true, false, not, ◌&&◌, �
 use Rattle.snep_core.specs.Server.{Received as Accepted}
 use Rattle.bench_world.specs.declared.entry.Received.{Received}
 use Rattle.bench_world.specs.World.{FarEnd}
-use Rattle.bench_world.specs.Peers.{LinkRange}
+use Rattle.bench_world.specs.declared.inbox.LinkRange.{LinkRange}
 
 abbrev pub is_before : ℕ → Option ℕ → Bool
 is_before n None = true

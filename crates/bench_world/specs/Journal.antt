@@ -2,7 +2,7 @@
 use Rattle.std.specs.Prelude.{◌≡◌, ℕ, ◌+◌, List, [], ◌∷◌, map, if◌then◌else◌}
 use Rattle.bench_script.specs.declared.command.Command.{Command}
 use Rattle.bench_world.specs.declared.entry.Entry.{Entry}
-use Rattle.bench_world.specs.Legal.{State, Given, EachLegal, first_state}
+use Rattle.bench_world.specs.Legal.{State, Given, Joins, EachLegal, first_state}
 use Rattle.bench_script.specs.Script.{Spells, is_skipped}
 
 -- a line with its number
@@ -28,7 +28,7 @@ Numbered n lines entries = AreEntriesOf (asking_lines n lines) entries
 
 -- The journal is one that these lines may have, by these numbers of PDUs, a list an entry: an entry for each line that asks for
 -- something, and each entry legal behind those before it; so it leads to this state.
-pub record LeadsTo (lines : List (List ℕ)) (numbers : List (List ℕ)) (journal : List Entry) (last : State) : Type 0 where
+pub record LeadsTo (lines : List (List ℕ)) (numbers : List Joins) (journal : List Entry) (last : State) : Type 0 where
   pub given : List Given
   pub joins : map (λ (g : Given). g.joins) given ≡ numbers
   pub numbered : Numbered 1 lines journal
@@ -36,7 +36,7 @@ pub record LeadsTo (lines : List (List ℕ)) (numbers : List (List ℕ)) (journa
 
 -- by some numbers
 pub record Legal (lines : List (List ℕ)) (journal : List Entry) : Type 0 where
-  pub numbers : List (List ℕ)
+  pub numbers : List Joins
   pub last : State
   pub leads : LeadsTo lines numbers journal last
 
@@ -45,7 +45,7 @@ abbrev pub TakesNumbers : Command → Type 0
 TakesNumbers c = ⊥
 
 -- Numbers of a journal's entries agree where a command may take any.
-abbrev pub AgreeFor : List Entry → List (List ℕ) → List (List ℕ) → Type 0
+abbrev pub AgreeFor : List Entry → List Joins → List Joins → Type 0
 AgreeFor [] ns ms = Unit {0}
 AgreeFor (e ∷ es) [] ms = Unit {0}
 AgreeFor (e ∷ es) (n ∷ ns) [] = Unit {0}

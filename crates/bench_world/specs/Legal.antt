@@ -1,6 +1,6 @@
 -- Which entries a bench may have: what it accepts, what each command changes, which request is due, and what it
 -- answers. A later command adds a case to each definition.
-use Rattle.std.specs.Prelude.{◌≡◌, ◌⊎◌, ℕ, ◌*◌, ◌-◌, ◌^◌, ◌<◌, ◌≤◌, List, [], ◌∷◌, ◌++◌, length, replicate, Some, None, IsSome, true, false}
+use Rattle.std.specs.Prelude.{◌≡◌, ◌⊎◌, ℕ, ◌*◌, ◌-◌, ◌^◌, ◌<◌, ◌≤◌, List, [], ◌∷◌, ◌++◌, length, replicate, Option, Some, None, IsSome, Bool, true, false, if◌then◌else◌}
 use Rattle.nfc_base.specs.declared.event.Event.{Event}
 use Rattle.nfc_base.specs.declared.event.Fate.{Fate}
 use Rattle.nfc_base.specs.Signal.{Signal}
@@ -34,27 +34,37 @@ use Rattle.bench_world.specs.World.{FarEnd, WholeWorld, bench_air, first_world, 
 use Rattle.bench_world.specs.declared.entry.Received.{Received}
 use Rattle.bench_world.specs.Inbox.{inbox_at}
 use Rattle.bench_world.specs.Peers.{Peers, no_peers, with_tag, with_peer, without_place, with_place_changed, placed_under, without_number, new_end, end_offered}
+use Rattle.bench_world.specs.Links.{OpenLink, ended, is_with}
 use Rattle.bench_world.specs.Answering.{TagTells, TellsFound}
 use Rattle.bench_world.specs.Reading.{TellsOf, ReadAsks}
 use Rattle.bench_world.specs.Writing.{TellsWrite, WriteAsks, KeepsStores, ending_told}
 use Rattle.bench_devices.specs.Answering.{FindTells}
 
--- What stands between two commands: the bench's world, in which no numbers are left, the fates that are left, and the peers so far. No command
--- begins a link yet, so none has had any.
+-- What stands between two commands: the bench's world, in which no numbers are left, the fates that are left, the peers so far with their
+-- links, and the link that is open.
 pub record State : Type 0 where
   pub world : WholeWorld
   pub queue : List Fate
   pub peers : Peers
+  pub link : Option OpenLink
 
--- What a step is said for: what its command asks of its tag, and how many PDUs far ends put in each payload, from the first reply to
--- the last.
+-- How many PDUs stand in each payload of an entry, from the first to the last: in those of this end, and in the replies of far ends.
+pub record Joins : Type 0 where
+  pub own : List ℕ
+  pub far : List ℕ
+
+-- none in either
+abbrev pub no_joins : Joins
+no_joins = record { own = []; far = [] }
+
+-- What a step is said for: what its command asks of its tag, and how many PDUs stand in payloads.
 pub record Given : Type 0 where
   pub asked : List Signal
-  pub joins : List ℕ
+  pub joins : Joins
 
 -- before the first command: no device, dark, and no fate
 abbrev pub first_state : State
-first_state = record { world = first_world; queue = []; peers = no_peers }
+first_state = record { world = first_world; queue = []; peers = no_peers; link = None }
 
 -- the memory of a new tag of so many bytes: the given ones, then zeros
 abbrev pub memory_of : ℕ → List ℕ → List ℕ
@@ -140,11 +150,11 @@ Accepts s (Write id message) = Unit {0}
 
 -- the state with one more tag, which has no far end
 abbrev pub with_device : State → Device → State
-with_device s d = record { world = with_one_more s.world d None; queue = s.queue; peers = with_tag s.peers }
+with_device s d = record { world = with_one_more s.world d None; queue = s.queue; peers = with_tag s.peers; link = s.link }
 
 -- the state with one more peer, under its far end; it has the next number
 abbrev pub with_peer_under : State → Device → FarEnd → State
-with_peer_under s d end = record { world = with_one_more s.world d (Some end); queue = s.queue; peers = with_peer s.peers }
+with_peer_under s d end = record { world = with_one_more s.world d (Some end); queue = s.queue; peers = with_peer s.peers; link = s.link }
 
 -- the state with the device that has an identifier taken away, and its far end with it
 abbrev pub without_device : State → DeviceId → State
@@ -156,11 +166,29 @@ without_device s id = record {
   };
   queue = s.queue;
   peers = without_number (bytes_of id) s.world.field.listeners s.peers;
+  link = s.link;
+}
+
+-- the state in which no link is open: the one that was ends here
+abbrev pub unlinked : State → State
+unlinked s = record { world = s.world; queue = s.queue; peers = ended s.link s.world.fars s.peers; link = None }
+
+-- whether the open link is one to the device with an identifier
+abbrev pub is_linked_to : State → DeviceId → Bool
+is_linked_to s id = is_with s.link (placed_under (bytes_of id) s.world.field.listeners s.peers.numbers)
+
+-- the state with no link to that device
+abbrev pub unlinked_from : State → DeviceId → State
+unlinked_from s id = record {
+  world = s.world;
+  queue = s.queue;
+  peers = if is_linked_to s id then (unlinked s).peers else s.peers;
+  link = if is_linked_to s id then None else s.link;
 }
 
 -- the state in which the device with an identifier is changed so
 abbrev pub with_device_changed : State → DeviceId → (Device → Device) → State
-with_device_changed s id change = record { world = with_listeners s.world (with_changed change (bytes_of id) s.world.field.listeners); queue = s.queue; peers = s.peers }
+with_device_changed s id change = record { world = with_listeners s.world (with_changed change (bytes_of id) s.world.field.listeners); queue = s.queue; peers = s.peers; link = s.link }
 
 -- the state in which the device with an identifier has one block more locked
 abbrev pub with_locked : State → DeviceId → ℕ → State
@@ -180,12 +208,14 @@ with_offer s id key value = record {
   };
   queue = s.queue;
   peers = s.peers;
+  link = s.link;
 }
 
 -- What a command itself changes, before anything is sent: fates are appended, devices are placed and taken away, a block is
--- locked, a device asks for more time from now on, and a peer's server gives a key a value.
+-- locked, a device asks for more time from now on, and a peer's server gives a key a value. A command that begins with a reset ends the
+-- open link, and so does one that takes its peer away.
 abbrev pub changed : State → Command → State
-changed s (Fates fates) = record { world = s.world; queue = s.queue ++ fates; peers = s.peers }
+changed s (Fates fates) = record { world = s.world; queue = s.queue ++ fates; peers = s.peers; link = s.link }
 changed s (PlaceT2 id blocks head) = with_device s (new_t2 id (memory_of (4 * blocks) head))
 changed s (PlaceT4 id code container head) = with_device s (new_t4 id code container (memory_of (file_size container) head))
 changed s (PlaceT5 id blocks size head) = with_device s (new_t5 id size (memory_of (size * blocks) head))
@@ -193,7 +223,10 @@ changed s (PlacePeer id lr miu rw limit) = with_peer_under s (new_peer id lr miu
 changed s (Lock id block) = with_locked s id block
 changed s (Busy id count times) = with_busy s id count times
 changed s (Offer id key value) = with_offer s id key value
-changed s (Remove id) = without_device s id
+changed s (Remove id) = without_device (unlinked_from s id) id
+changed s Find = unlinked s
+changed s (Read id) = unlinked s
+changed s (Write id message) = unlinked s
 changed s c = s
 
 -- What a command asks of its tag, from the first command of the tag to the last. Only a read and a write of a placed one ask
@@ -212,37 +245,41 @@ due s g (Write id message) ns = tag_due id g.asked ns
 due s g c ns = Over
 
 -- the world that a command begins in: what it itself changes is changed, and the entry has its numbers
-abbrev pub begun : State → List ℕ → Command → WholeWorld
-begun s numbers c = with_numbers (changed s c).world numbers
+abbrev pub begun : State → Joins → Command → WholeWorld
+begun s joins c = with_numbers (changed s c).world joins.far
 
--- the state after a command, by these numbers, and what happened in it: numbers that are left go
-abbrev pub state_after : State → List ℕ → Command → List Event → State
-state_after s numbers c events = record { world = with_numbers (replay bench_air (begun s numbers c) events) []; queue = queue_after (changed s c).queue events; peers = (changed s c).peers }
+-- the world behind what happened in a command, by these numbers: those that are left go
+abbrev pub world_after : State → Joins → Command → List Event → WholeWorld
+world_after s joins c events = with_numbers (replay bench_air (begun s joins c) events) []
+
+-- The state after a command, by these numbers, what happened in it, and what it answered, where it was not cut off.
+abbrev pub state_after : State → Joins → Command → List Event → Option Answer → State
+state_after s joins c events told = record { world = world_after s joins c events; queue = queue_after (changed s c).queue events; peers = (changed s c).peers; link = (changed s c).link }
 
 -- what a command and what happened in it leave of what stays, but for what the command itself changes
-abbrev pub LeavesStable : State → List ℕ → Command → List Event → Type 0
-LeavesStable s numbers c events = stable (state_after s numbers c events).world ≡ stable (changed s c).world
+abbrev pub LeavesStable : State → Joins → Command → List Event → Type 0
+LeavesStable s joins c events = stable (world_after s joins c events) ≡ stable (changed s c).world
 
 -- A search and a read change nothing that stays.
-pub record ReadLaw (s : State) (numbers : List ℕ) (id : DeviceId) (asked : List Signal) (events : List Event) (answer : Answer) : Type 0 where
+pub record ReadLaw (s : State) (joins : Joins) (id : DeviceId) (asked : List Signal) (events : List Event) (answer : Answer) : Type 0 where
   pub tells : TagTells TellsOf id s.world.field.listeners asked events answer
-  pub stays : LeavesStable s numbers (Read id) events
+  pub stays : LeavesStable s joins (Read id) events
 
-pub record FindLaw (s : State) (numbers : List ℕ) (events : List Event) (answer : Answer) : Type 0 where
+pub record FindLaw (s : State) (joins : Joins) (events : List Event) (answer : Answer) : Type 0 where
   pub tells : FindTells TellsFound s.world.field.listeners events answer
-  pub stays : LeavesStable s numbers Find events
+  pub stays : LeavesStable s joins Find events
 
 -- A write changes the store of its tag alone, which passes such stores as the law of a write says: the one before the command and
 -- the one after each event, resets and polling too. No other store, no locked block and nothing that stays of a far end changes. The
 -- images of the tag's store are told by the field alone, since no far end has a part in what a tag takes.
-pub record StoresLaw (s : State) (numbers : List ℕ) (id : DeviceId) (message : Msg) (ending : Ending) (events : List Event) : Type 0 where
+pub record StoresLaw (s : State) (joins : Joins) (id : DeviceId) (message : Msg) (ending : Ending) (events : List Event) : Type 0 where
   pub law : IfPlaced (λ d. KeepsStores (message_of message) d ending s.world.field events) (Unit {0}) (device_with (bytes_of id) s.world.field.listeners)
-  pub others : AllKeepBut (bytes_of id) s.world.field.listeners (state_after s numbers (Write id message) events).world.field.listeners
-  pub ends : (stable (state_after s numbers (Write id message) events).world).ends ≡ (stable s.world).ends
+  pub others : AllKeepBut (bytes_of id) s.world.field.listeners (world_after s joins (Write id message) events).field.listeners
+  pub ends : (stable (world_after s joins (Write id message) events)).ends ≡ (stable s.world).ends
 
-pub record WritingLaw (s : State) (numbers : List ℕ) (id : DeviceId) (message : Msg) (asked : List Signal) (events : List Event) (answer : Answer) : Type 0 where
+pub record WritingLaw (s : State) (joins : Joins) (id : DeviceId) (message : Msg) (asked : List Signal) (events : List Event) (answer : Answer) : Type 0 where
   pub tells : TagTells (TellsWrite (message_of message)) id s.world.field.listeners asked events answer
-  pub stores : StoresLaw s numbers id message (ending_told answer) events
+  pub stores : StoresLaw s joins id message (ending_told answer) events
 
 -- A dump tells what the device with this identifier holds.
 abbrev pub DumpLaw : State → DeviceId → Answer → Type 0
@@ -272,29 +309,33 @@ AnswerLaw s g (Read id) events answer = ReadLaw s g.joins id g.asked events answ
 AnswerLaw s g (Write id message) events answer = WritingLaw s g.joins id message g.asked events answer
 
 -- A front of a step: from this state the command is accepted, and turns were made, each due, by the first fates; they lead to that
--- state. An entry is a front that is over and answered; a command that was cut off leaves one.
-pub record FrontOf (s : State) (g : Given) (c : Command) (events : List Event) (t : State) : Type 0 where
+-- state, where this was told, or nothing yet. An entry is a front that is over and answered; a command that was cut off leaves one.
+pub record FrontOf (s : State) (g : Given) (c : Command) (events : List Event) (told : Option Answer) (t : State) : Type 0 where
   pub accepted : Accepts s c
   pub asks : IsAskedBy s c g.asked
   pub turns : AreTurns bench_air (begun s g.joins c) events
   pub fates : FatesFrom (changed s c).queue events
   pub each : EachDue (due s g c) [] events
-  pub after : t ≡ state_after s g.joins c events
+  pub after : t ≡ state_after s g.joins c events told
 
 -- An entry leads from one state to another.
 pub record LegalStep (s : State) (g : Given) (e : Entry) (t : State) : Type 0 where
-  pub front : FrontOf s g e.command e.events t
+  pub front : FrontOf s g e.command e.events (Some e.answer) t
   pub over : due s g e.command (receptions e.events) ≡ Over
   pub answered : AnswerLaw s g e.command e.events e.answer
 
 -- What a command that was cut off leaves of what stays: the stores of a write keep its law, and no other command changed any.
-abbrev pub CutStores : State → List ℕ → Command → List Event → Type 0
-CutStores s numbers (Write id message) cut = StoresLaw s numbers id message Stopped cut
-CutStores s numbers c cut = LeavesStable s numbers c cut
+abbrev pub CutStores : State → Joins → Command → List Event → Type 0
+CutStores s joins (Write id message) cut = StoresLaw s joins id message Stopped cut
+CutStores s joins c cut = LeavesStable s joins c cut
+
+-- a front of a step that was cut off
+abbrev pub CutFront : State → Command → List Event → State → Type 0
+CutFront s c cut t = (g : Given) × FrontOf s g c cut None t × CutStores s g.joins c cut
 
 -- What want of memory leaves of a command: nothing was done, or there is a front of its step.
 abbrev pub CutOff : State → Command → List Event → State → Type 0
-CutOff s c cut t = ((cut ≡ []) × (t ≡ s)) ⊎ ((g : Given) × FrontOf s g c cut t × CutStores s g.joins c cut)
+CutOff s c cut t = ((cut ≡ []) × (t ≡ s)) ⊎ CutFront s c cut t
 
 -- The entries lead from one state to another, each behind those before it, and each has what its step is said for.
 abbrev pub EachLegal : State → List Given → List Entry → State → Type 0

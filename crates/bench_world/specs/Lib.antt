@@ -4,6 +4,7 @@ pub mod Answering
 pub mod Writing
 pub mod World
 pub mod Peers
+pub mod Links
 pub mod Inbox
 pub mod Legal
 pub mod Obeying

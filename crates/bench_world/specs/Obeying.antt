@@ -1,5 +1,5 @@
 -- What obeying a command does.
-use Rattle.std.specs.Prelude.{◌≡◌, ℕ, List, [], ◌∷◌, ◌++◌, map, length, get_or, slice_set, zero, suc, Bool, true, false, Option, None, Result, IsErrOf}
+use Rattle.std.specs.Prelude.{◌≡◌, ℕ, List, [], ◌∷◌, ◌++◌, map, length, get_or, slice_set, zero, suc, Bool, true, false, Option, Some, None, Result, IsErrOf}
 use Rattle.std.specs.List.{remove}
 use Rattle.nfc_base.specs.declared.event.Event.{Event}
 use Rattle.air_core.specs.Turn.{Air}
@@ -11,7 +11,7 @@ use Rattle.bench_script.specs.declared.command.Command.TheVariants.{Skip}
 use Rattle.bench_devices.specs.declared.device.Device.{Device}
 use Rattle.bench_world.specs.declared.entry.Answer.{Answer}
 use Rattle.bench_world.specs.declared.entry.Entry.{Entry}
-use Rattle.bench_world.specs.Legal.{State, Given, Accepts, AnswerLaw, FrontOf, LegalStep, CutOff, due, first_state}
+use Rattle.bench_world.specs.Legal.{State, Given, Accepts, AnswerLaw, FrontOf, LegalStep, CutFront, CutOff, due, first_state}
 use Rattle.bench_devices.specs.Keeping.{AreTame, kept}
 use Rattle.bench_devices.specs.Phases.{AreTidy, IsIdle}
 use Rattle.bench_devices.specs.Device.{device_darkened}
@@ -20,26 +20,28 @@ use Rattle.far_air.specs.FarEnds.{by_link}
 use Rattle.far_air.specs.FarLaws.{seen}
 use Rattle.peer_air.specs.PeerFars.{peer_ends}
 use Rattle.bench_world.specs.World.{FarEnd}
+use Rattle.bench_world.specs.Links.{OpenLink, ended}
 use Rattle.bench_world.specs.Peers.{Peers}
 
 abbrev pub obey_fault_number : ObeyFault → ℕ
 obey_fault_number faults.Refused = 1
 obey_fault_number faults.Memory = 2
 
--- The machines of a bench: the field with its devices; and above each device, at its place, its far end, and nothing above a tag; and the
--- peers so far.
+-- The machines of a bench: the field with its devices; and above each device, at its place, its far end, and nothing above a tag; the
+-- peers so far with their links; and the initiator and the client of the link that is open.
 pub record Machines : Type 0 where
   pub air : Air Device
   pub ends : List (Option FarEnd)
   pub peers : Peers
+  pub link : Option OpenLink
 
--- a field under these far ends, with these peers
-abbrev pub under : List (Option FarEnd) → Peers → Air Device → Machines
-under ends peers a = record { air = a; ends = ends; peers = peers }
+-- a field under these far ends, with these peers and this link
+abbrev pub under : List (Option FarEnd) → Peers → Option OpenLink → Air Device → Machines
+under ends peers link a = record { air = a; ends = ends; peers = peers; link = link }
 
 -- The state that machines are in: a far end is whole while its device has a link, and else there is of it what stays.
 abbrev pub state_at : Machines → State
-state_at m = record { world = seen device_linked peer_ends (record { lit = m.air.lit; listeners = m.air.listeners }) m.ends []; queue = m.air.fates; peers = m.peers }
+state_at m = record { world = seen device_linked peer_ends (record { lit = m.air.lit; listeners = m.air.listeners }) m.ends []; queue = m.air.fates; peers = m.peers; link = m.link }
 
 -- whether the device at a place has a link
 abbrev pub linked_at : ℕ → List Device → Bool
@@ -67,7 +69,7 @@ pub record IsSettled (m : Machines) : Type 0 where
 
 -- the machines, of which nothing is in the trace
 abbrev pub untraced : Machines → Machines
-untraced m = record { air = record { lit = m.air.lit; listeners = m.air.listeners; fates = m.air.fates; trace = [] }; ends = m.ends; peers = m.peers }
+untraced m = record { air = record { lit = m.air.lit; listeners = m.air.listeners; fates = m.air.fates; trace = [] }; ends = m.ends; peers = m.peers; link = m.link }
 
 -- one device more, dark, and its far end; so these are the peers now
 abbrev pub put_in : Machines → Device → Option FarEnd → Peers → Machines
@@ -75,6 +77,7 @@ put_in m d end peers = record {
   air = record { lit = m.air.lit; listeners = m.air.listeners ++ device_darkened d ∷ []; fates = m.air.fates; trace = m.air.trace };
   ends = m.ends ++ end ∷ [];
   peers = peers;
+  link = m.link;
 }
 
 -- the machines without the device at a place, its far end and its number
@@ -83,11 +86,16 @@ taken_out m place = record {
   air = record { lit = m.air.lit; listeners = remove m.air.listeners place; fates = m.air.fates; trace = m.air.trace };
   ends = remove m.ends place;
   peers = record { numbers = remove m.peers.numbers place; placed = m.peers.placed; links = m.peers.links };
+  link = m.link;
 }
 
 -- the machines with this far end at a place
 abbrev pub with_end : Machines → ℕ → Option FarEnd → Machines
-with_end m place end = record { air = m.air; ends = slice_set m.ends place end; peers = m.peers }
+with_end m place end = record { air = m.air; ends = slice_set m.ends place end; peers = m.peers; link = m.link }
+
+-- the machines with no link open: the one that was ends here
+abbrev pub link_ended : Machines → Machines
+link_ended m = record { air = m.air; ends = m.ends; peers = ended m.link m.ends m.peers; link = None }
 
 -- A command is refused only where it isn't accepted in the state of the machines.
 abbrev pub RefusedOnly : {X : Type 0} → Result X ObeyFault → Machines → Command → Type 0
@@ -96,7 +104,7 @@ RefusedOnly r m c = IsErrOf r faults.Refused → Accepts (state_at m) c → ⊥
 -- A command was obeyed with this answer; its events are the trace.
 pub record Obeyed (old new : Machines) (c : Command) (answer : Answer) : Type 0 where
   pub given : Given
-  pub front : FrontOf (state_at old) given c new.air.trace (state_at new)
+  pub front : FrontOf (state_at old) given c new.air.trace (Some answer) (state_at new)
   pub over : due (state_at old) given c (receptions new.air.trace) ≡ Over
   pub answered : AnswerLaw (state_at old) given c new.air.trace answer
   pub tame : AreTame (map kept new.air.listeners)
@@ -107,15 +115,23 @@ pub record Obeyed (old new : Machines) (c : Command) (answer : Answer) : Type 0 
 abbrev pub IsCutOff : Machines → Machines → Command → Type 0
 IsCutOff old new c = CutOff (state_at old) c new.air.trace (state_at new)
 
--- A command that neither places nor takes away a device has no part in far ends: so it is, whatever stands above the field.
+-- A command of the field alone has no part in far ends and links: so it is, whatever stands above the field.
 abbrev pub RefusedBelow : {X : Type 0} → Result X ObeyFault → Air Device → Command → Type 0
-RefusedBelow r a c = IsErrOf r faults.Refused → (ends : List (Option FarEnd)) (peers : Peers) → Accepts (state_at (under ends peers a)) c → ⊥
+RefusedBelow r a c = IsErrOf r faults.Refused → (ends : List (Option FarEnd)) (peers : Peers) (link : Option OpenLink) → Accepts (state_at (under ends peers link a)) c → ⊥
 
 abbrev pub ObeyedBelow : Air Device → Air Device → Command → Answer → Type 0
-ObeyedBelow old new c answer = (ends : List (Option FarEnd)) (peers : Peers) → HasPlaces (under ends peers old) → Obeyed (under ends peers old) (under ends peers new) c answer
+ObeyedBelow old new c answer =
+    (ends : List (Option FarEnd)) (peers : Peers) (link : Option OpenLink) → HasPlaces (under ends peers link old)
+    → Obeyed (under ends peers link old) (under ends peers link new) c answer
 
-abbrev pub CutOffBelow : Air Device → Air Device → Command → Type 0
-CutOffBelow old new c = (ends : List (Option FarEnd)) (peers : Peers) → IsCutOff (under ends peers old) (under ends peers new) c
+-- So it is of a command that begins with a reset, once no link is open.
+abbrev pub ObeyedUnlinked : Air Device → Air Device → Command → Answer → Type 0
+ObeyedUnlinked old new c answer =
+    (ends : List (Option FarEnd)) (peers : Peers) → HasPlaces (under ends peers None old) → Obeyed (under ends peers None old) (under ends peers None new) c answer
+
+abbrev pub CutOffUnlinked : Air Device → Air Device → Command → Type 0
+CutOffUnlinked old new c =
+    (ends : List (Option FarEnd)) (peers : Peers) → CutFront (state_at (under ends peers None old)) c new.trace (state_at (under ends peers None new))
 
 -- What contracts see of a bench: its journal; the state that its machines are in; what happened in a command that want of memory
 -- cut off, since its last entry; and whether that spoiled it.

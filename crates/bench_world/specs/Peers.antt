@@ -7,14 +7,8 @@ use Rattle.snep_core.specs.Server.{fresh_server, offered}
 use Rattle.far_air.specs.FarEnds.{first_far, later_fars}
 use Rattle.bench_devices.specs.declared.device.Device.{Device}
 use Rattle.bench_devices.specs.Device.{device_id}
+use Rattle.bench_world.specs.declared.inbox.LinkRange.{LinkRange}
 use Rattle.bench_world.specs.World.{FarEnd}
-
--- A link: its peer, by its number, and where that peer's list of accepted messages stood at the link's start and at its end; while it is
--- open it goes to the list's end.
-pub record LinkRange : Type 0 where
-  pub peer : ℕ
-  pub start : ℕ
-  pub end : Option ℕ
 
 -- Of each device, at its place, its number among the peers, and nothing of a tag. Peers are numbered from 0 on in the order of placing over the
 -- whole run, so a number tells one of them for good; so many were placed so far. And the links so far, in order: the first is link 1.

@@ -20,16 +20,16 @@ use Rattle.bench_devices.specs.Polling.{Told, selecting}
 use Rattle.bench_world.specs.declared.entry.Entry.{Entry}
 use Rattle.bench_world.specs.Completing.{whole_field}
 use Rattle.bench_world.specs.Journal.{LeadsTo}
-use Rattle.bench_world.specs.Legal.{State, changed, state_after, first_state}
+use Rattle.bench_world.specs.Legal.{State, Joins, changed, state_after, first_state}
 use Rattle.bench_world.specs.Quiet.{AllPass}
 use Rattle.bench_world.specs.Reading.{TellsOf}
 use Rattle.bench_world.specs.Writing.{TellsWrite}
 
 -- something holds of each entry, and of the state that the entries before it lead to, by these numbers of PDUs
-abbrev pub AllAlong : (State → Entry → Type 0) → State → List (List ℕ) → List Entry → Type 0
+abbrev pub AllAlong : (State → Entry → Type 0) → State → List Joins → List Entry → Type 0
 AllAlong P s numbers [] = Unit {0}
 AllAlong P s [] (e ∷ es) = ⊥
-AllAlong P s (n ∷ ns) (e ∷ es) = P s e × AllAlong P (state_after s n e.command e.events) ns es
+AllAlong P s (n ∷ ns) (e ∷ es) = P s e × AllAlong P (state_after s n e.command e.events (Some e.answer)) ns es
 
 -- the tag that a command selects and then asks, if it does
 abbrev pub tag_of : Command → Option DeviceId
@@ -55,7 +55,7 @@ IsHeardIfQuiet s e = AllPass (changed s e.command).queue → IsWellHeard e
 -- Each entry of a script's journal is heard so, from which on no fate is left but Pass.
 abbrev pub QuietHears : Type 0
 QuietHears =
-    (lines numbers : List (List ℕ)) (journal : List Entry) (last : State) → LeadsTo lines numbers journal last
+    (lines : List (List ℕ)) (numbers : List Joins) (journal : List Entry) (last : State) → LeadsTo lines numbers journal last
     → AllAlong IsHeardIfQuiet first_state numbers journal
 
 -- A line that appends fates appends nothing but Pass.
@@ -86,5 +86,5 @@ pub record IsQuietEntry (s : State) (e : Entry) : Type 0 where
 -- Where no line has another fate than Pass, each entry is one.
 abbrev pub QuietScript : Type 0
 QuietScript =
-    (lines numbers : List (List ℕ)) (journal : List Entry) (last : State) → LeadsTo lines numbers journal last
+    (lines : List (List ℕ)) (numbers : List Joins) (journal : List Entry) (last : State) → LeadsTo lines numbers journal last
     → AllByRecursion IsQuietLine lines → AllAlong IsQuietEntry first_state numbers journal

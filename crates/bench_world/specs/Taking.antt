@@ -5,7 +5,7 @@ use Rattle.bench_script.specs.declared.command.Command.{Command}
 use Rattle.bench_script.specs.Script.{Spells}
 use Rattle.bench_world.specs.declared.entry.Entry.{Entry}
 use Rattle.bench_world.specs.Journal.{LeadsTo}
-use Rattle.bench_world.specs.Legal.{State, Accepts, changed, first_state}
+use Rattle.bench_world.specs.Legal.{State, Joins, Accepts, changed, first_state}
 
 -- where a script stands behind some commands, as if nothing had been sent: these devices are placed, with these identifiers and
 -- so many blocks
@@ -41,5 +41,5 @@ pub record AreTaken (lines : List (List ℕ)) (commands : List Command) : Type 0
 -- state that the journal leads to, whatever was sent.
 abbrev pub LinesDecide : Type 0
 LinesDecide =
-    (lines numbers : List (List ℕ)) (journal : List Entry) (last : State) → LeadsTo lines numbers journal last
+    (lines : List (List ℕ)) (numbers : List Joins) (journal : List Entry) (last : State) → LeadsTo lines numbers journal last
     → (commands : List Command) × AreTaken lines commands × ((line : List ℕ) → IsTaken last line ↔ IsTaken (standing_of commands) line)

@@ -1,12 +1,14 @@
 //! The commands that ask the devices something: a tag is read or written, and all are searched for.
 
-ghost use Rattle.std.specs.Prelude.{IfOk, OnErr, IsErrOf};
+ghost use Rattle.std.specs.Prelude.{◌≡◌, IfOk, OnErr, IsErrOf};
 ghost use Rattle.bench_devices.specs.Phases.{IsIdle};
-ghost use Rattle.bench_world.specs.Obeying.{ObeyedBelow, CutOffBelow};
+ghost use Rattle.bench_script.specs.Messages.{message_of};
+ghost use Rattle.bench_world.specs.Obeying.{IsSettled, Obeyed, IsCutOff, ObeyedUnlinked, CutOffUnlinked};
 
 use crate::answering::{found, missed, told, written};
 use crate::bench::ObeyFault;
 use crate::entry::Answer;
+use crate::machines::Machines;
 use air_core::Field;
 use bench_devices::{Device, Selection, read, select, sweep_field, write};
 use bench_script::{Command, DeviceId, Msg};
@@ -19,8 +21,8 @@ fn select_and_read(
     id: &DeviceId,
 ) -> Result<Answer, AllocError>
     requires { IsIdle field.old }
-    ensures ok { IfOk result (λ a. ObeyedBelow field.old field.new (Command.Read id.now) a) }
-    ensures cut { OnErr result (CutOffBelow field.old field.new (Command.Read id.now)) }
+    ensures ok { IfOk result (λ a. ObeyedUnlinked field.old field.new (Command.Read id.now) a) }
+    ensures cut { OnErr result (CutOffUnlinked field.old field.new (Command.Read id.now)) }
 {
     match select(alloc, field, id)? {
         Selection::Place(place) if field.listeners()[place].is_tag() => {
@@ -31,18 +33,19 @@ fn select_and_read(
     }
 }
 
-/// Reads a tag, from a reset on.
+/// Reads a tag, from a reset on, which ends the open link.
 pub fn read_tag(
     alloc: Global,
-    field: &mut Field<Device>,
+    machines: &mut Machines,
     id: &DeviceId,
 ) -> Result<Answer, ObeyFault>
-    requires { IsIdle field.old }
-    ensures ok { IfOk result (λ a. ObeyedBelow field.old field.new (Command.Read id.now) a) }
-    ensures cut { OnErr result (CutOffBelow field.old field.new (Command.Read id.now)) }
+    requires { IsSettled machines.old }
+    ensures ok { IfOk result (λ a. Obeyed machines.old machines.new (Command.Read id.now) a) }
+    ensures cut { OnErr result (IsCutOff machines.old machines.new (Command.Read id.now)) }
     ensures never { IsErrOf result ObeyFault.Refused → ⊥ }
 {
-    match select_and_read(alloc, field, id) {
+    machines.end_link();
+    match select_and_read(alloc, &mut machines.field, id) {
         Ok(answer) => Ok(answer),
         Err(_) => Err(ObeyFault::Memory),
     }
@@ -53,35 +56,40 @@ fn select_and_write(
     alloc: Global,
     field: &mut Field<Device>,
     id: &DeviceId,
-    message: &Msg,
+    bytes: &[u8],
 ) -> Result<Answer, AllocError>
     requires { IsIdle field.old }
-    ensures ok { IfOk result (λ a. ObeyedBelow field.old field.new (Command.Write id.now message.now) a) }
-    ensures cut { OnErr result (CutOffBelow field.old field.new (Command.Write id.now message.now)) }
+    ensures ok { IfOk result (λ a. (m : Msg) → message_of m ≡ bytes.now
+        → ObeyedUnlinked field.old field.new (Command.Write id.now m) a) }
+    ensures cut { OnErr result ((m : Msg) → message_of m ≡ bytes.now
+        → CutOffUnlinked field.old field.new (Command.Write id.now m)) }
 {
-    let bytes = message.bytes(alloc)?;
     match select(alloc, field, id)? {
         Selection::Place(place) if field.listeners()[place].is_tag() => {
-            written(write(alloc, field, place, &bytes))
+            written(write(alloc, field, place, bytes))
         }
         Selection::Place(_) => Ok(Answer::WrongKind),
         Selection::Missed(fault) => missed(fault),
     }
 }
 
-/// Writes a message to a tag, from a reset on.
-pub fn write_tag(
+/// Writes a message to a tag, from a reset on, which ends the open link.
+pub fn write_message(
     alloc: Global,
-    field: &mut Field<Device>,
+    machines: &mut Machines,
     id: &DeviceId,
     message: &Msg,
 ) -> Result<Answer, ObeyFault>
-    requires { IsIdle field.old }
-    ensures ok { IfOk result (λ a. ObeyedBelow field.old field.new (Command.Write id.now message.now) a) }
-    ensures cut { OnErr result (CutOffBelow field.old field.new (Command.Write id.now message.now)) }
+    requires { IsSettled machines.old }
+    ensures ok { IfOk result (λ a. Obeyed machines.old machines.new (Command.Write id.now message.now) a) }
+    ensures cut { OnErr result (IsCutOff machines.old machines.new (Command.Write id.now message.now)) }
     ensures never { IsErrOf result ObeyFault.Refused → ⊥ }
 {
-    match select_and_write(alloc, field, id, message) {
+    let Ok(bytes) = message.bytes(alloc) else {
+        return Err(ObeyFault::Memory);
+    };
+    machines.end_link();
+    match select_and_write(alloc, &mut machines.field, id, &bytes) {
         Ok(answer) => Ok(answer),
         Err(_) => Err(ObeyFault::Memory),
     }
@@ -90,8 +98,8 @@ pub fn write_tag(
 /// Searches for all devices, and tells which were found.
 fn search(alloc: Global, field: &mut Field<Device>) -> Result<Answer, AllocError>
     requires { IsIdle field.old }
-    ensures ok { IfOk result (λ a. ObeyedBelow field.old field.new Command.Find a) }
-    ensures cut { OnErr result (CutOffBelow field.old field.new Command.Find) }
+    ensures ok { IfOk result (λ a. ObeyedUnlinked field.old field.new Command.Find a) }
+    ensures cut { OnErr result (CutOffUnlinked field.old field.new Command.Find) }
 {
     match sweep_field(alloc, field) {
         Ok(everybody) => found(alloc, everybody),
@@ -99,14 +107,15 @@ fn search(alloc: Global, field: &mut Field<Device>) -> Result<Answer, AllocError
     }
 }
 
-/// Finds all devices.
-pub fn find(alloc: Global, field: &mut Field<Device>) -> Result<Answer, ObeyFault>
-    requires { IsIdle field.old }
-    ensures ok { IfOk result (λ a. ObeyedBelow field.old field.new Command.Find a) }
-    ensures cut { OnErr result (CutOffBelow field.old field.new Command.Find) }
+/// Finds all devices, from a reset on, which ends the open link.
+pub fn find(alloc: Global, machines: &mut Machines) -> Result<Answer, ObeyFault>
+    requires { IsSettled machines.old }
+    ensures ok { IfOk result (λ a. Obeyed machines.old machines.new Command.Find a) }
+    ensures cut { OnErr result (IsCutOff machines.old machines.new Command.Find) }
     ensures never { IsErrOf result ObeyFault.Refused → ⊥ }
 {
-    match search(alloc, field) {
+    machines.end_link();
+    match search(alloc, &mut machines.field) {
         Ok(answer) => Ok(answer),
         Err(_) => Err(ObeyFault::Memory),
     }

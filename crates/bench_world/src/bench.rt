@@ -1,6 +1,6 @@
 //! The bench: the field, and the journal of what was obeyed.
 
-ghost use Rattle.std.specs.Prelude.{◌≡◌, ◌≢◌, ◌↔◌, ◌+◌, ◌*◌, ◌≤◌, ◌<◌, ◌++◌, List, [], ◌∷◌, Bool, true, is_some, Some, None, MatchOption, IsTrue, IsSome, get_or, IfOk, OnOk, OnErr, IsErrOf, vec_len, vec_capacity, length};
+ghost use Rattle.std.specs.Prelude.{◌≡◌, ◌≢◌, ◌↔◌, ◌+◌, ◌*◌, ◌≤◌, ◌<◌, ◌++◌, List, [], ◌∷◌, Bool, true, is_some, Some, None, MatchOption, IsTrue, IsSome, get_or, option_map, option_copied, false, IfOk, OnOk, OnErr, IsErrOf, vec_len, vec_capacity, length};
 ghost use Rattle.std.specs.List.{AllByRecursion};
 ghost use Rattle.nfc_base.specs.declared.frame.Tech.TheVariants as techs;
 ghost use Rattle.bench_devices.specs.Device.{device_tech};
@@ -8,20 +8,22 @@ ghost use Rattle.bench_world.specs.Legal.{Accepts, memory_of};
 ghost use Rattle.bench_devices.specs.Device.{most_devices};
 ghost use Rattle.bench_devices.specs.Placed.{device_with};
 ghost use Rattle.bench_world.specs.Obeying.{Obeys, Obeyed, IsSettled, IsCutOff, RefusedOnly, ObeyedBelow, RefusedBelow, LacksMemory, FieldOf, FarAt, new_bench, obey_fault_number};
+ghost use Rattle.bench_world.specs.Links.{OpenLink};
 ghost use Rattle.bench_devices.specs.Phases.{IsIdle};
 
-use crate::asking::{find, read_tag, write_tag};
+use crate::asking::{find, read_tag, write_message};
 use crate::entry::{Answer, Entry};
 use crate::machines::Machines;
 use crate::peers::{inbox, offer_value, place_peer};
 use air_core::Field;
 use bench_devices::{Device, PoweredTag, T2Upper, T4Upper, is_named, place_of};
 use bench_script::{Command, DeviceId};
+use dep_link::Initiator;
 use isodep_link::{LONGEST_EXTENSION, MOST_BUSY};
 use llcp_link::Llc;
 use nfc_base::{Fate, Items};
 use nfca_poll::{Front, Ident};
-use snep_core::Server;
+use snep_core::{Client, Server};
 use std::alloc::{AllocError, Global};
 use std::marker::Model;
 use t2t_tag::T2Tag;
@@ -187,6 +189,7 @@ fn remove_device(machines: &mut Machines, id: &DeviceId) -> Result<Answer, ObeyF
         return Err(ObeyFault::Refused);
     }
     let place = place_of(machines.devices(), bytes);
+    machines.end_link_to(place);
     machines.take_out(place);
     Ok(Answer::Done)
 }
@@ -326,9 +329,9 @@ fn run_command(
         Command::Busy { id, count, times } => set_busy(&mut machines.field, id, *count, *times),
         Command::Remove { id } => remove_device(machines, id),
         Command::Dump { id } => dump_store(alloc, &machines.field, id),
-        Command::Find => find(alloc, &mut machines.field),
-        Command::Read { id } => read_tag(alloc, &mut machines.field, id),
-        Command::Write { id, message } => write_tag(alloc, &mut machines.field, id, message),
+        Command::Find => find(alloc, machines),
+        Command::Read { id } => read_tag(alloc, machines, id),
+        Command::Write { id, message } => write_message(alloc, machines, id, message),
     }
 }
 
@@ -404,6 +407,20 @@ impl Bench {
             Some(end) => end,
             None => unreachable!(),
         }
+    }
+
+    /// The initiator of the open link; none where no link is open.
+    pub fn initiator(&self) -> Option<&Initiator>
+        ensures { option_copied result ≡ option_map (λ (l : OpenLink). l.initiator) self.now.state.link }
+    {
+        self.machines.initiator()
+    }
+
+    /// The client that asks over the open link; none where no link is open.
+    pub fn client(&self) -> Option<&Client>
+        ensures { option_copied result ≡ option_map (λ (l : OpenLink). record { llc = l.client; spent = false }) self.now.state.link }
+    {
+        self.machines.client()
     }
 
     /// Obeys the command of a line, and adds its entry to the journal, none for a line that asks for nothing.

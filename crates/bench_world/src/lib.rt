@@ -16,6 +16,7 @@ mod bench;
 mod entry;
 mod event_lines;
 mod fixed_text;
+mod inbox;
 mod law;
 mod machines;
 mod peers;

@@ -1,60 +1,116 @@
-//! The machines of a bench: the field, the far ends above its devices, and the numbers of peers.
+//! The machines of a bench: the field, the far ends above its devices, the numbers of peers, and the open link.
 
-ghost use Rattle.std.specs.Prelude.{◌≡◌, IfOk};
-ghost use Rattle.bench_world.specs.Inbox.{told_of};
+ghost use Rattle.std.specs.Prelude.{◌≡◌, ◌<◌, List, Option, None, length, get_or, IfSome};
+ghost use Rattle.bench_world.specs.Links.{accepted_by, end_numbered, is_number, last_ended};
+ghost use Rattle.bench_world.specs.World.{FarEnd};
 
 use crate::entry::Received;
+use crate::inbox::{LinkRange, without_link};
 use air_core::Field;
 use bench_devices::Device;
+use dep_link::Initiator;
 use llcp_link::Llc;
 use nfc_base::{Event, Items};
-use snep_core::Server;
+use snep_core::{Client, Server};
 use std::alloc::{AllocError, Global};
 use std::marker::Model;
 
-/// Messages that a server accepted on no link.
-fn without_link(alloc: Global, server: &Server) -> Result<Items<Received>, AllocError>
-    ensures { IfOk result (λ rs. rs ≡ told_of 0 server.now.accepted) }
-{
-    let messages = server.accepted();
-    let sources = server.sources();
-    let mut told = Vec::new(alloc);
-    for place in 0..messages.len() {
-        let message = Items::from_bytes(alloc, messages[place].as_slice())?;
-        told.push(Received {
-            link: 0,
-            source: sources[place],
-            message,
-        })?;
-    }
-    Ok(Items::new(told))
+/// An open link: its peer, by its number, the initiator of its exchanges, and the client that asks over it.
+#[derive(Drop)]
+pub struct Link {
+    peer: u64,
+    initiator: Initiator,
+    client: Client,
 }
 
-/// A field, and for each device, at its place, the far end above it and its number among the peers. A tag has none.
+impl Model for Link {
+    ghost use Rattle.std.specs.Prelude.{◌≡◌, false};
+    ghost use Rattle.bench_world.specs.Links.{OpenLink};
+
+    ghost Value = { OpenLink };
+
+    ghost view = { λ l. record { peer = l.peer; initiator = l.initiator; client = l.client.llc } };
+
+    ghost invariant = { λ l. l.client.spent ≡ false };
+}
+
+/// A far end has accepted so many messages; where none stands, there are none.
+fn accepted_above(end: &mut Option<Llc<Server>>) -> usize
+    ensures count { result ≡ accepted_by end.old }
+    ensures same { end.new ≡ end.old }
+{
+    match end {
+        Some(end) => end.service().accepted().len(),
+        None => 0,
+    }
+}
+
+/// Whether a device has this number among the peers.
+fn is_number(number: Option<u64>, peer: u64) -> bool
+    ensures { result ≡ is_number peer number }
+{
+    match number {
+        Some(number) => number == peer,
+        None => false,
+    }
+}
+
+/// The place of the peer with a number.
+fn place_numbered(numbers: &[Option<u64>], peer: u64) -> Option<usize>
+    ensures within { IfSome result (λ place. place < length numbers.now) }
+    ensures some { IfSome result (λ place. (ends : List (Option FarEnd)) → end_numbered peer numbers.now ends ≡ get_or ends place None) }
+    ensures none { result ≡ None → (ends : List (Option FarEnd)) → end_numbered peer numbers.now ends ≡ None }
+{
+    for place in 0..numbers.len() {
+        if is_number(numbers[place], peer) {
+            return Some(place);
+        }
+    }
+    None
+}
+
+/// The last link ends at a place of its peer's list of accepted messages.
+fn end_last(links: &mut [LinkRange], end: usize)
+    ensures { links.new ≡ last_ended end links.old }
+{
+    let count = links.len();
+    if count > 0 {
+        links[count - 1].end = Some(end);
+    }
+}
+
+/// A field; for each device, at its place, the far end above it and its number among the peers, of which a tag has none; the links
+/// so far, and the one that is open.
 #[derive(Drop)]
 pub struct Machines {
     pub(crate) field: Field<Device>,
     ends: Vec<Option<Llc<Server>>>,
     numbers: Vec<Option<u64>>,
     placed: u64,
+    links: Vec<LinkRange>,
+    link: Option<Link>,
 }
 
 impl Model for Machines {
     ghost use Rattle.bench_world.specs.Obeying.{Machines};
-    ghost use Rattle.std.specs.Prelude.{[]};
+    ghost use Rattle.std.specs.Prelude.{◌≡◌, []};
 
     ghost Value = { Machines };
 
     ghost view = { λ m. record {
       air = m.field;
       ends = m.ends.items;
-      peers = record { numbers = m.numbers.items; placed = m.placed; links = [] };
+      peers = record { numbers = m.numbers.items; placed = m.placed; links = m.links.items };
+      link = m.link;
     } };
+
+    ghost invariant = { λ m. m.links.items ≡ [] };
 }
 
 impl Machines {
-    ghost use Rattle.std.specs.Prelude.{◌≡◌, ◌<◌, ◌^◌, ◌++◌, [], ◌∷◌, Some, None, false, length, get_or, option_map, IfSome, IfOk, OnOk, OnErr};
-    ghost use Rattle.bench_world.specs.Obeying.{untraced, put_in, with_end, taken_out};
+    ghost use Rattle.std.specs.Prelude.{◌≡◌, ◌<◌, ◌^◌, ◌++◌, [], ◌∷◌, Some, None, false, length, get_or, option_map, option_copied, if◌then◌else◌, IfSome, IfOk, OnOk, OnErr};
+    ghost use Rattle.bench_world.specs.Obeying.{untraced, put_in, with_end, taken_out, link_ended};
+    ghost use Rattle.bench_world.specs.Links.{OpenLink, is_with};
     ghost use Rattle.bench_world.specs.Peers.{no_peers, with_tag, with_peer, end_offered};
     ghost use Rattle.bench_world.specs.Inbox.{inbox_at};
 
@@ -64,6 +120,7 @@ impl Machines {
           air = record { lit = false; listeners = []; fates = []; trace = [] };
           ends = [];
           peers = no_peers;
+          link = None;
         } }
     {
         Machines {
@@ -71,6 +128,8 @@ impl Machines {
             ends: Vec::new(alloc),
             numbers: Vec::new(alloc),
             placed: 0,
+            links: Vec::new(alloc),
+            link: None,
         }
     }
 
@@ -79,6 +138,66 @@ impl Machines {
         ensures { result.now ≡ self.now.air.listeners }
     {
         self.field.listeners()
+    }
+
+    /// The initiator of the open link.
+    pub fn initiator(&self) -> Option<&Initiator>
+        ensures { option_copied result ≡ option_map (λ (l : OpenLink). l.initiator) self.now.link }
+    {
+        match &self.link {
+            Some(link) => Some(&link.initiator),
+            None => None,
+        }
+    }
+
+    /// The client of the open link.
+    pub fn client(&self) -> Option<&Client>
+        ensures { option_copied result ≡ option_map (λ (l : OpenLink). record { llc = l.client; spent = false }) self.now.link }
+    {
+        match &self.link {
+            Some(link) => Some(&link.client),
+            None => None,
+        }
+    }
+
+    /// Whether the open link is one to the peer at a place.
+    fn is_linked_to(&self, place: usize) -> bool
+        requires { place < length self.now.peers.numbers }
+        ensures { result ≡ is_with self.now.link (get_or self.now.peers.numbers place None) }
+    {
+        match &self.link {
+            Some(link) => is_number(self.numbers[place], link.peer),
+            None => false,
+        }
+    }
+
+    /// The open link ends, where one is open; its range goes to the present end of what its peer's server accepted.
+    pub fn end_link(&mut self)
+        requires { length self.old.ends ≡ length self.old.peers.numbers }
+        ensures { self.new ≡ link_ended self.old }
+    {
+        let Some(link) = self.link.take() else {
+            return;
+        };
+        let end = match place_numbered(&self.numbers, link.peer) {
+            Some(place) => accepted_above(&mut self.ends[place]),
+            None => 0,
+        };
+        end_last(&mut self.links, end);
+    }
+
+    /// The link to the peer at a place ends, where that is the open one.
+    pub fn end_link_to(&mut self, place: usize)
+        requires places { length self.old.ends ≡ length self.old.peers.numbers }
+        requires number { place < length self.old.peers.numbers }
+        ensures ended { self.new ≡ (if is_with self.old.link (get_or self.old.peers.numbers place None) then link_ended self.old else self.old) }
+        ensures air { self.new.air ≡ self.old.air }
+        ensures ends { self.new.ends ≡ self.old.ends }
+        ensures numbers { self.new.peers.numbers ≡ self.old.peers.numbers }
+    {
+        if self.is_linked_to(place) {
+            self.end_link();
+        }
     }
 
     /// What happened since this was last asked for.

@@ -9,7 +9,7 @@ use Rattle.bench_script.specs.declared.command.Command.{Command}
 use Rattle.bench_script.specs.declared.command.Command.TheVariants.{Skip}
 use Rattle.bench_world.specs.declared.entry.Entry.{Entry}
 use Rattle.bench_script.specs.Script.{words_of, is_skipped, SpelledBy, Spells}
-use Rattle.bench_world.specs.Legal.{State, Given, EachLegal, first_state}
+use Rattle.bench_world.specs.Legal.{State, Given, Joins, EachLegal, first_state}
 use Rattle.bench_world.specs.Journal.{NumberedLine, asking_lines, AreEntriesOf, Numbered, LeadsTo}
 use Rattle.bench_world.specs.Obeying.{Benched, Adds, Obeys}
 use Rattle.bench_world.specs.Report.{entry_text, report_text}
@@ -46,10 +46,10 @@ numbered_more n ls ks es ds p q =
     subst A (sym (asking_more n ls ks)) (entries_more (asking_lines n ls) (asking_lines (n + length ls) ks) es ds p q)
 
 -- one more line is obeyed
-pub legal_more : (ls numbers : List (List ℕ)) (old new : Benched) (l : List ℕ) (n : ℕ) → LeadsTo ls numbers old.journal old.state → (more : Follows old new n l) → n ≡ 1 + length ls
+pub legal_more : (ls : List (List ℕ)) (numbers : List Joins) (old new : Benched) (l : List ℕ) (n : ℕ) → LeadsTo ls numbers old.journal old.state → (more : Follows old new n l) → n ≡ 1 + length ls
     → LeadsTo (ls ++ l ∷ []) (numbers ++ map (λ (g : Given). g.joins) more.given) new.journal new.state
 legal_more ls numbers old new l n legal more at =
-    let joins : Given → List ℕ = λ g. g.joins in
+    let joins : Given → Joins = λ g. g.joins in
     let P : List Entry → Type 0 = λ js. LeadsTo (ls ++ l ∷ []) (numbers ++ map joins more.given) js new.state in
     let N : ℕ → Type 0 = λ m. Numbered m (l ∷ []) more.entries in
     let it : P (old.journal ++ more.entries) = record {

@@ -11,7 +11,7 @@ use Rattle.nfc_io.proofs.InOrder.{ended_behind}
 use Rattle.nfc_io.proofs.Lines.{lines_front, whole_front, lines_last}
 use Rattle.bench_world.specs.declared.entry.Entry.{Entry}
 use Rattle.bench_world.specs.Journal.{LeadsTo}
-use Rattle.bench_world.specs.Legal.{State, Given, first_state}
+use Rattle.bench_world.specs.Legal.{State, Joins, Given, first_state}
 use Rattle.bench_world.specs.Obeying.{Benched, new_bench}
 use Rattle.bench_world.specs.Report.{report_text}
 use Rattle.bench_world.proofs.OneJournal.{one_legal}
@@ -25,7 +25,7 @@ use Rattle.nfc_bench.proofs.ScriptText.{stops_at_once}
 use Rattle.nfc_bench.proofs.Journals.{legal_more, legal_none, written_more, written_none}
 
 -- a legal journal of some lines is the only one of them
-abbrev is_obeyed : (lines numbers : List (List ℕ)) (journal : List Entry) (last : State) → LeadsTo lines numbers journal last → AreWithinLimits lines → AreObeyed lines journal
+abbrev is_obeyed : (lines : List (List ℕ)) (numbers : List Joins) (journal : List Entry) (last : State) → LeadsTo lines numbers journal last → AreWithinLimits lines → AreObeyed lines journal
 is_obeyed lines numbers journal last leads limits = record {
   legal = record { numbers = numbers; last = last; leads = leads };
   only = λ other others t is same. one_legal lines others numbers other journal t last is leads;
@@ -36,7 +36,7 @@ pub obeyed_none : AreObeyed [] []
 obeyed_none = is_obeyed [] [] [] first_state legal_none no_limits
 
 -- where lines lead a bench to its state, it obeyed them
-obeyed_by : (lines numbers : List (List ℕ)) (b : Benched) → LeadsTo lines numbers b.journal b.state → AreWithinLimits lines → b.spoiled ≡ false → ObeyedBy lines b
+obeyed_by : (lines : List (List ℕ)) (numbers : List Joins) (b : Benched) → LeadsTo lines numbers b.journal b.state → AreWithinLimits lines → b.spoiled ≡ false → ObeyedBy lines b
 obeyed_by lines numbers b leads limits sound = record { obeyed = is_obeyed lines numbers b.journal b.state leads limits; machines = refl; sound = sound }
 
 -- and the other way

@@ -14,7 +14,7 @@ use Rattle.nfc_bench.specs.declared.top.words.Form.{Form}
 use Rattle.nfc_bench.specs.declared.top.words.Form.TheVariants.{Run}
 use Rattle.nfc_bench.specs.declared.top.program.WordsFault.{WordsFault}
 use Rattle.nfc_bench.specs.declared.top.program.WordsFault.TheVariants.{Memory, NoText}
-use Rattle.bench_world.specs.Legal.{State, Given, EachLegal, first_state}
+use Rattle.bench_world.specs.Legal.{State, Given, Joins, EachLegal, first_state}
 use Rattle.bench_world.specs.Obeying.{Benched}
 use Rattle.bench_world.specs.Journal.{LeadsTo, Legal, AgreeFor}
 use Rattle.bench_world.specs.Taking.{IsTaken, AreTaken, standing_of}
@@ -55,7 +55,7 @@ line_fault n = codes "fault 2 line " ++ decimal n ++ codes "\n"
 -- command may take any.
 pub record AreObeyed (lines : List (List ℕ)) (journal : List Entry) : Type 0 where
   pub legal : Legal lines journal
-  pub only : (other : List Entry) (numbers : List (List ℕ)) (last : State) → LeadsTo lines numbers other last → AgreeFor journal legal.numbers numbers → other ≡ journal
+  pub only : (other : List Entry) (numbers : List Joins) (last : State) → LeadsTo lines numbers other last → AgreeFor journal legal.numbers numbers → other ≡ journal
   pub limits : AreWithinLimits lines
 
 -- The first of these lines were obeyed, and this is their journal.

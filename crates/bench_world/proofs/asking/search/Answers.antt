@@ -7,7 +7,7 @@ use Rattle.bench_devices.specs.Phases.{Searches, SearchesField}
 use Rattle.bench_world.specs.declared.entry.Answer.TheVariants as answers
 use Rattle.bench_world.specs.Answering.{poll_answer}
 use Rattle.bench_world.specs.Crowded.{seen_all, is_crowd}
-use Rattle.bench_world.specs.Obeying.{ObeyedBelow}
+use Rattle.bench_world.specs.Obeying.{ObeyedUnlinked}
 use Rattle.bench_world.proofs.Legality.{search_obeyed, search_cut, search_part}
 use Rattle.bench_world.proofs.Telling.{may_search, poll_fed, fault_found}
 use Rattle.bench_world.proofs.Outcomes.{if_ok, on_err}
@@ -23,7 +23,7 @@ returns-in-Ok-clause-ok c =
     let S : Result Everybody PollFault → Type 0 = λ r. SearchesField (moment c.args.field.now) (moment c.sweep_field.new.field) r in
     let s : S (Ok c.in-Ok.everybody) = subst S c.in-Ok.is c.sweep_field.ensures.tells in
     if_ok c.found.result (λ a. a ≡ answers.Found (seen_all c.in-Ok.everybody) (is_crowd c.in-Ok.everybody.others))
-    (λ a. ObeyedBelow c.args.field.now c.sweep_field.new.field Find a)
+    (λ a. ObeyedUnlinked c.args.field.now c.sweep_field.new.field Find a)
     (λ a told. search_obeyed c.args.field.now c.sweep_field.new.field (Ok c.in-Ok.everybody) a c.requires (s (λ e. cc)) told) c.found.ensures
 
 pub returns-in-Err-clause-ok : goal.returns-in-Err-clause-ok
@@ -31,7 +31,7 @@ returns-in-Err-clause-ok c =
     let S : Result Everybody PollFault → Type 0 = λ r. SearchesField (moment c.args.field.now) (moment c.sweep_field.new.field) r in
     let s : S (Err c.in-Err.fault) = subst S c.in-Err.is c.sweep_field.ensures.tells in
     if_ok c.missed.result (λ a. poll_answer c.in-Err.fault ≡ Some a)
-    (λ a. ObeyedBelow c.args.field.now c.sweep_field.new.field Find a)
+    (λ a. ObeyedUnlinked c.args.field.now c.sweep_field.new.field Find a)
     (λ a told.
     let searches : Searches (moment c.args.field.now) (moment c.sweep_field.new.field) (Err c.in-Err.fault) = s (poll_fed c.in-Err.fault a told) in
     search_obeyed c.args.field.now c.sweep_field.new.field (Err c.in-Err.fault) a c.requires searches

@@ -5,7 +5,7 @@ use Rattle.bench_script.specs.declared.command.Command.TheVariants.{Read}
 use Rattle.bench_devices.specs.declared.polling.Selection.{Selection}
 use Rattle.bench_devices.specs.Phases.{Selects, SelectsAt, SelectsTo}
 use Rattle.bench_world.specs.Answering.{poll_answer, told_by}
-use Rattle.bench_world.specs.Obeying.{ObeyedBelow}
+use Rattle.bench_world.specs.Obeying.{ObeyedUnlinked}
 use Rattle.bench_devices.specs.Device.{is_tag}
 use Rattle.bench_world.proofs.SelectedPlace.{looked_at}
 use Rattle.bench_world.proofs.Legality.{peer_obeyed, read_obeyed, missed_obeyed, read_cut, read_part, selection_cut, missed_part}
@@ -34,7 +34,7 @@ returns-in-Place-clause-ok c =
     let found = looked_at c.select.new.field c.in-Place.place s.device s.stands c.listeners.result.now c.index-listeners-place.result c.listeners.ensures c.index-listeners-place.is in
     let tag : is_tag s.device ≡ true = sym (ap is_tag found) ∙ sym c.is_tag.ensures ∙ c.if-is_tag.true in
     if_ok c.told.result (λ answer. told_by c.read.result ≡ Some answer)
-    (λ answer. ObeyedBelow c.args.field.now c.read.new.field (Read c.args.id.now) answer)
+    (λ answer. ObeyedUnlinked c.args.field.now c.read.new.field (Read c.args.id.now) answer)
     (λ answer told. read_obeyed c.args.field.now c.select.new.field c.read.new.field c.args.id.now c.in-Place.place c.read.result answer told c.requires s tag
     (c.read.ensures.tells (fed_by c.read.result answer told) s.device s.stands)) c.told.ensures
 
@@ -49,7 +49,7 @@ returns-in-Missed-clause-ok c =
     let S : Selection → Type 0 = λ s. SelectsTo c.args.id.now s (moment c.args.field.now) (moment c.select.new.field) in
     let s : Selects c.args.id.now (Err c.in-Missed.fault) (moment c.args.field.now) (moment c.select.new.field) = subst S c.in-Missed.is c.in_ok-place.ensures.ok in
     if_ok c.missed.result (λ answer. poll_answer c.in-Missed.fault ≡ Some answer)
-    (λ answer. ObeyedBelow c.args.field.now c.select.new.field (Read c.args.id.now) answer)
+    (λ answer. ObeyedUnlinked c.args.field.now c.select.new.field (Read c.args.id.now) answer)
     (λ answer is. missed_obeyed c.args.field.now c.select.new.field c.args.id.now c.in-Missed.fault answer c.requires s is) c.missed.ensures
 
 pub returns-in-Place-clause-cut : goal.returns-in-Place-clause-cut

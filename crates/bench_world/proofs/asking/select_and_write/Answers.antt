@@ -6,7 +6,8 @@ use Rattle.bench_script.specs.Messages.{message_of}
 use Rattle.bench_devices.specs.declared.polling.Selection.{Selection}
 use Rattle.bench_devices.specs.Phases.{Selects, SelectsAt, SelectsTo, WritesAt, CutAtWrite}
 use Rattle.bench_world.specs.Answering.{poll_answer, written_by}
-use Rattle.bench_world.specs.Obeying.{ObeyedBelow}
+use Rattle.bench_script.specs.declared.message.Msg.{Msg}
+use Rattle.bench_world.specs.Obeying.{ObeyedUnlinked, CutOffUnlinked}
 use Rattle.bench_devices.specs.Device.{is_tag}
 use Rattle.bench_world.proofs.SelectedPlace.{looked_at}
 use Rattle.bench_world.proofs.WriteLegality.{peer_write, write_obeyed, missed_write, write_cut, write_part, selection_cut_write}
@@ -27,19 +28,20 @@ pub written-requires : goal.written-requires
 written-requires c =
     let S : Selection → Type 0 = λ s. SelectsTo c.args.id.now s (moment c.args.field.now) (moment c.select.new.field) in
     let s : SelectsAt c.args.id.now c.in-Place.place (moment c.args.field.now) (moment c.select.new.field) = subst S c.in-Place.is c.in_ok-place.ensures.ok in
-    may_write (moment c.select.new.field) (moment c.write.new.field) s.device c.deref.result.now c.write.result (λ fed. c.write.ensures.tells fed s.device s.stands)
+    may_write (moment c.select.new.field) (moment c.write.new.field) s.device c.args.bytes.now c.write.result (λ fed. c.write.ensures.tells fed s.device s.stands)
 
 pub returns-in-Place-clause-ok : goal.returns-in-Place-clause-ok
 returns-in-Place-clause-ok c =
     let S : Selection → Type 0 = λ s. SelectsTo c.args.id.now s (moment c.args.field.now) (moment c.select.new.field) in
     let s : SelectsAt c.args.id.now c.in-Place.place (moment c.args.field.now) (moment c.select.new.field) = subst S c.in-Place.is c.in_ok-place.ensures.ok in
     let W : List ℕ → Type 0 = λ bytes. WritesAt (moment c.select.new.field) (moment c.write.new.field) c.in-Place.place bytes c.write.result in
-    let tells : W (message_of c.args.message.now) = subst W (c.deref.ensures.value ∙ c.in_ok-bytes.ensures) c.write.ensures.tells in
     let found = looked_at c.select.new.field c.in-Place.place s.device s.stands c.listeners.result.now c.index-listeners-place.result c.listeners.ensures c.index-listeners-place.is in
     let tag : is_tag s.device ≡ true = sym (ap is_tag found) ∙ sym c.is_tag.ensures ∙ c.if-is_tag.true in
     if_ok c.written.result (λ answer. written_by c.write.result ≡ Some answer)
-    (λ answer. ObeyedBelow c.args.field.now c.write.new.field (Write c.args.id.now c.args.message.now) answer)
-    (λ answer told. write_obeyed c.args.field.now c.select.new.field c.args.id.now c.args.message.now c.in-Place.place c.requires s c.write.new.field c.write.result answer told tag
+    (λ answer. (m : Msg) → message_of m ≡ c.args.bytes.now → ObeyedUnlinked c.args.field.now c.write.new.field (Write c.args.id.now m) answer)
+    (λ answer told m is.
+    let tells : W (message_of m) = subst W (sym is) c.write.ensures.tells in
+    write_obeyed c.args.field.now c.select.new.field c.args.id.now m c.in-Place.place c.requires s c.write.new.field c.write.result answer told tag
     (tells (write_fed c.write.result answer told) s.device s.stands)) c.written.ensures
 
 pub returns-in-Place-clause-cut : goal.returns-in-Place-clause-cut
@@ -48,36 +50,39 @@ returns-in-Place-clause-cut c =
     let s : SelectsAt c.args.id.now c.in-Place.place (moment c.args.field.now) (moment c.select.new.field) = subst S c.in-Place.is c.in_ok-place.ensures.ok in
     let W : List ℕ → Type 0 = λ bytes. WritesAt (moment c.select.new.field) (moment c.write.new.field) c.in-Place.place bytes c.write.result in
     let C : List ℕ → Type 0 = λ bytes. CutAtWrite (moment c.select.new.field) (moment c.write.new.field) c.in-Place.place bytes c.write.result in
-    let tells : W (message_of c.args.message.now) = subst W (c.deref.ensures.value ∙ c.in_ok-bytes.ensures) c.write.ensures.tells in
-    let cut : C (message_of c.args.message.now) = subst C (c.deref.ensures.value ∙ c.in_ok-bytes.ensures) c.write.ensures.cut in
     let found = looked_at c.select.new.field c.in-Place.place s.device s.stands c.listeners.result.now c.index-listeners-place.result c.listeners.ensures c.index-listeners-place.is in
     let tag : is_tag s.device ≡ true = sym (ap is_tag found) ∙ sym c.is_tag.ensures ∙ c.if-is_tag.true in
-    on_err c.written.result (write_cut c.args.field.now c.select.new.field c.args.id.now c.args.message.now c.in-Place.place c.requires s c.write.new.field tag
-    (write_part (moment c.select.new.field) (moment c.write.new.field) c.in-Place.place s.device (message_of c.args.message.now) c.write.result s.stands tells cut))
+    let cut : (m : Msg) → message_of m ≡ c.args.bytes.now → CutOffUnlinked c.args.field.now c.write.new.field (Write c.args.id.now m) =
+    λ m is. write_cut c.args.field.now c.select.new.field c.args.id.now m c.in-Place.place c.requires s c.write.new.field tag
+    (write_part (moment c.select.new.field) (moment c.write.new.field) c.in-Place.place s.device (message_of m) c.write.result s.stands (subst W (sym is) c.write.ensures.tells) (subst C (sym is) c.write.ensures.cut)) in
+    on_err c.written.result cut
 
-pub returns-clause-ok : goal.returns-clause-ok
-returns-clause-ok c =
+pub returns-in-Missed-clause-ok : goal.returns-in-Missed-clause-ok
+returns-in-Missed-clause-ok c =
     let S : Selection → Type 0 = λ s. SelectsTo c.args.id.now s (moment c.args.field.now) (moment c.select.new.field) in
     let s : Selects c.args.id.now (Err c.in-Missed.fault) (moment c.args.field.now) (moment c.select.new.field) = subst S c.in-Missed.is c.in_ok-place.ensures.ok in
     if_ok c.missed.result (λ answer. poll_answer c.in-Missed.fault ≡ Some answer)
-    (λ answer. ObeyedBelow c.args.field.now c.select.new.field (Write c.args.id.now c.args.message.now) answer)
-    (λ answer is. missed_write c.args.field.now c.select.new.field c.args.id.now c.args.message.now c.in-Missed.fault answer c.requires s is) c.missed.ensures
+    (λ answer. (m : Msg) → message_of m ≡ c.args.bytes.now → ObeyedUnlinked c.args.field.now c.select.new.field (Write c.args.id.now m) answer)
+    (λ answer told m is. missed_write c.args.field.now c.select.new.field c.args.id.now m c.in-Missed.fault answer c.requires s told) c.missed.ensures
 
-pub returns-clause-cut : goal.returns-clause-cut
-returns-clause-cut c =
+pub returns-in-Missed-clause-cut : goal.returns-in-Missed-clause-cut
+returns-in-Missed-clause-cut c =
     let S : Selection → Type 0 = λ s. SelectsTo c.args.id.now s (moment c.args.field.now) (moment c.select.new.field) in
     let s : Selects c.args.id.now (Err c.in-Missed.fault) (moment c.args.field.now) (moment c.select.new.field) = subst S c.in-Missed.is c.in_ok-place.ensures.ok in
-    on_err c.missed.result (selection_cut_write c.args.field.now c.select.new.field c.args.id.now c.args.message.now c.requires
-    (missed_part (moment c.args.field.now) (moment c.select.new.field) c.args.id.now c.in-Missed.fault s))
+    let cut : (m : Msg) → message_of m ≡ c.args.bytes.now → CutOffUnlinked c.args.field.now c.select.new.field (Write c.args.id.now m) =
+    λ m is. selection_cut_write c.args.field.now c.select.new.field c.args.id.now m c.requires (missed_part (moment c.args.field.now) (moment c.select.new.field) c.args.id.now c.in-Missed.fault s) in
+    on_err c.missed.result cut
 
 pub returns-in_err-place-clause-cut : goal.returns-in_err-place-clause-cut
 returns-in_err-place-clause-cut c =
-    on_err c.from_residual-in_err-place.result (selection_cut_write c.args.field.now c.select.new.field c.args.id.now c.args.message.now c.requires c.in_err-place.ensures.cut)
+    let cut : (m : Msg) → message_of m ≡ c.args.bytes.now → CutOffUnlinked c.args.field.now c.select.new.field (Write c.args.id.now m) =
+    λ m is. selection_cut_write c.args.field.now c.select.new.field c.args.id.now m c.requires c.in_err-place.ensures.cut in
+    on_err c.from_residual.result cut
 
 pub returns-in-Place-2-clause-ok : goal.returns-in-Place-2-clause-ok
-returns-in-Place-2-clause-ok c =
+returns-in-Place-2-clause-ok c = λ m is.
     let S : Selection → Type 0 = λ s. SelectsTo c.args.id.now s (moment c.args.field.now) (moment c.select.new.field) in
     let s : SelectsAt c.args.id.now c.in-Place.place (moment c.args.field.now) (moment c.select.new.field) = subst S c.in-Place.is c.in_ok-place.ensures.ok in
     let found = looked_at c.select.new.field c.in-Place.place s.device s.stands c.listeners.result.now c.index-listeners-place.result c.listeners.ensures c.index-listeners-place.is in
     let peer : is_tag s.device ≡ false = sym (ap is_tag found) ∙ sym c.is_tag.ensures ∙ c.if-is_tag.false in
-    peer_write c.args.field.now c.select.new.field c.args.id.now c.args.message.now c.in-Place.place c.requires s peer
+    peer_write c.args.field.now c.select.new.field c.args.id.now m c.in-Place.place c.requires s peer

@@ -26,7 +26,7 @@ returns-in-Ok-clause-ok c =
     subst O (sym held) (memory_told old c.args.id.now place c.requires stands tag)
 
 pub returns-then-not-is_tag-clause-cause : goal.returns-then-not-is_tag-clause-cause
-returns-then-not-is_tag-clause-cause c = λ _ ends peers has.
+returns-then-not-is_tag-clause-cause c = λ _ ends peers link has.
     let old : Air Device = c.args.field.now in
     let place : ℕ = c.place_of-place.result in
     let stands : StandsAt (bytes_of c.args.id.now) old.listeners place =

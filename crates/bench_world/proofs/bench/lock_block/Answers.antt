@@ -8,7 +8,7 @@ use Rattle.bench_world.proofs.Locking.{stands_there, at_place, of_device, block_
 use Rattle.bench_world.proofs.bench.lock_block.Goals as goal
 
 pub returns-then-block-blocks-clause-cause : goal.returns-then-block-blocks-clause-cause
-returns-then-block-blocks-clause-cause c = λ _ ends peers has.
+returns-then-block-blocks-clause-cause c = λ _ ends peers link has.
     let old : Air Device = c.args.field.now in
     let place : ℕ = c.place_of-place.result in
     let stands : StandsAt (bytes_of c.args.id.now) old.listeners place =

@@ -5,12 +5,13 @@ use Rattle.bench_world.specs.declared.entry.Answer.{Answer}
 use Rattle.bench_script.specs.declared.command.Command.{Command}
 use Rattle.bench_world.specs.Legal.{Accepts}
 use Rattle.bench_world.specs.Obeying.{Machines, IsCutOff, under, state_at}
+use Rattle.bench_world.specs.declared.inbox.LinkRange.{LinkRange}
 use Rattle.bench_world.specs.Peers.{Peers}
 use Rattle.bench_world.proofs.bench.run_command.Goals as goal
 
--- the peers of these numbers, so many of which were placed
-abbrev peers_of : List (Option ℕ) → ℕ → Peers
-peers_of numbers placed = record { numbers = numbers; placed = placed; links = [] }
+-- the peers of these numbers, so many of which were placed, with these links
+abbrev peers_of : List (Option ℕ) → ℕ → List LinkRange → Peers
+peers_of numbers placed links = record { numbers = numbers; placed = placed; links = links }
 
 -- what holds of each error holds of this one
 of_err : {P : Type 0} (r : Result Answer ObeyFault) → IsErrOf r faults.Memory → OnErr r P → P
@@ -19,48 +20,36 @@ of_err (Err x) e p = p
 
 pub returns-in-Lock-clause-cause : goal.returns-in-Lock-clause-cause
 returns-in-Lock-clause-cause c = λ e has.
-    let peers : Peers = peers_of c.machines-in-Lock.inside.numbers.items c.machines-in-Lock.inside.placed in
-    let m : Machines = under c.machines-in-Lock.inside.ends.items peers c.machines-in-Lock.inside.field in
+    let peers : Peers = peers_of c.machines-in-Lock.inside.numbers.items c.machines-in-Lock.inside.placed c.machines-in-Lock.inside.links.items in
+    let m : Machines = under c.machines-in-Lock.inside.ends.items peers c.machines-in-Lock.inside.link c.machines-in-Lock.inside.field in
     let is : c.args.machines.now ≡ m = search rules in
     let A : Machines → Command → Type 0 = λ x y. Accepts (state_at x) y in
-    c.lock_block.ensures.cause e m.ends m.peers (subst (A m) c.in-Lock.is (subst (λ x. A x c.args.command.now) is has))
+    c.lock_block.ensures.cause e m.ends m.peers m.link (subst (A m) c.in-Lock.is (subst (λ x. A x c.args.command.now) is has))
 
 pub returns-in-Busy-clause-cause : goal.returns-in-Busy-clause-cause
 returns-in-Busy-clause-cause c = λ e has.
-    let peers : Peers = peers_of c.machines-in-Busy.inside.numbers.items c.machines-in-Busy.inside.placed in
-    let m : Machines = under c.machines-in-Busy.inside.ends.items peers c.machines-in-Busy.inside.field in
+    let peers : Peers = peers_of c.machines-in-Busy.inside.numbers.items c.machines-in-Busy.inside.placed c.machines-in-Busy.inside.links.items in
+    let m : Machines = under c.machines-in-Busy.inside.ends.items peers c.machines-in-Busy.inside.link c.machines-in-Busy.inside.field in
     let is : c.args.machines.now ≡ m = search rules in
     let A : Machines → Command → Type 0 = λ x y. Accepts (state_at x) y in
-    c.set_busy.ensures.cause e m.ends m.peers (subst (A m) c.in-Busy.is (subst (λ x. A x c.args.command.now) is has))
+    c.set_busy.ensures.cause e m.ends m.peers m.link (subst (A m) c.in-Busy.is (subst (λ x. A x c.args.command.now) is has))
 
 pub returns-in-Dump-clause-cause : goal.returns-in-Dump-clause-cause
 returns-in-Dump-clause-cause c = λ e has.
-    let peers : Peers = peers_of c.machines-in-Dump.inside.numbers.items c.machines-in-Dump.inside.placed in
-    let m : Machines = under c.machines-in-Dump.inside.ends.items peers c.machines-in-Dump.inside.field in
+    let peers : Peers = peers_of c.machines-in-Dump.inside.numbers.items c.machines-in-Dump.inside.placed c.machines-in-Dump.inside.links.items in
+    let m : Machines = under c.machines-in-Dump.inside.ends.items peers c.machines-in-Dump.inside.link c.machines-in-Dump.inside.field in
     let is : c.args.machines.now ≡ m = search rules in
     let A : Machines → Command → Type 0 = λ x y. Accepts (state_at x) y in
-    c.dump_store.ensures.cause e m.ends m.peers (subst (A m) c.in-Dump.is (subst (λ x. A x c.args.command.now) is has))
+    c.dump_store.ensures.cause e m.ends m.peers m.link (subst (A m) c.in-Dump.is (subst (λ x. A x c.args.command.now) is has))
 
 pub returns-in-Find-clause-cut : goal.returns-in-Find-clause-cut
 returns-in-Find-clause-cut c = λ e.
-    let peers : Peers = peers_of c.machines-in-Find.inside.numbers.items c.machines-in-Find.inside.placed in
-    let m : Machines = under c.machines-in-Find.inside.ends.items peers c.machines-in-Find.inside.field in
-    let is : c.args.machines.now ≡ m = search rules in
-    let C : Machines → Command → Type 0 = λ x y. IsCutOff x (under m.ends m.peers c.find.new.field) y in
-    subst (λ x. C x c.args.command.now) (sym is) (subst (C m) (sym c.in-Find.is) (of_err c.find.result e c.find.ensures.cut m.ends m.peers))
+    subst (λ x. IsCutOff c.args.machines.now c.find.new.machines x) (sym c.in-Find.is) (of_err c.find.result e c.find.ensures.cut)
 
 pub returns-in-Read-clause-cut : goal.returns-in-Read-clause-cut
 returns-in-Read-clause-cut c = λ e.
-    let peers : Peers = peers_of c.machines-in-Read.inside.numbers.items c.machines-in-Read.inside.placed in
-    let m : Machines = under c.machines-in-Read.inside.ends.items peers c.machines-in-Read.inside.field in
-    let is : c.args.machines.now ≡ m = search rules in
-    let C : Machines → Command → Type 0 = λ x y. IsCutOff x (under m.ends m.peers c.read_tag.new.field) y in
-    subst (λ x. C x c.args.command.now) (sym is) (subst (C m) (sym c.in-Read.is) (of_err c.read_tag.result e c.read_tag.ensures.cut m.ends m.peers))
+    subst (λ x. IsCutOff c.args.machines.now c.read_tag.new.machines x) (sym c.in-Read.is) (of_err c.read_tag.result e c.read_tag.ensures.cut)
 
 pub returns-in-Write-clause-cut : goal.returns-in-Write-clause-cut
 returns-in-Write-clause-cut c = λ e.
-    let peers : Peers = peers_of c.machines-in-Write.inside.numbers.items c.machines-in-Write.inside.placed in
-    let m : Machines = under c.machines-in-Write.inside.ends.items peers c.machines-in-Write.inside.field in
-    let is : c.args.machines.now ≡ m = search rules in
-    let C : Machines → Command → Type 0 = λ x y. IsCutOff x (under m.ends m.peers c.write_tag.new.field) y in
-    subst (λ x. C x c.args.command.now) (sym is) (subst (C m) (sym c.in-Write.is) (of_err c.write_tag.result e c.write_tag.ensures.cut m.ends m.peers))
+    subst (λ x. IsCutOff c.args.machines.now c.write_message.new.machines x) (sym c.in-Write.is) (of_err c.write_message.result e c.write_message.ensures.cut)

@@ -8,7 +8,7 @@ use Rattle.bench_world.proofs.Locking.{stands_there, at_place, of_device, made_b
 use Rattle.bench_world.proofs.bench.set_busy.Goals as goal
 
 pub returns-then-not-may_be_busy-clause-cause : goal.returns-then-not-may_be_busy-clause-cause
-returns-then-not-may_be_busy-clause-cause c = λ _ ends peers has.
+returns-then-not-may_be_busy-clause-cause c = λ _ ends peers link has.
     let old : Air Device = c.args.field.now in
     let place : ℕ = c.place_of-place.result in
     let stands : StandsAt (bytes_of c.args.id.now) old.listeners place =

@@ -1,6 +1,6 @@
 use Rattle.std.proofs.Common.{◌≡◌, ◌++◌, drop}
 use Rattle.bench_world.specs.Inbox.{told_of}
-use Rattle.bench_world.proofs.machines.without_link.Given as goal
+use Rattle.bench_world.proofs.inbox.without_link.Given as goal
 
 -- what is told, and what is left to tell
 abbrev pub invariant-loop-place : goal.invariant-loop-place

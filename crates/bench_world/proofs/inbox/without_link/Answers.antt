@@ -3,7 +3,7 @@ use Rattle.std.specs.Prelude.{slice_index, slice_index_or, drop}
 use Rattle.snep_core.specs.Server.{Received as Accepted, messages_of}
 use Rattle.bench_world.specs.Inbox.{told_of}
 use Rattle.bench_world.proofs.Peering.{told_more}
-use Rattle.bench_world.proofs.machines.without_link.Goals as goal
+use Rattle.bench_world.proofs.inbox.without_link.Goals as goal
 
 pub loop-place-preserved : goal.loop-place-preserved
 loop-place-preserved c =

@@ -1,0 +1,56 @@
+-- The open link of a bench, and the links so far (NFCIP-1, ISO/IEC 18092; NFC Forum LLCP 1.3; that a link has a number, and when it ends, are
+-- this project's own).
+use Rattle.std.specs.Prelude.{ℕ, nat_eq, length, Bool, true, false, List, [], ◌∷◌, ◌++◌, if◌then◌else◌, Option, Some, None}
+use Rattle.dep_link.specs.Initiator.{InitState}
+use Rattle.far_air.specs.FarEnds.{first_far, later_fars}
+use Rattle.snep_core.specs.Talk.{EndState}
+use Rattle.bench_world.specs.World.{FarEnd}
+use Rattle.bench_world.specs.declared.inbox.LinkRange.{LinkRange}
+use Rattle.bench_world.specs.Peers.{Peers}
+
+-- An open link: its peer, by its number; where the initiator stands between two exchanges; and this end of it, from which a client asks.
+pub record OpenLink : Type 0 where
+  pub peer : ℕ
+  pub initiator : InitState
+  pub client : EndState
+
+-- a device has this number among the peers; a tag has none
+abbrev pub is_number : ℕ → Option ℕ → Bool
+is_number n None = false
+is_number n (Some p) = nat_eq p n
+
+-- the far end of the peer with a number, by the numbers and far ends of devices at their places
+abbrev pub end_numbered : ℕ → List (Option ℕ) → List (Option FarEnd) → Option FarEnd
+end_numbered n [] os = None
+end_numbered n (p ∷ ps) os = if is_number n p then first_far os else end_numbered n ps (later_fars os)
+
+-- how many messages a far end's server has accepted
+abbrev pub accepted_by : Option FarEnd → ℕ
+accepted_by None = 0
+accepted_by (Some l) = length l.service.accepted
+
+abbrev pub accepted_at : ℕ → Peers → List (Option FarEnd) → ℕ
+accepted_at n p fars = accepted_by (end_numbered n p.numbers fars)
+
+-- one link more, from here on
+abbrev pub with_link : LinkRange → Peers → Peers
+with_link l p = record { numbers = p.numbers; placed = p.placed; links = p.links ++ l ∷ [] }
+
+-- the last link is the one that is open; its range ends here
+abbrev pub last_ended : ℕ → List LinkRange → List LinkRange
+last_ended n [] = []
+last_ended n (l ∷ []) = record { peer = l.peer; start = l.start; end = Some n } ∷ []
+last_ended n (l ∷ m ∷ ls) = l ∷ last_ended n (m ∷ ls)
+
+abbrev pub with_last_ended : ℕ → Peers → Peers
+with_last_ended n p = record { numbers = p.numbers; placed = p.placed; links = last_ended n p.links }
+
+-- the open link ends, where one is open: its range goes to the list's present end
+abbrev pub ended : Option OpenLink → List (Option FarEnd) → Peers → Peers
+ended None fars p = p
+ended (Some l) fars p = with_last_ended (accepted_at l.peer p fars) p
+
+-- whether the open link is one to the device with this number
+abbrev pub is_with : Option OpenLink → Option ℕ → Bool
+is_with None p = false
+is_with (Some l) p = is_number l.peer p
