@@ -13,7 +13,7 @@ use Rattle.hex.proofs.HexLemmas.{length-encode_with, decode_of-encode_upper, dec
 use Rattle.nfc_base.specs.declared.event.Fate.{Fate}
 use Rattle.nfc_base.specs.declared.event.Fate.TheVariants.{Pass, Damage, Lose, Break}
 use Rattle.bench_script.specs.declared.command.Command.{Command}
-use Rattle.bench_script.specs.declared.command.Command.TheVariants.{Skip, Fates, PlaceT2, PlaceT4, PlaceT5, PlacePeer, Lock, Busy, Offer, Remove, Dump, Inbox, Find, Read, Write}
+use Rattle.bench_script.specs.declared.command.Command.TheVariants.{Skip, Fates, PlaceT2, PlaceT4, PlaceT5, PlacePeer, Lock, Busy, Offer, Remove, Dump, Inbox, Find, Read, Write, Link}
 use Rattle.bench_script.specs.declared.command.DeviceId.{DeviceId}
 use Rattle.bench_script.specs.declared.command.DeviceId.TheVariants.{A, V}
 use Rattle.bench_script.specs.declared.message.Msg.{Msg}
@@ -272,6 +272,21 @@ peer_too id lr miu rw limit ws (i, r, m, w, l, e, p, q, s, t, u) =
       are = (literal (codes "place") refl, (literal (codes "peer") refl, (x.is, (y.is, (z.is, (v.is, o.is))))));
     }
 
+link_too : (id : List ℕ) (miu rw : ℕ) (ws : List (List ℕ)) → SpelledBy ws (Link id miu rw)
+    → AllToo (Link id miu rw) ws (canonical_words (Link id miu rw))
+link_too id miu rw ws (i, m, w, e, p, q, r) =
+    let x = ident_too i id p in
+    let y = number_is m miu (let most : miu ≤ 2175 = q.2 in omega arith) q.0 in
+    let z = number_is w rw (let most : rw ≤ 15 = r.2 in omega arith) r.0 in
+    let first : length i ≡ length (encode_upper id) = x.size in
+    let second : length m ≡ length (decimal miu) = y.size in
+    let third : length w ≡ length (decimal rw) = z.size in
+    record {
+      spells = (encode_upper id, decimal miu, decimal rw, refl, x.spells, (refl, q.1, q.2), (refl, r.1, r.2));
+      sizes = cc;
+      are = (literal (codes "link") refl, (x.is, (y.is, z.is)));
+    }
+
 -- a name and an ID
 named_sizes : (ws : List (List ℕ)) (name i : List ℕ) (id : DeviceId) → ws ≡ name ∷ i ∷ [] → length i ≡ length (id_text id)
     → map length ws ≡ map length (name ∷ id_text id ∷ [])
@@ -363,6 +378,7 @@ all_too (Write id message) ws (i, m, e, p, q) =
       sizes = cc;
       are = (literal (codes "write") refl, (x.is, y.is));
     }
+all_too (Link id miu rw) ws s = link_too id miu rw ws s
 
 spells_canonical : (line : List ℕ) (c : Command) → Spells line c → Spells (canonical c) c
 spells_canonical line Skip s = refl

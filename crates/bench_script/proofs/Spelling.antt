@@ -8,7 +8,7 @@ use Rattle.nfc_base.specs.declared.event.Fate.TheVariants.{Pass, Damage, Lose, B
 use Rattle.hex.specs.Hex.{decode_of}
 use Rattle.hex.proofs.HexLemmas.{decode_of-same}
 use Rattle.bench_script.specs.declared.command.Command.{Command}
-use Rattle.bench_script.specs.declared.command.Command.TheVariants.{Skip, Fates, PlaceT2, PlaceT4, PlaceT5, PlacePeer, Lock, Busy, Offer, Remove, Dump, Inbox, Find, Read, Write}
+use Rattle.bench_script.specs.declared.command.Command.TheVariants.{Skip, Fates, PlaceT2, PlaceT4, PlaceT5, PlacePeer, Lock, Busy, Offer, Remove, Dump, Inbox, Find, Read, Write, Link}
 use Rattle.bench_script.specs.declared.command.DeviceId.{DeviceId}
 use Rattle.bench_script.specs.declared.command.DeviceId.TheVariants.{A, V}
 use Rattle.bench_script.specs.declared.message.Msg.{Msg}
@@ -132,6 +132,11 @@ inbox_differs : (ws xs ys : List (List ℕ)) → ws ≡ codes "inbox" ∷ xs →
 unfolding first_byte
 inbox_differs ws xs ys p q = let h : 105 ≡ 102 = ap first_byte (sym p ∙ q) in omega (arith, h)
 
+-- `link` isn't `busy`
+link_differs : (ws xs ys : List (List ℕ)) → ws ≡ codes "link" ∷ xs → ws ≡ codes "busy" ∷ ys → ⊥
+unfolding first_byte
+link_differs ws xs ys p q = let h : 108 ≡ 98 = ap first_byte (sym p ∙ q) in omega (arith, h)
+
 -- where the first words are alike, so are the values; words that differ spell no two commands
 pub spelled_one : (ws : List (List ℕ)) (c d : Command) → SpelledBy ws c → SpelledBy ws d → c ≡ d
 spelled_one ws (Fates a) (Fates b) (v, e, p) (w, f, q) =
@@ -177,6 +182,14 @@ spelled_one ws (Write i m) (Write j n) (u, v, e, p, r) (u', v', e', p', r') =
     let second : v ≡ v' = cc in
     let ids : i ≡ j = id_one u' i j (let P : List ℕ → Type 0 = λ t. SpellsId t i in subst P first p) p' in
     let messages : m ≡ n = message_one v' m n (let P : List ℕ → Type 0 = λ t. SpellsMsg t m in subst P second r) r' in
+    cc
+spelled_one ws (Link i m g) (Link j n h) (u, v, w, e, p, r, s) (u', v', w', e', p', r', s') =
+    let first : u ≡ u' = cc in
+    let second : v ≡ v' = cc in
+    let third : w ≡ w' = cc in
+    let ids : i ≡ j = ident_one u' i j (let P : List ℕ → Type 0 = λ t. SpellsIdent t i in subst P first p) p' in
+    let units : m ≡ n = within_one least_miu most_miu (omega arith) v' m n (let P : List ℕ → Type 0 = λ t. SpellsWithin least_miu most_miu t m in subst P second r) r' in
+    let windows : g ≡ h = within_one least_rw most_rw (omega arith) w' g h (let P : List ℕ → Type 0 = λ t. SpellsWithin least_rw most_rw t g in subst P third s) s' in
     cc
 spelled_one ws (PlaceT2 i m g) (PlaceT2 j n h) (u, v, w, e, p, r, s) (u', v', w', e', p', r', s') =
     let first : u ≡ u' = cc in
@@ -224,6 +237,8 @@ spelled_one ws (Dump i) (Read j) (v, e, p) (w, f, q) = absurd (dump_differs ws (
 spelled_one ws (Read i) (Dump j) (v, e, p) (w, f, q) = absurd (dump_differs ws (w ∷ []) (v ∷ []) f e)
 spelled_one ws (Inbox i) (Fates b) (v, e, p) (w, f, q) = absurd (inbox_differs ws (v ∷ []) (w ∷ []) e f)
 spelled_one ws (Fates a) (Inbox j) (v, e, p) (w, f, q) = absurd (inbox_differs ws (w ∷ []) (v ∷ []) f e)
+spelled_one ws (Link i m g) (Busy j n h) (u, v, w, e, p, r, s) (u', v', w', e', p', r', s') = absurd (link_differs ws (u ∷ v ∷ w ∷ []) (u' ∷ v' ∷ w' ∷ []) e e')
+spelled_one ws (Busy i m g) (Link j n h) (u, v, w, e, p, r, s) (u', v', w', e', p', r', s') = absurd (link_differs ws (u' ∷ v' ∷ w' ∷ []) (u ∷ v ∷ w ∷ []) e' e)
 spelled_one ws Skip d p q = absurd p
 spelled_one ws c Skip p q = absurd q
 spelled_one ws c d p q = absurd cc
@@ -245,6 +260,7 @@ nameless w ws none some (Remove id) (i, e, p) = none names.Remove (let h : w ≡
 nameless w ws none some Find e = some (let h : ws ≡ [] = cc in h)
 nameless w ws none some (Read id) (i, e, p) = none names.Read (let h : w ≡ codes "read" = cc in h)
 nameless w ws none some (Write id message) (i, m, e, p, q) = none names.Write (let h : w ≡ codes "write" = cc in h)
+nameless w ws none some (Link id miu rw) (i, m, v, e, p, q, r) = none names.Link (let h : w ≡ codes "link" = cc in h)
 
 -- three words of which the last is no HEX place no tag
 pub head_refused : (ws : List (List ℕ)) (i b h : List ℕ) → ws ≡ i ∷ b ∷ h ∷ [] → ((bytes : List ℕ) → SpellsHex h bytes → ⊥)
@@ -325,6 +341,7 @@ hash_begins_none ws (Remove id) (i, e, p) h = omega (arith, h, ap first_byte e)
 hash_begins_none ws Find e h = omega (arith, h, ap first_byte e)
 hash_begins_none ws (Read id) (i, e, p) h = omega (arith, h, ap first_byte e)
 hash_begins_none ws (Write id message) (i, m, e, p, q) h = omega (arith, h, ap first_byte e)
+hash_begins_none ws (Link id miu rw) (i, m, w, e, p, q, r) h = omega (arith, h, ap first_byte e)
 
 words_begin : (b : ℕ) (bs : List ℕ) → b ≡ 35 → first_byte (words_of (b ∷ bs)) ≡ 35
 words_begin b bs hash =

@@ -9,7 +9,7 @@ use Rattle.nfc_base.specs.declared.event.Fate.TheVariants.{Pass, Damage, Lose, B
 use Rattle.nfca_poll.specs.Ident.{IsIdent}
 use Rattle.t5t_tag.specs.Store.{IsBlockSize}
 use Rattle.bench_script.specs.declared.command.Command.{Command}
-use Rattle.bench_script.specs.declared.command.Command.TheVariants.{Skip, Fates, PlaceT2, PlaceT4, PlaceT5, PlacePeer, Lock, Busy, Offer, Remove, Dump, Inbox, Find, Read, Write}
+use Rattle.bench_script.specs.declared.command.Command.TheVariants.{Skip, Fates, PlaceT2, PlaceT4, PlaceT5, PlacePeer, Lock, Busy, Offer, Remove, Dump, Inbox, Find, Read, Write, Link}
 use Rattle.bench_script.specs.declared.command.DeviceId.{DeviceId}
 use Rattle.bench_script.specs.declared.command.DeviceId.TheVariants.{A, V}
 use Rattle.bench_script.specs.declared.message.Msg.{Msg}
@@ -73,15 +73,15 @@ least_lr = 0
 abbrev pub most_lr : ℕ
 most_lr = 3
 
--- MIU: how many bytes of information a PDU to a peer has at most (NFC Forum LLCP)
+-- MIU: how many bytes of information a PDU to an end of a link has at most, a peer's or the reader's (NFC Forum LLCP)
 abbrev pub least_miu : ℕ
 least_miu = 128
 
 abbrev pub most_miu : ℕ
 most_miu = 2175
 
--- RW: how many I PDUs a peer can take that it hasn't acknowledged (NFC Forum LLCP; a window of 0, by which every connection is
--- refused, is left out)
+-- RW: how many I PDUs an end of a link can take that it hasn't acknowledged (NFC Forum LLCP; a window of 0, by which every
+-- connection is refused, is left out)
 abbrev pub least_rw : ℕ
 least_rw = 1
 
@@ -151,7 +151,7 @@ is_skipped (b ∷ bs) = b == 35
 
 -- `fates FATES`, `place t2 ID BLOCKS HEX`, `place t4 ID CODE HEX HEX`, `place t5 ID BLOCKS SIZE HEX`,
 -- `place peer ID LR MIU RW LIMIT`, `lock ID BLOCK`, `busy ID COUNT TIMES`, `offer ID HEX HEX`, `remove ID`, `dump ID`, `inbox ID`,
--- `find`, `read ID` and `write ID MSG`
+-- `find`, `read ID`, `write ID MSG` and `link ID MIU RW`
 abbrev pub SpelledBy : List (List ℕ) → Command → Type 0
 SpelledBy ws Skip = ⊥
 SpelledBy ws (Fates fates) = (f : List ℕ) × (ws ≡ codes "fates" ∷ f ∷ []) × SpellsFates f fates
@@ -181,6 +181,9 @@ SpelledBy ws Find = ws ≡ codes "find" ∷ []
 SpelledBy ws (Read id) = (i : List ℕ) × (ws ≡ codes "read" ∷ i ∷ []) × SpellsId i id
 SpelledBy ws (Write id message) =
     (i m : List ℕ) × (ws ≡ codes "write" ∷ i ∷ m ∷ []) × SpellsId i id × SpellsMsg m message
+SpelledBy ws (Link id miu rw) =
+    (i m w : List ℕ) × (ws ≡ codes "link" ∷ i ∷ m ∷ w ∷ [])
+    × SpellsIdent i id × SpellsWithin least_miu most_miu m miu × SpellsWithin least_rw most_rw w rw
 
 -- the line spells the command
 abbrev pub Spells : List ℕ → Command → Type 0

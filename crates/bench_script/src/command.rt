@@ -113,6 +113,12 @@ pub enum Command {
         id: DeviceId,
         message: Msg,
     },
+    /// Opens a link to a peer, with this MIU and window of the reader's end.
+    Link {
+        id: Ident,
+        miu: u16,
+        rw: u8,
+    },
 }
 
 impl Command {
@@ -188,6 +194,11 @@ impl Command {
             Command::Write { id, message } => Ok(Command::Write {
                 id: id.copy(),
                 message: message.copy(alloc)?,
+            }),
+            Command::Link { id, miu, rw } => Ok(Command::Link {
+                id: id.copy(),
+                miu: *miu,
+                rw: *rw,
             }),
         }
     }

@@ -88,6 +88,12 @@ impl Command {
                 add_named(line, b"write", id)?;
                 add_message(line, message)
             }
+            Command::Link { id, miu, rw } => {
+                line.extend_from_slice(b"link")?;
+                add_digits(line, id.view())?;
+                add_number(line, *miu as u32)?;
+                add_number(line, *rw as u32)
+            }
         }
     }
 }

@@ -36,6 +36,7 @@ pub enum CommandName {
     Inbox,
     Read,
     Write,
+    Link,
 }
 
 /// The name that a word is.
@@ -53,6 +54,7 @@ pub fn name_of(word: &[u8]) -> Option<CommandName>
         b"inbox" => Some(CommandName::Inbox),
         b"read" => Some(CommandName::Read),
         b"write" => Some(CommandName::Write),
+        b"link" => Some(CommandName::Link),
         _ => None,
     }
 }

@@ -1,0 +1,52 @@
+//! The lines of links: which of them are taken, what they spell, and how that is written.
+
+use crate::command::Command;
+use crate::peer_tests::fault_of;
+use crate::script::parse_line;
+use nfca_poll::Ident;
+use std::test::Fail;
+
+#[test]
+fn lines_of_links(rt: HostRuntime) {
+    let rows = [
+        ("link 01020304 128 1", 0),
+        ("link 00010203040506070809 2175 15", 0),
+        ("link 01020304 127 1", 1),
+        ("link 01020304 2176 1", 1),
+        ("link 01020304 128 0", 1),
+        ("link 01020304 128 16", 1),
+        ("link 01020304 0128 1", 1),
+        ("link 0102030405 128 1", 1),
+        ("link E004010203040506 128 1", 1),
+        ("link 01020304 128", 1),
+        ("link 01020304 128 1 1024", 1),
+        ("link", 1),
+        ("Link 01020304 128 1", 1),
+    ];
+    for (line, wanted) in rows {
+        assert_eq!(rt; fault_of(rt.alloc(), line), wanted, "{line}");
+    }
+}
+
+#[test]
+fn values_of_links(rt: HostRuntime) -> Result<(), Fail> {
+    let alloc = rt.alloc();
+    let rows = [(
+        "link 080102fF 2175 15",
+        Command::Link {
+            id: Ident::new(&[8, 1, 2, 0xFF])?,
+            miu: 2175,
+            rw: 15,
+        },
+        "link 080102FF 2175 15",
+    )];
+    for (line, wanted, text) in rows {
+        let command = parse_line(alloc, line.as_bytes())?;
+        assert!(rt; command == wanted, "{line}");
+        assert!(rt; command.copy(alloc)? == wanted, "{line}");
+        let mut written = Vec::new(alloc);
+        command.write_to(&mut written)?;
+        assert_eq!(rt; written.as_slice(), text.as_bytes(), "{line}");
+    }
+    Ok(())
+}
