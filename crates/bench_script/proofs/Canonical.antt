@@ -2,23 +2,26 @@
 use Rattle.std.proofs.Common.{◌≡◌, ℕ, suc, ◌<◌, ◌^◌, ◌++◌, inl, inr, List, [], ◌∷◌, map, length, get_or, Bool, true, false, ◌==◌, ◌/◌, ◌%◌, ◌≤◌, Ok, refl, sym, ◌∙◌, ap, subst, arith}
 use Rattle.std.specs.Prelude.{codes, if◌then◌else◌, ◌&&◌, ltb, ◌≢◌, slice_index_or}
 use Rattle.std.specs.List.{All, onto_first, slice_split, join_with_byte}
+use Rattle.std.specs.Char.{is_ascii_graphic}
 use Rattle.std.specs.Fmt.{decimal}
 use Rattle.std.proofs.lemmas.Fmt.{decimal_is_IsNumeral}
 use Rattle.std.proofs.lemmas.Str.Parse.{digit_at}
 use Rattle.std.proofs.lemmas.List.Elements.{All-cons, All-nil, All-append, All-map, All-from_get_or, All-weaker}
 use Rattle.std.proofs.lemmas.List.{length-append}
+use Rattle.std.proofs.lemmas.List.Sums.{AllPass-from_list_all}
+use Rattle.std.proofs.lemmas.Bool.Decides.{nat_tests}
 use Rattle.std.proofs.lemmas.List.Splits.{slice_split_none, slice_split_at, join_with_byte-slice_split}
 use Rattle.hex.specs.Hex.{encode_with, encode_upper, upper_digits, decode_of, IsBytes}
 use Rattle.hex.proofs.HexLemmas.{length-encode_with, decode_of-encode_upper, decode_of-ok}
 use Rattle.nfc_base.specs.declared.event.Fate.{Fate}
 use Rattle.nfc_base.specs.declared.event.Fate.TheVariants.{Pass, Damage, Lose, Break}
 use Rattle.bench_script.specs.declared.command.Command.{Command}
-use Rattle.bench_script.specs.declared.command.Command.TheVariants.{Skip, Fates, PlaceT2, PlaceT4, PlaceT5, PlacePeer, Lock, Busy, Offer, Remove, Dump, Inbox, Find, Read, Write, Link}
+use Rattle.bench_script.specs.declared.command.Command.TheVariants.{Skip, Fates, PlaceT2, PlaceT4, PlaceT5, PlacePeer, Lock, Busy, Offer, Remove, Dump, Inbox, Find, Read, Write, Link, Put, Get, Lookup, Unlink}
 use Rattle.bench_script.specs.declared.command.DeviceId.{DeviceId}
 use Rattle.bench_script.specs.declared.command.DeviceId.TheVariants.{A, V}
 use Rattle.bench_script.specs.declared.message.Msg.{Msg}
 use Rattle.bench_script.specs.declared.message.Msg.TheVariants.{Hex, Gen}
-use Rattle.bench_script.specs.Script.{words_of, SpelledBy, Spells, SpellsHex, SpellsIdent, SpellsIdV, SpellsId, SpellsCounted, SpellsMsg, SpellsFates, fate_letter}
+use Rattle.bench_script.specs.Script.{words_of, SpelledBy, Spells, SpellsHex, SpellsIdent, SpellsIdV, SpellsId, SpellsCounted, SpellsMsg, SpellsFates, SpellsName, fate_letter}
 use Rattle.std.proofs.lemmas.Bool.{ne_eqb}
 use Rattle.bench_script.proofs.Spelling.{size_small, spells_words, spells_one}
 use Rattle.bench_script.specs.Canonical.{hex_text, id_text, message_text, fates_text, canonical_words, canonical, IsReadAs}
@@ -169,6 +172,15 @@ fates_too word fates s = record {
   spells = record { letters = refl; some = s.some; few = s.few };
   size = ap length s.letters;
   is = All-map (λ b. 32 < b) fate_letter fates (λ k d within. letter_visible (slice_index_or fates k d));
+}
+
+name_too : (word name : List ℕ) → SpellsName word name → SpellsToo (λ t. SpellsName t name) word name
+name_too word name s = record {
+  spells = record { is = refl; some = s.some; few = s.few; graphic = s.graphic };
+  size = ap length s.is;
+  is =
+      All-weaker (λ b. is_ascii_graphic b ≡ true) (λ b. 32 < b) (λ b visible. grind (arith, nat_tests)) name
+      (AllPass-from_list_all is_ascii_graphic name s.graphic);
 }
 
 -- Words that are joined are as long as others of the same lengths.
@@ -379,6 +391,31 @@ all_too (Write id message) ws (i, m, e, p, q) =
       are = (literal (codes "write") refl, (x.is, y.is));
     }
 all_too (Link id miu rw) ws s = link_too id miu rw ws s
+all_too (Put message) ws (m, e, p) =
+    let x = message_too m message p in
+    record {
+      spells = (message_text message, refl, x.spells);
+      sizes = ap (map length) e ∙ ap (λ n. 3 ∷ n ∷ []) x.size;
+      are = (literal (codes "put") refl, x.is);
+    }
+all_too (Get acceptable key) ws (n, k, e, p, q) =
+    let x = number_is n acceptable (let most : acceptable ≤ 65536 = p.2 in omega arith) p.0 in
+    let y = hex_too k key q in
+    let first : length n ≡ length (decimal acceptable) = x.size in
+    let second : length k ≡ length (hex_text key) = y.size in
+    record {
+      spells = (decimal acceptable, hex_text key, refl, (refl, p.1, p.2), y.spells);
+      sizes = cc;
+      are = (literal (codes "get") refl, (x.is, y.is));
+    }
+all_too (Lookup name) ws (n, e, p) =
+    let x = name_too n name p in
+    record {
+      spells = (name, refl, x.spells);
+      sizes = ap (map length) e ∙ ap (λ k. 6 ∷ k ∷ []) x.size;
+      are = (literal (codes "lookup") refl, x.is);
+    }
+all_too Unlink ws e = record { spells = refl; sizes = ap (map length) e; are = literal (codes "unlink") refl }
 
 spells_canonical : (line : List ℕ) (c : Command) → Spells line c → Spells (canonical c) c
 spells_canonical line Skip s = refl

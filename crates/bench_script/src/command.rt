@@ -119,6 +119,21 @@ pub enum Command {
         miu: u16,
         rw: u8,
     },
+    /// Puts a message to the server of the link's peer.
+    Put {
+        message: Msg,
+    },
+    /// Gets the value of a key from that server, of at most `acceptable` bytes.
+    Get {
+        acceptable: u32,
+        key: Items<u8>,
+    },
+    /// Asks the peer at which SAP the service with this name is.
+    Lookup {
+        name: Items<u8>,
+    },
+    /// Closes the link.
+    Unlink,
 }
 
 impl Command {
@@ -200,6 +215,17 @@ impl Command {
                 miu: *miu,
                 rw: *rw,
             }),
+            Command::Put { message } => Ok(Command::Put {
+                message: message.copy(alloc)?,
+            }),
+            Command::Get { acceptable, key } => Ok(Command::Get {
+                acceptable: *acceptable,
+                key: Items::from_bytes(alloc, key.as_slice())?,
+            }),
+            Command::Lookup { name } => Ok(Command::Lookup {
+                name: Items::from_bytes(alloc, name.as_slice())?,
+            }),
+            Command::Unlink => Ok(Command::Unlink),
         }
     }
 }

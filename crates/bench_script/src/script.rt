@@ -10,7 +10,7 @@ mod links;
 mod words;
 
 use crate::command::Command;
-use links::link_line;
+use links::{get_line, link_line, lookup_line, put_line};
 use std::alloc::{AllocError, Global};
 use thiserror::Error;
 use words::{
@@ -126,6 +126,9 @@ fn command_line(alloc: Global, line: &[u8]) -> Result<Command, LineFault>
         Some(CommandName::Read) => read_line(alloc, rest),
         Some(CommandName::Write) => write_line(alloc, rest),
         Some(CommandName::Link) => link_line(alloc, rest),
+        Some(CommandName::Put) => put_line(alloc, rest),
+        Some(CommandName::Get) => get_line(alloc, rest),
+        Some(CommandName::Lookup) => lookup_line(alloc, rest),
         None => Err(LineFault::Refused),
     }
 }
@@ -135,10 +138,13 @@ fn lone_word(name: &[u8]) -> Result<Command, LineFault>
     ensures ok { IfOk result (λ c. SpelledBy (name.now ∷ []) c) }
     ensures refused { IsErrOf result LineFault.Refused → SpellsNone (name.now ∷ []) }
 {
-    match name {
-        b"find" => Ok(Command::Find),
-        _ => Err(LineFault::Refused),
+    if name == b"find".as_slice() {
+        return Ok(Command::Find);
     }
+    if name == b"unlink".as_slice() {
+        return Ok(Command::Unlink);
+    }
+    Err(LineFault::Refused)
 }
 
 /// `fates FATES`, behind its first word.
