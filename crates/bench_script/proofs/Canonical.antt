@@ -2,23 +2,26 @@
 use Rattle.std.proofs.Common.{◌≡◌, ℕ, suc, ◌<◌, ◌^◌, ◌++◌, inl, inr, List, [], ◌∷◌, map, length, get_or, Bool, true, false, ◌==◌, ◌/◌, ◌%◌, ◌≤◌, Ok, refl, sym, ◌∙◌, ap, subst, arith}
 use Rattle.std.specs.Prelude.{codes, if◌then◌else◌, ◌&&◌, ltb, ◌≢◌, slice_index_or}
 use Rattle.std.specs.List.{All, onto_first, slice_split, join_with_byte}
+use Rattle.std.specs.Char.{is_ascii_graphic}
 use Rattle.std.specs.Fmt.{decimal}
 use Rattle.std.proofs.lemmas.Fmt.{decimal_is_IsNumeral}
 use Rattle.std.proofs.lemmas.Str.Parse.{digit_at}
 use Rattle.std.proofs.lemmas.List.Elements.{All-cons, All-nil, All-append, All-map, All-from_get_or, All-weaker}
 use Rattle.std.proofs.lemmas.List.{length-append}
+use Rattle.std.proofs.lemmas.List.Sums.{AllPass-from_list_all}
+use Rattle.std.proofs.lemmas.Bool.Decides.{nat_tests}
 use Rattle.std.proofs.lemmas.List.Splits.{slice_split_none, slice_split_at, join_with_byte-slice_split}
 use Rattle.hex.specs.Hex.{encode_with, encode_upper, upper_digits, decode_of, IsBytes}
 use Rattle.hex.proofs.HexLemmas.{length-encode_with, decode_of-encode_upper, decode_of-ok}
 use Rattle.nfc_base.specs.declared.event.Fate.{Fate}
 use Rattle.nfc_base.specs.declared.event.Fate.TheVariants.{Pass, Damage, Lose, Break}
 use Rattle.bench_script.specs.declared.command.Command.{Command}
-use Rattle.bench_script.specs.declared.command.Command.TheVariants.{Skip, Fates, PlaceT2, PlaceT4, PlaceT5, PlacePeer, Lock, Busy, Offer, Remove, Dump, Inbox, Find, Read, Write}
+use Rattle.bench_script.specs.declared.command.Command.TheVariants.{Skip, Fates, PlaceT2, PlaceT4, PlaceT5, PlacePeer, Lock, Busy, Offer, Remove, Dump, Inbox, Find, Read, Write, Link, Put, Get, Lookup, Unlink}
 use Rattle.bench_script.specs.declared.command.DeviceId.{DeviceId}
 use Rattle.bench_script.specs.declared.command.DeviceId.TheVariants.{A, V}
 use Rattle.bench_script.specs.declared.message.Msg.{Msg}
 use Rattle.bench_script.specs.declared.message.Msg.TheVariants.{Hex, Gen}
-use Rattle.bench_script.specs.Script.{words_of, SpelledBy, Spells, SpellsHex, SpellsIdent, SpellsIdV, SpellsId, SpellsCounted, SpellsMsg, SpellsFates, fate_letter}
+use Rattle.bench_script.specs.Script.{words_of, SpelledBy, Spells, SpellsHex, SpellsIdent, SpellsIdV, SpellsId, SpellsCounted, SpellsMsg, SpellsFates, SpellsName, fate_letter}
 use Rattle.std.proofs.lemmas.Bool.{ne_eqb}
 use Rattle.bench_script.proofs.Spelling.{size_small, spells_words, spells_one}
 use Rattle.bench_script.specs.Canonical.{hex_text, id_text, message_text, fates_text, canonical_words, canonical, IsReadAs}
@@ -171,6 +174,15 @@ fates_too word fates s = record {
   is = All-map (λ b. 32 < b) fate_letter fates (λ k d within. letter_visible (slice_index_or fates k d));
 }
 
+name_too : (word name : List ℕ) → SpellsName word name → SpellsToo (λ t. SpellsName t name) word name
+name_too word name s = record {
+  spells = record { is = refl; some = s.some; few = s.few; graphic = s.graphic };
+  size = ap length s.is;
+  is =
+      All-weaker (λ b. is_ascii_graphic b ≡ true) (λ b. 32 < b) (λ b visible. grind (arith, nat_tests)) name
+      (AllPass-from_list_all is_ascii_graphic name s.graphic);
+}
+
 -- Words that are joined are as long as others of the same lengths.
 joined_size : (vs ws : List (List ℕ)) → map length vs ≡ map length ws
     → length (join_with_byte 32 vs) ≡ length (join_with_byte 32 ws)
@@ -272,6 +284,21 @@ peer_too id lr miu rw limit ws (i, r, m, w, l, e, p, q, s, t, u) =
       are = (literal (codes "place") refl, (literal (codes "peer") refl, (x.is, (y.is, (z.is, (v.is, o.is))))));
     }
 
+link_too : (id : List ℕ) (miu rw : ℕ) (ws : List (List ℕ)) → SpelledBy ws (Link id miu rw)
+    → AllToo (Link id miu rw) ws (canonical_words (Link id miu rw))
+link_too id miu rw ws (i, m, w, e, p, q, r) =
+    let x = ident_too i id p in
+    let y = number_is m miu (let most : miu ≤ 2175 = q.2 in omega arith) q.0 in
+    let z = number_is w rw (let most : rw ≤ 15 = r.2 in omega arith) r.0 in
+    let first : length i ≡ length (encode_upper id) = x.size in
+    let second : length m ≡ length (decimal miu) = y.size in
+    let third : length w ≡ length (decimal rw) = z.size in
+    record {
+      spells = (encode_upper id, decimal miu, decimal rw, refl, x.spells, (refl, q.1, q.2), (refl, r.1, r.2));
+      sizes = cc;
+      are = (literal (codes "link") refl, (x.is, (y.is, z.is)));
+    }
+
 -- a name and an ID
 named_sizes : (ws : List (List ℕ)) (name i : List ℕ) (id : DeviceId) → ws ≡ name ∷ i ∷ [] → length i ≡ length (id_text id)
     → map length ws ≡ map length (name ∷ id_text id ∷ [])
@@ -363,6 +390,32 @@ all_too (Write id message) ws (i, m, e, p, q) =
       sizes = cc;
       are = (literal (codes "write") refl, (x.is, y.is));
     }
+all_too (Link id miu rw) ws s = link_too id miu rw ws s
+all_too (Put message) ws (m, e, p) =
+    let x = message_too m message p in
+    record {
+      spells = (message_text message, refl, x.spells);
+      sizes = ap (map length) e ∙ ap (λ n. 3 ∷ n ∷ []) x.size;
+      are = (literal (codes "put") refl, x.is);
+    }
+all_too (Get acceptable key) ws (n, k, e, p, q) =
+    let x = number_is n acceptable (let most : acceptable ≤ 65536 = p.2 in omega arith) p.0 in
+    let y = hex_too k key q in
+    let first : length n ≡ length (decimal acceptable) = x.size in
+    let second : length k ≡ length (hex_text key) = y.size in
+    record {
+      spells = (decimal acceptable, hex_text key, refl, (refl, p.1, p.2), y.spells);
+      sizes = cc;
+      are = (literal (codes "get") refl, (x.is, y.is));
+    }
+all_too (Lookup name) ws (n, e, p) =
+    let x = name_too n name p in
+    record {
+      spells = (name, refl, x.spells);
+      sizes = ap (map length) e ∙ ap (λ k. 6 ∷ k ∷ []) x.size;
+      are = (literal (codes "lookup") refl, x.is);
+    }
+all_too Unlink ws e = record { spells = refl; sizes = ap (map length) e; are = literal (codes "unlink") refl }
 
 spells_canonical : (line : List ℕ) (c : Command) → Spells line c → Spells (canonical c) c
 spells_canonical line Skip s = refl

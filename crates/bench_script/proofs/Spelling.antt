@@ -8,7 +8,7 @@ use Rattle.nfc_base.specs.declared.event.Fate.TheVariants.{Pass, Damage, Lose, B
 use Rattle.hex.specs.Hex.{decode_of}
 use Rattle.hex.proofs.HexLemmas.{decode_of-same}
 use Rattle.bench_script.specs.declared.command.Command.{Command}
-use Rattle.bench_script.specs.declared.command.Command.TheVariants.{Skip, Fates, PlaceT2, PlaceT4, PlaceT5, PlacePeer, Lock, Busy, Offer, Remove, Dump, Inbox, Find, Read, Write}
+use Rattle.bench_script.specs.declared.command.Command.TheVariants.{Skip, Fates, PlaceT2, PlaceT4, PlaceT5, PlacePeer, Lock, Busy, Offer, Remove, Dump, Inbox, Find, Read, Write, Link, Put, Get, Lookup, Unlink}
 use Rattle.bench_script.specs.declared.command.DeviceId.{DeviceId}
 use Rattle.bench_script.specs.declared.command.DeviceId.TheVariants.{A, V}
 use Rattle.bench_script.specs.declared.message.Msg.{Msg}
@@ -16,7 +16,7 @@ use Rattle.bench_script.specs.declared.message.Msg.TheVariants.{Hex, Gen}
 use Rattle.bench_script.specs.declared.script.words.CommandName.{CommandName}
 use Rattle.bench_script.specs.declared.script.words.CommandName.TheVariants as names
 use Rattle.bench_script.specs.Words.{name_text}
-use Rattle.bench_script.specs.Script.{words_of, is_skipped, SpellsHex, SpellsIdent, SpellsIdV, SpellsId, SpellsWithin, SpellsSize, SpellsCode, SpellsBlock, fate_letter, SpellsFates, SpellsMsg, SpelledBy, Spells, least_blocks, most_blocks, least_blocks_v, most_blocks_v, least_lr, most_lr, least_miu, most_miu, least_rw, most_rw, least_limit, most_limit, least_busy, most_busy, least_times, most_times}
+use Rattle.bench_script.specs.Script.{words_of, is_skipped, SpellsHex, SpellsIdent, SpellsIdV, SpellsId, SpellsWithin, SpellsSize, SpellsCode, SpellsBlock, fate_letter, SpellsFates, SpellsMsg, SpellsName, SpelledBy, Spells, least_blocks, most_blocks, least_blocks_v, most_blocks_v, least_lr, most_lr, least_miu, most_miu, least_rw, most_rw, least_limit, most_limit, least_busy, most_busy, least_times, most_times, least_acceptable, most_acceptable}
 use Rattle.nfca_poll.specs.Ident.{IsIdent}
 use Rattle.t5t_tag.specs.Store.{IsBlockSize}
 use Rattle.std.proofs.lemmas.Bool.{ne_eqb}
@@ -132,6 +132,16 @@ inbox_differs : (ws xs ys : List (List ℕ)) → ws ≡ codes "inbox" ∷ xs →
 unfolding first_byte
 inbox_differs ws xs ys p q = let h : 105 ≡ 102 = ap first_byte (sym p ∙ q) in omega (arith, h)
 
+-- `link` isn't `busy`
+link_differs : (ws xs ys : List (List ℕ)) → ws ≡ codes "link" ∷ xs → ws ≡ codes "busy" ∷ ys → ⊥
+unfolding first_byte
+link_differs ws xs ys p q = let h : 108 ≡ 98 = ap first_byte (sym p ∙ q) in omega (arith, h)
+
+-- `lookup` isn't `remove`
+lookup_differs : (ws xs ys : List (List ℕ)) → ws ≡ codes "lookup" ∷ xs → ws ≡ codes "remove" ∷ ys → ⊥
+unfolding first_byte
+lookup_differs ws xs ys p q = let h : 108 ≡ 114 = ap first_byte (sym p ∙ q) in omega (arith, h)
+
 -- where the first words are alike, so are the values; words that differ spell no two commands
 pub spelled_one : (ws : List (List ℕ)) (c d : Command) → SpelledBy ws c → SpelledBy ws d → c ≡ d
 spelled_one ws (Fates a) (Fates b) (v, e, p) (w, f, q) =
@@ -178,6 +188,27 @@ spelled_one ws (Write i m) (Write j n) (u, v, e, p, r) (u', v', e', p', r') =
     let ids : i ≡ j = id_one u' i j (let P : List ℕ → Type 0 = λ t. SpellsId t i in subst P first p) p' in
     let messages : m ≡ n = message_one v' m n (let P : List ℕ → Type 0 = λ t. SpellsMsg t m in subst P second r) r' in
     cc
+spelled_one ws (Link i m g) (Link j n h) (u, v, w, e, p, r, s) (u', v', w', e', p', r', s') =
+    let first : u ≡ u' = cc in
+    let second : v ≡ v' = cc in
+    let third : w ≡ w' = cc in
+    let ids : i ≡ j = ident_one u' i j (let P : List ℕ → Type 0 = λ t. SpellsIdent t i in subst P first p) p' in
+    let units : m ≡ n = within_one least_miu most_miu (omega arith) v' m n (let P : List ℕ → Type 0 = λ t. SpellsWithin least_miu most_miu t m in subst P second r) r' in
+    let windows : g ≡ h = within_one least_rw most_rw (omega arith) w' g h (let P : List ℕ → Type 0 = λ t. SpellsWithin least_rw most_rw t g in subst P third s) s' in
+    cc
+spelled_one ws (Put a) (Put b) (v, e, p) (w, f, q) =
+    let same : v ≡ w = cc in
+    ap (λ x. let c : Command = Put x in c) (message_one w a b (let P : List ℕ → Type 0 = λ t. SpellsMsg t a in subst P same p) q)
+spelled_one ws (Get m g) (Get n h) (u, v, e, p, r) (u', v', e', p', r') =
+    let first : u ≡ u' = cc in
+    let second : v ≡ v' = cc in
+    let sizes : m ≡ n = within_one least_acceptable most_acceptable (omega arith) u' m n (let P : List ℕ → Type 0 = λ t. SpellsWithin least_acceptable most_acceptable t m in subst P first p) p' in
+    let keys : g ≡ h = hex_one v' g h (let P : List ℕ → Type 0 = λ t. SpellsHex t g in subst P second r) r' in
+    cc
+spelled_one ws (Lookup a) (Lookup b) (v, e, p) (w, f, q) =
+    let same : v ≡ w = cc in
+    ap (λ x. let c : Command = Lookup x in c) (sym p.is ∙ same ∙ q.is)
+spelled_one ws Unlink Unlink p q = refl
 spelled_one ws (PlaceT2 i m g) (PlaceT2 j n h) (u, v, w, e, p, r, s) (u', v', w', e', p', r', s') =
     let first : u ≡ u' = cc in
     let second : v ≡ v' = cc in
@@ -224,6 +255,10 @@ spelled_one ws (Dump i) (Read j) (v, e, p) (w, f, q) = absurd (dump_differs ws (
 spelled_one ws (Read i) (Dump j) (v, e, p) (w, f, q) = absurd (dump_differs ws (w ∷ []) (v ∷ []) f e)
 spelled_one ws (Inbox i) (Fates b) (v, e, p) (w, f, q) = absurd (inbox_differs ws (v ∷ []) (w ∷ []) e f)
 spelled_one ws (Fates a) (Inbox j) (v, e, p) (w, f, q) = absurd (inbox_differs ws (w ∷ []) (v ∷ []) f e)
+spelled_one ws (Link i m g) (Busy j n h) (u, v, w, e, p, r, s) (u', v', w', e', p', r', s') = absurd (link_differs ws (u ∷ v ∷ w ∷ []) (u' ∷ v' ∷ w' ∷ []) e e')
+spelled_one ws (Busy i m g) (Link j n h) (u, v, w, e, p, r, s) (u', v', w', e', p', r', s') = absurd (link_differs ws (u' ∷ v' ∷ w' ∷ []) (u ∷ v ∷ w ∷ []) e' e)
+spelled_one ws (Lookup i) (Remove j) (v, e, p) (w, f, q) = absurd (lookup_differs ws (v ∷ []) (w ∷ []) e f)
+spelled_one ws (Remove i) (Lookup j) (v, e, p) (w, f, q) = absurd (lookup_differs ws (w ∷ []) (v ∷ []) f e)
 spelled_one ws Skip d p q = absurd p
 spelled_one ws c Skip p q = absurd q
 spelled_one ws c d p q = absurd cc
@@ -245,6 +280,11 @@ nameless w ws none some (Remove id) (i, e, p) = none names.Remove (let h : w ≡
 nameless w ws none some Find e = some (let h : ws ≡ [] = cc in h)
 nameless w ws none some (Read id) (i, e, p) = none names.Read (let h : w ≡ codes "read" = cc in h)
 nameless w ws none some (Write id message) (i, m, e, p, q) = none names.Write (let h : w ≡ codes "write" = cc in h)
+nameless w ws none some (Link id miu rw) (i, m, v, e, p, q, r) = none names.Link (let h : w ≡ codes "link" = cc in h)
+nameless w ws none some (Put message) (m, e, p) = none names.Put (let h : w ≡ codes "put" = cc in h)
+nameless w ws none some (Get acceptable key) (n, k, e, p, q) = none names.Get (let h : w ≡ codes "get" = cc in h)
+nameless w ws none some (Lookup name) (n, e, p) = none names.Lookup (let h : w ≡ codes "lookup" = cc in h)
+nameless w ws none some Unlink e = some (let h : ws ≡ [] = cc in h)
 
 -- three words of which the last is no HEX place no tag
 pub head_refused : (ws : List (List ℕ)) (i b h : List ℕ) → ws ≡ i ∷ b ∷ h ∷ [] → ((bytes : List ℕ) → SpellsHex h bytes → ⊥)
@@ -302,6 +342,15 @@ value_refused ws i k v e none (Offer id key value) (i', k', v', e', p, q, r) =
 value_refused ws i k v e none Skip p = p
 value_refused ws i k v e none c p = cc
 
+-- the key of a get is HEX
+pub asked_key_refused : (ws : List (List ℕ)) (n k : List ℕ) → ws ≡ n ∷ k ∷ [] → ((bytes : List ℕ) → SpellsHex k bytes → ⊥)
+    → (c : Command) → SpelledBy (codes "get" ∷ ws) c → ⊥
+asked_key_refused ws n k e none (Get acceptable key) (n', k', e', p, q) =
+    let same : k' ≡ k = cc in
+    none key (let P : List ℕ → Type 0 = λ t. SpellsHex t key in subst P same q)
+asked_key_refused ws n k e none Skip p = p
+asked_key_refused ws n k e none c p = cc
+
 -- a line that is skipped spells nothing else
 onto_begins : (b : ℕ) (ws : List (List ℕ)) → first_byte (onto_first b ws) ≡ b
 unfolding first_byte
@@ -325,6 +374,11 @@ hash_begins_none ws (Remove id) (i, e, p) h = omega (arith, h, ap first_byte e)
 hash_begins_none ws Find e h = omega (arith, h, ap first_byte e)
 hash_begins_none ws (Read id) (i, e, p) h = omega (arith, h, ap first_byte e)
 hash_begins_none ws (Write id message) (i, m, e, p, q) h = omega (arith, h, ap first_byte e)
+hash_begins_none ws (Link id miu rw) (i, m, w, e, p, q, r) h = omega (arith, h, ap first_byte e)
+hash_begins_none ws (Put message) (m, e, p) h = omega (arith, h, ap first_byte e)
+hash_begins_none ws (Get acceptable key) (n, k, e, p, q) h = omega (arith, h, ap first_byte e)
+hash_begins_none ws (Lookup name) (n, e, p) h = omega (arith, h, ap first_byte e)
+hash_begins_none ws Unlink e h = omega (arith, h, ap first_byte e)
 
 words_begin : (b : ℕ) (bs : List ℕ) → b ≡ 35 → first_byte (words_of (b ∷ bs)) ≡ 35
 words_begin b bs hash =

@@ -6,7 +6,7 @@ use Rattle.std.specs.Fmt.{decimal}
 use Rattle.hex.specs.Hex.{encode_upper}
 use Rattle.nfc_base.specs.declared.event.Fate.{Fate}
 use Rattle.bench_script.specs.declared.command.Command.{Command}
-use Rattle.bench_script.specs.declared.command.Command.TheVariants.{Skip, Fates, PlaceT2, PlaceT4, PlaceT5, PlacePeer, Lock, Busy, Offer, Remove, Dump, Inbox, Find, Read, Write}
+use Rattle.bench_script.specs.declared.command.Command.TheVariants.{Skip, Fates, PlaceT2, PlaceT4, PlaceT5, PlacePeer, Lock, Busy, Offer, Remove, Dump, Inbox, Find, Read, Write, Link, Put, Get, Lookup, Unlink}
 use Rattle.bench_script.specs.declared.command.DeviceId.{DeviceId}
 use Rattle.bench_script.specs.declared.message.Msg.{Msg}
 use Rattle.bench_script.specs.declared.message.Msg.TheVariants.{Hex, Gen}
@@ -54,6 +54,11 @@ canonical_words (Inbox id) = codes "inbox" ∷ id_text id ∷ []
 canonical_words Find = codes "find" ∷ []
 canonical_words (Read id) = codes "read" ∷ id_text id ∷ []
 canonical_words (Write id message) = codes "write" ∷ id_text id ∷ message_text message ∷ []
+canonical_words (Link id miu rw) = codes "link" ∷ encode_upper id ∷ decimal miu ∷ decimal rw ∷ []
+canonical_words (Put message) = codes "put" ∷ message_text message ∷ []
+canonical_words (Get acceptable key) = codes "get" ∷ decimal acceptable ∷ hex_text key ∷ []
+canonical_words (Lookup name) = codes "lookup" ∷ name ∷ []
+canonical_words Unlink = codes "unlink" ∷ []
 
 -- the words, parted by one space each
 abbrev pub canonical : Command → List ℕ

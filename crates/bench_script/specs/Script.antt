@@ -1,6 +1,7 @@
 -- How a script is written; the language is this project's own.
 use Rattle.std.specs.Prelude.{◌≡◌, ℕ, ◌^◌, ◌<◌, ◌≤◌, ◌⊎◌, ◌++◌, List, [], ◌∷◌, map, Bool, true, codes, length, ◌==◌, if◌then◌else◌, Ok}
-use Rattle.std.specs.List.{onto_first}
+use Rattle.std.specs.Char.{is_ascii_graphic}
+use Rattle.std.specs.List.{onto_first, list_all}
 use Rattle.std.specs.Fmt.{decimal}
 use Rattle.hex.specs.Hex.{decode_of}
 use Rattle.t4t_tag.specs.Store.{most_code}
@@ -9,7 +10,7 @@ use Rattle.nfc_base.specs.declared.event.Fate.TheVariants.{Pass, Damage, Lose, B
 use Rattle.nfca_poll.specs.Ident.{IsIdent}
 use Rattle.t5t_tag.specs.Store.{IsBlockSize}
 use Rattle.bench_script.specs.declared.command.Command.{Command}
-use Rattle.bench_script.specs.declared.command.Command.TheVariants.{Skip, Fates, PlaceT2, PlaceT4, PlaceT5, PlacePeer, Lock, Busy, Offer, Remove, Dump, Inbox, Find, Read, Write}
+use Rattle.bench_script.specs.declared.command.Command.TheVariants.{Skip, Fates, PlaceT2, PlaceT4, PlaceT5, PlacePeer, Lock, Busy, Offer, Remove, Dump, Inbox, Find, Read, Write, Link, Put, Get, Lookup, Unlink}
 use Rattle.bench_script.specs.declared.command.DeviceId.{DeviceId}
 use Rattle.bench_script.specs.declared.command.DeviceId.TheVariants.{A, V}
 use Rattle.bench_script.specs.declared.message.Msg.{Msg}
@@ -73,15 +74,15 @@ least_lr = 0
 abbrev pub most_lr : ℕ
 most_lr = 3
 
--- MIU: how many bytes of information a PDU to a peer has at most (NFC Forum LLCP)
+-- MIU: how many bytes of information a PDU to an end of a link has at most, a peer's or the reader's (NFC Forum LLCP)
 abbrev pub least_miu : ℕ
 least_miu = 128
 
 abbrev pub most_miu : ℕ
 most_miu = 2175
 
--- RW: how many I PDUs a peer can take that it hasn't acknowledged (NFC Forum LLCP; a window of 0, by which every connection is
--- refused, is left out)
+-- RW: how many I PDUs an end of a link can take that it hasn't acknowledged (NFC Forum LLCP; a window of 0, by which every
+-- connection is refused, is left out)
 abbrev pub least_rw : ℕ
 least_rw = 1
 
@@ -127,6 +128,24 @@ abbrev pub SpellsMsg : List ℕ → Msg → Type 0
 SpellsMsg word (Hex bytes) = SpellsHex word bytes
 SpellsMsg word (Gen count start) = SpellsCounted word count start
 
+-- N: how many bytes the value of a key may have that a get takes
+abbrev pub least_acceptable : ℕ
+least_acceptable = 0
+
+abbrev pub most_acceptable : ℕ
+most_acceptable = 65536
+
+-- how many characters the name of a service has at most
+abbrev pub longest_name : ℕ
+longest_name = 64
+
+-- NAME: at least one character, each from 21h to 7Eh, as they stand
+pub record SpellsName (word name : List ℕ) : Type 0 where
+  pub is : word ≡ name
+  pub some : 0 < length name
+  pub few : length name ≤ longest_name
+  pub graphic : list_all is_ascii_graphic name ≡ true
+
 -- the letter of a fate, in upper case alone: P, D, L or B
 abbrev pub fate_letter : Fate → ℕ
 fate_letter Pass = 80
@@ -151,7 +170,7 @@ is_skipped (b ∷ bs) = b == 35
 
 -- `fates FATES`, `place t2 ID BLOCKS HEX`, `place t4 ID CODE HEX HEX`, `place t5 ID BLOCKS SIZE HEX`,
 -- `place peer ID LR MIU RW LIMIT`, `lock ID BLOCK`, `busy ID COUNT TIMES`, `offer ID HEX HEX`, `remove ID`, `dump ID`, `inbox ID`,
--- `find`, `read ID` and `write ID MSG`
+-- `find`, `read ID`, `write ID MSG`, `link ID MIU RW`, `put MSG`, `get N HEX`, `lookup NAME` and `unlink`
 abbrev pub SpelledBy : List (List ℕ) → Command → Type 0
 SpelledBy ws Skip = ⊥
 SpelledBy ws (Fates fates) = (f : List ℕ) × (ws ≡ codes "fates" ∷ f ∷ []) × SpellsFates f fates
@@ -181,6 +200,15 @@ SpelledBy ws Find = ws ≡ codes "find" ∷ []
 SpelledBy ws (Read id) = (i : List ℕ) × (ws ≡ codes "read" ∷ i ∷ []) × SpellsId i id
 SpelledBy ws (Write id message) =
     (i m : List ℕ) × (ws ≡ codes "write" ∷ i ∷ m ∷ []) × SpellsId i id × SpellsMsg m message
+SpelledBy ws (Link id miu rw) =
+    (i m w : List ℕ) × (ws ≡ codes "link" ∷ i ∷ m ∷ w ∷ [])
+    × SpellsIdent i id × SpellsWithin least_miu most_miu m miu × SpellsWithin least_rw most_rw w rw
+SpelledBy ws (Put message) = (m : List ℕ) × (ws ≡ codes "put" ∷ m ∷ []) × SpellsMsg m message
+SpelledBy ws (Get acceptable key) =
+    (n k : List ℕ) × (ws ≡ codes "get" ∷ n ∷ k ∷ [])
+    × SpellsWithin least_acceptable most_acceptable n acceptable × SpellsHex k key
+SpelledBy ws (Lookup name) = (n : List ℕ) × (ws ≡ codes "lookup" ∷ n ∷ []) × SpellsName n name
+SpelledBy ws Unlink = ws ≡ codes "unlink" ∷ []
 
 -- the line spells the command
 abbrev pub Spells : List ℕ → Command → Type 0

@@ -113,6 +113,27 @@ pub enum Command {
         id: DeviceId,
         message: Msg,
     },
+    /// Opens a link to a peer, with this MIU and window of the reader's end.
+    Link {
+        id: Ident,
+        miu: u16,
+        rw: u8,
+    },
+    /// Puts a message to the server of the link's peer.
+    Put {
+        message: Msg,
+    },
+    /// Gets the value of a key from that server, of at most `acceptable` bytes.
+    Get {
+        acceptable: u32,
+        key: Items<u8>,
+    },
+    /// Asks the peer at which SAP the service with this name is.
+    Lookup {
+        name: Items<u8>,
+    },
+    /// Closes the link.
+    Unlink,
 }
 
 impl Command {
@@ -189,6 +210,22 @@ impl Command {
                 id: id.copy(),
                 message: message.copy(alloc)?,
             }),
+            Command::Link { id, miu, rw } => Ok(Command::Link {
+                id: id.copy(),
+                miu: *miu,
+                rw: *rw,
+            }),
+            Command::Put { message } => Ok(Command::Put {
+                message: message.copy(alloc)?,
+            }),
+            Command::Get { acceptable, key } => Ok(Command::Get {
+                acceptable: *acceptable,
+                key: Items::from_bytes(alloc, key.as_slice())?,
+            }),
+            Command::Lookup { name } => Ok(Command::Lookup {
+                name: Items::from_bytes(alloc, name.as_slice())?,
+            }),
+            Command::Unlink => Ok(Command::Unlink),
         }
     }
 }

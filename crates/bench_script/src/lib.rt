@@ -7,6 +7,8 @@
 #![tactic(auto)]
 
 mod command;
+#[cfg(test)]
+mod link_tests;
 mod message;
 #[cfg(test)]
 mod peer_tests;

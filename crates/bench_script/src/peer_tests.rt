@@ -4,7 +4,16 @@ use crate::command::{Command, DeviceId};
 use crate::script::parse_line;
 use nfc_base::Items;
 use nfca_poll::Ident;
+use std::alloc::Global;
 use std::test::Fail;
+
+/// The number of a line's fault, 0 of a line that is taken.
+pub fn fault_of(alloc: Global, line: &str) -> u8 {
+    match parse_line(alloc, line.as_bytes()) {
+        Ok(_) => 0,
+        Err(fault) => fault.number(),
+    }
+}
 
 #[test]
 fn lines_of_peers(rt: HostRuntime) {
@@ -36,11 +45,7 @@ fn lines_of_peers(rt: HostRuntime) {
         ("inbox 01020304 1", 1),
     ];
     for (line, wanted) in rows {
-        let fault = match parse_line(rt.alloc(), line.as_bytes()) {
-            Ok(_) => 0,
-            Err(fault) => fault.number(),
-        };
-        assert_eq!(rt; fault, wanted, "{line}");
+        assert_eq!(rt; fault_of(rt.alloc(), line), wanted, "{line}");
     }
 }
 

@@ -6,9 +6,11 @@ ghost use Rattle.bench_script.specs.Script.{words_of, is_skipped, SpelledBy, Spe
 ghost use Rattle.bench_script.specs.declared.command.Command.{Command};
 ghost use Rattle.bench_script.specs.declared.script.LineFault.TheVariants.{Memory};
 
+mod links;
 mod words;
 
 use crate::command::Command;
+use links::{get_line, link_line, lookup_line, put_line};
 use std::alloc::{AllocError, Global};
 use thiserror::Error;
 use words::{
@@ -33,12 +35,12 @@ const LEAST_LR: u8 = 0;
 
 const MOST_LR: u8 = 3;
 
-/// How many bytes of information a PDU to a peer may have (NFC Forum LLCP).
+/// How many bytes of information a PDU to an end of a link may have, a peer's or the reader's (NFC Forum LLCP).
 const LEAST_MIU: u16 = 128;
 
 const MOST_MIU: u16 = 2175;
 
-/// How many I PDUs a peer can take that it hasn't acknowledged (NFC Forum LLCP).
+/// How many I PDUs such an end can take that it hasn't acknowledged (NFC Forum LLCP).
 const LEAST_RW: u8 = 1;
 
 const MOST_RW: u8 = 15;
@@ -123,6 +125,10 @@ fn command_line(alloc: Global, line: &[u8]) -> Result<Command, LineFault>
         Some(CommandName::Inbox) => inbox_line(alloc, rest),
         Some(CommandName::Read) => read_line(alloc, rest),
         Some(CommandName::Write) => write_line(alloc, rest),
+        Some(CommandName::Link) => link_line(alloc, rest),
+        Some(CommandName::Put) => put_line(alloc, rest),
+        Some(CommandName::Get) => get_line(alloc, rest),
+        Some(CommandName::Lookup) => lookup_line(alloc, rest),
         None => Err(LineFault::Refused),
     }
 }
@@ -132,10 +138,13 @@ fn lone_word(name: &[u8]) -> Result<Command, LineFault>
     ensures ok { IfOk result (λ c. SpelledBy (name.now ∷ []) c) }
     ensures refused { IsErrOf result LineFault.Refused → SpellsNone (name.now ∷ []) }
 {
-    match name {
-        b"find" => Ok(Command::Find),
-        _ => Err(LineFault::Refused),
+    if name == b"find".as_slice() {
+        return Ok(Command::Find);
     }
+    if name == b"unlink".as_slice() {
+        return Ok(Command::Unlink);
+    }
+    Err(LineFault::Refused)
 }
 
 /// `fates FATES`, behind its first word.

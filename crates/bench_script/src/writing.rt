@@ -88,6 +88,26 @@ impl Command {
                 add_named(line, b"write", id)?;
                 add_message(line, message)
             }
+            Command::Link { id, miu, rw } => {
+                line.extend_from_slice(b"link")?;
+                add_digits(line, id.view())?;
+                add_number(line, *miu as u32)?;
+                add_number(line, *rw as u32)
+            }
+            Command::Put { message } => {
+                line.extend_from_slice(b"put")?;
+                add_message(line, message)
+            }
+            Command::Get { acceptable, key } => {
+                line.extend_from_slice(b"get")?;
+                add_number(line, *acceptable)?;
+                add_hex(line, key.as_slice())
+            }
+            Command::Lookup { name } => {
+                line.extend_from_slice(b"lookup ")?;
+                line.extend_from_slice(name.as_slice())
+            }
+            Command::Unlink => line.extend_from_slice(b"unlink"),
         }
     }
 }

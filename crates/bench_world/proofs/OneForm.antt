@@ -126,6 +126,17 @@ module _ (how : How) (size : ℕ) (store : List ℕ) where
   tells_form (answers.TooLong room) t = absurd t
   tells_form answers.ShortMlc t = absurd t
   tells_form answers.WrongKind t = absurd t
+  tells_form (answers.Linked link) t = absurd t
+  tells_form answers.Success t = absurd t
+  tells_form answers.Reject t = absurd t
+  tells_form (answers.Value value) t = absurd t
+  tells_form answers.NoValue t = absurd t
+  tells_form answers.Excess t = absurd t
+  tells_form answers.NotImplemented t = absurd t
+  tells_form (answers.Sap sap) t = absurd t
+  tells_form (answers.LinkEnded loss) t = absurd t
+  tells_form answers.Unlinked t = absurd t
+  tells_form answers.NoLink t = absurd t
 
   -- A store is told in one way.
   pub one_telling : (a b : Answer) → Tells how size store a → Tells how size store b → a ≡ b

@@ -18,7 +18,7 @@ use Rattle.nfc_base.specs.declared.event.Fate.{Fate}
 use Rattle.nfc_base.specs.declared.event.Fate.TheVariants.{Pass, Damage, Lose, Break}
 use Rattle.bench_script.specs.Canonical.{hex_text}
 use Rattle.bench_world.specs.declared.entry.Answer.{Answer as Said}
-use Rattle.bench_world.specs.declared.entry.Answer.TheVariants.{Done, Store, Found, Message, NotNdef, Version, NoRead, Sectors, BadSize, NoMessageTlv, BadTlv, Disturbed, FieldLost, NotFound, SixBad, Written, Refused, ReadOnly, TooLong, ShortMlc, WrongKind, Inbox}
+use Rattle.bench_world.specs.declared.entry.Answer.TheVariants.{Done, Store, Found, Message, NotNdef, Version, NoRead, Sectors, BadSize, NoMessageTlv, BadTlv, Disturbed, FieldLost, NotFound, SixBad, Written, Refused, ReadOnly, TooLong, ShortMlc, WrongKind, Inbox, Linked, Success, Reject, Value, NoValue, Excess, NotImplemented, Sap, LinkEnded, Unlinked, NoLink}
 use Rattle.bench_world.specs.Report.{tail_text, frame_text, fate_text, sent_text, event_text, answer_text, line_text}
 use Rattle.bench_world.specs.ReadBack.{IsOf, LinesTellEvents, AnswersApart}
 
@@ -225,6 +225,17 @@ letter_first (Store bytes) = omega arith
 letter_first (Inbox messages) = omega arith
 letter_first (Found devices crowd) = omega arith
 letter_first (Message message writable) = omega arith
+letter_first (Linked link) = omega arith
+letter_first Success = omega arith
+letter_first Reject = omega arith
+letter_first (Value value) = omega arith
+letter_first NoValue = omega arith
+letter_first Excess = omega arith
+letter_first NotImplemented = omega arith
+letter_first (Sap sap) = omega arith
+letter_first (LinkEnded loss) = omega arith
+letter_first Unlinked = omega arith
+letter_first NoLink = omega arith
 
 pub answers_apart : AnswersApart
 answers_apart = λ n k e a small less same.

@@ -10,8 +10,10 @@ use Rattle.nfc_base.specs.declared.event.Event.TheVariants.{Reset, Request, Answ
 use Rattle.nfc_base.specs.declared.event.Fate.{Fate}
 use Rattle.nfc_base.specs.declared.event.Fate.TheVariants.{Pass, Damage, Lose, Break}
 use Rattle.bench_world.specs.declared.entry.Answer.{Answer as Said}
-use Rattle.bench_world.specs.declared.entry.Answer.TheVariants.{Done, Store, Found, Message, NotNdef, Version, NoRead, Sectors, BadSize, NoMessageTlv, BadTlv, Disturbed, FieldLost, NotFound, SixBad, Written, Refused, ReadOnly, TooLong, ShortMlc, WrongKind, Inbox}
+use Rattle.bench_world.specs.declared.entry.Answer.TheVariants.{Done, Store, Found, Message, NotNdef, Version, NoRead, Sectors, BadSize, NoMessageTlv, BadTlv, Disturbed, FieldLost, NotFound, SixBad, Written, Refused, ReadOnly, TooLong, ShortMlc, WrongKind, Inbox, Linked, Success, Reject, Value, NoValue, Excess, NotImplemented, Sap, LinkEnded, Unlinked, NoLink}
 use Rattle.bench_world.specs.declared.entry.Entry.{Entry}
+use Rattle.bench_world.specs.declared.entry.Loss.{Loss}
+use Rattle.bench_world.specs.declared.entry.Loss.TheVariants as losses
 use Rattle.bench_world.specs.declared.entry.Received.{Received}
 use Rattle.bench_world.specs.declared.entry.Seen.{Seen}
 use Rattle.bench_devices.specs.declared.polling.SeenKind.{SeenKind}
@@ -85,6 +87,11 @@ received_text r = codes " " ++ decimal r.link ++ source_text r.source ++ codes "
 abbrev pub inbox_text : List Received → List ℕ
 inbox_text messages = codes "inbox " ++ decimal (length messages) ++ flat_map received_text messages
 
+-- how a link was lost
+abbrev pub loss_text : Loss → List ℕ
+loss_text losses.FieldLost = codes "field lost"
+loss_text losses.SixBad = codes "six bad"
+
 -- ANSWER
 abbrev pub answer_text : Said → List ℕ
 answer_text Done = codes "ok"
@@ -109,6 +116,17 @@ answer_text (Store bytes) = codes "store " ++ hex_text bytes
 answer_text (Inbox messages) = inbox_text messages
 answer_text (Found devices crowd) = found_text devices crowd
 answer_text (Message message writable) = codes "message " ++ hex_text message ++ codes " " ++ access_text writable
+answer_text (Linked link) = codes "linked " ++ decimal link
+answer_text Success = codes "success"
+answer_text Reject = codes "reject"
+answer_text (Value value) = codes "value " ++ hex_text value
+answer_text NoValue = codes "no value"
+answer_text Excess = codes "excess"
+answer_text NotImplemented = codes "not implemented"
+answer_text (Sap sap) = codes "sap " ++ decimal sap
+answer_text (LinkEnded loss) = codes "link ended " ++ loss_text loss
+answer_text Unlinked = codes "unlinked"
+answer_text NoLink = codes "no link"
 
 -- a line of the report, for line n of the script
 abbrev pub line_text : ℕ → List ℕ → List ℕ

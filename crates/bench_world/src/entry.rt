@@ -21,6 +21,13 @@ pub struct Received {
     pub message: Items<u8>,
 }
 
+/// How a link was lost: the field went dark, or nothing whole was heard in six tries.
+#[derive(Clone, Copy, Debug, PartialEq, Eq)]
+pub enum Loss {
+    FieldLost,
+    SixBad,
+}
+
 /// The bench's answer to a command.
 #[derive(Debug, Drop, PartialEq)]
 pub enum Answer {
@@ -50,7 +57,7 @@ pub enum Answer {
     FieldLost,
     /// No device with this identifier was found.
     NotFound,
-    /// The device is a peer, which holds no message as tags do.
+    /// The device is a peer, which holds no message as tags do, or, of a link, a tag, which has no link as peers do.
     WrongKind,
     /// Nothing whole was heard in six tries.
     SixBad,
@@ -64,6 +71,24 @@ pub enum Answer {
     TooLong(u32),
     /// One update of the file brings fewer bytes than its length has.
     ShortMlc,
+    /// A link to a peer is open, and this is its number.
+    Linked(u32),
+    /// The peer's server took the message, or it refused one that is too long.
+    Success,
+    Reject,
+    /// It has this value for a key, or none, or a longer one than the client takes, or it has no values at all.
+    Value(Items<u8>),
+    NoValue,
+    Excess,
+    NotImplemented,
+    /// The SAP of a service, 0 where the peer has none of this name.
+    Sap(u8),
+    /// The link was lost, and is no more.
+    LinkEnded(Loss),
+    /// The link was closed.
+    Unlinked,
+    /// No link is open.
+    NoLink,
 }
 
 /// A command that was obeyed: the number of its line, from 1 on, what happened on the air meanwhile, and the answer.

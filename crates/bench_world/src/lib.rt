@@ -25,7 +25,7 @@ mod report;
 
 pub use bench::{Bench, ObeyFault};
 pub use bench_devices::{Device, SeenKind};
-pub use entry::{Answer, Entry, Received, Seen};
+pub use entry::{Answer, Entry, Loss, Received, Seen};
 pub use event_lines::event_line;
 pub use law::{
     finds_complete, lines_decide, lines_tell_events, quiet_air, reads_behind, reads_complete,

@@ -4,9 +4,9 @@ ghost use Rattle.std.specs.Prelude.{◌≡◌, ◌+◌, ◌*◌, ◌<◌, ◌≤
 ghost use Rattle.std.specs.Fmt.{decimal};
 ghost use Rattle.hex.specs.Hex.{encode_upper};
 ghost use Rattle.bench_script.specs.Canonical.{hex_text};
-ghost use Rattle.bench_world.specs.Report.{access_text, kind_text, seen_text, found_text, source_text, received_text, inbox_text, answer_text, code_text, line_text};
+ghost use Rattle.bench_world.specs.Report.{access_text, kind_text, seen_text, found_text, source_text, received_text, inbox_text, answer_text, code_text, loss_text, line_text};
 
-use crate::entry::{Answer, Entry, Received, Seen};
+use crate::entry::{Answer, Entry, Loss, Received, Seen};
 use crate::fixed_text::{push_digits, push_hex, push_number, push_text};
 use arrayvec::ArrayVec;
 use bench_devices::SeenKind;
@@ -63,7 +63,7 @@ pub fn answer_pieces(entry: &Entry) -> AnswerPieces<'_>
         Answer::Written => in_words(line, b"written"),
         Answer::Refused(code) => refused(line, *code),
         Answer::ReadOnly => in_words(line, b"read only"),
-        Answer::TooLong(room) => too_long(line, *room),
+        Answer::TooLong(room) => numbered(line, b"too long ", *room as u64),
         Answer::ShortMlc => in_words(line, b"short mlc"),
         Answer::WrongKind => in_words(line, b"wrong kind"),
         Answer::Store(bytes) => with_bytes(line, b"store ", bytes.as_slice(), b""),
@@ -72,6 +72,17 @@ pub fn answer_pieces(entry: &Entry) -> AnswerPieces<'_>
         Answer::Message { message, writable } => {
             with_bytes(line, b"message ", message.as_slice(), access(*writable))
         }
+        Answer::Linked(link) => numbered(line, b"linked ", *link as u64),
+        Answer::Success => in_words(line, b"success"),
+        Answer::Reject => in_words(line, b"reject"),
+        Answer::Value(value) => with_bytes(line, b"value ", value.as_slice(), b""),
+        Answer::NoValue => in_words(line, b"no value"),
+        Answer::Excess => in_words(line, b"excess"),
+        Answer::NotImplemented => in_words(line, b"not implemented"),
+        Answer::Sap(sap) => numbered(line, b"sap ", *sap as u64),
+        Answer::LinkEnded(loss) => in_words(line, ended_by(*loss)),
+        Answer::Unlinked => in_words(line, b"unlinked"),
+        Answer::NoLink => in_words(line, b"no link"),
     }
 }
 
@@ -171,13 +182,25 @@ fn refused<'a>(line: u32, code: u16) -> AnswerPieces<'a>
     whole(head)
 }
 
-/// How much room a message has.
-fn too_long<'a>(line: u32, room: u32) -> AnswerPieces<'a>
-    ensures { result ≡ line_text line (codes "too long " ++ decimal room) }
+/// Words and a number.
+fn numbered<'a>(line: u32, words: &[u8], number: u64) -> AnswerPieces<'a>
+    requires { length words.now ≤ 32 }
+    ensures { result ≡ line_text line (words.now ++ decimal number) }
 {
-    let mut head = begun(line, b"too long ");
-    push_number(&mut head, room as u64);
+    let mut head = begun(line, words);
+    push_number(&mut head, number);
     whole(head)
+}
+
+/// How a link ended.
+fn ended_by(loss: Loss) -> &'static [u8]
+    ensures value { result.now ≡ codes "link ended " ++ loss_text loss }
+    ensures size { length result.now ≤ 32 }
+{
+    match loss {
+        Loss::FieldLost => b"link ended field lost".as_slice(),
+        Loss::SixBad => b"link ended six bad".as_slice(),
+    }
 }
 
 /// How many devices were found, which, and whether there is a crowd beside them.

@@ -44,7 +44,7 @@ fn push_answer(text: &mut Vec<u8>, entry: &Entry) -> Result<(), AllocError>
 #[cfg(test)]
 mod tests {
     use super::*;
-    use crate::entry::{Answer, Received, Seen};
+    use crate::entry::{Answer, Loss, Received, Seen};
     use bench_devices::SeenKind;
     use bench_script::{Command, DeviceId, parse_line};
     use nfc_base::{Fate, Frame, Items, Tech};
@@ -188,6 +188,36 @@ mod tests {
                 all,
                 "7 found 4 030203FF:t2 04112233445566:t4 08010203:peer E0040102030405AB:t5 crowd\n",
             ),
+        ];
+        for (answer, wanted) in rows {
+            let text = render(alloc, &answered(alloc, answer), false)?;
+            assert_eq!(rt; str::from_utf8(text.as_slice())?, wanted);
+        }
+        Ok(())
+    }
+
+    #[test]
+    fn answers_of_links(rt: HostRuntime) -> Result<(), Fail> {
+        let alloc = rt.alloc();
+        let value = Items::from_bytes(alloc, &[0xA1, 0x0B])?;
+        let rows = [
+            (Answer::Linked(4294967295), "7 linked 4294967295\n"),
+            (Answer::Success, "7 success\n"),
+            (Answer::Reject, "7 reject\n"),
+            (Answer::Value(value), "7 value A10B\n"),
+            (Answer::Value(Items::new(Vec::new(alloc))), "7 value -\n"),
+            (Answer::NoValue, "7 no value\n"),
+            (Answer::Excess, "7 excess\n"),
+            (Answer::NotImplemented, "7 not implemented\n"),
+            (Answer::Sap(0), "7 sap 0\n"),
+            (Answer::Sap(63), "7 sap 63\n"),
+            (
+                Answer::LinkEnded(Loss::FieldLost),
+                "7 link ended field lost\n",
+            ),
+            (Answer::LinkEnded(Loss::SixBad), "7 link ended six bad\n"),
+            (Answer::Unlinked, "7 unlinked\n"),
+            (Answer::NoLink, "7 no link\n"),
         ];
         for (answer, wanted) in rows {
             let text = render(alloc, &answered(alloc, answer), false)?;

@@ -1,10 +1,12 @@
 //! The words of a line.
 
 ghost use Rattle.std.specs.Prelude.{◌≡◌, ◌≢◌, ◌<◌, ◌^◌, ℕ, [], ◌∷◌, List, MatchOption, IfOk};
+ghost use Rattle.std.specs.Char.{is_ascii_graphic};
+ghost use Rattle.std.specs.List.{list_all};
 ghost use Rattle.nfc_base.specs.declared.event.Fate.{Fate as Becomes};
 ghost use Rattle.std.specs.Option.{option_copied};
 ghost use Rattle.std.specs.Fmt.{decimal};
-ghost use Rattle.bench_script.specs.Script.{words_of, SpellsHex, SpellsIdent, SpellsIdV, SpellsId, SpellsWithin, SpellsSize, SpellsCode, SpellsBlock, fate_letter, SpellsFates, SpellsCounted, SpellsMsg};
+ghost use Rattle.bench_script.specs.Script.{words_of, SpellsHex, SpellsIdent, SpellsIdV, SpellsId, SpellsWithin, SpellsSize, SpellsCode, SpellsBlock, fate_letter, SpellsFates, SpellsCounted, SpellsMsg, SpellsName};
 ghost use Rattle.bench_script.specs.declared.command.DeviceId.{DeviceId as Named};
 ghost use Rattle.bench_script.specs.declared.script.words.CommandName.{CommandName as Names};
 ghost use Rattle.bench_script.specs.Words.{CutsWord, Finds, AreThree, AreFour, AreFive, NotOne, NotTwo, NotThree, NotFour, NotFive, HasNoColon, IsCutAtColon, SpellsNoCount, name_text};
@@ -23,6 +25,9 @@ const MOST_FATES: usize = 4000;
 /// How many counted bytes a message has at most.
 const LONGEST_MESSAGE: u32 = 65536;
 
+/// How many characters the name of a service has at most (this project's limit).
+const LONGEST_NAME: usize = 64;
+
 /// The first word of a line of several words.
 #[derive(Clone, Copy, Debug, PartialEq, Eq)]
 pub enum CommandName {
@@ -36,6 +41,10 @@ pub enum CommandName {
     Inbox,
     Read,
     Write,
+    Link,
+    Put,
+    Get,
+    Lookup,
 }
 
 /// The name that a word is.
@@ -53,6 +62,10 @@ pub fn name_of(word: &[u8]) -> Option<CommandName>
         b"inbox" => Some(CommandName::Inbox),
         b"read" => Some(CommandName::Read),
         b"write" => Some(CommandName::Write),
+        b"link" => Some(CommandName::Link),
+        b"put" => Some(CommandName::Put),
+        b"get" => Some(CommandName::Get),
+        b"lookup" => Some(CommandName::Lookup),
         _ => None,
     }
 }
@@ -315,6 +328,23 @@ pub fn message_word(alloc: Global, word: &[u8]) -> Result<Option<Msg>, AllocErro
         Some(bytes) => Ok(Some(Msg::Hex(bytes))),
         None => Ok(None),
     }
+}
+
+/// Whether a word has characters from 21h to 7Eh alone.
+fn is_graphic(word: &[u8]) -> bool
+    ensures { result ≡ list_all is_ascii_graphic word.now }
+{
+    word.iter().all(|b| b.is_ascii_graphic())
+}
+
+/// The name of a service that a word is, if it is one.
+pub fn name_word(alloc: Global, word: &[u8]) -> Result<Option<Items<u8>>, AllocError>
+    ensures { IfOk result (Finds (SpellsName word.now)) }
+{
+    if word.is_empty() || word.len() > LONGEST_NAME || !is_graphic(word) {
+        return Ok(None);
+    }
+    Ok(Some(Items::from_bytes(alloc, word)?))
 }
 
 /// The fate of a letter.

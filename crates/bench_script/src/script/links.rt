@@ -1,0 +1,85 @@
+//! The lines of links.
+
+ghost use Rattle.std.specs.Prelude.{◌∷◌, IfOk, IsErrOf, codes};
+ghost use Rattle.bench_script.specs.Words.{SpellsNone};
+ghost use Rattle.bench_script.specs.Script.{words_of, SpelledBy};
+
+use super::words::{
+    hex_word, ident_word, long_word, message_word, name_word, only_word, small_word, three_words,
+    two_words, within_word,
+};
+use super::{LEAST_MIU, LEAST_RW, LineFault, MOST_MIU, MOST_RW};
+use crate::command::Command;
+use std::alloc::Global;
+
+/// How many bytes the value of a key may have that a get takes (this project's limits).
+const LEAST_ACCEPTABLE: u32 = 0;
+
+const MOST_ACCEPTABLE: u32 = 65536;
+
+/// `link ID MIU RW`, behind its first word.
+pub fn link_line(alloc: Global, rest: &[u8]) -> Result<Command, LineFault>
+    ensures ok { IfOk result (λ c. SpelledBy (codes "link" ∷ words_of rest.now) c) }
+    ensures refused { IsErrOf result LineFault.Refused → SpellsNone (codes "link" ∷ words_of rest.now) }
+{
+    let Some((id_text, miu_text, rw_text)) = three_words(rest) else {
+        return Err(LineFault::Refused);
+    };
+    let Some(id) = ident_word(alloc, id_text)? else {
+        return Err(LineFault::Refused);
+    };
+    let Some(miu) = within_word(alloc, miu_text, LEAST_MIU, MOST_MIU)? else {
+        return Err(LineFault::Refused);
+    };
+    match small_word(alloc, rw_text, LEAST_RW, MOST_RW)? {
+        Some(rw) => Ok(Command::Link { id, miu, rw }),
+        None => Err(LineFault::Refused),
+    }
+}
+
+/// `put MSG`, behind its first word.
+pub fn put_line(alloc: Global, rest: &[u8]) -> Result<Command, LineFault>
+    ensures ok { IfOk result (λ c. SpelledBy (codes "put" ∷ words_of rest.now) c) }
+    ensures refused { IsErrOf result LineFault.Refused → SpellsNone (codes "put" ∷ words_of rest.now) }
+{
+    let Some(word) = only_word(rest) else {
+        return Err(LineFault::Refused);
+    };
+    match message_word(alloc, word)? {
+        Some(message) => Ok(Command::Put { message }),
+        None => Err(LineFault::Refused),
+    }
+}
+
+/// `get N HEX`, behind its first word.
+#[tactic(auto, using(crate::proofs::Spelling::asked_key_refused))]
+pub fn get_line(alloc: Global, rest: &[u8]) -> Result<Command, LineFault>
+    ensures ok { IfOk result (λ c. SpelledBy (codes "get" ∷ words_of rest.now) c) }
+    ensures refused { IsErrOf result LineFault.Refused → SpellsNone (codes "get" ∷ words_of rest.now) }
+{
+    let Some((acceptable_text, key_text)) = two_words(rest) else {
+        return Err(LineFault::Refused);
+    };
+    let Some(acceptable) = long_word(alloc, acceptable_text, LEAST_ACCEPTABLE, MOST_ACCEPTABLE)?
+    else {
+        return Err(LineFault::Refused);
+    };
+    match hex_word(alloc, key_text)? {
+        Some(key) => Ok(Command::Get { acceptable, key }),
+        None => Err(LineFault::Refused),
+    }
+}
+
+/// `lookup NAME`, behind its first word.
+pub fn lookup_line(alloc: Global, rest: &[u8]) -> Result<Command, LineFault>
+    ensures ok { IfOk result (λ c. SpelledBy (codes "lookup" ∷ words_of rest.now) c) }
+    ensures refused { IsErrOf result LineFault.Refused → SpellsNone (codes "lookup" ∷ words_of rest.now) }
+{
+    let Some(word) = only_word(rest) else {
+        return Err(LineFault::Refused);
+    };
+    match name_word(alloc, word)? {
+        Some(name) => Ok(Command::Lookup { name }),
+        None => Err(LineFault::Refused),
+    }
+}
