@@ -369,7 +369,7 @@ module _ {L F : Type 0} (k : Ghosts L) (laws : Laws k) (target : L → TargetSta
           (let Q : List Fate → Type 0 = λ q. FatesFrom q es in subst Q (sym (ap (λ (z : Moment (World L)). z.queue) (behind_at k.machine r f x0 mid o.lit))) (fates_later mid.fates T es fates))
           (frames_later T es frames)
       by_does i' (send.Finished reply) n e =
-          let z = over_at (Rests i') e refl in ends_on new chosen.to i' (stage_of (initiator_does (send.Finished reply))) (Rests i') n later_notes z.0 z.1 chosen.so'
+          let z = over_at (Rests i' reply.items) e refl in ends_on new chosen.to i' (stage_of (initiator_does (send.Finished reply))) (Rests i' reply.items) n later_notes z.0 z.1 chosen.so'
       by_does i' send.SixBad n e =
           let z = over_at (Broken cause.SixBad) e refl in ends_on new chosen.to i' (stage_of (initiator_does send.SixBad)) (Broken cause.SixBad) n later_notes z.0 z.1 chosen.so'
       by_does i' send.Protocol n e =

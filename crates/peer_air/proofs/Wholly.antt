@@ -28,7 +28,7 @@ use Rattle.far_air.specs.FarEnds.{FarTable}
 use Rattle.far_air.specs.FarWorld.{far_air}
 use Rattle.far_air.specs.FarLaws.{IsFarTable, IsLinked, IsOfTable, with_far, seen_at}
 use Rattle.far_air.specs.FarTurns.{FarGoing}
-use Rattle.peer_air.specs.SwapTurns.{Stands, Gave, ExchangesFar, IsWhole, SwapTurn, SwapTurns, SwapFront, SwapsFar, StopsFar, MovesFar}
+use Rattle.peer_air.specs.SwapTurns.{Stands, Gave, ExchangesFar, IsWhole, SwapTurn, SwapTurns, SwapFront, SwapsFar, StopsFar, MovesFar, PeersStand, all_did, did_with}
 use Rattle.peer_air.proofs.Walking.{begins, tells, flagged, dark_none, So, End, walk}
 
 -- the reply that an exchange is walked with
@@ -164,17 +164,7 @@ one_place k own (x ∷ before) l behind (y ∷ begin) m rest never p q e =
     let same : before ++ l ∷ behind ≡ begin ++ m ∷ rest = cc in ap suc (one_place k own before l behind begin m rest never p.1 q same)
 
 module _ {L F : Type 0} (k : Ghosts L) (laws : Laws k) (target : L → TargetState) (linked : L → Bool) (t : FarTable F) (links : IsLinked k.machine linked) (fars : IsFarTable t)
-    (a b : DepSeen L) (out : List ℕ) (peer : PeerOf k target a) (short : length out ≤ limit) (os : List (Option F)) where
-  swap_turn : (given : Option (List ℕ)) → TurnsOf k target a b peer out given → (v w : F) → Gave k target linked t out given v w → SwapTurn k target linked t a b out peer.place os v w
-  swap_turn given (s, x, at) v w g =
-      let go = exchanges_far k laws target linked t links fars a.air b.air a.initiator a.first (brought a.first (since a)) (turns.arrived (since a)) peer out given s x short v w g os in
-      record {
-        notes = x.notes;
-        stands = subst (λ (z : Standing). StandsAt b.over b.initiator z) (sym x.stands) at;
-        there = go.1;
-        going = go.0;
-      }
-
+    (a b : DepSeen L) (s : Swap) (begins : a.over ≡ None) (peer : PeerOf k target a) (short : length s.out ≤ limit) (os : List (Option F)) where
   -- at whatever place the peer is known to stand in a lit field, and at any place in the dark
   same_place : (place : ℕ) → Stands k target linked t a.air place → a.air.lit ≡ true → place ≡ peer.place
   same_place place stands lit =
@@ -183,47 +173,55 @@ module _ {L F : Type 0} (k : Ghosts L) (laws : Laws k) (target : L → TargetSta
       let never : IsAside k (k.identifier l) peer.listener → ⊥ = λ z. (let off = (z.rests peer.is.tech).1 in let on = peer.selected in absurd cc) in
       sym s.2.stands ∙ one_place k (k.identifier l) s.2.before l s.2.behind peer.alone.before peer.listener peer.alone.behind never s.2.first s.2.later (sym s.2.split ∙ peer.alone.split) ∙ peer.alone.stands
 
-  swap_at : (given : Option (List ℕ)) → TurnsOf k target a b peer out given → (v w : F) → Gave k target linked t out given v w → (place : ℕ) → Stands k target linked t a.air place
-      → SwapTurn k target linked t a b out place os v w
-  swap_at given (s, x, at) v w g place stands = go a.air.lit refl
+  -- turns of its exchange, up to some moment
+  turns_at : (new : Air L) (given : Option (List ℕ)) (q : Standing) (x : ExchangeTurns k target a.air new peer.listener a.initiator a.first (brought a.first (since a)) (turns.arrived (since a)) s.out given q)
+      → (v w : F) → Gave k target linked t s.out given v w → (place : ℕ) → Stands k target linked t a.air place
+      → FarGoing k.machine linked t (dep_next a.initiator s.out) (moment a.air) (moment new) x.notes place os v w × Stands k target linked t new place
+  turns_at new given q x v w g place stands = go a.air.lit refl
     where
-      go : (z : Bool) → a.air.lit ≡ z → SwapTurn k target linked t a b out place os v w
-      go true e = let P : ℕ → Type 0 = λ n. SwapTurn k target linked t a b out n os v w in subst P (sym (same_place place stands e)) (swap_turn given (s, x, at) v w g)
+      To : ℕ → Type 0
+      To n = FarGoing k.machine linked t (dep_next a.initiator s.out) (moment a.air) (moment new) x.notes n os v w × Stands k target linked t new n
+
+      go : (z : Bool) → a.air.lit ≡ z → To place
+      go true e =
+          subst To (sym (same_place place stands e))
+          (exchanges_far k laws target linked t links fars a.air new a.initiator a.first (brought a.first (since a)) (turns.arrived (since a)) peer s.out given q x short v w g os)
       go false e =
-          let d = dark_exchange k laws target linked t links fars a.air b.air a.initiator a.first (brought a.first (since a)) (turns.arrived (since a)) peer out os given s x v w g place e in
-          record {
-            notes = x.notes;
-            stands = subst (λ (q : Standing). StandsAt b.over b.initiator q) (sym x.stands) at;
-            there = λ lit. (let dark = d.1 in absurd cc);
-            going = d.0;
-          }
+          let d = dark_exchange k laws target linked t links fars a.air new a.initiator a.first (brought a.first (since a)) (turns.arrived (since a)) peer s.out os given q x v w g place e in (
+            d.0,
+            λ lit. (let dark = d.1 in absurd cc),
+          )
+
+  swap_at : (given : Option (List ℕ)) → s.did ≡ did_with s.out given → TurnsOf k target a b peer s.out given → (v w : F) → Gave k target linked t s.out given v w → (place : ℕ) → Stands k target linked t a.air place
+      → SwapTurn k target linked t a b s place os v w
+  swap_at given did (q, x, at) v w g place stands =
+      let z = turns_at b.air given q x v w g place stands in
+      record {
+        begins = begins;
+        given = given;
+        did = did;
+        notes = x.notes;
+        stands = subst (λ (y : Standing). StandsAt b.over given b.initiator y) (sym x.stands) at;
+        there = z.1;
+        going = z.0;
+      }
 
 module _ {L F A : Type 0} (k : Ghosts L) (laws : Laws k) (target : L → TargetState) (linked : L → Bool) (t : FarTable F) (links : IsLinked k.machine linked) (fars : IsFarTable t)
     (restarts : A → List ℕ → A → Type 0) (steps : A → List ℕ → List ℕ → A → Type 0) (stops : A → List ℕ → A → Type 0) (view : A → F) (kind : IsOfTable restarts steps t view)
     (fits : (a : A) (payload reply : List ℕ) (b : A) → steps a payload reply b → length reply ≤ limit) where
-  swap_far : (a b : DepSeen L) (out : List ℕ) (did : List FarStep) (x : Exchanged k target a b (record { out = out; did = did }))
-      → (far after : A) → FarMoved steps stops did far after → IsWhole k target linked t did → (os : List (Option F)) → SwapTurn k target linked t a b out x.peer.place os (view far) (view after)
-  swap_far a b out [] x far after moved whole os =
-      swap_turn k laws target linked t links fars a b out x.peer x.short os None x.exchange (view far) (view after) (ap view moved)
-  swap_far a b out (Stepped payload reply ∷ []) x far after (mid, step, rest) whole os =
-      let n = kind.step far payload reply mid step in
-      let G : List ℕ → Type 0 = λ z. Gave k target linked t z (Some reply) (view far) (view mid) in
-      let g : Gave k target linked t out (Some reply) (view far) (view mid) = subst G x.exchange.0 (n.0, n.1, n.2, fits far payload reply mid step) in
-      let P : A → Type 0 = λ z. SwapTurn k target linked t a b out x.peer.place os (view far) (view z) in
-      subst P (sym rest) (swap_turn k laws target linked t links fars a b out x.peer x.short os (Some reply) x.exchange.1 (view far) (view mid) g)
-  swap_far a b out (Stopped payload ∷ []) x far after moved whole os = absurd whole
-  swap_far a b out (d ∷ e ∷ did) x far after moved whole os = absurd x.exchange
-
   moved_at : (a b : DepSeen L) (out : List ℕ) (did : List FarStep) (x : Exchanged k target a b (record { out = out; did = did }))
-      → (far after : A) → FarMoved steps stops did far after → IsWhole k target linked t did → (place : ℕ) → Stands k target linked t a.air place → (os : List (Option F)) → SwapTurn k target linked t a b out place os (view far) (view after)
+      → (far after : A) → FarMoved steps stops did far after → IsWhole k target linked t did → (place : ℕ) → Stands k target linked t a.air place → (os : List (Option F))
+      → SwapTurn k target linked t a b (record { out = out; did = did }) place os (view far) (view after)
   moved_at a b out [] x far after moved whole place stands os =
-      swap_at k laws target linked t links fars a b out x.peer x.short os None x.exchange (view far) (view after) (ap view moved) place stands
+      swap_at k laws target linked t links fars a b (record { out = out; did = [] }) x.begins x.peer x.short os None refl x.exchange (view far) (view after) (ap view moved) place stands
   moved_at a b out (Stepped payload reply ∷ []) x far after (mid, step, rest) whole place stands os =
       let n = kind.step far payload reply mid step in
       let G : List ℕ → Type 0 = λ z. Gave k target linked t z (Some reply) (view far) (view mid) in
       let g : Gave k target linked t out (Some reply) (view far) (view mid) = subst G x.exchange.0 (n.0, n.1, n.2, fits far payload reply mid step) in
-      let P : A → Type 0 = λ z. SwapTurn k target linked t a b out place os (view far) (view z) in
-      subst P (sym rest) (swap_at k laws target linked t links fars a b out x.peer x.short os (Some reply) x.exchange.1 (view far) (view mid) g place stands)
+      let s : Swap = record { out = out; did = Stepped payload reply ∷ [] } in
+      let P : A → Type 0 = λ z. SwapTurn k target linked t a b s place os (view far) (view z) in
+      subst P (sym rest)
+      (swap_at k laws target linked t links fars a b s x.begins x.peer x.short os (Some reply) (ap (λ z. Stepped z reply ∷ []) x.exchange.0) x.exchange.1 (view far) (view mid) g place stands)
   moved_at a b out (Stopped payload ∷ []) x far after moved whole place stands os = absurd whole
   moved_at a b out (d ∷ e ∷ did) x far after moved whole place stands os = absurd x.exchange
 
@@ -247,36 +245,47 @@ module _ {L F A : Type 0} (k : Ghosts L) (laws : Laws k) (target : L → TargetS
       let one = moved_at a mid s.out s.did x far z.0 z.1 z.3 place stands os in
       (mid, view z.0, one, chained_far ss mid rest b more z.0 after z.2 z.4 place one.there os)
 
+-- all that a far end did it did in the swaps of a chain
+all_in : {L : Type 0} (k : Ghosts L) (target : L → TargetState) (ss : List Swap) (a : DepSeen L) (did : List FarStep) (b : DepSeen L) → Chained k target ss a did b → all_did ss ≡ did
+all_in k target [] a did b c = sym c.1
+all_in k target (s ∷ ss) a did b (mid, rest, x, more, e) = ap (λ z. s.did ++ z) (all_in k target ss mid rest b more) ∙ sym e
+
 pub moves_far : {L F A : Type 0} (k : Ghosts L) → Laws k → (target : L → TargetState) (linked : L → Bool) (t : FarTable F) (restarts : A → List ℕ → A → Type 0) (steps : A → List ℕ → List ℕ → A → Type 0) (stops : A → List ℕ → A → Type 0) (view : A → F)
     → ((a : A) (payload reply : List ℕ) (b : A) → steps a payload reply b → length reply ≤ limit) → MovesFar k target linked t restarts steps stops view
-moves_far k laws target linked t restarts steps stops view fits links fars kind a b did (ss, chained) far after moved whole place stands os =
-    (ss, chained_far k laws target linked t links fars restarts steps stops view kind fits ss a did b chained far after moved whole place stands os)
+moves_far k laws target linked t restarts steps stops view fits links fars kind a b did (ss, chained) far after moved whole place stands os = (
+  ss,
+  all_in k target ss a did b chained,
+  chained_far k laws target linked t links fars restarts steps stops view kind fits ss a did b chained far after moved whole place stands os,
+)
 
 pub swaps_far : {L F A : Type 0} (k : Ghosts L) → Laws k → (target : L → TargetState) (linked : L → Bool) (t : FarTable F) (restarts : A → List ℕ → A → Type 0) (steps : A → List ℕ → List ℕ → A → Type 0) (stops : A → List ℕ → A → Type 0) (view : A → F)
     → ((a : A) (payload reply : List ℕ) (b : A) → steps a payload reply b → length reply ≤ limit) → SwapsFar k target linked t restarts steps stops view
-swaps_far k laws target linked t restarts steps stops view fits links fars kind a b s x far after moved whole os =
-    swap_far k laws target linked t links fars restarts steps stops view kind fits a b s.out s.did x far after moved whole os
+swaps_far k laws target linked t restarts steps stops view fits links fars kind a b s x far after moved whole place stands os =
+    moved_at k laws target linked t links fars restarts steps stops view kind fits a b s.out s.did x far after moved whole place stands os
 
 stop_far : {L F : Type 0} (k : Ghosts L) → Laws k → (target : L → TargetState) (linked : L → Bool) (t : FarTable F) → IsLinked k.machine linked → IsFarTable t
     → (a b : DepSeen L) (out : List ℕ) (did : List FarStep) (x : Exchanged k target a b (record { out = out; did = did }))
-    → (payload : List ℕ) → did ≡ Stopped payload ∷ [] → (far : F) (os : List (Option F)) → SwapFront k target linked t a b out x.peer.place os far
-stop_far k laws target linked t links fars a b out [] x payload e far os = absurd cc
-stop_far k laws target linked t links fars a b out (Stepped p reply ∷ did) x payload e far os = absurd cc
-stop_far k laws target linked t links fars a b out (Stopped p ∷ []) x payload e far os =
+    → (payload : List ℕ) → did ≡ Stopped payload ∷ [] → (place : ℕ) → Stands k target linked t a.air place → (far : F) (os : List (Option F)) → SwapFront k target linked t a b out place os far
+stop_far k laws target linked t links fars a b out [] x payload e place stands far os = absurd cc
+stop_far k laws target linked t links fars a b out (Stepped p reply ∷ did) x payload e place stands far os = absurd cc
+stop_far k laws target linked t links fars a b out (Stopped p ∷ []) x payload e place stands far os =
     let s = x.exchange.1 in
     record {
       mid = s.mid;
       notes = s.before.notes;
-      going = (exchanges_far k laws target linked t links fars a.air s.mid a.initiator a.first (brought a.first (since a)) (turns.arrived (since a)) x.peer out None _ s.before x.short far far refl os).0;
+      going = (turns_at k laws target linked t links fars a b (record { out = out; did = Stopped p ∷ [] }) x.begins x.peer x.short os s.mid None _ s.before far far refl place stands).0;
       sent = s.sent;
       due = ap due_at s.before.stands;
       fate = s.fate;
       listeners = s.listeners;
       left = s.left;
     }
-stop_far k laws target linked t links fars a b out (Stopped p ∷ d ∷ did) x payload e far os = absurd cc
+stop_far k laws target linked t links fars a b out (Stopped p ∷ d ∷ did) x payload e place stands far os = absurd cc
 
 pub stops_far : {L F A : Type 0} (k : Ghosts L) → Laws k → (target : L → TargetState) (linked : L → Bool) (t : FarTable F) (restarts : A → List ℕ → A → Type 0) (steps : A → List ℕ → List ℕ → A → Type 0) (stops : A → List ℕ → A → Type 0) (view : A → F)
     → StopsFar k target linked t restarts steps stops view
-stops_far k laws target linked t restarts steps stops view links fars a b s x payload e far os =
-    stop_far k laws target linked t links fars a b s.out s.did x payload e far os
+stops_far k laws target linked t restarts steps stops view links fars a b s x payload e place stands far os =
+    stop_far k laws target linked t links fars a b s.out s.did x payload e place stands far os
+
+pub peers_stand : {L F : Type 0} (k : Ghosts L) (target : L → TargetState) (linked : L → Bool) (t : FarTable F) → PeersStand k target linked t
+peers_stand k target linked t air i first handed arrived p = λ lit. (p.listener, p.selected, p.alone)

@@ -1,5 +1,5 @@
 -- Exchanges and swaps on a link to a peer, in the world with far ends (NFCIP-1, ISO/IEC 18092; the air is this project's own).
-use Rattle.std.specs.Prelude.{◌≡◌, ◌≤◌, ℕ, List, [], ◌∷◌, length, Bool, true, Option, Some, None}
+use Rattle.std.specs.Prelude.{◌≡◌, ◌≤◌, ℕ, List, [], ◌∷◌, ◌++◌, length, Bool, true, Option, Some, None}
 use Rattle.nfc_base.specs.Signal.{Signal}
 use Rattle.nfc_base.specs.Links.{FarStep, Stepped, Stopped, FarMoved}
 use Rattle.nfc_base.specs.declared.event.Event.TheVariants.{Request}
@@ -17,6 +17,16 @@ use Rattle.far_air.specs.FarEnds.{FarTable}
 use Rattle.far_air.specs.FarLaws.{IsFarTable, IsLinked, IsOfTable}
 use Rattle.far_air.specs.FarTurns.{FarGoing}
 
+-- what a far end did in a swap of this payload, in which it gave that reply or none
+abbrev pub did_with : List ℕ → Option (List ℕ) → List FarStep
+did_with out None = []
+did_with out (Some reply) = Stepped out reply ∷ []
+
+-- what it did in all of some swaps
+abbrev pub all_did : List Swap → List FarStep
+all_did [] = []
+all_did (s ∷ ss) = s.did ++ all_did ss
+
 module _ {L F : Type 0} (k : Ghosts L) (target : L → TargetState) (linked : L → Bool) (t : FarTable F) where
   -- A far end went from one state to another in an exchange of this payload, in which it gave that reply, by some number, or none.
   abbrev pub Gave : List ℕ → Option (List ℕ) → F → F → Type 0
@@ -26,6 +36,12 @@ module _ {L F : Type 0} (k : Ghosts L) (target : L → TargetState) (linked : L 
   -- where a field is lit, a selected listener stands at this place, and is alone
   abbrev pub Stands : Air L → ℕ → Type 0
   Stands air place = air.lit ≡ true → (l : L) × (k.is_selected l ≡ true) × IsAlone k (k.identifier l) air.listeners place l
+
+  -- the peer of a link does so at its place
+  abbrev pub PeersStand : Type 0
+  PeersStand =
+      (air : Air L) (i : InitState) (first : ℕ) (handed : List (List ℕ)) (arrived : List Signal) (p : HasPeer k target air i first handed arrived)
+      → Stands air p.place
 
   -- The turns of an exchange with a peer, in which that was given, are turns of the world with far ends at the peer's place, where it
   -- stands behind them too.
@@ -43,13 +59,16 @@ module _ {L F : Type 0} (k : Ghosts L) (target : L → TargetState) (linked : L 
   IsWhole (Stepped payload reply ∷ did) = IsWhole did
   IsWhole (Stopped payload ∷ did) = ⊥
 
-  -- A swap on a link, in the world with far ends: this is what the reader knows of it, and where its initiator stands. The peer stands at
-  -- the same place behind it.
-  pub record SwapTurn (a b : DepSeen L) (out : List ℕ) (place : ℕ) (os : List (Option F)) (far after : F) : Type 0 where
+  -- A swap on a link, in the world with far ends: the reply that was given or none, what the reader knows of it, and where its initiator
+  -- stands. The peer stands at the same place behind it.
+  pub record SwapTurn (a b : DepSeen L) (s : Swap) (place : ℕ) (os : List (Option F)) (far after : F) : Type 0 where
+    pub begins : a.over ≡ None
+    pub given : Option (List ℕ)
+    pub did : s.did ≡ did_with s.out given
     pub notes : List Note
-    pub stands : StandsAt b.over b.initiator (stand (asks a.initiator out) notes)
+    pub stands : StandsAt b.over given b.initiator (stand (asks a.initiator s.out) notes)
     pub there : Stands b.air place
-    pub going : FarGoing k.machine linked t (dep_next a.initiator out) (moment a.air) (moment b.air) notes place os far after
+    pub going : FarGoing k.machine linked t (dep_next a.initiator s.out) (moment a.air) (moment b.air) notes place os far after
 
   -- Behind the turns of a swap a request that was due passed, and its far end stopped for want of memory: nothing came back.
   pub record SwapFront (a b : DepSeen L) (out : List ℕ) (place : ℕ) (os : List (Option F)) (far : F) : Type 0 where
@@ -66,24 +85,25 @@ module _ {L F : Type 0} (k : Ghosts L) (target : L → TargetState) (linked : L 
   abbrev pub SwapTurns : List Swap → DepSeen L → ℕ → List (Option F) → F → DepSeen L → F → Type 0
   SwapTurns [] a place os far b after = (b ≡ a) × (after ≡ far)
   SwapTurns (s ∷ ss) a place os far b after =
-      (mid : DepSeen L) × (half : F) × SwapTurn a mid s.out place os far half × SwapTurns ss mid place os half b after
+      (mid : DepSeen L) × (half : F) × SwapTurn a mid s place os far half × SwapTurns ss mid place os half b after
 
   module _ {A : Type 0} (restarts : A → List ℕ → A → Type 0) (steps : A → List ℕ → List ℕ → A → Type 0) (stops : A → List ℕ → A → Type 0) (view : A → F) where
-    -- What a link tells of a swap, with what its far end did, is a swap in the world with far ends.
+    -- What a link tells of a swap, with what its far end did, is a swap in the world with far ends, at whatever place its peer stands.
     abbrev pub SwapsFar : Type 0
     SwapsFar = IsLinked k.machine linked → IsFarTable t → IsOfTable restarts steps t view
-        → (a b : DepSeen L) (s : Swap) (x : Exchanged k target a b s)
-        → (far after : A) → FarMoved steps stops s.did far after → IsWhole s.did → (os : List (Option F))
-        → SwapTurn a b s.out x.peer.place os (view far) (view after)
+        → (a b : DepSeen L) (s : Swap) → Exchanged k target a b s
+        → (far after : A) → FarMoved steps stops s.did far after → IsWhole s.did → (place : ℕ) → Stands a.air place → (os : List (Option F))
+        → SwapTurn a b s place os (view far) (view after)
 
     abbrev pub StopsFar : Type 0
     StopsFar = IsLinked k.machine linked → IsFarTable t
-        → (a b : DepSeen L) (s : Swap) (x : Exchanged k target a b s)
-        → (payload : List ℕ) → s.did ≡ Stopped payload ∷ [] → (far : F) (os : List (Option F)) → SwapFront a b s.out x.peer.place os far
+        → (a b : DepSeen L) (s : Swap) → Exchanged k target a b s
+        → (payload : List ℕ) → s.did ≡ Stopped payload ∷ [] → (place : ℕ) → Stands a.air place → (far : F) (os : List (Option F))
+        → SwapFront a b s.out place os far
 
-    -- What a link tells of its swaps is that, at whatever place its peer stands.
+    -- What it tells of its swaps is that, one after another; all that the far end did it did in them.
     abbrev pub MovesFar : Type 0
     MovesFar = IsLinked k.machine linked → IsFarTable t → IsOfTable restarts steps t view
         → (a b : DepSeen L) (did : List FarStep) → DepMoves k target a did b
         → (far after : A) → FarMoved steps stops did far after → IsWhole did → (place : ℕ) → Stands a.air place → (os : List (Option F))
-        → (ss : List Swap) × SwapTurns ss a place os (view far) b (view after)
+        → (ss : List Swap) × (all_did ss ≡ did) × SwapTurns ss a place os (view far) b (view after)

@@ -6,7 +6,7 @@ ghost use Rattle.far_air.specs.FarLaws.{IsFarTable, IsOfTable};
 ghost use Rattle.peer_air.specs.Aside.{AsideTurns, SpeaksAside};
 ghost use Rattle.peer_air.specs.Ends.{AreFarEnds, EndsStep, AnyNumber};
 ghost use Rattle.peer_air.specs.PeerFars.{peer_ends, RestsKeep, RestartsKeep};
-ghost use Rattle.peer_air.specs.SwapTurns.{ExchangesFar, SwapsFar, MovesFar, StopsFar};
+ghost use Rattle.peer_air.specs.SwapTurns.{ExchangesFar, PeersStand, SwapsFar, MovesFar, StopsFar};
 
 use air_core::Listener;
 use dep_link::PeerListener;
@@ -19,6 +19,7 @@ use snep_core::Server;
 /// world, one after another at one place. Where the far end stopped for want of memory, it is one up to the request
 /// that brought it the payload.
 pub fn swaps<L: PeerListener, F, A: Answerer>()
+    ensures stands { (linked : L → Bool) (t : FarTable F) → PeersStand L.Listener L.target linked t }
     ensures exchange { (linked : L → Bool) (t : FarTable F) → ExchangesFar L.Listener L.target linked t }
     ensures swap { (linked : L → Bool) (t : FarTable F) (view : A → F)
         → SwapsFar L.Listener L.target linked t A.restarts A.steps A.stops view }

@@ -159,7 +159,7 @@ module _ (names : List Bound) (s : ServerState) where
         (ap (λ z. emptied z client_sap) h.l_is ∙ stand_emptied h.base (Apart h.os) s h.are_over ∙ sym h.l_is);
   }
 
-module _ {C A : Type 0} (seen : C → CarrierView) (moves : C → List FarStep → C → Type 0) (steps : A → List ℕ → List ℕ → A → Type 0) (stops : A → List ℕ → A → Type 0)
+module _ {C A : Type 0} (seen : C → CarrierView) (swaps : C → List ℕ → List FarStep → C → Type 0) (steps : A → List ℕ → List ℕ → A → Type 0) (stops : A → List ℕ → A → Type 0)
     (view : A → PeerState) (peer : IsPeer steps stops view) (client : EndState) (link : C) (far : A) (a : Accords client (view far)) where
   abbrev p : PeerState
   p = view far
@@ -211,10 +211,10 @@ module _ {C A : Type 0} (seen : C → CarrierView) (moves : C → List FarStep �
           ))
 
   -- it was ended
-  pub close_ends : (new : EndState) (now : C) (after : A) → Talks seen moves steps stops (begins client Leaves) link far (Ends (alone (Over Done)) new) now after
+  pub close_ends : (new : EndState) (now : C) (after : A) → Talks seen swaps steps stops (begins client Leaves) link far (Ends (alone (Over Done)) new) now after
       → IsClosed p new (view after)
   close_ends new now after t =
-      let z = came (Same p.service Closes Done closing) (course p.service Closes Done closing) seen moves steps stops view peer
+      let z = came (Same p.service Closes Done closing) (course p.service Closes Done closing) seen swaps steps stops view peer
       (begins client Leaves) (Ends (alone (Over Done)) new) link now far after begins_so t in
       let h = z.1 in record {
         apart = apart_at p.bound p.service h.base h.far new (view after) h.base_fair h.far_fair h.reached a.peer_serving.seats h.os h.are_over (h.l_is, h.p_is);
@@ -226,6 +226,6 @@ module _ {C A : Type 0} (seen : C → CarrierView) (moves : C → List FarStep �
       }
 
   -- it failed
-  pub close_fails : (e : SnepFault) (new : EndState) (now : C) (after : A) → FailsBy seen moves steps stops (begins client Leaves) link far e new now after → AsideFails p e (view after)
+  pub close_fails : (e : SnepFault) (new : EndState) (now : C) (after : A) → FailsBy seen swaps steps stops (begins client Leaves) link far e new now after → AsideFails p e (view after)
   close_fails e new now after h =
-      fails_so p.service Closes Done closing seen moves steps stops view peer link far refl (begins client Leaves) e new now after begins_so h
+      fails_so p.service Closes Done closing seen swaps steps stops view peer link far refl (begins client Leaves) e new now after begins_so h

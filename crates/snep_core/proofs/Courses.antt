@@ -24,7 +24,7 @@ module _ (Adds : List Received → Type 0) where
     pub turns : (w : Working) (p : PeerState) → At (Goes w) p → (k : ℕ) (reply : List ℕ) (q : PeerState) → PeerSteps p (payload k w) reply q → At (replied k w reply) q
     pub safe : (w : Working) (p : PeerState) → At (Goes w) p → IsSafe (ready w).llc p
 
-  module _ (course : Course) {C A : Type 0} (seen : C → CarrierView) (moves : C → List FarStep → C → Type 0) (steps : A → List ℕ → List ℕ → A → Type 0)
+  module _ (course : Course) {C A : Type 0} (seen : C → CarrierView) (swaps : C → List ℕ → List FarStep → C → Type 0) (steps : A → List ℕ → List ℕ → A → Type 0)
       (stops : A → List ℕ → A → Type 0) (view : A → PeerState) (peer : IsPeer steps stops view) where
     -- from one step to another
     talks_on : (counts : List ℕ) (did : List FarStep) (from to : Step) (far after : A) → course.At from (view far) → Told IsMost counts from did to
@@ -41,7 +41,7 @@ module _ (Adds : List Received → Type 0) where
         let x = subst (λ z. PeerSteps (view far) z reply (view mid)) o (peer.steps_so far out reply mid s) in
         talks_on ks did (replied k w reply) to mid after (course.turns w (view far) h k reply (view mid) x) more f
 
-    pub came : (from to : Step) (link now : C) (far after : A) → course.At from (view far) → Talks seen moves steps stops from link far to now after
+    pub came : (from to : Step) (link now : C) (far after : A) → course.At from (view far) → Talks seen swaps steps stops from link far to now after
         → course.At to (view after)
     came from to link now far after h t = talks_on t.counts t.did from to far after h t.told t.far_moved
 
@@ -65,13 +65,13 @@ module _ (Adds : List Received → Type 0) where
       left_adds k false why before now after (inl (e, i)) = same_adds after e
       left_adds k false why before now after (inr (w, s, e)) = stopped_adds k after s
 
-      cut_adds : (e : SnepFault) (new : EndState) (link now : C) (after : A) → IsCut seen moves steps stops l link mid e new now after → Adds (view after).service.accepted
+      cut_adds : (e : SnepFault) (new : EndState) (link now : C) (after : A) → IsCut seen swaps steps stops l link mid e new now after → Adds (view after).service.accepted
       cut_adds e new link now after (inl (inl k)) = same_adds after k.far_is
       cut_adds e new link now after (inl (inr k)) = same_adds after k.far_is
       cut_adds e new link now after (inr (inl k)) = left_adds k.count k.why.answered k.why.cause _ _ after k.swap.left
       cut_adds e new link now after (inr (inr k)) = stepped_adds k.count k.reply after k.swap.step
 
-      cut_fault : (e : SnepFault) (new : EndState) (link now : C) (after : A) → IsCut seen moves steps stops l link mid e new now after → (c : EndCause) × (e ≡ fault_of c)
+      cut_fault : (e : SnepFault) (new : EndState) (link now : C) (after : A) → IsCut seen swaps steps stops l link mid e new now after → (c : EndCause) × (e ≡ fault_of c)
       cut_fault e new link now after (inl (inl k)) = (cause.Memory, k.fault)
       cut_fault e new link now after (inl (inr k)) = (k.why, k.fault)
       cut_fault e new link now after (inr (inl k)) = (k.why.cause, k.fault)
@@ -84,7 +84,7 @@ module _ (Adds : List Received → Type 0) where
       pub added : Adds (view after).service.accepted
 
     pub breaks_off : (from : Step) (link : C) (far : A) (e : SnepFault) (new : EndState) (now : C) (after : A) → course.At from (view far)
-        → Breaks seen moves steps stops from link far e new now after → BrokeOff e after
+        → Breaks seen swaps steps stops from link far e new now after → BrokeOff e after
     breaks_off from link far e new now after h b =
         let k = course.safe b.at (view b.mid_far) (came from (Goes b.at) link b.mid far b.mid_far h b.talks) in
         let f = cut_fault (ready b.at).llc b.mid_far k e new b.mid now after b.cut in

@@ -11,7 +11,7 @@ use Rattle.snep_core.specs.declared.fault.SnepFault.TheVariants.{Memory}
 use Rattle.snep_core.specs.Calling.{Exchanged, IsCut, fault_of}
 use Rattle.snep_core.specs.Talk.{EndState, gave_something, own_of, silent}
 
-module _ {C A : Type 0} (seen : C → CarrierView) (moves : C → List FarStep → C → Type 0) (steps : A → List ℕ → List ℕ → A → Type 0)
+module _ {C A : Type 0} (seen : C → CarrierView) (swaps : C → List ℕ → List FarStep → C → Type 0) (steps : A → List ℕ → List ℕ → A → Type 0)
     (stops : A → List ℕ → A → Type 0) (link : C) (far : A) (now : C) (after : A) (llc mid : EndState) (out : List ℕ)
     (g : Gives silent llc out mid) where
   abbrev sent : List ℕ
@@ -20,12 +20,12 @@ module _ {C A : Type 0} (seen : C → CarrierView) (moves : C → List FarStep �
   pub cut_failed : {V : Type 0} (new : EndState) → new ≡ mid → (e : SnepFault) (why : LinkEnd) (r : Result V LinkEnd) → r ≡ Err why → e ≡ fault_of why.cause
       → ((seen link).over ≡ None → SwapFailed steps stops (seen link) (seen now) out why far after)
       → ((c : EndCause) → (seen link).over ≡ Some c
-      → SwapRefused (seen link) (seen now) c far after r × moves link [] now)
-      → Swapped moves steps stops link out far now after (AskedBy why.answered why.cause out)
-      → IsCut seen moves steps stops llc link far e new now after
+      → SwapRefused (seen link) (seen now) c far after r × (now ≡ link))
+      → ((seen link).over ≡ None → Swapped (λ p did q. swaps p out did q) steps stops link out far now after (AskedBy why.answered why.cause out))
+      → IsCut seen swaps steps stops llc link far e new now after
   cut_failed new kept e why r is fault fails refused swapped = go (seen link).over refl
     where
-      go : (o : Option EndCause) → (seen link).over ≡ o → IsCut seen moves steps stops llc link far e new now after
+      go : (o : Option EndCause) → (seen link).over ≡ o → IsCut seen swaps steps stops llc link far e new now after
       go None i = inr (inl (record {
         count = g.count;
         most = (g.allowed, g.most);
@@ -33,7 +33,7 @@ module _ {C A : Type 0} (seen : C → CarrierView) (moves : C → List FarStep �
         why = why;
         fault = fault;
         swap = subst (λ b. SwapFailed steps stops (seen link) (seen now) b why far after) g.bytes_are (fails i);
-        swapped = subst (λ b. Swapped moves steps stops link b far now after (AskedBy why.answered why.cause b)) g.bytes_are swapped;
+        swapped = subst (λ b. Swapped (λ p did q. swaps p b did q) steps stops link b far now after (AskedBy why.answered why.cause b)) g.bytes_are (swapped i);
       }))
       go (Some c) i =
           (let q = refused c i in
@@ -47,31 +47,31 @@ module _ {C A : Type 0} (seen : C → CarrierView) (moves : C → List FarStep �
             over = i;
             fault = fault ∙ ap (λ x. fault_of x.cause) w;
             same = q.0.same;
-            link_moved = q.1;
+            link_is = q.1;
             far_is = q.0.rests;
           })))
 
   pub cut_unread : (new : EndState) (e : SnepFault) (reply : List ℕ) → e ≡ Memory → SwapDone steps (seen link) (seen now) out reply far after
-      → Swapped moves steps stops link out far now after (λ did. did ≡ Stepped out reply ∷ [])
-      → IsCut seen moves steps stops llc link far e new now after
+      → Swapped (λ p did q. swaps p out did q) steps stops link out far now after (λ did. did ≡ Stepped out reply ∷ [])
+      → IsCut seen swaps steps stops llc link far e new now after
   cut_unread new e reply fault done swapped = inr (inr (record {
     count = g.count;
     most = (g.allowed, g.most);
     reply = reply;
     fault = fault;
     swap = subst (λ b. SwapDone steps (seen link) (seen now) b reply far after) g.bytes_are done;
-    swapped = subst (λ b. Swapped moves steps stops link b far now after (λ did. did ≡ Stepped b reply ∷ [])) g.bytes_are swapped;
+    swapped = subst (λ b. Swapped (λ p did q. swaps p b did q) steps stops link b far now after (λ did. did ≡ Stepped b reply ∷ [])) g.bytes_are swapped;
   }))
 
   pub exchanged : (reply : List ℕ) (gave : Bool) (new : EndState) → SwapDone steps (seen link) (seen now) out reply far after
-      → Swapped moves steps stops link out far now after (λ did. did ≡ Stepped out reply ∷ []) → new ≡ taken_from silent mid reply
-      → gave ≡ gave_something (own_of mid) (own_of new) → Exchanged seen moves steps stops llc link far gave new now after
+      → Swapped (λ p did q. swaps p out did q) steps stops link out far now after (λ did. did ≡ Stepped out reply ∷ []) → new ≡ taken_from silent mid reply
+      → gave ≡ gave_something (own_of mid) (own_of new) → Exchanged seen swaps steps stops llc link far gave new now after
   exchanged reply gave new done swapped took something = record {
     count = g.count;
     most = (g.allowed, g.most);
     reply = reply;
     swap = subst (λ b. SwapDone steps (seen link) (seen now) b reply far after) g.bytes_are done;
-    swapped = subst (λ b. Swapped moves steps stops link b far now after (λ did. did ≡ Stepped b reply ∷ [])) g.bytes_are swapped;
+    swapped = subst (λ b. Swapped (λ p did q. swaps p b did q) steps stops link b far now after (λ did. did ≡ Stepped b reply ∷ [])) g.bytes_are swapped;
     took = took ∙ ap (λ l. taken_from silent l reply) g.left;
     something = something ∙ ap (λ l. gave_something (own_of l) (own_of new)) g.left;
   }

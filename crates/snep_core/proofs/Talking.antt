@@ -2,13 +2,14 @@
 use Rattle.std.proofs.Common.{◌≡◌, ℕ, Bool, true, false, List, [], ◌∷◌, ◌++◌, ◌||◌, Option, Some, None, refl, sym, ap, subst, ◌∙◌, inr, append-nil}
 use Rattle.std.proofs.lemmas.List.{append_assoc}
 use Rattle.nfc_base.specs.Links.{CarrierView, FarStep, Stepped, Stopped, FarMoved, SwapDone, Swapped}
+use Rattle.nfc_link.specs.Swapping.{BySwaps, payload_of}
 use Rattle.llcp_link.specs.Asking.{forgotten}
 use Rattle.llcp_link.specs.Giving.{given, after_giving}
 use Rattle.snep_core.specs.declared.job.Turn.{Turn}
 use Rattle.snep_core.specs.declared.job.Turn.TheVariants.{GaveUp}
 use Rattle.snep_core.specs.declared.fault.SnepFault.{SnepFault}
 use Rattle.snep_core.specs.declared.fault.SnepFault.TheVariants.{Memory}
-use Rattle.snep_core.specs.Calling.{Exchanged, IsCut, Talks, Turned, last_of, payload_of, payloads, step_of}
+use Rattle.snep_core.specs.Calling.{Exchanged, IsCut, Talks, Turned, last_of, payloads, step_of}
 use Rattle.snep_core.specs.Jobs.{Job, has_byte}
 use Rattle.snep_core.specs.Talk.{EndState, Ends, GivesUp, Goes, IsMost, Ready, Step, Told, Working, alone, client_sap, emptied, gave_something, heard, heard_with, idle_after, own_of, payload, ready, readied, ready_so, replied, replied_ready, settled, silent, told_by, took, units_of}
 
@@ -32,7 +33,7 @@ last_more : (before : Option (List ℕ)) (did : List FarStep) (x : FarStep) → 
 last_more before [] x = refl
 last_more before (y ∷ did) x = last_more (Some (payload_of y)) did x
 
-module _ {C A : Type 0} (seen : C → CarrierView) (moves : C → List FarStep → C → Type 0) (steps : A → List ℕ → List ℕ → A → Type 0)
+module _ {C A : Type 0} (seen : C → CarrierView) (swaps : C → List ℕ → List FarStep → C → Type 0) (steps : A → List ℕ → List ℕ → A → Type 0)
     (stops : A → List ℕ → A → Type 0) where
   far_more : (from : Step) (ns : List ℕ) (did : List FarStep) (w : Working) → Told IsMost ns from did (Goes w) → (far mid after : A) (out reply : List ℕ)
       → FarMoved steps stops did far mid → steps mid out reply after → FarMoved steps stops (did ++ Stepped out reply ∷ []) far after
@@ -44,21 +45,26 @@ module _ {C A : Type 0} (seen : C → CarrierView) (moves : C → List FarStep �
   far_more (Ends o l) (k ∷ ns) (x ∷ did) w t far mid after out reply m s = absurd t
   far_more (GivesUp l) (k ∷ ns) (x ∷ did) w t far mid after out reply m s = absurd t
 
-  pub talks_none : ((a : C) → moves a [] a) → (from : Step) (link : C) (far : A) → Talks seen moves steps stops from link far from link far
-  talks_none law from link far = record {
+  by_more : (did : List FarStep) (x : FarStep) (a mid now : C) → BySwaps swaps did a mid → swaps mid (payload_of x) (x ∷ []) now → BySwaps swaps (did ++ x ∷ []) a now
+  by_more [] x a mid now b s = (now, subst (λ z. swaps z (payload_of x) (x ∷ []) now) b s, refl)
+  by_more (y ∷ did) x a mid now (half, one, rest) s = (half, one, by_more did x half mid now rest s)
+
+  pub talks_none : (from : Step) (link : C) (far : A) → Talks seen swaps steps stops from link far from link far
+  talks_none from link far = record {
     did = [];
     counts = [];
     told = refl;
     handed = sym (append-nil (seen link).handed);
     last = refl;
-    link_moved = law link;
+    over = refl;
+    swapped = refl;
     far_moved = refl;
   }
 
-  pub talks_on : ((a b c : C) (xs ys : List FarStep) → moves a xs b → moves b ys c → moves a (xs ++ ys) c) → (from : Step) (link : C) (far : A) (w : Working)
-      (mid : C) (mid_far : A) (turn : Turn) (new : EndState) (now : C) (after : A) → Talks seen moves steps stops from link far (Goes w) mid mid_far
-      → Turned seen moves steps stops w mid mid_far turn new now after → Talks seen moves steps stops from link far (step_of turn new) now after
-  talks_on law from link far w mid mid_far turn new now after t u =
+  pub talks_on : (from : Step) (link : C) (far : A) (w : Working)
+      (mid : C) (mid_far : A) (turn : Turn) (new : EndState) (now : C) (after : A) → Talks seen swaps steps stops from link far (Goes w) mid mid_far
+      → Turned seen swaps steps stops w mid mid_far turn new now after → Talks seen swaps steps stops from link far (step_of turn new) now after
+  talks_on from link far w mid mid_far turn new now after t u =
       let out = given silent u.count (ready w).llc in
       let x : FarStep = Stepped out u.reply in record {
         did = t.did ++ x ∷ [];
@@ -68,7 +74,8 @@ module _ {C A : Type 0} (seen : C → CarrierView) (moves : C → List FarStep �
             u.swap.handed ∙ ap (λ z. z ++ out ∷ []) t.handed ∙ append_assoc (seen link).handed (payloads t.did) (out ∷ [])
             ∙ ap (λ z. (seen link).handed ++ z) (sym (payloads_more t.did x));
         last = u.swap.swaps.last ∙ sym (last_more (seen link).last t.did x);
-        link_moved = law link mid now t.did (x ∷ []) t.link_moved (subst (λ d. moves mid d now) u.swapped.tells u.swapped.link);
+        over = u.swap.stays ∙ sym u.swap.swaps.begun ∙ t.over;
+        swapped = by_more t.did x link mid now t.swapped (subst (λ d. swaps mid out d now) u.swapped.tells u.swapped.link);
         far_moved = far_more from t.counts t.did w t.told far mid_far after out u.reply t.far_moved u.swap.step;
       }
 
@@ -93,21 +100,21 @@ module _ (old mid new : EndState) (job now : Job) (idle : ℕ) where
       ∙ ap (λ b. settled (emptied mid client_sap) (alone next) (idle_after b idle))
       (or_false (gave_something (own_of old) (own_of mid) || has_byte (units_of (own_of mid))) ∙ sym e)
 
-module _ {C A : Type 0} (seen : C → CarrierView) (moves : C → List FarStep → C → Type 0) (steps : A → List ℕ → List ℕ → A → Type 0)
+module _ {C A : Type 0} (seen : C → CarrierView) (swaps : C → List ℕ → List FarStep → C → Type 0) (steps : A → List ℕ → List ℕ → A → Type 0)
     (stops : A → List ℕ → A → Type 0) (link : C) (far : A) (over : C) (after : A) (l mid heard_end : EndState) (job now : Job) (idle : ℕ)
     (r : readied l client_sap job ≡ ready_so mid now) (gave : Bool)
-    (x : Exchanged seen moves steps stops mid link far gave heard_end over after) where
+    (x : Exchanged seen swaps steps stops mid link far gave heard_end over after) where
   abbrev working : Working
   working = record { llc = l; jobs = alone job; idle = idle }
 
   abbrev turned_by : (turn : Turn) (new : EndState) → took (after_giving silent x.count mid) heard_end (alone now) idle ≡ step_of turn new
-      → Turned seen moves steps stops working link far turn new over after
+      → Turned seen swaps steps stops working link far turn new over after
   turned_by turn new e = record {
     count = x.count;
     most = subst (λ (z : Ready). IsMost z.llc x.count) (sym r) x.most;
     reply = x.reply;
     swap = subst (λ (z : Ready). SwapDone steps (seen link) (seen over) (given silent x.count z.llc) x.reply far after) (sym r) x.swap;
-    swapped = subst (λ (z : Ready). Swapped moves steps stops link (given silent x.count z.llc) far over after
+    swapped = subst (λ (z : Ready). Swapped (λ p did q. swaps p (given silent x.count z.llc) did q) steps stops link (given silent x.count z.llc) far over after
         (λ did. did ≡ Stepped (given silent x.count z.llc) x.reply ∷ [])) (sym r) x.swapped;
     step =
         ap (λ (z : Ready). replied_ready x.count (record { llc = z.llc; jobs = record { sap = client_sap; job = z.job } ∷ []; idle = idle }) x.reply) r
@@ -116,22 +123,22 @@ module _ {C A : Type 0} (seen : C → CarrierView) (moves : C → List FarStep �
 
   -- the far end was at fault
   pub turned_none : (new : EndState) → heard heard_end client_sap now ≡ None → new ≡ forgotten heard_end client_sap
-      → Turned seen moves steps stops working link far GaveUp new over after
+      → Turned seen swaps steps stops working link far GaveUp new over after
   turned_none new h e = turned_by GaveUp new (took_none (after_giving silent x.count mid) heard_end new job now idle h e)
 
   -- its job came to this
   pub turned_some : (turn : Turn) (new : EndState) (next : Job) (some : Bool) → heard heard_end client_sap now ≡ Some next
       → some ≡ has_byte (units_of (own_of heard_end))
       → settled (emptied heard_end client_sap) (alone next) (idle_after (gave || some) idle) ≡ step_of turn new
-      → Turned seen moves steps stops working link far turn new over after
+      → Turned seen swaps steps stops working link far turn new over after
   turned_some turn new next some h s e =
       turned_by turn new
       (took_some (after_giving silent x.count mid) heard_end new job now idle next (gave || some) h
       (ap (λ b. b || some) x.something ∙ ap (λ b. gave_something (own_of (after_giving silent x.count mid)) (own_of heard_end) || b) s) ∙ e)
 
   -- it was answered, and memory was wanting as the reply was read
-  pub unread : (e : SnepFault) (new : EndState) → e ≡ Memory → IsCut seen moves steps stops (ready working).llc link far e new over after
-  unread e new f = subst (λ (z : Ready). IsCut seen moves steps stops z.llc link far e new over after) (sym r) (inr (inr (record {
+  pub unread : (e : SnepFault) (new : EndState) → e ≡ Memory → IsCut seen swaps steps stops (ready working).llc link far e new over after
+  unread e new f = subst (λ (z : Ready). IsCut seen swaps steps stops z.llc link far e new over after) (sym r) (inr (inr (record {
     count = x.count;
     most = x.most;
     reply = x.reply;

@@ -4,6 +4,7 @@ use Rattle.nfc_base.specs.declared.carrier.EndCause.{EndCause}
 use Rattle.nfc_base.specs.declared.carrier.EndCause.TheVariants as cause
 use Rattle.nfc_base.specs.declared.carrier.LinkEnd.{LinkEnd}
 use Rattle.nfc_base.specs.Links.{CarrierView, FarStep, Stepped, Stopped, FarMoved, SwapDone, SwapFailed, Swapped, AskedBy}
+use Rattle.nfc_link.specs.Swapping.{BySwaps, payload_of}
 use Rattle.llcp_link.specs.Taking.{taken_from}
 use Rattle.llcp_link.specs.Giving.{given, after_giving}
 use Rattle.snep_core.specs.declared.fault.SnepFault.{SnepFault}
@@ -22,10 +23,6 @@ pub record ClientState : Type 0 where
   pub spent : Bool
 
 -- the payloads that were handed over
-abbrev pub payload_of : FarStep → List ℕ
-payload_of (Stepped payload reply) = payload
-payload_of (Stopped payload) = payload
-
 abbrev pub payloads : List FarStep → List (List ℕ)
 payloads [] = []
 payloads (x ∷ xs) = payload_of x ∷ payloads xs
@@ -59,17 +56,18 @@ step_of (Ended e) l = Ends (alone (Over e)) l
 step_of (Went job idle) l = Goes (record { llc = l; jobs = alone job; idle = idle })
 step_of GaveUp l = GivesUp l
 
-module _ {C A : Type 0} (seen : C → CarrierView) (moves : C → List FarStep → C → Type 0) (steps : A → List ℕ → List ℕ → A → Type 0)
+module _ {C A : Type 0} (seen : C → CarrierView) (swaps : C → List ℕ → List FarStep → C → Type 0) (steps : A → List ℕ → List ℕ → A → Type 0)
     (stops : A → List ℕ → A → Type 0) where
-  -- A call came from one step to another over the link: what was handed over, each payload with as many PDUs as fit, and what the
-  -- link and the far end did.
+  -- A call came from one step to another over the link: what was handed over, each payload with as many PDUs as fit and in one swap,
+  -- and what the far end did. The link is over where it was over before.
   pub record Talks (from : Step) (link : C) (far : A) (to : Step) (now : C) (after : A) : Type 0 where
     pub did : List FarStep
     pub counts : List ℕ
     pub told : Told IsMost counts from did to
     pub handed : (seen now).handed ≡ (seen link).handed ++ payloads did
     pub last : (seen now).last ≡ last_of (seen link).last did
-    pub link_moved : moves link did now
+    pub over : (seen now).over ≡ (seen link).over
+    pub swapped : BySwaps swaps did link now
     pub far_moved : FarMoved steps stops did far after
 
   -- one exchange: the next payload was answered, and the reply taken
@@ -78,7 +76,7 @@ module _ {C A : Type 0} (seen : C → CarrierView) (moves : C → List FarStep �
     pub most : IsMost old count
     pub reply : List ℕ
     pub swap : SwapDone steps (seen link) (seen now) (given silent count old) reply far after
-    pub swapped : Swapped moves steps stops link (given silent count old) far now after
+    pub swapped : Swapped (λ p did q. swaps p (given silent count old) did q) steps stops link (given silent count old) far now after
         (λ did. did ≡ Stepped (given silent count old) reply ∷ [])
     pub took : new ≡ taken_from silent (after_giving silent count old) reply
     pub something : gave ≡ gave_something (own_of (after_giving silent count old)) (own_of new)
@@ -89,7 +87,7 @@ module _ {C A : Type 0} (seen : C → CarrierView) (moves : C → List FarStep �
     pub most : IsMost (ready w).llc count
     pub reply : List ℕ
     pub swap : SwapDone steps (seen link) (seen now) (given silent count (ready w).llc) reply far after
-    pub swapped : Swapped moves steps stops link (given silent count (ready w).llc) far now after
+    pub swapped : Swapped (λ p did q. swaps p (given silent count (ready w).llc) did q) steps stops link (given silent count (ready w).llc) far now after
         (λ did. did ≡ Stepped (given silent count (ready w).llc) reply ∷ [])
     pub step : replied count w reply ≡ step_of turn new
 
@@ -108,7 +106,7 @@ module _ {C A : Type 0} (seen : C → CarrierView) (moves : C → List FarStep �
     pub over : (seen link).over ≡ Some why
     pub fault : e ≡ fault_of why
     pub same : seen now ≡ seen link
-    pub link_moved : moves link [] now
+    pub link_is : now ≡ link
     pub far_is : after ≡ far
 
   -- The swap of the next payload failed. The client's end gave it, and heard nothing.
@@ -119,7 +117,7 @@ module _ {C A : Type 0} (seen : C → CarrierView) (moves : C → List FarStep �
     pub why : LinkEnd
     pub fault : e ≡ fault_of why.cause
     pub swap : SwapFailed steps stops (seen link) (seen now) (given silent count old) why far after
-    pub swapped : Swapped moves steps stops link (given silent count old) far now after
+    pub swapped : Swapped (λ p did q. swaps p (given silent count old) did q) steps stops link (given silent count old) far now after
         (AskedBy why.answered why.cause (given silent count old))
 
   -- The next payload was answered, and as the reply was taken memory was wanting.
@@ -129,7 +127,7 @@ module _ {C A : Type 0} (seen : C → CarrierView) (moves : C → List FarStep �
     pub reply : List ℕ
     pub fault : e ≡ Memory
     pub swap : SwapDone steps (seen link) (seen now) (given silent count old) reply far after
-    pub swapped : Swapped moves steps stops link (given silent count old) far now after
+    pub swapped : Swapped (λ p did q. swaps p (given silent count old) did q) steps stops link (given silent count old) far now after
         (λ did. did ≡ Stepped (given silent count old) reply ∷ [])
 
   -- An exchange was cut off. Where this end wanted no memory itself, it is left as it was once it gave its payload.

@@ -17,7 +17,8 @@ use crate::server::SNEP_SAP;
 use crate::silent::NoService;
 use bytes::Bytes;
 use llcp_link::{Llc, LlcFault, Standing};
-use nfc_base::{Answerer, Carrier};
+use nfc_base::Answerer;
+use nfc_link::Link;
 use std::alloc::Global;
 use std::marker::Model;
 
@@ -132,7 +133,7 @@ impl Client {
     }
 
     /// Asks for a connection where none is there, and exchanges until the request was answered.
-    fn ask<C: Carrier, A: Answerer>(
+    fn ask<C: Link, A: Answerer>(
         &mut self,
         carrier: &mut C,
         far: &mut A,
@@ -141,12 +142,12 @@ impl Client {
     ) -> Result<Ending, SnepFault>
         requires ready { C.ready carrier.old }
         requires going { self.old.spent ≡ false }
-        ensures ok { IfOk result (λ ending. Talks C.seen C.moves A.steps A.stops
+        ensures ok { IfOk result (λ ending. Talks C.seen C.swaps A.steps A.stops
             (begun (connected self.old.llc client_sap) (Job.Begins most request))
             carrier.old far.old (Ends (alone (Over ending)) self.new.llc) carrier.new far.new) }
         ensures aim { IfOk result (λ ending. IsOf (aim_by most) ending) }
         ensures going { OnOk result (self.new.spent ≡ false) }
-        ensures err { IfErr result (λ e. FailsBy C.seen C.moves A.steps A.stops
+        ensures err { IfErr result (λ e. FailsBy C.seen C.swaps A.steps A.stops
             (begun (connected self.old.llc client_sap) (Job.Begins most request))
             carrier.old far.old e self.new.llc carrier.new far.new) }
         ensures spent { IfErr result (λ e. self.new.spent ≡ is_memory e) }
@@ -164,7 +165,7 @@ impl Client {
     }
 
     /// Puts a message of at most 65,536 bytes.
-    pub fn put<C: Carrier, A: Answerer>(
+    pub fn put<C: Link, A: Answerer>(
         &mut self,
         carrier: &mut C,
         far: &mut A,
@@ -172,10 +173,10 @@ impl Client {
     ) -> Result<(), SnepFault>
         requires ready { C.ready carrier.old }
         requires message { length message.now ≤ 65536 }
-        ensures ok { OnOk result (Talks C.seen C.moves A.steps A.stops (begins self.old.llc (Puts message.now))
+        ensures ok { OnOk result (Talks C.seen C.swaps A.steps A.stops (begins self.old.llc (Puts message.now))
             carrier.old far.old (Ends (alone (Over Done)) self.new.llc) carrier.new far.new) }
         ensures going { OnOk result ((self.old.spent ≡ false) × (self.new.spent ≡ false)) }
-        ensures err { self.old.spent ≡ false → IfErr result (λ e. RequestFails C.seen C.moves A.steps A.stops
+        ensures err { self.old.spent ≡ false → IfErr result (λ e. RequestFails C.seen C.swaps A.steps A.stops
             (begins self.old.llc (Puts message.now)) carrier.old far.old e self.new.llc carrier.new far.new) }
         // Over a far end that serves as this project's server does, and with which the client accords:
         ensures taken { AtPeers A.steps A.stops self.old.llc far.old (λ view.
@@ -204,7 +205,7 @@ impl Client {
     }
 
     /// The value of a key of at most 65,536 bytes, where it has at most so many bytes.
-    pub fn get<C: Carrier, A: Answerer>(
+    pub fn get<C: Link, A: Answerer>(
         &mut self,
         carrier: &mut C,
         far: &mut A,
@@ -213,10 +214,10 @@ impl Client {
     ) -> Result<Vec<u8>, SnepFault>
         requires ready { C.ready carrier.old }
         requires key { length key.now ≤ 65536 }
-        ensures ok { IfOk result (λ value. Talks C.seen C.moves A.steps A.stops (begins self.old.llc (Gets acceptable key.now))
+        ensures ok { IfOk result (λ value. Talks C.seen C.swaps A.steps A.stops (begins self.old.llc (Gets acceptable key.now))
             carrier.old far.old (Ends (alone (Over (Value value.items))) self.new.llc) carrier.new far.new) }
         ensures going { OnOk result ((self.old.spent ≡ false) × (self.new.spent ≡ false)) }
-        ensures err { self.old.spent ≡ false → IfErr result (λ e. RequestFails C.seen C.moves A.steps A.stops
+        ensures err { self.old.spent ≡ false → IfErr result (λ e. RequestFails C.seen C.swaps A.steps A.stops
             (begins self.old.llc (Gets acceptable key.now)) carrier.old far.old e self.new.llc carrier.new far.new) }
         // Over a far end that serves as this project's server does, and with which the client accords:
         ensures value { AtPeers A.steps A.stops self.old.llc far.old (λ view.
@@ -245,7 +246,7 @@ impl Client {
     }
 
     /// The SAP at which the far end has a name of at most 64 bytes, 0 where it has none.
-    pub fn lookup<C: Carrier, A: Answerer>(
+    pub fn lookup<C: Link, A: Answerer>(
         &mut self,
         carrier: &mut C,
         far: &mut A,
@@ -253,10 +254,10 @@ impl Client {
     ) -> Result<u8, SnepFault>
         requires ready { C.ready carrier.old }
         requires name { length name.now ≤ 64 }
-        ensures ok { IfOk result (λ sap. Talks C.seen C.moves A.steps A.stops (begins self.old.llc (Finds name.now))
+        ensures ok { IfOk result (λ sap. Talks C.seen C.swaps A.steps A.stops (begins self.old.llc (Finds name.now))
             carrier.old far.old (Ends (alone (Over (Sap sap))) self.new.llc) carrier.new far.new) }
         ensures going { OnOk result ((self.old.spent ≡ false) × (self.new.spent ≡ false)) }
-        ensures err { self.old.spent ≡ false → IfErr result (λ e. FailsBy C.seen C.moves A.steps A.stops
+        ensures err { self.old.spent ≡ false → IfErr result (λ e. FailsBy C.seen C.swaps A.steps A.stops
             (begins self.old.llc (Finds name.now)) carrier.old far.old e self.new.llc carrier.new far.new) }
         // Over a far end that serves as this project's server does, and with which the client accords:
         ensures found { AtPeers A.steps A.stops self.old.llc far.old (λ view.
@@ -284,16 +285,16 @@ impl Client {
     }
 
     /// Ends its connection, where one is open.
-    pub fn close<C: Carrier, A: Answerer>(
+    pub fn close<C: Link, A: Answerer>(
         &mut self,
         carrier: &mut C,
         far: &mut A,
     ) -> Result<(), SnepFault>
         requires ready { C.ready carrier.old }
-        ensures ok { OnOk result (Talks C.seen C.moves A.steps A.stops (begins self.old.llc Leaves)
+        ensures ok { OnOk result (Talks C.seen C.swaps A.steps A.stops (begins self.old.llc Leaves)
             carrier.old far.old (Ends (alone (Over Done)) self.new.llc) carrier.new far.new) }
         ensures going { OnOk result ((self.old.spent ≡ false) × (self.new.spent ≡ false)) }
-        ensures err { self.old.spent ≡ false → IfErr result (λ e. FailsBy C.seen C.moves A.steps A.stops
+        ensures err { self.old.spent ≡ false → IfErr result (λ e. FailsBy C.seen C.swaps A.steps A.stops
             (begins self.old.llc Leaves) carrier.old far.old e self.new.llc carrier.new far.new) }
         // Over a far end that serves as this project's server does, and with which the client accords:
         ensures closed { AtPeers A.steps A.stops self.old.llc far.old (λ view.

@@ -10,7 +10,8 @@ ghost use Rattle.snep_core.specs.declared.fault.SnepFault.{SnepFault};
 use crate::client::{CLIENT_SAP, Client, gave_between};
 use crate::fault::SnepFault;
 use crate::job::{Ending, Job, Turn};
-use nfc_base::{Answerer, Carrier, EndCause};
+use nfc_base::{Answerer, EndCause};
+use nfc_link::Link;
 
 /// Replies that gave nothing, in a row, before a far end is given up.
 const MOST_IDLE: u8 = 16;
@@ -32,7 +33,7 @@ impl Client {
     }
 
     /// One exchange: the next payload goes out, and its reply is taken. Whether that gave something on the connection.
-    fn exchange<C: Carrier, A: Answerer>(
+    fn exchange<C: Link, A: Answerer>(
         &mut self,
         carrier: &mut C,
         far: &mut A,
@@ -40,12 +41,12 @@ impl Client {
         requires ready { C.ready carrier.old }
         requires going { self.old.spent ≡ false }
         ensures ok { IfOk result (λ gave.
-            Exchanged C.seen C.moves A.steps A.stops self.old.llc carrier.old far.old gave
+            Exchanged C.seen C.swaps A.steps A.stops self.old.llc carrier.old far.old gave
             self.new.llc carrier.new far.new) }
         ensures falls { IfOk result (λ gave. Lessens gave (own_of self.old.llc) (own_of self.new.llc)) }
         ensures going { OnOk result (self.new.spent ≡ false) }
         ensures err { IfErr result (λ e.
-            IsCut C.seen C.moves A.steps A.stops self.old.llc carrier.old far.old e self.new.llc carrier.new far.new) }
+            IsCut C.seen C.swaps A.steps A.stops self.old.llc carrier.old far.old e self.new.llc carrier.new far.new) }
         ensures spent { IfErr result (λ e. self.new.spent ≡ is_memory e) }
         ensures ready { C.ready carrier.new }
         ensures same { C.lenders carrier.new ≡ C.lenders carrier.old }
@@ -55,7 +56,7 @@ impl Client {
             return Err(self.spend());
         }
         let before = self.stands();
-        match carrier.swap(self.alloc, &out, far) {
+        match carrier.exchange(self.alloc, &out, far) {
             Err(end) => Err(self.ended(end.cause)),
             Ok(reply) => {
                 if self.llc.take(&reply).is_err() {
@@ -88,7 +89,7 @@ impl Client {
     }
 
     /// One exchange, and what the call is then.
-    fn turn<C: Carrier, A: Answerer>(
+    fn turn<C: Link, A: Answerer>(
         &mut self,
         carrier: &mut C,
         far: &mut A,
@@ -98,12 +99,12 @@ impl Client {
         requires ready { C.ready carrier.old }
         requires going { self.old.spent ≡ false }
         requires idle { idle < most_idle }
-        ensures ok { IfOk result (λ turn. Turned C.seen C.moves A.steps A.stops
+        ensures ok { IfOk result (λ turn. Turned C.seen C.swaps A.steps A.stops
             (record { llc = self.old.llc; jobs = alone job; idle = idle }) carrier.old far.old turn self.new.llc carrier.new far.new) }
         ensures serves { IfOk result (λ turn. (aim : Aim) → Serves aim job → TurnServes aim turn) }
         ensures falls { IfOk result (λ turn. Falls (one_job self.old.llc job idle) turn self.new.llc) }
         ensures going { OnOk result (self.new.spent ≡ false) }
-        ensures err { IfErr result (λ e. IsCut C.seen C.moves A.steps A.stops
+        ensures err { IfErr result (λ e. IsCut C.seen C.swaps A.steps A.stops
             (ready (record { llc = self.old.llc; jobs = alone job; idle = idle })).llc
             carrier.old far.old e self.new.llc carrier.new far.new) }
         ensures spent { IfErr result (λ e. self.new.spent ≡ is_memory e) }
@@ -126,7 +127,7 @@ impl Client {
     }
 
     /// Exchanges until the job is over, or the far end is given up.
-    pub(crate) fn converse<C: Carrier, A: Answerer>(
+    pub(crate) fn converse<C: Link, A: Answerer>(
         &mut self,
         carrier: &mut C,
         far: &mut A,
@@ -134,11 +135,11 @@ impl Client {
     ) -> Result<Ending, SnepFault>
         requires ready { C.ready carrier.old }
         requires going { self.old.spent ≡ false }
-        ensures ok { IfOk result (λ ending. Talks C.seen C.moves A.steps A.stops (begun self.old.llc first)
+        ensures ok { IfOk result (λ ending. Talks C.seen C.swaps A.steps A.stops (begun self.old.llc first)
             carrier.old far.old (Ends (alone (Over ending)) self.new.llc) carrier.new far.new) }
         ensures aim { IfOk result (λ ending. IsOf (aim_of first) ending) }
         ensures going { OnOk result (self.new.spent ≡ false) }
-        ensures err { IfErr result (λ e. FailsBy C.seen C.moves A.steps A.stops (begun self.old.llc first)
+        ensures err { IfErr result (λ e. FailsBy C.seen C.swaps A.steps A.stops (begun self.old.llc first)
             carrier.old far.old e self.new.llc carrier.new far.new) }
         ensures spent { IfErr result (λ e. self.new.spent ≡ is_memory e) }
         ensures ready { C.ready carrier.new }

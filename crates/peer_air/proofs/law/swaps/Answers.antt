@@ -1,5 +1,5 @@
 use Rattle.air_core.proofs.PlainAside.{Laws}
-use Rattle.peer_air.proofs.Wholly.{exchanges_far, swaps_far, moves_far, stops_far}
+use Rattle.peer_air.proofs.Wholly.{exchanges_far, swaps_far, moves_far, stops_far, peers_stand}
 use Rattle.peer_air.proofs.law.swaps.Given as given
 use Rattle.peer_air.proofs.law.swaps.Goals as goal
 
@@ -11,6 +11,9 @@ laws g = record {
   rests = g.met.L.Listener.rests;
   ignores = g.met.L.Listener.ignores;
 }
+
+pub returns-clause-stands : goal.returns-clause-stands
+returns-clause-stands g c = λ linked t. peers_stand g.L.Listener g.L.PeerListener.target linked t
 
 pub returns-clause-exchange : goal.returns-clause-exchange
 returns-clause-exchange g c = λ linked t. exchanges_far g.L.Listener (laws g) g.L.PeerListener.target linked t

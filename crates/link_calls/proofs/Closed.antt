@@ -1,0 +1,124 @@
+-- What ending a connection and releasing its link comes to.
+use Rattle.std.proofs.Common.{◌≡◌, ◌⊎◌, ℕ, List, [], ◌∷◌, Bool, true, false, Option, Some, None, Result, Ok, Err, refl, sym, ◌∙◌, ap, subst, inl, inr}
+use Rattle.nfc_base.specs.Signal.{Signal}
+use Rattle.nfc_base.specs.declared.carrier.EndCause.{EndCause}
+use Rattle.nfc_base.specs.declared.carrier.EndCause.TheVariants as cause
+use Rattle.nfc_base.specs.declared.carrier.LinkEnd.{LinkEnd}
+use Rattle.nfc_base.specs.declared.event.Heard.{Heard}
+use Rattle.nfc_base.specs.declared.event.Event.TheVariants.{Request}
+use Rattle.nfc_base.specs.declared.event.Fate.TheVariants.{Pass}
+use Rattle.air_core.specs.Conversation.{Asks, first_fate, later_fates}
+use Rattle.air_core.specs.Turn.{Air, TurnIs, after_event}
+use Rattle.air_core.specs.declared.listener.Listener.{Ghosts}
+use Rattle.air_core.proofs.PlainAside.{Laws}
+use Rattle.dep_link.specs.Target.{TargetState}
+use Rattle.dep_link.specs.Initiator.{InitState}
+use Rattle.dep_link.specs.DepLinks.{DepSeen, IsDepReady, first_seen}
+use Rattle.dep_link.specs.Releasing.{Releases, rls_frame}
+use Rattle.llcp_link.specs.Answering.{Answers, Stops}
+use Rattle.far_air.specs.FarLaws.{IsLinked}
+use Rattle.peer_air.specs.PeerFars.{peer_ends}
+use Rattle.peer_air.specs.SwapTurns.{Stands}
+use Rattle.snep_core.specs.declared.fault.SnepFault.{SnepFault}
+use Rattle.snep_core.specs.declared.fault.SnepFault.TheVariants.{BadPeer, Excess, LinkEnded, Memory, NotFound, NotImplemented, Reject}
+use Rattle.snep_core.specs.Accord.{PeerState}
+use Rattle.snep_core.specs.Server.{serving}
+use Rattle.snep_core.specs.Calling.{Talks, FailsBy, fault_of}
+use Rattle.snep_core.specs.Talk.{EndState, OnSap, Step, Goes, Ends, GivesUp}
+use Rattle.link_calls.specs.CallDue.{CallStanding, Carries, Comes, BrokenBy, Strays, call_due_at}
+use Rattle.link_calls.specs.CallTurns.{sees, swaps}
+use Rattle.link_calls.specs.Calls.{IsOpen, IsCutOff}
+use Rattle.link_calls.specs.ClosingDue.{Calls, Releasing, Released, closing_at, closing_due_at}
+use Rattle.link_calls.specs.Closing.{ClosingTurns, ClosingFront, ClosingFails, IsReleased}
+use Rattle.link_calls.proofs.Made.{begins, peer_table, peer_kind, reaches, made, cut_off}
+use Rattle.link_calls.proofs.Closes.{of_call, with_release}
+
+due_same : (s : CallStanding) (f : Signal) → call_due_at s ≡ Asks f → closing_due_at (closing_at s) ≡ Asks f
+due_same (Carries w ks q) f e = e
+due_same (Comes to i) f e = absurd cc
+due_same (BrokenBy c) f e = absurd cc
+due_same Strays f e = absurd cc
+
+-- how a call was left off, so was the closing
+left_so : {L : Type 0} (k : Ghosts L) (new : Air L) (after : PeerState) (mid : Air L) (half : PeerState) (s : CallStanding)
+    → ((new ≡ mid) × (after ≡ half))
+    ⊎ ((sent : Signal) × (listeners : List L) × (call_due_at s ≡ Asks sent) × (first_fate mid.fates ≡ Pass) × (new ≡ after_event mid (Request sent Pass) (later_fates mid.fates) (record { lit = true; listeners = listeners })))
+    → (new ≡ mid)
+    ⊎ ((sent : Signal) × (listeners : List L) × (closing_due_at (closing_at s) ≡ Asks sent) × (first_fate mid.fates ≡ Pass) × (new ≡ after_event mid (Request sent Pass) (later_fates mid.fates) (record { lit = true; listeners = listeners })))
+left_so k new after mid half s (inl e) = inl e.0
+left_so k new after mid half s (inr (sent, listeners, due, fate, left)) = inr (sent, listeners, due_same s sent due, fate, left)
+
+module _ {L C : Type 0} (k : Ghosts L) (target : L → TargetState) (see : C → DepSeen L) (laws : Laws k) (a b : C) (far half : PeerState) (old : Air L) (i : InitState) (is : see a ≡ first_seen old i)
+    (open_ : IsOpen k target old i) (ready : (see b).over ≡ None → IsDepReady k target (see b)) (from : Step) where
+  abbrev Fails : EndState → Air L → PeerState → SnepFault → Type 0
+  Fails client new after e = ClosingFails k target from old i far new after client (see b).initiator e
+
+  -- the call was cut off
+  cut_closing : (client : EndState) (e : SnepFault) → IsCutOff k target from old i far (see b).air (see b).initiator half e → Fails client (see b).air half e
+  cut_closing client Reject c = absurd c
+  cut_closing client NotFound c = absurd c
+  cut_closing client Excess c = absurd c
+  cut_closing client NotImplemented c = absurd c
+  cut_closing client BadPeer c = absurd c
+  cut_closing client (LinkEnded cause.Protocol) c = absurd c
+  cut_closing client (LinkEnded cause.Memory) c = absurd c
+  cut_closing client (LinkEnded cause.FieldLost) c = λ linked links place there os.
+      let z = c linked links place there os in (z.0, of_call k linked peer_ends place os z.0 from i old far (see b).air half target (BrokenBy cause.FieldLost) z.1 (λ q. cc))
+  cut_closing client (LinkEnded cause.SixBad) c = λ linked links place there os.
+      let z = c linked links place there os in (z.0, of_call k linked peer_ends place os z.0 from i old far (see b).air half target (BrokenBy cause.SixBad) z.1 (λ q. cc))
+  cut_closing client Memory c = λ linked links place there os.
+      let z = c linked links place there os in
+      record {
+        numbers = z.numbers;
+        standing = closing_at z.standing;
+        mid = z.mid;
+        half = z.half;
+        turns = of_call k linked peer_ends place os z.numbers from i old far z.mid z.half target z.standing z.turns z.under_way;
+        left = left_so k (see b).air half z.mid z.half z.standing z.left;
+      }
+
+  pub closing_failed : (client : EndState) (e : SnepFault) → FailsBy (sees see) (swaps k target see) (Answers serving) (Stops serving) from a far e client b half → Fails client (see b).air half e
+  closing_failed client e (inl (bad, talk)) =
+      subst (Fails client (see b).air half) (sym bad) (λ linked links place there os.
+      let z = (reaches k target see laws a b far half old i is open_ ready from (GivesUp client) talk refl linked links place there os).0 in
+      (z.0, of_call k linked peer_ends place os z.0 from i old far (see b).air half target (Comes (GivesUp client) (see b).initiator) z.1 (λ q. cc)))
+  closing_failed client e (inr broke) = cut_closing client e (cut_off k target see laws a b far half old i is open_ ready from e client broke)
+
+  module _ (jobs : List OnSap) (client : EndState) (talk : Talks (sees see) (swaps k target see) (Answers serving) (Stops serving) from a far (Ends jobs client) b half) (is_stuck : PeerState → Bool) (new : Air L) (after : PeerState) where
+    -- RLS_REQ is due
+    due_rls : (linked : L → Bool) → IsLinked k.machine linked → (place : ℕ) → Stands k target linked peer_ends old place → (os : List (Option PeerState))
+        → ((numbers : List ℕ) × ClosingTurns k linked peer_ends numbers from i old (see b).air place os far half (Releasing (Ends jobs client))) × Stands k target linked peer_ends (see b).air place
+    due_rls linked links place there os =
+        let z = reaches k target see laws a b far half old i is open_ ready from (Ends jobs client) talk refl linked links place there os in
+        ((z.0.0, of_call k linked peer_ends place os z.0.0 from i old far (see b).air half target (Comes (Ends jobs client) (see b).initiator) z.0.1 (λ q. cc)), z.1)
+
+    pub released : Releases k.machine begins (Answers serving) (Stops serving) is_stuck (see b).air half (Ok tt) new after → IsReleased k target from old i far new after (Ends jobs client)
+    released (heard, turn) = λ linked links place there os.
+        let z = due_rls linked links place there os in (
+          z.0.0,
+          with_release k linked peer_ends place os z.0.0 from i old far laws target begins (Answers serving) (λ l. l) links peer_table peer_kind (see b).air new half after (Ends jobs client) z.0.1 z.1 (Some heard) turn,
+        )
+
+    pub release_failed : (answered : Bool) (c : EndCause) → Releases k.machine begins (Answers serving) (Stops serving) is_stuck (see b).air half (Err (record { cause = c; answered = answered })) new after
+        → Fails client new after (fault_of c)
+    release_failed answered cause.FieldLost (q, inl d) = absurd (let lit = (made k target see laws a b far half old i is open_ ready from (Ends jobs client) talk refl).open_.in_step.0 in let dark = d.0 in cc)
+    release_failed answered cause.FieldLost (q, inr turn) = λ linked links place there os.
+        let z = due_rls linked links place there os in (
+          z.0.0,
+          with_release k linked peer_ends place os z.0.0 from i old far laws target begins (Answers serving) (λ l. l) links peer_table peer_kind (see b).air new half after (Ends jobs client) z.0.1 z.1 None turn,
+        )
+    release_failed answered cause.Memory (q, (lit, inl same)) = λ linked links place there os.
+        let z = due_rls linked links place there os in
+        record { numbers = z.0.0; standing = Releasing (Ends jobs client); mid = (see b).air; half = half; turns = z.0.1; left = inl same.0 }
+    release_failed answered cause.Memory (q, (lit, inr stops)) = λ linked links place there os.
+        let z = due_rls linked links place there os in
+        record {
+          numbers = z.0.0;
+          standing = Releasing (Ends jobs client);
+          mid = (see b).air;
+          half = half;
+          turns = z.0.1;
+          left = inr (rls_frame, stops.listeners, refl, stops.fate, stops.left);
+        }
+    release_failed answered cause.SixBad (q, never) = absurd never
+    release_failed answered cause.Protocol (q, never) = absurd never

@@ -1,0 +1,5 @@
+pub mod CallWalk
+pub mod Open
+pub mod Made
+pub mod Closes
+pub mod Closed

@@ -1,0 +1,159 @@
+-- What a call over the open link of a field comes to.
+use Rattle.std.proofs.Common.{◌≡◌, ◌≤◌, ℕ, List, [], ◌∷◌, ◌++◌, length, Bool, true, Option, Some, None, Result, Ok, Err, IfErr, IfOk, OnOk, refl, sym, ◌∙◌, ap, subst, inl, inr}
+use Rattle.nfc_base.specs.Links.{FarStep, Stepped, Stopped}
+use Rattle.nfc_link.specs.Swapping.{BySwaps}
+use Rattle.nfc_base.specs.declared.carrier.EndCause.{EndCause}
+use Rattle.nfc_base.specs.declared.carrier.EndCause.TheVariants as cause
+use Rattle.air_core.specs.Turn.{Air}
+use Rattle.air_core.specs.declared.listener.Listener.{Ghosts}
+use Rattle.air_core.proofs.PlainAside.{Laws}
+use Rattle.dep_link.specs.Target.{TargetState}
+use Rattle.dep_link.specs.Initiator.{InitState}
+use Rattle.dep_link.specs.Asking.{Standing}
+use Rattle.dep_link.specs.DepLinks.{DepSeen, IsDepReady, StandsAt, first_seen, over_at}
+use Rattle.llcp_link.specs.State.{restarted}
+use Rattle.llcp_link.specs.Answering.{Answers, Stops, answers_fit}
+use Rattle.far_air.specs.FarLaws.{IsFarTable, IsLinked, IsOfTable}
+use Rattle.peer_air.specs.PeerFars.{peer_ends}
+use Rattle.peer_air.specs.SwapTurns.{Stands}
+use Rattle.peer_air.proofs.PeerEnds.{are_far_ends, ends_step}
+use Rattle.peer_air.proofs.Wholly.{swaps_far, stops_far}
+use Rattle.snep_core.specs.declared.fault.SnepFault.{SnepFault}
+use Rattle.snep_core.specs.Accord.{PeerState}
+use Rattle.snep_core.specs.Server.{serving}
+use Rattle.snep_core.specs.Calling.{Talks, Breaks, FailsBy, IsCut, fault_of}
+use Rattle.snep_core.specs.Calling as calling
+use Rattle.snep_core.specs.declared.job.Job.TheVariants.{Over}
+use Rattle.snep_core.specs.declared.job.Ending.TheVariants.{Refused}
+use Rattle.snep_core.specs.Talk.{EndState, IsMost, Step, Goes, Ends, GivesUp, Told, Working, alone, replied}
+use Rattle.snep_core.specs.Talk.{ready as ready_of}
+use Rattle.link_calls.specs.CallDue.{CallStanding, Comes, call_at}
+use Rattle.link_calls.specs.CallTurns.{CallTurns, CutBy, sees, swaps}
+use Rattle.link_calls.specs.Calls.{IsOpen, IsMade, IsCutOff, CallFails, RequestFails}
+use Rattle.link_calls.proofs.CallWalk.{talks_far, breaks_far}
+use Rattle.link_calls.proofs.Open.{in_step, swap_open}
+
+-- an end with a server as a far end of the world
+abbrev pub begins : PeerState → List ℕ → PeerState → Type 0
+begins old general new = new ≡ restarted serving old general
+
+abbrev pub peer_table : IsFarTable peer_ends
+peer_table = are_far_ends serving (λ s. refl)
+
+abbrev pub peer_kind : IsOfTable begins (Answers serving) peer_ends (λ l. l)
+peer_kind = ends_step serving
+
+-- What is said of what a link borrows is said of what it gives back.
+pub given_back : {L : Type 0} (P : Air L → InitState → Type 0) (b y : Air L) (j z : InitState) → b ≡ y → j ≡ z → P b j → P y z
+given_back P b y j z field initiator p = subst (P y) initiator (subst (λ a. P a j) field p)
+
+module _ {L C : Type 0} (k : Ghosts L) (target : L → TargetState) (see : C → DepSeen L) where
+  open_at : (did : List FarStep) (a b : C) → BySwaps (swaps k target see) did a b → (see b).over ≡ None → (see a).over ≡ None
+  open_at [] a b e goes = subst (λ z. (see z).over ≡ None) e goes
+  open_at (x ∷ did) a b (mid, one, rest) goes = one.begins
+
+  -- the initiator rests behind each swap that was answered
+  going_on : (ns : List ℕ) (did : List FarStep) (from to : Step) (a b : C) → Told IsMost ns from did to → BySwaps (swaps k target see) did a b → (see b).over ≡ None
+      → over_at (see a).initiator.phase true ≡ None → over_at (see b).initiator.phase true ≡ None
+  going_on [] [] from to a b told e goes p = subst (λ z. over_at (see z).initiator.phase true ≡ None) (sym e) p
+  going_on [] (x ∷ did) from to a b told by goes p = absurd told
+  going_on (n ∷ ns) [] (Goes w) to a b told by goes p = absurd told
+  going_on (n ∷ ns) [] (Ends jobs l) to a b told by goes p = absurd told
+  going_on (n ∷ ns) [] (GivesUp l) to a b told by goes p = absurd told
+  going_on (n ∷ ns) (x ∷ did) (Ends jobs l) to a b told by goes p = absurd told
+  going_on (n ∷ ns) (x ∷ did) (GivesUp l) to a b told by goes p = absurd told
+  going_on (n ∷ ns) (Stopped out ∷ did) (Goes w) to a b told by goes p = absurd told
+  going_on (n ∷ ns) (Stepped out reply ∷ did) (Goes w) to a b (most, o, told) (mid, one, by) goes p =
+      going_on ns did (replied n w reply) to mid b told by goes (swap_open k target (see a) (see mid) out reply one (open_at did mid b by goes))
+
+  module _ (laws : Laws k) (a b : C) (far after : PeerState) (old : Air L) (i : InitState) (is : see a ≡ first_seen old i) (open_ : IsOpen k target old i)
+      (ready : (see b).over ≡ None → IsDepReady k target (see b)) where
+    was_open : (see a).over ≡ None
+    was_open = ap (λ (p : DepSeen L). p.over) is ∙ ap (λ lit. over_at i.phase lit) open_.in_step.0 ∙ open_.going
+
+    abbrev Talk : Step → Step → Type 0
+    Talk from to = Talks (sees see) (swaps k target see) (Answers serving) (Stops serving) from a far to b after
+
+    -- in the world, at whatever place the peer stands; it stands there behind it
+    pub reaches : (from to : Step) → Talk from to → call_at [] to (see b).initiator ≡ Comes to (see b).initiator → (linked : L → Bool) → IsLinked k.machine linked → (place : ℕ)
+        → Stands k target linked peer_ends old place → (os : List (Option PeerState))
+        → ((numbers : List ℕ) × CallTurns k target linked peer_ends numbers from i old (see b).air place os far after (Comes to (see b).initiator)) × Stands k target linked peer_ends (see b).air place
+    reaches from to talk e linked links place there os =
+        let A : DepSeen L → Type 0 = λ s. Stands k target linked peer_ends s.air place in
+        let P : DepSeen L → Type 0 = λ s. (numbers : List ℕ) × CallTurns k target linked peer_ends numbers from s.initiator s.air (see b).air place os far after (Comes to (see b).initiator) in
+        let Q : CallStanding → Type 0 = λ c. (numbers : List ℕ) × CallTurns k target linked peer_ends numbers from (see a).initiator (see a).air (see b).air place os far after c in
+        let z = talks_far k target linked peer_ends see begins (Answers serving) (Stops serving) (λ l. l)
+        (swaps_far k laws target linked peer_ends begins (Answers serving) (Stops serving) (λ l. l) (answers_fit serving))
+        (stops_far k laws target linked peer_ends begins (Answers serving) (Stops serving) (λ l. l))
+        links peer_table peer_kind from to a b far after talk was_open place (subst A (sym is) there) os [] in
+        (subst P is (subst Q e z.0), z.1)
+
+    pub made : (from to : Step) → Talk from to → call_at [] to (see b).initiator ≡ Comes to (see b).initiator → IsMade k target from old i far (see b).air (see b).initiator after to
+    made from to talk e =
+        let open_b : (see b).over ≡ None = talk.over ∙ was_open in
+        let phase : over_at (see a).initiator.phase true ≡ None = ap (λ (p : DepSeen L). over_at p.initiator.phase true) is ∙ open_.going in
+        record {
+          open_ = record { in_step = in_step k target (see b) (ready open_b); going = going_on talk.counts talk.did from to a b talk.told talk.swapped open_b phase };
+          turns = λ linked links place there os. (reaches from to talk e linked links place there os).0;
+        }
+
+    abbrev Breaking : Step → SnepFault → EndState → Type 0
+    Breaking from e new = Breaks (sees see) (swaps k target see) (Answers serving) (Stops serving) from a far e new b after
+
+    abbrev Cut : Step → SnepFault → Type 0
+    Cut from e = IsCutOff k target from old i far (see b).air (see b).initiator after e
+
+    -- in the world, by whatever cause
+    broken : (from : Step) (e : SnepFault) (new : EndState) → Breaking from e new → (linked : L → Bool) → IsLinked k.machine linked → (place : ℕ) → Stands k target linked peer_ends old place
+        → (os : List (Option PeerState)) → CutBy k target linked peer_ends from i old (see b).air place os far after e
+    broken from e new broke linked links place there os =
+        let A : DepSeen L → Type 0 = λ s. Stands k target linked peer_ends s.air place in
+        let P : DepSeen L → Type 0 = λ s. CutBy k target linked peer_ends from s.initiator s.air (see b).air place os far after e in
+        subst P is
+        (breaks_far k target linked peer_ends see begins (Answers serving) (Stops serving) (λ l. l)
+        (swaps_far k laws target linked peer_ends begins (Answers serving) (Stops serving) (λ l. l) (answers_fit serving))
+        (stops_far k laws target linked peer_ends begins (Answers serving) (Stops serving) (λ l. l))
+        links peer_table peer_kind from a b far after e new broke was_open place (subst A (sym is) there) os)
+
+    by_cause : (from : Step) (e : SnepFault) (new : EndState) → Breaking from e new → (c : EndCause) → e ≡ fault_of c → (c ≡ cause.Protocol → ⊥) → Cut from e
+    by_cause from e new broke cause.FieldLost q never =
+        subst (Cut from) (sym q) (λ linked links place there os. subst (CutBy k target linked peer_ends from i old (see b).air place os far after) q (broken from e new broke linked links place there os))
+    by_cause from e new broke cause.SixBad q never =
+        subst (Cut from) (sym q) (λ linked links place there os. subst (CutBy k target linked peer_ends from i old (see b).air place os far after) q (broken from e new broke linked links place there os))
+    by_cause from e new broke cause.Memory q never =
+        subst (Cut from) (sym q) (λ linked links place there os. subst (CutBy k target linked peer_ends from i old (see b).air place os far after) q (broken from e new broke linked links place there os))
+    by_cause from e new broke cause.Protocol q never = absurd (never refl)
+
+    -- a peer in step never sends a frame that isn't allowed
+    never_so : (o : Option EndCause) (given : Option (List ℕ)) (j : InitState) (s : Standing) → StandsAt o given j s → o ≡ Some cause.Protocol → ⊥
+    never_so None given j s st e = cc
+    never_so (Some cause.FieldLost) given j s st e = cc
+    never_so (Some cause.SixBad) given j s st e = cc
+    never_so (Some cause.Memory) given j s st e = cc
+    never_so (Some cause.Protocol) given j s st e = st
+
+    never_odd : (m : C) (out : List ℕ) (did : List FarStep) → swaps k target see m out did b → (see b).over ≡ Some cause.Protocol → ⊥
+    never_odd m out [] x e = let t = x.exchange in never_so (see b).over None (see b).initiator t.0 t.2 e
+    never_odd m out (Stepped payload reply ∷ []) x e = let t = x.exchange.1 in never_so (see b).over (Some reply) (see b).initiator t.0 t.2 e
+    never_odd m out (Stopped payload ∷ []) x e = let o = x.exchange.2 in cc
+    never_odd m out (d ∷ f ∷ did) x e = absurd x.exchange
+
+    cut_so : (from : Step) (e : SnepFault) (new : EndState) (broke : Breaking from e new) → IsCut (sees see) (swaps k target see) (Answers serving) (Stops serving) (ready_of broke.at).llc broke.mid broke.mid_far e new b after → Cut from e
+    cut_so from e new broke (inl (inl c)) = by_cause from e new broke cause.Memory c.fault (λ q. cc)
+    cut_so from e new broke (inl (inr c)) = absurd (let over = c.over in let goes : (see broke.mid).over ≡ None = broke.talks.over ∙ was_open in cc)
+    cut_so from e new broke (inr (inl c)) =
+        by_cause from e new broke c.why.cause c.fault (λ q. never_odd broke.mid _ c.swapped.did c.swapped.link (c.swap.over ∙ ap Some q))
+    cut_so from e new broke (inr (inr c)) = by_cause from e new broke cause.Memory c.fault (λ q. cc)
+
+    pub cut_off : (from : Step) (e : SnepFault) (new : EndState) → Breaking from e new → Cut from e
+    cut_off from e new broke = cut_so from e new broke broke.cut
+
+    pub call_failed : (from : Step) (e : SnepFault) (new : EndState) → FailsBy (sees see) (swaps k target see) (Answers serving) (Stops serving) from a far e new b after
+        → CallFails k target from old i far (see b).air (see b).initiator after new e
+    call_failed from e new (inl (bad, talk)) = inl (bad, made from (GivesUp new) talk refl)
+    call_failed from e new (inr broke) = inr (cut_off from e new broke)
+
+    pub request_failed : (from : Step) (e : SnepFault) (new : EndState) → calling.RequestFails (sees see) (swaps k target see) (Answers serving) (Stops serving) from a far e new b after
+        → RequestFails k target from old i far (see b).air (see b).initiator after new e
+    request_failed from e new (inl refused) = inl (refused.why, refused.fault, made from (Ends (alone (Over (Refused refused.why))) new) refused.talks refl)
+    request_failed from e new (inr failed) = inr (call_failed from e new failed)

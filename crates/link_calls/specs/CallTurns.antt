@@ -1,0 +1,79 @@
+-- A client's call over a link to a peer, in the world with far ends: each request was due by what was heard before it (NFCIP-1, ISO/IEC
+-- 18092; NFC Forum SNEP 1.0; the air is this project's own).
+use Rattle.std.specs.Prelude.{◌≡◌, ◌⊎◌, ℕ, List, Bool, true, Option, None}
+use Rattle.nfc_base.specs.Signal.{Signal}
+use Rattle.nfc_base.specs.Links.{CarrierView, FarStep}
+use Rattle.nfc_base.specs.declared.event.Event.TheVariants.{Request}
+use Rattle.nfc_base.specs.declared.event.Fate.TheVariants.{Pass}
+use Rattle.nfc_base.specs.declared.carrier.EndCause.TheVariants as cause
+use Rattle.air_core.specs.Turn.{Air, moment, after_event}
+use Rattle.air_core.specs.Conversation.{Note, Asks, first_fate, later_fates}
+use Rattle.air_core.specs.declared.listener.Listener.{Ghosts}
+use Rattle.dep_link.specs.Target.{TargetState}
+use Rattle.dep_link.specs.Initiator.{InitState}
+use Rattle.dep_link.specs.DepLinks.{DepSeen, Exchanged, dep_view}
+use Rattle.far_air.specs.FarEnds.{FarTable}
+use Rattle.far_air.specs.FarLaws.{IsFarTable, IsLinked, IsOfTable}
+use Rattle.far_air.specs.FarTurns.{FarGoing}
+use Rattle.peer_air.specs.SwapTurns.{Stands}
+use Rattle.snep_core.specs.declared.fault.SnepFault.{SnepFault}
+use Rattle.snep_core.specs.declared.fault.SnepFault.TheVariants.{LinkEnded, Memory}
+use Rattle.snep_core.specs.Talk.{EndState, Step}
+use Rattle.snep_core.specs.Calling.{Talks, Breaks}
+use Rattle.link_calls.specs.CallDue.{CallStanding, BrokenBy, Strays, call_at, call_stand, call_due, call_due_at}
+
+-- what a call sees of what shows a link to a peer
+abbrev pub sees : {L C : Type 0} → (C → DepSeen L) → C → CarrierView
+sees see c = dep_view (see c)
+
+-- and what a swap does to it
+abbrev pub swaps : {L C : Type 0} → Ghosts L → (L → TargetState) → (C → DepSeen L) → C → List ℕ → List FarStep → C → Type 0
+swaps k target see a out did b = Exchanged k target (see a) (see b) (record { out = out; did = did })
+
+module _ {L F : Type 0} (k : Ghosts L) (target : L → TargetState) (linked : L → Bool) (t : FarTable F) where
+  -- From one moment of a field to another the requests of a call were made, with these numbers of PDUs: each was due, this was heard, and
+  -- it brought the call to where it stands.
+  pub record CallTurns (numbers : List ℕ) (from : Step) (i : InitState) (old new : Air L) (place : ℕ) (os : List (Option F)) (far after : F) (s : CallStanding) : Type 0 where
+    pub notes : List Note
+    pub going : FarGoing k.machine linked t (call_due numbers from i) (moment old) (moment new) notes place os far after
+    pub stands : call_stand numbers from i notes ≡ s
+
+  -- Behind such requests nothing more happened; or the request passed that was due, and the far end stopped for want of memory: nothing
+  -- came back of it.
+  pub record CallFront (from : Step) (i : InitState) (old new : Air L) (place : ℕ) (os : List (Option F)) (far after : F) : Type 0 where
+    pub numbers : List ℕ
+    pub standing : CallStanding
+    pub mid : Air L
+    pub half : F
+    pub turns : CallTurns numbers from i old mid place os far half standing
+    pub under_way : standing ≡ Strays → ⊥
+    pub left : ((new ≡ mid) × (after ≡ half))
+        ⊎ ((sent : Signal) × (listeners : List L) × (call_due_at standing ≡ Asks sent) × (first_fate mid.fates ≡ Pass)
+        × (new ≡ after_event mid (Request sent Pass) (later_fates mid.fates) (record { lit = true; listeners = listeners })))
+
+  -- how a call was cut off: by its link, or by want of memory
+  abbrev pub CutBy : Step → InitState → Air L → Air L → ℕ → List (Option F) → F → F → SnepFault → Type 0
+  CutBy from i old new place os far after (LinkEnded cause.FieldLost) =
+      (numbers : List ℕ) × CallTurns numbers from i old new place os far after (BrokenBy cause.FieldLost)
+  CutBy from i old new place os far after (LinkEnded cause.SixBad) =
+      (numbers : List ℕ) × CallTurns numbers from i old new place os far after (BrokenBy cause.SixBad)
+  CutBy from i old new place os far after (LinkEnded cause.Protocol) = ⊥
+  CutBy from i old new place os far after (LinkEnded cause.Memory) = ⊥
+  CutBy from i old new place os far after Memory = CallFront from i old new place os far after
+  CutBy from i old new place os far after _ = ⊥
+
+  module _ {C A : Type 0} (see : C → DepSeen L) (restarts : A → List ℕ → A → Type 0) (steps : A → List ℕ → List ℕ → A → Type 0) (stops : A → List ℕ → A → Type 0) (view : A → F) where
+    -- What a call did over a link to a peer, with what the far end did, is that: it goes on from any numbers that are left.
+    abbrev pub TalksFar : Type 0
+    TalksFar = IsLinked k.machine linked → IsFarTable t → IsOfTable restarts steps t view
+        → (from to : Step) (a b : C) (far after : A) → Talks (sees see) (swaps k target see) steps stops from a far to b after → (see a).over ≡ None
+        → (place : ℕ) → Stands k target linked t (see a).air place → (os : List (Option F)) (rest : List ℕ)
+        → ((numbers : List ℕ) × CallTurns numbers from (see a).initiator (see a).air (see b).air place os (view far) (view after)
+        (call_at rest to (see b).initiator)) × Stands k target linked t (see b).air place
+
+    -- and so where it was cut off
+    abbrev pub BreaksFar : Type 0
+    BreaksFar = IsLinked k.machine linked → IsFarTable t → IsOfTable restarts steps t view
+        → (from : Step) (a b : C) (far after : A) (e : SnepFault) (new : EndState) → Breaks (sees see) (swaps k target see) steps stops from a far e new b after → (see a).over ≡ None
+        → (place : ℕ) → Stands k target linked t (see a).air place → (os : List (Option F))
+        → CutBy from (see a).initiator (see a).air (see b).air place os (view far) (view after) e

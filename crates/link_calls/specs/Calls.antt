@@ -1,0 +1,62 @@
+-- What a client's call over the open link of a field does, and how it leaves the link (NFC Forum LLCP 1.3 and SNEP 1.0).
+use Rattle.std.specs.Prelude.{◌≡◌, ◌⊎◌, ℕ, List, [], Bool, true, Option, None, Result, Ok, Err}
+use Rattle.nfc_base.specs.declared.carrier.EndCause.TheVariants as cause
+use Rattle.air_core.specs.Turn.{Air}
+use Rattle.air_core.specs.declared.listener.Listener.{Ghosts}
+use Rattle.dep_link.specs.Target.{TargetState}
+use Rattle.dep_link.specs.Initiator.{InitState}
+use Rattle.dep_link.specs.DepLinks.{IsInStep, over_at}
+use Rattle.far_air.specs.FarLaws.{IsLinked}
+use Rattle.peer_air.specs.PeerFars.{peer_ends}
+use Rattle.peer_air.specs.SwapTurns.{Stands}
+use Rattle.snep_core.specs.declared.fault.SnepFault.{SnepFault}
+use Rattle.snep_core.specs.declared.fault.SnepFault.TheVariants.{BadPeer, LinkEnded, Memory}
+use Rattle.snep_core.specs.declared.job.Refusal.{Refusal}
+use Rattle.snep_core.specs.Accord.{PeerState}
+use Rattle.snep_core.specs.Calling.{refused_by}
+use Rattle.snep_core.specs.declared.job.Job.TheVariants.{Over}
+use Rattle.snep_core.specs.declared.job.Ending.TheVariants.{Refused}
+use Rattle.snep_core.specs.Talk.{EndState, Step, Ends, GivesUp, alone}
+use Rattle.link_calls.specs.CallDue.{CallStanding, BrokenBy, Comes}
+use Rattle.link_calls.specs.CallTurns.{CallTurns, CallFront}
+
+module _ {L : Type 0} (k : Ghosts L) (target : L → TargetState) where
+  -- A link is open: the field is lit, and in it a peer is selected, alone and in step with the initiator, whose last exchange didn't end
+  -- by a fault.
+  pub record IsOpen (air : Air L) (i : InitState) : Type 0 where
+    pub in_step : IsInStep k target air i
+    pub going : over_at i.phase true ≡ None
+
+  -- A call on an open link, from a moment of the field, its initiator and its peer's end to others.
+  module _ (from : Step) (old : Air L) (i : InitState) (far : PeerState) (new : Air L) (j : InitState) (after : PeerState) where
+    -- In the world with the far ends of peers, at the place of this one, each of its requests was due, and what was heard brought it to
+    -- where it stands so.
+    abbrev pub CallComes : CallStanding → Type 0
+    CallComes s =
+        (linked : L → Bool) → IsLinked k.machine linked → (place : ℕ) → Stands k target linked peer_ends old place → (os : List (Option PeerState))
+        → (numbers : List ℕ) × CallTurns k target linked peer_ends numbers from i old new place os far after s
+
+    -- It came to its end: what was heard tells how, and where the initiator rests. The link is open.
+    pub record IsMade (to : Step) : Type 0 where
+      pub open_ : IsOpen new j
+      pub turns : CallComes (Comes to j)
+
+    -- It was cut off, by its link or by want of memory.
+    abbrev pub IsCutOff : SnepFault → Type 0
+    IsCutOff (LinkEnded cause.FieldLost) = CallComes (BrokenBy cause.FieldLost)
+    IsCutOff (LinkEnded cause.SixBad) = CallComes (BrokenBy cause.SixBad)
+    IsCutOff (LinkEnded cause.Protocol) = ⊥
+    IsCutOff (LinkEnded cause.Memory) = ⊥
+    IsCutOff Memory =
+        (linked : L → Bool) → IsLinked k.machine linked → (place : ℕ) → Stands k target linked peer_ends old place → (os : List (Option PeerState))
+        → CallFront k target linked peer_ends from i old new place os far after
+    IsCutOff _ = ⊥
+
+    -- It failed: the far end was given up, or it was cut off.
+    abbrev pub CallFails : EndState → SnepFault → Type 0
+    CallFails client e = ((e ≡ BadPeer) × IsMade (GivesUp client)) ⊎ IsCutOff e
+
+    -- A request failed: it was refused, the far end was given up, or it was cut off.
+    abbrev pub RequestFails : EndState → SnepFault → Type 0
+    RequestFails client e =
+        ((why : Refusal) × (e ≡ refused_by why) × IsMade (Ends (alone (Over (Refused why))) client)) ⊎ CallFails client e

@@ -1,0 +1,5 @@
+pub mod CallDue
+pub mod CallTurns
+pub mod Calls
+pub mod ClosingDue
+pub mod Closing

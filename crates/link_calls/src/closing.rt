@@ -1,0 +1,58 @@
+//! The last call on a link.
+
+ghost use Rattle.std.specs.Prelude.{◌≡◌, false, IfErr, OnOk};
+ghost use Rattle.nfc_base.specs.Far.{Untouched};
+ghost use Rattle.dep_link.specs.Releasing.{rls_frame};
+ghost use Rattle.snep_core.specs.Accord.{Accords, AsideFails, IsClosed};
+ghost use Rattle.snep_core.specs.Calling.{fault_of};
+ghost use Rattle.snep_core.specs.declared.job.Ending.TheVariants.{Done};
+ghost use Rattle.snep_core.specs.declared.job.Job.TheVariants.{Over};
+ghost use Rattle.snep_core.specs.Talk.{Ends, Leaves, alone, begins};
+ghost use Rattle.link_calls.specs.Calls.{IsOpen};
+ghost use Rattle.link_calls.specs.Closing.{ClosingFails, IsReleased};
+
+use air_core::Field;
+use dep_link::{DepPair, Initiator, PeerListener, release};
+use llcp_link::Llc;
+use nfc_base::EndCause;
+use snep_core::{Client, Server, SnepFault};
+
+/// What a link's end is to its client.
+fn fault_at(cause: EndCause) -> SnepFault
+    ensures { result ≡ fault_of cause }
+{
+    match cause {
+        EndCause::Memory => SnepFault::Memory,
+        EndCause::FieldLost | EndCause::SixBad | EndCause::Protocol => SnepFault::LinkEnded(cause),
+    }
+}
+
+/// Ends the client's connection, where one is open, and releases the link: RLS_REQ is sent once, and whatever is heard of
+/// it is passed over. The link is over then.
+pub fn close_and_release<L: PeerListener>(
+    field: &mut Field<L>,
+    initiator: &mut Initiator,
+    client: &mut Client,
+    far: &mut Llc<Server>,
+) -> Result<(), SnepFault>
+    requires open_ { IsOpen L.Listener L.target field.old initiator.old }
+    requires going { client.old.spent ≡ false }
+    ensures ok { OnOk result (IsReleased L.Listener L.target (begins client.old.llc Leaves)
+        field.old initiator.old far.old field.new far.new (Ends (alone (Over Done)) client.new.llc)) }
+    ensures err { IfErr result (λ e. ClosingFails L.Listener L.target (begins client.old.llc Leaves)
+        field.old initiator.old far.old field.new far.new client.new.llc initiator.new e) }
+    // Where no listener hands anything over at RLS_REQ:
+    ensures closed { Accords client.old.llc far.old → ((l : L) → L.machine.handed l rls_frame ≡ Untouched)
+        → OnOk result (IsClosed far.old client.new.llc far.new) }
+    ensures fails { Accords client.old.llc far.old → ((l : L) → L.machine.handed l rls_frame ≡ Untouched)
+        → IfErr result (λ e. AsideFails far.old e far.new) }
+{
+    let mut pair = DepPair::on(field, initiator);
+    match client.close(&mut pair, far) {
+        Err(fault) => Err(fault),
+        Ok(()) => match release(pair, far) {
+            Err(end) => Err(fault_at(end.cause)),
+            Ok(()) => Ok(()),
+        },
+    }
+}

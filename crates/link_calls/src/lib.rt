@@ -1,0 +1,14 @@
+//! A client's calls over the open link of a field, in the world with far ends.
+//!
+//! `specs/CallDue.antt`: what is due in a call, and where it stands, are functions of what was heard. `specs/CallTurns.antt`: what a
+//! call did over a link is turns of the world whose requests were due so, which `law` has of any link. `calls` are the calls on a
+//! field, and `closing` is the last of them, behind which the link is released.
+#![tactic(auto)]
+
+mod calls;
+mod closing;
+mod law;
+
+pub use calls::{get_on, lookup_on, put_on};
+pub use closing::close_and_release;
+pub use law::calls_due;
