@@ -1,6 +1,7 @@
 -- Which journals are legal for the lines of a script.
 use Rattle.std.specs.Prelude.{◌≡◌, ℕ, ◌+◌, List, [], ◌∷◌, map, if◌then◌else◌}
 use Rattle.bench_script.specs.declared.command.Command.{Command}
+use Rattle.bench_script.specs.declared.command.Command.TheVariants.{Put, Get, Lookup, Unlink}
 use Rattle.bench_world.specs.declared.entry.Entry.{Entry}
 use Rattle.bench_world.specs.Legal.{State, Given, Joins, EachLegal, first_state}
 use Rattle.bench_script.specs.Script.{Spells, is_skipped}
@@ -40,8 +41,12 @@ pub record Legal (lines : List (List ℕ)) (journal : List Entry) : Type 0 where
   pub last : State
   pub leads : LeadsTo lines numbers journal last
 
--- In a command far ends may be handed payloads, so its entry may take numbers. In none yet; a later command adds its case.
+-- On the open link far ends are handed payloads, so an entry may take numbers there. A later command adds its case.
 abbrev pub TakesNumbers : Command → Type 0
+TakesNumbers (Put message) = Unit {0}
+TakesNumbers (Get most key) = Unit {0}
+TakesNumbers (Lookup name) = Unit {0}
+TakesNumbers Unlink = Unit {0}
 TakesNumbers c = ⊥
 
 -- Numbers of a journal's entries agree where a command may take any.

@@ -9,7 +9,7 @@ use Rattle.t2t_tag.specs.Store.{IsT2Store}
 use Rattle.t4t_tag.specs.Store.{IsT4Store, file_size}
 use Rattle.t5t_tag.specs.Store.{IsT5Store}
 use Rattle.bench_script.specs.declared.command.Command.{Command}
-use Rattle.bench_script.specs.declared.command.Command.TheVariants.{Skip, Fates, PlaceT2, PlaceT4, PlaceT5, PlacePeer, Lock, Busy, Offer, Remove, Dump, Inbox, Find, Read, Write}
+use Rattle.bench_script.specs.declared.command.Command.TheVariants.{Skip, Fates, PlaceT2, PlaceT4, PlaceT5, PlacePeer, Lock, Busy, Offer, Remove, Dump, Inbox, Find, Read, Write, Link, Put, Get, Lookup, Unlink}
 use Rattle.bench_script.specs.declared.command.DeviceId.{DeviceId}
 use Rattle.bench_devices.specs.declared.device.Device.{Device}
 use Rattle.bench_world.specs.declared.entry.Answer.{Answer}
@@ -34,7 +34,13 @@ use Rattle.bench_world.specs.World.{FarEnd, WholeWorld, bench_air, first_world, 
 use Rattle.bench_world.specs.declared.entry.Received.{Received}
 use Rattle.bench_world.specs.Inbox.{inbox_at}
 use Rattle.bench_world.specs.Peers.{Peers, no_peers, with_tag, with_peer, without_place, with_place_changed, placed_under, without_number, new_end, end_offered}
-use Rattle.bench_world.specs.Links.{OpenLink, ended, is_with}
+use Rattle.snep_core.specs.Server.{Received as Accepted}
+use Rattle.snep_core.specs.Talk.{Puts, Gets, Finds}
+use Rattle.bench_script.specs.Script.{SpellsName, longest_message}
+use Rattle.bench_devices.specs.Opening.{linking}
+use Rattle.bench_world.specs.Links.{OpenLink, ended, is_with, end_numbered, begun_if, ended_unless}
+use Rattle.bench_world.specs.Linking.{LinkTells, link_if, own_general}
+use Rattle.bench_world.specs.Calls.{IfLinked, IsTold, OfEnd, PutAdds, GetTells, LookupTells, due_if, due_on, due_closing, stands_on, stands_closing, told_call, told_closing, call_behind, with_accepted}
 use Rattle.bench_world.specs.Answering.{TagTells, TellsFound}
 use Rattle.bench_world.specs.Reading.{TellsOf, ReadAsks}
 use Rattle.bench_world.specs.Writing.{TellsWrite, WriteAsks, KeepsStores, ending_told}
@@ -102,6 +108,16 @@ pub record MayPlacePeer (s : State) (id : List ℕ) (lr miu rw most : ℕ) : Typ
   pub window : IsWindow rw
   pub limit : IsLimit most
 
+-- A link may be asked for: its MIU and receive window are those that an end may have.
+pub record MayLink (miu window : ℕ) : Type 0 where
+  pub size : IsMiu miu
+  pub window : IsWindow window
+
+-- A value may be asked for: neither it nor its key is longer than a message may be.
+pub record MayGet (most : ℕ) (key : List ℕ) : Type 0 where
+  pub value : most ≤ longest_message
+  pub key : length key ≤ longest_message
+
 -- a device with this identifier is placed
 abbrev pub IsPlaced : State → DeviceId → Type 0
 IsPlaced s id = IsSome (device_with (bytes_of id) s.world.field.listeners)
@@ -147,6 +163,11 @@ Accepts s (Inbox id) = IsPeerPlaced s id
 Accepts s Find = Unit {0}
 Accepts s (Read id) = Unit {0}
 Accepts s (Write id message) = Unit {0}
+Accepts s (Link id miu window) = MayLink miu window
+Accepts s (Put message) = length (message_of message) ≤ longest_message
+Accepts s (Get most key) = MayGet most key
+Accepts s (Lookup name) = SpellsName name name
+Accepts s Unlink = Unit {0}
 
 -- the state with one more tag, which has no far end
 abbrev pub with_device : State → Device → State
@@ -227,6 +248,7 @@ changed s (Remove id) = without_device (unlinked_from s id) id
 changed s Find = unlinked s
 changed s (Read id) = unlinked s
 changed s (Write id message) = unlinked s
+changed s (Link id miu window) = unlinked s
 changed s c = s
 
 -- What a command asks of its tag, from the first command of the tag to the last. Only a read and a write of a placed one ask
@@ -237,11 +259,17 @@ IsAskedBy s (Write id message) asked =
     IfPlaced (λ d. WriteAsks (message_of message) d asked) (asked ≡ []) (device_with (bytes_of id) s.world.field.listeners)
 IsAskedBy s c asked = asked ≡ []
 
--- What is due in a command, by what the reader knows. Nothing is sent but in a read, a write and a search.
+-- What is due in a command, by what the reader knows. Nothing is sent but in a read, a write and a search, where a link is opened, and on the
+-- link that is open.
 abbrev pub due : State → Given → Command → List Note → Next
 due s g Find ns = asks (finding_all ns)
 due s g (Read id) ns = tag_due id g.asked ns
 due s g (Write id message) ns = tag_due id g.asked ns
+due s g (Link id miu window) ns = linking (DeviceId.A id) (own_general miu) ns
+due s g (Put message) ns = due_if s.link (λ l. due_on l g.joins.own (Puts (message_of message)) ns)
+due s g (Get most key) ns = due_if s.link (λ l. due_on l g.joins.own (Gets most key) ns)
+due s g (Lookup name) ns = due_if s.link (λ l. due_on l g.joins.own (Finds name) ns)
+due s g Unlink ns = due_if s.link (λ l. due_closing l g.joins.own ns)
 due s g c ns = Over
 
 -- the world that a command begins in: what it itself changes is changed, and the entry has its numbers
@@ -252,9 +280,36 @@ begun s joins c = with_numbers (changed s c).world joins.far
 abbrev pub world_after : State → Joins → Command → List Event → WholeWorld
 world_after s joins c events = with_numbers (replay bench_air (begun s joins c) events) []
 
--- The state after a command, by these numbers, what happened in it, and what it answered, where it was not cut off.
+-- The link that is open behind a command, by these numbers, what happened in it, and what it answered, where it was not cut off: one that the
+-- command opened; the one that it went on with, where its call came to its end; and else the one before.
+abbrev pub link_after : State → Joins → Command → List Event → Option Answer → Option OpenLink
+link_after s joins (Link id miu window) events (Some (answers.Linked n)) =
+    link_if (placed_under id s.world.field.listeners s.peers.numbers) (device_with id s.world.field.listeners) miu window
+link_after s joins (Link id miu window) events told = None
+link_after s joins (Put message) events told = call_behind s.link (λ l. stands_on l joins.own (Puts (message_of message)) events)
+link_after s joins (Get most key) events told = call_behind s.link (λ l. stands_on l joins.own (Gets most key) events)
+link_after s joins (Lookup name) events told = call_behind s.link (λ l. stands_on l joins.own (Finds name) events)
+link_after s joins Unlink events told = None
+link_after s joins c events told = (changed s c).link
+
+-- the peers behind it, with their links: one more where the command opened one; and the one that ended has its end
+abbrev pub peers_after : State → Joins → Command → List Event → Option Answer → Peers
+peers_after s joins (Link id miu window) events told =
+    begun_if (link_after s joins (Link id miu window) events told) (unlinked s).world.fars (unlinked s).peers
+peers_after s joins (Put message) events told = ended_unless (link_after s joins (Put message) events told) s.link (world_after s joins (Put message) events).fars s.peers
+peers_after s joins (Get most key) events told = ended_unless (link_after s joins (Get most key) events told) s.link (world_after s joins (Get most key) events).fars s.peers
+peers_after s joins (Lookup name) events told = ended_unless (link_after s joins (Lookup name) events told) s.link (world_after s joins (Lookup name) events).fars s.peers
+peers_after s joins Unlink events told = ended s.link (world_after s joins Unlink events).fars s.peers
+peers_after s joins c events told = (changed s c).peers
+
+-- the state behind it
 abbrev pub state_after : State → Joins → Command → List Event → Option Answer → State
-state_after s joins c events told = record { world = world_after s joins c events; queue = queue_after (changed s c).queue events; peers = (changed s c).peers; link = (changed s c).link }
+state_after s joins c events told = record {
+  world = world_after s joins c events;
+  queue = queue_after (changed s c).queue events;
+  peers = peers_after s joins c events told;
+  link = link_after s joins c events told;
+}
 
 -- what a command and what happened in it leave of what stays, but for what the command itself changes
 abbrev pub LeavesStable : State → Joins → Command → List Event → Type 0
@@ -290,6 +345,38 @@ abbrev pub inbox_now : State → DeviceId → List Received
 inbox_now s id =
     inbox_at s.peers.links (placed_under (bytes_of id) s.world.field.listeners s.peers.numbers) (placed_under (bytes_of id) s.world.field.listeners s.world.fars)
 
+-- A link is opened, or not: nothing that stays changes.
+pub record LinkingLaw (s : State) (joins : Joins) (id : List ℕ) (miu window : ℕ) (events : List Event) (answer : Answer) : Type 0 where
+  pub tells : LinkTells (DeviceId.A id) s.world.field.listeners (length s.peers.links + 1) (own_general miu) events answer
+  pub stays : LeavesStable s joins (Link id miu window) events
+
+-- the far end of a link's peer
+abbrev pub end_of : State → OpenLink → Option FarEnd
+end_of s l = end_numbered l.peer s.peers.numbers s.world.fars
+
+-- A message is put on the open link: the peer's server accepted it, or nothing, and nothing else that stays changes.
+pub record PutLaw (s : State) (joins : Joins) (l : OpenLink) (message : Msg) (events : List Event) (answer : Answer) : Type 0 where
+  pub told : IsTold (told_call (stands_on l joins.own (Puts (message_of message)) events)) events answer
+  pub more : List Accepted
+  pub adds : OfEnd (λ end. PutAdds (message_of message) end answer more) (end_of s l)
+  pub devices : (stable (world_after s joins (Put message) events)).devices ≡ (stable s.world).devices
+  pub ends : (stable (world_after s joins (Put message) events)).ends ≡ with_accepted more l.peer s.peers.numbers (stable s.world).ends
+
+-- A value is got from its server, a name looked up, and the link closed: nothing that stays changes.
+pub record GetLaw (s : State) (joins : Joins) (l : OpenLink) (most : ℕ) (key : List ℕ) (events : List Event) (answer : Answer) : Type 0 where
+  pub told : IsTold (told_call (stands_on l joins.own (Gets most key) events)) events answer
+  pub tells : OfEnd (λ end. GetTells most key end answer) (end_of s l)
+  pub stays : LeavesStable s joins (Get most key) events
+
+pub record LookupLaw (s : State) (joins : Joins) (l : OpenLink) (name : List ℕ) (events : List Event) (answer : Answer) : Type 0 where
+  pub told : IsTold (told_call (stands_on l joins.own (Finds name) events)) events answer
+  pub tells : OfEnd (λ end. LookupTells name end answer) (end_of s l)
+  pub stays : LeavesStable s joins (Lookup name) events
+
+pub record UnlinkLaw (s : State) (joins : Joins) (l : OpenLink) (events : List Event) (answer : Answer) : Type 0 where
+  pub told : IsTold (told_closing (stands_closing l joins.own events)) events answer
+  pub stays : LeavesStable s joins Unlink events
+
 -- the law of the answers; a line that asks for nothing has none
 abbrev pub AnswerLaw : State → Given → Command → List Event → Answer → Type 0
 AnswerLaw s g Skip events answer = ⊥
@@ -307,6 +394,11 @@ AnswerLaw s g (Inbox id) events answer = answer ≡ answers.Inbox (inbox_now s i
 AnswerLaw s g Find events answer = FindLaw s g.joins events answer
 AnswerLaw s g (Read id) events answer = ReadLaw s g.joins id g.asked events answer
 AnswerLaw s g (Write id message) events answer = WritingLaw s g.joins id message g.asked events answer
+AnswerLaw s g (Link id miu window) events answer = LinkingLaw s g.joins id miu window events answer
+AnswerLaw s g (Put message) events answer = IfLinked s.link (λ l. PutLaw s g.joins l message events answer) (answer ≡ answers.NoLink)
+AnswerLaw s g (Get most key) events answer = IfLinked s.link (λ l. GetLaw s g.joins l most key events answer) (answer ≡ answers.NoLink)
+AnswerLaw s g (Lookup name) events answer = IfLinked s.link (λ l. LookupLaw s g.joins l name events answer) (answer ≡ answers.NoLink)
+AnswerLaw s g Unlink events answer = IfLinked s.link (λ l. UnlinkLaw s g.joins l events answer) (answer ≡ answers.NoLink)
 
 -- A front of a step: from this state the command is accepted, and turns were made, each due, by the first fates; they lead to that
 -- state, where this was told, or nothing yet. An entry is a front that is over and answered; a command that was cut off leaves one.

@@ -54,3 +54,13 @@ ended (Some l) fars p = with_last_ended (accepted_at l.peer p fars) p
 abbrev pub is_with : Option OpenLink → Option ℕ → Bool
 is_with None p = false
 is_with (Some l) p = is_number l.peer p
+
+-- a link begins, where one is open then: its range goes from the present end of its peer's list on
+abbrev pub begun_if : Option OpenLink → List (Option FarEnd) → Peers → Peers
+begun_if None fars p = p
+begun_if (Some l) fars p = with_link (record { peer = l.peer; start = accepted_at l.peer p fars; end = None }) p
+
+-- the link that was open ends, unless one is open still
+abbrev pub ended_unless : Option OpenLink → Option OpenLink → List (Option FarEnd) → Peers → Peers
+ended_unless None before fars p = ended before fars p
+ended_unless (Some l) before fars p = p

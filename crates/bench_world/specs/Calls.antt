@@ -1,0 +1,146 @@
+-- What is answered to the commands on the open link, by what was heard and by the peer's server (NFC Forum SNEP 1.0, LLCP 1.3; the words of the
+-- answers are this project's own).
+use Rattle.std.specs.Prelude.{◌≡◌, ◌↔◌, ◌⊎◌, ℕ, ◌<◌, ◌≤◌, List, [], ◌∷◌, ◌++◌, length, if◌then◌else◌, Option, Some, None}
+use Rattle.nfc_base.specs.Trace.{noise, breaks}
+use Rattle.nfc_base.specs.declared.event.Event.{Event}
+use Rattle.nfc_base.specs.declared.carrier.EndCause.{EndCause}
+use Rattle.nfc_base.specs.declared.carrier.EndCause.TheVariants as cause
+use Rattle.air_core.specs.Conversation.{Note, Next, Over, receptions}
+use Rattle.far_air.specs.FarEnds.{first_far, later_fars}
+use Rattle.llcp_link.specs.Names.{found}
+use Rattle.snep_core.specs.declared.fault.SnepFault.TheVariants as faults
+use Rattle.snep_core.specs.declared.job.Refusal.TheVariants as refusals
+use Rattle.snep_core.specs.Accord.{Refuses, from_client}
+use Rattle.snep_core.specs.Jobs.{Job, Ending, Done, Value, Sap, Refused, Over as Ended}
+use Rattle.snep_core.specs.Server.{Received}
+use Rattle.snep_core.specs.Session.{value_of}
+use Rattle.snep_core.specs.Talk.{OnSap, Step, Ends, Task, Leaves, begins}
+use Rattle.link_calls.specs.CallDue.{CallStanding, Comes, BrokenBy, call_stand, call_due}
+use Rattle.link_calls.specs.ClosingDue.{ClosingStanding, Calls, Released, closing_stand, closing_due}
+use Rattle.bench_world.specs.declared.entry.Answer.{Answer}
+use Rattle.bench_world.specs.declared.entry.Answer.TheVariants as answers
+use Rattle.bench_world.specs.declared.entry.Loss.TheVariants as losses
+use Rattle.bench_world.specs.Links.{OpenLink, is_number}
+use Rattle.bench_world.specs.World.{FarEnd}
+
+-- what is due in a call on a link, by these numbers of PDUs and by what was heard, and where the call stands
+abbrev pub due_on : OpenLink → List ℕ → Task → List Note → Next
+due_on l joins task ns = call_due joins (begins l.client task) l.initiator ns
+
+abbrev pub stands_on : OpenLink → List ℕ → Task → List Event → CallStanding
+stands_on l joins task events = call_stand joins (begins l.client task) l.initiator (receptions events)
+
+-- likewise where a link is closed
+abbrev pub due_closing : OpenLink → List ℕ → List Note → Next
+due_closing l joins ns = closing_due joins (begins l.client Leaves) l.initiator ns
+
+abbrev pub stands_closing : OpenLink → List ℕ → List Event → ClosingStanding
+stands_closing l joins events = closing_stand joins (begins l.client Leaves) l.initiator (receptions events)
+
+-- nothing is due where no link is open
+abbrev pub due_if : Option OpenLink → (OpenLink → Next) → Next
+due_if None due = Over
+due_if (Some l) due = due l
+
+-- a link that is open, and what holds of it; and what holds where none is
+abbrev pub IfLinked : Option OpenLink → (OpenLink → Type 0) → Type 0 → Type 0
+IfLinked None Is Else = Else
+IfLinked (Some l) Is Else = Is l
+
+-- the answer that tells how a call ended that asks the server something
+abbrev pub told_ending : Ending → Answer
+told_ending Done = answers.Success
+told_ending (Value v) = answers.Value v
+told_ending (Sap n) = answers.Sap n
+told_ending (Refused refusals.Reject) = answers.Reject
+told_ending (Refused refusals.NotFound) = answers.NoValue
+told_ending (Refused refusals.Excess) = answers.Excess
+told_ending (Refused refusals.NotImplemented) = answers.NotImplemented
+
+abbrev pub told_job : Job → Option Answer
+told_job (Ended e) = Some (told_ending e)
+told_job _ = None
+
+-- a call of one job came to its end
+abbrev pub told_step : Step → Option Answer
+told_step (Ends (x ∷ []) l) = told_job x.job
+told_step _ = None
+
+-- the answer that tells of a link that ended by this cause
+abbrev pub told_loss : EndCause → Option Answer
+told_loss cause.FieldLost = Some (answers.LinkEnded losses.FieldLost)
+told_loss cause.SixBad = Some (answers.LinkEnded losses.SixBad)
+told_loss cause.Protocol = None
+told_loss cause.Memory = None
+
+-- the answer by where a call stands
+abbrev pub told_call : CallStanding → Option Answer
+told_call (Comes to i) = told_step to
+told_call (BrokenBy why) = told_loss why
+told_call _ = None
+
+abbrev pub told_closing : ClosingStanding → Option Answer
+told_closing (Released to) = Some answers.Unlinked
+told_closing (Calls (BrokenBy why)) = told_loss why
+told_closing _ = None
+
+-- the link behind a call: it is open where the call came to its end, and stands so then
+abbrev pub link_behind : ℕ → CallStanding → Option OpenLink
+link_behind peer (Comes (Ends jobs l) i) = Some (record { peer = peer; initiator = i; client = l })
+link_behind peer _ = None
+
+-- behind a call on the link that was open
+abbrev pub call_behind : Option OpenLink → (OpenLink → CallStanding) → Option OpenLink
+call_behind None stands = None
+call_behind (Some l) stands = link_behind l.peer (stands l)
+
+-- How a command on the link was told: by where it stands. The link ended by a lost field exactly where a Break was used, and without noise no wait
+-- has six bad receptions.
+pub record IsTold (told : Option Answer) (events : List Event) (answer : Answer) : Type 0 where
+  pub tells : told ≡ Some answer
+  pub lost : (answer ≡ answers.LinkEnded losses.FieldLost) ↔ (0 < breaks events)
+  pub noisy : answer ≡ answers.LinkEnded losses.SixBad → 0 < noise events
+
+-- the far end of a link's peer, of which something holds
+abbrev pub OfEnd : (FarEnd → Type 0) → Option FarEnd → Type 0
+OfEnd Is None = ⊥
+OfEnd Is (Some end) = Is end
+
+-- What a put adds to what the server accepted, by its answer: the message, which is within the limit; nothing of one that is longer; at a link
+-- that ended it or nothing.
+abbrev pub PutAdds : List ℕ → FarEnd → Answer → List Received → Type 0
+PutAdds m end answers.Success more = (length m ≤ end.service.limit) × (more ≡ from_client m ∷ [])
+PutAdds m end answers.Reject more = (end.service.limit < length m) × (more ≡ [])
+PutAdds m end (answers.LinkEnded loss) more = (more ≡ []) ⊎ ((length m ≤ end.service.limit) × (more ≡ from_client m ∷ []))
+PutAdds m end _ more = ⊥
+
+-- What a get tells: of a key within the limit the value that the table has, of at most so many bytes, or why the table refuses it, by the first
+-- cause.
+abbrev pub GetTells : ℕ → List ℕ → FarEnd → Answer → Type 0
+GetTells most key end (answers.Value v) = (length key ≤ end.service.limit) × (value_of key end.service.table ≡ Some v) × (length v ≤ most)
+GetTells most key end answers.Reject = end.service.limit < length key
+GetTells most key end answers.NotImplemented = (length key ≤ end.service.limit) × Refuses end.service.table most key faults.NotImplemented
+GetTells most key end answers.NoValue = (length key ≤ end.service.limit) × Refuses end.service.table most key faults.NotFound
+GetTells most key end answers.Excess = (length key ≤ end.service.limit) × Refuses end.service.table most key faults.Excess
+GetTells most key end (answers.LinkEnded loss) = Unit {0}
+GetTells most key end _ = ⊥
+
+-- What a lookup tells: the SAP to which the peer has the name bound, 1 that of service discovery, 0 where it has none.
+abbrev pub LookupTells : List ℕ → FarEnd → Answer → Type 0
+LookupTells name end (answers.Sap n) = n ≡ found end.bound name
+LookupTells name end (answers.LinkEnded loss) = Unit {0}
+LookupTells name end _ = ⊥
+
+-- the far end whose server accepted these too
+abbrev pub accepting : List Received → FarEnd → FarEnd
+accepting more l = record l { service = record l.service { accepted = l.service.accepted ++ more } }
+
+abbrev pub accepting_if : List Received → Option FarEnd → Option FarEnd
+accepting_if more None = None
+accepting_if more (Some l) = Some (accepting more l)
+
+-- what stays of far ends, where that of the peer with a number accepted these too
+abbrev pub with_accepted : List Received → ℕ → List (Option ℕ) → List (Option FarEnd) → List (Option FarEnd)
+with_accepted more n [] os = os
+with_accepted more n (p ∷ ps) os =
+    if is_number n p then accepting_if more (first_far os) ∷ later_fars os else first_far os ∷ with_accepted more n ps (later_fars os)
