@@ -5,6 +5,9 @@ pub mod Writing
 pub mod World
 pub mod Peers
 pub mod Links
+pub mod Linking
+pub mod Calls
+pub mod Opened
 pub mod Inbox
 pub mod Legal
 pub mod Obeying

@@ -20,7 +20,9 @@ use Rattle.far_air.specs.FarEnds.{by_link}
 use Rattle.far_air.specs.FarLaws.{seen}
 use Rattle.peer_air.specs.PeerFars.{peer_ends}
 use Rattle.bench_world.specs.World.{FarEnd}
+use Rattle.bench_world.specs.Calls.{IfLinked}
 use Rattle.bench_world.specs.Links.{OpenLink, ended}
+use Rattle.bench_world.specs.Opened.{IsOpen}
 use Rattle.bench_world.specs.Peers.{Peers}
 
 abbrev pub obey_fault_number : ObeyFault → ℕ
@@ -62,10 +64,15 @@ pub record HasPlaces (m : Machines) : Type 0 where
   pub ends : length m.ends ≡ length m.air.listeners
   pub numbers : length m.peers.numbers ≡ length m.air.listeners
 
--- Between two commands the field is idle, and each device has its place.
+-- where a link is open, it stands as an open link does
+abbrev pub KeepsLink : Machines → Type 0
+KeepsLink m = IfLinked m.link (λ l. IsOpen m.air m.ends m.peers l) (Unit {0})
+
+-- Between two commands the field is idle, each device has its place, and the open link stands.
 pub record IsSettled (m : Machines) : Type 0 where
   pub idle : IsIdle m.air
   pub places : HasPlaces m
+  pub link : KeepsLink m
 
 -- the machines, of which nothing is in the trace
 abbrev pub untraced : Machines → Machines
@@ -110,6 +117,7 @@ pub record Obeyed (old new : Machines) (c : Command) (answer : Answer) : Type 0 
   pub tame : AreTame (map kept new.air.listeners)
   pub tidy : AreTidy new.air.listeners
   pub places : HasPlaces new
+  pub link : KeepsLink new
 
 -- It was cut off by want of memory.
 abbrev pub IsCutOff : Machines → Machines → Command → Type 0
@@ -121,7 +129,7 @@ RefusedBelow r a c = IsErrOf r faults.Refused → (ends : List (Option FarEnd)) 
 
 abbrev pub ObeyedBelow : Air Device → Air Device → Command → Answer → Type 0
 ObeyedBelow old new c answer =
-    (ends : List (Option FarEnd)) (peers : Peers) (link : Option OpenLink) → HasPlaces (under ends peers link old)
+    (ends : List (Option FarEnd)) (peers : Peers) (link : Option OpenLink) → HasPlaces (under ends peers link old) → KeepsLink (under ends peers link old)
     → Obeyed (under ends peers link old) (under ends peers link new) c answer
 
 -- So it is of a command that begins with a reset, once no link is open.
