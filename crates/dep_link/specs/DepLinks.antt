@@ -129,7 +129,7 @@ module _ {L : Type 0} (k : Ghosts L) (target : L → TargetState) where
   ExchangedAs a b t out (d ∷ e ∷ ds) = ⊥
 
   -- From one moment to another a payload was swapped, which is as long as one may be: each request was due, and nothing else happened to
-  -- the field.
+  -- the field. No wait has six bad receptions where all passed.
   pub record Exchanged (a b : DepSeen L) (s : Swap) : Type 0 where
     pub begins : a.over ≡ None
     pub start : a.start ≤ length a.air.trace
@@ -138,6 +138,7 @@ module _ {L : Type 0} (k : Ghosts L) (target : L → TargetState) where
     pub last : b.initiator.out ≡ Some s.out
     pub short : length s.out ≤ limit
     pub exchange : ExchangedAs a b peer s.out s.did
+    pub noisy : b.over ≡ Some SixBad → noise (since b) ≡ noise (since a) → ⊥
 
   -- swaps one after another
   abbrev pub Chained : List Swap → DepSeen L → List FarStep → DepSeen L → Type 0
