@@ -31,7 +31,7 @@ use Rattle.link_calls.specs.CallTurns.{sees, swaps}
 use Rattle.link_calls.specs.Calls.{IsOpen, IsCutOff}
 use Rattle.link_calls.specs.ClosingDue.{Calls, Releasing, Released, closing_at, closing_due_at}
 use Rattle.link_calls.specs.Closing.{ClosingTurns, ClosingFront, ClosingFails, SendsRls, IsReleased}
-use Rattle.link_calls.specs.Staying.{begins}
+use Rattle.link_calls.specs.Staying.{begins, setting_of}
 use Rattle.link_calls.proofs.Made.{peer_table, peer_kind, reaches, made, cut_off}
 use Rattle.link_calls.proofs.Closes.{of_call, with_release}
 
@@ -45,9 +45,9 @@ due_same Strays f e = absurd cc
 left_so : {L : Type 0} (k : Ghosts L) (new : Air L) (after : PeerState) (mid : Air L) (half : PeerState) (s : CallStanding)
     → ((new ≡ mid) × (after ≡ half))
     ⊎ ((sent : Signal) × (listeners : List L) × (call_due_at s ≡ Asks sent) × (first_fate mid.fates ≡ Pass) × (new ≡ after_event mid (Request sent Pass) (later_fates mid.fates) (record { lit = true; listeners = listeners })))
-    → (new ≡ mid)
+    → ((new ≡ mid) × (after ≡ half))
     ⊎ ((sent : Signal) × (listeners : List L) × (closing_due_at (closing_at s) ≡ Asks sent) × (first_fate mid.fates ≡ Pass) × (new ≡ after_event mid (Request sent Pass) (later_fates mid.fates) (record { lit = true; listeners = listeners })))
-left_so k new after mid half s (inl e) = inl e.0
+left_so k new after mid half s (inl e) = inl e
 left_so k new after mid half s (inr (sent, listeners, due, fate, left)) = inr (sent, listeners, due_same s sent due, fate, left)
 
 module _ {L C : Type 0} (k : Ghosts L) (target : L → TargetState) (see : C → DepSeen L) (laws : Laws k) (a b : C) (far half : PeerState) (old : Air L) (i : InitState) (is : see a ≡ first_seen old i)
@@ -76,16 +76,19 @@ module _ {L C : Type 0} (k : Ghosts L) (target : L → TargetState) (see : C →
     how = inl c.carried;
     noisy = c.noisy;
   }
-  cut_closing client Memory c = λ linked links place there os.
-      let z = c linked links place there os in
-      record {
-        numbers = z.numbers;
-        standing = closing_at z.standing;
-        mid = z.mid;
-        half = z.half;
-        turns = of_call k linked peer_ends place os z.numbers from i old far z.mid z.half target z.standing z.turns z.under_way;
-        left = left_so k (see b).air half z.mid z.half z.standing z.left;
-      }
+  cut_closing client Memory c = record {
+    front = λ linked links place there os.
+        let z = c.front linked links place there os in
+        record {
+          numbers = z.numbers;
+          standing = closing_at z.standing;
+          mid = z.mid;
+          half = z.half;
+          turns = of_call k linked peer_ends place os z.numbers from i old far z.mid z.half target z.standing z.turns z.under_way;
+          left = left_so k (see b).air half z.mid z.half z.standing z.left;
+        };
+    setting = λ quiet. c.setting;
+  }
 
   pub closing_failed : (client : EndState) (e : SnepFault) → FailsBy (sees see) (swaps k target see) (Answers serving) (Stops serving) from a far e client b half → Fails client (see b).air half e
   closing_failed client e (inl (bad, talk)) =
@@ -102,6 +105,9 @@ module _ {L C : Type 0} (k : Ghosts L) (target : L → TargetState) (see : C →
     due_rls linked links place there os =
         let z = reaches k target see laws a b far half old i is open_ ready from (Ends jobs client) talk refl linked links place there os in
         ((z.0.0, of_call k linked peer_ends place os z.0.0 from i old far (see b).air half target (Comes (Ends jobs client) (see b).initiator) z.0.1 (λ q. cc)), z.1)
+
+    set_still : ((l : L) → k.machine.handed l rls_frame ≡ Untouched) → setting_of after ≡ setting_of far
+    set_still quiet = ap setting_of (same quiet) ∙ (made k target see laws a b far half old i is open_ ready from (Ends jobs client) talk refl).carried.setting
 
     sends_rls : (heard : Option Heard) → TurnIs k.machine begins (Answers serving) (see b).air rls_frame half heard new after → SendsRls k target from old i far new after heard
     sends_rls heard turn = record {
@@ -136,18 +142,24 @@ module _ {L C : Type 0} (k : Ghosts L) (target : L → TargetState) (see : C →
       how = inr (refl, sends_rls None turn);
       noisy = λ n. absurd cc;
     }
-    release_failed answered cause.Memory (q, (lit, inl same)) = λ linked links place there os.
-        let z = due_rls linked links place there os in
-        record { numbers = z.0.0; standing = Releasing (Ends jobs client); mid = (see b).air; half = half; turns = z.0.1; left = inl same.0 }
-    release_failed answered cause.Memory (q, (lit, inr stops)) = λ linked links place there os.
-        let z = due_rls linked links place there os in
-        record {
-          numbers = z.0.0;
-          standing = Releasing (Ends jobs client);
-          mid = (see b).air;
-          half = half;
-          turns = z.0.1;
-          left = inr (rls_frame, stops.listeners, refl, stops.fate, stops.left);
-        }
+    release_failed answered cause.Memory (q, (lit, inl rests)) = record {
+      front = λ linked links place there os.
+          let z = due_rls linked links place there os in
+          record { numbers = z.0.0; standing = Releasing (Ends jobs client); mid = (see b).air; half = half; turns = z.0.1; left = inl rests };
+      setting = set_still;
+    }
+    release_failed answered cause.Memory (q, (lit, inr stops)) = record {
+      front = λ linked links place there os.
+          let z = due_rls linked links place there os in
+          record {
+            numbers = z.0.0;
+            standing = Releasing (Ends jobs client);
+            mid = (see b).air;
+            half = half;
+            turns = z.0.1;
+            left = inr (rls_frame, stops.listeners, refl, stops.fate, stops.left);
+          };
+      setting = set_still;
+    }
     release_failed answered cause.SixBad (q, never) = absurd never
     release_failed answered cause.Protocol (q, never) = absurd never

@@ -1,7 +1,7 @@
 -- What a call over the open link of a field comes to.
 use Rattle.std.proofs.Common.{◌≡◌, ◌≤◌, ◌<◌, ℕ, zero, suc, List, [], ◌∷◌, ◌++◌, length, drop, Bool, true, false, Option, Some, None, Result, Ok, Err, IfErr, IfOk, OnOk, refl, sym, ◌∙◌, ap, subst, inl, inr, arith, append-nil}
 use Rattle.nfc_base.specs.Trace.{noise}
-use Rattle.nfc_base.specs.Links.{FarStep, Stepped, Stopped, AskedBy}
+use Rattle.nfc_base.specs.Links.{FarStep, Stepped, Stopped}
 use Rattle.nfc_link.specs.Swapping.{BySwaps, payload_of}
 use Rattle.nfc_base.specs.declared.carrier.EndCause.{EndCause}
 use Rattle.nfc_base.specs.declared.carrier.EndCause.TheVariants as cause
@@ -33,7 +33,7 @@ use Rattle.link_calls.specs.Calls.{IsOpen, IsCarried, IsMade, IsCutOff, CallFail
 use Rattle.link_calls.specs.Staying.{begins, setting_of}
 use Rattle.link_calls.proofs.CallWalk.{talks_far, breaks_far}
 use Rattle.link_calls.proofs.Open.{in_step, swap_open}
-use Rattle.link_calls.proofs.Settings.{IsWhole, set_still}
+use Rattle.link_calls.proofs.Settings.{set_still}
 
 -- an end with a server as a far end of the world
 abbrev pub peer_table : IsFarTable peer_ends
@@ -46,21 +46,7 @@ peer_kind = ends_step serving
 pub given_back : {L : Type 0} (P : Air L → InitState → Type 0) (b y : Air L) (j z : InitState) → b ≡ y → j ≡ z → P b j → P y z
 given_back P b y j z field initiator p = subst (P y) initiator (subst (λ a. P a j) field p)
 
--- what the far end did in a call is whole
-told_whole : (ns : List ℕ) (did : List FarStep) (from to : Step) → Told IsMost ns from did to → IsWhole did
-told_whole ns [] from to told = tt
-told_whole [] (x ∷ did) from to told = absurd told
-told_whole (n ∷ ns) (x ∷ did) (Ends jobs l) to told = absurd told
-told_whole (n ∷ ns) (x ∷ did) (GivesUp l) to told = absurd told
-told_whole (n ∷ ns) (Stopped out ∷ did) (Goes w) to told = absurd told
-told_whole (n ∷ ns) (Stepped out reply ∷ did) (Goes w) to (most, o, told) = told_whole ns did (replied n w reply) to told
-
--- and so in a swap that failed, but by want of memory
-asked_whole : (answered : Bool) (c : EndCause) (out : List ℕ) (did : List FarStep) → AskedBy answered c out did → (c ≡ cause.Memory → ⊥) → IsWhole did
-asked_whole true c out did (reply, e) never = subst IsWhole (sym e) tt
-asked_whole false c out did (inl e) never = subst IsWhole (sym e) tt
-asked_whole false c out did (inr (m, e)) never = absurd (never m)
-
+-- what a count is that isn't the one before
 more_than : (x y : ℕ) → x ≤ y → (y ≡ x → ⊥) → 0 < y
 more_than x zero h n = absurd (n (let z : 0 ≡ x = omega (arith, h) in z))
 more_than x (suc y) h n = omega arith
@@ -129,7 +115,7 @@ module _ {L C : Type 0} (k : Ghosts L) (target : L → TargetState) (see : C →
       left = (refl, refl, talk.over ∙ was_open);
       did = talk.did;
       moves = subst (λ (p : DepSeen L). DepMoves k target p talk.did (see b)) is (chain talk.did a b talk.swapped);
-      setting = set_still talk.did far after talk.far_moved (told_whole talk.counts talk.did from to talk.told);
+      setting = set_still talk.did far after talk.far_moved;
     }
 
     pub made : (from to : Step) → Talk from to → call_at [] to (see b).initiator ≡ Comes to (see b).initiator → IsMade k target from old i far (see b).air (see b).initiator after to
@@ -164,24 +150,27 @@ module _ {L C : Type 0} (k : Ghosts L) (target : L → TargetState) (see : C →
     abbrev Left : EndCause → Type 0
     Left c = IsCarried k target old i far (see b).air (see b).initiator after (Some c) × (c ≡ cause.SixBad → 0 < noise (drop (length old.trace) (see b).air.trace))
 
-    by_cause : (from : Step) (e : SnepFault) (new : EndState) → Breaking from e new → (c : EndCause) → e ≡ fault_of c → (c ≡ cause.Protocol → ⊥) → ((c ≡ cause.Memory → ⊥) → Left c) → Cut from e
-    by_cause from e new broke cause.FieldLost q never left =
+    by_cause : (from : Step) (e : SnepFault) (new : EndState) → Breaking from e new → (c : EndCause) → e ≡ fault_of c → (c ≡ cause.Protocol → ⊥) → ((c ≡ cause.Memory → ⊥) → Left c) → setting_of after ≡ setting_of far → Cut from e
+    by_cause from e new broke cause.FieldLost q never left set =
         let z = left (λ m. cc) in
         subst (Cut from) (sym q) (record {
           turns = λ linked links place there os. subst (CutBy k target linked peer_ends from i old (see b).air place os far after) q (broken from e new broke linked links place there os);
           carried = z.0;
           noisy = z.1;
         })
-    by_cause from e new broke cause.SixBad q never left =
+    by_cause from e new broke cause.SixBad q never left set =
         let z = left (λ m. cc) in
         subst (Cut from) (sym q) (record {
           turns = λ linked links place there os. subst (CutBy k target linked peer_ends from i old (see b).air place os far after) q (broken from e new broke linked links place there os);
           carried = z.0;
           noisy = z.1;
         })
-    by_cause from e new broke cause.Memory q never left =
-        subst (Cut from) (sym q) (λ linked links place there os. subst (CutBy k target linked peer_ends from i old (see b).air place os far after) q (broken from e new broke linked links place there os))
-    by_cause from e new broke cause.Protocol q never left = absurd (never refl)
+    by_cause from e new broke cause.Memory q never left set =
+        subst (Cut from) (sym q) (record {
+          front = λ linked links place there os. subst (CutBy k target linked peer_ends from i old (see b).air place os far after) q (broken from e new broke linked links place there os);
+          setting = set;
+        })
+    by_cause from e new broke cause.Protocol q never left set = absurd (never refl)
 
     -- a peer in step never sends a frame that isn't allowed
     never_so : (o : Option EndCause) (given : Option (List ℕ)) (j : InitState) (s : Standing) → StandsAt o given j s → o ≡ Some cause.Protocol → ⊥
@@ -199,15 +188,14 @@ module _ {L C : Type 0} (k : Ghosts L) (target : L → TargetState) (see : C →
 
     -- the last swap failed
     last_left : (from : Step) (w : Working) (mid : C) (mid_far : PeerState) (talk : Talks (sees see) (swaps k target see) (Answers serving) (Stops serving) from a far (Goes w) mid mid_far) (e : SnepFault) (new : EndState)
-        (c : Fails (sees see) (swaps k target see) (Answers serving) (Stops serving) (ready_of w).llc mid mid_far e new b after) → (c.why.cause ≡ cause.Memory → ⊥) → Left c.why.cause
-    last_left from w mid mid_far talk e new c never = (
+        (c : Fails (sees see) (swaps k target see) (Answers serving) (Stops serving) (ready_of w).llc mid mid_far e new b after) → Left c.why.cause
+    last_left from w mid mid_far talk e new c = (
       record {
         at = see b;
         left = (refl, refl, c.swap.over);
         did = talk.did ++ c.swapped.did;
         moves = subst (λ (p : DepSeen L). DepMoves k target p (talk.did ++ c.swapped.did) (see b)) is (chain_to talk.did c.swapped.did _ a mid b talk.swapped c.swapped.link);
-        setting = set_still c.swapped.did mid_far after c.swapped.far_moved (asked_whole c.why.answered c.why.cause _ c.swapped.did c.swapped.tells never)
-            ∙ set_still talk.did far mid_far talk.far_moved (told_whole talk.counts talk.did from (Goes w) talk.told);
+        setting = set_still c.swapped.did mid_far after c.swapped.far_moved ∙ set_still talk.did far mid_far talk.far_moved;
       },
       λ six.
           let start : (see b).start ≡ length old.trace = c.swapped.link.same.1 ∙ starts talk.did a mid talk.swapped ∙ ap (λ (p : DepSeen L). p.start) is in
@@ -215,12 +203,16 @@ module _ {L C : Type 0} (k : Ghosts L) (target : L → TargetState) (see : C →
     )
 
     cut_so : (from : Step) (e : SnepFault) (new : EndState) (broke : Breaking from e new) → IsCut (sees see) (swaps k target see) (Answers serving) (Stops serving) (ready_of broke.at).llc broke.mid broke.mid_far e new b after → Cut from e
-    cut_so from e new broke (inl (inl c)) = by_cause from e new broke cause.Memory c.fault (λ q. cc) (λ n. absurd (n refl))
+    cut_so from e new broke (inl (inl c)) =
+        by_cause from e new broke cause.Memory c.fault (λ q. cc) (λ n. absurd (n refl)) (ap setting_of c.far_is ∙ set_still broke.talks.did far broke.mid_far broke.talks.far_moved)
     cut_so from e new broke (inl (inr c)) = absurd (let over = c.over in let goes : (see broke.mid).over ≡ None = broke.talks.over ∙ was_open in cc)
     cut_so from e new broke (inr (inl c)) =
         by_cause from e new broke c.why.cause c.fault (λ q. never_odd broke.mid _ c.swapped.did c.swapped.link (c.swap.over ∙ ap Some q))
-        (last_left from broke.at broke.mid broke.mid_far broke.talks e new c)
-    cut_so from e new broke (inr (inr c)) = by_cause from e new broke cause.Memory c.fault (λ q. cc) (λ n. absurd (n refl))
+        (λ n. last_left from broke.at broke.mid broke.mid_far broke.talks e new c)
+        (set_still c.swapped.did broke.mid_far after c.swapped.far_moved ∙ set_still broke.talks.did far broke.mid_far broke.talks.far_moved)
+    cut_so from e new broke (inr (inr c)) =
+        by_cause from e new broke cause.Memory c.fault (λ q. cc) (λ n. absurd (n refl))
+        (set_still c.swapped.did broke.mid_far after c.swapped.far_moved ∙ set_still broke.talks.did far broke.mid_far broke.talks.far_moved)
 
     pub cut_off : (from : Step) (e : SnepFault) (new : EndState) → Breaking from e new → Cut from e
     cut_off from e new broke = cut_so from e new broke broke.cut

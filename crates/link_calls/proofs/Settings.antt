@@ -16,7 +16,9 @@ use Rattle.llcp_link.specs.Taking as t
 use Rattle.llcp_link.specs.Taking.{Item, Good, Broken, taken_from, brought, step, steps, steps_part}
 use Rattle.llcp_link.specs.Giving as g
 use Rattle.llcp_link.specs.Giving.{Gave, GaveAll, first_from, gave, gave_none, joined, given_so, given_parts, after_giving, or_else, sap_after}
-use Rattle.llcp_link.specs.Answering.{Answers, Stops}
+use Rattle.llcp_link.specs.Answering.{Answers, IsStuckGiving, Stops}
+use Rattle.llcp_link.specs.Halting.{IsStuck, Leaves}
+use Rattle.llcp_link.specs.Offering.{LeavesNext, LeftBy}
 use Rattle.llcp_link.proofs.Ranged.{either}
 use Rattle.snep_core.specs.Accord.{PeerState}
 use Rattle.snep_core.specs.Server.{ServerState, serving}
@@ -214,15 +216,61 @@ module _ (z : Setting) where
   answers_is : (l : PeerState) (payload reply : List ℕ) (k : PeerState) → Answers serving l payload reply k → Is l → Is k
   answers_is l payload reply k a h = subst Is (sym a.gives.left) (after_is a.gives.count (taken_from serving l payload) (taken_is l payload h))
 
--- want of memory left no step unfinished
-abbrev pub IsWhole : List FarStep → Type 0
-IsWhole [] = Unit {0}
-IsWhole (Stepped payload reply ∷ did) = IsWhole did
-IsWhole (Stopped payload ∷ did) = ⊥
+-- by its parts
+by_parts : (a b : PeerState) → a.miu ≡ b.miu → a.window ≡ b.window → a.bound ≡ b.bound → a.service.limit ≡ b.service.limit → a.service.table ≡ b.service.table → setting_of a ≡ setting_of b
+by_parts a b m w n l t =
+    ap (λ x. record (setting_of a) { miu = x }) m ∙ ap (λ x. record (setting_of a) { miu = b.miu; window = x }) w
+    ∙ ap (λ x. record (setting_of a) { miu = b.miu; window = b.window; bound = x }) n
+    ∙ ap (λ x. record (setting_of a) { miu = b.miu; window = b.window; bound = b.bound; limit = x }) l
+    ∙ ap (λ x. record (setting_of b) { table = x }) t
 
--- So do steps that are whole.
-pub set_still : (did : List FarStep) (far after : PeerState) → FarMoved (Answers serving) (Stops serving) did far after → IsWhole did → setting_of after ≡ setting_of far
-set_still [] far after moved whole = ap setting_of moved
-set_still (Stepped payload reply ∷ did) far after (mid, step, moved) whole =
-    set_still did mid after moved whole ∙ answers_is (setting_of far) far payload reply mid step refl
-set_still (Stopped payload ∷ did) far after moved whole = absurd whole
+-- want of memory leaves of a server its limit and its table
+record IsSet (old new : ServerState) : Type 0 where
+  pub limit : new.limit ≡ old.limit
+  pub table : new.table ≡ old.table
+
+left_set : (old new : ServerState) → Leaves serving old new → IsSet old new
+left_set old new (inl e) = record { limit = ap (λ s. s.limit) e; table = ap (λ s. s.table) e }
+left_set old new (inr k) = record { limit = k.limit; table = k.table }
+
+of_setting : (a b : PeerState) → setting_of a ≡ setting_of b → IsSet b.service a.service
+of_setting a b e = record { limit = ap (λ (x : Setting). x.limit) e; table = ap (λ (x : Setting). x.table) e }
+
+set_then : (a b c : ServerState) → IsSet a b → IsSet b c → IsSet a c
+set_then a b c x y = record { limit = y.limit ∙ x.limit; table = y.table ∙ x.table }
+
+next_set : (l : PeerState) (s : ServerState) → LeavesNext serving (gave serving l) l.service s → IsSet l.service s
+next_set l s (inl k) = left_set l.service s k
+next_set l s (inr k) = go (gave serving l) refl k
+  where
+    go : (q : Option (Gave ServerState)) → gave serving l ≡ q → LeftBy q s → IsSet l.service s
+    go None e b = absurd b
+    go (Some x) e b = subst (IsSet l.service) (sym b) (of_setting x.llc l (gave_is (setting_of l) l refl x e))
+
+stuck_is : (old new : PeerState) (items : List Item) → IsStuck serving old items new → setting_of new ≡ setting_of old
+stuck_is old new items k =
+    let front : PeerState = steps serving old k.halts.front in
+    let set : IsSet old.service new.service =
+    set_then old.service front.service new.service (of_setting front old (items_are (setting_of old) old k.halts.front refl)) (left_set front.service new.service k.halts.service) in
+    by_parts new old k.miu k.window k.bound set.limit set.table
+
+giving_is : (old new : PeerState) → IsStuckGiving serving old new → setting_of new ≡ setting_of old
+giving_is old new k =
+    let front : PeerState = k.halts.front in
+    let front_is : setting_of front ≡ setting_of old = elim k.halts.is_front [
+      | inl e ↦ ap setting_of e
+      | inr (n, a, e) ↦ ap setting_of e ∙ given_is (setting_of old) old refl (gave serving old) refl _
+    ] in
+    let set : IsSet old.service new.service =
+    set_then old.service front.service new.service (of_setting front old front_is) (next_set front new.service k.halts.service) in
+    by_parts new old k.miu k.window k.bound set.limit set.table
+
+stops_is : (old : PeerState) (payload : List ℕ) (new : PeerState) → Stops serving old payload new → setting_of new ≡ setting_of old
+stops_is old payload new (inl k) = stuck_is old new (brought old payload) k
+stops_is old payload new (inr k) = giving_is (taken_from serving old payload) new k ∙ taken_is (setting_of old) old payload refl
+
+-- So do all steps, also one that want of memory left unfinished.
+pub set_still : (did : List FarStep) (far after : PeerState) → FarMoved (Answers serving) (Stops serving) did far after → setting_of after ≡ setting_of far
+set_still [] far after moved = ap setting_of moved
+set_still (Stepped payload reply ∷ did) far after (mid, step, moved) = set_still did mid after moved ∙ answers_is (setting_of far) far payload reply mid step refl
+set_still (Stopped payload ∷ did) far after moved = stops_is far payload after moved.0

@@ -61,15 +61,19 @@ module _ {L : Type 0} (k : Ghosts L) (target : L → TargetState) where
       pub carried : IsCarried old i far new j after (Some c)
       pub noisy : c ≡ cause.SixBad → 0 < noise (drop (length old.trace) new.trace)
 
+    -- Memory was wanting: there is a front of it, and nothing that is set of the end changed.
+    pub record IsCutShort : Type 0 where
+      pub front : (linked : L → Bool) → IsLinked k.machine linked → (place : ℕ) → Stands k target linked peer_ends old place → (os : List (Option PeerState))
+          → CallFront k target linked peer_ends from i old new place os far after
+      pub setting : setting_of after ≡ setting_of far
+
     -- It was cut off, by its link or by want of memory.
     abbrev pub IsCutOff : SnepFault → Type 0
     IsCutOff (LinkEnded cause.FieldLost) = IsEndedBy cause.FieldLost
     IsCutOff (LinkEnded cause.SixBad) = IsEndedBy cause.SixBad
     IsCutOff (LinkEnded cause.Protocol) = ⊥
     IsCutOff (LinkEnded cause.Memory) = ⊥
-    IsCutOff Memory =
-        (linked : L → Bool) → IsLinked k.machine linked → (place : ℕ) → Stands k target linked peer_ends old place → (os : List (Option PeerState))
-        → CallFront k target linked peer_ends from i old new place os far after
+    IsCutOff Memory = IsCutShort
     IsCutOff _ = ⊥
 
     -- It failed: the far end was given up, or it was cut off.

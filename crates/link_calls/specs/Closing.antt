@@ -29,7 +29,7 @@ use Rattle.snep_core.specs.Talk.{EndState, Step, GivesUp}
 use Rattle.link_calls.specs.CallDue.{CallStanding, BrokenBy, Comes}
 use Rattle.link_calls.specs.Calls.{IsCarried}
 use Rattle.link_calls.specs.ClosingDue.{ClosingStanding, Calls, Released, closing_stand, closing_due, closing_due_at}
-use Rattle.link_calls.specs.Staying.{begins}
+use Rattle.link_calls.specs.Staying.{begins, setting_of}
 
 module _ {L F : Type 0} (k : Ghosts L) (linked : L → Bool) (t : FarTable F) where
   -- From one moment of a field to another the requests of a closing were made: each was due, and this was heard.
@@ -39,13 +39,13 @@ module _ {L F : Type 0} (k : Ghosts L) (linked : L → Bool) (t : FarTable F) wh
     pub stands : closing_stand numbers from i notes ≡ s
 
   -- Behind such requests nothing more happened; or the request passed that was due, and the far end stopped for want of memory.
-  pub record ClosingFront (from : Step) (i : InitState) (old new : Air L) (place : ℕ) (os : List (Option F)) (far : F) : Type 0 where
+  pub record ClosingFront (from : Step) (i : InitState) (old new : Air L) (place : ℕ) (os : List (Option F)) (far after : F) : Type 0 where
     pub numbers : List ℕ
     pub standing : ClosingStanding
     pub mid : Air L
     pub half : F
     pub turns : ClosingTurns numbers from i old mid place os far half standing
-    pub left : (new ≡ mid)
+    pub left : ((new ≡ mid) × (after ≡ half))
         ⊎ ((sent : Signal) × (listeners : List L) × (closing_due_at standing ≡ Asks sent) × (first_fate mid.fates ≡ Pass)
         × (new ≡ after_event mid (Request sent Pass) (later_fates mid.fates) (record { lit = true; listeners = listeners })))
 
@@ -80,6 +80,12 @@ module _ {L : Type 0} (k : Ghosts L) (target : L → TargetState) where
       pub how : IsCarried k target old i far new j after (Some c) ⊎ ((c ≡ cause.FieldLost) × SendsRls None)
       pub noisy : c ≡ cause.SixBad → 0 < noise (drop (length old.trace) new.trace)
 
+    -- Memory was wanting: there is a front of it, and nothing that is set of the end changed.
+    pub record IsClosingShort : Type 0 where
+      pub front : (linked : L → Bool) → IsLinked k.machine linked → (place : ℕ) → Stands k target linked peer_ends old place → (os : List (Option PeerState))
+          → ClosingFront k linked peer_ends from i old new place os far after
+      pub setting : ((l : L) → k.machine.handed l rls_frame ≡ Untouched) → setting_of after ≡ setting_of far
+
     -- It failed: the far end was given up, the link ended, or memory was wanting.
     abbrev pub ClosingFails : EndState → InitState → SnepFault → Type 0
     ClosingFails client j BadPeer = ClosingComes (Calls (Comes (GivesUp client) j))
@@ -87,7 +93,5 @@ module _ {L : Type 0} (k : Ghosts L) (target : L → TargetState) where
     ClosingFails client j (LinkEnded cause.SixBad) = IsLost j cause.SixBad
     ClosingFails client j (LinkEnded cause.Protocol) = ⊥
     ClosingFails client j (LinkEnded cause.Memory) = ⊥
-    ClosingFails client j Memory =
-        (linked : L → Bool) → IsLinked k.machine linked → (place : ℕ) → Stands k target linked peer_ends old place → (os : List (Option PeerState))
-        → ClosingFront k linked peer_ends from i old new place os far
+    ClosingFails client j Memory = IsClosingShort
     ClosingFails client j _ = ⊥
