@@ -137,7 +137,7 @@ module _ (c : Command) (r : IsReset c) (old : Machines) (settled : IsSettled old
   pub reset_cut : (m : Machines) → m ≡ link_ended old → CutOffUnlinked m.air b c → IsCutOff old (upon m b) c
   reset_cut m is o =
       let P : Machines → Type 0 = λ x. CutOffUnlinked x.air b c → IsCutOff old (upon x b) c in
-      subst P (sym is) (λ p. inr (front_ended (p old.ends (link_ended old).peers))) o
+      subst P (sym is) (λ p. inr (inl (front_ended (p old.ends (link_ended old).peers)))) o
 
 -- The link to a device ends before that is taken away.
 abbrev pub ended_to : Machines → ℕ → Machines

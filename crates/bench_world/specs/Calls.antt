@@ -114,6 +114,10 @@ PutAdds m end answers.Reject more = (end.service.limit < length m) × (more ≡ 
 PutAdds m end (answers.LinkEnded loss) more = (more ≡ []) ⊎ ((length m ≤ end.service.limit) × (more ≡ from_client m ∷ []))
 PutAdds m end _ more = ⊥
 
+-- what a put that was cut off adds at most: the message once, which is within the limit
+abbrev pub PutAddsAtMost : List ℕ → FarEnd → List Received → Type 0
+PutAddsAtMost m end more = (more ≡ []) ⊎ ((length m ≤ end.service.limit) × (more ≡ from_client m ∷ []))
+
 -- What a get tells: of a key within the limit the value that the table has, of at most so many bytes, or why the table refuses it, by the first
 -- cause.
 abbrev pub GetTells : ℕ → List ℕ → FarEnd → Answer → Type 0

@@ -2,7 +2,9 @@
 -- answers. A later command adds a case to each definition.
 use Rattle.std.specs.Prelude.{◌≡◌, ◌⊎◌, ℕ, ◌*◌, ◌-◌, ◌^◌, ◌<◌, ◌≤◌, List, [], ◌∷◌, ◌++◌, length, replicate, Option, Some, None, IsSome, Bool, true, false, if◌then◌else◌}
 use Rattle.nfc_base.specs.declared.event.Event.{Event}
+use Rattle.nfc_base.specs.declared.event.Event.TheVariants.{Request}
 use Rattle.nfc_base.specs.declared.event.Fate.{Fate}
+use Rattle.nfc_base.specs.declared.event.Fate.TheVariants.{Pass}
 use Rattle.nfc_base.specs.Signal.{Signal}
 use Rattle.air_core.specs.Conversation.{Note, Next, Over, receptions, replay, queue_after, AreTurns, FatesFrom, EachDue}
 use Rattle.t2t_tag.specs.Store.{IsT2Store}
@@ -40,7 +42,7 @@ use Rattle.bench_script.specs.Script.{SpellsName, longest_message}
 use Rattle.bench_devices.specs.Opening.{linking}
 use Rattle.bench_world.specs.Links.{OpenLink, ended, is_with, end_numbered, begun_if, ended_unless}
 use Rattle.bench_world.specs.Linking.{LinkTells, link_if, own_general}
-use Rattle.bench_world.specs.Calls.{IfLinked, IsTold, OfEnd, PutAdds, GetTells, LookupTells, due_if, due_on, due_closing, stands_on, stands_closing, told_call, told_closing, call_behind, with_accepted}
+use Rattle.bench_world.specs.Calls.{IfLinked, IsTold, OfEnd, PutAdds, PutAddsAtMost, GetTells, LookupTells, due_if, due_on, due_closing, stands_on, stands_closing, told_call, told_closing, call_behind, with_accepted}
 use Rattle.bench_world.specs.Answering.{TagTells, TellsFound}
 use Rattle.bench_world.specs.Reading.{TellsOf, ReadAsks}
 use Rattle.bench_world.specs.Writing.{TellsWrite, WriteAsks, KeepsStores, ending_told}
@@ -416,18 +418,51 @@ pub record LegalStep (s : State) (g : Given) (e : Entry) (t : State) : Type 0 wh
   pub over : due s g e.command (receptions e.events) ≡ Over
   pub answered : AnswerLaw s g e.command e.events e.answer
 
--- What a command that was cut off leaves of what stays: the stores of a write keep its law, and no other command changed any.
+-- of a put that was cut off the peer's server accepted at most the message, and nothing else that stays changed
+pub record CutPut (s : State) (joins : Joins) (l : OpenLink) (message : Msg) (cut : List Event) : Type 0 where
+  pub more : List Accepted
+  pub adds : OfEnd (λ end. PutAddsAtMost (message_of message) end more) (end_of s l)
+  pub devices : (stable (world_after s joins (Put message) cut)).devices ≡ (stable s.world).devices
+  pub ends : (stable (world_after s joins (Put message) cut)).ends ≡ with_accepted more l.peer s.peers.numbers (stable s.world).ends
+
+-- What a command that was cut off leaves of what stays: the stores of a write keep its law, a put adds its message at most, and no other
+-- command changed anything.
 abbrev pub CutStores : State → Joins → Command → List Event → Type 0
 CutStores s joins (Write id message) cut = StoresLaw s joins id message Stopped cut
+CutStores s joins (Put message) cut = IfLinked s.link (λ l. CutPut s joins l message cut) (LeavesStable s joins (Put message) cut)
 CutStores s joins c cut = LeavesStable s joins c cut
 
 -- a front of a step that was cut off
 abbrev pub CutFront : State → Command → List Event → State → Type 0
 CutFront s c cut t = (g : Given) × FrontOf s g c cut None t × CutStores s g.joins c cut
 
--- What want of memory leaves of a command: nothing was done, or there is a front of its step.
+-- Behind the turns of a call on the link that were due, a request that was due passed, and as it handed a payload over the peer's end stopped for
+-- want of memory: nothing came back. The link is gone then. How that left devices and far ends isn't told.
+pub record HaltsCall (s : State) (c : Command) (cut : List Event) (t : State) : Type 0 where
+  pub given : Given
+  pub accepted : Accepts s c
+  pub asks : IsAskedBy s c given.asked
+  pub before : List Event
+  pub sent : Signal
+  pub split : cut ≡ before ++ Request sent Pass ∷ []
+  pub turns : AreTurns bench_air (begun s given.joins c) before
+  pub fates : FatesFrom (changed s c).queue cut
+  pub each : EachDue (due s given c) [] cut
+  pub lit : t.world.field.lit ≡ true
+  pub queue : t.queue ≡ queue_after (changed s c).queue cut
+  pub link : t.link ≡ None
+
+-- no other command hands anything over
+abbrev pub Halts : State → Command → List Event → State → Type 0
+Halts s (Put message) cut t = HaltsCall s (Put message) cut t
+Halts s (Get most key) cut t = HaltsCall s (Get most key) cut t
+Halts s (Lookup name) cut t = HaltsCall s (Lookup name) cut t
+Halts s Unlink cut t = HaltsCall s Unlink cut t
+Halts s c cut t = ⊥
+
+-- What want of memory leaves of a command: nothing was done, there is a front of its step, or the peer's end stopped behind one.
 abbrev pub CutOff : State → Command → List Event → State → Type 0
-CutOff s c cut t = ((cut ≡ []) × (t ≡ s)) ⊎ CutFront s c cut t
+CutOff s c cut t = ((cut ≡ []) × (t ≡ s)) ⊎ (CutFront s c cut t ⊎ Halts s c cut t)
 
 -- The entries lead from one state to another, each behind those before it, and each has what its step is said for.
 abbrev pub EachLegal : State → List Given → List Entry → State → Type 0
