@@ -20,7 +20,7 @@ use Rattle.bench_devices.specs.LinkLaws.{SwapsLeave}
 use Rattle.bench_devices.proofs.BesideLink.{leaves_all, leaves_both, going_leaves}
 
 -- what an initiator asks is a frame of whole bytes of NFC-A
-abbrev IsWholeAt : Standing → Type 0
+abbrev pub IsWholeAt : Standing → Type 0
 IsWholeAt s = (f : Signal) → due_at s ≡ Asks f → f ≡ whole_a f.bytes
 
 goes_whole : (i : InitState) (does : init.Next) → IsWholeAt (goes_by i (framed_next does))
@@ -29,13 +29,13 @@ goes_whole i (init.Gives xs) = λ f e. absurd cc
 goes_whole i init.GivesUp = λ f e. absurd cc
 goes_whole i init.Refuses = λ f e. absurd cc
 
-astray_whole : IsWholeAt dep.Astray
+pub astray_whole : IsWholeAt dep.Astray
 astray_whole f e = absurd cc
 
-broken_whole : (e : EndCause) → IsWholeAt (dep.Broken e)
+pub broken_whole : (e : EndCause) → IsWholeAt (dep.Broken e)
 broken_whole e f h = absurd cc
 
-noted_whole : (s : Standing) (n : Note) → IsWholeAt (noted s n)
+pub noted_whole : (s : Standing) (n : Note) → IsWholeAt (noted s n)
 noted_whole (dep.Waits i f) Lit = astray_whole
 noted_whole (dep.Waits i f) Lost = broken_whole FieldLost
 noted_whole (dep.Waits i f) (Got h) = goes_whole (heard_next i h).state (heard_next i h).does
@@ -47,7 +47,7 @@ stand_whole : (ns : List Note) (s : Standing) → IsWholeAt s → IsWholeAt (sta
 stand_whole [] s h = h
 stand_whole (n ∷ ns) s h = stand_whole ns (noted s n) (noted_whole s n)
 
-asks_whole : (i : InitState) (out : List ℕ) → IsWholeAt (asks i out)
+pub asks_whole : (i : InitState) (out : List ℕ) → IsWholeAt (asks i out)
 asks_whole i out f e =
     (let same : air_frame (request (begun i out).core) ≡ f = cc in subst (λ g. g ≡ whole_a g.bytes) same refl)
 

@@ -26,3 +26,7 @@ pub mod Quiet
 pub mod ReadBack
 pub mod Joined
 mod DigitPairs
+pub mod CallNotes
+pub mod TalkFar
+pub mod OnLink
+pub mod OnCall

@@ -11,7 +11,10 @@ use Rattle.llcp_link.specs.Names.{found}
 use Rattle.snep_core.specs.declared.fault.SnepFault.TheVariants as faults
 use Rattle.snep_core.specs.declared.job.Refusal.TheVariants as refusals
 use Rattle.snep_core.specs.Accord.{Refuses, from_client}
-use Rattle.snep_core.specs.Jobs.{Job, Ending, Done, Value, Sap, Refused, Over as Ended}
+use Rattle.snep_core.specs.declared.job.Ending.{Ending}
+use Rattle.snep_core.specs.declared.job.Ending.TheVariants.{Done, Value, Sap, Refused}
+use Rattle.snep_core.specs.declared.job.Job.{Job}
+use Rattle.snep_core.specs.declared.job.Job.TheVariants.{Over as Ended}
 use Rattle.snep_core.specs.Server.{Received}
 use Rattle.snep_core.specs.Session.{value_of}
 use Rattle.snep_core.specs.Talk.{OnSap, Step, Ends, Task, Leaves, begins}
@@ -89,10 +92,11 @@ abbrev pub link_behind : ℕ → CallStanding → Option OpenLink
 link_behind peer (Comes (Ends jobs l) i) = Some (record { peer = peer; initiator = i; client = l })
 link_behind peer _ = None
 
--- behind a call on the link that was open
-abbrev pub call_behind : Option OpenLink → (OpenLink → CallStanding) → Option OpenLink
-call_behind None stands = None
-call_behind (Some l) stands = link_behind l.peer (stands l)
+-- behind a call on the link that was open, unless it was cut off
+abbrev pub call_behind : Option Answer → Option OpenLink → (OpenLink → CallStanding) → Option OpenLink
+call_behind None o stands = None
+call_behind (Some answer) None stands = None
+call_behind (Some answer) (Some l) stands = link_behind l.peer (stands l)
 
 -- How a command on the link was told: by where it stands. The link ended by a lost field exactly where a Break was used, and without noise no wait
 -- has six bad receptions.

@@ -1,6 +1,6 @@
 -- Which entries a bench may have: what it accepts, what each command changes, which request is due, and what it
 -- answers. A later command adds a case to each definition.
-use Rattle.std.specs.Prelude.{◌≡◌, ◌⊎◌, ℕ, ◌*◌, ◌-◌, ◌^◌, ◌<◌, ◌≤◌, List, [], ◌∷◌, ◌++◌, length, replicate, Option, Some, None, IsSome, Bool, true, false, if◌then◌else◌}
+use Rattle.std.specs.Prelude.{◌≡◌, ◌⊎◌, ℕ, ◌+◌, ◌*◌, ◌-◌, ◌^◌, ◌<◌, ◌≤◌, List, [], ◌∷◌, ◌++◌, length, replicate, Option, Some, None, IsSome, Bool, true, false, if◌then◌else◌}
 use Rattle.nfc_base.specs.declared.event.Event.{Event}
 use Rattle.nfc_base.specs.declared.event.Event.TheVariants.{Request}
 use Rattle.nfc_base.specs.declared.event.Fate.{Fate}
@@ -111,14 +111,14 @@ pub record MayPlacePeer (s : State) (id : List ℕ) (lr miu rw most : ℕ) : Typ
   pub limit : IsLimit most
 
 -- A link may be asked for: its MIU and receive window are those that an end may have.
-pub record MayLink (miu window : ℕ) : Type 0 where
+pub record MayLink (miu rw : ℕ) : Type 0 where
   pub size : IsMiu miu
-  pub window : IsWindow window
+  pub window : IsWindow rw
 
 -- A value may be asked for: neither it nor its key is longer than a message may be.
-pub record MayGet (most : ℕ) (key : List ℕ) : Type 0 where
+pub record MayGet (most : ℕ) (name : List ℕ) : Type 0 where
   pub value : most ≤ longest_message
-  pub key : length key ≤ longest_message
+  pub key : length name ≤ longest_message
 
 -- a device with this identifier is placed
 abbrev pub IsPlaced : State → DeviceId → Type 0
@@ -288,9 +288,9 @@ abbrev pub link_after : State → Joins → Command → List Event → Option An
 link_after s joins (Link id miu window) events (Some (answers.Linked n)) =
     link_if (placed_under id s.world.field.listeners s.peers.numbers) (device_with id s.world.field.listeners) miu window
 link_after s joins (Link id miu window) events told = None
-link_after s joins (Put message) events told = call_behind s.link (λ l. stands_on l joins.own (Puts (message_of message)) events)
-link_after s joins (Get most key) events told = call_behind s.link (λ l. stands_on l joins.own (Gets most key) events)
-link_after s joins (Lookup name) events told = call_behind s.link (λ l. stands_on l joins.own (Finds name) events)
+link_after s joins (Put message) events told = call_behind told s.link (λ l. stands_on l joins.own (Puts (message_of message)) events)
+link_after s joins (Get most key) events told = call_behind told s.link (λ l. stands_on l joins.own (Gets most key) events)
+link_after s joins (Lookup name) events told = call_behind told s.link (λ l. stands_on l joins.own (Finds name) events)
 link_after s joins Unlink events told = None
 link_after s joins c events told = (changed s c).link
 

@@ -12,6 +12,7 @@ ghost use Rattle.bench_world.specs.Links.{OpenLink};
 ghost use Rattle.bench_devices.specs.Phases.{IsIdle};
 
 use crate::asking::{find, read_tag, write_message};
+use crate::calling::put;
 use crate::entry::{Answer, Entry};
 use crate::machines::Machines;
 use crate::peers::{inbox, offer_value, place_peer};
@@ -332,6 +333,10 @@ fn run_command(
         Command::Find => find(alloc, machines),
         Command::Read { id } => read_tag(alloc, machines, id),
         Command::Write { id, message } => write_message(alloc, machines, id, message),
+        Command::Put { message } => put(alloc, machines, message),
+        Command::Link { .. } | Command::Get { .. } | Command::Lookup { .. } | Command::Unlink => {
+            Err(ObeyFault::Refused)
+        }
     }
 }
 

@@ -13,6 +13,7 @@
 mod answering;
 mod asking;
 mod bench;
+mod calling;
 mod entry;
 mod event_lines;
 mod fixed_text;

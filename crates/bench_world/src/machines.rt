@@ -18,9 +18,9 @@ use std::marker::Model;
 /// An open link: its peer, by its number, the initiator of its exchanges, and the client that asks over it.
 #[derive(Drop)]
 pub struct Link {
-    peer: u64,
-    initiator: Initiator,
-    client: Client,
+    pub(crate) peer: u64,
+    pub(crate) initiator: Initiator,
+    pub(crate) client: Client,
 }
 
 impl Model for Link {
@@ -35,7 +35,7 @@ impl Model for Link {
 }
 
 /// A far end has accepted so many messages; where none stands, there are none.
-fn accepted_above(end: &mut Option<Llc<Server>>) -> usize
+pub(crate) fn accepted_above(end: &mut Option<Llc<Server>>) -> usize
     ensures count { result ≡ accepted_by end.old }
     ensures same { end.new ≡ end.old }
 {
@@ -56,7 +56,7 @@ fn is_number(number: Option<u64>, peer: u64) -> bool
 }
 
 /// The place of the peer with a number.
-fn place_numbered(numbers: &[Option<u64>], peer: u64) -> Option<usize>
+pub(crate) fn place_numbered(numbers: &[Option<u64>], peer: u64) -> Option<usize>
     ensures within { IfSome result (λ place. place < length numbers.now) }
     ensures some { IfSome result (λ place. (ends : List (Option FarEnd)) → end_numbered peer numbers.now ends ≡ get_or ends place None) }
     ensures none { result ≡ None → (ends : List (Option FarEnd)) → end_numbered peer numbers.now ends ≡ None }
@@ -70,7 +70,7 @@ fn place_numbered(numbers: &[Option<u64>], peer: u64) -> Option<usize>
 }
 
 /// The last link ends at a place of its peer's list of accepted messages.
-fn end_last(links: &mut [LinkRange], end: usize)
+pub(crate) fn end_last(links: &mut [LinkRange], end: usize)
     ensures { links.new ≡ last_ended end links.old }
 {
     let count = links.len();
@@ -84,11 +84,11 @@ fn end_last(links: &mut [LinkRange], end: usize)
 #[derive(Drop)]
 pub struct Machines {
     pub(crate) field: Field<Device>,
-    ends: Vec<Option<Llc<Server>>>,
-    numbers: Vec<Option<u64>>,
+    pub(crate) ends: Vec<Option<Llc<Server>>>,
+    pub(crate) numbers: Vec<Option<u64>>,
     placed: u64,
-    links: Vec<LinkRange>,
-    link: Option<Link>,
+    pub(crate) links: Vec<LinkRange>,
+    pub(crate) link: Option<Link>,
 }
 
 impl Model for Machines {

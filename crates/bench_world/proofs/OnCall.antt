@@ -1,0 +1,314 @@
+-- A command that asks over the open link was obeyed, or cut off.
+use Rattle.std.proofs.Common.{◌≡◌, ◌↔◌, ◌⊎◌, ℕ, zero, suc, ◌<◌, List, [], ◌∷◌, ◌++◌, map, length, Bool, true, false, if◌then◌else◌, Option, Some, None, refl, sym, ◌∙◌, ap, subst, arith, inl, inr}
+use Rattle.std.specs.Prelude.{get_or, slice_set, drop}
+use Rattle.nfc_base.specs.declared.carrier.EndCause.{EndCause}
+use Rattle.nfc_base.specs.declared.carrier.EndCause.TheVariants as cause
+use Rattle.nfc_base.specs.declared.event.Event.{Event}
+use Rattle.nfc_base.specs.declared.event.Event.TheVariants.{Request}
+use Rattle.nfc_base.specs.declared.event.Fate.{Fate}
+use Rattle.nfc_base.specs.declared.event.Fate.TheVariants.{Pass}
+use Rattle.nfc_base.specs.Signal.{Signal}
+use Rattle.nfc_base.specs.Trace.{noise, breaks}
+use Rattle.air_core.specs.Turn.{Air, moment, world, after_event}
+use Rattle.air_core.specs.Conversation.{Note, Next, Over, Asks, IsDemand, AreTurns, FatesFrom, EachDue, receptions, replay, queue_after, first_fate, later_fates}
+use Rattle.air_core.specs.Turning.{due-append, due_weaker, fates-append, queue_after-append}
+use Rattle.dep_link.specs.Initiator.{InitState}
+use Rattle.far_air.specs.FarWorld.{with_numbers}
+use Rattle.far_air.specs.FarLaws.{seen}
+use Rattle.far_air.specs.FarTurns.{FarGoing}
+use Rattle.peer_air.specs.PeerFars.{peer_ends}
+use Rattle.snep_core.specs.Accord.{Accords}
+use Rattle.snep_core.specs.Server.{Received}
+use Rattle.snep_core.specs.Talk.{EndState, OnSap, Step, Ends, Task, begins}
+use Rattle.link_calls.specs.CallDue.{CallStanding, Comes, BrokenBy, call_stand, call_due, call_due_at}
+use Rattle.link_calls.specs.CallTurns.{CallTurns, CallFront}
+use Rattle.link_calls.specs.Calls.{IsCutShort, IsEndedBy, IsMade}
+use Rattle.link_calls.specs.Staying.{setting_of}
+use Rattle.bench_script.specs.declared.command.Command.{Command}
+use Rattle.bench_devices.specs.declared.device.Device.{Device}
+use Rattle.bench_devices.specs.Device.{devices, device_end, device_linked, stable_of, StablePart}
+use Rattle.bench_devices.specs.Keeping.{ghosts}
+use Rattle.bench_devices.proofs.PeerHere.{in_step}
+use Rattle.bench_devices.proofs.PeerLinks.{devices_link}
+use Rattle.bench_world.specs.declared.entry.Answer.{Answer}
+use Rattle.bench_world.specs.declared.entry.Answer.TheVariants as answers
+use Rattle.bench_world.specs.declared.entry.Loss.{Loss}
+use Rattle.bench_world.specs.declared.entry.Loss.TheVariants as losses
+use Rattle.bench_world.specs.World.{FarEnd, WholeWorld, Stable, bench_air, stable}
+use Rattle.bench_world.specs.Calls.{IsTold, link_behind, stands_on, told_call, told_loss, told_step, with_accepted}
+use Rattle.bench_world.specs.Links.{OpenLink, accepted_by, ended, ended_unless, with_last_ended}
+use Rattle.bench_world.specs.Legal.{State, Given, Joins, Accepts, AnswerLaw, CutFront, CutStores, FrontOf, HaltsCall, IsAskedBy, LeavesStable, begun, changed, due, link_after, peers_after, state_after, world_after}
+use Rattle.bench_world.specs.Obeying.{Machines, HasPlaces, IsSettled, KeepsLink, Obeyed, state_at, under}
+use Rattle.bench_world.specs.Opened.{AreNumbered, AreServed, IsOpen}
+use Rattle.bench_world.specs.Peers.{Peers}
+use Rattle.bench_world.proofs.CallNotes.{IsPlainNext, call_broken, call_lost, calls_plain}
+use Rattle.bench_world.proofs.OnLink.{Ends as FarEnds, accepted_now, as_many, bare, devices_stay, ends_more, ends_same, first, going, leaves, now, opened, own, queue_is, served, set_long, set_there, stands, tame, trace_is, world_is}
+
+-- what a step of a call is said for
+abbrev pub given_by : List ℕ → List ℕ → Given
+given_by numbers taken = record { asked = []; joins = record { own = numbers; far = taken } }
+
+module _ (air : Air Device) (ends : FarEnds) (peers : Peers) (l : OpenLink) (settled : IsSettled (under ends peers (Some l) air)) where
+  abbrev pub from_state : State
+  from_state = state_at (under ends peers (Some l) air)
+
+  -- the place and the far end of the link's peer
+  abbrev pub place : ℕ
+  place = (opened air ends peers l settled).place
+
+  abbrev pub end : FarEnd
+  end = (opened air ends peers l settled).end
+
+  -- turns that were due, and where the command has its numbers
+  module _ (next : List Note → Next) (plain : (ns : List Note) → IsPlainNext (next ns)) (c : Command) (numbers : List ℕ) (b : Air Device) (after : FarEnd) (notes : List Note)
+      (g : FarGoing devices device_linked peer_ends next (moment air) (moment b) notes place ends end after)
+      (still : changed from_state c ≡ from_state) (accepts : Accepts from_state c) (asks : IsAskedBy from_state c []) (same : (ns : List Note) → due from_state (given_by numbers g.taken) c ns ≡ next ns) where
+    abbrev pub given : Given
+    given = given_by numbers g.taken
+
+    abbrev pub far_now : FarEnds
+    far_now = now air ends peers l settled next plain b after notes g
+
+    abbrev es : List Event
+    es = (going air ends peers l settled next plain b after notes g).events
+
+    abbrev from : WholeWorld
+    from = first air ends peers l settled next plain b after notes g
+
+    -- the state then
+    abbrev pub to : Option OpenLink → Peers → Machines
+    to link ps = under far_now ps link b
+
+    world_then : seen device_linked peer_ends (world b) far_now [] ≡ world_after from_state given.joins c es
+    world_then =
+        world_is air ends peers l settled next plain b after notes g
+        ∙ ap (λ (s : State). with_numbers (replay bench_air (with_numbers s.world g.taken) es) []) (sym still)
+
+    each_due : EachDue (due from_state given c) [] es
+    each_due = due_weaker (due from_state given c) next (λ ns n e d. same ns ∙ e) [] es (going air ends peers l settled next plain b after notes g).each
+
+    turns_then : AreTurns bench_air (begun from_state given.joins c) es
+    turns_then = subst (λ (s : State). AreTurns bench_air (with_numbers s.world g.taken) es) (sym still) (going air ends peers l settled next plain b after notes g).turns
+
+    fates_then : FatesFrom (changed from_state c).queue es
+    fates_then = subst (λ (s : State). FatesFrom s.queue es) (sym still) (going air ends peers l settled next plain b after notes g).fates
+
+    pub front : (told : Option Answer) (link : Option OpenLink) (ps : Peers) → link_after from_state given.joins c es told ≡ link → peers_after from_state given.joins c es told ≡ ps
+        → FrontOf from_state given c b.trace told (state_at (to link ps))
+    front told link ps link_is peers_is =
+        let S : WholeWorld → List Fate → Peers → Option OpenLink → State = λ w q p o. record { world = w; queue = q; peers = p; link = o } in
+        let w : WholeWorld = world_after from_state given.joins c es in
+        let q : b.fates ≡ queue_after (changed from_state c).queue es = queue_is air ends peers l settled next plain b after notes g ∙ ap (λ (s : State). queue_after s.queue es) (sym still) in
+        let f : FrontOf from_state given c es told (state_at (to link ps)) = record {
+          accepted = accepts;
+          asks = asks;
+          turns = turns_then;
+          fates = fates_then;
+          each = each_due;
+          after = ap (λ x. S x b.fates ps link) world_then ∙ ap (λ x. S w x ps link) q
+              ∙ ap (λ x. S w (queue_after (changed from_state c).queue es) x link) (sym peers_is)
+              ∙ ap (λ x. S w (queue_after (changed from_state c).queue es) (peers_after from_state given.joins c es told) x) (sym link_is);
+        } in
+        subst (λ xs. FrontOf from_state given c xs told (state_at (to link ps))) (sym (trace_is air ends peers l settled next plain b after notes g)) f
+
+    pub places_then : setting_of after ≡ setting_of end → (link : Option OpenLink) (ps : Peers) → ps.numbers ≡ peers.numbers → ps.placed ≡ peers.placed → HasPlaces (to link ps)
+    places_then set link ps numbered placed = record {
+      ends = set_long ends place end after (opened air ends peers l settled).above ∙ settled.places.ends ∙ sym (as_many air ends peers l settled next plain b after notes g);
+      numbers = ap length numbered ∙ settled.places.numbers ∙ sym (as_many air ends peers l settled next plain b after notes g);
+      served = subst (λ xs. AreServed b.listeners xs far_now) (sym numbered) (served air ends peers l settled next plain b after notes g set);
+      apart = subst (λ n. AreNumbered n ps.numbers) (sym placed) (subst (AreNumbered peers.placed) (sym numbered) settled.places.apart);
+    }
+
+    -- what stays
+    pub devices_then : (stable (world_after from_state given.joins c es)).devices ≡ (stable from_state.world).devices
+    devices_then =
+        ap (λ (w : WholeWorld). (stable w).devices) (sym world_then) ∙ devices_stay air ends peers l settled next plain b after notes g
+
+    pub ends_then : (more : List Received) → setting_of after ≡ setting_of end → after.service.accepted ≡ end.service.accepted ++ more
+        → (stable (world_after from_state given.joins c es)).ends ≡ with_accepted more l.peer peers.numbers (stable from_state.world).ends
+    ends_then more set e = ap (λ (w : WholeWorld). (stable w).ends) (sym world_then) ∙ ends_more air ends peers l settled next plain b after notes g more set e
+
+    pub stays_then : setting_of after ≡ setting_of end → after.service.accepted ≡ end.service.accepted → LeavesStable from_state given.joins c es
+    stays_then set e =
+        let S : List StablePart → FarEnds → Stable = λ ds os. record { devices = ds; ends = os } in
+        ap stable (sym world_then)
+        ∙ ap (λ ds. S ds (bare b.listeners far_now)) (devices_stay air ends peers l settled next plain b after notes g)
+        ∙ ap (S (map stable_of air.listeners)) (ends_same air ends peers l settled next plain b after notes g set e)
+        ∙ ap (λ (s : State). stable s.world) (sym still)
+
+    pub obeyed : (answer : Answer) (link : Option OpenLink) (ps : Peers) → next notes ≡ Over → link_after from_state given.joins c es (Some answer) ≡ link → peers_after from_state given.joins c es (Some answer) ≡ ps
+        → AnswerLaw from_state given c es answer → setting_of after ≡ setting_of end → ps.numbers ≡ peers.numbers → ps.placed ≡ peers.placed → KeepsLink (to link ps)
+        → Obeyed (under ends peers (Some l) air) (to link ps) c answer
+    obeyed answer link ps over link_is peers_is law set numbered placed keeps =
+        let trace : b.trace ≡ es = trace_is air ends peers l settled next plain b after notes g in
+        record {
+          given = given;
+          front = front (Some answer) link ps link_is peers_is;
+          over = ap (λ xs. due from_state given c (receptions xs)) trace ∙ ap (due from_state given c) (going air ends peers l settled next plain b after notes g).known ∙ same notes ∙ over;
+          answered = subst (λ xs. AnswerLaw from_state given c xs answer) (sym trace) law;
+          tame = tame air ends peers l settled next plain b after notes g;
+          tidy = (leaves air ends peers l settled next plain b after notes g).tidy settled.idle.tidy;
+          places = places_then set link ps numbered placed;
+          link = keeps;
+        }
+
+    pub cut_off : (link : Option OpenLink) (ps : Peers) → link_after from_state given.joins c es None ≡ link → peers_after from_state given.joins c es None ≡ ps → CutStores from_state given.joins c es
+        → CutFront from_state c b.trace (state_at (to link ps))
+    cut_off link ps link_is peers_is stores =
+        (given, front None link ps link_is peers_is, subst (CutStores from_state given.joins c) (sym (trace_is air ends peers l settled next plain b after notes g)) stores)
+
+    -- the request behind passed, and the far end stopped
+    module _ (sent : Signal) (listeners : List Device) (d : Air Device) (asked : next notes ≡ Asks sent) (passed : first_fate b.fates ≡ Pass)
+        (left : d ≡ after_event b (Request sent Pass) (later_fates b.fates) (record { lit = true; listeners = listeners })) where
+      abbrev all : List Event
+      all = es ++ Request sent Pass ∷ []
+
+      trace_more : d.trace ≡ all
+      trace_more = ap (λ (a : Air Device). a.trace) left ∙ ap (λ xs. xs ++ Request sent Pass ∷ []) (trace_is air ends peers l settled next plain b after notes g)
+
+      queue_more : queue_after (changed from_state c).queue all ≡ d.fates
+      queue_more =
+          ap (λ (s : State). queue_after s.queue all) still ∙ queue_after-append air.fates es (Request sent Pass ∷ [])
+          ∙ ap later_fates (sym (queue_is air ends peers l settled next plain b after notes g)) ∙ sym (ap (λ (a : Air Device). a.fates) left)
+
+      pub halted : (os : FarEnds) (ps : Peers) → HaltsCall from_state c d.trace (state_at (under os ps None d))
+      halted os ps =
+          let next_is : due from_state given c (receptions es) ≡ Asks sent = ap (due from_state given c) (going air ends peers l settled next plain b after notes g).known ∙ same notes ∙ asked in
+          let last : Pass ≡ first_fate (queue_after air.fates es) = sym passed ∙ ap first_fate (queue_is air ends peers l settled next plain b after notes g) in
+          let every : FatesFrom (changed from_state c).queue all =
+          subst (λ (s : State). FatesFrom s.queue all) (sym still)
+          (fates-append air.fates es (Request sent Pass ∷ []) (going air ends peers l settled next plain b after notes g).fates (last, tt)) in
+          let due_all : EachDue (due from_state given c) [] all = due-append (due from_state given c) [] es (Request sent Pass ∷ []) each_due (next_is, tt) in
+          record {
+            given = given;
+            accepted = accepts;
+            asks = asks;
+            before = es;
+            sent = sent;
+            split = trace_more;
+            turns = turns_then;
+            fates = subst (FatesFrom (changed from_state c).queue) (sym trace_more) every;
+            each = subst (EachDue (due from_state given c) []) (sym trace_more) due_all;
+            lit = ap (λ (a : Air Device). a.lit) left;
+            queue = sym queue_more ∙ ap (queue_after (changed from_state c).queue) (sym trace_more);
+            link = refl;
+          }
+
+  -- A command that asks over the link by a call of this task.
+  pub record IsCall (c : Command) (task : Task) : Type 0 where
+    pub still : changed from_state c ≡ from_state
+    pub accepts : Accepts from_state c
+    pub asks : IsAskedBy from_state c []
+    pub same : (numbers taken : List ℕ) (ns : List Note) → due from_state (given_by numbers taken) c ns ≡ call_due numbers (begins l.client task) l.initiator ns
+    pub link_on : (joins : Joins) (es : List Event) (answer : Answer) → link_after from_state joins c es (Some answer) ≡ link_behind l.peer (stands_on l joins.own task es)
+    pub link_off : (joins : Joins) (es : List Event) → link_after from_state joins c es None ≡ None
+    pub peers_on : (joins : Joins) (es : List Event) (told : Option Answer)
+        → peers_after from_state joins c es told ≡ ended_unless (link_after from_state joins c es told) (Some l) (world_after from_state joins c es).fars peers
+
+  module _ (c : Command) (task : Task) (is : IsCall c task) (b : Air Device) (j : InitState) (after : FarEnd) where
+    abbrev step : Step
+    step = begins l.client task
+
+    -- what a call's law is made of
+    pub record Facts (joins : Joins) (events : List Event) (answer : Answer) : Type 0 where
+      pub told : IsTold (told_call (stands_on l joins.own task events)) events answer
+      pub devices : (stable (world_after from_state joins c events)).devices ≡ (stable from_state.world).devices
+      pub adds : (more : List Received) → after.service.accepted ≡ end.service.accepted ++ more
+          → (stable (world_after from_state joins c events)).ends ≡ with_accepted more l.peer peers.numbers (stable from_state.world).ends
+      pub stays : after.service.accepted ≡ end.service.accepted → LeavesStable from_state joins c events
+
+    abbrev Law : Answer → Type 0
+    Law answer = (joins : Joins) (events : List Event) → Facts joins events answer → AnswerLaw from_state (record { asked = []; joins = joins }) c events answer
+
+    -- the machines with the link open, and with it gone
+    abbrev pub open_then : EndState → Machines
+    open_then client = under (slice_set ends place (Some after)) peers (Some (record { peer = l.peer; initiator = j; client = client })) b
+
+    abbrev pub gone_then : Machines
+    gone_then = under (slice_set ends place (Some after)) (with_last_ended (accepted_by (get_or (slice_set ends place (Some after)) place None)) peers) None b
+
+    -- turns of the call up to where it stands so
+    module _ (numbers : List ℕ) (standing : CallStanding) (t : CallTurns ghosts device_end device_linked peer_ends numbers step l.initiator air b place ends end after standing) where
+      abbrev pub next : List Note → Next
+      next = call_due numbers step l.initiator
+
+      abbrev pub plain : (ns : List Note) → IsPlainNext (next ns)
+      plain = calls_plain numbers step l.initiator
+
+      abbrev pub same : (ns : List Note) → due from_state (given_by numbers t.going.taken) c ns ≡ next ns
+      same = is.same numbers t.going.taken
+
+      abbrev pub events : List Event
+      events = (going air ends peers l settled next plain b after t.notes t.going).events
+
+      abbrev pub joins : Joins
+      joins = record { own = numbers; far = t.going.taken }
+
+      stand_is : stands_on l numbers task events ≡ standing
+      stand_is = ap (call_stand numbers step l.initiator) (going air ends peers l settled next plain b after t.notes t.going).known ∙ t.stands
+
+      gone_peers : (told : Option Answer) → link_after from_state joins c events told ≡ None
+          → peers_after from_state joins c events told ≡ with_last_ended (accepted_by (get_or (slice_set ends place (Some after)) place None)) peers
+      gone_peers told none =
+          is.peers_on joins events told ∙ ap (λ o. ended_unless o (Some l) (world_after from_state joins c events).fars peers) none
+          ∙ ap (λ (w : WholeWorld). ended (Some l) w.fars peers) (sym (world_then next plain c numbers b after t.notes t.going is.still is.accepts is.asks same))
+          ∙ ap (λ n. with_last_ended n peers) (accepted_now air ends peers l settled next plain b after t.notes t.going)
+
+      facts : setting_of after ≡ setting_of end → (answer : Answer) → IsTold (told_call (stands_on l numbers task events)) events answer → Facts joins events answer
+      facts set answer told = record {
+        told = told;
+        devices = devices_then next plain c numbers b after t.notes t.going is.still is.accepts is.asks same;
+        adds = λ more e. ends_then next plain c numbers b after t.notes t.going is.still is.accepts is.asks same more set e;
+        stays = λ e. stays_then next plain c numbers b after t.notes t.going is.still is.accepts is.asks same set e;
+      }
+
+      -- it was told by where it stands
+      told_so : (answer : Answer) → told_call standing ≡ Some answer → ((standing ≡ BrokenBy cause.FieldLost) ↔ (answer ≡ answers.LinkEnded losses.FieldLost))
+          → (answer ≡ answers.LinkEnded losses.SixBad → 0 < noise events) → IsTold (told_call (stands_on l numbers task events)) events answer
+      told_so answer told lost noisy = record {
+        tells = ap told_call stand_is ∙ told;
+        lost = (
+            λ e. call_broken bench_air numbers step l.initiator _ _ t.notes (going air ends peers l settled next plain b after t.notes t.going) (t.stands ∙ lost.1 e),
+            λ some. lost.0 (sym t.stands ∙ call_lost bench_air numbers step l.initiator _ _ t.notes (going air ends peers l settled next plain b after t.notes t.going) some),
+          );
+        noisy = noisy;
+      }
+
+      over_at : call_due_at standing ≡ Over → next t.notes ≡ Over
+      over_at e = ap call_due_at t.stands ∙ e
+
+      pub came : setting_of after ≡ setting_of end → (jobs : List OnSap) (client : EndState) → standing ≡ Comes (Ends jobs client) j → (answer : Answer) → told_step (Ends jobs client) ≡ Some answer
+          → ((loss : Loss) → answer ≡ answers.LinkEnded loss → ⊥) → Law answer → KeepsLink (open_then client) → Obeyed (under ends peers (Some l) air) (open_then client) c answer
+      came set jobs client comes answer told never law keeps =
+          let link_is : link_after from_state joins c events (Some answer) ≡ Some (record { peer = l.peer; initiator = j; client = client }) =
+          is.link_on joins events answer ∙ ap (link_behind l.peer) (stand_is ∙ comes) in
+          obeyed next plain c numbers b after t.notes t.going is.still is.accepts is.asks same answer (Some (record { peer = l.peer; initiator = j; client = client })) peers
+          (over_at (ap call_due_at comes)) link_is
+          (is.peers_on joins events (Some answer) ∙ ap (λ o. ended_unless o (Some l) (world_after from_state joins c events).fars peers) link_is)
+          (law joins events (facts set answer (told_so answer (ap told_call comes ∙ told)
+          ((λ e. absurd (let clash : Comes (Ends jobs client) j ≡ BrokenBy cause.FieldLost = sym comes ∙ e in cc)), (λ e. absurd (never losses.FieldLost e))) (λ e. absurd (never losses.SixBad e)))))
+          set refl refl keeps
+
+      pub broke : setting_of after ≡ setting_of end → (why : EndCause) → standing ≡ BrokenBy why → (answer : Answer) → told_loss why ≡ Some answer
+          → ((why ≡ cause.FieldLost) ↔ (answer ≡ answers.LinkEnded losses.FieldLost)) → (answer ≡ answers.LinkEnded losses.SixBad → 0 < noise events) → Law answer
+          → Obeyed (under ends peers (Some l) air) gone_then c answer
+      broke set why broken answer told lost noisy law =
+          let link_is : link_after from_state joins c events (Some answer) ≡ None = is.link_on joins events answer ∙ ap (link_behind l.peer) (stand_is ∙ broken) in
+          obeyed next plain c numbers b after t.notes t.going is.still is.accepts is.asks same answer None
+          (with_last_ended (accepted_by (get_or (slice_set ends place (Some after)) place None)) peers)
+          (over_at (ap call_due_at broken)) link_is (gone_peers (Some answer) link_is)
+          (law joins events (facts set answer (told_so answer (ap told_call broken ∙ told)
+          ((λ e. lost.0 (let same : BrokenBy why ≡ BrokenBy cause.FieldLost = sym broken ∙ e in cc)), (λ e. broken ∙ ap BrokenBy (lost.1 e))) noisy)))
+          set refl refl tt
+
+      pub short : ((joins : Joins) (events : List Event) → (devices : (stable (world_after from_state joins c events)).devices ≡ (stable from_state.world).devices)
+          → (ends : (more : List Received) → after.service.accepted ≡ end.service.accepted ++ more
+          → (stable (world_after from_state joins c events)).ends ≡ with_accepted more l.peer peers.numbers (stable from_state.world).ends)
+          → (stays : after.service.accepted ≡ end.service.accepted → LeavesStable from_state joins c events) → CutStores from_state joins c events)
+          → setting_of after ≡ setting_of end → CutFront from_state c b.trace (state_at gone_then)
+      short stores set =
+          cut_off next plain c numbers b after t.notes t.going is.still is.accepts is.asks same None (with_last_ended (accepted_by (get_or (slice_set ends place (Some after)) place None)) peers)
+          (is.link_off joins events) (gone_peers None (is.link_off joins events))
+          (stores joins events (devices_then next plain c numbers b after t.notes t.going is.still is.accepts is.asks same)
+          (λ more e. ends_then next plain c numbers b after t.notes t.going is.still is.accepts is.asks same more set e)
+          (λ e. stays_then next plain c numbers b after t.notes t.going is.still is.accepts is.asks same set e))

@@ -1,0 +1,128 @@
+//! The commands on the open link: its client puts a message to the server of the link's peer, gets a value of it, or asks
+//! where a service is; and the link is closed.
+
+ghost use Rattle.std.specs.Prelude.{◌≡◌, ◌≤◌, ◌<◌, ◌⊎◌, length, get_or, None, IfOk, OnErr, IsErrOf};
+ghost use Rattle.nfc_base.specs.declared.carrier.EndCause.TheVariants as causes;
+ghost use Rattle.bench_script.specs.declared.message.Msg.{Msg};
+ghost use Rattle.bench_script.specs.Messages.{message_of};
+ghost use Rattle.bench_world.specs.Calls.{told_loss};
+ghost use Rattle.bench_world.specs.Links.{accepted_by, with_last_ended};
+ghost use Rattle.bench_world.specs.Obeying.{IsSettled, Obeyed, IsCutOff, RefusedOnly};
+ghost use Rattle.std.specs.Prelude.{Some};
+
+use crate::bench::ObeyFault;
+use crate::entry::{Answer, Loss};
+use crate::machines::{Link, Machines, accepted_above, end_last, place_numbered};
+use bench_script::{Command, Msg};
+use link_calls::put_on;
+use nfc_base::EndCause;
+use snep_core::SnepFault;
+use std::alloc::{AllocError, Global};
+
+/// The longest message (NFC Forum SNEP 1.0 has no limit; this one is this project's own).
+const LONGEST_MESSAGE: usize = 65536;
+
+/// The answer that tells of a link that ended by this cause.
+fn lost(cause: EndCause) -> Answer
+    requires { (cause ≡ causes.FieldLost) ⊎ (cause ≡ causes.SixBad) }
+    ensures { told_loss cause ≡ Some result }
+{
+    match cause {
+        EndCause::FieldLost => Answer::LinkEnded(Loss::FieldLost),
+        EndCause::SixBad => Answer::LinkEnded(Loss::SixBad),
+        EndCause::Protocol | EndCause::Memory => unreachable!(),
+    }
+}
+
+/// The range of the link that was open goes to the present end of what the server at a place accepted.
+fn end_range(machines: &mut Machines, place: usize)
+    requires { place < length machines.old.ends }
+    ensures { machines.new ≡ record machines.old {
+        peers = with_last_ended (accepted_by (get_or machines.old.ends place None)) machines.old.peers } }
+{
+    let end = accepted_above(&mut machines.ends[place]);
+    end_last(&mut machines.links, end);
+}
+
+/// Puts these bytes to the server of the link's peer, where a link is open.
+fn put_bytes(machines: &mut Machines, bytes: &[u8]) -> Result<Answer, AllocError>
+    requires settled { IsSettled machines.old }
+    requires size { length bytes.now ≤ 65536 }
+    ensures ok { IfOk result (λ a. (m : Msg) → message_of m ≡ bytes.now
+        → Obeyed machines.old machines.new (Command.Put m) a) }
+    ensures cut { OnErr result ((m : Msg) → message_of m ≡ bytes.now
+        → IsCutOff machines.old machines.new (Command.Put m)) }
+{
+    let Some(link) = machines.link.take() else {
+        return Ok(Answer::NoLink);
+    };
+    let Link {
+        peer,
+        mut initiator,
+        mut client,
+    } = link;
+    let Some(place) = place_numbered(&machines.numbers, peer) else {
+        unreachable!()
+    };
+    let Some(far) = &mut machines.ends[place] else {
+        unreachable!()
+    };
+    match put_on(
+        &mut machines.field,
+        &mut initiator,
+        &mut client,
+        far,
+        bytes,
+    ) {
+        Ok(()) => {
+            machines.link = Some(Link {
+                peer,
+                initiator,
+                client,
+            });
+            Ok(Answer::Success)
+        }
+        Err(SnepFault::Reject) => {
+            machines.link = Some(Link {
+                peer,
+                initiator,
+                client,
+            });
+            Ok(Answer::Reject)
+        }
+        Err(SnepFault::LinkEnded(cause)) => {
+            end_range(machines, place);
+            Ok(lost(cause))
+        }
+        Err(SnepFault::Memory) => {
+            end_range(machines, place);
+            Err(AllocError)
+        }
+        Err(
+            SnepFault::NotFound
+            | SnepFault::Excess
+            | SnepFault::NotImplemented
+            | SnepFault::BadPeer,
+        ) => unreachable!(),
+    }
+}
+
+/// Puts a message to the server of the link's peer.
+pub fn put(alloc: Global, machines: &mut Machines, message: &Msg) -> Result<Answer, ObeyFault>
+    requires { IsSettled machines.old }
+    ensures ok { IfOk result (λ a. Obeyed machines.old machines.new (Command.Put message.now) a) }
+    ensures refused { IsErrOf result ObeyFault.Refused → (machines.new ≡ machines.old) }
+    ensures cause { RefusedOnly result machines.old (Command.Put message.now) }
+    ensures cut { IsErrOf result ObeyFault.Memory → IsCutOff machines.old machines.new (Command.Put message.now) }
+{
+    let Ok(bytes) = message.bytes(alloc) else {
+        return Err(ObeyFault::Memory);
+    };
+    if bytes.len() > LONGEST_MESSAGE {
+        return Err(ObeyFault::Refused);
+    }
+    match put_bytes(machines, &bytes) {
+        Ok(answer) => Ok(answer),
+        Err(_) => Err(ObeyFault::Memory),
+    }
+}
