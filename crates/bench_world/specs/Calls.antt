@@ -11,7 +11,10 @@ use Rattle.llcp_link.specs.Names.{found}
 use Rattle.snep_core.specs.declared.fault.SnepFault.TheVariants as faults
 use Rattle.snep_core.specs.declared.job.Refusal.TheVariants as refusals
 use Rattle.snep_core.specs.Accord.{Refuses, from_client}
-use Rattle.snep_core.specs.Jobs.{Job, Ending, Done, Value, Sap, Refused, Over as Ended}
+use Rattle.snep_core.specs.declared.job.Ending.{Ending}
+use Rattle.snep_core.specs.declared.job.Ending.TheVariants.{Done, Value, Sap, Refused}
+use Rattle.snep_core.specs.declared.job.Job.{Job}
+use Rattle.snep_core.specs.declared.job.Job.TheVariants.{Over as Ended}
 use Rattle.snep_core.specs.Server.{Received}
 use Rattle.snep_core.specs.Session.{value_of}
 use Rattle.snep_core.specs.Talk.{OnSap, Step, Ends, Task, Leaves, begins}

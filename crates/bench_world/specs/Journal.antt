@@ -1,7 +1,7 @@
 -- Which journals are legal for the lines of a script.
 use Rattle.std.specs.Prelude.{◌≡◌, ℕ, ◌+◌, List, [], ◌∷◌, map, if◌then◌else◌}
 use Rattle.bench_script.specs.declared.command.Command.{Command}
-use Rattle.bench_script.specs.declared.command.Command.TheVariants.{Put, Get, Lookup, Unlink}
+use Rattle.bench_script.specs.declared.command.Command.TheVariants.{Link, Put, Get, Lookup, Unlink}
 use Rattle.bench_world.specs.declared.entry.Entry.{Entry}
 use Rattle.bench_world.specs.Legal.{State, Given, Joins, EachLegal, first_state}
 use Rattle.bench_script.specs.Script.{Spells, is_skipped}
@@ -41,8 +41,9 @@ pub record Legal (lines : List (List ℕ)) (journal : List Entry) : Type 0 where
   pub last : State
   pub leads : LeadsTo lines numbers journal last
 
--- On the open link far ends are handed payloads, so an entry may take numbers there. A later command adds its case.
+-- Where a link is opened and on the open link devices use their far ends, so an entry may take numbers there. A later command adds its case.
 abbrev pub TakesNumbers : Command → Type 0
+TakesNumbers (Link id miu window) = Unit {0}
 TakesNumbers (Put message) = Unit {0}
 TakesNumbers (Get most key) = Unit {0}
 TakesNumbers (Lookup name) = Unit {0}

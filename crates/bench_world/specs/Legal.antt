@@ -1,6 +1,6 @@
 -- Which entries a bench may have: what it accepts, what each command changes, which request is due, and what it
 -- answers. A later command adds a case to each definition.
-use Rattle.std.specs.Prelude.{◌≡◌, ◌⊎◌, ℕ, ◌*◌, ◌-◌, ◌^◌, ◌<◌, ◌≤◌, List, [], ◌∷◌, ◌++◌, length, replicate, Option, Some, None, IsSome, Bool, true, false, if◌then◌else◌}
+use Rattle.std.specs.Prelude.{◌≡◌, ◌⊎◌, ℕ, ◌+◌, ◌*◌, ◌-◌, ◌^◌, ◌<◌, ◌≤◌, List, [], ◌∷◌, ◌++◌, length, replicate, Option, Some, None, IsSome, Bool, true, false, if◌then◌else◌}
 use Rattle.nfc_base.specs.declared.event.Event.{Event}
 use Rattle.nfc_base.specs.declared.event.Fate.{Fate}
 use Rattle.nfc_base.specs.Signal.{Signal}
@@ -109,14 +109,14 @@ pub record MayPlacePeer (s : State) (id : List ℕ) (lr miu rw most : ℕ) : Typ
   pub limit : IsLimit most
 
 -- A link may be asked for: its MIU and receive window are those that an end may have.
-pub record MayLink (miu window : ℕ) : Type 0 where
+pub record MayLink (miu rw : ℕ) : Type 0 where
   pub size : IsMiu miu
-  pub window : IsWindow window
+  pub window : IsWindow rw
 
 -- A value may be asked for: neither it nor its key is longer than a message may be.
-pub record MayGet (most : ℕ) (key : List ℕ) : Type 0 where
+pub record MayGet (most : ℕ) (name : List ℕ) : Type 0 where
   pub value : most ≤ longest_message
-  pub key : length key ≤ longest_message
+  pub key : length name ≤ longest_message
 
 -- a device with this identifier is placed
 abbrev pub IsPlaced : State → DeviceId → Type 0

@@ -13,6 +13,7 @@ ghost use Rattle.bench_devices.specs.Phases.{IsIdle};
 
 use crate::asking::{find, read_tag, write_message};
 use crate::entry::{Answer, Entry};
+use crate::linking::link;
 use crate::machines::Machines;
 use crate::peers::{inbox, offer_value, place_peer};
 use air_core::Field;
@@ -332,6 +333,10 @@ fn run_command(
         Command::Find => find(alloc, machines),
         Command::Read { id } => read_tag(alloc, machines, id),
         Command::Write { id, message } => write_message(alloc, machines, id, message),
+        Command::Link { id, miu, rw } => link(alloc, machines, id, *miu, *rw),
+        Command::Put { .. } | Command::Get { .. } | Command::Lookup { .. } | Command::Unlink => {
+            Err(ObeyFault::Memory)
+        }
     }
 }
 

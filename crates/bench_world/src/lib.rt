@@ -18,6 +18,7 @@ mod event_lines;
 mod fixed_text;
 mod inbox;
 mod law;
+mod linking;
 mod machines;
 mod peers;
 mod pieces;
