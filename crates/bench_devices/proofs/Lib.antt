@@ -71,3 +71,4 @@ pub mod TalkTurns
 pub mod SwapLeaves
 pub mod LinkingNotes
 pub mod LinkFar
+pub mod FarLeaves

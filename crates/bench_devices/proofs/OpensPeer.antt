@@ -6,7 +6,7 @@ use Rattle.std.proofs.lemmas.Bool.{cases_lt}
 use Rattle.std.proofs.lemmas.List.{append_cancel_left}
 use Rattle.nfc_base.specs.Signal.{Signal, whole_a}
 use Rattle.nfc_base.specs.Far.{Untouched, Hands}
-use Rattle.nfc_base.specs.Trace.{breaks}
+use Rattle.nfc_base.specs.Trace.{breaks, noise}
 use Rattle.nfc_base.specs.declared.event.Event.{Event}
 use Rattle.nfc_base.specs.declared.carrier.EndCause.{EndCause}
 use Rattle.nfc_base.specs.declared.carrier.EndCause.TheVariants.{FieldLost, SixBad, Protocol, Memory}
@@ -164,8 +164,8 @@ module _ (old : Air Device) (place : ℕ) (d : Device) (s : Stands (moment old) 
     sent_by : (r : Result (InitState × ArrayVec ℕ) EndCause) → AtrEnds ghosts device_end restarts old new general (device_end d) far after r → (st : Standing) × AtrSent ghosts device_end restarts old new general far after st
     sent_by (Ok p) e = (Asking 0 [], e.0)
     sent_by (Err FieldLost) (inl (dark, same, far_same)) = absurd (let clash : true ≡ false = sym lit_before ∙ dark in cc)
-    sent_by (Err FieldLost) (inr (last, dim)) = (Broken faults.FieldLost (atr_frame general ∷ []), last)
-    sent_by (Err SixBad) e = (Broken faults.SixBad (atr_frame general ∷ []), e)
+    sent_by (Err FieldLost) (inr (last, broken, dim)) = (Broken faults.FieldLost (atr_frame general ∷ []), last)
+    sent_by (Err SixBad) e = (Broken faults.SixBad (atr_frame general ∷ []), e.0)
     sent_by (Err Protocol) e = absurd e
     sent_by (Err Memory) e = (Asking e.0 (atr_frame general ∷ []), e.1)
 
@@ -218,7 +218,7 @@ module _ (old : Air Device) (place : ℕ) (d : Device) (s : Stands (moment old) 
     dim_by : (r : Result (InitState × ArrayVec ℕ) EndCause) → r ≡ Err FieldLost → AtrEnds ghosts device_end restarts old new general (device_end d) far after r → new.lit ≡ false
     dim_by (Ok p) e x = absurd cc
     dim_by (Err FieldLost) e (inl (dark, same, far_same)) = absurd (let clash : true ≡ false = sym lit_before ∙ dark in cc)
-    dim_by (Err FieldLost) e (inr (last, dim)) = dim
+    dim_by (Err FieldLost) e (inr (last, broken, dim)) = dim
     dim_by (Err SixBad) e x = absurd cc
     dim_by (Err Protocol) e x = absurd cc
     dim_by (Err Memory) e x = absurd cc
@@ -238,6 +238,20 @@ module _ (old : Air Device) (place : ℕ) (d : Device) (s : Stands (moment old) 
       | inr none ↦ lit_without (omega (arith, none))
     ]
 
+    -- six bad receptions are noise
+    noise_by : (r : Result (InitState × ArrayVec ℕ) EndCause) (e : AtrEnds ghosts device_end restarts old new general (device_end d) far after r) → r ≡ Err SixBad → 0 < noise (sent_by r e).1.events
+    unfolding sent_by
+    noise_by (Ok p) e is = absurd cc
+    noise_by (Err FieldLost) e is = absurd cc
+    noise_by (Err SixBad) e is = e.1
+    noise_by (Err Protocol) e is = absurd cc
+    noise_by (Err Memory) e is = absurd cc
+
+    some_noise : result ≡ Err SixBad → 0 < noise es
+    some_noise is =
+        let same : sent.events ≡ es = append_cancel_left old.trace sent.events es (sym sent.trace ∙ speaks.trace) in
+        subst (λ xs. 0 < noise xs) same (noise_by result ends is)
+
     begun_by : (r : Result (InitState × ArrayVec ℕ) EndCause) (e : AtrEnds ghosts device_end restarts old new general (device_end d) far after r) → IfOk r (λ p. 0 < (sent_by r e).1.times)
     unfolding sent_by
     begun_by (Ok p) e = e.1
@@ -256,6 +270,7 @@ module _ (old : Air Device) (place : ℕ) (d : Device) (s : Stands (moment old) 
       speaks = speaks;
       answers = answers;
       lost = (some_break, by_break);
+      noisy = some_noise;
       times = sent.times;
       restarted = sent.restarted;
       begun = begun_by result ends;

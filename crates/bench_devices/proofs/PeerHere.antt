@@ -18,8 +18,8 @@ use Rattle.bench_devices.specs.declared.polling.SeenKind.TheVariants as seen
 use Rattle.bench_devices.specs.Beside.{PeerAt, InStepAt}
 use Rattle.bench_devices.specs.Device.{devices, device_end, device_linked, device_selected, seen_of}
 use Rattle.bench_devices.specs.Keeping.{ghosts}
-use Rattle.bench_devices.specs.LinkLaws.{ReadyInStep, InStepTakesRls}
-use Rattle.bench_devices.specs.Peers.{PeerNear, asked_if}
+use Rattle.bench_devices.specs.LinkLaws.{ReadyInStep, NoneAtRls, InStepTakesRls}
+use Rattle.bench_devices.specs.Peers.{PeerNear, asked_if, takes_frame}
 use Rattle.bench_devices.proofs.BesideLink.{at_aside, only_one}
 use Rattle.bench_devices.proofs.PeerInStep.{linked_peer}
 
@@ -84,3 +84,29 @@ pub takes_rls : InStepTakesRls
 takes_rls a place i s =
     let t = s.step.1 in
     record { place = t.place; listener = t.listener; alone = t.alone; asks = rls_asks t.listener s.linked t.selected }
+
+-- At RLS_REQ no device hands anything over.
+rls_none : (t : TargetState) → target_use (target_table t rls_frame).does ≡ Untouched
+rls_none t =
+    ap (λ (x : TargetTurn). target_use x.does) (target_heeds t RlsReq tt) ∙ by_mute t.mute
+  where
+    by_mute : (v : Bool) → target_use (framed (if v then stays t else record { state = t; does = Frees RlsRes })).does ≡ Untouched
+    by_mute true = refl
+    by_mute false = refl
+
+asked_none : (v : Bool) (u : PeerNear) → asked_if v u rls_frame ≡ Untouched
+asked_none true u = rls_none u.target
+asked_none false u = refl
+
+pub none_at_rls : NoneAtRls
+none_at_rls (T2 d) = refl
+none_at_rls (T4 d) = refl
+none_at_rls (Peer d) = by_front d.front d.upper
+  where
+    by_front : (front : Front) (u : PeerNear) → devices.handed (Peer (record { id = d.id; front = front; upper = u })) rls_frame ≡ Untouched
+    by_front Off u = refl
+    by_front Idle u = refl
+    by_front Sleep u = refl
+    by_front (Ready k starred) u = refl
+    by_front (Active starred) u = asked_none (takes_frame u rls_frame) u
+none_at_rls (T5 p) = refl

@@ -2,6 +2,7 @@
 -- that all of it happens so in the world with far ends (NFCIP-1, ISO/IEC 18092; who hears what is this project's own).
 use Rattle.std.specs.Prelude.{◌≡◌, ℕ, List, [], ◌++◌, Bool, false, Option, Some, Result, Ok, Err}
 use Rattle.nfc_base.specs.Signal.{Signal, whole_a}
+use Rattle.nfc_base.specs.Far.{Untouched}
 use Rattle.nfc_base.specs.Links.{FarStep}
 use Rattle.nfc_base.specs.declared.event.Heard.{Heard}
 use Rattle.nfc_base.specs.declared.carrier.EndCause.{EndCause}
@@ -9,11 +10,11 @@ use Rattle.nfc_base.specs.declared.carrier.EndCause.TheVariants.{Memory}
 use Rattle.nfc_base.specs.declared.carrier.LinkEnd.{LinkEnd}
 use Rattle.air_core.specs.World.{World}
 use Rattle.air_core.specs.Turn.{Air, moment, TurnIs}
-use Rattle.air_core.specs.Conversation.{Moment, Note, Next, Over, IsDemand, Going}
+use Rattle.air_core.specs.Conversation.{Moment, Note, Next, Over, Asks, IsDemand, Going}
 use Rattle.arrayvec.specs.ArrayVec.{ArrayVec}
 use Rattle.dep_link.specs.Initiator.{InitState}
 use Rattle.dep_link.specs.DepLinks.{DepSeen, DepMoves, IsDepReady}
-use Rattle.dep_link.specs.Releasing.{Releases, TakesRls}
+use Rattle.dep_link.specs.Releasing.{Releases, TakesRls, rls_frame}
 use Rattle.far_air.specs.FarEnds.{FarTable}
 use Rattle.far_air.specs.FarLaws.{IsFarTable, IsOfTable}
 use Rattle.far_air.specs.FarTurns.{FarGoing}
@@ -55,6 +56,10 @@ SwapsLeave =
 abbrev pub ReadyInStep : Type 0
 ReadyInStep = (own : List ℕ) (place : ℕ) (a : DepSeen Device) → IsDepReady ghosts device_end a → PeerAt own place a.air.listeners → InStepAt a.air place a.initiator
 
+-- No device hands anything over at RLS_REQ.
+abbrev pub NoneAtRls : Type 0
+NoneAtRls = (l : Device) → devices.handed l rls_frame ≡ Untouched
+
 -- Such a peer takes RLS_REQ.
 abbrev pub InStepTakesRls : Type 0
 InStepTakesRls = (a : Air Device) (place : ℕ) (i : InitState) → InStepAt a place i → TakesRls ghosts device_end a
@@ -86,3 +91,10 @@ abbrev pub SelectsFar : {F : Type 0} → FarTable F → Type 0
 SelectsFar {F} t = IsFarTable t
     → (id : DeviceId) (general : List ℕ) (old new : Moment (World Device)) (notes : List Note) → Going air (λ ns. asks (selecting id ns)) old new notes
     → (place : ℕ) (os : List (Option F)) (far : F) → FarGoing devices device_linked t (linking id general) old new notes place os far far
+
+-- What is said so in that world, in frames of whole bytes, leaves what one turn does.
+abbrev pub FarLeaves : {F : Type 0} → FarTable F → Type 0
+FarLeaves {F} t =
+    (own : List ℕ) (place at : ℕ) (next : List Note → Next) (old new : Moment (World Device)) (notes : List Note) (os : List (Option F)) (far after : F)
+    → ((ns : List Note) (f : Signal) → next ns ≡ Asks f → f ≡ whole_a f.bytes) → PeerAt own place old.world.listeners
+    → FarGoing devices device_linked t next old new notes at os far after → TalkLeaves own place old.world.listeners new.world.listeners

@@ -21,6 +21,9 @@ returns-clause-ready g c = here.ready_in_step
 pub returns-clause-takes : goal.returns-clause-takes
 returns-clause-takes g c = here.takes_rls
 
+pub returns-clause-none : goal.returns-clause-none
+returns-clause-none g c = here.none_at_rls
+
 pub returns-clause-moves : goal.returns-clause-moves
 returns-clause-moves g c = swaps.swaps_leave
 
