@@ -77,23 +77,20 @@ module _ {F : Type 0} (t : FarTable F) (own : List ℕ) where
   abbrev happened : W → Event → W
   happened w e = far_happens devices device_linked t w e
 
-  then_leaves : (place : ℕ) (w v x : W) → Leaves place w v → Leaves place v x → Leaves place w x
-  then_leaves place w v x p q = leaves_both own place w.field.listeners v.field.listeners x.field.listeners p q
-
   events_leave : (place : ℕ) (es : List Event) (w : W) → EachAsked IsWhole es → PeerAt own place w.field.listeners → Leaves place w (replay (far_air devices device_linked t) w es)
   events_leave place [] w h a = leaves_all own place w.field.listeners a
   events_leave place (Reset ∷ es) w h a =
       let x : Leaves place w (happened w Reset) = lit_leaves own place w.field.listeners a in
-      then_leaves place w (happened w Reset) _ x (events_leave place es (happened w Reset) h x.at)
+      leaves_both own place w.field.listeners (happened w Reset).field.listeners _ x (events_leave place es (happened w Reset) h x.at)
   events_leave place (Request f y ∷ es) w h a =
       let x : Leaves place w (happened w (Request f y)) = requested_leaves place w f y h.0 a in
-      then_leaves place w (happened w (Request f y)) _ x (events_leave place es (happened w (Request f y)) h.1 x.at)
+      leaves_both own place w.field.listeners (happened w (Request f y)).field.listeners _ x (events_leave place es (happened w (Request f y)) h.1 x.at)
   events_leave place (Answer g y ∷ es) w h a =
       let x : Leaves place w (happened w (Answer g y)) = back_leaves place w y a in
-      then_leaves place w (happened w (Answer g y)) _ x (events_leave place es (happened w (Answer g y)) h x.at)
+      leaves_both own place w.field.listeners (happened w (Answer g y)).field.listeners _ x (events_leave place es (happened w (Answer g y)) h x.at)
   events_leave place (Clash g y ∷ es) w h a =
       let x : Leaves place w (happened w (Clash g y)) = back_leaves place w y a in
-      then_leaves place w (happened w (Clash g y)) _ x (events_leave place es (happened w (Clash g y)) h x.at)
+      leaves_both own place w.field.listeners (happened w (Clash g y)).field.listeners _ x (events_leave place es (happened w (Clash g y)) h x.at)
 
 -- numbers begin by themselves
 begins_so : (ns : List ℕ) → BeginBy ns ns

@@ -1,6 +1,8 @@
 -- Where a peer stands at a place and all others are aside, a peer that is in step with an initiator is this one.
-use Rattle.std.proofs.Common.{◌≡◌, ◌||◌, ℕ, zero, suc, List, [], ◌∷◌, ◌++◌, length, true, sym, ◌∙◌, ap, subst}
+use Rattle.std.proofs.Common.{◌≡◌, ◌||◌, ℕ, zero, suc, List, [], ◌∷◌, ◌++◌, length, Bool, true, false, if◌then◌else◌, refl, sym, ◌∙◌, ap, subst}
 use Rattle.nfc_base.specs.Signal.{Signal}
+use Rattle.nfc_base.specs.Far.{Untouched}
+use Rattle.dep_pdu.specs.declared.frame.DepFrame.TheVariants.{RlsReq, RlsRes}
 use Rattle.air_core.specs.Turn.{Air}
 use Rattle.nfca_poll.specs.Front.{Front, Off, Idle, Sleep, Ready, Active, is_active}
 use Rattle.dep_link.specs.Asking.{HasPeer}
@@ -10,7 +12,8 @@ use Rattle.dep_link.specs.Initiator.{InitState}
 use Rattle.dep_link.specs.Payloads.{Cut}
 use Rattle.dep_link.specs.Peers.{target_use}
 use Rattle.dep_link.specs.Releasing.{rls_frame}
-use Rattle.dep_link.specs.Target.{target_table}
+use Rattle.dep_link.specs.Target.{TargetState, TargetTurn, Frees, stays, framed, target_table}
+use Rattle.dep_link.proofs.Wire.{target_heeds}
 use Rattle.peer_air.specs.Aside.{AsideBut}
 use Rattle.bench_devices.specs.declared.device.Device.{Device}
 use Rattle.bench_devices.specs.declared.device.Device.TheVariants.{T2, T4, Peer, T5}
