@@ -72,3 +72,4 @@ pub mod SwapLeaves
 pub mod LinkingNotes
 pub mod LinkFar
 pub mod FarLeaves
+pub mod LinkedPeer

@@ -7,7 +7,7 @@ use Rattle.air_core.specs.Turn.{Air}
 use Rattle.nfca_poll.specs.Front.{Front, Off, Idle, Sleep, Ready, Active, is_active}
 use Rattle.dep_link.specs.Asking.{HasPeer}
 use Rattle.dep_link.specs.Frames.{is_atr_req}
-use Rattle.dep_link.specs.Exchange.{IsCut}
+use Rattle.dep_link.specs.Exchange.{InStep, IsCut}
 use Rattle.dep_link.specs.Initiator.{InitState}
 use Rattle.dep_link.specs.Payloads.{Cut}
 use Rattle.dep_link.specs.Peers.{target_use}
@@ -32,6 +32,12 @@ peer_there own [] x behind (suc n) a e = absurd cc
 peer_there own (b ∷ before) x behind zero a e = absurd cc
 peer_there own (b ∷ before) x behind (suc n) a e = (let less : length before ≡ n = cc in peer_there own before x behind n a.1 less)
 
+-- ends in step begin anew
+pub cut_so : (i : InitState) (t : TargetState) → InStep i t → IsCut i.core.number t [] []
+cut_so i t s =
+    let Now : ℕ → List ℕ → Cut = λ n c. record { next = n; chain = c; payloads = [] } in
+    ap (λ n. Now n []) (sym s.expects) ∙ ap (Now t.expected) (sym s.no_chain)
+
 module _ (own : List ℕ) (place : ℕ) (new : Air Device) (at : PeerAt own place new.listeners) (i : InitState) (first : ℕ) (handed : List (List ℕ)) (arrived : List Signal)
     (t : HasPeer ghosts device_end new i first handed arrived) where
   pub same_place : t.place ≡ place
@@ -41,11 +47,6 @@ module _ (own : List ℕ) (place : ℕ) (new : Air Device) (at : PeerAt own plac
 
   pub here_kind : seen_of t.listener ≡ seen.Peer
   here_kind = peer_there own t.alone.before t.listener t.alone.behind place (subst (PeerAt own place) t.alone.split at) (t.alone.stands ∙ same_place)
-
-  pub cut_anew : IsCut i.core.number (device_end t.listener) [] []
-  cut_anew =
-      let Now : ℕ → List ℕ → Cut = λ n c. record { next = n; chain = c; payloads = [] } in
-      ap (λ n. Now n []) (sym t.step.expects) ∙ ap (Now (device_end t.listener).expected) (sym t.step.no_chain)
 
   abbrev pub in_step : new.lit ≡ true → InStepAt new place i
   in_step lit = record {
@@ -58,7 +59,7 @@ module _ (own : List ℕ) (place : ℕ) (new : Air Device) (at : PeerAt own plac
         alone = t.alone;
         is = t.is;
         step = t.step;
-        cut = cut_anew;
+        cut = cut_so i (device_end t.listener) t.step;
       },
     );
     at = same_place;

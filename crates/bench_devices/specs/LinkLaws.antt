@@ -1,6 +1,6 @@
 -- What links to the bench's peers keep to: which request is due while one is opened, what talking to a peer leaves of all devices, and
 -- that all of it happens so in the world with far ends (NFCIP-1, ISO/IEC 18092; who hears what is this project's own).
-use Rattle.std.specs.Prelude.{◌≡◌, ℕ, List, [], ◌++◌, Bool, false, Option, Some, Result, Ok, Err}
+use Rattle.std.specs.Prelude.{◌≡◌, ℕ, List, [], ◌∷◌, ◌++◌, Bool, false, Option, Some, Result, Ok, Err, true, length}
 use Rattle.nfc_base.specs.Signal.{Signal, whole_a}
 use Rattle.nfc_base.specs.Far.{Untouched}
 use Rattle.nfc_base.specs.Links.{FarStep}
@@ -12,6 +12,7 @@ use Rattle.air_core.specs.World.{World}
 use Rattle.air_core.specs.Turn.{Air, moment, TurnIs}
 use Rattle.air_core.specs.Conversation.{Moment, Note, Next, Over, Asks, IsDemand, Going}
 use Rattle.arrayvec.specs.ArrayVec.{ArrayVec}
+use Rattle.dep_link.specs.Exchange.{InStep}
 use Rattle.dep_link.specs.Initiator.{InitState}
 use Rattle.dep_link.specs.DepLinks.{DepSeen, DepMoves, IsDepReady}
 use Rattle.dep_link.specs.Releasing.{Releases, TakesRls, rls_frame}
@@ -25,7 +26,7 @@ use Rattle.bench_devices.specs.declared.device.Device.{Device}
 use Rattle.bench_devices.specs.declared.polling.SeenKind.{SeenKind}
 use Rattle.bench_devices.specs.declared.polling.SeenKind.TheVariants as seen
 use Rattle.bench_devices.specs.Beside.{PeerAt, TalkLeaves, InStepAt}
-use Rattle.bench_devices.specs.Device.{air, devices, device_id, device_end, device_linked, is_tag}
+use Rattle.bench_devices.specs.Device.{air, devices, device_id, device_end, device_linked, device_selected, is_tag}
 use Rattle.bench_devices.specs.Keeping.{ghosts}
 use Rattle.bench_devices.specs.Opening.{peer_next, linking, Opens}
 use Rattle.bench_devices.specs.Phases.{Stands}
@@ -55,6 +56,14 @@ SwapsLeave =
 -- A link that is ready for a swap is in step with the peer at its place.
 abbrev pub ReadyInStep : Type 0
 ReadyInStep = (own : List ℕ) (place : ℕ) (a : DepSeen Device) → IsDepReady ghosts device_end a → PeerAt own place a.air.listeners → InStepAt a.air place a.initiator
+
+-- A selected peer with a link does what its target's table says. So where one stands in the lit field, all others being aside, and its end
+-- is in step with an initiator, the field is in step there.
+abbrev pub LinkedInStep : Type 0
+LinkedInStep =
+    (a : Air Device) (place : ℕ) (own : List ℕ) (before : List Device) (l : Device) (behind : List Device) (i : InitState) → a.lit ≡ true → a.listeners ≡ before ++ l ∷ behind
+    → length before ≡ place → PeerAt own place a.listeners → own ≡ device_id l → device_selected l ≡ true → device_linked l ≡ true → InStep i (device_end l)
+    → InStepAt a place i
 
 -- No device hands anything over at RLS_REQ.
 abbrev pub NoneAtRls : Type 0

@@ -3,7 +3,7 @@
 ghost use Rattle.bench_devices.specs.Keeping.{DevicesStay, ImagesStay, AsideKeeps, OthersKeep};
 ghost use Rattle.bench_devices.specs.Calm.{DevicesLink, CalmFinding, CalmSelecting, CalmReading, CalmWriting, CalmUnasked};
 ghost use Rattle.far_air.specs.FarEnds.{FarTable};
-ghost use Rattle.bench_devices.specs.LinkLaws.{LinkAsks, PeerStands, OthersAside, SwapsLeave, ReadyInStep, InStepTakesRls, NoneAtRls, TurnLeaves, ReleaseLeaves, OpensFar, SelectsFar, FarLeaves};
+ghost use Rattle.bench_devices.specs.LinkLaws.{LinkAsks, PeerStands, OthersAside, SwapsLeave, ReadyInStep, LinkedInStep, InStepTakesRls, NoneAtRls, TurnLeaves, ReleaseLeaves, OpensFar, SelectsFar, FarLeaves};
 
 use nfc_base::Answerer;
 
@@ -35,6 +35,7 @@ pub fn links_open<A: Answerer>()
     ensures stands { PeerStands }
     ensures others { OthersAside }
     ensures ready { ReadyInStep }
+    ensures linked { LinkedInStep }
     ensures takes { InStepTakesRls }
     ensures none { NoneAtRls }
     ensures moves { SwapsLeave }
