@@ -4,6 +4,7 @@ pub mod Placed
 pub mod Removing
 pub mod Locking
 pub mod Peering
+pub mod Ranges
 pub mod Reached
 pub mod Telling
 pub mod Legality
