@@ -1,5 +1,5 @@
 -- What talking to a peer leaves in the world with far ends.
-use Rattle.std.proofs.Common.{◌≡◌, ℕ, zero, suc, List, [], ◌∷◌, Option, Some, None, refl, sym, ap, subst}
+use Rattle.std.proofs.Common.{◌≡◌, ℕ, zero, suc, List, [], ◌∷◌, Option, None, refl, sym, ap, subst}
 use Rattle.std.specs.List.{AllByRecursion}
 use Rattle.nfc_base.specs.Signal.{Signal, whole_a}
 use Rattle.nfc_base.specs.declared.frame.Tech.TheVariants.{A}
@@ -7,7 +7,7 @@ use Rattle.nfc_base.specs.declared.event.Event.{Event}
 use Rattle.nfc_base.specs.declared.event.Event.TheVariants.{Reset, Request, Answer, Clash}
 use Rattle.nfc_base.specs.declared.event.Fate.{Fate}
 use Rattle.nfc_base.specs.declared.event.Fate.TheVariants.{Pass, Damage, Lose, Break}
-use Rattle.air_core.specs.World.{World, stepped_by}
+use Rattle.air_core.specs.World.{stepped_by}
 use Rattle.air_core.specs.Conversation.{Moment, replay}
 use Rattle.air_core.specs.PlainTags.{IsAside}
 use Rattle.air_core.proofs.PlainAside.{aside_silent}

@@ -1,5 +1,5 @@
 -- A selected peer with a link does what its target's table says, whatever its end is in.
-use Rattle.std.proofs.Common.{◌≡◌, ℕ, zero, suc, List, [], ◌∷◌, ◌++◌, length, true, false, refl, ap, subst}
+use Rattle.std.proofs.Common.{◌≡◌, ℕ, zero, suc, List, [], ◌∷◌, ◌++◌, length, true, refl, ap, subst}
 use Rattle.std.specs.List.{AllByRecursion}
 use Rattle.air_core.specs.PlainTags.{IsAside}
 use Rattle.nfca_poll.specs.Front.{Front, Off, Idle, Sleep, Ready, Active, is_active}
@@ -48,22 +48,25 @@ pub linked_in_step : LinkedInStep
 linked_in_step a place own before l behind i lit split stands at same selected linked step =
     let others = beside own before l behind place (subst (PeerAt own place) split at) stands in
     record {
-      step = (lit, record {
-        place = place;
-        listener = l;
-        selected = selected;
-        alone = record {
-          before = before;
-          behind = behind;
-          split = split;
-          stands = stands;
-          first = subst (λ id. AllByRecursion (IsAside ghosts id) before) same others.0;
-          later = subst (λ id. AllByRecursion (IsAside ghosts id) behind) same others.1;
-        };
-        is = linked_is l selected linked;
-        step = step;
-        cut = cut_so i (device_end l) step;
-      });
+      step = (
+        lit,
+        record {
+          place = place;
+          listener = l;
+          selected = selected;
+          alone = record {
+            before = before;
+            behind = behind;
+            split = split;
+            stands = stands;
+            first = subst (λ id. AllByRecursion (IsAside ghosts id) before) same others.0;
+            later = subst (λ id. AllByRecursion (IsAside ghosts id) behind) same others.1;
+          };
+          is = linked_is l selected linked;
+          step = step;
+          cut = cut_so i (device_end l) step;
+        },
+      );
       at = refl;
       linked = linked;
     }
