@@ -112,6 +112,10 @@ def is_accepted(line):
         blocks, size = int(found[2]), int(found[3])
         is_memory = 1 <= blocks <= 16384 and size in (4, 8, 16, 32) and len(bytes_of(found[4])) <= blocks * size <= 65536
         return len(bytes_of(found[1])) == 8 and is_memory
+    if found := re.fullmatch(f"place peer {content} {number} {number} {number} {number}", line):
+        reduction, miu, window, limit = (int(found[n]) for n in range(2, 6))
+        is_link = reduction <= 3 and 128 <= miu <= 2175 and 1 <= window <= 15
+        return is_nfca(bytes_of(found[1])) and is_link and 1024 <= limit <= 65536
     return False
 
 
@@ -152,6 +156,14 @@ class Limits(unittest.TestCase):
             "place t4 02030405 8 000F20 -",
             "place t4 02030405 8 000F20003B000D0406E10302000000 -",
             "place t4 02030405 8 000F20003B000D0406E10480000000 -",
+            "place peer 88010203 3 128 1 1024",
+            "place peer 08010203 4 128 1 1024",
+            "place peer 08010203 3 127 1 1024",
+            "place peer 08010203 3 2176 1 1024",
+            "place peer 08010203 3 128 0 1024",
+            "place peer 08010203 3 128 16 1024",
+            "place peer 08010203 3 128 1 1023",
+            "place peer 08010203 3 128 1 65537",
         ):
             with self.subTest(line[:60]):
                 self.assertFalse(is_accepted(line))

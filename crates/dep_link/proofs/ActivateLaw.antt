@@ -3,6 +3,7 @@ use Rattle.std.proofs.Common.{◌≡◌, ℕ, zero, suc, ◌+◌, ◌<◌, ◌�
 use Rattle.std.specs.List.{AllByRecursion, filter_map, cons_option}
 use Rattle.nfc_base.specs.declared.frame.Tech.TheVariants.{A}
 use Rattle.nfc_base.specs.declared.event.Event.{Event}
+use Rattle.nfc_base.specs.declared.event.Event.TheVariants.{Answer, Clash, Request, Reset}
 use Rattle.nfc_base.specs.declared.event.Fate.{Fate}
 use Rattle.nfc_base.specs.declared.event.Fate.TheVariants.{Pass, Damage, Lose, Break}
 use Rattle.nfc_base.specs.declared.event.Heard.{Heard}
@@ -12,6 +13,7 @@ use Rattle.nfc_base.specs.declared.carrier.EndCause.TheVariants as cause
 use Rattle.nfc_base.specs.Signal.{Signal}
 use Rattle.nfc_base.specs.Far.{FarUse, Untouched, Restarts, Hands}
 use Rattle.nfc_base.specs.LinkTurns.{arrived}
+use Rattle.nfc_base.specs.Trace.{breaks, noise}
 use Rattle.air_core.specs.declared.fault.AirFault.TheVariants as air
 use Rattle.air_core.specs.Joint.{joint, same_tech}
 use Rattle.air_core.specs.World.{World, hears, hands_over, answered_by, stepped_by, quiet_air}
@@ -26,7 +28,7 @@ use Rattle.air_core.specs.PlainWaits.{after_bad}
 use Rattle.air_core.specs.declared.listener.Listener.{Ghosts}
 use Rattle.air_core.proofs.Quiet.{quiet_turns_to}
 use Rattle.air_core.proofs.PlainAside.{Laws, IsUnmoved, aside_silent, alone_says}
-use Rattle.air_core.proofs.PlainTurns.{one, joint_one, tag_events, tag_heard, turn_events_as, heard_as, asking_bad}
+use Rattle.air_core.proofs.PlainTurns.{one, joint_one, tag_events, tag_heard, turn_events_as, heard_as, asking_bad, noise_append}
 use Rattle.arrayvec.specs.ArrayVec.{ArrayVec}
 use Rattle.dep_link.specs.Sizes.{initiator_lr}
 use Rattle.dep_link.specs.Frames.{air_frame, spelled}
@@ -36,7 +38,7 @@ use Rattle.dep_link.specs.Exchange.{InStep, IsCut}
 use Rattle.dep_link.specs.Answering.{reply_for, payload_of, answering, answering_air}
 use Rattle.dep_link.specs.Peers.{target_use, answered_with, left_with, heard_with}
 use Rattle.dep_link.specs.Asking.{HasPeer}
-use Rattle.dep_link.specs.Activating.{atr_req, atr_frame, told_atr, RestartedTimes, sent_times, HasTarget, AtrSent, IsActivated, AtrFails}
+use Rattle.dep_link.specs.Activating.{atr_req, atr_frame, told_atr, RestartedTimes, sent_times, HasTarget, AtrSent, AtrLost, IsActivated, AtrFails}
 use Rattle.dep_link.proofs.Wire.{written_read, target_heeds}
 use Rattle.dep_link.proofs.Begun.{in_step_first}
 use Rattle.nfc_base.proofs.LinkTurns.{arrived_append}
@@ -59,6 +61,20 @@ arrived_one f Pass Break (Some g) = refl
 arrived_one f Damage y o = refl
 arrived_one f Lose y o = refl
 arrived_one f Break y o = refl
+
+breaks_append : (a b : List Event) → breaks (a ++ b) ≡ breaks a + breaks b
+breaks_append [] b = omega arith
+breaks_append (Reset ∷ a) b = breaks_append a b
+breaks_append (Request f x ∷ a) b = let e : breaks (a ++ b) ≡ breaks a + breaks b = breaks_append a b in omega (arith, e)
+breaks_append (Answer g x ∷ a) b = let e : breaks (a ++ b) ≡ breaks a + breaks b = breaks_append a b in omega (arith, e)
+breaks_append (Clash g x ∷ a) b = let e : breaks (a ++ b) ≡ breaks a + breaks b = breaks_append a b in omega (arith, e)
+
+-- of events that end so, with a transmission that didn't pass, or that lost the field
+ends_noisy : (es before now : List Event) → es ≡ before ++ now → 0 < noise now → 0 < noise es
+ends_noisy es before now e some = let n : noise es ≡ noise before + noise now = ap noise e ∙ noise_append before now in omega (arith, n, some)
+
+ends_broken : (es before now : List Event) → es ≡ before ++ now → 0 < breaks now → 0 < breaks es
+ends_broken es before now e some = let n : breaks es ≡ breaks before + breaks now = ap breaks e ∙ breaks_append before now in omega (arith, n, some)
 
 module _ {F : Type 0} (restarts : F → List ℕ → F → Type 0) (steps : F → List ℕ → List ℕ → F → Type 0) (general : List ℕ) where
   none_more : (far far' : F) → far' ≡ far → (far0 : F) (n : ℕ) → RestartedTimes restarts general n far0 far → RestartedTimes restarts general (n + 0) far0 far'
@@ -87,6 +103,7 @@ module _ {L F : Type 0} (k : Ghosts L) (target : L → TargetState) (restarts : 
     pub lit : mid.lit ≡ old.lit
     pub dim : mid.lit ≡ false → (mid ≡ old) × (far ≡ far0)
     pub sent : AtrSent k target restarts old mid general far0 far (after_bad (atr_frame general) bad)
+    pub noisy : 0 < bad → 0 < noise sent.events
 
 module _ {L F : Type 0} (k : Ghosts L) (laws : Laws k) (target : L → TargetState) (restarts : F → List ℕ → F → Type 0) (steps : F → List ℕ → List ℕ → F → Type 0) (old : Air L) (general : List ℕ)
     (short : length general ≤ 48) (t : HasTarget k target old general) (far0 : F) where
@@ -163,11 +180,12 @@ module _ {L F : Type 0} (k : Ghosts L) (laws : Laws k) (target : L → TargetSta
       arrived = refl;
       restarted = refl;
     };
+    noisy = λ e. e;
   }
 
   -- what a turn comes to, by what was heard
   abbrev pub After : Air L → F → ℕ → Option Heard → Type 0
-  After new far bad None = Sent new far (Broken faults.FieldLost (f ∷ [])) × (new.lit ≡ false)
+  After new far bad None = AtrLost k target restarts old new general far0 far
   After new far bad (Some (Whole g)) =
       (n : ℕ) × (g ≡ answer) × (sent : Sent new far (Asking 0 [])) × (0 < sent.times) × (new.lit ≡ true) × IsAlone k (k.identifier l) new.listeners t.place (sent_times k target l f (suc n))
   After new far bad (Some (Collided g)) = On new far (suc bad)
@@ -194,24 +212,35 @@ module _ {L F : Type 0} (k : Ghosts L) (laws : Laws k) (target : L → TargetSta
     asking = o.sent.stands ∙ asking_bad f bad bound
 
     module _ (new : Air L) (far' : F) where
-      -- what is known of the wait then, with the arrivals of this turn
-      abbrev SentOn : Fate → Option Heard → Type 0
-      SentOn x h = (s : Standing) → stand bad (f ∷ []) (note h ∷ []) ≡ s → (sent : Sent new far' s) × (sent.times ≡ o.sent.times + arrivals x)
+      -- what is known of the wait then, with the arrivals and the events of this turn
+      abbrev SentOn : Fate → List Event → Option Heard → Type 0
+      SentOn x es h = (s : Standing) → stand bad (f ∷ []) (note h ∷ []) ≡ s → (sent : Sent new far' s) × (sent.times ≡ o.sent.times + arrivals x) × (sent.events ≡ o.sent.events ++ es)
 
-      on_bad : (x : Fate) (h : Option Heard) → SentOn x h → stand bad (f ∷ []) (note h ∷ []) ≡ after_bad f (suc bad) → mid.lit ≡ true → (n : ℕ) → IsAlone k (k.identifier l) new.listeners t.place (sent_times k target l f n)
-          → new.lit ≡ true → On new far' (suc bad)
-      on_bad x h s e m n alone lit = record { heard = n; alone = alone; lit = lit ∙ sym m ∙ o.lit; dim = λ d. absurd (cc); sent = (s (after_bad f (suc bad)) e).0 }
+      on_bad : (x : Fate) (es : List Event) (h : Option Heard) → SentOn x es h → stand bad (f ∷ []) (note h ∷ []) ≡ after_bad f (suc bad) → 0 < noise es → mid.lit ≡ true → (n : ℕ)
+          → IsAlone k (k.identifier l) new.listeners t.place (sent_times k target l f n) → new.lit ≡ true → On new far' (suc bad)
+      on_bad x es h s e some m n alone lit =
+          let z = s (after_bad f (suc bad)) e in record {
+            heard = n;
+            alone = alone;
+            lit = lit ∙ sym m ∙ o.lit;
+            dim = λ d. absurd (cc);
+            sent = z.0;
+            noisy = λ _. ends_noisy z.0.events o.sent.events es z.2 some;
+          }
 
-      finish : (x y : Fate) → SentOn x (tag_heard x y (Some answer)) → mid.lit ≡ true
+      on_break : (x : Fate) (es : List Event) → SentOn x es None → 0 < breaks es → new.lit ≡ false → AtrLost k target restarts old new general far0 far'
+      on_break x es s some lit = let z = s (Broken faults.FieldLost (f ∷ [])) refl in (z.0, ends_broken z.0.events o.sent.events es z.2 some, lit)
+
+      finish : (x y : Fate) → SentOn x (tag_events f x y (Some answer)) (tag_heard x y (Some answer)) → mid.lit ≡ true
           → new.lit ≡ (replay (quiet_air (told k laws []).machine) (world mid) (tag_events f x y (Some answer))).lit
           → IsAlone k (k.identifier l) new.listeners t.place (left_by k laws [] now f x y (Some answer)) → After new far' bad (tag_heard x y (Some answer))
       finish Pass Pass s m lit alone = let z = s (Asking 0 []) refl in (o.heard, refl, z.0, (let e = z.1 in omega (arith, e)), lit ∙ m, alone)
-      finish Pass Damage s m lit alone = on_bad Pass (Some Damaged) s refl m (suc o.heard) alone (lit ∙ m)
-      finish Pass Lose s m lit alone = on_bad Pass (Some Silent) s refl m (suc o.heard) alone (lit ∙ m)
-      finish Pass Break s m lit alone = ((s (Broken faults.FieldLost (f ∷ [])) refl).0, lit)
-      finish Damage y s m lit alone = on_bad Damage (Some Silent) s refl m o.heard alone (lit ∙ m)
-      finish Lose y s m lit alone = on_bad Lose (Some Silent) s refl m o.heard alone (lit ∙ m)
-      finish Break y s m lit alone = ((s (Broken faults.FieldLost (f ∷ [])) refl).0, lit)
+      finish Pass Damage s m lit alone = on_bad Pass (tag_events f Pass Damage (Some answer)) (Some Damaged) s refl (omega arith) m (suc o.heard) alone (lit ∙ m)
+      finish Pass Lose s m lit alone = on_bad Pass (tag_events f Pass Lose (Some answer)) (Some Silent) s refl (omega arith) m (suc o.heard) alone (lit ∙ m)
+      finish Pass Break s m lit alone = on_break Pass (tag_events f Pass Break (Some answer)) s (omega arith) lit
+      finish Damage y s m lit alone = on_bad Damage (tag_events f Damage y (Some answer)) (Some Silent) s refl (omega arith) m o.heard alone (lit ∙ m)
+      finish Lose y s m lit alone = on_bad Lose (tag_events f Lose y (Some answer)) (Some Silent) s refl (omega arith) m o.heard alone (lit ∙ m)
+      finish Break y s m lit alone = on_break Break (tag_events f Break y (Some answer)) s (omega arith) lit
 
       pub atr_turn : (h : Option Heard) → TurnIs k.machine restarts steps mid f far h new far' → After new far' bad h
       atr_turn h turn =
@@ -230,7 +259,7 @@ module _ {L F : Type 0} (k : Ghosts L) (laws : Laws k) (target : L → TargetSta
           let events : turn_events (quiet_air m.machine) (world mid) f x y ≡ tag_events f x y (Some answer) = turn_events_as m (world mid) f x y (Some answer) joins in
           let after : world new ≡ replay (quiet_air m.machine) (world mid) (tag_events f x y (Some answer)) = (q []).after ∙ ap (replay (quiet_air m.machine) (world mid)) events in
           let heard : h ≡ tag_heard x y (Some answer) = heard_as m (world mid) f x y (Some answer) h joins (q []).told in
-          let sent : SentOn x h = λ s e. (
+          let sent : SentOn x (tag_events f x y (Some answer)) h = λ s e. (
             record {
               notes = o.sent.notes ++ note h ∷ [];
               going = λ r.
@@ -250,10 +279,11 @@ module _ {L F : Type 0} (k : Ghosts L) (laws : Laws k) (target : L → TargetSta
               restarted = once_more restarts steps general x a.reply (hands_over k.machine now f) far far' uses a.moved far0 o.sent.times o.sent.restarted;
             },
             refl,
+            refl,
           ) in
           let P : World L → Type 0 = λ w. IsAlone m (k.identifier l) w.listeners t.place (left_by k laws [] now f x y (Some answer)) in
           subst (λ (z : Option Heard). After new far' bad z) (sym heard)
-          (finish x y (subst (λ (z : Option Heard). SentOn x z) heard sent) turn.lit (ap (λ (w : World L). w.lit) after)
+          (finish x y (subst (λ (z : Option Heard). SentOn x (tag_events f x y (Some answer)) z) heard sent) turn.lit (ap (λ (w : World L). w.lit) after)
           (alone_back k laws [] (k.identifier l) new.listeners t.place (left_by k laws [] now f x y (Some answer))
           (subst P (sym after) (alone_after k laws [] (k.identifier l) f (aside_in m ml) (world mid) t.place now lone moves x y (Some answer)))))
 
@@ -284,7 +314,9 @@ module _ {L F : Type 0} (k : Ghosts L) (laws : Laws k) (target : L → TargetSta
   atr_more new far bad Silent never a = a
 
   pub atr_six : (new : Air L) (far : F) (bad : ℕ) → bad ≡ 6 → On new far bad → AtrFails k target restarts old new general far0 far cause.SixBad
-  atr_six new far bad e o = subst (λ (n : ℕ). Sent new far (after_bad f n)) e o.sent
+  atr_six new far bad e o =
+      let P : ℕ → Type 0 = λ n. (sent : Sent new far (after_bad f n)) × (0 < noise sent.events) in
+      subst P e (o.sent, o.noisy (omega (arith, e)))
 
   -- the answer is read as the target's ATR_RES
   reads : (g : Signal) → g ≡ answer → spelled g ≡ Some (atr_res own)

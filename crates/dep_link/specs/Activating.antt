@@ -4,6 +4,7 @@ use Rattle.std.specs.Prelude.{◌≡◌, ◌⊎◌, ℕ, zero, suc, ◌<◌, Lis
 use Rattle.nfc_base.specs.Signal.{Signal}
 use Rattle.nfc_base.specs.declared.frame.Tech.TheVariants.{A}
 use Rattle.nfc_base.specs.LinkTurns as turns
+use Rattle.nfc_base.specs.Trace.{breaks, noise}
 use Rattle.nfc_base.specs.declared.event.Event.{Event}
 use Rattle.nfc_base.specs.declared.carrier.EndCause.{EndCause}
 use Rattle.nfc_base.specs.declared.carrier.EndCause.TheVariants.{FieldLost, SixBad, Protocol, Memory}
@@ -90,11 +91,18 @@ module _ {L : Type 0} (k : Ghosts L) (target : L → TargetState) where
     pub told_own : told ≡ own.general
     pub peer : HasPeer k target new i 0 [] []
 
-  -- how the wait ends; no answer comes that isn't allowed
+  -- a transmission lost the field
+  abbrev pub AtrLost : {F : Type 0} → (F → List ℕ → F → Type 0) → Air L → Air L → List ℕ → F → F → Type 0
+  AtrLost restarts old new general far after =
+      (sent : AtrSent restarts old new general far after (Broken faults.FieldLost (atr_frame general ∷ []))) × (0 < breaks sent.events) × (new.lit ≡ false)
+
+  -- How the wait ends. The target answers each ATR_REQ that arrives, so six bad receptions have a transmission that didn't pass. No
+  -- answer comes that isn't allowed.
   abbrev pub AtrFails : {F : Type 0} → (F → List ℕ → F → Type 0) → Air L → Air L → List ℕ → F → F → EndCause → Type 0
   AtrFails restarts old new general far after FieldLost =
-      ((old.lit ≡ false) × (new ≡ old) × (after ≡ far)) ⊎ (AtrSent restarts old new general far after (Broken faults.FieldLost (atr_frame general ∷ [])) × (new.lit ≡ false))
-  AtrFails restarts old new general far after SixBad = AtrSent restarts old new general far after (Broken faults.SixBad (atr_frame general ∷ []))
+      ((old.lit ≡ false) × (new ≡ old) × (after ≡ far)) ⊎ AtrLost restarts old new general far after
+  AtrFails restarts old new general far after SixBad =
+      (sent : AtrSent restarts old new general far after (Broken faults.SixBad (atr_frame general ∷ []))) × (0 < noise sent.events)
   AtrFails restarts old new general far after Memory = (bad : ℕ) × AtrSent restarts old new general far after (Asking bad (atr_frame general ∷ []))
   AtrFails restarts old new general far after Protocol = ⊥
 

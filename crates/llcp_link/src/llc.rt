@@ -100,6 +100,13 @@ impl<S> Llc<S> {
         &mut self.service
     }
 
+    /// Its service, for who only looks at it.
+    pub fn as_service(&self) -> &S
+        ensures { result.now ≡ self.now.service }
+    {
+        &self.service
+    }
+
     /// Binds the service to a SAP, under a name of at most 64 bytes.
     pub fn listen(&mut self, name: &str, sap: u8) -> Result<(), LlcFault>
         requires name { length name.now ≤ 64 }
