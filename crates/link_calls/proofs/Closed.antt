@@ -1,12 +1,14 @@
 -- What ending a connection and releasing its link comes to.
-use Rattle.std.proofs.Common.{◌≡◌, ℕ, List, [], ◌∷◌, Bool, true, false, Option, Some, None, Result, Ok, Err, refl, sym, ◌∙◌, ap, subst, inl, inr}
+use Rattle.std.proofs.Common.{◌≡◌, ◌⊎◌, ℕ, List, [], ◌∷◌, Bool, true, false, Option, Some, None, Result, Ok, Err, refl, sym, ◌∙◌, ap, subst, inl, inr}
 use Rattle.nfc_base.specs.Signal.{Signal}
 use Rattle.nfc_base.specs.declared.carrier.EndCause.{EndCause}
 use Rattle.nfc_base.specs.declared.carrier.EndCause.TheVariants as cause
 use Rattle.nfc_base.specs.declared.carrier.LinkEnd.{LinkEnd}
 use Rattle.nfc_base.specs.declared.event.Heard.{Heard}
-use Rattle.air_core.specs.Conversation.{Asks}
-use Rattle.air_core.specs.Turn.{Air, TurnIs}
+use Rattle.nfc_base.specs.declared.event.Event.TheVariants.{Request}
+use Rattle.nfc_base.specs.declared.event.Fate.TheVariants.{Pass}
+use Rattle.air_core.specs.Conversation.{Asks, first_fate, later_fates}
+use Rattle.air_core.specs.Turn.{Air, TurnIs, after_event}
 use Rattle.air_core.specs.declared.listener.Listener.{Ghosts}
 use Rattle.air_core.proofs.PlainAside.{Laws}
 use Rattle.dep_link.specs.Target.{TargetState}
@@ -37,6 +39,15 @@ due_same (Comes to i) f e = absurd cc
 due_same (BrokenBy c) f e = absurd cc
 due_same Strays f e = absurd cc
 
+-- how a call was left off, so was the closing
+left_so : {L : Type 0} (k : Ghosts L) (new : Air L) (after : PeerState) (mid : Air L) (half : PeerState) (s : CallStanding)
+    → ((new ≡ mid) × (after ≡ half))
+    ⊎ ((sent : Signal) × (listeners : List L) × (call_due_at s ≡ Asks sent) × (first_fate mid.fates ≡ Pass) × (new ≡ after_event mid (Request sent Pass) (later_fates mid.fates) (record { lit = true; listeners = listeners })))
+    → (new ≡ mid)
+    ⊎ ((sent : Signal) × (listeners : List L) × (closing_due_at (closing_at s) ≡ Asks sent) × (first_fate mid.fates ≡ Pass) × (new ≡ after_event mid (Request sent Pass) (later_fates mid.fates) (record { lit = true; listeners = listeners })))
+left_so k new after mid half s (inl e) = inl e.0
+left_so k new after mid half s (inr (sent, listeners, due, fate, left)) = inr (sent, listeners, due_same s sent due, fate, left)
+
 module _ {L C : Type 0} (k : Ghosts L) (target : L → TargetState) (see : C → DepSeen L) (laws : Laws k) (a b : C) (far half : PeerState) (old : Air L) (i : InitState) (is : see a ≡ first_seen old i)
     (open_ : IsOpen k target old i) (ready : (see b).over ≡ None → IsDepReady k target (see b)) (from : Step) where
   abbrev Fails : EndState → Air L → PeerState → SnepFault → Type 0
@@ -63,12 +74,8 @@ module _ {L C : Type 0} (k : Ghosts L) (target : L → TargetState) (see : C →
         mid = z.mid;
         half = z.half;
         turns = of_call k linked peer_ends place os z.numbers from i old far z.mid z.half target z.standing z.turns z.under_way;
-        left = left_so z.mid z.half z.standing z.left;
+        left = left_so k (see b).air half z.mid z.half z.standing z.left;
       }
-    where
-      left_so : (mid : Air L) (v : PeerState) (s : CallStanding) → _ → _
-      left_so mid v s (inl e) = inl e.0
-      left_so mid v s (inr (sent, listeners, due, fate, left)) = inr (sent, listeners, due_same s sent due, fate, left)
 
   pub closing_failed : (client : EndState) (e : SnepFault) → FailsBy (sees see) (swaps k target see) (Answers serving) (Stops serving) from a far e client b half → Fails client (see b).air half e
   closing_failed client e (inl (bad, talk)) =

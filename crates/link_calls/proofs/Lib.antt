@@ -3,3 +3,4 @@ pub mod Open
 pub mod Made
 pub mod Closes
 pub mod Closed
+pub mod Silent

@@ -22,7 +22,8 @@ use Rattle.snep_core.specs.Accord.{PeerState}
 use Rattle.snep_core.specs.Server.{serving}
 use Rattle.snep_core.specs.Calling.{Talks, Breaks, FailsBy, IsCut, fault_of}
 use Rattle.snep_core.specs.Calling as calling
-use Rattle.snep_core.specs.Jobs.{Over, Refused}
+use Rattle.snep_core.specs.declared.job.Job.TheVariants.{Over}
+use Rattle.snep_core.specs.declared.job.Ending.TheVariants.{Refused}
 use Rattle.snep_core.specs.Talk.{EndState, IsMost, Step, Goes, Ends, GivesUp, Told, Working, alone, replied}
 use Rattle.snep_core.specs.Talk.{ready as ready_of}
 use Rattle.link_calls.specs.CallDue.{CallStanding, Comes, call_at}
@@ -40,6 +41,10 @@ peer_table = are_far_ends serving (λ s. refl)
 
 abbrev pub peer_kind : IsOfTable begins (Answers serving) peer_ends (λ l. l)
 peer_kind = ends_step serving
+
+-- What is said of what a link borrows is said of what it gives back.
+pub given_back : {L : Type 0} (P : Air L → InitState → Type 0) (b y : Air L) (j z : InitState) → b ≡ y → j ≡ z → P b j → P y z
+given_back P b y j z field initiator p = subst (P y) initiator (subst (λ a. P a j) field p)
 
 module _ {L C : Type 0} (k : Ghosts L) (target : L → TargetState) (see : C → DepSeen L) where
   open_at : (did : List FarStep) (a b : C) → BySwaps (swaps k target see) did a b → (see b).over ≡ None → (see a).over ≡ None

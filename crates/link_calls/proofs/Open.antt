@@ -1,5 +1,5 @@
 -- A link that isn't over rests between two calls: it is open again.
-use Rattle.std.proofs.Common.{◌≡◌, ◌==◌, ℕ, List, [], ◌∷◌, ◌++◌, Bool, true, false, if◌then◌else◌, Option, Some, None, refl, sym, ◌∙◌, ap, subst}
+use Rattle.std.proofs.Common.{◌≡◌, ◌==◌, ℕ, ◌+◌, List, [], ◌∷◌, ◌++◌, drop, Bool, true, false, if◌then◌else◌, Option, Some, None, refl, sym, ◌∙◌, ap, subst}
 use Rattle.std.specs.Prelude.{nat_lt}
 use Rattle.nfc_base.specs.Signal.{Signal}
 use Rattle.nfc_base.specs.Links.{FarStep, Stepped, Stopped}
@@ -37,20 +37,26 @@ refuses_frees : (i : InitState) → Frees (refuses i)
 refuses_frees i = λ xs e. absurd cc
 
 bad_frees : (i : InitState) (p : Phase) → Frees (bad i p)
-bad_frees i p = if_frees (nat_lt i.bads most_bads) _ _ (sends_frees i i.core p _) (λ xs e. absurd cc)
+bad_frees i p =
+    if_frees (nat_lt i.bads most_bads) (sends i i.core p (i.bads + 1)) (record { state = record i { phase = EndedSixBad }; does = GivesUp }) (sends_frees i i.core p (i.bads + 1)) (λ xs e. absurd cc)
 
 received_frees : (i : InitState) (more : Bool) (xs : List ℕ) → Frees (received i more xs)
 received_frees i true xs = sends_frees i (turned i.core [] true xs) Asked 0
 received_frees i false xs = λ ys e. refl
 
 answered_frees : (i : InitState) (v : DepFrame) → Frees (answered i v)
-answered_frees i (Ack true pni) = if_frees (if more_follows i.core then pni == i.core.number else false) _ _ (sends_frees i _ Asked 0) (refuses_frees i)
+answered_frees i (Ack true pni) =
+    let c : Core = turned i.core (drop i.core.most i.core.rest) false i.core.got in
+    if_frees (if more_follows i.core then pni == i.core.number else false) (sends i c Asked 0) (refuses i) (sends_frees i c Asked 0) (refuses_frees i)
 answered_frees i (Ack false pni) = refuses_frees i
 answered_frees i (Info true more pni x) =
-    if_frees (if more_follows i.core then false else pni == i.core.number) _ _
-    (if_frees (is_refused more x.items (i.core.got ++ x.items)) _ _ (refuses_frees i) (received_frees i more (i.core.got ++ x.items))) (refuses_frees i)
+    let xs : List ℕ = i.core.got ++ x.items in
+    if_frees (if more_follows i.core then false else pni == i.core.number) (brought i more x.items) (refuses i)
+    (if_frees (is_refused more x.items xs) (refuses i) (received i more xs) (refuses_frees i) (received_frees i more xs)) (refuses_frees i)
 answered_frees i (Info false more pni x) = refuses_frees i
-answered_frees i (Extend true times) = if_frees (may_extend i.core times) _ _ (sends_frees i _ Asked i.bads) (refuses_frees i)
+answered_frees i (Extend true times) =
+    let c : Core = record i.core { extension = Some times; granted = i.core.granted + 1 } in
+    if_frees (may_extend i.core times) (sends i c Asked i.bads) (refuses i) (sends_frees i c Asked i.bads) (refuses_frees i)
 answered_frees i (Extend false times) = refuses_frees i
 answered_frees i (AtrReq id lr general) = refuses_frees i
 answered_frees i (AtrRes id timeout lr general) = refuses_frees i

@@ -14,7 +14,8 @@ use Rattle.snep_core.specs.declared.fault.SnepFault.TheVariants.{BadPeer, LinkEn
 use Rattle.snep_core.specs.declared.job.Refusal.{Refusal}
 use Rattle.snep_core.specs.Accord.{PeerState}
 use Rattle.snep_core.specs.Calling.{refused_by}
-use Rattle.snep_core.specs.Jobs.{Over, Refused}
+use Rattle.snep_core.specs.declared.job.Job.TheVariants.{Over}
+use Rattle.snep_core.specs.declared.job.Ending.TheVariants.{Refused}
 use Rattle.snep_core.specs.Talk.{EndState, Step, Ends, GivesUp, alone}
 use Rattle.link_calls.specs.CallDue.{CallStanding, BrokenBy, Comes}
 use Rattle.link_calls.specs.CallTurns.{CallTurns, CallFront}

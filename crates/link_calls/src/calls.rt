@@ -3,7 +3,8 @@
 ghost use Rattle.std.specs.Prelude.{◌≡◌, ◌≤◌, length, false, IfOk, IfErr, OnOk};
 ghost use Rattle.snep_core.specs.Accord.{Accords, AsideFails, GetFails, IsFound, IsGot, IsTaken, PutFails};
 ghost use Rattle.snep_core.specs.Calling.{is_memory};
-ghost use Rattle.snep_core.specs.Jobs.{Done, Over, Sap, Value};
+ghost use Rattle.snep_core.specs.declared.job.Ending.TheVariants.{Done, Sap, Value};
+ghost use Rattle.snep_core.specs.declared.job.Job.TheVariants.{Over};
 ghost use Rattle.snep_core.specs.Talk.{Ends, Finds, Gets, Puts, alone, begins};
 ghost use Rattle.link_calls.specs.Calls.{CallFails, IsMade, IsOpen, RequestFails};
 

@@ -1,0 +1,70 @@
+use Rattle.std.proofs.Common.{rules, ◌≡◌, refl, sym, ◌∙◌, ap, subst}
+use Rattle.air_core.proofs.PlainAside.{Laws}
+use Rattle.dep_link.specs.DepLinks.{seen_pair}
+use Rattle.snep_core.specs.declared.job.Ending.TheVariants.{Done}
+use Rattle.snep_core.specs.declared.job.Job.TheVariants.{Over}
+use Rattle.snep_core.specs.Accord.{AsideFails, IsClosed, PeerState}
+use Rattle.snep_core.specs.Talk.{Ends, Leaves, alone, begins}
+use Rattle.snep_core.proofs.Peers.{server_is_peer}
+use Rattle.link_calls.specs.Closing.{ClosingFails, IsReleased}
+use Rattle.link_calls.proofs.Made.{given_back, made}
+use Rattle.link_calls.proofs.Closed.{closing_failed, released, release_failed}
+use Rattle.link_calls.proofs.Silent.{takes_rls, aside_fails}
+use Rattle.link_calls.proofs.closing.close_and_release.Given as given
+use Rattle.link_calls.proofs.closing.close_and_release.Goals as goal
+
+laws : (g : given.Over) → Laws g.L.Listener
+laws g = record {
+  step_keeps = g.met.L.Listener.step_keeps;
+  dark_keeps = g.met.L.Listener.dark_keeps;
+  dark_rests = g.met.L.Listener.dark_rests;
+  rests = g.met.L.Listener.rests;
+  ignores = g.met.L.Listener.ignores;
+}
+
+pub returns-in-Err-clause-err : goal.returns-in-Err-clause-err
+returns-in-Err-clause-err g c =
+    let from = begins c.args.client.now.llc Leaves in
+    given_back (λ a i. ClosingFails g.L.Listener g.L.PeerListener.target from c.args.field.now c.args.initiator.now c.args.far.now a c.close.new.far c.close.new.self.llc i c.in-Err.fault)
+    c.close.new.carrier.field.now _ c.close.new.carrier.initiator.now _ (search rules) (search rules)
+    (closing_failed g.L.Listener g.L.PeerListener.target (seen_pair {L = g.row.L.Denot}) (laws g) c.on-pair.result c.close.new.carrier c.args.far.now c.close.new.far c.args.field.now c.args.initiator.now
+    c.on-pair.ensures.fresh c.requires.open_ c.close.ensures.ready from c.close.new.self.llc c.in-Err.fault (c.in-Err.ensures.err c.requires.going))
+
+pub returns-in-Err-clause-fails : goal.returns-in-Err-clause-fails
+returns-in-Err-clause-fails g c = λ accords quiet. c.in-Err.ensures.fails (λ p. p) server_is_peer accords
+
+pub returns-in-Err-release-clause-err : goal.returns-in-Err-release-clause-err
+returns-in-Err-release-clause-err g c =
+    let from = begins c.args.client.now.llc Leaves in
+    given_back (λ a i. ClosingFails g.L.Listener g.L.PeerListener.target from c.args.field.now c.args.initiator.now c.args.far.now a c.release.new.far c.close.new.self.llc i c.fault_at.result)
+    c.release.new.pair.0 _ c.close.new.carrier.initiator.now _ (search rules) (search rules)
+    (subst (ClosingFails g.L.Listener g.L.PeerListener.target from c.args.field.now c.args.initiator.now c.args.far.now c.release.new.pair.0 c.release.new.far c.close.new.self.llc c.close.new.carrier.initiator.now)
+    (sym c.fault_at.ensures)
+    (release_failed g.L.Listener g.L.PeerListener.target (seen_pair {L = g.row.L.Denot}) (laws g) c.on-pair.result c.close.new.carrier c.args.far.now c.close.new.far c.args.field.now c.args.initiator.now
+    c.on-pair.ensures.fresh c.requires.open_ c.close.ensures.ready from (alone (Over Done)) c.close.new.self.llc c.in-Ok.ensures.ok (λ l. l.stuck) c.release.new.pair.0 c.release.new.far c.in-Err-release.end.answered
+    c.in-Err-release.end.cause c.in-Err-release.ensures.turn))
+
+pub returns-in-Ok-release-clause-ok : goal.returns-in-Ok-release-clause-ok
+returns-in-Ok-release-clause-ok g c =
+    let from = begins c.args.client.now.llc Leaves in
+    given_back (λ a i. IsReleased g.L.Listener g.L.PeerListener.target from c.args.field.now c.args.initiator.now c.args.far.now a c.release.new.far (Ends (alone (Over Done)) c.close.new.self.llc))
+    c.release.new.pair.0 _ c.close.new.carrier.initiator.now c.close.new.carrier.initiator.now (search rules) refl
+    (released g.L.Listener g.L.PeerListener.target (seen_pair {L = g.row.L.Denot}) (laws g) c.on-pair.result c.close.new.carrier c.args.far.now c.close.new.far c.args.field.now c.args.initiator.now
+    c.on-pair.ensures.fresh c.requires.open_ c.close.ensures.ready from (alone (Over Done)) c.close.new.self.llc c.in-Ok.ensures.ok (λ l. l.stuck) c.release.new.pair.0 c.release.new.far c.in-Ok-release.ensures.turn)
+
+pub returns-in-Ok-release-clause-closed : goal.returns-in-Ok-release-clause-closed
+returns-in-Ok-release-clause-closed g c = λ accords quiet.
+    let open_ = (made g.L.Listener g.L.PeerListener.target (seen_pair {L = g.row.L.Denot}) (laws g) c.on-pair.result c.close.new.carrier c.args.far.now c.close.new.far c.args.field.now c.args.initiator.now
+    c.on-pair.ensures.fresh c.requires.open_ c.close.ensures.ready (begins c.args.client.now.llc Leaves) (Ends (alone (Over Done)) c.close.new.self.llc) c.in-Ok.ensures.ok refl).open_ in
+    subst (λ p. IsClosed c.args.far.now c.close.new.self.llc p)
+    (sym (c.in-Ok-release.ensures.stays (takes_rls g.L.Listener g.L.PeerListener.target c.close.new.carrier.field.now c.close.new.carrier.initiator.now open_.in_step quiet)))
+    (c.in-Ok.ensures.closed (λ p. p) server_is_peer accords)
+
+pub returns-in-Err-release-clause-fails : goal.returns-in-Err-release-clause-fails
+returns-in-Err-release-clause-fails g c = λ accords quiet.
+    let open_ = (made g.L.Listener g.L.PeerListener.target (seen_pair {L = g.row.L.Denot}) (laws g) c.on-pair.result c.close.new.carrier c.args.far.now c.close.new.far c.args.field.now c.args.initiator.now
+    c.on-pair.ensures.fresh c.requires.open_ c.close.ensures.ready (begins c.args.client.now.llc Leaves) (Ends (alone (Over Done)) c.close.new.self.llc) c.in-Ok.ensures.ok refl).open_ in
+    let same = c.in-Err-release.ensures.stays (takes_rls g.L.Listener g.L.PeerListener.target c.close.new.carrier.field.now c.close.new.carrier.initiator.now open_.in_step quiet) in
+    let closed = c.in-Ok.ensures.closed (λ p. p) server_is_peer accords in
+    subst (λ e. AsideFails c.args.far.now e c.release.new.far) (sym c.fault_at.ensures)
+    (aside_fails c.args.far.now c.release.new.far c.in-Err-release.end.cause (ap (λ (p : PeerState). p.service.accepted) same ∙ ap (λ s. s.accepted) closed.aside.service))
