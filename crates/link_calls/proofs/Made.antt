@@ -1,7 +1,6 @@
 -- What a call over the open link of a field comes to.
 use Rattle.std.proofs.Common.{◌≡◌, ◌≤◌, ℕ, List, [], ◌∷◌, ◌++◌, length, Bool, true, Option, Some, None, Result, Ok, Err, IfErr, IfOk, OnOk, refl, sym, ◌∙◌, ap, subst, inl, inr}
-use Rattle.nfc_base.specs.Links.{FarStep, Stepped, Stopped}
-use Rattle.nfc_link.specs.Swapping.{BySwaps}
+use Rattle.nfc_base.specs.Links.{BySwaps, FarStep, Stepped, Stopped}
 use Rattle.nfc_base.specs.declared.carrier.EndCause.{EndCause}
 use Rattle.nfc_base.specs.declared.carrier.EndCause.TheVariants as cause
 use Rattle.air_core.specs.Turn.{Air}
