@@ -8,6 +8,7 @@ pub mod Locking
 pub mod Peering
 pub mod Unlinking
 pub mod FarStays
+pub mod Ranges
 pub mod Reached
 pub mod Telling
 pub mod Legality
