@@ -37,7 +37,7 @@ use Rattle.bench_devices.specs.declared.device.Device.TheVariants.{T2, T4, Peer,
 use Rattle.bench_devices.specs.declared.polling.SeenKind.TheVariants as seen
 use Rattle.bench_devices.specs.Device.{devices, device_id, device_end, device_target, seen_of, is_tag}
 use Rattle.bench_devices.specs.Keeping.{Kept, ghosts, kept, IsSound}
-use Rattle.bench_devices.specs.Peers.{PeerNear, IsMadePeer, peer_general, asked_if, takes_frame, peer_machine}
+use Rattle.bench_devices.specs.Peers.{PeerNear, IsMadePeer, asked_if, takes_frame, peer_machine}
 use Rattle.bench_devices.specs.Beside.{PeerAt, TalkLeaves}
 use Rattle.bench_devices.specs.Phases.{Stands}
 use Rattle.bench_devices.specs.Opening.{Opened, OpeningEnds, Opens}
@@ -110,13 +110,13 @@ peer_kind (T5 p) e = absurd cc
 -- what it says of itself is what it was made to say
 record SaysAsMade (d : Device) : Type 0 where
   pub made : IsMadePeer (device_id d) (device_target d)
-  pub code : (device_end d).lr ≡ made.lr
-  pub says : (device_end d).general ≡ peer_general made.miu
+  pub code : (device_end d).lr ≡ (device_target d).lr
+  pub says : (device_end d).general ≡ (device_target d).general
 
 says_as_made : (d : Device) → IsSound (kept d) → is_tag d ≡ false → SaysAsMade d
 says_as_made (T2 d) is e = absurd cc
 says_as_made (T4 d) is e = absurd cc
-says_as_made (Peer d) is e = record { made = is.2; code = ap (λ (t : TargetState). t.lr) is.2.made; says = ap (λ (t : TargetState). t.general) is.2.made }
+says_as_made (Peer d) is e = record { made = is.2; code = refl; says = refl }
 says_as_made (T5 p) is e = absurd cc
 
 pub at_peer : (old : Air Device) (place : ℕ) (d : Device) → Stands (moment old) place d → is_tag d ≡ false → PeerAt (device_id d) place old.listeners

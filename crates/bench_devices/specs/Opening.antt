@@ -20,7 +20,7 @@ use Rattle.bench_devices.specs.declared.polling.SeenKind.TheVariants as seen
 use Rattle.bench_devices.specs.Beside.{TalkLeaves, InStepAt}
 use Rattle.bench_devices.specs.Device.{devices, device_id, device_target, is_tag}
 use Rattle.bench_devices.specs.Keeping.{kept}
-use Rattle.bench_devices.specs.Peers.{IsMadePeer, peer_general}
+use Rattle.bench_devices.specs.Peers.{IsMadePeer}
 use Rattle.bench_devices.specs.Phases.{Stands}
 use Rattle.bench_devices.specs.Polling as polls
 use Rattle.bench_devices.specs.Polling.{Followed, Told, selecting}
@@ -41,12 +41,12 @@ then_opens general (Told (Err e) ns) = Over
 abbrev pub linking : DeviceId → List ℕ → List Note → Next
 linking id general ns = then_opens general (selecting id ns)
 
--- A link is open to the peer that stood at a place: its initiator cuts to this peer's LR code, and was told the general bytes by which
--- such a peer says its MIU. Both ends are in step, and all that stays of the peer is as it was.
+-- A link is open to the peer that stood at a place, which was made as a peer may be: its initiator cuts to this peer's LR code, and was
+-- told its general bytes. Both ends are in step, and all that stays of the peer is as it was.
 pub record Opened (new : Air Device) (place : ℕ) (d : Device) (i : InitState) (told : List ℕ) : Type 0 where
   pub made : IsMadePeer (device_id d) (device_target d)
-  pub initiator : i ≡ waiting made.lr
-  pub general : told ≡ peer_general made.miu
+  pub initiator : i ≡ waiting (device_target d).lr
+  pub general : told ≡ (device_target d).general
   pub here : InStepAt new place i
   pub same : kept here.step.1.listener ≡ kept d
 

@@ -1,5 +1,5 @@
 -- What the tag with an identifier holds stays through a command that doesn't touch it.
-use Rattle.std.proofs.Common.{◌≡◌, ℕ, List, [], ◌∷◌, ◌++◌, map, Bool, true, false, nat_eq, if◌then◌else◌, Option, Some, refl, sym, ◌∙◌, ap, subst}
+use Rattle.std.proofs.Common.{◌≡◌, ℕ, List, [], ◌∷◌, ◌++◌, map, Bool, true, false, nat_eq, if◌then◌else◌, Option, Some, None, refl, sym, ◌∙◌, ap, subst}
 use Rattle.std.specs.Cmp.Lexicographic.{pointwise}
 use Rattle.nfc_base.specs.declared.event.Event.{Event}
 use Rattle.nfc_base.specs.declared.event.Event.TheVariants.{Reset, Request, Answer as Answers, Clash}
@@ -9,7 +9,7 @@ use Rattle.air_core.specs.Conversation.{Note, Over, LightUp, Asks, AreTurns, Eac
 use Rattle.air_core.proofs.Following.{trace_first}
 use Rattle.t5t_tag.proofs.Bytes.{equal_bytes}
 use Rattle.bench_script.specs.declared.command.Command.{Command}
-use Rattle.bench_script.specs.declared.command.Command.TheVariants.{Skip, Fates, PlaceT2, PlaceT4, PlaceT5, PlacePeer, Lock, Busy, Offer, Remove, Dump, Inbox, Find, Read, Write}
+use Rattle.bench_script.specs.declared.command.Command.TheVariants.{Skip, Fates, PlaceT2, PlaceT4, PlaceT5, PlacePeer, Lock, Busy, Offer, Remove, Dump, Inbox, Find, Read, Write, Link, Put, Get, Lookup, Unlink}
 use Rattle.bench_script.specs.declared.command.DeviceId.{DeviceId}
 use Rattle.bench_script.specs.DeviceIds.{bytes_of}
 use Rattle.bench_devices.specs.declared.device.Device.{Device}
@@ -19,10 +19,14 @@ use Rattle.bench_devices.specs.Keeping.{Fixed, fixed, Kept, kept, AllStayDevices
 use Rattle.bench_devices.specs.Placed.{device_with, without, with_changed}
 use Rattle.bench_devices.proofs.EveryFrame.{devices_stay}
 use Rattle.bench_world.specs.declared.entry.Entry.{Entry}
-use Rattle.bench_world.specs.World.{Stable}
-use Rattle.bench_world.specs.Legal.{State, Given, AnswerLaw, ReadLaw, FindLaw, WritingLaw, LeavesStable, FrontOf, LegalStep, EachLegal, changed, due, world_after, state_after}
+use Rattle.bench_world.specs.World.{WholeWorld, bench_air, Stable, stable}
+use Rattle.bench_world.specs.Legal.{State, Given, AnswerLaw, ReadLaw, FindLaw, WritingLaw, LinkingLaw, PutLaw, GetLaw, LookupLaw, UnlinkLaw, LegalStep, EachLegal, begun, changed, due, world_after, state_after}
 use Rattle.bench_world.specs.Behind.{Touches, LeaveAlone}
-use Rattle.bench_world.proofs.Fronts.{on_field, field_after}
+use Rattle.snep_core.specs.Talk.{Puts, Gets, Finds}
+use Rattle.bench_script.specs.Messages.{message_of}
+use Rattle.bench_world.specs.Calls.{IfLinked, due_if, due_on, due_closing}
+use Rattle.bench_world.specs.Links.{OpenLink}
+use Rattle.bench_world.proofs.FarStays.{far_stay}
 
 -- Two devices read alike: they are read in the same way, and hold the same.
 pub record ReadAlike (d e : Device) : Type 0 where
@@ -150,12 +154,12 @@ module _ (id : List ℕ) where
       (more.0, ap (λ v. if v then Some y else device_with id es) (ap (λ i. pointwise nat_eq i id) own ∙ other) ∙ more.1, more.2))
 
 -- a command that asks nothing has no events
-nothing_sent : (w : BenchWorld) (es : List Event) → AreTurns air w es → EachDue (λ ns. Over) [] es → es ≡ []
+nothing_sent : (w : WholeWorld) (es : List Event) → AreTurns bench_air w es → EachDue (λ ns. Over) [] es → es ≡ []
 nothing_sent w [] turns each = refl
 nothing_sent w (Reset ∷ es) turns each = absurd (let clash : Over ≡ LightUp = each.0 in cc)
 nothing_sent w (Request f x ∷ es) turns each = absurd (let clash : Over ≡ Asks f = each.0 in cc)
-nothing_sent w (Answers g x ∷ es) turns each = absurd (let clash : back_of (Answers g x ∷ es) ≡ backs.Nothing = ap back_of turns.made ∙ trace_first air w turns.moves in cc)
-nothing_sent w (Clash g x ∷ es) turns each = absurd (let clash : back_of (Clash g x ∷ es) ≡ backs.Nothing = ap back_of turns.made ∙ trace_first air w turns.moves in cc)
+nothing_sent w (Answers g x ∷ es) turns each = absurd (let clash : back_of (Answers g x ∷ es) ≡ backs.Nothing = ap back_of turns.made ∙ trace_first bench_air w turns.moves in cc)
+nothing_sent w (Clash g x ∷ es) turns each = absurd (let clash : back_of (Clash g x ∷ es) ≡ backs.Nothing = ap back_of turns.made ∙ trace_first bench_air w turns.moves in cc)
 
 locked_alike : (block : ℕ) (d : Device) → ReadAlike d (device_locked block d)
 locked_alike block (T2 d) = record { kind = refl; how = refl; size = refl; store = refl }
@@ -187,8 +191,8 @@ module _ (id : DeviceId) (s t : State) (g : Given) (e : Entry) (d : Device) (ste
   quiet_step : (c : Command) → e.command ≡ c → ((ns : List Note) → due s g c ns ≡ Over) → IsAlike (bytes_of id) d (changed s c).world.field.listeners → IsAlike (bytes_of id) d t.world.field.listeners
   quiet_step c is over alike =
       let each : EachDue (due s g c) [] e.events = subst (λ k. EachDue (due s g k) [] e.events) is step.front.each in
-      let turns : AreTurns air (changed s c).world.field e.events = subst (λ k. AreTurns air (changed s k).world.field e.events) is (on_field s t g e.command e.events step.front).turns in
-      let none : e.events ≡ [] = nothing_sent (changed s c).world.field e.events turns (over_all e.events [] each) in
+      let turns : AreTurns bench_air (begun s g.joins c) e.events = subst (λ k. AreTurns bench_air (begun s g.joins k) e.events) is step.front.turns in
+      let none : e.events ≡ [] = nothing_sent (begun s g.joins c) e.events turns (over_all e.events [] each) in
       let after : t ≡ state_after s g.joins c [] (Some e.answer) =
       step.front.after ∙ ap (λ k. state_after s g.joins k e.events (Some e.answer)) is ∙ ap (λ es. state_after s g.joins c es (Some e.answer)) none in
       subst (λ (x : State). IsAlike (bytes_of id) d x.world.field.listeners) (sym after) alike
@@ -201,16 +205,25 @@ module _ (id : DeviceId) (s t : State) (g : Given) (e : Entry) (d : Device) (ste
       over_all (Clash f x ∷ es) before q = over_all es (before ++ Clash f x ∷ []) q
 
   -- what was asked changed no store
-  asking_step : (c : Command) → e.command ≡ c → (changed s c).world.field ≡ s.world.field → LeavesStable s g.joins c e.events → IsAlike (bytes_of id) d t.world.field.listeners
+  asking_step : (c : Command) → e.command ≡ c → (changed s c).world.field ≡ s.world.field → (stable (world_after s g.joins c e.events)).devices ≡ (stable (changed s c).world).devices
+      → IsAlike (bytes_of id) d t.world.field.listeners
   asking_step c is still stays =
-      let front : FrontOf s g c e.events (Some e.answer) t = subst (λ k. FrontOf s g k e.events (Some e.answer) t) is step.front in
-      let after : (world_after s g.joins c e.events).field ≡ replay air (changed s c).world.field e.events = field_after s t g c e.events front in
-      let on : t.world.field ≡ replay air (changed s c).world.field e.events = (on_field s t g c e.events front).field in
-      let same : map stable_of (replay air (changed s c).world.field e.events).listeners ≡ map stable_of (changed s c).world.field.listeners =
-      sym (ap (λ (w : BenchWorld). map stable_of w.listeners) after) ∙ ap (λ (z : Stable). z.devices) stays in
-      let there : device_with (bytes_of id) (changed s c).world.field.listeners ≡ Some d = ap (λ (w : BenchWorld). device_with (bytes_of id) w.listeners) still ∙ found in
-      subst (λ (w : BenchWorld). IsAlike (bytes_of id) d w.listeners) (sym on)
-      (stays_found (bytes_of id) (changed s c).world.field.listeners (replay air (changed s c).world.field e.events).listeners d (devices_stay (changed s c).world.field e.events) same there)
+      let w : WholeWorld = begun s g.joins c in
+      let now : List Device = (replay bench_air w e.events).field.listeners in
+      let after : t ≡ state_after s g.joins c e.events (Some e.answer) = step.front.after ∙ ap (λ k. state_after s g.joins k e.events (Some e.answer)) is in
+      let there : device_with (bytes_of id) w.field.listeners ≡ Some d = ap (λ (x : BenchWorld). device_with (bytes_of id) x.listeners) still ∙ found in
+      subst (λ (x : State). IsAlike (bytes_of id) d x.world.field.listeners) (sym after)
+      (stays_found (bytes_of id) w.field.listeners now d (far_stay e.events w).stay stays there)
+
+  -- Commands on the open link; where none is open nothing is asked.
+  linked_step : (c : Command) → e.command ≡ c → changed s c ≡ s → (o : Option OpenLink) → s.link ≡ o → (s.link ≡ None → (ns : List Note) → due s g c ns ≡ Over)
+      → IfLinked o (λ l. (stable (world_after s g.joins c e.events)).devices ≡ (stable s.world).devices) (Unit {0}) → IsAlike (bytes_of id) d t.world.field.listeners
+  linked_step c is still None at over stays = quiet_step c is (over at) (subst (λ (x : State). IsAlike (bytes_of id) d x.world.field.listeners) (sym still) (still_found (bytes_of id) s.world.field.listeners d found))
+  linked_step c is still (Some l) at over stays = asking_step c is (ap (λ (x : State). x.world.field) still) (stays ∙ sym (ap (λ (x : State). (stable x.world).devices) still))
+
+  if_linked : (P Q : OpenLink → Type 0) (R : Type 0) (o : Option OpenLink) → ((l : OpenLink) → P l → Q l) → IfLinked o P R → IfLinked o Q (Unit {0})
+  if_linked P Q R None says h = tt
+  if_linked P Q R (Some l) says h = says l h
 
   law_of : (c : Command) → e.command ≡ c → AnswerLaw s g c e.events e.answer
   law_of c is = subst (λ k. AnswerLaw s g k e.events e.answer) is step.answered
@@ -230,13 +243,26 @@ module _ (id : DeviceId) (s t : State) (g : Given) (e : Entry) (d : Device) (ste
   by_command (Remove i) is alone = quiet_step (Remove i) is (λ ns. refl) (fewer_found (bytes_of id) (bytes_of i) s.world.field.listeners d alone found)
   by_command (Dump i) is alone = quiet_step (Dump i) is (λ ns. refl) (still_found (bytes_of id) s.world.field.listeners d found)
   by_command (Inbox i) is alone = quiet_step (Inbox i) is (λ ns. refl) (still_found (bytes_of id) s.world.field.listeners d found)
-  by_command Find is alone = let law : FindLaw s g.joins e.events e.answer = law_of Find is in asking_step Find is refl law.stays
-  by_command (Read i) is alone = let law : ReadLaw s g.joins i g.asked e.events e.answer = law_of (Read i) is in asking_step (Read i) is refl law.stays
+  by_command Find is alone = let law : FindLaw s g.joins e.events e.answer = law_of Find is in asking_step Find is refl (ap (λ (z : Stable). z.devices) law.stays)
+  by_command (Read i) is alone = let law : ReadLaw s g.joins i g.asked e.events e.answer = law_of (Read i) is in asking_step (Read i) is refl (ap (λ (z : Stable). z.devices) law.stays)
   by_command (Write i m) is alone =
       let law : WritingLaw s g.joins i m g.asked e.events e.answer = law_of (Write i m) is in
       let after : t ≡ state_after s g.joins (Write i m) e.events (Some e.answer) = step.front.after ∙ ap (λ k. state_after s g.joins k e.events (Some e.answer)) is in
       subst (λ (x : State). IsAlike (bytes_of id) d x.world.field.listeners) (sym after)
       (beside_found (bytes_of id) (bytes_of i) alone s.world.field.listeners (world_after s g.joins (Write i m) e.events).field.listeners d law.stores.others found)
+
+  by_command (Link i miu window) is alone = let law : LinkingLaw s g.joins i miu window e.events e.answer = law_of (Link i miu window) is in asking_step (Link i miu window) is refl (ap (λ (z : Stable). z.devices) law.stays)
+  by_command (Put m) is alone =
+      linked_step (Put m) is refl s.link refl (λ at ns. ap (λ o. due_if o (λ l. due_on l g.joins.own (Puts (message_of m)) ns)) at) (if_linked _ _ _ s.link (λ l (law : PutLaw s g.joins l m e.events e.answer). law.devices) (law_of (Put m) is))
+  by_command (Get most key) is alone =
+      linked_step (Get most key) is refl s.link refl (λ at ns. ap (λ o. due_if o (λ l. due_on l g.joins.own (Gets most key) ns)) at)
+      (if_linked _ _ _ s.link (λ l (law : GetLaw s g.joins l most key e.events e.answer). ap (λ (z : Stable). z.devices) law.stays) (law_of (Get most key) is))
+  by_command (Lookup name) is alone =
+      linked_step (Lookup name) is refl s.link refl (λ at ns. ap (λ o. due_if o (λ l. due_on l g.joins.own (Finds name) ns)) at)
+      (if_linked _ _ _ s.link (λ l (law : LookupLaw s g.joins l name e.events e.answer). ap (λ (z : Stable). z.devices) law.stays) (law_of (Lookup name) is))
+  by_command Unlink is alone =
+      linked_step Unlink is refl s.link refl (λ at ns. ap (λ o. due_if o (λ l. due_closing l g.joins.own ns)) at)
+      (if_linked _ _ _ s.link (λ l (law : UnlinkLaw s g.joins l e.events e.answer). ap (λ (z : Stable). z.devices) law.stays) (law_of Unlink is))
 
   pub step_alike : (Touches id e.command → ⊥) → IsAlike (bytes_of id) d t.world.field.listeners
   step_alike alone = by_command e.command refl alone

@@ -36,11 +36,11 @@ use Rattle.bench_script.specs.DeviceIds.{bytes_of}
 use Rattle.bench_devices.specs.Polling.{Followed, Asks as Requests, Told, follows, kind_by, seen_kind, pick_v, asks, selecting, finding_all}
 use Rattle.bench_world.specs.Reading.{Tells, TellsOf, ReadAsks}
 use Rattle.bench_devices.specs.Reading.{ShowsOf}
-use Rattle.bench_world.specs.Legal.{State, Given, no_joins, Accepts, IsAskedBy, AnswerLaw, FrontOf, changed, due}
+use Rattle.bench_world.specs.Legal.{State, Given, no_joins, Accepts, IsAskedBy, AnswerLaw, FrontOf, changed, due, world_after, state_after}
 use Rattle.bench_devices.specs.Placed.{OfPlaced, IfPlaced, device_with}
 use Rattle.bench_devices.specs.Keeping.{Kept, kept, IsSound, Changes, NoStore, Leaves}
 use Rattle.bench_devices.specs.Phases.{AskedPart, SelectionCut, ReadsSome, FailsRead, IsIdle, Selects, SelectsAt, Stands, Reads, ReadsAt, CutAt, Searches, SearchesField, SearchCut}
-use Rattle.bench_world.specs.Obeying.{Machines, state_at, HasPlaces, IsSettled, Obeyed, ObeyedUnlinked, IsCutOff, CutOffUnlinked}
+use Rattle.bench_world.specs.Obeying.{Machines, state_at, HasPlaces, KeepsLink, IsSettled, Obeyed, ObeyedUnlinked, IsCutOff, CutOffUnlinked}
 use Rattle.bench_world.specs.World.{WholeWorld, bench_air, stable}
 use Rattle.bench_world.specs.Links.{OpenLink}
 use Rattle.bench_world.specs.Peers.{Peers}
@@ -48,7 +48,10 @@ use Rattle.far_air.specs.FarLaws.{seen}
 use Rattle.far_air.specs.FarWorld.{with_numbers}
 use Rattle.far_air.specs.Quietly.{NoneHands}
 use Rattle.peer_air.specs.PeerFars.{peer_ends}
-use Rattle.bench_world.proofs.Fronts.{Ends, world_behind, none_hand, stretch, stable_behind, as_long}
+use Rattle.bench_devices.proofs.EveryFrame.{devices_stay}
+use Rattle.bench_world.specs.Journal.{TakesNumbers}
+use Rattle.bench_world.proofs.PlacesKept.{served_as, kinds_stay}
+use Rattle.bench_world.proofs.Fronts.{links_stay, Ends, world_behind, none_hand, stretch, stable_behind, as_long}
 use Rattle.tag_reader.specs.Asked.{IsAsked}
 use Rattle.tag_reader.specs.declared.fault.ReadFault.{ReadFault}
 use Rattle.tag_reader.specs.declared.fault.ReadFault.TheVariants as reading
@@ -129,22 +132,27 @@ asks_for asked = record { asked = asked; joins = no_joins }
 abbrev pub above : Upon → Air Device → State
 above os a = state_at (beneath os a)
 
--- in what is due in a command no device hands anything over
-pub none_in : (os : Upon) (old new : Air Device) (c : Command) (asked : List Signal) (ns : List Note) → (g : Going air (due (above os old) (asks_for asked) c) (moment old) (moment new) ns)
+-- in what is due in a command that keeps to tags no device hands anything over
+pub none_in : (c : Command) → (TakesNumbers c → ⊥) → (os : Upon) (old new : Air Device) (asked : List Signal) (ns : List Note) → (g : Going air (due (above os old) (asks_for asked) c) (moment old) (moment new) ns)
     → IsAskedBy (above os old) c asked → NoneHands devices (moment old).world g.events
-none_in os old new c asked ns g asked_by = none_hand (above os old) (asks_for asked) c g.events asked_by g.each g.fresh (moment old).world
+none_in c quiet os old new asked ns g asked_by = none_hand (above os old) (asks_for asked) c g.events quiet asked_by g.each g.fresh (moment old).world
 
 -- the trace of an idle field is what happened since
 pub trace_is : (old new : Air Device) (next : List Note → Next) (ns : List Note) (g : Going air next (moment old) (moment new) ns) → IsIdle old → new.trace ≡ g.events
 trace_is old new next ns g idle = ap (λ (t : Moment (World Device)). t.trace) g.moment ∙ ap (λ t. t ++ g.events) idle.quiet
 
+-- the state behind some events, where links are left as the command itself leaves them
+abbrev pub plain_after : State → Command → List Event → State
+plain_after s c es = record { world = world_after s no_joins c es; queue = queue_after (changed s c).queue es; peers = (changed s c).peers; link = (changed s c).link }
+
 -- what was asked is a front of the command's step
-pub front_of : (told : Option Answer) (os : Upon) (old new : Air Device) (c : Command) (asked : List Signal) (ns : List Note) → IsIdle old → Accepts (above os old) c → changed (above os old) c ≡ above os old
-    → Going air (due (above os old) (asks_for asked) c) (moment old) (moment new) ns → IsAskedBy (above os old) c asked → FrontOf (above os old) (asks_for asked) c new.trace told (above os new)
-front_of told os old new c asked ns idle accepted still g asked_by =
+pub front_so : (told : Option Answer) (os : Upon) (old new : Air Device) (c : Command) (asked : List Signal) (ns : List Note) → IsIdle old → Accepts (above os old) c → changed (above os old) c ≡ above os old
+    → (g : Going air (due (above os old) (asks_for asked) c) (moment old) (moment new) ns) → IsAskedBy (above os old) c asked → NoneHands devices (moment old).world g.events
+    → state_after (above os old) no_joins c g.events told ≡ plain_after (above os old) c g.events → FrontOf (above os old) (asks_for asked) c new.trace told (above os new)
+front_so told os old new c asked ns idle accepted still g asked_by none plain =
     let st : State = above os old in
     let es : List Event = g.events in
-    let q = stretch (moment old).world es os.ends (none_in os old new c asked ns g asked_by) in
+    let q = stretch (moment old).world es os.ends none in
     let trace : new.trace ≡ es = trace_is old new (due st (asks_for asked) c) ns g idle in
     let world : (moment new).world ≡ replay air (moment old).world es = ap (λ (t : Moment (World Device)). t.world) g.moment in
     let queue : new.fates ≡ queue_after old.fates es = ap (λ (t : Moment (World Device)). t.queue) g.moment in
@@ -161,30 +169,53 @@ front_of told os old new c asked ns idle accepted still g asked_by =
       each = g.each;
       after = ap (λ w. S (seen device_linked peer_ends w os.ends []) new.fates os.peers) world ∙ ap (λ f. S (seen device_linked peer_ends (replay air (moment old).world es) os.ends []) f os.peers) queue
           ∙ ap (λ w. S w (queue_after old.fates es) os.peers) (sym q.after)
-          ∙ ap (λ (s : State). L (replay bench_air (with_numbers s.world []) es) (queue_after s.queue es) s.peers s.link) (sym still);
+          ∙ ap (λ (s : State). L (replay bench_air (with_numbers s.world []) es) (queue_after s.queue es) s.peers s.link) (sym still) ∙ sym plain;
     } in
     subst P (sym trace) front
 
+pub front_of : (told : Option Answer) (c : Command) → (TakesNumbers c → ⊥) → (os : Upon) (old new : Air Device) (asked : List Signal) (ns : List Note) → IsIdle old → Accepts (above os old) c → changed (above os old) c ≡ above os old
+    → Going air (due (above os old) (asks_for asked) c) (moment old) (moment new) ns → IsAskedBy (above os old) c asked → FrontOf (above os old) (asks_for asked) c new.trace told (above os new)
+front_of told c quiet os old new asked ns idle accepted still g asked_by =
+    front_so told os old new c asked ns idle accepted still g asked_by (none_in c quiet os old new asked ns g asked_by) (links_stay (above os old) no_joins c g.events told quiet)
+
 -- a command that asks, and changes nothing itself, whatever it may have changed of what stays
-pub asks_obeyed : (what : Changes) (os : Upon) (old new : Air Device) (c : Command) (asked : List Signal) (ns : List Note) (answer : Answer) → IsIdle old → HasPlaces (beneath os old)
+pub asks_so : (what : Changes) (os : Upon) (old new : Air Device) (c : Command) (asked : List Signal) (ns : List Note) (answer : Answer) → IsIdle old → HasPlaces (beneath os old) → KeepsLink (beneath os new)
     → Accepts (above os old) c → changed (above os old) c ≡ above os old
     → (g : Going air (due (above os old) (asks_for asked) c) (moment old) (moment new) ns) → due (above os old) (asks_for asked) c ns ≡ Over → IsAskedBy (above os old) c asked
+    → NoneHands devices (moment old).world g.events → state_after (above os old) no_joins c g.events (Some answer) ≡ plain_after (above os old) c g.events
     → AnswerLaw (above os old) (asks_for asked) c g.events answer
     → Leaves what (moment old).world g.events (moment new).world → Obeyed (beneath os old) (beneath os new) c answer
-asks_obeyed what os old new c asked ns answer idle places accepted still g over asked_by law left =
+asks_so what os old new c asked ns answer idle places keeps accepted still g over asked_by none plain law left =
     let st : State = above os old in
     let trace : new.trace ≡ g.events = trace_is old new (due st (asks_for asked) c) ns g idle in
     let world : (moment new).world ≡ replay air (moment old).world g.events = ap (λ (t : Moment (World Device)). t.world) g.moment in
     let as_many : length old.listeners ≡ length new.listeners = sym (ap (λ (w : World Device). length w.listeners) world ∙ as_long (moment old).world g.events) in
+    let kinds : map is_tag new.listeners ≡ map is_tag old.listeners =
+    ap (λ (w : World Device). map is_tag w.listeners) world ∙ kinds_stay old.listeners (replay air (moment old).world g.events).listeners (devices_stay (moment old).world g.events) in
     record {
       given = asks_for asked;
-      front = front_of (Some answer) os old new c asked ns idle accepted still g asked_by;
+      front = front_so (Some answer) os old new c asked ns idle accepted still g asked_by none plain;
       over = ap (λ es. due st (asks_for asked) c (receptions es)) trace ∙ ap (due st (asks_for asked) c) g.known ∙ over;
       answered = subst (λ es. AnswerLaw st (asks_for asked) c es answer) (sym trace) law;
       tame = left_tame what (moment old).world g.events (moment new).world left idle.tame;
       tidy = going_tidy (due st (asks_for asked) c) (moment old) (moment new) ns g idle.tidy;
-      places = record { ends = places.ends ∙ as_many; numbers = places.numbers ∙ as_many };
+      places = record {
+          ends = places.ends ∙ as_many;
+          numbers = places.numbers ∙ as_many;
+          served = served_as old.listeners new.listeners os.peers.numbers os.ends kinds places.served;
+          apart = places.apart;
+        };
+      link = keeps;
     }
+
+pub asks_obeyed : (what : Changes) (c : Command) → (TakesNumbers c → ⊥) → (os : Upon) (old new : Air Device) (asked : List Signal) (ns : List Note) (answer : Answer) → IsIdle old → HasPlaces (beneath os old) → KeepsLink (beneath os new)
+    → Accepts (above os old) c → changed (above os old) c ≡ above os old
+    → (g : Going air (due (above os old) (asks_for asked) c) (moment old) (moment new) ns) → due (above os old) (asks_for asked) c ns ≡ Over → IsAskedBy (above os old) c asked
+    → AnswerLaw (above os old) (asks_for asked) c g.events answer
+    → Leaves what (moment old).world g.events (moment new).world → Obeyed (beneath os old) (beneath os new) c answer
+asks_obeyed what c quiet os old new asked ns answer idle places keeps accepted still g over asked_by law left =
+    asks_so what os old new c asked ns answer idle places keeps accepted still g over asked_by (none_in c quiet os old new asked ns g asked_by)
+    (links_stay (above os old) no_joins c g.events (Some answer) quiet) law left
 
 -- all devices were searched for
 pub search_obeyed : (old new : Air Device) (r : Result Everybody PollFault) (answer : Answer) → IsIdle old → Searches (moment old) (moment new) r → TellsFound r answer → ObeyedUnlinked old new Find answer
@@ -192,10 +223,10 @@ search_obeyed old new r answer idle s told = λ ends peers places.
     let os : Upon = record { ends = ends; peers = peers; link = None } in
     let g : Going air (due (above os old) (asks_for []) Find) (moment old) (moment new) s.asked.notes = s.asked.going in
     let world : (moment new).world ≡ replay air (moment old).world g.events = ap (λ (t : Moment (World Device)). t.world) g.moment in
-    asks_obeyed NoStore os old new Find [] s.asked.notes answer idle places tt refl g s.asked.over refl
+    asks_obeyed NoStore Find (λ h. h) os old new [] s.asked.notes answer idle places tt tt refl g s.asked.over refl
     (record {
       tells = found_told r answer told old.listeners s.asked.going.events s.tells;
-      stays = stable_behind (moment old).world g.events os.ends (none_in os old new Find [] s.asked.notes g refl) (stores_stay old new g.events world s.asked.same);
+      stays = stable_behind (moment old).world g.events os.ends (none_in Find (λ h. h) os old new [] s.asked.notes g refl) (stores_stay old new g.events world s.asked.same);
     }) s.asked.same
 
 -- each device has a list of what a read asks of it
@@ -267,10 +298,10 @@ missed_obeyed old new id e answer idle s is = λ ends peers places.
     let going : Going air (tag_due id some.0) (moment old) (moment new) s.asked.notes = polled_of id some.0 (moment old) (moment new) s.asked.notes g in
     let world : (moment new).world ≡ replay air (moment old).world g.events = ap (λ (t : Moment (World Device)). t.world) g.moment in
     let tells : TagTells TellsOf id old.listeners some.0 g.events answer = missed_tells TellsOf id some.0 (moment old) (moment new) e answer s is in
-    asks_obeyed NoStore os old new (Read id) some.0 s.asked.notes answer idle places tt refl going (ap (then_asks some.0) s.told) some.1
+    asks_obeyed NoStore (Read id) (λ h. h) os old new some.0 s.asked.notes answer idle places tt tt refl going (ap (then_asks some.0) s.told) some.1
     (record {
       tells = tells;
-      stays = stable_behind (moment old).world g.events os.ends (none_in os old new (Read id) some.0 s.asked.notes going some.1) (stores_stay old new g.events world s.asked.same);
+      stays = stable_behind (moment old).world g.events os.ends (none_in (Read id) (λ h. h) os old new some.0 s.asked.notes going some.1) (stores_stay old new g.events world s.asked.same);
     }) s.asked.same
 
 -- A tag was selected, and commands were asked behind that: both are one command.
@@ -342,9 +373,9 @@ module _ (old mid : Air Device) (id : DeviceId) (place : ℕ) (idle : IsIdle old
       let asked = placed_asked r.commands (as_tag s.device tag _ _ r.asks) in
       (
         asks_for r.commands,
-        front_of None os old new (Read id) r.commands (s.selects.asked.notes ++ r.asked.notes) idle tt refl g asked,
+        front_of None (Read id) (λ h. h) os old new r.commands (s.selects.asked.notes ++ r.asked.notes) idle tt refl g asked,
         part_stays os.ends old new g.events idle g.moment (r.asked.same ∙ s.selects.asked.same)
-            (none_in os old new (Read id) r.commands (s.selects.asked.notes ++ r.asked.notes) g asked),
+            (none_in (Read id) (λ h. h) os old new r.commands (s.selects.asked.notes ++ r.asked.notes) g asked),
       )
 
 -- A peer was selected, and so a command of a tag asks nothing more.
@@ -385,10 +416,10 @@ peer_obeyed old mid id place idle s peer = λ ends peers places.
     let g : Going air (tag_due id []) (moment old) (moment mid) s.selects.asked.notes = peer_going TellsOf old mid id place s peer in
     let world : (moment mid).world ≡ replay air (moment old).world g.events = ap (λ (t : Moment (World Device)). t.world) g.moment in
     let asked = placed_asked old mid id place idle s [] (as_peer s.device peer _ _ refl) in
-    asks_obeyed NoStore os old mid (Read id) [] s.selects.asked.notes answers.WrongKind idle places tt refl g (peer_over TellsOf old mid id place s peer) asked
+    asks_obeyed NoStore (Read id) (λ h. h) os old mid [] s.selects.asked.notes answers.WrongKind idle places tt tt refl g (peer_over TellsOf old mid id place s peer) asked
     (record {
       tells = peer_tells TellsOf old mid id place s peer there;
-      stays = stable_behind (moment old).world g.events os.ends (none_in os old mid (Read id) [] s.selects.asked.notes g asked) (stores_stay old mid g.events world s.selects.asked.same);
+      stays = stable_behind (moment old).world g.events os.ends (none_in (Read id) (λ h. h) os old mid [] s.selects.asked.notes g asked) (stores_stay old mid g.events world s.selects.asked.same);
     }) s.selects.asked.same
 
 -- a tag was selected and read
@@ -439,10 +470,10 @@ module _ (old mid new : Air Device) (id : DeviceId) (place : ℕ) (read : Result
       let world : (moment new).world ≡ replay air (moment old).world g.events = ap (λ (t : Moment (World Device)). t.world) g.moment in
       let same : map kept new.listeners ≡ map kept old.listeners = r.asked.same ∙ s.selects.asked.same in
       let asked = placed_asked old mid id place idle s r.commands (as_tag s.device tag _ _ r.asks) in
-      asks_obeyed NoStore os old new (Read id) r.commands (hs ++ ks) answer idle places tt refl g (then_tag id (seen_of s.device) r.commands hs ks s.selects.told ∙ r.asked.over) asked
+      asks_obeyed NoStore (Read id) (λ h. h) os old new r.commands (hs ++ ks) answer idle places tt tt refl g (then_tag id (seen_of s.device) r.commands hs ks s.selects.told ∙ r.asked.over) asked
       (record {
         tells = read_tells;
-        stays = stable_behind (moment old).world g.events os.ends (none_in os old new (Read id) r.commands (hs ++ ks) g asked) (stores_stay old new g.events world same);
+        stays = stable_behind (moment old).world g.events os.ends (none_in (Read id) (λ h. h) os old new r.commands (hs ++ ks) g asked) (stores_stay old new g.events world same);
       }) same
 
 -- A command that was cut off: nothing was done ...
@@ -455,8 +486,8 @@ search_cut old new idle part = λ ends peers.
     let os : Upon = record { ends = ends; peers = peers; link = None } in
     (
       asks_for [],
-      front_of None os old new Find [] part.notes idle tt refl part.going refl,
-      part_stays os.ends old new part.going.events idle part.going.moment part.same (none_in os old new Find [] part.notes part.going refl),
+      front_of None Find (λ h. h) os old new [] part.notes idle tt refl part.going refl,
+      part_stays os.ends old new part.going.events idle part.going.moment part.same (none_in Find (λ h. h) os old new [] part.notes part.going refl),
     )
 
 pub selection_cut : (old new : Air Device) (id : DeviceId) → IsIdle old → SelectionCut id (moment old) (moment new) → CutOffUnlinked old new (Read id)
@@ -466,8 +497,8 @@ selection_cut old new id idle part = λ ends peers.
     let g : Going air (tag_due id some.0) (moment old) (moment new) part.notes = polled_of id some.0 (moment old) (moment new) part.notes part.going in
     (
       asks_for some.0,
-      front_of None os old new (Read id) some.0 part.notes idle tt refl g some.1,
-      part_stays os.ends old new part.going.events idle part.going.moment part.same (none_in os old new (Read id) some.0 part.notes g some.1),
+      front_of None (Read id) (λ h. h) os old new some.0 part.notes idle tt refl g some.1,
+      part_stays os.ends old new part.going.events idle part.going.moment part.same (none_in (Read id) (λ h. h) os old new some.0 part.notes g some.1),
     )
 
 -- What was asked in a search, however it ended, and in a read.

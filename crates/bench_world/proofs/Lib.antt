@@ -1,10 +1,14 @@
+pub mod PlacesKept
 pub mod Fronts
+pub mod LinkKept
 pub mod Placing
 pub mod Placed
 pub mod Removing
 pub mod Locking
 pub mod Peering
 pub mod Unlinking
+pub mod FarStays
+pub mod Ranges
 pub mod Reached
 pub mod Telling
 pub mod Legality

@@ -30,6 +30,9 @@ use Rattle.bench_devices.specs.Keeping.{Kept, kept, IsSound, IsApart, AreSound, 
 use Rattle.bench_devices.specs.Phases.{IsTidy, AreTidy}
 use Rattle.bench_script.specs.DeviceIds.{bytes_of}
 use Rattle.bench_devices.proofs.PeerMade.{busy_made}
+use Rattle.bench_world.specs.Journal.{TakesNumbers}
+use Rattle.bench_world.proofs.PlacesKept.{served_as}
+use Rattle.bench_world.proofs.LinkKept.{KeepsTalk, locked_talks, busy_talks, keeps_so, open_changed}
 use Rattle.bench_world.proofs.Placed.{Upon, beneath, nothing, still_obeyed}
 use Rattle.bench_world.proofs.Removing.{is_other}
 
@@ -52,32 +55,38 @@ changed_behind change (b ∷ before) d behind id named sound =
 record StaysPlaced (change : Device → Device) (d : Device) : Type 0 where
   pub same_id : device_id (change d) ≡ device_id d
   pub link : device_linked (change d) ≡ device_linked d
+  pub kind : is_tag (change d) ≡ is_tag d
+  pub talks : KeepsTalk change d
   pub sound : IsSound (kept d) → IsSound (kept (change d))
   pub tidy : IsTidy d → IsTidy (change d)
 
 -- one with one block more locked
 locked_stays : (block : ℕ) (d : Device) → StaysPlaced (device_locked block) d
-locked_stays block (T2 d) = record { same_id = refl; link = refl; sound = λ s. s; tidy = λ t. t }
-locked_stays block (T4 d) = record { same_id = refl; link = refl; sound = λ s. s; tidy = λ t. t }
-locked_stays block (Peer d) = record { same_id = refl; link = refl; sound = λ s. s; tidy = λ t. t }
-locked_stays block (T5 p) = record { same_id = refl; link = refl; sound = λ s. s; tidy = λ t. t }
+locked_stays block (T2 d) = record { same_id = refl; link = refl; kind = refl; talks = locked_talks block (T2 d); sound = λ s. s; tidy = λ t. t }
+locked_stays block (T4 d) = record { same_id = refl; link = refl; kind = refl; talks = locked_talks block (T4 d); sound = λ s. s; tidy = λ t. t }
+locked_stays block (Peer d) = record { same_id = refl; link = refl; kind = refl; talks = locked_talks block (Peer d); sound = λ s. s; tidy = λ t. t }
+locked_stays block (T5 p) = record { same_id = refl; link = refl; kind = refl; talks = locked_talks block (T5 p); sound = λ s. s; tidy = λ t. t }
 
 -- one that asks for more time, no more often and by no greater value than it may
 busy_stays : (count times : ℕ) (d : Device) → count ≤ most_busy → (1 ≤ times) × (times ≤ longest_extension) → StaysPlaced (device_busy count times) d
-busy_stays count times (T2 d) few long = record { same_id = refl; link = refl; sound = λ s. s; tidy = λ t. t }
+busy_stays count times (T2 d) few long = record { same_id = refl; link = refl; kind = refl; talks = busy_talks count times few long (T2 d); sound = λ s. s; tidy = λ t. t }
 busy_stays count times (T4 d) few long = record {
   same_id = refl;
   link = refl;
+  kind = refl;
+  talks = busy_talks count times few long (T4 d);
   sound = λ s. (s.0, s.1, s.2, s.3, s.4, record { made = refl; busy = few; times = long });
   tidy = λ t. t;
 }
 busy_stays count times (Peer d) few long = record {
   same_id = refl;
   link = refl;
+  kind = refl;
+  talks = busy_talks count times few long (Peer d);
   sound = λ s. (s.0, s.1, busy_made d.id d.upper count times few long s.2);
   tidy = λ t. t;
 }
-busy_stays count times (T5 p) few long = record { same_id = refl; link = refl; sound = λ s. s; tidy = λ t. t }
+busy_stays count times (T5 p) few long = record { same_id = refl; link = refl; kind = refl; talks = busy_talks count times few long (T5 p); sound = λ s. s; tidy = λ t. t }
 
 module _ (change : Device → Device) (d : Device) (stays : StaysPlaced change d) (behind : List Device) where
   -- far ends above it are shown as before
@@ -88,6 +97,10 @@ module _ (change : Device → Device) (d : Device) (stays : StaysPlaced change d
   as_long : (before : List Device) → length (before ++ d ∷ behind) ≡ length (before ++ change d ∷ behind)
   as_long [] = refl
   as_long (b ∷ before) = ap suc (as_long before)
+
+  same_kinds : (before : List Device) → map is_tag (before ++ change d ∷ behind) ≡ map is_tag (before ++ d ∷ behind)
+  same_kinds [] = ap (λ v. v ∷ map is_tag behind) stays.kind
+  same_kinds (b ∷ before) = ap (λ vs. is_tag b ∷ vs) (same_kinds before)
 
   all_apart : (k : Kept) (before : List Device) → AllByRecursion (IsApart k) (map kept (before ++ d ∷ behind)) → AllByRecursion (IsApart k) (map kept (before ++ change d ∷ behind))
   all_apart k [] h = ((λ e. h.0 (sym stays.same_id ∙ e)), h.1)
@@ -138,12 +151,12 @@ module _ (old : Air Device) (id : DeviceId) (place : ℕ) (idle : IsIdle old) (s
   of_device P holds = subst (OfPlaced P) has_id holds
 
   -- it was changed so by a command that is done
-  device_changed : (new : Air Device) (c : Command) (change : Device → Device) → StaysPlaced change s.device → ((os : Upon) → Accepts (state_at (beneath os old)) c)
+  device_changed : (new : Air Device) (c : Command) (change : Device → Device) → (TakesNumbers c → ⊥) → StaysPlaced change s.device → ((os : Upon) → Accepts (state_at (beneath os old)) c)
       → ((os : Upon) → changed (state_at (beneath os old)) c ≡ with_device_changed (state_at (beneath os old)) id change)
       → ((os : Upon) → IsAskedBy (state_at (beneath os old)) c []) → ((os : Upon) → due (state_at (beneath os old)) nothing c [] ≡ Over)
       → ((os : Upon) → AnswerLaw (state_at (beneath os old)) nothing c [] Done)
       → new ≡ record { lit = old.lit; listeners = slice_set old.listeners place (change s.device); fates = old.fates; trace = old.trace } → ObeyedBelow old new c Done
-  device_changed new c change stays accepted changes asks over answered is = λ ends peers link places.
+  device_changed new c change quiet stays accepted changes asks over answered is = λ ends peers link places keeps.
       let os : Upon = record { ends = ends; peers = peers; link = link } in
       let O : Air Device → Type 0 = λ a. Obeyed (beneath os old) (beneath os a) c Done in
       let F : List Device → Air Device = λ ls. record { lit = old.lit; listeners = ls; fates = old.fates; trace = old.trace } in
@@ -161,13 +174,20 @@ module _ (old : Air Device) (id : DeviceId) (place : ℕ) (idle : IsIdle old) (s
       (still_obeyed (beneath os old) (beneath os (F now)) c Done idle (accepted os)
       (ap (S now) fars ∙ ap (λ ls. S ls (shown device_linked peer_ends old.listeners os.ends)) (sym same) ∙ sym (changes os)) refl (asks os) (over os) (answered os)
       (all_tame change s.device stays s.behind s.before (subst (λ ls. AreTame (map kept ls)) s.split idle.tame))
-      (all_tidy change s.device stays s.behind s.before (subst AreTidy s.split idle.tidy)) (record { ends = places.ends ∙ as_many; numbers = places.numbers ∙ as_many }))
+      (all_tidy change s.device stays s.behind s.before (subst AreTidy s.split idle.tidy))
+      (record {
+        ends = places.ends ∙ as_many;
+        numbers = places.numbers ∙ as_many;
+        served = served_as old.listeners now os.peers.numbers os.ends (same_kinds change s.device stays s.behind s.before ∙ ap (map is_tag) (sym s.split)) places.served;
+        apart = places.apart;
+      })
+      (keeps_so (beneath os old) (beneath os (F now)) refl (λ l at o. open_changed old (F now) os.ends os.peers l change s.before s.device s.behind stays.talks s.split refl refl o) keeps) quiet)
 
   -- a block of it was locked
   pub block_locked : (new : Air Device) (block : ℕ) → block < blocks_of s.device
       → new ≡ record { lit = old.lit; listeners = slice_set old.listeners place (device_locked block s.device); fates = old.fates; trace = old.trace } → ObeyedBelow old new (Lock id block) Done
   block_locked new block within is =
-      device_changed new (Lock id block) (device_locked block) (locked_stays block s.device) (λ os. of_placed (λ d. block < blocks_of d) within) (λ os. refl) (λ os. refl) (λ os. refl) (λ os. refl) is
+      device_changed new (Lock id block) (device_locked block) (λ h. h) (locked_stays block s.device) (λ os. of_placed (λ d. block < blocks_of d) within) (λ os. refl) (λ os. refl) (λ os. refl) (λ os. refl) is
 
   -- it asks for more time from now on
   pub made_busy : (new : Air Device) (count times : ℕ) → may_be_busy s.device ≡ true → count ≤ most_busy → (1 ≤ times) × (times ≤ longest_extension)
@@ -175,11 +195,11 @@ module _ (old : Air Device) (id : DeviceId) (place : ℕ) (idle : IsIdle old) (s
   made_busy new count times may few long is =
       let accepted : (os : Upon) → MayBeBusy (state_at (beneath os old)) id count times =
       λ os. record { device = of_placed (λ d. may_be_busy d ≡ true) may; few = few; long = long } in
-      device_changed new (Busy id count times) (device_busy count times) (busy_stays count times s.device few long) accepted (λ os. refl) (λ os. refl) (λ os. refl) (λ os. refl) is
+      device_changed new (Busy id count times) (device_busy count times) (λ h. h) (busy_stays count times s.device few long) accepted (λ os. refl) (λ os. refl) (λ os. refl) (λ os. refl) is
 
   -- what it holds was told
   pub memory_told : is_tag s.device ≡ true → ObeyedBelow old old (Dump id) (Store (memory_in s.device))
-  memory_told tag = λ ends peers link places.
+  memory_told tag = λ ends peers link places keeps.
       let os : Upon = record { ends = ends; peers = peers; link = link } in
       still_obeyed (beneath os old) (beneath os old) (Dump id) (Store (memory_in s.device)) idle (of_placed (λ d. is_tag d ≡ true) tag) refl refl refl refl
-      (of_placed (λ d. Store (memory_in s.device) ≡ Store (memory_in d)) refl) idle.tame idle.tidy places
+      (of_placed (λ d. Store (memory_in s.device) ≡ Store (memory_in d)) refl) idle.tame idle.tidy places keeps (λ h. h)

@@ -26,6 +26,10 @@ use Rattle.bench_devices.specs.declared.polling.SeenKind.TheVariants as seen
 use Rattle.bench_devices.specs.CardAsking.{CardStanding, Activates, Exchanges, card_stands}
 use Rattle.bench_world.specs.Answering.{TellsFault, TagEnds, TagTells, TellsFound}
 use Rattle.bench_devices.specs.Answering.{TellsStanding, TellsExchange, TellsCard, TellsBy, InventoryEnds, FindEnds, FindTells}
+use Rattle.dep_link.specs.Activating.{atr_frame}
+use Rattle.bench_world.specs.Calls.{IfLinked, IsTold}
+use Rattle.bench_world.specs.Links.{OpenLink}
+use Rattle.bench_world.specs.Linking.{TellsLoss, LinkEnds, LinkTells}
 use Rattle.bench_world.proofs.OneForm.{one_telling}
 use Rattle.bench_world.proofs.WriteTelling.{one_written}
 
@@ -129,3 +133,34 @@ module _ (ds : List Device) where
       let ends : FindEnds TellsFound ds p.found p.behind events b =
       subst (λ ns. FindEnds TellsFound ds p.found ns events b) same.1 (subst (λ r. FindEnds TellsFound ds r q.behind events b) same.0 q.ends) in
       one_find_end p.found p.behind events a b p.ends ends
+
+-- An opening of a link has one answer.
+one_opened : (n : ℕ) (s : Standing) → AtMostOne (TellsStanding (λ answer. answer ≡ answers.Linked n) TellsLoss s)
+one_opened n (Asking bad []) a b p q = p ∙ sym q
+one_opened n (Asking bad (c ∷ cs)) a b p q = absurd p
+one_opened n (Broken asking.FieldLost cs) a b p q = p ∙ sym q
+one_opened n (Broken asking.SixBad cs) a b p q = p ∙ sym q
+one_opened n (Broken asking.Memory cs) a b p q = absurd p
+one_opened n (Broken asking.Protocol cs) a b p q = absurd p
+one_opened n Astray a b p q = absurd p
+
+one_link_end : (n : ℕ) (general : List ℕ) (r : Result SeenKind PollFault) (behind : List Note) → AtMostOne (LinkEnds n general r behind)
+one_link_end n general (Ok seen.Peer) behind a b p q = one_opened n (stand 0 (atr_frame general ∷ []) behind) a b p q
+one_link_end n general (Ok seen.T2) behind a b p q = p ∙ sym q
+one_link_end n general (Ok seen.T4) behind a b p q = p ∙ sym q
+one_link_end n general (Ok seen.T5) behind a b p q = p ∙ sym q
+one_link_end n general (Err e) behind a b p q = same_some a b (sym p ∙ q)
+
+pub one_link : (id : DeviceId) (ds : List Device) (n : ℕ) (general : List ℕ) (events : List Event) (a b : Answer) → LinkTells id ds n general events a → LinkTells id ds n general events b → a ≡ b
+one_link id ds n general events a b p q =
+    let same = one_end q.polled p.polled q.behind p.behind (sym q.selected ∙ p.selected) in
+    let ends : LinkEnds n general p.polled p.behind b = subst (λ ns. LinkEnds n general p.polled ns b) same.1 (subst (λ r. LinkEnds n general r q.behind b) same.0 q.ends) in
+    one_link_end n general p.polled p.behind a b p.ends ends
+
+-- So has a command on the open link, by where it stands.
+pub one_told_so : (told : Option Answer) (events : List Event) (a b : Answer) → IsTold told events a → IsTold told events b → a ≡ b
+one_told_so told events a b p q = same_some a b (sym p.tells ∙ q.tells)
+
+pub one_linked : (o : Option OpenLink) (P Q : OpenLink → Type 0) (a b : Answer) → ((l : OpenLink) → P l → Q l → a ≡ b) → IfLinked o P (a ≡ answers.NoLink) → IfLinked o Q (b ≡ answers.NoLink) → a ≡ b
+one_linked None P Q a b says p q = p ∙ sym q
+one_linked (Some l) P Q a b says p q = says l p q

@@ -24,6 +24,8 @@ use Rattle.bench_world.specs.Peers.{with_place_changed, placed_under, end_offere
 use Rattle.bench_world.specs.Inbox.{chosen, told_of, inbox_at}
 use Rattle.snep_core.specs.Server.{Received as Accepted, messages_of, sources_of}
 use Rattle.bench_world.specs.World.{FarEnd}
+use Rattle.bench_world.proofs.PlacesKept.{served_offered}
+use Rattle.bench_world.proofs.LinkKept.{keeps_so, open_offered}
 use Rattle.bench_world.proofs.Placed.{still_obeyed}
 use Rattle.bench_world.proofs.Removing.{is_other}
 
@@ -71,7 +73,13 @@ value_offered old new id key value place settled peer short s is =
     let as_long : length (now place) ≡ length old.ends = length-set old.ends place (option_map (end_offered key value) (get_or old.ends place None)) in
     subst O (sym is)
     (still_obeyed old (with_end old place (option_map (end_offered key value) (get_or old.ends place None))) (Offer id key value) Done settled.idle (record { peer = peer; short = short }) (ap S fars)
-    refl refl refl refl settled.idle.tame settled.idle.tidy (record { ends = as_long ∙ settled.places.ends; numbers = settled.places.numbers }))
+    refl refl refl refl settled.idle.tame settled.idle.tidy (record {
+      ends = as_long ∙ settled.places.ends;
+      numbers = settled.places.numbers;
+      served = served_offered key value old.air.listeners old.peers.numbers old.ends place settled.places.served;
+      apart = settled.places.apart;
+    })
+    (keeps_so old (with_end old place (option_map (end_offered key value) (get_or old.ends place None))) refl (λ l at o. open_offered old.air old.ends old.peers l key value place o) settled.link) (λ h. h))
 
 -- What stands at the place of the device with an identifier.
 pub under_at : {X : Type 0} (before : List Device) (d : Device) (behind : List Device) (id : List ℕ) (xs : List (Option X)) → device_id d ≡ id → AreSound (map kept (before ++ d ∷ behind))
@@ -123,7 +131,7 @@ inbox_told old new id place messages settled peer s same is =
     ∙ inbox_by_link links number (device_linked s.device) (get_or old.ends (length s.before) None)
     ∙ ap (λ n. inbox_at links (get_or old.peers.numbers n None) (get_or old.ends n None)) s.at ∙ sym is in
     let O : Machines → Type 0 = λ m. Obeyed old m (Inbox id) (answers.Inbox messages) in
-    subst O (sym same) (still_obeyed old old (Inbox id) (answers.Inbox messages) settled.idle peer refl refl refl refl (ap answers.Inbox (sym told)) settled.idle.tame settled.idle.tidy settled.places)
+    subst O (sym same) (still_obeyed old old (Inbox id) (answers.Inbox messages) settled.idle peer refl refl refl refl (ap answers.Inbox (sym told)) settled.idle.tame settled.idle.tidy settled.places settled.link (λ h. h))
 
 -- where no link has begun, all of it came on none
 all_chosen : (n : ℕ) (ms : List Accepted) → chosen (λ i. true) n ms ≡ ms

@@ -35,6 +35,7 @@ use Rattle.bench_world.specs.Reading.{TellsOf}
 use Rattle.bench_world.specs.Writing.{TellsWrite}
 use Rattle.bench_script.specs.Messages.{message_of}
 use Rattle.bench_script.specs.declared.message.Msg.{Msg}
+use Rattle.bench_world.specs.Journal.{TakesNumbers}
 use Rattle.bench_world.proofs.Complete.{reads_complete, writes_complete, finds_complete}
 use Rattle.bench_world.proofs.OneAnswer.{one_end}
 use Rattle.bench_world.proofs.Fronts.{on_field}
@@ -133,16 +134,16 @@ quiet_of s t g e c step is same pass =
     (quiet_stays s t g e step (subst (λ q. AllPass q) (sym there) pass)).0
 
 -- its first round isn't disturbed, where it begins with a reset
-round_of : (s t : State) (g : Given) (e : Entry) (c : Command) → LegalStep s g e t → e.command ≡ c → (changed s c).world.field ≡ s.world.field → due s g c [] ≡ LightUp → noise e.events ≡ 0 → AreDisturbed (rounds e.events) → ⊥
-round_of s t g e c step is same lit none =
+round_of : (s t : State) (g : Given) (e : Entry) (c : Command) → LegalStep s g e t → e.command ≡ c → (changed s c).world.field ≡ s.world.field → (TakesNumbers c → ⊥) → due s g c [] ≡ LightUp → noise e.events ≡ 0 → AreDisturbed (rounds e.events) → ⊥
+round_of s t g e c step is same quiet lit none =
     let there : (changed s e.command).world.field ≡ s.world.field = ap (λ k. (changed s k).world.field) is ∙ same in
-    first_round s.world.field (due s g c) e.events (subst (λ (w : BenchWorld). AreTurns air w e.events) there (on_field s t g e.command e.events step.front).turns) (subst (λ k. EachDue (due s g k) [] e.events) is step.front.each) lit
+    first_round s.world.field (due s g c) e.events (subst (λ (w : BenchWorld). AreTurns air w e.events) there (on_field s t g e.command e.events (λ h. quiet (subst TakesNumbers is h)) step.front).turns) (subst (λ k. EachDue (due s g k) [] e.events) is step.front.each) lit
     (ap (λ k. due s g k (receptions e.events)) (sym is) ∙ step.over) none
 
 pub quiet_finds : QuietFinds
 quiet_finds s t g e step is pass =
     let none : noise e.events ≡ 0 = quiet_of s t g e Find step is refl pass in
-    finds_complete s t g e step is (no_breaks e.events none) (round_of s t g e Find step is refl refl none) (few_noisy (noisy_tries inventory_all e.events) (no_noisy _ e.events none))
+    finds_complete s t g e step is (no_breaks e.events none) (round_of s t g e Find step is refl (λ h. h) refl none) (few_noisy (noisy_tries inventory_all e.events) (no_noisy _ e.events none))
 
 -- six bad receptions of a wait are what the command tells
 told_six : (Tells : Answer → Type 0) (kind : SeenKind) (asked : List Signal) (ns : List Note) (answer : Answer) → TellsBy kind Tells TellsFault asked ns answer → HadSixBad kind asked ns → answer ≡ SixBad
@@ -161,11 +162,11 @@ no_six Tells id ds asked es answer t none kind behind told six =
 
 -- a command that asks a tag begins with a reset, and its first round isn't disturbed
 once_read : (s t : State) (g : Given) (e : Entry) (id : DeviceId) → LegalStep s g e t → e.command ≡ Read id → noise e.events ≡ 0 → IsQuietOnce id e.events
-once_read s t g e (A id) step is none = round_of s t g e (Read (A id)) step is refl refl none
+once_read s t g e (A id) step is none = round_of s t g e (Read (A id)) step is refl (λ h. h) refl none
 once_read s t g e (V id) step is none = few_noisy (noisy_tries (inventory_of id) e.events) (no_noisy _ e.events none)
 
 once_written : (s t : State) (g : Given) (e : Entry) (id : DeviceId) (m : Msg) → LegalStep s g e t → e.command ≡ Write id m → noise e.events ≡ 0 → IsQuietOnce id e.events
-once_written s t g e (A id) m step is none = round_of s t g e (Write (A id) m) step is refl refl none
+once_written s t g e (A id) m step is none = round_of s t g e (Write (A id) m) step is refl (λ h. h) refl none
 once_written s t g e (V id) m step is none = few_noisy (noisy_tries (inventory_of id) e.events) (no_noisy _ e.events none)
 
 -- so nothing keeps it from its answer

@@ -9,7 +9,7 @@ use Rattle.nfc_base.specs.declared.event.Fate.{Fate}
 use Rattle.nfc_base.specs.declared.event.Fate.TheVariants.{Pass, Damage, Lose, Break}
 use Rattle.air_core.specs.Conversation.{note, AreTurns, FatesFrom, EachDue, Moment, receptions}
 use Rattle.bench_script.specs.declared.command.Command.{Command}
-use Rattle.bench_script.specs.declared.command.Command.TheVariants.{Skip, Fates, PlaceT2, PlaceT4, PlaceT5, PlacePeer, Lock, Busy, Offer, Remove, Dump, Inbox, Find, Read, Write}
+use Rattle.bench_script.specs.declared.command.Command.TheVariants.{Skip, Fates, PlaceT2, PlaceT4, PlaceT5, PlacePeer, Lock, Busy, Offer, Remove, Dump, Inbox, Find, Read, Write, Link, Put, Get, Lookup, Unlink}
 use Rattle.bench_script.specs.declared.command.DeviceId.{DeviceId}
 use Rattle.bench_script.specs.declared.command.DeviceId.TheVariants.{A, V}
 use Rattle.bench_script.specs.declared.message.Msg.{Msg}
@@ -32,7 +32,7 @@ use Rattle.bench_devices.proofs.ReadHeeded.{asked_heeded}
 use Rattle.bench_devices.proofs.SelectedHeard.{Heed, IsId, tag_hears}
 use Rattle.bench_devices.proofs.WriteHeeded.{write_heeded}
 use Rattle.bench_world.specs.declared.entry.Entry.{Entry}
-use Rattle.bench_world.specs.Journal.{asking_lines}
+use Rattle.bench_world.specs.Journal.{asking_lines, TakesNumbers}
 use Rattle.bench_world.specs.Legal.{State, Given, LegalStep, IsAskedBy, changed, due, first_state}
 use Rattle.bench_world.specs.Quiet.{AllPass}
 use Rattle.bench_world.specs.QuietHearing.{AllAlong, tag_of, AnswersAll, IsWellHeard, IsHeardIfQuiet, IsQuietLine, IsQuietEntry, QuietHears, QuietScript}
@@ -96,22 +96,22 @@ spelled_id s r asked word (V id) sp = sp.1
 
 module _ (s t : State) (g : Given) (line : List ℕ) (e : Entry) (r : IsReady s.world.field.listeners) (sp : Spells line e.command) (step : LegalStep s g e t) (pass : AllPass (changed s e.command).queue) where
   -- a command that itself changes nothing, selects a tag and asks it what it heeds
-  tag_answered : (id : DeviceId) → (changed s e.command).queue ≡ s.queue → (changed s e.command).world.field ≡ s.world.field → due s g e.command ≡ tag_due id g.asked → IsId g.asked (start s) r.tame r.tidy id → Heed g.asked (start s) r.tame r.tidy id → AnswersAll id e
-  tag_answered id queue same next named heeds kind since told =
-      tag_hears g.asked (start s) r.tame r.tidy id named heeds e.events (subst (λ q. AllPass q) queue pass) (subst (λ (w : BenchWorld). AreTurns air w e.events) same (on_field s t g e.command e.events step.front).turns)
+  tag_answered : (id : DeviceId) → (TakesNumbers e.command → ⊥) → (changed s e.command).queue ≡ s.queue → (changed s e.command).world.field ≡ s.world.field → due s g e.command ≡ tag_due id g.asked → IsId g.asked (start s) r.tame r.tidy id → Heed g.asked (start s) r.tame r.tidy id → AnswersAll id e
+  tag_answered id quiet queue same next named heeds kind since told =
+      tag_hears g.asked (start s) r.tame r.tidy id named heeds e.events (subst (λ q. AllPass q) queue pass) (subst (λ (w : BenchWorld). AreTurns air w e.events) same (on_field s t g e.command e.events quiet step.front).turns)
       (subst (λ q. FatesFrom q e.events) queue step.front.fates) (subst (λ d. EachDue d [] e.events) next step.front.each) kind since told
 
   read_answered : (id : DeviceId) → e.command ≡ Read id → AnswersAll id e
   read_answered id is =
       let spelled : Spells line (Read id) = let C : Command → Type 0 = λ c. Spells line c in subst C is sp in
-      tag_answered id (ap (λ c. (changed s c).queue) is) (ap (λ c. (changed s c).world.field) is) (ap (λ c. due s g c) is) (spelled_id s r g.asked spelled.0 id spelled.2)
+      tag_answered id (λ h. subst TakesNumbers is h) (ap (λ c. (changed s c).queue) is) (ap (λ c. (changed s c).world.field) is) (ap (λ c. due s g c) is) (spelled_id s r g.asked spelled.0 id spelled.2)
       (heed s r id g.asked (λ d. ReadAsks d g.asked)
       (λ d sound bytes asks. either_if (seen_of d) _ _ _ (λ p. asked_heeded ToRead d g.asked sound bytes p) (λ none. subst (AllByRecursion (IsHeeded (how_of d))) (sym none) tt) asks) (subst (λ c. IsAskedBy s c g.asked) is step.front.asks))
 
   write_answered : (id : DeviceId) (m : Msg) → e.command ≡ Write id m → AnswersAll id e
   write_answered id m is =
       let spelled : Spells line (Write id m) = let C : Command → Type 0 = λ c. Spells line c in subst C is sp in
-      tag_answered id (ap (λ c. (changed s c).queue) is) (ap (λ c. (changed s c).world.field) is) (ap (λ c. due s g c) is) (spelled_id s r g.asked spelled.0 id spelled.3)
+      tag_answered id (λ h. subst TakesNumbers is h) (ap (λ c. (changed s c).queue) is) (ap (λ c. (changed s c).world.field) is) (ap (λ c. due s g c) is) (spelled_id s r g.asked spelled.0 id spelled.3)
       (heed s r id g.asked (λ d. WriteAsks (message_of m) d g.asked)
       (λ d sound bytes asks. writes_heeded (message_of m) d (tag_or_peer d) g.asked sound bytes (message_bytes spelled.1 m spelled.4) asks)
       (subst (λ c. IsAskedBy s c g.asked) is step.front.asks))
@@ -130,6 +130,11 @@ module _ (s t : State) (g : Given) (line : List ℕ) (e : Entry) (r : IsReady s.
   by_command (Dump i) is id of = absurd cc
   by_command (Inbox i) is id of = absurd cc
   by_command Find is id of = absurd cc
+  by_command (Link i miu window) is id of = absurd cc
+  by_command (Put m) is id of = absurd cc
+  by_command (Get most key) is id of = absurd cc
+  by_command (Lookup name) is id of = absurd cc
+  by_command Unlink is id of = absurd cc
   by_command (Read i) is id of = let same : i ≡ id = cc in read_answered id (is ∙ ap Read same)
   by_command (Write i m) is id of = let same : i ≡ id = cc in write_answered id m (is ∙ ap (λ x. Write x m) same)
 
@@ -175,6 +180,11 @@ passes_still s line (Inbox id) h q sp = h
 passes_still s line Find h q sp = h
 passes_still s line (Read id) h q sp = h
 passes_still s line (Write id m) h q sp = h
+passes_still s line (Link id miu window) h q sp = h
+passes_still s line (Put m) h q sp = h
+passes_still s line (Get most key) h q sp = h
+passes_still s line (Lookup name) h q sp = h
+passes_still s line Unlink h q sp = h
 
 quiet_entry : (s t : State) (g : Given) (line : List ℕ) (e : Entry) → IsCalm s → IsQuietLine line → Spells line e.command → LegalStep s g e t → IsQuietEntry s e × IsCalm t
 quiet_entry s t g line e calm q sp step =

@@ -11,7 +11,7 @@ use Rattle.isodep_link.specs.Reader.{longest_extension}
 use Rattle.isodep_link.proofs.Heeding.{AreBytes, no_bytes}
 use Rattle.t4t_tag.specs.Store.{file_size}
 use Rattle.bench_script.specs.declared.command.Command.{Command}
-use Rattle.bench_script.specs.declared.command.Command.TheVariants.{Skip, Fates, PlaceT2, PlaceT4, PlaceT5, PlacePeer, Lock, Busy, Offer, Remove, Dump, Inbox, Find, Read, Write}
+use Rattle.bench_script.specs.declared.command.Command.TheVariants.{Skip, Fates, PlaceT2, PlaceT4, PlaceT5, PlacePeer, Lock, Busy, Offer, Remove, Dump, Inbox, Find, Read, Write, Link, Put, Get, Lookup, Unlink}
 use Rattle.bench_script.specs.declared.message.Msg.{Msg}
 use Rattle.bench_script.specs.declared.message.Msg.TheVariants.{Hex, Gen}
 use Rattle.bench_script.specs.DeviceIds.{bytes_of}
@@ -29,9 +29,10 @@ use Rattle.bench_devices.proofs.PeerMade.{busy_made}
 use Rattle.bench_devices.proofs.Tidy.{events_tidy}
 use Rattle.bench_world.specs.declared.entry.Entry.{Entry}
 use Rattle.bench_world.specs.Journal.{NumberedLine, AreEntriesOf, asking_lines}
-use Rattle.bench_world.specs.Legal.{State, Given, Accepts, IsFree, LegalStep, EachLegal, changed, first_state, memory_of}
+use Rattle.bench_world.specs.Legal.{State, Given, Accepts, IsFree, LegalStep, EachLegal, changed, begun, first_state, memory_of}
 use Rattle.bench_world.specs.QuietHearing.{AllAlong}
-use Rattle.bench_world.proofs.Fronts.{on_field}
+use Rattle.bench_world.specs.World.{WholeWorld, bench_air}
+use Rattle.bench_world.proofs.FarStays.{StayAll, far_stay}
 use Rattle.bench_world.proofs.Placed.{apart_all}
 use Rattle.bench_world.proofs.Placing.{map-over, tame_more, tidy_more, none_named}
 
@@ -234,15 +235,21 @@ ready_changed s line (Inbox id) sp is r = r
 ready_changed s line Find sp is r = r
 ready_changed s line (Read id) sp is r = r
 ready_changed s line (Write id m) sp is r = r
+ready_changed s line (Link id miu window) sp is r = r
+ready_changed s line (Put m) sp is r = r
+ready_changed s line (Get most key) sp is r = r
+ready_changed s line (Lookup name) sp is r = r
+ready_changed s line Unlink sp is r = r
 
 -- So does a step.
 pub ready_step : (s t : State) (g : Given) (line : List ℕ) (e : Entry) → Spells line e.command → LegalStep s g e t → IsReady s.world.field.listeners → IsReady t.world.field.listeners
 ready_step s t g line e sp step r =
-    let w : BenchWorld = (changed s e.command).world.field in
-    let here : IsReady w.listeners = ready_changed s line e.command sp step.front.accepted r in
-    let there : IsReady (replay air w e.events).listeners =
-    ready_too w.listeners (replay air w e.events).listeners (all_stayed w.listeners (replay air w e.events).listeners (devices_stay w e.events)) (events_tidy e.events w here.tidy) here in
-    subst (λ (x : BenchWorld). IsReady x.listeners) (sym (on_field s t g e.command e.events step.front).field) there
+    let w : WholeWorld = begun s g.joins e.command in
+    let here : IsReady w.field.listeners = ready_changed s line e.command sp step.front.accepted r in
+    let now : List Device = (replay bench_air w e.events).field.listeners in
+    let stays : StayAll w.field.listeners now = far_stay e.events w in
+    let there : IsReady now = ready_too w.field.listeners now (all_stayed w.field.listeners now stays.stay) (stays.tidy here.tidy) here in
+    subst (λ (x : State). IsReady x.world.field.listeners) (sym step.front.after) there
 
 -- What holds at first, and is kept by each step of a line that is so, holds all along a journal.
 pub along : (I : State → Type 0) (L : List ℕ → Type 0) (P : State → Entry → Type 0)

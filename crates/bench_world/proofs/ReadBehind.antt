@@ -130,7 +130,7 @@ module _ (id : DeviceId) (tag : Device) (m : Msg) (answer : Answer) (message : L
   on_air =
       let front : FrontOf r.before r.write_given (Write id m) r.write.events (Some r.write.answer) r.written =
       subst (λ c. FrontOf r.before r.write_given c r.write.events (Some r.write.answer) r.written) r.writing r.writes.front in
-      field_after r.before r.written r.write_given (Write id m) r.write.events front
+      field_after r.before r.written r.write_given (Write id m) r.write.events (λ h. h) front
 
   behind : (e : Device) × (device_with (bytes_of id) (replay air r.before.world.field r.write.events).listeners ≡ Some e) × (fixed e ≡ fixed tag)
   behind =

@@ -12,7 +12,8 @@ use Rattle.bench_devices.specs.Choosing.{StandsAt}
 use Rattle.bench_devices.specs.Device.{device_id}
 use Rattle.bench_world.specs.Legal.{State, IsPlaced, changed, without_device}
 use Rattle.bench_devices.specs.Placed.{without}
-use Rattle.bench_world.specs.Obeying.{Machines, state_at, IsSettled, Obeyed, taken_out}
+use Rattle.bench_world.specs.Obeying.{Machines, state_at, IsSettled, KeepsLink, Obeyed, taken_out}
+use Rattle.bench_world.specs.Opened.{AreServed}
 use Rattle.bench_world.specs.World.{FarEnd}
 use Rattle.bench_world.specs.Peers.{without_place}
 use Rattle.far_air.specs.FarEnds.{by_link}
@@ -23,6 +24,7 @@ use Rattle.bench_devices.specs.Phases.{IsIdle}
 use Rattle.bench_devices.specs.Keeping.{Kept, kept, IsApart, AreSound, AreTame}
 use Rattle.bench_devices.specs.Phases.{AreTidy}
 use Rattle.bench_script.specs.DeviceIds.{bytes_of}
+use Rattle.bench_world.proofs.PlacesKept.{served_less, numbered_less}
 use Rattle.bench_world.proofs.Placed.{still_obeyed}
 
 -- the item behind some others is removed
@@ -103,8 +105,9 @@ shorter (b ∷ before) d behind (o ∷ os) e = let more : length os ≡ length (
 
 -- A device was taken away, once no link to it was open.
 pub removed : (first old new : Machines) (id : DeviceId) (place : ℕ) → IsIdle first.air → IsSettled old → old.air ≡ first.air → IsPlaced (state_at first) id
-    → without_device (state_at old) id ≡ changed (state_at first) (Remove id) → StandsAt (bytes_of id) old.air.listeners place → new ≡ taken_out old place → Obeyed first new (Remove id) Done
-removed first old new id place quiet settled beside placed changes s is =
+    → without_device (state_at old) id ≡ changed (state_at first) (Remove id) → StandsAt (bytes_of id) old.air.listeners place → KeepsLink (taken_out old place)
+    → new ≡ taken_out old place → Obeyed first new (Remove id) Done
+removed first old new id place quiet settled beside placed changes s keeps is =
     let T : List Device → Type 0 = λ ls. AreTame (map kept ls) in
     let O : Machines → Type 0 = λ m. Obeyed first m (Remove id) Done in
     let idle : IsIdle old.air = settled.idle in
@@ -136,8 +139,18 @@ removed first old new id place quiet settled beside placed changes s is =
     } in
     let gone : List (Option FarEnd) = without_place (bytes_of id) old.air.listeners (shown device_linked peer_ends old.air.listeners old.ends) in
     let left_numbers : List (Option ℕ) = without_place (bytes_of id) old.air.listeners old.peers.numbers in
-    subst O (sym (is ∙ ap (λ ls. M ls place) left ∙ ap (M (s.before ++ s.behind)) (sym s.at)))
+    let out : taken_out old place ≡ M (s.before ++ s.behind) (length s.before) = ap (λ ls. M ls place) left ∙ ap (M (s.before ++ s.behind)) (sym s.at) in
+    let served : AreServed all old.peers.numbers old.ends = subst (λ ls. AreServed ls old.peers.numbers old.ends) s.split settled.places.served in
+    subst O (sym (is ∙ out))
     (still_obeyed first (M (s.before ++ s.behind) (length s.before)) (Remove id) Done quiet placed
     (ap (λ os. S (s.before ++ s.behind) os (remove old.peers.numbers (length s.before))) fars ∙ ap (S (s.before ++ s.behind) gone) numbers ∙ ap (λ ls. S ls gone left_numbers) (sym same) ∙ changes)
     (ap (λ (a : Air Device). a.trace) beside) refl refl refl (tame_without s.before s.device s.behind tame)
-    (tidy_without s.before s.device s.behind (subst AreTidy s.split idle.tidy)) (record { ends = shorter s.before s.device s.behind old.ends long; numbers = shorter s.before s.device s.behind old.peers.numbers many }))
+    (tidy_without s.before s.device s.behind (subst AreTidy s.split idle.tidy))
+    (record {
+      ends = shorter s.before s.device s.behind old.ends long;
+      numbers = shorter s.before s.device s.behind old.peers.numbers many;
+      served = subst (λ ls. AreServed ls (remove old.peers.numbers (length s.before)) ends) (remove_behind s.before s.device s.behind)
+          (served_less all old.peers.numbers old.ends (length s.before) many long served);
+      apart = numbered_less old.peers.placed old.peers.numbers (length s.before) settled.places.apart;
+    })
+    (subst KeepsLink out keeps) (λ h. h))

@@ -8,7 +8,7 @@ use Rattle.air_core.specs.Conversation.{replay}
 use Rattle.bench_devices.specs.declared.polling.SeenKind.{SeenKind}
 use Rattle.bench_devices.specs.declared.polling.SeenKind.TheVariants as seen
 use Rattle.bench_script.specs.declared.command.Command.{Command}
-use Rattle.bench_script.specs.declared.command.Command.TheVariants.{Skip, Fates, PlaceT2, PlaceT4, PlaceT5, PlacePeer, Lock, Busy, Offer, Remove, Dump, Inbox, Find, Read, Write}
+use Rattle.bench_script.specs.declared.command.Command.TheVariants.{Skip, Fates, PlaceT2, PlaceT4, PlaceT5, PlacePeer, Lock, Busy, Offer, Remove, Dump, Inbox, Find, Read, Write, Link, Put, Get, Lookup, Unlink}
 use Rattle.bench_script.specs.DeviceIds.{bytes_of}
 use Rattle.bench_script.specs.Script.{Spells, is_skipped}
 use Rattle.bench_script.proofs.Spelling.{spells_one}
@@ -21,8 +21,9 @@ use Rattle.bench_devices.proofs.EveryFrame.{devices_stay}
 use Rattle.bench_world.specs.declared.entry.Answer.{Answer}
 use Rattle.bench_world.specs.declared.entry.Entry.{Entry}
 use Rattle.bench_world.specs.Journal.{AreEntriesOf, asking_lines, LeadsTo}
-use Rattle.bench_world.specs.Legal.{State, Given, Joins, Accepts, IsFree, FrontOf, LegalStep, EachLegal, changed, first_state}
-use Rattle.bench_world.proofs.Fronts.{on_field}
+use Rattle.bench_world.specs.Legal.{State, Given, Joins, Accepts, IsFree, FrontOf, LegalStep, EachLegal, changed, begun, first_state}
+use Rattle.bench_world.specs.World.{WholeWorld, bench_air}
+use Rattle.bench_world.proofs.FarStays.{far_stay}
 use Rattle.bench_world.specs.Taking.{IsTaken, AreSpelled, AreAccepted, AreTaken, LinesDecide, standing_from, standing_of}
 
 -- what the conditions ask of a device
@@ -76,10 +77,6 @@ stay_alike (d ∷ ds) (e ∷ es) p =
     let same : shape e ≡ shape d =
     shape_is e ∙ ap (λ x. shape_by x (length (device_store e))) p.0.fixed ∙ ap (shape_by (fixed d)) p.0.long ∙ sym (shape_is d) in
     ap (λ x. x ∷ map shape es) same ∙ ap (λ xs. shape d ∷ xs) (stay_alike ds es p.1)
-
--- no event changes any of it
-pub events_alike : (w : BenchWorld) (es : List Event) → map shape (replay air w es).listeners ≡ map shape w.listeners
-events_alike w es = stay_alike w.listeners (replay air w es).listeners (devices_stay w es)
 
 -- The device with an identifier, by its shape.
 shape_if : Option Device → Option Shape
@@ -152,6 +149,11 @@ accepts_too s t (Inbox id) alike is =
 accepts_too s t Find alike is = tt
 accepts_too s t (Read id) alike is = tt
 accepts_too s t (Write id m) alike is = tt
+accepts_too s t (Link id miu window) alike is = is
+accepts_too s t (Put m) alike is = is
+accepts_too s t (Get most key) alike is = is
+accepts_too s t (Lookup name) alike is = is
+accepts_too s t Unlink alike is = tt
 
 pub taken_too : (s t : State) (line : List ℕ) → AreAlike s t → IsTaken s line → IsTaken t line
 taken_too s t line alike is = (is.0, is.1, accepts_too s t is.0 alike is.2)
@@ -213,11 +215,17 @@ changes_alike s t (Inbox id) alike = alike
 changes_alike s t Find alike = alike
 changes_alike s t (Read id) alike = alike
 changes_alike s t (Write id m) alike = alike
+changes_alike s t (Link id miu window) alike = alike
+changes_alike s t (Put m) alike = alike
+changes_alike s t (Get most key) alike = alike
+changes_alike s t (Lookup name) alike = alike
+changes_alike s t Unlink alike = alike
 
 -- a step leads on alike, whatever was sent in it
 step_alike : {told : Option Answer} (u s t : State) (g : Given) (c : Command) (es : List Event) → AreAlike u s → FrontOf s g c es told t → AreAlike (changed u c) t
 step_alike u s t g c es alike front =
-    changes_alike u s c alike ∙ sym (events_alike (changed s c).world.field es) ∙ sym (ap (λ (w : BenchWorld). map shape w.listeners) (on_field s t g c es front).field)
+    let w : WholeWorld = begun s g.joins c in
+    changes_alike u s c alike ∙ sym (stay_alike w.field.listeners (replay bench_air w es).field.listeners (far_stay es w).stay) ∙ sym (ap (λ (x : State). map shape x.world.field.listeners) front.after)
 
 -- The lines of a legal journal are taken, and lead on alike.
 record LeadsAlike (lines : List (List ℕ)) (u t : State) : Type 0 where

@@ -23,7 +23,9 @@ use Rattle.bench_world.specs.World.{FarEnd}
 use Rattle.bench_world.specs.Peers.{Peers, placed_under}
 use Rattle.bench_world.specs.Links.{OpenLink, accepted_by, end_numbered, is_number, ended, with_last_ended, last_ended, is_with}
 use Rattle.bench_world.specs.Legal.{State, Given, Joins, IsPlaced, AnswerLaw, FrontOf, CutFront, CutStores, changed, due, unlinked, is_linked_to, without_device}
-use Rattle.bench_world.specs.Obeying.{Machines, state_at, under, HasPlaces, IsSettled, Obeyed, IsCutOff, ObeyedUnlinked, CutOffUnlinked, link_ended, taken_out}
+use Rattle.bench_world.specs.Obeying.{Machines, state_at, under, HasPlaces, IsSettled, KeepsLink, Obeyed, IsCutOff, ObeyedUnlinked, CutOffUnlinked, link_ended, taken_out}
+use Rattle.std.proofs.lemmas.List.{length-append}
+use Rattle.bench_world.proofs.LinkKept.{keeps_so, open_less}
 use Rattle.bench_world.proofs.Peering.{under_at, any_other}
 use Rattle.bench_world.proofs.Removing.{removed}
 
@@ -55,15 +57,15 @@ unlinked_state m places =
     let S : Peers → State = λ p. record { world = (state_at m).world; queue = (state_at m).queue; peers = p; link = None } in
     ap S (ended_shown m.link m.peers m.air.listeners m.ends places.numbers)
 
-same_numbers : (o : Option OpenLink) (p : Peers) (os : List (Option FarEnd)) → (ended o os p).numbers ≡ p.numbers
-same_numbers None p os = refl
-same_numbers (Some l) p os = refl
-
 pub places_ended : (m : Machines) → HasPlaces m → HasPlaces (link_ended m)
-places_ended m places = record { ends = places.ends; numbers = ap length (same_numbers m.link m.peers m.ends) ∙ places.numbers }
+places_ended m places = by_link m.link
+  where
+    by_link : (o : Option OpenLink) → HasPlaces (record { air = m.air; ends = m.ends; peers = ended o m.ends m.peers; link = None })
+    by_link None = record { ends = places.ends; numbers = places.numbers; served = places.served; apart = places.apart }
+    by_link (Some l) = record { ends = places.ends; numbers = places.numbers; served = places.served; apart = places.apart }
 
 pub settled_ended : (m : Machines) → IsSettled m → IsSettled (link_ended m)
-settled_ended m settled = record { idle = settled.idle; places = places_ended m settled.places }
+settled_ended m settled = record { idle = settled.idle; places = places_ended m settled.places; link = tt }
 
 -- What a command that begins with a reset does is the same, whether the link ends in it or before it.
 pub record IsReset (c : Command) : Type 0 where
@@ -117,6 +119,7 @@ module _ (c : Command) (r : IsReset c) (old : Machines) (settled : IsSettled old
         tame = o.tame;
         tidy = o.tidy;
         places = o.places;
+        link = o.link;
       }
 
   pub reset_obeyed : (m : Machines) (answer : Answer) → m ≡ link_ended old → ObeyedUnlinked m.air b c answer → Obeyed old (upon m b) c answer
@@ -165,8 +168,16 @@ module _ (old new : Machines) (id : DeviceId) (place : ℕ) (settled : IsSettled
   by_link_there : (v : Bool) → is_with old.link (get_or old.peers.numbers place None) ≡ v → new ≡ taken_out (if v then link_ended old else old) place → Obeyed old new (Remove id) Done
   by_link_there true linked is =
       removed old (link_ended old) new id place settled.idle (settled_ended old settled) refl placed
-      (ap (λ x. without_device x id) (unlinked_state old settled.places) ∙ ap without_by (sym (linked_there ∙ linked))) s is
-  by_link_there false apart is = removed old old new id place settled.idle settled refl placed (ap without_by (sym (linked_there ∙ apart))) s is
+      (ap (λ x. without_device x id) (unlinked_state old settled.places) ∙ ap without_by (sym (linked_there ∙ linked))) s tt is
+  by_link_there false apart is =
+      let few : place < length old.air.listeners = omega (arith, s.at, ap length s.split, length-append s.before (s.device ∷ s.behind)) in
+      let numbers : place < length old.peers.numbers = omega (arith, few, settled.places.numbers) in
+      let ends : place < length old.ends = omega (arith, few, settled.places.ends) in
+      let other : (l : OpenLink) → old.link ≡ Some l → is_number l.peer (get_or old.peers.numbers place None) ≡ false = λ l at. sym (ap (λ o. is_with o (get_or old.peers.numbers place None)) at) ∙ apart in
+      let keeps : KeepsLink (taken_out old place) =
+      keeps_so old (taken_out old place) refl
+      (λ l at o. open_less old.air (taken_out old place).air old.ends old.peers (taken_out old place).peers l place (other l at) numbers ends refl refl refl o) settled.link in
+      removed old old new id place settled.idle settled refl placed (ap without_by (sym (linked_there ∙ apart))) s keeps is
 
   pub taken_away : new ≡ taken_out (ended_to old place) place → Obeyed old new (Remove id) Done
   taken_away is = by_link_there (is_with old.link (get_or old.peers.numbers place None)) refl is

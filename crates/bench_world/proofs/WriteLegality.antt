@@ -125,11 +125,11 @@ missed_write old new id m e answer idle s is = λ ends peers places.
     let g : Going air (λ ns. asks (selecting id ns)) (moment old) (moment new) s.asked.notes = s.asked.going in
     let going : Going air (tag_due id some.0) (moment old) (moment new) s.asked.notes = polled_of id some.0 (moment old) (moment new) s.asked.notes g in
     let sound : IsSoundOne (bytes_of id) old.listeners = sound_one old id idle in
-    let none : NoneHands devices (moment old).world g.events = none_in os old new (Write id m) some.0 s.asked.notes going some.1 in
+    let none : NoneHands devices (moment old).world g.events = none_in (Write id m) (λ h. h) os old new some.0 s.asked.notes going some.1 in
     let stores : StoresLaw (above os old) no_joins id m (ending_told answer) g.events =
     subst (λ x. StoresLaw (above os old) no_joins id m x g.events) (poll_stopped e answer is)
     (stores_above os old id m Stopped g.events none (polled_stores id (message_of m) (moment old) (moment new) s.asked.notes g s.asked.same sound)) in
-    asks_obeyed (StoreOf (bytes_of id)) os old new (Write id m) some.0 s.asked.notes answer idle places tt refl going (ap (then_asks some.0) s.told) some.1
+    asks_obeyed (StoreOf (bytes_of id)) (Write id m) (λ h. h) os old new some.0 s.asked.notes answer idle places tt tt refl going (ap (then_asks some.0) s.told) some.1
     (record { tells = missed_tells (TellsWrite (message_of m)) id some.0 (moment old) (moment new) e answer s is; stores = stores })
     (leaves_more (StoreOf (bytes_of id)) (moment old).world (moment new).world g.events sound s.asked.same)
 
@@ -192,11 +192,11 @@ module _ (old mid : Air Device) (id : DeviceId) (m : Msg) (place : ℕ) (idle : 
       tells_behind (StoreOf (device_id s.device)) (AsksWriteOf (message_of m) s.device) (ShowsWrite (message_of m) s.device) FailsWrite (TellsWrite (message_of m)) old mid new id place r answer s w.told
       says (fails_written r answer told) (lost_written r answer told) (six_written r answer told) in
       let asked = placed_write commands (as_tag s.device tag _ _ w.told.asks) in
-      let none : NoneHands devices (moment old).world g.events = none_in os old new (Write id m) commands (s.selects.asked.notes ++ ks) g asked in
+      let none : NoneHands devices (moment old).world g.events = none_in (Write id m) (λ h. h) os old new commands (s.selects.asked.notes ++ ks) g asked in
       let stores : StoresLaw (above os old) no_joins id m (ending_told answer) g.events =
       stores_above os old id m (ending_told answer) g.events none (stores_behind new commands ks w.told.asked.going (ending_told answer) w.told.asked.same
       (subst (λ x. KeepsWriteLaw (message_of m) s.device x (moment mid).world w.told.asked.going.events) (same_ending r answer told) w.law)) in
-      asks_obeyed (StoreOf (bytes_of id)) os old new (Write id m) commands (s.selects.asked.notes ++ ks) answer idle places tt refl g
+      asks_obeyed (StoreOf (bytes_of id)) (Write id m) (λ h. h) os old new commands (s.selects.asked.notes ++ ks) answer idle places tt tt refl g
       (then_tag id (seen_of s.device) commands s.selects.asked.notes ks s.selects.told ∙ w.told.asked.over) asked
       (record { tells = tells; stores = stores }) (left_behind new w.told.asked.going.events w.told.asked.same)
 
@@ -213,9 +213,9 @@ module _ (old mid : Air Device) (id : DeviceId) (m : Msg) (place : ℕ) (idle : 
       let g : Going air (tag_due id []) (moment old) (moment mid) s.selects.asked.notes = peer_going Tells old mid id place s peer in
       let asked = placed_write [] (as_peer s.device peer _ _ refl) in
       let stores : StoresLaw (above os old) no_joins id m (ending_told answers.WrongKind) es =
-      stores_above os old id m Stopped es (none_in os old mid (Write id m) [] s.selects.asked.notes g asked)
+      stores_above os old id m Stopped es (none_in (Write id m) (λ h. h) os old mid [] s.selects.asked.notes g asked)
       (polled_stores id (message_of m) (moment old) (moment mid) s.selects.asked.notes s.selects.asked.going s.selects.asked.same sound) in
-      asks_obeyed (StoreOf (bytes_of id)) os old mid (Write id m) [] s.selects.asked.notes answers.WrongKind idle places tt refl g (peer_over Tells old mid id place s peer)
+      asks_obeyed (StoreOf (bytes_of id)) (Write id m) (λ h. h) os old mid [] s.selects.asked.notes answers.WrongKind idle places tt tt refl g (peer_over Tells old mid id place s peer)
       asked (record { tells = peer_tells Tells old mid id place s peer there; stores = stores })
       (leaves_more (StoreOf (bytes_of id)) (moment old).world (moment mid).world es sound s.selects.asked.same)
 
@@ -229,9 +229,9 @@ module _ (old mid : Air Device) (id : DeviceId) (m : Msg) (place : ℕ) (idle : 
       let asked = placed_write commands (as_tag s.device tag _ _ w.told.asks) in
       (
         asks_for commands,
-        front_of None os old new (Write id m) commands ns idle tt refl g asked,
+        front_of None (Write id m) (λ h. h) os old new commands ns idle tt refl g asked,
         subst (λ es. StoresLaw (above os old) no_joins id m Stopped es) (sym (trace_is old new (tag_due id commands) ns g idle))
-            (stores_above os old id m Stopped g.events (none_in os old new (Write id m) commands ns g asked)
+            (stores_above os old id m Stopped g.events (none_in (Write id m) (λ h. h) os old new commands ns g asked)
             (stores_behind new commands w.told.asked.notes w.told.asked.going Stopped w.told.asked.same w.law)),
       )
 
@@ -243,9 +243,9 @@ selection_cut_write old new id m idle part = λ ends peers.
     let g : Going air (tag_due id some.0) (moment old) (moment new) part.notes = polled_of id some.0 (moment old) (moment new) part.notes part.going in
     (
       asks_for some.0,
-      front_of None os old new (Write id m) some.0 part.notes idle tt refl g some.1,
+      front_of None (Write id m) (λ h. h) os old new some.0 part.notes idle tt refl g some.1,
       subst (λ es. StoresLaw (above os old) no_joins id m Stopped es) (sym (trace_is old new (tag_due id some.0) part.notes g idle))
-          (stores_above os old id m Stopped g.events (none_in os old new (Write id m) some.0 part.notes g some.1)
+          (stores_above os old id m Stopped g.events (none_in (Write id m) (λ h. h) os old new some.0 part.notes g some.1)
           (polled_stores id (message_of m) (moment old) (moment new) part.notes part.going part.same (sound_one old id idle))),
     )
 

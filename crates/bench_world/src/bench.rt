@@ -14,6 +14,7 @@ ghost use Rattle.bench_devices.specs.Phases.{IsIdle};
 use crate::asking::{find, read_tag, write_message};
 use crate::calling::put;
 use crate::entry::{Answer, Entry};
+use crate::linking::link;
 use crate::machines::Machines;
 use crate::peers::{inbox, offer_value, place_peer};
 use air_core::Field;
@@ -333,9 +334,10 @@ fn run_command(
         Command::Find => find(alloc, machines),
         Command::Read { id } => read_tag(alloc, machines, id),
         Command::Write { id, message } => write_message(alloc, machines, id, message),
+        Command::Link { id, miu, rw } => link(alloc, machines, id, *miu, *rw),
         Command::Put { message } => put(alloc, machines, message),
-        Command::Link { .. } | Command::Get { .. } | Command::Lookup { .. } | Command::Unlink => {
-            Err(ObeyFault::Refused)
+        Command::Get { .. } | Command::Lookup { .. } | Command::Unlink => {
+            Err(ObeyFault::Memory)
         }
     }
 }

@@ -1,8 +1,7 @@
 -- What a call over the open link of a field comes to.
 use Rattle.std.proofs.Common.{◌≡◌, ◌≤◌, ◌<◌, ℕ, zero, suc, List, [], ◌∷◌, ◌++◌, length, drop, Bool, true, false, Option, Some, None, Result, Ok, Err, IfErr, IfOk, OnOk, refl, sym, ◌∙◌, ap, subst, inl, inr, arith, append-nil}
 use Rattle.nfc_base.specs.Trace.{noise}
-use Rattle.nfc_base.specs.Links.{FarStep, Stepped, Stopped}
-use Rattle.nfc_link.specs.Swapping.{BySwaps, payload_of}
+use Rattle.nfc_base.specs.Links.{BySwaps, FarStep, Stepped, Stopped, payload_of}
 use Rattle.nfc_base.specs.declared.carrier.EndCause.{EndCause}
 use Rattle.nfc_base.specs.declared.carrier.EndCause.TheVariants as cause
 use Rattle.air_core.specs.Turn.{Air}
@@ -11,7 +10,7 @@ use Rattle.air_core.proofs.PlainAside.{Laws}
 use Rattle.dep_link.specs.Target.{TargetState}
 use Rattle.dep_link.specs.Initiator.{InitState}
 use Rattle.dep_link.specs.Asking.{Standing}
-use Rattle.dep_link.specs.DepLinks.{DepSeen, DepMoves, IsDepReady, StandsAt, first_seen, over_at}
+use Rattle.dep_link.specs.DepLinks.{DepSeen, Swap, Chained, IsDepReady, StandsAt, first_seen, over_at}
 use Rattle.llcp_link.specs.Answering.{Answers, Stops, answers_fit}
 use Rattle.far_air.specs.FarLaws.{IsFarTable, IsLinked, IsOfTable}
 use Rattle.peer_air.specs.PeerFars.{peer_ends}
@@ -52,18 +51,17 @@ more_than x zero h n = absurd (n (let z : 0 ≡ x = omega (arith, h) in z))
 more_than x (suc y) h n = omega arith
 
 module _ {L C : Type 0} (k : Ghosts L) (target : L → TargetState) (see : C → DepSeen L) where
-  -- swaps one by one are moves of the link
-  chain : (did : List FarStep) (a b : C) → BySwaps (swaps k target see) did a b → DepMoves k target (see a) did (see b)
-  chain [] a b e = ([], (ap see e, refl))
-  chain (x ∷ did) a b (mid, one, rest) =
-      let z = chain did mid b rest in (record { out = payload_of x; did = x ∷ [] } ∷ z.0, (see mid, did, one, z.1, refl))
+  -- swaps one by one are a chain of them
+  chain : (did : List FarStep) (a b : C) → BySwaps (swaps k target see) did a b → (ss : List Swap) × Chained k target ss (see a) (see b)
+  chain [] a b e = ([], ap see e)
+  chain (x ∷ did) a b (mid, one, rest) = let z = chain did mid b rest in (record { out = payload_of x; did = x ∷ [] } ∷ z.0, (see mid, one, z.1))
 
   -- and one more behind them
-  chain_to : (did more : List FarStep) (out : List ℕ) (a m b : C) → BySwaps (swaps k target see) did a m → swaps k target see m out more b → DepMoves k target (see a) (did ++ more) (see b)
+  chain_to : (did more : List FarStep) (out : List ℕ) (a m b : C) → BySwaps (swaps k target see) did a m → swaps k target see m out more b → (ss : List Swap) × Chained k target ss (see a) (see b)
   chain_to [] more out a m b e one =
-      (record { out = out; did = more } ∷ [], (see b, [], subst (λ z. swaps k target see z out more b) e one, (refl, refl), sym (append-nil more)))
+      (record { out = out; did = more } ∷ [], (see b, subst (λ z. swaps k target see z out more b) e one, refl))
   chain_to (x ∷ did) more out a m b (mid, first, rest) one =
-      let z = chain_to did more out mid m b rest one in (record { out = payload_of x; did = x ∷ [] } ∷ z.0, (see mid, did ++ more, first, z.1, refl))
+      let z = chain_to did more out mid m b rest one in (record { out = payload_of x; did = x ∷ [] } ∷ z.0, (see mid, first, z.1))
 
   starts : (did : List FarStep) (a b : C) → BySwaps (swaps k target see) did a b → (see b).start ≡ (see a).start
   starts [] a b e = ap (λ z. (see z).start) e
@@ -113,8 +111,8 @@ module _ {L C : Type 0} (k : Ghosts L) (target : L → TargetState) (see : C →
     carried from to talk = record {
       at = see b;
       left = (refl, refl, talk.over ∙ was_open);
-      did = talk.did;
-      moves = subst (λ (p : DepSeen L). DepMoves k target p talk.did (see b)) is (chain talk.did a b talk.swapped);
+      swaps = (chain talk.did a b talk.swapped).0;
+      chain = subst (λ (p : DepSeen L). Chained k target (chain talk.did a b talk.swapped).0 p (see b)) is (chain talk.did a b talk.swapped).1;
       setting = set_still talk.did far after talk.far_moved;
     }
 
@@ -125,6 +123,7 @@ module _ {L C : Type 0} (k : Ghosts L) (target : L → TargetState) (see : C →
         record {
           open_ = record { in_step = in_step k target (see b) (ready open_b); going = going_on talk.counts talk.did from to a b talk.told talk.swapped open_b phase };
           turns = λ linked links place there os. (reaches from to talk e linked links place there os).0;
+          there = λ linked links place there. (reaches from to talk e linked links place there []).1;
           carried = carried from to talk;
         }
 
@@ -193,8 +192,8 @@ module _ {L C : Type 0} (k : Ghosts L) (target : L → TargetState) (see : C →
       record {
         at = see b;
         left = (refl, refl, c.swap.over);
-        did = talk.did ++ c.swapped.did;
-        moves = subst (λ (p : DepSeen L). DepMoves k target p (talk.did ++ c.swapped.did) (see b)) is (chain_to talk.did c.swapped.did _ a mid b talk.swapped c.swapped.link);
+        swaps = (chain_to talk.did c.swapped.did _ a mid b talk.swapped c.swapped.link).0;
+        chain = subst (λ (p : DepSeen L). Chained k target (chain_to talk.did c.swapped.did _ a mid b talk.swapped c.swapped.link).0 p (see b)) is (chain_to talk.did c.swapped.did _ a mid b talk.swapped c.swapped.link).1;
         setting = set_still c.swapped.did mid_far after c.swapped.far_moved ∙ set_still talk.did far mid_far talk.far_moved;
       },
       λ six.

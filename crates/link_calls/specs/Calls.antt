@@ -1,6 +1,5 @@
 -- What a client's call over the open link of a field does, and how it leaves the link (NFC Forum LLCP 1.3 and SNEP 1.0).
 use Rattle.std.specs.Prelude.{◌≡◌, ◌⊎◌, ℕ, ◌<◌, List, [], length, drop, Bool, true, Option, Some, None, Result, Ok, Err}
-use Rattle.nfc_base.specs.Links.{FarStep}
 use Rattle.nfc_base.specs.Trace.{noise}
 use Rattle.nfc_base.specs.declared.carrier.EndCause.{EndCause}
 use Rattle.nfc_base.specs.declared.carrier.EndCause.TheVariants as cause
@@ -8,7 +7,7 @@ use Rattle.air_core.specs.Turn.{Air}
 use Rattle.air_core.specs.declared.listener.Listener.{Ghosts}
 use Rattle.dep_link.specs.Target.{TargetState}
 use Rattle.dep_link.specs.Initiator.{InitState}
-use Rattle.dep_link.specs.DepLinks.{DepSeen, DepMoves, IsInStep, first_seen, over_at}
+use Rattle.dep_link.specs.DepLinks.{DepSeen, Swap, Chained, IsInStep, first_seen, over_at}
 use Rattle.far_air.specs.FarLaws.{IsLinked}
 use Rattle.peer_air.specs.PeerFars.{peer_ends}
 use Rattle.peer_air.specs.SwapTurns.{Stands}
@@ -36,8 +35,8 @@ module _ {L : Type 0} (k : Ghosts L) (target : L → TargetState) where
   pub record IsCarried (old : Air L) (i : InitState) (far : PeerState) (new : Air L) (j : InitState) (after : PeerState) (over : Option EndCause) : Type 0 where
     pub at : DepSeen L
     pub left : (at.air ≡ new) × (at.initiator ≡ j) × (at.over ≡ over)
-    pub did : List FarStep
-    pub moves : DepMoves k target (first_seen old i) did at
+    pub swaps : List Swap
+    pub chain : Chained k target swaps (first_seen old i) at
     pub setting : setting_of after ≡ setting_of far
 
   -- A call on an open link, from a moment of the field, its initiator and its peer's end to others.
@@ -49,10 +48,12 @@ module _ {L : Type 0} (k : Ghosts L) (target : L → TargetState) where
         (linked : L → Bool) → IsLinked k.machine linked → (place : ℕ) → Stands k target linked peer_ends old place → (os : List (Option PeerState))
         → (numbers : List ℕ) × CallTurns k target linked peer_ends numbers from i old new place os far after s
 
-    -- It came to its end: what was heard tells how, and where the initiator rests. The link is open.
+    -- It came to its end: what was heard tells how, and where the initiator rests. The link is open, and its peer stands where it stood.
     pub record IsMade (to : Step) : Type 0 where
       pub open_ : IsOpen new j
       pub turns : CallComes (Comes to j)
+      pub there : (linked : L → Bool) → IsLinked k.machine linked → (place : ℕ) → Stands k target linked peer_ends old place
+          → Stands k target linked peer_ends new place
       pub carried : IsCarried old i far new j after None
 
     -- Its link ended by this cause. Six bad receptions have a transmission that didn't pass.

@@ -28,7 +28,7 @@ use Rattle.nfc_bench.proofs.Journals.{legal_more, legal_none, written_more, writ
 abbrev is_obeyed : (lines : List (List ℕ)) (numbers : List Joins) (journal : List Entry) (last : State) → LeadsTo lines numbers journal last → AreWithinLimits lines → AreObeyed lines journal
 is_obeyed lines numbers journal last leads limits = record {
   legal = record { numbers = numbers; last = last; leads = leads };
-  only = λ other others t is same. one_legal lines others numbers other journal t last is leads;
+  only = λ other others t is same. sym (one_legal lines numbers others journal other last t leads is same);
   limits = limits;
 }
 
