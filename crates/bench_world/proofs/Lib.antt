@@ -34,3 +34,5 @@ pub mod CallNotes
 pub mod TalkFar
 pub mod OnLink
 pub mod OnCall
+pub mod CallEnds
+pub mod Putting

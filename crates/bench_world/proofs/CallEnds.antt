@@ -1,0 +1,137 @@
+-- What a command that asks over the open link comes to, by what its call came to.
+use Rattle.std.proofs.Common.{◌≡◌, ◌↔◌, ◌⊎◌, ℕ, ◌<◌, List, [], ◌∷◌, ◌++◌, length, Bool, true, false, Option, Some, None, refl, sym, ◌∙◌, ap, subst, inl, inr}
+use Rattle.std.specs.Prelude.{get_or, slice_set, drop}
+use Rattle.nfc_base.specs.declared.carrier.EndCause.{EndCause}
+use Rattle.nfc_base.specs.declared.carrier.EndCause.TheVariants as cause
+use Rattle.nfc_base.specs.declared.event.Event.{Event}
+use Rattle.nfc_base.specs.Trace.{noise}
+use Rattle.air_core.specs.Turn.{Air}
+use Rattle.dep_link.specs.Initiator.{InitState}
+use Rattle.peer_air.specs.PeerFars.{peer_ends}
+use Rattle.snep_core.specs.Accord.{Accords}
+use Rattle.snep_core.specs.Server.{Received}
+use Rattle.snep_core.specs.Talk.{EndState, OnSap, Step, Ends, Task, begins}
+use Rattle.link_calls.specs.CallDue.{Comes, BrokenBy, call_due, call_due_at}
+use Rattle.link_calls.specs.CallTurns.{CallFront, CallTurns}
+use Rattle.link_calls.specs.Calls.{IsCutShort, IsEndedBy, IsMade}
+use Rattle.link_calls.specs.Calls as calls
+use Rattle.link_calls.specs.Staying.{setting_of}
+use Rattle.bench_script.specs.declared.command.Command.{Command}
+use Rattle.bench_devices.specs.declared.device.Device.{Device}
+use Rattle.bench_devices.specs.Device.{devices, device_end, device_linked}
+use Rattle.bench_devices.specs.Keeping.{ghosts}
+use Rattle.bench_devices.proofs.PeerHere.{in_step}
+use Rattle.bench_devices.proofs.PeerLinks.{devices_link}
+use Rattle.bench_world.specs.declared.entry.Answer.{Answer}
+use Rattle.bench_world.specs.declared.entry.Answer.TheVariants as answers
+use Rattle.bench_world.specs.declared.entry.Loss.{Loss}
+use Rattle.bench_world.specs.declared.entry.Loss.TheVariants as losses
+use Rattle.bench_world.specs.World.{FarEnd, stable}
+use Rattle.bench_world.specs.Calls.{OfEnd, told_loss, told_step, with_accepted}
+use Rattle.bench_world.specs.Links.{OpenLink, accepted_by, with_last_ended}
+use Rattle.bench_world.specs.Legal.{State, Joins, CutFront, CutStores, HaltsCall, LeavesStable, end_of, world_after}
+use Rattle.bench_world.specs.Obeying.{Machines, IsSettled, Obeyed, state_at, under}
+use Rattle.bench_world.specs.Opened.{IsOpen}
+use Rattle.bench_world.specs.Peers.{Peers}
+use Rattle.bench_world.proofs.OnLink.{Ends as FarEnds, end_is, going, leaves, own, opened, set_there, stands, trace_is}
+use Rattle.bench_world.proofs.OnCall.{IsCall, Law, broke, came, end, events, from_state, gone_then, halted, joins, next, open_then, place, plain, same, short}
+
+module _ (air : Air Device) (ends : FarEnds) (peers : Peers) (l : OpenLink) (settled : IsSettled (under ends peers (Some l) air)) where
+  -- what holds of the far end holds of it in the state
+  pub of_end : (P : FarEnd → Type 0) → P (end air ends peers l settled) → OfEnd P (end_of (from_state air ends peers l settled) l)
+  of_end P p = subst (OfEnd P) (sym (end_is air ends peers l settled)) p
+
+  module _ (c : Command) (task : Task) (is : IsCall air ends peers l settled c task) (b : Air Device) (j : InitState) (after : FarEnd) where
+    abbrev from : Step
+    from = begins l.client task
+
+    abbrev spot : ℕ
+    spot = place air ends peers l settled
+
+    abbrev far : FarEnd
+    far = end air ends peers l settled
+
+    abbrev AnswerSo : Answer → Type 0
+    AnswerSo answer = Law air ends peers l settled c task is b j after answer
+
+    abbrev Old : Machines
+    Old = under ends peers (Some l) air
+
+    abbrev pub Open : EndState → Machines
+    Open client = open_then air ends peers l settled c task is b j after client
+
+    abbrev pub Gone : Machines
+    Gone = gone_then air ends peers l settled c task is b j after
+
+    -- the link is open again
+    reopened : (to : Step) (client : EndState) → IsMade ghosts device_end from air l.initiator far b j after to → Accords client after
+        → IsOpen b (slice_set ends spot (Some after)) peers (record { peer = l.peer; initiator = j; client = client })
+    reopened to client made accords =
+        let t = made.turns device_linked devices_link spot (stands air ends peers l settled) ends in
+        let left = leaves air ends peers l settled (next air ends peers l settled c task is b j after t.0 _ t.1) (plain air ends peers l settled c task is b j after t.0 _ t.1) b after t.1.notes t.1.going in
+        record {
+          place = spot;
+          number = (opened air ends peers l settled).number;
+          step = in_step (own air ends peers l settled) spot b left.at j j.core.number [] [] made.open_.in_step.1 made.open_.in_step.0;
+          going = made.open_.going;
+          end = after;
+          above = set_there ends spot far after (opened air ends peers l settled).above;
+          accords = accords;
+        }
+
+    -- the call came to its end
+    pub made_obeyed : (jobs : List OnSap) (client : EndState) (answer : Answer) → IsMade ghosts device_end from air l.initiator far b j after (Ends jobs client) → told_step (Ends jobs client) ≡ Some answer
+        → ((loss : Loss) → answer ≡ answers.LinkEnded loss → ⊥) → AnswerSo answer → Accords client after → Obeyed Old (Open client) c answer
+    made_obeyed jobs client answer made told never law accords =
+        let t = made.turns device_linked devices_link spot (stands air ends peers l settled) ends in
+        came air ends peers l settled c task is b j after t.0 (Comes (Ends jobs client) j) t.1 made.carried.setting jobs client refl answer told never law (reopened (Ends jobs client) client made accords)
+
+    -- its link ended
+    pub lost_obeyed : (why : EndCause) (answer : Answer) → IsEndedBy ghosts device_end from air l.initiator far b j after why → told_loss why ≡ Some answer → AnswerSo answer → Obeyed Old Gone c answer
+    lost_obeyed why answer ended told law =
+        let t = ended.turns device_linked devices_link spot (stands air ends peers l settled) ends in
+        let es : List Event = events air ends peers l settled c task is b j after t.0 (BrokenBy why) t.1 in
+        let noisy : why ≡ cause.SixBad → 0 < noise es = λ six.
+        subst (λ xs. 0 < noise xs) (ap (λ xs. drop (length xs) b.trace) settled.idle.quiet
+        ∙ trace_is air ends peers l settled (next air ends peers l settled c task is b j after t.0 (BrokenBy why) t.1) (plain air ends peers l settled c task is b j after t.0 (BrokenBy why) t.1) b after t.1.notes t.1.going)
+        (ended.noisy six) in
+        broke air ends peers l settled c task is b j after t.0 (BrokenBy why) t.1 ended.carried.setting why refl answer told (lost_is why told) (λ e. noisy (six_is why told e)) law
+      where
+        lost_is : (w : EndCause) → told_loss w ≡ Some answer → ((w ≡ cause.FieldLost) ↔ (answer ≡ answers.LinkEnded losses.FieldLost))
+        lost_is cause.FieldLost e = ((λ q. let same : answers.LinkEnded losses.FieldLost ≡ answer = cc in sym same), (λ q. refl))
+        lost_is cause.SixBad e = ((λ q. absurd cc), (λ q. absurd (let same : answers.LinkEnded losses.SixBad ≡ answer = cc in let clash : answers.LinkEnded losses.SixBad ≡ answers.LinkEnded losses.FieldLost = same ∙ q in cc)))
+        lost_is cause.Protocol e = absurd cc
+        lost_is cause.Memory e = absurd cc
+
+        six_is : (w : EndCause) → told_loss w ≡ Some answer → answer ≡ answers.LinkEnded losses.SixBad → w ≡ cause.SixBad
+        six_is cause.FieldLost e q = absurd (let same : answers.LinkEnded losses.FieldLost ≡ answer = cc in let clash : answers.LinkEnded losses.FieldLost ≡ answers.LinkEnded losses.SixBad = same ∙ q in cc)
+        six_is cause.SixBad e q = refl
+        six_is cause.Protocol e q = absurd cc
+        six_is cause.Memory e q = absurd cc
+
+    -- memory was wanting
+    abbrev pub Stores : Type 0
+    Stores = (joins : Joins) (events : List Event) → (devices : (stable (world_after (from_state air ends peers l settled) joins c events)).devices ≡ (stable (from_state air ends peers l settled).world).devices)
+        → (ends : (more : List Received) → after.service.accepted ≡ far.service.accepted ++ more
+        → (stable (world_after (from_state air ends peers l settled) joins c events)).ends ≡ with_accepted more l.peer peers.numbers (stable (from_state air ends peers l settled).world).ends)
+        → (stays : after.service.accepted ≡ far.service.accepted → LeavesStable (from_state air ends peers l settled) joins c events) → CutStores (from_state air ends peers l settled) joins c events
+
+    pub short_cut : IsCutShort ghosts device_end from air l.initiator far b j after → Stores
+        → CutFront (from_state air ends peers l settled) c b.trace (state_at Gone) ⊎ HaltsCall (from_state air ends peers l settled) c b.trace (state_at Gone)
+    short_cut cut stores = by_left (cut.front device_linked devices_link spot (stands air ends peers l settled) ends)
+      where
+        by_left : CallFront ghosts device_end device_linked peer_ends from l.initiator air b spot ends far after
+            → CutFront (from_state air ends peers l settled) c b.trace (state_at Gone) ⊎ HaltsCall (from_state air ends peers l settled) c b.trace (state_at Gone)
+        by_left f = elim f.left [
+          | inl (field, stays) ↦ inl (
+              let T : Air Device → FarEnd → Type 0 = λ a e. CallTurns ghosts device_end device_linked peer_ends f.numbers from l.initiator air a spot ends far e f.standing in
+              let t : T b after = subst (T b) (sym stays) (subst (λ a. T a f.half) (sym field) f.turns) in
+              short air ends peers l settled c task is b j after f.numbers f.standing t stores cut.setting)
+          | inr (sent, listeners, due, fate, left) ↦ inr (
+              let t = f.turns in
+              let N = next air ends peers l settled c task is f.mid j f.half f.numbers f.standing t in
+              let P = plain air ends peers l settled c task is f.mid j f.half f.numbers f.standing t in
+              halted air ends peers l settled N P c f.numbers f.mid f.half t.notes t.going is.still is.accepts is.asks
+              (same air ends peers l settled c task is f.mid j f.half f.numbers f.standing t) sent listeners b (ap call_due_at t.stands ∙ due) fate left
+              (slice_set ends spot (Some after)) (with_last_ended (accepted_by (get_or (slice_set ends spot (Some after)) spot None)) peers))
+        ]
