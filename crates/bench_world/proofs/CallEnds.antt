@@ -112,7 +112,7 @@ module _ (air : Air Device) (ends : FarEnds) (peers : Peers) (l : OpenLink) (set
     -- memory was wanting
     abbrev pub Stores : Type 0
     Stores = (joins : Joins) (events : List Event) → (devices : (stable (world_after (from_state air ends peers l settled) joins c events)).devices ≡ (stable (from_state air ends peers l settled).world).devices)
-        → (ends : (more : List Received) → after.service.accepted ≡ far.service.accepted ++ more
+        → (adds : (more : List Received) → after.service.accepted ≡ far.service.accepted ++ more
         → (stable (world_after (from_state air ends peers l settled) joins c events)).ends ≡ with_accepted more l.peer peers.numbers (stable (from_state air ends peers l settled).world).ends)
         → (stays : after.service.accepted ≡ far.service.accepted → LeavesStable (from_state air ends peers l settled) joins c events) → CutStores (from_state air ends peers l settled) joins c events
 

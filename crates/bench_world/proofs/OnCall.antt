@@ -217,7 +217,7 @@ module _ (air : Air Device) (ends : FarEnds) (peers : Peers) (l : OpenLink) (set
           → (stable (world_after from_state joins c events)).ends ≡ with_accepted more l.peer peers.numbers (stable from_state.world).ends
       pub stays : after.service.accepted ≡ end.service.accepted → LeavesStable from_state joins c events
 
-    abbrev Law : Answer → Type 0
+    abbrev pub Law : Answer → Type 0
     Law answer = (joins : Joins) (events : List Event) → Facts joins events answer → AnswerLaw from_state (record { asked = []; joins = joins }) c events answer
 
     -- the machines with the link open, and with it gone
@@ -302,7 +302,7 @@ module _ (air : Air Device) (ends : FarEnds) (peers : Peers) (l : OpenLink) (set
           set refl refl tt
 
       pub short : ((joins : Joins) (events : List Event) → (devices : (stable (world_after from_state joins c events)).devices ≡ (stable from_state.world).devices)
-          → (ends : (more : List Received) → after.service.accepted ≡ end.service.accepted ++ more
+          → (adds : (more : List Received) → after.service.accepted ≡ end.service.accepted ++ more
           → (stable (world_after from_state joins c events)).ends ≡ with_accepted more l.peer peers.numbers (stable from_state.world).ends)
           → (stays : after.service.accepted ≡ end.service.accepted → LeavesStable from_state joins c events) → CutStores from_state joins c events)
           → setting_of after ≡ setting_of end → CutFront from_state c b.trace (state_at gone_then)
