@@ -36,3 +36,5 @@ pub mod OnLink
 pub mod OnCall
 pub mod CallEnds
 pub mod Putting
+pub mod Chosen
+pub mod PutOver
