@@ -38,3 +38,5 @@ pub mod CallEnds
 pub mod Putting
 pub mod Chosen
 pub mod PutOver
+pub mod Getting
+pub mod GetOver

@@ -11,7 +11,7 @@ use Rattle.snep_core.specs.declared.job.Ending.TheVariants.{Done}
 use Rattle.snep_core.specs.declared.job.Job.TheVariants.{Over}
 use Rattle.snep_core.specs.declared.job.Refusal.{Refusal}
 use Rattle.snep_core.specs.declared.job.Refusal.TheVariants as refusals
-use Rattle.snep_core.specs.Accord.{AddsAtMost, IsRejected, IsTaken}
+use Rattle.snep_core.specs.Accord.{Accords, AddsAtMost, IsRejected, IsTaken, PutFails}
 use Rattle.snep_core.specs.Calling.{refused_by}
 use Rattle.snep_core.specs.Talk.{EndState, Ends, Puts, alone, begins}
 use Rattle.link_calls.specs.Calls.{IsMade, RequestFails}
@@ -33,7 +33,7 @@ use Rattle.bench_world.specs.Legal.{FrontOf}
 use Rattle.bench_world.proofs.OnLink.{Ends as FarEnds}
 use Rattle.bench_world.proofs.OnCall.{given_by}
 use Rattle.bench_world.proofs.Putting.{put_taken, put_rejected, put_lost, put_short}
-use Rattle.bench_world.proofs.Chosen.{so, spot, its, obeyed_so, cut_so, place_is, far_is}
+use Rattle.bench_world.proofs.Chosen.{so, spot, its, accords_so, obeyed_so, cut_so, place_is, far_is}
 
 -- where no link is open nothing is sent
 module _ (air : Air Device) (ends : FarEnds) (peers : Peers) (settled : IsSettled (under ends peers None air)) (m : Msg) (few : length (message_of m) ≤ longest_message) where
@@ -60,7 +60,7 @@ put_nowhere old settled none bytes few m e =
 
 module _ (old : Machines) (settled : IsSettled old) (l : OpenLink) (linked : old.link ≡ Some l) (q : ℕ) (at : (os : FarEnds) → end_numbered l.peer old.peers.numbers os ≡ get_or os q None) (w : Option FarEnd) (far : FarEnd)
     (holds : w ≡ get_or old.ends q w) (some : w ≡ Some far) (bytes : List ℕ) (few : length bytes ≤ longest_message) (b : Air Device) (j : InitState) (after : FarEnd) (client : EndState) where
-  abbrev Fails : FarEnd → List ℕ → SnepFault → Type 0
+  abbrev pub Fails : FarEnd → List ℕ → SnepFault → Type 0
   Fails f xs e = RequestFails ghosts device_end (begins l.client (Puts xs)) old.air l.initiator f b j after client e
 
   same_far : far ≡ its old settled l linked
@@ -152,3 +152,33 @@ module _ (old : Machines) (settled : IsSettled old) (l : OpenLink) (linked : old
       by (inl (why, is, made)) a = absurd (never_short why is)
       by (inr (inl (bad, made))) a = absurd cc
       by (inr (inr cut)) a = put_short old.air old.ends old.peers l (so old settled l linked) m (few_of m e) b j after client cut a
+
+  -- By what the call said, where the client accords with the far end; and from machines that are the same to machines that are the same.
+  module _ (was : Machines) (is : was ≡ old) where
+    accords : Accords l.client far
+    accords = accords_so old settled l linked q at w far holds some
+
+    pub told_taken : IsMade ghosts device_end (begins l.client (Puts bytes)) old.air l.initiator far b j after (Ends (alone (Over Done)) client) → (Accords l.client far → IsTaken bytes far client after)
+        → (m : Msg) → message_of m ≡ bytes → Obeyed was opens (Put m) answers.Success
+    told_taken made taken m e = subst (λ x. Obeyed x opens (Put m) answers.Success) (sym is) (over_taken made (taken accords) m e)
+
+    pub told_rejected : (x : SnepFault) → x ≡ Reject → Fails far bytes x → (Accords l.client far → PutFails bytes far x client after) → (m : Msg) → message_of m ≡ bytes → Obeyed was opens (Put m) answers.Reject
+    told_rejected x r fails put m e =
+        subst (λ y. Obeyed y opens (Put m) answers.Reject) (sym is)
+        (over_rejected (subst (Fails far bytes) r fails) (subst (λ y. PutFails bytes far y client after) r (put accords)) m e)
+
+    pub told_lost : (x : SnepFault) (c : EndCause) → x ≡ LinkEnded c → Fails far bytes x → (Accords l.client far → PutFails bytes far x client after) → (answer : Answer) → told_loss c ≡ Some answer
+        → (new : Machines) → new ≡ gone → (m : Msg) → message_of m ≡ bytes → Obeyed was new (Put m) answer
+    told_lost x c r fails put answer told new left m e =
+        subst (λ y. Obeyed y new (Put m) answer) (sym is) (subst (λ y. Obeyed old y (Put m) answer) (sym left)
+        (over_lost c answer (subst (Fails far bytes) r fails) (subst (λ y. PutFails bytes far y client after) r (put accords)) told m e))
+
+    pub told_short : (x : SnepFault) → x ≡ Memory → Fails far bytes x → (Accords l.client far → PutFails bytes far x client after)
+        → (new : Machines) → new ≡ gone → (m : Msg) → message_of m ≡ bytes → IsCutOff was new (Put m)
+    told_short x r fails put new left m e =
+        subst (λ y. IsCutOff y new (Put m)) (sym is) (subst (λ y. IsCutOff old y (Put m)) (sym left)
+        (over_short (subst (Fails far bytes) r fails) (subst (λ y. PutFails bytes far y client after) r (put accords)) m e))
+
+    -- no other fault
+    pub never_told : (x y : SnepFault) → x ≡ y → (Accords l.client far → PutFails bytes far x client after) → PutFails bytes far y client after
+    never_told x y r put = subst (λ z. PutFails bytes far z client after) r (put accords)

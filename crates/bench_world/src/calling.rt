@@ -6,6 +6,7 @@ ghost use Rattle.nfc_base.specs.declared.carrier.EndCause.TheVariants as causes;
 ghost use Rattle.bench_script.specs.declared.message.Msg.{Msg};
 ghost use Rattle.bench_script.specs.Messages.{message_of};
 ghost use Rattle.bench_world.specs.Calls.{told_loss};
+ghost use Rattle.bench_world.specs.Legal.{MayGet};
 ghost use Rattle.bench_world.specs.Links.{accepted_by, with_last_ended};
 ghost use Rattle.bench_world.specs.Obeying.{IsSettled, Obeyed, IsCutOff, RefusedOnly};
 ghost use Rattle.std.specs.Prelude.{Some};
@@ -14,8 +15,8 @@ use crate::bench::ObeyFault;
 use crate::entry::{Answer, Loss};
 use crate::machines::{Link, Machines, accepted_above, end_last, place_numbered};
 use bench_script::{Command, Msg};
-use link_calls::put_on;
-use nfc_base::EndCause;
+use link_calls::{get_on, put_on};
+use nfc_base::{EndCause, Items};
 use snep_core::SnepFault;
 use std::alloc::{AllocError, Global};
 
@@ -98,12 +99,10 @@ fn put_bytes(machines: &mut Machines, bytes: &[u8]) -> Result<Answer, AllocError
             end_range(machines, place);
             Err(AllocError)
         }
-        Err(
-            SnepFault::NotFound
-            | SnepFault::Excess
-            | SnepFault::NotImplemented
-            | SnepFault::BadPeer,
-        ) => unreachable!(),
+        Err(SnepFault::NotFound) => unreachable!(),
+        Err(SnepFault::Excess) => unreachable!(),
+        Err(SnepFault::NotImplemented) => unreachable!(),
+        Err(SnepFault::BadPeer) => unreachable!(),
     }
 }
 
@@ -122,6 +121,104 @@ pub fn put(alloc: Global, machines: &mut Machines, message: &Msg) -> Result<Answ
         return Err(ObeyFault::Refused);
     }
     match put_bytes(machines, &bytes) {
+        Ok(answer) => Ok(answer),
+        Err(_) => Err(ObeyFault::Memory),
+    }
+}
+
+/// Gets the value of a key of the server of the link's peer, where a link is open.
+fn get_value(machines: &mut Machines, acceptable: u32, key: &[u8]) -> Result<Answer, AllocError>
+    requires settled { IsSettled machines.old }
+    requires may { MayGet acceptable key.now }
+    ensures ok { IfOk result (λ a. Obeyed machines.old machines.new (Command.Get acceptable key.now) a) }
+    ensures cut { OnErr result (IsCutOff machines.old machines.new (Command.Get acceptable key.now)) }
+{
+    let Some(link) = machines.link.take() else {
+        return Ok(Answer::NoLink);
+    };
+    let Link {
+        peer,
+        mut initiator,
+        mut client,
+    } = link;
+    let Some(place) = place_numbered(&machines.numbers, peer) else {
+        unreachable!()
+    };
+    let Some(far) = &mut machines.ends[place] else {
+        unreachable!()
+    };
+    match get_on(
+        &mut machines.field,
+        &mut initiator,
+        &mut client,
+        far,
+        acceptable,
+        key,
+    ) {
+        Ok(value) => {
+            machines.link = Some(Link {
+                peer,
+                initiator,
+                client,
+            });
+            Ok(Answer::Value(Items::new(value)))
+        }
+        Err(SnepFault::Reject) => {
+            machines.link = Some(Link {
+                peer,
+                initiator,
+                client,
+            });
+            Ok(Answer::Reject)
+        }
+        Err(SnepFault::NotFound) => {
+            machines.link = Some(Link {
+                peer,
+                initiator,
+                client,
+            });
+            Ok(Answer::NoValue)
+        }
+        Err(SnepFault::Excess) => {
+            machines.link = Some(Link {
+                peer,
+                initiator,
+                client,
+            });
+            Ok(Answer::Excess)
+        }
+        Err(SnepFault::NotImplemented) => {
+            machines.link = Some(Link {
+                peer,
+                initiator,
+                client,
+            });
+            Ok(Answer::NotImplemented)
+        }
+        Err(SnepFault::LinkEnded(cause)) => {
+            end_range(machines, place);
+            Ok(lost(cause))
+        }
+        Err(SnepFault::Memory) => {
+            end_range(machines, place);
+            Err(AllocError)
+        }
+        Err(SnepFault::BadPeer) => unreachable!(),
+    }
+}
+
+/// Gets a value of at most so many bytes from the server of the link's peer.
+pub fn get(machines: &mut Machines, acceptable: u32, key: &[u8]) -> Result<Answer, ObeyFault>
+    requires { IsSettled machines.old }
+    ensures ok { IfOk result (λ a. Obeyed machines.old machines.new (Command.Get acceptable key.now) a) }
+    ensures refused { IsErrOf result ObeyFault.Refused → (machines.new ≡ machines.old) }
+    ensures cause { RefusedOnly result machines.old (Command.Get acceptable key.now) }
+    ensures cut { IsErrOf result ObeyFault.Memory → IsCutOff machines.old machines.new (Command.Get acceptable key.now) }
+{
+    if acceptable as usize > LONGEST_MESSAGE || key.len() > LONGEST_MESSAGE {
+        return Err(ObeyFault::Refused);
+    }
+    match get_value(machines, acceptable, key) {
         Ok(answer) => Ok(answer),
         Err(_) => Err(ObeyFault::Memory),
     }
