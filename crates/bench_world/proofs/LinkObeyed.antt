@@ -104,7 +104,7 @@ none_selecting id (Answer f x ∷ es) each fresh w = absurd cc
 none_selecting id (Clash f x ∷ es) each fresh w = absurd cc
 
 -- what selecting asks, opening a link asks
-linking_of : (id : List ℕ) (general : List ℕ) (a b : Moment (World Device)) (ns : List Note) → Going air (λ ks. asks (selecting (A id) ks)) a b ns → Going air (linking (A id) general) a b ns
+abbrev linking_of : (id : List ℕ) (general : List ℕ) (a b : Moment (World Device)) (ns : List Note) → Going air (λ ks. asks (selecting (A id) ks)) a b ns → Going air (linking (A id) general) a b ns
 linking_of id general a b ns g = record {
   events = g.events;
   moment = g.moment;
@@ -290,13 +290,10 @@ module _ (ends : Ends) (peers : Peers) (old : Air Device) (id : List ℕ) (miu r
     -- It was a peer, and ATR_REQ was asked of it.
     module _ (peer : is_tag s.device ≡ false) (far after : FarEnd) (there : get_or ends place None ≡ Some far) (new : Air Device) (result : Result (InitState × ArrayVec ℕ) EndCause)
         (o : Opens restarts (Answers serving) mid far new after (own_general miu) place s.device result) where
-      general : List ℕ
-      general = own_general miu
-
       told : selecting (A id) hs ≡ Told (Ok kinds.Peer) []
       told = s.selects.told ∙ ap (λ k. Told (Ok k) []) (peer_seen s.device peer)
 
-      fg : FarGoing devices device_linked peer_ends (linking (A id) (own_general miu)) (moment old) (moment new) (hs ++ o.notes) place ends far after
+      pub fg : FarGoing devices device_linked peer_ends (linking (A id) (own_general miu)) (moment old) (moment new) (hs ++ o.notes) place ends far after
       fg =
           opens_far restarts (Answers serving) peer_ends (λ l. l) ends_table (ends_step serving) (A id) (own_general miu) place s.device result old mid new far after hs s.selects.asked.going told s.stands peer o ends
 
@@ -306,7 +303,7 @@ module _ (ends : Ends) (peers : Peers) (old : Air Device) (id : List ℕ) (miu r
       abbrev pub given : Given
       given = record { asked = []; joins = joins }
 
-      going : Going bench_air (linking (A id) (own_general miu)) (seen_at device_linked peer_ends (moment old) (with_far ends place far) fg.taken)
+      abbrev going : Going bench_air (linking (A id) (own_general miu)) (seen_at device_linked peer_ends (moment old) (with_far ends place far) fg.taken)
           (seen_at device_linked peer_ends (moment new) (with_far ends place after) (behind_all fg.taken fg.taken)) (hs ++ o.notes)
       going = fg.going fg.taken (begin_self fg.taken)
 
@@ -447,12 +444,12 @@ module _ (ends : Ends) (peers : Peers) (old : Air Device) (id : List ℕ) (miu r
         abbrev link_now : OpenLink
         link_now = record { peer = n; initiator = p.0; client = new_client miu rw p.1.items }
 
-        old_at : OldAt old.listeners place s.device
+        abbrev old_at : OldAt old.listeners place s.device
         old_at =
             old_stands old.listeners s.stands.before s.device s.stands.behind place
             (sym s.selects.asked.same ∙ ap (λ (w : World Device). map kept w.listeners) s.stands.world) s.stands.at
 
-        stands : StandsAt id old.listeners place
+        abbrev stands : StandsAt id old.listeners place
         stands = record { before = old_at.before; device = old_at.device; behind = old_at.behind; split = old_at.split; at = old_at.at; named = ap (λ (k : Kept). k.fixed.id) old_at.same ∙ s.named }
 
         sound : AreSound (map kept (stands.before ++ stands.device ∷ stands.behind))

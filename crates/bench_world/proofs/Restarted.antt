@@ -7,7 +7,10 @@ use Rattle.far_air.proofs.Showing.{rests_shown}
 use Rattle.dep_link.specs.Activating.{RestartedTimes}
 use Rattle.llcp_link.specs.State.{restarted, readable_by}
 use Rattle.llcp_pdu.specs.declared.param.Param.TheVariants.{Version, Miux, Wks}
-use Rattle.llcp_pdu.specs.General.{general, general_bytes, said_behind, unmasked}
+use Rattle.llcp_conn.specs.Conn.{IsWindow}
+use Rattle.llcp_link.specs.Names.{is_bound}
+use Rattle.llcp_pdu.specs.General.{IsMiu, general, general_bytes, said_behind, unmasked}
+use Rattle.snep_core.specs.Talk.{server_sap}
 use Rattle.llcp_pdu.specs.Wire.{least_miu, magic}
 use Rattle.llcp_pdu.specs.Writing.{params_bytes}
 use Rattle.peer_air.specs.PeerFars.{peer_ends}
@@ -83,9 +86,9 @@ set_served (d ∷ ds) ps (o ∷ os) zero e f is keeps s = (
     numbered = one.numbered;
     end = f;
     stands = refl;
-    miu = subst _ (ap (λ (l : FarEnd). l.miu) same ∙ sym keeps.miu) one.miu;
-    window = subst _ (ap (λ (l : FarEnd). l.window) same ∙ sym keeps.window) one.window;
-    bound = subst _ (ap (λ (l : FarEnd). l.bound) same ∙ sym keeps.bound) one.bound;
+    miu = subst IsMiu (ap (λ (l : FarEnd). l.miu) same ∙ sym keeps.miu) one.miu;
+    window = subst IsWindow (ap (λ (l : FarEnd). l.window) same ∙ sym keeps.window) one.window;
+    bound = subst (λ bs. is_bound server_sap bs ≡ true) (ap (λ (l : FarEnd). l.bound) same ∙ sym keeps.bound) one.bound;
   },
   s.1,
 )

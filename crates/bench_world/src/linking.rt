@@ -1,8 +1,10 @@
 //! A link to a peer is opened.
 
-ghost use Rattle.std.specs.Prelude.{◌≡◌, ◌↔◌, ◌+◌, ◌^◌, ◌<◌, None, length, IfOk, IfErr, OnErr, IsErrOf, IsTrue};
+ghost use Rattle.std.specs.Prelude.{◌≡◌, ◌↔◌, ◌⊎◌, ◌+◌, ◌^◌, ◌<◌, Some, None, length, IsSome, IfOk, IfErr, OnErr, IsErrOf, IsTrue};
 ghost use Rattle.llcp_conn.specs.Conn.{IsWindow};
 ghost use Rattle.llcp_pdu.specs.General.{IsMiu};
+ghost use Rattle.nfca_poll.specs.declared.fault.PollFault.TheVariants as faults;
+ghost use Rattle.bench_world.specs.Answering.{poll_answer};
 ghost use Rattle.bench_world.specs.Legal.{CutFront};
 ghost use Rattle.bench_world.specs.Obeying.{IsSettled, Obeyed, IsCutOff, RefusedOnly, state_at};
 
@@ -12,7 +14,7 @@ use crate::entry::Answer;
 use crate::machines::Machines;
 use bench_devices::{Selection, select};
 use bench_script::{Command, DeviceId};
-use nfca_poll::Ident;
+use nfca_poll::{Ident, PollFault};
 use std::alloc::Global;
 
 /// Whether an end may have this MIU and receive window.
@@ -20,6 +22,18 @@ pub(crate) fn are_link_sizes(miu: u16, rw: u8) -> bool
     ensures { IsTrue result ↔ (IsMiu miu × IsWindow rw) }
 {
     (128 <= miu && miu < 2176) && (1 <= rw && rw <= 15)
+}
+
+/// The answer that tells of a fault of polling.
+fn not_found(fault: PollFault) -> Result<Answer, ObeyFault>
+    requires { IsSome (poll_answer fault) ⊎ (fault ≡ faults.Memory) }
+    ensures told { IfOk result (λ answer. poll_answer fault ≡ Some answer) }
+    ensures memory { IfErr result (λ e. e ≡ ObeyFault.Memory) }
+{
+    match missed(fault) {
+        Ok(answer) => Ok(answer),
+        Err(_) => Err(ObeyFault::Memory),
+    }
 }
 
 /// Selects a device, and opens a link to it where it is a peer.
@@ -41,19 +55,17 @@ fn select_and_open(
     ensures memory { IfErr result (λ e. e ≡ ObeyFault.Memory) }
 {
     let device = DeviceId::A(id.copy());
-    match select(alloc, &mut machines.field, &device) {
-        Err(_) => Err(ObeyFault::Memory),
-        Ok(Selection::Missed(fault)) => match missed(fault) {
-            Ok(answer) => Ok(answer),
-            Err(_) => Err(ObeyFault::Memory),
-        },
-        Ok(Selection::Place(place)) => {
-            if machines.devices()[place].is_tag() {
-                return Ok(Answer::WrongKind);
-            }
-            machines.open(alloc, place, miu, rw)
-        }
+    let Ok(selection) = select(alloc, &mut machines.field, &device) else {
+        return Err(ObeyFault::Memory);
+    };
+    let place = match selection {
+        Selection::Missed(fault) => return not_found(fault),
+        Selection::Place(place) => place,
+    };
+    if machines.devices()[place].is_tag() {
+        return Ok(Answer::WrongKind);
     }
+    machines.open(alloc, place, miu, rw)
 }
 
 /// Opens a link to a peer, from a reset on, which ends the open link.
