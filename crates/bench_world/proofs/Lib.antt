@@ -14,6 +14,7 @@ pub mod Telling
 pub mod Legality
 pub mod OpensHere
 pub mod Restarted
+pub mod LinkHere
 pub mod LinkObeyed
 mod SelectedPlace
 pub mod AskedBehind

@@ -287,6 +287,20 @@ module _ (ends : Ends) (peers : Peers) (old : Air Device) (id : List ℕ) (miu r
         } in
         asks_so NoStore os old mid (Link id miu rw) [] hs answers.WrongKind idle places tt may refl g over refl none (plain_so st id miu rw g.events answers.WrongKind (λ n linked. cc)) law s.selects.asked.same
 
+    abbrev old_at : OldAt old.listeners place s.device
+    old_at =
+        old_stands old.listeners s.stands.before s.device s.stands.behind place
+        (sym s.selects.asked.same ∙ ap (λ (w : World Device). map kept w.listeners) s.stands.world) s.stands.at
+
+    abbrev stands : StandsAt id old.listeners place
+    stands = record { before = old_at.before; device = old_at.device; behind = old_at.behind; split = old_at.split; at = old_at.at; named = ap (λ (k : Kept). k.fixed.id) old_at.same ∙ s.named }
+
+    pub served_there : is_tag s.device ≡ false → IsServed (get_or peers.numbers place None) (get_or ends place None)
+    served_there peer =
+        subst (λ k. IsServed (get_or peers.numbers k None) (get_or ends k None)) stands.at
+        (served_at stands.before stands.device stands.behind peers.numbers ends (sym (same_tag s.device stands.device (ap (λ (k : Kept). k.fixed.kind) (sym old_at.same))) ∙ peer)
+        (subst (λ ls. AreServed ls peers.numbers ends) stands.split places.served))
+
     -- It was a peer, and ATR_REQ was asked of it.
     module _ (peer : is_tag s.device ≡ false) (far after : FarEnd) (there : get_or ends place None ≡ Some far) (new : Air Device) (result : Result (InitState × ArrayVec ℕ) EndCause)
         (o : Opens restarts (Answers serving) mid far new after (own_general miu) place s.device result) where
@@ -444,14 +458,6 @@ module _ (ends : Ends) (peers : Peers) (old : Air Device) (id : List ℕ) (miu r
         abbrev link_now : OpenLink
         link_now = record { peer = n; initiator = p.0; client = new_client miu rw p.1.items }
 
-        abbrev old_at : OldAt old.listeners place s.device
-        old_at =
-            old_stands old.listeners s.stands.before s.device s.stands.behind place
-            (sym s.selects.asked.same ∙ ap (λ (w : World Device). map kept w.listeners) s.stands.world) s.stands.at
-
-        abbrev stands : StandsAt id old.listeners place
-        stands = record { before = old_at.before; device = old_at.device; behind = old_at.behind; split = old_at.split; at = old_at.at; named = ap (λ (k : Kept). k.fixed.id) old_at.same ∙ s.named }
-
         sound : AreSound (map kept (stands.before ++ stands.device ∷ stands.behind))
         sound = subst (λ xs. AreSound (map kept xs)) stands.split idle.tame.sound
 
@@ -489,10 +495,7 @@ module _ (ends : Ends) (peers : Peers) (old : Air Device) (id : List ℕ) (miu r
         accords =
             let some : 0 < o.times = subst (λ r. IfOk r (λ q. 0 < o.times)) is o.begun in
             let begun_by = last_begun (own_general miu) o.times far after o.restarted some in
-            let one : IsServed (get_or peers.numbers place None) (get_or ends place None) =
-            subst (λ k. IsServed (get_or peers.numbers k None) (get_or ends k None)) stands.at
-            (served_at stands.before stands.device stands.behind peers.numbers ends (sym (same_tag s.device stands.device (ap (λ (k : Kept). k.fixed.kind) (sym old_at.same))) ∙ peer)
-            (subst (λ ls. AreServed ls peers.numbers ends) stands.split places.served)) in
+            let one : IsServed (get_or peers.numbers place None) (get_or ends place None) = served_there peer in
             let it : one.end ≡ far = (let both : Some one.end ≡ Some far = sym one.stands ∙ there in cc) in
             let made = opened_so.made in
             begun_accords link_now.client after (record {
