@@ -190,7 +190,7 @@ stay_long (d ∷ ds) (e ∷ es) p = ap suc (stay_long ds es p.1)
 pub as_long : (w : BenchWorld) (es : List Event) → length (replay air w es).listeners ≡ length w.listeners
 as_long w es = stay_long w.listeners (replay air w es).listeners (devices_stay w es)
 
-rests_alike : (ls ks : List Device) (os : Ends) → length ls ≡ length ks
+pub rests_alike : (ls ks : List Device) (os : Ends) → length ls ≡ length ks
     → map (rests peer_ends) (shown device_linked peer_ends ls os) ≡ map (rests peer_ends) (shown device_linked peer_ends ks os)
 rests_alike [] [] os e = refl
 rests_alike [] (k ∷ ks) os e = absurd cc

@@ -103,21 +103,21 @@ polls_first asked (Told r ns) LightUp h d = absurd cc
 polls_first asked (Told r ns) (Asks f) h d = absurd cc
 
 -- what stays of devices that are kept
-abbrev stable_in : Kept → StablePart
+abbrev pub stable_in : Kept → StablePart
 stable_in k = record { store = k.store; locked = k.fixed.locked; made = k.fixed.made; target = k.fixed.target }
 
-stores_kept : (ls : List Device) → map stable_of ls ≡ map stable_in (map kept ls)
+pub stores_kept : (ls : List Device) → map stable_of ls ≡ map stable_in (map kept ls)
 stores_kept [] = refl
 stores_kept (d ∷ ls) = ap (λ xs. stable_of d ∷ xs) (stores_kept ls)
 
 -- nothing that stays of the devices changed
-stores_stay : (old new : Air Device) (es : List Event) → (moment new).world ≡ replay air (moment old).world es → map kept new.listeners ≡ map kept old.listeners
+pub stores_stay : (old new : Air Device) (es : List Event) → (moment new).world ≡ replay air (moment old).world es → map kept new.listeners ≡ map kept old.listeners
     → map stable_of (replay air (moment old).world es).listeners ≡ map stable_of old.listeners
 stores_stay old new es world same =
     ap (λ (w : World Device). map stable_of w.listeners) (sym world) ∙ stores_kept new.listeners ∙ ap (map stable_in) same ∙ sym (stores_kept old.listeners)
 
 -- nor of the far ends, where it was cut off
-part_stays : (os : Ends) (old new : Air Device) (es : List Event) → IsIdle old → moment new ≡ with_events air (moment old) es → map kept new.listeners ≡ map kept old.listeners
+pub part_stays : (os : Ends) (old new : Air Device) (es : List Event) → IsIdle old → moment new ≡ with_events air (moment old) es → map kept new.listeners ≡ map kept old.listeners
     → NoneHands devices (moment old).world es → stable (world_behind os (moment old).world new.trace) ≡ stable (seen device_linked peer_ends (moment old).world os [])
 part_stays os old new es idle made same none =
     let trace : new.trace ≡ es = ap (λ (t : Moment (World Device)). t.trace) made ∙ ap (λ t. t ++ es) idle.quiet in
@@ -245,7 +245,7 @@ asked_by old id idle = by_found (device_with (bytes_of id) old.listeners) refl
     by_found (Some d) found = all_asked d (with_sound old.listeners (bytes_of id) d idle.tame.sound found)
 
 -- the field was lost where the answer tells it
-told_lost : (e : PollFault) (answer : Answer) → poll_answer e ≡ Some answer → answer ≡ answers.FieldLost → ◌≡◌ {A = Result SeenKind PollFault} (Err e) (Err faults.FieldLost)
+pub told_lost : (e : PollFault) (answer : Answer) → poll_answer e ≡ Some answer → answer ≡ answers.FieldLost → ◌≡◌ {A = Result SeenKind PollFault} (Err e) (Err faults.FieldLost)
 told_lost faults.Nobody answer is lost = absurd cc
 told_lost faults.Disturbed answer is lost = absurd cc
 told_lost faults.FieldLost answer is lost = refl
@@ -262,7 +262,7 @@ never_six faults.Memory answer is six = cc
 never_six faults.NotFound answer is six = cc
 never_six faults.BadAnswer answer is six = cc
 
-poll_lost : (e : PollFault) (answer : Answer) → poll_answer e ≡ Some answer → ◌≡◌ {A = Result SeenKind PollFault} (Err e) (Err faults.FieldLost) → answer ≡ answers.FieldLost
+pub poll_lost : (e : PollFault) (answer : Answer) → poll_answer e ≡ Some answer → ◌≡◌ {A = Result SeenKind PollFault} (Err e) (Err faults.FieldLost) → answer ≡ answers.FieldLost
 poll_lost e answer is lost = (let same : e ≡ faults.FieldLost = cc in let told : Some answer ≡ Some answers.FieldLost = sym is ∙ ap poll_answer same in cc)
 
 -- what selecting asks, a command of the tag asks

@@ -12,6 +12,10 @@ pub mod Ranges
 pub mod Reached
 pub mod Telling
 pub mod Legality
+pub mod OpensHere
+pub mod Restarted
+pub mod LinkHere
+pub mod LinkObeyed
 mod SelectedPlace
 pub mod AskedBehind
 pub mod Outcomes

@@ -6,7 +6,7 @@ use Rattle.std.proofs.lemmas.Bool.{ne_eqb}
 use Rattle.far_air.specs.FarEnds.{first_far, later_fars}
 use Rattle.bench_devices.specs.declared.device.Device.{Device}
 use Rattle.bench_devices.specs.Device.{is_tag}
-use Rattle.bench_devices.specs.Keeping.{Fixed, AllStayDevices}
+use Rattle.bench_devices.specs.Keeping.{Fixed, Kept, kept, AllStayDevices}
 use Rattle.bench_devices.proofs.TagOrPeer.{same_tag}
 use Rattle.bench_world.specs.World.{FarEnd}
 use Rattle.bench_world.specs.Links.{is_number, end_numbered}
@@ -57,6 +57,15 @@ kinds_stay [] (y ∷ es) a = absurd a
 kinds_stay (x ∷ ds) [] a = absurd a
 kinds_stay (x ∷ ds) (y ∷ es) a =
     ap (λ b. b ∷ map is_tag es) (same_tag y x (ap (λ (k : Fixed). k.kind) a.0.fixed)) ∙ ap (λ bs. is_tag x ∷ bs) (kinds_stay ds es a.1)
+
+pub kinds_of : (ds es : List Device) → map kept ds ≡ map kept es → map is_tag ds ≡ map is_tag es
+kinds_of [] [] e = refl
+kinds_of [] (y ∷ es) e = absurd cc
+kinds_of (x ∷ ds) [] e = absurd cc
+kinds_of (x ∷ ds) (y ∷ es) e =
+    let one : kept x ≡ kept y = cc in
+    let more : map kept ds ≡ map kept es = cc in
+    ap (λ b. b ∷ map is_tag ds) (same_tag x y (ap (λ (k : Kept). k.fixed.kind) one)) ∙ ap (λ bs. is_tag y ∷ bs) (kinds_of ds es more)
 
 -- a server is given a value
 offered_served : (key value : List ℕ) (p : Option ℕ) (o : Option FarEnd) → IsServed p o → IsServed p (option_map (end_offered key value) o)

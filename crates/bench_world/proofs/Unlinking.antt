@@ -3,26 +3,30 @@ use Rattle.std.proofs.Common.{◌≡◌, ℕ, suc, zero, ◌+◌, ◌<◌, List,
 use Rattle.std.specs.Prelude.{get_or, drop, slice_set}
 use Rattle.nfc_base.specs.declared.event.Event.{Event}
 use Rattle.air_core.specs.Turn.{Air}
-use Rattle.air_core.specs.Conversation.{Note, Over, receptions}
+use Rattle.air_core.specs.Conversation.{Note, receptions, queue_after}
 use Rattle.far_air.specs.FarEnds.{first_far, later_fars, by_link}
 use Rattle.far_air.specs.FarLaws.{shown}
 use Rattle.peer_air.specs.PeerFars.{peer_ends}
 use Rattle.bench_script.specs.declared.command.Command.{Command}
-use Rattle.bench_script.specs.declared.command.Command.TheVariants.{Remove, Find, Read, Write}
+use Rattle.bench_script.specs.declared.command.Command.TheVariants.{Remove, Find, Read, Write, Link}
 use Rattle.bench_script.specs.declared.command.DeviceId.{DeviceId}
+use Rattle.bench_script.specs.declared.command.DeviceId.TheVariants.{A}
 use Rattle.bench_script.specs.declared.message.Msg.{Msg}
 use Rattle.bench_script.specs.DeviceIds.{bytes_of}
 use Rattle.bench_devices.specs.declared.device.Device.{Device}
 use Rattle.bench_devices.specs.Choosing.{StandsAt}
+use Rattle.bench_devices.specs.Placed.{device_with}
+use Rattle.bench_world.specs.Linking.{LinkTells, link_if, own_general}
 use Rattle.bench_devices.specs.Device.{device_linked}
 use Rattle.bench_devices.specs.Keeping.{kept, AreSound}
 use Rattle.bench_world.specs.declared.entry.Answer.{Answer}
 use Rattle.bench_world.specs.declared.entry.Answer.TheVariants.{Done}
+use Rattle.bench_world.specs.declared.entry.Answer.TheVariants as answers
 use Rattle.bench_world.specs.declared.inbox.LinkRange.{LinkRange}
 use Rattle.bench_world.specs.World.{FarEnd}
 use Rattle.bench_world.specs.Peers.{Peers, placed_under}
-use Rattle.bench_world.specs.Links.{OpenLink, accepted_by, end_numbered, is_number, ended, with_last_ended, last_ended, is_with}
-use Rattle.bench_world.specs.Legal.{State, Given, Joins, IsPlaced, AnswerLaw, FrontOf, CutFront, CutStores, changed, due, unlinked, is_linked_to, without_device}
+use Rattle.bench_world.specs.Links.{OpenLink, accepted_by, end_numbered, is_number, ended, with_last_ended, last_ended, is_with, accepted_at, begun_if}
+use Rattle.bench_world.specs.Legal.{State, Given, Joins, IsPlaced, AnswerLaw, FrontOf, CutFront, CutStores, changed, due, unlinked, is_linked_to, without_device, world_after, link_after, state_after}
 use Rattle.bench_world.specs.Obeying.{Machines, state_at, under, HasPlaces, IsSettled, KeepsLink, Obeyed, IsCutOff, ObeyedUnlinked, CutOffUnlinked, link_ended, taken_out}
 use Rattle.std.proofs.lemmas.List.{length-append}
 use Rattle.bench_world.proofs.LinkKept.{keeps_so, open_less}
@@ -35,7 +39,7 @@ accepted_by_link true o = refl
 accepted_by_link false None = refl
 accepted_by_link false (Some l) = refl
 
-accepted_shown : (n : ℕ) (ps : List (Option ℕ)) (ls : List Device) (os : List (Option FarEnd)) → length ps ≡ length ls
+pub accepted_shown : (n : ℕ) (ps : List (Option ℕ)) (ls : List Device) (os : List (Option FarEnd)) → length ps ≡ length ls
     → accepted_by (end_numbered n ps (shown device_linked peer_ends ls os)) ≡ accepted_by (end_numbered n ps os)
 accepted_shown n [] ls os e = refl
 accepted_shown n (p ∷ ps) [] os e = absurd cc
@@ -98,49 +102,92 @@ write_resets id m = record {
   stores = λ s joins es l. record { law = l.law; others = l.others; ends = l.ends };
 }
 
+-- so is the opening of a link
+same_numbers : (o : Option OpenLink) (p : Peers) (os : List (Option FarEnd)) → (ended o os p).numbers ≡ p.numbers
+same_numbers None p os = refl
+same_numbers (Some l) p os = refl
+
+as_many_links : (n : ℕ) (ls : List LinkRange) → length (last_ended n ls) ≡ length ls
+as_many_links n [] = refl
+as_many_links n (x ∷ []) = refl
+as_many_links n (x ∷ y ∷ ls) = ap suc (as_many_links n (y ∷ ls))
+
+pub count_ended : (o : Option OpenLink) (p : Peers) (os : List (Option FarEnd)) → length (ended o os p).links ≡ length p.links
+count_ended None p os = refl
+count_ended (Some l) p os = as_many_links (accepted_at l.peer p os) p.links
+
+same_opened : (s : State) (joins : Joins) (id : List ℕ) (miu rw : ℕ) (es : List Event) (told : Option Answer) → link_after (unlinked s) joins (Link id miu rw) es told ≡ link_after s joins (Link id miu rw) es told
+same_opened s joins id miu rw es None = refl
+same_opened s joins id miu rw es (Some (answers.Linked n)) =
+    ap (λ ps. link_if (placed_under id s.world.field.listeners ps) (device_with id s.world.field.listeners) miu rw) (same_numbers s.link s.peers s.world.fars)
+same_opened s joins id miu rw es (Some a) = refl
+
+same_after : (s : State) (joins : Joins) (id : List ℕ) (miu rw : ℕ) (es : List Event) (told : Option Answer) → state_after (unlinked s) joins (Link id miu rw) es told ≡ state_after s joins (Link id miu rw) es told
+same_after s joins id miu rw es told =
+    let S : Option OpenLink → State = λ l. record {
+      world = world_after s joins (Link id miu rw) es;
+      queue = queue_after s.queue es;
+      peers = begun_if l s.world.fars (unlinked s).peers;
+      link = l;
+    } in
+    ap S (same_opened s joins id miu rw es told)
+
+pub link_resets : (id : List ℕ) (miu rw : ℕ) → IsReset (Link id miu rw)
+link_resets id miu rw = record {
+  front = λ s t g es told f. record { accepted = f.accepted; asks = f.asks; turns = f.turns; fates = f.fates; each = f.each; after = f.after ∙ same_after s g.joins id miu rw es told };
+  next = λ s g ns. refl;
+  law = λ s g es answer l. record {
+      tells = subst (λ n. LinkTells (A id) s.world.field.listeners (n + 1) (own_general miu) es answer) (count_ended s.link s.peers s.world.fars) l.tells;
+      stays = l.stays;
+    };
+  stores = λ s joins es stays. stays;
+}
+
 -- the machines with this field
 abbrev pub upon : Machines → Air Device → Machines
 upon m a = record { air = a; ends = m.ends; peers = m.peers; link = m.link }
 
-module _ (c : Command) (r : IsReset c) (old : Machines) (settled : IsSettled old) (b : Air Device) where
+module _ (c : Command) (r : IsReset c) (old : Machines) (settled : IsSettled old) (now : Machines) where
   -- it was obeyed once no link was open
-  behind_ended : (answer : Answer) → Obeyed (link_ended old) (upon (link_ended old) b) c answer → Obeyed old (upon (link_ended old) b) c answer
+  pub behind_ended : (answer : Answer) → Obeyed (link_ended old) now c answer → Obeyed old now c answer
   behind_ended answer o =
       let s : State = state_at old in
-      let t : State = state_at (upon (link_ended old) b) in
+      let t : State = state_at now in
+      let es : List Event = now.air.trace in
       let same : state_at (link_ended old) ≡ unlinked s = unlinked_state old settled.places in
-      let F : State → Type 0 = λ x. FrontOf x o.given c b.trace (Some answer) t in
-      let A : State → Type 0 = λ x. AnswerLaw x o.given c b.trace answer in
+      let F : State → Type 0 = λ x. FrontOf x o.given c es (Some answer) t in
+      let L : State → Type 0 = λ x. AnswerLaw x o.given c es answer in
       record {
         given = o.given;
-        front = r.front s t o.given b.trace (Some answer) (subst F same o.front);
-        over = r.next s o.given (receptions b.trace) ∙ ap (λ x. due x o.given c (receptions b.trace)) (sym same) ∙ o.over;
-        answered = r.law s o.given b.trace answer (subst A same o.answered);
+        front = r.front s t o.given es (Some answer) (subst F same o.front);
+        over = r.next s o.given (receptions es) ∙ ap (λ x. due x o.given c (receptions es)) (sym same) ∙ o.over;
+        answered = r.law s o.given es answer (subst L same o.answered);
         tame = o.tame;
         tidy = o.tidy;
         places = o.places;
         link = o.link;
       }
 
+  -- or cut off
+  pub front_ended : CutFront (state_at (link_ended old)) c now.air.trace (state_at now) → CutFront (state_at old) c now.air.trace (state_at now)
+  front_ended cut =
+      let s : State = state_at old in
+      let t : State = state_at now in
+      let same : state_at (link_ended old) ≡ unlinked s = unlinked_state old settled.places in
+      let F : State → Type 0 = λ x. FrontOf x cut.0 c now.air.trace None t in
+      let C : State → Type 0 = λ x. CutStores x (cut.0).joins c now.air.trace in
+      (cut.0, r.front s t cut.0 now.air.trace None (subst F same cut.1), r.stores s (cut.0).joins now.air.trace (subst C same cut.2))
+
+module _ (c : Command) (r : IsReset c) (old : Machines) (settled : IsSettled old) (b : Air Device) where
   pub reset_obeyed : (m : Machines) (answer : Answer) → m ≡ link_ended old → ObeyedUnlinked m.air b c answer → Obeyed old (upon m b) c answer
   reset_obeyed m answer is o =
       let P : Machines → Type 0 = λ x. ObeyedUnlinked x.air b c answer → Obeyed old (upon x b) c answer in
-      subst P (sym is) (λ p. behind_ended answer (p old.ends (link_ended old).peers (places_ended old settled.places))) o
-
-  -- or cut off
-  front_ended : CutFront (state_at (link_ended old)) c b.trace (state_at (upon (link_ended old) b)) → CutFront (state_at old) c b.trace (state_at (upon (link_ended old) b))
-  front_ended cut =
-      let s : State = state_at old in
-      let t : State = state_at (upon (link_ended old) b) in
-      let same : state_at (link_ended old) ≡ unlinked s = unlinked_state old settled.places in
-      let F : State → Type 0 = λ x. FrontOf x cut.0 c b.trace None t in
-      let C : State → Type 0 = λ x. CutStores x (cut.0).joins c b.trace in
-      (cut.0, r.front s t cut.0 b.trace None (subst F same cut.1), r.stores s (cut.0).joins b.trace (subst C same cut.2))
+      subst P (sym is) (λ p. behind_ended c r old settled (upon (link_ended old) b) answer (p old.ends (link_ended old).peers (places_ended old settled.places))) o
 
   pub reset_cut : (m : Machines) → m ≡ link_ended old → CutOffUnlinked m.air b c → IsCutOff old (upon m b) c
   reset_cut m is o =
       let P : Machines → Type 0 = λ x. CutOffUnlinked x.air b c → IsCutOff old (upon x b) c in
-      subst P (sym is) (λ p. inr (inl (front_ended (p old.ends (link_ended old).peers)))) o
+      subst P (sym is) (λ p. inr (inl (front_ended c r old settled (upon (link_ended old) b) (p old.ends (link_ended old).peers)))) o
 
 -- The link to a device ends before that is taken away.
 abbrev pub ended_to : Machines → ℕ → Machines

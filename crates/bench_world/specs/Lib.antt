@@ -11,6 +11,7 @@ pub mod Opened
 pub mod Inbox
 pub mod Legal
 pub mod Obeying
+pub mod LinkedAt
 pub mod Behind
 pub mod Completing
 pub mod Quiet

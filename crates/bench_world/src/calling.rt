@@ -41,7 +41,7 @@ fn end_range(machines: &mut Machines, place: usize)
     ensures { machines.new ≡ record machines.old {
         peers = with_last_ended (accepted_by (get_or machines.old.ends place None)) machines.old.peers } }
 {
-    let end = accepted_above(&mut machines.ends[place]);
+    let end = accepted_above(&machines.ends[place]);
     end_last(&mut machines.links, end);
 }
 

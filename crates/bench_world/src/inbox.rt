@@ -133,24 +133,6 @@ pub fn inbox_of(
     Ok(Items::new(told))
 }
 
-/// Messages that a server accepted on no link.
-pub(crate) fn without_link(alloc: Global, server: &Server) -> Result<Items<Received>, AllocError>
-    ensures { IfOk result (λ rs. rs ≡ told_of 0 server.now.accepted) }
-{
-    let messages = server.accepted();
-    let sources = server.sources();
-    let mut told = Vec::new(alloc);
-    for place in 0..messages.len() {
-        let message = Items::from_bytes(alloc, messages[place].as_slice())?;
-        told.push(Received {
-            link: 0,
-            source: sources[place],
-            message,
-        })?;
-    }
-    Ok(Items::new(told))
-}
-
 #[cfg(test)]
 mod tests {
     use super::*;

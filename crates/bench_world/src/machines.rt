@@ -1,17 +1,22 @@
 //! The machines of a bench: the field, the far ends above its devices, the numbers of peers, and the open link.
 
-ghost use Rattle.std.specs.Prelude.{◌≡◌, ◌<◌, List, Option, None, length, get_or, IfSome};
+ghost use Rattle.std.specs.Prelude.{◌≡◌, ◌≢◌, ◌<◌, List, Option, None, false, length, get_or, IfSome};
+ghost use Rattle.llcp_conn.specs.Conn.{IsWindow};
+ghost use Rattle.llcp_pdu.specs.General.{IsMiu};
+ghost use Rattle.bench_world.specs.LinkedAt.{own_params, new_client, not_opened, begun, OpensAt};
 ghost use Rattle.bench_world.specs.Links.{accepted_by, end_numbered, is_number, last_ended};
 ghost use Rattle.bench_world.specs.World.{FarEnd};
 
-use crate::entry::Received;
-use crate::inbox::{LinkRange, without_link};
+use crate::bench::ObeyFault;
+use crate::entry::{Answer, Loss, Received};
+use crate::inbox::{LinkRange, inbox_of};
 use air_core::Field;
-use bench_devices::Device;
+use bench_devices::{Device, open_link};
 use dep_link::Initiator;
 use llcp_link::Llc;
-use nfc_base::{Event, Items};
-use snep_core::{Client, Server};
+use llcp_pdu::{LinkParams, general_write};
+use nfc_base::{Answerer, EndCause, Event, Items};
+use snep_core::{Client, NoService, Server};
 use std::alloc::{AllocError, Global};
 use std::marker::Model;
 
@@ -35,13 +40,53 @@ impl Model for Link {
 }
 
 /// A far end has accepted so many messages; where none stands, there are none.
-pub(crate) fn accepted_above(end: &mut Option<Llc<Server>>) -> usize
-    ensures count { result ≡ accepted_by end.old }
-    ensures same { end.new ≡ end.old }
+pub(crate) fn accepted_above(end: &Option<Llc<Server>>) -> usize
+    ensures { result ≡ accepted_by end.now }
 {
     match end {
-        Some(end) => end.service().accepted().len(),
+        Some(end) => end.as_service().accepted().len(),
         None => 0,
+    }
+}
+
+/// LLCP 1.3.
+const VERSION: u8 = 0x13;
+
+/// The services of a reader: link management and discovery, by their SAPs 0 and 1.
+const SERVICES: u16 = 0x0003;
+
+/// What an initiator with this MIU says of its end of a link.
+fn own_params(miu: u16) -> LinkParams
+    ensures { result ≡ own_params miu }
+{
+    LinkParams {
+        version: VERSION,
+        miu,
+        wks: SERVICES,
+    }
+}
+
+/// The client on a new link: its end has this MIU and receive window, and the peer said these general bytes.
+fn new_client(alloc: Global, miu: u16, rw: u8, told: &[u8]) -> Client
+    requires miu { IsMiu miu }
+    requires window { IsWindow rw }
+    ensures { result ≡ record { llc = new_client miu rw told.now; spent = false } }
+{
+    let mut end = Llc::new(alloc, own_params(miu), rw, NoService);
+    end.restart(told);
+    Client::new(alloc, end)
+}
+
+/// What is told of a link that couldn't be opened.
+fn not_opened(cause: EndCause) -> Result<Answer, ObeyFault>
+    requires { cause ≢ EndCause.Protocol }
+    ensures { result ≡ not_opened cause }
+{
+    match cause {
+        EndCause::FieldLost => Ok(Answer::LinkEnded(Loss::FieldLost)),
+        EndCause::SixBad => Ok(Answer::LinkEnded(Loss::SixBad)),
+        EndCause::Memory => Err(ObeyFault::Memory),
+        EndCause::Protocol => unreachable!(),
     }
 }
 
@@ -93,7 +138,7 @@ pub struct Machines {
 
 impl Model for Machines {
     ghost use Rattle.bench_world.specs.Obeying.{Machines};
-    ghost use Rattle.std.specs.Prelude.{◌≡◌, []};
+    ghost use Rattle.std.specs.Prelude.{◌<◌, ◌^◌, length};
 
     ghost Value = { Machines };
 
@@ -104,13 +149,17 @@ impl Model for Machines {
       link = m.link;
     } };
 
-    ghost invariant = { λ m. m.links.items ≡ [] };
+    ghost invariant = { λ m. length m.links.items < 2 ^ 32 };
 }
 
 impl Machines {
-    ghost use Rattle.std.specs.Prelude.{◌≡◌, ◌<◌, ◌^◌, ◌++◌, [], ◌∷◌, Some, None, false, length, get_or, option_map, option_copied, if◌then◌else◌, IfSome, IfOk, OnOk, OnErr};
+    ghost use Rattle.std.specs.Prelude.{◌≡◌, ◌<◌, ◌^◌, ◌++◌, [], ◌∷◌, Some, None, false, length, get_or, option_map, option_copied, if◌then◌else◌, ℕ, ◌+◌, IfSome, IfOk, IfErr, OnOk, OnErr};
     ghost use Rattle.bench_world.specs.Obeying.{untraced, put_in, with_end, taken_out, link_ended};
     ghost use Rattle.bench_world.specs.Links.{OpenLink, is_with};
+    ghost use Rattle.bench_world.specs.Opened.{IsServed};
+    ghost use Rattle.bench_devices.specs.Device.{is_tag};
+    ghost use Rattle.bench_devices.specs.Phases.{Stands};
+    ghost use Rattle.air_core.specs.Turn.{moment};
     ghost use Rattle.bench_world.specs.Peers.{no_peers, with_tag, with_peer, end_offered};
     ghost use Rattle.bench_world.specs.Inbox.{inbox_at};
 
@@ -180,7 +229,7 @@ impl Machines {
             return;
         };
         let end = match place_numbered(&self.numbers, link.peer) {
-            Some(place) => accepted_above(&mut self.ends[place]),
+            Some(place) => accepted_above(&self.ends[place]),
             None => 0,
         };
         end_last(&mut self.links, end);
@@ -277,21 +326,78 @@ impl Machines {
         }
     }
 
-    /// What the server at a place accepted. No link has begun yet, so all of it came on none.
-    pub fn inbox(&mut self, alloc: Global, place: usize) -> Result<Items<Received>, AllocError>
-        requires end { place < length self.old.ends }
-        requires number { place < length self.old.peers.numbers }
-        ensures ok { IfOk result (λ rs. rs ≡ inbox_at self.old.peers.links
-            (get_or self.old.peers.numbers place None) (get_or self.old.ends place None)) }
-        ensures same { self.new ≡ self.old }
+    /// What the server at a place accepted, by the links of its peer.
+    pub fn inbox(&self, alloc: Global, place: usize) -> Result<Items<Received>, AllocError>
+        requires end { place < length self.now.ends }
+        requires number { place < length self.now.peers.numbers }
+        ensures { IfOk result (λ rs. rs ≡ inbox_at self.now.peers.links
+            (get_or self.now.peers.numbers place None) (get_or self.now.ends place None)) }
     {
-        if self.numbers[place].is_none() {
-            return Ok(Items::new(Vec::new(alloc)));
+        match (self.numbers[place], &self.ends[place]) {
+            (Some(number), Some(end)) => inbox_of(alloc, end.as_service(), &self.links, number),
+            _ => Ok(Items::new(Vec::new(alloc))),
         }
-        let Some(end) = &mut self.ends[place] else {
-            return Ok(Items::new(Vec::new(alloc)));
+    }
+
+    /// There is no room for the number of one link more.
+    pub fn is_full(&self) -> bool
+        ensures { result ≡ false → length self.now.peers.links + 1 < 2 ^ 32 }
+    {
+        self.links.len() >= u32::MAX as usize
+    }
+
+    /// A link is open to the peer of this number, whose list of accepted messages stands there.
+    fn begin(&mut self, peer: u64, start: usize, initiator: Initiator, client: Client) -> Result<Answer, ObeyFault>
+        requires few { length self.old.peers.links + 1 < 2 ^ 32 }
+        requires fresh { client.spent ≡ false }
+        ensures ok { IfOk result (λ a. a ≡ Answer.Linked (length self.old.peers.links + 1)) }
+        ensures opened { OnOk result (self.new ≡ begun self.old peer start initiator client.llc) }
+        ensures err { IfErr result (λ e. e ≡ ObeyFault.Memory) }
+        ensures same { OnErr result (self.new ≡ self.old) }
+    {
+        let range = LinkRange {
+            peer,
+            start,
+            end: None,
         };
-        without_link(alloc, end.service())
+        if self.links.push(range).is_err() {
+            return Err(ObeyFault::Memory);
+        }
+        self.link = Some(Link {
+            peer,
+            initiator,
+            client,
+        });
+        Ok(Answer::Linked(self.links.len() as u32))
+    }
+
+    /// Opens a link to the selected peer at a place, where none is open.
+    pub fn open(&mut self, alloc: Global, place: usize, miu: u16, rw: u8) -> Result<Answer, ObeyFault>
+        requires miu { IsMiu miu }
+        requires window { IsWindow rw }
+        requires few { length self.old.peers.links + 1 < 2 ^ 32 }
+        requires stands { (d : Device) × Stands (moment self.old.air) place d × (is_tag d ≡ false) }
+        requires served { IsServed (get_or self.old.peers.numbers place None) (get_or self.old.ends place None) }
+        requires number { place < length self.old.peers.numbers }
+        requires end { place < length self.old.ends }
+        ensures { (peer : ℕ) (far : FarEnd) → get_or self.old.peers.numbers place None ≡ Some peer
+            → get_or self.old.ends place None ≡ Some far → OpensAt self.old self.new place miu rw peer far result }
+    {
+        let Some(peer) = self.numbers[place] else {
+            unreachable!();
+        };
+        let Some(end) = &mut self.ends[place] else {
+            unreachable!();
+        };
+        let start = end.as_service().accepted().len();
+        let general = general_write(&own_params(miu));
+        match open_link(&mut self.field, &general, end) {
+            Ok((initiator, told)) => {
+                let client = new_client(alloc, miu, rw, &told);
+                self.begin(peer, start, initiator, client)
+            }
+            Err(end) => not_opened(end.cause),
+        }
     }
 
     /// Takes the device at a place out, its far end and its number. Later places move down by one.

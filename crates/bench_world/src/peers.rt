@@ -13,24 +13,12 @@ ghost use Rattle.bench_devices.specs.Choosing.{StandsAt};
 use crate::bench::{ObeyFault, is_free, is_placed};
 use crate::entry::Answer;
 use crate::machines::Machines;
-use bench_devices::{Device, PeerUpper, place_of};
+use bench_devices::{Device, PeerUpper, peer_params, place_of};
 use bench_script::{Command, DeviceId};
-use llcp_link::Llc;
-use llcp_pdu::LinkParams;
+use llcp_link::{Llc, LlcFault};
 use nfca_poll::{Front, Ident};
-use snep_core::Server;
+use snep_core::{SNEP_NAME, SNEP_SAP, Server};
 use std::alloc::{AllocError, Global};
-
-/// LLCP 1.3.
-const VERSION: u8 = 0x13;
-
-/// The services of a peer: link management, service discovery and SNEP, by their SAPs 0, 1 and 4.
-const SERVICES: u16 = 0x0013;
-
-/// A SNEP server is reached under this name, at this SAP (NFC Forum SNEP 1.0).
-const SNEP_NAME: &str = "urn:nfc:sn:snep";
-
-const SNEP_SAP: u8 = 4;
 
 /// Whether there are such peers.
 fn are_sizes(lr: u8, miu: u16, rw: u8, limit: u32) -> bool
@@ -49,15 +37,11 @@ fn far_end(alloc: Global, miu: u16, rw: u8, limit: u32) -> Result<Llc<Server>, A
     requires limit { IsLimit limit }
     ensures { IfOk result (λ l. l ≡ new_end miu rw limit) }
 {
-    let params = LinkParams {
-        version: VERSION,
-        miu,
-        wks: SERVICES,
-    };
-    let mut end = Llc::new(alloc, params, rw, Server::new(alloc, limit));
+    let mut end = Llc::new(alloc, peer_params(miu), rw, Server::new(alloc, limit));
     match end.listen(SNEP_NAME, SNEP_SAP) {
         Ok(()) => Ok(end),
-        Err(_) => Err(AllocError),
+        Err(LlcFault::Memory) => Err(AllocError),
+        Err(LlcFault::Busy | LlcFault::NameTaken | LlcFault::SapTaken) => unreachable!(),
     }
 }
 
@@ -137,11 +121,10 @@ pub fn offer_value(
 }
 
 /// Tells what a peer's server accepted.
-pub fn inbox(alloc: Global, machines: &mut Machines, id: &DeviceId) -> Result<Answer, ObeyFault>
-    requires { IsSettled machines.old }
-    ensures ok { IfOk result (λ a. Obeyed machines.old machines.new (Command.Inbox id.now) a) }
-    ensures err { OnErr result (machines.new ≡ machines.old) }
-    ensures cause { RefusedOnly result machines.old (Command.Inbox id.now) }
+pub fn inbox(alloc: Global, machines: &Machines, id: &DeviceId) -> Result<Answer, ObeyFault>
+    requires { IsSettled machines.now }
+    ensures ok { IfOk result (λ a. Obeyed machines.now machines.now (Command.Inbox id.now) a) }
+    ensures cause { RefusedOnly result machines.now (Command.Inbox id.now) }
 {
     let Some(place) = peer_at(machines, id) else {
         return Err(ObeyFault::Refused);

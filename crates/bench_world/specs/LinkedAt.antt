@@ -1,0 +1,70 @@
+-- What opening a link to the peer at a place does to machines.
+use Rattle.std.specs.Prelude.{◌≡◌, ℕ, ◌+◌, List, length, slice_set, Option, Some, None, Result, Ok, Err}
+use Rattle.nfc_base.specs.declared.carrier.EndCause.{EndCause}
+use Rattle.nfc_base.specs.declared.carrier.EndCause.TheVariants.{FieldLost, SixBad, Protocol, Memory}
+use Rattle.air_core.specs.Turn.{Air}
+use Rattle.arrayvec.specs.ArrayVec.{ArrayVec}
+use Rattle.dep_link.specs.Initiator.{InitState}
+use Rattle.llcp_link.specs.Answering.{Answers}
+use Rattle.llcp_link.specs.State.{fresh_end, restarted}
+use Rattle.llcp_pdu.specs.declared.general.LinkParams.{LinkParams}
+use Rattle.snep_core.specs.Server.{serving}
+use Rattle.snep_core.specs.Talk.{EndState, silent}
+use Rattle.bench_devices.specs.declared.device.Device.{Device}
+use Rattle.bench_devices.specs.Opening.{OpensAny}
+use Rattle.bench_world.specs.declared.bench.ObeyFault.{ObeyFault}
+use Rattle.bench_world.specs.declared.bench.ObeyFault.TheVariants as faults
+use Rattle.bench_world.specs.declared.entry.Answer.{Answer}
+use Rattle.bench_world.specs.declared.entry.Answer.TheVariants as answers
+use Rattle.bench_world.specs.declared.entry.Loss.TheVariants as losses
+use Rattle.bench_world.specs.World.{FarEnd}
+use Rattle.bench_world.specs.Linking.{own_general, no_service}
+use Rattle.bench_world.specs.Links.{OpenLink, with_link}
+use Rattle.bench_world.specs.Obeying.{Machines}
+
+-- what an initiator says of its end of a link
+abbrev pub own_params : ℕ → LinkParams
+own_params miu = record { version = 0x13; miu = miu; wks = 0x0003 }
+
+-- its end, to which these general bytes were said
+abbrev pub new_client : ℕ → ℕ → List ℕ → EndState
+new_client miu window told = restarted silent (fresh_end miu window no_service) told
+
+-- the machines with this link
+abbrev pub begun : Machines → ℕ → ℕ → InitState → EndState → Machines
+begun m peer start i client = record {
+  air = m.air;
+  ends = m.ends;
+  peers = with_link (record { peer = peer; start = start; end = None }) m.peers;
+  link = Some (record { peer = peer; initiator = i; client = client });
+}
+
+-- what is told of a link that couldn't be opened; no answer comes that isn't allowed
+abbrev pub not_opened : EndCause → Result Answer ObeyFault
+not_opened FieldLost = Ok (answers.LinkEnded losses.FieldLost)
+not_opened SixBad = Ok (answers.LinkEnded losses.SixBad)
+not_opened Protocol = Err faults.Memory
+not_opened Memory = Err faults.Memory
+
+-- a new link of an end, and its steps
+abbrev pub restarts : FarEnd → List ℕ → FarEnd → Type 0
+restarts old general new = new ≡ restarted serving old general
+
+-- the machines with this field, and this far end at a place
+abbrev pub moved_at : Machines → Air Device → ℕ → FarEnd → Machines
+moved_at m air place after = record { air = air; ends = slice_set m.ends place (Some after); peers = m.peers; link = m.link }
+
+-- What is there then, by what came of ATR_REQ: the link that is open; or none, where no answer came, or memory was wanting.
+abbrev pub LinkLeft : Machines → ℕ → ℕ → ℕ → ℕ → Result (InitState × ArrayVec ℕ) EndCause → Result Answer ObeyFault → Machines → Type 0
+LinkLeft mid miu window peer start (Ok p) (Ok a) new =
+    (a ≡ answers.Linked (length mid.peers.links + 1)) × (new ≡ begun mid peer start p.0 (new_client miu window p.1.items))
+LinkLeft mid miu window peer start (Ok p) (Err e) new = (e ≡ faults.Memory) × (new ≡ mid)
+LinkLeft mid miu window peer start (Err cause) result new = (result ≡ not_opened cause) × (new ≡ mid)
+
+-- ATR_REQ was asked of the peer with this number and far end.
+pub record OpensAt (old new : Machines) (place miu window peer : ℕ) (far : FarEnd) (result : Result Answer ObeyFault) : Type 0 where
+  pub air : Air Device
+  pub after : FarEnd
+  pub came : Result (InitState × ArrayVec ℕ) EndCause
+  pub asks : OpensAny restarts (Answers serving) old.air far air after (own_general miu) came
+  pub left : LinkLeft (moved_at old air place after) miu window peer (length far.service.accepted) came result new
