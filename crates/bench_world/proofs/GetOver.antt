@@ -3,6 +3,7 @@ use Rattle.std.proofs.Common.{◌≡◌, ◌⊎◌, ℕ, ◌≤◌, List, [], le
 use Rattle.std.specs.Prelude.{get_or, slice_set}
 use Rattle.nfc_base.specs.declared.carrier.EndCause.{EndCause}
 use Rattle.nfc_base.specs.declared.carrier.EndCause.TheVariants as cause
+use Rattle.nfc_base.specs.declared.event.Event.{Event}
 use Rattle.air_core.specs.Turn.{Air}
 use Rattle.dep_link.specs.Initiator.{InitState}
 use Rattle.snep_core.specs.declared.fault.SnepFault.{SnepFault}
@@ -16,7 +17,7 @@ use Rattle.snep_core.specs.Calling.{refused_by}
 use Rattle.snep_core.specs.Talk.{EndState, Ends, Finds, Gets, alone, begins}
 use Rattle.link_calls.specs.Calls.{CallFails, IsMade, RequestFails}
 use Rattle.bench_script.specs.declared.command.Command.{Command}
-use Rattle.bench_script.specs.declared.command.Command.TheVariants.{Get, Lookup}
+use Rattle.bench_script.specs.declared.command.Command.TheVariants.{Get, Lookup, Unlink}
 use Rattle.bench_script.specs.Script.{SpellsName}
 use Rattle.bench_devices.specs.declared.device.Device.{Device}
 use Rattle.bench_devices.specs.Device.{device_end}
@@ -25,9 +26,11 @@ use Rattle.bench_world.specs.declared.entry.Answer.{Answer}
 use Rattle.bench_world.specs.declared.entry.Answer.TheVariants as answers
 use Rattle.bench_world.specs.World.{FarEnd}
 use Rattle.bench_world.specs.Calls.{told_ending, told_loss}
-use Rattle.bench_world.specs.Legal.{MayGet}
+use Rattle.bench_world.specs.Legal.{FrontOf, MayGet}
+use Rattle.bench_world.specs.Peers.{Peers}
+use Rattle.bench_world.proofs.OnCall.{given_by}
 use Rattle.bench_world.specs.Links.{OpenLink, accepted_by, end_numbered, with_last_ended}
-use Rattle.bench_world.specs.Obeying.{Machines, IsCutOff, IsSettled, Obeyed, under}
+use Rattle.bench_world.specs.Obeying.{Machines, IsCutOff, IsSettled, Obeyed, state_at, under}
 use Rattle.bench_world.proofs.OnLink.{Ends as FarEnds}
 use Rattle.bench_world.proofs.Getting.{value_got, get_refused, get_lost, get_short, name_found, lookup_lost, lookup_short}
 use Rattle.bench_world.proofs.Chosen.{so, spot, its, accords_so, obeyed_so, cut_so, place_is, far_is}
@@ -196,3 +199,68 @@ module _ (old : Machines) (settled : IsSettled old) (l : OpenLink) (linked : old
 
     pub never_looked : (x y : SnepFault) → x ≡ y → (Accords l.client far → AsideFails far x after) → AsideFails far y after
     never_looked x y r left = subst (λ z. AsideFails far z after) r (left accords)
+
+-- where no link is open nothing is sent
+module _ (air : Air Device) (ends : FarEnds) (peers : Peers) (settled : IsSettled (under ends peers None air)) where
+  abbrev Rests : Command → Type 0
+  Rests c = Obeyed (under ends peers None air) (under ends peers None air) c answers.NoLink
+
+  abbrev Front : Command → List Event → Type 0
+  Front c es = FrontOf (state_at (under ends peers None air)) (given_by [] []) c es (Some answers.NoLink) (state_at (under ends peers None air))
+
+  got_none : (most : ℕ) (key : List ℕ) → MayGet most key → Rests (Get most key)
+  got_none most key may = record {
+    given = given_by [] [];
+    front = subst (Front (Get most key)) (sym settled.idle.quiet) (record { accepted = may; asks = refl; turns = record { moves = []; made = refl }; fates = tt; each = tt; after = refl });
+    over = refl;
+    answered = refl;
+    tame = settled.idle.tame;
+    tidy = settled.idle.tidy;
+    places = settled.places;
+    link = tt;
+  }
+
+  looked_none : (name : List ℕ) → SpellsName name name → Rests (Lookup name)
+  looked_none name may = record {
+    given = given_by [] [];
+    front = subst (Front (Lookup name)) (sym settled.idle.quiet) (record { accepted = may; asks = refl; turns = record { moves = []; made = refl }; fates = tt; each = tt; after = refl });
+    over = refl;
+    answered = refl;
+    tame = settled.idle.tame;
+    tidy = settled.idle.tidy;
+    places = settled.places;
+    link = tt;
+  }
+
+  closed_none : Rests Unlink
+  closed_none = record {
+    given = given_by [] [];
+    front = subst (Front Unlink) (sym settled.idle.quiet) (record { accepted = tt; asks = refl; turns = record { moves = []; made = refl }; fates = tt; each = tt; after = refl });
+    over = refl;
+    answered = refl;
+    tame = settled.idle.tame;
+    tidy = settled.idle.tidy;
+    places = settled.places;
+    link = tt;
+  }
+
+module _ (old : Machines) (settled : IsSettled old) (none : old.link ≡ None) (was : Machines) (is : was ≡ old) (o : Option OpenLink) (left : o ≡ None) where
+  abbrev Now : Option OpenLink → Machines
+  Now x = under old.ends old.peers x old.air
+
+  stays_so : (c : Command) → Obeyed (Now None) (Now None) c answers.NoLink → Obeyed was (Now o) c answers.NoLink
+  stays_so c done =
+      subst (λ x. Obeyed x (Now o) c answers.NoLink) (sym is)
+      (subst (λ x. Obeyed (Now x) (Now o) c answers.NoLink) (sym none) (subst (λ x. Obeyed (Now None) (Now x) c answers.NoLink) (sym left) done))
+
+  idle : IsSettled (Now None)
+  idle = subst (λ x. IsSettled (Now x)) none settled
+
+  pub get_nowhere : (most : ℕ) (key : List ℕ) → MayGet most key → Obeyed was (Now o) (Get most key) answers.NoLink
+  get_nowhere most key may = stays_so (Get most key) (got_none old.air old.ends old.peers idle most key may)
+
+  pub lookup_nowhere : (name : List ℕ) → SpellsName name name → Obeyed was (Now o) (Lookup name) answers.NoLink
+  lookup_nowhere name may = stays_so (Lookup name) (looked_none old.air old.ends old.peers idle name may)
+
+  pub close_nowhere : Obeyed was (Now o) Unlink answers.NoLink
+  close_nowhere = stays_so Unlink (closed_none old.air old.ends old.peers idle)

@@ -40,3 +40,4 @@ pub mod Chosen
 pub mod PutOver
 pub mod Getting
 pub mod GetOver
+pub mod OnClosing
