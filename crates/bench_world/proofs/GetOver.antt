@@ -67,19 +67,19 @@ never_short refusals.NotImplemented e = cc
 
 module _ (old : Machines) (settled : IsSettled old) (l : OpenLink) (linked : old.link ≡ Some l) (q : ℕ) (at : (os : FarEnds) → end_numbered l.peer old.peers.numbers os ≡ get_or os q None) (w : Option FarEnd) (far : FarEnd)
     (holds : w ≡ get_or old.ends q w) (some : w ≡ Some far) (b : Air Device) (j : InitState) (after : FarEnd) (client : EndState) (was : Machines) (is : was ≡ old) where
-  same_far : far ≡ its old settled l linked
+  pub same_far : far ≡ its old settled l linked
   same_far = far_is old settled l linked q at w far holds some
 
-  accords : Accords l.client far
+  pub accords : Accords l.client far
   accords = accords_so old settled l linked q at w far holds some
 
   abbrev OpenAt : ℕ → Machines
   OpenAt n = under (slice_set old.ends n (Some after)) old.peers (Some (record { peer = l.peer; initiator = j; client = client })) b
 
-  abbrev GoneAt : ℕ → Machines
+  abbrev pub GoneAt : ℕ → Machines
   GoneAt n = under (slice_set old.ends n (Some after)) (with_last_ended (accepted_by (get_or (slice_set old.ends n (Some after)) n None)) old.peers) None b
 
-  abbrev Before : Machines
+  abbrev pub Before : Machines
   Before = under old.ends old.peers (Some l) old.air
 
   same_place : q ≡ spot old settled l linked
@@ -90,12 +90,12 @@ module _ (old : Machines) (settled : IsSettled old) (l : OpenLink) (linked : old
       subst (λ x. Obeyed x (OpenAt q) c answer) (sym is)
       (subst (λ n. Obeyed old (OpenAt n) c answer) (sym same_place) (obeyed_so old settled l linked _ c answer o))
 
-  gone_so : (c : Command) (answer : Answer) (new : Machines) → new ≡ GoneAt q → Obeyed Before (GoneAt (spot old settled l linked)) c answer → Obeyed was new c answer
+  pub gone_so : (c : Command) (answer : Answer) (new : Machines) → new ≡ GoneAt q → Obeyed Before (GoneAt (spot old settled l linked)) c answer → Obeyed was new c answer
   gone_so c answer new left o =
       subst (λ x. Obeyed x new c answer) (sym is) (subst (λ y. Obeyed old y c answer) (sym left)
       (subst (λ n. Obeyed old (GoneAt n) c answer) (sym same_place) (obeyed_so old settled l linked _ c answer o)))
 
-  short_so : (c : Command) (new : Machines) → new ≡ GoneAt q → IsCutOff Before (GoneAt (spot old settled l linked)) c → IsCutOff was new c
+  pub short_so : (c : Command) (new : Machines) → new ≡ GoneAt q → IsCutOff Before (GoneAt (spot old settled l linked)) c → IsCutOff was new c
   short_so c new left o =
       subst (λ x. IsCutOff x new c) (sym is) (subst (λ y. IsCutOff old y c) (sym left)
       (subst (λ n. IsCutOff old (GoneAt n) c) (sym same_place) (cut_so old settled l linked _ c o)))

@@ -41,3 +41,4 @@ pub mod PutOver
 pub mod Getting
 pub mod GetOver
 pub mod OnClosing
+pub mod CloseOver
