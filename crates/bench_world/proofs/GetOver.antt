@@ -3,6 +3,7 @@ use Rattle.std.proofs.Common.{◌≡◌, ◌⊎◌, ℕ, ◌≤◌, List, [], le
 use Rattle.std.specs.Prelude.{get_or, slice_set}
 use Rattle.nfc_base.specs.declared.carrier.EndCause.{EndCause}
 use Rattle.nfc_base.specs.declared.carrier.EndCause.TheVariants as cause
+use Rattle.nfc_base.specs.declared.event.Event.{Event}
 use Rattle.air_core.specs.Turn.{Air}
 use Rattle.dep_link.specs.Initiator.{InitState}
 use Rattle.snep_core.specs.declared.fault.SnepFault.{SnepFault}
@@ -16,7 +17,7 @@ use Rattle.snep_core.specs.Calling.{refused_by}
 use Rattle.snep_core.specs.Talk.{EndState, Ends, Finds, Gets, alone, begins}
 use Rattle.link_calls.specs.Calls.{CallFails, IsMade, RequestFails}
 use Rattle.bench_script.specs.declared.command.Command.{Command}
-use Rattle.bench_script.specs.declared.command.Command.TheVariants.{Get, Lookup}
+use Rattle.bench_script.specs.declared.command.Command.TheVariants.{Get, Lookup, Unlink}
 use Rattle.bench_script.specs.Script.{SpellsName}
 use Rattle.bench_devices.specs.declared.device.Device.{Device}
 use Rattle.bench_devices.specs.Device.{device_end}
@@ -25,9 +26,11 @@ use Rattle.bench_world.specs.declared.entry.Answer.{Answer}
 use Rattle.bench_world.specs.declared.entry.Answer.TheVariants as answers
 use Rattle.bench_world.specs.World.{FarEnd}
 use Rattle.bench_world.specs.Calls.{told_ending, told_loss}
-use Rattle.bench_world.specs.Legal.{MayGet}
+use Rattle.bench_world.specs.Legal.{FrontOf, MayGet}
+use Rattle.bench_world.specs.Peers.{Peers}
+use Rattle.bench_world.proofs.OnCall.{given_by}
 use Rattle.bench_world.specs.Links.{OpenLink, accepted_by, end_numbered, with_last_ended}
-use Rattle.bench_world.specs.Obeying.{Machines, IsCutOff, IsSettled, Obeyed, under}
+use Rattle.bench_world.specs.Obeying.{Machines, IsCutOff, IsSettled, Obeyed, state_at, under}
 use Rattle.bench_world.proofs.OnLink.{Ends as FarEnds}
 use Rattle.bench_world.proofs.Getting.{value_got, get_refused, get_lost, get_short, name_found, lookup_lost, lookup_short}
 use Rattle.bench_world.proofs.Chosen.{so, spot, its, accords_so, obeyed_so, cut_so, place_is, far_is}
@@ -64,19 +67,19 @@ never_short refusals.NotImplemented e = cc
 
 module _ (old : Machines) (settled : IsSettled old) (l : OpenLink) (linked : old.link ≡ Some l) (q : ℕ) (at : (os : FarEnds) → end_numbered l.peer old.peers.numbers os ≡ get_or os q None) (w : Option FarEnd) (far : FarEnd)
     (holds : w ≡ get_or old.ends q w) (some : w ≡ Some far) (b : Air Device) (j : InitState) (after : FarEnd) (client : EndState) (was : Machines) (is : was ≡ old) where
-  same_far : far ≡ its old settled l linked
+  pub same_far : far ≡ its old settled l linked
   same_far = far_is old settled l linked q at w far holds some
 
-  accords : Accords l.client far
+  pub accords : Accords l.client far
   accords = accords_so old settled l linked q at w far holds some
 
   abbrev OpenAt : ℕ → Machines
   OpenAt n = under (slice_set old.ends n (Some after)) old.peers (Some (record { peer = l.peer; initiator = j; client = client })) b
 
-  abbrev GoneAt : ℕ → Machines
+  abbrev pub GoneAt : ℕ → Machines
   GoneAt n = under (slice_set old.ends n (Some after)) (with_last_ended (accepted_by (get_or (slice_set old.ends n (Some after)) n None)) old.peers) None b
 
-  abbrev Before : Machines
+  abbrev pub Before : Machines
   Before = under old.ends old.peers (Some l) old.air
 
   same_place : q ≡ spot old settled l linked
@@ -87,12 +90,12 @@ module _ (old : Machines) (settled : IsSettled old) (l : OpenLink) (linked : old
       subst (λ x. Obeyed x (OpenAt q) c answer) (sym is)
       (subst (λ n. Obeyed old (OpenAt n) c answer) (sym same_place) (obeyed_so old settled l linked _ c answer o))
 
-  gone_so : (c : Command) (answer : Answer) (new : Machines) → new ≡ GoneAt q → Obeyed Before (GoneAt (spot old settled l linked)) c answer → Obeyed was new c answer
+  pub gone_so : (c : Command) (answer : Answer) (new : Machines) → new ≡ GoneAt q → Obeyed Before (GoneAt (spot old settled l linked)) c answer → Obeyed was new c answer
   gone_so c answer new left o =
       subst (λ x. Obeyed x new c answer) (sym is) (subst (λ y. Obeyed old y c answer) (sym left)
       (subst (λ n. Obeyed old (GoneAt n) c answer) (sym same_place) (obeyed_so old settled l linked _ c answer o)))
 
-  short_so : (c : Command) (new : Machines) → new ≡ GoneAt q → IsCutOff Before (GoneAt (spot old settled l linked)) c → IsCutOff was new c
+  pub short_so : (c : Command) (new : Machines) → new ≡ GoneAt q → IsCutOff Before (GoneAt (spot old settled l linked)) c → IsCutOff was new c
   short_so c new left o =
       subst (λ x. IsCutOff x new c) (sym is) (subst (λ y. IsCutOff old y c) (sym left)
       (subst (λ n. IsCutOff old (GoneAt n) c) (sym same_place) (cut_so old settled l linked _ c o)))
@@ -196,3 +199,68 @@ module _ (old : Machines) (settled : IsSettled old) (l : OpenLink) (linked : old
 
     pub never_looked : (x y : SnepFault) → x ≡ y → (Accords l.client far → AsideFails far x after) → AsideFails far y after
     never_looked x y r left = subst (λ z. AsideFails far z after) r (left accords)
+
+-- where no link is open nothing is sent
+module _ (air : Air Device) (ends : FarEnds) (peers : Peers) (settled : IsSettled (under ends peers None air)) where
+  abbrev Rests : Command → Type 0
+  Rests c = Obeyed (under ends peers None air) (under ends peers None air) c answers.NoLink
+
+  abbrev Front : Command → List Event → Type 0
+  Front c es = FrontOf (state_at (under ends peers None air)) (given_by [] []) c es (Some answers.NoLink) (state_at (under ends peers None air))
+
+  got_none : (most : ℕ) (key : List ℕ) → MayGet most key → Rests (Get most key)
+  got_none most key may = record {
+    given = given_by [] [];
+    front = subst (Front (Get most key)) (sym settled.idle.quiet) (record { accepted = may; asks = refl; turns = record { moves = []; made = refl }; fates = tt; each = tt; after = refl });
+    over = refl;
+    answered = refl;
+    tame = settled.idle.tame;
+    tidy = settled.idle.tidy;
+    places = settled.places;
+    link = tt;
+  }
+
+  looked_none : (name : List ℕ) → SpellsName name name → Rests (Lookup name)
+  looked_none name may = record {
+    given = given_by [] [];
+    front = subst (Front (Lookup name)) (sym settled.idle.quiet) (record { accepted = may; asks = refl; turns = record { moves = []; made = refl }; fates = tt; each = tt; after = refl });
+    over = refl;
+    answered = refl;
+    tame = settled.idle.tame;
+    tidy = settled.idle.tidy;
+    places = settled.places;
+    link = tt;
+  }
+
+  closed_none : Rests Unlink
+  closed_none = record {
+    given = given_by [] [];
+    front = subst (Front Unlink) (sym settled.idle.quiet) (record { accepted = tt; asks = refl; turns = record { moves = []; made = refl }; fates = tt; each = tt; after = refl });
+    over = refl;
+    answered = refl;
+    tame = settled.idle.tame;
+    tidy = settled.idle.tidy;
+    places = settled.places;
+    link = tt;
+  }
+
+module _ (old : Machines) (settled : IsSettled old) (none : old.link ≡ None) (was : Machines) (is : was ≡ old) (o : Option OpenLink) (left : o ≡ None) where
+  abbrev Now : Option OpenLink → Machines
+  Now x = under old.ends old.peers x old.air
+
+  stays_so : (c : Command) → Obeyed (Now None) (Now None) c answers.NoLink → Obeyed was (Now o) c answers.NoLink
+  stays_so c done =
+      subst (λ x. Obeyed x (Now o) c answers.NoLink) (sym is)
+      (subst (λ x. Obeyed (Now x) (Now o) c answers.NoLink) (sym none) (subst (λ x. Obeyed (Now None) (Now x) c answers.NoLink) (sym left) done))
+
+  idle : IsSettled (Now None)
+  idle = subst (λ x. IsSettled (Now x)) none settled
+
+  pub get_nowhere : (most : ℕ) (key : List ℕ) → MayGet most key → Obeyed was (Now o) (Get most key) answers.NoLink
+  get_nowhere most key may = stays_so (Get most key) (got_none old.air old.ends old.peers idle most key may)
+
+  pub lookup_nowhere : (name : List ℕ) → SpellsName name name → Obeyed was (Now o) (Lookup name) answers.NoLink
+  lookup_nowhere name may = stays_so (Lookup name) (looked_none old.air old.ends old.peers idle name may)
+
+  pub close_nowhere : Obeyed was (Now o) Unlink answers.NoLink
+  close_nowhere = stays_so Unlink (closed_none old.air old.ends old.peers idle)

@@ -44,3 +44,5 @@ pub mod Chosen
 pub mod PutOver
 pub mod Getting
 pub mod GetOver
+pub mod OnClosing
+pub mod CloseOver

@@ -79,7 +79,7 @@ module _ (air : Air Device) (ends : FarEnds) (peers : Peers) (l : OpenLink) (set
     abbrev pub to : Option OpenLink → Peers → Machines
     to link ps = under far_now ps link b
 
-    world_then : seen device_linked peer_ends (world b) far_now [] ≡ world_after from_state given.joins c es
+    pub world_then : seen device_linked peer_ends (world b) far_now [] ≡ world_after from_state given.joins c es
     world_then =
         world_is air ends peers l settled next plain b after notes g
         ∙ ap (λ (s : State). with_numbers (replay bench_air (with_numbers s.world g.taken) es) []) (sym still)

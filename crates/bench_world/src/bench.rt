@@ -12,7 +12,7 @@ ghost use Rattle.bench_world.specs.Links.{OpenLink};
 ghost use Rattle.bench_devices.specs.Phases.{IsIdle};
 
 use crate::asking::{find, read_tag, write_message};
-use crate::calling::put;
+use crate::calling::{get, put, unlink};
 use crate::entry::{Answer, Entry};
 use crate::linking::link;
 use crate::machines::Machines;
@@ -336,9 +336,9 @@ fn run_command(
         Command::Write { id, message } => write_message(alloc, machines, id, message),
         Command::Link { id, miu, rw } => link(alloc, machines, id, *miu, *rw),
         Command::Put { message } => put(alloc, machines, message),
-        Command::Get { .. } | Command::Lookup { .. } | Command::Unlink => {
-            Err(ObeyFault::Memory)
-        }
+        Command::Get { acceptable, key } => get(machines, *acceptable, key.as_slice()),
+        Command::Lookup { .. } => Err(ObeyFault::Memory),
+        Command::Unlink => unlink(machines),
     }
 }
 

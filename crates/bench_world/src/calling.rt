@@ -15,7 +15,7 @@ use crate::bench::ObeyFault;
 use crate::entry::{Answer, Loss};
 use crate::machines::{Link, Machines, accepted_above, end_last, place_numbered};
 use bench_script::{Command, Msg};
-use link_calls::{get_on, put_on};
+use link_calls::{close_and_release, get_on, put_on};
 use nfc_base::{EndCause, Items};
 use snep_core::SnepFault;
 use std::alloc::{AllocError, Global};
@@ -219,6 +219,60 @@ pub fn get(machines: &mut Machines, acceptable: u32, key: &[u8]) -> Result<Answe
         return Err(ObeyFault::Refused);
     }
     match get_value(machines, acceptable, key) {
+        Ok(answer) => Ok(answer),
+        Err(_) => Err(ObeyFault::Memory),
+    }
+}
+
+/// Ends the client's connection and releases the link, where a link is open.
+fn close(machines: &mut Machines) -> Result<Answer, AllocError>
+    requires { IsSettled machines.old }
+    ensures ok { IfOk result (λ a. Obeyed machines.old machines.new Command.Unlink a) }
+    ensures cut { OnErr result (IsCutOff machines.old machines.new Command.Unlink) }
+{
+    let Some(link) = machines.link.take() else {
+        return Ok(Answer::NoLink);
+    };
+    let Link {
+        peer,
+        mut initiator,
+        mut client,
+    } = link;
+    let Some(place) = place_numbered(&machines.numbers, peer) else {
+        unreachable!()
+    };
+    let Some(far) = &mut machines.ends[place] else {
+        unreachable!()
+    };
+    match close_and_release(&mut machines.field, &mut initiator, &mut client, far) {
+        Ok(()) => {
+            end_range(machines, place);
+            Ok(Answer::Unlinked)
+        }
+        Err(SnepFault::LinkEnded(cause)) => {
+            end_range(machines, place);
+            Ok(lost(cause))
+        }
+        Err(SnepFault::Memory) => {
+            end_range(machines, place);
+            Err(AllocError)
+        }
+        Err(SnepFault::Reject) => unreachable!(),
+        Err(SnepFault::NotFound) => unreachable!(),
+        Err(SnepFault::Excess) => unreachable!(),
+        Err(SnepFault::NotImplemented) => unreachable!(),
+        Err(SnepFault::BadPeer) => unreachable!(),
+    }
+}
+
+/// Closes the open link.
+pub fn unlink(machines: &mut Machines) -> Result<Answer, ObeyFault>
+    requires { IsSettled machines.old }
+    ensures ok { IfOk result (λ a. Obeyed machines.old machines.new Command.Unlink a) }
+    ensures cut { OnErr result (IsCutOff machines.old machines.new Command.Unlink) }
+    ensures never { IsErrOf result ObeyFault.Refused → ⊥ }
+{
+    match close(machines) {
         Ok(answer) => Ok(answer),
         Err(_) => Err(ObeyFault::Memory),
     }

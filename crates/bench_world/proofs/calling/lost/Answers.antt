@@ -1,2 +1,2 @@
-use Rattle.bench_world.proofs.PutOver.{put_nowhere}
+use Rattle.bench_world.proofs.OnClosing.{closed}
 use Rattle.bench_world.proofs.calling.lost.Goals as goal

@@ -1,0 +1,158 @@
+-- The open link is closed.
+use Rattle.std.proofs.Common.{◌≡◌, ◌↔◌, ◌⊎◌, ℕ, ◌<◌, List, [], ◌∷◌, ◌++◌, length, Bool, true, false, Option, Some, None, refl, sym, ◌∙◌, ap, subst, inl, inr}
+use Rattle.std.specs.Prelude.{get_or, slice_set, drop}
+use Rattle.nfc_base.specs.declared.carrier.EndCause.{EndCause}
+use Rattle.nfc_base.specs.declared.carrier.EndCause.TheVariants as cause
+use Rattle.nfc_base.specs.declared.event.Event.{Event}
+use Rattle.nfc_base.specs.Trace.{noise}
+use Rattle.air_core.specs.Turn.{Air}
+use Rattle.air_core.specs.Conversation.{Note, Next, Over}
+use Rattle.peer_air.specs.PeerFars.{peer_ends}
+use Rattle.nfc_base.specs.Far.{Untouched}
+use Rattle.nfc_base.specs.declared.event.Heard.{Heard}
+use Rattle.dep_link.specs.Initiator.{InitState}
+use Rattle.dep_link.specs.Releasing.{rls_frame}
+use Rattle.snep_core.specs.Accord.{IsClosed}
+use Rattle.snep_core.specs.Server.{ServerState}
+use Rattle.snep_core.specs.Talk.{EndState, Step, Leaves, begins}
+use Rattle.link_calls.specs.CallDue.{BrokenBy}
+use Rattle.link_calls.specs.ClosingDue.{ClosingStanding, Calls, Released, closing_due, closing_due_at, closing_stand}
+use Rattle.link_calls.specs.Closing.{ClosingFront, ClosingTurns, IsClosingShort, IsLost, IsReleased, SendsRls}
+use Rattle.link_calls.specs.Staying.{setting_of}
+use Rattle.bench_script.specs.declared.command.Command.TheVariants.{Unlink}
+use Rattle.bench_devices.specs.declared.device.Device.{Device}
+use Rattle.bench_devices.specs.Device.{devices, device_end, device_linked}
+use Rattle.bench_devices.specs.Keeping.{ghosts}
+use Rattle.bench_devices.proofs.PeerLinks.{devices_link}
+use Rattle.bench_world.specs.declared.entry.Answer.{Answer}
+use Rattle.bench_world.specs.declared.entry.Answer.TheVariants as answers
+use Rattle.bench_world.specs.declared.entry.Loss.TheVariants as losses
+use Rattle.bench_world.specs.World.{FarEnd, WholeWorld}
+use Rattle.bench_world.specs.Calls.{IsTold, stands_closing, told_closing, told_loss}
+use Rattle.bench_world.specs.Links.{OpenLink, accepted_by, ended, with_last_ended}
+use Rattle.bench_world.specs.Legal.{State, Joins, CutFront, HaltsCall, due, link_after, peers_after, world_after}
+use Rattle.bench_world.specs.Obeying.{Machines, IsCutOff, IsSettled, Obeyed, state_at, under}
+use Rattle.bench_world.specs.Peers.{Peers}
+use Rattle.bench_world.specs.World.{bench_air}
+use Rattle.bench_world.proofs.CallNotes.{IsPlainNext, closing_broken, closing_lost, closings_plain}
+use Rattle.bench_world.proofs.OnLink.{Ends as FarEnds, accepted_now, going, stands, trace_is}
+use Rattle.bench_world.proofs.OnCall.{cut_off, end, from_state, given_by, halted, obeyed, place, stays_then, world_then}
+
+module _ (air : Air Device) (ends : FarEnds) (peers : Peers) (l : OpenLink) (settled : IsSettled (under ends peers (Some l) air)) (b : Air Device) (after : FarEnd) where
+  abbrev pub from : Step
+  from = begins l.client Leaves
+
+  abbrev pub spot : ℕ
+  spot = place air ends peers l settled
+
+  abbrev pub far : FarEnd
+  far = end air ends peers l settled
+
+  abbrev pub gone : Machines
+  gone = under (slice_set ends spot (Some after)) (with_last_ended (accepted_by (get_or (slice_set ends spot (Some after)) spot None)) peers) None b
+
+  -- turns of the closing up to where it stands so
+  module _ (numbers : List ℕ) (standing : ClosingStanding) (t : ClosingTurns ghosts device_linked peer_ends numbers from l.initiator air b spot ends far after standing) where
+    abbrev next : List Note → Next
+    next = closing_due numbers from l.initiator
+
+    abbrev plain : (ns : List Note) → IsPlainNext (next ns)
+    plain = closings_plain numbers from l.initiator
+
+    abbrev same : (ns : List Note) → due (from_state air ends peers l settled) (given_by numbers t.going.taken) Unlink ns ≡ next ns
+    same = λ ns. refl
+
+    abbrev events : List Event
+    events = (going air ends peers l settled next plain b after t.notes t.going).events
+
+    abbrev joins : Joins
+    joins = record { own = numbers; far = t.going.taken }
+
+    stand_is : stands_closing l numbers events ≡ standing
+    stand_is = ap (closing_stand numbers from l.initiator) (going air ends peers l settled next plain b after t.notes t.going).known ∙ t.stands
+
+    gone_peers : (told : Option Answer) → peers_after (from_state air ends peers l settled) joins Unlink events told ≡ with_last_ended (accepted_by (get_or (slice_set ends spot (Some after)) spot None)) peers
+    gone_peers told =
+        ap (λ (w : WholeWorld). ended (Some l) w.fars peers) (sym (world_then air ends peers l settled next plain Unlink numbers b after t.notes t.going refl tt refl same))
+        ∙ ap (λ n. with_last_ended n peers) (accepted_now air ends peers l settled next plain b after t.notes t.going)
+
+    pub closed : setting_of after ≡ setting_of far → after.service.accepted ≡ far.service.accepted → (answer : Answer) → told_closing standing ≡ Some answer → closing_due_at standing ≡ Over
+        → ((standing ≡ Calls (BrokenBy cause.FieldLost)) ↔ (answer ≡ answers.LinkEnded losses.FieldLost)) → (answer ≡ answers.LinkEnded losses.SixBad → 0 < noise events)
+        → Obeyed (under ends peers (Some l) air) gone Unlink answer
+    closed set accepted answer told over lost noisy =
+        obeyed air ends peers l settled next plain Unlink numbers b after t.notes t.going refl tt refl same answer None
+        (with_last_ended (accepted_by (get_or (slice_set ends spot (Some after)) spot None)) peers)
+        (ap closing_due_at t.stands ∙ over) refl (gone_peers (Some answer))
+        (record {
+        told = record {
+          tells = ap told_closing stand_is ∙ told;
+          lost = (
+              λ e. closing_broken bench_air numbers from l.initiator _ _ t.notes (going air ends peers l settled next plain b after t.notes t.going) (t.stands ∙ lost.1 e),
+              λ some. lost.0 (sym t.stands ∙ closing_lost bench_air numbers from l.initiator _ _ t.notes (going air ends peers l settled next plain b after t.notes t.going) some),
+            );
+          noisy = noisy;
+        };
+        stays = stays_then air ends peers l settled next plain Unlink numbers b after t.notes t.going refl tt refl same set accepted;
+      }) set refl refl tt
+
+    pub closing_cut : setting_of after ≡ setting_of far → after.service.accepted ≡ far.service.accepted → CutFront (from_state air ends peers l settled) Unlink b.trace (state_at gone)
+    closing_cut set accepted =
+        cut_off air ends peers l settled next plain Unlink numbers b after t.notes t.going refl tt refl same None
+        (with_last_ended (accepted_by (get_or (slice_set ends spot (Some after)) spot None)) peers) refl (gone_peers None)
+        (stays_then air ends peers l settled next plain Unlink numbers b after t.notes t.going refl tt refl same set accepted)
+
+  -- no device hands anything over at RLS_REQ
+  module _ (quiet : (d : Device) → devices.handed d rls_frame ≡ Untouched) (j : InitState) (client : EndState) where
+    sent_set : {heard : Option Heard} → SendsRls ghosts device_end from air l.initiator far b after heard → setting_of after ≡ setting_of far
+    sent_set s = ap setting_of (s.same quiet) ∙ s.carried.setting
+
+    pub released : (to : Step) → IsReleased ghosts device_end from air l.initiator far b after to → IsClosed far client after → Obeyed (under ends peers (Some l) air) gone Unlink answers.Unlinked
+    released to r c =
+        let t = r.turns device_linked devices_link spot (stands air ends peers l settled) ends in
+        closed t.0 (Released to) t.1 (sent_set r.sent) (ap (λ (s : ServerState). s.accepted) c.aside.service) answers.Unlinked refl refl
+        ((λ e. absurd cc), (λ e. absurd cc)) (λ e. absurd cc)
+
+    lost_set : (w : EndCause) → IsLost ghosts device_end from air l.initiator far b after j w → setting_of after ≡ setting_of far
+    lost_set w x = elim x.how [
+      | inl carried ↦ carried.setting
+      | inr (is, sent) ↦ sent_set sent
+    ]
+
+    pub lost : (w : EndCause) (answer : Answer) → IsLost ghosts device_end from air l.initiator far b after j w → told_loss w ≡ Some answer → after.service.accepted ≡ far.service.accepted
+        → Obeyed (under ends peers (Some l) air) gone Unlink answer
+    lost w answer x told accepted =
+        let t = x.turns device_linked devices_link spot (stands air ends peers l settled) ends in
+        let es : List Event = events t.0 (Calls (BrokenBy w)) t.1 in
+        let noisy : w ≡ cause.SixBad → 0 < noise es = λ six.
+        subst (λ xs. 0 < noise xs) (ap (λ xs. drop (length xs) b.trace) settled.idle.quiet
+        ∙ trace_is air ends peers l settled (next t.0 (Calls (BrokenBy w)) t.1) (plain t.0 (Calls (BrokenBy w)) t.1) b after t.1.notes t.1.going) (x.noisy six) in
+        closed t.0 (Calls (BrokenBy w)) t.1 (lost_set w x) accepted answer told refl (lost_is w told) (λ e. noisy (six_is w told e))
+      where
+        lost_is : (w : EndCause) → told_loss w ≡ Some answer → ((Calls (BrokenBy w) ≡ Calls (BrokenBy cause.FieldLost)) ↔ (answer ≡ answers.LinkEnded losses.FieldLost))
+        lost_is cause.FieldLost e = ((λ q. let same : answers.LinkEnded losses.FieldLost ≡ answer = cc in sym same), (λ q. refl))
+        lost_is cause.SixBad e = ((λ q. absurd cc), (λ q. absurd (let same : answers.LinkEnded losses.SixBad ≡ answer = cc in let clash : answers.LinkEnded losses.SixBad ≡ answers.LinkEnded losses.FieldLost = same ∙ q in cc)))
+        lost_is cause.Protocol e = absurd cc
+        lost_is cause.Memory e = absurd cc
+
+        six_is : (w : EndCause) → told_loss w ≡ Some answer → answer ≡ answers.LinkEnded losses.SixBad → w ≡ cause.SixBad
+        six_is cause.FieldLost e q = absurd (let same : answers.LinkEnded losses.FieldLost ≡ answer = cc in let clash : answers.LinkEnded losses.FieldLost ≡ answers.LinkEnded losses.SixBad = same ∙ q in cc)
+        six_is cause.SixBad e q = refl
+        six_is cause.Protocol e q = absurd cc
+        six_is cause.Memory e q = absurd cc
+
+    pub short : IsClosingShort ghosts device_end from air l.initiator far b after → after.service.accepted ≡ far.service.accepted → IsCutOff (under ends peers (Some l) air) gone Unlink
+    short s accepted = inr (by_left (s.front device_linked devices_link spot (stands air ends peers l settled) ends))
+      where
+        by_left : ClosingFront ghosts device_linked peer_ends from l.initiator air b spot ends far after
+            → CutFront (from_state air ends peers l settled) Unlink b.trace (state_at gone) ⊎ HaltsCall (from_state air ends peers l settled) Unlink b.trace (state_at gone)
+        by_left f = elim f.left [
+          | inl (field, stays) ↦ inl (
+              let T : Air Device → FarEnd → Type 0 = λ a e. ClosingTurns ghosts device_linked peer_ends f.numbers from l.initiator air a spot ends far e f.standing in
+              let t : T b after = subst (T b) (sym stays) (subst (λ a. T a f.half) (sym field) f.turns) in
+              closing_cut f.numbers f.standing t (s.setting quiet) accepted)
+          | inr (sent, listeners, due, fate, left) ↦ inr (
+              let t = f.turns in
+              halted air ends peers l settled (closing_due f.numbers from l.initiator) (closings_plain f.numbers from l.initiator) Unlink f.numbers f.mid f.half t.notes t.going refl tt refl (λ ns. refl)
+              sent listeners b (ap closing_due_at t.stands ∙ due) fate left
+              (slice_set ends spot (Some after)) (with_last_ended (accepted_by (get_or (slice_set ends spot (Some after)) spot None)) peers))
+        ]
