@@ -73,7 +73,7 @@ module _ (m : Machines) (settled : IsSettled m) (unlinked : m.link ≡ None) (id
       served = here_served peer
 
       abbrev o : OpensAt (upon m mid) now place miu rw served.peer served.end result
-      o = opens served.peer served.end served.peered served.stands
+      o = opens served.peer served.end served.numbered served.stands
 
       abbrev asked : Opens restarts (Answers serving) mid served.end o.air o.after (own_general miu) place s.device o.came
       asked = o.asks place s.device s.stands peer
@@ -104,7 +104,7 @@ module _ (m : Machines) (settled : IsSettled m) (unlinked : m.link ≡ None) (id
       opened_now p came is =
           subst (λ x. Obeyed m x (Link id miu rw) (answers.Linked (length m.peers.links + 1))) (sym is)
           (in_this (begun (moved_at (upon m mid) o.air place o.after) served.peer (length served.end.service.accepted) p.0 (new_client miu rw p.1.items)) (answers.Linked (length m.peers.links + 1))
-          (opened_link m.ends m.peers m.air id miu rw settled.idle there may mid place s peer served.end o.after served.stands o.air o.came asked served.peer served.peered p came))
+          (opened_link m.ends m.peers m.air id miu rw settled.idle there may mid place s peer served.end o.after served.stands o.air o.came asked served.peer served.numbered p came))
 
       by_cases : (came : Result (InitState × ArrayVec ℕ) EndCause) (r : Result Told_answer ObeyFault) → o.came ≡ came
           → LinkLeft (moved_at (upon m mid) o.air place o.after) miu rw served.peer (length served.end.service.accepted) came r now → All r
