@@ -9,8 +9,8 @@ use snep_core::Server;
 use std::alloc::{AllocError, Global};
 use std::marker::Model;
 
-/// A link: its peer, by its number, and where that peer's list of accepted messages stood at the link's start and at its
-/// end. While it is open it goes to the list's end.
+/// A link: its peer, by its number, and where that peer's list of accepted messages stood at the link's start and at
+/// its end. While it is open it goes to the list's end.
 #[derive(Clone, Copy, Debug, PartialEq)]
 pub struct LinkRange {
     pub(crate) peer: u64,
@@ -128,7 +128,7 @@ fn add_ranges(
     Ok(())
 }
 
-/// What a peer's server accepted: first what came on none of these links, then what came on each of them that is the peer's.
+/// What a peer's server accepted: first what came on none of the peer's links, then what came on each of them.
 pub fn inbox_of(
     alloc: Global,
     server: &Server,
