@@ -81,15 +81,15 @@ module _ (own : List ℕ) (place : ℕ) where
   swap_leaves a b t out (Stopped payload ∷ e ∷ ds) x fed at = absurd x
 
   -- a link that a swap begins on isn't over
-  begun_fed : (ss : List Swap) (mid b : DepSeen Device) (did : List FarStep) → Chained ghosts device_end ss mid did b → (b.over ≡ Some Memory → ⊥) → mid.over ≡ Some Memory → ⊥
-  begun_fed [] mid b did (same, none) fed e = fed (ap (λ (z : DepSeen Device). z.over) same ∙ e)
-  begun_fed (s ∷ ss) mid b did (next, rest, x, more, all) fed e = absurd (let clash : None ≡ Some Memory = sym x.begins ∙ e in cc)
+  begun_fed : (ss : List Swap) (mid b : DepSeen Device) → Chained ghosts device_end ss mid b → (b.over ≡ Some Memory → ⊥) → mid.over ≡ Some Memory → ⊥
+  begun_fed [] mid b same fed e = fed (ap (λ (z : DepSeen Device). z.over) same ∙ e)
+  begun_fed (s ∷ ss) mid b (next, x, more) fed e = absurd (let clash : None ≡ Some Memory = sym x.begins ∙ e in cc)
 
-  chain_leaves : (ss : List Swap) (a b : DepSeen Device) (did : List FarStep) → Chained ghosts device_end ss a did b → (b.over ≡ Some Memory → ⊥) → PeerAt own place a.air.listeners → Leaves a b
-  chain_leaves [] a b did (same, none) fed at = subst (Leaves a) (sym same) (leaves_all own place a.air.listeners at)
-  chain_leaves (s ∷ ss) a b did (mid, rest, x, more, all) fed at =
-      let one : Leaves a mid = swap_leaves a mid x.peer s.out s.did x.exchange (begun_fed ss mid b rest more fed) at in
-      leaves_both own place a.air.listeners mid.air.listeners b.air.listeners one (chain_leaves ss mid b rest more fed one.at)
+  chain_leaves : (ss : List Swap) (a b : DepSeen Device) → Chained ghosts device_end ss a b → (b.over ≡ Some Memory → ⊥) → PeerAt own place a.air.listeners → Leaves a b
+  chain_leaves [] a b same fed at = subst (Leaves a) (sym same) (leaves_all own place a.air.listeners at)
+  chain_leaves (s ∷ ss) a b (mid, x, more) fed at =
+      let one : Leaves a mid = swap_leaves a mid x.peer s.out s.did x.exchange (begun_fed ss mid b more fed) at in
+      leaves_both own place a.air.listeners mid.air.listeners b.air.listeners one (chain_leaves ss mid b more fed one.at)
 
 pub swaps_leave : SwapsLeave
-swaps_leave own place a b did moves fed at = chain_leaves own place moves.0 a b did moves.1 fed at
+swaps_leave own place a b ss chain fed at = chain_leaves own place ss a b chain fed at

@@ -3,7 +3,6 @@
 use Rattle.std.specs.Prelude.{◌≤◌, ◌≡◌, ℕ, List, [], ◌∷◌, ◌++◌, Bool, false, Option, Some, Result, Ok, Err, true, length}
 use Rattle.nfc_base.specs.Signal.{Signal, whole_a}
 use Rattle.nfc_base.specs.Far.{Untouched}
-use Rattle.nfc_base.specs.Links.{FarStep}
 use Rattle.nfc_base.specs.declared.event.Heard.{Heard}
 use Rattle.nfc_base.specs.declared.carrier.EndCause.{EndCause}
 use Rattle.nfc_base.specs.declared.carrier.EndCause.TheVariants.{Memory}
@@ -14,7 +13,7 @@ use Rattle.air_core.specs.Conversation.{Moment, Note, Next, Over, Asks, IsDemand
 use Rattle.arrayvec.specs.ArrayVec.{ArrayVec}
 use Rattle.dep_link.specs.Exchange.{InStep}
 use Rattle.dep_link.specs.Initiator.{InitState}
-use Rattle.dep_link.specs.DepLinks.{DepSeen, DepMoves, IsDepReady}
+use Rattle.dep_link.specs.DepLinks.{DepSeen, Swap, Chained, IsDepReady}
 use Rattle.dep_link.specs.Releasing.{Releases, TakesRls, rls_frame}
 use Rattle.far_air.specs.FarEnds.{FarTable}
 use Rattle.far_air.specs.FarLaws.{IsFarTable, IsOfTable}
@@ -50,7 +49,7 @@ OthersAside = (own : List ℕ) (place : ℕ) (ls : List Device) → PeerAt own p
 -- were bad.
 abbrev pub SwapsLeave : Type 0
 SwapsLeave =
-    (own : List ℕ) (place : ℕ) (a b : DepSeen Device) (did : List FarStep) → DepMoves ghosts device_end a did b → (b.over ≡ Some Memory → ⊥) → PeerAt own place a.air.listeners
+    (own : List ℕ) (place : ℕ) (a b : DepSeen Device) (swaps : List Swap) → Chained ghosts device_end swaps a b → (b.over ≡ Some Memory → ⊥) → PeerAt own place a.air.listeners
     → TalkLeaves own place a.air.listeners b.air.listeners
 
 -- A link that is ready for a swap is in step with the peer at its place.

@@ -1,7 +1,6 @@
 -- A call walked along swap by swap.
 use Rattle.std.proofs.Common.{◌≡◌, ℕ, List, [], ◌∷◌, ◌++◌, Bool, true, false, Option, Some, None, refl, sym, ◌∙◌, ap, subst, append_assoc, append-nil, inl, inr}
-use Rattle.nfc_base.specs.Links.{FarStep, Stepped, Stopped, FarMoved, AskedBy, Swapped}
-use Rattle.nfc_link.specs.Swapping.{BySwaps}
+use Rattle.nfc_base.specs.Links.{BySwaps, FarStep, Stepped, Stopped, FarMoved, AskedBy, Swapped}
 use Rattle.nfc_base.specs.declared.carrier.EndCause.{EndCause}
 use Rattle.nfc_base.specs.declared.carrier.EndCause.TheVariants as cause
 use Rattle.air_core.specs.World.{World}
