@@ -1,5 +1,5 @@
 -- What a call over the open link of a field comes to.
-use Rattle.std.proofs.Common.{◌≡◌, ◌≤◌, ℕ, List, [], ◌∷◌, ◌++◌, length, Bool, true, Option, Some, None, Result, Ok, Err, IfErr, IfOk, OnOk, refl, sym, ◌∙◌, ap, subst, inl, inr}
+use Rattle.std.proofs.Common.{◌≡◌, ℕ, List, [], ◌∷◌, Bool, true, Option, Some, None, refl, sym, ◌∙◌, ap, subst, inl, inr}
 use Rattle.nfc_base.specs.Links.{FarStep, Stepped, Stopped}
 use Rattle.nfc_link.specs.Swapping.{BySwaps}
 use Rattle.nfc_base.specs.declared.carrier.EndCause.{EndCause}
@@ -25,7 +25,7 @@ use Rattle.snep_core.specs.Calling.{Talks, Breaks, FailsBy, IsCut, fault_of}
 use Rattle.snep_core.specs.Calling as calling
 use Rattle.snep_core.specs.declared.job.Job.TheVariants.{Over}
 use Rattle.snep_core.specs.declared.job.Ending.TheVariants.{Refused}
-use Rattle.snep_core.specs.Talk.{EndState, IsMost, Step, Goes, Ends, GivesUp, Told, Working, alone, replied}
+use Rattle.snep_core.specs.Talk.{EndState, IsMost, Step, Goes, Ends, GivesUp, Told, alone, replied}
 use Rattle.snep_core.specs.Talk.{ready as ready_of}
 use Rattle.link_calls.specs.CallDue.{CallStanding, Comes, call_at}
 use Rattle.link_calls.specs.CallTurns.{CallTurns, CutBy, sees, swaps}

@@ -1,6 +1,6 @@
 -- A client's connection that is ended, and its link released, in the world with far ends (NFCIP-1, ISO/IEC 18092; NFC Forum LLCP 1.3;
 -- the air is this project's own).
-use Rattle.std.specs.Prelude.{◌≡◌, ◌⊎◌, ℕ, List, [], Bool, true, Option, Result, Ok, Err}
+use Rattle.std.specs.Prelude.{◌≡◌, ◌⊎◌, ℕ, List, Bool, true, Option}
 use Rattle.nfc_base.specs.Signal.{Signal}
 use Rattle.nfc_base.specs.declared.event.Event.TheVariants.{Request}
 use Rattle.nfc_base.specs.declared.event.Fate.TheVariants.{Pass}
@@ -19,7 +19,7 @@ use Rattle.snep_core.specs.declared.fault.SnepFault.{SnepFault}
 use Rattle.snep_core.specs.declared.fault.SnepFault.TheVariants.{BadPeer, LinkEnded, Memory}
 use Rattle.snep_core.specs.Accord.{PeerState}
 use Rattle.snep_core.specs.Talk.{EndState, Step, GivesUp}
-use Rattle.link_calls.specs.CallDue.{CallStanding, BrokenBy, Comes}
+use Rattle.link_calls.specs.CallDue.{BrokenBy, Comes}
 use Rattle.link_calls.specs.ClosingDue.{ClosingStanding, Calls, Released, closing_stand, closing_due, closing_due_at}
 
 module _ {L F : Type 0} (k : Ghosts L) (linked : L → Bool) (t : FarTable F) where
