@@ -19,7 +19,12 @@ pub round_at : (seed a n round part : ℕ) → round < n → part < 5
     → get_or (flat_map (round_lines seed) (range_with_len a n)) (5 * round + part) [] ≡ get_or (round_lines seed (a + round)) part []
 round_at seed a zero round part few within = absurd (omega arith)
 round_at seed a (suc n) zero part few within =
-    get_or_append_left (round_lines seed a) (flat_map (round_lines seed) (range_with_len (a + 1) n)) [] part within
+    let rest : List (List ℕ) = flat_map (round_lines seed) (range_with_len (a + 1) n) in
+    let place : 5 * 0 + part ≡ part = omega arith in
+    let here : a ≡ a + 0 = omega arith in
+    ap (λ p. get_or (round_lines seed a ++ rest) p []) place
+    ∙ get_or_append_left (round_lines seed a) rest [] part within
+    ∙ ap (λ r. get_or (round_lines seed r) part []) here
 round_at seed a (suc n) (suc round) part few within =
     let rest : List (List ℕ) = flat_map (round_lines seed) (range_with_len (a + 1) n) in
     let place : 5 * suc round + part ≡ 5 + (5 * round + part) = omega arith in
