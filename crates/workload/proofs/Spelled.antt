@@ -84,15 +84,20 @@ counted_spelled : (size first : ℕ) → size < 1024 → first < 256 → SpellsC
 counted_spelled size first s f = record { spells = refl; few = omega arith; byte = f }
 
 write_spelled : (size first : ℕ) → size < 1024 → first < 256 → Spells (write_line size first) (Write (A tag_id) (Gen size first))
-write_spelled size first s f =
-    (codes "04112233445566", message_text (Gen size first),
-    ap (λ ws. codes "write" ∷ codes "04112233445566" ∷ ws) (counted_word size first (omega arith) (omega arith)),
-    tag_named, counted_spelled size first s f)
+write_spelled size first s f = (
+  codes "04112233445566",
+  message_text (Gen size first),
+  ap (λ ws. codes "write" ∷ codes "04112233445566" ∷ ws) (counted_word size first (omega arith) (omega arith)),
+  tag_named,
+  counted_spelled size first s f,
+)
 
 put_spelled : (size first : ℕ) → size < 1024 → first < 256 → Spells (put_line size first) (Put (Gen size first))
-put_spelled size first s f =
-    (message_text (Gen size first), ap (λ ws. codes "put" ∷ ws) (counted_word size first (omega arith) (omega arith)),
-    counted_spelled size first s f)
+put_spelled size first s f = (
+  message_text (Gen size first),
+  ap (λ ws. codes "put" ∷ ws) (counted_word size first (omega arith) (omega arith)),
+  counted_spelled size first s f,
+)
 
 -- one more line and its command
 onto : (l : List ℕ) (c : Command) (ls : List (List ℕ)) (cs : List Command) → Spells l c → SpellEach ls cs → SpellEach (l ∷ ls) (c ∷ cs)
@@ -147,6 +152,6 @@ pub within_limits : (seed count : ℕ) → IsCount count → AreWithinLimits (wo
 within_limits seed count is = record {
   few = (let size = lines_size seed count in let most : count ≤ 150 = is.1 in omega (arith, size, most));
   short = (
-    let rest : List (List ℕ) = flat_map (round_lines seed) (range_with_len 0 count) in
-    All-cons IsShort tag_line (peer_line ∷ rest) (omega arith) (All-cons IsShort peer_line rest (omega arith) (rounds_short seed 0 count)));
+      let rest : List (List ℕ) = flat_map (round_lines seed) (range_with_len 0 count) in
+      All-cons IsShort tag_line (peer_line ∷ rest) (omega arith) (All-cons IsShort peer_line rest (omega arith) (rounds_short seed 0 count)));
 }

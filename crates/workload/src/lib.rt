@@ -1,7 +1,7 @@
 //! Workloads for a bench (this project's own): a script made from a seed and a count, one line at a time.
 //!
-//! `workload` makes each line by its place alone, and takes no memory for it; `line` has the texts. `law` says that each
-//! line spells its command in the language of scripts.
+//! `workload` makes each line by its place alone, and takes no memory for it; `line` writes the texts. `law` says that
+//! each line spells its command in the language of scripts.
 #![tactic(auto)]
 
 mod law;
@@ -11,5 +11,4 @@ mod tests;
 mod workload;
 
 pub use law::lines_are_spelled;
-pub use line::LINE_ROOM;
 pub use workload::Workload;

@@ -1,4 +1,4 @@
-//! The texts of lines. None takes memory.
+//! Writing the text of a line. None of it takes memory.
 
 ghost use Rattle.std.specs.Prelude.{◌≡◌, ◌≤◌, ◌<◌, ◌+◌, ◌++◌, length};
 ghost use Rattle.std.specs.Fmt.{decimal};
@@ -7,9 +7,6 @@ ghost use Rattle.bench_script.specs.declared.message.Msg.TheVariants.{Gen};
 ghost use Rattle.workload.specs.Workload.{fates_line};
 
 use arrayvec::ArrayVec;
-
-/// Room for any line of a workload.
-pub const LINE_ROOM: usize = 640;
 
 /// A line of this text.
 pub fn text_line(text: &[u8]) -> ArrayVec<u8, 640>
@@ -27,7 +24,8 @@ pub fn lossy_line() -> ArrayVec<u8, 640>
 {
     let mut line = text_line(b"fates ");
     for _ in 0..20u32 {
-        line.try_extend_from_slice(b"PPPPPPPPPPPPPPPPPPPPPPPPPPPPL").unwrap();
+        line.try_extend_from_slice(b"PPPPPPPPPPPPPPPPPPPPPPPPPPPPL")
+            .unwrap();
     }
     line
 }

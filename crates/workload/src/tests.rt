@@ -41,7 +41,11 @@ fn lines_of_three_rounds(rt: HostRuntime) -> Result<(), Fail> {
     assert_eq!(rt; workload.line_count(), 17);
     for place in 0..17u32 {
         let line = workload.line(place);
-        assert_eq!(rt; line.as_slice(), LINES[place as usize].as_bytes(), "{place}");
+        assert_eq!(rt;
+            line.as_slice(),
+            LINES[place as usize].as_bytes(),
+            "{place}"
+        );
         parse_line(rt.alloc(), line.as_slice())?;
     }
     Ok(())
@@ -51,13 +55,22 @@ fn lines_of_three_rounds(rt: HostRuntime) -> Result<(), Fail> {
 fn the_last_lines_of_the_largest(rt: HostRuntime) {
     let workload = Workload::new(65535, 150).unwrap();
     assert_eq!(rt; workload.line_count(), 752);
-    assert_eq!(rt; workload.line(748).as_slice(), b"write 04112233445566 gen:192:149".as_slice());
+    assert_eq!(rt;
+        workload.line(748).as_slice(),
+        b"write 04112233445566 gen:192:149".as_slice()
+    );
     assert_eq!(rt; workload.line(751).as_slice(), b"put gen:86:149".as_slice());
 }
 
 #[test]
 fn counts_from_1_to_150(rt: HostRuntime) {
-    for (count, wanted) in [(0, false), (1, true), (150, true), (151, false), (255, false)] {
+    for (count, wanted) in [
+        (0, false),
+        (1, true),
+        (150, true),
+        (151, false),
+        (255, false),
+    ] {
         assert_eq!(rt; Workload::new(0, count).is_some(), wanted, "{count}");
     }
 }
