@@ -1,6 +1,6 @@
 -- Each line of a workload spells its command, and is short.
-use Rattle.std.proofs.Common.{◌≡◌, ◌≢◌, ℕ, zero, suc, ◌+◌, ◌*◌, ◌%◌, ◌<◌, ◌≤◌, ◌^◌, ◌++◌, inl, inr, List, [], ◌∷◌, length, get_or, map, Bool, true, false, ◌==◌, refl, sym, ◌∙◌, ap, subst, arith}
-use Rattle.std.specs.Prelude.{codes, if◌then◌else◌}
+use Rattle.std.proofs.Common.{◌≡◌, ◌≢◌, ℕ, zero, suc, ◌+◌, ◌<◌, ◌≤◌, ◌^◌, ◌++◌, inl, inr, List, [], ◌∷◌, length, get_or, map, refl, ap, arith}
+use Rattle.std.specs.Prelude.{codes}
 use Rattle.std.specs.List.{All, onto_first, range_with_len, flat_map}
 use Rattle.std.specs.Fmt.{decimal, digits}
 use Rattle.std.proofs.lemmas.Fmt.{decimal_is_IsNumeral, length-decimal-le}
@@ -8,16 +8,16 @@ use Rattle.std.proofs.lemmas.Str.Parse.{digit_at}
 use Rattle.std.proofs.lemmas.List.{length-append}
 use Rattle.std.proofs.lemmas.List.Elements.{All-cons, All-nil, All-append, All-from_get_or}
 use Rattle.std.proofs.lemmas.Bool.{ne_eqb}
-use Rattle.hex.specs.Hex.{decode_of, decode_pairs}
+use Rattle.hex.specs.Hex.{decode_pairs}
 use Rattle.hex.proofs.HexLemmas.{decode_of-ok}
-use Rattle.nfca_poll.specs.Ident.{IsIdent, IsBadCascade}
+use Rattle.nfca_poll.specs.Ident.{IsBadCascade}
 use Rattle.bench_script.specs.declared.command.Command.{Command}
 use Rattle.bench_script.specs.declared.command.Command.TheVariants.{Skip, Fates, PlaceT2, PlacePeer, Read, Write, Link, Put}
 use Rattle.bench_script.specs.declared.command.DeviceId.TheVariants.{A}
 use Rattle.bench_script.specs.declared.message.Msg.TheVariants.{Gen}
 use Rattle.bench_script.specs.Canonical.{message_text}
 use Rattle.bench_script.specs.Limits.{AreWithinLimits, longest_line}
-use Rattle.bench_script.specs.Script.{words_of, fate_letter, SpellsIdent, SpellsCounted, SpelledBy, Spells}
+use Rattle.bench_script.specs.Script.{words_of, fate_letter, SpellsIdent, SpellsCounted, Spells}
 use Rattle.workload.specs.Workload.{IsCount, SpellEach, tag_line, peer_line, fates_line, write_line, read_line, link_line, put_line, tag_id, peer_id, tag_head, round_fates, round_lines, round_commands, written_size, put_size, first_byte, workload_lines, workload_commands}
 use Rattle.workload.proofs.Places.{lines_size}
 

@@ -1,4 +1,4 @@
-use Rattle.std.proofs.Common.{◌≡◌, ◌≤◌, sym, ◌∙◌, arith}
+use Rattle.std.proofs.Common.{◌≤◌, sym, ◌∙◌, arith}
 use Rattle.workload.proofs.Places.{line_at}
 use Rattle.workload.proofs.workload.Workload.line.Goals as goal
 
