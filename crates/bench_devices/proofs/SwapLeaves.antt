@@ -43,7 +43,7 @@ noted_whole (dep.Rests i reply) n = astray_whole
 noted_whole (dep.Broken e) n = astray_whole
 noted_whole dep.Astray n = astray_whole
 
-stand_whole : (ns : List Note) (s : Standing) → IsWholeAt s → IsWholeAt (stand s ns)
+pub stand_whole : (ns : List Note) (s : Standing) → IsWholeAt s → IsWholeAt (stand s ns)
 stand_whole [] s h = h
 stand_whole (n ∷ ns) s h = stand_whole ns (noted s n) (noted_whole s n)
 
@@ -51,7 +51,7 @@ pub asks_whole : (i : InitState) (out : List ℕ) → IsWholeAt (asks i out)
 asks_whole i out f e =
     (let same : air_frame (request (begun i out).core) ≡ f = cc in subst (λ g. g ≡ whole_a g.bytes) same refl)
 
-dep_whole : (i : InitState) (out : List ℕ) (ns : List Note) (f : Signal) → dep_next i out ns ≡ Asks f → f ≡ whole_a f.bytes
+pub dep_whole : (i : InitState) (out : List ℕ) (ns : List Note) (f : Signal) → dep_next i out ns ≡ Asks f → f ≡ whole_a f.bytes
 dep_whole i out ns f e = stand_whole ns (asks i out) (asks_whole i out) f e
 
 module _ (own : List ℕ) (place : ℕ) where

@@ -1,10 +1,9 @@
 -- What ending a connection and releasing its link comes to.
-use Rattle.std.proofs.Common.{◌≡◌, ◌⊎◌, ℕ, List, [], ◌∷◌, Bool, true, false, Option, Some, None, Result, Ok, Err, refl, sym, ◌∙◌, ap, subst, inl, inr}
+use Rattle.std.proofs.Common.{◌≡◌, ◌⊎◌, ℕ, List, Bool, true, Option, Some, None, Ok, Err, refl, sym, ◌∙◌, ap, subst, inl, inr}
 use Rattle.nfc_base.specs.Signal.{Signal}
 use Rattle.nfc_base.specs.Far.{Untouched}
 use Rattle.nfc_base.specs.declared.carrier.EndCause.{EndCause}
 use Rattle.nfc_base.specs.declared.carrier.EndCause.TheVariants as cause
-use Rattle.nfc_base.specs.declared.carrier.LinkEnd.{LinkEnd}
 use Rattle.nfc_base.specs.declared.event.Heard.{Heard}
 use Rattle.nfc_base.specs.declared.event.Event.TheVariants.{Request}
 use Rattle.nfc_base.specs.declared.event.Fate.TheVariants.{Pass}
@@ -25,12 +24,12 @@ use Rattle.snep_core.specs.declared.fault.SnepFault.TheVariants.{BadPeer, Excess
 use Rattle.snep_core.specs.Accord.{PeerState}
 use Rattle.snep_core.specs.Server.{serving}
 use Rattle.snep_core.specs.Calling.{Talks, FailsBy, fault_of}
-use Rattle.snep_core.specs.Talk.{EndState, OnSap, Step, Goes, Ends, GivesUp}
+use Rattle.snep_core.specs.Talk.{EndState, OnSap, Step, Ends, GivesUp}
 use Rattle.link_calls.specs.CallDue.{CallStanding, Carries, Comes, BrokenBy, Strays, call_due_at}
 use Rattle.link_calls.specs.CallTurns.{sees, swaps}
 use Rattle.link_calls.specs.Calls.{IsOpen, IsCutOff}
-use Rattle.link_calls.specs.ClosingDue.{Calls, Releasing, Released, closing_at, closing_due_at}
-use Rattle.link_calls.specs.Closing.{ClosingTurns, ClosingFront, ClosingFails, SendsRls, IsReleased}
+use Rattle.link_calls.specs.ClosingDue.{Releasing, closing_at, closing_due_at}
+use Rattle.link_calls.specs.Closing.{ClosingTurns, ClosingFails, SendsRls, IsReleased}
 use Rattle.link_calls.specs.Staying.{begins, setting_of}
 use Rattle.link_calls.proofs.Made.{peer_table, peer_kind, reaches, made, cut_off}
 use Rattle.link_calls.proofs.Closes.{of_call, with_release}

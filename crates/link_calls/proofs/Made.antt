@@ -1,5 +1,5 @@
 -- What a call over the open link of a field comes to.
-use Rattle.std.proofs.Common.{◌≡◌, ◌≤◌, ◌<◌, ℕ, zero, suc, List, [], ◌∷◌, ◌++◌, length, drop, Bool, true, false, Option, Some, None, Result, Ok, Err, IfErr, IfOk, OnOk, refl, sym, ◌∙◌, ap, subst, inl, inr, arith, append-nil}
+use Rattle.std.proofs.Common.{◌≡◌, ◌≤◌, ◌<◌, ℕ, zero, suc, List, [], ◌∷◌, length, drop, Bool, true, Option, Some, None, refl, sym, ◌∙◌, ap, subst, inl, inr, arith}
 use Rattle.nfc_base.specs.Trace.{noise}
 use Rattle.nfc_base.specs.Links.{BySwaps, FarStep, Stepped, Stopped, payload_of}
 use Rattle.nfc_base.specs.declared.carrier.EndCause.{EndCause}

@@ -1,5 +1,5 @@
 -- No payload changes what is set of a peer's end.
-use Rattle.std.proofs.Common.{◌≡◌, ◌⊎◌, ℕ, zero, suc, ◌+◌, ◌/◌, ◌==◌, nat_le, Bool, true, false, List, [], ◌∷◌, ◌++◌, length, Option, Some, None, refl, sym, ap, subst, ◌∙◌, inl, inr, is_some, if◌then◌else◌}
+use Rattle.std.proofs.Common.{◌≡◌, ℕ, zero, suc, ◌+◌, ◌/◌, ◌==◌, nat_le, List, [], ◌∷◌, length, Option, Some, None, refl, sym, ap, subst, ◌∙◌, inl, inr, is_some}
 use Rattle.nfc_base.specs.Links.{FarStep, Stepped, Stopped, FarMoved}
 use Rattle.llcp_pdu.specs.declared.part.Part.{Part}
 use Rattle.llcp_pdu.specs.declared.part.Part.TheVariants.{Symm, Ui, Connect, Disc, Cc, Dm, Frmr, Snl, Info, Rr, Rnr}
@@ -7,11 +7,11 @@ use Rattle.llcp_pdu.specs.declared.param.Param.{Param}
 use Rattle.llcp_pdu.specs.Writing.{inner_bytes}
 use Rattle.llcp_conn.specs.declared.conn.Taken.{Taken}
 use Rattle.llcp_conn.specs.declared.conn.Taken.TheVariants as taking
-use Rattle.llcp_conn.specs.Conn.{ConnState, Took, queued, due, fresh, gives, gives_ack, report, takes}
+use Rattle.llcp_conn.specs.Conn.{ConnState, Took, queued, due, gives, gives_ack, report, takes}
 use Rattle.llcp_link.specs.declared.own.OwnIs.{OwnIs}
 use Rattle.llcp_link.specs.declared.own.OwnIs.TheVariants.{Asking, Open, Refused, Leaving, Closed}
-use Rattle.llcp_link.specs.State.{LlcState, Queued, OwnState, Holder, Nobody, Served, Asked, answer, sap_count, conn_from, own_from, holder, with_own, with_conn, without_conn}
-use Rattle.llcp_link.specs.Names.{rw_of, reached, name_of, miu_of, answers_to, own_params, told_all}
+use Rattle.llcp_link.specs.State.{Queued, OwnState, Holder, Nobody, Served, Asked, sap_count, conn_from, own_from, holder, with_own, with_conn}
+use Rattle.llcp_link.specs.Names.{rw_of, reached, name_of, answers_to, told_all}
 use Rattle.llcp_link.specs.Taking as t
 use Rattle.llcp_link.specs.Taking.{Item, Good, Broken, taken_from, brought, step, steps, steps_part}
 use Rattle.llcp_link.specs.Giving as g

@@ -1,5 +1,5 @@
 -- What a client's call over the open link of a field does, and how it leaves the link (NFC Forum LLCP 1.3 and SNEP 1.0).
-use Rattle.std.specs.Prelude.{◌≡◌, ◌⊎◌, ℕ, ◌<◌, List, [], length, drop, Bool, true, Option, Some, None, Result, Ok, Err}
+use Rattle.std.specs.Prelude.{◌≡◌, ◌⊎◌, ℕ, ◌<◌, List, length, drop, Bool, true, Option, Some, None}
 use Rattle.nfc_base.specs.Trace.{noise}
 use Rattle.nfc_base.specs.declared.carrier.EndCause.{EndCause}
 use Rattle.nfc_base.specs.declared.carrier.EndCause.TheVariants as cause

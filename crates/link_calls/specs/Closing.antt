@@ -1,6 +1,6 @@
 -- A client's connection that is ended, and its link released, in the world with far ends (NFCIP-1, ISO/IEC 18092; NFC Forum LLCP 1.3;
 -- the air is this project's own).
-use Rattle.std.specs.Prelude.{◌≡◌, ◌⊎◌, ℕ, ◌<◌, List, [], length, drop, Bool, true, Option, Some, None, Result, Ok, Err}
+use Rattle.std.specs.Prelude.{◌≡◌, ◌⊎◌, ℕ, ◌<◌, List, length, drop, Bool, true, Option, Some, None}
 use Rattle.nfc_base.specs.Far.{Untouched}
 use Rattle.nfc_base.specs.Trace.{noise}
 use Rattle.nfc_base.specs.declared.event.Heard.{Heard}
@@ -26,7 +26,7 @@ use Rattle.snep_core.specs.declared.fault.SnepFault.TheVariants.{BadPeer, LinkEn
 use Rattle.snep_core.specs.Accord.{PeerState}
 use Rattle.snep_core.specs.Server.{serving}
 use Rattle.snep_core.specs.Talk.{EndState, Step, GivesUp}
-use Rattle.link_calls.specs.CallDue.{CallStanding, BrokenBy, Comes}
+use Rattle.link_calls.specs.CallDue.{BrokenBy, Comes}
 use Rattle.link_calls.specs.Calls.{IsCarried}
 use Rattle.link_calls.specs.ClosingDue.{ClosingStanding, Calls, Released, closing_stand, closing_due, closing_due_at}
 use Rattle.link_calls.specs.Staying.{begins, setting_of}

@@ -3,7 +3,7 @@ use Rattle.std.specs.Prelude.{◌≡◌, ◌⊎◌, ℕ, Bool, true, false, List
 use Rattle.nfc_base.specs.declared.carrier.EndCause.{EndCause}
 use Rattle.nfc_base.specs.declared.carrier.EndCause.TheVariants as cause
 use Rattle.nfc_base.specs.declared.carrier.LinkEnd.{LinkEnd}
-use Rattle.nfc_base.specs.Links.{CarrierView, FarStep, Stepped, Stopped, FarMoved, SwapDone, SwapFailed, Swapped, AskedBy, BySwaps, payload_of}
+use Rattle.nfc_base.specs.Links.{CarrierView, FarStep, Stepped, FarMoved, SwapDone, SwapFailed, Swapped, AskedBy, BySwaps, payload_of}
 use Rattle.llcp_link.specs.Taking.{taken_from}
 use Rattle.llcp_link.specs.Giving.{given, after_giving}
 use Rattle.snep_core.specs.declared.fault.SnepFault.{SnepFault}

@@ -1,4 +1,4 @@
-use Rattle.std.proofs.Common.{rules, ◌≡◌, refl, sym, ◌∙◌, ap, subst}
+use Rattle.std.proofs.Common.{rules, refl, sym, ◌∙◌, ap, subst}
 use Rattle.air_core.proofs.PlainAside.{Laws}
 use Rattle.dep_link.specs.DepLinks.{seen_pair}
 use Rattle.snep_core.specs.declared.job.Ending.TheVariants.{Done}
