@@ -46,3 +46,4 @@ pub mod Getting
 pub mod GetOver
 pub mod OnClosing
 pub mod CloseOver
+pub mod Names

@@ -12,7 +12,7 @@ ghost use Rattle.bench_world.specs.Links.{OpenLink};
 ghost use Rattle.bench_devices.specs.Phases.{IsIdle};
 
 use crate::asking::{find, read_tag, write_message};
-use crate::calling::{get, put, unlink};
+use crate::calling::{get, lookup, put, unlink};
 use crate::entry::{Answer, Entry};
 use crate::linking::link;
 use crate::machines::Machines;
@@ -337,7 +337,7 @@ fn run_command(
         Command::Link { id, miu, rw } => link(alloc, machines, id, *miu, *rw),
         Command::Put { message } => put(alloc, machines, message),
         Command::Get { acceptable, key } => get(machines, *acceptable, key.as_slice()),
-        Command::Lookup { .. } => Err(ObeyFault::Memory),
+        Command::Lookup { name } => lookup(machines, name.as_slice()),
         Command::Unlink => unlink(machines),
     }
 }

@@ -1,10 +1,13 @@
 //! The commands on the open link: its client puts a message to the server of the link's peer, gets a value of it, or asks
 //! where a service is; and the link is closed.
 
-ghost use Rattle.std.specs.Prelude.{◌≡◌, ◌≤◌, ◌<◌, ◌⊎◌, length, get_or, None, IfOk, OnErr, IsErrOf};
+ghost use Rattle.std.specs.Prelude.{◌≡◌, ◌≤◌, ◌<◌, ◌⊎◌, length, get_or, None, IfOk, OnErr, IsErrOf, MatchOption};
+ghost use Rattle.std.specs.Char.{is_ascii_graphic};
+ghost use Rattle.std.specs.List.{list_all};
 ghost use Rattle.nfc_base.specs.declared.carrier.EndCause.TheVariants as causes;
 ghost use Rattle.bench_script.specs.declared.message.Msg.{Msg};
 ghost use Rattle.bench_script.specs.Messages.{message_of};
+ghost use Rattle.bench_script.specs.Script.{SpellsName};
 ghost use Rattle.bench_world.specs.Calls.{told_loss};
 ghost use Rattle.bench_world.specs.Legal.{MayGet};
 ghost use Rattle.bench_world.specs.Links.{accepted_by, with_last_ended};
@@ -15,13 +18,16 @@ use crate::bench::ObeyFault;
 use crate::entry::{Answer, Loss};
 use crate::machines::{Link, Machines, accepted_above, end_last, place_numbered};
 use bench_script::{Command, Msg};
-use link_calls::{close_and_release, get_on, put_on};
+use link_calls::{close_and_release, get_on, lookup_on, put_on};
 use nfc_base::{EndCause, Items};
 use snep_core::SnepFault;
 use std::alloc::{AllocError, Global};
 
 /// The longest message (NFC Forum SNEP 1.0 has no limit; this one is this project's own).
 const LONGEST_MESSAGE: usize = 65536;
+
+/// The longest name of a service (this project's limit).
+const LONGEST_NAME: usize = 64;
 
 /// The answer that tells of a link that ended by this cause.
 fn lost(cause: EndCause) -> Answer
@@ -219,6 +225,97 @@ pub fn get(machines: &mut Machines, acceptable: u32, key: &[u8]) -> Result<Answe
         return Err(ObeyFault::Refused);
     }
     match get_value(machines, acceptable, key) {
+        Ok(answer) => Ok(answer),
+        Err(_) => Err(ObeyFault::Memory),
+    }
+}
+
+/// Whether these are characters from 21h to 7Eh alone.
+fn is_graphic(name: &[u8]) -> bool
+    ensures { result ≡ list_all is_ascii_graphic name.now }
+{
+    name.iter().all(|b| b.is_ascii_graphic())
+}
+
+/// The name of a service that these bytes are, if they are one.
+#[tactic(auto, using(crate::proofs::Names::name_utf8))]
+fn service_name(bytes: &[u8]) -> Option<&str>
+    ensures { MatchOption result (SpellsName bytes.now bytes.now → ⊥)
+        (λ name. (name.now ≡ bytes.now) × SpellsName bytes.now bytes.now) }
+{
+    if bytes.is_empty() || bytes.len() > LONGEST_NAME || !is_graphic(bytes) {
+        return None;
+    }
+    match str::from_utf8(bytes) {
+        Ok(name) => Some(name),
+        Err(_) => None,
+    }
+}
+
+/// Looks up a name at the link's peer, where a link is open.
+fn lookup_name(machines: &mut Machines, name: &str) -> Result<Answer, AllocError>
+    requires settled { IsSettled machines.old }
+    requires may { SpellsName name.now name.now }
+    ensures ok { IfOk result (λ a. Obeyed machines.old machines.new (Command.Lookup name.now) a) }
+    ensures cut { OnErr result (IsCutOff machines.old machines.new (Command.Lookup name.now)) }
+{
+    let Some(link) = machines.link.take() else {
+        return Ok(Answer::NoLink);
+    };
+    let Link {
+        peer,
+        mut initiator,
+        mut client,
+    } = link;
+    let Some(place) = place_numbered(&machines.numbers, peer) else {
+        unreachable!()
+    };
+    let Some(far) = &mut machines.ends[place] else {
+        unreachable!()
+    };
+    match lookup_on(
+        &mut machines.field,
+        &mut initiator,
+        &mut client,
+        far,
+        name,
+    ) {
+        Ok(sap) => {
+            machines.link = Some(Link {
+                peer,
+                initiator,
+                client,
+            });
+            Ok(Answer::Sap(sap))
+        }
+        Err(SnepFault::LinkEnded(cause)) => {
+            end_range(machines, place);
+            Ok(lost(cause))
+        }
+        Err(SnepFault::Memory) => {
+            end_range(machines, place);
+            Err(AllocError)
+        }
+        Err(SnepFault::Reject) => unreachable!(),
+        Err(SnepFault::NotFound) => unreachable!(),
+        Err(SnepFault::Excess) => unreachable!(),
+        Err(SnepFault::NotImplemented) => unreachable!(),
+        Err(SnepFault::BadPeer) => unreachable!(),
+    }
+}
+
+/// Looks up at which SAP the link's peer has the service of this name.
+pub fn lookup(machines: &mut Machines, name: &[u8]) -> Result<Answer, ObeyFault>
+    requires { IsSettled machines.old }
+    ensures ok { IfOk result (λ a. Obeyed machines.old machines.new (Command.Lookup name.now) a) }
+    ensures refused { IsErrOf result ObeyFault.Refused → (machines.new ≡ machines.old) }
+    ensures cause { RefusedOnly result machines.old (Command.Lookup name.now) }
+    ensures cut { IsErrOf result ObeyFault.Memory → IsCutOff machines.old machines.new (Command.Lookup name.now) }
+{
+    let Some(service) = service_name(name) else {
+        return Err(ObeyFault::Refused);
+    };
+    match lookup_name(machines, service) {
         Ok(answer) => Ok(answer),
         Err(_) => Err(ObeyFault::Memory),
     }
