@@ -7,7 +7,8 @@ use Rattle.bench_script.specs.declared.command.Command.TheVariants.{Skip}
 use Rattle.bench_world.specs.declared.entry.Answer.{Answer}
 use Rattle.bench_world.specs.declared.entry.Entry.{Entry}
 use Rattle.bench_world.specs.Legal.{State, AnswerLaw, FrontOf, LegalStep, due}
-use Rattle.bench_world.specs.Obeying.{Machines, state_at, IsSettled, Obeyed, IsCutOff, Benched, Adds, Obeys, Spoils, LacksMemory}
+use Rattle.bench_world.proofs.LinkKept.{keeps_so, open_on}
+use Rattle.bench_world.specs.Obeying.{Machines, untraced, state_at, IsSettled, Obeyed, IsCutOff, Benched, Adds, Obeys, Spoils, LacksMemory}
 
 -- what contracts see of a bench with this journal and these machines
 abbrev pub seen : List Entry → Machines → Bool → Benched
@@ -57,3 +58,11 @@ adds_entry old a b k js ks c answer e other is settled o left added command even
       legal = step;
     } in
     as_obeys old (seen ks k false) e.line c other (subst A (sym is) it)
+
+-- Behind a command that was obeyed the bench is settled again, once its events are taken.
+pub settled_untraced : (a b : Machines) (c : Command) (answer : Answer) → Obeyed a b c answer → IsSettled (untraced b)
+settled_untraced a b c answer o = record {
+  idle = record { quiet = refl; tame = o.tame; tidy = o.tidy };
+  places = record { ends = o.places.ends; numbers = o.places.numbers; served = o.places.served; apart = o.places.apart };
+  link = keeps_so b (untraced b) refl (λ l at k. open_on b.air (untraced b).air b.ends b.peers l refl refl k) o.link;
+}

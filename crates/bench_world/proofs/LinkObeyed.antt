@@ -85,6 +85,18 @@ use Rattle.bench_world.proofs.PlacesKept.{served_as, kinds_of, first_end}
 use Rattle.bench_world.proofs.Restarted.{KeepsEnd, times_keep, last_begun, far_there, far_set, set_there, set_rests, set_served, served_at, begin_self, first_of, readable_said}
 use Rattle.bench_world.proofs.Unlinking.{accepted_shown}
 use Rattle.bench_world.proofs.Legality.{selecting_more, told_lost, poll_lost, asks_for, above, front_so, asks_so, plain_after, trace_is, part_stays, stores_stay, stores_kept, stable_in}
+use Rattle.std.specs.Prelude.{◌-◌, ◌==◌, ◌≤◌, Bool, if◌then◌else◌}
+use Rattle.llcp_pdu.specs.Wire.{magic, least_miu}
+use Rattle.llcp_pdu.specs.Writing.{params_bytes}
+use Rattle.llcp_pdu.specs.declared.param.Param.TheVariants.{Version, Miux, Wks}
+
+-- what an initiator says of its end fits into ATR_REQ
+short_by : (miu : ℕ) (v : Bool) → length (magic ++ params_bytes (Version 0x13 ∷ ((if v then [] else Miux (miu - least_miu) ∷ []) ++ Wks 0x0003 ∷ []))) ≤ 48
+short_by miu true = omega arith
+short_by miu false = omega arith
+
+own_short : (miu : ℕ) → length (own_general miu) ≤ 48
+own_short miu = short_by miu (miu == least_miu)
 
 -- no answer but that of a link that is open opens one
 plain_so : (s : State) (id : List ℕ) (miu rw : ℕ) (es : List Event) (a : Told_answer) → ((n : ℕ) → a ≡ answers.Linked n → ⊥) → state_after s no_joins (Link id miu rw) es (Some a) ≡ plain_after s (Link id miu rw) es
@@ -309,7 +321,7 @@ module _ (ends : Ends) (peers : Peers) (old : Air Device) (id : List ℕ) (miu r
 
       pub fg : FarGoing devices device_linked peer_ends (linking (A id) (own_general miu)) (moment old) (moment new) (hs ++ o.notes) place ends far after
       fg =
-          opens_far restarts (Answers serving) peer_ends (λ l. l) ends_table (ends_step serving) (A id) (own_general miu) place s.device result old mid new far after hs s.selects.asked.going told s.stands peer o ends
+          (opens_far restarts (Answers serving) peer_ends (λ l. l) ends_table (ends_step serving) (A id) (own_general miu) place s.device result old mid new far after hs (own_short miu) s.selects.asked.going told s.stands peer o ends).0
 
       abbrev pub joins : Joins
       joins = record { own = []; far = fg.taken }

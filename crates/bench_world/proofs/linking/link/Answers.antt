@@ -1,4 +1,4 @@
-use Rattle.std.proofs.Common.{◌≡◌, inr, ◌+◌, ◌<◌, length, Result, Ok, Err, IfOk, OnErr, IsErrOf, sym, ap, subst}
+use Rattle.std.proofs.Common.{◌≡◌, inl, inr, ◌+◌, ◌<◌, length, Result, Ok, Err, IfOk, OnErr, IsErrOf, sym, ap, subst}
 use Rattle.bench_script.specs.declared.command.Command.TheVariants.{Link}
 use Rattle.bench_world.specs.declared.bench.ObeyFault.{ObeyFault}
 use Rattle.bench_world.specs.declared.bench.ObeyFault.TheVariants as faults
@@ -33,6 +33,6 @@ pub returns-clause-cut : goal.returns-clause-cut
 returns-clause-cut c = λ e.
     let old : Machines = c.args.machines.now in
     let new : Machines = c.select_and_open.new.machines in
-    inr (front_ended (Link c.args.id.now c.args.miu c.args.rw) (link_resets c.args.id.now c.args.miu c.args.rw) old c.requires new
+    inr (inl (front_ended (Link c.args.id.now c.args.miu c.args.rw) (link_resets c.args.id.now c.args.miu c.args.rw) old c.requires new
     (subst (λ m. CutFront (state_at m) (Link c.args.id.now c.args.miu c.args.rw) new.air.trace (state_at new)) c.end_link.ensures
-    (of_err c.select_and_open.result e c.select_and_open.ensures.cut)))
+    (of_err c.select_and_open.result e c.select_and_open.ensures.cut))))

@@ -1,8 +1,8 @@
 use Rattle.std.proofs.Common.{◌≡◌, ◌++◌, ◌∷◌, [], List, rules, refl, sym, ◌∙◌, ap, subst, Err}
 use Rattle.bench_world.specs.declared.entry.Entry.{Entry}
-use Rattle.bench_world.specs.Obeying.{Obeys}
+use Rattle.bench_world.specs.Obeying.{Obeys, IsSettled}
 use Rattle.bench_world.proofs.Legality.{untouched}
-use Rattle.bench_world.proofs.Benches.{seen, both_ways, spoils, adds_entry}
+use Rattle.bench_world.proofs.Benches.{seen, both_ways, spoils, adds_entry, settled_untraced}
 use Rattle.bench_world.proofs.bench.Bench.obey.Goals as goal
 
 pub returns-in_default-copy : goal.returns-in_default-copy
@@ -59,3 +59,8 @@ returns c =
           (c.in-Err-Memory.ensures.cut (ap Err c.in-Err-Memory.field-0-is));
       spoiled = λ e. refl;
     }
+
+pub invariant_of-self-in-Ok-run_command : goal.invariant_of-self-in-Ok-run_command
+invariant_of-self-in-Ok-run_command c = λ sound.
+    subst IsSettled (sym c.take_trace.ensures.left)
+    (settled_untraced c.self.inside.machines c.run_command.new.machines c.args.command.now c.in-Ok-run_command.answer c.in-Ok-run_command.ensures.ok)
