@@ -100,7 +100,7 @@ module _ (own : List ℕ) where
   pub dark_leaves : (place : ℕ) (ls : List Device) → PeerAt own place ls → TalkLeaves own place ls (map devices.darkened ls)
   dark_leaves place ls a = map_leaves devices.darkened (λ l is. kept_dark l) (λ l b. (kept_dark l, dark_aside l b)) dark_tidy place ls a
 
-  lit_leaves : (place : ℕ) (ls : List Device) → PeerAt own place ls → TalkLeaves own place ls (map (λ l. devices.woken (devices.darkened l)) ls)
+  pub lit_leaves : (place : ℕ) (ls : List Device) → PeerAt own place ls → TalkLeaves own place ls (map (λ l. devices.woken (devices.darkened l)) ls)
   lit_leaves place ls a =
       map_leaves (λ l. devices.woken (devices.darkened l)) (λ l is. kept_lit (devices.darkened l) ∙ kept_dark l)
       (λ l b. (kept_lit (devices.darkened l) ∙ kept_dark l, lit_aside l b)) (λ l t. woken_tidy (devices.darkened l) (dark_tidy l t)) place ls a

@@ -71,3 +71,5 @@ pub mod TalkTurns
 pub mod SwapLeaves
 pub mod LinkingNotes
 pub mod LinkFar
+pub mod FarLeaves
+pub mod LinkedPeer

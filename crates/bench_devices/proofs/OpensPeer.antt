@@ -6,7 +6,7 @@ use Rattle.std.proofs.lemmas.Bool.{cases_lt}
 use Rattle.std.proofs.lemmas.List.{append_cancel_left}
 use Rattle.nfc_base.specs.Signal.{Signal, whole_a}
 use Rattle.nfc_base.specs.Far.{Untouched, Hands}
-use Rattle.nfc_base.specs.Trace.{breaks}
+use Rattle.nfc_base.specs.Trace.{breaks, noise}
 use Rattle.nfc_base.specs.declared.event.Event.{Event}
 use Rattle.nfc_base.specs.declared.carrier.EndCause.{EndCause}
 use Rattle.nfc_base.specs.declared.carrier.EndCause.TheVariants.{FieldLost, SixBad, Protocol, Memory}
@@ -37,7 +37,7 @@ use Rattle.bench_devices.specs.declared.device.Device.TheVariants.{T2, T4, Peer,
 use Rattle.bench_devices.specs.declared.polling.SeenKind.TheVariants as seen
 use Rattle.bench_devices.specs.Device.{devices, device_id, device_end, device_target, seen_of, is_tag}
 use Rattle.bench_devices.specs.Keeping.{Kept, ghosts, kept, IsSound}
-use Rattle.bench_devices.specs.Peers.{PeerNear, IsMadePeer, peer_general, asked_if, takes_frame, peer_machine}
+use Rattle.bench_devices.specs.Peers.{PeerNear, IsMadePeer, asked_if, takes_frame, peer_machine}
 use Rattle.bench_devices.specs.Beside.{PeerAt, TalkLeaves}
 use Rattle.bench_devices.specs.Phases.{Stands}
 use Rattle.bench_devices.specs.Opening.{Opened, OpeningEnds, Opens}
@@ -110,13 +110,13 @@ peer_kind (T5 p) e = absurd cc
 -- what it says of itself is what it was made to say
 record SaysAsMade (d : Device) : Type 0 where
   pub made : IsMadePeer (device_id d) (device_target d)
-  pub code : (device_end d).lr ≡ made.lr
-  pub says : (device_end d).general ≡ peer_general made.miu
+  pub code : (device_end d).lr ≡ (device_target d).lr
+  pub says : (device_end d).general ≡ (device_target d).general
 
 says_as_made : (d : Device) → IsSound (kept d) → is_tag d ≡ false → SaysAsMade d
 says_as_made (T2 d) is e = absurd cc
 says_as_made (T4 d) is e = absurd cc
-says_as_made (Peer d) is e = record { made = is.2; code = ap (λ (t : TargetState). t.lr) is.2.made; says = ap (λ (t : TargetState). t.general) is.2.made }
+says_as_made (Peer d) is e = record { made = is.2; code = refl; says = refl }
 says_as_made (T5 p) is e = absurd cc
 
 pub at_peer : (old : Air Device) (place : ℕ) (d : Device) → Stands (moment old) place d → is_tag d ≡ false → PeerAt (device_id d) place old.listeners
@@ -164,8 +164,8 @@ module _ (old : Air Device) (place : ℕ) (d : Device) (s : Stands (moment old) 
     sent_by : (r : Result (InitState × ArrayVec ℕ) EndCause) → AtrEnds ghosts device_end restarts old new general (device_end d) far after r → (st : Standing) × AtrSent ghosts device_end restarts old new general far after st
     sent_by (Ok p) e = (Asking 0 [], e.0)
     sent_by (Err FieldLost) (inl (dark, same, far_same)) = absurd (let clash : true ≡ false = sym lit_before ∙ dark in cc)
-    sent_by (Err FieldLost) (inr (last, dim)) = (Broken faults.FieldLost (atr_frame general ∷ []), last)
-    sent_by (Err SixBad) e = (Broken faults.SixBad (atr_frame general ∷ []), e)
+    sent_by (Err FieldLost) (inr lost) = (Broken faults.FieldLost (atr_frame general ∷ []), lost.0)
+    sent_by (Err SixBad) e = (Broken faults.SixBad (atr_frame general ∷ []), e.0)
     sent_by (Err Protocol) e = absurd e
     sent_by (Err Memory) e = (Asking e.0 (atr_frame general ∷ []), e.1)
 
@@ -218,7 +218,7 @@ module _ (old : Air Device) (place : ℕ) (d : Device) (s : Stands (moment old) 
     dim_by : (r : Result (InitState × ArrayVec ℕ) EndCause) → r ≡ Err FieldLost → AtrEnds ghosts device_end restarts old new general (device_end d) far after r → new.lit ≡ false
     dim_by (Ok p) e x = absurd cc
     dim_by (Err FieldLost) e (inl (dark, same, far_same)) = absurd (let clash : true ≡ false = sym lit_before ∙ dark in cc)
-    dim_by (Err FieldLost) e (inr (last, dim)) = dim
+    dim_by (Err FieldLost) e (inr lost) = lost.2
     dim_by (Err SixBad) e x = absurd cc
     dim_by (Err Protocol) e x = absurd cc
     dim_by (Err Memory) e x = absurd cc
@@ -231,6 +231,13 @@ module _ (old : Air Device) (place : ℕ) (d : Device) (s : Stands (moment old) 
           let clash : true ≡ false = sym lit ∙ dim_by result e ends in
           cc)
     ]
+
+    noisy_by : (r : Result (InitState × ArrayVec ℕ) EndCause) → AtrEnds ghosts device_end restarts old new general (device_end d) far after r → r ≡ Err SixBad → 0 < noise es
+    noisy_by (Ok p) e is = absurd cc
+    noisy_by (Err FieldLost) e is = absurd cc
+    noisy_by (Err SixBad) e is = subst (λ xs. 0 < noise xs) (append_cancel_left old.trace (e.0).events es (sym (e.0).trace ∙ speaks.trace)) e.1
+    noisy_by (Err Protocol) e is = absurd cc
+    noisy_by (Err Memory) e is = absurd cc
 
     lit_unless : (result ≡ Err FieldLost → ⊥) → new.lit ≡ true
     lit_unless other = elim (cases_lt 0 (breaks es)) [
@@ -256,6 +263,7 @@ module _ (old : Air Device) (place : ℕ) (d : Device) (s : Stands (moment old) 
       speaks = speaks;
       answers = answers;
       lost = (some_break, by_break);
+      noisy = noisy_by result ends;
       times = sent.times;
       restarted = sent.restarted;
       begun = begun_by result ends;

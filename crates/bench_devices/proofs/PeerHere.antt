@@ -1,16 +1,19 @@
 -- Where a peer stands at a place and all others are aside, a peer that is in step with an initiator is this one.
-use Rattle.std.proofs.Common.{◌≡◌, ◌||◌, ℕ, zero, suc, List, [], ◌∷◌, ◌++◌, length, true, sym, ◌∙◌, ap, subst}
+use Rattle.std.proofs.Common.{◌≡◌, ◌||◌, ℕ, zero, suc, List, [], ◌∷◌, ◌++◌, length, Bool, true, false, if◌then◌else◌, refl, sym, ◌∙◌, ap, subst}
 use Rattle.nfc_base.specs.Signal.{Signal}
+use Rattle.nfc_base.specs.Far.{Untouched}
+use Rattle.dep_pdu.specs.declared.frame.DepFrame.TheVariants.{RlsReq, RlsRes}
 use Rattle.air_core.specs.Turn.{Air}
 use Rattle.nfca_poll.specs.Front.{Front, Off, Idle, Sleep, Ready, Active, is_active}
 use Rattle.dep_link.specs.Asking.{HasPeer}
 use Rattle.dep_link.specs.Frames.{is_atr_req}
-use Rattle.dep_link.specs.Exchange.{IsCut}
+use Rattle.dep_link.specs.Exchange.{InStep, IsCut}
 use Rattle.dep_link.specs.Initiator.{InitState}
 use Rattle.dep_link.specs.Payloads.{Cut}
 use Rattle.dep_link.specs.Peers.{target_use}
 use Rattle.dep_link.specs.Releasing.{rls_frame}
-use Rattle.dep_link.specs.Target.{target_table}
+use Rattle.dep_link.specs.Target.{TargetState, TargetTurn, Frees, stays, framed, target_table}
+use Rattle.dep_link.proofs.Wire.{target_heeds}
 use Rattle.peer_air.specs.Aside.{AsideBut}
 use Rattle.bench_devices.specs.declared.device.Device.{Device}
 use Rattle.bench_devices.specs.declared.device.Device.TheVariants.{T2, T4, Peer, T5}
@@ -18,8 +21,8 @@ use Rattle.bench_devices.specs.declared.polling.SeenKind.TheVariants as seen
 use Rattle.bench_devices.specs.Beside.{PeerAt, InStepAt}
 use Rattle.bench_devices.specs.Device.{devices, device_end, device_linked, device_selected, seen_of}
 use Rattle.bench_devices.specs.Keeping.{ghosts}
-use Rattle.bench_devices.specs.LinkLaws.{ReadyInStep, InStepTakesRls}
-use Rattle.bench_devices.specs.Peers.{PeerNear, asked_if}
+use Rattle.bench_devices.specs.LinkLaws.{ReadyInStep, NoneAtRls, InStepTakesRls}
+use Rattle.bench_devices.specs.Peers.{PeerNear, asked_if, takes_frame}
 use Rattle.bench_devices.proofs.BesideLink.{at_aside, only_one}
 use Rattle.bench_devices.proofs.PeerInStep.{linked_peer}
 
@@ -28,6 +31,12 @@ peer_there own [] x behind zero a e = a.0
 peer_there own [] x behind (suc n) a e = absurd cc
 peer_there own (b ∷ before) x behind zero a e = absurd cc
 peer_there own (b ∷ before) x behind (suc n) a e = (let less : length before ≡ n = cc in peer_there own before x behind n a.1 less)
+
+-- ends in step begin anew
+pub cut_so : (i : InitState) (t : TargetState) → InStep i t → IsCut i.core.number t [] []
+cut_so i t s =
+    let Now : ℕ → List ℕ → Cut = λ n c. record { next = n; chain = c; payloads = [] } in
+    ap (λ n. Now n []) (sym s.expects) ∙ ap (Now t.expected) (sym s.no_chain)
 
 module _ (own : List ℕ) (place : ℕ) (new : Air Device) (at : PeerAt own place new.listeners) (i : InitState) (first : ℕ) (handed : List (List ℕ)) (arrived : List Signal)
     (t : HasPeer ghosts device_end new i first handed arrived) where
@@ -38,11 +47,6 @@ module _ (own : List ℕ) (place : ℕ) (new : Air Device) (at : PeerAt own plac
 
   pub here_kind : seen_of t.listener ≡ seen.Peer
   here_kind = peer_there own t.alone.before t.listener t.alone.behind place (subst (PeerAt own place) t.alone.split at) (t.alone.stands ∙ same_place)
-
-  pub cut_anew : IsCut i.core.number (device_end t.listener) [] []
-  cut_anew =
-      let Now : ℕ → List ℕ → Cut = λ n c. record { next = n; chain = c; payloads = [] } in
-      ap (λ n. Now n []) (sym t.step.expects) ∙ ap (Now (device_end t.listener).expected) (sym t.step.no_chain)
 
   abbrev pub in_step : new.lit ≡ true → InStepAt new place i
   in_step lit = record {
@@ -55,7 +59,7 @@ module _ (own : List ℕ) (place : ℕ) (new : Air Device) (at : PeerAt own plac
         alone = t.alone;
         is = t.is;
         step = t.step;
-        cut = cut_anew;
+        cut = cut_so i (device_end t.listener) t.step;
       },
     );
     at = same_place;
@@ -84,3 +88,29 @@ pub takes_rls : InStepTakesRls
 takes_rls a place i s =
     let t = s.step.1 in
     record { place = t.place; listener = t.listener; alone = t.alone; asks = rls_asks t.listener s.linked t.selected }
+
+-- At RLS_REQ no device hands anything over.
+rls_none : (t : TargetState) → target_use (target_table t rls_frame).does ≡ Untouched
+rls_none t =
+    ap (λ (x : TargetTurn). target_use x.does) (target_heeds t RlsReq tt) ∙ by_mute t.mute
+  where
+    by_mute : (v : Bool) → target_use (framed (if v then stays t else record { state = t; does = Frees RlsRes })).does ≡ Untouched
+    by_mute true = refl
+    by_mute false = refl
+
+asked_none : (v : Bool) (u : PeerNear) → asked_if v u rls_frame ≡ Untouched
+asked_none true u = rls_none u.target
+asked_none false u = refl
+
+pub none_at_rls : NoneAtRls
+none_at_rls (T2 d) = refl
+none_at_rls (T4 d) = refl
+none_at_rls (Peer d) = by_front d.front d.upper
+  where
+    by_front : (front : Front) (u : PeerNear) → devices.handed (Peer (record { id = d.id; front = front; upper = u })) rls_frame ≡ Untouched
+    by_front Off u = refl
+    by_front Idle u = refl
+    by_front Sleep u = refl
+    by_front (Ready k starred) u = refl
+    by_front (Active starred) u = asked_none (takes_frame u rls_frame) u
+none_at_rls (T5 p) = refl

@@ -39,7 +39,7 @@ noted_whole : (s : Standing) (n : Note) → IsWholeAt (noted s n)
 noted_whole (dep.Waits i f) Lit = astray_whole
 noted_whole (dep.Waits i f) Lost = broken_whole FieldLost
 noted_whole (dep.Waits i f) (Got h) = goes_whole (heard_next i h).state (heard_next i h).does
-noted_whole (dep.Rests i) n = astray_whole
+noted_whole (dep.Rests i reply) n = astray_whole
 noted_whole (dep.Broken e) n = astray_whole
 noted_whole dep.Astray n = astray_whole
 

@@ -33,39 +33,39 @@ use Rattle.bench_devices.proofs.QuietRats.{laws}
 use Rattle.bench_devices.proofs.Tidy.{stepped_tidy}
 
 -- what one device is behind a frame
-record OneLeaves (l m : Device) : Type 0 where
+pub record OneLeaves (l m : Device) : Type 0 where
   pub same : kept m ≡ kept l
   pub tidy : IsTidy l → IsTidy m
 
 module _ (own : List ℕ) (f : Signal) (whole : f ≡ whole_a f.bytes) where
-  aside_left : (l : Device) → IsAside ghosts own l → OneLeaves l (stepped_by devices l f None) × IsAside ghosts own (stepped_by devices l f None)
+  pub aside_left : (l : Device) → IsAside ghosts own l → OneLeaves l (stepped_by devices l f None) × IsAside ghosts own (stepped_by devices l f None)
   aside_left l a = (record { same = aside_keeps own A f l whole tt a; tidy = stepped_tidy f None l }, (aside_silent ghosts laws own A f whole tt l a).aside)
 
-  peer_left : (l : Device) (reply : Option (List ℕ)) → seen_of l ≡ seen.Peer → OneLeaves l (stepped_by devices l f reply)
+  pub peer_left : (l : Device) (reply : Option (List ℕ)) → seen_of l ≡ seen.Peer → OneLeaves l (stepped_by devices l f reply)
   peer_left (T2 d) reply is = absurd cc
   peer_left (T4 d) reply is = absurd cc
   peer_left (Peer d) reply is = record { same = peer_kept d f reply; tidy = stepped_tidy f reply (Peer d) }
   peer_left (T5 p) reply is = absurd cc
 
   -- all beside the peer
-  record AllLeave (old new : List Device) : Type 0 where
+  pub record AllLeave (old new : List Device) : Type 0 where
     pub same : map kept new ≡ map kept old
     pub aside : AllByRecursion (IsAside ghosts own) new
     pub tidy : AreTidy old → AreTidy new
 
-  all_same : (ls : List Device) → AllByRecursion (IsAside ghosts own) ls → AllLeave ls ls
+  pub all_same : (ls : List Device) → AllByRecursion (IsAside ghosts own) ls → AllLeave ls ls
   all_same ls a = record { same = refl; aside = a; tidy = λ t. t }
 
   one_more : (l m : Device) (ls ms : List Device) → OneLeaves l m → map kept ms ≡ map kept ls → map kept (m ∷ ms) ≡ map kept (l ∷ ls)
   one_more l m ls ms one same = ap (λ x. x ∷ map kept ms) one.same ∙ ap (λ xs. kept l ∷ xs) same
 
-  all_more : (l m : Device) (ls ms : List Device) → OneLeaves l m × IsAside ghosts own m → AllLeave ls ms → AllLeave (l ∷ ls) (m ∷ ms)
+  pub all_more : (l m : Device) (ls ms : List Device) → OneLeaves l m × IsAside ghosts own m → AllLeave ls ms → AllLeave (l ∷ ls) (m ∷ ms)
   all_more l m ls ms one all = record { same = one_more l m ls ms one.0 all.same; aside = (one.1, all.aside); tidy = λ t. (one.0.tidy t.0, all.tidy t.1) }
 
-  at_more : (l m : Device) (place : ℕ) (ls ms : List Device) → OneLeaves l m × IsAside ghosts own m → TalkLeaves own place ls ms → TalkLeaves own (suc place) (l ∷ ls) (m ∷ ms)
+  pub at_more : (l m : Device) (place : ℕ) (ls ms : List Device) → OneLeaves l m × IsAside ghosts own m → TalkLeaves own place ls ms → TalkLeaves own (suc place) (l ∷ ls) (m ∷ ms)
   at_more l m place ls ms one all = record { same = one_more l m ls ms one.0 all.same; at = (one.1, all.at); tidy = λ t. (one.0.tidy t.0, all.tidy t.1) }
 
-  at_first : (l m : Device) (ls ms : List Device) → seen_of l ≡ seen.Peer → OneLeaves l m → AllLeave ls ms → TalkLeaves own zero (l ∷ ls) (m ∷ ms)
+  pub at_first : (l m : Device) (ls ms : List Device) → seen_of l ≡ seen.Peer → OneLeaves l m → AllLeave ls ms → TalkLeaves own zero (l ∷ ls) (m ∷ ms)
   at_first l m ls ms is one all = record {
     same = one_more l m ls ms one all.same;
     at = (ap (λ (k : Kept). k.fixed.kind) one.same ∙ is, all.aside);

@@ -1,7 +1,8 @@
 -- What links to the bench's peers keep to: which request is due while one is opened, what talking to a peer leaves of all devices, and
 -- that all of it happens so in the world with far ends (NFCIP-1, ISO/IEC 18092; who hears what is this project's own).
-use Rattle.std.specs.Prelude.{◌≡◌, ℕ, List, [], ◌++◌, Bool, false, Option, Some, Result, Ok, Err}
+use Rattle.std.specs.Prelude.{◌≡◌, ℕ, List, [], ◌∷◌, ◌++◌, Bool, false, Option, Some, Result, Ok, Err, true, length}
 use Rattle.nfc_base.specs.Signal.{Signal, whole_a}
+use Rattle.nfc_base.specs.Far.{Untouched}
 use Rattle.nfc_base.specs.Links.{FarStep}
 use Rattle.nfc_base.specs.declared.event.Heard.{Heard}
 use Rattle.nfc_base.specs.declared.carrier.EndCause.{EndCause}
@@ -9,11 +10,12 @@ use Rattle.nfc_base.specs.declared.carrier.EndCause.TheVariants.{Memory}
 use Rattle.nfc_base.specs.declared.carrier.LinkEnd.{LinkEnd}
 use Rattle.air_core.specs.World.{World}
 use Rattle.air_core.specs.Turn.{Air, moment, TurnIs}
-use Rattle.air_core.specs.Conversation.{Moment, Note, Next, Over, IsDemand, Going}
+use Rattle.air_core.specs.Conversation.{Moment, Note, Next, Over, Asks, IsDemand, Going}
 use Rattle.arrayvec.specs.ArrayVec.{ArrayVec}
+use Rattle.dep_link.specs.Exchange.{InStep}
 use Rattle.dep_link.specs.Initiator.{InitState}
 use Rattle.dep_link.specs.DepLinks.{DepSeen, DepMoves, IsDepReady}
-use Rattle.dep_link.specs.Releasing.{Releases, TakesRls}
+use Rattle.dep_link.specs.Releasing.{Releases, TakesRls, rls_frame}
 use Rattle.far_air.specs.FarEnds.{FarTable}
 use Rattle.far_air.specs.FarLaws.{IsFarTable, IsOfTable}
 use Rattle.far_air.specs.FarTurns.{FarGoing}
@@ -24,7 +26,7 @@ use Rattle.bench_devices.specs.declared.device.Device.{Device}
 use Rattle.bench_devices.specs.declared.polling.SeenKind.{SeenKind}
 use Rattle.bench_devices.specs.declared.polling.SeenKind.TheVariants as seen
 use Rattle.bench_devices.specs.Beside.{PeerAt, TalkLeaves, InStepAt}
-use Rattle.bench_devices.specs.Device.{air, devices, device_id, device_end, device_linked, is_tag}
+use Rattle.bench_devices.specs.Device.{air, devices, device_id, device_end, device_linked, device_selected, is_tag}
 use Rattle.bench_devices.specs.Keeping.{ghosts}
 use Rattle.bench_devices.specs.Opening.{peer_next, linking, Opens}
 use Rattle.bench_devices.specs.Phases.{Stands}
@@ -54,6 +56,18 @@ SwapsLeave =
 -- A link that is ready for a swap is in step with the peer at its place.
 abbrev pub ReadyInStep : Type 0
 ReadyInStep = (own : List ℕ) (place : ℕ) (a : DepSeen Device) → IsDepReady ghosts device_end a → PeerAt own place a.air.listeners → InStepAt a.air place a.initiator
+
+-- A selected peer with a link does what its target's table says. So where one stands in the lit field, all others being aside, and its end
+-- is in step with an initiator, the field is in step there.
+abbrev pub LinkedInStep : Type 0
+LinkedInStep =
+    (a : Air Device) (place : ℕ) (own : List ℕ) (before : List Device) (l : Device) (behind : List Device) (i : InitState) → a.lit ≡ true → a.listeners ≡ before ++ l ∷ behind
+    → length before ≡ place → PeerAt own place a.listeners → own ≡ device_id l → device_selected l ≡ true → device_linked l ≡ true → InStep i (device_end l)
+    → InStepAt a place i
+
+-- No device hands anything over at RLS_REQ.
+abbrev pub NoneAtRls : Type 0
+NoneAtRls = (l : Device) → devices.handed l rls_frame ≡ Untouched
 
 -- Such a peer takes RLS_REQ.
 abbrev pub InStepTakesRls : Type 0
@@ -86,3 +100,10 @@ abbrev pub SelectsFar : {F : Type 0} → FarTable F → Type 0
 SelectsFar {F} t = IsFarTable t
     → (id : DeviceId) (general : List ℕ) (old new : Moment (World Device)) (notes : List Note) → Going air (λ ns. asks (selecting id ns)) old new notes
     → (place : ℕ) (os : List (Option F)) (far : F) → FarGoing devices device_linked t (linking id general) old new notes place os far far
+
+-- What is said so in that world, in frames of whole bytes, leaves what one turn does.
+abbrev pub FarLeaves : {F : Type 0} → FarTable F → Type 0
+FarLeaves {F} t =
+    (own : List ℕ) (place at : ℕ) (next : List Note → Next) (old new : Moment (World Device)) (notes : List Note) (os : List (Option F)) (far after : F)
+    → ((ns : List Note) (f : Signal) → next ns ≡ Asks f → f ≡ whole_a f.bytes) → PeerAt own place old.world.listeners
+    → FarGoing devices device_linked t next old new notes at os far after → TalkLeaves own place old.world.listeners new.world.listeners

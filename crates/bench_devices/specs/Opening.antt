@@ -2,7 +2,7 @@
 -- NFC Forum Digital Protocol).
 use Rattle.std.specs.Prelude.{◌≡◌, ◌↔◌, ℕ, ◌<◌, List, [], ◌∷◌, true, false, Result, Ok, Err}
 use Rattle.std.specs.Result.{IfOk}
-use Rattle.nfc_base.specs.Trace.{breaks}
+use Rattle.nfc_base.specs.Trace.{breaks, noise}
 use Rattle.nfc_base.specs.declared.carrier.EndCause.{EndCause}
 use Rattle.nfc_base.specs.declared.carrier.EndCause.TheVariants.{FieldLost, SixBad, Protocol, Memory}
 use Rattle.air_core.specs.Conversation.{Note, Next, Over}
@@ -20,7 +20,7 @@ use Rattle.bench_devices.specs.declared.polling.SeenKind.TheVariants as seen
 use Rattle.bench_devices.specs.Beside.{TalkLeaves, InStepAt}
 use Rattle.bench_devices.specs.Device.{devices, device_id, device_target, is_tag}
 use Rattle.bench_devices.specs.Keeping.{kept}
-use Rattle.bench_devices.specs.Peers.{IsMadePeer, peer_general}
+use Rattle.bench_devices.specs.Peers.{IsMadePeer}
 use Rattle.bench_devices.specs.Phases.{Stands}
 use Rattle.bench_devices.specs.Polling as polls
 use Rattle.bench_devices.specs.Polling.{Followed, Told, selecting}
@@ -41,12 +41,12 @@ then_opens general (Told (Err e) ns) = Over
 abbrev pub linking : DeviceId → List ℕ → List Note → Next
 linking id general ns = then_opens general (selecting id ns)
 
--- A link is open to the peer that stood at a place: its initiator cuts to this peer's LR code, and was told the general bytes by which
--- such a peer says its MIU. Both ends are in step, and all that stays of the peer is as it was.
+-- A link is open to the peer that stood at a place, which was made as a peer may be: its initiator cuts to this peer's LR code, and was
+-- told its general bytes. Both ends are in step, and all that stays of the peer is as it was.
 pub record Opened (new : Air Device) (place : ℕ) (d : Device) (i : InitState) (told : List ℕ) : Type 0 where
   pub made : IsMadePeer (device_id d) (device_target d)
-  pub initiator : i ≡ waiting made.lr
-  pub general : told ≡ peer_general made.miu
+  pub initiator : i ≡ waiting (device_target d).lr
+  pub general : told ≡ (device_target d).general
   pub here : InStepAt new place i
   pub same : kept here.step.1.listener ≡ kept d
 
@@ -59,7 +59,7 @@ OpeningEnds new place d (Err Protocol) = ⊥
 OpeningEnds new place d (Err Memory) = new.lit ≡ true
 
 -- So it was asked of the peer at a place, up to some end: each request was due, and this is told by what was heard. The field is lost
--- exactly where a Break was used. The far end was restarted with these general bytes as often as ATR_REQ arrived, once at least where
+-- exactly where a Break was used, and six receptions were bad only where a transmission didn't pass. The far end was restarted with these general bytes as often as ATR_REQ arrived, once at least where
 -- the link is open.
 pub record Opens {F : Type 0} (restarts : F → List ℕ → F → Type 0) (steps : F → List ℕ → List ℕ → F → Type 0) (old : Air Device) (far : F) (new : Air Device) (after : F)
     (general : List ℕ) (place : ℕ) (d : Device) (result : Result (InitState × ArrayVec ℕ) EndCause) : Type 0 where
@@ -67,6 +67,7 @@ pub record Opens {F : Type 0} (restarts : F → List ℕ → F → Type 0) (step
   pub speaks : Speaks devices restarts steps (atr_next general) old far new after notes
   pub answers : AnswersAtr true notes (stand 0 (atr_frame general ∷ []) notes) result
   pub lost : (result ≡ Err FieldLost) ↔ (0 < breaks speaks.events)
+  pub noisy : result ≡ Err SixBad → 0 < noise speaks.events
   pub times : ℕ
   pub restarted : RestartedTimes restarts general times far after
   pub begun : IfOk result (λ p. 0 < times)

@@ -3,7 +3,7 @@
 ghost use Rattle.bench_devices.specs.Keeping.{DevicesStay, ImagesStay, AsideKeeps, OthersKeep};
 ghost use Rattle.bench_devices.specs.Calm.{DevicesLink, CalmFinding, CalmSelecting, CalmReading, CalmWriting, CalmUnasked};
 ghost use Rattle.far_air.specs.FarEnds.{FarTable};
-ghost use Rattle.bench_devices.specs.LinkLaws.{LinkAsks, PeerStands, OthersAside, SwapsLeave, ReadyInStep, InStepTakesRls, TurnLeaves, ReleaseLeaves, OpensFar, SelectsFar};
+ghost use Rattle.bench_devices.specs.LinkLaws.{LinkAsks, PeerStands, OthersAside, SwapsLeave, ReadyInStep, LinkedInStep, InStepTakesRls, NoneAtRls, TurnLeaves, ReleaseLeaves, OpensFar, SelectsFar, FarLeaves};
 
 use nfc_base::Answerer;
 
@@ -35,15 +35,18 @@ pub fn links_open<A: Answerer>()
     ensures stands { PeerStands }
     ensures others { OthersAside }
     ensures ready { ReadyInStep }
+    ensures linked { LinkedInStep }
     ensures takes { InStepTakesRls }
+    ensures none { NoneAtRls }
     ensures moves { SwapsLeave }
     ensures turn { TurnLeaves A.restarts A.steps }
     ensures release { ReleaseLeaves A.restarts A.steps A.stops A.is_stuck }
 {}
 
 /// The opening of a link, from the selection of its peer on, is a stretch of the world with far ends, at the peer's place.
-/// So is a selection alone, whatever it came to.
+/// So is a selection alone, whatever it came to. What is said to a peer in that world leaves what it does on the field.
 pub fn links_far<F, A: Answerer>()
     ensures selects { (t : FarTable F) → SelectsFar t }
+    ensures leaves { (t : FarTable F) → FarLeaves t }
     ensures opens { (t : FarTable F) (view : A → F) → OpensFar A.restarts A.steps t view }
 {}

@@ -5,6 +5,7 @@ pub mod Removing
 pub mod Locking
 pub mod Peering
 pub mod Unlinking
+pub mod Ranges
 pub mod Reached
 pub mod Telling
 pub mod Legality

@@ -22,7 +22,7 @@ use Rattle.peer_air.specs.PeerFars.{peer_ends}
 use Rattle.bench_world.specs.World.{FarEnd}
 use Rattle.bench_world.specs.Calls.{IfLinked}
 use Rattle.bench_world.specs.Links.{OpenLink, ended}
-use Rattle.bench_world.specs.Opened.{IsOpen}
+use Rattle.bench_world.specs.Opened.{IsOpen, AreServed, AreNumbered}
 use Rattle.bench_world.specs.Peers.{Peers}
 
 abbrev pub obey_fault_number : ObeyFault → ℕ
@@ -59,10 +59,12 @@ FarAt s place end = get_or s.world.fars place None ≡ by_link peer_ends (linked
 abbrev pub FieldOf : State → Air Device → Type 0
 FieldOf s a = (s.world.field ≡ record { lit = a.lit; listeners = a.listeners }) × (s.queue ≡ a.fates)
 
--- Each device has a place in the lists of far ends and of numbers.
+-- Each device has a place in the lists of far ends and of numbers; at that of a peer stand its far end and its number, which no other has.
 pub record HasPlaces (m : Machines) : Type 0 where
   pub ends : length m.ends ≡ length m.air.listeners
   pub numbers : length m.peers.numbers ≡ length m.air.listeners
+  pub served : AreServed m.air.listeners m.peers.numbers m.ends
+  pub apart : AreNumbered m.peers.placed m.peers.numbers
 
 -- where a link is open, it stands as an open link does
 abbrev pub KeepsLink : Machines → Type 0

@@ -95,6 +95,7 @@ module _ {L C : Type 0} (k : Ghosts L) (target : L → TargetState) (see : C →
         record {
           open_ = record { in_step = in_step k target (see b) (ready open_b); going = going_on talk.counts talk.did from to a b talk.told talk.swapped open_b phase };
           turns = λ linked links place there os. (reaches from to talk e linked links place there os).0;
+          there = λ linked links place there. (reaches from to talk e linked links place there []).1;
         }
 
     abbrev Breaking : Step → SnepFault → EndState → Type 0

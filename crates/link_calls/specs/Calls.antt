@@ -36,10 +36,12 @@ module _ {L : Type 0} (k : Ghosts L) (target : L → TargetState) where
         (linked : L → Bool) → IsLinked k.machine linked → (place : ℕ) → Stands k target linked peer_ends old place → (os : List (Option PeerState))
         → (numbers : List ℕ) × CallTurns k target linked peer_ends numbers from i old new place os far after s
 
-    -- It came to its end: what was heard tells how, and where the initiator rests. The link is open.
+    -- It came to its end: what was heard tells how, and where the initiator rests. The link is open, and its peer stands where it stood.
     pub record IsMade (to : Step) : Type 0 where
       pub open_ : IsOpen new j
       pub turns : CallComes (Comes to j)
+      pub there : (linked : L → Bool) → IsLinked k.machine linked → (place : ℕ) → Stands k target linked peer_ends old place
+          → Stands k target linked peer_ends new place
 
     -- It was cut off, by its link or by want of memory.
     abbrev pub IsCutOff : SnepFault → Type 0

@@ -12,3 +12,6 @@ mod law;
 pub use calls::{get_on, lookup_on, put_on};
 pub use closing::close_and_release;
 pub use law::calls_due;
+
+#[cfg(test)]
+mod tests;

@@ -1,3 +1,4 @@
+use Rattle.bench_devices.proofs.FarLeaves.{far_leaves}
 use Rattle.bench_devices.proofs.LinkFar.{selects_far, opens_far}
 use Rattle.bench_devices.proofs.law.links_far.Goals as goal
 
@@ -6,3 +7,6 @@ returns-clause-selects g c = λ t. selects_far t
 
 pub returns-clause-opens : goal.returns-clause-opens
 returns-clause-opens g c = λ t view. opens_far g.A.Answerer.restarts g.A.Answerer.steps t view
+
+pub returns-clause-leaves : goal.returns-clause-leaves
+returns-clause-leaves g c = λ t. far_leaves t

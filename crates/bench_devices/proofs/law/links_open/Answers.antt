@@ -1,4 +1,5 @@
 use Rattle.bench_devices.proofs.BesideLink as beside
+use Rattle.bench_devices.proofs.LinkedPeer as linked
 use Rattle.bench_devices.proofs.LinkingNotes as notes
 use Rattle.bench_devices.proofs.OpensPeer as opens
 use Rattle.bench_devices.proofs.PeerHere as here
@@ -18,8 +19,14 @@ returns-clause-others g c = beside.at_aside
 pub returns-clause-ready : goal.returns-clause-ready
 returns-clause-ready g c = here.ready_in_step
 
+pub returns-clause-linked : goal.returns-clause-linked
+returns-clause-linked g c = linked.linked_in_step
+
 pub returns-clause-takes : goal.returns-clause-takes
 returns-clause-takes g c = here.takes_rls
+
+pub returns-clause-none : goal.returns-clause-none
+returns-clause-none g c = here.none_at_rls
 
 pub returns-clause-moves : goal.returns-clause-moves
 returns-clause-moves g c = swaps.swaps_leave

@@ -1,0 +1,295 @@
+//! Calls over a link to a phone.
+
+ghost use Rattle.std.specs.Prelude.{◌≡◌, ◌≤◌, ℕ, List, length, true, false, IfOk};
+ghost use Rattle.dep_link.specs.Activating.{HasTarget};
+ghost use Rattle.link_calls.specs.Calls.{IsOpen};
+
+use crate::{close_and_release, get_on, lookup_on, put_on};
+use air_core::{Field, Listener};
+use arrayvec::ArrayVec;
+use dep_link::{Initiator, PeerListener, Target, TargetStep, activate};
+use llcp_link::Llc;
+use llcp_pdu::LinkParams;
+use nfc_base::{Answerer, EndCause, Event, Fate, Frame, Tech};
+use snep_core::{Client, NoService, Server, SnepFault};
+use std::alloc::{AllocError, Global};
+use std::process::Abort;
+use std::test::Fail;
+
+/// A device that is selected from light on, with a target under a far end.
+#[derive(Drop)]
+struct Phone {
+    lit: bool,
+    target: Target,
+}
+
+impl Listener for Phone {
+    ghost use Rattle.std.specs.Prelude.{[], true, false};
+    ghost use Rattle.std.proofs.Common.{rules};
+    ghost use Rattle.nfc_base.specs.declared.frame.Tech.TheVariants as techs;
+    ghost use Rattle.dep_link.specs.Target.{darkened};
+    ghost use Rattle.dep_link.specs.Delivering.{asked_in, answered_in, left_in, asked_short, told_tech};
+
+    ghost machine = { record {
+      tech = λ l. techs.A;
+      handed = λ l f. asked_in l.lit l.target f;
+      answer = λ l f reply. answered_in l.lit l.target f reply;
+      after = λ l f reply. record l { target = left_in l.lit l.target f reply };
+      woken = λ l. record l { lit = true };
+      darkened = λ l. record { lit = false; target = darkened l.target };
+    } };
+
+    ghost identifier = { λ l. [] };
+
+    ghost store = { λ l. [] };
+
+    ghost is_ready = { λ l. false };
+
+    ghost is_selected = { λ l. l.lit };
+
+    fn tech(&self) -> Tech {
+        Tech::A
+    }
+
+    fn light(&mut self) {
+        self.lit = true;
+    }
+
+    fn dark(&mut self) {
+        self.lit = false;
+        self.target.dark();
+    }
+
+    fn hear<A: Answerer>(
+        &mut self,
+        alloc: Global,
+        frame: &Frame,
+        far: &mut A,
+    ) -> Result<Option<Frame>, AllocError> {
+        if !self.lit {
+            return Ok(None);
+        }
+        match self.target.hear(frame) {
+            TargetStep::Quiet => Ok(None),
+            TargetStep::Reply(answer) => Ok(Some(answer)),
+            TargetStep::Asleep(answer) => Ok(Some(answer)),
+            TargetStep::Released(answer) => Ok(Some(answer)),
+            TargetStep::Restart { general, reply } => {
+                far.restart(&general);
+                Ok(Some(reply))
+            }
+            TargetStep::Deliver(payload) => {
+                let mut reply = Vec::new(alloc);
+                if far.answer(alloc, &payload, &mut reply).is_err() {
+                    self.target.reply(&[]);
+                    return Err(AllocError);
+                }
+                Ok(Some(self.target.reply(&reply)))
+            }
+        }
+    }
+
+    ghost bounded = { λ l f payload e. asked_short l.lit l.target f payload e };
+
+    ghost own_tech = { λ l f g reply e. told_tech l.lit l.target f reply g e };
+
+    ghost step_keeps = { Prim.search rules };
+
+    ghost light_keeps = { Prim.search rules };
+
+    ghost dark_keeps = { Prim.search rules };
+
+    ghost light_selects = { Prim.search rules };
+
+    ghost stays_selected = { Prim.search rules };
+
+    ghost dark_rests = { Prim.search rules };
+
+    ghost rests = { Prim.search rules };
+
+    ghost ignores = { Prim.search rules };
+}
+
+impl PeerListener for Phone {
+    ghost target = { λ l. l.target };
+}
+
+/// A lit field in which such a device stands alone, with this NFCID3 and these general bytes, and these fates to come.
+fn phone_field(
+    alloc: Global,
+    id: [u8; 10],
+    general: ArrayVec<u8, 47>,
+    fates: &[Fate],
+) -> Result<Field<Phone>, Fail>
+    ensures lit { IfOk result (λ f. f.lit ≡ true) }
+    ensures stands { IfOk result (λ f. (bytes : List ℕ) → HasTarget ⟦<Phone as Listener>⟧ (λ l. l.target) f bytes) }
+{
+    let target = Target::new(id, 3, general);
+    let mut field = Field::new(alloc);
+    field.put_in(Phone { lit: false, target })?;
+    field.add_fates(fates)?;
+    field.reset()?;
+    Ok(field)
+}
+
+const ID: [u8; 10] = [8, 1, 2, 3, 0, 0, 0, 0, 0, 0];
+
+const OWN: &[u8] = b"Ffm\x01\x01\x13\x03\x02\x00\x03";
+
+const PHONES: &[u8] = b"Ffm\x01\x01\x13\x03\x02\x00\x13";
+
+const PARAMS: LinkParams = LinkParams {
+    version: 0x13,
+    miu: 128,
+    wks: 0x13,
+};
+
+/// A field in which a phone can be activated, with these fates behind the two of its activation.
+fn met(alloc: Global, fates: &[Fate]) -> Result<Field<Phone>, Fail>
+    ensures lit { IfOk result (λ f. f.lit ≡ true) }
+    ensures stands { IfOk result (λ f. (bytes : List ℕ) → HasTarget ⟦<Phone as Listener>⟧ (λ l. l.target) f bytes) }
+{
+    let mut general = ArrayVec::new();
+    general.try_extend_from_slice(PHONES)?;
+    let mut all = Vec::from_slice(alloc, &[Fate::Pass, Fate::Pass])?;
+    all.extend_from_slice(fates)?;
+    phone_field(alloc, ID, general, &all)
+}
+
+/// The phone's end, with a server.
+fn server(rt: &impl Abort, alloc: Global) -> Llc<Server> {
+    let mut llc = Llc::new(alloc, PARAMS, 1, Server::new(alloc, 1024));
+    assert_eq!(rt; llc.listen("urn:nfc:sn:snep", 4), Ok(()));
+    llc
+}
+
+/// A link to the phone, and a client on it.
+fn linked(
+    alloc: Global,
+    field: &mut Field<Phone>,
+    far: &mut Llc<Server>,
+) -> Result<(Initiator, Client), Fail>
+    requires { (bytes : List ℕ) → HasTarget ⟦<Phone as Listener>⟧ (λ l. l.target) field.old bytes }
+    ensures open_ { IfOk result (λ p. IsOpen ⟦<Phone as Listener>⟧ (λ l. l.target) field.new p.0) }
+    ensures going { IfOk result (λ p. p.1.spent ≡ false) }
+{
+    let (initiator, general) = activate(field, OWN, far)?;
+    let mut llc = Llc::new(alloc, PARAMS, 1, NoService);
+    llc.restart(&general);
+    Ok((initiator, Client::new(alloc, llc)))
+}
+
+/// An event's frame.
+fn bytes_of(event: &Event) -> &[u8] {
+    match event {
+        Event::Request { frame, .. } => frame.view(),
+        Event::Answer { frame, .. } => frame.view(),
+        _ => &[],
+    }
+}
+
+#[test]
+fn a_message_goes_over(rt: HostRuntime) -> Result<(), Fail> {
+    let alloc = rt.alloc();
+    let mut far = server(&rt, alloc);
+    let mut field = met(alloc, &[])?;
+    let (mut initiator, mut client) = linked(alloc, &mut field, &mut far)?;
+    let name = "urn:nfc:sn:snep";
+    let sap = lookup_on(&mut field, &mut initiator, &mut client, &mut far, name)?;
+    assert_eq!(rt; sap, 4);
+    let message = [0xD0, 0, 0];
+    put_on(
+        &mut field,
+        &mut initiator,
+        &mut client,
+        &mut far,
+        &message,
+    )?;
+    close_and_release(&mut field, &mut initiator, &mut client, &mut far)?;
+    let frames: [&[u8]; 6] = [
+        b"\xF0\x18\xD4\x06\x00\x06\x41\x08\x10\x00urn:nfc:sn:snep",
+        &[0xF0, 0x0A, 0xD5, 0x07, 0x00, 0x06, 0x41, 0x09, 0x02, 0x00, 0x04],
+        &[0xF0, 0x06, 0xD4, 0x06, 0x01, 0x11, 0x20],
+        &[0xF0, 0x06, 0xD5, 0x07, 0x01, 0x81, 0x84],
+        b"\xF0\x10\xD4\x06\x02\x13\x20\x00\x10\x02\x00\x00\x00\x03\xD0\x00\x00",
+        b"\xF0\x0D\xD5\x07\x02\x83\x04\x01\x10\x81\x00\x00\x00\x00",
+    ];
+    let events = field.trace();
+    for (event, expected) in events.iter().skip(3).zip(&frames) {
+        assert_eq!(rt; bytes_of(event), *expected);
+    }
+    let last = events.iter().rev().take(2);
+    let ends: [&[u8]; 2] = [&[0xF0, 0x03, 0xD5, 0x0B], &[0xF0, 0x03, 0xD4, 0x0A]];
+    for (event, expected) in last.zip(&ends) {
+        assert_eq!(rt; bytes_of(event), *expected);
+    }
+    assert_eq!(rt; events.len(), 13);
+    Ok(())
+}
+
+#[test]
+fn values_are_got(rt: HostRuntime) -> Result<(), Fail> {
+    let alloc = rt.alloc();
+    let mut far = server(&rt, alloc);
+    far.service().offer(b"k1", &[0xA1, 0xA2, 0xA3])?;
+    let mut field = met(alloc, &[])?;
+    let (mut initiator, mut client) = linked(alloc, &mut field, &mut far)?;
+    let value = get_on(&mut field, &mut initiator, &mut client, &mut far, 16, b"k1")?;
+    assert_eq!(rt; value.as_slice(), [0xA1u8, 0xA2, 0xA3].as_slice());
+    let long = get_on(&mut field, &mut initiator, &mut client, &mut far, 2, b"k1");
+    assert_eq!(rt; long.map(|value| value.len()), Err(SnepFault::Excess));
+    Ok(())
+}
+
+/// How a put ends over these fates, and how many messages the phone has then.
+fn put_ends(
+    rt: &impl Abort,
+    alloc: Global,
+    fates: &[Fate],
+) -> Result<(Result<(), SnepFault>, usize), Fail> {
+    let mut far = server(rt, alloc);
+    let mut field = met(alloc, fates)?;
+    let (mut initiator, mut client) = linked(alloc, &mut field, &mut far)?;
+    let put = put_on(
+        &mut field,
+        &mut initiator,
+        &mut client,
+        &mut far,
+        &[0xD0, 0, 0],
+    );
+    Ok((put, far.service().accepted().len()))
+}
+
+#[test]
+fn a_link_that_ends_is_told(rt: HostRuntime) -> Result<(), Fail> {
+    let alloc = rt.alloc();
+    let lost = [Fate::Lose; 6];
+    let late = [
+        Fate::Pass,
+        Fate::Pass,
+        Fate::Pass,
+        Fate::Damage,
+        Fate::Pass,
+        Fate::Damage,
+        Fate::Pass,
+        Fate::Damage,
+        Fate::Pass,
+        Fate::Damage,
+        Fate::Pass,
+        Fate::Damage,
+        Fate::Pass,
+        Fate::Damage,
+    ];
+    let lost_field = Err(SnepFault::LinkEnded(EndCause::FieldLost));
+    let six_bad = Err(SnepFault::LinkEnded(EndCause::SixBad));
+    let rows: [(&[Fate], Result<(), SnepFault>, usize); 4] = [
+        (&[], Ok(()), 1),
+        (&[Fate::Break], lost_field, 0),
+        (&lost, six_bad, 0),
+        (&late, six_bad, 1),
+    ];
+    for (fates, put, accepted) in rows {
+        assert_eq!(rt; put_ends(&rt, alloc, fates)?, (put, accepted), "at {fates:?}");
+    }
+    Ok(())
+}
