@@ -93,7 +93,7 @@ module _ {F : Type 0} (t : FarTable F) (own : List ℕ) where
       leaves_both own place w.field.listeners (happened w (Clash g y)).field.listeners _ x (events_leave place es (happened w (Clash g y)) h x.at)
 
 -- numbers begin by themselves
-begins_so : (ns : List ℕ) → BeginBy ns ns
+pub begins_so : (ns : List ℕ) → BeginBy ns ns
 begins_so [] = tt
 begins_so (n ∷ ns) = (refl, begins_so ns)
 

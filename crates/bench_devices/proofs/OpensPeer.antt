@@ -76,7 +76,7 @@ module _ (general : List ℕ) (short : length general ≤ 48) where
   handed_none (Peer d) payload e = peer_none d.front d payload e
   handed_none (T5 p) payload e = absurd cc
 
-  heard_none : (v : Bool) (l : Device) (payload : List ℕ) → (if v then devices.handed l f else Untouched) ≡ Hands payload → ⊥
+  pub heard_none : (v : Bool) (l : Device) (payload : List ℕ) → (if v then devices.handed l f else Untouched) ≡ Hands payload → ⊥
   heard_none true l payload e = handed_none l payload e
   heard_none false l payload e = absurd cc
 
@@ -87,7 +87,7 @@ module _ (general : List ℕ) (short : length general ≤ 48) where
     none_stops (l ∷ ls) far ms after (m, later, left, inl (stop, same)) = heard_none (hears devices l f) l stop.payload stop.handed
     none_stops (l ∷ ls) far ms after (m, later, left, inr (answer, mid, meets, more)) = none_stops ls mid later after more
 
-    waits_none : (g : Signal) (notes : List Note) → atr_next general notes ≡ Asks g → g ≡ f
+    pub waits_none : (g : Signal) (notes : List Note) → atr_next general notes ≡ Asks g → g ≡ f
     waits_none g notes e = due_all (λ h. h ≡ f) (f ∷ []) (refl, tt) notes g e
 
     nothing_more : (notes : List Note) (mid new : Air Device) (half after : F) → LeavesOff devices restarts obeys (atr_next general) stops is_stuck notes mid half new after → (new ≡ mid) × (after ≡ half)

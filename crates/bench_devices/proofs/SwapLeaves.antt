@@ -20,7 +20,7 @@ use Rattle.bench_devices.specs.LinkLaws.{SwapsLeave}
 use Rattle.bench_devices.proofs.BesideLink.{leaves_all, leaves_both, going_leaves}
 
 -- what an initiator asks is a frame of whole bytes of NFC-A
-abbrev IsWholeAt : Standing → Type 0
+abbrev pub IsWholeAt : Standing → Type 0
 IsWholeAt s = (f : Signal) → due_at s ≡ Asks f → f ≡ whole_a f.bytes
 
 goes_whole : (i : InitState) (does : init.Next) → IsWholeAt (goes_by i (framed_next does))
@@ -43,15 +43,15 @@ noted_whole (dep.Rests i reply) n = astray_whole
 noted_whole (dep.Broken e) n = astray_whole
 noted_whole dep.Astray n = astray_whole
 
-stand_whole : (ns : List Note) (s : Standing) → IsWholeAt s → IsWholeAt (stand s ns)
+pub stand_whole : (ns : List Note) (s : Standing) → IsWholeAt s → IsWholeAt (stand s ns)
 stand_whole [] s h = h
 stand_whole (n ∷ ns) s h = stand_whole ns (noted s n) (noted_whole s n)
 
-asks_whole : (i : InitState) (out : List ℕ) → IsWholeAt (asks i out)
+pub asks_whole : (i : InitState) (out : List ℕ) → IsWholeAt (asks i out)
 asks_whole i out f e =
     (let same : air_frame (request (begun i out).core) ≡ f = cc in subst (λ g. g ≡ whole_a g.bytes) same refl)
 
-dep_whole : (i : InitState) (out : List ℕ) (ns : List Note) (f : Signal) → dep_next i out ns ≡ Asks f → f ≡ whole_a f.bytes
+pub dep_whole : (i : InitState) (out : List ℕ) (ns : List Note) (f : Signal) → dep_next i out ns ≡ Asks f → f ≡ whole_a f.bytes
 dep_whole i out ns f e = stand_whole ns (asks i out) (asks_whole i out) f e
 
 module _ (own : List ℕ) (place : ℕ) where
@@ -81,15 +81,15 @@ module _ (own : List ℕ) (place : ℕ) where
   swap_leaves a b t out (Stopped payload ∷ e ∷ ds) x fed at = absurd x
 
   -- a link that a swap begins on isn't over
-  begun_fed : (ss : List Swap) (mid b : DepSeen Device) (did : List FarStep) → Chained ghosts device_end ss mid did b → (b.over ≡ Some Memory → ⊥) → mid.over ≡ Some Memory → ⊥
-  begun_fed [] mid b did (same, none) fed e = fed (ap (λ (z : DepSeen Device). z.over) same ∙ e)
-  begun_fed (s ∷ ss) mid b did (next, rest, x, more, all) fed e = absurd (let clash : None ≡ Some Memory = sym x.begins ∙ e in cc)
+  begun_fed : (ss : List Swap) (mid b : DepSeen Device) → Chained ghosts device_end ss mid b → (b.over ≡ Some Memory → ⊥) → mid.over ≡ Some Memory → ⊥
+  begun_fed [] mid b same fed e = fed (ap (λ (z : DepSeen Device). z.over) same ∙ e)
+  begun_fed (s ∷ ss) mid b (next, x, more) fed e = absurd (let clash : None ≡ Some Memory = sym x.begins ∙ e in cc)
 
-  chain_leaves : (ss : List Swap) (a b : DepSeen Device) (did : List FarStep) → Chained ghosts device_end ss a did b → (b.over ≡ Some Memory → ⊥) → PeerAt own place a.air.listeners → Leaves a b
-  chain_leaves [] a b did (same, none) fed at = subst (Leaves a) (sym same) (leaves_all own place a.air.listeners at)
-  chain_leaves (s ∷ ss) a b did (mid, rest, x, more, all) fed at =
-      let one : Leaves a mid = swap_leaves a mid x.peer s.out s.did x.exchange (begun_fed ss mid b rest more fed) at in
-      leaves_both own place a.air.listeners mid.air.listeners b.air.listeners one (chain_leaves ss mid b rest more fed one.at)
+  chain_leaves : (ss : List Swap) (a b : DepSeen Device) → Chained ghosts device_end ss a b → (b.over ≡ Some Memory → ⊥) → PeerAt own place a.air.listeners → Leaves a b
+  chain_leaves [] a b same fed at = subst (Leaves a) (sym same) (leaves_all own place a.air.listeners at)
+  chain_leaves (s ∷ ss) a b (mid, x, more) fed at =
+      let one : Leaves a mid = swap_leaves a mid x.peer s.out s.did x.exchange (begun_fed ss mid b more fed) at in
+      leaves_both own place a.air.listeners mid.air.listeners b.air.listeners one (chain_leaves ss mid b more fed one.at)
 
 pub swaps_leave : SwapsLeave
-swaps_leave own place a b did moves fed at = chain_leaves own place moves.0 a b did moves.1 fed at
+swaps_leave own place a b ss chain fed at = chain_leaves own place ss a b chain fed at

@@ -1,9 +1,8 @@
 -- What links to the bench's peers keep to: which request is due while one is opened, what talking to a peer leaves of all devices, and
 -- that all of it happens so in the world with far ends (NFCIP-1, ISO/IEC 18092; who hears what is this project's own).
-use Rattle.std.specs.Prelude.{◌≡◌, ℕ, List, [], ◌∷◌, ◌++◌, Bool, false, Option, Some, Result, Ok, Err, true, length}
+use Rattle.std.specs.Prelude.{◌≤◌, ◌≡◌, ℕ, List, [], ◌∷◌, ◌++◌, Bool, false, Option, Some, Result, Ok, Err, true, length}
 use Rattle.nfc_base.specs.Signal.{Signal, whole_a}
 use Rattle.nfc_base.specs.Far.{Untouched}
-use Rattle.nfc_base.specs.Links.{FarStep}
 use Rattle.nfc_base.specs.declared.event.Heard.{Heard}
 use Rattle.nfc_base.specs.declared.carrier.EndCause.{EndCause}
 use Rattle.nfc_base.specs.declared.carrier.EndCause.TheVariants.{Memory}
@@ -14,7 +13,7 @@ use Rattle.air_core.specs.Conversation.{Moment, Note, Next, Over, Asks, IsDemand
 use Rattle.arrayvec.specs.ArrayVec.{ArrayVec}
 use Rattle.dep_link.specs.Exchange.{InStep}
 use Rattle.dep_link.specs.Initiator.{InitState}
-use Rattle.dep_link.specs.DepLinks.{DepSeen, DepMoves, IsDepReady}
+use Rattle.dep_link.specs.DepLinks.{DepSeen, Swap, Chained, IsDepReady}
 use Rattle.dep_link.specs.Releasing.{Releases, TakesRls, rls_frame}
 use Rattle.far_air.specs.FarEnds.{FarTable}
 use Rattle.far_air.specs.FarLaws.{IsFarTable, IsOfTable}
@@ -50,7 +49,7 @@ OthersAside = (own : List ℕ) (place : ℕ) (ls : List Device) → PeerAt own p
 -- were bad.
 abbrev pub SwapsLeave : Type 0
 SwapsLeave =
-    (own : List ℕ) (place : ℕ) (a b : DepSeen Device) (did : List FarStep) → DepMoves ghosts device_end a did b → (b.over ≡ Some Memory → ⊥) → PeerAt own place a.air.listeners
+    (own : List ℕ) (place : ℕ) (a b : DepSeen Device) (swaps : List Swap) → Chained ghosts device_end swaps a b → (b.over ≡ Some Memory → ⊥) → PeerAt own place a.air.listeners
     → TalkLeaves own place a.air.listeners b.air.listeners
 
 -- A link that is ready for a swap is in step with the peer at its place.
@@ -73,6 +72,10 @@ NoneAtRls = (l : Device) → devices.handed l rls_frame ≡ Untouched
 abbrev pub InStepTakesRls : Type 0
 InStepTakesRls = (a : Air Device) (place : ℕ) (i : InitState) → InStepAt a place i → TakesRls ghosts device_end a
 
+-- Turns of the world with far ends at a place, in which no far end is handed a payload: they take no number.
+abbrev pub TakesNone : {F : Type 0} → FarTable F → (List Note → Next) → (old new : Moment (World Device)) → List Note → ℕ → List (Option F) → F → F → Type 0
+TakesNone t next old new notes place os far after = (g : FarGoing devices device_linked t next old new notes place os far after) × (g.taken ≡ [])
+
 module _ {A : Type 0} (restarts : A → List ℕ → A → Type 0) (steps : A → List ℕ → List ℕ → A → Type 0) where
   -- one turn, over whatever far end
   abbrev pub TurnLeaves : Type 0
@@ -87,19 +90,19 @@ module _ {A : Type 0} (restarts : A → List ℕ → A → Type 0) (steps : A �
       → Releases devices restarts steps stops is_stuck old far result new after → TalkLeaves own place old.listeners new.listeners
 
   -- The opening of a link, from the selection of its peer on, is a stretch of the world with far ends at the peer's place, where its far
-  -- end begins a new link as often as ATR_REQ arrives.
+  -- end begins a new link as often as ATR_REQ arrives. It takes no number.
   abbrev pub OpensFar : {F : Type 0} → FarTable F → (A → F) → Type 0
   OpensFar {F} t view = IsFarTable t → IsOfTable restarts steps t view
       → (id : DeviceId) (general : List ℕ) (place : ℕ) (d : Device) (result : Result (InitState × ArrayVec ℕ) EndCause) (old mid new : Air Device) (far after : A) (notes : List Note)
-      → Going air (λ ns. asks (selecting id ns)) (moment old) (moment mid) notes → selecting id notes ≡ Told (Ok seen.Peer) []
+      → length general ≤ 48 → Going air (λ ns. asks (selecting id ns)) (moment old) (moment mid) notes → selecting id notes ≡ Told (Ok seen.Peer) []
       → Stands (moment mid) place d → is_tag d ≡ false → (o : Opens restarts steps mid far new after general place d result) → (os : List (Option F))
-      → FarGoing devices device_linked t (linking id general) (moment old) (moment new) (notes ++ o.notes) place os (view far) (view after)
+      → TakesNone t (linking id general) (moment old) (moment new) (notes ++ o.notes) place os (view far) (view after)
 
 -- So is a selection alone, whatever it came to, at which no far end is asked anything.
 abbrev pub SelectsFar : {F : Type 0} → FarTable F → Type 0
 SelectsFar {F} t = IsFarTable t
     → (id : DeviceId) (general : List ℕ) (old new : Moment (World Device)) (notes : List Note) → Going air (λ ns. asks (selecting id ns)) old new notes
-    → (place : ℕ) (os : List (Option F)) (far : F) → FarGoing devices device_linked t (linking id general) old new notes place os far far
+    → (place : ℕ) (os : List (Option F)) (far : F) → TakesNone t (linking id general) old new notes place os far far
 
 -- What is said so in that world, in frames of whole bytes, leaves what one turn does.
 abbrev pub FarLeaves : {F : Type 0} → FarTable F → Type 0

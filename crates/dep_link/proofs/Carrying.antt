@@ -112,11 +112,16 @@ module _ {L F : Type 0} (k : Ghosts L) (target : L → TargetState) (steps : F �
       ∙ ap is_some (append_cancel_left ps (payloads a.initiator.core.number bs) (delivered_of out given) same)
 
   module _ (new : Air L) (j : InitState) (last : j.out ≡ Some out) where
-    exchanged : (over : Option EndCause) (s : Standing) → StandsAt over None j s → Turns new None s → Exchanged k target a (at new j over) (record { out = out; did = [] })
-    exchanged over s st x = record { begins = open_link; start = r.start; peer = r.peer; same = (refl, refl); last = last; short = short; exchange = (s, x, st) }
+    -- where six were bad, not all passed
+    abbrev Noisy : Option EndCause → Type 0
+    Noisy over = over ≡ Some SixBad → noise (since (at new j over)) ≡ noise (since a) → ⊥
 
-    exchanged_step : (over : Option EndCause) (reply : List ℕ) (s : Standing) → StandsAt over (Some reply) j s → Turns new (Some reply) s → Exchanged k target a (at new j over) (record { out = out; did = Stepped out reply ∷ [] })
-    exchanged_step over reply s st x = record { begins = open_link; start = r.start; peer = r.peer; same = (refl, refl); last = last; short = short; exchange = (refl, (s, x, st)) }
+    exchanged : (over : Option EndCause) (s : Standing) → StandsAt over None j s → Turns new None s → Noisy over → Exchanged k target a (at new j over) (record { out = out; did = [] })
+    exchanged over s st x n = record { begins = open_link; start = r.start; peer = r.peer; same = (refl, refl); last = last; short = short; exchange = (s, x, st); noisy = n }
+
+    exchanged_step : (over : Option EndCause) (reply : List ℕ) (s : Standing) → StandsAt over (Some reply) j s → Turns new (Some reply) s → Noisy over
+        → Exchanged k target a (at new j over) (record { out = out; did = Stepped out reply ∷ [] })
+    exchanged_step over reply s st x n = record { begins = open_link; start = r.start; peer = r.peer; same = (refl, refl); last = last; short = short; exchange = (refl, (s, x, st)); noisy = n }
 
     -- the reply came
     pub carried : (reply : Vec ℕ) → EndsBy k target steps stops a.air new r.peer.listener a.initiator j a.first (brought a.first (since a)) (arrived (since a)) out far far' (Ok (record { items = reply.items }))
@@ -125,7 +130,7 @@ module _ {L F : Type 0} (k : Ghosts L) (target : L → TargetState) (steps : F �
         let P : List (List ℕ) → List Signal → Type 0 = λ ps fs. HasPeer k target new j a.first ps fs in
         let fs : arrived (since (at new j None)) ≡ arrived (since a) ++ arrived x.events = arrived_is new j None x.events x.trace in
         let ps : brought a.first (since (at new j None)) ≡ brought a.first (since a) ++ out ∷ [] = ap (λ (zs : List Signal). payloads a.first (frames_of zs)) fs ∙ x.brings in (
-          record { exchanged = exchanged_step None reply.items (Rests j reply.items) refl x; far_moved = (far', step, refl) },
+          record { exchanged = exchanged_step None reply.items (Rests j reply.items) refl x (λ e q. cc); far_moved = (far', step, refl) },
           refl,
           record {
             lit = lit;
@@ -134,11 +139,15 @@ module _ {L F : Type 0} (k : Ghosts L) (target : L → TargetState) (steps : F �
           },
         )
 
+    never_calm : (cause : EndCause) → (noise (since (at new j (Some cause))) ≡ noise (since a) → cause ≡ Memory) → Noisy (Some cause)
+    never_calm cause calm e q = let memory : cause ≡ Memory = calm q in cc
+
     -- the exchange was broken off by this cause
     under_way : (cause : EndCause) (given : Option (List ℕ)) (s : Standing) (x : Turns new given s) → GivenBy steps far out given far' → StandsAt (Some cause) given j s
         → (noise (since (at new j (Some cause))) ≡ noise (since a) → cause ≡ Memory) → Carries k target steps stops a (at new j (Some cause)) out far far' (Err (record { cause = cause; answered = is_some (delivered_of out given) }))
-    under_way cause None s x g st calm = ([], record { exchanged = exchanged (Some cause) s st x; far_moved = g }, inl refl, refl, calm)
-    under_way cause (Some reply) s x g st calm = (Stepped out reply ∷ [], record { exchanged = exchanged_step (Some cause) reply s st x; far_moved = (far', g, refl) }, (reply, refl), refl, calm)
+    under_way cause None s x g st calm = ([], record { exchanged = exchanged (Some cause) s st x (never_calm cause calm); far_moved = g }, inl refl, refl, calm)
+    under_way cause (Some reply) s x g st calm =
+        (Stepped out reply ∷ [], record { exchanged = exchanged_step (Some cause) reply s st x (never_calm cause calm); far_moved = (far', g, refl) }, (reply, refl), refl, calm)
 
     noisy : (cause : EndCause) (given : Option (List ℕ)) (s : Standing) (x : Turns new given s) → 0 < noise x.events → noise (since (at new j (Some cause))) ≡ noise (since a) → cause ≡ Memory
     noisy cause given s x p e = let n = noise_is new j (Some cause) x.events x.trace in absurd (omega (arith, p, e, n))
@@ -164,7 +173,7 @@ module _ {L F : Type 0} (k : Ghosts L) (target : L → TargetState) (steps : F �
     stopped (x, stop) = (
       Stopped out ∷ [],
       record {
-        exchanged = record { begins = open_link; start = r.start; peer = r.peer; same = (refl, refl); last = last; short = short; exchange = (refl, x, refl) };
+        exchanged = record { begins = open_link; start = r.start; peer = r.peer; same = (refl, refl); last = last; short = short; exchange = (refl, x, refl); noisy = λ e q. cc };
         far_moved = (stop, refl);
       },
       inr (refl, refl),
@@ -186,7 +195,7 @@ module _ {L F : Type 0} (k : Ghosts L) (target : L → TargetState) (steps : F �
         stands = refl;
       } in (
         [],
-        record { exchanged = exchanged a.air (begun a.initiator out) refl (Some Memory) (asks a.initiator out) (air_frame (request (begun a.initiator out).core), refl) x; far_moved = e },
+        record { exchanged = exchanged a.air (begun a.initiator out) refl (Some Memory) (asks a.initiator out) (air_frame (request (begun a.initiator out).core), refl) x (λ q m. cc); far_moved = e },
         inl refl,
         refl,
         λ z. refl,

@@ -20,7 +20,7 @@ use Rattle.dep_link.specs.Payloads.{payloads}
 use Rattle.dep_link.specs.Exchange.{frames_of}
 use Rattle.dep_link.specs.Initiator.{InitState}
 use Rattle.dep_link.specs.Asking.{Standing}
-use Rattle.dep_link.specs.DepLinks.{DepSeen, StandsAt, counts_of, since, brought, dep_view, PeerOf, IsDepReady, ExchangedAs, Exchanged, DepMoves, Carried, Carries}
+use Rattle.dep_link.specs.DepLinks.{DepSeen, StandsAt, counts_of, since, brought, dep_view, PeerOf, IsDepReady, ExchangedAs, Exchanged, dep_swaps, Carried, Carries}
 use Rattle.nfc_base.proofs.LinkTurns.{arrived_append}
 
 -- the payloads that were handed over in a swap
@@ -77,10 +77,6 @@ module _ {L : Type 0} (k : Ghosts L) (target : L → TargetState) where
       counts = subst (λ (o : Option EndCause). CountsOn (counts_of o) (counts_of b.over)) (sym x.begins) (counts_on b.over);
       noise = noise_on;
     }
-
-    -- one swap is a chain of one
-    moved : DepMoves k target a did b
-    moved = (record { out = out; did = did } ∷ [], (b, [], x, (refl, refl), sym (append-nil did)))
 
   -- no exchange of a peer in step ends by a frame that isn't allowed
   stands_never : (o : Option EndCause) (given : Option (List ℕ)) (j : InitState) (s : Standing) → StandsAt o given j s → o ≡ Some Protocol → ⊥
@@ -158,23 +154,10 @@ module _ {L : Type 0} (k : Ghosts L) (target : L → TargetState) where
     err_told (Ok r) c = tt
     err_told (Err e) c = swap_failed e c
 
-  -- the moves of what shows such a link
+  -- the swaps of what shows such a link
   module _ {F C : Type 0} (steps : F → List ℕ → List ℕ → F → Type 0) (stops : F → List ℕ → F → Type 0) (see : C → DepSeen L) (p q : C) (out : List ℕ) (far after : F) where
-    abbrev Moves : C → List FarStep → C → Type 0
-    Moves x did y = DepMoves k target (see x) did (see y)
-
-    pub ok_moved : (result : Result (Vec ℕ) LinkEnd) → Carries k target steps stops (see p) (see q) out far after result → IfOk result (λ r. Swapped Moves steps stops p out far q after (λ did. did ≡ Stepped out r.items ∷ []))
-    ok_moved (Ok r) (c, over, ready) =
-        let did : List FarStep = Stepped out r.items ∷ [] in record { did = did; link = moved (see p) (see q) out did c.exchanged; far_moved = c.far_moved; tells = refl }
-    ok_moved (Err e) c = tt
-
-    pub err_moved : (result : Result (Vec ℕ) LinkEnd) → Carries k target steps stops (see p) (see q) out far after result → IfErr result (λ e. Swapped Moves steps stops p out far q after (AskedBy e.answered e.cause out))
-    err_moved (Ok r) c = tt
-    err_moved (Err e) (did, c, asked, over, calm) = record { did = did; link = moved (see p) (see q) out did c.exchanged; far_moved = c.far_moved; tells = asked }
-
-    -- each by itself
-    abbrev One : C → List FarStep → C → Type 0
-    One x did y = Exchanged k target (see x) (see y) (record { out = out; did = did })
+    abbrev One : C → List ℕ → List FarStep → C → Type 0
+    One x sent did y = dep_swaps k target (see x) sent did (see y)
 
     pub ok_swapped : (result : Result (Vec ℕ) LinkEnd) → Carries k target steps stops (see p) (see q) out far after result → IfOk result (λ r. Swapped One steps stops p out far q after (λ did. did ≡ Stepped out r.items ∷ []))
     ok_swapped (Ok r) (c, over, ready) = record { did = Stepped out r.items ∷ []; link = c.exchanged; far_moved = c.far_moved; tells = refl }

@@ -1,6 +1,6 @@
 -- What contracts see of a link to a peer, over a field and an initiator that it borrows (NFCIP-1, ISO/IEC 18092). What was
 -- handed over is read off the frames that arrived.
-use Rattle.std.specs.Prelude.{◌≡◌, ℕ, ◌≤◌, List, [], ◌∷◌, ◌++◌, length, drop, Bool, true, false, not, Option, Some, None, Result, Ok, Err}
+use Rattle.std.specs.Prelude.{◌≡◌, ℕ, ◌≤◌, List, [], ◌∷◌, length, drop, Bool, true, false, not, Option, Some, None, Result, Ok, Err}
 use Rattle.std.specs.Global.{Vec}
 use Rattle.nfc_base.specs.Signal.{Signal}
 use Rattle.nfc_base.specs.Trace.{noise}
@@ -129,7 +129,7 @@ module _ {L : Type 0} (k : Ghosts L) (target : L → TargetState) where
   ExchangedAs a b t out (d ∷ e ∷ ds) = ⊥
 
   -- From one moment to another a payload was swapped, which is as long as one may be: each request was due, and nothing else happened to
-  -- the field.
+  -- the field. No wait has six bad receptions where all passed.
   pub record Exchanged (a b : DepSeen L) (s : Swap) : Type 0 where
     pub begins : a.over ≡ None
     pub start : a.start ≤ length a.air.trace
@@ -138,14 +138,16 @@ module _ {L : Type 0} (k : Ghosts L) (target : L → TargetState) where
     pub last : b.initiator.out ≡ Some s.out
     pub short : length s.out ≤ limit
     pub exchange : ExchangedAs a b peer s.out s.did
+    pub noisy : b.over ≡ Some SixBad → noise (since b) ≡ noise (since a) → ⊥
+
+  -- a swap of this payload, in which the far end made these steps
+  abbrev pub dep_swaps : DepSeen L → List ℕ → List FarStep → DepSeen L → Type 0
+  dep_swaps a out did b = Exchanged a b (record { out = out; did = did })
 
   -- swaps one after another
-  abbrev pub Chained : List Swap → DepSeen L → List FarStep → DepSeen L → Type 0
-  Chained [] a did b = (b ≡ a) × (did ≡ [])
-  Chained (s ∷ ss) a did b = (mid : DepSeen L) × (rest : List FarStep) × Exchanged a mid s × Chained ss mid rest b × (did ≡ s.did ++ rest)
-
-  abbrev pub DepMoves : DepSeen L → List FarStep → DepSeen L → Type 0
-  DepMoves a did b = (swaps : List Swap) × Chained swaps a did b
+  abbrev pub Chained : List Swap → DepSeen L → DepSeen L → Type 0
+  Chained [] a b = b ≡ a
+  Chained (s ∷ ss) a b = (mid : DepSeen L) × Exchanged a mid s × Chained ss mid b
 
   -- A payload was swapped, and the far end did this.
   pub record Carried {F : Type 0} (steps : F → List ℕ → List ℕ → F → Type 0) (stops : F → List ℕ → F → Type 0) (old new : DepSeen L) (out : List ℕ) (far after : F) (did : List FarStep) : Type 0 where

@@ -11,7 +11,6 @@ pub mod Peers
 pub mod Asking
 pub mod DepLinks
 pub mod Taking
-pub mod DepMoving
 pub mod Replies
 pub mod Activating
 pub mod AnyTarget

@@ -15,7 +15,6 @@ use crate::listener::PeerListener;
 use air_core::{AirFault, Field};
 use dep_pdu::DepFrame;
 use nfc_base::{Answerer, Carrier, EndCause, LinkEnd};
-use nfc_link::Link;
 use std::alloc::Global;
 
 /// The most bytes of a payload (this project's own).
@@ -112,8 +111,7 @@ impl<'a, L: PeerListener> DepPair<'a, L> {
 
 impl<'a, L: PeerListener> Carrier for DepPair<'a, L> {
     ghost use Rattle.std.specs.Prelude.{◌≡◌, [], ◌∷◌, None};
-    ghost use Rattle.dep_link.specs.DepLinks.{seen_pair, dep_view, IsDepReady, DepMoves};
-    ghost use Rattle.dep_link.specs.DepMoving.{moves_again, moves_on};
+    ghost use Rattle.dep_link.specs.DepLinks.{seen_pair, dep_view, dep_swaps, IsDepReady};
 
     ghost seen = { λ p. dep_view (seen_pair p) };
 
@@ -121,34 +119,9 @@ impl<'a, L: PeerListener> Carrier for DepPair<'a, L> {
 
     ghost ready = { λ p. p.over ≡ None → IsDepReady L.Listener L.target (seen_pair p) };
 
-    ghost moves = { λ a did b. DepMoves L.Listener L.target (seen_pair a) did (seen_pair b) };
+    ghost swaps = { λ a out did b. dep_swaps L.Listener L.target (seen_pair a) out did (seen_pair b) };
 
     fn swap<A: Answerer>(
-        &mut self,
-        alloc: Global,
-        out: &[u8],
-        far: &mut A,
-    ) -> Result<Vec<u8>, LinkEnd> {
-        if let Some(cause) = self.over {
-            return Err(LinkEnd {
-                cause,
-                answered: false,
-            });
-        }
-        self.carry(alloc, out, far)
-    }
-
-    ghost stays = { λ a. moves_again _ _ _ };
-
-    ghost goes_on = { λ a b c xs ys p q. moves_on _ _ _ _ _ _ _ p q };
-}
-
-impl<'a, L: PeerListener> Link for DepPair<'a, L> {
-    ghost use Rattle.dep_link.specs.DepLinks.{seen_pair, Exchanged};
-
-    ghost swaps = { λ a out did b. Exchanged L.Listener L.target (seen_pair a) (seen_pair b) (record { out = out; did = did }) };
-
-    fn exchange<A: Answerer>(
         &mut self,
         alloc: Global,
         out: &[u8],

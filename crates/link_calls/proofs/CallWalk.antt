@@ -1,18 +1,16 @@
 -- A call walked along swap by swap.
-use Rattle.std.proofs.Common.{◌≡◌, ℕ, List, [], ◌∷◌, ◌++◌, Bool, true, false, Option, Some, None, refl, sym, ◌∙◌, ap, subst, append_assoc, append-nil, inl, inr}
-use Rattle.nfc_base.specs.Links.{FarStep, Stepped, Stopped, FarMoved, AskedBy, Swapped}
-use Rattle.nfc_link.specs.Swapping.{BySwaps}
+use Rattle.std.proofs.Common.{◌≡◌, ℕ, List, [], ◌∷◌, ◌++◌, Bool, true, false, Option, Some, None, refl, sym, ◌∙◌, ap, subst, append-nil, inl, inr}
+use Rattle.nfc_base.specs.Links.{BySwaps, FarStep, Stepped, Stopped, FarMoved, AskedBy}
 use Rattle.nfc_base.specs.declared.carrier.EndCause.{EndCause}
 use Rattle.nfc_base.specs.declared.carrier.EndCause.TheVariants as cause
-use Rattle.air_core.specs.World.{World}
-use Rattle.air_core.specs.Conversation.{Note, Next, Over, Asks, IsDemand, Moment}
+use Rattle.air_core.specs.Conversation.{Note, Next, Asks, IsDemand}
 use Rattle.air_core.specs.Turn.{Air, moment}
 use Rattle.air_core.specs.Turning.{going_start}
 use Rattle.air_core.specs.declared.listener.Listener.{Ghosts}
 use Rattle.dep_link.specs.Target.{TargetState}
 use Rattle.dep_link.specs.Initiator.{InitState}
 use Rattle.dep_link.specs.Asking.{Standing, Waits, Rests, Broken, Astray, asks, noted, stand, due_at, dep_next}
-use Rattle.dep_link.specs.DepLinks.{DepSeen, Exchanged, StandsAt}
+use Rattle.dep_link.specs.DepLinks.{DepSeen, StandsAt}
 use Rattle.far_air.specs.FarEnds.{FarTable, first_number, later_numbers}
 use Rattle.far_air.specs.FarWorld.{far_air}
 use Rattle.far_air.specs.FarLaws.{IsFarTable, IsLinked, IsOfTable, with_far, seen_at}
@@ -21,8 +19,8 @@ use Rattle.far_air.proofs.FarTurns.{far_goes_then}
 use Rattle.peer_air.specs.SwapTurns.{Stands, SwapTurn, SwapFront, SwapsFar, StopsFar, did_with}
 use Rattle.snep_core.specs.declared.fault.SnepFault.{SnepFault}
 use Rattle.snep_core.specs.Talk.{EndState, IsMost, Step, Goes, Ends, GivesUp, Told, Working, payload, ready, replied}
-use Rattle.snep_core.specs.Calling.{Talks, Breaks, IsCut, fault_of}
-use Rattle.link_calls.specs.CallDue.{CallStanding, Carries, Comes, BrokenBy, Strays, call_at, carried, call_noted, call_on, call_due_at, call_stand, call_due}
+use Rattle.snep_core.specs.Calling.{IsCut, fault_of}
+use Rattle.link_calls.specs.CallDue.{CallStanding, Carries, BrokenBy, Strays, call_at, carried, call_noted, call_on, call_due_at, call_stand, call_due}
 use Rattle.link_calls.specs.CallTurns.{CallTurns, CallFront, CutBy, TalksFar, BreaksFar, sees, swaps}
 
 -- where something was heard that belongs to no exchange, it stays so

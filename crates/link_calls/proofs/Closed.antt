@@ -1,9 +1,9 @@
 -- What ending a connection and releasing its link comes to.
-use Rattle.std.proofs.Common.{◌≡◌, ◌⊎◌, ℕ, List, [], ◌∷◌, Bool, true, false, Option, Some, None, Result, Ok, Err, refl, sym, ◌∙◌, ap, subst, inl, inr}
+use Rattle.std.proofs.Common.{◌≡◌, ◌⊎◌, ℕ, List, Bool, true, Option, Some, None, Ok, Err, refl, sym, ◌∙◌, ap, subst, inl, inr}
 use Rattle.nfc_base.specs.Signal.{Signal}
+use Rattle.nfc_base.specs.Far.{Untouched}
 use Rattle.nfc_base.specs.declared.carrier.EndCause.{EndCause}
 use Rattle.nfc_base.specs.declared.carrier.EndCause.TheVariants as cause
-use Rattle.nfc_base.specs.declared.carrier.LinkEnd.{LinkEnd}
 use Rattle.nfc_base.specs.declared.event.Heard.{Heard}
 use Rattle.nfc_base.specs.declared.event.Event.TheVariants.{Request}
 use Rattle.nfc_base.specs.declared.event.Fate.TheVariants.{Pass}
@@ -24,13 +24,14 @@ use Rattle.snep_core.specs.declared.fault.SnepFault.TheVariants.{BadPeer, Excess
 use Rattle.snep_core.specs.Accord.{PeerState}
 use Rattle.snep_core.specs.Server.{serving}
 use Rattle.snep_core.specs.Calling.{Talks, FailsBy, fault_of}
-use Rattle.snep_core.specs.Talk.{EndState, OnSap, Step, Goes, Ends, GivesUp}
+use Rattle.snep_core.specs.Talk.{EndState, OnSap, Step, Ends, GivesUp}
 use Rattle.link_calls.specs.CallDue.{CallStanding, Carries, Comes, BrokenBy, Strays, call_due_at}
 use Rattle.link_calls.specs.CallTurns.{sees, swaps}
 use Rattle.link_calls.specs.Calls.{IsOpen, IsCutOff}
-use Rattle.link_calls.specs.ClosingDue.{Calls, Releasing, Released, closing_at, closing_due_at}
-use Rattle.link_calls.specs.Closing.{ClosingTurns, ClosingFront, ClosingFails, IsReleased}
-use Rattle.link_calls.proofs.Made.{begins, peer_table, peer_kind, reaches, made, cut_off}
+use Rattle.link_calls.specs.ClosingDue.{Releasing, closing_at, closing_due_at}
+use Rattle.link_calls.specs.Closing.{ClosingTurns, ClosingFails, SendsRls, IsReleased}
+use Rattle.link_calls.specs.Staying.{begins, setting_of}
+use Rattle.link_calls.proofs.Made.{peer_table, peer_kind, reaches, made, cut_off}
 use Rattle.link_calls.proofs.Closes.{of_call, with_release}
 
 due_same : (s : CallStanding) (f : Signal) → call_due_at s ≡ Asks f → closing_due_at (closing_at s) ≡ Asks f
@@ -43,9 +44,9 @@ due_same Strays f e = absurd cc
 left_so : {L : Type 0} (k : Ghosts L) (new : Air L) (after : PeerState) (mid : Air L) (half : PeerState) (s : CallStanding)
     → ((new ≡ mid) × (after ≡ half))
     ⊎ ((sent : Signal) × (listeners : List L) × (call_due_at s ≡ Asks sent) × (first_fate mid.fates ≡ Pass) × (new ≡ after_event mid (Request sent Pass) (later_fates mid.fates) (record { lit = true; listeners = listeners })))
-    → (new ≡ mid)
+    → ((new ≡ mid) × (after ≡ half))
     ⊎ ((sent : Signal) × (listeners : List L) × (closing_due_at (closing_at s) ≡ Asks sent) × (first_fate mid.fates ≡ Pass) × (new ≡ after_event mid (Request sent Pass) (later_fates mid.fates) (record { lit = true; listeners = listeners })))
-left_so k new after mid half s (inl e) = inl e.0
+left_so k new after mid half s (inl e) = inl e
 left_so k new after mid half s (inr (sent, listeners, due, fate, left)) = inr (sent, listeners, due_same s sent due, fate, left)
 
 module _ {L C : Type 0} (k : Ghosts L) (target : L → TargetState) (see : C → DepSeen L) (laws : Laws k) (a b : C) (far half : PeerState) (old : Air L) (i : InitState) (is : see a ≡ first_seen old i)
@@ -62,20 +63,31 @@ module _ {L C : Type 0} (k : Ghosts L) (target : L → TargetState) (see : C →
   cut_closing client BadPeer c = absurd c
   cut_closing client (LinkEnded cause.Protocol) c = absurd c
   cut_closing client (LinkEnded cause.Memory) c = absurd c
-  cut_closing client (LinkEnded cause.FieldLost) c = λ linked links place there os.
-      let z = c linked links place there os in (z.0, of_call k linked peer_ends place os z.0 from i old far (see b).air half target (BrokenBy cause.FieldLost) z.1 (λ q. cc))
-  cut_closing client (LinkEnded cause.SixBad) c = λ linked links place there os.
-      let z = c linked links place there os in (z.0, of_call k linked peer_ends place os z.0 from i old far (see b).air half target (BrokenBy cause.SixBad) z.1 (λ q. cc))
-  cut_closing client Memory c = λ linked links place there os.
-      let z = c linked links place there os in
-      record {
-        numbers = z.numbers;
-        standing = closing_at z.standing;
-        mid = z.mid;
-        half = z.half;
-        turns = of_call k linked peer_ends place os z.numbers from i old far z.mid z.half target z.standing z.turns z.under_way;
-        left = left_so k (see b).air half z.mid z.half z.standing z.left;
-      }
+  cut_closing client (LinkEnded cause.FieldLost) c = record {
+    turns = λ linked links place there os.
+        let z = c.turns linked links place there os in (z.0, of_call k linked peer_ends place os z.0 from i old far (see b).air half target (BrokenBy cause.FieldLost) z.1 (λ q. cc));
+    how = inl c.carried;
+    noisy = c.noisy;
+  }
+  cut_closing client (LinkEnded cause.SixBad) c = record {
+    turns = λ linked links place there os.
+        let z = c.turns linked links place there os in (z.0, of_call k linked peer_ends place os z.0 from i old far (see b).air half target (BrokenBy cause.SixBad) z.1 (λ q. cc));
+    how = inl c.carried;
+    noisy = c.noisy;
+  }
+  cut_closing client Memory c = record {
+    front = λ linked links place there os.
+        let z = c.front linked links place there os in
+        record {
+          numbers = z.numbers;
+          standing = closing_at z.standing;
+          mid = z.mid;
+          half = z.half;
+          turns = of_call k linked peer_ends place os z.numbers from i old far z.mid z.half target z.standing z.turns z.under_way;
+          left = left_so k (see b).air half z.mid z.half z.standing z.left;
+        };
+    setting = λ quiet. c.setting;
+  }
 
   pub closing_failed : (client : EndState) (e : SnepFault) → FailsBy (sees see) (swaps k target see) (Answers serving) (Stops serving) from a far e client b half → Fails client (see b).air half e
   closing_failed client e (inl (bad, talk)) =
@@ -84,7 +96,8 @@ module _ {L C : Type 0} (k : Ghosts L) (target : L → TargetState) (see : C →
       (z.0, of_call k linked peer_ends place os z.0 from i old far (see b).air half target (Comes (GivesUp client) (see b).initiator) z.1 (λ q. cc)))
   closing_failed client e (inr broke) = cut_closing client e (cut_off k target see laws a b far half old i is open_ ready from e client broke)
 
-  module _ (jobs : List OnSap) (client : EndState) (talk : Talks (sees see) (swaps k target see) (Answers serving) (Stops serving) from a far (Ends jobs client) b half) (is_stuck : PeerState → Bool) (new : Air L) (after : PeerState) where
+  module _ (jobs : List OnSap) (client : EndState) (talk : Talks (sees see) (swaps k target see) (Answers serving) (Stops serving) from a far (Ends jobs client) b half) (is_stuck : PeerState → Bool) (new : Air L) (after : PeerState)
+      (same : ((l : L) → k.machine.handed l rls_frame ≡ Untouched) → after ≡ half) where
     -- RLS_REQ is due
     due_rls : (linked : L → Bool) → IsLinked k.machine linked → (place : ℕ) → Stands k target linked peer_ends old place → (os : List (Option PeerState))
         → ((numbers : List ℕ) × ClosingTurns k linked peer_ends numbers from i old (see b).air place os far half (Releasing (Ends jobs client))) × Stands k target linked peer_ends (see b).air place
@@ -92,33 +105,60 @@ module _ {L C : Type 0} (k : Ghosts L) (target : L → TargetState) (see : C →
         let z = reaches k target see laws a b far half old i is open_ ready from (Ends jobs client) talk refl linked links place there os in
         ((z.0.0, of_call k linked peer_ends place os z.0.0 from i old far (see b).air half target (Comes (Ends jobs client) (see b).initiator) z.0.1 (λ q. cc)), z.1)
 
+    set_still : ((l : L) → k.machine.handed l rls_frame ≡ Untouched) → setting_of after ≡ setting_of far
+    set_still quiet = ap setting_of (same quiet) ∙ (made k target see laws a b far half old i is open_ ready from (Ends jobs client) talk refl).carried.setting
+
+    sends_rls : (heard : Option Heard) → TurnIs k.machine begins (Answers serving) (see b).air rls_frame half heard new after → SendsRls k target from old i far new after heard
+    sends_rls heard turn = record {
+      mid = (see b).air;
+      rest = (see b).initiator;
+      half = half;
+      carried = (made k target see laws a b far half old i is open_ ready from (Ends jobs client) talk refl).carried;
+      turn = turn;
+      same = same;
+    }
+
     pub released : Releases k.machine begins (Answers serving) (Stops serving) is_stuck (see b).air half (Ok tt) new after → IsReleased k target from old i far new after (Ends jobs client)
-    released (heard, turn) = λ linked links place there os.
-        let z = due_rls linked links place there os in (
-          z.0.0,
-          with_release k linked peer_ends place os z.0.0 from i old far laws target begins (Answers serving) (λ l. l) links peer_table peer_kind (see b).air new half after (Ends jobs client) z.0.1 z.1 (Some heard) turn,
-        )
+    released (heard, turn) = record {
+      turns = λ linked links place there os.
+          let z = due_rls linked links place there os in (
+            z.0.0,
+            with_release k linked peer_ends place os z.0.0 from i old far laws target begins (Answers serving) (λ l. l) links peer_table peer_kind (see b).air new half after (Ends jobs client) z.0.1 z.1 (Some heard) turn,
+          );
+      heard = heard;
+      sent = sends_rls (Some heard) turn;
+    }
 
     pub release_failed : (answered : Bool) (c : EndCause) → Releases k.machine begins (Answers serving) (Stops serving) is_stuck (see b).air half (Err (record { cause = c; answered = answered })) new after
         → Fails client new after (fault_of c)
     release_failed answered cause.FieldLost (q, inl d) = absurd (let lit = (made k target see laws a b far half old i is open_ ready from (Ends jobs client) talk refl).open_.in_step.0 in let dark = d.0 in cc)
-    release_failed answered cause.FieldLost (q, inr turn) = λ linked links place there os.
-        let z = due_rls linked links place there os in (
-          z.0.0,
-          with_release k linked peer_ends place os z.0.0 from i old far laws target begins (Answers serving) (λ l. l) links peer_table peer_kind (see b).air new half after (Ends jobs client) z.0.1 z.1 None turn,
-        )
-    release_failed answered cause.Memory (q, (lit, inl same)) = λ linked links place there os.
-        let z = due_rls linked links place there os in
-        record { numbers = z.0.0; standing = Releasing (Ends jobs client); mid = (see b).air; half = half; turns = z.0.1; left = inl same.0 }
-    release_failed answered cause.Memory (q, (lit, inr stops)) = λ linked links place there os.
-        let z = due_rls linked links place there os in
-        record {
-          numbers = z.0.0;
-          standing = Releasing (Ends jobs client);
-          mid = (see b).air;
-          half = half;
-          turns = z.0.1;
-          left = inr (rls_frame, stops.listeners, refl, stops.fate, stops.left);
-        }
+    release_failed answered cause.FieldLost (q, inr turn) = record {
+      turns = λ linked links place there os.
+          let z = due_rls linked links place there os in (
+            z.0.0,
+            with_release k linked peer_ends place os z.0.0 from i old far laws target begins (Answers serving) (λ l. l) links peer_table peer_kind (see b).air new half after (Ends jobs client) z.0.1 z.1 None turn,
+          );
+      how = inr (refl, sends_rls None turn);
+      noisy = λ n. absurd cc;
+    }
+    release_failed answered cause.Memory (q, (lit, inl rests)) = record {
+      front = λ linked links place there os.
+          let z = due_rls linked links place there os in
+          record { numbers = z.0.0; standing = Releasing (Ends jobs client); mid = (see b).air; half = half; turns = z.0.1; left = inl rests };
+      setting = set_still;
+    }
+    release_failed answered cause.Memory (q, (lit, inr stops)) = record {
+      front = λ linked links place there os.
+          let z = due_rls linked links place there os in
+          record {
+            numbers = z.0.0;
+            standing = Releasing (Ends jobs client);
+            mid = (see b).air;
+            half = half;
+            turns = z.0.1;
+            left = inr (rls_frame, stops.listeners, refl, stops.fate, stops.left);
+          };
+      setting = set_still;
+    }
     release_failed answered cause.SixBad (q, never) = absurd never
     release_failed answered cause.Protocol (q, never) = absurd never

@@ -1,8 +1,8 @@
 -- A closing: a call, and RLS_REQ behind it.
-use Rattle.std.proofs.Common.{◌≡◌, ℕ, zero, suc, List, [], ◌∷◌, ◌++◌, length, Bool, true, false, Option, Some, None, Result, Ok, Err, refl, sym, ◌∙◌, ap, subst, append-nil, inl, inr}
+use Rattle.std.proofs.Common.{◌≡◌, ℕ, List, [], ◌∷◌, ◌++◌, length, Bool, Option, refl, sym, ◌∙◌, ap, subst, append-nil}
 use Rattle.std.specs.List.{AllByRecursion}
 use Rattle.nfc_base.specs.declared.event.Heard.{Heard}
-use Rattle.air_core.specs.Conversation.{Note, Next, Over, Asks, IsDemand, note}
+use Rattle.air_core.specs.Conversation.{Note, Next, IsDemand, note}
 use Rattle.air_core.specs.Turn.{Air, moment, TurnIs}
 use Rattle.air_core.specs.Turning.{going_start}
 use Rattle.air_core.specs.PlainTags.{IsAside, IsAlone}
@@ -10,7 +10,7 @@ use Rattle.air_core.specs.declared.listener.Listener.{Ghosts}
 use Rattle.air_core.proofs.PlainAside.{Laws}
 use Rattle.dep_link.specs.Target.{TargetState}
 use Rattle.dep_link.specs.Initiator.{InitState}
-use Rattle.dep_link.specs.Asking.{Standing, due_at, noted}
+use Rattle.dep_link.specs.Asking.{noted}
 use Rattle.dep_link.specs.Releasing.{rls_frame}
 use Rattle.far_air.specs.FarEnds.{FarTable}
 use Rattle.far_air.specs.FarWorld.{far_air}
@@ -20,10 +20,10 @@ use Rattle.far_air.proofs.FarTurns.{far_turns, far_goes_on, far_goes_then}
 use Rattle.peer_air.specs.Aside.{AsideBut}
 use Rattle.peer_air.specs.SwapTurns.{Stands}
 use Rattle.peer_air.proofs.Aside.{aside_turns}
-use Rattle.snep_core.specs.Talk.{EndState, OnSap, Step, Goes, Ends, GivesUp, Working}
-use Rattle.link_calls.specs.CallDue.{CallStanding, Carries, Comes, BrokenBy, Strays, call_at, carried, call_noted, call_on, call_due, call_due_at, call_stand}
+use Rattle.snep_core.specs.Talk.{Step}
+use Rattle.link_calls.specs.CallDue.{CallStanding, Carries, Comes, BrokenBy, Strays, call_at, carried, call_on, call_due, call_due_at, call_stand}
 use Rattle.link_calls.specs.CallTurns.{CallTurns}
-use Rattle.link_calls.specs.ClosingDue.{ClosingStanding, Calls, Releasing, Released, closing_at, closing_noted, closing_on, closing_due, closing_due_at, closing_stand}
+use Rattle.link_calls.specs.ClosingDue.{ClosingStanding, Releasing, closing_at, closing_noted, closing_on, closing_due, closing_due_at}
 use Rattle.link_calls.specs.Closing.{ClosingTurns}
 
 strays : (ns : List Note) → call_on Strays ns ≡ Strays

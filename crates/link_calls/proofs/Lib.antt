@@ -1,3 +1,4 @@
+pub mod Settings
 pub mod CallWalk
 pub mod Open
 pub mod Made

@@ -1,7 +1,7 @@
 -- What a call over the open link of a field comes to.
-use Rattle.std.proofs.Common.{◌≡◌, ◌≤◌, ℕ, List, [], ◌∷◌, ◌++◌, length, Bool, true, Option, Some, None, Result, Ok, Err, IfErr, IfOk, OnOk, refl, sym, ◌∙◌, ap, subst, inl, inr}
-use Rattle.nfc_base.specs.Links.{FarStep, Stepped, Stopped}
-use Rattle.nfc_link.specs.Swapping.{BySwaps}
+use Rattle.std.proofs.Common.{◌≡◌, ◌≤◌, ◌<◌, ℕ, zero, suc, List, [], ◌∷◌, length, drop, Bool, true, Option, Some, None, refl, sym, ◌∙◌, ap, subst, inl, inr, arith}
+use Rattle.nfc_base.specs.Trace.{noise}
+use Rattle.nfc_base.specs.Links.{BySwaps, FarStep, Stepped, Stopped, payload_of}
 use Rattle.nfc_base.specs.declared.carrier.EndCause.{EndCause}
 use Rattle.nfc_base.specs.declared.carrier.EndCause.TheVariants as cause
 use Rattle.air_core.specs.Turn.{Air}
@@ -10,8 +10,7 @@ use Rattle.air_core.proofs.PlainAside.{Laws}
 use Rattle.dep_link.specs.Target.{TargetState}
 use Rattle.dep_link.specs.Initiator.{InitState}
 use Rattle.dep_link.specs.Asking.{Standing}
-use Rattle.dep_link.specs.DepLinks.{DepSeen, IsDepReady, StandsAt, first_seen, over_at}
-use Rattle.llcp_link.specs.State.{restarted}
+use Rattle.dep_link.specs.DepLinks.{DepSeen, Swap, Chained, IsDepReady, StandsAt, first_seen, over_at}
 use Rattle.llcp_link.specs.Answering.{Answers, Stops, answers_fit}
 use Rattle.far_air.specs.FarLaws.{IsFarTable, IsLinked, IsOfTable}
 use Rattle.peer_air.specs.PeerFars.{peer_ends}
@@ -21,7 +20,7 @@ use Rattle.peer_air.proofs.Wholly.{swaps_far, stops_far}
 use Rattle.snep_core.specs.declared.fault.SnepFault.{SnepFault}
 use Rattle.snep_core.specs.Accord.{PeerState}
 use Rattle.snep_core.specs.Server.{serving}
-use Rattle.snep_core.specs.Calling.{Talks, Breaks, FailsBy, IsCut, fault_of}
+use Rattle.snep_core.specs.Calling.{Talks, Breaks, FailsBy, Fails, IsCut, fault_of}
 use Rattle.snep_core.specs.Calling as calling
 use Rattle.snep_core.specs.declared.job.Job.TheVariants.{Over}
 use Rattle.snep_core.specs.declared.job.Ending.TheVariants.{Refused}
@@ -29,14 +28,13 @@ use Rattle.snep_core.specs.Talk.{EndState, IsMost, Step, Goes, Ends, GivesUp, To
 use Rattle.snep_core.specs.Talk.{ready as ready_of}
 use Rattle.link_calls.specs.CallDue.{CallStanding, Comes, call_at}
 use Rattle.link_calls.specs.CallTurns.{CallTurns, CutBy, sees, swaps}
-use Rattle.link_calls.specs.Calls.{IsOpen, IsMade, IsCutOff, CallFails, RequestFails}
+use Rattle.link_calls.specs.Calls.{IsOpen, IsCarried, IsMade, IsCutOff, CallFails, RequestFails}
+use Rattle.link_calls.specs.Staying.{begins, setting_of}
 use Rattle.link_calls.proofs.CallWalk.{talks_far, breaks_far}
 use Rattle.link_calls.proofs.Open.{in_step, swap_open}
+use Rattle.link_calls.proofs.Settings.{set_still}
 
 -- an end with a server as a far end of the world
-abbrev pub begins : PeerState → List ℕ → PeerState → Type 0
-begins old general new = new ≡ restarted serving old general
-
 abbrev pub peer_table : IsFarTable peer_ends
 peer_table = are_far_ends serving (λ s. refl)
 
@@ -47,7 +45,28 @@ peer_kind = ends_step serving
 pub given_back : {L : Type 0} (P : Air L → InitState → Type 0) (b y : Air L) (j z : InitState) → b ≡ y → j ≡ z → P b j → P y z
 given_back P b y j z field initiator p = subst (P y) initiator (subst (λ a. P a j) field p)
 
+-- what a count is that isn't the one before
+more_than : (x y : ℕ) → x ≤ y → (y ≡ x → ⊥) → 0 < y
+more_than x zero h n = absurd (n (let z : 0 ≡ x = omega (arith, h) in z))
+more_than x (suc y) h n = omega arith
+
 module _ {L C : Type 0} (k : Ghosts L) (target : L → TargetState) (see : C → DepSeen L) where
+  -- swaps one by one are a chain of them
+  chain : (did : List FarStep) (a b : C) → BySwaps (swaps k target see) did a b → (ss : List Swap) × Chained k target ss (see a) (see b)
+  chain [] a b e = ([], ap see e)
+  chain (x ∷ did) a b (mid, one, rest) = let z = chain did mid b rest in (record { out = payload_of x; did = x ∷ [] } ∷ z.0, (see mid, one, z.1))
+
+  -- and one more behind them
+  chain_to : (did more : List FarStep) (out : List ℕ) (a m b : C) → BySwaps (swaps k target see) did a m → swaps k target see m out more b → (ss : List Swap) × Chained k target ss (see a) (see b)
+  chain_to [] more out a m b e one =
+      (record { out = out; did = more } ∷ [], (see b, subst (λ z. swaps k target see z out more b) e one, refl))
+  chain_to (x ∷ did) more out a m b (mid, first, rest) one =
+      let z = chain_to did more out mid m b rest one in (record { out = payload_of x; did = x ∷ [] } ∷ z.0, (see mid, first, z.1))
+
+  starts : (did : List FarStep) (a b : C) → BySwaps (swaps k target see) did a b → (see b).start ≡ (see a).start
+  starts [] a b e = ap (λ z. (see z).start) e
+  starts (x ∷ did) a b (mid, one, rest) = starts did mid b rest ∙ one.same.1
+
   open_at : (did : List FarStep) (a b : C) → BySwaps (swaps k target see) did a b → (see b).over ≡ None → (see a).over ≡ None
   open_at [] a b e goes = subst (λ z. (see z).over ≡ None) e goes
   open_at (x ∷ did) a b (mid, one, rest) goes = one.begins
@@ -88,6 +107,15 @@ module _ {L C : Type 0} (k : Ghosts L) (target : L → TargetState) (see : C →
         links peer_table peer_kind from to a b far after talk was_open place (subst A (sym is) there) os [] in
         (subst P is (subst Q e z.0), z.1)
 
+    carried : (from to : Step) → Talk from to → IsCarried k target old i far (see b).air (see b).initiator after None
+    carried from to talk = record {
+      at = see b;
+      left = (refl, refl, talk.over ∙ was_open);
+      swaps = (chain talk.did a b talk.swapped).0;
+      chain = subst (λ (p : DepSeen L). Chained k target (chain talk.did a b talk.swapped).0 p (see b)) is (chain talk.did a b talk.swapped).1;
+      setting = set_still talk.did far after talk.far_moved;
+    }
+
     pub made : (from to : Step) → Talk from to → call_at [] to (see b).initiator ≡ Comes to (see b).initiator → IsMade k target from old i far (see b).air (see b).initiator after to
     made from to talk e =
         let open_b : (see b).over ≡ None = talk.over ∙ was_open in
@@ -96,6 +124,7 @@ module _ {L C : Type 0} (k : Ghosts L) (target : L → TargetState) (see : C →
           open_ = record { in_step = in_step k target (see b) (ready open_b); going = going_on talk.counts talk.did from to a b talk.told talk.swapped open_b phase };
           turns = λ linked links place there os. (reaches from to talk e linked links place there os).0;
           there = λ linked links place there. (reaches from to talk e linked links place there []).1;
+          carried = carried from to talk;
         }
 
     abbrev Breaking : Step → SnepFault → EndState → Type 0
@@ -116,14 +145,31 @@ module _ {L C : Type 0} (k : Ghosts L) (target : L → TargetState) (see : C →
         (stops_far k laws target linked peer_ends begins (Answers serving) (Stops serving) (λ l. l))
         links peer_table peer_kind from a b far after e new broke was_open place (subst A (sym is) there) os)
 
-    by_cause : (from : Step) (e : SnepFault) (new : EndState) → Breaking from e new → (c : EndCause) → e ≡ fault_of c → (c ≡ cause.Protocol → ⊥) → Cut from e
-    by_cause from e new broke cause.FieldLost q never =
-        subst (Cut from) (sym q) (λ linked links place there os. subst (CutBy k target linked peer_ends from i old (see b).air place os far after) q (broken from e new broke linked links place there os))
-    by_cause from e new broke cause.SixBad q never =
-        subst (Cut from) (sym q) (λ linked links place there os. subst (CutBy k target linked peer_ends from i old (see b).air place os far after) q (broken from e new broke linked links place there os))
-    by_cause from e new broke cause.Memory q never =
-        subst (Cut from) (sym q) (λ linked links place there os. subst (CutBy k target linked peer_ends from i old (see b).air place os far after) q (broken from e new broke linked links place there os))
-    by_cause from e new broke cause.Protocol q never = absurd (never refl)
+    -- what its swaps left, where the last one failed by this cause
+    abbrev Left : EndCause → Type 0
+    Left c = IsCarried k target old i far (see b).air (see b).initiator after (Some c) × (c ≡ cause.SixBad → 0 < noise (drop (length old.trace) (see b).air.trace))
+
+    by_cause : (from : Step) (e : SnepFault) (new : EndState) → Breaking from e new → (c : EndCause) → e ≡ fault_of c → (c ≡ cause.Protocol → ⊥) → ((c ≡ cause.Memory → ⊥) → Left c) → setting_of after ≡ setting_of far → Cut from e
+    by_cause from e new broke cause.FieldLost q never left set =
+        let z = left (λ m. cc) in
+        subst (Cut from) (sym q) (record {
+          turns = λ linked links place there os. subst (CutBy k target linked peer_ends from i old (see b).air place os far after) q (broken from e new broke linked links place there os);
+          carried = z.0;
+          noisy = z.1;
+        })
+    by_cause from e new broke cause.SixBad q never left set =
+        let z = left (λ m. cc) in
+        subst (Cut from) (sym q) (record {
+          turns = λ linked links place there os. subst (CutBy k target linked peer_ends from i old (see b).air place os far after) q (broken from e new broke linked links place there os);
+          carried = z.0;
+          noisy = z.1;
+        })
+    by_cause from e new broke cause.Memory q never left set =
+        subst (Cut from) (sym q) (record {
+          front = λ linked links place there os. subst (CutBy k target linked peer_ends from i old (see b).air place os far after) q (broken from e new broke linked links place there os);
+          setting = set;
+        })
+    by_cause from e new broke cause.Protocol q never left set = absurd (never refl)
 
     -- a peer in step never sends a frame that isn't allowed
     never_so : (o : Option EndCause) (given : Option (List ℕ)) (j : InitState) (s : Standing) → StandsAt o given j s → o ≡ Some cause.Protocol → ⊥
@@ -139,12 +185,33 @@ module _ {L C : Type 0} (k : Ghosts L) (target : L → TargetState) (see : C →
     never_odd m out (Stopped payload ∷ []) x e = let o = x.exchange.2 in cc
     never_odd m out (d ∷ f ∷ did) x e = absurd x.exchange
 
+    -- the last swap failed
+    last_left : (from : Step) (w : Working) (mid : C) (mid_far : PeerState) (talk : Talks (sees see) (swaps k target see) (Answers serving) (Stops serving) from a far (Goes w) mid mid_far) (e : SnepFault) (new : EndState)
+        (c : Fails (sees see) (swaps k target see) (Answers serving) (Stops serving) (ready_of w).llc mid mid_far e new b after) → Left c.why.cause
+    last_left from w mid mid_far talk e new c = (
+      record {
+        at = see b;
+        left = (refl, refl, c.swap.over);
+        swaps = (chain_to talk.did c.swapped.did _ a mid b talk.swapped c.swapped.link).0;
+        chain = subst (λ (p : DepSeen L). Chained k target (chain_to talk.did c.swapped.did _ a mid b talk.swapped c.swapped.link).0 p (see b)) is (chain_to talk.did c.swapped.did _ a mid b talk.swapped c.swapped.link).1;
+        setting = set_still c.swapped.did mid_far after c.swapped.far_moved ∙ set_still talk.did far mid_far talk.far_moved;
+      },
+      λ six.
+          let start : (see b).start ≡ length old.trace = c.swapped.link.same.1 ∙ starts talk.did a mid talk.swapped ∙ ap (λ (p : DepSeen L). p.start) is in
+          subst (λ (n : ℕ). 0 < noise (drop n (see b).air.trace)) start (more_than _ _ c.swap.swaps.noise (c.swapped.link.noisy (c.swap.over ∙ ap Some six))),
+    )
+
     cut_so : (from : Step) (e : SnepFault) (new : EndState) (broke : Breaking from e new) → IsCut (sees see) (swaps k target see) (Answers serving) (Stops serving) (ready_of broke.at).llc broke.mid broke.mid_far e new b after → Cut from e
-    cut_so from e new broke (inl (inl c)) = by_cause from e new broke cause.Memory c.fault (λ q. cc)
+    cut_so from e new broke (inl (inl c)) =
+        by_cause from e new broke cause.Memory c.fault (λ q. cc) (λ n. absurd (n refl)) (ap setting_of c.far_is ∙ set_still broke.talks.did far broke.mid_far broke.talks.far_moved)
     cut_so from e new broke (inl (inr c)) = absurd (let over = c.over in let goes : (see broke.mid).over ≡ None = broke.talks.over ∙ was_open in cc)
     cut_so from e new broke (inr (inl c)) =
         by_cause from e new broke c.why.cause c.fault (λ q. never_odd broke.mid _ c.swapped.did c.swapped.link (c.swap.over ∙ ap Some q))
-    cut_so from e new broke (inr (inr c)) = by_cause from e new broke cause.Memory c.fault (λ q. cc)
+        (λ n. last_left from broke.at broke.mid broke.mid_far broke.talks e new c)
+        (set_still c.swapped.did broke.mid_far after c.swapped.far_moved ∙ set_still broke.talks.did far broke.mid_far broke.talks.far_moved)
+    cut_so from e new broke (inr (inr c)) =
+        by_cause from e new broke cause.Memory c.fault (λ q. cc) (λ n. absurd (n refl))
+        (set_still c.swapped.did broke.mid_far after c.swapped.far_moved ∙ set_still broke.talks.did far broke.mid_far broke.talks.far_moved)
 
     pub cut_off : (from : Step) (e : SnepFault) (new : EndState) → Breaking from e new → Cut from e
     cut_off from e new broke = cut_so from e new broke broke.cut

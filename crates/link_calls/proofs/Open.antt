@@ -2,23 +2,20 @@
 use Rattle.std.proofs.Common.{◌≡◌, ◌==◌, ℕ, ◌+◌, List, [], ◌∷◌, ◌++◌, drop, Bool, true, false, if◌then◌else◌, Option, Some, None, refl, sym, ◌∙◌, ap, subst}
 use Rattle.std.specs.Prelude.{nat_lt}
 use Rattle.nfc_base.specs.Signal.{Signal}
-use Rattle.nfc_base.specs.Links.{FarStep, Stepped, Stopped}
+use Rattle.nfc_base.specs.Links.{Stepped}
 use Rattle.nfc_base.specs.declared.carrier.EndCause.{EndCause}
 use Rattle.nfc_base.specs.declared.event.Heard.{Heard}
 use Rattle.nfc_base.specs.declared.event.Heard.TheVariants.{Whole, Collided, Damaged, Silent}
 use Rattle.air_core.specs.Conversation.{Note, Lit, Got, Lost}
-use Rattle.air_core.specs.Turn.{Air}
 use Rattle.air_core.specs.declared.listener.Listener.{Ghosts}
 use Rattle.dep_pdu.specs.declared.frame.DepFrame.{DepFrame}
 use Rattle.dep_pdu.specs.declared.frame.DepFrame.TheVariants.{AtrReq, AtrRes, Info, Ack, Nack, Attention, Extend, DslReq, DslRes, RlsReq, RlsRes}
-use Rattle.dep_link.specs.declared.initiator.InitStep.{InitStep}
-use Rattle.dep_link.specs.declared.initiator.InitStep.TheVariants as steps
 use Rattle.dep_link.specs.declared.initiator.Phase.{Phase}
 use Rattle.dep_link.specs.declared.initiator.Phase.TheVariants.{Asked, Nacked, Attending, Free, EndedSixBad, EndedProtocol}
 use Rattle.dep_link.specs.Frames.{spelled}
 use Rattle.dep_link.specs.Target.{TargetState}
 use Rattle.dep_link.specs.Payloads.{Cut}
-use Rattle.dep_link.specs.Initiator.{Core, InitState, InitMove, Next, Asks, Gives, GivesUp, Refuses, sends, refuses, bad, most_bads, turned, received, more_follows, is_refused, acked, brought, may_extend, extended, answered, attended, waited, attending, whole, damaged, silent, heard_next, framed_next, init_table}
+use Rattle.dep_link.specs.Initiator.{Core, InitState, InitMove, Next, Asks, Gives, GivesUp, Refuses, sends, refuses, bad, most_bads, turned, received, more_follows, is_refused, brought, may_extend, answered, waited, attending, whole, damaged, silent, heard_next, framed_next}
 use Rattle.dep_link.specs.Asking.{Standing, Waits, Rests, Broken, Astray, asks, goes_by, noted, stand}
 use Rattle.dep_link.specs.DepLinks.{DepSeen, Exchanged, StandsAt, IsDepReady, IsInStep, over_at}
 

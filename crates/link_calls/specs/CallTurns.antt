@@ -11,7 +11,7 @@ use Rattle.air_core.specs.Conversation.{Note, Asks, first_fate, later_fates}
 use Rattle.air_core.specs.declared.listener.Listener.{Ghosts}
 use Rattle.dep_link.specs.Target.{TargetState}
 use Rattle.dep_link.specs.Initiator.{InitState}
-use Rattle.dep_link.specs.DepLinks.{DepSeen, Exchanged, dep_view}
+use Rattle.dep_link.specs.DepLinks.{DepSeen, dep_swaps, dep_view}
 use Rattle.far_air.specs.FarEnds.{FarTable}
 use Rattle.far_air.specs.FarLaws.{IsFarTable, IsLinked, IsOfTable}
 use Rattle.far_air.specs.FarTurns.{FarGoing}
@@ -28,7 +28,7 @@ sees see c = dep_view (see c)
 
 -- and what a swap does to it
 abbrev pub swaps : {L C : Type 0} → Ghosts L → (L → TargetState) → (C → DepSeen L) → C → List ℕ → List FarStep → C → Type 0
-swaps k target see a out did b = Exchanged k target (see a) (see b) (record { out = out; did = did })
+swaps k target see a out did b = dep_swaps k target (see a) out did (see b)
 
 module _ {L F : Type 0} (k : Ghosts L) (target : L → TargetState) (linked : L → Bool) (t : FarTable F) where
   -- From one moment of a field to another the requests of a call were made, with these numbers of PDUs: each was due, this was heard, and

@@ -1,11 +1,13 @@
 -- What a client's call over the open link of a field does, and how it leaves the link (NFC Forum LLCP 1.3 and SNEP 1.0).
-use Rattle.std.specs.Prelude.{◌≡◌, ◌⊎◌, ℕ, List, [], Bool, true, Option, None, Result, Ok, Err}
+use Rattle.std.specs.Prelude.{◌≡◌, ◌⊎◌, ℕ, ◌<◌, List, length, drop, Bool, true, Option, Some, None}
+use Rattle.nfc_base.specs.Trace.{noise}
+use Rattle.nfc_base.specs.declared.carrier.EndCause.{EndCause}
 use Rattle.nfc_base.specs.declared.carrier.EndCause.TheVariants as cause
 use Rattle.air_core.specs.Turn.{Air}
 use Rattle.air_core.specs.declared.listener.Listener.{Ghosts}
 use Rattle.dep_link.specs.Target.{TargetState}
 use Rattle.dep_link.specs.Initiator.{InitState}
-use Rattle.dep_link.specs.DepLinks.{IsInStep, over_at}
+use Rattle.dep_link.specs.DepLinks.{DepSeen, Swap, Chained, IsInStep, first_seen, over_at}
 use Rattle.far_air.specs.FarLaws.{IsLinked}
 use Rattle.peer_air.specs.PeerFars.{peer_ends}
 use Rattle.peer_air.specs.SwapTurns.{Stands}
@@ -19,6 +21,7 @@ use Rattle.snep_core.specs.declared.job.Ending.TheVariants.{Refused}
 use Rattle.snep_core.specs.Talk.{EndState, Step, Ends, GivesUp, alone}
 use Rattle.link_calls.specs.CallDue.{CallStanding, BrokenBy, Comes}
 use Rattle.link_calls.specs.CallTurns.{CallTurns, CallFront}
+use Rattle.link_calls.specs.Staying.{setting_of}
 
 module _ {L : Type 0} (k : Ghosts L) (target : L → TargetState) where
   -- A link is open: the field is lit, and in it a peer is selected, alone and in step with the initiator, whose last exchange didn't end
@@ -26,6 +29,15 @@ module _ {L : Type 0} (k : Ghosts L) (target : L → TargetState) where
   pub record IsOpen (air : Air L) (i : InitState) : Type 0 where
     pub in_step : IsInStep k target air i
     pub going : over_at i.phase true ≡ None
+
+  -- From a moment of the field, its initiator and its peer's end to others payloads were swapped over the link, which is over by this cause then, or
+  -- isn't. They change nothing that is set of the end.
+  pub record IsCarried (old : Air L) (i : InitState) (far : PeerState) (new : Air L) (j : InitState) (after : PeerState) (over : Option EndCause) : Type 0 where
+    pub at : DepSeen L
+    pub left : (at.air ≡ new) × (at.initiator ≡ j) × (at.over ≡ over)
+    pub swaps : List Swap
+    pub chain : Chained k target swaps (first_seen old i) at
+    pub setting : setting_of after ≡ setting_of far
 
   -- A call on an open link, from a moment of the field, its initiator and its peer's end to others.
   module _ (from : Step) (old : Air L) (i : InitState) (far : PeerState) (new : Air L) (j : InitState) (after : PeerState) where
@@ -42,16 +54,27 @@ module _ {L : Type 0} (k : Ghosts L) (target : L → TargetState) where
       pub turns : CallComes (Comes to j)
       pub there : (linked : L → Bool) → IsLinked k.machine linked → (place : ℕ) → Stands k target linked peer_ends old place
           → Stands k target linked peer_ends new place
+      pub carried : IsCarried old i far new j after None
+
+    -- Its link ended by this cause. Six bad receptions have a transmission that didn't pass.
+    pub record IsEndedBy (c : EndCause) : Type 0 where
+      pub turns : CallComes (BrokenBy c)
+      pub carried : IsCarried old i far new j after (Some c)
+      pub noisy : c ≡ cause.SixBad → 0 < noise (drop (length old.trace) new.trace)
+
+    -- Memory was wanting: there is a front of it, and nothing that is set of the end changed.
+    pub record IsCutShort : Type 0 where
+      pub front : (linked : L → Bool) → IsLinked k.machine linked → (place : ℕ) → Stands k target linked peer_ends old place → (os : List (Option PeerState))
+          → CallFront k target linked peer_ends from i old new place os far after
+      pub setting : setting_of after ≡ setting_of far
 
     -- It was cut off, by its link or by want of memory.
     abbrev pub IsCutOff : SnepFault → Type 0
-    IsCutOff (LinkEnded cause.FieldLost) = CallComes (BrokenBy cause.FieldLost)
-    IsCutOff (LinkEnded cause.SixBad) = CallComes (BrokenBy cause.SixBad)
+    IsCutOff (LinkEnded cause.FieldLost) = IsEndedBy cause.FieldLost
+    IsCutOff (LinkEnded cause.SixBad) = IsEndedBy cause.SixBad
     IsCutOff (LinkEnded cause.Protocol) = ⊥
     IsCutOff (LinkEnded cause.Memory) = ⊥
-    IsCutOff Memory =
-        (linked : L → Bool) → IsLinked k.machine linked → (place : ℕ) → Stands k target linked peer_ends old place → (os : List (Option PeerState))
-        → CallFront k target linked peer_ends from i old new place os far after
+    IsCutOff Memory = IsCutShort
     IsCutOff _ = ⊥
 
     -- It failed: the far end was given up, or it was cut off.

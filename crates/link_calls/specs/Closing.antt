@@ -1,15 +1,21 @@
 -- A client's connection that is ended, and its link released, in the world with far ends (NFCIP-1, ISO/IEC 18092; NFC Forum LLCP 1.3;
 -- the air is this project's own).
-use Rattle.std.specs.Prelude.{◌≡◌, ◌⊎◌, ℕ, List, [], Bool, true, Option, Result, Ok, Err}
+use Rattle.std.specs.Prelude.{◌≡◌, ◌⊎◌, ℕ, ◌<◌, List, length, drop, Bool, true, Option, Some, None}
+use Rattle.nfc_base.specs.Far.{Untouched}
+use Rattle.nfc_base.specs.Trace.{noise}
+use Rattle.nfc_base.specs.declared.event.Heard.{Heard}
+use Rattle.nfc_base.specs.declared.carrier.EndCause.{EndCause}
 use Rattle.nfc_base.specs.Signal.{Signal}
 use Rattle.nfc_base.specs.declared.event.Event.TheVariants.{Request}
 use Rattle.nfc_base.specs.declared.event.Fate.TheVariants.{Pass}
 use Rattle.nfc_base.specs.declared.carrier.EndCause.TheVariants as cause
-use Rattle.air_core.specs.Turn.{Air, moment, after_event}
+use Rattle.air_core.specs.Turn.{Air, TurnIs, moment, after_event}
 use Rattle.air_core.specs.Conversation.{Note, Asks, first_fate, later_fates}
 use Rattle.air_core.specs.declared.listener.Listener.{Ghosts}
 use Rattle.dep_link.specs.Target.{TargetState}
 use Rattle.dep_link.specs.Initiator.{InitState}
+use Rattle.dep_link.specs.Releasing.{rls_frame}
+use Rattle.llcp_link.specs.Answering.{Answers}
 use Rattle.far_air.specs.FarEnds.{FarTable}
 use Rattle.far_air.specs.FarLaws.{IsLinked}
 use Rattle.far_air.specs.FarTurns.{FarGoing}
@@ -18,9 +24,12 @@ use Rattle.peer_air.specs.SwapTurns.{Stands}
 use Rattle.snep_core.specs.declared.fault.SnepFault.{SnepFault}
 use Rattle.snep_core.specs.declared.fault.SnepFault.TheVariants.{BadPeer, LinkEnded, Memory}
 use Rattle.snep_core.specs.Accord.{PeerState}
+use Rattle.snep_core.specs.Server.{serving}
 use Rattle.snep_core.specs.Talk.{EndState, Step, GivesUp}
-use Rattle.link_calls.specs.CallDue.{CallStanding, BrokenBy, Comes}
+use Rattle.link_calls.specs.CallDue.{BrokenBy, Comes}
+use Rattle.link_calls.specs.Calls.{IsCarried}
 use Rattle.link_calls.specs.ClosingDue.{ClosingStanding, Calls, Released, closing_stand, closing_due, closing_due_at}
+use Rattle.link_calls.specs.Staying.{begins, setting_of}
 
 module _ {L F : Type 0} (k : Ghosts L) (linked : L → Bool) (t : FarTable F) where
   -- From one moment of a field to another the requests of a closing were made: each was due, and this was heard.
@@ -30,13 +39,13 @@ module _ {L F : Type 0} (k : Ghosts L) (linked : L → Bool) (t : FarTable F) wh
     pub stands : closing_stand numbers from i notes ≡ s
 
   -- Behind such requests nothing more happened; or the request passed that was due, and the far end stopped for want of memory.
-  pub record ClosingFront (from : Step) (i : InitState) (old new : Air L) (place : ℕ) (os : List (Option F)) (far : F) : Type 0 where
+  pub record ClosingFront (from : Step) (i : InitState) (old new : Air L) (place : ℕ) (os : List (Option F)) (far after : F) : Type 0 where
     pub numbers : List ℕ
     pub standing : ClosingStanding
     pub mid : Air L
     pub half : F
     pub turns : ClosingTurns numbers from i old mid place os far half standing
-    pub left : (new ≡ mid)
+    pub left : ((new ≡ mid) × (after ≡ half))
         ⊎ ((sent : Signal) × (listeners : List L) × (closing_due_at standing ≡ Asks sent) × (first_fate mid.fates ≡ Pass)
         × (new ≡ after_event mid (Request sent Pass) (later_fates mid.fates) (record { lit = true; listeners = listeners })))
 
@@ -49,18 +58,40 @@ module _ {L : Type 0} (k : Ghosts L) (target : L → TargetState) where
         (linked : L → Bool) → IsLinked k.machine linked → (place : ℕ) → Stands k target linked peer_ends old place → (os : List (Option PeerState))
         → (numbers : List ℕ) × ClosingTurns k linked peer_ends numbers from i old new place os far after s
 
+    -- Behind payloads that were swapped RLS_REQ was sent, and this was heard of it, none where the field was lost. Where no listener hands anything
+    -- over at it, the end stays.
+    pub record SendsRls (heard : Option Heard) : Type 0 where
+      pub mid : Air L
+      pub rest : InitState
+      pub half : PeerState
+      pub carried : IsCarried k target old i far mid rest half None
+      pub turn : TurnIs k.machine begins (Answers serving) mid rls_frame half heard new after
+      pub same : ((l : L) → k.machine.handed l rls_frame ≡ Untouched) → after ≡ half
+
     -- The connection ended, and RLS_REQ was sent.
-    abbrev pub IsReleased : Step → Type 0
-    IsReleased to = ClosingComes (Released to)
+    pub record IsReleased (to : Step) : Type 0 where
+      pub turns : ClosingComes (Released to)
+      pub heard : Heard
+      pub sent : SendsRls (Some heard)
+
+    -- The link ended by this cause, in the call or as RLS_REQ was sent. Six bad receptions have a transmission that didn't pass.
+    pub record IsLost (j : InitState) (c : EndCause) : Type 0 where
+      pub turns : ClosingComes (Calls (BrokenBy c))
+      pub how : IsCarried k target old i far new j after (Some c) ⊎ ((c ≡ cause.FieldLost) × SendsRls None)
+      pub noisy : c ≡ cause.SixBad → 0 < noise (drop (length old.trace) new.trace)
+
+    -- Memory was wanting: there is a front of it, and nothing that is set of the end changed.
+    pub record IsClosingShort : Type 0 where
+      pub front : (linked : L → Bool) → IsLinked k.machine linked → (place : ℕ) → Stands k target linked peer_ends old place → (os : List (Option PeerState))
+          → ClosingFront k linked peer_ends from i old new place os far after
+      pub setting : ((l : L) → k.machine.handed l rls_frame ≡ Untouched) → setting_of after ≡ setting_of far
 
     -- It failed: the far end was given up, the link ended, or memory was wanting.
     abbrev pub ClosingFails : EndState → InitState → SnepFault → Type 0
     ClosingFails client j BadPeer = ClosingComes (Calls (Comes (GivesUp client) j))
-    ClosingFails client j (LinkEnded cause.FieldLost) = ClosingComes (Calls (BrokenBy cause.FieldLost))
-    ClosingFails client j (LinkEnded cause.SixBad) = ClosingComes (Calls (BrokenBy cause.SixBad))
+    ClosingFails client j (LinkEnded cause.FieldLost) = IsLost j cause.FieldLost
+    ClosingFails client j (LinkEnded cause.SixBad) = IsLost j cause.SixBad
     ClosingFails client j (LinkEnded cause.Protocol) = ⊥
     ClosingFails client j (LinkEnded cause.Memory) = ⊥
-    ClosingFails client j Memory =
-        (linked : L → Bool) → IsLinked k.machine linked → (place : ℕ) → Stands k target linked peer_ends old place → (os : List (Option PeerState))
-        → ClosingFront k linked peer_ends from i old new place os far
+    ClosingFails client j Memory = IsClosingShort
     ClosingFails client j _ = ⊥

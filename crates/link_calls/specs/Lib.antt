@@ -1,3 +1,4 @@
+pub mod Staying
 pub mod CallDue
 pub mod CallTurns
 pub mod Calls

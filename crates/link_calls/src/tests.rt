@@ -198,17 +198,13 @@ fn a_message_goes_over(rt: HostRuntime) -> Result<(), Fail> {
     let sap = lookup_on(&mut field, &mut initiator, &mut client, &mut far, name)?;
     assert_eq!(rt; sap, 4);
     let message = [0xD0, 0, 0];
-    put_on(
-        &mut field,
-        &mut initiator,
-        &mut client,
-        &mut far,
-        &message,
-    )?;
+    put_on(&mut field, &mut initiator, &mut client, &mut far, &message)?;
     close_and_release(&mut field, &mut initiator, &mut client, &mut far)?;
     let frames: [&[u8]; 6] = [
         b"\xF0\x18\xD4\x06\x00\x06\x41\x08\x10\x00urn:nfc:sn:snep",
-        &[0xF0, 0x0A, 0xD5, 0x07, 0x00, 0x06, 0x41, 0x09, 0x02, 0x00, 0x04],
+        &[
+            0xF0, 0x0A, 0xD5, 0x07, 0x00, 0x06, 0x41, 0x09, 0x02, 0x00, 0x04,
+        ],
         &[0xF0, 0x06, 0xD4, 0x06, 0x01, 0x11, 0x20],
         &[0xF0, 0x06, 0xD5, 0x07, 0x01, 0x81, 0x84],
         b"\xF0\x10\xD4\x06\x02\x13\x20\x00\x10\x02\x00\x00\x00\x03\xD0\x00\x00",
@@ -289,7 +285,11 @@ fn a_link_that_ends_is_told(rt: HostRuntime) -> Result<(), Fail> {
         (&late, six_bad, 1),
     ];
     for (fates, put, accepted) in rows {
-        assert_eq!(rt; put_ends(&rt, alloc, fates)?, (put, accepted), "at {fates:?}");
+        assert_eq!(rt;
+            put_ends(&rt, alloc, fates)?,
+            (put, accepted),
+            "at {fates:?}"
+        );
     }
     Ok(())
 }

@@ -91,15 +91,25 @@ FarMoved {A} steps stops (Stepped payload reply ∷ rest) far after =
     (mid : A) × steps far payload reply mid × FarMoved steps stops rest mid after
 FarMoved steps stops (Stopped payload ∷ rest) far after = stops far payload after × (rest ≡ [])
 
+-- the payload of a step
+abbrev pub payload_of : FarStep → List ℕ
+payload_of (Stepped payload reply) = payload
+payload_of (Stopped payload) = payload
+
 -- what a swap of this payload asked of the far end where it failed
 abbrev pub AskedBy : Bool → EndCause → List ℕ → List FarStep → Type 0
 AskedBy true cause out did = (reply : List ℕ) × (did ≡ Stepped out reply ∷ [])
 AskedBy false cause out did = (did ≡ []) ⊎ ((cause ≡ Memory) × (did ≡ Stopped out ∷ []))
 
--- A swap with this answer moved its link and the far end by the same steps.
-pub record Swapped {C A : Type 0} (moves : C → List FarStep → C → Type 0) (steps : A → List ℕ → List ℕ → A → Type 0)
+-- A swap with this answer was one swap of its link, in which the far end went by the same steps.
+pub record Swapped {C A : Type 0} (swaps : C → List ℕ → List FarStep → C → Type 0) (steps : A → List ℕ → List ℕ → A → Type 0)
     (stops : A → List ℕ → A → Type 0) (old : C) (out : List ℕ) (far : A) (new : C) (after : A) (asked : List FarStep → Type 0) : Type 0 where
   pub did : List FarStep
-  pub link : moves old did new
+  pub link : swaps old out did new
   pub far_moved : FarMoved steps stops did far after
   pub tells : asked did
+
+-- A link came from one state to another: in each of these steps of the far end its payload was swapped once, and nothing else was.
+abbrev pub BySwaps : {C : Type 0} → (C → List ℕ → List FarStep → C → Type 0) → List FarStep → C → C → Type 0
+BySwaps swaps [] a b = b ≡ a
+BySwaps {C} swaps (x ∷ did) a b = (mid : C) × swaps a (payload_of x) (x ∷ []) mid × BySwaps swaps did mid b

@@ -1,6 +1,6 @@
 //! The link that carries payloads to a far end.
 
-ghost use Rattle.std.specs.Prelude.{◌≡◌, ℕ, ◌≤◌, List, [], ◌∷◌, ◌++◌, length, vec_len, IfOk, IfErr, Option, Some, None, Err, false};
+ghost use Rattle.std.specs.Prelude.{◌≡◌, ℕ, ◌≤◌, List, [], ◌∷◌, length, vec_len, IfOk, IfErr, Option, Some, None, Err, false};
 ghost use Rattle.std.specs.Borrow.{GName};
 ghost use Rattle.nfc_base.specs.Links.{CarrierView, SwapDone, SwapFailed, SwapRefused, FarStep, Stepped, Swapped, AskedBy, IsMemory};
 ghost use Rattle.nfc_base.specs.Numbers.{end_cause_number};
@@ -52,8 +52,8 @@ pub trait Carrier {
     /// What its swap needs of what it borrows; it stands again after each call, also after a fault.
     ghost ready: { Self → Type 0 };
 
-    /// What may happen to what it borrows in calls of `swap`, in which the far end makes these steps.
-    ghost moves: { Self → List FarStep → Self → Type 0 };
+    /// What one swap of a payload may do to what it borrows, in which the far end makes these steps.
+    ghost swaps: { Self → List ℕ → List FarStep → Self → Type 0 };
 
     /// Hands `out`, of at most 2,178 bytes, to the far end, and gives its reply, which has at most as many.
     fn swap<A: Answerer>(
@@ -70,19 +70,15 @@ pub trait Carrier {
         ensures err { (seen self.old).over ≡ None
             → IfErr result (λ e. SwapFailed A.steps A.stops (seen self.old) (seen self.new) out.now e far.old far.new) }
         ensures ended { (c : EndCause) → (seen self.old).over ≡ Some c
-            → SwapRefused (seen self.old) (seen self.new) c far.old far.new result × moves self.old [] self.new }
+            → SwapRefused (seen self.old) (seen self.new) c far.old far.new result × (self.new ≡ self.old) }
         // Where all transmissions pass, a payload is answered.
         ensures calm { (seen self.old).over ≡ None → (seen self.old).dark ≡ false
             → (seen self.new).noise ≡ (seen self.old).noise → IfErr result IsMemory }
         ensures ready { ready self.new }
         ensures same { lenders self.new ≡ lenders self.old }
-        ensures swapped { IfOk result (λ r. Swapped moves A.steps A.stops self.old out.now far.old self.new far.new
+        ensures swapped { IfOk result (λ r. Swapped swaps A.steps A.stops self.old out.now far.old self.new far.new
             (λ did. did ≡ Stepped out.now r.items ∷ [])) }
-        ensures failed { IfErr result
-            (λ e. Swapped moves A.steps A.stops self.old out.now far.old self.new far.new
+        ensures failed { (seen self.old).over ≡ None
+            → IfErr result (λ e. Swapped swaps A.steps A.stops self.old out.now far.old self.new far.new
             (AskedBy e.answered e.cause out.now)) };
-
-    ghost stays: { (a : Self) → moves a [] a };
-
-    ghost goes_on: { (a b c : Self) (xs ys : List FarStep) → moves a xs b → moves b ys c → moves a (xs ++ ys) c };
 }

@@ -47,7 +47,7 @@ impl Carrier for Straight {
 
     ghost ready = { λ _. ⊤ };
 
-    ghost moves = { λ _ _ _. ⊤ };
+    ghost swaps = { λ _ _ _ _. ⊤ };
 
     fn swap<A: Answerer>(
         &mut self,
@@ -77,10 +77,6 @@ impl Carrier for Straight {
             Ok(()) => Ok(reply),
         }
     }
-
-    ghost stays = { λ a. tt };
-
-    ghost goes_on = { λ a b c xs ys p q. tt };
 }
 
 /// Swaps, and once more behind a fault: what is told then was told before.

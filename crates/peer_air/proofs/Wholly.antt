@@ -4,7 +4,7 @@ use Rattle.std.proofs.lemmas.List.{append_cancel_left}
 use Rattle.nfc_base.specs.Signal.{Signal}
 use Rattle.nfc_base.specs.StopAndWait.{delivered_of}
 use Rattle.nfc_base.specs.LinkTurns as turns
-use Rattle.nfc_base.specs.Links.{FarStep, Stepped, Stopped, FarMoved}
+use Rattle.nfc_base.specs.Links.{FarStep, Stepped, Stopped, FarMoved, BySwaps}
 use Rattle.nfc_base.specs.declared.event.Event.{Event}
 use Rattle.air_core.specs.World.{World}
 use Rattle.air_core.specs.Conversation.{Note, Going, Moment, with_events, receptions}
@@ -22,13 +22,13 @@ use Rattle.dep_link.specs.Payloads.{payloads}
 use Rattle.dep_link.specs.Exchange.{frames_of}
 use Rattle.dep_link.specs.Answering.{answering_air}
 use Rattle.dep_link.specs.Asking.{Standing, MayReply, due_at, dep_next, HasPeer, ExchangeTurns, AreFrames}
-use Rattle.dep_link.specs.DepLinks.{DepSeen, Swap, PeerOf, TurnsOf, Exchanged, Chained, StandsAt, brought, since}
+use Rattle.dep_link.specs.DepLinks.{DepSeen, Swap, PeerOf, TurnsOf, Exchanged, StandsAt, brought, dep_swaps, since}
 use Rattle.dep_link.proofs.SwapEnds.{first_here}
 use Rattle.far_air.specs.FarEnds.{FarTable}
 use Rattle.far_air.specs.FarWorld.{far_air}
 use Rattle.far_air.specs.FarLaws.{IsFarTable, IsLinked, IsOfTable, with_far, seen_at}
 use Rattle.far_air.specs.FarTurns.{FarGoing}
-use Rattle.peer_air.specs.SwapTurns.{Stands, Gave, ExchangesFar, IsWhole, SwapTurn, SwapTurns, SwapFront, SwapsFar, StopsFar, MovesFar, PeersStand, all_did, did_with}
+use Rattle.peer_air.specs.SwapTurns.{Stands, Gave, ExchangesFar, IsWhole, SwapTurn, SwapTurns, SwapFront, SwapsFar, StopsFar, AllFar, PeersStand, did_with, swaps_of}
 use Rattle.peer_air.proofs.Walking.{begins, tells, flagged, dark_none, So, End, walk}
 
 -- the reply that an exchange is walked with
@@ -225,38 +225,20 @@ module _ {L F A : Type 0} (k : Ghosts L) (laws : Laws k) (target : L → TargetS
   moved_at a b out (Stopped payload ∷ []) x far after moved whole place stands os = absurd whole
   moved_at a b out (d ∷ e ∷ did) x far after moved whole place stands os = absurd x.exchange
 
-  -- what swaps did, one after another
-  moved_split : (xs ys : List FarStep) (far after : A) → FarMoved steps stops (xs ++ ys) far after → IsWhole k target linked t (xs ++ ys)
-      → (half : A) × FarMoved steps stops xs far half × FarMoved steps stops ys half after × IsWhole k target linked t xs × IsWhole k target linked t ys
-  moved_split [] ys far after m whole = (far, refl, m, tt, whole)
-  moved_split (Stepped payload reply ∷ xs) ys far after (mid, step, rest) whole =
-      let z = moved_split xs ys mid after rest whole in (z.0, (mid, step, z.1), z.2, z.3, z.4)
-  moved_split (Stopped payload ∷ xs) ys far after m whole = absurd whole
-
-  chained_far : (ss : List Swap) (a : DepSeen L) (did : List FarStep) (b : DepSeen L) → Chained k target ss a did b
+  -- swaps one after another
+  by_swaps : (did : List FarStep) (a b : DepSeen L) → BySwaps (dep_swaps k target) did a b
       → (far after : A) → FarMoved steps stops did far after → IsWhole k target linked t did → (place : ℕ) → Stands k target linked t a.air place → (os : List (Option F))
-      → SwapTurns k target linked t ss a place os (view far) b (view after)
-  chained_far [] a did b c far after moved whole place stands os =
-      let P : List FarStep → Type 0 = λ z. FarMoved steps stops z far after in (c.0, ap view (subst P c.1 moved))
-  chained_far (s ∷ ss) a did b (mid, rest, x, more, e) far after moved whole place stands os =
-      let P : List FarStep → Type 0 = λ z. FarMoved steps stops z far after in
-      let W : List FarStep → Type 0 = IsWhole k target linked t in
-      let z = moved_split s.did rest far after (subst P e moved) (subst W e whole) in
-      let one = moved_at a mid s.out s.did x far z.0 z.1 z.3 place stands os in
-      (mid, view z.0, one, chained_far ss mid rest b more z.0 after z.2 z.4 place one.there os)
+      → SwapTurns k target linked t (swaps_of did) a place os (view far) b (view after)
+  by_swaps [] a b e far after moved whole place stands os = (e, ap view moved)
+  by_swaps (Stepped payload reply ∷ did) a b (mid, one, more) far after (half, step, rest) whole place stands os =
+      let z = moved_at a mid payload (Stepped payload reply ∷ []) one far half (half, step, refl) tt place stands os in
+      (mid, view half, z, by_swaps did mid b more half after rest whole place z.there os)
+  by_swaps (Stopped payload ∷ did) a b by far after moved whole place stands os = absurd whole
 
--- all that a far end did it did in the swaps of a chain
-all_in : {L : Type 0} (k : Ghosts L) (target : L → TargetState) (ss : List Swap) (a : DepSeen L) (did : List FarStep) (b : DepSeen L) → Chained k target ss a did b → all_did ss ≡ did
-all_in k target [] a did b c = sym c.1
-all_in k target (s ∷ ss) a did b (mid, rest, x, more, e) = ap (λ z. s.did ++ z) (all_in k target ss mid rest b more) ∙ sym e
-
-pub moves_far : {L F A : Type 0} (k : Ghosts L) → Laws k → (target : L → TargetState) (linked : L → Bool) (t : FarTable F) (restarts : A → List ℕ → A → Type 0) (steps : A → List ℕ → List ℕ → A → Type 0) (stops : A → List ℕ → A → Type 0) (view : A → F)
-    → ((a : A) (payload reply : List ℕ) (b : A) → steps a payload reply b → length reply ≤ limit) → MovesFar k target linked t restarts steps stops view
-moves_far k laws target linked t restarts steps stops view fits links fars kind a b did (ss, chained) far after moved whole place stands os = (
-  ss,
-  all_in k target ss a did b chained,
-  chained_far k laws target linked t links fars restarts steps stops view kind fits ss a did b chained far after moved whole place stands os,
-)
+pub all_far : {L F A : Type 0} (k : Ghosts L) → Laws k → (target : L → TargetState) (linked : L → Bool) (t : FarTable F) (restarts : A → List ℕ → A → Type 0) (steps : A → List ℕ → List ℕ → A → Type 0) (stops : A → List ℕ → A → Type 0) (view : A → F)
+    → ((a : A) (payload reply : List ℕ) (b : A) → steps a payload reply b → length reply ≤ limit) → AllFar k target linked t restarts steps stops view
+all_far k laws target linked t restarts steps stops view fits links fars kind a b did by far after moved whole place stands os =
+    by_swaps k laws target linked t links fars restarts steps stops view kind fits did a b by far after moved whole place stands os
 
 pub swaps_far : {L F A : Type 0} (k : Ghosts L) → Laws k → (target : L → TargetState) (linked : L → Bool) (t : FarTable F) (restarts : A → List ℕ → A → Type 0) (steps : A → List ℕ → List ℕ → A → Type 0) (stops : A → List ℕ → A → Type 0) (view : A → F)
     → ((a : A) (payload reply : List ℕ) (b : A) → steps a payload reply b → length reply ≤ limit) → SwapsFar k target linked t restarts steps stops view

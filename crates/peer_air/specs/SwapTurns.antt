@@ -1,7 +1,7 @@
 -- Exchanges and swaps on a link to a peer, in the world with far ends (NFCIP-1, ISO/IEC 18092; the air is this project's own).
-use Rattle.std.specs.Prelude.{◌≡◌, ◌≤◌, ℕ, List, [], ◌∷◌, ◌++◌, length, Bool, true, Option, Some, None}
+use Rattle.std.specs.Prelude.{◌≡◌, ◌≤◌, ℕ, List, [], ◌∷◌, length, Bool, true, Option, Some, None}
 use Rattle.nfc_base.specs.Signal.{Signal}
-use Rattle.nfc_base.specs.Links.{FarStep, Stepped, Stopped, FarMoved}
+use Rattle.nfc_base.specs.Links.{FarStep, Stepped, Stopped, FarMoved, BySwaps, payload_of}
 use Rattle.nfc_base.specs.declared.event.Event.TheVariants.{Request}
 use Rattle.nfc_base.specs.declared.event.Fate.TheVariants.{Pass}
 use Rattle.air_core.specs.Turn.{Air, moment, after_event}
@@ -12,7 +12,7 @@ use Rattle.dep_link.specs.Sizes.{limit}
 use Rattle.dep_link.specs.Target.{TargetState}
 use Rattle.dep_link.specs.Initiator.{InitState}
 use Rattle.dep_link.specs.Asking.{Standing, HasPeer, ExchangeTurns, asks, stand, dep_next}
-use Rattle.dep_link.specs.DepLinks.{DepSeen, Swap, Exchanged, DepMoves, StandsAt}
+use Rattle.dep_link.specs.DepLinks.{DepSeen, Swap, Exchanged, StandsAt, dep_swaps}
 use Rattle.far_air.specs.FarEnds.{FarTable}
 use Rattle.far_air.specs.FarLaws.{IsFarTable, IsLinked, IsOfTable}
 use Rattle.far_air.specs.FarTurns.{FarGoing}
@@ -22,10 +22,10 @@ abbrev pub did_with : List ℕ → Option (List ℕ) → List FarStep
 did_with out None = []
 did_with out (Some reply) = Stepped out reply ∷ []
 
--- what it did in all of some swaps
-abbrev pub all_did : List Swap → List FarStep
-all_did [] = []
-all_did (s ∷ ss) = s.did ++ all_did ss
+-- the swaps in each of which it made one of these steps
+abbrev pub swaps_of : List FarStep → List Swap
+swaps_of [] = []
+swaps_of (x ∷ did) = record { out = payload_of x; did = x ∷ [] } ∷ swaps_of did
 
 module _ {L F : Type 0} (k : Ghosts L) (target : L → TargetState) (linked : L → Bool) (t : FarTable F) where
   -- A far end went from one state to another in an exchange of this payload, in which it gave that reply, by some number, or none.
@@ -101,9 +101,9 @@ module _ {L F : Type 0} (k : Ghosts L) (target : L → TargetState) (linked : L 
         → (payload : List ℕ) → s.did ≡ Stopped payload ∷ [] → (place : ℕ) → Stands a.air place → (far : F) (os : List (Option F))
         → SwapFront a b s.out place os far
 
-    -- What it tells of its swaps is that, one after another; all that the far end did it did in them.
-    abbrev pub MovesFar : Type 0
-    MovesFar = IsLinked k.machine linked → IsFarTable t → IsOfTable restarts steps t view
-        → (a b : DepSeen L) (did : List FarStep) → DepMoves k target a did b
+    -- What it tells of some swaps, in each of which the far end made one step, is that, one after another.
+    abbrev pub AllFar : Type 0
+    AllFar = IsLinked k.machine linked → IsFarTable t → IsOfTable restarts steps t view
+        → (a b : DepSeen L) (did : List FarStep) → BySwaps (dep_swaps k target) did a b
         → (far after : A) → FarMoved steps stops did far after → IsWhole did → (place : ℕ) → Stands a.air place → (os : List (Option F))
-        → (ss : List Swap) × (all_did ss ≡ did) × SwapTurns ss a place os (view far) b (view after)
+        → SwapTurns (swaps_of did) a place os (view far) b (view after)

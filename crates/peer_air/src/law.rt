@@ -6,7 +6,7 @@ ghost use Rattle.far_air.specs.FarLaws.{IsFarTable, IsOfTable};
 ghost use Rattle.peer_air.specs.Aside.{AsideTurns, SpeaksAside};
 ghost use Rattle.peer_air.specs.Ends.{AreFarEnds, EndsStep, AnyNumber};
 ghost use Rattle.peer_air.specs.PeerFars.{peer_ends, RestsKeep, RestartsKeep};
-ghost use Rattle.peer_air.specs.SwapTurns.{ExchangesFar, PeersStand, SwapsFar, MovesFar, StopsFar};
+ghost use Rattle.peer_air.specs.SwapTurns.{AllFar, ExchangesFar, PeersStand, StopsFar, SwapsFar};
 
 use air_core::Listener;
 use dep_link::PeerListener;
@@ -23,8 +23,8 @@ pub fn swaps<L: PeerListener, F, A: Answerer>()
     ensures exchange { (linked : L → Bool) (t : FarTable F) → ExchangesFar L.Listener L.target linked t }
     ensures swap { (linked : L → Bool) (t : FarTable F) (view : A → F)
         → SwapsFar L.Listener L.target linked t A.restarts A.steps A.stops view }
-    ensures moves { (linked : L → Bool) (t : FarTable F) (view : A → F)
-        → MovesFar L.Listener L.target linked t A.restarts A.steps A.stops view }
+    ensures all { (linked : L → Bool) (t : FarTable F) (view : A → F)
+        → AllFar L.Listener L.target linked t A.restarts A.steps A.stops view }
     ensures stop { (linked : L → Bool) (t : FarTable F) (view : A → F)
         → StopsFar L.Listener L.target linked t A.restarts A.steps A.stops view }
 {}

@@ -21,7 +21,7 @@ module _ {C A : Type 0} (seen : C → CarrierView) (swaps : C → List ℕ → L
       → ((seen link).over ≡ None → SwapFailed steps stops (seen link) (seen now) out why far after)
       → ((c : EndCause) → (seen link).over ≡ Some c
       → SwapRefused (seen link) (seen now) c far after r × (now ≡ link))
-      → ((seen link).over ≡ None → Swapped (λ p did q. swaps p out did q) steps stops link out far now after (AskedBy why.answered why.cause out))
+      → ((seen link).over ≡ None → Swapped swaps steps stops link out far now after (AskedBy why.answered why.cause out))
       → IsCut seen swaps steps stops llc link far e new now after
   cut_failed new kept e why r is fault fails refused swapped = go (seen link).over refl
     where
@@ -33,7 +33,7 @@ module _ {C A : Type 0} (seen : C → CarrierView) (swaps : C → List ℕ → L
         why = why;
         fault = fault;
         swap = subst (λ b. SwapFailed steps stops (seen link) (seen now) b why far after) g.bytes_are (fails i);
-        swapped = subst (λ b. Swapped (λ p did q. swaps p b did q) steps stops link b far now after (AskedBy why.answered why.cause b)) g.bytes_are (swapped i);
+        swapped = subst (λ b. Swapped swaps steps stops link b far now after (AskedBy why.answered why.cause b)) g.bytes_are (swapped i);
       }))
       go (Some c) i =
           (let q = refused c i in
@@ -52,7 +52,7 @@ module _ {C A : Type 0} (seen : C → CarrierView) (swaps : C → List ℕ → L
           })))
 
   pub cut_unread : (new : EndState) (e : SnepFault) (reply : List ℕ) → e ≡ Memory → SwapDone steps (seen link) (seen now) out reply far after
-      → Swapped (λ p did q. swaps p out did q) steps stops link out far now after (λ did. did ≡ Stepped out reply ∷ [])
+      → Swapped swaps steps stops link out far now after (λ did. did ≡ Stepped out reply ∷ [])
       → IsCut seen swaps steps stops llc link far e new now after
   cut_unread new e reply fault done swapped = inr (inr (record {
     count = g.count;
@@ -60,18 +60,18 @@ module _ {C A : Type 0} (seen : C → CarrierView) (swaps : C → List ℕ → L
     reply = reply;
     fault = fault;
     swap = subst (λ b. SwapDone steps (seen link) (seen now) b reply far after) g.bytes_are done;
-    swapped = subst (λ b. Swapped (λ p did q. swaps p b did q) steps stops link b far now after (λ did. did ≡ Stepped b reply ∷ [])) g.bytes_are swapped;
+    swapped = subst (λ b. Swapped swaps steps stops link b far now after (λ did. did ≡ Stepped b reply ∷ [])) g.bytes_are swapped;
   }))
 
   pub exchanged : (reply : List ℕ) (gave : Bool) (new : EndState) → SwapDone steps (seen link) (seen now) out reply far after
-      → Swapped (λ p did q. swaps p out did q) steps stops link out far now after (λ did. did ≡ Stepped out reply ∷ []) → new ≡ taken_from silent mid reply
+      → Swapped swaps steps stops link out far now after (λ did. did ≡ Stepped out reply ∷ []) → new ≡ taken_from silent mid reply
       → gave ≡ gave_something (own_of mid) (own_of new) → Exchanged seen swaps steps stops llc link far gave new now after
   exchanged reply gave new done swapped took something = record {
     count = g.count;
     most = (g.allowed, g.most);
     reply = reply;
     swap = subst (λ b. SwapDone steps (seen link) (seen now) b reply far after) g.bytes_are done;
-    swapped = subst (λ b. Swapped (λ p did q. swaps p b did q) steps stops link b far now after (λ did. did ≡ Stepped b reply ∷ [])) g.bytes_are swapped;
+    swapped = subst (λ b. Swapped swaps steps stops link b far now after (λ did. did ≡ Stepped b reply ∷ [])) g.bytes_are swapped;
     took = took ∙ ap (λ l. taken_from silent l reply) g.left;
     something = something ∙ ap (λ l. gave_something (own_of l) (own_of new)) g.left;
   }

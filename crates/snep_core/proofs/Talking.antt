@@ -1,8 +1,7 @@
 -- A call goes on by one exchange more.
 use Rattle.std.proofs.Common.{◌≡◌, ℕ, Bool, true, false, List, [], ◌∷◌, ◌++◌, ◌||◌, Option, Some, None, refl, sym, ap, subst, ◌∙◌, inr, append-nil}
 use Rattle.std.proofs.lemmas.List.{append_assoc}
-use Rattle.nfc_base.specs.Links.{CarrierView, FarStep, Stepped, Stopped, FarMoved, SwapDone, Swapped}
-use Rattle.nfc_link.specs.Swapping.{BySwaps, payload_of}
+use Rattle.nfc_base.specs.Links.{CarrierView, FarStep, Stepped, Stopped, FarMoved, SwapDone, Swapped, BySwaps, payload_of}
 use Rattle.llcp_link.specs.Asking.{forgotten}
 use Rattle.llcp_link.specs.Giving.{given, after_giving}
 use Rattle.snep_core.specs.declared.job.Turn.{Turn}
@@ -114,7 +113,7 @@ module _ {C A : Type 0} (seen : C → CarrierView) (swaps : C → List ℕ → L
     most = subst (λ (z : Ready). IsMost z.llc x.count) (sym r) x.most;
     reply = x.reply;
     swap = subst (λ (z : Ready). SwapDone steps (seen link) (seen over) (given silent x.count z.llc) x.reply far after) (sym r) x.swap;
-    swapped = subst (λ (z : Ready). Swapped (λ p did q. swaps p (given silent x.count z.llc) did q) steps stops link (given silent x.count z.llc) far over after
+    swapped = subst (λ (z : Ready). Swapped swaps steps stops link (given silent x.count z.llc) far over after
         (λ did. did ≡ Stepped (given silent x.count z.llc) x.reply ∷ [])) (sym r) x.swapped;
     step =
         ap (λ (z : Ready). replied_ready x.count (record { llc = z.llc; jobs = record { sap = client_sap; job = z.job } ∷ []; idle = idle }) x.reply) r

@@ -3,8 +3,7 @@ use Rattle.std.specs.Prelude.{◌≡◌, ◌⊎◌, ℕ, Bool, true, false, List
 use Rattle.nfc_base.specs.declared.carrier.EndCause.{EndCause}
 use Rattle.nfc_base.specs.declared.carrier.EndCause.TheVariants as cause
 use Rattle.nfc_base.specs.declared.carrier.LinkEnd.{LinkEnd}
-use Rattle.nfc_base.specs.Links.{CarrierView, FarStep, Stepped, Stopped, FarMoved, SwapDone, SwapFailed, Swapped, AskedBy}
-use Rattle.nfc_link.specs.Swapping.{BySwaps, payload_of}
+use Rattle.nfc_base.specs.Links.{CarrierView, FarStep, Stepped, FarMoved, SwapDone, SwapFailed, Swapped, AskedBy, BySwaps, payload_of}
 use Rattle.llcp_link.specs.Taking.{taken_from}
 use Rattle.llcp_link.specs.Giving.{given, after_giving}
 use Rattle.snep_core.specs.declared.fault.SnepFault.{SnepFault}
@@ -76,7 +75,7 @@ module _ {C A : Type 0} (seen : C → CarrierView) (swaps : C → List ℕ → L
     pub most : IsMost old count
     pub reply : List ℕ
     pub swap : SwapDone steps (seen link) (seen now) (given silent count old) reply far after
-    pub swapped : Swapped (λ p did q. swaps p (given silent count old) did q) steps stops link (given silent count old) far now after
+    pub swapped : Swapped swaps steps stops link (given silent count old) far now after
         (λ did. did ≡ Stepped (given silent count old) reply ∷ [])
     pub took : new ≡ taken_from silent (after_giving silent count old) reply
     pub something : gave ≡ gave_something (own_of (after_giving silent count old)) (own_of new)
@@ -87,7 +86,7 @@ module _ {C A : Type 0} (seen : C → CarrierView) (swaps : C → List ℕ → L
     pub most : IsMost (ready w).llc count
     pub reply : List ℕ
     pub swap : SwapDone steps (seen link) (seen now) (given silent count (ready w).llc) reply far after
-    pub swapped : Swapped (λ p did q. swaps p (given silent count (ready w).llc) did q) steps stops link (given silent count (ready w).llc) far now after
+    pub swapped : Swapped swaps steps stops link (given silent count (ready w).llc) far now after
         (λ did. did ≡ Stepped (given silent count (ready w).llc) reply ∷ [])
     pub step : replied count w reply ≡ step_of turn new
 
@@ -117,7 +116,7 @@ module _ {C A : Type 0} (seen : C → CarrierView) (swaps : C → List ℕ → L
     pub why : LinkEnd
     pub fault : e ≡ fault_of why.cause
     pub swap : SwapFailed steps stops (seen link) (seen now) (given silent count old) why far after
-    pub swapped : Swapped (λ p did q. swaps p (given silent count old) did q) steps stops link (given silent count old) far now after
+    pub swapped : Swapped swaps steps stops link (given silent count old) far now after
         (AskedBy why.answered why.cause (given silent count old))
 
   -- The next payload was answered, and as the reply was taken memory was wanting.
@@ -127,7 +126,7 @@ module _ {C A : Type 0} (seen : C → CarrierView) (swaps : C → List ℕ → L
     pub reply : List ℕ
     pub fault : e ≡ Memory
     pub swap : SwapDone steps (seen link) (seen now) (given silent count old) reply far after
-    pub swapped : Swapped (λ p did q. swaps p (given silent count old) did q) steps stops link (given silent count old) far now after
+    pub swapped : Swapped swaps steps stops link (given silent count old) far now after
         (λ did. did ≡ Stepped (given silent count old) reply ∷ [])
 
   -- An exchange was cut off. Where this end wanted no memory itself, it is left as it was once it gave its payload.

@@ -17,8 +17,7 @@ use crate::server::SNEP_SAP;
 use crate::silent::NoService;
 use bytes::Bytes;
 use llcp_link::{Llc, LlcFault, Standing};
-use nfc_base::Answerer;
-use nfc_link::Link;
+use nfc_base::{Answerer, Carrier};
 use std::alloc::Global;
 use std::marker::Model;
 
@@ -133,7 +132,7 @@ impl Client {
     }
 
     /// Asks for a connection where none is there, and exchanges until the request was answered.
-    fn ask<C: Link, A: Answerer>(
+    fn ask<C: Carrier, A: Answerer>(
         &mut self,
         carrier: &mut C,
         far: &mut A,
@@ -165,7 +164,7 @@ impl Client {
     }
 
     /// Puts a message of at most 65,536 bytes.
-    pub fn put<C: Link, A: Answerer>(
+    pub fn put<C: Carrier, A: Answerer>(
         &mut self,
         carrier: &mut C,
         far: &mut A,
@@ -205,7 +204,7 @@ impl Client {
     }
 
     /// The value of a key of at most 65,536 bytes, where it has at most so many bytes.
-    pub fn get<C: Link, A: Answerer>(
+    pub fn get<C: Carrier, A: Answerer>(
         &mut self,
         carrier: &mut C,
         far: &mut A,
@@ -246,7 +245,7 @@ impl Client {
     }
 
     /// The SAP at which the far end has a name of at most 64 bytes, 0 where it has none.
-    pub fn lookup<C: Link, A: Answerer>(
+    pub fn lookup<C: Carrier, A: Answerer>(
         &mut self,
         carrier: &mut C,
         far: &mut A,
@@ -285,7 +284,7 @@ impl Client {
     }
 
     /// Ends its connection, where one is open.
-    pub fn close<C: Link, A: Answerer>(
+    pub fn close<C: Carrier, A: Answerer>(
         &mut self,
         carrier: &mut C,
         far: &mut A,

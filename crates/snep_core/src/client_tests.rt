@@ -8,7 +8,6 @@ use arrayvec::ArrayVec;
 use llcp_link::Llc;
 use llcp_pdu::LinkParams;
 use nfc_base::{Answerer, Carrier, EndCause, Items, LinkEnd, Mute};
-use nfc_link::Link;
 use std::alloc::Global;
 use std::process::Abort;
 use std::test::Fail;
@@ -103,7 +102,7 @@ impl Carrier for Straight {
 
     ghost ready = { λ _. ⊤ };
 
-    ghost moves = { λ _ _ _. ⊤ };
+    ghost swaps = { λ _ _ _ _. ⊤ };
 
     fn swap<A: Answerer>(
         &mut self,
@@ -142,33 +141,7 @@ impl Carrier for Straight {
             }
         }
     }
-
-    ghost stays = { λ a. tt };
-
-    ghost goes_on = { λ a b c xs ys p q. tt };
 }
-
-impl Link for Straight {
-    ghost use Rattle.std.specs.Prelude.{⊤};
-
-    ghost swaps = { λ _ _ _ _. ⊤ };
-
-    fn exchange<A: Answerer>(
-        &mut self,
-        alloc: Global,
-        out: &[u8],
-        far: &mut A,
-    ) -> Result<Vec<u8>, LinkEnd> {
-        if let Some(cause) = self.over {
-            return Err(LinkEnd {
-                cause,
-                answered: false,
-            });
-        }
-        self.swap(alloc, out, far)
-    }
-}
-
 
 /// An end with a server at SAP 4, at the begin of a link.
 pub(crate) fn peer(rt: &impl Abort, alloc: Global) -> Result<Llc<Server>, Fail> {

@@ -10,8 +10,7 @@ ghost use Rattle.snep_core.specs.declared.fault.SnepFault.{SnepFault};
 use crate::client::{CLIENT_SAP, Client, gave_between};
 use crate::fault::SnepFault;
 use crate::job::{Ending, Job, Turn};
-use nfc_base::{Answerer, EndCause};
-use nfc_link::Link;
+use nfc_base::{Answerer, Carrier, EndCause};
 
 /// Replies that gave nothing, in a row, before a far end is given up.
 const MOST_IDLE: u8 = 16;
@@ -33,7 +32,7 @@ impl Client {
     }
 
     /// One exchange: the next payload goes out, and its reply is taken. Whether that gave something on the connection.
-    fn exchange<C: Link, A: Answerer>(
+    fn exchange<C: Carrier, A: Answerer>(
         &mut self,
         carrier: &mut C,
         far: &mut A,
@@ -56,7 +55,7 @@ impl Client {
             return Err(self.spend());
         }
         let before = self.stands();
-        match carrier.exchange(self.alloc, &out, far) {
+        match carrier.swap(self.alloc, &out, far) {
             Err(end) => Err(self.ended(end.cause)),
             Ok(reply) => {
                 if self.llc.take(&reply).is_err() {
@@ -89,7 +88,7 @@ impl Client {
     }
 
     /// One exchange, and what the call is then.
-    fn turn<C: Link, A: Answerer>(
+    fn turn<C: Carrier, A: Answerer>(
         &mut self,
         carrier: &mut C,
         far: &mut A,
@@ -127,7 +126,7 @@ impl Client {
     }
 
     /// Exchanges until the job is over, or the far end is given up.
-    pub(crate) fn converse<C: Link, A: Answerer>(
+    pub(crate) fn converse<C: Carrier, A: Answerer>(
         &mut self,
         carrier: &mut C,
         far: &mut A,

@@ -1,4 +1,4 @@
-use Rattle.std.proofs.Common.{rules, ◌≡◌, refl, sym, ◌∙◌, ap, subst}
+use Rattle.std.proofs.Common.{rules, refl, sym, ◌∙◌, ap, subst}
 use Rattle.air_core.proofs.PlainAside.{Laws}
 use Rattle.dep_link.specs.DepLinks.{seen_pair}
 use Rattle.snep_core.specs.declared.job.Ending.TheVariants.{Done}
@@ -41,8 +41,11 @@ returns-in-Err-release-clause-err g c =
     (subst (ClosingFails g.L.Listener g.L.PeerListener.target from c.args.field.now c.args.initiator.now c.args.far.now c.release.new.pair.0 c.release.new.far c.close.new.self.llc c.close.new.carrier.initiator.now)
     (sym c.fault_at.ensures)
     (release_failed g.L.Listener g.L.PeerListener.target (seen_pair {L = g.row.L.Denot}) (laws g) c.on-pair.result c.close.new.carrier c.args.far.now c.close.new.far c.args.field.now c.args.initiator.now
-    c.on-pair.ensures.fresh c.requires.open_ c.close.ensures.ready from (alone (Over Done)) c.close.new.self.llc c.in-Ok.ensures.ok (λ l. l.stuck) c.release.new.pair.0 c.release.new.far c.in-Err-release.end.answered
-    c.in-Err-release.end.cause c.in-Err-release.ensures.turn))
+    c.on-pair.ensures.fresh c.requires.open_ c.close.ensures.ready from (alone (Over Done)) c.close.new.self.llc c.in-Ok.ensures.ok (λ l. l.stuck) c.release.new.pair.0 c.release.new.far
+    (λ quiet. c.in-Err-release.ensures.stays (takes_rls g.L.Listener g.L.PeerListener.target c.close.new.carrier.field.now c.close.new.carrier.initiator.now
+    (made g.L.Listener g.L.PeerListener.target (seen_pair {L = g.row.L.Denot}) (laws g) c.on-pair.result c.close.new.carrier c.args.far.now c.close.new.far c.args.field.now c.args.initiator.now
+    c.on-pair.ensures.fresh c.requires.open_ c.close.ensures.ready from (Ends (alone (Over Done)) c.close.new.self.llc) c.in-Ok.ensures.ok refl).open_.in_step quiet))
+    c.in-Err-release.end.answered c.in-Err-release.end.cause c.in-Err-release.ensures.turn))
 
 pub returns-in-Ok-release-clause-ok : goal.returns-in-Ok-release-clause-ok
 returns-in-Ok-release-clause-ok g c =
@@ -50,7 +53,11 @@ returns-in-Ok-release-clause-ok g c =
     given_back (λ a i. IsReleased g.L.Listener g.L.PeerListener.target from c.args.field.now c.args.initiator.now c.args.far.now a c.release.new.far (Ends (alone (Over Done)) c.close.new.self.llc))
     c.release.new.pair.0 _ c.close.new.carrier.initiator.now c.close.new.carrier.initiator.now (search rules) refl
     (released g.L.Listener g.L.PeerListener.target (seen_pair {L = g.row.L.Denot}) (laws g) c.on-pair.result c.close.new.carrier c.args.far.now c.close.new.far c.args.field.now c.args.initiator.now
-    c.on-pair.ensures.fresh c.requires.open_ c.close.ensures.ready from (alone (Over Done)) c.close.new.self.llc c.in-Ok.ensures.ok (λ l. l.stuck) c.release.new.pair.0 c.release.new.far c.in-Ok-release.ensures.turn)
+    c.on-pair.ensures.fresh c.requires.open_ c.close.ensures.ready from (alone (Over Done)) c.close.new.self.llc c.in-Ok.ensures.ok (λ l. l.stuck) c.release.new.pair.0 c.release.new.far
+    (λ quiet. c.in-Ok-release.ensures.stays (takes_rls g.L.Listener g.L.PeerListener.target c.close.new.carrier.field.now c.close.new.carrier.initiator.now
+    (made g.L.Listener g.L.PeerListener.target (seen_pair {L = g.row.L.Denot}) (laws g) c.on-pair.result c.close.new.carrier c.args.far.now c.close.new.far c.args.field.now c.args.initiator.now
+    c.on-pair.ensures.fresh c.requires.open_ c.close.ensures.ready from (Ends (alone (Over Done)) c.close.new.self.llc) c.in-Ok.ensures.ok refl).open_.in_step quiet))
+    c.in-Ok-release.ensures.turn)
 
 pub returns-in-Ok-release-clause-closed : goal.returns-in-Ok-release-clause-closed
 returns-in-Ok-release-clause-closed g c = λ accords quiet.

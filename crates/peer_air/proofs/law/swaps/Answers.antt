@@ -1,5 +1,5 @@
 use Rattle.air_core.proofs.PlainAside.{Laws}
-use Rattle.peer_air.proofs.Wholly.{exchanges_far, swaps_far, moves_far, stops_far, peers_stand}
+use Rattle.peer_air.proofs.Wholly.{exchanges_far, swaps_far, all_far, stops_far, peers_stand}
 use Rattle.peer_air.proofs.law.swaps.Given as given
 use Rattle.peer_air.proofs.law.swaps.Goals as goal
 
@@ -24,5 +24,5 @@ returns-clause-swap g c = λ linked t view. swaps_far g.L.Listener (laws g) g.L.
 pub returns-clause-stop : goal.returns-clause-stop
 returns-clause-stop g c = λ linked t view. stops_far g.L.Listener (laws g) g.L.PeerListener.target linked t g.A.Answerer.restarts g.A.Answerer.steps g.A.Answerer.stops view
 
-pub returns-clause-moves : goal.returns-clause-moves
-returns-clause-moves g c = λ linked t view. moves_far g.L.Listener (laws g) g.L.PeerListener.target linked t g.A.Answerer.restarts g.A.Answerer.steps g.A.Answerer.stops view g.met.A.Answerer.fits
+pub returns-clause-all : goal.returns-clause-all
+returns-clause-all g c = λ linked t view. all_far g.L.Listener (laws g) g.L.PeerListener.target linked t g.A.Answerer.restarts g.A.Answerer.steps g.A.Answerer.stops view g.met.A.Answerer.fits

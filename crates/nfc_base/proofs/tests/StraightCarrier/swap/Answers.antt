@@ -4,7 +4,7 @@ use Rattle.nfc_base.specs.Links.{Stopped, AskedBy}
 use Rattle.nfc_base.proofs.tests.StraightCarrier.swap.Goals as goal
 
 pub returns-in-Err-clause-failed : goal.returns-in-Err-clause-failed
-returns-in-Err-clause-failed g c =
+returns-in-Err-clause-failed g c = λ none.
     let P : LinkEnd → Type 0 = λ e. AskedBy e.answered e.cause c.args.out.now (Stopped c.args.out.now ∷ []) in
     record {
       did = Stopped c.args.out.now ∷ [];

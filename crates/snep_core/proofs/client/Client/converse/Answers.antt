@@ -15,7 +15,7 @@ turns-init g c = record {
   ready = c.requires.ready;
   same = refl;
   serves = λ aim s. s;
-  talks = talks_none g.C.Carrier.seen g.C.Link.swaps g.A.Answerer.steps g.A.Answerer.stops
+  talks = talks_none g.C.Carrier.seen g.C.Carrier.swaps g.A.Answerer.steps g.A.Answerer.stops
       (begun c.args.self.now.llc c.args.first) c.args.carrier.now c.args.far.now;
 }
 
@@ -24,9 +24,9 @@ returns-in-Ok-Ended-clause-ok g c =
     let w : Working = record { llc = c.turns.self.llc; jobs = alone c.turns.job; idle = c.turns.idle } in
     let new = c.turn.new.self.llc in
     let turned =
-    subst (λ (t : Turn). Turned g.C.Carrier.seen g.C.Link.swaps g.A.Answerer.steps g.A.Answerer.stops w c.turns.carrier c.turns.far t new
+    subst (λ (t : Turn). Turned g.C.Carrier.seen g.C.Carrier.swaps g.A.Answerer.steps g.A.Answerer.stops w c.turns.carrier c.turns.far t new
     c.turn.new.carrier c.turn.new.far) c.in-Ok-Ended.field-0-is c.in-Ok-Ended.ensures.ok in
-    talks_on g.C.Carrier.seen g.C.Link.swaps g.A.Answerer.steps g.A.Answerer.stops (begun c.args.self.now.llc c.args.first)
+    talks_on g.C.Carrier.seen g.C.Carrier.swaps g.A.Answerer.steps g.A.Answerer.stops (begun c.args.self.now.llc c.args.first)
     c.args.carrier.now c.args.far.now w c.turns.carrier c.turns.far (Ended c.in-Ok-Ended.ending) new c.turn.new.carrier c.turn.new.far
     c.turns.invariant.talks turned
 
@@ -41,11 +41,11 @@ returns-in-Ok-GaveUp-clause-err g c =
     let w : Working = record { llc = c.turns.self.llc; jobs = alone c.turns.job; idle = c.turns.idle } in
     let new = c.turn.new.self.llc in
     let turned =
-    subst (λ (t : Turn). Turned g.C.Carrier.seen g.C.Link.swaps g.A.Answerer.steps g.A.Answerer.stops w c.turns.carrier c.turns.far t new
+    subst (λ (t : Turn). Turned g.C.Carrier.seen g.C.Carrier.swaps g.A.Answerer.steps g.A.Answerer.stops w c.turns.carrier c.turns.far t new
     c.turn.new.carrier c.turn.new.far) c.in-Ok-GaveUp.field-0-is c.in-Ok-GaveUp.ensures.ok in
     inl (
       refl,
-      talks_on g.C.Carrier.seen g.C.Link.swaps g.A.Answerer.steps g.A.Answerer.stops
+      talks_on g.C.Carrier.seen g.C.Carrier.swaps g.A.Answerer.steps g.A.Answerer.stops
           (begun c.args.self.now.llc c.args.first) c.args.carrier.now c.args.far.now w c.turns.carrier c.turns.far GaveUp new c.turn.new.carrier
           c.turn.new.far c.turns.invariant.talks turned,
     )
@@ -55,7 +55,7 @@ turns-preserved g c =
     let w : Working = record { llc = c.turns.self.llc; jobs = alone c.turns.job; idle = c.turns.idle } in
     let new = c.turn.new.self.llc in
     let turned =
-    subst (λ (t : Turn). Turned g.C.Carrier.seen g.C.Link.swaps g.A.Answerer.steps g.A.Answerer.stops w c.turns.carrier c.turns.far t new
+    subst (λ (t : Turn). Turned g.C.Carrier.seen g.C.Carrier.swaps g.A.Answerer.steps g.A.Answerer.stops w c.turns.carrier c.turns.far t new
     c.turn.new.carrier c.turn.new.far) c.in-Ok-Went.field-0-is c.in-Ok-Went.ensures.ok in
     let falls : Falls w (Went c.in-Ok-Went.next c.in-Ok-Went.replies) new =
     subst (λ (t : Turn). Falls w t new) c.in-Ok-Went.field-0-is c.in-Ok-Went.ensures.falls in record {
@@ -65,7 +65,7 @@ turns-preserved g c =
       same = c.in-Ok-Went.ensures.same ∙ c.turns.invariant.same;
       serves = λ aim s.
           subst (λ (t : Turn). TurnServes aim t) c.in-Ok-Went.field-0-is (c.in-Ok-Went.ensures.serves aim (c.turns.invariant.serves aim s));
-      talks = talks_on g.C.Carrier.seen g.C.Link.swaps g.A.Answerer.steps g.A.Answerer.stops
+      talks = talks_on g.C.Carrier.seen g.C.Carrier.swaps g.A.Answerer.steps g.A.Answerer.stops
           (begun c.args.self.now.llc c.args.first) c.args.carrier.now c.args.far.now w c.turns.carrier c.turns.far
           (Went c.in-Ok-Went.next c.in-Ok-Went.replies) new c.turn.new.carrier c.turn.new.far c.turns.invariant.talks turned;
     }

@@ -12,7 +12,7 @@ invariant-turns g l = record {
   ready : g.C.Carrier.ready l.carrier;
   same : g.C.Carrier.lenders l.carrier ≡ g.C.Carrier.lenders l.fn.carrier;
   serves : (aim : Aim) → Serves aim l.fn.first → Serves aim l.job;
-  talks : Talks g.C.Carrier.seen g.C.Link.swaps g.A.Answerer.steps g.A.Answerer.stops (begun l.fn.self.llc l.fn.first) l.fn.carrier l.fn.far
+  talks : Talks g.C.Carrier.seen g.C.Carrier.swaps g.A.Answerer.steps g.A.Answerer.stops (begun l.fn.self.llc l.fn.first) l.fn.carrier l.fn.far
       (Goes (record { llc = l.self.llc; jobs = alone l.job; idle = l.idle })) l.carrier l.far;
 }
 

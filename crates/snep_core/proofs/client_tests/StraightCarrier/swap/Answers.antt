@@ -4,7 +4,7 @@ use Rattle.nfc_base.specs.Links.{Stepped, Stopped, AskedBy}
 use Rattle.snep_core.proofs.client_tests.StraightCarrier.swap.Goals as goal
 
 pub returns-in-Err-clause-failed : goal.returns-in-Err-clause-failed
-returns-in-Err-clause-failed g c =
+returns-in-Err-clause-failed g c = λ none.
     let P : LinkEnd → Type 0 = λ e. AskedBy e.answered e.cause c.args.out.now (Stopped c.args.out.now ∷ []) in
     record {
       did = Stopped c.args.out.now ∷ [];
@@ -14,7 +14,7 @@ returns-in-Err-clause-failed g c =
     }
 
 pub returns-then-self-eq0-2-clause-failed : goal.returns-then-self-eq0-2-clause-failed
-returns-then-self-eq0-2-clause-failed g c =
+returns-then-self-eq0-2-clause-failed g c = λ none.
     let reply = c.answer.new.reply.items in
     let P : LinkEnd → Type 0 = λ e. AskedBy e.answered e.cause c.args.out.now (Stepped c.args.out.now reply ∷ []) in
     record {
