@@ -16,7 +16,7 @@ use Rattle.bench_script.specs.declared.message.Msg.TheVariants.{Hex, Gen}
 use Rattle.bench_script.specs.declared.script.words.CommandName.{CommandName}
 use Rattle.bench_script.specs.declared.script.words.CommandName.TheVariants as names
 use Rattle.bench_script.specs.Words.{name_text}
-use Rattle.bench_script.specs.Script.{words_of, is_skipped, SpellsHex, SpellsIdent, SpellsIdV, SpellsId, SpellsWithin, SpellsSize, SpellsCode, SpellsBlock, fate_letter, SpellsFates, SpellsMsg, SpellsName, SpelledBy, Spells, least_blocks, most_blocks, least_blocks_v, most_blocks_v, least_lr, most_lr, least_miu, most_miu, least_rw, most_rw, least_limit, most_limit, least_busy, most_busy, least_times, most_times, least_acceptable, most_acceptable}
+use Rattle.bench_script.specs.Script.{words_of, is_skipped, SpellsHex, SpellsIdent, SpellsIdV, SpellsId, SpellsWithin, SpellsSize, SpellsCode, SpellsBlock, fate_letter, SpellsFates, SpellsMsg, SpelledBy, Spells, least_blocks, most_blocks, least_blocks_v, most_blocks_v, least_lr, most_lr, least_miu, most_miu, least_rw, most_rw, least_limit, most_limit, least_busy, most_busy, least_times, most_times, least_acceptable, most_acceptable}
 use Rattle.nfca_poll.specs.Ident.{IsIdent}
 use Rattle.t5t_tag.specs.Store.{IsBlockSize}
 use Rattle.std.proofs.lemmas.Bool.{ne_eqb}

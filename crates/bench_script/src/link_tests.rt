@@ -2,8 +2,7 @@
 
 use crate::command::Command;
 use crate::message::Msg;
-use crate::peer_tests::fault_of;
-use crate::script::parse_line;
+use crate::peer_tests::{fault_of, spells};
 use nfc_base::Items;
 use nfca_poll::Ident;
 use std::test::Fail;
@@ -63,50 +62,52 @@ fn lines_of_links(rt: HostRuntime) {
 #[test]
 fn values_of_links(rt: HostRuntime) -> Result<(), Fail> {
     let alloc = rt.alloc();
-    let rows = [
-        (
+    let link = Command::Link {
+        id: Ident::new(&[8, 1, 2, 0xFF])?,
+        miu: 2175,
+        rw: 15,
+    };
+    assert!(rt;
+        spells(
+            alloc,
             "link 080102fF 2175 15",
-            Command::Link {
-                id: Ident::new(&[8, 1, 2, 0xFF])?,
-                miu: 2175,
-                rw: 15,
-            },
-            "link 080102FF 2175 15",
-        ),
-        (
+            link,
+            "link 080102FF 2175 15"
+        )?
+    );
+    let message = Msg::Gen {
+        count: 3,
+        start: 255,
+    };
+    assert!(rt;
+        spells(
+            alloc,
             "put gen:3:255",
-            Command::Put {
-                message: Msg::Gen {
-                    count: 3,
-                    start: 255,
-                },
-            },
-            "put gen:3:255",
-        ),
-        (
-            "get 65536 6b31",
-            Command::Get {
-                acceptable: 65536,
-                key: Items::from_bytes(alloc, &[0x6B, 0x31])?,
-            },
-            "get 65536 6B31",
-        ),
-        (
+            Command::Put { message },
+            "put gen:3:255"
+        )?
+    );
+    assert!(rt; spells(alloc, "unlink", Command::Unlink, "unlink")?);
+    Ok(())
+}
+
+#[test]
+fn values_on_links(rt: HostRuntime) -> Result<(), Fail> {
+    let alloc = rt.alloc();
+    let get = Command::Get {
+        acceptable: 65536,
+        key: Items::from_bytes(alloc, &[0x6B, 0x31])?,
+    };
+    assert!(rt; spells(alloc, "get 65536 6b31", get, "get 65536 6B31")?);
+    let name = Items::from_bytes(alloc, b"urn:nfc:sn:snep")?;
+    let lookup = Command::Lookup { name };
+    assert!(rt;
+        spells(
+            alloc,
             "lookup urn:nfc:sn:snep",
-            Command::Lookup {
-                name: Items::from_bytes(alloc, b"urn:nfc:sn:snep")?,
-            },
-            "lookup urn:nfc:sn:snep",
-        ),
-        ("unlink", Command::Unlink, "unlink"),
-    ];
-    for (line, wanted, text) in rows {
-        let command = parse_line(alloc, line.as_bytes())?;
-        assert!(rt; command == wanted, "{line}");
-        assert!(rt; command.copy(alloc)? == wanted, "{line}");
-        let mut written = Vec::new(alloc);
-        command.write_to(&mut written)?;
-        assert_eq!(rt; written.as_slice(), text.as_bytes(), "{line}");
-    }
+            lookup,
+            "lookup urn:nfc:sn:snep"
+        )?
+    );
     Ok(())
 }

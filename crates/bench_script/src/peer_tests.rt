@@ -15,6 +15,15 @@ pub fn fault_of(alloc: Global, line: &str) -> u8 {
     }
 }
 
+/// Whether a line spells this command, a copy of which is the same, and which is written as this text.
+pub fn spells(alloc: Global, line: &str, wanted: Command, text: &str) -> Result<bool, Fail> {
+    let command = parse_line(alloc, line.as_bytes())?;
+    let copy = command.copy(alloc)?;
+    let mut written = Vec::new(alloc);
+    copy.write_to(&mut written)?;
+    Ok(command == wanted && copy == wanted && written.as_slice() == text.as_bytes())
+}
+
 #[test]
 fn lines_of_peers(rt: HostRuntime) {
     let rows = [
@@ -52,43 +61,36 @@ fn lines_of_peers(rt: HostRuntime) {
 #[test]
 fn values_of_peers(rt: HostRuntime) -> Result<(), Fail> {
     let alloc = rt.alloc();
-    let ident = Ident::new(&[8, 1, 2, 0xFF])?;
-    let rows = [
-        (
-            "place peer 080102fF 3 2175 15 65536",
-            Command::PlacePeer {
-                id: ident.copy(),
-                lr: 3,
-                miu: 2175,
-                rw: 15,
-                limit: 65536,
-            },
-            "place peer 080102FF 3 2175 15 65536",
-        ),
-        (
+    let peer = Command::PlacePeer {
+        id: Ident::new(&[8, 1, 2, 0xFF])?,
+        lr: 3,
+        miu: 2175,
+        rw: 15,
+        limit: 65536,
+    };
+    let line = "place peer 080102fF 3 2175 15 65536";
+    assert!(rt; spells(alloc, line, peer, "place peer 080102FF 3 2175 15 65536")?);
+    let offer = Command::Offer {
+        id: DeviceId::A(Ident::new(&[8, 1, 2, 0xFF])?),
+        key: Items::from_bytes(alloc, &[0x6B, 0x31])?,
+        value: Items::new(Vec::new(alloc)),
+    };
+    assert!(rt;
+        spells(
+            alloc,
             "offer 080102fF 6b31 -",
-            Command::Offer {
-                id: DeviceId::A(ident.copy()),
-                key: Items::new(Vec::from_slice(alloc, &[0x6B, 0x31])?),
-                value: Items::new(Vec::new(alloc)),
-            },
-            "offer 080102FF 6B31 -",
-        ),
-        (
+            offer,
+            "offer 080102FF 6B31 -"
+        )?
+    );
+    let id = DeviceId::A(Ident::new(&[8, 1, 2, 0xFF])?);
+    assert!(rt;
+        spells(
+            alloc,
             "inbox 080102fF",
-            Command::Inbox {
-                id: DeviceId::A(ident),
-            },
-            "inbox 080102FF",
-        ),
-    ];
-    for (line, wanted, text) in rows {
-        let command = parse_line(alloc, line.as_bytes())?;
-        assert!(rt; command == wanted, "{line}");
-        assert!(rt; command.copy(alloc)? == wanted, "{line}");
-        let mut written = Vec::new(alloc);
-        command.write_to(&mut written)?;
-        assert_eq!(rt; written.as_slice(), text.as_bytes(), "{line}");
-    }
+            Command::Inbox { id },
+            "inbox 080102FF"
+        )?
+    );
     Ok(())
 }

@@ -426,6 +426,7 @@ mod tests {
     use super::*;
     use crate::command::DeviceId;
     use crate::message::Msg;
+    use crate::peer_tests::spells;
     use nfc_base::{Fate, Items};
     use nfca_poll::Ident;
     use std::test::Fail;
@@ -603,77 +604,78 @@ mod tests {
         let alloc = rt.alloc();
         let letters = [Fate::Pass, Fate::Damage, Fate::Lose, Fate::Break];
         let fates = Items::new(Vec::from_slice(alloc, letters.as_slice())?);
-        let ident = Ident::new(&[4, 17, 34, 51, 68, 85, 102])?;
-        let tag = [0xE0, 4, 1, 2, 3, 4, 5, 0xFF];
-        let rows = [
-            ("fates PDLB", Command::Fates(fates)),
-            (
-                "place t4 04112233445566 8 0aFF -",
-                Command::PlaceT4 {
-                    id: ident.copy(),
-                    code: 8,
-                    container: Items::new(Vec::from_slice(alloc, &[10, 255])?),
-                    head: Items::new(Vec::new(alloc)),
-                },
-            ),
-            (
-                "lock 04112233445566 12",
-                Command::Lock {
-                    id: DeviceId::A(ident.copy()),
-                    block: 12,
-                },
-            ),
-            (
-                "busy 04112233445566 5 12",
-                Command::Busy {
-                    id: DeviceId::A(ident.copy()),
-                    count: 5,
-                    times: 12,
-                },
-            ),
-            (
-                "dump E0040102030405fF",
-                Command::Dump {
-                    id: DeviceId::V(tag),
-                },
-            ),
-            (
-                "write 04112233445566 d000",
-                Command::Write {
-                    id: DeviceId::A(ident.copy()),
-                    message: Msg::Hex(Items::new(Vec::from_slice(alloc, &[208, 0])?)),
-                },
-            ),
-            (
-                "write E0040102030405fF gen:1013:255",
-                Command::Write {
-                    id: DeviceId::V(tag),
-                    message: Msg::Gen {
-                        count: 1013,
-                        start: 255,
-                    },
-                },
-            ),
-            (
-                "remove 04112233445566",
-                Command::Remove {
-                    id: DeviceId::A(ident),
-                },
-            ),
-            (
-                "remove E0040102030405fF",
-                Command::Remove {
-                    id: DeviceId::V(tag),
-                },
-            ),
-            ("find", Command::Find),
-            ("#find", Command::Skip),
-        ];
-        for (line, wanted) in rows {
-            let command = parse_line(alloc, line.as_bytes())?;
-            assert!(rt; command == wanted, "{line}");
-            assert!(rt; command.copy(alloc)? == wanted, "{line}");
-        }
+        assert!(rt; spells(alloc, "fates PDLB", Command::Fates(fates), "fates PDLB")?);
+        let tag = Command::PlaceT4 {
+            id: ident()?,
+            code: 8,
+            container: Items::from_bytes(alloc, &[10, 255])?,
+            head: Items::new(Vec::new(alloc)),
+        };
+        let line = "place t4 04112233445566 8 0aFF -";
+        assert!(rt; spells(alloc, line, tag, "place t4 04112233445566 8 0AFF -")?);
+        assert!(rt; spells(alloc, "find", Command::Find, "find")?);
+        assert!(rt; spells(alloc, "#find", Command::Skip, "")?);
+        Ok(())
+    }
+
+    /// The identifier of a tag.
+    fn ident() -> Result<Ident, Fail> {
+        Ok(Ident::new(&[4, 17, 34, 51, 68, 85, 102])?)
+    }
+
+    /// The identifier of a Type 5 tag.
+    const TAG: DeviceId = DeviceId::V([0xE0, 4, 1, 2, 3, 4, 5, 0xFF]);
+
+    #[test]
+    fn values_of_devices(rt: HostRuntime) -> Result<(), Fail> {
+        let alloc = rt.alloc();
+        let id = DeviceId::A(ident()?);
+        let lock = Command::Lock { id, block: 12 };
+        let line = "lock 04112233445566 12";
+        assert!(rt; spells(alloc, line, lock, line)?);
+        let id = DeviceId::A(ident()?);
+        let busy = Command::Busy {
+            id,
+            count: 5,
+            times: 12,
+        };
+        let line = "busy 04112233445566 5 12";
+        assert!(rt; spells(alloc, line, busy, line)?);
+        let line = "dump E0040102030405fF";
+        assert!(rt;
+            spells(
+                alloc,
+                line,
+                Command::Dump { id: TAG },
+                "dump E0040102030405FF"
+            )?
+        );
+        let id = DeviceId::A(ident()?);
+        let line = "remove 04112233445566";
+        assert!(rt; spells(alloc, line, Command::Remove { id }, line)?);
+        let line = "remove E0040102030405FF";
+        assert!(rt; spells(alloc, line, Command::Remove { id: TAG }, line)?);
+        Ok(())
+    }
+
+    #[test]
+    fn values_with_a_message(rt: HostRuntime) -> Result<(), Fail> {
+        let alloc = rt.alloc();
+        let hex = Command::Write {
+            id: DeviceId::A(ident()?),
+            message: Msg::Hex(Items::from_bytes(alloc, &[208, 0])?),
+        };
+        let line = "write 04112233445566 d000";
+        assert!(rt; spells(alloc, line, hex, "write 04112233445566 D000")?);
+        let counted = Command::Write {
+            id: TAG,
+            message: Msg::Gen {
+                count: 1013,
+                start: 255,
+            },
+        };
+        let line = "write E0040102030405FF gen:1013:255";
+        assert!(rt; spells(alloc, line, counted, line)?);
         Ok(())
     }
 
