@@ -64,10 +64,10 @@ module _ (air : Air Device) (ends : FarEnds) (peers : Peers) (l : OpenLink) (set
       value_got v made got =
           made_obeyed air ends peers l settled (Get most key) (Gets most key) get_call b j after (alone (Over (Value v))) client (answers.Value v) made refl (λ loss e. cc)
           (λ joins events facts. record {
-          told = facts.told;
-          tells = of_end air ends peers l settled (λ e. GetTells most key e (answers.Value v)) (got.within, got.found, got.few);
-          stays = facts.stays got.accepted;
-        }) got.answered.accords
+            told = facts.told;
+            tells = of_end air ends peers l settled (λ e. GetTells most key e (answers.Value v)) (got.within, got.found, got.few);
+            stays = facts.stays got.accepted;
+          }) got.answered.accords
 
       -- why it was refused
       refused : (why : Refusal) → GetFails most key far (refused_by why) client after
@@ -89,20 +89,20 @@ module _ (air : Air Device) (ends : FarEnds) (peers : Peers) (l : OpenLink) (set
           let r = refused why fails in
           made_obeyed air ends peers l settled (Get most key) (Gets most key) get_call b j after (alone (Over (Refused why))) client (told_ending (Refused why)) made refl (never_loss why)
           (λ joins events facts. record {
-          told = facts.told;
-          tells = of_end air ends peers l settled (λ e. GetTells most key e (told_ending (Refused why))) r.0;
-          stays = facts.stays r.1;
-        }) r.2
+            told = facts.told;
+            tells = of_end air ends peers l settled (λ e. GetTells most key e (told_ending (Refused why))) r.0;
+            stays = facts.stays r.1;
+          }) r.2
 
       pub get_lost : (why : EndCause) (answer : Answer) → IsEndedBy ghosts device_end (begins l.client (Gets most key)) air l.initiator far b j after why → told_loss why ≡ Some answer
           → after.service.accepted ≡ far.service.accepted → Obeyed Old gone (Get most key) answer
       get_lost why answer ended told same =
           lost_obeyed air ends peers l settled (Get most key) (Gets most key) get_call b j after why answer ended told
           (λ joins events facts. record {
-          told = facts.told;
-          tells = of_end air ends peers l settled (λ e. GetTells most key e answer) (by_loss why told);
-          stays = facts.stays same;
-        })
+            told = facts.told;
+            tells = of_end air ends peers l settled (λ e. GetTells most key e answer) (by_loss why told);
+            stays = facts.stays same;
+          })
         where
           by_loss : (w : EndCause) → told_loss w ≡ Some answer → GetTells most key far answer
           by_loss cause.FieldLost e = let is : answers.LinkEnded losses.FieldLost ≡ answer = cc in subst (GetTells most key far) is tt
@@ -143,20 +143,20 @@ module _ (air : Air Device) (ends : FarEnds) (peers : Peers) (l : OpenLink) (set
       name_found sap made found =
           made_obeyed air ends peers l settled (Lookup name) (Finds name) lookup_call b j after (alone (Over (Sap sap))) client (answers.Sap sap) made refl (λ loss e. cc)
           (λ joins events facts. record {
-          told = facts.told;
-          tells = of_end air ends peers l settled (λ e. LookupTells name e (answers.Sap sap)) found.told;
-          stays = facts.stays (ap (λ (s : ServerState). s.accepted) found.aside.service);
-        }) found.aside.accords
+            told = facts.told;
+            tells = of_end air ends peers l settled (λ e. LookupTells name e (answers.Sap sap)) found.told;
+            stays = facts.stays (ap (λ (s : ServerState). s.accepted) found.aside.service);
+          }) found.aside.accords
 
       pub lookup_lost : (why : EndCause) (answer : Answer) → IsEndedBy ghosts device_end (begins l.client (Finds name)) air l.initiator its b j after why → told_loss why ≡ Some answer
           → after.service.accepted ≡ its.service.accepted → Obeyed Was lookup_gone (Lookup name) answer
       lookup_lost why answer ended told same =
           lost_obeyed air ends peers l settled (Lookup name) (Finds name) lookup_call b j after why answer ended told
           (λ joins events facts. record {
-          told = facts.told;
-          tells = of_end air ends peers l settled (λ e. LookupTells name e answer) (by_loss why told);
-          stays = facts.stays same;
-        })
+            told = facts.told;
+            tells = of_end air ends peers l settled (λ e. LookupTells name e answer) (by_loss why told);
+            stays = facts.stays same;
+          })
         where
           by_loss : (w : EndCause) → told_loss w ≡ Some answer → LookupTells name its answer
           by_loss cause.FieldLost e = let is : answers.LinkEnded losses.FieldLost ≡ answer = cc in subst (LookupTells name its) is tt

@@ -250,7 +250,6 @@ module _ (id : DeviceId) (s t : State) (g : Given) (e : Entry) (d : Device) (ste
       let after : t ≡ state_after s g.joins (Write i m) e.events (Some e.answer) = step.front.after ∙ ap (λ k. state_after s g.joins k e.events (Some e.answer)) is in
       subst (λ (x : State). IsAlike (bytes_of id) d x.world.field.listeners) (sym after)
       (beside_found (bytes_of id) (bytes_of i) alone s.world.field.listeners (world_after s g.joins (Write i m) e.events).field.listeners d law.stores.others found)
-
   by_command (Link i miu window) is alone = let law : LinkingLaw s g.joins i miu window e.events e.answer = law_of (Link i miu window) is in asking_step (Link i miu window) is refl (ap (λ (z : Stable). z.devices) law.stays)
   by_command (Put m) is alone =
       linked_step (Put m) is refl s.link refl (λ at ns. ap (λ o. due_if o (λ l. due_on l g.joins.own (Puts (message_of m)) ns)) at) (if_linked _ _ _ s.link (λ l (law : PutLaw s g.joins l m e.events e.answer). law.devices) (law_of (Put m) is))

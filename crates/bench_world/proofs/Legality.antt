@@ -200,11 +200,11 @@ asks_so what os old new c asked ns answer idle places keeps accepted still g ove
       tame = left_tame what (moment old).world g.events (moment new).world left idle.tame;
       tidy = going_tidy (due st (asks_for asked) c) (moment old) (moment new) ns g idle.tidy;
       places = record {
-          ends = places.ends ∙ as_many;
-          numbers = places.numbers ∙ as_many;
-          served = served_as old.listeners new.listeners os.peers.numbers os.ends kinds places.served;
-          apart = places.apart;
-        };
+        ends = places.ends ∙ as_many;
+        numbers = places.numbers ∙ as_many;
+        served = served_as old.listeners new.listeners os.peers.numbers os.ends kinds places.served;
+        apart = places.apart;
+      };
       link = keeps;
     }
 
@@ -370,8 +370,7 @@ module _ (old mid : Air Device) (id : DeviceId) (place : ℕ) (idle : IsIdle old
       let os : Upon = record { ends = ends; peers = peers; link = None } in
       let g : Going air (tag_due id r.commands) (moment old) (moment new) (s.selects.asked.notes ++ r.asked.notes) =
       both id (seen_of s.device) r.commands (moment old) (moment mid) (moment new) s.selects.asked.notes r.asked.notes s.selects.told s.selects.asked.going r.asked.going in
-      let asked = placed_asked r.commands (as_tag s.device tag _ _ r.asks) in
-      (
+      let asked = placed_asked r.commands (as_tag s.device tag _ _ r.asks) in (
         asks_for r.commands,
         front_of None (Read id) (λ h. h) os old new r.commands (s.selects.asked.notes ++ r.asked.notes) idle tt refl g asked,
         part_stays os.ends old new g.events idle g.moment (r.asked.same ∙ s.selects.asked.same)
@@ -483,8 +482,7 @@ untouched old new c settled same = inl (ap (λ (m : Machines). m.air.trace) same
 -- ... or so much was asked, in a search, in selecting a tag, and in reading it.
 pub search_cut : (old new : Air Device) → IsIdle old → AskedPart NoStore (λ ns. asks (finding_all ns)) (moment old) (moment new) → CutOffUnlinked old new Find
 search_cut old new idle part = λ ends peers.
-    let os : Upon = record { ends = ends; peers = peers; link = None } in
-    (
+    let os : Upon = record { ends = ends; peers = peers; link = None } in (
       asks_for [],
       front_of None Find (λ h. h) os old new [] part.notes idle tt refl part.going refl,
       part_stays os.ends old new part.going.events idle part.going.moment part.same (none_in Find (λ h. h) os old new [] part.notes part.going refl),
@@ -494,8 +492,7 @@ pub selection_cut : (old new : Air Device) (id : DeviceId) → IsIdle old → Se
 selection_cut old new id idle part = λ ends peers.
     let os : Upon = record { ends = ends; peers = peers; link = None } in
     let some = asked_by old id idle in
-    let g : Going air (tag_due id some.0) (moment old) (moment new) part.notes = polled_of id some.0 (moment old) (moment new) part.notes part.going in
-    (
+    let g : Going air (tag_due id some.0) (moment old) (moment new) part.notes = polled_of id some.0 (moment old) (moment new) part.notes part.going in (
       asks_for some.0,
       front_of None (Read id) (λ h. h) os old new some.0 part.notes idle tt refl g some.1,
       part_stays os.ends old new part.going.events idle part.going.moment part.same (none_in (Read id) (λ h. h) os old new some.0 part.notes g some.1),

@@ -185,16 +185,16 @@ busy_talks count times few long (Peer d) = record {
   linked = refl;
   peer = λ s l p. busy_peer d.id d.front (made_busy d.upper.target count times) d.upper.linked s l;
   step = λ i t. record {
-      heeds = t.heeds;
-      number = t.number;
-      expects = t.expects;
-      no_chain = t.no_chain;
-      no_left = t.no_left;
-      asks = t.asks;
-      answers = t.answers;
-      busy = few;
-      times = long;
-    };
+    heeds = t.heeds;
+    number = t.number;
+    expects = t.expects;
+    no_chain = t.no_chain;
+    no_left = t.no_left;
+    asks = t.asks;
+    answers = t.answers;
+    busy = few;
+    times = long;
+  };
   cut = λ n c. c;
 }
 busy_talks count times few long (T5 p) = record { aside = λ own a. a; id = refl; selected = refl; linked = refl; peer = λ s l p. p; step = λ i t. t; cut = λ n c. c }
@@ -304,12 +304,12 @@ pub open_offered : (a : Air Device) (ends : List (Option FarEnd)) (peers : Peers
 open_offered a ends peers l key value j o = elim (offered_there key value ends j o.place o.end o.above) [
   | inl same ↦ record { place = o.place; number = o.number; step = o.step; going = o.going; end = o.end; above = same; accords = o.accords }
   | inr now ↦ record {
-      place = o.place;
-      number = o.number;
-      step = o.step;
-      going = o.going;
-      end = end_offered key value o.end;
-      above = now;
-      accords = offers_accord l.client o.end (offered o.end.service.table key value) o.accords;
-    }
+    place = o.place;
+    number = o.number;
+    step = o.step;
+    going = o.going;
+    end = end_offered key value o.end;
+    above = now;
+    accords = offers_accord l.client o.end (offered o.end.service.table key value) o.accords;
+  }
 ]

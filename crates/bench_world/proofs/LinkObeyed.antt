@@ -184,7 +184,7 @@ more_breaks : (first rest : List Event) → 0 < breaks rest → 0 < breaks (firs
 more_breaks first rest some = omega (arith, some, breaks-append first rest)
 
 rest_breaks : (first rest : List Event) → (0 < breaks first → ⊥) → 0 < breaks (first ++ rest) → 0 < breaks rest
-rest_breaks first rest none all = elim (cases_lt 0 (breaks first)) [ | inl some ↦ absurd (none some) | inr still ↦ omega (arith, all, still, breaks-append first rest) ]
+rest_breaks first rest none all = elim (cases_lt 0 (breaks first)) [ inl some ↦ absurd (none some) | inr still ↦ omega (arith, all, still, breaks-append first rest) ]
 
 more_noise : (first rest : List Event) → 0 < noise rest → 0 < noise (first ++ rest)
 more_noise first rest some = omega (arith, some, noise_append first rest)
@@ -235,7 +235,7 @@ module _ (ends : Ends) (peers : Peers) (old : Air Device) (id : List ℕ) (miu r
           cause = s.cause;
           ends = is;
           lost = (
-            λ lost. elim lost [ | inl dark ↦ s.lost.0 (told_lost e answer is dark) | inr ended ↦ absurd (poll_not_ended e answer is losses.FieldLost ended) ],
+            λ lost. elim lost [ inl dark ↦ s.lost.0 (told_lost e answer is dark) | inr ended ↦ absurd (poll_not_ended e answer is losses.FieldLost ended) ],
             λ broken. inl (poll_lost e answer is (s.lost.1 broken)),
           );
           noisy = λ six. absurd (poll_not_ended e answer is losses.SixBad six);
@@ -248,8 +248,7 @@ module _ (ends : Ends) (peers : Peers) (old : Air Device) (id : List ℕ) (miu r
   pub selection_cut_link : (new : Air Device) → SelectionCut (A id) (moment old) (moment new) → CutFront st (Link id miu rw) new.trace (state_at (under ends peers None new))
   selection_cut_link new part =
       let g : Going air (linking (A id) (own_general miu)) (moment old) (moment new) part.notes = linking_of id (own_general miu) (moment old) (moment new) part.notes part.going in
-      let none : NoneHands devices (moment old).world g.events = none_selecting (A id) g.events part.going.each part.going.fresh (moment old).world in
-      (
+      let none : NoneHands devices (moment old).world g.events = none_selecting (A id) g.events part.going.each part.going.fresh (moment old).world in (
         asks_for [],
         front_so None os old new (Link id miu rw) [] part.notes idle may refl g refl none refl,
         part_stays ends old new g.events idle g.moment part.same none,
@@ -290,7 +289,7 @@ module _ (ends : Ends) (peers : Peers) (old : Air Device) (id : List ℕ) (miu r
             cause = tt;
             ends = tag_ends s.device tag (own_general miu);
             lost = (
-              λ lost. absurd (elim lost [ | inl dark ↦ (let clash : answers.WrongKind ≡ answers.FieldLost = dark in cc) | inr ended ↦ (let clash : answers.WrongKind ≡ answers.LinkEnded losses.FieldLost = ended in cc) ]),
+              λ lost. absurd (elim lost [ inl dark ↦ (let clash : answers.WrongKind ≡ answers.FieldLost = dark in cc) | inr ended ↦ (let clash : answers.WrongKind ≡ answers.LinkEnded losses.FieldLost = ended in cc) ]),
               λ broken. absurd (no_break broken),
             );
             noisy = λ six. absurd (let clash : answers.WrongKind ≡ answers.LinkEnded losses.SixBad = six in cc);
@@ -449,7 +448,7 @@ module _ (ends : Ends) (peers : Peers) (old : Air Device) (id : List ℕ) (miu r
           subst P (sym same_loss)
           (obeyed_at (answers.LinkEnded losses.SixBad) peers None refl refl refl refl
           (tells_by (answers.LinkEnded losses.SixBad)
-          (λ l. absurd (elim l [ | inl dark ↦ (let clash : answers.LinkEnded losses.SixBad ≡ answers.FieldLost = dark in cc) | inr ended ↦ (let clash : answers.LinkEnded losses.SixBad ≡ answers.LinkEnded losses.FieldLost = ended in cc) ]))
+          (λ l. absurd (elim l [ inl dark ↦ (let clash : answers.LinkEnded losses.SixBad ≡ answers.FieldLost = dark in cc) | inr ended ↦ (let clash : answers.LinkEnded losses.SixBad ≡ answers.LinkEnded losses.FieldLost = ended in cc) ]))
           (λ r. absurd (let clash : ◌≡◌ {A = Result (InitState × ArrayVec ℕ) EndCause} (Err causes.SixBad) (Err causes.FieldLost) = sym is ∙ r in cc)) (λ six. is) e.0) e.1 tt)
       ended_link causes.Protocol loss is answer = absurd cc
       ended_link causes.Memory loss is answer = absurd cc
@@ -540,6 +539,6 @@ module _ (ends : Ends) (peers : Peers) (old : Air Device) (id : List ℕ) (miu r
             } in
             obeyed_at (answers.Linked count) (with_link range peers) (Some link_now) peers_so link_so refl refl
             (tells_by (answers.Linked count)
-            (λ l. absurd (elim l [ | inl dark ↦ (let clash : answers.Linked count ≡ answers.FieldLost = dark in cc) | inr ended ↦ (let clash : answers.Linked count ≡ answers.LinkEnded losses.FieldLost = ended in cc) ]))
+            (λ l. absurd (elim l [ inl dark ↦ (let clash : answers.Linked count ≡ answers.FieldLost = dark in cc) | inr ended ↦ (let clash : answers.Linked count ≡ answers.LinkEnded losses.FieldLost = ended in cc) ]))
             (λ r. absurd (let clash : ◌≡◌ {A = Result (InitState × ArrayVec ℕ) EndCause} (Ok p) (Err causes.FieldLost) = sym is ∙ r in cc))
             (λ six. absurd (let clash : answers.Linked count ≡ answers.LinkEnded losses.SixBad = six in cc)) e.0) e.1 stands_open

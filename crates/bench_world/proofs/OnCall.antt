@@ -268,9 +268,9 @@ module _ (air : Air Device) (ends : FarEnds) (peers : Peers) (l : OpenLink) (set
       told_so answer told lost noisy = record {
         tells = ap told_call stand_is ∙ told;
         lost = (
-            λ e. call_broken bench_air numbers step l.initiator _ _ t.notes (going air ends peers l settled next plain b after t.notes t.going) (t.stands ∙ lost.1 e),
-            λ some. lost.0 (sym t.stands ∙ call_lost bench_air numbers step l.initiator _ _ t.notes (going air ends peers l settled next plain b after t.notes t.going) some),
-          );
+          λ e. call_broken bench_air numbers step l.initiator _ _ t.notes (going air ends peers l settled next plain b after t.notes t.going) (t.stands ∙ lost.1 e),
+          λ some. lost.0 (sym t.stands ∙ call_lost bench_air numbers step l.initiator _ _ t.notes (going air ends peers l settled next plain b after t.notes t.going) some),
+        );
         noisy = noisy;
       }
 

@@ -84,16 +84,16 @@ module _ (air : Air Device) (ends : FarEnds) (peers : Peers) (l : OpenLink) (set
         (with_last_ended (accepted_by (get_or (slice_set ends spot (Some after)) spot None)) peers)
         (ap closing_due_at t.stands ∙ over) refl (gone_peers (Some answer))
         (record {
-        told = record {
-          tells = ap told_closing stand_is ∙ told;
-          lost = (
+          told = record {
+            tells = ap told_closing stand_is ∙ told;
+            lost = (
               λ e. closing_broken bench_air numbers from l.initiator _ _ t.notes (going air ends peers l settled next plain b after t.notes t.going) (t.stands ∙ lost.1 e),
               λ some. lost.0 (sym t.stands ∙ closing_lost bench_air numbers from l.initiator _ _ t.notes (going air ends peers l settled next plain b after t.notes t.going) some),
             );
-          noisy = noisy;
-        };
-        stays = stays_then air ends peers l settled next plain Unlink numbers b after t.notes t.going refl tt refl same set accepted;
-      }) set refl refl tt
+            noisy = noisy;
+          };
+          stays = stays_then air ends peers l settled next plain Unlink numbers b after t.notes t.going refl tt refl same set accepted;
+        }) set refl refl tt
 
     pub closing_cut : setting_of after ≡ setting_of far → after.service.accepted ≡ far.service.accepted → CutFront (from_state air ends peers l settled) Unlink b.trace (state_at gone)
     closing_cut set accepted =

@@ -132,13 +132,13 @@ module _ (s : State) (c : Command) (g h : Given) (es fs : List Event) (a b : Ans
       one_course bench_air (due s g c) (begun s g.joins c) (changed s c).queue es fs p.turns r.turns p.fates r.fates p.each r.each done at_end
 
   pub same_events : es ≡ fs
-  same_events = elim (takes_or_not c) [ | inl takes ↦ far_events takes | inr quiet ↦ quiet_events quiet ]
+  same_events = elim (takes_or_not c) [ inl takes ↦ far_events takes | inr quiet ↦ quiet_events quiet ]
 
   pub same_answers : AnswerLaw s g c es a → AnswerLaw s h c fs b → a ≡ b
   same_answers x y = one_answer s c g.asked g.joins h.joins es a b agree x (subst (λ asked. AnswerLaw s (record { asked = asked; joins = h.joins }) c es b) same_asked (subst (λ k. AnswerLaw s h c k b) (sym same_events) y))
 
   same_after : state_after s h.joins c es (Some a) ≡ state_after s g.joins c es (Some a)
-  same_after = elim (takes_or_not c) [ | inl takes ↦ ap (λ j. state_after s j c es (Some a)) (agree takes) | inr quiet ↦ any_numbers s t g c es quiet p h.joins g.joins ]
+  same_after = elim (takes_or_not c) [ inl takes ↦ ap (λ j. state_after s j c es (Some a)) (agree takes) | inr quiet ↦ any_numbers s t g c es quiet p h.joins g.joins ]
 
   -- it leads to the same state
   pub same_state : a ≡ b → u ≡ t

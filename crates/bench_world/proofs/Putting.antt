@@ -62,24 +62,24 @@ module _ (air : Air Device) (ends : FarEnds) (peers : Peers) (l : OpenLink) (set
     put_taken made taken =
         made_obeyed air ends peers l settled (Put m) (Puts (message_of m)) put_call b j after (alone (Over Done)) client answers.Success made refl (λ loss e. cc)
         (λ joins events facts. record {
-        told = facts.told;
-        more = from_client (message_of m) ∷ [];
-        adds = of_end air ends peers l settled (λ e. PutAdds (message_of m) e answers.Success (from_client (message_of m) ∷ [])) (taken.within, refl);
-        devices = facts.devices;
-        ends = facts.adds (from_client (message_of m) ∷ []) taken.accepted;
-      }) taken.answered.accords
+          told = facts.told;
+          more = from_client (message_of m) ∷ [];
+          adds = of_end air ends peers l settled (λ e. PutAdds (message_of m) e answers.Success (from_client (message_of m) ∷ [])) (taken.within, refl);
+          devices = facts.devices;
+          ends = facts.adds (from_client (message_of m) ∷ []) taken.accepted;
+        }) taken.answered.accords
 
     pub put_rejected : IsMade ghosts device_end (begins l.client (Puts (message_of m))) air l.initiator far b j after (Ends (alone (Over (Refused refusals.Reject))) client) → IsRejected (message_of m) far client after
         → Obeyed Old opens (Put m) answers.Reject
     put_rejected made rejected =
         made_obeyed air ends peers l settled (Put m) (Puts (message_of m)) put_call b j after (alone (Over (Refused refusals.Reject))) client answers.Reject made refl (λ loss e. cc)
         (λ joins events facts. record {
-        told = facts.told;
-        more = [];
-        adds = of_end air ends peers l settled (λ e. PutAdds (message_of m) e answers.Reject []) (rejected.beyond, refl);
-        devices = facts.devices;
-        ends = facts.adds [] (rejected.accepted ∙ sym (append-nil far.service.accepted));
-      }) rejected.answered.accords
+          told = facts.told;
+          more = [];
+          adds = of_end air ends peers l settled (λ e. PutAdds (message_of m) e answers.Reject []) (rejected.beyond, refl);
+          devices = facts.devices;
+          ends = facts.adds [] (rejected.accepted ∙ sym (append-nil far.service.accepted));
+        }) rejected.answered.accords
 
     -- the message, or nothing
     Added : Type 0
@@ -97,12 +97,12 @@ module _ (air : Air Device) (ends : FarEnds) (peers : Peers) (l : OpenLink) (set
         let a = added adds in
         lost_obeyed air ends peers l settled (Put m) (Puts (message_of m)) put_call b j after why answer ended told
         (λ joins events facts. record {
-        told = facts.told;
-        more = a.0;
-        adds = of_end air ends peers l settled (λ e. PutAdds (message_of m) e answer a.0) (by_loss why told a.0 a.2);
-        devices = facts.devices;
-        ends = facts.adds a.0 a.1;
-      })
+          told = facts.told;
+          more = a.0;
+          adds = of_end air ends peers l settled (λ e. PutAdds (message_of m) e answer a.0) (by_loss why told a.0 a.2);
+          devices = facts.devices;
+          ends = facts.adds a.0 a.1;
+        })
       where
         by_loss : (w : EndCause) → told_loss w ≡ Some answer → (more : List Received) → PutAddsAtMost (message_of m) far more → PutAdds (message_of m) far answer more
         by_loss cause.FieldLost e more p = let same : answers.LinkEnded losses.FieldLost ≡ answer = cc in subst (λ x. PutAdds (message_of m) far x more) same p
@@ -116,8 +116,8 @@ module _ (air : Air Device) (ends : FarEnds) (peers : Peers) (l : OpenLink) (set
         let a = added adds in
         inr (short_cut air ends peers l settled (Put m) (Puts (message_of m)) put_call b j after cut
         (λ joins events devices adds_so stays. record {
-        more = a.0;
-        adds = of_end air ends peers l settled (λ e. PutAddsAtMost (message_of m) e a.0) a.2;
-        devices = devices;
-        ends = adds_so a.0 a.1;
-      }))
+          more = a.0;
+          adds = of_end air ends peers l settled (λ e. PutAddsAtMost (message_of m) e a.0) a.2;
+          devices = devices;
+          ends = adds_so a.0 a.1;
+        }))

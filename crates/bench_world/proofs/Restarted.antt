@@ -79,17 +79,17 @@ set_served [] ps os n e f is keeps s = tt
 set_served (d ∷ ds) ps [] n e f is keeps s = absurd cc
 set_served (d ∷ ds) ps (o ∷ os) zero e f is keeps s = (
   λ peer.
-  let one : IsServed (first_far ps) o = s.0 peer in
-  let same : one.end ≡ e = (let both : Some one.end ≡ Some e = sym one.stands ∙ is in cc) in
-  record {
-    peer = one.peer;
-    numbered = one.numbered;
-    end = f;
-    stands = refl;
-    miu = subst IsMiu (ap (λ (l : FarEnd). l.miu) same ∙ sym keeps.miu) one.miu;
-    window = subst IsWindow (ap (λ (l : FarEnd). l.window) same ∙ sym keeps.window) one.window;
-    bound = subst (λ bs. is_bound server_sap bs ≡ true) (ap (λ (l : FarEnd). l.bound) same ∙ sym keeps.bound) one.bound;
-  },
+      let one : IsServed (first_far ps) o = s.0 peer in
+      let same : one.end ≡ e = (let both : Some one.end ≡ Some e = sym one.stands ∙ is in cc) in
+      record {
+        peer = one.peer;
+        numbered = one.numbered;
+        end = f;
+        stands = refl;
+        miu = subst IsMiu (ap (λ (l : FarEnd). l.miu) same ∙ sym keeps.miu) one.miu;
+        window = subst IsWindow (ap (λ (l : FarEnd). l.window) same ∙ sym keeps.window) one.window;
+        bound = subst (λ bs. is_bound server_sap bs ≡ true) (ap (λ (l : FarEnd). l.bound) same ∙ sym keeps.bound) one.bound;
+      },
   s.1,
 )
 set_served (d ∷ ds) ps (o ∷ os) (suc n) e f is keeps s = (s.0, set_served ds (later_fars ps) os n e f is keeps s.1)

@@ -137,9 +137,9 @@ link_resets id miu rw = record {
   front = λ s t g es told f. record { accepted = f.accepted; asks = f.asks; turns = f.turns; fates = f.fates; each = f.each; after = f.after ∙ same_after s g.joins id miu rw es told };
   next = λ s g ns. refl;
   law = λ s g es answer l. record {
-      tells = subst (λ n. LinkTells (A id) s.world.field.listeners (n + 1) (own_general miu) es answer) (count_ended s.link s.peers s.world.fars) l.tells;
-      stays = l.stays;
-    };
+    tells = subst (λ n. LinkTells (A id) s.world.field.listeners (n + 1) (own_general miu) es answer) (count_ended s.link s.peers s.world.fars) l.tells;
+    stays = l.stays;
+  };
   stores = λ s joins es stays. stays;
 }
 
@@ -237,7 +237,7 @@ next_place n (p ∷ ps) [] zero within = refl
 next_place n (p ∷ ps) (o ∷ os) zero within = refl
 next_place n (p ∷ ps) [] (suc i) within =
     ap (end_numbered n (drop i ps)) (sym (none_left i)) ∙ next_place n ps [] i (omega (arith, within))
-      where
+  where
     none_left : (k : ℕ) → drop {A = Option FarEnd} k [] ≡ []
     none_left zero = refl
     none_left (suc k) = refl

@@ -226,8 +226,7 @@ module _ (old mid : Air Device) (id : DeviceId) (m : Msg) (place : ℕ) (idle : 
       let commands : List Signal = w.told.commands in
       let ns : List Note = s.selects.asked.notes ++ w.told.asked.notes in
       let g : Going air (tag_due id commands) (moment old) (moment new) ns = of_both new commands w.told.asked.notes w.told.asked.going in
-      let asked = placed_write commands (as_tag s.device tag _ _ w.told.asks) in
-      (
+      let asked = placed_write commands (as_tag s.device tag _ _ w.told.asks) in (
         asks_for commands,
         front_of None (Write id m) (λ h. h) os old new commands ns idle tt refl g asked,
         subst (λ es. StoresLaw (above os old) no_joins id m Stopped es) (sym (trace_is old new (tag_due id commands) ns g idle))
@@ -240,8 +239,7 @@ pub selection_cut_write : (old new : Air Device) (id : DeviceId) (m : Msg) → I
 selection_cut_write old new id m idle part = λ ends peers.
     let os : Upon = record { ends = ends; peers = peers; link = None } in
     let some = write_asked old id m idle in
-    let g : Going air (tag_due id some.0) (moment old) (moment new) part.notes = polled_of id some.0 (moment old) (moment new) part.notes part.going in
-    (
+    let g : Going air (tag_due id some.0) (moment old) (moment new) part.notes = polled_of id some.0 (moment old) (moment new) part.notes part.going in (
       asks_for some.0,
       front_of None (Write id m) (λ h. h) os old new some.0 part.notes idle tt refl g some.1,
       subst (λ es. StoresLaw (above os old) no_joins id m Stopped es) (sym (trace_is old new (tag_due id some.0) part.notes g idle))

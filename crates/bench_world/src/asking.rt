@@ -34,11 +34,7 @@ fn select_and_read(
 }
 
 /// Reads a tag, from a reset on, which ends the open link.
-pub fn read_tag(
-    alloc: Global,
-    machines: &mut Machines,
-    id: &DeviceId,
-) -> Result<Answer, ObeyFault>
+pub fn read_tag(alloc: Global, machines: &mut Machines, id: &DeviceId) -> Result<Answer, ObeyFault>
     requires { IsSettled machines.old }
     ensures ok { IfOk result (λ a. Obeyed machines.old machines.new (Command.Read id.now) a) }
     ensures cut { OnErr result (IsCutOff machines.old machines.new (Command.Read id.now)) }

@@ -45,7 +45,8 @@ fn lost(cause: EndCause) -> Answer
 fn end_range(machines: &mut Machines, place: usize)
     requires { place < length machines.old.ends }
     ensures { machines.new ≡ record machines.old {
-        peers = with_last_ended (accepted_by (get_or machines.old.ends place None)) machines.old.peers } }
+      peers = with_last_ended (accepted_by (get_or machines.old.ends place None)) machines.old.peers;
+    } }
 {
     let end = accepted_above(&machines.ends[place]);
     end_last(&mut machines.links, end);
@@ -74,13 +75,7 @@ fn put_bytes(machines: &mut Machines, bytes: &[u8]) -> Result<Answer, AllocError
     let Some(far) = &mut machines.ends[place] else {
         unreachable!()
     };
-    match put_on(
-        &mut machines.field,
-        &mut initiator,
-        &mut client,
-        far,
-        bytes,
-    ) {
+    match put_on(&mut machines.field, &mut initiator, &mut client, far, bytes) {
         Ok(()) => {
             machines.link = Some(Link {
                 peer,
@@ -273,13 +268,7 @@ fn lookup_name(machines: &mut Machines, name: &str) -> Result<Answer, AllocError
     let Some(far) = &mut machines.ends[place] else {
         unreachable!()
     };
-    match lookup_on(
-        &mut machines.field,
-        &mut initiator,
-        &mut client,
-        far,
-        name,
-    ) {
+    match lookup_on(&mut machines.field, &mut initiator, &mut client, far, name) {
         Ok(sap) => {
             machines.link = Some(Link {
                 peer,

@@ -347,7 +347,13 @@ impl Machines {
     }
 
     /// A link is open to the peer of this number, whose list of accepted messages stands there.
-    fn begin(&mut self, peer: u64, start: usize, initiator: Initiator, client: Client) -> Result<Answer, ObeyFault>
+    fn begin(
+        &mut self,
+        peer: u64,
+        start: usize,
+        initiator: Initiator,
+        client: Client,
+    ) -> Result<Answer, ObeyFault>
         requires few { length self.old.peers.links + 1 < 2 ^ 32 }
         requires fresh { client.spent ≡ false }
         ensures ok { IfOk result (λ a. a ≡ Answer.Linked (length self.old.peers.links + 1)) }
@@ -372,7 +378,13 @@ impl Machines {
     }
 
     /// Opens a link to the selected peer at a place, where none is open.
-    pub fn open(&mut self, alloc: Global, place: usize, miu: u16, rw: u8) -> Result<Answer, ObeyFault>
+    pub fn open(
+        &mut self,
+        alloc: Global,
+        place: usize,
+        miu: u16,
+        rw: u8,
+    ) -> Result<Answer, ObeyFault>
         requires miu { IsMiu miu }
         requires window { IsWindow rw }
         requires few { length self.old.peers.links + 1 < 2 ^ 32 }
