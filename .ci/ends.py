@@ -35,6 +35,11 @@ write 01020304 D00000
 write E004010203040506 gen:5:1
 dump E004010203040506
 inbox 08010203
+link 08010203 128 1
+put D00000
+get 16 6B31
+lookup urn:nfc:sn:snep
+unlink
 remove 01020304
 read 01020304
 """

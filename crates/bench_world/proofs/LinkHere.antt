@@ -25,9 +25,9 @@ use Rattle.bench_world.specs.declared.entry.Answer.TheVariants as answers
 use Rattle.bench_world.specs.declared.entry.Loss.TheVariants as losses
 use Rattle.bench_world.specs.Answering.{poll_answer}
 use Rattle.bench_world.specs.World.{FarEnd}
-use Rattle.bench_world.specs.Linking.{own_general}
+use Rattle.bench_world.specs.Linking.{own_general, new_client}
 use Rattle.bench_world.specs.Opened.{IsServed, AreServed}
-use Rattle.bench_world.specs.LinkedAt.{restarts, begun, new_client, not_opened, moved_at, LinkLeft, OpensAt}
+use Rattle.bench_world.specs.LinkedAt.{restarts, begun, NotOpened, moved_at, LinkLeft, OpensAt}
 use Rattle.bench_world.specs.Legal.{MayLink, CutFront}
 use Rattle.bench_world.specs.Obeying.{Machines, state_at, under, HasPlaces, IsSettled, Obeyed}
 use Rattle.bench_world.proofs.Unlinking.{upon}
@@ -93,7 +93,7 @@ module _ (m : Machines) (settled : IsSettled m) (unlinked : m.link ≡ None) (id
           (subst (λ x. CutFront (state_at x) (Link id miu rw) left_none.air.trace (state_at left_none)) none_open
           (cut_link m.ends m.peers m.air id miu rw settled.idle there may mid place s peer served.end o.after served.stands o.air o.came asked))
 
-      ended_now : (cause : EndCause) (loss : _) → o.came ≡ Err cause → not_opened cause ≡ Ok (answers.LinkEnded loss) → now ≡ moved_at (upon m mid) o.air place o.after → Obeyed m now (Link id miu rw) (answers.LinkEnded loss)
+      ended_now : (cause : EndCause) (loss : _) → o.came ≡ Err cause → NotOpened cause (Ok (answers.LinkEnded loss)) → now ≡ moved_at (upon m mid) o.air place o.after → Obeyed m now (Link id miu rw) (answers.LinkEnded loss)
       ended_now cause loss came told is =
           subst (λ x. Obeyed m x (Link id miu rw) (answers.LinkEnded loss)) (moved_none ∙ sym is)
           (in_this left_none (answers.LinkEnded loss)
@@ -112,7 +112,7 @@ module _ (m : Machines) (settled : IsSettled m) (unlinked : m.link ≡ None) (id
       by_cases (Ok p) (Err e) came l = (tt, cut_now l.1, l.0)
       by_cases (Err causes.FieldLost) r came l = subst All (sym l.0) (ended_now causes.FieldLost losses.FieldLost came refl l.1, tt, tt)
       by_cases (Err causes.SixBad) r came l = subst All (sym l.0) (ended_now causes.SixBad losses.SixBad came refl l.1, tt, tt)
-      by_cases (Err causes.Protocol) r came l = subst All (sym l.0) (tt, cut_now l.1, refl)
+      by_cases (Err causes.Protocol) r came l = absurd l.0
       by_cases (Err causes.Memory) r came l = subst All (sym l.0) (tt, cut_now l.1, refl)
 
       pub here_opened : All result

@@ -21,6 +21,8 @@ use Rattle.air_core.proofs.PlainTurns.{noise_append}
 use Rattle.arrayvec.specs.ArrayVec.{ArrayVec}
 use Rattle.nfca_poll.specs.declared.fault.PollFault.{PollFault}
 use Rattle.nfca_poll.specs.declared.fault.PollFault.TheVariants as faults
+use Rattle.bench_world.specs.declared.bench.ObeyFault.{ObeyFault}
+use Rattle.bench_world.specs.declared.bench.ObeyFault.TheVariants as obey_faults
 use Rattle.dep_link.specs.DepLinks.{over_at}
 use Rattle.dep_link.specs.Initiator.{InitState, waiting}
 use Rattle.dep_link.specs.Target.{TargetState}
@@ -69,18 +71,18 @@ use Rattle.bench_world.specs.declared.entry.Answer.TheVariants as answers
 use Rattle.bench_world.specs.declared.entry.Loss.TheVariants as losses
 use Rattle.bench_world.specs.Answering.{poll_answer}
 use Rattle.bench_world.specs.World.{FarEnd, WholeWorld, bench_air, Stable, stable}
-use Rattle.bench_world.specs.Linking.{LinkEnds, LinkTells, IsFieldLost, TellsLoss, link_to, link_if, no_service, own_general}
+use Rattle.bench_world.specs.Linking.{LinkEnds, LinkTells, IsFieldLost, TellsLoss, link_to, link_if, no_service, own_general, new_client}
 use Rattle.bench_world.specs.declared.inbox.LinkRange.{LinkRange}
 use Rattle.bench_world.specs.Links.{OpenLink, accepted_at, accepted_by, with_link, begun_if}
 use Rattle.bench_world.specs.Opened.{IsServed, AreServed, AreNumbered, IsFirstWith, IsOpen}
 use Rattle.bench_world.specs.Peers.{Peers, placed_under}
-use Rattle.bench_world.specs.LinkedAt.{restarts, new_client, not_opened}
+use Rattle.bench_world.specs.LinkedAt.{restarts, NotOpened}
 use Rattle.bench_world.specs.Legal.{State, Given, Joins, no_joins, MayLink, AnswerLaw, FrontOf, CutFront, LinkingLaw, changed, due, begun, world_after, peers_after, link_after, state_after}
 use Rattle.bench_world.specs.Obeying.{Machines, state_at, under, HasPlaces, KeepsLink, Obeyed}
 use Rattle.bench_world.proofs.Fronts.{Ends, ends_table, rests_alike, stable_behind}
 use Rattle.bench_world.proofs.Placed.{Upon, beneath}
 use Rattle.bench_world.proofs.Locking.{has_id}
-use Rattle.bench_world.proofs.Peering.{under_at}
+use Rattle.bench_world.proofs.Removing.{under_at}
 use Rattle.bench_world.proofs.PlacesKept.{served_as, kinds_of, first_end}
 use Rattle.bench_world.proofs.Restarted.{KeepsEnd, times_keep, last_begun, far_there, far_set, set_there, set_rests, set_served, served_at, begin_self, first_of, readable_said}
 use Rattle.bench_world.proofs.Unlinking.{accepted_shown}
@@ -432,9 +434,10 @@ module _ (ends : Ends) (peers : Peers) (old : Air Device) (id : List ℕ) (miu r
           }
 
       -- no answer came
-      pub ended_link : (cause : EndCause) (loss : _) → result ≡ Err cause → not_opened cause ≡ Ok (answers.LinkEnded loss)
+      pub ended_link : (cause : EndCause) (loss : _) → result ≡ Err cause → NotOpened cause (Ok (answers.LinkEnded loss))
           → Obeyed (under ends peers None old) (record { air = new; ends = ends_then; peers = peers; link = None }) (Link id miu rw) (answers.LinkEnded loss)
       ended_link causes.FieldLost loss is answer =
+          let same : ◌≡◌ {A = Result Answer ObeyFault} (Ok (answers.LinkEnded loss)) (Ok (answers.LinkEnded losses.FieldLost)) = answer in
           let same_loss : loss ≡ losses.FieldLost = cc in
           let e = lost_ends count o.notes (stand 0 (atr_frame (own_general miu) ∷ []) o.notes) (subst (AnswersAtr true o.notes (stand 0 (atr_frame (own_general miu) ∷ []) o.notes)) is o.answers) in
           let P : _ → Type 0 = λ x. Obeyed (under ends peers None old) (record { air = new; ends = ends_then; peers = peers; link = None }) (Link id miu rw) (answers.LinkEnded x) in
@@ -442,6 +445,7 @@ module _ (ends : Ends) (peers : Peers) (old : Air Device) (id : List ℕ) (miu r
           (obeyed_at (answers.LinkEnded losses.FieldLost) peers None refl refl refl refl
           (tells_by (answers.LinkEnded losses.FieldLost) (λ l. is) (λ r. inr refl) (λ six. absurd (let clash : answers.LinkEnded losses.FieldLost ≡ answers.LinkEnded losses.SixBad = six in cc)) e.0) e.1 tt)
       ended_link causes.SixBad loss is answer =
+          let same : ◌≡◌ {A = Result Answer ObeyFault} (Ok (answers.LinkEnded loss)) (Ok (answers.LinkEnded losses.SixBad)) = answer in
           let same_loss : loss ≡ losses.SixBad = cc in
           let e = six_ends count o.notes (stand 0 (atr_frame (own_general miu) ∷ []) o.notes) (subst (AnswersAtr true o.notes (stand 0 (atr_frame (own_general miu) ∷ []) o.notes)) is o.answers) in
           let P : _ → Type 0 = λ x. Obeyed (under ends peers None old) (record { air = new; ends = ends_then; peers = peers; link = None }) (Link id miu rw) (answers.LinkEnded x) in
@@ -450,8 +454,8 @@ module _ (ends : Ends) (peers : Peers) (old : Air Device) (id : List ℕ) (miu r
           (tells_by (answers.LinkEnded losses.SixBad)
           (λ l. absurd (elim l [ inl dark ↦ (let clash : answers.LinkEnded losses.SixBad ≡ answers.FieldLost = dark in cc) | inr ended ↦ (let clash : answers.LinkEnded losses.SixBad ≡ answers.LinkEnded losses.FieldLost = ended in cc) ]))
           (λ r. absurd (let clash : ◌≡◌ {A = Result (InitState × ArrayVec ℕ) EndCause} (Err causes.SixBad) (Err causes.FieldLost) = sym is ∙ r in cc)) (λ six. is) e.0) e.1 tt)
-      ended_link causes.Protocol loss is answer = absurd cc
-      ended_link causes.Memory loss is answer = absurd cc
+      ended_link causes.Protocol loss is answer = absurd answer
+      ended_link causes.Memory loss is answer = absurd (let clash : ◌≡◌ {A = Result Answer ObeyFault} (Ok (answers.LinkEnded loss)) (Err obey_faults.Memory) = answer in cc)
 
       -- memory was wanting
       pub cut_link : CutFront st (Link id miu rw) new.trace (state_at (record { air = new; ends = ends_then; peers = peers; link = None }))

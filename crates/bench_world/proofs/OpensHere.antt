@@ -19,8 +19,8 @@ use Rattle.bench_world.specs.declared.bench.ObeyFault.TheVariants as faults
 use Rattle.bench_world.specs.declared.entry.Answer.{Answer}
 use Rattle.bench_world.specs.declared.entry.Answer.TheVariants as answers
 use Rattle.bench_world.specs.World.{FarEnd}
-use Rattle.bench_world.specs.Linking.{own_general}
-use Rattle.bench_world.specs.LinkedAt.{restarts, new_client, not_opened, begun, moved_at, LinkLeft, OpensAt}
+use Rattle.bench_world.specs.Linking.{own_general, new_client}
+use Rattle.bench_world.specs.LinkedAt.{restarts, NotOpened, begun, moved_at, LinkLeft, OpensAt}
 use Rattle.bench_world.specs.Obeying.{Machines}
 
 module _ (m : Machines) (place miu rw n : ℕ) (far : FarEnd) (new : Air Device) (after : FarEnd) (r : Result (InitState × ArrayVec ℕ) LinkEnd)
@@ -44,7 +44,7 @@ module _ (m : Machines) (place miu rw n : ℕ) (far : FarEnd) (new : Air Device)
       by_result (Err e) o l w s = (w, s)
 
   -- it didn't
-  pub opens_err : (e : LinkEnd) → r ≡ Err e → (result : Result Answer ObeyFault) (now : Machines) → result ≡ not_opened e.cause → now ≡ moved_at m new place after → OpensAt m now place miu rw n far result
+  pub opens_err : (e : LinkEnd) → r ≡ Err e → (result : Result Answer ObeyFault) (now : Machines) → NotOpened e.cause result → now ≡ moved_at m new place after → OpensAt m now place miu rw n far result
   opens_err e is result now told same = record {
     air = new;
     after = after;

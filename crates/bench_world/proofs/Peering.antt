@@ -27,7 +27,7 @@ use Rattle.bench_world.specs.World.{FarEnd}
 use Rattle.bench_world.proofs.PlacesKept.{served_offered}
 use Rattle.bench_world.proofs.LinkKept.{keeps_so, open_offered}
 use Rattle.bench_world.proofs.Placed.{still_obeyed}
-use Rattle.bench_world.proofs.Removing.{is_other}
+use Rattle.bench_world.proofs.Removing.{is_other, under_at, shown_at, shown_long}
 
 -- a change of an end that what stays of it keeps
 offered_by_link : (v : Bool) (key value : List ℕ) (o : Option FarEnd) → by_link peer_ends v (option_map (end_offered key value) o) ≡ option_map (end_offered key value) (by_link peer_ends v o)
@@ -81,34 +81,12 @@ value_offered old new id key value place settled peer short s is =
     })
     (keeps_so old (with_end old place (option_map (end_offered key value) (get_or old.ends place None))) refl (λ l at o. open_offered old.air old.ends old.peers l key value place o) settled.link) (λ h. h))
 
--- What stands at the place of the device with an identifier.
-pub under_at : {X : Type 0} (before : List Device) (d : Device) (behind : List Device) (id : List ℕ) (xs : List (Option X)) → device_id d ≡ id → AreSound (map kept (before ++ d ∷ behind))
-    → length xs ≡ length (before ++ d ∷ behind) → placed_under id (before ++ d ∷ behind) xs ≡ get_or xs (length before) None
-under_at [] d behind id [] named sound e = absurd cc
-under_at [] d behind id (x ∷ xs) named sound e = ap (λ v. if v then x else placed_under id behind xs) (ap (λ i. pointwise nat_eq i id) named ∙ pointwise_self id)
-under_at (b ∷ before) d behind id [] named sound e = absurd cc
-under_at (b ∷ before) d behind id (x ∷ xs) named sound e =
-    let more : length xs ≡ length (before ++ d ∷ behind) = cc in
-    ap (λ v. if v then x else placed_under id (before ++ d ∷ behind) xs) (is_other b before d behind id named sound.1) ∙ under_at before d behind id xs named sound.2 more
-
--- ... and the far end there, as the world shows it
-shown_at : (before : List Device) (d : Device) (behind : List Device) (os : List (Option FarEnd)) → length os ≡ length (before ++ d ∷ behind)
-    → get_or (shown device_linked peer_ends (before ++ d ∷ behind) os) (length before) None ≡ by_link peer_ends (device_linked d) (get_or os (length before) None)
-shown_at [] d behind [] e = absurd cc
-shown_at [] d behind (o ∷ os) e = refl
-shown_at (b ∷ before) d behind [] e = absurd cc
-shown_at (b ∷ before) d behind (o ∷ os) e = let more : length os ≡ length (before ++ d ∷ behind) = cc in shown_at before d behind os more
-
 -- What a server accepted stays without a link, so the same is told.
 inbox_by_link : (links : List LinkRange) (number : Option ℕ) (v : Bool) (o : Option FarEnd) → inbox_at links number (by_link peer_ends v o) ≡ inbox_at links number o
 inbox_by_link links number true o = refl
 inbox_by_link links None false o = refl
 inbox_by_link links (Some n) false None = refl
 inbox_by_link links (Some n) false (Some l) = refl
-
-shown_long : (ls : List Device) (os : List (Option FarEnd)) → length (shown device_linked peer_ends ls os) ≡ length ls
-shown_long [] os = refl
-shown_long (l ∷ ls) os = ap suc (shown_long ls (later_fars os))
 
 -- what a server accepted was told
 pub inbox_told : (old new : Machines) (id : DeviceId) (place : ℕ) (messages : List Received) → IsSettled old → IsPeerPlaced (state_at old) id → StandsAt (bytes_of id) old.air.listeners place → new ≡ old

@@ -22,7 +22,7 @@ use Rattle.bench_devices.specs.Phases.{IsTidy, AreTidy}
 use Rattle.bench_world.specs.Obeying.{Machines, under, state_at, HasPlaces, IsSettled, KeepsLink, Obeyed, ObeyedBelow}
 use Rattle.bench_world.specs.Links.{OpenLink}
 use Rattle.bench_world.specs.World.{FarEnd, with_one_more}
-use Rattle.bench_world.specs.Peers.{Peers, with_tag, with_peer, new_end}
+use Rattle.bench_world.specs.Peers.{Peers, with_tag, with_peer, new_end, next_number}
 use Rattle.far_air.specs.FarEnds.{by_link}
 use Rattle.far_air.specs.FarWorld.{with_numbers}
 use Rattle.far_air.specs.FarLaws.{shown}
@@ -122,7 +122,7 @@ more_in s d end peers = record { world = with_one_more s.world d end; queue = s.
 place_obeyed : (old : Machines) (c : Command) (d : Device) (end : Option FarEnd) (number : Option ℕ) (peers : Peers) → IsSettled old → Accepts (state_at old) c → changed (state_at old) c ≡ more_in (state_at old) d end peers
     → IsAskedBy (state_at old) c [] → due (state_at old) nothing c [] ≡ Over → AnswerLaw (state_at old) nothing c [] Done
     → IsSound (kept d) → IsTidy d → IsFree (state_at old) (device_id d) → by_link peer_ends (device_linked d) end ≡ end
-    → peers.numbers ≡ old.peers.numbers ++ number ∷ [] → (is_tag d ≡ false → IsServed number end) → AreNumbered peers.placed peers.numbers → device_ready d ≡ false → device_selected d ≡ false
+    → peers.numbers ≡ old.peers.numbers ++ number ∷ [] → (is_tag d ≡ false → IsServed number end) → AreNumbered (next_number peers) peers.numbers → device_ready d ≡ false → device_selected d ≡ false
     → (TakesNumbers c → ⊥) → Obeyed old (with_more old d end peers) c Done
 place_obeyed old c d end number peers settled accepted changes asks over law sound tidy free rests more_numbers served apart ready selected quiet =
     let T : List Kept → Type 0 = AreTame in
@@ -155,7 +155,7 @@ pub t2_placed : (old new : Machines) (id : List ℕ) (blocks : ℕ) (head : List
 t2_placed old new id blocks head settled ident may is =
     let d : Device = new_t2 id (memory_of (4 * blocks) head) in
     let O : Machines → Type 0 = λ m. Obeyed old m (PlaceT2 id blocks head) Done in
-    subst O (sym is) (place_obeyed old (PlaceT2 id blocks head) d None None (with_tag old.peers) settled may refl refl refl refl (ident, refl, may.store) tt may.free (none_shown (device_linked d)) refl (λ e. no_peer e) (numbered_tag old.peers.placed old.peers.numbers settled.places.apart) refl refl (λ h. h))
+    subst O (sym is) (place_obeyed old (PlaceT2 id blocks head) d None None (with_tag old.peers) settled may refl refl refl refl (ident, refl, may.store) tt may.free (none_shown (device_linked d)) refl (λ e. no_peer e) (numbered_tag (next_number old.peers) old.peers.numbers settled.places.apart) refl refl (λ h. h))
 
 pub t4_placed : (old new : Machines) (id : List ℕ) (code : ℕ) (container head : List ℕ) → IsSettled old → IsIdent id → MayPlaceT4 (state_at old) id code container head
     → new ≡ one_more old (new_t4 id code container (memory_of (file_size container) head)) → Obeyed old new (PlaceT4 id code container head) Done
@@ -163,21 +163,22 @@ t4_placed old new id code container head settled ident may is =
     let file : List ℕ = memory_of (file_size container) head in
     let d : Device = new_t4 id code container file in
     let O : Machines → Type 0 = λ m. Obeyed old m (PlaceT4 id code container head) Done in
-    subst O (sym is) (place_obeyed old (PlaceT4 id code container head) d None None (with_tag old.peers) settled may refl refl refl refl (ident, file, refl, may.store, refl, record { made = refl; busy = omega arith; times = (omega arith, omega arith) }) (inr refl) may.free (none_shown (device_linked d)) refl (λ e. no_peer e) (numbered_tag old.peers.placed old.peers.numbers settled.places.apart) refl refl (λ h. h))
+    subst O (sym is) (place_obeyed old (PlaceT4 id code container head) d None None (with_tag old.peers) settled may refl refl refl refl (ident, file, refl, may.store, refl, record { made = refl; busy = omega arith; times = (omega arith, omega arith) }) (inr refl) may.free (none_shown (device_linked d)) refl (λ e. no_peer e) (numbered_tag (next_number old.peers) old.peers.numbers settled.places.apart) refl refl (λ h. h))
 
 pub t5_placed : (old new : Machines) (id : List ℕ) (blocks size : ℕ) (head : List ℕ) → IsSettled old → length id ≡ id_size → ((i : ℕ) → slice_index id i < 256) → MayPlaceT5 (state_at old) id blocks size head
     → new ≡ one_more old (new_t5 id size (memory_of (size * blocks) head)) → Obeyed old new (PlaceT5 id blocks size head) Done
 t5_placed old new id blocks size head settled eight bytes may is =
     let d : Device = new_t5 id size (memory_of (size * blocks) head) in
     let O : Machines → Type 0 = λ m. Obeyed old m (PlaceT5 id blocks size head) Done in
-    subst O (sym is) (place_obeyed old (PlaceT5 id blocks size head) d None None (with_tag old.peers) settled may refl refl refl refl (refl, eight, bytes, may.store) tt may.free (none_shown (device_linked d)) refl (λ e. no_peer e) (numbered_tag old.peers.placed old.peers.numbers settled.places.apart) refl refl (λ h. h))
+    subst O (sym is) (place_obeyed old (PlaceT5 id blocks size head) d None None (with_tag old.peers) settled may refl refl refl refl (refl, eight, bytes, may.store) tt may.free (none_shown (device_linked d)) refl (λ e. no_peer e) (numbered_tag (next_number old.peers) old.peers.numbers settled.places.apart) refl refl (λ h. h))
 
 pub peer_placed : (old new : Machines) (id : List ℕ) (lr miu window limit : ℕ) → IsSettled old → IsIdent id → MayPlacePeer (state_at old) id lr miu window limit
     → new ≡ with_more old (new_peer id lr miu) (Some (new_end miu window limit)) (with_peer old.peers) → Obeyed old new (PlacePeer id lr miu window limit) Done
 peer_placed old new id lr miu window limit settled ident may is =
     let d : Device = new_peer id lr miu in
     let O : Machines → Type 0 = λ m. Obeyed old m (PlacePeer id lr miu window limit) Done in
-    subst O (sym is) (place_obeyed old (PlacePeer id lr miu window limit) d (Some (new_end miu window limit)) (Some old.peers.placed) (with_peer old.peers) settled may refl refl refl refl
+    subst O (sym is) (place_obeyed old (PlacePeer id lr miu window limit) d (Some (new_end miu window limit)) (Some (next_number old.peers)) (with_peer old.peers) settled may refl refl refl refl
     (ident, refl, record { lr = lr; miu = miu; code = may.code; size = may.size; few = omega arith; some = omega arith; longest = omega arith; made = refl }) (inr refl) may.free refl refl
-    (λ e. record { peer = old.peers.placed; numbered = refl; end = new_end miu window limit; stands = refl; miu = may.size; window = may.window; bound = refl })
-    (numbered_peer old.peers.placed old.peers.numbers settled.places.apart) refl refl (λ h. h))
+    (λ e. record { peer = next_number old.peers; numbered = refl; end = new_end miu window limit; stands = refl; miu = may.size; window = may.window; bound = refl })
+    (subst (λ n. AreNumbered n (with_peer old.peers).numbers) (sym (length-append old.peers.gone (None ∷ [])))
+    (numbered_peer (next_number old.peers) old.peers.numbers settled.places.apart)) refl refl (λ h. h))

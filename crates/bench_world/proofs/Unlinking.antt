@@ -30,8 +30,8 @@ use Rattle.bench_world.specs.Legal.{State, Given, Joins, IsPlaced, AnswerLaw, Fr
 use Rattle.bench_world.specs.Obeying.{Machines, state_at, under, HasPlaces, IsSettled, KeepsLink, Obeyed, IsCutOff, ObeyedUnlinked, CutOffUnlinked, link_ended, taken_out}
 use Rattle.std.proofs.lemmas.List.{length-append}
 use Rattle.bench_world.proofs.LinkKept.{keeps_so, open_less}
-use Rattle.bench_world.proofs.Peering.{under_at, any_other}
-use Rattle.bench_world.proofs.Removing.{removed}
+use Rattle.bench_world.proofs.Peering.{any_other}
+use Rattle.bench_world.proofs.Removing.{removed, under_at}
 
 -- A server has accepted as many messages, whether the state has its far end whole or what stays of it.
 accepted_by_link : (v : Bool) (o : Option FarEnd) → accepted_by (by_link peer_ends v o) ≡ accepted_by o

@@ -179,7 +179,7 @@ with_device s d = record { world = with_one_more s.world d None; queue = s.queue
 abbrev pub with_peer_under : State → Device → FarEnd → State
 with_peer_under s d end = record { world = with_one_more s.world d (Some end); queue = s.queue; peers = with_peer s.peers; link = s.link }
 
--- the state with the device that has an identifier taken away, and its far end with it
+-- The state with the device that has an identifier taken away, and its far end with it: what stays of that is kept under the peer's number.
 abbrev pub without_device : State → DeviceId → State
 without_device s id = record {
   world = record {
@@ -188,7 +188,7 @@ without_device s id = record {
     numbers = s.world.numbers;
   };
   queue = s.queue;
-  peers = without_number (bytes_of id) s.world.field.listeners s.peers;
+  peers = without_number (bytes_of id) s.world.field.listeners s.world.fars s.peers;
   link = s.link;
 }
 

@@ -6,10 +6,9 @@ use Rattle.air_core.specs.Turn.{Air}
 use Rattle.arrayvec.specs.ArrayVec.{ArrayVec}
 use Rattle.dep_link.specs.Initiator.{InitState}
 use Rattle.llcp_link.specs.Answering.{Answers}
-use Rattle.llcp_link.specs.State.{fresh_end, restarted}
-use Rattle.llcp_pdu.specs.declared.general.LinkParams.{LinkParams}
+use Rattle.llcp_link.specs.State.{restarted}
 use Rattle.snep_core.specs.Server.{serving}
-use Rattle.snep_core.specs.Talk.{EndState, silent}
+use Rattle.snep_core.specs.Talk.{EndState}
 use Rattle.bench_devices.specs.declared.device.Device.{Device}
 use Rattle.bench_devices.specs.Opening.{OpensAny}
 use Rattle.bench_world.specs.declared.bench.ObeyFault.{ObeyFault}
@@ -18,17 +17,9 @@ use Rattle.bench_world.specs.declared.entry.Answer.{Answer}
 use Rattle.bench_world.specs.declared.entry.Answer.TheVariants as answers
 use Rattle.bench_world.specs.declared.entry.Loss.TheVariants as losses
 use Rattle.bench_world.specs.World.{FarEnd}
-use Rattle.bench_world.specs.Linking.{own_general, no_service}
+use Rattle.bench_world.specs.Linking.{own_general, new_client}
 use Rattle.bench_world.specs.Links.{OpenLink, with_link}
 use Rattle.bench_world.specs.Obeying.{Machines}
-
--- what an initiator says of its end of a link
-abbrev pub own_params : ℕ → LinkParams
-own_params miu = record { version = 0x13; miu = miu; wks = 0x0003 }
-
--- its end, to which these general bytes were said
-abbrev pub new_client : ℕ → ℕ → List ℕ → EndState
-new_client miu window told = restarted silent (fresh_end miu window no_service) told
 
 -- the machines with this link
 abbrev pub begun : Machines → ℕ → ℕ → InitState → EndState → Machines
@@ -40,11 +31,11 @@ begun m peer start i client = record {
 }
 
 -- what is told of a link that couldn't be opened; no answer comes that isn't allowed
-abbrev pub not_opened : EndCause → Result Answer ObeyFault
-not_opened FieldLost = Ok (answers.LinkEnded losses.FieldLost)
-not_opened SixBad = Ok (answers.LinkEnded losses.SixBad)
-not_opened Protocol = Err faults.Memory
-not_opened Memory = Err faults.Memory
+abbrev pub NotOpened : EndCause → Result Answer ObeyFault → Type 0
+NotOpened FieldLost told = told ≡ Ok (answers.LinkEnded losses.FieldLost)
+NotOpened SixBad told = told ≡ Ok (answers.LinkEnded losses.SixBad)
+NotOpened Protocol told = ⊥
+NotOpened Memory told = told ≡ Err faults.Memory
 
 -- a new link of an end, and its steps
 abbrev pub restarts : FarEnd → List ℕ → FarEnd → Type 0
@@ -59,7 +50,7 @@ abbrev pub LinkLeft : Machines → ℕ → ℕ → ℕ → ℕ → Result (InitS
 LinkLeft mid miu window peer start (Ok p) (Ok a) new =
     (a ≡ answers.Linked (length mid.peers.links + 1)) × (new ≡ begun mid peer start p.0 (new_client miu window p.1.items))
 LinkLeft mid miu window peer start (Ok p) (Err e) new = (e ≡ faults.Memory) × (new ≡ mid)
-LinkLeft mid miu window peer start (Err cause) result new = (result ≡ not_opened cause) × (new ≡ mid)
+LinkLeft mid miu window peer start (Err cause) result new = NotOpened cause result × (new ≡ mid)
 
 -- ATR_REQ was asked of the peer with this number and far end.
 pub record OpensAt (old new : Machines) (place miu window peer : ℕ) (far : FarEnd) (result : Result Answer ObeyFault) : Type 0 where

@@ -11,10 +11,11 @@ use Rattle.nfca_poll.specs.declared.fault.PollFault.{PollFault}
 use Rattle.dep_link.specs.Activating.{atr_frame}
 use Rattle.dep_link.specs.Initiator.{waiting}
 use Rattle.dep_link.specs.Target.{TargetState}
+use Rattle.llcp_pdu.specs.declared.general.LinkParams.{LinkParams}
 use Rattle.llcp_pdu.specs.General.{general_bytes}
 use Rattle.llcp_link.specs.State.{fresh_end, restarted}
 use Rattle.snep_core.specs.declared.silent.NoService.{NoService}
-use Rattle.snep_core.specs.Talk.{silent}
+use Rattle.snep_core.specs.Talk.{EndState, silent}
 use Rattle.bench_script.specs.declared.command.DeviceId.{DeviceId}
 use Rattle.bench_devices.specs.declared.device.Device.{Device}
 use Rattle.bench_devices.specs.declared.polling.SeenKind.{SeenKind}
@@ -29,12 +30,19 @@ use Rattle.bench_world.specs.Answering.{poll_answer}
 use Rattle.bench_world.specs.Links.{OpenLink}
 
 -- what an initiator says of its end of a link: LLCP 1.3, its MIU, and the services of link management and discovery
+abbrev pub own_params : ℕ → LinkParams
+own_params miu = record { version = 0x13; miu = miu; wks = 0x0003 }
+
 abbrev pub own_general : ℕ → List ℕ
-own_general miu = general_bytes (record { version = 0x13; miu = miu; wks = 0x0003 })
+own_general miu = general_bytes (own_params miu)
 
 -- the one value of a service with nothing to send
 abbrev pub no_service : NoService
 no_service = record {}
+
+-- its end of a link, to which these general bytes were said
+abbrev pub new_client : ℕ → ℕ → List ℕ → EndState
+new_client miu window told = restarted silent (fresh_end miu window no_service) told
 
 -- The link that ATR_REQ opens to a peer: an initiator that cuts to its LR code, and an end of this MIU and receive window that begins a link with
 -- its general bytes.
@@ -42,7 +50,7 @@ abbrev pub link_to : ℕ → TargetState → ℕ → ℕ → OpenLink
 link_to peer t miu window = record {
   peer = peer;
   initiator = waiting t.lr;
-  client = restarted silent (fresh_end miu window no_service) t.general;
+  client = new_client miu window t.general;
 }
 
 abbrev pub link_if : Option ℕ → Option Device → ℕ → ℕ → Option OpenLink

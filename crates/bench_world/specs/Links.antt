@@ -34,7 +34,7 @@ accepted_at n p fars = accepted_by (end_numbered n p.numbers fars)
 
 -- one link more, from here on
 abbrev pub with_link : LinkRange → Peers → Peers
-with_link l p = record { numbers = p.numbers; placed = p.placed; links = p.links ++ l ∷ [] }
+with_link l p = record { numbers = p.numbers; gone = p.gone; links = p.links ++ l ∷ [] }
 
 -- the last link is the one that is open; its range ends here
 abbrev pub last_ended : ℕ → List LinkRange → List LinkRange
@@ -43,7 +43,7 @@ last_ended n (l ∷ []) = record { peer = l.peer; start = l.start; end = Some n 
 last_ended n (l ∷ m ∷ ls) = l ∷ last_ended n (m ∷ ls)
 
 abbrev pub with_last_ended : ℕ → Peers → Peers
-with_last_ended n p = record { numbers = p.numbers; placed = p.placed; links = last_ended n p.links }
+with_last_ended n p = record { numbers = p.numbers; gone = p.gone; links = last_ended n p.links }
 
 -- the open link ends, where one is open: its range goes to the list's present end
 abbrev pub ended : Option OpenLink → List (Option FarEnd) → Peers → Peers

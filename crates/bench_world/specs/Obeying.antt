@@ -23,7 +23,7 @@ use Rattle.bench_world.specs.World.{FarEnd}
 use Rattle.bench_world.specs.Calls.{IfLinked}
 use Rattle.bench_world.specs.Links.{OpenLink, ended}
 use Rattle.bench_world.specs.Opened.{IsOpen, AreServed, AreNumbered}
-use Rattle.bench_world.specs.Peers.{Peers}
+use Rattle.bench_world.specs.Peers.{Peers, next_number, with_gone}
 
 abbrev pub obey_fault_number : ObeyFault → ℕ
 obey_fault_number faults.Refused = 1
@@ -64,7 +64,7 @@ pub record HasPlaces (m : Machines) : Type 0 where
   pub ends : length m.ends ≡ length m.air.listeners
   pub numbers : length m.peers.numbers ≡ length m.air.listeners
   pub served : AreServed m.air.listeners m.peers.numbers m.ends
-  pub apart : AreNumbered m.peers.placed m.peers.numbers
+  pub apart : AreNumbered (next_number m.peers) m.peers.numbers
 
 -- where a link is open, it stands as an open link does
 abbrev pub KeepsLink : Machines → Type 0
@@ -89,12 +89,16 @@ put_in m d end peers = record {
   link = m.link;
 }
 
--- the machines without the device at a place, its far end and its number
+-- the machines without the device at a place, its far end and its number; what stays of the far end of a peer is kept under its number
 abbrev pub taken_out : Machines → ℕ → Machines
 taken_out m place = record {
   air = record { lit = m.air.lit; listeners = remove m.air.listeners place; fates = m.air.fates; trace = m.air.trace };
   ends = remove m.ends place;
-  peers = record { numbers = remove m.peers.numbers place; placed = m.peers.placed; links = m.peers.links };
+  peers = record {
+    numbers = remove m.peers.numbers place;
+    gone = with_gone (get_or m.peers.numbers place None) (get_or m.ends place None) m.peers.gone;
+    links = m.peers.links;
+  };
   link = m.link;
 }
 

@@ -3,7 +3,8 @@
 ghost use Rattle.std.specs.Prelude.{◌≡◌, ◌≢◌, ◌<◌, List, Option, None, false, length, get_or, IfSome};
 ghost use Rattle.llcp_conn.specs.Conn.{IsWindow};
 ghost use Rattle.llcp_pdu.specs.General.{IsMiu};
-ghost use Rattle.bench_world.specs.LinkedAt.{own_params, new_client, not_opened, begun, OpensAt};
+ghost use Rattle.bench_world.specs.LinkedAt.{NotOpened, begun, OpensAt};
+ghost use Rattle.bench_world.specs.Linking.{own_params, new_client};
 ghost use Rattle.bench_world.specs.Links.{accepted_by, end_numbered, is_number, last_ended};
 ghost use Rattle.bench_world.specs.World.{FarEnd};
 
@@ -80,7 +81,7 @@ fn new_client(alloc: Global, miu: u16, rw: u8, told: &[u8]) -> Client
 /// What is told of a link that couldn't be opened.
 fn not_opened(cause: EndCause) -> Result<Answer, ObeyFault>
     requires { cause ≢ EndCause.Protocol }
-    ensures { result ≡ not_opened cause }
+    ensures { NotOpened cause result }
 {
     match cause {
         EndCause::FieldLost => Ok(Answer::LinkEnded(Loss::FieldLost)),
@@ -124,28 +125,30 @@ pub(crate) fn end_last(links: &mut [LinkRange], end: usize)
     }
 }
 
-/// A field; for each device, at its place, the far end above it and its number among the peers, of which a tag has none; the links
-/// so far, and the one that is open.
+/// A field; for each device, at its place, the far end above it and its number among the peers, of which a tag has none; under the
+/// number of each peer so far its far end where it was taken away; the links so far, and the one that is open.
 #[derive(Drop)]
 pub struct Machines {
     pub(crate) field: Field<Device>,
     pub(crate) ends: Vec<Option<Llc<Server>>>,
     pub(crate) numbers: Vec<Option<u64>>,
-    placed: u64,
+    gone: Vec<Option<Llc<Server>>>,
     pub(crate) links: Vec<LinkRange>,
     pub(crate) link: Option<Link>,
 }
 
 impl Model for Machines {
     ghost use Rattle.bench_world.specs.Obeying.{Machines};
-    ghost use Rattle.std.specs.Prelude.{◌<◌, ◌^◌, length};
+    ghost use Rattle.std.specs.Prelude.{◌<◌, ◌^◌, length, map};
+    ghost use Rattle.far_air.specs.FarEnds.{rests};
+    ghost use Rattle.peer_air.specs.PeerFars.{peer_ends};
 
     ghost Value = { Machines };
 
     ghost view = { λ m. record {
       air = m.field;
       ends = m.ends.items;
-      peers = record { numbers = m.numbers.items; placed = m.placed; links = m.links.items };
+      peers = record { numbers = m.numbers.items; gone = map (rests peer_ends) m.gone.items; links = m.links.items };
       link = m.link;
     } };
 
@@ -160,7 +163,8 @@ impl Machines {
     ghost use Rattle.bench_devices.specs.Device.{is_tag};
     ghost use Rattle.bench_devices.specs.Phases.{Stands};
     ghost use Rattle.air_core.specs.Turn.{moment};
-    ghost use Rattle.bench_world.specs.Peers.{no_peers, with_tag, with_peer, end_offered};
+    ghost use Rattle.bench_world.specs.Peers.{no_peers, with_tag, with_peer, next_number, end_offered};
+    ghost use Rattle.bench_world.specs.Opened.{AreNumbered};
     ghost use Rattle.bench_world.specs.Inbox.{inbox_at};
 
     /// An empty field.
@@ -176,7 +180,7 @@ impl Machines {
             field: Field::new(alloc),
             ends: Vec::new(alloc),
             numbers: Vec::new(alloc),
-            placed: 0,
+            gone: Vec::new(alloc),
             links: Vec::new(alloc),
             link: None,
         }
@@ -243,6 +247,7 @@ impl Machines {
         ensures air { self.new.air ≡ self.old.air }
         ensures ends { self.new.ends ≡ self.old.ends }
         ensures numbers { self.new.peers.numbers ≡ self.old.peers.numbers }
+        ensures gone { self.new.peers.gone ≡ self.old.peers.gone }
     {
         if self.is_linked_to(place) {
             self.end_link();
@@ -293,11 +298,10 @@ impl Machines {
         ensures ok { OnOk result (self.new ≡ put_in self.old peer (Some end) (with_peer self.old.peers)) }
         ensures err { OnErr result (self.new ≡ self.old) }
     {
-        let Some(next) = self.placed.checked_add(1) else {
-            return Err(AllocError);
-        };
-        self.put(peer, Some(end), Some(self.placed))?;
-        self.placed = next;
+        self.gone.reserve(1)?;
+        let number = self.gone.len() as u64;
+        self.put(peer, Some(end), Some(number))?;
+        let _ = self.gone.push(None);
         Ok(())
     }
 
@@ -412,15 +416,19 @@ impl Machines {
         }
     }
 
-    /// Takes the device at a place out, its far end and its number. Later places move down by one.
+    /// Takes the device at a place out, its far end and its number. Later places move down by one. The far end of a peer is kept
+    /// under its number: room for it was made as the peer was put in.
     pub fn take_out(&mut self, place: usize)
         requires device { place < length self.old.air.listeners }
         requires end { place < length self.old.ends }
         requires number { place < length self.old.peers.numbers }
+        requires apart { AreNumbered (next_number self.old.peers) self.old.peers.numbers }
         ensures { self.new ≡ taken_out self.old place }
     {
         let _ = self.field.take_out(place);
-        let _ = self.ends.remove(place);
-        let _ = self.numbers.remove(place);
+        let end = self.ends.remove(place);
+        if let Some(number) = self.numbers.remove(place) {
+            self.gone[number as usize] = end;
+        }
     }
 }

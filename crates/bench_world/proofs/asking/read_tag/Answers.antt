@@ -1,5 +1,7 @@
-use Rattle.std.proofs.Common.{◌≡◌, Result, IfOk, OnErr, sym, ◌∙◌, subst}
+use Rattle.std.proofs.Common.{◌≡◌, Result, IfOk, OnErr, sym, ◌∙◌, subst, map}
 use Rattle.bench_script.specs.declared.command.Command.TheVariants.{Read}
+use Rattle.far_air.specs.FarEnds.{rests}
+use Rattle.peer_air.specs.PeerFars.{peer_ends}
 use Rattle.bench_world.specs.declared.bench.ObeyFault.{ObeyFault}
 use Rattle.bench_world.specs.declared.entry.Answer.{Answer}
 use Rattle.bench_world.specs.Obeying.{Machines, Obeyed, IsCutOff, link_ended}
@@ -13,7 +15,7 @@ returns-clause-ok c =
     let m : Machines = record {
       air = c.machines.inside.field;
       ends = c.machines.inside.ends.items;
-      peers = record { numbers = c.machines.inside.numbers.items; placed = c.machines.inside.placed; links = c.machines.inside.links.items };
+      peers = record { numbers = c.machines.inside.numbers.items; gone = map (rests peer_ends) c.machines.inside.gone.items; links = c.machines.inside.links.items };
       link = c.machines.inside.link;
     } in
     let is : m ≡ link_ended old = c.machines.view_is ∙ c.end_link.ensures in
@@ -29,7 +31,7 @@ returns-clause-cut c =
     let m : Machines = record {
       air = c.machines.inside.field;
       ends = c.machines.inside.ends.items;
-      peers = record { numbers = c.machines.inside.numbers.items; placed = c.machines.inside.placed; links = c.machines.inside.links.items };
+      peers = record { numbers = c.machines.inside.numbers.items; gone = map (rests peer_ends) c.machines.inside.gone.items; links = c.machines.inside.links.items };
       link = c.machines.inside.link;
     } in
     let is : m ≡ link_ended old = c.machines.view_is ∙ c.end_link.ensures in

@@ -1,6 +1,8 @@
-use Rattle.std.proofs.Common.{◌≡◌, List, ℕ, sym, ◌∙◌}
+use Rattle.std.proofs.Common.{◌≡◌, List, ℕ, sym, ◌∙◌, map}
 use Rattle.bench_script.specs.declared.command.Command.TheVariants.{Write}
 use Rattle.bench_script.specs.Messages.{message_of}
+use Rattle.far_air.specs.FarEnds.{rests}
+use Rattle.peer_air.specs.PeerFars.{peer_ends}
 use Rattle.bench_world.specs.Obeying.{Machines, link_ended}
 use Rattle.bench_world.proofs.Unlinking.{write_resets, reset_obeyed, reset_cut}
 use Rattle.bench_world.proofs.asking.write_message.Goals as goal
@@ -11,7 +13,7 @@ returns-in-Ok-select_and_write-clause-ok c =
     let m : Machines = record {
       air = c.machines.inside.field;
       ends = c.machines.inside.ends.items;
-      peers = record { numbers = c.machines.inside.numbers.items; placed = c.machines.inside.placed; links = c.machines.inside.links.items };
+      peers = record { numbers = c.machines.inside.numbers.items; gone = map (rests peer_ends) c.machines.inside.gone.items; links = c.machines.inside.links.items };
       link = c.machines.inside.link;
     } in
     let is : m ≡ link_ended old = c.machines.view_is ∙ c.end_link.ensures in
@@ -25,7 +27,7 @@ returns-clause-cut c =
     let m : Machines = record {
       air = c.machines.inside.field;
       ends = c.machines.inside.ends.items;
-      peers = record { numbers = c.machines.inside.numbers.items; placed = c.machines.inside.placed; links = c.machines.inside.links.items };
+      peers = record { numbers = c.machines.inside.numbers.items; gone = map (rests peer_ends) c.machines.inside.gone.items; links = c.machines.inside.links.items };
       link = c.machines.inside.link;
     } in
     let is : m ≡ link_ended old = c.machines.view_is ∙ c.end_link.ensures in

@@ -1,4 +1,6 @@
-use Rattle.std.proofs.Common.{◌≡◌, ℕ, List, [], Option, Result, Ok, Err, OnErr, IsErrOf, rules, sym, subst}
+use Rattle.std.proofs.Common.{◌≡◌, ℕ, List, [], Option, Result, Ok, Err, OnErr, IsErrOf, rules, sym, subst, map}
+use Rattle.far_air.specs.FarEnds.{rests}
+use Rattle.peer_air.specs.PeerFars.{peer_ends}
 use Rattle.bench_world.specs.declared.bench.ObeyFault.{ObeyFault}
 use Rattle.bench_world.specs.declared.bench.ObeyFault.TheVariants as faults
 use Rattle.bench_world.specs.declared.entry.Answer.{Answer}
@@ -9,9 +11,9 @@ use Rattle.bench_world.specs.declared.inbox.LinkRange.{LinkRange}
 use Rattle.bench_world.specs.Peers.{Peers}
 use Rattle.bench_world.proofs.bench.run_command.Goals as goal
 
--- the peers of these numbers, so many of which were placed, with these links
-abbrev peers_of : List (Option ℕ) → ℕ → List LinkRange → Peers
-peers_of numbers placed links = record { numbers = numbers; placed = placed; links = links }
+-- the peers of these numbers, above which these far ends were taken away, with these links
+abbrev peers_of : List (Option ℕ) → List (Option FarEnd) → List LinkRange → Peers
+peers_of numbers gone links = record { numbers = numbers; gone = map (rests peer_ends) gone; links = links }
 
 -- what holds of each error holds of this one
 of_err : {P : Type 0} (r : Result Answer ObeyFault) → IsErrOf r faults.Memory → OnErr r P → P
@@ -20,7 +22,7 @@ of_err (Err x) e p = p
 
 pub returns-in-Lock-clause-cause : goal.returns-in-Lock-clause-cause
 returns-in-Lock-clause-cause c = λ e has.
-    let peers : Peers = peers_of c.machines-in-Lock.inside.numbers.items c.machines-in-Lock.inside.placed c.machines-in-Lock.inside.links.items in
+    let peers : Peers = peers_of c.machines-in-Lock.inside.numbers.items c.machines-in-Lock.inside.gone.items c.machines-in-Lock.inside.links.items in
     let m : Machines = under c.machines-in-Lock.inside.ends.items peers c.machines-in-Lock.inside.link c.machines-in-Lock.inside.field in
     let is : c.args.machines.now ≡ m = search rules in
     let A : Machines → Command → Type 0 = λ x y. Accepts (state_at x) y in
@@ -28,7 +30,7 @@ returns-in-Lock-clause-cause c = λ e has.
 
 pub returns-in-Busy-clause-cause : goal.returns-in-Busy-clause-cause
 returns-in-Busy-clause-cause c = λ e has.
-    let peers : Peers = peers_of c.machines-in-Busy.inside.numbers.items c.machines-in-Busy.inside.placed c.machines-in-Busy.inside.links.items in
+    let peers : Peers = peers_of c.machines-in-Busy.inside.numbers.items c.machines-in-Busy.inside.gone.items c.machines-in-Busy.inside.links.items in
     let m : Machines = under c.machines-in-Busy.inside.ends.items peers c.machines-in-Busy.inside.link c.machines-in-Busy.inside.field in
     let is : c.args.machines.now ≡ m = search rules in
     let A : Machines → Command → Type 0 = λ x y. Accepts (state_at x) y in
@@ -36,7 +38,7 @@ returns-in-Busy-clause-cause c = λ e has.
 
 pub returns-in-Dump-clause-cause : goal.returns-in-Dump-clause-cause
 returns-in-Dump-clause-cause c = λ e has.
-    let peers : Peers = peers_of c.machines-in-Dump.inside.numbers.items c.machines-in-Dump.inside.placed c.machines-in-Dump.inside.links.items in
+    let peers : Peers = peers_of c.machines-in-Dump.inside.numbers.items c.machines-in-Dump.inside.gone.items c.machines-in-Dump.inside.links.items in
     let m : Machines = under c.machines-in-Dump.inside.ends.items peers c.machines-in-Dump.inside.link c.machines-in-Dump.inside.field in
     let is : c.args.machines.now ≡ m = search rules in
     let A : Machines → Command → Type 0 = λ x y. Accepts (state_at x) y in

@@ -1,7 +1,9 @@
-use Rattle.std.proofs.Common.{rules, ◌≡◌, ℕ, List, Option, Some, None, Result, OnErr, refl, sym, ◌∙◌, ap, subst}
+use Rattle.std.proofs.Common.{rules, ◌≡◌, ℕ, List, Option, Some, None, Result, OnErr, refl, sym, ◌∙◌, ap, subst, map}
 use Rattle.std.specs.Prelude.{get_or, slice_set}
 use Rattle.snep_core.specs.declared.fault.SnepFault.{SnepFault}
 use Rattle.snep_core.specs.declared.fault.SnepFault.TheVariants.{BadPeer, Excess, LinkEnded, Memory, NotFound, NotImplemented, Reject}
+use Rattle.far_air.specs.FarEnds.{rests}
+use Rattle.peer_air.specs.PeerFars.{peer_ends}
 use Rattle.bench_world.specs.World.{FarEnd}
 use Rattle.bench_world.specs.Links.{OpenLink, accepted_by, end_numbered, with_last_ended}
 use Rattle.bench_world.specs.Obeying.{Machines, IsSettled, under}
@@ -13,7 +15,7 @@ use Rattle.bench_world.proofs.calling.close.Goals as goal
 
 pub returns-in_default-clause-ok : goal.returns-in_default-clause-ok
 returns-in_default-clause-ok c =
-    let peers : Peers = record { numbers = c.machines.inside.numbers.items; placed = c.machines.inside.placed; links = c.machines.inside.links.items } in
+    let peers : Peers = record { numbers = c.machines.inside.numbers.items; gone = map (rests peer_ends) c.machines.inside.gone.items; links = c.machines.inside.links.items } in
     let old : Machines = under c.machines.inside.ends.items peers c.machines.inside.link c.machines.inside.field in
     let is : c.args.machines.now ≡ old = search rules in
     let none : c.machines.inside.link ≡ None = search rules in
@@ -22,7 +24,7 @@ returns-in_default-clause-ok c =
 
 pub unreachable-requires : goal.unreachable-requires
 unreachable-requires c =
-    let peers : Peers = record { numbers = c.machines.inside.numbers.items; placed = c.machines.inside.placed; links = c.machines.inside.links.items } in
+    let peers : Peers = record { numbers = c.machines.inside.numbers.items; gone = map (rests peer_ends) c.machines.inside.gone.items; links = c.machines.inside.links.items } in
     let old : Machines = under c.machines.inside.ends.items peers c.machines.inside.link c.machines.inside.field in
     let l : OpenLink = record { peer = c.link.inside.peer; initiator = c.link.inside.initiator; client = c.link.inside.client.llc } in
     let is : c.args.machines.now ≡ old = search rules in
@@ -32,7 +34,7 @@ unreachable-requires c =
 
 pub unreachable-requires-in_default-index_mut : goal.unreachable-requires-in_default-index_mut
 unreachable-requires-in_default-index_mut c =
-    let peers : Peers = record { numbers = c.machines.inside.numbers.items; placed = c.machines.inside.placed; links = c.machines.inside.links.items } in
+    let peers : Peers = record { numbers = c.machines.inside.numbers.items; gone = map (rests peer_ends) c.machines.inside.gone.items; links = c.machines.inside.links.items } in
     let old : Machines = under c.machines.inside.ends.items peers c.machines.inside.link c.machines.inside.field in
     let l : OpenLink = record { peer = c.link.inside.peer; initiator = c.link.inside.initiator; client = c.link.inside.client.llc } in
     let is : c.args.machines.now ≡ old = search rules in
@@ -43,7 +45,7 @@ unreachable-requires-in_default-index_mut c =
 
 pub returns-in-Ok-clause-ok : goal.returns-in-Ok-clause-ok
 returns-in-Ok-clause-ok c =
-    let peers : Peers = record { numbers = c.machines.inside.numbers.items; placed = c.machines.inside.placed; links = c.machines.inside.links.items } in
+    let peers : Peers = record { numbers = c.machines.inside.numbers.items; gone = map (rests peer_ends) c.machines.inside.gone.items; links = c.machines.inside.links.items } in
     let old : Machines = under c.machines.inside.ends.items peers c.machines.inside.link c.machines.inside.field in
     let l : OpenLink = record { peer = c.link.inside.peer; initiator = c.link.inside.initiator; client = c.link.inside.client.llc } in
     let is : c.args.machines.now ≡ old = search rules in
@@ -62,7 +64,7 @@ returns-in-Ok-clause-ok c =
 
 pub returns-in-Err-LinkEnded-clause-ok : goal.returns-in-Err-LinkEnded-clause-ok
 returns-in-Err-LinkEnded-clause-ok c =
-    let peers : Peers = record { numbers = c.machines.inside.numbers.items; placed = c.machines.inside.placed; links = c.machines.inside.links.items } in
+    let peers : Peers = record { numbers = c.machines.inside.numbers.items; gone = map (rests peer_ends) c.machines.inside.gone.items; links = c.machines.inside.links.items } in
     let old : Machines = under c.machines.inside.ends.items peers c.machines.inside.link c.machines.inside.field in
     let l : OpenLink = record { peer = c.link.inside.peer; initiator = c.link.inside.initiator; client = c.link.inside.client.llc } in
     let is : c.args.machines.now ≡ old = search rules in
@@ -82,7 +84,7 @@ returns-in-Err-LinkEnded-clause-ok c =
 
 pub returns-in-Err-Memory-clause-cut : goal.returns-in-Err-Memory-clause-cut
 returns-in-Err-Memory-clause-cut c =
-    let peers : Peers = record { numbers = c.machines.inside.numbers.items; placed = c.machines.inside.placed; links = c.machines.inside.links.items } in
+    let peers : Peers = record { numbers = c.machines.inside.numbers.items; gone = map (rests peer_ends) c.machines.inside.gone.items; links = c.machines.inside.links.items } in
     let old : Machines = under c.machines.inside.ends.items peers c.machines.inside.link c.machines.inside.field in
     let l : OpenLink = record { peer = c.link.inside.peer; initiator = c.link.inside.initiator; client = c.link.inside.client.llc } in
     let is : c.args.machines.now ≡ old = search rules in
@@ -102,7 +104,7 @@ returns-in-Err-Memory-clause-cut c =
 
 pub unreachable-requires-in-Err-Reject : goal.unreachable-requires-in-Err-Reject
 unreachable-requires-in-Err-Reject c =
-    let peers : Peers = record { numbers = c.machines.inside.numbers.items; placed = c.machines.inside.placed; links = c.machines.inside.links.items } in
+    let peers : Peers = record { numbers = c.machines.inside.numbers.items; gone = map (rests peer_ends) c.machines.inside.gone.items; links = c.machines.inside.links.items } in
     let old : Machines = under c.machines.inside.ends.items peers c.machines.inside.link c.machines.inside.field in
     let l : OpenLink = record { peer = c.link.inside.peer; initiator = c.link.inside.initiator; client = c.link.inside.client.llc } in
     let is : c.args.machines.now ≡ old = search rules in
@@ -118,7 +120,7 @@ unreachable-requires-in-Err-Reject c =
 
 pub unreachable-requires-in-Err-NotFound : goal.unreachable-requires-in-Err-NotFound
 unreachable-requires-in-Err-NotFound c =
-    let peers : Peers = record { numbers = c.machines.inside.numbers.items; placed = c.machines.inside.placed; links = c.machines.inside.links.items } in
+    let peers : Peers = record { numbers = c.machines.inside.numbers.items; gone = map (rests peer_ends) c.machines.inside.gone.items; links = c.machines.inside.links.items } in
     let old : Machines = under c.machines.inside.ends.items peers c.machines.inside.link c.machines.inside.field in
     let l : OpenLink = record { peer = c.link.inside.peer; initiator = c.link.inside.initiator; client = c.link.inside.client.llc } in
     let is : c.args.machines.now ≡ old = search rules in
@@ -134,7 +136,7 @@ unreachable-requires-in-Err-NotFound c =
 
 pub unreachable-requires-in-Err-Excess : goal.unreachable-requires-in-Err-Excess
 unreachable-requires-in-Err-Excess c =
-    let peers : Peers = record { numbers = c.machines.inside.numbers.items; placed = c.machines.inside.placed; links = c.machines.inside.links.items } in
+    let peers : Peers = record { numbers = c.machines.inside.numbers.items; gone = map (rests peer_ends) c.machines.inside.gone.items; links = c.machines.inside.links.items } in
     let old : Machines = under c.machines.inside.ends.items peers c.machines.inside.link c.machines.inside.field in
     let l : OpenLink = record { peer = c.link.inside.peer; initiator = c.link.inside.initiator; client = c.link.inside.client.llc } in
     let is : c.args.machines.now ≡ old = search rules in
@@ -150,7 +152,7 @@ unreachable-requires-in-Err-Excess c =
 
 pub unreachable-requires-in-Err-NotImplemented : goal.unreachable-requires-in-Err-NotImplemented
 unreachable-requires-in-Err-NotImplemented c =
-    let peers : Peers = record { numbers = c.machines.inside.numbers.items; placed = c.machines.inside.placed; links = c.machines.inside.links.items } in
+    let peers : Peers = record { numbers = c.machines.inside.numbers.items; gone = map (rests peer_ends) c.machines.inside.gone.items; links = c.machines.inside.links.items } in
     let old : Machines = under c.machines.inside.ends.items peers c.machines.inside.link c.machines.inside.field in
     let l : OpenLink = record { peer = c.link.inside.peer; initiator = c.link.inside.initiator; client = c.link.inside.client.llc } in
     let is : c.args.machines.now ≡ old = search rules in
@@ -166,7 +168,7 @@ unreachable-requires-in-Err-NotImplemented c =
 
 pub unreachable-requires-in-Err-BadPeer : goal.unreachable-requires-in-Err-BadPeer
 unreachable-requires-in-Err-BadPeer c =
-    let peers : Peers = record { numbers = c.machines.inside.numbers.items; placed = c.machines.inside.placed; links = c.machines.inside.links.items } in
+    let peers : Peers = record { numbers = c.machines.inside.numbers.items; gone = map (rests peer_ends) c.machines.inside.gone.items; links = c.machines.inside.links.items } in
     let old : Machines = under c.machines.inside.ends.items peers c.machines.inside.link c.machines.inside.field in
     let l : OpenLink = record { peer = c.link.inside.peer; initiator = c.link.inside.initiator; client = c.link.inside.client.llc } in
     let is : c.args.machines.now ≡ old = search rules in

@@ -1,9 +1,11 @@
-use Rattle.std.proofs.Common.{rules, ◌≡◌, ℕ, List, Option, Some, None, Result, OnErr, refl, sym, ◌∙◌, ap, subst}
+use Rattle.std.proofs.Common.{rules, ◌≡◌, ℕ, List, Option, Some, None, Result, OnErr, refl, sym, ◌∙◌, ap, subst, map}
 use Rattle.std.specs.Prelude.{get_or, slice_set}
 use Rattle.bench_script.specs.declared.command.Command.TheVariants.{Get}
 use Rattle.snep_core.specs.declared.fault.SnepFault.{SnepFault}
 use Rattle.snep_core.specs.declared.fault.SnepFault.TheVariants.{BadPeer, Excess, LinkEnded, Memory, NotFound, NotImplemented, Reject}
 use Rattle.snep_core.specs.declared.job.Refusal.TheVariants as refusals
+use Rattle.far_air.specs.FarEnds.{rests}
+use Rattle.peer_air.specs.PeerFars.{peer_ends}
 use Rattle.bench_world.specs.declared.entry.Answer.{Answer}
 use Rattle.bench_world.specs.declared.entry.Answer.TheVariants as answers
 use Rattle.bench_world.specs.World.{FarEnd}
@@ -16,7 +18,7 @@ use Rattle.bench_world.proofs.calling.get_value.Goals as goal
 
 pub returns-in_default-clause-ok : goal.returns-in_default-clause-ok
 returns-in_default-clause-ok c =
-    let peers : Peers = record { numbers = c.machines.inside.numbers.items; placed = c.machines.inside.placed; links = c.machines.inside.links.items } in
+    let peers : Peers = record { numbers = c.machines.inside.numbers.items; gone = map (rests peer_ends) c.machines.inside.gone.items; links = c.machines.inside.links.items } in
     let old : Machines = under c.machines.inside.ends.items peers c.machines.inside.link c.machines.inside.field in
     let is : c.args.machines.now ≡ old = search rules in
     let none : c.machines.inside.link ≡ None = search rules in
@@ -25,7 +27,7 @@ returns-in_default-clause-ok c =
 
 pub unreachable-requires : goal.unreachable-requires
 unreachable-requires c =
-    let peers : Peers = record { numbers = c.machines.inside.numbers.items; placed = c.machines.inside.placed; links = c.machines.inside.links.items } in
+    let peers : Peers = record { numbers = c.machines.inside.numbers.items; gone = map (rests peer_ends) c.machines.inside.gone.items; links = c.machines.inside.links.items } in
     let old : Machines = under c.machines.inside.ends.items peers c.machines.inside.link c.machines.inside.field in
     let l : OpenLink = record { peer = c.link.inside.peer; initiator = c.link.inside.initiator; client = c.link.inside.client.llc } in
     let is : c.args.machines.now ≡ old = search rules in
@@ -35,7 +37,7 @@ unreachable-requires c =
 
 pub unreachable-requires-in_default-index_mut : goal.unreachable-requires-in_default-index_mut
 unreachable-requires-in_default-index_mut c =
-    let peers : Peers = record { numbers = c.machines.inside.numbers.items; placed = c.machines.inside.placed; links = c.machines.inside.links.items } in
+    let peers : Peers = record { numbers = c.machines.inside.numbers.items; gone = map (rests peer_ends) c.machines.inside.gone.items; links = c.machines.inside.links.items } in
     let old : Machines = under c.machines.inside.ends.items peers c.machines.inside.link c.machines.inside.field in
     let l : OpenLink = record { peer = c.link.inside.peer; initiator = c.link.inside.initiator; client = c.link.inside.client.llc } in
     let is : c.args.machines.now ≡ old = search rules in
@@ -46,7 +48,7 @@ unreachable-requires-in_default-index_mut c =
 
 pub returns-in-Ok-clause-ok : goal.returns-in-Ok-clause-ok
 returns-in-Ok-clause-ok c =
-    let peers : Peers = record { numbers = c.machines.inside.numbers.items; placed = c.machines.inside.placed; links = c.machines.inside.links.items } in
+    let peers : Peers = record { numbers = c.machines.inside.numbers.items; gone = map (rests peer_ends) c.machines.inside.gone.items; links = c.machines.inside.links.items } in
     let old : Machines = under c.machines.inside.ends.items peers c.machines.inside.link c.machines.inside.field in
     let l : OpenLink = record { peer = c.link.inside.peer; initiator = c.link.inside.initiator; client = c.link.inside.client.llc } in
     let is : c.args.machines.now ≡ old = search rules in
@@ -64,7 +66,7 @@ returns-in-Ok-clause-ok c =
 
 pub returns-in-Err-Reject-clause-ok : goal.returns-in-Err-Reject-clause-ok
 returns-in-Err-Reject-clause-ok c =
-    let peers : Peers = record { numbers = c.machines.inside.numbers.items; placed = c.machines.inside.placed; links = c.machines.inside.links.items } in
+    let peers : Peers = record { numbers = c.machines.inside.numbers.items; gone = map (rests peer_ends) c.machines.inside.gone.items; links = c.machines.inside.links.items } in
     let old : Machines = under c.machines.inside.ends.items peers c.machines.inside.link c.machines.inside.field in
     let l : OpenLink = record { peer = c.link.inside.peer; initiator = c.link.inside.initiator; client = c.link.inside.client.llc } in
     let is : c.args.machines.now ≡ old = search rules in
@@ -80,7 +82,7 @@ returns-in-Err-Reject-clause-ok c =
 
 pub returns-in-Err-NotFound-clause-ok : goal.returns-in-Err-NotFound-clause-ok
 returns-in-Err-NotFound-clause-ok c =
-    let peers : Peers = record { numbers = c.machines.inside.numbers.items; placed = c.machines.inside.placed; links = c.machines.inside.links.items } in
+    let peers : Peers = record { numbers = c.machines.inside.numbers.items; gone = map (rests peer_ends) c.machines.inside.gone.items; links = c.machines.inside.links.items } in
     let old : Machines = under c.machines.inside.ends.items peers c.machines.inside.link c.machines.inside.field in
     let l : OpenLink = record { peer = c.link.inside.peer; initiator = c.link.inside.initiator; client = c.link.inside.client.llc } in
     let is : c.args.machines.now ≡ old = search rules in
@@ -96,7 +98,7 @@ returns-in-Err-NotFound-clause-ok c =
 
 pub returns-in-Err-Excess-clause-ok : goal.returns-in-Err-Excess-clause-ok
 returns-in-Err-Excess-clause-ok c =
-    let peers : Peers = record { numbers = c.machines.inside.numbers.items; placed = c.machines.inside.placed; links = c.machines.inside.links.items } in
+    let peers : Peers = record { numbers = c.machines.inside.numbers.items; gone = map (rests peer_ends) c.machines.inside.gone.items; links = c.machines.inside.links.items } in
     let old : Machines = under c.machines.inside.ends.items peers c.machines.inside.link c.machines.inside.field in
     let l : OpenLink = record { peer = c.link.inside.peer; initiator = c.link.inside.initiator; client = c.link.inside.client.llc } in
     let is : c.args.machines.now ≡ old = search rules in
@@ -112,7 +114,7 @@ returns-in-Err-Excess-clause-ok c =
 
 pub returns-in-Err-NotImplemented-clause-ok : goal.returns-in-Err-NotImplemented-clause-ok
 returns-in-Err-NotImplemented-clause-ok c =
-    let peers : Peers = record { numbers = c.machines.inside.numbers.items; placed = c.machines.inside.placed; links = c.machines.inside.links.items } in
+    let peers : Peers = record { numbers = c.machines.inside.numbers.items; gone = map (rests peer_ends) c.machines.inside.gone.items; links = c.machines.inside.links.items } in
     let old : Machines = under c.machines.inside.ends.items peers c.machines.inside.link c.machines.inside.field in
     let l : OpenLink = record { peer = c.link.inside.peer; initiator = c.link.inside.initiator; client = c.link.inside.client.llc } in
     let is : c.args.machines.now ≡ old = search rules in
@@ -128,7 +130,7 @@ returns-in-Err-NotImplemented-clause-ok c =
 
 pub returns-in-Err-LinkEnded-clause-ok : goal.returns-in-Err-LinkEnded-clause-ok
 returns-in-Err-LinkEnded-clause-ok c =
-    let peers : Peers = record { numbers = c.machines.inside.numbers.items; placed = c.machines.inside.placed; links = c.machines.inside.links.items } in
+    let peers : Peers = record { numbers = c.machines.inside.numbers.items; gone = map (rests peer_ends) c.machines.inside.gone.items; links = c.machines.inside.links.items } in
     let old : Machines = under c.machines.inside.ends.items peers c.machines.inside.link c.machines.inside.field in
     let l : OpenLink = record { peer = c.link.inside.peer; initiator = c.link.inside.initiator; client = c.link.inside.client.llc } in
     let is : c.args.machines.now ≡ old = search rules in
@@ -148,7 +150,7 @@ returns-in-Err-LinkEnded-clause-ok c =
 
 pub returns-in-Err-Memory-clause-cut : goal.returns-in-Err-Memory-clause-cut
 returns-in-Err-Memory-clause-cut c =
-    let peers : Peers = record { numbers = c.machines.inside.numbers.items; placed = c.machines.inside.placed; links = c.machines.inside.links.items } in
+    let peers : Peers = record { numbers = c.machines.inside.numbers.items; gone = map (rests peer_ends) c.machines.inside.gone.items; links = c.machines.inside.links.items } in
     let old : Machines = under c.machines.inside.ends.items peers c.machines.inside.link c.machines.inside.field in
     let l : OpenLink = record { peer = c.link.inside.peer; initiator = c.link.inside.initiator; client = c.link.inside.client.llc } in
     let is : c.args.machines.now ≡ old = search rules in
@@ -168,7 +170,7 @@ returns-in-Err-Memory-clause-cut c =
 
 pub unreachable-requires-in-Err-BadPeer : goal.unreachable-requires-in-Err-BadPeer
 unreachable-requires-in-Err-BadPeer c =
-    let peers : Peers = record { numbers = c.machines.inside.numbers.items; placed = c.machines.inside.placed; links = c.machines.inside.links.items } in
+    let peers : Peers = record { numbers = c.machines.inside.numbers.items; gone = map (rests peer_ends) c.machines.inside.gone.items; links = c.machines.inside.links.items } in
     let old : Machines = under c.machines.inside.ends.items peers c.machines.inside.link c.machines.inside.field in
     let l : OpenLink = record { peer = c.link.inside.peer; initiator = c.link.inside.initiator; client = c.link.inside.client.llc } in
     let is : c.args.machines.now ≡ old = search rules in

@@ -1,9 +1,11 @@
-use Rattle.std.proofs.Common.{rules, ◌≡◌, ℕ, List, Option, Some, None, Result, OnErr, refl, sym, ◌∙◌, ap, subst}
+use Rattle.std.proofs.Common.{rules, ◌≡◌, ℕ, List, Option, Some, None, Result, OnErr, refl, sym, ◌∙◌, ap, subst, map}
 use Rattle.std.specs.Prelude.{get_or, slice_set}
 use Rattle.bench_script.specs.declared.command.Command.TheVariants.{Put}
 use Rattle.bench_script.specs.declared.message.Msg.{Msg}
 use Rattle.bench_script.specs.Messages.{message_of}
 use Rattle.snep_core.specs.declared.fault.SnepFault.{SnepFault}
+use Rattle.far_air.specs.FarEnds.{rests}
+use Rattle.peer_air.specs.PeerFars.{peer_ends}
 use Rattle.bench_world.specs.declared.entry.Answer.{Answer}
 use Rattle.bench_world.specs.declared.entry.Answer.TheVariants as answers
 use Rattle.bench_world.specs.World.{FarEnd}
@@ -17,7 +19,7 @@ use Rattle.bench_world.proofs.calling.put_bytes.Goals as goal
 
 pub returns-in_default-clause-ok : goal.returns-in_default-clause-ok
 returns-in_default-clause-ok c = λ m e.
-    let peers : Peers = record { numbers = c.machines.inside.numbers.items; placed = c.machines.inside.placed; links = c.machines.inside.links.items } in
+    let peers : Peers = record { numbers = c.machines.inside.numbers.items; gone = map (rests peer_ends) c.machines.inside.gone.items; links = c.machines.inside.links.items } in
     let old : Machines = under c.machines.inside.ends.items peers c.machines.inside.link c.machines.inside.field in
     let is : c.args.machines.now ≡ old = search rules in
     let none : c.machines.inside.link ≡ None = search rules in
@@ -29,7 +31,7 @@ returns-in_default-clause-ok c = λ m e.
 
 pub unreachable-requires : goal.unreachable-requires
 unreachable-requires c =
-    let peers : Peers = record { numbers = c.machines.inside.numbers.items; placed = c.machines.inside.placed; links = c.machines.inside.links.items } in
+    let peers : Peers = record { numbers = c.machines.inside.numbers.items; gone = map (rests peer_ends) c.machines.inside.gone.items; links = c.machines.inside.links.items } in
     let old : Machines = under c.machines.inside.ends.items peers c.machines.inside.link c.machines.inside.field in
     let l : OpenLink = record { peer = c.link.inside.peer; initiator = c.link.inside.initiator; client = c.link.inside.client.llc } in
     let is : c.args.machines.now ≡ old = search rules in
@@ -39,7 +41,7 @@ unreachable-requires c =
 
 pub unreachable-requires-in_default-index_mut : goal.unreachable-requires-in_default-index_mut
 unreachable-requires-in_default-index_mut c =
-    let peers : Peers = record { numbers = c.machines.inside.numbers.items; placed = c.machines.inside.placed; links = c.machines.inside.links.items } in
+    let peers : Peers = record { numbers = c.machines.inside.numbers.items; gone = map (rests peer_ends) c.machines.inside.gone.items; links = c.machines.inside.links.items } in
     let old : Machines = under c.machines.inside.ends.items peers c.machines.inside.link c.machines.inside.field in
     let l : OpenLink = record { peer = c.link.inside.peer; initiator = c.link.inside.initiator; client = c.link.inside.client.llc } in
     let is : c.args.machines.now ≡ old = search rules in
@@ -50,7 +52,7 @@ unreachable-requires-in_default-index_mut c =
 
 pub returns-in-Ok-clause-ok : goal.returns-in-Ok-clause-ok
 returns-in-Ok-clause-ok c = λ m e.
-    let peers : Peers = record { numbers = c.machines.inside.numbers.items; placed = c.machines.inside.placed; links = c.machines.inside.links.items } in
+    let peers : Peers = record { numbers = c.machines.inside.numbers.items; gone = map (rests peer_ends) c.machines.inside.gone.items; links = c.machines.inside.links.items } in
     let old : Machines = under c.machines.inside.ends.items peers c.machines.inside.link c.machines.inside.field in
     let l : OpenLink = record { peer = c.link.inside.peer; initiator = c.link.inside.initiator; client = c.link.inside.client.llc } in
     let is : c.args.machines.now ≡ old = search rules in
@@ -65,7 +67,7 @@ returns-in-Ok-clause-ok c = λ m e.
 
 pub returns-in-Err-Reject-clause-ok : goal.returns-in-Err-Reject-clause-ok
 returns-in-Err-Reject-clause-ok c = λ m e.
-    let peers : Peers = record { numbers = c.machines.inside.numbers.items; placed = c.machines.inside.placed; links = c.machines.inside.links.items } in
+    let peers : Peers = record { numbers = c.machines.inside.numbers.items; gone = map (rests peer_ends) c.machines.inside.gone.items; links = c.machines.inside.links.items } in
     let old : Machines = under c.machines.inside.ends.items peers c.machines.inside.link c.machines.inside.field in
     let l : OpenLink = record { peer = c.link.inside.peer; initiator = c.link.inside.initiator; client = c.link.inside.client.llc } in
     let is : c.args.machines.now ≡ old = search rules in
@@ -81,7 +83,7 @@ returns-in-Err-Reject-clause-ok c = λ m e.
 
 pub returns-in-Err-LinkEnded-clause-ok : goal.returns-in-Err-LinkEnded-clause-ok
 returns-in-Err-LinkEnded-clause-ok c = λ m e.
-    let peers : Peers = record { numbers = c.machines.inside.numbers.items; placed = c.machines.inside.placed; links = c.machines.inside.links.items } in
+    let peers : Peers = record { numbers = c.machines.inside.numbers.items; gone = map (rests peer_ends) c.machines.inside.gone.items; links = c.machines.inside.links.items } in
     let old : Machines = under c.machines.inside.ends.items peers c.machines.inside.link c.machines.inside.field in
     let l : OpenLink = record { peer = c.link.inside.peer; initiator = c.link.inside.initiator; client = c.link.inside.client.llc } in
     let is : c.args.machines.now ≡ old = search rules in
@@ -101,7 +103,7 @@ returns-in-Err-LinkEnded-clause-ok c = λ m e.
 
 pub returns-in-Err-Memory-clause-cut : goal.returns-in-Err-Memory-clause-cut
 returns-in-Err-Memory-clause-cut c = λ m e.
-    let peers : Peers = record { numbers = c.machines.inside.numbers.items; placed = c.machines.inside.placed; links = c.machines.inside.links.items } in
+    let peers : Peers = record { numbers = c.machines.inside.numbers.items; gone = map (rests peer_ends) c.machines.inside.gone.items; links = c.machines.inside.links.items } in
     let old : Machines = under c.machines.inside.ends.items peers c.machines.inside.link c.machines.inside.field in
     let l : OpenLink = record { peer = c.link.inside.peer; initiator = c.link.inside.initiator; client = c.link.inside.client.llc } in
     let is : c.args.machines.now ≡ old = search rules in
@@ -121,7 +123,7 @@ returns-in-Err-Memory-clause-cut c = λ m e.
 
 pub unreachable-requires-in-Err-NotFound : goal.unreachable-requires-in-Err-NotFound
 unreachable-requires-in-Err-NotFound c =
-    let peers : Peers = record { numbers = c.machines.inside.numbers.items; placed = c.machines.inside.placed; links = c.machines.inside.links.items } in
+    let peers : Peers = record { numbers = c.machines.inside.numbers.items; gone = map (rests peer_ends) c.machines.inside.gone.items; links = c.machines.inside.links.items } in
     let old : Machines = under c.machines.inside.ends.items peers c.machines.inside.link c.machines.inside.field in
     let l : OpenLink = record { peer = c.link.inside.peer; initiator = c.link.inside.initiator; client = c.link.inside.client.llc } in
     let is : c.args.machines.now ≡ old = search rules in
@@ -137,7 +139,7 @@ unreachable-requires-in-Err-NotFound c =
 
 pub unreachable-requires-in-Err-Excess : goal.unreachable-requires-in-Err-Excess
 unreachable-requires-in-Err-Excess c =
-    let peers : Peers = record { numbers = c.machines.inside.numbers.items; placed = c.machines.inside.placed; links = c.machines.inside.links.items } in
+    let peers : Peers = record { numbers = c.machines.inside.numbers.items; gone = map (rests peer_ends) c.machines.inside.gone.items; links = c.machines.inside.links.items } in
     let old : Machines = under c.machines.inside.ends.items peers c.machines.inside.link c.machines.inside.field in
     let l : OpenLink = record { peer = c.link.inside.peer; initiator = c.link.inside.initiator; client = c.link.inside.client.llc } in
     let is : c.args.machines.now ≡ old = search rules in
@@ -153,7 +155,7 @@ unreachable-requires-in-Err-Excess c =
 
 pub unreachable-requires-in-Err-NotImplemented : goal.unreachable-requires-in-Err-NotImplemented
 unreachable-requires-in-Err-NotImplemented c =
-    let peers : Peers = record { numbers = c.machines.inside.numbers.items; placed = c.machines.inside.placed; links = c.machines.inside.links.items } in
+    let peers : Peers = record { numbers = c.machines.inside.numbers.items; gone = map (rests peer_ends) c.machines.inside.gone.items; links = c.machines.inside.links.items } in
     let old : Machines = under c.machines.inside.ends.items peers c.machines.inside.link c.machines.inside.field in
     let l : OpenLink = record { peer = c.link.inside.peer; initiator = c.link.inside.initiator; client = c.link.inside.client.llc } in
     let is : c.args.machines.now ≡ old = search rules in
@@ -169,7 +171,7 @@ unreachable-requires-in-Err-NotImplemented c =
 
 pub unreachable-requires-in-Err-BadPeer : goal.unreachable-requires-in-Err-BadPeer
 unreachable-requires-in-Err-BadPeer c =
-    let peers : Peers = record { numbers = c.machines.inside.numbers.items; placed = c.machines.inside.placed; links = c.machines.inside.links.items } in
+    let peers : Peers = record { numbers = c.machines.inside.numbers.items; gone = map (rests peer_ends) c.machines.inside.gone.items; links = c.machines.inside.links.items } in
     let old : Machines = under c.machines.inside.ends.items peers c.machines.inside.link c.machines.inside.field in
     let l : OpenLink = record { peer = c.link.inside.peer; initiator = c.link.inside.initiator; client = c.link.inside.client.llc } in
     let is : c.args.machines.now ≡ old = search rules in

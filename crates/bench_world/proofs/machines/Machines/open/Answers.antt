@@ -1,4 +1,4 @@
-use Rattle.std.proofs.Common.{◌≡◌, ◌<◌, ℕ, List, length, get_or, Option, Some, None, refl, sym, ◌∙◌, ap, subst}
+use Rattle.std.proofs.Common.{◌≡◌, ◌<◌, ℕ, List, length, get_or, Option, Some, None, refl, sym, ◌∙◌, ap, subst, map}
 use Rattle.std.proofs.lemmas.List.{length-map}
 use Rattle.dep_link.specs.Activating.{by_cause}
 use Rattle.llcp_link.specs.Answering.{Answers}
@@ -9,8 +9,10 @@ use Rattle.snep_core.specs.Server.{Received as Accepted, ServerState, messages_o
 use Rattle.air_core.specs.Turn.{moment}
 use Rattle.bench_devices.specs.Opening.{OpensAny}
 use Rattle.bench_devices.specs.Phases.{Stands}
-use Rattle.bench_world.specs.LinkedAt.{restarts, new_client, begun, moved_at, OpensAt}
-use Rattle.bench_world.specs.Linking.{own_general}
+use Rattle.far_air.specs.FarEnds.{rests}
+use Rattle.peer_air.specs.PeerFars.{peer_ends}
+use Rattle.bench_world.specs.LinkedAt.{restarts, begun, moved_at, OpensAt}
+use Rattle.bench_world.specs.Linking.{own_general, new_client}
 use Rattle.bench_world.specs.Obeying.{Machines}
 use Rattle.bench_world.specs.World.{FarEnd}
 use Rattle.bench_world.proofs.OpensHere.{opens_ok, opens_err, never_odd}
@@ -23,7 +25,7 @@ not_opened-requires c =
     let m : Machines = record {
       air = c.self.inside.field;
       ends = c.self.inside.ends.items;
-      peers = record { numbers = c.self.inside.numbers.items; placed = c.self.inside.placed; links = c.self.inside.links.items };
+      peers = record { numbers = c.self.inside.numbers.items; gone = map (rests peer_ends) c.self.inside.gone.items; links = c.self.inside.links.items };
       link = c.self.inside.link;
     } in
     let is : m ≡ c.args.self.now = c.self.view_is in
@@ -38,7 +40,7 @@ returns-in-Ok c = λ peer far numbered there.
     let m : Machines = record {
       air = c.self.inside.field;
       ends = c.self.inside.ends.items;
-      peers = record { numbers = c.self.inside.numbers.items; placed = c.self.inside.placed; links = c.self.inside.links.items };
+      peers = record { numbers = c.self.inside.numbers.items; gone = map (rests peer_ends) c.self.inside.gone.items; links = c.self.inside.links.items };
       link = c.self.inside.link;
     } in
     let is : m ≡ c.args.self.now = c.self.view_is in
@@ -75,7 +77,7 @@ returns-in-Err c = λ peer far numbered there.
     let m : Machines = record {
       air = c.self.inside.field;
       ends = c.self.inside.ends.items;
-      peers = record { numbers = c.self.inside.numbers.items; placed = c.self.inside.placed; links = c.self.inside.links.items };
+      peers = record { numbers = c.self.inside.numbers.items; gone = map (rests peer_ends) c.self.inside.gone.items; links = c.self.inside.links.items };
       link = c.self.inside.link;
     } in
     let is : m ≡ c.args.self.now = c.self.view_is in
