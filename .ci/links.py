@@ -105,9 +105,9 @@ def all_letters():
 
 
 def each_break():
-    """The field is lost at each transmission of a link and two puts in turn."""
+    """The field is lost at each transmission of a link, a put of three units and a small one in turn."""
     for place in range(90):
-        yield ["fates " + "P" * place + "B", LINK, put(200, place), put(1, place), put(LIMIT + 1, place), LINK, put(3, place), "find"]
+        yield ["fates " + "P" * place + "B", LINK, put(300, place), put(1, place), put(LIMIT + 1, place), LINK, put(3, place), "find"]
 
 
 def at_random(chosen):
