@@ -75,7 +75,7 @@ use Rattle.bench_world.specs.Linking.{LinkEnds, LinkTells, IsFieldLost, TellsLos
 use Rattle.bench_world.specs.declared.inbox.LinkRange.{LinkRange}
 use Rattle.bench_world.specs.Links.{OpenLink, accepted_at, accepted_by, with_link, begun_if}
 use Rattle.bench_world.specs.Opened.{IsServed, AreServed, AreNumbered, IsFirstWith, IsOpen}
-use Rattle.bench_world.specs.Peers.{Peers, placed_under}
+use Rattle.bench_world.specs.Peers.{Peers, placed_under, next_number}
 use Rattle.bench_world.specs.LinkedAt.{restarts, NotOpened}
 use Rattle.bench_world.specs.Legal.{State, Given, Joins, no_joins, MayLink, AnswerLaw, FrontOf, CutFront, LinkingLaw, changed, due, begun, world_after, peers_after, link_after, state_after}
 use Rattle.bench_world.specs.Obeying.{Machines, state_at, under, HasPlaces, KeepsLink, Obeyed}
@@ -382,12 +382,12 @@ module _ (ends : Ends) (peers : Peers) (old : Air Device) (id : List ℕ) (miu r
           ap stable world ∙ ap (λ ds. S ds (map (rests peer_ends) (shown device_linked peer_ends new.listeners ends_then))) (stores_kept new.listeners ∙ ap (map stable_in) same ∙ sym (stores_kept old.listeners))
           ∙ ap (S (map stable_of old.listeners)) (set_rests new.listeners ends place far after there keeps_end.rests ∙ rests_alike new.listeners old.listeners ends (sym as_many))
 
-      places_at : (p : Peers) (l : Option OpenLink) → p.numbers ≡ peers.numbers → p.placed ≡ peers.placed → HasPlaces (record { air = new; ends = ends_then; peers = p; link = l })
+      places_at : (p : Peers) (l : Option OpenLink) → p.numbers ≡ peers.numbers → p.gone ≡ peers.gone → HasPlaces (record { air = new; ends = ends_then; peers = p; link = l })
       places_at p l numbers placed = record {
         ends = length-set ends place (Some after) ∙ places.ends ∙ as_many;
         numbers = ap length numbers ∙ places.numbers ∙ as_many;
         served = subst (λ ps. AreServed new.listeners ps ends_then) (sym numbers) (served_as old.listeners new.listeners peers.numbers ends_then (kinds_of new.listeners old.listeners same) (set_served old.listeners peers.numbers ends place far after there keeps_end places.served));
-        apart = subst (λ n. AreNumbered n p.numbers) (sym placed) (subst (AreNumbered peers.placed) (sym numbers) places.apart);
+        apart = subst (λ gs. AreNumbered (length gs) p.numbers) (sym placed) (subst (AreNumbered (next_number peers)) (sym numbers) places.apart);
       }
 
       -- what happened is the selection and what came behind it
@@ -414,7 +414,7 @@ module _ (ends : Ends) (peers : Peers) (old : Air Device) (id : List ℕ) (miu r
           }
 
       obeyed_at : (answer : Told_answer) (p : Peers) (l : Option OpenLink) → p ≡ peers_after st joins (Link id miu rw) es (Some answer) → l ≡ link_after st joins (Link id miu rw) es (Some answer)
-          → p.numbers ≡ peers.numbers → p.placed ≡ peers.placed → LinkTells (A id) old.listeners count (own_general miu) es answer → due_at (stand 0 (atr_frame (own_general miu) ∷ []) o.notes) ≡ Over
+          → p.numbers ≡ peers.numbers → p.gone ≡ peers.gone → LinkTells (A id) old.listeners count (own_general miu) es answer → due_at (stand 0 (atr_frame (own_general miu) ∷ []) o.notes) ≡ Over
           → KeepsLink (record { air = new; ends = ends_then; peers = p; link = l }) → Obeyed (under ends peers None old) (record { air = new; ends = ends_then; peers = p; link = l }) (Link id miu rw) answer
       obeyed_at answer p l peers_so link_so numbers placed tells done keeps =
           let N : Machines = record { air = new; ends = ends_then; peers = p; link = l } in
@@ -437,7 +437,7 @@ module _ (ends : Ends) (peers : Peers) (old : Air Device) (id : List ℕ) (miu r
       pub ended_link : (cause : EndCause) (loss : _) → result ≡ Err cause → NotOpened cause (Ok (answers.LinkEnded loss))
           → Obeyed (under ends peers None old) (record { air = new; ends = ends_then; peers = peers; link = None }) (Link id miu rw) (answers.LinkEnded loss)
       ended_link causes.FieldLost loss is answer =
-          let same : ◌≡◌ {A = Result Answer ObeyFault} (Ok (answers.LinkEnded loss)) (Ok (answers.LinkEnded losses.FieldLost)) = answer in
+          let same : ◌≡◌ {A = Result Told_answer ObeyFault} (Ok (answers.LinkEnded loss)) (Ok (answers.LinkEnded losses.FieldLost)) = answer in
           let same_loss : loss ≡ losses.FieldLost = cc in
           let e = lost_ends count o.notes (stand 0 (atr_frame (own_general miu) ∷ []) o.notes) (subst (AnswersAtr true o.notes (stand 0 (atr_frame (own_general miu) ∷ []) o.notes)) is o.answers) in
           let P : _ → Type 0 = λ x. Obeyed (under ends peers None old) (record { air = new; ends = ends_then; peers = peers; link = None }) (Link id miu rw) (answers.LinkEnded x) in
@@ -445,7 +445,7 @@ module _ (ends : Ends) (peers : Peers) (old : Air Device) (id : List ℕ) (miu r
           (obeyed_at (answers.LinkEnded losses.FieldLost) peers None refl refl refl refl
           (tells_by (answers.LinkEnded losses.FieldLost) (λ l. is) (λ r. inr refl) (λ six. absurd (let clash : answers.LinkEnded losses.FieldLost ≡ answers.LinkEnded losses.SixBad = six in cc)) e.0) e.1 tt)
       ended_link causes.SixBad loss is answer =
-          let same : ◌≡◌ {A = Result Answer ObeyFault} (Ok (answers.LinkEnded loss)) (Ok (answers.LinkEnded losses.SixBad)) = answer in
+          let same : ◌≡◌ {A = Result Told_answer ObeyFault} (Ok (answers.LinkEnded loss)) (Ok (answers.LinkEnded losses.SixBad)) = answer in
           let same_loss : loss ≡ losses.SixBad = cc in
           let e = six_ends count o.notes (stand 0 (atr_frame (own_general miu) ∷ []) o.notes) (subst (AnswersAtr true o.notes (stand 0 (atr_frame (own_general miu) ∷ []) o.notes)) is o.answers) in
           let P : _ → Type 0 = λ x. Obeyed (under ends peers None old) (record { air = new; ends = ends_then; peers = peers; link = None }) (Link id miu rw) (answers.LinkEnded x) in
@@ -455,7 +455,7 @@ module _ (ends : Ends) (peers : Peers) (old : Air Device) (id : List ℕ) (miu r
           (λ l. absurd (elim l [ inl dark ↦ (let clash : answers.LinkEnded losses.SixBad ≡ answers.FieldLost = dark in cc) | inr ended ↦ (let clash : answers.LinkEnded losses.SixBad ≡ answers.LinkEnded losses.FieldLost = ended in cc) ]))
           (λ r. absurd (let clash : ◌≡◌ {A = Result (InitState × ArrayVec ℕ) EndCause} (Err causes.SixBad) (Err causes.FieldLost) = sym is ∙ r in cc)) (λ six. is) e.0) e.1 tt)
       ended_link causes.Protocol loss is answer = absurd answer
-      ended_link causes.Memory loss is answer = absurd (let clash : ◌≡◌ {A = Result Answer ObeyFault} (Ok (answers.LinkEnded loss)) (Err obey_faults.Memory) = answer in cc)
+      ended_link causes.Memory loss is answer = absurd (let clash : ◌≡◌ {A = Result Told_answer ObeyFault} (Ok (answers.LinkEnded loss)) (Err obey_faults.Memory) = answer in cc)
 
       -- memory was wanting
       pub cut_link : CutFront st (Link id miu rw) new.trace (state_at (record { air = new; ends = ends_then; peers = peers; link = None }))
@@ -495,7 +495,7 @@ module _ (ends : Ends) (peers : Peers) (old : Air Device) (id : List ℕ) (miu r
         range = record { peer = n; start = length far.service.accepted; end = None }
 
         first_at : IsFirstWith n place peers.numbers
-        first_at = first_of peers.placed n place peers.numbers places.apart numbered
+        first_at = first_of (next_number peers) n place peers.numbers places.apart numbered
 
         counted : accepted_at n peers (shown device_linked peer_ends old.listeners ends) ≡ length far.service.accepted
         counted = accepted_shown n peers.numbers old.listeners ends places.numbers ∙ ap accepted_by (first_end n place peers.numbers first_at ends ∙ there)

@@ -40,7 +40,7 @@ use Rattle.bench_world.specs.Links.{OpenLink, accepted_by, ended, ended_unless, 
 use Rattle.bench_world.specs.Legal.{State, Given, Joins, Accepts, AnswerLaw, CutFront, CutStores, FrontOf, HaltsCall, IsAskedBy, LeavesStable, begun, changed, due, link_after, peers_after, state_after, world_after}
 use Rattle.bench_world.specs.Obeying.{Machines, HasPlaces, IsSettled, KeepsLink, Obeyed, state_at, under}
 use Rattle.bench_world.specs.Opened.{AreNumbered, AreServed, IsOpen}
-use Rattle.bench_world.specs.Peers.{Peers}
+use Rattle.bench_world.specs.Peers.{Peers, next_number}
 use Rattle.bench_world.proofs.CallNotes.{IsPlainNext, call_broken, call_lost, calls_plain}
 use Rattle.bench_world.proofs.OnLink.{Ends as FarEnds, accepted_now, as_many, bare, devices_stay, ends_more, ends_same, first, going, leaves, now, opened, own, queue_is, served, set_long, set_there, stands, tame, trace_is, world_is}
 
@@ -111,12 +111,12 @@ module _ (air : Air Device) (ends : FarEnds) (peers : Peers) (l : OpenLink) (set
         } in
         subst (λ xs. FrontOf from_state given c xs told (state_at (to link ps))) (sym (trace_is air ends peers l settled next plain b after notes g)) f
 
-    pub places_then : setting_of after ≡ setting_of end → (link : Option OpenLink) (ps : Peers) → ps.numbers ≡ peers.numbers → ps.placed ≡ peers.placed → HasPlaces (to link ps)
+    pub places_then : setting_of after ≡ setting_of end → (link : Option OpenLink) (ps : Peers) → ps.numbers ≡ peers.numbers → ps.gone ≡ peers.gone → HasPlaces (to link ps)
     places_then set link ps numbered placed = record {
       ends = set_long ends place end after (opened air ends peers l settled).above ∙ settled.places.ends ∙ sym (as_many air ends peers l settled next plain b after notes g);
       numbers = ap length numbered ∙ settled.places.numbers ∙ sym (as_many air ends peers l settled next plain b after notes g);
       served = subst (λ xs. AreServed b.listeners xs far_now) (sym numbered) (served air ends peers l settled next plain b after notes g set);
-      apart = subst (λ n. AreNumbered n ps.numbers) (sym placed) (subst (AreNumbered peers.placed) (sym numbered) settled.places.apart);
+      apart = subst (λ gs. AreNumbered (length gs) ps.numbers) (sym placed) (subst (AreNumbered (next_number peers)) (sym numbered) settled.places.apart);
     }
 
     -- what stays
@@ -137,7 +137,7 @@ module _ (air : Air Device) (ends : FarEnds) (peers : Peers) (l : OpenLink) (set
         ∙ ap (λ (s : State). stable s.world) (sym still)
 
     pub obeyed : (answer : Answer) (link : Option OpenLink) (ps : Peers) → next notes ≡ Over → link_after from_state given.joins c es (Some answer) ≡ link → peers_after from_state given.joins c es (Some answer) ≡ ps
-        → AnswerLaw from_state given c es answer → setting_of after ≡ setting_of end → ps.numbers ≡ peers.numbers → ps.placed ≡ peers.placed → KeepsLink (to link ps)
+        → AnswerLaw from_state given c es answer → setting_of after ≡ setting_of end → ps.numbers ≡ peers.numbers → ps.gone ≡ peers.gone → KeepsLink (to link ps)
         → Obeyed (under ends peers (Some l) air) (to link ps) c answer
     obeyed answer link ps over link_is peers_is law set numbered placed keeps =
         let trace : b.trace ≡ es = trace_is air ends peers l settled next plain b after notes g in

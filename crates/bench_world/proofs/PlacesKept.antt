@@ -192,3 +192,9 @@ first_apart n zero zero (p ∷ ps) f other e = (let clash : true ≡ false = sym
 first_apart n zero (suc j) (p ∷ ps) f other e = cc
 first_apart n (suc k) zero (p ∷ ps) f other e = cc
 first_apart n (suc k) (suc j) (p ∷ ps) f other e = first_apart n k j ps f.1 other cc
+
+-- a number among them is below theirs
+pub below_at : (n : ℕ) (ps : List (Option ℕ)) (i p : ℕ) → AreNumbered n ps → get_or ps i None ≡ Some p → p < n
+below_at n [] i p s at = absurd (let clash : ◌≡◌ {A = Option ℕ} None (Some p) = at in cc)
+below_at n (q ∷ ps) zero p s at = subst (IsBelow n) at s.0
+below_at n (q ∷ ps) (suc i) p s at = below_at n ps i p s.2 at

@@ -50,10 +50,14 @@ with_place_changed change id [] xs = xs
 with_place_changed change id (d ∷ ds) xs =
     if pointwise nat_eq (device_id d) id then option_map change (first_far xs) ∷ later_fars xs else first_far xs ∷ with_place_changed change id ds (later_fars xs)
 
--- What stays of the far end of a device that is taken away is kept under its number, where it has one.
+-- this under a number, where there is one
+abbrev pub set_under : {X : Type 0} → Option ℕ → X → List X → List X
+set_under None x xs = xs
+set_under (Some n) x xs = slice_set xs n x
+
+-- What stays of the far end of a device that is taken away is kept under its number.
 abbrev pub with_gone : Option ℕ → Option FarEnd → List (Option FarEnd) → List (Option FarEnd)
-with_gone None end os = os
-with_gone (Some n) end os = slice_set os n (rests peer_ends end)
+with_gone number end os = set_under number (rests peer_ends end) os
 
 -- the device with an identifier is taken away, from below these far ends; no number is given again
 abbrev pub without_number : List ℕ → List Device → List (Option FarEnd) → Peers → Peers

@@ -6,6 +6,7 @@ ghost use Rattle.llcp_pdu.specs.General.{IsMiu};
 ghost use Rattle.bench_world.specs.LinkedAt.{NotOpened, begun, OpensAt};
 ghost use Rattle.bench_world.specs.Linking.{own_params, new_client};
 ghost use Rattle.bench_world.specs.Links.{accepted_by, end_numbered, is_number, last_ended};
+ghost use Rattle.bench_world.specs.Peers.{set_under};
 ghost use Rattle.bench_world.specs.World.{FarEnd};
 
 use crate::bench::ObeyFault;
@@ -122,6 +123,17 @@ pub(crate) fn end_last(links: &mut [LinkRange], end: usize)
     let count = links.len();
     if count > 0 {
         links[count - 1].end = Some(end);
+    }
+}
+
+/// Under the number of a peer that is taken away its far end is kept.
+fn keep_under(gone: &mut [Option<Llc<Server>>], number: Option<u64>, end: Option<Llc<Server>>)
+    requires { IfSome number (λ n. n < length gone.old) }
+    ensures kept { gone.new ≡ set_under number end gone.old }
+    ensures len { length gone.new ≡ length gone.old }
+{
+    if let Some(number) = number {
+        gone[number as usize] = end;
     }
 }
 
@@ -262,47 +274,41 @@ impl Machines {
         self.field.take_trace()
     }
 
-    /// Puts a device in behind the others, dark until the next reset, its far end and its number.
-    fn put(
-        &mut self,
-        device: Device,
-        end: Option<Llc<Server>>,
-        number: Option<u64>,
-    ) -> Result<(), AllocError>
-        ensures ok { OnOk result (self.new ≡ put_in self.old device end
-            (record self.old.peers { numbers = self.old.peers.numbers ++ number ∷ [] })) }
+    /// Puts a tag in behind the other devices, dark until the next reset.
+    pub fn put_in(&mut self, tag: Device) -> Result<(), AllocError>
+        ensures ok { OnOk result (self.new ≡ put_in self.old tag None (with_tag self.old.peers)) }
         ensures err { OnErr result (self.new ≡ self.old) }
     {
         self.ends.reserve(1)?;
         self.numbers.reserve(1)?;
-        match self.field.put_in(device) {
+        match self.field.put_in(tag) {
             Ok(_) => {
-                let _ = self.ends.push(end);
-                let _ = self.numbers.push(number);
+                let _ = self.ends.push(None);
+                let _ = self.numbers.push(None);
                 Ok(())
             }
             Err(_) => Err(AllocError),
         }
     }
 
-    /// Puts a tag in behind the other devices.
-    pub fn put_in(&mut self, tag: Device) -> Result<(), AllocError>
-        ensures ok { OnOk result (self.new ≡ put_in self.old tag None (with_tag self.old.peers)) }
-        ensures err { OnErr result (self.new ≡ self.old) }
-    {
-        self.put(tag, None, None)
-    }
-
-    /// Puts a peer in behind the other devices, under its far end.
+    /// Puts a peer in behind the other devices, dark until the next reset, under its far end; it has the next number.
     pub fn put_in_peer(&mut self, peer: Device, end: Llc<Server>) -> Result<(), AllocError>
         ensures ok { OnOk result (self.new ≡ put_in self.old peer (Some end) (with_peer self.old.peers)) }
         ensures err { OnErr result (self.new ≡ self.old) }
     {
+        self.ends.reserve(1)?;
+        self.numbers.reserve(1)?;
         self.gone.reserve(1)?;
-        let number = self.gone.len() as u64;
-        self.put(peer, Some(end), Some(number))?;
-        let _ = self.gone.push(None);
-        Ok(())
+        match self.field.put_in(peer) {
+            Ok(_) => {
+                let number = self.gone.len() as u64;
+                let _ = self.ends.push(Some(end));
+                let _ = self.numbers.push(Some(number));
+                let _ = self.gone.push(None);
+                Ok(())
+            }
+            Err(_) => Err(AllocError),
+        }
     }
 
     /// The far end at a place; there is none above a tag.
@@ -427,8 +433,7 @@ impl Machines {
     {
         let _ = self.field.take_out(place);
         let end = self.ends.remove(place);
-        if let Some(number) = self.numbers.remove(place) {
-            self.gone[number as usize] = end;
-        }
+        let number = self.numbers.remove(place);
+        keep_under(&mut self.gone, number, end);
     }
 }

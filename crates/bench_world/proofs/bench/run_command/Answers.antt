@@ -8,6 +8,7 @@ use Rattle.bench_script.specs.declared.command.Command.{Command}
 use Rattle.bench_world.specs.Legal.{Accepts}
 use Rattle.bench_world.specs.Obeying.{Machines, IsCutOff, under, state_at}
 use Rattle.bench_world.specs.declared.inbox.LinkRange.{LinkRange}
+use Rattle.bench_world.specs.World.{FarEnd}
 use Rattle.bench_world.specs.Peers.{Peers}
 use Rattle.bench_world.proofs.bench.run_command.Goals as goal
 
