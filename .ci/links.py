@@ -112,7 +112,7 @@ def each_break():
 
 def at_random(chosen):
     """Puts, losses and new links."""
-    for _ in range(1200):
+    for _ in range(5000):
         fates = "".join(chosen.choices("PPPPPPPPDLB", k=chosen.randint(1, 12)))
         yield [f"fates {fates}", chosen.choice([LINK, "unlink", put(0, 0), put(LIMIT, 7)]), put(chosen.randint(0, LIMIT + 40), chosen.randint(0, 255))]
 
