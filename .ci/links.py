@@ -110,11 +110,18 @@ def each_break():
         yield ["fates " + "P" * place + "B", LINK, put(300, place), put(1, place), put(LIMIT + 1, place), LINK, put(3, place), "find"]
 
 
+def each_silence():
+    """From each transmission of two puts on, nothing passes for a while, or no answer does."""
+    for place in range(40):
+        for fates in ("D" * 12, "L" * 12, "PL" * 7, "PD" * 7, "P" + "L" * 12):
+            yield [LINK, "fates " + "P" * place + fates, put(300, place), put(1, place), LINK, put(2, place), "find"]
+
+
 def at_random(chosen):
     """Puts, losses and new links."""
-    for _ in range(5000):
-        fates = "".join(chosen.choices("PPPPPPPPDLB", k=chosen.randint(1, 12)))
-        yield [f"fates {fates}", chosen.choice([LINK, "unlink", put(0, 0), put(LIMIT, 7)]), put(chosen.randint(0, LIMIT + 40), chosen.randint(0, 255))]
+    for _ in range(3000):
+        fates = "".join(chosen.choices("PPPPPPDLLLB", weights=[1] * 10 + [0.2], k=chosen.randint(1, 30)))
+        yield [LINK, f"fates {fates}", put(chosen.randint(0, LIMIT + 40), chosen.randint(0, 255)), chosen.choice([LINK, "unlink", put(0, 0), put(LIMIT, 7)])]
 
 
 def scripts(parts):
@@ -130,7 +137,7 @@ def scripts(parts):
 
 def main(program):
     chosen = random.Random(1)
-    parts = itertools.chain(all_letters(), each_break(), at_random(chosen))
+    parts = itertools.chain(all_letters(), each_break(), each_silence(), at_random(chosen))
     faults = [fault for script in scripts(parts) for fault in faults_of(program, script)]
     for fault in faults[:10]:
         print(f"links: {fault}")
