@@ -1,13 +1,13 @@
 //! The commands on the open link: its client puts a message to the server of the link's peer, gets a value of it, or asks
 //! where a service is; and the link is closed.
 
-ghost use Rattle.std.specs.Prelude.{◌≡◌, ◌≤◌, ◌<◌, ◌⊎◌, length, get_or, None, IfOk, OnErr, IsErrOf, MatchOption};
+ghost use Rattle.std.specs.Prelude.{◌≡◌, ◌↔◌, ◌≤◌, IsTrue, ◌<◌, ◌⊎◌, length, get_or, None, IfOk, OnErr, IsErrOf, MatchOption};
 ghost use Rattle.std.specs.Char.{is_ascii_graphic};
 ghost use Rattle.std.specs.List.{list_all};
 ghost use Rattle.nfc_base.specs.declared.carrier.EndCause.TheVariants as causes;
 ghost use Rattle.bench_script.specs.declared.message.Msg.{Msg};
 ghost use Rattle.bench_script.specs.Messages.{message_of};
-ghost use Rattle.bench_script.specs.Script.{SpellsName};
+ghost use Rattle.bench_script.specs.Script.{SpellsName, longest_message};
 ghost use Rattle.bench_world.specs.Calls.{told_loss};
 ghost use Rattle.bench_world.specs.Legal.{MayGet};
 ghost use Rattle.bench_world.specs.Links.{accepted_by, with_last_ended};
@@ -107,6 +107,16 @@ fn put_bytes(machines: &mut Machines, bytes: &[u8]) -> Result<Answer, AllocError
     }
 }
 
+/// Whether a message is longer than one may be.
+fn is_too_long(message: &Msg) -> bool
+    ensures { IsTrue result ↔ (longest_message < length (message_of message.now)) }
+{
+    match message {
+        Msg::Hex(bytes) => bytes.as_slice().len() > LONGEST_MESSAGE,
+        Msg::Gen { count, .. } => *count as usize > LONGEST_MESSAGE,
+    }
+}
+
 /// Puts a message to the server of the link's peer.
 pub fn put(alloc: Global, machines: &mut Machines, message: &Msg) -> Result<Answer, ObeyFault>
     requires { IsSettled machines.old }
@@ -115,12 +125,12 @@ pub fn put(alloc: Global, machines: &mut Machines, message: &Msg) -> Result<Answ
     ensures cause { RefusedOnly result machines.old (Command.Put message.now) }
     ensures cut { IsErrOf result ObeyFault.Memory → IsCutOff machines.old machines.new (Command.Put message.now) }
 {
+    if is_too_long(message) {
+        return Err(ObeyFault::Refused);
+    }
     let Ok(bytes) = message.bytes(alloc) else {
         return Err(ObeyFault::Memory);
     };
-    if bytes.len() > LONGEST_MESSAGE {
-        return Err(ObeyFault::Refused);
-    }
     match put_bytes(machines, &bytes) {
         Ok(answer) => Ok(answer),
         Err(_) => Err(ObeyFault::Memory),
