@@ -37,6 +37,7 @@ mod DigitPairs
 pub mod CallNotes
 pub mod TalkFar
 pub mod OnLink
+pub mod Arrived
 pub mod OnCall
 pub mod CallEnds
 pub mod Putting

@@ -63,6 +63,7 @@ module _ (air : Air Device) (ends : FarEnds) (peers : Peers) (l : OpenLink) (set
         made_obeyed air ends peers l settled (Put m) (Puts (message_of m)) put_call b j after (alone (Over Done)) client answers.Success made refl (λ loss e. cc)
         (λ joins events facts. record {
           told = facts.told;
+          came = facts.came;
           more = from_client (message_of m) ∷ [];
           adds = of_end air ends peers l settled (λ e. PutAdds (message_of m) e answers.Success (from_client (message_of m) ∷ [])) (taken.within, refl);
           devices = facts.devices;
@@ -75,6 +76,7 @@ module _ (air : Air Device) (ends : FarEnds) (peers : Peers) (l : OpenLink) (set
         made_obeyed air ends peers l settled (Put m) (Puts (message_of m)) put_call b j after (alone (Over (Refused refusals.Reject))) client answers.Reject made refl (λ loss e. cc)
         (λ joins events facts. record {
           told = facts.told;
+          came = facts.came;
           more = [];
           adds = of_end air ends peers l settled (λ e. PutAdds (message_of m) e answers.Reject []) (rejected.beyond, refl);
           devices = facts.devices;
@@ -98,6 +100,7 @@ module _ (air : Air Device) (ends : FarEnds) (peers : Peers) (l : OpenLink) (set
         lost_obeyed air ends peers l settled (Put m) (Puts (message_of m)) put_call b j after why answer ended told
         (λ joins events facts. record {
           told = facts.told;
+          came = facts.came;
           more = a.0;
           adds = of_end air ends peers l settled (λ e. PutAdds (message_of m) e answer a.0) (by_loss why told a.0 a.2);
           devices = facts.devices;
