@@ -1,5 +1,5 @@
 -- What a command that asks over the open link comes to, by what its call came to.
-use Rattle.std.proofs.Common.{◌≡◌, ◌↔◌, ◌⊎◌, ℕ, ◌<◌, List, [], ◌∷◌, ◌++◌, length, Bool, true, false, Option, Some, None, refl, sym, ◌∙◌, ap, subst, inl, inr}
+use Rattle.std.proofs.Common.{◌≡◌, ◌↔◌, ◌⊎◌, ℕ, ◌<◌, List, [], ◌++◌, length, Some, None, refl, sym, ◌∙◌, ap, subst, inl, inr}
 use Rattle.std.specs.Prelude.{get_or, slice_set, drop}
 use Rattle.nfc_base.specs.declared.carrier.EndCause.{EndCause}
 use Rattle.nfc_base.specs.declared.carrier.EndCause.TheVariants as cause
@@ -11,14 +11,12 @@ use Rattle.peer_air.specs.PeerFars.{peer_ends}
 use Rattle.snep_core.specs.Accord.{Accords}
 use Rattle.snep_core.specs.Server.{Received}
 use Rattle.snep_core.specs.Talk.{EndState, OnSap, Step, Ends, Task, begins}
-use Rattle.link_calls.specs.CallDue.{Comes, BrokenBy, call_due, call_due_at}
+use Rattle.link_calls.specs.CallDue.{Comes, BrokenBy, call_due_at}
 use Rattle.link_calls.specs.CallTurns.{CallFront, CallTurns}
 use Rattle.link_calls.specs.Calls.{IsCutShort, IsEndedBy, IsMade}
-use Rattle.link_calls.specs.Calls as calls
-use Rattle.link_calls.specs.Staying.{setting_of}
 use Rattle.bench_script.specs.declared.command.Command.{Command}
 use Rattle.bench_devices.specs.declared.device.Device.{Device}
-use Rattle.bench_devices.specs.Device.{devices, device_end, device_linked}
+use Rattle.bench_devices.specs.Device.{device_end, device_linked}
 use Rattle.bench_devices.specs.Keeping.{ghosts}
 use Rattle.bench_devices.specs.Beside.{InStepAt}
 use Rattle.bench_devices.proofs.PeerHere.{in_step}
@@ -30,12 +28,12 @@ use Rattle.bench_world.specs.declared.entry.Loss.TheVariants as losses
 use Rattle.bench_world.specs.World.{FarEnd, stable}
 use Rattle.bench_world.specs.Calls.{OfEnd, told_loss, told_step, with_accepted}
 use Rattle.bench_world.specs.Links.{OpenLink, accepted_by, with_last_ended}
-use Rattle.bench_world.specs.Legal.{State, Joins, CutFront, CutStores, HaltsCall, LeavesStable, end_of, world_after}
+use Rattle.bench_world.specs.Legal.{Joins, CutFront, CutStores, HaltsCall, LeavesStable, end_of, world_after}
 use Rattle.bench_world.specs.Obeying.{Machines, IsSettled, Obeyed, state_at, under}
 use Rattle.bench_world.specs.Opened.{IsOpen}
 use Rattle.bench_world.specs.Peers.{Peers}
-use Rattle.bench_world.proofs.OnLink.{Ends as FarEnds, end_is, going, leaves, linked_in, own, opened, set_there, stands, trace_is}
-use Rattle.bench_world.proofs.OnCall.{IsCall, Law, broke, came, end, events, from_state, gone_then, halted, joins, next, open_then, place, plain, same, short}
+use Rattle.bench_world.proofs.OnLink.{Ends as FarEnds, end_is, leaves, linked_in, own, opened, set_there, stands, trace_is}
+use Rattle.bench_world.proofs.OnCall.{IsCall, Law, broke, came, end, events, from_state, gone_then, halted, next, open_then, place, plain, same, short}
 
 module _ (air : Air Device) (ends : FarEnds) (peers : Peers) (l : OpenLink) (settled : IsSettled (under ends peers (Some l) air)) where
   -- what holds of the far end holds of it in the state

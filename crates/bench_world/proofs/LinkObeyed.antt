@@ -1,5 +1,5 @@
 -- A link was opened, or it was not: the peer wasn't found, it was a tag, or no answer came.
-use Rattle.std.proofs.Common.{◌≡◌, ◌↔◌, inl, inr, ℕ, zero, suc, ◌+◌, ◌<◌, List, [], ◌∷◌, ◌++◌, map, length, true, false, Option, Some, None, Result, Ok, Err, refl, sym, ◌∙◌, ap, subst, arith}
+use Rattle.std.proofs.Common.{◌≡◌, inl, inr, ℕ, zero, suc, ◌+◌, ◌<◌, List, [], ◌∷◌, ◌++◌, map, length, true, false, Option, Some, None, Result, Ok, Err, refl, sym, ◌∙◌, ap, subst, arith}
 use Rattle.std.specs.Prelude.{get_or, slice_set, IfOk}
 use Rattle.std.proofs.lemmas.Bool.{cases_lt}
 use Rattle.std.proofs.lemmas.List.{append-nil, length-map, length-set}
@@ -13,7 +13,7 @@ use Rattle.nfc_base.specs.Trace.{back_of, noise, breaks}
 use Rattle.nfc_base.specs.Trace as backs
 use Rattle.air_core.specs.World.{World}
 use Rattle.air_core.specs.Turn.{Air, moment}
-use Rattle.air_core.specs.Conversation.{Moment, Note, Next, Over, LightUp, Asks, Going, AreTurns, EachDue, receptions, replay, queue_after}
+use Rattle.air_core.specs.Conversation.{Moment, Note, Over, LightUp, Asks, Going, AreTurns, EachDue, receptions, replay, queue_after}
 use Rattle.air_core.specs.Turning.{due_weaker}
 use Rattle.air_core.specs.Waits.{Standing, Asking, Broken, Astray, stand, due_at}
 use Rattle.air_core.proofs.LostField.{breaks-append}
@@ -82,14 +82,14 @@ use Rattle.bench_world.specs.LinkedAt.{restarts, NotOpened}
 use Rattle.bench_world.specs.Legal.{State, Given, Joins, no_joins, MayLink, AnswerLaw, FrontOf, CutFront, LinkingLaw, changed, due, begun, world_after, peers_after, link_after, state_after}
 use Rattle.bench_world.specs.Obeying.{Machines, linked_at, state_at, under, HasPlaces, KeepsLink, Obeyed}
 use Rattle.bench_world.proofs.Fronts.{Ends, ends_table, rests_alike, stable_behind}
-use Rattle.bench_world.proofs.Placed.{Upon, beneath}
+use Rattle.bench_world.proofs.Placed.{Upon}
 use Rattle.bench_world.proofs.Locking.{has_id}
 use Rattle.bench_world.proofs.Removing.{under_at}
 use Rattle.bench_world.proofs.PlacesKept.{served_as, kinds_of, first_end}
 use Rattle.bench_world.proofs.OnLink.{end_shown, end_there, linked_in}
 use Rattle.bench_world.proofs.Restarted.{KeepsEnd, begun_anew, times_keep, last_begun, far_there, far_set, set_there, set_rests, set_served, served_at, begin_self, first_of, readable_said}
 use Rattle.bench_world.proofs.Unlinking.{accepted_shown}
-use Rattle.bench_world.proofs.Legality.{selecting_more, told_lost, poll_lost, asks_for, above, front_so, asks_so, plain_after, trace_is, part_stays, stores_stay, stores_kept, stable_in}
+use Rattle.bench_world.proofs.Legality.{selecting_more, told_lost, poll_lost, asks_for, above, front_so, asks_so, plain_after, part_stays, stores_stay, stores_kept, stable_in}
 use Rattle.std.specs.Prelude.{◌-◌, ◌==◌, ◌≤◌, Bool, if◌then◌else◌}
 use Rattle.llcp_pdu.specs.Wire.{magic, least_miu}
 use Rattle.llcp_pdu.specs.Writing.{params_bytes}

@@ -1,5 +1,5 @@
 -- A command that asks over the open link was obeyed, or cut off.
-use Rattle.std.proofs.Common.{◌≡◌, ◌↔◌, ◌⊎◌, ℕ, zero, suc, ◌<◌, List, [], ◌∷◌, ◌++◌, map, length, Bool, true, false, if◌then◌else◌, Option, Some, None, refl, sym, ◌∙◌, ap, subst, arith, inl, inr}
+use Rattle.std.proofs.Common.{◌≡◌, ◌↔◌, ℕ, ◌<◌, List, [], ◌∷◌, ◌++◌, map, length, true, Option, Some, None, refl, sym, ◌∙◌, ap, subst}
 use Rattle.std.specs.Prelude.{get_or, slice_set, drop}
 use Rattle.nfc_base.specs.declared.carrier.EndCause.{EndCause}
 use Rattle.nfc_base.specs.declared.carrier.EndCause.TheVariants as cause
@@ -8,29 +8,25 @@ use Rattle.nfc_base.specs.declared.event.Event.TheVariants.{Request}
 use Rattle.nfc_base.specs.declared.event.Fate.{Fate}
 use Rattle.nfc_base.specs.declared.event.Fate.TheVariants.{Pass}
 use Rattle.nfc_base.specs.Signal.{Signal}
-use Rattle.nfc_base.specs.Trace.{noise, breaks}
+use Rattle.nfc_base.specs.Trace.{noise}
 use Rattle.air_core.specs.Turn.{Air, moment, world, after_event}
-use Rattle.air_core.specs.Conversation.{Note, Next, Over, Asks, IsDemand, AreTurns, FatesFrom, EachDue, receptions, replay, queue_after, first_fate, later_fates}
+use Rattle.air_core.specs.Conversation.{Note, Next, Over, Asks, AreTurns, FatesFrom, EachDue, receptions, replay, queue_after, first_fate, later_fates}
 use Rattle.air_core.specs.Turning.{due-append, due_weaker, fates-append, queue_after-append}
 use Rattle.dep_link.specs.Initiator.{InitState}
 use Rattle.far_air.specs.FarWorld.{with_numbers}
 use Rattle.far_air.specs.FarLaws.{seen}
 use Rattle.far_air.specs.FarTurns.{FarGoing}
 use Rattle.peer_air.specs.PeerFars.{peer_ends}
-use Rattle.snep_core.specs.Accord.{Accords}
 use Rattle.snep_core.specs.Server.{Received}
 use Rattle.snep_core.specs.Talk.{EndState, OnSap, Step, Ends, Task, begins}
 use Rattle.link_calls.specs.Arriving.{Arrives}
 use Rattle.link_calls.specs.CallDue.{CallStanding, Comes, BrokenBy, call_stand, call_due, call_due_at}
-use Rattle.link_calls.specs.CallTurns.{CallTurns, CallFront}
-use Rattle.link_calls.specs.Calls.{IsCutShort, IsEndedBy, IsMade}
+use Rattle.link_calls.specs.CallTurns.{CallTurns}
 use Rattle.link_calls.specs.Staying.{setting_of}
 use Rattle.bench_script.specs.declared.command.Command.{Command}
 use Rattle.bench_devices.specs.declared.device.Device.{Device}
 use Rattle.bench_devices.specs.Device.{devices, device_end, device_linked, stable_of, StablePart}
 use Rattle.bench_devices.specs.Keeping.{ghosts}
-use Rattle.bench_devices.proofs.PeerHere.{in_step}
-use Rattle.bench_devices.proofs.PeerLinks.{devices_link}
 use Rattle.bench_world.specs.declared.entry.Answer.{Answer}
 use Rattle.bench_world.specs.declared.entry.Answer.TheVariants as answers
 use Rattle.bench_world.specs.declared.entry.Loss.{Loss}
@@ -39,13 +35,13 @@ use Rattle.bench_world.specs.World.{FarEnd, WholeWorld, Stable, bench_air, stabl
 use Rattle.bench_world.specs.Calls.{IsTold, link_behind, stands_on, told_call, told_loss, told_step, with_accepted}
 use Rattle.bench_world.specs.Links.{OpenLink, accepted_by, ended, ended_unless, with_last_ended}
 use Rattle.bench_world.specs.Arriving.{ArrivesAt}
-use Rattle.bench_world.specs.Legal.{State, Given, Joins, Accepts, AnswerLaw, Came, CutFront, CutStores, FrontOf, HaltsCall, IsAskedBy, LeavesStable, begun, changed, due, link_after, peers_after, state_after, world_after}
+use Rattle.bench_world.specs.Legal.{State, Given, Joins, Accepts, AnswerLaw, Came, CutFront, CutStores, FrontOf, HaltsCall, IsAskedBy, LeavesStable, begun, changed, due, link_after, peers_after, world_after}
 use Rattle.bench_world.specs.Obeying.{Machines, HasPlaces, IsSettled, KeepsLink, Obeyed, state_at, under}
 use Rattle.bench_world.specs.Opened.{AreNumbered, AreServed, IsOpen}
 use Rattle.bench_world.specs.Peers.{Peers, next_number}
 use Rattle.bench_world.proofs.Arrived.{GoesOn, came_at}
 use Rattle.bench_world.proofs.CallNotes.{IsPlainNext, call_broken, call_lost, calls_plain}
-use Rattle.bench_world.proofs.OnLink.{Ends as FarEnds, accepted_now, as_many, bare, devices_stay, ends_more, ends_same, first, going, leaves, now, opened, own, queue_is, served, set_long, set_there, stands, tame, trace_is, world_is}
+use Rattle.bench_world.proofs.OnLink.{Ends as FarEnds, accepted_now, as_many, bare, devices_stay, ends_more, ends_same, first, going, leaves, now, opened, queue_is, served, set_long, tame, trace_is, world_is}
 
 -- what a step of a call is said for
 abbrev pub given_by : List ℕ → List ℕ → Given

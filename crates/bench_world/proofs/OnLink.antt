@@ -1,25 +1,19 @@
 -- The open link of a bench: where its peer stands, and what a call on it leaves.
-use Rattle.std.proofs.Common.{◌≡◌, ◌↔◌, ℕ, zero, suc, ◌<◌, List, [], ◌∷◌, ◌++◌, map, length, Bool, true, false, if◌then◌else◌, Option, Some, None, refl, sym, ◌∙◌, ap, subst, arith, inl, inr}
-use Rattle.std.specs.Prelude.{get_or, slice_set, drop}
-use Rattle.nfc_base.specs.declared.event.Event.{Event}
-use Rattle.nfc_base.specs.declared.event.Event.TheVariants.{Request}
-use Rattle.nfc_base.specs.declared.event.Fate.TheVariants.{Pass}
-use Rattle.nfc_base.specs.Signal.{Signal}
-use Rattle.nfc_base.specs.Trace.{noise, breaks}
-use Rattle.air_core.specs.Turn.{Air, moment, world, after_event}
-use Rattle.air_core.specs.Conversation.{Note, Next, Over, Asks, AreTurns, FatesFrom, EachDue, Moment, Going, receptions, replay, queue_after, first_fate, later_fates, with_events}
-use Rattle.air_core.specs.Turning.{due-append, due_weaker, fates-append, queue_after-append}
+use Rattle.std.proofs.Common.{◌≡◌, ℕ, zero, suc, List, [], ◌∷◌, ◌++◌, map, length, Bool, true, false, if◌then◌else◌, Option, Some, None, refl, sym, ◌∙◌, ap, subst}
+use Rattle.std.specs.Prelude.{get_or, slice_set}
+use Rattle.air_core.specs.Turn.{Air, moment, world}
+use Rattle.air_core.specs.Conversation.{Note, Next, Moment, Going, replay, queue_after}
 use Rattle.air_core.specs.PlainTags.{IsAlone}
 use Rattle.dep_link.specs.Asking.{HasPeer}
 use Rattle.dep_link.specs.Initiator.{InitState}
-use Rattle.far_air.specs.FarEnds.{first_far, later_fars, rests, by_link, first_number, later_numbers}
+use Rattle.far_air.specs.FarEnds.{first_far, later_fars, rests, by_link}
 use Rattle.far_air.specs.FarWorld.{with_numbers}
 use Rattle.far_air.specs.FarLaws.{BeginBy, behind_all, seen, seen_at, shown, with_far}
 use Rattle.far_air.specs.FarTurns.{FarGoing}
 use Rattle.far_air.proofs.Showing.{rests_shown}
 use Rattle.peer_air.specs.PeerFars.{peer_ends}
 use Rattle.peer_air.specs.SwapTurns.{Stands}
-use Rattle.llcp_link.specs.State.{Bound, fresh_end}
+use Rattle.llcp_link.specs.State.{fresh_end}
 use Rattle.llcp_pdu.specs.General.{IsMiu}
 use Rattle.llcp_conn.specs.Conn.{IsWindow}
 use Rattle.llcp_link.specs.Names.{is_bound}
@@ -34,13 +28,12 @@ use Rattle.bench_devices.specs.Beside.{InStepAt, PeerAt, TalkLeaves}
 use Rattle.bench_devices.specs.Device.{devices, device_end, device_id, device_linked, is_tag, seen_of, stable_of, StablePart}
 use Rattle.bench_devices.specs.Keeping.{Kept, ghosts, kept, AreTame}
 use Rattle.bench_devices.proofs.BesideLink.{at_split}
-use Rattle.bench_world.specs.World.{FarEnd, WholeWorld, Stable, bench_air, stable}
-use Rattle.bench_world.specs.Calls.{OfEnd, accepting, accepting_if, with_accepted}
+use Rattle.bench_world.specs.World.{FarEnd, WholeWorld, bench_air}
+use Rattle.bench_world.specs.Calls.{accepting, accepting_if, with_accepted}
 use Rattle.bench_world.specs.Links.{OpenLink, accepted_by, end_numbered, is_number}
 use Rattle.bench_world.specs.Obeying.{Machines, IsSettled, linked_at, state_at, under}
 use Rattle.bench_world.specs.Opened.{AreServed, IsFirstWith, IsOpen, IsServed}
 use Rattle.bench_world.specs.Peers.{Peers}
-use Rattle.bench_world.specs.Legal.{State}
 use Rattle.bench_world.proofs.CallNotes.{IsPlainNext}
 use Rattle.bench_world.proofs.Fronts.{ends_table}
 use Rattle.bench_world.proofs.TalkFar.{due_talk, talk_leaves}

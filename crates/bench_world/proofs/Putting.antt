@@ -1,11 +1,9 @@
 -- A message that is put on the open link.
-use Rattle.std.proofs.Common.{◌≡◌, ◌⊎◌, ℕ, ◌≤◌, List, [], ◌∷◌, ◌++◌, length, Option, Some, None, refl, sym, ◌∙◌, ap, subst, inl, inr, append-nil}
+use Rattle.std.proofs.Common.{◌≡◌, ◌≤◌, List, [], ◌∷◌, ◌++◌, length, Some, refl, sym, ◌∙◌, subst, inl, inr, append-nil}
 use Rattle.nfc_base.specs.declared.carrier.EndCause.{EndCause}
 use Rattle.nfc_base.specs.declared.carrier.EndCause.TheVariants as cause
-use Rattle.nfc_base.specs.declared.event.Event.{Event}
 use Rattle.air_core.specs.Turn.{Air}
 use Rattle.dep_link.specs.Initiator.{InitState}
-use Rattle.snep_core.specs.declared.fault.SnepFault.TheVariants.{LinkEnded, Memory, Reject}
 use Rattle.snep_core.specs.declared.job.Ending.TheVariants.{Done, Refused}
 use Rattle.snep_core.specs.declared.job.Job.TheVariants.{Over}
 use Rattle.snep_core.specs.declared.job.Refusal.TheVariants as refusals

@@ -1,5 +1,5 @@
 -- The open link ends: before a command that begins with a reset, and before its peer is taken away.
-use Rattle.std.proofs.Common.{◌≡◌, ℕ, suc, zero, ◌+◌, ◌<◌, List, [], ◌∷◌, ◌++◌, map, length, Bool, true, false, nat_eq, if◌then◌else◌, Option, Some, None, refl, sym, ◌∙◌, ap, subst, arith, inl, inr}
+use Rattle.std.proofs.Common.{◌≡◌, ℕ, suc, zero, ◌+◌, ◌<◌, List, [], ◌∷◌, ◌++◌, map, length, Bool, true, false, if◌then◌else◌, Option, Some, None, refl, sym, ◌∙◌, ap, subst, arith, inl, inr}
 use Rattle.std.specs.Prelude.{get_or, drop, slice_set}
 use Rattle.nfc_base.specs.declared.event.Event.{Event}
 use Rattle.air_core.specs.Turn.{Air}
@@ -28,8 +28,8 @@ use Rattle.bench_world.specs.Peers.{Peers, placed_under}
 use Rattle.bench_world.specs.Links.{OpenLink, accepted_by, end_numbered, is_number, ended, with_last_ended, last_ended, is_with, accepted_at, begun_if}
 use Rattle.bench_world.specs.Arriving.{BeginsAt}
 use Rattle.bench_world.specs.Calls.{IfLinked}
-use Rattle.bench_world.specs.Legal.{State, Given, Joins, IsPlaced, AnswerLaw, FrontOf, CutFront, CutStores, changed, due, unlinked, is_linked_to, without_device, world_after, link_after, state_after}
-use Rattle.bench_world.specs.Obeying.{Machines, state_at, under, HasPlaces, IsSettled, KeepsLink, Obeyed, IsCutOff, ObeyedUnlinked, CutOffUnlinked, link_ended, taken_out}
+use Rattle.bench_world.specs.Legal.{State, Given, Joins, IsPlaced, AnswerLaw, FrontOf, CutFront, CutStores, due, unlinked, is_linked_to, without_device, world_after, link_after, state_after}
+use Rattle.bench_world.specs.Obeying.{Machines, state_at, HasPlaces, IsSettled, KeepsLink, Obeyed, IsCutOff, ObeyedUnlinked, CutOffUnlinked, link_ended, taken_out}
 use Rattle.std.proofs.lemmas.List.{length-append}
 use Rattle.bench_world.proofs.LinkKept.{keeps_so, open_less}
 use Rattle.bench_world.proofs.Peering.{any_other}
