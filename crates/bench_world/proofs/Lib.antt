@@ -48,3 +48,6 @@ pub mod GetOver
 pub mod OnClosing
 pub mod CloseOver
 pub mod Names
+pub mod CountedOn
+pub mod ArrivalsOn
+pub mod ArrivalsKept

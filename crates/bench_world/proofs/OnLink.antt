@@ -162,7 +162,7 @@ served_set (l ∷ ls) (m ∷ ms) ps (o ∷ os) (suc place) end after e at same a
 )
 
 -- The number of the peer is that of its place alone.
-none_numbered : (n : ℕ) (ps : List (Option ℕ)) → end_numbered n ps [] ≡ None
+pub none_numbered : (n : ℕ) (ps : List (Option ℕ)) → end_numbered n ps [] ≡ None
 none_numbered n [] = refl
 none_numbered n (p ∷ ps) = by (is_number n p) (none_numbered n ps)
   where

@@ -17,6 +17,7 @@ pub mod Behind
 pub mod Completing
 pub mod Quiet
 pub mod Journal
+pub mod Arrivals
 pub mod QuietHearing
 pub mod Taking
 pub mod SameCommands
