@@ -1,5 +1,5 @@
 -- What a command that asks over the open link comes to, by what its call came to.
-use Rattle.std.proofs.Common.{◌≡◌, ◌↔◌, ◌⊎◌, ℕ, ◌<◌, List, [], ◌∷◌, ◌++◌, length, Bool, true, false, Option, Some, None, refl, sym, ◌∙◌, ap, subst, inl, inr}
+use Rattle.std.proofs.Common.{◌≡◌, ◌↔◌, ◌⊎◌, ℕ, ◌<◌, List, [], ◌++◌, length, Some, None, refl, sym, ◌∙◌, ap, subst, inl, inr}
 use Rattle.std.specs.Prelude.{get_or, slice_set, drop}
 use Rattle.nfc_base.specs.declared.carrier.EndCause.{EndCause}
 use Rattle.nfc_base.specs.declared.carrier.EndCause.TheVariants as cause
@@ -11,15 +11,14 @@ use Rattle.peer_air.specs.PeerFars.{peer_ends}
 use Rattle.snep_core.specs.Accord.{Accords}
 use Rattle.snep_core.specs.Server.{Received}
 use Rattle.snep_core.specs.Talk.{EndState, OnSap, Step, Ends, Task, begins}
-use Rattle.link_calls.specs.CallDue.{Comes, BrokenBy, call_due, call_due_at}
+use Rattle.link_calls.specs.CallDue.{Comes, BrokenBy, call_due_at}
 use Rattle.link_calls.specs.CallTurns.{CallFront, CallTurns}
 use Rattle.link_calls.specs.Calls.{IsCutShort, IsEndedBy, IsMade}
-use Rattle.link_calls.specs.Calls as calls
-use Rattle.link_calls.specs.Staying.{setting_of}
 use Rattle.bench_script.specs.declared.command.Command.{Command}
 use Rattle.bench_devices.specs.declared.device.Device.{Device}
-use Rattle.bench_devices.specs.Device.{devices, device_end, device_linked}
+use Rattle.bench_devices.specs.Device.{device_end, device_linked}
 use Rattle.bench_devices.specs.Keeping.{ghosts}
+use Rattle.bench_devices.specs.Beside.{InStepAt}
 use Rattle.bench_devices.proofs.PeerHere.{in_step}
 use Rattle.bench_devices.proofs.PeerLinks.{devices_link}
 use Rattle.bench_world.specs.declared.entry.Answer.{Answer}
@@ -29,12 +28,12 @@ use Rattle.bench_world.specs.declared.entry.Loss.TheVariants as losses
 use Rattle.bench_world.specs.World.{FarEnd, stable}
 use Rattle.bench_world.specs.Calls.{OfEnd, told_loss, told_step, with_accepted}
 use Rattle.bench_world.specs.Links.{OpenLink, accepted_by, with_last_ended}
-use Rattle.bench_world.specs.Legal.{State, Joins, CutFront, CutStores, HaltsCall, LeavesStable, end_of, world_after}
+use Rattle.bench_world.specs.Legal.{Joins, CutFront, CutStores, HaltsCall, LeavesStable, end_of, world_after}
 use Rattle.bench_world.specs.Obeying.{Machines, IsSettled, Obeyed, state_at, under}
 use Rattle.bench_world.specs.Opened.{IsOpen}
 use Rattle.bench_world.specs.Peers.{Peers}
-use Rattle.bench_world.proofs.OnLink.{Ends as FarEnds, end_is, going, leaves, own, opened, set_there, stands, trace_is}
-use Rattle.bench_world.proofs.OnCall.{IsCall, Law, broke, came, end, events, from_state, gone_then, halted, joins, next, open_then, place, plain, same, short}
+use Rattle.bench_world.proofs.OnLink.{Ends as FarEnds, end_is, leaves, linked_in, own, opened, set_there, stands, trace_is}
+use Rattle.bench_world.proofs.OnCall.{IsCall, Law, broke, came, end, events, from_state, gone_then, halted, next, open_then, place, plain, same, short}
 
 module _ (air : Air Device) (ends : FarEnds) (peers : Peers) (l : OpenLink) (settled : IsSettled (under ends peers (Some l) air)) where
   -- what holds of the far end holds of it in the state
@@ -63,28 +62,33 @@ module _ (air : Air Device) (ends : FarEnds) (peers : Peers) (l : OpenLink) (set
     abbrev pub Gone : Machines
     Gone = gone_then air ends peers l settled c task is b j after
 
+    -- the peer is in step at its place
+    in_step_still : (to : Step) → IsMade ghosts device_end from air l.initiator far b j after to → InStepAt b spot j
+    in_step_still to made =
+        let t = made.turns device_linked devices_link spot (stands air ends peers l settled) ends in
+        let left = leaves air ends peers l settled (next air ends peers l settled c task is b j after t.0 _ t.1) (plain air ends peers l settled c task is b j after t.0 _ t.1) b after t.1.notes t.1.going in
+        in_step (own air ends peers l settled) spot b left.at j j.core.number [] [] made.open_.in_step.1 made.open_.in_step.0
+
     -- the link is open again
     reopened : (to : Step) (client : EndState) → IsMade ghosts device_end from air l.initiator far b j after to → Accords client after
         → IsOpen b (slice_set ends spot (Some after)) peers (record { peer = l.peer; initiator = j; client = client })
-    reopened to client made accords =
-        let t = made.turns device_linked devices_link spot (stands air ends peers l settled) ends in
-        let left = leaves air ends peers l settled (next air ends peers l settled c task is b j after t.0 _ t.1) (plain air ends peers l settled c task is b j after t.0 _ t.1) b after t.1.notes t.1.going in
-        record {
-          place = spot;
-          number = (opened air ends peers l settled).number;
-          step = in_step (own air ends peers l settled) spot b left.at j j.core.number [] [] made.open_.in_step.1 made.open_.in_step.0;
-          going = made.open_.going;
-          end = after;
-          above = set_there ends spot far after (opened air ends peers l settled).above;
-          accords = accords;
-        }
+    reopened to client made accords = record {
+      place = spot;
+      number = (opened air ends peers l settled).number;
+      step = in_step_still to made;
+      going = made.open_.going;
+      end = after;
+      above = set_there ends spot far after (opened air ends peers l settled).above;
+      accords = accords;
+    }
 
     -- the call came to its end
     pub made_obeyed : (jobs : List OnSap) (client : EndState) (answer : Answer) → IsMade ghosts device_end from air l.initiator far b j after (Ends jobs client) → told_step (Ends jobs client) ≡ Some answer
         → ((loss : Loss) → answer ≡ answers.LinkEnded loss → ⊥) → AnswerSo answer → Accords client after → Obeyed Old (Open client) c answer
     made_obeyed jobs client answer made told never law accords =
         let t = made.turns device_linked devices_link spot (stands air ends peers l settled) ends in
-        came air ends peers l settled c task is b j after t.0 (Comes (Ends jobs client) j) t.1 made.carried.setting jobs client refl answer told never law (reopened (Ends jobs client) client made accords)
+        came air ends peers l settled c task is b j after t.0 (Comes (Ends jobs client) j) t.1 made.carried.setting jobs client refl answer told never law
+        (made.carried.arrives, (linked_in b spot j (in_step_still (Ends jobs client) made), made.carried.counted refl)) (reopened (Ends jobs client) client made accords)
 
     -- its link ended
     pub lost_obeyed : (why : EndCause) (answer : Answer) → IsEndedBy ghosts device_end from air l.initiator far b j after why → told_loss why ≡ Some answer → AnswerSo answer → Obeyed Old Gone c answer
@@ -95,7 +99,7 @@ module _ (air : Air Device) (ends : FarEnds) (peers : Peers) (l : OpenLink) (set
         subst (λ xs. 0 < noise xs) (ap (λ xs. drop (length xs) b.trace) settled.idle.quiet
         ∙ trace_is air ends peers l settled (next air ends peers l settled c task is b j after t.0 (BrokenBy why) t.1) (plain air ends peers l settled c task is b j after t.0 (BrokenBy why) t.1) b after t.1.notes t.1.going)
         (ended.noisy six) in
-        broke air ends peers l settled c task is b j after t.0 (BrokenBy why) t.1 ended.carried.setting why refl answer told (lost_is why told) (λ e. noisy (six_is why told e)) law
+        broke air ends peers l settled c task is b j after t.0 (BrokenBy why) t.1 ended.carried.setting why refl answer told (lost_is why told) (λ e. noisy (six_is why told e)) law (ended.carried.arrives, tt)
       where
         lost_is : (w : EndCause) → told_loss w ≡ Some answer → ((w ≡ cause.FieldLost) ↔ (answer ≡ answers.LinkEnded losses.FieldLost))
         lost_is cause.FieldLost e = ((λ q. let same : answers.LinkEnded losses.FieldLost ≡ answer = cc in sym same), (λ q. refl))

@@ -1,11 +1,9 @@
 -- A value that is got over the open link, and a name that is looked up.
-use Rattle.std.proofs.Common.{◌≡◌, ◌⊎◌, ℕ, ◌≤◌, List, [], ◌∷◌, ◌++◌, length, Option, Some, None, refl, sym, ◌∙◌, ap, subst, inl, inr}
+use Rattle.std.proofs.Common.{◌≡◌, ℕ, List, Some, refl, ap, subst, inr}
 use Rattle.nfc_base.specs.declared.carrier.EndCause.{EndCause}
 use Rattle.nfc_base.specs.declared.carrier.EndCause.TheVariants as cause
-use Rattle.nfc_base.specs.declared.event.Event.{Event}
 use Rattle.air_core.specs.Turn.{Air}
 use Rattle.dep_link.specs.Initiator.{InitState}
-use Rattle.snep_core.specs.declared.job.Ending.{Ending}
 use Rattle.snep_core.specs.declared.job.Ending.TheVariants.{Value, Sap, Refused}
 use Rattle.snep_core.specs.declared.job.Job.TheVariants.{Over}
 use Rattle.snep_core.specs.declared.job.Refusal.{Refusal}
@@ -65,6 +63,7 @@ module _ (air : Air Device) (ends : FarEnds) (peers : Peers) (l : OpenLink) (set
           made_obeyed air ends peers l settled (Get most key) (Gets most key) get_call b j after (alone (Over (Value v))) client (answers.Value v) made refl (λ loss e. cc)
           (λ joins events facts. record {
             told = facts.told;
+            came = facts.came;
             tells = of_end air ends peers l settled (λ e. GetTells most key e (answers.Value v)) (got.within, got.found, got.few);
             stays = facts.stays got.accepted;
           }) got.answered.accords
@@ -90,6 +89,7 @@ module _ (air : Air Device) (ends : FarEnds) (peers : Peers) (l : OpenLink) (set
           made_obeyed air ends peers l settled (Get most key) (Gets most key) get_call b j after (alone (Over (Refused why))) client (told_ending (Refused why)) made refl (never_loss why)
           (λ joins events facts. record {
             told = facts.told;
+            came = facts.came;
             tells = of_end air ends peers l settled (λ e. GetTells most key e (told_ending (Refused why))) r.0;
             stays = facts.stays r.1;
           }) r.2
@@ -100,6 +100,7 @@ module _ (air : Air Device) (ends : FarEnds) (peers : Peers) (l : OpenLink) (set
           lost_obeyed air ends peers l settled (Get most key) (Gets most key) get_call b j after why answer ended told
           (λ joins events facts. record {
             told = facts.told;
+            came = facts.came;
             tells = of_end air ends peers l settled (λ e. GetTells most key e answer) (by_loss why told);
             stays = facts.stays same;
           })
@@ -144,6 +145,7 @@ module _ (air : Air Device) (ends : FarEnds) (peers : Peers) (l : OpenLink) (set
           made_obeyed air ends peers l settled (Lookup name) (Finds name) lookup_call b j after (alone (Over (Sap sap))) client (answers.Sap sap) made refl (λ loss e. cc)
           (λ joins events facts. record {
             told = facts.told;
+            came = facts.came;
             tells = of_end air ends peers l settled (λ e. LookupTells name e (answers.Sap sap)) found.told;
             stays = facts.stays (ap (λ (s : ServerState). s.accepted) found.aside.service);
           }) found.aside.accords
@@ -154,6 +156,7 @@ module _ (air : Air Device) (ends : FarEnds) (peers : Peers) (l : OpenLink) (set
           lost_obeyed air ends peers l settled (Lookup name) (Finds name) lookup_call b j after why answer ended told
           (λ joins events facts. record {
             told = facts.told;
+            came = facts.came;
             tells = of_end air ends peers l settled (λ e. LookupTells name e answer) (by_loss why told);
             stays = facts.stays same;
           })

@@ -14,10 +14,9 @@ use Rattle.bench_script.specs.declared.command.DeviceId.{DeviceId}
 use Rattle.bench_script.specs.DeviceIds.{bytes_of}
 use Rattle.bench_devices.specs.declared.device.Device.{Device}
 use Rattle.bench_devices.specs.declared.device.Device.TheVariants.{T2, T4, Peer, T5}
-use Rattle.bench_devices.specs.Device.{BenchWorld, air, StablePart, stable_of, device_id, device_store, device_locked, device_busy, how_of, size_of, seen_of}
+use Rattle.bench_devices.specs.Device.{BenchWorld, StablePart, stable_of, device_id, device_store, device_locked, device_busy, how_of, size_of, seen_of}
 use Rattle.bench_devices.specs.Keeping.{Fixed, fixed, Kept, kept, AllStayDevices, AllKeepBut}
 use Rattle.bench_devices.specs.Placed.{device_with, without, with_changed}
-use Rattle.bench_devices.proofs.EveryFrame.{devices_stay}
 use Rattle.bench_world.specs.declared.entry.Entry.{Entry}
 use Rattle.bench_world.specs.World.{WholeWorld, bench_air, Stable, stable}
 use Rattle.bench_world.specs.Legal.{State, Given, AnswerLaw, ReadLaw, FindLaw, WritingLaw, LinkingLaw, PutLaw, GetLaw, LookupLaw, UnlinkLaw, LegalStep, EachLegal, begun, changed, due, world_after, state_after}
@@ -154,7 +153,7 @@ module _ (id : List ℕ) where
       (more.0, ap (λ v. if v then Some y else device_with id es) (ap (λ i. pointwise nat_eq i id) own ∙ other) ∙ more.1, more.2))
 
 -- a command that asks nothing has no events
-nothing_sent : (w : WholeWorld) (es : List Event) → AreTurns bench_air w es → EachDue (λ ns. Over) [] es → es ≡ []
+pub nothing_sent : (w : WholeWorld) (es : List Event) → AreTurns bench_air w es → EachDue (λ ns. Over) [] es → es ≡ []
 nothing_sent w [] turns each = refl
 nothing_sent w (Reset ∷ es) turns each = absurd (let clash : Over ≡ LightUp = each.0 in cc)
 nothing_sent w (Request f x ∷ es) turns each = absurd (let clash : Over ≡ Asks f = each.0 in cc)

@@ -37,6 +37,7 @@ mod DigitPairs
 pub mod CallNotes
 pub mod TalkFar
 pub mod OnLink
+pub mod Arrived
 pub mod OnCall
 pub mod CallEnds
 pub mod Putting
@@ -47,3 +48,6 @@ pub mod GetOver
 pub mod OnClosing
 pub mod CloseOver
 pub mod Names
+pub mod CountedOn
+pub mod ArrivalsOn
+pub mod ArrivalsKept

@@ -1,5 +1,5 @@
 -- A link was opened, or it was not: the peer wasn't found, it was a tag, or no answer came.
-use Rattle.std.proofs.Common.{◌≡◌, ◌↔◌, inl, inr, ℕ, zero, suc, ◌+◌, ◌<◌, List, [], ◌∷◌, ◌++◌, map, length, true, false, Option, Some, None, Result, Ok, Err, refl, sym, ◌∙◌, ap, subst, arith}
+use Rattle.std.proofs.Common.{◌≡◌, inl, inr, ℕ, zero, suc, ◌+◌, ◌<◌, List, [], ◌∷◌, ◌++◌, map, length, true, false, Option, Some, None, Result, Ok, Err, refl, sym, ◌∙◌, ap, subst, arith}
 use Rattle.std.specs.Prelude.{get_or, slice_set, IfOk}
 use Rattle.std.proofs.lemmas.Bool.{cases_lt}
 use Rattle.std.proofs.lemmas.List.{append-nil, length-map, length-set}
@@ -13,7 +13,7 @@ use Rattle.nfc_base.specs.Trace.{back_of, noise, breaks}
 use Rattle.nfc_base.specs.Trace as backs
 use Rattle.air_core.specs.World.{World}
 use Rattle.air_core.specs.Turn.{Air, moment}
-use Rattle.air_core.specs.Conversation.{Moment, Note, Next, Over, LightUp, Asks, Going, AreTurns, EachDue, receptions, replay, queue_after}
+use Rattle.air_core.specs.Conversation.{Moment, Note, Over, LightUp, Asks, Going, AreTurns, EachDue, receptions, replay, queue_after}
 use Rattle.air_core.specs.Turning.{due_weaker}
 use Rattle.air_core.specs.Waits.{Standing, Asking, Broken, Astray, stand, due_at}
 use Rattle.air_core.proofs.LostField.{breaks-append}
@@ -28,7 +28,7 @@ use Rattle.dep_link.specs.Initiator.{InitState, waiting}
 use Rattle.dep_link.specs.Target.{TargetState}
 use Rattle.llcp_conn.specs.Conn.{IsWindow}
 use Rattle.llcp_link.specs.Names.{is_bound}
-use Rattle.llcp_link.specs.State.{fresh_end, readable_by}
+use Rattle.llcp_link.specs.State.{fresh_end, readable_by, restarted}
 use Rattle.llcp_pdu.specs.General.{IsMiu, general}
 use Rattle.snep_core.specs.Accord.{Accords}
 use Rattle.snep_core.specs.Talk.{server_sap}
@@ -38,7 +38,7 @@ use Rattle.bench_devices.specs.Placed.{device_with}
 use Rattle.dep_link.specs.Activating.{atr_frame}
 use Rattle.dep_link.specs.AnyTarget.{AnswersAtr, told_initiator}
 use Rattle.llcp_link.specs.Answering.{Answers}
-use Rattle.far_air.specs.FarEnds.{rests}
+use Rattle.far_air.specs.FarEnds.{by_link, rests}
 use Rattle.far_air.specs.FarWorld.{with_numbers}
 use Rattle.far_air.specs.FarLaws.{seen, seen_at, shown, with_far, behind_all}
 use Rattle.far_air.specs.FarTurns.{FarGoing}
@@ -73,20 +73,23 @@ use Rattle.bench_world.specs.Answering.{poll_answer}
 use Rattle.bench_world.specs.World.{FarEnd, WholeWorld, bench_air, Stable, stable}
 use Rattle.bench_world.specs.Linking.{LinkEnds, LinkTells, IsFieldLost, TellsLoss, link_to, link_if, no_service, own_general, new_client}
 use Rattle.bench_world.specs.declared.inbox.LinkRange.{LinkRange}
-use Rattle.bench_world.specs.Links.{OpenLink, accepted_at, accepted_by, with_link, begun_if}
+use Rattle.bench_world.specs.Arriving.{BeginsAt}
+use Rattle.bench_world.specs.Calls.{IfLinked, OfEnd}
+use Rattle.bench_world.specs.Links.{OpenLink, accepted_at, accepted_by, end_numbered, with_link, begun_if}
 use Rattle.bench_world.specs.Opened.{IsServed, AreServed, AreNumbered, IsFirstWith, IsOpen}
 use Rattle.bench_world.specs.Peers.{Peers, placed_under, next_number}
 use Rattle.bench_world.specs.LinkedAt.{restarts, NotOpened}
 use Rattle.bench_world.specs.Legal.{State, Given, Joins, no_joins, MayLink, AnswerLaw, FrontOf, CutFront, LinkingLaw, changed, due, begun, world_after, peers_after, link_after, state_after}
-use Rattle.bench_world.specs.Obeying.{Machines, state_at, under, HasPlaces, KeepsLink, Obeyed}
+use Rattle.bench_world.specs.Obeying.{Machines, linked_at, state_at, under, HasPlaces, KeepsLink, Obeyed}
 use Rattle.bench_world.proofs.Fronts.{Ends, ends_table, rests_alike, stable_behind}
-use Rattle.bench_world.proofs.Placed.{Upon, beneath}
+use Rattle.bench_world.proofs.Placed.{Upon}
 use Rattle.bench_world.proofs.Locking.{has_id}
 use Rattle.bench_world.proofs.Removing.{under_at}
 use Rattle.bench_world.proofs.PlacesKept.{served_as, kinds_of, first_end}
-use Rattle.bench_world.proofs.Restarted.{KeepsEnd, times_keep, last_begun, far_there, far_set, set_there, set_rests, set_served, served_at, begin_self, first_of, readable_said}
+use Rattle.bench_world.proofs.OnLink.{end_shown, end_there, linked_in}
+use Rattle.bench_world.proofs.Restarted.{KeepsEnd, begun_anew, times_keep, last_begun, far_there, far_set, set_there, set_rests, set_served, served_at, begin_self, first_of, readable_said}
 use Rattle.bench_world.proofs.Unlinking.{accepted_shown}
-use Rattle.bench_world.proofs.Legality.{selecting_more, told_lost, poll_lost, asks_for, above, front_so, asks_so, plain_after, trace_is, part_stays, stores_stay, stores_kept, stable_in}
+use Rattle.bench_world.proofs.Legality.{selecting_more, told_lost, poll_lost, asks_for, above, front_so, asks_so, plain_after, part_stays, stores_stay, stores_kept, stable_in}
 use Rattle.std.specs.Prelude.{◌-◌, ◌==◌, ◌≤◌, Bool, if◌then◌else◌}
 use Rattle.llcp_pdu.specs.Wire.{magic, least_miu}
 use Rattle.llcp_pdu.specs.Writing.{params_bytes}
@@ -104,6 +107,11 @@ own_short miu = short_by miu (miu == least_miu)
 plain_so : (s : State) (id : List ℕ) (miu rw : ℕ) (es : List Event) (a : Told_answer) → ((n : ℕ) → a ≡ answers.Linked n → ⊥) → state_after s no_joins (Link id miu rw) es (Some a) ≡ plain_after s (Link id miu rw) es
 plain_so s id miu rw es (answers.Linked n) other = absurd (other n refl)
 plain_so s id miu rw es a other = refl
+
+none_begins : (P : OpenLink → Type 0) (s : State) (joins : Joins) (id : List ℕ) (miu rw : ℕ) (es : List Event) (a : Told_answer) → ((n : ℕ) → a ≡ answers.Linked n → ⊥)
+    → IfLinked (link_after s joins (Link id miu rw) es (Some a)) P (Unit {0})
+none_begins P s joins id miu rw es (answers.Linked n) other = absurd (other n refl)
+none_begins P s joins id miu rw es a other = tt
 
 -- While a device is selected none hands anything over.
 begins_so : (id : DeviceId) → asks (selecting id []) ≡ LightUp
@@ -242,6 +250,7 @@ module _ (ends : Ends) (peers : Peers) (old : Air Device) (id : List ℕ) (miu r
           );
           noisy = λ six. absurd (poll_not_ended e answer is losses.SixBad six);
         };
+        begins = none_begins _ st no_joins id miu rw g.events answer (poll_not_linked e answer is);
         stays = stable_behind (moment old).world g.events ends none (stores_stay old new g.events world s.asked.same);
       } in
       asks_so NoStore os old new (Link id miu rw) [] hs answer idle places tt may refl g over refl none (plain_so st id miu rw g.events answer (poll_not_linked e answer is)) law s.asked.same
@@ -296,6 +305,7 @@ module _ (ends : Ends) (peers : Peers) (old : Air Device) (id : List ℕ) (miu r
             );
             noisy = λ six. absurd (let clash : answers.WrongKind ≡ answers.LinkEnded losses.SixBad = six in cc);
           };
+          begins = tt;
           stays = stable_behind (moment old).world g.events ends none (stores_stay old mid g.events world s.selects.asked.same);
         } in
         asks_so NoStore os old mid (Link id miu rw) [] hs answers.WrongKind idle places tt may refl g over refl none (plain_so st id miu rw g.events answers.WrongKind (λ n linked. cc)) law s.selects.asked.same
@@ -413,14 +423,18 @@ module _ (ends : Ends) (peers : Peers) (old : Air Device) (id : List ℕ) (miu r
             noisy = λ is. subst (λ xs. 0 < noise xs) (sym parts) (more_noise first o.speaks.events (o.noisy (six is)));
           }
 
+      abbrev Begins : OpenLink → Type 0
+      Begins l = BeginsAt l (own_general miu) peers.numbers st.world.fars (world_after st joins (Link id miu rw) es).fars
+
       obeyed_at : (answer : Told_answer) (p : Peers) (l : Option OpenLink) → p ≡ peers_after st joins (Link id miu rw) es (Some answer) → l ≡ link_after st joins (Link id miu rw) es (Some answer)
           → p.numbers ≡ peers.numbers → p.gone ≡ peers.gone → LinkTells (A id) old.listeners count (own_general miu) es answer → due_at (stand 0 (atr_frame (own_general miu) ∷ []) o.notes) ≡ Over
+          → IfLinked (link_after st joins (Link id miu rw) es (Some answer)) Begins (Unit {0})
           → KeepsLink (record { air = new; ends = ends_then; peers = p; link = l }) → Obeyed (under ends peers None old) (record { air = new; ends = ends_then; peers = p; link = l }) (Link id miu rw) answer
-      obeyed_at answer p l peers_so link_so numbers placed tells done keeps =
+      obeyed_at answer p l peers_so link_so numbers placed tells done begins keeps =
           let N : Machines = record { air = new; ends = ends_then; peers = p; link = l } in
           let F : List Event → Type 0 = λ xs. FrontOf st given (Link id miu rw) xs (Some answer) (state_at N) in
           let L : List Event → Type 0 = λ xs. LinkingLaw st joins id miu rw xs answer in
-          let law : L es = record { tells = tells; stays = stays } in
+          let law : L es = record { tells = tells; begins = begins; stays = stays } in
           record {
             given = given;
             front = subst F (sym trace) (front_at (Some answer) p l peers_so link_so);
@@ -443,7 +457,7 @@ module _ (ends : Ends) (peers : Peers) (old : Air Device) (id : List ℕ) (miu r
           let P : _ → Type 0 = λ x. Obeyed (under ends peers None old) (record { air = new; ends = ends_then; peers = peers; link = None }) (Link id miu rw) (answers.LinkEnded x) in
           subst P (sym same_loss)
           (obeyed_at (answers.LinkEnded losses.FieldLost) peers None refl refl refl refl
-          (tells_by (answers.LinkEnded losses.FieldLost) (λ l. is) (λ r. inr refl) (λ six. absurd (let clash : answers.LinkEnded losses.FieldLost ≡ answers.LinkEnded losses.SixBad = six in cc)) e.0) e.1 tt)
+          (tells_by (answers.LinkEnded losses.FieldLost) (λ l. is) (λ r. inr refl) (λ six. absurd (let clash : answers.LinkEnded losses.FieldLost ≡ answers.LinkEnded losses.SixBad = six in cc)) e.0) e.1 tt tt)
       ended_link causes.SixBad loss is answer =
           let same : ◌≡◌ {A = Result Told_answer ObeyFault} (Ok (answers.LinkEnded loss)) (Ok (answers.LinkEnded losses.SixBad)) = answer in
           let same_loss : loss ≡ losses.SixBad = cc in
@@ -453,7 +467,7 @@ module _ (ends : Ends) (peers : Peers) (old : Air Device) (id : List ℕ) (miu r
           (obeyed_at (answers.LinkEnded losses.SixBad) peers None refl refl refl refl
           (tells_by (answers.LinkEnded losses.SixBad)
           (λ l. absurd (elim l [ inl dark ↦ (let clash : answers.LinkEnded losses.SixBad ≡ answers.FieldLost = dark in cc) | inr ended ↦ (let clash : answers.LinkEnded losses.SixBad ≡ answers.LinkEnded losses.FieldLost = ended in cc) ]))
-          (λ r. absurd (let clash : ◌≡◌ {A = Result (InitState × ArrayVec ℕ) EndCause} (Err causes.SixBad) (Err causes.FieldLost) = sym is ∙ r in cc)) (λ six. is) e.0) e.1 tt)
+          (λ r. absurd (let clash : ◌≡◌ {A = Result (InitState × ArrayVec ℕ) EndCause} (Err causes.SixBad) (Err causes.FieldLost) = sym is ∙ r in cc)) (λ six. is) e.0) e.1 tt tt)
       ended_link causes.Protocol loss is answer = absurd answer
       ended_link causes.Memory loss is answer = absurd (let clash : ◌≡◌ {A = Result Told_answer ObeyFault} (Ok (answers.LinkEnded loss)) (Err obey_faults.Memory) = answer in cc)
 
@@ -529,6 +543,26 @@ module _ (ends : Ends) (peers : Peers) (old : Air Device) (id : List ℕ) (miu r
               bound = ap (λ b. is_bound server_sap b) (keeps_end.bound ∙ sym (ap (λ (l : FarEnd). l.bound) it)) ∙ one.bound;
             })
 
+        -- its peer's end began a new link, whether the state had all of it or what stays
+        end_now : end_numbered n peers.numbers (world_after st joins (Link id miu rw) es).fars ≡ Some after
+        end_now =
+            ap (λ (w : WholeWorld). end_numbered n peers.numbers w.fars) world
+            ∙ end_there n place peers.numbers new.listeners ends_then after first_at (places.numbers ∙ as_many) (linked_in new place p.0 opened_so.here) (set_there ends place far after there)
+
+        begun_now : after ≡ restarted serving far (own_general miu)
+        begun_now = begun_anew (own_general miu) o.times far after o.restarted (subst (λ r. IfOk r (λ q. 0 < o.times)) is o.begun)
+
+        abbrev BegunFrom : FarEnd → Type 0
+        BegunFrom e = end_numbered n peers.numbers (world_after st joins (Link id miu rw) es).fars ≡ Some (restarted serving e (own_general miu))
+
+        begins_now : Begins link_now
+        begins_now =
+            subst (OfEnd BegunFrom) (sym (end_shown n place peers.numbers old.listeners ends far first_at places.numbers there)) (by_state (linked_at place old.listeners))
+          where
+            by_state : (v : Bool) → OfEnd BegunFrom (by_link peer_ends v (Some far))
+            by_state true = end_now ∙ ap Some begun_now
+            by_state false = end_now ∙ ap Some (begun_now ∙ sym (ends_table.anew far (own_general miu)))
+
         pub opened_link : Obeyed (under ends peers None old) (record { air = new; ends = ends_then; peers = with_link range peers; link = Some link_now }) (Link id miu rw) (answers.Linked count)
         opened_link =
             let e = opened_ends count o.notes (stand 0 (atr_frame (own_general miu) ∷ []) o.notes) p (subst (AnswersAtr true o.notes (stand 0 (atr_frame (own_general miu) ∷ []) o.notes)) is o.answers) in
@@ -545,4 +579,4 @@ module _ (ends : Ends) (peers : Peers) (old : Air Device) (id : List ℕ) (miu r
             (tells_by (answers.Linked count)
             (λ l. absurd (elim l [ inl dark ↦ (let clash : answers.Linked count ≡ answers.FieldLost = dark in cc) | inr ended ↦ (let clash : answers.Linked count ≡ answers.LinkEnded losses.FieldLost = ended in cc) ]))
             (λ r. absurd (let clash : ◌≡◌ {A = Result (InitState × ArrayVec ℕ) EndCause} (Ok p) (Err causes.FieldLost) = sym is ∙ r in cc))
-            (λ six. absurd (let clash : answers.Linked count ≡ answers.LinkEnded losses.SixBad = six in cc)) e.0) e.1 stands_open
+            (λ six. absurd (let clash : answers.Linked count ≡ answers.LinkEnded losses.SixBad = six in cc)) e.0) e.1 (subst (λ x. IfLinked x Begins (Unit {0})) link_so begins_now) stands_open

@@ -1,5 +1,5 @@
 -- A command that asks over the open link was obeyed, or cut off.
-use Rattle.std.proofs.Common.{◌≡◌, ◌↔◌, ◌⊎◌, ℕ, zero, suc, ◌<◌, List, [], ◌∷◌, ◌++◌, map, length, Bool, true, false, if◌then◌else◌, Option, Some, None, refl, sym, ◌∙◌, ap, subst, arith, inl, inr}
+use Rattle.std.proofs.Common.{◌≡◌, ◌↔◌, ℕ, ◌<◌, List, [], ◌∷◌, ◌++◌, map, length, true, Option, Some, None, refl, sym, ◌∙◌, ap, subst}
 use Rattle.std.specs.Prelude.{get_or, slice_set, drop}
 use Rattle.nfc_base.specs.declared.carrier.EndCause.{EndCause}
 use Rattle.nfc_base.specs.declared.carrier.EndCause.TheVariants as cause
@@ -8,28 +8,25 @@ use Rattle.nfc_base.specs.declared.event.Event.TheVariants.{Request}
 use Rattle.nfc_base.specs.declared.event.Fate.{Fate}
 use Rattle.nfc_base.specs.declared.event.Fate.TheVariants.{Pass}
 use Rattle.nfc_base.specs.Signal.{Signal}
-use Rattle.nfc_base.specs.Trace.{noise, breaks}
+use Rattle.nfc_base.specs.Trace.{noise}
 use Rattle.air_core.specs.Turn.{Air, moment, world, after_event}
-use Rattle.air_core.specs.Conversation.{Note, Next, Over, Asks, IsDemand, AreTurns, FatesFrom, EachDue, receptions, replay, queue_after, first_fate, later_fates}
+use Rattle.air_core.specs.Conversation.{Note, Next, Over, Asks, AreTurns, FatesFrom, EachDue, receptions, replay, queue_after, first_fate, later_fates}
 use Rattle.air_core.specs.Turning.{due-append, due_weaker, fates-append, queue_after-append}
 use Rattle.dep_link.specs.Initiator.{InitState}
 use Rattle.far_air.specs.FarWorld.{with_numbers}
 use Rattle.far_air.specs.FarLaws.{seen}
 use Rattle.far_air.specs.FarTurns.{FarGoing}
 use Rattle.peer_air.specs.PeerFars.{peer_ends}
-use Rattle.snep_core.specs.Accord.{Accords}
 use Rattle.snep_core.specs.Server.{Received}
 use Rattle.snep_core.specs.Talk.{EndState, OnSap, Step, Ends, Task, begins}
+use Rattle.link_calls.specs.Arriving.{Arrives}
 use Rattle.link_calls.specs.CallDue.{CallStanding, Comes, BrokenBy, call_stand, call_due, call_due_at}
-use Rattle.link_calls.specs.CallTurns.{CallTurns, CallFront}
-use Rattle.link_calls.specs.Calls.{IsCutShort, IsEndedBy, IsMade}
+use Rattle.link_calls.specs.CallTurns.{CallTurns}
 use Rattle.link_calls.specs.Staying.{setting_of}
 use Rattle.bench_script.specs.declared.command.Command.{Command}
 use Rattle.bench_devices.specs.declared.device.Device.{Device}
 use Rattle.bench_devices.specs.Device.{devices, device_end, device_linked, stable_of, StablePart}
 use Rattle.bench_devices.specs.Keeping.{ghosts}
-use Rattle.bench_devices.proofs.PeerHere.{in_step}
-use Rattle.bench_devices.proofs.PeerLinks.{devices_link}
 use Rattle.bench_world.specs.declared.entry.Answer.{Answer}
 use Rattle.bench_world.specs.declared.entry.Answer.TheVariants as answers
 use Rattle.bench_world.specs.declared.entry.Loss.{Loss}
@@ -37,12 +34,14 @@ use Rattle.bench_world.specs.declared.entry.Loss.TheVariants as losses
 use Rattle.bench_world.specs.World.{FarEnd, WholeWorld, Stable, bench_air, stable}
 use Rattle.bench_world.specs.Calls.{IsTold, link_behind, stands_on, told_call, told_loss, told_step, with_accepted}
 use Rattle.bench_world.specs.Links.{OpenLink, accepted_by, ended, ended_unless, with_last_ended}
-use Rattle.bench_world.specs.Legal.{State, Given, Joins, Accepts, AnswerLaw, CutFront, CutStores, FrontOf, HaltsCall, IsAskedBy, LeavesStable, begun, changed, due, link_after, peers_after, state_after, world_after}
+use Rattle.bench_world.specs.Arriving.{ArrivesAt}
+use Rattle.bench_world.specs.Legal.{State, Given, Joins, Accepts, AnswerLaw, Came, CutFront, CutStores, FrontOf, HaltsCall, IsAskedBy, LeavesStable, begun, changed, due, link_after, peers_after, world_after}
 use Rattle.bench_world.specs.Obeying.{Machines, HasPlaces, IsSettled, KeepsLink, Obeyed, state_at, under}
 use Rattle.bench_world.specs.Opened.{AreNumbered, AreServed, IsOpen}
 use Rattle.bench_world.specs.Peers.{Peers, next_number}
+use Rattle.bench_world.proofs.Arrived.{GoesOn, came_at}
 use Rattle.bench_world.proofs.CallNotes.{IsPlainNext, call_broken, call_lost, calls_plain}
-use Rattle.bench_world.proofs.OnLink.{Ends as FarEnds, accepted_now, as_many, bare, devices_stay, ends_more, ends_same, first, going, leaves, now, opened, own, queue_is, served, set_long, set_there, stands, tame, trace_is, world_is}
+use Rattle.bench_world.proofs.OnLink.{Ends as FarEnds, accepted_now, as_many, bare, devices_stay, ends_more, ends_same, first, going, leaves, now, opened, queue_is, served, set_long, tame, trace_is, world_is}
 
 -- what a step of a call is said for
 abbrev pub given_by : List ℕ → List ℕ → Given
@@ -212,6 +211,7 @@ module _ (air : Air Device) (ends : FarEnds) (peers : Peers) (l : OpenLink) (set
     -- what a call's law is made of
     pub record Facts (joins : Joins) (events : List Event) (answer : Answer) : Type 0 where
       pub told : IsTold (told_call (stands_on l joins.own task events)) events answer
+      pub came : Came from_state joins l c events answer
       pub devices : (stable (world_after from_state joins c events)).devices ≡ (stable from_state.world).devices
       pub adds : (more : List Received) → after.service.accepted ≡ end.service.accepted ++ more
           → (stable (world_after from_state joins c events)).ends ≡ with_accepted more l.peer peers.numbers (stable from_state.world).ends
@@ -254,9 +254,21 @@ module _ (air : Air Device) (ends : FarEnds) (peers : Peers) (l : OpenLink) (set
           ∙ ap (λ (w : WholeWorld). ended (Some l) w.fars peers) (sym (world_then next plain c numbers b after t.notes t.going is.still is.accepts is.asks same))
           ∙ ap (λ n. with_last_ended n peers) (accepted_now air ends peers l settled next plain b after t.notes t.going)
 
-      facts : setting_of after ≡ setting_of end → (answer : Answer) → IsTold (told_call (stands_on l numbers task events)) events answer → Facts joins events answer
-      facts set answer told = record {
+      -- what arrived, where this link is open then
+      abbrev pub Arrived : Option OpenLink → Type 0
+      Arrived link =
+          Arrives l.initiator.core.number (drop (length air.trace) b.trace) end after × GoesOn air ends peers l settled next plain b after t.notes t.going link
+
+      came_then : (answer : Answer) (link : Option OpenLink) → link_after from_state joins c events (Some answer) ≡ link → Arrived link → Came from_state joins l c events answer
+      came_then answer link link_is arrived =
+          let w : WholeWorld = world_after from_state joins c events in
+          subst (ArrivesAt l peers.numbers from_state.world.fars w.fars events) (sym link_is)
+          (came_at air ends peers l settled next plain b after t.notes t.going w (world_then next plain c numbers b after t.notes t.going is.still is.accepts is.asks same) link arrived.0 arrived.1)
+
+      facts : setting_of after ≡ setting_of end → (answer : Answer) → IsTold (told_call (stands_on l numbers task events)) events answer → Came from_state joins l c events answer → Facts joins events answer
+      facts set answer told came = record {
         told = told;
+        came = came;
         devices = devices_then next plain c numbers b after t.notes t.going is.still is.accepts is.asks same;
         adds = λ more e. ends_then next plain c numbers b after t.notes t.going is.still is.accepts is.asks same more set e;
         stays = λ e. stays_then next plain c numbers b after t.notes t.going is.still is.accepts is.asks same set e;
@@ -278,27 +290,30 @@ module _ (air : Air Device) (ends : FarEnds) (peers : Peers) (l : OpenLink) (set
       over_at e = ap call_due_at t.stands ∙ e
 
       pub came : setting_of after ≡ setting_of end → (jobs : List OnSap) (client : EndState) → standing ≡ Comes (Ends jobs client) j → (answer : Answer) → told_step (Ends jobs client) ≡ Some answer
-          → ((loss : Loss) → answer ≡ answers.LinkEnded loss → ⊥) → Law answer → KeepsLink (open_then client) → Obeyed (under ends peers (Some l) air) (open_then client) c answer
-      came set jobs client comes answer told never law keeps =
+          → ((loss : Loss) → answer ≡ answers.LinkEnded loss → ⊥) → Law answer → Arrived (Some (record { peer = l.peer; initiator = j; client = client })) → KeepsLink (open_then client)
+          → Obeyed (under ends peers (Some l) air) (open_then client) c answer
+      came set jobs client comes answer told never law arrived keeps =
           let link_is : link_after from_state joins c events (Some answer) ≡ Some (record { peer = l.peer; initiator = j; client = client }) =
           is.link_on joins events answer ∙ ap (link_behind l.peer) (stand_is ∙ comes) in
           obeyed next plain c numbers b after t.notes t.going is.still is.accepts is.asks same answer (Some (record { peer = l.peer; initiator = j; client = client })) peers
           (over_at (ap call_due_at comes)) link_is
           (is.peers_on joins events (Some answer) ∙ ap (λ o. ended_unless o (Some l) (world_after from_state joins c events).fars peers) link_is)
           (law joins events (facts set answer (told_so answer (ap told_call comes ∙ told)
-          ((λ e. absurd (let clash : Comes (Ends jobs client) j ≡ BrokenBy cause.FieldLost = sym comes ∙ e in cc)), (λ e. absurd (never losses.FieldLost e))) (λ e. absurd (never losses.SixBad e)))))
+          ((λ e. absurd (let clash : Comes (Ends jobs client) j ≡ BrokenBy cause.FieldLost = sym comes ∙ e in cc)), (λ e. absurd (never losses.FieldLost e))) (λ e. absurd (never losses.SixBad e)))
+          (came_then answer (Some (record { peer = l.peer; initiator = j; client = client })) link_is arrived)))
           set refl refl keeps
 
       pub broke : setting_of after ≡ setting_of end → (why : EndCause) → standing ≡ BrokenBy why → (answer : Answer) → told_loss why ≡ Some answer
-          → ((why ≡ cause.FieldLost) ↔ (answer ≡ answers.LinkEnded losses.FieldLost)) → (answer ≡ answers.LinkEnded losses.SixBad → 0 < noise events) → Law answer
+          → ((why ≡ cause.FieldLost) ↔ (answer ≡ answers.LinkEnded losses.FieldLost)) → (answer ≡ answers.LinkEnded losses.SixBad → 0 < noise events) → Law answer → Arrived None
           → Obeyed (under ends peers (Some l) air) gone_then c answer
-      broke set why broken answer told lost noisy law =
+      broke set why broken answer told lost noisy law arrived =
           let link_is : link_after from_state joins c events (Some answer) ≡ None = is.link_on joins events answer ∙ ap (link_behind l.peer) (stand_is ∙ broken) in
           obeyed next plain c numbers b after t.notes t.going is.still is.accepts is.asks same answer None
           (with_last_ended (accepted_by (get_or (slice_set ends place (Some after)) place None)) peers)
           (over_at (ap call_due_at broken)) link_is (gone_peers (Some answer) link_is)
           (law joins events (facts set answer (told_so answer (ap told_call broken ∙ told)
-          ((λ e. lost.0 (let same : BrokenBy why ≡ BrokenBy cause.FieldLost = sym broken ∙ e in cc)), (λ e. broken ∙ ap BrokenBy (lost.1 e))) noisy)))
+          ((λ e. lost.0 (let same : BrokenBy why ≡ BrokenBy cause.FieldLost = sym broken ∙ e in cc)), (λ e. broken ∙ ap BrokenBy (lost.1 e))) noisy)
+          (came_then answer None link_is arrived)))
           set refl refl tt
 
       pub short : ((joins : Joins) (events : List Event) → (devices : (stable (world_after from_state joins c events)).devices ≡ (stable from_state.world).devices)

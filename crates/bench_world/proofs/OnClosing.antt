@@ -1,5 +1,5 @@
 -- The open link is closed.
-use Rattle.std.proofs.Common.{◌≡◌, ◌↔◌, ◌⊎◌, ℕ, ◌<◌, List, [], ◌∷◌, ◌++◌, length, Bool, true, false, Option, Some, None, refl, sym, ◌∙◌, ap, subst, inl, inr}
+use Rattle.std.proofs.Common.{◌≡◌, ◌↔◌, ◌⊎◌, ℕ, ◌<◌, List, length, Option, Some, None, refl, sym, ◌∙◌, ap, subst, inl, inr}
 use Rattle.std.specs.Prelude.{get_or, slice_set, drop}
 use Rattle.nfc_base.specs.declared.carrier.EndCause.{EndCause}
 use Rattle.nfc_base.specs.declared.carrier.EndCause.TheVariants as cause
@@ -15,6 +15,7 @@ use Rattle.dep_link.specs.Releasing.{rls_frame}
 use Rattle.snep_core.specs.Accord.{IsClosed}
 use Rattle.snep_core.specs.Server.{ServerState}
 use Rattle.snep_core.specs.Talk.{EndState, Step, Leaves, begins}
+use Rattle.link_calls.specs.Arriving.{Arrives}
 use Rattle.link_calls.specs.CallDue.{BrokenBy}
 use Rattle.link_calls.specs.ClosingDue.{ClosingStanding, Calls, Released, closing_due, closing_due_at, closing_stand}
 use Rattle.link_calls.specs.Closing.{ClosingFront, ClosingTurns, IsClosingShort, IsLost, IsReleased, SendsRls}
@@ -28,12 +29,13 @@ use Rattle.bench_world.specs.declared.entry.Answer.{Answer}
 use Rattle.bench_world.specs.declared.entry.Answer.TheVariants as answers
 use Rattle.bench_world.specs.declared.entry.Loss.TheVariants as losses
 use Rattle.bench_world.specs.World.{FarEnd, WholeWorld}
-use Rattle.bench_world.specs.Calls.{IsTold, stands_closing, told_closing, told_loss}
+use Rattle.bench_world.specs.Calls.{stands_closing, told_closing, told_loss}
 use Rattle.bench_world.specs.Links.{OpenLink, accepted_by, ended, with_last_ended}
-use Rattle.bench_world.specs.Legal.{State, Joins, CutFront, HaltsCall, due, link_after, peers_after, world_after}
+use Rattle.bench_world.specs.Legal.{Joins, CutFront, HaltsCall, due, peers_after, world_after}
 use Rattle.bench_world.specs.Obeying.{Machines, IsCutOff, IsSettled, Obeyed, state_at, under}
 use Rattle.bench_world.specs.Peers.{Peers}
 use Rattle.bench_world.specs.World.{bench_air}
+use Rattle.bench_world.proofs.Arrived.{came_at}
 use Rattle.bench_world.proofs.CallNotes.{IsPlainNext, closing_broken, closing_lost, closings_plain}
 use Rattle.bench_world.proofs.OnLink.{Ends as FarEnds, accepted_now, going, stands, trace_is}
 use Rattle.bench_world.proofs.OnCall.{cut_off, end, from_state, given_by, halted, obeyed, place, stays_then, world_then}
@@ -76,10 +78,11 @@ module _ (air : Air Device) (ends : FarEnds) (peers : Peers) (l : OpenLink) (set
         ap (λ (w : WholeWorld). ended (Some l) w.fars peers) (sym (world_then air ends peers l settled next plain Unlink numbers b after t.notes t.going refl tt refl same))
         ∙ ap (λ n. with_last_ended n peers) (accepted_now air ends peers l settled next plain b after t.notes t.going)
 
-    pub closed : setting_of after ≡ setting_of far → after.service.accepted ≡ far.service.accepted → (answer : Answer) → told_closing standing ≡ Some answer → closing_due_at standing ≡ Over
+    pub closed : setting_of after ≡ setting_of far → after.service.accepted ≡ far.service.accepted → Arrives l.initiator.core.number (drop (length air.trace) b.trace) far after → (answer : Answer)
+        → told_closing standing ≡ Some answer → closing_due_at standing ≡ Over
         → ((standing ≡ Calls (BrokenBy cause.FieldLost)) ↔ (answer ≡ answers.LinkEnded losses.FieldLost)) → (answer ≡ answers.LinkEnded losses.SixBad → 0 < noise events)
         → Obeyed (under ends peers (Some l) air) gone Unlink answer
-    closed set accepted answer told over lost noisy =
+    closed set accepted arrives answer told over lost noisy =
         obeyed air ends peers l settled next plain Unlink numbers b after t.notes t.going refl tt refl same answer None
         (with_last_ended (accepted_by (get_or (slice_set ends spot (Some after)) spot None)) peers)
         (ap closing_due_at t.stands ∙ over) refl (gone_peers (Some answer))
@@ -92,6 +95,8 @@ module _ (air : Air Device) (ends : FarEnds) (peers : Peers) (l : OpenLink) (set
             );
             noisy = noisy;
           };
+          came = came_at air ends peers l settled next plain b after t.notes t.going (world_after (from_state air ends peers l settled) joins Unlink events)
+              (world_then air ends peers l settled next plain Unlink numbers b after t.notes t.going refl tt refl same) None arrives tt;
           stays = stays_then air ends peers l settled next plain Unlink numbers b after t.notes t.going refl tt refl same set accepted;
         }) set refl refl tt
 
@@ -109,13 +114,19 @@ module _ (air : Air Device) (ends : FarEnds) (peers : Peers) (l : OpenLink) (set
     pub released : (to : Step) → IsReleased ghosts device_end from air l.initiator far b after to → IsClosed far client after → Obeyed (under ends peers (Some l) air) gone Unlink answers.Unlinked
     released to r c =
         let t = r.turns device_linked devices_link spot (stands air ends peers l settled) ends in
-        closed t.0 (Released to) t.1 (sent_set r.sent) (ap (λ (s : ServerState). s.accepted) c.aside.service) answers.Unlinked refl refl
+        closed t.0 (Released to) t.1 (sent_set r.sent) (ap (λ (s : ServerState). s.accepted) c.aside.service) (r.sent.arrives quiet) answers.Unlinked refl refl
         ((λ e. absurd cc), (λ e. absurd cc)) (λ e. absurd cc)
 
     lost_set : (w : EndCause) → IsLost ghosts device_end from air l.initiator far b after j w → setting_of after ≡ setting_of far
     lost_set w x = elim x.how [
       | inl carried ↦ carried.setting
       | inr (is, sent) ↦ sent_set sent
+    ]
+
+    lost_arrives : (w : EndCause) → IsLost ghosts device_end from air l.initiator far b after j w → Arrives l.initiator.core.number (drop (length air.trace) b.trace) far after
+    lost_arrives w x = elim x.how [
+      | inl carried ↦ carried.arrives
+      | inr (is, sent) ↦ sent.arrives quiet
     ]
 
     pub lost : (w : EndCause) (answer : Answer) → IsLost ghosts device_end from air l.initiator far b after j w → told_loss w ≡ Some answer → after.service.accepted ≡ far.service.accepted
@@ -126,7 +137,7 @@ module _ (air : Air Device) (ends : FarEnds) (peers : Peers) (l : OpenLink) (set
         let noisy : w ≡ cause.SixBad → 0 < noise es = λ six.
         subst (λ xs. 0 < noise xs) (ap (λ xs. drop (length xs) b.trace) settled.idle.quiet
         ∙ trace_is air ends peers l settled (next t.0 (Calls (BrokenBy w)) t.1) (plain t.0 (Calls (BrokenBy w)) t.1) b after t.1.notes t.1.going) (x.noisy six) in
-        closed t.0 (Calls (BrokenBy w)) t.1 (lost_set w x) accepted answer told refl (lost_is w told) (λ e. noisy (six_is w told e))
+        closed t.0 (Calls (BrokenBy w)) t.1 (lost_set w x) accepted (lost_arrives w x) answer told refl (lost_is w told) (λ e. noisy (six_is w told e))
       where
         lost_is : (w : EndCause) → told_loss w ≡ Some answer → ((Calls (BrokenBy w) ≡ Calls (BrokenBy cause.FieldLost)) ↔ (answer ≡ answers.LinkEnded losses.FieldLost))
         lost_is cause.FieldLost e = ((λ q. let same : answers.LinkEnded losses.FieldLost ≡ answer = cc in sym same), (λ q. refl))

@@ -1,25 +1,19 @@
 -- The open link of a bench: where its peer stands, and what a call on it leaves.
-use Rattle.std.proofs.Common.{◌≡◌, ◌↔◌, ℕ, zero, suc, ◌<◌, List, [], ◌∷◌, ◌++◌, map, length, Bool, true, false, if◌then◌else◌, Option, Some, None, refl, sym, ◌∙◌, ap, subst, arith, inl, inr}
-use Rattle.std.specs.Prelude.{get_or, slice_set, drop}
-use Rattle.nfc_base.specs.declared.event.Event.{Event}
-use Rattle.nfc_base.specs.declared.event.Event.TheVariants.{Request}
-use Rattle.nfc_base.specs.declared.event.Fate.TheVariants.{Pass}
-use Rattle.nfc_base.specs.Signal.{Signal}
-use Rattle.nfc_base.specs.Trace.{noise, breaks}
-use Rattle.air_core.specs.Turn.{Air, moment, world, after_event}
-use Rattle.air_core.specs.Conversation.{Note, Next, Over, Asks, AreTurns, FatesFrom, EachDue, Moment, Going, receptions, replay, queue_after, first_fate, later_fates, with_events}
-use Rattle.air_core.specs.Turning.{due-append, due_weaker, fates-append, queue_after-append}
+use Rattle.std.proofs.Common.{◌≡◌, ℕ, zero, suc, List, [], ◌∷◌, ◌++◌, map, length, Bool, true, false, if◌then◌else◌, Option, Some, None, refl, sym, ◌∙◌, ap, subst}
+use Rattle.std.specs.Prelude.{get_or, slice_set}
+use Rattle.air_core.specs.Turn.{Air, moment, world}
+use Rattle.air_core.specs.Conversation.{Note, Next, Moment, Going, replay, queue_after}
 use Rattle.air_core.specs.PlainTags.{IsAlone}
 use Rattle.dep_link.specs.Asking.{HasPeer}
 use Rattle.dep_link.specs.Initiator.{InitState}
-use Rattle.far_air.specs.FarEnds.{first_far, later_fars, rests, by_link, first_number, later_numbers}
+use Rattle.far_air.specs.FarEnds.{first_far, later_fars, rests, by_link}
 use Rattle.far_air.specs.FarWorld.{with_numbers}
 use Rattle.far_air.specs.FarLaws.{BeginBy, behind_all, seen, seen_at, shown, with_far}
 use Rattle.far_air.specs.FarTurns.{FarGoing}
 use Rattle.far_air.proofs.Showing.{rests_shown}
 use Rattle.peer_air.specs.PeerFars.{peer_ends}
 use Rattle.peer_air.specs.SwapTurns.{Stands}
-use Rattle.llcp_link.specs.State.{Bound, fresh_end}
+use Rattle.llcp_link.specs.State.{fresh_end}
 use Rattle.llcp_pdu.specs.General.{IsMiu}
 use Rattle.llcp_conn.specs.Conn.{IsWindow}
 use Rattle.llcp_link.specs.Names.{is_bound}
@@ -30,17 +24,16 @@ use Rattle.bench_devices.specs.declared.device.Device.{Device}
 use Rattle.bench_devices.specs.declared.device.Device.TheVariants.{T2, T4, Peer, T5}
 use Rattle.bench_devices.specs.declared.polling.SeenKind.{SeenKind}
 use Rattle.bench_devices.specs.declared.polling.SeenKind.TheVariants as seen_kind
-use Rattle.bench_devices.specs.Beside.{PeerAt, TalkLeaves}
+use Rattle.bench_devices.specs.Beside.{InStepAt, PeerAt, TalkLeaves}
 use Rattle.bench_devices.specs.Device.{devices, device_end, device_id, device_linked, is_tag, seen_of, stable_of, StablePart}
 use Rattle.bench_devices.specs.Keeping.{Kept, ghosts, kept, AreTame}
 use Rattle.bench_devices.proofs.BesideLink.{at_split}
-use Rattle.bench_world.specs.World.{FarEnd, WholeWorld, Stable, bench_air, stable}
-use Rattle.bench_world.specs.Calls.{OfEnd, accepting, accepting_if, with_accepted}
+use Rattle.bench_world.specs.World.{FarEnd, WholeWorld, bench_air}
+use Rattle.bench_world.specs.Calls.{accepting, accepting_if, with_accepted}
 use Rattle.bench_world.specs.Links.{OpenLink, accepted_by, end_numbered, is_number}
 use Rattle.bench_world.specs.Obeying.{Machines, IsSettled, linked_at, state_at, under}
 use Rattle.bench_world.specs.Opened.{AreServed, IsFirstWith, IsOpen, IsServed}
 use Rattle.bench_world.specs.Peers.{Peers}
-use Rattle.bench_world.specs.Legal.{State}
 use Rattle.bench_world.proofs.CallNotes.{IsPlainNext}
 use Rattle.bench_world.proofs.Fronts.{ends_table}
 use Rattle.bench_world.proofs.TalkFar.{due_talk, talk_leaves}
@@ -169,7 +162,7 @@ served_set (l ∷ ls) (m ∷ ms) ps (o ∷ os) (suc place) end after e at same a
 )
 
 -- The number of the peer is that of its place alone.
-none_numbered : (n : ℕ) (ps : List (Option ℕ)) → end_numbered n ps [] ≡ None
+pub none_numbered : (n : ℕ) (ps : List (Option ℕ)) → end_numbered n ps [] ≡ None
 none_numbered n [] = refl
 none_numbered n (p ∷ ps) = by (is_number n p) (none_numbered n ps)
   where
@@ -190,16 +183,20 @@ one_place n (x ∷ ps) (suc p) zero end first at =
 one_place n (x ∷ ps) (suc p) (suc q) end first at =
     ap suc (one_place n ps p q end first.1 (λ os. sym (by_number n x false None (end_numbered n ps os) first.0) ∙ at (None ∷ os)))
 
--- What the world shows of the peer's far end.
+-- What the world shows of the peer's far end: all of it while its device has a link, and else what stays of it.
+pub end_shown : (n place : ℕ) (ps : List (Option ℕ)) (ls : List Device) (os : Ends) (end : FarEnd) → IsFirstWith n place ps → length ps ≡ length ls → get_or os place None ≡ Some end
+    → end_numbered n ps (shown device_linked peer_ends ls os) ≡ by_link peer_ends (linked_at place ls) (Some end)
+end_shown n place [] ls os end first long at = absurd first
+end_shown n place (p ∷ ps) [] os end first long at = absurd cc
+end_shown n place (p ∷ ps) (l ∷ ls) [] end first long at = absurd cc
+end_shown n zero (p ∷ ps) (l ∷ ls) (o ∷ os) end first long at =
+    by_number n p true (by_link peer_ends (device_linked l) o) _ first ∙ ap (by_link peer_ends (device_linked l)) at
+end_shown n (suc place) (p ∷ ps) (l ∷ ls) (o ∷ os) end first long at =
+    by_number n p false (by_link peer_ends (device_linked l) o) _ first.0 ∙ (let less : length ps ≡ length ls = cc in end_shown n place ps ls os end first.1 less at)
+
 pub end_there : (n place : ℕ) (ps : List (Option ℕ)) (ls : List Device) (os : Ends) (end : FarEnd) → IsFirstWith n place ps → length ps ≡ length ls → linked_at place ls ≡ true → get_or os place None ≡ Some end
     → end_numbered n ps (shown device_linked peer_ends ls os) ≡ Some end
-end_there n place [] ls os end first long linked at = absurd first
-end_there n place (p ∷ ps) [] os end first long linked at = absurd cc
-end_there n place (p ∷ ps) (l ∷ ls) [] end first long linked at = absurd cc
-end_there n zero (p ∷ ps) (l ∷ ls) (o ∷ os) end first long linked at =
-    by_number n p true (by_link peer_ends (device_linked l) o) _ first ∙ ap (λ v. by_link peer_ends v o) linked ∙ at
-end_there n (suc place) (p ∷ ps) (l ∷ ls) (o ∷ os) end first long linked at =
-    by_number n p false (by_link peer_ends (device_linked l) o) _ first.0 ∙ (let less : length ps ≡ length ls = cc in end_there n place ps ls os end first.1 less linked at)
+end_there n place ps ls os end first long linked at = end_shown n place ps ls os end first long at ∙ ap (λ v. by_link peer_ends v (Some end)) linked
 
 accepted_by_link : (v : Bool) (o : Option FarEnd) → accepted_by (by_link peer_ends v o) ≡ accepted_by o
 accepted_by_link true o = refl
@@ -208,13 +205,7 @@ accepted_by_link false (Some l) = refl
 
 pub accepted_there : (n place : ℕ) (ps : List (Option ℕ)) (ls : List Device) (os : Ends) (end : FarEnd) → IsFirstWith n place ps → length ps ≡ length ls → get_or os place None ≡ Some end
     → accepted_by (end_numbered n ps (shown device_linked peer_ends ls os)) ≡ accepted_by (Some end)
-accepted_there n place [] ls os end first long at = absurd first
-accepted_there n place (p ∷ ps) [] os end first long at = absurd cc
-accepted_there n place (p ∷ ps) (l ∷ ls) [] end first long at = absurd cc
-accepted_there n zero (p ∷ ps) (l ∷ ls) (o ∷ os) end first long at =
-    ap accepted_by (by_number n p true (by_link peer_ends (device_linked l) o) _ first) ∙ accepted_by_link (device_linked l) o ∙ ap accepted_by at
-accepted_there n (suc place) (p ∷ ps) (l ∷ ls) (o ∷ os) end first long at =
-    ap accepted_by (by_number n p false (by_link peer_ends (device_linked l) o) _ first.0) ∙ (let less : length ps ≡ length ls = cc in accepted_there n place ps ls os end first.1 less at)
+accepted_there n place ps ls os end first long at = ap accepted_by (end_shown n place ps ls os end first long at) ∙ accepted_by_link (linked_at place ls) (Some end)
 
 -- What stays of far ends, where that of the peer accepted more.
 rested_as : Setting → List Received → FarEnd
@@ -275,6 +266,13 @@ bare_same (l ∷ ls) (o ∷ os) zero end after at same e =
 bare_same (l ∷ ls) (o ∷ os) (suc place) end after at same e =
     ap (λ xs. rests peer_ends (by_link peer_ends (device_linked l) o) ∷ xs) (bare_same ls os place end after at same e)
 
+-- a device in step has a link
+pub linked_in : (air : Air Device) (place : ℕ) (i : InitState) → InStepAt air place i → linked_at place air.listeners ≡ true
+linked_in air place i s =
+    let a = s.step.1.alone in
+    subst (λ n. linked_at n air.listeners ≡ true) (a.stands ∙ s.at)
+    (subst (λ ls. linked_at (length a.before) ls ≡ true) (sym a.split) (linked_there a.before s.step.1.listener a.behind ∙ s.linked))
+
 -- a link is open
 module _ (air : Air Device) (ends : Ends) (peers : Peers) (l : OpenLink) (settled : IsSettled (under ends peers (Some l) air)) where
   abbrev pub bench : Machines
@@ -299,10 +297,7 @@ module _ (air : Air Device) (ends : Ends) (peers : Peers) (l : OpenLink) (settle
       (subst (PeerAt own (length a.before)) (sym a.split) (at_split own a.before here.listener a.behind (linked_kind here.listener opened.step.linked) a.first a.later))
 
   linked_here : linked_at opened.place air.listeners ≡ true
-  linked_here =
-      let a = here.alone in
-      subst (λ n. linked_at n air.listeners ≡ true) (a.stands ∙ opened.step.at)
-      (subst (λ ls. linked_at (length a.before) ls ≡ true) (sym a.split) (linked_there a.before here.listener a.behind ∙ opened.step.linked))
+  linked_here = linked_in air opened.place l.initiator opened.step
 
   pub end_is : end_numbered l.peer peers.numbers (state_at bench).world.fars ≡ Some opened.end
   end_is = end_there l.peer opened.place peers.numbers air.listeners ends opened.end opened.number settled.places.numbers linked_here opened.above

@@ -1,11 +1,9 @@
 -- A message that is put on the open link.
-use Rattle.std.proofs.Common.{◌≡◌, ◌⊎◌, ℕ, ◌≤◌, List, [], ◌∷◌, ◌++◌, length, Option, Some, None, refl, sym, ◌∙◌, ap, subst, inl, inr, append-nil}
+use Rattle.std.proofs.Common.{◌≡◌, ◌≤◌, List, [], ◌∷◌, ◌++◌, length, Some, refl, sym, ◌∙◌, subst, inl, inr, append-nil}
 use Rattle.nfc_base.specs.declared.carrier.EndCause.{EndCause}
 use Rattle.nfc_base.specs.declared.carrier.EndCause.TheVariants as cause
-use Rattle.nfc_base.specs.declared.event.Event.{Event}
 use Rattle.air_core.specs.Turn.{Air}
 use Rattle.dep_link.specs.Initiator.{InitState}
-use Rattle.snep_core.specs.declared.fault.SnepFault.TheVariants.{LinkEnded, Memory, Reject}
 use Rattle.snep_core.specs.declared.job.Ending.TheVariants.{Done, Refused}
 use Rattle.snep_core.specs.declared.job.Job.TheVariants.{Over}
 use Rattle.snep_core.specs.declared.job.Refusal.TheVariants as refusals
@@ -63,6 +61,7 @@ module _ (air : Air Device) (ends : FarEnds) (peers : Peers) (l : OpenLink) (set
         made_obeyed air ends peers l settled (Put m) (Puts (message_of m)) put_call b j after (alone (Over Done)) client answers.Success made refl (λ loss e. cc)
         (λ joins events facts. record {
           told = facts.told;
+          came = facts.came;
           more = from_client (message_of m) ∷ [];
           adds = of_end air ends peers l settled (λ e. PutAdds (message_of m) e answers.Success (from_client (message_of m) ∷ [])) (taken.within, refl);
           devices = facts.devices;
@@ -75,6 +74,7 @@ module _ (air : Air Device) (ends : FarEnds) (peers : Peers) (l : OpenLink) (set
         made_obeyed air ends peers l settled (Put m) (Puts (message_of m)) put_call b j after (alone (Over (Refused refusals.Reject))) client answers.Reject made refl (λ loss e. cc)
         (λ joins events facts. record {
           told = facts.told;
+          came = facts.came;
           more = [];
           adds = of_end air ends peers l settled (λ e. PutAdds (message_of m) e answers.Reject []) (rejected.beyond, refl);
           devices = facts.devices;
@@ -98,6 +98,7 @@ module _ (air : Air Device) (ends : FarEnds) (peers : Peers) (l : OpenLink) (set
         lost_obeyed air ends peers l settled (Put m) (Puts (message_of m)) put_call b j after why answer ended told
         (λ joins events facts. record {
           told = facts.told;
+          came = facts.came;
           more = a.0;
           adds = of_end air ends peers l settled (λ e. PutAdds (message_of m) e answer a.0) (by_loss why told a.0 a.2);
           devices = facts.devices;

@@ -49,6 +49,12 @@ pub last_begun : (general : List ℕ) (n : ℕ) (far after : FarEnd) → Restart
 last_begun general zero far after r some = absurd (omega (arith, some))
 last_begun general (suc n) far after r some = (r.0, r.2)
 
+-- however often it began one, it is as if that was once
+pub begun_anew : (general : List ℕ) (n : ℕ) (far after : FarEnd) → RestartedTimes restarts general n far after → 0 < n → after ≡ restarted serving far general
+begun_anew general zero far after r some = absurd (omega (arith, some))
+begun_anew general (suc n) far after r some =
+    r.2 ∙ sym (ends_table.anew r.0 general) ∙ ap (λ l. restarted serving l general) (times_keep general n far r.0 r.1).rests ∙ ends_table.anew far general
+
 -- the far ends with one of them at its place
 pub far_there : (os : Ends) (n : ℕ) (e : FarEnd) → get_or os n None ≡ Some e → with_far os n e ≡ os
 far_there [] n e is = absurd cc

@@ -1,5 +1,5 @@
 -- The open link ends: before a command that begins with a reset, and before its peer is taken away.
-use Rattle.std.proofs.Common.{◌≡◌, ℕ, suc, zero, ◌+◌, ◌<◌, List, [], ◌∷◌, ◌++◌, map, length, Bool, true, false, nat_eq, if◌then◌else◌, Option, Some, None, refl, sym, ◌∙◌, ap, subst, arith, inl, inr}
+use Rattle.std.proofs.Common.{◌≡◌, ℕ, suc, zero, ◌+◌, ◌<◌, List, [], ◌∷◌, ◌++◌, map, length, Bool, true, false, if◌then◌else◌, Option, Some, None, refl, sym, ◌∙◌, ap, subst, arith, inl, inr}
 use Rattle.std.specs.Prelude.{get_or, drop, slice_set}
 use Rattle.nfc_base.specs.declared.event.Event.{Event}
 use Rattle.air_core.specs.Turn.{Air}
@@ -26,8 +26,10 @@ use Rattle.bench_world.specs.declared.inbox.LinkRange.{LinkRange}
 use Rattle.bench_world.specs.World.{FarEnd}
 use Rattle.bench_world.specs.Peers.{Peers, placed_under}
 use Rattle.bench_world.specs.Links.{OpenLink, accepted_by, end_numbered, is_number, ended, with_last_ended, last_ended, is_with, accepted_at, begun_if}
-use Rattle.bench_world.specs.Legal.{State, Given, Joins, IsPlaced, AnswerLaw, FrontOf, CutFront, CutStores, changed, due, unlinked, is_linked_to, without_device, world_after, link_after, state_after}
-use Rattle.bench_world.specs.Obeying.{Machines, state_at, under, HasPlaces, IsSettled, KeepsLink, Obeyed, IsCutOff, ObeyedUnlinked, CutOffUnlinked, link_ended, taken_out}
+use Rattle.bench_world.specs.Arriving.{BeginsAt}
+use Rattle.bench_world.specs.Calls.{IfLinked}
+use Rattle.bench_world.specs.Legal.{State, Given, Joins, IsPlaced, AnswerLaw, FrontOf, CutFront, CutStores, due, unlinked, is_linked_to, without_device, world_after, link_after, state_after}
+use Rattle.bench_world.specs.Obeying.{Machines, state_at, HasPlaces, IsSettled, KeepsLink, Obeyed, IsCutOff, ObeyedUnlinked, CutOffUnlinked, link_ended, taken_out}
 use Rattle.std.proofs.lemmas.List.{length-append}
 use Rattle.bench_world.proofs.LinkKept.{keeps_so, open_less}
 use Rattle.bench_world.proofs.Peering.{any_other}
@@ -103,7 +105,7 @@ write_resets id m = record {
 }
 
 -- so is the opening of a link
-same_numbers : (o : Option OpenLink) (p : Peers) (os : List (Option FarEnd)) → (ended o os p).numbers ≡ p.numbers
+pub same_numbers : (o : Option OpenLink) (p : Peers) (os : List (Option FarEnd)) → (ended o os p).numbers ≡ p.numbers
 same_numbers None p os = refl
 same_numbers (Some l) p os = refl
 
@@ -132,12 +134,20 @@ same_after s joins id miu rw es told =
     } in
     ap S (same_opened s joins id miu rw es told)
 
+same_begun : (s : State) (joins : Joins) (id : List ℕ) (miu rw : ℕ) (es : List Event) (a : Answer)
+    → IfLinked (link_after (unlinked s) joins (Link id miu rw) es (Some a)) (λ l. BeginsAt l (own_general miu) (unlinked s).peers.numbers s.world.fars (world_after s joins (Link id miu rw) es).fars) (Unit {0})
+    → IfLinked (link_after s joins (Link id miu rw) es (Some a)) (λ l. BeginsAt l (own_general miu) s.peers.numbers s.world.fars (world_after s joins (Link id miu rw) es).fars) (Unit {0})
+same_begun s joins id miu rw es a h =
+    let P : List (Option ℕ) → Option OpenLink → Type 0 = λ ps o. IfLinked o (λ l. BeginsAt l (own_general miu) ps s.world.fars (world_after s joins (Link id miu rw) es).fars) (Unit {0}) in
+    subst (λ ps. P ps (link_after s joins (Link id miu rw) es (Some a))) (same_numbers s.link s.peers s.world.fars) (subst (P (unlinked s).peers.numbers) (same_opened s joins id miu rw es (Some a)) h)
+
 pub link_resets : (id : List ℕ) (miu rw : ℕ) → IsReset (Link id miu rw)
 link_resets id miu rw = record {
   front = λ s t g es told f. record { accepted = f.accepted; asks = f.asks; turns = f.turns; fates = f.fates; each = f.each; after = f.after ∙ same_after s g.joins id miu rw es told };
   next = λ s g ns. refl;
   law = λ s g es answer l. record {
     tells = subst (λ n. LinkTells (A id) s.world.field.listeners (n + 1) (own_general miu) es answer) (count_ended s.link s.peers s.world.fars) l.tells;
+    begins = same_begun s g.joins id miu rw es answer l.begins;
     stays = l.stays;
   };
   stores = λ s joins es stays. stays;

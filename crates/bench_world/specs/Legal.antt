@@ -43,6 +43,7 @@ use Rattle.bench_devices.specs.Opening.{linking}
 use Rattle.bench_world.specs.Links.{OpenLink, ended, is_with, end_numbered, begun_if, ended_unless}
 use Rattle.bench_world.specs.Linking.{LinkTells, link_if, own_general}
 use Rattle.bench_world.specs.Calls.{IfLinked, IsTold, OfEnd, PutAdds, PutAddsAtMost, GetTells, LookupTells, due_if, due_on, due_closing, stands_on, stands_closing, told_call, told_closing, call_behind, with_accepted}
+use Rattle.bench_world.specs.Arriving.{ArrivesAt, BeginsAt}
 use Rattle.bench_world.specs.Answering.{TagTells, TellsFound}
 use Rattle.bench_world.specs.Reading.{TellsOf, ReadAsks}
 use Rattle.bench_world.specs.Writing.{TellsWrite, WriteAsks, KeepsStores, ending_told}
@@ -347,18 +348,25 @@ abbrev pub inbox_now : State → DeviceId → List Received
 inbox_now s id =
     inbox_at s.peers.links (placed_under (bytes_of id) s.world.field.listeners s.peers.numbers) (placed_under (bytes_of id) s.world.field.listeners s.world.fars)
 
--- A link is opened, or not: nothing that stays changes.
+-- A link is opened, or not: nothing that stays changes. One that is open begins at its peer's end too.
 pub record LinkingLaw (s : State) (joins : Joins) (id : List ℕ) (miu window : ℕ) (events : List Event) (answer : Answer) : Type 0 where
   pub tells : LinkTells (DeviceId.A id) s.world.field.listeners (length s.peers.links + 1) (own_general miu) events answer
+  pub begins : IfLinked (link_after s joins (Link id miu window) events (Some answer))
+      (λ l. BeginsAt l (own_general miu) s.peers.numbers s.world.fars (world_after s joins (Link id miu window) events).fars) (Unit {0})
   pub stays : LeavesStable s joins (Link id miu window) events
 
 -- the far end of a link's peer
 abbrev pub end_of : State → OpenLink → Option FarEnd
 end_of s l = end_numbered l.peer s.peers.numbers s.world.fars
 
+-- what arrived at it in a command on the link
+abbrev pub Came : State → Joins → OpenLink → Command → List Event → Answer → Type 0
+Came s joins l c events answer = ArrivesAt l s.peers.numbers s.world.fars (world_after s joins c events).fars events (link_after s joins c events (Some answer))
+
 -- A message is put on the open link: the peer's server accepted it, or nothing, and nothing else that stays changes.
 pub record PutLaw (s : State) (joins : Joins) (l : OpenLink) (message : Msg) (events : List Event) (answer : Answer) : Type 0 where
   pub told : IsTold (told_call (stands_on l joins.own (Puts (message_of message)) events)) events answer
+  pub came : Came s joins l (Put message) events answer
   pub more : List Accepted
   pub adds : OfEnd (λ end. PutAdds (message_of message) end answer more) (end_of s l)
   pub devices : (stable (world_after s joins (Put message) events)).devices ≡ (stable s.world).devices
@@ -367,16 +375,19 @@ pub record PutLaw (s : State) (joins : Joins) (l : OpenLink) (message : Msg) (ev
 -- A value is got from its server, a name looked up, and the link closed: nothing that stays changes.
 pub record GetLaw (s : State) (joins : Joins) (l : OpenLink) (most : ℕ) (key : List ℕ) (events : List Event) (answer : Answer) : Type 0 where
   pub told : IsTold (told_call (stands_on l joins.own (Gets most key) events)) events answer
+  pub came : Came s joins l (Get most key) events answer
   pub tells : OfEnd (λ end. GetTells most key end answer) (end_of s l)
   pub stays : LeavesStable s joins (Get most key) events
 
 pub record LookupLaw (s : State) (joins : Joins) (l : OpenLink) (name : List ℕ) (events : List Event) (answer : Answer) : Type 0 where
   pub told : IsTold (told_call (stands_on l joins.own (Finds name) events)) events answer
+  pub came : Came s joins l (Lookup name) events answer
   pub tells : OfEnd (λ end. LookupTells name end answer) (end_of s l)
   pub stays : LeavesStable s joins (Lookup name) events
 
 pub record UnlinkLaw (s : State) (joins : Joins) (l : OpenLink) (events : List Event) (answer : Answer) : Type 0 where
   pub told : IsTold (told_closing (stands_closing l joins.own events)) events answer
+  pub came : Came s joins l Unlink events answer
   pub stays : LeavesStable s joins Unlink events
 
 -- the law of the answers; a line that asks for nothing has none

@@ -9,6 +9,7 @@ pub mod Linking
 pub mod Calls
 pub mod Opened
 pub mod Inbox
+pub mod Arriving
 pub mod Legal
 pub mod Obeying
 pub mod LinkedAt
@@ -16,6 +17,7 @@ pub mod Behind
 pub mod Completing
 pub mod Quiet
 pub mod Journal
+pub mod Arrivals
 pub mod QuietHearing
 pub mod Taking
 pub mod SameCommands

@@ -1,6 +1,7 @@
 //! That a command answers what it is asked for where noise doesn't keep it from that. The calls do nothing: they stand for
 //! these laws.
 
+ghost use Rattle.bench_world.specs.Arrivals.{PayloadLaw};
 ghost use Rattle.bench_world.specs.Behind.{WrittenIsRead, OneOfThreeIsRead};
 ghost use Rattle.bench_world.specs.Completing.{ReadsComplete, WritesComplete, ValidIsWritten, FindsComplete};
 ghost use Rattle.bench_world.specs.Quiet.{QuietStays, QuietReads, QuietWrites, QuietFinds};
@@ -55,4 +56,10 @@ pub fn quiet_air()
     ensures finds { QuietFinds }
     ensures hears { QuietHears }
     ensures script { QuietScript }
+{}
+
+/// What a peer's server accepts on a link is what the payloads put that arrived there while the link was open, counted from
+/// PNI 0 over all its entries, whatever is offered between them.
+pub fn accepted_by_payloads()
+    ensures { PayloadLaw }
 {}

@@ -1,5 +1,6 @@
 -- A swap on a link that is ready, by how its exchange ends.
 use Rattle.std.proofs.Common.{◌≡◌, ℕ, ◌+◌, ◌<◌, ◌≤◌, ◌==◌, inl, inr, List, [], ◌∷◌, ◌++◌, length, drop, Bool, true, false, if◌then◌else◌, Option, Some, None, Ok, Err, refl, sym, ◌∙◌, ap, subst, arith, append_assoc, append-nil, length-append}
+use Rattle.std.specs.Prelude.{slice_index}
 use Rattle.std.specs.Global.{Vec}
 use Rattle.std.proofs.lemmas.List.{append_cancel_left, drop-append-le}
 use Rattle.std.proofs.Math.Seq.{drop-append_seam}
@@ -33,11 +34,11 @@ use Rattle.dep_link.specs.Sizes.{limit}
 use Rattle.dep_link.specs.DepLinks.{DepSeen, since, brought, told_end, StandsAt, IsDepReady, Exchanged, Carries}
 use Rattle.dep_link.proofs.Wire.{frames_append}
 
-abbrev cut : ℕ → List ℕ → List (List ℕ) → Cut
+abbrev pub cut : ℕ → List ℕ → List (List ℕ) → Cut
 cut n chain ps = record { next = n; chain = chain; payloads = ps }
 
 -- both are a cut with such payloads, one with more before them
-abbrev Behind : List (List ℕ) → List DepFrame → Cut → Cut → Type 0
+abbrev pub Behind : List (List ℕ) → List DepFrame → Cut → Cut → Type 0
 Behind ps vs c d = (cut_by c vs).payloads ≡ ps ++ (cut_by d vs).payloads
 
 if_behind : (ps : List (List ℕ)) (vs : List DepFrame) (b : Bool) (c d c' d' : Cut) → Behind ps vs c c' → Behind ps vs d d' → Behind ps vs (if b then c else d) (if b then c' else d')
@@ -50,7 +51,7 @@ more_behind ps vs n chain xs qs true p q = p
 more_behind ps vs n chain xs qs false p q = subst (λ (zs : List (List ℕ)). Behind ps vs (cut (after n) [] zs) (cut (after n) [] (qs ++ xs ∷ []))) (sym (append_assoc ps qs (xs ∷ []))) q
 
 -- payloads that came before stay in front
-payloads_behind : (ps : List (List ℕ)) (vs : List DepFrame) (n : ℕ) (chain : List ℕ) (qs : List (List ℕ)) → Behind ps vs (cut n chain (ps ++ qs)) (cut n chain qs)
+pub payloads_behind : (ps : List (List ℕ)) (vs : List DepFrame) (n : ℕ) (chain : List ℕ) (qs : List (List ℕ)) → Behind ps vs (cut n chain (ps ++ qs)) (cut n chain qs)
 payloads_behind ps [] n chain qs = refl
 payloads_behind ps (Info false more pni x ∷ vs) n chain qs =
     if_behind ps vs (pni == n) _ _ _ _
@@ -69,12 +70,12 @@ payloads_behind ps (DslRes ∷ vs) n chain qs = payloads_behind ps vs n chain qs
 payloads_behind ps (RlsReq ∷ vs) n chain qs = payloads_behind ps vs n chain qs
 payloads_behind ps (RlsRes ∷ vs) n chain qs = payloads_behind ps vs n chain qs
 
-cut_then : (c : Cut) (vs ws : List DepFrame) → cut_by c (vs ++ ws) ≡ cut_by (cut_by c vs) ws
+pub cut_then : (c : Cut) (vs ws : List DepFrame) → cut_by c (vs ++ ws) ≡ cut_by (cut_by c vs) ws
 cut_then c [] ws = refl
 cut_then c (v ∷ vs) ws = cut_then (taken c v) vs ws
 
 module _ {L F : Type 0} (k : Ghosts L) (target : L → TargetState) (steps : F → List ℕ → List ℕ → F → Type 0) (stops : F → List ℕ → F → Type 0) (a : DepSeen L) (open_link : a.over ≡ None) (r : IsDepReady k target a)
-    (out : List ℕ) (short : length out ≤ limit) (far far' : F) where
+    (out : List ℕ) (short : length out ≤ limit) (bytes : (i : ℕ) → slice_index out i < 256) (far far' : F) where
   -- where the link stands then
   abbrev pub at : Air L → InitState → Option EndCause → DepSeen L
   at new j over = record { air = new; initiator = j; first = a.first; start = a.start; over = over }
@@ -117,11 +118,11 @@ module _ {L F : Type 0} (k : Ghosts L) (target : L → TargetState) (steps : F �
     Noisy over = over ≡ Some SixBad → noise (since (at new j over)) ≡ noise (since a) → ⊥
 
     exchanged : (over : Option EndCause) (s : Standing) → StandsAt over None j s → Turns new None s → Noisy over → Exchanged k target a (at new j over) (record { out = out; did = [] })
-    exchanged over s st x n = record { begins = open_link; start = r.start; peer = r.peer; same = (refl, refl); last = last; short = short; exchange = (s, x, st); noisy = n }
+    exchanged over s st x n = record { begins = open_link; start = r.start; peer = r.peer; same = (refl, refl); last = last; short = short; bytes = bytes; exchange = (s, x, st); noisy = n }
 
     exchanged_step : (over : Option EndCause) (reply : List ℕ) (s : Standing) → StandsAt over (Some reply) j s → Turns new (Some reply) s → Noisy over
         → Exchanged k target a (at new j over) (record { out = out; did = Stepped out reply ∷ [] })
-    exchanged_step over reply s st x n = record { begins = open_link; start = r.start; peer = r.peer; same = (refl, refl); last = last; short = short; exchange = (refl, (s, x, st)); noisy = n }
+    exchanged_step over reply s st x n = record { begins = open_link; start = r.start; peer = r.peer; same = (refl, refl); last = last; short = short; bytes = bytes; exchange = (refl, (s, x, st)); noisy = n }
 
     -- the reply came
     pub carried : (reply : Vec ℕ) → EndsBy k target steps stops a.air new r.peer.listener a.initiator j a.first (brought a.first (since a)) (arrived (since a)) out far far' (Ok (record { items = reply.items }))
@@ -173,7 +174,7 @@ module _ {L F : Type 0} (k : Ghosts L) (target : L → TargetState) (steps : F �
     stopped (x, stop) = (
       Stopped out ∷ [],
       record {
-        exchanged = record { begins = open_link; start = r.start; peer = r.peer; same = (refl, refl); last = last; short = short; exchange = (refl, x, refl); noisy = λ e q. cc };
+        exchanged = record { begins = open_link; start = r.start; peer = r.peer; same = (refl, refl); last = last; short = short; bytes = bytes; exchange = (refl, x, refl); noisy = λ e q. cc };
         far_moved = (stop, refl);
       },
       inr (refl, refl),

@@ -1,6 +1,6 @@
 -- What contracts see of a link to a peer, over a field and an initiator that it borrows (NFCIP-1, ISO/IEC 18092). What was
 -- handed over is read off the frames that arrived.
-use Rattle.std.specs.Prelude.{◌≡◌, ℕ, ◌≤◌, List, [], ◌∷◌, length, drop, Bool, true, false, not, Option, Some, None, Result, Ok, Err}
+use Rattle.std.specs.Prelude.{◌≡◌, ℕ, ◌≤◌, ◌<◌, List, [], ◌∷◌, length, drop, slice_index, Bool, true, false, not, Option, Some, None, Result, Ok, Err}
 use Rattle.std.specs.Global.{Vec}
 use Rattle.nfc_base.specs.Signal.{Signal}
 use Rattle.nfc_base.specs.Trace.{noise}
@@ -128,8 +128,8 @@ module _ {L : Type 0} (k : Ghosts L) (target : L → TargetState) where
       (payload ≡ out) × StoppedTurns k target a.air b.air t.listener a.initiator a.first (brought a.first (since a)) (arrived (since a)) out b.initiator × (b.over ≡ Some Memory)
   ExchangedAs a b t out (d ∷ e ∷ ds) = ⊥
 
-  -- From one moment to another a payload was swapped, which is as long as one may be: each request was due, and nothing else happened to
-  -- the field. No wait has six bad receptions where all passed.
+  -- From one moment to another a payload was swapped, of bytes and as long as one may be: each request was due, and nothing else happened
+  -- to the field. No wait has six bad receptions where all passed.
   pub record Exchanged (a b : DepSeen L) (s : Swap) : Type 0 where
     pub begins : a.over ≡ None
     pub start : a.start ≤ length a.air.trace
@@ -137,6 +137,7 @@ module _ {L : Type 0} (k : Ghosts L) (target : L → TargetState) where
     pub same : (b.first ≡ a.first) × (b.start ≡ a.start)
     pub last : b.initiator.out ≡ Some s.out
     pub short : length s.out ≤ limit
+    pub bytes : (i : ℕ) → slice_index s.out i < 256
     pub exchange : ExchangedAs a b peer s.out s.did
     pub noisy : b.over ≡ Some SixBad → noise (since b) ≡ noise (since a) → ⊥
 

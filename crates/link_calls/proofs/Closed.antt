@@ -1,5 +1,5 @@
 -- What ending a connection and releasing its link comes to.
-use Rattle.std.proofs.Common.{◌≡◌, ◌⊎◌, ℕ, List, Bool, true, Option, Some, None, Ok, Err, refl, sym, ◌∙◌, ap, subst, inl, inr}
+use Rattle.std.proofs.Common.{◌≡◌, ◌≤◌, ◌⊎◌, ℕ, List, length, Bool, true, Option, Some, None, Ok, Err, refl, sym, ◌∙◌, ap, subst, inl, inr}
 use Rattle.nfc_base.specs.Signal.{Signal}
 use Rattle.nfc_base.specs.Far.{Untouched}
 use Rattle.nfc_base.specs.declared.carrier.EndCause.{EndCause}
@@ -31,7 +31,8 @@ use Rattle.link_calls.specs.Calls.{IsOpen, IsCutOff}
 use Rattle.link_calls.specs.ClosingDue.{Releasing, closing_at, closing_due_at}
 use Rattle.link_calls.specs.Closing.{ClosingTurns, ClosingFails, SendsRls, IsReleased}
 use Rattle.link_calls.specs.Staying.{begins, setting_of}
-use Rattle.link_calls.proofs.Made.{peer_table, peer_kind, reaches, made, cut_off}
+use Rattle.link_calls.proofs.Arriving.{release_brings}
+use Rattle.link_calls.proofs.Made.{peer_table, peer_kind, reaches, made, cut_off, within}
 use Rattle.link_calls.proofs.Closes.{of_call, with_release}
 
 due_same : (s : CallStanding) (f : Signal) → call_due_at s ≡ Asks f → closing_due_at (closing_at s) ≡ Asks f
@@ -109,14 +110,25 @@ module _ {L C : Type 0} (k : Ghosts L) (target : L → TargetState) (see : C →
     set_still quiet = ap setting_of (same quiet) ∙ (made k target see laws a b far half old i is open_ ready from (Ends jobs client) talk refl).carried.setting
 
     sends_rls : (heard : Option Heard) → TurnIs k.machine begins (Answers serving) (see b).air rls_frame half heard new after → SendsRls k target from old i far new after heard
-    sends_rls heard turn = record {
-      mid = (see b).air;
-      rest = (see b).initiator;
-      half = half;
-      carried = (made k target see laws a b far half old i is open_ ready from (Ends jobs client) talk refl).carried;
-      turn = turn;
-      same = same;
-    }
+    sends_rls heard turn =
+        let carried = (made k target see laws a b far half old i is open_ ready from (Ends jobs client) talk refl).carried in
+        let came = carried.arrives in
+        let start : length old.trace ≤ length (see b).air.trace = within k target see laws a b far half old i is open_ ready from (Ends jobs client) talk in
+        record {
+          mid = (see b).air;
+          rest = (see b).initiator;
+          half = half;
+          carried = carried;
+          turn = turn;
+          same = same;
+          arrives = λ quiet. record {
+            run = came.run;
+            does = came.does;
+            after_is = same quiet ∙ came.after_is;
+            payloads = came.payloads
+                ∙ sym (release_brings k.machine begins (Answers serving) i.core.number (length old.trace) (see b).air new half after heard start turn);
+          };
+        }
 
     pub released : Releases k.machine begins (Answers serving) (Stops serving) is_stuck (see b).air half (Ok tt) new after → IsReleased k target from old i far new after (Ends jobs client)
     released (heard, turn) = record {

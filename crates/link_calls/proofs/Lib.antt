@@ -1,4 +1,5 @@
 pub mod Settings
+pub mod Arriving
 pub mod CallWalk
 pub mod Open
 pub mod Made

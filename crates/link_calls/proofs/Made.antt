@@ -1,7 +1,7 @@
 -- What a call over the open link of a field comes to.
-use Rattle.std.proofs.Common.{◌≡◌, ◌≤◌, ◌<◌, ℕ, zero, suc, List, [], ◌∷◌, length, drop, Bool, true, Option, Some, None, refl, sym, ◌∙◌, ap, subst, inl, inr, arith}
+use Rattle.std.proofs.Common.{◌≡◌, ◌≤◌, ◌<◌, ℕ, zero, suc, List, [], ◌∷◌, ◌++◌, length, drop, Bool, true, false, Option, Some, None, refl, sym, ◌∙◌, ap, subst, inl, inr, arith}
 use Rattle.nfc_base.specs.Trace.{noise}
-use Rattle.nfc_base.specs.Links.{BySwaps, FarStep, Stepped, Stopped, payload_of}
+use Rattle.nfc_base.specs.Links.{AskedBy, BySwaps, FarMoved, FarStep, Stepped, Stopped, payload_of}
 use Rattle.nfc_base.specs.declared.carrier.EndCause.{EndCause}
 use Rattle.nfc_base.specs.declared.carrier.EndCause.TheVariants as cause
 use Rattle.air_core.specs.Turn.{Air}
@@ -10,7 +10,8 @@ use Rattle.air_core.proofs.PlainAside.{Laws}
 use Rattle.dep_link.specs.Target.{TargetState}
 use Rattle.dep_link.specs.Initiator.{InitState}
 use Rattle.dep_link.specs.Asking.{Standing}
-use Rattle.dep_link.specs.DepLinks.{DepSeen, Swap, Chained, IsDepReady, StandsAt, first_seen, over_at}
+use Rattle.dep_link.specs.DepLinks.{DepSeen, Swap, Chained, IsDepReady, StandsAt, brought, first_seen, over_at, since}
+use Rattle.dep_link.proofs.Swapped.{handed_of, handed_on}
 use Rattle.llcp_link.specs.Answering.{Answers, Stops, answers_fit}
 use Rattle.far_air.specs.FarLaws.{IsFarTable, IsLinked, IsOfTable}
 use Rattle.peer_air.specs.PeerFars.{peer_ends}
@@ -20,16 +21,18 @@ use Rattle.peer_air.proofs.Wholly.{swaps_far, stops_far}
 use Rattle.snep_core.specs.declared.fault.SnepFault.{SnepFault}
 use Rattle.snep_core.specs.Accord.{PeerState}
 use Rattle.snep_core.specs.Server.{serving}
-use Rattle.snep_core.specs.Calling.{Talks, Breaks, FailsBy, Fails, IsCut, fault_of}
+use Rattle.snep_core.specs.Calling.{Talks, Breaks, FailsBy, Fails, IsCut, fault_of, payloads}
 use Rattle.snep_core.specs.Calling as calling
 use Rattle.snep_core.specs.declared.job.Job.TheVariants.{Over}
 use Rattle.snep_core.specs.declared.job.Ending.TheVariants.{Refused}
 use Rattle.snep_core.specs.Talk.{EndState, IsMost, Step, Goes, Ends, GivesUp, Told, Working, alone, replied}
 use Rattle.snep_core.specs.Talk.{ready as ready_of}
+use Rattle.link_calls.specs.Arriving.{Arrives}
 use Rattle.link_calls.specs.CallDue.{CallStanding, Comes, call_at}
 use Rattle.link_calls.specs.CallTurns.{CallTurns, CutBy, sees, swaps}
 use Rattle.link_calls.specs.Calls.{IsOpen, IsCarried, IsMade, IsCutOff, CallFails, RequestFails}
 use Rattle.link_calls.specs.Staying.{begins, setting_of}
+use Rattle.link_calls.proofs.Arriving.{AreWhole, arrives_so, counted_so, firsts, none_yet, ran, ran_then, told_whole}
 use Rattle.link_calls.proofs.CallWalk.{talks_far, breaks_far}
 use Rattle.link_calls.proofs.Open.{in_step, swap_open}
 use Rattle.link_calls.proofs.Settings.{set_still}
@@ -107,14 +110,30 @@ module _ {L C : Type 0} (k : Ghosts L) (target : L → TargetState) (see : C →
         links peer_table peer_kind from to a b far after talk was_open place (subst A (sym is) there) os [] in
         (subst P is (subst Q e z.0), z.1)
 
+    -- counted from where the link was made
+    first_is : (did : List FarStep) (m : C) → BySwaps (swaps k target see) did a m → (see m).first ≡ i.core.number
+    first_is did m by = firsts k target see did a m by ∙ ap (λ (p : DepSeen L). p.first) is
+
+    start_is : (did : List FarStep) (m : C) → BySwaps (swaps k target see) did a m → (see m).start ≡ length old.trace
+    start_is did m by = starts did a m by ∙ ap (λ (p : DepSeen L). p.start) is
+
+    pub within : (from to : Step) → Talk from to → length old.trace ≤ length (see b).air.trace
+    within from to talk = subst (λ n. n ≤ length (see b).air.trace) (start_is talk.did b talk.swapped) (ready (talk.over ∙ was_open)).start
+
     carried : (from to : Step) → Talk from to → IsCarried k target old i far (see b).air (see b).initiator after None
-    carried from to talk = record {
-      at = see b;
-      left = (refl, refl, talk.over ∙ was_open);
-      swaps = (chain talk.did a b talk.swapped).0;
-      chain = subst (λ (p : DepSeen L). Chained k target (chain talk.did a b talk.swapped).0 p (see b)) is (chain talk.did a b talk.swapped).1;
-      setting = set_still talk.did far after talk.far_moved;
-    }
+    carried from to talk =
+        let first : (see b).first ≡ i.core.number = first_is talk.did b talk.swapped in
+        let start : (see b).start ≡ length old.trace = start_is talk.did b talk.swapped in
+        let handed : brought (see b).first (since (see b)) ≡ payloads talk.did = talk.handed ∙ ap (λ ps. ps ++ payloads talk.did) (none_yet k target (see a) old i is) in
+        record {
+          at = see b;
+          left = (refl, refl, talk.over ∙ was_open);
+          swaps = (chain talk.did a b talk.swapped).0;
+          chain = subst (λ (p : DepSeen L). Chained k target (chain talk.did a b talk.swapped).0 p (see b)) is (chain talk.did a b talk.swapped).1;
+          arrives = arrives_so k target old i (see b) first start (payloads talk.did) far after handed (ran talk.did (told_whole k target see talk.counts talk.did from to a b talk.told talk.swapped) far after talk.far_moved);
+          counted = λ e. counted_so k target old i (see b) first start (ready (talk.over ∙ was_open)).peer;
+          setting = set_still talk.did far after talk.far_moved;
+        }
 
     pub made : (from to : Step) → Talk from to → call_at [] to (see b).initiator ≡ Comes to (see b).initiator → IsMade k target from old i far (see b).air (see b).initiator after to
     made from to talk e =
@@ -185,15 +204,38 @@ module _ {L C : Type 0} (k : Ghosts L) (target : L → TargetState) (see : C →
     never_odd m out (Stopped payload ∷ []) x e = let o = x.exchange.2 in cc
     never_odd m out (d ∷ f ∷ did) x e = absurd x.exchange
 
+    -- the steps of a swap that didn't fail for want of memory are whole
+    asked_whole : (mid : C) (answered : Bool) (c : EndCause) (out : List ℕ) (did : List FarStep) → swaps k target see mid out did b → AskedBy answered c out did → (c ≡ cause.Memory → ⊥)
+        → AreWhole did × (handed_of out did ≡ payloads did)
+    asked_whole mid true c out did one (reply, e) calm =
+        let P : List FarStep → Type 0 = λ ds. AreWhole ds × (handed_of out ds ≡ payloads ds) in
+        subst P (sym e) ((one.bytes, tt), refl)
+    asked_whole mid false c out did one (inl e) calm = let P : List FarStep → Type 0 = λ ds. AreWhole ds × (handed_of out ds ≡ payloads ds) in subst P (sym e) (tt, refl)
+    asked_whole mid false c out did one (inr (memory, e)) calm = absurd (calm memory)
+
+    last_arrives : (ns : List ℕ) (did : List FarStep) (from to : Step) (mid : C) (half : PeerState) → Told IsMost ns from did to → BySwaps (swaps k target see) did a mid
+        → brought (see mid).first (since (see mid)) ≡ brought (see a).first (since (see a)) ++ payloads did → FarMoved (Answers serving) (Stops serving) did far half
+        → (answered : Bool) (c : EndCause) (out : List ℕ) (more : List FarStep) → swaps k target see mid out more b → FarMoved (Answers serving) (Stops serving) more half after
+        → AskedBy answered c out more → (c ≡ cause.Memory → ⊥) → Arrives i.core.number (drop (length old.trace) (see b).air.trace) far after
+    last_arrives ns did from to mid half told by handed moved answered c out more one last asked calm =
+        let whole = asked_whole mid answered c out more one asked calm in
+        let all : brought (see b).first (since (see b)) ≡ payloads did ++ payloads more =
+        handed_on k target (see mid) (see b) out more one ∙ ap (λ ps. ps ++ handed_of out more) (handed ∙ ap (λ ps. ps ++ payloads did) (none_yet k target (see a) old i is))
+        ∙ ap (λ ps. payloads did ++ ps) whole.1 in
+        arrives_so k target old i (see b) (one.same.0 ∙ first_is did mid by) (one.same.1 ∙ start_is did mid by) (payloads did ++ payloads more) far after all
+        (ran_then (payloads did) (payloads more) far half after (ran did (told_whole k target see ns did from to a mid told by) far half moved) (ran more whole.0 half after last))
+
     -- the last swap failed
     last_left : (from : Step) (w : Working) (mid : C) (mid_far : PeerState) (talk : Talks (sees see) (swaps k target see) (Answers serving) (Stops serving) from a far (Goes w) mid mid_far) (e : SnepFault) (new : EndState)
-        (c : Fails (sees see) (swaps k target see) (Answers serving) (Stops serving) (ready_of w).llc mid mid_far e new b after) → Left c.why.cause
-    last_left from w mid mid_far talk e new c = (
+        (c : Fails (sees see) (swaps k target see) (Answers serving) (Stops serving) (ready_of w).llc mid mid_far e new b after) → (c.why.cause ≡ cause.Memory → ⊥) → Left c.why.cause
+    last_left from w mid mid_far talk e new c calm = (
       record {
         at = see b;
         left = (refl, refl, c.swap.over);
         swaps = (chain_to talk.did c.swapped.did _ a mid b talk.swapped c.swapped.link).0;
         chain = subst (λ (p : DepSeen L). Chained k target (chain_to talk.did c.swapped.did _ a mid b talk.swapped c.swapped.link).0 p (see b)) is (chain_to talk.did c.swapped.did _ a mid b talk.swapped c.swapped.link).1;
+        arrives = last_arrives talk.counts talk.did from (Goes w) mid mid_far talk.told talk.swapped talk.handed talk.far_moved c.why.answered c.why.cause _ c.swapped.did c.swapped.link c.swapped.far_moved c.swapped.tells calm;
+        counted = λ none. absurd (let over = c.swap.over in cc);
         setting = set_still c.swapped.did mid_far after c.swapped.far_moved ∙ set_still talk.did far mid_far talk.far_moved;
       },
       λ six.
@@ -207,7 +249,7 @@ module _ {L C : Type 0} (k : Ghosts L) (target : L → TargetState) (see : C →
     cut_so from e new broke (inl (inr c)) = absurd (let over = c.over in let goes : (see broke.mid).over ≡ None = broke.talks.over ∙ was_open in cc)
     cut_so from e new broke (inr (inl c)) =
         by_cause from e new broke c.why.cause c.fault (λ q. never_odd broke.mid _ c.swapped.did c.swapped.link (c.swap.over ∙ ap Some q))
-        (λ n. last_left from broke.at broke.mid broke.mid_far broke.talks e new c)
+        (λ n. last_left from broke.at broke.mid broke.mid_far broke.talks e new c n)
         (set_still c.swapped.did broke.mid_far after c.swapped.far_moved ∙ set_still broke.talks.did far broke.mid_far broke.talks.far_moved)
     cut_so from e new broke (inr (inr c)) =
         by_cause from e new broke cause.Memory c.fault (λ q. cc) (λ n. absurd (n refl))

@@ -21,6 +21,7 @@ use Rattle.snep_core.specs.declared.job.Ending.TheVariants.{Refused}
 use Rattle.snep_core.specs.Talk.{EndState, Step, Ends, GivesUp, alone}
 use Rattle.link_calls.specs.CallDue.{CallStanding, BrokenBy, Comes}
 use Rattle.link_calls.specs.CallTurns.{CallTurns, CallFront}
+use Rattle.link_calls.specs.Arriving.{Arrives, IsCounted}
 use Rattle.link_calls.specs.Staying.{setting_of}
 
 module _ {L : Type 0} (k : Ghosts L) (target : L → TargetState) where
@@ -31,12 +32,15 @@ module _ {L : Type 0} (k : Ghosts L) (target : L → TargetState) where
     pub going : over_at i.phase true ≡ None
 
   -- From a moment of the field, its initiator and its peer's end to others payloads were swapped over the link, which is over by this cause then, or
-  -- isn't. They change nothing that is set of the end.
+  -- isn't. What arrived at the peer its end took, counted from the initiator's number; a link that isn't over is counted to that number again. So
+  -- nothing changes that is set of the end.
   pub record IsCarried (old : Air L) (i : InitState) (far : PeerState) (new : Air L) (j : InitState) (after : PeerState) (over : Option EndCause) : Type 0 where
     pub at : DepSeen L
     pub left : (at.air ≡ new) × (at.initiator ≡ j) × (at.over ≡ over)
     pub swaps : List Swap
     pub chain : Chained k target swaps (first_seen old i) at
+    pub arrives : Arrives i.core.number (drop (length old.trace) new.trace) far after
+    pub counted : over ≡ None → IsCounted i.core.number (drop (length old.trace) new.trace) j.core.number
     pub setting : setting_of after ≡ setting_of far
 
   -- A call on an open link, from a moment of the field, its initiator and its peer's end to others.

@@ -27,6 +27,7 @@ use Rattle.snep_core.specs.Accord.{PeerState}
 use Rattle.snep_core.specs.Server.{serving}
 use Rattle.snep_core.specs.Talk.{EndState, Step, GivesUp}
 use Rattle.link_calls.specs.CallDue.{BrokenBy, Comes}
+use Rattle.link_calls.specs.Arriving.{Arrives}
 use Rattle.link_calls.specs.Calls.{IsCarried}
 use Rattle.link_calls.specs.ClosingDue.{ClosingStanding, Calls, Released, closing_stand, closing_due, closing_due_at}
 use Rattle.link_calls.specs.Staying.{begins, setting_of}
@@ -59,7 +60,7 @@ module _ {L : Type 0} (k : Ghosts L) (target : L → TargetState) where
         → (numbers : List ℕ) × ClosingTurns k linked peer_ends numbers from i old new place os far after s
 
     -- Behind payloads that were swapped RLS_REQ was sent, and this was heard of it, none where the field was lost. Where no listener hands anything
-    -- over at it, the end stays.
+    -- over at it, the end stays: nothing more arrived.
     pub record SendsRls (heard : Option Heard) : Type 0 where
       pub mid : Air L
       pub rest : InitState
@@ -67,6 +68,7 @@ module _ {L : Type 0} (k : Ghosts L) (target : L → TargetState) where
       pub carried : IsCarried k target old i far mid rest half None
       pub turn : TurnIs k.machine begins (Answers serving) mid rls_frame half heard new after
       pub same : ((l : L) → k.machine.handed l rls_frame ≡ Untouched) → after ≡ half
+      pub arrives : ((l : L) → k.machine.handed l rls_frame ≡ Untouched) → Arrives i.core.number (drop (length old.trace) new.trace) far after
 
     -- The connection ended, and RLS_REQ was sent.
     pub record IsReleased (to : Step) : Type 0 where

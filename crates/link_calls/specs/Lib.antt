@@ -1,4 +1,5 @@
 pub mod Staying
+pub mod Arriving
 pub mod CallDue
 pub mod CallTurns
 pub mod Calls

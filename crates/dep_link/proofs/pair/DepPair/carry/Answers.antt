@@ -1,4 +1,4 @@
-use Rattle.std.proofs.Common.{◌≡◌, ◌≤◌, ℕ, List, length, drop, Bool, false, Option, Some, Ok, Err, refl, sym, ◌∙◌, ap, subst, rules}
+use Rattle.std.proofs.Common.{◌≡◌, ◌≤◌, ℕ, List, length, drop, Bool, false, Option, Some, Ok, Err, refl, sym, ◌∙◌, ap, subst, arith, rules}
 use Rattle.nfc_base.specs.LinkTurns.{arrived}
 use Rattle.nfc_base.specs.declared.carrier.EndCause.{EndCause}
 use Rattle.nfc_base.specs.declared.carrier.EndCause.TheVariants.{Memory}
@@ -21,11 +21,11 @@ returns-in_default-clause-carries g c =
     subst P (sym c.end.ensures.told)
     (subst Q (sym c.end.ensures.over)
     (subst R (sym c.begin-request.ensures.step)
-    (no_room g.L.Listener g.L.PeerListener.target g.A.Answerer.steps g.A.Answerer.stops (seen_pair c.args.self.now) c.requires.ready.0 c.requires.ready.1 c.args.out.now c.requires.bound c.args.far.now c.args.far.now refl)))
+    (no_room g.L.Listener g.L.PeerListener.target g.A.Answerer.steps g.A.Answerer.stops (seen_pair c.args.self.now) c.requires.ready.0 c.requires.ready.1 c.args.out.now c.requires.bound (λ i. omega (arith, c.type_inv.out i)) c.args.far.now c.args.far.now refl)))
 
 pub end_by-requires-clause-place : goal.end_by-requires-clause-place
 end_by-requires-clause-place g c =
-    let l = fault_grows g.L.Listener g.L.PeerListener.target g.A.Answerer.steps g.A.Answerer.stops (seen_pair c.args.self.now) c.requires.ready.0 c.requires.ready.1 c.args.out.now c.requires.bound c.args.far.now c.ask_peer.new.far c.ask_peer.new.field c.ask_peer.new.initiator c.in-Err.why
+    let l = fault_grows g.L.Listener g.L.PeerListener.target g.A.Answerer.steps g.A.Answerer.stops (seen_pair c.args.self.now) c.requires.ready.0 c.requires.ready.1 c.args.out.now c.requires.bound (λ i. omega (arith, c.type_inv.out i)) c.args.far.now c.ask_peer.new.far c.ask_peer.new.field c.ask_peer.new.initiator c.in-Err.why
     (c.in-Err.ensures.ends c.args.self.now.initiator.now c.args.out.now c.begin-request.ensures.step c.begin-request.ensures.request c.requires.bound c.requires.ready.1.lit c.args.self.now.first
     (brought c.args.self.now.first (since (seen_pair c.args.self.now))) (arrived (since (seen_pair c.args.self.now))) c.requires.ready.1.peer) in
     subst (λ (n : ℕ). n ≤ length c.ask_peer.new.field.trace) (sym (ap length c.trace-start.ensures)) l
@@ -38,7 +38,7 @@ returns-in-Ok-ask_peer-clause-carries g c =
     let P : Option EndCause → Type 0 = λ o. Carries g.L.Listener g.L.PeerListener.target g.A.Answerer.steps g.A.Answerer.stops (seen_pair c.args.self.now)
     (record { air = c.ask_peer.new.field; initiator = c.ask_peer.new.initiator; first = c.args.self.now.first; start = c.args.self.now.start; over = o }) c.args.out.now c.args.far.now c.ask_peer.new.far (Ok c.extend_from_slice.new.self) in
     subst P (sym c.requires.ready.0)
-    (carried g.L.Listener g.L.PeerListener.target g.A.Answerer.steps g.A.Answerer.stops (seen_pair c.args.self.now) c.requires.ready.0 c.requires.ready.1 c.args.out.now c.requires.bound c.args.far.now c.ask_peer.new.far c.ask_peer.new.field c.ask_peer.new.initiator
+    (carried g.L.Listener g.L.PeerListener.target g.A.Answerer.steps g.A.Answerer.stops (seen_pair c.args.self.now) c.requires.ready.0 c.requires.ready.1 c.args.out.now c.requires.bound (λ i. omega (arith, c.type_inv.out i)) c.args.far.now c.ask_peer.new.far c.ask_peer.new.field c.ask_peer.new.initiator
     (c.ask_peer.ensures.out ∙ ap (λ i. i.out) c.begin-request.ensures.step) c.extend_from_slice.new.self
     (subst E (sym q)
     (c.in-Ok-ask_peer.ensures.ends c.args.self.now.initiator.now c.args.out.now c.begin-request.ensures.step c.begin-request.ensures.request c.requires.bound c.requires.ready.1.lit c.args.self.now.first
@@ -55,7 +55,7 @@ returns-in-Err-clause-carries g c =
     let Q : DepPair _ → Type 0 = λ p. Carries g.L.Listener g.L.PeerListener.target g.A.Answerer.steps g.A.Answerer.stops (seen_pair c.args.self.now) (seen_pair p) c.args.out.now c.args.far.now c.ask_peer.new.far (Err c.end_by.result) in
     subst Q (sym c.end_by.ensures.over)
     (subst P (sym c.end_by.ensures.told)
-    (fault_carried g.L.Listener g.L.PeerListener.target g.A.Answerer.steps g.A.Answerer.stops (seen_pair c.args.self.now) c.requires.ready.0 c.requires.ready.1 c.args.out.now c.requires.bound c.args.far.now c.ask_peer.new.far c.ask_peer.new.field c.ask_peer.new.initiator
+    (fault_carried g.L.Listener g.L.PeerListener.target g.A.Answerer.steps g.A.Answerer.stops (seen_pair c.args.self.now) c.requires.ready.0 c.requires.ready.1 c.args.out.now c.requires.bound (λ i. omega (arith, c.type_inv.out i)) c.args.far.now c.ask_peer.new.far c.ask_peer.new.field c.ask_peer.new.initiator
     (c.ask_peer.ensures.out ∙ ap (λ i. i.out) c.begin-request.ensures.step) c.in-Err.why
     (c.in-Err.ensures.ends c.args.self.now.initiator.now c.args.out.now c.begin-request.ensures.step c.begin-request.ensures.request c.requires.bound c.requires.ready.1.lit c.args.self.now.first
     (brought c.args.self.now.first (since (seen_pair c.args.self.now))) (arrived (since (seen_pair c.args.self.now))) c.requires.ready.1.peer) came number))

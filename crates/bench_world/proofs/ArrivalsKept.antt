@@ -1,0 +1,295 @@
+-- What each legal entry does to the arrivals of links.
+use Rattle.std.proofs.Common.{◌≡◌, ℕ, List, [], ◌∷◌, ◌++◌, map, Bool, true, false, if◌then◌else◌, Option, Some, None, refl, sym, ◌∙◌, ap, subst, inl, inr}
+use Rattle.std.specs.Cmp.Lexicographic.{pointwise}
+use Rattle.std.specs.List.{AllByRecursion}
+use Rattle.std.specs.Prelude.{nat_eq, option_map}
+use Rattle.nfc_base.specs.declared.event.Event.{Event}
+use Rattle.nfc_base.specs.declared.event.Event.TheVariants.{Reset, Request, Answer as Answers, Clash}
+use Rattle.air_core.specs.Conversation.{AreTurns, EachDue, Note, Over}
+use Rattle.far_air.specs.FarEnds.{first_far, later_fars}
+use Rattle.llcp_link.specs.Running.{DoesElse}
+use Rattle.snep_core.specs.Payloads.{OffersElse}
+use Rattle.snep_core.specs.Server.{offered}
+use Rattle.snep_core.specs.Talk.{Ends as Finishes, Finds, Gets, GivesUp, Goes, Puts}
+use Rattle.link_calls.specs.CallDue.{CallStanding, Carries, Comes, BrokenBy, Strays}
+use Rattle.bench_script.specs.declared.command.Command.{Command}
+use Rattle.bench_script.specs.declared.command.Command.TheVariants.{Skip, Fates, PlaceT2, PlaceT4, PlaceT5, PlacePeer, Lock, Busy, Offer, Remove, Dump, Inbox, Find, Read, Write, Link, Put, Get, Lookup, Unlink}
+use Rattle.bench_script.specs.declared.command.DeviceId.{DeviceId}
+use Rattle.bench_script.specs.declared.message.Msg.{Msg}
+use Rattle.bench_script.specs.DeviceIds.{bytes_of}
+use Rattle.bench_script.specs.Messages.{message_of}
+use Rattle.bench_devices.specs.declared.device.Device.{Device}
+use Rattle.bench_devices.specs.Device.{device_id}
+use Rattle.bench_devices.specs.Placed.{device_with}
+use Rattle.bench_world.specs.declared.entry.Answer.{Answer}
+use Rattle.bench_world.specs.declared.entry.Answer.TheVariants as answers
+use Rattle.bench_world.specs.declared.entry.Entry.{Entry}
+use Rattle.bench_world.specs.World.{FarEnd, bench_air}
+use Rattle.bench_world.specs.Arrivals.{Arrival, IsByPayloads, PayloadLaw, arrivals_behind, arrivals_from, arrivals_of, begun_on, open_comes_on}
+use Rattle.bench_world.specs.Arriving.{ArrivesAt}
+use Rattle.bench_world.specs.Calls.{IfLinked, call_behind, link_behind, stands_on}
+use Rattle.bench_world.specs.Legal.{State, Given, AnswerLaw, EachLegal, GetLaw, LinkingLaw, LookupLaw, PutLaw, UnlinkLaw, begun, due, first_state, is_linked_to, link_after, state_after, unlinked, world_after}
+use Rattle.bench_world.specs.Linking.{link_if, own_general}
+use Rattle.bench_world.specs.Links.{OpenLink, begun_if, end_numbered, ended_unless, is_number, is_with}
+use Rattle.bench_world.specs.Peers.{Peers, end_offered, new_end, placed_under, with_place_changed, without_place}
+use Rattle.bench_world.proofs.ArrivalsOn.{IsOffered, Kept, begun_kept, came_kept, none_kept, stays_kept}
+use Rattle.bench_world.proofs.HeldOn.{nothing_sent}
+use Rattle.bench_world.proofs.OnLink.{none_numbered}
+use Rattle.bench_world.proofs.Unlinking.{same_numbers}
+
+abbrev Ends : Type 0
+Ends = List (Option FarEnd)
+
+-- The end of the peer with a number, once one device more is placed; another one is taken away; or a value is offered.
+nowhere : (n : ℕ) (ps : List (Option ℕ)) (x : FarEnd) → end_numbered n ps [] ≡ Some x → ⊥
+nowhere n ps x e = (let clash : None ≡ Some x = sym (none_numbered n ps) ∙ e in cc)
+
+end_more : (n : ℕ) (ps : List (Option ℕ)) (os : Ends) (x : FarEnd) (p : Option ℕ) (o : Option FarEnd) → end_numbered n ps os ≡ Some x → end_numbered n (ps ++ p ∷ []) (os ++ o ∷ []) ≡ Some x
+end_more n [] os x p o e = absurd cc
+end_more n (q ∷ ps) [] x p o e = absurd (nowhere n (q ∷ ps) x e)
+end_more n (q ∷ ps) (y ∷ os) x p o e = by (is_number n q) e (end_more n ps os x p o)
+  where
+    by : (v : Bool) → (if v then y else end_numbered n ps os) ≡ Some x → (end_numbered n ps os ≡ Some x → end_numbered n (ps ++ p ∷ []) (os ++ o ∷ []) ≡ Some x)
+        → (if v then y else end_numbered n (ps ++ p ∷ []) (os ++ o ∷ [])) ≡ Some x
+    by true e rest = e
+    by false e rest = rest e
+
+end_less : (n : ℕ) (id : List ℕ) (ds : List Device) (ps : List (Option ℕ)) (os : Ends) (x : FarEnd) → is_number n (placed_under id ds ps) ≡ false → end_numbered n ps os ≡ Some x
+    → end_numbered n (without_place id ds ps) (without_place id ds os) ≡ Some x
+end_less n id [] ps os x other e = e
+end_less n id (d ∷ ds) [] os x other e = absurd cc
+end_less n id (d ∷ ds) (q ∷ ps) os x other e = by (pointwise nat_eq (device_id d) id) other (end_less n id ds ps (later_fars os) x)
+  where
+    there : (v : Bool) → is_number n q ≡ v → (if v then first_far os else end_numbered n ps (later_fars os)) ≡ Some x
+        → (end_numbered n ps (later_fars os) ≡ Some x → end_numbered n (without_place id ds ps) (without_place id ds (later_fars os)) ≡ Some x)
+        → (if is_number n q then first_far os else end_numbered n (without_place id ds ps) (without_place id ds (later_fars os))) ≡ Some x
+    there true named e rest = ap (λ v. if v then first_far os else end_numbered n (without_place id ds ps) (without_place id ds (later_fars os))) named ∙ e
+    there false named e rest = ap (λ v. if v then first_far os else end_numbered n (without_place id ds ps) (without_place id ds (later_fars os))) named ∙ rest e
+
+    named_as : (v : Bool) → is_number n q ≡ v → (if v then first_far os else end_numbered n ps (later_fars os)) ≡ Some x
+    named_as v named = sym (ap (λ w. if w then first_far os else end_numbered n ps (later_fars os)) named) ∙ e
+
+    by : (v : Bool) → is_number n (if v then q else placed_under id ds ps) ≡ false
+        → (is_number n (placed_under id ds ps) ≡ false → end_numbered n ps (later_fars os) ≡ Some x → end_numbered n (without_place id ds ps) (without_place id ds (later_fars os)) ≡ Some x)
+        → end_numbered n (if v then ps else q ∷ without_place id ds ps) (if v then later_fars os else first_far os ∷ without_place id ds (later_fars os)) ≡ Some x
+    by true other rest = named_as false other
+    by false other rest = there (is_number n q) refl (named_as (is_number n q) refl) (rest other)
+
+same_end : (x : FarEnd) (o : Option FarEnd) → o ≡ Some x → IsOffered x o
+same_end x o e = (x, e, inl refl)
+
+offered_end : (key value : List ℕ) (x : FarEnd) → DoesElse OffersElse x (end_offered key value x)
+offered_end key value x = record { miu = refl; served = refl; service = (offered x.service.table key value, refl) }
+
+end_offered_at : (key value : List ℕ) (n : ℕ) (id : List ℕ) (ds : List Device) (ps : List (Option ℕ)) (os : Ends) (x : FarEnd) → end_numbered n ps os ≡ Some x
+    → IsOffered x (end_numbered n ps (with_place_changed (end_offered key value) id ds os))
+end_offered_at key value n id [] ps os x e = same_end x (end_numbered n ps os) e
+end_offered_at key value n id (d ∷ ds) [] os x e = absurd cc
+end_offered_at key value n id (d ∷ ds) (q ∷ ps) os x e = by (pointwise nat_eq (device_id d) id) (is_number n q) e (end_offered_at key value n id ds ps (later_fars os) x)
+  where
+    changed_one : (o : Option FarEnd) → o ≡ Some x → IsOffered x (option_map (end_offered key value) o)
+    changed_one None e = absurd cc
+    changed_one (Some y) e = let same : y ≡ x = cc in subst (λ z. IsOffered x (Some (end_offered key value z))) (sym same) (end_offered key value x, refl, inr (offered_end key value x))
+
+    by : (v w : Bool) → (if w then first_far os else end_numbered n ps (later_fars os)) ≡ Some x
+        → (end_numbered n ps (later_fars os) ≡ Some x → IsOffered x (end_numbered n ps (with_place_changed (end_offered key value) id ds (later_fars os))))
+        → IsOffered x (if w then first_far (if v then option_map (end_offered key value) (first_far os) ∷ later_fars os else first_far os ∷ with_place_changed (end_offered key value) id ds (later_fars os))
+        else end_numbered n ps (later_fars (if v then option_map (end_offered key value) (first_far os) ∷ later_fars os else first_far os ∷ with_place_changed (end_offered key value) id ds (later_fars os))))
+    by true true e rest = changed_one (first_far os) e
+    by true false e rest = same_end x (end_numbered n ps (later_fars os)) e
+    by false true e rest = same_end x (first_far os) e
+    by false false e rest = rest e
+
+-- the link behind a call is to the same peer
+behind_peer : (n : ℕ) (c : CallStanding) (k : OpenLink) → link_behind n c ≡ Some k → k.peer ≡ n
+behind_peer n (Comes (Finishes jobs l) i) k e = (let same : record { peer = n; initiator = i; client = l } ≡ k = cc in sym (ap (λ (o : OpenLink). o.peer) same))
+behind_peer n (Comes (GivesUp l) i) k e = absurd cc
+behind_peer n (Comes (Goes w) i) k e = absurd cc
+behind_peer n (Carries w ns s) k e = absurd cc
+behind_peer n (BrokenBy c) k e = absurd cc
+behind_peer n Strays k e = absurd cc
+
+-- a link that was just opened counts from 0
+opened_first : (p : Option ℕ) (d : Option Device) (miu window : ℕ) (l : OpenLink) → link_if p d miu window ≡ Some l → l.initiator.core.number ≡ 0
+opened_first (Some p) (Some d) miu window l e = (let same = option_same _ l e in sym (ap (λ (o : OpenLink). o.initiator.core.number) same))
+  where
+    option_same : (a b : OpenLink) → ◌≡◌ {A = Option OpenLink} (Some a) (Some b) → a ≡ b
+    option_same a b e = cc
+opened_first (Some p) None miu window l e = absurd cc
+opened_first None d miu window l e = absurd cc
+
+unless_numbers : (o b : Option OpenLink) (fars : Ends) (p : Peers) → (ended_unless o b fars p).numbers ≡ p.numbers
+unless_numbers None b fars p = same_numbers b p fars
+unless_numbers (Some l) b fars p = refl
+
+begun_numbers : (o : Option OpenLink) (fars : Ends) (p : Peers) → (begun_if o fars p).numbers ≡ p.numbers
+begun_numbers None fars p = refl
+begun_numbers (Some l) fars p = refl
+
+abbrev pub KeptIn : State → List Arrival → Type 0
+KeptIn s ys = Kept s.link s.peers.numbers s.world.fars ys
+
+module _ (s : State) (g : Given) (ys : List Arrival) (h : KeptIn s ys) where
+  abbrev behind : Command → List Event → Answer → State
+  behind c es answer = state_after s g.joins c es (Some answer)
+
+  abbrev Goal : Command → List Event → Answer → Type 0
+  Goal c es answer = KeptIn (behind c es answer) (arrivals_behind s c es answer (behind c es answer) ys)
+
+  -- where nothing is due nothing was sent
+  quiet : (c : Command) (es : List Event) (answer : Answer) → ((ns : List Note) → due s g c ns ≡ Over) → AreTurns bench_air (begun s g.joins c) es → EachDue (due s g c) [] es → Goal c [] answer → Goal c es answer
+  quiet c es answer over turns each goal = subst (λ xs. Goal c xs answer) (sym (nothing_sent (begun s g.joins c) es turns (over_all es [] each))) goal
+    where
+      over_all : (es before : List Event) → EachDue (due s g c) before es → EachDue (λ ns. Over) before es
+      over_all [] before q = tt
+      over_all (Reset ∷ es) before q = (sym (over _) ∙ q.0, over_all es (before ++ Reset ∷ []) q.1)
+      over_all (Request f x ∷ es) before q = (sym (over _) ∙ q.0, over_all es (before ++ Request f x ∷ []) q.1)
+      over_all (Answers f x ∷ es) before q = over_all es (before ++ Answers f x ∷ []) q
+      over_all (Clash f x ∷ es) before q = over_all es (before ++ Clash f x ∷ []) q
+
+  -- the same ends at the same numbers
+  abbrev ps : List (Option ℕ)
+  ps = s.peers.numbers
+
+  abbrev os : Ends
+  os = s.world.fars
+
+  same_kept : Kept s.link ps os (open_comes_on s.link ps os [] ys)
+  same_kept = stays_kept s.link ps ps os os ys h (λ l at x e. same_end x (end_numbered l.peer ps os) e)
+
+  placed_kept : (p : Option ℕ) (o : Option FarEnd) → Kept s.link (ps ++ p ∷ []) (os ++ o ∷ []) (open_comes_on s.link (ps ++ p ∷ []) (os ++ o ∷ []) [] ys)
+  placed_kept p o = stays_kept s.link ps (ps ++ p ∷ []) os (os ++ o ∷ []) ys h (λ l at x e. same_end x (end_numbered l.peer (ps ++ p ∷ []) (os ++ o ∷ [])) (end_more l.peer ps os x p o e))
+
+  offered_kept : (id : DeviceId) (key value : List ℕ) (answer : Answer) → Goal (Offer id key value) [] answer
+  offered_kept id key value answer =
+      let us : Ends = with_place_changed (end_offered key value) (bytes_of id) s.world.field.listeners os in
+      stays_kept s.link ps ps os us ys h (λ l at x e. end_offered_at key value l.peer (bytes_of id) s.world.field.listeners ps os x e)
+
+  -- A device is taken away, and the link to it ends first.
+  module _ (id : DeviceId) where
+    abbrev ds : List Device
+    ds = s.world.field.listeners
+
+    abbrev ends_left : Ends
+    ends_left = without_place (bytes_of id) ds os
+
+    abbrev numbers_by : Bool → List (Option ℕ)
+    numbers_by v = without_place (bytes_of id) ds (if v then (unlinked s).peers else s.peers).numbers
+
+    abbrev link_by : Bool → Option OpenLink
+    link_by v = if v then None else s.link
+
+    other : (o : Option OpenLink) (l : OpenLink) → o ≡ Some l → is_with o (placed_under (bytes_of id) ds ps) ≡ false → is_number l.peer (placed_under (bytes_of id) ds ps) ≡ false
+    other o l at apart = sym (ap (λ q. is_with q (placed_under (bytes_of id) ds ps)) at) ∙ apart
+
+    by_link : (v : Bool) → is_linked_to s id ≡ v → Kept (link_by v) (numbers_by v) ends_left (open_comes_on (link_by v) (numbers_by v) ends_left [] ys)
+    by_link true e = none_kept s.link ps (numbers_by true) os ends_left ys h
+    by_link false e =
+        stays_kept s.link ps (numbers_by false) os ends_left ys h
+        (λ l at x found. same_end x (end_numbered l.peer (numbers_by false) ends_left) (end_less l.peer (bytes_of id) ds ps os x (other s.link l at e) found))
+
+    removed_kept : (answer : Answer) → Goal (Remove id) [] answer
+    removed_kept answer = by_link (is_linked_to s id) refl
+
+  -- a command on the link
+  abbrev ArrivesSo : OpenLink → Ends → List Event → Option OpenLink → Type 0
+  ArrivesSo l us es now = ArrivesAt l ps os us es now
+
+  called_kept : (o : Option OpenLink) → s.link ≡ o → (now : Option OpenLink) (qs : List (Option ℕ)) (us : Ends) (es : List Event) → qs ≡ ps
+      → (o ≡ None → now ≡ None) → ((l : OpenLink) → o ≡ Some l → ArrivesSo l us es now) → ((l k : OpenLink) → o ≡ Some l → now ≡ Some k → k.peer ≡ l.peer)
+      → Kept now qs us (open_comes_on s.link qs us es ys)
+  called_kept o at now qs us es numbers none came peer =
+      let K : Option OpenLink → Type 0 = λ x. Kept x ps os ys in
+      let G : List (Option ℕ) → Option OpenLink → Type 0 = λ xs x. Kept now xs us (open_comes_on x xs us es ys) in
+      subst (λ xs. G xs s.link) (sym numbers) (subst (G ps) (sym at) (by o (subst K at h) none came peer))
+    where
+      by : (o : Option OpenLink) → Kept o ps os ys → (o ≡ None → now ≡ None) → ((l : OpenLink) → o ≡ Some l → ArrivesSo l us es now) → ((l k : OpenLink) → o ≡ Some l → now ≡ Some k → k.peer ≡ l.peer)
+          → Kept now ps us (open_comes_on o ps us es ys)
+      by None k none came peer = subst (λ x. Kept x ps us ys) (sym (none refl)) (none_kept None ps ps os us ys k)
+      by (Some l) k none came peer = came_kept l ps os us ys es now k (came l refl) (λ m is. peer l m refl is)
+
+  on_it : (P : OpenLink → Type 0) (R : Type 0) (l : OpenLink) → s.link ≡ Some l → IfLinked s.link P R → P l
+  on_it P R l at law = subst (λ o. IfLinked o P R) at law
+
+  -- by a call, whose link is that behind it
+  call_kept : (answer : Answer) (stands : OpenLink → CallStanding) (qs : List (Option ℕ)) (us : Ends) (es : List Event) → qs ≡ ps
+      → ((l : OpenLink) → s.link ≡ Some l → ArrivesSo l us es (call_behind (Some answer) s.link stands))
+      → Kept (call_behind (Some answer) s.link stands) qs us (open_comes_on s.link qs us es ys)
+  call_kept answer stands qs us es numbers came =
+      called_kept s.link refl (call_behind (Some answer) s.link stands) qs us es numbers (λ at. ap (λ o. call_behind (Some answer) o stands) at) came
+      (λ l k at is. behind_peer l.peer (stands l) k (sym (ap (λ o. call_behind (Some answer) o stands) at) ∙ is))
+
+  put_kept : (m : Msg) (es : List Event) (answer : Answer) → AnswerLaw s g (Put m) es answer → Goal (Put m) es answer
+  put_kept m es answer law =
+      call_kept answer (λ l. stands_on l g.joins.own (Puts (message_of m)) es) (behind (Put m) es answer).peers.numbers (world_after s g.joins (Put m) es).fars es
+      (unless_numbers (link_after s g.joins (Put m) es (Some answer)) s.link (world_after s g.joins (Put m) es).fars s.peers)
+      (λ l at. (on_it (λ k. PutLaw s g.joins k m es answer) (answer ≡ answers.NoLink) l at law).came)
+
+  get_kept : (most : ℕ) (key : List ℕ) (es : List Event) (answer : Answer) → AnswerLaw s g (Get most key) es answer → Goal (Get most key) es answer
+  get_kept most key es answer law =
+      call_kept answer (λ l. stands_on l g.joins.own (Gets most key) es) (behind (Get most key) es answer).peers.numbers (world_after s g.joins (Get most key) es).fars es
+      (unless_numbers (link_after s g.joins (Get most key) es (Some answer)) s.link (world_after s g.joins (Get most key) es).fars s.peers)
+      (λ l at. (on_it (λ k. GetLaw s g.joins k most key es answer) (answer ≡ answers.NoLink) l at law).came)
+
+  lookup_kept : (name : List ℕ) (es : List Event) (answer : Answer) → AnswerLaw s g (Lookup name) es answer → Goal (Lookup name) es answer
+  lookup_kept name es answer law =
+      call_kept answer (λ l. stands_on l g.joins.own (Finds name) es) (behind (Lookup name) es answer).peers.numbers (world_after s g.joins (Lookup name) es).fars es
+      (unless_numbers (link_after s g.joins (Lookup name) es (Some answer)) s.link (world_after s g.joins (Lookup name) es).fars s.peers)
+      (λ l at. (on_it (λ k. LookupLaw s g.joins k name es answer) (answer ≡ answers.NoLink) l at law).came)
+
+  -- the link is closed
+  unlink_kept : (es : List Event) (answer : Answer) → AnswerLaw s g Unlink es answer → Goal Unlink es answer
+  unlink_kept es answer law =
+      called_kept s.link refl None (behind Unlink es answer).peers.numbers (world_after s g.joins Unlink es).fars es (same_numbers s.link s.peers (world_after s g.joins Unlink es).fars) (λ at. refl)
+      (λ l at. (on_it (λ k. UnlinkLaw s g.joins k es answer) (answer ≡ answers.NoLink) l at law).came) (λ l k at is. absurd cc)
+
+  -- one is opened, or none
+  link_kept : (id : List ℕ) (miu rw : ℕ) (es : List Event) (answer : Answer) → LinkingLaw s g.joins id miu rw es answer → Goal (Link id miu rw) es answer
+  link_kept id miu rw es (answers.Linked n) law =
+      let c : Command = Link id miu rw in
+      let now : Option OpenLink = link_after s g.joins c es (Some (answers.Linked n)) in
+      let us : Ends = (world_after s g.joins c es).fars in
+      let numbers : (behind c es (answers.Linked n)).peers.numbers ≡ ps = begun_numbers now (unlinked s).world.fars (unlinked s).peers ∙ same_numbers s.link s.peers os in
+      subst (λ xs. Kept now xs us (begun_on n (own_general miu) now xs us ys)) (sym numbers)
+      (begun_kept now n (own_general miu) ps os us ys h.all law.begins (λ l is. opened_first (placed_under id s.world.field.listeners ps) (device_with id s.world.field.listeners) miu rw l is))
+  link_kept id miu rw es answer law = record { all = h.all; going = tt }
+
+  none_open : (qs : List (Option ℕ)) (us : Ends) → Kept None qs us ys
+  none_open qs us = none_kept s.link ps qs os us ys h
+
+  step_kept : (c : Command) (es : List Event) (answer : Answer) → AreTurns bench_air (begun s g.joins c) es → EachDue (due s g c) [] es → AnswerLaw s g c es answer → Goal c es answer
+  step_kept Skip es answer turns each law = absurd law
+  step_kept (Fates fates) es answer turns each law = quiet (Fates fates) es answer (λ ns. refl) turns each same_kept
+  step_kept (PlaceT2 id blocks head) es answer turns each law = quiet (PlaceT2 id blocks head) es answer (λ ns. refl) turns each (placed_kept None None)
+  step_kept (PlaceT4 id code container head) es answer turns each law = quiet (PlaceT4 id code container head) es answer (λ ns. refl) turns each (placed_kept None None)
+  step_kept (PlaceT5 id blocks size head) es answer turns each law = quiet (PlaceT5 id blocks size head) es answer (λ ns. refl) turns each (placed_kept None None)
+  step_kept (PlacePeer id lr miu rw most) es answer turns each law = quiet (PlacePeer id lr miu rw most) es answer (λ ns. refl) turns each (placed_kept (Some s.peers.placed) (Some (new_end miu rw most)))
+  step_kept (Lock id block) es answer turns each law = quiet (Lock id block) es answer (λ ns. refl) turns each same_kept
+  step_kept (Busy id count times) es answer turns each law = quiet (Busy id count times) es answer (λ ns. refl) turns each same_kept
+  step_kept (Offer id key value) es answer turns each law = quiet (Offer id key value) es answer (λ ns. refl) turns each (offered_kept id key value answer)
+  step_kept (Remove id) es answer turns each law = quiet (Remove id) es answer (λ ns. refl) turns each (removed_kept id answer)
+  step_kept (Dump id) es answer turns each law = quiet (Dump id) es answer (λ ns. refl) turns each same_kept
+  step_kept (Inbox id) es answer turns each law = quiet (Inbox id) es answer (λ ns. refl) turns each same_kept
+  step_kept Find es answer turns each law = none_open (behind Find es answer).peers.numbers (behind Find es answer).world.fars
+  step_kept (Read id) es answer turns each law = none_open (behind (Read id) es answer).peers.numbers (behind (Read id) es answer).world.fars
+  step_kept (Write id m) es answer turns each law = none_open (behind (Write id m) es answer).peers.numbers (behind (Write id m) es answer).world.fars
+  step_kept (Link id miu rw) es answer turns each law = link_kept id miu rw es answer law
+  step_kept (Put m) es answer turns each law = put_kept m es answer law
+  step_kept (Get most key) es answer turns each law = get_kept most key es answer law
+  step_kept (Lookup name) es answer turns each law = lookup_kept name es answer law
+  step_kept Unlink es answer turns each law = unlink_kept es answer law
+
+-- through some entries
+steps_kept : (s : State) (gs : List Given) (es : List Entry) (t : State) (ys : List Arrival) → KeptIn s ys → EachLegal s gs es t → AllByRecursion IsByPayloads (arrivals_from s ys (map (λ (g : Given). g.joins) gs) es)
+steps_kept s [] [] t ys h legal = h.all
+steps_kept s [] (e ∷ es) t ys h legal = absurd legal
+steps_kept s (g ∷ gs) [] t ys h legal = absurd legal
+steps_kept s (g ∷ gs) (e ∷ es) t ys h (mid, step, rest) =
+    let now : State = state_after s g.joins e.command e.events (Some e.answer) in
+    let one : KeptIn now (arrivals_behind s e.command e.events e.answer now ys) = step_kept s g ys h e.command e.events e.answer step.front.turns step.front.each step.answered in
+    steps_kept now gs es t (arrivals_behind s e.command e.events e.answer now ys) one (subst (λ x. EachLegal x gs es t) step.front.after rest)
+
+pub payload_law : PayloadLaw
+payload_law lines numbers journal last leads =
+    subst (λ ns. AllByRecursion IsByPayloads (arrivals_of ns journal)) leads.joins
+    (steps_kept first_state leads.given journal last [] (record { all = tt; going = tt }) leads.steps)

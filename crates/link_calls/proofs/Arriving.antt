@@ -1,0 +1,180 @@
+-- What arrives at a link's peer in a call, and what its end does by that.
+use Rattle.std.proofs.Common.{◌≡◌, ◌≤◌, ℕ, List, [], ◌∷◌, ◌++◌, length, drop, Option, refl, sym, ◌∙◌, ap, subst, append-nil, append_assoc, true}
+use Rattle.std.proofs.lemmas.List.{drop-append-le}
+use Rattle.std.proofs.Math.Seq.{drop-length}
+use Rattle.nfc_base.specs.Links.{BySwaps, FarStep, Stepped, Stopped, FarMoved}
+use Rattle.nfc_base.specs.LinkTurns.{arrived}
+use Rattle.nfc_base.proofs.LinkTurns.{arrived_append}
+use Rattle.nfc_base.specs.declared.event.Event.{Event}
+use Rattle.nfc_base.specs.declared.event.Event.TheVariants.{Request, Answer, Clash}
+use Rattle.nfc_base.specs.declared.event.Fate.{Fate}
+use Rattle.nfc_base.specs.declared.event.Fate.TheVariants.{Pass, Damage, Lose, Break}
+use Rattle.nfc_base.specs.declared.event.Heard.{Heard}
+use Rattle.air_core.specs.Conversation.{first_fate, later_fates}
+use Rattle.air_core.specs.Joint.{Joint, Nothing, Single, Clashing, joint}
+use Rattle.air_core.specs.Turn.{Air, TurnBy, TurnIs, after_event}
+use Rattle.air_core.specs.Turn as turn
+use Rattle.air_core.specs.World.{Machine}
+use Rattle.air_core.specs.declared.listener.Listener.{Ghosts}
+use Rattle.dep_pdu.specs.declared.frame.DepFrame.TheVariants.{RlsReq}
+use Rattle.dep_link.specs.Target.{TargetState}
+use Rattle.dep_link.specs.Initiator.{InitState}
+use Rattle.dep_link.specs.Payloads.{Cut, begins, cut_by}
+use Rattle.dep_link.specs.Exchange.{before_frames, frames_of}
+use Rattle.dep_link.specs.DepLinks.{DepSeen, PeerOf, brought, first_seen, since}
+use Rattle.dep_link.specs.Releasing.{rls_frame}
+use Rattle.dep_link.proofs.Carrying.{cut_then}
+use Rattle.dep_link.proofs.Wire.{frames_append, written_read}
+use Rattle.llcp_link.specs.Running.{Act, Acted, AreBytes, Else, Gives, IsRun, Takes, end_of}
+use Rattle.llcp_link.specs.Answering.{Answers, Stops}
+use Rattle.llcp_link.specs.Taking.{taken_from}
+use Rattle.snep_core.specs.Accord.{PeerState}
+use Rattle.snep_core.specs.Calling.{payloads}
+use Rattle.snep_core.specs.Server.{ServerState, serving}
+use Rattle.snep_core.specs.Talk.{IsMost, Step, Goes, Ends, GivesUp, Told, replied}
+use Rattle.link_calls.specs.Arriving.{Arrives, IsCounted, Never, taken_in, with_taken}
+use Rattle.link_calls.specs.CallTurns.{swaps}
+
+-- one run behind another
+pub runs_then : (changes : ServerState → ServerState → Type 0) (l : PeerState) (run more : List (Acted ServerState)) → IsRun serving changes l run → IsRun serving changes (end_of l run) more → IsRun serving changes l (run ++ more)
+runs_then changes l [] more r s = s
+runs_then changes l (a ∷ run) more r s = (r.0, runs_then changes a.after run more r.1 s)
+
+pub ends_then : (l : PeerState) (run more : List (Acted ServerState)) → end_of l (run ++ more) ≡ end_of (end_of l run) more
+ends_then l [] more = refl
+ends_then l (a ∷ run) more = ends_then a.after run more
+
+with_more : (a : Act) (ps qs : List (List ℕ)) → with_taken a (ps ++ qs) ≡ with_taken a ps ++ qs
+with_more (Takes payload) ps qs = refl
+with_more (Gives n) ps qs = refl
+with_more Else ps qs = refl
+
+pub taken_then : (run more : List (Acted ServerState)) → taken_in (run ++ more) ≡ taken_in run ++ taken_in more
+taken_then [] more = refl
+taken_then (a ∷ run) more = ap (with_taken a.act) (taken_then run more) ∙ with_more a.act (taken_in run) (taken_in more)
+
+-- whole steps of a far end, with payloads of bytes
+abbrev pub AreWhole : List FarStep → Type 0
+AreWhole [] = Unit {0}
+AreWhole (Stepped payload reply ∷ did) = AreBytes payload × AreWhole did
+AreWhole (Stopped payload ∷ did) = ⊥
+
+-- an end did these acts by these payloads
+pub record Ran (ps : List (List ℕ)) (far after : PeerState) : Type 0 where
+  pub run : List (Acted ServerState)
+  pub does : IsRun serving Never far run
+  pub after_is : after ≡ end_of far run
+  pub taken : taken_in run ≡ ps
+
+pub ran : (did : List FarStep) → AreWhole did → (far after : PeerState) → FarMoved (Answers serving) (Stops serving) did far after → Ran (payloads did) far after
+ran [] whole far after moved = record { run = []; does = tt; after_is = moved; taken = refl }
+ran (Stepped payload reply ∷ did) (bytes, whole) far after (mid, step, moved) =
+    let more = ran did whole mid after moved in
+    record {
+      run = record { act = Takes payload; after = taken_from serving far payload } ∷ record { act = Gives step.gives.count; after = mid } ∷ more.run;
+      does = ((bytes, refl), (step.gives.left, more.does));
+      after_is = more.after_is;
+      taken = ap (λ ps. payload ∷ ps) more.taken;
+    }
+ran (Stopped payload ∷ did) whole far after moved = absurd whole
+
+pub ran_then : (ps qs : List (List ℕ)) (far mid after : PeerState) → Ran ps far mid → Ran qs mid after → Ran (ps ++ qs) far after
+ran_then ps qs far mid after r s =
+    let more : IsRun serving Never (end_of far r.run) s.run = subst (λ l. IsRun serving Never l s.run) r.after_is s.does in
+    record {
+      run = r.run ++ s.run;
+      does = runs_then Never far r.run s.run r.does more;
+      after_is = s.after_is ∙ ap (λ l. end_of l s.run) r.after_is ∙ sym (ends_then far r.run s.run);
+      taken = taken_then r.run s.run ∙ ap (λ z. z ++ taken_in s.run) r.taken ∙ ap (λ z. ps ++ z) s.taken;
+    }
+
+-- more events, behind those that came
+pub cut_more : (first : ℕ) (xs ys : List Event) → cut_by (begins first) (frames_of (arrived (xs ++ ys))) ≡ cut_by (cut_by (begins first) (frames_of (arrived xs))) (frames_of (arrived ys))
+cut_more first xs ys =
+    ap (λ fs. cut_by (begins first) (frames_of fs)) (arrived_append xs ys) ∙ ap (cut_by (begins first)) (frames_append (arrived xs) (arrived ys))
+    ∙ cut_then (begins first) (frames_of (arrived xs)) (frames_of (arrived ys))
+
+module _ {L : Type 0} (k : Ghosts L) (target : L → TargetState) where
+  -- the peer of a link stands where the frames are counted to
+  pub counted_to : (p : DepSeen L) → PeerOf k target p → IsCounted p.first (since p) p.initiator.core.number
+  counted_to p t =
+      let ps : List (List ℕ) = brought p.first (since p) in
+      let c : ℕ → List ℕ → Cut = λ n chain. record { next = n; chain = chain; payloads = ps } in
+      t.cut ∙ ap (λ n. c n (target t.listener).chain) t.step.expects ∙ ap (c p.initiator.core.number) t.step.no_chain
+
+  module _ (old : Air L) (i : InitState) (p : DepSeen L) (first : p.first ≡ i.core.number) (start : p.start ≡ length old.trace) where
+    since_is : since p ≡ drop (length old.trace) p.air.trace
+    since_is = ap (λ n. drop n p.air.trace) start
+
+    pub counted_so : PeerOf k target p → IsCounted i.core.number (drop (length old.trace) p.air.trace) p.initiator.core.number
+    counted_so t =
+        let P : ℕ → List Event → Type 0 = λ n es. IsCounted n es p.initiator.core.number in
+        subst (λ n. P n (drop (length old.trace) p.air.trace)) first (subst (P p.first) since_is (counted_to p t))
+
+    pub arrives_so : (ps : List (List ℕ)) (far after : PeerState) → brought p.first (since p) ≡ ps → Ran ps far after → Arrives i.core.number (drop (length old.trace) p.air.trace) far after
+    arrives_so ps far after handed r = record {
+      run = r.run;
+      does = r.does;
+      after_is = r.after_is;
+      payloads = r.taken ∙ sym handed ∙ ap (λ n. brought n (since p)) first ∙ ap (brought i.core.number) since_is;
+    }
+
+  -- nothing arrived on a link that was just made
+  pub none_yet : (a : DepSeen L) (old : Air L) (i : InitState) → a ≡ first_seen old i → brought a.first (since a) ≡ []
+  none_yet a old i is =
+      ap (λ (p : DepSeen L). brought p.first (since p)) is ∙ ap (brought i.core.number) (drop-length old.trace)
+
+  module _ {C : Type 0} (see : C → DepSeen L) where
+    -- the steps of a call are whole
+    pub told_whole : (ns : List ℕ) (did : List FarStep) (from to : Step) (a b : C) → Told IsMost ns from did to → BySwaps (swaps k target see) did a b → AreWhole did
+    told_whole [] [] from to a b told by = tt
+    told_whole [] (x ∷ did) from to a b told by = absurd told
+    told_whole (n ∷ ns) [] (Goes w) to a b told by = absurd told
+    told_whole (n ∷ ns) [] (Ends jobs l) to a b told by = absurd told
+    told_whole (n ∷ ns) [] (GivesUp l) to a b told by = absurd told
+    told_whole (n ∷ ns) (x ∷ did) (Ends jobs l) to a b told by = absurd told
+    told_whole (n ∷ ns) (x ∷ did) (GivesUp l) to a b told by = absurd told
+    told_whole (n ∷ ns) (Stopped out ∷ did) (Goes w) to a b told by = absurd told
+    told_whole (n ∷ ns) (Stepped out reply ∷ did) (Goes w) to a b (most, o, told) (mid, one, by) = (one.bytes, told_whole ns did (replied n w reply) to mid b told by)
+
+    pub firsts : (did : List FarStep) (a b : C) → BySwaps (swaps k target see) did a b → (see b).first ≡ (see a).first
+    firsts [] a b e = ap (λ z. (see z).first) e
+    firsts (x ∷ did) a b (mid, one, rest) = firsts did mid b rest ∙ one.same.0
+
+-- RLS_REQ brings nothing, whatever comes back of it.
+abbrev pub BringNothing : List Event → Type 0
+BringNothing es = (c : Cut) → cut_by c (frames_of (arrived es)) ≡ c
+
+record Behind {L : Type 0} (old new : Air L) : Type 0 where
+  pub events : List Event
+  pub trace : new.trace ≡ old.trace ++ events
+  pub nothing : BringNothing events
+
+rls_nothing : (c : Cut) → cut_by c (frames_of (rls_frame ∷ [])) ≡ c
+rls_nothing c = ap (λ o. cut_by c (before_frames o [])) (written_read RlsReq tt)
+
+module _ {L A : Type 0} (m : Machine L) (restarts : A → List ℕ → A → Type 0) (steps : A → List ℕ → List ℕ → A → Type 0) where
+  brought_back : (a : Air L) (j : Joint) (y : Fate) → (es : List Event) × ((turn.brought m a j y).trace ≡ a.trace ++ es) × (arrived es ≡ [])
+  brought_back a Nothing y = ([], sym (append-nil a.trace), refl)
+  brought_back a (Single g) y = (Answer g y ∷ [], refl, refl)
+  brought_back a (Clashing g) y = (Clash g y ∷ [], refl, refl)
+
+  turn_by : (x : Fate) (old new : Air L) (far after : A) (heard : Option Heard) → TurnBy m restarts steps x old rls_frame far heard new after → Behind old new
+  turn_by Pass old new far after heard t =
+      let mid : Air L = after_event old (Request rls_frame Pass) (later_fates old.fates) (record { lit = true; listeners = t.listeners }) in
+      let back = brought_back mid (joint t.answers) (first_fate (later_fates old.fates)) in
+      record {
+        events = Request rls_frame Pass ∷ back.0;
+        trace = ap (λ (a : Air L). a.trace) t.left ∙ back.1 ∙ append_assoc old.trace (Request rls_frame Pass ∷ []) back.0;
+        nothing = λ c. ap (λ fs. cut_by c (frames_of (rls_frame ∷ fs))) back.2 ∙ rls_nothing c;
+      }
+  turn_by Damage old new far after heard t = record { events = Request rls_frame Damage ∷ []; trace = ap (λ (a : Air L). a.trace) t.left; nothing = λ c. refl }
+  turn_by Lose old new far after heard t = record { events = Request rls_frame Lose ∷ []; trace = ap (λ (a : Air L). a.trace) t.left; nothing = λ c. refl }
+  turn_by Break old new far after heard t = record { events = Request rls_frame Break ∷ []; trace = ap (λ (a : Air L). a.trace) t.left; nothing = λ c. refl }
+
+  pub release_brings : (n : ℕ) (start : ℕ) (old new : Air L) (far after : A) (heard : Option Heard) → start ≤ length old.trace → TurnIs m restarts steps old rls_frame far heard new after
+      → brought n (drop start new.trace) ≡ brought n (drop start old.trace)
+  release_brings n start old new far after heard within t =
+      let b = turn_by (first_fate old.fates) old new far after heard t.by in
+      let split : drop start new.trace ≡ drop start old.trace ++ b.events = ap (drop start) b.trace ∙ drop-append-le start old.trace b.events within in
+      ap (brought n) split ∙ ap (λ (c : Cut). c.payloads) (cut_more n (drop start old.trace) b.events ∙ b.nothing (cut_by (begins n) (frames_of (arrived (drop start old.trace)))))
