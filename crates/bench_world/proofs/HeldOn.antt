@@ -154,7 +154,7 @@ module _ (id : List ℕ) where
       (more.0, ap (λ v. if v then Some y else device_with id es) (ap (λ i. pointwise nat_eq i id) own ∙ other) ∙ more.1, more.2))
 
 -- a command that asks nothing has no events
-nothing_sent : (w : WholeWorld) (es : List Event) → AreTurns bench_air w es → EachDue (λ ns. Over) [] es → es ≡ []
+pub nothing_sent : (w : WholeWorld) (es : List Event) → AreTurns bench_air w es → EachDue (λ ns. Over) [] es → es ≡ []
 nothing_sent w [] turns each = refl
 nothing_sent w (Reset ∷ es) turns each = absurd (let clash : Over ≡ LightUp = each.0 in cc)
 nothing_sent w (Request f x ∷ es) turns each = absurd (let clash : Over ≡ Asks f = each.0 in cc)

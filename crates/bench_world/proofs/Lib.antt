@@ -47,3 +47,12 @@ pub mod GetOver
 pub mod OnClosing
 pub mod CloseOver
 pub mod Names
+pub mod AtNumbers
+pub mod InRanges
+pub mod PutsTold
+pub mod StoriesStand
+pub mod StoriesHere
+pub mod StoriesStep
+pub mod StoriesOnLink
+pub mod LinkLaw
+pub mod PeersNumbered

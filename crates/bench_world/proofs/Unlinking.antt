@@ -103,7 +103,7 @@ write_resets id m = record {
 }
 
 -- so is the opening of a link
-same_numbers : (o : Option OpenLink) (p : Peers) (os : List (Option FarEnd)) → (ended o os p).numbers ≡ p.numbers
+pub same_numbers : (o : Option OpenLink) (p : Peers) (os : List (Option FarEnd)) → (ended o os p).numbers ≡ p.numbers
 same_numbers None p os = refl
 same_numbers (Some l) p os = refl
 

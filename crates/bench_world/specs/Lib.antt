@@ -22,3 +22,5 @@ pub mod SameCommands
 pub mod Report
 pub mod ReadBack
 pub mod Digits
+pub mod Stories
+pub mod LinkLaw
