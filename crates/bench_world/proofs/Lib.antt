@@ -51,3 +51,12 @@ pub mod Names
 pub mod CountedOn
 pub mod ArrivalsOn
 pub mod ArrivalsKept
+pub mod AtNumbers
+pub mod InRanges
+pub mod PutsTold
+pub mod StoriesStand
+pub mod StoriesHere
+pub mod StoriesStep
+pub mod StoriesOnLink
+pub mod LinkLaw
+pub mod PeersNumbered

@@ -137,7 +137,7 @@ kept_by_link : (v : Bool) (number : Option ℕ) (o : Option FarEnd) (os : List (
 kept_by_link v None o os = refl
 kept_by_link v (Some n) o os = ap (slice_set os n) (sym (rests_by_link v o))
 
-as_many_gone : (number : Option ℕ) (o : Option FarEnd) (os : List (Option FarEnd)) → length (with_gone number o os) ≡ length os
+pub as_many_gone : (number : Option ℕ) (o : Option FarEnd) (os : List (Option FarEnd)) → length (with_gone number o os) ≡ length os
 as_many_gone None o os = refl
 as_many_gone (Some n) o os = length-set os n (rests peer_ends o)
 

@@ -24,3 +24,5 @@ pub mod SameCommands
 pub mod Report
 pub mod ReadBack
 pub mod Digits
+pub mod Stories
+pub mod LinkLaw

@@ -4,6 +4,7 @@
 ghost use Rattle.bench_world.specs.Arrivals.{PayloadLaw};
 ghost use Rattle.bench_world.specs.Behind.{WrittenIsRead, OneOfThreeIsRead};
 ghost use Rattle.bench_world.specs.Completing.{ReadsComplete, WritesComplete, ValidIsWritten, FindsComplete};
+ghost use Rattle.bench_world.specs.LinkLaw.{LinkLaw};
 ghost use Rattle.bench_world.specs.Quiet.{QuietStays, QuietReads, QuietWrites, QuietFinds};
 ghost use Rattle.bench_world.specs.QuietHearing.{QuietHears, QuietScript};
 ghost use Rattle.bench_world.specs.ReadBack.{LinesTellEvents, AnswersApart};
@@ -62,4 +63,11 @@ pub fn quiet_air()
 /// PNI 0 over all its entries, whatever is offered between them.
 pub fn accepted_by_payloads()
     ensures { PayloadLaw }
+{}
+
+/// Of each link in a legal journal, and of each client's SAP: what the peer accepted on it is the first of the messages that
+/// were put and are within its limit, and covers all that were told to be taken, by at most one more: the last put, which
+/// then wasn't answered. And an inbox tells what its peer accepted on each link, each message once, and nothing else.
+pub fn links_accept()
+    ensures { LinkLaw }
 {}

@@ -1,0 +1,368 @@
+-- The law of links, step by step over a journal.
+use Rattle.std.proofs.Common.{◌≡◌, ℕ, ◌+◌, List, [], ◌∷◌, ◌++◌, map, length, Option, Some, None, refl, sym, ◌∙◌, ap, subst}
+use Rattle.std.specs.List.{AllByRecursion}
+use Rattle.std.proofs.lemmas.List.{append-nil, length-append, length-map, map-append}
+use Rattle.nfc_base.specs.declared.event.Event.{Event}
+use Rattle.nfc_base.specs.declared.event.Fate.{Fate}
+use Rattle.air_core.specs.Conversation.{queue_after}
+use Rattle.snep_core.specs.Talk.{Puts, Gets, Finds}
+use Rattle.bench_script.specs.declared.command.Command.{Command}
+use Rattle.bench_script.specs.declared.command.Command.TheVariants.{Skip, Fates, PlaceT2, PlaceT4, PlaceT5, PlacePeer, Lock, Busy, Offer, Remove, Dump, Inbox, Find, Read, Write, Link, Put, Get, Lookup, Unlink}
+use Rattle.bench_script.specs.declared.command.DeviceId.{DeviceId}
+use Rattle.bench_script.specs.DeviceIds.{bytes_of}
+use Rattle.bench_script.specs.Messages.{message_of}
+use Rattle.bench_script.specs.declared.message.Msg.{Msg}
+use Rattle.bench_devices.specs.declared.device.Device.{Device}
+use Rattle.bench_devices.specs.Device.{device_locked, device_busy}
+use Rattle.bench_devices.specs.Keeping.{AllStayDevices}
+use Rattle.bench_devices.specs.Placed.{device_with}
+use Rattle.bench_world.specs.declared.entry.Answer.{Answer}
+use Rattle.bench_world.specs.declared.entry.Answer.TheVariants as answers
+use Rattle.bench_world.specs.declared.entry.Entry.{Entry}
+use Rattle.bench_world.specs.declared.inbox.LinkRange.{LinkRange}
+use Rattle.bench_world.specs.World.{FarEnd, WholeWorld, Stable}
+use Rattle.link_calls.specs.CallDue.{CallStanding}
+use Rattle.bench_world.specs.declared.entry.Loss.{Loss}
+use Rattle.bench_world.specs.Calls.{link_behind, stands_on, told_call}
+use Rattle.bench_world.specs.Inbox.{inbox_at, inbox_of}
+use Rattle.bench_world.specs.Legal.{State, Given, Joins, Accepts, IsPeerPlaced, AnswerLaw, PutLaw, FrontOf, LegalStep, EachLegal, begun, changed, first_state, inbox_now, world_after, state_after}
+use Rattle.bench_world.specs.Linking.{LinkTells, link_if, own_general}
+use Rattle.bench_world.specs.LinkLaw.{AreCounted, KeepsLinkLaw, LinksAccept, LinkLaw, TellsInbox, told_by_stories, peer_under}
+use Rattle.bench_world.specs.Links.{OpenLink, ended, ended_unless, is_with}
+use Rattle.bench_world.specs.Peers.{Peers, new_end, next_number, placed_under}
+use Rattle.bench_world.specs.Stories.{Story, Stretch, begun_in, goes_on, last_goes_on, open_goes_on, puts_in, state_from, stories_behind, stories_from, stretch_of}
+use Rattle.bench_world.proofs.AtNumbers.{AreHeld, Held, held, at_number, held_offered, held_under, at_own_place, more_held, same_held, with_held}
+use Rattle.bench_world.proofs.FarStays.{far_stay}
+use Rattle.bench_world.proofs.HeldOn.{nothing_sent}
+use Rattle.bench_world.proofs.PeersNumbered.{HavePlaces, busy_kind, locked_kind, number_under, places_changed, places_more, places_stay}
+use Rattle.bench_world.proofs.StoriesHere.{PlacesOf, Stand, StandBy, ended_closed, still_told, view_at, view_of}
+use Rattle.bench_world.proofs.StoriesOnLink.{call_over, came_to_end, link_begins, linked_number, linked_peer, put_over, same_opened}
+use Rattle.bench_world.proofs.StoriesStand.{View, at, Closed, Opened, Open, IsInStep, closed_keep, closed_told, open_keep, open_told}
+use Rattle.bench_world.proofs.StoriesStep.{as_many_held, as_many_offered, as_many_with, base_held, many_numbers, no_link, own_below, peer_more, peer_stands, removed_stands, same_link, same_peer, same_tag, tag_more, tag_stands}
+use Rattle.bench_world.proofs.Unlinking.{count_ended, same_numbers}
+
+ended_numbers : (left o : Option OpenLink) (fars : List (Option FarEnd)) (p : Peers) → (ended_unless left o fars p).numbers ≡ p.numbers
+ended_numbers None None fars p = refl
+ended_numbers None (Some l) fars p = refl
+ended_numbers (Some l) o fars p = refl
+
+abbrev view_by : Peers → List (Option Held) → View
+view_by p ks = record { numbers = p.numbers; placed = next_number p; links = p.links; held = ks }
+
+module _ (w : WholeWorld) (q : List Fate) (p : Peers) (ys : List Story) (o : Option OpenLink) (stand : Stand (record { world = w; queue = q; peers = p; link = o }) ys) (g : Given) (a : Answer) where
+  abbrev s : State
+  s = record { world = w; queue = q; peers = p; link = o }
+
+  abbrev stretch : Command → List Event → Stretch
+  stretch c es = record { command = c; events = es; told = Some a }
+
+  abbrev behind : Command → List Event → State
+  behind c es = state_after s g.joins c es (Some a)
+
+  abbrev Steps : Command → List Event → State → Type 0
+  Steps c es t = Stand t (stories_behind s (stretch c es) t ys)
+
+  -- where nothing was sent
+  quietly : (c : Command) (es : List Event) (t : State) → FrontOf s g c es (Some a) t → es ≡ [] → Steps c es (behind c []) → Steps c es t
+  quietly c es t front none steps = subst (Steps c es) (sym (front.after ∙ ap (behind c) none)) steps
+
+  -- where something was, each device keeps its place and each peer its number
+  places_behind : (c : Command) (es : List Event) (ps : List (Option ℕ)) → (changed s c).world.field.listeners ≡ w.field.listeners → length (world_after s g.joins c es).fars ≡ length w.fars → ps ≡ p.numbers
+      → HavePlaces (world_after s g.joins c es).field.listeners ps (world_after s g.joins c es).fars
+  places_behind c es ps devices many numbers =
+      let now : WholeWorld = world_after s g.joins c es in
+      places_stay w.field.listeners now.field.listeners p.numbers ps w.fars now.fars
+      (subst (λ ds. AllStayDevices ds now.field.listeners) devices (far_stay es (begun s g.joins c)).stay) many numbers stand.places
+
+  -- a tag is placed, and a peer
+  tag_placed : (c : Command) (es : List Event) → (changed s c).link ≡ o → (behind c []).link ≡ o → puts_in c (Some a) ≡ [] → begun_in c (Some a) (behind c []) ≡ []
+      → view_of (behind c []) ≡ tag_more s ys stand → PlacesOf (behind c []) → Steps c es (behind c [])
+  tag_placed c es still same puts begins view places =
+      same_link s (behind c []) (stretch c es) ys stand puts begins still same places (λ l is. ap (λ v. at v l.peer) view ∙ same_tag s ys stand l.peer)
+      (λ h. subst (λ v. StandBy v o ys) (sym view) (tag_stands s ys stand h))
+
+  -- a command that changes nothing of peers
+  nothing_changed : (c : Command) (es : List Event) → (changed s c).link ≡ o → (behind c []).link ≡ o → puts_in c (Some a) ≡ [] → begun_in c (Some a) (behind c []) ≡ []
+      → view_of (behind c []) ≡ view_of s → PlacesOf (behind c []) → Steps c es (behind c [])
+  nothing_changed c es still same puts begins view places =
+      same_link s (behind c []) (stretch c es) ys stand puts begins still same places (λ l is. ap (λ v. at v l.peer) view) (λ h. subst (λ v. StandBy v o ys) (sym view) h)
+
+  -- one that begins with a reset
+  reset : (c : Command) (es : List Event) → begun_in c (Some a) (behind c es) ≡ [] → (changed s c).link ≡ None → (behind c es).link ≡ None → (behind c es).peers ≡ ended o w.fars p
+      → (changed s c).world.field.listeners ≡ w.field.listeners → map held (world_after s g.joins c es).fars ≡ map held w.fars → Steps c es (behind c es)
+  reset c es begins none gone peers devices same =
+      no_link s (behind c es) (stretch c es) ys begins none gone
+      (places_behind c es (behind c es).peers.numbers devices (as_many_held (world_after s g.joins c es).fars w.fars same) (ap (λ (x : Peers). x.numbers) peers ∙ same_numbers o p w.fars))
+      (subst (λ x. Closed (view_at x (world_after s g.joins c es).fars) ys) (sym peers)
+      (subst (λ ks. Closed (view_by (ended o w.fars p) ks) ys) (sym same) (ended_closed o p w.fars ys stand.stand)))
+
+  peer_placed : (id : List ℕ) (lr miu window limit : ℕ) (es : List Event) → Steps (PlacePeer id lr miu window limit) es (behind (PlacePeer id lr miu window limit) [])
+  peer_placed id lr miu window limit es =
+      let c : Command = PlacePeer id lr miu window limit in
+      let k : Held = record { limit = limit; accepted = [] } in
+      let view : view_of (behind c []) ≡ peer_more s ys stand k refl =
+      let V : ℕ → List (Option Held) → View = λ n ks. record { numbers = p.numbers ++ Some (next_number p) ∷ []; placed = n; links = p.links; held = ks } in
+      let end : Option FarEnd = Some (new_end miu window limit) in
+      ap (λ n. V n (map held (w.fars ++ end ∷ []))) (length-append p.gone (None ∷ [])) ∙ ap (V (next_number p + 1)) (map-append held w.fars (end ∷ [])) in
+      same_link s (behind c []) (stretch c es) ys stand refl refl refl refl
+      (places_more w.field.listeners _ p.numbers (Some (next_number p)) w.fars _ (many_numbers s ys stand) (λ peer. refl) stand.places)
+      (λ l is. ap (λ v. at v l.peer) view ∙ same_peer s ys stand k refl l.peer (own_below s ys stand l is))
+      (λ h. subst (λ v. StandBy v o ys) (sym view) (peer_stands s ys stand k refl h))
+
+  offered_here : (id : DeviceId) (key value : List ℕ) (es : List Event) → Steps (Offer id key value) es (behind (Offer id key value) [])
+  offered_here id key value es =
+      let c : Command = Offer id key value in
+      nothing_changed c es refl refl refl refl (ap (view_by p) (held_offered key value (bytes_of id) w.field.listeners w.fars stand.places.fars))
+      (record { fars = as_many_offered _ (bytes_of id) w.field.listeners w.fars stand.places.fars ∙ stand.places.fars; numbers = stand.places.numbers })
+
+  removed_here : (id : DeviceId) (es : List Event) → Steps (Remove id) es (behind (Remove id) [])
+  removed_here id es =
+      removed_stands w q p (stretch (Remove id) es) ys (bytes_of id) _ o (is_with o (placed_under (bytes_of id) w.field.listeners p.numbers)) refl refl stand
+
+  -- a link is opened, or not
+  link_here : (id : List ℕ) (miu window : ℕ) (es : List Event) → map held (world_after s g.joins (Link id miu window) es).fars ≡ map held w.fars
+      → ((n : ℕ) → a ≡ answers.Linked n → n ≡ length p.links + 1) → (b : Answer) → a ≡ b
+      → Stand (state_after s g.joins (Link id miu window) es (Some b))
+      (stories_behind s (record { command = Link id miu window; events = es; told = Some b }) (state_after s g.joins (Link id miu window) es (Some b)) ys)
+  link_here id miu window es same next (answers.Linked n) is =
+      let c : Command = Link id miu window in
+      let now : WholeWorld = world_after s g.joins c es in
+      let ends : Peers = ended o w.fars p in
+      let closed : Closed (view_at ends now.fars) ys = subst (λ ks. Closed (view_by ends ks) ys) (sym same) (ended_closed o p w.fars ys stand.stand) in
+      let numbers : ends.numbers ≡ p.numbers = same_numbers o p w.fars in
+      link_begins now (queue_after (changed s c).queue es) ends id w.field.listeners w.fars same
+      (places_behind c es ends.numbers refl (as_many_held now.fars w.fars same) numbers) ys closed n (next n is ∙ ap (λ k. k + 1) (sym (count_ended o p w.fars)))
+      (link_if (placed_under id w.field.listeners p.numbers) (device_with id w.field.listeners) miu window)
+      (λ l e. ap (placed_under id w.field.listeners) numbers ∙ linked_peer (placed_under id w.field.listeners p.numbers) (device_with id w.field.listeners) miu window l e)
+  link_here id miu window es same next b is =
+      let c : Command = Link id miu window in
+      let t : State = state_after s g.joins c es (Some b) in
+      let ends : Peers = ended o w.fars p in
+      no_link s t (record { command = c; events = es; told = Some b }) ys refl refl refl
+      (places_behind c es ends.numbers refl (as_many_held (world_after s g.joins c es).fars w.fars same) (same_numbers o p w.fars))
+      (subst (λ ks. Closed (view_by ends ks) ys) (sym same) (ended_closed o p w.fars ys stand.stand))
+
+-- Commands on the link that is open.
+module _ (w : WholeWorld) (q : List Fate) (p : Peers) (ys : List Story) (l : OpenLink) (stand : Stand (record { world = w; queue = q; peers = p; link = Some l }) ys) (g : Given) (a : Answer) where
+  abbrev on : State
+  on = record { world = w; queue = q; peers = p; link = Some l }
+
+  abbrev then_ : Command → List Event → State
+  then_ c es = state_after on g.joins c es (Some a)
+
+  abbrev Goes : Command → List Event → State → Type 0
+  Goes c es t = Stand t (stories_behind on (record { command = c; events = es; told = Some a }) t ys)
+
+  abbrev left_by : CallStanding → Option OpenLink
+  left_by stands = link_behind l.peer stands
+
+  -- one that puts nothing
+  called : (c : Command) (es : List Event) (left : Option OpenLink) → (changed on c).link ≡ Some l → (changed on c).world.field.listeners ≡ w.field.listeners
+      → puts_in c (Some a) ≡ [] → begun_in c (Some a) (then_ c es) ≡ [] → map held (world_after on g.joins c es).fars ≡ map held w.fars
+      → then_ c es ≡ record { world = world_after on g.joins c es; queue = queue_after (changed on c).queue es; peers = ended_unless left (Some l) (world_after on g.joins c es).fars p; link = left }
+      → ((m : OpenLink) → left ≡ Some m → m.peer ≡ l.peer) → Goes c es (then_ c es)
+  called c es left still devices puts begins same is peer =
+      let now : WholeWorld = world_after on g.joins c es in
+      let queue : List Fate = queue_after (changed on c).queue es in
+      let x : Stretch = record { command = c; events = es; told = Some a } in
+      let t : State = then_ c es in
+      let u : State = record { world = now; queue = queue; peers = ended_unless left (Some l) now.fars p; link = left } in
+      let opened : Open (view_at p now.fars) l.peer ys = same_opened p w.fars now.fars l.peer ys same stand.stand in
+      let over : Stand u ys =
+      call_over now queue p l ys opened.opened left
+      (places_behind w q p ys (Some l) stand g a c es p.numbers devices (as_many_held now.fars w.fars same) refl) (λ m e. (peer m e, opened.step)) in
+      let own : at (view_of t) l.peer ≡ at (view_of on) l.peer =
+      ap (λ v. at (view_of v) l.peer) is ∙ ap (λ ns. at_number l.peer ns (map held now.fars)) (ended_numbers left (Some l) now.fars p)
+      ∙ ap (at_number l.peer p.numbers) same in
+      let told : stories_behind on x t ys ≡ ys =
+      ap (λ zs. open_goes_on (changed on c).link (goes_on on x t) ys ++ zs) begins ∙ append-nil (open_goes_on (changed on c).link (goes_on on x t) ys)
+      ∙ ap (λ k. open_goes_on k (goes_on on x t) ys) still
+      ∙ still_told on t x ys (Some l) stand.stand puts (λ m e. let one : l ≡ m = cc in subst (λ k. at (view_of t) k.peer ≡ at (view_of on) k.peer) one own) in
+      subst (Stand t) (sym told) (subst (λ v. Stand v ys) (sym is) over)
+
+  -- a put
+  put_here : (m : Msg) (es : List Event) → PutLaw on g.joins l m es a → Goes (Put m) es (then_ (Put m) es)
+  put_here m es law =
+      let c : Command = Put m in
+      let now : WholeWorld = world_after on g.joins c es in
+      let t : State = then_ c es in
+      let stands : CallStanding = stands_on l g.joins.own (Puts (message_of m)) es in
+      let left : Option OpenLink = left_by stands in
+      let queue : List Fate = queue_after q es in
+      let x : Stretch = record { command = c; events = es; told = Some a } in
+      let zs : List Story = last_goes_on (goes_on on x t) ys in
+      let accepted : map held now.fars ≡ with_held law.more l.peer p.numbers (map held w.fars) = more_held now w law.more l.peer p.numbers law.ends in
+      let both : AreHeld p.numbers (map held w.fars) × _ = base_held (view_of on) (Some l) ys stand.stand in
+      let many : length now.fars ≡ length w.fars =
+      sym (length-map now.fars held) ∙ ap length accepted ∙ as_many_with law.more l.peer p.numbers (map held w.fars) both.0 ∙ length-map w.fars held in
+      let places : HavePlaces now.field.listeners p.numbers now.fars = places_behind w q p ys (Some l) stand g a c es p.numbers refl many refl in
+      let P : List (Option Held) → Type 0 = λ ks. (z : Opened (view_by p ks) l.peer zs) × (((loss : Loss) → a ≡ answers.LinkEnded loss → ⊥) → IsInStep z.now.story) in
+      let z : P (map held now.fars) = subst P (sym accepted) (put_over on t l ys stand.stand m es a law.more law.adds (ended_numbers left (Some l) now.fars p) accepted) in
+      subst (Stand t) (sym (append-nil zs))
+      (call_over now queue p l zs z.0 left places (λ k e. let ends = came_to_end l.peer stands a k law.told.tells e in (ends.0, z.1 ends.1)))
+
+-- A command on the open link.
+call_peer : (l : OpenLink) (s : CallStanding) (a : Answer) → told_call s ≡ Some a → (m : OpenLink) → link_behind l.peer s ≡ Some m → m.peer ≡ l.peer
+call_peer l s a told m is = (came_to_end l.peer s a m told is).0
+
+-- Each legal step.
+module _ (w : WholeWorld) (q : List Fate) (p : Peers) (ys : List Story) (g : Given) (a : Answer) where
+  abbrev from : Option OpenLink → State
+  from o = record { world = w; queue = q; peers = p; link = o }
+
+  abbrev so : Option OpenLink → Command → List Event → State → Type 0
+  so o c es t = Stand t (stories_behind (from o) (record { command = c; events = es; told = Some a }) t ys)
+
+  after_front : (o : Option OpenLink) (c : Command) (es : List Event) (t : State) → FrontOf (from o) g c es (Some a) t → so o c es (state_after (from o) g.joins c es (Some a)) → so o c es t
+  after_front o c es t front steps = subst (so o c es) (sym front.after) steps
+
+  step_by : (o : Option OpenLink) (c : Command) (es : List Event) (t : State) → Stand (from o) ys → FrontOf (from o) g c es (Some a) t → AnswerLaw (from o) g c es a → so o c es t
+  step_by o Skip es t stand front law = absurd law
+  step_by o (Fates fates) es t stand front law =
+      quietly w q p ys o stand g a (Fates fates) es t front (nothing_sent (begun (from o) g.joins (Fates fates)) es front.turns front.each)
+      (nothing_changed w q p ys o stand g a (Fates fates) es refl refl refl refl refl stand.places)
+  step_by o (PlaceT2 id blocks head) es t stand front law =
+      let c : Command = PlaceT2 id blocks head in
+      quietly w q p ys o stand g a c es t front (nothing_sent (begun (from o) g.joins c) es front.turns front.each)
+      (tag_placed w q p ys o stand g a c es refl refl refl refl (ap (λ ks. record { numbers = p.numbers ++ None ∷ []; placed = next_number p; links = p.links; held = ks }) (map-append held w.fars (None ∷ [])))
+      (places_more w.field.listeners _ p.numbers None w.fars None (many_numbers (from o) ys stand) (λ peer. absurd cc) stand.places))
+  step_by o (PlaceT4 id code container head) es t stand front law =
+      let c : Command = PlaceT4 id code container head in
+      quietly w q p ys o stand g a c es t front (nothing_sent (begun (from o) g.joins c) es front.turns front.each)
+      (tag_placed w q p ys o stand g a c es refl refl refl refl (ap (λ ks. record { numbers = p.numbers ++ None ∷ []; placed = next_number p; links = p.links; held = ks }) (map-append held w.fars (None ∷ [])))
+      (places_more w.field.listeners _ p.numbers None w.fars None (many_numbers (from o) ys stand) (λ peer. absurd cc) stand.places))
+  step_by o (PlaceT5 id blocks size head) es t stand front law =
+      let c : Command = PlaceT5 id blocks size head in
+      quietly w q p ys o stand g a c es t front (nothing_sent (begun (from o) g.joins c) es front.turns front.each)
+      (tag_placed w q p ys o stand g a c es refl refl refl refl (ap (λ ks. record { numbers = p.numbers ++ None ∷ []; placed = next_number p; links = p.links; held = ks }) (map-append held w.fars (None ∷ [])))
+      (places_more w.field.listeners _ p.numbers None w.fars None (many_numbers (from o) ys stand) (λ peer. absurd cc) stand.places))
+  step_by o (PlacePeer id lr miu window limit) es t stand front law =
+      let c : Command = PlacePeer id lr miu window limit in
+      quietly w q p ys o stand g a c es t front (nothing_sent (begun (from o) g.joins c) es front.turns front.each) (peer_placed w q p ys o stand g a id lr miu window limit es)
+  step_by o (Lock id block) es t stand front law =
+      let c : Command = Lock id block in
+      quietly w q p ys o stand g a c es t front (nothing_sent (begun (from o) g.joins c) es front.turns front.each)
+      (nothing_changed w q p ys o stand g a c es refl refl refl refl refl (places_changed (device_locked block) (locked_kind block) (bytes_of id) w.field.listeners p.numbers w.fars stand.places))
+  step_by o (Busy id count times) es t stand front law =
+      let c : Command = Busy id count times in
+      quietly w q p ys o stand g a c es t front (nothing_sent (begun (from o) g.joins c) es front.turns front.each)
+      (nothing_changed w q p ys o stand g a c es refl refl refl refl refl (places_changed (device_busy count times) (busy_kind count times) (bytes_of id) w.field.listeners p.numbers w.fars stand.places))
+  step_by o (Offer id key value) es t stand front law =
+      let c : Command = Offer id key value in
+      quietly w q p ys o stand g a c es t front (nothing_sent (begun (from o) g.joins c) es front.turns front.each) (offered_here w q p ys o stand g a id key value es)
+  step_by o (Remove id) es t stand front law =
+      let c : Command = Remove id in
+      quietly w q p ys o stand g a c es t front (nothing_sent (begun (from o) g.joins c) es front.turns front.each) (removed_here w q p ys o stand g a id es)
+  step_by o (Dump id) es t stand front law =
+      quietly w q p ys o stand g a (Dump id) es t front (nothing_sent (begun (from o) g.joins (Dump id)) es front.turns front.each)
+      (nothing_changed w q p ys o stand g a (Dump id) es refl refl refl refl refl stand.places)
+  step_by o (Inbox id) es t stand front law =
+      quietly w q p ys o stand g a (Inbox id) es t front (nothing_sent (begun (from o) g.joins (Inbox id)) es front.turns front.each)
+      (nothing_changed w q p ys o stand g a (Inbox id) es refl refl refl refl refl stand.places)
+  step_by o Find es t stand front law =
+      after_front o Find es t front (reset w q p ys o stand g a Find es refl refl refl refl refl (same_held (world_after (from o) g.joins Find es) w (ap (λ (z : Stable). z.ends) law.stays)))
+  step_by o (Read id) es t stand front law =
+      after_front o (Read id) es t front (reset w q p ys o stand g a (Read id) es refl refl refl refl refl (same_held (world_after (from o) g.joins (Read id) es) w (ap (λ (z : Stable). z.ends) law.stays)))
+  step_by o (Write id m) es t stand front law =
+      after_front o (Write id m) es t front (reset w q p ys o stand g a (Write id m) es refl refl refl refl refl (same_held (world_after (from o) g.joins (Write id m) es) w law.stores.ends))
+  step_by o (Link id miu window) es t stand front law =
+      after_front o (Link id miu window) es t front
+      (link_here w q p ys o stand g a id miu window es (same_held (world_after (from o) g.joins (Link id miu window) es) w (ap (λ (z : Stable). z.ends) law.stays))
+      (λ n is. linked_number (DeviceId.A id) w.field.listeners (length p.links + 1) n (own_general miu) es (subst (LinkTells (DeviceId.A id) w.field.listeners (length p.links + 1) (own_general miu) es) is law.tells)) a refl)
+  step_by None (Put m) es t stand front law =
+      quietly w q p ys None stand g a (Put m) es t front (nothing_sent (begun (from None) g.joins (Put m)) es front.turns front.each)
+      (no_link (from None) (state_after (from None) g.joins (Put m) [] (Some a)) (record { command = Put m; events = es; told = Some a }) ys refl refl refl stand.places stand.stand)
+  step_by (Some l) (Put m) es t stand front law = after_front (Some l) (Put m) es t front (put_here w q p ys l stand g a m es law)
+  step_by None (Get most key) es t stand front law =
+      quietly w q p ys None stand g a (Get most key) es t front (nothing_sent (begun (from None) g.joins (Get most key)) es front.turns front.each)
+      (no_link (from None) (state_after (from None) g.joins (Get most key) [] (Some a)) (record { command = Get most key; events = es; told = Some a }) ys refl refl refl stand.places stand.stand)
+  step_by (Some l) (Get most key) es t stand front law =
+      let stands : CallStanding = stands_on l g.joins.own (Gets most key) es in
+      after_front (Some l) (Get most key) es t front
+      (called w q p ys l stand g a (Get most key) es (link_behind l.peer stands) refl refl refl refl
+      (same_held (world_after (from (Some l)) g.joins (Get most key) es) w (ap (λ (z : Stable). z.ends) law.stays)) refl (call_peer l stands a law.told.tells))
+  step_by None (Lookup name) es t stand front law =
+      quietly w q p ys None stand g a (Lookup name) es t front (nothing_sent (begun (from None) g.joins (Lookup name)) es front.turns front.each)
+      (no_link (from None) (state_after (from None) g.joins (Lookup name) [] (Some a)) (record { command = Lookup name; events = es; told = Some a }) ys refl refl refl stand.places stand.stand)
+  step_by (Some l) (Lookup name) es t stand front law =
+      let stands : CallStanding = stands_on l g.joins.own (Finds name) es in
+      after_front (Some l) (Lookup name) es t front
+      (called w q p ys l stand g a (Lookup name) es (link_behind l.peer stands) refl refl refl refl
+      (same_held (world_after (from (Some l)) g.joins (Lookup name) es) w (ap (λ (z : Stable). z.ends) law.stays)) refl (call_peer l stands a law.told.tells))
+  step_by None Unlink es t stand front law =
+      quietly w q p ys None stand g a Unlink es t front (nothing_sent (begun (from None) g.joins Unlink) es front.turns front.each)
+      (no_link (from None) (state_after (from None) g.joins Unlink [] (Some a)) (record { command = Unlink; events = es; told = Some a }) ys refl refl refl stand.places stand.stand)
+  step_by (Some l) Unlink es t stand front law =
+      after_front (Some l) Unlink es t front
+      (called w q p ys l stand g a Unlink es None refl refl refl refl
+      (same_held (world_after (from (Some l)) g.joins Unlink es) w (ap (λ (z : Stable). z.ends) law.stays)) refl (λ m e. absurd cc))
+
+step : (s t : State) (g : Given) (e : Entry) (ys : List Story) → Stand s ys → LegalStep s g e t → Stand t (stories_behind s (stretch_of e) t ys)
+step s t g e ys stand legal = step_by s.world s.queue s.peers ys g e.answer s.link e.command e.events t stand legal.front legal.answered
+
+-- through some entries
+along : (s t : State) (gs : List Given) (es : List Entry) (ys : List Story) → Stand s ys → EachLegal s gs es t → Stand t (stories_from s ys (map (λ (g : Given). g.joins) gs) es)
+along s t [] [] ys stand legal = subst (λ x. Stand x ys) (sym legal) stand
+along s t [] (e ∷ es) ys stand legal = absurd legal
+along s t (g ∷ gs) [] ys stand legal = absurd legal
+along s t (g ∷ gs) (e ∷ es) ys stand legal =
+    let mid : State = legal.0 in
+    subst (λ x. Stand t (stories_from x (stories_behind s (stretch_of e) x ys) (map (λ (h : Given). h.joins) gs) es)) legal.1.front.after
+    (along mid t gs es (stories_behind s (stretch_of e) mid ys) (step s mid g e ys stand legal.1) legal.2)
+
+-- An inbox on the way.
+inbox_so : (v : View) (o : Option OpenLink) (ys : List Story) → StandBy v o ys → (peer : ℕ) (k : Held) → at v peer ≡ Some k → inbox_of v.links peer k.accepted ≡ told_by_stories ys peer
+inbox_so v None ys stand peer k found = closed_told v peer k found ys stand
+inbox_so v (Some l) ys stand peer k found = open_told v peer k found l.peer ys stand
+
+end_there : (links : List LinkRange) (peer : ℕ) (k : Held) (x : Option FarEnd) → held x ≡ Some k → inbox_at links (Some peer) x ≡ inbox_of links peer k.accepted
+end_there links peer k None is = absurd cc
+end_there links peer k (Some end) is =
+    let same : record { limit = end.service.limit; accepted = end.service.accepted } ≡ k = cc in
+    ap (λ (h : Held). inbox_of links peer h.accepted) same
+
+inbox_told : (s : State) (ys : List Story) (id : DeviceId) (peer : ℕ) → Stand s ys → peer_under id s ≡ Some peer → inbox_now s id ≡ told_by_stories ys peer
+inbox_told s ys id peer stand is =
+    let ds : List Device = s.world.field.listeners in
+    let both = base_held (view_of s) s.link ys stand.stand in
+    let there = at_own_place peer (next_number s.peers) (bytes_of id) ds s.peers.numbers (map held s.world.fars) both.0 both.1 is in
+    let end : Option FarEnd = placed_under (bytes_of id) ds s.world.fars in
+    ap (λ n. inbox_at s.peers.links n end) is ∙ end_there s.peers.links peer there.0 end (sym (held_under (bytes_of id) ds s.world.fars) ∙ there.2)
+    ∙ inbox_so (view_of s) s.link ys stand.stand peer there.0 there.1
+
+inbox_here : (s t : State) (g : Given) (e : Entry) (ys : List Story) (id : DeviceId) → Stand s ys → LegalStep s g e t → e.command ≡ Inbox id → TellsInbox s ys id e.answer
+inbox_here s t g e ys id stand legal is =
+    let answered : e.answer ≡ answers.Inbox (inbox_now s id) = subst (λ c. AnswerLaw s g c e.events e.answer) is legal.answered in
+    let placed : IsPeerPlaced s id = subst (Accepts s) is legal.front.accepted in
+    let number = number_under (bytes_of id) s.world.field.listeners s.peers.numbers stand.places.numbers placed in
+    record { peer = number.0; placed = number.1; told = answered ∙ ap answers.Inbox (inbox_told s ys id number.0 stand number.1) }
+
+inbox_along : (s t : State) (gs : List Given) (before : List Entry) (e : Entry) (behind : List Entry) (ys : List Story) (id : DeviceId) → Stand s ys → EachLegal s gs (before ++ e ∷ behind) t
+    → e.command ≡ Inbox id → TellsInbox (state_from s (map (λ (g : Given). g.joins) gs) before) (stories_from s ys (map (λ (g : Given). g.joins) gs) before) id e.answer
+inbox_along s t [] [] e behind ys id stand legal is = absurd legal
+inbox_along s t [] (b ∷ before) e behind ys id stand legal is = absurd legal
+inbox_along s t (g ∷ gs) [] e behind ys id stand legal is = inbox_here s legal.0 g e ys id stand legal.1 is
+inbox_along s t (g ∷ gs) (b ∷ before) e behind ys id stand legal is =
+    let mid : State = legal.0 in
+    let ns : List Joins = map (λ (h : Given). h.joins) gs in
+    subst (λ x. TellsInbox (state_from x ns before) (stories_from x (stories_behind s (stretch_of b) x ys) ns before) id e.answer) legal.1.front.after
+    (inbox_along mid t gs before e behind (stories_behind s (stretch_of b) mid ys) id (step s mid g b ys stand legal.1) legal.2 is)
+
+-- The law.
+first_stand : Stand first_state []
+first_stand = record { places = record { fars = refl; numbers = tt }; stand = record { done = []; base = record { held = tt; apart = tt; each = tt; covered = λ p. tt; counted = tt }; links = refl; told = refl } }
+
+all_keep : (v : View) (o : Option OpenLink) (ys : List Story) → StandBy v o ys → AllByRecursion KeepsLinkLaw ys × AreCounted 1 ys
+all_keep v None ys stand = (closed_keep v ys stand, stand.base.counted)
+all_keep v (Some l) ys stand = (open_keep v l.peer ys stand, stand.opened.base.counted)
+
+pub link_law : LinkLaw
+link_law lines numbers journal last leads =
+    subst (λ ns. LinksAccept ns journal) leads.joins
+    (let stand = along first_state last leads.given journal [] first_stand leads.steps in
+    let all = all_keep (view_of last) last.link (stories_from first_state [] (map (λ (g : Given). g.joins) leads.given) journal) stand.stand in
+    record {
+      accept = all.0;
+      counted = all.1;
+      inboxes = λ before e behind id split is. inbox_along first_state last leads.given before e behind [] id first_stand (subst (λ es. EachLegal first_state leads.given es last) split leads.steps) is;
+    })

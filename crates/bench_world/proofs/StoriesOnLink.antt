@@ -1,0 +1,190 @@
+-- What a legal step does to the stories of links where it opens one, and where it goes on with the one that is open.
+use Rattle.std.proofs.Common.{◌≡◌, ℕ, ◌+◌, List, [], ◌∷◌, ◌++◌, map, length, Option, Some, None, Result, Ok, Err, refl, sym, ◌∙◌, ap, subst}
+use Rattle.std.proofs.lemmas.List.{append-nil}
+use Rattle.nfc_base.specs.declared.event.Event.{Event}
+use Rattle.nfc_base.specs.declared.event.Fate.{Fate}
+use Rattle.nfc_base.specs.declared.tag_link.AskFault.{AskFault}
+use Rattle.nfc_base.specs.declared.tag_link.AskFault.TheVariants as asking
+use Rattle.air_core.specs.Conversation.{Note}
+use Rattle.air_core.specs.Waits.{Standing, Asking, Broken, Astray, stand}
+use Rattle.dep_link.specs.Activating.{atr_frame}
+use Rattle.nfca_poll.specs.declared.fault.PollFault.{PollFault}
+use Rattle.nfca_poll.specs.declared.fault.PollFault.TheVariants as faults
+use Rattle.link_calls.specs.CallDue.{CallStanding, Carries, Comes, BrokenBy, Strays}
+use Rattle.snep_core.specs.Server.{Received as Accepted}
+use Rattle.snep_core.specs.Talk.{Goes, Ends, GivesUp}
+use Rattle.snep_core.specs.declared.job.Ending.{Ending}
+use Rattle.snep_core.specs.declared.job.Ending.TheVariants as endings
+use Rattle.snep_core.specs.declared.job.Refusal.TheVariants as refusals
+use Rattle.snep_core.specs.declared.job.Job.{Job}
+use Rattle.snep_core.specs.declared.job.Job.TheVariants as jobs
+use Rattle.bench_script.specs.declared.command.Command.TheVariants as commands
+use Rattle.bench_script.specs.declared.command.DeviceId.{DeviceId}
+use Rattle.bench_script.specs.declared.message.Msg.{Msg}
+use Rattle.bench_script.specs.Messages.{message_of}
+use Rattle.bench_devices.specs.declared.device.Device.{Device}
+use Rattle.bench_devices.specs.declared.polling.SeenKind.{SeenKind}
+use Rattle.bench_devices.specs.declared.polling.SeenKind.TheVariants as seen
+use Rattle.bench_devices.specs.Answering.{TellsStanding}
+use Rattle.bench_world.specs.declared.entry.Answer.{Answer}
+use Rattle.bench_world.specs.declared.entry.Answer.TheVariants as answers
+use Rattle.bench_world.specs.declared.entry.Loss.{Loss}
+use Rattle.bench_world.specs.World.{FarEnd, WholeWorld}
+use Rattle.bench_world.specs.Answering.{poll_answer}
+use Rattle.bench_world.specs.Calls.{OfEnd, PutAdds, link_behind, told_call, told_ending, told_job}
+use Rattle.bench_world.specs.Legal.{State, end_of}
+use Rattle.bench_world.specs.Linking.{LinkTells, LinkEnds, TellsLoss, link_if}
+use Rattle.bench_world.specs.Links.{OpenLink, ended_unless, begun_if, end_numbered, accepted_at}
+use Rattle.bench_world.specs.Peers.{Peers, next_number, placed_under}
+use Rattle.bench_world.specs.LinkLaw.{KeepsLinkLaw}
+use Rattle.bench_world.specs.Stories.{Story, Stretch, puts_in, gained_by, goes_on, last_goes_on, first_of, story_if, told_put}
+use Rattle.bench_world.proofs.AtNumbers.{Held, held, held_at, at_number, at_own_place, with_held}
+use Rattle.bench_world.proofs.PeersNumbered.{HavePlaces}
+use Rattle.bench_world.proofs.StoriesHere.{view_at, view_of, Stand, gain, over_closed, count_is, taken_by, TakesSo, takes_so, put_to, KeptBy, kept_by}
+use Rattle.bench_world.proofs.StoriesStand.{at, Closed, Opened, Open, IsInStep, opened_more, view_more, open_here, view_begun, found_after}
+
+-- A call that came to its end doesn't tell of a link that ended; and only then is the link still open, to the same peer.
+never_lost : (e : Ending) (loss : Loss) → told_ending e ≡ answers.LinkEnded loss → ⊥
+never_lost endings.Done loss h = cc
+never_lost (endings.Value v) loss h = cc
+never_lost (endings.Sap n) loss h = cc
+never_lost (endings.Refused refusals.Reject) loss h = cc
+never_lost (endings.Refused refusals.NotFound) loss h = cc
+never_lost (endings.Refused refusals.Excess) loss h = cc
+never_lost (endings.Refused refusals.NotImplemented) loss h = cc
+
+never_told : (j : Job) (a : Answer) → told_job j ≡ Some a → (loss : Loss) → a ≡ answers.LinkEnded loss → ⊥
+never_told (jobs.Over e) a told loss is = let same : told_ending e ≡ a = cc in never_lost e loss (same ∙ is)
+never_told j a told loss is = cc
+
+pub came_to_end : (n : ℕ) (s : CallStanding) (a : Answer) (m : OpenLink) → told_call s ≡ Some a → link_behind n s ≡ Some m → (m.peer ≡ n) × ((loss : Loss) → a ≡ answers.LinkEnded loss → ⊥)
+came_to_end n (Comes (Ends [] k) i) a m told is = absurd cc
+came_to_end n (Comes (Ends (x ∷ []) k) i) a m told is =
+    let same : record { peer = n; initiator = i; client = k } ≡ m = cc in
+    (sym (ap (λ (o : OpenLink). o.peer) same), never_told x.job a told)
+came_to_end n (Comes (Ends (x ∷ y ∷ xs) k) i) a m told is = absurd cc
+came_to_end n (Comes (Goes w) i) a m told is = absurd cc
+came_to_end n (Comes (GivesUp k) i) a m told is = absurd cc
+came_to_end n (Carries w ns s) a m told is = absurd cc
+came_to_end n (BrokenBy why) a m told is = absurd cc
+came_to_end n Strays a m told is = absurd cc
+
+-- Behind a call the link is open still, and all was told on it as it is, or it ended.
+pub call_over : (w : WholeWorld) (q : List Fate) (p : Peers) (l : OpenLink) (ys : List Story) (o : Opened (view_at p w.fars) l.peer ys) (left : Option OpenLink)
+    → HavePlaces w.field.listeners p.numbers w.fars → ((m : OpenLink) → left ≡ Some m → (m.peer ≡ l.peer) × IsInStep o.now.story)
+    → Stand (record { world = w; queue = q; peers = ended_unless left (Some l) w.fars p; link = left }) ys
+call_over w q p l ys o None places in_step = record { places = places; stand = over_closed p w.fars l.peer ys o }
+call_over w q p l ys o (Some m) places in_step =
+    let s = in_step m refl in record { places = places; stand = subst (λ n. Open (view_at p w.fars) n ys) (sym s.0) (record { opened = o; step = s.1 }) }
+
+-- a call that adds nothing to what the peer accepted
+pub same_opened : (p : Peers) (fars now : List (Option FarEnd)) (n : ℕ) (ys : List Story) → map held now ≡ map held fars → Open (view_at p fars) n ys → Open (view_at p now) n ys
+same_opened p fars now n ys same o =
+    subst (λ ks. Open (record { numbers = p.numbers; placed = next_number p; links = p.links; held = ks }) n ys) (sym same) o
+
+-- A put.
+module _ (s t : State) (l : OpenLink) (ys : List Story) (o : Open (view_of s) l.peer ys) (m : Msg) (events : List Event) (a : Answer) (more : List Accepted)
+    (adds : OfEnd (λ end. PutAdds (message_of m) end a more) (end_of s l)) (numbers : t.peers.numbers ≡ s.peers.numbers)
+    (accepted : map held t.world.fars ≡ with_held more l.peer s.peers.numbers (map held s.world.fars)) where
+  abbrev y : Story
+  y = o.opened.now.story
+
+  abbrev x : Stretch
+  x = record { command = commands.Put m; events = events; told = Some a }
+
+  takes : TakesSo y.limit (message_of m) a more
+  takes =
+      subst (λ n. TakesSo n (message_of m) a more) o.opened.going.limit
+      (takes_so (message_of m) (end_of s l) o.opened.going.there a more (held_at l.peer s.peers.numbers s.world.fars ∙ o.opened.going.found) adds)
+
+  abbrev grown : Held
+  grown = record { limit = o.opened.going.there.limit; accepted = o.opened.going.there.accepted ++ more }
+
+  there_now : at (view_of t) l.peer ≡ Some grown
+  there_now =
+      ap (λ ns. at_number l.peer ns (map held t.world.fars)) numbers ∙ ap (at_number l.peer s.peers.numbers) accepted
+      ∙ found_after (view_of s) l.peer ys o.opened more
+
+  goes : goes_on s x t y ≡ put_to y (message_of m) (told_put (Some a)) more
+  goes =
+      let gained : gained_by y.peer s t ≡ more =
+      ap (λ n. gained_by n s t) o.opened.going.own ∙ gain l.peer s t o.opened.going.there grown more o.opened.going.found there_now refl in
+      ap (λ gs. put_to y (message_of m) (told_put (Some a)) gs) gained
+
+  kept : KeptBy y o.step (message_of m) a (put_to y (message_of m) (told_put (Some a)) more)
+  kept = kept_by y o.step (message_of m) a more takes
+
+  pub put_over : (z : Opened (view_more (view_of s) l.peer more) l.peer (last_goes_on (goes_on s x t) ys)) × (((loss : Loss) → a ≡ answers.LinkEnded loss → ⊥) → IsInStep z.now.story)
+  put_over =
+      let z = opened_more (view_of s) l.peer ys o.opened more (goes_on s x t) (puts_in (commands.Put m) (Some a)) goes (subst KeepsLinkLaw (sym goes) kept.0) in
+      (z.0, λ unlost. subst IsInStep (sym (z.1 ∙ goes)) (kept.1 unlost))
+
+-- `linked` tells the next number.
+polled_unlinked : (e : PollFault) (n : ℕ) → poll_answer e ≡ Some (answers.Linked n) → ⊥
+polled_unlinked faults.Nobody n h = cc
+polled_unlinked faults.Disturbed n h = cc
+polled_unlinked faults.FieldLost n h = cc
+polled_unlinked faults.Memory n h = cc
+polled_unlinked faults.NotFound n h = cc
+polled_unlinked faults.BadAnswer n h = cc
+
+lost_unlinked : (e : AskFault) (n : ℕ) → TellsLoss e (answers.Linked n) → ⊥
+lost_unlinked asking.FieldLost n h = cc
+lost_unlinked asking.SixBad n h = cc
+lost_unlinked asking.Memory n h = h
+lost_unlinked asking.Protocol n h = h
+
+waited : (n k : ℕ) (s : Standing) → TellsStanding (λ a. a ≡ answers.Linked n) TellsLoss s (answers.Linked k) → k ≡ n
+waited n k (Asking bad []) h = cc
+waited n k (Asking bad (c ∷ cs)) h = absurd h
+waited n k (Broken e cs) h = absurd (lost_unlinked e k h)
+waited n k Astray h = absurd h
+
+number_told : (n k : ℕ) (general : List ℕ) (r : Result SeenKind PollFault) (behind : List Note) → LinkEnds n general r behind (answers.Linked k) → k ≡ n
+number_told n k general (Ok seen.Peer) behind h = waited n k (stand 0 (atr_frame general ∷ []) behind) h
+number_told n k general (Ok seen.T2) behind h = absurd (let clash : answers.Linked k ≡ answers.WrongKind = h in cc)
+number_told n k general (Ok seen.T4) behind h = absurd (let clash : answers.Linked k ≡ answers.WrongKind = h in cc)
+number_told n k general (Ok seen.T5) behind h = absurd (let clash : answers.Linked k ≡ answers.WrongKind = h in cc)
+number_told n k general (Err e) behind h = absurd (polled_unlinked e k h)
+
+pub linked_number : (id : DeviceId) (ds : List Device) (n k : ℕ) (general : List ℕ) (events : List Event) → LinkTells id ds n general events (answers.Linked k) → k ≡ n
+linked_number id ds n k general events tells = number_told n k general tells.polled tells.behind tells.ends
+
+-- The link that is open then is to a peer that is placed.
+pub linked_peer : (place : Option ℕ) (d : Option Device) (miu window : ℕ) (l : OpenLink) → link_if place d miu window ≡ Some l → place ≡ Some l.peer
+linked_peer (Some peer) (Some d) miu window l is = ap Some (ap (λ (o : OpenLink). o.peer) (one is))
+  where
+    one : {a b : OpenLink} → ◌≡◌ {A = Option OpenLink} (Some a) (Some b) → a ≡ b
+    one e = cc
+linked_peer (Some peer) None miu window l is = absurd cc
+linked_peer None d miu window l is = absurd cc
+
+-- so a story begins with it, to whatever end stands there
+module _ (w : WholeWorld) (q : List Fate) (p : Peers) (id : List ℕ) (ds : List Device) (before : List (Option FarEnd)) (same : map held w.fars ≡ map held before)
+    (places : HavePlaces w.field.listeners p.numbers w.fars) (ys : List Story) (c : Closed (view_at p w.fars) ys) (number : ℕ) (next : number ≡ length p.links + 1) where
+  abbrev behind_link : Option OpenLink → State
+  behind_link left = record { world = w; queue = q; peers = begun_if left before p; link = left }
+
+  first_story : (l : OpenLink) (k : Held) (o : Option FarEnd) → at (view_at p w.fars) l.peer ≡ Some k → held o ≡ Some k
+      → Open (view_begun (view_at p w.fars) l.peer (length k.accepted)) l.peer (ys ++ first_of number l.peer o)
+  first_story l k None found is = absurd cc
+  first_story l k (Some end) found is =
+      let same_end : record { limit = end.service.limit; accepted = end.service.accepted } ≡ k = cc in
+      let limit : k.limit ≡ end.service.limit = sym (ap (λ (h : Held). h.limit) same_end) in
+      open_here (view_at p w.fars) l.peer ys c k found _ next refl limit refl refl
+
+  pub link_begins : (left : Option OpenLink) → ((l : OpenLink) → left ≡ Some l → placed_under id ds p.numbers ≡ Some l.peer)
+      → Stand (behind_link left) (ys ++ story_if number left (behind_link left))
+  link_begins None peer = subst (Stand (behind_link None)) (sym (append-nil ys)) (record { places = places; stand = c })
+  link_begins (Some l) peer =
+      let there = at_own_place l.peer (next_number p) id ds p.numbers (map held w.fars) c.base.held c.base.apart (peer l refl) in
+      let k : Held = there.0 in
+      let count : length k.accepted ≡ accepted_at l.peer p before =
+      sym (count_is (end_numbered l.peer p.numbers before)
+      ∙ ap (λ x. length (taken_by x)) (held_at l.peer p.numbers before ∙ ap (at_number l.peer p.numbers) (sym same) ∙ there.1)) in
+      let begins : Open (view_begun (view_at p w.fars) l.peer (length k.accepted)) l.peer (ys ++ first_of number l.peer (end_numbered l.peer p.numbers w.fars)) =
+      first_story l k (end_numbered l.peer p.numbers w.fars) there.1 (held_at l.peer p.numbers w.fars ∙ there.1) in
+      record {
+        places = places;
+        stand = subst (λ n. Open (view_begun (view_at p w.fars) l.peer n) l.peer (ys ++ first_of number l.peer (end_numbered l.peer p.numbers w.fars))) count begins;
+      }

@@ -1,0 +1,69 @@
+-- The law of links: what a peer accepts on a link is the first of what was put there and fits, and covers all that was told to be taken, by at most
+-- one more (NFC Forum SNEP 1.0; the law is this project's own).
+use Rattle.std.specs.Prelude.{◌≡◌, ℕ, ◌+◌, ◌==◌, nat_eq, List, [], ◌∷◌, ◌++◌, if◌then◌else◌, Option, Some}
+use Rattle.std.specs.List.{AllByRecursion}
+use Rattle.snep_core.specs.Links.{Put, LinkAccepts}
+use Rattle.snep_core.specs.Payloads.{accepted_from}
+use Rattle.bench_script.specs.declared.command.Command.TheVariants as commands
+use Rattle.bench_script.specs.declared.command.DeviceId.{DeviceId}
+use Rattle.bench_script.specs.DeviceIds.{bytes_of}
+use Rattle.bench_world.specs.declared.entry.Answer.{Answer}
+use Rattle.bench_world.specs.declared.entry.Answer.TheVariants as answers
+use Rattle.bench_world.specs.declared.entry.Entry.{Entry}
+use Rattle.bench_world.specs.declared.entry.Received.{Received}
+use Rattle.bench_world.specs.Inbox.{told_of}
+use Rattle.bench_world.specs.Journal.{LeadsTo}
+use Rattle.bench_world.specs.Legal.{State, Joins, first_state}
+use Rattle.bench_world.specs.Peers.{placed_under}
+use Rattle.bench_world.specs.Stories.{Opener, ByLink, LinkPut, Story, state_from, stories_of}
+
+-- what was put from a client's SAP
+abbrev pub puts_from : ℕ → List LinkPut → List Put
+puts_from client [] = []
+puts_from client (p ∷ ps) = if p.source == client then p.put ∷ puts_from client ps else puts_from client ps
+
+-- On a link that `link` opened: of each client's SAP, what was accepted from it is the first of the messages that were put from it and are within
+-- the limit, and covers all of them that were told to be taken, by at most one more, which then is the last put, and wasn't answered.
+abbrev pub AcceptsPuts : Opener → Story → Type 0
+AcceptsPuts ByLink y = (client : ℕ) → LinkAccepts y.limit (puts_from client y.puts) (accepted_from client y.gained)
+
+abbrev pub KeepsLinkLaw : Story → Type 0
+KeepsLinkLaw y = AcceptsPuts y.opener y
+
+-- the links are numbered in order
+abbrev pub AreCounted : ℕ → List Story → Type 0
+AreCounted n [] = Unit {0}
+AreCounted n (y ∷ ys) = (y.number ≡ n) × AreCounted (n + 1) ys
+
+-- each message that was gained on a link of this peer, as an inbox tells it
+abbrev pub told_by_stories : List Story → ℕ → List Received
+told_by_stories [] peer = []
+told_by_stories (y ∷ ys) peer = (if nat_eq y.peer peer then told_of y.number y.gained else []) ++ told_by_stories ys peer
+
+-- the number of the peer with an identifier
+abbrev pub peer_under : DeviceId → State → Option ℕ
+peer_under id s = placed_under (bytes_of id) s.world.field.listeners s.peers.numbers
+
+-- An inbox tells what its peer's list gained on each link so far, each message once, and nothing else.
+pub record TellsInbox (s : State) (so_far : List Story) (id : DeviceId) (answer : Answer) : Type 0 where
+  pub peer : ℕ
+  pub placed : peer_under id s ≡ Some peer
+  pub told : answer ≡ answers.Inbox (told_by_stories so_far peer)
+
+-- So does each of a journal, by the entries before it.
+abbrev pub InboxesTell : List Joins → List Entry → Type 0
+InboxesTell numbers journal =
+    (before : List Entry) (e : Entry) (behind : List Entry) (id : DeviceId) → journal ≡ before ++ e ∷ behind → e.command ≡ commands.Inbox id
+    → TellsInbox (state_from first_state numbers before) (stories_of numbers before) id e.answer
+
+-- The links of a journal, by the numbers of PDUs of its entries.
+pub record LinksAccept (numbers : List Joins) (journal : List Entry) : Type 0 where
+  pub accept : AllByRecursion KeepsLinkLaw (stories_of numbers journal)
+  pub counted : AreCounted 1 (stories_of numbers journal)
+  pub inboxes : InboxesTell numbers journal
+
+-- So it is of each legal journal.
+abbrev pub LinkLaw : Type 0
+LinkLaw =
+    (lines : List (List ℕ)) (numbers : List Joins) (journal : List Entry) (last : State) → LeadsTo lines numbers journal last
+    → LinksAccept numbers journal

@@ -1,0 +1,130 @@
+-- The story of each link of a bench: how it was opened and to which end, what was put on it and how that was told, and what its peer accepted on
+-- it (NFC Forum SNEP 1.0; that links have numbers is this project's own). A later command adds its case.
+use Rattle.std.specs.Prelude.{ℕ, drop, length, List, [], ◌∷◌, ◌++◌, Option, Some, None}
+use Rattle.nfc_base.specs.declared.event.Event.{Event}
+use Rattle.snep_core.specs.Links.{Told, Success, Rejected, Unanswered, Put}
+use Rattle.snep_core.specs.Server.{Received as Accepted}
+use Rattle.snep_core.specs.Talk.{client_sap}
+use Rattle.bench_script.specs.declared.command.Command.{Command}
+use Rattle.bench_script.specs.declared.command.Command.TheVariants as commands
+use Rattle.bench_script.specs.Messages.{message_of}
+use Rattle.bench_world.specs.declared.entry.Answer.{Answer}
+use Rattle.bench_world.specs.declared.entry.Answer.TheVariants as answers
+use Rattle.bench_world.specs.declared.entry.Entry.{Entry}
+use Rattle.bench_world.specs.World.{FarEnd}
+use Rattle.bench_world.specs.Links.{OpenLink, end_numbered}
+use Rattle.bench_world.specs.Legal.{State, Joins, changed, end_of, first_state, state_after}
+
+-- what happened of a command, and what was told of it, nothing where it was cut off; an entry is one
+pub record Stretch : Type 0 where
+  pub command : Command
+  pub events : List Event
+  pub told : Option Answer
+
+abbrev pub stretch_of : Entry → Stretch
+stretch_of e = record { command = e.command; events = e.events; told = Some e.answer }
+
+-- how a link was opened: by the command `link`, and so between two ends of this project
+pub data Opener : Type 0 where
+  ByLink : Opener
+
+-- a put on a link, with the SAP of the client that put it
+pub record LinkPut : Type 0 where
+  pub source : ℕ
+  pub put : Put
+
+-- The story of a link: the number that `linked` told; how it was opened; its peer, by its number among the peers; that peer's MIU, receive window
+-- and limit as the link began; what was put on it, in order; and what the peer's list of accepted messages gained on it.
+pub record Story : Type 0 where
+  pub number : ℕ
+  pub opener : Opener
+  pub peer : ℕ
+  pub miu : ℕ
+  pub window : ℕ
+  pub limit : ℕ
+  pub puts : List LinkPut
+  pub gained : List Accepted
+
+-- How a put was told by its answer: where the link ended, and where it was cut off, it wasn't.
+abbrev pub told_put : Option Answer → Told
+told_put (Some answers.Success) = Success
+told_put (Some answers.Reject) = Rejected
+told_put told = Unanswered
+
+-- what a stretch puts
+abbrev pub puts_in : Command → Option Answer → List LinkPut
+puts_in (commands.Put message) told = record { source = client_sap; put = record { message = message_of message; told = told_put told } } ∷ []
+puts_in c told = []
+
+-- what the server of the peer with a number accepted so far
+abbrev pub accepted_of : Option FarEnd → List Accepted
+accepted_of None = []
+accepted_of (Some end) = end.service.accepted
+
+abbrev pub accepted_in : ℕ → State → List Accepted
+accepted_in peer s = accepted_of (end_numbered peer s.peers.numbers s.world.fars)
+
+-- what that list gained from one state to another
+abbrev pub gained_by : ℕ → State → State → List Accepted
+gained_by peer s t = drop (length (accepted_in peer s)) (accepted_in peer t)
+
+-- a story goes on by a stretch, from the state before it to the one behind it
+abbrev pub goes_on : State → Stretch → State → Story → Story
+goes_on s x t y = record y { puts = y.puts ++ puts_in x.command x.told; gained = y.gained ++ gained_by y.peer s t }
+
+-- the link that is open is the last one
+abbrev pub last_goes_on : (Story → Story) → List Story → List Story
+last_goes_on go [] = []
+last_goes_on go (y ∷ []) = go y ∷ []
+last_goes_on go (y ∷ z ∷ ys) = y ∷ last_goes_on go (z ∷ ys)
+
+abbrev pub open_goes_on : Option OpenLink → (Story → Story) → List Story → List Story
+open_goes_on None go ys = ys
+open_goes_on (Some l) go ys = last_goes_on go ys
+
+-- a story begins with a link that is open then, to this end of its peer
+abbrev pub first_of : ℕ → ℕ → Option FarEnd → List Story
+first_of number peer None = []
+first_of number peer (Some end) = record {
+  number = number;
+  opener = ByLink;
+  peer = peer;
+  miu = end.miu;
+  window = end.window;
+  limit = end.service.limit;
+  puts = [];
+  gained = [];
+} ∷ []
+
+abbrev pub story_if : ℕ → Option OpenLink → State → List Story
+story_if number None t = []
+story_if number (Some l) t = first_of number l.peer (end_of t l)
+
+-- what story begins in a stretch: where `linked` is told, that of this link
+abbrev pub begun_in : Command → Option Answer → State → List Story
+begun_in (commands.Link id miu window) (Some (answers.Linked number)) t = story_if number t.link t
+begun_in c told t = []
+
+-- The stories behind a stretch. A link is open in it that was open once its command changed what it itself changes: one that begins with a reset
+-- ended it.
+abbrev pub stories_behind : State → Stretch → State → List Story → List Story
+stories_behind s x t ys = open_goes_on (changed s x.command).link (goes_on s x t) ys ++ begun_in x.command x.told t
+
+-- the state behind an entry, by its numbers of PDUs
+abbrev pub state_behind : State → Joins → Entry → State
+state_behind s joins e = state_after s joins e.command e.events (Some e.answer)
+
+-- the state behind some entries, and their stories, by their numbers of PDUs
+abbrev pub state_from : State → List Joins → List Entry → State
+state_from s [] es = s
+state_from s (n ∷ ns) [] = s
+state_from s (n ∷ ns) (e ∷ es) = state_from (state_behind s n e) ns es
+
+abbrev pub stories_from : State → List Story → List Joins → List Entry → List Story
+stories_from s ys [] es = ys
+stories_from s ys (n ∷ ns) [] = ys
+stories_from s ys (n ∷ ns) (e ∷ es) = stories_from (state_behind s n e) (stories_behind s (stretch_of e) (state_behind s n e) ys) ns es
+
+-- those of a journal; the first is that of link 1
+abbrev pub stories_of : List Joins → List Entry → List Story
+stories_of numbers journal = stories_from first_state [] numbers journal
