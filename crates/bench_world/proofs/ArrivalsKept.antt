@@ -31,7 +31,7 @@ use Rattle.bench_world.specs.Calls.{IfLinked, call_behind, link_behind, stands_o
 use Rattle.bench_world.specs.Legal.{State, Given, AnswerLaw, EachLegal, GetLaw, LinkingLaw, LookupLaw, PutLaw, UnlinkLaw, begun, due, first_state, is_linked_to, link_after, state_after, unlinked, world_after}
 use Rattle.bench_world.specs.Linking.{link_if, own_general}
 use Rattle.bench_world.specs.Links.{OpenLink, begun_if, end_numbered, ended_unless, is_number, is_with}
-use Rattle.bench_world.specs.Peers.{Peers, end_offered, new_end, placed_under, with_place_changed, without_place}
+use Rattle.bench_world.specs.Peers.{Peers, end_offered, new_end, next_number, placed_under, with_place_changed, without_place}
 use Rattle.bench_world.proofs.ArrivalsOn.{IsOffered, Kept, begun_kept, came_kept, none_kept, stays_kept}
 use Rattle.bench_world.proofs.HeldOn.{nothing_sent}
 use Rattle.bench_world.proofs.OnLink.{none_numbered}
@@ -263,7 +263,7 @@ module _ (s : State) (g : Given) (ys : List Arrival) (h : KeptIn s ys) where
   step_kept (PlaceT2 id blocks head) es answer turns each law = quiet (PlaceT2 id blocks head) es answer (λ ns. refl) turns each (placed_kept None None)
   step_kept (PlaceT4 id code container head) es answer turns each law = quiet (PlaceT4 id code container head) es answer (λ ns. refl) turns each (placed_kept None None)
   step_kept (PlaceT5 id blocks size head) es answer turns each law = quiet (PlaceT5 id blocks size head) es answer (λ ns. refl) turns each (placed_kept None None)
-  step_kept (PlacePeer id lr miu rw most) es answer turns each law = quiet (PlacePeer id lr miu rw most) es answer (λ ns. refl) turns each (placed_kept (Some s.peers.placed) (Some (new_end miu rw most)))
+  step_kept (PlacePeer id lr miu rw most) es answer turns each law = quiet (PlacePeer id lr miu rw most) es answer (λ ns. refl) turns each (placed_kept (Some (next_number s.peers)) (Some (new_end miu rw most)))
   step_kept (Lock id block) es answer turns each law = quiet (Lock id block) es answer (λ ns. refl) turns each same_kept
   step_kept (Busy id count times) es answer turns each law = quiet (Busy id count times) es answer (λ ns. refl) turns each same_kept
   step_kept (Offer id key value) es answer turns each law = quiet (Offer id key value) es answer (λ ns. refl) turns each (offered_kept id key value answer)

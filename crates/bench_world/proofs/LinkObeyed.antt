@@ -79,7 +79,7 @@ use Rattle.bench_world.specs.Links.{OpenLink, accepted_at, accepted_by, end_numb
 use Rattle.bench_world.specs.Opened.{IsServed, AreServed, AreNumbered, IsFirstWith, IsOpen}
 use Rattle.bench_world.specs.Peers.{Peers, placed_under, next_number}
 use Rattle.bench_world.specs.LinkedAt.{restarts, NotOpened}
-use Rattle.bench_world.specs.Legal.{State, Given, Joins, no_joins, MayLink, AnswerLaw, FrontOf, CutFront, LinkingLaw, changed, due, begun, world_after, peers_after, link_after, state_after}
+use Rattle.bench_world.specs.Legal.{State, Given, Joins, no_joins, MayLink, FrontOf, CutFront, LinkingLaw, world_after, peers_after, link_after, state_after}
 use Rattle.bench_world.specs.Obeying.{Machines, linked_at, state_at, under, HasPlaces, KeepsLink, Obeyed}
 use Rattle.bench_world.proofs.Fronts.{Ends, ends_table, rests_alike, stable_behind}
 use Rattle.bench_world.proofs.Placed.{Upon}

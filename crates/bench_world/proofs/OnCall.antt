@@ -37,7 +37,7 @@ use Rattle.bench_world.specs.Links.{OpenLink, accepted_by, ended, ended_unless, 
 use Rattle.bench_world.specs.Arriving.{ArrivesAt}
 use Rattle.bench_world.specs.Legal.{State, Given, Joins, Accepts, AnswerLaw, Came, CutFront, CutStores, FrontOf, HaltsCall, IsAskedBy, LeavesStable, begun, changed, due, link_after, peers_after, world_after}
 use Rattle.bench_world.specs.Obeying.{Machines, HasPlaces, IsSettled, KeepsLink, Obeyed, state_at, under}
-use Rattle.bench_world.specs.Opened.{AreNumbered, AreServed, IsOpen}
+use Rattle.bench_world.specs.Opened.{AreNumbered, AreServed}
 use Rattle.bench_world.specs.Peers.{Peers, next_number}
 use Rattle.bench_world.proofs.Arrived.{GoesOn, came_at}
 use Rattle.bench_world.proofs.CallNotes.{IsPlainNext, call_broken, call_lost, calls_plain}

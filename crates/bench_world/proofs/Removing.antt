@@ -151,7 +151,7 @@ gone_shown before d behind id ns os kept_ends named sound many long =
     let fars : List (Option FarEnd) = shown device_linked peer_ends all os in
     kept_by_link (device_linked d) (get_or ns (length before) None) (get_or os (length before) None) kept_ends
     ∙ ap (λ o. with_gone (get_or ns (length before) None) o kept_ends)
-      (sym (shown_at before d behind os long) ∙ sym (under_at before d behind id fars named sound (shown_long all os)))
+    (sym (shown_at before d behind os long) ∙ sym (under_at before d behind id fars named sound (shown_long all os)))
     ∙ ap (λ n. with_gone n (placed_under id all fars) kept_ends) (sym (under_at before d behind id ns named sound many))
 
 -- A device was taken away, once no link to it was open.
