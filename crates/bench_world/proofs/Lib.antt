@@ -21,6 +21,7 @@ pub mod AskedBehind
 pub mod Outcomes
 pub mod Benches
 pub mod Complete
+pub mod CompleteLinks
 pub mod OneForm
 pub mod WriteTelling
 pub mod WriteLegality

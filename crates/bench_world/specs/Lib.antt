@@ -18,6 +18,7 @@ pub mod Completing
 pub mod Quiet
 pub mod Journal
 pub mod Arrivals
+pub mod CompletingLinks
 pub mod QuietHearing
 pub mod Taking
 pub mod SameCommands

@@ -5,6 +5,7 @@ ghost use Rattle.bench_world.specs.Arrivals.{PayloadLaw};
 ghost use Rattle.bench_world.specs.Behind.{WrittenIsRead, OneOfThreeIsRead};
 ghost use Rattle.bench_world.specs.Completing.{ReadsComplete, WritesComplete, ValidIsWritten, FindsComplete};
 ghost use Rattle.bench_world.specs.LinkLaw.{LinkLaw};
+ghost use Rattle.bench_world.specs.CompletingLinks.{PutsComplete, GetsComplete, LookupsComplete, UnlinksComplete, ValidIsOk};
 ghost use Rattle.bench_world.specs.Quiet.{QuietStays, QuietReads, QuietWrites, QuietFinds};
 ghost use Rattle.bench_world.specs.QuietHearing.{QuietHears, QuietScript};
 ghost use Rattle.bench_world.specs.ReadBack.{LinesTellEvents, AnswersApart};
@@ -26,6 +27,16 @@ pub fn writes_complete()
 /// A legal search, without a Break and with a round and a try without noise, lists the whole field.
 pub fn finds_complete()
     ensures { FindsComplete }
+{}
+
+/// A legal command on the open link is answered as its peer answers it, and the link is closed, exactly where no Break was used
+/// and no wait had six bad receptions: so a valid one gives what it's asked for.
+pub fn links_complete()
+    ensures puts { PutsComplete }
+    ensures gets { GetsComplete }
+    ensures lookups { LookupsComplete }
+    ensures unlinks { UnlinksComplete }
+    ensures valid { ValidIsOk }
 {}
 
 /// Behind a write, with no command between that touches its tag, a read that tells a message tells the new one where the

@@ -1,0 +1,133 @@
+-- What commands of links answer where noise doesn't keep them from it: no Break was used, no wait had six bad receptions, and where a link is
+-- opened, polling had one round without noise (why a server refuses, and what a peer tells of a name, is from NFC Forum SNEP 1.0 and LLCP 1.3;
+-- rounds and six receptions are this project's own).
+use Rattle.std.specs.Prelude.{◌≡◌, ◌↔◌, ℕ, ◌+◌, ◌≤◌, nat_lt, List, [], ◌∷◌, length, Option, Some, None, Ok, if◌then◌else◌}
+use Rattle.nfc_base.specs.Signal.{Signal}
+use Rattle.nfc_base.specs.Trace.{breaks}
+use Rattle.nfc_base.specs.declared.carrier.EndCause.TheVariants.{SixBad}
+use Rattle.nfc_base.specs.declared.event.Event.{Event}
+use Rattle.nfc_base.specs.declared.tag_link.AskFault.TheVariants as asking
+use Rattle.air_core.specs.Conversation.{Note, receptions}
+use Rattle.air_core.specs.Waits.{Broken, stand}
+use Rattle.dep_link.specs.Activating.{atr_frame}
+use Rattle.llcp_link.specs.Names.{found}
+use Rattle.snep_core.specs.Session.{Offer, value_of}
+use Rattle.snep_core.specs.Talk.{Puts, Gets, Finds}
+use Rattle.link_calls.specs.CallDue.{BrokenBy}
+use Rattle.link_calls.specs.ClosingDue.{Calls}
+use Rattle.bench_script.specs.declared.command.Command.{Command}
+use Rattle.bench_script.specs.declared.command.Command.TheVariants.{Link, Put, Get, Lookup, Unlink}
+use Rattle.bench_script.specs.declared.command.DeviceId.TheVariants.{A}
+use Rattle.bench_script.specs.declared.message.Msg.{Msg}
+use Rattle.bench_script.specs.Messages.{message_of}
+use Rattle.bench_devices.specs.declared.device.Device.{Device}
+use Rattle.bench_devices.specs.declared.polling.SeenKind.TheVariants.{Peer}
+use Rattle.bench_devices.specs.Answering.{IsNamed}
+use Rattle.bench_devices.specs.Device.{is_tag}
+use Rattle.bench_devices.specs.Placed.{device_with}
+use Rattle.bench_devices.specs.Polling.{Told, selecting}
+use Rattle.bench_world.specs.declared.entry.Answer.{Answer}
+use Rattle.bench_world.specs.declared.entry.Answer.TheVariants as answers
+use Rattle.bench_world.specs.declared.entry.Entry.{Entry}
+use Rattle.bench_world.specs.Calls.{OfEnd, stands_on, stands_closing}
+use Rattle.bench_world.specs.Completing.{IsQuietOnce}
+use Rattle.bench_world.specs.Journal.{LeadsTo}
+use Rattle.bench_world.specs.Legal.{State, Given, Joins, LegalStep, end_of}
+use Rattle.bench_world.specs.Linking.{own_general}
+use Rattle.bench_world.specs.Links.{OpenLink}
+use Rattle.bench_world.specs.World.{FarEnd}
+
+-- What a peer answers to a message that is put: its server takes one within its limit.
+abbrev pub put_answer : List ℕ → FarEnd → Answer
+put_answer m end = if nat_lt end.service.limit (length m) then answers.Reject else answers.Success
+
+-- What it answers to a get of at most so many bytes, by the first cause to refuse it: the key is longer than the limit; the server has no
+-- values; none of this key; or a longer one.
+abbrev pub value_answer : ℕ → Option (List ℕ) → Answer
+value_answer most None = answers.NoValue
+value_answer most (Some v) = if nat_lt most (length v) then answers.Excess else answers.Value v
+
+abbrev pub table_answer : ℕ → List ℕ → List Offer → Answer
+table_answer most key [] = answers.NotImplemented
+table_answer most key (o ∷ os) = value_answer most (value_of key (o ∷ os))
+
+abbrev pub get_answer : ℕ → List ℕ → FarEnd → Answer
+get_answer most key end = if nat_lt end.service.limit (length key) then answers.Reject else table_answer most key end.service.table
+
+-- A wait of a command on the open link had six bad receptions, by these numbers of PDUs and what happened.
+abbrev pub HadSixBadOn : OpenLink → List ℕ → Command → List Event → Type 0
+HadSixBadOn l joins (Put m) es = stands_on l joins (Puts (message_of m)) es ≡ BrokenBy SixBad
+HadSixBadOn l joins (Get most key) es = stands_on l joins (Gets most key) es ≡ BrokenBy SixBad
+HadSixBadOn l joins (Lookup name) es = stands_on l joins (Finds name) es ≡ BrokenBy SixBad
+HadSixBadOn l joins Unlink es = stands_closing l joins es ≡ Calls (BrokenBy SixBad)
+HadSixBadOn l joins c es = ⊥
+
+-- Nothing kept it from its answer.
+pub record IsUndisturbedOn (l : OpenLink) (joins : List ℕ) (c : Command) (es : List Event) : Type 0 where
+  pub lit : breaks es ≡ 0
+  pub waits : HadSixBadOn l joins c es → ⊥
+
+-- Exactly so each is answered as its peer answers it, and the link is closed.
+abbrev pub PutsComplete : Type 0
+PutsComplete =
+    (s t : State) (g : Given) (e : Entry) (l : OpenLink) (m : Msg) → LegalStep s g e t → e.command ≡ Put m → s.link ≡ Some l
+    → OfEnd (λ end. (e.answer ≡ put_answer (message_of m) end) ↔ IsUndisturbedOn l g.joins.own (Put m) e.events) (end_of s l)
+
+abbrev pub GetsComplete : Type 0
+GetsComplete =
+    (s t : State) (g : Given) (e : Entry) (l : OpenLink) (most : ℕ) (key : List ℕ) → LegalStep s g e t → e.command ≡ Get most key → s.link ≡ Some l
+    → OfEnd (λ end. (e.answer ≡ get_answer most key end) ↔ IsUndisturbedOn l g.joins.own (Get most key) e.events) (end_of s l)
+
+abbrev pub LookupsComplete : Type 0
+LookupsComplete =
+    (s t : State) (g : Given) (e : Entry) (l : OpenLink) (name : List ℕ) → LegalStep s g e t → e.command ≡ Lookup name → s.link ≡ Some l
+    → OfEnd (λ end. (e.answer ≡ answers.Sap (found end.bound name)) ↔ IsUndisturbedOn l g.joins.own (Lookup name) e.events) (end_of s l)
+
+abbrev pub UnlinksComplete : Type 0
+UnlinksComplete =
+    (s t : State) (g : Given) (e : Entry) (l : OpenLink) → LegalStep s g e t → e.command ≡ Unlink → s.link ≡ Some l
+    → (e.answer ≡ answers.Unlinked) ↔ IsUndisturbedOn l g.joins.own Unlink e.events
+
+-- A command on the open link is valid where its peer has no cause to refuse it: the message or the key is within the limit, and the key has a
+-- value, which isn't longer than the client takes. A lookup and a close always are.
+abbrev pub IsValid : FarEnd → Command → Type 0
+IsValid end (Put m) = length (message_of m) ≤ end.service.limit
+IsValid end (Get most key) = (length key ≤ end.service.limit) × (value : List ℕ) × (value_of key end.service.table ≡ Some value) × (length value ≤ most)
+IsValid end (Lookup name) = Unit {0}
+IsValid end Unlink = Unit {0}
+IsValid end c = ⊥
+
+-- what a valid one is answered
+abbrev pub IsOk : FarEnd → Command → Answer → Type 0
+IsOk end (Put m) answer = answer ≡ answers.Success
+IsOk end (Get most key) answer = (value : List ℕ) × (value_of key end.service.table ≡ Some value) × (answer ≡ answers.Value value)
+IsOk end (Lookup name) answer = answer ≡ answers.Sap (found end.bound name)
+IsOk end Unlink answer = answer ≡ answers.Unlinked
+IsOk end c answer = ⊥
+
+abbrev pub ValidIsOk : Type 0
+ValidIsOk =
+    (s t : State) (g : Given) (e : Entry) (l : OpenLink) (end : FarEnd) → LegalStep s g e t → s.link ≡ Some l → end_of s l ≡ Some end → IsValid end e.command
+    → IsUndisturbedOn l g.joins.own e.command e.events → IsOk end e.command e.answer
+
+-- Nothing kept the opening of a link, by an initiator of this MIU, from its answer. Once a peer is selected, ATR_REQ alone is waited for.
+pub record IsUndisturbedOpening (id : List ℕ) (miu : ℕ) (es : List Event) : Type 0 where
+  pub lit : breaks es ≡ 0
+  pub round : IsQuietOnce (A id) es
+  pub waits : (behind : List Note) (left : List Signal) → selecting (A id) (receptions es) ≡ Told (Ok Peer) behind → stand 0 (atr_frame (own_general miu) ∷ []) behind ≡ Broken asking.SixBad left → ⊥
+
+-- what opening a link to a device is answered, by the number that the link has
+abbrev pub link_answer : ℕ → Device → Answer
+link_answer n d = if is_tag d then answers.WrongKind else answers.Linked n
+
+-- The entry opens a link to this device, which is placed.
+pub record OpensPlaced (s : State) (e : Entry) (id : List ℕ) (miu window : ℕ) (d : Device) : Type 0 where
+  pub command : e.command ≡ Link id miu window
+  pub placed : device_with id s.world.field.listeners ≡ Some d
+  pub named : IsNamed (A id) d
+
+-- So it is answered wherever the lines of a script lead.
+abbrev pub LinkingsComplete : Type 0
+LinkingsComplete =
+    (lines : List (List ℕ)) (numbers : List Joins) (journal : List Entry) (s t : State) (g : Given) (e : Entry) (id : List ℕ) (miu window : ℕ) (d : Device) → LeadsTo lines numbers journal s → LegalStep s g e t
+    → OpensPlaced s e id miu window d → IsUndisturbedOpening id miu e.events → e.answer ≡ link_answer (length s.peers.links + 1) d
