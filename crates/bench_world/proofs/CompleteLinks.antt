@@ -32,10 +32,10 @@ use Rattle.bench_world.specs.Legal.{State, Given, LegalStep, AnswerLaw, PutLaw, 
 use Rattle.bench_world.specs.Links.{OpenLink}
 use Rattle.bench_world.specs.World.{FarEnd}
 
-told_once : (a b : Answer) → ◌≡◌ {A = Option Answer} (Some a) (Some b) → b ≡ a
+pub told_once : (a b : Answer) → ◌≡◌ {A = Option Answer} (Some a) (Some b) → b ≡ a
 told_once a b e = cc
 
-none_told : (a : Answer) → ◌≡◌ {A = Option Answer} None (Some a) → ⊥
+pub none_told : (a : Answer) → ◌≡◌ {A = Option Answer} None (Some a) → ⊥
 none_told a e = cc
 
 no_lost : (n : ℕ) → n ≡ 0 → 0 < n → ⊥
@@ -46,8 +46,8 @@ none_used zero none = refl
 none_used (suc n) none = absurd (none (omega arith))
 
 -- a link didn't end
-abbrev Goes_on : Answer → Type 0
-Goes_on answer = (loss : Loss) → answer ≡ answers.LinkEnded loss → ⊥
+abbrev pub GoesOn : Answer → Type 0
+GoesOn answer = (loss : Loss) → answer ≡ answers.LinkEnded loss → ⊥
 
 -- What nothing kept from its answer is told how it ended.
 pub record IsEnded (answer : Answer) : Type 0 where
@@ -71,7 +71,7 @@ step_ended (Ends [] l) answer e = absurd (none_told answer e)
 step_ended (Ends (x ∷ []) l) answer e = job_ended x.job answer e
 step_ended (Ends (x ∷ y ∷ xs) l) answer e = absurd (none_told answer e)
 
-call_ended : (c : CallStanding) (es : List Event) (answer : Answer) → IsTold (told_call c) es answer → breaks es ≡ 0 → (c ≡ BrokenBy SixBad → ⊥) → IsEnded answer
+pub call_ended : (c : CallStanding) (es : List Event) (answer : Answer) → IsTold (told_call c) es answer → breaks es ≡ 0 → (c ≡ BrokenBy SixBad → ⊥) → IsEnded answer
 call_ended (Carries w ns s) es answer t lit none = absurd (none_told answer t.tells)
 call_ended (Comes to i) es answer t lit none = step_ended to answer t.tells
 call_ended (BrokenBy FieldLost) es answer t lit none = absurd (no_lost (breaks es) lit (t.lost.0 (told_once (answers.LinkEnded losses.FieldLost) answer t.tells)))
@@ -93,23 +93,23 @@ closing_ended (Releasing to) es answer t lit none = absurd (none_told answer t.t
 closing_ended (Released to) es answer t lit none = told_once answers.Unlinked answer t.tells
 
 -- Where the link didn't end, no Break was used and no wait had six bad receptions.
-none_broken : (told : Option Answer) (es : List Event) (answer : Answer) → IsTold told es answer → Goes_on answer → breaks es ≡ 0
+none_broken : (told : Option Answer) (es : List Event) (answer : Answer) → IsTold told es answer → GoesOn answer → breaks es ≡ 0
 none_broken told es answer t on = none_used (breaks es) (λ some. on losses.FieldLost (t.lost.1 some))
 
-none_six : (told : Option Answer) (es : List Event) (answer : Answer) → IsTold told es answer → Goes_on answer → told ≡ Some (answers.LinkEnded losses.SixBad) → ⊥
+none_six : (told : Option Answer) (es : List Event) (answer : Answer) → IsTold told es answer → GoesOn answer → told ≡ Some (answers.LinkEnded losses.SixBad) → ⊥
 none_six told es answer t on six = on losses.SixBad (told_once (answers.LinkEnded losses.SixBad) answer (sym six ∙ t.tells))
 
 -- A message is within the limit or it isn't, and so is told.
-within : (limit n : ℕ) → n ≤ limit → nat_lt limit n ≡ false
+pub within : (limit n : ℕ) → n ≤ limit → nat_lt limit n ≡ false
 within limit n h = grind (arith, h)
 
-beyond : (limit n : ℕ) → limit < n → nat_lt limit n ≡ true
+pub beyond : (limit n : ℕ) → limit < n → nat_lt limit n ≡ true
 beyond limit n h = grind (arith, h)
 
 either : (v w : Bool) (a b : Answer) → v ≡ w → (if v then a else b) ≡ (if w then a else b)
 either v w a b e = ap (λ x. if x then a else b) e
 
-put_told : (m : List ℕ) (end : FarEnd) (more : List Received) (x : Ending) → PutAdds m end (told_ending x) more → told_ending x ≡ put_answer m end
+pub put_told : (m : List ℕ) (end : FarEnd) (more : List Received) (x : Ending) → PutAdds m end (told_ending x) more → told_ending x ≡ put_answer m end
 put_told m end more Done h = sym (either (nat_lt end.service.limit (length m)) false answers.Reject answers.Success (within end.service.limit (length m) h.0))
 put_told m end more (Value v) h = absurd h
 put_told m end more (Sap n) h = absurd h
@@ -118,10 +118,10 @@ put_told m end more (Refused refusals.NotFound) h = absurd h
 put_told m end more (Refused refusals.Excess) h = absurd h
 put_told m end more (Refused refusals.NotImplemented) h = absurd h
 
-put_goes_on : (m : List ℕ) (end : FarEnd) → Goes_on (put_answer m end)
+put_goes_on : (m : List ℕ) (end : FarEnd) → GoesOn (put_answer m end)
 put_goes_on m end = by_limit (nat_lt end.service.limit (length m))
   where
-    by_limit : (v : Bool) → Goes_on (if v then answers.Reject else answers.Success)
+    by_limit : (v : Bool) → GoesOn (if v then answers.Reject else answers.Success)
     by_limit true loss e = cc
     by_limit false loss e = cc
 
@@ -153,22 +153,22 @@ module _ (most : ℕ) (key : List ℕ) (end : FarEnd) where
   get_told (Refused refusals.Excess) h = sym (has_value h.1.0 h.0 h.1.1 ∙ either (nat_lt most (length h.1.0)) true answers.Excess (answers.Value h.1.0) (beyond most (length h.1.0) h.1.2))
   get_told (Refused refusals.NotImplemented) h = sym (key_within h.0 ∙ ap (table_answer most key) h.1)
 
-  get_goes_on : Goes_on (get_answer most key end)
+  get_goes_on : GoesOn (get_answer most key end)
   get_goes_on = by_limit (nat_lt end.service.limit (length key))
     where
-      by_size : (v : List ℕ) (w : Bool) → Goes_on (if w then answers.Excess else answers.Value v)
+      by_size : (v : List ℕ) (w : Bool) → GoesOn (if w then answers.Excess else answers.Value v)
       by_size v true loss e = cc
       by_size v false loss e = cc
 
-      by_value : (o : Option (List ℕ)) → Goes_on (value_answer most o)
+      by_value : (o : Option (List ℕ)) → GoesOn (value_answer most o)
       by_value None loss e = cc
       by_value (Some v) loss e = by_size v (nat_lt most (length v)) loss e
 
-      by_table : (os : List Offer) → Goes_on (table_answer most key os)
+      by_table : (os : List Offer) → GoesOn (table_answer most key os)
       by_table [] loss e = cc
       by_table (o ∷ os) loss e = by_value (value_of key (o ∷ os)) loss e
 
-      by_limit : (v : Bool) → Goes_on (if v then answers.Reject else table_answer most key table)
+      by_limit : (v : Bool) → GoesOn (if v then answers.Reject else table_answer most key table)
       by_limit true loss e = cc
       by_limit false loss e = by_table table loss e
 
@@ -182,7 +182,7 @@ lookup_told name end (Refused refusals.Excess) h = absurd h
 lookup_told name end (Refused refusals.NotImplemented) h = absurd h
 
 -- what holds of the far end of a link's peer gives what holds of it
-over_end : (P Q : FarEnd → Type 0) → ((end : FarEnd) → P end → Q end) → (o : Option FarEnd) → OfEnd P o → OfEnd Q o
+pub over_end : (P Q : FarEnd → Type 0) → ((end : FarEnd) → P end → Q end) → (o : Option FarEnd) → OfEnd P o → OfEnd Q o
 over_end P Q h None p = absurd p
 over_end P Q h (Some end) p = h end p
 
@@ -213,7 +213,7 @@ puts_complete s t g e l m step is up =
     over_end (λ end. PutAdds (message_of m) end e.answer law.more) (λ end. (e.answer ≡ put_answer (message_of m) end) ↔ IsUndisturbedOn l g.joins.own (Put m) e.events)
     (λ end adds. (
       λ so.
-      let on : Goes_on e.answer = subst Goes_on (sym so) (put_goes_on (message_of m) end) in
+      let on : GoesOn e.answer = subst GoesOn (sym so) (put_goes_on (message_of m) end) in
       record { lit = none_broken (told_call stands) e.events e.answer law.told on; waits = λ six. none_six (told_call stands) e.events e.answer law.told on (ap told_call six) },
       λ calm.
       let ended : IsEnded e.answer = call_ended stands e.events e.answer law.told calm.lit calm.waits in
@@ -228,7 +228,7 @@ gets_complete s t g e l most key step is up =
     over_end (λ end. GetTells most key end e.answer) (λ end. (e.answer ≡ get_answer most key end) ↔ IsUndisturbedOn l g.joins.own (Get most key) e.events)
     (λ end tells. (
       λ so.
-      let on : Goes_on e.answer = subst Goes_on (sym so) (get_goes_on most key end) in
+      let on : GoesOn e.answer = subst GoesOn (sym so) (get_goes_on most key end) in
       record { lit = none_broken (told_call stands) e.events e.answer law.told on; waits = λ six. none_six (told_call stands) e.events e.answer law.told on (ap told_call six) },
       λ calm.
       let ended : IsEnded e.answer = call_ended stands e.events e.answer law.told calm.lit calm.waits in
@@ -243,7 +243,7 @@ lookups_complete s t g e l name step is up =
     over_end (λ end. LookupTells name end e.answer) (λ end. (e.answer ≡ answers.Sap (found end.bound name)) ↔ IsUndisturbedOn l g.joins.own (Lookup name) e.events)
     (λ end tells. (
       λ so.
-      let on : Goes_on e.answer = λ loss ended. (let clash : answers.Sap (found end.bound name) ≡ answers.LinkEnded loss = sym so ∙ ended in cc) in
+      let on : GoesOn e.answer = λ loss ended. (let clash : answers.Sap (found end.bound name) ≡ answers.LinkEnded loss = sym so ∙ ended in cc) in
       record { lit = none_broken (told_call stands) e.events e.answer law.told on; waits = λ six. none_six (told_call stands) e.events e.answer law.told on (ap told_call six) },
       λ calm.
       let ended : IsEnded e.answer = call_ended stands e.events e.answer law.told calm.lit calm.waits in
@@ -256,7 +256,7 @@ unlinks_complete s t g e l step is up =
     let law : UnlinkLaw s g.joins l e.events e.answer = unlink_law s t g e l step is up in
     let stands : ClosingStanding = stands_closing l g.joins.own e.events in (
       λ so.
-      let on : Goes_on e.answer = λ loss ended. (let clash : answers.Unlinked ≡ answers.LinkEnded loss = sym so ∙ ended in cc) in
+      let on : GoesOn e.answer = λ loss ended. (let clash : answers.Unlinked ≡ answers.LinkEnded loss = sym so ∙ ended in cc) in
       record { lit = none_broken (told_closing stands) e.events e.answer law.told on; waits = λ six. none_six (told_closing stands) e.events e.answer law.told on (ap told_closing six) },
       λ calm. closing_ended stands e.events e.answer law.told calm.lit calm.waits,
     )

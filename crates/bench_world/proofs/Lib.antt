@@ -32,6 +32,7 @@ pub mod QuietHearing
 pub mod OneJournal
 pub mod Shapes
 pub mod Quiet
+pub mod QuietLinks
 pub mod ReadBack
 pub mod Joined
 mod DigitPairs

@@ -128,7 +128,7 @@ quiet_stays s t g e step pass =
     (none, subst (λ (x : State). AllPass x.queue) (sym step.front.after) (left_pass (changed s e.command).queue e.events pass))
 
 -- the events of a command that changes no fate have no noise
-quiet_of : (s t : State) (g : Given) (e : Entry) (c : Command) → LegalStep s g e t → e.command ≡ c → (changed s c).queue ≡ s.queue → AllPass s.queue → noise e.events ≡ 0
+pub quiet_of : (s t : State) (g : Given) (e : Entry) (c : Command) → LegalStep s g e t → e.command ≡ c → (changed s c).queue ≡ s.queue → AllPass s.queue → noise e.events ≡ 0
 quiet_of s t g e c step is same pass =
     let there : (changed s e.command).queue ≡ s.queue = ap (λ k. (changed s k).queue) is ∙ same in
     (quiet_stays s t g e step (subst (λ q. AllPass q) (sym there) pass)).0

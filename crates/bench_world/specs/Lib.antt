@@ -19,6 +19,7 @@ pub mod Quiet
 pub mod Journal
 pub mod Arrivals
 pub mod CompletingLinks
+pub mod QuietLinks
 pub mod QuietHearing
 pub mod Taking
 pub mod SameCommands

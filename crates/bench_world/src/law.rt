@@ -8,6 +8,7 @@ ghost use Rattle.bench_world.specs.LinkLaw.{LinkLaw};
 ghost use Rattle.bench_world.specs.CompletingLinks.{PutsComplete, GetsComplete, LookupsComplete, UnlinksComplete, ValidIsOk};
 ghost use Rattle.bench_world.specs.Quiet.{QuietStays, QuietReads, QuietWrites, QuietFinds};
 ghost use Rattle.bench_world.specs.QuietHearing.{QuietHears, QuietScript};
+ghost use Rattle.bench_world.specs.QuietLinks.{QuietTalks};
 ghost use Rattle.bench_world.specs.ReadBack.{LinesTellEvents, AnswersApart};
 ghost use Rattle.bench_world.specs.Taking.{LinesDecide};
 
@@ -66,6 +67,7 @@ pub fn quiet_air()
     ensures reads { QuietReads }
     ensures writes { QuietWrites }
     ensures finds { QuietFinds }
+    ensures talks { QuietTalks }
     ensures hears { QuietHears }
     ensures script { QuietScript }
 {}

@@ -1,5 +1,6 @@
 use Rattle.bench_world.proofs.Quiet as quiet
 use Rattle.bench_world.proofs.QuietHearing as hearing
+use Rattle.bench_world.proofs.QuietLinks as links
 use Rattle.bench_world.proofs.law.quiet_air.Goals as goal
 
 pub returns-clause-stays : goal.returns-clause-stays
@@ -19,3 +20,6 @@ returns-clause-script c = hearing.quiet_script
 
 pub returns-clause-writes : goal.returns-clause-writes
 returns-clause-writes c = quiet.quiet_writes
+
+pub returns-clause-talks : goal.returns-clause-talks
+returns-clause-talks c = links.quiet_talks
