@@ -33,7 +33,9 @@ pub mod ReadingEnds
 pub mod WritingEnds
 pub mod QuietRats
 pub mod CardReadingNotes
+pub mod Walk
 pub mod QuietWalk
+pub mod Polls
 pub mod CardBytes
 pub mod PlainHeard
 pub mod CardHeard

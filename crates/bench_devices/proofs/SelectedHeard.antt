@@ -40,62 +40,15 @@ use Rattle.bench_devices.proofs.CardHeard.{field_of}
 use Rattle.bench_devices.proofs.Following.{Closes, asks_same, follows_on}
 use Rattle.bench_devices.proofs.PlainHeard.{IsHeeded}
 use Rattle.bench_devices.proofs.QuietPolling.{PollsQuietly, mutely}
-use Rattle.bench_devices.proofs.QuietWalk.{Passing, walk}
+use Rattle.bench_devices.proofs.Polls.{IsFresh, came, Polls, poll_start, poll_turn, poll_lit}
+use Rattle.bench_devices.proofs.QuietWalk.{Passing, left_passing}
 use Rattle.bench_devices.proofs.Searching.{search_closes}
 use Rattle.bench_devices.proofs.SelectingA as a_kind
 use Rattle.bench_devices.proofs.SelectingV as v_kind
 use Rattle.bench_devices.proofs.SelectingV.{v_closes}
 use Rattle.bench_devices.proofs.SelectingPlaces.{Amid, none_or_amid}
 use Rattle.bench_devices.proofs.TagHeard.{TagGoes, TagHeard, tag_heard, begins_heard}
-
--- An enquiry that isn't over, or has just come to its end.
-abbrev IsFresh : {X : Type 0} → Followed X → Type 0
-IsFresh (polls.Asks n) = Unit {0}
-IsFresh (Told r ns) = ns ≡ []
-
-module _ {S X : Type 0} (e : Enquiry S X) where
-  fresh_end : (s : S) (o : Option (Result X PollFault)) → IsFresh (followed e s o [])
-  fresh_end s (Some r) = refl
-  fresh_end s None = tt
-
-  -- by one note more one that isn't over stays fresh
-  fresh_more : (s : S) (o : Option (Result X PollFault)) (hs : List Note) (k : Note) (n : Next) → followed e s o hs ≡ polls.Asks n → IsFresh (followed e s o (hs ++ k ∷ []))
-  fresh_more s (Some r) hs k n q = absurd (let clash : Told r hs ≡ polls.Asks n = q in cc)
-  fresh_more s None [] Lit n q = fresh_end (e.light s) (e.ended (e.light s))
-  fresh_more s None [] (Got h) n q = fresh_end (e.step s h) (e.ended (e.step s h))
-  fresh_more s None [] Lost n q = refl
-  fresh_more s None (Lit ∷ hs) k n q = fresh_more (e.light s) (e.ended (e.light s)) hs k n q
-  fresh_more s None (Got h ∷ hs) k n q = fresh_more (e.step s h) (e.ended (e.step s h)) hs k n q
-  fresh_more s None (Lost ∷ hs) k n q = absurd (let clash : ◌≡◌ {A = Followed X} (Told (Err faults.FieldLost) hs) (polls.Asks n) = q in cc)
-
-  -- what it has told well, it has come to
-  came : (s : S) (o : Option (Result X PollFault)) (hs : List Note) (x : X) → e.ended s ≡ o → followed e s o hs ≡ Told (Ok x) [] → Ok x ≡ answer_of e (progress e s hs)
-  came s (Some r) hs x is q =
-      let same : r ≡ Ok x = cc in
-      let none : hs ≡ [] = cc in
-      subst (λ ks. Ok x ≡ answer_of e (progress e s ks)) (sym none) (sym (ap or_memory is ∙ same))
-  came s None [] x is q = absurd (let clash : ◌≡◌ {A = Followed X} (polls.Asks (e.next s)) (Told (Ok x) []) = q in cc)
-  came s None (Lit ∷ hs) x is q = came (e.light s) (e.ended (e.light s)) hs x refl q
-  came s None (Got h ∷ hs) x is q = came (e.step s h) (e.ended (e.step s h)) hs x refl q
-  came s None (Lost ∷ hs) x is q = absurd (let clash : ◌≡◌ {A = Followed X} (Told (Err faults.FieldLost) hs) (Told (Ok x) []) = q in cc)
-
-  -- From some moment on only this was asked, behind some notes.
-  record Polls (start b : Moment BenchWorld) (hs : List Note) : Type 0 where
-    pub going : Going air (enquiring e) start b hs
-    pub fresh : IsFresh (follows e hs)
-
-  poll_turn : Closes e → (start b c : Moment BenchWorld) (hs : List Note) (f : Signal) (h : Option Heard) (n : Next) → Polls start b hs → follows e hs ≡ polls.Asks n → n ≡ Asks f → TurnsTo air b c f h
-      → Polls start c (hs ++ note h ∷ [])
-  poll_turn closes start b c hs f h n p at due turn = record {
-    going = going_turn air (enquiring e) start b c f h hs p.going (sym (asks_same e closes hs) ∙ ap asks at ∙ due) turn;
-    fresh = fresh_more e.start (e.ended e.start) hs (note h) n at;
-  }
-
-  poll_lit : Closes e → (start b c : Moment BenchWorld) (hs : List Note) (n : Next) → Polls start b hs → follows e hs ≡ polls.Asks n → n ≡ LightUp → c ≡ with_events air b (Reset ∷ []) → Polls start c (hs ++ Lit ∷ [])
-  poll_lit closes start b c hs n p at due reset = record {
-    going = going_reset air (enquiring e) start b c hs p.going (sym (asks_same e closes hs) ∙ ap asks at ∙ due) reset;
-    fresh = fresh_more e.start (e.ended e.start) hs Lit n at;
-  }
+use Rattle.bench_devices.proofs.Walk.{walk}
 
 -- two accounts of the same turns know the same
 same_notes : (next last : List Note → Next) (a b : Moment BenchWorld) (hs ks : List Note) → Going air next a b hs → Going air last a b ks → ks ≡ hs
@@ -106,7 +59,7 @@ same_notes next last a b hs ks g k =
     sym k.known ∙ ap receptions same ∙ g.known
 
 -- A device was selected: it stands somewhere, and nothing that stays of any changed.
-record Selected (id : DeviceId) (a b : Moment BenchWorld) (kind : SeenKind) : Type 0 where
+pub record Selected (id : DeviceId) (a b : Moment BenchWorld) (kind : SeenKind) : Type 0 where
   pub place : ℕ
   pub device : Device
   pub stands : Stands b place device
@@ -137,8 +90,8 @@ at_first id ls some = by_one (none_or_amid id ls)
     by_one (inl none) = absurd (let clash : IsSome {T = Device} None = subst (λ (o : Option Device). IsSome o) none some in cc)
     by_one (inr r) = (length r.before, record { before = r.before; device = r.device; behind = r.behind; split = r.split; at = refl; named = r.named })
 
-selected_a : (id : List ℕ) (a b : Moment BenchWorld) (hs : List Note) (kind : Kind) → IsIdent id → AreTame (map kept a.world.listeners) → AreTidy a.world.listeners
-    → Polls (picking id) a b hs → follows (picking id) hs ≡ Told (Ok kind) [] → Selected (ids.A id) a b (seen_kind kind)
+pub selected_a : (id : List ℕ) (a b : Moment BenchWorld) (hs : List Note) (kind : Kind) → IsIdent id → AreTame (map kept a.world.listeners) → AreTidy a.world.listeners
+    → Polls (picking id) air a b hs → follows (picking id) hs ≡ Told (Ok kind) [] → Selected (ids.A id) a b (seen_kind kind)
 selected_a id a b hs kind ident tame tidy p told =
     let turns : PollsQuietly (picking id) (field_of a) (Ok kind) (field_of b) =
     record { notes = hs; going = p.going; comes = came (picking id) (picking id).start ((picking id).ended (picking id).start) hs kind refl told } in
@@ -163,7 +116,7 @@ five_told id (Got h ∷ ns) k e = absurd (let clash : polls.Asks Over ≡ Told (
 five_told id (Lost ∷ ns) k e = absurd (let clash : ◌≡◌ {A = Followed SeenKind} (Told (Err faults.FieldLost) ns) (Told (Ok k) []) = e in cc)
 
 selected_v : (id : List ℕ) (a mid b : Moment BenchWorld) (hs : List Note) (x : Unit {0}) → length id ≡ 8 → AreTame (map kept a.world.listeners) → mid ≡ with_events air a (Reset ∷ [])
-    → Polls (picking_v id) mid b hs → follows (picking_v id) hs ≡ Told (Ok x) [] → Selected (ids.V id) a b seen.T5
+    → Polls (picking_v id) air mid b hs → follows (picking_v id) hs ≡ Told (Ok x) [] → Selected (ids.V id) a b seen.T5
 selected_v id a mid b hs x eight tame reset p told =
     let turns : PollsQuietly (picking_v id) (field_of mid) (Ok x) (field_of b) =
     record { notes = hs; going = p.going; comes = came (picking_v id) (picking_v id).start ((picking_v id).ended (picking_v id).start) hs x refl told } in
@@ -216,9 +169,9 @@ module _ (asked : List Signal) (a : Moment BenchWorld) (tame : AreTame (map kept
     pub goes : TagGoes asked kind b since
 
   abbrev Polling : DeviceId → Moment BenchWorld → List Note → Type 0
-  Polling (ids.A i) b hs = Polls (picking i) a b hs
+  Polling (ids.A i) b hs = Polls (picking i) air a b hs
   Polling (ids.V i) b hs =
-      ((hs ≡ []) × (b ≡ a)) ⊎ ((mid : Moment BenchWorld) × (ks : List Note) × (mid ≡ with_events air a (Reset ∷ [])) × (hs ≡ Lit ∷ ks) × Polls (picking_v i) mid b ks)
+      ((hs ≡ []) × (b ≡ a)) ⊎ ((mid : Moment BenchWorld) × (ks : List Note) × (mid ≡ with_events air a (Reset ∷ [])) × (hs ≡ Lit ∷ ks) × Polls (picking_v i) air mid b ks)
 
   abbrev Course : DeviceId → Moment BenchWorld → List Note → Type 0
   Course id b hs = Polling id b hs ⊎ Behind id b hs
@@ -260,14 +213,14 @@ module _ (asked : List Signal) (a : Moment BenchWorld) (tame : AreTame (map kept
       }
 
   -- a selection of an NFC-A device that is told
-  enters_a : (i : List ℕ) → IsIdent i → Heed (ids.A i) → (b : Moment BenchWorld) (hs : List Note) (kind : Kind) (ns : List Note) → Polls (picking i) a b hs → follows (picking i) hs ≡ Told (Ok kind) ns → Behind (ids.A i) b hs
+  enters_a : (i : List ℕ) → IsIdent i → Heed (ids.A i) → (b : Moment BenchWorld) (hs : List Note) (kind : Kind) (ns : List Note) → Polls (picking i) air a b hs → follows (picking i) hs ≡ Told (Ok kind) ns → Behind (ids.A i) b hs
   enters_a i ident heed b hs kind ns p at =
       let none : ns ≡ [] = subst IsFresh at p.fresh in
       let told : follows (picking i) hs ≡ Told (Ok kind) [] = at ∙ ap (λ ks. Told (Ok kind) ks) none in
       enters (ids.A i) heed b hs (seen_kind kind) (selected_a i a b hs kind ident tame tidy p told) (λ ms. ap (kind_by seen_kind) (follows_on (picking i) hs ms (Ok kind) told))
 
   enters_v : (i : List ℕ) → length i ≡ 8 → Heed (ids.V i) → (b mid : Moment BenchWorld) (hs ks : List Note) (x : Unit {0}) (ns : List Note) → mid ≡ with_events air a (Reset ∷ []) → hs ≡ Lit ∷ ks
-      → Polls (picking_v i) mid b ks → follows (picking_v i) ks ≡ Told (Ok x) ns → Behind (ids.V i) b hs
+      → Polls (picking_v i) air mid b ks → follows (picking_v i) ks ≡ Told (Ok x) ns → Behind (ids.V i) b hs
   enters_v i eight heed b mid hs ks x ns reset is p at =
       let none : ns ≡ [] = subst IsFresh at p.fresh in
       let told : follows (picking_v i) ks ≡ Told (Ok x) [] = at ∙ ap (λ ks. Told (Ok x) ks) none in
@@ -279,20 +232,20 @@ module _ (asked : List Signal) (a : Moment BenchWorld) (tame : AreTame (map kept
   IsId (ids.A i) = IsIdent i
   IsId (ids.V i) = length i ≡ 8
 
-  poll_turn_a : (i : List ℕ) → IsIdent i → Heed (ids.A i) → (b c : Moment BenchWorld) (hs : List Note) (f : Signal) (h : Option Heard) → Polls (picking i) a b hs → Passing b.queue
+  poll_turn_a : (i : List ℕ) → IsIdent i → Heed (ids.A i) → (b c : Moment BenchWorld) (hs : List Note) (f : Signal) (h : Option Heard) → Polls (picking i) air a b hs → Passing b.queue
       → tag_due (ids.A i) asked hs ≡ Asks f → TurnsTo air b c f h → (p : Followed Kind) → follows (picking i) hs ≡ p → Course (ids.A i) c (hs ++ note h ∷ [])
   poll_turn_a i ident heed b c hs f h x calm due turn (polls.Asks n) at =
-      inl (poll_turn (picking i) (search_closes (device_of i)) a b c hs f h n x at (sym (ap (λ q. then_asks asked (kind_by seen_kind q)) at) ∙ due) turn)
+      inl (poll_turn (picking i) air (search_closes (device_of i)) a b c hs f h n x at (sym (ap (λ q. then_asks asked (kind_by seen_kind q)) at) ∙ due) turn)
   poll_turn_a i ident heed b c hs f h x calm due turn (Told (Ok kind) ns) at = inr (turn_behind (ids.A i) b c hs f h (enters_a i ident heed b hs kind ns x at) calm due turn)
   poll_turn_a i ident heed b c hs f h x calm due turn (Told (Err e) ns) at =
       let over : Over ≡ Asks f = sym (ap (λ q. then_asks asked (kind_by seen_kind q)) at) ∙ due in
       absurd (let clash : Over ≡ Asks f = over in cc)
 
   poll_turn_v : (i : List ℕ) → length i ≡ 8 → Heed (ids.V i) → (b c mid : Moment BenchWorld) (hs ks : List Note) (f : Signal) (h : Option Heard) → mid ≡ with_events air a (Reset ∷ []) → hs ≡ Lit ∷ ks
-      → Polls (picking_v i) mid b ks → Passing b.queue → tag_due (ids.V i) asked hs ≡ Asks f → TurnsTo air b c f h → (p : Followed (Unit {0})) → follows (picking_v i) ks ≡ p → Course (ids.V i) c (hs ++ note h ∷ [])
+      → Polls (picking_v i) air mid b ks → Passing b.queue → tag_due (ids.V i) asked hs ≡ Asks f → TurnsTo air b c f h → (p : Followed (Unit {0})) → follows (picking_v i) ks ≡ p → Course (ids.V i) c (hs ++ note h ∷ [])
   poll_turn_v i eight heed b c mid hs ks f h reset is x calm due turn (polls.Asks n) at =
       let here : n ≡ Asks f = sym (ap (λ q. then_asks asked (kind_by (λ y. seen.T5) q)) at) ∙ sym (ap (tag_due (ids.V i) asked) is) ∙ due in
-      inl (inr (mid, ks ++ note h ∷ [], reset, ap (λ t. t ++ note h ∷ []) is, poll_turn (picking_v i) (v_closes i) mid b c ks f h n x at here turn))
+      inl (inr (mid, ks ++ note h ∷ [], reset, ap (λ t. t ++ note h ∷ []) is, poll_turn (picking_v i) air (v_closes i) mid b c ks f h n x at here turn))
   poll_turn_v i eight heed b c mid hs ks f h reset is x calm due turn (Told (Ok y) ns) at = inr (turn_behind (ids.V i) b c hs f h (enters_v i eight heed b mid hs ks y ns reset is x at) calm due turn)
   poll_turn_v i eight heed b c mid hs ks f h reset is x calm due turn (Told (Err e) ns) at =
       let over : Over ≡ Asks f = sym (ap (λ q. then_asks asked (kind_by (λ y. seen.T5) q)) at) ∙ sym (ap (tag_due (ids.V i) asked) is) ∙ due in
@@ -306,20 +259,20 @@ module _ (asked : List Signal) (a : Moment BenchWorld) (tame : AreTame (map kept
   turns (ids.V i) is heed b c hs f h (inl (inr x)) calm due turn = poll_turn_v i is heed b c x.0 hs x.1 f h x.2 x.3 x.4 calm due turn (follows (picking_v i) x.1) refl
 
   -- a reset
-  poll_lit_a : (i : List ℕ) (b c : Moment BenchWorld) (hs : List Note) → Polls (picking i) a b hs → tag_due (ids.A i) asked hs ≡ LightUp → c ≡ with_events air b (Reset ∷ []) → (p : Followed Kind) → follows (picking i) hs ≡ p
+  poll_lit_a : (i : List ℕ) (b c : Moment BenchWorld) (hs : List Note) → Polls (picking i) air a b hs → tag_due (ids.A i) asked hs ≡ LightUp → c ≡ with_events air b (Reset ∷ []) → (p : Followed Kind) → follows (picking i) hs ≡ p
       → Course (ids.A i) c (hs ++ Lit ∷ [])
   poll_lit_a i b c hs x due reset (polls.Asks n) at =
-      inl (poll_lit (picking i) (search_closes (device_of i)) a b c hs n x at (sym (ap (λ q. then_asks asked (kind_by seen_kind q)) at) ∙ due) reset)
+      inl (poll_lit (picking i) air (search_closes (device_of i)) a b c hs n x at (sym (ap (λ q. then_asks asked (kind_by seen_kind q)) at) ∙ due) reset)
   poll_lit_a i b c hs x due reset (Told (Ok kind) ns) at = absurd (never_lit (seen_kind kind) asked ns (sym (ap (λ q. then_asks asked (kind_by seen_kind q)) at) ∙ due))
   poll_lit_a i b c hs x due reset (Told (Err e) ns) at =
       let over : Over ≡ LightUp = sym (ap (λ q. then_asks asked (kind_by seen_kind q)) at) ∙ due in
       absurd (let clash : Over ≡ LightUp = over in cc)
 
-  poll_lit_v : (i : List ℕ) (b c mid : Moment BenchWorld) (hs ks : List Note) → mid ≡ with_events air a (Reset ∷ []) → hs ≡ Lit ∷ ks → Polls (picking_v i) mid b ks → tag_due (ids.V i) asked hs ≡ LightUp
+  poll_lit_v : (i : List ℕ) (b c mid : Moment BenchWorld) (hs ks : List Note) → mid ≡ with_events air a (Reset ∷ []) → hs ≡ Lit ∷ ks → Polls (picking_v i) air mid b ks → tag_due (ids.V i) asked hs ≡ LightUp
       → c ≡ with_events air b (Reset ∷ []) → (p : Followed (Unit {0})) → follows (picking_v i) ks ≡ p → Course (ids.V i) c (hs ++ Lit ∷ [])
   poll_lit_v i b c mid hs ks start is x due reset (polls.Asks n) at =
       let here : n ≡ LightUp = sym (ap (λ q. then_asks asked (kind_by (λ y. seen.T5) q)) at) ∙ sym (ap (tag_due (ids.V i) asked) is) ∙ due in
-      inl (inr (mid, ks ++ Lit ∷ [], start, ap (λ t. t ++ Lit ∷ []) is, poll_lit (picking_v i) (v_closes i) mid b c ks n x at here reset))
+      inl (inr (mid, ks ++ Lit ∷ [], start, ap (λ t. t ++ Lit ∷ []) is, poll_lit (picking_v i) air (v_closes i) mid b c ks n x at here reset))
   poll_lit_v i b c mid hs ks start is x due reset (Told (Ok y) ns) at =
       absurd (never_lit seen.T5 asked ns (sym (ap (λ q. then_asks asked (kind_by (λ y. seen.T5) q)) at) ∙ sym (ap (tag_due (ids.V i) asked) is) ∙ due))
   poll_lit_v i b c mid hs ks start is x due reset (Told (Err e) ns) at =
@@ -336,12 +289,12 @@ module _ (asked : List Signal) (a : Moment BenchWorld) (tame : AreTame (map kept
         [],
         ap (λ t. with_events air t (Reset ∷ [])) x.1,
         ap (λ t. t ++ Lit ∷ []) x.0,
-        record { going = going_start air (enquiring (picking_v i)) c; fresh = fresh_end (picking_v i) (picking_v i).start ((picking_v i).ended (picking_v i).start) },
+        poll_start (picking_v i) air c,
       ))
   relit (ids.V i) b hs (inl (inr x)) due = poll_lit_v i b (with_events air b (Reset ∷ [])) x.0 hs x.1 x.2 x.3 x.4 due refl (follows (picking_v i) x.1) refl
 
   begins : (id : DeviceId) → Course id a []
-  begins (ids.A i) = inl (record { going = going_start air (enquiring (picking i)) a; fresh = fresh_end (picking i) (picking i).start ((picking i).ended (picking i).start) })
+  begins (ids.A i) = inl (poll_start (picking i) air a)
   begins (ids.V i) = inl (inl (refl, refl))
 
   -- what was told at the end
@@ -367,6 +320,6 @@ module _ (asked : List Signal) (a : Moment BenchWorld) (tame : AreTame (map kept
   pub tag_hears : (id : DeviceId) → IsId id → Heed id → (es : List Event) → Passing a.queue → AreTurns air a.world es → FatesFrom a.queue es → EachDue (tag_due id asked) [] es
       → (k : SeenKind) (behind : List Note) → selecting id (receptions es) ≡ Told (Ok k) behind → AllByRecursion IsAnswered behind
   tag_hears id is heed es calm made fates each k behind told =
-      let end = walk air (tag_due id asked) (Course id) (λ b hs x due. relit id b hs x due) (λ b c hs f h x passes due turn. turns id is heed b c hs f h x passes due turn)
+      let end = walk air Passing left_passing (tag_due id asked) (Course id) (λ b hs x due. relit id b hs x due) (λ b c hs f h x passes due turn. turns id is heed b c hs f h x passes due turn)
       made.moves a [] [] refl (begins id) calm (subst (EachDue (tag_due id asked) []) made.made each) (subst (FatesFrom a.queue) made.made fates) in
       answered id end.0 (receptions es) (subst (Course id end.0) (ap receptions (sym made.made)) end.1) k behind told
