@@ -42,10 +42,10 @@ use Rattle.bench_devices.specs.Polling.{Told}
 use Rattle.bench_world.specs.Answering.{TellsFault, TagEnds, TagTells, TellsFound}
 use Rattle.bench_devices.specs.Answering.{IsNamed, MissedBy, IsGivenUp, HasPollCause, TellsStanding, TellsExchange, TellsCard, TellsBy, AreOthers, InventoryEnds, FindEnds, FindTells}
 
-told_once : (a b : Answer) → ◌≡◌ {A = Option Answer} (Some a) (Some b) → b ≡ a
+pub told_once : (a b : Answer) → ◌≡◌ {A = Option Answer} (Some a) (Some b) → b ≡ a
 told_once a b e = cc
 
-no_lost : (n : ℕ) → n ≡ 0 → 0 < n → ⊥
+pub no_lost : (n : ℕ) → n ≡ 0 → 0 < n → ⊥
 no_lost n e h = omega (arith, e, h)
 
 few_tries : (n : ℕ) → n < tries → tries ≤ n → ⊥
@@ -61,13 +61,13 @@ of_first P id (x ∷ ds) d all e = by_name (pointwise nat_eq (device_id x) id) e
     by_name false q more = more q
 
 module _ (id : DeviceId) (ds : List Device) (d : Device) (placed : device_with (bytes_of id) ds ≡ Some d) (named : IsNamed id d) where
-  missed : (i : DeviceId) (es : List Event) → device_with (bytes_of i) ds ≡ Some d → IsNamed i d → IsQuietOnce i es → MissedBy i ds es → ⊥
+  pub missed : (i : DeviceId) (es : List Event) → device_with (bytes_of i) ds ≡ Some d → IsNamed i d → IsQuietOnce i es → MissedBy i ds es → ⊥
   missed (A x) es p n q (inl none) = of_first (λ e. IsNamed (A x) e → ⊥) x ds d none p n
   missed (A x) es p n q (inr m) = q m.noisy
   missed (V x) es p n q (inl none) = of_first (λ e. IsNamed (V x) e → ⊥) x ds d none p n
   missed (V x) es p n q (inr m) = few_tries (noisy_tries (inventory_of x) es) q m
 
-  given_up : (i : DeviceId) (es : List Event) → IsQuietOnce i es → IsGivenUp i es → ⊥
+  pub given_up : (i : DeviceId) (es : List Event) → IsQuietOnce i es → IsGivenUp i es → ⊥
   given_up (A x) es q g = q g.noisy
   given_up (V x) es q g = g
 

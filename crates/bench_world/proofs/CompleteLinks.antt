@@ -31,15 +31,10 @@ use Rattle.bench_world.specs.CompletingLinks.{put_answer, value_answer, table_an
 use Rattle.bench_world.specs.Legal.{State, Given, LegalStep, AnswerLaw, PutLaw, GetLaw, LookupLaw, UnlinkLaw, end_of}
 use Rattle.bench_world.specs.Links.{OpenLink}
 use Rattle.bench_world.specs.World.{FarEnd}
-
-pub told_once : (a b : Answer) → ◌≡◌ {A = Option Answer} (Some a) (Some b) → b ≡ a
-told_once a b e = cc
+use Rattle.bench_world.proofs.Complete.{told_once, no_lost}
 
 pub none_told : (a : Answer) → ◌≡◌ {A = Option Answer} None (Some a) → ⊥
 none_told a e = cc
-
-no_lost : (n : ℕ) → n ≡ 0 → 0 < n → ⊥
-no_lost n e h = omega (arith, e, h)
 
 none_used : (n : ℕ) → (0 < n → ⊥) → n ≡ 0
 none_used zero none = refl

@@ -33,6 +33,8 @@ pub mod OneJournal
 pub mod Shapes
 pub mod Quiet
 pub mod QuietLinks
+pub mod OpeningKind
+pub mod CompleteLinkings
 pub mod ReadBack
 pub mod Joined
 mod DigitPairs

@@ -118,7 +118,7 @@ begins_so : (id : DeviceId) → asks (selecting id []) ≡ LightUp
 begins_so (A i) = refl
 begins_so (V i) = refl
 
-none_selecting : (id : DeviceId) (es : List Event) → EachDue (λ ns. asks (selecting id ns)) [] es → back_of es ≡ backs.Nothing → (w : World Device) → NoneHands devices w es
+pub none_selecting : (id : DeviceId) (es : List Event) → EachDue (λ ns. asks (selecting id ns)) [] es → back_of es ≡ backs.Nothing → (w : World Device) → NoneHands devices w es
 none_selecting id [] each fresh w = tt
 none_selecting id (Reset ∷ es) each fresh w = ((unlinked_stay devices device_linked devices_link).1 w es (calm_selecting id (Reset ∷ es) each)).none
 none_selecting id (Request f x ∷ es) each fresh w = absurd (let clash : LightUp ≡ Asks f = sym (begins_so id) ∙ each.0 in cc)

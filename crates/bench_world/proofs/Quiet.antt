@@ -7,7 +7,7 @@ use Rattle.nfc_base.specs.declared.event.Event.{Event}
 use Rattle.nfc_base.specs.declared.event.Event.TheVariants.{Reset, Request, Answer as Answers, Clash}
 use Rattle.nfc_base.specs.declared.event.Fate.{Fate}
 use Rattle.nfc_base.specs.declared.event.Fate.TheVariants.{Pass, Damage, Lose, Break}
-use Rattle.air_core.specs.Conversation.{Note, Next, Over, LightUp, AreTurns, EachDue, FatesFrom, first_fate, later_fates, queue_after, receptions}
+use Rattle.air_core.specs.Conversation.{AirModel, Note, Next, Over, LightUp, AreTurns, EachDue, FatesFrom, first_fate, later_fates, queue_after, receptions}
 use Rattle.air_core.proofs.Following.{trace_first}
 use Rattle.nfca_poll.specs.RoundTrace.{rounds, up_to_reset, back_noise}
 use Rattle.nfca_poll.specs.Inventory.{tries, inventory_all, inventory_of}
@@ -109,15 +109,16 @@ up_passes (Answers g x ∷ es) z = let n : noise (up_to_reset es) ≡ 0 = up_pas
 up_passes (Clash g x ∷ es) z = let n : noise (up_to_reset es) ≡ 0 = up_passes es (behind x (noise es) z) in omega (arith, z, n)
 
 -- A command that polls begins with a reset, and its first round isn't disturbed.
-first_round : (w : BenchWorld) (next : List Note → Next) (es : List Event) → AreTurns air w es → EachDue next [] es → next [] ≡ LightUp → next (receptions es) ≡ Over → noise es ≡ 0 → AreDisturbed (rounds es) → ⊥
-first_round w next [] turns each lit over z d = absurd (let clash : LightUp ≡ Over = sym lit ∙ over in cc)
-first_round w next (Reset ∷ es) turns each lit over z d =
-    let none : noisy_turns is_call (up_to_reset es) ≡ 0 = no_noisy is_call (up_to_reset es) (up_passes es z) in
-    let some : 0 < noisy_turns is_call (up_to_reset es) = d.0 in
-    omega (arith, none, some)
-first_round w next (Request g x ∷ es) turns each lit over z d = absurd (let clash : LightUp ≡ _ = sym lit ∙ each.0 in cc)
-first_round w next (Answers g x ∷ es) turns each lit over z d = absurd (let clash : back_of (Answers g x ∷ es) ≡ backs.Nothing = ap back_of turns.made ∙ trace_first air w turns.moves in cc)
-first_round w next (Clash g x ∷ es) turns each lit over z d = absurd (let clash : back_of (Clash g x ∷ es) ≡ backs.Nothing = ap back_of turns.made ∙ trace_first air w turns.moves in cc)
+module _ {W : Type 0} (m : AirModel W) where
+  pub first_round : (w : W) (next : List Note → Next) (es : List Event) → AreTurns m w es → EachDue next [] es → next [] ≡ LightUp → next (receptions es) ≡ Over → noise es ≡ 0 → AreDisturbed (rounds es) → ⊥
+  first_round w next [] turns each lit over z d = absurd (let clash : LightUp ≡ Over = sym lit ∙ over in cc)
+  first_round w next (Reset ∷ es) turns each lit over z d =
+      let none : noisy_turns is_call (up_to_reset es) ≡ 0 = no_noisy is_call (up_to_reset es) (up_passes es z) in
+      let some : 0 < noisy_turns is_call (up_to_reset es) = d.0 in
+      omega (arith, none, some)
+  first_round w next (Request g x ∷ es) turns each lit over z d = absurd (let clash : LightUp ≡ _ = sym lit ∙ each.0 in cc)
+  first_round w next (Answers g x ∷ es) turns each lit over z d = absurd (let clash : back_of (Answers g x ∷ es) ≡ backs.Nothing = ap back_of turns.made ∙ trace_first m w turns.moves in cc)
+  first_round w next (Clash g x ∷ es) turns each lit over z d = absurd (let clash : back_of (Clash g x ∷ es) ≡ backs.Nothing = ap back_of turns.made ∙ trace_first m w turns.moves in cc)
 
 few_noisy : (n : ℕ) → n ≡ 0 → n < tries
 few_noisy n z = omega (arith, z)
@@ -137,7 +138,7 @@ quiet_of s t g e c step is same pass =
 round_of : (s t : State) (g : Given) (e : Entry) (c : Command) → LegalStep s g e t → e.command ≡ c → (changed s c).world.field ≡ s.world.field → (TakesNumbers c → ⊥) → due s g c [] ≡ LightUp → noise e.events ≡ 0 → AreDisturbed (rounds e.events) → ⊥
 round_of s t g e c step is same quiet lit none =
     let there : (changed s e.command).world.field ≡ s.world.field = ap (λ k. (changed s k).world.field) is ∙ same in
-    first_round s.world.field (due s g c) e.events (subst (λ (w : BenchWorld). AreTurns air w e.events) there (on_field s t g e.command e.events (λ h. quiet (subst TakesNumbers is h)) step.front).turns) (subst (λ k. EachDue (due s g k) [] e.events) is step.front.each) lit
+    first_round air s.world.field (due s g c) e.events (subst (λ (w : BenchWorld). AreTurns air w e.events) there (on_field s t g e.command e.events (λ h. quiet (subst TakesNumbers is h)) step.front).turns) (subst (λ k. EachDue (due s g k) [] e.events) is step.front.each) lit
     (ap (λ k. due s g k (receptions e.events)) (sym is) ∙ step.over) none
 
 pub quiet_finds : QuietFinds

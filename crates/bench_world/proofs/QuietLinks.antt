@@ -26,7 +26,8 @@ use Rattle.bench_world.specs.Links.{OpenLink}
 use Rattle.bench_world.specs.Quiet.{AllPass}
 use Rattle.bench_world.specs.QuietLinks.{gained, IsPut, StaysOpen, IsQuietPut, IsQuietGet, IsQuietLookup, IsQuietUnlink, QuietTalks}
 use Rattle.bench_world.specs.World.{FarEnd, WholeWorld, stable}
-use Rattle.bench_world.proofs.CompleteLinks.{GoesOn, IsEnded, call_ended, put_told, put_law, get_law, lookup_law, unlink_law, over_end, within, beyond, told_once, none_told, gets_complete, lookups_complete, unlinks_complete}
+use Rattle.bench_world.proofs.Complete.{told_once}
+use Rattle.bench_world.proofs.CompleteLinks.{GoesOn, IsEnded, call_ended, put_told, put_law, get_law, lookup_law, unlink_law, over_end, within, beyond, none_told, gets_complete, lookups_complete, unlinks_complete}
 use Rattle.bench_world.proofs.Quiet.{no_breaks, quiet_of}
 
 -- Without noise no wait has six bad receptions.

@@ -251,6 +251,14 @@ ready_step s t g line e sp step r =
     let there : IsReady now = ready_too w.field.listeners now (all_stayed w.field.listeners now stays.stay) (stays.tidy here.tidy) here in
     subst (λ (x : State). IsReady x.world.field.listeners) (sym step.front.after) there
 
+-- So it is wherever entries lead.
+pub ready_behind : (ls : List NumberedLine) (s t : State) (gs : List Given) (js : List Entry) → IsReady s.world.field.listeners → AreEntriesOf ls js → EachLegal s gs js t → IsReady t.world.field.listeners
+ready_behind ls s t [] [] r of steps = subst (λ (x : State). IsReady x.world.field.listeners) (sym steps) r
+ready_behind ls s t (g ∷ gs) [] r of steps = absurd steps
+ready_behind ls s t [] (e ∷ js) r of steps = absurd steps
+ready_behind [] s t (g ∷ gs) (e ∷ js) r of steps = absurd of
+ready_behind (l ∷ ls) s t (g ∷ gs) (e ∷ js) r of steps = ready_behind ls steps.0 t gs js (ready_step s steps.0 g l.text e of.1 steps.1 r) of.2 steps.2
+
 -- What holds at first, and is kept by each step of a line that is so, holds all along a journal.
 pub along : (I : State → Type 0) (L : List ℕ → Type 0) (P : State → Entry → Type 0)
     → ((s t : State) (g : Given) (line : List ℕ) (e : Entry) → I s → L line → Spells line e.command → LegalStep s g e t → P s e × I t)

@@ -6,9 +6,10 @@ ghost use Rattle.bench_world.specs.Behind.{WrittenIsRead, OneOfThreeIsRead};
 ghost use Rattle.bench_world.specs.Completing.{ReadsComplete, WritesComplete, ValidIsWritten, FindsComplete};
 ghost use Rattle.bench_world.specs.LinkLaw.{LinkLaw};
 ghost use Rattle.bench_world.specs.CompletingLinks.{PutsComplete, GetsComplete, LookupsComplete, UnlinksComplete, ValidIsOk};
+ghost use Rattle.bench_world.specs.CompletingLinks.{PutsComplete, GetsComplete, LookupsComplete, UnlinksComplete, ValidIsOk, LinkingsComplete};
 ghost use Rattle.bench_world.specs.Quiet.{QuietStays, QuietReads, QuietWrites, QuietFinds};
 ghost use Rattle.bench_world.specs.QuietHearing.{QuietHears, QuietScript};
-ghost use Rattle.bench_world.specs.QuietLinks.{QuietTalks};
+ghost use Rattle.bench_world.specs.QuietLinks.{QuietTalks, QuietLinkings};
 ghost use Rattle.bench_world.specs.ReadBack.{LinesTellEvents, AnswersApart};
 ghost use Rattle.bench_world.specs.Taking.{LinesDecide};
 
@@ -38,6 +39,7 @@ pub fn links_complete()
     ensures lookups { LookupsComplete }
     ensures unlinks { UnlinksComplete }
     ensures valid { ValidIsOk }
+    ensures linkings { LinkingsComplete }
 {}
 
 /// Behind a write, with no command between that touches its tag, a read that tells a message tells the new one where the
@@ -68,6 +70,7 @@ pub fn quiet_air()
     ensures writes { QuietWrites }
     ensures finds { QuietFinds }
     ensures talks { QuietTalks }
+    ensures linkings { QuietLinkings }
     ensures hears { QuietHears }
     ensures script { QuietScript }
 {}

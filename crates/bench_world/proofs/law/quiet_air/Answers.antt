@@ -1,6 +1,7 @@
 use Rattle.bench_world.proofs.Quiet as quiet
 use Rattle.bench_world.proofs.QuietHearing as hearing
 use Rattle.bench_world.proofs.QuietLinks as links
+use Rattle.bench_world.proofs.CompleteLinkings.{quiet_linkings}
 use Rattle.bench_world.proofs.law.quiet_air.Goals as goal
 
 pub returns-clause-stays : goal.returns-clause-stays
@@ -23,3 +24,6 @@ returns-clause-writes c = quiet.quiet_writes
 
 pub returns-clause-talks : goal.returns-clause-talks
 returns-clause-talks c = links.quiet_talks
+
+pub returns-clause-linkings : goal.returns-clause-linkings
+returns-clause-linkings c = quiet_linkings
