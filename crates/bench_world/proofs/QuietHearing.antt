@@ -37,9 +37,11 @@ use Rattle.bench_world.specs.Legal.{State, Given, LegalStep, IsAskedBy, changed,
 use Rattle.bench_world.specs.Quiet.{AllPass}
 use Rattle.bench_world.specs.QuietHearing.{AllAlong, tag_of, AnswersAll, IsWellHeard, IsHeardIfQuiet, IsQuietLine, IsQuietEntry, QuietHears, QuietScript}
 use Rattle.bench_world.proofs.Complete.{of_first}
+use Rattle.bench_world.proofs.CompleteLinkings.{links_quietly}
 use Rattle.bench_world.proofs.Fronts.{on_field}
 use Rattle.bench_world.proofs.Placing.{IsWith, is_with, with_sound}
 use Rattle.bench_world.proofs.Quiet.{quiet_stays, quiet_reads, quiet_writes, quiet_finds}
+use Rattle.bench_world.proofs.QuietLinks.{quiet_talks}
 use Rattle.bench_world.proofs.Reached.{IsReadable, IsReady, message_bytes, ready_step, along, asking_all, first_ready}
 
 -- Without noise nothing that is heard is damaged, and no field is lost.
@@ -186,7 +188,7 @@ passes_still s line (Get most key) h q sp = h
 passes_still s line (Lookup name) h q sp = h
 passes_still s line Unlink h q sp = h
 
-quiet_entry : (s t : State) (g : Given) (line : List ℕ) (e : Entry) → IsCalm s → IsQuietLine line → Spells line e.command → LegalStep s g e t → IsQuietEntry s e × IsCalm t
+quiet_entry : (s t : State) (g : Given) (line : List ℕ) (e : Entry) → IsCalm s → IsQuietLine line → Spells line e.command → LegalStep s g e t → IsQuietEntry s e t × IsCalm t
 quiet_entry s t g line e calm q sp step =
     let pass : AllPass (changed s e.command).queue = passes_still s line e.command calm.queue q sp in
     let on = quiet_stays s t g e step pass in (
@@ -196,6 +198,8 @@ quiet_entry s t g line e calm q sp step =
         reads = λ id d r. quiet_reads s t g e id d step r.command r.placed r.named calm.queue;
         writes = λ id m d w. quiet_writes s t g e id m d step w.command w.placed w.named calm.queue;
         finds = λ is. quiet_finds s t g e step is calm.queue;
+        links = links_quietly s t g e calm.ready step calm.queue;
+        talks = quiet_talks s t g e step calm.queue;
       },
       record { ready = ready_step s t g line e sp step calm.ready; queue = on.1 },
     )

@@ -260,15 +260,15 @@ ready_behind [] s t (g ∷ gs) (e ∷ js) r of steps = absurd of
 ready_behind (l ∷ ls) s t (g ∷ gs) (e ∷ js) r of steps = ready_behind ls steps.0 t gs js (ready_step s steps.0 g l.text e of.1 steps.1 r) of.2 steps.2
 
 -- What holds at first, and is kept by each step of a line that is so, holds all along a journal.
-pub along : (I : State → Type 0) (L : List ℕ → Type 0) (P : State → Entry → Type 0)
-    → ((s t : State) (g : Given) (line : List ℕ) (e : Entry) → I s → L line → Spells line e.command → LegalStep s g e t → P s e × I t)
+pub along : (I : State → Type 0) (L : List ℕ → Type 0) (P : State → Entry → State → Type 0)
+    → ((s t : State) (g : Given) (line : List ℕ) (e : Entry) → I s → L line → Spells line e.command → LegalStep s g e t → P s e t × I t)
     → (ls : List NumberedLine) (s t : State) (gs : List Given) (js : List Entry) → I s → AllByRecursion (λ (l : NumberedLine). L l.text) ls → AreEntriesOf ls js → EachLegal s gs js t → AllAlong P s (map (λ (g : Given). g.joins) gs) js
 along I L P step ls s t gs [] i all of steps = tt
 along I L P step [] s t gs (e ∷ js) i all of steps = absurd of
 along I L P step (l ∷ ls) s t [] (e ∷ js) i all of steps = absurd steps
 along I L P step (l ∷ ls) s t (g ∷ gs) (e ∷ js) i all of steps =
     let one = step s steps.0 g l.text e i all.0 of.1 steps.1 in
-    (one.0, subst (λ x. AllAlong P x (map (λ (h : Given). h.joins) gs) js) steps.1.front.after (along I L P step ls steps.0 t gs js one.1 all.1 of.2 steps.2))
+    subst (λ x. P s e x × AllAlong P x (map (λ (h : Given). h.joins) gs) js) steps.1.front.after (one.0, along I L P step ls steps.0 t gs js one.1 all.1 of.2 steps.2)
 
 -- what holds of each line holds of each that asks for something
 pub asking_all : (L : List ℕ → Type 0) (n : ℕ) (lines : List (List ℕ)) → AllByRecursion L lines → AllByRecursion (λ (l : NumberedLine). L l.text) (asking_lines n lines)

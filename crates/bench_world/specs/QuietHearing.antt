@@ -22,14 +22,16 @@ use Rattle.bench_world.specs.Completing.{whole_field}
 use Rattle.bench_world.specs.Journal.{LeadsTo}
 use Rattle.bench_world.specs.Legal.{State, Joins, changed, state_after, first_state}
 use Rattle.bench_world.specs.Quiet.{AllPass}
+use Rattle.bench_world.specs.QuietLinks.{LinksQuietly, TalksQuietly}
 use Rattle.bench_world.specs.Reading.{TellsOf}
 use Rattle.bench_world.specs.Writing.{TellsWrite}
 
--- something holds of each entry, and of the state that the entries before it lead to, by these numbers of PDUs
-abbrev pub AllAlong : (State → Entry → Type 0) → State → List Joins → List Entry → Type 0
+-- something holds of each entry, of the state that the entries before it lead to, and of the one that it leads to, by these numbers of PDUs
+abbrev pub AllAlong : (State → Entry → State → Type 0) → State → List Joins → List Entry → Type 0
 AllAlong P s numbers [] = Unit {0}
 AllAlong P s [] (e ∷ es) = ⊥
-AllAlong P s (n ∷ ns) (e ∷ es) = P s e × AllAlong P (state_after s n e.command e.events (Some e.answer)) ns es
+AllAlong P s (n ∷ ns) (e ∷ es) =
+    let t = state_after s n e.command e.events (Some e.answer) in P s e t × AllAlong P t ns es
 
 -- the tag that a command selects and then asks, if it does
 abbrev pub tag_of : Command → Option DeviceId
@@ -49,8 +51,8 @@ pub record IsWellHeard (e : Entry) : Type 0 where
   pub unharmed : AllByRecursion IsUnharmed (receptions e.events)
   pub answered : (id : DeviceId) → tag_of e.command ≡ Some id → AnswersAll id e
 
-abbrev pub IsHeardIfQuiet : State → Entry → Type 0
-IsHeardIfQuiet s e = AllPass (changed s e.command).queue → IsWellHeard e
+abbrev pub IsHeardIfQuiet : State → Entry → State → Type 0
+IsHeardIfQuiet s e t = AllPass (changed s e.command).queue → IsWellHeard e
 
 -- Each entry of a script's journal is heard so, from which on no fate is left but Pass.
 abbrev pub QuietHears : Type 0
@@ -75,13 +77,15 @@ pub record WritesPlaced (s : State) (e : Entry) (id : DeviceId) (m : Msg) (d : D
   pub named : IsNamed id d
 
 -- An entry of a script without noise: everything passed; a read of a placed tag tells what its store holds, a write what it comes
--- to, and a search lists the whole field.
-pub record IsQuietEntry (s : State) (e : Entry) : Type 0 where
+-- to, and a search lists the whole field; a placed peer is linked, and each command on the open link is answered as the peer answers it.
+pub record IsQuietEntry (s : State) (e : Entry) (t : State) : Type 0 where
   pub quiet : noise e.events ≡ 0
   pub hears : IsWellHeard e
   pub reads : (id : DeviceId) (d : Device) → ReadsPlaced s e id d → TellsOf d e.answer
   pub writes : (id : DeviceId) (m : Msg) (d : Device) → WritesPlaced s e id m d → TellsWrite (message_of m) d e.answer
   pub finds : e.command ≡ Find → e.answer ≡ whole_field s.world.field.listeners
+  pub links : LinksQuietly s e
+  pub talks : TalksQuietly s e t
 
 -- Where no line has another fate than Pass, each entry is one.
 abbrev pub QuietScript : Type 0
