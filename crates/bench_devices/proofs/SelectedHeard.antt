@@ -1,5 +1,5 @@
 -- A command that selects a tag and asks commands of it, where all passes: behind the selection each note is a whole answer.
-use Rattle.std.proofs.Common.{◌≡◌, ◌⊎◌, inl, inr, ℕ, List, [], ◌∷◌, ◌++◌, length, map, Option, Some, None, IsSome, Result, Ok, Err, refl, sym, ◌∙◌, ap, subst, append_assoc, append-nil}
+use Rattle.std.proofs.Common.{◌≡◌, ◌⊎◌, inl, inr, ℕ, List, [], ◌∷◌, ◌++◌, length, map, Option, None, IsSome, Result, Ok, Err, refl, sym, ◌∙◌, ap, subst, append_assoc, append-nil}
 use Rattle.std.specs.List.{AllByRecursion}
 use Rattle.std.proofs.lemmas.List.{append_cancel_left, map-append}
 use Rattle.nfc_base.specs.declared.event.Event.{Event}
@@ -8,13 +8,12 @@ use Rattle.nfc_base.specs.declared.event.Heard.{Heard}
 use Rattle.nfc_base.specs.declared.event.Heard.TheVariants.{Whole}
 use Rattle.nfc_base.specs.Signal.{Signal}
 use Rattle.air_core.specs.Conversation.{Note, Lit, Got, Lost, note, Next, Over, LightUp, Asks, Moment, Going, TurnsTo, AreTurns, EachDue, FatesFrom, receptions, with_events}
-use Rattle.air_core.specs.Turning.{going_start, going_turn, going_reset}
 use Rattle.air_core.specs.Waits.{Standing, Asking, Broken, Astray, stand, due_at}
 use Rattle.isodep_link.specs.Asking as exchange
 use Rattle.nfca_poll.specs.declared.kind.Kind.{Kind}
 use Rattle.nfca_poll.specs.declared.fault.PollFault.{PollFault}
 use Rattle.nfca_poll.specs.declared.fault.PollFault.TheVariants as faults
-use Rattle.nfca_poll.specs.Enquiry.{Enquiry, progress, enquiring, answer_of, or_memory, Enquires}
+use Rattle.nfca_poll.specs.Enquiry.{enquiring, Enquires}
 use Rattle.nfca_poll.specs.Ident.{IsIdent}
 use Rattle.nfca_poll.specs.Inventory.{picking_v}
 use Rattle.nfca_poll.specs.Rounds.{device_of, picking}
@@ -37,7 +36,7 @@ use Rattle.bench_devices.specs.Polling as polls
 use Rattle.bench_devices.specs.Polling.{Followed, Told, followed, follows, kind_by, seen_kind, selecting, asks}
 use Rattle.bench_devices.specs.TagAsking.{then_asks, tag_due}
 use Rattle.bench_devices.proofs.CardHeard.{field_of}
-use Rattle.bench_devices.proofs.Following.{Closes, asks_same, follows_on}
+use Rattle.bench_devices.proofs.Following.{follows_on}
 use Rattle.bench_devices.proofs.PlainHeard.{IsHeeded}
 use Rattle.bench_devices.proofs.QuietPolling.{PollsQuietly, mutely}
 use Rattle.bench_devices.proofs.Polls.{IsFresh, came, Polls, poll_start, poll_turn, poll_lit}
