@@ -1,5 +1,5 @@
 -- What opening a link comes to: a placed peer is linked, and a placed tag tells that it has no link as peers do, where little noise is.
-use Rattle.std.proofs.Common.{◌≡◌, ◌⊎◌, inl, inr, ℕ, ◌+◌, ◌<◌, List, [], ◌∷◌, length, Bool, true, false, if◌then◌else◌, Option, Some, Result, Ok, Err, refl, sym, ◌∙◌, ap, subst, arith}
+use Rattle.std.proofs.Common.{◌≡◌, inl, inr, ℕ, ◌+◌, ◌<◌, List, [], ◌∷◌, length, Bool, true, false, if◌then◌else◌, Some, Result, Ok, Err, refl, sym, ◌∙◌, ap, subst, arith}
 use Rattle.nfc_base.specs.Signal.{Signal}
 use Rattle.nfc_base.specs.Trace.{noise, breaks}
 use Rattle.nfc_base.specs.declared.event.Event.{Event}
@@ -9,7 +9,6 @@ use Rattle.air_core.specs.Waits.{Standing, Asking, Broken, Astray, stand}
 use Rattle.nfca_poll.specs.declared.fault.PollFault.{PollFault}
 use Rattle.nfca_poll.specs.declared.fault.PollFault.TheVariants as faults
 use Rattle.nfca_poll.specs.Ident.{IsIdent}
-use Rattle.nfca_poll.specs.RoundTrace.{rounds}
 use Rattle.dep_link.specs.Activating.{atr_frame}
 use Rattle.bench_script.specs.declared.command.Command.{Command}
 use Rattle.bench_script.specs.declared.command.Command.TheVariants.{Link}
@@ -21,7 +20,6 @@ use Rattle.bench_devices.specs.declared.polling.SeenKind.TheVariants as seen
 use Rattle.bench_devices.specs.Answering.{IsNamed, HasPollCause, TellsStanding}
 use Rattle.bench_devices.specs.Device.{seen_of, is_tag}
 use Rattle.bench_devices.specs.Keeping.{kept, IsSound}
-use Rattle.bench_devices.specs.Noise.{AreDisturbed}
 use Rattle.bench_devices.specs.Placed.{device_with}
 use Rattle.bench_devices.specs.Polling.{Told, selecting}
 use Rattle.bench_world.specs.declared.entry.Answer.{Answer}

@@ -1,21 +1,18 @@
 -- What commands on the up link come to: each is answered as its peer answers it, exactly where no Break was used and no wait had six bad
 -- receptions.
-use Rattle.std.proofs.Common.{◌≡◌, ◌↔◌, ◌⊎◌, inl, inr, ℕ, zero, suc, ◌+◌, ◌<◌, ◌≤◌, nat_lt, List, [], ◌∷◌, length, Bool, true, false, if◌then◌else◌, Option, Some, None, refl, sym, ◌∙◌, ap, subst, arith}
-use Rattle.std.proofs.lemmas.Bool.{cases_lt}
+use Rattle.std.proofs.Common.{◌≡◌, ◌↔◌, ℕ, zero, suc, ◌<◌, ◌≤◌, nat_lt, List, [], ◌∷◌, length, Bool, true, false, if◌then◌else◌, Option, Some, None, refl, sym, ◌∙◌, ap, subst, arith}
 use Rattle.nfc_base.specs.Trace.{breaks}
 use Rattle.nfc_base.specs.declared.carrier.EndCause.TheVariants.{FieldLost, SixBad, Protocol, Memory}
 use Rattle.nfc_base.specs.declared.event.Event.{Event}
 use Rattle.llcp_link.specs.Names.{found}
-use Rattle.snep_core.specs.declared.fault.SnepFault.TheVariants as faults
 use Rattle.snep_core.specs.declared.job.Refusal.TheVariants as refusals
-use Rattle.snep_core.specs.Accord.{Refuses}
 use Rattle.snep_core.specs.declared.job.Ending.{Ending}
 use Rattle.snep_core.specs.declared.job.Ending.TheVariants.{Done, Value, Sap, Refused}
 use Rattle.snep_core.specs.declared.job.Job.{Job}
 use Rattle.snep_core.specs.declared.job.Job.TheVariants.{Begins, Waits, Sends, Asks, Collects, Looks, Closes, Over}
 use Rattle.snep_core.specs.Server.{Received}
 use Rattle.snep_core.specs.Session.{Offer, value_of}
-use Rattle.snep_core.specs.Talk.{OnSap, Step, Goes, Ends, GivesUp, Puts, Gets, Finds}
+use Rattle.snep_core.specs.Talk.{Step, Goes, Ends, GivesUp, Puts, Gets, Finds}
 use Rattle.link_calls.specs.CallDue.{CallStanding, Carries, Comes, BrokenBy, Strays}
 use Rattle.link_calls.specs.ClosingDue.{ClosingStanding, Calls, Releasing, Released}
 use Rattle.bench_script.specs.declared.command.Command.{Command}
@@ -27,7 +24,7 @@ use Rattle.bench_world.specs.declared.entry.Entry.{Entry}
 use Rattle.bench_world.specs.declared.entry.Loss.{Loss}
 use Rattle.bench_world.specs.declared.entry.Loss.TheVariants as losses
 use Rattle.bench_world.specs.Calls.{IfLinked, IsTold, OfEnd, PutAdds, GetTells, LookupTells, told_ending, told_job, told_step, told_call, told_closing, stands_on, stands_closing}
-use Rattle.bench_world.specs.CompletingLinks.{put_answer, value_answer, table_answer, get_answer, HadSixBadOn, IsUndisturbedOn, PutsComplete, GetsComplete, LookupsComplete, UnlinksComplete, IsValid, IsOk, ValidIsOk}
+use Rattle.bench_world.specs.CompletingLinks.{put_answer, value_answer, table_answer, get_answer, IsUndisturbedOn, PutsComplete, GetsComplete, LookupsComplete, UnlinksComplete, IsValid, IsOk, ValidIsOk}
 use Rattle.bench_world.specs.Legal.{State, Given, LegalStep, AnswerLaw, PutLaw, GetLaw, LookupLaw, UnlinkLaw, end_of}
 use Rattle.bench_world.specs.Links.{OpenLink}
 use Rattle.bench_world.specs.World.{FarEnd}
@@ -208,11 +205,11 @@ puts_complete s t g e l m step is up =
     over_end (λ end. PutAdds (message_of m) end e.answer law.more) (λ end. (e.answer ≡ put_answer (message_of m) end) ↔ IsUndisturbedOn l g.joins.own (Put m) e.events)
     (λ end adds. (
       λ so.
-      let on : GoesOn e.answer = subst GoesOn (sym so) (put_goes_on (message_of m) end) in
-      record { lit = none_broken (told_call stands) e.events e.answer law.told on; waits = λ six. none_six (told_call stands) e.events e.answer law.told on (ap told_call six) },
+          let on : GoesOn e.answer = subst GoesOn (sym so) (put_goes_on (message_of m) end) in
+          record { lit = none_broken (told_call stands) e.events e.answer law.told on; waits = λ six. none_six (told_call stands) e.events e.answer law.told on (ap told_call six) },
       λ calm.
-      let ended : IsEnded e.answer = call_ended stands e.events e.answer law.told calm.lit calm.waits in
-      ended.told ∙ put_told (message_of m) end law.more ended.ending (subst (λ a. PutAdds (message_of m) end a law.more) ended.told adds),
+          let ended : IsEnded e.answer = call_ended stands e.events e.answer law.told calm.lit calm.waits in
+          ended.told ∙ put_told (message_of m) end law.more ended.ending (subst (λ a. PutAdds (message_of m) end a law.more) ended.told adds),
     ))
     (end_of s l) law.adds
 
@@ -223,11 +220,11 @@ gets_complete s t g e l most key step is up =
     over_end (λ end. GetTells most key end e.answer) (λ end. (e.answer ≡ get_answer most key end) ↔ IsUndisturbedOn l g.joins.own (Get most key) e.events)
     (λ end tells. (
       λ so.
-      let on : GoesOn e.answer = subst GoesOn (sym so) (get_goes_on most key end) in
-      record { lit = none_broken (told_call stands) e.events e.answer law.told on; waits = λ six. none_six (told_call stands) e.events e.answer law.told on (ap told_call six) },
+          let on : GoesOn e.answer = subst GoesOn (sym so) (get_goes_on most key end) in
+          record { lit = none_broken (told_call stands) e.events e.answer law.told on; waits = λ six. none_six (told_call stands) e.events e.answer law.told on (ap told_call six) },
       λ calm.
-      let ended : IsEnded e.answer = call_ended stands e.events e.answer law.told calm.lit calm.waits in
-      ended.told ∙ get_told most key end ended.ending (subst (GetTells most key end) ended.told tells),
+          let ended : IsEnded e.answer = call_ended stands e.events e.answer law.told calm.lit calm.waits in
+          ended.told ∙ get_told most key end ended.ending (subst (GetTells most key end) ended.told tells),
     ))
     (end_of s l) law.tells
 
@@ -238,11 +235,11 @@ lookups_complete s t g e l name step is up =
     over_end (λ end. LookupTells name end e.answer) (λ end. (e.answer ≡ answers.Sap (found end.bound name)) ↔ IsUndisturbedOn l g.joins.own (Lookup name) e.events)
     (λ end tells. (
       λ so.
-      let on : GoesOn e.answer = λ loss ended. (let clash : answers.Sap (found end.bound name) ≡ answers.LinkEnded loss = sym so ∙ ended in cc) in
-      record { lit = none_broken (told_call stands) e.events e.answer law.told on; waits = λ six. none_six (told_call stands) e.events e.answer law.told on (ap told_call six) },
+          let on : GoesOn e.answer = λ loss ended. (let clash : answers.Sap (found end.bound name) ≡ answers.LinkEnded loss = sym so ∙ ended in cc) in
+          record { lit = none_broken (told_call stands) e.events e.answer law.told on; waits = λ six. none_six (told_call stands) e.events e.answer law.told on (ap told_call six) },
       λ calm.
-      let ended : IsEnded e.answer = call_ended stands e.events e.answer law.told calm.lit calm.waits in
-      ended.told ∙ lookup_told name end ended.ending (subst (LookupTells name end) ended.told tells),
+          let ended : IsEnded e.answer = call_ended stands e.events e.answer law.told calm.lit calm.waits in
+          ended.told ∙ lookup_told name end ended.ending (subst (LookupTells name end) ended.told tells),
     ))
     (end_of s l) law.tells
 
@@ -251,8 +248,8 @@ unlinks_complete s t g e l step is up =
     let law : UnlinkLaw s g.joins l e.events e.answer = unlink_law s t g e l step is up in
     let stands : ClosingStanding = stands_closing l g.joins.own e.events in (
       λ so.
-      let on : GoesOn e.answer = λ loss ended. (let clash : answers.Unlinked ≡ answers.LinkEnded loss = sym so ∙ ended in cc) in
-      record { lit = none_broken (told_closing stands) e.events e.answer law.told on; waits = λ six. none_six (told_closing stands) e.events e.answer law.told on (ap told_closing six) },
+          let on : GoesOn e.answer = λ loss ended. (let clash : answers.Unlinked ≡ answers.LinkEnded loss = sym so ∙ ended in cc) in
+          record { lit = none_broken (told_closing stands) e.events e.answer law.told on; waits = λ six. none_six (told_closing stands) e.events e.answer law.told on (ap told_closing six) },
       λ calm. closing_ended stands e.events e.answer law.told calm.lit calm.waits,
     )
 

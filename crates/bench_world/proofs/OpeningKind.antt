@@ -1,17 +1,15 @@
 -- Where a link is opened, whatever is lost: the device that is selected is the placed one with the identifier, so it is seen to be what it is.
-use Rattle.std.proofs.Common.{◌≡◌, ◌⊎◌, inl, inr, ℕ, List, [], ◌∷◌, ◌++◌, map, Option, Some, Result, Ok, Err, refl, sym, ◌∙◌, ap, subst, append_assoc}
+use Rattle.std.proofs.Common.{◌≡◌, ◌⊎◌, inl, inr, ℕ, List, [], ◌∷◌, ◌++◌, map, Option, Some, Ok, Err, refl, sym, ◌∙◌, ap, subst, append_assoc}
 use Rattle.std.proofs.lemmas.List.{map-append}
 use Rattle.nfc_base.specs.Signal.{Signal}
 use Rattle.nfc_base.specs.declared.event.Event.{Event}
 use Rattle.nfc_base.specs.declared.event.Event.TheVariants.{Reset}
 use Rattle.nfc_base.specs.declared.event.Heard.{Heard}
-use Rattle.nfc_base.specs.declared.event.Fate.{Fate}
-use Rattle.air_core.specs.Conversation.{Note, Lit, note, Next, Over, LightUp, Asks, EachDue, AreTurns, FatesFrom, Moment, Going, TurnsTo, with_events, receptions, replay, queue_after}
+use Rattle.air_core.specs.Conversation.{Note, Lit, note, Next, Over, LightUp, Asks, EachDue, AreTurns, FatesFrom, Moment, Going, TurnsTo, with_events, receptions, queue_after}
 use Rattle.air_core.specs.Turning.{due_weaker}
 use Rattle.far_air.specs.Quietly.{NoneHands, DoesQuietly}
 use Rattle.far_air.proofs.OnField.{quiet_fields}
 use Rattle.peer_air.specs.PeerFars.{peer_ends}
-use Rattle.nfca_poll.specs.declared.fault.PollFault.{PollFault}
 use Rattle.nfca_poll.specs.declared.kind.Kind.{Kind}
 use Rattle.nfca_poll.specs.Enquiry.{enquiring}
 use Rattle.nfca_poll.specs.Ident.{IsIdent}

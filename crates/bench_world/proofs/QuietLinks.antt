@@ -1,5 +1,5 @@
 -- On quiet air each command on the open link is answered as its peer answers it.
-use Rattle.std.proofs.Common.{◌≡◌, ◌↔◌, ℕ, ◌<◌, nat_lt, List, [], ◌∷◌, length, Bool, true, false, if◌then◌else◌, Option, Some, None, refl, sym, ◌∙◌, ap, subst, arith}
+use Rattle.std.proofs.Common.{◌≡◌, ◌↔◌, ℕ, ◌<◌, nat_lt, List, [], ◌∷◌, length, Bool, true, false, if◌then◌else◌, Option, Some, refl, sym, ◌∙◌, ap, subst, arith}
 use Rattle.nfc_base.specs.Trace.{noise}
 use Rattle.nfc_base.specs.declared.carrier.EndCause.TheVariants.{FieldLost, SixBad, Protocol, Memory}
 use Rattle.nfc_base.specs.declared.event.Event.{Event}
@@ -20,11 +20,11 @@ use Rattle.bench_world.specs.declared.entry.Answer.TheVariants as answers
 use Rattle.bench_world.specs.declared.entry.Entry.{Entry}
 use Rattle.bench_world.specs.declared.entry.Loss.TheVariants as losses
 use Rattle.bench_world.specs.Calls.{IsTold, OfEnd, PutAdds, told_ending, told_call, told_closing, link_behind, call_behind, stands_on, stands_closing, with_accepted}
-use Rattle.bench_world.specs.CompletingLinks.{put_answer, get_answer, HadSixBadOn, IsUndisturbedOn}
+use Rattle.bench_world.specs.CompletingLinks.{get_answer, HadSixBadOn, IsUndisturbedOn}
 use Rattle.bench_world.specs.Legal.{State, Given, LegalStep, PutLaw, GetLaw, LookupLaw, UnlinkLaw, changed, link_after, world_after, end_of}
 use Rattle.bench_world.specs.Links.{OpenLink}
 use Rattle.bench_world.specs.Quiet.{AllPass}
-use Rattle.bench_world.specs.QuietLinks.{gained, IsPut, StaysOpen, IsQuietPut, IsQuietGet, IsQuietLookup, IsQuietUnlink, QuietTalks}
+use Rattle.bench_world.specs.QuietLinks.{gained, IsPut, StaysOpen, QuietTalks}
 use Rattle.bench_world.specs.World.{FarEnd, WholeWorld, stable}
 use Rattle.bench_world.proofs.Complete.{told_once}
 use Rattle.bench_world.proofs.CompleteLinks.{GoesOn, IsEnded, call_ended, put_told, put_law, get_law, lookup_law, unlink_law, over_end, within, beyond, none_told, gets_complete, lookups_complete, unlinks_complete}
@@ -106,14 +106,14 @@ module _ (s t : State) (g : Given) (e : Entry) (step : LegalStep s g e t) (pass 
       let x : EndsOpen (Put m) = ends_open (Put m) (λ k. stands_on k g.joins.own (Puts (message_of m)) e.events) is refl refl law.told (λ h. h) (λ h. h) in
       let world : t.world ≡ world_after s g.joins (Put m) e.events = ap (λ (z : State). z.world) step.front.after ∙ ap (λ k. world_after s g.joins k e.events) is in (
         over_end (λ end. PutAdds (message_of m) end e.answer law.more) (IsPut s l (message_of m) e.answer t)
-        (λ end adds.
-        let so : PutAdds (message_of m) end (told_ending x.ended.ending) law.more = subst (λ a. PutAdds (message_of m) end a law.more) x.ended.told adds in
-        record {
-          told = x.ended.told ∙ put_told (message_of m) end law.more x.ended.ending so;
-          gains = ap (λ (w : WholeWorld). (stable w).ends) world ∙ law.ends
-              ∙ ap (λ more. with_accepted more l.peer s.peers.numbers (stable s.world).ends) (put_gains (message_of m) end law.more x.ended.ending so);
-        })
-        (end_of s l) law.adds,
+            (λ end adds.
+            let so : PutAdds (message_of m) end (told_ending x.ended.ending) law.more = subst (λ a. PutAdds (message_of m) end a law.more) x.ended.told adds in
+            record {
+              told = x.ended.told ∙ put_told (message_of m) end law.more x.ended.ending so;
+              gains = ap (λ (w : WholeWorld). (stable w).ends) world ∙ law.ends
+                  ∙ ap (λ more. with_accepted more l.peer s.peers.numbers (stable s.world).ends) (put_gains (message_of m) end law.more x.ended.ending so);
+            })
+            (end_of s l) law.adds,
         x.stays,
       )
 
@@ -122,7 +122,7 @@ module _ (s t : State) (g : Given) (e : Entry) (step : LegalStep s g e t) (pass 
       let law : GetLaw s g.joins l most key e.events e.answer = get_law s t g e l step most key is up in
       let x : EndsOpen (Get most key) = ends_open (Get most key) (λ k. stands_on k g.joins.own (Gets most key) e.events) is refl refl law.told (λ h. h) (λ h. h) in (
         over_end (λ end. (e.answer ≡ get_answer most key end) ↔ IsUndisturbedOn l g.joins.own (Get most key) e.events) (λ end. e.answer ≡ get_answer most key end) (λ end so. so.1 x.calm) (end_of s l)
-        (gets_complete s t g e l most key step is up),
+            (gets_complete s t g e l most key step is up),
         x.stays,
       )
 
@@ -131,7 +131,7 @@ module _ (s t : State) (g : Given) (e : Entry) (step : LegalStep s g e t) (pass 
       let law : LookupLaw s g.joins l name e.events e.answer = lookup_law s t g e l step name is up in
       let x : EndsOpen (Lookup name) = ends_open (Lookup name) (λ k. stands_on k g.joins.own (Finds name) e.events) is refl refl law.told (λ h. h) (λ h. h) in (
         over_end (λ end. (e.answer ≡ answers.Sap (found end.bound name)) ↔ IsUndisturbedOn l g.joins.own (Lookup name) e.events) (λ end. e.answer ≡ answers.Sap (found end.bound name)) (λ end so. so.1 x.calm) (end_of s l)
-        (lookups_complete s t g e l name step is up),
+            (lookups_complete s t g e l name step is up),
         x.stays,
       )
 

@@ -19,14 +19,12 @@ use Rattle.bench_script.specs.Messages.{message_of}
 use Rattle.bench_script.specs.Script.{Spells, SpellsHex, SpellsMsg, is_skipped}
 use Rattle.bench_devices.specs.declared.device.Device.{Device}
 use Rattle.bench_devices.specs.declared.device.Device.TheVariants.{T2, T4, Peer, T5}
-use Rattle.bench_devices.specs.Device.{BenchWorld, air, most_devices, device_id, new_t2, new_t4, new_t5, new_peer, device_locked, device_busy}
+use Rattle.bench_devices.specs.Device.{most_devices, device_id, new_t2, new_t4, new_t5, new_peer, device_locked, device_busy}
 use Rattle.bench_devices.specs.Keeping.{Fixed, kept, container_of, IsSound, IsApart, AreSound, AreTame, AllStayDevices}
 use Rattle.bench_devices.specs.Phases.{IsTidy, AreTidy}
 use Rattle.bench_devices.specs.Placed.{without, with_changed}
 use Rattle.bench_devices.proofs.CardBytes.{cons_bytes}
-use Rattle.bench_devices.proofs.EveryFrame.{devices_stay}
 use Rattle.bench_devices.proofs.PeerMade.{busy_made}
-use Rattle.bench_devices.proofs.Tidy.{events_tidy}
 use Rattle.bench_world.specs.declared.entry.Entry.{Entry}
 use Rattle.bench_world.specs.Journal.{NumberedLine, AreEntriesOf, asking_lines}
 use Rattle.bench_world.specs.Legal.{State, Given, Accepts, IsFree, LegalStep, EachLegal, changed, begun, first_state, memory_of}

@@ -1,5 +1,5 @@
 -- What commands of links come to on quiet air, where no fate is left but Pass.
-use Rattle.std.specs.Prelude.{◌≡◌, ℕ, ◌+◌, nat_lt, List, [], ◌∷◌, length, Option, Some, if◌then◌else◌}
+use Rattle.std.specs.Prelude.{◌≡◌, ℕ, ◌+◌, nat_lt, List, [], ◌∷◌, length, Some, if◌then◌else◌}
 use Rattle.llcp_link.specs.Names.{found}
 use Rattle.snep_core.specs.Accord.{from_client}
 use Rattle.snep_core.specs.Server.{Received}
