@@ -191,6 +191,7 @@ module _ {L F : Type 0} (k : Ghosts L) (target : L → TargetState) (steps : F �
         frames = tt;
         brings = ap (λ (fs : List Signal). payloads a.first (frames_of fs)) (append-nil (arrived (since a))) ∙ sym (append-nil (brought a.first (since a)));
         within = omega arith;
+        calm = λ z. refl;
         notes = [];
         going = λ z m. going_start (answering_air k.machine z) (dep_next a.initiator out) (moment a.air);
         stands = refl;

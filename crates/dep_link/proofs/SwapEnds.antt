@@ -153,7 +153,7 @@ module _ {L F : Type 0} (k : Ghosts L) (laws : Laws k) (target : L → TargetSta
         let said = given_is k laws target restarts steps b t.is i0 first handed arrived out far0 old mid t.place far i f bytes o in
         let none : o.along.world.given ≡ None = sym said.1 ∙ h.1 in
         let same : far ≡ far0 = subst (λ (g : Option (List ℕ)). turns.GivenBy steps far0 out g far) none said.0 in
-        let x = turns_by k laws target restarts steps b t.is i0 first handed arrived out far0 old mid i (target l) far o.said (Requests f) o.along None h.1 o.frames o.notes o.going (Waits i f) o.stands in
+        let x = turns_by k laws target restarts steps b t.is i0 first handed arrived out far0 old mid i (target l) far o.said (Requests f) o.along None h.1 o.frames o.calm o.notes o.going (Waits i f) o.stands in
         let once = once_along k laws target restarts steps b t.is i0 first handed arrived out far0 old.trace mid.trace i (target l) (saying far o.said) (Requests f) o.along in
         let delivered : o.along.world.delivered ≡ handed = once.once ∙ ap (λ (g : Option (List ℕ)). handed ++ delivered_of out g) none ∙ append-nil handed in (
           record {

@@ -3,7 +3,8 @@ use Rattle.std.proofs.Common.{◌≡◌, ℕ, zero, suc, ◌+◌, ◌-◌, ◌*�
 use Rattle.std.specs.List.{AllByRecursion}
 use Rattle.std.proofs.lemmas.List.{append_cancel_left}
 use Rattle.nfc_base.specs.Signal.{Signal}
-use Rattle.nfc_base.specs.Trace.{noise}
+use Rattle.nfc_base.specs.Trace.{noise, back_of}
+use Rattle.nfc_base.specs.Trace as backs
 use Rattle.nfc_base.specs.StopAndWait.{Does, Quiet, Reply, Deliver, Hears, Finished, Protocol, Stage, Requests, Over, Dark, stage_of, World, Once, IsEnding, delivered_of, pieces_back}
 use Rattle.nfc_base.specs.LinkTurns.{heard_of, heard_in, Step, settled, step, Turned, turned, IsTurn, MovedBy, GivenBy, bad_receptions}
 use Rattle.nfc_base.specs.LinkTurns as turns
@@ -15,7 +16,7 @@ use Rattle.nfc_base.specs.declared.event.Heard.{Heard}
 use Rattle.nfc_base.specs.declared.event.Heard.TheVariants as heards
 use Rattle.nfc_base.specs.declared.carrier.EndCause.TheVariants as cause
 use Rattle.nfc_base.proofs.ExactlyOnce.{Keeps, IsReady, kept_once}
-use Rattle.nfc_base.proofs.LinkTurns.{J, given_after, Along, Onward, goes_along, next_asking, next_stage}
+use Rattle.nfc_base.proofs.LinkTurns.{J, bads_append, given_after, Along, Onward, goes_along, next_asking, next_stage}
 use Rattle.nfc_base.proofs.Leading.{all_append}
 use Rattle.air_core.specs.Turn.{Air, moment, TurnIs}
 use Rattle.air_core.specs.Turning.{going_start, going_turn}
@@ -183,6 +184,34 @@ noise_later base xs ys zs mid new e1 e2 e3 h =
     let all : noise zs ≡ noise (xs ++ ys) = ap noise same in
     omega (arith, sum, all, h)
 
+-- where all of what was added to a trace passed, no reception in it was bad
+abbrev pub Calm : List Event → List Event → Type 0
+Calm base now = (es : List Event) → now ≡ base ++ es → noise es ≡ 0 → bad_receptions es ≡ 0
+
+calm_first : (base : List Event) → Calm base base
+calm_first base es e none =
+    let same : [] ≡ es = append_cancel_left base [] es (append-nil base ∙ e) in
+    subst (λ (xs : List Event). bad_receptions xs ≡ 0) same refl
+
+-- a turn of which a whole frame was heard
+record IsWhole (turn : Turned TargetState) : Type 0 where
+  pub begins : back_of turn.events ≡ backs.Nothing
+  pub bads : bad_receptions turn.events ≡ 0
+
+answered_whole : (first : ℕ) (t : TargetState) (asked : Option (List ℕ)) (f : Signal) (q : Option Signal) (y : Fate) (g : Signal) → Some (heards.Whole g) ≡ heard_in (turns.answered (nfc_dep first) t asked f q y).heard
+    → IsWhole (turns.answered (nfc_dep first) t asked f q y)
+answered_whole first t asked f None y g e = absurd cc
+answered_whole first t asked f (Some a) Pass g e = record { begins = refl; bads = refl }
+answered_whole first t asked f (Some a) Damage g e = absurd cc
+answered_whole first t asked f (Some a) Lose g e = absurd cc
+answered_whole first t asked f (Some a) Break g e = absurd cc
+
+turned_whole : (first : ℕ) (r : List ℕ) (t : TargetState) (f : Signal) (x y : Fate) (g : Signal) → Some (heards.Whole g) ≡ heard_in (turned (nfc_dep first) r t f x y).heard → IsWhole (turned (nfc_dep first) r t f x y)
+turned_whole first r t f Pass y g e = answered_whole first (step (nfc_dep first) r t f).state (step (nfc_dep first) r t f).asked f (step (nfc_dep first) r t f).answer y g e
+turned_whole first r t f Damage y g e = absurd cc
+turned_whole first r t f Lose y g e = absurd cc
+turned_whole first r t f Break y g e = absurd cc
+
 module _ {L F : Type 0} (k : Ghosts L) (target : L → TargetState) (steps : F → List ℕ → List ℕ → F → Type 0) (begin : L) (i0 : InitState) (first : ℕ) (handed : List (List ℕ)) (arrived : List Signal)
     (out : List ℕ) (far0 : F) where
   abbrev pub Law : Keeps (nfc_dep first) out
@@ -203,6 +232,7 @@ module _ {L F : Type 0} (k : Ghosts L) (target : L → TargetState) (steps : F �
     pub said : Option (List ℕ)
     pub along : StandsBy old.trace i (target (reached k begin heard)) mid.trace (saying far said) stage
     pub frames : Framed old.trace mid.trace
+    pub calm : Calm old.trace mid.trace
     pub notes : List Note
     pub going : (r : List ℕ) → MayReply said r → Going (answering_air k.machine r) (dep_next i0 out) (moment old) (moment mid) notes
     pub stands : stand (asks i0 out) notes ≡ s
@@ -215,6 +245,7 @@ module _ {L F : Type 0} (k : Ghosts L) (target : L → TargetState) (steps : F �
     pub initiator : InitState
     pub along : StandsBy old.trace initiator (target left) new.trace (saying far said) Dark
     pub frames : Framed old.trace new.trace
+    pub calm : Calm old.trace new.trace
     pub notes : List Note
     pub going : (r : List ℕ) → MayReply said r → Going (answering_air k.machine r) (dep_next i0 out) (moment old) (moment new) notes
     pub stands : stand (asks i0 out) notes ≡ Broken cause.FieldLost
@@ -290,6 +321,7 @@ module _ {L : Type 0} (k : Ghosts L) (laws : Laws k) where
               given = refl;
             };
             frames = framed_first old.trace;
+            calm = calm_first old.trace;
             notes = [];
             going = λ r m. going_start (answering_air k.machine r) (dep_next i0 out) (moment old);
             stands = refl;
@@ -399,6 +431,31 @@ module _ {L : Type 0} (k : Ghosts L) (laws : Laws k) where
               go (inl q) = speaks q
               go (inr (g, q)) = never g q
 
+          -- where all passed until then, no reception was bad
+          whole_calm : (g : Signal) → Some (heards.Whole g) ≡ heard_in turn_is.heard → Calm old.trace new.trace
+          whole_calm g w es e none =
+              let same : es ≡ o.along.added ++ turn_is.events =
+              append_cancel_left old.trace es (o.along.added ++ turn_is.events) (sym e ∙ t.turn.events ∙ ap (λ (xs : List Event). xs ++ turn_is.events) o.along.events ∙ append_assoc old.trace o.along.added turn_is.events) in
+              let z : IsWhole turn_is = turned_whole first t.turn.reply (target last) f t.turn.first t.turn.second g w in
+              let all : noise es ≡ noise o.along.added + noise turn_is.events = ap noise same ∙ noise_append o.along.added turn_is.events in
+              let before : bad_receptions o.along.added ≡ 0 = o.calm o.along.added o.along.events (omega (arith, all, none)) in
+              let bads : bad_receptions es ≡ bad_receptions o.along.added + bad_receptions turn_is.events = ap bad_receptions same ∙ bads_append o.along.added turn_is.events z.begins in
+              let last_bads : bad_receptions turn_is.events ≡ 0 = z.bads in
+              omega (arith, bads, before, last_bads)
+
+          never_calm : ((g : Signal) → h ≡ Some (heards.Whole g) → ⊥) → Calm old.trace new.trace
+          never_calm never es e none = let some : 0 < noise es = noisy never es e in absurd (omega (arith, some, none))
+
+          pub calm_now : Calm old.trace new.trace
+          calm_now = by_heard h refl
+            where
+              by_heard : (x : Option Heard) → h ≡ x → Calm old.trace new.trace
+              by_heard None is = never_calm (λ g w. let clash : ◌≡◌ {A = Option Heard} None (Some (heards.Whole g)) = sym is ∙ w in cc)
+              by_heard (Some (heards.Whole g)) is = whole_calm g (sym is ∙ t.turn.heard_is)
+              by_heard (Some (heards.Collided g)) is = never_calm (λ x w. let clash : ◌≡◌ {A = Option Heard} (Some (heards.Collided g)) (Some (heards.Whole x)) = sym is ∙ w in cc)
+              by_heard (Some heards.Damaged) is = never_calm (λ g w. let clash : ◌≡◌ {A = Option Heard} (Some heards.Damaged) (Some (heards.Whole g)) = sym is ∙ w in cc)
+              by_heard (Some heards.Silent) is = never_calm (λ g w. let clash : ◌≡◌ {A = Option Heard} (Some heards.Silent) (Some (heards.Whole g)) = sym is ∙ w in cc)
+
           alone_left : IsAlone k (k.identifier begin) new.listeners place t.left
           alone_left = subst (λ (own : List ℕ). IsAlone k own new.listeners place t.left) own_same t.alone
 
@@ -452,6 +509,7 @@ module _ {L : Type 0} (k : Ghosts L) (laws : Laws k) where
                 said = said_now old mid place far i f bytes o far' new (Some h) q;
                 along = subst (λ (y : L). Stands old.trace (init_table i h).state (target y) new.trace x (stage_of (initiator_does (init_table i h).does))) e b;
                 frames = framed_now old mid place far i f bytes o far' new (Some h) q;
+                calm = calm_now old mid place far i f bytes o far' new (Some h) q;
                 notes = o.notes ++ note (Some h) ∷ [];
                 going = going_on old mid place far i f bytes o far' new (Some h) q;
                 stands = stands_then old mid place far i f bytes o far' new (Some h) q;
@@ -488,6 +546,7 @@ module _ {L : Type 0} (k : Ghosts L) (laws : Laws k) where
               initiator = i;
               along = heard_nothing old.trace new.trace i (target t0.left) x n.hears n.heard_is n.along;
               frames = framed_now old mid place far i f bytes o far' new None q;
+              calm = calm_now old mid place far i f bytes o far' new None q;
               notes = o.notes ++ note None ∷ [];
               going = going_on old mid place far i f bytes o far' new None q;
               stands = stands_then old mid place far i f bytes o far' new None q;
@@ -504,10 +563,10 @@ module _ {L : Type 0} (k : Ghosts L) (laws : Laws k) where
           subst (λ (x : Option (List ℕ)). GivenBy steps far0 out x far) (sym given.1 ∙ e) given.0
 
       abbrev pub turns_by : (old new : Air L) (i : InitState) (t : TargetState) (far : F) (said : Option (List ℕ)) (stage : Stage Signal) (a : Stands old.trace i t new.trace (saying far said) stage)
-          → (g : Option (List ℕ)) → said ≡ g → Framed old.trace new.trace → (notes : List Note)
+          → (g : Option (List ℕ)) → said ≡ g → Framed old.trace new.trace → Calm old.trace new.trace → (notes : List Note)
           → ((r : List ℕ) → MayReply said r → Going (answering_air k.machine r) (dep_next i0 out) (moment old) (moment new) notes) → (s : Standing) → stand (asks i0 out) notes ≡ s
           → Turns old new g s
-      turns_by old new i t far said stage a g e frames notes going s stands =
+      turns_by old new i t far said stage a g e frames calm notes going s stands =
           let o : OnceAlong a.world = once_along old.trace new.trace i t (saying far said) stage a in
           let given = given_far steps far0 far out said a.world.given a.given in
           let same : a.world.given ≡ g = sym given.1 ∙ e in
@@ -520,6 +579,7 @@ module _ {L : Type 0} (k : Ghosts L) (laws : Laws k) where
                 (let w : a.world.sent ≤ 2 * (pieces i0.core.most out + pieces_back (frames_back (target begin)) g - 1) + 4 * a.world.bads =
                 subst (λ (x : Option (List ℕ)). a.world.sent ≤ 2 * (pieces i0.core.most out + pieces_back (frames_back (target begin)) x - 1) + 4 * a.world.bads) same o.within in
                 rw (a.sent, a.bads) w);
+            calm = calm a.added a.events;
             notes = notes;
             going = λ r m. going r (subst (λ (x : Option (List ℕ)). MayReply x r) (sym e) m);
             stands = stands;
@@ -528,10 +588,10 @@ module _ {L : Type 0} (k : Ghosts L) (laws : Laws k) where
       -- the payload is under way in a lit field, or was broken off there
       abbrev pub on_turns : (old mid : Air L) (place : ℕ) (far : F) (i : InitState) (stage : Stage Signal) (s : Standing) (o : On old mid place far i stage s) → Turns old mid o.said s
       on_turns old mid place far i stage s o =
-          turns_by old mid i (target (reached k begin o.heard)) far o.said stage o.along o.said refl o.frames o.notes o.going s o.stands
+          turns_by old mid i (target (reached k begin o.heard)) far o.said stage o.along o.said refl o.frames o.calm o.notes o.going s o.stands
 
       abbrev pub lost_turns : (old new : Air L) (far : F) (o : Lost old new far) → Turns old new o.said (Broken cause.FieldLost)
-      lost_turns old new far o = turns_by old new o.initiator (target o.left) far o.said Dark o.along o.said refl o.frames o.notes o.going (Broken cause.FieldLost) o.stands
+      lost_turns old new far o = turns_by old new o.initiator (target o.left) far o.said Dark o.along o.said refl o.frames o.calm o.notes o.going (Broken cause.FieldLost) o.stands
 
       -- an exchange that ended, by what its end tells
       ending_along : (es0 es : List Event) (i : InitState) (t : TargetState) (x : Replying F) (stage : Stage Signal) (a : Stands es0 i t es x stage)
@@ -554,7 +614,7 @@ module _ {L : Type 0} (k : Ghosts L) (laws : Laws k) where
           let said : o.said ≡ Some r = (given_far steps far0 far out o.said o.along.world.given o.along.given).1 ∙ e.0 in
           let P : InitState → TargetState → Type 0 = λ y z. InStep y z in
           let Q : TargetState → List (List ℕ) → List Signal → Type 0 = IsCut first in (
-            turns_by old new i (target l) far o.said (Over (Finished r)) o.along (Some r) said o.frames o.notes o.going s o.stands,
+            turns_by old new i (target l) far o.said (Over (Finished r)) o.along (Some r) said o.frames o.calm o.notes o.going s o.stands,
             far_by old.trace new.trace i (target l) far o.said (Over (Finished r)) o.along (Some r) said,
             record {
               place = place;

@@ -95,13 +95,14 @@ module _ {L : Type 0} (k : Ghosts L) (target : L → TargetState) where
 
   -- From one moment of a field to another, turns of the exchange of one payload with this peer were made, each due; nothing else
   -- happened to the field, and this is where the initiator stands then. The payload was handed over at most once, where a reply
-  -- was given; so much was sent at most. Under any reply that will do the air is the same.
+  -- was given; so much was sent at most; where all passed no reception was bad. Under any reply that will do the air is the same.
   pub record ExchangeTurns (old new : Air L) (peer : L) (i : InitState) (first : ℕ) (handed : List (List ℕ)) (arrived : List Signal) (out : List ℕ) (given : Option (List ℕ)) (s : Standing) : Type 0 where
     pub events : List Event
     pub trace : new.trace ≡ old.trace ++ events
     pub frames : AreFrames events
     pub brings : payloads first (frames_of (arrived ++ turns.arrived events)) ≡ handed ++ delivered_of out given
     pub within : length events ≤ 2 * (pieces i.core.most out + pieces_back (frames_back (target peer)) given - 1) + 4 * bad_receptions events
+    pub calm : noise events ≡ 0 → bad_receptions events ≡ 0
     pub notes : List Note
     pub going : (r : List ℕ) → MayReply given r → Going (answering_air k.machine r) (dep_next i out) (moment old) (moment new) notes
     pub stands : stand (asks i out) notes ≡ s
