@@ -32,6 +32,7 @@ use Rattle.bench_world.specs.Legal.{Joins, CutFront, CutStores, HaltsCall, Leave
 use Rattle.bench_world.specs.Obeying.{Machines, IsSettled, Obeyed, state_at, under}
 use Rattle.bench_world.specs.Opened.{IsOpen}
 use Rattle.bench_world.specs.Peers.{Peers}
+use Rattle.bench_world.proofs.CallCalm.{added_calm, made_calm}
 use Rattle.bench_world.proofs.OnLink.{Ends as FarEnds, end_is, leaves, linked_in, own, opened, set_there, stands, trace_is}
 use Rattle.bench_world.proofs.OnCall.{IsCall, Law, broke, came, end, events, from_state, gone_then, halted, next, open_then, place, plain, same, short}
 
@@ -87,7 +88,9 @@ module _ (air : Air Device) (ends : FarEnds) (peers : Peers) (l : OpenLink) (set
         → ((loss : Loss) → answer ≡ answers.LinkEnded loss → ⊥) → AnswerSo answer → Accords client after → Obeyed Old (Open client) c answer
     made_obeyed jobs client answer made told never law accords =
         let t = made.turns device_linked devices_link spot (stands air ends peers l settled) ends in
-        came air ends peers l settled c task is b j after t.0 (Comes (Ends jobs client) j) t.1 made.carried.setting jobs client refl answer told never law
+        came air ends peers l settled c task is b j after t.0 (Comes (Ends jobs client) j) t.1 made.carried.setting jobs client refl answer told never
+        (added_calm air b (made_calm from (Ends jobs client) air b l.initiator j far after made) settled.idle.quiet (events air ends peers l settled c task is b j after t.0 (Comes (Ends jobs client) j) t.1)
+        (trace_is air ends peers l settled (next air ends peers l settled c task is b j after t.0 (Comes (Ends jobs client) j) t.1) (plain air ends peers l settled c task is b j after t.0 (Comes (Ends jobs client) j) t.1) b after t.1.notes t.1.going)) law
         (made.carried.arrives, (linked_in b spot j (in_step_still (Ends jobs client) made), made.carried.counted refl)) (reopened (Ends jobs client) client made accords)
 
     -- its link ended

@@ -43,6 +43,8 @@ pub mod TalkFar
 pub mod OnLink
 pub mod Arrived
 pub mod OnCall
+pub mod CallCalm
+pub mod ReleaseCalm
 pub mod CallEnds
 pub mod Putting
 pub mod Chosen

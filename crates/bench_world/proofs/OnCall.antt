@@ -1,5 +1,5 @@
 -- A command that asks over the open link was obeyed, or cut off.
-use Rattle.std.proofs.Common.{◌≡◌, ◌↔◌, ℕ, ◌<◌, List, [], ◌∷◌, ◌++◌, map, length, true, Option, Some, None, refl, sym, ◌∙◌, ap, subst}
+use Rattle.std.proofs.Common.{◌≡◌, ◌↔◌, ℕ, ◌<◌, List, [], ◌∷◌, ◌++◌, map, length, true, Option, Some, None, refl, sym, ◌∙◌, ap, subst, arith}
 use Rattle.std.specs.Prelude.{get_or, slice_set, drop}
 use Rattle.nfc_base.specs.declared.carrier.EndCause.{EndCause}
 use Rattle.nfc_base.specs.declared.carrier.EndCause.TheVariants as cause
@@ -8,7 +8,8 @@ use Rattle.nfc_base.specs.declared.event.Event.TheVariants.{Request}
 use Rattle.nfc_base.specs.declared.event.Fate.{Fate}
 use Rattle.nfc_base.specs.declared.event.Fate.TheVariants.{Pass}
 use Rattle.nfc_base.specs.Signal.{Signal}
-use Rattle.nfc_base.specs.Trace.{noise}
+use Rattle.nfc_base.specs.LinkTurns.{bad_receptions}
+use Rattle.nfc_base.specs.Trace.{noise, breaks}
 use Rattle.air_core.specs.Turn.{Air, moment, world, after_event}
 use Rattle.air_core.specs.Conversation.{Note, Next, Over, Asks, AreTurns, FatesFrom, EachDue, receptions, replay, queue_after, first_fate, later_fates}
 use Rattle.air_core.specs.Turning.{due-append, due_weaker, fates-append, queue_after-append}
@@ -41,6 +42,7 @@ use Rattle.bench_world.specs.Opened.{AreNumbered, AreServed}
 use Rattle.bench_world.specs.Peers.{Peers, next_number}
 use Rattle.bench_world.proofs.Arrived.{GoesOn, came_at}
 use Rattle.bench_world.proofs.CallNotes.{IsPlainNext, call_broken, call_lost, calls_plain}
+use Rattle.bench_world.proofs.Quiet.{no_breaks}
 use Rattle.bench_world.proofs.OnLink.{Ends as FarEnds, accepted_now, as_many, bare, devices_stay, ends_more, ends_same, first, going, leaves, now, opened, queue_is, served, set_long, tame, trace_is, world_is}
 
 -- what a step of a call is said for
@@ -276,32 +278,45 @@ module _ (air : Air Device) (ends : FarEnds) (peers : Peers) (l : OpenLink) (set
 
       -- it was told by where it stands
       told_so : (answer : Answer) → told_call standing ≡ Some answer → ((standing ≡ BrokenBy cause.FieldLost) ↔ (answer ≡ answers.LinkEnded losses.FieldLost))
-          → (answer ≡ answers.LinkEnded losses.SixBad → 0 < noise events) → IsTold (told_call (stands_on l numbers task events)) events answer
-      told_so answer told lost noisy = record {
+          → (answer ≡ answers.LinkEnded losses.SixBad → 0 < noise events) → (noise events ≡ 0 → bad_receptions events ≡ 0) → IsTold (told_call (stands_on l numbers task events)) events answer
+      told_so answer told lost noisy calm = record {
         tells = ap told_call stand_is ∙ told;
         lost = (
           λ e. call_broken bench_air numbers step l.initiator _ _ t.notes (going air ends peers l settled next plain b after t.notes t.going) (t.stands ∙ lost.1 e),
           λ some. lost.0 (sym t.stands ∙ call_lost bench_air numbers step l.initiator _ _ t.notes (going air ends peers l settled next plain b after t.notes t.going) some),
         );
         noisy = noisy;
+        calm = calm;
       }
 
       over_at : call_due_at standing ≡ Over → next t.notes ≡ Over
       over_at e = ap call_due_at t.stands ∙ e
 
       pub came : setting_of after ≡ setting_of end → (jobs : List OnSap) (client : EndState) → standing ≡ Comes (Ends jobs client) j → (answer : Answer) → told_step (Ends jobs client) ≡ Some answer
-          → ((loss : Loss) → answer ≡ answers.LinkEnded loss → ⊥) → Law answer → Arrived (Some (record { peer = l.peer; initiator = j; client = client })) → KeepsLink (open_then client)
+          → ((loss : Loss) → answer ≡ answers.LinkEnded loss → ⊥) → (noise events ≡ 0 → bad_receptions events ≡ 0) → Law answer → Arrived (Some (record { peer = l.peer; initiator = j; client = client })) → KeepsLink (open_then client)
           → Obeyed (under ends peers (Some l) air) (open_then client) c answer
-      came set jobs client comes answer told never law arrived keeps =
+      came set jobs client comes answer told never calm law arrived keeps =
           let link_is : link_after from_state joins c events (Some answer) ≡ Some (record { peer = l.peer; initiator = j; client = client }) =
           is.link_on joins events answer ∙ ap (link_behind l.peer) (stand_is ∙ comes) in
           obeyed next plain c numbers b after t.notes t.going is.still is.accepts is.asks same answer (Some (record { peer = l.peer; initiator = j; client = client })) peers
           (over_at (ap call_due_at comes)) link_is
           (is.peers_on joins events (Some answer) ∙ ap (λ o. ended_unless o (Some l) (world_after from_state joins c events).fars peers) link_is)
           (law joins events (facts set answer (told_so answer (ap told_call comes ∙ told)
-          ((λ e. absurd (let clash : Comes (Ends jobs client) j ≡ BrokenBy cause.FieldLost = sym comes ∙ e in cc)), (λ e. absurd (never losses.FieldLost e))) (λ e. absurd (never losses.SixBad e)))
+          ((λ e. absurd (let clash : Comes (Ends jobs client) j ≡ BrokenBy cause.FieldLost = sym comes ∙ e in cc)), (λ e. absurd (never losses.FieldLost e))) (λ e. absurd (never losses.SixBad e)) calm)
           (came_then answer (Some (record { peer = l.peer; initiator = j; client = client })) link_is arrived)))
           set refl refl keeps
+
+      -- a link that ended so had noise
+      broken_noisy : (why : EndCause) → standing ≡ BrokenBy why → (answer : Answer) → told_loss why ≡ Some answer → (answer ≡ answers.LinkEnded losses.SixBad → 0 < noise events) → noise events ≡ 0 → ⊥
+      broken_noisy cause.FieldLost broken answer told noisy none =
+          let some : 0 < breaks events = call_broken bench_air numbers step l.initiator _ _ t.notes (going air ends peers l settled next plain b after t.notes t.going) (t.stands ∙ broken) in
+          let lit : breaks events ≡ 0 = no_breaks events none in
+          omega (arith, some, lit)
+      broken_noisy cause.SixBad broken answer told noisy none =
+          let some : 0 < noise events = noisy (let same : answers.LinkEnded losses.SixBad ≡ answer = cc in sym same) in
+          omega (arith, some, none)
+      broken_noisy cause.Protocol broken answer told noisy none = cc
+      broken_noisy cause.Memory broken answer told noisy none = cc
 
       pub broke : setting_of after ≡ setting_of end → (why : EndCause) → standing ≡ BrokenBy why → (answer : Answer) → told_loss why ≡ Some answer
           → ((why ≡ cause.FieldLost) ↔ (answer ≡ answers.LinkEnded losses.FieldLost)) → (answer ≡ answers.LinkEnded losses.SixBad → 0 < noise events) → Law answer → Arrived None
@@ -312,7 +327,7 @@ module _ (air : Air Device) (ends : FarEnds) (peers : Peers) (l : OpenLink) (set
           (with_last_ended (accepted_by (get_or (slice_set ends place (Some after)) place None)) peers)
           (over_at (ap call_due_at broken)) link_is (gone_peers (Some answer) link_is)
           (law joins events (facts set answer (told_so answer (ap told_call broken ∙ told)
-          ((λ e. lost.0 (let same : BrokenBy why ≡ BrokenBy cause.FieldLost = sym broken ∙ e in cc)), (λ e. broken ∙ ap BrokenBy (lost.1 e))) noisy)
+          ((λ e. lost.0 (let same : BrokenBy why ≡ BrokenBy cause.FieldLost = sym broken ∙ e in cc)), (λ e. broken ∙ ap BrokenBy (lost.1 e))) noisy (λ none. absurd (broken_noisy why broken answer told noisy none)))
           (came_then answer None link_is arrived)))
           set refl refl tt
 

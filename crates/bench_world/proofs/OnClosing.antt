@@ -1,10 +1,11 @@
 -- The open link is closed.
-use Rattle.std.proofs.Common.{◌≡◌, ◌↔◌, ◌⊎◌, ℕ, ◌<◌, List, length, Option, Some, None, refl, sym, ◌∙◌, ap, subst, inl, inr}
+use Rattle.std.proofs.Common.{◌≡◌, ◌↔◌, ◌⊎◌, ℕ, ◌<◌, List, [], length, Option, Some, None, refl, sym, ◌∙◌, ap, subst, inl, inr, arith}
 use Rattle.std.specs.Prelude.{get_or, slice_set, drop}
 use Rattle.nfc_base.specs.declared.carrier.EndCause.{EndCause}
 use Rattle.nfc_base.specs.declared.carrier.EndCause.TheVariants as cause
 use Rattle.nfc_base.specs.declared.event.Event.{Event}
-use Rattle.nfc_base.specs.Trace.{noise}
+use Rattle.nfc_base.specs.LinkTurns.{bad_receptions}
+use Rattle.nfc_base.specs.Trace.{noise, breaks}
 use Rattle.air_core.specs.Turn.{Air}
 use Rattle.air_core.specs.Conversation.{Note, Next, Over}
 use Rattle.peer_air.specs.PeerFars.{peer_ends}
@@ -16,7 +17,7 @@ use Rattle.snep_core.specs.Accord.{IsClosed}
 use Rattle.snep_core.specs.Server.{ServerState}
 use Rattle.snep_core.specs.Talk.{EndState, Step, Leaves, begins}
 use Rattle.link_calls.specs.Arriving.{Arrives}
-use Rattle.link_calls.specs.CallDue.{BrokenBy}
+use Rattle.link_calls.specs.CallDue.{BrokenBy, call_due}
 use Rattle.link_calls.specs.ClosingDue.{ClosingStanding, Calls, Released, closing_due, closing_due_at, closing_stand}
 use Rattle.link_calls.specs.Closing.{ClosingFront, ClosingTurns, IsClosingShort, IsLost, IsReleased, SendsRls}
 use Rattle.link_calls.specs.Staying.{setting_of}
@@ -24,6 +25,8 @@ use Rattle.bench_script.specs.declared.command.Command.TheVariants.{Unlink}
 use Rattle.bench_devices.specs.declared.device.Device.{Device}
 use Rattle.bench_devices.specs.Device.{devices, device_end, device_linked}
 use Rattle.bench_devices.specs.Keeping.{ghosts}
+use Rattle.bench_devices.specs.Beside.{InStepAt}
+use Rattle.bench_devices.proofs.PeerHere.{in_step}
 use Rattle.bench_devices.proofs.PeerLinks.{devices_link}
 use Rattle.bench_world.specs.declared.entry.Answer.{Answer}
 use Rattle.bench_world.specs.declared.entry.Answer.TheVariants as answers
@@ -36,8 +39,11 @@ use Rattle.bench_world.specs.Obeying.{Machines, IsCutOff, IsSettled, Obeyed, sta
 use Rattle.bench_world.specs.Peers.{Peers}
 use Rattle.bench_world.specs.World.{bench_air}
 use Rattle.bench_world.proofs.Arrived.{came_at}
-use Rattle.bench_world.proofs.CallNotes.{IsPlainNext, closing_broken, closing_lost, closings_plain}
-use Rattle.bench_world.proofs.OnLink.{Ends as FarEnds, accepted_now, going, stands, trace_is}
+use Rattle.bench_world.proofs.CallNotes.{IsPlainNext, calls_plain, closing_broken, closing_lost, closings_plain}
+use Rattle.bench_world.proofs.CallCalm.{IsCalm, added_calm, calm_then, made_calm}
+use Rattle.bench_world.proofs.OnLink.{Ends as FarEnds, accepted_now, going, leaves, own, stands, trace_is}
+use Rattle.bench_world.proofs.Quiet.{no_breaks}
+use Rattle.bench_world.proofs.ReleaseCalm.{release_calm}
 use Rattle.bench_world.proofs.OnCall.{cut_off, end, from_state, given_by, halted, obeyed, place, stays_then, world_then}
 
 module _ (air : Air Device) (ends : FarEnds) (peers : Peers) (l : OpenLink) (settled : IsSettled (under ends peers (Some l) air)) (b : Air Device) (after : FarEnd) where
@@ -81,8 +87,8 @@ module _ (air : Air Device) (ends : FarEnds) (peers : Peers) (l : OpenLink) (set
     pub closed : setting_of after ≡ setting_of far → after.service.accepted ≡ far.service.accepted → Arrives l.initiator.core.number (drop (length air.trace) b.trace) far after → (answer : Answer)
         → told_closing standing ≡ Some answer → closing_due_at standing ≡ Over
         → ((standing ≡ Calls (BrokenBy cause.FieldLost)) ↔ (answer ≡ answers.LinkEnded losses.FieldLost)) → (answer ≡ answers.LinkEnded losses.SixBad → 0 < noise events)
-        → Obeyed (under ends peers (Some l) air) gone Unlink answer
-    closed set accepted arrives answer told over lost noisy =
+        → (noise events ≡ 0 → bad_receptions events ≡ 0) → Obeyed (under ends peers (Some l) air) gone Unlink answer
+    closed set accepted arrives answer told over lost noisy calm =
         obeyed air ends peers l settled next plain Unlink numbers b after t.notes t.going refl tt refl same answer None
         (with_last_ended (accepted_by (get_or (slice_set ends spot (Some after)) spot None)) peers)
         (ap closing_due_at t.stands ∙ over) refl (gone_peers (Some answer))
@@ -94,6 +100,7 @@ module _ (air : Air Device) (ends : FarEnds) (peers : Peers) (l : OpenLink) (set
               λ some. lost.0 (sym t.stands ∙ closing_lost bench_air numbers from l.initiator _ _ t.notes (going air ends peers l settled next plain b after t.notes t.going) some),
             );
             noisy = noisy;
+            calm = calm;
           };
           came = came_at air ends peers l settled next plain b after t.notes t.going (world_after (from_state air ends peers l settled) joins Unlink events)
               (world_then air ends peers l settled next plain Unlink numbers b after t.notes t.going refl tt refl same) None arrives tt;
@@ -111,11 +118,24 @@ module _ (air : Air Device) (ends : FarEnds) (peers : Peers) (l : OpenLink) (set
     sent_set : {heard : Option Heard} → SendsRls ghosts device_end from air l.initiator far b after heard → setting_of after ≡ setting_of far
     sent_set s = ap setting_of (s.same quiet) ∙ s.carried.setting
 
+    -- the peer is in step still as RLS_REQ is sent
+    in_step_then : {heard : Option Heard} → (s : SendsRls ghosts device_end from air l.initiator far b after heard) → InStepAt s.mid spot s.rest
+    in_step_then s =
+        let t = s.made.turns device_linked devices_link spot (stands air ends peers l settled) ends in
+        let left = leaves air ends peers l settled (call_due t.0 from l.initiator) (calls_plain t.0 from l.initiator) s.mid s.half t.1.notes t.1.going in
+        in_step (own air ends peers l settled) spot s.mid left.at s.rest s.rest.core.number [] [] s.made.open_.in_step.1 s.made.open_.in_step.0
+
+    sent_calm : {heard : Option Heard} → SendsRls ghosts device_end from air l.initiator far b after heard → IsCalm air b
+    sent_calm {heard} s =
+        calm_then air s.mid b (made_calm from s.to air s.mid l.initiator s.rest far s.half s.made) (release_calm quiet s.mid b spot s.rest (in_step_then s) s.half after heard s.turn)
+
     pub released : (to : Step) → IsReleased ghosts device_end from air l.initiator far b after to → IsClosed far client after → Obeyed (under ends peers (Some l) air) gone Unlink answers.Unlinked
     released to r c =
         let t = r.turns device_linked devices_link spot (stands air ends peers l settled) ends in
         closed t.0 (Released to) t.1 (sent_set r.sent) (ap (λ (s : ServerState). s.accepted) c.aside.service) (r.sent.arrives quiet) answers.Unlinked refl refl
         ((λ e. absurd cc), (λ e. absurd cc)) (λ e. absurd cc)
+        (added_calm air b (sent_calm r.sent) settled.idle.quiet (events t.0 (Released to) t.1)
+        (trace_is air ends peers l settled (next t.0 (Released to) t.1) (plain t.0 (Released to) t.1) b after t.1.notes t.1.going))
 
     lost_set : (w : EndCause) → IsLost ghosts device_end from air l.initiator far b after j w → setting_of after ≡ setting_of far
     lost_set w x = elim x.how [
@@ -129,6 +149,18 @@ module _ (air : Air Device) (ends : FarEnds) (peers : Peers) (l : OpenLink) (set
       | inr (is, sent) ↦ sent.arrives quiet
     ]
 
+    -- a link that ended so had noise
+    lost_noisy : (numbers : List ℕ) (w : EndCause) (t : ClosingTurns ghosts device_linked peer_ends numbers from l.initiator air b spot ends far after (Calls (BrokenBy w))) (answer : Answer) → told_loss w ≡ Some answer
+        → (w ≡ cause.SixBad → 0 < noise (events numbers (Calls (BrokenBy w)) t)) → noise (events numbers (Calls (BrokenBy w)) t) ≡ 0 → ⊥
+    lost_noisy numbers cause.FieldLost t answer told noisy none =
+        let s = Calls (BrokenBy cause.FieldLost) in
+        let some : 0 < breaks (events numbers s t) = closing_broken bench_air numbers from l.initiator _ _ t.notes (going air ends peers l settled (next numbers s t) (plain numbers s t) b after t.notes t.going) t.stands in
+        let lit : breaks (events numbers s t) ≡ 0 = no_breaks (events numbers s t) none in
+        omega (arith, some, lit)
+    lost_noisy numbers cause.SixBad t answer told noisy none = let some = noisy refl in omega (arith, some, none)
+    lost_noisy numbers cause.Protocol t answer told noisy none = cc
+    lost_noisy numbers cause.Memory t answer told noisy none = cc
+
     pub lost : (w : EndCause) (answer : Answer) → IsLost ghosts device_end from air l.initiator far b after j w → told_loss w ≡ Some answer → after.service.accepted ≡ far.service.accepted
         → Obeyed (under ends peers (Some l) air) gone Unlink answer
     lost w answer x told accepted =
@@ -137,7 +169,7 @@ module _ (air : Air Device) (ends : FarEnds) (peers : Peers) (l : OpenLink) (set
         let noisy : w ≡ cause.SixBad → 0 < noise es = λ six.
         subst (λ xs. 0 < noise xs) (ap (λ xs. drop (length xs) b.trace) settled.idle.quiet
         ∙ trace_is air ends peers l settled (next t.0 (Calls (BrokenBy w)) t.1) (plain t.0 (Calls (BrokenBy w)) t.1) b after t.1.notes t.1.going) (x.noisy six) in
-        closed t.0 (Calls (BrokenBy w)) t.1 (lost_set w x) accepted (lost_arrives w x) answer told refl (lost_is w told) (λ e. noisy (six_is w told e))
+        closed t.0 (Calls (BrokenBy w)) t.1 (lost_set w x) accepted (lost_arrives w x) answer told refl (lost_is w told) (λ e. noisy (six_is w told e)) (λ none. absurd (lost_noisy t.0 w t.1 answer told noisy none))
       where
         lost_is : (w : EndCause) → told_loss w ≡ Some answer → ((Calls (BrokenBy w) ≡ Calls (BrokenBy cause.FieldLost)) ↔ (answer ≡ answers.LinkEnded losses.FieldLost))
         lost_is cause.FieldLost e = ((λ q. let same : answers.LinkEnded losses.FieldLost ≡ answer = cc in sym same), (λ q. refl))

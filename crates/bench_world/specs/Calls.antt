@@ -1,6 +1,7 @@
 -- What is answered to the commands on the open link, by what was heard and by the peer's server (NFC Forum SNEP 1.0, LLCP 1.3; the words of the
 -- answers are this project's own).
 use Rattle.std.specs.Prelude.{◌≡◌, ◌↔◌, ◌⊎◌, ℕ, ◌<◌, ◌≤◌, List, [], ◌∷◌, ◌++◌, length, if◌then◌else◌, Option, Some, None}
+use Rattle.nfc_base.specs.LinkTurns.{bad_receptions}
 use Rattle.nfc_base.specs.Trace.{noise, breaks}
 use Rattle.nfc_base.specs.declared.event.Event.{Event}
 use Rattle.nfc_base.specs.declared.carrier.EndCause.{EndCause}
@@ -99,11 +100,12 @@ call_behind (Some answer) None stands = None
 call_behind (Some answer) (Some l) stands = link_behind l.peer (stands l)
 
 -- How a command on the link was told: by where it stands. The link ended by a lost field exactly where a Break was used, and without noise no wait
--- has six bad receptions.
+-- has six bad receptions, nor any bad reception.
 pub record IsTold (told : Option Answer) (events : List Event) (answer : Answer) : Type 0 where
   pub tells : told ≡ Some answer
   pub lost : (answer ≡ answers.LinkEnded losses.FieldLost) ↔ (0 < breaks events)
   pub noisy : answer ≡ answers.LinkEnded losses.SixBad → 0 < noise events
+  pub calm : noise events ≡ 0 → bad_receptions events ≡ 0
 
 -- the far end of a link's peer, of which something holds
 abbrev pub OfEnd : (FarEnd → Type 0) → Option FarEnd → Type 0

@@ -111,7 +111,8 @@ module _ {L C : Type 0} (k : Ghosts L) (target : L → TargetState) (see : C →
 
     sends_rls : (heard : Option Heard) → TurnIs k.machine begins (Answers serving) (see b).air rls_frame half heard new after → SendsRls k target from old i far new after heard
     sends_rls heard turn =
-        let carried = (made k target see laws a b far half old i is open_ ready from (Ends jobs client) talk refl).carried in
+        let call = made k target see laws a b far half old i is open_ ready from (Ends jobs client) talk refl in
+        let carried = call.carried in
         let came = carried.arrives in
         let start : length old.trace ≤ length (see b).air.trace = within k target see laws a b far half old i is open_ ready from (Ends jobs client) talk in
         record {
@@ -119,6 +120,8 @@ module _ {L C : Type 0} (k : Ghosts L) (target : L → TargetState) (see : C →
           rest = (see b).initiator;
           half = half;
           carried = carried;
+          to = Ends jobs client;
+          made = call;
           turn = turn;
           same = same;
           arrives = λ quiet. record {

@@ -28,7 +28,7 @@ use Rattle.snep_core.specs.Server.{serving}
 use Rattle.snep_core.specs.Talk.{EndState, Step, GivesUp}
 use Rattle.link_calls.specs.CallDue.{BrokenBy, Comes}
 use Rattle.link_calls.specs.Arriving.{Arrives}
-use Rattle.link_calls.specs.Calls.{IsCarried}
+use Rattle.link_calls.specs.Calls.{IsCarried, IsMade}
 use Rattle.link_calls.specs.ClosingDue.{ClosingStanding, Calls, Released, closing_stand, closing_due, closing_due_at}
 use Rattle.link_calls.specs.Staying.{begins, setting_of}
 
@@ -59,13 +59,15 @@ module _ {L : Type 0} (k : Ghosts L) (target : L → TargetState) where
         (linked : L → Bool) → IsLinked k.machine linked → (place : ℕ) → Stands k target linked peer_ends old place → (os : List (Option PeerState))
         → (numbers : List ℕ) × ClosingTurns k linked peer_ends numbers from i old new place os far after s
 
-    -- Behind payloads that were swapped RLS_REQ was sent, and this was heard of it, none where the field was lost. Where no listener hands anything
+    -- Behind payloads that were swapped, as a call that came to its end, RLS_REQ was sent, and this was heard of it, none where the field was lost. Where no listener hands anything
     -- over at it, the end stays: nothing more arrived.
     pub record SendsRls (heard : Option Heard) : Type 0 where
       pub mid : Air L
       pub rest : InitState
       pub half : PeerState
       pub carried : IsCarried k target old i far mid rest half None
+      pub to : Step
+      pub made : IsMade k target from old i far mid rest half to
       pub turn : TurnIs k.machine begins (Answers serving) mid rls_frame half heard new after
       pub same : ((l : L) → k.machine.handed l rls_frame ≡ Untouched) → after ≡ half
       pub arrives : ((l : L) → k.machine.handed l rls_frame ≡ Untouched) → Arrives i.core.number (drop (length old.trace) new.trace) far after
