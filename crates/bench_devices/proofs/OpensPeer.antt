@@ -6,6 +6,7 @@ use Rattle.std.proofs.lemmas.Bool.{cases_lt}
 use Rattle.std.proofs.lemmas.List.{append_cancel_left}
 use Rattle.nfc_base.specs.Signal.{Signal, whole_a}
 use Rattle.nfc_base.specs.Far.{Untouched, Hands}
+use Rattle.nfc_base.specs.LinkTurns.{bad_receptions}
 use Rattle.nfc_base.specs.Trace.{breaks, noise}
 use Rattle.nfc_base.specs.declared.event.Event.{Event}
 use Rattle.nfc_base.specs.declared.carrier.EndCause.{EndCause}
@@ -239,6 +240,11 @@ module _ (old : Air Device) (place : ℕ) (d : Device) (s : Stands (moment old) 
     noisy_by (Err Protocol) e is = absurd cc
     noisy_by (Err Memory) e is = absurd cc
 
+    calm_so : noise es ≡ 0 → bad_receptions es ≡ 0
+    calm_so =
+        let same : sent.events ≡ es = append_cancel_left old.trace sent.events es (sym sent.trace ∙ speaks.trace) in
+        subst (λ xs. noise xs ≡ 0 → bad_receptions xs ≡ 0) same sent.calm
+
     lit_unless : (result ≡ Err FieldLost → ⊥) → new.lit ≡ true
     lit_unless other = elim (cases_lt 0 (breaks es)) [
       | inl some ↦ absurd (other (by_break some))
@@ -264,6 +270,7 @@ module _ (old : Air Device) (place : ℕ) (d : Device) (s : Stands (moment old) 
       answers = answers;
       lost = (some_break, by_break);
       noisy = noisy_by result ends;
+      calm = calm_so;
       times = sent.times;
       restarted = sent.restarted;
       begun = begun_by result ends;

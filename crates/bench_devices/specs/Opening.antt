@@ -2,6 +2,7 @@
 -- NFC Forum Digital Protocol).
 use Rattle.std.specs.Prelude.{◌≡◌, ◌↔◌, ℕ, ◌<◌, List, [], ◌∷◌, true, false, Result, Ok, Err}
 use Rattle.std.specs.Result.{IfOk}
+use Rattle.nfc_base.specs.LinkTurns.{bad_receptions}
 use Rattle.nfc_base.specs.Trace.{breaks, noise}
 use Rattle.nfc_base.specs.declared.carrier.EndCause.{EndCause}
 use Rattle.nfc_base.specs.declared.carrier.EndCause.TheVariants.{FieldLost, SixBad, Protocol, Memory}
@@ -59,7 +60,7 @@ OpeningEnds new place d (Err Protocol) = ⊥
 OpeningEnds new place d (Err Memory) = new.lit ≡ true
 
 -- So it was asked of the peer at a place, up to some end: each request was due, and this is told by what was heard. The field is lost
--- exactly where a Break was used, and six receptions were bad only where a transmission didn't pass. The far end was restarted with these general bytes as often as ATR_REQ arrived, once at least where
+-- exactly where a Break was used, and a reception was bad only where a transmission didn't pass. The far end was restarted with these general bytes as often as ATR_REQ arrived, once at least where
 -- the link is open.
 pub record Opens {F : Type 0} (restarts : F → List ℕ → F → Type 0) (steps : F → List ℕ → List ℕ → F → Type 0) (old : Air Device) (far : F) (new : Air Device) (after : F)
     (general : List ℕ) (place : ℕ) (d : Device) (result : Result (InitState × ArrayVec ℕ) EndCause) : Type 0 where
@@ -68,6 +69,7 @@ pub record Opens {F : Type 0} (restarts : F → List ℕ → F → Type 0) (step
   pub answers : AnswersAtr true notes (stand 0 (atr_frame general ∷ []) notes) result
   pub lost : (result ≡ Err FieldLost) ↔ (0 < breaks speaks.events)
   pub noisy : result ≡ Err SixBad → 0 < noise speaks.events
+  pub calm : noise speaks.events ≡ 0 → bad_receptions speaks.events ≡ 0
   pub times : ℕ
   pub restarted : RestartedTimes restarts general times far after
   pub begun : IfOk result (λ p. 0 < times)

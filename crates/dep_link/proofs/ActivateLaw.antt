@@ -12,7 +12,7 @@ use Rattle.nfc_base.specs.declared.tag_link.AskFault.TheVariants as faults
 use Rattle.nfc_base.specs.declared.carrier.EndCause.TheVariants as cause
 use Rattle.nfc_base.specs.Signal.{Signal}
 use Rattle.nfc_base.specs.Far.{FarUse, Untouched, Restarts, Hands}
-use Rattle.nfc_base.specs.LinkTurns.{arrived}
+use Rattle.nfc_base.specs.LinkTurns.{arrived, bad_receptions}
 use Rattle.nfc_base.specs.Trace.{breaks, noise}
 use Rattle.air_core.specs.declared.fault.AirFault.TheVariants as air
 use Rattle.air_core.specs.Joint.{joint, same_tech}
@@ -41,7 +41,7 @@ use Rattle.dep_link.specs.Asking.{HasPeer}
 use Rattle.dep_link.specs.Activating.{atr_req, atr_frame, told_atr, RestartedTimes, sent_times, HasTarget, AtrSent, AtrLost, IsActivated, AtrFails}
 use Rattle.dep_link.proofs.Wire.{written_read, target_heeds}
 use Rattle.dep_link.proofs.Begun.{in_step_first}
-use Rattle.nfc_base.proofs.LinkTurns.{arrived_append}
+use Rattle.nfc_base.proofs.LinkTurns.{arrived_append, bads_append}
 use Rattle.dep_link.proofs.Answered.{Told, HandsNothing, DidBy, AnsweredTurn, answered_turn, stopped_at}
 use Rattle.dep_link.proofs.PeerTurns.{told, told_laws, alone_told, alone_back, left_by, alone_after}
 
@@ -94,6 +94,24 @@ module _ {F : Type 0} (restarts : F → List ℕ → F → Type 0) (steps : F �
   once_more Damage r u far far' e d far0 n t = none_more far far' d far0 n t
   once_more Lose r u far far' e d far0 n t = none_more far far' d far0 n t
   once_more Break r u far far' e d far0 n t = none_more far far' d far0 n t
+
+-- a turn in which something was said: where all passed it was heard
+pub said_calm : (f g : Signal) (x y : Fate) → noise (tag_events f x y (Some g)) ≡ 0 → bad_receptions (tag_events f x y (Some g)) ≡ 0
+said_calm f g Pass Pass z = refl
+said_calm f g Pass Damage z = absurd (omega (arith, z))
+said_calm f g Pass Lose z = absurd (omega (arith, z))
+said_calm f g Pass Break z = absurd (omega (arith, z))
+said_calm f g Damage y z = absurd (omega (arith, z))
+said_calm f g Lose y z = absurd (omega (arith, z))
+said_calm f g Break y z = absurd (omega (arith, z))
+
+more_calm : (es : List Event) (f g : Signal) (x y : Fate) → (noise es ≡ 0 → bad_receptions es ≡ 0) → noise (es ++ tag_events f x y (Some g)) ≡ 0 → bad_receptions (es ++ tag_events f x y (Some g)) ≡ 0
+more_calm es f g x y calm none =
+    let all = noise_append es (tag_events f x y (Some g)) in
+    let first : bad_receptions es ≡ 0 = calm (omega (arith, all, none)) in
+    let second : bad_receptions (tag_events f x y (Some g)) ≡ 0 = said_calm f g x y (omega (arith, all, none)) in
+    let sum = bads_append es (tag_events f x y (Some g)) refl in
+    omega (arith, sum, first, second)
 
 module _ {L F : Type 0} (k : Ghosts L) (target : L → TargetState) (restarts : F → List ℕ → F → Type 0) (old : Air L) (general : List ℕ) (t : HasTarget k target old general) (far0 : F) where
   -- Where the wait stands after so many bad receptions.
@@ -179,6 +197,7 @@ module _ {L F : Type 0} (k : Ghosts L) (laws : Laws k) (target : L → TargetSta
       times = 0;
       arrived = refl;
       restarted = refl;
+      calm = λ none. refl;
     };
     noisy = λ e. e;
   }
@@ -277,6 +296,7 @@ module _ {L F : Type 0} (k : Ghosts L) (laws : Laws k) (target : L → TargetSta
                   let a3 = arrived_one f x y (Some answer) in
                   let a4 = o.sent.arrived in omega (arith, a1, a2, a3, a4));
               restarted = once_more restarts steps general x a.reply (hands_over k.machine now f) far far' uses a.moved far0 o.sent.times o.sent.restarted;
+              calm = λ none. more_calm o.sent.events f answer x y o.sent.calm none;
             },
             refl,
             refl,

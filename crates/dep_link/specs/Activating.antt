@@ -73,7 +73,7 @@ module _ {L : Type 0} (k : Ghosts L) (target : L → TargetState) where
     pub takes : TakesAtr listener general
 
   -- From one moment to another ATR_REQ was sent again and again, and this is where its wait stands then. The far end was restarted as
-  -- often as it arrived. Nothing was handed over, so the air is the same under every reply.
+  -- often as it arrived. Nothing was handed over, so the air is the same under every reply. Where all passed no reception was bad.
   pub record AtrSent {F : Type 0} (restarts : F → List ℕ → F → Type 0) (old new : Air L) (general : List ℕ) (far after : F) (s : Standing) : Type 0 where
     pub notes : List Note
     pub going : (r : List ℕ) → Going (answering_air k.machine r) (waits_next (atr_frame general ∷ [])) (moment old) (moment new) notes
@@ -83,6 +83,7 @@ module _ {L : Type 0} (k : Ghosts L) (target : L → TargetState) where
     pub times : ℕ
     pub arrived : length (turns.arrived events) ≡ times
     pub restarted : RestartedTimes restarts general times far after
+    pub calm : noise events ≡ 0 → turns.bad_receptions events ≡ 0
 
   -- The answer came: the peer is in step with an initiator that cuts to its own LR code, and these are its own general bytes.
   pub record IsActivated (new : Air L) (own : TargetState) (i : InitState) (told : List ℕ) : Type 0 where
