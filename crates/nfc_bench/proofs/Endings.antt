@@ -22,7 +22,7 @@ use Rattle.bench_world.specs.Legal.{first_state}
 use Rattle.bench_world.specs.Obeying.{Benched}
 use Rattle.bench_world.specs.Taking.{AreSpelled, IsTaken, standing_of}
 use Rattle.bench_world.proofs.Shapes.{TakenAlike, legal_taken, taken_at, taken_too}
-use Rattle.nfc_bench.specs.Run.{AreObeyed, FrontIsObeyed, FirstRefused, AllTaken, RefusesLine, ObeysAll, ObeysFront, AddsFault, line_fault, read_fault, EndsDone, EndsRefused, EndsUnread, EndsUnwritten, ReadsInTime}
+use Rattle.nfc_bench.specs.Run.{AreObeyed, FrontIsObeyed, FirstRefused, AllTaken, RefusesLine, ObeysFront, AddsFault, line_fault, read_fault, EndsDone, EndsRefused, EndsUnread, EndsUnwritten, ReadsInTime}
 use Rattle.nfc_bench.specs.Stops.{Follows, LineRefused, LineCut, LineLost, LineStops, ObeyedBy, RunRefused, RunUnread, RunLost, RunStops}
 use Rattle.nfc_bench.proofs.Limits.{all_at, IsShort}
 use Rattle.nfc_bench.proofs.Progress.{Progress, GaveNext, Goes, goes, lines_on, whole_on, ended_on, leads_to, obeyed_more, obeyed_none}
@@ -47,10 +47,10 @@ goes_on_by left (Some rest) text is_ended read ended = record {
 }
 
 -- The lines that were obeyed are taken, and what is taken behind them is taken by the machines.
-abbrev done_taken : (done : List (List ℕ)) (b : Benched) → ObeyedBy done b → TakenAlike done b.state
+abbrev pub done_taken : (done : List (List ℕ)) (b : Benched) → ObeyedBy done b → TakenAlike done b.state
 done_taken done b o = legal_taken done o.obeyed.legal.numbers b.journal b.state (leads_to done b o)
 
-taken_there : (done : List (List ℕ)) (b : Benched) (o : ObeyedBy done b) (line : List ℕ) → IsTaken (standing_of (done_taken done b o).commands) line → IsTaken b.state line
+pub taken_there : (done : List (List ℕ)) (b : Benched) (o : ObeyedBy done b) (line : List ℕ) → IsTaken (standing_of (done_taken done b o).commands) line → IsTaken b.state line
 taken_there done b o line is = taken_too (standing_of (done_taken done b o).commands) b.state line (done_taken done b o).alike is
 
 -- the line that is next, whatever follows

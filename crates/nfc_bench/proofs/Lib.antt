@@ -5,3 +5,6 @@ pub mod Progress
 pub mod Endings
 pub mod Forms
 pub mod Writing
+pub mod Obeying
+pub mod Counting
+pub mod Workloads

@@ -1,11 +1,11 @@
 -- A script is read, and its lines are obeyed one by one.
-use Rattle.std.proofs.Common.{◌≡◌, ℕ, ◌+◌, ◌<◌, ◌≤◌, List, [], ◌∷◌, ◌++◌, length, Bool, true, false, Option, Ok, refl, sym, ◌∙◌, ap, subst, append_assoc, arith, inl, inr}
-use Rattle.std.specs.Prelude.{map, Result, Err, OnOk, IfErr, IfSome}
+use Rattle.std.proofs.Common.{◌≡◌, ℕ, ◌+◌, ◌≤◌, List, [], ◌∷◌, ◌++◌, length, Bool, true, false, Option, Ok, refl, sym, ◌∙◌, ap, subst, append_assoc, arith, inl, inr}
+use Rattle.std.specs.Prelude.{map, Err, IfSome}
 use Rattle.std.proofs.lemmas.Bool.{cases_Bool}
 use Rattle.std.proofs.lemmas.List.{append-nil, length-append}
 use Rattle.nfc_io.specs.Moves.{with_front, with_end}
 use Rattle.nfc_io.proofs.Moves.{with_front-nil, read_on}
-use Rattle.nfc_io.specs.Lines.{lines_of, whole_lines, NoLf}
+use Rattle.nfc_io.specs.Lines.{lines_of, whole_lines}
 use Rattle.nfc_io.specs.Reading.{Lined, new_lined, Fetches, Advances, GivesLine}
 use Rattle.nfc_io.proofs.InOrder.{ended_behind}
 use Rattle.nfc_io.proofs.Lines.{lines_front, whole_front, lines_last}
@@ -38,6 +38,9 @@ obeyed_none = is_obeyed [] [] [] first_state legal_none no_limits
 -- where lines lead a bench to its state, it obeyed them
 obeyed_by : (lines : List (List ℕ)) (numbers : List Joins) (b : Benched) → LeadsTo lines numbers b.journal b.state → AreWithinLimits lines → b.spoiled ≡ false → ObeyedBy lines b
 obeyed_by lines numbers b leads limits sound = record { obeyed = is_obeyed lines numbers b.journal b.state leads limits; machines = refl; sound = sound }
+
+pub obeyed_new : ObeyedBy [] new_bench
+obeyed_new = obeyed_by [] [] new_bench legal_none no_limits refl
 
 -- and the other way
 pub leads_to : (lines : List (List ℕ)) (b : Benched) (o : ObeyedBy lines b) → LeadsTo lines o.obeyed.legal.numbers b.journal b.state
@@ -76,7 +79,7 @@ progress_start quiet left t a b new none =
       lines = λ more follows. refl;
       whole = λ more going. refl;
       ended = λ over. absurd cc;
-      obeyed = obeyed_by [] [] new_bench legal_none no_limits refl;
+      obeyed = obeyed_new;
       number = refl;
       written = written_none quiet t;
       time = stops_at_once left;

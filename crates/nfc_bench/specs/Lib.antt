@@ -1,3 +1,4 @@
 pub mod Limits
+pub mod Made
 pub mod Run
 pub mod Stops

@@ -11,7 +11,7 @@ use Rattle.nfc_io.specs.Lines.{lines_of, whole_lines}
 use Rattle.bench_script.specs.Limits.{most_lines, longest_line, AreWithinLimits}
 use Rattle.nfc_bench.specs.Limits.{chunk_size, most_read}
 use Rattle.nfc_bench.specs.declared.top.words.Form.{Form}
-use Rattle.nfc_bench.specs.declared.top.words.Form.TheVariants.{Run}
+use Rattle.nfc_bench.specs.declared.top.words.Form.TheVariants.{Run, Make}
 use Rattle.nfc_bench.specs.declared.top.program.WordsFault.{WordsFault}
 use Rattle.nfc_bench.specs.declared.top.program.WordsFault.TheVariants.{Memory, NoText}
 use Rattle.bench_world.specs.Legal.{State, Given, Joins, EachLegal, first_state}
@@ -19,11 +19,18 @@ use Rattle.bench_world.specs.Obeying.{Benched}
 use Rattle.bench_world.specs.Journal.{LeadsTo, Legal, AgreeFor}
 use Rattle.bench_world.specs.Taking.{IsTaken, AreTaken, standing_of}
 use Rattle.bench_world.specs.Report.{entry_text, report_text}
+use Rattle.workload.specs.Workload.{IsCount, workload_lines, workload_commands}
+use Rattle.nfc_bench.specs.Made.{made_line}
+
+-- the greatest seed of a workload
+abbrev pub most_seed : ℕ
+most_seed = 65535
 
 -- these words are of this form; no words are of two
 abbrev pub FormOf : List (List ℕ) → Form → Type 0
 FormOf words (Run false) = words ≡ codes "run" ∷ []
 FormOf words (Run true) = words ≡ codes "run" ∷ codes "quiet" ∷ []
+FormOf words (Make seed count) = (words ≡ codes "make" ∷ decimal seed ∷ decimal count ∷ []) × (seed ≤ most_seed) × IsCount count
 
 -- What a run sees: its source, what that has left and the sink has taken, where they tell it, how often each failed, and the bench.
 pub record Seen (S : Type 0) : Type 0 where
@@ -192,9 +199,39 @@ pub record RanScript {S : Type 0} (quiet : Bool) (old new : Seen S) (n : ℕ) : 
   pub stop : ReadsInTime old.left new.left
   pub bound : ReadsAtMost most_read old.left new.left
 
+-- A run over a workload. Status 0: every line was obeyed, and the line about them written.
+pub record EndsMade (seed count : ℕ) (taken taken' : Option (List ℕ)) (journal : List Entry) : Type 0 where
+  pub obeyed : AreObeyed (workload_lines seed count) journal
+  pub written : taken' ≡ with_end taken (made_line seed count journal)
+
+-- Status 4: every line was obeyed, and the sink failed within the line about them.
+pub record EndsUntold (seed count : ℕ) (taken taken' : Option (List ℕ)) (writes writes' : ℕ) (journal : List Entry) : Type 0 where
+  pub risen : HasRisen writes writes'
+  pub obeyed : AreObeyed (workload_lines seed count) journal
+  pub written : GainsFront taken taken' (made_line seed count journal)
+
+-- Status 5: memory was wanting, and nothing was told of the lines that were obeyed.
+pub record EndsUnmade (seed count : ℕ) (taken taken' : Option (List ℕ)) (writes writes' : ℕ) (journal : List Entry) : Type 0 where
+  pub obeyed : FrontIsObeyed (workload_lines seed count) journal
+  pub written : AddsFault [] memory_fault taken taken' writes writes'
+
+-- What a run over a workload did: no line is refused, whatever happens to the frames, and the source is left as it was.
+pub record RanWorkload {S : Type 0} (seed count : ℕ) (old new : Seen S) (n : ℕ) : Type 0 where
+  pub status : (n ≡ 0) ⊎ ((n ≡ 4) ⊎ (n ≡ 5))
+  pub lines : AreTaken (workload_lines seed count) (workload_commands seed count)
+  pub source : new.source ≡ old.source
+  pub done : n ≡ 0 → EndsMade seed count old.taken new.taken new.bench.journal
+  pub still : n ≡ 0 → new.writes ≡ old.writes
+  pub unwritten : n ≡ 4 → EndsUntold seed count old.taken new.taken old.writes new.writes new.bench.journal
+  pub memory : n ≡ 5 → EndsUnmade seed count old.taken new.taken old.writes new.writes new.bench.journal
+  pub complete : (HasRisen old.writes new.writes → ⊥) → (n ≡ 0) ⊎ (n ≡ 5)
+  -- unless memory was wanting, the machines are in the state that the journal leaves
+  pub machines : (n ≡ 5 → ⊥) → Leaves new.bench
+
 -- What a run of a form did: which statuses there are and what each means is the form's own.
 abbrev pub RanAs : {S : Type 0} → Form → Seen S → Seen S → ℕ → Type 0
 RanAs (Run quiet) old new n = RanScript quiet old new n
+RanAs (Make seed count) old new n = RanWorkload seed count old new n
 
 -- What is left as it was, and the fault line, where the words are of no form: nothing was read, and no line obeyed.
 pub record RefusesWords {S : Type 0} (old new : Seen S) : Type 0 where

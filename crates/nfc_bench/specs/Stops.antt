@@ -1,5 +1,5 @@
 -- Why the parts of a run stop.
-use Rattle.std.specs.Prelude.{◌≡◌, ℕ, List, [], ◌∷◌, ◌++◌, Bool, false, Option, Result, Err}
+use Rattle.std.specs.Prelude.{◌≡◌, ℕ, List, [], ◌∷◌, ◌++◌, Bool, true, false, Option, Result, Err}
 use Rattle.nfc_io.specs.Counts.{HasRisen}
 use Rattle.nfc_io.specs.Moves.{with_end, GainsFront}
 use Rattle.bench_world.specs.declared.entry.Entry.{Entry}
@@ -20,6 +20,16 @@ pub record Follows (old new : Benched) (n : ℕ) (l : List ℕ) : Type 0 where
   pub numbered : Numbered n (l ∷ []) entries
   pub steps : EachLegal old.state given entries new.state
   pub sound : new.spoiled ≡ false
+
+-- one entry where the line asks for something, and none where it doesn't
+abbrev pub AreAsked : Bool → List Entry → Type 0
+AreAsked true entries = (entry : Entry) × (entries ≡ entry ∷ [])
+AreAsked false entries = entries ≡ []
+
+-- A line was obeyed, which asks for something or not.
+pub record LineObeyed (old new : Benched) (n : ℕ) (l : List ℕ) (asks : Bool) : Type 0 where
+  pub follows : Follows old new n l
+  pub asked : AreAsked asks follows.entries
 
 -- A line was obeyed, and its entry written, if it has one.
 pub record LineDone (quiet : Bool) (old new : Benched) (n : ℕ) (l : List ℕ) (taken taken' : Option (List ℕ)) : Type 0 where

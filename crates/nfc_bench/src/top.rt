@@ -1,7 +1,6 @@
 //! The top call: a run, from the bytes of a script to the bytes of its report.
 
-ghost use Rattle.std.specs.Prelude.{map, string_bytes, ◌⊎◌, ◌≡◌, ◌+◌, ◌<◌, ◌≤◌, ◌++◌, [], ℕ, List, length, Some};
-ghost use Rattle.std.specs.Fmt.{decimal};
+ghost use Rattle.std.specs.Prelude.{map, string_bytes, ◌⊎◌, ◌≡◌, ◌≤◌, [], ℕ, List, Some};
 ghost use Rattle.nfc_io.specs.Counts.{HasRisen};
 ghost use Rattle.nfc_io.specs.Lines.{lines_of};
 ghost use Rattle.nfc_bench.specs.Limits.{most_read};
@@ -10,9 +9,14 @@ ghost use Rattle.bench_world.specs.Obeying.{new_bench};
 
 #[cfg(test)]
 mod card_tests;
+mod counting;
 #[cfg(test)]
 mod crowd_tests;
 mod lines;
+#[cfg(test)]
+mod make_tests;
+mod making;
+mod obeying;
 #[cfg(test)]
 mod peer_tests;
 pub mod program;
@@ -22,6 +26,7 @@ mod store_tests;
 mod tags_tests;
 #[cfg(test)]
 mod tests;
+mod text;
 mod words;
 #[cfg(test)]
 mod world_tests;
@@ -32,8 +37,10 @@ mod writing;
 use arrayvec::ArrayVec;
 use bench_world::Bench;
 use lines::{Stop, run_script};
+use making::make_and_tell;
 use nfc_io::{Sink, Source, write_all};
 use std::alloc::Global;
+use text::{push_number, push_text};
 use words::{Form, form_of};
 
 /// Does what the words ask for, with a fault line where it stops early; answers the status. The status is that of the first
@@ -51,6 +58,7 @@ pub fn run_bench<S: Source, K: Sink>(
 {
     match form_of(words) {
         Some(Form::Run { quiet }) => run_and_tell(alloc, quiet, source, sink, bench),
+        Some(Form::Make { seed, count }) => make_and_tell(alloc, seed, count, sink, bench),
         None => {
             write_fault(sink, b"fault 6 words\n");
             6
@@ -119,26 +127,12 @@ fn write_fault<K: Sink>(sink: &mut K, line: &[u8])
 }
 
 /// The fault line of a line that was refused. It takes no memory.
-fn refusal(line: u32) -> ArrayVec<u8, 24>
+fn refusal(line: u32) -> ArrayVec<u8, 96>
     ensures { result.items ≡ line_fault line }
 {
     let mut text = ArrayVec::new();
-    text.try_extend_from_slice(b"fault 2 line ").unwrap();
-    push_decimal(&mut text, line);
-    text.push(b'\n');
+    push_text(&mut text, b"fault 2 line ");
+    push_number(&mut text, line);
+    push_text(&mut text, b"\n");
     text
-}
-
-/// Puts the digits of a number behind a text that has room for it.
-#[tactic(auto, using(std::proofs::lemmas::Fmt::decimal_digit))]
-fn push_decimal(text: &mut ArrayVec<u8, 24>, number: u32)
-    requires { length text.old.items + length (decimal number) ≤ 24 }
-    ensures { text.new.items ≡ text.old.items ++ decimal number }
-{
-    if number < 10 {
-        text.push(b'0' + number as u8);
-    } else {
-        push_decimal(text, number / 10);
-        text.push(b'0' + (number % 10) as u8);
-    }
 }

@@ -5,8 +5,8 @@ ghost use Rattle.nfc_bench.specs.Run.{EndsDone, ReadsInTime};
 ghost use Rattle.nfc_bench.specs.Stops.{IsLast, LineDone, LineStops, RunStops, LeavesUnless};
 ghost use Rattle.bench_world.specs.Obeying.{new_bench};
 
+use super::obeying::obey_text;
 use super::writing::write_entry;
-use bench_script::{Command, LineFault, parse_line};
 use bench_world::{Bench, Entry, ObeyFault};
 use nfc_io::{LineReader, LineStop, Sink, Source};
 use std::alloc::Global;
@@ -49,18 +49,11 @@ fn obey_line<K: Sink>(
     ensures still { OnOk result (K.faults sink.new ≡ K.faults sink.old) }
     ensures count { K.faults sink.old ≤ K.faults sink.new }
 {
-    let command = match parse_line(alloc, text) {
-        Ok(command) => command,
-        Err(LineFault::Refused) => return Err(Stop::Refused(line)),
-        Err(LineFault::Memory) => return Err(Stop::Memory),
-    };
-    match bench.obey(line, &command) {
-        Ok(()) => {}
+    match obey_text(alloc, line, text, bench) {
+        Ok(true) => {}
+        Ok(false) => return Ok(()),
         Err(ObeyFault::Refused) => return Err(Stop::Refused(line)),
         Err(ObeyFault::Memory) => return Err(Stop::Memory),
-    }
-    if let Command::Skip = command {
-        return Ok(());
     }
     match write_entry(sink, last_entry(bench), quiet) {
         Ok(()) => Ok(()),

@@ -1,7 +1,8 @@
 use Rattle.std.proofs.Common.{ℕ, refl, sym, subst, string_bytes, map, arith}
 use Rattle.nfc_bench.specs.declared.top.words.Form.{Form}
-use Rattle.nfc_bench.specs.Run.{FormOf, RanAs, RanScript, RefusesWords, sees}
-use Rattle.nfc_bench.proofs.Forms.{by_form, quiet_of, not_six}
+use Rattle.nfc_bench.specs.declared.top.words.Form.TheVariants.{Make}
+use Rattle.nfc_bench.specs.Run.{FormOf, RanAs, RanScript, RanWorkload, RefusesWords, sees}
+use Rattle.nfc_bench.proofs.Forms.{by_form, not_six, not_six_made}
 use Rattle.nfc_bench.proofs.top.run_bench.Goals as goal
 
 pub returns-in-Some-Run : goal.returns-in-Some-Run
@@ -13,15 +14,14 @@ returns-in-Some-Run g c =
     let e = c.run_and_tell.ensures in
     let form : Form = c.in-Some-Run.field-0 in
     let of : FormOf words form = c.in-Some-Run.ensures.some in
-    let is = quiet_of form in
-    let script : RanScript is.0 old new n = record {
+    let script : RanScript c.in-Some-Run.quiet old new n = record {
       status = e.status;
-      done = rw is.1 at e.done;
+      done = e.done;
       still = e.still;
-      refused = rw is.1 at e.refused;
-      unread = rw is.1 at e.unread;
-      unwritten = rw is.1 at e.unwritten;
-      memory = rw is.1 at e.memory;
+      refused = e.refused;
+      unread = e.unread;
+      unwritten = e.unwritten;
+      memory = e.memory;
       complete = e.complete;
       machines = e.machines;
       stop = e.stop;
@@ -29,12 +29,46 @@ returns-in-Some-Run g c =
     } in
     record {
       ran = record {
-        known = by_form words form of (λ f. RanAs f old new n) (subst (λ f. RanAs f old new n) (sym is.1) script);
+        known = by_form words form of (λ f. RanAs f old new n) (subst (λ f. RanAs f old new n) (sym c.in-Some-Run.field-0-is) script);
         unknown = (λ six. absurd (not_six n e.status six), λ none. absurd (none form of));
         same = λ six. absurd {A = RefusesWords old new} (not_six n e.status six);
         counts = (e.reads, e.writes);
       };
     }
+
+pub returns-in-Some-Make : goal.returns-in-Some-Make
+returns-in-Some-Make g c =
+    let words = map string_bytes c.args.words.now in
+    let old = sees g.S.Source g.K.Sink c.args.source.now c.args.sink.now c.args.bench.now in
+    let new = sees g.S.Source g.K.Sink c.args.source.now c.make_and_tell.new.sink c.make_and_tell.new.bench in
+    let n : ℕ = c.make_and_tell.result in
+    let e = c.make_and_tell.ensures in
+    let form : Form = c.in-Some-Make.field-0 in
+    let of : FormOf words form = c.in-Some-Make.ensures.some in
+    let made : RanWorkload c.in-Some-Make.seed c.in-Some-Make.count old new n = record {
+      status = e.status;
+      lines = e.lines;
+      source = refl;
+      done = e.done;
+      still = e.still;
+      unwritten = e.unwritten;
+      memory = e.memory;
+      complete = e.complete;
+      machines = e.machines;
+    } in
+    record {
+      ran = record {
+        known = by_form words form of (λ f. RanAs f old new n) (subst (λ f. RanAs f old new n) (sym c.in-Some-Make.field-0-is) made);
+        unknown = (λ six. absurd (not_six_made n e.status six), λ none. absurd (none form of));
+        same = λ six. absurd {A = RefusesWords old new} (not_six_made n e.status six);
+        counts = (omega arith, e.writes);
+      };
+    }
+
+pub make_and_tell-requires-clause-valid : goal.make_and_tell-requires-clause-valid
+make_and_tell-requires-clause-valid g c =
+    let of : FormOf (map string_bytes c.args.words.now) (Make c.in-Some-Make.seed c.in-Some-Make.count) = subst (FormOf (map string_bytes c.args.words.now)) c.in-Some-Make.field-0-is c.in-Some-Make.ensures.some in
+    of.2
 
 pub returns-in-None : goal.returns-in-None
 returns-in-None g c = record {

@@ -1,4 +1,4 @@
-use Rattle.nfc_bench.proofs.top.+push_decimal.Given as goal
+use Rattle.nfc_bench.proofs.top.text.+push_decimal.Given as goal
 
 abbrev pub decreases-push_decimal : goal.decreases-push_decimal
 decreases-push_decimal l = l.number

@@ -1,0 +1,24 @@
+use Rattle.std.proofs.Common.{◌≡◌, false, subst}
+use Rattle.bench_script.specs.declared.command.Command.{Command}
+use Rattle.bench_script.specs.Script.{Spells}
+use Rattle.bench_world.specs.Obeying.{Benched, Adds, Obeys}
+use Rattle.nfc_bench.proofs.Journals.{follows_skipped, follows_entry, asks_something, adds_of}
+use Rattle.nfc_bench.proofs.top.obeying.obey_text.Goals as goal
+
+pub returns-in-Skip-clause-ok : goal.returns-in-Skip-clause-ok
+returns-in-Skip-clause-ok c =
+    let old : Benched = c.args.bench.now in
+    let new : Benched = c.obey.new.self in
+    let O : Command → Type 0 = λ x. Obeys old new c.args.line x in
+    let S : Command → Type 0 = λ x. Spells c.args.text.now x in
+    let same : (old.spoiled ≡ false) × (new ≡ old) = subst O c.in-Skip.is c.in-Ok-obey.ensures.ok in
+    let it = follows_skipped old new c.args.line c.args.text.now (subst S c.in-Skip.is c.in-Ok.ensures.ok) same.0 same.1 in
+    record { follows = it.0; asked = it.1 }
+
+pub returns-clause-ok : goal.returns-clause-ok
+returns-clause-ok c =
+    let old : Benched = c.args.bench.now in
+    let new : Benched = c.obey.new.self in
+    let adds : Adds old new c.args.line c.in-Ok.command = adds_of old new c.args.line c.in-Ok.command c.in-Ok-obey.ensures.ok c.in_default.not-Skip in
+    let it = follows_entry old new c.args.line c.args.text.now c.in-Ok.command (asks_something c.args.text.now c.in-Ok.command c.in-Ok.ensures.ok c.in_default.not-Skip) c.in-Ok.ensures.ok adds in
+    record { follows = it.0; asked = (adds.entry, it.1) }

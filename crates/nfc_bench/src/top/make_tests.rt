@@ -1,0 +1,128 @@
+//! Whole runs over workloads.
+
+use super::program::program;
+use super::tags_tests::report;
+use super::*;
+use nfc_io::{Failed, MemSink, MemSource};
+use std::alloc::AllocError;
+use std::test::Fail;
+use workload::Workload;
+
+fn words_of(alloc: Global, text: &str) -> Result<Vec<String>, AllocError> {
+    let mut words: Vec<String> = Vec::new(alloc);
+    for word in text.split(' ') {
+        words.push(String::from_str(alloc, word)?)?;
+    }
+    Ok(words)
+}
+
+/// Words, the status, and what is written.
+const RUNS: [(&str, u8, &str); 12] = [
+    (
+        "make 5 3",
+        0,
+        "made 5 3 writes 3 reads 3 puts 3 bytes 756\n",
+    ),
+    (
+        "make 65535 1",
+        0,
+        "made 65535 1 writes 1 reads 1 puts 1 bytes 993\n",
+    ),
+    ("make", 6, "fault 6 words\n"),
+    ("make 5", 6, "fault 6 words\n"),
+    ("make 05 3", 6, "fault 6 words\n"),
+    ("make 5 03", 6, "fault 6 words\n"),
+    ("make +5 3", 6, "fault 6 words\n"),
+    ("make 5 0", 6, "fault 6 words\n"),
+    ("make 5 151", 6, "fault 6 words\n"),
+    ("make 5 259", 6, "fault 6 words\n"),
+    ("make 65536 1", 6, "fault 6 words\n"),
+    ("make 5 3 3", 6, "fault 6 words\n"),
+];
+
+/// One line is all that is written, and nothing is read.
+#[test]
+fn what_a_run_over_a_workload_tells(rt: HostRuntime) -> Result<(), Fail> {
+    let alloc = rt.alloc();
+    for (text, wanted, line) in RUNS {
+        let words = words_of(alloc, text)?;
+        let mut source = MemSource::new(Vec::from_slice(alloc, b"find\n")?, vec![in alloc; 1]?);
+        let mut sink = MemSink::new(alloc, 1 << 8, Vec::new(alloc))?;
+        let status = program(alloc, Ok(words), &mut source, &mut sink);
+        assert_eq!(rt; status, wanted, "{text}");
+        assert_eq!(rt; str::from_utf8(sink.content())?, line, "{text}");
+        assert!(rt; source.read(&mut [0; 8]).is_err(), "{text}");
+    }
+    Ok(())
+}
+
+/// A sink that takes at most five bytes a call, while it has room. It tells nothing of them.
+#[derive(Drop)]
+struct Drips {
+    inner: MemSink,
+}
+
+impl Sink for Drips {
+    ghost use Rattle.std.specs.Prelude.{None};
+
+    ghost taken = { λ _. None };
+
+    ghost faults = { λ s. s.inner.plan.faults };
+
+    fn write(&mut self, bytes: &[u8]) -> Result<usize, Failed> {
+        let size = bytes.len().min(5);
+        self.inner.write(&bytes[..size])
+    }
+}
+
+/// The line is written behind all commands, so a sink that fails leaves the journal whole.
+#[test]
+fn a_sink_that_fails(rt: HostRuntime) -> Result<(), Fail> {
+    let alloc = rt.alloc();
+    for (room, failing, line) in [
+        (1 << 8, 1, ""),
+        (1 << 8, 3, "made 5 1 w"),
+        (10, 9, "made 5 1 w"),
+    ] {
+        let words = words_of(alloc, "make 5 1")?;
+        let mut source = MemSource::new(Vec::new(alloc), Vec::new(alloc));
+        let inner = MemSink::new(alloc, room, vec![in alloc; failing]?)?;
+        let mut sink = Drips { inner };
+        let mut bench = Bench::new(alloc);
+        let status = run_bench(alloc, &words, &mut source, &mut sink, &mut bench);
+        assert_eq!(rt; status, 4, "{room} {failing}");
+        assert_eq!(rt; str::from_utf8(sink.inner.content())?, line);
+        assert_eq!(rt; bench.journal().len(), 7, "{room} {failing}");
+    }
+    Ok(())
+}
+
+/// How many lines of a report end with this.
+fn lines_with(report: &str, answer: &str) -> usize {
+    let mut count = 0usize;
+    for line in report.split('\n') {
+        if line.contains(answer) {
+            count += 1;
+        }
+    }
+    count
+}
+
+/// The same lines in a script have as many such answers.
+#[test]
+fn a_workload_as_a_script(rt: HostRuntime) -> Result<(), Fail> {
+    let alloc = rt.alloc();
+    let workload = Workload::new(5, 3).unwrap();
+    let mut script = String::new(alloc);
+    for place in 0..workload.line_count() {
+        script.push_str(str::from_utf8(&workload.line(place))?)?;
+        script.push_str("\n")?;
+    }
+    let (status, written) = report(alloc, "run quiet", script.as_str())?;
+    assert_eq!(rt; status, 0);
+    let text = str::from_utf8(&written)?;
+    assert_eq!(rt; lines_with(text, " written"), 3);
+    assert_eq!(rt; lines_with(text, " message "), 3);
+    assert_eq!(rt; lines_with(text, " success"), 3);
+    Ok(())
+}
