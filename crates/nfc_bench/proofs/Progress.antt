@@ -14,6 +14,7 @@ use Rattle.bench_world.specs.Journal.{LeadsTo}
 use Rattle.bench_world.specs.Legal.{State, Joins, Given, first_state}
 use Rattle.bench_world.specs.Obeying.{Benched, new_bench}
 use Rattle.bench_world.specs.Report.{report_text}
+use Rattle.bench_world.proofs.LinkLaw.{link_law}
 use Rattle.bench_world.proofs.OneJournal.{one_legal}
 use Rattle.bench_script.specs.Limits.{most_lines, longest_line, AreWithinLimits}
 use Rattle.nfc_bench.specs.Run.{AreObeyed, Leaves, ReadsInTime}
@@ -30,6 +31,7 @@ is_obeyed lines numbers journal last leads limits = record {
   legal = record { numbers = numbers; last = last; leads = leads };
   only = λ other others t is same. sym (one_legal lines numbers others journal other last t leads is same);
   limits = limits;
+  links = link_law lines numbers journal last leads;
 }
 
 pub obeyed_none : AreObeyed [] []

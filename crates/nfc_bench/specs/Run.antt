@@ -17,6 +17,7 @@ use Rattle.nfc_bench.specs.declared.top.program.WordsFault.TheVariants.{Memory, 
 use Rattle.bench_world.specs.Legal.{State, Given, Joins, EachLegal, first_state}
 use Rattle.bench_world.specs.Obeying.{Benched}
 use Rattle.bench_world.specs.Journal.{LeadsTo, Legal, AgreeFor}
+use Rattle.bench_world.specs.LinkLaw.{LinksAccept}
 use Rattle.bench_world.specs.Taking.{IsTaken, AreTaken, standing_of}
 use Rattle.bench_world.specs.Report.{entry_text, report_text}
 use Rattle.workload.specs.Workload.{IsCount, workload_lines, workload_commands}
@@ -59,11 +60,12 @@ abbrev pub line_fault : ℕ → List ℕ
 line_fault n = codes "fault 2 line " ++ decimal n ++ codes "\n"
 
 -- These lines were obeyed, and this is their journal: it is legal, and no other one is, by numbers of PDUs that are the same wherever a
--- command may take any.
+-- command may take any. And it keeps the law of links.
 pub record AreObeyed (lines : List (List ℕ)) (journal : List Entry) : Type 0 where
   pub legal : Legal lines journal
   pub only : (other : List Entry) (numbers : List Joins) (last : State) → LeadsTo lines numbers other last → AgreeFor journal legal.numbers numbers → other ≡ journal
   pub limits : AreWithinLimits lines
+  pub links : LinksAccept legal.numbers journal
 
 -- The first of these lines were obeyed, and this is their journal.
 pub record FrontIsObeyed (lines : List (List ℕ)) (journal : List Entry) : Type 0 where
