@@ -15,6 +15,7 @@ pub mod Legality
 pub mod OpensHere
 pub mod Restarted
 pub mod LinkHere
+pub mod WholeNotes
 pub mod LinkObeyed
 mod SelectedPlace
 pub mod AskedBehind

@@ -1,6 +1,7 @@
 -- A link was opened, or it was not: the peer wasn't found, it was a tag, or no answer came.
 use Rattle.std.proofs.Common.{◌≡◌, inl, inr, ℕ, zero, suc, ◌+◌, ◌<◌, List, [], ◌∷◌, ◌++◌, map, length, true, false, Option, Some, None, Result, Ok, Err, refl, sym, ◌∙◌, ap, subst, arith}
 use Rattle.std.specs.Prelude.{get_or, slice_set, IfOk}
+use Rattle.std.specs.List.{AllByRecursion}
 use Rattle.std.proofs.lemmas.Bool.{cases_lt}
 use Rattle.std.proofs.lemmas.List.{append-nil, length-map, length-set}
 use Rattle.nfc_base.specs.declared.event.Event.{Event}
@@ -36,7 +37,7 @@ use Rattle.snep_core.proofs.Ends.{begun_accords}
 use Rattle.bench_devices.specs.Choosing.{StandsAt}
 use Rattle.bench_devices.specs.Placed.{device_with}
 use Rattle.dep_link.specs.Activating.{atr_frame}
-use Rattle.dep_link.specs.AnyTarget.{AnswersAtr, told_initiator}
+use Rattle.dep_link.specs.AnyTarget.{AnswersAtr, atr_next, told_initiator}
 use Rattle.llcp_link.specs.Answering.{Answers}
 use Rattle.far_air.specs.FarEnds.{by_link, rests}
 use Rattle.far_air.specs.FarWorld.{with_numbers}
@@ -55,6 +56,7 @@ use Rattle.bench_devices.specs.declared.device.Device.TheVariants.{T2, T4, Peer,
 use Rattle.bench_devices.specs.declared.polling.SeenKind.{SeenKind}
 use Rattle.bench_devices.specs.declared.polling.SeenKind.TheVariants as kinds
 use Rattle.bench_devices.specs.Answering.{TellsStanding}
+use Rattle.bench_devices.specs.Hearing.{IsAnswered}
 use Rattle.bench_devices.specs.Device.{air, devices, device_linked, device_target, seen_of, is_tag, stable_of, StablePart}
 use Rattle.bench_devices.specs.Keeping.{Kept, kept, AreSound, AreTame, NoStore}
 use Rattle.bench_devices.specs.Opening.{linking, peer_next, Opens, Opened, OpeningEnds}
@@ -89,6 +91,7 @@ use Rattle.bench_world.proofs.PlacesKept.{served_as, kinds_of, first_end}
 use Rattle.bench_world.proofs.OnLink.{end_shown, end_there, linked_in}
 use Rattle.bench_world.proofs.Restarted.{KeepsEnd, begun_anew, times_keep, last_begun, far_there, far_set, set_there, set_rests, set_served, served_at, begin_self, first_of, readable_said}
 use Rattle.bench_world.proofs.Unlinking.{accepted_shown}
+use Rattle.bench_world.proofs.WholeNotes.{whole_notes}
 use Rattle.bench_world.proofs.Legality.{selecting_more, told_lost, poll_lost, asks_for, above, front_so, asks_so, plain_after, part_stays, stores_stay, stores_kept, stable_in}
 use Rattle.std.specs.Prelude.{◌-◌, ◌==◌, ◌≤◌, Bool, if◌then◌else◌}
 use Rattle.llcp_pdu.specs.Wire.{magic, least_miu}
@@ -196,6 +199,16 @@ more_breaks first rest some = omega (arith, some, breaks-append first rest)
 rest_breaks : (first rest : List Event) → (0 < breaks first → ⊥) → 0 < breaks (first ++ rest) → 0 < breaks rest
 rest_breaks first rest none all = elim (cases_lt 0 (breaks first)) [ inl some ↦ absurd (none some) | inr still ↦ omega (arith, all, still, breaks-append first rest) ]
 
+no_more_noise : (first rest : List Event) → noise (first ++ rest) ≡ 0 → noise rest ≡ 0
+no_more_noise first rest none = omega (arith, none, noise_append first rest)
+
+-- no wait lights the field up
+never_lit : (s : Standing) → due_at s ≡ LightUp → ⊥
+never_lit (Asking bad []) e = cc
+never_lit (Asking bad (c ∷ cs)) e = cc
+never_lit (Broken x cs) e = cc
+never_lit Astray e = cc
+
 more_noise : (first rest : List Event) → 0 < noise rest → 0 < noise (first ++ rest)
 more_noise first rest some = omega (arith, some, noise_append first rest)
 
@@ -249,6 +262,7 @@ module _ (ends : Ends) (peers : Peers) (old : Air Device) (id : List ℕ) (miu r
             λ broken. inl (poll_lost e answer is (s.lost.1 broken)),
           );
           noisy = λ six. absurd (poll_not_ended e answer is losses.SixBad six);
+          calm = λ none. tt;
         };
         begins = none_begins _ st no_joins id miu rw g.events answer (poll_not_linked e answer is);
         stays = stable_behind (moment old).world g.events ends none (stores_stay old new g.events world s.asked.same);
@@ -304,6 +318,7 @@ module _ (ends : Ends) (peers : Peers) (old : Air Device) (id : List ℕ) (miu r
               λ broken. absurd (no_break broken),
             );
             noisy = λ six. absurd (let clash : answers.WrongKind ≡ answers.LinkEnded losses.SixBad = six in cc);
+            calm = λ none. tt;
           };
           begins = tt;
           stays = stable_behind (moment old).world g.events ends none (stores_stay old mid g.events world s.selects.asked.same);
@@ -406,6 +421,12 @@ module _ (ends : Ends) (peers : Peers) (old : Air Device) (id : List ℕ) (miu r
           sym trace ∙ o.speaks.trace
           ∙ ap (λ t. t ++ o.speaks.events) (ap (λ (m : Moment (World Device)). m.trace) s.selects.asked.going.moment ∙ ap (λ t. t ++ s.selects.asked.going.events) idle.quiet)
 
+      -- where all passed ATR_REQ was answered
+      heard_whole : noise o.speaks.events ≡ 0 → AllByRecursion IsAnswered o.notes
+      heard_whole none =
+          subst (AllByRecursion IsAnswered) o.speaks.known
+          (whole_notes (atr_next (own_general miu)) (λ ns e. never_lit (stand 0 (atr_frame (own_general miu) ∷ []) ns) e) [] o.speaks.events o.speaks.each none (o.calm none))
+
       tells_by : (answer : Told_answer) → (IsFieldLost answer → result ≡ Err causes.FieldLost) → (result ≡ Err causes.FieldLost → IsFieldLost answer) → (answer ≡ answers.LinkEnded losses.SixBad → result ≡ Err causes.SixBad)
           → TellsStanding (λ a. a ≡ answers.Linked count) TellsLoss (stand 0 (atr_frame (own_general miu) ∷ []) o.notes) answer → LinkTells (A id) old.listeners count (own_general miu) es answer
       tells_by answer lost by six e =
@@ -421,6 +442,7 @@ module _ (ends : Ends) (peers : Peers) (old : Air Device) (id : List ℕ) (miu r
               λ some. by (o.lost.1 (rest_breaks first o.speaks.events no_break (subst (λ xs. 0 < breaks xs) parts some))),
             );
             noisy = λ is. subst (λ xs. 0 < noise xs) (sym parts) (more_noise first o.speaks.events (o.noisy (six is)));
+            calm = λ none. heard_whole (no_more_noise first o.speaks.events (subst (λ xs. noise xs ≡ 0) parts none));
           }
 
       abbrev Begins : OpenLink → Type 0

@@ -42,34 +42,8 @@ use Rattle.bench_world.proofs.Fronts.{on_field}
 use Rattle.bench_world.proofs.Placing.{IsWith, is_with, with_sound}
 use Rattle.bench_world.proofs.Quiet.{quiet_stays, quiet_reads, quiet_writes, quiet_finds}
 use Rattle.bench_world.proofs.QuietLinks.{quiet_talks}
+use Rattle.bench_world.proofs.WholeNotes.{all_unharmed}
 use Rattle.bench_world.proofs.Reached.{IsReadable, IsReady, message_bytes, ready_step, along, asking_all, first_ready}
-
--- Without noise nothing that is heard is damaged, and no field is lost.
-heard_first : (x : Fate) (es : List Event) → other_than_pass x + noise es ≡ 0 → IsUnharmed (note (heard_by x (back_of es)))
-heard_first Pass [] z = tt
-heard_first Pass (Reset ∷ es) z = tt
-heard_first Pass (Request g y ∷ es) z = tt
-heard_first Pass (Answer g Pass ∷ es) z = tt
-heard_first Pass (Answer g Damage ∷ es) z = absurd (omega (arith, z))
-heard_first Pass (Answer g Lose ∷ es) z = absurd (omega (arith, z))
-heard_first Pass (Answer g Break ∷ es) z = absurd (omega (arith, z))
-heard_first Pass (Clash g Pass ∷ es) z = tt
-heard_first Pass (Clash g Damage ∷ es) z = absurd (omega (arith, z))
-heard_first Pass (Clash g Lose ∷ es) z = absurd (omega (arith, z))
-heard_first Pass (Clash g Break ∷ es) z = absurd (omega (arith, z))
-heard_first Damage es z = absurd (omega (arith, z))
-heard_first Lose es z = absurd (omega (arith, z))
-heard_first Break es z = absurd (omega (arith, z))
-
-behind : (x : Fate) (n : ℕ) → other_than_pass x + n ≡ 0 → n ≡ 0
-behind x n z = omega (arith, z)
-
-all_unharmed : (es : List Event) → noise es ≡ 0 → AllByRecursion IsUnharmed (receptions es)
-all_unharmed [] z = tt
-all_unharmed (Reset ∷ es) z = (tt, all_unharmed es z)
-all_unharmed (Request g x ∷ es) z = (heard_first x es z, all_unharmed es (behind x (noise es) z))
-all_unharmed (Answer g x ∷ es) z = all_unharmed es (behind x (noise es) z)
-all_unharmed (Clash g x ∷ es) z = all_unharmed es (behind x (noise es) z)
 
 -- The device that a command selects and then asks heeds what is asked.
 abbrev start : State → Moment BenchWorld

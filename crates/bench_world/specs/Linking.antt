@@ -1,6 +1,7 @@
 -- What is answered where a link is opened, and the link that is open then (NFCIP-1, ISO/IEC 18092; NFC Forum LLCP 1.3; that a link has a number
 -- is this project's own).
 use Rattle.std.specs.Prelude.{◌≡◌, ◌↔◌, ◌⊎◌, ℕ, ◌<◌, List, [], ◌∷◌, Option, Some, None, Result, Ok, Err}
+use Rattle.std.specs.List.{AllByRecursion}
 use Rattle.nfc_base.specs.Trace.{noise, breaks}
 use Rattle.nfc_base.specs.declared.event.Event.{Event}
 use Rattle.nfc_base.specs.declared.tag_link.AskFault.{AskFault}
@@ -22,6 +23,7 @@ use Rattle.bench_devices.specs.declared.polling.SeenKind.{SeenKind}
 use Rattle.bench_devices.specs.declared.polling.SeenKind.TheVariants as seen
 use Rattle.bench_devices.specs.Answering.{HasPollCause, TellsStanding}
 use Rattle.bench_devices.specs.Device.{device_target}
+use Rattle.bench_devices.specs.Hearing.{IsAnswered}
 use Rattle.bench_devices.specs.Polling.{Told, selecting}
 use Rattle.bench_world.specs.declared.entry.Answer.{Answer}
 use Rattle.bench_world.specs.declared.entry.Answer.TheVariants as answers
@@ -78,7 +80,7 @@ abbrev pub IsFieldLost : Answer → Type 0
 IsFieldLost answer = (answer ≡ answers.FieldLost) ⊎ (answer ≡ answers.LinkEnded losses.FieldLost)
 
 -- The law of the answer, over the devices that are placed: first a device is selected, then it is asked for a link. The field is lost exactly
--- where a Break was used, and without noise no wait has six bad receptions.
+-- where a Break was used, and without noise no wait has six bad receptions: each note behind the selection is a whole answer.
 pub record LinkTells (id : DeviceId) (ds : List Device) (n : ℕ) (general : List ℕ) (events : List Event) (answer : Answer) : Type 0 where
   pub polled : Result SeenKind PollFault
   pub behind : List Note
@@ -87,3 +89,4 @@ pub record LinkTells (id : DeviceId) (ds : List Device) (n : ℕ) (general : Lis
   pub ends : LinkEnds n general polled behind answer
   pub lost : IsFieldLost answer ↔ (0 < breaks events)
   pub noisy : answer ≡ answers.LinkEnded losses.SixBad → 0 < noise events
+  pub calm : noise events ≡ 0 → AllByRecursion IsAnswered behind
