@@ -1,13 +1,14 @@
 -- On quiet air no reception is bad but the silences of polling, and a script without noise comes to what it should.
-use Rattle.std.proofs.Common.{◌≡◌, ◌⊎◌, inl, inr, ℕ, ◌+◌, List, [], ◌∷◌, ◌++◌, true, false, Some, refl, sym, ◌∙◌, ap, subst, arith}
+use Rattle.std.proofs.Common.{◌≡◌, ◌⊎◌, inl, inr, ℕ, ◌+◌, List, [], ◌∷◌, ◌++◌, true, false, Option, Some, None, Ok, refl, sym, ◌∙◌, ap, subst, arith}
 use Rattle.std.specs.List.{AllByRecursion}
 use Rattle.nfc_base.specs.Signal.{Signal}
+use Rattle.nfc_base.specs.LinkTurns.{bad_receptions}
 use Rattle.nfc_base.specs.Trace.{noise, back_of, heard_by, other_than_pass}
 use Rattle.nfc_base.specs.declared.event.Event.{Event}
 use Rattle.nfc_base.specs.declared.event.Event.TheVariants.{Reset, Request, Answer, Clash}
 use Rattle.nfc_base.specs.declared.event.Fate.{Fate}
 use Rattle.nfc_base.specs.declared.event.Fate.TheVariants.{Pass, Damage, Lose, Break}
-use Rattle.air_core.specs.Conversation.{note, AreTurns, FatesFrom, EachDue, Moment, receptions}
+use Rattle.air_core.specs.Conversation.{Note, Next, LightUp, note, AreTurns, FatesFrom, EachDue, Moment, receptions}
 use Rattle.bench_script.specs.declared.command.Command.{Command}
 use Rattle.bench_script.specs.declared.command.Command.TheVariants.{Skip, Fates, PlaceT2, PlaceT4, PlaceT5, PlacePeer, Lock, Busy, Offer, Remove, Dump, Inbox, Find, Read, Write, Link, Put, Get, Lookup, Unlink}
 use Rattle.bench_script.specs.declared.command.DeviceId.{DeviceId}
@@ -16,6 +17,7 @@ use Rattle.bench_script.specs.declared.message.Msg.{Msg}
 use Rattle.bench_script.specs.DeviceIds.{bytes_of}
 use Rattle.bench_script.specs.Messages.{message_of}
 use Rattle.bench_script.specs.Script.{Spells, SpellsId}
+use Rattle.snep_core.specs.Talk.{Puts, Gets, Finds, Leaves, begins}
 use Rattle.tag_reader.specs.Asked.{ToRead}
 use Rattle.bench_devices.specs.declared.device.Device.{Device}
 use Rattle.bench_devices.specs.Device.{BenchWorld, air, how_of, seen_of, is_tag}
@@ -23,7 +25,7 @@ use Rattle.bench_devices.proofs.TagOrPeer.{tag_or_peer, of_tag, of_peer, either_
 use Rattle.isodep_link.proofs.Heeding.{AreBytes}
 use Rattle.bench_world.specs.Reading.{ReadAsks}
 use Rattle.bench_world.specs.Writing.{WriteAsks}
-use Rattle.bench_devices.specs.Hearing.{IsUnharmed}
+use Rattle.bench_devices.specs.Hearing.{IsUnharmed, IsAnswered}
 use Rattle.bench_devices.specs.Keeping.{Kept, kept, IsSound}
 use Rattle.bench_devices.specs.Placed.{IfPlaced, device_with}
 use Rattle.bench_devices.specs.TagAsking.{tag_due}
@@ -31,18 +33,23 @@ use Rattle.bench_devices.proofs.PlainHeard.{IsHeeded}
 use Rattle.bench_devices.proofs.ReadHeeded.{asked_heeded}
 use Rattle.bench_devices.proofs.SelectedHeard.{Heed, IsId, tag_hears}
 use Rattle.bench_devices.proofs.WriteHeeded.{write_heeded}
+use Rattle.bench_world.specs.declared.entry.Answer.TheVariants as answers
 use Rattle.bench_world.specs.declared.entry.Entry.{Entry}
 use Rattle.bench_world.specs.Journal.{asking_lines, TakesNumbers}
-use Rattle.bench_world.specs.Legal.{State, Given, LegalStep, IsAskedBy, changed, due, first_state}
+use Rattle.bench_world.specs.Calls.{IfLinked, due_if, due_on, due_closing}
+use Rattle.bench_world.specs.Links.{OpenLink}
+use Rattle.bench_world.specs.Legal.{State, Given, LegalStep, AnswerLaw, LinkingLaw, PutLaw, GetLaw, LookupLaw, UnlinkLaw, IsAskedBy, changed, due, first_state}
 use Rattle.bench_world.specs.Quiet.{AllPass}
-use Rattle.bench_world.specs.QuietHearing.{AllAlong, tag_of, AnswersAll, IsWellHeard, IsHeardIfQuiet, IsQuietLine, IsQuietEntry, QuietHears, QuietScript}
+use Rattle.bench_world.specs.QuietHearing.{AllAlong, selected_by, IsOnLink, AnswersAll, IsWellHeard, IsHeardIfQuiet, IsQuietLine, IsQuietEntry, QuietHears, QuietScript}
 use Rattle.bench_world.proofs.Complete.{of_first}
 use Rattle.bench_world.proofs.CompleteLinkings.{links_quietly}
 use Rattle.bench_world.proofs.Fronts.{on_field}
 use Rattle.bench_world.proofs.Placing.{IsWith, is_with, with_sound}
 use Rattle.bench_world.proofs.Quiet.{quiet_stays, quiet_reads, quiet_writes, quiet_finds}
 use Rattle.bench_world.proofs.QuietLinks.{quiet_talks}
-use Rattle.bench_world.proofs.WholeNotes.{all_unharmed}
+use Rattle.bench_world.proofs.WholeNotes.{all_unharmed, nothing_asked, whole_notes}
+use Rattle.bench_world.proofs.CallNotes.{calls_plain, closings_plain}
+use Rattle.bench_world.proofs.OneAnswer.{one_end}
 use Rattle.bench_world.proofs.Reached.{IsReadable, IsReady, message_bytes, ready_step, along, asking_all, first_ready}
 
 -- The device that a command selects and then asks heeds what is asked.
@@ -92,7 +99,59 @@ module _ (s t : State) (g : Given) (line : List ℕ) (e : Entry) (r : IsReady s.
       (λ d sound bytes asks. writes_heeded (message_of m) d (tag_or_peer d) g.asked sound bytes (message_bytes spelled.1 m spelled.4) asks)
       (subst (λ c. IsAskedBy s c g.asked) is step.front.asks))
 
-  by_command : (c : Command) → e.command ≡ c → (id : DeviceId) → tag_of c ≡ Some id → AnswersAll id e
+  none : noise e.events ≡ 0
+  none = (quiet_stays s t g e step pass).0
+
+  link_answered : (i : List ℕ) (miu window : ℕ) → e.command ≡ Link i miu window → AnswersAll (A i) e
+  link_answered i miu window is kind since told =
+      let law : LinkingLaw s g.joins i miu window e.events e.answer = (let L : Command → Type 0 = λ c. AnswerLaw s g c e.events e.answer in subst L is step.answered) in
+      let same = one_end law.tells.polled (Ok kind) law.tells.behind since (sym law.tells.selected ∙ told) in
+      subst (AllByRecursion IsAnswered) same.1 (law.tells.calm none)
+
+  -- on the open link each is one; where none is open nothing is asked
+  on_link : (next : OpenLink → List Note → Next) (Is : OpenLink → Type 0) (Else : Type 0) (o : Option OpenLink) → ((l : OpenLink) (ns : List Note) → next l ns ≡ LightUp → ⊥) → ((l : OpenLink) → Is l → bad_receptions e.events ≡ 0)
+      → IfLinked o Is Else → EachDue (λ ns. due_if o (λ l. next l ns)) [] e.events → AllByRecursion IsAnswered (receptions e.events)
+  on_link next Is Else None never calm law each = subst (AllByRecursion IsAnswered) (sym (nothing_asked [] e.events each)) tt
+  on_link next Is Else (Some l) never calm law each = whole_notes (next l) (never l) [] e.events each none (calm l law)
+
+  -- as the command is one of these
+  abbrev lawful : Command → Type 0
+  lawful c = AnswerLaw s g c e.events e.answer
+
+  abbrev asked : Command → Type 0
+  asked c = EachDue (due s g c) [] e.events
+
+  talked : (c : Command) → lawful c → asked c → IsOnLink c → AllByRecursion IsAnswered (receptions e.events)
+  talked (Put m) law each on =
+      on_link (λ l ns. due_on l g.joins.own (Puts (message_of m)) ns) (λ l. PutLaw s g.joins l m e.events e.answer) (e.answer ≡ answers.NoLink) s.link
+      (λ l ns. (calls_plain g.joins.own (begins l.client (Puts (message_of m))) l.initiator ns).lit) (λ l h. h.told.calm none) law each
+  talked (Get most key) law each on =
+      on_link (λ l ns. due_on l g.joins.own (Gets most key) ns) (λ l. GetLaw s g.joins l most key e.events e.answer) (e.answer ≡ answers.NoLink) s.link
+      (λ l ns. (calls_plain g.joins.own (begins l.client (Gets most key)) l.initiator ns).lit) (λ l h. h.told.calm none) law each
+  talked (Lookup name) law each on =
+      on_link (λ l ns. due_on l g.joins.own (Finds name) ns) (λ l. LookupLaw s g.joins l name e.events e.answer) (e.answer ≡ answers.NoLink) s.link
+      (λ l ns. (calls_plain g.joins.own (begins l.client (Finds name)) l.initiator ns).lit) (λ l h. h.told.calm none) law each
+  talked Unlink law each on =
+      on_link (λ l ns. due_closing l g.joins.own ns) (λ l. UnlinkLaw s g.joins l e.events e.answer) (e.answer ≡ answers.NoLink) s.link
+      (λ l ns. (closings_plain g.joins.own (begins l.client Leaves) l.initiator ns).lit) (λ l h. h.told.calm none) law each
+  talked Skip law each on = absurd on
+  talked (Fates fates) law each on = absurd on
+  talked (PlaceT2 i blocks head) law each on = absurd on
+  talked (PlaceT4 i code container head) law each on = absurd on
+  talked (PlaceT5 i blocks size head) law each on = absurd on
+  talked (PlacePeer i lr miu rw limit) law each on = absurd on
+  talked (Lock i block) law each on = absurd on
+  talked (Busy i count times) law each on = absurd on
+  talked (Offer i key value) law each on = absurd on
+  talked (Remove i) law each on = absurd on
+  talked (Dump i) law each on = absurd on
+  talked (Inbox i) law each on = absurd on
+  talked Find law each on = absurd on
+  talked (Read i) law each on = absurd on
+  talked (Write i m) law each on = absurd on
+  talked (Link i miu window) law each on = absurd on
+
+  by_command : (c : Command) → e.command ≡ c → (id : DeviceId) → selected_by c ≡ Some id → AnswersAll id e
   by_command Skip is id of = absurd cc
   by_command (Fates fates) is id of = absurd cc
   by_command (PlaceT2 i blocks head) is id of = absurd cc
@@ -106,7 +165,7 @@ module _ (s t : State) (g : Given) (line : List ℕ) (e : Entry) (r : IsReady s.
   by_command (Dump i) is id of = absurd cc
   by_command (Inbox i) is id of = absurd cc
   by_command Find is id of = absurd cc
-  by_command (Link i miu window) is id of = absurd cc
+  by_command (Link i miu window) is id of = let same : A i ≡ id = cc in subst (λ x. AnswersAll x e) same (link_answered i miu window is)
   by_command (Put m) is id of = absurd cc
   by_command (Get most key) is id of = absurd cc
   by_command (Lookup name) is id of = absurd cc
@@ -115,7 +174,7 @@ module _ (s t : State) (g : Given) (line : List ℕ) (e : Entry) (r : IsReady s.
   by_command (Write i m) is id of = let same : i ≡ id = cc in write_answered id m (is ∙ ap (λ x. Write x m) same)
 
   well_heard : IsWellHeard e
-  well_heard = record { unharmed = all_unharmed e.events (quiet_stays s t g e step pass).0; answered = λ id of. by_command e.command refl id of }
+  well_heard = record { unharmed = all_unharmed e.events none; answered = λ id of. by_command e.command refl id of; talks = talked e.command step.answered step.front.each }
 
 -- Each entry is heard so from which on all passes.
 abbrev IsAny : List ℕ → Type 0

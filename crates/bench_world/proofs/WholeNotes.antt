@@ -1,5 +1,5 @@
 -- Where all passed nothing that is heard is damaged, and no field is lost; and where no reception was bad each is a whole answer.
-use Rattle.std.proofs.Common.{◌≡◌, ℕ, ◌+◌, List, [], ◌∷◌, ◌++◌, Option, Some, None, arith}
+use Rattle.std.proofs.Common.{◌≡◌, ℕ, ◌+◌, List, [], ◌∷◌, ◌++◌, Option, Some, None, refl, arith}
 use Rattle.std.specs.List.{AllByRecursion}
 use Rattle.nfc_base.specs.LinkTurns.{bads_heard, bad_receptions}
 use Rattle.nfc_base.specs.Trace.{noise, back_of, heard_by, other_than_pass}
@@ -9,7 +9,7 @@ use Rattle.nfc_base.specs.declared.event.Fate.{Fate}
 use Rattle.nfc_base.specs.declared.event.Fate.TheVariants.{Pass, Damage, Lose, Break}
 use Rattle.nfc_base.specs.declared.event.Heard.{Heard}
 use Rattle.nfc_base.specs.declared.event.Heard.TheVariants.{Whole, Collided, Damaged, Silent}
-use Rattle.air_core.specs.Conversation.{Note, note, Next, LightUp, EachDue, receptions}
+use Rattle.air_core.specs.Conversation.{Note, note, Next, Over, LightUp, Asks, EachDue, receptions}
 use Rattle.bench_devices.specs.Hearing.{IsUnharmed, IsAnswered}
 
 -- Without noise nothing that is heard is damaged, and no field is lost.
@@ -56,3 +56,11 @@ whole_notes next never before (Request f x ∷ es) each z bads =
     (heard, whole_notes next never (before ++ Request f x ∷ []) es each.1 (behind x (noise es) z) (omega (arith, bads)))
 whole_notes next never before (Answer g x ∷ es) each z bads = whole_notes next never (before ++ Answer g x ∷ []) es each (behind x (noise es) z) bads
 whole_notes next never before (Clash g x ∷ es) each z bads = whole_notes next never (before ++ Clash g x ∷ []) es each (behind x (noise es) z) bads
+
+-- where nothing is due nothing is heard
+pub nothing_asked : (before es : List Event) → EachDue (λ ns. Over) before es → receptions es ≡ []
+nothing_asked before [] each = refl
+nothing_asked before (Reset ∷ es) each = absurd (let clash : Over ≡ LightUp = each.0 in cc)
+nothing_asked before (Request f x ∷ es) each = absurd (let clash : Over ≡ Asks f = each.0 in cc)
+nothing_asked before (Answer g x ∷ es) each = nothing_asked (before ++ Answer g x ∷ []) es each
+nothing_asked before (Clash g x ∷ es) each = nothing_asked (before ++ Clash g x ∷ []) es each

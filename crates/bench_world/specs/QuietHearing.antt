@@ -5,8 +5,9 @@ use Rattle.nfc_base.specs.Trace.{noise}
 use Rattle.nfc_base.specs.declared.event.Fate.{Fate}
 use Rattle.air_core.specs.Conversation.{Note, receptions}
 use Rattle.bench_script.specs.declared.command.Command.{Command}
-use Rattle.bench_script.specs.declared.command.Command.TheVariants.{Fates, Find, Read, Write}
+use Rattle.bench_script.specs.declared.command.Command.TheVariants.{Fates, Find, Read, Write, Link, Put, Get, Lookup, Unlink}
 use Rattle.bench_script.specs.declared.command.DeviceId.{DeviceId}
+use Rattle.bench_script.specs.declared.command.DeviceId.TheVariants.{A}
 use Rattle.bench_script.specs.DeviceIds.{bytes_of}
 use Rattle.bench_script.specs.Messages.{message_of}
 use Rattle.bench_script.specs.declared.message.Msg.{Msg}
@@ -33,23 +34,33 @@ AllAlong P s [] (e ∷ es) = ⊥
 AllAlong P s (n ∷ ns) (e ∷ es) =
     let t = state_after s n e.command e.events (Some e.answer) in P s e t × AllAlong P t ns es
 
--- the tag that a command selects and then asks, if it does
-abbrev pub tag_of : Command → Option DeviceId
-tag_of (Read id) = Some id
-tag_of (Write id m) = Some id
-tag_of c = None
+-- the device that a command selects and then asks, if it does
+abbrev pub selected_by : Command → Option DeviceId
+selected_by (Read id) = Some id
+selected_by (Write id m) = Some id
+selected_by (Link id miu window) = Some (A id)
+selected_by c = None
 
--- Behind the selection of a tag each note of an entry is a whole answer.
+-- a command that talks on the link that is open, if one is
+abbrev pub IsOnLink : Command → Type 0
+IsOnLink (Put m) = Unit {0}
+IsOnLink (Get most key) = Unit {0}
+IsOnLink (Lookup name) = Unit {0}
+IsOnLink Unlink = Unit {0}
+IsOnLink c = ⊥
+
+-- Behind the selection of a device each note of an entry is a whole answer.
 abbrev pub AnswersAll : DeviceId → Entry → Type 0
 AnswersAll id e =
     (kind : SeenKind) (behind : List Note) → selecting id (receptions e.events) ≡ Told (Ok kind) behind
     → AllByRecursion IsAnswered behind
 
--- In an entry nothing was damaged or lost: no reception is bad but silences. Behind the selection of its tag each is a whole
--- answer, so those silences are polling's.
+-- In an entry nothing was damaged or lost: no reception is bad but silences. Behind the selection of its device each is a whole
+-- answer, and so is each of what is asked on a link, so those silences are polling's.
 pub record IsWellHeard (e : Entry) : Type 0 where
   pub unharmed : AllByRecursion IsUnharmed (receptions e.events)
-  pub answered : (id : DeviceId) → tag_of e.command ≡ Some id → AnswersAll id e
+  pub answered : (id : DeviceId) → selected_by e.command ≡ Some id → AnswersAll id e
+  pub talks : IsOnLink e.command → AllByRecursion IsAnswered (receptions e.events)
 
 abbrev pub IsHeardIfQuiet : State → Entry → State → Type 0
 IsHeardIfQuiet s e t = AllPass (changed s e.command).queue → IsWellHeard e
