@@ -56,8 +56,8 @@ pub mod OnClosing
 pub mod CloseOver
 pub mod Names
 pub mod CountedOn
-pub mod ArrivalsOn
-pub mod ArrivalsKept
+pub mod PayloadsOn
+pub mod PayloadsKept
 pub mod AtNumbers
 pub mod InRanges
 pub mod PutsTold

@@ -34,8 +34,9 @@ use Rattle.bench_world.specs.Stories.{Story, Stretch, begun_in, goes_on, last_go
 use Rattle.bench_world.proofs.AtNumbers.{AreHeld, Held, held, at_number, held_offered, held_under, at_own_place, more_held, same_held, with_held}
 use Rattle.bench_world.proofs.FarStays.{far_stay}
 use Rattle.bench_world.proofs.HeldOn.{nothing_sent}
+use Rattle.bench_world.proofs.PayloadsKept.{steps_kept}
 use Rattle.bench_world.proofs.PeersNumbered.{HavePlaces, busy_kind, locked_kind, number_under, places_changed, places_more, places_stay}
-use Rattle.bench_world.proofs.StoriesHere.{PlacesOf, Stand, StandBy, ended_closed, still_told, view_at, view_of}
+use Rattle.bench_world.proofs.StoriesHere.{PlacesOf, Stand, StandBy, ended_closed, open_stands, view_at, view_of}
 use Rattle.bench_world.proofs.StoriesOnLink.{call_over, came_to_end, link_begins, linked_number, linked_peer, put_over, same_opened}
 use Rattle.bench_world.proofs.StoriesStand.{View, at, Closed, Opened, Open, IsInStep, closed_keep, closed_told, open_keep, open_told}
 use Rattle.bench_world.proofs.StoriesStep.{as_many_held, as_many_offered, as_many_with, base_held, many_numbers, no_link, own_below, peer_more, peer_stands, removed_stands, same_link, same_peer, same_tag, tag_more, tag_stands}
@@ -131,7 +132,7 @@ module _ (w : WholeWorld) (q : List Fate) (p : Peers) (ys : List Story) (o : Opt
       let closed : Closed (view_at ends now.fars) ys = subst (λ ks. Closed (view_by ends ks) ys) (sym same) (ended_closed o p w.fars ys stand.stand) in
       let numbers : ends.numbers ≡ p.numbers = same_numbers o p w.fars in
       link_begins now (queue_after (changed s c).queue es) ends id w.field.listeners w.fars same
-      (places_behind c es ends.numbers refl (as_many_held now.fars w.fars same) numbers) ys closed n (next n is ∙ ap (λ k. k + 1) (sym (count_ended o p w.fars)))
+      (places_behind c es ends.numbers refl (as_many_held now.fars w.fars same) numbers) ys closed n (own_general miu) (next n is ∙ ap (λ k. k + 1) (sym (count_ended o p w.fars)))
       (link_if (placed_under id w.field.listeners p.numbers) (device_with id w.field.listeners) miu window)
       (λ l e. ap (placed_under id w.field.listeners) numbers ∙ linked_peer (placed_under id w.field.listeners p.numbers) (device_with id w.field.listeners) miu window l e)
   link_here id miu window es same next b is =
@@ -168,17 +169,18 @@ module _ (w : WholeWorld) (q : List Fate) (p : Peers) (ys : List Story) (l : Ope
       let t : State = then_ c es in
       let u : State = record { world = now; queue = queue; peers = ended_unless left (Some l) now.fars p; link = left } in
       let opened : Open (view_at p now.fars) l.peer ys = same_opened p w.fars now.fars l.peer ys same stand.stand in
-      let over : Stand u ys =
-      call_over now queue p l ys opened.opened left
-      (places_behind w q p ys (Some l) stand g a c es p.numbers devices (as_many_held now.fars w.fars same) refl) (λ m e. (peer m e, opened.step)) in
       let own : at (view_of t) l.peer ≡ at (view_of on) l.peer =
       ap (λ v. at (view_of v) l.peer) is ∙ ap (λ ns. at_number l.peer ns (map held now.fars)) (ended_numbers left (Some l) now.fars p)
       ∙ ap (at_number l.peer p.numbers) same in
-      let told : stories_behind on x t ys ≡ ys =
+      let zs : List Story = last_goes_on (goes_on on x t) ys in
+      let came : Open (view_at p now.fars) l.peer zs = open_stands on t x ys (view_at p now.fars) l.peer opened puts own in
+      let over : Stand u zs =
+      call_over now queue p l zs came.opened left
+      (places_behind w q p ys (Some l) stand g a c es p.numbers devices (as_many_held now.fars w.fars same) refl) (λ m e. (peer m e, came.step)) in
+      let told : stories_behind on x t ys ≡ zs =
       ap (λ zs. open_goes_on (changed on c).link (goes_on on x t) ys ++ zs) begins ∙ append-nil (open_goes_on (changed on c).link (goes_on on x t) ys)
-      ∙ ap (λ k. open_goes_on k (goes_on on x t) ys) still
-      ∙ still_told on t x ys (Some l) stand.stand puts (λ m e. let one : l ≡ m = cc in subst (λ k. at (view_of t) k.peer ≡ at (view_of on) k.peer) one own) in
-      subst (Stand t) (sym told) (subst (λ v. Stand v ys) (sym is) over)
+      ∙ ap (λ k. open_goes_on k (goes_on on x t) ys) still in
+      subst (Stand t) (sym told) (subst (λ v. Stand v zs) (sym is) over)
 
   -- a put
   put_here : (m : Msg) (es : List Event) → PutLaw on g.joins l m es a → Goes (Put m) es (then_ (Put m) es)
@@ -363,6 +365,7 @@ link_law lines numbers journal last leads =
     let all = all_keep (view_of last) last.link (stories_from first_state [] (map (λ (g : Given). g.joins) leads.given) journal) stand.stand in
     record {
       accept = all.0;
+      arrived = steps_kept first_state leads.given journal last [] (record { all = tt; going = tt }) leads.steps;
       counted = all.1;
       inboxes = λ before e behind id split is. inbox_along first_state last leads.given before e behind [] id first_stand (subst (λ es. EachLegal first_state leads.given es last) split leads.steps) is;
     })

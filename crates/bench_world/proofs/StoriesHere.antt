@@ -2,6 +2,7 @@
 use Rattle.std.proofs.Common.{◌≡◌, ◌⊎◌, inl, inr, ℕ, ◌<◌, ◌≤◌, List, [], ◌∷◌, ◌++◌, map, length, drop, Option, Some, None, refl, sym, ◌∙◌, ap, subst}
 use Rattle.std.proofs.lemmas.List.{append-nil}
 use Rattle.std.proofs.Math.Seq.{drop-length, drop-append_seam}
+use Rattle.nfc_base.specs.declared.event.Event.{Event}
 use Rattle.snep_core.specs.Accord.{from_client}
 use Rattle.snep_core.specs.Links.{LinkAccepts, Told, Success, Rejected, Unanswered, Put}
 use Rattle.snep_core.specs.Server.{Received as Accepted}
@@ -19,7 +20,7 @@ use Rattle.bench_world.specs.Stories.{Opener, ByLink, LinkPut, Story, Stretch, t
 use Rattle.bench_world.proofs.AtNumbers.{Held, held, held_at}
 use Rattle.bench_world.proofs.PeersNumbered.{HavePlaces}
 use Rattle.bench_world.proofs.PutsTold.{InStep, in_step_accepts, taken_more, refused_more, none_more, one_more, with_none, with_one}
-use Rattle.bench_world.proofs.StoriesStand.{View, at, Closed, Opened, Open, IsInStep, in_step_keeps, last_story, closed_here, view_ended, stories}
+use Rattle.bench_world.proofs.StoriesStand.{View, at, Closed, Opened, Open, IsInStep, in_step_keeps, closed_here, view_ended, came, went_on, open_came}
 
 abbrev pub view_at : Peers → List (Option FarEnd) → View
 view_at p fars = record { numbers = p.numbers; placed = next_number p; links = p.links; held = map held fars }
@@ -60,23 +61,25 @@ gain n s t k h more before after grown =
     ap (λ xs. drop (length xs) (accepted_in n t)) (accepted_is n s ∙ ap taken_by before)
     ∙ ap (drop (length k.accepted)) (accepted_is n t ∙ ap taken_by after ∙ grown) ∙ drop-append_seam k.accepted more
 
--- a stretch that puts nothing, and in which its peer accepted nothing, leaves a story
-goes_same : (s t : State) (x : Stretch) (y : Story) → puts_in x.command x.told ≡ [] → gained_by y.peer s t ≡ [] → goes_on s x t y ≡ y
+-- by a stretch that puts nothing, and in which its peer accepted nothing, a story goes on by what happened
+pub goes_same : (s t : State) (x : Stretch) (y : Story) → puts_in x.command x.told ≡ [] → gained_by y.peer s t ≡ [] → goes_on s x t y ≡ came x.events y
 goes_same s t x y puts gained =
-    let S : List LinkPut → List Accepted → Story = λ ps gs. record y { puts = ps; gained = gs } in
+    let S : List LinkPut → List Accepted → Story = λ ps gs. record y { events = y.events ++ x.events; puts = ps; gained = gs } in
     let p : y.puts ++ puts_in x.command x.told ≡ y.puts = ap (λ ps. y.puts ++ ps) puts ∙ append-nil y.puts in
     let g : y.gained ++ gained_by y.peer s t ≡ y.gained = ap (λ gs. y.gained ++ gs) gained ∙ append-nil y.gained in
     ap (λ ps. S ps (y.gained ++ gained_by y.peer s t)) p ∙ ap (S y.puts) g
 
-pub still_told : (s t : State) (x : Stretch) (ys : List Story) (o : Option OpenLink) → StandBy (view_of s) o ys → puts_in x.command x.told ≡ []
-    → ((l : OpenLink) → o ≡ Some l → at (view_of t) l.peer ≡ at (view_of s) l.peer) → open_goes_on o (goes_on s x t) ys ≡ ys
-still_told s t x ys None stand puts same = refl
-still_told s t x ys (Some l) stand puts same =
+pub open_stands : (s t : State) (x : Stretch) (ys : List Story) (v : View) (n : ℕ) → Open v n ys → puts_in x.command x.told ≡ [] → at (view_of t) n ≡ at (view_of s) n
+    → Open v n (last_goes_on (goes_on s x t) ys)
+open_stands s t x ys v n stand puts same =
     let y : Story = stand.opened.now.story in
-    let before : List Story = stories stand.opened.done in
-    let own : gained_by y.peer s t ≡ [] = ap (λ n. gained_by n s t) stand.opened.going.own ∙ no_gain l.peer s t (same l refl) in
-    ap (last_goes_on (goes_on s x t)) stand.opened.told ∙ last_story (goes_on s x t) before y ∙ ap (λ z. before ++ z ∷ []) (goes_same s t x y puts own)
-    ∙ sym stand.opened.told
+    let own : gained_by y.peer s t ≡ [] = ap (λ m. gained_by m s t) stand.opened.going.own ∙ no_gain n s t same in
+    open_came v n ys stand (goes_on s x t) x.events (goes_same s t x y puts own)
+
+pub still_stands : (s t : State) (x : Stretch) (ys : List Story) (v : View) (o : Option OpenLink) → StandBy v o ys → puts_in x.command x.told ≡ []
+    → ((l : OpenLink) → o ≡ Some l → at (view_of t) l.peer ≡ at (view_of s) l.peer) → StandBy v o (open_goes_on o (goes_on s x t) ys)
+still_stands s t x ys v None stand puts same = stand
+still_stands s t x ys v (Some l) stand puts same = open_stands s t x ys v l.peer stand puts (same l refl)
 
 -- the open link ends
 pub count_is : (o : Option FarEnd) → accepted_by o ≡ length (taken_by (held o))
@@ -113,33 +116,33 @@ takes_so m (Some end) k a more e h =
     subst (λ (x : Held). TakesSo x.limit m a more) is (takes_end m end a more h)
 
 -- so a story goes on that was in step
-abbrev pub put_to : Story → List ℕ → Told → List Accepted → Story
-put_to y m told more = record y { puts = y.puts ++ record { source = client_sap; put = record { message = m; told = told } } ∷ []; gained = y.gained ++ more }
+abbrev pub put_to : Story → List Event → List ℕ → Told → List Accepted → Story
+put_to y es m told more = went_on es (record { source = client_sap; put = record { message = m; told = told } } ∷ []) more y
 
-module _ (y : Story) (step : IsInStep y) (m : List ℕ) where
+module _ (y : Story) (step : IsInStep y) (es : List Event) (m : List ℕ) where
   abbrev Step : List Put → List (List ℕ) → Type 0
-  Step = InStep y.limit
+  Step = InStep y.begun.service.limit
 
   itself : (ps : List Put) (xs : List (List ℕ)) → Step ps xs → Step ps xs
   itself ps xs s = s
 
-  taken_story : length m ≤ y.limit → IsInStep (put_to y m Success (from_client m ∷ []))
+  taken_story : length m ≤ y.begun.service.limit → IsInStep (put_to y es m Success (from_client m ∷ []))
   taken_story within =
-      with_one Step Step itself y.puts y.gained step (record { message = m; told = Success }) m (λ ps xs s. taken_more y.limit ps xs s m within)
+      with_one Step Step itself y.puts y.gained step (record { message = m; told = Success }) m (λ ps xs s. taken_more y.begun.service.limit ps xs s m within)
 
-  refused_story : y.limit < length m → IsInStep (put_to y m Rejected [])
+  refused_story : y.begun.service.limit < length m → IsInStep (put_to y es m Rejected [])
   refused_story beyond =
-      with_none Step Step itself y.puts y.gained step (record { message = m; told = Rejected }) (λ ps xs s. refused_more y.limit ps xs s m beyond)
+      with_none Step Step itself y.puts y.gained step (record { message = m; told = Rejected }) (λ ps xs s. refused_more y.begun.service.limit ps xs s m beyond)
 
-  unanswered_none : (o : Opener) → AcceptsPuts o (put_to y m Unanswered [])
+  unanswered_none : (o : Opener) → AcceptsPuts o (put_to y es m Unanswered [])
   unanswered_none ByLink =
-      with_none Step (LinkAccepts y.limit) (in_step_accepts y.limit) y.puts y.gained step (record { message = m; told = Unanswered })
-      (λ ps xs s. none_more y.limit ps xs s m)
+      with_none Step (LinkAccepts y.begun.service.limit) (in_step_accepts y.begun.service.limit) y.puts y.gained step (record { message = m; told = Unanswered })
+      (λ ps xs s. none_more y.begun.service.limit ps xs s m)
 
-  unanswered_one : length m ≤ y.limit → (o : Opener) → AcceptsPuts o (put_to y m Unanswered (from_client m ∷ []))
+  unanswered_one : length m ≤ y.begun.service.limit → (o : Opener) → AcceptsPuts o (put_to y es m Unanswered (from_client m ∷ []))
   unanswered_one within ByLink =
-      with_one Step (LinkAccepts y.limit) (in_step_accepts y.limit) y.puts y.gained step (record { message = m; told = Unanswered }) m
-      (λ ps xs s. one_more y.limit ps xs s m within)
+      with_one Step (LinkAccepts y.begun.service.limit) (in_step_accepts y.begun.service.limit) y.puts y.gained step (record { message = m; told = Unanswered }) m
+      (λ ps xs s. one_more y.begun.service.limit ps xs s m within)
 
   -- it keeps the law, and is in step still unless the link ended
   abbrev pub KeptBy : Answer → Story → Type 0
@@ -148,15 +151,15 @@ module _ (y : Story) (step : IsInStep y) (m : List ℕ) where
   in_step_kept : (a : Answer) (z : Story) → IsInStep z → KeptBy a z
   in_step_kept a z s = (in_step_keeps z s, λ never. s)
 
-  pub kept_by : (a : Answer) (more : List Accepted) → TakesSo y.limit m a more → KeptBy a (put_to y m (told_put (Some a)) more)
+  pub kept_by : (a : Answer) (more : List Accepted) → TakesSo y.begun.service.limit m a more → KeptBy a (put_to y es m (told_put (Some a)) more)
   kept_by a more (inl h) =
-      subst (λ xs. KeptBy a (put_to y m (told_put (Some a)) xs)) (sym h.2) (subst (λ t. KeptBy a (put_to y m t (from_client m ∷ []))) (sym h.0)
-      (in_step_kept a (put_to y m Success (from_client m ∷ [])) (taken_story h.1)))
+      subst (λ xs. KeptBy a (put_to y es m (told_put (Some a)) xs)) (sym h.2) (subst (λ t. KeptBy a (put_to y es m t (from_client m ∷ []))) (sym h.0)
+      (in_step_kept a (put_to y es m Success (from_client m ∷ [])) (taken_story h.1)))
   kept_by a more (inr (inl h)) =
-      subst (λ xs. KeptBy a (put_to y m (told_put (Some a)) xs)) (sym h.2) (subst (λ t. KeptBy a (put_to y m t [])) (sym h.0)
-      (in_step_kept a (put_to y m Rejected []) (refused_story h.1)))
-  kept_by a more (inr (inr h)) = subst (λ t. KeptBy a (put_to y m t more)) (sym h.0) (by h.2)
+      subst (λ xs. KeptBy a (put_to y es m (told_put (Some a)) xs)) (sym h.2) (subst (λ t. KeptBy a (put_to y es m t [])) (sym h.0)
+      (in_step_kept a (put_to y es m Rejected []) (refused_story h.1)))
+  kept_by a more (inr (inr h)) = subst (λ t. KeptBy a (put_to y es m t more)) (sym h.0) (by h.2)
     where
-      by : (more ≡ []) ⊎ ((length m ≤ y.limit) × (more ≡ from_client m ∷ [])) → KeptBy a (put_to y m Unanswered more)
-      by (inl none) = subst (λ xs. KeptBy a (put_to y m Unanswered xs)) (sym none) (unanswered_none y.opener, λ never. absurd (never h.1.0 h.1.1))
-      by (inr one) = subst (λ xs. KeptBy a (put_to y m Unanswered xs)) (sym one.1) (unanswered_one one.0 y.opener, λ never. absurd (never h.1.0 h.1.1))
+      by : (more ≡ []) ⊎ ((length m ≤ y.begun.service.limit) × (more ≡ from_client m ∷ [])) → KeptBy a (put_to y es m Unanswered more)
+      by (inl none) = subst (λ xs. KeptBy a (put_to y es m Unanswered xs)) (sym none) (unanswered_none y.opener, λ never. absurd (never h.1.0 h.1.1))
+      by (inr one) = subst (λ xs. KeptBy a (put_to y es m Unanswered xs)) (sym one.1) (unanswered_one one.0 y.opener, λ never. absurd (never h.1.0 h.1.1))

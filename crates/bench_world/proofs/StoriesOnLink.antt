@@ -92,7 +92,7 @@ module _ (s t : State) (l : OpenLink) (ys : List Story) (o : Open (view_of s) l.
   abbrev x : Stretch
   x = record { command = commands.Put m; events = events; told = Some a }
 
-  takes : TakesSo y.limit (message_of m) a more
+  takes : TakesSo y.begun.service.limit (message_of m) a more
   takes =
       subst (λ n. TakesSo n (message_of m) a more) o.opened.going.limit
       (takes_so (message_of m) (end_of s l) o.opened.going.there a more (held_at l.peer s.peers.numbers s.world.fars ∙ o.opened.going.found) adds)
@@ -105,18 +105,18 @@ module _ (s t : State) (l : OpenLink) (ys : List Story) (o : Open (view_of s) l.
       ap (λ ns. at_number l.peer ns (map held t.world.fars)) numbers ∙ ap (at_number l.peer s.peers.numbers) accepted
       ∙ found_after (view_of s) l.peer ys o.opened more
 
-  goes : goes_on s x t y ≡ put_to y (message_of m) (told_put (Some a)) more
+  goes : goes_on s x t y ≡ put_to y events (message_of m) (told_put (Some a)) more
   goes =
       let gained : gained_by y.peer s t ≡ more =
       ap (λ n. gained_by n s t) o.opened.going.own ∙ gain l.peer s t o.opened.going.there grown more o.opened.going.found there_now refl in
-      ap (λ gs. put_to y (message_of m) (told_put (Some a)) gs) gained
+      ap (λ gs. put_to y events (message_of m) (told_put (Some a)) gs) gained
 
-  kept : KeptBy y o.step (message_of m) a (put_to y (message_of m) (told_put (Some a)) more)
-  kept = kept_by y o.step (message_of m) a more takes
+  kept : KeptBy y o.step events (message_of m) a (put_to y events (message_of m) (told_put (Some a)) more)
+  kept = kept_by y o.step events (message_of m) a more takes
 
   pub put_over : (z : Opened (view_more (view_of s) l.peer more) l.peer (last_goes_on (goes_on s x t) ys)) × (((loss : Loss) → a ≡ answers.LinkEnded loss → ⊥) → IsInStep z.now.story)
   put_over =
-      let z = opened_more (view_of s) l.peer ys o.opened more (goes_on s x t) (puts_in (commands.Put m) (Some a)) goes (subst KeepsLinkLaw (sym goes) kept.0) in
+      let z = opened_more (view_of s) l.peer ys o.opened more (goes_on s x t) events (puts_in (commands.Put m) (Some a)) goes (subst KeepsLinkLaw (sym goes) kept.0) in
       (z.0, λ unlost. subst IsInStep (sym (z.1 ∙ goes)) (kept.1 unlost))
 
 -- `linked` tells the next number.
@@ -161,12 +161,12 @@ linked_peer None d miu window l is = absurd cc
 
 -- so a story begins with it, to whatever end stands there
 module _ (w : WholeWorld) (q : List Fate) (p : Peers) (id : List ℕ) (ds : List Device) (before : List (Option FarEnd)) (same : map held w.fars ≡ map held before)
-    (places : HavePlaces w.field.listeners p.numbers w.fars) (ys : List Story) (c : Closed (view_at p w.fars) ys) (number : ℕ) (next : number ≡ length p.links + 1) where
+    (places : HavePlaces w.field.listeners p.numbers w.fars) (ys : List Story) (c : Closed (view_at p w.fars) ys) (number : ℕ) (general : List ℕ) (next : number ≡ length p.links + 1) where
   abbrev behind_link : Option OpenLink → State
   behind_link left = record { world = w; queue = q; peers = begun_if left before p; link = left }
 
   first_story : (l : OpenLink) (k : Held) (o : Option FarEnd) → at (view_at p w.fars) l.peer ≡ Some k → held o ≡ Some k
-      → Open (view_begun (view_at p w.fars) l.peer (length k.accepted)) l.peer (ys ++ first_of number l.peer o)
+      → Open (view_begun (view_at p w.fars) l.peer (length k.accepted)) l.peer (ys ++ first_of number general l.peer o)
   first_story l k None found is = absurd cc
   first_story l k (Some end) found is =
       let same_end : record { limit = end.service.limit; accepted = end.service.accepted } ≡ k = cc in
@@ -174,7 +174,7 @@ module _ (w : WholeWorld) (q : List Fate) (p : Peers) (id : List ℕ) (ds : List
       open_here (view_at p w.fars) l.peer ys c k found _ next refl limit refl refl
 
   pub link_begins : (left : Option OpenLink) → ((l : OpenLink) → left ≡ Some l → placed_under id ds p.numbers ≡ Some l.peer)
-      → Stand (behind_link left) (ys ++ story_if number left (behind_link left))
+      → Stand (behind_link left) (ys ++ story_if number general left (behind_link left))
   link_begins None peer = subst (Stand (behind_link None)) (sym (append-nil ys)) (record { places = places; stand = c })
   link_begins (Some l) peer =
       let there = at_own_place l.peer (next_number p) id ds p.numbers (map held w.fars) c.base.held c.base.apart (peer l refl) in
@@ -182,9 +182,9 @@ module _ (w : WholeWorld) (q : List Fate) (p : Peers) (id : List ℕ) (ds : List
       let count : length k.accepted ≡ accepted_at l.peer p before =
       sym (count_is (end_numbered l.peer p.numbers before)
       ∙ ap (λ x. length (taken_by x)) (held_at l.peer p.numbers before ∙ ap (at_number l.peer p.numbers) (sym same) ∙ there.1)) in
-      let begins : Open (view_begun (view_at p w.fars) l.peer (length k.accepted)) l.peer (ys ++ first_of number l.peer (end_numbered l.peer p.numbers w.fars)) =
+      let begins : Open (view_begun (view_at p w.fars) l.peer (length k.accepted)) l.peer (ys ++ first_of number general l.peer (end_numbered l.peer p.numbers w.fars)) =
       first_story l k (end_numbered l.peer p.numbers w.fars) there.1 (held_at l.peer p.numbers w.fars ∙ there.1) in
       record {
         places = places;
-        stand = subst (λ n. Open (view_begun (view_at p w.fars) l.peer n) l.peer (ys ++ first_of number l.peer (end_numbered l.peer p.numbers w.fars))) count begins;
+        stand = subst (λ n. Open (view_begun (view_at p w.fars) l.peer n) l.peer (ys ++ first_of number general l.peer (end_numbered l.peer p.numbers w.fars))) count begins;
       }

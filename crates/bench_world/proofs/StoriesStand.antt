@@ -5,6 +5,7 @@ use Rattle.std.specs.Prelude.{not}
 use Rattle.std.specs.List.{AllByRecursion}
 use Rattle.std.proofs.lemmas.Bool.{eq-eqb, eqb-true, ltb-true, ltb-false}
 use Rattle.std.proofs.lemmas.List.{append-nil}
+use Rattle.nfc_base.specs.declared.event.Event.{Event}
 use Rattle.snep_core.specs.Payloads.{accepted_from}
 use Rattle.snep_core.specs.Server.{Received as Accepted}
 use Rattle.bench_world.specs.declared.inbox.LinkRange.{LinkRange}
@@ -60,7 +61,7 @@ pub record IsGoing (v : View) (n : ℕ) (x : Paired) : Type 0 where
   pub own : x.story.peer ≡ n
   pub there : Held
   pub found : at v n ≡ Some there
-  pub limit : there.limit ≡ x.story.limit
+  pub limit : there.limit ≡ x.story.begun.service.limit
   pub unended : x.range.end ≡ None
   pub start : x.range.start ≤ length there.accepted
 
@@ -93,7 +94,7 @@ pub record Opened (v : View) (n : ℕ) (ys : List Story) : Type 0 where
 
 -- and all that was put on it so far was told as it is
 abbrev pub IsInStep : Story → Type 0
-IsInStep y = (client : ℕ) → InStep y.limit (puts_from client y.puts) (accepted_from client y.gained)
+IsInStep y = (client : ℕ) → InStep y.begun.service.limit (puts_from client y.puts) (accepted_from client y.gained)
 
 pub record Open (v : View) (n : ℕ) (ys : List Story) : Type 0 where
   pub opened : Opened v n ys
@@ -118,7 +119,7 @@ stories_more : (xs : List Paired) (x : Paired) → stories (xs ++ x ∷ []) ≡ 
 stories_more [] x = refl
 stories_more (y ∷ xs) x = ap (λ ys. y.story ∷ ys) (stories_more xs x)
 
-all_more : {X : Type 0} (P : X → Type 0) (xs : List X) (x : X) → AllByRecursion P xs → P x → AllByRecursion P (xs ++ x ∷ [])
+pub all_more : {X : Type 0} (P : X → Type 0) (xs : List X) (x : X) → AllByRecursion P xs → P x → AllByRecursion P (xs ++ x ∷ [])
 all_more P [] x all one = (one, tt)
 all_more P (y ∷ xs) x all one = (all.0, all_more P xs x all.1 one)
 
@@ -154,7 +155,7 @@ pub in_step_keeps : (y : Story) → IsInStep y → KeepsLinkLaw y
 in_step_keeps y step = by_opener y.opener
   where
     by_opener : (o : Opener) → AcceptsPuts o y
-    by_opener ByLink = λ client. in_step_accepts y.limit (puts_from client y.puts) (accepted_from client y.gained) (step client)
+    by_opener ByLink = λ client. in_step_accepts y.begun.service.limit (puts_from client y.puts) (accepted_from client y.gained) (step client)
 
 -- as many stories as links
 pub closed_many : (v : View) (ys : List Story) → Closed v ys → length v.links ≡ length ys
@@ -206,6 +207,58 @@ module _ (v w : View) (ys : List Story) (held : AreHeld w.numbers w.held) (apart
     };
     step = o.step;
   }
+
+-- a story goes on by this
+abbrev pub went_on : List Event → List LinkPut → List Accepted → Story → Story
+went_on es ps more y = record y { events = y.events ++ es; puts = y.puts ++ ps; gained = y.gained ++ more }
+
+-- Something happens on the open link, and nothing is put.
+abbrev pub came : List Event → Story → Story
+came es y = record y { events = y.events ++ es }
+
+module _ (v : View) (n : ℕ) (ys : List Story) (o : Open v n ys) (go : Story → Story) (es : List Event) (is : go o.opened.now.story ≡ came es o.opened.now.story) where
+  abbrev before_it : Story
+  before_it = o.opened.now.story
+
+  abbrev behind_it : Story
+  behind_it = came es before_it
+
+  story_last : last_goes_on go ys ≡ stories o.opened.done ++ behind_it ∷ []
+  story_last = ap (last_goes_on go) o.opened.told ∙ last_story go (stories o.opened.done) before_it ∙ ap (λ y. stories o.opened.done ++ y ∷ []) is
+
+  keeps_still : (opener : Opener) → AcceptsPuts opener before_it → AcceptsPuts opener behind_it
+  keeps_still ByLink keeps = keeps
+
+  came_going : IsGoing v n (record { range = o.opened.now.range; story = behind_it })
+  came_going = record {
+    fits = record { peer = o.opened.going.fits.peer; below = o.opened.going.fits.below; holds = o.opened.going.fits.holds };
+    law = keeps_still before_it.opener o.opened.going.law;
+    own = o.opened.going.own;
+    there = o.opened.going.there;
+    found = o.opened.going.found;
+    limit = o.opened.going.limit;
+    unended = o.opened.going.unended;
+    start = o.opened.going.start;
+  }
+
+  pub open_came : Open v n (last_goes_on go ys)
+  open_came = subst (Open v n) (sym story_last) (record {
+    opened = record {
+      done = o.opened.done;
+      base = record {
+        held = o.opened.base.held;
+        apart = o.opened.base.apart;
+        each = o.opened.base.each;
+        covered = o.opened.base.covered;
+        counted = counted_last 1 (stories o.opened.done) before_it behind_it refl (subst (AreCounted 1) o.opened.told o.opened.base.counted);
+      };
+      now = record { range = o.opened.now.range; story = behind_it };
+      links = o.opened.links;
+      told = refl;
+      going = came_going;
+    };
+    step = o.step;
+  })
 
 -- Messages are accepted on the open link.
 abbrev pub view_more : View → ℕ → List Accepted → View
@@ -297,21 +350,17 @@ module _ (v : View) (n : ℕ) (ys : List Story) (o : Opened v n ys) (more : List
   abbrev went : (Story → Story) → Paired
   went go = record { range = o.now.range; story = go o.now.story }
 
-  going_more : (go : Story → Story) (ps : List LinkPut) → go o.now.story ≡ record o.now.story { puts = o.now.story.puts ++ ps; gained = o.now.story.gained ++ more }
+  going_more : (go : Story → Story) (es : List Event) (ps : List LinkPut) → go o.now.story ≡ went_on es ps more o.now.story
       → KeepsLinkLaw (go o.now.story) → IsGoing after n (went go)
-  going_more go ps is law = subst (λ y. KeepsLinkLaw y → IsGoing after n (record { range = o.now.range; story = y })) (sym is) goes law
+  going_more go es ps is law = subst (λ y. KeepsLinkLaw y → IsGoing after n (record { range = o.now.range; story = y })) (sym is) goes law
     where
-      y : Story
-      y = record o.now.story { puts = o.now.story.puts ++ ps; gained = o.now.story.gained ++ more }
-
       found : at after o.now.story.peer ≡ Some grown
       found = ap (at after) o.going.own ∙ found_after
 
       held_so : chosen (is_in o.now.range) 0 there.accepted ≡ o.now.story.gained
       held_so = subst (IfHeld (λ k. chosen (is_in o.now.range) 0 k.accepted ≡ o.now.story.gained)) (ap (at v) o.going.own ∙ o.going.found) o.going.fits.holds
 
-      goes : KeepsLinkLaw (record o.now.story { puts = o.now.story.puts ++ ps; gained = o.now.story.gained ++ more })
-          → IsGoing after n (record { range = o.now.range; story = record o.now.story { puts = o.now.story.puts ++ ps; gained = o.now.story.gained ++ more } })
+      goes : KeepsLinkLaw (went_on es ps more o.now.story) → IsGoing after n (record { range = o.now.range; story = went_on es ps more o.now.story })
       goes keeps = record {
         fits = record {
           peer = o.going.fits.peer;
@@ -331,9 +380,9 @@ module _ (v : View) (n : ℕ) (ys : List Story) (o : Opened v n ys) (more : List
         start = omega (arith, o.going.start, longer);
       }
 
-  pub opened_more : (go : Story → Story) (ps : List LinkPut) → go o.now.story ≡ record o.now.story { puts = o.now.story.puts ++ ps; gained = o.now.story.gained ++ more }
+  pub opened_more : (go : Story → Story) (es : List Event) (ps : List LinkPut) → go o.now.story ≡ went_on es ps more o.now.story
       → KeepsLinkLaw (go o.now.story) → (z : Opened after n (last_goes_on go ys)) × (z.now.story ≡ go o.now.story)
-  opened_more go ps is law = (
+  opened_more go es ps is law = (
     record {
       done = o.done;
       base = record {
@@ -347,7 +396,7 @@ module _ (v : View) (n : ℕ) (ys : List Story) (o : Opened v n ys) (more : List
       now = went go;
       links = o.links;
       told = stands;
-      going = going_more go ps is law;
+      going = going_more go es ps is law;
     },
     refl,
   )
@@ -433,7 +482,7 @@ abbrev pub view_begun : View → ℕ → ℕ → View
 view_begun v n start = record { numbers = v.numbers; placed = v.placed; links = v.links ++ record { peer = n; start = start; end = None } ∷ []; held = v.held }
 
 module _ (v : View) (n : ℕ) (ys : List Story) (c : Closed v ys) (k : Held) (found : at v n ≡ Some k) (y : Story) (number : y.number ≡ length v.links + 1) (peer : y.peer ≡ n)
-    (limit : k.limit ≡ y.limit) (puts : y.puts ≡ []) (gained : y.gained ≡ []) where
+    (limit : k.limit ≡ y.begun.service.limit) (puts : y.puts ≡ []) (gained : y.gained ≡ []) where
   abbrev first : Paired
   first = record { range = record { peer = n; start = length k.accepted; end = None }; story = y }
 
@@ -453,8 +502,8 @@ module _ (v : View) (n : ℕ) (ys : List Story) (c : Closed v ys) (k : Held) (fo
 
   step_begun : IsInStep y
   step_begun client =
-      subst (λ ps. InStep y.limit (puts_from client ps) (accepted_from client y.gained)) (sym puts)
-      (subst (λ xs. InStep y.limit [] (accepted_from client xs)) (sym gained) (none_put y.limit))
+      subst (λ ps. InStep y.begun.service.limit (puts_from client ps) (accepted_from client y.gained)) (sym puts)
+      (subst (λ xs. InStep y.begun.service.limit [] (accepted_from client xs)) (sym gained) (none_put y.begun.service.limit))
 
   pub open_here : Open from_here n (ys ++ y ∷ [])
   open_here = record {

@@ -20,7 +20,7 @@ use Rattle.bench_world.proofs.AtNumbers.{Held, adding, held, IfHeld, AreHeld, wi
 use Rattle.bench_world.proofs.PeersNumbered.{HavePlaces, places_less}
 use Rattle.bench_world.proofs.PlacesKept.{numbered_tag, numbered_peer}
 use Rattle.bench_world.proofs.Removing.{as_many_gone}
-use Rattle.bench_world.proofs.StoriesHere.{view_at, view_of, PlacesOf, StandBy, Stand, still_told, ended_closed}
+use Rattle.bench_world.proofs.StoriesHere.{view_at, view_of, PlacesOf, StandBy, Stand, open_stands, still_stands, ended_closed}
 use Rattle.bench_world.proofs.Unlinking.{same_numbers}
 use Rattle.bench_world.proofs.StoriesStand.{View, at, Closed, Open, IsCovered, closed_still, open_still}
 
@@ -51,10 +51,12 @@ pub same_link : (s t : State) (x : Stretch) (ys : List Story) → Stand s ys →
     → PlacesOf t → ((l : OpenLink) → s.link ≡ Some l → at (view_of t) l.peer ≡ at (view_of s) l.peer)
     → (StandBy (view_of s) s.link ys → StandBy (view_of t) s.link ys) → Stand t (stories_behind s x t ys)
 same_link s t x ys stand puts begun still same places own moves =
-    let told : stories_behind s x t ys ≡ ys =
+    let zs : List Story = open_goes_on s.link (goes_on s x t) ys in
+    let told : stories_behind s x t ys ≡ zs =
     ap (λ zs. open_goes_on (changed s x.command).link (goes_on s x t) ys ++ zs) begun ∙ append-nil (open_goes_on (changed s x.command).link (goes_on s x t) ys)
-    ∙ ap (λ o. open_goes_on o (goes_on s x t) ys) still ∙ still_told s t x ys s.link stand.stand puts own in
-    subst (Stand t) (sym told) (record { places = places; stand = subst (λ o. StandBy (view_of t) o ys) (sym same) (moves stand.stand) })
+    ∙ ap (λ o. open_goes_on o (goes_on s x t) ys) still in
+    let stands : StandBy (view_of t) s.link zs = still_stands s t x ys (view_of t) s.link (moves stand.stand) puts own in
+    subst (Stand t) (sym told) (record { places = places; stand = subst (λ o. StandBy (view_of t) o zs) (sym same) stands })
 
 -- no link is open in the stretch, nor behind it
 pub no_link : (s t : State) (x : Stretch) (ys : List Story) → begun_in x.command x.told t ≡ [] → (changed s x.command).link ≡ None → t.link ≡ None
@@ -212,10 +214,6 @@ module _ (w : WholeWorld) (q : List Fate) (p : Peers) (c : Stretch) (ys : List S
         let t : State = gone_with (Some l) false in
         let same : at (view_of t) l.peer ≡ at (view_of s) l.peer =
         ap (λ x. at x l.peer) (sym (gone_view p)) ∙ same_less (view_at p w.fars) ys id ds l.peer stand.stand.opened.base.held is in
-        let told : open_goes_on (Some l) (goes_on s c t) ys ++ [] ≡ ys =
-        append-nil (open_goes_on (Some l) (goes_on s c t) ys)
-        ∙ still_told s t c ys (Some l) stand.stand puts (λ m e. let one : l ≡ m = cc in subst (λ x. at (view_of t) x.peer ≡ at (view_of s) x.peer) one same) in
-        subst (Stand t) (sym told) (record {
-          places = places_less id ds p.numbers w.fars stand.places;
-          stand = subst (λ x. Open x l.peer ys) (gone_view p) (open_less (view_at p w.fars) ys id ds l.peer is stand.stand);
-        })
+        let left : Open (view_of t) l.peer ys = subst (λ x. Open x l.peer ys) (gone_view p) (open_less (view_at p w.fars) ys id ds l.peer is stand.stand) in
+        subst (Stand t) (sym (append-nil (open_goes_on (Some l) (goes_on s c t) ys)))
+        (record { places = places_less id ds p.numbers w.fars stand.places; stand = open_stands s t c ys (view_of t) l.peer left puts same })

@@ -17,7 +17,6 @@ pub mod Behind
 pub mod Completing
 pub mod Quiet
 pub mod Journal
-pub mod Arrivals
 pub mod CompletingLinks
 pub mod QuietLinks
 pub mod QuietHearing
@@ -27,4 +26,5 @@ pub mod Report
 pub mod ReadBack
 pub mod Digits
 pub mod Stories
+pub mod ByPayloads
 pub mod LinkLaw

@@ -1,5 +1,5 @@
 -- The law of links: what a peer accepts on a link is the first of what was put there and fits, and covers all that was told to be taken, by at most
--- one more (NFC Forum SNEP 1.0; the law is this project's own).
+-- one more; and it's what the payloads put that arrived there (NFC Forum SNEP 1.0; the law is this project's own).
 use Rattle.std.specs.Prelude.{◌≡◌, ℕ, ◌+◌, ◌==◌, nat_eq, List, [], ◌∷◌, ◌++◌, if◌then◌else◌, Option, Some}
 use Rattle.std.specs.List.{AllByRecursion}
 use Rattle.snep_core.specs.Links.{Put, LinkAccepts}
@@ -11,6 +11,7 @@ use Rattle.bench_world.specs.declared.entry.Answer.{Answer}
 use Rattle.bench_world.specs.declared.entry.Answer.TheVariants as answers
 use Rattle.bench_world.specs.declared.entry.Entry.{Entry}
 use Rattle.bench_world.specs.declared.entry.Received.{Received}
+use Rattle.bench_world.specs.ByPayloads.{IsByPayloads}
 use Rattle.bench_world.specs.Inbox.{told_of}
 use Rattle.bench_world.specs.Journal.{LeadsTo}
 use Rattle.bench_world.specs.Legal.{State, Joins, first_state}
@@ -25,7 +26,7 @@ puts_from client (p ∷ ps) = if p.source == client then p.put ∷ puts_from cli
 -- On a link that `link` opened: of each client's SAP, what was accepted from it is the first of the messages that were put from it and are within
 -- the limit, and covers all of them that were told to be taken, by at most one more, which then is the last put, and wasn't answered.
 abbrev pub AcceptsPuts : Opener → Story → Type 0
-AcceptsPuts ByLink y = (client : ℕ) → LinkAccepts y.limit (puts_from client y.puts) (accepted_from client y.gained)
+AcceptsPuts ByLink y = (client : ℕ) → LinkAccepts y.begun.service.limit (puts_from client y.puts) (accepted_from client y.gained)
 
 abbrev pub KeepsLinkLaw : Story → Type 0
 KeepsLinkLaw y = AcceptsPuts y.opener y
@@ -59,6 +60,7 @@ InboxesTell numbers journal =
 -- The links of a journal, by the numbers of PDUs of its entries.
 pub record LinksAccept (numbers : List Joins) (journal : List Entry) : Type 0 where
   pub accept : AllByRecursion KeepsLinkLaw (stories_of numbers journal)
+  pub arrived : AllByRecursion IsByPayloads (stories_of numbers journal)
   pub counted : AreCounted 1 (stories_of numbers journal)
   pub inboxes : InboxesTell numbers journal
 

@@ -1,5 +1,5 @@
--- The story of each link of a bench: how it was opened and to which end, what was put on it and how that was told, and what its peer accepted on
--- it (NFC Forum SNEP 1.0; that links have numbers is this project's own). A later command adds its case.
+-- The story of each link of a bench: how it was opened and to which end, what happened while it was open, what was put on it and how that was told,
+-- and what its peer accepted on it (NFC Forum SNEP 1.0; that links have numbers is this project's own). A later command adds its case.
 use Rattle.std.specs.Prelude.{ℕ, drop, length, List, [], ◌∷◌, ◌++◌, Option, Some, None}
 use Rattle.nfc_base.specs.declared.event.Event.{Event}
 use Rattle.snep_core.specs.Links.{Told, Success, Rejected, Unanswered, Put}
@@ -13,6 +13,7 @@ use Rattle.bench_world.specs.declared.entry.Answer.TheVariants as answers
 use Rattle.bench_world.specs.declared.entry.Entry.{Entry}
 use Rattle.bench_world.specs.World.{FarEnd}
 use Rattle.bench_world.specs.Links.{OpenLink, end_numbered}
+use Rattle.bench_world.specs.Linking.{own_general}
 use Rattle.bench_world.specs.Legal.{State, Joins, changed, end_of, first_state, state_after}
 
 -- what happened of a command, and what was told of it, nothing where it was cut off; an entry is one
@@ -33,15 +34,16 @@ pub record LinkPut : Type 0 where
   pub source : ℕ
   pub put : Put
 
--- The story of a link: the number that `linked` told; how it was opened; its peer, by its number among the peers; that peer's MIU, receive window
--- and limit as the link began; what was put on it, in order; and what the peer's list of accepted messages gained on it.
+-- The story of a link: the number that `linked` told; how it was opened; its peer, by its number among the peers; the general bytes that were said
+-- to it, and its end as the link began; what happened in the entries behind, while the link was open; what was put on it, in order; and what the
+-- peer's list of accepted messages gained on it.
 pub record Story : Type 0 where
   pub number : ℕ
   pub opener : Opener
   pub peer : ℕ
-  pub miu : ℕ
-  pub window : ℕ
-  pub limit : ℕ
+  pub general : List ℕ
+  pub begun : FarEnd
+  pub events : List Event
   pub puts : List LinkPut
   pub gained : List Accepted
 
@@ -70,7 +72,11 @@ gained_by peer s t = drop (length (accepted_in peer s)) (accepted_in peer t)
 
 -- a story goes on by a stretch, from the state before it to the one behind it
 abbrev pub goes_on : State → Stretch → State → Story → Story
-goes_on s x t y = record y { puts = y.puts ++ puts_in x.command x.told; gained = y.gained ++ gained_by y.peer s t }
+goes_on s x t y = record y {
+  events = y.events ++ x.events;
+  puts = y.puts ++ puts_in x.command x.told;
+  gained = y.gained ++ gained_by y.peer s t;
+}
 
 -- the link that is open is the last one
 abbrev pub last_goes_on : (Story → Story) → List Story → List Story
@@ -83,26 +89,26 @@ open_goes_on None go ys = ys
 open_goes_on (Some l) go ys = last_goes_on go ys
 
 -- a story begins with a link that is open then, to this end of its peer
-abbrev pub first_of : ℕ → ℕ → Option FarEnd → List Story
-first_of number peer None = []
-first_of number peer (Some end) = record {
+abbrev pub first_of : ℕ → List ℕ → ℕ → Option FarEnd → List Story
+first_of number general peer None = []
+first_of number general peer (Some end) = record {
   number = number;
   opener = ByLink;
   peer = peer;
-  miu = end.miu;
-  window = end.window;
-  limit = end.service.limit;
+  general = general;
+  begun = end;
+  events = [];
   puts = [];
   gained = [];
 } ∷ []
 
-abbrev pub story_if : ℕ → Option OpenLink → State → List Story
-story_if number None t = []
-story_if number (Some l) t = first_of number l.peer (end_of t l)
+abbrev pub story_if : ℕ → List ℕ → Option OpenLink → State → List Story
+story_if number general None t = []
+story_if number general (Some l) t = first_of number general l.peer (end_of t l)
 
 -- what story begins in a stretch: where `linked` is told, that of this link
 abbrev pub begun_in : Command → Option Answer → State → List Story
-begun_in (commands.Link id miu window) (Some (answers.Linked number)) t = story_if number t.link t
+begun_in (commands.Link id miu window) (Some (answers.Linked number)) t = story_if number (own_general miu) t.link t
 begun_in c told t = []
 
 -- The stories behind a stretch. A link is open in it that was open once its command changed what it itself changes: one that begins with a reset

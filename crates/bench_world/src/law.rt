@@ -1,11 +1,9 @@
 //! That a command answers what it is asked for where noise doesn't keep it from that. The calls do nothing: they stand for
 //! these laws.
 
-ghost use Rattle.bench_world.specs.Arrivals.{PayloadLaw};
 ghost use Rattle.bench_world.specs.Behind.{WrittenIsRead, OneOfThreeIsRead};
 ghost use Rattle.bench_world.specs.Completing.{ReadsComplete, WritesComplete, ValidIsWritten, FindsComplete};
 ghost use Rattle.bench_world.specs.LinkLaw.{LinkLaw};
-ghost use Rattle.bench_world.specs.CompletingLinks.{PutsComplete, GetsComplete, LookupsComplete, UnlinksComplete, ValidIsOk};
 ghost use Rattle.bench_world.specs.CompletingLinks.{PutsComplete, GetsComplete, LookupsComplete, UnlinksComplete, ValidIsOk, LinkingsComplete};
 ghost use Rattle.bench_world.specs.Quiet.{QuietStays, QuietReads, QuietWrites, QuietFinds};
 ghost use Rattle.bench_world.specs.QuietHearing.{QuietHears, QuietScript};
@@ -75,15 +73,10 @@ pub fn quiet_air()
     ensures script { QuietScript }
 {}
 
-/// What a peer's server accepts on a link is what the payloads put that arrived there while the link was open, counted from
-/// PNI 0 over all its entries, whatever is offered between them.
-pub fn accepted_by_payloads()
-    ensures { PayloadLaw }
-{}
-
 /// Of each link in a legal journal, and of each client's SAP: what the peer accepted on it is the first of the messages that
 /// were put and are within its limit, and covers all that were told to be taken, by at most one more: the last put, which
-/// then wasn't answered. And an inbox tells what its peer accepted on each link, each message once, and nothing else.
+/// then wasn't answered. It's just what the payloads put that arrived there while the link was open, counted from PNI 0, whatever
+/// was offered between them. And an inbox tells what its peer accepted on each link, each message once, and nothing else.
 pub fn links_accept()
     ensures { LinkLaw }
 {}

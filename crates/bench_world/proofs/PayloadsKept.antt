@@ -1,5 +1,5 @@
--- What each legal entry does to the arrivals of links.
-use Rattle.std.proofs.Common.{◌≡◌, ℕ, List, [], ◌∷◌, ◌++◌, map, Bool, true, false, if◌then◌else◌, Option, Some, None, refl, sym, ◌∙◌, ap, subst, inl, inr}
+-- What each legal entry does to the stories of links, by what arrives.
+use Rattle.std.proofs.Common.{◌≡◌, ℕ, List, [], ◌∷◌, ◌++◌, map, Bool, true, false, if◌then◌else◌, Option, Some, None, append-nil, refl, sym, ◌∙◌, ap, subst, inl, inr}
 use Rattle.std.specs.Cmp.Lexicographic.{pointwise}
 use Rattle.std.specs.List.{AllByRecursion}
 use Rattle.std.specs.Prelude.{nat_eq, option_map}
@@ -25,14 +25,15 @@ use Rattle.bench_world.specs.declared.entry.Answer.{Answer}
 use Rattle.bench_world.specs.declared.entry.Answer.TheVariants as answers
 use Rattle.bench_world.specs.declared.entry.Entry.{Entry}
 use Rattle.bench_world.specs.World.{FarEnd, bench_air}
-use Rattle.bench_world.specs.Arrivals.{Arrival, IsByPayloads, PayloadLaw, arrivals_behind, arrivals_from, arrivals_of, begun_on, open_comes_on}
 use Rattle.bench_world.specs.Arriving.{ArrivesAt}
+use Rattle.bench_world.specs.ByPayloads.{IsByPayloads}
 use Rattle.bench_world.specs.Calls.{IfLinked, call_behind, link_behind, stands_on}
-use Rattle.bench_world.specs.Legal.{State, Given, AnswerLaw, EachLegal, GetLaw, LinkingLaw, LookupLaw, PutLaw, UnlinkLaw, begun, due, first_state, is_linked_to, link_after, state_after, unlinked, world_after}
+use Rattle.bench_world.specs.Legal.{State, Given, AnswerLaw, EachLegal, GetLaw, LinkingLaw, LookupLaw, PutLaw, UnlinkLaw, begun, changed, due, first_state, is_linked_to, link_after, state_after, unlinked, world_after}
 use Rattle.bench_world.specs.Linking.{link_if, own_general}
 use Rattle.bench_world.specs.Links.{OpenLink, begun_if, end_numbered, ended_unless, is_number, is_with}
 use Rattle.bench_world.specs.Peers.{Peers, end_offered, new_end, next_number, placed_under, with_place_changed, without_place}
-use Rattle.bench_world.proofs.ArrivalsOn.{IsOffered, Kept, begun_kept, came_kept, none_kept, stays_kept}
+use Rattle.bench_world.specs.Stories.{Story, Stretch, begun_in, goes_on, open_goes_on, stories_behind, stories_from, stretch_of}
+use Rattle.bench_world.proofs.PayloadsOn.{IsOffered, Kept, begun_kept, came_kept, none_kept, stays_kept}
 use Rattle.bench_world.proofs.HeldOn.{nothing_sent}
 use Rattle.bench_world.proofs.OnLink.{none_numbered}
 use Rattle.bench_world.proofs.Unlinking.{same_numbers}
@@ -126,19 +127,34 @@ begun_numbers : (o : Option OpenLink) (fars : Ends) (p : Peers) → (begun_if o 
 begun_numbers None fars p = refl
 begun_numbers (Some l) fars p = refl
 
-abbrev pub KeptIn : State → List Arrival → Type 0
-KeptIn s ys = Kept s.link s.peers.numbers s.world.fars ys
+abbrev pub KeptIn : State → List Story → Type 0
+KeptIn s ys = Kept s.link s ys
 
-module _ (s : State) (g : Given) (ys : List Arrival) (h : KeptIn s ys) where
+module _ (s : State) (g : Given) (ys : List Story) (h : KeptIn s ys) where
   abbrev behind : Command → List Event → Answer → State
   behind c es answer = state_after s g.joins c es (Some answer)
 
+  abbrev stretch : Command → List Event → Answer → Stretch
+  stretch c es answer = record { command = c; events = es; told = Some answer }
+
   abbrev Goal : Command → List Event → Answer → Type 0
-  Goal c es answer = KeptIn (behind c es answer) (arrivals_behind s c es answer (behind c es answer) ys)
+  Goal c es answer = KeptIn (behind c es answer) (stories_behind s (stretch c es answer) (behind c es answer) ys)
+
+  -- none begins
+  abbrev GoesOn : Option OpenLink → Command → List Event → Answer → Type 0
+  GoesOn o c es answer = KeptIn (behind c es answer) (open_goes_on o (goes_on s (stretch c es answer) (behind c es answer)) ys)
+
+  plain : (c : Command) (es : List Event) (answer : Answer) → begun_in c (Some answer) (behind c es answer) ≡ [] → GoesOn (changed s c).link c es answer → Goal c es answer
+  plain c es answer none kept =
+      let t : State = behind c es answer in
+      let zs : List Story = open_goes_on (changed s c).link (goes_on s (stretch c es answer) t) ys in
+      subst (KeptIn t) (sym (ap (λ xs. zs ++ xs) none ∙ append-nil zs)) kept
 
   -- where nothing is due nothing was sent
-  quiet : (c : Command) (es : List Event) (answer : Answer) → ((ns : List Note) → due s g c ns ≡ Over) → AreTurns bench_air (begun s g.joins c) es → EachDue (due s g c) [] es → Goal c [] answer → Goal c es answer
-  quiet c es answer over turns each goal = subst (λ xs. Goal c xs answer) (sym (nothing_sent (begun s g.joins c) es turns (over_all es [] each))) goal
+  quiet : (c : Command) (es : List Event) (answer : Answer) → ((ns : List Note) → due s g c ns ≡ Over) → AreTurns bench_air (begun s g.joins c) es → EachDue (due s g c) [] es
+      → begun_in c (Some answer) (behind c [] answer) ≡ [] → GoesOn (changed s c).link c [] answer → Goal c es answer
+  quiet c es answer over turns each none goal =
+      subst (λ xs. Goal c xs answer) (sym (nothing_sent (begun s g.joins c) es turns (over_all es [] each))) (plain c [] answer none goal)
     where
       over_all : (es before : List Event) → EachDue (due s g c) before es → EachDue (λ ns. Over) before es
       over_all [] before q = tt
@@ -154,125 +170,146 @@ module _ (s : State) (g : Given) (ys : List Arrival) (h : KeptIn s ys) where
   abbrev os : Ends
   os = s.world.fars
 
-  same_kept : Kept s.link ps os (open_comes_on s.link ps os [] ys)
-  same_kept = stays_kept s.link ps ps os os ys h (λ l at x e. same_end x (end_numbered l.peer ps os) e)
+  stays : (c : Command) (answer : Answer) (o : Option OpenLink) → Kept o s ys
+      → ((l : OpenLink) → o ≡ Some l → (x : FarEnd) → end_numbered l.peer ps os ≡ Some x → IsOffered x (end_numbered l.peer (behind c [] answer).peers.numbers (behind c [] answer).world.fars))
+      → Kept o (behind c [] answer) (open_goes_on o (goes_on s (stretch c [] answer) (behind c [] answer)) ys)
+  stays c answer o kept same = stays_kept o s (behind c [] answer) c (Some answer) ys kept same
 
-  placed_kept : (p : Option ℕ) (o : Option FarEnd) → Kept s.link (ps ++ p ∷ []) (os ++ o ∷ []) (open_comes_on s.link (ps ++ p ∷ []) (os ++ o ∷ []) [] ys)
-  placed_kept p o = stays_kept s.link ps (ps ++ p ∷ []) os (os ++ o ∷ []) ys h (λ l at x e. same_end x (end_numbered l.peer (ps ++ p ∷ []) (os ++ o ∷ [])) (end_more l.peer ps os x p o e))
+  same_kept : (c : Command) (answer : Answer) → (behind c [] answer).peers.numbers ≡ ps → (behind c [] answer).world.fars ≡ os → (behind c [] answer).link ≡ s.link → GoesOn s.link c [] answer
+  same_kept c answer numbers fars link =
+      let t : State = behind c [] answer in
+      subst (λ o. Kept o t (open_goes_on s.link (goes_on s (stretch c [] answer) t) ys)) (sym link)
+      (stays c answer s.link h (λ l at x e. same_end x (end_numbered l.peer t.peers.numbers t.world.fars) (ap (λ qs. end_numbered l.peer qs t.world.fars) numbers ∙ ap (end_numbered l.peer ps) fars ∙ e)))
 
-  offered_kept : (id : DeviceId) (key value : List ℕ) (answer : Answer) → Goal (Offer id key value) [] answer
+  placed_kept : (c : Command) (answer : Answer) (p : Option ℕ) (o : Option FarEnd) → (behind c [] answer).peers.numbers ≡ ps ++ p ∷ [] → (behind c [] answer).world.fars ≡ os ++ o ∷ []
+      → (behind c [] answer).link ≡ s.link → GoesOn s.link c [] answer
+  placed_kept c answer p o numbers fars link =
+      let t : State = behind c [] answer in
+      subst (λ k. Kept k t (open_goes_on s.link (goes_on s (stretch c [] answer) t) ys)) (sym link)
+      (stays c answer s.link h (λ l at x e. same_end x (end_numbered l.peer t.peers.numbers t.world.fars)
+      (ap (λ qs. end_numbered l.peer qs t.world.fars) numbers ∙ ap (end_numbered l.peer (ps ++ p ∷ [])) fars ∙ end_more l.peer ps os x p o e)))
+
+  offered_kept : (id : DeviceId) (key value : List ℕ) (answer : Answer) → GoesOn s.link (Offer id key value) [] answer
   offered_kept id key value answer =
-      let us : Ends = with_place_changed (end_offered key value) (bytes_of id) s.world.field.listeners os in
-      stays_kept s.link ps ps os us ys h (λ l at x e. end_offered_at key value l.peer (bytes_of id) s.world.field.listeners ps os x e)
+      stays (Offer id key value) answer s.link h (λ l at x e. end_offered_at key value l.peer (bytes_of id) s.world.field.listeners ps os x e)
 
   -- A device is taken away, and the link to it ends first.
-  module _ (id : DeviceId) where
+  module _ (id : DeviceId) (answer : Answer) where
     abbrev ds : List Device
     ds = s.world.field.listeners
 
-    abbrev ends_left : Ends
-    ends_left = without_place (bytes_of id) ds os
-
-    abbrev numbers_by : Bool → List (Option ℕ)
-    numbers_by v = without_place (bytes_of id) ds (if v then (unlinked s).peers else s.peers).numbers
+    abbrev gone : State
+    gone = behind (Remove id) [] answer
 
     abbrev link_by : Bool → Option OpenLink
     link_by v = if v then None else s.link
 
+    abbrev numbers_by : Bool → List (Option ℕ)
+    numbers_by v = without_place (bytes_of id) ds (if v then (unlinked s).peers else s.peers).numbers
+
     other : (o : Option OpenLink) (l : OpenLink) → o ≡ Some l → is_with o (placed_under (bytes_of id) ds ps) ≡ false → is_number l.peer (placed_under (bytes_of id) ds ps) ≡ false
     other o l at apart = sym (ap (λ q. is_with q (placed_under (bytes_of id) ds ps)) at) ∙ apart
 
-    by_link : (v : Bool) → is_linked_to s id ≡ v → Kept (link_by v) (numbers_by v) ends_left (open_comes_on (link_by v) (numbers_by v) ends_left [] ys)
-    by_link true e = none_kept s.link ps (numbers_by true) os ends_left ys h
+    by_link : (v : Bool) → is_linked_to s id ≡ v → Kept (link_by v) gone (open_goes_on (link_by v) (goes_on s (stretch (Remove id) [] answer) gone) ys)
+    by_link true e = none_kept s.link s gone ys h
     by_link false e =
-        stays_kept s.link ps (numbers_by false) os ends_left ys h
-        (λ l at x found. same_end x (end_numbered l.peer (numbers_by false) ends_left) (end_less l.peer (bytes_of id) ds ps os x (other s.link l at e) found))
+        stays (Remove id) answer s.link h
+        (λ l at x found. same_end x (end_numbered l.peer gone.peers.numbers gone.world.fars)
+        (ap (λ v. end_numbered l.peer (numbers_by v) gone.world.fars) e ∙ end_less l.peer (bytes_of id) ds ps os x (other s.link l at e) found))
 
-    removed_kept : (answer : Answer) → Goal (Remove id) [] answer
-    removed_kept answer = by_link (is_linked_to s id) refl
+    removed_kept : GoesOn (changed s (Remove id)).link (Remove id) [] answer
+    removed_kept = by_link (is_linked_to s id) refl
 
   -- a command on the link
   abbrev ArrivesSo : OpenLink → Ends → List Event → Option OpenLink → Type 0
   ArrivesSo l us es now = ArrivesAt l ps os us es now
 
-  called_kept : (o : Option OpenLink) → s.link ≡ o → (now : Option OpenLink) (qs : List (Option ℕ)) (us : Ends) (es : List Event) → qs ≡ ps
-      → (o ≡ None → now ≡ None) → ((l : OpenLink) → o ≡ Some l → ArrivesSo l us es now) → ((l k : OpenLink) → o ≡ Some l → now ≡ Some k → k.peer ≡ l.peer)
-      → Kept now qs us (open_comes_on s.link qs us es ys)
-  called_kept o at now qs us es numbers none came peer =
-      let K : Option OpenLink → Type 0 = λ x. Kept x ps os ys in
-      let G : List (Option ℕ) → Option OpenLink → Type 0 = λ xs x. Kept now xs us (open_comes_on x xs us es ys) in
-      subst (λ xs. G xs s.link) (sym numbers) (subst (G ps) (sym at) (by o (subst K at h) none came peer))
+  called_kept : (o : Option OpenLink) → s.link ≡ o → (now : Option OpenLink) (x : Stretch) (t : State) → t.peers.numbers ≡ ps
+      → (o ≡ None → now ≡ None) → ((l : OpenLink) → o ≡ Some l → ArrivesSo l t.world.fars x.events now) → ((l k : OpenLink) → o ≡ Some l → now ≡ Some k → k.peer ≡ l.peer)
+      → Kept now t (open_goes_on s.link (goes_on s x t) ys)
+  called_kept o at now x t numbers none came peer =
+      subst (λ k. Kept now t (open_goes_on k (goes_on s x t) ys)) (sym at) (by o (subst (λ k. Kept k s ys) at h) none came peer)
     where
-      by : (o : Option OpenLink) → Kept o ps os ys → (o ≡ None → now ≡ None) → ((l : OpenLink) → o ≡ Some l → ArrivesSo l us es now) → ((l k : OpenLink) → o ≡ Some l → now ≡ Some k → k.peer ≡ l.peer)
-          → Kept now ps us (open_comes_on o ps us es ys)
-      by None k none came peer = subst (λ x. Kept x ps us ys) (sym (none refl)) (none_kept None ps ps os us ys k)
-      by (Some l) k none came peer = came_kept l ps os us ys es now k (came l refl) (λ m is. peer l m refl is)
+      by : (o : Option OpenLink) → Kept o s ys → (o ≡ None → now ≡ None) → ((l : OpenLink) → o ≡ Some l → ArrivesSo l t.world.fars x.events now)
+          → ((l k : OpenLink) → o ≡ Some l → now ≡ Some k → k.peer ≡ l.peer) → Kept now t (open_goes_on o (goes_on s x t) ys)
+      by None k none came peer = subst (λ x. Kept x t ys) (sym (none refl)) (none_kept None s t ys k)
+      by (Some l) k none came peer = came_kept l s t x ys now k numbers (came l refl) (λ m is. peer l m refl is)
 
   on_it : (P : OpenLink → Type 0) (R : Type 0) (l : OpenLink) → s.link ≡ Some l → IfLinked s.link P R → P l
   on_it P R l at law = subst (λ o. IfLinked o P R) at law
 
   -- by a call, whose link is that behind it
-  call_kept : (answer : Answer) (stands : OpenLink → CallStanding) (qs : List (Option ℕ)) (us : Ends) (es : List Event) → qs ≡ ps
-      → ((l : OpenLink) → s.link ≡ Some l → ArrivesSo l us es (call_behind (Some answer) s.link stands))
-      → Kept (call_behind (Some answer) s.link stands) qs us (open_comes_on s.link qs us es ys)
-  call_kept answer stands qs us es numbers came =
-      called_kept s.link refl (call_behind (Some answer) s.link stands) qs us es numbers (λ at. ap (λ o. call_behind (Some answer) o stands) at) came
-      (λ l k at is. behind_peer l.peer (stands l) k (sym (ap (λ o. call_behind (Some answer) o stands) at) ∙ is))
+  call_kept : (c : Command) (es : List Event) (answer : Answer) (stands : OpenLink → CallStanding) → (behind c es answer).peers.numbers ≡ ps
+      → (behind c es answer).link ≡ call_behind (Some answer) s.link stands
+      → ((l : OpenLink) → s.link ≡ Some l → ArrivesSo l (behind c es answer).world.fars es (call_behind (Some answer) s.link stands)) → GoesOn s.link c es answer
+  call_kept c es answer stands numbers link came =
+      let t : State = behind c es answer in
+      let x : Stretch = stretch c es answer in
+      subst (λ o. Kept o t (open_goes_on s.link (goes_on s x t) ys)) (sym link)
+      (called_kept s.link refl (call_behind (Some answer) s.link stands) x t numbers (λ at. ap (λ o. call_behind (Some answer) o stands) at) came
+      (λ l k at is. behind_peer l.peer (stands l) k (sym (ap (λ o. call_behind (Some answer) o stands) at) ∙ is)))
 
   put_kept : (m : Msg) (es : List Event) (answer : Answer) → AnswerLaw s g (Put m) es answer → Goal (Put m) es answer
   put_kept m es answer law =
-      call_kept answer (λ l. stands_on l g.joins.own (Puts (message_of m)) es) (behind (Put m) es answer).peers.numbers (world_after s g.joins (Put m) es).fars es
-      (unless_numbers (link_after s g.joins (Put m) es (Some answer)) s.link (world_after s g.joins (Put m) es).fars s.peers)
-      (λ l at. (on_it (λ k. PutLaw s g.joins k m es answer) (answer ≡ answers.NoLink) l at law).came)
+      plain (Put m) es answer refl (call_kept (Put m) es answer (λ l. stands_on l g.joins.own (Puts (message_of m)) es)
+      (unless_numbers (link_after s g.joins (Put m) es (Some answer)) s.link (world_after s g.joins (Put m) es).fars s.peers) refl
+      (λ l at. (on_it (λ k. PutLaw s g.joins k m es answer) (answer ≡ answers.NoLink) l at law).came))
 
   get_kept : (most : ℕ) (key : List ℕ) (es : List Event) (answer : Answer) → AnswerLaw s g (Get most key) es answer → Goal (Get most key) es answer
   get_kept most key es answer law =
-      call_kept answer (λ l. stands_on l g.joins.own (Gets most key) es) (behind (Get most key) es answer).peers.numbers (world_after s g.joins (Get most key) es).fars es
-      (unless_numbers (link_after s g.joins (Get most key) es (Some answer)) s.link (world_after s g.joins (Get most key) es).fars s.peers)
-      (λ l at. (on_it (λ k. GetLaw s g.joins k most key es answer) (answer ≡ answers.NoLink) l at law).came)
+      plain (Get most key) es answer refl (call_kept (Get most key) es answer (λ l. stands_on l g.joins.own (Gets most key) es)
+      (unless_numbers (link_after s g.joins (Get most key) es (Some answer)) s.link (world_after s g.joins (Get most key) es).fars s.peers) refl
+      (λ l at. (on_it (λ k. GetLaw s g.joins k most key es answer) (answer ≡ answers.NoLink) l at law).came))
 
   lookup_kept : (name : List ℕ) (es : List Event) (answer : Answer) → AnswerLaw s g (Lookup name) es answer → Goal (Lookup name) es answer
   lookup_kept name es answer law =
-      call_kept answer (λ l. stands_on l g.joins.own (Finds name) es) (behind (Lookup name) es answer).peers.numbers (world_after s g.joins (Lookup name) es).fars es
-      (unless_numbers (link_after s g.joins (Lookup name) es (Some answer)) s.link (world_after s g.joins (Lookup name) es).fars s.peers)
-      (λ l at. (on_it (λ k. LookupLaw s g.joins k name es answer) (answer ≡ answers.NoLink) l at law).came)
+      plain (Lookup name) es answer refl (call_kept (Lookup name) es answer (λ l. stands_on l g.joins.own (Finds name) es)
+      (unless_numbers (link_after s g.joins (Lookup name) es (Some answer)) s.link (world_after s g.joins (Lookup name) es).fars s.peers) refl
+      (λ l at. (on_it (λ k. LookupLaw s g.joins k name es answer) (answer ≡ answers.NoLink) l at law).came))
 
   -- the link is closed
   unlink_kept : (es : List Event) (answer : Answer) → AnswerLaw s g Unlink es answer → Goal Unlink es answer
   unlink_kept es answer law =
-      called_kept s.link refl None (behind Unlink es answer).peers.numbers (world_after s g.joins Unlink es).fars es (same_numbers s.link s.peers (world_after s g.joins Unlink es).fars) (λ at. refl)
-      (λ l at. (on_it (λ k. UnlinkLaw s g.joins k es answer) (answer ≡ answers.NoLink) l at law).came) (λ l k at is. absurd cc)
+      plain Unlink es answer refl (called_kept s.link refl None (stretch Unlink es answer) (behind Unlink es answer) (same_numbers s.link s.peers (world_after s g.joins Unlink es).fars) (λ at. refl)
+      (λ l at. (on_it (λ k. UnlinkLaw s g.joins k es answer) (answer ≡ answers.NoLink) l at law).came) (λ l k at is. absurd cc))
 
   -- one is opened, or none
   link_kept : (id : List ℕ) (miu rw : ℕ) (es : List Event) (answer : Answer) → LinkingLaw s g.joins id miu rw es answer → Goal (Link id miu rw) es answer
   link_kept id miu rw es (answers.Linked n) law =
       let c : Command = Link id miu rw in
-      let now : Option OpenLink = link_after s g.joins c es (Some (answers.Linked n)) in
-      let us : Ends = (world_after s g.joins c es).fars in
-      let numbers : (behind c es (answers.Linked n)).peers.numbers ≡ ps = begun_numbers now (unlinked s).world.fars (unlinked s).peers ∙ same_numbers s.link s.peers os in
-      subst (λ xs. Kept now xs us (begun_on n (own_general miu) now xs us ys)) (sym numbers)
-      (begun_kept now n (own_general miu) ps os us ys h.all law.begins (λ l is. opened_first (placed_under id s.world.field.listeners ps) (device_with id s.world.field.listeners) miu rw l is))
-  link_kept id miu rw es answer law = record { all = h.all; going = tt }
+      let t : State = behind c es (answers.Linked n) in
+      let numbers : t.peers.numbers ≡ ps = begun_numbers t.link (unlinked s).world.fars (unlinked s).peers ∙ same_numbers s.link s.peers os in
+      begun_kept t.link s t n (own_general miu) ys h.all numbers law.begins
+      (λ l is. opened_first (placed_under id s.world.field.listeners ps) (device_with id s.world.field.listeners) miu rw l is)
+  link_kept id miu rw es answer law = plain (Link id miu rw) es answer refl (none_kept s.link s (behind (Link id miu rw) es answer) ys h)
 
-  none_open : (qs : List (Option ℕ)) (us : Ends) → Kept None qs us ys
-  none_open qs us = none_kept s.link ps qs os us ys h
+  none_open : (c : Command) (es : List Event) (answer : Answer) → (changed s c).link ≡ None → (behind c es answer).link ≡ None → begun_in c (Some answer) (behind c es answer) ≡ [] → Goal c es answer
+  none_open c es answer ended gone none =
+      let t : State = behind c es answer in
+      plain c es answer none (subst (λ o. Kept o t (open_goes_on (changed s c).link (goes_on s (stretch c es answer) t) ys)) (sym gone)
+      (subst (λ o. Kept None t (open_goes_on o (goes_on s (stretch c es answer) t) ys)) (sym ended) (none_kept s.link s t ys h)))
 
   step_kept : (c : Command) (es : List Event) (answer : Answer) → AreTurns bench_air (begun s g.joins c) es → EachDue (due s g c) [] es → AnswerLaw s g c es answer → Goal c es answer
   step_kept Skip es answer turns each law = absurd law
-  step_kept (Fates fates) es answer turns each law = quiet (Fates fates) es answer (λ ns. refl) turns each same_kept
-  step_kept (PlaceT2 id blocks head) es answer turns each law = quiet (PlaceT2 id blocks head) es answer (λ ns. refl) turns each (placed_kept None None)
-  step_kept (PlaceT4 id code container head) es answer turns each law = quiet (PlaceT4 id code container head) es answer (λ ns. refl) turns each (placed_kept None None)
-  step_kept (PlaceT5 id blocks size head) es answer turns each law = quiet (PlaceT5 id blocks size head) es answer (λ ns. refl) turns each (placed_kept None None)
-  step_kept (PlacePeer id lr miu rw most) es answer turns each law = quiet (PlacePeer id lr miu rw most) es answer (λ ns. refl) turns each (placed_kept (Some (next_number s.peers)) (Some (new_end miu rw most)))
-  step_kept (Lock id block) es answer turns each law = quiet (Lock id block) es answer (λ ns. refl) turns each same_kept
-  step_kept (Busy id count times) es answer turns each law = quiet (Busy id count times) es answer (λ ns. refl) turns each same_kept
-  step_kept (Offer id key value) es answer turns each law = quiet (Offer id key value) es answer (λ ns. refl) turns each (offered_kept id key value answer)
-  step_kept (Remove id) es answer turns each law = quiet (Remove id) es answer (λ ns. refl) turns each (removed_kept id answer)
-  step_kept (Dump id) es answer turns each law = quiet (Dump id) es answer (λ ns. refl) turns each same_kept
-  step_kept (Inbox id) es answer turns each law = quiet (Inbox id) es answer (λ ns. refl) turns each same_kept
-  step_kept Find es answer turns each law = none_open (behind Find es answer).peers.numbers (behind Find es answer).world.fars
-  step_kept (Read id) es answer turns each law = none_open (behind (Read id) es answer).peers.numbers (behind (Read id) es answer).world.fars
-  step_kept (Write id m) es answer turns each law = none_open (behind (Write id m) es answer).peers.numbers (behind (Write id m) es answer).world.fars
+  step_kept (Fates fates) es answer turns each law = quiet (Fates fates) es answer (λ ns. refl) turns each refl (same_kept (Fates fates) answer refl refl refl)
+  step_kept (PlaceT2 id blocks head) es answer turns each law =
+      quiet (PlaceT2 id blocks head) es answer (λ ns. refl) turns each refl (placed_kept (PlaceT2 id blocks head) answer None None refl refl refl)
+  step_kept (PlaceT4 id code container head) es answer turns each law =
+      quiet (PlaceT4 id code container head) es answer (λ ns. refl) turns each refl (placed_kept (PlaceT4 id code container head) answer None None refl refl refl)
+  step_kept (PlaceT5 id blocks size head) es answer turns each law =
+      quiet (PlaceT5 id blocks size head) es answer (λ ns. refl) turns each refl (placed_kept (PlaceT5 id blocks size head) answer None None refl refl refl)
+  step_kept (PlacePeer id lr miu rw most) es answer turns each law =
+      quiet (PlacePeer id lr miu rw most) es answer (λ ns. refl) turns each refl
+      (placed_kept (PlacePeer id lr miu rw most) answer (Some (next_number s.peers)) (Some (new_end miu rw most)) refl refl refl)
+  step_kept (Lock id block) es answer turns each law = quiet (Lock id block) es answer (λ ns. refl) turns each refl (same_kept (Lock id block) answer refl refl refl)
+  step_kept (Busy id count times) es answer turns each law = quiet (Busy id count times) es answer (λ ns. refl) turns each refl (same_kept (Busy id count times) answer refl refl refl)
+  step_kept (Offer id key value) es answer turns each law = quiet (Offer id key value) es answer (λ ns. refl) turns each refl (offered_kept id key value answer)
+  step_kept (Remove id) es answer turns each law = quiet (Remove id) es answer (λ ns. refl) turns each refl (removed_kept id answer)
+  step_kept (Dump id) es answer turns each law = quiet (Dump id) es answer (λ ns. refl) turns each refl (same_kept (Dump id) answer refl refl refl)
+  step_kept (Inbox id) es answer turns each law = quiet (Inbox id) es answer (λ ns. refl) turns each refl (same_kept (Inbox id) answer refl refl refl)
+  step_kept Find es answer turns each law = none_open Find es answer refl refl refl
+  step_kept (Read id) es answer turns each law = none_open (Read id) es answer refl refl refl
+  step_kept (Write id m) es answer turns each law = none_open (Write id m) es answer refl refl refl
   step_kept (Link id miu rw) es answer turns each law = link_kept id miu rw es answer law
   step_kept (Put m) es answer turns each law = put_kept m es answer law
   step_kept (Get most key) es answer turns each law = get_kept most key es answer law
@@ -280,16 +317,12 @@ module _ (s : State) (g : Given) (ys : List Arrival) (h : KeptIn s ys) where
   step_kept Unlink es answer turns each law = unlink_kept es answer law
 
 -- through some entries
-steps_kept : (s : State) (gs : List Given) (es : List Entry) (t : State) (ys : List Arrival) → KeptIn s ys → EachLegal s gs es t → AllByRecursion IsByPayloads (arrivals_from s ys (map (λ (g : Given). g.joins) gs) es)
+pub steps_kept : (s : State) (gs : List Given) (es : List Entry) (t : State) (ys : List Story) → KeptIn s ys → EachLegal s gs es t
+    → AllByRecursion IsByPayloads (stories_from s ys (map (λ (g : Given). g.joins) gs) es)
 steps_kept s [] [] t ys h legal = h.all
 steps_kept s [] (e ∷ es) t ys h legal = absurd legal
 steps_kept s (g ∷ gs) [] t ys h legal = absurd legal
 steps_kept s (g ∷ gs) (e ∷ es) t ys h (mid, step, rest) =
     let now : State = state_after s g.joins e.command e.events (Some e.answer) in
-    let one : KeptIn now (arrivals_behind s e.command e.events e.answer now ys) = step_kept s g ys h e.command e.events e.answer step.front.turns step.front.each step.answered in
-    steps_kept now gs es t (arrivals_behind s e.command e.events e.answer now ys) one (subst (λ x. EachLegal x gs es t) step.front.after rest)
-
-pub payload_law : PayloadLaw
-payload_law lines numbers journal last leads =
-    subst (λ ns. AllByRecursion IsByPayloads (arrivals_of ns journal)) leads.joins
-    (steps_kept first_state leads.given journal last [] (record { all = tt; going = tt }) leads.steps)
+    let one : KeptIn now (stories_behind s (stretch_of e) now ys) = step_kept s g ys h e.command e.events e.answer step.front.turns step.front.each step.answered in
+    steps_kept now gs es t (stories_behind s (stretch_of e) now ys) one (subst (λ x. EachLegal x gs es t) step.front.after rest)
