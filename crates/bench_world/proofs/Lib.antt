@@ -56,6 +56,7 @@ pub mod OnClosing
 pub mod CloseOver
 pub mod Names
 pub mod CountedOn
+pub mod ServerRuns
 pub mod PayloadsOn
 pub mod PayloadsKept
 pub mod AtNumbers

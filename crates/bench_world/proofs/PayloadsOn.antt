@@ -1,29 +1,29 @@
 -- What arrives at the peer of a link and is accepted by that, stretch by stretch.
-use Rattle.std.proofs.Common.{◌≡◌, ◌⊎◌, ℕ, ◌<◌, List, [], ◌∷◌, ◌++◌, drop, length, Bool, true, false, if◌then◌else◌, Option, Some, None, refl, sym, ◌∙◌, ap, subst, inl, inr, append_assoc, append-nil, arith}
+use Rattle.std.proofs.Common.{◌≡◌, ◌⊎◌, ℕ, ◌<◌, List, [], ◌∷◌, ◌++◌, drop, length, Option, Some, None, refl, sym, ◌∙◌, ap, subst, inl, inr, append_assoc, append-nil}
 use Rattle.std.specs.List.{AllByRecursion}
 use Rattle.std.proofs.Math.Seq.{drop-append_seam}
 use Rattle.dep_link.specs.DepLinks.{brought}
 use Rattle.dep_link.specs.Payloads.{Cut}
-use Rattle.llcp_link.specs.Running.{Act, Acted, Does, DoesElse, Else, Gives, IsRun, Takes, end_of, marks_of}
+use Rattle.llcp_link.specs.Running.{Acted, DoesElse, Else, end_of, marks_of}
 use Rattle.llcp_link.specs.State.{restarted}
-use Rattle.llcp_link.specs.Taking.{Item, items}
 use Rattle.llcp_link.specs.Units.{units}
-use Rattle.snep_core.specs.Payloads.{AcceptsPuts, AllPut, IsFront, IsServerRun, OffersElse, accepted_from}
+use Rattle.snep_core.specs.Payloads.{AcceptsPuts, AllPut, IsFront, IsServerRun, OffersElse, accepted_from, end_there, marks_there}
 use Rattle.snep_core.specs.Server.{Received as Accepted, ServerState, sap_count, serving}
-use Rattle.snep_core.proofs.PayloadLaw.{accepted_in_order, payloads_accepted}
-use Rattle.link_calls.specs.Arriving.{IsCounted, Never, taken_in}
+use Rattle.snep_core.proofs.PayloadLaw.{payloads_accepted}
+use Rattle.link_calls.specs.Arriving.{IsCounted, taken_in}
 use Rattle.link_calls.proofs.Arriving.{ends_then, runs_then, taken_then}
 use Rattle.bench_script.specs.declared.command.Command.{Command}
 use Rattle.bench_world.specs.declared.entry.Answer.{Answer}
 use Rattle.bench_world.specs.World.{FarEnd}
 use Rattle.bench_world.specs.Arriving.{ArrivesAt, BeginsAt}
-use Rattle.bench_world.specs.ByPayloads.{IsByPayloads}
+use Rattle.bench_world.specs.ByPayloads.{AcceptsUntil, IsByPayloads, PlaceIn}
 use Rattle.bench_world.specs.Calls.{IfLinked, OfEnd}
 use Rattle.bench_world.specs.Legal.{State}
 use Rattle.bench_world.specs.Links.{OpenLink, end_numbered}
 use Rattle.bench_world.specs.Stories.{ByLink, Story, Stretch, accepted_in, accepted_of, first_of, gained_by, goes_on, last_goes_on, open_goes_on, story_if}
 use Rattle.bench_world.proofs.CountedOn.{brought_on, counted_on}
 use Rattle.bench_world.proofs.PutsTold.{accepted_more}
+use Rattle.bench_world.proofs.ServerRuns.{plain_run, run_front, run_order}
 use Rattle.bench_world.proofs.StoriesStand.{all_more, last_story}
 
 -- the story of the link that is open, and its peer's end
@@ -52,6 +52,7 @@ by_payloads y old begins run does payloads accepted = record {
   payloads = payloads;
   accepted = accepted;
   puts = λ c few. from c (put c few y.begun begins does);
+  order = λ p. until p (run_order old y.general y.begun begins run does p);
 }
   where
     put : (c : ℕ) → c < sap_count → (begun : FarEnd) → begun ≡ restarted serving old y.general → IsServerRun begun run
@@ -68,40 +69,10 @@ by_payloads y old begins run does payloads accepted = record {
         sym a.accepted ∙ ap (accepted_from c) accepted ∙ accepted_more c y.begun.service.accepted y.gained in
         subst (AllPut y.begun.service.limit (units c y.begun.miu None (marks_of serving c y.begun run))) (same_behind had a.all (accepted_from c y.gained) both) a.put
 
--- a run in which nothing else is done is one of a server
-plain_run : (l : FarEnd) (run : List (Acted ServerState)) → IsRun serving Never l run → IsServerRun l run
-plain_run l [] r = tt
-plain_run l (a ∷ run) r = (by a.act r.0, plain_run a.after run r.1)
-  where
-    by : (act : Act) → Does serving Never l act a.after → Does serving OffersElse l act a.after
-    by (Takes bytes) d = d
-    by (Gives n) d = d
-    by Else d = absurd d.service
-
--- what was accepted stays, and more is accepted behind it
-nothing_in : (v : Bool) → (if v then items [] else []) ≡ []
-nothing_in true = refl
-nothing_in false = refl
-
-run_front : (old : FarEnd) (general : List ℕ) (run more : List (Acted ServerState)) (begun : FarEnd) → begun ≡ restarted serving old general → IsServerRun begun run → IsServerRun (end_of begun run) more
-    → IsFront (end_of begun run).service.accepted (end_of (end_of begun run) more).service.accepted
-run_front old general run more begun is does then_ = subst Stays (sym is) stays does then_
-  where
-    Stays : FarEnd → Type 0
-    Stays l = IsServerRun l run → IsServerRun (end_of l run) more → IsFront (end_of l run).service.accepted (end_of (end_of l run) more).service.accepted
-
-    stays : Stays (restarted serving old general)
-    stays d e =
-        let here = accepted_in_order old general (record {
-          before = run;
-          run = d;
-          payload = [];
-          bytes = λ i. omega arith;
-          came = [];
-          behind = [];
-          split = nothing_in (end_of (restarted serving old general) run).readable;
-        }) in
-        here.front more e
+    until : (p : PlaceIn y.begun run)
+        → ((c : ℕ) → c < sap_count → AcceptsPuts c y.begun.service.limit y.begun.miu (marks_there c y.begun p.place) y.begun.service.accepted (end_there y.begun p.place).service.accepted)
+        × IsFront (end_there y.begun p.place).service.accepted (end_of y.begun run).service.accepted → AcceptsUntil y p.place
+    until p (puts, front) = record { puts = puts; front = subst (IsFront (end_there y.begun p.place).service.accepted) accepted front }
 
 -- More was done on it, by what more arrived.
 module _ (l : OpenLink) (s : State) (y : Story) (on : OnLink l s y) (x : Stretch) (more : List (Acted ServerState)) (does : IsServerRun (end_of y.begun on.run) more)
@@ -138,7 +109,7 @@ module _ (l : OpenLink) (s : State) (y : Story) (on : OnLink l s y) (x : Stretch
 
     accepted_is : (end_of y.begun all).service.accepted ≡ y.begun.service.accepted ++ (y.gained ++ gained)
     accepted_is =
-        ap (λ (e : FarEnd). e.service.accepted) all_end ∙ gains (run_front on.old y.general on.run more y.begun on.begins on.does does)
+        ap (λ (e : FarEnd). e.service.accepted) all_end ∙ gains (run_front on.old y.general y.begun on.begins on.run more on.does does)
         ∙ ap (λ xs. xs ++ gained) on.accepted ∙ append_assoc y.begun.service.accepted y.gained gained
 
     pub more_payloads : IsByPayloads (goes_on s x t y)
