@@ -1,5 +1,5 @@
 -- Where all passed in a call on a link that isn't over behind it, no reception was bad.
-use Rattle.std.proofs.Common.{◌≡◌, ℕ, ◌+◌, List, [], ◌∷◌, ◌++◌, length, drop, Option, Some, None, refl, sym, ◌∙◌, ap, subst, append_assoc, append-nil, arith}
+use Rattle.std.proofs.Common.{◌≡◌, ℕ, List, [], ◌∷◌, ◌++◌, Option, Some, None, refl, sym, ◌∙◌, ap, subst, append_assoc, append-nil, arith}
 use Rattle.std.proofs.lemmas.List.{append_cancel_left}
 use Rattle.nfc_base.specs.LinkTurns.{arrived, bad_receptions}
 use Rattle.nfc_base.specs.Links.{FarStep, Stepped, Stopped}
@@ -10,17 +10,16 @@ use Rattle.nfc_base.specs.declared.carrier.EndCause.TheVariants.{Memory}
 use Rattle.nfc_base.specs.declared.event.Event.{Event}
 use Rattle.nfc_base.proofs.LinkTurns.{bads_append}
 use Rattle.air_core.specs.Conversation.{Moment}
-use Rattle.air_core.specs.Turn.{Air, moment}
+use Rattle.air_core.specs.Turn.{Air}
 use Rattle.air_core.specs.World.{World}
 use Rattle.air_core.proofs.PlainTurns.{noise_append}
 use Rattle.air_core.proofs.Turns.{back_of-append}
 use Rattle.dep_link.specs.Asking.{Standing, ExchangeTurns, MayReply}
-use Rattle.dep_link.specs.DepLinks.{DepSeen, Swap, Exchanged, Chained, PeerOf, TurnsOf, ExchangedAs, brought, since, first_seen}
+use Rattle.dep_link.specs.DepLinks.{DepSeen, Swap, Exchanged, Chained, PeerOf, ExchangedAs, brought, since, first_seen}
 use Rattle.dep_link.specs.Initiator.{InitState}
 use Rattle.snep_core.specs.Talk.{Step}
 use Rattle.link_calls.specs.Calls.{IsMade}
 use Rattle.bench_world.specs.World.{FarEnd}
-use Rattle.dep_link.specs.Target.{TargetState}
 use Rattle.bench_devices.specs.declared.device.Device.{Device}
 use Rattle.bench_devices.specs.Device.{device_end}
 use Rattle.bench_devices.specs.Keeping.{ghosts}

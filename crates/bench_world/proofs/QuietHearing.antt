@@ -1,14 +1,11 @@
 -- On quiet air no reception is bad but the silences of polling, and a script without noise comes to what it should.
-use Rattle.std.proofs.Common.{◌≡◌, ◌⊎◌, inl, inr, ℕ, ◌+◌, List, [], ◌∷◌, ◌++◌, true, false, Option, Some, None, Ok, refl, sym, ◌∙◌, ap, subst, arith}
+use Rattle.std.proofs.Common.{◌≡◌, ◌⊎◌, inl, inr, ℕ, List, [], ◌∷◌, ◌++◌, true, false, Option, Some, None, Ok, refl, sym, ◌∙◌, ap, subst}
 use Rattle.std.specs.List.{AllByRecursion}
 use Rattle.nfc_base.specs.Signal.{Signal}
 use Rattle.nfc_base.specs.LinkTurns.{bad_receptions}
-use Rattle.nfc_base.specs.Trace.{noise, back_of, heard_by, other_than_pass}
-use Rattle.nfc_base.specs.declared.event.Event.{Event}
-use Rattle.nfc_base.specs.declared.event.Event.TheVariants.{Reset, Request, Answer, Clash}
+use Rattle.nfc_base.specs.Trace.{noise}
 use Rattle.nfc_base.specs.declared.event.Fate.{Fate}
-use Rattle.nfc_base.specs.declared.event.Fate.TheVariants.{Pass, Damage, Lose, Break}
-use Rattle.air_core.specs.Conversation.{Note, Next, LightUp, note, AreTurns, FatesFrom, EachDue, Moment, receptions}
+use Rattle.air_core.specs.Conversation.{Note, Next, LightUp, AreTurns, FatesFrom, EachDue, Moment, receptions}
 use Rattle.bench_script.specs.declared.command.Command.{Command}
 use Rattle.bench_script.specs.declared.command.Command.TheVariants.{Skip, Fates, PlaceT2, PlaceT4, PlaceT5, PlacePeer, Lock, Busy, Offer, Remove, Dump, Inbox, Find, Read, Write, Link, Put, Get, Lookup, Unlink}
 use Rattle.bench_script.specs.declared.command.DeviceId.{DeviceId}
@@ -25,7 +22,7 @@ use Rattle.bench_devices.proofs.TagOrPeer.{tag_or_peer, of_tag, of_peer, either_
 use Rattle.isodep_link.proofs.Heeding.{AreBytes}
 use Rattle.bench_world.specs.Reading.{ReadAsks}
 use Rattle.bench_world.specs.Writing.{WriteAsks}
-use Rattle.bench_devices.specs.Hearing.{IsUnharmed, IsAnswered}
+use Rattle.bench_devices.specs.Hearing.{IsAnswered}
 use Rattle.bench_devices.specs.Keeping.{Kept, kept, IsSound}
 use Rattle.bench_devices.specs.Placed.{IfPlaced, device_with}
 use Rattle.bench_devices.specs.TagAsking.{tag_due}

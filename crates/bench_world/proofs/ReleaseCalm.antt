@@ -1,5 +1,5 @@
 -- Where all passes, a peer with a link is heard at RLS_REQ.
-use Rattle.std.proofs.Common.{◌≡◌, ◌⊎◌, inl, inr, ℕ, List, [], ◌∷◌, ◌++◌, Bool, true, false, ◌||◌, if◌then◌else◌, Option, Some, None, refl, sym, ◌∙◌, ap, subst, arith}
+use Rattle.std.proofs.Common.{◌≡◌, ℕ, List, [], ◌++◌, Bool, true, false, ◌||◌, if◌then◌else◌, Option, Some, None, refl, ◌∙◌, ap, arith}
 use Rattle.std.specs.List.{cons_option}
 use Rattle.nfc_base.specs.Far.{Untouched}
 use Rattle.nfc_base.specs.LinkTurns.{bad_receptions}

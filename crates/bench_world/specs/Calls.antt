@@ -18,7 +18,7 @@ use Rattle.snep_core.specs.declared.job.Job.{Job}
 use Rattle.snep_core.specs.declared.job.Job.TheVariants.{Over as Ended}
 use Rattle.snep_core.specs.Server.{Received}
 use Rattle.snep_core.specs.Session.{value_of}
-use Rattle.snep_core.specs.Talk.{OnSap, Step, Ends, Task, Leaves, begins}
+use Rattle.snep_core.specs.Talk.{Step, Ends, Task, Leaves, begins}
 use Rattle.link_calls.specs.CallDue.{CallStanding, Comes, BrokenBy, call_stand, call_due}
 use Rattle.link_calls.specs.ClosingDue.{ClosingStanding, Calls, Released, closing_stand, closing_due}
 use Rattle.bench_world.specs.declared.entry.Answer.{Answer}

@@ -30,7 +30,8 @@ pub fn finds_complete()
 {}
 
 /// A legal command on the open link is answered as its peer answers it, and the link is closed, exactly where no Break was used
-/// and no wait had six bad receptions: so a valid one gives what it's asked for.
+/// and no wait had six bad receptions: so a valid one gives what it's asked for. Where little noise is, a placed peer is linked,
+/// and a tag tells that it has no link as peers do.
 pub fn links_complete()
     ensures puts { PutsComplete }
     ensures gets { GetsComplete }
@@ -60,8 +61,9 @@ pub fn lines_tell_events()
 {}
 
 /// Where no fate is left but Pass, the air stays quiet, a read of a placed tag tells what its store holds, a write what it
-/// comes to, and a search lists the whole field; no reception is bad but the silences of polling, so behind the selection of a
-/// tag each is a whole answer. Where no line has another fate, all this holds of each entry of a script's journal.
+/// comes to, a search lists the whole field, a placed peer is linked, and each command on the open link is answered as its peer
+/// answers it; no reception is bad but the silences of polling, so behind the selection of a device, and on a link, each is a
+/// whole answer. Where no line has another fate, all this holds of each entry of a script's journal.
 pub fn quiet_air()
     ensures stays { QuietStays }
     ensures reads { QuietReads }
