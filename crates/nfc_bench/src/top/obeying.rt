@@ -36,7 +36,8 @@ pub fn obey_text(
     bench: &mut Bench,
 ) -> Result<bool, ObeyFault>
     ensures ok { IfOk result (λ asks. LineObeyed bench.old bench.new line text.now asks) }
-    ensures refused { IsErrOf result ObeyFault.Refused → (bench.new ≡ bench.old) × (IsTaken bench.old.state text.now → ⊥) }
+    ensures refused { IsErrOf result ObeyFault.Refused → (bench.new ≡ bench.old)
+        × (IsTaken bench.old.state text.now → ⊥) }
     ensures memory { IsErrOf result ObeyFault.Memory → bench.new.journal ≡ bench.old.journal }
 {
     let command = match parse_line(alloc, text) {
