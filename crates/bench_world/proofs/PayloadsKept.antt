@@ -28,7 +28,7 @@ use Rattle.bench_world.specs.World.{FarEnd, bench_air}
 use Rattle.bench_world.specs.Arriving.{ArrivesAt}
 use Rattle.bench_world.specs.ByPayloads.{IsByPayloads}
 use Rattle.bench_world.specs.Calls.{IfLinked, call_behind, link_behind, stands_on}
-use Rattle.bench_world.specs.Legal.{State, Given, AnswerLaw, EachLegal, GetLaw, LinkingLaw, LookupLaw, PutLaw, UnlinkLaw, begun, changed, due, first_state, is_linked_to, link_after, state_after, unlinked, world_after}
+use Rattle.bench_world.specs.Legal.{State, Given, AnswerLaw, EachLegal, GetLaw, LinkingLaw, LookupLaw, PutLaw, UnlinkLaw, begun, changed, due, is_linked_to, link_after, state_after, unlinked, world_after}
 use Rattle.bench_world.specs.Linking.{link_if, own_general}
 use Rattle.bench_world.specs.Links.{OpenLink, begun_if, end_numbered, ended_unless, is_number, is_with}
 use Rattle.bench_world.specs.Peers.{Peers, end_offered, new_end, next_number, placed_under, with_place_changed, without_place}

@@ -2,7 +2,7 @@
 use Rattle.std.proofs.Common.{◌≡◌, ℕ, ◌<◌, List, [], ◌∷◌, ◌++◌, Bool, true, false, if◌then◌else◌, refl, sym, ◌∙◌, ap, subst, arith}
 use Rattle.llcp_link.specs.Running.{Act, Acted, Does, Else, Gives, IsRun, Takes, end_of}
 use Rattle.llcp_link.specs.State.{restarted}
-use Rattle.llcp_link.specs.Taking.{items, steps, taken_from}
+use Rattle.llcp_link.specs.Taking.{items, steps}
 use Rattle.llcp_link.proofs.StepsSoFar.{steps_more}
 use Rattle.snep_core.specs.Payloads.{AcceptsPuts, IsFront, IsServerRun, OffersElse, end_there, marks_there}
 use Rattle.snep_core.specs.Server.{ServerState, sap_count, serving}
