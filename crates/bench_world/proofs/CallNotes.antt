@@ -1,30 +1,29 @@
 -- What is known in a call on the open link: its link ends by the loss of the field exactly where a Break was used; and it asks frames of whole
 -- bytes alone.
-use Rattle.std.proofs.Common.{◌≡◌, ℕ, zero, suc, ◌+◌, ◌<◌, List, [], ◌∷◌, ◌++◌, Bool, true, false, if◌then◌else◌, Option, Some, None, refl, sym, ◌∙◌, ap, subst, arith}
+use Rattle.std.proofs.Common.{◌≡◌, ℕ, zero, suc, ◌+◌, ◌<◌, List, [], ◌∷◌, ◌++◌, Bool, true, false, if◌then◌else◌, Option, Some, None, refl, sym, subst, arith}
 use Rattle.nfc_base.specs.declared.event.Event.{Event}
 use Rattle.nfc_base.specs.declared.event.Event.TheVariants.{Reset, Request, Answer, Clash}
 use Rattle.nfc_base.specs.declared.event.Fate.{Fate}
 use Rattle.nfc_base.specs.declared.event.Fate.TheVariants.{Pass, Damage, Lose, Break}
 use Rattle.nfc_base.specs.declared.event.Heard.{Heard}
-use Rattle.nfc_base.specs.declared.carrier.EndCause.{EndCause}
 use Rattle.nfc_base.specs.declared.carrier.EndCause.TheVariants as cause
 use Rattle.nfc_base.specs.Signal.{Signal, whole_a}
-use Rattle.nfc_base.specs.Trace.{breaks, of_break, back_of, heard_by}
+use Rattle.nfc_base.specs.Trace.{breaks, of_break, heard_by}
 use Rattle.air_core.specs.Joint.{Joint, Nothing, Single, Clashing}
-use Rattle.air_core.specs.Conversation.{AirModel, Note, Lit, Got, Lost, note, Next, Over, LightUp, Asks, IsDemand, EachDue, Moment, Going, replay, receptions, joint_events, joint_back, turn_events, turn_heard, Move, Light, Ask, trace_of}
+use Rattle.air_core.specs.Conversation.{AirModel, Note, Lit, Got, Lost, note, Next, Over, LightUp, Asks, IsDemand, Moment, Going, replay, receptions, joint_events, joint_back, turn_events, turn_heard, Move, Light, Ask, trace_of}
 use Rattle.air_core.proofs.Following.{trace_first, turn_known}
 use Rattle.air_core.proofs.LostField.{HasLost, breaks-append}
 use Rattle.dep_link.specs.declared.initiator.InitStep.{InitStep}
 use Rattle.dep_link.specs.declared.initiator.InitStep.TheVariants as steps
-use Rattle.dep_link.specs.Initiator.{InitState, init_table, heard_next, framed_next}
-use Rattle.dep_link.specs.Asking.{Standing, Waits, Rests, Broken, Astray, asks, goes_by, noted, due_at}
+use Rattle.dep_link.specs.Initiator.{InitState, init_table}
+use Rattle.dep_link.specs.Asking.{Standing, Waits, Rests, Broken, Astray, goes_by, noted, due_at}
 use Rattle.dep_link.specs.Releasing.{rls_frame}
 use Rattle.far_air.specs.FarEnds.{first_number, later_numbers}
-use Rattle.snep_core.specs.Talk.{EndState, Step, Goes, Ends, GivesUp, Working, payload, replied}
+use Rattle.snep_core.specs.Talk.{Step, Goes, Ends, GivesUp, Working, payload, replied}
 use Rattle.link_calls.specs.CallDue.{CallStanding, Carries, Comes, BrokenBy, Strays, call_at, carried, call_noted, call_on, call_due_at, call_stand, call_due}
 use Rattle.link_calls.specs.ClosingDue.{ClosingStanding, Calls, Releasing, Released, closing_at, closing_noted, closing_on, closing_due_at, closing_stand, closing_due}
 use Rattle.bench_devices.proofs.CardReadingNotes.{Driven, driven}
-use Rattle.bench_devices.proofs.SwapLeaves.{IsWholeAt, astray_whole, broken_whole, noted_whole, asks_whole}
+use Rattle.bench_devices.proofs.SwapLeaves.{IsWholeAt, noted_whole, asks_whole}
 
 -- A Break is known as the loss of the field, over any air.
 module _ {W : Type 0} (m : AirModel W) where

@@ -1,10 +1,8 @@
 -- The far end that a command on the open link takes is that of the link's peer.
-use Rattle.std.proofs.Common.{◌≡◌, ℕ, zero, suc, List, [], ◌∷◌, if◌then◌else◌, Bool, true, false, Option, Some, None, refl, sym, ◌∙◌, ap, subst}
-use Rattle.std.specs.Prelude.{get_or, slice_set}
-use Rattle.air_core.specs.Turn.{Air}
+use Rattle.std.proofs.Common.{◌≡◌, ℕ, zero, suc, List, [], ◌∷◌, if◌then◌else◌, Bool, true, false, Option, Some, None, sym, ◌∙◌, ap, subst}
+use Rattle.std.specs.Prelude.{get_or}
 use Rattle.snep_core.specs.Accord.{Accords}
 use Rattle.bench_script.specs.declared.command.Command.{Command}
-use Rattle.bench_devices.specs.declared.device.Device.{Device}
 use Rattle.bench_world.specs.declared.entry.Answer.{Answer}
 use Rattle.bench_world.specs.World.{FarEnd}
 use Rattle.bench_world.specs.Links.{OpenLink, end_numbered, is_number}

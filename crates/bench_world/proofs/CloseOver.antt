@@ -1,6 +1,6 @@
 -- What becomes of the open link's closing, by what the call on the field says.
-use Rattle.std.proofs.Common.{◌≡◌, ◌⊎◌, ℕ, List, [], Option, Some, None, refl, sym, ◌∙◌, ap, subst, inl, inr}
-use Rattle.std.specs.Prelude.{get_or, slice_set}
+use Rattle.std.proofs.Common.{◌≡◌, ℕ, Option, Some, None, subst}
+use Rattle.std.specs.Prelude.{get_or}
 use Rattle.nfc_base.specs.Far.{Untouched}
 use Rattle.nfc_base.specs.declared.carrier.EndCause.{EndCause}
 use Rattle.nfc_base.specs.declared.carrier.EndCause.TheVariants as cause

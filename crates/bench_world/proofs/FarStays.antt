@@ -3,7 +3,6 @@
 use Rattle.std.proofs.Common.{◌≡◌, ℕ, List, [], ◌∷◌, length, Option, sym, ◌∙◌, ap, subst}
 use Rattle.nfc_base.specs.declared.event.Event.{Event}
 use Rattle.nfc_base.specs.declared.event.Event.TheVariants.{Reset, Request, Answer, Clash}
-use Rattle.nfc_base.specs.declared.event.Fate.{Fate}
 use Rattle.nfc_base.specs.declared.event.Fate.TheVariants.{Pass, Damage, Lose, Break}
 use Rattle.nfc_base.specs.Signal.{Signal}
 use Rattle.nfc_base.specs.declared.frame.Tech.TheVariants.{A}
@@ -16,7 +15,7 @@ use Rattle.bench_devices.specs.declared.device.Device.{Device}
 use Rattle.bench_devices.specs.declared.device.Device.TheVariants.{T2, T4, Peer, T5}
 use Rattle.bench_devices.specs.Device.{devices, device_linked}
 use Rattle.bench_devices.specs.Keeping.{Kept, kept, IsSound, StaysDevice, AllStayDevices}
-use Rattle.bench_devices.specs.Phases.{IsTidy, AreTidy}
+use Rattle.bench_devices.specs.Phases.{AreTidy}
 use Rattle.bench_devices.proofs.EveryFrame.{stays_step, event_stays}
 use Rattle.bench_devices.proofs.PeerMade.{peer_kept}
 use Rattle.bench_devices.proofs.Tidy.{stepped_tidy, events_tidy}

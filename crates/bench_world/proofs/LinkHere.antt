@@ -1,9 +1,8 @@
 -- What opening a link does where none is open.
-use Rattle.std.proofs.Common.{◌≡◌, ℕ, ◌+◌, List, [], ◌∷◌, ◌++◌, map, length, false, true, Option, Some, None, Result, Ok, Err, refl, sym, ◌∙◌, ap, subst}
+use Rattle.std.proofs.Common.{◌≡◌, ℕ, ◌+◌, List, length, false, true, Some, None, Result, Ok, Err, refl, sym, ◌∙◌, ap, subst}
 use Rattle.std.specs.Prelude.{get_or, slice_set, IfOk, IfErr, OnErr}
 use Rattle.nfc_base.specs.declared.carrier.EndCause.{EndCause}
 use Rattle.nfc_base.specs.declared.carrier.EndCause.TheVariants as causes
-use Rattle.air_core.specs.World.{World}
 use Rattle.air_core.specs.Turn.{Air, moment}
 use Rattle.arrayvec.specs.ArrayVec.{ArrayVec}
 use Rattle.nfca_poll.specs.declared.fault.PollFault.{PollFault}
@@ -14,10 +13,8 @@ use Rattle.bench_script.specs.declared.command.Command.TheVariants.{Link}
 use Rattle.bench_script.specs.declared.command.DeviceId.TheVariants.{A}
 use Rattle.bench_devices.specs.declared.device.Device.{Device}
 use Rattle.bench_devices.specs.Device.{is_tag}
-use Rattle.bench_devices.specs.Keeping.{Kept, kept}
 use Rattle.bench_devices.specs.Opening.{Opens}
 use Rattle.bench_devices.specs.Phases.{Selects, SelectsAt, SelectionCut}
-use Rattle.bench_devices.proofs.TagOrPeer.{same_tag}
 use Rattle.bench_world.specs.declared.bench.ObeyFault.{ObeyFault}
 use Rattle.bench_world.specs.declared.bench.ObeyFault.TheVariants as faults
 use Rattle.bench_world.specs.declared.entry.Answer.{Answer as Told_answer}
@@ -26,7 +23,7 @@ use Rattle.bench_world.specs.declared.entry.Loss.TheVariants as losses
 use Rattle.bench_world.specs.Answering.{poll_answer}
 use Rattle.bench_world.specs.World.{FarEnd}
 use Rattle.bench_world.specs.Linking.{own_general, new_client}
-use Rattle.bench_world.specs.Opened.{IsServed, AreServed}
+use Rattle.bench_world.specs.Opened.{IsServed}
 use Rattle.bench_world.specs.LinkedAt.{restarts, begun, NotOpened, moved_at, LinkLeft, OpensAt}
 use Rattle.bench_world.specs.Legal.{MayLink, CutFront}
 use Rattle.bench_world.specs.Obeying.{Machines, state_at, under, HasPlaces, IsSettled, Obeyed}

@@ -1,7 +1,6 @@
 -- What a link that is opened at a place leaves, by what came of ATR_REQ.
-use Rattle.std.proofs.Common.{◌≡◌, ℕ, ◌+◌, List, length, false, Result, Ok, Err, ◌∙◌, ap, subst}
+use Rattle.std.proofs.Common.{◌≡◌, ℕ, ◌+◌, length, false, Result, Ok, Err, ◌∙◌, ap, subst}
 use Rattle.std.specs.Prelude.{IfOk, IfErr, OnOk, OnErr}
-use Rattle.nfc_base.specs.declared.carrier.EndCause.{EndCause}
 use Rattle.nfc_base.specs.declared.carrier.EndCause.TheVariants.{Protocol}
 use Rattle.nfc_base.specs.declared.carrier.LinkEnd.{LinkEnd}
 use Rattle.air_core.specs.Turn.{Air, moment}

@@ -4,7 +4,7 @@ use Rattle.std.specs.Prelude.{get_or, slice_set, slice_index, slice_index_or, op
 use Rattle.std.proofs.lemmas.List.{length-set, length-map, append-nil, append_assoc}
 use Rattle.std.specs.Cmp.Lexicographic.{pointwise}
 use Rattle.nfca_poll.proofs.OneLevel.{pointwise_self}
-use Rattle.far_air.specs.FarEnds.{later_fars, by_link}
+use Rattle.far_air.specs.FarEnds.{by_link}
 use Rattle.far_air.specs.FarLaws.{shown}
 use Rattle.peer_air.specs.PeerFars.{peer_ends}
 use Rattle.bench_script.specs.declared.command.Command.TheVariants.{Offer, Inbox}

@@ -14,10 +14,9 @@ use Rattle.bench_script.specs.Script.{Spells, is_skipped}
 use Rattle.bench_script.proofs.Spelling.{spells_one}
 use Rattle.bench_devices.specs.declared.device.Device.{Device}
 use Rattle.bench_devices.specs.declared.device.Device.TheVariants.{T2, T4, Peer, T5}
-use Rattle.bench_devices.specs.Device.{BenchWorld, air, most_devices, device_id, device_store, blocks_of, may_be_busy, is_tag, device_locked, device_busy}
+use Rattle.bench_devices.specs.Device.{most_devices, device_id, device_store, blocks_of, may_be_busy, is_tag, device_locked, device_busy}
 use Rattle.bench_devices.specs.Keeping.{Fixed, fixed, AllStayDevices}
 use Rattle.bench_devices.specs.Placed.{device_with, without, with_changed, OfPlaced}
-use Rattle.bench_devices.proofs.EveryFrame.{devices_stay}
 use Rattle.bench_world.specs.declared.entry.Answer.{Answer}
 use Rattle.bench_world.specs.declared.entry.Entry.{Entry}
 use Rattle.bench_world.specs.Journal.{AreEntriesOf, asking_lines, LeadsTo}

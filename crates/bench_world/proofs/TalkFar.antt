@@ -1,19 +1,19 @@
 -- What talking to a peer in the world with far ends leaves of the devices.
-use Rattle.std.proofs.Common.{◌≡◌, ℕ, zero, suc, List, [], ◌∷◌, ◌++◌, Option, Some, None, refl, sym, ◌∙◌, ap, subst}
+use Rattle.std.proofs.Common.{◌≡◌, ℕ, zero, suc, List, [], ◌∷◌, ◌++◌, Option, None, sym, ap, subst}
 use Rattle.std.specs.List.{AllByRecursion}
 use Rattle.nfc_base.specs.Signal.{Signal, whole_a}
-use Rattle.nfc_base.specs.Far.{FarUse, Untouched}
+use Rattle.nfc_base.specs.Far.{FarUse}
 use Rattle.nfc_base.specs.declared.event.Event.{Event}
 use Rattle.nfc_base.specs.declared.event.Event.TheVariants.{Reset, Request, Answer, Clash}
 use Rattle.nfc_base.specs.declared.event.Fate.{Fate}
 use Rattle.nfc_base.specs.declared.event.Fate.TheVariants.{Pass, Damage, Lose, Break}
 use Rattle.nfc_base.specs.declared.frame.Tech.TheVariants.{A}
-use Rattle.air_core.specs.World.{hands_over, stepped_by}
-use Rattle.air_core.specs.Conversation.{Note, Next, Asks, EachDue, receptions, replay}
+use Rattle.air_core.specs.World.{stepped_by}
+use Rattle.air_core.specs.Conversation.{Note, Next, EachDue, receptions, replay}
 use Rattle.air_core.specs.PlainTags.{IsAside}
 use Rattle.air_core.proofs.PlainAside.{aside_silent}
 use Rattle.far_air.specs.FarEnds.{first_number, first_far, later_fars, numbers_left, reply_to}
-use Rattle.far_air.specs.FarWorld.{all_meet, device_after, reply_at, far_stepped, far_requested, far_came_back}
+use Rattle.far_air.specs.FarWorld.{all_meet, device_after, reply_at, far_requested, far_came_back}
 use Rattle.peer_air.specs.PeerFars.{peer_ends}
 use Rattle.bench_devices.specs.declared.device.Device.{Device}
 use Rattle.bench_devices.specs.Beside.{PeerAt, TalkLeaves}

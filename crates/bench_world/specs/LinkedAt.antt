@@ -1,5 +1,5 @@
 -- What opening a link to the peer at a place does to machines.
-use Rattle.std.specs.Prelude.{◌≡◌, ℕ, ◌+◌, List, length, slice_set, Option, Some, None, Result, Ok, Err}
+use Rattle.std.specs.Prelude.{◌≡◌, ℕ, ◌+◌, List, length, slice_set, Some, None, Result, Ok, Err}
 use Rattle.nfc_base.specs.declared.carrier.EndCause.{EndCause}
 use Rattle.nfc_base.specs.declared.carrier.EndCause.TheVariants.{FieldLost, SixBad, Protocol, Memory}
 use Rattle.air_core.specs.Turn.{Air}
@@ -18,7 +18,7 @@ use Rattle.bench_world.specs.declared.entry.Answer.TheVariants as answers
 use Rattle.bench_world.specs.declared.entry.Loss.TheVariants as losses
 use Rattle.bench_world.specs.World.{FarEnd}
 use Rattle.bench_world.specs.Linking.{own_general, new_client}
-use Rattle.bench_world.specs.Links.{OpenLink, with_link}
+use Rattle.bench_world.specs.Links.{with_link}
 use Rattle.bench_world.specs.Obeying.{Machines}
 
 -- the machines with this link

@@ -1,6 +1,6 @@
 -- The open link of a bench, and the links so far (NFCIP-1, ISO/IEC 18092; NFC Forum LLCP 1.3; that a link has a number, and when it ends, are
 -- this project's own).
-use Rattle.std.specs.Prelude.{ℕ, nat_eq, length, Bool, true, false, List, [], ◌∷◌, ◌++◌, if◌then◌else◌, Option, Some, None}
+use Rattle.std.specs.Prelude.{ℕ, nat_eq, length, Bool, false, List, [], ◌∷◌, ◌++◌, if◌then◌else◌, Option, Some, None}
 use Rattle.dep_link.specs.Initiator.{InitState}
 use Rattle.far_air.specs.FarEnds.{first_far, later_fars}
 use Rattle.snep_core.specs.Talk.{EndState}

@@ -1,4 +1,4 @@
-use Rattle.std.proofs.Common.{◌≡◌, List, ℕ, sym, ◌∙◌, map}
+use Rattle.std.proofs.Common.{◌≡◌, sym, ◌∙◌, map}
 use Rattle.bench_script.specs.declared.command.Command.TheVariants.{Write}
 use Rattle.bench_script.specs.Messages.{message_of}
 use Rattle.far_air.specs.FarEnds.{rests}

@@ -1,4 +1,4 @@
-use Rattle.std.proofs.Common.{◌≡◌, ℕ, List, [], Option, Result, Ok, Err, OnErr, IsErrOf, rules, sym, subst, map}
+use Rattle.std.proofs.Common.{◌≡◌, ℕ, List, Option, Result, Ok, Err, OnErr, IsErrOf, rules, sym, subst, map}
 use Rattle.far_air.specs.FarEnds.{rests}
 use Rattle.peer_air.specs.PeerFars.{peer_ends}
 use Rattle.bench_world.specs.declared.bench.ObeyFault.{ObeyFault}

@@ -1,6 +1,5 @@
-use Rattle.std.proofs.Common.{rules, ◌≡◌, ℕ, List, Option, Some, None, Result, OnErr, refl, sym, ◌∙◌, ap, subst, map}
+use Rattle.std.proofs.Common.{rules, ◌≡◌, ℕ, List, Option, Some, None, refl, ◌∙◌, ap, subst, map}
 use Rattle.std.specs.Prelude.{get_or, slice_set}
-use Rattle.snep_core.specs.declared.fault.SnepFault.{SnepFault}
 use Rattle.snep_core.specs.declared.fault.SnepFault.TheVariants.{BadPeer, Excess, LinkEnded, Memory, NotFound, NotImplemented, Reject}
 use Rattle.far_air.specs.FarEnds.{rests}
 use Rattle.peer_air.specs.PeerFars.{peer_ends}

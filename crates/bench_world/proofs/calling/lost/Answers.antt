@@ -1,2 +1,0 @@
-use Rattle.bench_world.proofs.OnClosing.{closed}
-use Rattle.bench_world.proofs.calling.lost.Goals as goal

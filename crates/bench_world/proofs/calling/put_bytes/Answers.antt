@@ -1,16 +1,12 @@
-use Rattle.std.proofs.Common.{rules, ◌≡◌, ℕ, List, Option, Some, None, Result, OnErr, refl, sym, ◌∙◌, ap, subst, map}
+use Rattle.std.proofs.Common.{rules, ◌≡◌, ℕ, List, Option, Some, None, refl, sym, ◌∙◌, ap, subst, map}
 use Rattle.std.specs.Prelude.{get_or, slice_set}
 use Rattle.bench_script.specs.declared.command.Command.TheVariants.{Put}
-use Rattle.bench_script.specs.declared.message.Msg.{Msg}
-use Rattle.bench_script.specs.Messages.{message_of}
-use Rattle.snep_core.specs.declared.fault.SnepFault.{SnepFault}
 use Rattle.far_air.specs.FarEnds.{rests}
 use Rattle.peer_air.specs.PeerFars.{peer_ends}
-use Rattle.bench_world.specs.declared.entry.Answer.{Answer}
 use Rattle.bench_world.specs.declared.entry.Answer.TheVariants as answers
 use Rattle.bench_world.specs.World.{FarEnd}
 use Rattle.bench_world.specs.Links.{OpenLink, accepted_by, end_numbered, with_last_ended}
-use Rattle.bench_world.specs.Obeying.{Machines, IsCutOff, IsSettled, Obeyed, under}
+use Rattle.bench_world.specs.Obeying.{Machines, IsSettled, Obeyed, under}
 use Rattle.bench_world.specs.Peers.{Peers}
 use Rattle.snep_core.specs.declared.fault.SnepFault.TheVariants.{BadPeer, Excess, LinkEnded, Memory, NotFound, NotImplemented, Reject}
 use Rattle.bench_world.proofs.Chosen.{found, is_there}

@@ -1,4 +1,4 @@
-use Rattle.std.proofs.Common.{◌≡◌, inl, inr, ◌+◌, ◌<◌, length, Result, Ok, Err, IfOk, OnErr, IsErrOf, sym, ap, subst}
+use Rattle.std.proofs.Common.{◌≡◌, inl, inr, ◌+◌, ◌<◌, length, Result, Ok, Err, OnErr, IsErrOf, sym, subst}
 use Rattle.bench_script.specs.declared.command.Command.TheVariants.{Link}
 use Rattle.bench_world.specs.declared.bench.ObeyFault.{ObeyFault}
 use Rattle.bench_world.specs.declared.bench.ObeyFault.TheVariants as faults

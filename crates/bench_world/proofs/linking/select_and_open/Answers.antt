@@ -1,5 +1,5 @@
-use Rattle.std.proofs.Common.{◌≡◌, ◌+◌, ◌<◌, true, false, Option, Some, None, Result, Ok, Err, refl, sym, ◌∙◌, ap, subst}
-use Rattle.std.specs.Prelude.{slice_index_or, get_or, IfOk, OnErr}
+use Rattle.std.proofs.Common.{◌≡◌, true, false, Some, None, Err, sym, ◌∙◌, ap, subst}
+use Rattle.std.specs.Prelude.{IfOk, OnErr}
 use Rattle.air_core.specs.Turn.{moment}
 use Rattle.bench_script.specs.declared.command.Command.TheVariants.{Link}
 use Rattle.bench_script.specs.declared.command.DeviceId.TheVariants.{A}

@@ -1,4 +1,4 @@
-use Rattle.std.proofs.Common.{◌≡◌, ◌+◌, ◌-◌, ℕ, List, length, None, arith}
+use Rattle.std.proofs.Common.{◌≡◌, ◌+◌, ◌-◌, List, length, None, arith}
 use Rattle.bench_world.specs.declared.inbox.LinkRange.{LinkRange}
 use Rattle.bench_world.proofs.Unlinking.{last_set}
 use Rattle.bench_world.proofs.machines.end_last.Goals as goal

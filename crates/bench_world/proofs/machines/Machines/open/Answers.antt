@@ -1,8 +1,7 @@
-use Rattle.std.proofs.Common.{◌≡◌, ◌<◌, ℕ, List, length, get_or, Option, Some, None, refl, sym, ◌∙◌, ap, subst, map}
+use Rattle.std.proofs.Common.{◌≡◌, ◌<◌, ℕ, List, length, get_or, Some, None, refl, sym, ◌∙◌, ap, subst, map}
 use Rattle.std.proofs.lemmas.List.{length-map}
 use Rattle.dep_link.specs.Activating.{by_cause}
 use Rattle.llcp_link.specs.Answering.{Answers}
-use Rattle.llcp_pdu.specs.declared.general.LinkParams.{LinkParams}
 use Rattle.llcp_pdu.specs.General.{general_bytes}
 use Rattle.snep_core.specs.Calling.{ClientState}
 use Rattle.snep_core.specs.Server.{Received as Accepted, ServerState, messages_of, serving}
