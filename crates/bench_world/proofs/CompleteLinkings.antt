@@ -27,7 +27,7 @@ use Rattle.bench_world.specs.declared.entry.Answer.TheVariants as answers
 use Rattle.bench_world.specs.declared.entry.Entry.{Entry}
 use Rattle.bench_world.specs.declared.entry.Loss.TheVariants as losses
 use Rattle.bench_world.specs.Completing.{IsQuietOnce}
-use Rattle.bench_world.specs.CompletingLinks.{IsUndisturbedOpening, OpensPlaced, link_answer, LinkingsComplete}
+use Rattle.bench_world.specs.CompletingLinks.{IsUndisturbedOpening, OpensPlaced, link_answer, LinkingsComplete, KindsTold}
 use Rattle.bench_world.specs.Journal.{asking_lines}
 use Rattle.bench_world.specs.Legal.{State, Given, LegalStep, AnswerLaw, LinkingLaw, begun, changed, due, first_state}
 use Rattle.bench_world.specs.Linking.{TellsLoss, LinkEnds, LinkTells, IsFieldLost, own_general}
@@ -100,6 +100,45 @@ module _ (id : List ℕ) (ds : List Device) (d : Device) (placed : device_with i
   link_ends (Err faults.NotFound) behind es q kind none c e = absurd (missed (A id) ds d placed named (A id) es placed named q c)
   link_ends (Err faults.BadAnswer) behind es q kind none c e = absurd c
 
+-- What tells of a kind is right of the device.
+module _ (d : Device) (n : ℕ) (general : List ℕ) (answer : Answer) where
+  abbrev TellsKind : Type 0
+  TellsKind = (answer ≡ answers.WrongKind → is_tag d ≡ true) × ((m : ℕ) → answer ≡ answers.Linked m → (is_tag d ≡ false) × (m ≡ n))
+
+  of_tag : is_tag d ≡ true → answer ≡ answers.WrongKind → TellsKind
+  of_tag tag is = ((λ w. tag), (λ m q. absurd (let clash : answers.WrongKind ≡ answers.Linked m = sym is ∙ q in cc)))
+
+  of_linked : is_tag d ≡ false → answer ≡ answers.Linked n → TellsKind
+  of_linked peer is =
+      ((λ w. absurd (let clash : answers.Linked n ≡ answers.WrongKind = sym is ∙ w in cc)), (λ m q. (peer, one_number m (sym q ∙ is))))
+    where
+      one_number : (m : ℕ) → answers.Linked m ≡ answers.Linked n → m ≡ n
+      one_number m e = cc
+
+  of_other : (a : Answer) → answer ≡ a → (a ≡ answers.WrongKind → ⊥) → ((m : ℕ) → a ≡ answers.Linked m → ⊥) → TellsKind
+  of_other a is wrong linked = ((λ w. absurd (wrong (sym is ∙ w))), (λ m q. absurd (linked m (sym is ∙ q))))
+
+  of_standing : is_tag d ≡ false → (s : Standing) → TellsStanding (λ a. a ≡ answers.Linked n) TellsLoss s answer → TellsKind
+  of_standing peer (Asking bad []) t = of_linked peer t
+  of_standing peer (Asking bad (c ∷ cs)) t = absurd t
+  of_standing peer (Broken asking.FieldLost cs) t = of_other (answers.LinkEnded losses.FieldLost) t (λ w. cc) (λ m q. cc)
+  of_standing peer (Broken asking.SixBad cs) t = of_other (answers.LinkEnded losses.SixBad) t (λ w. cc) (λ m q. cc)
+  of_standing peer (Broken asking.Memory cs) t = absurd t
+  of_standing peer (Broken asking.Protocol cs) t = absurd t
+  of_standing peer Astray t = absurd t
+
+  kinds_by : (r : Result SeenKind PollFault) (behind : List Note) → ((k : SeenKind) → r ≡ Ok k → seen_of d ≡ k) → LinkEnds n general r behind answer → TellsKind
+  kinds_by (Ok seen.T2) behind kind e = of_tag (tag_two d (kind seen.T2 refl)) e
+  kinds_by (Ok seen.T4) behind kind e = of_tag (tag_four d (kind seen.T4 refl)) e
+  kinds_by (Ok seen.T5) behind kind e = of_tag (tag_five d (kind seen.T5 refl)) e
+  kinds_by (Ok seen.Peer) behind kind e = of_standing (no_tag d (kind seen.Peer refl)) (stand 0 (atr_frame general ∷ []) behind) e
+  kinds_by (Err faults.Nobody) behind kind e = absurd cc
+  kinds_by (Err faults.Disturbed) behind kind e = of_other answers.Disturbed (told_once answers.Disturbed answer e) (λ w. cc) (λ m q. cc)
+  kinds_by (Err faults.FieldLost) behind kind e = of_other answers.FieldLost (told_once answers.FieldLost answer e) (λ w. cc) (λ m q. cc)
+  kinds_by (Err faults.Memory) behind kind e = absurd cc
+  kinds_by (Err faults.NotFound) behind kind e = of_other answers.NotFound (told_once answers.NotFound answer e) (λ w. cc) (λ m q. cc)
+  kinds_by (Err faults.BadAnswer) behind kind e = absurd cc
+
 module _ (s t : State) (g : Given) (e : Entry) (id : List ℕ) (miu window : ℕ) (d : Device) (ready : IsReady s.world.field.listeners) (step : LegalStep s g e t) (o : OpensPlaced s e id miu window d) where
   law : LinkingLaw s g.joins id miu window e.events e.answer
   law = let L : Command → Type 0 = λ c. AnswerLaw s g c e.events e.answer in subst L o.command step.answered
@@ -118,6 +157,11 @@ module _ (s t : State) (g : Given) (e : Entry) (id : List ℕ) (miu window : ℕ
       let by : (k : SeenKind) → tells.polled ≡ Ok k → selecting (A id) (receptions e.events) ≡ Told (Ok k) tells.behind = λ k is. tells.selected ∙ ap (λ r. Told r tells.behind) is in
       link_ends id s.world.field.listeners d o.placed o.named (length s.peers.links + 1) (own_general miu) e.answer (λ lost. no_lost (breaks e.events) calm.lit (tells.lost.0 lost)) tells.polled tells.behind e.events calm.round
       (λ k is. kind_is k tells.behind (by k is)) (λ is left six. calm.waits tells.behind left (by seen.Peer is) six) tells.cause tells.ends
+
+  kinds_so : TellsKind d (length s.peers.links + 1) (own_general miu) e.answer
+  kinds_so =
+      let tells : LinkTells (A id) s.world.field.listeners (length s.peers.links + 1) (own_general miu) e.events e.answer = law.tells in
+      kinds_by d (length s.peers.links + 1) (own_general miu) e.answer tells.polled tells.behind (λ k is. kind_is k tells.behind (tells.selected ∙ ap (λ r. Told r tells.behind) is)) tells.ends
 
   -- without noise nothing keeps it from its answer
   none_six : noise e.events ≡ 0 → (behind : List Note) (left : List Signal) → selecting (A id) (receptions e.events) ≡ Told (Ok seen.Peer) behind → stand 0 (atr_frame (own_general miu) ∷ []) behind ≡ Broken asking.SixBad left → ⊥
@@ -152,3 +196,7 @@ linkings_complete lines numbers journal s t g e id miu window d leads step o cal
 pub quiet_linkings : QuietLinkings
 quiet_linkings lines numbers journal s t g e leads step pass =
     links_quietly s t g e (ready_behind (asking_lines 1 lines) first_state s leads.given journal first_ready leads.numbered leads.steps) step pass
+
+pub kinds_told : KindsTold
+kinds_told lines numbers journal s t g e id miu window d leads step o =
+    kinds_so s t g e id miu window d (ready_behind (asking_lines 1 lines) first_state s leads.given journal first_ready leads.numbered leads.steps) step o

@@ -1,7 +1,7 @@
 -- What commands of links answer where noise doesn't keep them from it: no Break was used, no wait had six bad receptions, and where a link is
 -- opened, polling had one round without noise (why a server refuses, and what a peer tells of a name, is from NFC Forum SNEP 1.0 and LLCP 1.3;
 -- rounds and six receptions are this project's own).
-use Rattle.std.specs.Prelude.{◌≡◌, ◌↔◌, ℕ, ◌+◌, ◌≤◌, nat_lt, List, [], ◌∷◌, length, Option, Some, None, Ok, if◌then◌else◌}
+use Rattle.std.specs.Prelude.{◌≡◌, ◌↔◌, ℕ, ◌+◌, ◌≤◌, nat_lt, List, [], ◌∷◌, length, true, false, Option, Some, None, Ok, if◌then◌else◌}
 use Rattle.nfc_base.specs.Signal.{Signal}
 use Rattle.nfc_base.specs.Trace.{breaks}
 use Rattle.nfc_base.specs.declared.carrier.EndCause.TheVariants.{SixBad}
@@ -131,3 +131,9 @@ abbrev pub LinkingsComplete : Type 0
 LinkingsComplete =
     (lines : List (List ℕ)) (numbers : List Joins) (journal : List Entry) (s t : State) (g : Given) (e : Entry) (id : List ℕ) (miu window : ℕ) (d : Device) → LeadsTo lines numbers journal s → LegalStep s g e t
     → OpensPlaced s e id miu window d → IsUndisturbedOpening id miu e.events → e.answer ≡ link_answer (length s.peers.links + 1) d
+
+-- Whatever the noise, of a tag alone it's told that it has none, and to a peer alone a link is opened, which has the next number.
+abbrev pub KindsTold : Type 0
+KindsTold =
+    (lines : List (List ℕ)) (numbers : List Joins) (journal : List Entry) (s t : State) (g : Given) (e : Entry) (id : List ℕ) (miu window : ℕ) (d : Device) → LeadsTo lines numbers journal s → LegalStep s g e t
+    → OpensPlaced s e id miu window d → (e.answer ≡ answers.WrongKind → is_tag d ≡ true) × ((n : ℕ) → e.answer ≡ answers.Linked n → (is_tag d ≡ false) × (n ≡ length s.peers.links + 1))

@@ -3,6 +3,7 @@
 
 ghost use Rattle.bench_world.specs.Behind.{WrittenIsRead, OneOfThreeIsRead};
 ghost use Rattle.bench_world.specs.Completing.{ReadsComplete, WritesComplete, ValidIsWritten, FindsComplete};
+ghost use Rattle.bench_world.specs.CompletingLinks.{PutsComplete, GetsComplete, LookupsComplete, UnlinksComplete, ValidIsOk, LinkingsComplete, KindsTold};
 ghost use Rattle.bench_world.specs.LinkLaw.{LinkLaw};
 ghost use Rattle.bench_world.specs.CompletingLinks.{PutsComplete, GetsComplete, LookupsComplete, UnlinksComplete, ValidIsOk, LinkingsComplete};
 ghost use Rattle.bench_world.specs.Quiet.{QuietStays, QuietReads, QuietWrites, QuietFinds};
@@ -39,6 +40,7 @@ pub fn links_complete()
     ensures unlinks { UnlinksComplete }
     ensures valid { ValidIsOk }
     ensures linkings { LinkingsComplete }
+    ensures kinds { KindsTold }
 {}
 
 /// Behind a write, with no command between that touches its tag, a read that tells a message tells the new one where the

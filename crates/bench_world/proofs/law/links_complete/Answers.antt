@@ -1,5 +1,5 @@
 use Rattle.bench_world.proofs.CompleteLinks.{puts_complete, gets_complete, lookups_complete, unlinks_complete, valid_is_ok}
-use Rattle.bench_world.proofs.CompleteLinkings.{linkings_complete}
+use Rattle.bench_world.proofs.CompleteLinkings.{kinds_told, linkings_complete}
 use Rattle.bench_world.proofs.law.links_complete.Goals as goal
 
 pub returns-clause-puts : goal.returns-clause-puts
@@ -19,3 +19,6 @@ returns-clause-valid c = valid_is_ok
 
 pub returns-clause-linkings : goal.returns-clause-linkings
 returns-clause-linkings c = linkings_complete
+
+pub returns-clause-kinds : goal.returns-clause-kinds
+returns-clause-kinds c = kinds_told
