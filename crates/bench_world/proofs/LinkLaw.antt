@@ -1,7 +1,7 @@
 -- The law of links, step by step over a journal.
-use Rattle.std.proofs.Common.{◌≡◌, ℕ, ◌+◌, List, [], ◌∷◌, ◌++◌, map, length, Option, Some, None, refl, sym, ◌∙◌, ap, subst}
+use Rattle.std.proofs.Common.{◌≡◌, ℕ, ◌+◌, List, [], ◌∷◌, ◌++◌, map, length, true, false, Option, Some, None, IsSome, refl, sym, ◌∙◌, ap, subst}
 use Rattle.std.specs.List.{AllByRecursion}
-use Rattle.std.proofs.lemmas.List.{append-nil, length-append, length-map, map-append}
+use Rattle.std.proofs.lemmas.List.{append-nil, append_assoc, length-append, length-map, map-append}
 use Rattle.nfc_base.specs.declared.event.Event.{Event}
 use Rattle.nfc_base.specs.declared.event.Fate.{Fate}
 use Rattle.air_core.specs.Conversation.{queue_after}
@@ -27,11 +27,11 @@ use Rattle.bench_world.specs.Calls.{link_behind, stands_on, told_call}
 use Rattle.bench_world.specs.Inbox.{inbox_at, inbox_of}
 use Rattle.bench_world.specs.Legal.{State, Given, Joins, Accepts, IsPeerPlaced, AnswerLaw, PutLaw, FrontOf, LegalStep, EachLegal, begun, changed, first_state, inbox_now, world_after, state_after}
 use Rattle.bench_world.specs.Linking.{LinkTells, link_if, own_general}
-use Rattle.bench_world.specs.LinkLaw.{AreCounted, KeepsLinkLaw, LinksAccept, LinkLaw, TellsInbox, told_by_stories, peer_under}
-use Rattle.bench_world.specs.Links.{OpenLink, ended, ended_unless, is_with}
+use Rattle.bench_world.specs.LinkLaw.{AreCounted, KeepsLinkLaw, LinksAccept, LinkLaw, TellsInbox, told_by_stories, told_link, told_links, peer_under}
+use Rattle.bench_world.specs.Links.{OpenLink, end_numbered, ended, ended_unless, is_with}
 use Rattle.bench_world.specs.Peers.{Peers, new_end, next_number, placed_under}
-use Rattle.bench_world.specs.Stories.{Story, Stretch, begun_in, goes_on, last_goes_on, open_goes_on, puts_in, state_from, stories_behind, stories_from, stretch_of}
-use Rattle.bench_world.proofs.AtNumbers.{AreHeld, Held, held, at_number, held_offered, held_under, at_own_place, more_held, same_held, with_held}
+use Rattle.bench_world.specs.Stories.{Story, Stretch, begun_in, first_of, story_if, goes_on, last_goes_on, open_goes_on, puts_in, state_from, stories_behind, stories_from, stretch_of}
+use Rattle.bench_world.proofs.AtNumbers.{AreHeld, Held, held, held_at, at_number, held_offered, held_under, at_own_place, more_held, same_held, with_held}
 use Rattle.bench_world.proofs.FarStays.{far_stay}
 use Rattle.bench_world.proofs.HeldOn.{nothing_sent}
 use Rattle.bench_world.proofs.PayloadsKept.{steps_kept}
@@ -312,6 +312,53 @@ along s t (g ∷ gs) (e ∷ es) ys stand legal =
     subst (λ x. Stand t (stories_from x (stories_behind s (stretch_of e) x ys) (map (λ (h : Given). h.joins) gs) es)) legal.1.front.after
     (along mid t gs es (stories_behind s (stretch_of e) mid ys) (step s mid g e ys stand legal.1) legal.2)
 
+-- Each `linked` begins a story of its number, and nothing else does.
+same_numbers_told : (go : Story → Story) → ((y : Story) → (go y).number ≡ y.number) → (ys : List Story) → map (λ (y : Story). y.number) (last_goes_on go ys) ≡ map (λ (y : Story). y.number) ys
+same_numbers_told go same [] = refl
+same_numbers_told go same (y ∷ []) = ap (λ n. n ∷ []) (same y)
+same_numbers_told go same (y ∷ z ∷ ys) = ap (λ ns. y.number ∷ ns) (same_numbers_told go same (z ∷ ys))
+
+open_numbers : (o : Option OpenLink) (s t : State) (x : Stretch) (ys : List Story) → map (λ (y : Story). y.number) (open_goes_on o (goes_on s x t) ys) ≡ map (λ (y : Story). y.number) ys
+open_numbers None s t x ys = refl
+open_numbers (Some l) s t x ys = same_numbers_told (goes_on s x t) (λ y. refl) ys
+
+end_at : (n peer : ℕ) (o : Option FarEnd) (k : Held) → held o ≡ Some k → map (λ (y : Story). y.number) (first_of n peer o) ≡ n ∷ []
+end_at n peer None k is = absurd cc
+end_at n peer (Some end) k is = refl
+
+begun_number : (t : State) (zs : List Story) (n : ℕ) (o : Option OpenLink) → StandBy (view_of t) o zs → IsSome o → map (λ (y : Story). y.number) (story_if n o t) ≡ n ∷ []
+begun_number t zs n None stand some = absurd (let clash : false ≡ true = some in cc)
+begun_number t zs n (Some l) stand some =
+    end_at n l.peer (end_numbered l.peer t.peers.numbers t.world.fars) stand.opened.going.there
+    (held_at l.peer t.peers.numbers t.world.fars ∙ stand.opened.going.found)
+
+begun_numbers : (s t : State) (g : Given) (c : Command) (es : List Event) (a : Answer) (zs : List Story) → Stand t zs → FrontOf s g c es (Some a) t → AnswerLaw s g c es a
+    → map (λ (y : Story). y.number) (begun_in c (Some a) t) ≡ told_link c a
+begun_numbers s t g (Link id miu window) es (answers.Linked n) zs stand front law =
+    begun_number t zs n t.link stand.stand (subst (λ x. IsSome x) (sym (ap (λ (x : State). x.link) front.after)) (law.opens n refl))
+begun_numbers s t g c es a zs stand front law = refl
+
+step_numbers : (s t : State) (g : Given) (e : Entry) (ys : List Story) → Stand s ys → LegalStep s g e t
+    → map (λ (y : Story). y.number) (stories_behind s (stretch_of e) t ys) ≡ map (λ (y : Story). y.number) ys ++ told_link e.command e.answer
+step_numbers s t g e ys stand legal =
+    let N : Story → ℕ = λ y. y.number in
+    let open_ : List Story = open_goes_on (changed s e.command).link (goes_on s (stretch_of e) t) ys in
+    map-append N open_ (begun_in e.command (Some e.answer) t) ∙ ap (λ ns. ns ++ map N (begun_in e.command (Some e.answer) t)) (open_numbers (changed s e.command).link s t (stretch_of e) ys)
+    ∙ ap (λ ns. map N ys ++ ns) (begun_numbers s t g e.command e.events e.answer (stories_behind s (stretch_of e) t ys) (step s t g e ys stand legal) legal.front legal.answered)
+
+all_numbers : (s t : State) (gs : List Given) (es : List Entry) (ys : List Story) → Stand s ys → EachLegal s gs es t
+    → map (λ (y : Story). y.number) (stories_from s ys (map (λ (g : Given). g.joins) gs) es) ≡ map (λ (y : Story). y.number) ys ++ told_links es
+all_numbers s t [] [] ys stand legal = sym (append-nil (map (λ (y : Story). y.number) ys))
+all_numbers s t [] (e ∷ es) ys stand legal = absurd legal
+all_numbers s t (g ∷ gs) [] ys stand legal = absurd legal
+all_numbers s t (g ∷ gs) (e ∷ es) ys stand legal =
+    let mid : State = legal.0 in
+    let ns : List Joins = map (λ (h : Given). h.joins) gs in
+    let N : Story → ℕ = λ y. y.number in
+    subst (λ x. map N (stories_from x (stories_behind s (stretch_of e) x ys) ns es) ≡ map N ys ++ told_links (e ∷ es)) legal.1.front.after
+    (all_numbers mid t gs es (stories_behind s (stretch_of e) mid ys) (step s mid g e ys stand legal.1) legal.2
+    ∙ ap (λ ks. ks ++ told_links es) (step_numbers s mid g e ys stand legal.1) ∙ append_assoc (map N ys) (told_link e.command e.answer) (told_links es))
+
 -- An inbox on the way.
 inbox_so : (v : View) (o : Option OpenLink) (ys : List Story) → StandBy v o ys → (peer : ℕ) (k : Held) → at v peer ≡ Some k → inbox_of v.links peer k.accepted ≡ told_by_stories ys peer
 inbox_so v None ys stand peer k found = closed_told v peer k found ys stand
@@ -366,6 +413,7 @@ link_law lines numbers journal last leads =
     record {
       accept = all.0;
       arrived = steps_kept first_state leads.given journal last [] (record { all = tt; going = tt }) leads.steps;
+      linked = all_numbers first_state last leads.given journal [] first_stand leads.steps;
       counted = all.1;
       inboxes = λ before e behind id split is. inbox_along first_state last leads.given before e behind [] id first_stand (subst (λ es. EachLegal first_state leads.given es last) split leads.steps) is;
     })

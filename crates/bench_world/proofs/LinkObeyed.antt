@@ -1,5 +1,5 @@
 -- A link was opened, or it was not: the peer wasn't found, it was a tag, or no answer came.
-use Rattle.std.proofs.Common.{◌≡◌, inl, inr, ℕ, zero, suc, ◌+◌, ◌<◌, List, [], ◌∷◌, ◌++◌, map, length, true, false, Option, Some, None, Result, Ok, Err, refl, sym, ◌∙◌, ap, subst, arith}
+use Rattle.std.proofs.Common.{◌≡◌, inl, inr, ℕ, zero, suc, ◌+◌, ◌<◌, List, [], ◌∷◌, ◌++◌, map, length, true, false, Option, Some, None, IsSome, Result, Ok, Err, refl, sym, ◌∙◌, ap, subst, arith}
 use Rattle.std.specs.Prelude.{get_or, slice_set, IfOk}
 use Rattle.std.specs.List.{AllByRecursion}
 use Rattle.std.proofs.lemmas.Bool.{cases_lt}
@@ -266,6 +266,7 @@ module _ (ends : Ends) (peers : Peers) (old : Air Device) (id : List ℕ) (miu r
         };
         begins = none_begins _ st no_joins id miu rw g.events answer (poll_not_linked e answer is);
         stays = stable_behind (moment old).world g.events ends none (stores_stay old new g.events world s.asked.same);
+        opens = λ n linked. absurd (poll_not_linked e answer is n linked);
       } in
       asks_so NoStore os old new (Link id miu rw) [] hs answer idle places tt may refl g over refl none (plain_so st id miu rw g.events answer (poll_not_linked e answer is)) law s.asked.same
 
@@ -322,6 +323,7 @@ module _ (ends : Ends) (peers : Peers) (old : Air Device) (id : List ℕ) (miu r
           };
           begins = tt;
           stays = stable_behind (moment old).world g.events ends none (stores_stay old mid g.events world s.selects.asked.same);
+          opens = λ n linked. absurd (let clash : answers.WrongKind ≡ answers.Linked n = linked in cc);
         } in
         asks_so NoStore os old mid (Link id miu rw) [] hs answers.WrongKind idle places tt may refl g over refl none (plain_so st id miu rw g.events answers.WrongKind (λ n linked. cc)) law s.selects.asked.same
 
@@ -450,13 +452,13 @@ module _ (ends : Ends) (peers : Peers) (old : Air Device) (id : List ℕ) (miu r
 
       obeyed_at : (answer : Told_answer) (p : Peers) (l : Option OpenLink) → p ≡ peers_after st joins (Link id miu rw) es (Some answer) → l ≡ link_after st joins (Link id miu rw) es (Some answer)
           → p.numbers ≡ peers.numbers → p.gone ≡ peers.gone → LinkTells (A id) old.listeners count (own_general miu) es answer → due_at (stand 0 (atr_frame (own_general miu) ∷ []) o.notes) ≡ Over
-          → IfLinked (link_after st joins (Link id miu rw) es (Some answer)) Begins (Unit {0})
+          → IfLinked (link_after st joins (Link id miu rw) es (Some answer)) Begins (Unit {0}) → ((n : ℕ) → answer ≡ answers.Linked n → IsSome l)
           → KeepsLink (record { air = new; ends = ends_then; peers = p; link = l }) → Obeyed (under ends peers None old) (record { air = new; ends = ends_then; peers = p; link = l }) (Link id miu rw) answer
-      obeyed_at answer p l peers_so link_so numbers placed tells done begins keeps =
+      obeyed_at answer p l peers_so link_so numbers placed tells done begins opens keeps =
           let N : Machines = record { air = new; ends = ends_then; peers = p; link = l } in
           let F : List Event → Type 0 = λ xs. FrontOf st given (Link id miu rw) xs (Some answer) (state_at N) in
           let L : List Event → Type 0 = λ xs. LinkingLaw st joins id miu rw xs answer in
-          let law : L es = record { tells = tells; begins = begins; stays = stays } in
+          let law : L es = record { tells = tells; begins = begins; stays = stays; opens = λ n linked. subst (λ o. IsSome o) link_so (opens n linked) } in
           record {
             given = given;
             front = subst F (sym trace) (front_at (Some answer) p l peers_so link_so);
@@ -479,7 +481,7 @@ module _ (ends : Ends) (peers : Peers) (old : Air Device) (id : List ℕ) (miu r
           let P : _ → Type 0 = λ x. Obeyed (under ends peers None old) (record { air = new; ends = ends_then; peers = peers; link = None }) (Link id miu rw) (answers.LinkEnded x) in
           subst P (sym same_loss)
           (obeyed_at (answers.LinkEnded losses.FieldLost) peers None refl refl refl refl
-          (tells_by (answers.LinkEnded losses.FieldLost) (λ l. is) (λ r. inr refl) (λ six. absurd (let clash : answers.LinkEnded losses.FieldLost ≡ answers.LinkEnded losses.SixBad = six in cc)) e.0) e.1 tt tt)
+          (tells_by (answers.LinkEnded losses.FieldLost) (λ l. is) (λ r. inr refl) (λ six. absurd (let clash : answers.LinkEnded losses.FieldLost ≡ answers.LinkEnded losses.SixBad = six in cc)) e.0) e.1 tt (λ n linked. absurd (let clash : answers.LinkEnded losses.FieldLost ≡ answers.Linked n = linked in cc)) tt)
       ended_link causes.SixBad loss is answer =
           let same : ◌≡◌ {A = Result Told_answer ObeyFault} (Ok (answers.LinkEnded loss)) (Ok (answers.LinkEnded losses.SixBad)) = answer in
           let same_loss : loss ≡ losses.SixBad = cc in
@@ -489,7 +491,7 @@ module _ (ends : Ends) (peers : Peers) (old : Air Device) (id : List ℕ) (miu r
           (obeyed_at (answers.LinkEnded losses.SixBad) peers None refl refl refl refl
           (tells_by (answers.LinkEnded losses.SixBad)
           (λ l. absurd (elim l [ inl dark ↦ (let clash : answers.LinkEnded losses.SixBad ≡ answers.FieldLost = dark in cc) | inr ended ↦ (let clash : answers.LinkEnded losses.SixBad ≡ answers.LinkEnded losses.FieldLost = ended in cc) ]))
-          (λ r. absurd (let clash : ◌≡◌ {A = Result (InitState × ArrayVec ℕ) EndCause} (Err causes.SixBad) (Err causes.FieldLost) = sym is ∙ r in cc)) (λ six. is) e.0) e.1 tt tt)
+          (λ r. absurd (let clash : ◌≡◌ {A = Result (InitState × ArrayVec ℕ) EndCause} (Err causes.SixBad) (Err causes.FieldLost) = sym is ∙ r in cc)) (λ six. is) e.0) e.1 tt (λ n linked. absurd (let clash : answers.LinkEnded losses.SixBad ≡ answers.Linked n = linked in cc)) tt)
       ended_link causes.Protocol loss is answer = absurd answer
       ended_link causes.Memory loss is answer = absurd (let clash : ◌≡◌ {A = Result Told_answer ObeyFault} (Ok (answers.LinkEnded loss)) (Err obey_faults.Memory) = answer in cc)
 
@@ -601,4 +603,4 @@ module _ (ends : Ends) (peers : Peers) (old : Air Device) (id : List ℕ) (miu r
             (tells_by (answers.Linked count)
             (λ l. absurd (elim l [ inl dark ↦ (let clash : answers.Linked count ≡ answers.FieldLost = dark in cc) | inr ended ↦ (let clash : answers.Linked count ≡ answers.LinkEnded losses.FieldLost = ended in cc) ]))
             (λ r. absurd (let clash : ◌≡◌ {A = Result (InitState × ArrayVec ℕ) EndCause} (Ok p) (Err causes.FieldLost) = sym is ∙ r in cc))
-            (λ six. absurd (let clash : answers.Linked count ≡ answers.LinkEnded losses.SixBad = six in cc)) e.0) e.1 (subst (λ x. IfLinked x Begins (Unit {0})) link_so begins_now) stands_open
+            (λ six. absurd (let clash : answers.Linked count ≡ answers.LinkEnded losses.SixBad = six in cc)) e.0) e.1 (subst (λ x. IfLinked x Begins (Unit {0})) link_so begins_now) (λ n linked. refl) stands_open

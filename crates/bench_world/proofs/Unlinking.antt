@@ -1,5 +1,5 @@
 -- The open link ends: before a command that begins with a reset, and before its peer is taken away.
-use Rattle.std.proofs.Common.{◌≡◌, ℕ, suc, zero, ◌+◌, ◌<◌, List, [], ◌∷◌, ◌++◌, map, length, Bool, true, false, if◌then◌else◌, Option, Some, None, refl, sym, ◌∙◌, ap, subst, arith, inl, inr}
+use Rattle.std.proofs.Common.{◌≡◌, ℕ, suc, zero, ◌+◌, ◌<◌, List, [], ◌∷◌, ◌++◌, map, length, Bool, true, false, if◌then◌else◌, Option, Some, None, IsSome, refl, sym, ◌∙◌, ap, subst, arith, inl, inr}
 use Rattle.std.specs.Prelude.{get_or, drop, slice_set}
 use Rattle.nfc_base.specs.declared.event.Event.{Event}
 use Rattle.air_core.specs.Turn.{Air}
@@ -149,6 +149,7 @@ link_resets id miu rw = record {
     tells = subst (λ n. LinkTells (A id) s.world.field.listeners (n + 1) (own_general miu) es answer) (count_ended s.link s.peers s.world.fars) l.tells;
     begins = same_begun s g.joins id miu rw es answer l.begins;
     stays = l.stays;
+    opens = λ n linked. subst (λ o. IsSome o) (same_opened s g.joins id miu rw es (Some answer)) (l.opens n linked);
   };
   stores = λ s joins es stays. stays;
 }

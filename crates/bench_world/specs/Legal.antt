@@ -354,6 +354,8 @@ pub record LinkingLaw (s : State) (joins : Joins) (id : List ℕ) (miu window : 
   pub begins : IfLinked (link_after s joins (Link id miu window) events (Some answer))
       (λ l. BeginsAt l (own_general miu) s.peers.numbers s.world.fars (world_after s joins (Link id miu window) events).fars) (Unit {0})
   pub stays : LeavesStable s joins (Link id miu window) events
+  -- where `linked` is told a link is open
+  pub opens : (n : ℕ) → answer ≡ answers.Linked n → IsSome (link_after s joins (Link id miu window) events (Some answer))
 
 -- the far end of a link's peer
 abbrev pub end_of : State → OpenLink → Option FarEnd

@@ -1,9 +1,10 @@
 -- The law of links: what a peer accepts on a link is the first of what was put there and fits, and covers all that was told to be taken, by at most
 -- one more; and it's what the payloads put that arrived there (NFC Forum SNEP 1.0; the law is this project's own).
-use Rattle.std.specs.Prelude.{◌≡◌, ℕ, ◌+◌, ◌==◌, nat_eq, List, [], ◌∷◌, ◌++◌, if◌then◌else◌, Option, Some}
+use Rattle.std.specs.Prelude.{◌≡◌, ℕ, ◌+◌, ◌==◌, nat_eq, List, [], ◌∷◌, ◌++◌, map, if◌then◌else◌, Option, Some}
 use Rattle.std.specs.List.{AllByRecursion}
 use Rattle.snep_core.specs.Links.{Put, LinkAccepts}
 use Rattle.snep_core.specs.Payloads.{accepted_from}
+use Rattle.bench_script.specs.declared.command.Command.{Command}
 use Rattle.bench_script.specs.declared.command.Command.TheVariants as commands
 use Rattle.bench_script.specs.declared.command.DeviceId.{DeviceId}
 use Rattle.bench_script.specs.DeviceIds.{bytes_of}
@@ -36,6 +37,15 @@ abbrev pub AreCounted : ℕ → List Story → Type 0
 AreCounted n [] = Unit {0}
 AreCounted n (y ∷ ys) = (y.number ≡ n) × AreCounted (n + 1) ys
 
+-- the numbers that `linked` told in a journal
+abbrev pub told_link : Command → Answer → List ℕ
+told_link (commands.Link id miu window) (answers.Linked number) = number ∷ []
+told_link c answer = []
+
+abbrev pub told_links : List Entry → List ℕ
+told_links [] = []
+told_links (e ∷ es) = told_link e.command e.answer ++ told_links es
+
 -- each message that was gained on a link of this peer, as an inbox tells it
 abbrev pub told_by_stories : List Story → ℕ → List Received
 told_by_stories [] peer = []
@@ -57,10 +67,11 @@ InboxesTell numbers journal =
     (before : List Entry) (e : Entry) (behind : List Entry) (id : DeviceId) → journal ≡ before ++ e ∷ behind → e.command ≡ commands.Inbox id
     → TellsInbox (state_from first_state numbers before) (stories_of numbers before) id e.answer
 
--- The links of a journal, by the numbers of PDUs of its entries.
+-- The links of a journal, by the numbers of PDUs of its entries: each that it tells of has its story, in order, from 1 on.
 pub record LinksAccept (numbers : List Joins) (journal : List Entry) : Type 0 where
   pub accept : AllByRecursion KeepsLinkLaw (stories_of numbers journal)
   pub arrived : AllByRecursion IsByPayloads (stories_of numbers journal)
+  pub linked : map (λ (y : Story). y.number) (stories_of numbers journal) ≡ told_links journal
   pub counted : AreCounted 1 (stories_of numbers journal)
   pub inboxes : InboxesTell numbers journal
 
