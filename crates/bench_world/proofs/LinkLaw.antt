@@ -322,20 +322,20 @@ open_numbers : (o : Option OpenLink) (s t : State) (x : Stretch) (ys : List Stor
 open_numbers None s t x ys = refl
 open_numbers (Some l) s t x ys = same_numbers_told (goes_on s x t) (λ y. refl) ys
 
-end_at : (n peer : ℕ) (o : Option FarEnd) (k : Held) → held o ≡ Some k → map (λ (y : Story). y.number) (first_of n peer o) ≡ n ∷ []
-end_at n peer None k is = absurd cc
-end_at n peer (Some end) k is = refl
+end_at : (n : ℕ) (general : List ℕ) (peer : ℕ) (o : Option FarEnd) (k : Held) → held o ≡ Some k → map (λ (y : Story). y.number) (first_of n general peer o) ≡ n ∷ []
+end_at n general peer None k is = absurd cc
+end_at n general peer (Some end) k is = refl
 
-begun_number : (t : State) (zs : List Story) (n : ℕ) (o : Option OpenLink) → StandBy (view_of t) o zs → IsSome o → map (λ (y : Story). y.number) (story_if n o t) ≡ n ∷ []
-begun_number t zs n None stand some = absurd (let clash : false ≡ true = some in cc)
-begun_number t zs n (Some l) stand some =
-    end_at n l.peer (end_numbered l.peer t.peers.numbers t.world.fars) stand.opened.going.there
+begun_number : (t : State) (zs : List Story) (n : ℕ) (general : List ℕ) (o : Option OpenLink) → StandBy (view_of t) o zs → IsSome o → map (λ (y : Story). y.number) (story_if n general o t) ≡ n ∷ []
+begun_number t zs n general None stand some = absurd (let clash : false ≡ true = some in cc)
+begun_number t zs n general (Some l) stand some =
+    end_at n general l.peer (end_numbered l.peer t.peers.numbers t.world.fars) stand.opened.going.there
     (held_at l.peer t.peers.numbers t.world.fars ∙ stand.opened.going.found)
 
 begun_numbers : (s t : State) (g : Given) (c : Command) (es : List Event) (a : Answer) (zs : List Story) → Stand t zs → FrontOf s g c es (Some a) t → AnswerLaw s g c es a
     → map (λ (y : Story). y.number) (begun_in c (Some a) t) ≡ told_link c a
 begun_numbers s t g (Link id miu window) es (answers.Linked n) zs stand front law =
-    begun_number t zs n t.link stand.stand (subst (λ x. IsSome x) (sym (ap (λ (x : State). x.link) front.after)) (law.opens n refl))
+    begun_number t zs n (own_general miu) t.link stand.stand (subst (λ x. IsSome x) (sym (ap (λ (x : State). x.link) front.after)) (law.opens n refl))
 begun_numbers s t g c es a zs stand front law = refl
 
 step_numbers : (s t : State) (g : Given) (e : Entry) (ys : List Story) → Stand s ys → LegalStep s g e t
