@@ -11,7 +11,8 @@ use Rattle.air_core.specs.World.{stepped_by}
 use Rattle.air_core.specs.Conversation.{Moment, replay}
 use Rattle.air_core.specs.PlainTags.{IsAside}
 use Rattle.air_core.proofs.PlainAside.{aside_silent}
-use Rattle.far_air.specs.FarEnds.{FarTable, first_number, numbers_left, first_far, later_fars, reply_to}
+use Rattle.nfc_base.specs.Choosing.{first_number}
+use Rattle.far_air.specs.FarEnds.{FarTable, numbers_left, first_far, later_fars, reply_to}
 use Rattle.far_air.specs.FarLaws.{BeginBy}
 use Rattle.far_air.specs.FarWorld.{FarWorld, device_after, reply_at, all_meet, far_requested, far_came_back, far_happens, far_air}
 use Rattle.bench_devices.specs.declared.device.Device.{Device}

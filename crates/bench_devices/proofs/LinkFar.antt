@@ -10,7 +10,8 @@ use Rattle.air_core.specs.Turn.{moment}
 use Rattle.air_core.specs.Conversation.{Moment, Note, Next, LightUp, Asks, EachDue, Going}
 use Rattle.air_core.specs.Turning.{due_weaker, going_then}
 use Rattle.dep_link.specs.AnyTarget.{atr_next}
-use Rattle.far_air.specs.FarEnds.{FarTable, first_number, numbers_left, first_far, later_fars, reply_to}
+use Rattle.nfc_base.specs.Choosing.{first_number}
+use Rattle.far_air.specs.FarEnds.{FarTable, numbers_left, first_far, later_fars, reply_to}
 use Rattle.far_air.specs.FarLaws.{IsFarTable, with_far, BeginBy, behind_all, seen_at}
 use Rattle.far_air.specs.FarWorld.{FarWorld, reply_at, all_meet, far_requested, far_came_back, far_happens, far_air}
 use Rattle.far_air.specs.FarTurns.{FarGoing}

@@ -18,7 +18,7 @@ use Rattle.dep_link.specs.declared.initiator.InitStep.TheVariants as steps
 use Rattle.dep_link.specs.Initiator.{InitState, init_table}
 use Rattle.dep_link.specs.Asking.{Standing, Waits, Rests, Broken, Astray, goes_by, noted, due_at}
 use Rattle.dep_link.specs.Releasing.{rls_frame}
-use Rattle.far_air.specs.FarEnds.{first_number, later_numbers}
+use Rattle.nfc_base.specs.Choosing.{first_number, later_numbers}
 use Rattle.snep_core.specs.Talk.{Step, Goes, Ends, GivesUp, Working, payload, replied}
 use Rattle.link_calls.specs.CallDue.{CallStanding, Carries, Comes, BrokenBy, Strays, call_at, carried, call_noted, call_on, call_due_at, call_stand, call_due}
 use Rattle.link_calls.specs.ClosingDue.{ClosingStanding, Calls, Releasing, Released, closing_at, closing_noted, closing_on, closing_due_at, closing_stand, closing_due}

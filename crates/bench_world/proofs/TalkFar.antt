@@ -12,7 +12,8 @@ use Rattle.air_core.specs.World.{stepped_by}
 use Rattle.air_core.specs.Conversation.{Note, Next, EachDue, receptions, replay}
 use Rattle.air_core.specs.PlainTags.{IsAside}
 use Rattle.air_core.proofs.PlainAside.{aside_silent}
-use Rattle.far_air.specs.FarEnds.{first_number, first_far, later_fars, numbers_left, reply_to}
+use Rattle.nfc_base.specs.Choosing.{first_number}
+use Rattle.far_air.specs.FarEnds.{first_far, later_fars, numbers_left, reply_to}
 use Rattle.far_air.specs.FarWorld.{all_meet, device_after, reply_at, far_requested, far_came_back}
 use Rattle.peer_air.specs.PeerFars.{peer_ends}
 use Rattle.bench_devices.specs.declared.device.Device.{Device}

@@ -12,7 +12,8 @@ use Rattle.air_core.specs.Conversation.{Moment, Note, note, Next, Going, first_f
 use Rattle.air_core.specs.Turn.{Air, world, moment, after_event, brought, Passes, TurnBy, TurnIs}
 use Rattle.air_core.specs.Turning.{events-append, going_start, going_turn, going_then}
 use Rattle.air_core.specs.Speaking.{DueTurns}
-use Rattle.far_air.specs.FarEnds.{FarTable, later_numbers}
+use Rattle.nfc_base.specs.Choosing.{later_numbers}
+use Rattle.far_air.specs.FarEnds.{FarTable}
 use Rattle.far_air.specs.FarWorld.{FarWorld, AllMet, far_air, all_meet}
 use Rattle.far_air.specs.FarLaws.{IsFarTable, IsLinked, IsOfTable, with_far, BeginBy, behind_all, shown, seen, seen_at}
 use Rattle.far_air.specs.FarTurns.{QuietBut, FarTurn, FarTurns, FarResets, FarGoing, FarGoesOn, FarGoesThen, AllQuietBut, SpeaksFar}

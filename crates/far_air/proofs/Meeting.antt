@@ -8,7 +8,8 @@ use Rattle.air_core.specs.World.{Machine, hears, hands_over, answered_by, steppe
 use Rattle.air_core.specs.Listening.{Step}
 use Rattle.air_core.specs.Turn.{Meets, HearAll}
 use Rattle.air_core.specs.Quiet.{EachQuiet}
-use Rattle.far_air.specs.FarEnds.{FarTable, first_number, numbers_left, first_far, later_fars, reply_to, moved, by_link}
+use Rattle.nfc_base.specs.Choosing.{first_number}
+use Rattle.far_air.specs.FarEnds.{FarTable, numbers_left, first_far, later_fars, reply_to, moved, by_link}
 use Rattle.far_air.specs.FarWorld.{AllMet, met_first, reply_at, device_after, far_after, all_meet}
 use Rattle.far_air.specs.FarLaws.{IsFarTable, IsLinked, IsOfTable, with_far, BeginBy, behind_all, shown}
 use Rattle.far_air.specs.FarTurns.{QuietBut}

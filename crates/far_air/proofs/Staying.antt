@@ -9,7 +9,8 @@ use Rattle.nfc_base.specs.Signal.{Signal}
 use Rattle.nfc_base.specs.Far.{FarUse, Untouched, Restarts, Hands}
 use Rattle.air_core.specs.World.{Machine, hands_over}
 use Rattle.air_core.specs.Conversation.{replay}
-use Rattle.far_air.specs.FarEnds.{FarTable, first_number, numbers_left, first_far, later_fars, moved, rests}
+use Rattle.nfc_base.specs.Choosing.{first_number}
+use Rattle.far_air.specs.FarEnds.{FarTable, numbers_left, first_far, later_fars, moved, rests}
 use Rattle.far_air.specs.FarWorld.{FarWorld, all_meet, reply_at, device_after, far_after, far_reset, far_dark, far_requested, far_came_back, far_happens, far_air}
 use Rattle.far_air.specs.FarLaws.{IsFarTable}
 use Rattle.far_air.specs.Staying.{NoPayload, NoPayloadAt, NoPayloads, HasFars, far_stable, Stays, FarsStay}

@@ -1,6 +1,7 @@
 -- What far ends do that stand above devices of a field, as functions of their states (this project's own air).
 use Rattle.std.specs.Prelude.{ℕ, List, [], ◌∷◌, Bool, true, false, Option, Some, None}
 use Rattle.nfc_base.specs.Far.{FarUse, Untouched, Restarts, Hands}
+use Rattle.nfc_base.specs.Choosing.{later_numbers}
 
 -- What the far ends of one type do. A new link begins, with the other end's general bytes. A payload is replied to, by a number that
 -- chooses among the replies that the end may give: how many PDUs stand in one, and what is no allowed number counts as the
@@ -10,15 +11,6 @@ pub record FarTable (F : Type 0) : Type 0 where
   pub reply : F → List ℕ → ℕ → List ℕ
   pub left : F → List ℕ → ℕ → F
   pub rested : F → F
-
--- the next number of those that are left; 0, which no reply has, where none is
-abbrev pub first_number : List ℕ → ℕ
-first_number [] = 0
-first_number (n ∷ ns) = n
-
-abbrev pub later_numbers : List ℕ → List ℕ
-later_numbers [] = []
-later_numbers (n ∷ ns) = ns
 
 -- each reply takes one number
 abbrev pub numbers_left : Option (List ℕ) → List ℕ → List ℕ

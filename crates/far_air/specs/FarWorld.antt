@@ -9,7 +9,8 @@ use Rattle.nfc_base.specs.Trace.{by_fate}
 use Rattle.air_core.specs.Joint.{joint}
 use Rattle.air_core.specs.World.{Machine, World, hands_over, answered_by, stepped_by, reset_by, dark}
 use Rattle.air_core.specs.Conversation.{AirModel}
-use Rattle.far_air.specs.FarEnds.{FarTable, first_number, numbers_left, first_far, later_fars, reply_to, moved, rests, by_link}
+use Rattle.nfc_base.specs.Choosing.{first_number}
+use Rattle.far_air.specs.FarEnds.{FarTable, numbers_left, first_far, later_fars, reply_to, moved, rests, by_link}
 
 -- A field's world; for each of its devices, at its place, its far end's state, and nothing for a tag; and the numbers of PDUs that are
 -- left for replies.

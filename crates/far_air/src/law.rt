@@ -1,6 +1,7 @@
 //! The laws of the world with far ends. The calls do nothing: they stand for these laws.
 
 ghost use Rattle.std.specs.Prelude.{ℕ, List, Bool};
+ghost use Rattle.nfc_base.specs.Choosing.{Choosing};
 ghost use Rattle.air_core.specs.World.{Machine};
 ghost use Rattle.air_core.specs.Conversation.{Note, Next};
 ghost use Rattle.far_air.specs.FarEnds.{FarTable};
@@ -27,9 +28,9 @@ pub fn quiet_stretches<L, F>()
 pub fn far_turns<L, F, A: Answerer>()
     ensures reset { (m : Machine L) (linked : L → Bool) (t : FarTable F) → FarResets m linked t }
     ensures turn { (m : Machine L) (linked : L → Bool) (t : FarTable F)
-        (view : A → F) → FarTurns m linked t A.restarts A.steps view }
+        (view : A → Choosing F) → FarTurns m linked t A.restarts A.steps view }
     ensures speaks { (m : Machine L) (linked : L → Bool) (t : FarTable F) (next : List Note → Next) (place : ℕ)
-        (view : A → F) → SpeaksFar m linked t A.restarts A.steps next place view }
+        (view : A → Choosing F) → SpeaksFar m linked t A.restarts A.steps next place view }
     ensures on { (m : Machine L) (linked : L → Bool) (t : FarTable F) → FarGoesOn m linked t }
     ensures then { (m : Machine L) (linked : L → Bool) (t : FarTable F) → FarGoesThen m linked t }
 {}

@@ -11,7 +11,8 @@ use Rattle.dep_link.specs.Target.{TargetState}
 use Rattle.dep_link.specs.Initiator.{InitState}
 use Rattle.dep_link.specs.Asking.{Standing, Waits, Rests, Broken, Astray, asks, noted, stand, due_at, dep_next}
 use Rattle.dep_link.specs.DepLinks.{DepSeen, StandsAt}
-use Rattle.far_air.specs.FarEnds.{FarTable, first_number, later_numbers}
+use Rattle.nfc_base.specs.Choosing.{first_number, later_numbers}
+use Rattle.far_air.specs.FarEnds.{FarTable}
 use Rattle.far_air.specs.FarWorld.{far_air}
 use Rattle.far_air.specs.FarLaws.{IsFarTable, IsLinked, IsOfTable, with_far, seen_at}
 use Rattle.far_air.specs.FarTurns.{FarGoing}

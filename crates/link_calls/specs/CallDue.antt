@@ -5,7 +5,7 @@ use Rattle.nfc_base.specs.declared.carrier.EndCause.{EndCause}
 use Rattle.air_core.specs.Conversation.{Note, Next, Over}
 use Rattle.dep_link.specs.Initiator.{InitState}
 use Rattle.dep_link.specs.Asking.{Standing, Waits, Rests, Broken, Astray, asks, noted, due_at}
-use Rattle.far_air.specs.FarEnds.{first_number, later_numbers}
+use Rattle.nfc_base.specs.Choosing.{first_number, later_numbers}
 use Rattle.snep_core.specs.Talk.{Step, Goes, Ends, GivesUp, Working, payload, replied}
 
 -- Where a call stands: its next payload is under way in an exchange that stands so, with these numbers left, of which the first is how

@@ -6,6 +6,7 @@ pub mod Trace
 pub mod Blocks
 pub mod Words
 pub mod Far
+pub mod Choosing
 pub mod Links
 pub mod TagLinks
 pub mod StopAndWait
