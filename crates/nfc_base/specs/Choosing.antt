@@ -1,4 +1,4 @@
--- The numbers by which an end chooses what it gives, one each time (how many PDUs of LLCP stand in a payload, say); where none is left, 0.
+-- The numbers by which an end chooses what it gives, one each time; where none is left, 0.
 use Rattle.std.specs.Prelude.{ℕ, List, [], ◌∷◌}
 
 -- the next number of those that are left
