@@ -1,4 +1,4 @@
--- What an end does as the far end of a link: it takes a payload, and gives one with as many PDUs as fit.
+-- What an end does as the far end of a link: it takes a payload, and gives one.
 use Rattle.std.specs.Prelude.{◌≡◌, ◌≤◌, ◌⊎◌, ℕ, true, List, length}
 use Rattle.llcp_link.specs.Serving.{Serving}
 use Rattle.llcp_link.specs.State.{LlcState}
@@ -8,14 +8,19 @@ use Rattle.llcp_link.specs.Halting.{IsStuck}
 use Rattle.llcp_link.specs.Offering.{LeavesNext}
 use Rattle.llcp_link.specs.Kept.{most_payload}
 
--- A payload with as many PDUs as fit: a number that is allowed, and no larger one is. An end that couldn't read general bytes gives
--- none.
-pub record Gives {S : Type 0} (m : Serving S) (old : LlcState S) (bytes : List ℕ) (new : LlcState S) : Type 0 where
-  pub count : ℕ
-  pub allowed : IsAllowed m old count
-  pub most : old.readable ≡ true → (more : ℕ) → IsAllowed m old more → more ≤ count
+-- A payload with so many PDUs: 0, and each number that isn't allowed, are as many as fit.
+pub record Gives {S : Type 0} (m : Serving S) (count : ℕ) (old : LlcState S) (bytes : List ℕ) (new : LlcState S) : Type 0 where
   pub bytes_are : bytes ≡ given m count old
   pub left : new ≡ after_giving m count old
+
+-- This number is allowed in a payload, and no larger one is: so many are as many as fit, by 0 and by each number that isn't allowed.
+pub record IsMost {S : Type 0} (m : Serving S) (l : LlcState S) (most : ℕ) : Type 0 where
+  pub allowed : IsAllowed m l most
+  pub larger : (n : ℕ) → IsAllowed m l n → n ≤ most
+  pub otherwise : (n : ℕ) → (IsAllowed m l n → ⊥) → given_parts m n l ≡ given_parts m most l
+
+abbrev pub MostLaw : {S : Type 0} → Serving S → Type 0
+MostLaw {S} m = (l : LlcState S) → (most : ℕ) × IsMost m l most
 
 -- The end gave none, or some number of PDUs that is allowed in a payload, and as it went on memory was wanting, which left the
 -- service so.
@@ -32,14 +37,14 @@ pub record IsStuckGiving {S : Type 0} (m : Serving S) (old new : LlcState S) : T
   pub bound : new.bound ≡ old.bound
   pub halts : HaltsGiving m old new.service
 
--- one step: a payload is taken, and one is given
-pub record Answers {S : Type 0} (m : Serving S) (old : LlcState S) (payload reply : List ℕ) (new : LlcState S) : Type 0 where
-  pub gives : Gives m (taken_from m old payload) reply new
+-- one step: a payload is taken, and one with so many PDUs is given
+pub record Answers {S : Type 0} (m : Serving S) (count : ℕ) (old : LlcState S) (payload reply : List ℕ) (new : LlcState S) : Type 0 where
+  pub gives : Gives m count (taken_from m old payload) reply new
   pub size : length reply ≤ most_payload
 
 -- a step that want of memory left unfinished, as the payload was taken or the reply given
 abbrev pub Stops : {S : Type 0} → Serving S → LlcState S → List ℕ → LlcState S → Type 0
 Stops m old payload new = IsStuck m old (brought old payload) new ⊎ IsStuckGiving m (taken_from m old payload) new
 
-pub answers_fit : {S : Type 0} (m : Serving S) (a : LlcState S) (payload reply : List ℕ) (b : LlcState S) → Answers m a payload reply b → length reply ≤ 2178
-answers_fit m a payload reply b h = h.size
+pub answers_fit : {S : Type 0} (m : Serving S) (count : ℕ) (a : LlcState S) (payload reply : List ℕ) (b : LlcState S) → Answers m count a payload reply b → length reply ≤ 2178
+answers_fit m count a payload reply b h = h.size

@@ -17,6 +17,7 @@ pub mod Numbers
 pub mod Joining
 pub mod Fronts
 pub mod Answering
+pub mod Counting
 pub mod Asking
 pub mod Owning
 pub mod OwnGiving

@@ -1,4 +1,4 @@
-//! An end as the far end of a link.
+//! An end as the far end of a link, which gives as many PDUs in a payload as fit.
 
 ghost use Rattle.std.specs.Prelude.{◌≡◌};
 ghost use Rattle.llcp_link.specs.Answering.{Answers, Stops, answers_fit};
@@ -14,7 +14,7 @@ impl<S: Service> Answerer for Llc<S> {
 
     ghost restarts = { λ old general new. new ≡ restarted S.serving old general };
 
-    ghost steps = { Answers S.serving };
+    ghost steps = { Answers S.serving 0 };
 
     ghost stops = { Stops S.serving };
 
@@ -31,11 +31,11 @@ impl<S: Service> Answerer for Llc<S> {
         if self.take(payload).is_err() {
             return Err(AllocError);
         }
-        if self.give(reply).is_err() {
+        if self.give(0, reply).is_err() {
             return Err(AllocError);
         }
         Ok(())
     }
 
-    ghost fits = { answers_fit S.serving };
+    ghost fits = { answers_fit S.serving 0 };
 }

@@ -2,16 +2,18 @@
 //!
 //! `llc` is an end, `service` what stands above it, `names` the names that are bound. `link` takes payloads: `payload` takes
 //! one apart, `connecting`, `taking` and `discovery` do what its PDUs ask. `writing` gives them: `giving` chooses the PDU
-//! that is due, `joining` those behind it in an AGF. `answering` is an end as the far end of a link. `asking` is what an end
-//! asks of the other: connections, of which `standing` tells how they stand, and lookups. `served` keeps the connections that
-//! the other end asked for, `sending` is what they give; `own`, `owns` and `own_giving` are the same of those that this end
-//! asked for, `lookups` what it looked up. `queue` are the PDUs that wait, `numbered` says where something
-//! stands in a list; `parts`, `params` and `lengths` are about single PDUs. `fault` says why a call is refused.
+//! that is due, `joining` those behind it in an AGF. `answering` is an end as the far end of a link, and `counting` one
+//! whose payloads have given numbers of PDUs. `asking` is what an end asks of the other: connections, of which `standing`
+//! tells how they stand, and lookups. `served` keeps the connections that the other end asked for, `sending` is what they
+//! give; `own`, `owns` and `own_giving` are the same of those that this end asked for, `lookups` what it looked up. `queue`
+//! are the PDUs that wait, `numbered` says where something stands in a list; `parts`, `params` and `lengths` are about
+//! single PDUs. `fault` says why a call is refused.
 #![tactic(auto)]
 
 mod answering;
 mod asking;
 mod connecting;
+mod counting;
 mod discovery;
 mod fault;
 mod giving;
@@ -37,6 +39,7 @@ mod standing;
 mod taking;
 mod writing;
 
+pub use counting::{Counted, Counts};
 pub use fault::LlcFault;
 pub use law::units;
 pub use llc::Llc;

@@ -2,9 +2,9 @@
 
 ghost use Rattle.std.specs.Prelude.{◌≡◌, ◌≤◌, ◌<◌, ◌+◌, ◌∷◌, length, true, false, IsErr, OnOk, OnErr};
 ghost use Rattle.llcp_pdu.specs.Writing.{inner_bytes, part_bytes, parts_bytes};
-ghost use Rattle.llcp_link.specs.Answering.{Gives, HaltsGiving, IsStuckGiving};
+ghost use Rattle.llcp_link.specs.Answering.{Gives, HaltsGiving, IsStuckGiving, MostLaw};
 ghost use Rattle.llcp_link.specs.Fronts.{AloneLaw, FrontLaw};
-ghost use Rattle.llcp_link.specs.Giving.{gave, payload_of};
+ghost use Rattle.llcp_link.specs.Giving.{gave, others, payload_of};
 ghost use Rattle.llcp_link.specs.Halting.{IsSame};
 ghost use Rattle.llcp_link.specs.Joining.{AreSent, HaltsJoining, Joins};
 ghost use Rattle.llcp_link.specs.Kept.{IsSent};
@@ -52,10 +52,19 @@ fn write_parts(first: Part, mut others: Vec<Part>, target: &mut Vec<u8>) -> Resu
 }
 
 impl<S: Service> Llc<S> {
-    /// Writes a payload of PDUs that are due, as many as fit, or SYMM. It is empty where the other end's general bytes couldn't be
-    /// read.
-    fn give_payload(&mut self, target: &mut Vec<u8>) -> Result<(), AllocError>
-        ensures ok { OnOk result (Gives S.serving self.old target.new.items self.new) }
+    /// How many PDUs are joined to the first, at most, in a payload of so many; 0 is as many as fit.
+    fn most_others(&self, count: u32) -> usize
+        ensures { result ≡ others S.serving self.now count }
+    {
+        match count {
+            0 => self.far_miu as usize,
+            some => (some - 1) as usize,
+        }
+    }
+
+    /// Writes a payload of so many PDUs that are due, or SYMM. It is empty where the other end's general bytes couldn't be read.
+    fn give_payload(&mut self, count: u32, target: &mut Vec<u8>) -> Result<(), AllocError>
+        ensures ok { OnOk result (Gives S.serving count self.old target.new.items self.new) }
         ensures size { OnOk result (length target.new.items ≤ 2178) }
         ensures same { IsSame self.old self.new }
         ensures err { OnErr result (HaltsGiving S.serving self.old self.new.service) }
@@ -70,27 +79,30 @@ impl<S: Service> Llc<S> {
             Ok(Next::Nothing) => return write_one(Part::Symm, target),
             Ok(Next::Given(part)) => part,
         };
-        match self.join(part_len(&first) + LENGTH) {
+        let others = self.most_others(count);
+        match self.join(part_len(&first) + LENGTH, others) {
             Err(_) => Err(AllocError),
             Ok(others) => write_parts(first, others, target),
         }
     }
 
-    /// Replaces `target` by the next payload, in which as many PDUs are joined as fit.
-    #[tactic(auto, using(crate::proofs::Fronts::alone_law))]
-    pub fn give(&mut self, target: &mut Vec<u8>) -> Result<(), AllocError>
-        ensures ok { OnOk result (Gives S.serving self.old target.new.items self.new) }
+    /// Replaces `target` by the next payload, in which so many PDUs stand. Where the number is 0, or not one that is due and fits, it is as
+    /// many as fit.
+    #[tactic(auto, using(crate::proofs::Fronts::alone_law, crate::proofs::MostGiven::most_law))]
+    pub fn give(&mut self, count: u32, target: &mut Vec<u8>) -> Result<(), AllocError>
+        ensures ok { OnOk result (Gives S.serving count self.old target.new.items self.new) }
         ensures size { OnOk result (length target.new.items ≤ 2178) }
         ensures going { OnOk result ((self.old.stuck ≡ false) × (self.new.stuck ≡ false)) }
         ensures stuck { self.old.stuck ≡ true → IsErr result }
         ensures err { OnErr result (IsStuckGiving S.serving self.old self.new) }
         ensures front { FrontLaw S.serving }
         ensures alone { AloneLaw S.serving }
+        ensures most { MostLaw S.serving }
     {
         if self.stuck {
             return Err(AllocError);
         }
-        match self.give_payload(target) {
+        match self.give_payload(count, target) {
             Err(_) => {
                 self.stuck = true;
                 Err(AllocError)
