@@ -3,6 +3,7 @@
 use Rattle.std.specs.Prelude.{◌≡◌, ℕ, zero, suc, List, [], ◌∷◌, Bool, Option}
 use Rattle.std.specs.List.{AllByRecursion}
 use Rattle.nfc_base.specs.Signal.{Signal, whole_a}
+use Rattle.nfc_base.specs.Choosing.{Choosing}
 use Rattle.nfc_base.specs.declared.event.Heard.{Heard}
 use Rattle.air_core.specs.Conversation.{Note, Next, Asks}
 use Rattle.air_core.specs.PlainTags.{IsAside}
@@ -29,7 +30,7 @@ module _ {L : Type 0} (k : Ghosts L) where
         → QuietBut k.machine f place old.listeners × AsideBut own place new.listeners
 
     -- So what a reader says in such frames, turn by turn, it says in the world with far ends at that place.
-    abbrev pub SpeaksAside : {F : Type 0} → (L → Bool) → FarTable F → (A → F) → Type 0
+    abbrev pub SpeaksAside : {F : Type 0} → (L → Bool) → FarTable F → (A → Choosing F) → Type 0
     SpeaksAside {F} linked t view = IsLinked k.machine linked → IsFarTable t → IsOfTable restarts steps t view
         → (next : List Note → Next) (own : List ℕ) (place : ℕ) (old new : Air L) (far after : A) (notes : List Note)
         → ((seen : List Note) (f : Signal) → next seen ≡ Asks f → f ≡ whole_a f.bytes) → AsideBut own place old.listeners

@@ -1,6 +1,7 @@
 //! Laws of links to peers in the world with far ends. The calls do nothing: they stand for these laws.
 
 ghost use Rattle.std.specs.Prelude.{Bool};
+ghost use Rattle.nfc_base.specs.Choosing.{Choosing};
 ghost use Rattle.far_air.specs.FarEnds.{FarTable};
 ghost use Rattle.far_air.specs.FarLaws.{IsFarTable, IsOfTable};
 ghost use Rattle.peer_air.specs.Aside.{AsideTurns, SpeaksAside};
@@ -33,7 +34,7 @@ pub fn swaps<L: PeerListener, F, A: Answerer>()
 /// of the world with far ends at its place: what an activation of a link asks, and what ends one.
 pub fn talks_aside<L: Listener, F, A: Answerer>()
     ensures turn { AsideTurns L.Listener A.restarts A.steps }
-    ensures speaks { (linked : L → Bool) (t : FarTable F) (view : A → F)
+    ensures speaks { (linked : L → Bool) (t : FarTable F) (view : A → Choosing F)
         → SpeaksAside L.Listener A.restarts A.steps linked t view }
 {}
 
