@@ -8,10 +8,11 @@ use Rattle.llcp_pdu.specs.Ranges.{AreParts}
 use Rattle.llcp_pdu.specs.Writing.{inner_bytes, part_bytes, pdu_bytes}
 use Rattle.llcp_link.specs.Serving.{Serving}
 use Rattle.llcp_link.specs.State.{LlcState}
-use Rattle.llcp_link.specs.Giving.{gave, gave_none, gave_first, joined, given_so, given_parts, IsAllowed, payload_of}
+use Rattle.llcp_link.specs.Giving.{gave, gave_none, gave_first, joined, given_so, given_parts, others, IsAllowed, payload_of}
 use Rattle.llcp_link.specs.Joining.{AreSent, Joins, HaltsJoining}
 use Rattle.llcp_link.specs.Answering.{Gives, HaltsGiving}
 use Rattle.llcp_link.specs.Offering.{LeavesNext}
+use Rattle.llcp_link.proofs.MostGiven.{as_many}
 
 pub are_parts : (ps : List Part) → AreSent ps → AreParts ps
 are_parts [] h = tt
@@ -36,34 +37,18 @@ module _ {S : Type 0} (m : Serving S) (old : LlcState S) where
     allowed_with [] new j = inl refl
     allowed_with (q ∷ qs) new j = inr ((let n : 2 ≤ suc (suc (length qs)) = omega arith in n), ap (λ g. length g.parts) (given_with (q ∷ qs) new j))
 
-    now_of : (ps : List Part) (new : LlcState S) → Joins m (length (inner_bytes p)) l ps new
+    now_of : (most : ℕ) (ps : List Part) (new : LlcState S) → Joins m (length (inner_bytes p)) most l ps new
         → joined m (length ps) (length (inner_bytes p)) l ≡ record { llc = new; parts = ps }
-    now_of ps new j = ap (λ k. joined m k (length (inner_bytes p)) l) (let z : length ps ≡ length ps + 0 = omega arith in z) ∙ j.all 0
+    now_of most ps new j =
+        ap (λ g. joined m (length g.parts) (length (inner_bytes p)) l) (sym j.all) ∙ as_many m most (length (inner_bytes p)) l ∙ j.all
 
-    -- no larger number is allowed
-    most_with : (ps : List Part) (new : LlcState S) → Joins m (length (inner_bytes p)) l ps new → (k : ℕ) → IsAllowed m old k → k ≤ suc (length ps)
-    most_with ps new j k (inl one) = omega arith
-    most_with ps new j zero (inr h) = omega arith
-    most_with ps new j (suc n) (inr h) = go (cases_lt (length ps) n)
-      where
-        go : ((length ps < n) ⊎ (n ≤ length ps)) → suc n ≤ suc (length ps)
-        go (inr few) = omega arith
-        go (inl many) =
-            (let i : length ps + (n - length ps) ≡ n = omega arith in
-            let a : joined m n (length (inner_bytes p)) l ≡ record { llc = new; parts = ps } =
-            ap (λ k. joined m k (length (inner_bytes p)) l) (sym i) ∙ j.all (n - length ps) in
-            let g : given_parts m (suc n) old ≡ record { llc = new; parts = p ∷ ps } = ap (λ o. given_so m old o n) e ∙ ap (gave_first m p) a in
-            let z : suc (length ps) ≡ suc n = sym (ap (λ x. length x.parts) g) ∙ h.1 in omega arith)
-
-    pub gives_with : (ps : List Part) (new : LlcState S) (bytes : List ℕ) → old.readable ≡ true → Joins m (length (inner_bytes p)) l ps new
-        → bytes ≡ payload_of (p ∷ ps) → Gives m old bytes new
-    gives_with ps new bytes r j b =
-        let g = given_with ps new (now_of ps new j) in record {
-          count = suc (length ps);
-          allowed = allowed_with ps new (now_of ps new j);
-          most = λ _. most_with ps new j;
-          bytes_are = b ∙ sym (ap (λ x. if x then payload_of (given_parts m (suc (length ps)) old).parts else []) r ∙ ap (λ x. payload_of x.parts) g);
-          left = sym (ap (λ x. if x then (given_parts m (suc (length ps)) old).llc else old) r ∙ ap (λ x. x.llc) g);
+    pub gives_with : (count : ℕ) (ps : List Part) (new : LlcState S) (bytes : List ℕ) → old.readable ≡ true
+        → Joins m (length (inner_bytes p)) (others m old count) l ps new → bytes ≡ payload_of (p ∷ ps) → Gives m count old bytes new
+    gives_with count ps new bytes r j b =
+        let g : given_parts m count old ≡ record { llc = new; parts = p ∷ ps } =
+        ap (λ o. given_so m old o (others m old count)) e ∙ ap (gave_first m p) j.all in record {
+          bytes_are = b ∙ sym (ap (λ x. if x then payload_of (given_parts m count old).parts else []) r ∙ ap (λ x. payload_of x.parts) g);
+          left = sym (ap (λ x. if x then (given_parts m count old).llc else old) r ∙ ap (λ x. x.llc) g);
         }
 
     -- memory was wanting as others were joined
@@ -75,32 +60,28 @@ module _ {S : Type 0} (m : Serving S) (old : LlcState S) where
     }
 
     -- memory was wanting as they were written
-    pub halts_behind : (ps : List Part) (new : LlcState S) → Joins m (length (inner_bytes p)) l ps new → HaltsGiving m old new.service
-    halts_behind ps new j = record {
-      front = new;
-      is_front = inr (suc (length ps), allowed_with ps new (now_of ps new j), sym (ap (λ x. x.llc) (given_with ps new (now_of ps new j))));
-      service = inl (inl refl);
-    }
+    pub halts_behind : (most : ℕ) (ps : List Part) (new : LlcState S) → Joins m (length (inner_bytes p)) most l ps new → HaltsGiving m old new.service
+    halts_behind most ps new j =
+        let now = now_of most ps new j in record {
+          front = new;
+          is_front = inr (suc (length ps), allowed_with ps new now, sym (ap (λ x. x.llc) (given_with ps new now)));
+          service = inl (inl refl);
+        }
 
   pub halts_first : (s : S) → LeavesNext m (gave m old) old.service s → HaltsGiving m old s
   halts_first s h = record { front = old; is_front = inl refl; service = h }
 
-  most_symm : gave m old ≡ None → (k : ℕ) → IsAllowed m old k → k ≤ 1
-  most_symm e k (inl one) = omega arith
-  most_symm e zero (inr h) = omega arith
-  most_symm e (suc n) (inr h) =
-      let g : given_parts m (suc n) old ≡ gave_none m old = ap (λ o. given_so m old o n) e in
-      let z : 0 ≡ suc n = sym (ap (λ x. length x.parts) g) ∙ h.1 in absurd cc
-
-  pub gives_symm : (bytes : List ℕ) → old.readable ≡ true → gave m old ≡ None → bytes ≡ part_bytes Symm → Gives m old bytes old
-  gives_symm bytes r e b =
-      let g : given_parts m 1 old ≡ gave_none m old = ap (λ o. given_so m old o 0) e in record {
-        count = 1;
-        allowed = inl refl;
-        most = λ _. most_symm e;
-        bytes_are = b ∙ sym (ap (λ x. if x then payload_of (given_parts m 1 old).parts else []) r ∙ ap (λ x. payload_of x.parts) g);
-        left = sym (ap (λ x. if x then (given_parts m 1 old).llc else old) r ∙ ap (λ x. x.llc) g);
+  pub gives_symm : (count : ℕ) (bytes : List ℕ) → old.readable ≡ true → gave m old ≡ None → bytes ≡ part_bytes Symm → Gives m count old bytes old
+  gives_symm count bytes r e b =
+      let g : given_parts m count old ≡ gave_none m old = ap (λ o. given_so m old o (others m old count)) e in record {
+        bytes_are = b ∙ sym (ap (λ x. if x then payload_of (given_parts m count old).parts else []) r ∙ ap (λ x. payload_of x.parts) g);
+        left = sym (ap (λ x. if x then (given_parts m count old).llc else old) r ∙ ap (λ x. x.llc) g);
       }
+
+  -- as many others are asked for behind the first as before it
+  pub same_others : (l : LlcState S) → l.far_miu ≡ old.far_miu → (count : ℕ) → others m l count ≡ others m old count
+  same_others l h zero = h
+  same_others l h (suc n) = refl
 
 pub on_err_with : {A B : Type 0} {Q : Type 0} (r : Result A B) → Q → OnErr r Q
 on_err_with (Ok x) h = tt

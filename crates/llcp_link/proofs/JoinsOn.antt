@@ -95,13 +95,24 @@ module _ {S : Type 0} (m : Serving S) where
   pub full_end : (used : ℕ) (now : LlcState S) → now.far_miu ≤ used → IsFull used now
   full_end used now h = full_by used now (gave m now) refl (λ g e. (let z : length (inner_bytes g.part) ≡ length (part_bytes g.part) + 2 = omega arith in omega arith))
 
-  pub joins_now : (first : ℕ) (old : LlcState S) (ps : List Part) (used : ℕ) (now : LlcState S) → JoinsSoFar m first old ps used now → IsFull used now
-      → Joins m first old ps now
-  joins_now first old ps used now h full = record {
-    all = λ more. h.all more ∙ ap (gave_before m ps) (full more) ∙ ap (λ xs. record { llc = now; parts = xs }) (append-nil ps);
-    sent = h.sent;
-    size = λ z. let u = h.used_is in let k = h.size z in omega arith;
-  }
+  -- these were joined, and they are all, by this number
+  joins_so : (first most : ℕ) (old : LlcState S) (ps : List Part) (used : ℕ) (now : LlcState S) → JoinsSoFar m first old ps used now
+      → joined m most first old ≡ record { llc = now; parts = ps } → Joins m first most old ps now
+  joins_so first most old ps used now h all = record { all = all; sent = h.sent; size = λ z. let u = h.used_is in let k = h.size z in omega arith }
+
+  -- none more is joined, however many are asked for
+  pub joins_now : (first most : ℕ) (old : LlcState S) (ps : List Part) (used : ℕ) (now : LlcState S) → JoinsSoFar m first old ps used now
+      → length ps ≤ most → IsFull used now → Joins m first most old ps now
+  joins_now first most old ps used now h few full =
+      joins_so first most old ps used now h
+      (ap (λ k. joined m k first old) (let z : most ≡ length ps + (most - length ps) = omega arith in z) ∙ h.all (most - length ps)
+      ∙ ap (gave_before m ps) (full (most - length ps)) ∙ ap (λ xs. record { llc = now; parts = xs }) (append-nil ps))
+
+  -- so many were asked for
+  pub joins_all : (first most : ℕ) (old : LlcState S) (ps : List Part) (used : ℕ) (now : LlcState S) → JoinsSoFar m first old ps used now
+      → length ps ≡ most → Joins m first most old ps now
+  joins_all first most old ps used now h all =
+      joins_so first most old ps used now h (ap (λ k. joined m k first old) (sym all) ∙ joined_now first old ps used now h)
 
   pub halts_now : (first : ℕ) (old : LlcState S) (ps : List Part) (used : ℕ) (now : LlcState S) (s : S) → JoinsSoFar m first old ps used now
       → LeavesNext m (gave m now) now.service s → HaltsJoining m first old s

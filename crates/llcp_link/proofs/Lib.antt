@@ -8,6 +8,7 @@ pub mod GivesNext
 pub mod SendsOn
 pub mod Circle
 pub mod JoinsOn
+pub mod MostGiven
 pub mod GivesAll
 pub mod Fronts
 pub mod Clients

@@ -8,36 +8,41 @@ use crate::llc::Llc;
 use crate::service::Service;
 use nfc_base::Answerer;
 use std::alloc::{AllocError, Global};
+use std::collections::VecDeque;
 use std::marker::Model;
 
 /// How many PDUs stand in the next payloads of an end, one number a payload. Where one is 0, or isn't one that is due and fits, and behind
 /// the last, it is as many as fit.
 #[derive(Debug, Drop)]
-pub struct Counts<'a> {
-    left: &'a [u32],
+pub struct Counts {
+    left: VecDeque<u32>,
 }
 
-impl<'a> Model for Counts<'a> {
+impl Model for Counts {
     ghost use Rattle.std.specs.Prelude.{ℕ, List};
 
     ghost Value = { List ℕ };
 
-    ghost view = { λ c. c.left.now };
+    ghost view = { λ c. c.left.items };
 }
 
-impl<'a> Counts<'a> {
+impl Counts {
     /// These numbers.
-    pub fn new(numbers: &'a [u32]) -> Counts<'a>
-        ensures { result ≡ numbers.now }
+    pub fn new(numbers: Vec<u32>) -> Counts
+        ensures { result ≡ numbers.items }
     {
-        Counts { left: numbers }
+        Counts {
+            left: VecDeque::from_vec(numbers),
+        }
     }
 
-    /// As many as fit in each payload.
-    pub fn most() -> Counts<'a>
+    /// As many PDUs as fit in each payload. It takes no memory.
+    pub fn most(alloc: Global) -> Counts
         ensures { result ≡ [] }
     {
-        Counts { left: &[] }
+        Counts {
+            left: VecDeque::new(alloc),
+        }
     }
 
     /// The next number.
@@ -45,24 +50,18 @@ impl<'a> Counts<'a> {
         ensures first { result ≡ first_number self.old }
         ensures later { self.new ≡ later_numbers self.old }
     {
-        match self.left {
-            [] => 0,
-            [first, later @ ..] => {
-                self.left = later;
-                *first
-            }
-        }
+        self.left.pop_front().unwrap_or(0)
     }
 }
 
 /// An end whose payloads have given numbers of PDUs.
 #[derive(Debug, Drop)]
-pub struct Counted<'a, S> {
+pub struct Counted<S> {
     end: Llc<S>,
-    counts: Counts<'a>,
+    counts: Counts,
 }
 
-impl<'a, S> Model for Counted<'a, S> {
+impl<S> Model for Counted<S> {
     ghost use Rattle.llcp_link.specs.State.{LlcState};
     ghost use Rattle.nfc_base.specs.Choosing.{Choosing};
 
@@ -71,9 +70,9 @@ impl<'a, S> Model for Counted<'a, S> {
     ghost view = { λ c. record { end = c.end; numbers = c.counts } };
 }
 
-impl<'a, S> Counted<'a, S> {
+impl<S> Counted<S> {
     /// This end, with these numbers.
-    pub fn new(end: Llc<S>, counts: Counts<'a>) -> Counted<'a, S>
+    pub fn new(end: Llc<S>, counts: Counts) -> Counted<S>
         ensures { result ≡ record { end = end; numbers = counts } }
     {
         Counted { end, counts }
@@ -87,7 +86,7 @@ impl<'a, S> Counted<'a, S> {
     }
 }
 
-impl<'a, S: Service> Answerer for Counted<'a, S> {
+impl<S: Service> Answerer for Counted<S> {
     ghost is_stuck = { λ c. c.end.stuck };
 
     ghost restarts = { RestartsCounted S.serving };

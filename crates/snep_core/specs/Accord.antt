@@ -1,5 +1,6 @@
 -- A far end that serves as this project's server does, and what a client's end and such a far end come to between calls.
 use Rattle.std.specs.Prelude.{◌≡◌, ◌<◌, ◌≤◌, ◌⊎◌, ℕ, ◌+◌, ◌%◌, Bool, true, false, List, [], ◌∷◌, ◌++◌, length, IfSome, Some, None}
+use Rattle.nfc_base.specs.Choosing.{Choosing}
 use Rattle.llcp_pdu.specs.General.{IsMiu}
 use Rattle.llcp_pdu.specs.Wire.{least_miu}
 use Rattle.llcp_conn.specs.Conn.{ConnState, IsSap, IsWindow, modulus}
@@ -10,6 +11,7 @@ use Rattle.llcp_link.specs.Names.{found, is_bound}
 use Rattle.llcp_link.specs.Taking.{Item, brought, steps, taken_from}
 use Rattle.llcp_link.specs.Giving.{given, after_giving}
 use Rattle.llcp_link.specs.Answering.{Answers, Stops}
+use Rattle.llcp_link.specs.Counting.{AnswersCounted, StopsCounted}
 use Rattle.snep_core.specs.declared.fault.SnepFault.{SnepFault}
 use Rattle.snep_core.specs.declared.fault.SnepFault.TheVariants.{BadPeer, Excess, LinkEnded, Memory, NotFound, NotImplemented, Reject}
 use Rattle.snep_core.specs.Server.{Received, ServerState, serving, session_of}
@@ -275,9 +277,12 @@ AsideFails old (LinkEnded c) new = new.service.accepted ≡ old.service.accepted
 AsideFails old Memory new = new.service.accepted ≡ old.service.accepted
 AsideFails old _ new = ⊥
 
--- An end with this project's server is a peer, as it is.
+-- An end with this project's server is a peer, as it is; and so is one whose payloads have given numbers of PDUs.
 abbrev pub PeersServe : Type 0
-PeersServe = IsPeer (Answers serving) (Stops serving) (λ (p : PeerState). p)
+PeersServe = IsPeer (Answers serving 0) (Stops serving) (λ (p : PeerState). p)
+
+abbrev pub CountedServe : Type 0
+CountedServe = IsPeer (AnswersCounted serving) (StopsCounted serving) (λ (p : Choosing PeerState). p.end)
 
 -- A client accords with a peer whatever the peer's table for get is.
 abbrev pub OffersAccord : Type 0

@@ -1,5 +1,6 @@
 -- A call of a client over a link and a far end: what it hands over and what it heard, and how it is cut off.
 use Rattle.std.specs.Prelude.{◌≡◌, ◌⊎◌, ℕ, Bool, true, false, List, [], ◌∷◌, ◌++◌, Option, Some}
+use Rattle.nfc_base.specs.Choosing.{first_number}
 use Rattle.nfc_base.specs.declared.carrier.EndCause.{EndCause}
 use Rattle.nfc_base.specs.declared.carrier.EndCause.TheVariants as cause
 use Rattle.nfc_base.specs.declared.carrier.LinkEnd.{LinkEnd}
@@ -10,7 +11,7 @@ use Rattle.snep_core.specs.declared.fault.SnepFault.{SnepFault}
 use Rattle.snep_core.specs.declared.fault.SnepFault.TheVariants.{LinkEnded, Memory, BadPeer}
 use Rattle.snep_core.specs.declared.fault.SnepFault.TheVariants as faults
 use Rattle.snep_core.specs.Jobs.{Over, Refused}
-use Rattle.snep_core.specs.Talk.{EndState, IsMost, Step, Goes, Ends, GivesUp, Told, Working, alone, gave_something, own_of, ready, replied, silent}
+use Rattle.snep_core.specs.Talk.{EndState, Step, Goes, Ends, GivesUp, Told, Working, alone, gave_something, numbers_behind, own_of, ready, replied, silent}
 use Rattle.snep_core.specs.declared.job.Refusal.{Refusal}
 use Rattle.snep_core.specs.declared.job.Refusal.TheVariants as refusals
 use Rattle.snep_core.specs.declared.job.Turn.{Turn}
@@ -57,22 +58,19 @@ step_of GaveUp l = GivesUp l
 
 module _ {C A : Type 0} (seen : C → CarrierView) (swaps : C → List ℕ → List FarStep → C → Type 0) (steps : A → List ℕ → List ℕ → A → Type 0)
     (stops : A → List ℕ → A → Type 0) where
-  -- A call came from one step to another over the link: what was handed over, each payload with as many PDUs as fit and in one swap,
-  -- and what the far end did. The link is over where it was over before.
-  pub record Talks (from : Step) (link : C) (far : A) (to : Step) (now : C) (after : A) : Type 0 where
+  -- A call came from one step to another over the link: what was handed over, each payload with as many PDUs as the next of these numbers
+  -- says and in one swap, and what the far end did. The link is over where it was over before.
+  pub record Talks (numbers : List ℕ) (from : Step) (link : C) (far : A) (to : Step) (now : C) (after : A) : Type 0 where
     pub did : List FarStep
-    pub counts : List ℕ
-    pub told : Told IsMost counts from did to
+    pub told : Told numbers from did to
     pub handed : (seen now).handed ≡ (seen link).handed ++ payloads did
     pub last : (seen now).last ≡ last_of (seen link).last did
     pub over : (seen now).over ≡ (seen link).over
     pub swapped : BySwaps swaps did link now
     pub far_moved : FarMoved steps stops did far after
 
-  -- one exchange: the next payload was answered, and the reply taken
-  pub record Exchanged (old : EndState) (link : C) (far : A) (gave : Bool) (new : EndState) (now : C) (after : A) : Type 0 where
-    pub count : ℕ
-    pub most : IsMost old count
+  -- one exchange: the next payload, with so many PDUs, was answered, and the reply taken
+  pub record Exchanged (count : ℕ) (old : EndState) (link : C) (far : A) (gave : Bool) (new : EndState) (now : C) (after : A) : Type 0 where
     pub reply : List ℕ
     pub swap : SwapDone steps (seen link) (seen now) (given silent count old) reply far after
     pub swapped : Swapped swaps steps stops link (given silent count old) far now after
@@ -81,9 +79,7 @@ module _ {C A : Type 0} (seen : C → CarrierView) (swaps : C → List ℕ → L
     pub something : gave ≡ gave_something (own_of (after_giving silent count old)) (own_of new)
 
   -- one exchange, and what the call is then
-  pub record Turned (w : Working) (link : C) (far : A) (turn : Turn) (new : EndState) (now : C) (after : A) : Type 0 where
-    pub count : ℕ
-    pub most : IsMost (ready w).llc count
+  pub record Turned (count : ℕ) (w : Working) (link : C) (far : A) (turn : Turn) (new : EndState) (now : C) (after : A) : Type 0 where
     pub reply : List ℕ
     pub swap : SwapDone steps (seen link) (seen now) (given silent count (ready w).llc) reply far after
     pub swapped : Swapped swaps steps stops link (given silent count (ready w).llc) far now after
@@ -97,9 +93,7 @@ module _ {C A : Type 0} (seen : C → CarrierView) (swaps : C → List ℕ → L
     pub far_is : after ≡ far
 
   -- The link was over. The client's end gave its next payload, and nobody took it.
-  pub record IsOver (old : EndState) (link : C) (far : A) (e : SnepFault) (new : EndState) (now : C) (after : A) : Type 0 where
-    pub count : ℕ
-    pub most : IsMost old count
+  pub record IsOver (count : ℕ) (old : EndState) (link : C) (far : A) (e : SnepFault) (new : EndState) (now : C) (after : A) : Type 0 where
     pub left : new ≡ after_giving silent count old
     pub why : EndCause
     pub over : (seen link).over ≡ Some why
@@ -109,9 +103,7 @@ module _ {C A : Type 0} (seen : C → CarrierView) (swaps : C → List ℕ → L
     pub far_is : after ≡ far
 
   -- The swap of the next payload failed. The client's end gave it, and heard nothing.
-  pub record Fails (old : EndState) (link : C) (far : A) (e : SnepFault) (new : EndState) (now : C) (after : A) : Type 0 where
-    pub count : ℕ
-    pub most : IsMost old count
+  pub record Fails (count : ℕ) (old : EndState) (link : C) (far : A) (e : SnepFault) (new : EndState) (now : C) (after : A) : Type 0 where
     pub left : new ≡ after_giving silent count old
     pub why : LinkEnd
     pub fault : e ≡ fault_of why.cause
@@ -120,9 +112,7 @@ module _ {C A : Type 0} (seen : C → CarrierView) (swaps : C → List ℕ → L
         (AskedBy why.answered why.cause (given silent count old))
 
   -- The next payload was answered, and as the reply was taken memory was wanting.
-  pub record Unread (old : EndState) (link : C) (far : A) (e : SnepFault) (now : C) (after : A) : Type 0 where
-    pub count : ℕ
-    pub most : IsMost old count
+  pub record Unread (count : ℕ) (old : EndState) (link : C) (far : A) (e : SnepFault) (now : C) (after : A) : Type 0 where
     pub reply : List ℕ
     pub fault : e ≡ Memory
     pub swap : SwapDone steps (seen link) (seen now) (given silent count old) reply far after
@@ -130,31 +120,31 @@ module _ {C A : Type 0} (seen : C → CarrierView) (swaps : C → List ℕ → L
         (λ did. did ≡ Stepped (given silent count old) reply ∷ [])
 
   -- An exchange was cut off. Where this end wanted no memory itself, it is left as it was once it gave its payload.
-  abbrev pub IsCut : EndState → C → A → SnepFault → EndState → C → A → Type 0
-  IsCut old link far e new now after =
-      (Rests link far e now after ⊎ IsOver old link far e new now after)
-      ⊎ (Fails old link far e new now after ⊎ Unread old link far e now after)
+  abbrev pub IsCut : ℕ → EndState → C → A → SnepFault → EndState → C → A → Type 0
+  IsCut count old link far e new now after =
+      (Rests link far e now after ⊎ IsOver count old link far e new now after)
+      ⊎ (Fails count old link far e new now after ⊎ Unread count old link far e now after)
 
   -- A call went on so far, and was cut off by its link or by want of memory.
-  pub record Breaks (from : Step) (link : C) (far : A) (e : SnepFault) (new : EndState) (now : C) (after : A) : Type 0 where
+  pub record Breaks (numbers : List ℕ) (from : Step) (link : C) (far : A) (e : SnepFault) (new : EndState) (now : C) (after : A) : Type 0 where
     pub at : Working
     pub mid : C
     pub mid_far : A
-    pub talks : Talks from link far (Goes at) mid mid_far
-    pub cut : IsCut (ready at).llc mid mid_far e new now after
+    pub talks : Talks numbers from link far (Goes at) mid mid_far
+    pub cut : IsCut (first_number (numbers_behind talks.did numbers)) (ready at).llc mid mid_far e new now after
 
   -- A call that failed: the far end was given up, or it was cut off.
-  abbrev pub FailsBy : Step → C → A → SnepFault → EndState → C → A → Type 0
-  FailsBy from link far e new now after =
-      ((e ≡ BadPeer) × Talks from link far (GivesUp new) now after) ⊎ Breaks from link far e new now after
+  abbrev pub FailsBy : List ℕ → Step → C → A → SnepFault → EndState → C → A → Type 0
+  FailsBy numbers from link far e new now after =
+      ((e ≡ BadPeer) × Talks numbers from link far (GivesUp new) now after) ⊎ Breaks numbers from link far e new now after
 
   -- A call whose request was refused.
-  pub record IsRefused (from : Step) (link : C) (far : A) (e : SnepFault) (new : EndState) (now : C) (after : A) : Type 0 where
+  pub record IsRefused (numbers : List ℕ) (from : Step) (link : C) (far : A) (e : SnepFault) (new : EndState) (now : C) (after : A) : Type 0 where
     pub why : Refusal
     pub fault : e ≡ refused_by why
-    pub talks : Talks from link far (Ends (alone (Over (Refused why))) new) now after
+    pub talks : Talks numbers from link far (Ends (alone (Over (Refused why))) new) now after
 
   -- A request that failed: it was refused, the far end was given up, or it was cut off.
-  abbrev pub RequestFails : Step → C → A → SnepFault → EndState → C → A → Type 0
-  RequestFails from link far e new now after =
-      IsRefused from link far e new now after ⊎ FailsBy from link far e new now after
+  abbrev pub RequestFails : List ℕ → Step → C → A → SnepFault → EndState → C → A → Type 0
+  RequestFails numbers from link far e new now after =
+      IsRefused numbers from link far e new now after ⊎ FailsBy numbers from link far e new now after

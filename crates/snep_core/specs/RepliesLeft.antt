@@ -60,11 +60,7 @@ RepliesFall =
     (w : Working) (n : ℕ) (reply : List ℕ) (next : Working) → IsUnderWay w → replied n w reply ≡ Goes next
     → IsUnderWay next × (replies_left next < replies_left w)
 
--- a payload with any number of PDUs
-abbrev pub AnyNumber : EndState → ℕ → Type 0
-AnyNumber l n = Unit {0}
-
--- So a call hears at most as many replies as were left where it began.
+-- So a call hears at most as many replies as were left where it began, however many PDUs its payloads have.
 abbrev pub CallsEnd : Type 0
 CallsEnd =
-    (w : Working) (ns : List ℕ) (did : List FarStep) (to : Step) → IsUnderWay w → Told AnyNumber ns (Goes w) did to → length did ≤ replies_left w
+    (w : Working) (ns : List ℕ) (did : List FarStep) (to : Step) → IsUnderWay w → Told ns (Goes w) did to → length did ≤ replies_left w

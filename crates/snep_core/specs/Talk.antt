@@ -3,6 +3,7 @@
 use Rattle.std.specs.Prelude.{◌≡◌, ◌≤◌, ℕ, zero, suc, ◌+◌, ◌==◌, ◌&&◌, ◌||◌, eqb, nat_lt, not, is_none, Bool, true, false, List, [], ◌∷◌, ◌++◌, length, take, drop, Option, Some, None, if◌then◌else◌}
 use Rattle.std.specs.List.{IsDistinct}
 use Rattle.nfc_base.specs.Links.{FarStep, Stepped}
+use Rattle.nfc_base.specs.Choosing.{first_number, later_numbers}
 use Rattle.llcp_pdu.specs.declared.part.Part.TheVariants.{Connect}
 use Rattle.llcp_link.specs.Serving.{Serving}
 use Rattle.llcp_link.specs.Names.{own_params}
@@ -11,7 +12,7 @@ use Rattle.llcp_link.specs.declared.standing.Standing.{Standing}
 use Rattle.llcp_link.specs.declared.standing.Standing.TheVariants as stands
 use Rattle.llcp_link.specs.Asking.{acked_of, asked_from, disconnected_by, forgotten, found_in, is_busy_by, is_open_by, looked_up, put_own, refusal_of, request, standing_of, submitted_by}
 use Rattle.llcp_link.specs.Taking.{taken_from}
-use Rattle.llcp_link.specs.Giving.{IsAllowed, given, after_giving}
+use Rattle.llcp_link.specs.Giving.{given, after_giving}
 use Rattle.snep_core.specs.declared.silent.NoService.{NoService}
 use Rattle.snep_core.specs.declared.client.Stands.{Stands}
 use Rattle.snep_core.specs.Message.{continue_code, four_bytes, get_code, message_of_code, put_code}
@@ -310,14 +311,15 @@ replied n w reply = replied_ready n (ready w) reply
 abbrev pub payload : ℕ → Working → List ℕ
 payload n w = given silent n (ready w).llc
 
--- as many PDUs as fit
-abbrev pub IsMost : EndState → ℕ → Type 0
-IsMost l n = IsAllowed silent l n × (l.readable ≡ true → (more : ℕ) → IsAllowed silent l more → more ≤ n)
+-- A call came from one step to another as its far end made these steps, where each payload is the next one, with as many PDUs in it as
+-- the next of these numbers says.
+abbrev pub Told : List ℕ → Step → List FarStep → Step → Type 0
+Told ns from [] to = to ≡ from
+Told ns (Goes w) (Stepped out reply ∷ did) to =
+    (out ≡ payload (first_number ns) w) × Told (later_numbers ns) (replied (first_number ns) w reply) did to
+Told ns _ _ to = ⊥
 
--- A call came from one step to another as its far end made these steps, where each payload is the next one, with so many PDUs
--- in it; and these numbers are of this kind.
-abbrev pub Told : (EndState → ℕ → Type 0) → List ℕ → Step → List FarStep → Step → Type 0
-Told fits [] from [] to = to ≡ from
-Told fits (n ∷ ns) (Goes w) (Stepped out reply ∷ did) to =
-    fits (ready w).llc n × (out ≡ payload n w) × Told fits ns (replied n w reply) did to
-Told fits _ _ _ to = ⊥
+-- the numbers that are left behind these steps
+abbrev pub numbers_behind : List FarStep → List ℕ → List ℕ
+numbers_behind [] ns = ns
+numbers_behind (x ∷ did) ns = numbers_behind did (later_numbers ns)

@@ -16,7 +16,7 @@ use crate::message::{GET, PUT, write_request};
 use crate::server::SNEP_SAP;
 use crate::silent::NoService;
 use bytes::Bytes;
-use llcp_link::{Llc, LlcFault, Standing};
+use llcp_link::{Counts, Llc, LlcFault, Standing};
 use nfc_base::{Answerer, Carrier};
 use std::alloc::Global;
 use std::marker::Model;
@@ -136,17 +136,18 @@ impl Client {
         &mut self,
         carrier: &mut C,
         far: &mut A,
+        counts: Counts,
         most: Option<u32>,
         request: Bytes,
     ) -> Result<Ending, SnepFault>
         requires ready { C.ready carrier.old }
         requires going { self.old.spent ≡ false }
-        ensures ok { IfOk result (λ ending. Talks C.seen C.swaps A.steps A.stops
+        ensures ok { IfOk result (λ ending. Talks C.seen C.swaps A.steps A.stops counts
             (begun (connected self.old.llc client_sap) (Job.Begins most request))
             carrier.old far.old (Ends (alone (Over ending)) self.new.llc) carrier.new far.new) }
         ensures aim { IfOk result (λ ending. IsOf (aim_by most) ending) }
         ensures going { OnOk result (self.new.spent ≡ false) }
-        ensures err { IfErr result (λ e. FailsBy C.seen C.swaps A.steps A.stops
+        ensures err { IfErr result (λ e. FailsBy C.seen C.swaps A.steps A.stops counts
             (begun (connected self.old.llc client_sap) (Job.Begins most request))
             carrier.old far.old e self.new.llc carrier.new far.new) }
         ensures spent { IfErr result (λ e. self.new.spent ≡ is_memory e) }
@@ -157,7 +158,7 @@ impl Client {
             Err(fault) => return Err(fault),
             Ok(()) => {}
         }
-        match self.converse(carrier, far, Job::Begins(most, request)) {
+        match self.converse(carrier, far, counts, Job::Begins(most, request)) {
             Err(fault) => Err(fault),
             Ok(ending) => Ok(ending),
         }
@@ -168,14 +169,15 @@ impl Client {
         &mut self,
         carrier: &mut C,
         far: &mut A,
+        counts: Counts,
         message: &[u8],
     ) -> Result<(), SnepFault>
         requires ready { C.ready carrier.old }
         requires message { length message.now ≤ 65536 }
-        ensures ok { OnOk result (Talks C.seen C.swaps A.steps A.stops (begins self.old.llc (Puts message.now))
+        ensures ok { OnOk result (Talks C.seen C.swaps A.steps A.stops counts (begins self.old.llc (Puts message.now))
             carrier.old far.old (Ends (alone (Over Done)) self.new.llc) carrier.new far.new) }
         ensures going { OnOk result ((self.old.spent ≡ false) × (self.new.spent ≡ false)) }
-        ensures err { self.old.spent ≡ false → IfErr result (λ e. RequestFails C.seen C.swaps A.steps A.stops
+        ensures err { self.old.spent ≡ false → IfErr result (λ e. RequestFails C.seen C.swaps A.steps A.stops counts
             (begins self.old.llc (Puts message.now)) carrier.old far.old e self.new.llc carrier.new far.new) }
         // Over a far end that serves as this project's server does, and with which the client accords:
         ensures taken { AtPeers A.steps A.stops self.old.llc far.old (λ view.
@@ -195,7 +197,7 @@ impl Client {
             Err(_) => return Err(self.spend()),
             Ok(request) => request,
         };
-        match self.ask(carrier, far, None, request) {
+        match self.ask(carrier, far, counts, None, request) {
             Err(fault) => Err(fault),
             Ok(Ending::Done) => Ok(()),
             Ok(Ending::Refused(refusal)) => Err(refusal.fault()),
@@ -208,15 +210,16 @@ impl Client {
         &mut self,
         carrier: &mut C,
         far: &mut A,
+        counts: Counts,
         acceptable: u32,
         key: &[u8],
     ) -> Result<Vec<u8>, SnepFault>
         requires ready { C.ready carrier.old }
         requires key { length key.now ≤ 65536 }
-        ensures ok { IfOk result (λ value. Talks C.seen C.swaps A.steps A.stops (begins self.old.llc (Gets acceptable key.now))
+        ensures ok { IfOk result (λ value. Talks C.seen C.swaps A.steps A.stops counts (begins self.old.llc (Gets acceptable key.now))
             carrier.old far.old (Ends (alone (Over (Value value.items))) self.new.llc) carrier.new far.new) }
         ensures going { OnOk result ((self.old.spent ≡ false) × (self.new.spent ≡ false)) }
-        ensures err { self.old.spent ≡ false → IfErr result (λ e. RequestFails C.seen C.swaps A.steps A.stops
+        ensures err { self.old.spent ≡ false → IfErr result (λ e. RequestFails C.seen C.swaps A.steps A.stops counts
             (begins self.old.llc (Gets acceptable key.now)) carrier.old far.old e self.new.llc carrier.new far.new) }
         // Over a far end that serves as this project's server does, and with which the client accords:
         ensures value { AtPeers A.steps A.stops self.old.llc far.old (λ view.
@@ -236,7 +239,7 @@ impl Client {
             Err(_) => return Err(self.spend()),
             Ok(request) => request,
         };
-        match self.ask(carrier, far, Some(acceptable), request) {
+        match self.ask(carrier, far, counts, Some(acceptable), request) {
             Err(fault) => Err(fault),
             Ok(Ending::Value(value)) => Ok(value.into_vec()),
             Ok(Ending::Refused(refusal)) => Err(refusal.fault()),
@@ -249,14 +252,15 @@ impl Client {
         &mut self,
         carrier: &mut C,
         far: &mut A,
+        counts: Counts,
         name: &str,
     ) -> Result<u8, SnepFault>
         requires ready { C.ready carrier.old }
         requires name { length name.now ≤ 64 }
-        ensures ok { IfOk result (λ sap. Talks C.seen C.swaps A.steps A.stops (begins self.old.llc (Finds name.now))
+        ensures ok { IfOk result (λ sap. Talks C.seen C.swaps A.steps A.stops counts (begins self.old.llc (Finds name.now))
             carrier.old far.old (Ends (alone (Over (Sap sap))) self.new.llc) carrier.new far.new) }
         ensures going { OnOk result ((self.old.spent ≡ false) × (self.new.spent ≡ false)) }
-        ensures err { self.old.spent ≡ false → IfErr result (λ e. FailsBy C.seen C.swaps A.steps A.stops
+        ensures err { self.old.spent ≡ false → IfErr result (λ e. FailsBy C.seen C.swaps A.steps A.stops counts
             (begins self.old.llc (Finds name.now)) carrier.old far.old e self.new.llc carrier.new far.new) }
         // Over a far end that serves as this project's server does, and with which the client accords:
         ensures found { AtPeers A.steps A.stops self.old.llc far.old (λ view.
@@ -276,7 +280,7 @@ impl Client {
             Err(_) => return Err(self.spend()),
             Ok(tid) => tid,
         };
-        match self.converse(carrier, far, Job::Looks(tid)) {
+        match self.converse(carrier, far, counts, Job::Looks(tid)) {
             Err(fault) => Err(fault),
             Ok(Ending::Sap(sap)) => Ok(sap),
             Ok(Ending::Done | Ending::Value(_) | Ending::Refused(_)) => unreachable!(),
@@ -288,12 +292,13 @@ impl Client {
         &mut self,
         carrier: &mut C,
         far: &mut A,
+        counts: Counts,
     ) -> Result<(), SnepFault>
         requires ready { C.ready carrier.old }
-        ensures ok { OnOk result (Talks C.seen C.swaps A.steps A.stops (begins self.old.llc Leaves)
+        ensures ok { OnOk result (Talks C.seen C.swaps A.steps A.stops counts (begins self.old.llc Leaves)
             carrier.old far.old (Ends (alone (Over Done)) self.new.llc) carrier.new far.new) }
         ensures going { OnOk result ((self.old.spent ≡ false) × (self.new.spent ≡ false)) }
-        ensures err { self.old.spent ≡ false → IfErr result (λ e. FailsBy C.seen C.swaps A.steps A.stops
+        ensures err { self.old.spent ≡ false → IfErr result (λ e. FailsBy C.seen C.swaps A.steps A.stops counts
             (begins self.old.llc Leaves) carrier.old far.old e self.new.llc carrier.new far.new) }
         // Over a far end that serves as this project's server does, and with which the client accords:
         ensures closed { AtPeers A.steps A.stops self.old.llc far.old (λ view.
@@ -316,7 +321,7 @@ impl Client {
             Err(_) => return Err(self.spend()),
             Ok(()) => {}
         }
-        match self.converse(carrier, far, Job::Closes) {
+        match self.converse(carrier, far, counts, Job::Closes) {
             Err(fault) => Err(fault),
             Ok(Ending::Done) => Ok(()),
             Ok(Ending::Value(_) | Ending::Sap(_) | Ending::Refused(_)) => unreachable!(),

@@ -1,7 +1,7 @@
 //! What the units of a connection put, whatever a server does with them; what a server accepts, by the payloads alone; and that
 //! a client's calls come to an end.
 
-ghost use Rattle.snep_core.specs.Accord.{OffersAccord, PeersServe};
+ghost use Rattle.snep_core.specs.Accord.{CountedServe, OffersAccord, PeersServe};
 ghost use Rattle.snep_core.specs.Puts.{PutsOne};
 ghost use Rattle.snep_core.specs.Cuts.{FrontsPut, LastPut};
 ghost use Rattle.snep_core.specs.Links.{LinkLaw};
@@ -46,9 +46,11 @@ pub fn cut_off()
     ensures { CutOffAccepts }
 {}
 
-/// An end with a server of this project is a far end of the kind that the calls of a client speak of.
+/// An end with a server of this project is a far end of the kind that the calls of a client speak of, also one whose payloads have given
+/// numbers of PDUs.
 pub fn peer()
-    ensures { PeersServe }
+    ensures most { PeersServe }
+    ensures counted { CountedServe }
 {}
 
 /// What is offered for get between two calls of a client changes nothing of how the two stand.

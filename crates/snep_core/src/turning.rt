@@ -10,6 +10,7 @@ ghost use Rattle.snep_core.specs.declared.fault.SnepFault.{SnepFault};
 use crate::client::{CLIENT_SAP, Client, gave_between};
 use crate::fault::SnepFault;
 use crate::job::{Ending, Job, Turn};
+use llcp_link::Counts;
 use nfc_base::{Answerer, Carrier, EndCause};
 
 /// Replies that gave nothing, in a row, before a far end is given up.
@@ -31,27 +32,28 @@ impl Client {
         }
     }
 
-    /// One exchange: the next payload goes out, and its reply is taken. Whether that gave something on the connection.
+    /// One exchange: the next payload goes out, with so many PDUs, and its reply is taken. Whether that gave something on the connection.
     fn exchange<C: Carrier, A: Answerer>(
         &mut self,
         carrier: &mut C,
         far: &mut A,
+        count: u32,
     ) -> Result<bool, SnepFault>
         requires ready { C.ready carrier.old }
         requires going { self.old.spent ≡ false }
         ensures ok { IfOk result (λ gave.
-            Exchanged C.seen C.swaps A.steps A.stops self.old.llc carrier.old far.old gave
+            Exchanged C.seen C.swaps A.steps A.stops count self.old.llc carrier.old far.old gave
             self.new.llc carrier.new far.new) }
         ensures falls { IfOk result (λ gave. Lessens gave (own_of self.old.llc) (own_of self.new.llc)) }
         ensures going { OnOk result (self.new.spent ≡ false) }
         ensures err { IfErr result (λ e.
-            IsCut C.seen C.swaps A.steps A.stops self.old.llc carrier.old far.old e self.new.llc carrier.new far.new) }
+            IsCut C.seen C.swaps A.steps A.stops count self.old.llc carrier.old far.old e self.new.llc carrier.new far.new) }
         ensures spent { IfErr result (λ e. self.new.spent ≡ is_memory e) }
         ensures ready { C.ready carrier.new }
         ensures same { C.lenders carrier.new ≡ C.lenders carrier.old }
     {
         let mut out = Vec::new(self.alloc);
-        if self.llc.give(&mut out).is_err() {
+        if self.llc.give(count, &mut out).is_err() {
             return Err(self.spend());
         }
         let before = self.stands();
@@ -92,18 +94,19 @@ impl Client {
         &mut self,
         carrier: &mut C,
         far: &mut A,
+        count: u32,
         job: Job,
         idle: u8,
     ) -> Result<Turn, SnepFault>
         requires ready { C.ready carrier.old }
         requires going { self.old.spent ≡ false }
         requires idle { idle < most_idle }
-        ensures ok { IfOk result (λ turn. Turned C.seen C.swaps A.steps A.stops
+        ensures ok { IfOk result (λ turn. Turned C.seen C.swaps A.steps A.stops count
             (record { llc = self.old.llc; jobs = alone job; idle = idle }) carrier.old far.old turn self.new.llc carrier.new far.new) }
         ensures serves { IfOk result (λ turn. (aim : Aim) → Serves aim job → TurnServes aim turn) }
         ensures falls { IfOk result (λ turn. Falls (one_job self.old.llc job idle) turn self.new.llc) }
         ensures going { OnOk result (self.new.spent ≡ false) }
-        ensures err { IfErr result (λ e. IsCut C.seen C.swaps A.steps A.stops
+        ensures err { IfErr result (λ e. IsCut C.seen C.swaps A.steps A.stops count
             (ready (record { llc = self.old.llc; jobs = alone job; idle = idle })).llc
             carrier.old far.old e self.new.llc carrier.new far.new) }
         ensures spent { IfErr result (λ e. self.new.spent ≡ is_memory e) }
@@ -114,7 +117,7 @@ impl Client {
             Err(fault) => return Err(fault),
             Ok(now) => now,
         };
-        let gave = match self.exchange(carrier, far) {
+        let gave = match self.exchange(carrier, far, count) {
             Err(fault) => return Err(fault),
             Ok(gave) => gave,
         };
@@ -130,24 +133,26 @@ impl Client {
         &mut self,
         carrier: &mut C,
         far: &mut A,
+        counts: Counts,
         first: Job,
     ) -> Result<Ending, SnepFault>
         requires ready { C.ready carrier.old }
         requires going { self.old.spent ≡ false }
-        ensures ok { IfOk result (λ ending. Talks C.seen C.swaps A.steps A.stops (begun self.old.llc first)
+        ensures ok { IfOk result (λ ending. Talks C.seen C.swaps A.steps A.stops counts (begun self.old.llc first)
             carrier.old far.old (Ends (alone (Over ending)) self.new.llc) carrier.new far.new) }
         ensures aim { IfOk result (λ ending. IsOf (aim_of first) ending) }
         ensures going { OnOk result (self.new.spent ≡ false) }
-        ensures err { IfErr result (λ e. FailsBy C.seen C.swaps A.steps A.stops (begun self.old.llc first)
+        ensures err { IfErr result (λ e. FailsBy C.seen C.swaps A.steps A.stops counts (begun self.old.llc first)
             carrier.old far.old e self.new.llc carrier.new far.new) }
         ensures spent { IfErr result (λ e. self.new.spent ≡ is_memory e) }
         ensures ready { C.ready carrier.new }
         ensures same { C.lenders carrier.new ≡ C.lenders carrier.old }
     {
+        let mut left = counts;
         let mut job = first;
         let mut idle = 0;
         'turns: while idle < MOST_IDLE {
-            match self.turn(carrier, far, job, idle) {
+            match self.turn(carrier, far, left.next(), job, idle) {
                 Err(fault) => return Err(fault),
                 Ok(Turn::Ended(ending)) => return Ok(ending),
                 Ok(Turn::GaveUp) => return Err(SnepFault::BadPeer),
