@@ -62,7 +62,7 @@ pub record Joins : Type 0 where
   pub own : List ℕ
   pub far : List ℕ
 
--- none in either
+-- as many as fit in each
 abbrev pub no_joins : Joins
 no_joins = record { own = []; far = [] }
 

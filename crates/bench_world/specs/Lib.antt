@@ -12,6 +12,7 @@ pub mod Inbox
 pub mod Arriving
 pub mod Legal
 pub mod Obeying
+pub mod LinkTaken
 pub mod LinkedAt
 pub mod Behind
 pub mod Completing

@@ -7,11 +7,11 @@ use Rattle.air_core.specs.Conversation.{Over, receptions}
 use Rattle.bench_world.specs.declared.bench.ObeyFault.{ObeyFault}
 use Rattle.bench_world.specs.declared.bench.ObeyFault.TheVariants as faults
 use Rattle.bench_script.specs.declared.command.Command.{Command}
-use Rattle.bench_script.specs.declared.command.Command.TheVariants.{Skip}
+use Rattle.bench_script.specs.declared.command.Command.TheVariants.{Get, Lookup, Put, Skip, Unlink}
 use Rattle.bench_devices.specs.declared.device.Device.{Device}
 use Rattle.bench_world.specs.declared.entry.Answer.{Answer}
 use Rattle.bench_world.specs.declared.entry.Entry.{Entry}
-use Rattle.bench_world.specs.Legal.{State, Given, Accepts, AnswerLaw, FrontOf, LegalStep, CutFront, CutOff, due, first_state}
+use Rattle.bench_world.specs.Legal.{State, Given, Joins, Accepts, AnswerLaw, FrontOf, LegalStep, CutFront, CutOff, due, first_state, no_joins}
 use Rattle.bench_devices.specs.Keeping.{AreTame, kept}
 use Rattle.bench_devices.specs.Phases.{AreTidy, IsIdle}
 use Rattle.bench_devices.specs.Device.{device_darkened}
@@ -114,9 +114,10 @@ link_ended m = record { air = m.air; ends = m.ends; peers = ended m.link m.ends 
 abbrev pub RefusedOnly : {X : Type 0} → Result X ObeyFault → Machines → Command → Type 0
 RefusedOnly r m c = IsErrOf r faults.Refused → Accepts (state_at m) c → ⊥
 
--- A command was obeyed with this answer; its events are the trace.
-pub record Obeyed (old new : Machines) (c : Command) (answer : Answer) : Type 0 where
+-- A command was obeyed with this answer; its events are the trace. So many PDUs stand in each payload of the ends of a link.
+pub record ObeyedBy (joins : Joins) (old new : Machines) (c : Command) (answer : Answer) : Type 0 where
   pub given : Given
+  pub joined : given.joins ≡ joins
   pub front : FrontOf (state_at old) given c new.air.trace (Some answer) (state_at new)
   pub over : due (state_at old) given c (receptions new.air.trace) ≡ Over
   pub answered : AnswerLaw (state_at old) given c new.air.trace answer
@@ -124,6 +125,18 @@ pub record Obeyed (old new : Machines) (c : Command) (answer : Answer) : Type 0 
   pub tidy : AreTidy new.air.listeners
   pub places : HasPlaces new
   pub link : KeepsLink new
+
+-- the numbers that a command takes of these: any on the open link, and none else
+abbrev pub joins_for : Command → Joins → Joins
+joins_for (Put message) joins = joins
+joins_for (Get most key) joins = joins
+joins_for (Lookup name) joins = joins
+joins_for Unlink joins = joins
+joins_for c joins = no_joins
+
+-- ... as many as fit
+abbrev pub Obeyed : Machines → Machines → Command → Answer → Type 0
+Obeyed = ObeyedBy no_joins
 
 -- It was cut off by want of memory.
 abbrev pub IsCutOff : Machines → Machines → Command → Type 0
@@ -158,7 +171,8 @@ pub record Benched : Type 0 where
 abbrev pub new_bench : Benched
 new_bench = record { journal = []; state = first_state; cut = []; spoiled = false }
 
--- The journal gained one entry of this line and command, and the machines are in the state that its step leads to.
+-- The journal gained one entry of this line and command, and the machines are in the state that its step leads to. As many PDUs as fit
+-- were joined in each payload.
 pub record Adds (old new : Benched) (line : ℕ) (c : Command) : Type 0 where
   pub sound : old.spoiled ≡ false
   pub entry : Entry
@@ -167,6 +181,7 @@ pub record Adds (old new : Benched) (line : ℕ) (c : Command) : Type 0 where
   pub is : new ≡ record old { journal = old.journal ++ entry ∷ []; state = state }
   pub numbered : entry.line ≡ line
   pub asked : entry.command ≡ c
+  pub joined : given.joins ≡ no_joins
   pub legal : LegalStep old.state given entry state
 
 -- What obeying a line does: it adds one entry, and none where the line asks for nothing.

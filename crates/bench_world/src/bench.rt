@@ -7,13 +7,14 @@ ghost use Rattle.bench_devices.specs.Device.{device_tech};
 ghost use Rattle.bench_world.specs.Legal.{Accepts, memory_of};
 ghost use Rattle.bench_devices.specs.Device.{most_devices};
 ghost use Rattle.bench_devices.specs.Placed.{device_with};
-ghost use Rattle.bench_world.specs.Obeying.{Obeys, Obeyed, IsSettled, IsCutOff, RefusedOnly, ObeyedBelow, RefusedBelow, LacksMemory, FieldOf, FarAt, new_bench, obey_fault_number};
+ghost use Rattle.bench_world.specs.Obeying.{Obeys, Obeyed, ObeyedBy, IsSettled, IsCutOff, RefusedOnly, ObeyedBelow, RefusedBelow, LacksMemory, FieldOf, FarAt, new_bench, joins_for, obey_fault_number};
 ghost use Rattle.bench_world.specs.Links.{OpenLink};
 ghost use Rattle.bench_devices.specs.Phases.{IsIdle};
 
 use crate::asking::{find, read_tag, write_message};
 use crate::calling::{get, lookup, put, unlink};
 use crate::entry::{Answer, Entry};
+use crate::joins::Joins;
 use crate::linking::link;
 use crate::machines::Machines;
 use crate::peers::{inbox, offer_value, place_peer};
@@ -278,15 +279,16 @@ fn add_fates(field: &mut Field<Device>, fates: &[Fate]) -> Result<Answer, ObeyFa
     }
 }
 
-/// Does what a command asks.
+/// Does what a command asks. On the open link so many PDUs stand in each payload.
 fn run_command(
     alloc: Global,
     machines: &mut Machines,
     command: &Command,
+    joins: Joins,
 ) -> Result<Answer, ObeyFault>
     requires idle { IsSettled machines.old }
     requires asks { command.now ≢ Command.Skip }
-    ensures ok { IfOk result (λ a. Obeyed machines.old machines.new command.now a) }
+    ensures ok { IfOk result (λ a. ObeyedBy (joins_for command.now joins) machines.old machines.new command.now a) }
     ensures refused { IsErrOf result ObeyFault.Refused → (machines.new ≡ machines.old) }
     ensures cause { RefusedOnly result machines.old command.now }
     ensures cut { IsErrOf result ObeyFault.Memory → IsCutOff machines.old machines.new command.now }
@@ -335,10 +337,10 @@ fn run_command(
         Command::Read { id } => read_tag(alloc, machines, id),
         Command::Write { id, message } => write_message(alloc, machines, id, message),
         Command::Link { id, miu, rw } => link(alloc, machines, id, *miu, *rw),
-        Command::Put { message } => put(alloc, machines, message),
-        Command::Get { acceptable, key } => get(machines, *acceptable, key.as_slice()),
-        Command::Lookup { name } => lookup(machines, name.as_slice()),
-        Command::Unlink => unlink(machines),
+        Command::Put { message } => put(alloc, machines, joins, message),
+        Command::Get { acceptable, key } => get(machines, joins, *acceptable, key.as_slice()),
+        Command::Lookup { name } => lookup(machines, joins, name.as_slice()),
+        Command::Unlink => unlink(machines, joins),
     }
 }
 
@@ -452,7 +454,8 @@ impl Bench {
             self.spoiled = true;
             return Err(ObeyFault::Memory);
         }
-        match run_command(self.alloc, &mut self.machines, command) {
+        let joins = Joins::most(self.alloc);
+        match run_command(self.alloc, &mut self.machines, command, joins) {
             Ok(answer) => {
                 let events = Items::new(self.machines.take_trace());
                 record_entry(

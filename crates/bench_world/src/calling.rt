@@ -1,7 +1,7 @@
 //! The commands on the open link: its client puts a message to the server of the link's peer, gets a value of it, or asks
-//! where a service is; and the link is closed.
+//! where a service is; and the link is closed. Each takes how many PDUs stand in the payloads of both ends.
 
-ghost use Rattle.std.specs.Prelude.{◌≡◌, ◌↔◌, ◌≤◌, IsTrue, ◌<◌, ◌⊎◌, length, get_or, None, IfOk, OnErr, IsErrOf, MatchOption};
+ghost use Rattle.std.specs.Prelude.{◌≡◌, ◌↔◌, ◌≤◌, IsTrue, ◌<◌, ◌⊎◌, length, None, IfOk, IfSome, OnErr, IsErrOf, MatchOption};
 ghost use Rattle.std.specs.Char.{is_ascii_graphic};
 ghost use Rattle.std.specs.List.{list_all};
 ghost use Rattle.nfc_base.specs.declared.carrier.EndCause.TheVariants as causes;
@@ -10,17 +10,19 @@ ghost use Rattle.bench_script.specs.Messages.{message_of};
 ghost use Rattle.bench_script.specs.Script.{SpellsName, longest_message};
 ghost use Rattle.bench_world.specs.Calls.{told_loss};
 ghost use Rattle.bench_world.specs.Legal.{MayGet};
-ghost use Rattle.bench_world.specs.Links.{accepted_by, with_last_ended};
-ghost use Rattle.bench_world.specs.Obeying.{IsSettled, Obeyed, IsCutOff, RefusedOnly};
+ghost use Rattle.bench_world.specs.LinkTaken.{TakesLink, put_back, put_down};
+ghost use Rattle.bench_world.specs.Obeying.{IsSettled, ObeyedBy, IsCutOff, RefusedOnly};
 ghost use Rattle.std.specs.Prelude.{Some};
 
 use crate::bench::ObeyFault;
 use crate::entry::{Answer, Loss};
+use crate::joins::Joins;
 use crate::machines::{Link, Machines, accepted_above, end_last, place_numbered};
 use bench_script::{Command, Msg};
 use link_calls::{close_and_release, get_on, lookup_on, put_on};
+use llcp_link::{Counted, Counts};
 use nfc_base::{EndCause, Items};
-use snep_core::SnepFault;
+use snep_core::{Server, SnepFault};
 use std::alloc::{AllocError, Global};
 
 /// The longest message (NFC Forum SNEP 1.0 has no limit; this one is this project's own).
@@ -41,63 +43,81 @@ fn lost(cause: EndCause) -> Answer
     }
 }
 
-/// The range of the link that was open goes to the present end of what the server at a place accepted.
-fn end_range(machines: &mut Machines, place: usize)
-    requires { place < length machines.old.ends }
-    ensures { machines.new ≡ record machines.old {
-      peers = with_last_ended (accepted_by (get_or machines.old.ends place None)) machines.old.peers;
-    } }
+/// The open link and its peer's end, which stands at that place, taken out of the machines for a command.
+struct OnLink {
+    place: usize,
+    link: Link,
+    far: Counted<Server>,
+}
+
+/// Takes the open link, where there is one, and its peer's end, of which each payload has so many PDUs.
+fn take_link(machines: &mut Machines, counts: Counts) -> Option<OnLink>
+    requires { IsSettled machines.old }
+    ensures none { result ≡ None → (machines.old.link ≡ None) × (machines.new ≡ machines.old) }
+    ensures some { IfSome result (λ on. TakesLink machines.old on.place on.link on.far.end machines.new) }
+    ensures counts { IfSome result (λ on. on.far.numbers ≡ counts) }
 {
-    let end = accepted_above(&machines.ends[place]);
+    let link = machines.link.take()?;
+    let Some(place) = place_numbered(&machines.numbers, link.peer) else {
+        unreachable!()
+    };
+    let Some(end) = machines.ends[place].take() else {
+        unreachable!()
+    };
+    Some(OnLink {
+        place,
+        link,
+        far: Counted::new(end, counts),
+    })
+}
+
+/// Puts the link and its peer's end back: the link stays open.
+fn put_back(machines: &mut Machines, on: OnLink)
+    requires { on.place < length machines.old.ends }
+    ensures { machines.new ≡ put_back machines.old on.place on.far.end on.link }
+{
+    machines.ends[on.place] = Some(on.far.into_end());
+    machines.link = Some(on.link);
+}
+
+/// Puts the peer's end back: the link is over, and its range goes to the present end of what the peer's server accepted.
+fn put_down(machines: &mut Machines, on: OnLink)
+    requires { on.place < length machines.old.ends }
+    ensures { machines.new ≡ put_down machines.old on.place on.far.end }
+{
+    machines.ends[on.place] = Some(on.far.into_end());
+    let end = accepted_above(&machines.ends[on.place]);
     end_last(&mut machines.links, end);
 }
 
 /// Puts these bytes to the server of the link's peer, where a link is open.
-fn put_bytes(machines: &mut Machines, bytes: &[u8]) -> Result<Answer, AllocError>
+fn put_bytes(machines: &mut Machines, joins: Joins, bytes: &[u8]) -> Result<Answer, AllocError>
     requires settled { IsSettled machines.old }
     requires size { length bytes.now ≤ 65536 }
     ensures ok { IfOk result (λ a. (m : Msg) → message_of m ≡ bytes.now
-        → Obeyed machines.old machines.new (Command.Put m) a) }
+        → ObeyedBy joins machines.old machines.new (Command.Put m) a) }
     ensures cut { OnErr result ((m : Msg) → message_of m ≡ bytes.now
         → IsCutOff machines.old machines.new (Command.Put m)) }
 {
-    let Some(link) = machines.link.take() else {
+    let Some(mut on) = take_link(machines, joins.far) else {
         return Ok(Answer::NoLink);
     };
-    let Link {
-        peer,
-        mut initiator,
-        mut client,
-    } = link;
-    let Some(place) = place_numbered(&machines.numbers, peer) else {
-        unreachable!()
-    };
-    let Some(far) = &mut machines.ends[place] else {
-        unreachable!()
-    };
-    match put_on(&mut machines.field, &mut initiator, &mut client, far, bytes) {
+    let Link { initiator, client, .. } = &mut on.link;
+    match put_on(&mut machines.field, initiator, client, &mut on.far, joins.own, bytes) {
         Ok(()) => {
-            machines.link = Some(Link {
-                peer,
-                initiator,
-                client,
-            });
+            put_back(machines, on);
             Ok(Answer::Success)
         }
         Err(SnepFault::Reject) => {
-            machines.link = Some(Link {
-                peer,
-                initiator,
-                client,
-            });
+            put_back(machines, on);
             Ok(Answer::Reject)
         }
         Err(SnepFault::LinkEnded(cause)) => {
-            end_range(machines, place);
+            put_down(machines, on);
             Ok(lost(cause))
         }
         Err(SnepFault::Memory) => {
-            end_range(machines, place);
+            put_down(machines, on);
             Err(AllocError)
         }
         Err(SnepFault::NotFound) => unreachable!(),
@@ -118,9 +138,9 @@ fn is_too_long(message: &Msg) -> bool
 }
 
 /// Puts a message to the server of the link's peer.
-pub fn put(alloc: Global, machines: &mut Machines, message: &Msg) -> Result<Answer, ObeyFault>
+pub fn put(alloc: Global, machines: &mut Machines, joins: Joins, message: &Msg) -> Result<Answer, ObeyFault>
     requires { IsSettled machines.old }
-    ensures ok { IfOk result (λ a. Obeyed machines.old machines.new (Command.Put message.now) a) }
+    ensures ok { IfOk result (λ a. ObeyedBy joins machines.old machines.new (Command.Put message.now) a) }
     ensures refused { IsErrOf result ObeyFault.Refused → (machines.new ≡ machines.old) }
     ensures cause { RefusedOnly result machines.old (Command.Put message.now) }
     ensures cut { IsErrOf result ObeyFault.Memory → IsCutOff machines.old machines.new (Command.Put message.now) }
@@ -131,87 +151,58 @@ pub fn put(alloc: Global, machines: &mut Machines, message: &Msg) -> Result<Answ
     let Ok(bytes) = message.bytes(alloc) else {
         return Err(ObeyFault::Memory);
     };
-    match put_bytes(machines, &bytes) {
+    match put_bytes(machines, joins, &bytes) {
         Ok(answer) => Ok(answer),
         Err(_) => Err(ObeyFault::Memory),
     }
 }
 
 /// Gets the value of a key of the server of the link's peer, where a link is open.
-fn get_value(machines: &mut Machines, acceptable: u32, key: &[u8]) -> Result<Answer, AllocError>
+fn get_value(machines: &mut Machines, joins: Joins, acceptable: u32, key: &[u8]) -> Result<Answer, AllocError>
     requires settled { IsSettled machines.old }
     requires may { MayGet acceptable key.now }
-    ensures ok { IfOk result (λ a. Obeyed machines.old machines.new (Command.Get acceptable key.now) a) }
+    ensures ok { IfOk result (λ a. ObeyedBy joins machines.old machines.new (Command.Get acceptable key.now) a) }
     ensures cut { OnErr result (IsCutOff machines.old machines.new (Command.Get acceptable key.now)) }
 {
-    let Some(link) = machines.link.take() else {
+    let Some(mut on) = take_link(machines, joins.far) else {
         return Ok(Answer::NoLink);
     };
-    let Link {
-        peer,
-        mut initiator,
-        mut client,
-    } = link;
-    let Some(place) = place_numbered(&machines.numbers, peer) else {
-        unreachable!()
-    };
-    let Some(far) = &mut machines.ends[place] else {
-        unreachable!()
-    };
+    let Link { initiator, client, .. } = &mut on.link;
     match get_on(
         &mut machines.field,
-        &mut initiator,
-        &mut client,
-        far,
+        initiator,
+        client,
+        &mut on.far,
+        joins.own,
         acceptable,
         key,
     ) {
         Ok(value) => {
-            machines.link = Some(Link {
-                peer,
-                initiator,
-                client,
-            });
+            put_back(machines, on);
             Ok(Answer::Value(Items::new(value)))
         }
         Err(SnepFault::Reject) => {
-            machines.link = Some(Link {
-                peer,
-                initiator,
-                client,
-            });
+            put_back(machines, on);
             Ok(Answer::Reject)
         }
         Err(SnepFault::NotFound) => {
-            machines.link = Some(Link {
-                peer,
-                initiator,
-                client,
-            });
+            put_back(machines, on);
             Ok(Answer::NoValue)
         }
         Err(SnepFault::Excess) => {
-            machines.link = Some(Link {
-                peer,
-                initiator,
-                client,
-            });
+            put_back(machines, on);
             Ok(Answer::Excess)
         }
         Err(SnepFault::NotImplemented) => {
-            machines.link = Some(Link {
-                peer,
-                initiator,
-                client,
-            });
+            put_back(machines, on);
             Ok(Answer::NotImplemented)
         }
         Err(SnepFault::LinkEnded(cause)) => {
-            end_range(machines, place);
+            put_down(machines, on);
             Ok(lost(cause))
         }
         Err(SnepFault::Memory) => {
-            end_range(machines, place);
+            put_down(machines, on);
             Err(AllocError)
         }
         Err(SnepFault::BadPeer) => unreachable!(),
@@ -219,9 +210,9 @@ fn get_value(machines: &mut Machines, acceptable: u32, key: &[u8]) -> Result<Ans
 }
 
 /// Gets a value of at most so many bytes from the server of the link's peer.
-pub fn get(machines: &mut Machines, acceptable: u32, key: &[u8]) -> Result<Answer, ObeyFault>
+pub fn get(machines: &mut Machines, joins: Joins, acceptable: u32, key: &[u8]) -> Result<Answer, ObeyFault>
     requires { IsSettled machines.old }
-    ensures ok { IfOk result (λ a. Obeyed machines.old machines.new (Command.Get acceptable key.now) a) }
+    ensures ok { IfOk result (λ a. ObeyedBy joins machines.old machines.new (Command.Get acceptable key.now) a) }
     ensures refused { IsErrOf result ObeyFault.Refused → (machines.new ≡ machines.old) }
     ensures cause { RefusedOnly result machines.old (Command.Get acceptable key.now) }
     ensures cut { IsErrOf result ObeyFault.Memory → IsCutOff machines.old machines.new (Command.Get acceptable key.now) }
@@ -229,7 +220,7 @@ pub fn get(machines: &mut Machines, acceptable: u32, key: &[u8]) -> Result<Answe
     if acceptable as usize > LONGEST_MESSAGE || key.len() > LONGEST_MESSAGE {
         return Err(ObeyFault::Refused);
     }
-    match get_value(machines, acceptable, key) {
+    match get_value(machines, joins, acceptable, key) {
         Ok(answer) => Ok(answer),
         Err(_) => Err(ObeyFault::Memory),
     }
@@ -258,41 +249,27 @@ fn service_name(bytes: &[u8]) -> Option<&str>
 }
 
 /// Looks up a name at the link's peer, where a link is open.
-fn lookup_name(machines: &mut Machines, name: &str) -> Result<Answer, AllocError>
+fn lookup_name(machines: &mut Machines, joins: Joins, name: &str) -> Result<Answer, AllocError>
     requires settled { IsSettled machines.old }
     requires may { SpellsName name.now name.now }
-    ensures ok { IfOk result (λ a. Obeyed machines.old machines.new (Command.Lookup name.now) a) }
+    ensures ok { IfOk result (λ a. ObeyedBy joins machines.old machines.new (Command.Lookup name.now) a) }
     ensures cut { OnErr result (IsCutOff machines.old machines.new (Command.Lookup name.now)) }
 {
-    let Some(link) = machines.link.take() else {
+    let Some(mut on) = take_link(machines, joins.far) else {
         return Ok(Answer::NoLink);
     };
-    let Link {
-        peer,
-        mut initiator,
-        mut client,
-    } = link;
-    let Some(place) = place_numbered(&machines.numbers, peer) else {
-        unreachable!()
-    };
-    let Some(far) = &mut machines.ends[place] else {
-        unreachable!()
-    };
-    match lookup_on(&mut machines.field, &mut initiator, &mut client, far, name) {
+    let Link { initiator, client, .. } = &mut on.link;
+    match lookup_on(&mut machines.field, initiator, client, &mut on.far, joins.own, name) {
         Ok(sap) => {
-            machines.link = Some(Link {
-                peer,
-                initiator,
-                client,
-            });
+            put_back(machines, on);
             Ok(Answer::Sap(sap))
         }
         Err(SnepFault::LinkEnded(cause)) => {
-            end_range(machines, place);
+            put_down(machines, on);
             Ok(lost(cause))
         }
         Err(SnepFault::Memory) => {
-            end_range(machines, place);
+            put_down(machines, on);
             Err(AllocError)
         }
         Err(SnepFault::Reject) => unreachable!(),
@@ -304,9 +281,9 @@ fn lookup_name(machines: &mut Machines, name: &str) -> Result<Answer, AllocError
 }
 
 /// Looks up at which SAP the link's peer has the service of this name.
-pub fn lookup(machines: &mut Machines, name: &[u8]) -> Result<Answer, ObeyFault>
+pub fn lookup(machines: &mut Machines, joins: Joins, name: &[u8]) -> Result<Answer, ObeyFault>
     requires { IsSettled machines.old }
-    ensures ok { IfOk result (λ a. Obeyed machines.old machines.new (Command.Lookup name.now) a) }
+    ensures ok { IfOk result (λ a. ObeyedBy joins machines.old machines.new (Command.Lookup name.now) a) }
     ensures refused { IsErrOf result ObeyFault.Refused → (machines.new ≡ machines.old) }
     ensures cause { RefusedOnly result machines.old (Command.Lookup name.now) }
     ensures cut { IsErrOf result ObeyFault.Memory → IsCutOff machines.old machines.new (Command.Lookup name.now) }
@@ -314,43 +291,33 @@ pub fn lookup(machines: &mut Machines, name: &[u8]) -> Result<Answer, ObeyFault>
     let Some(service) = service_name(name) else {
         return Err(ObeyFault::Refused);
     };
-    match lookup_name(machines, service) {
+    match lookup_name(machines, joins, service) {
         Ok(answer) => Ok(answer),
         Err(_) => Err(ObeyFault::Memory),
     }
 }
 
 /// Ends the client's connection and releases the link, where a link is open.
-fn close(machines: &mut Machines) -> Result<Answer, AllocError>
+fn close(machines: &mut Machines, joins: Joins) -> Result<Answer, AllocError>
     requires { IsSettled machines.old }
-    ensures ok { IfOk result (λ a. Obeyed machines.old machines.new Command.Unlink a) }
+    ensures ok { IfOk result (λ a. ObeyedBy joins machines.old machines.new Command.Unlink a) }
     ensures cut { OnErr result (IsCutOff machines.old machines.new Command.Unlink) }
 {
-    let Some(link) = machines.link.take() else {
+    let Some(mut on) = take_link(machines, joins.far) else {
         return Ok(Answer::NoLink);
     };
-    let Link {
-        peer,
-        mut initiator,
-        mut client,
-    } = link;
-    let Some(place) = place_numbered(&machines.numbers, peer) else {
-        unreachable!()
-    };
-    let Some(far) = &mut machines.ends[place] else {
-        unreachable!()
-    };
-    match close_and_release(&mut machines.field, &mut initiator, &mut client, far) {
+    let Link { initiator, client, .. } = &mut on.link;
+    match close_and_release(&mut machines.field, initiator, client, &mut on.far, joins.own) {
         Ok(()) => {
-            end_range(machines, place);
+            put_down(machines, on);
             Ok(Answer::Unlinked)
         }
         Err(SnepFault::LinkEnded(cause)) => {
-            end_range(machines, place);
+            put_down(machines, on);
             Ok(lost(cause))
         }
         Err(SnepFault::Memory) => {
-            end_range(machines, place);
+            put_down(machines, on);
             Err(AllocError)
         }
         Err(SnepFault::Reject) => unreachable!(),
@@ -362,13 +329,13 @@ fn close(machines: &mut Machines) -> Result<Answer, AllocError>
 }
 
 /// Closes the open link.
-pub fn unlink(machines: &mut Machines) -> Result<Answer, ObeyFault>
+pub fn unlink(machines: &mut Machines, joins: Joins) -> Result<Answer, ObeyFault>
     requires { IsSettled machines.old }
-    ensures ok { IfOk result (λ a. Obeyed machines.old machines.new Command.Unlink a) }
+    ensures ok { IfOk result (λ a. ObeyedBy joins machines.old machines.new Command.Unlink a) }
     ensures cut { OnErr result (IsCutOff machines.old machines.new Command.Unlink) }
     ensures never { IsErrOf result ObeyFault.Refused → ⊥ }
 {
-    match close(machines) {
+    match close(machines, joins) {
         Ok(answer) => Ok(answer),
         Err(_) => Err(ObeyFault::Memory),
     }

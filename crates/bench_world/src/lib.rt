@@ -1,7 +1,7 @@
 //! A bench: devices in a field, and the journal of the commands that it obeyed.
 //!
 //! `bench` obeys commands, those that ask the devices something by `asking`, those of peers by `peers`; `machines` are the
-//! field with its devices and the far ends above them, and `inbox` tells what such an end accepted, by its links. `entry`
+//! field with its devices and the far ends above them, `joins` how many PDUs stand in payloads, and `inbox` tells what such an end accepted, by its links. `entry`
 //! is what the journal keeps of a command, `answering` makes its answer of what selecting, reading, writing and searching
 //! came to. `event_lines` and `pieces` turn an entry to text in pieces that `fixed_text` fills, without memory, and
 //! `report` joins them. `specs/Legal.antt` says which entries a bench may have, `specs/Journal.antt` which journals the
@@ -18,6 +18,7 @@ mod entry;
 mod event_lines;
 mod fixed_text;
 mod inbox;
+mod joins;
 mod law;
 mod linking;
 mod machines;

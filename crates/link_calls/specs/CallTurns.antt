@@ -1,6 +1,7 @@
 -- A client's call over a link to a peer, in the world with far ends: each request was due by what was heard before it (NFCIP-1, ISO/IEC
 -- 18092; NFC Forum SNEP 1.0; the air is this project's own).
 use Rattle.std.specs.Prelude.{◌≡◌, ◌⊎◌, ℕ, List, Bool, true, Option, None}
+use Rattle.nfc_base.specs.Choosing.{Choosing}
 use Rattle.nfc_base.specs.Signal.{Signal}
 use Rattle.nfc_base.specs.Links.{CarrierView, FarStep}
 use Rattle.nfc_base.specs.declared.event.Event.TheVariants.{Request}
@@ -18,7 +19,7 @@ use Rattle.far_air.specs.FarTurns.{FarGoing}
 use Rattle.peer_air.specs.SwapTurns.{Stands}
 use Rattle.snep_core.specs.declared.fault.SnepFault.{SnepFault}
 use Rattle.snep_core.specs.declared.fault.SnepFault.TheVariants.{LinkEnded, Memory}
-use Rattle.snep_core.specs.Talk.{EndState, Step}
+use Rattle.snep_core.specs.Talk.{EndState, Step, numbers_behind}
 use Rattle.snep_core.specs.Calling.{Talks, Breaks}
 use Rattle.link_calls.specs.CallDue.{CallStanding, BrokenBy, Strays, call_at, call_stand, call_due, call_due_at}
 
@@ -33,18 +34,17 @@ swaps k target see a out did b = dep_swaps k target (see a) out did (see b)
 module _ {L F : Type 0} (k : Ghosts L) (target : L → TargetState) (linked : L → Bool) (t : FarTable F) where
   -- From one moment of a field to another the requests of a call were made, with these numbers of PDUs: each was due, this was heard, and
   -- it brought the call to where it stands.
-  pub record CallTurns (numbers : List ℕ) (from : Step) (i : InitState) (old new : Air L) (place : ℕ) (os : List (Option F)) (far after : F) (s : CallStanding) : Type 0 where
+  pub record CallTurns (numbers : List ℕ) (from : Step) (i : InitState) (old new : Air L) (place : ℕ) (os : List (Option F)) (far after : Choosing F) (s : CallStanding) : Type 0 where
     pub notes : List Note
     pub going : FarGoing k.machine linked t (call_due numbers from i) (moment old) (moment new) notes place os far after
     pub stands : call_stand numbers from i notes ≡ s
 
   -- Behind such requests nothing more happened; or the request passed that was due, and the far end stopped for want of memory: nothing
   -- came back of it.
-  pub record CallFront (from : Step) (i : InitState) (old new : Air L) (place : ℕ) (os : List (Option F)) (far after : F) : Type 0 where
-    pub numbers : List ℕ
+  pub record CallFront (numbers : List ℕ) (from : Step) (i : InitState) (old new : Air L) (place : ℕ) (os : List (Option F)) (far after : Choosing F) : Type 0 where
     pub standing : CallStanding
     pub mid : Air L
-    pub half : F
+    pub half : Choosing F
     pub turns : CallTurns numbers from i old mid place os far half standing
     pub under_way : standing ≡ Strays → ⊥
     pub left : ((new ≡ mid) × (after ≡ half))
@@ -52,28 +52,27 @@ module _ {L F : Type 0} (k : Ghosts L) (target : L → TargetState) (linked : L 
         × (new ≡ after_event mid (Request sent Pass) (later_fates mid.fates) (record { lit = true; listeners = listeners })))
 
   -- how a call was cut off: by its link, or by want of memory
-  abbrev pub CutBy : Step → InitState → Air L → Air L → ℕ → List (Option F) → F → F → SnepFault → Type 0
-  CutBy from i old new place os far after (LinkEnded cause.FieldLost) =
-      (numbers : List ℕ) × CallTurns numbers from i old new place os far after (BrokenBy cause.FieldLost)
-  CutBy from i old new place os far after (LinkEnded cause.SixBad) =
-      (numbers : List ℕ) × CallTurns numbers from i old new place os far after (BrokenBy cause.SixBad)
-  CutBy from i old new place os far after (LinkEnded cause.Protocol) = ⊥
-  CutBy from i old new place os far after (LinkEnded cause.Memory) = ⊥
-  CutBy from i old new place os far after Memory = CallFront from i old new place os far after
-  CutBy from i old new place os far after _ = ⊥
+  abbrev pub CutBy : List ℕ → Step → InitState → Air L → Air L → ℕ → List (Option F) → Choosing F → Choosing F → SnepFault → Type 0
+  CutBy numbers from i old new place os far after (LinkEnded cause.FieldLost) = CallTurns numbers from i old new place os far after (BrokenBy cause.FieldLost)
+  CutBy numbers from i old new place os far after (LinkEnded cause.SixBad) = CallTurns numbers from i old new place os far after (BrokenBy cause.SixBad)
+  CutBy numbers from i old new place os far after (LinkEnded cause.Protocol) = ⊥
+  CutBy numbers from i old new place os far after (LinkEnded cause.Memory) = ⊥
+  CutBy numbers from i old new place os far after Memory = CallFront numbers from i old new place os far after
+  CutBy numbers from i old new place os far after _ = ⊥
 
-  module _ {C A : Type 0} (see : C → DepSeen L) (restarts : A → List ℕ → A → Type 0) (steps : A → List ℕ → List ℕ → A → Type 0) (stops : A → List ℕ → A → Type 0) (view : A → F) where
-    -- What a call did over a link to a peer, with what the far end did, is that: it goes on from any numbers that are left.
+  module _ {C A : Type 0} (see : C → DepSeen L) (restarts : A → List ℕ → A → Type 0) (steps : A → List ℕ → List ℕ → A → Type 0) (stops : A → List ℕ → A → Type 0) (view : A → Choosing F) where
+    -- What a call did over a link to a peer, with what the far end did, is that: it goes on from the numbers that are left.
     abbrev pub TalksFar : Type 0
     TalksFar = IsLinked k.machine linked → IsFarTable t → IsOfTable restarts steps t view
-        → (from to : Step) (a b : C) (far after : A) → Talks (sees see) (swaps k target see) steps stops from a far to b after → (see a).over ≡ None
-        → (place : ℕ) → Stands k target linked t (see a).air place → (os : List (Option F)) (rest : List ℕ)
-        → ((numbers : List ℕ) × CallTurns numbers from (see a).initiator (see a).air (see b).air place os (view far) (view after)
-        (call_at rest to (see b).initiator)) × Stands k target linked t (see b).air place
+        → (numbers : List ℕ) (from to : Step) (a b : C) (far after : A) → (x : Talks (sees see) (swaps k target see) steps stops numbers from a far to b after) → (see a).over ≡ None
+        → (place : ℕ) → Stands k target linked t (see a).air place → (os : List (Option F))
+        → CallTurns numbers from (see a).initiator (see a).air (see b).air place os (view far) (view after)
+        (call_at (numbers_behind x.did numbers) to (see b).initiator) × Stands k target linked t (see b).air place
 
     -- and so where it was cut off
     abbrev pub BreaksFar : Type 0
     BreaksFar = IsLinked k.machine linked → IsFarTable t → IsOfTable restarts steps t view
-        → (from : Step) (a b : C) (far after : A) (e : SnepFault) (new : EndState) → Breaks (sees see) (swaps k target see) steps stops from a far e new b after → (see a).over ≡ None
+        → (numbers : List ℕ) (from : Step) (a b : C) (far after : A) (e : SnepFault) (new : EndState)
+        → Breaks (sees see) (swaps k target see) steps stops numbers from a far e new b after → (see a).over ≡ None
         → (place : ℕ) → Stands k target linked t (see a).air place → (os : List (Option F))
-        → CutBy from (see a).initiator (see a).air (see b).air place os (view far) (view after) e
+        → CutBy numbers from (see a).initiator (see a).air (see b).air place os (view far) (view after) e

@@ -1,5 +1,6 @@
 -- What a client's call over the open link of a field does, and how it leaves the link (NFC Forum LLCP 1.3 and SNEP 1.0).
 use Rattle.std.specs.Prelude.{◌≡◌, ◌⊎◌, ℕ, ◌<◌, List, length, drop, Bool, true, Option, Some, None}
+use Rattle.nfc_base.specs.Choosing.{Choosing}
 use Rattle.nfc_base.specs.Trace.{noise}
 use Rattle.nfc_base.specs.declared.carrier.EndCause.{EndCause}
 use Rattle.nfc_base.specs.declared.carrier.EndCause.TheVariants as cause
@@ -44,13 +45,14 @@ module _ {L : Type 0} (k : Ghosts L) (target : L → TargetState) where
     pub setting : setting_of after ≡ setting_of far
 
   -- A call on an open link, from a moment of the field, its initiator and its peer's end to others.
-  module _ (from : Step) (old : Air L) (i : InitState) (far : PeerState) (new : Air L) (j : InitState) (after : PeerState) where
+  -- These numbers say how many PDUs each of its payloads has, and those that are left to the peer's end the same of its replies.
+  module _ (numbers : List ℕ) (from : Step) (old : Air L) (i : InitState) (far : Choosing PeerState) (new : Air L) (j : InitState) (after : Choosing PeerState) where
     -- In the world with the far ends of peers, at the place of this one, each of its requests was due, and what was heard brought it to
     -- where it stands so.
     abbrev pub CallComes : CallStanding → Type 0
     CallComes s =
         (linked : L → Bool) → IsLinked k.machine linked → (place : ℕ) → Stands k target linked peer_ends old place → (os : List (Option PeerState))
-        → (numbers : List ℕ) × CallTurns k target linked peer_ends numbers from i old new place os far after s
+        → CallTurns k target linked peer_ends numbers from i old new place os far after s
 
     -- It came to its end: what was heard tells how, and where the initiator rests. The link is open, and its peer stands where it stood.
     pub record IsMade (to : Step) : Type 0 where
@@ -58,19 +60,19 @@ module _ {L : Type 0} (k : Ghosts L) (target : L → TargetState) where
       pub turns : CallComes (Comes to j)
       pub there : (linked : L → Bool) → IsLinked k.machine linked → (place : ℕ) → Stands k target linked peer_ends old place
           → Stands k target linked peer_ends new place
-      pub carried : IsCarried old i far new j after None
+      pub carried : IsCarried old i far.end new j after.end None
 
     -- Its link ended by this cause. Six bad receptions have a transmission that didn't pass.
     pub record IsEndedBy (c : EndCause) : Type 0 where
       pub turns : CallComes (BrokenBy c)
-      pub carried : IsCarried old i far new j after (Some c)
+      pub carried : IsCarried old i far.end new j after.end (Some c)
       pub noisy : c ≡ cause.SixBad → 0 < noise (drop (length old.trace) new.trace)
 
     -- Memory was wanting: there is a front of it, and nothing that is set of the end changed.
     pub record IsCutShort : Type 0 where
       pub front : (linked : L → Bool) → IsLinked k.machine linked → (place : ℕ) → Stands k target linked peer_ends old place → (os : List (Option PeerState))
-          → CallFront k target linked peer_ends from i old new place os far after
-      pub setting : setting_of after ≡ setting_of far
+          → CallFront k target linked peer_ends numbers from i old new place os far after
+      pub setting : setting_of after.end ≡ setting_of far.end
 
     -- It was cut off, by its link or by want of memory.
     abbrev pub IsCutOff : SnepFault → Type 0

@@ -1,6 +1,7 @@
 -- A client's connection that is ended, and its link released, in the world with far ends (NFCIP-1, ISO/IEC 18092; NFC Forum LLCP 1.3;
 -- the air is this project's own).
 use Rattle.std.specs.Prelude.{◌≡◌, ◌⊎◌, ℕ, ◌<◌, List, length, drop, Bool, true, Option, Some, None}
+use Rattle.nfc_base.specs.Choosing.{Choosing}
 use Rattle.nfc_base.specs.Far.{Untouched}
 use Rattle.nfc_base.specs.Trace.{noise}
 use Rattle.nfc_base.specs.declared.event.Heard.{Heard}
@@ -15,7 +16,7 @@ use Rattle.air_core.specs.declared.listener.Listener.{Ghosts}
 use Rattle.dep_link.specs.Target.{TargetState}
 use Rattle.dep_link.specs.Initiator.{InitState}
 use Rattle.dep_link.specs.Releasing.{rls_frame}
-use Rattle.llcp_link.specs.Answering.{Answers}
+use Rattle.llcp_link.specs.Counting.{AnswersCounted, RestartsCounted}
 use Rattle.far_air.specs.FarEnds.{FarTable}
 use Rattle.far_air.specs.FarLaws.{IsLinked}
 use Rattle.far_air.specs.FarTurns.{FarGoing}
@@ -30,21 +31,20 @@ use Rattle.link_calls.specs.CallDue.{BrokenBy, Comes}
 use Rattle.link_calls.specs.Arriving.{Arrives}
 use Rattle.link_calls.specs.Calls.{IsCarried, IsMade}
 use Rattle.link_calls.specs.ClosingDue.{ClosingStanding, Calls, Released, closing_stand, closing_due, closing_due_at}
-use Rattle.link_calls.specs.Staying.{begins, setting_of}
+use Rattle.link_calls.specs.Staying.{setting_of}
 
 module _ {L F : Type 0} (k : Ghosts L) (linked : L → Bool) (t : FarTable F) where
   -- From one moment of a field to another the requests of a closing were made: each was due, and this was heard.
-  pub record ClosingTurns (numbers : List ℕ) (from : Step) (i : InitState) (old new : Air L) (place : ℕ) (os : List (Option F)) (far after : F) (s : ClosingStanding) : Type 0 where
+  pub record ClosingTurns (numbers : List ℕ) (from : Step) (i : InitState) (old new : Air L) (place : ℕ) (os : List (Option F)) (far after : Choosing F) (s : ClosingStanding) : Type 0 where
     pub notes : List Note
     pub going : FarGoing k.machine linked t (closing_due numbers from i) (moment old) (moment new) notes place os far after
     pub stands : closing_stand numbers from i notes ≡ s
 
   -- Behind such requests nothing more happened; or the request passed that was due, and the far end stopped for want of memory.
-  pub record ClosingFront (from : Step) (i : InitState) (old new : Air L) (place : ℕ) (os : List (Option F)) (far after : F) : Type 0 where
-    pub numbers : List ℕ
+  pub record ClosingFront (numbers : List ℕ) (from : Step) (i : InitState) (old new : Air L) (place : ℕ) (os : List (Option F)) (far after : Choosing F) : Type 0 where
     pub standing : ClosingStanding
     pub mid : Air L
-    pub half : F
+    pub half : Choosing F
     pub turns : ClosingTurns numbers from i old mid place os far half standing
     pub left : ((new ≡ mid) × (after ≡ half))
         ⊎ ((sent : Signal) × (listeners : List L) × (closing_due_at standing ≡ Asks sent) × (first_fate mid.fates ≡ Pass)
@@ -52,25 +52,25 @@ module _ {L F : Type 0} (k : Ghosts L) (linked : L → Bool) (t : FarTable F) wh
 
 module _ {L : Type 0} (k : Ghosts L) (target : L → TargetState) where
   -- a closing from a moment of the field, its initiator and its peer's end to others
-  module _ (from : Step) (old : Air L) (i : InitState) (far : PeerState) (new : Air L) (after : PeerState) where
+  module _ (numbers : List ℕ) (from : Step) (old : Air L) (i : InitState) (far : Choosing PeerState) (new : Air L) (after : Choosing PeerState) where
     -- It comes to where it stands so, in the world with the far ends of peers, at the place of this one.
     abbrev pub ClosingComes : ClosingStanding → Type 0
     ClosingComes s =
         (linked : L → Bool) → IsLinked k.machine linked → (place : ℕ) → Stands k target linked peer_ends old place → (os : List (Option PeerState))
-        → (numbers : List ℕ) × ClosingTurns k linked peer_ends numbers from i old new place os far after s
+        → ClosingTurns k linked peer_ends numbers from i old new place os far after s
 
-    -- Behind payloads that were swapped, as a call that came to its end, RLS_REQ was sent, and this was heard of it, none where the field was lost. Where no listener hands anything
-    -- over at it, the end stays: nothing more arrived.
+    -- Behind payloads that were swapped, as a call that came to its end, RLS_REQ was sent, and this was heard of it, none where the field was
+    -- lost. Where no listener hands anything over at it, the end stays: nothing more arrived.
     pub record SendsRls (heard : Option Heard) : Type 0 where
       pub mid : Air L
       pub rest : InitState
-      pub half : PeerState
-      pub carried : IsCarried k target old i far mid rest half None
+      pub half : Choosing PeerState
+      pub carried : IsCarried k target old i far.end mid rest half.end None
       pub to : Step
-      pub made : IsMade k target from old i far mid rest half to
-      pub turn : TurnIs k.machine begins (Answers serving) mid rls_frame half heard new after
+      pub made : IsMade k target numbers from old i far mid rest half to
+      pub turn : TurnIs k.machine (RestartsCounted serving) (AnswersCounted serving) mid rls_frame half heard new after
       pub same : ((l : L) → k.machine.handed l rls_frame ≡ Untouched) → after ≡ half
-      pub arrives : ((l : L) → k.machine.handed l rls_frame ≡ Untouched) → Arrives i.core.number (drop (length old.trace) new.trace) far after
+      pub arrives : ((l : L) → k.machine.handed l rls_frame ≡ Untouched) → Arrives i.core.number (drop (length old.trace) new.trace) far.end after.end
 
     -- The connection ended, and RLS_REQ was sent.
     pub record IsReleased (to : Step) : Type 0 where
@@ -81,14 +81,14 @@ module _ {L : Type 0} (k : Ghosts L) (target : L → TargetState) where
     -- The link ended by this cause, in the call or as RLS_REQ was sent. Six bad receptions have a transmission that didn't pass.
     pub record IsLost (j : InitState) (c : EndCause) : Type 0 where
       pub turns : ClosingComes (Calls (BrokenBy c))
-      pub how : IsCarried k target old i far new j after (Some c) ⊎ ((c ≡ cause.FieldLost) × SendsRls None)
+      pub how : IsCarried k target old i far.end new j after.end (Some c) ⊎ ((c ≡ cause.FieldLost) × SendsRls None)
       pub noisy : c ≡ cause.SixBad → 0 < noise (drop (length old.trace) new.trace)
 
     -- Memory was wanting: there is a front of it, and nothing that is set of the end changed.
     pub record IsClosingShort : Type 0 where
       pub front : (linked : L → Bool) → IsLinked k.machine linked → (place : ℕ) → Stands k target linked peer_ends old place → (os : List (Option PeerState))
-          → ClosingFront k linked peer_ends from i old new place os far after
-      pub setting : ((l : L) → k.machine.handed l rls_frame ≡ Untouched) → setting_of after ≡ setting_of far
+          → ClosingFront k linked peer_ends numbers from i old new place os far after
+      pub setting : ((l : L) → k.machine.handed l rls_frame ≡ Untouched) → setting_of after.end ≡ setting_of far.end
 
     -- It failed: the far end was given up, the link ended, or memory was wanting.
     abbrev pub ClosingFails : EndState → InitState → SnepFault → Type 0

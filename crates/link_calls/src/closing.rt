@@ -13,7 +13,7 @@ ghost use Rattle.link_calls.specs.Closing.{ClosingFails, IsReleased};
 
 use air_core::Field;
 use dep_link::{DepPair, Initiator, PeerListener, release};
-use llcp_link::Llc;
+use llcp_link::{Counted, Counts};
 use nfc_base::EndCause;
 use snep_core::{Client, Server, SnepFault};
 
@@ -33,22 +33,23 @@ pub fn close_and_release<L: PeerListener>(
     field: &mut Field<L>,
     initiator: &mut Initiator,
     client: &mut Client,
-    far: &mut Llc<Server>,
+    far: &mut Counted<Server>,
+    counts: Counts,
 ) -> Result<(), SnepFault>
     requires open_ { IsOpen L.Listener L.target field.old initiator.old }
     requires going { client.old.spent ≡ false }
-    ensures ok { OnOk result (IsReleased L.Listener L.target (begins client.old.llc Leaves)
+    ensures ok { OnOk result (IsReleased L.Listener L.target counts (begins client.old.llc Leaves)
         field.old initiator.old far.old field.new far.new (Ends (alone (Over Done)) client.new.llc)) }
-    ensures err { IfErr result (λ e. ClosingFails L.Listener L.target (begins client.old.llc Leaves)
+    ensures err { IfErr result (λ e. ClosingFails L.Listener L.target counts (begins client.old.llc Leaves)
         field.old initiator.old far.old field.new far.new client.new.llc initiator.new e) }
     // Where no listener hands anything over at RLS_REQ:
-    ensures closed { Accords client.old.llc far.old → ((l : L) → L.machine.handed l rls_frame ≡ Untouched)
-        → OnOk result (IsClosed far.old client.new.llc far.new) }
-    ensures fails { Accords client.old.llc far.old → ((l : L) → L.machine.handed l rls_frame ≡ Untouched)
-        → IfErr result (λ e. AsideFails far.old e far.new) }
+    ensures closed { Accords client.old.llc far.old.end → ((l : L) → L.machine.handed l rls_frame ≡ Untouched)
+        → OnOk result (IsClosed far.old.end client.new.llc far.new.end) }
+    ensures fails { Accords client.old.llc far.old.end → ((l : L) → L.machine.handed l rls_frame ≡ Untouched)
+        → IfErr result (λ e. AsideFails far.old.end e far.new.end) }
 {
     let mut pair = DepPair::on(field, initiator);
-    match client.close(&mut pair, far) {
+    match client.close(&mut pair, far, counts) {
         Err(fault) => Err(fault),
         Ok(()) => match release(pair, far) {
             Err(end) => Err(fault_at(end.cause)),

@@ -2,8 +2,8 @@
 -- Protocol; who hears what is this project's own).
 use Rattle.std.specs.Prelude.{◌≡◌, ℕ, zero, suc, List, [], ◌∷◌, Bool, Option}
 use Rattle.std.specs.List.{AllByRecursion}
-use Rattle.nfc_base.specs.Signal.{Signal, whole_a}
 use Rattle.nfc_base.specs.Choosing.{Choosing}
+use Rattle.nfc_base.specs.Signal.{Signal, whole_a}
 use Rattle.nfc_base.specs.declared.event.Heard.{Heard}
 use Rattle.air_core.specs.Conversation.{Note, Next, Asks}
 use Rattle.air_core.specs.PlainTags.{IsAside}

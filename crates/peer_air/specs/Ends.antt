@@ -1,10 +1,11 @@
 -- An end of a link as a far end of the world (NFC Forum LLCP 1.3; what stays without a link is this project's own).
-use Rattle.std.specs.Prelude.{◌≡◌, ◌⊎◌, ℕ}
+use Rattle.std.specs.Prelude.{◌≡◌, []}
 use Rattle.llcp_link.specs.Serving.{Serving}
 use Rattle.llcp_link.specs.State.{LlcState, fresh_end, restarted}
 use Rattle.llcp_link.specs.Taking.{taken_from}
-use Rattle.llcp_link.specs.Giving.{given, after_giving, given_parts, IsAllowed}
+use Rattle.llcp_link.specs.Giving.{given, after_giving}
 use Rattle.llcp_link.specs.Answering.{Answers}
+use Rattle.llcp_link.specs.Counting.{AnswersCounted, RestartsCounted}
 use Rattle.far_air.specs.FarEnds.{FarTable}
 use Rattle.far_air.specs.FarLaws.{IsFarTable, IsOfTable}
 
@@ -26,10 +27,10 @@ module _ {S : Type 0} (m : Serving S) where
   abbrev pub AreFarEnds : Type 0
   AreFarEnds = ((s : S) → m.renewed (m.renewed s) ≡ m.renewed s) → IsFarTable ends
 
-  -- Each step of the code's end is one of the table, by some number of PDUs that is allowed.
+  -- Each step of the code's end is one of the table: as many PDUs as fit, where no number is left to it.
   abbrev pub EndsStep : Type 0
-  EndsStep = IsOfTable (λ old general new. new ≡ restarted m old general) (Answers m) ends (λ l. l)
+  EndsStep = IsOfTable (λ old general new. new ≡ restarted m old general) (Answers m 0) ends (λ l. record { end = l; numbers = [] })
 
-  -- A payload may have any number of PDUs that are due and fit in one AGF. Any other number, and 0, is as many as fit.
-  abbrev pub AnyNumber : Type 0
-  AnyNumber = (l : LlcState S) (n : ℕ) → IsAllowed m l n ⊎ (given_parts m n l ≡ given_parts m 0 l)
+  -- and so is each of an end whose payloads have given numbers of PDUs
+  abbrev pub CountedStep : Type 0
+  CountedStep = IsOfTable (RestartsCounted m) (AnswersCounted m) ends (λ c. c)

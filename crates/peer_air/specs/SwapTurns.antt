@@ -1,5 +1,6 @@
 -- Exchanges and swaps on a link to a peer, in the world with far ends (NFCIP-1, ISO/IEC 18092; the air is this project's own).
 use Rattle.std.specs.Prelude.{◌≡◌, ◌≤◌, ℕ, List, [], ◌∷◌, length, Bool, true, Option, Some, None}
+use Rattle.nfc_base.specs.Choosing.{Choosing, first_number, later_numbers}
 use Rattle.nfc_base.specs.Signal.{Signal}
 use Rattle.nfc_base.specs.Links.{FarStep, Stepped, Stopped, FarMoved, BySwaps, payload_of}
 use Rattle.nfc_base.specs.declared.event.Event.TheVariants.{Request}
@@ -28,10 +29,13 @@ swaps_of [] = []
 swaps_of (x ∷ did) = record { out = payload_of x; did = x ∷ [] } ∷ swaps_of did
 
 module _ {L F : Type 0} (k : Ghosts L) (target : L → TargetState) (linked : L → Bool) (t : FarTable F) where
-  -- A far end went from one state to another in an exchange of this payload, in which it gave that reply, by some number, or none.
-  abbrev pub Gave : List ℕ → Option (List ℕ) → F → F → Type 0
+  -- A far end went from one state to another in an exchange of this payload, in which it gave that reply, by the next of the numbers that
+  -- are left to it, or none.
+  abbrev pub Gave : List ℕ → Option (List ℕ) → Choosing F → Choosing F → Type 0
   Gave out None far after = after ≡ far
-  Gave out (Some reply) far after = (n : ℕ) × (reply ≡ t.reply far out n) × (after ≡ t.left far out n) × (length reply ≤ limit)
+  Gave out (Some reply) far after =
+      (reply ≡ t.reply far.end out (first_number far.numbers))
+      × (after ≡ record { end = t.left far.end out (first_number far.numbers); numbers = later_numbers far.numbers }) × (length reply ≤ limit)
 
   -- where a field is lit, a selected listener stands at this place, and is alone
   abbrev pub Stands : Air L → ℕ → Type 0
@@ -49,7 +53,7 @@ module _ {L F : Type 0} (k : Ghosts L) (target : L → TargetState) (linked : L 
   ExchangesFar = IsLinked k.machine linked → IsFarTable t
       → (old new : Air L) (i : InitState) (first : ℕ) (handed : List (List ℕ)) (arrived : List Signal) (p : HasPeer k target old i first handed arrived)
       (out : List ℕ) (given : Option (List ℕ)) (s : Standing) (x : ExchangeTurns k target old new p.listener i first handed arrived out given s)
-      → length out ≤ limit → (far after : F) → Gave out given far after → (os : List (Option F))
+      → length out ≤ limit → (far after : Choosing F) → Gave out given far after → (os : List (Option F))
       → FarGoing k.machine linked t (dep_next i out) (moment old) (moment new) x.notes p.place os far after
       × Stands new p.place
 
@@ -61,7 +65,7 @@ module _ {L F : Type 0} (k : Ghosts L) (target : L → TargetState) (linked : L 
 
   -- A swap on a link, in the world with far ends: the reply that was given or none, what the reader knows of it, and where its initiator
   -- stands. The peer stands at the same place behind it.
-  pub record SwapTurn (a b : DepSeen L) (s : Swap) (place : ℕ) (os : List (Option F)) (far after : F) : Type 0 where
+  pub record SwapTurn (a b : DepSeen L) (s : Swap) (place : ℕ) (os : List (Option F)) (far after : Choosing F) : Type 0 where
     pub begins : a.over ≡ None
     pub given : Option (List ℕ)
     pub did : s.did ≡ did_with s.out given
@@ -71,7 +75,7 @@ module _ {L F : Type 0} (k : Ghosts L) (target : L → TargetState) (linked : L 
     pub going : FarGoing k.machine linked t (dep_next a.initiator s.out) (moment a.air) (moment b.air) notes place os far after
 
   -- Behind the turns of a swap a request that was due passed, and its far end stopped for want of memory: nothing came back.
-  pub record SwapFront (a b : DepSeen L) (out : List ℕ) (place : ℕ) (os : List (Option F)) (far : F) : Type 0 where
+  pub record SwapFront (a b : DepSeen L) (out : List ℕ) (place : ℕ) (os : List (Option F)) (far : Choosing F) : Type 0 where
     pub mid : Air L
     pub notes : List Note
     pub going : FarGoing k.machine linked t (dep_next a.initiator out) (moment a.air) (moment mid) notes place os far far
@@ -82,12 +86,12 @@ module _ {L F : Type 0} (k : Ghosts L) (target : L → TargetState) (linked : L 
     pub left : b.air ≡ after_event mid (Request sent Pass) (later_fates mid.fates) (record { lit = true; listeners = listeners })
 
   -- swaps one after another
-  abbrev pub SwapTurns : List Swap → DepSeen L → ℕ → List (Option F) → F → DepSeen L → F → Type 0
+  abbrev pub SwapTurns : List Swap → DepSeen L → ℕ → List (Option F) → Choosing F → DepSeen L → Choosing F → Type 0
   SwapTurns [] a place os far b after = (b ≡ a) × (after ≡ far)
   SwapTurns (s ∷ ss) a place os far b after =
-      (mid : DepSeen L) × (half : F) × SwapTurn a mid s place os far half × SwapTurns ss mid place os half b after
+      (mid : DepSeen L) × (half : Choosing F) × SwapTurn a mid s place os far half × SwapTurns ss mid place os half b after
 
-  module _ {A : Type 0} (restarts : A → List ℕ → A → Type 0) (steps : A → List ℕ → List ℕ → A → Type 0) (stops : A → List ℕ → A → Type 0) (view : A → F) where
+  module _ {A : Type 0} (restarts : A → List ℕ → A → Type 0) (steps : A → List ℕ → List ℕ → A → Type 0) (stops : A → List ℕ → A → Type 0) (view : A → Choosing F) where
     -- What a link tells of a swap, with what its far end did, is a swap in the world with far ends, at whatever place its peer stands.
     abbrev pub SwapsFar : Type 0
     SwapsFar = IsLinked k.machine linked → IsFarTable t → IsOfTable restarts steps t view
@@ -98,7 +102,7 @@ module _ {L F : Type 0} (k : Ghosts L) (target : L → TargetState) (linked : L 
     abbrev pub StopsFar : Type 0
     StopsFar = IsLinked k.machine linked → IsFarTable t
         → (a b : DepSeen L) (s : Swap) → Exchanged k target a b s
-        → (payload : List ℕ) → s.did ≡ Stopped payload ∷ [] → (place : ℕ) → Stands a.air place → (far : F) (os : List (Option F))
+        → (payload : List ℕ) → s.did ≡ Stopped payload ∷ [] → (place : ℕ) → Stands a.air place → (far : Choosing F) (os : List (Option F))
         → SwapFront a b s.out place os far
 
     -- What it tells of some swaps, in each of which the far end made one step, is that, one after another.

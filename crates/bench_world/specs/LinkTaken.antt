@@ -1,0 +1,21 @@
+-- The open link, taken out of the machines of a bench for a command, with its peer's end, and put back behind it.
+use Rattle.std.specs.Prelude.{◌≡◌, ◌<◌, ℕ, List, length, get_or, slice_set, Option, Some, None}
+use Rattle.bench_world.specs.World.{FarEnd}
+use Rattle.bench_world.specs.Links.{OpenLink, accepted_by, end_numbered, with_last_ended}
+use Rattle.bench_world.specs.Obeying.{Machines, under}
+
+-- The link is this one, and this is the end of its peer, which stands at this place; both are gone from the machines.
+pub record TakesLink (old : Machines) (place : ℕ) (l : OpenLink) (end : FarEnd) (new : Machines) : Type 0 where
+  pub linked : old.link ≡ Some l
+  pub number : (os : List (Option FarEnd)) → end_numbered l.peer old.peers.numbers os ≡ get_or os place None
+  pub within : place < length old.ends
+  pub above : get_or old.ends place None ≡ Some end
+  pub left : new ≡ under (slice_set old.ends place None) old.peers None old.air
+
+-- the end is at its place again, and the link is open
+abbrev pub put_back : Machines → ℕ → FarEnd → OpenLink → Machines
+put_back m place end l = under (slice_set m.ends place (Some end)) m.peers (Some l) m.air
+
+-- the end is at its place again, and the link is over
+abbrev pub put_down : Machines → ℕ → FarEnd → Machines
+put_down m place end = under (slice_set m.ends place (Some end)) (with_last_ended (accepted_by (Some end)) m.peers) m.link m.air
