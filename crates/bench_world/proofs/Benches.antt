@@ -3,12 +3,12 @@ use Rattle.std.proofs.Common.{◌≡◌, ℕ, List, [], ◌∷◌, ◌++◌, Boo
 use Rattle.nfc_base.specs.declared.event.Event.{Event}
 use Rattle.air_core.specs.Conversation.{Over, receptions}
 use Rattle.bench_script.specs.declared.command.Command.{Command}
-use Rattle.bench_script.specs.declared.command.Command.TheVariants.{Skip}
+use Rattle.bench_script.specs.declared.command.Command.TheVariants.{Get, Lookup, Put, Skip, Unlink}
 use Rattle.bench_world.specs.declared.entry.Answer.{Answer}
 use Rattle.bench_world.specs.declared.entry.Entry.{Entry}
-use Rattle.bench_world.specs.Legal.{State, AnswerLaw, FrontOf, LegalStep, due}
+use Rattle.bench_world.specs.Legal.{State, AnswerLaw, FrontOf, Joins, LegalStep, due, no_joins}
 use Rattle.bench_world.proofs.LinkKept.{keeps_so, open_on}
-use Rattle.bench_world.specs.Obeying.{Machines, untraced, state_at, IsSettled, Obeyed, IsCutOff, Benched, Adds, Obeys, Spoils, LacksMemory}
+use Rattle.bench_world.specs.Obeying.{Machines, untraced, state_at, IsSettled, ObeyedBy, IsCutOff, Benched, Adds, Obeys, Spoils, LacksMemory, joins_for}
 
 -- what contracts see of a bench with this journal and these machines
 abbrev pub seen : List Entry → Machines → Bool → Benched
@@ -29,10 +29,19 @@ as_obeys : (old new : Benched) (line : ℕ) (c : Command) → (c ≡ Skip → �
 as_obeys old new line Skip other adds = absurd (other refl)
 as_obeys old new line c other adds = adds
 
+-- where as many PDUs as fit are joined a command takes no numbers
+none_for : (c : Command) (joins : Joins) → joins ≡ no_joins → joins_for c joins ≡ no_joins
+none_for (Put message) joins e = e
+none_for (Get most key) joins e = e
+none_for (Lookup name) joins e = e
+none_for Unlink joins e = e
+none_for c joins e = refl
+
 -- a command was obeyed, and its entry added
-pub adds_entry : (old : Benched) (a b k : Machines) (js ks : List Entry) (c : Command) (answer : Answer) (e : Entry) → (c ≡ Skip → ⊥) → old ≡ seen js a false → IsSettled a → Obeyed a b c answer
+pub adds_entry : (old : Benched) (a b k : Machines) (js ks : List Entry) (c : Command) (answer : Answer) (e : Entry) (joins : Joins) → joins ≡ no_joins → (c ≡ Skip → ⊥) → old ≡ seen js a false → IsSettled a
+    → ObeyedBy (joins_for c joins) a b c answer
     → k ≡ record { air = record { lit = b.air.lit; listeners = b.air.listeners; fates = b.air.fates; trace = [] }; ends = b.ends; peers = b.peers; link = b.link } → ks ≡ js ++ e ∷ [] → e.command ≡ c → e.events ≡ b.air.trace → e.answer ≡ answer → Obeys old (seen ks k false) e.line c
-adds_entry old a b k js ks c answer e other is settled o left added command events told =
+adds_entry old a b k js ks c answer e joins most other is settled o left added command events told =
     let to : state_at k ≡ state_at b = ap state_at left in
     let F : List Event → State → Type 0 = λ es t. FrontOf (state_at a) o.given c es (Some answer) t in
     let front : F e.events (state_at k) = subst (λ es. F es (state_at k)) (sym events) (subst (F b.air.trace) (sym to) o.front) in
@@ -55,13 +64,14 @@ adds_entry old a b k js ks c answer e other is settled o left added command even
       is = ap (λ xs. B xs k.air.trace) added ∙ ap (B (js ++ e ∷ [])) (ap (λ (x : Machines). x.air.trace) left ∙ sym settled.idle.quiet);
       numbered = refl;
       asked = command;
+      joined = o.joined ∙ none_for c joins most;
       legal = step;
     } in
     as_obeys old (seen ks k false) e.line c other (subst A (sym is) it)
 
 -- Behind a command that was obeyed the bench is settled again, once its events are taken.
-pub settled_untraced : (a b : Machines) (c : Command) (answer : Answer) → Obeyed a b c answer → IsSettled (untraced b)
-settled_untraced a b c answer o = record {
+pub settled_untraced : (joins : Joins) (a b : Machines) (c : Command) (answer : Answer) → ObeyedBy joins a b c answer → IsSettled (untraced b)
+settled_untraced joins a b c answer o = record {
   idle = record { quiet = refl; tame = o.tame; tidy = o.tidy };
   places = record { ends = o.places.ends; numbers = o.places.numbers; served = o.places.served; apart = o.places.apart };
   link = keeps_so b (untraced b) refl (λ l at k. open_on b.air (untraced b).air b.ends b.peers l refl refl k) o.link;

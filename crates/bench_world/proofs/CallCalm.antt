@@ -1,6 +1,7 @@
 -- Where all passed in a call on a link that isn't over behind it, no reception was bad.
 use Rattle.std.proofs.Common.{◌≡◌, ℕ, List, [], ◌∷◌, ◌++◌, Option, Some, None, refl, sym, ◌∙◌, ap, subst, append_assoc, append-nil, arith}
 use Rattle.std.proofs.lemmas.List.{append_cancel_left}
+use Rattle.nfc_base.specs.Choosing.{Choosing}
 use Rattle.nfc_base.specs.LinkTurns.{arrived, bad_receptions}
 use Rattle.nfc_base.specs.Links.{FarStep, Stepped, Stopped}
 use Rattle.nfc_base.specs.Trace.{noise, back_of}
@@ -77,8 +78,8 @@ chain_calm [] a b c open_b = record { events = []; trace = ap (λ (p : DepSeen D
 chain_calm (s ∷ ss) a b c open_b = calm_then a.air c.0.air b.air (swap_calm a c.0 s c.1 (first_open ss c.0 b c.2 open_b)) (chain_calm ss c.0 b c.2 open_b)
 
 -- a call that came to its end
-pub made_calm : (from to : Step) (air b : Air Device) (i j : InitState) (far after : FarEnd) → IsMade ghosts device_end from air i far b j after to → IsCalm air b
-made_calm from to air b i j far after m =
+pub made_calm : (numbers : List ℕ) (from to : Step) (air b : Air Device) (i j : InitState) (far after : Choosing FarEnd) → IsMade ghosts device_end numbers from air i far b j after to → IsCalm air b
+made_calm numbers from to air b i j far after m =
     let c = m.carried in
     let x : IsCalm air c.at.air = chain_calm c.swaps (first_seen air i) c.at c.chain c.left.2 in
     subst (IsCalm air) c.left.0 x

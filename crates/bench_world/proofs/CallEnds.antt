@@ -1,6 +1,7 @@
 -- What a command that asks over the open link comes to, by what its call came to.
 use Rattle.std.proofs.Common.{◌≡◌, ◌↔◌, ◌⊎◌, ℕ, ◌<◌, List, [], ◌++◌, length, Some, None, refl, sym, ◌∙◌, ap, subst, inl, inr}
 use Rattle.std.specs.Prelude.{get_or, slice_set, drop}
+use Rattle.nfc_base.specs.Choosing.{Choosing}
 use Rattle.nfc_base.specs.declared.carrier.EndCause.{EndCause}
 use Rattle.nfc_base.specs.declared.carrier.EndCause.TheVariants as cause
 use Rattle.nfc_base.specs.declared.event.Event.{Event}
@@ -29,7 +30,7 @@ use Rattle.bench_world.specs.World.{FarEnd, stable}
 use Rattle.bench_world.specs.Calls.{OfEnd, told_loss, told_step, with_accepted}
 use Rattle.bench_world.specs.Links.{OpenLink, accepted_by, with_last_ended}
 use Rattle.bench_world.specs.Legal.{Joins, CutFront, CutStores, HaltsCall, LeavesStable, end_of, world_after}
-use Rattle.bench_world.specs.Obeying.{Machines, IsSettled, Obeyed, state_at, under}
+use Rattle.bench_world.specs.Obeying.{Machines, IsSettled, ObeyedBy, state_at, under}
 use Rattle.bench_world.specs.Opened.{IsOpen}
 use Rattle.bench_world.specs.Peers.{Peers}
 use Rattle.bench_world.proofs.CallCalm.{added_calm, made_calm}
@@ -41,7 +42,7 @@ module _ (air : Air Device) (ends : FarEnds) (peers : Peers) (l : OpenLink) (set
   pub of_end : (P : FarEnd → Type 0) → P (end air ends peers l settled) → OfEnd P (end_of (from_state air ends peers l settled) l)
   of_end P p = subst (OfEnd P) (sym (end_is air ends peers l settled)) p
 
-  module _ (c : Command) (task : Task) (is : IsCall air ends peers l settled c task) (b : Air Device) (j : InitState) (after : FarEnd) where
+  module _ (c : Command) (task : Task) (is : IsCall air ends peers l settled c task) (joins : Joins) (b : Air Device) (j : InitState) (after : Choosing FarEnd) where
     abbrev from : Step
     from = begins l.client task
 
@@ -50,6 +51,10 @@ module _ (air : Air Device) (ends : FarEnds) (peers : Peers) (l : OpenLink) (set
 
     abbrev far : FarEnd
     far = end air ends peers l settled
+
+    -- with the numbers that are left to it
+    abbrev pub counted : Choosing FarEnd
+    counted = record { end = far; numbers = joins.far }
 
     abbrev AnswerSo : Answer → Type 0
     AnswerSo answer = Law air ends peers l settled c task is b j after answer
@@ -64,45 +69,45 @@ module _ (air : Air Device) (ends : FarEnds) (peers : Peers) (l : OpenLink) (set
     Gone = gone_then air ends peers l settled c task is b j after
 
     -- the peer is in step at its place
-    in_step_still : (to : Step) → IsMade ghosts device_end from air l.initiator far b j after to → InStepAt b spot j
+    in_step_still : (to : Step) → IsMade ghosts device_end joins.own from air l.initiator counted b j after to → InStepAt b spot j
     in_step_still to made =
         let t = made.turns device_linked devices_link spot (stands air ends peers l settled) ends in
-        let left = leaves air ends peers l settled (next air ends peers l settled c task is b j after t.0 _ t.1) (plain air ends peers l settled c task is b j after t.0 _ t.1) b after t.1.notes t.1.going in
+        let left = leaves air ends peers l settled (next air ends peers l settled c task is b j after joins _ t) (plain air ends peers l settled c task is b j after joins _ t) b joins.far after t.notes t.going in
         in_step (own air ends peers l settled) spot b left.at j j.core.number [] [] made.open_.in_step.1 made.open_.in_step.0
 
     -- the link is open again
-    reopened : (to : Step) (client : EndState) → IsMade ghosts device_end from air l.initiator far b j after to → Accords client after
-        → IsOpen b (slice_set ends spot (Some after)) peers (record { peer = l.peer; initiator = j; client = client })
+    reopened : (to : Step) (client : EndState) → IsMade ghosts device_end joins.own from air l.initiator counted b j after to → Accords client after.end
+        → IsOpen b (slice_set ends spot (Some after.end)) peers (record { peer = l.peer; initiator = j; client = client })
     reopened to client made accords = record {
       place = spot;
       number = (opened air ends peers l settled).number;
       step = in_step_still to made;
       going = made.open_.going;
-      end = after;
-      above = set_there ends spot far after (opened air ends peers l settled).above;
+      end = after.end;
+      above = set_there ends spot far after.end (opened air ends peers l settled).above;
       accords = accords;
     }
 
     -- the call came to its end
-    pub made_obeyed : (jobs : List OnSap) (client : EndState) (answer : Answer) → IsMade ghosts device_end from air l.initiator far b j after (Ends jobs client) → told_step (Ends jobs client) ≡ Some answer
-        → ((loss : Loss) → answer ≡ answers.LinkEnded loss → ⊥) → AnswerSo answer → Accords client after → Obeyed Old (Open client) c answer
+    pub made_obeyed : (jobs : List OnSap) (client : EndState) (answer : Answer) → IsMade ghosts device_end joins.own from air l.initiator counted b j after (Ends jobs client) → told_step (Ends jobs client) ≡ Some answer
+        → ((loss : Loss) → answer ≡ answers.LinkEnded loss → ⊥) → AnswerSo answer → Accords client after.end → ObeyedBy joins Old (Open client) c answer
     made_obeyed jobs client answer made told never law accords =
         let t = made.turns device_linked devices_link spot (stands air ends peers l settled) ends in
-        came air ends peers l settled c task is b j after t.0 (Comes (Ends jobs client) j) t.1 made.carried.setting jobs client refl answer told never
-        (added_calm air b (made_calm from (Ends jobs client) air b l.initiator j far after made) settled.idle.quiet (events air ends peers l settled c task is b j after t.0 (Comes (Ends jobs client) j) t.1)
-        (trace_is air ends peers l settled (next air ends peers l settled c task is b j after t.0 (Comes (Ends jobs client) j) t.1) (plain air ends peers l settled c task is b j after t.0 (Comes (Ends jobs client) j) t.1) b after t.1.notes t.1.going)) law
+        came air ends peers l settled c task is b j after joins (Comes (Ends jobs client) j) t made.carried.setting jobs client refl answer told never
+        (added_calm air b (made_calm joins.own from (Ends jobs client) air b l.initiator j counted after made) settled.idle.quiet (events air ends peers l settled c task is b j after joins (Comes (Ends jobs client) j) t)
+        (trace_is air ends peers l settled (next air ends peers l settled c task is b j after joins (Comes (Ends jobs client) j) t) (plain air ends peers l settled c task is b j after joins (Comes (Ends jobs client) j) t) b joins.far after t.notes t.going)) law
         (made.carried.arrives, (linked_in b spot j (in_step_still (Ends jobs client) made), made.carried.counted refl)) (reopened (Ends jobs client) client made accords)
 
     -- its link ended
-    pub lost_obeyed : (why : EndCause) (answer : Answer) → IsEndedBy ghosts device_end from air l.initiator far b j after why → told_loss why ≡ Some answer → AnswerSo answer → Obeyed Old Gone c answer
+    pub lost_obeyed : (why : EndCause) (answer : Answer) → IsEndedBy ghosts device_end joins.own from air l.initiator counted b j after why → told_loss why ≡ Some answer → AnswerSo answer → ObeyedBy joins Old Gone c answer
     lost_obeyed why answer ended told law =
         let t = ended.turns device_linked devices_link spot (stands air ends peers l settled) ends in
-        let es : List Event = events air ends peers l settled c task is b j after t.0 (BrokenBy why) t.1 in
+        let es : List Event = events air ends peers l settled c task is b j after joins (BrokenBy why) t in
         let noisy : why ≡ cause.SixBad → 0 < noise es = λ six.
         subst (λ xs. 0 < noise xs) (ap (λ xs. drop (length xs) b.trace) settled.idle.quiet
-        ∙ trace_is air ends peers l settled (next air ends peers l settled c task is b j after t.0 (BrokenBy why) t.1) (plain air ends peers l settled c task is b j after t.0 (BrokenBy why) t.1) b after t.1.notes t.1.going)
+        ∙ trace_is air ends peers l settled (next air ends peers l settled c task is b j after joins (BrokenBy why) t) (plain air ends peers l settled c task is b j after joins (BrokenBy why) t) b joins.far after t.notes t.going)
         (ended.noisy six) in
-        broke air ends peers l settled c task is b j after t.0 (BrokenBy why) t.1 ended.carried.setting why refl answer told (lost_is why told) (λ e. noisy (six_is why told e)) law (ended.carried.arrives, tt)
+        broke air ends peers l settled c task is b j after joins (BrokenBy why) t ended.carried.setting why refl answer told (lost_is why told) (λ e. noisy (six_is why told e)) law (ended.carried.arrives, tt)
       where
         lost_is : (w : EndCause) → told_loss w ≡ Some answer → ((w ≡ cause.FieldLost) ↔ (answer ≡ answers.LinkEnded losses.FieldLost))
         lost_is cause.FieldLost e = ((λ q. let same : answers.LinkEnded losses.FieldLost ≡ answer = cc in sym same), (λ q. refl))
@@ -119,26 +124,26 @@ module _ (air : Air Device) (ends : FarEnds) (peers : Peers) (l : OpenLink) (set
     -- memory was wanting
     abbrev pub Stores : Type 0
     Stores = (joins : Joins) (events : List Event) → (devices : (stable (world_after (from_state air ends peers l settled) joins c events)).devices ≡ (stable (from_state air ends peers l settled).world).devices)
-        → (adds : (more : List Received) → after.service.accepted ≡ far.service.accepted ++ more
+        → (adds : (more : List Received) → after.end.service.accepted ≡ far.service.accepted ++ more
         → (stable (world_after (from_state air ends peers l settled) joins c events)).ends ≡ with_accepted more l.peer peers.numbers (stable (from_state air ends peers l settled).world).ends)
-        → (stays : after.service.accepted ≡ far.service.accepted → LeavesStable (from_state air ends peers l settled) joins c events) → CutStores (from_state air ends peers l settled) joins c events
+        → (stays : after.end.service.accepted ≡ far.service.accepted → LeavesStable (from_state air ends peers l settled) joins c events) → CutStores (from_state air ends peers l settled) joins c events
 
-    pub short_cut : IsCutShort ghosts device_end from air l.initiator far b j after → Stores
+    pub short_cut : IsCutShort ghosts device_end joins.own from air l.initiator counted b j after → Stores
         → CutFront (from_state air ends peers l settled) c b.trace (state_at Gone) ⊎ HaltsCall (from_state air ends peers l settled) c b.trace (state_at Gone)
     short_cut cut stores = by_left (cut.front device_linked devices_link spot (stands air ends peers l settled) ends)
       where
-        by_left : CallFront ghosts device_end device_linked peer_ends from l.initiator air b spot ends far after
+        by_left : CallFront ghosts device_end device_linked peer_ends joins.own from l.initiator air b spot ends counted after
             → CutFront (from_state air ends peers l settled) c b.trace (state_at Gone) ⊎ HaltsCall (from_state air ends peers l settled) c b.trace (state_at Gone)
         by_left f = elim f.left [
           | inl (field, stays) ↦ inl (
-              let T : Air Device → FarEnd → Type 0 = λ a e. CallTurns ghosts device_end device_linked peer_ends f.numbers from l.initiator air a spot ends far e f.standing in
+              let T : Air Device → Choosing FarEnd → Type 0 = λ a e. CallTurns ghosts device_end device_linked peer_ends joins.own from l.initiator air a spot ends counted e f.standing in
               let t : T b after = subst (T b) (sym stays) (subst (λ a. T a f.half) (sym field) f.turns) in
-              short air ends peers l settled c task is b j after f.numbers f.standing t stores cut.setting)
+              short air ends peers l settled c task is b j after joins f.standing t stores cut.setting)
           | inr (sent, listeners, due, fate, left) ↦ inr (
               let t = f.turns in
-              let N = next air ends peers l settled c task is f.mid j f.half f.numbers f.standing t in
-              let P = plain air ends peers l settled c task is f.mid j f.half f.numbers f.standing t in
-              halted air ends peers l settled N P c f.numbers f.mid f.half t.notes t.going is.still is.accepts is.asks
-              (same air ends peers l settled c task is f.mid j f.half f.numbers f.standing t) sent listeners b (ap call_due_at t.stands ∙ due) fate left
-              (slice_set ends spot (Some after)) (with_last_ended (accepted_by (get_or (slice_set ends spot (Some after)) spot None)) peers))
+              let N = next air ends peers l settled c task is f.mid j f.half joins f.standing t in
+              let P = plain air ends peers l settled c task is f.mid j f.half joins f.standing t in
+              halted air ends peers l settled N P c joins f.mid f.half t.notes t.going is.still is.accepts is.asks
+              (same air ends peers l settled c task is f.mid j f.half joins f.standing t) sent listeners b (ap call_due_at t.stands ∙ due) fate left
+              (slice_set ends spot (Some after.end)) (with_last_ended (accepted_by (get_or (slice_set ends spot (Some after.end)) spot None)) peers))
         ]

@@ -1,6 +1,6 @@
 -- What becomes of the open link's closing, by what the call on the field says.
 use Rattle.std.proofs.Common.{◌≡◌, ℕ, Option, Some, None, subst}
-use Rattle.std.specs.Prelude.{get_or}
+use Rattle.nfc_base.specs.Choosing.{Choosing}
 use Rattle.nfc_base.specs.Far.{Untouched}
 use Rattle.nfc_base.specs.declared.carrier.EndCause.{EndCause}
 use Rattle.nfc_base.specs.declared.carrier.EndCause.TheVariants as cause
@@ -21,56 +21,67 @@ use Rattle.bench_world.specs.declared.entry.Answer.{Answer}
 use Rattle.bench_world.specs.declared.entry.Answer.TheVariants as answers
 use Rattle.bench_world.specs.World.{FarEnd}
 use Rattle.bench_world.specs.Calls.{told_loss}
-use Rattle.bench_world.specs.Links.{OpenLink, end_numbered}
-use Rattle.bench_world.specs.Obeying.{Machines, IsCutOff, IsSettled, Obeyed}
-use Rattle.bench_world.proofs.OnLink.{Ends as FarEnds}
+use Rattle.bench_world.specs.Legal.{Joins}
+use Rattle.bench_world.specs.Links.{OpenLink}
+use Rattle.bench_world.specs.LinkTaken.{TakesLink, put_down}
+use Rattle.bench_world.specs.Obeying.{Machines, IsCutOff, IsSettled, ObeyedBy}
 use Rattle.bench_world.proofs.OnClosing.{released, lost, short}
-use Rattle.bench_world.proofs.Chosen.{so, spot, its}
-use Rattle.bench_world.proofs.GetOver.{Before, GoneAt, accords, same_far, gone_so, short_so}
+use Rattle.bench_world.proofs.LinkOver.{Before, GoneAt, accords, called, counted, far_is, gone_so, its, short_so, so, spot}
 
-module _ (old : Machines) (settled : IsSettled old) (l : OpenLink) (linked : old.link ≡ Some l) (q : ℕ) (at : (os : FarEnds) → end_numbered l.peer old.peers.numbers os ≡ get_or os q None) (w : Option FarEnd) (far : FarEnd)
-    (holds : w ≡ get_or old.ends q w) (some : w ≡ Some far) (b : Air Device) (j : InitState) (after : FarEnd) (client : EndState) (was : Machines) (is : was ≡ old) where
-  abbrev pub Gone : Machines
-  Gone = GoneAt old settled l linked q at w far holds some b j after client was is q
+module _ (old mid : Machines) (settled : IsSettled old) (q : ℕ) (l : OpenLink) (far : FarEnd) (t : TakesLink old q l far mid) (joins : Joins) (b : Air Device) (j : InitState) (after : Choosing FarEnd)
+    (client : EndState) where
+  abbrev Of : FarEnd → Choosing FarEnd
+  Of f = counted old mid settled q l far t joins b j after client f
+
+  abbrev Own : FarEnd
+  Own = its old mid settled q l far t
+
+  of_own : (P : FarEnd → Type 0) → P far → P Own
+  of_own P p = subst P (far_is old mid settled q l far t) p
+
+  accord : Accords l.client far
+  accord = accords old mid settled q l far t
+
+  abbrev pub Down : Machines
+  Down = put_down (called old mid settled q l far t joins b j after client) q after.end
+
+  abbrev Gone : Machines
+  Gone = GoneAt old mid settled q l far t joins b j after client (spot old mid settled q l far t)
+
+  abbrev Was : Machines
+  Was = Before old mid settled q l far t joins b j after client
 
   abbrev Quiet : Type 0
   Quiet = (d : Device) → devices.handed d rls_frame ≡ Untouched
 
+  abbrev Closed : Step → FarEnd → Type 0
+  Closed to f = IsReleased ghosts device_end joins.own (begins l.client Leaves) old.air l.initiator (Of f) b after to
+
   abbrev Fails : FarEnd → SnepFault → Type 0
-  Fails f e = ClosingFails ghosts device_end (begins l.client Leaves) old.air l.initiator f b after client j e
+  Fails f e = ClosingFails ghosts device_end joins.own (begins l.client Leaves) old.air l.initiator (Of f) b after client j e
 
-  its_far : far ≡ its old settled l linked
-  its_far = same_far old settled l linked q at w far holds some b j after client was is
+  pub told_closed : (new : Machines) → new ≡ Down → (to : Step) → Closed to far → (Accords l.client far → Quiet → IsClosed far client after.end) → ObeyedBy joins old new Unlink answers.Unlinked
+  told_closed new down to r closed =
+      gone_so old mid settled q l far t joins b j after client Unlink new answers.Unlinked down
+      (released old.air old.ends old.peers l (so old mid settled q l far t) joins b after none_at_rls j client to (of_own (Closed to) r) (of_own (λ f. IsClosed f client after.end) (closed accord none_at_rls)))
 
-  accord : Accords l.client far
-  accord = accords old settled l linked q at w far holds some b j after client was is
-
-  pub told_closed : (to : Step) → IsReleased ghosts device_end (begins l.client Leaves) old.air l.initiator far b after to → (Accords l.client far → Quiet → IsClosed far client after)
-      → (new : Machines) → new ≡ Gone → Obeyed was new Unlink answers.Unlinked
-  told_closed to r closed new gone =
-      gone_so old settled l linked q at w far holds some b j after client was is Unlink answers.Unlinked new gone
-      (released old.air old.ends old.peers l (so old settled l linked) b after none_at_rls j client to
-      (subst (λ f. IsReleased ghosts device_end (begins l.client Leaves) old.air l.initiator f b after to) its_far r)
-      (subst (λ f. IsClosed f client after) its_far (closed accord none_at_rls)))
-
-  pub told_lost : (x : SnepFault) (c : EndCause) → x ≡ LinkEnded c → Fails far x → (Accords l.client far → Quiet → AsideFails far x after) → (answer : Answer) → told_loss c ≡ Some answer
-      → (new : Machines) → new ≡ Gone → Obeyed was new Unlink answer
-  told_lost x c r fails left answer told new gone =
-      gone_so old settled l linked q at w far holds some b j after client was is Unlink answer new gone
-      (by c told (subst (λ f. Fails f (LinkEnded c)) its_far (subst (Fails far) r fails)) (subst (λ f. AsideFails f (LinkEnded c) after) its_far (subst (λ y. AsideFails far y after) r (left accord none_at_rls))))
+  pub told_lost : (new : Machines) → new ≡ Down → (x : SnepFault) (c : EndCause) → x ≡ LinkEnded c → Fails far x → (Accords l.client far → Quiet → AsideFails far x after.end)
+      → (answer : Answer) → told_loss c ≡ Some answer → ObeyedBy joins old new Unlink answer
+  told_lost new down x c r fails left answer told =
+      gone_so old mid settled q l far t joins b j after client Unlink new answer down
+      (by c told (of_own (λ f. Fails f (LinkEnded c)) (subst (Fails far) r fails)) (of_own (λ f. AsideFails f (LinkEnded c) after.end) (subst (λ y. AsideFails far y after.end) r (left accord none_at_rls))))
     where
-      by : (c : EndCause) → told_loss c ≡ Some answer → Fails (its old settled l linked) (LinkEnded c) → AsideFails (its old settled l linked) (LinkEnded c) after
-          → Obeyed (Before old settled l linked q at w far holds some b j after client was is) (GoneAt old settled l linked q at w far holds some b j after client was is (spot old settled l linked)) Unlink answer
-      by cause.FieldLost t x a = lost old.air old.ends old.peers l (so old settled l linked) b after none_at_rls j client cause.FieldLost answer x t a
-      by cause.SixBad t x a = lost old.air old.ends old.peers l (so old settled l linked) b after none_at_rls j client cause.SixBad answer x t a
-      by cause.Protocol t x a = absurd x
-      by cause.Memory t x a = absurd x
+      by : (c : EndCause) → told_loss c ≡ Some answer → Fails Own (LinkEnded c) → AsideFails Own (LinkEnded c) after.end → ObeyedBy joins Was Gone Unlink answer
+      by cause.FieldLost z x a = lost old.air old.ends old.peers l (so old mid settled q l far t) joins b after none_at_rls j client cause.FieldLost answer x z a
+      by cause.SixBad z x a = lost old.air old.ends old.peers l (so old mid settled q l far t) joins b after none_at_rls j client cause.SixBad answer x z a
+      by cause.Protocol z x a = absurd x
+      by cause.Memory z x a = absurd x
 
-  pub told_short : (x : SnepFault) → x ≡ Memory → Fails far x → (Accords l.client far → Quiet → AsideFails far x after) → (new : Machines) → new ≡ Gone → IsCutOff was new Unlink
-  told_short x r fails left new gone =
-      short_so old settled l linked q at w far holds some b j after client was is Unlink new gone
-      (short old.air old.ends old.peers l (so old settled l linked) b after none_at_rls j client
-      (subst (λ f. Fails f Memory) its_far (subst (Fails far) r fails)) (subst (λ f. AsideFails f Memory after) its_far (subst (λ y. AsideFails far y after) r (left accord none_at_rls))))
+  pub told_short : (new : Machines) → new ≡ Down → (x : SnepFault) → x ≡ Memory → Fails far x → (Accords l.client far → Quiet → AsideFails far x after.end) → IsCutOff old new Unlink
+  told_short new down x r fails left =
+      short_so old mid settled q l far t joins b j after client Unlink new down
+      (short old.air old.ends old.peers l (so old mid settled q l far t) joins b after none_at_rls j client
+      (of_own (λ f. Fails f Memory) (subst (Fails far) r fails)) (of_own (λ f. AsideFails f Memory after.end) (subst (λ y. AsideFails far y after.end) r (left accord none_at_rls))))
 
-  pub never_told : (x y : SnepFault) → x ≡ y → (Accords l.client far → Quiet → AsideFails far x after) → AsideFails far y after
-  never_told x y r left = subst (λ z. AsideFails far z after) r (left accord none_at_rls)
+  pub never_told : (x y : SnepFault) → x ≡ y → (Accords l.client far → Quiet → AsideFails far x after.end) → AsideFails far y after.end
+  never_told x y r left = subst (λ z. AsideFails far z after.end) r (left accord none_at_rls)

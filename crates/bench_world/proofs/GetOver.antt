@@ -1,6 +1,6 @@
 -- What becomes of a get and of a lookup, by what their calls on the field say.
 use Rattle.std.proofs.Common.{◌≡◌, ℕ, List, [], Option, Some, None, refl, sym, subst, inl, inr}
-use Rattle.std.specs.Prelude.{get_or, slice_set}
+use Rattle.nfc_base.specs.Choosing.{Choosing}
 use Rattle.nfc_base.specs.declared.carrier.EndCause.{EndCause}
 use Rattle.nfc_base.specs.declared.carrier.EndCause.TheVariants as cause
 use Rattle.nfc_base.specs.declared.event.Event.{Event}
@@ -8,6 +8,7 @@ use Rattle.air_core.specs.Turn.{Air}
 use Rattle.dep_link.specs.Initiator.{InitState}
 use Rattle.snep_core.specs.declared.fault.SnepFault.{SnepFault}
 use Rattle.snep_core.specs.declared.fault.SnepFault.TheVariants.{BadPeer, LinkEnded, Memory}
+use Rattle.snep_core.specs.declared.job.Ending.{Ending}
 use Rattle.snep_core.specs.declared.job.Ending.TheVariants.{Value, Sap, Refused}
 use Rattle.snep_core.specs.declared.job.Job.TheVariants.{Over}
 use Rattle.snep_core.specs.declared.job.Refusal.{Refusal}
@@ -26,14 +27,15 @@ use Rattle.bench_world.specs.declared.entry.Answer.{Answer}
 use Rattle.bench_world.specs.declared.entry.Answer.TheVariants as answers
 use Rattle.bench_world.specs.World.{FarEnd}
 use Rattle.bench_world.specs.Calls.{told_ending, told_loss}
-use Rattle.bench_world.specs.Legal.{FrontOf, MayGet}
+use Rattle.bench_world.specs.Legal.{FrontOf, Joins, MayGet}
 use Rattle.bench_world.specs.Peers.{Peers}
 use Rattle.bench_world.proofs.OnCall.{given_by}
-use Rattle.bench_world.specs.Links.{OpenLink, accepted_by, end_numbered, with_last_ended}
-use Rattle.bench_world.specs.Obeying.{Machines, IsCutOff, IsSettled, Obeyed, state_at, under}
+use Rattle.bench_world.specs.Links.{OpenLink}
+use Rattle.bench_world.specs.LinkTaken.{TakesLink, put_back, put_down}
+use Rattle.bench_world.specs.Obeying.{Machines, IsCutOff, IsSettled, ObeyedBy, state_at, under}
 use Rattle.bench_world.proofs.OnLink.{Ends as FarEnds}
 use Rattle.bench_world.proofs.Getting.{value_got, get_refused, get_lost, get_short, name_found, lookup_lost, lookup_short}
-use Rattle.bench_world.proofs.Chosen.{so, spot, its, accords_so, obeyed_so, cut_so, place_is, far_is}
+use Rattle.bench_world.proofs.LinkOver.{Before, GoneAt, OpenAt, accords, called, counted, far_is, gone_so, its, link, open_so, short_so, so, spot}
 
 same_refusal : (v w : Refusal) → refused_by v ≡ refused_by w → w ≡ v
 same_refusal refusals.Reject refusals.Reject e = refl
@@ -65,60 +67,55 @@ never_short refusals.NotFound e = cc
 never_short refusals.Excess e = cc
 never_short refusals.NotImplemented e = cc
 
-module _ (old : Machines) (settled : IsSettled old) (l : OpenLink) (linked : old.link ≡ Some l) (q : ℕ) (at : (os : FarEnds) → end_numbered l.peer old.peers.numbers os ≡ get_or os q None) (w : Option FarEnd) (far : FarEnd)
-    (holds : w ≡ get_or old.ends q w) (some : w ≡ Some far) (b : Air Device) (j : InitState) (after : FarEnd) (client : EndState) (was : Machines) (is : was ≡ old) where
-  pub same_far : far ≡ its old settled l linked
-  same_far = far_is old settled l linked q at w far holds some
+module _ (old mid : Machines) (settled : IsSettled old) (q : ℕ) (l : OpenLink) (far : FarEnd) (t : TakesLink old q l far mid) (joins : Joins) (b : Air Device) (j : InitState) (after : Choosing FarEnd)
+    (client : EndState) where
+  abbrev Of : FarEnd → Choosing FarEnd
+  Of f = counted old mid settled q l far t joins b j after client f
 
-  pub accords : Accords l.client far
-  accords = accords_so old settled l linked q at w far holds some
+  abbrev Own : FarEnd
+  Own = its old mid settled q l far t
 
-  abbrev OpenAt : ℕ → Machines
-  OpenAt n = under (slice_set old.ends n (Some after)) old.peers (Some (record { peer = l.peer; initiator = j; client = client })) b
+  -- what holds of the end that was taken holds of the end of the link's peer
+  of_own : (P : FarEnd → Type 0) → P far → P Own
+  of_own P p = subst P (far_is old mid settled q l far t) p
 
-  abbrev pub GoneAt : ℕ → Machines
-  GoneAt n = under (slice_set old.ends n (Some after)) (with_last_ended (accepted_by (get_or (slice_set old.ends n (Some after)) n None)) old.peers) None b
+  accord : Accords l.client far
+  accord = accords old mid settled q l far t
 
-  abbrev pub Before : Machines
-  Before = under old.ends old.peers (Some l) old.air
+  abbrev pub Back : Machines
+  Back = put_back (called old mid settled q l far t joins b j after client) q after.end (link old mid settled q l far t joins b j after client)
 
-  same_place : q ≡ spot old settled l linked
-  same_place = place_is old settled l linked q at
+  abbrev pub Down : Machines
+  Down = put_down (called old mid settled q l far t joins b j after client) q after.end
 
-  open_so : (c : Command) (answer : Answer) → Obeyed Before (OpenAt (spot old settled l linked)) c answer → Obeyed was (OpenAt q) c answer
-  open_so c answer o =
-      subst (λ x. Obeyed x (OpenAt q) c answer) (sym is)
-      (subst (λ n. Obeyed old (OpenAt n) c answer) (sym same_place) (obeyed_so old settled l linked _ c answer o))
+  abbrev Opens : Machines
+  Opens = OpenAt old mid settled q l far t joins b j after client (spot old mid settled q l far t)
 
-  pub gone_so : (c : Command) (answer : Answer) (new : Machines) → new ≡ GoneAt q → Obeyed Before (GoneAt (spot old settled l linked)) c answer → Obeyed was new c answer
-  gone_so c answer new left o =
-      subst (λ x. Obeyed x new c answer) (sym is) (subst (λ y. Obeyed old y c answer) (sym left)
-      (subst (λ n. Obeyed old (GoneAt n) c answer) (sym same_place) (obeyed_so old settled l linked _ c answer o)))
+  abbrev Gone : Machines
+  Gone = GoneAt old mid settled q l far t joins b j after client (spot old mid settled q l far t)
 
-  pub short_so : (c : Command) (new : Machines) → new ≡ GoneAt q → IsCutOff Before (GoneAt (spot old settled l linked)) c → IsCutOff was new c
-  short_so c new left o =
-      subst (λ x. IsCutOff x new c) (sym is) (subst (λ y. IsCutOff old y c) (sym left)
-      (subst (λ n. IsCutOff old (GoneAt n) c) (sym same_place) (cut_so old settled l linked _ c o)))
+  abbrev Was : Machines
+  Was = Before old mid settled q l far t joins b j after client
 
   module _ (most : ℕ) (key : List ℕ) (may : MayGet most key) where
+    abbrev Made : Ending → FarEnd → Type 0
+    Made e f = IsMade ghosts device_end joins.own (begins l.client (Gets most key)) old.air l.initiator (Of f) b j after (Ends (alone (Over e)) client)
+
     abbrev Fails : FarEnd → SnepFault → Type 0
-    Fails f e = RequestFails ghosts device_end (begins l.client (Gets most key)) old.air l.initiator f b j after client e
+    Fails f e = RequestFails ghosts device_end joins.own (begins l.client (Gets most key)) old.air l.initiator (Of f) b j after client e
 
     abbrev Left : FarEnd → SnepFault → Type 0
-    Left f e = GetFails most key f e client after
+    Left f e = GetFails most key f e client after.end
 
-    pub got_value : (v : List ℕ) → IsMade ghosts device_end (begins l.client (Gets most key)) old.air l.initiator far b j after (Ends (alone (Over (Value v))) client) → (Accords l.client far → IsGot most key v far client after)
-        → Obeyed was (OpenAt q) (Get most key) (answers.Value v)
-    got_value v made got =
-        open_so (Get most key) (answers.Value v)
-        (value_got old.air old.ends old.peers l (so old settled l linked) most key may b j after client v
-        (subst (λ f. IsMade ghosts device_end (begins l.client (Gets most key)) old.air l.initiator f b j after (Ends (alone (Over (Value v))) client)) same_far made)
-        (subst (λ f. IsGot most key v f client after) same_far (got accords)))
+    pub got_value : (new : Machines) → new ≡ Back → (v : List ℕ) → Made (Value v) far → (Accords l.client far → IsGot most key v far client after.end) → ObeyedBy joins old new (Get most key) (answers.Value v)
+    got_value new left v made got =
+        open_so old mid settled q l far t joins b j after client (Get most key) new (answers.Value v) left
+        (value_got old.air old.ends old.peers l (so old mid settled q l far t) most key may joins b j after client v (of_own (Made (Value v)) made) (of_own (λ f. IsGot most key v f client after.end) (got accord)))
 
-    pub got_refusal : (x : SnepFault) (why : Refusal) → x ≡ refused_by why → Fails far x → (Accords l.client far → Left far x) → Obeyed was (OpenAt q) (Get most key) (told_ending (Refused why))
-    got_refusal x why r fails left =
-        open_so (Get most key) (told_ending (Refused why))
-        (by why (subst (λ f. Fails f (refused_by why)) same_far (subst (Fails far) r fails)) (subst (λ f. Left f (refused_by why)) same_far (subst (Left far) r (left accords))))
+    pub got_refusal : (new : Machines) → new ≡ Back → (x : SnepFault) (why : Refusal) → x ≡ refused_by why → Fails far x → (Accords l.client far → Left far x) → ObeyedBy joins old new (Get most key) (told_ending (Refused why))
+    got_refusal new back x why r fails left =
+        open_so old mid settled q l far t joins b j after client (Get most key) new (told_ending (Refused why)) back
+        (by why (of_own (λ f. Fails f (refused_by why)) (subst (Fails far) r fails)) (of_own (λ f. Left f (refused_by why)) (subst (Left far) r (left accord))))
       where
         never_bad : (v : Refusal) → refused_by v ≡ BadPeer → ⊥
         never_bad refusals.Reject e = cc
@@ -126,91 +123,91 @@ module _ (old : Machines) (settled : IsSettled old) (l : OpenLink) (linked : old
         never_bad refusals.Excess e = cc
         never_bad refusals.NotImplemented e = cc
 
-        by : (v : Refusal) → Fails (its old settled l linked) (refused_by v) → Left (its old settled l linked) (refused_by v) → Obeyed Before (OpenAt (spot old settled l linked)) (Get most key) (told_ending (Refused v))
+        by : (v : Refusal) → Fails Own (refused_by v) → Left Own (refused_by v) → ObeyedBy joins Was Opens (Get most key) (told_ending (Refused v))
         by v (inl (u, e, made)) g =
-            get_refused old.air old.ends old.peers l (so old settled l linked) most key may b j after client v
-            (subst (λ z. IsMade ghosts device_end (begins l.client (Gets most key)) old.air l.initiator (its old settled l linked) b j after (Ends (alone (Over (Refused z))) client)) (same_refusal v u e) made) g
+            get_refused old.air old.ends old.peers l (so old mid settled q l far t) most key may joins b j after client v (subst (λ z. Made (Refused z) Own) (same_refusal v u e) made) g
         by v (inr (inl (bad, made))) g = absurd (never_bad v bad)
         by refusals.Reject (inr (inr never)) g = absurd never
         by refusals.NotFound (inr (inr never)) g = absurd never
         by refusals.Excess (inr (inr never)) g = absurd never
         by refusals.NotImplemented (inr (inr never)) g = absurd never
 
-    pub got_lost : (x : SnepFault) (c : EndCause) → x ≡ LinkEnded c → Fails far x → (Accords l.client far → Left far x) → (answer : Answer) → told_loss c ≡ Some answer → (new : Machines) → new ≡ GoneAt q
-        → Obeyed was new (Get most key) answer
-    got_lost x c r fails left answer told new gone =
-        gone_so (Get most key) answer new gone
-        (by c told (subst (λ f. Fails f (LinkEnded c)) same_far (subst (Fails far) r fails)) (subst (λ f. Left f (LinkEnded c)) same_far (subst (Left far) r (left accords))))
+    pub got_lost : (new : Machines) → new ≡ Down → (x : SnepFault) (c : EndCause) → x ≡ LinkEnded c → Fails far x → (Accords l.client far → Left far x) → (answer : Answer) → told_loss c ≡ Some answer
+        → ObeyedBy joins old new (Get most key) answer
+    got_lost new down x c r fails left answer told =
+        gone_so old mid settled q l far t joins b j after client (Get most key) new answer down
+        (by c told (of_own (λ f. Fails f (LinkEnded c)) (subst (Fails far) r fails)) (of_own (λ f. Left f (LinkEnded c)) (subst (Left far) r (left accord))))
       where
-        by : (c : EndCause) → told_loss c ≡ Some answer → Fails (its old settled l linked) (LinkEnded c) → Left (its old settled l linked) (LinkEnded c) → Obeyed Before (GoneAt (spot old settled l linked)) (Get most key) answer
-        by c t (inl (why, e, made)) g = absurd (never_link why c e)
-        by c t (inr (inl (bad, made))) g = absurd cc
-        by cause.FieldLost t (inr (inr ended)) g = get_lost old.air old.ends old.peers l (so old settled l linked) most key may b j after client cause.FieldLost answer ended t g
-        by cause.SixBad t (inr (inr ended)) g = get_lost old.air old.ends old.peers l (so old settled l linked) most key may b j after client cause.SixBad answer ended t g
-        by cause.Protocol t (inr (inr never)) g = absurd never
-        by cause.Memory t (inr (inr never)) g = absurd never
+        by : (c : EndCause) → told_loss c ≡ Some answer → Fails Own (LinkEnded c) → Left Own (LinkEnded c) → ObeyedBy joins Was Gone (Get most key) answer
+        by c z (inl (why, e, made)) g = absurd (never_link why c e)
+        by c z (inr (inl (bad, made))) g = absurd cc
+        by cause.FieldLost z (inr (inr ended)) g = get_lost old.air old.ends old.peers l (so old mid settled q l far t) most key may joins b j after client cause.FieldLost answer ended z g
+        by cause.SixBad z (inr (inr ended)) g = get_lost old.air old.ends old.peers l (so old mid settled q l far t) most key may joins b j after client cause.SixBad answer ended z g
+        by cause.Protocol z (inr (inr never)) g = absurd never
+        by cause.Memory z (inr (inr never)) g = absurd never
 
-    pub got_short : (x : SnepFault) → x ≡ Memory → Fails far x → (Accords l.client far → Left far x) → (new : Machines) → new ≡ GoneAt q → IsCutOff was new (Get most key)
-    got_short x r fails left new gone =
-        short_so (Get most key) new gone
-        (by (subst (λ f. Fails f Memory) same_far (subst (Fails far) r fails)) (subst (λ f. Left f Memory) same_far (subst (Left far) r (left accords))))
+    pub got_short : (new : Machines) → new ≡ Down → (x : SnepFault) → x ≡ Memory → Fails far x → (Accords l.client far → Left far x) → IsCutOff old new (Get most key)
+    got_short new down x r fails left =
+        short_so old mid settled q l far t joins b j after client (Get most key) new down
+        (by (of_own (λ f. Fails f Memory) (subst (Fails far) r fails)) (of_own (λ f. Left f Memory) (subst (Left far) r (left accord))))
       where
-        by : Fails (its old settled l linked) Memory → Left (its old settled l linked) Memory → IsCutOff Before (GoneAt (spot old settled l linked)) (Get most key)
+        by : Fails Own Memory → Left Own Memory → IsCutOff Was Gone (Get most key)
         by (inl (why, e, made)) g = absurd (never_short why e)
         by (inr (inl (bad, made))) g = absurd cc
-        by (inr (inr cut)) g = get_short old.air old.ends old.peers l (so old settled l linked) most key may b j after client cut g
+        by (inr (inr cut)) g = get_short old.air old.ends old.peers l (so old mid settled q l far t) most key may joins b j after client cut g
 
     pub never_got : (x y : SnepFault) → x ≡ y → (Accords l.client far → Left far x) → Left far y
-    never_got x y r left = subst (Left far) r (left accords)
+    never_got x y r left = subst (Left far) r (left accord)
 
   module _ (name : List ℕ) (may : SpellsName name name) where
     abbrev Looks : FarEnd → SnepFault → Type 0
-    Looks f e = CallFails ghosts device_end (begins l.client (Finds name)) old.air l.initiator f b j after client e
+    Looks f e = CallFails ghosts device_end joins.own (begins l.client (Finds name)) old.air l.initiator (Of f) b j after client e
 
-    pub looked_up : (sap : ℕ) → IsMade ghosts device_end (begins l.client (Finds name)) old.air l.initiator far b j after (Ends (alone (Over (Sap sap))) client) → (Accords l.client far → IsFound name far sap client after)
-        → Obeyed was (OpenAt q) (Lookup name) (answers.Sap sap)
-    looked_up sap made found =
-        open_so (Lookup name) (answers.Sap sap)
-        (name_found old.air old.ends old.peers l (so old settled l linked) name may b j after client sap
-        (subst (λ f. IsMade ghosts device_end (begins l.client (Finds name)) old.air l.initiator f b j after (Ends (alone (Over (Sap sap))) client)) same_far made)
-        (subst (λ f. IsFound name f sap client after) same_far (found accords)))
+    abbrev Found : ℕ → FarEnd → Type 0
+    Found sap f = IsMade ghosts device_end joins.own (begins l.client (Finds name)) old.air l.initiator (Of f) b j after (Ends (alone (Over (Sap sap))) client)
 
-    pub looked_lost : (x : SnepFault) (c : EndCause) → x ≡ LinkEnded c → Looks far x → (Accords l.client far → AsideFails far x after) → (answer : Answer) → told_loss c ≡ Some answer → (new : Machines) → new ≡ GoneAt q
-        → Obeyed was new (Lookup name) answer
-    looked_lost x c r fails left answer told new gone =
-        gone_so (Lookup name) answer new gone
-        (by c told (subst (λ f. Looks f (LinkEnded c)) same_far (subst (Looks far) r fails)) (subst (λ f. AsideFails f (LinkEnded c) after) same_far (subst (λ y. AsideFails far y after) r (left accords))))
+    pub looked_up : (new : Machines) → new ≡ Back → (sap : ℕ) → Found sap far → (Accords l.client far → IsFound name far sap client after.end) → ObeyedBy joins old new (Lookup name) (answers.Sap sap)
+    looked_up new back sap made found =
+        open_so old mid settled q l far t joins b j after client (Lookup name) new (answers.Sap sap) back
+        (name_found old.air old.ends old.peers l (so old mid settled q l far t) name may joins b j after client sap (of_own (Found sap) made) (of_own (λ f. IsFound name f sap client after.end) (found accord)))
+
+    pub looked_lost : (new : Machines) → new ≡ Down → (x : SnepFault) (c : EndCause) → x ≡ LinkEnded c → Looks far x → (Accords l.client far → AsideFails far x after.end) → (answer : Answer) → told_loss c ≡ Some answer
+        → ObeyedBy joins old new (Lookup name) answer
+    looked_lost new down x c r fails left answer told =
+        gone_so old mid settled q l far t joins b j after client (Lookup name) new answer down
+        (by c told (of_own (λ f. Looks f (LinkEnded c)) (subst (Looks far) r fails)) (of_own (λ f. AsideFails f (LinkEnded c) after.end) (subst (λ y. AsideFails far y after.end) r (left accord))))
       where
-        by : (c : EndCause) → told_loss c ≡ Some answer → Looks (its old settled l linked) (LinkEnded c) → AsideFails (its old settled l linked) (LinkEnded c) after → Obeyed Before (GoneAt (spot old settled l linked)) (Lookup name) answer
-        by c t (inl (bad, made)) g = absurd cc
-        by cause.FieldLost t (inr ended) g = lookup_lost old.air old.ends old.peers l (so old settled l linked) name may b j after client cause.FieldLost answer ended t g
-        by cause.SixBad t (inr ended) g = lookup_lost old.air old.ends old.peers l (so old settled l linked) name may b j after client cause.SixBad answer ended t g
-        by cause.Protocol t (inr never) g = absurd never
-        by cause.Memory t (inr never) g = absurd never
+        by : (c : EndCause) → told_loss c ≡ Some answer → Looks Own (LinkEnded c) → AsideFails Own (LinkEnded c) after.end → ObeyedBy joins Was Gone (Lookup name) answer
+        by c z (inl (bad, made)) g = absurd cc
+        by cause.FieldLost z (inr ended) g = lookup_lost old.air old.ends old.peers l (so old mid settled q l far t) name may joins b j after client cause.FieldLost answer ended z g
+        by cause.SixBad z (inr ended) g = lookup_lost old.air old.ends old.peers l (so old mid settled q l far t) name may joins b j after client cause.SixBad answer ended z g
+        by cause.Protocol z (inr never) g = absurd never
+        by cause.Memory z (inr never) g = absurd never
 
-    pub looked_short : (x : SnepFault) → x ≡ Memory → Looks far x → (Accords l.client far → AsideFails far x after) → (new : Machines) → new ≡ GoneAt q → IsCutOff was new (Lookup name)
-    looked_short x r fails left new gone =
-        short_so (Lookup name) new gone
-        (by (subst (λ f. Looks f Memory) same_far (subst (Looks far) r fails)) (subst (λ f. AsideFails f Memory after) same_far (subst (λ y. AsideFails far y after) r (left accords))))
+    pub looked_short : (new : Machines) → new ≡ Down → (x : SnepFault) → x ≡ Memory → Looks far x → (Accords l.client far → AsideFails far x after.end) → IsCutOff old new (Lookup name)
+    looked_short new down x r fails left =
+        short_so old mid settled q l far t joins b j after client (Lookup name) new down
+        (by (of_own (λ f. Looks f Memory) (subst (Looks far) r fails)) (of_own (λ f. AsideFails f Memory after.end) (subst (λ y. AsideFails far y after.end) r (left accord))))
       where
-        by : Looks (its old settled l linked) Memory → AsideFails (its old settled l linked) Memory after → IsCutOff Before (GoneAt (spot old settled l linked)) (Lookup name)
+        by : Looks Own Memory → AsideFails Own Memory after.end → IsCutOff Was Gone (Lookup name)
         by (inl (bad, made)) g = absurd cc
-        by (inr cut) g = lookup_short old.air old.ends old.peers l (so old settled l linked) name may b j after client cut g
+        by (inr cut) g = lookup_short old.air old.ends old.peers l (so old mid settled q l far t) name may joins b j after client cut g
 
-    pub never_looked : (x y : SnepFault) → x ≡ y → (Accords l.client far → AsideFails far x after) → AsideFails far y after
-    never_looked x y r left = subst (λ z. AsideFails far z after) r (left accords)
+    pub never_looked : (x y : SnepFault) → x ≡ y → (Accords l.client far → AsideFails far x after.end) → AsideFails far y after.end
+    never_looked x y r left = subst (λ z. AsideFails far z after.end) r (left accord)
 
 -- where no link is open nothing is sent
-module _ (air : Air Device) (ends : FarEnds) (peers : Peers) (settled : IsSettled (under ends peers None air)) where
+module _ (air : Air Device) (ends : FarEnds) (peers : Peers) (settled : IsSettled (under ends peers None air)) (joins : Joins) where
   abbrev Rests : Command → Type 0
-  Rests c = Obeyed (under ends peers None air) (under ends peers None air) c answers.NoLink
+  Rests c = ObeyedBy joins (under ends peers None air) (under ends peers None air) c answers.NoLink
 
   abbrev Front : Command → List Event → Type 0
-  Front c es = FrontOf (state_at (under ends peers None air)) (given_by [] []) c es (Some answers.NoLink) (state_at (under ends peers None air))
+  Front c es = FrontOf (state_at (under ends peers None air)) (given_by joins) c es (Some answers.NoLink) (state_at (under ends peers None air))
 
   got_none : (most : ℕ) (key : List ℕ) → MayGet most key → Rests (Get most key)
   got_none most key may = record {
-    given = given_by [] [];
+    given = given_by joins;
+    joined = refl;
     front = subst (Front (Get most key)) (sym settled.idle.quiet) (record { accepted = may; asks = refl; turns = record { moves = []; made = refl }; fates = tt; each = tt; after = refl });
     over = refl;
     answered = refl;
@@ -222,7 +219,8 @@ module _ (air : Air Device) (ends : FarEnds) (peers : Peers) (settled : IsSettle
 
   looked_none : (name : List ℕ) → SpellsName name name → Rests (Lookup name)
   looked_none name may = record {
-    given = given_by [] [];
+    given = given_by joins;
+    joined = refl;
     front = subst (Front (Lookup name)) (sym settled.idle.quiet) (record { accepted = may; asks = refl; turns = record { moves = []; made = refl }; fates = tt; each = tt; after = refl });
     over = refl;
     answered = refl;
@@ -234,7 +232,8 @@ module _ (air : Air Device) (ends : FarEnds) (peers : Peers) (settled : IsSettle
 
   closed_none : Rests Unlink
   closed_none = record {
-    given = given_by [] [];
+    given = given_by joins;
+    joined = refl;
     front = subst (Front Unlink) (sym settled.idle.quiet) (record { accepted = tt; asks = refl; turns = record { moves = []; made = refl }; fates = tt; each = tt; after = refl });
     over = refl;
     answered = refl;
@@ -244,23 +243,21 @@ module _ (air : Air Device) (ends : FarEnds) (peers : Peers) (settled : IsSettle
     link = tt;
   }
 
-module _ (old : Machines) (settled : IsSettled old) (none : old.link ≡ None) (was : Machines) (is : was ≡ old) (o : Option OpenLink) (left : o ≡ None) where
+module _ (old new : Machines) (settled : IsSettled old) (none : old.link ≡ None) (same : new ≡ old) (joins : Joins) where
   abbrev Now : Option OpenLink → Machines
   Now x = under old.ends old.peers x old.air
 
-  stays_so : (c : Command) → Obeyed (Now None) (Now None) c answers.NoLink → Obeyed was (Now o) c answers.NoLink
-  stays_so c done =
-      subst (λ x. Obeyed x (Now o) c answers.NoLink) (sym is)
-      (subst (λ x. Obeyed (Now x) (Now o) c answers.NoLink) (sym none) (subst (λ x. Obeyed (Now None) (Now x) c answers.NoLink) (sym left) done))
+  stays_so : (c : Command) → ObeyedBy joins (Now None) (Now None) c answers.NoLink → ObeyedBy joins old new c answers.NoLink
+  stays_so c done = subst (λ x. ObeyedBy joins old x c answers.NoLink) (sym same) (subst (λ x. ObeyedBy joins (Now x) (Now x) c answers.NoLink) (sym none) done)
 
   idle : IsSettled (Now None)
   idle = subst (λ x. IsSettled (Now x)) none settled
 
-  pub get_nowhere : (most : ℕ) (key : List ℕ) → MayGet most key → Obeyed was (Now o) (Get most key) answers.NoLink
-  get_nowhere most key may = stays_so (Get most key) (got_none old.air old.ends old.peers idle most key may)
+  pub get_nowhere : (most : ℕ) (key : List ℕ) → MayGet most key → ObeyedBy joins old new (Get most key) answers.NoLink
+  get_nowhere most key may = stays_so (Get most key) (got_none old.air old.ends old.peers idle joins most key may)
 
-  pub lookup_nowhere : (name : List ℕ) → SpellsName name name → Obeyed was (Now o) (Lookup name) answers.NoLink
-  lookup_nowhere name may = stays_so (Lookup name) (looked_none old.air old.ends old.peers idle name may)
+  pub lookup_nowhere : (name : List ℕ) → SpellsName name name → ObeyedBy joins old new (Lookup name) answers.NoLink
+  lookup_nowhere name may = stays_so (Lookup name) (looked_none old.air old.ends old.peers idle joins name may)
 
-  pub close_nowhere : Obeyed was (Now o) Unlink answers.NoLink
-  close_nowhere = stays_so Unlink (closed_none old.air old.ends old.peers idle)
+  pub close_nowhere : ObeyedBy joins old new Unlink answers.NoLink
+  close_nowhere = stays_so Unlink (closed_none old.air old.ends old.peers idle joins)

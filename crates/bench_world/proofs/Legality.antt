@@ -194,6 +194,7 @@ asks_so what os old new c asked ns answer idle places keeps accepted still g ove
     ap (λ (w : World Device). map is_tag w.listeners) world ∙ kinds_stay old.listeners (replay air (moment old).world g.events).listeners (devices_stay (moment old).world g.events) in
     record {
       given = asks_for asked;
+      joined = refl;
       front = front_so (Some answer) os old new c asked ns idle accepted still g asked_by none plain;
       over = ap (λ es. due st (asks_for asked) c (receptions es)) trace ∙ ap (due st (asks_for asked) c) g.known ∙ over;
       answered = subst (λ es. AnswerLaw st (asks_for asked) c es answer) (sym trace) law;

@@ -49,6 +49,7 @@ pub mod ReleaseCalm
 pub mod CallEnds
 pub mod Putting
 pub mod Chosen
+pub mod LinkOver
 pub mod PutOver
 pub mod Getting
 pub mod GetOver

@@ -72,7 +72,7 @@ module _ (m : Machines) (settled : IsSettled m) (unlinked : m.link ≡ None) (id
       abbrev o : OpensAt (upon m mid) now place miu rw served.peer served.end result
       o = opens served.peer served.end served.numbered served.stands
 
-      abbrev asked : Opens restarts (Answers serving) mid served.end o.air o.after (own_general miu) place s.device o.came
+      abbrev asked : Opens restarts (Answers serving 0) mid served.end o.air o.after (own_general miu) place s.device o.came
       asked = o.asks place s.device s.stands peer
 
       abbrev left_none : Machines

@@ -4,6 +4,7 @@ use Rattle.std.specs.Prelude.{get_or, slice_set, IfOk}
 use Rattle.std.specs.List.{AllByRecursion}
 use Rattle.std.proofs.lemmas.Bool.{cases_lt}
 use Rattle.std.proofs.lemmas.List.{append-nil, length-map, length-set}
+use Rattle.nfc_base.specs.Choosing.{Choosing}
 use Rattle.nfc_base.specs.declared.event.Event.{Event}
 use Rattle.nfc_base.specs.declared.event.Event.TheVariants.{Reset, Request, Answer, Clash}
 use Rattle.nfc_base.specs.declared.event.Fate.{Fate}
@@ -41,7 +42,7 @@ use Rattle.dep_link.specs.AnyTarget.{AnswersAtr, atr_next, told_initiator}
 use Rattle.llcp_link.specs.Answering.{Answers}
 use Rattle.far_air.specs.FarEnds.{by_link, rests}
 use Rattle.far_air.specs.FarWorld.{with_numbers}
-use Rattle.far_air.specs.FarLaws.{seen, seen_at, shown, with_far, behind_all}
+use Rattle.far_air.specs.FarLaws.{seen, shown, with_far}
 use Rattle.far_air.specs.FarTurns.{FarGoing}
 use Rattle.far_air.specs.Quietly.{NoneHands}
 use Rattle.far_air.proofs.Quietly.{unlinked_stay}
@@ -89,7 +90,7 @@ use Rattle.bench_world.proofs.Locking.{has_id}
 use Rattle.bench_world.proofs.Removing.{under_at}
 use Rattle.bench_world.proofs.PlacesKept.{served_as, kinds_of, first_end}
 use Rattle.bench_world.proofs.OnLink.{end_shown, end_there, linked_in}
-use Rattle.bench_world.proofs.Restarted.{KeepsEnd, begun_anew, times_keep, last_begun, far_there, far_set, set_there, set_rests, set_served, served_at, begin_self, first_of, readable_said}
+use Rattle.bench_world.proofs.Restarted.{KeepsEnd, begun_anew, times_keep, last_begun, far_there, far_set, set_there, set_rests, set_served, served_at, first_of, readable_said}
 use Rattle.bench_world.proofs.Unlinking.{accepted_shown}
 use Rattle.bench_world.proofs.WholeNotes.{whole_notes}
 use Rattle.bench_world.proofs.Legality.{selecting_more, told_lost, poll_lost, asks_for, above, front_so, asks_so, plain_after, part_stays, stores_stay, stores_kept, stable_in}
@@ -341,56 +342,53 @@ module _ (ends : Ends) (peers : Peers) (old : Air Device) (id : List ℕ) (miu r
         (served_at stands.before stands.device stands.behind peers.numbers ends (sym (same_tag s.device stands.device (ap (λ (k : Kept). k.fixed.kind) (sym old_at.same))) ∙ peer)
         (subst (λ ls. AreServed ls peers.numbers ends) stands.split places.served))
 
+    -- an end that gives as many PDUs as fit
+    abbrev most : FarEnd → Choosing FarEnd
+    most end = record { end = end; numbers = [] }
+
     -- It was a peer, and ATR_REQ was asked of it.
     module _ (peer : is_tag s.device ≡ false) (far after : FarEnd) (there : get_or ends place None ≡ Some far) (new : Air Device) (result : Result (InitState × ArrayVec ℕ) EndCause)
-        (o : Opens restarts (Answers serving) mid far new after (own_general miu) place s.device result) where
+        (o : Opens restarts (Answers serving 0) mid far new after (own_general miu) place s.device result) where
       told : selecting (A id) hs ≡ Told (Ok kinds.Peer) []
       told = s.selects.told ∙ ap (λ k. Told (Ok k) []) (peer_seen s.device peer)
 
-      pub fg : FarGoing devices device_linked peer_ends (linking (A id) (own_general miu)) (moment old) (moment new) (hs ++ o.notes) place ends far after
+      pub fg : FarGoing devices device_linked peer_ends (linking (A id) (own_general miu)) (moment old) (moment new) (hs ++ o.notes) place ends (most far) (most after)
       fg =
-          (opens_far restarts (Answers serving) peer_ends (λ l. l) ends_table (ends_step serving) (A id) (own_general miu) place s.device result old mid new far after hs (own_short miu) s.selects.asked.going told s.stands peer o ends).0
-
-      abbrev pub joins : Joins
-      joins = record { own = []; far = fg.taken }
+          (opens_far restarts (Answers serving 0) peer_ends most ends_table (ends_step serving) (A id) (own_general miu) place s.device result old mid new far after hs (own_short miu) s.selects.asked.going told s.stands peer o ends).0
 
       abbrev pub given : Given
-      given = record { asked = []; joins = joins }
-
-      abbrev going : Going bench_air (linking (A id) (own_general miu)) (seen_at device_linked peer_ends (moment old) (with_far ends place far) fg.taken)
-          (seen_at device_linked peer_ends (moment new) (with_far ends place after) (behind_all fg.taken fg.taken)) (hs ++ o.notes)
-      going = fg.going fg.taken (begin_self fg.taken)
+      given = record { asked = []; joins = no_joins }
 
       abbrev es : List Event
-      es = going.events
+      es = fg.events
 
       trace : new.trace ≡ es
-      trace = ap (λ (m : Moment WholeWorld). m.trace) going.moment ∙ ap (λ t. t ++ es) idle.quiet
+      trace = ap (λ (m : Moment WholeWorld). m.trace) fg.moment ∙ ap (λ t. t ++ es) idle.quiet
 
       abbrev pub ends_then : Ends
       ends_then = slice_set ends place (Some after)
 
       -- the world behind it
-      world : world_after st joins (Link id miu rw) es ≡ seen device_linked peer_ends (moment new).world ends_then []
+      world : world_after st no_joins (Link id miu rw) es ≡ seen device_linked peer_ends (moment new).world ends_then []
       world =
-          let W : Ends → WholeWorld = λ xs. with_numbers (replay bench_air (seen device_linked peer_ends (moment old).world xs fg.taken) es) [] in
-          ap W (sym (far_there ends place far there)) ∙ sym (ap (λ (m : Moment WholeWorld). with_numbers m.world []) going.moment)
+          let W : Ends → WholeWorld = λ xs. with_numbers (replay bench_air (seen device_linked peer_ends (moment old).world xs []) es) [] in
+          ap W (sym (far_there ends place far there)) ∙ sym (ap (λ (m : Moment WholeWorld). with_numbers m.world []) fg.moment)
           ∙ ap (λ xs. seen device_linked peer_ends (moment new).world xs []) (far_set ends place far after there)
 
-      front_at : (told_so : Option Told_answer) (p : Peers) (l : Option OpenLink) → p ≡ peers_after st joins (Link id miu rw) es told_so → l ≡ link_after st joins (Link id miu rw) es told_so
+      front_at : (told_so : Option Told_answer) (p : Peers) (l : Option OpenLink) → p ≡ peers_after st no_joins (Link id miu rw) es told_so → l ≡ link_after st no_joins (Link id miu rw) es told_so
           → FrontOf st given (Link id miu rw) es told_so (state_at (record { air = new; ends = ends_then; peers = p; link = l }))
       front_at told_so p l peers_so link_so =
-          let T : Ends → Type 0 = λ xs. AreTurns bench_air (seen device_linked peer_ends (moment old).world xs fg.taken) es in
+          let T : Ends → Type 0 = λ xs. AreTurns bench_air (seen device_linked peer_ends (moment old).world xs []) es in
           let S : WholeWorld → List Fate → Peers → Option OpenLink → State = λ w q x y. record { world = w; queue = q; peers = x; link = y } in
-          let w : WholeWorld = world_after st joins (Link id miu rw) es in
+          let w : WholeWorld = world_after st no_joins (Link id miu rw) es in
           record {
             accepted = may;
             asks = refl;
-            turns = subst T (far_there ends place far there) going.turns;
-            fates = going.fates;
-            each = going.each;
-            after = ap (λ x. S x new.fates p l) (sym world) ∙ ap (λ q. S w q p l) (ap (λ (m : Moment WholeWorld). m.queue) going.moment) ∙ ap (λ x. S w (queue_after old.fates es) x l) peers_so
-                ∙ ap (S w (queue_after old.fates es) (peers_after st joins (Link id miu rw) es told_so)) link_so;
+            turns = subst T (far_there ends place far there) fg.turns;
+            fates = fg.fates;
+            each = fg.each;
+            after = ap (λ x. S x new.fates p l) (sym world) ∙ ap (λ q. S w q p l) (ap (λ (m : Moment WholeWorld). m.queue) fg.moment) ∙ ap (λ x. S w (queue_after old.fates es) x l) peers_so
+                ∙ ap (S w (queue_after old.fates es) (peers_after st no_joins (Link id miu rw) es told_so)) link_so;
           }
 
       same : map kept new.listeners ≡ map kept old.listeners
@@ -403,7 +401,7 @@ module _ (ends : Ends) (peers : Peers) (old : Air Device) (id : List ℕ) (miu r
       keeps_end = times_keep (own_general miu) o.times far after o.restarted
 
       -- nothing that stays changed
-      stays : stable (world_after st joins (Link id miu rw) es) ≡ stable st.world
+      stays : stable (world_after st no_joins (Link id miu rw) es) ≡ stable st.world
       stays =
           let S : List StablePart → Ends → Stable = λ ds xs. record { devices = ds; ends = xs } in
           ap stable world ∙ ap (λ ds. S ds (map (rests peer_ends) (shown device_linked peer_ends new.listeners ends_then))) (stores_kept new.listeners ∙ ap (map stable_in) same ∙ sym (stores_kept old.listeners))
@@ -436,7 +434,7 @@ module _ (ends : Ends) (peers : Peers) (old : Air Device) (id : List ℕ) (miu r
           record {
             polled = Ok kinds.Peer;
             behind = o.notes;
-            selected = ap (selecting (A id)) going.known ∙ selecting_more (A id) hs o.notes (Ok kinds.Peer) told;
+            selected = ap (selecting (A id)) fg.known ∙ selecting_more (A id) hs o.notes (Ok kinds.Peer) told;
             cause = tt;
             ends = e;
             lost = (
@@ -448,21 +446,22 @@ module _ (ends : Ends) (peers : Peers) (old : Air Device) (id : List ℕ) (miu r
           }
 
       abbrev Begins : OpenLink → Type 0
-      Begins l = BeginsAt l (own_general miu) peers.numbers st.world.fars (world_after st joins (Link id miu rw) es).fars
+      Begins l = BeginsAt l (own_general miu) peers.numbers st.world.fars (world_after st no_joins (Link id miu rw) es).fars
 
-      obeyed_at : (answer : Told_answer) (p : Peers) (l : Option OpenLink) → p ≡ peers_after st joins (Link id miu rw) es (Some answer) → l ≡ link_after st joins (Link id miu rw) es (Some answer)
+      obeyed_at : (answer : Told_answer) (p : Peers) (l : Option OpenLink) → p ≡ peers_after st no_joins (Link id miu rw) es (Some answer) → l ≡ link_after st no_joins (Link id miu rw) es (Some answer)
           → p.numbers ≡ peers.numbers → p.gone ≡ peers.gone → LinkTells (A id) old.listeners count (own_general miu) es answer → due_at (stand 0 (atr_frame (own_general miu) ∷ []) o.notes) ≡ Over
-          → IfLinked (link_after st joins (Link id miu rw) es (Some answer)) Begins (Unit {0}) → ((n : ℕ) → answer ≡ answers.Linked n → IsSome l)
+          → IfLinked (link_after st no_joins (Link id miu rw) es (Some answer)) Begins (Unit {0}) → ((n : ℕ) → answer ≡ answers.Linked n → IsSome l)
           → KeepsLink (record { air = new; ends = ends_then; peers = p; link = l }) → Obeyed (under ends peers None old) (record { air = new; ends = ends_then; peers = p; link = l }) (Link id miu rw) answer
       obeyed_at answer p l peers_so link_so numbers placed tells done begins opens keeps =
           let N : Machines = record { air = new; ends = ends_then; peers = p; link = l } in
           let F : List Event → Type 0 = λ xs. FrontOf st given (Link id miu rw) xs (Some answer) (state_at N) in
-          let L : List Event → Type 0 = λ xs. LinkingLaw st joins id miu rw xs answer in
+          let L : List Event → Type 0 = λ xs. LinkingLaw st no_joins id miu rw xs answer in
           let law : L es = record { tells = tells; begins = begins; stays = stays; opens = λ n linked. subst (λ o. IsSome o) link_so (opens n linked) } in
           record {
             given = given;
+            joined = refl;
             front = subst F (sym trace) (front_at (Some answer) p l peers_so link_so);
-            over = ap (λ xs. linking (A id) (own_general miu) (receptions xs)) trace ∙ ap (linking (A id) (own_general miu)) going.known
+            over = ap (λ xs. linking (A id) (own_general miu) (receptions xs)) trace ∙ ap (linking (A id) (own_general miu)) fg.known
                 ∙ link_asks.behind (A id) (own_general miu) kinds.Peer hs o.notes told ∙ done;
             answered = subst L (sym trace) law;
             tame = subst AreTame (sym same) idle.tame;
@@ -522,7 +521,7 @@ module _ (ends : Ends) (peers : Peers) (old : Air Device) (id : List ℕ) (miu r
         with_id : device_with id old.listeners ≡ Some stands.device
         with_id = has_id old (A id) place idle stands
 
-        link_so : Some link_now ≡ link_after st joins (Link id miu rw) es (Some (answers.Linked count))
+        link_so : Some link_now ≡ link_after st no_joins (Link id miu rw) es (Some (answers.Linked count))
         link_so =
             let target : device_target s.device ≡ device_target stands.device = ap (λ (k : Kept). k.fixed.target) (sym old_at.same) in
             let L : InitState → List ℕ → Option OpenLink = λ i told_bytes. Some (record { peer = n; initiator = i; client = new_client miu rw told_bytes }) in
@@ -538,7 +537,7 @@ module _ (ends : Ends) (peers : Peers) (old : Air Device) (id : List ℕ) (miu r
         counted : accepted_at n peers (shown device_linked peer_ends old.listeners ends) ≡ length far.service.accepted
         counted = accepted_shown n peers.numbers old.listeners ends places.numbers ∙ ap accepted_by (first_end n place peers.numbers first_at ends ∙ there)
 
-        peers_so : with_link range peers ≡ peers_after st joins (Link id miu rw) es (Some (answers.Linked count))
+        peers_so : with_link range peers ≡ peers_after st no_joins (Link id miu rw) es (Some (answers.Linked count))
         peers_so =
             let fars : Ends = shown device_linked peer_ends old.listeners ends in
             ap (λ k. with_link (record { peer = n; start = k; end = None }) peers) (sym counted) ∙ ap (λ l. begun_if l fars peers) link_so
@@ -568,7 +567,7 @@ module _ (ends : Ends) (peers : Peers) (old : Air Device) (id : List ℕ) (miu r
             })
 
         -- its peer's end began a new link, whether the state had all of it or what stays
-        end_now : end_numbered n peers.numbers (world_after st joins (Link id miu rw) es).fars ≡ Some after
+        end_now : end_numbered n peers.numbers (world_after st no_joins (Link id miu rw) es).fars ≡ Some after
         end_now =
             ap (λ (w : WholeWorld). end_numbered n peers.numbers w.fars) world
             ∙ end_there n place peers.numbers new.listeners ends_then after first_at (places.numbers ∙ as_many) (linked_in new place p.0 opened_so.here) (set_there ends place far after there)
@@ -577,7 +576,7 @@ module _ (ends : Ends) (peers : Peers) (old : Air Device) (id : List ℕ) (miu r
         begun_now = begun_anew (own_general miu) o.times far after o.restarted (subst (λ r. IfOk r (λ q. 0 < o.times)) is o.begun)
 
         abbrev BegunFrom : FarEnd → Type 0
-        BegunFrom e = end_numbered n peers.numbers (world_after st joins (Link id miu rw) es).fars ≡ Some (restarted serving e (own_general miu))
+        BegunFrom e = end_numbered n peers.numbers (world_after st no_joins (Link id miu rw) es).fars ≡ Some (restarted serving e (own_general miu))
 
         begins_now : Begins link_now
         begins_now =

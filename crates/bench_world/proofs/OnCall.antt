@@ -1,6 +1,7 @@
 -- A command that asks over the open link was obeyed, or cut off.
 use Rattle.std.proofs.Common.{◌≡◌, ◌↔◌, ℕ, ◌<◌, List, [], ◌∷◌, ◌++◌, map, length, true, Option, Some, None, refl, sym, ◌∙◌, ap, subst, arith}
 use Rattle.std.specs.Prelude.{get_or, slice_set, drop}
+use Rattle.nfc_base.specs.Choosing.{Choosing}
 use Rattle.nfc_base.specs.declared.carrier.EndCause.{EndCause}
 use Rattle.nfc_base.specs.declared.carrier.EndCause.TheVariants as cause
 use Rattle.nfc_base.specs.declared.event.Event.{Event}
@@ -37,7 +38,7 @@ use Rattle.bench_world.specs.Calls.{IsTold, link_behind, stands_on, told_call, t
 use Rattle.bench_world.specs.Links.{OpenLink, accepted_by, ended, ended_unless, with_last_ended}
 use Rattle.bench_world.specs.Arriving.{ArrivesAt}
 use Rattle.bench_world.specs.Legal.{State, Given, Joins, Accepts, AnswerLaw, Came, CutFront, CutStores, FrontOf, HaltsCall, IsAskedBy, LeavesStable, begun, changed, due, link_after, peers_after, world_after}
-use Rattle.bench_world.specs.Obeying.{Machines, HasPlaces, IsSettled, KeepsLink, Obeyed, state_at, under}
+use Rattle.bench_world.specs.Obeying.{Machines, HasPlaces, IsSettled, KeepsLink, ObeyedBy, state_at, under}
 use Rattle.bench_world.specs.Opened.{AreNumbered, AreServed}
 use Rattle.bench_world.specs.Peers.{Peers, next_number}
 use Rattle.bench_world.proofs.Arrived.{GoesOn, came_at}
@@ -46,8 +47,8 @@ use Rattle.bench_world.proofs.Quiet.{no_breaks}
 use Rattle.bench_world.proofs.OnLink.{Ends as FarEnds, accepted_now, as_many, bare, devices_stay, ends_more, ends_same, first, going, leaves, now, opened, queue_is, served, set_long, tame, trace_is, world_is}
 
 -- what a step of a call is said for
-abbrev pub given_by : List ℕ → List ℕ → Given
-given_by numbers taken = record { asked = []; joins = record { own = numbers; far = taken } }
+abbrev pub given_by : Joins → Given
+given_by joins = record { asked = []; joins = joins }
 
 module _ (air : Air Device) (ends : FarEnds) (peers : Peers) (l : OpenLink) (settled : IsSettled (under ends peers (Some l) air)) where
   abbrev pub from_state : State
@@ -61,20 +62,20 @@ module _ (air : Air Device) (ends : FarEnds) (peers : Peers) (l : OpenLink) (set
   end = (opened air ends peers l settled).end
 
   -- turns that were due, and where the command has its numbers
-  module _ (next : List Note → Next) (plain : (ns : List Note) → IsPlainNext (next ns)) (c : Command) (numbers : List ℕ) (b : Air Device) (after : FarEnd) (notes : List Note)
-      (g : FarGoing devices device_linked peer_ends next (moment air) (moment b) notes place ends end after)
-      (still : changed from_state c ≡ from_state) (accepts : Accepts from_state c) (asks : IsAskedBy from_state c []) (same : (ns : List Note) → due from_state (given_by numbers g.taken) c ns ≡ next ns) where
+  module _ (next : List Note → Next) (plain : (ns : List Note) → IsPlainNext (next ns)) (c : Command) (joins : Joins) (b : Air Device) (after : Choosing FarEnd) (notes : List Note)
+      (g : FarGoing devices device_linked peer_ends next (moment air) (moment b) notes place ends (record { end = end; numbers = joins.far }) after)
+      (still : changed from_state c ≡ from_state) (accepts : Accepts from_state c) (asks : IsAskedBy from_state c []) (same : (ns : List Note) → due from_state (given_by joins) c ns ≡ next ns) where
     abbrev pub given : Given
-    given = given_by numbers g.taken
+    given = given_by joins
 
     abbrev pub far_now : FarEnds
-    far_now = now air ends peers l settled next plain b after notes g
+    far_now = now air ends peers l settled next plain b joins.far after notes g
 
     abbrev es : List Event
-    es = (going air ends peers l settled next plain b after notes g).events
+    es = (going air ends peers l settled next plain b joins.far after notes g).events
 
     abbrev from : WholeWorld
-    from = first air ends peers l settled next plain b after notes g
+    from = first air ends peers l settled next plain b joins.far after notes g
 
     -- the state then
     abbrev pub to : Option OpenLink → Peers → Machines
@@ -82,24 +83,24 @@ module _ (air : Air Device) (ends : FarEnds) (peers : Peers) (l : OpenLink) (set
 
     pub world_then : seen device_linked peer_ends (world b) far_now [] ≡ world_after from_state given.joins c es
     world_then =
-        world_is air ends peers l settled next plain b after notes g
-        ∙ ap (λ (s : State). with_numbers (replay bench_air (with_numbers s.world g.taken) es) []) (sym still)
+        world_is air ends peers l settled next plain b joins.far after notes g
+        ∙ ap (λ (s : State). with_numbers (replay bench_air (with_numbers s.world joins.far) es) []) (sym still)
 
     each_due : EachDue (due from_state given c) [] es
-    each_due = due_weaker (due from_state given c) next (λ ns n e d. same ns ∙ e) [] es (going air ends peers l settled next plain b after notes g).each
+    each_due = due_weaker (due from_state given c) next (λ ns n e d. same ns ∙ e) [] es (going air ends peers l settled next plain b joins.far after notes g).each
 
     turns_then : AreTurns bench_air (begun from_state given.joins c) es
-    turns_then = subst (λ (s : State). AreTurns bench_air (with_numbers s.world g.taken) es) (sym still) (going air ends peers l settled next plain b after notes g).turns
+    turns_then = subst (λ (s : State). AreTurns bench_air (with_numbers s.world joins.far) es) (sym still) (going air ends peers l settled next plain b joins.far after notes g).turns
 
     fates_then : FatesFrom (changed from_state c).queue es
-    fates_then = subst (λ (s : State). FatesFrom s.queue es) (sym still) (going air ends peers l settled next plain b after notes g).fates
+    fates_then = subst (λ (s : State). FatesFrom s.queue es) (sym still) (going air ends peers l settled next plain b joins.far after notes g).fates
 
     pub front : (told : Option Answer) (link : Option OpenLink) (ps : Peers) → link_after from_state given.joins c es told ≡ link → peers_after from_state given.joins c es told ≡ ps
         → FrontOf from_state given c b.trace told (state_at (to link ps))
     front told link ps link_is peers_is =
         let S : WholeWorld → List Fate → Peers → Option OpenLink → State = λ w q p o. record { world = w; queue = q; peers = p; link = o } in
         let w : WholeWorld = world_after from_state given.joins c es in
-        let q : b.fates ≡ queue_after (changed from_state c).queue es = queue_is air ends peers l settled next plain b after notes g ∙ ap (λ (s : State). queue_after s.queue es) (sym still) in
+        let q : b.fates ≡ queue_after (changed from_state c).queue es = queue_is air ends peers l settled next plain b joins.far after notes g ∙ ap (λ (s : State). queue_after s.queue es) (sym still) in
         let f : FrontOf from_state given c es told (state_at (to link ps)) = record {
           accepted = accepts;
           asks = asks;
@@ -110,45 +111,46 @@ module _ (air : Air Device) (ends : FarEnds) (peers : Peers) (l : OpenLink) (set
               ∙ ap (λ x. S w (queue_after (changed from_state c).queue es) x link) (sym peers_is)
               ∙ ap (λ x. S w (queue_after (changed from_state c).queue es) (peers_after from_state given.joins c es told) x) (sym link_is);
         } in
-        subst (λ xs. FrontOf from_state given c xs told (state_at (to link ps))) (sym (trace_is air ends peers l settled next plain b after notes g)) f
+        subst (λ xs. FrontOf from_state given c xs told (state_at (to link ps))) (sym (trace_is air ends peers l settled next plain b joins.far after notes g)) f
 
-    pub places_then : setting_of after ≡ setting_of end → (link : Option OpenLink) (ps : Peers) → ps.numbers ≡ peers.numbers → ps.gone ≡ peers.gone → HasPlaces (to link ps)
+    pub places_then : setting_of after.end ≡ setting_of end → (link : Option OpenLink) (ps : Peers) → ps.numbers ≡ peers.numbers → ps.gone ≡ peers.gone → HasPlaces (to link ps)
     places_then set link ps numbered placed = record {
-      ends = set_long ends place end after (opened air ends peers l settled).above ∙ settled.places.ends ∙ sym (as_many air ends peers l settled next plain b after notes g);
-      numbers = ap length numbered ∙ settled.places.numbers ∙ sym (as_many air ends peers l settled next plain b after notes g);
-      served = subst (λ xs. AreServed b.listeners xs far_now) (sym numbered) (served air ends peers l settled next plain b after notes g set);
+      ends = set_long ends place end after.end (opened air ends peers l settled).above ∙ settled.places.ends ∙ sym (as_many air ends peers l settled next plain b joins.far after notes g);
+      numbers = ap length numbered ∙ settled.places.numbers ∙ sym (as_many air ends peers l settled next plain b joins.far after notes g);
+      served = subst (λ xs. AreServed b.listeners xs far_now) (sym numbered) (served air ends peers l settled next plain b joins.far after notes g set);
       apart = subst (λ gs. AreNumbered (length gs) ps.numbers) (sym placed) (subst (AreNumbered (next_number peers)) (sym numbered) settled.places.apart);
     }
 
     -- what stays
     pub devices_then : (stable (world_after from_state given.joins c es)).devices ≡ (stable from_state.world).devices
     devices_then =
-        ap (λ (w : WholeWorld). (stable w).devices) (sym world_then) ∙ devices_stay air ends peers l settled next plain b after notes g
+        ap (λ (w : WholeWorld). (stable w).devices) (sym world_then) ∙ devices_stay air ends peers l settled next plain b joins.far after notes g
 
-    pub ends_then : (more : List Received) → setting_of after ≡ setting_of end → after.service.accepted ≡ end.service.accepted ++ more
+    pub ends_then : (more : List Received) → setting_of after.end ≡ setting_of end → after.end.service.accepted ≡ end.service.accepted ++ more
         → (stable (world_after from_state given.joins c es)).ends ≡ with_accepted more l.peer peers.numbers (stable from_state.world).ends
-    ends_then more set e = ap (λ (w : WholeWorld). (stable w).ends) (sym world_then) ∙ ends_more air ends peers l settled next plain b after notes g more set e
+    ends_then more set e = ap (λ (w : WholeWorld). (stable w).ends) (sym world_then) ∙ ends_more air ends peers l settled next plain b joins.far after notes g more set e
 
-    pub stays_then : setting_of after ≡ setting_of end → after.service.accepted ≡ end.service.accepted → LeavesStable from_state given.joins c es
+    pub stays_then : setting_of after.end ≡ setting_of end → after.end.service.accepted ≡ end.service.accepted → LeavesStable from_state given.joins c es
     stays_then set e =
         let S : List StablePart → FarEnds → Stable = λ ds os. record { devices = ds; ends = os } in
         ap stable (sym world_then)
-        ∙ ap (λ ds. S ds (bare b.listeners far_now)) (devices_stay air ends peers l settled next plain b after notes g)
-        ∙ ap (S (map stable_of air.listeners)) (ends_same air ends peers l settled next plain b after notes g set e)
+        ∙ ap (λ ds. S ds (bare b.listeners far_now)) (devices_stay air ends peers l settled next plain b joins.far after notes g)
+        ∙ ap (S (map stable_of air.listeners)) (ends_same air ends peers l settled next plain b joins.far after notes g set e)
         ∙ ap (λ (s : State). stable s.world) (sym still)
 
     pub obeyed : (answer : Answer) (link : Option OpenLink) (ps : Peers) → next notes ≡ Over → link_after from_state given.joins c es (Some answer) ≡ link → peers_after from_state given.joins c es (Some answer) ≡ ps
-        → AnswerLaw from_state given c es answer → setting_of after ≡ setting_of end → ps.numbers ≡ peers.numbers → ps.gone ≡ peers.gone → KeepsLink (to link ps)
-        → Obeyed (under ends peers (Some l) air) (to link ps) c answer
+        → AnswerLaw from_state given c es answer → setting_of after.end ≡ setting_of end → ps.numbers ≡ peers.numbers → ps.gone ≡ peers.gone → KeepsLink (to link ps)
+        → ObeyedBy joins (under ends peers (Some l) air) (to link ps) c answer
     obeyed answer link ps over link_is peers_is law set numbered placed keeps =
-        let trace : b.trace ≡ es = trace_is air ends peers l settled next plain b after notes g in
+        let trace : b.trace ≡ es = trace_is air ends peers l settled next plain b joins.far after notes g in
         record {
           given = given;
+          joined = refl;
           front = front (Some answer) link ps link_is peers_is;
-          over = ap (λ xs. due from_state given c (receptions xs)) trace ∙ ap (due from_state given c) (going air ends peers l settled next plain b after notes g).known ∙ same notes ∙ over;
+          over = ap (λ xs. due from_state given c (receptions xs)) trace ∙ ap (due from_state given c) (going air ends peers l settled next plain b joins.far after notes g).known ∙ same notes ∙ over;
           answered = subst (λ xs. AnswerLaw from_state given c xs answer) (sym trace) law;
-          tame = tame air ends peers l settled next plain b after notes g;
-          tidy = (leaves air ends peers l settled next plain b after notes g).tidy settled.idle.tidy;
+          tame = tame air ends peers l settled next plain b joins.far after notes g;
+          tidy = (leaves air ends peers l settled next plain b joins.far after notes g).tidy settled.idle.tidy;
           places = places_then set link ps numbered placed;
           link = keeps;
         }
@@ -156,7 +158,7 @@ module _ (air : Air Device) (ends : FarEnds) (peers : Peers) (l : OpenLink) (set
     pub cut_off : (link : Option OpenLink) (ps : Peers) → link_after from_state given.joins c es None ≡ link → peers_after from_state given.joins c es None ≡ ps → CutStores from_state given.joins c es
         → CutFront from_state c b.trace (state_at (to link ps))
     cut_off link ps link_is peers_is stores =
-        (given, front None link ps link_is peers_is, subst (CutStores from_state given.joins c) (sym (trace_is air ends peers l settled next plain b after notes g)) stores)
+        (given, front None link ps link_is peers_is, subst (CutStores from_state given.joins c) (sym (trace_is air ends peers l settled next plain b joins.far after notes g)) stores)
 
     -- the request behind passed, and the far end stopped
     module _ (sent : Signal) (listeners : List Device) (d : Air Device) (asked : next notes ≡ Asks sent) (passed : first_fate b.fates ≡ Pass)
@@ -165,20 +167,20 @@ module _ (air : Air Device) (ends : FarEnds) (peers : Peers) (l : OpenLink) (set
       all = es ++ Request sent Pass ∷ []
 
       trace_more : d.trace ≡ all
-      trace_more = ap (λ (a : Air Device). a.trace) left ∙ ap (λ xs. xs ++ Request sent Pass ∷ []) (trace_is air ends peers l settled next plain b after notes g)
+      trace_more = ap (λ (a : Air Device). a.trace) left ∙ ap (λ xs. xs ++ Request sent Pass ∷ []) (trace_is air ends peers l settled next plain b joins.far after notes g)
 
       queue_more : queue_after (changed from_state c).queue all ≡ d.fates
       queue_more =
           ap (λ (s : State). queue_after s.queue all) still ∙ queue_after-append air.fates es (Request sent Pass ∷ [])
-          ∙ ap later_fates (sym (queue_is air ends peers l settled next plain b after notes g)) ∙ sym (ap (λ (a : Air Device). a.fates) left)
+          ∙ ap later_fates (sym (queue_is air ends peers l settled next plain b joins.far after notes g)) ∙ sym (ap (λ (a : Air Device). a.fates) left)
 
       pub halted : (os : FarEnds) (ps : Peers) → HaltsCall from_state c d.trace (state_at (under os ps None d))
       halted os ps =
-          let next_is : due from_state given c (receptions es) ≡ Asks sent = ap (due from_state given c) (going air ends peers l settled next plain b after notes g).known ∙ same notes ∙ asked in
-          let last : Pass ≡ first_fate (queue_after air.fates es) = sym passed ∙ ap first_fate (queue_is air ends peers l settled next plain b after notes g) in
+          let next_is : due from_state given c (receptions es) ≡ Asks sent = ap (due from_state given c) (going air ends peers l settled next plain b joins.far after notes g).known ∙ same notes ∙ asked in
+          let last : Pass ≡ first_fate (queue_after air.fates es) = sym passed ∙ ap first_fate (queue_is air ends peers l settled next plain b joins.far after notes g) in
           let every : FatesFrom (changed from_state c).queue all =
           subst (λ (s : State). FatesFrom s.queue all) (sym still)
-          (fates-append air.fates es (Request sent Pass ∷ []) (going air ends peers l settled next plain b after notes g).fates (last, tt)) in
+          (fates-append air.fates es (Request sent Pass ∷ []) (going air ends peers l settled next plain b joins.far after notes g).fates (last, tt)) in
           let due_all : EachDue (due from_state given c) [] all = due-append (due from_state given c) [] es (Request sent Pass ∷ []) each_due (next_is, tt) in
           record {
             given = given;
@@ -200,13 +202,13 @@ module _ (air : Air Device) (ends : FarEnds) (peers : Peers) (l : OpenLink) (set
     pub still : changed from_state c ≡ from_state
     pub accepts : Accepts from_state c
     pub asks : IsAskedBy from_state c []
-    pub same : (numbers taken : List ℕ) (ns : List Note) → due from_state (given_by numbers taken) c ns ≡ call_due numbers (begins l.client task) l.initiator ns
+    pub same : (joins : Joins) (ns : List Note) → due from_state (given_by joins) c ns ≡ call_due joins.own (begins l.client task) l.initiator ns
     pub link_on : (joins : Joins) (es : List Event) (answer : Answer) → link_after from_state joins c es (Some answer) ≡ link_behind l.peer (stands_on l joins.own task es)
     pub link_off : (joins : Joins) (es : List Event) → link_after from_state joins c es None ≡ None
     pub peers_on : (joins : Joins) (es : List Event) (told : Option Answer)
         → peers_after from_state joins c es told ≡ ended_unless (link_after from_state joins c es told) (Some l) (world_after from_state joins c es).fars peers
 
-  module _ (c : Command) (task : Task) (is : IsCall c task) (b : Air Device) (j : InitState) (after : FarEnd) where
+  module _ (c : Command) (task : Task) (is : IsCall c task) (b : Air Device) (j : InitState) (after : Choosing FarEnd) where
     abbrev step : Step
     step = begins l.client task
 
@@ -215,75 +217,72 @@ module _ (air : Air Device) (ends : FarEnds) (peers : Peers) (l : OpenLink) (set
       pub told : IsTold (told_call (stands_on l joins.own task events)) events answer
       pub came : Came from_state joins l c events answer
       pub devices : (stable (world_after from_state joins c events)).devices ≡ (stable from_state.world).devices
-      pub adds : (more : List Received) → after.service.accepted ≡ end.service.accepted ++ more
+      pub adds : (more : List Received) → after.end.service.accepted ≡ end.service.accepted ++ more
           → (stable (world_after from_state joins c events)).ends ≡ with_accepted more l.peer peers.numbers (stable from_state.world).ends
-      pub stays : after.service.accepted ≡ end.service.accepted → LeavesStable from_state joins c events
+      pub stays : after.end.service.accepted ≡ end.service.accepted → LeavesStable from_state joins c events
 
     abbrev pub Law : Answer → Type 0
     Law answer = (joins : Joins) (events : List Event) → Facts joins events answer → AnswerLaw from_state (record { asked = []; joins = joins }) c events answer
 
     -- the machines with the link open, and with it gone
     abbrev pub open_then : EndState → Machines
-    open_then client = under (slice_set ends place (Some after)) peers (Some (record { peer = l.peer; initiator = j; client = client })) b
+    open_then client = under (slice_set ends place (Some after.end)) peers (Some (record { peer = l.peer; initiator = j; client = client })) b
 
     abbrev pub gone_then : Machines
-    gone_then = under (slice_set ends place (Some after)) (with_last_ended (accepted_by (get_or (slice_set ends place (Some after)) place None)) peers) None b
+    gone_then = under (slice_set ends place (Some after.end)) (with_last_ended (accepted_by (get_or (slice_set ends place (Some after.end)) place None)) peers) None b
 
     -- turns of the call up to where it stands so
-    module _ (numbers : List ℕ) (standing : CallStanding) (t : CallTurns ghosts device_end device_linked peer_ends numbers step l.initiator air b place ends end after standing) where
+    module _ (joins : Joins) (standing : CallStanding) (t : CallTurns ghosts device_end device_linked peer_ends joins.own step l.initiator air b place ends (record { end = end; numbers = joins.far }) after standing) where
       abbrev pub next : List Note → Next
-      next = call_due numbers step l.initiator
+      next = call_due joins.own step l.initiator
 
       abbrev pub plain : (ns : List Note) → IsPlainNext (next ns)
-      plain = calls_plain numbers step l.initiator
+      plain = calls_plain joins.own step l.initiator
 
-      abbrev pub same : (ns : List Note) → due from_state (given_by numbers t.going.taken) c ns ≡ next ns
-      same = is.same numbers t.going.taken
+      abbrev pub same : (ns : List Note) → due from_state (given_by joins) c ns ≡ next ns
+      same = is.same joins
 
       abbrev pub events : List Event
-      events = (going air ends peers l settled next plain b after t.notes t.going).events
+      events = (going air ends peers l settled next plain b joins.far after t.notes t.going).events
 
-      abbrev pub joins : Joins
-      joins = record { own = numbers; far = t.going.taken }
-
-      stand_is : stands_on l numbers task events ≡ standing
-      stand_is = ap (call_stand numbers step l.initiator) (going air ends peers l settled next plain b after t.notes t.going).known ∙ t.stands
+      stand_is : stands_on l joins.own task events ≡ standing
+      stand_is = ap (call_stand joins.own step l.initiator) (going air ends peers l settled next plain b joins.far after t.notes t.going).known ∙ t.stands
 
       gone_peers : (told : Option Answer) → link_after from_state joins c events told ≡ None
-          → peers_after from_state joins c events told ≡ with_last_ended (accepted_by (get_or (slice_set ends place (Some after)) place None)) peers
+          → peers_after from_state joins c events told ≡ with_last_ended (accepted_by (get_or (slice_set ends place (Some after.end)) place None)) peers
       gone_peers told none =
           is.peers_on joins events told ∙ ap (λ o. ended_unless o (Some l) (world_after from_state joins c events).fars peers) none
-          ∙ ap (λ (w : WholeWorld). ended (Some l) w.fars peers) (sym (world_then next plain c numbers b after t.notes t.going is.still is.accepts is.asks same))
-          ∙ ap (λ n. with_last_ended n peers) (accepted_now air ends peers l settled next plain b after t.notes t.going)
+          ∙ ap (λ (w : WholeWorld). ended (Some l) w.fars peers) (sym (world_then next plain c joins b after t.notes t.going is.still is.accepts is.asks same))
+          ∙ ap (λ n. with_last_ended n peers) (accepted_now air ends peers l settled next plain b joins.far after t.notes t.going)
 
       -- what arrived, where this link is open then
       abbrev pub Arrived : Option OpenLink → Type 0
       Arrived link =
-          Arrives l.initiator.core.number (drop (length air.trace) b.trace) end after × GoesOn air ends peers l settled next plain b after t.notes t.going link
+          Arrives l.initiator.core.number (drop (length air.trace) b.trace) end after.end × GoesOn air ends peers l settled next plain b joins.far after t.notes t.going link
 
       came_then : (answer : Answer) (link : Option OpenLink) → link_after from_state joins c events (Some answer) ≡ link → Arrived link → Came from_state joins l c events answer
       came_then answer link link_is arrived =
           let w : WholeWorld = world_after from_state joins c events in
           subst (ArrivesAt l peers.numbers from_state.world.fars w.fars events) (sym link_is)
-          (came_at air ends peers l settled next plain b after t.notes t.going w (world_then next plain c numbers b after t.notes t.going is.still is.accepts is.asks same) link arrived.0 arrived.1)
+          (came_at air ends peers l settled next plain b joins.far after t.notes t.going w (world_then next plain c joins b after t.notes t.going is.still is.accepts is.asks same) link arrived.0 arrived.1)
 
-      facts : setting_of after ≡ setting_of end → (answer : Answer) → IsTold (told_call (stands_on l numbers task events)) events answer → Came from_state joins l c events answer → Facts joins events answer
+      facts : setting_of after.end ≡ setting_of end → (answer : Answer) → IsTold (told_call (stands_on l joins.own task events)) events answer → Came from_state joins l c events answer → Facts joins events answer
       facts set answer told came = record {
         told = told;
         came = came;
-        devices = devices_then next plain c numbers b after t.notes t.going is.still is.accepts is.asks same;
-        adds = λ more e. ends_then next plain c numbers b after t.notes t.going is.still is.accepts is.asks same more set e;
-        stays = λ e. stays_then next plain c numbers b after t.notes t.going is.still is.accepts is.asks same set e;
+        devices = devices_then next plain c joins b after t.notes t.going is.still is.accepts is.asks same;
+        adds = λ more e. ends_then next plain c joins b after t.notes t.going is.still is.accepts is.asks same more set e;
+        stays = λ e. stays_then next plain c joins b after t.notes t.going is.still is.accepts is.asks same set e;
       }
 
       -- it was told by where it stands
       told_so : (answer : Answer) → told_call standing ≡ Some answer → ((standing ≡ BrokenBy cause.FieldLost) ↔ (answer ≡ answers.LinkEnded losses.FieldLost))
-          → (answer ≡ answers.LinkEnded losses.SixBad → 0 < noise events) → (noise events ≡ 0 → bad_receptions events ≡ 0) → IsTold (told_call (stands_on l numbers task events)) events answer
+          → (answer ≡ answers.LinkEnded losses.SixBad → 0 < noise events) → (noise events ≡ 0 → bad_receptions events ≡ 0) → IsTold (told_call (stands_on l joins.own task events)) events answer
       told_so answer told lost noisy calm = record {
         tells = ap told_call stand_is ∙ told;
         lost = (
-          λ e. call_broken bench_air numbers step l.initiator _ _ t.notes (going air ends peers l settled next plain b after t.notes t.going) (t.stands ∙ lost.1 e),
-          λ some. lost.0 (sym t.stands ∙ call_lost bench_air numbers step l.initiator _ _ t.notes (going air ends peers l settled next plain b after t.notes t.going) some),
+          λ e. call_broken bench_air joins.own step l.initiator _ _ t.notes (going air ends peers l settled next plain b joins.far after t.notes t.going) (t.stands ∙ lost.1 e),
+          λ some. lost.0 (sym t.stands ∙ call_lost bench_air joins.own step l.initiator _ _ t.notes (going air ends peers l settled next plain b joins.far after t.notes t.going) some),
         );
         noisy = noisy;
         calm = calm;
@@ -292,13 +291,13 @@ module _ (air : Air Device) (ends : FarEnds) (peers : Peers) (l : OpenLink) (set
       over_at : call_due_at standing ≡ Over → next t.notes ≡ Over
       over_at e = ap call_due_at t.stands ∙ e
 
-      pub came : setting_of after ≡ setting_of end → (jobs : List OnSap) (client : EndState) → standing ≡ Comes (Ends jobs client) j → (answer : Answer) → told_step (Ends jobs client) ≡ Some answer
+      pub came : setting_of after.end ≡ setting_of end → (jobs : List OnSap) (client : EndState) → standing ≡ Comes (Ends jobs client) j → (answer : Answer) → told_step (Ends jobs client) ≡ Some answer
           → ((loss : Loss) → answer ≡ answers.LinkEnded loss → ⊥) → (noise events ≡ 0 → bad_receptions events ≡ 0) → Law answer → Arrived (Some (record { peer = l.peer; initiator = j; client = client })) → KeepsLink (open_then client)
-          → Obeyed (under ends peers (Some l) air) (open_then client) c answer
+          → ObeyedBy joins (under ends peers (Some l) air) (open_then client) c answer
       came set jobs client comes answer told never calm law arrived keeps =
           let link_is : link_after from_state joins c events (Some answer) ≡ Some (record { peer = l.peer; initiator = j; client = client }) =
           is.link_on joins events answer ∙ ap (link_behind l.peer) (stand_is ∙ comes) in
-          obeyed next plain c numbers b after t.notes t.going is.still is.accepts is.asks same answer (Some (record { peer = l.peer; initiator = j; client = client })) peers
+          obeyed next plain c joins b after t.notes t.going is.still is.accepts is.asks same answer (Some (record { peer = l.peer; initiator = j; client = client })) peers
           (over_at (ap call_due_at comes)) link_is
           (is.peers_on joins events (Some answer) ∙ ap (λ o. ended_unless o (Some l) (world_after from_state joins c events).fars peers) link_is)
           (law joins events (facts set answer (told_so answer (ap told_call comes ∙ told)
@@ -309,7 +308,7 @@ module _ (air : Air Device) (ends : FarEnds) (peers : Peers) (l : OpenLink) (set
       -- a link that ended so had noise
       broken_noisy : (why : EndCause) → standing ≡ BrokenBy why → (answer : Answer) → told_loss why ≡ Some answer → (answer ≡ answers.LinkEnded losses.SixBad → 0 < noise events) → noise events ≡ 0 → ⊥
       broken_noisy cause.FieldLost broken answer told noisy none =
-          let some : 0 < breaks events = call_broken bench_air numbers step l.initiator _ _ t.notes (going air ends peers l settled next plain b after t.notes t.going) (t.stands ∙ broken) in
+          let some : 0 < breaks events = call_broken bench_air joins.own step l.initiator _ _ t.notes (going air ends peers l settled next plain b joins.far after t.notes t.going) (t.stands ∙ broken) in
           let lit : breaks events ≡ 0 = no_breaks events none in
           omega (arith, some, lit)
       broken_noisy cause.SixBad broken answer told noisy none =
@@ -318,13 +317,13 @@ module _ (air : Air Device) (ends : FarEnds) (peers : Peers) (l : OpenLink) (set
       broken_noisy cause.Protocol broken answer told noisy none = cc
       broken_noisy cause.Memory broken answer told noisy none = cc
 
-      pub broke : setting_of after ≡ setting_of end → (why : EndCause) → standing ≡ BrokenBy why → (answer : Answer) → told_loss why ≡ Some answer
+      pub broke : setting_of after.end ≡ setting_of end → (why : EndCause) → standing ≡ BrokenBy why → (answer : Answer) → told_loss why ≡ Some answer
           → ((why ≡ cause.FieldLost) ↔ (answer ≡ answers.LinkEnded losses.FieldLost)) → (answer ≡ answers.LinkEnded losses.SixBad → 0 < noise events) → Law answer → Arrived None
-          → Obeyed (under ends peers (Some l) air) gone_then c answer
+          → ObeyedBy joins (under ends peers (Some l) air) gone_then c answer
       broke set why broken answer told lost noisy law arrived =
           let link_is : link_after from_state joins c events (Some answer) ≡ None = is.link_on joins events answer ∙ ap (link_behind l.peer) (stand_is ∙ broken) in
-          obeyed next plain c numbers b after t.notes t.going is.still is.accepts is.asks same answer None
-          (with_last_ended (accepted_by (get_or (slice_set ends place (Some after)) place None)) peers)
+          obeyed next plain c joins b after t.notes t.going is.still is.accepts is.asks same answer None
+          (with_last_ended (accepted_by (get_or (slice_set ends place (Some after.end)) place None)) peers)
           (over_at (ap call_due_at broken)) link_is (gone_peers (Some answer) link_is)
           (law joins events (facts set answer (told_so answer (ap told_call broken ∙ told)
           ((λ e. lost.0 (let same : BrokenBy why ≡ BrokenBy cause.FieldLost = sym broken ∙ e in cc)), (λ e. broken ∙ ap BrokenBy (lost.1 e))) noisy (λ none. absurd (broken_noisy why broken answer told noisy none)))
@@ -332,13 +331,13 @@ module _ (air : Air Device) (ends : FarEnds) (peers : Peers) (l : OpenLink) (set
           set refl refl tt
 
       pub short : ((joins : Joins) (events : List Event) → (devices : (stable (world_after from_state joins c events)).devices ≡ (stable from_state.world).devices)
-          → (adds : (more : List Received) → after.service.accepted ≡ end.service.accepted ++ more
+          → (adds : (more : List Received) → after.end.service.accepted ≡ end.service.accepted ++ more
           → (stable (world_after from_state joins c events)).ends ≡ with_accepted more l.peer peers.numbers (stable from_state.world).ends)
-          → (stays : after.service.accepted ≡ end.service.accepted → LeavesStable from_state joins c events) → CutStores from_state joins c events)
-          → setting_of after ≡ setting_of end → CutFront from_state c b.trace (state_at gone_then)
+          → (stays : after.end.service.accepted ≡ end.service.accepted → LeavesStable from_state joins c events) → CutStores from_state joins c events)
+          → setting_of after.end ≡ setting_of end → CutFront from_state c b.trace (state_at gone_then)
       short stores set =
-          cut_off next plain c numbers b after t.notes t.going is.still is.accepts is.asks same None (with_last_ended (accepted_by (get_or (slice_set ends place (Some after)) place None)) peers)
+          cut_off next plain c joins b after t.notes t.going is.still is.accepts is.asks same None (with_last_ended (accepted_by (get_or (slice_set ends place (Some after.end)) place None)) peers)
           (is.link_off joins events) (gone_peers None (is.link_off joins events))
-          (stores joins events (devices_then next plain c numbers b after t.notes t.going is.still is.accepts is.asks same)
-          (λ more e. ends_then next plain c numbers b after t.notes t.going is.still is.accepts is.asks same more set e)
-          (λ e. stays_then next plain c numbers b after t.notes t.going is.still is.accepts is.asks same set e))
+          (stores joins events (devices_then next plain c joins b after t.notes t.going is.still is.accepts is.asks same)
+          (λ more e. ends_then next plain c joins b after t.notes t.going is.still is.accepts is.asks same more set e)
+          (λ e. stays_then next plain c joins b after t.notes t.going is.still is.accepts is.asks same set e))

@@ -1,6 +1,7 @@
 -- The open link is closed.
 use Rattle.std.proofs.Common.{◌≡◌, ◌↔◌, ◌⊎◌, ℕ, ◌<◌, List, [], length, Option, Some, None, refl, sym, ◌∙◌, ap, subst, inl, inr, arith}
 use Rattle.std.specs.Prelude.{get_or, slice_set, drop}
+use Rattle.nfc_base.specs.Choosing.{Choosing}
 use Rattle.nfc_base.specs.declared.carrier.EndCause.{EndCause}
 use Rattle.nfc_base.specs.declared.carrier.EndCause.TheVariants as cause
 use Rattle.nfc_base.specs.declared.event.Event.{Event}
@@ -35,7 +36,7 @@ use Rattle.bench_world.specs.World.{FarEnd, WholeWorld}
 use Rattle.bench_world.specs.Calls.{stands_closing, told_closing, told_loss}
 use Rattle.bench_world.specs.Links.{OpenLink, accepted_by, ended, with_last_ended}
 use Rattle.bench_world.specs.Legal.{Joins, CutFront, HaltsCall, due, peers_after, world_after}
-use Rattle.bench_world.specs.Obeying.{Machines, IsCutOff, IsSettled, Obeyed, state_at, under}
+use Rattle.bench_world.specs.Obeying.{Machines, IsCutOff, IsSettled, ObeyedBy, state_at, under}
 use Rattle.bench_world.specs.Peers.{Peers}
 use Rattle.bench_world.specs.World.{bench_air}
 use Rattle.bench_world.proofs.Arrived.{came_at}
@@ -46,7 +47,7 @@ use Rattle.bench_world.proofs.Quiet.{no_breaks}
 use Rattle.bench_world.proofs.ReleaseCalm.{release_calm}
 use Rattle.bench_world.proofs.OnCall.{cut_off, end, from_state, given_by, halted, obeyed, place, stays_then, world_then}
 
-module _ (air : Air Device) (ends : FarEnds) (peers : Peers) (l : OpenLink) (settled : IsSettled (under ends peers (Some l) air)) (b : Air Device) (after : FarEnd) where
+module _ (air : Air Device) (ends : FarEnds) (peers : Peers) (l : OpenLink) (settled : IsSettled (under ends peers (Some l) air)) (joins : Joins) (b : Air Device) (after : Choosing FarEnd) where
   abbrev pub from : Step
   from = begins l.client Leaves
 
@@ -56,120 +57,121 @@ module _ (air : Air Device) (ends : FarEnds) (peers : Peers) (l : OpenLink) (set
   abbrev pub far : FarEnd
   far = end air ends peers l settled
 
+  -- with the numbers that are left to it
+  abbrev counted : Choosing FarEnd
+  counted = record { end = far; numbers = joins.far }
+
   abbrev pub gone : Machines
-  gone = under (slice_set ends spot (Some after)) (with_last_ended (accepted_by (get_or (slice_set ends spot (Some after)) spot None)) peers) None b
+  gone = under (slice_set ends spot (Some after.end)) (with_last_ended (accepted_by (get_or (slice_set ends spot (Some after.end)) spot None)) peers) None b
 
   -- turns of the closing up to where it stands so
-  module _ (numbers : List ℕ) (standing : ClosingStanding) (t : ClosingTurns ghosts device_linked peer_ends numbers from l.initiator air b spot ends far after standing) where
+  module _ (standing : ClosingStanding) (t : ClosingTurns ghosts device_linked peer_ends joins.own from l.initiator air b spot ends counted after standing) where
     abbrev next : List Note → Next
-    next = closing_due numbers from l.initiator
+    next = closing_due joins.own from l.initiator
 
     abbrev plain : (ns : List Note) → IsPlainNext (next ns)
-    plain = closings_plain numbers from l.initiator
+    plain = closings_plain joins.own from l.initiator
 
-    abbrev same : (ns : List Note) → due (from_state air ends peers l settled) (given_by numbers t.going.taken) Unlink ns ≡ next ns
+    abbrev same : (ns : List Note) → due (from_state air ends peers l settled) (given_by joins) Unlink ns ≡ next ns
     same = λ ns. refl
 
     abbrev events : List Event
-    events = (going air ends peers l settled next plain b after t.notes t.going).events
+    events = (going air ends peers l settled next plain b joins.far after t.notes t.going).events
 
-    abbrev joins : Joins
-    joins = record { own = numbers; far = t.going.taken }
+    stand_is : stands_closing l joins.own events ≡ standing
+    stand_is = ap (closing_stand joins.own from l.initiator) (going air ends peers l settled next plain b joins.far after t.notes t.going).known ∙ t.stands
 
-    stand_is : stands_closing l numbers events ≡ standing
-    stand_is = ap (closing_stand numbers from l.initiator) (going air ends peers l settled next plain b after t.notes t.going).known ∙ t.stands
-
-    gone_peers : (told : Option Answer) → peers_after (from_state air ends peers l settled) joins Unlink events told ≡ with_last_ended (accepted_by (get_or (slice_set ends spot (Some after)) spot None)) peers
+    gone_peers : (told : Option Answer) → peers_after (from_state air ends peers l settled) joins Unlink events told ≡ with_last_ended (accepted_by (get_or (slice_set ends spot (Some after.end)) spot None)) peers
     gone_peers told =
-        ap (λ (w : WholeWorld). ended (Some l) w.fars peers) (sym (world_then air ends peers l settled next plain Unlink numbers b after t.notes t.going refl tt refl same))
-        ∙ ap (λ n. with_last_ended n peers) (accepted_now air ends peers l settled next plain b after t.notes t.going)
+        ap (λ (w : WholeWorld). ended (Some l) w.fars peers) (sym (world_then air ends peers l settled next plain Unlink joins b after t.notes t.going refl tt refl same))
+        ∙ ap (λ n. with_last_ended n peers) (accepted_now air ends peers l settled next plain b joins.far after t.notes t.going)
 
-    pub closed : setting_of after ≡ setting_of far → after.service.accepted ≡ far.service.accepted → Arrives l.initiator.core.number (drop (length air.trace) b.trace) far after → (answer : Answer)
+    pub closed : setting_of after.end ≡ setting_of far → after.end.service.accepted ≡ far.service.accepted → Arrives l.initiator.core.number (drop (length air.trace) b.trace) far after.end → (answer : Answer)
         → told_closing standing ≡ Some answer → closing_due_at standing ≡ Over
         → ((standing ≡ Calls (BrokenBy cause.FieldLost)) ↔ (answer ≡ answers.LinkEnded losses.FieldLost)) → (answer ≡ answers.LinkEnded losses.SixBad → 0 < noise events)
-        → (noise events ≡ 0 → bad_receptions events ≡ 0) → Obeyed (under ends peers (Some l) air) gone Unlink answer
+        → (noise events ≡ 0 → bad_receptions events ≡ 0) → ObeyedBy joins (under ends peers (Some l) air) gone Unlink answer
     closed set accepted arrives answer told over lost noisy calm =
-        obeyed air ends peers l settled next plain Unlink numbers b after t.notes t.going refl tt refl same answer None
-        (with_last_ended (accepted_by (get_or (slice_set ends spot (Some after)) spot None)) peers)
+        obeyed air ends peers l settled next plain Unlink joins b after t.notes t.going refl tt refl same answer None
+        (with_last_ended (accepted_by (get_or (slice_set ends spot (Some after.end)) spot None)) peers)
         (ap closing_due_at t.stands ∙ over) refl (gone_peers (Some answer))
         (record {
           told = record {
             tells = ap told_closing stand_is ∙ told;
             lost = (
-              λ e. closing_broken bench_air numbers from l.initiator _ _ t.notes (going air ends peers l settled next plain b after t.notes t.going) (t.stands ∙ lost.1 e),
-              λ some. lost.0 (sym t.stands ∙ closing_lost bench_air numbers from l.initiator _ _ t.notes (going air ends peers l settled next plain b after t.notes t.going) some),
+              λ e. closing_broken bench_air joins.own from l.initiator _ _ t.notes (going air ends peers l settled next plain b joins.far after t.notes t.going) (t.stands ∙ lost.1 e),
+              λ some. lost.0 (sym t.stands ∙ closing_lost bench_air joins.own from l.initiator _ _ t.notes (going air ends peers l settled next plain b joins.far after t.notes t.going) some),
             );
             noisy = noisy;
             calm = calm;
           };
-          came = came_at air ends peers l settled next plain b after t.notes t.going (world_after (from_state air ends peers l settled) joins Unlink events)
-              (world_then air ends peers l settled next plain Unlink numbers b after t.notes t.going refl tt refl same) None arrives tt;
-          stays = stays_then air ends peers l settled next plain Unlink numbers b after t.notes t.going refl tt refl same set accepted;
+          came = came_at air ends peers l settled next plain b joins.far after t.notes t.going (world_after (from_state air ends peers l settled) joins Unlink events)
+              (world_then air ends peers l settled next plain Unlink joins b after t.notes t.going refl tt refl same) None arrives tt;
+          stays = stays_then air ends peers l settled next plain Unlink joins b after t.notes t.going refl tt refl same set accepted;
         }) set refl refl tt
 
-    pub closing_cut : setting_of after ≡ setting_of far → after.service.accepted ≡ far.service.accepted → CutFront (from_state air ends peers l settled) Unlink b.trace (state_at gone)
+    pub closing_cut : setting_of after.end ≡ setting_of far → after.end.service.accepted ≡ far.service.accepted → CutFront (from_state air ends peers l settled) Unlink b.trace (state_at gone)
     closing_cut set accepted =
-        cut_off air ends peers l settled next plain Unlink numbers b after t.notes t.going refl tt refl same None
-        (with_last_ended (accepted_by (get_or (slice_set ends spot (Some after)) spot None)) peers) refl (gone_peers None)
-        (stays_then air ends peers l settled next plain Unlink numbers b after t.notes t.going refl tt refl same set accepted)
+        cut_off air ends peers l settled next plain Unlink joins b after t.notes t.going refl tt refl same None
+        (with_last_ended (accepted_by (get_or (slice_set ends spot (Some after.end)) spot None)) peers) refl (gone_peers None)
+        (stays_then air ends peers l settled next plain Unlink joins b after t.notes t.going refl tt refl same set accepted)
 
   -- no device hands anything over at RLS_REQ
   module _ (quiet : (d : Device) → devices.handed d rls_frame ≡ Untouched) (j : InitState) (client : EndState) where
-    sent_set : {heard : Option Heard} → SendsRls ghosts device_end from air l.initiator far b after heard → setting_of after ≡ setting_of far
-    sent_set s = ap setting_of (s.same quiet) ∙ s.carried.setting
+    sent_set : {heard : Option Heard} → SendsRls ghosts device_end joins.own from air l.initiator counted b after heard → setting_of after.end ≡ setting_of far
+    sent_set s = ap (λ (e : Choosing FarEnd). setting_of e.end) (s.same quiet) ∙ s.carried.setting
 
     -- the peer is in step still as RLS_REQ is sent
-    in_step_then : {heard : Option Heard} → (s : SendsRls ghosts device_end from air l.initiator far b after heard) → InStepAt s.mid spot s.rest
+    in_step_then : {heard : Option Heard} → (s : SendsRls ghosts device_end joins.own from air l.initiator counted b after heard) → InStepAt s.mid spot s.rest
     in_step_then s =
         let t = s.made.turns device_linked devices_link spot (stands air ends peers l settled) ends in
-        let left = leaves air ends peers l settled (call_due t.0 from l.initiator) (calls_plain t.0 from l.initiator) s.mid s.half t.1.notes t.1.going in
+        let left = leaves air ends peers l settled (call_due joins.own from l.initiator) (calls_plain joins.own from l.initiator) s.mid joins.far s.half t.notes t.going in
         in_step (own air ends peers l settled) spot s.mid left.at s.rest s.rest.core.number [] [] s.made.open_.in_step.1 s.made.open_.in_step.0
 
-    sent_calm : {heard : Option Heard} → SendsRls ghosts device_end from air l.initiator far b after heard → IsCalm air b
+    sent_calm : {heard : Option Heard} → SendsRls ghosts device_end joins.own from air l.initiator counted b after heard → IsCalm air b
     sent_calm {heard} s =
-        calm_then air s.mid b (made_calm from s.to air s.mid l.initiator s.rest far s.half s.made) (release_calm quiet s.mid b spot s.rest (in_step_then s) s.half after heard s.turn)
+        calm_then air s.mid b (made_calm joins.own from s.to air s.mid l.initiator s.rest counted s.half s.made) (release_calm quiet s.mid b spot s.rest (in_step_then s) s.half after heard s.turn)
 
-    pub released : (to : Step) → IsReleased ghosts device_end from air l.initiator far b after to → IsClosed far client after → Obeyed (under ends peers (Some l) air) gone Unlink answers.Unlinked
+    pub released : (to : Step) → IsReleased ghosts device_end joins.own from air l.initiator counted b after to → IsClosed far client after.end → ObeyedBy joins (under ends peers (Some l) air) gone Unlink answers.Unlinked
     released to r c =
         let t = r.turns device_linked devices_link spot (stands air ends peers l settled) ends in
-        closed t.0 (Released to) t.1 (sent_set r.sent) (ap (λ (s : ServerState). s.accepted) c.aside.service) (r.sent.arrives quiet) answers.Unlinked refl refl
+        closed (Released to) t (sent_set r.sent) (ap (λ (s : ServerState). s.accepted) c.aside.service) (r.sent.arrives quiet) answers.Unlinked refl refl
         ((λ e. absurd cc), (λ e. absurd cc)) (λ e. absurd cc)
-        (added_calm air b (sent_calm r.sent) settled.idle.quiet (events t.0 (Released to) t.1)
-        (trace_is air ends peers l settled (next t.0 (Released to) t.1) (plain t.0 (Released to) t.1) b after t.1.notes t.1.going))
+        (added_calm air b (sent_calm r.sent) settled.idle.quiet (events (Released to) t)
+        (trace_is air ends peers l settled (next (Released to) t) (plain (Released to) t) b joins.far after t.notes t.going))
 
-    lost_set : (w : EndCause) → IsLost ghosts device_end from air l.initiator far b after j w → setting_of after ≡ setting_of far
+    lost_set : (w : EndCause) → IsLost ghosts device_end joins.own from air l.initiator counted b after j w → setting_of after.end ≡ setting_of far
     lost_set w x = elim x.how [
       | inl carried ↦ carried.setting
       | inr (is, sent) ↦ sent_set sent
     ]
 
-    lost_arrives : (w : EndCause) → IsLost ghosts device_end from air l.initiator far b after j w → Arrives l.initiator.core.number (drop (length air.trace) b.trace) far after
+    lost_arrives : (w : EndCause) → IsLost ghosts device_end joins.own from air l.initiator counted b after j w → Arrives l.initiator.core.number (drop (length air.trace) b.trace) far after.end
     lost_arrives w x = elim x.how [
       | inl carried ↦ carried.arrives
       | inr (is, sent) ↦ sent.arrives quiet
     ]
 
     -- a link that ended so had noise
-    lost_noisy : (numbers : List ℕ) (w : EndCause) (t : ClosingTurns ghosts device_linked peer_ends numbers from l.initiator air b spot ends far after (Calls (BrokenBy w))) (answer : Answer) → told_loss w ≡ Some answer
-        → (w ≡ cause.SixBad → 0 < noise (events numbers (Calls (BrokenBy w)) t)) → noise (events numbers (Calls (BrokenBy w)) t) ≡ 0 → ⊥
-    lost_noisy numbers cause.FieldLost t answer told noisy none =
+    lost_noisy : (w : EndCause) (t : ClosingTurns ghosts device_linked peer_ends joins.own from l.initiator air b spot ends counted after (Calls (BrokenBy w))) (answer : Answer) → told_loss w ≡ Some answer
+        → (w ≡ cause.SixBad → 0 < noise (events (Calls (BrokenBy w)) t)) → noise (events (Calls (BrokenBy w)) t) ≡ 0 → ⊥
+    lost_noisy cause.FieldLost t answer told noisy none =
         let s = Calls (BrokenBy cause.FieldLost) in
-        let some : 0 < breaks (events numbers s t) = closing_broken bench_air numbers from l.initiator _ _ t.notes (going air ends peers l settled (next numbers s t) (plain numbers s t) b after t.notes t.going) t.stands in
-        let lit : breaks (events numbers s t) ≡ 0 = no_breaks (events numbers s t) none in
+        let some : 0 < breaks (events s t) = closing_broken bench_air joins.own from l.initiator _ _ t.notes (going air ends peers l settled (next s t) (plain s t) b joins.far after t.notes t.going) t.stands in
+        let lit : breaks (events s t) ≡ 0 = no_breaks (events s t) none in
         omega (arith, some, lit)
-    lost_noisy numbers cause.SixBad t answer told noisy none = let some = noisy refl in omega (arith, some, none)
-    lost_noisy numbers cause.Protocol t answer told noisy none = cc
-    lost_noisy numbers cause.Memory t answer told noisy none = cc
+    lost_noisy cause.SixBad t answer told noisy none = let some = noisy refl in omega (arith, some, none)
+    lost_noisy cause.Protocol t answer told noisy none = cc
+    lost_noisy cause.Memory t answer told noisy none = cc
 
-    pub lost : (w : EndCause) (answer : Answer) → IsLost ghosts device_end from air l.initiator far b after j w → told_loss w ≡ Some answer → after.service.accepted ≡ far.service.accepted
-        → Obeyed (under ends peers (Some l) air) gone Unlink answer
+    pub lost : (w : EndCause) (answer : Answer) → IsLost ghosts device_end joins.own from air l.initiator counted b after j w → told_loss w ≡ Some answer → after.end.service.accepted ≡ far.service.accepted
+        → ObeyedBy joins (under ends peers (Some l) air) gone Unlink answer
     lost w answer x told accepted =
         let t = x.turns device_linked devices_link spot (stands air ends peers l settled) ends in
-        let es : List Event = events t.0 (Calls (BrokenBy w)) t.1 in
+        let es : List Event = events (Calls (BrokenBy w)) t in
         let noisy : w ≡ cause.SixBad → 0 < noise es = λ six.
         subst (λ xs. 0 < noise xs) (ap (λ xs. drop (length xs) b.trace) settled.idle.quiet
-        ∙ trace_is air ends peers l settled (next t.0 (Calls (BrokenBy w)) t.1) (plain t.0 (Calls (BrokenBy w)) t.1) b after t.1.notes t.1.going) (x.noisy six) in
-        closed t.0 (Calls (BrokenBy w)) t.1 (lost_set w x) accepted (lost_arrives w x) answer told refl (lost_is w told) (λ e. noisy (six_is w told e)) (λ none. absurd (lost_noisy t.0 w t.1 answer told noisy none))
+        ∙ trace_is air ends peers l settled (next (Calls (BrokenBy w)) t) (plain (Calls (BrokenBy w)) t) b joins.far after t.notes t.going) (x.noisy six) in
+        closed (Calls (BrokenBy w)) t (lost_set w x) accepted (lost_arrives w x) answer told refl (lost_is w told) (λ e. noisy (six_is w told e)) (λ none. absurd (lost_noisy w t answer told noisy none))
       where
         lost_is : (w : EndCause) → told_loss w ≡ Some answer → ((Calls (BrokenBy w) ≡ Calls (BrokenBy cause.FieldLost)) ↔ (answer ≡ answers.LinkEnded losses.FieldLost))
         lost_is cause.FieldLost e = ((λ q. let same : answers.LinkEnded losses.FieldLost ≡ answer = cc in sym same), (λ q. refl))
@@ -183,19 +185,19 @@ module _ (air : Air Device) (ends : FarEnds) (peers : Peers) (l : OpenLink) (set
         six_is cause.Protocol e q = absurd cc
         six_is cause.Memory e q = absurd cc
 
-    pub short : IsClosingShort ghosts device_end from air l.initiator far b after → after.service.accepted ≡ far.service.accepted → IsCutOff (under ends peers (Some l) air) gone Unlink
+    pub short : IsClosingShort ghosts device_end joins.own from air l.initiator counted b after → after.end.service.accepted ≡ far.service.accepted → IsCutOff (under ends peers (Some l) air) gone Unlink
     short s accepted = inr (by_left (s.front device_linked devices_link spot (stands air ends peers l settled) ends))
       where
-        by_left : ClosingFront ghosts device_linked peer_ends from l.initiator air b spot ends far after
+        by_left : ClosingFront ghosts device_linked peer_ends joins.own from l.initiator air b spot ends counted after
             → CutFront (from_state air ends peers l settled) Unlink b.trace (state_at gone) ⊎ HaltsCall (from_state air ends peers l settled) Unlink b.trace (state_at gone)
         by_left f = elim f.left [
           | inl (field, stays) ↦ inl (
-              let T : Air Device → FarEnd → Type 0 = λ a e. ClosingTurns ghosts device_linked peer_ends f.numbers from l.initiator air a spot ends far e f.standing in
+              let T : Air Device → Choosing FarEnd → Type 0 = λ a e. ClosingTurns ghosts device_linked peer_ends joins.own from l.initiator air a spot ends counted e f.standing in
               let t : T b after = subst (T b) (sym stays) (subst (λ a. T a f.half) (sym field) f.turns) in
-              closing_cut f.numbers f.standing t (s.setting quiet) accepted)
+              closing_cut f.standing t (s.setting quiet) accepted)
           | inr (sent, listeners, due, fate, left) ↦ inr (
               let t = f.turns in
-              halted air ends peers l settled (closing_due f.numbers from l.initiator) (closings_plain f.numbers from l.initiator) Unlink f.numbers f.mid f.half t.notes t.going refl tt refl (λ ns. refl)
+              halted air ends peers l settled (closing_due joins.own from l.initiator) (closings_plain joins.own from l.initiator) Unlink joins f.mid f.half t.notes t.going refl tt refl (λ ns. refl)
               sent listeners b (ap closing_due_at t.stands ∙ due) fate left
-              (slice_set ends spot (Some after)) (with_last_ended (accepted_by (get_or (slice_set ends spot (Some after)) spot None)) peers))
+              (slice_set ends spot (Some after.end)) (with_last_ended (accepted_by (get_or (slice_set ends spot (Some after.end)) spot None)) peers))
         ]

@@ -1,6 +1,7 @@
 -- The open link of a bench: where its peer stands, and what a call on it leaves.
 use Rattle.std.proofs.Common.{◌≡◌, ℕ, zero, suc, List, [], ◌∷◌, ◌++◌, map, length, Bool, true, false, if◌then◌else◌, Option, Some, None, refl, sym, ◌∙◌, ap, subst}
 use Rattle.std.specs.Prelude.{get_or, slice_set}
+use Rattle.nfc_base.specs.Choosing.{Choosing}
 use Rattle.air_core.specs.Turn.{Air, moment, world}
 use Rattle.air_core.specs.Conversation.{Note, Next, Moment, Going, replay, queue_after}
 use Rattle.air_core.specs.PlainTags.{IsAlone}
@@ -8,7 +9,7 @@ use Rattle.dep_link.specs.Asking.{HasPeer}
 use Rattle.dep_link.specs.Initiator.{InitState}
 use Rattle.far_air.specs.FarEnds.{first_far, later_fars, rests, by_link}
 use Rattle.far_air.specs.FarWorld.{with_numbers}
-use Rattle.far_air.specs.FarLaws.{BeginBy, behind_all, seen, seen_at, shown, with_far}
+use Rattle.far_air.specs.FarLaws.{seen, seen_at, seen_with, shown, with_far}
 use Rattle.far_air.specs.FarTurns.{FarGoing}
 use Rattle.far_air.proofs.Showing.{rests_shown}
 use Rattle.peer_air.specs.PeerFars.{peer_ends}
@@ -62,11 +63,6 @@ pub set_long : (os : Ends) (place : ℕ) (end after : FarEnd) → get_or os plac
 set_long [] place end after e = absurd cc
 set_long (o ∷ os) zero end after e = refl
 set_long (o ∷ os) (suc place) end after e = ap suc (set_long os place end after e)
-
--- The numbers that were taken are those that begin a list of them.
-begins_so : (taken : List ℕ) → BeginBy taken taken
-begins_so [] = tt
-begins_so (n ∷ taken) = (refl, begins_so taken)
 
 -- Peers alone have links.
 linked_kind : (d : Device) → device_linked d ≡ true → seen_of d ≡ seen_kind.Peer
@@ -303,20 +299,20 @@ module _ (air : Air Device) (ends : Ends) (peers : Peers) (l : OpenLink) (settle
   end_is = end_there l.peer opened.place peers.numbers air.listeners ends opened.end opened.number settled.places.numbers linked_here opened.above
 
   -- turns that were due on the link
-  module _ (next : List Note → Next) (plain : (ns : List Note) → IsPlainNext (next ns)) (b : Air Device) (after : FarEnd) (notes : List Note)
-      (g : FarGoing devices device_linked peer_ends next (moment air) (moment b) notes opened.place ends opened.end after) where
+  module _ (next : List Note → Next) (plain : (ns : List Note) → IsPlainNext (next ns)) (b : Air Device) (numbers : List ℕ) (after : Choosing FarEnd) (notes : List Note)
+      (g : FarGoing devices device_linked peer_ends next (moment air) (moment b) notes opened.place ends (record { end = opened.end; numbers = numbers }) after) where
     abbrev pub now : Ends
-    now = slice_set ends opened.place (Some after)
+    now = slice_set ends opened.place (Some after.end)
 
     abbrev pub first : WholeWorld
-    first = seen device_linked peer_ends (world air) ends g.taken
+    first = seen device_linked peer_ends (world air) ends numbers
 
-    pub going : Going bench_air next (seen_at device_linked peer_ends (moment air) ends g.taken) (seen_at device_linked peer_ends (moment b) now (behind_all g.taken g.taken)) notes
+    pub going : Going bench_air next (seen_at device_linked peer_ends (moment air) ends numbers) (seen_at device_linked peer_ends (moment b) now after.numbers) notes
     going =
-        let A : Ends → Type 0 = λ os. Going bench_air next (seen_at device_linked peer_ends (moment air) os g.taken) (seen_at device_linked peer_ends (moment b) now (behind_all g.taken g.taken)) notes in
-        let B : Ends → Type 0 = λ os. Going bench_air next (seen_at device_linked peer_ends (moment air) (with_far ends opened.place opened.end) g.taken) (seen_at device_linked peer_ends (moment b) os (behind_all g.taken g.taken)) notes in
-        subst A (same_far ends opened.place opened.end opened.above)
-        (subst B (set_far ends opened.place opened.end after opened.above) (g.going g.taken (begins_so g.taken)))
+        let A : Ends → Type 0 = λ os. Going bench_air next (seen_at device_linked peer_ends (moment air) os numbers) (seen_at device_linked peer_ends (moment b) now after.numbers) notes in
+        let B : Ends → Type 0 = λ os. Going bench_air next (seen_with device_linked peer_ends (moment air) ends opened.place (record { end = opened.end; numbers = numbers }))
+        (seen_at device_linked peer_ends (moment b) os after.numbers) notes in
+        subst A (same_far ends opened.place opened.end opened.above) (subst B (set_far ends opened.place opened.end after.end opened.above) g)
 
     pub trace_is : b.trace ≡ going.events
     trace_is = ap (λ (m : Moment WholeWorld). m.trace) going.moment ∙ ap (λ t. t ++ going.events) settled.idle.quiet
@@ -339,22 +335,22 @@ module _ (air : Air Device) (ends : Ends) (peers : Peers) (l : OpenLink) (settle
     pub devices_stay : map stable_of b.listeners ≡ map stable_of air.listeners
     devices_stay = kept_stable air.listeners b.listeners leaves.same
 
-    pub ends_more : (more : List Received) → setting_of after ≡ setting_of opened.end → after.service.accepted ≡ opened.end.service.accepted ++ more
+    pub ends_more : (more : List Received) → setting_of after.end ≡ setting_of opened.end → after.end.service.accepted ≡ opened.end.service.accepted ++ more
         → bare b.listeners now ≡ with_accepted more l.peer peers.numbers (bare air.listeners ends)
     ends_more more same e =
         bare_alike b.listeners air.listeners now as_many
-        ∙ bare_more l.peer opened.place peers.numbers air.listeners ends opened.end after more opened.number settled.places.numbers opened.above same e
+        ∙ bare_more l.peer opened.place peers.numbers air.listeners ends opened.end after.end more opened.number settled.places.numbers opened.above same e
 
-    pub ends_same : setting_of after ≡ setting_of opened.end → after.service.accepted ≡ opened.end.service.accepted → bare b.listeners now ≡ bare air.listeners ends
-    ends_same same e = bare_alike b.listeners air.listeners now as_many ∙ bare_same air.listeners ends opened.place opened.end after opened.above same e
+    pub ends_same : setting_of after.end ≡ setting_of opened.end → after.end.service.accepted ≡ opened.end.service.accepted → bare b.listeners now ≡ bare air.listeners ends
+    ends_same same e = bare_alike b.listeners air.listeners now as_many ∙ bare_same air.listeners ends opened.place opened.end after.end opened.above same e
 
-    pub served : setting_of after ≡ setting_of opened.end → AreServed b.listeners peers.numbers now
-    served same = served_set air.listeners b.listeners peers.numbers ends opened.place opened.end after leaves.same opened.above same settled.places.served
+    pub served : setting_of after.end ≡ setting_of opened.end → AreServed b.listeners peers.numbers now
+    served same = served_set air.listeners b.listeners peers.numbers ends opened.place opened.end after.end leaves.same opened.above same settled.places.served
 
     pub tame : AreTame (map kept b.listeners)
     tame = subst AreTame (sym leaves.same) settled.idle.tame
 
     pub accepted_now : accepted_by (end_numbered l.peer peers.numbers (shown device_linked peer_ends b.listeners now)) ≡ accepted_by (get_or now opened.place None)
     accepted_now =
-        let there : get_or now opened.place None ≡ Some after = set_there ends opened.place opened.end after opened.above in
-        accepted_there l.peer opened.place peers.numbers b.listeners now after opened.number (settled.places.numbers ∙ sym as_many) there ∙ ap accepted_by (sym there)
+        let there : get_or now opened.place None ≡ Some after.end = set_there ends opened.place opened.end after.end opened.above in
+        accepted_there l.peer opened.place peers.numbers b.listeners now after.end opened.number (settled.places.numbers ∙ sym as_many) there ∙ ap accepted_by (sym there)

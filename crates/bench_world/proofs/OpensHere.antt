@@ -23,7 +23,7 @@ use Rattle.bench_world.specs.LinkedAt.{restarts, NotOpened, begun, moved_at, Lin
 use Rattle.bench_world.specs.Obeying.{Machines}
 
 module _ (m : Machines) (place miu rw n : ℕ) (far : FarEnd) (new : Air Device) (after : FarEnd) (r : Result (InitState × ArrayVec ℕ) LinkEnd)
-    (asks : OpensAny restarts (Answers serving) m.air far new after (own_general miu) (by_cause r)) where
+    (asks : OpensAny restarts (Answers serving 0) m.air far new after (own_general miu) (by_cause r)) where
   -- ATR_RES came
   pub opens_ok : (i : InitState) (told : ArrayVec ℕ) → r ≡ Ok (i, told) → (result : Result Answer ObeyFault) (now : Machines)
       → OnOk result (now ≡ begun (moved_at m new place after) n (length far.service.accepted) i (new_client miu rw told.items)) → IfOk result (λ a. a ≡ answers.Linked (length m.peers.links + 1))
@@ -32,7 +32,7 @@ module _ (m : Machines) (place miu rw n : ℕ) (far : FarEnd) (new : Air Device)
     air = new;
     after = after;
     came = Ok (i, told);
-    asks = subst (OpensAny restarts (Answers serving) m.air far new after (own_general miu)) (ap by_cause is) asks;
+    asks = subst (OpensAny restarts (Answers serving 0) m.air far new after (own_general miu)) (ap by_cause is) asks;
     left = by_result result opened linked wanting same;
   }
     where
@@ -48,7 +48,7 @@ module _ (m : Machines) (place miu rw n : ℕ) (far : FarEnd) (new : Air Device)
     air = new;
     after = after;
     came = Err e.cause;
-    asks = subst (OpensAny restarts (Answers serving) m.air far new after (own_general miu)) (ap by_cause is) asks;
+    asks = subst (OpensAny restarts (Answers serving 0) m.air far new after (own_general miu)) (ap by_cause is) asks;
     left = (told, same);
   }
 

@@ -70,6 +70,7 @@ still_obeyed old new c answer idle accepted changes trace asks over law tame tid
     let front : F [] = record { accepted = accepted; asks = asks; turns = record { moves = []; made = refl }; fates = tt; each = tt; after = ap dropped changes ∙ sym (links_stay st no_joins c [] (Some answer) quiet_command) } in
     record {
       given = nothing;
+      joined = refl;
       front = subst F (sym quiet) front;
       over = ap (λ es. due st nothing c (receptions es)) quiet ∙ over;
       answered = subst (λ es. AnswerLaw st nothing c es answer) (sym quiet) law;

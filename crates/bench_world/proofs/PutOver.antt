@@ -1,6 +1,6 @@
 -- What becomes of a put, by what its call on the field says.
 use Rattle.std.proofs.Common.{◌≡◌, ℕ, ◌≤◌, List, [], length, Option, Some, None, refl, sym, subst, inl, inr}
-use Rattle.std.specs.Prelude.{get_or, slice_set}
+use Rattle.nfc_base.specs.Choosing.{Choosing}
 use Rattle.nfc_base.specs.declared.carrier.EndCause.{EndCause}
 use Rattle.nfc_base.specs.declared.carrier.EndCause.TheVariants as cause
 use Rattle.air_core.specs.Turn.{Air}
@@ -26,22 +26,24 @@ use Rattle.bench_world.specs.declared.entry.Answer.{Answer}
 use Rattle.bench_world.specs.declared.entry.Answer.TheVariants as answers
 use Rattle.bench_world.specs.World.{FarEnd}
 use Rattle.bench_world.specs.Calls.{told_loss}
-use Rattle.bench_world.specs.Links.{OpenLink, accepted_by, end_numbered, with_last_ended}
-use Rattle.bench_world.specs.Obeying.{Machines, IsCutOff, IsSettled, Obeyed, state_at, under}
+use Rattle.bench_world.specs.Links.{OpenLink}
+use Rattle.bench_world.specs.LinkTaken.{TakesLink, put_back, put_down}
+use Rattle.bench_world.specs.Obeying.{Machines, IsCutOff, IsSettled, ObeyedBy, state_at, under}
 use Rattle.bench_world.specs.Peers.{Peers}
-use Rattle.bench_world.specs.Legal.{FrontOf}
+use Rattle.bench_world.specs.Legal.{FrontOf, Joins}
 use Rattle.bench_world.proofs.OnLink.{Ends as FarEnds}
 use Rattle.bench_world.proofs.OnCall.{given_by}
 use Rattle.bench_world.proofs.Putting.{put_taken, put_rejected, put_lost, put_short}
-use Rattle.bench_world.proofs.Chosen.{so, spot, its, accords_so, obeyed_so, cut_so, place_is, far_is}
+use Rattle.bench_world.proofs.LinkOver.{Before, GoneAt, OpenAt, accords, called, counted, far_is, gone_so, its, link, open_so, short_so, so, spot}
 
 -- where no link is open nothing is sent
-module _ (air : Air Device) (ends : FarEnds) (peers : Peers) (settled : IsSettled (under ends peers None air)) (m : Msg) (few : length (message_of m) ≤ longest_message) where
-  no_link : Obeyed (under ends peers None air) (under ends peers None air) (Put m) answers.NoLink
+module _ (air : Air Device) (ends : FarEnds) (peers : Peers) (settled : IsSettled (under ends peers None air)) (joins : Joins) (m : Msg) (few : length (message_of m) ≤ longest_message) where
+  no_link : ObeyedBy joins (under ends peers None air) (under ends peers None air) (Put m) answers.NoLink
   no_link =
       let trace : air.trace ≡ [] = settled.idle.quiet in record {
-        given = given_by [] [];
-        front = subst (λ es. FrontOf (state_at (under ends peers None air)) (given_by [] []) (Put m) es (Some answers.NoLink) (state_at (under ends peers None air))) (sym trace)
+        given = given_by joins;
+        joined = refl;
+        front = subst (λ es. FrontOf (state_at (under ends peers None air)) (given_by joins) (Put m) es (Some answers.NoLink) (state_at (under ends peers None air))) (sym trace)
             (record { accepted = few; asks = refl; turns = record { moves = []; made = refl }; fates = tt; each = tt; after = refl });
         over = refl;
         answered = refl;
@@ -51,59 +53,67 @@ module _ (air : Air Device) (ends : FarEnds) (peers : Peers) (settled : IsSettle
         link = tt;
       }
 
-pub put_nowhere : (old : Machines) → IsSettled old → old.link ≡ None → (bytes : List ℕ) → length bytes ≤ longest_message → (m : Msg) → message_of m ≡ bytes
-    → Obeyed old (under old.ends old.peers None old.air) (Put m) answers.NoLink
-put_nowhere old settled none bytes few m e =
-    let S : IsSettled (under old.ends old.peers None old.air) = subst (λ (o : Option OpenLink). IsSettled (under old.ends old.peers o old.air)) none settled in
-    subst (λ (x : Option OpenLink). Obeyed (under old.ends old.peers x old.air) (under old.ends old.peers None old.air) (Put m) answers.NoLink) (sym none)
-    (no_link old.air old.ends old.peers S m (subst (λ xs. length xs ≤ longest_message) (sym e) few))
+pub put_nowhere : (old new : Machines) → IsSettled old → old.link ≡ None → new ≡ old → (joins : Joins) (bytes : List ℕ) → length bytes ≤ longest_message → (m : Msg) → message_of m ≡ bytes
+    → ObeyedBy joins old new (Put m) answers.NoLink
+put_nowhere old new settled none same joins bytes few m e =
+    let N : Option OpenLink → Machines = λ o. under old.ends old.peers o old.air in
+    let S : IsSettled (N None) = subst (λ o. IsSettled (N o)) none settled in
+    let fits : length (message_of m) ≤ longest_message = subst (λ xs. length xs ≤ longest_message) (sym e) few in
+    subst (λ x. ObeyedBy joins old x (Put m) answers.NoLink) (sym same)
+    (subst (λ o. ObeyedBy joins (N o) (N o) (Put m) answers.NoLink) (sym none) (no_link old.air old.ends old.peers S joins m fits))
 
-module _ (old : Machines) (settled : IsSettled old) (l : OpenLink) (linked : old.link ≡ Some l) (q : ℕ) (at : (os : FarEnds) → end_numbered l.peer old.peers.numbers os ≡ get_or os q None) (w : Option FarEnd) (far : FarEnd)
-    (holds : w ≡ get_or old.ends q w) (some : w ≡ Some far) (bytes : List ℕ) (few : length bytes ≤ longest_message) (b : Air Device) (j : InitState) (after : FarEnd) (client : EndState) where
-  abbrev pub Fails : FarEnd → List ℕ → SnepFault → Type 0
-  Fails f xs e = RequestFails ghosts device_end (begins l.client (Puts xs)) old.air l.initiator f b j after client e
+module _ (old mid : Machines) (settled : IsSettled old) (q : ℕ) (l : OpenLink) (far : FarEnd) (t : TakesLink old q l far mid) (joins : Joins) (b : Air Device) (j : InitState) (after : Choosing FarEnd)
+    (client : EndState) (bytes : List ℕ) (few : length bytes ≤ longest_message) (m : Msg) (e : message_of m ≡ bytes) where
+  abbrev Of : FarEnd → Choosing FarEnd
+  Of f = counted old mid settled q l far t joins b j after client f
 
-  same_far : far ≡ its old settled l linked
-  same_far = far_is old settled l linked q at w far holds some
+  abbrev Own : FarEnd
+  Own = its old mid settled q l far t
 
-  few_of : (m : Msg) → message_of m ≡ bytes → length (message_of m) ≤ longest_message
-  few_of m e = subst (λ xs. length xs ≤ longest_message) (sym e) few
+  abbrev Made : List ℕ → FarEnd → Type 0
+  Made xs f = IsMade ghosts device_end joins.own (begins l.client (Puts xs)) old.air l.initiator (Of f) b j after (Ends (alone (Over Done)) client)
 
-  abbrev pub opens : Machines
-  opens = under (slice_set old.ends q (Some after)) old.peers (Some (record { peer = l.peer; initiator = j; client = client })) b
+  abbrev Fails : List ℕ → FarEnd → SnepFault → Type 0
+  Fails xs f x = RequestFails ghosts device_end joins.own (begins l.client (Puts xs)) old.air l.initiator (Of f) b j after client x
 
-  abbrev pub gone : Machines
-  gone = under (slice_set old.ends q (Some after)) (with_last_ended (accepted_by (get_or (slice_set old.ends q (Some after)) q None)) old.peers) None b
+  -- what holds of the bytes and of the end that was taken holds of the message and of the end of the link's peer
+  of_own : (P : List ℕ → FarEnd → Type 0) → P bytes far → P (message_of m) Own
+  of_own P p = subst (P (message_of m)) (far_is old mid settled q l far t) (subst (λ xs. P xs far) (sym e) p)
 
-  abbrev OpenAt : ℕ → Machines
-  OpenAt n = under (slice_set old.ends n (Some after)) old.peers (Some (record { peer = l.peer; initiator = j; client = client })) b
+  fits : length (message_of m) ≤ longest_message
+  fits = subst (λ xs. length xs ≤ longest_message) (sym e) few
 
-  abbrev GoneAt : ℕ → Machines
-  GoneAt n = under (slice_set old.ends n (Some after)) (with_last_ended (accepted_by (get_or (slice_set old.ends n (Some after)) n None)) old.peers) None b
+  accord : Accords l.client far
+  accord = accords old mid settled q l far t
 
-  same_place : q ≡ spot old settled l linked
-  same_place = place_is old settled l linked q at
+  abbrev pub Back : Machines
+  Back = put_back (called old mid settled q l far t joins b j after client) q after.end (link old mid settled q l far t joins b j after client)
 
-  pub over_taken : IsMade ghosts device_end (begins l.client (Puts bytes)) old.air l.initiator far b j after (Ends (alone (Over Done)) client) → IsTaken bytes far client after → (m : Msg) → message_of m ≡ bytes
-      → Obeyed old opens (Put m) answers.Success
-  over_taken made taken m e =
-      let P : List ℕ → FarEnd → Type 0 = λ xs f. IsMade ghosts device_end (begins l.client (Puts xs)) old.air l.initiator f b j after (Ends (alone (Over Done)) client) in
-      let Q : List ℕ → FarEnd → Type 0 = λ xs f. IsTaken xs f client after in
-      subst (λ n. Obeyed old (OpenAt n) (Put m) answers.Success) (sym same_place)
-      (obeyed_so old settled l linked _ (Put m) answers.Success
-      (put_taken old.air old.ends old.peers l (so old settled l linked) m (few_of m e) b j after client
-      (subst (P (message_of m)) same_far (subst (λ xs. P xs far) (sym e) made)) (subst (Q (message_of m)) same_far (subst (λ xs. Q xs far) (sym e) taken))))
+  abbrev pub Down : Machines
+  Down = put_down (called old mid settled q l far t joins b j after client) q after.end
 
-  pub over_rejected : Fails far bytes Reject → IsRejected bytes far client after → (m : Msg) → message_of m ≡ bytes → Obeyed old opens (Put m) answers.Reject
-  over_rejected fails rejected m e =
-      let P : List ℕ → FarEnd → Type 0 = λ xs f. Fails f xs Reject in
-      let Q : List ℕ → FarEnd → Type 0 = λ xs f. IsRejected xs f client after in
-      subst (λ n. Obeyed old (OpenAt n) (Put m) answers.Reject) (sym same_place)
-      (obeyed_so old settled l linked _ (Put m) answers.Reject
-      (by (subst (P (message_of m)) same_far (subst (λ xs. P xs far) (sym e) fails)) (subst (Q (message_of m)) same_far (subst (λ xs. Q xs far) (sym e) rejected))))
+  abbrev Opens : Machines
+  Opens = OpenAt old mid settled q l far t joins b j after client (spot old mid settled q l far t)
+
+  abbrev Gone : Machines
+  Gone = GoneAt old mid settled q l far t joins b j after client (spot old mid settled q l far t)
+
+  abbrev Was : Machines
+  Was = Before old mid settled q l far t joins b j after client
+
+  pub told_taken : (new : Machines) → new ≡ Back → Made bytes far → (Accords l.client far → IsTaken bytes far client after.end) → ObeyedBy joins old new (Put m) answers.Success
+  told_taken new left made taken =
+      open_so old mid settled q l far t joins b j after client (Put m) new answers.Success left
+      (put_taken old.air old.ends old.peers l (so old mid settled q l far t) m fits joins b j after client (of_own Made made) (of_own (λ xs f. IsTaken xs f client after.end) (taken accord)))
+
+  pub told_rejected : (new : Machines) → new ≡ Back → (x : SnepFault) → x ≡ Reject → Fails bytes far x → (Accords l.client far → PutFails bytes far x client after.end) → ObeyedBy joins old new (Put m) answers.Reject
+  told_rejected new left x r fails put =
+      open_so old mid settled q l far t joins b j after client (Put m) new answers.Reject left
+      (by (of_own (λ xs f. Fails xs f Reject) (subst (Fails bytes far) r fails))
+      (of_own (λ xs f. IsRejected xs f client after.end) (subst (λ y. PutFails bytes far y client after.end) r (put accord))))
     where
-      by : Fails (its old settled l linked) (message_of m) Reject → IsRejected (message_of m) (its old settled l linked) client after → Obeyed (under old.ends old.peers (Some l) old.air) (OpenAt (spot old settled l linked)) (Put m) answers.Reject
-      by (inl (refusals.Reject, is, made)) r = put_rejected old.air old.ends old.peers l (so old settled l linked) m (few_of m e) b j after client made r
+      by : Fails (message_of m) Own Reject → IsRejected (message_of m) Own client after.end → ObeyedBy joins Was Opens (Put m) answers.Reject
+      by (inl (refusals.Reject, is, made)) r = put_rejected old.air old.ends old.peers l (so old mid settled q l far t) m fits joins b j after client made r
       by (inl (refusals.NotFound, is, made)) r = absurd cc
       by (inl (refusals.Excess, is, made)) r = absurd cc
       by (inl (refusals.NotImplemented, is, made)) r = absurd cc
@@ -122,63 +132,33 @@ module _ (old : Machines) (settled : IsSettled old) (l : OpenLink) (linked : old
   never_short refusals.Excess e = cc
   never_short refusals.NotImplemented e = cc
 
-  pub over_lost : (c : EndCause) (answer : Answer) → Fails far bytes (LinkEnded c) → AddsAtMost bytes far after → told_loss c ≡ Some answer → (m : Msg) → message_of m ≡ bytes → Obeyed old gone (Put m) answer
-  over_lost c answer fails adds told m e =
-      let P : List ℕ → FarEnd → Type 0 = λ xs f. Fails f xs (LinkEnded c) in
-      let Q : List ℕ → FarEnd → Type 0 = λ xs f. AddsAtMost xs f after in
-      subst (λ n. Obeyed old (GoneAt n) (Put m) answer) (sym same_place)
-      (obeyed_so old settled l linked _ (Put m) answer
-      (by c told (subst (P (message_of m)) same_far (subst (λ xs. P xs far) (sym e) fails)) (subst (Q (message_of m)) same_far (subst (λ xs. Q xs far) (sym e) adds))))
+  pub told_lost : (new : Machines) → new ≡ Down → (x : SnepFault) (c : EndCause) → x ≡ LinkEnded c → Fails bytes far x → (Accords l.client far → PutFails bytes far x client after.end)
+      → (answer : Answer) → told_loss c ≡ Some answer → ObeyedBy joins old new (Put m) answer
+  told_lost new left x c r fails put answer told =
+      gone_so old mid settled q l far t joins b j after client (Put m) new answer left
+      (by c told (of_own (λ xs f. Fails xs f (LinkEnded c)) (subst (Fails bytes far) r fails))
+      (of_own (λ xs f. AddsAtMost xs f after.end) (subst (λ y. PutFails bytes far y client after.end) r (put accord))))
     where
-      by : (c : EndCause) → told_loss c ≡ Some answer → Fails (its old settled l linked) (message_of m) (LinkEnded c) → AddsAtMost (message_of m) (its old settled l linked) after
-          → Obeyed (under old.ends old.peers (Some l) old.air) (GoneAt (spot old settled l linked)) (Put m) answer
-      by c t (inl (why, is, made)) a = absurd (never_refused why c is)
-      by c t (inr (inl (bad, made))) a = absurd cc
-      by cause.FieldLost t (inr (inr ended)) a = put_lost old.air old.ends old.peers l (so old settled l linked) m (few_of m e) b j after client cause.FieldLost answer ended t a
-      by cause.SixBad t (inr (inr ended)) a = put_lost old.air old.ends old.peers l (so old settled l linked) m (few_of m e) b j after client cause.SixBad answer ended t a
-      by cause.Protocol t (inr (inr never)) a = absurd never
-      by cause.Memory t (inr (inr never)) a = absurd never
+      by : (c : EndCause) → told_loss c ≡ Some answer → Fails (message_of m) Own (LinkEnded c) → AddsAtMost (message_of m) Own after.end → ObeyedBy joins Was Gone (Put m) answer
+      by c t' (inl (why, is, made)) a = absurd (never_refused why c is)
+      by c t' (inr (inl (bad, made))) a = absurd cc
+      by cause.FieldLost t' (inr (inr ended)) a = put_lost old.air old.ends old.peers l (so old mid settled q l far t) m fits joins b j after client cause.FieldLost answer ended t' a
+      by cause.SixBad t' (inr (inr ended)) a = put_lost old.air old.ends old.peers l (so old mid settled q l far t) m fits joins b j after client cause.SixBad answer ended t' a
+      by cause.Protocol t' (inr (inr never)) a = absurd never
+      by cause.Memory t' (inr (inr never)) a = absurd never
 
-  pub over_short : Fails far bytes Memory → AddsAtMost bytes far after → (m : Msg) → message_of m ≡ bytes → IsCutOff old gone (Put m)
-  over_short fails adds m e =
-      let P : List ℕ → FarEnd → Type 0 = λ xs f. Fails f xs Memory in
-      let Q : List ℕ → FarEnd → Type 0 = λ xs f. AddsAtMost xs f after in
-      subst (λ n. IsCutOff old (GoneAt n) (Put m)) (sym same_place)
-      (cut_so old settled l linked _ (Put m)
-      (by (subst (P (message_of m)) same_far (subst (λ xs. P xs far) (sym e) fails)) (subst (Q (message_of m)) same_far (subst (λ xs. Q xs far) (sym e) adds))))
+  pub told_short : (new : Machines) → new ≡ Down → (x : SnepFault) → x ≡ Memory → Fails bytes far x → (Accords l.client far → PutFails bytes far x client after.end) → IsCutOff old new (Put m)
+  told_short new left x r fails put =
+      short_so old mid settled q l far t joins b j after client (Put m) new left
+      (by (of_own (λ xs f. Fails xs f Memory) (subst (Fails bytes far) r fails))
+      (of_own (λ xs f. AddsAtMost xs f after.end) (subst (λ y. PutFails bytes far y client after.end) r (put accord))))
     where
-      by : Fails (its old settled l linked) (message_of m) Memory → AddsAtMost (message_of m) (its old settled l linked) after
-          → IsCutOff (under old.ends old.peers (Some l) old.air) (GoneAt (spot old settled l linked)) (Put m)
+      by : Fails (message_of m) Own Memory → AddsAtMost (message_of m) Own after.end → IsCutOff Was Gone (Put m)
       by (inl (why, is, made)) a = absurd (never_short why is)
       by (inr (inl (bad, made))) a = absurd cc
-      by (inr (inr cut)) a = put_short old.air old.ends old.peers l (so old settled l linked) m (few_of m e) b j after client cut a
+      by (inr (inr cut)) a = put_short old.air old.ends old.peers l (so old mid settled q l far t) m fits joins b j after client cut a
 
-  -- By what the call said, where the client accords with the far end; and from machines that are the same to machines that are the same.
-  module _ (was : Machines) (is : was ≡ old) where
-    accords : Accords l.client far
-    accords = accords_so old settled l linked q at w far holds some
-
-    pub told_taken : IsMade ghosts device_end (begins l.client (Puts bytes)) old.air l.initiator far b j after (Ends (alone (Over Done)) client) → (Accords l.client far → IsTaken bytes far client after)
-        → (m : Msg) → message_of m ≡ bytes → Obeyed was opens (Put m) answers.Success
-    told_taken made taken m e = subst (λ x. Obeyed x opens (Put m) answers.Success) (sym is) (over_taken made (taken accords) m e)
-
-    pub told_rejected : (x : SnepFault) → x ≡ Reject → Fails far bytes x → (Accords l.client far → PutFails bytes far x client after) → (m : Msg) → message_of m ≡ bytes → Obeyed was opens (Put m) answers.Reject
-    told_rejected x r fails put m e =
-        subst (λ y. Obeyed y opens (Put m) answers.Reject) (sym is)
-        (over_rejected (subst (Fails far bytes) r fails) (subst (λ y. PutFails bytes far y client after) r (put accords)) m e)
-
-    pub told_lost : (x : SnepFault) (c : EndCause) → x ≡ LinkEnded c → Fails far bytes x → (Accords l.client far → PutFails bytes far x client after) → (answer : Answer) → told_loss c ≡ Some answer
-        → (new : Machines) → new ≡ gone → (m : Msg) → message_of m ≡ bytes → Obeyed was new (Put m) answer
-    told_lost x c r fails put answer told new left m e =
-        subst (λ y. Obeyed y new (Put m) answer) (sym is) (subst (λ y. Obeyed old y (Put m) answer) (sym left)
-        (over_lost c answer (subst (Fails far bytes) r fails) (subst (λ y. PutFails bytes far y client after) r (put accords)) told m e))
-
-    pub told_short : (x : SnepFault) → x ≡ Memory → Fails far bytes x → (Accords l.client far → PutFails bytes far x client after)
-        → (new : Machines) → new ≡ gone → (m : Msg) → message_of m ≡ bytes → IsCutOff was new (Put m)
-    told_short x r fails put new left m e =
-        subst (λ y. IsCutOff y new (Put m)) (sym is) (subst (λ y. IsCutOff old y (Put m)) (sym left)
-        (over_short (subst (Fails far bytes) r fails) (subst (λ y. PutFails bytes far y client after) r (put accords)) m e))
-
-    -- no other fault
-    pub never_told : (x y : SnepFault) → x ≡ y → (Accords l.client far → PutFails bytes far x client after) → PutFails bytes far y client after
-    never_told x y r put = subst (λ z. PutFails bytes far z client after) r (put accords)
+-- no other fault
+pub never_told : (bytes : List ℕ) (l : OpenLink) (far after : FarEnd) (client : EndState) → Accords l.client far → (x y : SnepFault) → x ≡ y
+    → (Accords l.client far → PutFails bytes far x client after) → PutFails bytes far y client after
+never_told bytes l far after client accord x y r put = subst (λ z. PutFails bytes far z client after) r (put accord)

@@ -1,5 +1,6 @@
 -- A message that is put on the open link.
 use Rattle.std.proofs.Common.{◌≡◌, ◌≤◌, List, [], ◌∷◌, ◌++◌, length, Some, refl, sym, ◌∙◌, subst, inl, inr, append-nil}
+use Rattle.nfc_base.specs.Choosing.{Choosing}
 use Rattle.nfc_base.specs.declared.carrier.EndCause.{EndCause}
 use Rattle.nfc_base.specs.declared.carrier.EndCause.TheVariants as cause
 use Rattle.air_core.specs.Turn.{Air}
@@ -23,8 +24,9 @@ use Rattle.bench_world.specs.declared.entry.Answer.TheVariants as answers
 use Rattle.bench_world.specs.declared.entry.Loss.TheVariants as losses
 use Rattle.bench_world.specs.World.{FarEnd}
 use Rattle.bench_world.specs.Calls.{PutAdds, PutAddsAtMost, told_loss}
+use Rattle.bench_world.specs.Legal.{Joins}
 use Rattle.bench_world.specs.Links.{OpenLink}
-use Rattle.bench_world.specs.Obeying.{Machines, IsCutOff, IsSettled, Obeyed, under}
+use Rattle.bench_world.specs.Obeying.{Machines, IsCutOff, IsSettled, ObeyedBy, under}
 use Rattle.bench_world.specs.Peers.{Peers}
 use Rattle.bench_world.proofs.OnLink.{Ends as FarEnds}
 use Rattle.bench_world.proofs.OnCall.{IsCall, end}
@@ -36,13 +38,13 @@ module _ (air : Air Device) (ends : FarEnds) (peers : Peers) (l : OpenLink) (set
     still = refl;
     accepts = few;
     asks = refl;
-    same = λ numbers taken ns. refl;
+    same = λ joins ns. refl;
     link_on = λ joins es answer. refl;
     link_off = λ joins es. refl;
     peers_on = λ joins es told. refl;
   }
 
-  module _ (b : Air Device) (j : InitState) (after : FarEnd) (client : EndState) where
+  module _ (joins : Joins) (b : Air Device) (j : InitState) (after : Choosing FarEnd) (client : EndState) where
     abbrev far : FarEnd
     far = end air ends peers l settled
 
@@ -50,16 +52,16 @@ module _ (air : Air Device) (ends : FarEnds) (peers : Peers) (l : OpenLink) (set
     Old = under ends peers (Some l) air
 
     abbrev pub opens : Machines
-    opens = Open air ends peers l settled (Put m) (Puts (message_of m)) put_call b j after client
+    opens = Open air ends peers l settled (Put m) (Puts (message_of m)) put_call joins b j after client
 
     abbrev pub gone : Machines
-    gone = Gone air ends peers l settled (Put m) (Puts (message_of m)) put_call b j after
+    gone = Gone air ends peers l settled (Put m) (Puts (message_of m)) put_call joins b j after
 
-    pub put_taken : IsMade ghosts device_end (begins l.client (Puts (message_of m))) air l.initiator far b j after (Ends (alone (Over Done)) client) → IsTaken (message_of m) far client after
-        → Obeyed Old opens (Put m) answers.Success
+    pub put_taken : IsMade ghosts device_end joins.own (begins l.client (Puts (message_of m))) air l.initiator (record { end = far; numbers = joins.far }) b j after (Ends (alone (Over Done)) client) → IsTaken (message_of m) far client after.end
+        → ObeyedBy joins Old opens (Put m) answers.Success
     put_taken made taken =
-        made_obeyed air ends peers l settled (Put m) (Puts (message_of m)) put_call b j after (alone (Over Done)) client answers.Success made refl (λ loss e. cc)
-        (λ joins events facts. record {
+        made_obeyed air ends peers l settled (Put m) (Puts (message_of m)) put_call joins b j after (alone (Over Done)) client answers.Success made refl (λ loss e. cc)
+        (λ joined events facts. record {
           told = facts.told;
           came = facts.came;
           more = from_client (message_of m) ∷ [];
@@ -68,11 +70,11 @@ module _ (air : Air Device) (ends : FarEnds) (peers : Peers) (l : OpenLink) (set
           ends = facts.adds (from_client (message_of m) ∷ []) taken.accepted;
         }) taken.answered.accords
 
-    pub put_rejected : IsMade ghosts device_end (begins l.client (Puts (message_of m))) air l.initiator far b j after (Ends (alone (Over (Refused refusals.Reject))) client) → IsRejected (message_of m) far client after
-        → Obeyed Old opens (Put m) answers.Reject
+    pub put_rejected : IsMade ghosts device_end joins.own (begins l.client (Puts (message_of m))) air l.initiator (record { end = far; numbers = joins.far }) b j after (Ends (alone (Over (Refused refusals.Reject))) client) → IsRejected (message_of m) far client after.end
+        → ObeyedBy joins Old opens (Put m) answers.Reject
     put_rejected made rejected =
-        made_obeyed air ends peers l settled (Put m) (Puts (message_of m)) put_call b j after (alone (Over (Refused refusals.Reject))) client answers.Reject made refl (λ loss e. cc)
-        (λ joins events facts. record {
+        made_obeyed air ends peers l settled (Put m) (Puts (message_of m)) put_call joins b j after (alone (Over (Refused refusals.Reject))) client answers.Reject made refl (λ loss e. cc)
+        (λ joined events facts. record {
           told = facts.told;
           came = facts.came;
           more = [];
@@ -83,20 +85,20 @@ module _ (air : Air Device) (ends : FarEnds) (peers : Peers) (l : OpenLink) (set
 
     -- the message, or nothing
     Added : Type 0
-    Added = (more : List Received) × (after.service.accepted ≡ far.service.accepted ++ more) × PutAddsAtMost (message_of m) far more
+    Added = (more : List Received) × (after.end.service.accepted ≡ far.service.accepted ++ more) × PutAddsAtMost (message_of m) far more
 
-    added : AddsAtMost (message_of m) far after → Added
+    added : AddsAtMost (message_of m) far after.end → Added
     unfolding Added
     added (inl e) = ([], e ∙ sym (append-nil far.service.accepted), inl refl)
     added (inr (e, within)) = (from_client (message_of m) ∷ [], e, inr (within, refl))
 
-    pub put_lost : (why : EndCause) (answer : Answer) → IsEndedBy ghosts device_end (begins l.client (Puts (message_of m))) air l.initiator far b j after why → told_loss why ≡ Some answer
-        → AddsAtMost (message_of m) far after → Obeyed Old gone (Put m) answer
+    pub put_lost : (why : EndCause) (answer : Answer) → IsEndedBy ghosts device_end joins.own (begins l.client (Puts (message_of m))) air l.initiator (record { end = far; numbers = joins.far }) b j after why → told_loss why ≡ Some answer
+        → AddsAtMost (message_of m) far after.end → ObeyedBy joins Old gone (Put m) answer
     unfolding Added
     put_lost why answer ended told adds =
         let a = added adds in
-        lost_obeyed air ends peers l settled (Put m) (Puts (message_of m)) put_call b j after why answer ended told
-        (λ joins events facts. record {
+        lost_obeyed air ends peers l settled (Put m) (Puts (message_of m)) put_call joins b j after why answer ended told
+        (λ joined events facts. record {
           told = facts.told;
           came = facts.came;
           more = a.0;
@@ -111,12 +113,12 @@ module _ (air : Air Device) (ends : FarEnds) (peers : Peers) (l : OpenLink) (set
         by_loss cause.Protocol e more p = absurd cc
         by_loss cause.Memory e more p = absurd cc
 
-    pub put_short : IsCutShort ghosts device_end (begins l.client (Puts (message_of m))) air l.initiator far b j after → AddsAtMost (message_of m) far after → IsCutOff Old gone (Put m)
+    pub put_short : IsCutShort ghosts device_end joins.own (begins l.client (Puts (message_of m))) air l.initiator (record { end = far; numbers = joins.far }) b j after → AddsAtMost (message_of m) far after.end → IsCutOff Old gone (Put m)
     unfolding Added
     put_short cut adds =
         let a = added adds in
-        inr (short_cut air ends peers l settled (Put m) (Puts (message_of m)) put_call b j after cut
-        (λ joins events devices adds_so stays. record {
+        inr (short_cut air ends peers l settled (Put m) (Puts (message_of m)) put_call joins b j after cut
+        (λ joined events devices adds_so stays. record {
           more = a.0;
           adds = of_end air ends peers l settled (λ e. PutAddsAtMost (message_of m) e a.0) a.2;
           devices = devices;

@@ -1,6 +1,7 @@
 -- Where all passes, a peer with a link is heard at RLS_REQ.
 use Rattle.std.proofs.Common.{◌≡◌, ℕ, List, [], ◌++◌, Bool, true, false, ◌||◌, if◌then◌else◌, Option, Some, None, refl, ◌∙◌, ap, arith}
 use Rattle.std.specs.List.{cons_option}
+use Rattle.nfc_base.specs.Choosing.{Choosing}
 use Rattle.nfc_base.specs.Far.{Untouched}
 use Rattle.nfc_base.specs.LinkTurns.{bad_receptions}
 use Rattle.nfc_base.specs.Signal.{Signal}
@@ -26,11 +27,10 @@ use Rattle.dep_link.specs.Initiator.{InitState}
 use Rattle.dep_link.specs.Releasing.{rls_frame}
 use Rattle.dep_link.specs.Target.{TargetState, TargetTurn, Frees, stays, framed, target_table}
 use Rattle.dep_link.proofs.Wire.{target_heeds}
-use Rattle.llcp_link.specs.Answering.{Answers}
+use Rattle.llcp_link.specs.Counting.{AnswersCounted, RestartsCounted}
 use Rattle.nfca_poll.specs.Front.{Front, Off, Idle, Sleep, Ready, Active, is_active}
 use Rattle.nfca_poll.specs.Fronted.{Fronted, active_answer}
 use Rattle.snep_core.specs.Server.{serving}
-use Rattle.link_calls.specs.Staying.{begins}
 use Rattle.bench_devices.specs.declared.device.Device.{Device}
 use Rattle.bench_devices.specs.declared.device.Device.TheVariants.{T2, T4, Peer, T5}
 use Rattle.bench_devices.specs.Beside.{InStepAt}
@@ -78,8 +78,8 @@ said_calm f g Break y z = absurd (omega (arith, z))
 begins_fresh : (f g : Signal) (x y : Fate) → back_of (tag_events f x y (Some g)) ≡ backs.Nothing
 begins_fresh f g x y = refl
 
-module _ (quiet : (d : Device) → devices.handed d rls_frame ≡ Untouched) (mid b : Air Device) (place : ℕ) (i : InitState) (at : InStepAt mid place i) (half after : FarEnd) (heard : Option Heard)
-    (turn : TurnIs devices begins (Answers serving) mid rls_frame half heard b after) where
+module _ (quiet : (d : Device) → devices.handed d rls_frame ≡ Untouched) (mid b : Air Device) (place : ℕ) (i : InitState) (at : InStepAt mid place i) (half after : Choosing FarEnd) (heard : Option Heard)
+    (turn : TurnIs devices (RestartsCounted serving) (AnswersCounted serving) mid rls_frame half heard b after) where
   abbrev peer : Device
   peer = at.step.1.listener
 
@@ -97,7 +97,7 @@ module _ (quiet : (d : Device) → devices.handed d rls_frame ≡ Untouched) (mi
   release_calm =
       let own : List ℕ = ghosts.identifier peer in
       let each : EachQuiet devices rls_frame mid.listeners = alone_quiet ghosts laws own rls_frame unmoved mid.listeners at.step.1.place peer at.step.1.alone hands_none in
-      let q : QuietTurn devices mid rls_frame half heard b after = quiet_turn devices begins (Answers serving) mid rls_frame half heard b after each turn in
+      let q : QuietTurn devices mid rls_frame half heard b after = quiet_turn devices (RestartsCounted serving) (AnswersCounted serving) mid rls_frame half heard b after each turn in
       let x : Fate = first_fate mid.fates in
       let y : Fate = first_fate (later_fates mid.fates) in
       let o : Option Signal = Some (air_frame RlsRes) in

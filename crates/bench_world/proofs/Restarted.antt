@@ -2,7 +2,7 @@
 use Rattle.std.proofs.Common.{◌≡◌, ℕ, zero, suc, ◌<◌, List, [], ◌∷◌, ◌++◌, map, length, Bool, true, false, if◌then◌else◌, Option, Some, None, refl, sym, ◌∙◌, ap, subst, arith}
 use Rattle.std.specs.Prelude.{get_or, slice_set, ◌==◌, ◌-◌}
 use Rattle.far_air.specs.FarEnds.{first_far, later_fars, rests, by_link}
-use Rattle.far_air.specs.FarLaws.{with_far, shown, BeginBy}
+use Rattle.far_air.specs.FarLaws.{with_far, shown}
 use Rattle.far_air.proofs.Showing.{rests_shown}
 use Rattle.dep_link.specs.Activating.{RestartedTimes}
 use Rattle.llcp_link.specs.State.{restarted, readable_by}
@@ -111,11 +111,6 @@ served_at (b ∷ before) d behind [] [] peer s = served_at before d behind [] []
 served_at (b ∷ before) d behind [] (o ∷ os) peer s = served_at before d behind [] os peer s.1
 served_at (b ∷ before) d behind (p ∷ ps) [] peer s = served_at before d behind ps [] peer s.1
 served_at (b ∷ before) d behind (p ∷ ps) (o ∷ os) peer s = served_at before d behind ps os peer s.1
-
--- the numbers that a turn took are those that an entry gives
-pub begin_self : (taken : List ℕ) → BeginBy taken taken
-begin_self [] = tt
-begin_self (n ∷ taken) = (refl, begin_self taken)
 
 -- no other place has the number of one
 own_number : (n : ℕ) → is_number n (Some n) ≡ true

@@ -170,6 +170,7 @@ module _ (c : Command) (r : IsReset c) (old : Machines) (settled : IsSettled old
       let L : State → Type 0 = λ x. AnswerLaw x o.given c es answer in
       record {
         given = o.given;
+        joined = o.joined;
         front = r.front s t o.given es (Some answer) (subst F same o.front);
         over = r.next s o.given (receptions es) ∙ ap (λ x. due x o.given c (receptions es)) (sym same) ∙ o.over;
         answered = r.law s o.given es answer (subst L same o.answered);

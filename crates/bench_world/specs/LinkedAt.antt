@@ -57,5 +57,5 @@ pub record OpensAt (old new : Machines) (place miu window peer : ℕ) (far : Far
   pub air : Air Device
   pub after : FarEnd
   pub came : Result (InitState × ArrayVec ℕ) EndCause
-  pub asks : OpensAny restarts (Answers serving) old.air far air after (own_general miu) came
+  pub asks : OpensAny restarts (Answers serving 0) old.air far air after (own_general miu) came
   pub left : LinkLeft (moved_at old air place after) miu window peer (length far.service.accepted) came result new

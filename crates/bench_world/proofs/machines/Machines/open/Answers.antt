@@ -29,7 +29,7 @@ not_opened-requires c =
     } in
     let is : m ≡ c.args.self.now = c.self.view_is in
     let bytes : c.deref.result.now ≡ own_general c.args.miu = c.deref.ensures.0 ∙ c.general_write-general.ensures.bytes ∙ ap general_bytes c.own_params.ensures in
-    let O : List ℕ → Type 0 = λ xs. OpensAny restarts (Answers serving) m.air c.in-Some-index_mut.end c.open_link.new.field c.open_link.new.far xs (by_cause c.open_link.result) in
+    let O : List ℕ → Type 0 = λ xs. OpensAny restarts (Answers serving 0) m.air c.in-Some-index_mut.end c.open_link.new.field c.open_link.new.far xs (by_cause c.open_link.result) in
     let asks : O (own_general c.args.miu) = subst O bytes c.open_link.ensures.tells in
     never_odd m c.args.place c.args.miu c.args.rw c.in-Some.peer c.in-Some-index_mut.end c.open_link.new.field c.open_link.new.far c.open_link.result asks c.in-Err.end c.in-Err.is c.requires.stands.0 c.args.place
     (subst (λ (x : Machines). Stands (moment x.air) c.args.place c.requires.stands.0) (sym is) c.requires.stands.1) c.requires.stands.2
@@ -53,7 +53,7 @@ returns-in-Ok c = λ peer far numbered there.
     let n : c.in-Some.peer ≡ peer = cc in
     let e : c.in-Some-index_mut.end ≡ far = cc in
     let bytes : c.deref.result.now ≡ own_general c.args.miu = c.deref.ensures.0 ∙ c.general_write-general.ensures.bytes ∙ ap general_bytes c.own_params.ensures in
-    let O : List ℕ → Type 0 = λ xs. OpensAny restarts (Answers serving) m.air c.in-Some-index_mut.end c.open_link.new.field c.open_link.new.far xs (by_cause c.open_link.result) in
+    let O : List ℕ → Type 0 = λ xs. OpensAny restarts (Answers serving 0) m.air c.in-Some-index_mut.end c.open_link.new.field c.open_link.new.far xs (by_cause c.open_link.result) in
     let asks : O (own_general c.args.miu) = subst O bytes c.open_link.ensures.tells in
     let P : Machines → Type 0 = λ x. OpensAt x c.begin.new.self place c.args.miu c.args.rw peer far c.begin.result in
     let Q : ℕ → Type 0 = λ k. OpensAt m c.begin.new.self place c.args.miu c.args.rw k far c.begin.result in
@@ -90,7 +90,7 @@ returns-in-Err c = λ peer far numbered there.
     let n : c.in-Some.peer ≡ peer = cc in
     let e : c.in-Some-index_mut.end ≡ far = cc in
     let bytes : c.deref.result.now ≡ own_general c.args.miu = c.deref.ensures.0 ∙ c.general_write-general.ensures.bytes ∙ ap general_bytes c.own_params.ensures in
-    let O : List ℕ → Type 0 = λ xs. OpensAny restarts (Answers serving) m.air c.in-Some-index_mut.end c.open_link.new.field c.open_link.new.far xs (by_cause c.open_link.result) in
+    let O : List ℕ → Type 0 = λ xs. OpensAny restarts (Answers serving 0) m.air c.in-Some-index_mut.end c.open_link.new.field c.open_link.new.far xs (by_cause c.open_link.result) in
     let asks : O (own_general c.args.miu) = subst O bytes c.open_link.ensures.tells in
     let mid : Machines = moved_at m c.open_link.new.field place c.open_link.new.far in
     let P : Machines → Type 0 = λ x. OpensAt x mid place c.args.miu c.args.rw peer far c.not_opened.result in
