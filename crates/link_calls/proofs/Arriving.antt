@@ -2,6 +2,7 @@
 use Rattle.std.proofs.Common.{◌≡◌, ◌≤◌, ℕ, List, [], ◌∷◌, ◌++◌, length, drop, Option, refl, sym, ◌∙◌, ap, subst, append-nil, append_assoc, true}
 use Rattle.std.proofs.lemmas.List.{drop-append-le}
 use Rattle.std.proofs.Math.Seq.{drop-length}
+use Rattle.nfc_base.specs.Choosing.{Choosing, first_number, later_numbers}
 use Rattle.nfc_base.specs.Links.{BySwaps, FarStep, Stepped, Stopped, FarMoved}
 use Rattle.nfc_base.specs.LinkTurns.{arrived}
 use Rattle.nfc_base.proofs.LinkTurns.{arrived_append}
@@ -26,12 +27,12 @@ use Rattle.dep_link.specs.Releasing.{rls_frame}
 use Rattle.dep_link.proofs.Carrying.{cut_then}
 use Rattle.dep_link.proofs.Wire.{frames_append, written_read}
 use Rattle.llcp_link.specs.Running.{Act, Acted, AreBytes, Else, Gives, IsRun, Takes, end_of}
-use Rattle.llcp_link.specs.Answering.{Answers, Stops}
+use Rattle.llcp_link.specs.Counting.{AnswersCounted, StopsCounted}
 use Rattle.llcp_link.specs.Taking.{taken_from}
 use Rattle.snep_core.specs.Accord.{PeerState}
 use Rattle.snep_core.specs.Calling.{payloads}
 use Rattle.snep_core.specs.Server.{ServerState, serving}
-use Rattle.snep_core.specs.Talk.{IsMost, Step, Goes, Ends, GivesUp, Told, replied}
+use Rattle.snep_core.specs.Talk.{Step, Goes, Ends, GivesUp, Told, replied}
 use Rattle.link_calls.specs.Arriving.{Arrives, IsCounted, Never, taken_in, with_taken}
 use Rattle.link_calls.specs.CallTurns.{swaps}
 
@@ -66,13 +67,13 @@ pub record Ran (ps : List (List ℕ)) (far after : PeerState) : Type 0 where
   pub after_is : after ≡ end_of far run
   pub taken : taken_in run ≡ ps
 
-pub ran : (did : List FarStep) → AreWhole did → (far after : PeerState) → FarMoved (Answers serving) (Stops serving) did far after → Ran (payloads did) far after
-ran [] whole far after moved = record { run = []; does = tt; after_is = moved; taken = refl }
+pub ran : (did : List FarStep) → AreWhole did → (far after : Choosing PeerState) → FarMoved (AnswersCounted serving) (StopsCounted serving) did far after → Ran (payloads did) far.end after.end
+ran [] whole far after moved = record { run = []; does = tt; after_is = ap (λ (c : Choosing PeerState). c.end) moved; taken = refl }
 ran (Stepped payload reply ∷ did) (bytes, whole) far after (mid, step, moved) =
     let more = ran did whole mid after moved in
     record {
-      run = record { act = Takes payload; after = taken_from serving far payload } ∷ record { act = Gives step.gives.count; after = mid } ∷ more.run;
-      does = ((bytes, refl), (step.gives.left, more.does));
+      run = record { act = Takes payload; after = taken_from serving far.end payload } ∷ record { act = Gives (first_number far.numbers); after = mid.end } ∷ more.run;
+      does = ((bytes, refl), (step.answers.gives.left, more.does));
       after_is = more.after_is;
       taken = ap (λ ps. payload ∷ ps) more.taken;
     }
@@ -126,16 +127,13 @@ module _ {L : Type 0} (k : Ghosts L) (target : L → TargetState) where
 
   module _ {C : Type 0} (see : C → DepSeen L) where
     -- the steps of a call are whole
-    pub told_whole : (ns : List ℕ) (did : List FarStep) (from to : Step) (a b : C) → Told IsMost ns from did to → BySwaps (swaps k target see) did a b → AreWhole did
-    told_whole [] [] from to a b told by = tt
-    told_whole [] (x ∷ did) from to a b told by = absurd told
-    told_whole (n ∷ ns) [] (Goes w) to a b told by = absurd told
-    told_whole (n ∷ ns) [] (Ends jobs l) to a b told by = absurd told
-    told_whole (n ∷ ns) [] (GivesUp l) to a b told by = absurd told
-    told_whole (n ∷ ns) (x ∷ did) (Ends jobs l) to a b told by = absurd told
-    told_whole (n ∷ ns) (x ∷ did) (GivesUp l) to a b told by = absurd told
-    told_whole (n ∷ ns) (Stopped out ∷ did) (Goes w) to a b told by = absurd told
-    told_whole (n ∷ ns) (Stepped out reply ∷ did) (Goes w) to a b (most, o, told) (mid, one, by) = (one.bytes, told_whole ns did (replied n w reply) to mid b told by)
+    pub told_whole : (ns : List ℕ) (did : List FarStep) (from to : Step) (a b : C) → Told ns from did to → BySwaps (swaps k target see) did a b → AreWhole did
+    told_whole ns [] from to a b told by = tt
+    told_whole ns (x ∷ did) (Ends jobs l) to a b told by = absurd told
+    told_whole ns (x ∷ did) (GivesUp l) to a b told by = absurd told
+    told_whole ns (Stopped out ∷ did) (Goes w) to a b told by = absurd told
+    told_whole ns (Stepped out reply ∷ did) (Goes w) to a b (o, told) (mid, one, by) =
+        (one.bytes, told_whole (later_numbers ns) did (replied (first_number ns) w reply) to mid b told by)
 
     pub firsts : (did : List FarStep) (a b : C) → BySwaps (swaps k target see) did a b → (see b).first ≡ (see a).first
     firsts [] a b e = ap (λ z. (see z).first) e

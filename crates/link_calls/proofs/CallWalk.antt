@@ -11,15 +11,15 @@ use Rattle.dep_link.specs.Target.{TargetState}
 use Rattle.dep_link.specs.Initiator.{InitState}
 use Rattle.dep_link.specs.Asking.{Standing, Waits, Rests, Broken, Astray, asks, noted, stand, due_at, dep_next}
 use Rattle.dep_link.specs.DepLinks.{DepSeen, StandsAt}
-use Rattle.nfc_base.specs.Choosing.{first_number, later_numbers}
+use Rattle.nfc_base.specs.Choosing.{Choosing, first_number, later_numbers}
 use Rattle.far_air.specs.FarEnds.{FarTable}
 use Rattle.far_air.specs.FarWorld.{far_air}
-use Rattle.far_air.specs.FarLaws.{IsFarTable, IsLinked, IsOfTable, with_far, seen_at}
+use Rattle.far_air.specs.FarLaws.{IsFarTable, IsLinked, IsOfTable, seen_with}
 use Rattle.far_air.specs.FarTurns.{FarGoing}
 use Rattle.far_air.proofs.FarTurns.{far_goes_then}
 use Rattle.peer_air.specs.SwapTurns.{Stands, SwapTurn, SwapFront, SwapsFar, StopsFar, did_with}
 use Rattle.snep_core.specs.declared.fault.SnepFault.{SnepFault}
-use Rattle.snep_core.specs.Talk.{EndState, IsMost, Step, Goes, Ends, GivesUp, Told, Working, payload, ready, replied}
+use Rattle.snep_core.specs.Talk.{EndState, Step, Goes, Ends, GivesUp, Told, Working, numbers_behind, payload, ready, replied}
 use Rattle.snep_core.specs.Calling.{IsCut, fault_of}
 use Rattle.link_calls.specs.CallDue.{CallStanding, Carries, BrokenBy, Strays, call_at, carried, call_noted, call_on, call_due_at, call_stand, call_due}
 use Rattle.link_calls.specs.CallTurns.{CallTurns, CallFront, CutBy, TalksFar, BreaksFar, sees, swaps}
@@ -62,21 +62,21 @@ given_is out reply None e = absurd cc
 given_is out reply (Some r) e = (let z : reply ≡ r = cc in ap Some (sym z))
 
 module _ {L F : Type 0} (k : Ghosts L) (target : L → TargetState) (linked : L → Bool) (t : FarTable F) (place : ℕ) (os : List (Option F)) where
-  abbrev Turns : List ℕ → Step → InitState → Air L → Air L → F → F → CallStanding → Type 0
+  abbrev Turns : List ℕ → Step → InitState → Air L → Air L → Choosing F → Choosing F → CallStanding → Type 0
   Turns numbers from i old new far after s = CallTurns k target linked t numbers from i old new place os far after s
 
-  abbrev Going : (List Note → Next) → Air L → Air L → List Note → F → F → Type 0
+  abbrev Going : (List Note → Next) → Air L → Air L → List Note → Choosing F → Choosing F → Type 0
   Going next old new notes far after = FarGoing k.machine linked t next (moment old) (moment new) notes place os far after
 
-  none_yet : (next : List Note → Next) (a : Air L) (far : F) → Going next a a [] far far
-  none_yet next a far = record { taken = []; going = λ ns b. going_start (far_air k.machine linked t) next (seen_at linked t (moment a) (with_far os place far) ns) }
+  none_yet : (next : List Note → Next) (a : Air L) (far : Choosing F) → Going next a a [] far far
+  none_yet next a far = going_start (far_air k.machine linked t) next (seen_with linked t (moment a) os place far)
 
   -- no turn, and none was due
-  pub starts : (numbers : List ℕ) (from : Step) (i : InitState) (a : Air L) (far : F) → Turns numbers from i a a far far (call_at numbers from i)
+  pub starts : (numbers : List ℕ) (from : Step) (i : InitState) (a : Air L) (far : Choosing F) → Turns numbers from i a a far far (call_at numbers from i)
   starts numbers from i a far = record { notes = []; going = none_yet (call_due numbers from i) a far; stands = refl }
 
   -- one exchange of its payload
-  pub one_exchange : (w : Working) (ks : List ℕ) (i : InitState) (old new : Air L) (far after : F) (out : List ℕ) → out ≡ payload (first_number ks) w → (notes : List Note)
+  pub one_exchange : (w : Working) (ks : List ℕ) (i : InitState) (old new : Air L) (far after : Choosing F) (out : List ℕ) → out ≡ payload (first_number ks) w → (notes : List Note)
       → Going (dep_next i out) old new notes far after → (q : Standing) → stand (asks i out) notes ≡ q → (q ≡ Astray → ⊥) → Turns ks (Goes w) i old new far after (carried w ks q)
   one_exchange w ks i old new far after out o notes g q e never =
       let p : List ℕ = payload (first_number ks) w in
@@ -93,7 +93,7 @@ module _ {L F : Type 0} (k : Ghosts L) (target : L → TargetState) (linked : L 
       }
 
   -- one part of a call, and the next
-  pub then : (ns ks : List ℕ) (from to : Step) (i j : InitState) (old mid new : Air L) (far half after : F) (s : CallStanding) → Turns ns from i old mid far half (call_at ks to j)
+  pub then : (ns ks : List ℕ) (from to : Step) (i j : InitState) (old mid new : Air L) (far half after : Choosing F) (s : CallStanding) → Turns ns from i old mid far half (call_at ks to j)
       → Turns ks to j mid new half after s → Turns ns from i old new far after s
   then ns ks from to i j old mid new far half after s g h =
       let on : (ms : List Note) → call_stand ns from i (g.notes ++ ms) ≡ call_stand ks to j ms = λ ms. call_append (call_at ns from i) g.notes ms ∙ ap (λ c. call_on c ms) g.stands in
@@ -104,7 +104,7 @@ module _ {L F : Type 0} (k : Ghosts L) (target : L → TargetState) (linked : L 
         stands = on h.notes ∙ h.stands;
       }
 
-  module _ {C A : Type 0} (see : C → DepSeen L) (restarts : A → List ℕ → A → Type 0) (steps : A → List ℕ → List ℕ → A → Type 0) (stops : A → List ℕ → A → Type 0) (view : A → F)
+  module _ {C A : Type 0} (see : C → DepSeen L) (restarts : A → List ℕ → A → Type 0) (steps : A → List ℕ → List ℕ → A → Type 0) (stops : A → List ℕ → A → Type 0) (view : A → Choosing F)
       (links : IsLinked k.machine linked) (fars : IsFarTable t) (kind : IsOfTable restarts steps t view) (swap : SwapsFar k target linked t restarts steps stops view) (stop : StopsFar k target linked t restarts steps stops view) where
     abbrev Swaps : C → List ℕ → List FarStep → C → Type 0
     Swaps = swaps k target see
@@ -129,81 +129,78 @@ module _ {L F : Type 0} (k : Ghosts L) (target : L → TargetState) (linked : L 
           s.there,
         )
 
-    pub talked : (ns : List ℕ) (did : List FarStep) (from to : Step) (a b : C) (x y : A) → Told IsMost ns from did to → BySwaps Swaps did a b → (see b).over ≡ None
-        → FarMoved steps stops did x y → Stands k target linked t (see a).air place → (rest : List ℕ)
-        → Turns (ns ++ rest) from (see a).initiator (see a).air (see b).air (view x) (view y) (call_at rest to (see b).initiator) × Stands k target linked t (see b).air place
-    talked [] [] from to a b x y told e goes moved there rest =
-        let T : Step → Type 0 = λ z. Turns rest from (see a).initiator (see a).air (see b).air (view x) (view y) (call_at rest z (see b).initiator) in
-        let B : C → Type 0 = λ z. Turns rest from (see a).initiator (see a).air (see z).air (view x) (view y) (call_at rest from (see z).initiator) in
-        let Y : A → Type 0 = λ z. Turns rest from (see a).initiator (see a).air (see a).air (view x) (view z) (call_at rest from (see a).initiator) in
+    pub talked : (ns : List ℕ) (did : List FarStep) (from to : Step) (a b : C) (x y : A) → Told ns from did to → BySwaps Swaps did a b → (see b).over ≡ None
+        → FarMoved steps stops did x y → Stands k target linked t (see a).air place
+        → Turns ns from (see a).initiator (see a).air (see b).air (view x) (view y) (call_at (numbers_behind did ns) to (see b).initiator) × Stands k target linked t (see b).air place
+    talked ns [] from to a b x y told e goes moved there =
+        let T : Step → Type 0 = λ z. Turns ns from (see a).initiator (see a).air (see b).air (view x) (view y) (call_at ns z (see b).initiator) in
+        let B : C → Type 0 = λ z. Turns ns from (see a).initiator (see a).air (see z).air (view x) (view y) (call_at ns from (see z).initiator) in
+        let Y : A → Type 0 = λ z. Turns ns from (see a).initiator (see a).air (see a).air (view x) (view z) (call_at ns from (see a).initiator) in
         let S : C → Type 0 = λ z. Stands k target linked t (see z).air place in
-        (subst T (sym told) (subst B (sym e) (subst Y (sym moved) (starts rest from (see a).initiator (see a).air (view x)))), subst S (sym e) there)
-    talked [] (d ∷ did) from to a b x y told by goes moved there rest = absurd told
-    talked (n ∷ ns) [] (Goes w) to a b x y told by goes moved there rest = absurd told
-    talked (n ∷ ns) [] (Ends jobs l) to a b x y told by goes moved there rest = absurd told
-    talked (n ∷ ns) [] (GivesUp l) to a b x y told by goes moved there rest = absurd told
-    talked (n ∷ ns) (d ∷ did) (Ends jobs l) to a b x y told by goes moved there rest = absurd told
-    talked (n ∷ ns) (d ∷ did) (GivesUp l) to a b x y told by goes moved there rest = absurd told
-    talked (n ∷ ns) (Stopped out ∷ did) (Goes w) to a b x y told by goes moved there rest = absurd told
-    talked (n ∷ ns) (Stepped out reply ∷ did) (Goes w) to a b x y (most, o, told) (mid, one, by) goes (half, step, moved) there rest =
-        let ks : List ℕ = n ∷ (ns ++ rest) in
-        let first = answered w ks a mid x half out reply o one (open_at did mid b by goes) (half, step, refl) there in
-        let later = talked ns did (replied n w reply) to mid b half y told by goes moved first.1 rest in (
-          then ks (ns ++ rest) (Goes w) (replied n w reply) (see a).initiator (see mid).initiator (see a).air (see mid).air (see b).air (view x) (view half) (view y) (call_at rest to (see b).initiator) first.0 later.0,
+        (subst T (sym told) (subst B (sym e) (subst Y (sym moved) (starts ns from (see a).initiator (see a).air (view x)))), subst S (sym e) there)
+    talked ns (d ∷ did) (Ends jobs l) to a b x y told by goes moved there = absurd told
+    talked ns (d ∷ did) (GivesUp l) to a b x y told by goes moved there = absurd told
+    talked ns (Stopped out ∷ did) (Goes w) to a b x y told by goes moved there = absurd told
+    talked ns (Stepped out reply ∷ did) (Goes w) to a b x y (o, told) (mid, one, by) goes (half, step, moved) there =
+        let ks : List ℕ = later_numbers ns in
+        let next : Step = replied (first_number ns) w reply in
+        let first = answered w ns a mid x half out reply o one (open_at did mid b by goes) (half, step, refl) there in
+        let later = talked ks did next to mid b half y told by goes moved first.1 in (
+          then ns ks (Goes w) next (see a).initiator (see mid).initiator (see a).air (see mid).air (see b).air (view x) (view half) (view y) (call_at (numbers_behind did ks) to (see b).initiator) first.0 later.0,
           later.1,
         )
 
-    -- A call that went on so far, and is cut off in its next swap.
-    module _ (from : Step) (w : Working) (a m b : C) (x y z : A) (counts : List ℕ)
-        (base : (rest : List ℕ) → Turns (counts ++ rest) from (see a).initiator (see a).air (see m).air (view x) (view y) (call_at rest (Goes w) (see m).initiator))
+    -- A call that went on so far, and is cut off in its next swap, with these numbers left.
+    module _ (from : Step) (w : Working) (a m b : C) (x y z : A) (numbers left : List ℕ)
+        (base : Turns numbers from (see a).initiator (see a).air (see m).air (view x) (view y) (call_at left (Goes w) (see m).initiator))
         (there : Stands k target linked t (see m).air place) where
       abbrev Cut : SnepFault → Type 0
-      Cut e = CutBy k target linked t from (see a).initiator (see a).air (see b).air place os (view x) (view z) e
+      Cut e = CutBy k target linked t numbers from (see a).initiator (see a).air (see b).air place os (view x) (view z) e
 
       abbrev Front : Type 0
-      Front = CallFront k target linked t from (see a).initiator (see a).air (see b).air place os (view x) (view z)
+      Front = CallFront k target linked t numbers from (see a).initiator (see a).air (see b).air place os (view x) (view z)
 
-      -- its next exchange, with so many PDUs
-      more : (n : ℕ) (new : Air L) (v : F) (s : CallStanding) → Turns (n ∷ []) (Goes w) (see m).initiator (see m).air new (view y) v s → Turns (counts ++ n ∷ []) from (see a).initiator (see a).air new (view x) v s
-      more n new v s g = then (counts ++ n ∷ []) (n ∷ []) from (Goes w) (see a).initiator (see m).initiator (see a).air (see m).air new (view x) (view y) v s (base (n ∷ [])) g
+      abbrev out : List ℕ
+      out = payload (first_number left) w
+
+      -- its next exchange
+      more : (new : Air L) (v : Choosing F) (s : CallStanding) → Turns left (Goes w) (see m).initiator (see m).air new (view y) v s → Turns numbers from (see a).initiator (see a).air new (view x) v s
+      more new v s g = then numbers left from (Goes w) (see a).initiator (see m).initiator (see a).air (see m).air new (view x) (view y) v s base g
 
       rested : b ≡ m → z ≡ y → Front
       rested e f = record {
-        numbers = counts ++ [];
-        standing = call_at [] (Goes w) (see m).initiator;
+        standing = call_at left (Goes w) (see m).initiator;
         mid = (see m).air;
         half = view y;
-        turns = base [];
+        turns = base;
         under_way = λ q. cc;
         left = inl (ap (λ c. (see c).air) e, ap view f);
       }
 
-      front_here : (n : ℕ) (s : CallStanding) → (s ≡ Strays → ⊥) → Turns (n ∷ []) (Goes w) (see m).initiator (see m).air (see b).air (view y) (view z) s → Front
-      front_here n s never g = record { numbers = counts ++ n ∷ []; standing = s; mid = (see b).air; half = view z; turns = more n (see b).air (view z) s g; under_way = never; left = inl (refl, refl) }
+      front_here : (s : CallStanding) → (s ≡ Strays → ⊥) → Turns left (Goes w) (see m).initiator (see m).air (see b).air (view y) (view z) s → Front
+      front_here s never g = record { standing = s; mid = (see b).air; half = view z; turns = more (see b).air (view z) s g; under_way = never; left = inl (refl, refl) }
 
-      ended : (n : ℕ) (out : List ℕ) → out ≡ payload n w → (did : List FarStep) → SwapTurn k target linked t (see m) (see b) (record { out = out; did = did }) place os (view y) (view z) → (c : EndCause)
-          → (see b).over ≡ Some c → Cut (fault_of c)
-      ended n out o did s c over = go c (let P : Option EndCause → Type 0 = λ q. StandsAt q s.given (see b).initiator (stand (asks (see m).initiator out) s.notes) in subst P over s.stands)
+      ended : (did : List FarStep) → SwapTurn k target linked t (see m) (see b) (record { out = out; did = did }) place os (view y) (view z) → (c : EndCause) → (see b).over ≡ Some c → Cut (fault_of c)
+      ended did s c over = go c (let P : Option EndCause → Type 0 = λ q. StandsAt q s.given (see b).initiator (stand (asks (see m).initiator out) s.notes) in subst P over s.stands)
         where
-          by : (q : Standing) → stand (asks (see m).initiator out) s.notes ≡ q → (q ≡ Astray → ⊥) → Turns (n ∷ []) (Goes w) (see m).initiator (see m).air (see b).air (view y) (view z) (carried w (n ∷ []) q)
-          by q e never = one_exchange w (n ∷ []) (see m).initiator (see m).air (see b).air (view y) (view z) out o s.notes s.going q e never
+          by : (q : Standing) → stand (asks (see m).initiator out) s.notes ≡ q → (q ≡ Astray → ⊥) → Turns left (Goes w) (see m).initiator (see m).air (see b).air (view y) (view z) (carried w left q)
+          by q e never = one_exchange w left (see m).initiator (see m).air (see b).air (view y) (view z) out refl s.notes s.going q e never
 
           go : (c : EndCause) → StandsAt (Some c) s.given (see b).initiator (stand (asks (see m).initiator out) s.notes) → Cut (fault_of c)
-          go cause.FieldLost e = (counts ++ n ∷ [], more n (see b).air (view z) (BrokenBy cause.FieldLost) (by (Broken cause.FieldLost) e (λ q. cc)))
-          go cause.SixBad e = (counts ++ n ∷ [], more n (see b).air (view z) (BrokenBy cause.SixBad) (by (Broken cause.SixBad) e (λ q. cc)))
+          go cause.FieldLost e = more (see b).air (view z) (BrokenBy cause.FieldLost) (by (Broken cause.FieldLost) e (λ q. cc))
+          go cause.SixBad e = more (see b).air (view z) (BrokenBy cause.SixBad) (by (Broken cause.SixBad) e (λ q. cc))
           go cause.Protocol e = absurd e
-          go cause.Memory (f, e) = front_here n (Carries w (n ∷ []) (Waits (see b).initiator f)) (λ q. cc) (by (Waits (see b).initiator f) e (λ q. cc))
+          go cause.Memory (f, e) = front_here (Carries w left (Waits (see b).initiator f)) (λ q. cc) (by (Waits (see b).initiator f) e (λ q. cc))
 
-      stopped : (n : ℕ) (out : List ℕ) → out ≡ payload n w → SwapFront k target linked t (see m) (see b) out place os (view y) → Front
-      stopped n out o s = go (stand (asks (see m).initiator out) s.notes) refl s.due
+      stopped : SwapFront k target linked t (see m) (see b) out place os (view y) → Front
+      stopped s = go (stand (asks (see m).initiator out) s.notes) refl s.due
         where
           go : (q : Standing) → stand (asks (see m).initiator out) s.notes ≡ q → due_at q ≡ Asks s.sent → Front
           go (Waits j f) e due = record {
-            numbers = counts ++ n ∷ [];
-            standing = Carries w (n ∷ []) (Waits j f);
+            standing = Carries w left (Waits j f);
             mid = s.mid;
             half = view y;
-            turns = more n s.mid (view y) (Carries w (n ∷ []) (Waits j f)) (one_exchange w (n ∷ []) (see m).initiator (see m).air s.mid (view y) (view y) out o s.notes s.going (Waits j f) e (λ q. cc));
+            turns = more s.mid (view y) (Carries w left (Waits j f)) (one_exchange w left (see m).initiator (see m).air s.mid (view y) (view y) out refl s.notes s.going (Waits j f) e (λ q. cc));
             under_way = λ q. cc;
             left = inr (s.sent, s.listeners, due, s.fate, s.left);
           }
@@ -212,44 +209,43 @@ module _ {L F : Type 0} (k : Ghosts L) (target : L → TargetState) (linked : L 
           go Astray e due = absurd cc
 
       -- a swap that failed
-      failed : (n : ℕ) (out : List ℕ) → out ≡ payload n w → (did : List FarStep) → Swaps m out did b → FarMoved steps stops did y z → (answered : Bool) (c : EndCause) → AskedBy answered c out did
-          → (see b).over ≡ Some c → Cut (fault_of c)
-      failed n out o did one moved true c (reply, e) over =
+      failed : (did : List FarStep) → Swaps m out did b → FarMoved steps stops did y z → (answered : Bool) (c : EndCause) → AskedBy answered c out did → (see b).over ≡ Some c → Cut (fault_of c)
+      failed did one moved true c (reply, e) over =
           let X : List FarStep → Type 0 = λ d. Swaps m out d b in
           let M : List FarStep → Type 0 = λ d. FarMoved steps stops d y z in
           let d : List FarStep = Stepped out reply ∷ [] in
-          ended n out o d (swap links fars kind (see m) (see b) (record { out = out; did = d }) (subst X e one) y z (subst M e moved) tt place there os) c over
-      failed n out o did one moved false c (inl e) over =
+          ended d (swap links fars kind (see m) (see b) (record { out = out; did = d }) (subst X e one) y z (subst M e moved) tt place there os) c over
+      failed did one moved false c (inl e) over =
           let X : List FarStep → Type 0 = λ d. Swaps m out d b in
           let M : List FarStep → Type 0 = λ d. FarMoved steps stops d y z in
-          ended n out o [] (swap links fars kind (see m) (see b) (record { out = out; did = [] }) (subst X e one) y z (subst M e moved) tt place there os) c over
-      failed n out o did one moved false c (inr (memory, e)) over =
+          ended [] (swap links fars kind (see m) (see b) (record { out = out; did = [] }) (subst X e one) y z (subst M e moved) tt place there os) c over
+      failed did one moved false c (inr (memory, e)) over =
           let X : List FarStep → Type 0 = λ d. Swaps m out d b in
           let d : List FarStep = Stopped out ∷ [] in
           let P : EndCause → Type 0 = λ q. Cut (fault_of q) in
-          subst P (sym memory) (stopped n out o (stop links fars (see m) (see b) (record { out = out; did = d }) (subst X e one) out refl place there (view y) os))
+          subst P (sym memory) (stopped (stop links fars (see m) (see b) (record { out = out; did = d }) (subst X e one) out refl place there (view y) os))
 
-      cut : (see m).over ≡ None → (e : SnepFault) (new : EndState) → IsCut (sees see) Swaps steps stops (ready w).llc m y e new b z → Cut e
+      cut : (see m).over ≡ None → (e : SnepFault) (new : EndState) → IsCut (sees see) Swaps steps stops (first_number left) (ready w).llc m y e new b z → Cut e
       cut goes e new (inl (inl c)) = subst Cut (sym c.fault) (rested c.link_is c.far_is)
       cut goes e new (inl (inr c)) = absurd (let over = c.over in cc)
       cut goes e new (inr (inl c)) =
-          subst Cut (sym c.fault) (failed c.count (payload c.count w) refl c.swapped.did c.swapped.link c.swapped.far_moved c.why.answered c.why.cause c.swapped.tells c.swap.over)
+          subst Cut (sym c.fault) (failed c.swapped.did c.swapped.link c.swapped.far_moved c.why.answered c.why.cause c.swapped.tells c.swap.over)
       cut goes e new (inr (inr c)) =
-          let out : List ℕ = payload c.count w in
           let X : List FarStep → Type 0 = λ d. Swaps m out d b in
           let M : List FarStep → Type 0 = λ d. FarMoved steps stops d y z in
-          let s = answered w (c.count ∷ []) m b y z out c.reply refl (subst X c.swapped.tells c.swapped.link) c.swap.stays (subst M c.swapped.tells c.swapped.far_moved) there in
-          subst Cut (sym c.fault) (front_here c.count (call_at [] (replied c.count w c.reply) (see b).initiator) (never_strays [] (replied c.count w c.reply) (see b).initiator) s.0)
+          let ks : List ℕ = later_numbers left in
+          let next : Step = replied (first_number left) w c.reply in
+          let s = answered w left m b y z out c.reply refl (subst X c.swapped.tells c.swapped.link) c.swap.stays (subst M c.swapped.tells c.swapped.far_moved) there in
+          subst Cut (sym c.fault) (front_here (call_at ks next (see b).initiator) (never_strays ks next (see b).initiator) s.0)
 
-module _ {L F C A : Type 0} (k : Ghosts L) (target : L → TargetState) (linked : L → Bool) (t : FarTable F) (see : C → DepSeen L) (restarts : A → List ℕ → A → Type 0) (steps : A → List ℕ → List ℕ → A → Type 0) (stops : A → List ℕ → A → Type 0) (view : A → F)
+module _ {L F C A : Type 0} (k : Ghosts L) (target : L → TargetState) (linked : L → Bool) (t : FarTable F) (see : C → DepSeen L) (restarts : A → List ℕ → A → Type 0) (steps : A → List ℕ → List ℕ → A → Type 0) (stops : A → List ℕ → A → Type 0) (view : A → Choosing F)
     (swap : SwapsFar k target linked t restarts steps stops view) (stop : StopsFar k target linked t restarts steps stops view) where
   pub talks_far : TalksFar k target linked t see restarts steps stops view
-  talks_far links fars kind from to a b far after talk goes place there os rest =
-      let z = talked k target linked t place os see restarts steps stops view links fars kind swap stop talk.counts talk.did from to a b far after talk.told talk.swapped (talk.over ∙ goes) talk.far_moved there rest in
-      ((talk.counts ++ rest, z.0), z.1)
+  talks_far links fars kind numbers from to a b far after talk goes place there os =
+      talked k target linked t place os see restarts steps stops view links fars kind swap stop numbers talk.did from to a b far after talk.told talk.swapped (talk.over ∙ goes) talk.far_moved there
 
   pub breaks_far : BreaksFar k target linked t see restarts steps stops view
-  breaks_far links fars kind from a b far after e new broke goes place there os =
+  breaks_far links fars kind numbers from a b far after e new broke goes place there os =
       let talk = broke.talks in
-      let z = λ (rest : List ℕ). talked k target linked t place os see restarts steps stops view links fars kind swap stop talk.counts talk.did from (Goes broke.at) a broke.mid far broke.mid_far talk.told talk.swapped (talk.over ∙ goes) talk.far_moved there rest in
-      cut k target linked t place os see restarts steps stops view links fars kind swap stop from broke.at a broke.mid b far broke.mid_far after talk.counts (λ rest. (z rest).0) (z []).1 (talk.over ∙ goes) e new broke.cut
+      let z = talked k target linked t place os see restarts steps stops view links fars kind swap stop numbers talk.did from (Goes broke.at) a broke.mid far broke.mid_far talk.told talk.swapped (talk.over ∙ goes) talk.far_moved there in
+      cut k target linked t place os see restarts steps stops view links fars kind swap stop from broke.at a broke.mid b far broke.mid_far after numbers (numbers_behind talk.did numbers) z.0 z.1 (talk.over ∙ goes) e new broke.cut

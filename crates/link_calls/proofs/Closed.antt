@@ -1,5 +1,6 @@
 -- What ending a connection and releasing its link comes to.
 use Rattle.std.proofs.Common.{◌≡◌, ◌≤◌, ◌⊎◌, ℕ, List, length, Bool, true, Option, Some, None, Ok, Err, refl, sym, ◌∙◌, ap, subst, inl, inr}
+use Rattle.nfc_base.specs.Choosing.{Choosing}
 use Rattle.nfc_base.specs.Signal.{Signal}
 use Rattle.nfc_base.specs.Far.{Untouched}
 use Rattle.nfc_base.specs.declared.carrier.EndCause.{EndCause}
@@ -15,7 +16,7 @@ use Rattle.dep_link.specs.Target.{TargetState}
 use Rattle.dep_link.specs.Initiator.{InitState}
 use Rattle.dep_link.specs.DepLinks.{DepSeen, IsDepReady, first_seen}
 use Rattle.dep_link.specs.Releasing.{Releases, rls_frame}
-use Rattle.llcp_link.specs.Answering.{Answers, Stops}
+use Rattle.llcp_link.specs.Counting.{AnswersCounted, RestartsCounted, StopsCounted}
 use Rattle.far_air.specs.FarLaws.{IsLinked}
 use Rattle.peer_air.specs.PeerFars.{peer_ends}
 use Rattle.peer_air.specs.SwapTurns.{Stands}
@@ -30,7 +31,7 @@ use Rattle.link_calls.specs.CallTurns.{sees, swaps}
 use Rattle.link_calls.specs.Calls.{IsOpen, IsCutOff}
 use Rattle.link_calls.specs.ClosingDue.{Releasing, closing_at, closing_due_at}
 use Rattle.link_calls.specs.Closing.{ClosingTurns, ClosingFails, SendsRls, IsReleased}
-use Rattle.link_calls.specs.Staying.{begins, setting_of}
+use Rattle.link_calls.specs.Staying.{setting_of}
 use Rattle.link_calls.proofs.Arriving.{release_brings}
 use Rattle.link_calls.proofs.Made.{peer_table, peer_kind, reaches, made, cut_off, within}
 use Rattle.link_calls.proofs.Closes.{of_call, with_release}
@@ -42,7 +43,7 @@ due_same (BrokenBy c) f e = absurd cc
 due_same Strays f e = absurd cc
 
 -- how a call was left off, so was the closing
-left_so : {L : Type 0} (k : Ghosts L) (new : Air L) (after : PeerState) (mid : Air L) (half : PeerState) (s : CallStanding)
+left_so : {L : Type 0} (k : Ghosts L) (new : Air L) (after : Choosing PeerState) (mid : Air L) (half : Choosing PeerState) (s : CallStanding)
     → ((new ≡ mid) × (after ≡ half))
     ⊎ ((sent : Signal) × (listeners : List L) × (call_due_at s ≡ Asks sent) × (first_fate mid.fates ≡ Pass) × (new ≡ after_event mid (Request sent Pass) (later_fates mid.fates) (record { lit = true; listeners = listeners })))
     → ((new ≡ mid) × (after ≡ half))
@@ -50,13 +51,13 @@ left_so : {L : Type 0} (k : Ghosts L) (new : Air L) (after : PeerState) (mid : A
 left_so k new after mid half s (inl e) = inl e
 left_so k new after mid half s (inr (sent, listeners, due, fate, left)) = inr (sent, listeners, due_same s sent due, fate, left)
 
-module _ {L C : Type 0} (k : Ghosts L) (target : L → TargetState) (see : C → DepSeen L) (laws : Laws k) (a b : C) (far half : PeerState) (old : Air L) (i : InitState) (is : see a ≡ first_seen old i)
-    (open_ : IsOpen k target old i) (ready : (see b).over ≡ None → IsDepReady k target (see b)) (from : Step) where
-  abbrev Fails : EndState → Air L → PeerState → SnepFault → Type 0
-  Fails client new after e = ClosingFails k target from old i far new after client (see b).initiator e
+module _ {L C : Type 0} (k : Ghosts L) (target : L → TargetState) (see : C → DepSeen L) (laws : Laws k) (a b : C) (far half : Choosing PeerState) (old : Air L) (i : InitState) (is : see a ≡ first_seen old i)
+    (open_ : IsOpen k target old i) (ready : (see b).over ≡ None → IsDepReady k target (see b)) (ns : List ℕ) (from : Step) where
+  abbrev Fails : EndState → Air L → Choosing PeerState → SnepFault → Type 0
+  Fails client new after e = ClosingFails k target ns from old i far new after client (see b).initiator e
 
   -- the call was cut off
-  cut_closing : (client : EndState) (e : SnepFault) → IsCutOff k target from old i far (see b).air (see b).initiator half e → Fails client (see b).air half e
+  cut_closing : (client : EndState) (e : SnepFault) → IsCutOff k target ns from old i far (see b).air (see b).initiator half e → Fails client (see b).air half e
   cut_closing client Reject c = absurd c
   cut_closing client NotFound c = absurd c
   cut_closing client Excess c = absurd c
@@ -66,13 +67,13 @@ module _ {L C : Type 0} (k : Ghosts L) (target : L → TargetState) (see : C →
   cut_closing client (LinkEnded cause.Memory) c = absurd c
   cut_closing client (LinkEnded cause.FieldLost) c = record {
     turns = λ linked links place there os.
-        let z = c.turns linked links place there os in (z.0, of_call k linked peer_ends place os z.0 from i old far (see b).air half target (BrokenBy cause.FieldLost) z.1 (λ q. cc));
+        of_call k linked peer_ends place os ns from i old far (see b).air half target (BrokenBy cause.FieldLost) (c.turns linked links place there os) (λ q. cc);
     how = inl c.carried;
     noisy = c.noisy;
   }
   cut_closing client (LinkEnded cause.SixBad) c = record {
     turns = λ linked links place there os.
-        let z = c.turns linked links place there os in (z.0, of_call k linked peer_ends place os z.0 from i old far (see b).air half target (BrokenBy cause.SixBad) z.1 (λ q. cc));
+        of_call k linked peer_ends place os ns from i old far (see b).air half target (BrokenBy cause.SixBad) (c.turns linked links place there os) (λ q. cc);
     how = inl c.carried;
     noisy = c.noisy;
   }
@@ -80,41 +81,41 @@ module _ {L C : Type 0} (k : Ghosts L) (target : L → TargetState) (see : C →
     front = λ linked links place there os.
         let z = c.front linked links place there os in
         record {
-          numbers = z.numbers;
           standing = closing_at z.standing;
           mid = z.mid;
           half = z.half;
-          turns = of_call k linked peer_ends place os z.numbers from i old far z.mid z.half target z.standing z.turns z.under_way;
+          turns = of_call k linked peer_ends place os ns from i old far z.mid z.half target z.standing z.turns z.under_way;
           left = left_so k (see b).air half z.mid z.half z.standing z.left;
         };
     setting = λ quiet. c.setting;
   }
 
-  pub closing_failed : (client : EndState) (e : SnepFault) → FailsBy (sees see) (swaps k target see) (Answers serving) (Stops serving) from a far e client b half → Fails client (see b).air half e
+  pub closing_failed : (client : EndState) (e : SnepFault) → FailsBy (sees see) (swaps k target see) (AnswersCounted serving) (StopsCounted serving) ns from a far e client b half → Fails client (see b).air half e
   closing_failed client e (inl (bad, talk)) =
       subst (Fails client (see b).air half) (sym bad) (λ linked links place there os.
-      let z = (reaches k target see laws a b far half old i is open_ ready from (GivesUp client) talk refl linked links place there os).0 in
-      (z.0, of_call k linked peer_ends place os z.0 from i old far (see b).air half target (Comes (GivesUp client) (see b).initiator) z.1 (λ q. cc)))
-  closing_failed client e (inr broke) = cut_closing client e (cut_off k target see laws a b far half old i is open_ ready from e client broke)
+      of_call k linked peer_ends place os ns from i old far (see b).air half target (Comes (GivesUp client) (see b).initiator)
+      (reaches k target see laws a b far half old i is open_ ready ns from (GivesUp client) talk (λ left. refl) linked links place there os).0 (λ q. cc))
+  closing_failed client e (inr broke) = cut_closing client e (cut_off k target see laws a b far half old i is open_ ready ns from e client broke)
 
-  module _ (jobs : List OnSap) (client : EndState) (talk : Talks (sees see) (swaps k target see) (Answers serving) (Stops serving) from a far (Ends jobs client) b half) (is_stuck : PeerState → Bool) (new : Air L) (after : PeerState)
+  module _ (jobs : List OnSap) (client : EndState) (talk : Talks (sees see) (swaps k target see) (AnswersCounted serving) (StopsCounted serving) ns from a far (Ends jobs client) b half) (is_stuck : Choosing PeerState → Bool) (new : Air L)
+      (after : Choosing PeerState)
       (same : ((l : L) → k.machine.handed l rls_frame ≡ Untouched) → after ≡ half) where
     -- RLS_REQ is due
     due_rls : (linked : L → Bool) → IsLinked k.machine linked → (place : ℕ) → Stands k target linked peer_ends old place → (os : List (Option PeerState))
-        → ((numbers : List ℕ) × ClosingTurns k linked peer_ends numbers from i old (see b).air place os far half (Releasing (Ends jobs client))) × Stands k target linked peer_ends (see b).air place
+        → ClosingTurns k linked peer_ends ns from i old (see b).air place os far half (Releasing (Ends jobs client)) × Stands k target linked peer_ends (see b).air place
     due_rls linked links place there os =
-        let z = reaches k target see laws a b far half old i is open_ ready from (Ends jobs client) talk refl linked links place there os in
-        ((z.0.0, of_call k linked peer_ends place os z.0.0 from i old far (see b).air half target (Comes (Ends jobs client) (see b).initiator) z.0.1 (λ q. cc)), z.1)
+        let z = reaches k target see laws a b far half old i is open_ ready ns from (Ends jobs client) talk (λ left. refl) linked links place there os in
+        (of_call k linked peer_ends place os ns from i old far (see b).air half target (Comes (Ends jobs client) (see b).initiator) z.0 (λ q. cc), z.1)
 
-    set_still : ((l : L) → k.machine.handed l rls_frame ≡ Untouched) → setting_of after ≡ setting_of far
-    set_still quiet = ap setting_of (same quiet) ∙ (made k target see laws a b far half old i is open_ ready from (Ends jobs client) talk refl).carried.setting
+    set_still : ((l : L) → k.machine.handed l rls_frame ≡ Untouched) → setting_of after.end ≡ setting_of far.end
+    set_still quiet = ap (λ (p : Choosing PeerState). setting_of p.end) (same quiet) ∙ (made k target see laws a b far half old i is open_ ready ns from (Ends jobs client) talk (λ left. refl)).carried.setting
 
-    sends_rls : (heard : Option Heard) → TurnIs k.machine begins (Answers serving) (see b).air rls_frame half heard new after → SendsRls k target from old i far new after heard
+    sends_rls : (heard : Option Heard) → TurnIs k.machine (RestartsCounted serving) (AnswersCounted serving) (see b).air rls_frame half heard new after → SendsRls k target ns from old i far new after heard
     sends_rls heard turn =
-        let call = made k target see laws a b far half old i is open_ ready from (Ends jobs client) talk refl in
+        let call = made k target see laws a b far half old i is open_ ready ns from (Ends jobs client) talk (λ left. refl) in
         let carried = call.carried in
         let came = carried.arrives in
-        let start : length old.trace ≤ length (see b).air.trace = within k target see laws a b far half old i is open_ ready from (Ends jobs client) talk in
+        let start : length old.trace ≤ length (see b).air.trace = within k target see laws a b far half old i is open_ ready ns from (Ends jobs client) talk in
         record {
           mid = (see b).air;
           rest = (see b).initiator;
@@ -127,50 +128,45 @@ module _ {L C : Type 0} (k : Ghosts L) (target : L → TargetState) (see : C →
           arrives = λ quiet. record {
             run = came.run;
             does = came.does;
-            after_is = same quiet ∙ came.after_is;
+            after_is = ap (λ (p : Choosing PeerState). p.end) (same quiet) ∙ came.after_is;
             payloads = came.payloads
-                ∙ sym (release_brings k.machine begins (Answers serving) i.core.number (length old.trace) (see b).air new half after heard start turn);
+                ∙ sym (release_brings k.machine (RestartsCounted serving) (AnswersCounted serving) i.core.number (length old.trace) (see b).air new half after heard start turn);
           };
         }
 
-    pub released : Releases k.machine begins (Answers serving) (Stops serving) is_stuck (see b).air half (Ok tt) new after → IsReleased k target from old i far new after (Ends jobs client)
+    pub released : Releases k.machine (RestartsCounted serving) (AnswersCounted serving) (StopsCounted serving) is_stuck (see b).air half (Ok tt) new after → IsReleased k target ns from old i far new after (Ends jobs client)
     released (heard, turn) = record {
       turns = λ linked links place there os.
-          let z = due_rls linked links place there os in (
-            z.0.0,
-            with_release k linked peer_ends place os z.0.0 from i old far laws target begins (Answers serving) (λ l. l) links peer_table peer_kind (see b).air new half after (Ends jobs client) z.0.1 z.1 (Some heard) turn,
-          );
+          let z = due_rls linked links place there os in
+          with_release k linked peer_ends place os ns from i old far laws target (RestartsCounted serving) (AnswersCounted serving) (λ c. c) links peer_table peer_kind (see b).air new half after (Ends jobs client) z.0 z.1 (Some heard) turn;
       heard = heard;
       sent = sends_rls (Some heard) turn;
     }
 
-    pub release_failed : (answered : Bool) (c : EndCause) → Releases k.machine begins (Answers serving) (Stops serving) is_stuck (see b).air half (Err (record { cause = c; answered = answered })) new after
+    pub release_failed : (answered : Bool) (c : EndCause) → Releases k.machine (RestartsCounted serving) (AnswersCounted serving) (StopsCounted serving) is_stuck (see b).air half (Err (record { cause = c; answered = answered })) new after
         → Fails client new after (fault_of c)
-    release_failed answered cause.FieldLost (q, inl d) = absurd (let lit = (made k target see laws a b far half old i is open_ ready from (Ends jobs client) talk refl).open_.in_step.0 in let dark = d.0 in cc)
+    release_failed answered cause.FieldLost (q, inl d) = absurd (let lit = (made k target see laws a b far half old i is open_ ready ns from (Ends jobs client) talk (λ left. refl)).open_.in_step.0 in let dark = d.0 in cc)
     release_failed answered cause.FieldLost (q, inr turn) = record {
       turns = λ linked links place there os.
-          let z = due_rls linked links place there os in (
-            z.0.0,
-            with_release k linked peer_ends place os z.0.0 from i old far laws target begins (Answers serving) (λ l. l) links peer_table peer_kind (see b).air new half after (Ends jobs client) z.0.1 z.1 None turn,
-          );
+          let z = due_rls linked links place there os in
+          with_release k linked peer_ends place os ns from i old far laws target (RestartsCounted serving) (AnswersCounted serving) (λ c. c) links peer_table peer_kind (see b).air new half after (Ends jobs client) z.0 z.1 None turn;
       how = inr (refl, sends_rls None turn);
       noisy = λ n. absurd cc;
     }
     release_failed answered cause.Memory (q, (lit, inl rests)) = record {
       front = λ linked links place there os.
           let z = due_rls linked links place there os in
-          record { numbers = z.0.0; standing = Releasing (Ends jobs client); mid = (see b).air; half = half; turns = z.0.1; left = inl rests };
+          record { standing = Releasing (Ends jobs client); mid = (see b).air; half = half; turns = z.0; left = inl rests };
       setting = set_still;
     }
     release_failed answered cause.Memory (q, (lit, inr stops)) = record {
       front = λ linked links place there os.
           let z = due_rls linked links place there os in
           record {
-            numbers = z.0.0;
             standing = Releasing (Ends jobs client);
             mid = (see b).air;
             half = half;
-            turns = z.0.1;
+            turns = z.0;
             left = inr (rls_frame, stops.listeners, refl, stops.fate, stops.left);
           };
       setting = set_still;

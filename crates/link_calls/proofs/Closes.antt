@@ -1,6 +1,7 @@
 -- A closing: a call, and RLS_REQ behind it.
 use Rattle.std.proofs.Common.{◌≡◌, ℕ, List, [], ◌∷◌, ◌++◌, length, Bool, Option, refl, sym, ◌∙◌, ap, subst, append-nil}
 use Rattle.std.specs.List.{AllByRecursion}
+use Rattle.nfc_base.specs.Choosing.{Choosing}
 use Rattle.nfc_base.specs.declared.event.Heard.{Heard}
 use Rattle.air_core.specs.Conversation.{Note, Next, IsDemand, note}
 use Rattle.air_core.specs.Turn.{Air, moment, TurnIs}
@@ -14,7 +15,7 @@ use Rattle.dep_link.specs.Asking.{noted}
 use Rattle.dep_link.specs.Releasing.{rls_frame}
 use Rattle.far_air.specs.FarEnds.{FarTable}
 use Rattle.far_air.specs.FarWorld.{far_air}
-use Rattle.far_air.specs.FarLaws.{IsFarTable, IsLinked, IsOfTable, with_far, seen_at}
+use Rattle.far_air.specs.FarLaws.{IsFarTable, IsLinked, IsOfTable, seen_with}
 use Rattle.far_air.specs.FarTurns.{FarGoing, QuietBut}
 use Rattle.far_air.proofs.FarTurns.{far_turns, far_goes_on, far_goes_then}
 use Rattle.peer_air.specs.Aside.{AsideBut}
@@ -64,18 +65,18 @@ module _ {L : Type 0} (k : Ghosts L) (own : List ℕ) where
       let Q : List L → Type 0 = λ ls. AsideBut k own (length a.before) ls in
       subst P a.stands (subst Q (sym a.split) (but_alone a.before l a.behind a.first a.later))
 
-module _ {L F : Type 0} (k : Ghosts L) (linked : L → Bool) (t : FarTable F) (place : ℕ) (os : List (Option F)) (numbers : List ℕ) (from : Step) (i : InitState) (old : Air L) (far : F) where
-  abbrev Turns : Air L → F → ClosingStanding → Type 0
+module _ {L F : Type 0} (k : Ghosts L) (linked : L → Bool) (t : FarTable F) (place : ℕ) (os : List (Option F)) (numbers : List ℕ) (from : Step) (i : InitState) (old : Air L) (far : Choosing F) where
+  abbrev Turns : Air L → Choosing F → ClosingStanding → Type 0
   Turns new after s = ClosingTurns k linked t numbers from i old new place os far after s
 
   -- the turns of its call
-  pub of_call : (new : Air L) (after : F) (target : L → TargetState) (s : CallStanding) → CallTurns k target linked t numbers from i old new place os far after s → (s ≡ Strays → ⊥) → Turns new after (closing_at s)
+  pub of_call : (new : Air L) (after : Choosing F) (target : L → TargetState) (s : CallStanding) → CallTurns k target linked t numbers from i old new place os far after s → (s ≡ Strays → ⊥) → Turns new after (closing_at s)
   of_call new after target s c never =
       let next : List Note → Next = closing_due numbers from i in
       let rest : List Note → Next = λ ns. next (c.notes ++ ns) in
       let N : List Note → Type 0 = λ z. FarGoing k.machine linked t next (moment old) (moment new) z place os far after in
       let none : FarGoing k.machine linked t rest (moment new) (moment new) [] place os after after =
-      record { taken = []; going = λ ns b. going_start (far_air k.machine linked t) rest (seen_at linked t (moment new) (with_far os place after) ns) } in
+      going_start (far_air k.machine linked t) rest (seen_with linked t (moment new) os place after) in
       record {
         notes = c.notes;
         going = subst N (append-nil c.notes)
@@ -84,7 +85,7 @@ module _ {L F : Type 0} (k : Ghosts L) (linked : L → Bool) (t : FarTable F) (p
       }
 
   -- and RLS_REQ behind it
-  pub with_release : (laws : Laws k) (target : L → TargetState) {A : Type 0} (restarts : A → List ℕ → A → Type 0) (steps : A → List ℕ → List ℕ → A → Type 0) (view : A → F)
+  pub with_release : (laws : Laws k) (target : L → TargetState) {A : Type 0} (restarts : A → List ℕ → A → Type 0) (steps : A → List ℕ → List ℕ → A → Type 0) (view : A → Choosing F)
       → IsLinked k.machine linked → IsFarTable t → IsOfTable restarts steps t view → (mid new : Air L) (half after : A) (to : Step) → Turns mid (view half) (Releasing to)
       → Stands k target linked t mid place → (heard : Option Heard) → TurnIs k.machine restarts steps mid rls_frame half heard new after
       → Turns new (view after) (closing_noted (Releasing to) (note heard))

@@ -1,5 +1,6 @@
 -- What a call over the open link of a field comes to.
 use Rattle.std.proofs.Common.{◌≡◌, ◌≤◌, ◌<◌, ℕ, zero, suc, List, [], ◌∷◌, ◌++◌, length, drop, Bool, true, false, Option, Some, None, refl, sym, ◌∙◌, ap, subst, inl, inr, arith}
+use Rattle.nfc_base.specs.Choosing.{Choosing, first_number, later_numbers}
 use Rattle.nfc_base.specs.Trace.{noise}
 use Rattle.nfc_base.specs.Links.{AskedBy, BySwaps, FarMoved, FarStep, Stepped, Stopped, payload_of}
 use Rattle.nfc_base.specs.declared.carrier.EndCause.{EndCause}
@@ -12,11 +13,11 @@ use Rattle.dep_link.specs.Initiator.{InitState}
 use Rattle.dep_link.specs.Asking.{Standing}
 use Rattle.dep_link.specs.DepLinks.{DepSeen, Swap, Chained, IsDepReady, StandsAt, brought, first_seen, over_at, since}
 use Rattle.dep_link.proofs.Swapped.{handed_of, handed_on}
-use Rattle.llcp_link.specs.Answering.{Answers, Stops, answers_fit}
+use Rattle.llcp_link.specs.Counting.{AnswersCounted, RestartsCounted, StopsCounted, counted_fit}
 use Rattle.far_air.specs.FarLaws.{IsFarTable, IsLinked, IsOfTable}
 use Rattle.peer_air.specs.PeerFars.{peer_ends}
 use Rattle.peer_air.specs.SwapTurns.{Stands}
-use Rattle.peer_air.proofs.PeerEnds.{are_far_ends, ends_step}
+use Rattle.peer_air.proofs.PeerEnds.{are_far_ends, counted_step}
 use Rattle.peer_air.proofs.Wholly.{swaps_far, stops_far}
 use Rattle.snep_core.specs.declared.fault.SnepFault.{SnepFault}
 use Rattle.snep_core.specs.Accord.{PeerState}
@@ -25,13 +26,13 @@ use Rattle.snep_core.specs.Calling.{Talks, Breaks, FailsBy, Fails, IsCut, fault_
 use Rattle.snep_core.specs.Calling as calling
 use Rattle.snep_core.specs.declared.job.Job.TheVariants.{Over}
 use Rattle.snep_core.specs.declared.job.Ending.TheVariants.{Refused}
-use Rattle.snep_core.specs.Talk.{EndState, IsMost, Step, Goes, Ends, GivesUp, Told, Working, alone, replied}
+use Rattle.snep_core.specs.Talk.{EndState, Step, Goes, Ends, GivesUp, Told, Working, alone, numbers_behind, replied}
 use Rattle.snep_core.specs.Talk.{ready as ready_of}
 use Rattle.link_calls.specs.Arriving.{Arrives}
 use Rattle.link_calls.specs.CallDue.{CallStanding, Comes, call_at}
 use Rattle.link_calls.specs.CallTurns.{CallTurns, CutBy, sees, swaps}
 use Rattle.link_calls.specs.Calls.{IsOpen, IsCarried, IsMade, IsCutOff, CallFails, RequestFails}
-use Rattle.link_calls.specs.Staying.{begins, setting_of}
+use Rattle.link_calls.specs.Staying.{setting_of}
 use Rattle.link_calls.proofs.Arriving.{AreWhole, arrives_so, counted_so, firsts, none_yet, ran, ran_then, told_whole}
 use Rattle.link_calls.proofs.CallWalk.{talks_far, breaks_far}
 use Rattle.link_calls.proofs.Open.{in_step, swap_open}
@@ -41,8 +42,8 @@ use Rattle.link_calls.proofs.Settings.{set_still}
 abbrev pub peer_table : IsFarTable peer_ends
 peer_table = are_far_ends serving (λ s. refl)
 
-abbrev pub peer_kind : IsOfTable begins (Answers serving) peer_ends (λ l. l)
-peer_kind = ends_step serving
+abbrev pub peer_kind : IsOfTable (RestartsCounted serving) (AnswersCounted serving) peer_ends (λ c. c)
+peer_kind = counted_step serving
 
 -- What is said of what a link borrows is said of what it gives back.
 pub given_back : {L : Type 0} (P : Air L → InitState → Type 0) (b y : Air L) (j z : InitState) → b ≡ y → j ≡ z → P b j → P y z
@@ -75,40 +76,40 @@ module _ {L C : Type 0} (k : Ghosts L) (target : L → TargetState) (see : C →
   open_at (x ∷ did) a b (mid, one, rest) goes = one.begins
 
   -- the initiator rests behind each swap that was answered
-  going_on : (ns : List ℕ) (did : List FarStep) (from to : Step) (a b : C) → Told IsMost ns from did to → BySwaps (swaps k target see) did a b → (see b).over ≡ None
+  going_on : (ns : List ℕ) (did : List FarStep) (from to : Step) (a b : C) → Told ns from did to → BySwaps (swaps k target see) did a b → (see b).over ≡ None
       → over_at (see a).initiator.phase true ≡ None → over_at (see b).initiator.phase true ≡ None
-  going_on [] [] from to a b told e goes p = subst (λ z. over_at (see z).initiator.phase true ≡ None) (sym e) p
-  going_on [] (x ∷ did) from to a b told by goes p = absurd told
-  going_on (n ∷ ns) [] (Goes w) to a b told by goes p = absurd told
-  going_on (n ∷ ns) [] (Ends jobs l) to a b told by goes p = absurd told
-  going_on (n ∷ ns) [] (GivesUp l) to a b told by goes p = absurd told
-  going_on (n ∷ ns) (x ∷ did) (Ends jobs l) to a b told by goes p = absurd told
-  going_on (n ∷ ns) (x ∷ did) (GivesUp l) to a b told by goes p = absurd told
-  going_on (n ∷ ns) (Stopped out ∷ did) (Goes w) to a b told by goes p = absurd told
-  going_on (n ∷ ns) (Stepped out reply ∷ did) (Goes w) to a b (most, o, told) (mid, one, by) goes p =
-      going_on ns did (replied n w reply) to mid b told by goes (swap_open k target (see a) (see mid) out reply one (open_at did mid b by goes))
+  going_on ns [] from to a b told e goes p = subst (λ z. over_at (see z).initiator.phase true ≡ None) (sym e) p
+  going_on ns (x ∷ did) (Ends jobs l) to a b told by goes p = absurd told
+  going_on ns (x ∷ did) (GivesUp l) to a b told by goes p = absurd told
+  going_on ns (Stopped out ∷ did) (Goes w) to a b told by goes p = absurd told
+  going_on ns (Stepped out reply ∷ did) (Goes w) to a b (o, told) (mid, one, by) goes p =
+      going_on (later_numbers ns) did (replied (first_number ns) w reply) to mid b told by goes (swap_open k target (see a) (see mid) out reply one (open_at did mid b by goes))
 
-  module _ (laws : Laws k) (a b : C) (far after : PeerState) (old : Air L) (i : InitState) (is : see a ≡ first_seen old i) (open_ : IsOpen k target old i)
+  module _ (laws : Laws k) (a b : C) (far after : Choosing PeerState) (old : Air L) (i : InitState) (is : see a ≡ first_seen old i) (open_ : IsOpen k target old i)
       (ready : (see b).over ≡ None → IsDepReady k target (see b)) where
     was_open : (see a).over ≡ None
     was_open = ap (λ (p : DepSeen L). p.over) is ∙ ap (λ lit. over_at i.phase lit) open_.in_step.0 ∙ open_.going
 
-    abbrev Talk : Step → Step → Type 0
-    Talk from to = Talks (sees see) (swaps k target see) (Answers serving) (Stops serving) from a far to b after
+    abbrev Talk : List ℕ → Step → Step → Type 0
+    Talk ns from to = Talks (sees see) (swaps k target see) (AnswersCounted serving) (StopsCounted serving) ns from a far to b after
+
+    -- it came to its end, whatever numbers are left
+    abbrev ComesTo : Step → Type 0
+    ComesTo to = (ns : List ℕ) → call_at ns to (see b).initiator ≡ Comes to (see b).initiator
 
     -- in the world, at whatever place the peer stands; it stands there behind it
-    pub reaches : (from to : Step) → Talk from to → call_at [] to (see b).initiator ≡ Comes to (see b).initiator → (linked : L → Bool) → IsLinked k.machine linked → (place : ℕ)
+    pub reaches : (ns : List ℕ) (from to : Step) → Talk ns from to → ComesTo to → (linked : L → Bool) → IsLinked k.machine linked → (place : ℕ)
         → Stands k target linked peer_ends old place → (os : List (Option PeerState))
-        → ((numbers : List ℕ) × CallTurns k target linked peer_ends numbers from i old (see b).air place os far after (Comes to (see b).initiator)) × Stands k target linked peer_ends (see b).air place
-    reaches from to talk e linked links place there os =
+        → CallTurns k target linked peer_ends ns from i old (see b).air place os far after (Comes to (see b).initiator) × Stands k target linked peer_ends (see b).air place
+    reaches ns from to talk e linked links place there os =
         let A : DepSeen L → Type 0 = λ s. Stands k target linked peer_ends s.air place in
-        let P : DepSeen L → Type 0 = λ s. (numbers : List ℕ) × CallTurns k target linked peer_ends numbers from s.initiator s.air (see b).air place os far after (Comes to (see b).initiator) in
-        let Q : CallStanding → Type 0 = λ c. (numbers : List ℕ) × CallTurns k target linked peer_ends numbers from (see a).initiator (see a).air (see b).air place os far after c in
-        let z = talks_far k target linked peer_ends see begins (Answers serving) (Stops serving) (λ l. l)
-        (swaps_far k laws target linked peer_ends begins (Answers serving) (Stops serving) (λ l. l) (answers_fit serving))
-        (stops_far k laws target linked peer_ends begins (Answers serving) (Stops serving) (λ l. l))
-        links peer_table peer_kind from to a b far after talk was_open place (subst A (sym is) there) os [] in
-        (subst P is (subst Q e z.0), z.1)
+        let P : DepSeen L → Type 0 = λ s. CallTurns k target linked peer_ends ns from s.initiator s.air (see b).air place os far after (Comes to (see b).initiator) in
+        let Q : CallStanding → Type 0 = λ c. CallTurns k target linked peer_ends ns from (see a).initiator (see a).air (see b).air place os far after c in
+        let z = talks_far k target linked peer_ends see (RestartsCounted serving) (AnswersCounted serving) (StopsCounted serving) (λ c. c)
+        (swaps_far k laws target linked peer_ends (RestartsCounted serving) (AnswersCounted serving) (StopsCounted serving) (λ c. c) (counted_fit serving))
+        (stops_far k laws target linked peer_ends (RestartsCounted serving) (AnswersCounted serving) (StopsCounted serving) (λ c. c))
+        links peer_table peer_kind ns from to a b far after talk was_open place (subst A (sym is) there) os in
+        (subst P is (subst Q (e (numbers_behind talk.did ns)) z.0), z.1)
 
     -- counted from where the link was made
     first_is : (did : List FarStep) (m : C) → BySwaps (swaps k target see) did a m → (see m).first ≡ i.core.number
@@ -117,11 +118,11 @@ module _ {L C : Type 0} (k : Ghosts L) (target : L → TargetState) (see : C →
     start_is : (did : List FarStep) (m : C) → BySwaps (swaps k target see) did a m → (see m).start ≡ length old.trace
     start_is did m by = starts did a m by ∙ ap (λ (p : DepSeen L). p.start) is
 
-    pub within : (from to : Step) → Talk from to → length old.trace ≤ length (see b).air.trace
-    within from to talk = subst (λ n. n ≤ length (see b).air.trace) (start_is talk.did b talk.swapped) (ready (talk.over ∙ was_open)).start
+    pub within : (ns : List ℕ) (from to : Step) → Talk ns from to → length old.trace ≤ length (see b).air.trace
+    within ns from to talk = subst (λ n. n ≤ length (see b).air.trace) (start_is talk.did b talk.swapped) (ready (talk.over ∙ was_open)).start
 
-    carried : (from to : Step) → Talk from to → IsCarried k target old i far (see b).air (see b).initiator after None
-    carried from to talk =
+    carried : (ns : List ℕ) (from to : Step) → Talk ns from to → IsCarried k target old i far.end (see b).air (see b).initiator after.end None
+    carried ns from to talk =
         let first : (see b).first ≡ i.core.number = first_is talk.did b talk.swapped in
         let start : (see b).start ≡ length old.trace = start_is talk.did b talk.swapped in
         let handed : brought (see b).first (since (see b)) ≡ payloads talk.did = talk.handed ∙ ap (λ ps. ps ++ payloads talk.did) (none_yet k target (see a) old i is) in
@@ -130,65 +131,65 @@ module _ {L C : Type 0} (k : Ghosts L) (target : L → TargetState) (see : C →
           left = (refl, refl, talk.over ∙ was_open);
           swaps = (chain talk.did a b talk.swapped).0;
           chain = subst (λ (p : DepSeen L). Chained k target (chain talk.did a b talk.swapped).0 p (see b)) is (chain talk.did a b talk.swapped).1;
-          arrives = arrives_so k target old i (see b) first start (payloads talk.did) far after handed (ran talk.did (told_whole k target see talk.counts talk.did from to a b talk.told talk.swapped) far after talk.far_moved);
+          arrives = arrives_so k target old i (see b) first start (payloads talk.did) far.end after.end handed (ran talk.did (told_whole k target see ns talk.did from to a b talk.told talk.swapped) far after talk.far_moved);
           counted = λ e. counted_so k target old i (see b) first start (ready (talk.over ∙ was_open)).peer;
           setting = set_still talk.did far after talk.far_moved;
         }
 
-    pub made : (from to : Step) → Talk from to → call_at [] to (see b).initiator ≡ Comes to (see b).initiator → IsMade k target from old i far (see b).air (see b).initiator after to
-    made from to talk e =
+    pub made : (ns : List ℕ) (from to : Step) → Talk ns from to → ComesTo to → IsMade k target ns from old i far (see b).air (see b).initiator after to
+    made ns from to talk e =
         let open_b : (see b).over ≡ None = talk.over ∙ was_open in
         let phase : over_at (see a).initiator.phase true ≡ None = ap (λ (p : DepSeen L). over_at p.initiator.phase true) is ∙ open_.going in
         record {
-          open_ = record { in_step = in_step k target (see b) (ready open_b); going = going_on talk.counts talk.did from to a b talk.told talk.swapped open_b phase };
-          turns = λ linked links place there os. (reaches from to talk e linked links place there os).0;
-          there = λ linked links place there. (reaches from to talk e linked links place there []).1;
-          carried = carried from to talk;
+          open_ = record { in_step = in_step k target (see b) (ready open_b); going = going_on ns talk.did from to a b talk.told talk.swapped open_b phase };
+          turns = λ linked links place there os. (reaches ns from to talk e linked links place there os).0;
+          there = λ linked links place there. (reaches ns from to talk e linked links place there []).1;
+          carried = carried ns from to talk;
         }
 
-    abbrev Breaking : Step → SnepFault → EndState → Type 0
-    Breaking from e new = Breaks (sees see) (swaps k target see) (Answers serving) (Stops serving) from a far e new b after
+    abbrev Breaking : List ℕ → Step → SnepFault → EndState → Type 0
+    Breaking ns from e new = Breaks (sees see) (swaps k target see) (AnswersCounted serving) (StopsCounted serving) ns from a far e new b after
 
-    abbrev Cut : Step → SnepFault → Type 0
-    Cut from e = IsCutOff k target from old i far (see b).air (see b).initiator after e
+    abbrev Cut : List ℕ → Step → SnepFault → Type 0
+    Cut ns from e = IsCutOff k target ns from old i far (see b).air (see b).initiator after e
 
     -- in the world, by whatever cause
-    broken : (from : Step) (e : SnepFault) (new : EndState) → Breaking from e new → (linked : L → Bool) → IsLinked k.machine linked → (place : ℕ) → Stands k target linked peer_ends old place
-        → (os : List (Option PeerState)) → CutBy k target linked peer_ends from i old (see b).air place os far after e
-    broken from e new broke linked links place there os =
+    broken : (ns : List ℕ) (from : Step) (e : SnepFault) (new : EndState) → Breaking ns from e new → (linked : L → Bool) → IsLinked k.machine linked → (place : ℕ) → Stands k target linked peer_ends old place
+        → (os : List (Option PeerState)) → CutBy k target linked peer_ends ns from i old (see b).air place os far after e
+    broken ns from e new broke linked links place there os =
         let A : DepSeen L → Type 0 = λ s. Stands k target linked peer_ends s.air place in
-        let P : DepSeen L → Type 0 = λ s. CutBy k target linked peer_ends from s.initiator s.air (see b).air place os far after e in
+        let P : DepSeen L → Type 0 = λ s. CutBy k target linked peer_ends ns from s.initiator s.air (see b).air place os far after e in
         subst P is
-        (breaks_far k target linked peer_ends see begins (Answers serving) (Stops serving) (λ l. l)
-        (swaps_far k laws target linked peer_ends begins (Answers serving) (Stops serving) (λ l. l) (answers_fit serving))
-        (stops_far k laws target linked peer_ends begins (Answers serving) (Stops serving) (λ l. l))
-        links peer_table peer_kind from a b far after e new broke was_open place (subst A (sym is) there) os)
+        (breaks_far k target linked peer_ends see (RestartsCounted serving) (AnswersCounted serving) (StopsCounted serving) (λ c. c)
+        (swaps_far k laws target linked peer_ends (RestartsCounted serving) (AnswersCounted serving) (StopsCounted serving) (λ c. c) (counted_fit serving))
+        (stops_far k laws target linked peer_ends (RestartsCounted serving) (AnswersCounted serving) (StopsCounted serving) (λ c. c))
+        links peer_table peer_kind ns from a b far after e new broke was_open place (subst A (sym is) there) os)
 
     -- what its swaps left, where the last one failed by this cause
     abbrev Left : EndCause → Type 0
-    Left c = IsCarried k target old i far (see b).air (see b).initiator after (Some c) × (c ≡ cause.SixBad → 0 < noise (drop (length old.trace) (see b).air.trace))
+    Left c = IsCarried k target old i far.end (see b).air (see b).initiator after.end (Some c) × (c ≡ cause.SixBad → 0 < noise (drop (length old.trace) (see b).air.trace))
 
-    by_cause : (from : Step) (e : SnepFault) (new : EndState) → Breaking from e new → (c : EndCause) → e ≡ fault_of c → (c ≡ cause.Protocol → ⊥) → ((c ≡ cause.Memory → ⊥) → Left c) → setting_of after ≡ setting_of far → Cut from e
-    by_cause from e new broke cause.FieldLost q never left set =
+    by_cause : (ns : List ℕ) (from : Step) (e : SnepFault) (new : EndState) → Breaking ns from e new → (c : EndCause) → e ≡ fault_of c → (c ≡ cause.Protocol → ⊥) → ((c ≡ cause.Memory → ⊥) → Left c) → setting_of after.end ≡ setting_of far.end → Cut ns from e
+    by_cause ns from e new broke cause.FieldLost q never left set =
         let z = left (λ m. cc) in
-        subst (Cut from) (sym q) (record {
-          turns = λ linked links place there os. subst (CutBy k target linked peer_ends from i old (see b).air place os far after) q (broken from e new broke linked links place there os);
+        subst (Cut ns from) (sym q) (record {
+          turns = λ linked links place there os. subst (CutBy k target linked peer_ends ns from i old (see b).air place os far after) q (broken ns from e new broke linked links place there os);
           carried = z.0;
           noisy = z.1;
         })
-    by_cause from e new broke cause.SixBad q never left set =
+    by_cause ns from e new broke cause.SixBad q never left set =
         let z = left (λ m. cc) in
-        subst (Cut from) (sym q) (record {
-          turns = λ linked links place there os. subst (CutBy k target linked peer_ends from i old (see b).air place os far after) q (broken from e new broke linked links place there os);
+        subst (Cut ns from) (sym q) (record {
+          turns = λ linked links place there os. subst (CutBy k target linked peer_ends ns from i old (see b).air place os far after) q (broken ns from e new broke linked links place there os);
           carried = z.0;
           noisy = z.1;
         })
-    by_cause from e new broke cause.Memory q never left set =
-        subst (Cut from) (sym q) (record {
-          front = λ linked links place there os. subst (CutBy k target linked peer_ends from i old (see b).air place os far after) q (broken from e new broke linked links place there os);
+    by_cause ns from e new broke cause.Memory q never left set =
+        subst (Cut ns from) (sym q) (record {
+          front = λ linked links place there os. subst (CutBy k target linked peer_ends ns from i old (see b).air place os far after) q (broken ns from e new broke linked links place there os);
           setting = set;
         })
-    by_cause from e new broke cause.Protocol q never left set = absurd (never refl)
+    by_cause ns from e new broke cause.Protocol q never left set = absurd (never refl)
 
     -- a peer in step never sends a frame that isn't allowed
     never_so : (o : Option EndCause) (given : Option (List ℕ)) (j : InitState) (s : Standing) → StandsAt o given j s → o ≡ Some cause.Protocol → ⊥
@@ -213,28 +214,28 @@ module _ {L C : Type 0} (k : Ghosts L) (target : L → TargetState) (see : C →
     asked_whole mid false c out did one (inl e) calm = let P : List FarStep → Type 0 = λ ds. AreWhole ds × (handed_of out ds ≡ payloads ds) in subst P (sym e) (tt, refl)
     asked_whole mid false c out did one (inr (memory, e)) calm = absurd (calm memory)
 
-    last_arrives : (ns : List ℕ) (did : List FarStep) (from to : Step) (mid : C) (half : PeerState) → Told IsMost ns from did to → BySwaps (swaps k target see) did a mid
-        → brought (see mid).first (since (see mid)) ≡ brought (see a).first (since (see a)) ++ payloads did → FarMoved (Answers serving) (Stops serving) did far half
-        → (answered : Bool) (c : EndCause) (out : List ℕ) (more : List FarStep) → swaps k target see mid out more b → FarMoved (Answers serving) (Stops serving) more half after
-        → AskedBy answered c out more → (c ≡ cause.Memory → ⊥) → Arrives i.core.number (drop (length old.trace) (see b).air.trace) far after
+    last_arrives : (ns : List ℕ) (did : List FarStep) (from to : Step) (mid : C) (half : Choosing PeerState) → Told ns from did to → BySwaps (swaps k target see) did a mid
+        → brought (see mid).first (since (see mid)) ≡ brought (see a).first (since (see a)) ++ payloads did → FarMoved (AnswersCounted serving) (StopsCounted serving) did far half
+        → (answered : Bool) (c : EndCause) (out : List ℕ) (more : List FarStep) → swaps k target see mid out more b → FarMoved (AnswersCounted serving) (StopsCounted serving) more half after
+        → AskedBy answered c out more → (c ≡ cause.Memory → ⊥) → Arrives i.core.number (drop (length old.trace) (see b).air.trace) far.end after.end
     last_arrives ns did from to mid half told by handed moved answered c out more one last asked calm =
         let whole = asked_whole mid answered c out more one asked calm in
         let all : brought (see b).first (since (see b)) ≡ payloads did ++ payloads more =
         handed_on k target (see mid) (see b) out more one ∙ ap (λ ps. ps ++ handed_of out more) (handed ∙ ap (λ ps. ps ++ payloads did) (none_yet k target (see a) old i is))
         ∙ ap (λ ps. payloads did ++ ps) whole.1 in
-        arrives_so k target old i (see b) (one.same.0 ∙ first_is did mid by) (one.same.1 ∙ start_is did mid by) (payloads did ++ payloads more) far after all
-        (ran_then (payloads did) (payloads more) far half after (ran did (told_whole k target see ns did from to a mid told by) far half moved) (ran more whole.0 half after last))
+        arrives_so k target old i (see b) (one.same.0 ∙ first_is did mid by) (one.same.1 ∙ start_is did mid by) (payloads did ++ payloads more) far.end after.end all
+        (ran_then (payloads did) (payloads more) far.end half.end after.end (ran did (told_whole k target see ns did from to a mid told by) far half moved) (ran more whole.0 half after last))
 
     -- the last swap failed
-    last_left : (from : Step) (w : Working) (mid : C) (mid_far : PeerState) (talk : Talks (sees see) (swaps k target see) (Answers serving) (Stops serving) from a far (Goes w) mid mid_far) (e : SnepFault) (new : EndState)
-        (c : Fails (sees see) (swaps k target see) (Answers serving) (Stops serving) (ready_of w).llc mid mid_far e new b after) → (c.why.cause ≡ cause.Memory → ⊥) → Left c.why.cause
-    last_left from w mid mid_far talk e new c calm = (
+    last_left : (ns : List ℕ) (from : Step) (w : Working) (mid : C) (mid_far : Choosing PeerState) (talk : Talks (sees see) (swaps k target see) (AnswersCounted serving) (StopsCounted serving) ns from a far (Goes w) mid mid_far) (e : SnepFault) (new : EndState)
+        (c : Fails (sees see) (swaps k target see) (AnswersCounted serving) (StopsCounted serving) (first_number (numbers_behind talk.did ns)) (ready_of w).llc mid mid_far e new b after) → (c.why.cause ≡ cause.Memory → ⊥) → Left c.why.cause
+    last_left ns from w mid mid_far talk e new c calm = (
       record {
         at = see b;
         left = (refl, refl, c.swap.over);
         swaps = (chain_to talk.did c.swapped.did _ a mid b talk.swapped c.swapped.link).0;
         chain = subst (λ (p : DepSeen L). Chained k target (chain_to talk.did c.swapped.did _ a mid b talk.swapped c.swapped.link).0 p (see b)) is (chain_to talk.did c.swapped.did _ a mid b talk.swapped c.swapped.link).1;
-        arrives = last_arrives talk.counts talk.did from (Goes w) mid mid_far talk.told talk.swapped talk.handed talk.far_moved c.why.answered c.why.cause _ c.swapped.did c.swapped.link c.swapped.far_moved c.swapped.tells calm;
+        arrives = last_arrives ns talk.did from (Goes w) mid mid_far talk.told talk.swapped talk.handed talk.far_moved c.why.answered c.why.cause _ c.swapped.did c.swapped.link c.swapped.far_moved c.swapped.tells calm;
         counted = λ none. absurd (let over = c.swap.over in cc);
         setting = set_still c.swapped.did mid_far after c.swapped.far_moved ∙ set_still talk.did far mid_far talk.far_moved;
       },
@@ -243,27 +244,28 @@ module _ {L C : Type 0} (k : Ghosts L) (target : L → TargetState) (see : C →
           subst (λ (n : ℕ). 0 < noise (drop n (see b).air.trace)) start (more_than _ _ c.swap.swaps.noise (c.swapped.link.noisy (c.swap.over ∙ ap Some six))),
     )
 
-    cut_so : (from : Step) (e : SnepFault) (new : EndState) (broke : Breaking from e new) → IsCut (sees see) (swaps k target see) (Answers serving) (Stops serving) (ready_of broke.at).llc broke.mid broke.mid_far e new b after → Cut from e
-    cut_so from e new broke (inl (inl c)) =
-        by_cause from e new broke cause.Memory c.fault (λ q. cc) (λ n. absurd (n refl)) (ap setting_of c.far_is ∙ set_still broke.talks.did far broke.mid_far broke.talks.far_moved)
-    cut_so from e new broke (inl (inr c)) = absurd (let over = c.over in let goes : (see broke.mid).over ≡ None = broke.talks.over ∙ was_open in cc)
-    cut_so from e new broke (inr (inl c)) =
-        by_cause from e new broke c.why.cause c.fault (λ q. never_odd broke.mid _ c.swapped.did c.swapped.link (c.swap.over ∙ ap Some q))
-        (λ n. last_left from broke.at broke.mid broke.mid_far broke.talks e new c n)
+    cut_so : (ns : List ℕ) (from : Step) (e : SnepFault) (new : EndState) (broke : Breaking ns from e new)
+        → IsCut (sees see) (swaps k target see) (AnswersCounted serving) (StopsCounted serving) (first_number (numbers_behind broke.talks.did ns)) (ready_of broke.at).llc broke.mid broke.mid_far e new b after → Cut ns from e
+    cut_so ns from e new broke (inl (inl c)) =
+        by_cause ns from e new broke cause.Memory c.fault (λ q. cc) (λ n. absurd (n refl)) (ap (λ (p : Choosing PeerState). setting_of p.end) c.far_is ∙ set_still broke.talks.did far broke.mid_far broke.talks.far_moved)
+    cut_so ns from e new broke (inl (inr c)) = absurd (let over = c.over in let goes : (see broke.mid).over ≡ None = broke.talks.over ∙ was_open in cc)
+    cut_so ns from e new broke (inr (inl c)) =
+        by_cause ns from e new broke c.why.cause c.fault (λ q. never_odd broke.mid _ c.swapped.did c.swapped.link (c.swap.over ∙ ap Some q))
+        (λ n. last_left ns from broke.at broke.mid broke.mid_far broke.talks e new c n)
         (set_still c.swapped.did broke.mid_far after c.swapped.far_moved ∙ set_still broke.talks.did far broke.mid_far broke.talks.far_moved)
-    cut_so from e new broke (inr (inr c)) =
-        by_cause from e new broke cause.Memory c.fault (λ q. cc) (λ n. absurd (n refl))
+    cut_so ns from e new broke (inr (inr c)) =
+        by_cause ns from e new broke cause.Memory c.fault (λ q. cc) (λ n. absurd (n refl))
         (set_still c.swapped.did broke.mid_far after c.swapped.far_moved ∙ set_still broke.talks.did far broke.mid_far broke.talks.far_moved)
 
-    pub cut_off : (from : Step) (e : SnepFault) (new : EndState) → Breaking from e new → Cut from e
-    cut_off from e new broke = cut_so from e new broke broke.cut
+    pub cut_off : (ns : List ℕ) (from : Step) (e : SnepFault) (new : EndState) → Breaking ns from e new → Cut ns from e
+    cut_off ns from e new broke = cut_so ns from e new broke broke.cut
 
-    pub call_failed : (from : Step) (e : SnepFault) (new : EndState) → FailsBy (sees see) (swaps k target see) (Answers serving) (Stops serving) from a far e new b after
-        → CallFails k target from old i far (see b).air (see b).initiator after new e
-    call_failed from e new (inl (bad, talk)) = inl (bad, made from (GivesUp new) talk refl)
-    call_failed from e new (inr broke) = inr (cut_off from e new broke)
+    pub call_failed : (ns : List ℕ) (from : Step) (e : SnepFault) (new : EndState) → FailsBy (sees see) (swaps k target see) (AnswersCounted serving) (StopsCounted serving) ns from a far e new b after
+        → CallFails k target ns from old i far (see b).air (see b).initiator after new e
+    call_failed ns from e new (inl (bad, talk)) = inl (bad, made ns from (GivesUp new) talk (λ left. refl))
+    call_failed ns from e new (inr broke) = inr (cut_off ns from e new broke)
 
-    pub request_failed : (from : Step) (e : SnepFault) (new : EndState) → calling.RequestFails (sees see) (swaps k target see) (Answers serving) (Stops serving) from a far e new b after
-        → RequestFails k target from old i far (see b).air (see b).initiator after new e
-    request_failed from e new (inl refused) = inl (refused.why, refused.fault, made from (Ends (alone (Over (Refused refused.why))) new) refused.talks refl)
-    request_failed from e new (inr failed) = inr (call_failed from e new failed)
+    pub request_failed : (ns : List ℕ) (from : Step) (e : SnepFault) (new : EndState) → calling.RequestFails (sees see) (swaps k target see) (AnswersCounted serving) (StopsCounted serving) ns from a far e new b after
+        → RequestFails k target ns from old i far (see b).air (see b).initiator after new e
+    request_failed ns from e new (inl refused) = inl (refused.why, refused.fault, made ns from (Ends (alone (Over (Refused refused.why))) new) refused.talks (λ left. refl))
+    request_failed ns from e new (inr failed) = inr (call_failed ns from e new failed)

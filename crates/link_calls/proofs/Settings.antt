@@ -1,5 +1,6 @@
 -- No payload changes what is set of a peer's end.
 use Rattle.std.proofs.Common.{◌≡◌, ℕ, zero, suc, ◌+◌, ◌/◌, ◌==◌, nat_le, List, [], ◌∷◌, length, Option, Some, None, refl, sym, ap, subst, ◌∙◌, inl, inr, is_some}
+use Rattle.nfc_base.specs.Choosing.{Choosing, first_number}
 use Rattle.nfc_base.specs.Links.{FarStep, Stepped, Stopped, FarMoved}
 use Rattle.llcp_pdu.specs.declared.part.Part.{Part}
 use Rattle.llcp_pdu.specs.declared.part.Part.TheVariants.{Symm, Ui, Connect, Disc, Cc, Dm, Frmr, Snl, Info, Rr, Rnr}
@@ -17,6 +18,7 @@ use Rattle.llcp_link.specs.Taking.{Item, Good, Broken, taken_from, brought, step
 use Rattle.llcp_link.specs.Giving as g
 use Rattle.llcp_link.specs.Giving.{Gave, GaveAll, first_from, gave, gave_none, joined, given_so, given_parts, after_giving, or_else, sap_after}
 use Rattle.llcp_link.specs.Answering.{Answers, IsStuckGiving, Stops}
+use Rattle.llcp_link.specs.Counting.{AnswersCounted, StopsCounted}
 use Rattle.llcp_link.specs.Halting.{IsStuck, Leaves}
 use Rattle.llcp_link.specs.Offering.{LeavesNext, LeftBy}
 use Rattle.llcp_link.proofs.Ranged.{either}
@@ -213,8 +215,8 @@ module _ (z : Setting) where
   after_is : (n : ℕ) (l : PeerState) → Is l → Is (after_giving serving n l)
   after_is n l h = either {X = PeerState} Is l.readable (given_parts serving n l).llc l (λ e. given_is l h (gave serving l) refl _) (λ e. h)
 
-  answers_is : (l : PeerState) (payload reply : List ℕ) (k : PeerState) → Answers serving l payload reply k → Is l → Is k
-  answers_is l payload reply k a h = subst Is (sym a.gives.left) (after_is a.gives.count (taken_from serving l payload) (taken_is l payload h))
+  answers_is : (count : ℕ) (l : PeerState) (payload reply : List ℕ) (k : PeerState) → Answers serving count l payload reply k → Is l → Is k
+  answers_is count l payload reply k a h = subst Is (sym a.gives.left) (after_is count (taken_from serving l payload) (taken_is l payload h))
 
 -- by its parts
 by_parts : (a b : PeerState) → a.miu ≡ b.miu → a.window ≡ b.window → a.bound ≡ b.bound → a.service.limit ≡ b.service.limit → a.service.table ≡ b.service.table → setting_of a ≡ setting_of b
@@ -270,7 +272,8 @@ stops_is old payload new (inl k) = stuck_is old new (brought old payload) k
 stops_is old payload new (inr k) = giving_is (taken_from serving old payload) new k ∙ taken_is (setting_of old) old payload refl
 
 -- So do all steps, also one that want of memory left unfinished.
-pub set_still : (did : List FarStep) (far after : PeerState) → FarMoved (Answers serving) (Stops serving) did far after → setting_of after ≡ setting_of far
-set_still [] far after moved = ap setting_of moved
-set_still (Stepped payload reply ∷ did) far after (mid, step, moved) = set_still did mid after moved ∙ answers_is (setting_of far) far payload reply mid step refl
-set_still (Stopped payload ∷ did) far after moved = stops_is far payload after moved.0
+pub set_still : (did : List FarStep) (far after : Choosing PeerState) → FarMoved (AnswersCounted serving) (StopsCounted serving) did far after → setting_of after.end ≡ setting_of far.end
+set_still [] far after moved = ap (λ (c : Choosing PeerState). setting_of c.end) moved
+set_still (Stepped payload reply ∷ did) far after (mid, step, moved) =
+    set_still did mid after moved ∙ answers_is (setting_of far.end) (first_number far.numbers) far.end payload reply mid.end step.answers refl
+set_still (Stopped payload ∷ did) far after moved = stops_is far.end payload after.end moved.0

@@ -8,7 +8,7 @@ use crate::{close_and_release, get_on, lookup_on, put_on};
 use air_core::{Field, Listener};
 use arrayvec::ArrayVec;
 use dep_link::{Initiator, PeerListener, Target, TargetStep, activate};
-use llcp_link::Llc;
+use llcp_link::{Counted, Counts, Llc};
 use llcp_pdu::LinkParams;
 use nfc_base::{Answerer, EndCause, Event, Fate, Frame, Tech};
 use snep_core::{Client, NoService, Server, SnepFault};
@@ -167,7 +167,7 @@ fn server(rt: &impl Abort, alloc: Global) -> Llc<Server> {
 fn linked(
     alloc: Global,
     field: &mut Field<Phone>,
-    far: &mut Llc<Server>,
+    far: &mut Counted<Server>,
 ) -> Result<(Initiator, Client), Fail>
     requires { (bytes : List ℕ) → HasTarget ⟦<Phone as Listener>⟧ (λ l. l.target) field.old bytes }
     ensures open_ { IfOk result (λ p. IsOpen ⟦<Phone as Listener>⟧ (λ l. l.target) field.new p.0) }
@@ -191,15 +191,35 @@ fn bytes_of(event: &Event) -> &[u8] {
 #[test]
 fn a_message_goes_over(rt: HostRuntime) -> Result<(), Fail> {
     let alloc = rt.alloc();
-    let mut far = server(&rt, alloc);
+    let mut far = Counted::new(server(&rt, alloc), Counts::most(alloc));
     let mut field = met(alloc, &[])?;
     let (mut initiator, mut client) = linked(alloc, &mut field, &mut far)?;
     let name = "urn:nfc:sn:snep";
-    let sap = lookup_on(&mut field, &mut initiator, &mut client, &mut far, name)?;
+    let sap = lookup_on(
+        &mut field,
+        &mut initiator,
+        &mut client,
+        &mut far,
+        Counts::most(alloc),
+        name,
+    )?;
     assert_eq!(rt; sap, 4);
     let message = [0xD0, 0, 0];
-    put_on(&mut field, &mut initiator, &mut client, &mut far, &message)?;
-    close_and_release(&mut field, &mut initiator, &mut client, &mut far)?;
+    put_on(
+        &mut field,
+        &mut initiator,
+        &mut client,
+        &mut far,
+        Counts::most(alloc),
+        &message,
+    )?;
+    close_and_release(
+        &mut field,
+        &mut initiator,
+        &mut client,
+        &mut far,
+        Counts::most(alloc),
+    )?;
     let frames: [&[u8]; 6] = [
         b"\xF0\x18\xD4\x06\x00\x06\x41\x08\x10\x00urn:nfc:sn:snep",
         &[
@@ -226,13 +246,30 @@ fn a_message_goes_over(rt: HostRuntime) -> Result<(), Fail> {
 #[test]
 fn values_are_got(rt: HostRuntime) -> Result<(), Fail> {
     let alloc = rt.alloc();
-    let mut far = server(&rt, alloc);
-    far.service().offer(b"k1", &[0xA1, 0xA2, 0xA3])?;
+    let mut end = server(&rt, alloc);
+    end.service().offer(b"k1", &[0xA1, 0xA2, 0xA3])?;
+    let mut far = Counted::new(end, Counts::most(alloc));
     let mut field = met(alloc, &[])?;
     let (mut initiator, mut client) = linked(alloc, &mut field, &mut far)?;
-    let value = get_on(&mut field, &mut initiator, &mut client, &mut far, 16, b"k1")?;
+    let value = get_on(
+        &mut field,
+        &mut initiator,
+        &mut client,
+        &mut far,
+        Counts::most(alloc),
+        16,
+        b"k1",
+    )?;
     assert_eq!(rt; value.as_slice(), [0xA1u8, 0xA2, 0xA3].as_slice());
-    let long = get_on(&mut field, &mut initiator, &mut client, &mut far, 2, b"k1");
+    let long = get_on(
+        &mut field,
+        &mut initiator,
+        &mut client,
+        &mut far,
+        Counts::most(alloc),
+        2,
+        b"k1",
+    );
     assert_eq!(rt; long.map(|value| value.len()), Err(SnepFault::Excess));
     Ok(())
 }
@@ -243,7 +280,7 @@ fn put_ends(
     alloc: Global,
     fates: &[Fate],
 ) -> Result<(Result<(), SnepFault>, usize), Fail> {
-    let mut far = server(rt, alloc);
+    let mut far = Counted::new(server(rt, alloc), Counts::most(alloc));
     let mut field = met(alloc, fates)?;
     let (mut initiator, mut client) = linked(alloc, &mut field, &mut far)?;
     let put = put_on(
@@ -251,9 +288,11 @@ fn put_ends(
         &mut initiator,
         &mut client,
         &mut far,
+        Counts::most(alloc),
         &[0xD0, 0, 0],
     );
-    Ok((put, far.service().accepted().len()))
+    let mut end = far.into_end();
+    Ok((put, end.service().accepted().len()))
 }
 
 #[test]
@@ -291,5 +330,38 @@ fn a_link_that_ends_is_told(rt: HostRuntime) -> Result<(), Fail> {
             "at {fates:?}"
         );
     }
+    Ok(())
+}
+
+/// One PDU in each payload.
+fn ones(alloc: Global) -> Result<Counts, Fail> {
+    Ok(Counts::new(Vec::from_slice(alloc, &[1; 16])?))
+}
+
+/// A frame of NFC-DEP that carries an AGF.
+fn carries_agf(frame: &[u8]) -> bool {
+    frame.len() > 6 && frame[5] == 0x00 && frame[6] == 0x80
+}
+
+#[test]
+fn one_pdu_a_payload_joins_none_and_is_taken_once(rt: HostRuntime) -> Result<(), Fail> {
+    let alloc = rt.alloc();
+    let mut far = Counted::new(server(&rt, alloc), ones(alloc)?);
+    let mut field = met(alloc, &[])?;
+    let (mut initiator, mut client) = linked(alloc, &mut field, &mut far)?;
+    let message = [0xD0; 300];
+    put_on(
+        &mut field,
+        &mut initiator,
+        &mut client,
+        &mut far,
+        ones(alloc)?,
+        &message,
+    )?;
+    for event in field.trace() {
+        assert!(rt; !carries_agf(bytes_of(event)));
+    }
+    let mut end = far.into_end();
+    assert_eq!(rt; end.service().accepted().len(), 1);
     Ok(())
 }
