@@ -3,6 +3,7 @@ use Rattle.std.proofs.Common.{◌≡◌, ◌<◌, ◌≤◌, ℕ, ◌==◌, ◌|
 use Rattle.std.proofs.lemmas.Bool.{eqb-true}
 use Rattle.std.proofs.lemmas.Bool.Decides.{nat_tests}
 use Rattle.std.specs.List.{AllByRecursion, IsDistinct}
+use Rattle.nfc_base.specs.Choosing.{first_number, later_numbers}
 use Rattle.nfc_base.specs.Links.{FarStep, Stepped, Stopped}
 use Rattle.llcp_conn.specs.Conn.{count_end}
 use Rattle.llcp_link.specs.declared.own.OwnIs.{OwnIs}
@@ -18,7 +19,7 @@ use Rattle.llcp_link.proofs.Submitted.{own_with}
 use Rattle.llcp_link.proofs.Waning.{Wanes, is_of, given_wanes, pending_wanes, taken_wanes}
 use Rattle.snep_core.specs.Jobs.{Job, Begins, Looks, Closes, Over, Done, has_byte}
 use Rattle.snep_core.specs.Talk.{AllReady, EndState, Ends, Finds, Gets, GivesUp, Leaves, Puts, alone, begun, client_sap, connected, get_bytes, own_of, put_bytes, server_sap, Goes, OnSap, Ready, Step, Told, Working, all_emptied, all_heard, all_over, all_readied, emptied, emptied_by, gave_any, gave_something, goes_on, heard, heard_with, idle_after, most_idle, given_up, readied, ready, replied, saps, settled, silent, with_job, told_by, took, units_of}
-use Rattle.snep_core.specs.RepliesLeft.{AnyNumber, CallsBegin, CallsEnd, IsCounted, IsUnderWay, RepliesFall, all_to_come, job_left, replies_left, to_come}
+use Rattle.snep_core.specs.RepliesLeft.{CallsBegin, CallsEnd, IsCounted, IsUnderWay, RepliesFall, all_to_come, job_left, replies_left, to_come}
 use Rattle.snep_core.specs.Waning.{one_job, LessensTo, Putting}
 use Rattle.snep_core.proofs.Falling.{both_lessen, gave_lessens, turn_falls}
 use Rattle.snep_core.proofs.Jobs.{heard_lets}
@@ -234,27 +235,29 @@ some_left : (w : Working) → IsUnderWay w → 0 < replies_left w
 some_left w way = (let i = way.idle in omega arith)
 
 -- nothing is heard behind the end of a call
-ended : (xs : List OnSap) (l : EndState) (ns : List ℕ) (did : List FarStep) (to : Step) → Told AnyNumber ns (Ends xs l) did to → length did ≡ 0
-ended xs l [] [] to t = refl
-ended xs l [] (d ∷ ds) to t = absurd t
-ended xs l (n ∷ ns) did to t = absurd t
+ended : (xs : List OnSap) (l : EndState) (ns : List ℕ) (did : List FarStep) (to : Step) → Told ns (Ends xs l) did to → length did ≡ 0
+ended xs l ns [] to t = refl
+ended xs l ns (d ∷ ds) to t = absurd t
 
-gave_up : (l : EndState) (ns : List ℕ) (did : List FarStep) (to : Step) → Told AnyNumber ns (GivesUp l) did to → length did ≡ 0
-gave_up l [] [] to t = refl
-gave_up l [] (d ∷ ds) to t = absurd t
-gave_up l (n ∷ ns) did to t = absurd t
+gave_up : (l : EndState) (ns : List ℕ) (did : List FarStep) (to : Step) → Told ns (GivesUp l) did to → length did ≡ 0
+gave_up l ns [] to t = refl
+gave_up l ns (d ∷ ds) to t = absurd t
 
 pub calls_end : CallsEnd
-calls_end w [] [] to way t = (let z = some_left w way in omega arith)
-calls_end w [] (d ∷ ds) to way t = absurd t
-calls_end w (n ∷ ns) [] to way t = absurd t
-calls_end w (n ∷ ns) (Stopped out ∷ did) to way t = absurd t
-calls_end w (n ∷ ns) (Stepped out reply ∷ did) to way t = go (λ next f u. calls_end next ns did to f u) (replied n w reply) refl t.2
+calls_end w ns [] to way t = (let z = some_left w way in omega arith)
+calls_end w ns (Stopped out ∷ did) to way t = absurd t
+calls_end w ns (Stepped out reply ∷ did) to way t = go (λ next f u. calls_end next later did to f u) (replied n w reply) refl t.1
   where
-    go : ((next : Working) → IsUnderWay next → Told AnyNumber ns (Goes next) did to → length did ≤ replies_left next) → (from : Step) → replied n w reply ≡ from → Told AnyNumber ns from did to → length (Stepped out reply ∷ did) ≤ replies_left w
+    n : ℕ
+    n = first_number ns
+
+    later : List ℕ
+    later = later_numbers ns
+
+    go : ((next : Working) → IsUnderWay next → Told later (Goes next) did to → length did ≤ replies_left next) → (from : Step) → replied n w reply ≡ from → Told later from did to → length (Stepped out reply ∷ did) ≤ replies_left w
     go rest (Goes next) e u = (let f = replies_fall w n reply next way e in let more = rest next f.0 u in omega arith)
-    go rest (Ends xs l) e u = (let z = ended xs l ns did to u in let v = some_left w way in omega arith)
-    go rest (GivesUp l) e u = (let z = gave_up l ns did to u in let v = some_left w way in omega arith)
+    go rest (Ends xs l) e u = (let z = ended xs l later did to u in let v = some_left w way in omega arith)
+    go rest (GivesUp l) e u = (let z = gave_up l later did to u in let v = some_left w way in omega arith)
 
 -- where a call begins
 put_there : (h : ℕ) (o : OwnState) (os : List OwnState) → (o.here == h) ≡ true → own_from h (put_own o os) ≡ Some o

@@ -160,7 +160,7 @@ module _ (names : List Bound) (s : ServerState) where
   }
 
 module _ {C A : Type 0} (seen : C → CarrierView) (swaps : C → List ℕ → List FarStep → C → Type 0) (steps : A → List ℕ → List ℕ → A → Type 0) (stops : A → List ℕ → A → Type 0)
-    (view : A → PeerState) (peer : IsPeer steps stops view) (client : EndState) (link : C) (far : A) (a : Accords client (view far)) where
+    (view : A → PeerState) (peer : IsPeer steps stops view) (client : EndState) (link : C) (far : A) (a : Accords client (view far)) (numbers : List ℕ) where
   abbrev p : PeerState
   p = view far
 
@@ -211,11 +211,11 @@ module _ {C A : Type 0} (seen : C → CarrierView) (swaps : C → List ℕ → L
           ))
 
   -- it was ended
-  pub close_ends : (new : EndState) (now : C) (after : A) → Talks seen swaps steps stops (begins client Leaves) link far (Ends (alone (Over Done)) new) now after
+  pub close_ends : (new : EndState) (now : C) (after : A) → Talks seen swaps steps stops numbers (begins client Leaves) link far (Ends (alone (Over Done)) new) now after
       → IsClosed p new (view after)
   close_ends new now after t =
       let z = came (Same p.service Closes Done closing) (course p.service Closes Done closing) seen swaps steps stops view peer
-      (begins client Leaves) (Ends (alone (Over Done)) new) link now far after begins_so t in
+      numbers (begins client Leaves) (Ends (alone (Over Done)) new) link now far after begins_so t in
       let h = z.1 in record {
         apart = apart_at p.bound p.service h.base h.far new (view after) h.base_fair h.far_fair h.reached a.peer_serving.seats h.os h.are_over (h.l_is, h.p_is);
         aside = record {
@@ -226,6 +226,6 @@ module _ {C A : Type 0} (seen : C → CarrierView) (swaps : C → List ℕ → L
       }
 
   -- it failed
-  pub close_fails : (e : SnepFault) (new : EndState) (now : C) (after : A) → FailsBy seen swaps steps stops (begins client Leaves) link far e new now after → AsideFails p e (view after)
+  pub close_fails : (e : SnepFault) (new : EndState) (now : C) (after : A) → FailsBy seen swaps steps stops numbers (begins client Leaves) link far e new now after → AsideFails p e (view after)
   close_fails e new now after h =
-      fails_so p.service Closes Done closing seen swaps steps stops view peer link far refl (begins client Leaves) e new now after begins_so h
+      fails_so p.service Closes Done closing seen swaps steps stops view peer link far refl numbers (begins client Leaves) e new now after begins_so h

@@ -2,6 +2,7 @@
 use Rattle.std.proofs.Common.{◌≡◌, ℕ, Bool, true, false, List, [], ◌∷◌, ◌++◌, sym, subst, inl, inr}
 use Rattle.nfc_base.specs.declared.carrier.EndCause.{EndCause}
 use Rattle.nfc_base.specs.declared.carrier.EndCause.TheVariants as cause
+use Rattle.nfc_base.specs.Choosing.{first_number, later_numbers}
 use Rattle.nfc_base.specs.Links.{CarrierView, FarLeft, FarMoved, FarStep, Stepped, Stopped}
 use Rattle.llcp_link.specs.Taking.{Item, brought, steps as takes_all, taken_from}
 use Rattle.llcp_link.specs.Giving.{after_giving, given}
@@ -9,7 +10,7 @@ use Rattle.snep_core.specs.declared.fault.SnepFault.{SnepFault}
 use Rattle.snep_core.specs.Accord.{IsPeer, PeerState, PeerSteps}
 use Rattle.snep_core.specs.Calling.{Breaks, IsCut, Talks, fault_of}
 use Rattle.snep_core.specs.Server.{Received, serving}
-use Rattle.snep_core.specs.Talk.{EndState, Ends, GivesUp, Goes, IsMost, Step, Told, Working, payload, ready, replied, silent}
+use Rattle.snep_core.specs.Talk.{EndState, Ends, GivesUp, Goes, Step, Told, Working, numbers_behind, payload, ready, replied, silent}
 
 module _ (Adds : List Received → Type 0) where
   -- However the client's next payload comes to the peer, what is accepted is of this kind.
@@ -27,23 +28,19 @@ module _ (Adds : List Received → Type 0) where
   module _ (course : Course) {C A : Type 0} (seen : C → CarrierView) (swaps : C → List ℕ → List FarStep → C → Type 0) (steps : A → List ℕ → List ℕ → A → Type 0)
       (stops : A → List ℕ → A → Type 0) (view : A → PeerState) (peer : IsPeer steps stops view) where
     -- from one step to another
-    talks_on : (counts : List ℕ) (did : List FarStep) (from to : Step) (far after : A) → course.At from (view far) → Told IsMost counts from did to
+    talks_on : (ns : List ℕ) (did : List FarStep) (from to : Step) (far after : A) → course.At from (view far) → Told ns from did to
         → FarMoved steps stops did far after → course.At to (view after)
-    talks_on [] [] from to far after h t f = subst (λ z. course.At z (view after)) (sym t) (subst (λ z. course.At from (view z)) (sym f) h)
-    talks_on [] (x ∷ did) from to far after h t f = absurd t
-    talks_on (k ∷ ks) [] (Goes w) to far after h t f = absurd t
-    talks_on (k ∷ ks) [] (Ends jobs l) to far after h t f = absurd t
-    talks_on (k ∷ ks) [] (GivesUp l) to far after h t f = absurd t
-    talks_on (k ∷ ks) (Stopped out ∷ did) (Goes w) to far after h t f = absurd t
-    talks_on (k ∷ ks) (x ∷ did) (Ends jobs l) to far after h t f = absurd t
-    talks_on (k ∷ ks) (x ∷ did) (GivesUp l) to far after h t f = absurd t
-    talks_on (k ∷ ks) (Stepped out reply ∷ did) (Goes w) to far after h (fits, o, more) (mid, s, f) =
+    talks_on ns [] from to far after h t f = subst (λ z. course.At z (view after)) (sym t) (subst (λ z. course.At from (view z)) (sym f) h)
+    talks_on ns (Stopped out ∷ did) (Goes w) to far after h t f = absurd t
+    talks_on ns (x ∷ did) (Ends jobs l) to far after h t f = absurd t
+    talks_on ns (x ∷ did) (GivesUp l) to far after h t f = absurd t
+    talks_on ns (Stepped out reply ∷ did) (Goes w) to far after h (o, more) (mid, s, f) =
         let x = subst (λ z. PeerSteps (view far) z reply (view mid)) o (peer.steps_so far out reply mid s) in
-        talks_on ks did (replied k w reply) to mid after (course.turns w (view far) h k reply (view mid) x) more f
+        talks_on (later_numbers ns) did (replied (first_number ns) w reply) to mid after (course.turns w (view far) h (first_number ns) reply (view mid) x) more f
 
-    pub came : (from to : Step) (link now : C) (far after : A) → course.At from (view far) → Talks seen swaps steps stops from link far to now after
-        → course.At to (view after)
-    came from to link now far after h t = talks_on t.counts t.did from to far after h t.told t.far_moved
+    pub came : (numbers : List ℕ) (from to : Step) (link now : C) (far after : A) → course.At from (view far)
+        → Talks seen swaps steps stops numbers from link far to now after → course.At to (view after)
+    came numbers from to link now far after h t = talks_on numbers t.did from to far after h t.told t.far_moved
 
     module _ (l : EndState) (mid : A) (h : IsSafe l (view mid)) where
       stepped_adds : (k : ℕ) (reply : List ℕ) (after : A) → steps mid (given silent k l) reply after → Adds (view after).service.accepted
@@ -65,17 +62,19 @@ module _ (Adds : List Received → Type 0) where
       left_adds k false why before now after (inl (e, i)) = same_adds after e
       left_adds k false why before now after (inr (w, s, e)) = stopped_adds k after s
 
-      cut_adds : (e : SnepFault) (new : EndState) (link now : C) (after : A) → IsCut seen swaps steps stops l link mid e new now after → Adds (view after).service.accepted
-      cut_adds e new link now after (inl (inl k)) = same_adds after k.far_is
-      cut_adds e new link now after (inl (inr k)) = same_adds after k.far_is
-      cut_adds e new link now after (inr (inl k)) = left_adds k.count k.why.answered k.why.cause _ _ after k.swap.left
-      cut_adds e new link now after (inr (inr k)) = stepped_adds k.count k.reply after k.swap.step
+      cut_adds : (count : ℕ) (e : SnepFault) (new : EndState) (link now : C) (after : A) → IsCut seen swaps steps stops count l link mid e new now after
+          → Adds (view after).service.accepted
+      cut_adds count e new link now after (inl (inl k)) = same_adds after k.far_is
+      cut_adds count e new link now after (inl (inr k)) = same_adds after k.far_is
+      cut_adds count e new link now after (inr (inl k)) = left_adds count k.why.answered k.why.cause _ _ after k.swap.left
+      cut_adds count e new link now after (inr (inr k)) = stepped_adds count k.reply after k.swap.step
 
-      cut_fault : (e : SnepFault) (new : EndState) (link now : C) (after : A) → IsCut seen swaps steps stops l link mid e new now after → (c : EndCause) × (e ≡ fault_of c)
-      cut_fault e new link now after (inl (inl k)) = (cause.Memory, k.fault)
-      cut_fault e new link now after (inl (inr k)) = (k.why, k.fault)
-      cut_fault e new link now after (inr (inl k)) = (k.why.cause, k.fault)
-      cut_fault e new link now after (inr (inr k)) = (cause.Memory, k.fault)
+      cut_fault : (count : ℕ) (e : SnepFault) (new : EndState) (link now : C) (after : A) → IsCut seen swaps steps stops count l link mid e new now after
+          → (c : EndCause) × (e ≡ fault_of c)
+      cut_fault count e new link now after (inl (inl k)) = (cause.Memory, k.fault)
+      cut_fault count e new link now after (inl (inr k)) = (k.why, k.fault)
+      cut_fault count e new link now after (inr (inl k)) = (k.why.cause, k.fault)
+      cut_fault count e new link now after (inr (inr k)) = (cause.Memory, k.fault)
 
     -- what the link or want of memory leaves
     pub record BrokeOff (e : SnepFault) (after : A) : Type 0 where
@@ -83,9 +82,10 @@ module _ (Adds : List Received → Type 0) where
       pub fault : e ≡ fault_of why
       pub added : Adds (view after).service.accepted
 
-    pub breaks_off : (from : Step) (link : C) (far : A) (e : SnepFault) (new : EndState) (now : C) (after : A) → course.At from (view far)
-        → Breaks seen swaps steps stops from link far e new now after → BrokeOff e after
-    breaks_off from link far e new now after h b =
-        let k = course.safe b.at (view b.mid_far) (came from (Goes b.at) link b.mid far b.mid_far h b.talks) in
-        let f = cut_fault (ready b.at).llc b.mid_far k e new b.mid now after b.cut in
-        record { why = f.0; fault = f.1; added = cut_adds (ready b.at).llc b.mid_far k e new b.mid now after b.cut }
+    pub breaks_off : (numbers : List ℕ) (from : Step) (link : C) (far : A) (e : SnepFault) (new : EndState) (now : C) (after : A) → course.At from (view far)
+        → Breaks seen swaps steps stops numbers from link far e new now after → BrokeOff e after
+    breaks_off numbers from link far e new now after h b =
+        let count = first_number (numbers_behind b.talks.did numbers) in
+        let k = course.safe b.at (view b.mid_far) (came numbers from (Goes b.at) link b.mid far b.mid_far h b.talks) in
+        let f = cut_fault (ready b.at).llc b.mid_far k count e new b.mid now after b.cut in
+        record { why = f.0; fault = f.1; added = cut_adds (ready b.at).llc b.mid_far k count e new b.mid now after b.cut }

@@ -67,13 +67,13 @@ cut_giving old new payload k =
     let e = giving_same (Accepted whole) whole new refl k in
     (subst (IsFront (Accepted old)) (sym e) (taking_adds old (brought old payload)), same_front (Accepted new) (Accepted whole) (sym e))
 
-whole_accepts : (old done : LlcState ServerState) (payload reply : List ℕ) → Answers serving old payload reply done → Accepted done ≡ Accepted (taken_from serving old payload)
-whole_accepts old done payload reply h =
+whole_accepts : (count : ℕ) (old done : LlcState ServerState) (payload reply : List ℕ) → Answers serving count old payload reply done → Accepted done ≡ Accepted (taken_from serving old payload)
+whole_accepts count old done payload reply h =
     let whole = taken_from serving old payload in
-    subst (λ z. Accepted z ≡ Accepted whole) (sym h.gives.left) (giving_keeps serving (IsSame (Accepted whole)) (λ s c miu h. h) h.gives.count whole refl)
+    subst (λ z. Accepted z ≡ Accepted whole) (sym h.gives.left) (giving_keeps serving (IsSame (Accepted whole)) (λ s c miu h. h) count whole refl)
 
 pub cut_off_accepts : CutOffAccepts
 cut_off_accepts old new payload (inl k) =
-    let h = cut_taking old new payload k in record { before = h.0; front = h.1; whole = λ reply done a. whole_accepts old done payload reply a }
+    let h = cut_taking old new payload k in record { before = h.0; front = h.1; whole = λ count reply done a. whole_accepts count old done payload reply a }
 cut_off_accepts old new payload (inr k) =
-    let h = cut_giving old new payload k in record { before = h.0; front = h.1; whole = λ reply done a. whole_accepts old done payload reply a }
+    let h = cut_giving old new payload k in record { before = h.0; front = h.1; whole = λ count reply done a. whole_accepts count old done payload reply a }

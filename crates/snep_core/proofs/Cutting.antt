@@ -12,23 +12,21 @@ use Rattle.snep_core.specs.Calling.{Exchanged, IsCut, fault_of}
 use Rattle.snep_core.specs.Talk.{EndState, gave_something, own_of, silent}
 
 module _ {C A : Type 0} (seen : C → CarrierView) (swaps : C → List ℕ → List FarStep → C → Type 0) (steps : A → List ℕ → List ℕ → A → Type 0)
-    (stops : A → List ℕ → A → Type 0) (link : C) (far : A) (now : C) (after : A) (llc mid : EndState) (out : List ℕ)
-    (g : Gives silent llc out mid) where
+    (stops : A → List ℕ → A → Type 0) (link : C) (far : A) (now : C) (after : A) (llc mid : EndState) (count : ℕ) (out : List ℕ)
+    (g : Gives silent count llc out mid) where
   abbrev sent : List ℕ
-  sent = given silent g.count llc
+  sent = given silent count llc
 
   pub cut_failed : {V : Type 0} (new : EndState) → new ≡ mid → (e : SnepFault) (why : LinkEnd) (r : Result V LinkEnd) → r ≡ Err why → e ≡ fault_of why.cause
       → ((seen link).over ≡ None → SwapFailed steps stops (seen link) (seen now) out why far after)
       → ((c : EndCause) → (seen link).over ≡ Some c
       → SwapRefused (seen link) (seen now) c far after r × (now ≡ link))
       → ((seen link).over ≡ None → Swapped swaps steps stops link out far now after (AskedBy why.answered why.cause out))
-      → IsCut seen swaps steps stops llc link far e new now after
+      → IsCut seen swaps steps stops count llc link far e new now after
   cut_failed new kept e why r is fault fails refused swapped = go (seen link).over refl
     where
-      go : (o : Option EndCause) → (seen link).over ≡ o → IsCut seen swaps steps stops llc link far e new now after
+      go : (o : Option EndCause) → (seen link).over ≡ o → IsCut seen swaps steps stops count llc link far e new now after
       go None i = inr (inl (record {
-        count = g.count;
-        most = (g.allowed, g.most);
         left = kept ∙ g.left;
         why = why;
         fault = fault;
@@ -40,8 +38,6 @@ module _ {C A : Type 0} (seen : C → CarrierView) (swaps : C → List ℕ → L
           let t = q.0.fault in
           let w : why ≡ record { cause = c; answered = false } = cc in
           inl (inr (record {
-            count = g.count;
-            most = (g.allowed, g.most);
             left = kept ∙ g.left;
             why = c;
             over = i;
@@ -53,10 +49,8 @@ module _ {C A : Type 0} (seen : C → CarrierView) (swaps : C → List ℕ → L
 
   pub cut_unread : (new : EndState) (e : SnepFault) (reply : List ℕ) → e ≡ Memory → SwapDone steps (seen link) (seen now) out reply far after
       → Swapped swaps steps stops link out far now after (λ did. did ≡ Stepped out reply ∷ [])
-      → IsCut seen swaps steps stops llc link far e new now after
+      → IsCut seen swaps steps stops count llc link far e new now after
   cut_unread new e reply fault done swapped = inr (inr (record {
-    count = g.count;
-    most = (g.allowed, g.most);
     reply = reply;
     fault = fault;
     swap = subst (λ b. SwapDone steps (seen link) (seen now) b reply far after) g.bytes_are done;
@@ -65,10 +59,8 @@ module _ {C A : Type 0} (seen : C → CarrierView) (swaps : C → List ℕ → L
 
   pub exchanged : (reply : List ℕ) (gave : Bool) (new : EndState) → SwapDone steps (seen link) (seen now) out reply far after
       → Swapped swaps steps stops link out far now after (λ did. did ≡ Stepped out reply ∷ []) → new ≡ taken_from silent mid reply
-      → gave ≡ gave_something (own_of mid) (own_of new) → Exchanged seen swaps steps stops llc link far gave new now after
+      → gave ≡ gave_something (own_of mid) (own_of new) → Exchanged seen swaps steps stops count llc link far gave new now after
   exchanged reply gave new done swapped took something = record {
-    count = g.count;
-    most = (g.allowed, g.most);
     reply = reply;
     swap = subst (λ b. SwapDone steps (seen link) (seen now) b reply far after) g.bytes_are done;
     swapped = subst (λ b. Swapped swaps steps stops link b far now after (λ did. did ≡ Stepped b reply ∷ [])) g.bytes_are swapped;

@@ -57,24 +57,24 @@ module _ (most : ℕ) (key : List ℕ) (p : PeerState) (fits : length key ≤ 65
 
 module _ {C A : Type 0} (seen : C → CarrierView) (swaps : C → List ℕ → List FarStep → C → Type 0) (steps : A → List ℕ → List ℕ → A → Type 0) (stops : A → List ℕ → A → Type 0)
     (view : A → PeerState) (peer : IsPeer steps stops view) (most : ℕ) (small : most < 2 ^ 32) (key : List ℕ) (fits : length key ≤ 65536) (client : EndState) (link : C) (far : A)
-    (a : Accords client (view far)) where
+    (a : Accords client (view far)) (numbers : List ℕ) where
   abbrev comes : GetOutcome (view far).service.limit (view far).service.table most key (view far).service.accepted
   comes = get_outcome (view far).service.limit (view far).service.table most key (view far).service.accepted small
 
   -- the value was told
-  pub get_got : (v : List ℕ) (new : EndState) (now : C) (after : A) → Talks seen swaps steps stops (begins client (Gets most key)) link far (Ends (alone (Over (Value v))) new) now after
+  pub get_got : (v : List ℕ) (new : EndState) (now : C) (after : A) → Talks seen swaps steps stops numbers (begins client (Gets most key)) link far (Ends (alone (Over (Value v))) new) now after
       → IsGot most key v (view far) new (view after)
   get_got v new now after t =
       got_at most key (view far) fits comes new (view after) v
-      (request_ended seen swaps steps stops view peer client link far a (ask most key) (read most key (view far) fits comes) comes.outcome (Value v) new now after t)
+      (request_ended seen swaps steps stops view peer client link far a numbers (ask most key) (read most key (view far) fits comes) comes.outcome (Value v) new now after t)
 
   -- it failed
-  pub get_fails : (e : SnepFault) (new : EndState) (now : C) (after : A) → RequestFails seen swaps steps stops (begins client (Gets most key)) link far e new now after
+  pub get_fails : (e : SnepFault) (new : EndState) (now : C) (after : A) → RequestFails seen swaps steps stops numbers (begins client (Gets most key)) link far e new now after
       → GetFails most key (view far) e new (view after)
   get_fails e new now after h =
-      go (request_failed seen swaps steps stops view peer client link far a (ask most key) (read most key (view far) fits comes) comes.outcome e new now after h)
+      go (request_failed seen swaps steps stops view peer client link far a numbers (ask most key) (read most key (view far) fits comes) comes.outcome e new now after h)
     where
-      go : Failed seen swaps steps stops view peer client link far a (ask most key) (read most key (view far) fits comes) comes.outcome e new after → GetFails most key (view far) e new (view after)
+      go : Failed seen swaps steps stops view peer client link far a numbers (ask most key) (read most key (view far) fits comes) comes.outcome e new after → GetFails most key (view far) e new (view after)
       go (inl (why, f, z)) = subst (λ w. GetFails most key (view far) w new (view after)) (sym f) (refused_at most key (view far) fits comes new (view after) why z)
       go (inr (why, f, z)) =
           subst (λ w. GetFails most key (view far) w new (view after)) (sym f)

@@ -159,7 +159,7 @@ sap_is x y e = ap sap_in e
 
 module _ {C A : Type 0} (seen : C → CarrierView) (swaps : C → List ℕ → List FarStep → C → Type 0) (steps : A → List ℕ → List ℕ → A → Type 0) (stops : A → List ℕ → A → Type 0)
     (view : A → PeerState) (peer : IsPeer steps stops view) (name : List ℕ) (short : length name ≤ 64) (client : EndState) (link : C) (far : A)
-    (a : Accords client (view far)) where
+    (a : Accords client (view far)) (numbers : List ℕ) where
   abbrev p : PeerState
   p = view far
 
@@ -191,11 +191,11 @@ module _ {C A : Type 0} (seen : C → CarrierView) (swaps : C → List ℕ → L
   begins_so = (looked_up client name, 0, refl, begins_at)
 
   -- it was told
-  pub lookup_found : (sap : ℕ) (new : EndState) (now : C) (after : A) → Talks seen swaps steps stops (begins client (Finds name)) link far (Ends (alone (Over (Sap sap))) new) now after
+  pub lookup_found : (sap : ℕ) (new : EndState) (now : C) (after : A) → Talks seen swaps steps stops numbers (begins client (Finds name)) link far (Ends (alone (Over (Sap sap))) new) now after
       → IsFound name p sap new (view after)
   lookup_found sap new now after t =
       let z = came (Same p.service (Looks tid) (Sap told_sap) looking) (course p.service (Looks tid) (Sap told_sap) looking) seen swaps steps stops view peer
-      (begins client (Finds name)) (Ends (alone (Over (Sap sap))) new) link now far after begins_so t in
+      numbers (begins client (Finds name)) (Ends (alone (Over (Sap sap))) new) link now far after begins_so t in
       let h = z.1 in record {
         told = sap_is sap told_sap z.0;
         aside = record {
@@ -206,6 +206,6 @@ module _ {C A : Type 0} (seen : C → CarrierView) (swaps : C → List ℕ → L
       }
 
   -- it failed
-  pub lookup_fails : (e : SnepFault) (new : EndState) (now : C) (after : A) → FailsBy seen swaps steps stops (begins client (Finds name)) link far e new now after → AsideFails p e (view after)
+  pub lookup_fails : (e : SnepFault) (new : EndState) (now : C) (after : A) → FailsBy seen swaps steps stops numbers (begins client (Finds name)) link far e new now after → AsideFails p e (view after)
   lookup_fails e new now after h =
-      fails_so p.service (Looks tid) (Sap told_sap) looking seen swaps steps stops view peer link far refl (begins client (Finds name)) e new now after begins_so h
+      fails_so p.service (Looks tid) (Sap told_sap) looking seen swaps steps stops view peer link far refl numbers (begins client (Finds name)) e new now after begins_so h

@@ -128,11 +128,11 @@ module _ (s : ServerState) (job : Job) (ending : Ending) (x : OneExchange s job 
 
   -- it failed
   module _ {C A : Type 0} (seen : C → CarrierView) (swaps : C → List ℕ → List FarStep → C → Type 0) (far_steps : A → List ℕ → List ℕ → A → Type 0) (far_stops : A → List ℕ → A → Type 0)
-      (view : A → PeerState) (peer : IsPeer far_steps far_stops view) (link : C) (far : A) (is : (view far).service ≡ s) where
-    pub fails_so : (from : Step) (e : SnepFault) (new : EndState) (now : C) (after : A) → StepSo from (view far) → FailsBy seen swaps far_steps far_stops from link far e new now after
+      (view : A → PeerState) (peer : IsPeer far_steps far_stops view) (link : C) (far : A) (is : (view far).service ≡ s) (numbers : List ℕ) where
+    pub fails_so : (from : Step) (e : SnepFault) (new : EndState) (now : C) (after : A) → StepSo from (view far) → FailsBy seen swaps far_steps far_stops numbers from link far e new now after
         → AsideFails (view far) e (view after)
-    fails_so from e new now after h (inl (f, t)) = absurd (came Same course seen swaps far_steps far_stops view peer from (GivesUp new) link now far after h t)
+    fails_so from e new now after h (inl (f, t)) = absurd (came Same course seen swaps far_steps far_stops view peer numbers from (GivesUp new) link now far after h t)
     fails_so from e new now after h (inr b) =
-        let k = breaks_off Same course seen swaps far_steps far_stops view peer from link far e new now after h b in
+        let k = breaks_off Same course seen swaps far_steps far_stops view peer numbers from link far e new now after h b in
         subst (λ z. AsideFails (view far) z (view after)) (sym k.fault)
         (aside_by (view far) (view after) (k.added ∙ ap (λ (z : ServerState). z.accepted) (sym is)) k.why)

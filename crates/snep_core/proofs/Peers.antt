@@ -1,8 +1,9 @@
 -- An end with this project's server is a peer, and accords with its client whatever its table for get is.
 use Rattle.std.proofs.Common.{◌⊎◌, ℕ, List, [], refl, sym, ap, inl, inr, append-nil}
+use Rattle.nfc_base.specs.Choosing.{first_number}
 use Rattle.llcp_link.specs.Taking.{brought, steps, taken_from}
 use Rattle.llcp_link.specs.Answering.{Stops}
-use Rattle.snep_core.specs.Accord.{IsApart, IsJoined, PeerState, PeerStops, PeersServe, OffersAccord}
+use Rattle.snep_core.specs.Accord.{IsApart, IsJoined, PeerState, PeerStops, CountedServe, PeersServe, OffersAccord}
 use Rattle.snep_core.specs.Server.{serving}
 use Rattle.snep_core.specs.Session.{Offer}
 use Rattle.snep_core.proofs.CutOff.{giving_same, left_same}
@@ -23,8 +24,14 @@ stops_so old payload new (inr k) = record {
 
 pub server_is_peer : PeersServe
 server_is_peer = record {
-  steps_so = λ a payload reply b h. record { count = h.gives.count; reply_is = h.gives.bytes_are; left = h.gives.left };
+  steps_so = λ a payload reply b h. record { count = 0; reply_is = h.gives.bytes_are; left = h.gives.left };
   stops_so = stops_so;
+}
+
+pub counted_is_peer : CountedServe
+counted_is_peer = record {
+  steps_so = λ a payload reply b h. record { count = first_number a.numbers; reply_is = h.answers.gives.bytes_are; left = h.answers.gives.left };
+  stops_so = λ a payload b h. stops_so a.end payload b.end h;
 }
 
 abbrev offering : PeerState → List Offer → PeerState

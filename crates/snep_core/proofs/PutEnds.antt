@@ -46,23 +46,23 @@ module _ (m : List ℕ) (p : PeerState) (short : length m < 2 ^ 32) where
 
 module _ {C A : Type 0} (seen : C → CarrierView) (swaps : C → List ℕ → List FarStep → C → Type 0) (steps : A → List ℕ → List ℕ → A → Type 0) (stops : A → List ℕ → A → Type 0)
     (view : A → PeerState) (peer : IsPeer steps stops view) (m : List ℕ) (fits : length m ≤ 65536) (client : EndState) (link : C) (far : A)
-    (a : Accords client (view far)) where
+    (a : Accords client (view far)) (numbers : List ℕ) where
   short : length m < 2 ^ 32
   short = omega arith
 
   -- it was told to be taken
-  pub put_taken : (new : EndState) (now : C) (after : A) → Talks seen swaps steps stops (begins client (Puts m)) link far (Ends (alone (Over Done)) new) now after
+  pub put_taken : (new : EndState) (now : C) (after : A) → Talks seen swaps steps stops numbers (begins client (Puts m)) link far (Ends (alone (Over Done)) new) now after
       → IsTaken m (view far) new (view after)
   put_taken new now after t =
       taken_at m (view far) short new (view after)
-      (request_ended seen swaps steps stops view peer client link far a (ask m) (read m (view far) short) (outcome m (view far) short) Done new now after t)
+      (request_ended seen swaps steps stops view peer client link far a numbers (ask m) (read m (view far) short) (outcome m (view far) short) Done new now after t)
 
   -- it failed
-  pub put_fails : (e : SnepFault) (new : EndState) (now : C) (after : A) → RequestFails seen swaps steps stops (begins client (Puts m)) link far e new now after
+  pub put_fails : (e : SnepFault) (new : EndState) (now : C) (after : A) → RequestFails seen swaps steps stops numbers (begins client (Puts m)) link far e new now after
       → PutFails m (view far) e new (view after)
   put_fails e new now after h =
-      go (request_failed seen swaps steps stops view peer client link far a (ask m) (read m (view far) short) (outcome m (view far) short) e new now after h)
+      go (request_failed seen swaps steps stops view peer client link far a numbers (ask m) (read m (view far) short) (outcome m (view far) short) e new now after h)
     where
-      go : Failed seen swaps steps stops view peer client link far a (ask m) (read m (view far) short) (outcome m (view far) short) e new after → PutFails m (view far) e new (view after)
+      go : Failed seen swaps steps stops view peer client link far a numbers (ask m) (read m (view far) short) (outcome m (view far) short) e new after → PutFails m (view far) e new (view after)
       go (inl (why, f, x)) = subst (λ z. PutFails m (view far) z new (view after)) (sym f) (refused_at m (view far) short new (view after) why x)
       go (inr (why, f, x)) = subst (λ z. PutFails m (view far) z new (view after)) (sym f) (broken_at m (view far) short new (view after) why x)

@@ -131,7 +131,7 @@ alone_is : (x y : Job) → alone x ≡ alone y → x ≡ y
 alone_is x y e = ap (first_job x) e
 
 module _ {C A : Type 0} (seen : C → CarrierView) (swaps : C → List ℕ → List FarStep → C → Type 0) (steps : A → List ℕ → List ℕ → A → Type 0) (stops : A → List ℕ → A → Type 0)
-    (view : A → PeerState) (peer : IsPeer steps stops view) (client : EndState) (link : C) (far : A) (a : Accords client (view far))
+    (view : A → PeerState) (peer : IsPeer steps stops view) (client : EndState) (link : C) (far : A) (a : Accords client (view far)) (numbers : List ℕ)
     (ask : Asked) (read : IsRead (view far).service.limit ask) {end : Ending} {added : List Received}
     (o : Outcome (view far).service.limit (view far).service.table ask (view far).service.accepted end added) where
   abbrev peer_state : PeerState
@@ -147,11 +147,11 @@ module _ {C A : Type 0} (seen : C → CarrierView) (swaps : C → List ℕ → L
   begins_so : course.At from peer_state
   begins_so = (Begins ask.most (bytes_of ask), connected client client_sap, 0, refl, refl, accord_begins (conv ask peer_state read o) ask.most (bytes_of ask) client peer_state a (keeps ask peer_state read o))
 
-  came_to : (to : Step) (now : C) (after : A) → Talks seen swaps steps stops from link far to now after → course.At to (view after)
-  came_to to now after t = came (AddsSome ask peer_state read o) course seen swaps steps stops view peer from to link now far after begins_so t
+  came_to : (to : Step) (now : C) (after : A) → Talks seen swaps steps stops numbers from link far to now after → course.At to (view after)
+  came_to to now after t = came (AddsSome ask peer_state read o) course seen swaps steps stops view peer numbers from to link now far after begins_so t
 
   -- it was answered
-  pub request_ended : (e : Ending) (new : EndState) (now : C) (after : A) → Talks seen swaps steps stops from link far (Ends (alone (Over e)) new) now after
+  pub request_ended : (e : Ending) (new : EndState) (now : C) (after : A) → Talks seen swaps steps stops numbers from link far (Ends (alone (Over e)) new) now after
       → Ended ask peer_state read o e new (view after)
   request_ended e new now after t =
       let z = came_to (Ends (alone (Over e)) new) now after t in
@@ -164,9 +164,9 @@ module _ {C A : Type 0} (seen : C → CarrierView) (swaps : C → List ℕ → L
       ((why : Refusal) × (e ≡ refused_by why) × Ended ask peer_state read o (Refused why) new (view after))
       ⊎ ((why : EndCause) × (e ≡ fault_of why) × AddsSome ask peer_state read o (view after).service.accepted)
 
-  pub request_failed : (e : SnepFault) (new : EndState) (now : C) (after : A) → RequestFails seen swaps steps stops from link far e new now after → Failed e new after
+  pub request_failed : (e : SnepFault) (new : EndState) (now : C) (after : A) → RequestFails seen swaps steps stops numbers from link far e new now after → Failed e new after
   request_failed e new now after (inl h) = inl (h.why, h.fault, request_ended (Refused h.why) new now after h.talks)
   request_failed e new now after (inr (inl (f, t))) = absurd (came_to (GivesUp new) now after t)
   request_failed e new now after (inr (inr b)) =
-      let k = breaks_off (AddsSome ask peer_state read o) course seen swaps steps stops view peer from link far e new now after begins_so b in
+      let k = breaks_off (AddsSome ask peer_state read o) course seen swaps steps stops view peer numbers from link far e new now after begins_so b in
       inr (k.why, k.fault, k.added)

@@ -1,6 +1,7 @@
 -- A call goes on by one exchange more.
 use Rattle.std.proofs.Common.{◌≡◌, ℕ, Bool, true, false, List, [], ◌∷◌, ◌++◌, ◌||◌, Option, Some, None, refl, sym, ap, subst, ◌∙◌, inr, append-nil}
 use Rattle.std.proofs.lemmas.List.{append_assoc}
+use Rattle.nfc_base.specs.Choosing.{first_number, later_numbers}
 use Rattle.nfc_base.specs.Links.{CarrierView, FarStep, Stepped, Stopped, FarMoved, SwapDone, Swapped, BySwaps, payload_of}
 use Rattle.llcp_link.specs.Asking.{forgotten}
 use Rattle.llcp_link.specs.Giving.{given, after_giving}
@@ -8,21 +9,22 @@ use Rattle.snep_core.specs.declared.job.Turn.{Turn}
 use Rattle.snep_core.specs.declared.job.Turn.TheVariants.{GaveUp}
 use Rattle.snep_core.specs.declared.fault.SnepFault.{SnepFault}
 use Rattle.snep_core.specs.declared.fault.SnepFault.TheVariants.{Memory}
-use Rattle.snep_core.specs.Calling.{Exchanged, IsCut, Talks, Turned, last_of, payloads, step_of}
+use Rattle.snep_core.specs.Calling.{Breaks, Exchanged, IsCut, Talks, Turned, last_of, payloads, step_of}
 use Rattle.snep_core.specs.Jobs.{Job, has_byte}
-use Rattle.snep_core.specs.Talk.{EndState, Ends, GivesUp, Goes, IsMost, Ready, Step, Told, Working, alone, client_sap, emptied, gave_something, heard, heard_with, idle_after, own_of, payload, ready, readied, ready_so, replied, replied_ready, settled, silent, told_by, took, units_of}
+use Rattle.snep_core.specs.Talk.{EndState, Ends, GivesUp, Goes, Ready, Step, Told, Working, alone, client_sap, emptied, gave_something, heard, heard_with, idle_after, numbers_behind, own_of, payload, ready, readied, ready_so, replied, replied_ready, settled, silent, told_by, took, units_of}
 
-told_more : (from : Step) (ns : List ℕ) (did : List FarStep) (w : Working) (n : ℕ) (reply : List ℕ) (to : Step) → Told IsMost ns from did (Goes w)
-    → IsMost (ready w).llc n → replied n w reply ≡ to → Told IsMost (ns ++ n ∷ []) from (did ++ Stepped (payload n w) reply ∷ []) to
-told_more from [] [] w n reply to t a e = subst (λ s. Told IsMost (n ∷ []) s (Stepped (payload n w) reply ∷ []) to) t (a, refl, sym e)
-told_more from [] (x ∷ did) w n reply to t a e = absurd t
-told_more (Goes v) (k ∷ ns) (Stepped p r ∷ did) w n reply to (b, q, more) a e = (b, q, told_more (replied k v r) ns did w n reply to more a e)
-told_more (Goes v) (k ∷ ns) (Stopped p ∷ did) w n reply to t a e = absurd t
-told_more (Goes v) (k ∷ ns) [] w n reply to t a e = absurd t
-told_more (Ends o l) (k ∷ ns) [] w n reply to t a e = absurd t
-told_more (Ends o l) (k ∷ ns) (x ∷ did) w n reply to t a e = absurd t
-told_more (GivesUp l) (k ∷ ns) [] w n reply to t a e = absurd t
-told_more (GivesUp l) (k ∷ ns) (x ∷ did) w n reply to t a e = absurd t
+told_more : (from : Step) (ns : List ℕ) (did : List FarStep) (w : Working) (reply : List ℕ) (to : Step) → Told ns from did (Goes w)
+    → replied (first_number (numbers_behind did ns)) w reply ≡ to
+    → Told ns from (did ++ Stepped (payload (first_number (numbers_behind did ns)) w) reply ∷ []) to
+told_more from ns [] w reply to t e = subst (λ s. Told ns s (Stepped (payload (first_number ns) w) reply ∷ []) to) t (refl, sym e)
+told_more (Goes v) ns (Stepped p r ∷ did) w reply to (q, more) e = (q, told_more (replied (first_number ns) v r) (later_numbers ns) did w reply to more e)
+told_more (Goes v) ns (Stopped p ∷ did) w reply to t e = absurd t
+told_more (Ends o l) ns (x ∷ did) w reply to t e = absurd t
+told_more (GivesUp l) ns (x ∷ did) w reply to t e = absurd t
+
+behind_more : (did : List FarStep) (x : FarStep) (ns : List ℕ) → numbers_behind (did ++ x ∷ []) ns ≡ later_numbers (numbers_behind did ns)
+behind_more [] x ns = refl
+behind_more (y ∷ did) x ns = behind_more did x (later_numbers ns)
 
 payloads_more : (did : List FarStep) (x : FarStep) → payloads (did ++ x ∷ []) ≡ payloads did ++ payload_of x ∷ []
 payloads_more [] x = refl
@@ -34,24 +36,22 @@ last_more before (y ∷ did) x = last_more (Some (payload_of y)) did x
 
 module _ {C A : Type 0} (seen : C → CarrierView) (swaps : C → List ℕ → List FarStep → C → Type 0) (steps : A → List ℕ → List ℕ → A → Type 0)
     (stops : A → List ℕ → A → Type 0) where
-  far_more : (from : Step) (ns : List ℕ) (did : List FarStep) (w : Working) → Told IsMost ns from did (Goes w) → (far mid after : A) (out reply : List ℕ)
+  far_more : (from : Step) (ns : List ℕ) (did : List FarStep) (w : Working) → Told ns from did (Goes w) → (far mid after : A) (out reply : List ℕ)
       → FarMoved steps stops did far mid → steps mid out reply after → FarMoved steps stops (did ++ Stepped out reply ∷ []) far after
   far_more from ns [] w t far mid after out reply m s = (after, subst (λ z. steps z out reply after) m s, refl)
-  far_more from [] (x ∷ did) w t far mid after out reply m s = absurd t
-  far_more (Goes v) (k ∷ ns) (Stepped p r ∷ did) w (b, q, more) far mid after out reply (x, s1, m) s =
-      (x, s1, far_more (replied k v r) ns did w more x mid after out reply m s)
-  far_more (Goes v) (k ∷ ns) (Stopped p ∷ did) w t far mid after out reply m s = absurd t
-  far_more (Ends o l) (k ∷ ns) (x ∷ did) w t far mid after out reply m s = absurd t
-  far_more (GivesUp l) (k ∷ ns) (x ∷ did) w t far mid after out reply m s = absurd t
+  far_more (Goes v) ns (Stepped p r ∷ did) w (q, more) far mid after out reply (x, s1, m) s =
+      (x, s1, far_more (replied (first_number ns) v r) (later_numbers ns) did w more x mid after out reply m s)
+  far_more (Goes v) ns (Stopped p ∷ did) w t far mid after out reply m s = absurd t
+  far_more (Ends o l) ns (x ∷ did) w t far mid after out reply m s = absurd t
+  far_more (GivesUp l) ns (x ∷ did) w t far mid after out reply m s = absurd t
 
   by_more : (did : List FarStep) (x : FarStep) (a mid now : C) → BySwaps swaps did a mid → swaps mid (payload_of x) (x ∷ []) now → BySwaps swaps (did ++ x ∷ []) a now
   by_more [] x a mid now b s = (now, subst (λ z. swaps z (payload_of x) (x ∷ []) now) b s, refl)
   by_more (y ∷ did) x a mid now (half, one, rest) s = (half, one, by_more did x half mid now rest s)
 
-  pub talks_none : (from : Step) (link : C) (far : A) → Talks seen swaps steps stops from link far from link far
-  talks_none from link far = record {
+  abbrev pub talks_none : (numbers : List ℕ) (from : Step) (link : C) (far : A) → Talks seen swaps steps stops numbers from link far from link far
+  talks_none numbers from link far = record {
     did = [];
-    counts = [];
     told = refl;
     handed = sym (append-nil (seen link).handed);
     last = refl;
@@ -60,23 +60,51 @@ module _ {C A : Type 0} (seen : C → CarrierView) (swaps : C → List ℕ → L
     far_moved = refl;
   }
 
-  pub talks_on : (from : Step) (link : C) (far : A) (w : Working)
-      (mid : C) (mid_far : A) (turn : Turn) (new : EndState) (now : C) (after : A) → Talks seen swaps steps stops from link far (Goes w) mid mid_far
-      → Turned seen swaps steps stops w mid mid_far turn new now after → Talks seen swaps steps stops from link far (step_of turn new) now after
-  talks_on from link far w mid mid_far turn new now after t u =
-      let out = given silent u.count (ready w).llc in
-      let x : FarStep = Stepped out u.reply in record {
-        did = t.did ++ x ∷ [];
-        counts = t.counts ++ u.count ∷ [];
-        told = told_more from t.counts t.did w u.count u.reply (step_of turn new) t.told u.most u.step;
-        handed =
-            u.swap.handed ∙ ap (λ z. z ++ out ∷ []) t.handed ∙ append_assoc (seen link).handed (payloads t.did) (out ∷ [])
-            ∙ ap (λ z. (seen link).handed ++ z) (sym (payloads_more t.did x));
-        last = u.swap.swaps.last ∙ sym (last_more (seen link).last t.did x);
-        over = u.swap.stays ∙ sym u.swap.swaps.begun ∙ t.over;
-        swapped = by_more t.did x link mid now t.swapped (subst (λ d. swaps mid out d now) u.swapped.tells u.swapped.link);
-        far_moved = far_more from t.counts t.did w t.told far mid_far after out u.reply t.far_moved u.swap.step;
-      }
+  -- a call came so far, and these numbers are left to it
+  pub record TalksTo (numbers : List ℕ) (from : Step) (link : C) (far : A) (left : List ℕ) (to : Step) (now : C) (after : A) : Type 0 where
+    pub talks : Talks seen swaps steps stops numbers from link far to now after
+    pub left_is : left ≡ numbers_behind talks.did numbers
+
+  pub talks_begin : (numbers : List ℕ) (from : Step) (link : C) (far : A) → TalksTo numbers from link far numbers from link far
+  talks_begin numbers from link far = record { talks = talks_none numbers from link far; left_is = refl }
+
+  module _ (numbers : List ℕ) (from : Step) (link : C) (far : A) (left : List ℕ) (w : Working) (mid : C) (mid_far : A)
+      (t : TalksTo numbers from link far left (Goes w) mid mid_far) where
+    goes_on : (turn : Turn) (new : EndState) (now : C) (after : A)
+        → Turned seen swaps steps stops (first_number (numbers_behind t.talks.did numbers)) w mid mid_far turn new now after
+        → TalksTo numbers from link far (later_numbers left) (step_of turn new) now after
+    goes_on turn new now after u =
+        let did = t.talks.did in
+        let out = given silent (first_number (numbers_behind did numbers)) (ready w).llc in
+        let x : FarStep = Stepped out u.reply in record {
+          talks = record {
+            did = did ++ x ∷ [];
+            told = told_more from numbers did w u.reply (step_of turn new) t.talks.told u.step;
+            handed =
+                u.swap.handed ∙ ap (λ z. z ++ out ∷ []) t.talks.handed ∙ append_assoc (seen link).handed (payloads did) (out ∷ [])
+                ∙ ap (λ z. (seen link).handed ++ z) (sym (payloads_more did x));
+            last = u.swap.swaps.last ∙ sym (last_more (seen link).last did x);
+            over = u.swap.stays ∙ sym u.swap.swaps.begun ∙ t.talks.over;
+            swapped = by_more did x link mid now t.talks.swapped (subst (λ d. swaps mid out d now) u.swapped.tells u.swapped.link);
+            far_moved = far_more from numbers did w t.talks.told far mid_far after out u.reply t.talks.far_moved u.swap.step;
+          };
+          left_is = ap later_numbers t.left_is ∙ sym (behind_more did x numbers);
+        }
+
+    pub talks_on : (turn : Turn) (new : EndState) (now : C) (after : A) → Turned seen swaps steps stops (first_number left) w mid mid_far turn new now after
+        → TalksTo numbers from link far (later_numbers left) (step_of turn new) now after
+    talks_on turn new now after u =
+        goes_on turn new now after (subst (λ z. Turned seen swaps steps stops (first_number z) w mid mid_far turn new now after) t.left_is u)
+
+    pub talks_break : (e : SnepFault) (new : EndState) (now : C) (after : A) → IsCut seen swaps steps stops (first_number left) (ready w).llc mid mid_far e new now after
+        → Breaks seen swaps steps stops numbers from link far e new now after
+    talks_break e new now after k = record {
+      at = w;
+      mid = mid;
+      mid_far = mid_far;
+      talks = t.talks;
+      cut = subst (λ z. IsCut seen swaps steps stops (first_number z) (ready w).llc mid mid_far e new now after) t.left_is k;
+    }
 
 -- What one job alone comes to, behind a payload and its reply.
 module _ (old mid new : EndState) (job now : Job) (idle : ℕ) where
@@ -101,45 +129,41 @@ module _ (old mid new : EndState) (job now : Job) (idle : ℕ) where
 
 module _ {C A : Type 0} (seen : C → CarrierView) (swaps : C → List ℕ → List FarStep → C → Type 0) (steps : A → List ℕ → List ℕ → A → Type 0)
     (stops : A → List ℕ → A → Type 0) (link : C) (far : A) (over : C) (after : A) (l mid heard_end : EndState) (job now : Job) (idle : ℕ)
-    (r : readied l client_sap job ≡ ready_so mid now) (gave : Bool)
-    (x : Exchanged seen swaps steps stops mid link far gave heard_end over after) where
+    (r : readied l client_sap job ≡ ready_so mid now) (count : ℕ) (gave : Bool)
+    (x : Exchanged seen swaps steps stops count mid link far gave heard_end over after) where
   abbrev working : Working
   working = record { llc = l; jobs = alone job; idle = idle }
 
-  abbrev turned_by : (turn : Turn) (new : EndState) → took (after_giving silent x.count mid) heard_end (alone now) idle ≡ step_of turn new
-      → Turned seen swaps steps stops working link far turn new over after
+  abbrev turned_by : (turn : Turn) (new : EndState) → took (after_giving silent count mid) heard_end (alone now) idle ≡ step_of turn new
+      → Turned seen swaps steps stops count working link far turn new over after
   turned_by turn new e = record {
-    count = x.count;
-    most = subst (λ (z : Ready). IsMost z.llc x.count) (sym r) x.most;
     reply = x.reply;
-    swap = subst (λ (z : Ready). SwapDone steps (seen link) (seen over) (given silent x.count z.llc) x.reply far after) (sym r) x.swap;
-    swapped = subst (λ (z : Ready). Swapped swaps steps stops link (given silent x.count z.llc) far over after
-        (λ did. did ≡ Stepped (given silent x.count z.llc) x.reply ∷ [])) (sym r) x.swapped;
+    swap = subst (λ (z : Ready). SwapDone steps (seen link) (seen over) (given silent count z.llc) x.reply far after) (sym r) x.swap;
+    swapped = subst (λ (z : Ready). Swapped swaps steps stops link (given silent count z.llc) far over after
+        (λ did. did ≡ Stepped (given silent count z.llc) x.reply ∷ [])) (sym r) x.swapped;
     step =
-        ap (λ (z : Ready). replied_ready x.count (record { llc = z.llc; jobs = record { sap = client_sap; job = z.job } ∷ []; idle = idle }) x.reply) r
-        ∙ ap (λ z. took (after_giving silent x.count mid) z (alone now) idle) (sym x.took) ∙ e;
+        ap (λ (z : Ready). replied_ready count (record { llc = z.llc; jobs = record { sap = client_sap; job = z.job } ∷ []; idle = idle }) x.reply) r
+        ∙ ap (λ z. took (after_giving silent count mid) z (alone now) idle) (sym x.took) ∙ e;
   }
 
   -- the far end was at fault
   pub turned_none : (new : EndState) → heard heard_end client_sap now ≡ None → new ≡ forgotten heard_end client_sap
-      → Turned seen swaps steps stops working link far GaveUp new over after
-  turned_none new h e = turned_by GaveUp new (took_none (after_giving silent x.count mid) heard_end new job now idle h e)
+      → Turned seen swaps steps stops count working link far GaveUp new over after
+  turned_none new h e = turned_by GaveUp new (took_none (after_giving silent count mid) heard_end new job now idle h e)
 
   -- its job came to this
   pub turned_some : (turn : Turn) (new : EndState) (next : Job) (some : Bool) → heard heard_end client_sap now ≡ Some next
       → some ≡ has_byte (units_of (own_of heard_end))
       → settled (emptied heard_end client_sap) (alone next) (idle_after (gave || some) idle) ≡ step_of turn new
-      → Turned seen swaps steps stops working link far turn new over after
+      → Turned seen swaps steps stops count working link far turn new over after
   turned_some turn new next some h s e =
       turned_by turn new
-      (took_some (after_giving silent x.count mid) heard_end new job now idle next (gave || some) h
-      (ap (λ b. b || some) x.something ∙ ap (λ b. gave_something (own_of (after_giving silent x.count mid)) (own_of heard_end) || b) s) ∙ e)
+      (took_some (after_giving silent count mid) heard_end new job now idle next (gave || some) h
+      (ap (λ b. b || some) x.something ∙ ap (λ b. gave_something (own_of (after_giving silent count mid)) (own_of heard_end) || b) s) ∙ e)
 
   -- it was answered, and memory was wanting as the reply was read
-  pub unread : (e : SnepFault) (new : EndState) → e ≡ Memory → IsCut seen swaps steps stops (ready working).llc link far e new over after
-  unread e new f = subst (λ (z : Ready). IsCut seen swaps steps stops z.llc link far e new over after) (sym r) (inr (inr (record {
-    count = x.count;
-    most = x.most;
+  pub unread : (e : SnepFault) (new : EndState) → e ≡ Memory → IsCut seen swaps steps stops count (ready working).llc link far e new over after
+  unread e new f = subst (λ (z : Ready). IsCut seen swaps steps stops count z.llc link far e new over after) (sym r) (inr (inr (record {
     reply = x.reply;
     fault = f;
     swap = x.swap;

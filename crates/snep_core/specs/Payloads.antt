@@ -76,11 +76,11 @@ AcceptedInOrder =
     (old : LlcState ServerState) (general : List ℕ) (p : Place (restarted serving old general)) → AcceptsThere old (restarted serving old general) p
 
 -- A step that want of memory left unfinished: what was accepted before it stays, and what it added is the first of what
--- the payload adds. A whole step adds just that, whatever it replies.
+-- the payload adds. A whole step adds just that, whatever it replies and with however many PDUs.
 pub record AcceptsSome (old new : LlcState ServerState) (payload : List ℕ) : Type 0 where
   pub before : IsFront old.service.accepted new.service.accepted
   pub front : IsFront new.service.accepted (taken_from serving old payload).service.accepted
-  pub whole : (reply : List ℕ) (done : LlcState ServerState) → Answers serving old payload reply done
+  pub whole : (count : ℕ) (reply : List ℕ) (done : LlcState ServerState) → Answers serving count old payload reply done
       → done.service.accepted ≡ (taken_from serving old payload).service.accepted
 
 abbrev pub CutOffAccepts : Type 0

@@ -1,6 +1,6 @@
 -- What a client of a SNEP server does in one call, reply by reply: a function of what it asked and of what it was told (NFC Forum LLCP
 -- 1.3 and SNEP 1.0; when it gives a far end up is this project's own).
-use Rattle.std.specs.Prelude.{◌≡◌, ◌≤◌, ℕ, zero, suc, ◌+◌, ◌==◌, ◌&&◌, ◌||◌, eqb, nat_lt, not, is_none, Bool, true, false, List, [], ◌∷◌, ◌++◌, length, take, drop, Option, Some, None, if◌then◌else◌}
+use Rattle.std.specs.Prelude.{◌≡◌, ℕ, zero, suc, ◌+◌, ◌==◌, ◌&&◌, ◌||◌, eqb, nat_lt, not, is_none, Bool, true, false, List, [], ◌∷◌, ◌++◌, length, take, drop, Option, Some, None, if◌then◌else◌}
 use Rattle.std.specs.List.{IsDistinct}
 use Rattle.nfc_base.specs.Links.{FarStep, Stepped}
 use Rattle.nfc_base.specs.Choosing.{first_number, later_numbers}

@@ -9,7 +9,7 @@ returns-in-Err-clause-err g c = inr (record {
   at = record { llc = connected c.args.self.now.llc client_sap; jobs = alone (Begins c.args.most c.args.request); idle = 0 };
   mid = c.args.carrier.now;
   mid_far = c.args.far.now;
-  talks = talks_none g.C.Carrier.seen g.C.Carrier.swaps g.A.Answerer.steps g.A.Answerer.stops
+  talks = talks_none g.C.Carrier.seen g.C.Carrier.swaps g.A.Answerer.steps g.A.Answerer.stops c.args.counts
       (begun (connected c.args.self.now.llc client_sap) (Begins c.args.most c.args.request)) c.args.carrier.now c.args.far.now;
   cut = inl (inl (record { fault = c.in-Err.ensures.err; link_is = refl; far_is = refl }));
 })

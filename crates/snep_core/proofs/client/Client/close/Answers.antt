@@ -19,9 +19,9 @@ returns-in-Err-clause-err g c =
       at = record { llc = disconnected_by l (own_of l); jobs = alone Closes; idle = 0 };
       mid = c.args.carrier.now;
       mid_far = c.args.far.now;
-      talks = subst (λ (s : Step). Talks g.C.Carrier.seen g.C.Carrier.swaps g.A.Answerer.steps g.A.Answerer.stops (begins l Leaves)
+      talks = subst (λ (s : Step). Talks g.C.Carrier.seen g.C.Carrier.swaps g.A.Answerer.steps g.A.Answerer.stops c.args.counts (begins l Leaves)
           c.args.carrier.now c.args.far.now s c.args.carrier.now c.args.far.now) from
-          (talks_none g.C.Carrier.seen g.C.Carrier.swaps g.A.Answerer.steps g.A.Answerer.stops
+          (talks_none g.C.Carrier.seen g.C.Carrier.swaps g.A.Answerer.steps g.A.Answerer.stops c.args.counts
           (begins l Leaves) c.args.carrier.now c.args.far.now);
       cut = inl (inl (record { fault = c.spend.ensures.fault; link_is = refl; far_is = refl }));
     })
@@ -32,9 +32,9 @@ returns-then-not-is_open-clause-ok g c =
     let shut : is_open_by (own_of l) ≡ false = search rules in
     let from : Ends (alone (Over Done)) l ≡ begins l Leaves =
     sym (ap (λ b. if b then begun (disconnected_by l (own_of l)) Closes else Ends (alone (Over Done)) l) shut) in
-    subst (λ (s : Step). Talks g.C.Carrier.seen g.C.Carrier.swaps g.A.Answerer.steps g.A.Answerer.stops s
+    subst (λ (s : Step). Talks g.C.Carrier.seen g.C.Carrier.swaps g.A.Answerer.steps g.A.Answerer.stops c.args.counts s
     c.args.carrier.now c.args.far.now (Ends (alone (Over Done)) l) c.args.carrier.now c.args.far.now) from
-    (talks_none g.C.Carrier.seen g.C.Carrier.swaps g.A.Answerer.steps g.A.Answerer.stops
+    (talks_none g.C.Carrier.seen g.C.Carrier.swaps g.A.Answerer.steps g.A.Answerer.stops c.args.counts
     (Ends (alone (Over Done)) l) c.args.carrier.now c.args.far.now)
 
 pub returns-in-Err-clause-fails : goal.returns-in-Err-clause-fails
@@ -44,19 +44,19 @@ returns-in-Err-clause-fails g c = λ view peer a.
 pub returns-then-not-is_open-clause-closed : goal.returns-then-not-is_open-clause-closed
 returns-then-not-is_open-clause-closed g c = λ view peer a.
     close_ends g.C.Carrier.seen g.C.Carrier.swaps g.A.Answerer.steps g.A.Answerer.stops view peer c.args.self.now.llc
-    c.args.carrier.now c.args.far.now a c.args.self.now.llc c.args.carrier.now c.args.far.now (returns-then-not-is_open-clause-ok g c)
+    c.args.carrier.now c.args.far.now a c.args.counts c.args.self.now.llc c.args.carrier.now c.args.far.now (returns-then-not-is_open-clause-ok g c)
 
 pub returns-clause-closed : goal.returns-clause-closed
 returns-clause-closed g c = λ view peer a.
-    let ok : OnOk c.match-converse.result (Talks g.C.Carrier.seen g.C.Carrier.swaps g.A.Answerer.steps g.A.Answerer.stops
+    let ok : OnOk c.match-converse.result (Talks g.C.Carrier.seen g.C.Carrier.swaps g.A.Answerer.steps g.A.Answerer.stops c.args.counts
     (begins c.args.self.now.llc Leaves) c.args.carrier.now c.args.far.now (Ends (alone (Over Done)) c.converse.new.self.llc)
     c.converse.new.carrier c.converse.new.far) = search rules in
     on_ok_weaker c.match-converse.result (λ t. close_ends g.C.Carrier.seen g.C.Carrier.swaps g.A.Answerer.steps g.A.Answerer.stops view peer
-    c.args.self.now.llc c.args.carrier.now c.args.far.now a c.converse.new.self.llc c.converse.new.carrier c.converse.new.far t) ok
+    c.args.self.now.llc c.args.carrier.now c.args.far.now a c.args.counts c.converse.new.self.llc c.converse.new.carrier c.converse.new.far t) ok
 
 pub returns-clause-fails : goal.returns-clause-fails
 returns-clause-fails g c = λ view peer a.
-    let err : IfErr c.match-converse.result (λ e. FailsBy g.C.Carrier.seen g.C.Carrier.swaps g.A.Answerer.steps g.A.Answerer.stops
+    let err : IfErr c.match-converse.result (λ e. FailsBy g.C.Carrier.seen g.C.Carrier.swaps g.A.Answerer.steps g.A.Answerer.stops c.args.counts
     (begins c.args.self.now.llc Leaves) c.args.carrier.now c.args.far.now e c.converse.new.self.llc c.converse.new.carrier c.converse.new.far) = search rules in
     IfErr-weaker c.match-converse.result _ _ (λ e t. close_fails g.C.Carrier.seen g.C.Carrier.swaps g.A.Answerer.steps g.A.Answerer.stops view peer
-    c.args.self.now.llc c.args.carrier.now c.args.far.now a e c.converse.new.self.llc c.converse.new.carrier c.converse.new.far t) err
+    c.args.self.now.llc c.args.carrier.now c.args.far.now a c.args.counts e c.converse.new.self.llc c.converse.new.carrier c.converse.new.far t) err

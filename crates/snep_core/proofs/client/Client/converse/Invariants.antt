@@ -1,8 +1,8 @@
 use Rattle.std.proofs.Common.{◌≡◌, ◌<◌, false}
-use Rattle.snep_core.specs.Calling.{Talks}
 use Rattle.snep_core.specs.Talk.{Goes, alone, begun, most_idle}
 use Rattle.snep_core.specs.RepliesLeft.{replies_left}
 use Rattle.snep_core.specs.Waning.{Aim, Serves, one_job}
+use Rattle.snep_core.proofs.Talking.{TalksTo}
 use Rattle.snep_core.proofs.client.Client.converse.Given as goal
 
 abbrev pub invariant-turns : goal.invariant-turns
@@ -12,8 +12,8 @@ invariant-turns g l = record {
   ready : g.C.Carrier.ready l.carrier;
   same : g.C.Carrier.lenders l.carrier ≡ g.C.Carrier.lenders l.fn.carrier;
   serves : (aim : Aim) → Serves aim l.fn.first → Serves aim l.job;
-  talks : Talks g.C.Carrier.seen g.C.Carrier.swaps g.A.Answerer.steps g.A.Answerer.stops (begun l.fn.self.llc l.fn.first) l.fn.carrier l.fn.far
-      (Goes (record { llc = l.self.llc; jobs = alone l.job; idle = l.idle })) l.carrier l.far;
+  talks : TalksTo g.C.Carrier.seen g.C.Carrier.swaps g.A.Answerer.steps g.A.Answerer.stops l.fn.counts (begun l.fn.self.llc l.fn.first) l.fn.carrier
+      l.fn.far l.left (Goes (record { llc = l.self.llc; jobs = alone l.job; idle = l.idle })) l.carrier l.far;
 }
 
 abbrev pub decreases-turns : goal.decreases-turns

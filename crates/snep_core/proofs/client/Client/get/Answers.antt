@@ -16,7 +16,7 @@ returns-in-Err-clause-err g c = λ going. inr (inr (record {
   };
   mid = c.args.carrier.now;
   mid_far = c.args.far.now;
-  talks = talks_none g.C.Carrier.seen g.C.Carrier.swaps g.A.Answerer.steps g.A.Answerer.stops
+  talks = talks_none g.C.Carrier.seen g.C.Carrier.swaps g.A.Answerer.steps g.A.Answerer.stops c.args.counts
       (begins c.args.self.now.llc (Gets c.args.acceptable c.args.key.now)) c.args.carrier.now c.args.far.now;
   cut = inl (inl (record { fault = c.spend.ensures.fault; link_is = refl; far_is = refl }));
 }))
@@ -25,7 +25,7 @@ pub returns-in-Err-ask-clause-err : goal.returns-in-Err-ask-clause-err
 returns-in-Err-ask-clause-err g c =
     let e : c.in-Ok.request ≡ get_bytes c.args.acceptable c.args.key.now = search rules in
     λ going. inr
-    (subst (λ (b : List ℕ). FailsBy g.C.Carrier.seen g.C.Carrier.swaps g.A.Answerer.steps g.A.Answerer.stops
+    (subst (λ (b : List ℕ). FailsBy g.C.Carrier.seen g.C.Carrier.swaps g.A.Answerer.steps g.A.Answerer.stops c.args.counts
     (begun (connected c.args.self.now.llc client_sap) (Begins (Some c.args.acceptable) b)) c.args.carrier.now c.args.far.now c.in-Err-ask.fault
     c.ask.new.self.llc c.ask.new.carrier c.ask.new.far) e c.in-Err-ask.ensures.err)
 
@@ -34,14 +34,14 @@ returns-in-Ok-Value-clause-ok g c =
     let e : c.in-Ok.request ≡ get_bytes c.args.acceptable c.args.key.now = search rules in
     let v : c.in-Ok-Value.value ≡ c.into_vec.result.items = search rules in
     let t =
-    subst (λ (o : Ending). Talks g.C.Carrier.seen g.C.Carrier.swaps g.A.Answerer.steps g.A.Answerer.stops
+    subst (λ (o : Ending). Talks g.C.Carrier.seen g.C.Carrier.swaps g.A.Answerer.steps g.A.Answerer.stops c.args.counts
     (begun (connected c.args.self.now.llc client_sap) (Begins (Some c.args.acceptable) c.in-Ok.request)) c.args.carrier.now c.args.far.now
     (Ends (alone (Over o)) c.ask.new.self.llc) c.ask.new.carrier c.ask.new.far) c.in-Ok-Value.field-0-is c.in-Ok-Value.ensures.ok in
     let u =
-    subst (λ (b : List ℕ). Talks g.C.Carrier.seen g.C.Carrier.swaps g.A.Answerer.steps g.A.Answerer.stops
+    subst (λ (b : List ℕ). Talks g.C.Carrier.seen g.C.Carrier.swaps g.A.Answerer.steps g.A.Answerer.stops c.args.counts
     (begun (connected c.args.self.now.llc client_sap) (Begins (Some c.args.acceptable) b)) c.args.carrier.now c.args.far.now
     (Ends (alone (Over (Value c.in-Ok-Value.value))) c.ask.new.self.llc) c.ask.new.carrier c.ask.new.far) e t in
-    subst (λ (x : List ℕ). Talks g.C.Carrier.seen g.C.Carrier.swaps g.A.Answerer.steps g.A.Answerer.stops
+    subst (λ (x : List ℕ). Talks g.C.Carrier.seen g.C.Carrier.swaps g.A.Answerer.steps g.A.Answerer.stops c.args.counts
     (begun (connected c.args.self.now.llc client_sap) (Begins (Some c.args.acceptable) (get_bytes c.args.acceptable c.args.key.now)))
     c.args.carrier.now c.args.far.now (Ends (alone (Over (Value x))) c.ask.new.self.llc) c.ask.new.carrier c.ask.new.far) v u
 
@@ -49,13 +49,13 @@ pub returns-in-Ok-Refused-clause-err : goal.returns-in-Ok-Refused-clause-err
 returns-in-Ok-Refused-clause-err g c =
     let e : c.in-Ok.request ≡ get_bytes c.args.acceptable c.args.key.now = search rules in
     let t =
-    subst (λ (o : Ending). Talks g.C.Carrier.seen g.C.Carrier.swaps g.A.Answerer.steps g.A.Answerer.stops
+    subst (λ (o : Ending). Talks g.C.Carrier.seen g.C.Carrier.swaps g.A.Answerer.steps g.A.Answerer.stops c.args.counts
     (begun (connected c.args.self.now.llc client_sap) (Begins (Some c.args.acceptable) c.in-Ok.request)) c.args.carrier.now c.args.far.now
     (Ends (alone (Over o)) c.ask.new.self.llc) c.ask.new.carrier c.ask.new.far) c.in-Ok-Refused.field-0-is c.in-Ok-Refused.ensures.ok in
     λ going. inl (record {
       why = c.in-Ok-Refused.refusal;
       fault = c.fault.ensures;
-      talks = subst (λ (b : List ℕ). Talks g.C.Carrier.seen g.C.Carrier.swaps g.A.Answerer.steps g.A.Answerer.stops
+      talks = subst (λ (b : List ℕ). Talks g.C.Carrier.seen g.C.Carrier.swaps g.A.Answerer.steps g.A.Answerer.stops c.args.counts
           (begun (connected c.args.self.now.llc client_sap) (Begins (Some c.args.acceptable) b)) c.args.carrier.now c.args.far.now
           (Ends (alone (Over (Refused c.in-Ok-Refused.refusal))) c.ask.new.self.llc) c.ask.new.carrier c.ask.new.far) e t;
     })
@@ -69,14 +69,14 @@ returns-in-Err-ask-clause-fails g c = λ view peer a.
     let going : c.args.self.now.spent ≡ false = search rules in
     let small : c.args.acceptable < 2 ^ 32 = search rules in
     get_fails g.C.Carrier.seen g.C.Carrier.swaps g.A.Answerer.steps g.A.Answerer.stops view peer c.args.acceptable small c.args.key.now c.requires.key
-    c.args.self.now.llc c.args.carrier.now c.args.far.now a c.in-Err-ask.fault c.ask.new.self.llc c.ask.new.carrier c.ask.new.far
+    c.args.self.now.llc c.args.carrier.now c.args.far.now a c.args.counts c.in-Err-ask.fault c.ask.new.self.llc c.ask.new.carrier c.ask.new.far
     (returns-in-Err-ask-clause-err g c going)
 
 pub returns-in-Ok-Value-clause-value : goal.returns-in-Ok-Value-clause-value
 returns-in-Ok-Value-clause-value g c = λ view peer a.
     let small : c.args.acceptable < 2 ^ 32 = search rules in
     get_got g.C.Carrier.seen g.C.Carrier.swaps g.A.Answerer.steps g.A.Answerer.stops view peer c.args.acceptable small c.args.key.now c.requires.key
-    c.args.self.now.llc c.args.carrier.now c.args.far.now a c.into_vec.result.items c.ask.new.self.llc c.ask.new.carrier c.ask.new.far
+    c.args.self.now.llc c.args.carrier.now c.args.far.now a c.args.counts c.into_vec.result.items c.ask.new.self.llc c.ask.new.carrier c.ask.new.far
     (returns-in-Ok-Value-clause-ok g c)
 
 pub returns-in-Ok-Refused-clause-fails : goal.returns-in-Ok-Refused-clause-fails
@@ -84,5 +84,5 @@ returns-in-Ok-Refused-clause-fails g c = λ view peer a.
     let going : c.args.self.now.spent ≡ false = search rules in
     let small : c.args.acceptable < 2 ^ 32 = search rules in
     get_fails g.C.Carrier.seen g.C.Carrier.swaps g.A.Answerer.steps g.A.Answerer.stops view peer c.args.acceptable small c.args.key.now c.requires.key
-    c.args.self.now.llc c.args.carrier.now c.args.far.now a c.fault.result c.ask.new.self.llc c.ask.new.carrier c.ask.new.far
+    c.args.self.now.llc c.args.carrier.now c.args.far.now a c.args.counts c.fault.result c.ask.new.self.llc c.ask.new.carrier c.ask.new.far
     (returns-in-Ok-Refused-clause-err g c going)

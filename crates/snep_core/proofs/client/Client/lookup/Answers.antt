@@ -14,7 +14,7 @@ returns-in-Err-clause-err g c = λ going. inr (record {
   at = record { llc = looked_up c.args.self.now.llc c.args.name.now; jobs = alone (Looks c.args.self.now.llc.asked); idle = 0 };
   mid = c.args.carrier.now;
   mid_far = c.args.far.now;
-  talks = talks_none g.C.Carrier.seen g.C.Carrier.swaps g.A.Answerer.steps g.A.Answerer.stops
+  talks = talks_none g.C.Carrier.seen g.C.Carrier.swaps g.A.Answerer.steps g.A.Answerer.stops c.args.counts
       (begins c.args.self.now.llc (Finds c.args.name.now)) c.args.carrier.now c.args.far.now;
   cut = inl (inl (record { fault = c.spend.ensures.fault; link_is = refl; far_is = refl }));
 })
@@ -25,16 +25,16 @@ returns-in-Err-clause-fails g c = λ view peer a.
 
 pub returns-clause-found : goal.returns-clause-found
 returns-clause-found g c = λ view peer a.
-    let ok : IfOk c.match-converse.result (λ sap. Talks g.C.Carrier.seen g.C.Carrier.swaps g.A.Answerer.steps g.A.Answerer.stops
+    let ok : IfOk c.match-converse.result (λ sap. Talks g.C.Carrier.seen g.C.Carrier.swaps g.A.Answerer.steps g.A.Answerer.stops c.args.counts
     (begins c.args.self.now.llc (Finds c.args.name.now)) c.args.carrier.now c.args.far.now (Ends (alone (Over (Sap sap))) c.converse.new.self.llc)
     c.converse.new.carrier c.converse.new.far) = search rules in
     IfOk-weaker c.match-converse.result _ _ (λ sap t. lookup_found g.C.Carrier.seen g.C.Carrier.swaps g.A.Answerer.steps g.A.Answerer.stops view peer
-    c.args.name.now c.requires.name c.args.self.now.llc c.args.carrier.now c.args.far.now a sap c.converse.new.self.llc c.converse.new.carrier c.converse.new.far t) ok
+    c.args.name.now c.requires.name c.args.self.now.llc c.args.carrier.now c.args.far.now a c.args.counts sap c.converse.new.self.llc c.converse.new.carrier c.converse.new.far t) ok
 
 pub returns-clause-fails : goal.returns-clause-fails
 returns-clause-fails g c = λ view peer a.
-    let err : IfErr c.match-converse.result (λ e. FailsBy g.C.Carrier.seen g.C.Carrier.swaps g.A.Answerer.steps g.A.Answerer.stops
+    let err : IfErr c.match-converse.result (λ e. FailsBy g.C.Carrier.seen g.C.Carrier.swaps g.A.Answerer.steps g.A.Answerer.stops c.args.counts
     (begins c.args.self.now.llc (Finds c.args.name.now)) c.args.carrier.now c.args.far.now e c.converse.new.self.llc
     c.converse.new.carrier c.converse.new.far) = search rules in
     IfErr-weaker c.match-converse.result _ _ (λ e t. lookup_fails g.C.Carrier.seen g.C.Carrier.swaps g.A.Answerer.steps g.A.Answerer.stops view peer
-    c.args.name.now c.requires.name c.args.self.now.llc c.args.carrier.now c.args.far.now a e c.converse.new.self.llc c.converse.new.carrier c.converse.new.far t) err
+    c.args.name.now c.requires.name c.args.self.now.llc c.args.carrier.now c.args.far.now a c.args.counts e c.converse.new.self.llc c.converse.new.carrier c.converse.new.far t) err
