@@ -1,5 +1,5 @@
 -- What talking to a peer leaves in the world with far ends.
-use Rattle.std.proofs.Common.{◌≡◌, ℕ, zero, suc, List, [], ◌∷◌, Option, None, refl, sym, ap, subst}
+use Rattle.std.proofs.Common.{◌≡◌, ℕ, zero, suc, List, [], ◌∷◌, Option, None, sym, ap, subst}
 use Rattle.std.specs.List.{AllByRecursion}
 use Rattle.nfc_base.specs.Signal.{Signal, whole_a}
 use Rattle.nfc_base.specs.declared.frame.Tech.TheVariants.{A}
@@ -13,7 +13,6 @@ use Rattle.air_core.specs.PlainTags.{IsAside}
 use Rattle.air_core.proofs.PlainAside.{aside_silent}
 use Rattle.nfc_base.specs.Choosing.{first_number}
 use Rattle.far_air.specs.FarEnds.{FarTable, numbers_left, first_far, later_fars, reply_to}
-use Rattle.far_air.specs.FarLaws.{BeginBy}
 use Rattle.far_air.specs.FarWorld.{FarWorld, device_after, reply_at, all_meet, far_requested, far_came_back, far_happens, far_air}
 use Rattle.bench_devices.specs.declared.device.Device.{Device}
 use Rattle.bench_devices.specs.Beside.{PeerAt, TalkLeaves}
@@ -93,13 +92,7 @@ module _ {F : Type 0} (t : FarTable F) (own : List ℕ) where
       let x : Leaves place w (happened w (Clash g y)) = back_leaves place w y a in
       leaves_both own place w.field.listeners (happened w (Clash g y)).field.listeners _ x (events_leave place es (happened w (Clash g y)) h x.at)
 
--- numbers begin by themselves
-pub begins_so : (ns : List ℕ) → BeginBy ns ns
-begins_so [] = tt
-begins_so (n ∷ ns) = (refl, begins_so ns)
-
 pub far_leaves : {F : Type 0} (t : FarTable F) → FarLeaves t
 far_leaves {F} t own place at next old new notes os far after whole peer g =
-    let q = g.going g.taken (begins_so g.taken) in
     let P : Moment (FarWorld Device F) → Type 0 = λ m. TalkLeaves own place old.world.listeners m.world.field.listeners in
-    subst P (sym q.moment) (events_leave t own place q.events _ (due_asked (λ f. f ≡ whole_a f.bytes) next whole [] q.events q.each) peer)
+    subst P (sym g.moment) (events_leave t own place g.events _ (due_asked (λ f. f ≡ whole_a f.bytes) next whole [] g.events g.each) peer)

@@ -77,7 +77,7 @@ module _ (general : List ℕ) (short : length general ≤ 48) where
   handed_none (Peer d) payload e = peer_none d.front d payload e
   handed_none (T5 p) payload e = absurd cc
 
-  pub heard_none : (v : Bool) (l : Device) (payload : List ℕ) → (if v then devices.handed l f else Untouched) ≡ Hands payload → ⊥
+  heard_none : (v : Bool) (l : Device) (payload : List ℕ) → (if v then devices.handed l f else Untouched) ≡ Hands payload → ⊥
   heard_none true l payload e = handed_none l payload e
   heard_none false l payload e = absurd cc
 

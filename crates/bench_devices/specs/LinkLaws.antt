@@ -1,8 +1,9 @@
 -- What links to the bench's peers keep to: which request is due while one is opened, what talking to a peer leaves of all devices, and
 -- that all of it happens so in the world with far ends (NFCIP-1, ISO/IEC 18092; who hears what is this project's own).
-use Rattle.std.specs.Prelude.{◌≤◌, ◌≡◌, ℕ, List, [], ◌∷◌, ◌++◌, Bool, false, Option, Some, Result, Ok, Err, true, length}
+use Rattle.std.specs.Prelude.{◌≡◌, ℕ, List, [], ◌∷◌, ◌++◌, Bool, false, Option, Some, Result, Ok, Err, true, length}
 use Rattle.nfc_base.specs.Signal.{Signal, whole_a}
 use Rattle.nfc_base.specs.Far.{Untouched}
+use Rattle.nfc_base.specs.Choosing.{Choosing}
 use Rattle.nfc_base.specs.declared.event.Heard.{Heard}
 use Rattle.nfc_base.specs.declared.carrier.EndCause.{EndCause}
 use Rattle.nfc_base.specs.declared.carrier.EndCause.TheVariants.{Memory}
@@ -72,10 +73,6 @@ NoneAtRls = (l : Device) → devices.handed l rls_frame ≡ Untouched
 abbrev pub InStepTakesRls : Type 0
 InStepTakesRls = (a : Air Device) (place : ℕ) (i : InitState) → InStepAt a place i → TakesRls ghosts device_end a
 
--- Turns of the world with far ends at a place, in which no far end is handed a payload: they take no number.
-abbrev pub TakesNone : {F : Type 0} → FarTable F → (List Note → Next) → (old new : Moment (World Device)) → List Note → ℕ → List (Option F) → F → F → Type 0
-TakesNone t next old new notes place os far after = (g : FarGoing devices device_linked t next old new notes place os far after) × (g.taken ≡ [])
-
 module _ {A : Type 0} (restarts : A → List ℕ → A → Type 0) (steps : A → List ℕ → List ℕ → A → Type 0) where
   -- one turn, over whatever far end
   abbrev pub TurnLeaves : Type 0
@@ -91,22 +88,23 @@ module _ {A : Type 0} (restarts : A → List ℕ → A → Type 0) (steps : A �
 
   -- The opening of a link, from the selection of its peer on, is a stretch of the world with far ends at the peer's place, where its far
   -- end begins a new link as often as ATR_REQ arrives. It takes no number.
-  abbrev pub OpensFar : {F : Type 0} → FarTable F → (A → F) → Type 0
+  abbrev pub OpensFar : {F : Type 0} → FarTable F → (A → Choosing F) → Type 0
   OpensFar {F} t view = IsFarTable t → IsOfTable restarts steps t view
       → (id : DeviceId) (general : List ℕ) (place : ℕ) (d : Device) (result : Result (InitState × ArrayVec ℕ) EndCause) (old mid new : Air Device) (far after : A) (notes : List Note)
-      → length general ≤ 48 → Going air (λ ns. asks (selecting id ns)) (moment old) (moment mid) notes → selecting id notes ≡ Told (Ok seen.Peer) []
+      → Going air (λ ns. asks (selecting id ns)) (moment old) (moment mid) notes → selecting id notes ≡ Told (Ok seen.Peer) []
       → Stands (moment mid) place d → is_tag d ≡ false → (o : Opens restarts steps mid far new after general place d result) → (os : List (Option F))
-      → TakesNone t (linking id general) (moment old) (moment new) (notes ++ o.notes) place os (view far) (view after)
+      → FarGoing devices device_linked t (linking id general) (moment old) (moment new) (notes ++ o.notes) place os (view far) (view after)
+      × ((view after).numbers ≡ (view far).numbers)
 
 -- So is a selection alone, whatever it came to, at which no far end is asked anything.
 abbrev pub SelectsFar : {F : Type 0} → FarTable F → Type 0
 SelectsFar {F} t = IsFarTable t
     → (id : DeviceId) (general : List ℕ) (old new : Moment (World Device)) (notes : List Note) → Going air (λ ns. asks (selecting id ns)) old new notes
-    → (place : ℕ) (os : List (Option F)) (far : F) → TakesNone t (linking id general) old new notes place os far far
+    → (place : ℕ) (os : List (Option F)) (far : Choosing F) → FarGoing devices device_linked t (linking id general) old new notes place os far far
 
 -- What is said so in that world, in frames of whole bytes, leaves what one turn does.
 abbrev pub FarLeaves : {F : Type 0} → FarTable F → Type 0
 FarLeaves {F} t =
-    (own : List ℕ) (place at : ℕ) (next : List Note → Next) (old new : Moment (World Device)) (notes : List Note) (os : List (Option F)) (far after : F)
+    (own : List ℕ) (place at : ℕ) (next : List Note → Next) (old new : Moment (World Device)) (notes : List Note) (os : List (Option F)) (far after : Choosing F)
     → ((ns : List Note) (f : Signal) → next ns ≡ Asks f → f ≡ whole_a f.bytes) → PeerAt own place old.world.listeners
     → FarGoing devices device_linked t next old new notes at os far after → TalkLeaves own place old.world.listeners new.world.listeners

@@ -2,6 +2,7 @@
 
 ghost use Rattle.bench_devices.specs.Keeping.{DevicesStay, ImagesStay, AsideKeeps, OthersKeep};
 ghost use Rattle.bench_devices.specs.Calm.{DevicesLink, CalmFinding, CalmSelecting, CalmReading, CalmWriting, CalmUnasked};
+ghost use Rattle.nfc_base.specs.Choosing.{Choosing};
 ghost use Rattle.far_air.specs.FarEnds.{FarTable};
 ghost use Rattle.bench_devices.specs.LinkLaws.{LinkAsks, PeerStands, OthersAside, SwapsLeave, ReadyInStep, LinkedInStep, InStepTakesRls, NoneAtRls, TurnLeaves, ReleaseLeaves, OpensFar, SelectsFar, FarLeaves};
 
@@ -48,5 +49,5 @@ pub fn links_open<A: Answerer>()
 pub fn links_far<F, A: Answerer>()
     ensures selects { (t : FarTable F) → SelectsFar t }
     ensures leaves { (t : FarTable F) → FarLeaves t }
-    ensures opens { (t : FarTable F) (view : A → F) → OpensFar A.restarts A.steps t view }
+    ensures opens { (t : FarTable F) (view : A → Choosing F) → OpensFar A.restarts A.steps t view }
 {}

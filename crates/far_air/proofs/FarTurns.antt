@@ -8,17 +8,17 @@ use Rattle.nfc_base.specs.declared.event.Fate.TheVariants.{Pass, Damage, Lose, B
 use Rattle.nfc_base.specs.declared.event.Heard.{Heard}
 use Rattle.air_core.specs.Joint.{Joint, Nothing, Single, Clashing, joint}
 use Rattle.air_core.specs.World.{Machine, World, reset_by, dark}
-use Rattle.air_core.specs.Conversation.{Moment, Note, note, Next, Going, first_fate, later_fates, joint_events, joint_back, turn_events, turn_heard, with_events}
+use Rattle.air_core.specs.Conversation.{Moment, Note, Next, first_fate, later_fates, joint_events, joint_back, turn_events, turn_heard, with_events}
 use Rattle.air_core.specs.Turn.{Air, world, moment, after_event, brought, Passes, TurnBy, TurnIs}
 use Rattle.air_core.specs.Turning.{events-append, going_start, going_turn, going_then}
 use Rattle.air_core.specs.Speaking.{DueTurns}
-use Rattle.nfc_base.specs.Choosing.{later_numbers}
+use Rattle.nfc_base.specs.Choosing.{Choosing}
 use Rattle.far_air.specs.FarEnds.{FarTable}
-use Rattle.far_air.specs.FarWorld.{FarWorld, AllMet, far_air, all_meet}
-use Rattle.far_air.specs.FarLaws.{IsFarTable, IsLinked, IsOfTable, with_far, BeginBy, behind_all, shown, seen, seen_at}
+use Rattle.far_air.specs.FarWorld.{FarWorld, AllMet, far_air}
+use Rattle.far_air.specs.FarLaws.{IsFarTable, IsLinked, IsOfTable, with_far, shown, seen, seen_at, seen_with}
 use Rattle.far_air.specs.FarTurns.{QuietBut, FarTurn, FarTurns, FarResets, FarGoing, FarGoesOn, FarGoesThen, AllQuietBut, SpeaksFar}
 use Rattle.far_air.proofs.Showing.{shown_dark, shown_reset}
-use Rattle.far_air.proofs.Meeting.{AllTake, all_take, met_at}
+use Rattle.far_air.proofs.Meeting.{all_met, meet_at, met_at}
 
 module _ {L F : Type 0} (m : Machine L) (linked : L → Bool) (t : FarTable F) (links : IsLinked m linked) (laws : IsFarTable t) where
   -- what comes back
@@ -36,83 +36,65 @@ module _ {L F : Type 0} (m : Machine L) (linked : L → Bool) (t : FarTable F) (
   back_seen a (Clashing g) Break os ns =
       ap (λ z. record { world = record { field = dark m (world a); fars = z; numbers = ns }; queue = later_fates a.fates; trace = a.trace ++ Clash g Break ∷ [] }) (sym (shown_dark m linked t links laws a.listeners os))
 
-  module _ {A : Type 0} (restarts : A → List ℕ → A → Type 0) (steps : A → List ℕ → List ℕ → A → Type 0) (view : A → F) (kind : IsOfTable restarts steps t view)
+  module _ {A : Type 0} (restarts : A → List ℕ → A → Type 0) (steps : A → List ℕ → List ℕ → A → Type 0) (view : A → Choosing F) (kind : IsOfTable restarts steps t view)
       (old new : Air L) (f : Signal) (heard : Option Heard) (far after : A) (place : ℕ) (os : List (Option F)) where
-    abbrev before_at : List ℕ → Moment (FarWorld L F)
-    before_at ns = seen_at linked t (moment old) (with_far os place (view far)) ns
+    abbrev at : Air L → A → Moment (FarWorld L F)
+    at a z = seen_with linked t (moment a) os place (view z)
 
-    abbrev after_at : List ℕ → Moment (FarWorld L F)
-    after_at ns = seen_at linked t (moment new) (with_far os place (view after)) ns
+    abbrev before_turn : Moment (FarWorld L F)
+    before_turn = at old far
 
     abbrev ByFate : Fate → Type 0
-    ByFate x = (taken : List ℕ) × ((ns : List ℕ) → BeginBy taken ns
-        → (after_at (behind_all taken ns) ≡ with_events (far_air m linked t) (before_at ns) (turn_events (far_air m linked t) (before_at ns).world f x (first_fate (later_fates old.fates))))
-        × (heard ≡ turn_heard (far_air m linked t) (before_at ns).world f x (first_fate (later_fates old.fates))))
+    ByFate x =
+        (at new after ≡ with_events (far_air m linked t) before_turn (turn_events (far_air m linked t) before_turn.world f x (first_fate (later_fates old.fates))))
+        × (heard ≡ turn_heard (far_air m linked t) before_turn.world f x (first_fate (later_fates old.fates)))
 
     passes_far : old.lit ≡ true → QuietBut m f place old.listeners → Passes m restarts steps old f far heard new after → ByFate Pass
     passes_far lit q p =
         let y : Fate = first_fate (later_fates old.fates) in
         let j : Joint = joint p.answers in
+        let c : Choosing F = view after in
         let mid : Air L = after_event old (Request f Pass) (later_fates old.fates) (record { lit = true; listeners = p.listeners }) in
-        let all : AllTake m linked t links laws restarts steps view kind f old.listeners far p.answers p.listeners after place os =
-        all_take m linked t links laws restarts steps view kind f place old.listeners os far p.answers p.listeners after q p.all in (
-          all.taken,
-          λ ns b.
-              let k : List ℕ = behind_all all.taken ns in
-              let met : all_meet m linked t f old.listeners (shown linked t old.listeners (with_far os place (view far))) ns ≡ met_at m linked t links laws restarts steps view kind p.listeners p.answers os place (view after) k = all.is ns b in
-              let joins : joint (all_meet m linked t f old.listeners (shown linked t old.listeners (with_far os place (view far))) ns).answers ≡ j = ap (λ (z : AllMet L F). joint z.answers) met in
-              let reached : with_events (far_air m linked t) (before_at ns) (Request f Pass ∷ []) ≡ seen_at linked t (moment mid) (with_far os place (view after)) k =
-              ap (λ (z : AllMet L F). record {
-                world = record { field = record { lit = old.lit; listeners = z.listeners }; fars = z.fars; numbers = z.numbers };
-                queue = later_fates old.fates;
-                trace = old.trace ++ Request f Pass ∷ [];
-              }) met
-              ∙ ap (λ v. record {
-                world = record { field = record { lit = v; listeners = p.listeners }; fars = shown linked t p.listeners (with_far os place (view after)); numbers = k };
-                queue = later_fates old.fates;
-                trace = old.trace ++ Request f Pass ∷ [];
-              }) lit in (
-                ap (λ a. seen_at linked t (moment a) (with_far os place (view after)) k) p.left
-                    ∙ back_seen mid j y (with_far os place (view after)) k
-                    ∙ ap (λ a. with_events (far_air m linked t) a (joint_events j y)) (sym reached)
-                    ∙ events-append (far_air m linked t) (before_at ns) (Request f Pass ∷ []) (joint_events j y)
-                    ∙ ap (λ z. with_events (far_air m linked t) (before_at ns) (Request f Pass ∷ joint_events z y)) (sym joins),
-                p.back ∙ ap (λ z. heard_by Pass (joint_back z y)) (sym joins),
-              ),
+        let met : meet_at m linked t links laws restarts steps view kind f old.listeners os place (view far) ≡ met_at m linked t links laws restarts steps view kind p.listeners p.answers os place c =
+        all_met m linked t links laws restarts steps view kind f place old.listeners os far p.answers p.listeners after q p.all in
+        let joins : joint (meet_at m linked t links laws restarts steps view kind f old.listeners os place (view far)).answers ≡ j = ap (λ (z : AllMet L F). joint z.answers) met in
+        let reached : with_events (far_air m linked t) before_turn (Request f Pass ∷ []) ≡ at mid after =
+        ap (λ (z : AllMet L F). record {
+          world = record { field = record { lit = old.lit; listeners = z.listeners }; fars = z.fars; numbers = z.numbers };
+          queue = later_fates old.fates;
+          trace = old.trace ++ Request f Pass ∷ [];
+        }) met
+        ∙ ap (λ v. record {
+          world = record { field = record { lit = v; listeners = p.listeners }; fars = shown linked t p.listeners (with_far os place c.end); numbers = c.numbers };
+          queue = later_fates old.fates;
+          trace = old.trace ++ Request f Pass ∷ [];
+        }) lit in (
+          ap (λ a. at a after) p.left
+              ∙ back_seen mid j y (with_far os place c.end) c.numbers
+              ∙ ap (λ a. with_events (far_air m linked t) a (joint_events j y)) (sym reached)
+              ∙ events-append (far_air m linked t) before_turn (Request f Pass ∷ []) (joint_events j y)
+              ∙ ap (λ z. with_events (far_air m linked t) before_turn (Request f Pass ∷ joint_events z y)) (sym joins),
+          p.back ∙ ap (λ z. heard_by Pass (joint_back z y)) (sym joins),
         )
 
     turn_far : (x : Fate) → old.lit ≡ true → QuietBut m f place old.listeners → TurnBy m restarts steps x old f far heard new after → ByFate x
     turn_far Pass lit q p = passes_far lit q p
-    turn_far Damage lit q p = (
-      [],
-      λ ns b. (
-        ap (λ a. seen_at linked t (moment a) (with_far os place (view after)) ns) p.left ∙ ap (λ z. seen_at linked t (moment (after_event old (Request f Damage) (later_fates old.fates) (world old))) (with_far os place (view z)) ns) p.same,
-        p.back,
-      ),
-    )
-    turn_far Lose lit q p = (
-      [],
-      λ ns b. (
-        ap (λ a. seen_at linked t (moment a) (with_far os place (view after)) ns) p.left ∙ ap (λ z. seen_at linked t (moment (after_event old (Request f Lose) (later_fates old.fates) (world old))) (with_far os place (view z)) ns) p.same,
-        p.back,
-      ),
-    )
+    turn_far Damage lit q p = (ap (λ a. at a after) p.left ∙ ap (at (after_event old (Request f Damage) (later_fates old.fates) (world old))) p.same, p.back)
+    turn_far Lose lit q p = (ap (λ a. at a after) p.left ∙ ap (at (after_event old (Request f Lose) (later_fates old.fates) (world old))) p.same, p.back)
     turn_far Break lit q p = (
-      [],
-      λ ns b. (
-        ap (λ a. seen_at linked t (moment a) (with_far os place (view after)) ns) p.left
-            ∙ ap (λ z. seen_at linked t (moment (after_event old (Request f Break) (later_fates old.fates) (dark m (world old)))) (with_far os place (view z)) ns) p.same
-            ∙ ap (λ z. record { world = record { field = dark m (world old); fars = z; numbers = ns }; queue = later_fates old.fates; trace = old.trace ++ Request f Break ∷ [] }) (sym (shown_dark m linked t links laws old.listeners (with_far os place (view far)))),
-        p.back,
-      ),
+      ap (λ a. at a after) p.left
+          ∙ ap (at (after_event old (Request f Break) (later_fates old.fates) (dark m (world old)))) p.same
+          ∙ ap (λ z. record { world = record { field = dark m (world old); fars = z; numbers = (view far).numbers }; queue = later_fates old.fates; trace = old.trace ++ Request f Break ∷ [] })
+          (sym (shown_dark m linked t links laws old.listeners (with_far os place (view far).end))),
+      p.back,
     )
 
     pub far_turn : QuietBut m f place old.listeners → TurnIs m restarts steps old f far heard new after → FarTurn m linked t (moment old) (moment new) f heard place os (view far) (view after)
     far_turn q turn =
         let k : ByFate (first_fate old.fates) = turn_far (first_fate old.fates) turn.lit q turn.by in
-        record { taken = k.0; turn = λ ns b. record { lit = turn.lit; moment = (k.1 ns b).0; heard = (k.1 ns b).1 } }
+        record { lit = turn.lit; moment = k.0; heard = k.1 }
 
-pub far_turns : {L F A : Type 0} (m : Machine L) (linked : L → Bool) (t : FarTable F) (restarts : A → List ℕ → A → Type 0) (steps : A → List ℕ → List ℕ → A → Type 0) (view : A → F)
+pub far_turns : {L F A : Type 0} (m : Machine L) (linked : L → Bool) (t : FarTable F) (restarts : A → List ℕ → A → Type 0) (steps : A → List ℕ → List ℕ → A → Type 0) (view : A → Choosing F)
     → FarTurns m linked t restarts steps view
 far_turns m linked t restarts steps view links laws kind old new f heard far after place os q turn =
     far_turn m linked t links laws restarts steps view kind old new f heard far after place os q turn
@@ -121,46 +103,22 @@ pub far_resets : {L F : Type 0} (m : Machine L) (linked : L → Bool) (t : FarTa
 far_resets m linked t links laws a os ns =
     ap (λ z. record { world = record { field = reset_by m a.world; fars = z; numbers = ns }; queue = a.queue; trace = a.trace ++ Reset ∷ [] }) (shown_reset m linked t links laws a.world.listeners os)
 
--- numbers of one part of a command, and then of another
-begin_front : (xs ys ns : List ℕ) → BeginBy (xs ++ ys) ns → BeginBy xs ns
-begin_front [] ys ns b = tt
-begin_front (x ∷ xs) ys ns b = (b.0, begin_front xs ys (later_numbers ns) b.1)
-
-begin_later : (xs ys ns : List ℕ) → BeginBy (xs ++ ys) ns → BeginBy ys (behind_all xs ns)
-begin_later [] ys ns b = b
-begin_later (x ∷ xs) ys ns b = begin_later xs ys (later_numbers ns) b.1
-
-behind_both : (xs ys ns : List ℕ) → behind_all (xs ++ ys) ns ≡ behind_all ys (behind_all xs ns)
-behind_both [] ys ns = refl
-behind_both (x ∷ xs) ys ns = behind_both xs ys (later_numbers ns)
-
 module _ {L F : Type 0} (m : Machine L) (linked : L → Bool) (t : FarTable F) where
+  abbrev at_place : Moment (World L) → List (Option F) → ℕ → Choosing F → Moment (FarWorld L F)
+  at_place a os place far = seen_with linked t a os place far
+
   pub far_goes_on : FarGoesOn m linked t
-  far_goes_on next old mid new f heard notes place os far half after g due turn = record {
-    taken = g.taken ++ turn.taken;
-    going = λ ns b.
-        let k : List ℕ = behind_all g.taken ns in
-        let P : List ℕ → Type 0 = λ z. Going (far_air m linked t) next (seen_at linked t old (with_far os place far) ns) (seen_at linked t new (with_far os place after) z) (notes ++ note heard ∷ []) in
-        subst P (sym (behind_both g.taken turn.taken ns))
-        (going_turn (far_air m linked t) next (seen_at linked t old (with_far os place far) ns) (seen_at linked t mid (with_far os place half) k) (seen_at linked t new (with_far os place after) (behind_all turn.taken k))
-        f heard notes (g.going ns (begin_front g.taken turn.taken ns b)) due (turn.turn k (begin_later g.taken turn.taken ns b)));
-  }
+  far_goes_on next old mid new f heard notes place os far half after g due turn =
+      going_turn (far_air m linked t) next (at_place old os place far) (at_place mid os place half) (at_place new os place after) f heard notes g due turn
 
   pub far_goes_then : FarGoesThen m linked t
-  far_goes_then next first second old mid new notes more place os far half after one two g h = record {
-    taken = g.taken ++ h.taken;
-    going = λ ns b.
-        let k : List ℕ = behind_all g.taken ns in
-        let P : List ℕ → Type 0 = λ z. Going (far_air m linked t) next (seen_at linked t old (with_far os place far) ns) (seen_at linked t new (with_far os place after) z) (notes ++ more) in
-        subst P (sym (behind_both g.taken h.taken ns))
-        (going_then (far_air m linked t) next first second (seen_at linked t old (with_far os place far) ns) (seen_at linked t mid (with_far os place half) k) (seen_at linked t new (with_far os place after) (behind_all h.taken k))
-        notes more one two (g.going ns (begin_front g.taken h.taken ns b)) (h.going k (begin_later g.taken h.taken ns b)));
-  }
+  far_goes_then next first second old mid new notes more place os far half after one two g h =
+      going_then (far_air m linked t) next first second (at_place old os place far) (at_place mid os place half) (at_place new os place after) notes more one two g h
 
-  far_starts : (next : List Note → Next) (a : Moment (World L)) (place : ℕ) (os : List (Option F)) (far : F) → FarGoing m linked t next a a [] place os far far
-  far_starts next a place os far = record { taken = []; going = λ ns b. going_start (far_air m linked t) next (seen_at linked t a (with_far os place far) ns) }
+  far_starts : (next : List Note → Next) (a : Moment (World L)) (place : ℕ) (os : List (Option F)) (far : Choosing F) → FarGoing m linked t next a a [] place os far far
+  far_starts next a place os far = going_start (far_air m linked t) next (at_place a os place far)
 
-  module _ (links : IsLinked m linked) (laws : IsFarTable t) {A : Type 0} (restarts : A → List ℕ → A → Type 0) (steps : A → List ℕ → List ℕ → A → Type 0) (view : A → F) (kind : IsOfTable restarts steps t view)
+  module _ (links : IsLinked m linked) (laws : IsFarTable t) {A : Type 0} (restarts : A → List ℕ → A → Type 0) (steps : A → List ℕ → List ℕ → A → Type 0) (view : A → Choosing F) (kind : IsOfTable restarts steps t view)
       (next : List Note → Next) (place : ℕ) (os : List (Option F)) (old : Air L) (far : A) where
     speaks_on : (ns seen : List Note) (mid : Air L) (half : A) (new : Air L) (after : A)
         → FarGoing m linked t next (moment old) (moment mid) seen place os (view far) (view half)
@@ -179,7 +137,7 @@ module _ {L F : Type 0} (m : Machine L) (linked : L → Bool) (t : FarTable F) w
         let Q : List Note → Type 0 = λ z. FarGoing m linked t next (moment old) (moment new) z place os (view far) (view after) in
         subst Q (append_assoc seen (n ∷ []) ns) (speaks_on ns (seen ++ n ∷ []) to far_to new after k rest q.1)
 
-pub speaks_far : {L F A : Type 0} (m : Machine L) (linked : L → Bool) (t : FarTable F) (restarts : A → List ℕ → A → Type 0) (steps : A → List ℕ → List ℕ → A → Type 0) (next : List Note → Next) (place : ℕ) (view : A → F)
+pub speaks_far : {L F A : Type 0} (m : Machine L) (linked : L → Bool) (t : FarTable F) (restarts : A → List ℕ → A → Type 0) (steps : A → List ℕ → List ℕ → A → Type 0) (next : List Note → Next) (place : ℕ) (view : A → Choosing F)
     → SpeaksFar m linked t restarts steps next place view
 speaks_far m linked t restarts steps next place view links laws kind old new far after notes s q os =
     speaks_on m linked t links laws restarts steps view kind next place os old far notes [] old far new after (far_starts m linked t next (moment old) place os (view far)) s.turns q

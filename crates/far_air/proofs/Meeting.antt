@@ -8,10 +8,10 @@ use Rattle.air_core.specs.World.{Machine, hears, hands_over, answered_by, steppe
 use Rattle.air_core.specs.Listening.{Step}
 use Rattle.air_core.specs.Turn.{Meets, HearAll}
 use Rattle.air_core.specs.Quiet.{EachQuiet}
-use Rattle.nfc_base.specs.Choosing.{first_number}
+use Rattle.nfc_base.specs.Choosing.{Choosing, first_number}
 use Rattle.far_air.specs.FarEnds.{FarTable, numbers_left, first_far, later_fars, reply_to, moved, by_link}
 use Rattle.far_air.specs.FarWorld.{AllMet, met_first, reply_at, device_after, far_after, all_meet}
-use Rattle.far_air.specs.FarLaws.{IsFarTable, IsLinked, IsOfTable, with_far, BeginBy, behind_all, shown}
+use Rattle.far_air.specs.FarLaws.{IsFarTable, IsLinked, IsOfTable, with_far, shown}
 use Rattle.far_air.specs.FarTurns.{QuietBut}
 use Rattle.far_air.proofs.Showing.{link_kept, stepped_unlinked}
 
@@ -110,21 +110,26 @@ module _ {L F : Type 0} (m : Machine L) (linked : L → Bool) (t : FarTable F) (
           rest.2 ∙ one.0,
         )
 
-    module _ (view : A → F) (kind : IsOfTable restarts steps t view) where
-      -- a device whose far end is the code's meets a frame
-      pub record OneMet (l : L) (f : Signal) (far : A) (answer : Option Signal) (l' : L) (mid : A) (ns taken : List ℕ) : Type 0 where
-        pub device : device_after m linked t l f (by_link t (linked l) (Some (view far))) ns ≡ l'
-        pub far_is : far_after m linked t l f (by_link t (linked l) (Some (view far))) ns ≡ by_link t (linked l') (Some (view mid))
-        pub says : answered_by m l f (reply_at m linked t l f (by_link t (linked l) (Some (view far))) ns) ≡ answer
-        pub numbers : numbers_left (reply_at m linked t l f (by_link t (linked l) (Some (view far))) ns) ns ≡ behind_all taken ns
+    module _ (view : A → Choosing F) (kind : IsOfTable restarts steps t view) where
+      -- the far end of a device of which the code's is this, as the world shows it
+      abbrev far_of : L → A → Option F
+      far_of l far = by_link t (linked l) (Some (view far).end)
 
-      one_met : (l : L) (f : Signal) (far : A) (answer : Option Signal) (l' : L) (mid : A) (ns taken : List ℕ) (u : FarUse) (reply : Option (List ℕ))
+      -- a device whose far end is the code's meets a frame
+      pub record OneMet (l : L) (f : Signal) (far : A) (answer : Option Signal) (l' : L) (mid : A) : Type 0 where
+        pub device : device_after m linked t l f (far_of l far) (view far).numbers ≡ l'
+        pub far_is : far_after m linked t l f (far_of l far) (view far).numbers ≡ far_of l' mid
+        pub says : answered_by m l f (reply_at m linked t l f (far_of l far) (view far).numbers) ≡ answer
+        pub numbers : numbers_left (reply_at m linked t l f (far_of l far) (view far).numbers) (view far).numbers ≡ (view mid).numbers
+
+      one_met : (l : L) (f : Signal) (far : A) (answer : Option Signal) (l' : L) (mid : A) (u : FarUse) (reply : Option (List ℕ))
           → hands_over m l f ≡ u → answer ≡ answered_by m l f reply → l' ≡ stepped_by m l f reply
-          → reply_to t u (by_link t (linked l) (Some (view far))) (first_number ns) ≡ reply
-          → by_link t (linked l') (moved t u (by_link t (linked l) (Some (view far))) (first_number ns)) ≡ by_link t (linked l') (Some (view mid))
-          → numbers_left reply ns ≡ behind_all taken ns → OneMet l f far answer l' mid ns taken
-      one_met l f far answer l' mid ns taken u reply e says left k move n =
-          let o : Option F = by_link t (linked l) (Some (view far)) in
+          → reply_to t u (far_of l far) (first_number (view far).numbers) ≡ reply
+          → by_link t (linked l') (moved t u (far_of l far) (first_number (view far).numbers)) ≡ far_of l' mid
+          → numbers_left reply (view far).numbers ≡ (view mid).numbers → OneMet l f far answer l' mid
+      one_met l f far answer l' mid u reply e says left k move n =
+          let ns : List ℕ = (view far).numbers in
+          let o : Option F = far_of l far in
           let r : reply_at m linked t l f o ns ≡ reply = ap (λ z. reply_to t z o (first_number ns)) e ∙ k in
           let d : device_after m linked t l f o ns ≡ l' = ap (stepped_by m l f) r ∙ sym left in
           record {
@@ -149,85 +154,58 @@ module _ {L F : Type 0} (m : Machine L) (linked : L → Bool) (t : FarTable F) (
           by_hearing true e = e
           by_hearing false e = absurd cc
 
-      pub record OneTakes (l : L) (f : Signal) (far : A) (answer : Option Signal) (l' : L) (mid : A) : Type 0 where
-        pub taken : List ℕ
-        pub is : (ns : List ℕ) → BeginBy taken ns → OneMet l f far answer l' mid ns taken
-
       one_by : (l : L) (f : Signal) (far : A) (answer : Option Signal) (l' : L) (mid : A) (u : FarUse) → hands_over m l f ≡ u
-          → Step restarts steps u (answered_by m l f) (stepped_by m l f) far answer l' mid → OneTakes l f far answer l' mid
+          → Step restarts steps u (answered_by m l f) (stepped_by m l f) far answer l' mid → OneMet l f far answer l' mid
       one_by l f far answer l' mid Untouched e s =
           let left : l' ≡ stepped_by m l f None = s.left ∙ ap (stepped_by m l f) s.far.1 in
           let stays : linked l ≡ false → linked l' ≡ false = λ v. ap linked left ∙ stepped_unlinked m linked t links laws l f e v in
-          record {
-            taken = [];
-            is = λ ns b. one_met l f far answer l' mid ns [] Untouched s.reply e s.says s.left (sym s.far.1)
-                (link_kept t laws (linked l) (linked l') (Some (view far)) stays ∙ ap (λ z. by_link t (linked l') (Some (view z))) (sym s.far.0))
-                (ap (λ z. numbers_left z ns) s.far.1);
-          }
-      one_by l f far answer l' mid (Restarts general) e s = record {
-        taken = [];
-        is = λ ns b. one_met l f far answer l' mid ns [] (Restarts general) s.reply e s.says s.left (sym s.far.1)
-            (ap (by_link t (linked l')) (restarted_shown (linked l) (view far) general (first_number ns) ∙ ap (λ z. Some z) (sym (kind.restart far general mid s.far.0))))
-            (ap (λ z. numbers_left z ns) s.far.1);
-      }
+          one_met l f far answer l' mid Untouched s.reply e s.says s.left (sym s.far.1)
+          (link_kept t laws (linked l) (linked l') (Some (view far).end) stays ∙ ap (far_of l') (sym s.far.0))
+          (ap (λ z. numbers_left z (view far).numbers) s.far.1 ∙ ap (λ z. (view z).numbers) (sym s.far.0))
+      one_by l f far answer l' mid (Restarts general) e s =
+          let k = sym (kind.restart far general mid s.far.0) in
+          one_met l f far answer l' mid (Restarts general) s.reply e s.says s.left (sym s.far.1)
+          (ap (by_link t (linked l')) (restarted_shown (linked l) (view far).end general (first_number (view far).numbers) ∙ ap (λ (z : Choosing F). Some z.end) k))
+          (ap (λ z. numbers_left z (view far).numbers) s.far.1 ∙ ap (λ (z : Choosing F). z.numbers) k)
       one_by l f far answer l' mid (Hands payload) e s =
-          let r : List ℕ = s.far.0 in
-          let k = kind.step far payload r mid s.far.1 in
+          let n : ℕ = first_number (view far).numbers in
+          let k = sym (kind.left far payload s.far.0 mid s.far.1) in
           let has : linked l ≡ true = links.hands l f payload (hears_payload l f payload e) in
-          let whole : by_link t (linked l) (Some (view far)) ≡ Some (view far) = whole_shown (linked l) (Some (view far)) has in
-          record {
-            taken = k.0 ∷ [];
-            is = λ ns b. one_met l f far answer l' mid ns (k.0 ∷ []) (Hands payload) s.reply e s.says s.left
-                (ap (λ z. reply_to t (Hands payload) z (first_number ns)) whole ∙ ap (λ n. Some (t.reply (view far) payload n)) b.0 ∙ ap (λ z. Some z) (sym k.1) ∙ sym s.far.3)
-                (ap (λ z. by_link t (linked l') (moved t (Hands payload) z (first_number ns))) whole
-                ∙ ap (λ n. by_link t (linked l') (Some (t.left (view far) payload n))) b.0 ∙ ap (λ z. by_link t (linked l') (Some z)) (sym k.2))
-                (ap (λ z. numbers_left z ns) s.far.3);
-          }
+          let whole : far_of l far ≡ Some (view far).end = whole_shown (linked l) (Some (view far).end) has in
+          one_met l f far answer l' mid (Hands payload) s.reply e s.says s.left
+          (ap (λ z. reply_to t (Hands payload) z n) whole ∙ ap (λ z. Some z) (sym (kind.reply far payload s.far.0 mid s.far.1)) ∙ sym s.far.3)
+          (ap (λ z. by_link t (linked l') (moved t (Hands payload) z n)) whole ∙ ap (λ (z : Choosing F). by_link t (linked l') (Some z.end)) k)
+          (ap (λ z. numbers_left z (view far).numbers) s.far.3 ∙ ap (λ (z : Choosing F). z.numbers) k)
 
-      -- all devices have met the frame, the one at that place over the code's far end
-      abbrev pub met_at : List L → List Signal → List (Option F) → ℕ → F → List ℕ → AllMet L F
-      met_at ls said os place a ns = record { listeners = ls; fars = shown linked t ls (with_far os place a); answers = said; numbers = ns }
+      -- devices before a frame meet it, the one at that place over the code's far end
+      abbrev pub meet_at : Signal → List L → List (Option F) → ℕ → Choosing F → AllMet L F
+      meet_at f ls os place a = all_meet m linked t f ls (shown linked t ls (with_far os place a.end)) a.numbers
 
-      pub record AllTake (f : Signal) (ls : List L) (far : A) (said : List Signal) (ls' : List L) (far' : A) (place : ℕ) (os : List (Option F)) : Type 0 where
-        pub taken : List ℕ
-        pub is : (ns : List ℕ) → BeginBy taken ns
-            → all_meet m linked t f ls (shown linked t ls (with_far os place (view far))) ns ≡ met_at ls' said os place (view far') (behind_all taken ns)
+      -- all of them have met it
+      abbrev pub met_at : List L → List Signal → List (Option F) → ℕ → Choosing F → AllMet L F
+      met_at ls said os place a = record { listeners = ls; fars = shown linked t ls (with_far os place a.end); answers = said; numbers = a.numbers }
 
-      pub all_take : (f : Signal) (place : ℕ) (ls : List L) (os : List (Option F)) (far : A) (said : List Signal) (ls' : List L) (far' : A)
-          → QuietBut m f place ls → HearAll m restarts steps f ls far said ls' far' → AllTake f ls far said ls' far' place os
-      all_take f place [] os far said ls' far' q h = record {
-        taken = [];
-        is = λ ns b. ap (λ z. met_at z [] os place (view far) ns) (sym h.1) ∙ ap (λ z. met_at ls' z os place (view far) ns) (sym h.0)
-            ∙ ap (λ z. met_at ls' said os place (view z) ns) (sym h.2);
-      }
-      all_take f zero (l ∷ ls) os far said ls' far' q h =
-          let one : OneTakes l f far h.0 h.2 h.3 = one_by l f far h.0 h.2 h.3 (hands_over m l f) refl h.5 in
+      pub all_met : (f : Signal) (place : ℕ) (ls : List L) (os : List (Option F)) (far : A) (said : List Signal) (ls' : List L) (far' : A)
+          → QuietBut m f place ls → HearAll m restarts steps f ls far said ls' far' → meet_at f ls os place (view far) ≡ met_at ls' said os place (view far')
+      all_met f place [] os far said ls' far' q h =
+          ap (λ z. met_at z [] os place (view far)) (sym h.1) ∙ ap (λ z. met_at ls' z os place (view far)) (sym h.0) ∙ ap (λ z. met_at ls' said os place (view z)) (sym h.2)
+      all_met f zero (l ∷ ls) os far said ls' far' q h =
+          let one : OneMet l f far h.0 h.2 h.3 = one_by l f far h.0 h.2 h.3 (hands_over m l f) refl h.5 in
           let rest = heard_quietly f ls h.3 h.1 h.4 far' q h.6 in
-          record {
-            taken = one.taken;
-            is = λ ns b.
-                let k : OneMet l f far h.0 h.2 h.3 ns one.taken = one.is ns b in
-                let n : List ℕ = behind_all one.taken ns in
-                met_same _ _ _ _ _ _ _ _ k.device k.far_is k.says
-                (ap (all_meet m linked t f ls (shown linked t ls (later_fars os))) k.numbers ∙ meets_quietly f ls (later_fars os) n q)
-                ∙ ap (λ z. met_first h.2 (by_link t (linked h.2) (Some (view h.3))) h.0 (record { listeners = z; fars = shown linked t z (later_fars os); answers = filter_map (λ x. answered_by m x f None) ls; numbers = n })) (sym rest.1)
-                ∙ ap (λ z. met_first h.2 (by_link t (linked h.2) (Some (view h.3))) h.0 (record { listeners = h.4; fars = shown linked t h.4 (later_fars os); answers = z; numbers = n })) (sym rest.0)
-                ∙ ap (λ z. met_first h.2 (by_link t (linked h.2) (Some (view z))) h.0 (record { listeners = h.4; fars = shown linked t h.4 (later_fars os); answers = h.1; numbers = n })) (sym rest.2)
-                ∙ ap (λ z. met_at z (cons_option h.0 h.1) os zero (view far') n) (sym h.8) ∙ ap (λ z. met_at ls' z os zero (view far') n) (sym h.7);
-          }
-      all_take f (suc place) (l ∷ ls) os far said ls' far' q h =
+          let n : List ℕ = (view h.3).numbers in
+          met_same _ _ _ _ _ _ _ _ one.device one.far_is one.says
+          (ap (all_meet m linked t f ls (shown linked t ls (later_fars os))) one.numbers ∙ meets_quietly f ls (later_fars os) n q)
+          ∙ ap (λ z. met_first h.2 (far_of h.2 h.3) h.0 (record { listeners = z; fars = shown linked t z (later_fars os); answers = filter_map (λ x. answered_by m x f None) ls; numbers = n })) (sym rest.1)
+          ∙ ap (λ z. met_first h.2 (far_of h.2 h.3) h.0 (record { listeners = h.4; fars = shown linked t h.4 (later_fars os); answers = z; numbers = n })) (sym rest.0)
+          ∙ ap (λ z. met_at (h.2 ∷ h.4) (cons_option h.0 h.1) os zero (view z)) (sym rest.2)
+          ∙ ap (λ z. met_at z (cons_option h.0 h.1) os zero (view far')) (sym h.8) ∙ ap (λ z. met_at ls' z os zero (view far')) (sym h.7)
+      all_met f (suc place) (l ∷ ls) os far said ls' far' q h =
           let one = heard_alone f l far h.0 h.2 h.3 q.0 h.5 in
           let o : Option F = first_far os in
-          let rest : AllTake f ls h.3 h.1 h.4 far' place (later_fars os) = all_take f place ls (later_fars os) h.3 h.1 h.4 far' q.1 h.6 in
-          record {
-            taken = rest.taken;
-            is = λ ns b.
-                let k : OneQuiet l f o ns = one_quiet l f o ns q.0 in
-                let n : List ℕ = behind_all rest.taken ns in
-                met_same _ _ _ _ _ _ _ _ k.device k.far k.answer
-                (ap (all_meet m linked t f ls (shown linked t ls (with_far (later_fars os) place (view far)))) k.numbers
-                ∙ ap (λ z. all_meet m linked t f ls (shown linked t ls (with_far (later_fars os) place (view z))) ns) (sym one.0) ∙ rest.is ns b)
-                ∙ ap (λ z. met_first z (by_link t (linked z) o) (answered_by m l f None) (met_at h.4 h.1 (later_fars os) place (view far') n)) (sym one.2)
-                ∙ ap (λ z. met_first h.2 (by_link t (linked h.2) o) z (met_at h.4 h.1 (later_fars os) place (view far') n)) (sym one.1)
-                ∙ ap (λ z. met_at z (cons_option h.0 h.1) os (suc place) (view far') n) (sym h.8) ∙ ap (λ z. met_at ls' z os (suc place) (view far') n) (sym h.7);
-          }
+          let k : OneQuiet l f o (view far).numbers = one_quiet l f o (view far).numbers q.0 in
+          met_same _ _ _ _ _ _ _ _ k.device k.far k.answer
+          (ap (all_meet m linked t f ls (shown linked t ls (with_far (later_fars os) place (view far).end))) k.numbers
+          ∙ ap (λ z. meet_at f ls (later_fars os) place (view z)) (sym one.0) ∙ all_met f place ls (later_fars os) h.3 h.1 h.4 far' q.1 h.6)
+          ∙ ap (λ z. met_first z (by_link t (linked z) o) (answered_by m l f None) (met_at h.4 h.1 (later_fars os) place (view far'))) (sym one.2)
+          ∙ ap (λ z. met_first h.2 (by_link t (linked h.2) o) z (met_at h.4 h.1 (later_fars os) place (view far'))) (sym one.1)
+          ∙ ap (λ z. met_at z (cons_option h.0 h.1) os (suc place) (view far')) (sym h.8) ∙ ap (λ z. met_at ls' z os (suc place) (view far')) (sym h.7)

@@ -4,6 +4,7 @@ use Rattle.std.specs.Prelude.{map}
 use Rattle.std.specs.List.{AllByRecursion}
 use Rattle.nfc_base.specs.Signal.{Signal, whole_a}
 use Rattle.nfc_base.specs.Far.{FarUse, FarDid}
+use Rattle.nfc_base.specs.Choosing.{Choosing}
 use Rattle.nfc_base.specs.declared.frame.Tech.TheVariants.{A}
 use Rattle.nfc_base.specs.declared.event.Fate.{Fate}
 use Rattle.nfc_base.specs.declared.event.Fate.TheVariants.{Pass, Damage, Lose, Break}
@@ -101,7 +102,7 @@ module _ {L F E : Type 0} (k : Ghosts L) (laws : Laws k) (linked : L → Bool) (
       let z = aside_turns k laws restarts steps own place old mid f h far half (whole seen f due) a turn in
       (z.0, all_aside ns (seen ++ n ∷ []) mid half new after rest z.1)
 
-pub speaks_aside : {L F E : Type 0} (k : Ghosts L) → Laws k → (restarts : F → List ℕ → F → Type 0) (steps : F → List ℕ → List ℕ → F → Type 0) (linked : L → Bool) (t : FarTable E) (view : F → E)
+pub speaks_aside : {L F E : Type 0} (k : Ghosts L) → Laws k → (restarts : F → List ℕ → F → Type 0) (steps : F → List ℕ → List ℕ → F → Type 0) (linked : L → Bool) (t : FarTable E) (view : F → Choosing E)
     → SpeaksAside k restarts steps linked t view
 speaks_aside k laws restarts steps linked t view links fars kind next own place old new far after notes whole a s os =
     speaks_far k.machine linked t restarts steps next place view links fars kind old new far after notes s

@@ -1,6 +1,5 @@
 pub mod Back
 pub mod Walking
 pub mod Wholly
-pub mod OtherNumbers
 pub mod PeerEnds
 pub mod Aside

@@ -1,9 +1,10 @@
 -- An end of a link is a far end of the world.
-use Rattle.std.proofs.Common.{ap}
+use Rattle.std.proofs.Common.{ap, [], ◌∙◌}
+use Rattle.nfc_base.specs.Choosing.{Choosing, first_number}
 use Rattle.llcp_link.specs.Serving.{Serving}
-use Rattle.llcp_link.specs.State.{restarted_by}
+use Rattle.llcp_link.specs.State.{LlcState, restarted_by}
 use Rattle.llcp_pdu.specs.General.{general as read_general}
-use Rattle.peer_air.specs.Ends.{rested, AreFarEnds, EndsStep}
+use Rattle.peer_air.specs.Ends.{rested, ends, AreFarEnds, CountedStep, EndsStep}
 
 module _ {S : Type 0} (m : Serving S) where
   pub are_far_ends : AreFarEnds m
@@ -14,7 +15,18 @@ module _ {S : Type 0} (m : Serving S) where
   }
 
   pub ends_step : EndsStep m
-  ends_step = record {
+  ends_step =
+      let Shown : LlcState S → Choosing (LlcState S) = λ l. record { end = l; numbers = [] } in
+      record {
+        restart = λ a bytes b e. ap Shown e;
+        reply = λ a payload reply b s. s.gives.bytes_are;
+        left = λ a payload reply b s. ap Shown s.gives.left;
+      }
+
+  pub counted_step : CountedStep m
+  counted_step = record {
     restart = λ a bytes b e. e;
-    step = λ a payload reply b s. (s.gives.count, s.gives.bytes_are, s.gives.left);
+    reply = λ a payload reply b s. s.answers.gives.bytes_are;
+    left = λ a payload reply b s.
+        ap (λ l. record { end = l; numbers = b.numbers }) s.answers.gives.left ∙ ap (λ ns. record { end = (ends m).left a.end payload (first_number a.numbers); numbers = ns }) s.numbers;
   }

@@ -3,6 +3,7 @@ use Rattle.std.proofs.Common.{◌≡◌, ◌≤◌, ℕ, length, arith, List, []
 use Rattle.std.proofs.lemmas.List.{append_cancel_left}
 use Rattle.nfc_base.specs.Signal.{Signal}
 use Rattle.nfc_base.specs.Far.{FarUse, Untouched, Restarts, Hands}
+use Rattle.nfc_base.specs.Choosing.{Choosing, first_number, later_numbers}
 use Rattle.nfc_base.specs.Trace.{heard_by}
 use Rattle.nfc_base.specs.StopAndWait.{Deliver, Stage, Requests, stage_of, delivered_of}
 use Rattle.nfc_base.specs.LinkTurns.{GivenBy}
@@ -72,14 +73,15 @@ flag_given r out far None g = sym (ap (flagged out) g)
 flag_given r out far (Some q) g = sym (ap (flagged out) g.1)
 
 -- far ends by their table alone
-abbrev table_begins : {F : Type 0} → FarTable F → F → List ℕ → F → Type 0
-table_begins t a general b = b ≡ t.restarted a general
+abbrev table_begins : {F : Type 0} → FarTable F → Choosing F → List ℕ → Choosing F → Type 0
+table_begins t a general b = b ≡ record { end = t.restarted a.end general; numbers = a.numbers }
 
-abbrev table_steps : {F : Type 0} → FarTable F → F → List ℕ → List ℕ → F → Type 0
-table_steps t a payload reply b = (n : ℕ) × (reply ≡ t.reply a payload n) × (b ≡ t.left a payload n)
+abbrev pub table_steps : {F : Type 0} → FarTable F → Choosing F → List ℕ → List ℕ → Choosing F → Type 0
+table_steps t a payload reply b =
+    (reply ≡ t.reply a.end payload (first_number a.numbers)) × (b ≡ record { end = t.left a.end payload (first_number a.numbers); numbers = later_numbers a.numbers })
 
 table_kind : {F : Type 0} (t : FarTable F) → IsOfTable (table_begins t) (table_steps t) t (λ a. a)
-table_kind t = record { restart = λ a general b e. e; step = λ a payload reply b s. s }
+table_kind t = record { restart = λ a general b e. e; reply = λ a payload reply b s. s.0; left = λ a payload reply b s. s.1 }
 
 -- what a target hands over it delivers
 use_delivers : (d : TargetStep) (p : List ℕ) → target_use d ≡ Hands p → target_does d ≡ Deliver p
@@ -169,7 +171,7 @@ module _ {W : Type 0} (m : AirModel W) where
 
 module _ {L F : Type 0} (k : Ghosts L) (laws : Laws k) (target : L → TargetState) (linked : L → Bool) (t : FarTable F) (links : IsLinked k.machine linked) (fars : IsFarTable t)
     (old : Air L) (i0 : InitState) (out : List ℕ) (first : ℕ) (handed : List (List ℕ)) (arrived : List Signal) (p : HasPeer k target old i0 first handed arrived)
-    (r : List ℕ) (fits : length r ≤ limit) (v w : F) (os : List (Option F)) (all : List Event) where
+    (r : List ℕ) (fits : length r ≤ limit) (v w : Choosing F) (os : List (Option F)) (all : List Event) where
   abbrev pub N : List Note → Next
   N ns = dep_next i0 out ns
 
@@ -181,9 +183,9 @@ module _ {L F : Type 0} (k : Ghosts L) (laws : Laws k) (target : L → TargetSta
 
   -- that reply is one of the table, and leads from v to w
   abbrev pub Makes : Type 0
-  Makes = (n : ℕ) × (r ≡ t.reply v out n) × (w ≡ t.left v out n)
+  Makes = table_steps t v out r w
 
-  abbrev FarTo : F → Air L → List Note → Type 0
+  abbrev FarTo : Choosing F → Air L → List Note → Type 0
   FarTo a mid ns = FarGoing k.machine linked t N (moment old) (moment mid) ns p.place os v a
 
   -- what was done in the world with far ends, by whether the payload was handed over
@@ -291,7 +293,7 @@ module _ {L F : Type 0} (k : Ghosts L) (laws : Laws k) (target : L → TargetSta
         let g = given_far (tells r) false far out o.said o.along.world.given o.along.given in
         (d.0, flag_none r out far o.along.world.given g.0 (sym g.1 ∙ d.1))
 
-    turn_far : (a b : F) → DidBy (table_begins t) (table_steps t) x0 used r a b → FarTurn k.machine linked t (moment mid) (moment new) f h0 p.place os a b
+    turn_far : (a b : Choosing F) → DidBy (table_begins t) (table_steps t) x0 used r a b → FarTurn k.machine linked t (moment mid) (moment new) f h0 p.place os a b
     turn_far a b d =
         far_turns k.machine linked t (table_begins t) (table_steps t) (λ z. z) links fars (table_kind t) mid new f h0 a b p.place os quiet
         (turn_back k.machine r f (table_begins t) (table_steps t) alone.before last alone.behind first_quiet later_quiet mid a b o.lit alone.split d)
@@ -299,7 +301,7 @@ module _ {L F : Type 0} (k : Ghosts L) (laws : Laws k) (target : L → TargetSta
     abbrev later_notes : List Note
     later_notes = ns ++ note h0 ∷ []
 
-    so_on : (z : Bool) → So z mid ns → ((a : F) → FarTurn k.machine linked t (moment mid) (moment new) f h0 p.place os a a) → So z new later_notes
+    so_on : (z : Bool) → So z mid ns → ((a : Choosing F) → FarTurn k.machine linked t (moment mid) (moment new) f h0 p.place os a a) → So z new later_notes
     so_on false s go = far_goes_on k.machine linked t N (moment old) (moment mid) (moment new) f h0 ns p.place os v v v s due_now (go v)
     so_on true s go = λ makes. far_goes_on k.machine linked t N (moment old) (moment mid) (moment new) f h0 ns p.place os v w w (s makes) due_now (go w)
 
@@ -308,7 +310,7 @@ module _ {L F : Type 0} (k : Ghosts L) (laws : Laws k) (target : L → TargetSta
       told : DidBy begins (tells r) x u r far to
       so' : So to new later_notes
 
-    choose : (x : Fate) (u : FarUse) → ((a b : F) → DidBy (table_begins t) (table_steps t) x u r a b → FarTurn k.machine linked t (moment mid) (moment new) f h0 p.place os a b)
+    choose : (x : Fate) (u : FarUse) → ((a b : Choosing F) → DidBy (table_begins t) (table_steps t) x u r a b → FarTurn k.machine linked t (moment mid) (moment new) f h0 p.place os a b)
         → ((general : List ℕ) → u ≡ Restarts general → ⊥) → ((q : List ℕ) → u ≡ Hands q → (q ≡ out) × (far ≡ false)) → Chosen x u
     choose Pass Untouched go nobegin one = record { to = far; told = (refl, refl); so' = so_on far so (λ a. go a a (refl, refl)) }
     choose Pass (Restarts general) go nobegin one = absurd (nobegin general refl)
@@ -316,7 +318,7 @@ module _ {L F : Type 0} (k : Ghosts L) (laws : Laws k) (target : L → TargetSta
         let e = one q refl in
         let P : Bool → Type 0 = λ z. So z mid ns in
         let s : So false mid ns = subst P e.1 so in
-        let M : List ℕ → Type 0 = λ z. (n : ℕ) × (r ≡ t.reply v z n) × (w ≡ t.left v z n) in
+        let M : List ℕ → Type 0 = λ z. table_steps t v z r w in
         record {
           to = true;
           told = (r, (refl, refl), fits, refl);

@@ -1,6 +1,7 @@
 -- The turns of an exchange with a peer are turns of the world with far ends.
 use Rattle.std.proofs.Common.{◌≡◌, ◌≤◌, ℕ, suc, length, arith, List, [], ◌∷◌, ◌++◌, Bool, true, false, Option, Some, None, refl, sym, ◌∙◌, ap, subst, append-nil}
 use Rattle.std.proofs.lemmas.List.{append_cancel_left}
+use Rattle.nfc_base.specs.Choosing.{Choosing}
 use Rattle.nfc_base.specs.Signal.{Signal}
 use Rattle.nfc_base.specs.StopAndWait.{delivered_of}
 use Rattle.nfc_base.specs.LinkTurns as turns
@@ -26,10 +27,10 @@ use Rattle.dep_link.specs.DepLinks.{DepSeen, Swap, PeerOf, TurnsOf, Exchanged, S
 use Rattle.dep_link.proofs.SwapEnds.{first_here}
 use Rattle.far_air.specs.FarEnds.{FarTable}
 use Rattle.far_air.specs.FarWorld.{far_air}
-use Rattle.far_air.specs.FarLaws.{IsFarTable, IsLinked, IsOfTable, with_far, seen_at}
+use Rattle.far_air.specs.FarLaws.{IsFarTable, IsLinked, IsOfTable, seen_with}
 use Rattle.far_air.specs.FarTurns.{FarGoing}
 use Rattle.peer_air.specs.SwapTurns.{Stands, Gave, ExchangesFar, IsWhole, SwapTurn, SwapTurns, SwapFront, SwapsFar, StopsFar, AllFar, PeersStand, did_with, swaps_of}
-use Rattle.peer_air.proofs.Walking.{begins, tells, flagged, dark_none, So, End, walk}
+use Rattle.peer_air.proofs.Walking.{begins, tells, flagged, table_steps, dark_none, So, End, walk}
 
 -- the reply that an exchange is walked with
 abbrev reply_in : Option (List ℕ) → List ℕ
@@ -51,14 +52,14 @@ flag_some out true e = refl
 
 module _ {L F : Type 0} (k : Ghosts L) (laws : Laws k) (target : L → TargetState) (linked : L → Bool) (t : FarTable F) (links : IsLinked k.machine linked) (fars : IsFarTable t)
     (old new : Air L) (i : InitState) (first : ℕ) (handed : List (List ℕ)) (arrived : List Signal) (p : HasPeer k target old i first handed arrived) (out : List ℕ) (os : List (Option F)) where
-  far_starts : (place : ℕ) (v : F) → FarGoing k.machine linked t (dep_next i out) (moment old) (moment old) [] place os v v
-  far_starts place v = record { taken = []; going = λ ns b. going_start (far_air k.machine linked t) (dep_next i out) (seen_at linked t (moment old) (with_far os place v) ns) }
+  far_starts : (place : ℕ) (v : Choosing F) → FarGoing k.machine linked t (dep_next i out) (moment old) (moment old) [] place os v v
+  far_starts place v = going_start (far_air k.machine linked t) (dep_next i out) (seen_with linked t (moment old) os place v)
 
-  reply_fits : (given : Option (List ℕ)) (v w : F) → Gave k target linked t out given v w → length (reply_in given) ≤ limit
+  reply_fits : (given : Option (List ℕ)) (v w : Choosing F) → Gave k target linked t out given v w → length (reply_in given) ≤ limit
   reply_fits None v w g = omega arith
-  reply_fits (Some r) v w g = g.3
+  reply_fits (Some r) v w g = g.2
 
-  module _ (given : Option (List ℕ)) (s : Standing) (x : ExchangeTurns k target old new p.listener i first handed arrived out given s) (v w : F) (g : Gave k target linked t out given v w) where
+  module _ (given : Option (List ℕ)) (s : Standing) (x : ExchangeTurns k target old new p.listener i first handed arrived out given s) (v w : Choosing F) (g : Gave k target linked t out given v w) where
     abbrev r : List ℕ
     r = reply_in given
 
@@ -77,13 +78,13 @@ module _ {L F : Type 0} (k : Ghosts L) (laws : Laws k) (target : L → TargetSta
     abbrev Ends : Type 0
     Ends = End k laws target linked t links fars old i out first handed arrived p r fits v w os all
 
-    abbrev FarTo : F → Moment (World L) → List Note → Type 0
+    abbrev FarTo : Choosing F → Moment (World L) → List Note → Type 0
     FarTo a m ns = FarGoing k.machine linked t (dep_next i out) (moment old) m ns p.place os v a
 
     gave_by : (given' : Option (List ℕ)) → Gave k target linked t out given' v w → (far : Bool) → flagged out far ≡ delivered_of out given' → (m : Moment (World L)) (ns : List Note)
-        → (far ≡ false → FarTo v m ns) → (far ≡ true → (n : ℕ) × (reply_in given' ≡ t.reply v out n) × (w ≡ t.left v out n) → FarTo w m ns) → FarTo w m ns
-    gave_by None g far e m ns no_reply some = let P : F → Type 0 = λ z. FarTo z m ns in subst P (sym g) (no_reply (flag_none out far e))
-    gave_by (Some q) g far e m ns no_reply some = some (flag_some out far e) (g.0, g.1, g.2)
+        → (far ≡ false → FarTo v m ns) → (far ≡ true → table_steps t v out (reply_in given') w → FarTo w m ns) → FarTo w m ns
+    gave_by None g far e m ns no_reply some = let P : Choosing F → Type 0 = λ z. FarTo z m ns in subst P (sym g) (no_reply (flag_none out far e))
+    gave_by (Some q) g far e m ns no_reply some = some (flag_some out far e) (g.0, g.1)
 
     gave_none : (given' : Option (List ℕ)) → Gave k target linked t out given' v w → [] ≡ delivered_of out given' → w ≡ v
     gave_none None g e = g
@@ -129,10 +130,10 @@ module _ {L F : Type 0} (k : Ghosts L) (laws : Laws k) (target : L → TargetSta
         append-nil handed ∙ sym before ∙ ap (λ z. payloads first (frames_of z)) (sym (append-nil arrived))
         ∙ ap (λ es. payloads first (frames_of (arrived ++ turns.arrived es))) (sym none ∙ sym same_events) ∙ x.brings in
         let empty : [] ≡ delivered_of out given = append_cancel_left handed [] (delivered_of out given) brings in
-        let To : F → Moment (World L) → List Note → Type 0 = λ a m ns. FarGoing k.machine linked t (dep_next i out) (moment old) m ns place os v a in
+        let To : Choosing F → Moment (World L) → List Note → Type 0 = λ a m ns. FarGoing k.machine linked t (dep_next i out) (moment old) m ns place os v a in
         let P : Moment (World L) → Type 0 = λ m. To w m x.notes in
         let Q : List Note → Type 0 = λ ns. To w (moment old) ns in
-        let R : F → Type 0 = λ a. To a (moment old) [] in
+        let R : Choosing F → Type 0 = λ a. To a (moment old) [] in
         (subst P at (subst Q notes (subst R (sym (gave_none given g empty)) (far_starts place v))), sym (ap (λ (m : Moment (World L)). m.world.lit) at) ∙ dark)
 
     pub exchange_far : length out ≤ limit → Goes
@@ -175,7 +176,7 @@ module _ {L F : Type 0} (k : Ghosts L) (laws : Laws k) (target : L → TargetSta
 
   -- turns of its exchange, up to some moment
   turns_at : (new : Air L) (given : Option (List ℕ)) (q : Standing) (x : ExchangeTurns k target a.air new peer.listener a.initiator a.first (brought a.first (since a)) (turns.arrived (since a)) s.out given q)
-      → (v w : F) → Gave k target linked t s.out given v w → (place : ℕ) → Stands k target linked t a.air place
+      → (v w : Choosing F) → Gave k target linked t s.out given v w → (place : ℕ) → Stands k target linked t a.air place
       → FarGoing k.machine linked t (dep_next a.initiator s.out) (moment a.air) (moment new) x.notes place os v w × Stands k target linked t new place
   turns_at new given q x v w g place stands = go a.air.lit refl
     where
@@ -192,7 +193,7 @@ module _ {L F : Type 0} (k : Ghosts L) (laws : Laws k) (target : L → TargetSta
             λ lit. (let dark = d.1 in absurd cc),
           )
 
-  swap_at : (given : Option (List ℕ)) → s.did ≡ did_with s.out given → TurnsOf k target a b peer s.out given → (v w : F) → Gave k target linked t s.out given v w → (place : ℕ) → Stands k target linked t a.air place
+  swap_at : (given : Option (List ℕ)) → s.did ≡ did_with s.out given → TurnsOf k target a b peer s.out given → (v w : Choosing F) → Gave k target linked t s.out given v w → (place : ℕ) → Stands k target linked t a.air place
       → SwapTurn k target linked t a b s place os v w
   swap_at given did (q, x, at) v w g place stands =
       let z = turns_at b.air given q x v w g place stands in
@@ -207,7 +208,7 @@ module _ {L F : Type 0} (k : Ghosts L) (laws : Laws k) (target : L → TargetSta
       }
 
 module _ {L F A : Type 0} (k : Ghosts L) (laws : Laws k) (target : L → TargetState) (linked : L → Bool) (t : FarTable F) (links : IsLinked k.machine linked) (fars : IsFarTable t)
-    (restarts : A → List ℕ → A → Type 0) (steps : A → List ℕ → List ℕ → A → Type 0) (stops : A → List ℕ → A → Type 0) (view : A → F) (kind : IsOfTable restarts steps t view)
+    (restarts : A → List ℕ → A → Type 0) (steps : A → List ℕ → List ℕ → A → Type 0) (stops : A → List ℕ → A → Type 0) (view : A → Choosing F) (kind : IsOfTable restarts steps t view)
     (fits : (a : A) (payload reply : List ℕ) (b : A) → steps a payload reply b → length reply ≤ limit) where
   moved_at : (a b : DepSeen L) (out : List ℕ) (did : List FarStep) (x : Exchanged k target a b (record { out = out; did = did }))
       → (far after : A) → FarMoved steps stops did far after → IsWhole k target linked t did → (place : ℕ) → Stands k target linked t a.air place → (os : List (Option F))
@@ -215,9 +216,8 @@ module _ {L F A : Type 0} (k : Ghosts L) (laws : Laws k) (target : L → TargetS
   moved_at a b out [] x far after moved whole place stands os =
       swap_at k laws target linked t links fars a b (record { out = out; did = [] }) x.begins x.peer x.short os None refl x.exchange (view far) (view after) (ap view moved) place stands
   moved_at a b out (Stepped payload reply ∷ []) x far after (mid, step, rest) whole place stands os =
-      let n = kind.step far payload reply mid step in
       let G : List ℕ → Type 0 = λ z. Gave k target linked t z (Some reply) (view far) (view mid) in
-      let g : Gave k target linked t out (Some reply) (view far) (view mid) = subst G x.exchange.0 (n.0, n.1, n.2, fits far payload reply mid step) in
+      let g : Gave k target linked t out (Some reply) (view far) (view mid) = subst G x.exchange.0 (kind.reply far payload reply mid step, kind.left far payload reply mid step, fits far payload reply mid step) in
       let s : Swap = record { out = out; did = Stepped payload reply ∷ [] } in
       let P : A → Type 0 = λ z. SwapTurn k target linked t a b s place os (view far) (view z) in
       subst P (sym rest)
@@ -235,19 +235,19 @@ module _ {L F A : Type 0} (k : Ghosts L) (laws : Laws k) (target : L → TargetS
       (mid, view half, z, by_swaps did mid b more half after rest whole place z.there os)
   by_swaps (Stopped payload ∷ did) a b by far after moved whole place stands os = absurd whole
 
-pub all_far : {L F A : Type 0} (k : Ghosts L) → Laws k → (target : L → TargetState) (linked : L → Bool) (t : FarTable F) (restarts : A → List ℕ → A → Type 0) (steps : A → List ℕ → List ℕ → A → Type 0) (stops : A → List ℕ → A → Type 0) (view : A → F)
+pub all_far : {L F A : Type 0} (k : Ghosts L) → Laws k → (target : L → TargetState) (linked : L → Bool) (t : FarTable F) (restarts : A → List ℕ → A → Type 0) (steps : A → List ℕ → List ℕ → A → Type 0) (stops : A → List ℕ → A → Type 0) (view : A → Choosing F)
     → ((a : A) (payload reply : List ℕ) (b : A) → steps a payload reply b → length reply ≤ limit) → AllFar k target linked t restarts steps stops view
 all_far k laws target linked t restarts steps stops view fits links fars kind a b did by far after moved whole place stands os =
     by_swaps k laws target linked t links fars restarts steps stops view kind fits did a b by far after moved whole place stands os
 
-pub swaps_far : {L F A : Type 0} (k : Ghosts L) → Laws k → (target : L → TargetState) (linked : L → Bool) (t : FarTable F) (restarts : A → List ℕ → A → Type 0) (steps : A → List ℕ → List ℕ → A → Type 0) (stops : A → List ℕ → A → Type 0) (view : A → F)
+pub swaps_far : {L F A : Type 0} (k : Ghosts L) → Laws k → (target : L → TargetState) (linked : L → Bool) (t : FarTable F) (restarts : A → List ℕ → A → Type 0) (steps : A → List ℕ → List ℕ → A → Type 0) (stops : A → List ℕ → A → Type 0) (view : A → Choosing F)
     → ((a : A) (payload reply : List ℕ) (b : A) → steps a payload reply b → length reply ≤ limit) → SwapsFar k target linked t restarts steps stops view
 swaps_far k laws target linked t restarts steps stops view fits links fars kind a b s x far after moved whole place stands os =
     moved_at k laws target linked t links fars restarts steps stops view kind fits a b s.out s.did x far after moved whole place stands os
 
 stop_far : {L F : Type 0} (k : Ghosts L) → Laws k → (target : L → TargetState) (linked : L → Bool) (t : FarTable F) → IsLinked k.machine linked → IsFarTable t
     → (a b : DepSeen L) (out : List ℕ) (did : List FarStep) (x : Exchanged k target a b (record { out = out; did = did }))
-    → (payload : List ℕ) → did ≡ Stopped payload ∷ [] → (place : ℕ) → Stands k target linked t a.air place → (far : F) (os : List (Option F)) → SwapFront k target linked t a b out place os far
+    → (payload : List ℕ) → did ≡ Stopped payload ∷ [] → (place : ℕ) → Stands k target linked t a.air place → (far : Choosing F) (os : List (Option F)) → SwapFront k target linked t a b out place os far
 stop_far k laws target linked t links fars a b out [] x payload e place stands far os = absurd cc
 stop_far k laws target linked t links fars a b out (Stepped p reply ∷ did) x payload e place stands far os = absurd cc
 stop_far k laws target linked t links fars a b out (Stopped p ∷ []) x payload e place stands far os =
@@ -264,7 +264,7 @@ stop_far k laws target linked t links fars a b out (Stopped p ∷ []) x payload 
     }
 stop_far k laws target linked t links fars a b out (Stopped p ∷ d ∷ did) x payload e place stands far os = absurd cc
 
-pub stops_far : {L F A : Type 0} (k : Ghosts L) → Laws k → (target : L → TargetState) (linked : L → Bool) (t : FarTable F) (restarts : A → List ℕ → A → Type 0) (steps : A → List ℕ → List ℕ → A → Type 0) (stops : A → List ℕ → A → Type 0) (view : A → F)
+pub stops_far : {L F A : Type 0} (k : Ghosts L) → Laws k → (target : L → TargetState) (linked : L → Bool) (t : FarTable F) (restarts : A → List ℕ → A → Type 0) (steps : A → List ℕ → List ℕ → A → Type 0) (stops : A → List ℕ → A → Type 0) (view : A → Choosing F)
     → StopsFar k target linked t restarts steps stops view
 stops_far k laws target linked t restarts steps stops view links fars a b s x payload e place stands far os =
     stop_far k laws target linked t links fars a b s.out s.did x payload e place stands far os

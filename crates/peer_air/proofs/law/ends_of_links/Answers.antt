@@ -1,5 +1,4 @@
-use Rattle.peer_air.proofs.PeerEnds.{are_far_ends, ends_step}
-use Rattle.peer_air.proofs.OtherNumbers.{any_number}
+use Rattle.peer_air.proofs.PeerEnds.{are_far_ends, counted_step, ends_step}
 use Rattle.peer_air.proofs.law.ends_of_links.Goals as goal
 
 pub returns-clause-table : goal.returns-clause-table
@@ -8,5 +7,5 @@ returns-clause-table g c = are_far_ends g.S.Service.serving
 pub returns-clause-steps : goal.returns-clause-steps
 returns-clause-steps g c = ends_step g.S.Service.serving
 
-pub returns-clause-numbers : goal.returns-clause-numbers
-returns-clause-numbers g c = any_number g.S.Service.serving
+pub returns-clause-counted : goal.returns-clause-counted
+returns-clause-counted g c = counted_step g.S.Service.serving
