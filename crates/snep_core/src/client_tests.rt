@@ -160,7 +160,8 @@ pub(crate) fn wide_ends(rt: &impl Abort, alloc: Global) -> Result<(Client, Llc<S
     Ok((Client::new(alloc, near), far))
 }
 
-/// A client that may hand over 2,047 bytes at once, and an end with a server that takes units of 128 bytes, four at a time.
+/// A client that may hand over 2,047 bytes at once, and an end with a server that takes units of 128 bytes, four at a
+/// time.
 pub(crate) fn roomy_ends(rt: &impl Abort, alloc: Global) -> Result<(Client, Llc<Server>), Fail> {
     let mut near = Llc::new(alloc, PARAMS, 1, NoService);
     near.restart(&WIDE);
