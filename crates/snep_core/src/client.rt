@@ -216,8 +216,8 @@ impl Client {
     ) -> Result<Vec<u8>, SnepFault>
         requires ready { C.ready carrier.old }
         requires key { length key.now ≤ 65536 }
-        ensures ok { IfOk result (λ value. Talks C.seen C.swaps A.steps A.stops counts (begins self.old.llc (Gets acceptable key.now))
-            carrier.old far.old (Ends (alone (Over (Value value.items))) self.new.llc) carrier.new far.new) }
+        ensures ok { IfOk result (λ value. Talks C.seen C.swaps A.steps A.stops counts
+            (begins self.old.llc (Gets acceptable key.now)) carrier.old far.old (Ends (alone (Over (Value value.items))) self.new.llc) carrier.new far.new) }
         ensures going { OnOk result ((self.old.spent ≡ false) × (self.new.spent ≡ false)) }
         ensures err { self.old.spent ≡ false → IfErr result (λ e. RequestFails C.seen C.swaps A.steps A.stops counts
             (begins self.old.llc (Gets acceptable key.now)) carrier.old far.old e self.new.llc carrier.new far.new) }
@@ -257,8 +257,8 @@ impl Client {
     ) -> Result<u8, SnepFault>
         requires ready { C.ready carrier.old }
         requires name { length name.now ≤ 64 }
-        ensures ok { IfOk result (λ sap. Talks C.seen C.swaps A.steps A.stops counts (begins self.old.llc (Finds name.now))
-            carrier.old far.old (Ends (alone (Over (Sap sap))) self.new.llc) carrier.new far.new) }
+        ensures ok { IfOk result (λ sap. Talks C.seen C.swaps A.steps A.stops counts
+            (begins self.old.llc (Finds name.now)) carrier.old far.old (Ends (alone (Over (Sap sap))) self.new.llc) carrier.new far.new) }
         ensures going { OnOk result ((self.old.spent ≡ false) × (self.new.spent ≡ false)) }
         ensures err { self.old.spent ≡ false → IfErr result (λ e. FailsBy C.seen C.swaps A.steps A.stops counts
             (begins self.old.llc (Finds name.now)) carrier.old far.old e self.new.llc carrier.new far.new) }

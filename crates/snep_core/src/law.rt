@@ -46,8 +46,8 @@ pub fn cut_off()
     ensures { CutOffAccepts }
 {}
 
-/// An end with a server of this project is a far end of the kind that the calls of a client speak of, also one whose payloads have given
-/// numbers of PDUs.
+/// An end with a server of this project is a far end of the kind that the calls of a client speak of, also one whose
+/// payloads have given numbers of PDUs.
 pub fn peer()
     ensures most { PeersServe }
     ensures counted { CountedServe }

@@ -32,7 +32,8 @@ impl Client {
         }
     }
 
-    /// One exchange: the next payload goes out, with so many PDUs, and its reply is taken. Whether that gave something on the connection.
+    /// One exchange: the next payload goes out, with so many PDUs, and its reply is taken. Whether that gave something on
+    /// the connection.
     fn exchange<C: Carrier, A: Answerer>(
         &mut self,
         carrier: &mut C,
@@ -47,7 +48,8 @@ impl Client {
         ensures falls { IfOk result (λ gave. Lessens gave (own_of self.old.llc) (own_of self.new.llc)) }
         ensures going { OnOk result (self.new.spent ≡ false) }
         ensures err { IfErr result (λ e.
-            IsCut C.seen C.swaps A.steps A.stops count self.old.llc carrier.old far.old e self.new.llc carrier.new far.new) }
+            IsCut C.seen C.swaps A.steps A.stops count self.old.llc carrier.old far.old e self.new.llc
+            carrier.new far.new) }
         ensures spent { IfErr result (λ e. self.new.spent ≡ is_memory e) }
         ensures ready { C.ready carrier.new }
         ensures same { C.lenders carrier.new ≡ C.lenders carrier.old }
