@@ -7,6 +7,12 @@ use Rattle.bench_world.specs.Obeying.{Machines, IsSettled, under}
 use Rattle.bench_world.specs.Opened.{IsFirstWith}
 use Rattle.bench_world.proofs.OnLink.{Ends as FarEnds, one_place, opened}
 
+-- what stands at a place, whatever else would
+there : (os : FarEnds) (p : ℕ) (e : FarEnd) (w : Option FarEnd) → get_or os p None ≡ Some e → get_or os p w ≡ Some e
+there [] p e w is = absurd cc
+there (o ∷ os) zero e w is = is
+there (o ∷ os) (suc p) e w is = there os p e w is
+
 is_by : (n : ℕ) (p : Option ℕ) (v : Bool) (x y : Option FarEnd) → is_number n p ≡ v → (if is_number n p then x else y) ≡ (if v then x else y)
 is_by n p v x y e = ap (λ b. if b then x else y) e
 
@@ -31,7 +37,8 @@ module _ (old : Machines) (settled : IsSettled old) (l : OpenLink) (linked : old
   found none = numbered_some l.peer old.peers.numbers spot its (opened old.air old.ends old.peers l so).number none
 
   -- and a far end stands there
-  pub is_there : (q : ℕ) → ((os : FarEnds) → end_numbered l.peer old.peers.numbers os ≡ get_or os q None) → get_or old.ends q None ≡ Some its
-  is_there q at =
-      ap (λ n. get_or old.ends n None) (one_place l.peer old.peers.numbers spot q its (opened old.air old.ends old.peers l so).number at)
-      ∙ (opened old.air old.ends old.peers l so).above
+  pub is_there : (q : ℕ) → ((os : FarEnds) → end_numbered l.peer old.peers.numbers os ≡ get_or os q None) → (w : Option FarEnd) → w ≡ get_or old.ends q w → w ≡ None → ⊥
+  is_there q at w e none =
+      let place : q ≡ spot = one_place l.peer old.peers.numbers spot q its (opened old.air old.ends old.peers l so).number at in
+      let clash : Some its ≡ None =
+      sym (e ∙ ap (λ n. get_or old.ends n w) place ∙ there old.ends spot its w (opened old.air old.ends old.peers l so).above) ∙ none in cc

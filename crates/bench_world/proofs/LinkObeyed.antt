@@ -354,7 +354,7 @@ module _ (ends : Ends) (peers : Peers) (old : Air Device) (id : List ℕ) (miu r
 
       pub fg : FarGoing devices device_linked peer_ends (linking (A id) (own_general miu)) (moment old) (moment new) (hs ++ o.notes) place ends (most far) (most after)
       fg =
-          (opens_far restarts (Answers serving 0) peer_ends most ends_table (ends_step serving) (A id) (own_general miu) place s.device result old mid new far after hs (own_short miu) s.selects.asked.going told s.stands peer o ends).0
+          (opens_far restarts (Answers serving 0) peer_ends most ends_table (ends_step serving) (A id) (own_general miu) place s.device result old mid new far after hs s.selects.asked.going told s.stands peer o ends).0
 
       abbrev pub given : Given
       given = record { asked = []; joins = no_joins }

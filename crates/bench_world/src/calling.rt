@@ -1,7 +1,7 @@
 //! The commands on the open link: its client puts a message to the server of the link's peer, gets a value of it, or asks
 //! where a service is; and the link is closed. Each takes how many PDUs stand in the payloads of both ends.
 
-ghost use Rattle.std.specs.Prelude.{◌≡◌, ◌↔◌, ◌≤◌, IsTrue, ◌<◌, ◌⊎◌, length, None, IfOk, IfSome, OnErr, IsErrOf, MatchOption};
+ghost use Rattle.std.specs.Prelude.{false, ◌≡◌, ◌↔◌, ◌≤◌, IsTrue, ◌<◌, ◌⊎◌, length, None, IfOk, IfSome, OnErr, IsErrOf, MatchOption};
 ghost use Rattle.std.specs.Char.{is_ascii_graphic};
 ghost use Rattle.std.specs.List.{list_all};
 ghost use Rattle.nfc_base.specs.declared.carrier.EndCause.TheVariants as causes;
@@ -19,10 +19,11 @@ use crate::entry::{Answer, Loss};
 use crate::joins::Joins;
 use crate::machines::{Link, Machines, accepted_above, end_last, place_numbered};
 use bench_script::{Command, Msg};
+use dep_link::Initiator;
 use link_calls::{close_and_release, get_on, lookup_on, put_on};
 use llcp_link::{Counted, Counts};
 use nfc_base::{EndCause, Items};
-use snep_core::{Server, SnepFault};
+use snep_core::{Client, Server, SnepFault};
 use std::alloc::{AllocError, Global};
 
 /// The longest message (NFC Forum SNEP 1.0 has no limit; this one is this project's own).
@@ -44,9 +45,12 @@ fn lost(cause: EndCause) -> Answer
 }
 
 /// The open link and its peer's end, which stands at that place, taken out of the machines for a command.
+#[derive(Drop)]
 struct OnLink {
     place: usize,
-    link: Link,
+    peer: u64,
+    initiator: Initiator,
+    client: Client,
     far: Counted<Server>,
 }
 
@@ -54,11 +58,17 @@ struct OnLink {
 fn take_link(machines: &mut Machines, counts: Counts) -> Option<OnLink>
     requires { IsSettled machines.old }
     ensures none { result ≡ None → (machines.old.link ≡ None) × (machines.new ≡ machines.old) }
-    ensures some { IfSome result (λ on. TakesLink machines.old on.place on.link on.far.end machines.new) }
+    ensures some { IfSome result (λ on. TakesLink machines.old on.place
+        (record { peer = on.peer; initiator = on.initiator; client = on.client.llc }) on.far.end machines.new) }
+    ensures going { IfSome result (λ on. on.client.spent ≡ false) }
     ensures counts { IfSome result (λ on. on.far.numbers ≡ counts) }
 {
-    let link = machines.link.take()?;
-    let Some(place) = place_numbered(&machines.numbers, link.peer) else {
+    let Link {
+        peer,
+        initiator,
+        client,
+    } = machines.link.take()?;
+    let Some(place) = place_numbered(&machines.numbers, peer) else {
         unreachable!()
     };
     let Some(end) = machines.ends[place].take() else {
@@ -66,18 +76,33 @@ fn take_link(machines: &mut Machines, counts: Counts) -> Option<OnLink>
     };
     Some(OnLink {
         place,
-        link,
+        peer,
+        initiator,
+        client,
         far: Counted::new(end, counts),
     })
 }
 
 /// Puts the link and its peer's end back: the link stays open.
 fn put_back(machines: &mut Machines, on: OnLink)
-    requires { on.place < length machines.old.ends }
-    ensures { machines.new ≡ put_back machines.old on.place on.far.end on.link }
+    requires place { on.place < length machines.old.ends }
+    requires going { on.client.spent ≡ false }
+    ensures { machines.new ≡ put_back machines.old on.place on.far.end
+        (record { peer = on.peer; initiator = on.initiator; client = on.client.llc }) }
 {
-    machines.ends[on.place] = Some(on.far.into_end());
-    machines.link = Some(on.link);
+    let OnLink {
+        place,
+        peer,
+        initiator,
+        client,
+        far,
+    } = on;
+    machines.ends[place] = Some(far.into_end());
+    machines.link = Some(Link {
+        peer,
+        initiator,
+        client,
+    });
 }
 
 /// Puts the peer's end back: the link is over, and its range goes to the present end of what the peer's server accepted.
@@ -85,8 +110,9 @@ fn put_down(machines: &mut Machines, on: OnLink)
     requires { on.place < length machines.old.ends }
     ensures { machines.new ≡ put_down machines.old on.place on.far.end }
 {
-    machines.ends[on.place] = Some(on.far.into_end());
-    let end = accepted_above(&machines.ends[on.place]);
+    let OnLink { place, far, .. } = on;
+    machines.ends[place] = Some(far.into_end());
+    let end = accepted_above(&machines.ends[place]);
     end_last(&mut machines.links, end);
 }
 
@@ -102,8 +128,14 @@ fn put_bytes(machines: &mut Machines, joins: Joins, bytes: &[u8]) -> Result<Answ
     let Some(mut on) = take_link(machines, joins.far) else {
         return Ok(Answer::NoLink);
     };
-    let Link { initiator, client, .. } = &mut on.link;
-    match put_on(&mut machines.field, initiator, client, &mut on.far, joins.own, bytes) {
+    match put_on(
+        &mut machines.field,
+        &mut on.initiator,
+        &mut on.client,
+        &mut on.far,
+        joins.own,
+        bytes,
+    ) {
         Ok(()) => {
             put_back(machines, on);
             Ok(Answer::Success)
@@ -167,11 +199,10 @@ fn get_value(machines: &mut Machines, joins: Joins, acceptable: u32, key: &[u8])
     let Some(mut on) = take_link(machines, joins.far) else {
         return Ok(Answer::NoLink);
     };
-    let Link { initiator, client, .. } = &mut on.link;
     match get_on(
         &mut machines.field,
-        initiator,
-        client,
+        &mut on.initiator,
+        &mut on.client,
         &mut on.far,
         joins.own,
         acceptable,
@@ -258,8 +289,14 @@ fn lookup_name(machines: &mut Machines, joins: Joins, name: &str) -> Result<Answ
     let Some(mut on) = take_link(machines, joins.far) else {
         return Ok(Answer::NoLink);
     };
-    let Link { initiator, client, .. } = &mut on.link;
-    match lookup_on(&mut machines.field, initiator, client, &mut on.far, joins.own, name) {
+    match lookup_on(
+        &mut machines.field,
+        &mut on.initiator,
+        &mut on.client,
+        &mut on.far,
+        joins.own,
+        name,
+    ) {
         Ok(sap) => {
             put_back(machines, on);
             Ok(Answer::Sap(sap))
@@ -306,8 +343,13 @@ fn close(machines: &mut Machines, joins: Joins) -> Result<Answer, AllocError>
     let Some(mut on) = take_link(machines, joins.far) else {
         return Ok(Answer::NoLink);
     };
-    let Link { initiator, client, .. } = &mut on.link;
-    match close_and_release(&mut machines.field, initiator, client, &mut on.far, joins.own) {
+    match close_and_release(
+        &mut machines.field,
+        &mut on.initiator,
+        &mut on.client,
+        &mut on.far,
+        joins.own,
+    ) {
         Ok(()) => {
             put_down(machines, on);
             Ok(Answer::Unlinked)

@@ -1,182 +1,48 @@
-use Rattle.std.proofs.Common.{rules, ◌≡◌, ℕ, List, Option, Some, None, refl, sym, ◌∙◌, ap, subst, map}
-use Rattle.std.specs.Prelude.{get_or, slice_set}
-use Rattle.bench_script.specs.declared.command.Command.TheVariants.{Put}
-use Rattle.far_air.specs.FarEnds.{rests}
-use Rattle.peer_air.specs.PeerFars.{peer_ends}
-use Rattle.bench_world.specs.declared.entry.Answer.TheVariants as answers
-use Rattle.bench_world.specs.World.{FarEnd}
-use Rattle.bench_world.specs.Links.{OpenLink, accepted_by, end_numbered, with_last_ended}
-use Rattle.bench_world.specs.Obeying.{Machines, IsSettled, Obeyed, under}
-use Rattle.bench_world.specs.Peers.{Peers}
-use Rattle.snep_core.specs.declared.fault.SnepFault.TheVariants.{BadPeer, Excess, LinkEnded, Memory, NotFound, NotImplemented, Reject}
-use Rattle.bench_world.proofs.Chosen.{found, is_there}
-use Rattle.bench_world.proofs.PutOver.{put_nowhere, told_taken, told_rejected, told_lost, told_short, never_told}
+use Rattle.std.proofs.Common.{rules, false, ◌≡◌, ◌↔◌, ◌≤◌, IsTrue, ◌<◌, ◌⊎◌, length, None, IfOk, IfSome, OnErr, IsErrOf, MatchOption, Some, ℕ, ◌+◌, ◌-◌, ◌*◌, ◌/◌, ◌%◌, Bool, true, nat_eq, nat_lt, List, [], ◌∷◌, ◌++◌, slice_index_or, slice_set, bit_and, bit_or, Fits, w8, w32, w64, Bor, MutBor}
+use Rattle.std.specs.Char.{is_ascii_graphic}
+use Rattle.std.specs.List.{list_all}
+use Rattle.nfc_base.specs.declared.carrier.EndCause.TheVariants as causes
+use Rattle.bench_script.specs.declared.message.Msg.{Msg}
+use Rattle.bench_script.specs.Messages.{message_of}
+use Rattle.bench_script.specs.Script.{SpellsName, longest_message}
+use Rattle.bench_world.specs.Calls.{told_loss}
+use Rattle.bench_world.specs.Legal.{MayGet}
+use Rattle.bench_world.specs.LinkTaken.{TakesLink, put_back, put_down}
+use Rattle.bench_world.specs.Obeying.{IsSettled, ObeyedBy, IsCutOff, RefusedOnly}
 use Rattle.bench_world.proofs.calling.put_bytes.Goals as goal
 
+-- src/calling.rt:129:9
 pub returns-in_default-clause-ok : goal.returns-in_default-clause-ok
-returns-in_default-clause-ok c = λ m e.
-    let peers : Peers = record { numbers = c.machines.inside.numbers.items; gone = map (rests peer_ends) c.machines.inside.gone.items; links = c.machines.inside.links.items } in
-    let old : Machines = under c.machines.inside.ends.items peers c.machines.inside.link c.machines.inside.field in
-    let is : c.args.machines.now ≡ old = search rules in
-    let none : c.machines.inside.link ≡ None = search rules in
-    let left : c.take.new.self ≡ None = search rules in
-    let P : Option OpenLink → Type 0 = λ o. Obeyed c.args.machines.now (under c.machines.inside.ends.items peers o c.machines.inside.field) (Put m) answers.NoLink in
-    subst P (sym left)
-    (subst (λ x. Obeyed x (under c.machines.inside.ends.items peers None c.machines.inside.field) (Put m) answers.NoLink) (sym is)
-    (put_nowhere old (subst IsSettled is c.requires.settled) none c.args.bytes.now c.requires.size m e))
+returns-in_default-clause-ok c = ?
 
+-- src/calling.rt:155:37
 pub unreachable-requires : goal.unreachable-requires
-unreachable-requires c =
-    let peers : Peers = record { numbers = c.machines.inside.numbers.items; gone = map (rests peer_ends) c.machines.inside.gone.items; links = c.machines.inside.links.items } in
-    let old : Machines = under c.machines.inside.ends.items peers c.machines.inside.link c.machines.inside.field in
-    let l : OpenLink = record { peer = c.link.inside.peer; initiator = c.link.inside.initiator; client = c.link.inside.client.llc } in
-    let is : c.args.machines.now ≡ old = search rules in
-    let linked : c.machines.inside.link ≡ Some l = search rules in
-    found old (subst IsSettled is c.requires.settled) l linked
-    (λ os. subst (λ xs. end_numbered l.peer xs os ≡ None) c.deref.ensures.value (c.in_default-place_numbered.ensures.none refl os))
+unreachable-requires c = ?
 
-pub unreachable-requires-in_default-index_mut : goal.unreachable-requires-in_default-index_mut
-unreachable-requires-in_default-index_mut c =
-    let peers : Peers = record { numbers = c.machines.inside.numbers.items; gone = map (rests peer_ends) c.machines.inside.gone.items; links = c.machines.inside.links.items } in
-    let old : Machines = under c.machines.inside.ends.items peers c.machines.inside.link c.machines.inside.field in
-    let l : OpenLink = record { peer = c.link.inside.peer; initiator = c.link.inside.initiator; client = c.link.inside.client.llc } in
-    let is : c.args.machines.now ≡ old = search rules in
-    let linked : c.machines.inside.link ≡ Some l = search rules in
-    is_there old (subst IsSettled is c.requires.settled) l linked c.in-Some-place_numbered.place
-    (λ os. subst (λ xs. end_numbered l.peer xs os ≡ get_or os c.in-Some-place_numbered.place None) c.deref.ensures.value (c.in-Some-place_numbered.ensures.some os))
-    c.index_mut.result.now c.index_mut.ensures.value c.in_default-index_mut.is
-
-pub returns-in-Ok-clause-ok : goal.returns-in-Ok-clause-ok
-returns-in-Ok-clause-ok c = λ m e.
-    let peers : Peers = record { numbers = c.machines.inside.numbers.items; gone = map (rests peer_ends) c.machines.inside.gone.items; links = c.machines.inside.links.items } in
-    let old : Machines = under c.machines.inside.ends.items peers c.machines.inside.link c.machines.inside.field in
-    let l : OpenLink = record { peer = c.link.inside.peer; initiator = c.link.inside.initiator; client = c.link.inside.client.llc } in
-    let is : c.args.machines.now ≡ old = search rules in
-    let linked : c.machines.inside.link ≡ Some l = search rules in
-    let settled : IsSettled old = subst IsSettled is c.requires.settled in
-    let q : ℕ = c.in-Some-place_numbered.place in
-    let at : (os : List (Option FarEnd)) → end_numbered l.peer old.peers.numbers os ≡ get_or os q None =
-    λ os. subst (λ xs. end_numbered l.peer xs os ≡ get_or os q None) c.deref.ensures.value (c.in-Some-place_numbered.ensures.some os) in
-    let some : c.index_mut.result.now ≡ Some c.in-Some-index_mut.far = search rules in
-    told_taken old settled l linked q at c.index_mut.result.now c.in-Some-index_mut.far c.index_mut.ensures.value some c.args.bytes.now c.requires.size c.put_on.new.field c.put_on.new.initiator c.put_on.new.far c.put_on.new.client.llc c.args.machines.now is
-    c.in-Ok.ensures.ok c.in-Ok.ensures.taken m e
-
-pub returns-in-Err-Reject-clause-ok : goal.returns-in-Err-Reject-clause-ok
-returns-in-Err-Reject-clause-ok c = λ m e.
-    let peers : Peers = record { numbers = c.machines.inside.numbers.items; gone = map (rests peer_ends) c.machines.inside.gone.items; links = c.machines.inside.links.items } in
-    let old : Machines = under c.machines.inside.ends.items peers c.machines.inside.link c.machines.inside.field in
-    let l : OpenLink = record { peer = c.link.inside.peer; initiator = c.link.inside.initiator; client = c.link.inside.client.llc } in
-    let is : c.args.machines.now ≡ old = search rules in
-    let linked : c.machines.inside.link ≡ Some l = search rules in
-    let settled : IsSettled old = subst IsSettled is c.requires.settled in
-    let q : ℕ = c.in-Some-place_numbered.place in
-    let at : (os : List (Option FarEnd)) → end_numbered l.peer old.peers.numbers os ≡ get_or os q None =
-    λ os. subst (λ xs. end_numbered l.peer xs os ≡ get_or os q None) c.deref.ensures.value (c.in-Some-place_numbered.ensures.some os) in
-    let some : c.index_mut.result.now ≡ Some c.in-Some-index_mut.far = search rules in
-    let why : c.in-Err-Reject.field-0 ≡ Reject = search rules in
-    told_rejected old settled l linked q at c.index_mut.result.now c.in-Some-index_mut.far c.index_mut.ensures.value some c.args.bytes.now c.requires.size c.put_on.new.field c.put_on.new.initiator c.put_on.new.far c.put_on.new.client.llc c.args.machines.now is
-    c.in-Err-Reject.field-0 why c.in-Err-Reject.ensures.err c.in-Err-Reject.ensures.fails m e
-
-pub returns-in-Err-LinkEnded-clause-ok : goal.returns-in-Err-LinkEnded-clause-ok
-returns-in-Err-LinkEnded-clause-ok c = λ m e.
-    let peers : Peers = record { numbers = c.machines.inside.numbers.items; gone = map (rests peer_ends) c.machines.inside.gone.items; links = c.machines.inside.links.items } in
-    let old : Machines = under c.machines.inside.ends.items peers c.machines.inside.link c.machines.inside.field in
-    let l : OpenLink = record { peer = c.link.inside.peer; initiator = c.link.inside.initiator; client = c.link.inside.client.llc } in
-    let is : c.args.machines.now ≡ old = search rules in
-    let linked : c.machines.inside.link ≡ Some l = search rules in
-    let settled : IsSettled old = subst IsSettled is c.requires.settled in
-    let q : ℕ = c.in-Some-place_numbered.place in
-    let at : (os : List (Option FarEnd)) → end_numbered l.peer old.peers.numbers os ≡ get_or os q None =
-    λ os. subst (λ xs. end_numbered l.peer xs os ≡ get_or os q None) c.deref.ensures.value (c.in-Some-place_numbered.ensures.some os) in
-    let some : c.index_mut.result.now ≡ Some c.in-Some-index_mut.far = search rules in
-    let now : List (Option FarEnd) = slice_set c.machines.inside.ends.items q (Some c.put_on.new.far) in
-    let none : c.take.new.self ≡ None = search rules in
-    let gone : Machines = under now (with_last_ended (accepted_by (get_or now q None)) peers) None c.put_on.new.field in
-    let left : c.end_range.new.machines ≡ gone = c.end_range.ensures ∙ ap (λ (o : Option OpenLink). under now (with_last_ended (accepted_by (get_or now q None)) peers) o c.put_on.new.field) none in
-    let why : c.in-Err-LinkEnded.field-0 ≡ LinkEnded c.in-Err-LinkEnded.cause = search rules in
-    told_lost old settled l linked q at c.index_mut.result.now c.in-Some-index_mut.far c.index_mut.ensures.value some c.args.bytes.now c.requires.size c.put_on.new.field c.put_on.new.initiator c.put_on.new.far c.put_on.new.client.llc c.args.machines.now is
-    c.in-Err-LinkEnded.field-0 c.in-Err-LinkEnded.cause why c.in-Err-LinkEnded.ensures.err c.in-Err-LinkEnded.ensures.fails c.lost.result c.lost.ensures c.end_range.new.machines left m e
-
-pub returns-in-Err-Memory-clause-cut : goal.returns-in-Err-Memory-clause-cut
-returns-in-Err-Memory-clause-cut c = λ m e.
-    let peers : Peers = record { numbers = c.machines.inside.numbers.items; gone = map (rests peer_ends) c.machines.inside.gone.items; links = c.machines.inside.links.items } in
-    let old : Machines = under c.machines.inside.ends.items peers c.machines.inside.link c.machines.inside.field in
-    let l : OpenLink = record { peer = c.link.inside.peer; initiator = c.link.inside.initiator; client = c.link.inside.client.llc } in
-    let is : c.args.machines.now ≡ old = search rules in
-    let linked : c.machines.inside.link ≡ Some l = search rules in
-    let settled : IsSettled old = subst IsSettled is c.requires.settled in
-    let q : ℕ = c.in-Some-place_numbered.place in
-    let at : (os : List (Option FarEnd)) → end_numbered l.peer old.peers.numbers os ≡ get_or os q None =
-    λ os. subst (λ xs. end_numbered l.peer xs os ≡ get_or os q None) c.deref.ensures.value (c.in-Some-place_numbered.ensures.some os) in
-    let some : c.index_mut.result.now ≡ Some c.in-Some-index_mut.far = search rules in
-    let now : List (Option FarEnd) = slice_set c.machines.inside.ends.items q (Some c.put_on.new.far) in
-    let none : c.take.new.self ≡ None = search rules in
-    let gone : Machines = under now (with_last_ended (accepted_by (get_or now q None)) peers) None c.put_on.new.field in
-    let left : c.end_range-in-Err-Memory.new.machines ≡ gone = c.end_range-in-Err-Memory.ensures ∙ ap (λ (o : Option OpenLink). under now (with_last_ended (accepted_by (get_or now q None)) peers) o c.put_on.new.field) none in
-    let why : c.in-Err-Memory.field-0 ≡ Memory = search rules in
-    told_short old settled l linked q at c.index_mut.result.now c.in-Some-index_mut.far c.index_mut.ensures.value some c.args.bytes.now c.requires.size c.put_on.new.field c.put_on.new.initiator c.put_on.new.far c.put_on.new.client.llc c.args.machines.now is
-    c.in-Err-Memory.field-0 why c.in-Err-Memory.ensures.err c.in-Err-Memory.ensures.fails c.end_range-in-Err-Memory.new.machines left m e
-
-pub unreachable-requires-in-Err-NotFound : goal.unreachable-requires-in-Err-NotFound
-unreachable-requires-in-Err-NotFound c =
-    let peers : Peers = record { numbers = c.machines.inside.numbers.items; gone = map (rests peer_ends) c.machines.inside.gone.items; links = c.machines.inside.links.items } in
-    let old : Machines = under c.machines.inside.ends.items peers c.machines.inside.link c.machines.inside.field in
-    let l : OpenLink = record { peer = c.link.inside.peer; initiator = c.link.inside.initiator; client = c.link.inside.client.llc } in
-    let is : c.args.machines.now ≡ old = search rules in
-    let linked : c.machines.inside.link ≡ Some l = search rules in
-    let settled : IsSettled old = subst IsSettled is c.requires.settled in
-    let q : ℕ = c.in-Some-place_numbered.place in
-    let at : (os : List (Option FarEnd)) → end_numbered l.peer old.peers.numbers os ≡ get_or os q None =
-    λ os. subst (λ xs. end_numbered l.peer xs os ≡ get_or os q None) c.deref.ensures.value (c.in-Some-place_numbered.ensures.some os) in
-    let some : c.index_mut.result.now ≡ Some c.in-Some-index_mut.far = search rules in
-    let why : c.in-Err-NotFound.field-0 ≡ NotFound = search rules in
-    never_told old settled l linked q at c.index_mut.result.now c.in-Some-index_mut.far c.index_mut.ensures.value some c.args.bytes.now c.requires.size c.put_on.new.field c.put_on.new.initiator c.put_on.new.far c.put_on.new.client.llc c.args.machines.now is
-    c.in-Err-NotFound.field-0 NotFound why c.in-Err-NotFound.ensures.fails
-
+-- src/calling.rt:156:35
 pub unreachable-requires-in-Err-Excess : goal.unreachable-requires-in-Err-Excess
-unreachable-requires-in-Err-Excess c =
-    let peers : Peers = record { numbers = c.machines.inside.numbers.items; gone = map (rests peer_ends) c.machines.inside.gone.items; links = c.machines.inside.links.items } in
-    let old : Machines = under c.machines.inside.ends.items peers c.machines.inside.link c.machines.inside.field in
-    let l : OpenLink = record { peer = c.link.inside.peer; initiator = c.link.inside.initiator; client = c.link.inside.client.llc } in
-    let is : c.args.machines.now ≡ old = search rules in
-    let linked : c.machines.inside.link ≡ Some l = search rules in
-    let settled : IsSettled old = subst IsSettled is c.requires.settled in
-    let q : ℕ = c.in-Some-place_numbered.place in
-    let at : (os : List (Option FarEnd)) → end_numbered l.peer old.peers.numbers os ≡ get_or os q None =
-    λ os. subst (λ xs. end_numbered l.peer xs os ≡ get_or os q None) c.deref.ensures.value (c.in-Some-place_numbered.ensures.some os) in
-    let some : c.index_mut.result.now ≡ Some c.in-Some-index_mut.far = search rules in
-    let why : c.in-Err-Excess.field-0 ≡ Excess = search rules in
-    never_told old settled l linked q at c.index_mut.result.now c.in-Some-index_mut.far c.index_mut.ensures.value some c.args.bytes.now c.requires.size c.put_on.new.field c.put_on.new.initiator c.put_on.new.far c.put_on.new.client.llc c.args.machines.now is
-    c.in-Err-Excess.field-0 Excess why c.in-Err-Excess.ensures.fails
+unreachable-requires-in-Err-Excess c = ?
 
+-- src/calling.rt:157:43
 pub unreachable-requires-in-Err-NotImplemented : goal.unreachable-requires-in-Err-NotImplemented
-unreachable-requires-in-Err-NotImplemented c =
-    let peers : Peers = record { numbers = c.machines.inside.numbers.items; gone = map (rests peer_ends) c.machines.inside.gone.items; links = c.machines.inside.links.items } in
-    let old : Machines = under c.machines.inside.ends.items peers c.machines.inside.link c.machines.inside.field in
-    let l : OpenLink = record { peer = c.link.inside.peer; initiator = c.link.inside.initiator; client = c.link.inside.client.llc } in
-    let is : c.args.machines.now ≡ old = search rules in
-    let linked : c.machines.inside.link ≡ Some l = search rules in
-    let settled : IsSettled old = subst IsSettled is c.requires.settled in
-    let q : ℕ = c.in-Some-place_numbered.place in
-    let at : (os : List (Option FarEnd)) → end_numbered l.peer old.peers.numbers os ≡ get_or os q None =
-    λ os. subst (λ xs. end_numbered l.peer xs os ≡ get_or os q None) c.deref.ensures.value (c.in-Some-place_numbered.ensures.some os) in
-    let some : c.index_mut.result.now ≡ Some c.in-Some-index_mut.far = search rules in
-    let why : c.in-Err-NotImplemented.field-0 ≡ NotImplemented = search rules in
-    never_told old settled l linked q at c.index_mut.result.now c.in-Some-index_mut.far c.index_mut.ensures.value some c.args.bytes.now c.requires.size c.put_on.new.field c.put_on.new.initiator c.put_on.new.far c.put_on.new.client.llc c.args.machines.now is
-    c.in-Err-NotImplemented.field-0 NotImplemented why c.in-Err-NotImplemented.ensures.fails
+unreachable-requires-in-Err-NotImplemented c = ?
 
+-- src/calling.rt:158:36
 pub unreachable-requires-in-Err-BadPeer : goal.unreachable-requires-in-Err-BadPeer
-unreachable-requires-in-Err-BadPeer c =
-    let peers : Peers = record { numbers = c.machines.inside.numbers.items; gone = map (rests peer_ends) c.machines.inside.gone.items; links = c.machines.inside.links.items } in
-    let old : Machines = under c.machines.inside.ends.items peers c.machines.inside.link c.machines.inside.field in
-    let l : OpenLink = record { peer = c.link.inside.peer; initiator = c.link.inside.initiator; client = c.link.inside.client.llc } in
-    let is : c.args.machines.now ≡ old = search rules in
-    let linked : c.machines.inside.link ≡ Some l = search rules in
-    let settled : IsSettled old = subst IsSettled is c.requires.settled in
-    let q : ℕ = c.in-Some-place_numbered.place in
-    let at : (os : List (Option FarEnd)) → end_numbered l.peer old.peers.numbers os ≡ get_or os q None =
-    λ os. subst (λ xs. end_numbered l.peer xs os ≡ get_or os q None) c.deref.ensures.value (c.in-Some-place_numbered.ensures.some os) in
-    let some : c.index_mut.result.now ≡ Some c.in-Some-index_mut.far = search rules in
-    let why : c.in-Err-BadPeer.field-0 ≡ BadPeer = search rules in
-    never_told old settled l linked q at c.index_mut.result.now c.in-Some-index_mut.far c.index_mut.ensures.value some c.args.bytes.now c.requires.size c.put_on.new.field c.put_on.new.initiator c.put_on.new.far c.put_on.new.client.llc c.args.machines.now is
-    c.in-Err-BadPeer.field-0 BadPeer why c.in-Err-BadPeer.ensures.fails
+unreachable-requires-in-Err-BadPeer c = ?
+
+-- src/calling.rt:120:1
+pub returns-in-Ok-clause-ok : goal.returns-in-Ok-clause-ok
+returns-in-Ok-clause-ok c = ?
+
+-- src/calling.rt:120:1
+pub returns-in-Err-Reject-clause-ok : goal.returns-in-Err-Reject-clause-ok
+returns-in-Err-Reject-clause-ok c = ?
+
+-- src/calling.rt:120:1
+pub returns-in-Err-LinkEnded-clause-ok : goal.returns-in-Err-LinkEnded-clause-ok
+returns-in-Err-LinkEnded-clause-ok c = ?
+
+-- src/calling.rt:120:1
+pub returns-in-Err-Memory-clause-cut : goal.returns-in-Err-Memory-clause-cut
+returns-in-Err-Memory-clause-cut c = ?

@@ -38,7 +38,7 @@ returns-in-Ok-run_command c =
     let e : Entry = record { line = c.args.line; command = c.in-Ok.copy; events = c.new-events.result; answer = c.in-Ok-run_command.answer } in
     let items : c.record_entry.new.journal.items ≡ js ++ e ∷ [] = c.record_entry.ensures ∙ ap (λ xs. xs ++ e ∷ []) c.reserve.ensures.items in
     record {
-      ok = subst (λ v. Obeys c.args.self.now (seen c.record_entry.new.journal.items c.take_trace.new.self v) c.args.line c.args.command.now) (sym c.if-self.false) (adds_entry c.args.self.now c.self.inside.machines c.run_command.new.machines c.take_trace.new.self js c.record_entry.new.journal.items c.args.command.now c.in-Ok-run_command.answer e c.most.result c.most.ensures
+      ok = subst (λ v. Obeys c.args.self.now (seen c.record_entry.new.journal.items c.take_trace.new.self v) c.args.line c.args.command.now) (sym c.if-self.false) (adds_entry c.args.self.now c.self.inside.machines c.run_command.new.machines c.take_trace.new.self js c.record_entry.new.journal.items c.args.command.now c.in-Ok-run_command.answer e c.most-joins.result c.most-joins.ensures
           c.in_default.not-Skip (is ∙ ap (seen js c.self.inside.machines) c.if-self.false) (c.self.invariant c.if-self.false) c.in-Ok-run_command.ensures.ok
           c.take_trace.ensures.left items c.in-Ok.ensures (c.new-events.ensures ∙ c.take_trace.ensures.events) refl);
       refused = λ e. absurd cc;
@@ -63,4 +63,4 @@ returns c =
 pub invariant_of-self-in-Ok-run_command : goal.invariant_of-self-in-Ok-run_command
 invariant_of-self-in-Ok-run_command c = λ sound.
     subst IsSettled (sym c.take_trace.ensures.left)
-    (settled_untraced (joins_for c.args.command.now c.most.result) c.self.inside.machines c.run_command.new.machines c.args.command.now c.in-Ok-run_command.answer c.in-Ok-run_command.ensures.ok)
+    (settled_untraced (joins_for c.args.command.now c.most-joins.result) c.self.inside.machines c.run_command.new.machines c.args.command.now c.in-Ok-run_command.answer c.in-Ok-run_command.ensures.ok)
