@@ -22,12 +22,6 @@ pub record JoinsSoFar {S : Type 0} (m : Serving S) (first : ℕ) (old : LlcState
   pub size : 0 < length ps → used ≤ old.far_miu
 
 module _ {S : Type 0} (m : Serving S) where
-  none_at : (first : ℕ) (old : LlcState S) → JoinsSoFar m first old [] first old
-  none_at first old = record { all = λ j. ap (λ k. joined m k first old) (let z : 0 + j ≡ j = omega arith in z); sent = tt; used_is = omega arith; size = λ h. absurd (omega arith) }
-
-  pub none_joined : (first : ℕ) (old : LlcState S) → JoinsSoFar m first old [] (first + 0) old
-  none_joined first old = subst (λ u. JoinsSoFar m first old [] u old) (let z : first ≡ first + 0 = omega arith in z) (none_at first old)
-
   one_of : (j used : ℕ) (l : LlcState S) (g : Gave S) (fits : nat_le (used + length (inner_bytes g.part)) l.far_miu ≡ true) → gave m l ≡ Some g
       → joined m (suc j) used l ≡ gave_first m g.part (joined m j (used + length (inner_bytes g.part)) g.llc)
   one_of j used l g fits e =

@@ -47,6 +47,8 @@ pub use service::Service;
 pub use standing::Standing;
 
 #[cfg(test)]
+mod counting_tests;
+#[cfg(test)]
 mod own_tests;
 #[cfg(test)]
 mod tests;

@@ -15,7 +15,7 @@ fn passes(
     to: &mut Llc<Notes>,
 ) -> Result<(), Fail> {
     let mut payload = Vec::new(alloc);
-    assert_eq!(rt; from.give(&mut payload), Ok(()));
+    assert_eq!(rt; from.give(0, &mut payload), Ok(()));
     assert_eq!(rt; to.take(&payload), Ok(()));
     Ok(())
 }

@@ -205,16 +205,16 @@ fn nine_clients_and_seventeen_answers(rt: HostRuntime) -> Result<(), Fail> {
 }
 
 /// The reply to a payload.
-pub(crate) fn answers<S: Service>(
+pub(crate) fn answers<A: Answerer>(
     rt: &impl Abort,
     alloc: Global,
-    llc: &mut Llc<S>,
+    end: &mut A,
     payload: &[u8],
     reply: &[u8],
 ) -> Result<(), Fail> {
     let mut got = Vec::new(alloc);
     assert!(rt; payload.len() < 64);
-    assert_eq!(rt; llc.answer(alloc, payload, &mut got), Ok(()));
+    assert_eq!(rt; end.answer(alloc, payload, &mut got), Ok(()));
     assert_eq!(rt; got.as_slice(), reply);
     Ok(())
 }
@@ -373,7 +373,7 @@ fn sixteen_answers_joined(rt: HostRuntime) -> Result<(), Fail> {
     }
     let mut got = Vec::new(alloc);
     assert_eq!(rt; llc.take(&acks), Ok(()));
-    assert_eq!(rt; llc.give(&mut got), Ok(()));
+    assert_eq!(rt; llc.give(0, &mut got), Ok(()));
     assert_eq!(rt; got.len(), 82);
     answers(&rt, alloc, &mut llc, &[0x00, 0x00], &[0x00, 0x00])
 }

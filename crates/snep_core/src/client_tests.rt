@@ -5,7 +5,7 @@ ghost use Rattle.llcp_link.specs.State.{own_from};
 
 use crate::{Client, NoService, Server, SnepFault};
 use arrayvec::ArrayVec;
-use llcp_link::Llc;
+use llcp_link::{Counts, Llc};
 use llcp_pdu::LinkParams;
 use nfc_base::{Answerer, Carrier, EndCause, Items, LinkEnd, Mute};
 use std::alloc::Global;
@@ -160,6 +160,16 @@ pub(crate) fn wide_ends(rt: &impl Abort, alloc: Global) -> Result<(Client, Llc<S
     Ok((Client::new(alloc, near), far))
 }
 
+/// A client that may hand over 2,047 bytes at once, and an end with a server that takes units of 128 bytes, four at a time.
+pub(crate) fn roomy_ends(rt: &impl Abort, alloc: Global) -> Result<(Client, Llc<Server>), Fail> {
+    let mut near = Llc::new(alloc, PARAMS, 1, NoService);
+    near.restart(&WIDE);
+    let mut far = Llc::new(alloc, PARAMS, 4, Server::new(alloc, 1024));
+    assert_eq!(rt; far.listen("urn:nfc:sn:snep", 4), Ok(()));
+    far.restart(&GENERAL);
+    Ok((Client::new(alloc, near), far))
+}
+
 /// A client at the begin of a link.
 pub(crate) fn client(alloc: Global) -> Client {
     let mut llc = Llc::new(alloc, PARAMS, 1, NoService);
@@ -174,15 +184,21 @@ fn names_are_looked_up(rt: HostRuntime) -> Result<(), Fail> {
     let mut far = peer(&rt, alloc)?;
     let mut client = client(alloc);
     assert_eq!(rt;
-        client.lookup(&mut link, &mut far, "urn:nfc:sn:snep"),
+        client.lookup(&mut link, &mut far, Counts::most(alloc), "urn:nfc:sn:snep"),
         Ok(4)
     );
     assert_eq!(rt;
-        client.lookup(&mut link, &mut far, "urn:nfc:sn:none"),
+        client.lookup(&mut link, &mut far, Counts::most(alloc), "urn:nfc:sn:none"),
         Ok(0)
     );
-    assert_eq!(rt; client.lookup(&mut link, &mut far, "urn:nfc:sn:sdp"), Ok(1));
-    assert_eq!(rt; client.close(&mut link, &mut far), Ok(()));
+    assert_eq!(rt;
+        client.lookup(&mut link, &mut far, Counts::most(alloc), "urn:nfc:sn:sdp"),
+        Ok(1)
+    );
+    assert_eq!(rt;
+        client.close(&mut link, &mut far, Counts::most(alloc)),
+        Ok(())
+    );
     assert_eq!(rt; link.handed.len(), 3);
     let first = link.handed.first().map(|p| p.as_slice());
     assert_eq!(rt;
@@ -200,11 +216,17 @@ fn an_open_connection_is_closed(rt: HostRuntime) -> Result<(), Fail> {
     let mut client = client(alloc);
     assert_eq!(rt; client.llc.connect(4), Ok(()));
     assert_eq!(rt;
-        client.lookup(&mut link, &mut far, "urn:nfc:sn:snep"),
+        client.lookup(&mut link, &mut far, Counts::most(alloc), "urn:nfc:sn:snep"),
         Ok(4)
     );
-    assert_eq!(rt; client.close(&mut link, &mut far), Ok(()));
-    assert_eq!(rt; client.close(&mut link, &mut far), Ok(()));
+    assert_eq!(rt;
+        client.close(&mut link, &mut far, Counts::most(alloc)),
+        Ok(())
+    );
+    assert_eq!(rt;
+        client.close(&mut link, &mut far, Counts::most(alloc)),
+        Ok(())
+    );
     let last = link.handed.last().map(|p| p.as_slice());
     assert_eq!(rt; last, Some([0x11u8, 0x60].as_slice()));
     assert_eq!(rt; link.handed.len(), 2);
@@ -216,7 +238,7 @@ fn sixteen_replies_that_give_nothing_are_enough(rt: HostRuntime) -> Result<(), F
     let alloc = rt.alloc();
     let mut link = Straight::new(alloc, None);
     let mut client = client(alloc);
-    let told = client.lookup(&mut link, &mut Mute, "urn:nfc:sn:snep");
+    let told = client.lookup(&mut link, &mut Mute, Counts::most(alloc), "urn:nfc:sn:snep");
     assert_eq!(rt; told, Err(SnepFault::BadPeer));
     assert_eq!(rt; link.handed.len(), 16);
     Ok(())
@@ -228,13 +250,16 @@ fn a_link_that_is_over_is_told_by_its_cause(rt: HostRuntime) -> Result<(), Fail>
     let mut far = peer(&rt, alloc)?;
     let mut client = client(alloc);
     let mut lost = Straight::new(alloc, Some(EndCause::SixBad));
-    let told = client.lookup(&mut lost, &mut far, "urn:nfc:sn:snep");
+    let told = client.lookup(&mut lost, &mut far, Counts::most(alloc), "urn:nfc:sn:snep");
     assert_eq!(rt; told, Err(SnepFault::LinkEnded(EndCause::SixBad)));
     let mut full = Straight::new(alloc, Some(EndCause::Memory));
-    let told = client.lookup(&mut full, &mut far, "urn:nfc:sn:snep");
+    let told = client.lookup(&mut full, &mut far, Counts::most(alloc), "urn:nfc:sn:snep");
     assert_eq!(rt; told, Err(SnepFault::Memory));
     let mut link = Straight::new(alloc, None);
-    assert_eq!(rt; client.close(&mut link, &mut far), Err(SnepFault::Memory));
+    assert_eq!(rt;
+        client.close(&mut link, &mut far, Counts::most(alloc)),
+        Err(SnepFault::Memory)
+    );
     assert_eq!(rt; SnepFault::BadPeer.number(), 7);
     Ok(())
 }

@@ -2,6 +2,7 @@
 
 use crate::SnepFault;
 use crate::client_tests::{Straight, client};
+use llcp_link::Counts;
 use nfc_base::Answerer;
 use std::alloc::{AllocError, Global};
 use std::process::Abort;
@@ -77,7 +78,7 @@ fn put(alloc: Global, meets: Meets, code: u8) -> Result<(), SnepFault> {
         code,
         stuck: false,
     };
-    client(alloc).put(&mut link, &mut far, &[7])
+    client(alloc).put(&mut link, &mut far, Counts::most(alloc), &[7])
 }
 
 /// What a get of one byte comes to.
@@ -88,7 +89,7 @@ fn get(alloc: Global, code: u8) -> Result<(), SnepFault> {
         code,
         stuck: false,
     };
-    match client(alloc).get(&mut link, &mut far, 16, &[7]) {
+    match client(alloc).get(&mut link, &mut far, Counts::most(alloc), 16, &[7]) {
         Ok(_) => Ok(()),
         Err(fault) => Err(fault),
     }
