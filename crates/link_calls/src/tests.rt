@@ -138,19 +138,22 @@ const OWN: &[u8] = b"Ffm\x01\x01\x13\x03\x02\x00\x03";
 
 const PHONES: &[u8] = b"Ffm\x01\x01\x13\x03\x02\x00\x13";
 
+// with an MIUX of 1,919
+const WIDE: &[u8] = b"Ffm\x01\x01\x13\x02\x02\x07\x7F\x03\x02\x00\x13";
+
 const PARAMS: LinkParams = LinkParams {
     version: 0x13,
     miu: 128,
     wks: 0x13,
 };
 
-/// A field in which a phone can be activated, with these fates behind the two of its activation.
-fn met(alloc: Global, fates: &[Fate]) -> Result<Field<Phone>, Fail>
+/// A field in which a phone of these general bytes can be activated, with these fates behind the two of its activation.
+fn met(alloc: Global, phones: &[u8], fates: &[Fate]) -> Result<Field<Phone>, Fail>
     ensures lit { IfOk result (λ f. f.lit ≡ true) }
     ensures stands { IfOk result (λ f. (bytes : List ℕ) → HasTarget ⟦<Phone as Listener>⟧ (λ l. l.target) f bytes) }
 {
     let mut general = ArrayVec::new();
-    general.try_extend_from_slice(PHONES)?;
+    general.try_extend_from_slice(phones)?;
     let mut all = Vec::from_slice(alloc, &[Fate::Pass, Fate::Pass])?;
     all.extend_from_slice(fates)?;
     phone_field(alloc, ID, general, &all)
@@ -192,7 +195,7 @@ fn bytes_of(event: &Event) -> &[u8] {
 fn a_message_goes_over(rt: HostRuntime) -> Result<(), Fail> {
     let alloc = rt.alloc();
     let mut far = Counted::new(server(&rt, alloc), Counts::most(alloc));
-    let mut field = met(alloc, &[])?;
+    let mut field = met(alloc, PHONES, &[])?;
     let (mut initiator, mut client) = linked(alloc, &mut field, &mut far)?;
     let name = "urn:nfc:sn:snep";
     let sap = lookup_on(
@@ -249,7 +252,7 @@ fn values_are_got(rt: HostRuntime) -> Result<(), Fail> {
     let mut end = server(&rt, alloc);
     end.service().offer(b"k1", &[0xA1, 0xA2, 0xA3])?;
     let mut far = Counted::new(end, Counts::most(alloc));
-    let mut field = met(alloc, &[])?;
+    let mut field = met(alloc, PHONES, &[])?;
     let (mut initiator, mut client) = linked(alloc, &mut field, &mut far)?;
     let value = get_on(
         &mut field,
@@ -281,7 +284,7 @@ fn put_ends(
     fates: &[Fate],
 ) -> Result<(Result<(), SnepFault>, usize), Fail> {
     let mut far = Counted::new(server(rt, alloc), Counts::most(alloc));
-    let mut field = met(alloc, fates)?;
+    let mut field = met(alloc, PHONES, fates)?;
     let (mut initiator, mut client) = linked(alloc, &mut field, &mut far)?;
     let put = put_on(
         &mut field,
@@ -333,35 +336,41 @@ fn a_link_that_ends_is_told(rt: HostRuntime) -> Result<(), Fail> {
     Ok(())
 }
 
-/// One PDU in each payload.
-fn ones(alloc: Global) -> Result<Counts, Fail> {
-    Ok(Counts::new(Vec::from_slice(alloc, &[1; 16])?))
-}
-
-/// A frame of NFC-DEP that carries an AGF.
-fn carries_agf(frame: &[u8]) -> bool {
+/// A frame of NFC-DEP that begins an AGF.
+fn begins_agf(frame: &[u8]) -> bool {
     frame.len() > 6 && frame[5] == 0x00 && frame[6] == 0x80
 }
 
-#[test]
-fn one_pdu_a_payload_joins_none_and_is_taken_once(rt: HostRuntime) -> Result<(), Fail> {
-    let alloc = rt.alloc();
-    let mut far = Counted::new(server(&rt, alloc), ones(alloc)?);
-    let mut field = met(alloc, &[])?;
+/// Whether an AGF went over in a put of 500 bytes, to a phone that takes payloads of 2,047 bytes and units of 128, four at a
+/// time, where both ends have these numbers; and how many messages the phone has then.
+fn joined_by(rt: &impl Abort, alloc: Global, numbers: &[u32]) -> Result<(bool, usize), Fail> {
+    let mut end = Llc::new(alloc, PARAMS, 4, Server::new(alloc, 1024));
+    assert_eq!(rt; end.listen("urn:nfc:sn:snep", 4), Ok(()));
+    let mut far = Counted::new(end, Counts::new(Vec::from_slice(alloc, numbers)?));
+    let mut field = met(alloc, WIDE, &[])?;
     let (mut initiator, mut client) = linked(alloc, &mut field, &mut far)?;
-    let message = [0xD0; 300];
     put_on(
         &mut field,
         &mut initiator,
         &mut client,
         &mut far,
-        ones(alloc)?,
-        &message,
+        Counts::new(Vec::from_slice(alloc, numbers)?),
+        &[7; 500],
     )?;
+    let mut joined = false;
     for event in field.trace() {
-        assert!(rt; !carries_agf(bytes_of(event)));
+        if begins_agf(bytes_of(event)) {
+            joined = true;
+        }
     }
-    let mut end = far.into_end();
-    assert_eq!(rt; end.service().accepted().len(), 1);
+    let mut left = far.into_end();
+    Ok((joined, left.service().accepted().len()))
+}
+
+#[test]
+fn payloads_of_one_pdu_have_no_agf_and_bring_a_put_once(rt: HostRuntime) -> Result<(), Fail> {
+    let alloc = rt.alloc();
+    assert_eq!(rt; joined_by(&rt, alloc, &[1; 8])?, (false, 1));
+    assert_eq!(rt; joined_by(&rt, alloc, &[])?, (true, 1));
     Ok(())
 }
