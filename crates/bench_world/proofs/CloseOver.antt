@@ -1,5 +1,5 @@
 -- What becomes of the open link's closing, by what the call on the field says.
-use Rattle.std.proofs.Common.{◌≡◌, ℕ, Option, Some, None, subst}
+use Rattle.std.proofs.Common.{◌≡◌, ℕ, Option, Some, None, ◌∙◌, ap, subst}
 use Rattle.nfc_base.specs.Choosing.{Choosing}
 use Rattle.nfc_base.specs.Far.{Untouched}
 use Rattle.nfc_base.specs.declared.carrier.EndCause.{EndCause}
@@ -28,60 +28,64 @@ use Rattle.bench_world.specs.Obeying.{Machines, IsCutOff, IsSettled, ObeyedBy}
 use Rattle.bench_world.proofs.OnClosing.{released, lost, short}
 use Rattle.bench_world.proofs.LinkOver.{Before, GoneAt, accords, called, counted, far_is, gone_so, its, short_so, so, spot}
 
-module _ (old mid : Machines) (settled : IsSettled old) (q : ℕ) (l : OpenLink) (far : FarEnd) (t : TakesLink old q l far mid) (joins : Joins) (b : Air Device) (j : InitState) (after : Choosing FarEnd)
+module _ (old mid : Machines) (settled : IsSettled old) (q : ℕ) (l : OpenLink) (far : Choosing FarEnd) (t : TakesLink old q l far.end mid) (joins : Joins) (counts : far.numbers ≡ joins.far)
+    (b : Air Device) (j : InitState) (after : Choosing FarEnd)
     (client : EndState) where
   abbrev Of : FarEnd → Choosing FarEnd
-  Of f = counted old mid settled q l far t joins b j after client f
+  Of f = counted old mid settled q l far.end t joins b j after client f
 
   abbrev Own : FarEnd
-  Own = its old mid settled q l far t
+  Own = its old mid settled q l far.end t
 
-  of_own : (P : FarEnd → Type 0) → P far → P Own
-  of_own P p = subst P (far_is old mid settled q l far t) p
+  -- what holds of the end that was taken, and of the field it was taken from, holds of the end of the link's peer
+  of_own : (P : Choosing FarEnd → Air Device → Type 0) → P far mid.air → P (Of Own) old.air
+  of_own P p =
+      let whole : far ≡ Of far.end = ap (λ ns. record { end = far.end; numbers = ns }) counts in
+      subst (P (Of Own)) (ap (λ (m : Machines). m.air) t.left) (subst (λ f. P f mid.air) (whole ∙ ap Of (far_is old mid settled q l far.end t)) p)
 
-  accord : Accords l.client far
-  accord = accords old mid settled q l far t
+  accord : Accords l.client far.end
+  accord = accords old mid settled q l far.end t
 
   abbrev pub Down : Machines
-  Down = put_down (called old mid settled q l far t joins b j after client) q after.end
+  Down = put_down (called old mid settled q l far.end t joins b j after client) q after.end
 
   abbrev Gone : Machines
-  Gone = GoneAt old mid settled q l far t joins b j after client (spot old mid settled q l far t)
+  Gone = GoneAt old mid settled q l far.end t joins b j after client (spot old mid settled q l far.end t)
 
   abbrev Was : Machines
-  Was = Before old mid settled q l far t joins b j after client
+  Was = Before old mid settled q l far.end t joins b j after client
 
   abbrev Quiet : Type 0
   Quiet = (d : Device) → devices.handed d rls_frame ≡ Untouched
 
-  abbrev Closed : Step → FarEnd → Type 0
-  Closed to f = IsReleased ghosts device_end joins.own (begins l.client Leaves) old.air l.initiator (Of f) b after to
+  abbrev Closed : Step → Choosing FarEnd → Air Device → Type 0
+  Closed to f a = IsReleased ghosts device_end joins.own (begins l.client Leaves) a l.initiator f b after to
 
-  abbrev Fails : FarEnd → SnepFault → Type 0
-  Fails f e = ClosingFails ghosts device_end joins.own (begins l.client Leaves) old.air l.initiator (Of f) b after client j e
+  abbrev Fails : SnepFault → Choosing FarEnd → Air Device → Type 0
+  Fails e f a = ClosingFails ghosts device_end joins.own (begins l.client Leaves) a l.initiator f b after client j e
 
-  pub told_closed : (new : Machines) → new ≡ Down → (to : Step) → Closed to far → (Accords l.client far → Quiet → IsClosed far client after.end) → ObeyedBy joins old new Unlink answers.Unlinked
+  pub told_closed : (new : Machines) → new ≡ Down → (to : Step) → Closed to far mid.air → (Accords l.client far.end → Quiet → IsClosed far.end client after.end) → ObeyedBy joins old new Unlink answers.Unlinked
   told_closed new down to r closed =
-      gone_so old mid settled q l far t joins b j after client Unlink new answers.Unlinked down
-      (released old.air old.ends old.peers l (so old mid settled q l far t) joins b after none_at_rls j client to (of_own (Closed to) r) (of_own (λ f. IsClosed f client after.end) (closed accord none_at_rls)))
+      gone_so old mid settled q l far.end t joins b j after client Unlink new answers.Unlinked down
+      (released old.air old.ends old.peers l (so old mid settled q l far.end t) joins b after none_at_rls j client to (of_own (Closed to) r) (of_own (λ f a. IsClosed f.end client after.end) (closed accord none_at_rls)))
 
-  pub told_lost : (new : Machines) → new ≡ Down → (x : SnepFault) (c : EndCause) → x ≡ LinkEnded c → Fails far x → (Accords l.client far → Quiet → AsideFails far x after.end)
+  pub told_lost : (new : Machines) → new ≡ Down → (x : SnepFault) (c : EndCause) → x ≡ LinkEnded c → Fails x far mid.air → (Accords l.client far.end → Quiet → AsideFails far.end x after.end)
       → (answer : Answer) → told_loss c ≡ Some answer → ObeyedBy joins old new Unlink answer
   told_lost new down x c r fails left answer told =
-      gone_so old mid settled q l far t joins b j after client Unlink new answer down
-      (by c told (of_own (λ f. Fails f (LinkEnded c)) (subst (Fails far) r fails)) (of_own (λ f. AsideFails f (LinkEnded c) after.end) (subst (λ y. AsideFails far y after.end) r (left accord none_at_rls))))
+      gone_so old mid settled q l far.end t joins b j after client Unlink new answer down
+      (by c told (of_own (Fails (LinkEnded c)) (subst (λ y. Fails y far mid.air) r fails)) (of_own (λ f a. AsideFails f.end (LinkEnded c) after.end) (subst (λ y. AsideFails far.end y after.end) r (left accord none_at_rls))))
     where
-      by : (c : EndCause) → told_loss c ≡ Some answer → Fails Own (LinkEnded c) → AsideFails Own (LinkEnded c) after.end → ObeyedBy joins Was Gone Unlink answer
-      by cause.FieldLost z x a = lost old.air old.ends old.peers l (so old mid settled q l far t) joins b after none_at_rls j client cause.FieldLost answer x z a
-      by cause.SixBad z x a = lost old.air old.ends old.peers l (so old mid settled q l far t) joins b after none_at_rls j client cause.SixBad answer x z a
+      by : (c : EndCause) → told_loss c ≡ Some answer → Fails (LinkEnded c) (Of Own) old.air → AsideFails Own (LinkEnded c) after.end → ObeyedBy joins Was Gone Unlink answer
+      by cause.FieldLost z x a = lost old.air old.ends old.peers l (so old mid settled q l far.end t) joins b after none_at_rls j client cause.FieldLost answer x z a
+      by cause.SixBad z x a = lost old.air old.ends old.peers l (so old mid settled q l far.end t) joins b after none_at_rls j client cause.SixBad answer x z a
       by cause.Protocol z x a = absurd x
       by cause.Memory z x a = absurd x
 
-  pub told_short : (new : Machines) → new ≡ Down → (x : SnepFault) → x ≡ Memory → Fails far x → (Accords l.client far → Quiet → AsideFails far x after.end) → IsCutOff old new Unlink
+  pub told_short : (new : Machines) → new ≡ Down → (x : SnepFault) → x ≡ Memory → Fails x far mid.air → (Accords l.client far.end → Quiet → AsideFails far.end x after.end) → IsCutOff old new Unlink
   told_short new down x r fails left =
-      short_so old mid settled q l far t joins b j after client Unlink new down
-      (short old.air old.ends old.peers l (so old mid settled q l far t) joins b after none_at_rls j client
-      (of_own (λ f. Fails f Memory) (subst (Fails far) r fails)) (of_own (λ f. AsideFails f Memory after.end) (subst (λ y. AsideFails far y after.end) r (left accord none_at_rls))))
+      short_so old mid settled q l far.end t joins b j after client Unlink new down
+      (short old.air old.ends old.peers l (so old mid settled q l far.end t) joins b after none_at_rls j client
+      (of_own (Fails Memory) (subst (λ y. Fails y far mid.air) r fails)) (of_own (λ f a. AsideFails f.end Memory after.end) (subst (λ y. AsideFails far.end y after.end) r (left accord none_at_rls))))
 
-  pub never_told : (x y : SnepFault) → x ≡ y → (Accords l.client far → Quiet → AsideFails far x after.end) → AsideFails far y after.end
-  never_told x y r left = subst (λ z. AsideFails far z after.end) r (left accord none_at_rls)
+  pub never_told : (x y : SnepFault) → x ≡ y → (Accords l.client far.end → Quiet → AsideFails far.end x after.end) → AsideFails far.end y after.end
+  never_told x y r left = subst (λ z. AsideFails far.end z after.end) r (left accord none_at_rls)

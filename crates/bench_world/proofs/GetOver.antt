@@ -1,5 +1,5 @@
 -- What becomes of a get and of a lookup, by what their calls on the field say.
-use Rattle.std.proofs.Common.{◌≡◌, ℕ, List, [], Option, Some, None, refl, sym, subst, inl, inr}
+use Rattle.std.proofs.Common.{◌≡◌, ℕ, List, [], Option, Some, None, refl, sym, ◌∙◌, ap, subst, inl, inr}
 use Rattle.nfc_base.specs.Choosing.{Choosing}
 use Rattle.nfc_base.specs.declared.carrier.EndCause.{EndCause}
 use Rattle.nfc_base.specs.declared.carrier.EndCause.TheVariants as cause
@@ -67,55 +67,58 @@ never_short refusals.NotFound e = cc
 never_short refusals.Excess e = cc
 never_short refusals.NotImplemented e = cc
 
-module _ (old mid : Machines) (settled : IsSettled old) (q : ℕ) (l : OpenLink) (far : FarEnd) (t : TakesLink old q l far mid) (joins : Joins) (b : Air Device) (j : InitState) (after : Choosing FarEnd)
+module _ (old mid : Machines) (settled : IsSettled old) (q : ℕ) (l : OpenLink) (far : Choosing FarEnd) (t : TakesLink old q l far.end mid) (joins : Joins) (counts : far.numbers ≡ joins.far)
+    (b : Air Device) (j : InitState) (after : Choosing FarEnd)
     (client : EndState) where
   abbrev Of : FarEnd → Choosing FarEnd
-  Of f = counted old mid settled q l far t joins b j after client f
+  Of f = counted old mid settled q l far.end t joins b j after client f
 
   abbrev Own : FarEnd
-  Own = its old mid settled q l far t
+  Own = its old mid settled q l far.end t
 
-  -- what holds of the end that was taken holds of the end of the link's peer
-  of_own : (P : FarEnd → Type 0) → P far → P Own
-  of_own P p = subst P (far_is old mid settled q l far t) p
+  -- what holds of the end that was taken, and of the field it was taken from, holds of the end of the link's peer
+  of_own : (P : Choosing FarEnd → Air Device → Type 0) → P far mid.air → P (Of Own) old.air
+  of_own P p =
+      let whole : far ≡ Of far.end = ap (λ ns. record { end = far.end; numbers = ns }) counts in
+      subst (P (Of Own)) (ap (λ (m : Machines). m.air) t.left) (subst (λ f. P f mid.air) (whole ∙ ap Of (far_is old mid settled q l far.end t)) p)
 
-  accord : Accords l.client far
-  accord = accords old mid settled q l far t
+  accord : Accords l.client far.end
+  accord = accords old mid settled q l far.end t
 
   abbrev pub Back : Machines
-  Back = put_back (called old mid settled q l far t joins b j after client) q after.end (link old mid settled q l far t joins b j after client)
+  Back = put_back (called old mid settled q l far.end t joins b j after client) q after.end (link old mid settled q l far.end t joins b j after client)
 
   abbrev pub Down : Machines
-  Down = put_down (called old mid settled q l far t joins b j after client) q after.end
+  Down = put_down (called old mid settled q l far.end t joins b j after client) q after.end
 
   abbrev Opens : Machines
-  Opens = OpenAt old mid settled q l far t joins b j after client (spot old mid settled q l far t)
+  Opens = OpenAt old mid settled q l far.end t joins b j after client (spot old mid settled q l far.end t)
 
   abbrev Gone : Machines
-  Gone = GoneAt old mid settled q l far t joins b j after client (spot old mid settled q l far t)
+  Gone = GoneAt old mid settled q l far.end t joins b j after client (spot old mid settled q l far.end t)
 
   abbrev Was : Machines
-  Was = Before old mid settled q l far t joins b j after client
+  Was = Before old mid settled q l far.end t joins b j after client
 
   module _ (most : ℕ) (key : List ℕ) (may : MayGet most key) where
-    abbrev Made : Ending → FarEnd → Type 0
-    Made e f = IsMade ghosts device_end joins.own (begins l.client (Gets most key)) old.air l.initiator (Of f) b j after (Ends (alone (Over e)) client)
+    abbrev Made : Ending → Choosing FarEnd → Air Device → Type 0
+    Made e f a = IsMade ghosts device_end joins.own (begins l.client (Gets most key)) a l.initiator f b j after (Ends (alone (Over e)) client)
 
-    abbrev Fails : FarEnd → SnepFault → Type 0
-    Fails f e = RequestFails ghosts device_end joins.own (begins l.client (Gets most key)) old.air l.initiator (Of f) b j after client e
+    abbrev Fails : SnepFault → Choosing FarEnd → Air Device → Type 0
+    Fails e f a = RequestFails ghosts device_end joins.own (begins l.client (Gets most key)) a l.initiator f b j after client e
 
     abbrev Left : FarEnd → SnepFault → Type 0
     Left f e = GetFails most key f e client after.end
 
-    pub got_value : (new : Machines) → new ≡ Back → (v : List ℕ) → Made (Value v) far → (Accords l.client far → IsGot most key v far client after.end) → ObeyedBy joins old new (Get most key) (answers.Value v)
+    pub got_value : (new : Machines) → new ≡ Back → (v : List ℕ) → Made (Value v) far mid.air → (Accords l.client far.end → IsGot most key v far.end client after.end) → ObeyedBy joins old new (Get most key) (answers.Value v)
     got_value new left v made got =
-        open_so old mid settled q l far t joins b j after client (Get most key) new (answers.Value v) left
-        (value_got old.air old.ends old.peers l (so old mid settled q l far t) most key may joins b j after client v (of_own (Made (Value v)) made) (of_own (λ f. IsGot most key v f client after.end) (got accord)))
+        open_so old mid settled q l far.end t joins b j after client (Get most key) new (answers.Value v) left
+        (value_got old.air old.ends old.peers l (so old mid settled q l far.end t) most key may joins b j after client v (of_own (Made (Value v)) made) (of_own (λ f a. IsGot most key v f.end client after.end) (got accord)))
 
-    pub got_refusal : (new : Machines) → new ≡ Back → (x : SnepFault) (why : Refusal) → x ≡ refused_by why → Fails far x → (Accords l.client far → Left far x) → ObeyedBy joins old new (Get most key) (told_ending (Refused why))
+    pub got_refusal : (new : Machines) → new ≡ Back → (x : SnepFault) (why : Refusal) → x ≡ refused_by why → Fails x far mid.air → (Accords l.client far.end → Left far.end x) → ObeyedBy joins old new (Get most key) (told_ending (Refused why))
     got_refusal new back x why r fails left =
-        open_so old mid settled q l far t joins b j after client (Get most key) new (told_ending (Refused why)) back
-        (by why (of_own (λ f. Fails f (refused_by why)) (subst (Fails far) r fails)) (of_own (λ f. Left f (refused_by why)) (subst (Left far) r (left accord))))
+        open_so old mid settled q l far.end t joins b j after client (Get most key) new (told_ending (Refused why)) back
+        (by why (of_own (Fails (refused_by why)) (subst (λ y. Fails y far mid.air) r fails)) (of_own (λ f a. Left f.end (refused_by why)) (subst (Left far.end) r (left accord))))
       where
         never_bad : (v : Refusal) → refused_by v ≡ BadPeer → ⊥
         never_bad refusals.Reject e = cc
@@ -123,78 +126,78 @@ module _ (old mid : Machines) (settled : IsSettled old) (q : ℕ) (l : OpenLink)
         never_bad refusals.Excess e = cc
         never_bad refusals.NotImplemented e = cc
 
-        by : (v : Refusal) → Fails Own (refused_by v) → Left Own (refused_by v) → ObeyedBy joins Was Opens (Get most key) (told_ending (Refused v))
+        by : (v : Refusal) → Fails (refused_by v) (Of Own) old.air → Left Own (refused_by v) → ObeyedBy joins Was Opens (Get most key) (told_ending (Refused v))
         by v (inl (u, e, made)) g =
-            get_refused old.air old.ends old.peers l (so old mid settled q l far t) most key may joins b j after client v (subst (λ z. Made (Refused z) Own) (same_refusal v u e) made) g
+            get_refused old.air old.ends old.peers l (so old mid settled q l far.end t) most key may joins b j after client v (subst (λ z. Made (Refused z) (Of Own) old.air) (same_refusal v u e) made) g
         by v (inr (inl (bad, made))) g = absurd (never_bad v bad)
         by refusals.Reject (inr (inr never)) g = absurd never
         by refusals.NotFound (inr (inr never)) g = absurd never
         by refusals.Excess (inr (inr never)) g = absurd never
         by refusals.NotImplemented (inr (inr never)) g = absurd never
 
-    pub got_lost : (new : Machines) → new ≡ Down → (x : SnepFault) (c : EndCause) → x ≡ LinkEnded c → Fails far x → (Accords l.client far → Left far x) → (answer : Answer) → told_loss c ≡ Some answer
+    pub got_lost : (new : Machines) → new ≡ Down → (x : SnepFault) (c : EndCause) → x ≡ LinkEnded c → Fails x far mid.air → (Accords l.client far.end → Left far.end x) → (answer : Answer) → told_loss c ≡ Some answer
         → ObeyedBy joins old new (Get most key) answer
     got_lost new down x c r fails left answer told =
-        gone_so old mid settled q l far t joins b j after client (Get most key) new answer down
-        (by c told (of_own (λ f. Fails f (LinkEnded c)) (subst (Fails far) r fails)) (of_own (λ f. Left f (LinkEnded c)) (subst (Left far) r (left accord))))
+        gone_so old mid settled q l far.end t joins b j after client (Get most key) new answer down
+        (by c told (of_own (Fails (LinkEnded c)) (subst (λ y. Fails y far mid.air) r fails)) (of_own (λ f a. Left f.end (LinkEnded c)) (subst (Left far.end) r (left accord))))
       where
-        by : (c : EndCause) → told_loss c ≡ Some answer → Fails Own (LinkEnded c) → Left Own (LinkEnded c) → ObeyedBy joins Was Gone (Get most key) answer
+        by : (c : EndCause) → told_loss c ≡ Some answer → Fails (LinkEnded c) (Of Own) old.air → Left Own (LinkEnded c) → ObeyedBy joins Was Gone (Get most key) answer
         by c z (inl (why, e, made)) g = absurd (never_link why c e)
         by c z (inr (inl (bad, made))) g = absurd cc
-        by cause.FieldLost z (inr (inr ended)) g = get_lost old.air old.ends old.peers l (so old mid settled q l far t) most key may joins b j after client cause.FieldLost answer ended z g
-        by cause.SixBad z (inr (inr ended)) g = get_lost old.air old.ends old.peers l (so old mid settled q l far t) most key may joins b j after client cause.SixBad answer ended z g
+        by cause.FieldLost z (inr (inr ended)) g = get_lost old.air old.ends old.peers l (so old mid settled q l far.end t) most key may joins b j after client cause.FieldLost answer ended z g
+        by cause.SixBad z (inr (inr ended)) g = get_lost old.air old.ends old.peers l (so old mid settled q l far.end t) most key may joins b j after client cause.SixBad answer ended z g
         by cause.Protocol z (inr (inr never)) g = absurd never
         by cause.Memory z (inr (inr never)) g = absurd never
 
-    pub got_short : (new : Machines) → new ≡ Down → (x : SnepFault) → x ≡ Memory → Fails far x → (Accords l.client far → Left far x) → IsCutOff old new (Get most key)
+    pub got_short : (new : Machines) → new ≡ Down → (x : SnepFault) → x ≡ Memory → Fails x far mid.air → (Accords l.client far.end → Left far.end x) → IsCutOff old new (Get most key)
     got_short new down x r fails left =
-        short_so old mid settled q l far t joins b j after client (Get most key) new down
-        (by (of_own (λ f. Fails f Memory) (subst (Fails far) r fails)) (of_own (λ f. Left f Memory) (subst (Left far) r (left accord))))
+        short_so old mid settled q l far.end t joins b j after client (Get most key) new down
+        (by (of_own (Fails Memory) (subst (λ y. Fails y far mid.air) r fails)) (of_own (λ f a. Left f.end Memory) (subst (Left far.end) r (left accord))))
       where
-        by : Fails Own Memory → Left Own Memory → IsCutOff Was Gone (Get most key)
+        by : Fails Memory (Of Own) old.air → Left Own Memory → IsCutOff Was Gone (Get most key)
         by (inl (why, e, made)) g = absurd (never_short why e)
         by (inr (inl (bad, made))) g = absurd cc
-        by (inr (inr cut)) g = get_short old.air old.ends old.peers l (so old mid settled q l far t) most key may joins b j after client cut g
+        by (inr (inr cut)) g = get_short old.air old.ends old.peers l (so old mid settled q l far.end t) most key may joins b j after client cut g
 
-    pub never_got : (x y : SnepFault) → x ≡ y → (Accords l.client far → Left far x) → Left far y
-    never_got x y r left = subst (Left far) r (left accord)
+    pub never_got : (x y : SnepFault) → x ≡ y → (Accords l.client far.end → Left far.end x) → Left far.end y
+    never_got x y r left = subst (Left far.end) r (left accord)
 
   module _ (name : List ℕ) (may : SpellsName name name) where
-    abbrev Looks : FarEnd → SnepFault → Type 0
-    Looks f e = CallFails ghosts device_end joins.own (begins l.client (Finds name)) old.air l.initiator (Of f) b j after client e
+    abbrev Looks : SnepFault → Choosing FarEnd → Air Device → Type 0
+    Looks e f a = CallFails ghosts device_end joins.own (begins l.client (Finds name)) a l.initiator f b j after client e
 
-    abbrev Found : ℕ → FarEnd → Type 0
-    Found sap f = IsMade ghosts device_end joins.own (begins l.client (Finds name)) old.air l.initiator (Of f) b j after (Ends (alone (Over (Sap sap))) client)
+    abbrev Found : ℕ → Choosing FarEnd → Air Device → Type 0
+    Found sap f a = IsMade ghosts device_end joins.own (begins l.client (Finds name)) a l.initiator f b j after (Ends (alone (Over (Sap sap))) client)
 
-    pub looked_up : (new : Machines) → new ≡ Back → (sap : ℕ) → Found sap far → (Accords l.client far → IsFound name far sap client after.end) → ObeyedBy joins old new (Lookup name) (answers.Sap sap)
+    pub looked_up : (new : Machines) → new ≡ Back → (sap : ℕ) → Found sap far mid.air → (Accords l.client far.end → IsFound name far.end sap client after.end) → ObeyedBy joins old new (Lookup name) (answers.Sap sap)
     looked_up new back sap made found =
-        open_so old mid settled q l far t joins b j after client (Lookup name) new (answers.Sap sap) back
-        (name_found old.air old.ends old.peers l (so old mid settled q l far t) name may joins b j after client sap (of_own (Found sap) made) (of_own (λ f. IsFound name f sap client after.end) (found accord)))
+        open_so old mid settled q l far.end t joins b j after client (Lookup name) new (answers.Sap sap) back
+        (name_found old.air old.ends old.peers l (so old mid settled q l far.end t) name may joins b j after client sap (of_own (Found sap) made) (of_own (λ f a. IsFound name f.end sap client after.end) (found accord)))
 
-    pub looked_lost : (new : Machines) → new ≡ Down → (x : SnepFault) (c : EndCause) → x ≡ LinkEnded c → Looks far x → (Accords l.client far → AsideFails far x after.end) → (answer : Answer) → told_loss c ≡ Some answer
+    pub looked_lost : (new : Machines) → new ≡ Down → (x : SnepFault) (c : EndCause) → x ≡ LinkEnded c → Looks x far mid.air → (Accords l.client far.end → AsideFails far.end x after.end) → (answer : Answer) → told_loss c ≡ Some answer
         → ObeyedBy joins old new (Lookup name) answer
     looked_lost new down x c r fails left answer told =
-        gone_so old mid settled q l far t joins b j after client (Lookup name) new answer down
-        (by c told (of_own (λ f. Looks f (LinkEnded c)) (subst (Looks far) r fails)) (of_own (λ f. AsideFails f (LinkEnded c) after.end) (subst (λ y. AsideFails far y after.end) r (left accord))))
+        gone_so old mid settled q l far.end t joins b j after client (Lookup name) new answer down
+        (by c told (of_own (Looks (LinkEnded c)) (subst (λ y. Looks y far mid.air) r fails)) (of_own (λ f a. AsideFails f.end (LinkEnded c) after.end) (subst (λ y. AsideFails far.end y after.end) r (left accord))))
       where
-        by : (c : EndCause) → told_loss c ≡ Some answer → Looks Own (LinkEnded c) → AsideFails Own (LinkEnded c) after.end → ObeyedBy joins Was Gone (Lookup name) answer
+        by : (c : EndCause) → told_loss c ≡ Some answer → Looks (LinkEnded c) (Of Own) old.air → AsideFails Own (LinkEnded c) after.end → ObeyedBy joins Was Gone (Lookup name) answer
         by c z (inl (bad, made)) g = absurd cc
-        by cause.FieldLost z (inr ended) g = lookup_lost old.air old.ends old.peers l (so old mid settled q l far t) name may joins b j after client cause.FieldLost answer ended z g
-        by cause.SixBad z (inr ended) g = lookup_lost old.air old.ends old.peers l (so old mid settled q l far t) name may joins b j after client cause.SixBad answer ended z g
+        by cause.FieldLost z (inr ended) g = lookup_lost old.air old.ends old.peers l (so old mid settled q l far.end t) name may joins b j after client cause.FieldLost answer ended z g
+        by cause.SixBad z (inr ended) g = lookup_lost old.air old.ends old.peers l (so old mid settled q l far.end t) name may joins b j after client cause.SixBad answer ended z g
         by cause.Protocol z (inr never) g = absurd never
         by cause.Memory z (inr never) g = absurd never
 
-    pub looked_short : (new : Machines) → new ≡ Down → (x : SnepFault) → x ≡ Memory → Looks far x → (Accords l.client far → AsideFails far x after.end) → IsCutOff old new (Lookup name)
+    pub looked_short : (new : Machines) → new ≡ Down → (x : SnepFault) → x ≡ Memory → Looks x far mid.air → (Accords l.client far.end → AsideFails far.end x after.end) → IsCutOff old new (Lookup name)
     looked_short new down x r fails left =
-        short_so old mid settled q l far t joins b j after client (Lookup name) new down
-        (by (of_own (λ f. Looks f Memory) (subst (Looks far) r fails)) (of_own (λ f. AsideFails f Memory after.end) (subst (λ y. AsideFails far y after.end) r (left accord))))
+        short_so old mid settled q l far.end t joins b j after client (Lookup name) new down
+        (by (of_own (Looks Memory) (subst (λ y. Looks y far mid.air) r fails)) (of_own (λ f a. AsideFails f.end Memory after.end) (subst (λ y. AsideFails far.end y after.end) r (left accord))))
       where
-        by : Looks Own Memory → AsideFails Own Memory after.end → IsCutOff Was Gone (Lookup name)
+        by : Looks Memory (Of Own) old.air → AsideFails Own Memory after.end → IsCutOff Was Gone (Lookup name)
         by (inl (bad, made)) g = absurd cc
-        by (inr cut) g = lookup_short old.air old.ends old.peers l (so old mid settled q l far t) name may joins b j after client cut g
+        by (inr cut) g = lookup_short old.air old.ends old.peers l (so old mid settled q l far.end t) name may joins b j after client cut g
 
-    pub never_looked : (x y : SnepFault) → x ≡ y → (Accords l.client far → AsideFails far x after.end) → AsideFails far y after.end
-    never_looked x y r left = subst (λ z. AsideFails far z after.end) r (left accord)
+    pub never_looked : (x y : SnepFault) → x ≡ y → (Accords l.client far.end → AsideFails far.end x after.end) → AsideFails far.end y after.end
+    never_looked x y r left = subst (λ z. AsideFails far.end z after.end) r (left accord)
 
 -- where no link is open nothing is sent
 module _ (air : Air Device) (ends : FarEnds) (peers : Peers) (settled : IsSettled (under ends peers None air)) (joins : Joins) where

@@ -1,5 +1,5 @@
 -- What becomes of a put, by what its call on the field says.
-use Rattle.std.proofs.Common.{◌≡◌, ℕ, ◌≤◌, List, [], length, Option, Some, None, refl, sym, subst, inl, inr}
+use Rattle.std.proofs.Common.{◌≡◌, ℕ, ◌≤◌, List, [], length, Option, Some, None, refl, sym, ◌∙◌, ap, subst, inl, inr}
 use Rattle.nfc_base.specs.Choosing.{Choosing}
 use Rattle.nfc_base.specs.declared.carrier.EndCause.{EndCause}
 use Rattle.nfc_base.specs.declared.carrier.EndCause.TheVariants as cause
@@ -62,58 +62,62 @@ put_nowhere old new settled none same joins bytes few m e =
     subst (λ x. ObeyedBy joins old x (Put m) answers.NoLink) (sym same)
     (subst (λ o. ObeyedBy joins (N o) (N o) (Put m) answers.NoLink) (sym none) (no_link old.air old.ends old.peers S joins m fits))
 
-module _ (old mid : Machines) (settled : IsSettled old) (q : ℕ) (l : OpenLink) (far : FarEnd) (t : TakesLink old q l far mid) (joins : Joins) (b : Air Device) (j : InitState) (after : Choosing FarEnd)
+module _ (old mid : Machines) (settled : IsSettled old) (q : ℕ) (l : OpenLink) (far : Choosing FarEnd) (t : TakesLink old q l far.end mid) (joins : Joins) (counts : far.numbers ≡ joins.far)
+    (b : Air Device) (j : InitState) (after : Choosing FarEnd)
     (client : EndState) (bytes : List ℕ) (few : length bytes ≤ longest_message) (m : Msg) (e : message_of m ≡ bytes) where
   abbrev Of : FarEnd → Choosing FarEnd
-  Of f = counted old mid settled q l far t joins b j after client f
+  Of f = counted old mid settled q l far.end t joins b j after client f
 
   abbrev Own : FarEnd
-  Own = its old mid settled q l far t
+  Own = its old mid settled q l far.end t
 
-  abbrev Made : List ℕ → FarEnd → Type 0
-  Made xs f = IsMade ghosts device_end joins.own (begins l.client (Puts xs)) old.air l.initiator (Of f) b j after (Ends (alone (Over Done)) client)
+  abbrev Made : List ℕ → Choosing FarEnd → Air Device → Type 0
+  Made xs f a = IsMade ghosts device_end joins.own (begins l.client (Puts xs)) a l.initiator f b j after (Ends (alone (Over Done)) client)
 
-  abbrev Fails : List ℕ → FarEnd → SnepFault → Type 0
-  Fails xs f x = RequestFails ghosts device_end joins.own (begins l.client (Puts xs)) old.air l.initiator (Of f) b j after client x
+  abbrev Fails : SnepFault → List ℕ → Choosing FarEnd → Air Device → Type 0
+  Fails x xs f a = RequestFails ghosts device_end joins.own (begins l.client (Puts xs)) a l.initiator f b j after client x
 
-  -- what holds of the bytes and of the end that was taken holds of the message and of the end of the link's peer
-  of_own : (P : List ℕ → FarEnd → Type 0) → P bytes far → P (message_of m) Own
-  of_own P p = subst (P (message_of m)) (far_is old mid settled q l far t) (subst (λ xs. P xs far) (sym e) p)
+  -- what holds of the bytes, of the end that was taken and of the field it was taken from, holds of the message and of the end of the link's peer
+  of_own : (P : List ℕ → Choosing FarEnd → Air Device → Type 0) → P bytes far mid.air → P (message_of m) (Of Own) old.air
+  of_own P p =
+      let whole : far ≡ Of far.end = ap (λ ns. record { end = far.end; numbers = ns }) counts in
+      subst (P (message_of m) (Of Own)) (ap (λ (n : Machines). n.air) t.left)
+      (subst (λ f. P (message_of m) f mid.air) (whole ∙ ap Of (far_is old mid settled q l far.end t)) (subst (λ xs. P xs far mid.air) (sym e) p))
 
   fits : length (message_of m) ≤ longest_message
   fits = subst (λ xs. length xs ≤ longest_message) (sym e) few
 
-  accord : Accords l.client far
-  accord = accords old mid settled q l far t
+  accord : Accords l.client far.end
+  accord = accords old mid settled q l far.end t
 
   abbrev pub Back : Machines
-  Back = put_back (called old mid settled q l far t joins b j after client) q after.end (link old mid settled q l far t joins b j after client)
+  Back = put_back (called old mid settled q l far.end t joins b j after client) q after.end (link old mid settled q l far.end t joins b j after client)
 
   abbrev pub Down : Machines
-  Down = put_down (called old mid settled q l far t joins b j after client) q after.end
+  Down = put_down (called old mid settled q l far.end t joins b j after client) q after.end
 
   abbrev Opens : Machines
-  Opens = OpenAt old mid settled q l far t joins b j after client (spot old mid settled q l far t)
+  Opens = OpenAt old mid settled q l far.end t joins b j after client (spot old mid settled q l far.end t)
 
   abbrev Gone : Machines
-  Gone = GoneAt old mid settled q l far t joins b j after client (spot old mid settled q l far t)
+  Gone = GoneAt old mid settled q l far.end t joins b j after client (spot old mid settled q l far.end t)
 
   abbrev Was : Machines
-  Was = Before old mid settled q l far t joins b j after client
+  Was = Before old mid settled q l far.end t joins b j after client
 
-  pub told_taken : (new : Machines) → new ≡ Back → Made bytes far → (Accords l.client far → IsTaken bytes far client after.end) → ObeyedBy joins old new (Put m) answers.Success
+  pub told_taken : (new : Machines) → new ≡ Back → Made bytes far mid.air → (Accords l.client far.end → IsTaken bytes far.end client after.end) → ObeyedBy joins old new (Put m) answers.Success
   told_taken new left made taken =
-      open_so old mid settled q l far t joins b j after client (Put m) new answers.Success left
-      (put_taken old.air old.ends old.peers l (so old mid settled q l far t) m fits joins b j after client (of_own Made made) (of_own (λ xs f. IsTaken xs f client after.end) (taken accord)))
+      open_so old mid settled q l far.end t joins b j after client (Put m) new answers.Success left
+      (put_taken old.air old.ends old.peers l (so old mid settled q l far.end t) m fits joins b j after client (of_own Made made) (of_own (λ xs f a. IsTaken xs f.end client after.end) (taken accord)))
 
-  pub told_rejected : (new : Machines) → new ≡ Back → (x : SnepFault) → x ≡ Reject → Fails bytes far x → (Accords l.client far → PutFails bytes far x client after.end) → ObeyedBy joins old new (Put m) answers.Reject
+  pub told_rejected : (new : Machines) → new ≡ Back → (x : SnepFault) → x ≡ Reject → Fails x bytes far mid.air → (Accords l.client far.end → PutFails bytes far.end x client after.end) → ObeyedBy joins old new (Put m) answers.Reject
   told_rejected new left x r fails put =
-      open_so old mid settled q l far t joins b j after client (Put m) new answers.Reject left
-      (by (of_own (λ xs f. Fails xs f Reject) (subst (Fails bytes far) r fails))
-      (of_own (λ xs f. IsRejected xs f client after.end) (subst (λ y. PutFails bytes far y client after.end) r (put accord))))
+      open_so old mid settled q l far.end t joins b j after client (Put m) new answers.Reject left
+      (by (of_own (Fails Reject) (subst (λ y. Fails y bytes far mid.air) r fails))
+      (of_own (λ xs f a. IsRejected xs f.end client after.end) (subst (λ y. PutFails bytes far.end y client after.end) r (put accord))))
     where
-      by : Fails (message_of m) Own Reject → IsRejected (message_of m) Own client after.end → ObeyedBy joins Was Opens (Put m) answers.Reject
-      by (inl (refusals.Reject, is, made)) r = put_rejected old.air old.ends old.peers l (so old mid settled q l far t) m fits joins b j after client made r
+      by : Fails Reject (message_of m) (Of Own) old.air → IsRejected (message_of m) Own client after.end → ObeyedBy joins Was Opens (Put m) answers.Reject
+      by (inl (refusals.Reject, is, made)) r = put_rejected old.air old.ends old.peers l (so old mid settled q l far.end t) m fits joins b j after client made r
       by (inl (refusals.NotFound, is, made)) r = absurd cc
       by (inl (refusals.Excess, is, made)) r = absurd cc
       by (inl (refusals.NotImplemented, is, made)) r = absurd cc
@@ -132,33 +136,32 @@ module _ (old mid : Machines) (settled : IsSettled old) (q : ℕ) (l : OpenLink)
   never_short refusals.Excess e = cc
   never_short refusals.NotImplemented e = cc
 
-  pub told_lost : (new : Machines) → new ≡ Down → (x : SnepFault) (c : EndCause) → x ≡ LinkEnded c → Fails bytes far x → (Accords l.client far → PutFails bytes far x client after.end)
+  pub told_lost : (new : Machines) → new ≡ Down → (x : SnepFault) (c : EndCause) → x ≡ LinkEnded c → Fails x bytes far mid.air → (Accords l.client far.end → PutFails bytes far.end x client after.end)
       → (answer : Answer) → told_loss c ≡ Some answer → ObeyedBy joins old new (Put m) answer
   told_lost new left x c r fails put answer told =
-      gone_so old mid settled q l far t joins b j after client (Put m) new answer left
-      (by c told (of_own (λ xs f. Fails xs f (LinkEnded c)) (subst (Fails bytes far) r fails))
-      (of_own (λ xs f. AddsAtMost xs f after.end) (subst (λ y. PutFails bytes far y client after.end) r (put accord))))
+      gone_so old mid settled q l far.end t joins b j after client (Put m) new answer left
+      (by c told (of_own (Fails (LinkEnded c)) (subst (λ y. Fails y bytes far mid.air) r fails))
+      (of_own (λ xs f a. AddsAtMost xs f.end after.end) (subst (λ y. PutFails bytes far.end y client after.end) r (put accord))))
     where
-      by : (c : EndCause) → told_loss c ≡ Some answer → Fails (message_of m) Own (LinkEnded c) → AddsAtMost (message_of m) Own after.end → ObeyedBy joins Was Gone (Put m) answer
+      by : (c : EndCause) → told_loss c ≡ Some answer → Fails (LinkEnded c) (message_of m) (Of Own) old.air → AddsAtMost (message_of m) Own after.end → ObeyedBy joins Was Gone (Put m) answer
       by c t' (inl (why, is, made)) a = absurd (never_refused why c is)
       by c t' (inr (inl (bad, made))) a = absurd cc
-      by cause.FieldLost t' (inr (inr ended)) a = put_lost old.air old.ends old.peers l (so old mid settled q l far t) m fits joins b j after client cause.FieldLost answer ended t' a
-      by cause.SixBad t' (inr (inr ended)) a = put_lost old.air old.ends old.peers l (so old mid settled q l far t) m fits joins b j after client cause.SixBad answer ended t' a
+      by cause.FieldLost t' (inr (inr ended)) a = put_lost old.air old.ends old.peers l (so old mid settled q l far.end t) m fits joins b j after client cause.FieldLost answer ended t' a
+      by cause.SixBad t' (inr (inr ended)) a = put_lost old.air old.ends old.peers l (so old mid settled q l far.end t) m fits joins b j after client cause.SixBad answer ended t' a
       by cause.Protocol t' (inr (inr never)) a = absurd never
       by cause.Memory t' (inr (inr never)) a = absurd never
 
-  pub told_short : (new : Machines) → new ≡ Down → (x : SnepFault) → x ≡ Memory → Fails bytes far x → (Accords l.client far → PutFails bytes far x client after.end) → IsCutOff old new (Put m)
+  pub told_short : (new : Machines) → new ≡ Down → (x : SnepFault) → x ≡ Memory → Fails x bytes far mid.air → (Accords l.client far.end → PutFails bytes far.end x client after.end) → IsCutOff old new (Put m)
   told_short new left x r fails put =
-      short_so old mid settled q l far t joins b j after client (Put m) new left
-      (by (of_own (λ xs f. Fails xs f Memory) (subst (Fails bytes far) r fails))
-      (of_own (λ xs f. AddsAtMost xs f after.end) (subst (λ y. PutFails bytes far y client after.end) r (put accord))))
+      short_so old mid settled q l far.end t joins b j after client (Put m) new left
+      (by (of_own (Fails Memory) (subst (λ y. Fails y bytes far mid.air) r fails))
+      (of_own (λ xs f a. AddsAtMost xs f.end after.end) (subst (λ y. PutFails bytes far.end y client after.end) r (put accord))))
     where
-      by : Fails (message_of m) Own Memory → AddsAtMost (message_of m) Own after.end → IsCutOff Was Gone (Put m)
+      by : Fails Memory (message_of m) (Of Own) old.air → AddsAtMost (message_of m) Own after.end → IsCutOff Was Gone (Put m)
       by (inl (why, is, made)) a = absurd (never_short why is)
       by (inr (inl (bad, made))) a = absurd cc
-      by (inr (inr cut)) a = put_short old.air old.ends old.peers l (so old mid settled q l far t) m fits joins b j after client cut a
+      by (inr (inr cut)) a = put_short old.air old.ends old.peers l (so old mid settled q l far.end t) m fits joins b j after client cut a
 
 -- no other fault
-pub never_told : (bytes : List ℕ) (l : OpenLink) (far after : FarEnd) (client : EndState) → Accords l.client far → (x y : SnepFault) → x ≡ y
-    → (Accords l.client far → PutFails bytes far x client after) → PutFails bytes far y client after
-never_told bytes l far after client accord x y r put = subst (λ z. PutFails bytes far z client after) r (put accord)
+pub never_told : (bytes : List ℕ) (far after : FarEnd) (client : EndState) (x y : SnepFault) → x ≡ y → PutFails bytes far x client after → PutFails bytes far y client after
+never_told bytes far after client x y r put = subst (λ z. PutFails bytes far z client after) r put

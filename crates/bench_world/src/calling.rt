@@ -170,7 +170,12 @@ fn is_too_long(message: &Msg) -> bool
 }
 
 /// Puts a message to the server of the link's peer.
-pub fn put(alloc: Global, machines: &mut Machines, joins: Joins, message: &Msg) -> Result<Answer, ObeyFault>
+pub fn put(
+    alloc: Global,
+    machines: &mut Machines,
+    joins: Joins,
+    message: &Msg,
+) -> Result<Answer, ObeyFault>
     requires { IsSettled machines.old }
     ensures ok { IfOk result (λ a. ObeyedBy joins machines.old machines.new (Command.Put message.now) a) }
     ensures refused { IsErrOf result ObeyFault.Refused → (machines.new ≡ machines.old) }
@@ -190,7 +195,12 @@ pub fn put(alloc: Global, machines: &mut Machines, joins: Joins, message: &Msg) 
 }
 
 /// Gets the value of a key of the server of the link's peer, where a link is open.
-fn get_value(machines: &mut Machines, joins: Joins, acceptable: u32, key: &[u8]) -> Result<Answer, AllocError>
+fn get_value(
+    machines: &mut Machines,
+    joins: Joins,
+    acceptable: u32,
+    key: &[u8],
+) -> Result<Answer, AllocError>
     requires settled { IsSettled machines.old }
     requires may { MayGet acceptable key.now }
     ensures ok { IfOk result (λ a. ObeyedBy joins machines.old machines.new (Command.Get acceptable key.now) a) }
@@ -241,7 +251,12 @@ fn get_value(machines: &mut Machines, joins: Joins, acceptable: u32, key: &[u8])
 }
 
 /// Gets a value of at most so many bytes from the server of the link's peer.
-pub fn get(machines: &mut Machines, joins: Joins, acceptable: u32, key: &[u8]) -> Result<Answer, ObeyFault>
+pub fn get(
+    machines: &mut Machines,
+    joins: Joins,
+    acceptable: u32,
+    key: &[u8],
+) -> Result<Answer, ObeyFault>
     requires { IsSettled machines.old }
     ensures ok { IfOk result (λ a. ObeyedBy joins machines.old machines.new (Command.Get acceptable key.now) a) }
     ensures refused { IsErrOf result ObeyFault.Refused → (machines.new ≡ machines.old) }
