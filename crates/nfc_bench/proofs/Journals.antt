@@ -71,6 +71,7 @@ follows_skipped old new n l skipped sound same =
       record {
         entries = [];
         given = [];
+        most = tt;
         added = ap (λ (b : Benched). b.journal) same ∙ sym (append-nil old.journal);
         numbered = subst A (sym (ap (λ v. if v then asking_lines (n + 1) [] else record { number = n; text = l } ∷ asking_lines (n + 1) []) skipped)) tt;
         steps = ap (λ (b : Benched). b.state) same;
@@ -87,6 +88,7 @@ follows_entry old new n l c asks spelled adds =
       record {
         entries = adds.entry ∷ [];
         given = adds.given ∷ [];
+        most = (adds.joined, tt);
         added = ap (λ (b : Benched). b.journal) adds.is;
         numbered = subst A (sym (ap (λ v. if v then asking_lines (n + 1) [] else record { number = n; text = l } ∷ asking_lines (n + 1) []) asks)) (adds.numbered, subst S (sym adds.asked) spelled, tt);
         steps = (adds.state, adds.legal, ap (λ (b : Benched). b.state) adds.is);

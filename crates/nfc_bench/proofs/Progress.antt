@@ -1,8 +1,10 @@
 -- A script is read, and its lines are obeyed one by one.
 use Rattle.std.proofs.Common.{◌≡◌, ℕ, ◌+◌, ◌≤◌, List, [], ◌∷◌, ◌++◌, length, Bool, true, false, Option, Ok, refl, sym, ◌∙◌, ap, subst, append_assoc, arith, inl, inr}
 use Rattle.std.specs.Prelude.{map, Err, IfSome}
+use Rattle.std.specs.List.{AllByRecursion}
 use Rattle.std.proofs.lemmas.Bool.{cases_Bool}
 use Rattle.std.proofs.lemmas.List.{append-nil, length-append}
+use Rattle.nfc_base.proofs.Leading.{all_append}
 use Rattle.nfc_io.specs.Moves.{with_front, with_end}
 use Rattle.nfc_io.proofs.Moves.{with_front-nil, read_on}
 use Rattle.nfc_io.specs.Lines.{lines_of, whole_lines}
@@ -11,7 +13,7 @@ use Rattle.nfc_io.proofs.InOrder.{ended_behind}
 use Rattle.nfc_io.proofs.Lines.{lines_front, whole_front, lines_last}
 use Rattle.bench_world.specs.declared.entry.Entry.{Entry}
 use Rattle.bench_world.specs.Journal.{LeadsTo}
-use Rattle.bench_world.specs.Legal.{State, Joins, Given, first_state}
+use Rattle.bench_world.specs.Legal.{State, Joins, Given, first_state, no_joins}
 use Rattle.bench_world.specs.Obeying.{Benched, new_bench}
 use Rattle.bench_world.specs.Report.{report_text}
 use Rattle.bench_world.proofs.LinkLaw.{link_law}
@@ -25,24 +27,33 @@ use Rattle.nfc_bench.proofs.Limits.{limits_more, limits_begun, no_limits}
 use Rattle.nfc_bench.proofs.ScriptText.{stops_at_once}
 use Rattle.nfc_bench.proofs.Journals.{legal_more, legal_none, written_more, written_none}
 
+-- as many PDUs as fit, for each of these entries
+abbrev AreMost : List Joins → Type 0
+AreMost numbers = AllByRecursion (λ j. j ≡ no_joins) numbers
+
+most_given : (gs : List Given) → AllByRecursion (λ (g : Given). g.joins ≡ no_joins) gs → AreMost (map (λ (g : Given). g.joins) gs)
+most_given [] h = tt
+most_given (g ∷ gs) h = (h.0, most_given gs h.1)
+
 -- a legal journal of some lines is the only one of them
-abbrev is_obeyed : (lines : List (List ℕ)) (numbers : List Joins) (journal : List Entry) (last : State) → LeadsTo lines numbers journal last → AreWithinLimits lines → AreObeyed lines journal
-is_obeyed lines numbers journal last leads limits = record {
+abbrev is_obeyed : (lines : List (List ℕ)) (numbers : List Joins) (journal : List Entry) (last : State) → LeadsTo lines numbers journal last → AreMost numbers → AreWithinLimits lines → AreObeyed lines journal
+is_obeyed lines numbers journal last leads most limits = record {
   legal = record { numbers = numbers; last = last; leads = leads };
+  most = most;
   only = λ other others t is same. sym (one_legal lines numbers others journal other last t leads is same);
   limits = limits;
   links = link_law lines numbers journal last leads;
 }
 
 pub obeyed_none : AreObeyed [] []
-obeyed_none = is_obeyed [] [] [] first_state legal_none no_limits
+obeyed_none = is_obeyed [] [] [] first_state legal_none tt no_limits
 
 -- where lines lead a bench to its state, it obeyed them
-obeyed_by : (lines : List (List ℕ)) (numbers : List Joins) (b : Benched) → LeadsTo lines numbers b.journal b.state → AreWithinLimits lines → b.spoiled ≡ false → ObeyedBy lines b
-obeyed_by lines numbers b leads limits sound = record { obeyed = is_obeyed lines numbers b.journal b.state leads limits; machines = refl; sound = sound }
+obeyed_by : (lines : List (List ℕ)) (numbers : List Joins) (b : Benched) → LeadsTo lines numbers b.journal b.state → AreMost numbers → AreWithinLimits lines → b.spoiled ≡ false → ObeyedBy lines b
+obeyed_by lines numbers b leads most limits sound = record { obeyed = is_obeyed lines numbers b.journal b.state leads most limits; machines = refl; sound = sound }
 
 pub obeyed_new : ObeyedBy [] new_bench
-obeyed_new = obeyed_by [] [] new_bench legal_none no_limits refl
+obeyed_new = obeyed_by [] [] new_bench legal_none tt no_limits refl
 
 -- and the other way
 pub leads_to : (lines : List (List ℕ)) (b : Benched) (o : ObeyedBy lines b) → LeadsTo lines o.obeyed.legal.numbers b.journal b.state
@@ -54,7 +65,8 @@ leaves_by lines b o = let leads = leads_to lines b o in record { given = leads.g
 -- one more line is obeyed
 pub obeyed_more : (ls : List (List ℕ)) (old new : Benched) (l : List ℕ) (n : ℕ) → ObeyedBy ls old → Follows old new n l → n ≡ 1 + length ls → n ≤ most_lines → length l ≤ longest_line → ObeyedBy (ls ++ l ∷ []) new
 obeyed_more ls old new l n obeyed follows at few fits =
-    obeyed_by (ls ++ l ∷ []) (obeyed.obeyed.legal.numbers ++ map (λ (g : Given). g.joins) follows.given) new (legal_more ls obeyed.obeyed.legal.numbers old new l n (leads_to ls old obeyed) follows at) (limits_more ls l obeyed.obeyed.limits (omega arith) fits) follows.sound
+    obeyed_by (ls ++ l ∷ []) (obeyed.obeyed.legal.numbers ++ map (λ (g : Given). g.joins) follows.given) new (legal_more ls obeyed.obeyed.legal.numbers old new l n (leads_to ls old obeyed) follows at)
+    (all_append (λ j. j ≡ no_joins) obeyed.obeyed.legal.numbers (map (λ (g : Given). g.joins) follows.given) obeyed.obeyed.most (most_given follows.given follows.most)) (limits_more ls l obeyed.obeyed.limits (omega arith) fits) follows.sound
 
 -- The lines that a reader gave are obeyed, and their entries written; the next line has this number. What was read is these lines
 -- and what the reader holds, and whatever follows belongs to what it holds; at the source's end nothing follows.

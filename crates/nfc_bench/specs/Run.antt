@@ -1,6 +1,7 @@
 -- What a run does, by its words and by the status that it ends with.
 use Rattle.std.specs.Prelude.{◌≡◌, ◌↔◌, ℕ, ◌+◌, ◌<◌, ◌≤◌, ◌⊎◌, List, [], ◌∷◌, ◌++◌, length, codes, Bool, true, false, Option, Some, IfSome}
 use Rattle.std.specs.Fmt.{decimal}
+use Rattle.std.specs.List.{AllByRecursion}
 use Rattle.nfc_io.specs.declared.source.Source as sources
 use Rattle.nfc_io.specs.declared.sink.Sink as sinks
 use Rattle.nfc_io.specs.Counts.{HasRisen}
@@ -14,7 +15,7 @@ use Rattle.nfc_bench.specs.declared.top.words.Form.{Form}
 use Rattle.nfc_bench.specs.declared.top.words.Form.TheVariants.{Run, Make}
 use Rattle.nfc_bench.specs.declared.top.program.WordsFault.{WordsFault}
 use Rattle.nfc_bench.specs.declared.top.program.WordsFault.TheVariants.{Memory, NoText}
-use Rattle.bench_world.specs.Legal.{State, Given, Joins, EachLegal, first_state}
+use Rattle.bench_world.specs.Legal.{State, Given, Joins, EachLegal, first_state, no_joins}
 use Rattle.bench_world.specs.Obeying.{Benched}
 use Rattle.bench_world.specs.Journal.{LeadsTo, Legal, AgreeFor}
 use Rattle.bench_world.specs.LinkLaw.{LinksAccept}
@@ -59,10 +60,11 @@ read_fault = codes "fault 3 read\n"
 abbrev pub line_fault : ℕ → List ℕ
 line_fault n = codes "fault 2 line " ++ decimal n ++ codes "\n"
 
--- These lines were obeyed, and this is their journal: it is legal, and no other one is, by numbers of PDUs that are the same wherever a
--- command may take any. And it keeps the law of links.
+-- These lines were obeyed, and this is their journal: it is legal where both ends of a link join as many PDUs as fit in each payload, and no
+-- other one is, by numbers of PDUs that are the same wherever a command may take any. And it keeps the law of links.
 pub record AreObeyed (lines : List (List ℕ)) (journal : List Entry) : Type 0 where
   pub legal : Legal lines journal
+  pub most : AllByRecursion (λ j. j ≡ no_joins) legal.numbers
   pub only : (other : List Entry) (numbers : List Joins) (last : State) → LeadsTo lines numbers other last → AgreeFor journal legal.numbers numbers → other ≡ journal
   pub limits : AreWithinLimits lines
   pub links : LinksAccept legal.numbers journal

@@ -1,21 +1,24 @@
 -- Why the parts of a run stop.
 use Rattle.std.specs.Prelude.{◌≡◌, ℕ, List, [], ◌∷◌, ◌++◌, Bool, true, false, Option, Result, Err}
+use Rattle.std.specs.List.{AllByRecursion}
 use Rattle.nfc_io.specs.Counts.{HasRisen}
 use Rattle.nfc_io.specs.Moves.{with_end, GainsFront}
 use Rattle.bench_world.specs.declared.entry.Entry.{Entry}
 use Rattle.nfc_bench.specs.declared.top.lines.Stop.{Stop}
 use Rattle.nfc_bench.specs.declared.top.lines.Stop.TheVariants.{Refused, ReadFault, WriteFault, Memory}
-use Rattle.bench_world.specs.Legal.{Given, EachLegal}
+use Rattle.bench_world.specs.Legal.{Given, EachLegal, no_joins}
 use Rattle.bench_world.specs.Obeying.{Benched}
 use Rattle.bench_world.specs.Journal.{Numbered}
 use Rattle.bench_world.specs.Taking.{IsTaken}
 use Rattle.bench_world.specs.Report.{entry_text, report_text}
 use Rattle.nfc_bench.specs.Run.{Leaves, AreObeyed, ObeysFront, RefusesLine, ObeysWhole, EndsUnwritten}
 
--- A line was obeyed: the journal gained its entry, if it asks for something, and the machines are in the state behind that.
+-- A line was obeyed: the journal gained its entry, if it asks for something, and the machines are in the state behind that. As many PDUs as
+-- fit were joined in each payload.
 pub record Follows (old new : Benched) (n : ℕ) (l : List ℕ) : Type 0 where
   pub entries : List Entry
   pub given : List Given
+  pub most : AllByRecursion (λ (g : Given). g.joins ≡ no_joins) given
   pub added : new.journal ≡ old.journal ++ entries
   pub numbered : Numbered n (l ∷ []) entries
   pub steps : EachLegal old.state given entries new.state
