@@ -1,8 +1,7 @@
 -- What stays of a peer's end, whatever it is handed (NFC Forum LLCP 1.3 and SNEP 1.0).
-use Rattle.std.specs.Prelude.{◌≡◌, ℕ, List}
-use Rattle.llcp_link.specs.State.{Bound, restarted}
+use Rattle.std.specs.Prelude.{ℕ, List}
+use Rattle.llcp_link.specs.State.{Bound}
 use Rattle.snep_core.specs.Accord.{PeerState}
-use Rattle.snep_core.specs.Server.{serving}
 use Rattle.snep_core.specs.Session.{Offer}
 
 -- An end's MIU, its receive window and its names, and of its server the limit and the table for get. No payload changes any of it.
@@ -15,7 +14,3 @@ pub record Setting : Type 0 where
 
 abbrev pub setting_of : PeerState → Setting
 setting_of l = record { miu = l.miu; window = l.window; bound = l.bound; limit = l.service.limit; table = l.service.table }
-
--- a new link begins at an end with a server
-abbrev pub begins : PeerState → List ℕ → PeerState → Type 0
-begins old general new = new ≡ restarted serving old general
