@@ -1,5 +1,6 @@
--- What links to the bench's peers keep to: which request is due while one is opened, what talking to a peer leaves of all devices, and
--- that all of it happens so in the world with far ends (NFCIP-1, ISO/IEC 18092; who hears what is this project's own).
+-- What links to the bench's peers keep to: which request is due while one is opened, what talking to a peer leaves of
+-- all devices, and that all of it happens so in the world with far ends (NFCIP-1, ISO/IEC 18092; who hears what is this
+-- project's own).
 use Rattle.std.specs.Prelude.{◌≡◌, ℕ, List, [], ◌∷◌, ◌++◌, Bool, false, Option, Some, Result, Ok, Err, true, length}
 use Rattle.nfc_base.specs.Signal.{Signal, whole_a}
 use Rattle.nfc_base.specs.Far.{Untouched}
@@ -32,7 +33,8 @@ use Rattle.bench_devices.specs.Opening.{peer_next, linking, Opens}
 use Rattle.bench_devices.specs.Phases.{Stands}
 use Rattle.bench_devices.specs.Polling.{Told, asks, selecting}
 
--- What the selection asks is due first. Behind one that told a peer it is ATR_REQ; behind one that told a tag or a fault it is nothing.
+-- What the selection asks is due first. Behind one that told a peer it is ATR_REQ; behind one that told a tag or a
+-- fault it is nothing.
 pub record LinkAsks : Type 0 where
   pub first : (id : DeviceId) (general : List ℕ) (ns : List Note) (n : Next) → asks (selecting id ns) ≡ n → IsDemand n → linking id general ns ≡ n
   pub behind : (id : DeviceId) (general : List ℕ) (kind : SeenKind) (hs ns : List Note) → selecting id hs ≡ Told (Ok kind) [] → linking id general (hs ++ ns) ≡ peer_next kind general ns
@@ -46,8 +48,8 @@ PeerStands = (a : Air Device) (place : ℕ) (d : Device) → Stands (moment a) p
 abbrev pub OthersAside : Type 0
 OthersAside = (own : List ℕ) (place : ℕ) (ls : List Device) → PeerAt own place ls → AsideBut ghosts own place ls
 
--- Swaps over a link change of every device its state alone, unless memory was wanting: also where the field was lost, or six receptions
--- were bad.
+-- Swaps over a link change of every device its state alone, unless memory was wanting: also where the field was lost,
+-- or six receptions were bad.
 abbrev pub SwapsLeave : Type 0
 SwapsLeave =
     (own : List ℕ) (place : ℕ) (a b : DepSeen Device) (swaps : List Swap) → Chained ghosts device_end swaps a b → (b.over ≡ Some Memory → ⊥) → PeerAt own place a.air.listeners
@@ -57,8 +59,8 @@ SwapsLeave =
 abbrev pub ReadyInStep : Type 0
 ReadyInStep = (own : List ℕ) (place : ℕ) (a : DepSeen Device) → IsDepReady ghosts device_end a → PeerAt own place a.air.listeners → InStepAt a.air place a.initiator
 
--- A selected peer with a link does what its target's table says. So where one stands in the lit field, all others being aside, and its end
--- is in step with an initiator, the field is in step there.
+-- A selected peer with a link does what its target's table says. So where one stands in the lit field, all others being
+-- aside, and its end is in step with an initiator, the field is in step there.
 abbrev pub LinkedInStep : Type 0
 LinkedInStep =
     (a : Air Device) (place : ℕ) (own : List ℕ) (before : List Device) (l : Device) (behind : List Device) (i : InitState) → a.lit ≡ true → a.listeners ≡ before ++ l ∷ behind
@@ -86,8 +88,8 @@ module _ {A : Type 0} (restarts : A → List ℕ → A → Type 0) (steps : A �
       (own : List ℕ) (place : ℕ) (old new : Air Device) (far after : A) (result : Result (Unit {0}) LinkEnd) → PeerAt own place old.listeners
       → Releases devices restarts steps stops is_stuck old far result new after → TalkLeaves own place old.listeners new.listeners
 
-  -- The opening of a link, from the selection of its peer on, is a stretch of the world with far ends at the peer's place, where its far
-  -- end begins a new link as often as ATR_REQ arrives. It takes no number.
+  -- The opening of a link, from the selection of its peer on, is a stretch of the world with far ends at the peer's
+  -- place, where its far end begins a new link as often as ATR_REQ arrives. It takes no number.
   abbrev pub OpensFar : {F : Type 0} → FarTable F → (A → Choosing F) → Type 0
   OpensFar {F} t view = IsFarTable t → IsOfTable restarts steps t view
       → (id : DeviceId) (general : List ℕ) (place : ℕ) (d : Device) (result : Result (InitState × ArrayVec ℕ) EndCause) (old mid new : Air Device) (far after : A) (notes : List Note)

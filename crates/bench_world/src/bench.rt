@@ -344,8 +344,8 @@ fn run_command(
     }
 }
 
-/// A field, the devices in it with the far ends above them, and the journal of the commands that were obeyed. Once want of memory has cut a command
-/// off it obeys none.
+/// A field, the devices in it with the far ends above them, and the journal of the commands that were obeyed. Once want
+/// of memory has cut a command off it obeys none.
 #[derive(Drop)]
 pub struct Bench {
     alloc: Global,

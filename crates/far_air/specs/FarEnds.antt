@@ -3,9 +3,9 @@ use Rattle.std.specs.Prelude.{ℕ, List, [], ◌∷◌, Bool, true, false, Optio
 use Rattle.nfc_base.specs.Far.{FarUse, Untouched, Restarts, Hands}
 use Rattle.nfc_base.specs.Choosing.{later_numbers}
 
--- What the far ends of one type do. A new link begins, with the other end's general bytes. A payload is replied to, by a number that
--- chooses among the replies that the end may give: how many PDUs stand in one, and what is no allowed number counts as the
--- most. And what stays of an end that has no link.
+-- What the far ends of one type do. A new link begins, with the other end's general bytes. A payload is replied to, by
+-- a number that chooses among the replies that the end may give: how many PDUs stand in one, and what is no allowed
+-- number counts as the most. And what stays of an end that has no link.
 pub record FarTable (F : Type 0) : Type 0 where
   pub restarted : F → List ℕ → F
   pub reply : F → List ℕ → ℕ → List ℕ

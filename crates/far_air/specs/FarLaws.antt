@@ -8,23 +8,23 @@ use Rattle.air_core.specs.Conversation.{Moment}
 use Rattle.far_air.specs.FarEnds.{FarTable, first_far, later_fars, by_link}
 use Rattle.far_air.specs.FarWorld.{FarWorld}
 
--- What is asked of far ends: of one that rests already the same stays; a new link begins the same from what stays; and it
--- leaves what stays as it was.
+-- What is asked of far ends: of one that rests already the same stays; a new link begins the same from what stays; and
+-- it leaves what stays as it was.
 pub record IsFarTable {F : Type 0} (t : FarTable F) : Type 0 where
   pub twice : (a : F) → t.rested (t.rested a) ≡ t.rested a
   pub anew : (a : F) (general : List ℕ) → t.restarted (t.rested a) general ≡ t.restarted a general
   pub keeps : (a : F) (general : List ℕ) → t.rested (t.restarted a general) ≡ t.rested a
 
--- What is asked of devices: one that hands a payload over has a link; one without a link has none after a frame at which it
--- hands nothing over, nor after light; and in the dark none has one.
+-- What is asked of devices: one that hands a payload over has a link; one without a link has none after a frame at
+-- which it hands nothing over, nor after light; and in the dark none has one.
 pub record IsLinked {L : Type 0} (m : Machine L) (linked : L → Bool) : Type 0 where
   pub hands : (l : L) (f : Signal) (payload : List ℕ) → m.handed l f ≡ Hands payload → linked l ≡ true
   pub begins : (l : L) (f : Signal) → linked l ≡ false → m.handed l f ≡ Untouched → linked (m.after l f None) ≡ false
   pub light : (l : L) → linked l ≡ false → linked (m.woken l) ≡ false
   pub dark : (l : L) → linked (m.darkened l) ≡ false
 
--- A far end of the code, whose steps are relations, is one of this table: seen so, each step is the table's, by the next of the numbers
--- that are left to it. A new link takes none.
+-- A far end of the code, whose steps are relations, is one of this table: seen so, each step is the table's, by the
+-- next of the numbers that are left to it. A new link takes none.
 pub record IsOfTable {A F : Type 0} (restarts : A → List ℕ → A → Type 0) (steps : A → List ℕ → List ℕ → A → Type 0) (t : FarTable F) (view : A → Choosing F) : Type 0 where
   pub restart : (a : A) (general : List ℕ) (b : A) → restarts a general b
       → view b ≡ record { end = t.restarted (view a).end general; numbers = (view a).numbers }

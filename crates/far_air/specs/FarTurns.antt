@@ -1,5 +1,5 @@
--- The second bridge: where one device at most hands something over, what `transmit` says over its far end is a turn of the world with
--- far ends, at that device's place.
+-- The second bridge: where one device at most hands something over, what `transmit` says over its far end is a turn of
+-- the world with far ends, at that device's place.
 use Rattle.std.specs.Prelude.{◌≡◌, ℕ, zero, suc, List, [], ◌∷◌, ◌++◌, Bool, Option}
 use Rattle.nfc_base.specs.declared.event.Event.TheVariants.{Reset}
 use Rattle.nfc_base.specs.declared.event.Heard.{Heard}
@@ -22,8 +22,8 @@ QuietBut m f zero (l ∷ ls) = EachQuiet m f ls
 QuietBut m f (suc place) (l ∷ ls) = (hands_over m l f ≡ Untouched) × QuietBut m f place ls
 
 module _ {L F : Type 0} (m : Machine L) (linked : L → Bool) (t : FarTable F) where
-  -- From one moment of a field to another a turn was made, in which the far end of the device at this place went from one state to
-  -- another: it is a turn of the world with far ends, by the numbers that are left to it.
+  -- From one moment of a field to another a turn was made, in which the far end of the device at this place went from
+  -- one state to another: it is a turn of the world with far ends, by the numbers that are left to it.
   abbrev pub FarTurn : Moment (World L) → Moment (World L) → Signal → Option Heard → ℕ → List (Option F) → Choosing F → Choosing F → Type 0
   FarTurn old new f heard place os far after =
       TurnsTo (far_air m linked t) (seen_with linked t old os place far) (seen_with linked t new os place after) f heard
@@ -40,8 +40,8 @@ module _ {L F : Type 0} (m : Machine L) (linked : L → Bool) (t : FarTable F) w
       → with_events (far_air m linked t) (seen_at linked t a os ns) (Reset ∷ [])
       ≡ seen_at linked t (with_events (quiet_air m) a (Reset ∷ [])) os ns
 
-  -- From one moment to another turns were made whose requests were due, and this is what the reader knows of them; the far end of the
-  -- device at this place went from one state to another, and took its numbers in order.
+  -- From one moment to another turns were made whose requests were due, and this is what the reader knows of them; the
+  -- far end of the device at this place went from one state to another, and took its numbers in order.
   abbrev pub FarGoing : (List Note → Next) → Moment (World L) → Moment (World L) → List Note → ℕ → List (Option F) → Choosing F → Choosing F → Type 0
   FarGoing next old new notes place os far after =
       Going (far_air m linked t) next (seen_with linked t old os place far) (seen_with linked t new os place after) notes

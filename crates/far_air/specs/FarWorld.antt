@@ -12,8 +12,8 @@ use Rattle.air_core.specs.Conversation.{AirModel}
 use Rattle.nfc_base.specs.Choosing.{first_number}
 use Rattle.far_air.specs.FarEnds.{FarTable, numbers_left, first_far, later_fars, reply_to, moved, rests, by_link}
 
--- A field's world; for each of its devices, at its place, its far end's state, and nothing for a tag; and the numbers of PDUs that are
--- left for replies.
+-- A field's world; for each of its devices, at its place, its far end's state, and nothing for a tag; and the numbers
+-- of PDUs that are left for replies.
 pub record FarWorld (L F : Type 0) : Type 0 where
   pub field : World L
   pub fars : List (Option F)
@@ -41,8 +41,8 @@ with_numbers w ns = record { field = w.field; fars = w.fars; numbers = ns }
 
 -- The devices are of one machine, have a link or have none, and their far ends are of one table.
 module _ {L F : Type 0} (m : Machine L) (linked : L → Bool) (t : FarTable F) where
-  -- What the far end of a device replies to what it hands over at a frame, by the first number that is left; the device then; and
-  -- its far end: where the device has no link any more, there is of it what stays.
+  -- What the far end of a device replies to what it hands over at a frame, by the first number that is left; the device
+  -- then; and its far end: where the device has no link any more, there is of it what stays.
   abbrev pub reply_at : L → Signal → Option F → List ℕ → Option (List ℕ)
   reply_at l f o ns = reply_to t (hands_over m l f) o (first_number ns)
 

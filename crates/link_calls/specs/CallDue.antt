@@ -1,5 +1,6 @@
--- What is due while a client's call is carried over a link to a peer, by what was heard of it: each payload of the call is one exchange
--- of NFC-DEP, and the call goes on by its reply (NFCIP-1, ISO/IEC 18092; NFC Forum LLCP 1.3 and SNEP 1.0).
+-- What is due while a client's call is carried over a link to a peer, by what was heard of it: each payload of the call
+-- is one exchange of NFC-DEP, and the call goes on by its reply (NFCIP-1, ISO/IEC 18092; NFC Forum LLCP 1.3 and SNEP
+-- 1.0).
 use Rattle.std.specs.Prelude.{ℕ, List, [], ◌∷◌}
 use Rattle.nfc_base.specs.declared.carrier.EndCause.{EndCause}
 use Rattle.air_core.specs.Conversation.{Note, Next, Over}
@@ -8,9 +9,9 @@ use Rattle.dep_link.specs.Asking.{Standing, Waits, Rests, Broken, Astray, asks, 
 use Rattle.nfc_base.specs.Choosing.{first_number, later_numbers}
 use Rattle.snep_core.specs.Talk.{Step, Goes, Ends, GivesUp, Working, payload, replied}
 
--- Where a call stands: its next payload is under way in an exchange that stands so, with these numbers left, of which the first is how
--- many PDUs the payload has; it came to its end, where the initiator rests; its link ended by a fault; or something was heard that
--- belongs to no exchange.
+-- Where a call stands: its next payload is under way in an exchange that stands so, with these numbers left, of which
+-- the first is how many PDUs the payload has; it came to its end, where the initiator rests; its link ended by a fault;
+-- or something was heard that belongs to no exchange.
 pub data CallStanding : Type 0 where
   Carries : Working → List ℕ → Standing → CallStanding
   Comes : Step → InitState → CallStanding
@@ -46,8 +47,8 @@ call_due_at (Comes to i) = Over
 call_due_at (BrokenBy cause) = Over
 call_due_at Strays = Over
 
--- Where a call stands that began with this step, on a link whose initiator stood so, once this was heard. The numbers say how many PDUs
--- each payload has; where there is none left, 0, which is as many as fit.
+-- Where a call stands that began with this step, on a link whose initiator stood so, once this was heard. The numbers
+-- say how many PDUs each payload has; where there is none left, 0, which is as many as fit.
 abbrev pub call_stand : List ℕ → Step → InitState → List Note → CallStanding
 call_stand ns from i notes = call_on (call_at ns from i) notes
 

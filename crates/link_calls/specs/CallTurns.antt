@@ -1,5 +1,5 @@
--- A client's call over a link to a peer, in the world with far ends: each request was due by what was heard before it (NFCIP-1, ISO/IEC
--- 18092; NFC Forum SNEP 1.0; the air is this project's own).
+-- A client's call over a link to a peer, in the world with far ends: each request was due by what was heard before it
+-- (NFCIP-1, ISO/IEC 18092; NFC Forum SNEP 1.0; the air is this project's own).
 use Rattle.std.specs.Prelude.{◌≡◌, ◌⊎◌, ℕ, List, Bool, true, Option, None}
 use Rattle.nfc_base.specs.Choosing.{Choosing}
 use Rattle.nfc_base.specs.Signal.{Signal}
@@ -32,15 +32,15 @@ abbrev pub swaps : {L C : Type 0} → Ghosts L → (L → TargetState) → (C �
 swaps k target see a out did b = dep_swaps k target (see a) out did (see b)
 
 module _ {L F : Type 0} (k : Ghosts L) (target : L → TargetState) (linked : L → Bool) (t : FarTable F) where
-  -- From one moment of a field to another the requests of a call were made, with these numbers of PDUs: each was due, this was heard, and
-  -- it brought the call to where it stands.
+  -- From one moment of a field to another the requests of a call were made, with these numbers of PDUs: each was due,
+  -- this was heard, and it brought the call to where it stands.
   pub record CallTurns (numbers : List ℕ) (from : Step) (i : InitState) (old new : Air L) (place : ℕ) (os : List (Option F)) (far after : Choosing F) (s : CallStanding) : Type 0 where
     pub notes : List Note
     pub going : FarGoing k.machine linked t (call_due numbers from i) (moment old) (moment new) notes place os far after
     pub stands : call_stand numbers from i notes ≡ s
 
-  -- Behind such requests nothing more happened; or the request passed that was due, and the far end stopped for want of memory: nothing
-  -- came back of it.
+  -- Behind such requests nothing more happened; or the request passed that was due, and the far end stopped for want of
+  -- memory: nothing came back of it.
   pub record CallFront (numbers : List ℕ) (from : Step) (i : InitState) (old new : Air L) (place : ℕ) (os : List (Option F)) (far after : Choosing F) : Type 0 where
     pub standing : CallStanding
     pub mid : Air L
@@ -61,7 +61,8 @@ module _ {L F : Type 0} (k : Ghosts L) (target : L → TargetState) (linked : L 
   CutBy numbers from i old new place os far after _ = ⊥
 
   module _ {C A : Type 0} (see : C → DepSeen L) (restarts : A → List ℕ → A → Type 0) (steps : A → List ℕ → List ℕ → A → Type 0) (stops : A → List ℕ → A → Type 0) (view : A → Choosing F) where
-    -- What a call did over a link to a peer, with what the far end did, is that: it goes on from the numbers that are left.
+    -- What a call did over a link to a peer, with what the far end did, is that: it goes on from the numbers that are
+    -- left.
     abbrev pub TalksFar : Type 0
     TalksFar = IsLinked k.machine linked → IsFarTable t → IsOfTable restarts steps t view
         → (numbers : List ℕ) (from to : Step) (a b : C) (far after : A) → (x : Talks (sees see) (swaps k target see) steps stops numbers from a far to b after) → (see a).over ≡ None

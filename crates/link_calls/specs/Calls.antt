@@ -1,4 +1,5 @@
--- What a client's call over the open link of a field does, and how it leaves the link (NFC Forum LLCP 1.3 and SNEP 1.0).
+-- What a client's call over the open link of a field does, and how it leaves the link (NFC Forum LLCP 1.3 and SNEP
+-- 1.0).
 use Rattle.std.specs.Prelude.{◌≡◌, ◌⊎◌, ℕ, ◌<◌, List, length, drop, Bool, true, Option, Some, None}
 use Rattle.nfc_base.specs.Choosing.{Choosing}
 use Rattle.nfc_base.specs.Trace.{noise}
@@ -26,15 +27,15 @@ use Rattle.link_calls.specs.Arriving.{Arrives, IsCounted}
 use Rattle.link_calls.specs.Staying.{setting_of}
 
 module _ {L : Type 0} (k : Ghosts L) (target : L → TargetState) where
-  -- A link is open: the field is lit, and in it a peer is selected, alone and in step with the initiator, whose last exchange didn't end
-  -- by a fault.
+  -- A link is open: the field is lit, and in it a peer is selected, alone and in step with the initiator, whose last
+  -- exchange didn't end by a fault.
   pub record IsOpen (air : Air L) (i : InitState) : Type 0 where
     pub in_step : IsInStep k target air i
     pub going : over_at i.phase true ≡ None
 
-  -- From a moment of the field, its initiator and its peer's end to others payloads were swapped over the link, which is over by this cause then, or
-  -- isn't. What arrived at the peer its end took, counted from the initiator's number; a link that isn't over is counted to that number again. So
-  -- nothing changes that is set of the end.
+  -- From a moment of the field, its initiator and its peer's end to others payloads were swapped over the link, which
+  -- is over by this cause then, or isn't. What arrived at the peer its end took, counted from the initiator's number; a
+  -- link that isn't over is counted to that number again. So nothing changes that is set of the end.
   pub record IsCarried (old : Air L) (i : InitState) (far : PeerState) (new : Air L) (j : InitState) (after : PeerState) (over : Option EndCause) : Type 0 where
     pub at : DepSeen L
     pub left : (at.air ≡ new) × (at.initiator ≡ j) × (at.over ≡ over)
@@ -44,17 +45,18 @@ module _ {L : Type 0} (k : Ghosts L) (target : L → TargetState) where
     pub counted : over ≡ None → IsCounted i.core.number (drop (length old.trace) new.trace) j.core.number
     pub setting : setting_of after ≡ setting_of far
 
-  -- A call on an open link, from a moment of the field, its initiator and its peer's end to others.
-  -- These numbers say how many PDUs each of its payloads has, and those that are left to the peer's end the same of its replies.
+  -- A call on an open link, from a moment of the field, its initiator and its peer's end to others. These numbers say
+  -- how many PDUs each of its payloads has, and those that are left to the peer's end the same of its replies.
   module _ (numbers : List ℕ) (from : Step) (old : Air L) (i : InitState) (far : Choosing PeerState) (new : Air L) (j : InitState) (after : Choosing PeerState) where
-    -- In the world with the far ends of peers, at the place of this one, each of its requests was due, and what was heard brought it to
-    -- where it stands so.
+    -- In the world with the far ends of peers, at the place of this one, each of its requests was due, and what was
+    -- heard brought it to where it stands so.
     abbrev pub CallComes : CallStanding → Type 0
     CallComes s =
         (linked : L → Bool) → IsLinked k.machine linked → (place : ℕ) → Stands k target linked peer_ends old place → (os : List (Option PeerState))
         → CallTurns k target linked peer_ends numbers from i old new place os far after s
 
-    -- It came to its end: what was heard tells how, and where the initiator rests. The link is open, and its peer stands where it stood.
+    -- It came to its end: what was heard tells how, and where the initiator rests. The link is open, and its peer
+    -- stands where it stood.
     pub record IsMade (to : Step) : Type 0 where
       pub open_ : IsOpen new j
       pub turns : CallComes (Comes to j)

@@ -1,5 +1,5 @@
--- A client's connection that is ended, and its link released, in the world with far ends (NFCIP-1, ISO/IEC 18092; NFC Forum LLCP 1.3;
--- the air is this project's own).
+-- A client's connection that is ended, and its link released, in the world with far ends (NFCIP-1, ISO/IEC 18092; NFC
+-- Forum LLCP 1.3; the air is this project's own).
 use Rattle.std.specs.Prelude.{◌≡◌, ◌⊎◌, ℕ, ◌<◌, List, length, drop, Bool, true, Option, Some, None}
 use Rattle.nfc_base.specs.Choosing.{Choosing}
 use Rattle.nfc_base.specs.Far.{Untouched}
@@ -40,7 +40,8 @@ module _ {L F : Type 0} (k : Ghosts L) (linked : L → Bool) (t : FarTable F) wh
     pub going : FarGoing k.machine linked t (closing_due numbers from i) (moment old) (moment new) notes place os far after
     pub stands : closing_stand numbers from i notes ≡ s
 
-  -- Behind such requests nothing more happened; or the request passed that was due, and the far end stopped for want of memory.
+  -- Behind such requests nothing more happened; or the request passed that was due, and the far end stopped for want of
+  -- memory.
   pub record ClosingFront (numbers : List ℕ) (from : Step) (i : InitState) (old new : Air L) (place : ℕ) (os : List (Option F)) (far after : Choosing F) : Type 0 where
     pub standing : ClosingStanding
     pub mid : Air L
@@ -59,8 +60,8 @@ module _ {L : Type 0} (k : Ghosts L) (target : L → TargetState) where
         (linked : L → Bool) → IsLinked k.machine linked → (place : ℕ) → Stands k target linked peer_ends old place → (os : List (Option PeerState))
         → ClosingTurns k linked peer_ends numbers from i old new place os far after s
 
-    -- Behind payloads that were swapped, as a call that came to its end, RLS_REQ was sent, and this was heard of it, none where the field was
-    -- lost. Where no listener hands anything over at it, the end stays: nothing more arrived.
+    -- Behind payloads that were swapped, as a call that came to its end, RLS_REQ was sent, and this was heard of it,
+    -- none where the field was lost. Where no listener hands anything over at it, the end stays: nothing more arrived.
     pub record SendsRls (heard : Option Heard) : Type 0 where
       pub mid : Air L
       pub rest : InitState
@@ -78,7 +79,8 @@ module _ {L : Type 0} (k : Ghosts L) (target : L → TargetState) where
       pub heard : Heard
       pub sent : SendsRls (Some heard)
 
-    -- The link ended by this cause, in the call or as RLS_REQ was sent. Six bad receptions have a transmission that didn't pass.
+    -- The link ended by this cause, in the call or as RLS_REQ was sent. Six bad receptions have a transmission that
+    -- didn't pass.
     pub record IsLost (j : InitState) (c : EndCause) : Type 0 where
       pub turns : ClosingComes (Calls (BrokenBy c))
       pub how : IsCarried k target old i far.end new j after.end (Some c) ⊎ ((c ≡ cause.FieldLost) × SendsRls None)

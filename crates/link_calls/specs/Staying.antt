@@ -4,7 +4,8 @@ use Rattle.llcp_link.specs.State.{Bound}
 use Rattle.snep_core.specs.Accord.{PeerState}
 use Rattle.snep_core.specs.Session.{Offer}
 
--- An end's MIU, its receive window and its names, and of its server the limit and the table for get. No payload changes any of it.
+-- An end's MIU, its receive window and its names, and of its server the limit and the table for get. No payload changes
+-- any of it.
 pub record Setting : Type 0 where
   pub miu : ℕ
   pub window : ℕ

@@ -1,5 +1,5 @@
-//! A client's calls on the open link of a field. `counts` say how many PDUs each payload of the client's end has, and `far` is the
-//! peer's end, with those of its own payloads.
+//! A client's calls on the open link of a field. `counts` say how many PDUs each payload of the client's end has, and
+//! `far` is the peer's end, with those of its own payloads.
 
 ghost use Rattle.std.specs.Prelude.{◌≡◌, ◌≤◌, length, false, IfOk, IfErr, OnOk};
 ghost use Rattle.snep_core.specs.Accord.{Accords, AsideFails, GetFails, IsFound, IsGot, IsTaken, PutFails};

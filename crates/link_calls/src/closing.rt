@@ -27,8 +27,8 @@ fn fault_at(cause: EndCause) -> SnepFault
     }
 }
 
-/// Ends the client's connection, where one is open, and releases the link: RLS_REQ is sent once, and whatever is heard of
-/// it is passed over. The link is over then.
+/// Ends the client's connection, where one is open, and releases the link: RLS_REQ is sent once, and whatever is heard
+/// of it is passed over. The link is over then.
 pub fn close_and_release<L: PeerListener>(
     field: &mut Field<L>,
     initiator: &mut Initiator,

@@ -341,8 +341,8 @@ fn begins_agf(frame: &[u8]) -> bool {
     frame.len() > 6 && frame[5] == 0x00 && frame[6] == 0x80
 }
 
-/// Whether an AGF went over in a put of 500 bytes, to a phone that takes payloads of 2,047 bytes and units of 128, four at a
-/// time, where both ends have these numbers; and how many messages the phone has then.
+/// Whether an AGF went over in a put of 500 bytes, to a phone that takes payloads of 2,047 bytes and units of 128, four
+/// at a time, where both ends have these numbers; and how many messages the phone has then.
 fn joined_by(rt: &impl Abort, alloc: Global, numbers: &[u32]) -> Result<(bool, usize), Fail> {
     let mut end = Llc::new(alloc, PARAMS, 4, Server::new(alloc, 1024));
     assert_eq!(rt; end.listen("urn:nfc:sn:snep", 4), Ok(()));

@@ -13,7 +13,8 @@ pub record Gives {S : Type 0} (m : Serving S) (count : ℕ) (old : LlcState S) (
   pub bytes_are : bytes ≡ given m count old
   pub left : new ≡ after_giving m count old
 
--- This number is allowed in a payload, and no larger one is: so many are as many as fit, by 0 and by each number that isn't allowed.
+-- This number is allowed in a payload, and no larger one is: so many are as many as fit, by 0 and by each number that
+-- isn't allowed.
 pub record IsMost {S : Type 0} (m : Serving S) (l : LlcState S) (most : ℕ) : Type 0 where
   pub allowed : IsAllowed m l most
   pub larger : (n : ℕ) → IsAllowed m l n → n ≤ most
@@ -22,14 +23,15 @@ pub record IsMost {S : Type 0} (m : Serving S) (l : LlcState S) (most : ℕ) : T
 abbrev pub MostLaw : {S : Type 0} → Serving S → Type 0
 MostLaw {S} m = (l : LlcState S) → (most : ℕ) × IsMost m l most
 
--- The end gave none, or some number of PDUs that is allowed in a payload, and as it went on memory was wanting, which left the
--- service so.
+-- The end gave none, or some number of PDUs that is allowed in a payload, and as it went on memory was wanting, which
+-- left the service so.
 pub record HaltsGiving {S : Type 0} (m : Serving S) (old : LlcState S) (s : S) : Type 0 where
   pub front : LlcState S
   pub is_front : (front ≡ old) ⊎ ((n : ℕ) × IsAllowed m old n × (front ≡ (given_parts m n old).llc))
   pub service : LeavesNext m (gave m front) front.service s
 
--- Memory was wanting as PDUs were given: until a restart payloads are neither taken nor given. What no PDU changes is as it was.
+-- Memory was wanting as PDUs were given: until a restart payloads are neither taken nor given. What no PDU changes is
+-- as it was.
 pub record IsStuckGiving {S : Type 0} (m : Serving S) (old new : LlcState S) : Type 0 where
   pub stuck : new.stuck ≡ true
   pub miu : new.miu ≡ old.miu

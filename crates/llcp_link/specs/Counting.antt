@@ -1,5 +1,5 @@
--- An end of a link whose payloads have given numbers of PDUs, one number each (NFC Forum LLCP 1.3, aggregation; so that a stored report can
--- be followed, this is this project's own).
+-- An end of a link whose payloads have given numbers of PDUs, one number each (NFC Forum LLCP 1.3, aggregation; so that
+-- a stored report can be followed, this is this project's own).
 use Rattle.std.specs.Prelude.{◌≡◌, ◌≤◌, ℕ, List, length}
 use Rattle.nfc_base.specs.Choosing.{Choosing, first_number, later_numbers}
 use Rattle.llcp_link.specs.Serving.{Serving}

@@ -11,8 +11,8 @@ use std::alloc::{AllocError, Global};
 use std::collections::VecDeque;
 use std::marker::Model;
 
-/// How many PDUs stand in the next payloads of an end, one number a payload. Where one is 0, or isn't one that is due and
-/// fits, and behind the last, it is as many as fit.
+/// How many PDUs stand in the next payloads of an end, one number a payload. Where one is 0, or isn't one that is due
+/// and fits, and behind the last, it is as many as fit.
 #[derive(Debug, Drop)]
 pub struct Counts {
     left: VecDeque<u32>,

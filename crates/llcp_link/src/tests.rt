@@ -80,8 +80,8 @@ pub(crate) fn server(rt: &impl Abort, alloc: Global) -> Result<Llc<Notes>, Fail>
     Ok(llc)
 }
 
-/// What waits: of a CC, a DM, a FRMR and an SNL a letter, the SAPs, and a DM's reason, a FRMR's flags and sequence byte,
-/// the answers of an SNL.
+/// What waits: of a CC, a DM, a FRMR and an SNL a letter, the SAPs, and a DM's reason, a FRMR's flags and sequence
+/// byte, the answers of an SNL.
 fn waiting(alloc: Global, llc: &Llc<Notes>) -> Result<Vec<u8>, AllocError> {
     let mut told = Vec::new(alloc);
     for queued in llc.queue.iter() {

@@ -62,8 +62,8 @@ impl<S: Service> Llc<S> {
         }
     }
 
-    /// Writes a payload of so many PDUs that are due, or SYMM. It is empty where the other end's general bytes couldn't be
-    /// read.
+    /// Writes a payload of so many PDUs that are due, or SYMM. It is empty where the other end's general bytes couldn't
+    /// be read.
     fn give_payload(&mut self, count: u32, target: &mut Vec<u8>) -> Result<(), AllocError>
         ensures ok { OnOk result (Gives S.serving count self.old target.new.items self.new) }
         ensures size { OnOk result (length target.new.items ≤ 2178) }
@@ -87,8 +87,8 @@ impl<S: Service> Llc<S> {
         }
     }
 
-    /// Replaces `target` by the next payload, in which so many PDUs stand. Where the number is 0, or not one that is due
-    /// and fits, it is as many as fit.
+    /// Replaces `target` by the next payload, in which so many PDUs stand. Where the number is 0, or not one that is
+    /// due and fits, it is as many as fit.
     #[tactic(auto, using(crate::proofs::Fronts::alone_law, crate::proofs::MostGiven::most_law))]
     pub fn give(&mut self, count: u32, target: &mut Vec<u8>) -> Result<(), AllocError>
         ensures ok { OnOk result (Gives S.serving count self.old target.new.items self.new) }

@@ -34,7 +34,8 @@ FormOf words (Run false) = words ≡ codes "run" ∷ []
 FormOf words (Run true) = words ≡ codes "run" ∷ codes "quiet" ∷ []
 FormOf words (Make seed count) = (words ≡ codes "make" ∷ decimal seed ∷ decimal count ∷ []) × (seed ≤ most_seed) × IsCount count
 
--- What a run sees: its source, what that has left and the sink has taken, where they tell it, how often each failed, and the bench.
+-- What a run sees: its source, what that has left and the sink has taken, where they tell it, how often each failed,
+-- and the bench.
 pub record Seen (S : Type 0) : Type 0 where
   pub source : S
   pub left : Option (List ℕ)
@@ -60,8 +61,9 @@ read_fault = codes "fault 3 read\n"
 abbrev pub line_fault : ℕ → List ℕ
 line_fault n = codes "fault 2 line " ++ decimal n ++ codes "\n"
 
--- These lines were obeyed, and this is their journal: it is legal where both ends of a link join as many PDUs as fit in each payload, and no
--- other one is, by numbers of PDUs that are the same wherever a command may take any. And it keeps the law of links.
+-- These lines were obeyed, and this is their journal: it is legal where both ends of a link join as many PDUs as fit in
+-- each payload, and no other one is, by numbers of PDUs that are the same wherever a command may take any. And it keeps
+-- the law of links.
 pub record AreObeyed (lines : List (List ℕ)) (journal : List Entry) : Type 0 where
   pub legal : Legal lines journal
   pub most : AllByRecursion (λ j. j ≡ no_joins) legal.numbers
@@ -86,8 +88,8 @@ pub record Leaves (b : Benched) : Type 0 where
 abbrev pub IsRefused : State → ℕ → List ℕ → Type 0
 IsRefused s n line = (most_lines < n) ⊎ ((longest_line < length line) ⊎ (IsTaken s line → ⊥))
 
--- Line n is the first of these lines that is refused: those before it are taken, and it isn't behind what they spell. They were
--- obeyed, and this is their journal.
+-- Line n is the first of these lines that is refused: those before it are taken, and it isn't behind what they spell.
+-- They were obeyed, and this is their journal.
 pub record FirstRefused (lines : List (List ℕ)) (journal : List Entry) (n : ℕ) : Type 0 where
   pub before : List (List ℕ)
   pub line : List ℕ
@@ -188,7 +190,8 @@ Completes old new n =
     (bytes : List ℕ) → old.left ≡ Some bytes → AllTaken (lines_of bytes) → (HasRisen old.reads new.reads → ⊥)
     → (HasRisen old.writes new.writes → ⊥) → (n ≡ 0) ⊎ (n ≡ 5)
 
--- What a run over a script did, which reports answers alone or events too: from what it saw at first to what it saw at last, by its status.
+-- What a run over a script did, which reports answers alone or events too: from what it saw at first to what it saw at
+-- last, by its status.
 pub record RanScript {S : Type 0} (quiet : Bool) (old new : Seen S) (n : ℕ) : Type 0 where
   pub status : (n ≡ 0) ⊎ ((2 ≤ n) × (n ≤ 5))
   pub done : n ≡ 0 → EndsDone quiet old.left new.left old.taken new.taken new.bench.journal
@@ -250,7 +253,8 @@ pub record Ran {S : Type 0} (words : List (List ℕ)) (old new : Seen S) (n : �
   pub same : n ≡ 6 → RefusesWords old new
   pub counts : (old.reads ≤ new.reads) × (old.writes ≤ new.writes)
 
--- Where there are no words, nothing is read. For want of memory nothing is written either; a word that is no text is in no form.
+-- Where there are no words, nothing is read. For want of memory nothing is written either; a word that is no text is in
+-- no form.
 abbrev pub EndsWordless : WordsFault → Option (List ℕ) → Option (List ℕ) → ℕ → ℕ → ℕ → Type 0
 EndsWordless Memory taken taken' writes writes' n = (n ≡ 5) × (taken' ≡ taken) × (writes' ≡ writes)
 EndsWordless NoText taken taken' writes writes' n = (n ≡ 6) × AddsFault [] words_fault taken taken' writes writes'

@@ -13,8 +13,8 @@ use Rattle.bench_world.specs.Taking.{IsTaken}
 use Rattle.bench_world.specs.Report.{entry_text, report_text}
 use Rattle.nfc_bench.specs.Run.{Leaves, AreObeyed, ObeysFront, RefusesLine, ObeysWhole, EndsUnwritten}
 
--- A line was obeyed: the journal gained its entry, if it asks for something, and the machines are in the state behind that. As many PDUs as
--- fit were joined in each payload.
+-- A line was obeyed: the journal gained its entry, if it asks for something, and the machines are in the state behind
+-- that. As many PDUs as fit were joined in each payload.
 pub record Follows (old new : Benched) (n : ℕ) (l : List ℕ) : Type 0 where
   pub entries : List Entry
   pub given : List Given

@@ -1,5 +1,5 @@
--- A conversation with one listener of a field, in frames of whole bytes of NFC-A, while all others are aside (NFC Forum Digital
--- Protocol; who hears what is this project's own).
+-- A conversation with one listener of a field, in frames of whole bytes of NFC-A, while all others are aside (NFC Forum
+-- Digital Protocol; who hears what is this project's own).
 use Rattle.std.specs.Prelude.{◌≡◌, ℕ, zero, suc, List, [], ◌∷◌, Bool, Option}
 use Rattle.std.specs.List.{AllByRecursion}
 use Rattle.nfc_base.specs.Choosing.{Choosing}
@@ -15,7 +15,8 @@ use Rattle.far_air.specs.FarLaws.{IsFarTable, IsLinked, IsOfTable}
 use Rattle.far_air.specs.FarTurns.{QuietBut, FarGoing}
 
 module _ {L : Type 0} (k : Ghosts L) where
-  -- All listeners but the one at a place are aside: of another identifier than this one, and no NFC-A device that is ready or selected.
+  -- All listeners but the one at a place are aside: of another identifier than this one, and no NFC-A device that is
+  -- ready or selected.
   abbrev pub AsideBut : List ℕ → ℕ → List L → Type 0
   AsideBut own place [] = Unit {0}
   AsideBut own zero (l ∷ ls) = AllByRecursion (IsAside k own) ls

@@ -10,7 +10,8 @@ use Rattle.far_air.specs.FarEnds.{FarTable}
 use Rattle.far_air.specs.FarLaws.{IsFarTable, IsOfTable}
 
 module _ {S : Type 0} (m : Serving S) where
-  -- What stays of an end without a link: its MIU and receive window, what is bound, and of its service what a new link leaves. Else it is new.
+  -- What stays of an end without a link: its MIU and receive window, what is bound, and of its service what a new link
+  -- leaves. Else it is new.
   abbrev pub rested : LlcState S → LlcState S
   rested l = record (fresh_end l.miu l.window (m.renewed l.service)) { bound = l.bound }
 

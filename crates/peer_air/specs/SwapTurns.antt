@@ -1,4 +1,5 @@
--- Exchanges and swaps on a link to a peer, in the world with far ends (NFCIP-1, ISO/IEC 18092; the air is this project's own).
+-- Exchanges and swaps on a link to a peer, in the world with far ends (NFCIP-1, ISO/IEC 18092; the air is this
+-- project's own).
 use Rattle.std.specs.Prelude.{◌≡◌, ◌≤◌, ℕ, List, [], ◌∷◌, length, Bool, true, Option, Some, None}
 use Rattle.nfc_base.specs.Choosing.{Choosing, first_number, later_numbers}
 use Rattle.nfc_base.specs.Signal.{Signal}
@@ -29,8 +30,8 @@ swaps_of [] = []
 swaps_of (x ∷ did) = record { out = payload_of x; did = x ∷ [] } ∷ swaps_of did
 
 module _ {L F : Type 0} (k : Ghosts L) (target : L → TargetState) (linked : L → Bool) (t : FarTable F) where
-  -- A far end went from one state to another in an exchange of this payload, in which it gave that reply, by the next of the numbers that
-  -- are left to it, or none.
+  -- A far end went from one state to another in an exchange of this payload, in which it gave that reply, by the next
+  -- of the numbers that are left to it, or none.
   abbrev pub Gave : List ℕ → Option (List ℕ) → Choosing F → Choosing F → Type 0
   Gave out None far after = after ≡ far
   Gave out (Some reply) far after =
@@ -47,8 +48,8 @@ module _ {L F : Type 0} (k : Ghosts L) (target : L → TargetState) (linked : L 
       (air : Air L) (i : InitState) (first : ℕ) (handed : List (List ℕ)) (arrived : List Signal) (p : HasPeer k target air i first handed arrived)
       → Stands air p.place
 
-  -- The turns of an exchange with a peer, in which that was given, are turns of the world with far ends at the peer's place, where it
-  -- stands behind them too.
+  -- The turns of an exchange with a peer, in which that was given, are turns of the world with far ends at the peer's
+  -- place, where it stands behind them too.
   abbrev pub ExchangesFar : Type 0
   ExchangesFar = IsLinked k.machine linked → IsFarTable t
       → (old new : Air L) (i : InitState) (first : ℕ) (handed : List (List ℕ)) (arrived : List Signal) (p : HasPeer k target old i first handed arrived)
@@ -63,8 +64,8 @@ module _ {L F : Type 0} (k : Ghosts L) (target : L → TargetState) (linked : L 
   IsWhole (Stepped payload reply ∷ did) = IsWhole did
   IsWhole (Stopped payload ∷ did) = ⊥
 
-  -- A swap on a link, in the world with far ends: the reply that was given or none, what the reader knows of it, and where its initiator
-  -- stands. The peer stands at the same place behind it.
+  -- A swap on a link, in the world with far ends: the reply that was given or none, what the reader knows of it, and
+  -- where its initiator stands. The peer stands at the same place behind it.
   pub record SwapTurn (a b : DepSeen L) (s : Swap) (place : ℕ) (os : List (Option F)) (far after : Choosing F) : Type 0 where
     pub begins : a.over ≡ None
     pub given : Option (List ℕ)
@@ -74,7 +75,8 @@ module _ {L F : Type 0} (k : Ghosts L) (target : L → TargetState) (linked : L 
     pub there : Stands b.air place
     pub going : FarGoing k.machine linked t (dep_next a.initiator s.out) (moment a.air) (moment b.air) notes place os far after
 
-  -- Behind the turns of a swap a request that was due passed, and its far end stopped for want of memory: nothing came back.
+  -- Behind the turns of a swap a request that was due passed, and its far end stopped for want of memory: nothing came
+  -- back.
   pub record SwapFront (a b : DepSeen L) (out : List ℕ) (place : ℕ) (os : List (Option F)) (far : Choosing F) : Type 0 where
     pub mid : Air L
     pub notes : List Note
@@ -92,7 +94,8 @@ module _ {L F : Type 0} (k : Ghosts L) (target : L → TargetState) (linked : L 
       (mid : DepSeen L) × (half : Choosing F) × SwapTurn a mid s place os far half × SwapTurns ss mid place os half b after
 
   module _ {A : Type 0} (restarts : A → List ℕ → A → Type 0) (steps : A → List ℕ → List ℕ → A → Type 0) (stops : A → List ℕ → A → Type 0) (view : A → Choosing F) where
-    -- What a link tells of a swap, with what its far end did, is a swap in the world with far ends, at whatever place its peer stands.
+    -- What a link tells of a swap, with what its far end did, is a swap in the world with far ends, at whatever place
+    -- its peer stands.
     abbrev pub SwapsFar : Type 0
     SwapsFar = IsLinked k.machine linked → IsFarTable t → IsOfTable restarts steps t view
         → (a b : DepSeen L) (s : Swap) → Exchanged k target a b s

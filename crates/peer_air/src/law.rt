@@ -30,8 +30,8 @@ pub fn swaps<L: PeerListener, F, A: Answerer>()
         → StopsFar L.Listener L.target linked t A.restarts A.steps A.stops view }
 {}
 
-/// What a reader says in frames of whole bytes of NFC-A to one listener of a field, while all others are aside, is turns
-/// of the world with far ends at its place: what an activation of a link asks, and what ends one.
+/// What a reader says in frames of whole bytes of NFC-A to one listener of a field, while all others are aside, is
+/// turns of the world with far ends at its place: what an activation of a link asks, and what ends one.
 pub fn talks_aside<L: Listener, F, A: Answerer>()
     ensures turn { AsideTurns L.Listener A.restarts A.steps }
     ensures speaks { (linked : L → Bool) (t : FarTable F) (view : A → Choosing F)

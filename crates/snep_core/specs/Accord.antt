@@ -1,4 +1,5 @@
--- A far end that serves as this project's server does, and what a client's end and such a far end come to between calls.
+-- A far end that serves as this project's server does, and what a client's end and such a far end come to between
+-- calls.
 use Rattle.std.specs.Prelude.{◌≡◌, ◌<◌, ◌≤◌, ◌⊎◌, ℕ, ◌+◌, ◌%◌, Bool, true, false, List, [], ◌∷◌, ◌++◌, length, IfSome, Some, None}
 use Rattle.nfc_base.specs.Choosing.{Choosing}
 use Rattle.llcp_pdu.specs.General.{IsMiu}
@@ -39,9 +40,9 @@ pub record IsPeer {A : Type 0} (steps : A → List ℕ → List ℕ → A → Ty
   pub steps_so : (a : A) (payload reply : List ℕ) (b : A) → steps a payload reply b → PeerSteps (view a) payload reply (view b)
   pub stops_so : (a : A) (payload : List ℕ) (b : A) → stops a payload b → PeerStops (view a) payload (view b)
 
--- A connection between them, on which no PDU is on the way: what each end takes in a unit, and how many units; the client's units that
--- the server took and didn't acknowledge, and the server's that the client took and didn't; the numbers of those before them, and
--- how many of these there were.
+-- A connection between them, on which no PDU is on the way: what each end takes in a unit, and how many units; the
+-- client's units that the server took and didn't acknowledge, and the server's that the client took and didn't; the
+-- numbers of those before them, and how many of these there were.
 pub record Numbers : Type 0 where
   pub client_miu : ℕ
   pub client_window : ℕ
@@ -150,7 +151,8 @@ pub record IsFair {S : Type 0} (l : LlcState S) : Type 0 where
   pub window : IsWindow l.window
   pub last : IfSome l.last IsSap
 
--- a peer has a session for the client, its server is bound to its SAP, and the client's MIU on the link is one that can be said
+-- a peer has a session for the client, its server is bound to its SAP, and the client's MIU on the link is one that can
+-- be said
 pub record IsServing (peer : PeerState) : Type 0 where
   pub seats : client_sap < length peer.service.sessions
   pub bound : is_bound server_sap peer.bound ≡ true
@@ -163,8 +165,8 @@ pub record Accords (client : EndState) (peer : PeerState) : Type 0 where
   pub peer_serving : IsServing peer
   pub stands : IsApart client peer ⊎ IsJoined client peer
 
--- What is said of a call where its client's end and its far end are so: it holds of each view in which the far end is a peer, and with which the
--- client accords.
+-- What is said of a call where its client's end and its far end are so: it holds of each view in which the far end is a
+-- peer, and with which the client accords.
 abbrev pub AtPeers : {A : Type 0} → (A → List ℕ → List ℕ → A → Type 0) → (A → List ℕ → A → Type 0) → EndState → A → ((A → PeerState) → Type 0) → Type 0
 AtPeers steps stops client far says = (view : _ → PeerState) → IsPeer steps stops view → Accords client (view far) → says view
 
@@ -188,7 +190,8 @@ pub record IsBegun (client : EndState) (peer : PeerState) : Type 0 where
 abbrev pub from_client : List ℕ → Received
 from_client m = record { source = client_sap; message = m }
 
--- A request that was answered: the peer's limit, its table for get and its names are as before, and client and peer accord again.
+-- A request that was answered: the peer's limit, its table for get and its names are as before, and client and peer
+-- accord again.
 pub record IsAnswered (old : PeerState) (client : EndState) (new : PeerState) : Type 0 where
   pub limit : new.service.limit ≡ old.service.limit
   pub table : new.service.table ≡ old.service.table
@@ -223,7 +226,8 @@ PutFails m old (LinkEnded c) client new = AddsAtMost m old new
 PutFails m old Memory client new = AddsAtMost m old new
 PutFails m old BadPeer client new = ⊥
 
--- A value that was told, of at most so many bytes: it is the one that the peer's table has under the key, and nothing was accepted.
+-- A value that was told, of at most so many bytes: it is the one that the peer's table has under the key, and nothing
+-- was accepted.
 pub record IsGot (most : ℕ) (key value : List ℕ) (old : PeerState) (client : EndState) (new : PeerState) : Type 0 where
   pub within : length key ≤ old.service.limit
   pub found : value_of key old.service.table ≡ Some value
@@ -231,7 +235,8 @@ pub record IsGot (most : ℕ) (key value : List ℕ) (old : PeerState) (client :
   pub accepted : new.service.accepted ≡ old.service.accepted
   pub answered : IsAnswered old client new
 
--- why a table refuses a get that takes a value of at most so many bytes: it is empty; else it hasn't the key; else the value is longer
+-- why a table refuses a get that takes a value of at most so many bytes: it is empty; else it hasn't the key; else the
+-- value is longer
 abbrev pub Refuses : List Offer → ℕ → List ℕ → SnepFault → Type 0
 Refuses table most key NotImplemented = table ≡ []
 Refuses table most key NotFound = (0 < length table) × (value_of key table ≡ None)
@@ -261,7 +266,8 @@ pub record IsAside (old : PeerState) (client : EndState) (new : PeerState) : Typ
   pub bound : new.bound ≡ old.bound
   pub accords : Accords client new
 
--- A lookup that was told: the SAP is the one to which the peer's end has the name bound, 1 that of service discovery, 0 where it has none.
+-- A lookup that was told: the SAP is the one to which the peer's end has the name bound, 1 that of service discovery, 0
+-- where it has none.
 pub record IsFound (name : List ℕ) (old : PeerState) (sap : ℕ) (client : EndState) (new : PeerState) : Type 0 where
   pub told : sap ≡ found old.bound name
   pub aside : IsAside old client new

@@ -58,8 +58,8 @@ step_of GaveUp l = GivesUp l
 
 module _ {C A : Type 0} (seen : C → CarrierView) (swaps : C → List ℕ → List FarStep → C → Type 0) (steps : A → List ℕ → List ℕ → A → Type 0)
     (stops : A → List ℕ → A → Type 0) where
-  -- A call came from one step to another over the link: what was handed over, each payload with as many PDUs as the next of these numbers
-  -- says and in one swap, and what the far end did. The link is over where it was over before.
+  -- A call came from one step to another over the link: what was handed over, each payload with as many PDUs as the
+  -- next of these numbers says and in one swap, and what the far end did. The link is over where it was over before.
   pub record Talks (numbers : List ℕ) (from : Step) (link : C) (far : A) (to : Step) (now : C) (after : A) : Type 0 where
     pub did : List FarStep
     pub told : Told numbers from did to

@@ -34,8 +34,8 @@ pub record AcceptsPuts (c limit miu : ℕ) (ms : List Mark) (old new : List Rece
   pub accepted : accepted_from c new ≡ accepted_from c old ++ all
   pub put : AllPut limit (units c miu None ms) all
 
--- Whatever payloads come after a restart, with any table for get at each and any number of PDUs in each reply: of each client's
--- SAP, what is accepted is what the payloads put.
+-- Whatever payloads come after a restart, with any table for get at each and any number of PDUs in each reply: of each
+-- client's SAP, what is accepted is what the payloads put.
 abbrev pub PayloadsAccepted : Type 0
 PayloadsAccepted =
     (old : LlcState ServerState) (general : List ℕ) (run : List (Acted ServerState))
@@ -64,8 +64,9 @@ marks_there c begin p = marks_of serving c begin p.before ++ marks serving c (en
 abbrev pub IsFront : List Received → List Received → Type 0
 IsFront front all = (rest : List Received) × (all ≡ front ++ rest)
 
--- At each PDU of the payloads, what is accepted until there is what the PDUs until there put, and the first of what is accepted
--- until the payload's end and whatever is done then. So messages are accepted in the order in which the units stand that complete them.
+-- At each PDU of the payloads, what is accepted until there is what the PDUs until there put, and the first of what is
+-- accepted until the payload's end and whatever is done then. So messages are accepted in the order in which the units
+-- stand that complete them.
 pub record AcceptsThere (old : LlcState ServerState) (begin : LlcState ServerState) (p : Place begin) : Type 0 where
   pub puts : (c : ℕ) → c < sap_count → AcceptsPuts c old.service.limit old.miu (marks_there c begin p) old.service.accepted (end_there begin p).service.accepted
   pub front : (more : List (Acted ServerState)) → IsServerRun (steps serving (end_there begin p) p.behind) more

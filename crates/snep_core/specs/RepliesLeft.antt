@@ -1,5 +1,5 @@
--- How many replies a call of a client may still hear, whatever a far end sends, and that it comes to an end (NFC Forum LLCP 1.3 and
--- SNEP 1.0; when a far end is given up is this project's own).
+-- How many replies a call of a client may still hear, whatever a far end sends, and that it comes to an end (NFC Forum
+-- LLCP 1.3 and SNEP 1.0; when a far end is given up is this project's own).
 use Rattle.std.specs.Prelude.{◌≡◌, ◌<◌, ◌≤◌, ℕ, ◌+◌, ◌-◌, ◌*◌, List, [], ◌∷◌, length, Option, Some, None}
 use Rattle.std.specs.List.{AllByRecursion}
 use Rattle.nfc_base.specs.Links.{FarStep}
@@ -35,8 +35,8 @@ abbrev pub all_to_come : EndState → List OnSap → ℕ
 all_to_come l [] = 0
 all_to_come l (x ∷ xs) = to_come (own_from x.sap l.own) x.job + all_to_come l xs
 
--- The replies that a call may still hear. One that gives something may come behind others that give nothing, 16 of which in a row give
--- the far end up.
+-- The replies that a call may still hear. One that gives something may come behind others that give nothing, 16 of
+-- which in a row give the far end up.
 abbrev pub replies_left : Working → ℕ
 replies_left w = 17 * all_to_come w.llc w.jobs + (most_idle - w.idle)
 

@@ -1,5 +1,5 @@
--- What a client of a SNEP server does in one call, reply by reply: a function of what it asked and of what it was told (NFC Forum LLCP
--- 1.3 and SNEP 1.0; when it gives a far end up is this project's own).
+-- What a client of a SNEP server does in one call, reply by reply: a function of what it asked and of what it was told
+-- (NFC Forum LLCP 1.3 and SNEP 1.0; when it gives a far end up is this project's own).
 use Rattle.std.specs.Prelude.{◌≡◌, ℕ, zero, suc, ◌+◌, ◌==◌, ◌&&◌, ◌||◌, eqb, nat_lt, not, is_none, Bool, true, false, List, [], ◌∷◌, ◌++◌, length, take, drop, Option, Some, None, if◌then◌else◌}
 use Rattle.std.specs.List.{IsDistinct}
 use Rattle.nfc_base.specs.Links.{FarStep, Stepped}
@@ -43,7 +43,8 @@ server_sap = 4
 abbrev pub most_idle : ℕ
 most_idle = 16
 
--- what a call asks for: a message is put; the value of a key, of at most so many bytes; the SAP of a name; the connection ends
+-- what a call asks for: a message is put; the value of a key, of at most so many bytes; the SAP of a name; the
+-- connection ends
 pub data Task : Type 0 where
   Puts : List ℕ → Task
   Gets : ℕ → List ℕ → Task
@@ -55,8 +56,8 @@ pub record OnSap : Type 0 where
   pub sap : ℕ
   pub job : Job
 
--- What a call is about that goes on: its end, its jobs, each on a connection of its own, and how many replies in a row gave
--- nothing.
+-- What a call is about that goes on: its end, its jobs, each on a connection of its own, and how many replies in a row
+-- gave nothing.
 pub record Working : Type 0 where
   pub llc : EndState
   pub jobs : List OnSap
@@ -145,7 +146,8 @@ begins_on l sap most bytes (Some miu) =
     if takes_more l sap (take miu bytes) then ready_so (submits l sap (take miu bytes)) (behind_first most (drop miu bytes))
     else ready_so l (Begins most bytes)
 
--- The rest follows in units of at most so many bytes, as far as the window allows. There are at most as many units as bytes.
+-- The rest follows in units of at most so many bytes, as far as the window allows. There are at most as many units as
+-- bytes.
 abbrev pub sends_some : ℕ → ℕ → EndState → ℕ → Option ℕ → List ℕ → Ready
 sends_some zero miu l sap most rest = ready_so l (Sends most rest)
 sends_some (suc n) miu l sap most [] = ready_so l (Sends most [])
@@ -311,8 +313,8 @@ replied n w reply = replied_ready n (ready w) reply
 abbrev pub payload : ℕ → Working → List ℕ
 payload n w = given silent n (ready w).llc
 
--- A call came from one step to another as its far end made these steps, where each payload is the next one, with as many PDUs in it as
--- the next of these numbers says.
+-- A call came from one step to another as its far end made these steps, where each payload is the next one, with as
+-- many PDUs in it as the next of these numbers says.
 abbrev pub Told : List ℕ → Step → List FarStep → Step → Type 0
 Told ns from [] to = to ≡ from
 Told ns (Goes w) (Stepped out reply ∷ did) to =

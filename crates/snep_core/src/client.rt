@@ -40,7 +40,8 @@ impl Model for Client {
     ghost view = { λ c. record { llc = c.llc; spent = c.spent } };
 }
 
-/// How a client's connection stands: whether a CC or DM is awaited, whether it is open, how many units were acknowledged.
+/// How a client's connection stands: whether a CC or DM is awaited, whether it is open, how many units were
+/// acknowledged.
 #[derive(Clone, Copy, Debug)]
 pub struct Stands {
     waiting: bool,

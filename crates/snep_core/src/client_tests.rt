@@ -151,7 +151,8 @@ pub(crate) fn peer(rt: &impl Abort, alloc: Global) -> Result<Llc<Server>, Fail> 
     Ok(llc)
 }
 
-/// A client that takes units of 128 bytes, four at a time, and the end with the server, which may send it 2,047 bytes at once.
+/// A client that takes units of 128 bytes, four at a time, and the end with the server, which may send it 2,047 bytes
+/// at once.
 pub(crate) fn wide_ends(rt: &impl Abort, alloc: Global) -> Result<(Client, Llc<Server>), Fail> {
     let mut near = Llc::new(alloc, PARAMS, 4, NoService);
     near.restart(&GENERAL);

@@ -1,5 +1,5 @@
-//! What the units of a connection put, whatever a server does with them; what a server accepts, by the payloads alone; and that
-//! a client's calls come to an end.
+//! What the units of a connection put, whatever a server does with them; what a server accepts, by the payloads alone;
+//! and that a client's calls come to an end.
 
 ghost use Rattle.snep_core.specs.Accord.{CountedServe, OffersAccord, PeersServe};
 ghost use Rattle.snep_core.specs.Puts.{PutsOne};
@@ -18,19 +18,21 @@ pub fn fronts()
     ensures { FrontsPut }
 {}
 
-/// The message of the last put was put exactly where all its units came and it is within the limit; those before it are whole.
+/// The message of the last put was put exactly where all its units came and it is within the limit; those before it are
+/// whole.
 pub fn last_put()
     ensures { LastPut }
 {}
 
-/// A client puts one message after the other, the next once the one before was told. Whichever first units of the last one
-/// came: what they put is a front of its messages that are within the limit, all that were told to be taken, and at most the
-/// last one more, which wasn't answered.
+/// A client puts one message after the other, the next once the one before was told. Whichever first units of the last
+/// one came: what they put is a front of its messages that are within the limit, all that were told to be taken, and at
+/// most the last one more, which wasn't answered.
 pub fn link()
     ensures { LinkLaw }
 {}
 
-/// Whatever payloads come after a restart: what a server accepts from a client's SAP is what the units of its connections put.
+/// Whatever payloads come after a restart: what a server accepts from a client's SAP is what the units of its
+/// connections put.
 pub fn payloads()
     ensures { PayloadsAccepted }
 {}
@@ -58,8 +60,8 @@ pub fn any_table()
     ensures { OffersAccord }
 {}
 
-/// Whatever a far end replies, a call of a client comes to an end, of any number of jobs, each on a connection of its own: by
-/// each reply after which it goes on, fewer replies are left to it.
+/// Whatever a far end replies, a call of a client comes to an end, of any number of jobs, each on a connection of its
+/// own: by each reply after which it goes on, fewer replies are left to it.
 pub fn calls_end()
     ensures begins { CallsBegin }
     ensures falls { RepliesFall }

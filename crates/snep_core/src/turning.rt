@@ -32,8 +32,8 @@ impl Client {
         }
     }
 
-    /// One exchange: the next payload goes out, with so many PDUs, and its reply is taken. Whether that gave something on
-    /// the connection.
+    /// One exchange: the next payload goes out, with so many PDUs, and its reply is taken. Whether that gave something
+    /// on the connection.
     fn exchange<C: Carrier, A: Answerer>(
         &mut self,
         carrier: &mut C,
